@@ -1,0 +1,56 @@
+-- The copying machine: what each event means, one step, and a run of events.
+use Rattle.std.specs.Prelude.{◌≡◌, ℕ, List, [], ◌∷◌, Result, Ok, Err}
+use Rattle.iol_core.specs.State.{State}
+use Rattle.iol_core.specs.Meaning.{Meaning, Step}
+use Rattle.iol_core.specs.Calls.Domains.{domain_new}
+use Rattle.iol_core.specs.Calls.Pools.{pool_create, set_pool}
+use Rattle.iol_core.specs.Calls.Aggregates.{agg_make, show}
+use Rattle.iol_core.specs.Calls.Descriptors.{pipe, give_fd}
+use Rattle.iol_core.specs.Calls.Reading.{iol_read}
+use Rattle.iol_core.specs.Calls.Writing.{iol_write}
+use Rattle.iol_core.specs.declared.refusals.Refusal.{Refusal}
+use Rattle.iol_core.specs.declared.events.Call.{Call}
+use Rattle.iol_core.specs.declared.events.Call.TheVariants as call
+use Rattle.iol_core.specs.declared.events.Event.{Event}
+use Rattle.iol_core.specs.declared.events.Event.TheVariants as event
+use Rattle.iol_core.specs.declared.events.Reply.{Reply}
+use Rattle.iol_core.specs.declared.events.Reply.TheVariants as reply
+
+-- with the answer as a reply
+abbrev pub replied : {A : Type 0} → (A → Reply) → Meaning A → Meaning Reply
+replied f m = record { refusals = m.refusals; Late = m.Late; answer = f m.answer; after = m.after }
+
+abbrev pub done : Unit {0} → Reply
+done u = reply.Done
+
+-- what a call of a domain means
+abbrev pub called : State → (by : ℕ) → Call → Meaning Reply
+called s by call.DomainNew = replied reply.Domain (domain_new s by)
+called s by (call.PoolCreate chunks list) = replied reply.Pool (pool_create s by chunks list)
+called s by (call.SetPool p) = replied done (set_pool s by p)
+called s by (call.AggMake bytes) = replied reply.Agg (agg_make s by bytes)
+called s by (call.Show a) = replied reply.Bytes (show s by a)
+called s by call.Pipe = replied (λ fds. reply.Fds fds.0 fds.1) (pipe s by)
+called s by (call.GiveFd fd to) = replied reply.Fd (give_fd s by fd to)
+called s by (call.IolRead fd n) = replied reply.Agg (iol_read s by fd n)
+called s by (call.IolWrite fd a) = replied reply.Count (iol_write s by fd a)
+
+-- what an event means
+abbrev pub meaning : State → Event → Meaning Reply
+meaning s (event.Call by c) = called s by c
+
+-- a reply as an answer or a refusal
+abbrev pub outcome : Reply → Result Reply Refusal
+outcome (reply.Refused x) = Err x
+outcome r = Ok r
+
+-- From old, the machine may give this reply to the event, going on to new.
+abbrev pub StepsTo : State → Event → Reply → State → Type 0
+StepsTo old e r new = Step (meaning old e) old (outcome r) new
+
+-- From old, it may give these replies to these events, one after another, ending in new.
+abbrev pub Run : State → List Event → List Reply → State → Type 0
+Run old [] [] new = new ≡ old
+Run old (e ∷ es) (r ∷ rs) new = (mid : State) × StepsTo old e r mid × Run mid es rs new
+Run old [] (r ∷ rs) new = ⊥
+Run old (e ∷ es) [] new = ⊥

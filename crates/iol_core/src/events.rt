@@ -1,0 +1,46 @@
+//! Calls, events and replies.
+use crate::lists::{Bytes, Domains};
+use crate::numbers::{AggId, ConnId, DomainId, Fd, FileId, PoolId};
+use crate::refusals::Refusal;
+
+/// A call of a domain. The rules of each stand in `docs/RULES.md`.
+#[derive(Debug, Drop)]
+pub enum Call {
+    DomainNew,
+    PoolCreate { chunks: u32, domains: Domains },
+    SetPool { pool: PoolId },
+    AggMake { bytes: Bytes },
+    Show { agg: AggId },
+    Pipe,
+    GiveFd { fd: Fd, to: DomainId },
+    IolRead { fd: Fd, count: u32 },
+    IolWrite { fd: Fd, agg: AggId },
+}
+
+/// What happens to a system: one atomic step.
+#[derive(Debug, Drop)]
+pub enum Event {
+    Call { by: DomainId, call: Call },
+}
+
+/// What an event is answered.
+#[derive(Debug, Drop)]
+pub enum Reply {
+    Done,
+    Domain(DomainId),
+    Pool(PoolId),
+    File(FileId),
+    Conn(ConnId),
+    Fd(Fd),
+
+    /// The read end and the write end of a pipe.
+    Fds(Fd, Fd),
+    Agg(AggId),
+    Aggs(AggId, AggId),
+    Count(u32),
+    Bytes(Bytes),
+
+    /// Bytes sent, with the Internet checksum of these alone.
+    Segment { bytes: Bytes, checksum: u16 },
+    Refused(Refusal),
+}
