@@ -1,0 +1,10 @@
+pub mod World
+pub mod Rows
+pub mod Domains
+pub mod Pools
+pub mod Aggregates
+pub mod Descriptors
+pub mod Files
+pub mod Reading
+pub mod Writing
+pub mod Outside

@@ -1,0 +1,78 @@
+-- Pools: examples.
+use Rattle.std.proofs.Common.{◌≡◌, ℕ, ◌+◌, ◌-◌, ◌^◌, List, [], ◌∷◌, ◌++◌, length, replicate, refl, ap, true, false, Option, Some, None, nat_lt}
+use Rattle.std.specs.Prelude.{codes, Result, Ok, Err, if◌then◌else◌}
+use Rattle.iol_core.specs.Text.{Text, labelled, bytes_of}
+use Rattle.iol_core.specs.State.{State, Domain, Pool, Pipe, Connection, new_domain, no_domain, new_conn, no_pipe, domain, is_live, pool, names, aggregate, text, descriptor, file, content, pipe_at, conn_at, with_domain, with_pipe, with_conn, with_content}
+use Rattle.iol_core.specs.Meaning.{Meaning}
+use Rattle.iol_core.specs.declared.refusals.Refusal.{Refusal}
+use Rattle.iol_core.specs.declared.refusals.Refusal.TheVariants.{NoDomain, BadFd, BadAgg, NoPool, NoFile, WrongMode, BadRange, TooLong, TooMany, Denied, PoolClosed, PoolBusy, BrokenPipe, WouldBlock, NoRoom, Fault, Memory}
+use Rattle.iol_core.specs.declared.descriptors.Descriptor.{Descriptor}
+use Rattle.iol_core.specs.declared.descriptors.Descriptor.TheVariants as on
+use Rattle.iol_core.specs.declared.descriptors.Mode.TheVariants as mode
+use Rattle.iol_core.specs.declared.descriptors.How.TheVariants as how
+use Rattle.iol_core.specs.declared.limits.TheConstants.{MAX_DOMAINS, MAX_POOLS, MAX_AGGREGATE_BYTES, MAX_FILE_BYTES, MAX_QUEUE_BYTES, MAX_OPEN, LAST_AGGREGATE, LAST_CONNECTION}
+use Rattle.iol_core.proofs.Examples.World.{answered, caller, world, with_receiver}
+use Rattle.iol_core.specs.Calls.Pools.{pool_create, pool_close, set_pool}
+
+-- no pools yet; many domains; as many pools as there may be; no file and no connection
+abbrev empty : State
+empty = record world { pools = [] }
+
+abbrev many : State
+many = record world { domains = replicate 17 (new_domain {A = Text}); pools = [] }
+
+abbrev full : State
+full = record world { pools = replicate MAX_POOLS (record { domains = 1 ∷ []; closed = true }) }
+
+abbrev idle : State
+idle = record world { files = []; conns = [] }
+
+pool_create_lists_each_once :
+  (answered (pool_create empty 1 16 (2 ∷ 1 ∷ 2 ∷ [])) ≡ Ok 1)
+  × ((pool (pool_create empty 1 16 (2 ∷ 1 ∷ 2 ∷ [])).after 1) ≡ record { domains = 2 ∷ 1 ∷ []; closed = false })
+unfolding domain pool file content pipe_at conn_at with_domain with_pipe with_conn with_content
+pool_create_lists_each_once = (refl, refl)
+
+pool_create_refused :
+  (answered (pool_create empty 3 1 (1 ∷ [])) ≡ Err NoDomain)
+  × (answered (pool_create empty 1 1 (1 ∷ 3 ∷ [])) ≡ Err NoDomain)
+  × (answered (pool_create empty 1 1 []) ≡ Err BadRange)
+  × (answered (pool_create empty 1 0 (1 ∷ [])) ≡ Err BadRange)
+  × (answered (pool_create empty 1 257 (1 ∷ [])) ≡ Err BadRange)
+  × (answered (pool_create many 1 1 (1 ∷ 2 ∷ 3 ∷ 4 ∷ 5 ∷ 6 ∷ 7 ∷ 8 ∷ 9 ∷ 10 ∷ 11 ∷ 12 ∷ 13 ∷ 14 ∷ 15 ∷ 16 ∷ 17 ∷ [])) ≡ Err TooMany)
+  × (answered (pool_create many 1 1 (1 ∷ 2 ∷ 3 ∷ 4 ∷ 5 ∷ 6 ∷ 7 ∷ 8 ∷ 9 ∷ 10 ∷ 11 ∷ 12 ∷ 13 ∷ 14 ∷ 15 ∷ 16 ∷ 16 ∷ [])) ≡ Ok 1)
+  × (answered (pool_create full 1 1 (1 ∷ [])) ≡ Err TooMany)
+unfolding domain pool file content pipe_at conn_at with_domain with_pipe with_conn with_content
+pool_create_refused = (refl, refl, refl, refl, refl, refl, refl, refl)
+
+pool_close_keeps_the_list :
+  (answered (pool_close idle 1 2) ≡ Ok tt)
+  × ((pool (pool_close idle 1 2).after 2) ≡ record { domains = 1 ∷ []; closed = true })
+  × ((pool (pool_close idle 1 2).after 1).closed ≡ false)
+unfolding domain pool file content pipe_at conn_at with_domain with_pipe with_conn with_content
+pool_close_keeps_the_list = (refl, refl, refl)
+
+pool_close_refused :
+  (answered (pool_close world 3 1) ≡ Err NoDomain)
+  × (answered (pool_close world 1 5) ≡ Err NoPool)
+  × (answered (pool_close world 1 0) ≡ Err NoPool)
+  × (answered (pool_close world 1 3) ≡ Err (Denied 3))
+  × (answered (pool_close world 1 4) ≡ Err (PoolClosed 4))
+  × (answered (pool_close world 1 2) ≡ Err (PoolBusy 2))
+  × (answered (pool_close (record world { files = [] }) 1 1) ≡ Err (PoolBusy 1))
+unfolding domain pool file content pipe_at conn_at with_domain with_pipe with_conn with_content
+pool_close_refused = (refl, refl, refl, refl, refl, refl, refl)
+
+set_pool_sets_the_default :
+  (answered (set_pool world 1 2) ≡ Ok tt)
+  × ((domain (set_pool world 1 2).after 1).default ≡ Some 2)
+unfolding domain pool file content pipe_at conn_at with_domain with_pipe with_conn with_content
+set_pool_sets_the_default = (refl, refl)
+
+set_pool_refused :
+  (answered (set_pool world 3 1) ≡ Err NoDomain)
+  × (answered (set_pool world 1 5) ≡ Err NoPool)
+  × (answered (set_pool world 1 3) ≡ Err (Denied 3))
+  × (answered (set_pool world 1 4) ≡ Err (PoolClosed 4))
+unfolding domain pool file content pipe_at conn_at with_domain with_pipe with_conn with_content
+set_pool_refused = (refl, refl, refl, refl)

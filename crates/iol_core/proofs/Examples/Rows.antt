@@ -1,0 +1,82 @@
+-- Two whole runs: "hello" through a pipe, and a reader that the pool does not name.
+use Rattle.std.proofs.Common.{◌≡◌, ℕ, List, [], ◌∷◌, refl}
+use Rattle.std.specs.Prelude.{codes, is_some, unwrap_or, option_map, if◌then◌else◌}
+use Rattle.iol_core.specs.State.{State, new_state, domain, pool, file, content, pipe_at, conn_at, with_domain, with_pipe, with_conn, with_content}
+use Rattle.iol_core.specs.Meaning.{Meaning, first}
+use Rattle.iol_core.specs.Run.{meaning}
+use Rattle.iol_core.specs.declared.events.Event.{Event}
+use Rattle.iol_core.specs.declared.events.Event.TheVariants as event
+use Rattle.iol_core.specs.declared.events.Call.{Call}
+use Rattle.iol_core.specs.declared.events.Call.TheVariants as call
+use Rattle.iol_core.specs.declared.events.Reply.{Reply}
+use Rattle.iol_core.specs.declared.events.Reply.TheVariants as reply
+use Rattle.iol_core.specs.declared.refusals.Refusal.TheVariants as refusal
+
+-- the replies where room, memory and the store suffice
+abbrev reply_to : Meaning Reply → Reply
+reply_to m = unwrap_or (option_map reply.Refused (first m.refusals)) m.answer
+
+abbrev state_after : State → Meaning Reply → State
+state_after s m = if is_some (first m.refusals) then s else m.after
+
+abbrev replies : State → List Event → List Reply
+replies s [] = []
+replies s (e ∷ es) = reply_to (meaning s e) ∷ replies (state_after s (meaning s e)) es
+
+hello_through_a_pipe :
+  replies (new_state []) (
+    event.Call 1 call.DomainNew ∷
+    event.Call 1 (call.PoolCreate 1 (1 ∷ 2 ∷ [])) ∷
+    event.Call 1 (call.SetPool 1) ∷
+    event.Call 1 (call.AggMake (codes "hello")) ∷
+    event.Call 1 call.Pipe ∷
+    event.Call 1 (call.GiveFd 0 2) ∷
+    event.Call 1 (call.IolWrite 1 1) ∷
+    event.Call 2 (call.IolRead 0 3) ∷
+    event.Call 2 (call.Show 1) ∷
+    event.Call 2 (call.IolRead 0 9) ∷
+    event.Call 2 (call.Show 2) ∷ [])
+  ≡ (
+    reply.Domain 2 ∷
+    reply.Pool 1 ∷
+    reply.Done ∷
+    reply.Agg 1 ∷
+    reply.Fds 0 1 ∷
+    reply.Fd 0 ∷
+    reply.Count 5 ∷
+    reply.Agg 1 ∷
+    reply.Bytes (codes "hel") ∷
+    reply.Agg 2 ∷
+    reply.Bytes (codes "lo") ∷ [])
+unfolding domain pool file content pipe_at conn_at with_domain with_pipe with_conn with_content
+hello_through_a_pipe = refl
+
+reader_not_named :
+  replies (new_state []) (
+    event.Call 1 call.DomainNew ∷
+    event.Call 1 call.DomainNew ∷
+    event.Call 1 (call.PoolCreate 1 (1 ∷ 2 ∷ [])) ∷
+    event.Call 1 (call.SetPool 1) ∷
+    event.Call 1 (call.AggMake (codes "hello")) ∷
+    event.Call 1 call.Pipe ∷
+    event.Call 1 (call.IolWrite 1 1) ∷
+    event.Call 1 (call.GiveFd 0 3) ∷
+    event.Call 3 (call.IolRead 0 9) ∷
+    event.Call 3 (call.GiveFd 0 2) ∷
+    event.Call 2 (call.IolRead 0 9) ∷
+    event.Call 2 (call.Show 1) ∷ [])
+  ≡ (
+    reply.Domain 2 ∷
+    reply.Domain 3 ∷
+    reply.Pool 1 ∷
+    reply.Done ∷
+    reply.Agg 1 ∷
+    reply.Fds 0 1 ∷
+    reply.Count 5 ∷
+    reply.Fd 0 ∷
+    reply.Refused (refusal.Denied 1) ∷
+    reply.Fd 0 ∷
+    reply.Agg 1 ∷
+    reply.Bytes (codes "hello") ∷ [])
+unfolding domain pool file content pipe_at conn_at with_domain with_pipe with_conn with_content
+reader_not_named = refl
