@@ -1,4 +1,5 @@
 pub mod Configuration
+pub mod Refusals
 pub mod Text
 pub mod Checksum
 pub mod Numbered

@@ -1,4 +1,6 @@
 //! Why a call is refused.
+ghost use Rattle.std.specs.Prelude.{◌≡◌};
+
 use crate::numbers::{FileId, PoolId};
 use thiserror::Error;
 
@@ -75,4 +77,33 @@ pub enum Refusal {
     /// The allocator refused to give memory.
     #[error("Memory")]
     Memory,
+}
+
+impl Refusal {
+    ghost use Rattle.iol_core.specs.Refusals.{name_of};
+
+    /// The name alone, without the number that some carry.
+    pub fn name(&self) -> &'static str
+        ensures { result.now ≡ name_of self.now }
+    {
+        match self {
+            Refusal::NoDomain => "NoDomain",
+            Refusal::BadFd => "BadFd",
+            Refusal::BadAgg => "BadAgg",
+            Refusal::NoPool => "NoPool",
+            Refusal::NoFile => "NoFile",
+            Refusal::WrongMode => "WrongMode",
+            Refusal::BadRange => "BadRange",
+            Refusal::TooLong => "TooLong",
+            Refusal::TooMany => "TooMany",
+            Refusal::Denied { .. } => "Denied",
+            Refusal::PoolClosed { .. } => "PoolClosed",
+            Refusal::PoolBusy { .. } => "PoolBusy",
+            Refusal::BrokenPipe => "BrokenPipe",
+            Refusal::WouldBlock => "WouldBlock",
+            Refusal::NoRoom { .. } => "NoRoom",
+            Refusal::Fault { .. } => "Fault",
+            Refusal::Memory => "Memory",
+        }
+    }
 }

@@ -33,6 +33,7 @@ fn refusals_print_their_names(rt: HostRuntime) -> Result<(), Fail> {
     for (refusal, text) in table {
         let printed = format!(in rt.alloc(); "{refusal}")?;
         assert_eq!(rt; printed.as_str(), text);
+        assert!(rt; printed.as_str().starts_with(refusal.name()));
     }
     Ok(())
 }

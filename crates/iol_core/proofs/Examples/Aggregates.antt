@@ -45,135 +45,135 @@ unfolding domain pool file content pipe_at conn_at with_domain with_pipe with_co
 agg_replace_too_long t long = rw (length-append {A = ℕ × ℕ}, long) refl
 
 agg_make_in_the_default_pool :
-  (answered (agg_make world 1 (codes "new")) ≡ Ok 3)
-  × (text (agg_make world 1 (codes "new")).after 1 3 ≡ labelled 1 (codes "new"))
-  × (text (agg_make world 1 (codes "new")).after 1 1 ≡ labelled 1 (codes "ab"))
-  × (answered (agg_make world 1 []) ≡ Ok 3)
+    (answered (agg_make world 1 (codes "new")) ≡ Ok 3)
+    × (text (agg_make world 1 (codes "new")).after 1 3 ≡ labelled 1 (codes "new"))
+    × (text (agg_make world 1 (codes "new")).after 1 1 ≡ labelled 1 (codes "ab"))
+    × (answered (agg_make world 1 []) ≡ Ok 3)
 unfolding domain pool file content pipe_at conn_at with_domain with_pipe with_conn with_content
 agg_make_in_the_default_pool = (refl, refl, refl, refl)
 
 agg_make_refused :
-  (answered (agg_make world 3 []) ≡ Err NoDomain)
-  × (answered (agg_make world 2 []) ≡ Err NoPool)
-  × (answered (agg_make tired 1 []) ≡ Err TooMany)
-  × (answered (agg_make placing_in_closed 1 []) ≡ Err (PoolClosed 4))
+    (answered (agg_make world 3 []) ≡ Err NoDomain)
+    × (answered (agg_make world 2 []) ≡ Err NoPool)
+    × (answered (agg_make tired 1 []) ≡ Err TooMany)
+    × (answered (agg_make placing_in_closed 1 []) ≡ Err (PoolClosed 4))
 unfolding domain pool file content pipe_at conn_at with_domain with_pipe with_conn with_content
 agg_make_refused = (refl, refl, refl, refl)
 
 agg_dup_shows_the_same :
-  (answered (agg_dup world 1 2) ≡ Ok 3)
-  × (text (agg_dup world 1 2).after 1 3 ≡ labelled 2 (codes "cd"))
-  × (text (agg_dup world 1 2).after 1 2 ≡ labelled 2 (codes "cd"))
+    (answered (agg_dup world 1 2) ≡ Ok 3)
+    × (text (agg_dup world 1 2).after 1 3 ≡ labelled 2 (codes "cd"))
+    × (text (agg_dup world 1 2).after 1 2 ≡ labelled 2 (codes "cd"))
 unfolding domain pool file content pipe_at conn_at with_domain with_pipe with_conn with_content
 agg_dup_shows_the_same = (refl, refl, refl)
 
 agg_dup_refused :
-  (answered (agg_dup world 3 1) ≡ Err NoDomain)
-  × (answered (agg_dup world 1 3) ≡ Err BadAgg)
-  × (answered (agg_dup tired 1 1) ≡ Err TooMany)
+    (answered (agg_dup world 3 1) ≡ Err NoDomain)
+    × (answered (agg_dup world 1 3) ≡ Err BadAgg)
+    × (answered (agg_dup tired 1 1) ≡ Err TooMany)
 unfolding domain pool file content pipe_at conn_at with_domain with_pipe with_conn with_content
 agg_dup_refused = (refl, refl, refl)
 
 agg_cut_inside :
-  (answered (agg_cut world 1 1 1 2) ≡ Ok 3)
-  × (text (agg_cut world 1 1 1 2).after 1 3 ≡ labelled 1 (codes "b"))
-  × (answered (agg_cut world 1 1 2 2) ≡ Ok 3)
-  × (text (agg_cut world 1 1 2 2).after 1 3 ≡ [])
+    (answered (agg_cut world 1 1 1 2) ≡ Ok 3)
+    × (text (agg_cut world 1 1 1 2).after 1 3 ≡ labelled 1 (codes "b"))
+    × (answered (agg_cut world 1 1 2 2) ≡ Ok 3)
+    × (text (agg_cut world 1 1 2 2).after 1 3 ≡ [])
 unfolding domain pool file content pipe_at conn_at with_domain with_pipe with_conn with_content
 agg_cut_inside = (refl, refl, refl, refl)
 
 agg_cut_refused :
-  (answered (agg_cut world 3 1 0 0) ≡ Err NoDomain)
-  × (answered (agg_cut world 1 9 0 0) ≡ Err BadAgg)
-  × (answered (agg_cut world 1 1 2 1) ≡ Err BadRange)
-  × (answered (agg_cut world 1 1 0 3) ≡ Err BadRange)
-  × (answered (agg_cut tired 1 1 0 1) ≡ Err TooMany)
+    (answered (agg_cut world 3 1 0 0) ≡ Err NoDomain)
+    × (answered (agg_cut world 1 9 0 0) ≡ Err BadAgg)
+    × (answered (agg_cut world 1 1 2 1) ≡ Err BadRange)
+    × (answered (agg_cut world 1 1 0 3) ≡ Err BadRange)
+    × (answered (agg_cut tired 1 1 0 1) ≡ Err TooMany)
 unfolding domain pool file content pipe_at conn_at with_domain with_pipe with_conn with_content
 agg_cut_refused = (refl, refl, refl, refl, refl)
 
 agg_split_gives_two :
-  (answered (agg_split world 1 1 1) ≡ Ok (3, 4))
-  × (text (agg_split world 1 1 1).after 1 3 ≡ labelled 1 (codes "a"))
-  × (text (agg_split world 1 1 1).after 1 4 ≡ labelled 1 (codes "b"))
-  × (aggregate (agg_split world 1 1 1).after 1 1 ≡ None)
-  × (answered (agg_make (agg_split world 1 1 1).after 1 []) ≡ Ok 5)
+    (answered (agg_split world 1 1 1) ≡ Ok (3, 4))
+    × (text (agg_split world 1 1 1).after 1 3 ≡ labelled 1 (codes "a"))
+    × (text (agg_split world 1 1 1).after 1 4 ≡ labelled 1 (codes "b"))
+    × (aggregate (agg_split world 1 1 1).after 1 1 ≡ None)
+    × (answered (agg_make (agg_split world 1 1 1).after 1 []) ≡ Ok 5)
 unfolding domain pool file content pipe_at conn_at with_domain with_pipe with_conn with_content
 agg_split_gives_two = (refl, refl, refl, refl, refl)
 
 agg_split_refused :
-  (answered (agg_split world 3 1 0) ≡ Err NoDomain)
-  × (answered (agg_split world 1 9 0) ≡ Err BadAgg)
-  × (answered (agg_split world 1 1 3) ≡ Err BadRange)
-  × (answered (agg_split last 1 1 1) ≡ Err TooMany)
+    (answered (agg_split world 3 1 0) ≡ Err NoDomain)
+    × (answered (agg_split world 1 9 0) ≡ Err BadAgg)
+    × (answered (agg_split world 1 1 3) ≡ Err BadRange)
+    × (answered (agg_split last 1 1 1) ≡ Err TooMany)
 unfolding domain pool file content pipe_at conn_at with_domain with_pipe with_conn with_content
 agg_split_refused = (refl, refl, refl, refl)
 
 agg_join_one_after_the_other :
-  (answered (agg_join world 1 2 1) ≡ Ok 3)
-  × (text (agg_join world 1 2 1).after 1 3 ≡ labelled 2 (codes "cd") ++ labelled 1 (codes "ab"))
-  × (aggregate (agg_join world 1 2 1).after 1 1 ≡ None)
-  × (aggregate (agg_join world 1 2 1).after 1 2 ≡ None)
+    (answered (agg_join world 1 2 1) ≡ Ok 3)
+    × (text (agg_join world 1 2 1).after 1 3 ≡ labelled 2 (codes "cd") ++ labelled 1 (codes "ab"))
+    × (aggregate (agg_join world 1 2 1).after 1 1 ≡ None)
+    × (aggregate (agg_join world 1 2 1).after 1 2 ≡ None)
 unfolding domain pool file content pipe_at conn_at with_domain with_pipe with_conn with_content
 agg_join_one_after_the_other = (refl, refl, refl, refl)
 
 agg_join_refused :
-  (answered (agg_join world 3 1 2) ≡ Err NoDomain)
-  × (answered (agg_join world 1 1 9) ≡ Err BadAgg)
-  × (answered (agg_join world 1 9 1) ≡ Err BadAgg)
-  × (answered (agg_join world 1 1 1) ≡ Err BadAgg)
-  × (answered (agg_join tired 1 1 2) ≡ Err TooMany)
+    (answered (agg_join world 3 1 2) ≡ Err NoDomain)
+    × (answered (agg_join world 1 1 9) ≡ Err BadAgg)
+    × (answered (agg_join world 1 9 1) ≡ Err BadAgg)
+    × (answered (agg_join world 1 1 1) ≡ Err BadAgg)
+    × (answered (agg_join tired 1 1 2) ≡ Err TooMany)
 unfolding domain pool file content pipe_at conn_at with_domain with_pipe with_conn with_content
 agg_join_refused = (refl, refl, refl, refl, refl)
 
 agg_replace_inside :
-  (answered (agg_replace world 1 1 1 2 2) ≡ Ok 3)
-  × (bytes_of (text (agg_replace world 1 1 1 2 2).after 1 3) ≡ codes "acd")
-  × (bytes_of (text (agg_replace world 1 1 1 1 1).after 1 3) ≡ codes "aabb")
-  × (bytes_of (text (agg_replace world 1 1 1 2 2).after 1 1) ≡ codes "ab")
-  × (bytes_of (text (agg_replace world 1 1 1 2 2).after 1 2) ≡ codes "cd")
+    (answered (agg_replace world 1 1 1 2 2) ≡ Ok 3)
+    × (bytes_of (text (agg_replace world 1 1 1 2 2).after 1 3) ≡ codes "acd")
+    × (bytes_of (text (agg_replace world 1 1 1 1 1).after 1 3) ≡ codes "aabb")
+    × (bytes_of (text (agg_replace world 1 1 1 2 2).after 1 1) ≡ codes "ab")
+    × (bytes_of (text (agg_replace world 1 1 1 2 2).after 1 2) ≡ codes "cd")
 unfolding domain pool file content pipe_at conn_at with_domain with_pipe with_conn with_content
 agg_replace_inside = (refl, refl, refl, refl, refl)
 
 agg_replace_refused :
-  (answered (agg_replace world 3 1 0 0 1) ≡ Err NoDomain)
-  × (answered (agg_replace world 1 9 0 0 1) ≡ Err BadAgg)
-  × (answered (agg_replace world 1 1 0 0 9) ≡ Err BadAgg)
-  × (answered (agg_replace world 1 1 2 1 2) ≡ Err BadRange)
-  × (answered (agg_replace world 1 1 0 3 2) ≡ Err BadRange)
-  × (answered (agg_replace tired 1 1 0 1 2) ≡ Err TooMany)
+    (answered (agg_replace world 3 1 0 0 1) ≡ Err NoDomain)
+    × (answered (agg_replace world 1 9 0 0 1) ≡ Err BadAgg)
+    × (answered (agg_replace world 1 1 0 0 9) ≡ Err BadAgg)
+    × (answered (agg_replace world 1 1 2 1 2) ≡ Err BadRange)
+    × (answered (agg_replace world 1 1 0 3 2) ≡ Err BadRange)
+    × (answered (agg_replace tired 1 1 0 1 2) ≡ Err TooMany)
 unfolding domain pool file content pipe_at conn_at with_domain with_pipe with_conn with_content
 agg_replace_refused = (refl, refl, refl, refl, refl, refl)
 
 agg_drop_forgets :
-  (answered (agg_drop world 1 1) ≡ Ok tt)
-  × (aggregate (agg_drop world 1 1).after 1 1 ≡ None)
-  × (text (agg_drop world 1 1).after 1 2 ≡ labelled 2 (codes "cd"))
-  × (answered (agg_make (agg_drop world 1 2).after 1 []) ≡ Ok 3)
+    (answered (agg_drop world 1 1) ≡ Ok tt)
+    × (aggregate (agg_drop world 1 1).after 1 1 ≡ None)
+    × (text (agg_drop world 1 1).after 1 2 ≡ labelled 2 (codes "cd"))
+    × (answered (agg_make (agg_drop world 1 2).after 1 []) ≡ Ok 3)
 unfolding domain pool file content pipe_at conn_at with_domain with_pipe with_conn with_content
 agg_drop_forgets = (refl, refl, refl, refl)
 
 agg_drop_refused :
-  (answered (agg_drop world 3 1) ≡ Err NoDomain)
-  × (answered (agg_drop world 2 1) ≡ Err BadAgg)
+    (answered (agg_drop world 3 1) ≡ Err NoDomain)
+    × (answered (agg_drop world 2 1) ≡ Err BadAgg)
 unfolding domain pool file content pipe_at conn_at with_domain with_pipe with_conn with_content
 agg_drop_refused = (refl, refl)
 
 agg_give_moves :
-  (answered (agg_give world 1 1 2) ≡ Ok 1)
-  × (text (agg_give world 1 1 2).after 2 1 ≡ labelled 1 (codes "ab"))
-  × (aggregate (agg_give world 1 1 2).after 1 1 ≡ None)
-  × (answered (agg_give world 1 1 1) ≡ Ok 3)
-  × (text (agg_give world 1 1 1).after 1 3 ≡ labelled 1 (codes "ab"))
-  × (aggregate (agg_give world 1 1 1).after 1 1 ≡ None)
+    (answered (agg_give world 1 1 2) ≡ Ok 1)
+    × (text (agg_give world 1 1 2).after 2 1 ≡ labelled 1 (codes "ab"))
+    × (aggregate (agg_give world 1 1 2).after 1 1 ≡ None)
+    × (answered (agg_give world 1 1 1) ≡ Ok 3)
+    × (text (agg_give world 1 1 1).after 1 3 ≡ labelled 1 (codes "ab"))
+    × (aggregate (agg_give world 1 1 1).after 1 1 ≡ None)
 unfolding domain pool file content pipe_at conn_at with_domain with_pipe with_conn with_content
 agg_give_moves = (refl, refl, refl, refl, refl, refl)
 
 agg_give_refused :
-  (answered (agg_give world 3 1 1) ≡ Err NoDomain)
-  × (answered (agg_give world 1 1 3) ≡ Err NoDomain)
-  × (answered (agg_give world 1 9 2) ≡ Err BadAgg)
-  × (answered (agg_give (with_receiver world (record (new_domain {A = Text}) { next_agg = LAST_AGGREGATE + 1 })) 1 1 2) ≡ Err TooMany)
-  × (answered (agg_give world 1 2 2) ≡ Err (Denied 2))
+    (answered (agg_give world 3 1 1) ≡ Err NoDomain)
+    × (answered (agg_give world 1 1 3) ≡ Err NoDomain)
+    × (answered (agg_give world 1 9 2) ≡ Err BadAgg)
+    × (answered (agg_give (with_receiver world (record (new_domain {A = Text}) { next_agg = LAST_AGGREGATE + 1 })) 1 1 2) ≡ Err TooMany)
+    × (answered (agg_give world 1 2 2) ≡ Err (Denied 2))
 unfolding domain pool file content pipe_at conn_at with_domain with_pipe with_conn with_content
 agg_give_refused = (refl, refl, refl, refl, refl)
 
@@ -182,7 +182,7 @@ unfolding domain pool file content pipe_at conn_at with_domain with_pipe with_co
 show_copies_the_bytes = refl
 
 show_refused :
-  (answered (show world 3 1) ≡ Err NoDomain)
-  × (answered (show world 1 3) ≡ Err BadAgg)
+    (answered (show world 3 1) ≡ Err NoDomain)
+    × (answered (show world 1 3) ≡ Err BadAgg)
 unfolding domain pool file content pipe_at conn_at with_domain with_pipe with_conn with_content
 show_refused = (refl, refl)

@@ -22,50 +22,50 @@ unfolding domain pool file content pipe_at conn_at with_domain with_pipe with_co
 file_new_too_long bytes long = rw long refl
 
 file_new_takes_the_next_slot :
-  (answered (file_new world 1 (codes "n") 1) ≡ Ok 4)
-  × (file (file_new world 1 (codes "n") 1).after 4 ≡ record { name = codes "n"; pool = 1 })
-  × (content (file_new world 1 (codes "n") 1).after 4 ≡ codes "new")
-  × (answered (file_new world 1 (replicate 255 97) 1) ≡ Ok 4)
+    (answered (file_new world 1 (codes "n") 1) ≡ Ok 4)
+    × (file (file_new world 1 (codes "n") 1).after 4 ≡ record { name = codes "n"; pool = 1 })
+    × (content (file_new world 1 (codes "n") 1).after 4 ≡ codes "new")
+    × (answered (file_new world 1 (replicate 255 97) 1) ≡ Ok 4)
 unfolding domain pool file content pipe_at conn_at with_domain with_pipe with_conn with_content
 file_new_takes_the_next_slot = (refl, refl, refl, refl)
 
 file_new_refused :
-  (answered (file_new world 3 (codes "n") 1) ≡ Err NoDomain)
-  × (answered (file_new world 1 (codes "n") 5) ≡ Err NoPool)
-  × (answered (file_new world 1 (codes "f") 1) ≡ Err WrongMode)
-  × (answered (file_new world 1 [] 1) ≡ Err BadRange)
-  × (answered (file_new world 1 (replicate 256 97) 1) ≡ Err BadRange)
-  × (answered (file_new (record world { files = replicate 1024 (record { name = codes "f"; pool = 1 }) }) 1 (codes "n") 1) ≡ Err TooMany)
-  × (answered (file_new world 1 (codes "n") 3) ≡ Err (Denied 3))
-  × (answered (file_new world 1 (codes "n") 4) ≡ Err (PoolClosed 4))
+    (answered (file_new world 3 (codes "n") 1) ≡ Err NoDomain)
+    × (answered (file_new world 1 (codes "n") 5) ≡ Err NoPool)
+    × (answered (file_new world 1 (codes "f") 1) ≡ Err WrongMode)
+    × (answered (file_new world 1 [] 1) ≡ Err BadRange)
+    × (answered (file_new world 1 (replicate 256 97) 1) ≡ Err BadRange)
+    × (answered (file_new (record world { files = replicate 1024 (record { name = codes "f"; pool = 1 }) }) 1 (codes "n") 1) ≡ Err TooMany)
+    × (answered (file_new world 1 (codes "n") 3) ≡ Err (Denied 3))
+    × (answered (file_new world 1 (codes "n") 4) ≡ Err (PoolClosed 4))
 unfolding domain pool file content pipe_at conn_at with_domain with_pipe with_conn with_content
 file_new_refused = (refl, refl, refl, refl, refl, refl, refl, refl)
 
 open_file_at_its_begin :
-  (answered (open_file world 1 (codes "f") mode.Both) ≡ Ok 2)
-  × (descriptor (open_file world 1 (codes "f") mode.Both).after 1 2 ≡ Some (on.File 1 0 mode.Both))
+    (answered (open_file world 1 (codes "f") mode.Both) ≡ Ok 2)
+    × (descriptor (open_file world 1 (codes "f") mode.Both).after 1 2 ≡ Some (on.File 1 0 mode.Both))
 unfolding domain pool file content pipe_at conn_at with_domain with_pipe with_conn with_content
 open_file_at_its_begin = (refl, refl)
 
 open_file_refused :
-  (answered (open_file world 3 (codes "f") mode.Read) ≡ Err NoDomain)
-  × (answered (open_file world 1 (codes "n") mode.Read) ≡ Err NoFile)
-  × (answered (open_file (with_receiver world crowded) 2 (codes "f") mode.Read) ≡ Err TooMany)
-  × (answered (open_file world 2 (codes "g") mode.Read) ≡ Err (Denied 2))
+    (answered (open_file world 3 (codes "f") mode.Read) ≡ Err NoDomain)
+    × (answered (open_file world 1 (codes "n") mode.Read) ≡ Err NoFile)
+    × (answered (open_file (with_receiver world crowded) 2 (codes "f") mode.Read) ≡ Err TooMany)
+    × (answered (open_file world 2 (codes "g") mode.Read) ≡ Err (Denied 2))
 unfolding domain pool file content pipe_at conn_at with_domain with_pipe with_conn with_content
 open_file_refused = (refl, refl, refl, refl)
 
 seek_up_to_the_end :
-  (answered (seek world 1 0 6) ≡ Ok tt)
-  × (descriptor (seek world 1 0 6).after 1 0 ≡ Some (on.File 1 6 mode.Both))
+    (answered (seek world 1 0 6) ≡ Ok tt)
+    × (descriptor (seek world 1 0 6).after 1 0 ≡ Some (on.File 1 6 mode.Both))
 unfolding domain pool file content pipe_at conn_at with_domain with_pipe with_conn with_content
 seek_up_to_the_end = (refl, refl)
 
 seek_refused :
-  (answered (seek world 3 0 0) ≡ Err NoDomain)
-  × (answered (seek world 1 2 0) ≡ Err BadFd)
-  × (answered (seek world 1 1 0) ≡ Err WrongMode)
-  × (answered (seek world 1 0 7) ≡ Err BadRange)
+    (answered (seek world 3 0 0) ≡ Err NoDomain)
+    × (answered (seek world 1 2 0) ≡ Err BadFd)
+    × (answered (seek world 1 1 0) ≡ Err WrongMode)
+    × (answered (seek world 1 0 7) ≡ Err BadRange)
 unfolding domain pool file content pipe_at conn_at with_domain with_pipe with_conn with_content
 seek_refused = (refl, refl, refl, refl)
 
@@ -74,22 +74,22 @@ unfolding domain pool file content pipe_at conn_at with_domain with_pipe with_co
 length_in_bytes = refl
 
 length_refused :
-  (answered (file_length world 3 0) ≡ Err NoDomain)
-  × (answered (file_length world 1 2) ≡ Err BadFd)
-  × (answered (file_length world 1 4) ≡ Err WrongMode)
+    (answered (file_length world 3 0) ≡ Err NoDomain)
+    × (answered (file_length world 1 2) ≡ Err BadFd)
+    × (answered (file_length world 1 4) ≡ Err WrongMode)
 unfolding domain pool file content pipe_at conn_at with_domain with_pipe with_conn with_content
 length_refused = (refl, refl, refl)
 
 fsync_in_any_mode :
-  (answered (fsync world 1 0) ≡ Ok tt)
-  × (answered (fsync world 1 5) ≡ Ok tt)
-  × ((fsync world 1 0).after ≡ world)
+    (answered (fsync world 1 0) ≡ Ok tt)
+    × (answered (fsync world 1 5) ≡ Ok tt)
+    × ((fsync world 1 0).after ≡ world)
 unfolding domain pool file content pipe_at conn_at with_domain with_pipe with_conn with_content
 fsync_in_any_mode = (refl, refl, refl)
 
 fsync_refused :
-  (answered (fsync world 3 0) ≡ Err NoDomain)
-  × (answered (fsync world 1 2) ≡ Err BadFd)
-  × (answered (fsync world 1 3) ≡ Err WrongMode)
+    (answered (fsync world 3 0) ≡ Err NoDomain)
+    × (answered (fsync world 1 2) ≡ Err BadFd)
+    × (answered (fsync world 1 3) ≡ Err WrongMode)
 unfolding domain pool file content pipe_at conn_at with_domain with_pipe with_conn with_content
 fsync_refused = (refl, refl, refl)

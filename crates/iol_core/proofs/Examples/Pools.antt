@@ -28,51 +28,51 @@ abbrev idle : State
 idle = record world { files = []; conns = [] }
 
 pool_create_lists_each_once :
-  (answered (pool_create empty 1 16 (2 ∷ 1 ∷ 2 ∷ [])) ≡ Ok 1)
-  × ((pool (pool_create empty 1 16 (2 ∷ 1 ∷ 2 ∷ [])).after 1) ≡ record { domains = 2 ∷ 1 ∷ []; closed = false })
+    (answered (pool_create empty 1 16 (2 ∷ 1 ∷ 2 ∷ [])) ≡ Ok 1)
+    × ((pool (pool_create empty 1 16 (2 ∷ 1 ∷ 2 ∷ [])).after 1) ≡ record { domains = 2 ∷ 1 ∷ []; closed = false })
 unfolding domain pool file content pipe_at conn_at with_domain with_pipe with_conn with_content
 pool_create_lists_each_once = (refl, refl)
 
 pool_create_refused :
-  (answered (pool_create empty 3 1 (1 ∷ [])) ≡ Err NoDomain)
-  × (answered (pool_create empty 1 1 (1 ∷ 3 ∷ [])) ≡ Err NoDomain)
-  × (answered (pool_create empty 1 1 []) ≡ Err BadRange)
-  × (answered (pool_create empty 1 0 (1 ∷ [])) ≡ Err BadRange)
-  × (answered (pool_create empty 1 257 (1 ∷ [])) ≡ Err BadRange)
-  × (answered (pool_create many 1 1 (1 ∷ 2 ∷ 3 ∷ 4 ∷ 5 ∷ 6 ∷ 7 ∷ 8 ∷ 9 ∷ 10 ∷ 11 ∷ 12 ∷ 13 ∷ 14 ∷ 15 ∷ 16 ∷ 17 ∷ [])) ≡ Err TooMany)
-  × (answered (pool_create many 1 1 (1 ∷ 2 ∷ 3 ∷ 4 ∷ 5 ∷ 6 ∷ 7 ∷ 8 ∷ 9 ∷ 10 ∷ 11 ∷ 12 ∷ 13 ∷ 14 ∷ 15 ∷ 16 ∷ 16 ∷ [])) ≡ Ok 1)
-  × (answered (pool_create full 1 1 (1 ∷ [])) ≡ Err TooMany)
+    (answered (pool_create empty 3 1 (1 ∷ [])) ≡ Err NoDomain)
+    × (answered (pool_create empty 1 1 (1 ∷ 3 ∷ [])) ≡ Err NoDomain)
+    × (answered (pool_create empty 1 1 []) ≡ Err BadRange)
+    × (answered (pool_create empty 1 0 (1 ∷ [])) ≡ Err BadRange)
+    × (answered (pool_create empty 1 257 (1 ∷ [])) ≡ Err BadRange)
+    × (answered (pool_create many 1 1 (1 ∷ 2 ∷ 3 ∷ 4 ∷ 5 ∷ 6 ∷ 7 ∷ 8 ∷ 9 ∷ 10 ∷ 11 ∷ 12 ∷ 13 ∷ 14 ∷ 15 ∷ 16 ∷ 17 ∷ [])) ≡ Err TooMany)
+    × (answered (pool_create many 1 1 (1 ∷ 2 ∷ 3 ∷ 4 ∷ 5 ∷ 6 ∷ 7 ∷ 8 ∷ 9 ∷ 10 ∷ 11 ∷ 12 ∷ 13 ∷ 14 ∷ 15 ∷ 16 ∷ 16 ∷ [])) ≡ Ok 1)
+    × (answered (pool_create full 1 1 (1 ∷ [])) ≡ Err TooMany)
 unfolding domain pool file content pipe_at conn_at with_domain with_pipe with_conn with_content
 pool_create_refused = (refl, refl, refl, refl, refl, refl, refl, refl)
 
 pool_close_keeps_the_list :
-  (answered (pool_close idle 1 2) ≡ Ok tt)
-  × ((pool (pool_close idle 1 2).after 2) ≡ record { domains = 1 ∷ []; closed = true })
-  × ((pool (pool_close idle 1 2).after 1).closed ≡ false)
+    (answered (pool_close idle 1 2) ≡ Ok tt)
+    × ((pool (pool_close idle 1 2).after 2) ≡ record { domains = 1 ∷ []; closed = true })
+    × ((pool (pool_close idle 1 2).after 1).closed ≡ false)
 unfolding domain pool file content pipe_at conn_at with_domain with_pipe with_conn with_content
 pool_close_keeps_the_list = (refl, refl, refl)
 
 pool_close_refused :
-  (answered (pool_close world 3 1) ≡ Err NoDomain)
-  × (answered (pool_close world 1 5) ≡ Err NoPool)
-  × (answered (pool_close world 1 0) ≡ Err NoPool)
-  × (answered (pool_close world 1 3) ≡ Err (Denied 3))
-  × (answered (pool_close world 1 4) ≡ Err (PoolClosed 4))
-  × (answered (pool_close world 1 2) ≡ Err (PoolBusy 2))
-  × (answered (pool_close (record world { files = [] }) 1 1) ≡ Err (PoolBusy 1))
+    (answered (pool_close world 3 1) ≡ Err NoDomain)
+    × (answered (pool_close world 1 5) ≡ Err NoPool)
+    × (answered (pool_close world 1 0) ≡ Err NoPool)
+    × (answered (pool_close world 1 3) ≡ Err (Denied 3))
+    × (answered (pool_close world 1 4) ≡ Err (PoolClosed 4))
+    × (answered (pool_close world 1 2) ≡ Err (PoolBusy 2))
+    × (answered (pool_close (record world { files = [] }) 1 1) ≡ Err (PoolBusy 1))
 unfolding domain pool file content pipe_at conn_at with_domain with_pipe with_conn with_content
 pool_close_refused = (refl, refl, refl, refl, refl, refl, refl)
 
 set_pool_sets_the_default :
-  (answered (set_pool world 1 2) ≡ Ok tt)
-  × ((domain (set_pool world 1 2).after 1).default ≡ Some 2)
+    (answered (set_pool world 1 2) ≡ Ok tt)
+    × ((domain (set_pool world 1 2).after 1).default ≡ Some 2)
 unfolding domain pool file content pipe_at conn_at with_domain with_pipe with_conn with_content
 set_pool_sets_the_default = (refl, refl)
 
 set_pool_refused :
-  (answered (set_pool world 3 1) ≡ Err NoDomain)
-  × (answered (set_pool world 1 5) ≡ Err NoPool)
-  × (answered (set_pool world 1 3) ≡ Err (Denied 3))
-  × (answered (set_pool world 1 4) ≡ Err (PoolClosed 4))
+    (answered (set_pool world 3 1) ≡ Err NoDomain)
+    × (answered (set_pool world 1 5) ≡ Err NoPool)
+    × (answered (set_pool world 1 3) ≡ Err (Denied 3))
+    × (answered (set_pool world 1 4) ≡ Err (PoolClosed 4))
 unfolding domain pool file content pipe_at conn_at with_domain with_pipe with_conn with_content
 set_pool_refused = (refl, refl, refl, refl)

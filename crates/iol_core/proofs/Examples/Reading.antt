@@ -33,59 +33,59 @@ abbrev tired : State
 tired = record world { domains = record caller { next_agg = LAST_AGGREGATE + 1 } ∷ new_domain ∷ no_domain ∷ [] }
 
 iol_read_of_a_file :
-  (answered (iol_read world 1 0 3) ≡ Ok 3)
-  × (text (iol_read world 1 0 3).after 1 3 ≡ labelled 1 (codes "bcd"))
-  × (descriptor (iol_read world 1 0 3).after 1 0 ≡ Some (on.File 1 4 mode.Both))
-  × (text (iol_read world 1 0 9).after 1 3 ≡ labelled 1 (codes "bcdef"))
-  × (descriptor (iol_read world 1 0 9).after 1 0 ≡ Some (on.File 1 6 mode.Both))
-  × (text (iol_read (iol_read world 1 0 9).after 1 0 9).after 1 4 ≡ [])
+    (answered (iol_read world 1 0 3) ≡ Ok 3)
+    × (text (iol_read world 1 0 3).after 1 3 ≡ labelled 1 (codes "bcd"))
+    × (descriptor (iol_read world 1 0 3).after 1 0 ≡ Some (on.File 1 4 mode.Both))
+    × (text (iol_read world 1 0 9).after 1 3 ≡ labelled 1 (codes "bcdef"))
+    × (descriptor (iol_read world 1 0 9).after 1 0 ≡ Some (on.File 1 6 mode.Both))
+    × (text (iol_read (iol_read world 1 0 9).after 1 0 9).after 1 4 ≡ [])
 unfolding domain pool file content pipe_at conn_at with_domain with_pipe with_conn with_content
 iol_read_of_a_file = (refl, refl, refl, refl, refl, refl)
 
 iol_read_of_a_queue :
-  (answered (iol_read world 1 1 3) ≡ Ok 3)
-  × (text (iol_read world 1 1 3).after 1 3 ≡ labelled 1 (codes "ab") ++ labelled 2 (codes "c"))
-  × ((pipe_at (iol_read world 1 1 3).after 0).queue ≡ labelled 2 (codes "d"))
-  × (text (iol_read other 2 0 9).after 2 1 ≡ labelled 1 (codes "ab"))
-  × ((pipe_at (iol_read other 2 0 9).after 0).queue ≡ labelled 2 (codes "cd"))
-  × (bytes_of (text (iol_read world 1 4 9).after 1 3) ≡ codes "in")
+    (answered (iol_read world 1 1 3) ≡ Ok 3)
+    × (text (iol_read world 1 1 3).after 1 3 ≡ labelled 1 (codes "ab") ++ labelled 2 (codes "c"))
+    × ((pipe_at (iol_read world 1 1 3).after 0).queue ≡ labelled 2 (codes "d"))
+    × (text (iol_read other 2 0 9).after 2 1 ≡ labelled 1 (codes "ab"))
+    × ((pipe_at (iol_read other 2 0 9).after 0).queue ≡ labelled 2 (codes "cd"))
+    × (bytes_of (text (iol_read world 1 4 9).after 1 3) ≡ codes "in")
 unfolding domain pool file content pipe_at conn_at with_domain with_pipe with_conn with_content
 iol_read_of_a_queue = (refl, refl, refl, refl, refl, refl)
 
 -- no byte is asked for, or none will come
 iol_read_at_the_end :
-  (answered (iol_read world 1 1 0) ≡ Ok 3)
-  × (text (iol_read world 1 1 0).after 1 3 ≡ [])
-  × (answered (iol_read ended 1 1 5) ≡ Ok 3)
-  × (text (iol_read ended 1 1 5).after 1 3 ≡ [])
+    (answered (iol_read world 1 1 0) ≡ Ok 3)
+    × (text (iol_read world 1 1 0).after 1 3 ≡ [])
+    × (answered (iol_read ended 1 1 5) ≡ Ok 3)
+    × (text (iol_read ended 1 1 5).after 1 3 ≡ [])
 unfolding domain pool file content pipe_at conn_at with_domain with_pipe with_conn with_content
 iol_read_at_the_end = (refl, refl, refl, refl)
 
 iol_read_refused :
-  (answered (iol_read world 3 0 1) ≡ Err NoDomain)
-  × (answered (iol_read world 1 2 1) ≡ Err BadFd)
-  × (answered (iol_read world 1 3 1) ≡ Err WrongMode)
-  × (answered (iol_read writing 1 0 1) ≡ Err WrongMode)
-  × (answered (iol_read tired 1 0 1) ≡ Err TooMany)
-  × (answered (iol_read (iol_read other 2 0 9).after 2 0 9) ≡ Err (Denied 2))
-  × (answered (iol_read empty 1 1 1) ≡ Err WouldBlock)
+    (answered (iol_read world 3 0 1) ≡ Err NoDomain)
+    × (answered (iol_read world 1 2 1) ≡ Err BadFd)
+    × (answered (iol_read world 1 3 1) ≡ Err WrongMode)
+    × (answered (iol_read writing 1 0 1) ≡ Err WrongMode)
+    × (answered (iol_read tired 1 0 1) ≡ Err TooMany)
+    × (answered (iol_read (iol_read other 2 0 9).after 2 0 9) ≡ Err (Denied 2))
+    × (answered (iol_read empty 1 1 1) ≡ Err WouldBlock)
 unfolding domain pool file content pipe_at conn_at with_domain with_pipe with_conn with_content
 iol_read_refused = (refl, refl, refl, refl, refl, refl, refl)
 
 read_copies :
-  (answered (read world 1 0 3) ≡ Ok (codes "bcd"))
-  × (descriptor (read world 1 0 3).after 1 0 ≡ Some (on.File 1 4 mode.Both))
-  × ((domain (read world 1 0 3).after 1).aggs ≡ caller.aggs)
-  × (answered (read world 1 1 9) ≡ Ok (codes "abcd"))
-  × ((pipe_at (read world 1 1 9).after 0).queue ≡ [])
+    (answered (read world 1 0 3) ≡ Ok (codes "bcd"))
+    × (descriptor (read world 1 0 3).after 1 0 ≡ Some (on.File 1 4 mode.Both))
+    × ((domain (read world 1 0 3).after 1).aggs ≡ caller.aggs)
+    × (answered (read world 1 1 9) ≡ Ok (codes "abcd"))
+    × ((pipe_at (read world 1 1 9).after 0).queue ≡ [])
 unfolding domain pool file content pipe_at conn_at with_domain with_pipe with_conn with_content
 read_copies = (refl, refl, refl, refl, refl)
 
 read_refused :
-  (answered (read world 3 0 1) ≡ Err NoDomain)
-  × (answered (read world 1 2 1) ≡ Err BadFd)
-  × (answered (read world 1 3 1) ≡ Err WrongMode)
-  × (answered (read (read other 2 0 9).after 2 0 9) ≡ Err (Denied 2))
-  × (answered (read empty 1 1 1) ≡ Err WouldBlock)
+    (answered (read world 3 0 1) ≡ Err NoDomain)
+    × (answered (read world 1 2 1) ≡ Err BadFd)
+    × (answered (read world 1 3 1) ≡ Err WrongMode)
+    × (answered (read (read other 2 0 9).after 2 0 9) ≡ Err (Denied 2))
+    × (answered (read empty 1 1 1) ≡ Err WouldBlock)
 unfolding domain pool file content pipe_at conn_at with_domain with_pipe with_conn with_content
 read_refused = (refl, refl, refl, refl, refl)

@@ -24,7 +24,7 @@ replies s [] = []
 replies s (e ∷ es) = reply_to (meaning s e) ∷ replies (state_after s (meaning s e)) es
 
 hello_through_a_pipe :
-  replies (new_state []) (
+    replies (new_state []) (
     event.Call 1 call.DomainNew ∷
     event.Call 1 (call.PoolCreate 1 (1 ∷ 2 ∷ [])) ∷
     event.Call 1 (call.SetPool 1) ∷
@@ -36,7 +36,7 @@ hello_through_a_pipe :
     event.Call 2 (call.Show 1) ∷
     event.Call 2 (call.IolRead 0 9) ∷
     event.Call 2 (call.Show 2) ∷ [])
-  ≡ (
+    ≡ (
     reply.Domain 2 ∷
     reply.Pool 1 ∷
     reply.Done ∷
@@ -52,7 +52,7 @@ unfolding domain pool file content pipe_at conn_at with_domain with_pipe with_co
 hello_through_a_pipe = refl
 
 reader_not_named :
-  replies (new_state []) (
+    replies (new_state []) (
     event.Call 1 call.DomainNew ∷
     event.Call 1 call.DomainNew ∷
     event.Call 1 (call.PoolCreate 1 (1 ∷ 2 ∷ [])) ∷
@@ -65,7 +65,7 @@ reader_not_named :
     event.Call 3 (call.GiveFd 0 2) ∷
     event.Call 2 (call.IolRead 0 9) ∷
     event.Call 2 (call.Show 1) ∷ [])
-  ≡ (
+    ≡ (
     reply.Domain 2 ∷
     reply.Domain 3 ∷
     reply.Pool 1 ∷

@@ -19,32 +19,32 @@ answered m = elim (first m.refusals) [ None ↦ Ok m.answer | Some x ↦ Err x ]
 -- Domain 1 has aggregate 1, "ab" in pool 1, and aggregate 2, "cd" in pool 2.
 abbrev pub caller : Domain Text
 caller = record {
-    live = true;
-    aggs = (1, labelled 1 (codes "ab")) ∷ (2, labelled 2 (codes "cd")) ∷ [];
-    next_agg = 3;
-    fds = Some (on.File 1 1 mode.Both) ∷ Some (on.ReadEnd 0) ∷ None ∷ Some (on.WriteEnd 0) ∷ Some (on.Connection 1) ∷ Some (on.File 2 0 mode.Read) ∷ Some (on.WriteEnd 2) ∷ [];
-    default = Some 1;
-  }
+  live = true;
+  aggs = (1, labelled 1 (codes "ab")) ∷ (2, labelled 2 (codes "cd")) ∷ [];
+  next_agg = 3;
+  fds = Some (on.File 1 1 mode.Both) ∷ Some (on.ReadEnd 0) ∷ None ∷ Some (on.WriteEnd 0) ∷ Some (on.Connection 1) ∷ Some (on.File 2 0 mode.Read) ∷ Some (on.WriteEnd 2) ∷ [];
+  default = Some 1;
+}
 
 -- Pipe 0 holds "ab" in pool 1, then "cd" in pool 2. Nobody reads pipe 2 any more.
 -- Connection 1 is of domain 1. Connection 2 waits for a domain of pool 3, connection 3 for one of pool 1.
 abbrev pub world : State
 world = record {
-    domains = caller ∷ new_domain ∷ no_domain ∷ [];
-    pools =
+  domains = caller ∷ new_domain ∷ no_domain ∷ [];
+  pools =
       record { domains = 1 ∷ 2 ∷ []; closed = false } ∷
       record { domains = 1 ∷ []; closed = false } ∷
       record { domains = 2 ∷ []; closed = false } ∷
       record { domains = 1 ∷ 2 ∷ []; closed = true } ∷ [];
-    files = record { name = codes "f"; pool = 1 } ∷ record { name = codes "g"; pool = 2 } ∷ record { name = codes "h"; pool = 3 } ∷ [];
-    slots = codes "abcdef" ∷ codes "xyz" ∷ [] ∷ codes "new" ∷ [];
-    pipes = Some (record { queue = labelled 1 (codes "ab") ++ labelled 2 (codes "cd"); reading = true; writing = true }) ∷ None ∷ Some (record { queue = []; reading = false; writing = true }) ∷ [];
-    conns =
+  files = record { name = codes "f"; pool = 1 } ∷ record { name = codes "g"; pool = 2 } ∷ record { name = codes "h"; pool = 3 } ∷ [];
+  slots = codes "abcdef" ∷ codes "xyz" ∷ [] ∷ codes "new" ∷ [];
+  pipes = Some (record { queue = labelled 1 (codes "ab") ++ labelled 2 (codes "cd"); reading = true; writing = true }) ∷ None ∷ Some (record { queue = []; reading = false; writing = true }) ∷ [];
+  conns =
       (1, record { pool = 1; incoming = labelled 1 (codes "in"); outgoing = labelled 1 (codes "out"); accepted = true; closed = false; peer = None }) ∷
       (2, new_conn 3) ∷
       (3, new_conn 1) ∷ [];
-    next_conn = 4;
-  }
+  next_conn = 4;
+}
 
 -- domain 2 with another descriptor table, or nothing to place in
 abbrev pub with_receiver : State → Domain Text → State
