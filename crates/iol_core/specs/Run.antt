@@ -23,7 +23,7 @@ replied f m = record { refusals = m.refusals; Late = m.Late; answer = f m.answer
 abbrev pub done : Unit {0} → Reply
 done u = reply.Done
 
--- what a call of a domain means
+-- what a call of a domain means; a call has a case here once the system has it
 abbrev pub called : State → (by : ℕ) → Call → Meaning Reply
 called s by call.DomainNew = replied reply.Domain (domain_new s by)
 called s by (call.PoolCreate chunks list) = replied reply.Pool (pool_create s by chunks list)

@@ -1,19 +1,14 @@
 -- Reading: examples.
-use Rattle.std.proofs.Common.{◌≡◌, ℕ, ◌+◌, ◌-◌, ◌^◌, List, [], ◌∷◌, ◌++◌, length, replicate, refl, ap, true, false, Option, Some, None, nat_lt}
-use Rattle.std.specs.Prelude.{codes, Result, Ok, Err, if◌then◌else◌}
+use Rattle.std.proofs.Common.{◌≡◌, ◌+◌, [], ◌∷◌, ◌++◌, refl, true, false, Some}
+use Rattle.std.specs.Prelude.{codes, Ok, Err}
 use Rattle.iol_core.specs.Text.{Text, labelled, bytes_of}
-use Rattle.iol_core.specs.State.{State, Domain, Pool, Pipe, Connection, new_domain, no_domain, new_conn, no_pipe, domain, is_live, pool, names, aggregate, text, descriptor, file, content, pipe_at, conn_at, with_domain, with_pipe, with_conn, with_content}
-use Rattle.iol_core.specs.Meaning.{Meaning}
-use Rattle.iol_core.specs.declared.refusals.Refusal.{Refusal}
-use Rattle.iol_core.specs.declared.refusals.Refusal.TheVariants.{NoDomain, BadFd, BadAgg, NoPool, NoFile, WrongMode, BadRange, TooLong, TooMany, Denied, PoolClosed, PoolBusy, BrokenPipe, WouldBlock, NoRoom, Fault, Memory}
-use Rattle.iol_core.specs.declared.descriptors.Descriptor.{Descriptor}
+use Rattle.iol_core.specs.State.{State, new_domain, no_domain, domain, pool, text, descriptor, file, content, pipe_at, conn_at, with_domain, with_pipe, with_conn, with_content}
+use Rattle.iol_core.specs.declared.refusals.Refusal.TheVariants.{NoDomain, BadFd, WrongMode, TooMany, Denied, WouldBlock}
 use Rattle.iol_core.specs.declared.descriptors.Descriptor.TheVariants as on
 use Rattle.iol_core.specs.declared.descriptors.Mode.TheVariants as mode
-use Rattle.iol_core.specs.declared.descriptors.How.TheVariants as how
-use Rattle.iol_core.specs.declared.limits.TheConstants.{MAX_DOMAINS, MAX_POOLS, MAX_AGGREGATE_BYTES, MAX_FILE_BYTES, MAX_QUEUE_BYTES, MAX_OPEN, LAST_AGGREGATE, LAST_CONNECTION}
+use Rattle.iol_core.specs.declared.limits.TheConstants.{LAST_AGGREGATE}
 use Rattle.iol_core.proofs.Examples.World.{answered, caller, world, with_receiver}
 use Rattle.iol_core.specs.Calls.Reading.{iol_read, read}
-use Rattle.iol_core.specs.Calls.Aggregates.{agg_make}
 
 -- the pipe's read end is domain 2's; the pipe is empty, and open or ended at the write end;
 -- file 1 is open for writing alone; no aggregate number is left

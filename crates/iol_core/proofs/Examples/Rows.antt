@@ -1,12 +1,11 @@
 -- Two whole runs: "hello" through a pipe, and a reader that the pool does not name.
-use Rattle.std.proofs.Common.{◌≡◌, ℕ, List, [], ◌∷◌, refl}
+use Rattle.std.proofs.Common.{◌≡◌, List, [], ◌∷◌, refl}
 use Rattle.std.specs.Prelude.{codes, is_some, unwrap_or, option_map, if◌then◌else◌}
-use Rattle.iol_core.specs.State.{State, new_state, domain, pool, file, content, pipe_at, conn_at, with_domain, with_pipe, with_conn, with_content}
+use Rattle.iol_core.specs.State.{State, new_state, no_slots, domain, pool, file, content, pipe_at, conn_at, with_domain, with_pipe, with_conn, with_content}
 use Rattle.iol_core.specs.Meaning.{Meaning, first}
 use Rattle.iol_core.specs.Run.{meaning}
 use Rattle.iol_core.specs.declared.events.Event.{Event}
 use Rattle.iol_core.specs.declared.events.Event.TheVariants as event
-use Rattle.iol_core.specs.declared.events.Call.{Call}
 use Rattle.iol_core.specs.declared.events.Call.TheVariants as call
 use Rattle.iol_core.specs.declared.events.Reply.{Reply}
 use Rattle.iol_core.specs.declared.events.Reply.TheVariants as reply
@@ -24,7 +23,7 @@ replies s [] = []
 replies s (e ∷ es) = reply_to (meaning s e) ∷ replies (state_after s (meaning s e)) es
 
 hello_through_a_pipe :
-    replies (new_state []) (
+    replies (new_state no_slots) (
     event.Call 1 call.DomainNew ∷
     event.Call 1 (call.PoolCreate 1 (1 ∷ 2 ∷ [])) ∷
     event.Call 1 (call.SetPool 1) ∷
@@ -52,7 +51,7 @@ unfolding domain pool file content pipe_at conn_at with_domain with_pipe with_co
 hello_through_a_pipe = refl
 
 reader_not_named :
-    replies (new_state []) (
+    replies (new_state no_slots) (
     event.Call 1 call.DomainNew ∷
     event.Call 1 call.DomainNew ∷
     event.Call 1 (call.PoolCreate 1 (1 ∷ 2 ∷ [])) ∷

@@ -1,14 +1,12 @@
 -- The state that the examples of single calls begin from, and what a call is answered where room, memory and the store suffice.
-use Rattle.std.specs.Prelude.{ℕ, true, false, List, [], ◌∷◌, ◌++◌, Option, Some, None, Result, Ok, Err, MatchOption}
+use Rattle.std.specs.Prelude.{true, false, [], ◌∷◌, ◌++◌, Some, None, Result, Ok, Err}
 use Rattle.std.specs.Prelude.{codes}
 use Rattle.iol_core.specs.Text.{Text, labelled}
-use Rattle.iol_core.specs.State.{State, Domain, Pool, File, Pipe, Connection, new_domain, no_domain, new_conn}
+use Rattle.iol_core.specs.State.{State, Domain, new_domain, no_domain, new_conn}
 use Rattle.iol_core.specs.Meaning.{Meaning, first}
 use Rattle.iol_core.specs.declared.refusals.Refusal.{Refusal}
-use Rattle.iol_core.specs.declared.descriptors.Descriptor.{Descriptor}
 use Rattle.iol_core.specs.declared.descriptors.Descriptor.TheVariants as on
 use Rattle.iol_core.specs.declared.descriptors.Mode.TheVariants as mode
-use Rattle.iol_core.specs.declared.descriptors.How.TheVariants as how
 
 -- the first refusal, else the answer
 abbrev pub answered : {A : Type 0} → Meaning A → Result A Refusal
