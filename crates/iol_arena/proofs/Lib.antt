@@ -1,0 +1,10 @@
+pub mod Over
+pub mod Each
+pub mod Marks
+pub mod Steps
+pub mod Scan
+pub mod Good
+pub mod Keeps
+pub mod Grows
+pub mod Adds
+pub mod Found

@@ -1,0 +1,47 @@
+-- Chunks, and the pages that are free in them.
+use Rattle.std.specs.Prelude.{◌≡◌, ℕ, ◌+◌, ◌*◌, ◌<◌, ◌≤◌, Bool, true, false, cond, List, [], ◌∷◌, flat_map, slice_index_or, length}
+use Rattle.std.specs.List.{filter, range_with_len}
+use Rattle.iol_arena.specs.State.{State, entry_at, is_free, with_taken}
+
+-- each is greater than the one before, and the first is at least `low`
+abbrev pub IsRisingFrom : ℕ → List ℕ → Type 0
+IsRisingFrom low [] = Unit {0}
+IsRisingFrom low (c ∷ cs) = (low ≤ c) × IsRisingFrom (c + 1) cs
+
+abbrev pub IsRising : List ℕ → Type 0
+IsRising cs = IsRisingFrom 0 cs
+
+-- chunks from `low` on, rising, all in an arena of n pages
+abbrev pub AreChunks : ℕ → ℕ → List ℕ → Type 0
+AreChunks low n [] = Unit {0}
+AreChunks low n (c ∷ cs) = (low ≤ c) × (c * 16 + 16 ≤ n) × AreChunks (c + 1) n cs
+
+-- the pages of a chunk
+unfoldable pub chunk_pages : ℕ → List ℕ
+chunk_pages c = range_with_len (c * 16) 16
+
+-- whether the page may be used
+abbrev pub usable : State → ℕ → Bool
+usable s p = is_free s.limit (entry_at s p)
+
+abbrev pub if_usable : State → ℕ → List ℕ
+if_usable s p = cond (usable s p) (p ∷ []) []
+
+-- the free pages of these chunks, in order
+abbrev pub free_pages : State → List ℕ → List ℕ
+free_pages s cs = filter (usable s) (flat_map chunk_pages cs)
+
+abbrev pub is_taken : State → ℕ → Bool
+is_taken s c = slice_index_or s.taken c true
+
+-- the lowest chunk that was not given out is given out
+pub record TakesChunk (old new : State) (c : ℕ) : Type 0 where
+  pub within : c < length old.taken
+  pub free : is_taken old c ≡ false
+  pub lowest : (k : ℕ) → k < c → is_taken old k ≡ true
+  pub taken : new ≡ with_taken old c true
+
+-- every chunk is given out
+pub record TakesNone (old new : State) : Type 0 where
+  pub all : (k : ℕ) → k < length old.taken → is_taken old k ≡ true
+  pub same : new ≡ old
