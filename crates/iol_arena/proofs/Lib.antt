@@ -7,4 +7,6 @@ pub mod Good
 pub mod Keeps
 pub mod Grows
 pub mod Adds
+pub mod Members
 pub mod Found
+pub mod Giving

@@ -41,11 +41,26 @@ now_step xs ys have need now is =
 pub now_fits : (xs : List ℕ) (have need : ℕ) → have ≤ need → have + length (take (need - have) xs) ≤ need
 now_fits xs have need h = omega (arith, length-take (need - have) xs)
 
-pub filter_one : (s : State) (p : ℕ) → filter (usable s) (p ∷ []) ≡ if_usable s p
-filter_one s p = elim (usable s p) as (λ b. cond b (p ∷ []) [] ≡ cond b (p ∷ []) []) [ true ↦ refl | false ↦ refl ]
+filter_one : (f : ℕ → Bool) (p : ℕ) → filter f (p ∷ []) ≡ cond (f p) (p ∷ []) []
+filter_one f p = elim (f p) as (λ b. cond b (p ∷ []) [] ≡ cond b (p ∷ []) []) [ true ↦ refl | false ↦ refl ]
 
-pub filter_more : (s : State) (a n : ℕ) → filter (usable s) (range_with_len a (n + 1)) ≡ filter (usable s) (range_with_len a n) ++ if_usable s (a + n)
-filter_more s a n = ap (λ l. filter (usable s) l) (range_more a n) ∙ filter-append (usable s) (range_with_len a n) ((a + n) ∷ []) ∙ ap (λ t. filter (usable s) (range_with_len a n) ++ t) (filter_one s (a + n))
+pub filter_more : (f : ℕ → Bool) (a n : ℕ) → filter f (range_with_len a (n + 1)) ≡ filter f (range_with_len a n) ++ cond (f (a + n)) ((a + n) ∷ []) []
+filter_more f a n = ap (λ l. filter f l) (range_more a n) ∙ filter-append f (range_with_len a n) ((a + n) ∷ []) ∙ ap (λ t. filter f (range_with_len a n) ++ t) (filter_one f (a + n))
+
+-- one element more, where there are enough, and where there is room
+pub take_full : (m : ℕ) (xs ys : List ℕ) → m ≤ length (take m xs) → take m (xs ++ ys) ≡ take m xs
+take_full zero xs ys h = refl
+take_full (suc m) [] ys h = absurd (omega arith)
+take_full (suc m) (x ∷ xs) ys h = ap (λ t. x ∷ t) (take_full m xs ys (omega arith))
+
+pub take_room : (m : ℕ) (xs : List ℕ) (y : ℕ) → length (take m xs) < m → take m (xs ++ y ∷ []) ≡ take m xs ++ y ∷ []
+take_room zero xs y h = absurd (omega arith)
+take_room (suc m) [] y h = ap (λ t. y ∷ t) (none m)
+  where
+    none : (m : ℕ) → take m (let l : List ℕ = [] in l) ≡ []
+    none zero = refl
+    none (suc m) = refl
+take_room (suc m) (x ∷ xs) y h = ap (λ t. x ∷ t) (take_room m xs y (omega arith))
 
 -- a part at the end
 pub apart_snoc : (low : ℕ) (ps : List Part) (p : Part) → AreApart low ps → IsNext (end_of low ps) p → AreApart low (ps ++ p ∷ [])

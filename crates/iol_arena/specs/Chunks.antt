@@ -1,7 +1,7 @@
 -- Chunks, and the pages that are free in them.
-use Rattle.std.specs.Prelude.{◌≡◌, ℕ, ◌+◌, ◌*◌, ◌<◌, ◌≤◌, Bool, true, false, cond, List, [], ◌∷◌, flat_map, slice_index_or, length}
-use Rattle.std.specs.List.{filter, range_with_len}
-use Rattle.iol_arena.specs.State.{State, entry_at, is_free, with_taken}
+use Rattle.std.specs.Prelude.{◌≡◌, ℕ, ◌+◌, ◌*◌, ◌<◌, ◌≤◌, Bool, true, false, not, cond, List, [], ◌∷◌, flat_map, slice_index_or, slice_set, length, take, drop}
+use Rattle.std.specs.List.{All, filter, range_with_len}
+use Rattle.iol_arena.specs.State.{State, entry_at, is_free, chunk_count, with_taken}
 
 -- each is greater than the one before, and the first is at least `low`
 abbrev pub IsRisingFrom : ℕ → List ℕ → Type 0
@@ -34,6 +34,18 @@ free_pages s cs = filter (usable s) (flat_map chunk_pages cs)
 abbrev pub is_taken : State → ℕ → Bool
 is_taken s c = slice_index_or s.taken c true
 
+abbrev pub is_untaken : List Bool → ℕ → Bool
+is_untaken taken c = not (slice_index_or taken c true)
+
+-- the chunks that are not given out, in order
+abbrev pub free_chunks : State → List ℕ
+free_chunks s = filter (is_untaken s.taken) (range_with_len 0 (length s.taken))
+
+-- with these chunks given out
+abbrev pub all_taken : List Bool → List ℕ → List Bool
+all_taken taken [] = taken
+all_taken taken (c ∷ cs) = all_taken (slice_set taken c true) cs
+
 -- the lowest chunk that was not given out is given out
 pub record TakesChunk (old new : State) (c : ℕ) : Type 0 where
   pub within : c < length old.taken
@@ -45,3 +57,11 @@ pub record TakesChunk (old new : State) (c : ℕ) : Type 0 where
 pub record TakesNone (old new : State) : Type 0 where
   pub all : (k : ℕ) → k < length old.taken → is_taken old k ≡ true
   pub same : new ≡ old
+
+-- the lowest of the chunks that were not given out are given out, and nothing else changed
+pub record TakesChunks (old new : State) (cs : List ℕ) : Type 0 where
+  pub chunks : cs ≡ take (length cs) (free_chunks old)
+  pub within : All (λ c. c < chunk_count old) cs
+  pub count : chunk_count new ≡ chunk_count old
+  pub rest : free_chunks new ≡ drop (length cs) (free_chunks old)
+  pub same : new ≡ record { memory = old.memory; entries = old.entries; limit = old.limit; taken = all_taken old.taken cs }

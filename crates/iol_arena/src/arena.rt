@@ -1,21 +1,21 @@
 //! The arena: all pages, and the buffers on them.
-ghost use Rattle.std.specs.Prelude.{◌≡◌, ◌⊎◌, ℕ, ◌+◌, ◌*◌, ◌<◌, ◌≤◌, ◌↔◌, length, replicate, slice_range, slice_index_or, slice_set, true, false, IfOk, IfErr, MatchOption};
+ghost use Rattle.std.specs.Prelude.{◌≡◌, ◌⊎◌, ℕ, ◌+◌, ◌*◌, ◌<◌, ◌≤◌, ◌↔◌, length, replicate, slice_range, slice_set, false, IfOk, IfErr};
 ghost use Rattle.std.specs.Borrow.{sem};
 ghost use Rattle.iol_core.specs.Configuration.{IsInRange};
-ghost use Rattle.iol_arena.specs.State.{no_entry, entry_at, generation_at, page_count, chunk_count, with_entry, with_bytes, memory_at, HasRuns, is_free, CanMark, with_marked, with_taken};
+ghost use Rattle.iol_arena.specs.State.{no_entry, entry_at, generation_at, page_count, with_entry, with_bytes, memory_at, HasRuns, is_free, CanMark, with_marked};
 ghost use Rattle.iol_arena.specs.Buffers.{bytes_of, with_freed, IsLive, Keeps, Frees};
-ghost use Rattle.iol_arena.specs.Chunks.{TakesChunk, TakesNone};
 ghost use Rattle.iol_arena.specs.Parts.{IsAll, WritesKeep};
 
 use crate::pages::{Entry, PageKind, Part, count_pages};
 use iol_core::configuration::Config;
 use iol_core::limits::{CHUNK_PAGES, PAGE_BYTES};
-use iol_core::numbers::{BufId, ChunkNo};
+use iol_core::numbers::BufId;
 use iol_core::refusals::Refusal;
 use std::alloc::{AllocError, Global};
 use std::marker::Model;
 
 mod fill;
+mod giving;
 mod runs;
 mod search;
 
@@ -88,39 +88,6 @@ impl Arena {
             limit,
             taken,
         })
-    }
-
-    fn find_chunk(taken: &[bool]) -> usize
-        ensures within { result ≤ length taken.now }
-        ensures before { (k : ℕ) → k < result → slice_index_or taken.now k true ≡ true }
-        ensures free { result < length taken.now → slice_index_or taken.now result true ≡ false }
-    {
-        for (i, chunk) in taken.iter().enumerate() {
-            if !*chunk {
-                return i;
-            }
-        }
-        taken.len()
-    }
-
-    /// Gives out the lowest free chunk.
-    pub fn take_chunk(&mut self) -> Option<ChunkNo>
-        ensures { MatchOption result (TakesNone self.old self.new) (λ c. TakesChunk self.old self.new c) }
-    {
-        let chunk = Self::find_chunk(&self.taken);
-        if chunk == self.taken.len() {
-            return None;
-        }
-        self.taken[chunk] = true;
-        Some(ChunkNo::new(chunk as u32))
-    }
-
-    /// Takes a chunk back.
-    pub fn give_chunk(&mut self, chunk: ChunkNo)
-        requires { chunk < chunk_count self.old }
-        ensures { self.new ≡ with_taken self.old chunk false }
-    {
-        self.taken[chunk.number() as usize] = false;
     }
 
     fn entry(&self, page: u32) -> Entry
@@ -197,6 +164,18 @@ impl Arena {
         let at = part.first as usize * PAGE_BYTES;
         self.memory
             .slice_mut(at..at + part.count as usize * PAGE_BYTES)
+    }
+
+    /// How many bytes a live buffer has.
+    pub fn len(&self, buf: BufId) -> u32
+        requires { IsLive self.now buf }
+        ensures { result ≡ length (bytes_of self.now buf) }
+    {
+        let _entries = &self.entries;
+        match self.entry(buf.page).kind {
+            PageKind::Head(len) => len,
+            _ => unreachable!(),
+        }
     }
 
     /// The bytes of a live buffer, from place `from` up to `to`.

@@ -62,6 +62,7 @@ impl Arena {
         requires pages { length (part_pages parts.now) ≡ pages_for (length bytes.now) }
         requires small { length bytes.now ≤ 2 ^ 24 }
         ensures adds { Adds self.old self.new result.items bytes.now }
+        ensures few { length result.items ≤ pages_for (length bytes.now) }
         ensures free { (q : ℕ) → usable self.new q ≡ usable self.old q }
     {
         let mut bufs = bufs;
@@ -86,6 +87,7 @@ impl Arena {
         requires small { length bytes.now ≤ 2 ^ 24 }
         requires chunks { All (λ c. c < chunk_count self.old) chunks.now }
         ensures adds { IfOk result (λ bufs. Adds self.old self.new bufs.items bytes.now) }
+        ensures few { IfOk result (λ bufs. length bufs.items ≤ pages_for (length bytes.now)) }
         ensures free { OnOk result (free_pages self.new chunks.now ≡ drop (pages_for (length bytes.now)) (free_pages self.old chunks.now)) }
         ensures enough { OnOk result (pages_for (length bytes.now) ≤ length (free_pages self.old chunks.now)) }
         ensures no_room { result ≡ Err Unfilled.NoRoom → length (free_pages self.old chunks.now) < pages_for (length bytes.now) }

@@ -47,6 +47,7 @@ loop-part-init c = record {
   pending = c.requires.pending;
   apart = (0, c.requires.apart, λ q lo. refl);
   pages = (let e : length c.args.bytes.now ≡ length c.args.bytes.now - 0 = omega arith in c.requires.pages ∙ ap pages_for e);
+  few = omega (arith, ap length c.requires.none, c.requires.pages);
   at = omega arith;
   room = c.requires.room;
 }
@@ -109,6 +110,7 @@ loop-part-preserved c =
       pending = subst (λ lim. AreAll Pending lim t.entries rest) (sym after.limit) (all_kept Pending s.limit s.entries t.entries rest (p.first + p.count) after.each after.long apart.1 pending.1);
       apart = (p.first + p.count, apart.1, λ q lo. after.each q lo ∙ same q (omega (arith, apart.0.rising)));
       pages = left_rest (length bytes - at) p.count (length (part_pages rest)) here count apart.0.some is ∙ ap pages_for left;
+      few = omega (arith, ap length c.push_reserved.ensures.items, length-append c.loop-part.bufs.items (b ∷ []), count, c.loop-part.invariant.pages, apart.0.some, c.loop-part.invariant.few);
       at = omega (arith, is, c.loop-part.invariant.at);
       room = omega (arith, ap length c.push_reserved.ensures.items, length-append c.loop-part.bufs.items (b ∷ []), c.push_reserved.ensures.capacity, ap length split, c.loop-part.invariant.room);
     }

@@ -1,4 +1,4 @@
-use Rattle.std.proofs.Common.{◌≡◌, ℕ, ◌-◌, ◌≤◌, drop, take, length}
+use Rattle.std.proofs.Common.{◌≡◌, ℕ, ◌+◌, ◌-◌, ◌≤◌, drop, take, length}
 use Rattle.smallvec.specs.SmallVec.{HasRoomFor}
 use Rattle.iol_arena.specs.State.{entry_at, pages_for}
 use Rattle.iol_arena.specs.Chunks.{usable}
@@ -14,6 +14,7 @@ invariant-loop-part l = record {
   pending : AreAll Pending l.self.limit l.self.entries (drop l.part-index l.parts);
   apart : (low : ℕ) × AreApart low (drop l.part-index l.parts) × ((q : ℕ) → low ≤ q → entry_at l.self q ≡ entry_at l.fn.self q);
   pages : length (part_pages (drop l.part-index l.parts)) ≡ pages_for (length l.bytes - l.at);
+  few : length l.bufs.items + length (part_pages (drop l.part-index l.parts)) ≤ pages_for (length l.bytes);
   at : l.at ≤ length l.bytes;
   room : HasRoomFor l.bufs (length (drop l.part-index l.parts));
 }

@@ -11,7 +11,7 @@ loop-i-preserved c =
     let i : ℕ = c.loop-i.i in
     let xs = filter (usable c.args.self.now) (range_with_len a i) in
     let ys = if_usable c.args.self.now (a + i) in
-    let more = filter_more c.args.self.now a i in
+    let more = filter_more (usable c.args.self.now) a i in
     record {
       pages = c.in_ok-now.ensures.pages ∙ ap (λ t. t ++ take (c.args.need - c.loop-i.now) ys) c.loop-i.invariant.pages
           ∙ scan_step (part_pages c.args.parts.now.items) xs ys c.args.have c.args.need c.loop-i.now c.loop-i.invariant.now
