@@ -26,6 +26,9 @@ pub struct Arena {
     entries: Vec<Entry>,
     limit: u32,
     taken: Vec<bool>,
+
+    // Chunks in which no page is free. In the others there may be one.
+    full: Vec<bool>,
 }
 
 impl Model for Arena {
@@ -82,11 +85,13 @@ impl Arena {
         };
         let entries = vec![in alloc; free; chunks * CHUNK_PAGES]?;
         let taken = vec![in alloc; false; chunks]?;
+        let full = vec![in alloc; false; chunks]?;
         Ok(Arena {
             memory,
             entries,
             limit,
             taken,
+            full,
         })
     }
 
@@ -103,6 +108,7 @@ impl Arena {
         ensures { self.new ≡ with_entry self.old page entry }
     {
         self.entries[page as usize] = entry;
+        self.full[page as usize / CHUNK_PAGES] = false;
     }
 
     /// Whether a new buffer may be begun on the page.

@@ -109,29 +109,61 @@ impl Arena {
         Ok(now)
     }
 
+    // The same, but a chunk that is known to be full is passed over.
+    fn search_chunk(
+        &mut self,
+        parts: &mut SmallVec<Part, 4>,
+        chunk: u32,
+        have: u32,
+        need: u32,
+    ) -> Result<u32, AllocError>
+        requires within { chunk * 16 + 16 ≤ page_count self.old }
+        requires have { have < need }
+        requires apart { AreApart 0 parts.old.items }
+        requires before { end_of 0 parts.old.items ≤ chunk * 16 }
+        ensures same { self.new ≡ self.old }
+        ensures pages { OnOk result (part_pages parts.new.items ≡ part_pages parts.old.items ++ take (need - have) (filter (usable self.old) (chunk_pages chunk))) }
+        ensures have { IfOk result (λ h. h ≡ have + length (take (need - have) (filter (usable self.old) (chunk_pages chunk)))) }
+        ensures apart { OnOk result (AreApart 0 parts.new.items) }
+        ensures end { OnOk result (end_of 0 parts.new.items ≤ chunk * 16 + 16) }
+    {
+        if self.full[chunk as usize] {
+            return Ok(have);
+        }
+        let now = self.scan_chunk(parts, chunk, have, need)?;
+        if now == have {
+            self.full[chunk as usize] = true;
+        }
+        Ok(now)
+    }
+
     // The lowest free pages of the chunks, as runs.
     pub(super) fn find(
-        &self,
+        &mut self,
         alloc: Global,
         chunks: &ChunkSet,
         need: u32,
     ) -> Result<Reservation, Unfilled>
-        requires { All (λ c. c < chunk_count self.now) chunks.now }
-        ensures free { IfOk result (λ r. AreAll PageKind.Free self.now.limit self.now.entries r.parts.items) }
-        ensures pages { IfOk result (λ r. part_pages r.parts.items ≡ take need (free_pages self.now chunks.now)) }
-        ensures enough { OnOk result (need ≤ length (free_pages self.now chunks.now)) }
+        requires { All (λ c. c < chunk_count self.old) chunks.now }
+        ensures same { self.new ≡ self.old }
+        ensures free { IfOk result (λ r. AreAll PageKind.Free self.old.limit self.old.entries r.parts.items) }
+        ensures pages { IfOk result (λ r. part_pages r.parts.items ≡ take need (free_pages self.old chunks.now)) }
+        ensures enough { OnOk result (need ≤ length (free_pages self.old chunks.now)) }
         ensures apart { IfOk result (λ r. AreApart 0 r.parts.items) }
         ensures room { IfOk result (λ r. HasRoomFor r.bufs (length r.parts.items)) }
         ensures none { IfOk result (λ r. r.bufs.items ≡ []) }
         ensures rising { OnOk result (IsRising chunks.now) }
-        ensures no_room { result ≡ Err Unfilled.NoRoom → length (free_pages self.now chunks.now) < need }
+        ensures no_room { result ≡ Err Unfilled.NoRoom → length (free_pages self.old chunks.now) < need }
     {
         let _entries = &self.entries;
         let list = chunks.as_slice();
         let mut parts = SmallVec::new(alloc);
         let mut have = 0;
         for chunk in list {
-            match self.scan_chunk(&mut parts, chunk.number(), have, need) {
+            if have == need {
+                break;
+            }
+            match self.search_chunk(&mut parts, chunk.number(), have, need) {
                 Ok(now) => have = now,
                 Err(_) => return Err(Unfilled::Memory),
             }

@@ -15,10 +15,10 @@ part_of_prefix (suc from) k (suc l) (x ∷ m) h = part_of_prefix from k l m (ome
 
 pub slice_bounds-result-end : goal.slice_bounds-result-end
 slice_bounds-result-end c =
-    let runs = subst (λ (s : State). HasRuns s.entries) c.self.view_is c.self.invariant.runs in
+    let runs = subst (λ (s : State). HasRuns s.entries) c.self.view_is c.self.invariant.sound.runs in
     let n : ℕ = len_of c.args.self.now c.args.buf in
     let run = runs.each c.args.buf.page n c.requires.live.head in
-    omega (arith, run.room, pages_hold n, c.self.invariant.memory, ap (λ s. length s.entries) c.self.view_is, ap length c.deref.ensures.value, c.requires.range, length-take n (drop (c.args.buf.page * 4096) c.args.self.now.memory))
+    omega (arith, run.room, pages_hold n, c.self.invariant.sound.memory, ap (λ s. length s.entries) c.self.view_is, ap length c.deref.ensures.value, c.requires.range, length-take n (drop (c.args.buf.page * 4096) c.args.self.now.memory))
 
 pub returns : goal.returns
 returns c =

@@ -10,13 +10,13 @@ use Rattle.iol_arena.proofs.arena.Arena.clear_part.Goals as goal
 
 pub returns-clause-grows : goal.returns-clause-grows
 returns-clause-grows c =
-    let runs = subst (λ (s : State). HasRuns s.entries) c.self.view_is c.self.invariant.runs in
+    let runs = subst (λ (s : State). HasRuns s.entries) c.self.view_is c.self.invariant.sound.runs in
     let n : ℕ = c.args.part.count * 4096 in
     subst (λ x. Grows c.args.self.now x) (sym c.clear_run.ensures) (bytes_grow c.args.self.now c.args.part (replicate n 0) runs c.requires.pending c.requires.some (omega (arith, length-replicate {A = ℕ} n 0)))
 
 pub returns-clause-zero : goal.returns-clause-zero
 returns-clause-zero c =
-    let memory : length c.args.self.now.memory ≡ 4096 * length c.args.self.now.entries = subst (λ (s : State). length s.memory ≡ 4096 * length s.entries) c.self.view_is c.self.invariant.memory in
+    let memory : length c.args.self.now.memory ≡ 4096 * length c.args.self.now.entries = subst (λ (s : State). length s.memory ≡ 4096 * length s.entries) c.self.view_is c.self.invariant.sound.memory in
     let n : ℕ = c.args.part.count * 4096 in
     let size = length-replicate {A = ℕ} n 0 in
     ap (λ s. part_bytes s c.args.part) c.clear_run.ensures

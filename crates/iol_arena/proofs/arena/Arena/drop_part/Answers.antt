@@ -10,7 +10,7 @@ use Rattle.iol_arena.proofs.arena.Arena.drop_part.Goals as goal
 pub set_run-requires : goal.set_run-requires
 set_run-requires c =
     let limit = ap (λ s. s.limit) c.self.view_is in
-    let runs = subst (λ (s : State). HasRuns s.entries) c.self.view_is c.self.invariant.runs in
+    let runs = subst (λ (s : State). HasRuns s.entries) c.self.view_is c.self.invariant.sound.runs in
     let small : c.args.self.now.limit < 2 ^ 32 = omega (arith, limit) in
     can_mark c.args.self.now.entries c.args.part.first c.args.part.count Pending Free 0 c.args.self.now.limit runs c.requires.within c.requires.each c.requires.below (λ a e. cc) (λ m e. cc) small (omega arith)
 

@@ -44,7 +44,7 @@ loop-part-preserved c =
     let past = flat_map (part_bytes fn) rest in
     let done = c.loop-part.invariant.adds.0 in
     let value = ap (λ l. done ++ take n (flat_map (part_bytes fn) l)) (sym split) ∙ c.loop-part.invariant.adds.2 in
-    let sound : length fn.memory ≡ 4096 * length fn.entries = subst (λ (x : State). length x.memory ≡ 4096 * length x.entries) c.self.view_is c.self.invariant.memory in
+    let sound : length fn.memory ≡ 4096 * length fn.entries = subst (λ (x : State). length x.memory ≡ 4096 * length x.entries) c.self.view_is c.self.invariant.sound.memory in
     elim c.if-left-gt0.branch [
       | then-left-gt0 w ↦
           let here : ℕ = w.min-here.result in

@@ -13,14 +13,14 @@ pub overflow_sub-pages : goal.overflow_sub-pages
 overflow_sub-pages c = omega (arith, c.count_pages-pages.ensures, pages_some c.args.len c.requires.some)
 
 pub overflow_add-part-2 : goal.overflow_add-part-2
-overflow_add-part-2 c = omega (arith, c.count_pages-pages.ensures, pages_fit c.args.len c.args.part.count c.requires.fits, c.requires.pending.within, c.self.invariant.small, c.self.invariant.chunks, ap (λ s. length s.entries) c.self.view_is)
+overflow_add-part-2 c = omega (arith, c.count_pages-pages.ensures, pages_fit c.args.len c.args.part.count c.requires.fits, c.requires.pending.within, c.self.invariant.sound.small, c.self.invariant.sound.chunks, ap (λ s. length s.entries) c.self.view_is)
 
 pub overflow_sub-part : goal.overflow_sub-part
 overflow_sub-part c = omega (arith, c.count_pages-pages.ensures, pages_fit c.args.len c.args.part.count c.requires.fits)
 
 pub set_run-requires : goal.set_run-requires
 set_run-requires c =
-    let runs = subst (λ (s : State). HasRuns s.entries) c.self.view_is c.self.invariant.runs in
+    let runs = subst (λ (s : State). HasRuns s.entries) c.self.view_is c.self.invariant.sound.runs in
     let small : c.args.self.now.limit < 2 ^ 32 = omega (arith, ap (λ s. s.limit) c.self.view_is) in
     let es = c.args.self.now.entries in
     subst (λ k. CanMark es (c.args.part.first + 1) (k - 1) (Tail c.args.part.first) 1) (sym c.count_pages-pages.ensures)
@@ -28,7 +28,7 @@ set_run-requires c =
 
 pub set_run-requires-2 : goal.set_run-requires-2
 set_run-requires-2 c =
-    let runs = subst (λ (s : State). HasRuns s.entries) c.self.view_is c.self.invariant.runs in
+    let runs = subst (λ (s : State). HasRuns s.entries) c.self.view_is c.self.invariant.sound.runs in
     let small : c.args.self.now.limit < 2 ^ 32 = omega (arith, ap (λ s. s.limit) c.self.view_is) in
     let es = c.args.self.now.entries in
     let k = c.count_pages-pages.ensures in
@@ -38,7 +38,7 @@ set_run-requires-2 c =
 
 pub set_run-requires-3 : goal.set_run-requires-3
 set_run-requires-3 c =
-    let runs = subst (λ (s : State). HasRuns s.entries) c.self.view_is c.self.invariant.runs in
+    let runs = subst (λ (s : State). HasRuns s.entries) c.self.view_is c.self.invariant.sound.runs in
     let small : c.args.self.now.limit < 2 ^ 32 = omega (arith, ap (λ s. s.limit) c.self.view_is) in
     let es = c.args.self.now.entries in
     let k = c.count_pages-pages.ensures in
@@ -60,7 +60,7 @@ returns-clause-arena c =
 
 pub returns-clause-adds : goal.returns-clause-adds
 returns-clause-adds c =
-    let memory : length c.args.self.now.memory ≡ 4096 * length c.args.self.now.entries = subst (λ (s : State). length s.memory ≡ 4096 * length s.entries) c.self.view_is c.self.invariant.memory in
+    let memory : length c.args.self.now.memory ≡ 4096 * length c.args.self.now.entries = subst (λ (s : State). length s.memory ≡ 4096 * length s.entries) c.self.view_is c.self.invariant.sound.memory in
     let made : ℕ → BufId = λ g. record { page = c.args.part.first; generation = g + 1 } in
     let w = take c.args.len (part_bytes c.args.self.now c.args.part) in
     subst (λ x. Adds c.args.self.now x (made c.generation-generation.result ∷ []) w) (sym (returns-clause-arena c))

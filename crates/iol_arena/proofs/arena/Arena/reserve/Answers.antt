@@ -1,5 +1,6 @@
 use Rattle.std.proofs.Common.{◌≡◌, ℕ, arith, refl, ap, sym, ◌∙◌, subst, take, length, List, Err, ◌+◌, ◌-◌, ◌/◌, ◌≤◌}
 use Rattle.iol_arena.specs.State.{State, generation_at, pages_for}
+use Rattle.iol_arena.specs.Buffers.{Grows, Spares}
 use Rattle.iol_arena.specs.Chunks.{free_pages}
 use Rattle.iol_arena.specs.Parts.{AreAll, claimed, part_pages}
 use Rattle.iol_arena.specs.declared.pages.Part.{Part}
@@ -16,7 +17,7 @@ returns-in-Ok c =
     let s = c.args.self.now in
     let ps = c.in-Ok.reservation.parts.items in
     let free = free_pages s c.args.chunks.now in
-    let is = c.claim_all.ensures.arena ∙ ap (λ ps. claimed s ps) c.as_slice.ensures in
+    let is = c.claim_all.ensures.arena ∙ ap (λ ps. claimed c.find.new.self ps) c.as_slice.ensures ∙ ap (λ (x : State). claimed x ps) c.in-Ok.ensures.same in
     let pages : part_pages ps ≡ take (pages_for c.args.n) free = c.in-Ok.ensures.pages ∙ ap (λ k. take k free) c.count_pages.ensures in
     let enough = subst (λ k. k ≤ length free) c.count_pages.ensures c.in-Ok.ensures.enough in
     record {
@@ -30,9 +31,9 @@ returns-in-Ok c =
       pages = pages;
       arena = is;
       free = ap (λ x. free_pages x c.args.chunks.now) is ∙ free-claimed s ps c.args.chunks.now (pages_for c.args.n) c.in-Ok.ensures.rising c.in-Ok.ensures.apart c.in-Ok.ensures.free pages;
-      grows = c.claim_all.ensures.grows;
+      grows = subst (λ (x : State). Grows x c.claim_all.new.self) c.in-Ok.ensures.same c.claim_all.ensures.grows;
       unraised = λ q. ap (λ x. generation_at x q) is ∙ generation-claimed s ps q;
-      spares = c.claim_all.ensures.spares;
+      spares = subst (λ (x : State). Spares x c.claim_all.new.self) c.in-Ok.ensures.same c.claim_all.ensures.spares;
       enough = enough;
       no_room = λ e. cc;
       err = tt;

@@ -22,6 +22,6 @@ returns c =
         lends = tt;
         value = value;
         len = omega (arith, c.slice_mut.ensures.len);
-        keeps = record { each = λ w fit. bytes_grow c.args.self.now c.args.part w (subst (λ (x : State). HasRuns x.entries) c.self.view_is c.self.invariant.runs) c.requires.pending c.requires.some fit };
+        keeps = record { each = λ w fit. bytes_grow c.args.self.now c.args.part w (subst (λ (x : State). HasRuns x.entries) c.self.view_is c.self.invariant.sound.runs) c.requires.pending c.requires.some fit };
       },
     )

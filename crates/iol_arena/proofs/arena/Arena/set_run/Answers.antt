@@ -8,7 +8,7 @@ pub loop-i-init : goal.loop-i-init
 loop-i-init c = ap (λ es. with_entries c.args.self.now es) (sym (each_none (marked c.args.kind c.args.raise) c.args.first c.args.self.now.entries))
 
 pub overflow_add-page : goal.overflow_add-page
-overflow_add-page c = omega (arith, c.requires.within, c.self.invariant.small, c.self.invariant.chunks, ap (λ s. length s.entries) c.self.view_is)
+overflow_add-page c = omega (arith, c.requires.within, c.self.invariant.sound.small, c.self.invariant.sound.chunks, ap (λ s. length s.entries) c.self.view_is)
 
 pub entry-entry-requires : goal.entry-entry-requires
 entry-entry-requires c = omega (arith, c.requires.within, ap (λ s. length s.entries) c.loop-i.invariant, length-each_from (marked c.args.kind c.args.raise) c.args.first c.loop-i.i c.args.self.now.entries)
