@@ -1,7 +1,7 @@
 -- Chunks, and the pages that are free in them.
-use Rattle.std.specs.Prelude.{◌≡◌, ℕ, ◌+◌, ◌*◌, ◌<◌, ◌≤◌, Bool, true, false, not, cond, List, [], ◌∷◌, flat_map, slice_index_or, slice_set, length, take, drop}
+use Rattle.std.specs.Prelude.{◌≡◌, ℕ, ◌+◌, ◌*◌, ◌<◌, ◌≤◌, Bool, true, false, not, cond, List, [], ◌∷◌, flat_map, slice_index_or, slice_set, length, take, drop, nat_lt, ◌&&◌}
 use Rattle.std.specs.List.{All, filter, range_with_len}
-use Rattle.iol_arena.specs.State.{State, entry_at, is_free, chunk_count, with_taken}
+use Rattle.iol_arena.specs.State.{State, entry_at, generation_at, is_free, kind_free, chunk_count, with_taken}
 
 -- each is greater than the one before, and the first is at least `low`
 abbrev pub IsRisingFrom : ℕ → List ℕ → Type 0
@@ -30,6 +30,14 @@ if_usable s p = cond (usable s p) (p ∷ []) []
 -- the free pages of these chunks, in order
 abbrev pub free_pages : State → List ℕ → List ℕ
 free_pages s cs = filter (usable s) (flat_map chunk_pages cs)
+
+-- whether the page can hold no further buffer: its generation is the last
+abbrev pub spent : State → ℕ → Bool
+spent s p = kind_free (entry_at s p).kind && not (nat_lt (generation_at s p) s.limit)
+
+-- the pages of these chunks that were retired, in order
+abbrev pub retired_pages : State → List ℕ → List ℕ
+retired_pages s cs = filter (spent s) (flat_map chunk_pages cs)
 
 abbrev pub is_taken : State → ℕ → Bool
 is_taken s c = slice_index_or s.taken c true

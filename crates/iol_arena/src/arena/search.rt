@@ -3,13 +3,14 @@ ghost use Rattle.std.specs.Prelude.{◌≡◌, ℕ, ◌+◌, ◌-◌, ◌*◌, �
 ghost use Rattle.std.specs.List.{All, filter};
 ghost use Rattle.smallvec.specs.SmallVec.{HasRoomFor};
 ghost use Rattle.iol_arena.specs.State.{page_count, chunk_count};
-ghost use Rattle.iol_arena.specs.Chunks.{IsRising, chunk_pages, usable, if_usable, free_pages};
+ghost use Rattle.iol_arena.specs.Chunks.{IsRising, chunk_pages, usable, if_usable, free_pages, retired_pages, spent};
 ghost use Rattle.iol_arena.specs.Parts.{AreAll, AreApart, GoesOn, end_of, part_pages};
 
 use crate::arena::Arena;
 use crate::chunks::ChunkSet;
 use crate::pages::{PageKind, Part, Reservation, Unfilled};
 use iol_core::limits::CHUNK_PAGES;
+use iol_core::numbers::ChunkNo;
 use smallvec::SmallVec;
 use std::alloc::{AllocError, Global};
 
@@ -176,5 +177,32 @@ impl Arena {
             return Err(Unfilled::Memory);
         }
         Ok(Reservation { parts, bufs })
+    }
+
+    // Whether the page is free but can hold no further buffer.
+    fn is_spent(&self, page: u32) -> bool
+        requires { page < page_count self.now }
+        ensures { result ≡ spent self.now page }
+    {
+        let entry = self.entry(page);
+        match entry.kind {
+            PageKind::Free => entry.generation >= self.limit,
+            _ => false,
+        }
+    }
+
+    /// How many pages of a chunk are retired: nothing stands on them, and their generation is the last.
+    pub fn retired(&self, chunk: ChunkNo) -> u32
+        requires { chunk < chunk_count self.now }
+        ensures { result ≡ length (retired_pages self.now (chunk ∷ [])) }
+    {
+        let _entries = &self.entries;
+        let mut count = 0;
+        for i in 0..CHUNK {
+            if self.is_spent(chunk.number() * CHUNK + i) {
+                count += 1;
+            }
+        }
+        count
     }
 }
