@@ -1,2 +1,153 @@
-//! To be written.
+//! Pipes: bounded queues of bytes, as slices.
 #![tactic(auto)]
+
+ghost use Rattle.std.specs.Prelude.{◌≡◌, ◌+◌, ◌-◌, ◌<◌, ◌≤◌, ◌↔◌, min, [], ◌∷◌, ◌++◌, length, take, drop, take_while, slice_index_or, IsTrue, IfOk, OnOk, OnErr};
+ghost use Rattle.std.specs.VecDeque.{deque_len, deque_capacity};
+ghost use Rattle.std.specs.Vec.{vec_capacity};
+ghost use Rattle.iol_agg.specs.Places.{slice_places, places, byte_len};
+ghost use Rattle.iol_pipe.specs.Queue.{first_pool, is_of};
+
+use iol_agg::{Agg, Slice};
+use iol_core::limits::MAX_QUEUE_BYTES;
+use iol_core::numbers::PoolId;
+use std::alloc::{AllocError, Global};
+use std::collections::VecDeque;
+use std::marker::Model;
+
+/// A queue of at most `MAX_QUEUE_BYTES` bytes.
+#[derive(Drop)]
+pub struct Pipe {
+    queue: VecDeque<Slice>,
+    len: u32,
+}
+
+impl Model for Pipe {
+    ghost use Rattle.std.specs.Prelude.{List};
+    ghost use Rattle.iol_agg.specs.declared.slices.Slice.{Slice};
+    ghost use Rattle.iol_pipe.specs.Queue.{IsBounded};
+
+    ghost Value = { List Slice };
+
+    ghost view = { λ p. p.queue.items };
+
+    ghost invariant = { λ p. IsBounded p.queue.items p.len };
+}
+
+impl Pipe {
+    /// A pipe with no bytes.
+    pub fn new(alloc: Global) -> Pipe
+        ensures { result ≡ [] }
+    {
+        Pipe {
+            queue: VecDeque::new(alloc),
+            len: 0,
+        }
+    }
+
+    /// The number of bytes that wait.
+    pub fn len(&self) -> u32
+        ensures len { result ≡ byte_len self.now }
+        ensures most { result ≤ MAX_QUEUE_BYTES }
+    {
+        self.len
+    }
+
+    pub fn is_empty(&self) -> bool
+        ensures { IsTrue result ↔ (byte_len self.now ≡ 0) }
+    {
+        self.len == 0
+    }
+
+    /// The pool of the first byte, if there is one.
+    pub fn first_pool(&self) -> Option<PoolId>
+        ensures { result ≡ first_pool self.now }
+    {
+        let first = self.queue.front()?;
+        Some(first.pool)
+    }
+
+    /// Takes in the longest prefix that fits, and tells how many bytes that was.
+    pub fn push(&mut self, from: &Agg) -> Result<u32, AllocError>
+        ensures taken { IfOk result (λ n. n ≡ min (byte_len from.now) (MAX_QUEUE_BYTES - byte_len self.old)) }
+        ensures places { IfOk result (λ n. places self.new ≡ places self.old ++ take n (places from.now)) }
+        ensures err { OnErr result (self.new ≡ self.old) }
+    {
+        let room = MAX_QUEUE_BYTES as u32 - self.len;
+        let taken = from.len().min(room);
+        let slices = from.slices();
+        self.queue.reserve(slices.len().min(taken as usize))?;
+        add_prefix(&mut self.queue, slices, taken);
+        self.len += taken;
+        Ok(taken)
+    }
+
+    /// Takes off and gives the longest prefix of at most `n` bytes whose pools are all among these.
+    pub fn front(&mut self, alloc: Global, n: u32, pools: &[PoolId]) -> Result<Agg, AllocError>
+        ensures given { IfOk result (λ a. places a ≡ take_while (is_of pools.now) (take n (places self.old))) }
+        ensures rest { IfOk result (λ a. places self.new ≡ drop (byte_len a) (places self.old)) }
+        ensures err { OnErr result (self.new ≡ self.old) }
+    {
+        let room = self.queue.len().min(n as usize);
+        let mut slices = Vec::with_capacity(alloc, room)?;
+        take_prefix(&mut self.queue, &mut slices, n, pools);
+        let given = Agg::from_slices(slices);
+        self.len -= given.len();
+        Ok(given)
+    }
+}
+
+// Adds the first n bytes of the slices.
+fn add_prefix(queue: &mut VecDeque<Slice>, slices: &[Slice], n: u32)
+    requires { deque_len queue.old + min (length slices.now) n ≤ deque_capacity queue.old }
+    ensures { places queue.new.items ≡ places queue.old.items ++ take n (places slices.now) }
+{
+    let mut left = n;
+    for slice in slices {
+        if left == 0 {
+            return;
+        }
+        let part = slice.at_most(left);
+        left -= part.len;
+        queue.push_back_reserved(part);
+    }
+}
+
+// Moves the first bytes, at most n, for as long as their pools are among these.
+fn take_prefix(queue: &mut VecDeque<Slice>, out: &mut Vec<Slice>, n: u32, pools: &[PoolId])
+    requires none { out.old.items ≡ [] }
+    requires room { min (length queue.old.items) n ≤ vec_capacity out.old }
+    ensures given { places out.new.items ≡ take_while (is_of pools.now) (take n (places queue.old.items)) }
+    ensures whole { places out.new.items ++ places queue.new.items ≡ places queue.old.items }
+{
+    let mut left = n;
+    while left > 0 {
+        let Some(first) = queue.front() else {
+            return;
+        };
+        if !pools.contains(&first.pool) {
+            return;
+        }
+        let slice = take_first(queue, left);
+        left -= slice.len;
+        out.push_reserved(slice);
+    }
+}
+
+// Takes off the first slice, or its first bytes where it has more than wanted.
+fn take_first(queue: &mut VecDeque<Slice>, most: u32) -> Slice
+    requires some { 0 < most }
+    requires filled { 0 < length queue.old.items }
+    ensures places { slice_places result ++ places queue.new.items ≡ places queue.old.items }
+    ensures pool { (x : Slice) → result.pool ≡ (slice_index_or queue.old.items 0 x).pool }
+    ensures len { result.len ≤ most }
+    ensures fewer { min (length queue.new.items) (most - result.len) + 1 ≤ min (length queue.old.items) most }
+{
+    let Some(first) = queue.pop_front() else {
+        unreachable!();
+    };
+    if first.len <= most {
+        return first;
+    }
+    queue.push_front_reserved(first.after(most));
+    first.first(most)
+}

@@ -1,0 +1,84 @@
+-- Prefixes of places, slice by slice.
+use Rattle.std.proofs.Common.{◌≡◌, ℕ, zero, suc, ◌+◌, ◌-◌, ◌<◌, ◌≤◌, true, false, cond, Some, List, [], ◌∷◌, ◌++◌, map, length, take, drop, get_or, refl, sym, ap, ◌∙◌, arith, append_assoc}
+use Rattle.std.specs.List.{take_while, slice_get, range_with_len}
+use Rattle.std.specs.Option.{option_map}
+use Rattle.std.proofs.lemmas.List.{take-append-drop, take_all, at_drop_more, length-take}
+use Rattle.std.proofs.lemmas.List.Sums.{take_while-cons}
+use Rattle.iol_agg.specs.declared.slices.Slice.{Slice}
+use Rattle.iol_agg.specs.Places.{Place, place_in, slice_places, places}
+use Rattle.iol_agg.proofs.Places.{row, length-slice_places}
+use Rattle.iol_pipe.specs.Queue.{first_pool, is_one_of, is_of}
+
+-- the places of a slice begin with its first
+slice_begins : (x : Slice) → slice_places x ≡ place_in x x.from ∷ row x.pool x.buf (x.from + 1) (x.len - 1)
+slice_begins x = begins x.from x.len x.some
+  where
+    begins : (i n : ℕ) → 0 < n → row x.pool x.buf i n ≡ place_in x i ∷ row x.pool x.buf (i + 1) (n - 1)
+    begins i zero h = absurd (omega arith)
+    begins i (suc n) h = let e : n ≡ suc n - 1 = omega arith in ap (λ k. place_in x i ∷ row x.pool x.buf (i + 1) k) e
+
+-- a slice in two, before others
+pub split_first : (x a b : Slice) (k : ℕ) (rest : List Slice) → slice_places a ≡ take k (slice_places x) → slice_places b ≡ drop k (slice_places x) → slice_places a ++ places (b ∷ rest) ≡ places (x ∷ rest)
+split_first x a b k rest first after =
+    sym (append_assoc (slice_places a) (slice_places b) (places rest))
+    ∙ ap (λ t. t ++ slice_places b ++ places rest) first
+    ∙ ap (λ t. take k (slice_places x) ++ t ++ places rest) after
+    ∙ ap (λ t. t ++ places rest) (take-append-drop k (slice_places x))
+
+pub first_pool-is : (xs : List Slice) (x : Slice) → 0 < length xs → x ≡ get_or xs 0 x → Some x.pool ≡ first_pool xs
+first_pool-is [] x h e = absurd (omega arith)
+first_pool-is (y ∷ ys) x h e =
+    ap (λ (z : Slice). Some z.pool) e ∙ ap (λ t. option_map (λ (p : Place). p.pool) (slice_get (t ++ places ys) 0)) (sym (slice_begins y))
+
+-- Of the first n places of a list and others.
+
+take-append : {A : Type 0} (a r : List A) (n : ℕ) → take n (a ++ r) ≡ take n a ++ take (n - length a) r
+take-append {A} [] r n =
+    let e : n ≡ n - 0 = omega arith in
+    let none : List A = [] in
+    ap (λ k. take k r) e ∙ ap (λ t. t ++ take (n - 0) r) (sym (take_all n none (omega arith)))
+take-append (x ∷ a) r zero = let e : 0 ≡ 0 - suc (length a) = omega arith in ap (λ k. take k r) e
+take-append (x ∷ a) r (suc n) =
+    let e : n - length a ≡ suc n - suc (length a) = omega arith in
+    ap (λ t. x ∷ t) (take-append a r n ∙ ap (λ k. take n a ++ take k r) e)
+
+-- of the i-th slice and those after it, the first left bytes: those that the slice has, and those after it
+pub take_step : (xs : List Slice) (i left : ℕ) (x a : Slice) → i < length xs → x ≡ get_or xs i x → slice_places a ≡ take left (slice_places x) → take left (places (drop i xs)) ≡ slice_places a ++ take (left - a.len) (places (drop (i + 1) xs))
+take_step xs i left x a h e part =
+    let r : List Place = places (drop (i + 1) xs) in
+    let long : left - length (slice_places x) ≡ left - a.len = omega (arith, length-slice_places x, length-slice_places a, ap length part, length-take left (slice_places x)) in
+    at_drop_more (λ ys. take left (places ys)) xs i x h
+    ∙ ap (λ y. take left (slice_places y ++ r)) (sym e)
+    ∙ take-append (slice_places x) r left
+    ∙ ap (λ t. t ++ take (left - length (slice_places x)) r) (sym part)
+    ∙ ap (λ k. slice_places a ++ take k r) long
+
+-- Places as long as their pools are among these.
+
+passes : (pools : List ℕ) (x : Slice) (js : List ℕ) (t : List Place) → is_one_of pools x.pool ≡ true → take_while (is_of pools) (map (place_in x) js ++ t) ≡ map (place_in x) js ++ take_while (is_of pools) t
+passes pools x [] t listed = refl
+passes pools x (j ∷ js) t listed =
+    take_while-cons (is_of pools) (place_in x j) (map (place_in x) js ++ t)
+    ∙ ap (λ b. cond b (place_in x j ∷ take_while (is_of pools) (map (place_in x) js ++ t)) []) listed
+    ∙ ap (λ u. place_in x j ∷ u) (passes pools x js t listed)
+
+-- a slice whose pool is one of these, before others
+pub take_while_step : (pools : List ℕ) (x : Slice) (left : ℕ) (qs : List Place) (rest : List Slice) → slice_places x ++ places rest ≡ qs → x.len ≤ left → is_one_of pools x.pool ≡ true → take_while (is_of pools) (take left qs) ≡ slice_places x ++ take_while (is_of pools) (take (left - x.len) (places rest))
+take_while_step pools x left qs rest whole h listed =
+    let long : length (slice_places x) ≡ x.len = length-slice_places x in
+    ap (λ t. take_while (is_of pools) (take left t)) (sym whole)
+    ∙ ap (take_while (is_of pools)) (take-append (slice_places x) (places rest) left ∙ ap (λ t. t ++ take (left - length (slice_places x)) (places rest)) (take_all left (slice_places x) (omega arith)))
+    ∙ passes pools x (range_with_len x.from x.len) (take (left - length (slice_places x)) (places rest)) listed
+    ∙ ap (λ k. slice_places x ++ take_while (is_of pools) (take (left - k) (places rest))) long
+
+-- the first slice's pool is none of these
+pub take_while_none : (pools : List ℕ) (xs : List Slice) (x : Slice) (left : ℕ) → 0 < length xs → x ≡ get_or xs 0 x → 0 < left → is_one_of pools x.pool ≡ false → take_while (is_of pools) (take left (places xs)) ≡ []
+take_while_none pools [] x left h e some barred = absurd (omega arith)
+take_while_none pools (y ∷ ys) x zero h e some barred = absurd (omega arith)
+take_while_none pools (y ∷ ys) x (suc left) h e some barred =
+    let p : Place = place_in y y.from in
+    let r : List Place = row y.pool y.buf (y.from + 1) (y.len - 1) ++ places ys in
+    let first : is_one_of pools y.pool ≡ false = ap (λ (z : Slice). is_one_of pools z.pool) (sym e) ∙ barred in
+    ap (λ t. take_while (is_of pools) (take (suc left) (t ++ places ys))) (slice_begins y)
+    ∙ take_while-cons (is_of pools) p (take left r)
+    ∙ ap (λ b. cond b (p ∷ take_while (is_of pools) (take left r)) []) first
