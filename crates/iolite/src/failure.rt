@@ -1,0 +1,49 @@
+//! Why a program ends without doing all that it was asked for.
+ghost use Rattle.std.specs.Prelude.{◌≡◌};
+
+use std::fmt;
+
+/// Why a program ends early. It prints as the line that goes to standard error.
+#[derive(Clone, Copy, Debug, PartialEq, Eq)]
+pub enum Failure {
+    /// The script is too long or not UTF-8.
+    BadScript,
+
+    /// This line of the script, counted from 1, is not a command.
+    BadLine { number: usize },
+
+    /// The input could not be read.
+    Input,
+
+    /// The output could not be written.
+    Output,
+
+    /// The allocator refused to give memory.
+    Memory,
+}
+
+impl Failure {
+    ghost use Rattle.iolite.specs.Failure.{status_of};
+
+    /// The exit status of a program that ends so.
+    pub fn status(self) -> u8
+        ensures { result ≡ status_of self }
+    {
+        match self {
+            Failure::BadScript | Failure::BadLine { .. } => 2,
+            Failure::Input | Failure::Output | Failure::Memory => 3,
+        }
+    }
+}
+
+impl fmt::Display for Failure {
+    fn fmt<W: fmt::Write>(&self, f: &mut fmt::Formatter<W>) -> fmt::Result {
+        match self {
+            Failure::BadScript => write!(f, "bad script"),
+            Failure::BadLine { number } => write!(f, "line {number}: not a command"),
+            Failure::Input => write!(f, "fault: input"),
+            Failure::Output => write!(f, "fault: output"),
+            Failure::Memory => write!(f, "fault: memory"),
+        }
+    }
+}

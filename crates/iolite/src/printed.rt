@@ -1,0 +1,51 @@
+//! The lines that replies are printed as.
+use iol_core::events::Reply;
+use percent_encoding::{AsciiSet, CONTROLS, ascii_set, percent_encode};
+use std::fmt;
+
+/// The bytes below 128 that a printed text shows as `%` and two digits. All above are shown so, too.
+const ESCAPED: AsciiSet = ascii_set!(CONTROLS.add(b' ').add(b'%'));
+
+/// A reply, to be printed as one line without its end.
+#[derive(Clone, Copy)]
+pub struct Printed<'a>(pub &'a Reply);
+
+impl fmt::Display for Printed<'_> {
+    fn fmt<W: fmt::Write>(&self, f: &mut fmt::Formatter<W>) -> fmt::Result {
+        match self.0 {
+            Reply::Done => write!(f, "done"),
+            Reply::Domain(domain) => write!(f, "domain {domain}"),
+            Reply::Pool(pool) => write!(f, "pool {pool}"),
+            Reply::File(file) => write!(f, "file {file}"),
+            Reply::Conn(conn) => write!(f, "conn {conn}"),
+            Reply::Fd(fd) => write!(f, "fd {fd}"),
+            Reply::Fds(read_end, write_end) => write!(f, "fds {read_end} {write_end}"),
+            Reply::Agg(agg) => write!(f, "agg {agg}"),
+            Reply::Aggs(front, back) => write!(f, "aggs {front} {back}"),
+            Reply::Count(count) => write!(f, "count {count}"),
+            Reply::Bytes(bytes) => {
+                let text = Text(bytes.as_slice());
+                write!(f, "bytes{text}")
+            }
+            Reply::Segment { bytes, checksum } => {
+                let text = Text(bytes.as_slice());
+                write!(f, "segment {checksum:04x}{text}")
+            }
+            Reply::Refused(refusal) => write!(f, "refused {refusal}"),
+        }
+    }
+}
+
+/// A text at the end of a line, with the space before it. An empty one prints nothing.
+#[derive(Clone, Copy)]
+struct Text<'a>(&'a [u8]);
+
+impl fmt::Display for Text<'_> {
+    fn fmt<W: fmt::Write>(&self, f: &mut fmt::Formatter<W>) -> fmt::Result {
+        if self.0.is_empty() {
+            return Ok(());
+        }
+        let encoded = percent_encode(self.0, ESCAPED);
+        write!(f, " {encoded}")
+    }
+}

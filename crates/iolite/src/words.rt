@@ -1,0 +1,90 @@
+//! The words of a script's lines: numbers, lists of numbers, and texts.
+ghost use Rattle.std.specs.Prelude.{◌≡◌, ◌↔◌, ◌<◌, ◌^◌, ◌==◌, IsOk, IfOk, length};
+ghost use Rattle.std.specs.List.{before_first, after_first, position_or_len};
+ghost use Rattle.std.specs.Str.Parse.{IsNumeral, digits_value};
+ghost use Rattle.percent_encoding.specs.Percent.{percent_decode as decoded};
+
+use iol_core::lists::{Bytes, Domains};
+use iol_core::numbers::DomainId;
+use percent_encoding::percent_decode;
+use std::alloc::{AllocError, AllocFailed, Global};
+
+/// Why a line has no meaning.
+#[derive(Clone, Copy, Debug, PartialEq, Eq)]
+pub enum LineError {
+    /// The line is not a command.
+    NotACommand,
+
+    /// The allocator refused to give memory.
+    Memory,
+}
+
+impl From<AllocError> for LineError {
+    fn from(_error: AllocError) -> LineError {
+        LineError::Memory
+    }
+}
+
+impl<T: Drop> From<AllocFailed<T>> for LineError {
+    fn from(_error: AllocFailed<T>) -> LineError {
+        LineError::Memory
+    }
+}
+
+/// Reads a number of decimal digits alone.
+pub fn parse_u32(word: &str) -> Result<u32, LineError>
+    ensures accepts { IsOk result ↔ (IsNumeral 10 word.now × (digits_value 10 word.now < 2 ^ 32)) }
+    ensures value { IfOk result (λ n. n ≡ digits_value 10 word.now) }
+{
+    if word.as_bytes().first() == Some(&b'+') {
+        return Err(LineError::NotACommand);
+    }
+    match word.parse::<u32>() {
+        Ok(number) => Ok(number),
+        Err(_) => Err(LineError::NotACommand),
+    }
+}
+
+/// Reads a number of decimal digits alone.
+pub fn parse_u64(word: &str) -> Result<u64, LineError>
+    ensures accepts { IsOk result ↔ (IsNumeral 10 word.now × (digits_value 10 word.now < 2 ^ 64)) }
+    ensures value { IfOk result (λ n. n ≡ digits_value 10 word.now) }
+{
+    if word.as_bytes().first() == Some(&b'+') {
+        return Err(LineError::NotACommand);
+    }
+    match word.parse::<u64>() {
+        Ok(number) => Ok(number),
+        Err(_) => Err(LineError::NotACommand),
+    }
+}
+
+/// Cuts a line at its first space, which belongs to neither part.
+pub fn split_word(line: &str) -> Result<(&str, &str), LineError>
+    ensures word { IfOk result (λ parts. parts.0.now ≡ before_first (λ b. b == 32) line.now) }
+    ensures rest { IfOk result (λ parts. parts.1.now ≡ after_first (λ b. b == 32) line.now) }
+    ensures found { IsOk result ↔ (position_or_len (λ b. b == 32) line.now < length line.now) }
+{
+    match line.split_once(' ') {
+        Some((word, rest)) => Ok((word, rest)),
+        None => Err(LineError::NotACommand),
+    }
+}
+
+/// Reads the numbers of domains, joined by commas.
+pub fn parse_domains(alloc: Global, word: &str) -> Result<Domains, LineError> {
+    let mut domains = Vec::new(alloc);
+    for number in word.split(',') {
+        domains.push(DomainId::new(parse_u32(number)?))?;
+    }
+    Ok(Domains::from_vec(domains))
+}
+
+/// Reads a text: `%` and two hexadecimal digits stand for a byte, every other byte for itself.
+pub fn decode_text(alloc: Global, text: &str) -> Result<Bytes, AllocError>
+    ensures { IfOk result (λ bytes. bytes ≡ decoded text.now) }
+{
+    let mut bytes = Vec::new(alloc);
+    percent_decode(text.as_bytes()).append_to(&mut bytes)?;
+    Ok(Bytes::from_vec(bytes))
+}
