@@ -54,7 +54,7 @@ module _ (s : State) (cs : List ℕ) (n : ℕ) (lowest : cs ≡ take n (free_chu
   pub takes_chunks : TakesChunks s (record { memory = s.memory; entries = s.entries; limit = s.limit; taken = all_taken s.taken cs }) cs
   takes_chunks = record {
     chunks = chunks;
-    within = chunks_there;
+    within = subst (λ n. All (λ c. c < n) cs) (sym (length-all_taken s.taken cs)) chunks_there;
     count = length-all_taken s.taken cs;
     rest = ap (λ k. filter (is_untaken (all_taken s.taken cs)) (range_with_len 0 k)) (length-all_taken s.taken cs)
         ∙ drop_filter (is_untaken s.taken) (is_untaken (all_taken s.taken cs)) 0 (range_with_len 0 (length s.taken)) (length cs) (subst (λ l. IsRisingFrom 0 l) (append-nil (range_with_len 0 (length s.taken))) (rising_range 0 (length s.taken) [] tt))

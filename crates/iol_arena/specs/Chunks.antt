@@ -69,7 +69,7 @@ pub record TakesNone (old new : State) : Type 0 where
 -- the lowest of the chunks that were not given out are given out, and nothing else changed
 pub record TakesChunks (old new : State) (cs : List ℕ) : Type 0 where
   pub chunks : cs ≡ take (length cs) (free_chunks old)
-  pub within : All (λ c. c < chunk_count old) cs
+  pub within : All (λ c. c < chunk_count new) cs
   pub count : chunk_count new ≡ chunk_count old
   pub rest : free_chunks new ≡ drop (length cs) (free_chunks old)
   pub same : new ≡ record { memory = old.memory; entries = old.entries; limit = old.limit; taken = all_taken old.taken cs }

@@ -10,3 +10,5 @@ pub mod arena;
 pub mod chunks;
 pub mod filling;
 pub mod pages;
+#[cfg(test)]
+mod tests;
