@@ -7,6 +7,8 @@
 mod aggregates;
 mod reading;
 mod slices;
+#[cfg(test)]
+mod tests;
 
 pub use aggregates::Agg;
 pub use reading::Parts;
