@@ -1,6 +1,6 @@
 -- Every live buffer stays.
 use Rattle.std.proofs.Common.{◌≡◌, false, true, ℕ, ◌+◌, ◌*◌, ◌<◌, ◌≤◌, ◌⊎◌, inl, inr, List, length, refl, sym, ap, ◌∙◌, arith, subst}
-use Rattle.iol_arena.specs.State.{State, entry_at, generation_at, kind_head, with_marked, with_bytes, each_from, marked, HasRuns, page_count}
+use Rattle.iol_arena.specs.State.{State, entry_at, generation_at, kind_head, with_marked, with_bytes, with_bytes_at, each_from, marked, HasRuns, page_count}
 use Rattle.iol_arena.specs.Buffers.{IsLive, kind_len, Keeps, Grows, Spares, bytes_of}
 use Rattle.iol_arena.specs.Parts.{IsAll}
 use Rattle.iol_arena.specs.declared.pages.PageKind as kind
@@ -54,6 +54,9 @@ marks_grow s p n k0 k raise within kinds old new plain =
     grows_of s t (marks_keep s p n k raise within plain) (spared s t (marks_spare s t p n k0 k raise refl within kinds old new)) (length-each_from (marked k raise) p n s.entries) refl refl
 
 -- a write to pages that are being filled
+pub bytes_at_grow : (s : State) (p : Part) (i : ℕ) (w : List ℕ) → HasRuns s.entries → IsAll Pending s.limit s.entries p → 0 < p.count → p.first * 4096 ≤ i → i + length w ≤ (p.first + p.count) * 4096 → Grows s (with_bytes_at s i w)
+bytes_at_grow s p i w runs all some low high =
+    grows_of s (with_bytes_at s i w) (bytes_keep s p.first p.count i w Pending runs all.each (λ m e. cc) (λ a e. cc) some low high) (λ b h. refl) refl refl refl
+
 pub bytes_grow : (s : State) (p : Part) (w : List ℕ) → HasRuns s.entries → IsAll Pending s.limit s.entries p → 0 < p.count → length w ≤ p.count * 4096 → Grows s (with_bytes s p.first w)
-bytes_grow s p w runs all some fit =
-    grows_of s (with_bytes s p.first w) (bytes_keep s p.first p.count w Pending runs all.each (λ m e. cc) (λ a e. cc) some fit) (λ b h. refl) refl refl refl
+bytes_grow s p w runs all some fit = bytes_at_grow s p (p.first * 4096) w runs all some (omega arith) (omega arith)

@@ -1,6 +1,6 @@
 -- What stays of the live buffers.
 use Rattle.std.proofs.Common.{◌≡◌, false, true, ℕ, zero, suc, ◌+◌, ◌-◌, ◌*◌, ◌<◌, ◌≤◌, ◌⊎◌, inl, inr, List, [], ◌∷◌, length, get_or, take, drop, refl, sym, ap, ◌∙◌, arith, subst}
-use Rattle.iol_arena.specs.State.{State, each_from, entry_in, entry_at, marked, with_marked, with_bytes, with_entries, over_from, HasRuns, IsRun, memory_at, pages_for, no_entry, kind_head}
+use Rattle.iol_arena.specs.State.{State, each_from, entry_in, entry_at, marked, with_marked, with_bytes_at, with_entries, over_from, HasRuns, IsRun, memory_at, pages_for, no_entry, kind_head}
 use Rattle.iol_arena.specs.Buffers.{IsLive, IsKept, Keeps, bytes_of, len_of, kind_len, Spares, IsSpared}
 use Rattle.iol_arena.specs.Parts.{IsAll, published_entries, published_part}
 use Rattle.iol_arena.specs.declared.pages.PageKind as kind
@@ -75,33 +75,35 @@ head_keeps s p n within =
       ];
     }
 
+-- a live buffer and pages that stand in no buffer share none
+pub live_apart : (s : State) (p n : ℕ) (k0 : kind.PageKind) (b : BufId) → HasRuns s.entries → ((q : ℕ) → p ≤ q → q < p + n → (entry_at s q).kind ≡ k0) → ((m : ℕ) → k0 ≡ Head m → ⊥) → ((a : ℕ) → k0 ≡ Tail a → ⊥)
+    → 0 < n → (entry_at s b.page).kind ≡ Head (len_of s b) → (b.page + pages_for (len_of s b) ≤ p) ⊎ (p + n ≤ b.page)
+live_apart s p n k0 b runs kinds no_head no_tail some head = elim (order p n b.page) [
+  | inl h ↦ elim (order p 1 (b.page + pages_for (len_of s b))) [
+    | inl le ↦ inl (omega arith)
+    | inr r ↦ elim r [
+      | inl at ↦ inl (omega (arith, at.0, at.1))
+      | inr lt ↦ absurd (no_tail b.page (sym (kinds p (omega arith) (omega arith)) ∙ (runs.each b.page (len_of s b) head).tails p h (omega arith)))
+    ]
+  ]
+  | inr r ↦ elim r [
+    | inl h ↦ absurd (no_head (len_of s b) (sym (kinds b.page h.0 h.1) ∙ head))
+    | inr h ↦ inr h
+  ]
+]
+
 -- a write to pages that stand in no buffer
-pub bytes_keep : (s : State) (p n : ℕ) (w : List ℕ) (k0 : kind.PageKind) → HasRuns s.entries → ((q : ℕ) → p ≤ q → q < p + n → (entry_at s q).kind ≡ k0) → ((m : ℕ) → k0 ≡ Head m → ⊥) → ((a : ℕ) → k0 ≡ Tail a → ⊥)
-    → 0 < n → length w ≤ n * 4096 → Keeps s (with_bytes s p w)
-bytes_keep s p n w k0 runs kinds no_head no_tail some fit =
+pub bytes_keep : (s : State) (p n i : ℕ) (w : List ℕ) (k0 : kind.PageKind) → HasRuns s.entries → ((q : ℕ) → p ≤ q → q < p + n → (entry_at s q).kind ≡ k0) → ((m : ℕ) → k0 ≡ Head m → ⊥) → ((a : ℕ) → k0 ≡ Tail a → ⊥)
+    → 0 < n → p * 4096 ≤ i → i + length w ≤ (p + n) * 4096 → Keeps s (with_bytes_at s i w)
+bytes_keep s p n i w k0 runs kinds no_head no_tail some low high =
     record {
       rising = λ q. omega arith;
-      kept = λ b live. inl (record { head = live.head; generation = live.generation }, bytes b live (order p n b.page));
+      kept = λ b live. inl (record { head = live.head; generation = live.generation }, bytes b (live_apart s p n k0 b runs kinds no_head no_tail some live.head));
     }
   where
-    run_of : (b : BufId) → IsLive (with_bytes s p w) b → IsRun s.entries b.page (len_of s b)
-    run_of b live = runs.each b.page (len_of s b) live.head
-
-    ends : (b : BufId) → IsLive (with_bytes s p w) b → b.page < p → (b.page + pages_for (len_of s b) ≤ p) ⊎ (p < b.page + pages_for (len_of s b)) → b.page + pages_for (len_of s b) ≤ p
-    ends b live h (inl le) = le
-    ends b live h (inr lt) = absurd (no_tail b.page (sym (kinds p (omega arith) (omega arith)) ∙ (run_of b live).tails p h lt))
-
-    bytes : (b : BufId) → IsLive (with_bytes s p w) b → (b.page < p) ⊎ ((p ≤ b.page) × (b.page < p + n)) ⊎ (p + n ≤ b.page) → bytes_of (with_bytes s p w) b ≡ bytes_of s b
-    bytes b live (inl h) =
-        let before = ends b live h (cases (b.page + pages_for (len_of s b)) p) in
-        over_from-before (p * 4096) w s.memory (len_of s b) (b.page * 4096) (omega (arith, before, pages_hold (len_of s b)))
-      where
-        cases : (a b : ℕ) → (a ≤ b) ⊎ (b < a)
-        cases zero b = inl (omega arith)
-        cases (suc a) zero = inr (omega arith)
-        cases (suc a) (suc b) = elim (cases a b) [ inl h ↦ inl (omega arith) | inr h ↦ inr (omega arith) ]
-    bytes b live (inr (inl h)) = absurd (no_head (len_of s b) (sym (kinds b.page h.0 h.1) ∙ live.head))
-    bytes b live (inr (inr h)) = over_from-after (p * 4096) w s.memory (len_of s b) (b.page * 4096) (omega (arith, fit))
+    bytes : (b : BufId) → (b.page + pages_for (len_of s b) ≤ p) ⊎ (p + n ≤ b.page) → bytes_of (with_bytes_at s i w) b ≡ bytes_of s b
+    bytes b (inl h) = over_from-before i w s.memory (len_of s b) (b.page * 4096) (omega (arith, h, low, pages_hold (len_of s b)))
+    bytes b (inr h) = over_from-after i w s.memory (len_of s b) (b.page * 4096) (omega (arith, h, high))
 
 pub publish_keeps : (s : State) (p : Part) (n : ℕ) → p.first + p.count ≤ length s.entries → 0 < n → n ≤ p.count * 4096 → Keeps s (published_part s p n)
 unfolding published_entries

@@ -14,6 +14,7 @@ use iol_core::refusals::Refusal;
 use std::alloc::{AllocError, Global};
 use std::marker::Model;
 
+mod copying;
 mod fill;
 mod giving;
 mod runs;

@@ -1,9 +1,9 @@
 //! Fillings: new buffers before they are published.
-ghost use Rattle.std.specs.Prelude.{◌≡◌, ℕ, ◌*◌, ◌<◌, ◌≤◌, length, take, drop, OnOk, IfOk};
+ghost use Rattle.std.specs.Prelude.{◌≡◌, ℕ, ◌+◌, ◌-◌, ◌*◌, ◌<◌, ◌≤◌, length, take, drop, slice_range, OnOk, IfOk};
 ghost use Rattle.std.specs.Borrow.{sem};
 ghost use Rattle.std.specs.List.{All};
-ghost use Rattle.iol_arena.specs.State.{chunk_count, memory_at, pages_for};
-ghost use Rattle.iol_arena.specs.Buffers.{Grows, IsUnraised, Spares};
+ghost use Rattle.iol_arena.specs.State.{chunk_count, pages_for, with_bytes_at};
+ghost use Rattle.iol_arena.specs.Buffers.{IsLive, bytes_of, Grows, IsUnraised, Spares};
 ghost use Rattle.iol_arena.specs.Chunks.{free_pages};
 ghost use Rattle.iol_arena.specs.Parts.{abandoned, published, new_bufs, part_pages, part_bytes, WritesKeep};
 ghost use Rattle.iol_arena.specs.Adds.{Adds};
@@ -11,6 +11,7 @@ ghost use Rattle.iol_arena.specs.Adds.{Adds};
 use crate::arena::Arena;
 use crate::chunks::ChunkSet;
 use crate::pages::{BufList, Reservation, Unfilled};
+use iol_core::numbers::BufId;
 use std::alloc::Global;
 
 /// New buffers that are being filled. It must be spent, by `publish` or `abandon`.
@@ -58,7 +59,7 @@ impl Arena {
 }
 
 impl<'a> Filling<'a> {
-    ghost use Rattle.iol_arena.specs.Filling.{filling_arena, filling_parts, filling_part, filling_bytes, LendsPart, IsFilling};
+    ghost use Rattle.iol_arena.specs.Filling.{filling_arena, filling_parts, filling_part, filling_lender, filling_bytes, LendsPart, IsFilling};
 
     /// How many parts there are. Each becomes a buffer.
     pub fn part_count(&self) -> usize
@@ -79,6 +80,24 @@ impl<'a> Filling<'a> {
     {
         let part = self.reservation.parts.as_slice()[i];
         self.arena.run_mut(part)
+    }
+
+    /// Copies the bytes of a live buffer, from place `from` up to `to`, into a part, from its place `at` on.
+    pub fn copy_in(&mut self, i: usize, at: u32, buf: BufId, from: u32, to: u32)
+        requires within { i < length (filling_parts self.old) }
+        requires filling { IsFilling self.old }
+        requires live { IsLive (filling_arena self.old) buf }
+        requires order { from ≤ to }
+        requires range { to ≤ length (bytes_of (filling_arena self.old) buf) }
+        requires room { at + (to - from) ≤ (filling_part self.old i).count * 4096 }
+        ensures arena { filling_arena self.new ≡ with_bytes_at (filling_arena self.old) ((filling_part self.old i).first * 4096 + at) (slice_range (bytes_of (filling_arena self.old) buf) from to) }
+        ensures parts { filling_parts self.new ≡ filling_parts self.old }
+        ensures filling { IsFilling self.new }
+        ensures grows { Grows (filling_arena self.old) (filling_arena self.new) }
+        ensures same_reference { filling_lender self.new ≡ filling_lender self.old }
+    {
+        let part = self.reservation.parts.as_slice()[i];
+        self.arena.copy_run(part, at, buf, from, to);
     }
 
     /// Ends the filling: its first `len` bytes are live. Pages that get none go back unraised.

@@ -4,14 +4,9 @@ use Rattle.std.proofs.lemmas.List.{drop-drop, take-take, length-take}
 use Rattle.iol_arena.specs.State.{State, HasRuns, entry_at}
 use Rattle.iol_arena.specs.Buffers.{len_of}
 use Rattle.iol_arena.specs.declared.pages.Entry.{Entry}
+use Rattle.iol_arena.proofs.Over.{take-drop-take}
 use Rattle.iol_arena.proofs.Marks.{pages_hold}
 use Rattle.iol_arena.proofs.arena.Arena.bytes.Goals as goal
-
-part_of_prefix : (from k l : ℕ) (m : List ℕ) → from + k ≤ l → take k (drop from (take l m)) ≡ take k (drop from m)
-part_of_prefix zero k l m h = take-take k l m (omega arith)
-part_of_prefix (suc from) k zero m h = absurd (omega arith)
-part_of_prefix (suc from) k (suc l) [] h = refl
-part_of_prefix (suc from) k (suc l) (x ∷ m) h = part_of_prefix from k l m (omega arith)
 
 pub slice_bounds-result-end : goal.slice_bounds-result-end
 slice_bounds-result-end c =
@@ -31,5 +26,5 @@ returns c =
     ap (λ l. take (p + c.args.to - (p + c.args.from)) (drop (p + c.args.from) l)) c.deref.ensures.value
     ∙ ap (λ x. take x (drop (p + c.args.from) m)) size
     ∙ ap (λ l. take k l) (sym (drop-drop c.args.from p m))
-    ∙ sym (part_of_prefix c.args.from k n (drop p m) order)
+    ∙ sym (take-drop-take c.args.from k n (drop p m) order)
     ∙ ap (λ s. slice_range (take n (drop p s.memory)) c.args.from c.args.to) c.self.view_is
