@@ -1,2 +1,16 @@
-//! To be written.
+//! The system: the calls of domains over shared buffers, one event at a time.
+//!
+//! [`System::run`](system::System::run) carries the headline: whatever the list of events, the replies and the state
+//! after them are those of a machine that copies at every call (`iol_core`, `specs/Run`). What a system holds, and
+//! the machine's state that it stands for, is in `specs/Holding`; when there is room, in `specs/Room`.
 #![tactic(auto)]
+
+mod aggregates;
+mod descriptors;
+mod domains;
+mod kernel;
+mod pools;
+mod queues;
+mod step;
+pub mod system;
+mod table;

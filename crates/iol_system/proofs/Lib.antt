@@ -1,0 +1,9 @@
+pub mod Places
+pub mod Meant
+pub mod Sound
+pub mod Ends
+pub mod Effects
+pub mod Pipes
+pub mod Queueing
+pub mod Distinct
+pub mod Runs

@@ -1,0 +1,21 @@
+use Rattle.std.proofs.Common.{◌≡◌, ◌∙◌, ℕ, ◌<◌, sym, ap, arith, List, Option, subst}
+use Rattle.iol_agg.specs.declared.slices.Slice.{Slice}
+use Rattle.iol_agg.specs.Places.{byte_len}
+use Rattle.iol_pipe.specs.Queue.{first_pool}
+use Rattle.iol_core.specs.State.{Domain}
+use Rattle.iol_system.specs.Tables.{agg_in, domain_in}
+use Rattle.iol_system.specs.Seen.{Pipe}
+use Rattle.iol_system.specs.Holding.{queue_at}
+use Rattle.iol_system.proofs.Effects.{live_held, few_held, next_held}
+use Rattle.iol_system.proofs.Queueing.{queue_length, reading_means, writing_means, first_admitted, first_denied, first_empty, taken-machine, taken-sound, readable_one, readable_none_of, pushed-machine, pushed-sound, text_held, none_held, length_held}
+use Rattle.iol_system.specs.Kernel.{holding}
+use Rattle.iol_system.proofs.kernel.Kernel.first_barred.Goals as goal
+
+pub returns-then-may_read : goal.returns-then-may_read
+returns-then-may_read c = first_admitted (holding c.args.self.now) c.args.by c.args.p c.args.count c.in-Some.pool (omega arith) (sym c.in-Some.is ∙ c.first_pool.ensures ∙ ap (λ (qs : List (Option (Pipe (List Slice)))). first_pool (queue_at qs c.args.p).queue) c.deref.ensures.value) (sym c.may_read.ensures ∙ c.if-may_read.true)
+
+pub returns-else-may_read : goal.returns-else-may_read
+returns-else-may_read c = first_denied (holding c.args.self.now) c.args.by c.args.p c.args.count c.in-Some.pool (omega arith) (sym c.in-Some.is ∙ c.first_pool.ensures ∙ ap (λ (qs : List (Option (Pipe (List Slice)))). first_pool (queue_at qs c.args.p).queue) c.deref.ensures.value) (sym c.may_read.ensures ∙ c.if-may_read.false)
+
+pub returns-in-None : goal.returns-in-None
+returns-in-None c = first_empty (holding c.args.self.now) c.args.by c.args.p c.args.count (omega arith) (sym c.in-None.is ∙ c.first_pool.ensures ∙ ap (λ (qs : List (Option (Pipe (List Slice)))). first_pool (queue_at qs c.args.p).queue) c.deref.ensures.value)

@@ -1,0 +1,5 @@
+pub mod Tables
+pub mod Seen
+pub mod Holding
+pub mod Room
+pub mod Kernel

@@ -1,0 +1,46 @@
+-- The state of the copying machine that a system's tables stand for.
+use Rattle.std.specs.Prelude.{ℕ, Bool, false, true, List, [], ◌∷◌, Option, Some, None, option_map, map, unwrap_or}
+use Rattle.iol_core.specs.Text.{Text}
+use Rattle.iol_core.specs.Numbered.{numbered_or, in_place}
+use Rattle.iol_core.specs.State as machine
+use Rattle.iol_core.specs.State.{State, Domain, no_slots}
+use Rattle.iol_system.specs.Tables.{meant}
+
+-- who may read a pool, whether it is closed, and its chunks, by rising number
+pub record Pool : Type 0 where
+  pub domains : List ℕ
+  pub closed : Bool
+  pub chunks : List ℕ
+
+-- a pipe; A is what its queue is
+pub record Pipe (A : Type 0) : Type 0 where
+  pub queue : A
+  pub reading : Bool
+  pub writing : Bool
+
+abbrev pub no_pool : Pool
+no_pool = record { domains = []; closed = true; chunks = [] }
+
+unfoldable pub pool_in : List Pool → (p : ℕ) → Pool
+pool_in ps p = numbered_or ps p no_pool
+
+abbrev pub pool_meant : Pool → machine.Pool
+pool_meant p = record { domains = p.domains; closed = p.closed }
+
+abbrev pub pipe_meant : {A : Type 0} → (A → Text) → Pipe A → machine.Pipe
+pipe_meant g p = record { queue = g p.queue; reading = p.reading; writing = p.writing }
+
+-- with each aggregate and queue as the text that g gives
+unfoldable pub seen : {A : Type 0} → (A → Text) → List (Domain A) → List Pool → List (Option (Pipe A)) → State
+seen g domains pools pipes = record {
+  domains = map (meant g) domains;
+  pools = map pool_meant pools;
+  files = [];
+  slots = no_slots;
+  pipes = map (option_map (pipe_meant g)) pipes;
+  conns = [];
+  next_conn = 1;
+}
+
+abbrev pub pipe_in : {A : Type 0} → A → List (Option (Pipe A)) → (p : ℕ) → Pipe A
+pipe_in none pipes p = unwrap_or (in_place pipes p) (record { queue = none; reading = false; writing = false })

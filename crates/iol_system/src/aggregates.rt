@@ -1,0 +1,160 @@
+//! Making and showing aggregates.
+ghost use Rattle.std.specs.Prelude.{◌≡◌, ◌≢◌, ℕ, ◌+◌, ◌-◌, ◌<◌, ◌≤◌, ◌^◌, length, true, false, not, ◌&&◌, ◌==◌, min, take, drop, slice_set, Option, Some, None, List, [], ◌∷◌, ◌++◌, IfOk, IfErr, OnOk, OnErr, Ok, Err};
+ghost use Rattle.iol_core.specs.State.{is_live};
+ghost use Rattle.iol_core.specs.Meaning.{Step, WantOfRoom};
+ghost use Rattle.std.specs.List.{All};
+ghost use Rattle.iol_core.specs.Text.{bytes_of, labelled};
+ghost use Rattle.iol_core.specs.Calls.Aggregates as calls;
+ghost use Rattle.iol_core.specs.Calls.Aggregates.{default_pool, lacks_agg, too_many_aggs};
+ghost use Rattle.iol_core.specs.State.{domain};
+ghost use Rattle.iol_core.specs.State as state;
+ghost use Rattle.iol_arena.specs.State.{chunk_count, pages_for};
+ghost use Rattle.iol_arena.specs.Buffers.{Grows};
+ghost use Rattle.iol_arena.specs.Chunks.{free_pages};
+ghost use Rattle.iol_system.specs.Tables.{domain_in};
+ghost use Rattle.iol_system.specs.Holding.{machine_of, IsSound, AddsText};
+ghost use Rattle.iol_system.specs.Room.{has_room};
+
+use crate::kernel::{Kernel, chunks_of};
+use crate::table;
+use crate::table::{Domain, place_of};
+use iol_agg::Agg;
+use iol_arena::arena::Arena;
+use iol_arena::chunks::ChunkSet;
+use iol_arena::pages::Unfilled;
+use iol_core::limits::MAX_AGGREGATE_BYTES;
+use iol_core::lists::Bytes;
+use iol_core::numbers::{AggId, DomainId, PoolId};
+use iol_core::refusals::Refusal;
+use std::alloc::{AllocError, Global};
+
+/// Places bytes, and adds them to a domain as its next aggregate.
+#[tactic(auto, unfolding(crate::specs::Tables::domain_in, crate::specs::Tables::with_domain_in))]
+fn add_bytes(
+    alloc: Global,
+    arena: &mut Arena,
+    chunks: &ChunkSet,
+    domains: &mut Vec<Domain<Agg>>,
+    d: DomainId,
+    pool: PoolId,
+    bytes: &[u8],
+) -> Result<AggId, Unfilled>
+    requires live { (domain_in domains.old.items d).live ≡ true }
+    requires few { (domain_in domains.old.items d).next_agg < 2 ^ 64 - 1 }
+    requires small { length bytes.now ≤ 2 ^ 24 }
+    requires chunks { All (λ c. c < chunk_count arena.old) chunks.now }
+    ensures number { IfOk result (λ n. n ≡ (domain_in domains.old.items d).next_agg) }
+    ensures added { OnOk result (AddsText arena.new domains.old.items domains.new.items d (labelled pool bytes.now)) }
+    ensures grows { OnOk result (Grows arena.old arena.new) }
+    ensures enough { OnOk result (pages_for (length bytes.now) ≤ length (free_pages arena.old chunks.now)) }
+    ensures no_room { result ≡ Err Unfilled.NoRoom → length (free_pages arena.old chunks.now) < pages_for (length bytes.now) }
+    ensures err { OnErr result (domains.new.items ≡ domains.old.items) }
+    ensures err_arena { OnErr result (arena.new ≡ arena.old) }
+{
+    let at = place_of(domains, d);
+    let domain = &mut domains[at];
+    if domain.aggs.reserve(1).is_err() {
+        return Err(Unfilled::Memory);
+    }
+    let number = domain.next_agg;
+    match Agg::fill(alloc, arena, chunks, pool, bytes) {
+        Ok(agg) => {
+            domain.aggs.push_reserved((AggId::new(number), agg));
+            domain.next_agg += 1;
+            Ok(AggId::new(number))
+        }
+        Err(error) => Err(error),
+    }
+}
+
+impl Kernel {
+    ghost use Rattle.iol_system.specs.Kernel.{holding};
+
+    pub(crate) fn agg_make(&mut self, by: DomainId, bytes: &Bytes) -> Result<AggId, Refusal>
+        requires { IsSound (holding self.old) }
+        ensures step { Step (calls.agg_make (machine_of (holding self.old)) by bytes.now) (machine_of (holding self.old)) result (machine_of (holding self.new)) }
+        ensures sound { IsSound (holding self.new) }
+        ensures room { OnOk result (has_room (holding self.old) (default_pool (machine_of (holding self.old)) by) (length bytes.now) ≡ true) }
+        ensures no_room { (p : ℕ) → result ≡ Err (Refusal.NoRoom p) → has_room (holding self.old) (default_pool (machine_of (holding self.old)) by) (length bytes.now) ≡ false }
+    {
+        if !self.is_live(by) {
+            return Err(Refusal::NoDomain);
+        }
+        let Some(pool) = self.default_of(by) else {
+            return Err(Refusal::NoPool);
+        };
+        if bytes.as_slice().len() > MAX_AGGREGATE_BYTES {
+            return Err(Refusal::TooLong);
+        }
+        if self.is_too_many(by) {
+            return Err(Refusal::TooMany);
+        }
+        if self.is_closed(pool) {
+            return Err(Refusal::PoolClosed { pool });
+        }
+        self.place(by, pool, bytes.as_slice())
+    }
+
+    /// Places bytes in a pool, as the domain's next aggregate.
+    fn place(&mut self, by: DomainId, pool: PoolId, bytes: &[u8]) -> Result<AggId, Refusal>
+        requires sound { IsSound (holding self.old) }
+        requires live { is_live (machine_of (holding self.old)) by ≡ true }
+        requires few { too_many_aggs (machine_of (holding self.old)) by 1 0 ≡ false }
+        requires small { length bytes.now ≤ 2 ^ 24 }
+        requires open { (state.pool (machine_of (holding self.old)) pool).closed ≡ false }
+        ensures number { IfOk result (λ n. n ≡ calls.next_agg (machine_of (holding self.old)) by) }
+        ensures placed { OnOk result (machine_of (holding self.new) ≡ calls.with_agg (machine_of (holding self.old)) by (labelled pool bytes.now)) }
+        ensures sound { IsSound (holding self.new) }
+        ensures room { OnOk result (has_room (holding self.old) pool (length bytes.now) ≡ true) }
+        ensures no_room { (p : ℕ) → result ≡ Err (Refusal.NoRoom p) → (p ≡ pool) × (has_room (holding self.old) pool (length bytes.now) ≡ false) }
+        ensures late { IfErr result (WantOfRoom pool) }
+        ensures err { OnErr result (machine_of (holding self.new) ≡ machine_of (holding self.old)) }
+    {
+        let chunks = chunks_of(&self.pools, pool);
+        match add_bytes(
+            self.alloc,
+            &mut self.arena,
+            chunks,
+            &mut self.domains,
+            by,
+            pool,
+            bytes,
+        ) {
+            Ok(number) => Ok(number),
+            Err(Unfilled::NoRoom) => Err(Refusal::NoRoom { pool }),
+            Err(Unfilled::Memory) => Err(Refusal::Memory),
+        }
+    }
+
+    pub(crate) fn show(&self, by: DomainId, agg: AggId) -> Result<Bytes, Refusal>
+        requires { IsSound (holding self.now) }
+        ensures { Step (calls.show (machine_of (holding self.now)) by agg) (machine_of (holding self.now)) result (machine_of (holding self.now)) }
+    {
+        if !self.is_live(by) {
+            return Err(Refusal::NoDomain);
+        }
+        if self.lacks_agg(by, agg) {
+            return Err(Refusal::BadAgg);
+        }
+        match self.copy_of(by, agg) {
+            Ok(bytes) => Ok(Bytes::from_vec(bytes)),
+            Err(_) => Err(Refusal::Memory),
+        }
+    }
+
+    /// A copy of an aggregate's bytes.
+    fn copy_of(&self, by: DomainId, agg: AggId) -> Result<Vec<u8>, AllocError>
+        requires sound { IsSound (holding self.now) }
+        requires live { is_live (machine_of (holding self.now)) by ≡ true }
+        requires there { lacks_agg (machine_of (holding self.now)) by agg ≡ false }
+        ensures { IfOk result (λ bytes. bytes.items ≡ bytes_of (state.text (machine_of (holding self.now)) by agg)) }
+    {
+        let Some(found) = table::get(&self.domains, by, agg) else {
+            unreachable!()
+        };
+        match found.to_vec(self.alloc, &self.arena) {
+            Ok(bytes) => Ok(bytes),
+            Err(error) => Err(error),
+        }
+    }
+}

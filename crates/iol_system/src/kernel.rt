@@ -1,0 +1,257 @@
+//! What a system holds, and the tests that its calls make.
+ghost use Rattle.std.specs.Prelude.{◌⊎◌, ◌↔◌, Err, IfOk, IfErr, ◌≡◌, ◌≢◌, ◌==◌, ℕ, ◌+◌, ◌-◌, ◌<◌, ◌≤◌, length, true, false, Option, Some, None, option_map, is_none, is_some, IfSome, nat_lt};
+ghost use Rattle.std.specs.Option.{option_copied};
+ghost use Rattle.std.specs.List.{list_any};
+ghost use Rattle.iol_core.specs.Configuration.{IsInRange};
+ghost use Rattle.iol_core.specs.State.{new_state, no_slots, is_live, is_pool, may_read, pool, domain, aggregate, text, descriptor};
+ghost use Rattle.iol_core.specs.Numbered.{numbered_or, is_numbered, taken};
+ghost use Rattle.iol_core.specs.Calls.Aggregates.{lacks_agg, too_many_aggs};
+ghost use Rattle.iol_core.specs.Calls.Descriptors.{too_many_open};
+ghost use Rattle.iol_agg.specs.Places.{byte_len};
+ghost use Rattle.iol_system.specs.Tables.{domain_in};
+ghost use Rattle.iol_system.specs.Seen.{pool_in, no_pool};
+ghost use Rattle.iol_system.specs.Holding.{machine_of, IsSound};
+
+use crate::table;
+use crate::table::Domain;
+use iol_agg::Agg;
+use iol_arena::arena::Arena;
+use iol_arena::chunks::ChunkSet;
+use iol_core::configuration::Config;
+use iol_core::descriptors::Descriptor;
+use iol_core::numbers::{AggId, DomainId, Fd, PoolId};
+use iol_core::refusals::Refusal;
+use std::alloc::Global;
+use std::marker::Model;
+
+/// A pool: who may read its bytes, and where they lie.
+#[derive(Drop)]
+pub(crate) struct Pool {
+    pub(crate) domains: Vec<DomainId>,
+    pub(crate) closed: bool,
+    pub(crate) chunks: ChunkSet,
+}
+
+impl Model for Pool {
+    ghost use Rattle.iol_system.specs.Seen as seen;
+
+    ghost Value = { seen.Pool };
+
+    ghost view = { λ p. record { domains = p.domains.items; closed = p.closed; chunks = p.chunks } };
+}
+
+/// A pipe and which of its ends are open.
+#[derive(Drop)]
+pub(crate) struct Pipe {
+    pub(crate) queue: iol_pipe::Pipe,
+    pub(crate) reading: bool,
+    pub(crate) writing: bool,
+}
+
+impl Model for Pipe {
+    ghost use Rattle.std.specs.Prelude.{List};
+    ghost use Rattle.iol_agg.specs.declared.slices.Slice.{Slice};
+    ghost use Rattle.iol_system.specs.Seen as seen;
+
+    ghost Value = { seen.Pipe (List Slice) };
+
+    ghost view = { λ p. record { queue = p.queue; reading = p.reading; writing = p.writing } };
+}
+
+/// What a system holds.
+#[derive(Drop)]
+pub struct Kernel {
+    pub(crate) alloc: Global,
+    pub(crate) arena: Arena,
+    pub(crate) domains: Vec<Domain<Agg>>,
+    pub(crate) pools: Vec<Pool>,
+    pub(crate) pipes: Vec<Option<Pipe>>,
+}
+
+/// The pool of this number.
+#[tactic(auto, unfolding(crate::specs::Seen::pool_in))]
+pub(crate) fn pool_at(pools: &[Pool], p: PoolId) -> Option<&Pool>
+    ensures found { IfSome (option_copied result) (λ x. x ≡ pool_in pools.now p) }
+    ensures there { is_some (option_copied result) ≡ is_numbered pools.now p }
+    ensures none { option_copied result ≡ None → pool_in pools.now p ≡ no_pool }
+{
+    let n = p.number();
+    if n == 0 {
+        None
+    } else {
+        pools.get(n as usize - 1)
+    }
+}
+
+/// The chunks of a pool that is open.
+#[tactic(auto, unfolding(crate::specs::Seen::pool_in))]
+pub(crate) fn chunks_of(pools: &[Pool], p: PoolId) -> &ChunkSet
+    requires { (pool_in pools.now p).closed ≡ false }
+    ensures { result.now ≡ (pool_in pools.now p).chunks }
+{
+    let pool = &pools[p.number() as usize - 1];
+    &pool.chunks
+}
+
+/// Whether a list has the domain.
+pub(crate) fn is_named(list: &[DomainId], d: DomainId) -> bool
+    ensures { result ≡ list_any (λ e. e == d) list.now }
+{
+    list.iter().any(|e| *e == d)
+}
+
+/// Whether the pool's list names the domain.
+#[tactic(auto, unfolding(crate::specs::Seen::pool_in))]
+fn names(pools: &[Pool], p: PoolId, d: DomainId) -> bool
+    ensures { result ≡ list_any (λ e. e == d) (pool_in pools.now p).domains }
+{
+    match pool_at(pools, p) {
+        Some(pool) => is_named(&pool.domains, d),
+        None => false,
+    }
+}
+
+impl Kernel {
+    ghost use Rattle.iol_system.specs.Kernel.{holding};
+
+    /// A kernel with domain 1 and nothing else.
+    pub(crate) fn new(alloc: Global, config: Config) -> Result<Kernel, Refusal>
+        ensures range { (result ≡ Err Refusal.BadRange) ↔ (IsInRange config → ⊥) }
+        ensures errors { IfErr result (λ e. (e ≡ Refusal.BadRange) ⊎ (e ≡ Refusal.Memory)) }
+        ensures new { IfOk result (λ k. machine_of (holding k) ≡ new_state no_slots) }
+        ensures sound { IfOk result (λ k. IsSound (holding k)) }
+    {
+        let arena = match Arena::new(alloc, config) {
+            Ok(arena) => arena,
+            Err(refusal) => return Err(refusal),
+        };
+        let mut domains = Vec::new(alloc);
+        match table::add_domain(alloc, &mut domains) {
+            Ok(()) => Ok(Kernel {
+                alloc,
+                arena,
+                domains,
+                pools: Vec::new(alloc),
+                pipes: Vec::new(alloc),
+            }),
+            Err(_) => Err(Refusal::Memory),
+        }
+    }
+
+    /// Whether a domain is live.
+    #[tactic(auto, using(crate::proofs::Meant::domain_rules), unfolding(crate::specs::Holding::machine_of))]
+    pub(crate) fn is_live(&self, d: DomainId) -> bool
+        ensures { result ≡ is_live (machine_of (holding self.now)) d }
+    {
+        table::is_live(&self.domains, d)
+    }
+
+    /// Whether the domain has no such aggregate.
+    #[tactic(auto, using(crate::proofs::Meant::domain_rules), unfolding(crate::specs::Holding::machine_of))]
+    pub(crate) fn lacks_agg(&self, d: DomainId, agg: AggId) -> bool
+        requires { is_live (machine_of (holding self.now)) d ≡ true }
+        ensures { result ≡ lacks_agg (machine_of (holding self.now)) d agg }
+    {
+        table::get(&self.domains, d, agg).is_none()
+    }
+
+    /// Whether one more aggregate is too many.
+    #[tactic(auto, using(crate::proofs::Meant::domain_rules), unfolding(crate::specs::Holding::machine_of))]
+    pub(crate) fn is_too_many(&self, d: DomainId) -> bool
+        requires { is_live (machine_of (holding self.now)) d ≡ true }
+        ensures { result ≡ too_many_aggs (machine_of (holding self.now)) d 1 0 }
+    {
+        table::is_too_many(&self.domains, d, 1, 0)
+    }
+
+    /// The pool that the domain places in.
+    #[tactic(auto, using(crate::proofs::Meant::domain_rules), unfolding(crate::specs::Holding::machine_of))]
+    pub(crate) fn default_of(&self, d: DomainId) -> Option<PoolId>
+        requires { is_live (machine_of (holding self.now)) d ≡ true }
+        ensures { result ≡ (domain (machine_of (holding self.now)) d).default }
+    {
+        table::default_of(&self.domains, d)
+    }
+
+    /// What the domain's descriptor is open on.
+    #[tactic(auto, using(crate::proofs::Meant::domain_rules), unfolding(crate::specs::Holding::machine_of))]
+    pub(crate) fn descriptor(&self, d: DomainId, fd: Fd) -> Option<Descriptor>
+        requires { is_live (machine_of (holding self.now)) d ≡ true }
+        ensures { result ≡ descriptor (machine_of (holding self.now)) d fd }
+    {
+        table::descriptor(&self.domains, d, fd)
+    }
+
+    /// Whether so many more descriptors are too many.
+    #[tactic(auto, using(crate::proofs::Meant::domain_rules), unfolding(crate::specs::Holding::machine_of))]
+    pub(crate) fn is_open_beyond(&self, d: DomainId, made: usize) -> bool
+        requires live { is_live (machine_of (holding self.now)) d ≡ true }
+        requires made { made ≤ 2 }
+        ensures { result ≡ too_many_open (machine_of (holding self.now)) d made }
+    {
+        table::is_open_beyond(&self.domains, d, made)
+    }
+
+    /// Whether there is a pool of this number.
+    #[tactic(auto, using(crate::proofs::Meant::pool_rules), unfolding(crate::specs::Holding::machine_of))]
+    pub(crate) fn is_pool(&self, p: PoolId) -> bool
+        ensures { result ≡ is_pool (machine_of (holding self.now)) p }
+    {
+        pool_at(&self.pools, p).is_some()
+    }
+
+    /// Whether nothing more is placed in the pool.
+    #[tactic(auto, using(crate::proofs::Meant::pool_rules), unfolding(crate::specs::Holding::machine_of))]
+    pub(crate) fn is_closed(&self, p: PoolId) -> bool
+        ensures { result ≡ (pool (machine_of (holding self.now)) p).closed }
+    {
+        match pool_at(&self.pools, p) {
+            Some(pool) => pool.closed,
+            None => true,
+        }
+    }
+
+    /// Whether the pool's list names the domain.
+    #[tactic(auto, using(crate::proofs::Meant::pool_rules), unfolding(crate::specs::Holding::machine_of))]
+    pub(crate) fn may_read(&self, d: DomainId, p: PoolId) -> bool
+        ensures { result ≡ may_read (machine_of (holding self.now)) d p }
+    {
+        names(&self.pools, p, d)
+    }
+
+    /// How many domains were ever made.
+    #[tactic(auto, using(crate::proofs::Meant::count_rules), unfolding(crate::specs::Holding::machine_of))]
+    pub(crate) fn domain_count(&self) -> usize
+        ensures { result ≡ length (machine_of (holding self.now)).domains }
+    {
+        self.domains.len()
+    }
+
+    /// How many pools were ever made.
+    #[tactic(auto, using(crate::proofs::Meant::count_rules), unfolding(crate::specs::Holding::machine_of))]
+    pub(crate) fn pool_count(&self) -> usize
+        ensures { result ≡ length (machine_of (holding self.now)).pools }
+    {
+        self.pools.len()
+    }
+
+    /// How many pipes are live.
+    #[tactic(auto, using(crate::proofs::Meant::count_rules), unfolding(crate::specs::Holding::machine_of))]
+    pub(crate) fn pipe_count(&self) -> usize
+        ensures { result ≡ taken (machine_of (holding self.now)).pipes }
+    {
+        table::taken_places(&self.pipes)
+    }
+
+    /// How long a domain's aggregate is.
+    #[tactic(auto, using(crate::proofs::Queueing::length_rules), unfolding(crate::specs::Holding::machine_of))]
+    pub(crate) fn agg_len(&self, d: DomainId, agg: AggId) -> u32
+        requires { is_live (machine_of (holding self.now)) d ≡ true }
+        ensures { result ≡ length (text (machine_of (holding self.now)) d agg) }
+    {
+        match table::get(&self.domains, d, agg) {
+            Some(found) => found.len(),
+            None => 0,
+        }
+    }
+}

@@ -1,0 +1,62 @@
+//! A system: events, one step, and a run.
+ghost use Rattle.std.specs.Prelude.{◌≡◌, ◌⊎◌, ℕ, ◌+◌, ◌*◌, ◌<◌, ◌≤◌, ◌↔◌, true, false, Some, None, Ok, Err, IfOk, IfErr, OnOk, OnErr, length, vec_len, vec_capacity};
+ghost use Rattle.iol_core.specs.Configuration.{IsInRange};
+ghost use Rattle.iol_core.specs.State.{is_live, aggregate, new_state, no_slots};
+ghost use Rattle.iol_core.specs.Run.{StepsTo, Run};
+ghost use Rattle.iol_system.specs.Holding.{machine_of};
+ghost use Rattle.iol_system.specs.Room.{fits, IsDone, IsNoRoom};
+
+use crate::kernel::Kernel;
+use crate::step::{carry_out, run_all};
+use iol_core::configuration::Config;
+use iol_core::events::{Event, Reply};
+use iol_core::refusals::Refusal;
+use std::alloc::{AllocError, Global};
+use std::marker::Model;
+
+/// A system of domains that share buffers: what it answers is what a machine that copies at every call would.
+#[derive(Drop)]
+pub struct System {
+    kernel: Kernel,
+}
+
+impl Model for System {
+    ghost use Rattle.iol_system.specs.Holding as held;
+
+    ghost Value = { held.Holding };
+
+    ghost use Rattle.iol_system.specs.Kernel.{holding};
+
+    ghost view = { λ s. holding s.kernel };
+
+    ghost invariant = { λ s. held.IsSound (holding s.kernel) };
+}
+
+impl System {
+    /// A system with domain 1 and nothing else. A size out of its range is `BadRange`.
+    pub fn new(alloc: Global, config: Config) -> Result<System, Refusal>
+        ensures range { (result ≡ Err Refusal.BadRange) ↔ (IsInRange config → ⊥) }
+        ensures errors { IfErr result (λ e. (e ≡ Refusal.BadRange) ⊎ (e ≡ Refusal.Memory)) }
+        ensures new { IfOk result (λ s. machine_of s ≡ new_state no_slots) }
+    {
+        let kernel = Kernel::new(alloc, config)?;
+        Ok(System { kernel })
+    }
+
+    /// Carries out one event, whole.
+    pub fn step(&mut self, event: Event) -> Reply
+        ensures step { StepsTo (machine_of self.old) event result (machine_of self.new) }
+        ensures room { IsDone result → fits self.old event ≡ true }
+        ensures no_room { IsNoRoom result → fits self.old event ≡ false }
+    {
+        carry_out(&mut self.kernel, &event)
+    }
+
+    /// Carries out events in order. For want of memory for the replies, none.
+    pub fn run(&mut self, events: &[Event]) -> Result<Vec<Reply>, AllocError>
+        ensures run { IfOk result (λ replies. Run (machine_of self.old) events.now replies.items (machine_of self.new)) }
+        ensures err { OnErr result (self.new ≡ self.old) }
+    {
+        run_all(&mut self.kernel, events)
+    }
+}
