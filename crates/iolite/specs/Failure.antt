@@ -1,11 +1,28 @@
--- The exit status of a program that ends early.
-use Rattle.std.specs.Prelude.{ℕ}
+-- How a program that ends early ends.
+use Rattle.std.specs.Prelude.{◌≤◌, ℕ, ⊤}
 use Rattle.iolite.specs.declared.failure.Failure.{Failure}
 use Rattle.iolite.specs.declared.failure.Failure.TheVariants.{BadScript, BadLine, Input, Output, Memory}
 
+-- the exit status
 abbrev pub status_of : Failure → ℕ
 status_of BadScript = 2
 status_of (BadLine number) = 2
 status_of Input = 3
 status_of Output = 3
 status_of Memory = 3
+
+-- what can end the reading of the input
+abbrev pub IsOfInput : Failure → Type 0
+IsOfInput BadScript = ⊤
+IsOfInput (BadLine number) = ⊥
+IsOfInput Input = ⊤
+IsOfInput Output = ⊥
+IsOfInput Memory = ⊤
+
+-- what can end the reading of a script's lines, which are counted from 1
+abbrev pub IsOfLines : Failure → Type 0
+IsOfLines BadScript = ⊥
+IsOfLines (BadLine number) = 1 ≤ number
+IsOfLines Input = ⊥
+IsOfLines Output = ⊥
+IsOfLines Memory = ⊤

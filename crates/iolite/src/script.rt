@@ -1,6 +1,9 @@
 //! Scripts: lines of text that stand for events.
 ghost use Rattle.std.specs.Option.{ForSome};
-ghost use Rattle.std.specs.Prelude.{IfOk};
+ghost use Rattle.std.specs.Prelude.{◌≡◌, IsOk, IfOk, IfErr};
+ghost use Rattle.std.specs.Str.Parse.{digits_value};
+ghost use Rattle.iolite.specs.Failure.{IsOfLines};
+ghost use Rattle.iolite.specs.Sizes.{WriteSizes};
 ghost use Rattle.iol_core.specs.Configuration.{IsInRange};
 
 use crate::failure::Failure;
@@ -23,7 +26,9 @@ pub struct Script {
 
 impl Script {
     /// Reads a script. It fails at the first line that is not a command, or for want of memory.
-    pub fn parse(alloc: Global, text: &str) -> Result<Script, Failure> {
+    pub fn parse(alloc: Global, text: &str) -> Result<Script, Failure>
+        ensures { IfErr result IsOfLines }
+    {
         let mut script = Script {
             config: None,
             events: Vec::new(alloc),
@@ -47,7 +52,9 @@ impl Script {
     fn add_line(&mut self, alloc: Global, line: &str) -> Result<(), LineError> {
         let (first, rest) = split_word(line)?;
         if first == "config" && self.config.is_none() && self.events.is_empty() {
-            self.config = Some(parse_config(rest)?);
+            let (chunks, rest) = split_word(rest)?;
+            let (gen_limit, sums) = split_word(rest)?;
+            self.config = Some(parse_config(chunks, gen_limit, sums)?);
             return Ok(());
         }
         let by = DomainId::new(parse_u32(first)?);
@@ -57,12 +64,14 @@ impl Script {
     }
 }
 
-/// Reads `CHUNKS GENLIMIT SUMS`.
-fn parse_config(sizes: &str) -> Result<Config, LineError>
-    ensures { IfOk result IsInRange }
+/// Reads the sizes of a system, which have to be in their ranges.
+fn parse_config(chunks: &str, gen_limit: &str, sums: &str) -> Result<Config, LineError>
+    ensures in_range { IfOk result IsInRange }
+    ensures chunks { IfOk result (λ config. config.chunks ≡ digits_value 10 chunks.now) }
+    ensures gen_limit { IfOk result (λ config. config.gen_limit ≡ digits_value 10 gen_limit.now) }
+    ensures sums { IfOk result (λ config. config.sums ≡ digits_value 10 sums.now) }
+    ensures accepts { WriteSizes chunks.now gen_limit.now sums.now → IsOk result }
 {
-    let (chunks, rest) = split_word(sizes)?;
-    let (gen_limit, sums) = split_word(rest)?;
     let config = Config {
         chunks: parse_u32(chunks)?,
         gen_limit: parse_u32(gen_limit)?,
