@@ -1,7 +1,7 @@
 -- Once the lowest free pages are claimed, the others are free still.
-use Rattle.std.proofs.Common.{◌≡◌, false, true, Bool, ℕ, zero, suc, ◌+◌, ◌*◌, ◌<◌, ◌≤◌, ◌⊎◌, inl, inr, List, [], ◌∷◌, ◌++◌, length, take, drop, flat_map, refl, sym, ap, ◌∙◌, arith, subst, nat_lt, ◌&&◌}
-use Rattle.std.specs.List.{All, filter, range_with_len}
-use Rattle.iol_arena.specs.State.{State, entry_at, is_free, kind_free, with_marked, each_from, marked}
+use Rattle.std.proofs.Common.{◌≡◌, false, ℕ, suc, ◌+◌, ◌*◌, ◌<◌, ◌≤◌, inl, inr, List, [], ◌∷◌, ◌++◌, take, drop, flat_map, refl, sym, ap, ◌∙◌, arith, subst, nat_lt, ◌&&◌}
+use Rattle.std.specs.List.{All, range_with_len}
+use Rattle.iol_arena.specs.State.{State, entry_at, is_free, kind_free, with_marked, marked}
 use Rattle.iol_arena.specs.Chunks.{IsRisingFrom, IsRising, chunk_pages, usable, free_pages, AreChunks}
 use Rattle.iol_arena.specs.Parts.{AreAll, AreApart, part_pages, claimed, cleared, cleared_part}
 use Rattle.iol_arena.specs.declared.pages.PageKind.TheVariants.{Free, Pending}

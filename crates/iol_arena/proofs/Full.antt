@@ -1,5 +1,5 @@
 -- Chunks in which no page is free.
-use Rattle.std.proofs.Common.{◌≡◌, ◌≢◌, false, true, Bool, ℕ, zero, suc, ◌+◌, ◌-◌, ◌*◌, ◌/◌, ◌<◌, ◌≤◌, ◌⊎◌, inl, inr, List, [], ◌∷◌, ◌++◌, length, get_or, set, take, drop, refl, sym, ap, ◌∙◌, arith, subst, flat_map}
+use Rattle.std.proofs.Common.{◌≡◌, ◌≢◌, false, true, Bool, ℕ, zero, suc, ◌+◌, ◌*◌, ◌/◌, ◌<◌, ◌≤◌, ◌⊎◌, inl, inr, List, [], ◌∷◌, length, get_or, set, take, drop, refl, sym, ap, ◌∙◌, arith, subst, flat_map}
 use Rattle.std.specs.List.{filter, range_with_len}
 use Rattle.std.proofs.lemmas.List.{get_or-set_same, get_or-set_other, take_all, take-append-drop}
 use Rattle.std.proofs.lemmas.List.Elements.{filter-append}

@@ -1,5 +1,5 @@
 -- Chunks that are given out.
-use Rattle.std.proofs.Common.{◌≡◌, ◌≢◌, false, true, Bool, ℕ, zero, suc, ◌+◌, ◌<◌, ◌≤◌, inl, inr, List, [], ◌∷◌, length, get_or, set, take, drop, not, refl, sym, ap, ◌∙◌, arith, subst, length-set}
+use Rattle.std.proofs.Common.{◌≡◌, true, Bool, ℕ, zero, suc, ◌+◌, ◌<◌, ◌≤◌, inl, inr, List, [], ◌∷◌, length, get_or, set, take, not, refl, sym, ap, ◌∙◌, arith, subst, length-set}
 use Rattle.std.specs.List.{All, filter, range_with_len}
 use Rattle.std.proofs.lemmas.List.{get_or-set_other, append-nil}
 use Rattle.iol_arena.specs.State.{State, chunk_count}

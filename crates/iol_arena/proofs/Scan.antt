@@ -1,16 +1,9 @@
 -- The search for free pages.
-use Rattle.std.proofs.Common.{◌≡◌, ◌≢◌, ℕ, zero, suc, ◌+◌, ◌-◌, ◌*◌, ◌%◌, ◌<◌, ◌≤◌, Bool, true, false, cond, List, [], ◌∷◌, ◌++◌, length, get_or, take, refl, sym, ap, ◌∙◌, arith, subst, append_assoc, length-append, nat_lt, ◌&&◌, flat_map, drop}
+use Rattle.std.proofs.Common.{◌≡◌, ◌≢◌, ℕ, zero, suc, ◌+◌, ◌-◌, ◌%◌, ◌<◌, ◌≤◌, Bool, true, false, cond, List, [], ◌∷◌, ◌++◌, length, take, refl, sym, ap, ◌∙◌, arith, append_assoc, length-append}
 use Rattle.std.specs.List.{filter, range_with_len}
 use Rattle.std.proofs.lemmas.List.{append-nil, length-take}
 use Rattle.std.proofs.lemmas.List.Elements.{filter-append}
-use Rattle.std.proofs.lemmas.List.FromFn.{length-range_with_len}
-use Rattle.std.proofs.lemmas.Bool.{ltb-true}
-use Rattle.iol_arena.specs.State.{State, entry_in, entry_at, is_free, kind_free}
-use Rattle.iol_arena.specs.Parts.{IsAll, AreAll, IsNext, AreApart, part_pages, end_of}
-use Rattle.iol_arena.specs.Chunks.{usable, if_usable, chunk_pages, free_pages, AreChunks}
-use Rattle.iol_arena.specs.declared.pages.PageKind as kind
-use Rattle.iol_arena.specs.declared.pages.PageKind.TheVariants.{Free, Pending, Head, Tail}
-use Rattle.iol_arena.specs.declared.pages.Entry.{Entry}
+use Rattle.iol_arena.specs.Parts.{IsNext, AreApart, part_pages, end_of}
 use Rattle.iol_arena.specs.declared.pages.Part.{Part}
 
 pub range_more : (a n : ℕ) → range_with_len a (n + 1) ≡ range_with_len a n ++ (a + n) ∷ []

@@ -1,5 +1,5 @@
 -- Buffers, and what becomes of them from one state to the next.
-use Rattle.std.specs.Prelude.{◌≡◌, ◌⊎◌, ℕ, ◌+◌, ◌<◌, ◌≤◌, List, flat_map, true, false}
+use Rattle.std.specs.Prelude.{◌≡◌, ◌⊎◌, ℕ, ◌<◌, ◌≤◌, List, flat_map, false}
 use Rattle.iol_arena.specs.State.{State, entry_at, generation_at, memory_at, kind_head, with_marked, pages_for, page_count}
 use Rattle.iol_arena.specs.declared.pages.PageKind as kind
 use Rattle.iol_arena.specs.declared.pages.PageKind.TheVariants.{Free, Pending, Head, Tail}

@@ -1,6 +1,5 @@
-use Rattle.std.proofs.Common.{◌≡◌, ℕ, refl, ap, sym, ◌∙◌, subst, Err, List}
+use Rattle.std.proofs.Common.{◌≡◌, refl, ap, sym, ◌∙◌, subst, Err, List}
 use Rattle.std.specs.List.{All}
-use Rattle.iol_arena.specs.State.{State}
 use Rattle.iol_arena.specs.Chunks.{free_pages}
 use Rattle.iol_arena.specs.Parts.{AreAll, AreApart}
 use Rattle.iol_arena.specs.Filling.{IsZero}

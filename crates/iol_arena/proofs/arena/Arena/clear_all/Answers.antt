@@ -1,10 +1,9 @@
-use Rattle.std.proofs.Common.{◌≡◌, ℕ, ◌+◌, ◌*◌, ◌<◌, ◌≤◌, arith, ap, sym, ◌∙◌, subst, drop, get_or, List, [], ◌∷◌, replicate, inl}
+use Rattle.std.proofs.Common.{◌≡◌, ℕ, ◌+◌, ◌*◌, ◌<◌, arith, ap, sym, ◌∙◌, subst, drop, get_or, List, ◌∷◌, replicate, inl}
 use borrow.Author.Count.{below_more}
 use Rattle.std.proofs.lemmas.List.{drop_more, drop_all, get_or_default}
 use Rattle.iol_arena.specs.State.{State, entry_in}
-use Rattle.iol_arena.specs.Parts.{IsAll, AreAll, cleared, cleared_part, no_part, part_bytes}
+use Rattle.iol_arena.specs.Parts.{IsAll, AreAll, cleared, no_part, part_bytes}
 use Rattle.iol_arena.specs.Filling.{IsZero}
-use Rattle.iol_arena.specs.declared.pages.Part.{Part}
 use Rattle.iol_arena.specs.declared.pages.Entry.{Entry}
 use Rattle.iol_arena.specs.declared.pages.PageKind.TheVariants.{Pending}
 use Rattle.iol_arena.proofs.Over.{over_from-before}

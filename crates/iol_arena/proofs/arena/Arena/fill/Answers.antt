@@ -1,4 +1,4 @@
-use Rattle.std.proofs.Common.{◌≡◌, ◌∙◌, ap, flat_map}
+use Rattle.std.proofs.Common.{◌∙◌, ap, flat_map}
 use Rattle.std.specs.List.{filter}
 use Rattle.iol_arena.specs.Chunks.{chunk_pages}
 use Rattle.iol_arena.proofs.Adds.{adds_since}

@@ -1,13 +1,11 @@
-use Rattle.std.proofs.Common.{◌≡◌, ℕ, ◌+◌, ◌*◌, ◌<◌, ◌≤◌, arith, refl, sym, ap, ◌∙◌, length, List, [], ◌∷◌, ◌++◌, subst, inl, inr, take, drop, take-take, nat_lt, ◌&&◌, false, length-append, length-drop, length-take}
+use Rattle.std.proofs.Common.{◌≡◌, ℕ, ◌+◌, ◌*◌, ◌≤◌, arith, ap, ◌∙◌, length, [], ◌∷◌, ◌++◌, subst, take, drop, take-take, length-append, length-drop, length-take}
 use Rattle.std.proofs.Math.Seq.{take-append_seam}
-use Rattle.iol_arena.specs.State.{State, entry_in, entry_at, generation_at, is_free, kind_free}
+use Rattle.iol_arena.specs.State.{State, entry_at, generation_at}
 use Rattle.iol_arena.specs.Chunks.{usable}
-use Rattle.iol_arena.specs.Parts.{published_part, published_entries, part_bytes, filled}
-use Rattle.iol_arena.specs.Adds.{IsNew, Adds}
-use Rattle.iol_core.specs.declared.numbers.BufId.{BufId}
-use Rattle.iol_arena.proofs.Each.{order}
+use Rattle.iol_arena.specs.Parts.{published_part, part_bytes, filled}
+use Rattle.iol_arena.specs.Adds.{Adds}
 use Rattle.iol_arena.proofs.Over.{over_from-there}
-use Rattle.iol_arena.proofs.Marks.{published_after, published_before, length-published_entries}
+use Rattle.iol_arena.proofs.Marks.{published_after, length-published_entries}
 use Rattle.iol_arena.proofs.Adds.{adds_since, published_free}
 use Rattle.iol_arena.proofs.arena.Arena.fill_part.Goals as goal
 

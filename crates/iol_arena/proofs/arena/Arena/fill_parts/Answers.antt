@@ -1,8 +1,8 @@
-use Rattle.std.proofs.Common.{◌≡◌, ℕ, zero, suc, ◌+◌, ◌-◌, ◌*◌, ◌<◌, ◌≤◌, arith, refl, sym, ap, ◌∙◌, length, List, [], ◌∷◌, ◌++◌, subst, take, drop, get_or, min, length-append, length-drop, length-take}
+use Rattle.std.proofs.Common.{◌≡◌, ℕ, zero, suc, ◌+◌, ◌-◌, ◌*◌, ◌<◌, arith, refl, sym, ap, ◌∙◌, length, List, [], ◌∷◌, ◌++◌, subst, take, drop, get_or, min, length-append, length-drop, length-take}
 use Rattle.std.specs.List.{range_with_len}
 use Rattle.std.proofs.lemmas.List.{drop_more, drop_all, take_all}
 use Rattle.std.proofs.lemmas.List.FromFn.{length-range_with_len}
-use Rattle.iol_arena.specs.State.{State, pages_for, entry_at, generation_at}
+use Rattle.iol_arena.specs.State.{pages_for, generation_at}
 use Rattle.iol_arena.specs.Parts.{AreAll, AreApart, part_pages, no_part}
 use Rattle.iol_arena.specs.Adds.{Adds}
 use Rattle.iol_arena.specs.declared.pages.Part.{Part}

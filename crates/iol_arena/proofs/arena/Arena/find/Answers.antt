@@ -1,10 +1,9 @@
-use Rattle.std.proofs.Common.{◌≡◌, ℕ, ◌+◌, ◌*◌, ◌-◌, ◌≤◌, arith, refl, inl, inr, ap, sym, ◌∙◌, subst, take, drop, get_or, length, List, [], ◌∷◌, ◌++◌, ◌<◌}
+use Rattle.std.proofs.Common.{◌≡◌, ℕ, ◌+◌, ◌*◌, ◌-◌, arith, refl, inl, inr, ap, sym, ◌∙◌, subst, take, drop, get_or, length, List, [], ◌∷◌, ◌++◌, ◌<◌}
 use Rattle.std.specs.List.{All, filter}
 use Rattle.std.proofs.lemmas.List.{drop_more, take_all, get_or_default, length-take}
 use Rattle.iol_arena.specs.State.{State, page_count, chunk_count}
 use Rattle.iol_arena.specs.Chunks.{AreChunks, free_pages, usable, chunk_pages}
-use Rattle.iol_arena.specs.Parts.{AreAll, AreApart, part_pages, end_of}
-use Rattle.iol_arena.specs.declared.pages.PageKind.TheVariants.{Free}
+use Rattle.iol_arena.specs.Parts.{AreApart, part_pages, end_of}
 use Rattle.iol_arena.proofs.Found.{chunks_within}
 use Rattle.iol_arena.proofs.Full.{all_found}
 use Rattle.iol_arena.proofs.Good.{AreGood, good_free, good_take, parts_free, free_more, taken_more, count_more}

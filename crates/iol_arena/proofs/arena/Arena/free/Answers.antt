@@ -1,4 +1,4 @@
-use Rattle.std.proofs.Common.{◌≡◌, ℕ, ◌+◌, ◌<◌, ◌≤◌, arith, ap, sym, ◌∙◌, subst}
+use Rattle.std.proofs.Common.{ℕ, arith, ap, sym, ◌∙◌, subst}
 use Rattle.iol_arena.specs.State.{State, HasRuns, CanMark, pages_for, entry_at, with_marked, kind_head}
 use Rattle.iol_arena.specs.Buffers.{kind_len, Keeps, Frees}
 use Rattle.iol_arena.specs.declared.pages.PageKind.TheVariants.{Free}

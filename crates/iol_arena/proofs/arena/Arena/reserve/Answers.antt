@@ -1,10 +1,9 @@
-use Rattle.std.proofs.Common.{◌≡◌, ℕ, arith, refl, ap, sym, ◌∙◌, subst, take, length, List, Err, ◌+◌, ◌-◌, ◌/◌, ◌≤◌}
+use Rattle.std.proofs.Common.{◌≡◌, arith, ap, sym, ◌∙◌, subst, take, length, Err, ◌≤◌}
 use Rattle.iol_arena.specs.State.{State, generation_at, pages_for}
 use Rattle.iol_arena.specs.Buffers.{Grows, Spares}
 use Rattle.iol_arena.specs.Chunks.{free_pages}
 use Rattle.iol_arena.specs.Parts.{AreAll, claimed, part_pages}
-use Rattle.iol_arena.specs.declared.pages.Part.{Part}
-use Rattle.iol_arena.specs.declared.pages.PageKind.TheVariants.{Free, Pending}
+use Rattle.iol_arena.specs.declared.pages.PageKind.TheVariants.{Pending}
 use Rattle.iol_arena.specs.declared.pages.Unfilled.TheVariants.{NoRoom}
 use Rattle.iol_arena.proofs.Good.{claimed_pending, generation-claimed}
 use Rattle.iol_arena.proofs.Found.{free-claimed}
