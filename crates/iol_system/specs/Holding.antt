@@ -1,5 +1,5 @@
 -- What a system holds, and the state of the copying machine that it stands for.
-use Rattle.std.specs.Prelude.{◌≡◌, ℕ, ◌<◌, ◌≤◌, true, false, ◌++◌, length, List, [], ◌∷◌, take, drop, take_while, Option, Some, None}
+use Rattle.std.specs.Prelude.{◌≡◌, ℕ, ◌<◌, ◌≤◌, true, false, ◌++◌, length, List, [], ◌∷◌, take, drop, take_while, flat_map, Option, Some, None}
 use Rattle.std.specs.List.{All}
 use Rattle.iol_core.specs.State as machine
 use Rattle.iol_arena.specs.State as arena
@@ -25,6 +25,10 @@ pub record Holding : Type 0 where
 -- the copying machine's state: for slices, the text that lies there
 unfoldable pub machine_of : Holding → machine.State
 machine_of h = seen (text_of h.arena) h.domains h.pools h.pipes
+
+-- bytes in parts, one part after another
+abbrev pub joined : List (List ℕ) → List ℕ
+joined parts = flat_map (λ w. w) parts
 
 -- P holds of each of a list
 abbrev pub Each : {A : Type 0} → (A → Type 0) → List A → Type 0

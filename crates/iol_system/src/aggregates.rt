@@ -1,7 +1,7 @@
 //! Making and showing aggregates.
 ghost use Rattle.std.specs.Prelude.{◌≡◌, ◌≢◌, ℕ, ◌+◌, ◌-◌, ◌<◌, ◌≤◌, ◌^◌, length, true, false, not, ◌&&◌, ◌==◌, min, take, drop, slice_set, Option, Some, None, List, [], ◌∷◌, ◌++◌, IfOk, IfErr, OnOk, OnErr, Ok, Err};
 ghost use Rattle.iol_core.specs.State.{is_live};
-ghost use Rattle.iol_core.specs.Meaning.{Step, WantOfRoom};
+ghost use Rattle.iol_core.specs.Meaning.{Step, WantOfRoom, first};
 ghost use Rattle.std.specs.List.{All};
 ghost use Rattle.iol_core.specs.Text.{bytes_of, labelled};
 ghost use Rattle.iol_core.specs.Calls.Aggregates as calls;
@@ -12,13 +12,13 @@ ghost use Rattle.iol_arena.specs.State.{chunk_count, pages_for};
 ghost use Rattle.iol_arena.specs.Buffers.{Grows};
 ghost use Rattle.iol_arena.specs.Chunks.{free_pages};
 ghost use Rattle.iol_system.specs.Tables.{domain_in};
-ghost use Rattle.iol_system.specs.Holding.{machine_of, IsSound, AddsText};
+ghost use Rattle.iol_system.specs.Holding.{machine_of, joined, IsSound, AddsText};
 ghost use Rattle.iol_system.specs.Room.{has_room};
 
 use crate::kernel::{Kernel, chunks_of};
 use crate::table;
 use crate::table::{Domain, place_of};
-use iol_agg::Agg;
+use iol_agg::{Agg, Parts};
 use iol_arena::arena::Arena;
 use iol_arena::chunks::ChunkSet;
 use iol_arena::pages::Unfilled;
@@ -140,6 +140,33 @@ impl Kernel {
             Ok(bytes) => Ok(Bytes::from_vec(bytes)),
             Err(_) => Err(Refusal::Memory),
         }
+    }
+
+    /// An aggregate's bytes, where they lie.
+    pub(crate) fn parts(&self, by: DomainId, agg: AggId) -> Result<Parts<'_>, Refusal>
+        requires { IsSound (holding self.now) }
+        ensures ok { IfOk result (λ parts. (first (calls.show (machine_of (holding self.now)) by agg).refusals ≡ None) × (joined parts ≡ (calls.show (machine_of (holding self.now)) by agg).answer)) }
+        ensures err { IfErr result (λ x. first (calls.show (machine_of (holding self.now)) by agg).refusals ≡ Some x) }
+    {
+        if !self.is_live(by) {
+            return Err(Refusal::NoDomain);
+        }
+        if self.lacks_agg(by, agg) {
+            return Err(Refusal::BadAgg);
+        }
+        Ok(self.parts_of(by, agg))
+    }
+
+    fn parts_of(&self, by: DomainId, agg: AggId) -> Parts<'_>
+        requires sound { IsSound (holding self.now) }
+        requires live { is_live (machine_of (holding self.now)) by ≡ true }
+        requires there { lacks_agg (machine_of (holding self.now)) by agg ≡ false }
+        ensures { joined result ≡ bytes_of (state.text (machine_of (holding self.now)) by agg) }
+    {
+        let Some(found) = table::get(&self.domains, by, agg) else {
+            unreachable!()
+        };
+        found.parts(&self.arena)
     }
 
     /// A copy of an aggregate's bytes.

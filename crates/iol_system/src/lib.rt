@@ -14,3 +14,5 @@ mod queues;
 mod step;
 pub mod system;
 mod table;
+#[cfg(test)]
+mod tests;

@@ -1,15 +1,19 @@
 //! A system: events, one step, and a run.
-ghost use Rattle.std.specs.Prelude.{◌≡◌, ◌⊎◌, ℕ, ◌+◌, ◌*◌, ◌<◌, ◌≤◌, ◌↔◌, true, false, Some, None, Ok, Err, IfOk, IfErr, OnOk, OnErr, length, vec_len, vec_capacity};
+ghost use Rattle.std.specs.Prelude.{◌≡◌, ◌⊎◌, ◌↔◌, true, false, Some, None, Err, IfOk, IfErr, OnErr};
 ghost use Rattle.iol_core.specs.Configuration.{IsInRange};
-ghost use Rattle.iol_core.specs.State.{is_live, aggregate, new_state, no_slots};
+ghost use Rattle.iol_core.specs.State.{new_state, no_slots};
 ghost use Rattle.iol_core.specs.Run.{StepsTo, Run};
-ghost use Rattle.iol_system.specs.Holding.{machine_of};
+ghost use Rattle.iol_system.specs.Holding.{machine_of, joined};
+ghost use Rattle.iol_core.specs.Meaning.{first};
+ghost use Rattle.iol_core.specs.Calls.Aggregates.{show};
 ghost use Rattle.iol_system.specs.Room.{fits, IsDone, IsNoRoom};
 
 use crate::kernel::Kernel;
 use crate::step::{carry_out, run_all};
+use iol_agg::Parts;
 use iol_core::configuration::Config;
 use iol_core::events::{Event, Reply};
+use iol_core::numbers::{AggId, DomainId};
 use iol_core::refusals::Refusal;
 use std::alloc::{AllocError, Global};
 use std::marker::Model;
@@ -41,6 +45,14 @@ impl System {
     {
         let kernel = Kernel::new(alloc, config)?;
         Ok(System { kernel })
+    }
+
+    /// The bytes of a domain's aggregate, where they lie. Nothing is copied, and no memory is taken.
+    pub fn parts(&self, by: DomainId, agg: AggId) -> Result<Parts<'_>, Refusal>
+        ensures ok { IfOk result (λ parts. (first (show (machine_of self.now) by agg).refusals ≡ None) × (joined parts ≡ (show (machine_of self.now) by agg).answer)) }
+        ensures err { IfErr result (λ x. first (show (machine_of self.now) by agg).refusals ≡ Some x) }
+    {
+        self.kernel.parts(by, agg)
     }
 
     /// Carries out one event, whole.
