@@ -1,6 +1,6 @@
 -- Chunks, and the pages that are free in them.
-use Rattle.std.specs.Prelude.{◌≡◌, ℕ, ◌+◌, ◌*◌, ◌<◌, ◌≤◌, Bool, true, false, not, cond, List, [], ◌∷◌, flat_map, slice_index_or, slice_set, length, take, drop, nat_lt, ◌&&◌}
-use Rattle.std.specs.List.{All, filter, range_with_len}
+use Rattle.std.specs.Prelude.{◌≡◌, ℕ, ◌+◌, ◌*◌, ◌<◌, ◌≤◌, Bool, true, false, not, cond, List, [], ◌∷◌, flat_map, slice_index_or, slice_set, length, take, drop, nat_lt, ◌&&◌, ◌/◌}
+use Rattle.std.specs.List.{All, filter, range_with_len, Contains}
 use Rattle.iol_arena.specs.State.{State, entry_at, generation_at, is_free, kind_free, chunk_count, with_taken}
 
 -- each is greater than the one before, and the first is at least `low`
@@ -30,6 +30,10 @@ if_usable s p = cond (usable s p) (p ∷ []) []
 -- the free pages of these chunks, in order
 abbrev pub free_pages : State → List ℕ → List ℕ
 free_pages s cs = filter (usable s) (flat_map chunk_pages cs)
+
+-- the pages of all other chunks are as they were
+pub record IsSameOutside (cs : List ℕ) (old new : State) : Type 0 where
+  pub each : (q : ℕ) → (Contains cs (q / 16) → ⊥) → entry_at new q ≡ entry_at old q
 
 -- whether the page can hold no further buffer: its generation is the last
 abbrev pub spent : State → ℕ → Bool

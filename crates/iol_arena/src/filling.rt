@@ -4,7 +4,7 @@ ghost use Rattle.std.specs.Borrow.{sem};
 ghost use Rattle.std.specs.List.{All};
 ghost use Rattle.iol_arena.specs.State.{chunk_count, pages_for, with_bytes_at};
 ghost use Rattle.iol_arena.specs.Buffers.{IsLive, bytes_of, Grows, IsUnraised, Spares};
-ghost use Rattle.iol_arena.specs.Chunks.{free_pages};
+ghost use Rattle.iol_arena.specs.Chunks.{free_pages, IsSameOutside};
 ghost use Rattle.iol_arena.specs.Parts.{abandoned, published, new_bufs, part_pages, part_bytes, WritesKeep};
 ghost use Rattle.iol_arena.specs.Adds.{Adds};
 
@@ -38,6 +38,7 @@ impl Arena {
         ensures some { IfOk result (λ f. 0 < length (filling_parts f)) }
         ensures pages { IfOk result (λ f. part_pages (filling_parts f) ≡ take (pages_for n) (free_pages self.old chunks.now)) }
         ensures free { IfOk result (λ f. free_pages (filling_arena f) chunks.now ≡ drop (pages_for n) (free_pages self.old chunks.now)) }
+        ensures others { IfOk result (λ f. IsSameOutside chunks.now self.old (filling_arena f)) }
         ensures grows { IfOk result (λ f. Grows self.old (filling_arena f)) }
         ensures unraised { IfOk result (λ f. IsUnraised self.old (filling_arena f)) }
         ensures spares { IfOk result (λ f. Spares self.old (filling_arena f)) }

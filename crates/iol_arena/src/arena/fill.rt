@@ -1,11 +1,11 @@
 //! New buffers from a list of bytes.
 ghost use Rattle.std.specs.Prelude.{◌≡◌, ℕ, ◌+◌, ◌*◌, ◌<◌, ◌≤◌, ◌^◌, ◌++◌, [], ◌∷◌, length, drop, OnOk, OnErr, IfOk};
-ghost use Rattle.std.specs.List.{All};
+ghost use Rattle.std.specs.List.{All, Contains};
 ghost use Rattle.smallvec.specs.SmallVec.{HasRoomFor};
-ghost use Rattle.iol_arena.specs.State.{chunk_count, pages_for};
+ghost use Rattle.iol_arena.specs.State.{chunk_count, entry_at, pages_for};
 ghost use Rattle.iol_arena.specs.Buffers.{Grows};
-ghost use Rattle.iol_arena.specs.Chunks.{free_pages, usable};
-ghost use Rattle.iol_arena.specs.Parts.{IsAll, AreAll, AreApart, IsSameFrom, part_pages, filled};
+ghost use Rattle.iol_arena.specs.Chunks.{free_pages, usable, IsSameOutside};
+ghost use Rattle.iol_arena.specs.Parts.{IsAll, AreAll, AreApart, IsSameAround, part_pages, filled};
 ghost use Rattle.iol_arena.specs.Adds.{Adds};
 
 use crate::arena::Arena;
@@ -47,7 +47,7 @@ impl Arena {
         requires whole { pages_for (length bytes.now) ≡ part.count }
         ensures adds { Adds self.old self.new (result ∷ []) bytes.now }
         ensures page { result.page ≡ part.first }
-        ensures after { IsSameFrom (part.first + part.count) self.old self.new }
+        ensures around { IsSameAround part self.old self.new }
         ensures free { (q : ℕ) → usable self.new q ≡ usable self.old q }
     {
         self.write_part(part, bytes);
@@ -62,6 +62,7 @@ impl Arena {
         requires pages { length (part_pages parts.now) ≡ pages_for (length bytes.now) }
         requires small { length bytes.now ≤ 2 ^ 24 }
         ensures adds { Adds self.old self.new result.items bytes.now }
+        ensures others { (q : ℕ) → (Contains (part_pages parts.now) q → ⊥) → entry_at self.new q ≡ entry_at self.old q }
         ensures few { length result.items ≤ pages_for (length bytes.now) }
         ensures free { (q : ℕ) → usable self.new q ≡ usable self.old q }
     {
@@ -87,6 +88,7 @@ impl Arena {
         requires small { length bytes.now ≤ 2 ^ 24 }
         requires chunks { All (λ c. c < chunk_count self.old) chunks.now }
         ensures adds { IfOk result (λ bufs. Adds self.old self.new bufs.items bytes.now) }
+        ensures others { OnOk result (IsSameOutside chunks.now self.old self.new) }
         ensures few { IfOk result (λ bufs. length bufs.items ≤ pages_for (length bytes.now)) }
         ensures free { OnOk result (free_pages self.new chunks.now ≡ drop (pages_for (length bytes.now)) (free_pages self.old chunks.now)) }
         ensures enough { OnOk result (pages_for (length bytes.now) ≤ length (free_pages self.old chunks.now)) }

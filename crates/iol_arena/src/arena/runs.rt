@@ -4,7 +4,7 @@ ghost use Rattle.std.specs.List.{All};
 ghost use Rattle.smallvec.specs.SmallVec.{HasRoomFor};
 ghost use Rattle.iol_arena.specs.State.{chunk_count, generation_at, pages_for, with_marked};
 ghost use Rattle.iol_arena.specs.Buffers.{Grows, IsUnraised, Spares};
-ghost use Rattle.iol_arena.specs.Chunks.{free_pages};
+ghost use Rattle.iol_arena.specs.Chunks.{free_pages, IsSameOutside};
 ghost use Rattle.iol_arena.specs.Parts.{IsAll, AreAll, AreApart, claimed, cleared, cleared_part, abandoned, published, published_part, new_bufs, part_pages, part_bytes};
 ghost use Rattle.iol_arena.specs.Adds.{Adds};
 
@@ -32,6 +32,7 @@ impl Arena {
         ensures pages { IfOk result (λ r. part_pages r.parts.items ≡ take (pages_for n) (free_pages self.old chunks.now)) }
         ensures arena { IfOk result (λ r. self.new ≡ claimed self.old r.parts.items) }
         ensures free { OnOk result (free_pages self.new chunks.now ≡ drop (pages_for n) (free_pages self.old chunks.now)) }
+        ensures others { OnOk result (IsSameOutside chunks.now self.old self.new) }
         ensures grows { OnOk result (Grows self.old self.new) }
         ensures unraised { OnOk result (IsUnraised self.old self.new) }
         ensures spares { OnOk result (Spares self.old self.new) }
@@ -88,9 +89,8 @@ impl Arena {
         ensures arena { self.new ≡ cleared self.old parts.now }
         ensures pending { AreAll PageKind.Pending self.new.limit self.new.entries parts.now }
         ensures zero { All (IsZero self.new) parts.now }
-        ensures unraised { IsUnraised self.old self.new }
+        ensures entries { self.new.entries ≡ self.old.entries }
         ensures grows { Grows self.old self.new }
-        ensures spares { Spares self.old self.new }
     {
         for part in parts {
             self.clear_part(*part);

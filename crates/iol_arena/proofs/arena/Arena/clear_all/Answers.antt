@@ -53,9 +53,3 @@ returns-clause-pending c =
 
 pub returns-clause-zero : goal.returns-clause-zero
 returns-clause-zero c = λ k d h. subst (λ p. IsZero c.loop-part.self p) (get_or_default c.args.parts.now k no_part d h) (c.loop-part.invariant.zero k (omega arith))
-
-pub returns-clause-spares : goal.returns-clause-spares
-returns-clause-spares c = record { each = λ q. inl (ap (λ (es : List Entry). entry_in es q) c.loop-part.invariant.same) }
-
-pub returns-clause-unraised : goal.returns-clause-unraised
-returns-clause-unraised c = λ q. ap (λ (es : List Entry). (entry_in es q).generation) c.loop-part.invariant.same

@@ -1,4 +1,6 @@
-use Rattle.std.proofs.Common.{◌≡◌, ℕ, zero, suc, ◌+◌, ◌-◌, ◌*◌, ◌<◌, arith, refl, sym, ap, ◌∙◌, length, List, [], ◌∷◌, ◌++◌, subst, take, drop, get_or, min, length-append, length-drop, length-take}
+use Rattle.iol_arena.proofs.Members.{contains_in, in_part}
+use Rattle.iol_arena.proofs.Each.{order}
+use Rattle.std.proofs.Common.{◌≡◌, ℕ, zero, suc, ◌+◌, ◌-◌, ◌*◌, ◌<◌, arith, refl, sym, ap, ◌∙◌, length, List, [], ◌∷◌, ◌++◌, subst, take, drop, get_or, min, length-append, length-drop, length-take, inl, inr}
 use Rattle.std.specs.List.{range_with_len}
 use Rattle.std.proofs.lemmas.List.{drop_more, drop_all, take_all}
 use Rattle.std.proofs.lemmas.List.FromFn.{length-range_with_len}
@@ -44,6 +46,7 @@ pub loop-part-init : goal.loop-part-init
 loop-part-init c = record {
   adds = subst (λ l. Adds c.args.self.now c.args.self.now l (take 0 c.args.bytes.now)) (sym c.requires.none) (adds_none c.args.self.now);
   free = λ q. refl;
+  others = λ q out. refl;
   pending = c.requires.pending;
   apart = (0, c.requires.apart, λ q lo. refl);
   pages = (let e : length c.args.bytes.now ≡ length c.args.bytes.now - 0 = omega arith in c.requires.pages ∙ ap pages_for e);
@@ -97,7 +100,7 @@ loop-part-preserved c =
     let pending = subst (λ l. AreAll Pending s.limit s.entries l) split c.loop-part.invariant.pending in
     let count = here_count xs i (length bytes - at) c.loop-part-test.true c.loop-part.invariant.pages in
     let is : here ≡ min (length bytes - at) (p.count * 4096) = c.min-here.ensures in
-    let after = c.fill_part-buf.ensures.after in
+    let around = c.fill_part-buf.ensures.around in
     let same = c.loop-part.invariant.apart.2 in
     let size : at + here - at ≡ here = omega arith in
     let left : length bytes - at - here ≡ length bytes - (at + here) = omega arith in
@@ -107,8 +110,12 @@ loop-part-preserved c =
     record {
       adds = subst (λ bs. Adds fn t bs (take (at + here) bytes)) (sym c.push_reserved.ensures.items) (subst (λ v. Adds fn t (c.loop-part.bufs.items ++ b ∷ []) v) value (adds_more c.loop-part.invariant.adds c.fill_part-buf.ensures.adds next));
       free = λ q. c.fill_part-buf.ensures.free q ∙ c.loop-part.invariant.free q;
-      pending = subst (λ lim. AreAll Pending lim t.entries rest) (sym after.limit) (all_kept Pending s.limit s.entries t.entries rest (p.first + p.count) after.each after.long apart.1 pending.1);
-      apart = (p.first + p.count, apart.1, λ q lo. after.each q lo ∙ same q (omega (arith, apart.0.rising)));
+      others = λ q out. around.each q (elim (order p.first p.count q) [
+        | inl h ↦ inl h
+        | inr r ↦ elim r [ inl h ↦ absurd (out (in_part xs i q c.loop-part-test.true h.0 h.1)) | inr h ↦ inr h ]
+      ]) ∙ c.loop-part.invariant.others q out;
+      pending = subst (λ lim. AreAll Pending lim t.entries rest) (sym around.limit) (all_kept Pending s.limit s.entries t.entries rest (p.first + p.count) (λ q lo. around.each q (inr lo)) around.long apart.1 pending.1);
+      apart = (p.first + p.count, apart.1, λ q lo. around.each q (inr lo) ∙ same q (omega (arith, apart.0.rising)));
       pages = left_rest (length bytes - at) p.count (length (part_pages rest)) here count apart.0.some is ∙ ap pages_for left;
       few = omega (arith, ap length c.push_reserved.ensures.items, length-append c.loop-part.bufs.items (b ∷ []), count, c.loop-part.invariant.pages, apart.0.some, c.loop-part.invariant.few);
       at = omega (arith, is, c.loop-part.invariant.at);
@@ -120,3 +127,6 @@ returns-clause-adds c =
     let none = drop_all c.loop-part.part-index c.args.parts.now (omega arith) in
     let done = none_left (length c.args.bytes.now - c.loop-part.at) (ap (λ l. length (part_pages l)) (sym none) ∙ c.loop-part.invariant.pages) in
     subst (λ v. Adds c.args.self.now c.loop-part.self c.loop-part.bufs.items v) (take_all c.loop-part.at c.args.bytes.now (omega (arith, done, c.loop-part.invariant.at))) c.loop-part.invariant.adds
+
+pub returns-clause-others : goal.returns-clause-others
+returns-clause-others c = λ q out. c.loop-part.invariant.others q (λ h. out (contains_in (part_pages c.args.parts.now) q h))
