@@ -1,5 +1,5 @@
 -- Buffers, and what becomes of them from one state to the next.
-use Rattle.std.specs.Prelude.{◌≡◌, ◌⊎◌, ℕ, ◌<◌, ◌≤◌, List, flat_map, false}
+use Rattle.std.specs.Prelude.{◌+◌, ◌≡◌, ◌⊎◌, ℕ, ◌<◌, ◌≤◌, List, flat_map, false}
 use Rattle.iol_arena.specs.State.{State, entry_at, generation_at, memory_at, kind_head, with_marked, pages_for, page_count}
 use Rattle.iol_arena.specs.declared.pages.PageKind as kind
 use Rattle.iol_arena.specs.declared.pages.PageKind.TheVariants.{Free, Pending, Head, Tail}
@@ -65,3 +65,12 @@ pub record Spares (old new : State) : Type 0 where
 pub record Frees (old new : State) (p : ℕ) : Type 0 where
   pub gone : kind_head (entry_at new p).kind ≡ false
   pub others : (q : ℕ) → (q ≡ p → ⊥) → IsSpared old new q
+
+-- page q is one of the buffer's
+pub record LiesOn (s : State) (b : BufId) (q : ℕ) : Type 0 where
+  pub from : b.page ≤ q
+  pub to : q < b.page + pages_for (len_of s b)
+
+-- no two live buffers have a page in common
+pub record SharesNoPage (s : State) : Type 0 where
+  pub each : (b c : BufId) (q : ℕ) → IsLive s b → IsLive s c → LiesOn s b q → LiesOn s c q → b ≡ c

@@ -3,7 +3,7 @@ ghost use Rattle.std.specs.Prelude.{◌≡◌, ℕ, ◌+◌, ◌*◌, ◌<◌, �
 ghost use Rattle.std.specs.List.{All, Contains};
 ghost use Rattle.smallvec.specs.SmallVec.{HasRoomFor};
 ghost use Rattle.iol_arena.specs.State.{chunk_count, entry_at, pages_for};
-ghost use Rattle.iol_arena.specs.Buffers.{Grows};
+ghost use Rattle.iol_arena.specs.Buffers.{SharesNoPage, Grows};
 ghost use Rattle.iol_arena.specs.Chunks.{free_pages, usable, IsSameOutside};
 ghost use Rattle.iol_arena.specs.Parts.{IsAll, AreAll, AreApart, IsSameAround, part_pages, filled};
 ghost use Rattle.iol_arena.specs.Adds.{Adds};
@@ -90,6 +90,7 @@ impl Arena {
         ensures adds { IfOk result (λ bufs. Adds self.old self.new bufs.items bytes.now) }
         ensures others { OnOk result (IsSameOutside chunks.now self.old self.new) }
         ensures few { IfOk result (λ bufs. length bufs.items ≤ pages_for (length bytes.now)) }
+        ensures alone { OnOk result (SharesNoPage self.new) }
         ensures free { OnOk result (free_pages self.new chunks.now ≡ drop (pages_for (length bytes.now)) (free_pages self.old chunks.now)) }
         ensures enough { OnOk result (pages_for (length bytes.now) ≤ length (free_pages self.old chunks.now)) }
         ensures no_room { result ≡ Err Unfilled.NoRoom → length (free_pages self.old chunks.now) < pages_for (length bytes.now) }
@@ -100,6 +101,8 @@ impl Arena {
             Err(error) => return Err(error),
         };
         let Reservation { parts, bufs } = reservation;
-        Ok(self.fill_parts(parts.as_slice(), bufs, bytes))
+        let bufs = self.fill_parts(parts.as_slice(), bufs, bytes);
+        let _entries = &self.entries;
+        Ok(bufs)
     }
 }
