@@ -1,9 +1,9 @@
 //! The search for free pages.
-ghost use Rattle.std.specs.Prelude.{◌≡◌, ℕ, ◌+◌, ◌-◌, ◌*◌, ◌<◌, ◌≤◌, ◌↔◌, ◌++◌, [], ◌∷◌, length, take, IsTrue, OnOk, IfOk};
+ghost use Rattle.std.specs.Prelude.{◌≡◌, ℕ, ◌+◌, ◌-◌, ◌*◌, ◌<◌, ◌≤◌, ◌↔◌, ◌++◌, [], ◌∷◌, length, take, slice_index_or, true, false, IsTrue, OnOk, IfOk};
 ghost use Rattle.std.specs.List.{All, filter};
 ghost use Rattle.smallvec.specs.SmallVec.{HasRoomFor};
 ghost use Rattle.iol_arena.specs.State.{page_count, chunk_count};
-ghost use Rattle.iol_arena.specs.Chunks.{IsRising, chunk_pages, usable, if_usable, free_pages, retired_pages, spent};
+ghost use Rattle.iol_arena.specs.Chunks.{AreChunks, IsRising, chunk_pages, usable, if_usable, free_pages, retired_pages, spent};
 ghost use Rattle.iol_arena.specs.Parts.{AreAll, AreApart, GoesOn, end_of, part_pages};
 
 use crate::arena::Arena;
@@ -54,6 +54,20 @@ fn add_page(parts: &mut SmallVec<Part, 4>, page: u32) -> Result<(), AllocError>
         count: 1,
     });
     Ok(())
+}
+
+// The first of the chunks that is not marked full.
+fn first_open(full: &[bool], list: &[ChunkNo]) -> usize
+    requires { All (λ c. c < length full.now) list.now }
+    ensures within { result ≤ length list.now }
+    ensures full { (k : ℕ) → k < result → slice_index_or full.now (slice_index_or list.now k 0) false ≡ true }
+{
+    for (i, chunk) in list.iter().enumerate() {
+        if !full[chunk.number() as usize] {
+            return i;
+        }
+    }
+    list.len()
 }
 
 impl Arena {
@@ -138,26 +152,23 @@ impl Arena {
         Ok(now)
     }
 
-    // The lowest free pages of the chunks, as runs.
-    pub(super) fn find(
+    // The lowest free pages of a list of chunks, as runs.
+    fn find_in(
         &mut self,
         alloc: Global,
-        chunks: &ChunkSet,
+        list: &[ChunkNo],
         need: u32,
     ) -> Result<Reservation, Unfilled>
-        requires { All (λ c. c < chunk_count self.old) chunks.now }
+        requires { AreChunks 0 (page_count self.old) list.now }
         ensures same { self.new ≡ self.old }
         ensures free { IfOk result (λ r. AreAll PageKind.Free self.old.limit self.old.entries r.parts.items) }
-        ensures pages { IfOk result (λ r. part_pages r.parts.items ≡ take need (free_pages self.old chunks.now)) }
-        ensures enough { OnOk result (need ≤ length (free_pages self.old chunks.now)) }
+        ensures pages { IfOk result (λ r. part_pages r.parts.items ≡ take need (free_pages self.old list.now)) }
+        ensures enough { OnOk result (need ≤ length (free_pages self.old list.now)) }
         ensures apart { IfOk result (λ r. AreApart 0 r.parts.items) }
         ensures room { IfOk result (λ r. HasRoomFor r.bufs (length r.parts.items)) }
         ensures none { IfOk result (λ r. r.bufs.items ≡ []) }
-        ensures rising { OnOk result (IsRising chunks.now) }
-        ensures no_room { result ≡ Err Unfilled.NoRoom → length (free_pages self.old chunks.now) < need }
+        ensures no_room { result ≡ Err Unfilled.NoRoom → length (free_pages self.old list.now) < need }
     {
-        let _entries = &self.entries;
-        let list = chunks.as_slice();
         let mut parts = SmallVec::new(alloc);
         let mut have = 0;
         for chunk in list {
@@ -177,6 +188,29 @@ impl Arena {
             return Err(Unfilled::Memory);
         }
         Ok(Reservation { parts, bufs })
+    }
+
+    // The lowest free pages of the chunks, as runs.
+    pub(super) fn find(
+        &mut self,
+        alloc: Global,
+        chunks: &ChunkSet,
+        need: u32,
+    ) -> Result<Reservation, Unfilled>
+        requires { All (λ c. c < chunk_count self.old) chunks.now }
+        ensures same { self.new ≡ self.old }
+        ensures free { IfOk result (λ r. AreAll PageKind.Free self.old.limit self.old.entries r.parts.items) }
+        ensures pages { IfOk result (λ r. part_pages r.parts.items ≡ take need (free_pages self.old chunks.now)) }
+        ensures enough { OnOk result (need ≤ length (free_pages self.old chunks.now)) }
+        ensures apart { IfOk result (λ r. AreApart 0 r.parts.items) }
+        ensures room { IfOk result (λ r. HasRoomFor r.bufs (length r.parts.items)) }
+        ensures none { IfOk result (λ r. r.bufs.items ≡ []) }
+        ensures rising { IsRising chunks.now }
+        ensures no_room { result ≡ Err Unfilled.NoRoom → length (free_pages self.old chunks.now) < need }
+    {
+        let list = chunks.as_slice();
+        let open = first_open(&self.full, list);
+        self.find_in(alloc, &list[open..], need)
     }
 
     // Whether the page is free but can hold no further buffer.

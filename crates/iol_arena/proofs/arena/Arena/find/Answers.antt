@@ -1,71 +1,22 @@
-use Rattle.std.proofs.Common.{◌≡◌, ℕ, ◌+◌, ◌*◌, ◌-◌, arith, refl, inl, inr, ap, sym, ◌∙◌, subst, take, drop, get_or, length, List, [], ◌∷◌, ◌++◌, ◌<◌}
+use Rattle.std.proofs.Common.{◌≡◌, ℕ, ◌+◌, ◌-◌, ◌*◌, ◌<◌, ◌≤◌, arith, ap, sym, ◌∙◌, subst, take, drop, get_or, length, List, [], true, false, Bool, Err}
 use Rattle.std.specs.List.{All, filter}
-use Rattle.std.proofs.lemmas.List.{drop_more, take_all, get_or_default, length-take}
+use Rattle.std.specs.Result.{IfOk, OnOk}
 use Rattle.iol_arena.specs.State.{State, page_count, chunk_count}
-use Rattle.iol_arena.specs.Chunks.{AreChunks, free_pages, usable, chunk_pages}
-use Rattle.iol_arena.specs.Parts.{AreApart, part_pages, end_of}
+use Rattle.iol_arena.specs.View.{state_of}
+use Rattle.iol_arena.specs.Chunks.{AreChunks, IsRising, free_pages, usable, chunk_pages}
+use Rattle.iol_arena.specs.Parts.{part_pages}
 use Rattle.iol_arena.proofs.Found.{chunks_within}
-use Rattle.iol_arena.proofs.Full.{all_found}
-use Rattle.iol_arena.proofs.Good.{AreGood, good_free, good_take, parts_free, free_more, taken_more, count_more}
+use Rattle.iol_arena.proofs.Full.{none_free, free-skip, chunks_drop, rest_is}
 use Rattle.iol_arena.proofs.arena.Arena.find.Goals as goal
-use Rattle.iol_arena.proofs.arena.Arena.find.Goals.{else-loop-chunk-test, then-loop-chunk-test+then-have-need}
 
-pub loop-chunk-init : goal.loop-chunk-init
-loop-chunk-init c =
-    let s = c.args.self.now in
-    let count = ap (λ (s : State). length s.entries) c.self.view_is in
-    let taken = ap (λ (s : State). length s.taken) c.self.view_is in
-    let pages : page_count s ≡ 16 * chunk_count s = omega (arith, count, taken, c.self.invariant.sound.chunks) in
-    let all = subst (λ l. All (λ k. k < chunk_count s) l) (sym c.as_slice-list.ensures.value) c.requires in
-    let none = take_all c.args.need (let l : List ℕ = [] in l) (omega arith) in
-    record {
-      same = refl;
-      pages = ap part_pages c.new-parts.ensures.items ∙ sym none;
-      have = ap length (sym none);
-      apart = subst (λ ps. AreApart 0 ps) (sym c.new-parts.ensures.items) tt;
-      left = (0, omega (arith, ap (λ ps. end_of 0 ps) c.new-parts.ensures.items), chunks_within 0 (chunk_count s) (page_count s) c.as_slice-list.result.now pages c.as_slice-list.ensures.rising all);
-    }
+pub first_open-open-requires : goal.first_open-open-requires
+first_open-open-requires c =
+    let all = subst (λ l. All (λ k. k < chunk_count c.args.self.now) l) (sym c.as_slice-list.ensures.value) c.requires in
+    let marks : length c.deref.result.now ≡ chunk_count c.args.self.now = ap length c.deref.ensures.value ∙ c.self.invariant.marks ∙ ap (λ (s : State). length s.taken) c.self.view_is in
+    subst (λ n. All (λ k. k < n) c.as_slice-list.result.now) (sym marks) all
 
-pub loop-chunk-preserved : goal.loop-chunk-preserved
-loop-chunk-preserved c =
-    let s = c.args.self.now in
-    let xs = c.as_slice-list.result.now in
-    let i : ℕ = c.loop-chunk.chunk-index in
-    let k : ℕ = get_or xs i 0 in
-    let read : c.number.result ≡ k = c.number.ensures ∙ c.chunk-item.is ∙ get_or_default xs i c.chunk-item.result 0 c.loop-chunk-test.true in
-    let split : drop i xs ≡ k ∷ drop (i + 1) xs = drop_more xs i 0 c.loop-chunk-test.true in
-    let left = subst (λ l. AreChunks c.loop-chunk.invariant.left.0 (page_count s) l) split c.loop-chunk.invariant.left.2 in
-    let here = filter (usable s) (chunk_pages k) in
-    let before = free_pages s (take i xs) in
-    let more = free_more s xs i c.loop-chunk-test.true in
-    let wanted : ℕ = c.args.need - c.loop-chunk.have in
-    let same = c.loop-chunk.invariant.same in
-    record {
-      same = c.in-Ok.ensures.same ∙ same;
-      pages = c.in-Ok.ensures.pages ∙ ap (λ (x : State). part_pages c.loop-chunk.parts.items ++ take wanted (filter (usable x) (chunk_pages c.number.result))) same
-          ∙ ap (λ x. part_pages c.loop-chunk.parts.items ++ take wanted (filter (usable s) (chunk_pages x))) read
-          ∙ ap (λ t. t ++ take wanted here) c.loop-chunk.invariant.pages ∙ taken_more c.args.need c.loop-chunk.have before here c.loop-chunk.invariant.have ∙ ap (λ t. take c.args.need t) (sym more);
-      have = c.in-Ok.ensures.have ∙ ap (λ (x : State). c.loop-chunk.have + length (take wanted (filter (usable x) (chunk_pages c.number.result)))) same
-          ∙ ap (λ x. c.loop-chunk.have + length (take wanted (filter (usable s) (chunk_pages x)))) read
-          ∙ count_more c.args.need c.loop-chunk.have before here c.loop-chunk.invariant.have ∙ ap (λ t. length (take c.args.need t)) (sym more);
-      apart = c.in-Ok.ensures.apart;
-      left = (k + 1, omega (arith, c.in-Ok.ensures.end, read), left.2);
-    }
-
--- what was found is what there is
-found : (c : goal.Else-is_err) → part_pages c.loop-chunk.parts.items ≡ take c.args.need (free_pages c.args.self.now c.as_slice-list.result.now)
-found c =
-    let s = c.args.self.now in
-    let xs = c.as_slice-list.result.now in
-    let i : ℕ = c.loop-chunk.chunk-index in
-    c.loop-chunk.invariant.pages
-    ∙ all_found s xs i c.args.need c.loop-chunk.have c.loop-chunk.invariant.have (elim c.loop-chunk-test.branch [
-      | else-loop-chunk-test w ↦ inl (omega (arith, w.loop-chunk-test.false))
-      | then-loop-chunk-test+then-have-need w ↦ inr w.if-have-need.true
-    ])
-
-pub returns-clause-free : goal.returns-clause-free
-returns-clause-free c =
+pub find_in-requires : goal.find_in-requires
+find_in-requires c =
     let s = c.args.self.now in
     let xs = c.as_slice-list.result.now in
     let all = subst (λ l. All (λ k. k < chunk_count s) l) (sym c.as_slice-list.ensures.value) c.requires in
@@ -73,13 +24,26 @@ returns-clause-free c =
     let taken = ap (λ (s : State). length s.taken) c.self.view_is in
     let pages : page_count s ≡ 16 * chunk_count s = omega (arith, count, taken, c.self.invariant.sound.chunks) in
     let chunks = chunks_within 0 (chunk_count s) (page_count s) xs pages c.as_slice-list.ensures.rising all in
-    parts_free s 0 c.loop-chunk.parts.items c.loop-chunk.invariant.apart (subst (λ l. AreGood s l) (sym (found c)) (good_take s c.args.need (free_pages s xs) (good_free s 0 xs chunks)))
+    subst (λ l. AreChunks 0 (page_count s) l) (sym (rest_is c.first_open-open.result xs)) (chunks_drop 0 (page_count s) c.first_open-open.result xs chunks)
 
-pub returns-clause-pages : goal.returns-clause-pages
-returns-clause-pages c = found c ∙ ap (λ l. take c.args.need (free_pages c.args.self.now l)) c.as_slice-list.ensures.value
-
-pub returns-clause-enough : goal.returns-clause-enough
-returns-clause-enough c =
+pub returns : goal.returns
+returns c =
     let s = c.args.self.now in
-    let all = ap (λ l. length l) (sym c.loop-chunk.invariant.pages ∙ returns-clause-pages c) in
-    omega (arith, all, c.loop-chunk.invariant.have, c.if-have-need-2.false, length-take c.args.need (free_pages s c.args.chunks.now))
+    let a = c.self.inside in
+    let xs = c.as_slice-list.result.now in
+    let n : ℕ = c.first_open-open.result in
+    let passed : (k : ℕ) → k < n → filter (usable s) (chunk_pages (get_or xs k 0)) ≡ [] =
+    λ k h. (let is = ap (λ (l : List Bool). get_or l (get_or xs k 0) false) (sym c.deref.ensures.value) ∙ c.first_open-open.ensures.full k h in
+    subst (λ (s : State). filter (usable s) (chunk_pages (get_or xs k 0)) ≡ []) c.self.view_is (none_free (state_of a) (get_or xs k 0) (λ q lo hi. c.self.invariant.full.each (get_or xs k 0) q is lo hi))) in
+    let all : free_pages s (take (length xs - n) (drop n xs)) ≡ free_pages s c.args.chunks.now = ap (λ l. free_pages s l) (rest_is n xs) ∙ free-skip s xs n passed ∙ ap (λ l. free_pages s l) c.as_slice-list.ensures.value in
+    record {
+      same = c.find_in.ensures.same;
+      free = c.find_in.ensures.free;
+      pages = subst (λ x. IfOk c.find_in.result (λ r. part_pages r.parts.items ≡ take c.args.need x)) all c.find_in.ensures.pages;
+      enough = subst (λ x. OnOk c.find_in.result (c.args.need ≤ length x)) all c.find_in.ensures.enough;
+      apart = c.find_in.ensures.apart;
+      room = c.find_in.ensures.room;
+      none = c.find_in.ensures.none;
+      rising = subst (λ l. IsRising l) c.as_slice-list.ensures.value c.as_slice-list.ensures.rising;
+      no_room = λ e. omega (arith, c.find_in.ensures.no_room e, ap length all);
+    }
