@@ -1,10 +1,239 @@
-//! What scripts are read as, and what replies print.
+//! Scripts and what they print.
 use crate::printed::Printed;
+use crate::replay::replay;
 use iol_core::events::Reply;
 use iol_core::lists::Bytes;
-use iol_core::numbers::{AggId, ConnId, FileId};
+use iol_core::numbers::{AggId, ConnId, DomainId, Fd, FileId, PoolId};
 use iol_core::refusals::Refusal;
+use std::alloc::Global;
+use std::io;
+use std::io::{ErrorKind, Read, Write};
+use std::process::Abort;
 use std::test::Fail;
+
+/// Replays what a reader gives, which has to end with this status and to print these texts.
+fn assert_outcome(
+    rt: &(impl AllocGlobal + Abort),
+    input: &mut impl Read,
+    status: u8,
+    printed: &str,
+    told: &str,
+) {
+    let mut output = Vec::new(rt.alloc());
+    let mut errors = Vec::new(rt.alloc());
+    let ended = replay(rt.alloc(), input, &mut output, &mut errors);
+    assert_eq!(rt; str::from_utf8(errors.as_slice()), Ok(told));
+    assert_eq!(rt;
+        str::from_utf8(output.as_slice()),
+        Ok(printed),
+        "where {told:?} was told"
+    );
+    assert_eq!(rt; ended, status, "after {printed:?} and {told:?}");
+}
+
+/// Replays a script, which has to give these replies.
+fn assert_replies(rt: &(impl AllocGlobal + Abort), script: &str, replies: &str) {
+    assert_outcome(rt, &mut script.as_bytes(), 0, replies, "");
+}
+
+/// Each call once, with memory enough.
+#[test]
+fn ample(rt: HostRuntime) {
+    let script = "config 1 1 1\n1 domain_new\n1 pool_create 1 1\n1 set_pool 1\n1 agg_make a\n\
+        1 show 1\n1 pipe\n1 iol_write 1 1\n1 iol_read 0 1\n1 give_fd 0 2\n";
+    let replies = "domain 2\npool 1\ndone\nagg 1\nbytes a\nfds 0 1\ncount 1\nagg 2\nfd 0\n";
+    assert_replies(&rt, script, replies);
+}
+
+#[test]
+fn hello_through_a_pipe(rt: HostRuntime) {
+    let script = "1 domain_new\n1 pool_create 1 1,2\n1 set_pool 1\n1 agg_make hello\n1 pipe\n\
+        1 give_fd 0 2\n1 iol_write 1 1\n2 iol_read 0 3\n2 show 1\n2 iol_read 0 9\n2 show 2\n";
+    let replies = "domain 2\npool 1\ndone\nagg 1\nfds 0 1\nfd 0\ncount 5\nagg 1\nbytes hel\n\
+        agg 2\nbytes lo\n";
+    assert_replies(&rt, script, replies);
+}
+
+#[test]
+fn reader_not_named(rt: HostRuntime) {
+    let script = "1 domain_new\n1 domain_new\n1 pool_create 1 1,2\n1 set_pool 1\n\
+        1 agg_make hello\n1 pipe\n1 iol_write 1 1\n1 give_fd 0 3\n3 iol_read 0 9\n\
+        3 give_fd 0 2\n2 iol_read 0 9\n2 show 1\n";
+    let replies = "domain 2\ndomain 3\npool 1\ndone\nagg 1\nfds 0 1\ncount 5\nfd 0\n\
+        refused Denied pool 1\nfd 0\nagg 1\nbytes hello\n";
+    assert_replies(&rt, script, replies);
+}
+
+#[test]
+fn lines_that_are_skipped(rt: HostRuntime) {
+    let table = [
+        ("", ""),
+        ("\n\n", ""),
+        ("# 1 pipe\n#\n\n1 domain_new", "domain 2\n"),
+        ("#\n\nconfig 1 1 1\n\n1 domain_new\n", "domain 2\n"),
+        (
+            "config 256 4294967295 65536\n007 domain_new",
+            "refused NoDomain\n",
+        ),
+    ];
+    for (script, replies) in table {
+        assert_replies(&rt, script, replies);
+    }
+}
+
+#[test]
+fn texts_both_ways(rt: HostRuntime) -> Result<(), Fail> {
+    let table = [
+        ("", "bytes"),
+        (" ", "bytes"),
+        (" hello", "bytes hello"),
+        (" a b ", "bytes a%20b%20"),
+        ("  #!~", "bytes %20#!~"),
+        (" %61%00%0a%7f%fF", "bytes a%00%0A%7F%FF"),
+        (" 100%", "bytes 100%25"),
+        (" %2g%25", "bytes %252g%25"),
+        (" \u{e9}\r", "bytes %C3%A9%0D"),
+    ];
+    for (text, printed) in table {
+        let script = format!(in rt.alloc();
+            "1 pool_create 1 1\n1 set_pool 1\n1 agg_make{text}\n1 show 1\n"
+        )?;
+        let replies = format!(in rt.alloc(); "pool 1\ndone\nagg 1\n{printed}\n")?;
+        assert_replies(&rt, script.as_str(), replies.as_str());
+    }
+    Ok(())
+}
+
+#[test]
+fn lines_that_are_bad(rt: HostRuntime) -> Result<(), Fail> {
+    let table = [
+        "1",
+        "pipe",
+        " ",
+        " 1 pipe",
+        "1  pipe",
+        "1 pipe ",
+        "1 pipe\r",
+        "1 Pipe",
+        "1 pipe 1",
+        "1 domain_now",
+        "-1 pipe",
+        "+1 pipe",
+        "4294967296 pipe",
+        "1 show",
+        "1 show ",
+        "1 show x",
+        "1 show +1",
+        "1 show 18446744073709551616",
+        "1 show 1 1",
+        "1 set_pool 4294967296",
+        "1 pool_create 1",
+        "1 pool_create 1 ",
+        "1 pool_create 1 1,,2",
+        "1 pool_create 1 1, 2",
+        "1 pool_create 1 1,2 3",
+        "1 give_fd 0",
+        "1 iol_read 0 -1",
+        "1 iol_write 0 1 1",
+        "config 1 1",
+        "config 1 1 1 1",
+        "config 0 1 1",
+        "config 257 1 1",
+        "config 1 0 1",
+        "config 1 1 0",
+        "config 1 1 65537",
+    ];
+    for line in table {
+        // The lines after it are bad, too: the first is told.
+        let script = format!(in rt.alloc(); "# a bad line\n{line}\n1 pipe\nno\n")?;
+        let told = "line 2: not a command\n";
+        assert_outcome(&rt, &mut script.as_bytes(), 2, "", told);
+    }
+    for late in ["config 1 1 1\n\nconfig 1 1 1\n", "1 pipe\n#\nconfig 1 1 1"] {
+        let told = "line 3: not a command\n";
+        assert_outcome(&rt, &mut late.as_bytes(), 2, "", told);
+    }
+    Ok(())
+}
+
+#[test]
+fn scripts_that_are_bad(rt: HostRuntime) {
+    let bad = "bad script\n";
+    assert_outcome(&rt, &mut b"# \xff\n".as_slice(), 2, "", bad);
+    let most = 0x100_0000;
+    assert_outcome(&rt, &mut io::repeat(b'#').take(most), 0, "", "");
+    assert_outcome(&rt, &mut io::repeat(b'#').take(most + 1), 2, "", bad);
+    assert_outcome(&rt, &mut io::repeat(b'#'), 2, "", bad);
+}
+
+/// Gives its bytes, one at each read, and then fails.
+#[derive(Drop)]
+struct BrokenInput<'a>(&'a [u8]);
+
+impl Read for BrokenInput<'_> {
+    fn read(&mut self, buffer: &mut [u8]) -> io::Result<usize> {
+        if buffer.is_empty() {
+            return Ok(0);
+        }
+        let Some((first, rest)) = self.0.split_first() else {
+            return Err(io::Error::from(ErrorKind::NotConnected));
+        };
+        buffer[0] = *first;
+        self.0 = rest;
+        Ok(1)
+    }
+}
+
+/// Takes so many bytes, one at each write, and then fails.
+#[derive(Drop)]
+struct BrokenOutput(usize);
+
+impl Write for BrokenOutput {
+    fn write(&mut self, buffer: &[u8]) -> io::Result<usize> {
+        if buffer.is_empty() {
+            return Ok(0);
+        }
+        if self.0 == 0 {
+            return Err(io::Error::from(ErrorKind::BrokenPipe));
+        }
+        self.0 -= 1;
+        Ok(1)
+    }
+
+    fn flush(&mut self) -> io::Result<()> {
+        Ok(())
+    }
+}
+
+#[test]
+fn faults_of_input_and_output(rt: HostRuntime) {
+    for taken in 0..4 {
+        let script = b"no\n1 pipe\n";
+        let mut input = BrokenInput(&script[..taken]);
+        assert_outcome(&rt, &mut input, 3, "", "fault: input\n");
+    }
+    for room in [0, 1, 8, 9] {
+        let mut output = BrokenOutput(room);
+        let mut errors = Vec::new(rt.alloc());
+        let mut script = b"1 domain_new".as_slice();
+        let status = replay(rt.alloc(), &mut script, &mut output, &mut errors);
+        if room < 9 {
+            assert_eq!(rt; errors.as_slice(), b"fault: output\n".as_slice());
+            assert_eq!(rt; status, 3, "at {room}");
+        } else {
+            assert_eq!(rt; status, 0);
+        }
+    }
+    // Where the fault cannot be told either, the status says it.
+    let mut script = b"no".as_slice();
+    let status = replay(
+        rt.alloc(),
+        &mut script,
+        &mut Vec::new(rt.alloc()),
+        &mut BrokenOutput(3),
+    );
+    assert_eq!(rt; status, 2);
+}
 
 #[test]
 fn replies_that_no_call_gives_yet(rt: HostRuntime) -> Result<(), Fail> {

@@ -1,0 +1,142 @@
+//! The program `replay`.
+ghost use Rattle.std.specs.Prelude.{◌≡◌, ◌≢◌, ◌⊎◌, Err, IfOk, IfErr, IfSome, OnOk, OnErr, string_bytes};
+ghost use Rattle.std.specs.IoError.{error_kind};
+ghost use Rattle.iol_core.specs.Run.{Run};
+ghost use Rattle.iol_core.specs.State.{State, new_state, no_slots};
+ghost use Rattle.iolite.specs.Failure.{status_of, IsOfInput};
+ghost use Rattle.iolite.specs.Script.{IsScriptText, IsWholeOrTooLong};
+
+use crate::failure::Failure;
+use crate::printed::Printed;
+use crate::script::Script;
+use iol_core::configuration::Config;
+use iol_core::events::Reply;
+use iol_system::system::System;
+use std::alloc::Global;
+use std::io;
+use std::io::{BufWriter, ErrorKind, Read, Write};
+
+/// The bytes that a script may have.
+const MAX_SCRIPT_BYTES: u64 = 0x100_0000;
+
+/// Runs the script that the input holds, and prints a reply a line. The answer is the exit status.
+///
+/// The script is read whole before the first event, so a bad one prints nothing on `output`. What
+/// goes wrong is told on `errors` in one line, and nothing is told where that cannot be written.
+pub fn replay<R: Read, W: Write, E: Write>(
+    alloc: Global,
+    input: &mut R,
+    output: &mut W,
+    errors: &mut E,
+) -> u8
+    ensures statuses { (result ≡ 0) ⊎ (result ≡ 2) ⊎ (result ≡ 3) }
+    ensures bad_script_prints_nothing { result ≡ 2 → output.new ≡ output.old }
+    ensures no_script { IfSome (R.remaining input.old) (λ given. ¬ (IsScriptText given) → result ≢ 0) }
+{
+    match run(alloc, input, output) {
+        Ok(()) => 0,
+        Err(failure) => {
+            let _ = writeln!(errors, "{failure}");
+            failure.status()
+        }
+    }
+}
+
+/// Does the work of `replay`, up to the first failure.
+fn run<R: Read, W: Write>(alloc: Global, input: &mut R, output: &mut W) -> Result<(), Failure>
+    ensures untouched { IfErr result (λ failure. status_of failure ≡ 2 → output.new ≡ output.old) }
+    ensures ok { OnOk result (IfSome (R.remaining input.old) IsScriptText) }
+    ensures bad { result ≡ Err Failure.BadScript → IfSome (R.remaining input.old) (λ given. ¬ (IsScriptText given)) }
+{
+    let text = read_text(alloc, input)?;
+    let script = Script::parse(alloc, text.as_str())?;
+    let replies = replies_to(alloc, &script)?;
+    print(alloc, replies.as_slice(), output)
+}
+
+/// Reads the input to its end, as a script.
+fn read_text<R: Read>(alloc: Global, input: &mut R) -> Result<String, Failure>
+    ensures whole { IfOk result (λ text. IfSome (R.remaining input.old) (λ given. string_bytes text ≡ given)) }
+    ensures script { IfOk result (λ text. IsScriptText (string_bytes text)) }
+    ensures bad { result ≡ Err Failure.BadScript → IfSome (R.remaining input.old) (λ given. ¬ (IsScriptText given)) }
+    ensures error { IfErr result IsOfInput }
+{
+    let bytes = read_bytes(alloc, input)?;
+    text_of(bytes)
+}
+
+/// Reads the input to its end, or to one byte past the most that a script may have.
+fn read_bytes<R: Read>(alloc: Global, input: &mut R) -> Result<Vec<u8>, Failure>
+    ensures bytes { IfOk result (λ bytes. IfSome (R.remaining input.old) (IsWholeOrTooLong bytes.items)) }
+    ensures error { IfErr result (λ failure. (failure ≡ Failure.Input) ⊎ (failure ≡ Failure.Memory)) }
+{
+    let mut bytes = Vec::new(alloc);
+    match input.take(MAX_SCRIPT_BYTES + 1).read_to_end(&mut bytes) {
+        Ok(_) => Ok(bytes),
+        Err(e) => Err(failure_of(&e, Failure::Input)),
+    }
+}
+
+/// The text that the bytes of a script write.
+fn text_of(bytes: Vec<u8>) -> Result<String, Failure>
+    ensures text { IfOk result (λ text. string_bytes text ≡ bytes.items) }
+    ensures script { IfOk result (λ text. IsScriptText (string_bytes text)) }
+    ensures bad { OnErr result (¬ (IsScriptText bytes.items)) }
+    ensures error { IfErr result (λ failure. failure ≡ Failure.BadScript) }
+{
+    if bytes.len() as u64 > MAX_SCRIPT_BYTES {
+        return Err(Failure::BadScript);
+    }
+    match String::from_utf8(bytes) {
+        Ok(text) => Ok(text),
+        Err(_) => Err(Failure::BadScript),
+    }
+}
+
+/// Runs the events of a script on a new system.
+fn replies_to(alloc: Global, script: &Script) -> Result<Vec<Reply>, Failure>
+    ensures run { IfOk result (λ replies. (after : State) × Run (new_state no_slots) script.now.events.items replies.items after) }
+    ensures error { IfErr result (λ failure. failure ≡ Failure.Memory) }
+{
+    let config = script.config.unwrap_or(Config::DEFAULT);
+    // The sizes are in their ranges, so only memory can be wanting.
+    let mut system = match System::new(alloc, config) {
+        Ok(system) => system,
+        Err(_) => return Err(Failure::Memory),
+    };
+    match system.run(script.events.as_slice()) {
+        Ok(replies) => Ok(replies),
+        Err(_) => Err(Failure::Memory),
+    }
+}
+
+/// Prints each reply on a line of its own.
+fn print<W: Write>(alloc: Global, replies: &[Reply], output: &mut W) -> Result<(), Failure>
+    ensures { IfErr result (λ failure. (failure ≡ Failure.Output) ⊎ (failure ≡ Failure.Memory)) }
+{
+    match write_lines(alloc, replies, output) {
+        Ok(()) => Ok(()),
+        Err(e) => Err(failure_of(&e, Failure::Output)),
+    }
+}
+
+fn write_lines<W: Write>(alloc: Global, replies: &[Reply], output: &mut W) -> io::Result<()> {
+    let mut lines = BufWriter::new(alloc, output)?;
+    for reply in replies {
+        let printed = Printed(reply);
+        writeln!(lines, "{printed}")?;
+    }
+    lines.flush()
+}
+
+/// The failure that an error of a reader or a writer is: want of memory, or `otherwise`.
+fn failure_of(error: &io::Error, otherwise: Failure) -> Failure
+    ensures memory { error_kind error.now ≡ ErrorKind.OutOfMemory → result ≡ Failure.Memory }
+    ensures otherwise { error_kind error.now ≢ ErrorKind.OutOfMemory → result ≡ otherwise }
+{
+    if error.kind() == ErrorKind::OutOfMemory {
+        Failure::Memory
+    } else {
+        otherwise
+    }
+}
