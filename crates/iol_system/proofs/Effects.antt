@@ -1,15 +1,14 @@
 -- What the effects of the calls are made of: a change of what is held, as the machine sees it, and that it stays sound.
-use Rattle.std.proofs.Common.{◌≡◌, ℕ, zero, suc, ◌+◌, ◌-◌, ◌<◌, ◌≤◌, ◌==◌, List, [], ◌∷◌, ◌++◌, length, map, ap, ◌∙◌, refl, sym, subst, arith, Option, Some, None, true, false}
+use Rattle.std.proofs.Common.{◌≡◌, ℕ, suc, ◌+◌, ◌<◌, ◌≤◌, List, [], ◌∷◌, ◌++◌, length, ap, ◌∙◌, refl, sym, subst, arith, Option, Some, None, true, false}
 use Rattle.std.specs.Prelude.{Result, Ok, Err, OnOk, nat_lt, ◌||◌, not, Bool}
 use Rattle.std.specs.List.{All, filter}
 use Rattle.std.proofs.Common.{get_or, length-append}
 use Rattle.std.proofs.Common.{cond}
 use Rattle.std.proofs.lemmas.Bool.Decides.{nat_tests}
-use Rattle.std.proofs.lemmas.Grind.{common_steps}
 use Rattle.iol_arena.specs.State.{pages_for}
 use Rattle.iol_arena.specs.Chunks.{free_pages, usable, all_taken}
 use Rattle.iol_core.specs.declared.descriptors.Descriptor.{Descriptor}
-use Rattle.iol_system.specs.Room.{has_room, pages_of, pinned}
+use Rattle.iol_system.specs.Room.{has_room, pages_of}
 use Rattle.iol_core.specs.Text.{Text}
 use Rattle.iol_core.specs.State as machine
 use Rattle.iol_core.specs.State.{State, Domain, new_domain, no_domain}
@@ -19,11 +18,11 @@ use Rattle.iol_arena.specs.State as arena
 use Rattle.iol_arena.specs.Buffers.{Grows}
 use Rattle.iol_agg.specs.declared.slices.Slice.{Slice}
 use Rattle.iol_agg.specs.Texts.{text_of, AllReadable}
-use Rattle.iol_system.specs.Tables.{domain_in, with_domain_in, agg_in, with_agg_in, with_fds_in, meant}
-use Rattle.iol_system.specs.Seen.{Pool, Pipe, pool_in, pool_meant, pipe_meant, seen}
-use Rattle.iol_system.specs.Holding.{Holding, machine_of, Each, IsDomainReadable, IsPipeReadable, IsOpenEnd, IsSound, AddsText, AddsPool, queue_at}
-use Rattle.iol_system.proofs.Meant.{pool-seen, length_pools-seen, pipe_at-seen, add_domain-seen, add_pool-seen, add_pipe-seen, with_agg-seen, with_fds-seen, with_domain-seen, with_pipe-seen, domain-seen}
-use Rattle.iol_system.proofs.Sound.{sound_with, sound_agg, sound_fds, aggs_readable, ends_open, agg_readable, chunks_there, each-placed, each-push, each-set, each-get, each-weaker, machine-grown, sound_grown}
+use Rattle.iol_system.specs.Tables.{domain_in, with_domain_in, with_fds_in}
+use Rattle.iol_system.specs.Seen.{Pool, Pipe, pool_in, seen}
+use Rattle.iol_system.specs.Holding.{Holding, machine_of, Each, IsDomainReadable, IsPipeReadable, IsOpenEnd, IsSound, AddsText, AddsPool}
+use Rattle.iol_system.proofs.Meant.{pool-seen, length_pools-seen, add_domain-seen, add_pool-seen, with_agg-seen, with_fds-seen, with_domain-seen, domain-seen}
+use Rattle.iol_system.proofs.Sound.{sound_with, sound_agg, sound_fds, aggs_readable, ends_open, each-push, each-weaker, machine-grown, sound_grown}
 
 -- a new domain
 

@@ -1,5 +1,5 @@
 -- Ends of pipes stay open where a pipe is added or its queue changes.
-use Rattle.std.proofs.Common.{◌≡◌, ◌≢◌, ℕ, zero, suc, ◌+◌, ◌-◌, ◌<◌, ◌≤◌, ◌==◌, List, [], ◌∷◌, ◌++◌, length, get_or, ap, ◌∙◌, refl, sym, subst, arith, Option, Some, None, true, false, inl, inr, ◌⊎◌}
+use Rattle.std.proofs.Common.{◌≡◌, ◌≢◌, ℕ, suc, ◌+◌, ◌<◌, ◌≤◌, List, [], ◌∷◌, length, ap, ◌∙◌, refl, sym, arith, Option, Some, None, true, false, inl, inr, ◌⊎◌}
 use Rattle.std.specs.Prelude.{slice_set, unwrap_or}
 use Rattle.std.proofs.lemmas.Bool.{cases_lt, cases_eq}
 use Rattle.std.proofs.lemmas.Bool.Decides.{nat_tests}

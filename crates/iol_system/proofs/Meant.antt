@@ -1,15 +1,14 @@
 -- What the tables stand for, word by word.
-use Rattle.std.proofs.Common.{inl, inr, ◌≡◌, ◌≢◌, ℕ, zero, suc, ◌+◌, ◌-◌, ◌<◌, ◌≤◌, ◌==◌, cond, List, [], ◌∷◌, ◌++◌, length, get_or, map, ap, ◌∙◌, refl, sym, arith, Option, Some, None, true, false, Bool}
-use Rattle.std.specs.Prelude.{slice_set, slice_index_or, unwrap_or, if◌then◌else◌, option_map, ◌||◌, is_some, nat_lt}
-use Rattle.std.specs.List.{sum_by, filter}
+use Rattle.std.proofs.Common.{inl, inr, ◌≡◌, ℕ, suc, ◌+◌, ◌-◌, List, [], ◌∷◌, ◌++◌, length, map, ap, ◌∙◌, refl, sym, arith, Option, Some, None, true, false}
+use Rattle.std.specs.Prelude.{slice_set, unwrap_or, if◌then◌else◌, option_map, ◌||◌, nat_lt}
+use Rattle.std.specs.List.{sum_by}
 use Rattle.std.proofs.Math.ListN.{get_or-map}
 use Rattle.std.proofs.lemmas.List.{map-set, map-append}
 use Rattle.std.proofs.lemmas.List.Sums.{sum_by-cons}
 use Rattle.std.proofs.lemmas.Bool.{cases_lt, cases_eq}
 use Rattle.std.proofs.lemmas.Bool.Decides.{nat_tests}
-use Rattle.std.proofs.lemmas.Grind.{common_steps}
 use Rattle.iol_core.specs.Text.{Text}
-use Rattle.iol_core.specs.Numbered.{lookup, without, numbered_or, with_numbered, in_place, lowest, placed, taken, is_numbered}
+use Rattle.iol_core.specs.Numbered.{lookup, numbered_or, with_numbered, in_place, lowest, placed, taken, is_numbered}
 use Rattle.iol_core.specs.State as machine
 use Rattle.iol_core.specs.State.{State, Domain, new_domain, no_domain}
 use Rattle.iol_core.specs.Calls.Aggregates as aggs

@@ -1,9 +1,8 @@
 -- Effects on pipes and their ends.
-use Rattle.std.proofs.Common.{◌≡◌, ◌≢◌, ℕ, zero, suc, ◌+◌, ◌-◌, ◌<◌, ◌≤◌, ◌==◌, List, [], ◌∷◌, ◌++◌, length, ap, ◌∙◌, refl, sym, subst, arith, Option, Some, None, true, false, inl, inr}
+use Rattle.std.proofs.Common.{◌≡◌, ◌≢◌, ℕ, ◌+◌, ◌≤◌, ◌==◌, List, [], ap, ◌∙◌, refl, sym, subst, arith, Option, Some, None, true, false}
 use Rattle.std.specs.Prelude.{slice_set, nat_lt, not, ◌&&◌, if◌then◌else◌, Bool}
 use Rattle.std.proofs.lemmas.Bool.Decides.{nat_tests}
 use Rattle.std.proofs.lemmas.Grind.{common_steps}
-use Rattle.iol_core.specs.Text.{Text}
 use Rattle.iol_core.specs.Numbered.{in_place, placed, lowest, taken}
 use Rattle.iol_core.specs.State as machine
 use Rattle.iol_core.specs.State.{State, Domain, new_pipe}
@@ -12,13 +11,13 @@ use Rattle.iol_core.specs.Calls.Descriptors.{with_read_end}
 use Rattle.iol_core.specs.declared.descriptors.Descriptor.{Descriptor}
 use Rattle.iol_core.specs.declared.descriptors.Descriptor.TheVariants as on
 use Rattle.iol_agg.specs.declared.slices.Slice.{Slice}
-use Rattle.iol_agg.specs.Texts.{text_of, AllReadable}
+use Rattle.iol_agg.specs.Texts.{text_of}
 use Rattle.iol_agg.proofs.Texts.{readable_none}
 use Rattle.iol_system.specs.Tables.{domain_in, with_domain_in, with_fds_in}
-use Rattle.iol_system.specs.Seen.{Pool, Pipe, pipe_meant, seen}
-use Rattle.iol_system.specs.Holding.{Holding, machine_of, Each, IsOpenEnd, IsPipeReadable, IsSound, queue_at}
-use Rattle.iol_system.proofs.Meant.{domain-seen, with_fds-seen, add_pipe-seen, lowest-seen, taken-seen}
-use Rattle.iol_system.proofs.Sound.{each-push, each-set, each-get, each-weaker, each-placed, sound_fds, ends_open}
+use Rattle.iol_system.specs.Seen.{Pipe, seen}
+use Rattle.iol_system.specs.Holding.{Holding, machine_of, Each, IsOpenEnd, IsPipeReadable, IsSound}
+use Rattle.iol_system.proofs.Meant.{add_pipe-seen, lowest-seen, taken-seen}
+use Rattle.iol_system.proofs.Sound.{each-set, each-get, each-weaker, each-placed, ends_open}
 use Rattle.iol_system.proofs.Ends.{ends_placed, new_reading, new_writing}
 use Rattle.iol_system.proofs.Effects.{fds_held, fds-machine, fds-sound}
 

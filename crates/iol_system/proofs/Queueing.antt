@@ -1,9 +1,8 @@
 -- Effects on queues, as the machine sees them.
-use Rattle.std.proofs.Common.{◌≡◌, ◌≢◌, ℕ, zero, suc, ◌+◌, ◌-◌, ◌<◌, ◌≤◌, ◌==◌, cond, List, [], ◌∷◌, ◌++◌, length, map, take, drop, ap, ◌∙◌, refl, sym, subst, arith, Option, Some, None, true, false, inl, inr, Bool, get_or}
-use Rattle.std.specs.Prelude.{slice_set, unwrap_or, option_map, is_none, min, option_and_then, if◌then◌else◌, take_while, find, not, nat_lt, ◌&&◌, ◌||◌}
+use Rattle.std.proofs.Common.{◌≡◌, ℕ, zero, suc, ◌+◌, ◌<◌, ◌≤◌, ◌==◌, cond, List, [], ◌∷◌, ◌++◌, length, take, drop, ap, ◌∙◌, refl, sym, subst, arith, Option, Some, None, true, false, inl, inr, Bool}
+use Rattle.std.specs.Prelude.{slice_set, unwrap_or, option_map, is_none, min, option_and_then, if◌then◌else◌, not, ◌||◌}
 use Rattle.std.specs.List.{list_any, prefix_len, slice_get}
 use Rattle.std.proofs.lemmas.Bool.Decides.{nat_tests}
-use Rattle.std.proofs.lemmas.Bool.{cases_eq, cases_lt}
 use Rattle.std.proofs.lemmas.Grind.{common_steps}
 use Rattle.iol_core.specs.Text.{Text, admitted, barred}
 use Rattle.iol_core.specs.Numbered.{in_place, numbered_or}
@@ -11,18 +10,16 @@ use Rattle.iol_core.specs.State as machine
 use Rattle.iol_core.specs.State.{State, Domain}
 use Rattle.iol_core.specs.Calls.Aggregates as aggs
 use Rattle.iol_core.specs.Calls.Reading as reading
-use Rattle.iol_core.specs.Calls.Writing as writing
-use Rattle.iol_core.specs.declared.descriptors.Descriptor.{Descriptor}
 use Rattle.iol_core.specs.declared.descriptors.Descriptor.TheVariants as on
 use Rattle.iol_arena.specs.State as arena
 use Rattle.iol_agg.specs.declared.slices.Slice.{Slice}
 use Rattle.iol_agg.specs.Places.{places, byte_len}
 use Rattle.iol_agg.specs.Texts.{text_of, AllReadable}
 use Rattle.iol_agg.proofs.Texts.{length-text_of, readable_none, readable_rest}
-use Rattle.iol_pipe.specs.Queue.{first_pool, is_one_of, is_of}
+use Rattle.iol_pipe.specs.Queue.{first_pool, is_one_of}
 use Rattle.iol_pipe.proofs.Texts.{readable_pushed, text_pushed, readable_given, text_given, text_left, first_pool-text}
-use Rattle.iol_system.specs.Tables.{domain_in, agg_in, with_agg_in}
-use Rattle.iol_system.specs.Seen.{Pool, Pipe, pool_in, no_pool, pipe_in, pipe_meant, seen}
+use Rattle.iol_system.specs.Tables.{agg_in}
+use Rattle.iol_system.specs.Seen.{Pool, Pipe, pool_in, no_pool, pipe_meant, seen}
 use Rattle.iol_system.specs.Holding.{Holding, machine_of, Each, IsOpenEnd, IsPipeReadable, IsSound, TakesFront, queue_at}
 use Rattle.iol_system.proofs.Meant.{domain-seen, pipe_at-seen, with_pipe-seen, with_agg-seen, text-seen, aggregate-seen, pool-seen}
 use Rattle.iol_system.proofs.Sound.{each-get, each-set, each-weaker, agg_readable, sound_agg}

@@ -5,9 +5,8 @@ use Rattle.iol_core.specs.State.{State, new_state, no_slots, new_domain}
 use Rattle.iol_core.specs.Run.{StepsTo, Run}
 use Rattle.iol_core.specs.declared.events.Event.{Event}
 use Rattle.iol_core.specs.declared.events.Reply.{Reply}
-use Rattle.iol_arena.specs.State as arena
 use Rattle.iol_core.specs.State.{Domain}
-use Rattle.std.specs.Prelude.{Option, Result, Ok, Err}
+use Rattle.std.specs.Prelude.{Option, Result, Err}
 use Rattle.std.proofs.Common.{ap, ◌∙◌}
 use Rattle.iol_core.specs.declared.refusals.Refusal.{Refusal}
 use Rattle.iol_core.specs.declared.refusals.Refusal.TheVariants.{NoDomain, BadFd, BadAgg, NoPool, NoFile, WrongMode, BadRange, TooLong, TooMany, Denied, PoolClosed, PoolBusy, BrokenPipe, WouldBlock, NoRoom, Fault, Memory}
@@ -16,7 +15,7 @@ use Rattle.iol_agg.specs.declared.slices.Slice.{Slice}
 use Rattle.iol_agg.specs.Texts.{text_of}
 use Rattle.iol_system.specs.Room.{IsNoRoom}
 use Rattle.iol_system.specs.Seen.{Pool, Pipe, seen}
-use Rattle.iol_system.specs.Holding.{Holding, machine_of, IsSound}
+use Rattle.iol_system.specs.Holding.{Holding, machine_of}
 
 Run-push : (old mid new : State) (es : List Event) (rs : List Reply) (e : Event) (r : Reply) → Run old es rs mid → StepsTo mid e r new → Run old (es ++ e ∷ []) (rs ++ r ∷ []) new
 Run-push old mid new [] [] e r run step = (new, subst (λ (s : State). StepsTo s e r new) run step, refl)

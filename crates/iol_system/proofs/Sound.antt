@@ -1,12 +1,11 @@
 -- What keeps a system sound, and what new buffers leave as it was.
-use Rattle.std.proofs.Common.{◌≡◌, ℕ, zero, suc, ◌+◌, ◌-◌, ◌<◌, ◌≤◌, ◌==◌, List, [], ◌∷◌, ◌++◌, length, map, ap, ◌∙◌, refl, sym, subst, arith, Option, Some, None, true, false, inl, inr, set, get_or}
-use Rattle.std.specs.Prelude.{option_map, slice_set, slice_index_or, if◌then◌else◌}
+use Rattle.std.proofs.Common.{◌≡◌, ℕ, zero, suc, ◌+◌, ◌-◌, ◌<◌, List, [], ◌∷◌, ◌++◌, length, map, ap, ◌∙◌, refl, sym, subst, arith, Option, Some, None, inl, inr, get_or}
+use Rattle.std.specs.Prelude.{option_map, slice_set}
 use Rattle.std.specs.List.{All}
 use Rattle.std.proofs.lemmas.Bool.{cases_lt, cases_eq}
 use Rattle.std.proofs.lemmas.Bool.Decides.{nat_tests}
-use Rattle.std.proofs.lemmas.Grind.{common_steps}
 use Rattle.iol_core.specs.Text.{Text}
-use Rattle.iol_core.specs.Numbered.{lookup, numbered_or, with_numbered, in_place, placed, lowest}
+use Rattle.iol_core.specs.Numbered.{lookup, numbered_or, with_numbered, placed}
 use Rattle.iol_core.specs.State as machine
 use Rattle.iol_core.specs.State.{Domain, new_domain, no_domain}
 use Rattle.iol_core.specs.declared.descriptors.Descriptor.{Descriptor}
@@ -14,10 +13,10 @@ use Rattle.iol_arena.specs.State as arena
 use Rattle.iol_arena.specs.Buffers.{Grows}
 use Rattle.iol_agg.specs.declared.slices.Slice.{Slice}
 use Rattle.iol_agg.specs.Texts.{text_of, AllReadable}
-use Rattle.iol_agg.proofs.Texts.{readable_none, readable_kept, text_kept}
+use Rattle.iol_agg.proofs.Texts.{readable_kept, text_kept}
 use Rattle.iol_system.specs.Tables.{domain_in, with_domain_in, agg_in, with_agg_in, with_fds_in, meant}
-use Rattle.iol_system.specs.Seen.{Pool, Pipe, pool_in, no_pool, pool_meant, pipe_meant, seen}
-use Rattle.iol_system.specs.Holding.{Holding, machine_of, Each, IsDomainReadable, IsPipeReadable, IsOpenEnd, IsSound, queue_at}
+use Rattle.iol_system.specs.Seen.{Pool, Pipe, pool_in, no_pool, pipe_meant, seen}
+use Rattle.iol_system.specs.Holding.{Holding, machine_of, Each, IsDomainReadable, IsPipeReadable, IsOpenEnd, IsSound}
 
 pub each-push : {A : Type 0} (P : A → Type 0) (xs : List A) (x : A) → Each P xs → P x → Each P (xs ++ x ∷ [])
 each-push P [] x e p = (p, tt)

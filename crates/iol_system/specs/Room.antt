@@ -1,5 +1,5 @@
 -- When there is room, exactly. A page is pinned once bytes are placed on it: no page is used again yet.
-use Rattle.std.specs.Prelude.{◌≡◌, ℕ, ◌+◌, Bool, true, not, nat_le, List, [], length, flat_map}
+use Rattle.std.specs.Prelude.{ℕ, ◌+◌, Bool, true, not, nat_le, List, length, flat_map}
 use Rattle.std.specs.List.{filter}
 use Rattle.iol_core.specs.Calls.Aggregates.{default_pool}
 use Rattle.iol_core.specs.declared.events.Call.{Call}

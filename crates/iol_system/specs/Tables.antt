@@ -1,7 +1,7 @@
 -- The table of domains, whatever an aggregate is.
-use Rattle.std.specs.Prelude.{ℕ, ◌+◌, ◌||◌, Bool, nat_lt, List, [], ◌∷◌, ◌++◌, length, Option, map, sum_by, slice_set}
+use Rattle.std.specs.Prelude.{ℕ, ◌+◌, ◌||◌, Bool, nat_lt, List, [], ◌∷◌, ◌++◌, length, Option, map, sum_by}
 use Rattle.iol_core.specs.State.{Domain, no_domain}
-use Rattle.iol_core.specs.Numbered.{numbered_or, with_numbered, lookup, in_place, lowest, placed, taken}
+use Rattle.iol_core.specs.Numbered.{numbered_or, with_numbered, lookup}
 use Rattle.iol_core.specs.declared.descriptors.Descriptor.{Descriptor}
 use Rattle.iol_core.specs.declared.limits.TheConstants.{MAX_AGGREGATES, LAST_AGGREGATE}
 

@@ -14,5 +14,8 @@ mod queues;
 mod step;
 pub mod system;
 mod table;
+
+pub use iol_core::events::{Call, Event, Reply};
+
 #[cfg(test)]
 mod tests;

@@ -1,4 +1,4 @@
-use Rattle.std.proofs.Common.{◌≡◌, ◌<◌, ◌∙◌, [], ◌∷◌, sym, ap, arith, length, take, length-append}
+use Rattle.std.proofs.Common.{◌∙◌, [], ◌∷◌, sym, ap, arith, length, take, length-append}
 use Rattle.iol_system.proofs.Distinct.{step_named, step_new, take_set, too_many}
 use Rattle.iol_system.proofs.pools.note_distinct.Goals as goal
 

@@ -1,4 +1,3 @@
-use Rattle.std.proofs.Common.{ℕ}
 use Rattle.iol_system.proofs.Runs.{not_roomy}
 use Rattle.iol_system.proofs.step.make_call.Goals as goal
 

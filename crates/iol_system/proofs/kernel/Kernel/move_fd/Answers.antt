@@ -1,4 +1,4 @@
-use Rattle.std.proofs.Common.{◌≡◌, ◌≢◌, ◌∙◌, sym, ap, arith}
+use Rattle.std.proofs.Common.{◌≢◌, ◌∙◌, sym, ap, arith}
 use Rattle.iol_system.proofs.Effects.{live_held}
 use Rattle.iol_system.proofs.Pipes.{any_end, end_held, descriptor_held, not_none, few_to, other_live, other_fds, moved_within-number, moved_within-machine, moved_within-sound, moved_across-number, moved_across-machine, moved_across-sound}
 use Rattle.std.specs.Prelude.{slice_index_or, List, Option, None}

@@ -1,6 +1,5 @@
-use Rattle.std.proofs.Common.{◌∙◌, sym, ap, arith, subst, ◌<◌}
-use Rattle.std.specs.Prelude.{IfOk, OnOk, Result, Ok, Err}
-use Rattle.iol_system.proofs.Effects.{live_held, on_ok}
+use Rattle.std.proofs.Common.{◌∙◌, sym, arith, subst, ◌<◌}
+use Rattle.iol_system.proofs.Effects.{live_held}
 use Rattle.iol_system.proofs.Pipes.{ends-machine, piped-machine, piped-sound, few_open_held, taken_held}
 use Rattle.iol_system.specs.Kernel.{holding}
 use Rattle.iol_system.proofs.kernel.Kernel.new_pipe.Goals as goal

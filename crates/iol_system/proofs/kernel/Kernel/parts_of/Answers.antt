@@ -1,5 +1,5 @@
-use Rattle.std.proofs.Common.{◌≡◌, ◌∙◌, sym, ap, List, true, false}
-use Rattle.iol_core.specs.Text.{Text, bytes_of}
+use Rattle.std.proofs.Common.{◌∙◌, sym, ap, List}
+use Rattle.iol_core.specs.Text.{bytes_of}
 use Rattle.iol_core.specs.State.{Domain}
 use Rattle.iol_agg.specs.declared.slices.Slice.{Slice}
 use Rattle.iol_system.specs.Tables.{agg_in, domain_in}

@@ -1,4 +1,4 @@
-use Rattle.std.proofs.Common.{◌≡◌, ◌∙◌, ℕ, ◌<◌, ◌≤◌, List, length, sym, ap, subst, false}
+use Rattle.std.proofs.Common.{◌≡◌, ◌∙◌, ℕ, ◌<◌, ◌≤◌, List, length, sym, ap, subst}
 use Rattle.std.specs.List.{All}
 use Rattle.std.specs.Prelude.{Err}
 use Rattle.iol_arena.specs.State.{chunk_count, pages_for}
