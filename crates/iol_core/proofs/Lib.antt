@@ -1,1 +1,6 @@
 pub mod Examples
+pub mod Lookups
+pub mod Passing
+pub mod Kept
+pub mod Access
+pub mod Values

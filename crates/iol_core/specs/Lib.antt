@@ -7,3 +7,5 @@ pub mod State
 pub mod Meaning
 pub mod Calls
 pub mod Run
+pub mod Access
+pub mod Values

@@ -3,8 +3,8 @@ use Rattle.std.specs.Prelude.{◌≡◌, ℕ, List, [], ◌∷◌, Result, Ok, E
 use Rattle.iol_core.specs.State.{State}
 use Rattle.iol_core.specs.Meaning.{Meaning, Step}
 use Rattle.iol_core.specs.Calls.Domains.{domain_new}
-use Rattle.iol_core.specs.Calls.Pools.{pool_create, set_pool}
-use Rattle.iol_core.specs.Calls.Aggregates.{agg_make, show}
+use Rattle.iol_core.specs.Calls.Pools.{pool_create, pool_close, set_pool}
+use Rattle.iol_core.specs.Calls.Aggregates.{agg_make, agg_drop, show}
 use Rattle.iol_core.specs.Calls.Descriptors.{pipe, give_fd}
 use Rattle.iol_core.specs.Calls.Reading.{iol_read}
 use Rattle.iol_core.specs.Calls.Writing.{iol_write}
@@ -27,8 +27,10 @@ done u = reply.Done
 abbrev pub called : State → (by : ℕ) → Call → Meaning Reply
 called s by call.DomainNew = replied reply.Domain (domain_new s by)
 called s by (call.PoolCreate chunks list) = replied reply.Pool (pool_create s by chunks list)
+called s by (call.PoolClose p) = replied done (pool_close s by p)
 called s by (call.SetPool p) = replied done (set_pool s by p)
 called s by (call.AggMake bytes) = replied reply.Agg (agg_make s by bytes)
+called s by (call.AggDrop a) = replied done (agg_drop s by a)
 called s by (call.Show a) = replied reply.Bytes (show s by a)
 called s by call.Pipe = replied (λ fds. reply.Fds fds.0 fds.1) (pipe s by)
 called s by (call.GiveFd fd to) = replied reply.Fd (give_fd s by fd to)

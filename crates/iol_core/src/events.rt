@@ -8,8 +8,10 @@ use crate::refusals::Refusal;
 pub enum Call {
     DomainNew,
     PoolCreate { chunks: u32, domains: Domains },
+    PoolClose { pool: PoolId },
     SetPool { pool: PoolId },
     AggMake { bytes: Bytes },
+    AggDrop { agg: AggId },
     Show { agg: AggId },
     Pipe,
     GiveFd { fd: Fd, to: DomainId },

@@ -12,8 +12,8 @@ pub const MAX_CHUNKS: u32 = 256;
 /// The domains ever made, the first included.
 pub const MAX_DOMAINS: usize = 4096;
 
-/// The pools ever made. One, until buffers are counted and chunks come back; then 1,024.
-pub const MAX_POOLS: usize = 1;
+/// The pools ever made.
+pub const MAX_POOLS: usize = 1024;
 
 /// The domains that a pool's list names.
 pub const MAX_LISTED: usize = 16;

@@ -1,4 +1,4 @@
--- Two whole runs: "hello" through a pipe, and a reader that the pool does not name.
+-- Whole runs: "hello" through a pipe, a reader that the pool does not name, and a pool that is closed.
 use Rattle.std.proofs.Common.{◌≡◌, List, [], ◌∷◌, refl}
 use Rattle.std.specs.Prelude.{codes, is_some, unwrap_or, option_map, if◌then◌else◌}
 use Rattle.iol_core.specs.State.{State, new_state, no_slots, domain, pool, file, content, pipe_at, conn_at, with_domain, with_pipe, with_conn, with_content}
@@ -79,3 +79,36 @@ reader_not_named :
     reply.Bytes (codes "hello") ∷ [])
 unfolding domain pool file content pipe_at conn_at with_domain with_pipe with_conn with_content
 reader_not_named = refl
+
+-- its bytes stay readable until the aggregate is given up, whose number is not used again
+closed_pool_stays_readable :
+    replies (new_state no_slots) (
+    event.Call 1 (call.PoolCreate 1 (1 ∷ [])) ∷
+    event.Call 1 (call.SetPool 1) ∷
+    event.Call 1 (call.AggMake (codes "hello")) ∷
+    event.Call 1 (call.PoolClose 1) ∷
+    event.Call 1 (call.PoolClose 1) ∷
+    event.Call 1 (call.AggMake (codes "more")) ∷
+    event.Call 1 (call.Show 1) ∷
+    event.Call 1 (call.AggDrop 1) ∷
+    event.Call 1 (call.Show 1) ∷
+    event.Call 1 (call.AggDrop 1) ∷
+    event.Call 1 (call.PoolCreate 1 (1 ∷ [])) ∷
+    event.Call 1 (call.SetPool 2) ∷
+    event.Call 1 (call.AggMake (codes "more")) ∷ [])
+    ≡ (
+    reply.Pool 1 ∷
+    reply.Done ∷
+    reply.Agg 1 ∷
+    reply.Done ∷
+    reply.Refused (refusal.PoolClosed 1) ∷
+    reply.Refused (refusal.PoolClosed 1) ∷
+    reply.Bytes (codes "hello") ∷
+    reply.Done ∷
+    reply.Refused refusal.BadAgg ∷
+    reply.Refused refusal.BadAgg ∷
+    reply.Pool 2 ∷
+    reply.Done ∷
+    reply.Agg 2 ∷ [])
+unfolding domain pool file content pipe_at conn_at with_domain with_pipe with_conn with_content
+closed_pool_stays_readable = refl
