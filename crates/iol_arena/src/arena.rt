@@ -15,10 +15,11 @@ use std::alloc::{AllocError, Global};
 use std::marker::Model;
 
 mod copying;
-mod fill;
+mod counting;
 mod giving;
 mod runs;
 mod search;
+mod writing;
 
 /// All pages, and the buffers on them.
 #[derive(Drop)]

@@ -15,12 +15,15 @@ fn round<R: Abort>(rt: &R, alloc: Global, arena: &mut Arena, set: &ChunkSet)
     requires { All (λ c. c < chunk_count arena.old) set.now }
     ensures { chunk_count arena.new ≡ chunk_count arena.old }
 {
-    let bufs = arena.fill(alloc, set, b"hello").expect(rt, "room");
+    let mut filling = arena.begin(alloc, set, 5).expect(rt, "room");
+    filling.part_mut(0)[0] = 7;
+    let bufs = filling.publish(5);
     let list = bufs.as_slice();
     assert!(rt; list.len() > 0);
     let buf = list[0];
+    assert_eq!(rt; arena.buffer_count(), 1);
     assert_eq!(rt; arena.len(buf), 5);
-    assert!(rt; arena.bytes(buf, 0, 5) == b"hello".as_slice());
+    assert!(rt; arena.bytes(buf, 0, 5) == [7, 0, 0, 0, 0].as_slice());
     arena.free(buf);
 }
 
@@ -44,7 +47,10 @@ fn ample(rt: HostRuntime) -> Result<(), Fail> {
         sums: 1,
     };
     let mut arena = Arena::new(alloc, config).expect(&rt, "memory");
-    assert!(rt; arena.take_chunk().is_some());
+    let chunk = arena.take_chunk().expect(&rt, "a chunk");
+    assert_eq!(rt; arena.free_in(chunk), 16);
+    assert_eq!(rt; arena.retired(chunk), 0);
+    assert!(rt; arena.is_unused(chunk));
     let set = arena.take_chunks(alloc, 2).expect(&rt, "chunks");
     for _ in 0..100_000 {
         round(&rt, alloc, &mut arena, &set);
