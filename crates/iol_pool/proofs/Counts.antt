@@ -1,0 +1,34 @@
+-- Pages of chunks, counted.
+use Rattle.std.proofs.Common.{◌≡◌, ℕ, suc, ◌+◌, ◌-◌, ◌*◌, ◌<◌, ◌≤◌, Bool, List, [], ◌∷◌, ◌++◌, length, take, get_or, flat_map, sym, ap, ◌∙◌, arith, inl, inr, length-append}
+use Rattle.std.specs.List.{All, filter, range_with_len}
+use Rattle.std.proofs.lemmas.List.{take_more, append-nil}
+use Rattle.std.proofs.lemmas.List.Elements.{filter-append}
+use Rattle.std.proofs.lemmas.List.FromFn.{length-range_with_len}
+use Rattle.std.proofs.lemmas.Grind.{flat_map-append}
+use Rattle.iol_arena.specs.Chunks.{IsRisingFrom, chunk_pages}
+use Rattle.iol_arena.proofs.Good.{bool_cases}
+
+-- those of the first chunks, and of one chunk more
+pub pages_more : (f : ℕ → Bool) (cs : List ℕ) (i c : ℕ) → i < length cs → c ≡ get_or cs i c → length (filter f (flat_map chunk_pages (take (i + 1) cs))) ≡ length (filter f (flat_map chunk_pages (take i cs))) + length (filter f (flat_map chunk_pages (c ∷ [])))
+pages_more f cs i c h is =
+    ap (λ l. length (filter f (flat_map chunk_pages l))) (take_more cs i c h ∙ ap (λ x. take i cs ++ x ∷ []) (sym is))
+    ∙ ap (λ l. length (filter f l)) (flat_map-append chunk_pages (take i cs) (c ∷ []))
+    ∙ ap length (filter-append f (flat_map chunk_pages (take i cs)) (flat_map chunk_pages (c ∷ [])))
+    ∙ length-append (filter f (flat_map chunk_pages (take i cs))) (filter f (flat_map chunk_pages (c ∷ [])))
+
+filter_few : (f : ℕ → Bool) (xs : List ℕ) → length (filter f xs) ≤ length xs
+filter_few f [] = omega arith
+filter_few f (x ∷ xs) = let r = filter_few f xs in elim (bool_cases (f x)) [ inl e ↦ rw e (omega (arith, r)) | inr e ↦ rw e (omega (arith, r)) ]
+
+-- a chunk has no more than sixteen
+pub pages_few : (f : ℕ → Bool) (c : ℕ) → length (filter f (flat_map chunk_pages (c ∷ []))) ≤ 16
+unfolding chunk_pages
+pages_few f c = omega (arith, filter_few f (flat_map chunk_pages (c ∷ [])), ap length (append-nil (range_with_len (c * 16) 16)), length-range_with_len (c * 16) 16)
+
+-- rising numbers below n are at most so many
+pub rising_few : (low n : ℕ) (xs : List ℕ) → IsRisingFrom low xs → All (λ c. c < n) xs → length xs ≤ n - low
+rising_few low n [] rising below = omega arith
+rising_few low n (x ∷ xs) rising below =
+    let r = rising_few (x + 1) n xs rising.1 (λ k d h. below (suc k) d (omega arith)) in
+    let b : x < n = below 0 0 (omega arith) in
+    omega (arith, rising.0, r, b)

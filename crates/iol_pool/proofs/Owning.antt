@@ -1,0 +1,308 @@
+-- Pools by number, and whose each chunk is.
+use Rattle.std.proofs.Common.{◌≡◌, ◌⊎◌, inl, inr, ℕ, zero, suc, ◌+◌, ◌-◌, ◌<◌, ◌≤◌, Bool, true, false, not, List, [], ◌∷◌, ◌++◌, length, get_or, set, map, refl, sym, ap, ◌∙◌, subst, arith, length-set, length-append}
+use Rattle.std.specs.Prelude.{nat_lt, nat_le, ◌&&◌}
+use Rattle.std.specs.List.{All, Contains, filter, range_with_len}
+use Rattle.std.proofs.Math.Seq.{get_or-append_seam, map-set_same}
+use Rattle.std.proofs.lemmas.List.{get_or-set_other, get_or-set_same, get_or_append_left, get_or_past}
+use Rattle.std.proofs.lemmas.List.Elements.{Contains-get_or}
+use Rattle.std.proofs.lemmas.Bool.{cases_eq, cases_lt}
+use Rattle.std.proofs.lemmas.Bool.Decides.{nat_tests}
+use Rattle.iol_core.specs.Numbered.{is_numbered, with_numbered}
+use Rattle.iol_core.specs.declared.numbers.BufId.{BufId}
+use Rattle.iol_arena.specs.State.{State, chunk_count, generation_at}
+use Rattle.iol_arena.specs.Buffers.{IsLive, Keeps, bytes_of}
+use Rattle.iol_arena.specs.Chunks.{TakesChunks, all_taken, free_chunks, is_taken, is_untaken}
+use Rattle.iol_arena.proofs.Good.{bool_cases}
+use Rattle.iol_arena.proofs.Giving.{taken_in, taken_stays}
+use Rattle.iol_arena.proofs.Members.{In, in_contains, contains_in, in_take}
+use Rattle.iol_pool.specs.Pools.{Pool, no_pool, pool_in, with_closed, with_emptied, all_given, with_given, goes_back, settled, settled_arena}
+use Rattle.iol_pool.specs.Owned.{AreOwned}
+
+-- Pools by number.
+
+pub numbered : (ps : List Pool) (p : ℕ) → is_numbered ps p ≡ true → (0 < p) × (p ≤ length ps)
+numbered ps p h = grind (arith, nat_tests, h)
+
+pub pool_in-other : (ps : List Pool) (p q : ℕ) (x : Pool) → (q ≡ p → ⊥) → pool_in (with_numbered ps p x) q ≡ pool_in ps q
+unfolding pool_in
+pool_in-other ps p q x other = elim (cases_eq p 0) [
+  | inl k ↦ grind (arith, nat_tests, k)
+  | inr k ↦ elim (cases_eq q 0) [
+    | inl z ↦ grind (arith, nat_tests, z)
+    | inr z ↦ (let e = get_or-set_other ps (p - 1) (q - 1) x no_pool (λ e. other (omega arith)) in grind (arith, nat_tests, k, z, e))
+  ]
+]
+
+pub pool_in-there : (ps : List Pool) (p : ℕ) (x : Pool) → is_numbered ps p ≡ true → pool_in (with_numbered ps p x) p ≡ x
+unfolding pool_in
+pool_in-there ps p x there =
+    let n = numbered ps p there in
+    let e = get_or-set_same ps (p - 1) x no_pool (omega (arith, n.0, n.1)) in
+    grind (arith, nat_tests, n.0, e)
+
+length-with_numbered : (ps : List Pool) (p : ℕ) (x : Pool) → length (with_numbered ps p x) ≡ length ps
+length-with_numbered ps p x = let e = length-set ps (p - 1) x in grind (arith, nat_tests, e)
+
+pub pool_in-pushed : (ps : List Pool) (x : Pool) → pool_in (ps ++ x ∷ []) (length ps + 1) ≡ x
+unfolding pool_in
+pool_in-pushed ps x = let e = get_or-append_seam ps x [] no_pool in grind (arith, nat_tests, e)
+
+pub pool_in-before : (ps : List Pool) (x : Pool) (q : ℕ) → (q ≡ length ps + 1 → ⊥) → pool_in (ps ++ x ∷ []) q ≡ pool_in ps q
+unfolding pool_in
+pool_in-before ps x q other = elim (cases_eq q 0) [
+  | inl z ↦ grind (arith, nat_tests, z)
+  | inr z ↦ elim (cases_lt (q - 1) (length ps)) [
+    | inl k ↦ (let e = get_or_append_left ps (x ∷ []) no_pool (q - 1) k in grind (arith, nat_tests, z, e))
+    | inr k ↦ (let l : length ps < q - 1 = omega (arith, z, k, other) in
+        let a = get_or_past ps (q - 1) no_pool k in
+        let b = get_or_past (ps ++ x ∷ []) (q - 1) no_pool (omega (arith, l, length-append ps (x ∷ []))) in
+        grind (arith, nat_tests, z, a, b))
+  ]
+]
+
+-- a closed pool has its chunks
+pub chunks-closed : (ps : List Pool) (p q : ℕ) → is_numbered ps p ≡ true → (pool_in (with_closed ps p) q).chunks ≡ (pool_in ps q).chunks
+unfolding with_closed
+chunks-closed ps p q there = elim (cases_eq q p) [
+  | inl e ↦ subst (λ q. (pool_in (with_numbered ps p (record (pool_in ps p) { closed = true })) q).chunks ≡ (pool_in ps q).chunks) (sym e) (ap (λ (x : Pool). x.chunks) (pool_in-there ps p (record (pool_in ps p) { closed = true }) there))
+  | inr n ↦ ap (λ (x : Pool). x.chunks) (pool_in-other ps p q (record (pool_in ps p) { closed = true }) n)
+]
+
+-- the chunks of another pool, when a pool is without its own
+pub chunks-emptied : (ps : List Pool) (p q : ℕ) → (q ≡ p → ⊥) → (pool_in (with_emptied ps p) q).chunks ≡ (pool_in ps q).chunks
+unfolding with_emptied
+chunks-emptied ps p q n = ap (λ (x : Pool). x.chunks) (pool_in-other ps p q (record (pool_in ps p) { chunks = [] }) n)
+
+emptied : (ps : List Pool) (p q c : ℕ) → is_numbered ps p ≡ true → Contains (pool_in (with_emptied ps p) q).chunks c → (q ≡ p → ⊥) × Contains (pool_in ps q).chunks c
+unfolding with_emptied
+emptied ps p q c there h = elim (cases_eq q p) [
+  | inl e ↦ absurd (in_contains [] c (subst (λ (x : Pool). Contains x.chunks c) (pool_in-there ps p (record (pool_in ps p) { chunks = [] }) there) (subst (λ q. Contains (pool_in (with_numbered ps p (record (pool_in ps p) { chunks = [] })) q).chunks c) e h)))
+  | inr n ↦ (n, subst (λ (x : Pool). Contains x.chunks c) (pool_in-other ps p q (record (pool_in ps p) { chunks = [] }) n) h)
+]
+
+pub length-all_given : (taken : List Bool) (cs : List ℕ) → length (all_given taken cs) ≡ length taken
+length-all_given taken [] = refl
+length-all_given taken (c ∷ cs) = length-all_given (set taken c false) cs ∙ length-set taken c false
+
+-- a number of no pool
+set_past : (ps : List Pool) (i : ℕ) (x : Pool) → length ps ≤ i → set ps i x ≡ ps
+set_past [] i x h = refl
+set_past (y ∷ ps) zero x h = absurd (omega arith)
+set_past (y ∷ ps) (suc i) x h = ap (λ t. y ∷ t) (set_past ps i x (omega arith))
+
+with_numbered-nowhere : (ps : List Pool) (p : ℕ) (x : Pool) → is_numbered ps p ≡ false → with_numbered ps p x ≡ ps
+with_numbered-nowhere ps p x out = elim (cases_eq p 0) [
+  | inl z ↦ grind (arith, nat_tests, z)
+  | inr z ↦ (let far : length ps ≤ p - 1 = grind (arith, nat_tests, z, out) in let e = set_past ps (p - 1) x far in grind (arith, nat_tests, z, e))
+]
+
+pub pool_in-nowhere : (ps : List Pool) (p : ℕ) → is_numbered ps p ≡ false → pool_in ps p ≡ no_pool
+unfolding pool_in
+pool_in-nowhere ps p out = elim (cases_eq p 0) [
+  | inl z ↦ grind (arith, nat_tests, z)
+  | inr z ↦ (let far : length ps ≤ p - 1 = grind (arith, nat_tests, z, out) in let e = get_or_past ps (p - 1) no_pool far in grind (arith, nat_tests, z, e))
+]
+
+-- what becomes of a pool that is settled
+
+pub settled-no : (s : State) (ps : List Pool) (p : ℕ) → goes_back s ps p ≡ false → settled s ps p ≡ ps
+unfolding settled
+settled-no s ps p out = rw out refl
+
+pub settled-yes : (s : State) (ps : List Pool) (p : ℕ) → goes_back s ps p ≡ true → settled s ps p ≡ with_emptied ps p
+unfolding settled
+settled-yes s ps p back = rw back refl
+
+pub settled_arena-no : (s : State) (ps : List Pool) (p : ℕ) → goes_back s ps p ≡ false → settled_arena s ps p ≡ s
+unfolding settled_arena
+settled_arena-no s ps p out = rw out refl
+
+pub settled_arena-yes : (s : State) (ps : List Pool) (p : ℕ) → goes_back s ps p ≡ true → settled_arena s ps p ≡ with_given s (pool_in ps p).chunks
+unfolding settled_arena
+settled_arena-yes s ps p back = rw back refl
+
+pub settled-nowhere : (s : State) (ps : List Pool) (p : ℕ) → is_numbered ps p ≡ false → settled s ps p ≡ ps
+unfolding with_emptied
+settled-nowhere s ps p out = elim (bool_cases (goes_back s ps p)) [
+  | inl e ↦ settled-yes s ps p e ∙ with_numbered-nowhere ps p (record (pool_in ps p) { chunks = [] }) out
+  | inr e ↦ settled-no s ps p e
+]
+
+pub settled_arena-nowhere : (s : State) (ps : List Pool) (p : ℕ) → is_numbered ps p ≡ false → settled_arena s ps p ≡ s
+settled_arena-nowhere s ps p out = elim (bool_cases (goes_back s ps p)) [
+  | inl e ↦ settled_arena-yes s ps p e ∙ ap (λ (x : Pool). with_given s x.chunks) (pool_in-nowhere ps p out)
+  | inr e ↦ settled_arena-no s ps p e
+]
+
+-- settling a pool leaves the others as they were
+pub pool_in-settled : (s : State) (ps : List Pool) (p q : ℕ) → (q ≡ p → ⊥) → pool_in (settled s ps p) q ≡ pool_in ps q
+unfolding with_emptied
+pool_in-settled s ps p q other = elim (bool_cases (goes_back s ps p)) [
+  | inl e ↦ ap (λ (l : List Pool). pool_in l q) (settled-yes s ps p e) ∙ pool_in-other ps p q (record (pool_in ps p) { chunks = [] }) other
+  | inr e ↦ ap (λ (l : List Pool). pool_in l q) (settled-no s ps p e)
+]
+
+-- settling and closing change nothing but the chunks, and whether the pool is closed
+pub map-emptied : {A : Type 0} (f : Pool → A) → ((x : Pool) (cs : List ℕ) → f (record x { chunks = cs }) ≡ f x) → (ps : List Pool) (p : ℕ) → map f (with_emptied ps p) ≡ map f ps
+unfolding with_emptied pool_in
+map-emptied f same ps p = elim (cases_eq p 0) [
+  | inl z ↦ ap (λ (l : List Pool). map f l) (grind (arith, nat_tests, z))
+  | inr z ↦
+      let x : pool_in ps p ≡ get_or ps (p - 1) no_pool = grind (arith, nat_tests, z) in
+      let is : with_numbered ps p (record (pool_in ps p) { chunks = [] }) ≡ set ps (p - 1) (record (pool_in ps p) { chunks = [] }) = grind (arith, nat_tests, z) in
+      ap (λ (l : List Pool). map f l) is ∙ map-set_same f ps (p - 1) (record (pool_in ps p) { chunks = [] }) no_pool (same (pool_in ps p) [] ∙ ap f x)
+]
+
+pub map-settled : {A : Type 0} (f : Pool → A) → ((x : Pool) (cs : List ℕ) → f (record x { chunks = cs }) ≡ f x) → (s : State) (ps : List Pool) (p : ℕ) → map f (settled s ps p) ≡ map f ps
+map-settled f same s ps p = elim (bool_cases (goes_back s ps p)) [
+  | inl e ↦ ap (λ (l : List Pool). map f l) (settled-yes s ps p e) ∙ map-emptied f same ps p
+  | inr e ↦ ap (λ (l : List Pool). map f l) (settled-no s ps p e)
+]
+
+pub length-settled : (s : State) (ps : List Pool) (p : ℕ) → length (settled s ps p) ≡ length ps
+unfolding with_emptied
+length-settled s ps p = elim (bool_cases (goes_back s ps p)) [
+  | inl e ↦ ap (λ (l : List Pool). length l) (settled-yes s ps p e) ∙ length-with_numbered ps p (record (pool_in ps p) { chunks = [] })
+  | inr e ↦ ap (λ (l : List Pool). length l) (settled-no s ps p e)
+]
+
+pub length-closed : (ps : List Pool) (p : ℕ) → length (with_closed ps p) ≡ length ps
+unfolding with_closed
+length-closed ps p = length-with_numbered ps p (record (pool_in ps p) { closed = true })
+
+pub is_numbered-settled : (s : State) (ps : List Pool) (p q : ℕ) → is_numbered (settled s ps p) q ≡ is_numbered ps q
+is_numbered-settled s ps p q = ap (λ n. nat_lt 0 q && nat_le q n) (length-settled s ps p)
+
+pub is_numbered-closed : (ps : List Pool) (p q : ℕ) → is_numbered (with_closed ps p) q ≡ is_numbered ps q
+is_numbered-closed ps p q = ap (λ n. nat_lt 0 q && nat_le q n) (length-closed ps p)
+
+-- settling moves no byte, and changes no page
+pub settled_arena-same : (s : State) (ps : List Pool) (p : ℕ) → settled_arena s ps p ≡ record { memory = s.memory; entries = s.entries; limit = s.limit; taken = (settled_arena s ps p).taken }
+settled_arena-same s ps p = elim (bool_cases (goes_back s ps p)) [
+  | inl e ↦ subst (λ (t : State). t ≡ record { memory = s.memory; entries = s.entries; limit = s.limit; taken = t.taken }) (sym (settled_arena-yes s ps p e)) refl
+  | inr e ↦ subst (λ (t : State). t ≡ record { memory = s.memory; entries = s.entries; limit = s.limit; taken = t.taken }) (sym (settled_arena-no s ps p e)) refl
+]
+
+live_kept : (s : State) (taken : List Bool) (b : BufId) → IsLive s b → IsLive (record { memory = s.memory; entries = s.entries; limit = s.limit; taken = taken }) b
+live_kept s taken b h = record { head = h.head; generation = h.generation }
+
+live_was : (s : State) (taken : List Bool) (b : BufId) → IsLive (record { memory = s.memory; entries = s.entries; limit = s.limit; taken = taken }) b → IsLive s b
+live_was s taken b h = record { head = h.head; generation = h.generation }
+
+pub live-settled : (s : State) (ps : List Pool) (p : ℕ) (b : BufId) → IsLive s b → IsLive (settled_arena s ps p) b
+live-settled s ps p b h = subst (λ (t : State). IsLive t b) (sym (settled_arena-same s ps p)) (live_kept s (settled_arena s ps p).taken b h)
+
+pub live_before-settled : (s : State) (ps : List Pool) (p : ℕ) (b : BufId) → IsLive (settled_arena s ps p) b → IsLive s b
+live_before-settled s ps p b h = live_was s (settled_arena s ps p).taken b (subst (λ (t : State). IsLive t b) (settled_arena-same s ps p) h)
+
+pub bytes_of-settled : (s : State) (ps : List Pool) (p : ℕ) (b : BufId) → bytes_of (settled_arena s ps p) b ≡ bytes_of s b
+bytes_of-settled s ps p b = ap (λ (t : State). bytes_of t b) (settled_arena-same s ps p)
+
+pub keeps-settled : (s : State) (ps : List Pool) (p : ℕ) → Keeps s (settled_arena s ps p)
+keeps-settled s ps p = record {
+  rising = λ q. (let e : generation_at (settled_arena s ps p) q ≡ generation_at s q = ap (λ (t : State). generation_at t q) (settled_arena-same s ps p) in omega (arith, e));
+  kept = λ b h. inl (live_before-settled s ps p b h, bytes_of-settled s ps p b);
+}
+
+pub chunk_count-settled : (s : State) (ps : List Pool) (p : ℕ) → chunk_count (settled_arena s ps p) ≡ chunk_count s
+chunk_count-settled s ps p = elim (bool_cases (goes_back s ps p)) [
+  | inl e ↦ ap (λ (t : State). length t.taken) (settled_arena-yes s ps p e) ∙ length-all_given s.taken (pool_in ps p).chunks
+  | inr e ↦ ap (λ (t : State). length t.taken) (settled_arena-no s ps p e)
+]
+
+-- Whose each chunk is.
+
+pool_in-none : (p : ℕ) → pool_in (let l : List Pool = [] in l) p ≡ no_pool
+unfolding pool_in
+pool_in-none p = elim (cases_eq p 0) [ inl z ↦ grind (arith, nat_tests, z) | inr z ↦ grind (arith, nat_tests, z) ]
+
+none_owned : (p c : ℕ) → Contains (pool_in (let l : List Pool = [] in l) p).chunks c → ⊥
+none_owned p c h = in_contains [] c (subst (λ (x : Pool). Contains x.chunks c) (pool_in-none p) h)
+
+pub owned_none : (s : State) → AreOwned s []
+owned_none s = record {
+  within = λ p c h. absurd (none_owned p c h);
+  taken = λ p c h. absurd (none_owned p c h);
+  single = λ p q c h k. absurd (none_owned p c h);
+}
+
+-- in an arena that gave out the same chunks
+pub owned_stays : (s t : State) (ps : List Pool) → t.taken ≡ s.taken → AreOwned s ps → AreOwned t ps
+owned_stays s t ps same o = record {
+  within = λ p c h. subst (λ (l : List Bool). c < length l) (sym same) (o.within p c h);
+  taken = λ p c h. subst (λ (l : List Bool). get_or l c true ≡ true) (sym same) (o.taken p c h);
+  single = o.single;
+}
+
+-- by pools with the same chunks
+pub owned_same : (s : State) (ps qs : List Pool) → ((q : ℕ) → (pool_in qs q).chunks ≡ (pool_in ps q).chunks) → AreOwned s ps → AreOwned s qs
+owned_same s ps qs same o = record {
+  within = λ p c h. o.within p c (subst (λ l. Contains l c) (same p) h);
+  taken = λ p c h. o.taken p c (subst (λ l. Contains l c) (same p) h);
+  single = λ p q c h k. o.single p q c (subst (λ l. Contains l c) (same p) h) (subst (λ l. Contains l c) (same q) k);
+}
+
+pub owned_closed : (s : State) (ps : List Pool) (p : ℕ) → is_numbered ps p ≡ true → AreOwned s ps → AreOwned s (with_closed ps p)
+owned_closed s ps p there o = owned_same s ps (with_closed ps p) (λ q. chunks-closed ps p q there) o
+
+pub all_owned : (s : State) (ps : List Pool) (p : ℕ) → AreOwned s ps → All (λ c. c < chunk_count s) (pool_in ps p).chunks
+all_owned s ps p o = λ k d h. o.within p (get_or (pool_in ps p).chunks k d) (Contains-get_or (pool_in ps p).chunks k d h)
+
+-- chunks given back
+
+given_out : (taken : List Bool) (cs : List ℕ) (q : ℕ) → (In cs q → ⊥) → get_or (all_given taken cs) q true ≡ get_or taken q true
+given_out taken [] q out = refl
+given_out taken (c ∷ cs) q out = given_out (set taken c false) cs q (λ h. out (inr h)) ∙ get_or-set_other taken c q false true (λ e. out (inl e))
+
+pub owned_settled : (s : State) (ps : List Pool) (p : ℕ) → is_numbered ps p ≡ true → AreOwned s ps → AreOwned (with_given s (pool_in ps p).chunks) (with_emptied ps p)
+owned_settled s ps p there o = record {
+  within = λ q c h. omega (arith, o.within q c (emptied ps p q c there h).1, length-all_given s.taken (pool_in ps p).chunks);
+  taken = λ q c h. (let e = emptied ps p q c there h in given_out s.taken (pool_in ps p).chunks c (λ k. e.0 (o.single q p c e.1 (contains_in (pool_in ps p).chunks c k))) ∙ o.taken q c e.1);
+  single = λ q r c h k. o.single q r c (emptied ps p q c there h).1 (emptied ps p r c there k).1;
+}
+
+-- chunks taken for a new pool
+
+in_passes : (f : ℕ → Bool) (xs : List ℕ) (q : ℕ) → In (filter f xs) q → f q ≡ true
+in_passes f [] q h = elim h [ ]
+in_passes f (x ∷ xs) q h = elim (bool_cases (f x)) [
+  | inl e ↦ (let k : In (x ∷ filter f xs) q = rw e at h in elim k [ inl a ↦ ap f a ∙ e | inr a ↦ in_passes f xs q a ])
+  | inr e ↦ (let k : In (filter f xs) q = rw e at h in in_passes f xs q k)
+]
+
+module _ (s t : State) (ps : List Pool) (x : Pool) (takes : TakesChunks s t x.chunks) (o : AreOwned s ps) where
+  taken_is : t.taken ≡ all_taken s.taken x.chunks
+  taken_is = ap (λ (a : State). a.taken) takes.same
+
+  whose : (q c : ℕ) → Contains (pool_in (ps ++ x ∷ []) q).chunks c → ((q ≡ length ps + 1) × Contains x.chunks c) ⊎ Contains (pool_in ps q).chunks c
+  whose q c h = elim (cases_eq q (length ps + 1)) [
+    | inl e ↦ inl (e, subst (λ (y : Pool). Contains y.chunks c) (pool_in-pushed ps x) (subst (λ q. Contains (pool_in (ps ++ x ∷ []) q).chunks c) e h))
+    | inr n ↦ inr (subst (λ (y : Pool). Contains y.chunks c) (pool_in-before ps x q n) h)
+  ]
+
+  untaken : (c : ℕ) → Contains x.chunks c → is_taken s c ≡ true → ⊥
+  untaken c h taken =
+      let i : In (free_chunks s) c = in_take (length x.chunks) (free_chunks s) c (subst (λ l. In l c) takes.chunks (in_contains x.chunks c h)) in
+      let free = in_passes (is_untaken s.taken) (range_with_len 0 (length s.taken)) c i in
+      let no : false ≡ true = ap not (sym taken) ∙ free in cc
+
+  below : (q c : ℕ) → Contains (pool_in (ps ++ x ∷ []) q).chunks c → c < chunk_count t
+  below q c h = elim (whose q c h) [
+    | inl k ↦ subst (λ d. d < chunk_count t) k.1.2 (takes.within k.1.0 c k.1.1)
+    | inr k ↦ omega (arith, o.within q c k, takes.count)
+  ]
+
+  given : (q c : ℕ) → Contains (pool_in (ps ++ x ∷ []) q).chunks c → is_taken t c ≡ true
+  given q c h = elim (whose q c h) [
+    | inl k ↦ subst (λ (l : List Bool). get_or l c true ≡ true) (sym taken_is) (taken_in s.taken x.chunks c (in_contains x.chunks c k.1))
+    | inr k ↦ subst (λ (l : List Bool). get_or l c true ≡ true) (sym taken_is) (taken_stays s.taken x.chunks c (o.taken q c k))
+  ]
+
+  one : (p q c : ℕ) → Contains (pool_in (ps ++ x ∷ []) p).chunks c → Contains (pool_in (ps ++ x ∷ []) q).chunks c → p ≡ q
+  one p q c h k = elim (whose p c h) [
+    | inl a ↦ elim (whose q c k) [ inl b ↦ a.0 ∙ sym b.0 | inr b ↦ absurd (untaken c a.1 (o.taken q c b)) ]
+    | inr a ↦ elim (whose q c k) [ inl b ↦ absurd (untaken c b.1 (o.taken p c a)) | inr b ↦ o.single p q c a b ]
+  ]
+
+  pub owned_added : AreOwned t (ps ++ x ∷ [])
+  owned_added = record { within = below; taken = given; single = one }

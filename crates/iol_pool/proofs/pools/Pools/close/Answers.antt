@@ -1,0 +1,10 @@
+use Rattle.std.proofs.Common.{sym, ◌∙◌, ap, subst, List}
+use Rattle.iol_pool.specs.Pools.{Pool, with_closed}
+use Rattle.iol_pool.specs.Owned.{AreOwned}
+use Rattle.iol_pool.proofs.Owning.{owned_closed}
+use Rattle.iol_pool.proofs.pools.Pools.close.Goals as goal
+
+pub settle-requires : goal.settle-requires
+settle-requires c =
+    let is = c.set_closed.ensures ∙ ap (λ (l : List Pool). with_closed l c.args.p) c.self.view_is in
+    subst (λ (l : List Pool). AreOwned c.args.arena.now l) (sym is) (owned_closed c.args.arena.now c.args.self.now c.args.p c.requires.there c.requires.owned)

@@ -1,0 +1,12 @@
+-- Whose each chunk is.
+use Rattle.std.specs.Prelude.{◌≡◌, ℕ, ◌<◌, true, List}
+use Rattle.std.specs.List.{Contains}
+use Rattle.iol_arena.specs.State.{State, chunk_count}
+use Rattle.iol_arena.specs.Chunks.{is_taken}
+use Rattle.iol_pool.specs.Pools.{Pool, pool_in}
+
+-- the chunks of pools are of the arena, given out, and of one pool each
+pub record AreOwned (s : State) (ps : List Pool) : Type 0 where
+  pub within : (p c : ℕ) → Contains (pool_in ps p).chunks c → c < chunk_count s
+  pub taken : (p c : ℕ) → Contains (pool_in ps p).chunks c → is_taken s c ≡ true
+  pub single : (p q c : ℕ) → Contains (pool_in ps p).chunks c → Contains (pool_in ps q).chunks c → p ≡ q

@@ -1,0 +1,56 @@
+-- Pools: who may read their bytes, and the chunks in which these lie.
+use Rattle.std.specs.Prelude.{◌≡◌, ℕ, ◌==◌, ◌&&◌, Bool, true, false, if◌then◌else◌, List, [], ◌∷◌, ◌++◌, length, slice_set}
+use Rattle.std.specs.List.{list_any, list_all}
+use Rattle.iol_core.specs.Numbered.{numbered_or, with_numbered}
+use Rattle.iol_arena.specs.State.{State}
+use Rattle.iol_arena.specs.Chunks.{is_unused, TakesChunks}
+
+-- the domains that may read, whether the pool is closed, and its chunks, by rising number
+pub record Pool : Type 0 where
+  pub domains : List ℕ
+  pub closed : Bool
+  pub chunks : List ℕ
+
+abbrev pub no_pool : Pool
+no_pool = record { domains = []; closed = true; chunks = [] }
+
+unfoldable pub pool_in : List Pool → (p : ℕ) → Pool
+pool_in ps p = numbered_or ps p no_pool
+
+-- whether the pool's list names the domain
+abbrev pub names_in : List Pool → (p d : ℕ) → Bool
+names_in ps p d = list_any (λ e. e == d) (pool_in ps p).domains
+
+-- a pool of so many chunks, the lowest free ones, for the domains of a list
+pub record AddsPool (s t : State) (old new : List Pool) (n : ℕ) (list : List ℕ) : Type 0 where
+  pub chunks : List ℕ
+  pub count : length chunks ≡ n
+  pub taken : TakesChunks s t chunks
+  pub added : new ≡ old ++ record { domains = list; closed = false; chunks = chunks } ∷ []
+
+-- nothing more is placed in the pool
+unfoldable pub with_closed : List Pool → (p : ℕ) → List Pool
+with_closed ps p = with_numbered ps p (record (pool_in ps p) { closed = true })
+
+-- without its chunks
+unfoldable pub with_emptied : List Pool → (p : ℕ) → List Pool
+with_emptied ps p = with_numbered ps p (record (pool_in ps p) { chunks = [] })
+
+-- with these chunks not given out
+abbrev pub all_given : List Bool → List ℕ → List Bool
+all_given taken [] = taken
+all_given taken (c ∷ cs) = all_given (slice_set taken c false) cs
+
+abbrev pub with_given : State → List ℕ → State
+with_given s cs = record { memory = s.memory; entries = s.entries; limit = s.limit; taken = all_given s.taken cs }
+
+-- chunks go back when their pool is closed and nothing stands on a page of them
+abbrev pub goes_back : State → List Pool → (p : ℕ) → Bool
+goes_back s ps p = (pool_in ps p).closed && list_all (is_unused s) (pool_in ps p).chunks
+
+-- the pools, and the arena, after the chunks of pool p went back if they do
+unfoldable pub settled : State → List Pool → (p : ℕ) → List Pool
+settled s ps p = if goes_back s ps p then with_emptied ps p else ps
+
+unfoldable pub settled_arena : State → List Pool → (p : ℕ) → State
+settled_arena s ps p = if goes_back s ps p then with_given s (pool_in ps p).chunks else s

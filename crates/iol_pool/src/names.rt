@@ -1,0 +1,80 @@
+//! The domains that a pool's list names.
+ghost use Rattle.std.specs.Prelude.{◌≡◌, ℕ, ◌+◌, ◌<◌, ◌≤◌, ◌==◌, List, length, take, min, MatchOption};
+ghost use Rattle.std.specs.List.{list_any};
+ghost use Rattle.iol_core.specs.Calls.Pools.{distinct};
+
+use iol_core::limits::MAX_LISTED;
+use iol_core::numbers::DomainId;
+use std::marker::Model;
+
+/// Domains, each once, in the order in which they were first listed. It takes no memory.
+#[derive(Drop)]
+pub struct Names {
+    list: [DomainId; MAX_LISTED],
+    len: usize,
+}
+
+impl Model for Names {
+    ghost use Rattle.std.specs.Prelude.{ℕ, ◌≤◌, List, take};
+    ghost use Rattle.iol_core.specs.declared.limits.TheConstants.{MAX_LISTED};
+
+    ghost Value = { List ℕ };
+
+    ghost view = { λ n. take n.len n.list };
+
+    ghost invariant = { λ n. n.len ≤ MAX_LISTED };
+}
+
+// Whether a list has the domain.
+fn is_named(list: &[DomainId], d: DomainId) -> bool
+    ensures { result ≡ list_any (λ e. e == d) list.now }
+{
+    list.iter().any(|e| *e == d)
+}
+
+// Notes each domain of a list once, as far as there is room, and tells how many there are: one more than the room
+// where there are too many.
+fn note_distinct(found: &mut [DomainId; MAX_LISTED], list: &[DomainId]) -> usize
+    ensures count { result ≡ min (MAX_LISTED + 1) (length (distinct list.now)) }
+    ensures found { result ≤ MAX_LISTED → take result found.new ≡ distinct list.now }
+{
+    let mut count = 0;
+    for d in list {
+        if is_named(&found[..count], *d) {
+            continue;
+        }
+        if count == MAX_LISTED {
+            return MAX_LISTED + 1;
+        }
+        found[count] = *d;
+        count += 1;
+    }
+    count
+}
+
+impl Names {
+    /// The domains of a list, unless it names more than sixteen.
+    pub fn of(list: &[DomainId]) -> Option<Names>
+        ensures { MatchOption result (MAX_LISTED < length (distinct list.now)) (λ n. (n ≡ distinct list.now) × (length (distinct list.now) ≤ MAX_LISTED)) }
+    {
+        let mut found = [DomainId::new(0); MAX_LISTED];
+        let len = note_distinct(&mut found, list);
+        if len > MAX_LISTED {
+            return None;
+        }
+        Some(Names { list: found, len })
+    }
+
+    pub fn as_slice(&self) -> &[DomainId]
+        ensures { result.now ≡ self.now }
+    {
+        &self.list[..self.len]
+    }
+
+    /// Whether the domain is one of them.
+    pub fn has(&self, d: DomainId) -> bool
+        ensures { result ≡ list_any (λ e. e == d) self.now }
+    {
+        is_named(self.as_slice(), d)
+    }
+}

@@ -1,0 +1,307 @@
+//! The table of pools.
+ghost use Rattle.std.specs.Prelude.{◌≡◌, ℕ, ◌+◌, ◌*◌, ◌<◌, ◌≤◌, ◌==◌, length, true, false, not, find, Option, Some, None, Err, is_some, IfSome, IfOk, IfErr, OnOk, OnErr, List, [], ◌∷◌, ◌++◌, ◌↔◌, IsTrue};
+ghost use Rattle.std.specs.Option.{option_copied};
+ghost use Rattle.std.specs.List.{All, list_all, list_any};
+ghost use Rattle.iol_core.specs.Numbered.{is_numbered};
+ghost use Rattle.iol_arena.specs.State.{chunk_count};
+ghost use Rattle.iol_arena.specs.Chunks.{free_chunks, free_pages, is_unused, retired_pages};
+ghost use Rattle.iol_pool.specs.Pools.{AddsPool, goes_back, names_in, no_pool, pool_in, settled, settled_arena, with_closed, with_emptied, with_given};
+ghost use Rattle.iol_pool.specs.Owned.{AreOwned};
+
+use crate::names::Names;
+use crate::report::PoolReport;
+use iol_arena::arena::Arena;
+use iol_arena::chunks::ChunkSet;
+use iol_arena::pages::Unfilled;
+use iol_core::limits::{CHUNK_PAGES, MAX_CHUNKS, MAX_POOLS};
+use iol_core::numbers::{ChunkNo, DomainId, PoolId};
+use std::alloc::Global;
+use std::marker::Model;
+
+// A pool: who may read its bytes, and where they lie.
+#[derive(Drop)]
+struct Pool {
+    names: Names,
+    closed: bool,
+    chunks: ChunkSet,
+}
+
+impl Model for Pool {
+    ghost use Rattle.iol_pool.specs.Pools as pools;
+
+    ghost Value = { pools.Pool };
+
+    ghost view = { λ p. record { domains = p.names; closed = p.closed; chunks = p.chunks } };
+}
+
+/// All pools ever made, by number.
+#[derive(Drop)]
+pub struct Pools {
+    alloc: Global,
+    list: Vec<Pool>,
+}
+
+impl Model for Pools {
+    ghost use Rattle.std.specs.Prelude.{List};
+    ghost use Rattle.iol_pool.specs.Pools as pools;
+
+    ghost Value = { List pools.Pool };
+
+    ghost view = { λ p. p.list.items };
+}
+
+// The pool of this number.
+#[tactic(auto, unfolding(crate::specs::Pools::pool_in))]
+fn pool_at(pools: &[Pool], p: PoolId) -> Option<&Pool>
+    ensures found { IfSome (option_copied result) (λ x. x ≡ pool_in pools.now p) }
+    ensures there { is_some (option_copied result) ≡ is_numbered pools.now p }
+    ensures none { option_copied result ≡ None → pool_in pools.now p ≡ no_pool }
+{
+    let n = p.number();
+    if n == 0 {
+        None
+    } else {
+        pools.get(n as usize - 1)
+    }
+}
+
+// The chunks of a pool.
+#[tactic(auto, unfolding(crate::specs::Pools::pool_in))]
+fn chunks_of(pools: &[Pool], p: PoolId) -> &ChunkSet
+    requires { is_numbered pools.now p ≡ true }
+    ensures { result.now ≡ (pool_in pools.now p).chunks }
+{
+    let pool = &pools[p.number() as usize - 1];
+    &pool.chunks
+}
+
+// Has nothing more be placed in the pool.
+#[tactic(auto, unfolding(crate::specs::Pools::pool_in, crate::specs::Pools::with_closed))]
+fn set_closed(pools: &mut Vec<Pool>, p: PoolId)
+    requires { is_numbered pools.old.items p ≡ true }
+    ensures { pools.new.items ≡ with_closed pools.old.items p }
+{
+    pools[p.number() as usize - 1].closed = true;
+}
+
+// Leaves the pool without chunks.
+#[tactic(auto, unfolding(crate::specs::Pools::pool_in, crate::specs::Pools::with_emptied))]
+fn set_emptied(alloc: Global, pools: &mut Vec<Pool>, p: PoolId)
+    requires { is_numbered pools.old.items p ≡ true }
+    ensures { pools.new.items ≡ with_emptied pools.old.items p }
+{
+    pools[p.number() as usize - 1].chunks = ChunkSet::new(alloc);
+}
+
+// Whether nothing stands on a page of the chunks.
+fn are_unused(arena: &Arena, chunks: &[ChunkNo]) -> bool
+    requires { All (λ c. c < chunk_count arena.now) chunks.now }
+    ensures { result ≡ list_all (is_unused arena.now) chunks.now }
+{
+    for chunk in chunks {
+        if !arena.is_unused(*chunk) {
+            return false;
+        }
+    }
+    true
+}
+
+// Gives the chunks back.
+fn give_all(arena: &mut Arena, chunks: &[ChunkNo])
+    requires within { All (λ c. c < chunk_count arena.old) chunks.now }
+    requires unused { list_all (is_unused arena.old) chunks.now ≡ true }
+    ensures { arena.new ≡ with_given arena.old chunks.now }
+{
+    for chunk in chunks {
+        arena.give_chunk(*chunk);
+    }
+}
+
+// How many pages of the chunks may be used.
+fn count_free(arena: &Arena, chunks: &[ChunkNo]) -> u32
+    requires within { All (λ c. c < chunk_count arena.now) chunks.now }
+    requires few { length chunks.now ≤ MAX_CHUNKS }
+    ensures { result ≡ length (free_pages arena.now chunks.now) }
+{
+    let mut count = 0;
+    for chunk in chunks {
+        count += arena.free_in(*chunk);
+    }
+    count
+}
+
+// How many pages of the chunks are retired.
+fn count_retired(arena: &Arena, chunks: &[ChunkNo]) -> u32
+    requires within { All (λ c. c < chunk_count arena.now) chunks.now }
+    requires few { length chunks.now ≤ MAX_CHUNKS }
+    ensures { result ≡ length (retired_pages arena.now chunks.now) }
+{
+    let mut count = 0;
+    for chunk in chunks {
+        count += arena.retired(*chunk);
+    }
+    count
+}
+
+impl Pools {
+    /// No pool.
+    pub fn new(alloc: Global) -> Pools
+        ensures { result ≡ [] }
+    {
+        Pools {
+            alloc,
+            list: Vec::new(alloc),
+        }
+    }
+
+    /// How many pools were ever made.
+    pub fn len(&self) -> usize
+        ensures { result ≡ length self.now }
+    {
+        self.list.len()
+    }
+
+    pub fn is_empty(&self) -> bool
+        ensures { IsTrue result ↔ (self.now ≡ []) }
+    {
+        self.list.is_empty()
+    }
+
+    /// Whether there is a pool of this number.
+    pub fn is_pool(&self, p: PoolId) -> bool
+        ensures { result ≡ is_numbered self.now p }
+    {
+        pool_at(&self.list, p).is_some()
+    }
+
+    /// Whether nothing more is placed in the pool. What is no pool is closed.
+    pub fn is_closed(&self, p: PoolId) -> bool
+        ensures { result ≡ (pool_in self.now p).closed }
+    {
+        match pool_at(&self.list, p) {
+            Some(pool) => pool.closed,
+            None => true,
+        }
+    }
+
+    /// Whether the pool's list names the domain.
+    pub fn names(&self, p: PoolId, d: DomainId) -> bool
+        ensures { result ≡ names_in self.now p d }
+    {
+        match pool_at(&self.list, p) {
+            Some(pool) => pool.names.has(d),
+            None => false,
+        }
+    }
+
+    /// Whether each of these pools names the domain; else the first that does not.
+    pub fn admits(&self, pools: &[PoolId], d: DomainId) -> Result<(), PoolId>
+        ensures ok { OnOk result (find (λ p. not (names_in self.now p d)) pools.now ≡ None) }
+        ensures first { IfErr result (λ p. find (λ p. not (names_in self.now p d)) pools.now ≡ Some p) }
+    {
+        for p in pools {
+            if !self.names(*p, d) {
+                return Err(*p);
+            }
+        }
+        Ok(())
+    }
+
+    /// The chunks of a pool.
+    pub fn chunks(&self, p: PoolId) -> &ChunkSet
+        requires { is_numbered self.now p ≡ true }
+        ensures { result.now ≡ (pool_in self.now p).chunks }
+    {
+        chunks_of(&self.list, p)
+    }
+
+    /// Makes a pool of so many chunks, the lowest that are free, for these domains.
+    pub fn create(
+        &mut self,
+        alloc: Global,
+        arena: &mut Arena,
+        chunks: u32,
+        names: Names,
+    ) -> Result<PoolId, Unfilled>
+        requires owned { AreOwned arena.old self.old }
+        requires few { length self.old < MAX_POOLS }
+        ensures number { IfOk result (λ n. n ≡ length self.old + 1) }
+        ensures added { OnOk result (AddsPool arena.old arena.new self.old self.new chunks names) }
+        ensures enough { OnOk result (chunks ≤ length (free_chunks arena.old)) }
+        ensures no_room { result ≡ Err Unfilled.NoRoom → length (free_chunks arena.old) < chunks }
+        ensures err { OnErr result (self.new ≡ self.old) }
+        ensures err_arena { OnErr result (arena.new ≡ arena.old) }
+        ensures owned { AreOwned arena.new self.new }
+    {
+        if self.list.reserve(1).is_err() {
+            return Err(Unfilled::Memory);
+        }
+        let chunks = match arena.take_chunks(alloc, chunks) {
+            Ok(chunks) => chunks,
+            Err(error) => return Err(error),
+        };
+        self.list.push_reserved(Pool {
+            names,
+            closed: false,
+            chunks,
+        });
+        Ok(PoolId::new(self.len() as u32))
+    }
+
+    // Whether the pool is closed and nothing stands on its chunks.
+    fn goes_back(&self, arena: &Arena, p: PoolId) -> bool
+        requires there { is_numbered self.now p ≡ true }
+        requires owned { AreOwned arena.now self.now }
+        ensures { result ≡ goes_back arena.now self.now p }
+    {
+        self.is_closed(p) && are_unused(arena, self.chunks(p).as_slice())
+    }
+
+    /// Gives the chunks of a pool back if it is closed and nothing stands on them.
+    pub fn settle(&mut self, arena: &mut Arena, p: PoolId)
+        requires { AreOwned arena.old self.old }
+        ensures pools { self.new ≡ settled arena.old self.old p }
+        ensures arena { arena.new ≡ settled_arena arena.old self.old p }
+        ensures owned { AreOwned arena.new self.new }
+    {
+        if !self.is_pool(p) {
+            return;
+        }
+        if !self.goes_back(arena, p) {
+            return;
+        }
+        give_all(arena, self.chunks(p).as_slice());
+        set_emptied(self.alloc, &mut self.list, p);
+    }
+
+    /// Closes a pool: nothing more is placed in it, and its chunks go back at once if nothing stands on them.
+    pub fn close(&mut self, arena: &mut Arena, p: PoolId)
+        requires there { is_numbered self.old p ≡ true }
+        requires owned { AreOwned arena.old self.old }
+        ensures pools { self.new ≡ settled arena.old (with_closed self.old p) p }
+        ensures arena { arena.new ≡ settled_arena arena.old (with_closed self.old p) p }
+        ensures owned { AreOwned arena.new self.new }
+    {
+        set_closed(&mut self.list, p);
+        self.settle(arena, p);
+    }
+
+    /// The pages of a pool, counted.
+    pub fn report(&self, arena: &Arena, p: PoolId) -> PoolReport
+        requires there { is_numbered self.now p ≡ true }
+        requires owned { AreOwned arena.now self.now }
+        ensures pool { result.pool ≡ p }
+        ensures pages { result.pages ≡ 16 * length (pool_in self.now p).chunks }
+        ensures free { result.free ≡ length (free_pages arena.now (pool_in self.now p).chunks) }
+        ensures retired { result.retired ≡ length (retired_pages arena.now (pool_in self.now p).chunks) }
+    {
+        let chunks = self.chunks(p).as_slice();
+        let _few = arena.chunk_count();
+        PoolReport {
+            pool: p,
+            pages: chunks.len() as u32 * CHUNK_PAGES as u32,
+            free: count_free(arena, chunks),
+            retired: count_retired(arena, chunks),
+        }
+    }
+}
