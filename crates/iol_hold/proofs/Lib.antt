@@ -1,0 +1,14 @@
+pub mod Counting
+pub mod Founding
+pub mod Freeing
+pub mod Making
+pub mod Moving
+pub mod Placing
+pub mod Reading
+pub mod Settling
+pub mod Slicing
+pub mod Rooms
+pub mod Leftovers
+pub mod Publishing
+pub mod Reserving
+pub mod PublishingAll

@@ -1,0 +1,44 @@
+use Rattle.std.proofs.Common.{◌≡◌, ℕ, ◌∙◌, sym, ap, subst, refl, map, [], List}
+use Rattle.iol_arena.specs.State.{State, page_count}
+use Rattle.iol_pool.specs.Pools.{settled, settled_arena, Pool}
+use Rattle.iol_hold.specs.Stored.{Stored, IsSettled}
+use Rattle.iol_pool.proofs.Owning.{map-settled}
+use Rattle.iol_hold.specs.Moves.{Moves, pool_meant}
+use Rattle.iol_hold.specs.View.{stored}
+use Rattle.iol_hold.proofs.Settling.{settled_moves, settled_settled, length-settled_arena}
+use Rattle.iol_hold.proofs.store.Store.settle.Goals as goal
+
+abbrev with_both : Stored → State → List Pool → Stored
+with_both s a ps = record { arena = a; pools = ps; counts = s.counts }
+
+moves : (s : Stored) (p : ℕ) (a : State) (ps : List Pool) → a ≡ settled_arena s.arena s.pools p → ps ≡ settled s.arena s.pools p → Moves s (with_both s a ps) [] []
+moves s p a ps e f =
+    subst (λ a. Moves s (with_both s a ps) [] []) (sym e) (subst (λ ps. Moves s (with_both s (settled_arena s.arena s.pools p) ps) [] []) (sym f) (settled_moves s p))
+
+pub returns-clause-moves : goal.returns-clause-moves
+returns-clause-moves c =
+    let s : Stored = stored c.self.inside in
+    subst (λ x. Moves x (with_both s c.settle.new.arena c.settle.new.self) [] []) c.self.view_is (moves s c.args.pool c.settle.new.arena c.settle.new.self c.settle.ensures.arena c.settle.ensures.pools)
+
+pub returns-clause-tidy : goal.returns-clause-tidy
+returns-clause-tidy c =
+    let s : Stored = stored c.self.inside in
+    (moves s c.args.pool c.settle.new.arena c.settle.new.self c.settle.ensures.arena c.settle.ensures.pools).tidy c.self.invariant.tidy
+
+pub invariant_of-self : goal.invariant_of-self
+invariant_of-self c = record {
+  counts = c.self.invariant.counts ∙ sym (length-settled_arena c.self.inside.arena c.self.inside.pools c.args.pool) ∙ sym (ap page_count c.settle.ensures.arena);
+  owned = c.settle.ensures.owned;
+  tidy = returns-clause-tidy c;
+}
+
+pub returns-clause-lists : goal.returns-clause-lists
+returns-clause-lists c =
+    let s : Stored = stored c.self.inside in
+    ap (map pool_meant) c.settle.ensures.pools ∙ map-settled pool_meant (λ x cs. refl) s.arena s.pools c.args.pool ∙ ap (λ (x : Stored). map pool_meant x.pools) c.self.view_is
+
+settled_now : (s : Stored) (p : ℕ) (a : State) (ps : List Pool) → a ≡ settled_arena s.arena s.pools p → ps ≡ settled s.arena s.pools p → IsSettled (with_both s a ps) p
+settled_now s p a ps e f = subst (λ a. IsSettled (with_both s a ps) p) (sym e) (subst (λ ps. IsSettled (with_both s (settled_arena s.arena s.pools p) ps) p) (sym f) (settled_settled s.arena s.pools p s.counts))
+
+pub returns-clause-settled : goal.returns-clause-settled
+returns-clause-settled c = settled_now (stored c.self.inside) c.args.pool c.settle.new.arena c.settle.new.self c.settle.ensures.arena c.settle.ensures.pools

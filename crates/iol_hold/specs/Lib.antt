@@ -1,0 +1,9 @@
+pub mod Stored
+pub mod Moves
+pub mod Waiting
+pub mod Room
+pub mod Places
+pub mod Texts
+pub mod View
+pub mod Lending
+pub mod Filling

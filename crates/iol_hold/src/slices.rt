@@ -1,0 +1,86 @@
+//! Slices of buffers.
+ghost use Rattle.std.specs.Prelude.{◌≡◌, ◌+◌, ◌-◌, ◌<◌, ◌≤◌, ◌^◌, [], ◌∷◌, length, take, drop, slice_range};
+
+use crate::holds::Hold;
+use crate::store::Store;
+use iol_core::numbers::BufId;
+
+/// A part of one buffer, which it holds once. It has a byte at least.
+#[derive(Drop)]
+pub struct Slice {
+    /// The hold on the buffer.
+    pub hold: Hold,
+    /// The place of the first byte, counted from 0 in the buffer.
+    pub from: u32,
+    /// The number of bytes.
+    pub len: u32,
+    pub ghost some: { 0 < len },
+    pub ghost within: { from + len < 2 ^ 32 },
+}
+
+impl Slice {
+    ghost use Rattle.iol_arena.specs.Buffers.{bytes_of};
+    ghost use Rattle.iol_hold.specs.Stored.{count_of};
+    ghost use Rattle.iol_hold.specs.Moves.{Shares, Moves, SameLists};
+    ghost use Rattle.iol_hold.specs.Places.{slice_places};
+    ghost use Rattle.iol_hold.specs.Texts.{slice_bytes, IsFilled, IsReadable};
+
+    /// All bytes of a buffer.
+    pub fn whole(store: &Store, hold: Hold) -> Slice
+        requires { IsFilled store.now hold }
+        ensures hold { result.hold ≡ hold }
+        ensures from { result.from ≡ 0 }
+        ensures len { result.len ≡ length (bytes_of store.now.arena hold.buf) }
+    {
+        let len = store.len(&hold);
+        Slice { hold, from: 0, len }
+    }
+
+    /// The same bytes, held once more.
+    pub fn share(&self, store: &mut Store) -> Slice
+        requires live { 0 < count_of store.old self.now.hold.buf }
+        requires few { count_of store.old self.now.hold.buf < 2 ^ 63 }
+        ensures hold { result.hold ≡ self.now.hold }
+        ensures places { slice_places result ≡ slice_places self.now }
+        ensures len { result.len ≡ self.now.len }
+        ensures shares { Shares store.old store.new [] (self.now.hold.buf ∷ []) }
+    {
+        Slice {
+            hold: store.share(&self.hold),
+            from: self.from,
+            len: self.len,
+        }
+    }
+
+    /// The bytes from place `from` up to `to` of the slice, in place of all.
+    pub fn cut(self, from: u32, to: u32) -> Slice
+        requires some { from < to }
+        requires within { to ≤ self.len }
+        ensures hold { result.hold ≡ self.hold }
+        ensures places { slice_places result ≡ slice_range (slice_places self) from to }
+        ensures len { result.len ≡ to - from }
+    {
+        Slice {
+            hold: self.hold,
+            from: self.from + from,
+            len: to - from,
+        }
+    }
+
+    /// Gives the hold up.
+    pub fn release(self, store: &mut Store)
+        requires { 0 < count_of store.old self.hold.buf }
+        ensures moves { Moves store.old store.new (self.hold.buf ∷ []) [] }
+        ensures lists { SameLists store.old store.new }
+    {
+        store.release(self.hold);
+    }
+
+    /// The bytes, where they lie.
+    pub fn bytes<'a>(&self, store: &'a Store) -> &'a [u8]
+        requires { IsReadable store.now self.now }
+        ensures { result.now ≡ slice_bytes store.now self.now }
+    {
+        store.bytes(&self.hold, self.from, self.from + self.len)
+    }
+}

@@ -1,0 +1,167 @@
+//! The store: pages, pools, and how often each buffer is held.
+ghost use Rattle.std.specs.Prelude.{◌≡◌, ◌⊎◌, ◌↔◌, ℕ, ◌+◌, ◌*◌, ◌<◌, ◌≤◌, ◌^◌, [], ◌∷◌, length, replicate, false, slice_range, IfOk, IfErr, Err};
+ghost use Rattle.iol_core.specs.Configuration.{IsInRange};
+ghost use Rattle.iol_arena.specs.State.{no_entry};
+ghost use Rattle.iol_arena.specs.Buffers.{IsLive, bytes_of, live_pages};
+ghost use Rattle.iol_hold.specs.Stored.{count_of, with_count, IsTidy, IsSettled};
+ghost use Rattle.iol_hold.specs.Moves.{Shares, Moves, SameLists};
+
+use crate::holds::Hold;
+use iol_arena::arena::Arena;
+use iol_core::configuration::Config;
+use iol_core::limits::CHUNK_PAGES;
+use iol_core::numbers::{BufId, PoolId};
+use iol_core::refusals::Refusal;
+use iol_pool::pools::Pools;
+use std::alloc::Global;
+use std::marker::Model;
+
+/// Pages, pools, and how often each buffer is held.
+#[derive(Drop)]
+pub struct Store {
+    pub(crate) arena: Arena,
+    pub(crate) pools: Pools,
+
+    // By the first page of a buffer.
+    pub(crate) counts: Vec<u64>,
+}
+
+impl Model for Store {
+    ghost use Rattle.iol_hold.specs.Stored.{Stored};
+
+    ghost Value = { Stored };
+
+    ghost use Rattle.iol_hold.specs.View.{stored, IsSoundInside};
+
+    ghost view = { stored };
+
+    ghost invariant = { IsSoundInside };
+}
+
+impl Store {
+    /// A store of free pages without pools.
+    pub fn new(alloc: Global, config: Config) -> Result<Store, Refusal>
+        ensures range { (result ≡ Err Refusal.BadRange) ↔ (IsInRange config → ⊥) }
+        ensures errors { IfErr result (λ e. (e ≡ Refusal.BadRange) ⊎ (e ≡ Refusal.Memory)) }
+        ensures entries { IfOk result (λ s. s.arena.entries ≡ replicate (config.chunks * 16) no_entry) }
+        ensures taken { IfOk result (λ s. s.arena.taken ≡ replicate config.chunks false) }
+        ensures limit { IfOk result (λ s. s.arena.limit ≡ config.gen_limit) }
+        ensures pools { IfOk result (λ s. s.pools ≡ []) }
+        ensures tidy { IfOk result IsTidy }
+    {
+        let arena = match Arena::new(alloc, config) {
+            Ok(arena) => arena,
+            Err(refusal) => return Err(refusal),
+        };
+        let pages = config.chunks as usize * CHUNK_PAGES;
+        let Ok(counts) = vec![in alloc; 0u64; pages] else {
+            return Err(Refusal::Memory);
+        };
+        Ok(Store {
+            arena,
+            pools: Pools::new(alloc),
+            counts,
+        })
+    }
+
+    // How often the buffer that begins at the page is held.
+    fn count_at(&self, buf: BufId) -> u64
+        requires { 0 < count_of self.now buf }
+        ensures { result ≡ count_of self.now buf }
+    {
+        self.counts[buf.page as usize]
+    }
+
+    fn set_count(&mut self, buf: BufId, count: u64)
+        requires live { 0 < count_of self.old buf }
+        requires some { 0 < count }
+        ensures set { self.new ≡ with_count self.old buf.page count }
+        ensures tidy { IsTidy self.new }
+    {
+        self.counts[buf.page as usize] = count;
+    }
+
+    /// How often a live buffer is held.
+    pub fn count(&self, buf: BufId) -> u64
+        requires { 0 < count_of self.now buf }
+        ensures { result ≡ count_of self.now buf }
+    {
+        self.count_at(buf)
+    }
+
+    /// One more hold on the same buffer. A count stays below 2^63.
+    pub fn share(&mut self, hold: &Hold) -> Hold
+        requires live { 0 < count_of self.old hold.now.buf }
+        requires few { count_of self.old hold.now.buf < 2 ^ 63 }
+        ensures same { result ≡ hold.now }
+        ensures shares { Shares self.old self.new [] (hold.now.buf ∷ []) }
+    {
+        let buf = hold.buf();
+        let count = self.count_at(buf);
+        self.set_count(buf, count + 1);
+        Hold::new(hold.pool(), buf)
+    }
+
+    // Frees a buffer that is held once.
+    fn free(&mut self, buf: BufId)
+        requires { count_of self.old buf ≡ 1 }
+        ensures moves { Moves self.old self.new (buf ∷ []) [] }
+        ensures pools { self.new.pools ≡ self.old.pools }
+        ensures tidy { IsTidy self.new }
+    {
+        self.arena.free(buf);
+    }
+
+    // Gives the chunks of a closed pool back, if nothing stands on them.
+    fn settle(&mut self, pool: PoolId)
+        ensures moves { Moves self.old self.new [] [] }
+        ensures lists { SameLists self.old self.new }
+        ensures settled { IsSettled self.new pool }
+        ensures tidy { IsTidy self.new }
+    {
+        self.pools.settle(&mut self.arena, pool);
+    }
+
+    /// Gives a hold up. With the last one the buffer's pages are free at once, and the chunks of a closed pool go back
+    /// if nothing else lies in them.
+    pub fn release(&mut self, hold: Hold)
+        requires { 0 < count_of self.old hold.buf }
+        ensures moves { Moves self.old self.new (hold.buf ∷ []) [] }
+        ensures lists { SameLists self.old self.new }
+        ensures settled { count_of self.old hold.buf ≡ 1 → IsSettled self.new hold.pool }
+    {
+        let buf = hold.buf();
+        let count = self.count_at(buf);
+        if count > 1 {
+            self.set_count(buf, count - 1);
+        } else {
+            self.free(buf);
+            self.settle(hold.pool());
+        }
+    }
+
+    /// How many bytes a live buffer has.
+    pub fn len(&self, hold: &Hold) -> u32
+        requires { IsLive self.now.arena hold.now.buf }
+        ensures { result ≡ length (bytes_of self.now.arena hold.now.buf) }
+    {
+        self.arena.len(hold.buf())
+    }
+
+    /// The bytes of a live buffer, from place `from` up to `to`.
+    pub fn bytes(&self, hold: &Hold, from: u32, to: u32) -> &[u8]
+        requires live { IsLive self.now.arena hold.now.buf }
+        requires order { from ≤ to }
+        requires range { to ≤ length (bytes_of self.now.arena hold.now.buf) }
+        ensures { result.now ≡ slice_range (bytes_of self.now.arena hold.now.buf) from to }
+    {
+        self.arena.bytes(hold.buf(), from, to)
+    }
+
+    /// How many buffers are live.
+    pub fn buffer_count(&self) -> u32
+        ensures { result ≡ length (live_pages self.now.arena) }
+    {
+        self.arena.buffer_count()
+    }
+}
