@@ -1,23 +1,29 @@
 //! Aggregates.
-ghost use Rattle.std.specs.Prelude.{◌≡◌, ◌+◌, ◌<◌, ◌≤◌, ◌^◌, ◌↔◌, [], length, drop, IsTrue, IfOk, OnOk, OnErr};
-ghost use Rattle.std.specs.List.{All, flat_map};
-ghost use Rattle.std.specs.Vec.{vec_len, vec_capacity};
+ghost use Rattle.std.specs.Prelude.{◌≡◌, ℕ, ◌+◌, ◌<◌, ◌≤◌, ◌^◌, ◌↔◌, [], length, drop, map, true, false, Err, IsTrue, IfOk, IfErr, OnOk, OnErr};
+ghost use Rattle.std.specs.List.{All};
+ghost use Rattle.std.specs.Vec.{vec_capacity};
+ghost use Rattle.iol_core.specs.Meaning.{WantOfRoom};
 ghost use Rattle.iol_core.specs.Text as text;
-ghost use Rattle.iol_arena.specs.State.{chunk_count, pages_for};
-ghost use Rattle.iol_arena.specs.Buffers.{bytes_of, Grows};
+ghost use Rattle.iol_arena.specs.State.{pages_for};
 ghost use Rattle.iol_arena.specs.Chunks.{free_pages};
-ghost use Rattle.iol_agg.specs.Places.{byte_len};
-ghost use Rattle.iol_agg.specs.Texts.{text_of, parts_of, AllReadable, IsFilled};
+ghost use Rattle.iol_pool.specs.Pools.{pool_in};
+ghost use Rattle.iol_hold.specs.Moves.{Moves, Covers, SameLists};
+ghost use Rattle.iol_hold.specs.Places.{byte_len};
+ghost use Rattle.iol_hold.specs.Room.{has_room};
+ghost use Rattle.iol_hold.specs.Texts.{text_of, bufs_of, AllReadable, IsFilled};
+ghost use Rattle.iol_agg.specs.Parts.{parts_of, whole_texts};
 
 use crate::reading::Parts;
-use crate::slices::Slice;
-use iol_arena::arena::Arena;
-use iol_arena::chunks::ChunkSet;
-use iol_arena::pages::{Unfilled, count_pages};
-use iol_core::limits::MAX_AGGREGATE_BYTES;
-use iol_core::numbers::{BufId, PoolId};
+use iol_core::limits::{MAX_AGGREGATE_BYTES, PAGE_BYTES};
+use iol_core::numbers::PoolId;
+use iol_core::refusals::Refusal;
+use iol_hold::{Holds, Slice, Store};
 use std::alloc::{AllocError, Global};
 use std::marker::Model;
+
+mod moving;
+mod pouring;
+mod sharing;
 
 /// Bytes that do not change, as a list of slices.
 #[derive(Drop)]
@@ -28,8 +34,8 @@ pub struct Agg {
 
 impl Model for Agg {
     ghost use Rattle.std.specs.Prelude.{List, ◌≡◌};
-    ghost use Rattle.iol_agg.specs.Places.{byte_len};
-    ghost use Rattle.iol_agg.specs.declared.slices.Slice.{Slice};
+    ghost use Rattle.iol_hold.specs.Places.{byte_len};
+    ghost use Rattle.iol_hold.specs.declared.slices.Slice.{Slice};
 
     ghost Value = { List Slice };
 
@@ -61,40 +67,37 @@ impl Agg {
         Agg { slices, len }
     }
 
-    /// New bytes of a pool, in new buffers on the lowest free pages of the chunks. No bytes take no page.
+    /// New bytes of an open pool, in new buffers on its lowest free pages. No bytes take no page.
     pub fn fill(
         alloc: Global,
-        arena: &mut Arena,
-        chunks: &ChunkSet,
+        store: &mut Store,
         pool: PoolId,
         bytes: &[u8],
-    ) -> Result<Agg, Unfilled>
+    ) -> Result<Agg, Refusal>
+        requires open { (pool_in store.old.pools pool).closed ≡ false }
         requires small { length bytes.now ≤ MAX_AGGREGATE_BYTES }
-        requires chunks { All (λ c. c < chunk_count arena.old) chunks.now }
-        ensures text { IfOk result (λ a. text_of arena.new a ≡ text.labelled pool bytes.now) }
-        ensures readable { IfOk result (λ a. AllReadable arena.new a) }
-        ensures grows { OnOk result (Grows arena.old arena.new) }
-
-        // The lowest free pages are taken, as many as the bytes need.
-        ensures free { OnOk result (free_pages arena.new chunks.now ≡ drop (pages_for (length bytes.now)) (free_pages arena.old chunks.now)) }
-        ensures enough { OnOk result (pages_for (length bytes.now) ≤ length (free_pages arena.old chunks.now)) }
-        ensures no_room { result ≡ Err Unfilled.NoRoom → length (free_pages arena.old chunks.now) < pages_for (length bytes.now) }
-        ensures err { OnErr result (arena.new ≡ arena.old) }
+        ensures text { IfOk result (λ a. text_of store.new a ≡ text.labelled pool bytes.now) }
+        ensures readable { IfOk result (λ a. AllReadable store.new a) }
+        ensures moves { IfOk result (λ a. Moves store.old store.new [] (bufs_of a)) }
+        ensures pools { store.new.pools ≡ store.old.pools }
+        ensures lowest { OnOk result (free_pages store.new.arena (pool_in store.old.pools pool).chunks ≡ drop (pages_for (length bytes.now)) (free_pages store.old.arena (pool_in store.old.pools pool).chunks)) }
+        ensures room { OnOk result (has_room store.old pool (length bytes.now) ≡ true) }
+        ensures no_room { (p : ℕ) → result ≡ Err (Refusal.NoRoom p) → has_room store.old pool (length bytes.now) ≡ false }
+        ensures late { IfErr result (WantOfRoom pool) }
+        ensures err { OnErr result (store.new ≡ store.old) }
     {
-        if bytes.is_empty() {
-            return Ok(Agg::new(alloc));
-        }
-        let len = bytes.len() as u32;
-        let mut slices = match Vec::with_capacity(alloc, count_pages(len) as usize) {
-            Ok(slices) => slices,
-            Err(_) => return Err(Unfilled::Memory),
+        let Ok(mut slices) = Vec::with_capacity(alloc, bytes.len().div_ceil(PAGE_BYTES)) else {
+            return Err(Refusal::Memory);
         };
-        let bufs = match arena.fill(alloc, chunks, bytes) {
-            Ok(bufs) => bufs,
-            Err(error) => return Err(error),
+        let holds = match store.fill(alloc, pool, bytes) {
+            Ok(holds) => holds,
+            Err(refusal) => return Err(refusal),
         };
-        add_whole(&mut slices, arena, pool, bufs.as_slice());
-        Ok(Agg { slices, len })
+        add_whole(&mut slices, store, holds);
+        Ok(Agg {
+            slices,
+            len: bytes.len() as u32,
+        })
     }
 
     /// The number of bytes.
@@ -118,35 +121,49 @@ impl Agg {
     }
 
     /// The bytes where they lie, slice by slice.
-    pub fn parts<'a>(&'a self, arena: &'a Arena) -> Parts<'a>
-        requires { AllReadable arena.now self.now }
-        ensures { result ≡ parts_of arena.now self.now }
+    pub fn parts<'a>(&'a self, store: &'a Store) -> Parts<'a>
+        requires { AllReadable store.now self.now }
+        ensures { result ≡ parts_of store.now self.now }
     {
-        Parts::new(arena, self.slices.as_slice())
+        Parts::new(store, self.slices.as_slice())
     }
 
     /// A copy of the bytes.
-    pub fn to_vec(&self, alloc: Global, arena: &Arena) -> Result<Vec<u8>, AllocError>
-        requires { AllReadable arena.now self.now }
-        ensures { IfOk result (λ bytes. bytes.items ≡ text.bytes_of (text_of arena.now self.now)) }
+    pub fn to_vec(&self, alloc: Global, store: &Store) -> Result<Vec<u8>, AllocError>
+        requires { AllReadable store.now self.now }
+        ensures { IfOk result (λ bytes. bytes.items ≡ text.bytes_of (text_of store.now self.now)) }
     {
         let mut bytes = Vec::with_capacity(alloc, self.len as usize)?;
-        for part in self.parts(arena) {
+        for part in self.parts(store) {
             bytes.extend_from_slice(part)?;
         }
         Ok(bytes)
     }
+
+    /// Gives all holds up.
+    pub fn release(self, store: &mut Store)
+        requires { Covers store.old (bufs_of self) }
+        ensures moves { Moves store.old store.new (bufs_of self) [] }
+        ensures lists { SameLists store.old store.new }
+    {
+        let mut slices = self.slices;
+        while let Some(slice) = slices.pop() {
+            slice.release(store);
+        }
+    }
 }
 
 // Adds a slice for each of the buffers, whole.
-fn add_whole(slices: &mut Vec<Slice>, arena: &Arena, pool: PoolId, bufs: &[BufId])
+fn add_whole(slices: &mut Vec<Slice>, store: &Store, holds: Holds)
     requires none { slices.old.items ≡ [] }
-    requires filled { All (IsFilled arena.now) bufs.now }
-    requires room { vec_len slices.old + length bufs.now ≤ vec_capacity slices.old }
-    ensures text { text_of arena.now slices.new.items ≡ text.labelled pool (flat_map (bytes_of arena.now) bufs.now) }
-    ensures readable { AllReadable arena.now slices.new.items }
+    requires filled { All (IsFilled store.now) holds }
+    requires room { length holds ≤ vec_capacity slices.old }
+    ensures text { text_of store.now slices.new.items ≡ whole_texts store.now holds }
+    ensures readable { AllReadable store.now slices.new.items }
+    ensures bufs { bufs_of slices.new.items ≡ map (λ h. h.buf) holds }
 {
-    for buf in bufs {
-        slices.push_reserved(Slice::whole(arena, pool, *buf));
+    let mut left = holds;
+    while let Some(hold) = left.take_first() {
+        slices.push_reserved(Slice::whole(store, hold));
     }
 }
