@@ -1,2 +1,4 @@
+pub mod Holding
 pub mod Prefixes
+pub mod Shared
 pub mod Texts

@@ -1,21 +1,22 @@
 -- Prefixes of places, slice by slice.
-use Rattle.std.proofs.Common.{◌≡◌, ℕ, zero, suc, ◌+◌, ◌-◌, ◌<◌, ◌≤◌, true, false, cond, Some, List, [], ◌∷◌, ◌++◌, map, length, take, drop, get_or, refl, sym, ap, ◌∙◌, arith, append_assoc}
+use Rattle.std.proofs.Common.{◌≡◌, ℕ, zero, suc, ◌+◌, ◌-◌, ◌<◌, ◌≤◌, true, false, cond, min, Some, List, [], ◌∷◌, ◌++◌, map, length, take, drop, get_or, slice_range, refl, sym, ap, ◌∙◌, arith, append_assoc}
 use Rattle.std.specs.List.{take_while, slice_get, range_with_len}
 use Rattle.std.specs.Option.{option_map}
-use Rattle.std.proofs.lemmas.List.{take-append-drop, take_all, at_drop_more, length-take}
+use Rattle.std.proofs.lemmas.List.{take-append-drop, take_all, at_drop_more, length-take, take_min, length-drop}
 use Rattle.std.proofs.lemmas.List.Sums.{take_while-cons}
-use Rattle.iol_agg.specs.declared.slices.Slice.{Slice}
-use Rattle.iol_agg.specs.Places.{Place, place_in, slice_places, places}
-use Rattle.iol_agg.proofs.Places.{row, length-slice_places}
-use Rattle.iol_pipe.specs.Queue.{first_pool, is_one_of, is_of}
+use Rattle.iol_hold.specs.declared.slices.Slice.{Slice}
+use Rattle.iol_hold.specs.Places.{Place, place_in, slice_places, places}
+use Rattle.iol_hold.proofs.Slicing.{row, length-slice_places}
+use Rattle.iol_pool.specs.Pools.{Pool, names_in}
+use Rattle.iol_pipe.specs.Queue.{first_pool, may_see}
 
 -- the places of a slice begin with its first
-slice_begins : (x : Slice) → slice_places x ≡ place_in x x.from ∷ row x.pool x.buf (x.from + 1) (x.len - 1)
+slice_begins : (x : Slice) → slice_places x ≡ place_in x x.from ∷ row x.hold.pool x.hold.buf (x.from + 1) (x.len - 1)
 slice_begins x = begins x.from x.len x.some
   where
-    begins : (i n : ℕ) → 0 < n → row x.pool x.buf i n ≡ place_in x i ∷ row x.pool x.buf (i + 1) (n - 1)
+    begins : (i n : ℕ) → 0 < n → row x.hold.pool x.hold.buf i n ≡ place_in x i ∷ row x.hold.pool x.hold.buf (i + 1) (n - 1)
     begins i zero h = absurd (omega arith)
-    begins i (suc n) h = let e : n ≡ suc n - 1 = omega arith in ap (λ k. place_in x i ∷ row x.pool x.buf (i + 1) k) e
+    begins i (suc n) h = let e : n ≡ suc n - 1 = omega arith in ap (λ k. place_in x i ∷ row x.hold.pool x.hold.buf (i + 1) k) e
 
 -- a slice in two, before others
 pub split_first : (x a b : Slice) (k : ℕ) (rest : List Slice) → slice_places a ≡ take k (slice_places x) → slice_places b ≡ drop k (slice_places x) → slice_places a ++ places (b ∷ rest) ≡ places (x ∷ rest)
@@ -25,10 +26,10 @@ split_first x a b k rest first after =
     ∙ ap (λ t. take k (slice_places x) ++ t ++ places rest) after
     ∙ ap (λ t. t ++ places rest) (take-append-drop k (slice_places x))
 
-pub first_pool-is : (xs : List Slice) (x : Slice) → 0 < length xs → x ≡ get_or xs 0 x → Some x.pool ≡ first_pool xs
+pub first_pool-is : (xs : List Slice) (x : Slice) → 0 < length xs → x ≡ get_or xs 0 x → Some x.hold.pool ≡ first_pool xs
 first_pool-is [] x h e = absurd (omega arith)
 first_pool-is (y ∷ ys) x h e =
-    ap (λ (z : Slice). Some z.pool) e ∙ ap (λ t. option_map (λ (p : Place). p.pool) (slice_get (t ++ places ys) 0)) (sym (slice_begins y))
+    ap (λ (z : Slice). Some z.hold.pool) e ∙ ap (λ t. option_map (λ (p : Place). p.pool) (slice_get (t ++ places ys) 0)) (sym (slice_begins y))
 
 -- Of the first n places of a list and others.
 
@@ -55,30 +56,42 @@ take_step xs i left x a h e part =
 
 -- Places as long as their pools are among these.
 
-passes : (pools : List ℕ) (x : Slice) (js : List ℕ) (t : List Place) → is_one_of pools x.pool ≡ true → take_while (is_of pools) (map (place_in x) js ++ t) ≡ map (place_in x) js ++ take_while (is_of pools) t
-passes pools x [] t listed = refl
-passes pools x (j ∷ js) t listed =
-    take_while-cons (is_of pools) (place_in x j) (map (place_in x) js ++ t)
-    ∙ ap (λ b. cond b (place_in x j ∷ take_while (is_of pools) (map (place_in x) js ++ t)) []) listed
-    ∙ ap (λ u. place_in x j ∷ u) (passes pools x js t listed)
+passes : (ps : List Pool) (d : ℕ) (x : Slice) (js : List ℕ) (t : List Place) → names_in ps x.hold.pool d ≡ true → take_while (may_see ps d) (map (place_in x) js ++ t) ≡ map (place_in x) js ++ take_while (may_see ps d) t
+passes ps d x [] t listed = refl
+passes ps d x (j ∷ js) t listed =
+    take_while-cons (may_see ps d) (place_in x j) (map (place_in x) js ++ t)
+    ∙ ap (λ b. cond b (place_in x j ∷ take_while (may_see ps d) (map (place_in x) js ++ t)) []) listed
+    ∙ ap (λ u. place_in x j ∷ u) (passes ps d x js t listed)
 
 -- a slice whose pool is one of these, before others
-pub take_while_step : (pools : List ℕ) (x : Slice) (left : ℕ) (qs : List Place) (rest : List Slice) → slice_places x ++ places rest ≡ qs → x.len ≤ left → is_one_of pools x.pool ≡ true → take_while (is_of pools) (take left qs) ≡ slice_places x ++ take_while (is_of pools) (take (left - x.len) (places rest))
-take_while_step pools x left qs rest whole h listed =
+pub take_while_step : (ps : List Pool) (d : ℕ) (x : Slice) (left : ℕ) (qs : List Place) (rest : List Slice) → slice_places x ++ places rest ≡ qs → x.len ≤ left → names_in ps x.hold.pool d ≡ true → take_while (may_see ps d) (take left qs) ≡ slice_places x ++ take_while (may_see ps d) (take (left - x.len) (places rest))
+take_while_step ps d x left qs rest whole h listed =
     let long : length (slice_places x) ≡ x.len = length-slice_places x in
-    ap (λ t. take_while (is_of pools) (take left t)) (sym whole)
-    ∙ ap (take_while (is_of pools)) (take-append (slice_places x) (places rest) left ∙ ap (λ t. t ++ take (left - length (slice_places x)) (places rest)) (take_all left (slice_places x) (omega arith)))
-    ∙ passes pools x (range_with_len x.from x.len) (take (left - length (slice_places x)) (places rest)) listed
-    ∙ ap (λ k. slice_places x ++ take_while (is_of pools) (take (left - k) (places rest))) long
+    ap (λ t. take_while (may_see ps d) (take left t)) (sym whole)
+    ∙ ap (take_while (may_see ps d)) (take-append (slice_places x) (places rest) left ∙ ap (λ t. t ++ take (left - length (slice_places x)) (places rest)) (take_all left (slice_places x) (omega arith)))
+    ∙ passes ps d x (range_with_len x.from x.len) (take (left - length (slice_places x)) (places rest)) listed
+    ∙ ap (λ k. slice_places x ++ take_while (may_see ps d) (take (left - k) (places rest))) long
 
 -- the first slice's pool is none of these
-pub take_while_none : (pools : List ℕ) (xs : List Slice) (x : Slice) (left : ℕ) → 0 < length xs → x ≡ get_or xs 0 x → 0 < left → is_one_of pools x.pool ≡ false → take_while (is_of pools) (take left (places xs)) ≡ []
-take_while_none pools [] x left h e some barred = absurd (omega arith)
-take_while_none pools (y ∷ ys) x zero h e some barred = absurd (omega arith)
-take_while_none pools (y ∷ ys) x (suc left) h e some barred =
+pub take_while_none : (ps : List Pool) (d : ℕ) (xs : List Slice) (x : Slice) (left : ℕ) → 0 < length xs → x ≡ get_or xs 0 x → 0 < left → names_in ps x.hold.pool d ≡ false → take_while (may_see ps d) (take left (places xs)) ≡ []
+take_while_none ps d [] x left h e some barred = absurd (omega arith)
+take_while_none ps d (y ∷ ys) x zero h e some barred = absurd (omega arith)
+take_while_none ps d (y ∷ ys) x (suc left) h e some barred =
     let p : Place = place_in y y.from in
-    let r : List Place = row y.pool y.buf (y.from + 1) (y.len - 1) ++ places ys in
-    let first : is_one_of pools y.pool ≡ false = ap (λ (z : Slice). is_one_of pools z.pool) (sym e) ∙ barred in
-    ap (λ t. take_while (is_of pools) (take (suc left) (t ++ places ys))) (slice_begins y)
-    ∙ take_while-cons (is_of pools) p (take left r)
-    ∙ ap (λ b. cond b (p ∷ take_while (is_of pools) (take left r)) []) first
+    let r : List Place = row y.hold.pool y.hold.buf (y.from + 1) (y.len - 1) ++ places ys in
+    let first : names_in ps y.hold.pool d ≡ false = ap (λ (z : Slice). names_in ps z.hold.pool d) (sym e) ∙ barred in
+    ap (λ t. take_while (may_see ps d) (take (suc left) (t ++ places ys))) (slice_begins y)
+    ∙ take_while-cons (may_see ps d) p (take left r)
+    ∙ ap (λ b. cond b (p ∷ take_while (may_see ps d) (take left r)) []) first
+
+-- Of a slice that is cut.
+
+pub cut_first : (x y a : Slice) (left k : ℕ) → slice_places y ≡ slice_places x → k ≡ min x.len left → slice_places a ≡ slice_range (slice_places y) 0 k → slice_places a ≡ take left (slice_places x)
+cut_first x y a left k shared e cut =
+    let long : k - 0 ≡ min left (length (slice_places x)) = omega (arith, e, length-slice_places x) in
+    cut ∙ ap (λ n. take n (slice_places y)) long ∙ ap (take (min left (length (slice_places x)))) shared ∙ take_min left (slice_places x)
+
+pub cut_rest : (x y b : Slice) (k : ℕ) → slice_places y ≡ slice_places x → slice_places b ≡ slice_range (slice_places y) k x.len → slice_places b ≡ drop k (slice_places x)
+cut_rest x y b k shared cut =
+    cut ∙ ap (λ t. take (x.len - k) (drop k t)) shared
+    ∙ take_all (x.len - k) (drop k (slice_places x)) (omega (arith, length-drop k (slice_places x), length-slice_places x))

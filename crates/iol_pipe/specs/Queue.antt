@@ -1,9 +1,10 @@
 -- A queue of slices.
-use Rattle.std.specs.Prelude.{◌≡◌, ℕ, ◌≤◌, ◌==◌, Bool, List, Option, option_map}
-use Rattle.std.specs.List.{list_any, slice_get}
+use Rattle.std.specs.Prelude.{◌≡◌, ℕ, ◌≤◌, Bool, List, Option, option_map}
+use Rattle.std.specs.List.{slice_get}
 use Rattle.iol_core.specs.declared.limits.TheConstants.{MAX_QUEUE_BYTES}
-use Rattle.iol_agg.specs.declared.slices.Slice.{Slice}
-use Rattle.iol_agg.specs.Places.{Place, places, byte_len}
+use Rattle.iol_pool.specs.Pools.{Pool, names_in}
+use Rattle.iol_hold.specs.declared.slices.Slice.{Slice}
+use Rattle.iol_hold.specs.Places.{Place, places, byte_len}
 
 -- n is the number of bytes, and there are not too many
 pub record IsBounded (xs : List Slice) (n : ℕ) : Type 0 where
@@ -14,10 +15,6 @@ pub record IsBounded (xs : List Slice) (n : ℕ) : Type 0 where
 abbrev pub first_pool : List Slice → Option ℕ
 first_pool xs = option_map (λ p. p.pool) (slice_get (places xs) 0)
 
--- whether the pool is one of these
-abbrev pub is_one_of : (pools : List ℕ) → (pool : ℕ) → Bool
-is_one_of pools pool = list_any (λ e. e == pool) pools
-
--- whether the byte at the place is of one of these pools
-abbrev pub is_of : (pools : List ℕ) → Place → Bool
-is_of pools p = is_one_of pools p.pool
+-- whether the domain may read the byte at the place
+abbrev pub may_see : List Pool → (d : ℕ) → Place → Bool
+may_see pools d p = names_in pools p.pool d

@@ -1,15 +1,19 @@
 //! Pipes: bounded queues of bytes, as slices.
 #![tactic(auto)]
 
-ghost use Rattle.std.specs.Prelude.{◌≡◌, ◌+◌, ◌-◌, ◌<◌, ◌≤◌, ◌↔◌, min, [], ◌++◌, length, take, drop, take_while, slice_index_or, IsTrue, IfOk, OnOk, OnErr};
+ghost use Rattle.std.specs.Prelude.{◌≡◌, ◌+◌, ◌-◌, ◌<◌, ◌≤◌, ◌↔◌, min, [], ◌∷◌, ◌++◌, length, take, drop, take_while, slice_index_or, IsTrue, IfOk, OnOk, OnErr};
 ghost use Rattle.std.specs.VecDeque.{deque_len, deque_capacity};
 ghost use Rattle.std.specs.Vec.{vec_capacity};
-ghost use Rattle.iol_agg.specs.Places.{slice_places, places, byte_len};
-ghost use Rattle.iol_pipe.specs.Queue.{first_pool, is_of};
+ghost use Rattle.iol_core.specs.declared.numbers.BufId.{BufId};
+ghost use Rattle.iol_hold.specs.Moves.{same, tally, Shares, Covers, IsCountable};
+ghost use Rattle.iol_hold.specs.Places.{slice_places, places, byte_len};
+ghost use Rattle.iol_hold.specs.Texts.{bufs_of};
+ghost use Rattle.iol_pipe.specs.Queue.{first_pool, may_see};
 
-use iol_agg::{Agg, Slice};
+use iol_agg::Agg;
 use iol_core::limits::MAX_QUEUE_BYTES;
-use iol_core::numbers::PoolId;
+use iol_core::numbers::{DomainId, PoolId};
+use iol_hold::{Slice, Store};
 use std::alloc::{AllocError, Global};
 use std::collections::VecDeque;
 use std::marker::Model;
@@ -26,7 +30,7 @@ pub struct Pipe {
 
 impl Model for Pipe {
     ghost use Rattle.std.specs.Prelude.{List};
-    ghost use Rattle.iol_agg.specs.declared.slices.Slice.{Slice};
+    ghost use Rattle.iol_hold.specs.declared.slices.Slice.{Slice};
     ghost use Rattle.iol_pipe.specs.Queue.{IsBounded};
 
     ghost Value = { List Slice };
@@ -66,84 +70,114 @@ impl Pipe {
         ensures { result ≡ first_pool self.now }
     {
         let first = self.queue.front()?;
-        Some(first.pool)
+        Some(first.hold.pool())
     }
 
     /// Takes in the longest prefix that fits, and tells how many bytes that was.
-    pub fn push(&mut self, from: &Agg) -> Result<u32, AllocError>
+    pub fn push(&mut self, store: &mut Store, from: &Agg) -> Result<u32, AllocError>
+        requires covered { Covers store.old (bufs_of from.now) }
+        requires countable { IsCountable store.old (bufs_of from.now) }
         ensures taken { IfOk result (λ n. n ≡ min (byte_len from.now) (MAX_QUEUE_BYTES - byte_len self.old)) }
         ensures places { IfOk result (λ n. places self.new ≡ places self.old ++ take n (places from.now)) }
+        ensures shares { OnOk result (Shares store.old store.new (bufs_of self.old) (bufs_of self.new)) }
         ensures err { OnErr result (self.new ≡ self.old) }
+        ensures err_store { OnErr result (store.new ≡ store.old) }
     {
         let room = MAX_QUEUE_BYTES as u32 - self.len;
         let taken = from.len().min(room);
         let slices = from.slices();
         self.queue.reserve(slices.len().min(taken as usize))?;
-        add_prefix(&mut self.queue, slices, taken);
+        add_prefix(&mut self.queue, store, slices, taken);
         self.len += taken;
         Ok(taken)
     }
 
-    /// Takes off and gives the longest prefix of at most `n` bytes whose pools are all among these.
-    pub fn front(&mut self, alloc: Global, n: u32, pools: &[PoolId]) -> Result<Agg, AllocError>
-        ensures given { IfOk result (λ a. places a ≡ take_while (is_of pools.now) (take n (places self.old))) }
+    /// Takes off and gives the longest prefix of at most `n` bytes whose pools all name the domain.
+    pub fn front(
+        &mut self,
+        alloc: Global,
+        store: &mut Store,
+        n: u32,
+        d: DomainId,
+    ) -> Result<Agg, AllocError>
+        requires covered { Covers store.old (bufs_of self.old) }
+        requires countable { IsCountable store.old (bufs_of self.old) }
+        ensures given { IfOk result (λ a. places a ≡ take_while (may_see store.old.pools d) (take n (places self.old))) }
         ensures rest { IfOk result (λ a. places self.new ≡ drop (byte_len a) (places self.old)) }
+        ensures shares { IfOk result (λ a. Shares store.old store.new (bufs_of self.old) (bufs_of a ++ bufs_of self.new)) }
         ensures err { OnErr result (self.new ≡ self.old) }
+        ensures err_store { OnErr result (store.new ≡ store.old) }
     {
         let room = self.queue.len().min(n as usize);
         let mut slices = Vec::with_capacity(alloc, room)?;
-        take_prefix(&mut self.queue, &mut slices, n, pools);
+        take_prefix(&mut self.queue, store, &mut slices, n, d);
         let given = Agg::from_slices(slices);
         self.len -= given.len();
         Ok(given)
     }
 }
 
-// Adds the first n bytes of the slices.
-fn add_prefix(queue: &mut VecDeque<Slice>, slices: &[Slice], n: u32)
-    requires { deque_len queue.old + min (length slices.now) n ≤ deque_capacity queue.old }
-    ensures { places queue.new.items ≡ places queue.old.items ++ take n (places slices.now) }
+// Adds the first n bytes of the slices, held once more.
+fn add_prefix(queue: &mut VecDeque<Slice>, store: &mut Store, slices: &[Slice], n: u32)
+    requires room { deque_len queue.old + min (length slices.now) n ≤ deque_capacity queue.old }
+    requires covered { Covers store.old (bufs_of slices.now) }
+    requires countable { IsCountable store.old (bufs_of slices.now) }
+    ensures places { places queue.new.items ≡ places queue.old.items ++ take n (places slices.now) }
+    ensures shares { Shares store.old store.new (bufs_of queue.old.items) (bufs_of queue.new.items) }
 {
     let mut left = n;
     for slice in slices {
         if left == 0 {
             return;
         }
-        let part = slice.at_most(left);
+        let part = slice.share(store).cut(0, slice.len.min(left));
         left -= part.len;
         queue.push_back_reserved(part);
     }
 }
 
-// Moves the first bytes, at most n, for as long as their pools are among these.
-fn take_prefix(queue: &mut VecDeque<Slice>, out: &mut Vec<Slice>, n: u32, pools: &[PoolId])
+// Moves the first bytes, at most n, for as long as their pools name the domain.
+fn take_prefix(
+    queue: &mut VecDeque<Slice>,
+    store: &mut Store,
+    out: &mut Vec<Slice>,
+    n: u32,
+    d: DomainId,
+)
     requires none { out.old.items ≡ [] }
     requires room { min (length queue.old.items) n ≤ vec_capacity out.old }
-    ensures given { places out.new.items ≡ take_while (is_of pools.now) (take n (places queue.old.items)) }
+    requires covered { Covers store.old (bufs_of queue.old.items) }
+    requires countable { IsCountable store.old (bufs_of queue.old.items) }
+    ensures given { places out.new.items ≡ take_while (may_see store.old.pools d) (take n (places queue.old.items)) }
     ensures whole { places out.new.items ++ places queue.new.items ≡ places queue.old.items }
+    ensures shares { Shares store.old store.new (bufs_of queue.old.items) (bufs_of out.new.items ++ bufs_of queue.new.items) }
 {
     let mut left = n;
     while left > 0 {
         let Some(first) = queue.front() else {
             return;
         };
-        if !pools.contains(&first.pool) {
+        if !store.pools().names(first.hold.pool(), d) {
             return;
         }
-        let slice = take_first(queue, left);
+        let slice = take_first(queue, store, left);
         left -= slice.len;
         out.push_reserved(slice);
     }
 }
 
-// Takes off the first slice, or its first bytes where it has more than wanted.
-fn take_first(queue: &mut VecDeque<Slice>, most: u32) -> Slice
+// Takes off the first slice, or its first bytes where it has more than wanted: then its buffer is held once more.
+fn take_first(queue: &mut VecDeque<Slice>, store: &mut Store, most: u32) -> Slice
     requires some { 0 < most }
     requires filled { 0 < length queue.old.items }
+    requires covered { Covers store.old (bufs_of queue.old.items) }
+    requires countable { IsCountable store.old (bufs_of queue.old.items) }
     ensures places { slice_places result ++ places queue.new.items ≡ places queue.old.items }
-    ensures pool { (x : Slice) → result.pool ≡ (slice_index_or queue.old.items 0 x).pool }
+    ensures pool { (x : Slice) → result.hold.pool ≡ (slice_index_or queue.old.items 0 x).hold.pool }
     ensures len { result.len ≤ most }
     ensures fewer { min (length queue.new.items) (most - result.len) + 1 ≤ min (length queue.old.items) most }
+    ensures shares { Shares store.old store.new (bufs_of queue.old.items) (result.hold.buf ∷ bufs_of queue.new.items) }
+    ensures whole { result.len < most → (b : BufId) → same b result.hold.buf + tally b (bufs_of queue.new.items) ≤ tally b (bufs_of queue.old.items) }
 {
     let Some(first) = queue.pop_front() else {
         unreachable!();
@@ -151,6 +185,7 @@ fn take_first(queue: &mut VecDeque<Slice>, most: u32) -> Slice
     if first.len <= most {
         return first;
     }
-    queue.push_front_reserved(first.after(most));
-    first.first(most)
+    let len = first.len;
+    queue.push_front_reserved(first.share(store).cut(most, len));
+    first.cut(0, most)
 }

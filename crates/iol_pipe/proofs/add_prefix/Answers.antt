@@ -1,19 +1,43 @@
 use Rattle.std.proofs.Common.{◌-◌, ◌+◌, ◌++◌, take, drop, arith, ap, sym, ◌∙◌, append_assoc}
-use Rattle.iol_agg.specs.Places.{slice_places, places}
-use Rattle.iol_agg.proofs.Places.{places-push}
-use Rattle.iol_pipe.proofs.Prefixes.{take_step}
+use Rattle.iol_hold.specs.Places.{slice_places, places}
+use Rattle.iol_hold.specs.Texts.{bufs_of}
+use Rattle.iol_hold.proofs.Slicing.{places-push}
+use Rattle.iol_pipe.proofs.Prefixes.{take_step, cut_first}
+use Rattle.iol_pipe.proofs.Shared.{next_held, next_countable, shares_next, bufs_next, shares_into}
 use Rattle.iol_pipe.proofs.add_prefix.Goals as goal
+
+pub returns-then-left-eq0-clause-shares : goal.returns-then-left-eq0-clause-shares
+returns-then-left-eq0-clause-shares c =
+    shares_into c.args.queue.now.items c.loop-slice.queue.items (bufs_of (take c.loop-slice.slice-index c.args.slices.now)) c.loop-slice.invariant.bufs c.loop-slice.invariant.shares
+
+pub share-requires-clause-live : goal.share-requires-clause-live
+share-requires-clause-live c =
+    next_held c.args.slices.now c.loop-slice.slice-index c.slice-item.result c.loop-slice-test.true c.slice-item.is c.requires.covered c.loop-slice.invariant.shares
+
+pub share-requires-clause-few : goal.share-requires-clause-few
+share-requires-clause-few c =
+    next_countable c.args.slices.now c.loop-slice.slice-index c.slice-item.result c.loop-slice-test.true c.slice-item.is c.requires.countable c.loop-slice.invariant.shares
 
 pub loop-slice-preserved : goal.loop-slice-preserved
 loop-slice-preserved c =
+    let slices = c.args.slices.now in
+    let i = c.loop-slice.slice-index in
+    let slice = c.slice-item.result in
     let queue = c.loop-slice.queue.items in
-    let part = c.at_most-part.result in
-    let rest = take (c.loop-slice.left - part.len) (places (drop (c.loop-slice.slice-index + 1) c.args.slices.now)) in
+    let part = c.cut-part.result in
+    let rest = take (c.loop-slice.left - part.len) (places (drop (i + 1) slices)) in
+    let cut = cut_first slice c.share.result part c.loop-slice.left c.min.result c.share.ensures.places c.min.ensures c.cut-part.ensures.places in
     record {
       so_far = ap (λ xs. places xs ++ rest) c.push_back_reserved.ensures.items
           ∙ ap (λ t. t ++ rest) (places-push queue part)
           ∙ append_assoc (places queue) (slice_places part) rest
-          ∙ ap (λ t. places queue ++ t) (sym (take_step c.args.slices.now c.loop-slice.slice-index c.loop-slice.left c.slice-item.result part (omega arith) c.slice-item.is c.at_most-part.ensures.places))
+          ∙ ap (λ t. places queue ++ t) (sym (take_step slices i c.loop-slice.left slice part c.loop-slice-test.true c.slice-item.is cut))
           ∙ c.loop-slice.invariant.so_far;
+      bufs = bufs_next slices i slice part c.args.queue.now.items queue c.push_back_reserved.new.self.items c.loop-slice-test.true c.slice-item.is (c.cut-part.ensures.hold ∙ c.share.ensures.hold) c.push_back_reserved.ensures.items c.loop-slice.invariant.bufs;
+      shares = shares_next slices i slice c.loop-slice-test.true c.slice-item.is c.loop-slice.invariant.shares c.share.ensures.shares;
       room = omega (arith, c.loop-slice.invariant.room, c.push_back_reserved.ensures.len, c.push_back_reserved.ensures.capacity, part.some);
     }
+
+pub returns-clause-shares : goal.returns-clause-shares
+returns-clause-shares c =
+    shares_into c.args.queue.now.items c.loop-slice.queue.items (bufs_of (take c.loop-slice.slice-index c.args.slices.now)) c.loop-slice.invariant.bufs c.loop-slice.invariant.shares

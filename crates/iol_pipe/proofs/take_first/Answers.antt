@@ -1,10 +1,25 @@
-use Rattle.std.proofs.Common.{ap, sym, ◌∙◌, ◌++◌}
-use Rattle.iol_agg.specs.Places.{slice_places, places}
-use Rattle.iol_pipe.proofs.Prefixes.{split_first}
+use Rattle.std.proofs.Common.{arith, refl, ap, sym, ◌∙◌, ◌++◌}
+use Rattle.iol_hold.specs.Places.{slice_places, places}
+use Rattle.iol_pipe.proofs.Prefixes.{split_first, cut_first, cut_rest}
+use Rattle.iol_pipe.proofs.Shared.{first_tally, first_held, shares_split}
 use Rattle.iol_pipe.proofs.take_first.Goals as goal
+
+pub returns-then-first-most-clause-whole : goal.returns-then-first-most-clause-whole
+returns-then-first-most-clause-whole c = λ less b. omega (arith, first_tally c.args.queue.now.items c.pop_front.new.self.items c.in-Some.first b c.in-Some.ensures.items)
+
+pub share-requires-clause-live : goal.share-requires-clause-live
+share-requires-clause-live c = first_held c.args.queue.now.items c.pop_front.new.self.items c.in-Some.first c.in-Some.ensures.items c.requires.covered
 
 pub returns-clause-places : goal.returns-clause-places
 returns-clause-places c =
-    ap (λ xs. slice_places c.first.result ++ places xs) c.push_front_reserved.ensures.items
-    ∙ split_first c.in-Some.first c.first.result c.after.result c.args.most c.pop_front.new.self.items c.first.ensures.places c.after.ensures.places
+    let first = c.in-Some.first in
+    let small = cut_first first first c.cut-2.result c.args.most c.args.most refl (omega (arith, c.if-first-most.false)) c.cut-2.ensures.places in
+    let after = cut_rest first c.share.result c.cut.result c.args.most c.share.ensures.places c.cut.ensures.places in
+    ap (λ xs. slice_places c.cut-2.result ++ places xs) c.push_front_reserved.ensures.items
+    ∙ split_first first c.cut-2.result c.cut.result c.args.most c.pop_front.new.self.items small after
     ∙ ap places (sym c.in-Some.ensures.items)
+
+pub returns-clause-shares : goal.returns-clause-shares
+returns-clause-shares c =
+    shares_split c.in-Some.first c.cut-2.result c.cut.result c.args.queue.now.items c.push_front_reserved.new.self.items c.pop_front.new.self.items
+    c.in-Some.ensures.items c.push_front_reserved.ensures.items c.cut-2.ensures.hold (c.cut.ensures.hold ∙ c.share.ensures.hold) c.share.ensures.shares
