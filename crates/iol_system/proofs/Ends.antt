@@ -7,7 +7,7 @@ use Rattle.std.proofs.lemmas.Grind.{common_steps}
 use Rattle.iol_core.specs.Numbered.{in_place, placed, lowest}
 use Rattle.iol_core.specs.declared.descriptors.Descriptor.{Descriptor}
 use Rattle.iol_core.specs.declared.descriptors.Descriptor.TheVariants as on
-use Rattle.iol_agg.specs.declared.slices.Slice.{Slice}
+use Rattle.iol_hold.specs.declared.slices.Slice.{Slice}
 use Rattle.iol_system.specs.Seen.{Pipe}
 use Rattle.iol_system.specs.Holding.{Each, IsOpenEnd, queue_at}
 use Rattle.iol_system.proofs.Sound.{each-weaker}

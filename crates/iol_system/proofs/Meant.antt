@@ -8,15 +8,17 @@ use Rattle.std.proofs.lemmas.List.Sums.{sum_by-cons}
 use Rattle.std.proofs.lemmas.Bool.{cases_lt, cases_eq}
 use Rattle.std.proofs.lemmas.Bool.Decides.{nat_tests}
 use Rattle.iol_core.specs.Text.{Text}
-use Rattle.iol_core.specs.Numbered.{lookup, numbered_or, with_numbered, in_place, lowest, placed, taken, is_numbered}
+use Rattle.iol_core.specs.Numbered.{lookup, without, numbered_or, with_numbered, in_place, lowest, placed, taken, is_numbered}
 use Rattle.iol_core.specs.State as machine
 use Rattle.iol_core.specs.State.{State, Domain, new_domain, no_domain}
 use Rattle.iol_core.specs.Calls.Aggregates as aggs
 use Rattle.iol_core.specs.Calls.Descriptors as fds
 use Rattle.iol_core.specs.declared.descriptors.Descriptor.{Descriptor}
 use Rattle.iol_core.specs.declared.limits.TheConstants.{MAX_AGGREGATES, LAST_AGGREGATE}
-use Rattle.iol_system.specs.Tables.{domain_in, with_domain_in, agg_in, with_agg_in, live_aggs_in, too_many_in, with_fds_in, meant}
-use Rattle.iol_system.specs.Seen.{Pool, Pipe, no_pool, pool_in, pipe_in, pool_meant, pipe_meant, seen}
+use Rattle.iol_system.specs.Tables.{domain_in, with_domain_in, agg_in, with_agg_in, without_agg_in, live_aggs_in, too_many_in, with_fds_in, meant}
+use Rattle.iol_pool.specs.Pools.{Pool, no_pool, pool_in, with_closed}
+use Rattle.iol_hold.specs.Moves.{pool_meant}
+use Rattle.iol_system.specs.Seen.{Pipe, pipe_in, pipe_meant, seen}
 
 numbered_or-map : {A B : Type 0} (f : A → B) (xs : List A) (n : ℕ) (z : A) → numbered_or (map f xs) n (f z) ≡ f (numbered_or xs n z)
 numbered_or-map f xs n z = let e = get_or-map f xs (n - 1) z in grind (arith, nat_tests, e)
@@ -82,6 +84,33 @@ with_agg-seen {A} g ds ps qs d a =
     with_domain-seen g ds ps qs d added
     ∙ ap (λ (xs : List (ℕ × Text)). machine.with_domain (seen g ds ps qs) d (record (meant g x) { aggs = xs; next_agg = x.next_agg + 1 })) e
     ∙ ap (λ (y : Domain Text). machine.with_domain (seen g ds ps qs) d (record y { aggs = y.aggs ++ (y.next_agg, g a) ∷ []; next_agg = y.next_agg + 1 })) (sym (domain-seen g ds ps qs d))
+
+without-map : {A B : Type 0} (g : A → B) (es : List (ℕ × A)) (n : ℕ) → map (λ e. (e.0, g e.1)) (without es n) ≡ without (map (λ e. (e.0, g e.1)) es) n
+without-map g [] n = refl
+without-map {A} {B} g (e ∷ es) n = let r = without-map g es n in elim (cases_eq e.0 n) [ inl k ↦ grind (arith, nat_tests, k) | inr k ↦ grind (arith, nat_tests, k, r) ]
+
+pub without_agg-seen : {A : Type 0} (g : A → Text) (ds : List (Domain A)) (ps : List Pool) (qs : List (Option (Pipe A))) (d a : ℕ) → seen g (without_agg_in ds d a) ps qs ≡ aggs.without_agg (seen g ds ps qs) d a
+without_agg-seen {A} g ds ps qs d a =
+    let x : Domain A = domain_in ds d in
+    with_domain-seen g ds ps qs d (record x { aggs = without x.aggs a })
+    ∙ ap (λ (xs : List (ℕ × Text)). machine.with_domain (seen g ds ps qs) d (record (meant g x) { aggs = xs })) (without-map g x.aggs a)
+    ∙ ap (λ (y : Domain Text). machine.with_domain (seen g ds ps qs) d (record y { aggs = without y.aggs a })) (sym (domain-seen g ds ps qs d))
+
+-- pools that the machine cannot tell from others
+pub pools-seen : {A : Type 0} (g : A → Text) (ds : List (Domain A)) (ps rs : List Pool) (qs : List (Option (Pipe A))) → map pool_meant rs ≡ map pool_meant ps → seen g ds rs qs ≡ seen g ds ps qs
+unfolding seen
+pools-seen g ds ps rs qs e = ap (λ (xs : List machine.Pool). record (seen g ds ps qs) { pools = xs }) e
+
+-- one pool more, or one that is closed, as the machine sees it
+pub added_pool-seen : {A : Type 0} (g : A → Text) (ds : List (Domain A)) (ps rs : List Pool) (qs : List (Option (Pipe A))) (x : machine.Pool) → map pool_meant rs ≡ map pool_meant ps ++ x ∷ [] → seen g ds rs qs ≡ record (seen g ds ps qs) { pools = (seen g ds ps qs).pools ++ x ∷ [] }
+unfolding seen
+added_pool-seen g ds ps rs qs x e = ap (λ (xs : List machine.Pool). record (seen g ds ps qs) { pools = xs }) e
+
+pub closed-seen : {A : Type 0} (g : A → Text) (ds : List (Domain A)) (ps rs : List Pool) (qs : List (Option (Pipe A))) (p : ℕ) → map pool_meant rs ≡ map pool_meant (with_closed ps p) → seen g ds rs qs ≡ record (seen g ds ps qs) { pools = with_numbered (seen g ds ps qs).pools p (record (machine.pool (seen g ds ps qs) p) { closed = true }) }
+unfolding seen with_closed
+closed-seen g ds ps rs qs p e =
+    ap (λ (xs : List machine.Pool). record (seen g ds ps qs) { pools = xs }) (e ∙ sym (with_numbered-map pool_meant ps p (record (pool_in ps p) { closed = true })))
+    ∙ ap (λ (x : machine.Pool). record (seen g ds ps qs) { pools = with_numbered (map pool_meant ps) p (record x { closed = true }) }) (sym (pool-seen g ds ps qs p))
 
 pub with_fds-seen : {A : Type 0} (g : A → Text) (ds : List (Domain A)) (ps : List Pool) (qs : List (Option (Pipe A))) (d : ℕ) (xs : List (Option Descriptor)) → seen g (with_fds_in ds d xs) ps qs ≡ fds.with_fds (seen g ds ps qs) d xs
 with_fds-seen g ds ps qs d xs =

@@ -1,30 +1,30 @@
 -- What a system holds, and the state of the copying machine that it stands for.
-use Rattle.std.specs.Prelude.{◌≡◌, ℕ, ◌<◌, ◌≤◌, true, false, ◌++◌, length, List, [], ◌∷◌, take, drop, take_while, flat_map, Option, Some, None}
-use Rattle.std.specs.List.{All}
+use Rattle.std.specs.Prelude.{◌≡◌, ℕ, ◌≤◌, true, ◌++◌, length, List, [], ◌∷◌, take, drop, take_while, flat_map, Option, Some, None}
 use Rattle.iol_core.specs.State as machine
-use Rattle.iol_arena.specs.State as arena
-use Rattle.iol_arena.specs.Chunks.{TakesChunks}
-use Rattle.iol_agg.specs.declared.slices.Slice.{Slice}
-use Rattle.iol_agg.specs.Texts.{text_of, AllReadable}
-use Rattle.iol_agg.specs.Places.{places, byte_len}
-use Rattle.iol_pipe.specs.Queue.{is_of}
+use Rattle.iol_core.specs.Access.{HasAccess}
 use Rattle.iol_core.specs.Text.{Text}
 use Rattle.iol_core.specs.declared.descriptors.Descriptor.{Descriptor}
 use Rattle.iol_core.specs.declared.descriptors.Descriptor.TheVariants as on
-use Rattle.iol_core.specs.declared.limits.TheConstants.{MAX_POOLS}
-use Rattle.iol_system.specs.Tables.{with_agg_in}
-use Rattle.iol_system.specs.Seen.{Pool, Pipe, pipe_in, seen}
+use Rattle.iol_core.specs.declared.limits.TheConstants.{MAX_AGGREGATE_BYTES, MAX_AGGREGATES, MAX_QUEUE_BYTES, MAX_PIPES, MAX_POOLS}
+use Rattle.iol_hold.specs.Stored.{Stored, IsTidy, IsStill}
+use Rattle.iol_hold.specs.Places.{places, byte_len}
+use Rattle.iol_hold.specs.Moves.{Moves, Shares}
+use Rattle.iol_hold.specs.Texts.{text_of, bufs_of, AllReadable}
+use Rattle.iol_hold.specs.declared.slices.Slice.{Slice}
+use Rattle.iol_pipe.specs.Queue.{may_see}
+use Rattle.iol_system.specs.Tables.{with_agg_in, live_aggs_in}
+use Rattle.iol_system.specs.Seen.{Pipe, pipe_in, seen}
+use Rattle.iol_system.specs.Counted.{IsCounted}
 
--- the layers' values: an aggregate and a queue are lists of slices of the arena's buffers
+-- the layers' values: an aggregate and a queue are lists of slices of the store's buffers
 pub record Holding : Type 0 where
-  pub arena : arena.State
+  pub store : Stored
   pub domains : List (machine.Domain (List Slice))
-  pub pools : List Pool
   pub pipes : List (Option (Pipe (List Slice)))
 
 -- the copying machine's state: for slices, the text that lies there
 unfoldable pub machine_of : Holding → machine.State
-machine_of h = seen (text_of h.arena) h.domains h.pools h.pipes
+machine_of h = seen (text_of h.store) h.domains h.store.pools h.pipes
 
 -- bytes in parts, one part after another
 abbrev pub joined : List (List ℕ) → List ℕ
@@ -35,10 +35,10 @@ abbrev pub Each : {A : Type 0} → (A → Type 0) → List A → Type 0
 Each P [] = Unit {0}
 Each P (x ∷ xs) = P x × Each P xs
 
-abbrev pub IsDomainReadable : arena.State → machine.Domain (List Slice) → Type 0
+abbrev pub IsDomainReadable : Stored → machine.Domain (List Slice) → Type 0
 IsDomainReadable s d = Each (λ e. AllReadable s e.1) d.aggs
 
-abbrev pub IsPipeReadable : arena.State → Option (Pipe (List Slice)) → Type 0
+abbrev pub IsPipeReadable : Stored → Option (Pipe (List Slice)) → Type 0
 IsPipeReadable s None = Unit {0}
 IsPipeReadable s (Some p) = AllReadable s p.queue
 
@@ -54,32 +54,47 @@ IsOpenEnd pipes (Some (on.WriteEnd p)) = (queue_at pipes p).writing ≡ true
 IsOpenEnd pipes (Some (on.File f at mode)) = ⊥
 IsOpenEnd pipes (Some (on.Connection c)) = ⊥
 
--- Between any two events: what aggregates and queues name lies in live buffers, pools have chunks of the arena,
--- and descriptors are open on open ends of pipes.
+abbrev pub IsShort : Option (Pipe (List Slice)) → Type 0
+IsShort None = Unit {0}
+IsShort (Some p) = byte_len p.queue ≤ MAX_QUEUE_BYTES
+
+-- aggregates and queues within the limits, which keep every count far below 2^63
+pub record IsLimited (domains : List (machine.Domain (List Slice))) (pipes : List (Option (Pipe (List Slice)))) : Type 0 where
+  pub aggs : Each (λ d. Each (λ e. byte_len e.1 ≤ MAX_AGGREGATE_BYTES) d.aggs) domains
+  pub few : live_aggs_in domains ≤ MAX_AGGREGATES
+  pub queues : Each IsShort pipes
+  pub few_pipes : length pipes ≤ MAX_PIPES
+
+-- Between any two events: what aggregates and queues name lies in live buffers of their pools, each buffer is counted
+-- for each of its slices and no page is lost, and descriptors are open on open ends of pipes.
 pub record IsSound (h : Holding) : Type 0 where
-  pub domains : Each (IsDomainReadable h.arena) h.domains
-  pub pipes : Each (IsPipeReadable h.arena) h.pipes
-  pub chunks : Each (λ p. All (λ c. c < arena.chunk_count h.arena) p.chunks) h.pools
+  pub domains : Each (IsDomainReadable h.store) h.domains
+  pub pipes : Each (IsPipeReadable h.store) h.pipes
   pub fds : Each (λ d. Each (IsOpenEnd h.pipes) d.fds) h.domains
-  pub few : length h.pools ≤ MAX_POOLS
+  pub counted : IsCounted h.store h.domains h.pipes
+  pub tidy : IsTidy h.store
+  pub still : IsStill h.store.arena
+  pub limits : IsLimited h.domains h.pipes
+  pub few_pools : length h.store.pools ≤ MAX_POOLS
 
--- a domain got an aggregate of this text
-pub record AddsText (s : arena.State) (old new : List (machine.Domain (List Slice))) (d : ℕ) (t : Text) : Type 0 where
+-- a domain got an aggregate of this text, in new buffers
+pub record AddsText (s t : Stored) (old new : List (machine.Domain (List Slice))) (d : ℕ) (text : Text) : Type 0 where
   pub slices : List Slice
-  pub text : text_of s slices ≡ t
-  pub readable : AllReadable s slices
+  pub is_text : text_of t slices ≡ text
+  pub readable : AllReadable t slices
+  pub moves : Moves s t [] (bufs_of slices)
+  pub pools : t.pools ≡ s.pools
   pub added : new ≡ with_agg_in old d slices
 
--- a domain got the longest prefix of a queue, of at most n bytes, whose pools are all among these
-pub record TakesFront (queue rest : List Slice) (old new : List (machine.Domain (List Slice))) (d : ℕ) (pools : List ℕ) (n : ℕ) : Type 0 where
+-- a domain got the longest prefix of a queue, of at most n bytes, whose pools all name it
+pub record TakesFront (s t : Stored) (queue rest : List Slice) (old new : List (machine.Domain (List Slice))) (d n : ℕ) : Type 0 where
   pub slices : List Slice
-  pub given : places slices ≡ take_while (is_of pools) (take n (places queue))
+  pub given : places slices ≡ take_while (may_see s.pools d) (take n (places queue))
   pub left : places rest ≡ drop (byte_len slices) (places queue)
+  pub shares : Shares s t (bufs_of queue) (bufs_of slices ++ bufs_of rest)
   pub added : new ≡ with_agg_in old d slices
 
--- a pool of so many chunks, the lowest free ones, for these domains
-pub record AddsPool (s t : arena.State) (old new : List Pool) (n : ℕ) (list : List ℕ) : Type 0 where
-  pub chunks : List ℕ
-  pub count : length chunks ≡ n
-  pub taken : TakesChunks s t chunks
-  pub added : new ≡ old ++ record { domains = list; closed = false; chunks = chunks } ∷ []
+-- and what each domain has it may read, as the copying machine says it
+pub record IsSafe (h : Holding) : Type 0 where
+  pub sound : IsSound h
+  pub access : HasAccess (machine_of h)

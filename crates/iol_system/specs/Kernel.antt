@@ -3,4 +3,4 @@ use Rattle.iol_system.specs.Holding.{Holding}
 use Rattle.iol_system.specs.declared.kernel.Kernel.{Kernel}
 
 abbrev pub holding : Kernel → Holding
-holding k = record { arena = k.arena; domains = k.domains.items; pools = k.pools.items; pipes = k.pipes.items }
+holding k = record { store = k.store; domains = k.domains.items; pipes = k.pipes.items }

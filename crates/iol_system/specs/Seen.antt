@@ -1,31 +1,18 @@
 -- The state of the copying machine that a system's tables stand for.
-use Rattle.std.specs.Prelude.{ℕ, Bool, false, true, List, [], Option, option_map, map, unwrap_or}
+use Rattle.std.specs.Prelude.{ℕ, Bool, false, List, [], Option, option_map, map, unwrap_or}
 use Rattle.iol_core.specs.Text.{Text}
-use Rattle.iol_core.specs.Numbered.{numbered_or, in_place}
+use Rattle.iol_core.specs.Numbered.{in_place}
 use Rattle.iol_core.specs.State as machine
 use Rattle.iol_core.specs.State.{State, Domain, no_slots}
+use Rattle.iol_pool.specs.Pools.{Pool}
+use Rattle.iol_hold.specs.Moves.{pool_meant}
 use Rattle.iol_system.specs.Tables.{meant}
-
--- who may read a pool, whether it is closed, and its chunks, by rising number
-pub record Pool : Type 0 where
-  pub domains : List ℕ
-  pub closed : Bool
-  pub chunks : List ℕ
 
 -- a pipe; A is what its queue is
 pub record Pipe (A : Type 0) : Type 0 where
   pub queue : A
   pub reading : Bool
   pub writing : Bool
-
-abbrev pub no_pool : Pool
-no_pool = record { domains = []; closed = true; chunks = [] }
-
-unfoldable pub pool_in : List Pool → (p : ℕ) → Pool
-pool_in ps p = numbered_or ps p no_pool
-
-abbrev pub pool_meant : Pool → machine.Pool
-pool_meant p = record { domains = p.domains; closed = p.closed }
 
 abbrev pub pipe_meant : {A : Type 0} → (A → Text) → Pipe A → machine.Pipe
 pipe_meant g p = record { queue = g p.queue; reading = p.reading; writing = p.writing }

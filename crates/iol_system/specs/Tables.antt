@@ -1,7 +1,8 @@
 -- The table of domains, whatever an aggregate is.
-use Rattle.std.specs.Prelude.{ℕ, ◌+◌, ◌||◌, Bool, nat_lt, List, [], ◌∷◌, ◌++◌, length, Option, map, sum_by}
+use Rattle.std.specs.Prelude.{ℕ, ◌+◌, ◌==◌, ◌||◌, Bool, nat_lt, List, [], ◌∷◌, ◌++◌, length, Option, map, sum_by}
+use Rattle.std.specs.List.{position_or_len}
 use Rattle.iol_core.specs.State.{Domain, no_domain}
-use Rattle.iol_core.specs.Numbered.{numbered_or, with_numbered, lookup}
+use Rattle.iol_core.specs.Numbered.{numbered_or, with_numbered, lookup, without}
 use Rattle.iol_core.specs.declared.descriptors.Descriptor.{Descriptor}
 use Rattle.iol_core.specs.declared.limits.TheConstants.{MAX_AGGREGATES, LAST_AGGREGATE}
 
@@ -20,6 +21,14 @@ with_agg_in ds d a = with_domain_in ds d (record (domain_in ds d) {
   aggs = (domain_in ds d).aggs ++ ((domain_in ds d).next_agg, a) ∷ [];
   next_agg = (domain_in ds d).next_agg + 1;
 })
+
+-- the place of the entry of this number, or the length where there is none
+abbrev pub place_in : {A : Type 0} → List (ℕ × A) → (n : ℕ) → ℕ
+place_in es n = position_or_len (λ e. e.0 == n) es
+
+-- without the domain's aggregate of this number
+abbrev pub without_agg_in : {A : Type 0} → List (Domain A) → (d a : ℕ) → List (Domain A)
+without_agg_in ds d a = with_domain_in ds d (record (domain_in ds d) { aggs = without (domain_in ds d).aggs a })
 
 abbrev pub live_aggs_in : {A : Type 0} → List (Domain A) → ℕ
 live_aggs_in ds = sum_by (λ d. length d.aggs) ds

@@ -2,80 +2,77 @@
 ghost use Rattle.std.specs.Prelude.{◌≡◌, ◌≢◌, ℕ, ◌+◌, ◌-◌, ◌<◌, ◌≤◌, ◌^◌, length, true, false, not, ◌&&◌, ◌==◌, min, take, drop, slice_set, Option, Some, None, List, [], ◌∷◌, ◌++◌, IfOk, IfErr, OnOk, OnErr, Ok, Err};
 ghost use Rattle.iol_core.specs.State.{is_live};
 ghost use Rattle.iol_core.specs.Meaning.{Step, WantOfRoom, first};
-ghost use Rattle.std.specs.List.{All};
 ghost use Rattle.iol_core.specs.Text.{bytes_of, labelled};
 ghost use Rattle.iol_core.specs.Calls.Aggregates as calls;
 ghost use Rattle.iol_core.specs.Calls.Aggregates.{default_pool, lacks_agg, too_many_aggs};
 ghost use Rattle.iol_core.specs.State.{domain};
 ghost use Rattle.iol_core.specs.State as state;
-ghost use Rattle.iol_arena.specs.State.{chunk_count, pages_for};
-ghost use Rattle.iol_arena.specs.Buffers.{Grows};
-ghost use Rattle.iol_arena.specs.Chunks.{free_pages};
+ghost use Rattle.iol_pool.specs.Pools.{pool_in};
+ghost use Rattle.iol_hold.specs.Room.{has_room};
 ghost use Rattle.iol_system.specs.Tables.{domain_in};
+ghost use Rattle.iol_hold.specs.Moves.{Stays};
 ghost use Rattle.iol_system.specs.Holding.{machine_of, joined, IsSound, AddsText};
-ghost use Rattle.iol_system.specs.Room.{has_room};
 
-use crate::kernel::{Kernel, chunks_of};
+use crate::kernel::Kernel;
 use crate::table;
 use crate::table::{Domain, place_of};
 use iol_agg::{Agg, Parts};
-use iol_arena::arena::Arena;
-use iol_arena::chunks::ChunkSet;
-use iol_arena::pages::Unfilled;
 use iol_core::limits::MAX_AGGREGATE_BYTES;
 use iol_core::lists::Bytes;
 use iol_core::numbers::{AggId, DomainId, PoolId};
 use iol_core::refusals::Refusal;
+use iol_hold::Store;
 use std::alloc::{AllocError, Global};
 
 /// Places bytes, and adds them to a domain as its next aggregate.
 #[tactic(auto, unfolding(crate::specs::Tables::domain_in, crate::specs::Tables::with_domain_in))]
 fn add_bytes(
     alloc: Global,
-    arena: &mut Arena,
-    chunks: &ChunkSet,
+    store: &mut Store,
     domains: &mut Vec<Domain<Agg>>,
     d: DomainId,
     pool: PoolId,
     bytes: &[u8],
-) -> Result<AggId, Unfilled>
+) -> Result<AggId, Refusal>
     requires live { (domain_in domains.old.items d).live ≡ true }
     requires few { (domain_in domains.old.items d).next_agg < 2 ^ 64 - 1 }
     requires small { length bytes.now ≤ 2 ^ 24 }
-    requires chunks { All (λ c. c < chunk_count arena.old) chunks.now }
+    requires open { (pool_in store.old.pools pool).closed ≡ false }
     ensures number { IfOk result (λ n. n ≡ (domain_in domains.old.items d).next_agg) }
-    ensures added { OnOk result (AddsText arena.new domains.old.items domains.new.items d (labelled pool bytes.now)) }
-    ensures grows { OnOk result (Grows arena.old arena.new) }
-    ensures enough { OnOk result (pages_for (length bytes.now) ≤ length (free_pages arena.old chunks.now)) }
-    ensures no_room { result ≡ Err Unfilled.NoRoom → length (free_pages arena.old chunks.now) < pages_for (length bytes.now) }
+    ensures added { OnOk result (AddsText store.old store.new domains.old.items domains.new.items d (labelled pool bytes.now)) }
+    ensures room { OnOk result (has_room store.old pool (length bytes.now) ≡ true) }
+    ensures no_room { (p : ℕ) → result ≡ Err (Refusal.NoRoom p) → has_room store.old pool (length bytes.now) ≡ false }
+    ensures late { IfErr result (WantOfRoom pool) }
     ensures err { OnErr result (domains.new.items ≡ domains.old.items) }
-    ensures err_arena { OnErr result (arena.new ≡ arena.old) }
+    ensures err_store { OnErr result (store.new ≡ store.old) }
 {
     let at = place_of(domains, d);
     let domain = &mut domains[at];
     if domain.aggs.reserve(1).is_err() {
-        return Err(Unfilled::Memory);
+        return Err(Refusal::Memory);
     }
     let number = domain.next_agg;
-    match Agg::fill(alloc, arena, chunks, pool, bytes) {
+    match Agg::fill(alloc, store, pool, bytes) {
         Ok(agg) => {
             domain.aggs.push_reserved((AggId::new(number), agg));
             domain.next_agg += 1;
             Ok(AggId::new(number))
         }
-        Err(error) => Err(error),
+        Err(refusal) => Err(refusal),
     }
 }
 
 impl Kernel {
     ghost use Rattle.iol_system.specs.Kernel.{holding};
 
+    #[tactic(auto, using(crate::proofs::Stay::stay_rules))]
     pub(crate) fn agg_make(&mut self, by: DomainId, bytes: &Bytes) -> Result<AggId, Refusal>
         requires { IsSound (holding self.old) }
         ensures step { Step (calls.agg_make (machine_of (holding self.old)) by bytes.now) (machine_of (holding self.old)) result (machine_of (holding self.new)) }
         ensures sound { IsSound (holding self.new) }
-        ensures room { OnOk result (has_room (holding self.old) (default_pool (machine_of (holding self.old)) by) (length bytes.now) ≡ true) }
-        ensures no_room { (p : ℕ) → result ≡ Err (Refusal.NoRoom p) → has_room (holding self.old) (default_pool (machine_of (holding self.old)) by) (length bytes.now) ≡ false }
+        ensures stays { Stays (holding self.old).store (holding self.new).store }
+        ensures room { OnOk result (has_room (holding self.old).store (default_pool (machine_of (holding self.old)) by) (length bytes.now) ≡ true) }
+        ensures no_room { (p : ℕ) → result ≡ Err (Refusal.NoRoom p) → has_room (holding self.old).store (default_pool (machine_of (holding self.old)) by) (length bytes.now) ≡ false }
     {
         if !self.is_live(by) {
             return Err(Refusal::NoDomain);
@@ -96,6 +93,7 @@ impl Kernel {
     }
 
     /// Places bytes in a pool, as the domain's next aggregate.
+    #[tactic(auto, using(crate::proofs::Stay::stay_rules))]
     fn place(&mut self, by: DomainId, pool: PoolId, bytes: &[u8]) -> Result<AggId, Refusal>
         requires sound { IsSound (holding self.old) }
         requires live { is_live (machine_of (holding self.old)) by ≡ true }
@@ -105,25 +103,54 @@ impl Kernel {
         ensures number { IfOk result (λ n. n ≡ calls.next_agg (machine_of (holding self.old)) by) }
         ensures placed { OnOk result (machine_of (holding self.new) ≡ calls.with_agg (machine_of (holding self.old)) by (labelled pool bytes.now)) }
         ensures sound { IsSound (holding self.new) }
-        ensures room { OnOk result (has_room (holding self.old) pool (length bytes.now) ≡ true) }
-        ensures no_room { (p : ℕ) → result ≡ Err (Refusal.NoRoom p) → (p ≡ pool) × (has_room (holding self.old) pool (length bytes.now) ≡ false) }
+        ensures stays { Stays (holding self.old).store (holding self.new).store }
+        ensures room { OnOk result (has_room (holding self.old).store pool (length bytes.now) ≡ true) }
+        ensures no_room { (p : ℕ) → result ≡ Err (Refusal.NoRoom p) → (p ≡ pool) × (has_room (holding self.old).store pool (length bytes.now) ≡ false) }
         ensures late { IfErr result (WantOfRoom pool) }
         ensures err { OnErr result (machine_of (holding self.new) ≡ machine_of (holding self.old)) }
     {
-        let chunks = chunks_of(&self.pools, pool);
         match add_bytes(
             self.alloc,
-            &mut self.arena,
-            chunks,
+            &mut self.store,
             &mut self.domains,
             by,
             pool,
             bytes,
         ) {
             Ok(number) => Ok(number),
-            Err(Unfilled::NoRoom) => Err(Refusal::NoRoom { pool }),
-            Err(Unfilled::Memory) => Err(Refusal::Memory),
+            Err(refusal) => Err(refusal),
         }
+    }
+
+    #[tactic(auto, using(crate::proofs::Stay::stay_rules))]
+    pub(crate) fn agg_drop(&mut self, by: DomainId, agg: AggId) -> Result<(), Refusal>
+        requires { IsSound (holding self.old) }
+        ensures step { Step (calls.agg_drop (machine_of (holding self.old)) by agg) (machine_of (holding self.old)) result (machine_of (holding self.new)) }
+        ensures sound { IsSound (holding self.new) }
+        ensures stays { Stays (holding self.old).store (holding self.new).store }
+    {
+        if !self.is_live(by) {
+            return Err(Refusal::NoDomain);
+        }
+        if self.lacks_agg(by, agg) {
+            return Err(Refusal::BadAgg);
+        }
+        self.give_up(by, agg);
+        Ok(())
+    }
+
+    /// Takes an aggregate from its domain, and gives its holds up.
+    #[tactic(auto, using(crate::proofs::Stay::stay_rules))]
+    fn give_up(&mut self, by: DomainId, agg: AggId)
+        requires sound { IsSound (holding self.old) }
+        requires live { is_live (machine_of (holding self.old)) by ≡ true }
+        requires there { lacks_agg (machine_of (holding self.old)) by agg ≡ false }
+        ensures given { machine_of (holding self.new) ≡ calls.without_agg (machine_of (holding self.old)) by agg }
+        ensures sound { IsSound (holding self.new) }
+        ensures stays { Stays (holding self.old).store (holding self.new).store }
+    {
+        let given = table::take(&mut self.domains, by, agg);
+        given.release(&mut self.store);
     }
 
     pub(crate) fn show(&self, by: DomainId, agg: AggId) -> Result<Bytes, Refusal>
@@ -166,7 +193,7 @@ impl Kernel {
         let Some(found) = table::get(&self.domains, by, agg) else {
             unreachable!()
         };
-        found.parts(&self.arena)
+        found.parts(&self.store)
     }
 
     /// A copy of an aggregate's bytes.
@@ -179,7 +206,7 @@ impl Kernel {
         let Some(found) = table::get(&self.domains, by, agg) else {
             unreachable!()
         };
-        match found.to_vec(self.alloc, &self.arena) {
+        match found.to_vec(self.alloc, &self.store) {
             Ok(bytes) => Ok(bytes),
             Err(error) => Err(error),
         }

@@ -2,6 +2,7 @@
 ghost use Rattle.std.specs.Prelude.{◌≡◌, ◌≢◌, ℕ, ◌+◌, ◌-◌, ◌<◌, ◌≤◌, ◌^◌, length, true, false, not, ◌&&◌, ◌==◌, min, take, drop, slice_set, Option, Some, None, List, [], ◌∷◌, ◌++◌, IfOk, IfErr, OnOk, OnErr, Ok, Err, if◌then◌else◌};
 ghost use Rattle.iol_core.specs.State.{is_live, domain, descriptor};
 ghost use Rattle.iol_core.specs.Meaning.{Step};
+ghost use Rattle.iol_hold.specs.Moves.{Stays};
 ghost use Rattle.iol_system.specs.Holding.{machine_of, IsSound};
 ghost use Rattle.iol_core.specs.Numbered.{lowest, placed, taken, in_place};
 ghost use Rattle.iol_core.specs.Calls.Descriptors as calls;
@@ -52,10 +53,12 @@ fn add_pipe(
 impl Kernel {
     ghost use Rattle.iol_system.specs.Kernel.{holding};
 
+    #[tactic(auto, using(crate::proofs::Stay::stay_rules))]
     pub(crate) fn pipe(&mut self, by: DomainId) -> Result<(Fd, Fd), Refusal>
         requires { IsSound (holding self.old) }
         ensures step { Step (calls.pipe (machine_of (holding self.old)) by) (machine_of (holding self.old)) result (machine_of (holding self.new)) }
         ensures sound { IsSound (holding self.new) }
+        ensures stays { Stays (holding self.old).store (holding self.new).store }
     {
         if !self.is_live(by) {
             return Err(Refusal::NoDomain);
@@ -70,6 +73,7 @@ impl Kernel {
     }
 
     /// Adds a pipe with both ends in a domain.
+    #[tactic(auto, using(crate::proofs::Stay::stay_rules))]
     fn new_pipe(&mut self, by: DomainId) -> Result<(Fd, Fd), AllocError>
         requires sound { IsSound (holding self.old) }
         requires live { is_live (machine_of (holding self.old)) by ≡ true }
@@ -79,6 +83,7 @@ impl Kernel {
         ensures opened { OnOk result (machine_of (holding self.new) ≡ (calls.pipe (machine_of (holding self.old)) by).after) }
         ensures err { OnErr result (machine_of (holding self.new) ≡ machine_of (holding self.old)) }
         ensures sound { IsSound (holding self.new) }
+        ensures stays { Stays (holding self.old).store (holding self.new).store }
     {
         match add_pipe(self.alloc, &mut self.domains, &mut self.pipes, by) {
             Ok(ends) => Ok(ends),
@@ -86,10 +91,12 @@ impl Kernel {
         }
     }
 
+    #[tactic(auto, using(crate::proofs::Stay::stay_rules))]
     pub(crate) fn give_fd(&mut self, by: DomainId, fd: Fd, to: DomainId) -> Result<Fd, Refusal>
         requires { IsSound (holding self.old) }
         ensures step { Step (calls.give_fd (machine_of (holding self.old)) by fd to) (machine_of (holding self.old)) result (machine_of (holding self.new)) }
         ensures sound { IsSound (holding self.new) }
+        ensures stays { Stays (holding self.old).store (holding self.new).store }
     {
         if !self.is_live(by) || !self.is_live(to) {
             return Err(Refusal::NoDomain);
@@ -107,6 +114,7 @@ impl Kernel {
     }
 
     /// Moves a descriptor of a pipe's end, which every domain may hold.
+    #[tactic(auto, using(crate::proofs::Stay::stay_rules))]
     fn move_fd(
         &mut self,
         by: DomainId,
@@ -124,6 +132,7 @@ impl Kernel {
         ensures moved { OnOk result (machine_of (holding self.new) ≡ calls.given_to (machine_of (holding self.old)) by fd to given) }
         ensures err { OnErr result (machine_of (holding self.new) ≡ machine_of (holding self.old)) }
         ensures sound { IsSound (holding self.new) }
+        ensures stays { Stays (holding self.old).store (holding self.new).store }
     {
         if by.number() == to.number() {
             return Ok(table::move_within(&mut self.domains, by, fd, given));

@@ -3,6 +3,7 @@ ghost use Rattle.std.specs.Prelude.{◌≡◌, ◌≢◌, ℕ, ◌+◌, ◌-◌,
 ghost use Rattle.iol_core.specs.State.{is_live, new_domain};
 ghost use Rattle.iol_core.specs.Meaning.{Step};
 ghost use Rattle.iol_core.specs.Calls.Domains as calls;
+ghost use Rattle.iol_hold.specs.Moves.{Stays};
 ghost use Rattle.iol_system.specs.Holding.{machine_of, IsSound};
 
 use crate::kernel::Kernel;
@@ -15,10 +16,12 @@ use std::alloc::AllocError;
 impl Kernel {
     ghost use Rattle.iol_system.specs.Kernel.{holding};
 
+    #[tactic(auto, using(crate::proofs::Stay::stay_rules))]
     pub(crate) fn domain_new(&mut self, by: DomainId) -> Result<DomainId, Refusal>
         requires { IsSound (holding self.old) }
         ensures step { Step (calls.domain_new (machine_of (holding self.old)) by) (machine_of (holding self.old)) result (machine_of (holding self.new)) }
         ensures sound { IsSound (holding self.new) }
+        ensures stays { Stays (holding self.old).store (holding self.new).store }
     {
         if !self.is_live(by) {
             return Err(Refusal::NoDomain);
@@ -34,11 +37,13 @@ impl Kernel {
     }
 
     /// Adds a domain.
+    #[tactic(auto, using(crate::proofs::Stay::stay_rules))]
     fn grow(&mut self) -> Result<(), AllocError>
         requires { IsSound (holding self.old) }
         ensures ok { OnOk result (machine_of (holding self.new) ≡ record (machine_of (holding self.old)) { domains = (machine_of (holding self.old)).domains ++ new_domain ∷ [] }) }
         ensures err { OnErr result (machine_of (holding self.new) ≡ machine_of (holding self.old)) }
         ensures sound { IsSound (holding self.new) }
+        ensures stays { Stays (holding self.old).store (holding self.new).store }
     {
         add_domain(self.alloc, &mut self.domains)
     }

@@ -1,44 +1,27 @@
 //! What a system holds, and the tests that its calls make.
 ghost use Rattle.std.specs.Prelude.{◌⊎◌, ◌↔◌, Err, IfOk, IfErr, ◌≡◌, ◌≢◌, ◌==◌, ℕ, ◌+◌, ◌-◌, ◌<◌, ◌≤◌, length, true, false, Option, Some, None, option_map, is_none, is_some, IfSome, nat_lt};
 ghost use Rattle.std.specs.Option.{option_copied};
-ghost use Rattle.std.specs.List.{list_any};
 ghost use Rattle.iol_core.specs.Configuration.{IsInRange};
 ghost use Rattle.iol_core.specs.State.{new_state, no_slots, is_live, is_pool, may_read, pool, domain, aggregate, text, descriptor};
 ghost use Rattle.iol_core.specs.Numbered.{numbered_or, is_numbered, taken};
 ghost use Rattle.iol_core.specs.Calls.Aggregates.{lacks_agg, too_many_aggs};
 ghost use Rattle.iol_core.specs.Calls.Descriptors.{too_many_open};
-ghost use Rattle.iol_agg.specs.Places.{byte_len};
+ghost use Rattle.iol_arena.specs.Buffers.{live_pages};
+ghost use Rattle.iol_system.specs.Report.{reports_of};
 ghost use Rattle.iol_system.specs.Tables.{domain_in};
-ghost use Rattle.iol_system.specs.Seen.{pool_in, no_pool};
 ghost use Rattle.iol_system.specs.Holding.{machine_of, IsSound};
 
+use crate::report::{Report, report_pools};
 use crate::table;
 use crate::table::Domain;
 use iol_agg::Agg;
-use iol_arena::arena::Arena;
-use iol_arena::chunks::ChunkSet;
 use iol_core::configuration::Config;
 use iol_core::descriptors::Descriptor;
 use iol_core::numbers::{AggId, DomainId, Fd, PoolId};
 use iol_core::refusals::Refusal;
-use std::alloc::Global;
+use iol_hold::Store;
+use std::alloc::{AllocError, Global};
 use std::marker::Model;
-
-/// A pool: who may read its bytes, and where they lie.
-#[derive(Drop)]
-pub(crate) struct Pool {
-    pub(crate) domains: Vec<DomainId>,
-    pub(crate) closed: bool,
-    pub(crate) chunks: ChunkSet,
-}
-
-impl Model for Pool {
-    ghost use Rattle.iol_system.specs.Seen as seen;
-
-    ghost Value = { seen.Pool };
-
-    ghost view = { λ p. record { domains = p.domains.items; closed = p.closed; chunks = p.chunks } };
-}
 
 /// A pipe and which of its ends are open.
 #[derive(Drop)]
@@ -50,7 +33,7 @@ pub(crate) struct Pipe {
 
 impl Model for Pipe {
     ghost use Rattle.std.specs.Prelude.{List};
-    ghost use Rattle.iol_agg.specs.declared.slices.Slice.{Slice};
+    ghost use Rattle.iol_hold.specs.declared.slices.Slice.{Slice};
     ghost use Rattle.iol_system.specs.Seen as seen;
 
     ghost Value = { seen.Pipe (List Slice) };
@@ -62,53 +45,9 @@ impl Model for Pipe {
 #[derive(Drop)]
 pub struct Kernel {
     pub(crate) alloc: Global,
-    pub(crate) arena: Arena,
+    pub(crate) store: Store,
     pub(crate) domains: Vec<Domain<Agg>>,
-    pub(crate) pools: Vec<Pool>,
     pub(crate) pipes: Vec<Option<Pipe>>,
-}
-
-/// The pool of this number.
-#[tactic(auto, unfolding(crate::specs::Seen::pool_in))]
-pub(crate) fn pool_at(pools: &[Pool], p: PoolId) -> Option<&Pool>
-    ensures found { IfSome (option_copied result) (λ x. x ≡ pool_in pools.now p) }
-    ensures there { is_some (option_copied result) ≡ is_numbered pools.now p }
-    ensures none { option_copied result ≡ None → pool_in pools.now p ≡ no_pool }
-{
-    let n = p.number();
-    if n == 0 {
-        None
-    } else {
-        pools.get(n as usize - 1)
-    }
-}
-
-/// The chunks of a pool that is open.
-#[tactic(auto, unfolding(crate::specs::Seen::pool_in))]
-pub(crate) fn chunks_of(pools: &[Pool], p: PoolId) -> &ChunkSet
-    requires { (pool_in pools.now p).closed ≡ false }
-    ensures { result.now ≡ (pool_in pools.now p).chunks }
-{
-    let pool = &pools[p.number() as usize - 1];
-    &pool.chunks
-}
-
-/// Whether a list has the domain.
-pub(crate) fn is_named(list: &[DomainId], d: DomainId) -> bool
-    ensures { result ≡ list_any (λ e. e == d) list.now }
-{
-    list.iter().any(|e| *e == d)
-}
-
-/// Whether the pool's list names the domain.
-#[tactic(auto, unfolding(crate::specs::Seen::pool_in))]
-fn names(pools: &[Pool], p: PoolId, d: DomainId) -> bool
-    ensures { result ≡ list_any (λ e. e == d) (pool_in pools.now p).domains }
-{
-    match pool_at(pools, p) {
-        Some(pool) => is_named(&pool.domains, d),
-        None => false,
-    }
 }
 
 impl Kernel {
@@ -121,17 +60,16 @@ impl Kernel {
         ensures new { IfOk result (λ k. machine_of (holding k) ≡ new_state no_slots) }
         ensures sound { IfOk result (λ k. IsSound (holding k)) }
     {
-        let arena = match Arena::new(alloc, config) {
-            Ok(arena) => arena,
+        let store = match Store::new(alloc, config) {
+            Ok(store) => store,
             Err(refusal) => return Err(refusal),
         };
         let mut domains = Vec::new(alloc);
         match table::add_domain(alloc, &mut domains) {
             Ok(()) => Ok(Kernel {
                 alloc,
-                arena,
+                store,
                 domains,
-                pools: Vec::new(alloc),
                 pipes: Vec::new(alloc),
             }),
             Err(_) => Err(Refusal::Memory),
@@ -197,7 +135,7 @@ impl Kernel {
     pub(crate) fn is_pool(&self, p: PoolId) -> bool
         ensures { result ≡ is_pool (machine_of (holding self.now)) p }
     {
-        pool_at(&self.pools, p).is_some()
+        self.store.pools().is_pool(p)
     }
 
     /// Whether nothing more is placed in the pool.
@@ -205,10 +143,7 @@ impl Kernel {
     pub(crate) fn is_closed(&self, p: PoolId) -> bool
         ensures { result ≡ (pool (machine_of (holding self.now)) p).closed }
     {
-        match pool_at(&self.pools, p) {
-            Some(pool) => pool.closed,
-            None => true,
-        }
+        self.store.pools().is_closed(p)
     }
 
     /// Whether the pool's list names the domain.
@@ -216,7 +151,7 @@ impl Kernel {
     pub(crate) fn may_read(&self, d: DomainId, p: PoolId) -> bool
         ensures { result ≡ may_read (machine_of (holding self.now)) d p }
     {
-        names(&self.pools, p, d)
+        self.store.pools().names(p, d)
     }
 
     /// How many domains were ever made.
@@ -232,7 +167,7 @@ impl Kernel {
     pub(crate) fn pool_count(&self) -> usize
         ensures { result ≡ length (machine_of (holding self.now)).pools }
     {
-        self.pools.len()
+        self.store.pools().len()
     }
 
     /// How many pipes are live.
@@ -253,5 +188,22 @@ impl Kernel {
             Some(found) => found.len(),
             None => 0,
         }
+    }
+
+    /// What lies there, counted.
+    pub(crate) fn report(&self) -> Result<Report, AllocError>
+        requires { IsSound (holding self.now) }
+        ensures pools { IfOk result (λ r. r.pools.items ≡ reports_of (holding self.now).store (length (holding self.now).store.pools)) }
+        ensures buffers { IfOk result (λ r. r.buffers ≡ length (live_pages (holding self.now).store.arena)) }
+        ensures extents { IfOk result (λ r. r.extents ≡ 0) }
+        ensures dirty { IfOk result (λ r. r.dirty ≡ 0) }
+    {
+        let pools = report_pools(self.alloc, &self.store)?;
+        Ok(Report {
+            pools,
+            extents: 0,
+            dirty: 0,
+            buffers: self.store.buffer_count(),
+        })
     }
 }

@@ -11,6 +11,7 @@ mod domains;
 mod kernel;
 mod pools;
 mod queues;
+pub mod report;
 mod step;
 pub mod system;
 mod table;

@@ -2,85 +2,34 @@
 ghost use Rattle.std.specs.Prelude.{◌≡◌, ◌≢◌, ℕ, ◌+◌, ◌-◌, ◌<◌, ◌≤◌, ◌^◌, length, true, false, not, ◌&&◌, ◌==◌, min, take, drop, slice_set, Option, Some, None, List, [], ◌∷◌, ◌++◌, IfOk, IfErr, OnOk, OnErr, Ok, Err, if◌then◌else◌};
 ghost use Rattle.iol_core.specs.State.{is_live, domain, descriptor};
 ghost use Rattle.iol_core.specs.Meaning.{Step};
+ghost use Rattle.iol_hold.specs.Moves.{Stays};
 ghost use Rattle.iol_system.specs.Holding.{machine_of, IsSound};
 ghost use Rattle.std.specs.List.{list_any, list_all};
 ghost use Rattle.iol_core.specs.State.{with_domain};
 ghost use Rattle.iol_core.specs.Calls.Pools as calls;
-ghost use Rattle.iol_core.specs.Calls.Pools.{distinct};
 ghost use Rattle.iol_core.specs.Meaning.{WantOfRoom};
 ghost use Rattle.iol_arena.specs.Chunks.{free_chunks};
-ghost use Rattle.iol_system.specs.Holding.{AddsPool};
+ghost use Rattle.iol_core.specs.State as state;
+ghost use Rattle.iol_core.specs.State.{is_pool};
+ghost use Rattle.iol_core.specs.Numbered.{with_numbered};
 
-use crate::kernel::{Kernel, Pool, is_named};
+use crate::kernel::Kernel;
 use crate::table;
-use iol_arena::arena::Arena;
-use iol_arena::pages::Unfilled;
-use iol_core::limits::{MAX_CHUNKS, MAX_LISTED, MAX_POOLS};
+use iol_core::limits::{MAX_CHUNKS, MAX_POOLS};
 use iol_core::lists::Domains;
 use iol_core::numbers::{DomainId, PoolId};
 use iol_core::refusals::Refusal;
-use std::alloc::Global;
-
-/// Notes each domain of a list once, as far as there is room, and tells how many there are: one more than the room
-/// where there are too many.
-fn note_distinct(found: &mut [DomainId; MAX_LISTED], list: &[DomainId]) -> usize
-    ensures count { result ≡ min (MAX_LISTED + 1) (length (distinct list.now)) }
-    ensures found { result ≤ MAX_LISTED → take result found.new ≡ distinct list.now }
-{
-    let mut count = 0;
-    for d in list {
-        if is_named(&found[..count], *d) {
-            continue;
-        }
-        if count == MAX_LISTED {
-            return MAX_LISTED + 1;
-        }
-        found[count] = *d;
-        count += 1;
-    }
-    count
-}
-
-/// Takes chunks for a pool, and adds it.
-fn add_pool(
-    alloc: Global,
-    arena: &mut Arena,
-    pools: &mut Vec<Pool>,
-    chunks: u32,
-    list: &[DomainId],
-) -> Result<(), Unfilled>
-    ensures added { OnOk result (AddsPool arena.old arena.new pools.old.items pools.new.items chunks list.now) }
-    ensures room { OnOk result (chunks ≤ length (free_chunks arena.old)) }
-    ensures no_room { result ≡ Err Unfilled.NoRoom → length (free_chunks arena.old) < chunks }
-    ensures err { OnErr result (pools.new.items ≡ pools.old.items) }
-    ensures err_arena { OnErr result (arena.new ≡ arena.old) }
-{
-    if pools.reserve(1).is_err() {
-        return Err(Unfilled::Memory);
-    }
-    let Ok(domains) = list.to_vec(alloc) else {
-        return Err(Unfilled::Memory);
-    };
-    match arena.take_chunks(alloc, chunks) {
-        Ok(taken) => {
-            pools.push_reserved(Pool {
-                domains,
-                closed: false,
-                chunks: taken,
-            });
-            Ok(())
-        }
-        Err(error) => Err(error),
-    }
-}
+use iol_pool::names::Names;
 
 impl Kernel {
     ghost use Rattle.iol_system.specs.Kernel.{holding};
 
+    #[tactic(auto, using(crate::proofs::Stay::stay_rules))]
     pub(crate) fn set_pool(&mut self, by: DomainId, pool: PoolId) -> Result<(), Refusal>
         requires { IsSound (holding self.old) }
         ensures step { Step (calls.set_pool (machine_of (holding self.old)) by pool) (machine_of (holding self.old)) result (machine_of (holding self.new)) }
         ensures sound { IsSound (holding self.new) }
+        ensures stays { Stays (holding self.old).store (holding self.new).store }
     {
         if !self.is_live(by) {
             return Err(Refusal::NoDomain);
@@ -99,11 +48,13 @@ impl Kernel {
     }
 
     /// Has the domain place in the pool.
+    #[tactic(auto, using(crate::proofs::Stay::stay_rules))]
     fn set_default(&mut self, d: DomainId, pool: PoolId)
         requires sound { IsSound (holding self.old) }
         requires live { is_live (machine_of (holding self.old)) d ≡ true }
         ensures set { machine_of (holding self.new) ≡ with_domain (machine_of (holding self.old)) d (record (domain (machine_of (holding self.old)) d) { default = Some pool }) }
         ensures sound { IsSound (holding self.new) }
+        ensures stays { Stays (holding self.old).store (holding self.new).store }
     {
         table::set_default(&mut self.domains, d, pool);
     }
@@ -115,6 +66,7 @@ impl Kernel {
         list.iter().all(|d| self.is_live(*d))
     }
 
+    #[tactic(auto, using(crate::proofs::Stay::stay_rules))]
     pub(crate) fn pool_create(
         &mut self,
         by: DomainId,
@@ -124,8 +76,9 @@ impl Kernel {
         requires { IsSound (holding self.old) }
         ensures step { Step (calls.pool_create (machine_of (holding self.old)) by chunks list.now) (machine_of (holding self.old)) result (machine_of (holding self.new)) }
         ensures sound { IsSound (holding self.new) }
-        ensures room { OnOk result (chunks ≤ length (free_chunks (holding self.old).arena)) }
-        ensures no_room { (p : ℕ) → result ≡ Err (Refusal.NoRoom p) → length (free_chunks (holding self.old).arena) < chunks }
+        ensures stays { Stays (holding self.old).store (holding self.new).store }
+        ensures room { OnOk result (chunks ≤ length (free_chunks (holding self.old).store.arena)) }
+        ensures no_room { (p : ℕ) → result ≡ Err (Refusal.NoRoom p) → length (free_chunks (holding self.old).store.arena) < chunks }
     {
         let list = list.as_slice();
         if !self.is_live(by) || !self.are_live(list) {
@@ -134,31 +87,68 @@ impl Kernel {
         if list.is_empty() || chunks == 0 || chunks > MAX_CHUNKS {
             return Err(Refusal::BadRange);
         }
-        let mut found = [DomainId::new(0); MAX_LISTED];
-        let count = note_distinct(&mut found, list);
-        if count > MAX_LISTED || self.pool_count() >= MAX_POOLS {
+        let Some(names) = Names::of(list) else {
+            return Err(Refusal::TooMany);
+        };
+        if self.pool_count() >= MAX_POOLS {
             return Err(Refusal::TooMany);
         }
-        self.add_pool(chunks, &found[..count])
+        self.add_pool(chunks, names)
     }
 
-    /// Adds a pool of so many chunks for the domains of a list.
-    fn add_pool(&mut self, chunks: u32, list: &[DomainId]) -> Result<PoolId, Refusal>
+    /// Adds a pool of so many chunks for these domains.
+    #[tactic(auto, using(crate::proofs::Stay::stay_rules))]
+    fn add_pool(&mut self, chunks: u32, names: Names) -> Result<PoolId, Refusal>
         requires sound { IsSound (holding self.old) }
         requires few { length (machine_of (holding self.old)).pools < MAX_POOLS }
         ensures number { IfOk result (λ n. n ≡ length (machine_of (holding self.old)).pools + 1) }
-        ensures added { OnOk result (machine_of (holding self.new) ≡ record (machine_of (holding self.old)) { pools = (machine_of (holding self.old)).pools ++ record { domains = list.now; closed = false } ∷ [] }) }
+        ensures added { OnOk result (machine_of (holding self.new) ≡ record (machine_of (holding self.old)) { pools = (machine_of (holding self.old)).pools ++ record { domains = names; closed = false } ∷ [] }) }
         ensures sound { IsSound (holding self.new) }
-        ensures room { OnOk result (chunks ≤ length (free_chunks (holding self.old).arena)) }
-        ensures no_room { (p : ℕ) → result ≡ Err (Refusal.NoRoom p) → length (free_chunks (holding self.old).arena) < chunks }
+        ensures stays { Stays (holding self.old).store (holding self.new).store }
+        ensures room { OnOk result (chunks ≤ length (free_chunks (holding self.old).store.arena)) }
+        ensures no_room { (p : ℕ) → result ≡ Err (Refusal.NoRoom p) → length (free_chunks (holding self.old).store.arena) < chunks }
         ensures late { IfErr result (WantOfRoom (length (machine_of (holding self.old)).pools + 1)) }
         ensures err { OnErr result (machine_of (holding self.new) ≡ machine_of (holding self.old)) }
     {
-        let pool = PoolId::new(self.pool_count() as u32 + 1);
-        match add_pool(self.alloc, &mut self.arena, &mut self.pools, chunks, list) {
-            Ok(()) => Ok(pool),
-            Err(Unfilled::NoRoom) => Err(Refusal::NoRoom { pool }),
-            Err(Unfilled::Memory) => Err(Refusal::Memory),
+        match self.store.create_pool(self.alloc, chunks, names) {
+            Ok(number) => Ok(number),
+            Err(refusal) => Err(refusal),
         }
+    }
+
+    #[tactic(auto, using(crate::proofs::Stay::stay_rules))]
+    pub(crate) fn pool_close(&mut self, by: DomainId, pool: PoolId) -> Result<(), Refusal>
+        requires { IsSound (holding self.old) }
+        ensures step { Step (calls.pool_close (machine_of (holding self.old)) by pool) (machine_of (holding self.old)) result (machine_of (holding self.new)) }
+        ensures sound { IsSound (holding self.new) }
+        ensures stays { Stays (holding self.old).store (holding self.new).store }
+    {
+        if !self.is_live(by) {
+            return Err(Refusal::NoDomain);
+        }
+        if !self.is_pool(pool) {
+            return Err(Refusal::NoPool);
+        }
+        if !self.may_read(by, pool) {
+            return Err(Refusal::Denied { pool });
+        }
+        if self.is_closed(pool) {
+            return Err(Refusal::PoolClosed { pool });
+        }
+        self.close(pool);
+        Ok(())
+    }
+
+    /// Closes a pool. No file and no connection can name it yet.
+    #[tactic(auto, using(crate::proofs::Stay::stay_rules))]
+    fn close(&mut self, p: PoolId)
+        requires sound { IsSound (holding self.old) }
+        requires there { is_pool (machine_of (holding self.old)) p ≡ true }
+        ensures idle { calls.is_busy (machine_of (holding self.old)) p ≡ false }
+        ensures closed { machine_of (holding self.new) ≡ record (machine_of (holding self.old)) { pools = with_numbered (machine_of (holding self.old)).pools p (record (state.pool (machine_of (holding self.old)) p) { closed = true }) } }
+        ensures sound { IsSound (holding self.new) }
+        ensures stays { Stays (holding self.old).store (holding self.new).store }
+    {
+        self.store.close_pool(p);
     }
 }

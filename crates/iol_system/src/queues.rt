@@ -2,14 +2,17 @@
 ghost use Rattle.std.specs.Prelude.{◌≡◌, ◌≢◌, ℕ, ◌+◌, ◌-◌, ◌<◌, ◌≤◌, ◌^◌, length, true, false, not, ◌&&◌, ◌==◌, min, take, drop, slice_set, Option, Some, None, List, [], ◌∷◌, ◌++◌, IfOk, IfErr, OnOk, OnErr, Ok, Err, if◌then◌else◌};
 ghost use Rattle.iol_core.specs.State.{is_live, domain, descriptor};
 ghost use Rattle.iol_core.specs.Meaning.{Step};
+ghost use Rattle.iol_hold.specs.Moves.{Stays};
 ghost use Rattle.iol_system.specs.Holding.{machine_of, IsSound};
 ghost use Rattle.iol_core.specs.Text.{Text, admitted, barred};
-ghost use Rattle.iol_pipe.specs.Queue.{first_pool, is_one_of};
+ghost use Rattle.iol_pipe.specs.Queue.{first_pool};
 ghost use Rattle.iol_core.specs.State.{pipe_at, text, with_pipe, may_read};
 ghost use Rattle.iol_core.specs.Calls.Aggregates.{with_agg, lacks_agg, too_many_aggs, next_agg};
 ghost use Rattle.iol_core.specs.Calls.Reading as reading;
 ghost use Rattle.iol_core.specs.Calls.Writing as writing;
-ghost use Rattle.iol_agg.specs.Places.{places, byte_len};
+ghost use Rattle.iol_hold.specs.Moves.{Shares, Covers, IsCountable};
+ghost use Rattle.iol_hold.specs.Places.{places, byte_len};
+ghost use Rattle.iol_hold.specs.Texts.{bufs_of};
 ghost use Rattle.iol_system.specs.Tables.{domain_in};
 ghost use Rattle.iol_system.specs.Holding.{queue_at, TakesFront};
 
@@ -21,18 +24,28 @@ use iol_core::descriptors::Descriptor;
 use iol_core::limits::MAX_QUEUE_BYTES;
 use iol_core::numbers::{AggId, DomainId, Fd, PipeId, PoolId};
 use iol_core::refusals::Refusal;
+use iol_hold::Store;
 use std::alloc::{AllocError, Global};
 
 /// Adds the longest prefix that fits to a pipe's queue.
-fn push_to(pipes: &mut Vec<Option<Pipe>>, p: PipeId, from: &Agg) -> Result<u32, AllocError>
+fn push_to(
+    store: &mut Store,
+    pipes: &mut Vec<Option<Pipe>>,
+    p: PipeId,
+    from: &Agg,
+) -> Result<u32, AllocError>
+    requires covered { Covers store.old (bufs_of from.now) }
+    requires countable { IsCountable store.old (bufs_of from.now) }
     requires writing { (queue_at pipes.old.items p).writing ≡ true }
     ensures taken { IfOk result (λ n. n ≡ min (byte_len from.now) (MAX_QUEUE_BYTES - byte_len (queue_at pipes.old.items p).queue)) }
     ensures places { IfOk result (λ n. places (queue_at pipes.new.items p).queue ≡ places (queue_at pipes.old.items p).queue ++ take n (places from.now)) }
     ensures pipes { OnOk result (pipes.new.items ≡ slice_set pipes.old.items p (Some (record (queue_at pipes.old.items p) { queue = (queue_at pipes.new.items p).queue }))) }
+    ensures shares { OnOk result (Shares store.old store.new (bufs_of (queue_at pipes.old.items p).queue) (bufs_of (queue_at pipes.new.items p).queue)) }
     ensures err { OnErr result (pipes.new.items ≡ pipes.old.items) }
+    ensures err_store { OnErr result (store.new ≡ store.old) }
 {
     match &mut pipes[p.number() as usize] {
-        Some(pipe) => pipe.queue.push(from),
+        Some(pipe) => pipe.queue.push(store, from),
         None => unreachable!(),
     }
 }
@@ -41,24 +54,27 @@ fn push_to(pipes: &mut Vec<Option<Pipe>>, p: PipeId, from: &Agg) -> Result<u32, 
 #[tactic(auto, unfolding(crate::specs::Tables::domain_in, crate::specs::Tables::with_domain_in))]
 fn take_front(
     alloc: Global,
+    store: &mut Store,
     queue: &mut iol_pipe::Pipe,
     domains: &mut Vec<Domain<Agg>>,
     d: DomainId,
-    pools: &[PoolId],
     n: u32,
 ) -> Result<AggId, AllocError>
+    requires covered { Covers store.old (bufs_of queue.old) }
+    requires countable { IsCountable store.old (bufs_of queue.old) }
     requires live { (domain_in domains.old.items d).live ≡ true }
     requires few { (domain_in domains.old.items d).next_agg < 2 ^ 64 - 1 }
     ensures number { IfOk result (λ n. n ≡ (domain_in domains.old.items d).next_agg) }
-    ensures taken { OnOk result (TakesFront queue.old queue.new domains.old.items domains.new.items d pools.now n) }
+    ensures taken { OnOk result (TakesFront store.old store.new queue.old queue.new domains.old.items domains.new.items d n) }
     ensures err { OnErr result (domains.new.items ≡ domains.old.items) }
     ensures err_queue { OnErr result (queue.new ≡ queue.old) }
+    ensures err_store { OnErr result (store.new ≡ store.old) }
 {
     let at = place_of(domains, d);
     let domain = &mut domains[at];
     domain.aggs.reserve(1)?;
     let number = domain.next_agg;
-    let agg = queue.front(alloc, n, pools)?;
+    let agg = queue.front(alloc, store, n, d)?;
     domain.aggs.push_reserved((AggId::new(number), agg));
     domain.next_agg += 1;
     Ok(AggId::new(number))
@@ -67,24 +83,27 @@ fn take_front(
 /// Takes the front of a pipe's queue off, as a domain's next aggregate.
 fn take_from(
     alloc: Global,
+    store: &mut Store,
     pipes: &mut Vec<Option<Pipe>>,
     p: PipeId,
     domains: &mut Vec<Domain<Agg>>,
     d: DomainId,
-    pools: &[PoolId],
     n: u32,
 ) -> Result<AggId, AllocError>
+    requires covered { Covers store.old (bufs_of (queue_at pipes.old.items p).queue) }
+    requires countable { IsCountable store.old (bufs_of (queue_at pipes.old.items p).queue) }
     requires reading { (queue_at pipes.old.items p).reading ≡ true }
     requires live { (domain_in domains.old.items d).live ≡ true }
     requires few { (domain_in domains.old.items d).next_agg < 2 ^ 64 - 1 }
     ensures number { IfOk result (λ n. n ≡ (domain_in domains.old.items d).next_agg) }
-    ensures taken { OnOk result (TakesFront (queue_at pipes.old.items p).queue (queue_at pipes.new.items p).queue domains.old.items domains.new.items d pools.now n) }
+    ensures taken { OnOk result (TakesFront store.old store.new (queue_at pipes.old.items p).queue (queue_at pipes.new.items p).queue domains.old.items domains.new.items d n) }
     ensures pipes { OnOk result (pipes.new.items ≡ slice_set pipes.old.items p (Some (record (queue_at pipes.old.items p) { queue = (queue_at pipes.new.items p).queue }))) }
     ensures err { OnErr result (domains.new.items ≡ domains.old.items) }
     ensures err_pipes { OnErr result (pipes.new.items ≡ pipes.old.items) }
+    ensures err_store { OnErr result (store.new ≡ store.old) }
 {
     match &mut pipes[p.number() as usize] {
-        Some(pipe) => take_front(alloc, &mut pipe.queue, domains, d, pools, n),
+        Some(pipe) => take_front(alloc, store, &mut pipe.queue, domains, d, n),
         None => unreachable!(),
     }
 }
@@ -133,11 +152,13 @@ fn is_writing(pipes: &[Option<Pipe>], p: PipeId) -> bool
 impl Kernel {
     ghost use Rattle.iol_system.specs.Kernel.{holding};
 
+    #[tactic(auto, using(crate::proofs::Stay::stay_rules))]
     pub(crate) fn iol_write(&mut self, by: DomainId, fd: Fd, agg: AggId) -> Result<u32, Refusal>
         requires { IsSound (holding self.old) }
         ensures step { Step (writing.iol_write (machine_of (holding self.old)) by fd agg) (machine_of (holding self.old)) result (machine_of (holding self.new)) }
         ensures roomy { (p : ℕ) → result ≡ Err (Refusal.NoRoom p) → ⊥ }
         ensures sound { IsSound (holding self.new) }
+        ensures stays { Stays (holding self.old).store (holding self.new).store }
     {
         if !self.is_live(by) {
             return Err(Refusal::NoDomain);
@@ -157,6 +178,7 @@ impl Kernel {
     }
 
     /// Writes an aggregate to a pipe.
+    #[tactic(auto, using(crate::proofs::Stay::stay_rules))]
     fn write_pipe(&mut self, by: DomainId, fd: Fd, agg: AggId, pipe: PipeId) -> Result<u32, Refusal>
         requires sound { IsSound (holding self.old) }
         requires live { is_live (machine_of (holding self.old)) by ≡ true }
@@ -165,6 +187,7 @@ impl Kernel {
         ensures step { Step (writing.iol_write (machine_of (holding self.old)) by fd agg) (machine_of (holding self.old)) result (machine_of (holding self.new)) }
         ensures roomy { (p : ℕ) → result ≡ Err (Refusal.NoRoom p) → ⊥ }
         ensures sound { IsSound (holding self.new) }
+        ensures stays { Stays (holding self.old).store (holding self.new).store }
     {
         if !self.is_read(pipe) {
             return Err(Refusal::BrokenPipe);
@@ -210,6 +233,7 @@ impl Kernel {
     }
 
     /// Adds the longest prefix of an aggregate that fits to a pipe's queue.
+    #[tactic(auto, using(crate::proofs::Stay::stay_rules))]
     fn push(&mut self, by: DomainId, agg: AggId, p: PipeId) -> Result<u32, AllocError>
         requires sound { IsSound (holding self.old) }
         requires live { is_live (machine_of (holding self.old)) by ≡ true }
@@ -219,21 +243,24 @@ impl Kernel {
         ensures pushed { IfOk result (λ n. machine_of (holding self.new) ≡ with_pipe (machine_of (holding self.old)) p (record (pipe_at (machine_of (holding self.old)) p) { queue = (pipe_at (machine_of (holding self.old)) p).queue ++ take n (text (machine_of (holding self.old)) by agg) })) }
         ensures err { OnErr result (machine_of (holding self.new) ≡ machine_of (holding self.old)) }
         ensures sound { IsSound (holding self.new) }
+        ensures stays { Stays (holding self.old).store (holding self.new).store }
     {
         let Some(found) = table::get(&self.domains, by, agg) else {
             unreachable!()
         };
-        match push_to(&mut self.pipes, p, found) {
+        match push_to(&mut self.store, &mut self.pipes, p, found) {
             Ok(taken) => Ok(taken),
             Err(error) => Err(error),
         }
     }
 
+    #[tactic(auto, using(crate::proofs::Stay::stay_rules))]
     pub(crate) fn iol_read(&mut self, by: DomainId, fd: Fd, count: u32) -> Result<AggId, Refusal>
         requires { IsSound (holding self.old) }
         ensures step { Step (reading.iol_read (machine_of (holding self.old)) by fd count) (machine_of (holding self.old)) result (machine_of (holding self.new)) }
         ensures roomy { (p : ℕ) → result ≡ Err (Refusal.NoRoom p) → ⊥ }
         ensures sound { IsSound (holding self.new) }
+        ensures stays { Stays (holding self.old).store (holding self.new).store }
     {
         if !self.is_live(by) {
             return Err(Refusal::NoDomain);
@@ -250,6 +277,7 @@ impl Kernel {
     }
 
     /// Reads from a pipe.
+    #[tactic(auto, using(crate::proofs::Stay::stay_rules))]
     fn read_pipe(
         &mut self,
         by: DomainId,
@@ -263,6 +291,7 @@ impl Kernel {
         ensures step { Step (reading.iol_read (machine_of (holding self.old)) by fd count) (machine_of (holding self.old)) result (machine_of (holding self.new)) }
         ensures roomy { (p : ℕ) → result ≡ Err (Refusal.NoRoom p) → ⊥ }
         ensures sound { IsSound (holding self.new) }
+        ensures stays { Stays (holding self.old).store (holding self.new).store }
     {
         if self.is_too_many(by) {
             return Err(Refusal::TooMany);
@@ -304,6 +333,7 @@ impl Kernel {
     }
 
     /// Takes what the reader may see of the first bytes of a pipe's queue, as its next aggregate.
+    #[tactic(auto, using(crate::proofs::Stay::stay_rules))]
     fn take(&mut self, by: DomainId, p: PipeId, n: u32) -> Result<AggId, AllocError>
         requires sound { IsSound (holding self.old) }
         requires live { is_live (machine_of (holding self.old)) by ≡ true }
@@ -313,40 +343,15 @@ impl Kernel {
         ensures taken { OnOk result (machine_of (holding self.new) ≡ with_agg (reading.read_on (machine_of (holding self.old)) by 0 (Some (Descriptor.ReadEnd p)) (length (reading.read_text (machine_of (holding self.old)) by (Some (Descriptor.ReadEnd p)) n))) by (reading.read_text (machine_of (holding self.old)) by (Some (Descriptor.ReadEnd p)) n)) }
         ensures err { OnErr result (machine_of (holding self.new) ≡ machine_of (holding self.old)) }
         ensures sound { IsSound (holding self.new) }
-    {
-        let first = PoolId::new(1);
-        if self.may_read(by, first) {
-            self.take_of(by, p, n, &[first])
-        } else {
-            self.take_of(by, p, n, &[])
-        }
-    }
-
-    /// The same, of bytes of these pools, which are those that the reader may read.
-    fn take_of(
-        &mut self,
-        by: DomainId,
-        p: PipeId,
-        n: u32,
-        pools: &[PoolId],
-    ) -> Result<AggId, AllocError>
-        requires sound { IsSound (holding self.old) }
-        requires live { is_live (machine_of (holding self.old)) by ≡ true }
-        requires few { too_many_aggs (machine_of (holding self.old)) by 1 0 ≡ false }
-        requires reading { (queue_at (holding self.old).pipes p).reading ≡ true }
-        requires pools { (q : ℕ) → is_one_of pools.now q ≡ may_read (machine_of (holding self.old)) by q }
-        ensures number { IfOk result (λ a. a ≡ next_agg (machine_of (holding self.old)) by) }
-        ensures taken { OnOk result (machine_of (holding self.new) ≡ with_agg (reading.read_on (machine_of (holding self.old)) by 0 (Some (Descriptor.ReadEnd p)) (length (reading.read_text (machine_of (holding self.old)) by (Some (Descriptor.ReadEnd p)) n))) by (reading.read_text (machine_of (holding self.old)) by (Some (Descriptor.ReadEnd p)) n)) }
-        ensures err { OnErr result (machine_of (holding self.new) ≡ machine_of (holding self.old)) }
-        ensures sound { IsSound (holding self.new) }
+        ensures stays { Stays (holding self.old).store (holding self.new).store }
     {
         match take_from(
             self.alloc,
+            &mut self.store,
             &mut self.pipes,
             p,
             &mut self.domains,
             by,
-            pools,
             n,
         ) {
             Ok(number) => Ok(number),

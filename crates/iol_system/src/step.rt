@@ -1,6 +1,7 @@
 //! One event, and events in order.
 ghost use Rattle.std.specs.Prelude.{◌≡◌, true, false, IfOk, OnErr};
 ghost use Rattle.iol_core.specs.Run.{StepsTo, Run};
+ghost use Rattle.iol_hold.specs.Moves.{Stays};
 ghost use Rattle.iol_system.specs.Holding.{machine_of, IsSound};
 ghost use Rattle.iol_system.specs.Room.{fits, IsDone, IsNoRoom};
 ghost use Rattle.iol_system.specs.Kernel.{holding};
@@ -17,6 +18,7 @@ fn make_call(kernel: &mut Kernel, by: DomainId, call: &Call) -> Reply
     ensures room { IsDone result → fits (holding kernel.old) (Event.Call by call.now) ≡ true }
     ensures no_room { IsNoRoom result → fits (holding kernel.old) (Event.Call by call.now) ≡ false }
     ensures sound { IsSound (holding kernel.new) }
+    ensures stays { Stays (holding kernel.old).store (holding kernel.new).store }
 {
     match call {
         Call::DomainNew => match kernel.domain_new(by) {
@@ -27,12 +29,20 @@ fn make_call(kernel: &mut Kernel, by: DomainId, call: &Call) -> Reply
             Ok(pool) => Reply::Pool(pool),
             Err(refusal) => Reply::Refused(refusal),
         },
+        Call::PoolClose { pool } => match kernel.pool_close(by, *pool) {
+            Ok(()) => Reply::Done,
+            Err(refusal) => Reply::Refused(refusal),
+        },
         Call::SetPool { pool } => match kernel.set_pool(by, *pool) {
             Ok(()) => Reply::Done,
             Err(refusal) => Reply::Refused(refusal),
         },
         Call::AggMake { bytes } => match kernel.agg_make(by, bytes) {
             Ok(agg) => Reply::Agg(agg),
+            Err(refusal) => Reply::Refused(refusal),
+        },
+        Call::AggDrop { agg } => match kernel.agg_drop(by, *agg) {
+            Ok(()) => Reply::Done,
             Err(refusal) => Reply::Refused(refusal),
         },
         Call::Show { agg } => match kernel.show(by, *agg) {
@@ -65,6 +75,7 @@ pub(crate) fn carry_out(kernel: &mut Kernel, event: &Event) -> Reply
     ensures room { IsDone result → fits (holding kernel.old) event.now ≡ true }
     ensures no_room { IsNoRoom result → fits (holding kernel.old) event.now ≡ false }
     ensures sound { IsSound (holding kernel.new) }
+    ensures stays { Stays (holding kernel.old).store (holding kernel.new).store }
 {
     match event {
         Event::Call { by, call } => make_call(kernel, *by, call),
@@ -72,11 +83,13 @@ pub(crate) fn carry_out(kernel: &mut Kernel, event: &Event) -> Reply
 }
 
 /// Carries out events in order. The room for the replies comes first.
+#[tactic(auto, using(crate::proofs::Stay::stay_rules))]
 pub(crate) fn run_all(kernel: &mut Kernel, events: &[Event]) -> Result<Vec<Reply>, AllocError>
     requires { IsSound (holding kernel.old) }
     ensures run { IfOk result (λ replies. Run (machine_of (holding kernel.old)) events.now replies.items (machine_of (holding kernel.new))) }
     ensures err { OnErr result (kernel.new ≡ kernel.old) }
     ensures sound { IsSound (holding kernel.new) }
+    ensures stays { Stays (holding kernel.old).store (holding kernel.new).store }
 {
     let mut replies = Vec::with_capacity(kernel.alloc, events.len())?;
     for event in events {

@@ -1,14 +1,20 @@
 //! A system: events, one step, and a run.
-ghost use Rattle.std.specs.Prelude.{◌≡◌, ◌⊎◌, ◌↔◌, true, false, Some, None, Err, IfOk, IfErr, OnErr};
+ghost use Rattle.std.specs.Prelude.{◌≡◌, ◌⊎◌, ◌↔◌, length, true, false, Some, None, Err, IfOk, IfErr, OnOk, OnErr};
 ghost use Rattle.iol_core.specs.Configuration.{IsInRange};
 ghost use Rattle.iol_core.specs.State.{new_state, no_slots};
 ghost use Rattle.iol_core.specs.Run.{StepsTo, Run};
-ghost use Rattle.iol_system.specs.Holding.{machine_of, joined};
+ghost use Rattle.iol_core.specs.Values.{ValuesStay};
+ghost use Rattle.iol_system.specs.Values.{ValuesStayOver};
+ghost use Rattle.iol_hold.specs.Moves.{Stays};
+ghost use Rattle.iol_system.specs.Holding.{machine_of, joined, IsSafe};
 ghost use Rattle.iol_core.specs.Meaning.{first};
 ghost use Rattle.iol_core.specs.Calls.Aggregates.{show};
+ghost use Rattle.iol_system.specs.Report.{reports_of};
+ghost use Rattle.iol_arena.specs.Buffers.{live_pages};
 ghost use Rattle.iol_system.specs.Room.{fits, IsDone, IsNoRoom};
 
 use crate::kernel::Kernel;
+use crate::report::Report;
 use crate::step::{carry_out, run_all};
 use iol_agg::Parts;
 use iol_core::configuration::Config;
@@ -33,7 +39,7 @@ impl Model for System {
 
     ghost view = { λ s. holding s.kernel };
 
-    ghost invariant = { λ s. held.IsSound (holding s.kernel) };
+    ghost invariant = { λ s. held.IsSafe (holding s.kernel) };
 }
 
 impl System {
@@ -42,6 +48,7 @@ impl System {
         ensures range { (result ≡ Err Refusal.BadRange) ↔ (IsInRange config → ⊥) }
         ensures errors { IfErr result (λ e. (e ≡ Refusal.BadRange) ⊎ (e ≡ Refusal.Memory)) }
         ensures new { IfOk result (λ s. machine_of s ≡ new_state no_slots) }
+        ensures safe { IfOk result IsSafe }
     {
         let kernel = Kernel::new(alloc, config)?;
         Ok(System { kernel })
@@ -55,11 +62,29 @@ impl System {
         self.kernel.parts(by, agg)
     }
 
+    /// What lies in the system, counted: the pools that still have their chunks, by number, and the live buffers. It
+    /// changes nothing.
+    pub fn report(&self) -> Result<Report, AllocError>
+        ensures pools { IfOk result (λ r. r.pools.items ≡ reports_of self.now.store (length self.now.store.pools)) }
+        ensures buffers { IfOk result (λ r. r.buffers ≡ length (live_pages self.now.store.arena)) }
+        ensures extents { IfOk result (λ r. r.extents ≡ 0) }
+        ensures dirty { IfOk result (λ r. r.dirty ≡ 0) }
+    {
+        self.kernel.report()
+    }
+
     /// Carries out one event, whole.
     pub fn step(&mut self, event: Event) -> Reply
         ensures step { StepsTo (machine_of self.old) event result (machine_of self.new) }
         ensures room { IsDone result → fits self.old event ≡ true }
         ensures no_room { IsNoRoom result → fits self.old event ≡ false }
+
+        // Counts are those of the slices, no page is lost, and what a domain has it may read.
+        ensures safe { IsSafe self.new }
+
+        // A live buffer keeps its bytes, and no identity is given twice; an aggregate keeps its value.
+        ensures stays { Stays self.old.store self.new.store }
+        ensures values { ValuesStay (machine_of self.old) event (machine_of self.new) }
     {
         carry_out(&mut self.kernel, &event)
     }
@@ -67,6 +92,9 @@ impl System {
     /// Carries out events in order. For want of memory for the replies, none.
     pub fn run(&mut self, events: &[Event]) -> Result<Vec<Reply>, AllocError>
         ensures run { IfOk result (λ replies. Run (machine_of self.old) events.now replies.items (machine_of self.new)) }
+        ensures safe { IsSafe self.new }
+        ensures stays { Stays self.old.store self.new.store }
+        ensures values { OnOk result (ValuesStayOver (machine_of self.old) events.now (machine_of self.new)) }
         ensures err { OnErr result (self.new ≡ self.old) }
     {
         run_all(&mut self.kernel, events)

@@ -2,9 +2,9 @@
 ghost use Rattle.std.specs.Prelude.{◌≡◌, ◌≢◌, ℕ, ◌+◌, ◌-◌, ◌<◌, ◌≤◌, ◌^◌, length, true, false, min, sum_by, Option, Some, None, List, [], ◌∷◌, ◌++◌, IfOk, IfErr, OnOk, OnErr, slice_set, nat_lt, vec_len, vec_capacity};
 ghost use Rattle.std.specs.Option.{option_copied};
 ghost use Rattle.iol_core.specs.State.{new_domain, no_domain};
-ghost use Rattle.iol_core.specs.Numbered.{in_place, lookup, lowest, placed, taken};
+ghost use Rattle.iol_core.specs.Numbered.{in_place, lookup, without, lowest, placed, taken};
 ghost use Rattle.iol_core.specs.Calls.Descriptors.{with_read_end};
-ghost use Rattle.iol_system.specs.Tables.{domain_in, with_domain_in, agg_in, with_agg_in, live_aggs_in, too_many_in, with_fds_in};
+ghost use Rattle.iol_system.specs.Tables.{domain_in, with_domain_in, agg_in, with_agg_in, without_agg_in, place_in, live_aggs_in, too_many_in, with_fds_in};
 
 use iol_core::descriptors::Descriptor;
 use iol_core::limits::{LAST_AGGREGATE, MAX_AGGREGATES, MAX_OPEN};
@@ -86,6 +86,44 @@ fn numbered<A>(aggs: &[(AggId, A)], agg: AggId) -> Option<&A>
     ensures { option_copied result ≡ lookup aggs.now agg }
 {
     aggs.iter().find(|e| e.0 == agg).map(|e| &e.1)
+}
+
+/// Takes an aggregate from its domain.
+#[tactic(auto, unfolding(crate::specs::Tables::domain_in, crate::specs::Tables::with_domain_in))]
+pub(crate) fn take<A: Drop>(domains: &mut Vec<Domain<A>>, d: DomainId, agg: AggId) -> A
+    requires live { (domain_in domains.old.items d).live ≡ true }
+    requires there { agg_in domains.old.items d agg ≢ None }
+    ensures given { Some result ≡ agg_in domains.old.items d agg }
+    ensures rest { domains.new.items ≡ without_agg_in domains.old.items d agg }
+{
+    let at = place_of(domains, d);
+    let domain = &mut domains[at];
+    take_numbered(&mut domain.aggs, agg)
+}
+
+/// The place of the aggregate of this number, or the length where there is none.
+#[tactic(auto, using(crate::proofs::Places::prefix_rules))]
+fn place_in<A>(aggs: &[(AggId, A)], agg: AggId) -> usize
+    ensures { result ≡ place_in aggs.now agg }
+{
+    for (i, entry) in aggs.iter().enumerate() {
+        if entry.0 == agg {
+            return i;
+        }
+    }
+    aggs.len()
+}
+
+/// Takes the aggregate of this number.
+#[tactic(auto, using(crate::proofs::Places::taken_rules))]
+fn take_numbered<A: Drop>(aggs: &mut Vec<(AggId, A)>, agg: AggId) -> A
+    requires { lookup aggs.old.items agg ≢ None }
+    ensures given { Some result ≡ lookup aggs.old.items agg }
+    ensures rest { aggs.new.items ≡ without aggs.old.items agg }
+{
+    let at = place_in(aggs, agg);
+    let (_, given) = aggs.remove(at);
+    given
 }
 
 /// How many aggregates are live, or `usize::MAX` where there are more.

@@ -6,6 +6,7 @@ use iol_core::lists::{Bytes, Domains};
 use iol_core::numbers::{AggId, DomainId, Fd, PoolId};
 use iol_core::refusals::Refusal;
 use std::alloc::{AllocError, Global};
+use std::process::Abort;
 use std::test::Fail;
 
 fn by_one(call: Call) -> Event {
@@ -41,6 +42,8 @@ fn calls(alloc: Global) -> Result<Vec<Event>, AllocError> {
         fd: Fd::new(1),
         agg,
     }))?;
+    events.push(by_one(Call::AggDrop { agg }))?;
+    events.push(by_one(Call::PoolClose { pool }))?;
     events.push(Event::Call {
         by: DomainId::new(2),
         call: Call::IolRead {
@@ -58,23 +61,63 @@ fn is_memory(reply: &Reply) -> bool {
     }
 }
 
-#[test]
-fn ample(rt: HostRuntime) -> Result<(), Fail> {
-    let mut system = System::new(rt.alloc(), Config::DEFAULT)?;
-    for event in calls(rt.alloc())? {
+// An aggregate is made and given up, again and again.
+fn rounds<R: Abort>(rt: &R, alloc: Global, system: &mut System) -> Result<(), AllocError> {
+    for n in 0..100_000 {
+        let bytes = Bytes::from_vec(b"a".to_vec(alloc)?);
+        let made = system.step(by_one(Call::AggMake { bytes }));
+        assert!(rt; !is_memory(&made));
+        let agg = AggId::new(n + 1);
+        let given_up = system.step(by_one(Call::AggDrop { agg }));
+        assert!(rt; matches!(given_up, Reply::Done));
+    }
+    Ok(())
+}
+
+// A system where domain 1 places in a pool of one chunk.
+fn pooled(alloc: Global) -> Result<System, Fail> {
+    let mut system = System::new(alloc, Config::DEFAULT)?;
+    let domains = Domains::from_vec([DomainId::new(1)].to_vec(alloc)?);
+    let _made = system.step(by_one(Call::PoolCreate { chunks: 1, domains }));
+    let pool = PoolId::new(1);
+    let _set = system.step(by_one(Call::SetPool { pool }));
+    Ok(system)
+}
+
+// Every call, one by one.
+fn steps<R: Abort>(rt: &R, alloc: Global) -> Result<(), Fail> {
+    let mut system = System::new(alloc, Config::DEFAULT)?;
+    for event in calls(alloc)? {
         let reply = system.step(event);
         assert!(rt; !is_memory(&reply));
     }
-    let mut system = System::new(rt.alloc(), Config::DEFAULT)?;
-    let replies = system.run(&calls(rt.alloc())?)?;
-    assert_eq!(rt; replies.len(), 9);
+    let report = system.report()?;
+    assert_eq!(rt; report.pools.len(), 1);
+    assert_eq!(rt; report.buffers, 1);
+    Ok(())
+}
+
+// All calls, as a run.
+fn run<R: Abort>(rt: &R, alloc: Global) -> Result<(), Fail> {
+    let mut system = System::new(alloc, Config::DEFAULT)?;
+    let replies = system.run(&calls(alloc)?)?;
+    assert_eq!(rt; replies.len(), 11);
     for reply in &replies {
         assert!(rt; !is_memory(reply));
     }
-    let mut bytes = Vec::new(rt.alloc());
+    let mut bytes = Vec::new(alloc);
     for part in system.parts(DomainId::new(2), AggId::new(1))? {
         bytes.extend_from_slice(part)?;
     }
     assert_eq!(rt; bytes.as_slice(), b"hello".as_slice());
+    Ok(())
+}
+
+#[test]
+fn ample(rt: HostRuntime) -> Result<(), Fail> {
+    steps(&rt, rt.alloc())?;
+    run(&rt, rt.alloc())?;
+    let mut system = pooled(rt.alloc())?;
+    rounds(&rt, rt.alloc(), &mut system)?;
     Ok(())
 }

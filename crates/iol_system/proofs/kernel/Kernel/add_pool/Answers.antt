@@ -1,16 +1,20 @@
-use Rattle.std.proofs.Common.{subst, ◌<◌}
+use Rattle.std.proofs.Common.{◌∙◌, ◌+◌, ◌<◌, sym, ap, subst}
+use Rattle.iol_core.specs.Meaning.{WantOfRoom}
 use Rattle.iol_system.specs.Kernel.{holding}
-use Rattle.iol_system.proofs.Effects.{pooled-machine, pooled-sound, unpooled-sound, pools_held}
+use Rattle.iol_system.proofs.Effects.{pooled-machine, unmoved-sound, one_more_pool, pools_held}
 use Rattle.iol_system.proofs.kernel.Kernel.add_pool.Goals as goal
 
+pub create_pool-requires : goal.create_pool-requires
+create_pool-requires c = subst (λ n. n < 1024) (pools_held (holding c.args.self.now)) c.requires.few
+
+pub returns-in-Ok-clause-number : goal.returns-in-Ok-clause-number
+returns-in-Ok-clause-number c = c.in-Ok.ensures.number ∙ ap (λ n. n + 1) (sym (pools_held (holding c.args.self.now)))
+
 pub returns-in-Ok-clause-added : goal.returns-in-Ok-clause-added
-returns-in-Ok-clause-added c = pooled-machine (holding c.args.self.now) c.add_pool.new.arena c.add_pool.new.pools.items c.args.chunks c.args.list.now c.in-Ok.ensures.added
+returns-in-Ok-clause-added c = pooled-machine (holding c.args.self.now) c.create_pool.new.self c.requires.sound c.in-Ok.ensures.moves c.args.names c.in-Ok.ensures.added
 
 pub returns-in-Ok-clause-sound : goal.returns-in-Ok-clause-sound
-returns-in-Ok-clause-sound c = pooled-sound (holding c.args.self.now) c.add_pool.new.arena c.add_pool.new.pools.items c.args.chunks c.args.list.now c.requires.sound (subst (λ n. n < 1) (pools_held (holding c.args.self.now)) c.requires.few) c.in-Ok.ensures.added
+returns-in-Ok-clause-sound c = unmoved-sound (holding c.args.self.now) c.create_pool.new.self c.requires.sound c.in-Ok.ensures.moves (one_more_pool c.args.self.now.store c.create_pool.new.self _ c.in-Ok.ensures.added (subst (λ n. n < 1024) (pools_held (holding c.args.self.now)) c.requires.few))
 
-pub returns-in-Err-NoRoom-clause-sound : goal.returns-in-Err-NoRoom-clause-sound
-returns-in-Err-NoRoom-clause-sound c = unpooled-sound (holding c.args.self.now) c.add_pool.new.arena c.add_pool.new.pools.items c.requires.sound c.in-Err-NoRoom.ensures.err_arena c.in-Err-NoRoom.ensures.err
-
-pub returns-in-Err-Memory-clause-sound : goal.returns-in-Err-Memory-clause-sound
-returns-in-Err-Memory-clause-sound c = unpooled-sound (holding c.args.self.now) c.add_pool.new.arena c.add_pool.new.pools.items c.requires.sound c.in-Err-Memory.ensures.err_arena c.in-Err-Memory.ensures.err
+pub returns-in-Err-clause-late : goal.returns-in-Err-clause-late
+returns-in-Err-clause-late c = subst (λ n. WantOfRoom (n + 1) c.in-Err.refusal) (sym (pools_held (holding c.args.self.now))) c.in-Err.ensures.late

@@ -1,7 +1,7 @@
 use Rattle.std.proofs.Common.{◌∙◌, sym, ap, List}
 use Rattle.iol_core.specs.Text.{bytes_of}
 use Rattle.iol_core.specs.State.{Domain}
-use Rattle.iol_agg.specs.declared.slices.Slice.{Slice}
+use Rattle.iol_hold.specs.declared.slices.Slice.{Slice}
 use Rattle.iol_system.specs.Tables.{agg_in, domain_in}
 use Rattle.iol_system.proofs.Effects.{live_held}
 use Rattle.iol_system.proofs.Sound.{agg_readable}

@@ -1,5 +1,5 @@
 use Rattle.std.proofs.Common.{◌∙◌, ap, List, Option}
-use Rattle.iol_agg.specs.declared.slices.Slice.{Slice}
+use Rattle.iol_hold.specs.declared.slices.Slice.{Slice}
 use Rattle.iol_system.specs.Seen.{Pipe}
 use Rattle.iol_system.specs.Holding.{queue_at}
 use Rattle.iol_system.proofs.Queueing.{reading_means}

@@ -1,7 +1,7 @@
 use Rattle.std.proofs.Common.{◌∙◌, sym, ap, List}
 use Rattle.iol_core.specs.State.{Domain}
-use Rattle.iol_agg.specs.declared.slices.Slice.{Slice}
-use Rattle.iol_agg.specs.Texts.{text_of}
+use Rattle.iol_hold.specs.declared.slices.Slice.{Slice}
+use Rattle.iol_hold.specs.Texts.{text_of}
 use Rattle.iol_system.specs.Tables.{too_many_in}
 use Rattle.iol_system.specs.Holding.{machine_of}
 use Rattle.iol_system.proofs.Meant.{too_many-seen}
@@ -13,4 +13,4 @@ returns c =
     let k = c.args.self.now in
     c.is_too_many.ensures
     ∙ ap (λ (ds : List (Domain (List Slice))). too_many_in ds c.args.d 1 0) c.deref.ensures.value
-    ∙ sym (too_many-seen (text_of k.arena) k.domains.items k.pools.items k.pipes.items c.args.d 1 0)
+    ∙ sym (too_many-seen (text_of k.store) k.domains.items k.store.pools k.pipes.items c.args.d 1 0)

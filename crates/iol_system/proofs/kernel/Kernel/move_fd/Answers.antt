@@ -22,7 +22,7 @@ pub returns-then-number-clause-moved : goal.returns-then-number-clause-moved
 returns-then-number-clause-moved c = moved_within-machine (holding c.args.self.now) c.move_within.new.domains.items c.args.by c.args.fd c.args.to c.args.given (sym c.number.ensures ∙ c.if-number.true ∙ c.number-2.ensures) c.move_within.ensures.moved
 
 pub returns-then-number-clause-sound : goal.returns-then-number-clause-sound
-returns-then-number-clause-sound c = moved_within-sound (holding c.args.self.now) c.move_within.new.domains.items c.args.by c.args.fd c.args.given c.requires.sound (end_held (holding c.args.self.now) c.args.by c.args.fd c.args.given c.requires.sound c.requires.given) c.move_within.ensures.moved
+returns-then-number-clause-sound c = moved_within-sound (holding c.args.self.now) c.move_within.new.domains.items c.args.by c.args.fd c.args.given c.requires.sound (live_held (holding c.args.self.now) c.args.by c.requires.from) (end_held (holding c.args.self.now) c.args.by c.args.fd c.args.given c.requires.sound c.requires.given) c.move_within.ensures.moved
 
 pub open_next-requires-clause-live : goal.open_next-requires-clause-live
 open_next-requires-clause-live c = live_held (holding c.args.self.now) c.args.to c.requires.to
@@ -56,4 +56,4 @@ pub returns-clause-moved : goal.returns-clause-moved
 returns-clause-moved c = moved_across-machine (holding c.args.self.now) c.open_next.new.domains.items c.close_fd.new.domains.items c.args.by c.args.fd c.args.to c.args.given (λ e. c.if-number.false (c.number.ensures ∙ e ∙ sym c.number-2.ensures)) c.in_ok-number.ensures.opened c.close_fd.ensures
 
 pub returns-clause-sound : goal.returns-clause-sound
-returns-clause-sound c = moved_across-sound (holding c.args.self.now) c.open_next.new.domains.items c.close_fd.new.domains.items c.args.by c.args.fd c.args.to c.args.given c.requires.sound (end_held (holding c.args.self.now) c.args.by c.args.fd c.args.given c.requires.sound c.requires.given) c.in_ok-number.ensures.opened c.close_fd.ensures
+returns-clause-sound c = moved_across-sound (holding c.args.self.now) c.open_next.new.domains.items c.close_fd.new.domains.items c.args.by c.args.fd c.args.to c.args.given c.requires.sound (live_held (holding c.args.self.now) c.args.to c.requires.to) (other_live c.args.self.now.domains.items c.open_next.new.domains.items c.args.by c.args.to c.args.given (λ e. c.if-number.false (c.number.ensures ∙ sym e ∙ sym c.number-2.ensures)) c.in_ok-number.ensures.opened (live_held (holding c.args.self.now) c.args.by c.requires.from)) (end_held (holding c.args.self.now) c.args.by c.args.fd c.args.given c.requires.sound c.requires.given) c.in_ok-number.ensures.opened c.close_fd.ensures

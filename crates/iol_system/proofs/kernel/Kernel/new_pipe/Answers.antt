@@ -20,4 +20,4 @@ pub returns-in-Ok-clause-opened : goal.returns-in-Ok-clause-opened
 returns-in-Ok-clause-opened c = piped-machine (holding c.args.self.now) c.add_pipe.new.domains.items c.add_pipe.new.pipes.items c.args.by c.in-Ok.ensures.opened c.in-Ok.ensures.added
 
 pub returns-in-Ok-clause-sound : goal.returns-in-Ok-clause-sound
-returns-in-Ok-clause-sound c = piped-sound (holding c.args.self.now) c.add_pipe.new.domains.items c.add_pipe.new.pipes.items c.args.by c.requires.sound c.in-Ok.ensures.opened c.in-Ok.ensures.added
+returns-in-Ok-clause-sound c = piped-sound (holding c.args.self.now) c.add_pipe.new.domains.items c.add_pipe.new.pipes.items c.args.by c.requires.sound (live_held (holding c.args.self.now) c.args.by c.requires.live) (subst (λ n. n < 1) (taken_held (holding c.args.self.now)) c.requires.few_pipes) c.in-Ok.ensures.opened c.in-Ok.ensures.added

@@ -1,11 +1,11 @@
 use Rattle.std.proofs.Common.{◌∙◌, sym, ap, List}
 use Rattle.iol_core.specs.Text.{bytes_of}
 use Rattle.iol_core.specs.State.{Domain}
-use Rattle.iol_agg.specs.declared.slices.Slice.{Slice}
+use Rattle.iol_hold.specs.declared.slices.Slice.{Slice}
 use Rattle.iol_system.specs.Tables.{agg_in, domain_in}
 use Rattle.iol_system.proofs.Effects.{live_held}
 use Rattle.iol_system.proofs.Sound.{agg_readable}
-use Rattle.iol_agg.proofs.Texts.{flat_map-parts_of}
+use Rattle.iol_agg.proofs.Partwise.{flat_map-parts_of}
 use Rattle.iol_system.specs.Holding.{joined}
 use Rattle.iol_system.proofs.Queueing.{text_held, none_held}
 use Rattle.iol_system.specs.Kernel.{holding}
@@ -27,5 +27,5 @@ pub returns : goal.returns
 returns c =
     let found = c.in-Some.ensures ∙ ap (λ (ds : List (Domain (List Slice))). agg_in ds c.args.by c.args.agg) c.deref.ensures.value in
     ap joined c.parts.ensures
-    ∙ flat_map-parts_of c.args.self.now.arena c.in-Some.found.now (agg_readable (holding c.args.self.now) c.args.by c.args.agg c.in-Some.found.now c.requires.sound found)
+    ∙ flat_map-parts_of c.args.self.now.store c.in-Some.found.now (agg_readable (holding c.args.self.now) c.args.by c.args.agg c.in-Some.found.now c.requires.sound found)
     ∙ ap bytes_of (text_held (holding c.args.self.now) c.args.by c.args.agg c.in-Some.found.now found)

@@ -9,4 +9,4 @@ pub returns-clause-set : goal.returns-clause-set
 returns-clause-set c = default-machine (holding c.args.self.now) c.set_default.new.domains.items c.args.d c.args.pool c.set_default.ensures
 
 pub returns-clause-sound : goal.returns-clause-sound
-returns-clause-sound c = default-sound (holding c.args.self.now) c.set_default.new.domains.items c.args.d c.args.pool c.requires.sound c.set_default.ensures
+returns-clause-sound c = default-sound (holding c.args.self.now) c.set_default.new.domains.items c.args.d c.args.pool c.requires.sound (live_held (holding c.args.self.now) c.args.d c.requires.live) c.set_default.ensures

@@ -1,6 +1,6 @@
 use Rattle.std.proofs.Common.{◌∙◌, sym, ap, List, Option}
-use Rattle.iol_agg.specs.declared.slices.Slice.{Slice}
-use Rattle.iol_agg.specs.Places.{byte_len}
+use Rattle.iol_hold.specs.declared.slices.Slice.{Slice}
+use Rattle.iol_hold.specs.Places.{byte_len}
 use Rattle.iol_system.specs.Seen.{Pipe}
 use Rattle.iol_system.specs.Holding.{queue_at}
 use Rattle.iol_system.proofs.Queueing.{queue_length}

@@ -1,0 +1,27 @@
+-- What a report tells.
+use Rattle.std.specs.Prelude.{ℕ, ◌*◌, ◌==◌, Bool, not, List, map, length}
+use Rattle.std.specs.List.{filter, range_with_len}
+use Rattle.iol_arena.specs.Chunks.{free_pages, retired_pages}
+use Rattle.iol_pool.specs.Pools.{pool_in}
+use Rattle.iol_pool.specs.declared.report.PoolReport.{PoolReport}
+use Rattle.iol_hold.specs.Stored.{Stored}
+
+abbrev pub chunks_in : Stored → (p : ℕ) → List ℕ
+chunks_in s p = (pool_in s.pools p).chunks
+
+-- whether the pool still has its chunks
+abbrev pub stands : Stored → (p : ℕ) → Bool
+stands s p = not (length (chunks_in s p) == 0)
+
+-- its pages: all, those that may be used, and those that are retired
+abbrev pub pool_report : Stored → (p : ℕ) → PoolReport
+pool_report s p = record {
+  pool = p;
+  pages = 16 * length (chunks_in s p);
+  free = length (free_pages s.arena (chunks_in s p));
+  retired = length (retired_pages s.arena (chunks_in s p));
+}
+
+-- the first n pools, but for those whose chunks went back
+abbrev pub reports_of : Stored → (n : ℕ) → List PoolReport
+reports_of s n = map (pool_report s) (filter (stands s) (range_with_len 1 n))
