@@ -1,5 +1,6 @@
-//! The lines that replies are printed as.
+//! The lines that replies and reports are printed as.
 use iol_core::events::Reply;
+use iol_system::report::Report;
 use percent_encoding::{AsciiSet, CONTROLS, ascii_set, percent_encode};
 use std::fmt;
 
@@ -33,6 +34,21 @@ impl fmt::Display for Printed<'_> {
             }
             Reply::Refused(refusal) => write!(f, "refused {refusal}"),
         }
+    }
+}
+
+/// A report, to be printed as a line for each pool and a last one, without its end.
+#[derive(Clone, Copy)]
+pub struct PrintedReport<'a>(pub &'a Report);
+
+impl fmt::Display for PrintedReport<'_> {
+    fn fmt<W: fmt::Write>(&self, f: &mut fmt::Formatter<W>) -> fmt::Result {
+        for of in self.0.pools.as_slice() {
+            let (pool, pages, free, retired) = (of.pool, of.pages, of.free, of.retired);
+            writeln!(f, "pool {pool} pages {pages} free {free} retired {retired}")?;
+        }
+        let (extents, dirty, buffers) = (self.0.extents, self.0.dirty, self.0.buffers);
+        write!(f, "extents {extents} dirty {dirty} buffers {buffers}")
     }
 }
 

@@ -1,16 +1,18 @@
 //! The program `replay`.
-ghost use Rattle.std.specs.Prelude.{◌≡◌, ◌≢◌, ◌⊎◌, Err, IfOk, IfErr, IfSome, OnOk, OnErr, string_bytes};
+ghost use Rattle.std.specs.Prelude.{◌≡◌, ◌≢◌, ◌⊎◌, Err, IfOk, IfErr, IfSome, OnOk, OnErr, map, string_bytes};
 ghost use Rattle.std.specs.IoError.{error_kind};
 ghost use Rattle.iol_core.specs.Run.{Run};
 ghost use Rattle.iol_core.specs.State.{State, new_state, no_slots};
 ghost use Rattle.iolite.specs.Failure.{status_of, IsOfInput};
-ghost use Rattle.iolite.specs.Script.{IsScriptText, IsWholeOrTooLong};
+ghost use Rattle.iol_system.specs.Holding.{machine_of};
+ghost use Rattle.iolite.specs.Script.{IsScriptText, IsWholeOrTooLong, IsAnswer, asks_report, is_report, events_of, replies_of};
 
 use crate::failure::Failure;
-use crate::printed::Printed;
-use crate::script::Script;
+use crate::printed::{Printed, PrintedReport};
+use crate::script::{Line, Script};
 use iol_core::configuration::Config;
 use iol_core::events::Reply;
+use iol_system::report::Report;
 use iol_system::system::System;
 use std::alloc::Global;
 use std::io;
@@ -18,6 +20,13 @@ use std::io::{BufWriter, ErrorKind, Read, Write};
 
 /// The bytes that a script may have.
 const MAX_SCRIPT_BYTES: u64 = 0x100_0000;
+
+/// What a line of a script is answered.
+#[derive(Debug, Drop)]
+pub enum Answer {
+    Reply(Reply),
+    Report(Report),
+}
 
 /// Runs the script that the input holds, and prints a reply a line. The answer is the exit status.
 ///
@@ -50,8 +59,8 @@ fn run<R: Read, W: Write>(alloc: Global, input: &mut R, output: &mut W) -> Resul
 {
     let text = read_text(alloc, input)?;
     let script = Script::parse(alloc, text.as_str())?;
-    let replies = replies_to(alloc, &script)?;
-    print(alloc, replies.as_slice(), output)
+    let answers = answers_to(alloc, script)?;
+    print(alloc, answers.as_slice(), output)
 }
 
 /// Reads the input to its end, as a script.
@@ -93,9 +102,10 @@ fn text_of(bytes: Vec<u8>) -> Result<String, Failure>
     }
 }
 
-/// Runs the events of a script on a new system.
-fn replies_to(alloc: Global, script: &Script) -> Result<Vec<Reply>, Failure>
-    ensures run { IfOk result (λ replies. (after : State) × Run (new_state no_slots) script.now.events.items replies.items after) }
+/// Runs a script on a new system. The events are a run, and the reports are no part of it.
+fn answers_to(alloc: Global, script: Script) -> Result<Vec<Answer>, Failure>
+    ensures run { IfOk result (λ answers. (after : State) × Run (new_state no_slots) (events_of script.lines.items) (replies_of answers.items) after) }
+    ensures in_place { IfOk result (λ answers. map is_report answers.items ≡ map asks_report script.lines.items) }
     ensures error { IfErr result (λ failure. failure ≡ Failure.Memory) }
 {
     let config = script.config.unwrap_or(Config::DEFAULT);
@@ -104,27 +114,57 @@ fn replies_to(alloc: Global, script: &Script) -> Result<Vec<Reply>, Failure>
         Ok(system) => system,
         Err(_) => return Err(Failure::Memory),
     };
-    match system.run(script.events.as_slice()) {
-        Ok(replies) => Ok(replies),
-        Err(_) => Err(Failure::Memory),
+    let mut answers = match Vec::with_capacity(alloc, script.lines.len()) {
+        Ok(answers) => answers,
+        Err(_) => return Err(Failure::Memory),
+    };
+    for line in script.lines {
+        let answer = answer_to(&mut system, line)?;
+        answers.push_reserved(answer);
+    }
+    Ok(answers)
+}
+
+/// Carries out an event, or makes a report, which changes nothing.
+fn answer_to(system: &mut System, line: Line) -> Result<Answer, Failure>
+    ensures answer { IfOk result (λ answer. IsAnswer (machine_of system.old) line answer (machine_of system.new)) }
+    ensures error { IfErr result (λ failure. failure ≡ Failure.Memory) }
+{
+    match line {
+        Line::Event(event) => {
+            let reply = system.step(event);
+            Ok(Answer::Reply(reply))
+        }
+        Line::Report => match system.report() {
+            Ok(report) => Ok(Answer::Report(report)),
+            Err(_) => Err(Failure::Memory),
+        },
     }
 }
 
-/// Prints each reply on a line of its own.
-fn print<W: Write>(alloc: Global, replies: &[Reply], output: &mut W) -> Result<(), Failure>
+/// Prints each reply on a line of its own, and of each report its lines.
+fn print<W: Write>(alloc: Global, answers: &[Answer], output: &mut W) -> Result<(), Failure>
     ensures { IfErr result (λ failure. (failure ≡ Failure.Output) ⊎ (failure ≡ Failure.Memory)) }
 {
-    match write_lines(alloc, replies, output) {
+    match write_lines(alloc, answers, output) {
         Ok(()) => Ok(()),
         Err(e) => Err(failure_of(&e, Failure::Output)),
     }
 }
 
-fn write_lines<W: Write>(alloc: Global, replies: &[Reply], output: &mut W) -> io::Result<()> {
+fn write_lines<W: Write>(alloc: Global, answers: &[Answer], output: &mut W) -> io::Result<()> {
     let mut lines = BufWriter::new(alloc, output)?;
-    for reply in replies {
-        let printed = Printed(reply);
-        writeln!(lines, "{printed}")?;
+    for answer in answers {
+        match answer {
+            Answer::Reply(reply) => {
+                let printed = Printed(reply);
+                writeln!(lines, "{printed}")?;
+            }
+            Answer::Report(report) => {
+                let printed = PrintedReport(report);
+                writeln!(lines, "{printed}")?;
+            }
+        }
     }
     lines.flush()
 }

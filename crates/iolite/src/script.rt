@@ -7,20 +7,32 @@ ghost use Rattle.iolite.specs.Sizes.{WriteSizes};
 ghost use Rattle.iol_core.specs.Configuration.{IsInRange};
 
 use crate::failure::Failure;
-use crate::words::{LineError, decode_text, parse_domains, parse_u32, parse_u64, split_word};
+use crate::words::{
+    LineError, decode_text, parse_domains, parse_u32, parse_u64, repeat_text, split_word,
+};
 use iol_core::configuration::Config;
 use iol_core::events::{Call, Event};
 use iol_core::numbers::{AggId, DomainId, Fd, PoolId};
 use std::alloc::Global;
 
-/// What a script says: the sizes of a system, and what happens to it.
+/// What a line asks for, but for the sizes.
+#[derive(Debug, Drop)]
+pub enum Line {
+    /// Something that happens to the system.
+    Event(Event),
+
+    /// A report of what lies in it.
+    Report,
+}
+
+/// What a script says: the sizes of a system, and what is asked of it.
 #[derive(Debug, Drop)]
 pub struct Script {
     /// The sizes, if the script names any.
     pub config: Option<Config>,
 
-    /// The events, one for each line that is a call, in order.
-    pub events: Vec<Event>,
+    /// The lines that ask for something, in order.
+    pub lines: Vec<Line>,
     ghost sizes_in_range: { ForSome config IsInRange },
 }
 
@@ -31,7 +43,7 @@ impl Script {
     {
         let mut script = Script {
             config: None,
-            events: Vec::new(alloc),
+            lines: Vec::new(alloc),
         };
         for (place, line) in text.split('\n').enumerate() {
             if line.is_empty() || line.starts_with('#') {
@@ -48,10 +60,14 @@ impl Script {
         Ok(script)
     }
 
-    /// Adds what one line says. The sizes may stand once, before all calls.
+    /// Adds what one line says. The sizes may stand once, before all that is asked for.
     fn add_line(&mut self, alloc: Global, line: &str) -> Result<(), LineError> {
+        if line == "report" {
+            self.lines.push(Line::Report)?;
+            return Ok(());
+        }
         let (first, rest) = split_word(line)?;
-        if first == "config" && self.config.is_none() && self.events.is_empty() {
+        if first == "config" && self.config.is_none() && self.lines.is_empty() {
             let (chunks, rest) = split_word(rest)?;
             let (gen_limit, sums) = split_word(rest)?;
             self.config = Some(parse_config(chunks, gen_limit, sums)?);
@@ -59,7 +75,7 @@ impl Script {
         }
         let by = DomainId::new(parse_u32(first)?);
         let call = parse_call(alloc, rest)?;
-        self.events.push(Event::Call { by, call })?;
+        self.lines.push(Line::Event(Event::Call { by, call }))?;
         Ok(())
     }
 }
@@ -96,19 +112,39 @@ fn parse_call(alloc: Global, text: &str) -> Result<Call, LineError> {
             let domains = parse_domains(alloc, list)?;
             Ok(Call::PoolCreate { chunks, domains })
         }
+        "pool_close" => {
+            let pool = PoolId::new(parse_u32(rest)?);
+            Ok(Call::PoolClose { pool })
+        }
         "set_pool" => {
             let pool = PoolId::new(parse_u32(rest)?);
             Ok(Call::SetPool { pool })
         }
+        "agg_make" | "agg_fill" | "agg_drop" | "show" => parse_agg_call(alloc, name, rest),
+        _ => parse_descriptor_call(name, rest),
+    }
+}
+
+/// Reads a call that makes an aggregate, or that is called with one alone.
+fn parse_agg_call(alloc: Global, name: &str, rest: &str) -> Result<Call, LineError> {
+    match name {
         "agg_make" => {
             let bytes = decode_text(alloc, rest)?;
             Ok(Call::AggMake { bytes })
         }
-        "show" => {
+        "agg_fill" => {
+            let (count, text) = rest.split_once(' ').unwrap_or((rest, ""));
+            let bytes = repeat_text(alloc, parse_u32(count)?, text)?;
+            Ok(Call::AggMake { bytes })
+        }
+        "agg_drop" => {
+            let agg = AggId::new(parse_u64(rest)?);
+            Ok(Call::AggDrop { agg })
+        }
+        _ => {
             let agg = AggId::new(parse_u64(rest)?);
             Ok(Call::Show { agg })
         }
-        _ => parse_descriptor_call(name, rest),
     }
 }
 

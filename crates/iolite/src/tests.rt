@@ -40,8 +40,10 @@ fn assert_replies(rt: &(impl AllocGlobal + Abort), script: &str, replies: &str) 
 #[test]
 fn ample(rt: HostRuntime) {
     let script = "config 1 1 1\n1 domain_new\n1 pool_create 1 1\n1 set_pool 1\n1 agg_make a\n\
-        1 show 1\n1 pipe\n1 iol_write 1 1\n1 iol_read 0 1\n1 give_fd 0 2\n";
-    let replies = "domain 2\npool 1\ndone\nagg 1\nbytes a\nfds 0 1\ncount 1\nagg 2\nfd 0\n";
+        1 show 1\n1 pipe\n1 iol_write 1 1\n1 iol_read 0 1\n1 give_fd 0 2\n1 agg_drop 1\n\
+        1 agg_fill 2 b\n1 pool_close 1\nreport\n";
+    let replies = "domain 2\npool 1\ndone\nagg 1\nbytes a\nfds 0 1\ncount 1\nagg 2\nfd 0\ndone\n\
+        agg 3\ndone\npool 1 pages 16 free 14 retired 0\nextents 0 dirty 0 buffers 2\n";
     assert_replies(&rt, script, replies);
 }
 
@@ -62,6 +64,61 @@ fn reader_not_named(rt: HostRuntime) {
     let replies = "domain 2\ndomain 3\npool 1\ndone\nagg 1\nfds 0 1\ncount 5\nfd 0\n\
         refused Denied pool 1\nfd 0\nagg 1\nbytes hello\n";
     assert_replies(&rt, script, replies);
+}
+
+#[test]
+fn pools_and_their_pages(rt: HostRuntime) {
+    let table = [
+        // Three pools through one pipe: the reader gets what it may, and is told the pool of the next byte.
+        (
+            "1 domain_new\n1 domain_new\n1 pool_create 1 1,3\n1 pool_create 1 1\n\
+                1 pool_create 1 1,3\n1 set_pool 1\n1 agg_make aa\n1 set_pool 2\n1 agg_make bb\n\
+                1 set_pool 3\n1 agg_make cc\n1 pipe\n1 iol_write 1 1\n1 iol_write 1 2\n\
+                1 iol_write 1 3\n1 give_fd 0 3\n3 iol_read 0 4\n3 show 1\n3 iol_read 0 4\n",
+            "domain 2\ndomain 3\npool 1\npool 2\npool 3\ndone\nagg 1\ndone\nagg 2\ndone\nagg 3\n\
+                fds 0 1\ncount 2\ncount 2\ncount 2\nfd 0\nagg 1\nbytes aa\n\
+                refused Denied pool 2\n",
+        ),
+        // A full pool is freed by a drop.
+        (
+            "1 pool_create 1 1\n1 set_pool 1\n1 agg_fill 65536 x\n1 agg_make y\n1 agg_drop 1\n\
+                1 agg_make y\n",
+            "pool 1\ndone\nagg 1\nrefused NoRoom pool 1\ndone\nagg 2\n",
+        ),
+        // A page of the last generation is not used again.
+        (
+            "config 1 2 16\n1 pool_create 1 1\n1 set_pool 1\n1 agg_make a\n1 agg_drop 1\n\
+                1 agg_make a\n1 agg_drop 2\nreport\n1 agg_fill 65536 x\n1 agg_fill 61440 x\n",
+            "pool 1\ndone\nagg 1\ndone\nagg 2\ndone\npool 1 pages 16 free 15 retired 1\n\
+                extents 0 dirty 0 buffers 0\nrefused NoRoom pool 1\nagg 3\n",
+        ),
+        // The chunks of a closed pool go back when nothing is held there.
+        (
+            "config 1 100 16\n1 pool_create 1 1\n1 set_pool 1\n1 agg_make a\n1 pool_close 1\n\
+                1 pool_close 1\n1 agg_make b\n1 show 1\n1 pool_create 1 1\n1 agg_drop 1\n\
+                1 pool_create 1 1\n1 agg_make b\nreport\n",
+            "pool 1\ndone\nagg 1\ndone\nrefused PoolClosed pool 1\nrefused PoolClosed pool 1\n\
+                bytes a\nrefused NoRoom pool 2\ndone\npool 2\nrefused PoolClosed pool 1\n\
+                pool 2 pages 16 free 16 retired 0\nextents 0 dirty 0 buffers 0\n",
+        ),
+        // A queue still holds what was dropped.
+        (
+            "1 pool_create 1 1\n1 set_pool 1\n1 agg_make old\n1 pipe\n1 iol_write 1 1\n\
+                1 agg_drop 1\n1 agg_make new\nreport\n1 iol_read 0 9\n1 show 3\n",
+            "pool 1\ndone\nagg 1\nfds 0 1\ncount 3\ndone\nagg 2\n\
+                pool 1 pages 16 free 14 retired 0\nextents 0 dirty 0 buffers 2\nagg 3\nbytes old\n",
+        ),
+        // A text so many times over, up to one byte more than an aggregate may have.
+        (
+            "1 pool_create 1 1\n1 set_pool 1\n1 agg_fill 3 %61b\n1 show 1\n1 agg_fill 9\n1 show 2\n\
+                1 agg_fill 4294967295 \n1 agg_fill 0 x\n1 show 4\n1 agg_fill 16777217 x\n",
+            "pool 1\ndone\nagg 1\nbytes ababab\nagg 2\nbytes\nagg 3\nagg 4\nbytes\n\
+                refused TooLong\n",
+        ),
+    ];
+    for (script, replies) in table {
+        assert_replies(&rt, script, replies);
+    }
 }
 
 #[test]
@@ -135,6 +192,18 @@ fn lines_that_are_bad(rt: HostRuntime) -> Result<(), Fail> {
         "1 give_fd 0",
         "1 iol_read 0 -1",
         "1 iol_write 0 1 1",
+        "1 pool_close",
+        "1 pool_close 1 1",
+        "1 agg_drop x",
+        "agg_drop 1",
+        "1 agg_fill",
+        "1 agg_fill x x",
+        "1 agg_fill 4294967296 x",
+        "1 agg_fill 16777218 x",
+        "1 agg_fill 8388609 %61%61",
+        "report 1",
+        "report ",
+        "1 report",
         "config 1 1",
         "config 1 1 1 1",
         "config 0 1 1",
@@ -149,7 +218,11 @@ fn lines_that_are_bad(rt: HostRuntime) -> Result<(), Fail> {
         let told = "line 2: not a command\n";
         assert_outcome(&rt, &mut script.as_bytes(), 2, "", told);
     }
-    for late in ["config 1 1 1\n\nconfig 1 1 1\n", "1 pipe\n#\nconfig 1 1 1"] {
+    for late in [
+        "config 1 1 1\n\nconfig 1 1 1\n",
+        "1 pipe\n#\nconfig 1 1 1",
+        "report\n#\nconfig 1 1 1",
+    ] {
         let told = "line 3: not a command\n";
         assert_outcome(&rt, &mut late.as_bytes(), 2, "", told);
     }

@@ -1,6 +1,6 @@
 //! The words of a script's lines: numbers, lists of numbers, and texts.
-ghost use Rattle.std.specs.Prelude.{◌≡◌, ◌↔◌, ◌<◌, ◌^◌, ◌==◌, IsOk, IfOk, length};
-ghost use Rattle.std.specs.List.{before_first, after_first, position_or_len};
+ghost use Rattle.std.specs.Prelude.{◌≡◌, ◌↔◌, ◌<◌, ◌+◌, ◌*◌, ◌^◌, ◌==◌, Err, IsOk, IfOk, length};
+ghost use Rattle.std.specs.List.{before_first, after_first, position_or_len, repeat};
 ghost use Rattle.std.specs.Str.Parse.{IsNumeral, digits_value};
 ghost use Rattle.iolite.specs.declared.words.LineError.TheVariants.{Memory};
 ghost use Rattle.percent_encoding.specs.Percent.{percent_decode as decoded};
@@ -9,6 +9,9 @@ use iol_core::lists::{Bytes, Domains};
 use iol_core::numbers::DomainId;
 use percent_encoding::percent_decode;
 use std::alloc::{AllocError, AllocFailed, Global};
+
+/// The bytes that a text may have once it is repeated: one more than an aggregate may have.
+const MAX_REPEATED_BYTES: u64 = 0x100_0001;
 
 /// Why a line has no meaning.
 #[derive(Clone, Copy, Debug, PartialEq, Eq)]
@@ -91,5 +94,19 @@ pub fn decode_text(alloc: Global, text: &str) -> Result<Bytes, AllocError>
 {
     let mut bytes = Vec::new(alloc);
     percent_decode(text.as_bytes()).append_to(&mut bytes)?;
+    Ok(Bytes::from_vec(bytes))
+}
+
+/// Reads a text, so many times over. Where that is too long the line is not a command.
+pub fn repeat_text(alloc: Global, count: u32, text: &str) -> Result<Bytes, LineError>
+    ensures bytes { IfOk result (λ bytes. bytes ≡ repeat count (decoded text.now)) }
+    ensures long { (result ≡ Err LineError.NotACommand) ↔ (2 ^ 24 + 1 < count * length (decoded text.now)) }
+{
+    let length = percent_decode(text.as_bytes()).count() as u64;
+    if length.saturating_mul(u64::from(count)) > MAX_REPEATED_BYTES {
+        return Err(LineError::NotACommand);
+    }
+    let once = decode_text(alloc, text)?;
+    let bytes = once.as_slice().repeat(alloc, count as usize)?;
     Ok(Bytes::from_vec(bytes))
 }
