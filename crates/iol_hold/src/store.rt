@@ -2,7 +2,7 @@
 ghost use Rattle.std.specs.Prelude.{◌≡◌, ◌⊎◌, ◌↔◌, ℕ, ◌+◌, ◌*◌, ◌<◌, ◌≤◌, ◌^◌, [], ◌∷◌, length, replicate, false, slice_range, IfOk, IfErr, Err};
 ghost use Rattle.iol_core.specs.Configuration.{IsInRange};
 ghost use Rattle.iol_arena.specs.State.{no_entry};
-ghost use Rattle.iol_arena.specs.Buffers.{IsLive, bytes_of, live_pages};
+ghost use Rattle.iol_arena.specs.Buffers.{IsLive, SharesNoPage, bytes_of, live_pages};
 ghost use Rattle.iol_hold.specs.Stored.{count_of, with_count, IsTidy, IsSettled};
 ghost use Rattle.iol_hold.specs.Moves.{Shares, Moves, SameLists};
 
@@ -158,9 +158,10 @@ impl Store {
         self.arena.bytes(hold.buf(), from, to)
     }
 
-    /// How many buffers are live.
+    /// How many buffers are live. No two of them share a page.
     pub fn buffer_count(&self) -> u32
-        ensures { result ≡ length (live_pages self.now.arena) }
+        ensures count { result ≡ length (live_pages self.now.arena) }
+        ensures alone { SharesNoPage self.now.arena }
     {
         self.arena.buffer_count()
     }

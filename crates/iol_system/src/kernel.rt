@@ -6,7 +6,7 @@ ghost use Rattle.iol_core.specs.State.{new_state, no_slots, is_live, is_pool, ma
 ghost use Rattle.iol_core.specs.Numbered.{numbered_or, is_numbered, taken};
 ghost use Rattle.iol_core.specs.Calls.Aggregates.{lacks_agg, too_many_aggs};
 ghost use Rattle.iol_core.specs.Calls.Descriptors.{too_many_open};
-ghost use Rattle.iol_arena.specs.Buffers.{live_pages};
+ghost use Rattle.iol_arena.specs.Buffers.{SharesNoPage, live_pages};
 ghost use Rattle.iol_system.specs.Report.{reports_of};
 ghost use Rattle.iol_system.specs.Tables.{domain_in};
 ghost use Rattle.iol_system.specs.Holding.{machine_of, IsSound};
@@ -197,13 +197,15 @@ impl Kernel {
         ensures buffers { IfOk result (λ r. r.buffers ≡ length (live_pages (holding self.now).store.arena)) }
         ensures extents { IfOk result (λ r. r.extents ≡ 0) }
         ensures dirty { IfOk result (λ r. r.dirty ≡ 0) }
+        ensures alone { SharesNoPage (holding self.now).store.arena }
     {
+        let buffers = self.store.buffer_count();
         let pools = report_pools(self.alloc, &self.store)?;
         Ok(Report {
             pools,
             extents: 0,
             dirty: 0,
-            buffers: self.store.buffer_count(),
+            buffers,
         })
     }
 }

@@ -10,7 +10,7 @@ ghost use Rattle.iol_system.specs.Holding.{machine_of, joined, IsSafe};
 ghost use Rattle.iol_core.specs.Meaning.{first};
 ghost use Rattle.iol_core.specs.Calls.Aggregates.{show};
 ghost use Rattle.iol_system.specs.Report.{reports_of};
-ghost use Rattle.iol_arena.specs.Buffers.{live_pages};
+ghost use Rattle.iol_arena.specs.Buffers.{SharesNoPage, live_pages};
 ghost use Rattle.iol_system.specs.Room.{fits, IsDone, IsNoRoom};
 
 use crate::kernel::Kernel;
@@ -62,13 +62,14 @@ impl System {
         self.kernel.parts(by, agg)
     }
 
-    /// What lies in the system, counted: the pools that still have their chunks, by number, and the live buffers. It
-    /// changes nothing.
+    /// What lies in the system, counted: the pools that still have their chunks, by number, and the live buffers, no two
+    /// of which share a page. It changes nothing.
     pub fn report(&self) -> Result<Report, AllocError>
         ensures pools { IfOk result (λ r. r.pools.items ≡ reports_of self.now.store (length self.now.store.pools)) }
         ensures buffers { IfOk result (λ r. r.buffers ≡ length (live_pages self.now.store.arena)) }
         ensures extents { IfOk result (λ r. r.extents ≡ 0) }
         ensures dirty { IfOk result (λ r. r.dirty ≡ 0) }
+        ensures alone { SharesNoPage self.now.store.arena }
     {
         self.kernel.report()
     }
