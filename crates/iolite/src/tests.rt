@@ -108,6 +108,14 @@ fn pools_and_their_pages(rt: HostRuntime) {
             "pool 1\ndone\nagg 1\nfds 0 1\ncount 3\ndone\nagg 2\n\
                 pool 1 pages 16 free 14 retired 0\nextents 0 dirty 0 buffers 2\nagg 3\nbytes old\n",
         ),
+        // One byte that is held keeps the sixteen pages of its buffer.
+        (
+            "1 pool_create 1 1\n1 set_pool 1\n1 agg_fill 65536 x\n1 pipe\n1 iol_write 1 1\n\
+                1 agg_drop 1\n1 iol_read 0 1\n1 iol_read 0 65535\n1 agg_drop 3\n1 agg_make y\n\
+                1 agg_drop 2\n1 agg_make y\n",
+            "pool 1\ndone\nagg 1\nfds 0 1\ncount 65536\ndone\nagg 2\nagg 3\ndone\n\
+                refused NoRoom pool 1\ndone\nagg 4\n",
+        ),
         // A text so many times over, up to one byte more than an aggregate may have.
         (
             "1 pool_create 1 1\n1 set_pool 1\n1 agg_fill 3 %61b\n1 show 1\n1 agg_fill 9\n1 show 2\n\
