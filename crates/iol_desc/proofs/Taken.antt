@@ -1,0 +1,80 @@
+-- Places that are taken or free.
+use Rattle.std.proofs.Common.{◌≡◌, ◌≢◌, ℕ, zero, suc, ◌+◌, ◌≤◌, ◌<◌, List, [], ◌∷◌, ◌++◌, length, get_or, Option, Some, None, inl, inr, arith, refl}
+use Rattle.std.specs.List.{remove}
+use Rattle.std.proofs.lemmas.Bool.{cases_eq}
+use Rattle.iol_desc.specs.Tables.{place_in}
+use Rattle.std.specs.Prelude.{slice_set}
+use Rattle.std.proofs.lemmas.Bool.Decides.{nat_tests}
+use Rattle.std.proofs.lemmas.Grind.{common_steps}
+use Rattle.std.proofs.lemmas.List.Sums.{prefix_len-le-length, prefix_len-drop_yes, prefix_len-drop_no, prefix_len-drop_all}
+use Rattle.iol_core.specs.Numbered.{lookup, without, lowest, taken, placed}
+
+pub lowest_le-taken : {A : Type 0} (xs : List (Option A)) → lowest xs ≤ taken xs
+lowest_le-taken [] = omega arith
+lowest_le-taken (None ∷ xs) = omega arith
+lowest_le-taken (Some x ∷ xs) = omega (arith, lowest_le-taken xs)
+
+taken-push : {A : Type 0} (xs : List (Option A)) (x : A) → taken (xs ++ Some x ∷ []) ≡ taken xs + 1
+taken-push [] x = refl
+taken-push (None ∷ xs) x = taken-push xs x
+taken-push (Some y ∷ xs) x = omega (arith, taken-push xs x)
+
+taken-set : {A : Type 0} (xs : List (Option A)) (x : A) → lowest xs < length xs → taken (slice_set xs (lowest xs) (Some x)) ≡ taken xs + 1
+taken-set [] x lt = absurd (omega arith)
+taken-set (None ∷ xs) x lt = omega arith
+taken-set (Some y ∷ xs) x lt = rw (one_more (lowest xs)) (omega (arith, taken-set xs x (omega arith)))
+  where
+    one_more : (n : ℕ) → 1 + n ≡ suc n
+    one_more n = omega arith
+
+pub taken_set_at : {A : Type 0} (xs : List (Option A)) (n : ℕ) (x : A) → n < length xs → n ≡ lowest xs → taken (slice_set xs n (Some x)) ≡ taken xs + 1
+taken_set_at xs n x lt is = rw is (taken-set xs x (omega arith))
+
+pub taken_placed : {A : Type 0} (xs : List (Option A)) (x : A) → taken (placed xs (lowest xs) x) ≡ taken xs + 1
+taken_placed xs x = grind (arith, nat_tests, taken-set xs x, taken-push xs x)
+
+pub lowest_freed : {A : Type 0} (xs : List (Option A)) (n : ℕ) → n < length xs → lowest (slice_set xs n None) ≤ n
+lowest_freed [] n lt = absurd (omega arith)
+lowest_freed (x ∷ xs) zero lt = omega arith
+lowest_freed (None ∷ xs) (suc n) lt = omega arith
+lowest_freed (Some x ∷ xs) (suc n) lt = omega (arith, lowest_freed xs n (omega arith))
+
+pub placed_at : {A : Type 0} (xs : List (Option A)) (n m k : ℕ) (x : A) → m ≡ n → n < length xs → k ≡ lowest (slice_set xs m None) → (k < length (slice_set xs m None)) × (slice_set (slice_set xs m None) k (Some x) ≡ placed (slice_set xs n None) (lowest (slice_set xs n None)) x)
+placed_at xs n m k x same lt is =
+    let low : lowest (slice_set xs n None) ≤ n = lowest_freed xs n lt in
+    rw (is, same) (grind (arith, nat_tests, common_steps, low), grind (arith, nat_tests, common_steps, low))
+
+-- the entry of a number is found at its place, and taken out there
+
+pub place_within : {A : Type 0} (es : List (ℕ × A)) (n : ℕ) → lookup es n ≢ None → place_in es n < length es
+place_within [] n there = absurd (there refl)
+place_within (e ∷ es) n there = elim (cases_eq e.0 n) [
+  | inl k ↦ grind (arith, nat_tests, k)
+  | inr k ↦ (let r = place_within es n (λ none. there (grind (arith, nat_tests, k, none))) in grind (arith, nat_tests, k, r))
+]
+
+pub place_lookup : {A : Type 0} (es : List (ℕ × A)) (n : ℕ) (d : ℕ × A) → lookup es n ≢ None → lookup es n ≡ Some (get_or es (place_in es n) d).1
+place_lookup [] n d there = absurd (there refl)
+place_lookup (e ∷ es) n d there = elim (cases_eq e.0 n) [
+  | inl k ↦ grind (arith, nat_tests, k)
+  | inr k ↦ (let r = place_lookup es n d (λ none. there (grind (arith, nat_tests, k, none))) in
+      let p : place_in (e ∷ es) n ≡ suc (place_in es n) = grind (arith, nat_tests, k) in
+      rw p (grind (arith, nat_tests, k, r)))
+]
+
+pub place_without : {A : Type 0} (es : List (ℕ × A)) (n : ℕ) → lookup es n ≢ None → remove es (place_in es n) ≡ without es n
+place_without [] n there = absurd (there refl)
+place_without (e ∷ es) n there = elim (cases_eq e.0 n) [
+  | inl k ↦ grind (arith, nat_tests, k)
+  | inr k ↦ (let r = place_without es n (λ none. there (grind (arith, nat_tests, k, none))) in
+      let p : place_in (e ∷ es) n ≡ suc (place_in es n) = grind (arith, nat_tests, k) in
+      rw p (grind (arith, nat_tests, k, r)))
+]
+
+pub ruleset prefix_rules = (prefix_len-drop_yes, prefix_len-drop_no, prefix_len-drop_all)
+
+pub ruleset entry_rules = (place_within, place_lookup, place_without)
+
+pub ruleset lowest_rules = (lowest_le-taken, prefix_len-drop_yes, prefix_len-drop_no, prefix_len-drop_all)
+
+pub ruleset put_rules = (taken_placed, taken_set_at)

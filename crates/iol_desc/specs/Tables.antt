@@ -1,0 +1,81 @@
+-- The table of domains, whatever an aggregate is.
+use Rattle.std.specs.Prelude.{ℕ, ◌+◌, ◌==◌, ◌||◌, Bool, nat_lt, List, [], ◌∷◌, ◌++◌, length, Option, map, sum_by, slice_set}
+use Rattle.std.specs.List.{position_or_len}
+use Rattle.iol_core.specs.State.{Domain, no_domain}
+use Rattle.iol_core.specs.Numbered.{numbered_or, with_numbered, lookup, without, lowest, placed}
+use Rattle.iol_core.specs.Calls.Descriptors.{with_read_end}
+use Rattle.iol_core.specs.declared.descriptors.Descriptor.{Descriptor}
+use Rattle.iol_core.specs.declared.descriptors.Descriptor.TheVariants as on
+use Rattle.iol_core.specs.declared.limits.TheConstants.{MAX_AGGREGATES, LAST_AGGREGATE}
+
+-- a domain, and how many aggregates more it can take without asking for memory
+pub record Row (A : Type 0) : Type 0 where
+  pub domain : Domain A
+  pub room : ℕ
+
+abbrev pub no_row : {A : Type 0} → Row A
+no_row = record { domain = no_domain; room = 0 }
+
+abbrev pub domains_of : {A : Type 0} → List (Row A) → List (Domain A)
+domains_of rows = map (λ r. r.domain) rows
+
+unfoldable pub row_in : {A : Type 0} → List (Row A) → (d : ℕ) → Row A
+row_in rows d = numbered_or rows d no_row
+
+abbrev pub room_in : {A : Type 0} → List (Row A) → (d : ℕ) → ℕ
+room_in rows d = (row_in rows d).room
+
+unfoldable pub domain_in : {A : Type 0} → List (Domain A) → (d : ℕ) → Domain A
+domain_in ds d = numbered_or ds d no_domain
+
+unfoldable pub with_domain_in : {A : Type 0} → List (Domain A) → (d : ℕ) → Domain A → List (Domain A)
+with_domain_in ds d x = with_numbered ds d x
+
+-- Aggregates, under rising numbers.
+
+abbrev pub agg_in : {A : Type 0} → List (Domain A) → (d a : ℕ) → Option A
+agg_in ds d a = lookup (domain_in ds d).aggs a
+
+abbrev pub with_aggs_in : {A : Type 0} → List (Domain A) → (d : ℕ) → List (ℕ × A) → List (Domain A)
+with_aggs_in ds d aggs = with_domain_in ds d (record (domain_in ds d) { aggs = aggs })
+
+-- a domain with x under its next number
+abbrev pub with_next : {A : Type 0} → Domain A → A → Domain A
+with_next d x = record d { aggs = d.aggs ++ (d.next_agg, x) ∷ []; next_agg = d.next_agg + 1 }
+
+abbrev pub with_agg_in : {A : Type 0} → List (Domain A) → (d : ℕ) → A → List (Domain A)
+with_agg_in ds d x = with_domain_in ds d (with_next (domain_in ds d) x)
+
+-- without the domain's aggregate of this number
+abbrev pub without_agg_in : {A : Type 0} → List (Domain A) → (d a : ℕ) → List (Domain A)
+without_agg_in ds d a = with_aggs_in ds d (without (domain_in ds d).aggs a)
+
+-- the place of the entry of this number, or the length where there is none
+abbrev pub place_in : {A : Type 0} → List (ℕ × A) → (n : ℕ) → ℕ
+place_in es n = position_or_len (λ e. e.0 == n) es
+
+-- with x in place of what the number stands for
+abbrev pub exchanged : {A : Type 0} → List (ℕ × A) → (n : ℕ) → A → List (ℕ × A)
+exchanged es n x = slice_set es (place_in es n) (n, x)
+
+-- the aggregates of all domains
+abbrev pub live_aggs_in : {A : Type 0} → List (Domain A) → ℕ
+live_aggs_in ds = sum_by (λ d. length d.aggs) ds
+
+-- whether so many new ones, with so many given up, are too many for all domains or for the numbers of this one
+abbrev pub too_many_in : {A : Type 0} → List (Domain A) → (d made given : ℕ) → Bool
+too_many_in ds d made given =
+    nat_lt (MAX_AGGREGATES + given) (live_aggs_in ds + made) || nat_lt (LAST_AGGREGATE + 1) ((domain_in ds d).next_agg + made)
+
+-- Descriptors, in places.
+
+abbrev pub with_fds_in : {A : Type 0} → List (Domain A) → (d : ℕ) → List (Option Descriptor) → List (Domain A)
+with_fds_in ds d fds = with_domain_in ds d (record (domain_in ds d) { fds = fds })
+
+-- with x open under the lowest free number
+abbrev pub with_next_fd : List (Option Descriptor) → Descriptor → List (Option Descriptor)
+with_next_fd fds x = placed fds (lowest fds) x
+
+-- with both ends of a pipe open, the read end first
+abbrev pub with_ends : List (Option Descriptor) → (pipe : ℕ) → List (Option Descriptor)
+with_ends fds p = with_next_fd (with_read_end fds p) (on.WriteEnd p)

@@ -1,0 +1,10 @@
+//! Domains: their aggregates under rising numbers, and what their descriptors are open on.
+//!
+//! [`Table`](table::Table) holds domains numbered from 1, whatever an aggregate is. A contract sees it as a list of
+//! rows (`specs/Tables`): a domain as the copying machine has it, and how many aggregates more it can take without
+//! asking for memory. Room is reserved first ([`reserve_aggs`](table::Table::reserve_aggs)), so that adding cannot fail.
+#![tactic(auto)]
+
+pub mod places;
+mod row;
+pub mod table;

@@ -1,0 +1,264 @@
+//! One domain.
+ghost use Rattle.std.specs.Prelude.{◌≡◌, ◌≢◌, ℕ, ◌+◌, ◌-◌, ◌<◌, ◌≤◌, ◌^◌, length, true, Option, Some, None, List, [], ◌∷◌, ◌++◌, IfOk, IfErr, IfSome, OnOk, OnErr, slice_set, nat_lt, vec_len, vec_capacity};
+ghost use Rattle.std.specs.Option.{option_copied};
+ghost use Rattle.iol_core.specs.State.{new_domain, no_domain};
+ghost use Rattle.iol_core.specs.Numbered.{in_place, lookup, without, lowest, placed, taken};
+ghost use Rattle.iol_core.specs.Calls.Descriptors.{with_read_end};
+ghost use Rattle.iol_desc.specs.Tables.{with_next, exchanged, place_in, with_next_fd, with_ends};
+
+use crate::places::{lowest_place, put, taken_places};
+use iol_core::descriptors::Descriptor;
+use iol_core::limits::MAX_OPEN;
+use iol_core::numbers::{AggId, Fd, PipeId, PoolId};
+use std::alloc::{AllocError, Global};
+use std::marker::Model;
+use std::mem;
+
+/// A domain: its aggregates by number, the newest last, and what its descriptors are open on.
+#[derive(Drop)]
+pub(crate) struct Domain<A> {
+    pub(crate) live: bool,
+    pub(crate) aggs: Vec<(AggId, A)>,
+    pub(crate) next_agg: u64,
+    pub(crate) fds: Vec<Option<Descriptor>>,
+    pub(crate) default: Option<PoolId>,
+}
+
+impl<A> Model for Domain<A> {
+    ghost use Rattle.std.specs.Prelude.{◌-◌, vec_len, vec_capacity};
+    ghost use Rattle.iol_desc.specs.Tables as tables;
+
+    ghost Value = { tables.Row A };
+
+    ghost view = { λ d. record { domain = record { live = d.live; aggs = d.aggs.items; next_agg = d.next_agg; fds = d.fds.items; default = d.default }; room = vec_capacity d.aggs - vec_len d.aggs } };
+}
+
+/// The aggregate of this number.
+fn numbered<A>(aggs: &[(AggId, A)], agg: AggId) -> Option<&A>
+    ensures { option_copied result ≡ lookup aggs.now agg }
+{
+    aggs.iter().find(|e| e.0 == agg).map(|e| &e.1)
+}
+
+/// The place of the aggregate of this number, or the length where there is none.
+#[tactic(auto, using(crate::proofs::Taken::prefix_rules))]
+fn place_in<A>(aggs: &[(AggId, A)], agg: AggId) -> usize
+    ensures { result ≡ place_in aggs.now agg }
+{
+    for (i, entry) in aggs.iter().enumerate() {
+        if entry.0 == agg {
+            return i;
+        }
+    }
+    aggs.len()
+}
+
+/// Takes the aggregate of this number.
+#[tactic(auto, using(crate::proofs::Taken::entry_rules))]
+fn take_numbered<A: Drop>(aggs: &mut Vec<(AggId, A)>, agg: AggId) -> A
+    requires { lookup aggs.old.items agg ≢ None }
+    ensures given { Some result ≡ lookup aggs.old.items agg }
+    ensures rest { aggs.new.items ≡ without aggs.old.items agg }
+    ensures room { vec_capacity aggs.old - vec_len aggs.old ≤ vec_capacity aggs.new - vec_len aggs.new }
+{
+    let at = place_in(aggs, agg);
+    let (_, given) = aggs.remove(at);
+    given
+}
+
+/// Puts another aggregate under this number.
+#[tactic(auto, using(crate::proofs::Taken::entry_rules))]
+fn swap_numbered<A: Drop>(aggs: &mut Vec<(AggId, A)>, agg: AggId, other: A) -> A
+    requires { lookup aggs.old.items agg ≢ None }
+    ensures given { Some result ≡ lookup aggs.old.items agg }
+    ensures swapped { aggs.new.items ≡ exchanged aggs.old.items agg other }
+    ensures room { vec_capacity aggs.old - vec_len aggs.old ≤ vec_capacity aggs.new - vec_len aggs.new }
+{
+    let at = place_in(aggs, agg);
+    let entry = &mut aggs[at];
+    let (_, given) = mem::replace(entry, (agg, other));
+    given
+}
+
+/// Opens both ends of a pipe.
+fn open_ends(fds: &mut Vec<Option<Descriptor>>, pipe: PipeId) -> Result<(Fd, Fd), AllocError>
+    requires { taken fds.old.items ≤ MAX_OPEN }
+    ensures numbers { IfOk result (λ ends. ends ≡ (lowest fds.old.items, lowest (with_read_end fds.old.items pipe))) }
+    ensures opened { OnOk result (fds.new.items ≡ with_ends fds.old.items pipe) }
+    ensures err { OnErr result (fds.new.items ≡ fds.old.items) }
+{
+    fds.reserve(2)?;
+    let read = lowest_place(fds);
+    put(fds, read, Descriptor::ReadEnd { pipe });
+    let write = lowest_place(fds);
+    put(fds, write, Descriptor::WriteEnd { pipe });
+    Ok((Fd::new(read as u32), Fd::new(write as u32)))
+}
+
+/// Opens the lowest free number.
+fn open_next(fds: &mut Vec<Option<Descriptor>>, on: Descriptor) -> Result<Fd, AllocError>
+    requires { taken fds.old.items < MAX_OPEN }
+    ensures number { IfOk result (λ n. n ≡ lowest fds.old.items) }
+    ensures opened { OnOk result (fds.new.items ≡ with_next_fd fds.old.items on) }
+    ensures err { OnErr result (fds.new.items ≡ fds.old.items) }
+{
+    fds.reserve(1)?;
+    let place = lowest_place(fds);
+    put(fds, place, on);
+    Ok(Fd::new(place as u32))
+}
+
+/// Frees a number, and opens the lowest.
+#[tactic(auto, using(crate::proofs::Taken::lowest_freed))]
+fn move_within(fds: &mut Vec<Option<Descriptor>>, fd: Fd, on: Descriptor) -> Fd
+    requires { fd < length fds.old.items }
+    ensures number { result ≡ lowest (slice_set fds.old.items fd None) }
+    ensures moved { fds.new.items ≡ with_next_fd (slice_set fds.old.items fd None) on }
+{
+    fds[fd.number() as usize] = None;
+    let place = lowest_place(fds);
+    fds[place] = Some(on);
+    Fd::new(place as u32)
+}
+
+impl<A: Drop> Domain<A> {
+    /// A live domain that has nothing yet.
+    pub(crate) fn new(alloc: Global) -> Domain<A>
+        ensures { result.domain ≡ new_domain }
+    {
+        Domain {
+            live: true,
+            aggs: Vec::new(alloc),
+            next_agg: 1,
+            fds: Vec::new(alloc),
+            default: None,
+        }
+    }
+
+    /// Ends: nothing is left of it.
+    pub(crate) fn end(&mut self)
+        requires no_aggs { self.old.domain.aggs ≡ [] }
+        requires no_fds { taken self.old.domain.fds ≡ 0 }
+        ensures { self.new.domain ≡ no_domain }
+    {
+        self.live = false;
+        self.next_agg = 1;
+        self.fds.clear();
+        self.default = None;
+    }
+
+    /// The aggregate of this number.
+    pub(crate) fn agg(&self, agg: AggId) -> Option<&A>
+        ensures { option_copied result ≡ lookup self.now.domain.aggs agg }
+    {
+        numbered(&self.aggs, agg)
+    }
+
+    /// Reserves room for so many aggregates more.
+    pub(crate) fn reserve_aggs(&mut self, count: usize) -> Result<(), AllocError>
+        ensures domain { self.new.domain ≡ self.old.domain }
+        ensures room { OnOk result (count ≤ self.new.room) }
+    {
+        self.aggs.reserve(count)?;
+        Ok(())
+    }
+
+    /// Adds an aggregate under the next number.
+    pub(crate) fn add_agg(&mut self, agg: A) -> AggId
+        requires few { self.old.domain.next_agg < 2 ^ 64 - 1 }
+        requires room { 0 < self.old.room }
+        ensures number { result ≡ self.old.domain.next_agg }
+        ensures added { self.new.domain ≡ with_next self.old.domain agg }
+        ensures room { self.old.room ≤ self.new.room + 1 }
+    {
+        let number = self.next_agg;
+        self.aggs.push_reserved((AggId::new(number), agg));
+        self.next_agg += 1;
+        AggId::new(number)
+    }
+
+    /// Takes the aggregate of this number.
+    pub(crate) fn take_agg(&mut self, agg: AggId) -> A
+        requires { lookup self.old.domain.aggs agg ≢ None }
+        ensures given { Some result ≡ lookup self.old.domain.aggs agg }
+        ensures rest { self.new.domain ≡ record self.old.domain { aggs = without self.old.domain.aggs agg } }
+        ensures room { self.old.room ≤ self.new.room }
+    {
+        take_numbered(&mut self.aggs, agg)
+    }
+
+    /// Puts another aggregate under this number.
+    pub(crate) fn swap_agg(&mut self, agg: AggId, other: A) -> A
+        requires { lookup self.old.domain.aggs agg ≢ None }
+        ensures given { Some result ≡ lookup self.old.domain.aggs agg }
+        ensures swapped { self.new.domain ≡ record self.old.domain { aggs = exchanged self.old.domain.aggs agg other } }
+        ensures room { self.old.room ≤ self.new.room }
+    {
+        swap_numbered(&mut self.aggs, agg, other)
+    }
+
+    /// Takes all aggregates, by number.
+    pub(crate) fn take_aggs(&mut self, alloc: Global) -> Vec<(AggId, A)>
+        ensures given { result.items ≡ self.old.domain.aggs }
+        ensures rest { self.new.domain ≡ record self.old.domain { aggs = [] } }
+    {
+        mem::replace(&mut self.aggs, Vec::new(alloc))
+    }
+
+    /// What a descriptor is open on.
+    pub(crate) fn descriptor(&self, fd: Fd) -> Option<Descriptor>
+        ensures { result ≡ in_place self.now.domain.fds fd }
+    {
+        self.fds.get(fd.number() as usize).copied().flatten()
+    }
+
+    /// Whether so many more descriptors are too many.
+    pub(crate) fn is_open_beyond(&self, made: usize) -> bool
+        requires made { made ≤ 2 }
+        ensures { result ≡ nat_lt MAX_OPEN (taken self.now.domain.fds + made) }
+    {
+        let open = taken_places(&self.fds);
+        open > MAX_OPEN || MAX_OPEN < open + made
+    }
+
+    /// Opens both ends of a pipe.
+    pub(crate) fn add_ends(&mut self, pipe: PipeId) -> Result<(Fd, Fd), AllocError>
+        requires { taken self.old.domain.fds ≤ MAX_OPEN }
+        ensures numbers { IfOk result (λ ends. ends ≡ (lowest self.old.domain.fds, lowest (with_read_end self.old.domain.fds pipe))) }
+        ensures opened { OnOk result (self.new.domain ≡ record self.old.domain { fds = with_ends self.old.domain.fds pipe }) }
+        ensures err { OnErr result (self.new.domain ≡ self.old.domain) }
+        ensures room { self.old.room ≤ self.new.room }
+    {
+        open_ends(&mut self.fds, pipe)
+    }
+
+    /// Opens the lowest free number.
+    pub(crate) fn add_fd(&mut self, on: Descriptor) -> Result<Fd, AllocError>
+        requires { taken self.old.domain.fds < MAX_OPEN }
+        ensures number { IfOk result (λ n. n ≡ lowest self.old.domain.fds) }
+        ensures opened { OnOk result (self.new.domain ≡ record self.old.domain { fds = with_next_fd self.old.domain.fds on }) }
+        ensures err { OnErr result (self.new.domain ≡ self.old.domain) }
+        ensures room { self.old.room ≤ self.new.room }
+    {
+        open_next(&mut self.fds, on)
+    }
+
+    /// Closes an open number.
+    pub(crate) fn take_fd(&mut self, fd: Fd)
+        requires { in_place self.old.domain.fds fd ≢ None }
+        ensures closed { self.new.domain ≡ record self.old.domain { fds = slice_set self.old.domain.fds fd None } }
+        ensures room { self.old.room ≤ self.new.room }
+    {
+        self.fds[fd.number() as usize] = None;
+    }
+
+    /// Closes an open number, and opens the lowest.
+    pub(crate) fn move_fd(&mut self, fd: Fd, on: Descriptor) -> Fd
+        requires { in_place self.old.domain.fds fd ≢ None }
+        ensures number { result ≡ lowest (slice_set self.old.domain.fds fd None) }
+        ensures moved { self.new.domain ≡ record self.old.domain { fds = with_next_fd (slice_set self.old.domain.fds fd None) on } }
+        ensures room { self.old.room ≤ self.new.room }
+    {
+        move_within(&mut self.fds, fd, on)
+    }
+}

@@ -1,0 +1,293 @@
+//! The table of domains.
+ghost use Rattle.std.specs.Prelude.{◌≡◌, ◌≢◌, ℕ, ◌+◌, ◌-◌, ◌<◌, ◌≤◌, ◌^◌, length, true, false, min, sum_by, Option, Some, None, List, [], ◌∷◌, ◌++◌, IfOk, IfErr, IfSome, OnOk, OnErr, slice_set, nat_lt};
+ghost use Rattle.std.specs.Option.{option_copied};
+ghost use Rattle.iol_core.specs.State.{new_domain, no_domain};
+ghost use Rattle.iol_core.specs.Numbered.{in_place, lookup, without, lowest, placed, taken};
+ghost use Rattle.iol_core.specs.Calls.Descriptors.{with_read_end};
+ghost use Rattle.iol_desc.specs.Tables.{domains_of, row_in, room_in, domain_in, with_domain_in, agg_in, with_aggs_in, with_agg_in, without_agg_in, exchanged, live_aggs_in, too_many_in, with_fds_in, with_next_fd, with_ends};
+
+use crate::row::Domain;
+use iol_core::descriptors::Descriptor;
+use iol_core::limits::{LAST_AGGREGATE, MAX_AGGREGATES, MAX_OPEN};
+use iol_core::numbers::{AggId, DomainId, Fd, PipeId, PoolId};
+use std::alloc::{AllocError, Global};
+use std::marker::Model;
+
+/// Domains numbered from 1, and what each has. `A` is what an aggregate is.
+#[derive(Drop)]
+pub struct Table<A> {
+    alloc: Global,
+    rows: Vec<Domain<A>>,
+}
+
+impl<A> Model for Table<A> {
+    ghost use Rattle.std.specs.Prelude.{List};
+    ghost use Rattle.iol_desc.specs.Tables as tables;
+
+    ghost Value = { List (tables.Row A) };
+
+    ghost view = { λ t. t.rows.items };
+}
+
+/// How many aggregates are live, or `usize::MAX` where there are more.
+fn live_aggs<A>(rows: &[Domain<A>]) -> usize
+    ensures { result ≡ min (live_aggs_in (domains_of rows.now)) usize.MAX }
+{
+    let mut count: usize = 0;
+    for domain in rows {
+        count = count.saturating_add(domain.aggs.len());
+    }
+    count
+}
+
+impl<A: Drop> Table<A> {
+    /// A table of no domains.
+    pub fn new(alloc: Global) -> Table<A>
+        ensures { result ≡ [] }
+    {
+        Table {
+            alloc,
+            rows: Vec::new(alloc),
+        }
+    }
+
+    /// How many domains were ever added.
+    pub fn len(&self) -> usize
+        ensures { result ≡ length self.now }
+    {
+        self.rows.len()
+    }
+
+    /// Adds a live domain that has nothing yet.
+    pub fn add_domain(&mut self) -> Result<(), AllocError>
+        ensures ok { OnOk result (domains_of self.new ≡ domains_of self.old ++ new_domain ∷ []) }
+        ensures err { OnErr result (self.new ≡ self.old) }
+    {
+        self.rows.push(Domain::new(self.alloc))?;
+        Ok(())
+    }
+
+    /// The place of a live domain.
+    #[tactic(auto, using(crate::proofs::Rows::row_rules), unfolding(crate::specs::Tables::domain_in))]
+    fn place_of(&self, d: DomainId) -> usize
+        requires live { (domain_in (domains_of self.now) d).live ≡ true }
+        ensures place { result + 1 ≡ d }
+        ensures within { result < length self.now }
+    {
+        d.number() as usize - 1
+    }
+
+    /// Whether the domain is live.
+    #[tactic(auto, using(crate::proofs::Rows::row_rules), unfolding(crate::specs::Tables::domain_in))]
+    pub fn live(&self, d: DomainId) -> bool
+        ensures { result ≡ (domain_in (domains_of self.now) d).live }
+    {
+        let n = d.number() as usize;
+        if n == 0 || self.rows.len() < n {
+            return false;
+        }
+        let domain = &self.rows[n - 1];
+        domain.live
+    }
+
+    /// Ends a domain that has no aggregate and no open descriptor: nothing is left of it.
+    #[tactic(auto, using(crate::proofs::Rows::row_rules), unfolding(crate::specs::Tables::domain_in, crate::specs::Tables::with_domain_in))]
+    pub fn end_domain(&mut self, d: DomainId)
+        requires live { (domain_in (domains_of self.old) d).live ≡ true }
+        requires no_aggs { (domain_in (domains_of self.old) d).aggs ≡ [] }
+        requires no_fds { taken (domain_in (domains_of self.old) d).fds ≡ 0 }
+        ensures { domains_of self.new ≡ with_domain_in (domains_of self.old) d no_domain }
+    {
+        let at = self.place_of(d);
+        let domain = &mut self.rows[at];
+        domain.end();
+    }
+
+    /// A domain's aggregate.
+    #[tactic(auto, using(crate::proofs::Rows::row_rules), unfolding(crate::specs::Tables::domain_in))]
+    pub fn agg(&self, d: DomainId, agg: AggId) -> Option<&A>
+        requires { (domain_in (domains_of self.now) d).live ≡ true }
+        ensures { option_copied result ≡ agg_in (domains_of self.now) d agg }
+    {
+        let domain = &self.rows[self.place_of(d)];
+        domain.agg(agg)
+    }
+
+    /// Whether so many new aggregates, with so many given up, are too many.
+    #[tactic(auto, using(crate::proofs::Rows::row_rules), unfolding(crate::specs::Tables::domain_in))]
+    pub fn is_too_many(&self, d: DomainId, made: u64, given: u64) -> bool
+        requires live { (domain_in (domains_of self.now) d).live ≡ true }
+        requires made { made ≤ 2 }
+        requires given { given ≤ 2 }
+        ensures { result ≡ too_many_in (domains_of self.now) d made given }
+    {
+        let domain = &self.rows[self.place_of(d)];
+        let next = domain.next_agg;
+        let live = live_aggs(&self.rows) as u128;
+        MAX_AGGREGATES as u128 + (given as u128) < live + (made as u128)
+            || LAST_AGGREGATE as u128 + 1 < next as u128 + (made as u128)
+    }
+
+    /// Reserves room for so many aggregates more of a domain.
+    #[tactic(auto, using(crate::proofs::Rows::row_rules), unfolding(crate::specs::Tables::domain_in, crate::specs::Tables::row_in))]
+    pub fn reserve_aggs(&mut self, d: DomainId, count: usize) -> Result<(), AllocError>
+        requires { (domain_in (domains_of self.old) d).live ≡ true }
+        ensures same { domains_of self.new ≡ domains_of self.old }
+        ensures room { OnOk result (count ≤ room_in self.new d) }
+    {
+        let at = self.place_of(d);
+        let domain = &mut self.rows[at];
+        domain.reserve_aggs(count)
+    }
+
+    /// Adds an aggregate under the domain's next number, in room that is reserved.
+    #[tactic(auto, using(crate::proofs::Rows::row_rules), unfolding(crate::specs::Tables::domain_in, crate::specs::Tables::with_domain_in, crate::specs::Tables::row_in))]
+    pub fn add_agg(&mut self, d: DomainId, agg: A) -> AggId
+        requires live { (domain_in (domains_of self.old) d).live ≡ true }
+        requires few { (domain_in (domains_of self.old) d).next_agg < 2 ^ 64 - 1 }
+        requires room { 0 < room_in self.old d }
+        ensures number { result ≡ (domain_in (domains_of self.old) d).next_agg }
+        ensures added { domains_of self.new ≡ with_agg_in (domains_of self.old) d agg }
+        ensures room { room_in self.old d ≤ room_in self.new d + 1 }
+    {
+        let at = self.place_of(d);
+        let domain = &mut self.rows[at];
+        domain.add_agg(agg)
+    }
+
+    /// Takes an aggregate from its domain.
+    #[tactic(auto, using(crate::proofs::Rows::row_rules), unfolding(crate::specs::Tables::domain_in, crate::specs::Tables::with_domain_in, crate::specs::Tables::row_in))]
+    pub fn take_agg(&mut self, d: DomainId, agg: AggId) -> A
+        requires live { (domain_in (domains_of self.old) d).live ≡ true }
+        requires there { agg_in (domains_of self.old) d agg ≢ None }
+        ensures given { Some result ≡ agg_in (domains_of self.old) d agg }
+        ensures rest { domains_of self.new ≡ without_agg_in (domains_of self.old) d agg }
+        ensures room { room_in self.old d ≤ room_in self.new d }
+    {
+        let at = self.place_of(d);
+        let domain = &mut self.rows[at];
+        domain.take_agg(agg)
+    }
+
+    /// Puts another aggregate under the number of one, and gives that.
+    #[tactic(auto, using(crate::proofs::Rows::row_rules), unfolding(crate::specs::Tables::domain_in, crate::specs::Tables::with_domain_in, crate::specs::Tables::row_in))]
+    pub fn swap_agg(&mut self, d: DomainId, agg: AggId, other: A) -> A
+        requires live { (domain_in (domains_of self.old) d).live ≡ true }
+        requires there { agg_in (domains_of self.old) d agg ≢ None }
+        ensures given { Some result ≡ agg_in (domains_of self.old) d agg }
+        ensures swapped { domains_of self.new ≡ with_aggs_in (domains_of self.old) d (exchanged (domain_in (domains_of self.old) d).aggs agg other) }
+        ensures room { room_in self.old d ≤ room_in self.new d }
+    {
+        let at = self.place_of(d);
+        let domain = &mut self.rows[at];
+        domain.swap_agg(agg, other)
+    }
+
+    /// Takes all aggregates of a domain, by rising number.
+    #[tactic(auto, using(crate::proofs::Rows::row_rules), unfolding(crate::specs::Tables::domain_in, crate::specs::Tables::with_domain_in))]
+    pub fn take_aggs(&mut self, d: DomainId) -> Vec<(AggId, A)>
+        requires { (domain_in (domains_of self.old) d).live ≡ true }
+        ensures given { result.items ≡ (domain_in (domains_of self.old) d).aggs }
+        ensures rest { domains_of self.new ≡ with_aggs_in (domains_of self.old) d [] }
+    {
+        let at = self.place_of(d);
+        let alloc = self.alloc;
+        let domain = &mut self.rows[at];
+        domain.take_aggs(alloc)
+    }
+
+    /// The pool that a domain places bytes in.
+    #[tactic(auto, using(crate::proofs::Rows::row_rules), unfolding(crate::specs::Tables::domain_in))]
+    pub fn default_of(&self, d: DomainId) -> Option<PoolId>
+        requires { (domain_in (domains_of self.now) d).live ≡ true }
+        ensures { result ≡ (domain_in (domains_of self.now) d).default }
+    {
+        let domain = &self.rows[self.place_of(d)];
+        domain.default
+    }
+
+    /// Has a domain place bytes in a pool.
+    #[tactic(auto, using(crate::proofs::Rows::row_rules), unfolding(crate::specs::Tables::domain_in, crate::specs::Tables::with_domain_in))]
+    pub fn set_default(&mut self, d: DomainId, pool: PoolId)
+        requires { (domain_in (domains_of self.old) d).live ≡ true }
+        ensures { domains_of self.new ≡ with_domain_in (domains_of self.old) d (record (domain_in (domains_of self.old) d) { default = Some pool }) }
+    {
+        let at = self.place_of(d);
+        let domain = &mut self.rows[at];
+        domain.default = Some(pool);
+    }
+
+    /// What a domain's descriptor is open on.
+    #[tactic(auto, using(crate::proofs::Rows::row_rules), unfolding(crate::specs::Tables::domain_in))]
+    pub fn descriptor(&self, d: DomainId, fd: Fd) -> Option<Descriptor>
+        requires { (domain_in (domains_of self.now) d).live ≡ true }
+        ensures { result ≡ in_place (domain_in (domains_of self.now) d).fds fd }
+    {
+        let domain = &self.rows[self.place_of(d)];
+        domain.descriptor(fd)
+    }
+
+    /// Whether so many more open descriptors are too many.
+    #[tactic(auto, using(crate::proofs::Rows::row_rules), unfolding(crate::specs::Tables::domain_in))]
+    pub fn is_open_beyond(&self, d: DomainId, made: usize) -> bool
+        requires live { (domain_in (domains_of self.now) d).live ≡ true }
+        requires made { made ≤ 2 }
+        ensures { result ≡ nat_lt MAX_OPEN (taken (domain_in (domains_of self.now) d).fds + made) }
+    {
+        let domain = &self.rows[self.place_of(d)];
+        domain.is_open_beyond(made)
+    }
+
+    /// Opens a domain's lowest free number.
+    #[tactic(auto, using(crate::proofs::Rows::row_rules), unfolding(crate::specs::Tables::domain_in, crate::specs::Tables::with_domain_in))]
+    pub fn add_fd(&mut self, d: DomainId, on: Descriptor) -> Result<Fd, AllocError>
+        requires live { (domain_in (domains_of self.old) d).live ≡ true }
+        requires few { taken (domain_in (domains_of self.old) d).fds < MAX_OPEN }
+        ensures number { IfOk result (λ n. n ≡ lowest (domain_in (domains_of self.old) d).fds) }
+        ensures opened { OnOk result (domains_of self.new ≡ with_fds_in (domains_of self.old) d (with_next_fd (domain_in (domains_of self.old) d).fds on)) }
+        ensures err { OnErr result (domains_of self.new ≡ domains_of self.old) }
+    {
+        let at = self.place_of(d);
+        let domain = &mut self.rows[at];
+        domain.add_fd(on)
+    }
+
+    /// Opens both ends of a pipe in a domain, the read end under the lowest free number, then the write end.
+    #[tactic(auto, using(crate::proofs::Rows::row_rules), unfolding(crate::specs::Tables::domain_in, crate::specs::Tables::with_domain_in))]
+    pub fn add_ends(&mut self, d: DomainId, pipe: PipeId) -> Result<(Fd, Fd), AllocError>
+        requires live { (domain_in (domains_of self.old) d).live ≡ true }
+        requires few { taken (domain_in (domains_of self.old) d).fds ≤ MAX_OPEN }
+        ensures numbers { IfOk result (λ ends. ends ≡ (lowest (domain_in (domains_of self.old) d).fds, lowest (with_read_end (domain_in (domains_of self.old) d).fds pipe))) }
+        ensures opened { OnOk result (domains_of self.new ≡ with_fds_in (domains_of self.old) d (with_ends (domain_in (domains_of self.old) d).fds pipe)) }
+        ensures err { OnErr result (domains_of self.new ≡ domains_of self.old) }
+    {
+        let at = self.place_of(d);
+        let domain = &mut self.rows[at];
+        domain.add_ends(pipe)
+    }
+
+    /// Closes a domain's descriptor.
+    #[tactic(auto, using(crate::proofs::Rows::row_rules), unfolding(crate::specs::Tables::domain_in, crate::specs::Tables::with_domain_in))]
+    pub fn take_fd(&mut self, d: DomainId, fd: Fd)
+        requires live { (domain_in (domains_of self.old) d).live ≡ true }
+        requires there { in_place (domain_in (domains_of self.old) d).fds fd ≢ None }
+        ensures { domains_of self.new ≡ with_fds_in (domains_of self.old) d (slice_set (domain_in (domains_of self.old) d).fds fd None) }
+    {
+        let at = self.place_of(d);
+        let domain = &mut self.rows[at];
+        domain.take_fd(fd);
+    }
+
+    /// Moves a domain's descriptor to its lowest number that is free when its own is.
+    #[tactic(auto, using(crate::proofs::Rows::row_rules), unfolding(crate::specs::Tables::domain_in, crate::specs::Tables::with_domain_in))]
+    pub fn move_fd(&mut self, d: DomainId, fd: Fd, on: Descriptor) -> Fd
+        requires live { (domain_in (domains_of self.old) d).live ≡ true }
+        requires there { in_place (domain_in (domains_of self.old) d).fds fd ≢ None }
+        ensures number { result ≡ lowest (slice_set (domain_in (domains_of self.old) d).fds fd None) }
+        ensures moved { domains_of self.new ≡ with_fds_in (domains_of self.old) d (with_next_fd (slice_set (domain_in (domains_of self.old) d).fds fd None) on) }
+    {
+        let at = self.place_of(d);
+        let domain = &mut self.rows[at];
+        domain.move_fd(fd, on)
+    }
+}
