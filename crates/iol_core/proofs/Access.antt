@@ -76,17 +76,15 @@ access_agg_make s by bytes h unrefused =
 access_agg_drop : (s : State) (by a : ℕ) → KeepsAccess s (aggs.agg_drop s by a)
 access_agg_drop s by a h unrefused = access_without_agg s by a h
 
--- Aggregates: calls to come.
-
-pub access_agg_dup : (s : State) (by a : ℕ) → KeepsAccess s (aggs.agg_dup s by a)
+access_agg_dup : (s : State) (by a : ℕ) → KeepsAccess s (aggs.agg_dup s by a)
 access_agg_dup s by a h unrefused = access_with_agg s by (text s by a) h (may_see-text s by a h)
 
-pub access_agg_cut : (s : State) (by a from to : ℕ) → KeepsAccess s (aggs.agg_cut s by a from to)
+access_agg_cut : (s : State) (by a from to : ℕ) → KeepsAccess s (aggs.agg_cut s by a from to)
 access_agg_cut s by a from to h unrefused =
     let may = list_all-drop (λ b. may_read s by b.1) from (text s by a) (may_see-text s by a h) in
     access_with_agg s by (part (text s by a) from to) h (list_all-take (λ b. may_read s by b.1) (to - from) (drop from (text s by a)) may)
 
-pub access_agg_split : (s : State) (by a at : ℕ) → KeepsAccess s (aggs.agg_split s by a at)
+access_agg_split : (s : State) (by a at : ℕ) → KeepsAccess s (aggs.agg_split s by a at)
 access_agg_split s by a at h unrefused =
     let n : ℕ = aggs.next_agg s by in
     let t : Text = text s by a in
@@ -99,14 +97,14 @@ access_agg_split s by a at h unrefused =
     (list_all-pair {A = ℕ × Text} (λ e. may_see s by e.1) (n, take at t) (n + 1, drop at t) front back) in
     access_domain s by (record (domain s by) { aggs = kept ++ (n, take at t) ∷ (n + 1, drop at t) ∷ []; next_agg = n + 2 }) h (record { aggs = all; default = h.default by })
 
-pub access_agg_join : (s : State) (by a b : ℕ) → KeepsAccess s (aggs.agg_join s by a b)
+access_agg_join : (s : State) (by a b : ℕ) → KeepsAccess s (aggs.agg_join s by a b)
 access_agg_join s by a b h unrefused =
     let kept = list_all-without (λ e. may_see s by e.1) (domain s by).aggs a (h.aggs by) in
     let left = list_all-without (λ e. may_see s by e.1) (without (domain s by).aggs a) b kept in
     access_with_new s by (without (without (domain s by).aggs a) b) (text s by a ++ text s by b) h left
     (list_all-both (λ x. may_read s by x.1) (text s by a) (text s by b) (may_see-text s by a h) (may_see-text s by b h))
 
-pub access_agg_replace : (s : State) (by a from to b : ℕ) → KeepsAccess s (aggs.agg_replace s by a from to b)
+access_agg_replace : (s : State) (by a from to b : ℕ) → KeepsAccess s (aggs.agg_replace s by a from to b)
 access_agg_replace s by a from to b h unrefused =
     let t : Text = text s by a in
     let front = list_all-take (λ x. may_read s by x.1) from t (may_see-text s by a h) in
@@ -115,7 +113,7 @@ access_agg_replace s by a from to b h unrefused =
     (list_all-both (λ x. may_read s by x.1) (take from t ++ text s by b) (drop to t)
     (list_all-both (λ x. may_read s by x.1) (take from t) (text s by b) front (may_see-text s by b h)) back)
 
-pub access_agg_give : (s : State) (by a to : ℕ) → KeepsAccess s (aggs.agg_give s by a to)
+access_agg_give : (s : State) (by a to : ℕ) → KeepsAccess s (aggs.agg_give s by a to)
 access_agg_give s by a to h unrefused = cases (by == to)
   where
     cases : (b : Bool) → HasAccess (if b then aggs.with_new s by (without (domain s by).aggs a) (text s by a) else aggs.without_agg (aggs.with_agg s to (text s by a)) by a)
@@ -146,11 +144,11 @@ access_give_fd s by fd to h unrefused = cases (descriptor s by fd)
     cases None = h
     cases (Some x) = access_given s by fd to x h
 
-pub access_close : (s : State) (by fd : ℕ) → KeepsAccess s (fds.close s by fd)
+access_close : (s : State) (by fd : ℕ) → KeepsAccess s (fds.close s by fd)
 access_close s by fd h unrefused =
     access_fds (fds.closed_on s (descriptor s by fd)) by (fds.freed s by fd) (access_closed_on s (descriptor s by fd) h)
 
-pub access_exit : (s : State) (by : ℕ) → KeepsAccess s (exit s by)
+access_exit : (s : State) (by : ℕ) → KeepsAccess s (exit s by)
 access_exit s by h unrefused =
     let closed : State = fold fds.closed_on s (domain s by).fds in
     access_domain closed by no_domain (access_all_closed s (domain s by).fds h) (record { aggs = refl; default = λ p is. absurd (cc) })
@@ -209,14 +207,22 @@ access_iol_write s by fd a h unrefused =
 
 access_called : (s : State) (by : ℕ) (c : Call) → KeepsAccess s (called s by c)
 access_called s by call.DomainNew = access_domain_new s by
+access_called s by call.Exit = access_exit s by
 access_called s by (call.PoolCreate chunks list) = access_pool_create s by chunks list
 access_called s by (call.PoolClose p) = access_pool_close s by p
 access_called s by (call.SetPool p) = access_set_pool s by p
 access_called s by (call.AggMake bytes) = access_agg_make s by bytes
+access_called s by (call.AggDup a) = access_agg_dup s by a
+access_called s by (call.AggCut a from to) = access_agg_cut s by a from to
+access_called s by (call.AggSplit a at) = access_agg_split s by a at
+access_called s by (call.AggJoin a b) = access_agg_join s by a b
+access_called s by (call.AggReplace a from to b) = access_agg_replace s by a from to b
 access_called s by (call.AggDrop a) = access_agg_drop s by a
+access_called s by (call.AggGive a to) = access_agg_give s by a to
 access_called s by (call.Show a) = λ h unrefused. h
 access_called s by call.Pipe = access_new_pipe s by
 access_called s by (call.GiveFd fd to) = access_give_fd s by fd to
+access_called s by (call.Close fd) = access_close s by fd
 access_called s by (call.IolRead fd n) = access_iol_read s by fd n
 access_called s by (call.IolWrite fd a) = access_iol_write s by fd a
 

@@ -8,3 +8,4 @@ pub mod Files
 pub mod Reading
 pub mod Writing
 pub mod Outside
+pub mod Sharing

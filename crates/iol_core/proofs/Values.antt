@@ -153,7 +153,7 @@ values_new_pipe s by =
     let both = placed ends (lowest ends) (on.WriteEnd (lowest s.pipes)) in
     values_then s (fds.with_fds s by both) (fds.pipe s by).after nothing (values_fds s by both) (values_same (fds.with_fds s by both) (fds.pipe s by).after refl)
 
--- After calls to come.
+-- After the calls that rearrange aggregates, and those that close.
 
 abbrev pub both_of : (by a b : ℕ) → Given
 both_of by a b d n = (by == d) && ((a == n) || (b == n))
@@ -161,16 +161,16 @@ both_of by a b d n = (by == d) && ((a == n) || (b == n))
 abbrev pub all_of : (by : ℕ) → Given
 all_of by d n = by == d
 
-pub values_agg_dup : (s : State) (by a : ℕ) → KeepsValues s (aggs.agg_dup s by a).after nothing
+values_agg_dup : (s : State) (by a : ℕ) → KeepsValues s (aggs.agg_dup s by a).after nothing
 values_agg_dup s by a = values_with_agg s by (text s by a)
 
-pub values_agg_cut : (s : State) (by a from to : ℕ) → KeepsValues s (aggs.agg_cut s by a from to).after nothing
+values_agg_cut : (s : State) (by a from to : ℕ) → KeepsValues s (aggs.agg_cut s by a from to).after nothing
 values_agg_cut s by a from to = values_with_agg s by (part (text s by a) from to)
 
-pub values_agg_replace : (s : State) (by a from to b : ℕ) → KeepsValues s (aggs.agg_replace s by a from to b).after nothing
+values_agg_replace : (s : State) (by a from to b : ℕ) → KeepsValues s (aggs.agg_replace s by a from to b).after nothing
 values_agg_replace s by a from to b = values_with_agg s by (take from (text s by a) ++ text s by b ++ drop to (text s by a))
 
-pub values_agg_split : (s : State) (by a at : ℕ) → KeepsValues s (aggs.agg_split s by a at).after (one_of by a)
+values_agg_split : (s : State) (by a at : ℕ) → KeepsValues s (aggs.agg_split s by a at).after (one_of by a)
 values_agg_split s by a at =
     let n : ℕ = aggs.next_agg s by in
     let kept : List (ℕ × Text) = without (domain s by).aggs a in
@@ -181,7 +181,7 @@ values_agg_split s by a at =
 differs_both : (by a b n : ℕ) → both_of by a b by n ≡ false → (a ≢ n) × (b ≢ n)
 differs_both by a b n stays = (λ same. grind (arith, nat_tests, common_steps, stays, same), λ same. grind (arith, nat_tests, common_steps, stays, same))
 
-pub values_agg_join : (s : State) (by a b : ℕ) → KeepsValues s (aggs.agg_join s by a b).after (both_of by a b)
+values_agg_join : (s : State) (by a b : ℕ) → KeepsValues s (aggs.agg_join s by a b).after (both_of by a b)
 values_agg_join s by a b =
     let n : ℕ = aggs.next_agg s by in
     let left : List (ℕ × Text) = without (domain s by).aggs a in
@@ -190,7 +190,7 @@ values_agg_join s by a b =
     values_domain s by (record (domain s by) { aggs = kept ++ made; next_agg = n + 1 }) (both_of by a b)
     (λ m x is stays. lookup-append kept made m x (lookup-without left b m (differs_both by a b m stays).1 ∙ lookup-without (domain s by).aggs a m (differs_both by a b m stays).0 ∙ is))
 
-pub values_agg_give : (s : State) (by a to : ℕ) → KeepsValues s (aggs.agg_give s by a to).after (one_of by a)
+values_agg_give : (s : State) (by a to : ℕ) → KeepsValues s (aggs.agg_give s by a to).after (one_of by a)
 values_agg_give s by a to = cases (by == to)
   where
     cases : (b : Bool) → KeepsValues s (if b then aggs.with_new s by (without (domain s by).aggs a) (text s by a) else aggs.without_agg (aggs.with_agg s to (text s by a)) by a) (one_of by a)
@@ -203,12 +203,12 @@ values_agg_give s by a to = cases (by == to)
         let given : State = aggs.with_agg s to (text s by a) in
         values_then s given (aggs.without_agg given by a) (one_of by a) (values_with_agg s to (text s by a)) (values_without_agg given by a)
 
-pub values_close : (s : State) (by fd : ℕ) → KeepsValues s (fds.close s by fd).after nothing
+values_close : (s : State) (by fd : ℕ) → KeepsValues s (fds.close s by fd).after nothing
 values_close s by fd =
     let closed : State = fds.closed_on s (descriptor s by fd) in
     values_then s closed (fds.with_fds closed by (fds.freed s by fd)) nothing (values_closed_on s (descriptor s by fd)) (values_fds closed by (fds.freed s by fd))
 
-pub values_exit : (s : State) (by : ℕ) → KeepsValues s (exit s by).after (all_of by)
+values_exit : (s : State) (by : ℕ) → KeepsValues s (exit s by).after (all_of by)
 values_exit s by =
     let closed : State = fold fds.closed_on s (domain s by).fds in
     values_then s closed (with_domain closed by no_domain) (all_of by) (values_all_closed s (domain s by).fds)
@@ -221,14 +221,22 @@ values_exit s by =
 
 values_called : (s : State) (by : ℕ) (c : Call) → KeepsValues s (called s by c).after (gives_up (event.Call by c))
 values_called s by call.DomainNew = values_domain_new s by
+values_called s by call.Exit = values_exit s by
 values_called s by (call.PoolCreate chunks list) = values_same s (pool_create s by chunks list).after refl
 values_called s by (call.PoolClose p) = values_same s (pool_close s by p).after refl
 values_called s by (call.SetPool p) = values_domain s by (record (domain s by) { default = Some p }) nothing (λ a x is kept. is)
 values_called s by (call.AggMake bytes) = values_with_agg s by (labelled (aggs.default_pool s by) bytes)
+values_called s by (call.AggDup a) = values_agg_dup s by a
+values_called s by (call.AggCut a from to) = values_agg_cut s by a from to
+values_called s by (call.AggSplit a at) = values_agg_split s by a at
+values_called s by (call.AggJoin a b) = values_agg_join s by a b
+values_called s by (call.AggReplace a from to b) = values_agg_replace s by a from to b
 values_called s by (call.AggDrop a) = values_without_agg s by a
+values_called s by (call.AggGive a to) = values_agg_give s by a to
 values_called s by (call.Show a) = λ d n x is kept. is
 values_called s by call.Pipe = values_new_pipe s by
 values_called s by (call.GiveFd fd to) = values_give_fd s by fd to
+values_called s by (call.Close fd) = values_close s by fd
 values_called s by (call.IolRead fd n) = values_iol_read s by fd n
 values_called s by (call.IolWrite fd a) =
     let to : Option Descriptor = descriptor s by fd in

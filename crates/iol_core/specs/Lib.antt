@@ -9,3 +9,4 @@ pub mod Calls
 pub mod Run
 pub mod Access
 pub mod Values
+pub mod Sharing

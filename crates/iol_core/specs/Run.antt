@@ -2,10 +2,10 @@
 use Rattle.std.specs.Prelude.{◌≡◌, ℕ, List, [], ◌∷◌, Result, Ok, Err}
 use Rattle.iol_core.specs.State.{State}
 use Rattle.iol_core.specs.Meaning.{Meaning, Step}
-use Rattle.iol_core.specs.Calls.Domains.{domain_new}
+use Rattle.iol_core.specs.Calls.Domains.{domain_new, exit}
 use Rattle.iol_core.specs.Calls.Pools.{pool_create, pool_close, set_pool}
-use Rattle.iol_core.specs.Calls.Aggregates.{agg_make, agg_drop, show}
-use Rattle.iol_core.specs.Calls.Descriptors.{pipe, give_fd}
+use Rattle.iol_core.specs.Calls.Aggregates.{agg_make, agg_dup, agg_cut, agg_split, agg_join, agg_replace, agg_drop, agg_give, show}
+use Rattle.iol_core.specs.Calls.Descriptors.{pipe, give_fd, close}
 use Rattle.iol_core.specs.Calls.Reading.{iol_read}
 use Rattle.iol_core.specs.Calls.Writing.{iol_write}
 use Rattle.iol_core.specs.declared.refusals.Refusal.{Refusal}
@@ -26,14 +26,22 @@ done u = reply.Done
 -- what a call of a domain means; a call has a case here once the system has it
 abbrev pub called : State → (by : ℕ) → Call → Meaning Reply
 called s by call.DomainNew = replied reply.Domain (domain_new s by)
+called s by call.Exit = replied done (exit s by)
 called s by (call.PoolCreate chunks list) = replied reply.Pool (pool_create s by chunks list)
 called s by (call.PoolClose p) = replied done (pool_close s by p)
 called s by (call.SetPool p) = replied done (set_pool s by p)
 called s by (call.AggMake bytes) = replied reply.Agg (agg_make s by bytes)
+called s by (call.AggDup a) = replied reply.Agg (agg_dup s by a)
+called s by (call.AggCut a from to) = replied reply.Agg (agg_cut s by a from to)
+called s by (call.AggSplit a at) = replied (λ two. reply.Aggs two.0 two.1) (agg_split s by a at)
+called s by (call.AggJoin a b) = replied reply.Agg (agg_join s by a b)
+called s by (call.AggReplace a from to b) = replied reply.Agg (agg_replace s by a from to b)
 called s by (call.AggDrop a) = replied done (agg_drop s by a)
+called s by (call.AggGive a to) = replied reply.Agg (agg_give s by a to)
 called s by (call.Show a) = replied reply.Bytes (show s by a)
 called s by call.Pipe = replied (λ fds. reply.Fds fds.0 fds.1) (pipe s by)
 called s by (call.GiveFd fd to) = replied reply.Fd (give_fd s by fd to)
+called s by (call.Close fd) = replied done (close s by fd)
 called s by (call.IolRead fd n) = replied reply.Agg (iol_read s by fd n)
 called s by (call.IolWrite fd a) = replied reply.Count (iol_write s by fd a)
 

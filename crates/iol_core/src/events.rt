@@ -7,16 +7,68 @@ use crate::refusals::Refusal;
 #[derive(Debug, Drop)]
 pub enum Call {
     DomainNew,
-    PoolCreate { chunks: u32, domains: Domains },
-    PoolClose { pool: PoolId },
-    SetPool { pool: PoolId },
-    AggMake { bytes: Bytes },
-    AggDrop { agg: AggId },
-    Show { agg: AggId },
+    Exit,
+    PoolCreate {
+        chunks: u32,
+        domains: Domains,
+    },
+    PoolClose {
+        pool: PoolId,
+    },
+    SetPool {
+        pool: PoolId,
+    },
+    AggMake {
+        bytes: Bytes,
+    },
+    AggDup {
+        agg: AggId,
+    },
+    AggCut {
+        agg: AggId,
+        from: u32,
+        to: u32,
+    },
+    AggSplit {
+        agg: AggId,
+        at: u32,
+    },
+    AggJoin {
+        first: AggId,
+        second: AggId,
+    },
+    AggReplace {
+        agg: AggId,
+        from: u32,
+        to: u32,
+        with: AggId,
+    },
+    AggDrop {
+        agg: AggId,
+    },
+    AggGive {
+        agg: AggId,
+        to: DomainId,
+    },
+    Show {
+        agg: AggId,
+    },
     Pipe,
-    GiveFd { fd: Fd, to: DomainId },
-    IolRead { fd: Fd, count: u32 },
-    IolWrite { fd: Fd, agg: AggId },
+    GiveFd {
+        fd: Fd,
+        to: DomainId,
+    },
+    Close {
+        fd: Fd,
+    },
+    IolRead {
+        fd: Fd,
+        count: u32,
+    },
+    IolWrite {
+        fd: Fd,
+        agg: AggId,
+    },
 }
 
 /// What happens to a system: one atomic step.

@@ -2,16 +2,19 @@
 use Rattle.std.proofs.Common.{◌≡◌, [], ◌∷◌, replicate, refl, true, false, Some, None}
 use Rattle.std.specs.Prelude.{codes, Ok, Err}
 use Rattle.iol_core.specs.Text.{Text, bytes_of}
-use Rattle.iol_core.specs.State.{State, Domain, new_domain, domain, pool, descriptor, file, content, pipe_at, conn_at, with_domain, with_pipe, with_conn, with_content}
+use Rattle.iol_core.specs.State.{State, Domain, new_domain, new_pipe, domain, pool, descriptor, file, content, pipe_at, conn_at, with_domain, with_pipe, with_conn, with_content}
 use Rattle.iol_core.specs.declared.refusals.Refusal.TheVariants.{NoDomain, BadFd, TooMany, Denied, WouldBlock}
 use Rattle.iol_core.specs.declared.descriptors.Descriptor.TheVariants as on
-use Rattle.iol_core.specs.declared.limits.TheConstants.{MAX_OPEN}
+use Rattle.iol_core.specs.declared.limits.TheConstants.{MAX_OPEN, MAX_PIPES}
 use Rattle.iol_core.proofs.Examples.World.{answered, world, with_receiver}
 use Rattle.iol_core.specs.Calls.Descriptors.{pipe, give_fd, close, accept}
 
--- no pipe yet; a domain with as many descriptors as it may have
+-- no pipe yet, and as many as may be; a domain with as many descriptors as it may have
 abbrev quiet : State
 quiet = record world { pipes = [] }
+
+abbrev full : State
+full = record world { pipes = replicate MAX_PIPES (Some new_pipe) }
 
 abbrev crowded : Domain Text
 crowded = record (new_domain {A = Text}) { fds = replicate MAX_OPEN (Some (on.WriteEnd 0)) }
@@ -21,13 +24,15 @@ pipe_takes_the_two_lowest :
     × (descriptor (pipe quiet 1).after 1 2 ≡ Some (on.ReadEnd 0))
     × (descriptor (pipe quiet 1).after 1 7 ≡ Some (on.WriteEnd 0))
     × (pipe_at (pipe quiet 1).after 0 ≡ record { queue = []; reading = true; writing = true })
+    × (answered (pipe world 1) ≡ Ok (2, 7))
+    × (descriptor (pipe world 1).after 1 2 ≡ Some (on.ReadEnd 1))
 unfolding domain pool file content pipe_at conn_at with_domain with_pipe with_conn with_content
-pipe_takes_the_two_lowest = (refl, refl, refl, refl)
+pipe_takes_the_two_lowest = (refl, refl, refl, refl, refl, refl)
 
 pipe_refused :
     (answered (pipe quiet 3) ≡ Err NoDomain)
     × (answered (pipe (with_receiver quiet crowded) 2) ≡ Err TooMany)
-    × (answered (pipe world 1) ≡ Err TooMany)
+    × (answered (pipe full 1) ≡ Err TooMany)
 unfolding domain pool file content pipe_at conn_at with_domain with_pipe with_conn with_content
 pipe_refused = (refl, refl, refl)
 

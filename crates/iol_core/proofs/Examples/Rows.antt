@@ -1,4 +1,5 @@
--- Whole runs: "hello" through a pipe, a reader that the pool does not name, and a pool that is closed.
+-- Whole runs: "hello" through a pipe, a reader that the pool does not name, a pool that is closed,
+-- aggregates taken apart and put together, and pipes whose ends are closed.
 use Rattle.std.proofs.Common.{◌≡◌, List, [], ◌∷◌, refl}
 use Rattle.std.specs.Prelude.{codes, is_some, unwrap_or, option_map, if◌then◌else◌}
 use Rattle.iol_core.specs.State.{State, new_state, no_slots, domain, pool, file, content, pipe_at, conn_at, with_domain, with_pipe, with_conn, with_content}
@@ -112,3 +113,98 @@ closed_pool_stays_readable :
     reply.Agg 2 ∷ [])
 unfolding domain pool file content pipe_at conn_at with_domain with_pipe with_conn with_content
 closed_pool_stays_readable = refl
+
+-- each piece of an aggregate under a new number; what is split, joined or given away is gone
+aggregates_rearranged :
+    replies (new_state no_slots) (
+    event.Call 1 (call.PoolCreate 1 (1 ∷ [])) ∷
+    event.Call 1 (call.SetPool 1) ∷
+    event.Call 1 (call.AggMake (codes "hello")) ∷
+    event.Call 1 (call.AggSplit 1 2) ∷
+    event.Call 1 (call.Show 1) ∷
+    event.Call 1 (call.AggJoin 3 2) ∷
+    event.Call 1 (call.Show 4) ∷
+    event.Call 1 (call.AggCut 4 1 3) ∷
+    event.Call 1 (call.AggReplace 4 0 3 5) ∷
+    event.Call 1 (call.Show 6) ∷
+    event.Call 1 (call.AggDup 6) ∷
+    event.Call 1 (call.AggGive 6 1) ∷
+    event.Call 1 (call.Show 6) ∷
+    event.Call 1 (call.Show 8) ∷ [])
+    ≡ (
+    reply.Pool 1 ∷
+    reply.Done ∷
+    reply.Agg 1 ∷
+    reply.Aggs 2 3 ∷
+    reply.Refused refusal.BadAgg ∷
+    reply.Agg 4 ∷
+    reply.Bytes (codes "llohe") ∷
+    reply.Agg 5 ∷
+    reply.Agg 6 ∷
+    reply.Bytes (codes "lohe") ∷
+    reply.Agg 7 ∷
+    reply.Agg 8 ∷
+    reply.Refused refusal.BadAgg ∷
+    reply.Bytes (codes "lohe") ∷ [])
+unfolding domain pool file content pipe_at conn_at with_domain with_pipe with_conn with_content
+aggregates_rearranged = refl
+
+-- what an ended domain wrote can be read, and then nothing more comes
+exit_ends_a_pipe :
+    replies (new_state no_slots) (
+    event.Call 1 call.DomainNew ∷
+    event.Call 1 (call.PoolCreate 1 (1 ∷ 2 ∷ [])) ∷
+    event.Call 1 (call.SetPool 1) ∷
+    event.Call 1 (call.AggMake (codes "hello")) ∷
+    event.Call 1 (call.AggGive 1 2) ∷
+    event.Call 1 call.Pipe ∷
+    event.Call 1 (call.GiveFd 1 2) ∷
+    event.Call 2 (call.IolWrite 0 1) ∷
+    event.Call 2 call.Exit ∷
+    event.Call 2 call.Exit ∷
+    event.Call 1 (call.IolRead 0 9) ∷
+    event.Call 1 (call.Show 2) ∷
+    event.Call 1 (call.IolRead 0 9) ∷
+    event.Call 1 (call.Show 3) ∷ [])
+    ≡ (
+    reply.Domain 2 ∷
+    reply.Pool 1 ∷
+    reply.Done ∷
+    reply.Agg 1 ∷
+    reply.Agg 1 ∷
+    reply.Fds 0 1 ∷
+    reply.Fd 0 ∷
+    reply.Count 5 ∷
+    reply.Done ∷
+    reply.Refused refusal.NoDomain ∷
+    reply.Agg 2 ∷
+    reply.Bytes (codes "hello") ∷
+    reply.Agg 3 ∷
+    reply.Bytes [] ∷ [])
+unfolding domain pool file content pipe_at conn_at with_domain with_pipe with_conn with_content
+exit_ends_a_pipe = refl
+
+-- nobody reads it any more; when both ends are closed it is gone
+close_breaks_a_pipe :
+    replies (new_state no_slots) (
+    event.Call 1 (call.PoolCreate 1 (1 ∷ [])) ∷
+    event.Call 1 (call.SetPool 1) ∷
+    event.Call 1 (call.AggMake (codes "hello")) ∷
+    event.Call 1 call.Pipe ∷
+    event.Call 1 (call.Close 0) ∷
+    event.Call 1 (call.IolWrite 1 1) ∷
+    event.Call 1 (call.Close 1) ∷
+    event.Call 1 (call.Close 1) ∷
+    event.Call 1 call.Pipe ∷ [])
+    ≡ (
+    reply.Pool 1 ∷
+    reply.Done ∷
+    reply.Agg 1 ∷
+    reply.Fds 0 1 ∷
+    reply.Done ∷
+    reply.Refused refusal.BrokenPipe ∷
+    reply.Done ∷
+    reply.Refused refusal.BadFd ∷
+    reply.Fds 0 1 ∷ [])
+unfolding domain pool file content pipe_at conn_at with_domain with_pipe with_conn with_content
+close_breaks_a_pipe = refl
