@@ -12,3 +12,5 @@ pub mod Leftovers
 pub mod Publishing
 pub mod Reserving
 pub mod PublishingAll
+pub mod Numbering
+pub mod AtPlaces

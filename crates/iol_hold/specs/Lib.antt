@@ -7,3 +7,4 @@ pub mod Texts
 pub mod View
 pub mod Lending
 pub mod Filling
+pub mod Layout
