@@ -32,36 +32,6 @@ pub run_more : (old mid new : State) (es : List Event) (rs : List Reply) (i : �
 run_more old mid new es rs i e r lt is run step =
     rw (take_more es i e lt) (subst (λ (x : Event). Run old (take i es ++ x ∷ []) (rs ++ r ∷ []) new) is (Run-push old mid new (take i es) rs e r run step))
 
-pub new-machine : (h : Holding) → h.domains ≡ new_domain ∷ [] → h.store.pools ≡ [] → h.pipes ≡ [] → machine_of h ≡ new_state no_slots
-unfolding machine_of seen
-new-machine h domains' pools' pipes' =
-    ap (λ (ds : List (Domain (List Slice))). seen (text_of h.store) ds h.store.pools h.pipes) domains'
-    ∙ ap (λ (ps : List Pool). seen (text_of h.store) (new_domain ∷ []) ps h.pipes) pools'
-    ∙ ap (λ (qs : List (Option (Pipe (List Slice)))). seen (text_of h.store) (new_domain ∷ []) [] qs) pipes'
-
-every : {A : Type 0} (n i : ℕ) (x : A) → get_or (replicate n x) i x ≡ x
-every zero i x = refl
-every (suc n) zero x = refl
-every (suc n) (suc i) x = every n i x
-
--- in a new store nothing is held
-none_held : (s : Stored) (n : ℕ) → s.arena.entries ≡ replicate n no_entry → (b : BufId) → count_of s b ≡ 0
-unfolding count_of
-none_held s n e b = ap (λ (x : Entry). count_in x (get_or s.counts b.page 0) b.generation) (ap (λ (es : List Entry). get_or es b.page no_entry) e ∙ every n b.page no_entry)
-
-pub new-sound : (h : Holding) (n : ℕ) → h.domains ≡ new_domain ∷ [] → h.store.arena.entries ≡ replicate n no_entry → IsTidy h.store → h.pipes ≡ [] → h.store.pools ≡ [] → IsSound h
-new-sound h n domains' entries' tidy pipes' pools' =
-    subst (λ (ds : List (Domain (List Slice))). IsSound (record h { domains = ds })) (sym domains') (subst (λ (qs : List (Option (Pipe (List Slice)))). IsSound (record h { domains = new_domain ∷ []; pipes = qs })) (sym pipes') (record {
-      domains = (tt, tt);
-      pipes = tt;
-      fds = (tt, tt);
-      counted = record { each = none_held h.store n entries' };
-      tidy = tidy;
-      still = record { each = λ q waits. (let free = ap (λ (x : Entry). x.kind) (ap (λ (es : List Entry). get_or es q no_entry) entries' ∙ every n q no_entry) in cc (free, waits)) };
-      limits = record { aggs = (tt, tt); few = omega arith; queues = tt; few_pipes = omega arith };
-      few_pools = omega (arith, ap length pools');
-    }))
-
 -- a reply that is no NoRoom
 pub not_roomy : {P : Type 0} (x : Refusal) → ((p : ℕ) → ◌≡◌ {A = Result ℕ Refusal} (Err x) (Err (NoRoom p)) → ⊥) → IsNoRoom (reply.Refused x) → P
 not_roomy (NoRoom p) h n = absurd (h p refl)

@@ -1,0 +1,10 @@
+pub mod Meant
+pub mod Uses
+pub mod Sound
+pub mod Ends
+pub mod Effects
+pub mod Pipes
+pub mod Queueing
+pub mod Reports
+pub mod Beginning
+pub mod Stay

@@ -1,0 +1,199 @@
+-- What the tables stand for, word by word.
+use Rattle.std.proofs.Common.{inl, inr, ◌≡◌, ℕ, suc, ◌+◌, ◌-◌, List, [], ◌∷◌, ◌++◌, length, map, ap, ◌∙◌, refl, sym, arith, Option, Some, None, true, false}
+use Rattle.std.specs.Prelude.{slice_set, unwrap_or, if◌then◌else◌, option_map, ◌||◌, nat_lt}
+use Rattle.std.specs.List.{sum_by}
+use Rattle.std.proofs.Math.ListN.{get_or-map}
+use Rattle.std.proofs.lemmas.List.{map-set, map-append}
+use Rattle.std.proofs.lemmas.List.Sums.{sum_by-cons}
+use Rattle.std.proofs.lemmas.Bool.{cases_lt, cases_eq}
+use Rattle.std.proofs.lemmas.Bool.Decides.{nat_tests}
+use Rattle.iol_core.specs.Text.{Text}
+use Rattle.iol_core.specs.Numbered.{lookup, without, numbered_or, with_numbered, in_place, lowest, placed, taken, is_numbered}
+use Rattle.iol_core.specs.State as machine
+use Rattle.iol_core.specs.State.{State, Domain, new_domain, no_domain}
+use Rattle.iol_core.specs.Calls.Aggregates as aggs
+use Rattle.iol_core.specs.Calls.Descriptors as fds
+use Rattle.iol_core.specs.declared.descriptors.Descriptor.{Descriptor}
+use Rattle.iol_core.specs.declared.limits.TheConstants.{MAX_AGGREGATES, LAST_AGGREGATE}
+use Rattle.iol_desc.specs.Tables.{domain_in, with_domain_in, agg_in, with_agg_in, without_agg_in, live_aggs_in, too_many_in, with_fds_in}
+use Rattle.iol_pool.specs.Pools.{Pool, no_pool, pool_in, with_closed}
+use Rattle.iol_hold.specs.Moves.{pool_meant}
+use Rattle.iol_kernel.specs.Seen.{meant, Pipe, pipe_in, pipe_meant, seen}
+
+numbered_or-map : {A B : Type 0} (f : A → B) (xs : List A) (n : ℕ) (z : A) → numbered_or (map f xs) n (f z) ≡ f (numbered_or xs n z)
+numbered_or-map f xs n z = let e = get_or-map f xs (n - 1) z in grind (arith, nat_tests, e)
+
+with_numbered-map : {A B : Type 0} (f : A → B) (xs : List A) (n : ℕ) (x : A) → with_numbered (map f xs) n (f x) ≡ map f (with_numbered xs n x)
+with_numbered-map f xs n x = let e = map-set f xs (n - 1) x in grind (arith, nat_tests, e)
+
+lookup-map : {A B : Type 0} (g : A → B) (es : List (ℕ × A)) (n : ℕ) → lookup (map (λ e. (e.0, g e.1)) es) n ≡ option_map g (lookup es n)
+lookup-map g [] n = refl
+lookup-map g (e ∷ es) n = let r = lookup-map g es n in elim (cases_eq e.0 n) [ inl k ↦ grind (arith, nat_tests, k) | inr k ↦ grind (arith, nat_tests, k, r) ]
+
+pub length-map' : {A B : Type 0} (f : A → B) (xs : List A) → length (map f xs) ≡ length xs
+length-map' f [] = refl
+length-map' f (x ∷ xs) = ap suc (length-map' f xs)
+
+live_aggs-map : {A : Type 0} (g : A → Text) (ds : List (Domain A)) → sum_by (λ (d : Domain Text). length d.aggs) (map (meant g) ds) ≡ live_aggs_in ds
+live_aggs-map g [] = refl
+live_aggs-map {A} g (d ∷ ds) =
+    let r = live_aggs-map g ds in
+    let s = sum_by-cons (λ (d : Domain Text). length d.aggs) (meant g d) (map (meant g) ds) in
+    let t = sum_by-cons (λ (d : Domain A). length d.aggs) d ds in
+    let l = length-map' {B = ℕ × Text} (λ (e : ℕ × A). (e.0, g e.1)) d.aggs in
+    omega (arith, r, s, t, l)
+
+pub domain-seen : {A : Type 0} (g : A → Text) (ds : List (Domain A)) (ps : List Pool) (qs : List (Option (Pipe A))) (d : ℕ) → machine.domain (seen g ds ps qs) d ≡ meant g (domain_in ds d)
+unfolding seen machine.domain domain_in
+domain-seen {A} g ds ps qs d = numbered_or-map (meant g) ds d (no_domain {A = A})
+
+pub pool-seen : {A : Type 0} (g : A → Text) (ds : List (Domain A)) (ps : List Pool) (qs : List (Option (Pipe A))) (p : ℕ) → machine.pool (seen g ds ps qs) p ≡ pool_meant (pool_in ps p)
+unfolding seen machine.pool pool_in
+pool-seen g ds ps qs p = numbered_or-map pool_meant ps p no_pool
+
+pub is_pool-seen : {A : Type 0} (g : A → Text) (ds : List (Domain A)) (ps : List Pool) (qs : List (Option (Pipe A))) (p : ℕ) → machine.is_pool (seen g ds ps qs) p ≡ is_numbered ps p
+unfolding seen
+is_pool-seen g ds ps qs p = rw (length-map' pool_meant ps) refl
+
+pub aggregate-seen : {A : Type 0} (g : A → Text) (ds : List (Domain A)) (ps : List Pool) (qs : List (Option (Pipe A))) (d a : ℕ) → machine.aggregate (seen g ds ps qs) d a ≡ option_map g (agg_in ds d a)
+aggregate-seen g ds ps qs d a = ap (λ (x : Domain Text). lookup x.aggs a) (domain-seen g ds ps qs d) ∙ lookup-map g (domain_in ds d).aggs a
+
+pub live_aggs-seen : {A : Type 0} (g : A → Text) (ds : List (Domain A)) (ps : List Pool) (qs : List (Option (Pipe A))) → machine.live_aggs (seen g ds ps qs) ≡ live_aggs_in ds
+unfolding seen
+live_aggs-seen g ds ps qs = live_aggs-map g ds
+
+pub too_many-seen : {A : Type 0} (g : A → Text) (ds : List (Domain A)) (ps : List Pool) (qs : List (Option (Pipe A))) (d made given : ℕ) → aggs.too_many_aggs (seen g ds ps qs) d made given ≡ too_many_in ds d made given
+too_many-seen g ds ps qs d made given =
+    ap (λ n. nat_lt (MAX_AGGREGATES + given) (n + made) || nat_lt (LAST_AGGREGATE + 1) ((machine.domain (seen g ds ps qs) d).next_agg + made)) (live_aggs-seen g ds ps qs)
+    ∙ ap (λ (x : Domain Text). nat_lt (MAX_AGGREGATES + given) (live_aggs_in ds + made) || nat_lt (LAST_AGGREGATE + 1) (x.next_agg + made)) (domain-seen g ds ps qs d)
+
+pub text-seen : {A : Type 0} (g : A → Text) (ds : List (Domain A)) (ps : List Pool) (qs : List (Option (Pipe A))) (d a : ℕ) (x : A) → Some x ≡ agg_in ds d a → machine.text (seen g ds ps qs) d a ≡ g x
+text-seen g ds ps qs d a x found = ap (λ (o : Option Text). unwrap_or o []) (aggregate-seen g ds ps qs d a ∙ ap (option_map g) (sym found))
+
+-- a table changes
+
+pub with_domain-seen : {A : Type 0} (g : A → Text) (ds : List (Domain A)) (ps : List Pool) (qs : List (Option (Pipe A))) (d : ℕ) (x : Domain A) → seen g (with_domain_in ds d x) ps qs ≡ machine.with_domain (seen g ds ps qs) d (meant g x)
+unfolding seen machine.with_domain with_domain_in
+with_domain-seen g ds ps qs d x = ap (λ (xs : List (Domain Text)). record (seen g ds ps qs) { domains = xs }) (sym (with_numbered-map (meant g) ds d x))
+
+pub with_agg-seen : {A : Type 0} (g : A → Text) (ds : List (Domain A)) (ps : List Pool) (qs : List (Option (Pipe A))) (d : ℕ) (a : A) → seen g (with_agg_in ds d a) ps qs ≡ aggs.with_agg (seen g ds ps qs) d (g a)
+with_agg-seen {A} g ds ps qs d a =
+    let x : Domain A = domain_in ds d in
+    let added : Domain A = record x { aggs = x.aggs ++ (x.next_agg, a) ∷ []; next_agg = x.next_agg + 1 } in
+    let e = map-append (λ (e : ℕ × A). (e.0, g e.1)) x.aggs ((x.next_agg, a) ∷ []) in
+    with_domain-seen g ds ps qs d added
+    ∙ ap (λ (xs : List (ℕ × Text)). machine.with_domain (seen g ds ps qs) d (record (meant g x) { aggs = xs; next_agg = x.next_agg + 1 })) e
+    ∙ ap (λ (y : Domain Text). machine.with_domain (seen g ds ps qs) d (record y { aggs = y.aggs ++ (y.next_agg, g a) ∷ []; next_agg = y.next_agg + 1 })) (sym (domain-seen g ds ps qs d))
+
+without-map : {A B : Type 0} (g : A → B) (es : List (ℕ × A)) (n : ℕ) → map (λ e. (e.0, g e.1)) (without es n) ≡ without (map (λ e. (e.0, g e.1)) es) n
+without-map g [] n = refl
+without-map {A} {B} g (e ∷ es) n = let r = without-map g es n in elim (cases_eq e.0 n) [ inl k ↦ grind (arith, nat_tests, k) | inr k ↦ grind (arith, nat_tests, k, r) ]
+
+pub without_agg-seen : {A : Type 0} (g : A → Text) (ds : List (Domain A)) (ps : List Pool) (qs : List (Option (Pipe A))) (d a : ℕ) → seen g (without_agg_in ds d a) ps qs ≡ aggs.without_agg (seen g ds ps qs) d a
+without_agg-seen {A} g ds ps qs d a =
+    let x : Domain A = domain_in ds d in
+    with_domain-seen g ds ps qs d (record x { aggs = without x.aggs a })
+    ∙ ap (λ (xs : List (ℕ × Text)). machine.with_domain (seen g ds ps qs) d (record (meant g x) { aggs = xs })) (without-map g x.aggs a)
+    ∙ ap (λ (y : Domain Text). machine.with_domain (seen g ds ps qs) d (record y { aggs = without y.aggs a })) (sym (domain-seen g ds ps qs d))
+
+-- pools that the machine cannot tell from others
+pub pools-seen : {A : Type 0} (g : A → Text) (ds : List (Domain A)) (ps rs : List Pool) (qs : List (Option (Pipe A))) → map pool_meant rs ≡ map pool_meant ps → seen g ds rs qs ≡ seen g ds ps qs
+unfolding seen
+pools-seen g ds ps rs qs e = ap (λ (xs : List machine.Pool). record (seen g ds ps qs) { pools = xs }) e
+
+-- one pool more, or one that is closed, as the machine sees it
+pub added_pool-seen : {A : Type 0} (g : A → Text) (ds : List (Domain A)) (ps rs : List Pool) (qs : List (Option (Pipe A))) (x : machine.Pool) → map pool_meant rs ≡ map pool_meant ps ++ x ∷ [] → seen g ds rs qs ≡ record (seen g ds ps qs) { pools = (seen g ds ps qs).pools ++ x ∷ [] }
+unfolding seen
+added_pool-seen g ds ps rs qs x e = ap (λ (xs : List machine.Pool). record (seen g ds ps qs) { pools = xs }) e
+
+pub closed-seen : {A : Type 0} (g : A → Text) (ds : List (Domain A)) (ps rs : List Pool) (qs : List (Option (Pipe A))) (p : ℕ) → map pool_meant rs ≡ map pool_meant (with_closed ps p) → seen g ds rs qs ≡ record (seen g ds ps qs) { pools = with_numbered (seen g ds ps qs).pools p (record (machine.pool (seen g ds ps qs) p) { closed = true }) }
+unfolding seen with_closed
+closed-seen g ds ps rs qs p e =
+    ap (λ (xs : List machine.Pool). record (seen g ds ps qs) { pools = xs }) (e ∙ sym (with_numbered-map pool_meant ps p (record (pool_in ps p) { closed = true })))
+    ∙ ap (λ (x : machine.Pool). record (seen g ds ps qs) { pools = with_numbered (map pool_meant ps) p (record x { closed = true }) }) (sym (pool-seen g ds ps qs p))
+
+pub with_fds-seen : {A : Type 0} (g : A → Text) (ds : List (Domain A)) (ps : List Pool) (qs : List (Option (Pipe A))) (d : ℕ) (xs : List (Option Descriptor)) → seen g (with_fds_in ds d xs) ps qs ≡ fds.with_fds (seen g ds ps qs) d xs
+with_fds-seen g ds ps qs d xs =
+    with_domain-seen g ds ps qs d (record (domain_in ds d) { fds = xs })
+    ∙ ap (λ (y : Domain Text). machine.with_domain (seen g ds ps qs) d (record y { fds = xs })) (sym (domain-seen g ds ps qs d))
+
+pub add_domain-seen : {A : Type 0} (g : A → Text) (ds : List (Domain A)) (ps : List Pool) (qs : List (Option (Pipe A))) → seen g (ds ++ new_domain ∷ []) ps qs ≡ record (seen g ds ps qs) { domains = (seen g ds ps qs).domains ++ new_domain ∷ [] }
+unfolding seen
+add_domain-seen {A} g ds ps qs = ap (λ (xs : List (Domain Text)). record (seen g ds ps qs) { domains = xs }) (map-append (meant g) ds (new_domain {A = A} ∷ []))
+
+pub add_pool-seen : {A : Type 0} (g : A → Text) (ds : List (Domain A)) (ps : List Pool) (qs : List (Option (Pipe A))) (p : Pool) → seen g ds (ps ++ p ∷ []) qs ≡ record (seen g ds ps qs) { pools = (seen g ds ps qs).pools ++ pool_meant p ∷ [] }
+unfolding seen
+add_pool-seen g ds ps qs p = ap (λ (xs : List machine.Pool). record (seen g ds ps qs) { pools = xs }) (map-append pool_meant ps (p ∷ []))
+
+-- pipes
+
+abbrev pub no_pipe : {A : Type 0} → A → Pipe A
+no_pipe q = record { queue = q; reading = false; writing = false }
+
+in_place-map : {A B : Type 0} (f : A → B) (xs : List (Option A)) (n : ℕ) → in_place (map (option_map f) xs) n ≡ option_map f (in_place xs n)
+in_place-map {A} f xs n = let z : Option A = None in get_or-map (option_map f) xs n z
+
+lowest-map : {A B : Type 0} (f : A → B) (xs : List (Option A)) → lowest (map (option_map f) xs) ≡ lowest xs
+lowest-map f [] = refl
+lowest-map f (None ∷ xs) = refl
+lowest-map f (Some x ∷ xs) = omega (arith, lowest-map f xs)
+
+taken-map : {A B : Type 0} (f : A → B) (xs : List (Option A)) → taken (map (option_map f) xs) ≡ taken xs
+taken-map f [] = refl
+taken-map f (None ∷ xs) = taken-map f xs
+taken-map f (Some x ∷ xs) = ap suc (taken-map f xs)
+
+placed-map : {A B : Type 0} (f : A → B) (xs : List (Option A)) (n : ℕ) (x : A) → placed (map (option_map f) xs) n (f x) ≡ map (option_map f) (placed xs n x)
+placed-map {A} f xs n x =
+    let e = map-set (option_map f) xs n (Some x) in
+    let l = length-map' (option_map f) xs in
+    let p = map-append (option_map f) xs (Some x ∷ []) in
+    elim (cases_lt n (length xs)) [
+      | inl k ↦ grind (arith, nat_tests, e, l, k)
+      | inr k ↦ grind (arith, nat_tests, p, l, k)
+    ]
+
+pub lowest-seen : {A : Type 0} (g : A → Text) (ds : List (Domain A)) (ps : List Pool) (qs : List (Option (Pipe A))) → lowest (seen g ds ps qs).pipes ≡ lowest qs
+unfolding seen
+lowest-seen g ds ps qs = lowest-map (pipe_meant g) qs
+
+pub taken-seen : {A : Type 0} (g : A → Text) (ds : List (Domain A)) (ps : List Pool) (qs : List (Option (Pipe A))) → taken (seen g ds ps qs).pipes ≡ taken qs
+unfolding seen
+taken-seen g ds ps qs = taken-map (pipe_meant g) qs
+
+pub add_pipe-seen : {A : Type 0} (g : A → Text) (ds : List (Domain A)) (ps : List Pool) (qs : List (Option (Pipe A))) (n : ℕ) (p : Pipe A) → seen g ds ps (placed qs n p) ≡ record (seen g ds ps qs) { pipes = placed (seen g ds ps qs).pipes n (pipe_meant g p) }
+unfolding seen
+add_pipe-seen g ds ps qs n p = ap (λ (xs : List (Option machine.Pipe)). record (seen g ds ps qs) { pipes = xs }) (sym (placed-map (pipe_meant g) qs n p))
+
+pub length_domains-seen : {A : Type 0} (g : A → Text) (ds : List (Domain A)) (ps : List Pool) (qs : List (Option (Pipe A))) → length (seen g ds ps qs).domains ≡ length ds
+unfolding seen
+length_domains-seen g ds ps qs = length-map' (meant g) ds
+
+pub length_pools-seen : {A : Type 0} (g : A → Text) (ds : List (Domain A)) (ps : List Pool) (qs : List (Option (Pipe A))) → length (seen g ds ps qs).pools ≡ length ps
+unfolding seen
+length_pools-seen g ds ps qs = length-map' pool_meant ps
+
+pub pipe_at-seen : {A : Type 0} (g : A → Text) (ds : List (Domain A)) (ps : List Pool) (qs : List (Option (Pipe A))) (z : A) (p : ℕ) → g z ≡ [] → machine.pipe_at (seen g ds ps qs) p ≡ pipe_meant g (pipe_in z qs p)
+unfolding seen machine.pipe_at
+pipe_at-seen {A} g ds ps qs z p none =
+    ap (λ o. unwrap_or o machine.no_pipe) (in_place-map (pipe_meant g) qs p) ∙ found (in_place qs p)
+  where
+    found : (o : Option (Pipe A)) → unwrap_or (option_map (pipe_meant g) o) machine.no_pipe ≡ pipe_meant g (unwrap_or o (no_pipe z))
+    found None = ap (λ (t : Text). record machine.no_pipe { queue = t }) (sym none)
+    found (Some x) = refl
+
+-- a pipe with an open end stays
+stays : {A : Type 0} (g : A → Text) (x : Pipe A) → (x.reading || x.writing) ≡ true → (if x.reading || x.writing then Some (pipe_meant g x) else None) ≡ Some (pipe_meant g x)
+stays g x any = rw any refl
+
+pub with_pipe-seen : {A : Type 0} (g : A → Text) (ds : List (Domain A)) (ps : List Pool) (qs : List (Option (Pipe A))) (p : ℕ) (x : Pipe A) → (x.reading || x.writing) ≡ true → seen g ds ps (slice_set qs p (Some x)) ≡ machine.with_pipe (seen g ds ps qs) p (pipe_meant g x)
+unfolding seen machine.with_pipe
+with_pipe-seen g ds ps qs p x any =
+    ap (λ (xs : List (Option machine.Pipe)). record (seen g ds ps qs) { pipes = xs })
+    (map-set (option_map (pipe_meant g)) qs p (Some x) ∙ ap (λ o. slice_set (map (option_map (pipe_meant g)) qs) p o) (sym (stays g x any)))
+
+pub ruleset domain_rules = (domain-seen, aggregate-seen, too_many-seen, text-seen)
+
+pub ruleset pool_rules = (pool-seen, is_pool-seen)
+
+pub ruleset count_rules = (length_domains-seen, length_pools-seen, taken-seen)

@@ -1,0 +1,181 @@
+-- Effects on pipes and their ends.
+use Rattle.std.proofs.Common.{inl, inr, ◌∷◌, ◌++◌, ◌<◌, length, length-append, length-set, ◌≡◌, ◌≢◌, ℕ, ◌+◌, ◌≤◌, ◌==◌, List, [], ap, ◌∙◌, refl, sym, subst, arith, Option, Some, None, true, false}
+use Rattle.std.specs.Prelude.{slice_set, nat_lt, not, ◌&&◌, if◌then◌else◌, Bool}
+use Rattle.std.proofs.lemmas.Bool.Decides.{nat_tests}
+use Rattle.std.proofs.lemmas.Grind.{common_steps}
+use Rattle.std.proofs.lemmas.Bool.{cases_lt}
+use Rattle.iol_core.specs.declared.limits.TheConstants.{MAX_PIPES}
+use Rattle.iol_hold.proofs.Counting.{tally_none}
+use Rattle.iol_kernel.proofs.Uses.{uses-placed}
+use Rattle.iol_core.specs.Numbered.{in_place, placed, lowest, taken}
+use Rattle.iol_core.specs.State as machine
+use Rattle.iol_core.specs.State.{State, Domain, new_pipe}
+use Rattle.iol_core.specs.Calls.Descriptors as fds
+use Rattle.iol_core.specs.Calls.Descriptors.{with_read_end}
+use Rattle.iol_core.specs.declared.descriptors.Descriptor.{Descriptor}
+use Rattle.iol_core.specs.declared.descriptors.Descriptor.TheVariants as on
+use Rattle.iol_hold.specs.declared.slices.Slice.{Slice}
+use Rattle.iol_hold.specs.Texts.{text_of}
+use Rattle.iol_hold.proofs.Reading.{readable_none}
+use Rattle.iol_desc.specs.Tables.{domain_in, with_domain_in, with_fds_in}
+use Rattle.iol_kernel.specs.Seen.{Pipe, seen}
+use Rattle.iol_kernel.specs.Holding.{Holding, machine_of, Each, IsOpenEnd, IsPipeReadable, IsSound, IsShort}
+use Rattle.iol_kernel.proofs.Meant.{add_pipe-seen, lowest-seen, taken-seen}
+use Rattle.iol_kernel.proofs.Sound.{each-set, each-get, each-weaker, each-placed, ends_open}
+use Rattle.iol_kernel.proofs.Ends.{ends_placed, new_reading, new_writing}
+use Rattle.iol_kernel.proofs.Effects.{fds_held, fds-machine, fds-sound}
+
+abbrev empty : Pipe (List Slice)
+empty = record { queue = []; reading = true; writing = true }
+
+-- the numbers of a new pipe's ends
+pub ends-machine : (h : Holding) (d : ℕ) → ◌≡◌ {A = ℕ × ℕ} (fds.pipe (machine_of h) d).answer (lowest (domain_in h.domains d).fds, lowest (with_read_end (domain_in h.domains d).fds (lowest h.pipes)))
+unfolding machine_of
+ends-machine h d =
+    ap {B = ℕ × ℕ} (λ (xs : List (Option Descriptor)). (lowest xs, lowest (with_read_end xs (lowest (machine_of h).pipes)))) (fds_held h d)
+    ∙ ap {B = ℕ × ℕ} (λ n. (lowest (domain_in h.domains d).fds, lowest (with_read_end (domain_in h.domains d).fds n))) (lowest-seen (text_of h.store) h.domains h.store.pools h.pipes)
+
+-- a new pipe, with both ends in a domain
+
+abbrev both : List (Option Descriptor) → (pipe : ℕ) → List (Option Descriptor)
+both xs n = placed (with_read_end xs n) (lowest (with_read_end xs n)) (on.WriteEnd n)
+
+abbrev piped : State → (d : ℕ) → List (Option Descriptor) → (pipe : ℕ) → State
+piped m d xs n = record (fds.with_fds m d (both xs n)) { pipes = placed m.pipes n new_pipe }
+
+pub piped-machine : (h : Holding) (ds : List (Domain (List Slice))) (qs : List (Option (Pipe (List Slice)))) (d : ℕ) → ds ≡ with_fds_in h.domains d (both (domain_in h.domains d).fds (lowest h.pipes)) → qs ≡ placed h.pipes (lowest h.pipes) empty → machine_of (record h { domains = ds; pipes = qs }) ≡ (fds.pipe (machine_of h) d).after
+unfolding machine_of machine.with_domain
+piped-machine h ds qs d domains' pipes' =
+    ap (λ (ys : List (Option (Pipe (List Slice)))). seen (text_of h.store) ds h.store.pools ys) pipes'
+    ∙ add_pipe-seen (text_of h.store) ds h.store.pools h.pipes (lowest h.pipes) empty
+    ∙ ap (λ (x : State). record x { pipes = placed x.pipes (lowest h.pipes) new_pipe }) (fds-machine h ds d (both (domain_in h.domains d).fds (lowest h.pipes)) domains')
+    ∙ ap (λ (xs : List (Option Descriptor)). piped (machine_of h) d xs (lowest h.pipes)) (sym (fds_held h d))
+    ∙ ap (λ n. piped (machine_of h) d (machine.domain (machine_of h) d).fds n) (sym (lowest-seen (text_of h.store) h.domains h.store.pools h.pipes))
+
+lowest_few : {A : Type 0} (xs : List (Option A)) → lowest xs ≤ taken xs
+lowest_few [] = omega arith
+lowest_few (None ∷ xs) = omega arith
+lowest_few (Some x ∷ xs) = omega (arith, lowest_few xs)
+
+length-placed : (qs : List (Option (Pipe (List Slice)))) (x : Pipe (List Slice)) → length qs ≤ MAX_PIPES → taken qs < MAX_PIPES → length (placed qs (lowest qs) x) ≤ MAX_PIPES
+length-placed qs x few free = elim (cases_lt (lowest qs) (length qs)) [
+  | inl k ↦ (let p : placed qs (lowest qs) x ≡ slice_set qs (lowest qs) (Some x) = grind (arith, nat_tests, k) in omega (arith, ap length p, length-set qs (lowest qs) (Some x), few))
+  | inr k ↦ (let p : placed qs (lowest qs) x ≡ qs ++ Some x ∷ [] = grind (arith, nat_tests, k) in omega (arith, ap length p, length-append qs (Some x ∷ []), lowest_few qs, k, free))
+]
+
+pub piped-sound : (h : Holding) (ds : List (Domain (List Slice))) (qs : List (Option (Pipe (List Slice)))) (d : ℕ) → IsSound h → (domain_in h.domains d).live ≡ true → taken h.pipes < MAX_PIPES → ds ≡ with_fds_in h.domains d (both (domain_in h.domains d).fds (lowest h.pipes)) → qs ≡ placed h.pipes (lowest h.pipes) empty → IsSound (record h { domains = ds; pipes = qs })
+piped-sound h ds qs d sound live few domains' pipes' =
+    let more : List (Option (Pipe (List Slice))) = placed h.pipes (lowest h.pipes) empty in
+    let k : Holding = record h { pipes = more } in
+    let sound' : IsSound k = record {
+      domains = sound.domains;
+      pipes = each-placed (IsPipeReadable h.store) h.pipes (lowest h.pipes) empty sound.pipes (readable_none h.store);
+      counted = record { each = λ b. omega (arith, sound.counted.each b, uses-placed b h.pipes empty, tally_none b) };
+      tidy = sound.tidy;
+      still = sound.still;
+      few_pools = sound.few_pools;
+      limits = record {
+        aggs = sound.limits.aggs;
+        few = sound.limits.few;
+        queues = each-placed IsShort h.pipes (lowest h.pipes) empty sound.limits.queues (omega arith);
+        few_pipes = length-placed h.pipes empty sound.limits.few_pipes few;
+      };
+      fds = each-weaker (λ (x : Domain (List Slice)). Each (IsOpenEnd h.pipes) x.fds) (λ (x : Domain (List Slice)). Each (IsOpenEnd more) x.fds) h.domains (λ x e. ends_placed h.pipes empty x.fds e) sound.fds;
+    } in
+    let xs : List (Option Descriptor) = (domain_in h.domains d).fds in
+    let first : Each (IsOpenEnd more) (with_read_end xs (lowest h.pipes)) = each-placed (IsOpenEnd more) xs (lowest xs) (on.ReadEnd (lowest h.pipes)) (ends_open k d sound') (new_reading h.pipes empty) in
+    let second : Each (IsOpenEnd more) (both xs (lowest h.pipes)) = each-placed (IsOpenEnd more) (with_read_end xs (lowest h.pipes)) (lowest (with_read_end xs (lowest h.pipes))) (on.WriteEnd (lowest h.pipes)) first (new_writing h.pipes empty) in
+    subst (λ (ys : List (Option (Pipe (List Slice)))). IsSound (record h { domains = ds; pipes = ys })) (sym pipes') (fds-sound k ds d (both xs (lowest h.pipes)) sound' live domains' second)
+
+few_open : (n k : ℕ) → nat_lt 1024 (n + k) ≡ false → n + k ≤ 1024
+few_open n k few = grind (arith, nat_tests, few)
+
+pub few_open_held : (h : Holding) (d k : ℕ) → fds.too_many_open (machine_of h) d k ≡ false → taken (domain_in h.domains d).fds + k ≤ 1024
+few_open_held h d k few = subst (λ (xs : List (Option Descriptor)). taken xs + k ≤ 1024) (fds_held h d) (few_open (taken (machine.domain (machine_of h) d).fds) k few)
+
+pub taken_held : (h : Holding) → taken (machine_of h).pipes ≡ taken h.pipes
+unfolding machine_of
+taken_held h = taken-seen (text_of h.store) h.domains h.store.pools h.pipes
+
+pub descriptor_held : (h : Holding) (d fd : ℕ) → machine.descriptor (machine_of h) d fd ≡ in_place (domain_in h.domains d).fds fd
+descriptor_held h d fd = ap (λ (xs : List (Option Descriptor)). in_place xs fd) (fds_held h d)
+
+-- a descriptor moves
+
+pub end_held : (h : Holding) (d fd : ℕ) (x : Descriptor) → IsSound h → machine.descriptor (machine_of h) d fd ≡ Some x → IsOpenEnd h.pipes (Some x)
+end_held h d fd x sound is = subst (IsOpenEnd h.pipes) (sym (descriptor_held h d fd) ∙ is) (each-get (IsOpenEnd h.pipes) (domain_in h.domains d).fds fd None (ends_open h d sound) tt)
+
+pub any_end : (h : Holding) (m : State) (to : ℕ) (x : Descriptor) → IsOpenEnd h.pipes (Some x) → fds.denied_by m to (fds.needed_pool m (Some x)) ≡ None
+any_end h m to (on.File f at mode) open' = absurd open'
+any_end h m to (on.ReadEnd p) open' = refl
+any_end h m to (on.WriteEnd p) open' = refl
+any_end h m to (on.Connection c) open' = absurd open'
+
+pub freed_held : (h : Holding) (d fd : ℕ) → fds.freed (machine_of h) d fd ≡ slice_set (domain_in h.domains d).fds fd None
+freed_held h d fd = ap (λ (xs : List (Option Descriptor)). slice_set xs fd None) (fds_held h d)
+
+-- within a domain
+pub moved_within-number : (h : Holding) (d fd to n : ℕ) → d ≡ to → n ≡ lowest (slice_set (domain_in h.domains d).fds fd None) → n ≡ (if d == to then lowest (fds.freed (machine_of h) d fd) else fds.next_fd (machine_of h) to)
+moved_within-number h d fd to n same is = let e = ap lowest (freed_held h d fd) in grind (arith, nat_tests, e, is, same)
+
+pub moved_within-machine : (h : Holding) (ds : List (Domain (List Slice))) (d fd to : ℕ) (x : Descriptor) → d ≡ to → ds ≡ with_fds_in h.domains d (placed (slice_set (domain_in h.domains d).fds fd None) (lowest (slice_set (domain_in h.domains d).fds fd None)) x) → machine_of (record h { domains = ds }) ≡ fds.given_to (machine_of h) d fd to x
+moved_within-machine h ds d fd to x same is =
+    fds-machine h ds d (placed (slice_set (domain_in h.domains d).fds fd None) (lowest (slice_set (domain_in h.domains d).fds fd None)) x) is
+    ∙ ap (λ (xs : List (Option Descriptor)). fds.with_fds (machine_of h) d (placed xs (lowest xs) x)) (sym (freed_held h d fd))
+    ∙ pick
+  where
+    pick : fds.with_fds (machine_of h) d (placed (fds.freed (machine_of h) d fd) (lowest (fds.freed (machine_of h) d fd)) x) ≡ fds.given_to (machine_of h) d fd to x
+    pick = grind (arith, nat_tests, same)
+
+pub moved_within-sound : (h : Holding) (ds : List (Domain (List Slice))) (d fd : ℕ) (x : Descriptor) → IsSound h → (domain_in h.domains d).live ≡ true → IsOpenEnd h.pipes (Some x) → ds ≡ with_fds_in h.domains d (placed (slice_set (domain_in h.domains d).fds fd None) (lowest (slice_set (domain_in h.domains d).fds fd None)) x) → IsSound (record h { domains = ds })
+moved_within-sound h ds d fd x sound live open' is =
+    let xs : List (Option Descriptor) = slice_set (domain_in h.domains d).fds fd None in
+    fds-sound h ds d (placed xs (lowest xs) x) sound live is
+    (each-placed (IsOpenEnd h.pipes) xs (lowest xs) x (each-set (IsOpenEnd h.pipes) (domain_in h.domains d).fds fd None (ends_open h d sound) tt) open')
+
+-- across domains
+
+domain_in-other : (ds : List (Domain (List Slice))) (d e : ℕ) (x : Domain (List Slice)) → d ≢ e → domain_in (with_domain_in ds d x) e ≡ domain_in ds e
+unfolding domain_in with_domain_in
+domain_in-other ds d e x differ = grind (arith, nat_tests, common_steps, differ)
+
+abbrev opened_in : List (Domain (List Slice)) → (d : ℕ) → Descriptor → List (Domain (List Slice))
+opened_in ds d x = with_fds_in ds d (placed (domain_in ds d).fds (lowest (domain_in ds d).fds) x)
+
+pub other_live : (ds ms : List (Domain (List Slice))) (d to : ℕ) (x : Descriptor) → to ≢ d → ms ≡ opened_in ds to x → (domain_in ds d).live ≡ true → (domain_in ms d).live ≡ true
+other_live ds ms d to x differ is live =
+    ap (λ (ys : List (Domain (List Slice))). (domain_in ys d).live) is ∙ ap (λ (y : Domain (List Slice)). y.live) (domain_in-other ds to d _ differ) ∙ live
+
+pub other_fds : (ds ms : List (Domain (List Slice))) (d to : ℕ) (x : Descriptor) → to ≢ d → ms ≡ opened_in ds to x → (domain_in ms d).fds ≡ (domain_in ds d).fds
+other_fds ds ms d to x differ is =
+    ap (λ (ys : List (Domain (List Slice))). (domain_in ys d).fds) is ∙ ap (λ (y : Domain (List Slice)). y.fds) (domain_in-other ds to d _ differ)
+
+pub moved_across-number : (h : Holding) (d fd to n : ℕ) → d ≢ to → n ≡ lowest (domain_in h.domains to).fds → n ≡ (if d == to then lowest (fds.freed (machine_of h) d fd) else fds.next_fd (machine_of h) to)
+moved_across-number h d fd to n differ is = let e = ap lowest (fds_held h to) in grind (arith, nat_tests, e, is, differ)
+
+pub moved_across-machine : (h : Holding) (ms ds : List (Domain (List Slice))) (d fd to : ℕ) (x : Descriptor) → d ≢ to → ms ≡ opened_in h.domains to x → ds ≡ with_fds_in ms d (slice_set (domain_in ms d).fds fd None) → machine_of (record h { domains = ds }) ≡ fds.given_to (machine_of h) d fd to x
+moved_across-machine h ms ds d fd to x differ opened' closed' =
+    fds-machine (record h { domains = ms }) ds d (slice_set (domain_in ms d).fds fd None) closed'
+    ∙ ap (λ (s : State). fds.with_fds s d (slice_set (domain_in ms d).fds fd None)) (fds-machine h ms to (placed (domain_in h.domains to).fds (lowest (domain_in h.domains to).fds) x) opened')
+    ∙ ap (λ (xs : List (Option Descriptor)). fds.with_fds (fds.with_fds (machine_of h) to (placed xs (lowest xs) x)) d (slice_set (domain_in ms d).fds fd None)) (sym (fds_held h to))
+    ∙ ap (λ (xs : List (Option Descriptor)). fds.with_fds (fds.opened (machine_of h) to x) d (slice_set xs fd None)) (other_fds h.domains ms d to x (λ e. differ (sym e)) opened' ∙ sym (fds_held h d))
+    ∙ pick
+  where
+    pick : fds.with_fds (fds.opened (machine_of h) to x) d (fds.freed (machine_of h) d fd) ≡ fds.given_to (machine_of h) d fd to x
+    pick = grind (arith, nat_tests, differ)
+
+pub moved_across-sound : (h : Holding) (ms ds : List (Domain (List Slice))) (d fd to : ℕ) (x : Descriptor) → IsSound h → (domain_in h.domains to).live ≡ true → (domain_in ms d).live ≡ true → IsOpenEnd h.pipes (Some x) → ms ≡ opened_in h.domains to x → ds ≡ with_fds_in ms d (slice_set (domain_in ms d).fds fd None) → IsSound (record h { domains = ds })
+moved_across-sound h ms ds d fd to x sound to_live live open' opened' closed' =
+    let xs : List (Option Descriptor) = (domain_in h.domains to).fds in
+    let k : Holding = record h { domains = ms } in
+    let mid : IsSound k = fds-sound h ms to (placed xs (lowest xs) x) sound to_live opened' (each-placed (IsOpenEnd h.pipes) xs (lowest xs) x (ends_open h to sound) open') in
+    fds-sound k ds d (slice_set (domain_in ms d).fds fd None) mid live closed' (each-set (IsOpenEnd h.pipes) (domain_in ms d).fds fd None (ends_open k d mid) tt)
+
+pub not_none : {A : Type 0} (o p : Option A) (x : A) → p ≡ Some x → o ≡ p → o ≡ None → ⊥
+not_none o p x is same none = cc
+
+pub few_to : (h : Holding) (d to : ℕ) → d ≢ to → (not (d == to) && fds.too_many_open (machine_of h) to 1) ≡ false → taken (domain_in h.domains to).fds + 1 ≤ 1024
+few_to h d to differ few = few_open_held h to 1 (pick (nat_lt 1024 (taken (machine.domain (machine_of h) to).fds + 1)) few)
+  where
+    pick : (b : Bool) → (not (d == to) && b) ≡ false → b ≡ false
+    pick b e = grind (arith, nat_tests, e, differ)

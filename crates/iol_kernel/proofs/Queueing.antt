@@ -1,0 +1,264 @@
+-- Effects on queues, as the machine sees them.
+use Rattle.std.proofs.Common.{◌≡◌, ℕ, ◌+◌, ◌<◌, ◌≤◌, ◌==◌, cond, List, [], ◌∷◌, ◌++◌, length, map, take, drop, ap, ◌∙◌, refl, sym, subst, arith, Option, Some, None, true, false, inl, inr, Bool, length-set}
+use Rattle.std.specs.Prelude.{slice_set, unwrap_or, option_map, is_none, min, option_and_then, if◌then◌else◌, not, ◌||◌}
+use Rattle.std.specs.List.{list_any, prefix_len, slice_get}
+use Rattle.std.proofs.lemmas.Bool.Decides.{nat_tests}
+use Rattle.std.proofs.lemmas.List.{length-take, length-drop}
+use Rattle.iol_core.specs.Text.{Text, admitted, barred}
+use Rattle.iol_core.specs.Numbered.{in_place}
+use Rattle.iol_core.specs.State as machine
+use Rattle.iol_core.specs.State.{State, Domain}
+use Rattle.iol_core.specs.Calls.Aggregates as aggs
+use Rattle.iol_core.specs.Calls.Reading as reading
+use Rattle.iol_core.specs.declared.descriptors.Descriptor.TheVariants as on
+use Rattle.iol_pool.specs.Pools.{Pool, names_in}
+use Rattle.iol_hold.specs.Stored.{Stored}
+use Rattle.iol_hold.specs.Moves.{Shares, pool_meant}
+use Rattle.iol_hold.specs.Places.{places, byte_len}
+use Rattle.iol_hold.specs.Texts.{text_of, bufs_of, AllReadable}
+use Rattle.iol_hold.specs.declared.slices.Slice.{Slice}
+use Rattle.iol_hold.proofs.Counting.{tally-append}
+use Rattle.iol_hold.proofs.Moving.{shares_move}
+use Rattle.iol_hold.proofs.Reading.{length-text_of, readable_none, readable_rest}
+use Rattle.iol_pipe.specs.Queue.{first_pool, may_see}
+use Rattle.iol_pipe.proofs.Texts.{readable_pushed, text_pushed, readable_given, text_given, text_left, first_pool-text}
+use Rattle.iol_desc.specs.Tables.{agg_in, domain_in, with_agg_in, live_aggs_in}
+use Rattle.iol_kernel.specs.Seen.{Pipe, pipe_meant, seen}
+use Rattle.iol_kernel.specs.Counted.{IsCounted}
+use Rattle.iol_kernel.specs.Holding.{Holding, machine_of, Each, IsOpenEnd, IsPipeReadable, IsDomainReadable, IsShort, IsLimited, IsSound, TakesFront, queue_at}
+use Rattle.iol_kernel.proofs.Meant.{domain-seen, pipe_at-seen, with_pipe-seen, with_agg-seen, text-seen, aggregate-seen, pool-seen}
+use Rattle.iol_kernel.proofs.Uses.{uses-set_pipe, uses-with_agg}
+use Rattle.iol_kernel.proofs.Sound.{each-get, each-set, each-weaker, agg_readable, counted_held, add_readable, fds_stay, limits_agg}
+use Rattle.iol_kernel.proofs.Ends.{ends_queued, there_if_open}
+use Rattle.iol_kernel.proofs.Effects.{moved-machine, moved-sound}
+use Rattle.iol_kernel.proofs.Pipes.{end_held}
+
+any_true : (a b : Bool) → a ≡ true → (a || b) ≡ true
+any_true a b e = grind (arith, nat_tests, e)
+
+-- a queue as the machine sees it
+
+pub pipe_held : (h : Holding) (p : ℕ) → machine.pipe_at (machine_of h) p ≡ pipe_meant (text_of h.store) (queue_at h.pipes p)
+unfolding machine_of
+pipe_held h p = pipe_at-seen (text_of h.store) h.domains h.store.pools h.pipes [] p refl
+
+pub queue_held : (h : Holding) (p : ℕ) → (machine.pipe_at (machine_of h) p).queue ≡ text_of h.store (queue_at h.pipes p).queue
+queue_held h p = ap (λ (x : machine.Pipe). x.queue) (pipe_held h p)
+
+pub queue_length : (h : Holding) (p : ℕ) → length (machine.pipe_at (machine_of h) p).queue ≡ byte_len (queue_at h.pipes p).queue
+queue_length h p = ap length (queue_held h p) ∙ length-text_of h.store (queue_at h.pipes p).queue
+
+pub length_some : (s : Stored) (ds : List (Domain (List Slice))) (ps : List Pool) (qs : List (Option (Pipe (List Slice)))) (d a : ℕ) (xs : List Slice) → Some xs ≡ agg_in ds d a → length (machine.text (seen (text_of s) ds ps qs) d a) ≡ byte_len xs
+length_some s ds ps qs d a xs found = ap length (text-seen (text_of s) ds ps qs d a xs found) ∙ length-text_of s xs
+
+pub length_none : (s : Stored) (ds : List (Domain (List Slice))) (ps : List Pool) (qs : List (Option (Pipe (List Slice)))) (d a : ℕ) → None ≡ agg_in ds d a → length (machine.text (seen (text_of s) ds ps qs) d a) ≡ 0
+length_none s ds ps qs d a none = ap (λ (o : Option Text). length (unwrap_or o [])) (aggregate-seen (text_of s) ds ps qs d a ∙ ap (option_map (text_of s)) (sym none))
+
+pub ruleset length_rules = (length_some, length_none, domain-seen)
+
+-- Writing: the queue gets what fits.
+
+pub pushed-machine : (h : Holding) (qs : List (Option (Pipe (List Slice)))) (p n : ℕ) (from : List Slice) (w : Text) → (queue_at h.pipes p).writing ≡ true → text_of h.store from ≡ w → places (queue_at qs p).queue ≡ places (queue_at h.pipes p).queue ++ take n (places from) → qs ≡ slice_set h.pipes p (Some (record (queue_at h.pipes p) { queue = (queue_at qs p).queue })) → machine_of (record h { pipes = qs }) ≡ machine.with_pipe (machine_of h) p (record (machine.pipe_at (machine_of h) p) { queue = (machine.pipe_at (machine_of h) p).queue ++ take n w })
+unfolding machine_of
+pushed-machine h qs p n from w writing is places' pipes' =
+    let x : Pipe (List Slice) = record (queue_at h.pipes p) { queue = (queue_at qs p).queue } in
+    let q : text_of h.store (queue_at qs p).queue ≡ (machine.pipe_at (machine_of h) p).queue ++ take n w =
+    text_pushed h.store (queue_at qs p).queue (queue_at h.pipes p).queue from n places'
+    ∙ ap (λ (t : Text). t ++ take n (text_of h.store from)) (sym (queue_held h p))
+    ∙ ap (λ (t : Text). (machine.pipe_at (machine_of h) p).queue ++ take n t) is in
+    ap (λ (ys : List (Option (Pipe (List Slice)))). seen (text_of h.store) h.domains h.store.pools ys) pipes'
+    ∙ with_pipe-seen (text_of h.store) h.domains h.store.pools h.pipes p x (any_true x.reading x.writing writing)
+    ∙ ap (λ (t : Text). machine.with_pipe (machine_of h) p (record (pipe_meant (text_of h.store) (queue_at h.pipes p)) { queue = t })) q
+    ∙ ap (λ (y : machine.Pipe). machine.with_pipe (machine_of h) p (record y { queue = (machine.pipe_at (machine_of h) p).queue ++ take n w })) (sym (pipe_held h p))
+  where
+    any_true : (a b : Bool) → b ≡ true → (a || b) ≡ true
+    any_true a b e = grind (arith, nat_tests, e)
+
+pub queue_readable : (h : Holding) (p : ℕ) → IsSound h → AllReadable h.store (queue_at h.pipes p).queue
+queue_readable h p sound = pick (in_place h.pipes p) (each-get (IsPipeReadable h.store) h.pipes p None sound.pipes tt)
+  where
+    pick : (o : Option (Pipe (List Slice))) → IsPipeReadable h.store o → AllReadable h.store (unwrap_or o (record { queue = []; reading = false; writing = false })).queue
+    pick None r = readable_none h.store
+    pick (Some x) r = r
+
+-- within the limits
+queue_limits : (h : Holding) (p : ℕ) (q : List Slice) → IsSound h → byte_len q ≤ 65536 → IsLimited h.domains (slice_set h.pipes p (Some (record (queue_at h.pipes p) { queue = q })))
+queue_limits h p q sound short = record {
+  aggs = sound.limits.aggs;
+  few = sound.limits.few;
+  queues = each-set IsShort h.pipes p (Some (record (queue_at h.pipes p) { queue = q })) sound.limits.queues short;
+  few_pipes = omega (arith, sound.limits.few_pipes, length-set h.pipes p (Some (record (queue_at h.pipes p) { queue = q })));
+}
+
+pub queue_short : (h : Holding) (p : ℕ) → IsSound h → byte_len (queue_at h.pipes p).queue ≤ 65536
+queue_short h p sound = pick (in_place h.pipes p) (each-get IsShort h.pipes p None sound.limits.queues tt)
+  where
+    pick : (o : Option (Pipe (List Slice))) → IsShort o → byte_len (unwrap_or o (record { queue = []; reading = false; writing = false })).queue ≤ 65536
+    pick None r = omega arith
+    pick (Some x) r = r
+
+-- and the store goes on
+module _ (h : Holding) (t : Stored) (qs : List (Option (Pipe (List Slice)))) (p n d a : ℕ) (from : List Slice) (sound : IsSound h) (writing : (queue_at h.pipes p).writing ≡ true) (found : Some from ≡ agg_in h.domains d a)
+    (short : byte_len (queue_at qs p).queue ≤ 65536)
+    (places' : places (queue_at qs p).queue ≡ places (queue_at h.pipes p).queue ++ take n (places from)) (pipes' : qs ≡ slice_set h.pipes p (Some (record (queue_at h.pipes p) { queue = (queue_at qs p).queue })))
+    (shares : Shares h.store t (bufs_of (queue_at h.pipes p).queue) (bufs_of (queue_at qs p).queue)) where
+  abbrev more : List (Option (Pipe (List Slice)))
+  more = slice_set h.pipes p (Some (record (queue_at h.pipes p) { queue = (queue_at qs p).queue }))
+
+  there : p < length h.pipes
+  there = there_if_open h.pipes p (inr writing)
+
+  more_counted : IsCounted t h.domains more
+  more_counted = record { each = λ b. omega (arith, sound.counted.each b, shares.counts.each b, uses-set_pipe b h.pipes p (record (queue_at h.pipes p) { queue = (queue_at qs p).queue }) there) }
+
+  queue_good : AllReadable h.store (queue_at qs p).queue
+  queue_good = readable_pushed (queue_at qs p).queue (queue_at h.pipes p).queue from n places' (queue_readable h p sound) (agg_readable h d a from sound found)
+
+  more_good : Each (IsPipeReadable h.store) more
+  more_good = each-set (IsPipeReadable h.store) h.pipes p (Some (record (queue_at h.pipes p) { queue = (queue_at qs p).queue })) sound.pipes queue_good
+
+  pub pushed-store : machine_of (record h { store = t; pipes = qs }) ≡ machine_of (record h { pipes = qs })
+  pushed-store = subst (λ (ys : List (Option (Pipe (List Slice)))). machine_of (record h { store = t; pipes = ys }) ≡ machine_of (record h { pipes = ys })) (sym pipes')
+      (moved-machine h.store t h.domains more (shares_move shares).stays (ap (map pool_meant) shares.pools) (counted_held more_counted) sound.domains more_good)
+
+  pub pushed-sound : IsSound (record h { store = t; pipes = qs })
+  pushed-sound = subst (λ (ys : List (Option (Pipe (List Slice)))). IsSound (record h { store = t; pipes = ys })) (sym pipes')
+      (moved-sound h.store t h.domains more (shares_move shares).stays more_counted (shares.tidy sound.tidy) ((shares_move shares).still sound.still) sound.domains more_good
+      (each-weaker (λ (x : Domain (List Slice)). Each (IsOpenEnd h.pipes) x.fds) (λ (x : Domain (List Slice)). Each (IsOpenEnd more) x.fds) h.domains (λ x e. ends_queued h.pipes p (queue_at qs p).queue there x.fds e) sound.fds)
+      (queue_limits h p (queue_at qs p).queue sound short) (omega (arith, sound.few_pools, ap length shares.pools)))
+
+pub text_held : (h : Holding) (d a : ℕ) (xs : List Slice) → Some xs ≡ agg_in h.domains d a → text_of h.store xs ≡ machine.text (machine_of h) d a
+unfolding machine_of
+text_held h d a xs found = sym (text-seen (text_of h.store) h.domains h.store.pools h.pipes d a xs found)
+
+pub writing_held : (h : Holding) (d fd p : ℕ) → IsSound h → machine.descriptor (machine_of h) d fd ≡ Some (on.WriteEnd p) → (queue_at h.pipes p).writing ≡ true
+writing_held h d fd p sound is = end_held h d fd (on.WriteEnd p) sound is
+
+pub reading_held : (h : Holding) (d fd p : ℕ) → IsSound h → machine.descriptor (machine_of h) d fd ≡ Some (on.ReadEnd p) → (queue_at h.pipes p).reading ≡ true
+reading_held h d fd p sound is = end_held h d fd (on.ReadEnd p) sound is
+
+-- Reading: a domain gets the front.
+
+admitted-same : (f g : ℕ → Bool) (t : Text) → ((p : ℕ) → f p ≡ g p) → admitted f t ≡ admitted g t
+admitted-same f g t same = ap (λ n. take n t) (prefix t)
+  where
+    prefix : (xs : Text) → prefix_len (λ b. f b.1) xs ≡ prefix_len (λ b. g b.1) xs
+    prefix [] = refl
+    prefix (x ∷ xs) = ap (λ b. cond b (1 + prefix_len (λ b. f b.1) xs) 0) (same x.1) ∙ ap (λ n. cond (g x.1) (1 + n) 0) (prefix xs)
+
+pub may_read_held : (h : Holding) (d q : ℕ) → names_in h.store.pools q d ≡ machine.may_read (machine_of h) d q
+unfolding machine_of
+may_read_held h d q = sym (ap (λ (x : machine.Pool). list_any (λ e. e == d) x.domains) (pool-seen (text_of h.store) h.domains h.store.pools h.pipes q))
+
+module _ (h : Holding) (t : Stored) (ds : List (Domain (List Slice))) (qs : List (Option (Pipe (List Slice)))) (p d n : ℕ) (sound : IsSound h) (reading' : (queue_at h.pipes p).reading ≡ true)
+    (takes : TakesFront h.store t (queue_at h.pipes p).queue (queue_at qs p).queue h.domains ds d n) (pipes' : qs ≡ slice_set h.pipes p (Some (record (queue_at h.pipes p) { queue = (queue_at qs p).queue }))) where
+  abbrev less : List (Option (Pipe (List Slice)))
+  less = slice_set h.pipes p (Some (record (queue_at h.pipes p) { queue = (queue_at qs p).queue }))
+
+  abbrev given : List (Domain (List Slice))
+  given = with_agg_in h.domains d takes.slices
+
+  there' : p < length h.pipes
+  there' = there_if_open h.pipes p (inl reading')
+
+  slices_good : AllReadable h.store takes.slices
+  slices_good = readable_given takes.slices (queue_at h.pipes p).queue h.store.pools d n takes.given (queue_readable h p sound)
+
+  less_good : Each (IsPipeReadable h.store) less
+  less_good = each-set (IsPipeReadable h.store) h.pipes p (Some (record (queue_at h.pipes p) { queue = (queue_at qs p).queue })) sound.pipes
+      (readable_rest (queue_at qs p).queue (queue_at h.pipes p).queue (byte_len takes.slices) takes.left (queue_readable h p sound))
+
+  given_good : Each (IsDomainReadable h.store) given
+  given_good = add_readable h.store h.domains d takes.slices sound.domains slices_good
+
+  pub taken-machine : IsCounted t given less → machine_of (record h { store = t; domains = ds; pipes = qs }) ≡ aggs.with_agg (reading.read_on (machine_of h) d 0 (Some (on.ReadEnd p)) (length (reading.read_text (machine_of h) d (Some (on.ReadEnd p)) n))) d (reading.read_text (machine_of h) d (Some (on.ReadEnd p)) n)
+  unfolding machine_of
+  taken-machine counted =
+      let m : State = machine_of h in
+      let x : Pipe (List Slice) = record (queue_at h.pipes p) { queue = (queue_at qs p).queue } in
+      let u : Text = admitted (machine.may_read m d) (take n (machine.pipe_at m p).queue) in
+      let first : text_of h.store takes.slices ≡ u =
+      text_given h.store takes.slices (queue_at h.pipes p).queue h.store.pools d n takes.given
+      ∙ admitted-same (λ q. names_in h.store.pools q d) (machine.may_read m d) (take n (text_of h.store (queue_at h.pipes p).queue)) (may_read_held h d)
+      ∙ ap (λ (q : Text). admitted (machine.may_read m d) (take n q)) (sym (queue_held h p)) in
+      let left : text_of h.store (queue_at qs p).queue ≡ drop (length u) (machine.pipe_at m p).queue =
+      text_left h.store takes.slices (queue_at qs p).queue (queue_at h.pipes p).queue h.store.pools d n takes.given takes.left
+      ∙ ap (λ (v : Text). drop (length v) (text_of h.store (queue_at h.pipes p).queue)) (sym (text_given h.store takes.slices (queue_at h.pipes p).queue h.store.pools d n takes.given) ∙ first)
+      ∙ ap (λ (q : Text). drop (length u) q) (sym (queue_held h p)) in
+      ap (λ (ys : List (Option (Pipe (List Slice)))). seen (text_of t) ds t.pools ys) pipes'
+      ∙ ap (λ (ys : List (Domain (List Slice))). seen (text_of t) ys t.pools less) takes.added
+      ∙ moved-machine h.store t given less (shares_move takes.shares).stays (ap (map pool_meant) takes.shares.pools) (counted_held counted) given_good less_good
+      ∙ with_agg-seen (text_of h.store) h.domains h.store.pools less d takes.slices
+      ∙ ap (λ (s : State). aggs.with_agg s d (text_of h.store takes.slices)) (with_pipe-seen (text_of h.store) h.domains h.store.pools h.pipes p x (any_true x.reading x.writing reading'))
+      ∙ ap (λ (v : Text). aggs.with_agg (machine.with_pipe m p (pipe_meant (text_of h.store) x)) d v) first
+      ∙ ap (λ (v : Text). aggs.with_agg (machine.with_pipe m p (record (pipe_meant (text_of h.store) (queue_at h.pipes p)) { queue = v })) d u) left
+      ∙ ap (λ (y : machine.Pipe). aggs.with_agg (machine.with_pipe m p (record y { queue = drop (length u) (machine.pipe_at m p).queue })) d u) (sym (pipe_held h p))
+
+  module _ (live : (domain_in h.domains d).live ≡ true) (few : live_aggs_in h.domains < 65536) where
+    pub taken_counted : IsCounted t given less
+    taken_counted = record {
+      each = λ b. omega (
+        arith,
+        sound.counted.each b,
+        takes.shares.counts.each b,
+        uses-with_agg b h.domains d takes.slices live,
+        uses-set_pipe b h.pipes p (record (queue_at h.pipes p) { queue = (queue_at qs p).queue }) there',
+        tally-append b (bufs_of takes.slices) (bufs_of (queue_at qs p).queue),
+      );
+    }
+
+    parts_short : (byte_len takes.slices ≤ 65536) × (byte_len (queue_at qs p).queue ≤ 65536)
+    parts_short =
+        let short = queue_short h p sound in
+        let q = places (queue_at h.pipes p).queue in
+        let l = length-drop (byte_len takes.slices) q in
+        (omega (arith, short, ap length takes.given, length-take (prefix_len (may_see h.store.pools d) (take n q)) (take n q), length-take n q), omega (arith, short, ap length takes.left, l))
+
+    pub taken-sound : IsSound (record h { store = t; domains = ds; pipes = qs })
+    taken-sound =
+        let x : Domain (List Slice) = domain_in h.domains d in
+        subst (λ (ys : List (Option (Pipe (List Slice)))). IsSound (record h { store = t; domains = ds; pipes = ys })) (sym pipes')
+        (subst (λ (ys : List (Domain (List Slice))). IsSound (record h { store = t; domains = ys; pipes = less })) (sym takes.added)
+        (moved-sound h.store t given less (shares_move takes.shares).stays taken_counted (takes.shares.tidy sound.tidy) ((shares_move takes.shares).still sound.still) given_good less_good
+        (fds_stay less h.domains d (record x { aggs = x.aggs ++ (x.next_agg, takes.slices) ∷ []; next_agg = x.next_agg + 1 })
+        (each-weaker (λ (x : Domain (List Slice)). Each (IsOpenEnd h.pipes) x.fds) (λ (x : Domain (List Slice)). Each (IsOpenEnd less) x.fds) h.domains (λ x e. ends_queued h.pipes p (queue_at qs p).queue there' x.fds e) sound.fds) refl)
+        (limits_agg h.domains less d takes.slices (queue_limits h p (queue_at qs p).queue sound parts_short.1) live (omega (arith, parts_short.0)) few) (omega (arith, sound.few_pools, ap length takes.shares.pools))))
+
+-- tests on a queue
+
+pub reading_means : (h : Holding) (p : ℕ) → (queue_at h.pipes p).reading ≡ (machine.pipe_at (machine_of h) p).reading
+reading_means h p = sym (ap (λ (x : machine.Pipe). x.reading) (pipe_held h p))
+
+pub writing_means : (h : Holding) (p : ℕ) → (queue_at h.pipes p).writing ≡ (machine.pipe_at (machine_of h) p).writing
+writing_means h p = sym (ap (λ (x : machine.Pipe). x.writing) (pipe_held h p))
+
+-- the first byte's pool, where the reader may not read it
+pub barred_first : (h : Holding) (d p n : ℕ) → 0 < n → barred (machine.may_read (machine_of h) d) (take (min n 1) (machine.pipe_at (machine_of h) p).queue) ≡ option_and_then (λ q. if machine.may_read (machine_of h) d q then None else Some q) (first_pool (queue_at h.pipes p).queue)
+barred_first h d p n some =
+    ap (λ (t : Text). barred (machine.may_read (machine_of h) d) (take (min n 1) t)) (queue_held h p)
+    ∙ ap (λ k. barred (machine.may_read (machine_of h) d) (take k (text_of h.store (queue_at h.pipes p).queue))) one
+    ∙ first (text_of h.store (queue_at h.pipes p).queue)
+    ∙ ap (λ (o : Option ℕ). option_and_then (λ q. if machine.may_read (machine_of h) d q then None else Some q) o) (sym (first_pool-text h.store (queue_at h.pipes p).queue))
+  where
+    one : min n 1 ≡ 1
+    one = omega arith
+
+    first : (t : Text) → barred (machine.may_read (machine_of h) d) (take 1 t) ≡ option_and_then (λ q. if machine.may_read (machine_of h) d q then None else Some q) (option_map (λ b. b.1) (slice_get t 0))
+    first [] = refl
+    first (x ∷ t) = elim (machine.may_read (machine_of h) d x.1) as (λ b. option_map (λ (y : ℕ × ℕ). y.1) (cond (not b) (Some x) None) ≡ (if b then None else Some x.1)) [ true ↦ refl | false ↦ refl ]
+
+pub first_admitted : (h : Holding) (d p n q : ℕ) → 0 < n → Some q ≡ first_pool (queue_at h.pipes p).queue → machine.may_read (machine_of h) d q ≡ true → None ≡ barred (machine.may_read (machine_of h) d) (take (min n 1) (machine.pipe_at (machine_of h) p).queue)
+first_admitted h d p n q some is named = sym (barred_first h d p n some ∙ ap (λ (o : Option ℕ). option_and_then (λ q. if machine.may_read (machine_of h) d q then None else Some q) o) (sym is) ∙ rw named refl)
+
+pub first_denied : (h : Holding) (d p n q : ℕ) → 0 < n → Some q ≡ first_pool (queue_at h.pipes p).queue → machine.may_read (machine_of h) d q ≡ false → Some q ≡ barred (machine.may_read (machine_of h) d) (take (min n 1) (machine.pipe_at (machine_of h) p).queue)
+first_denied h d p n q some is named = sym (barred_first h d p n some ∙ ap (λ (o : Option ℕ). option_and_then (λ q. if machine.may_read (machine_of h) d q then None else Some q) o) (sym is) ∙ rw named refl)
+
+pub first_empty : (h : Holding) (d p n : ℕ) → 0 < n → None ≡ first_pool (queue_at h.pipes p).queue → None ≡ barred (machine.may_read (machine_of h) d) (take (min n 1) (machine.pipe_at (machine_of h) p).queue)
+first_empty h d p n some is = sym (barred_first h d p n some ∙ ap (λ (o : Option ℕ). option_and_then (λ q. if machine.may_read (machine_of h) d q then None else Some q) o) (sym is))
+
+pub none_held : (h : Holding) (d a : ℕ) → None ≡ agg_in h.domains d a → aggs.lacks_agg (machine_of h) d a ≡ true
+unfolding machine_of
+none_held h d a none = ap (λ (o : Option Text). is_none o) (aggregate-seen (text_of h.store) h.domains h.store.pools h.pipes d a ∙ ap (option_map (text_of h.store)) (sym none))
+
+pub length_held : (h : Holding) (d a : ℕ) (xs : List Slice) → Some xs ≡ agg_in h.domains d a → length (machine.text (machine_of h) d a) ≡ byte_len xs
+length_held h d a xs found = ap length (sym (text_held h d a xs found)) ∙ length-text_of h.store xs

@@ -1,0 +1,60 @@
+use Rattle.iol_desc.specs.Tables.{domains_of}
+use Rattle.std.proofs.Common.{◌≢◌, ◌∙◌, sym, ap, arith}
+use Rattle.iol_kernel.proofs.Effects.{live_held}
+use Rattle.iol_kernel.proofs.Pipes.{any_end, end_held, descriptor_held, not_none, few_to, other_live, other_fds, moved_within-number, moved_within-machine, moved_within-sound, moved_across-number, moved_across-machine, moved_across-sound}
+use Rattle.std.specs.Prelude.{slice_index_or, List, Option, None}
+use Rattle.iol_core.specs.declared.descriptors.Descriptor.{Descriptor}
+use Rattle.iol_kernel.specs.Kernel.{holding}
+use Rattle.iol_kernel.proofs.kernel.Kernel.move_fd.Goals as goal
+
+pub move_within-requires-clause-live : goal.move_within-requires-clause-live
+move_within-requires-clause-live c = live_held (holding c.args.self.now) c.args.by c.requires.from
+
+pub move_within-requires-clause-open : goal.move_within-requires-clause-open
+move_within-requires-clause-open c = not_none _ _ c.args.given c.requires.given (sym (descriptor_held (holding c.args.self.now) c.args.by c.args.fd))
+
+pub returns-then-number-clause-any : goal.returns-then-number-clause-any
+returns-then-number-clause-any c = any_end (holding c.args.self.now) _ c.args.to c.args.given (end_held (holding c.args.self.now) c.args.by c.args.fd c.args.given c.requires.sound c.requires.given)
+
+pub returns-then-number-clause-number : goal.returns-then-number-clause-number
+returns-then-number-clause-number c = moved_within-number (holding c.args.self.now) c.args.by c.args.fd c.args.to _ (sym c.number.ensures ∙ c.if-number.true ∙ c.number-2.ensures) c.move_within.ensures.number
+
+pub returns-then-number-clause-moved : goal.returns-then-number-clause-moved
+returns-then-number-clause-moved c = moved_within-machine (holding c.args.self.now) (domains_of c.move_within.new.domains) c.args.by c.args.fd c.args.to c.args.given (sym c.number.ensures ∙ c.if-number.true ∙ c.number-2.ensures) c.move_within.ensures.moved
+
+pub returns-then-number-clause-sound : goal.returns-then-number-clause-sound
+returns-then-number-clause-sound c = moved_within-sound (holding c.args.self.now) (domains_of c.move_within.new.domains) c.args.by c.args.fd c.args.given c.requires.sound (live_held (holding c.args.self.now) c.args.by c.requires.from) (end_held (holding c.args.self.now) c.args.by c.args.fd c.args.given c.requires.sound c.requires.given) c.move_within.ensures.moved
+
+pub open_next-requires-clause-live : goal.open_next-requires-clause-live
+open_next-requires-clause-live c = live_held (holding c.args.self.now) c.args.to c.requires.to
+
+pub open_next-requires-clause-few : goal.open_next-requires-clause-few
+open_next-requires-clause-few c =
+    let differ : c.args.by ≢ c.args.to = λ e. c.if-number.false (c.number.ensures ∙ e ∙ sym c.number-2.ensures) in
+    let few = few_to (holding c.args.self.now) c.args.by c.args.to differ c.requires.few in
+    omega (arith, few)
+
+pub returns-in_err-number-clause-any : goal.returns-in_err-number-clause-any
+returns-in_err-number-clause-any c = any_end (holding c.args.self.now) _ c.args.to c.args.given (end_held (holding c.args.self.now) c.args.by c.args.fd c.args.given c.requires.sound c.requires.given)
+
+pub close_fd-requires-clause-live : goal.close_fd-requires-clause-live
+close_fd-requires-clause-live c =
+    other_live (domains_of c.args.self.now.domains) (domains_of c.open_next.new.domains) c.args.by c.args.to c.args.given (λ e. c.if-number.false (c.number.ensures ∙ sym e ∙ sym c.number-2.ensures)) c.in_ok-number.ensures.opened (live_held (holding c.args.self.now) c.args.by c.requires.from)
+
+pub close_fd-requires-clause-open : goal.close_fd-requires-clause-open
+close_fd-requires-clause-open c =
+    not_none _ _ c.args.given c.requires.given
+    (ap (λ (xs : List (Option Descriptor)). slice_index_or xs c.args.fd None) (other_fds (domains_of c.args.self.now.domains) (domains_of c.open_next.new.domains) c.args.by c.args.to c.args.given (λ e. c.if-number.false (c.number.ensures ∙ sym e ∙ sym c.number-2.ensures)) c.in_ok-number.ensures.opened)
+    ∙ sym (descriptor_held (holding c.args.self.now) c.args.by c.args.fd))
+
+pub returns-clause-any : goal.returns-clause-any
+returns-clause-any c = any_end (holding c.args.self.now) _ c.args.to c.args.given (end_held (holding c.args.self.now) c.args.by c.args.fd c.args.given c.requires.sound c.requires.given)
+
+pub returns-clause-number : goal.returns-clause-number
+returns-clause-number c = moved_across-number (holding c.args.self.now) c.args.by c.args.fd c.args.to _ (λ e. c.if-number.false (c.number.ensures ∙ e ∙ sym c.number-2.ensures)) c.in_ok-number.ensures.number
+
+pub returns-clause-moved : goal.returns-clause-moved
+returns-clause-moved c = moved_across-machine (holding c.args.self.now) (domains_of c.open_next.new.domains) (domains_of c.close_fd.new.domains) c.args.by c.args.fd c.args.to c.args.given (λ e. c.if-number.false (c.number.ensures ∙ e ∙ sym c.number-2.ensures)) c.in_ok-number.ensures.opened c.close_fd.ensures
+
+pub returns-clause-sound : goal.returns-clause-sound
+returns-clause-sound c = moved_across-sound (holding c.args.self.now) (domains_of c.open_next.new.domains) (domains_of c.close_fd.new.domains) c.args.by c.args.fd c.args.to c.args.given c.requires.sound (live_held (holding c.args.self.now) c.args.to c.requires.to) (other_live (domains_of c.args.self.now.domains) (domains_of c.open_next.new.domains) c.args.by c.args.to c.args.given (λ e. c.if-number.false (c.number.ensures ∙ sym e ∙ sym c.number-2.ensures)) c.in_ok-number.ensures.opened (live_held (holding c.args.self.now) c.args.by c.requires.from)) (end_held (holding c.args.self.now) c.args.by c.args.fd c.args.given c.requires.sound c.requires.given) c.in_ok-number.ensures.opened c.close_fd.ensures

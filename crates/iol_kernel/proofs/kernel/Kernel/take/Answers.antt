@@ -1,0 +1,36 @@
+use Rattle.iol_desc.specs.Tables.{domains_of}
+use Rattle.std.proofs.Common.{◌∙◌, sym, inl, arith}
+use Rattle.iol_kernel.proofs.Effects.{live_held, few_held, few_live, next_held}
+use Rattle.iol_kernel.proofs.Ends.{there_if_open}
+use Rattle.iol_kernel.proofs.Uses.{queue_covered, countable}
+use Rattle.iol_kernel.proofs.Queueing.{taken-machine, taken_counted, taken-sound, queue_short}
+use Rattle.iol_kernel.specs.Kernel.{holding}
+use Rattle.iol_kernel.proofs.kernel.Kernel.take.Goals as goal
+
+pub take_from-requires-clause-covered : goal.take_from-requires-clause-covered
+take_from-requires-clause-covered c = queue_covered c.args.self.now.store (domains_of c.args.self.now.domains) c.args.self.now.pipes.items c.args.p c.requires.sound.counted (there_if_open c.args.self.now.pipes.items c.args.p (inl c.requires.reading))
+
+pub take_from-requires-clause-countable : goal.take_from-requires-clause-countable
+take_from-requires-clause-countable c = let short = queue_short (holding c.args.self.now) c.args.p c.requires.sound in countable c.args.self.now.store (domains_of c.args.self.now.domains) c.args.self.now.pipes.items _ c.requires.sound.counted c.requires.sound.limits (omega (arith, short))
+
+pub take_from-requires-clause-live : goal.take_from-requires-clause-live
+take_from-requires-clause-live c = live_held (holding c.args.self.now) c.args.by c.requires.live
+
+pub take_from-requires-clause-few : goal.take_from-requires-clause-few
+take_from-requires-clause-few c = few_held (holding c.args.self.now) c.args.by c.requires.few
+
+pub returns-in-Ok-clause-number : goal.returns-in-Ok-clause-number
+returns-in-Ok-clause-number c = c.in-Ok.ensures.number ∙ sym (next_held (holding c.args.self.now) c.args.by)
+
+pub returns-in-Ok-clause-taken : goal.returns-in-Ok-clause-taken
+returns-in-Ok-clause-taken c =
+    let h = holding c.args.self.now in
+    taken-machine h c.take_from.new.store (domains_of c.take_from.new.domains) c.take_from.new.pipes.items c.args.p c.args.by c.args.n c.requires.sound c.requires.reading c.in-Ok.ensures.taken c.in-Ok.ensures.pipes
+    (taken_counted h c.take_from.new.store (domains_of c.take_from.new.domains) c.take_from.new.pipes.items c.args.p c.args.by c.args.n c.requires.sound c.requires.reading c.in-Ok.ensures.taken c.in-Ok.ensures.pipes
+    (live_held h c.args.by c.requires.live) (few_live h c.args.by c.requires.few))
+
+pub returns-in-Ok-clause-sound : goal.returns-in-Ok-clause-sound
+returns-in-Ok-clause-sound c =
+    let h = holding c.args.self.now in
+    taken-sound h c.take_from.new.store (domains_of c.take_from.new.domains) c.take_from.new.pipes.items c.args.p c.args.by c.args.n c.requires.sound c.requires.reading c.in-Ok.ensures.taken c.in-Ok.ensures.pipes
+    (live_held h c.args.by c.requires.live) (few_live h c.args.by c.requires.few)

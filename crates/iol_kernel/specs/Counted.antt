@@ -1,0 +1,30 @@
+-- How often each buffer is held, over all holders.
+use Rattle.std.specs.Prelude.{◌≡◌, ℕ, ◌+◌, List, Option, Some, None, sum_by}
+use Rattle.iol_core.specs.State.{Domain}
+use Rattle.iol_core.specs.declared.numbers.BufId.{BufId}
+use Rattle.iol_hold.specs.Stored.{Stored, count_of}
+use Rattle.iol_hold.specs.Moves.{tally}
+use Rattle.iol_hold.specs.Texts.{bufs_of}
+use Rattle.iol_hold.specs.declared.slices.Slice.{Slice}
+use Rattle.iol_kernel.specs.Seen.{Pipe}
+
+-- how many of the slices are of b
+abbrev pub uses : BufId → List Slice → ℕ
+uses b xs = tally b (bufs_of xs)
+
+-- those in the domain's aggregates
+abbrev pub domain_uses : BufId → Domain (List Slice) → ℕ
+domain_uses b d = sum_by (λ e. uses b e.1) d.aggs
+
+-- those in a pipe's queue
+abbrev pub pipe_uses : BufId → Option (Pipe (List Slice)) → ℕ
+pipe_uses b None = 0
+pipe_uses b (Some p) = uses b p.queue
+
+-- those in all aggregates and queues
+abbrev pub all_uses : List (Domain (List Slice)) → List (Option (Pipe (List Slice))) → BufId → ℕ
+all_uses domains pipes b = sum_by (domain_uses b) domains + sum_by (pipe_uses b) pipes
+
+-- the count of each buffer is the number of its slices, wherever they lie
+pub record IsCounted (s : Stored) (domains : List (Domain (List Slice))) (pipes : List (Option (Pipe (List Slice)))) : Type 0 where
+  pub each : (b : BufId) → count_of s b ≡ all_uses domains pipes b

@@ -1,0 +1,5 @@
+pub mod Seen
+pub mod Counted
+pub mod Holding
+pub mod Kernel
+pub mod Report

@@ -1,9 +1,0 @@
-use Rattle.std.proofs.Common.{◌≡◌, ◌+◌, ◌-◌, ◌≤◌, vec_len, vec_capacity}
-use Rattle.iol_system.specs.Report.{reports_of}
-use Rattle.iol_system.proofs.report.report_pools.Given as goal
-
-abbrev pub invariant-loop-n : goal.invariant-loop-n
-invariant-loop-n l = record {
-  so_far : l.reports.items ≡ reports_of l.store l.n;
-  room : vec_len l.reports + (l.count - l.n) ≤ vec_capacity l.reports;
-}

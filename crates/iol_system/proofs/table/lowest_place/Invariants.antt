@@ -1,6 +1,0 @@
-use Rattle.std.proofs.Common.{◌≡◌, ◌+◌, drop}
-use Rattle.iol_core.specs.Numbered.{lowest}
-use Rattle.iol_system.proofs.table.lowest_place.Given as goal
-
-abbrev pub invariant-loop-i : goal.invariant-loop-i
-invariant-loop-i g l = lowest l.places ≡ l.i + lowest (drop l.i l.places)
