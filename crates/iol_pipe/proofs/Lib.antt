@@ -1,3 +1,4 @@
+pub mod Given
 pub mod Holding
 pub mod Prefixes
 pub mod Shared
