@@ -1,5 +1,5 @@
 -- What a new kernel stands for, and that it is sound.
-use Rattle.std.proofs.Common.{◌≡◌, ℕ, zero, suc, ◌+◌, List, [], ◌∷◌, length, get_or, refl, sym, subst, replicate, arith, ap, ◌∙◌}
+use Rattle.std.proofs.Common.{◌≡◌, ℕ, zero, suc, List, [], ◌∷◌, length, get_or, refl, sym, subst, replicate, arith, ap, ◌∙◌}
 use Rattle.std.specs.Prelude.{Option}
 use Rattle.iol_core.specs.declared.numbers.BufId.{BufId}
 use Rattle.iol_core.specs.State.{new_state, no_slots, new_domain, Domain}

@@ -8,3 +8,4 @@ pub mod Queueing
 pub mod Reports
 pub mod Beginning
 pub mod Stay
+pub mod Sharing

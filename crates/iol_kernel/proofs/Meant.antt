@@ -18,6 +18,7 @@ use Rattle.iol_core.specs.declared.limits.TheConstants.{MAX_AGGREGATES, LAST_AGG
 use Rattle.iol_desc.specs.Tables.{domain_in, with_domain_in, agg_in, with_agg_in, without_agg_in, live_aggs_in, too_many_in, with_fds_in}
 use Rattle.iol_pool.specs.Pools.{Pool, no_pool, pool_in, with_closed}
 use Rattle.iol_hold.specs.Moves.{pool_meant}
+use Rattle.iol_desc.proofs.Rows.{length-domains}
 use Rattle.iol_kernel.specs.Seen.{meant, Pipe, pipe_in, pipe_meant, seen}
 
 numbered_or-map : {A B : Type 0} (f : A → B) (xs : List A) (n : ℕ) (z : A) → numbered_or (map f xs) n (f z) ≡ f (numbered_or xs n z)
@@ -196,4 +197,4 @@ pub ruleset domain_rules = (domain-seen, aggregate-seen, too_many-seen, text-see
 
 pub ruleset pool_rules = (pool-seen, is_pool-seen)
 
-pub ruleset count_rules = (length_domains-seen, length_pools-seen, taken-seen)
+pub ruleset count_rules = (length_domains-seen, length-domains, length_pools-seen, taken-seen)

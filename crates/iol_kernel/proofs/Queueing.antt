@@ -14,8 +14,10 @@ use Rattle.iol_core.specs.declared.descriptors.Descriptor.TheVariants as on
 use Rattle.iol_pool.specs.Pools.{Pool, names_in}
 use Rattle.iol_hold.specs.Stored.{Stored}
 use Rattle.iol_hold.specs.Moves.{Shares, pool_meant}
-use Rattle.iol_hold.specs.Places.{places, byte_len}
-use Rattle.iol_hold.specs.Texts.{text_of, bufs_of, AllReadable}
+use Rattle.iol_hold.specs.Places.{Place, places, byte_len}
+use Rattle.iol_hold.specs.Layout.{read, number_at, layout_text}
+use Rattle.iol_hold.specs.Texts.{byte_at, text_of, bufs_of, AllReadable}
+use Rattle.iol_hold.proofs.AtPlaces.{length-read}
 use Rattle.iol_hold.specs.declared.slices.Slice.{Slice}
 use Rattle.iol_hold.proofs.Counting.{tally-append}
 use Rattle.iol_hold.proofs.Moving.{shares_move}
@@ -48,13 +50,27 @@ queue_held h p = ap (λ (x : machine.Pipe). x.queue) (pipe_held h p)
 pub queue_length : (h : Holding) (p : ℕ) → length (machine.pipe_at (machine_of h) p).queue ≡ byte_len (queue_at h.pipes p).queue
 queue_length h p = ap length (queue_held h p) ∙ length-text_of h.store (queue_at h.pipes p).queue
 
+-- how long an aggregate is, whatever is read at its places
+
+pub length_at : (f : Place → ℕ × ℕ) (ds : List (Domain (List Slice))) (ps : List Pool) (qs : List (Option (Pipe (List Slice)))) (d a : ℕ) (xs : List Slice) → Some xs ≡ agg_in ds d a → length (machine.text (seen (read f) ds ps qs) d a) ≡ byte_len xs
+length_at f ds ps qs d a xs found = ap length (text-seen (read f) ds ps qs d a xs found) ∙ length-read f xs
+
+pub length_nowhere : (f : Place → ℕ × ℕ) (ds : List (Domain (List Slice))) (ps : List Pool) (qs : List (Option (Pipe (List Slice)))) (d a : ℕ) → None ≡ agg_in ds d a → length (machine.text (seen (read f) ds ps qs) d a) ≡ 0
+length_nowhere f ds ps qs d a none = ap (λ (o : Option Text). length (unwrap_or o [])) (aggregate-seen (read f) ds ps qs d a ∙ ap (option_map (read f)) (sym none))
+
 pub length_some : (s : Stored) (ds : List (Domain (List Slice))) (ps : List Pool) (qs : List (Option (Pipe (List Slice)))) (d a : ℕ) (xs : List Slice) → Some xs ≡ agg_in ds d a → length (machine.text (seen (text_of s) ds ps qs) d a) ≡ byte_len xs
-length_some s ds ps qs d a xs found = ap length (text-seen (text_of s) ds ps qs d a xs found) ∙ length-text_of s xs
+length_some s = length_at (byte_at s)
 
 pub length_none : (s : Stored) (ds : List (Domain (List Slice))) (ps : List Pool) (qs : List (Option (Pipe (List Slice)))) (d a : ℕ) → None ≡ agg_in ds d a → length (machine.text (seen (text_of s) ds ps qs) d a) ≡ 0
-length_none s ds ps qs d a none = ap (λ (o : Option Text). length (unwrap_or o [])) (aggregate-seen (text_of s) ds ps qs d a ∙ ap (option_map (text_of s)) (sym none))
+length_none s = length_nowhere (byte_at s)
 
-pub ruleset length_rules = (length_some, length_none, domain-seen)
+pub laid_some : (ds : List (Domain (List Slice))) (ps : List Pool) (qs : List (Option (Pipe (List Slice)))) (d a : ℕ) (xs : List Slice) → Some xs ≡ agg_in ds d a → length (machine.text (seen layout_text ds ps qs) d a) ≡ byte_len xs
+laid_some = length_at number_at
+
+pub laid_none : (ds : List (Domain (List Slice))) (ps : List Pool) (qs : List (Option (Pipe (List Slice)))) (d a : ℕ) → None ≡ agg_in ds d a → length (machine.text (seen layout_text ds ps qs) d a) ≡ 0
+laid_none = length_nowhere number_at
+
+pub ruleset length_rules = (length_some, length_none, laid_some, laid_none, domain-seen)
 
 -- Writing: the queue gets what fits.
 

@@ -3,3 +3,4 @@ pub mod Counted
 pub mod Holding
 pub mod Kernel
 pub mod Report
+pub mod Sharing

@@ -14,12 +14,12 @@ ghost use Rattle.iol_hold.specs.Moves.{Stays};
 ghost use Rattle.iol_kernel.specs.Holding.{machine_of, joined, IsSound, AddsText};
 
 use crate::kernel::Kernel;
-use iol_desc::table::Table;
 use iol_agg::{Agg, Parts};
 use iol_core::limits::MAX_AGGREGATE_BYTES;
 use iol_core::lists::Bytes;
 use iol_core::numbers::{AggId, DomainId, PoolId};
 use iol_core::refusals::Refusal;
+use iol_desc::table::Table;
 use iol_hold::Store;
 use std::alloc::{AllocError, Global};
 

@@ -10,13 +10,13 @@ ghost use Rattle.iol_core.specs.Calls.Descriptors.{with_read_end, too_many_open}
 ghost use Rattle.iol_desc.specs.Tables.{domains_of, domain_in, with_fds_in};
 
 use crate::kernel::{Kernel, Pipe};
-use iol_desc::places::{lowest_place, put};
-use iol_desc::table::Table;
 use iol_agg::Agg;
 use iol_core::descriptors::Descriptor;
 use iol_core::limits::MAX_PIPES;
 use iol_core::numbers::{DomainId, Fd, PipeId};
 use iol_core::refusals::Refusal;
+use iol_desc::places::{lowest_place, put};
+use iol_desc::table::Table;
 use std::alloc::{AllocError, Global};
 
 /// Adds an empty pipe, and opens its ends in a domain.

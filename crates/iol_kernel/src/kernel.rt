@@ -9,16 +9,16 @@ ghost use Rattle.iol_core.specs.Calls.Descriptors.{too_many_open};
 ghost use Rattle.iol_arena.specs.Buffers.{SharesNoPage, live_pages};
 ghost use Rattle.iol_kernel.specs.Report.{reports_of};
 ghost use Rattle.iol_desc.specs.Tables.{domain_in};
-ghost use Rattle.iol_kernel.specs.Holding.{machine_of, IsSound};
+ghost use Rattle.iol_kernel.specs.Holding.{machine_of, layout_of, IsSound};
 
 use crate::report::{Report, report_pools};
-use iol_desc::places::taken_places;
-use iol_desc::table::Table;
 use iol_agg::Agg;
 use iol_core::configuration::Config;
 use iol_core::descriptors::Descriptor;
 use iol_core::numbers::{AggId, DomainId, Fd, PoolId};
 use iol_core::refusals::Refusal;
+use iol_desc::places::taken_places;
+use iol_desc::table::Table;
 use iol_hold::Store;
 use std::alloc::{AllocError, Global};
 use std::marker::Model;
@@ -77,29 +77,32 @@ impl Kernel {
     }
 
     /// Whether a domain is live.
-    #[tactic(auto, using(crate::proofs::Meant::domain_rules), unfolding(crate::specs::Holding::machine_of))]
+    #[tactic(auto, using(crate::proofs::Meant::domain_rules), unfolding(crate::specs::Holding::machine_of, crate::specs::Holding::layout_of))]
     pub fn is_live(&self, d: DomainId) -> bool
-        ensures { result ≡ is_live (machine_of (holding self.now)) d }
+        ensures means { result ≡ is_live (machine_of (holding self.now)) d }
+        ensures laid { result ≡ is_live (layout_of (holding self.now)) d }
     {
         self.domains.live(d)
     }
 
     /// Whether the domain has no such aggregate.
-    #[tactic(auto, using(crate::proofs::Meant::domain_rules), unfolding(crate::specs::Holding::machine_of))]
+    #[tactic(auto, using(crate::proofs::Meant::domain_rules), unfolding(crate::specs::Holding::machine_of, crate::specs::Holding::layout_of))]
     pub fn lacks_agg(&self, d: DomainId, agg: AggId) -> bool
         requires { is_live (machine_of (holding self.now)) d ≡ true }
-        ensures { result ≡ lacks_agg (machine_of (holding self.now)) d agg }
+        ensures means { result ≡ lacks_agg (machine_of (holding self.now)) d agg }
+        ensures laid { result ≡ lacks_agg (layout_of (holding self.now)) d agg }
     {
         self.domains.agg(d, agg).is_none()
     }
 
     /// Whether so many new aggregates, with so many given up, are too many.
-    #[tactic(auto, using(crate::proofs::Meant::domain_rules), unfolding(crate::specs::Holding::machine_of))]
+    #[tactic(auto, using(crate::proofs::Meant::domain_rules), unfolding(crate::specs::Holding::machine_of, crate::specs::Holding::layout_of))]
     pub fn is_too_many(&self, d: DomainId, made: u64, given: u64) -> bool
         requires live { is_live (machine_of (holding self.now)) d ≡ true }
         requires made { made ≤ 2 }
         requires given { given ≤ 2 }
-        ensures { result ≡ too_many_aggs (machine_of (holding self.now)) d made given }
+        ensures means { result ≡ too_many_aggs (machine_of (holding self.now)) d made given }
+        ensures laid { result ≡ too_many_aggs (layout_of (holding self.now)) d made given }
     {
         self.domains.is_too_many(d, made, given)
     }
@@ -114,10 +117,11 @@ impl Kernel {
     }
 
     /// What the domain's descriptor is open on.
-    #[tactic(auto, using(crate::proofs::Meant::domain_rules), unfolding(crate::specs::Holding::machine_of))]
+    #[tactic(auto, using(crate::proofs::Meant::domain_rules), unfolding(crate::specs::Holding::machine_of, crate::specs::Holding::layout_of))]
     pub fn descriptor(&self, d: DomainId, fd: Fd) -> Option<Descriptor>
         requires { is_live (machine_of (holding self.now)) d ≡ true }
-        ensures { result ≡ descriptor (machine_of (holding self.now)) d fd }
+        ensures means { result ≡ descriptor (machine_of (holding self.now)) d fd }
+        ensures laid { result ≡ descriptor (layout_of (holding self.now)) d fd }
     {
         self.domains.descriptor(d, fd)
     }
@@ -181,10 +185,11 @@ impl Kernel {
     }
 
     /// How long a domain's aggregate is.
-    #[tactic(auto, using(crate::proofs::Queueing::length_rules), unfolding(crate::specs::Holding::machine_of))]
+    #[tactic(auto, using(crate::proofs::Queueing::length_rules), unfolding(crate::specs::Holding::machine_of, crate::specs::Holding::layout_of))]
     pub fn agg_len(&self, d: DomainId, agg: AggId) -> u32
         requires { is_live (machine_of (holding self.now)) d ≡ true }
-        ensures { result ≡ length (text (machine_of (holding self.now)) d agg) }
+        ensures means { result ≡ length (text (machine_of (holding self.now)) d agg) }
+        ensures laid { result ≡ length (text (layout_of (holding self.now)) d agg) }
     {
         match self.domains.agg(d, agg) {
             Some(found) => found.len(),

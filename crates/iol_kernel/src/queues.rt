@@ -17,12 +17,12 @@ ghost use Rattle.iol_desc.specs.Tables.{domains_of, domain_in};
 ghost use Rattle.iol_kernel.specs.Holding.{queue_at, TakesFront};
 
 use crate::kernel::{Kernel, Pipe};
-use iol_desc::table::Table;
 use iol_agg::Agg;
 use iol_core::descriptors::Descriptor;
 use iol_core::limits::MAX_QUEUE_BYTES;
 use iol_core::numbers::{AggId, DomainId, Fd, PipeId, PoolId};
 use iol_core::refusals::Refusal;
+use iol_desc::table::Table;
 use iol_hold::Store;
 use std::alloc::{AllocError, Global};
 

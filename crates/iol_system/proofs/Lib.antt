@@ -1,12 +1,2 @@
-pub mod Places
-pub mod Meant
-pub mod Uses
-pub mod Sound
-pub mod Ends
-pub mod Effects
-pub mod Pipes
-pub mod Queueing
 pub mod Runs
-pub mod Reports
-pub mod Stay
 pub mod Safe

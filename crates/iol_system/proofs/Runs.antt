@@ -19,8 +19,8 @@ use Rattle.iol_hold.specs.declared.slices.Slice.{Slice}
 use Rattle.iol_hold.specs.Texts.{text_of}
 use Rattle.iol_system.specs.Room.{IsNoRoom}
 use Rattle.iol_pool.specs.Pools.{Pool}
-use Rattle.iol_system.specs.Seen.{Pipe, seen}
-use Rattle.iol_system.specs.Holding.{Holding, machine_of, IsSound}
+use Rattle.iol_kernel.specs.Seen.{Pipe, seen}
+use Rattle.iol_kernel.specs.Holding.{Holding, machine_of, IsSound}
 
 Run-push : (old mid new : State) (es : List Event) (rs : List Reply) (e : Event) (r : Reply) → Run old es rs mid → StepsTo mid e r new → Run old (es ++ e ∷ []) (rs ++ r ∷ []) new
 Run-push old mid new [] [] e r run step = (new, subst (λ (s : State). StepsTo s e r new) run step, refl)

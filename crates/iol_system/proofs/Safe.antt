@@ -8,7 +8,8 @@ use Rattle.iol_core.specs.declared.events.Event.{Event}
 use Rattle.iol_core.specs.declared.events.Reply.{Reply}
 use Rattle.iol_core.proofs.Access.{access_run, access_new}
 use Rattle.iol_core.proofs.Values.{values_run}
-use Rattle.iol_system.specs.Holding.{Holding, machine_of, IsSound, IsSafe}
+use Rattle.iol_kernel.specs.Holding.{Holding, machine_of, IsSound}
+use Rattle.iol_system.specs.Safe.{IsSafe}
 use Rattle.iol_system.specs.Values.{ValuesStayOver}
 
 pub new_safe : (h : Holding) → IsSound h → machine_of h ≡ new_state no_slots → IsSafe h

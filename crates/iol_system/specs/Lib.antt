@@ -1,8 +1,4 @@
-pub mod Tables
-pub mod Seen
-pub mod Counted
-pub mod Holding
+pub mod Safe
+pub mod Shared
 pub mod Room
-pub mod Kernel
-pub mod Report
 pub mod Values

@@ -10,7 +10,7 @@ use Rattle.iol_core.specs.declared.events.Reply.TheVariants as reply
 use Rattle.iol_core.specs.declared.refusals.Refusal.TheVariants.{NoRoom}
 use Rattle.iol_arena.specs.Chunks.{free_chunks}
 use Rattle.iol_hold.specs.Room.{has_room}
-use Rattle.iol_system.specs.Holding.{Holding, machine_of}
+use Rattle.iol_kernel.specs.Holding.{Holding, machine_of}
 
 -- whether a call's pages, or its chunks, are there
 abbrev pub call_fits : Holding → (by : ℕ) → Call → Bool

@@ -2,14 +2,16 @@
 ghost use Rattle.std.specs.Prelude.{◌≡◌, true, false, IfOk, OnErr};
 ghost use Rattle.iol_core.specs.Run.{StepsTo, Run};
 ghost use Rattle.iol_hold.specs.Moves.{Stays};
-ghost use Rattle.iol_system.specs.Holding.{machine_of, IsSound};
+ghost use Rattle.iol_kernel.specs.Holding.{machine_of, IsSound};
+ghost use Rattle.iol_core.specs.Sharing.{is_sharing};
+ghost use Rattle.iol_system.specs.Shared.{Shared};
 ghost use Rattle.iol_system.specs.Room.{fits, IsDone, IsNoRoom};
-ghost use Rattle.iol_system.specs.Kernel.{holding};
+ghost use Rattle.iol_kernel.specs.Kernel.{holding};
 
-use crate::kernel::Kernel;
+use iol_kernel::kernel::Kernel;
 use iol_core::events::{Call, Event, Reply};
 use iol_core::numbers::DomainId;
-use std::alloc::AllocError;
+use std::alloc::{AllocError, Global};
 
 /// Carries out one call of a domain.
 fn make_call(kernel: &mut Kernel, by: DomainId, call: &Call) -> Reply
@@ -17,12 +19,17 @@ fn make_call(kernel: &mut Kernel, by: DomainId, call: &Call) -> Reply
     ensures step { StepsTo (machine_of (holding kernel.old)) (Event.Call by call.now) result (machine_of (holding kernel.new)) }
     ensures room { IsDone result → fits (holding kernel.old) (Event.Call by call.now) ≡ true }
     ensures no_room { IsNoRoom result → fits (holding kernel.old) (Event.Call by call.now) ≡ false }
+    ensures shares { is_sharing (Event.Call by call.now) ≡ true → Shared (holding kernel.old) (Event.Call by call.now) result (holding kernel.new) }
     ensures sound { IsSound (holding kernel.new) }
     ensures stays { Stays (holding kernel.old).store (holding kernel.new).store }
 {
     match call {
         Call::DomainNew => match kernel.domain_new(by) {
             Ok(domain) => Reply::Domain(domain),
+            Err(refusal) => Reply::Refused(refusal),
+        },
+        Call::Exit => match kernel.exit(by) {
+            Ok(()) => Reply::Done,
             Err(refusal) => Reply::Refused(refusal),
         },
         Call::PoolCreate { chunks, domains } => match kernel.pool_create(by, *chunks, domains) {
@@ -41,8 +48,37 @@ fn make_call(kernel: &mut Kernel, by: DomainId, call: &Call) -> Reply
             Ok(agg) => Reply::Agg(agg),
             Err(refusal) => Reply::Refused(refusal),
         },
+        Call::AggDup { agg } => match kernel.agg_dup(by, *agg) {
+            Ok(agg) => Reply::Agg(agg),
+            Err(refusal) => Reply::Refused(refusal),
+        },
+        Call::AggCut { agg, from, to } => match kernel.agg_cut(by, *agg, *from, *to) {
+            Ok(agg) => Reply::Agg(agg),
+            Err(refusal) => Reply::Refused(refusal),
+        },
+        Call::AggSplit { agg, at } => match kernel.agg_split(by, *agg, *at) {
+            Ok((before, rest)) => Reply::Aggs(before, rest),
+            Err(refusal) => Reply::Refused(refusal),
+        },
+        Call::AggJoin { first, second } => match kernel.agg_join(by, *first, *second) {
+            Ok(agg) => Reply::Agg(agg),
+            Err(refusal) => Reply::Refused(refusal),
+        },
+        Call::AggReplace {
+            agg,
+            from,
+            to,
+            with,
+        } => match kernel.agg_replace(by, *agg, *from, *to, *with) {
+            Ok(agg) => Reply::Agg(agg),
+            Err(refusal) => Reply::Refused(refusal),
+        },
         Call::AggDrop { agg } => match kernel.agg_drop(by, *agg) {
             Ok(()) => Reply::Done,
+            Err(refusal) => Reply::Refused(refusal),
+        },
+        Call::AggGive { agg, to } => match kernel.agg_give(by, *agg, *to) {
+            Ok(agg) => Reply::Agg(agg),
             Err(refusal) => Reply::Refused(refusal),
         },
         Call::Show { agg } => match kernel.show(by, *agg) {
@@ -55,6 +91,10 @@ fn make_call(kernel: &mut Kernel, by: DomainId, call: &Call) -> Reply
         },
         Call::GiveFd { fd, to } => match kernel.give_fd(by, *fd, *to) {
             Ok(fd) => Reply::Fd(fd),
+            Err(refusal) => Reply::Refused(refusal),
+        },
+        Call::Close { fd } => match kernel.close(by, *fd) {
+            Ok(()) => Reply::Done,
             Err(refusal) => Reply::Refused(refusal),
         },
         Call::IolRead { fd, count } => match kernel.iol_read(by, *fd, *count) {
@@ -74,6 +114,7 @@ pub(crate) fn carry_out(kernel: &mut Kernel, event: &Event) -> Reply
     ensures step { StepsTo (machine_of (holding kernel.old)) event.now result (machine_of (holding kernel.new)) }
     ensures room { IsDone result → fits (holding kernel.old) event.now ≡ true }
     ensures no_room { IsNoRoom result → fits (holding kernel.old) event.now ≡ false }
+    ensures shares { is_sharing event.now ≡ true → Shared (holding kernel.old) event.now result (holding kernel.new) }
     ensures sound { IsSound (holding kernel.new) }
     ensures stays { Stays (holding kernel.old).store (holding kernel.new).store }
 {
@@ -83,15 +124,19 @@ pub(crate) fn carry_out(kernel: &mut Kernel, event: &Event) -> Reply
 }
 
 /// Carries out events in order. The room for the replies comes first.
-#[tactic(auto, using(crate::proofs::Stay::stay_rules))]
-pub(crate) fn run_all(kernel: &mut Kernel, events: &[Event]) -> Result<Vec<Reply>, AllocError>
+#[tactic(auto, using(iol_kernel::proofs::Stay::stay_rules))]
+pub(crate) fn run_all(
+    alloc: Global,
+    kernel: &mut Kernel,
+    events: &[Event],
+) -> Result<Vec<Reply>, AllocError>
     requires { IsSound (holding kernel.old) }
     ensures run { IfOk result (λ replies. Run (machine_of (holding kernel.old)) events.now replies.items (machine_of (holding kernel.new))) }
     ensures err { OnErr result (kernel.new ≡ kernel.old) }
     ensures sound { IsSound (holding kernel.new) }
     ensures stays { Stays (holding kernel.old).store (holding kernel.new).store }
 {
-    let mut replies = Vec::with_capacity(kernel.alloc, events.len())?;
+    let mut replies = Vec::with_capacity(alloc, events.len())?;
     for event in events {
         let reply = carry_out(kernel, event);
         replies.push_reserved(reply);

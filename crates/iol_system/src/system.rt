@@ -6,15 +6,18 @@ ghost use Rattle.iol_core.specs.Run.{StepsTo, Run};
 ghost use Rattle.iol_core.specs.Values.{ValuesStay};
 ghost use Rattle.iol_system.specs.Values.{ValuesStayOver};
 ghost use Rattle.iol_hold.specs.Moves.{Stays};
-ghost use Rattle.iol_system.specs.Holding.{machine_of, joined, IsSafe};
+ghost use Rattle.iol_kernel.specs.Holding.{machine_of, joined};
+ghost use Rattle.iol_system.specs.Safe.{IsSafe};
+ghost use Rattle.iol_system.specs.Shared.{Shared};
+ghost use Rattle.iol_core.specs.Sharing.{is_sharing};
 ghost use Rattle.iol_core.specs.Meaning.{first};
 ghost use Rattle.iol_core.specs.Calls.Aggregates.{show};
-ghost use Rattle.iol_system.specs.Report.{reports_of};
+ghost use Rattle.iol_kernel.specs.Report.{reports_of};
 ghost use Rattle.iol_arena.specs.Buffers.{SharesNoPage, live_pages};
 ghost use Rattle.iol_system.specs.Room.{fits, IsDone, IsNoRoom};
 
-use crate::kernel::Kernel;
-use crate::report::Report;
+use iol_kernel::kernel::Kernel;
+use iol_kernel::report::Report;
 use crate::step::{carry_out, run_all};
 use iol_agg::Parts;
 use iol_core::configuration::Config;
@@ -27,19 +30,21 @@ use std::marker::Model;
 /// A system of domains that share buffers: what it answers is what a machine that copies at every call would.
 #[derive(Drop)]
 pub struct System {
+    alloc: Global,
     kernel: Kernel,
 }
 
 impl Model for System {
-    ghost use Rattle.iol_system.specs.Holding as held;
+    ghost use Rattle.iol_kernel.specs.Holding as held;
+    ghost use Rattle.iol_system.specs.Safe.{IsSafe};
 
     ghost Value = { held.Holding };
 
-    ghost use Rattle.iol_system.specs.Kernel.{holding};
+    ghost use Rattle.iol_kernel.specs.Kernel.{holding};
 
     ghost view = { λ s. holding s.kernel };
 
-    ghost invariant = { λ s. held.IsSafe (holding s.kernel) };
+    ghost invariant = { λ s. IsSafe (holding s.kernel) };
 }
 
 impl System {
@@ -51,7 +56,7 @@ impl System {
         ensures safe { IfOk result IsSafe }
     {
         let kernel = Kernel::new(alloc, config)?;
-        Ok(System { kernel })
+        Ok(System { alloc, kernel })
     }
 
     /// The bytes of a domain's aggregate, where they lie. Nothing is copied, and no memory is taken.
@@ -80,6 +85,9 @@ impl System {
         ensures room { IsDone result → fits self.old event ≡ true }
         ensures no_room { IsNoRoom result → fits self.old event ≡ false }
 
+        // What a sharing call makes lies where its arguments lay, and no page is published or freed.
+        ensures shares { is_sharing event ≡ true → Shared self.old event result self.new }
+
         // Counts are those of the slices, no page is lost, and what a domain has it may read.
         ensures safe { IsSafe self.new }
 
@@ -98,6 +106,6 @@ impl System {
         ensures values { OnOk result (ValuesStayOver (machine_of self.old) events.now (machine_of self.new)) }
         ensures err { OnErr result (self.new ≡ self.old) }
     {
-        run_all(&mut self.kernel, events)
+        run_all(self.alloc, &mut self.kernel, events)
     }
 }

@@ -1,6 +1,6 @@
 //! The lines that replies and reports are printed as.
 use iol_core::events::Reply;
-use iol_system::report::Report;
+use iol_kernel::report::Report;
 use percent_encoding::{AsciiSet, CONTROLS, ascii_set, percent_encode};
 use std::fmt;
 

@@ -1,8 +1,8 @@
 use Rattle.std.proofs.Common.{◌≡◌, ◌≤◌, take, length, vec_len, vec_capacity}
 use Rattle.iol_core.specs.Run.{Run}
 use Rattle.iol_hold.specs.Moves.{Stays}
-use Rattle.iol_system.specs.Holding.{machine_of, IsSound}
-use Rattle.iol_system.specs.Kernel.{holding}
+use Rattle.iol_kernel.specs.Holding.{machine_of, IsSound}
+use Rattle.iol_kernel.specs.Kernel.{holding}
 use Rattle.iol_system.proofs.step.run_all.Given as goal
 
 abbrev pub invariant-loop-event : goal.invariant-loop-event

@@ -6,19 +6,19 @@ use Rattle.iol_kernel.proofs.Queueing.{none_held}
 use Rattle.iol_kernel.proofs.Uses.{agg_covered}
 use Rattle.iol_kernel.proofs.kernel.Kernel.give_up.Goals as goal
 
-pub take-given-requires-clause-live : goal.take-given-requires-clause-live
-take-given-requires-clause-live c = live_held (holding c.args.self.now) c.args.by c.requires.live
+pub take_agg-given-requires-clause-live : goal.take_agg-given-requires-clause-live
+take_agg-given-requires-clause-live c = live_held (holding c.args.self.now) c.args.by c.requires.live
 
-pub take-given-requires-clause-there : goal.take-given-requires-clause-there
-take-given-requires-clause-there c = λ none. (let lacks = none_held (holding c.args.self.now) c.args.by c.args.agg (sym none) in let there = c.requires.there in cc (lacks, there))
+pub take_agg-given-requires-clause-there : goal.take_agg-given-requires-clause-there
+take_agg-given-requires-clause-there c = λ none. (let lacks = none_held (holding c.args.self.now) c.args.by c.args.agg (sym none) in let there = c.requires.there in cc (lacks, there))
 
 pub release-requires : goal.release-requires
-release-requires c = agg_covered c.args.self.now.store (domains_of c.args.self.now.domains) c.args.self.now.pipes.items c.args.by c.args.agg c.take-given.result c.requires.sound.counted (live_held (holding c.args.self.now) c.args.by c.requires.live) c.take-given.ensures.given
+release-requires c = agg_covered c.args.self.now.store (domains_of c.args.self.now.domains) c.args.self.now.pipes.items c.args.by c.args.agg c.take_agg-given.result c.requires.sound.counted (live_held (holding c.args.self.now) c.args.by c.requires.live) c.take_agg-given.ensures.given
 
 pub returns-clause-given : goal.returns-clause-given
-returns-clause-given c = dropped-machine (holding c.args.self.now) c.release.new.store (domains_of c.take-given.new.domains) c.args.by c.args.agg c.take-given.result c.requires.sound
-    (live_held (holding c.args.self.now) c.args.by c.requires.live) c.take-given.ensures.given c.take-given.ensures.rest c.release.ensures.moves c.release.ensures.lists
+returns-clause-given c = dropped-machine (holding c.args.self.now) c.release.new.store (domains_of c.take_agg-given.new.self) c.args.by c.args.agg c.take_agg-given.result c.requires.sound
+    (live_held (holding c.args.self.now) c.args.by c.requires.live) c.take_agg-given.ensures.given c.take_agg-given.ensures.rest c.release.ensures.moves c.release.ensures.lists
 
 pub returns-clause-sound : goal.returns-clause-sound
-returns-clause-sound c = dropped-sound (holding c.args.self.now) c.release.new.store (domains_of c.take-given.new.domains) c.args.by c.args.agg c.take-given.result c.requires.sound
-    (live_held (holding c.args.self.now) c.args.by c.requires.live) c.take-given.ensures.given c.take-given.ensures.rest c.release.ensures.moves c.release.ensures.lists
+returns-clause-sound c = dropped-sound (holding c.args.self.now) c.release.new.store (domains_of c.take_agg-given.new.self) c.args.by c.args.agg c.take_agg-given.result c.requires.sound
+    (live_held (holding c.args.self.now) c.args.by c.requires.live) c.take_agg-given.ensures.given c.take_agg-given.ensures.rest c.release.ensures.moves c.release.ensures.lists

@@ -7,29 +7,29 @@ use Rattle.iol_core.specs.declared.descriptors.Descriptor.{Descriptor}
 use Rattle.iol_kernel.specs.Kernel.{holding}
 use Rattle.iol_kernel.proofs.kernel.Kernel.move_fd.Goals as goal
 
-pub move_within-requires-clause-live : goal.move_within-requires-clause-live
-move_within-requires-clause-live c = live_held (holding c.args.self.now) c.args.by c.requires.from
+pub move_fd-requires-clause-live : goal.move_fd-requires-clause-live
+move_fd-requires-clause-live c = live_held (holding c.args.self.now) c.args.by c.requires.from
 
-pub move_within-requires-clause-open : goal.move_within-requires-clause-open
-move_within-requires-clause-open c = not_none _ _ c.args.given c.requires.given (sym (descriptor_held (holding c.args.self.now) c.args.by c.args.fd))
+pub move_fd-requires-clause-there : goal.move_fd-requires-clause-there
+move_fd-requires-clause-there c = not_none _ _ c.args.given c.requires.given (sym (descriptor_held (holding c.args.self.now) c.args.by c.args.fd))
 
 pub returns-then-number-clause-any : goal.returns-then-number-clause-any
 returns-then-number-clause-any c = any_end (holding c.args.self.now) _ c.args.to c.args.given (end_held (holding c.args.self.now) c.args.by c.args.fd c.args.given c.requires.sound c.requires.given)
 
 pub returns-then-number-clause-number : goal.returns-then-number-clause-number
-returns-then-number-clause-number c = moved_within-number (holding c.args.self.now) c.args.by c.args.fd c.args.to _ (sym c.number.ensures ∙ c.if-number.true ∙ c.number-2.ensures) c.move_within.ensures.number
+returns-then-number-clause-number c = moved_within-number (holding c.args.self.now) c.args.by c.args.fd c.args.to _ (sym c.number.ensures ∙ c.if-number.true ∙ c.number-2.ensures) c.move_fd.ensures.number
 
 pub returns-then-number-clause-moved : goal.returns-then-number-clause-moved
-returns-then-number-clause-moved c = moved_within-machine (holding c.args.self.now) (domains_of c.move_within.new.domains) c.args.by c.args.fd c.args.to c.args.given (sym c.number.ensures ∙ c.if-number.true ∙ c.number-2.ensures) c.move_within.ensures.moved
+returns-then-number-clause-moved c = moved_within-machine (holding c.args.self.now) (domains_of c.move_fd.new.self) c.args.by c.args.fd c.args.to c.args.given (sym c.number.ensures ∙ c.if-number.true ∙ c.number-2.ensures) c.move_fd.ensures.moved
 
 pub returns-then-number-clause-sound : goal.returns-then-number-clause-sound
-returns-then-number-clause-sound c = moved_within-sound (holding c.args.self.now) (domains_of c.move_within.new.domains) c.args.by c.args.fd c.args.given c.requires.sound (live_held (holding c.args.self.now) c.args.by c.requires.from) (end_held (holding c.args.self.now) c.args.by c.args.fd c.args.given c.requires.sound c.requires.given) c.move_within.ensures.moved
+returns-then-number-clause-sound c = moved_within-sound (holding c.args.self.now) (domains_of c.move_fd.new.self) c.args.by c.args.fd c.args.given c.requires.sound (live_held (holding c.args.self.now) c.args.by c.requires.from) (end_held (holding c.args.self.now) c.args.by c.args.fd c.args.given c.requires.sound c.requires.given) c.move_fd.ensures.moved
 
-pub open_next-requires-clause-live : goal.open_next-requires-clause-live
-open_next-requires-clause-live c = live_held (holding c.args.self.now) c.args.to c.requires.to
+pub add_fd-requires-clause-live : goal.add_fd-requires-clause-live
+add_fd-requires-clause-live c = live_held (holding c.args.self.now) c.args.to c.requires.to
 
-pub open_next-requires-clause-few : goal.open_next-requires-clause-few
-open_next-requires-clause-few c =
+pub add_fd-requires-clause-few : goal.add_fd-requires-clause-few
+add_fd-requires-clause-few c =
     let differ : c.args.by ≢ c.args.to = λ e. c.if-number.false (c.number.ensures ∙ e ∙ sym c.number-2.ensures) in
     let few = few_to (holding c.args.self.now) c.args.by c.args.to differ c.requires.few in
     omega (arith, few)
@@ -37,14 +37,14 @@ open_next-requires-clause-few c =
 pub returns-in_err-number-clause-any : goal.returns-in_err-number-clause-any
 returns-in_err-number-clause-any c = any_end (holding c.args.self.now) _ c.args.to c.args.given (end_held (holding c.args.self.now) c.args.by c.args.fd c.args.given c.requires.sound c.requires.given)
 
-pub close_fd-requires-clause-live : goal.close_fd-requires-clause-live
-close_fd-requires-clause-live c =
-    other_live (domains_of c.args.self.now.domains) (domains_of c.open_next.new.domains) c.args.by c.args.to c.args.given (λ e. c.if-number.false (c.number.ensures ∙ sym e ∙ sym c.number-2.ensures)) c.in_ok-number.ensures.opened (live_held (holding c.args.self.now) c.args.by c.requires.from)
+pub take_fd-requires-clause-live : goal.take_fd-requires-clause-live
+take_fd-requires-clause-live c =
+    other_live (domains_of c.args.self.now.domains) (domains_of c.add_fd.new.self) c.args.by c.args.to c.args.given (λ e. c.if-number.false (c.number.ensures ∙ sym e ∙ sym c.number-2.ensures)) c.in_ok-number.ensures.opened (live_held (holding c.args.self.now) c.args.by c.requires.from)
 
-pub close_fd-requires-clause-open : goal.close_fd-requires-clause-open
-close_fd-requires-clause-open c =
+pub take_fd-requires-clause-there : goal.take_fd-requires-clause-there
+take_fd-requires-clause-there c =
     not_none _ _ c.args.given c.requires.given
-    (ap (λ (xs : List (Option Descriptor)). slice_index_or xs c.args.fd None) (other_fds (domains_of c.args.self.now.domains) (domains_of c.open_next.new.domains) c.args.by c.args.to c.args.given (λ e. c.if-number.false (c.number.ensures ∙ sym e ∙ sym c.number-2.ensures)) c.in_ok-number.ensures.opened)
+    (ap (λ (xs : List (Option Descriptor)). slice_index_or xs c.args.fd None) (other_fds (domains_of c.args.self.now.domains) (domains_of c.add_fd.new.self) c.args.by c.args.to c.args.given (λ e. c.if-number.false (c.number.ensures ∙ sym e ∙ sym c.number-2.ensures)) c.in_ok-number.ensures.opened)
     ∙ sym (descriptor_held (holding c.args.self.now) c.args.by c.args.fd))
 
 pub returns-clause-any : goal.returns-clause-any
@@ -54,7 +54,7 @@ pub returns-clause-number : goal.returns-clause-number
 returns-clause-number c = moved_across-number (holding c.args.self.now) c.args.by c.args.fd c.args.to _ (λ e. c.if-number.false (c.number.ensures ∙ e ∙ sym c.number-2.ensures)) c.in_ok-number.ensures.number
 
 pub returns-clause-moved : goal.returns-clause-moved
-returns-clause-moved c = moved_across-machine (holding c.args.self.now) (domains_of c.open_next.new.domains) (domains_of c.close_fd.new.domains) c.args.by c.args.fd c.args.to c.args.given (λ e. c.if-number.false (c.number.ensures ∙ e ∙ sym c.number-2.ensures)) c.in_ok-number.ensures.opened c.close_fd.ensures
+returns-clause-moved c = moved_across-machine (holding c.args.self.now) (domains_of c.add_fd.new.self) (domains_of c.take_fd.new.self) c.args.by c.args.fd c.args.to c.args.given (λ e. c.if-number.false (c.number.ensures ∙ e ∙ sym c.number-2.ensures)) c.in_ok-number.ensures.opened c.take_fd.ensures
 
 pub returns-clause-sound : goal.returns-clause-sound
-returns-clause-sound c = moved_across-sound (holding c.args.self.now) (domains_of c.open_next.new.domains) (domains_of c.close_fd.new.domains) c.args.by c.args.fd c.args.to c.args.given c.requires.sound (live_held (holding c.args.self.now) c.args.to c.requires.to) (other_live (domains_of c.args.self.now.domains) (domains_of c.open_next.new.domains) c.args.by c.args.to c.args.given (λ e. c.if-number.false (c.number.ensures ∙ sym e ∙ sym c.number-2.ensures)) c.in_ok-number.ensures.opened (live_held (holding c.args.self.now) c.args.by c.requires.from)) (end_held (holding c.args.self.now) c.args.by c.args.fd c.args.given c.requires.sound c.requires.given) c.in_ok-number.ensures.opened c.close_fd.ensures
+returns-clause-sound c = moved_across-sound (holding c.args.self.now) (domains_of c.add_fd.new.self) (domains_of c.take_fd.new.self) c.args.by c.args.fd c.args.to c.args.given c.requires.sound (live_held (holding c.args.self.now) c.args.to c.requires.to) (other_live (domains_of c.args.self.now.domains) (domains_of c.add_fd.new.self) c.args.by c.args.to c.args.given (λ e. c.if-number.false (c.number.ensures ∙ sym e ∙ sym c.number-2.ensures)) c.in_ok-number.ensures.opened (live_held (holding c.args.self.now) c.args.by c.requires.from)) (end_held (holding c.args.self.now) c.args.by c.args.fd c.args.given c.requires.sound c.requires.given) c.in_ok-number.ensures.opened c.take_fd.ensures

@@ -1,8 +1,5 @@
-use Rattle.std.proofs.Common.{◌∙◌, sym, ap, List}
+use Rattle.std.proofs.Common.{◌∙◌, sym, ap}
 use Rattle.iol_core.specs.Text.{bytes_of}
-use Rattle.iol_core.specs.State.{Domain}
-use Rattle.iol_hold.specs.declared.slices.Slice.{Slice}
-use Rattle.iol_desc.specs.Tables.{agg_in, domain_in}
 use Rattle.iol_kernel.proofs.Effects.{live_held}
 use Rattle.iol_kernel.proofs.Sound.{agg_readable}
 use Rattle.iol_agg.proofs.Partwise.{flat_map-parts_of}
@@ -11,21 +8,21 @@ use Rattle.iol_kernel.proofs.Queueing.{text_held, none_held}
 use Rattle.iol_kernel.specs.Kernel.{holding}
 use Rattle.iol_kernel.proofs.kernel.Kernel.parts_of.Goals as goal
 
-pub get-requires : goal.get-requires
-get-requires c = record { live = ap (λ (ds : List (Domain (List Slice))). (domain_in ds c.args.by).live) c.deref.ensures.value ∙ live_held (holding c.args.self.now) c.args.by c.requires.live }
+pub agg-requires : goal.agg-requires
+agg-requires c = live_held (holding c.args.self.now) c.args.by c.requires.live
 
 pub unreachable-requires : goal.unreachable-requires
 unreachable-requires c =
-    let none = none_held (holding c.args.self.now) c.args.by c.args.agg (c.in_default.ensures ∙ ap (λ (ds : List (Domain (List Slice))). agg_in ds c.args.by c.args.agg) c.deref.ensures.value) in
+    let none = none_held (holding c.args.self.now) c.args.by c.args.agg (c.in_default.ensures) in
     let no = sym none ∙ c.requires.there in
     cc
 
 pub parts-requires : goal.parts-requires
-parts-requires c = agg_readable (holding c.args.self.now) c.args.by c.args.agg c.in-Some.found.now c.requires.sound (c.in-Some.ensures ∙ ap (λ (ds : List (Domain (List Slice))). agg_in ds c.args.by c.args.agg) c.deref.ensures.value)
+parts-requires c = agg_readable (holding c.args.self.now) c.args.by c.args.agg c.in-Some.found.now c.requires.sound (c.in-Some.ensures)
 
 pub returns : goal.returns
 returns c =
-    let found = c.in-Some.ensures ∙ ap (λ (ds : List (Domain (List Slice))). agg_in ds c.args.by c.args.agg) c.deref.ensures.value in
+    let found = c.in-Some.ensures in
     ap joined c.parts.ensures
     ∙ flat_map-parts_of c.args.self.now.store c.in-Some.found.now (agg_readable (holding c.args.self.now) c.args.by c.args.agg c.in-Some.found.now c.requires.sound found)
     ∙ ap bytes_of (text_held (holding c.args.self.now) c.args.by c.args.agg c.in-Some.found.now found)

@@ -1,8 +1,6 @@
-use Rattle.std.proofs.Common.{◌≡◌, ℕ, ◌+◌, ◌≤◌, ◌∙◌, sym, ap, List, arith, take, length-append}
-use Rattle.iol_hold.specs.declared.slices.Slice.{Slice}
+use Rattle.std.proofs.Common.{◌≡◌, ℕ, ◌+◌, ◌≤◌, ◌∙◌, sym, ap, arith, take, length-append}
 use Rattle.iol_hold.specs.Places.{byte_len}
-use Rattle.iol_core.specs.State.{Domain}
-use Rattle.iol_desc.specs.Tables.{domains_of, agg_in, domain_in}
+use Rattle.iol_desc.specs.Tables.{domains_of}
 use Rattle.iol_kernel.specs.Holding.{queue_at}
 use Rattle.iol_kernel.proofs.Effects.{live_held}
 use Rattle.iol_hold.specs.Places.{places}
@@ -17,30 +15,30 @@ use Rattle.std.proofs.Common.{length}
 use Rattle.iol_kernel.specs.Kernel.{holding}
 use Rattle.iol_kernel.proofs.kernel.Kernel.push.Goals as goal
 
-pub get-requires : goal.get-requires
-get-requires c = record { live = ap (λ (ds : List (Domain (List Slice))). (domain_in ds c.args.by).live) c.deref.ensures.value ∙ live_held (holding c.args.self.now) c.args.by c.requires.live }
+pub agg-requires : goal.agg-requires
+agg-requires c = live_held (holding c.args.self.now) c.args.by c.requires.live
 
 pub unreachable-requires : goal.unreachable-requires
 unreachable-requires c =
-    let none = none_held (holding c.args.self.now) c.args.by c.args.agg (c.in_default.ensures ∙ ap (λ (ds : List (Domain (List Slice))). agg_in ds c.args.by c.args.agg) c.deref.ensures.value) in
+    let none = none_held (holding c.args.self.now) c.args.by c.args.agg (c.in_default.ensures) in
     let no = sym none ∙ c.requires.there in
     cc
 
 pub returns-in-Ok-clause-taken : goal.returns-in-Ok-clause-taken
 returns-in-Ok-clause-taken c =
-    let found = c.in-Some.ensures ∙ ap (λ (ds : List (Domain (List Slice))). agg_in ds c.args.by c.args.agg) c.deref.ensures.value in
+    let found = c.in-Some.ensures in
     c.in-Ok.ensures.taken
     ∙ ap (λ n. min n (65536 - byte_len (queue_at c.args.self.now.pipes.items c.args.p).queue)) (sym (length_held (holding c.args.self.now) c.args.by c.args.agg c.in-Some.found.now found))
     ∙ ap (λ n. min (length (text (machine_of (holding c.args.self.now)) c.args.by c.args.agg)) (65536 - n)) (sym (queue_length (holding c.args.self.now) c.args.p))
 
 pub push_to-requires-clause-covered : goal.push_to-requires-clause-covered
 push_to-requires-clause-covered c =
-    let found = c.in-Some.ensures ∙ ap (λ (ds : List (Domain (List Slice))). agg_in ds c.args.by c.args.agg) c.deref.ensures.value in
+    let found = c.in-Some.ensures in
     agg_covered c.args.self.now.store (domains_of c.args.self.now.domains) c.args.self.now.pipes.items c.args.by c.args.agg c.in-Some.found.now c.requires.sound.counted (live_held (holding c.args.self.now) c.args.by c.requires.live) found
 
 pub push_to-requires-clause-countable : goal.push_to-requires-clause-countable
 push_to-requires-clause-countable c =
-    let found = c.in-Some.ensures ∙ ap (λ (ds : List (Domain (List Slice))). agg_in ds c.args.by c.args.agg) c.deref.ensures.value in
+    let found = c.in-Some.ensures in
     countable c.args.self.now.store (domains_of c.args.self.now.domains) c.args.self.now.pipes.items c.in-Some.found.now c.requires.sound.counted c.requires.sound.limits (agg_small (holding c.args.self.now) c.args.by c.args.agg c.in-Some.found.now c.requires.sound found)
 
 -- what fits keeps the queue within its bound
@@ -53,7 +51,7 @@ returns-in-Ok-clause-pushed c =
     let qs = c.push_to.new.pipes.items in
     let p = c.args.p in
     let from = c.in-Some.found.now in
-    let found = c.in-Some.ensures ∙ ap (λ (ds : List (Domain (List Slice))). agg_in ds c.args.by c.args.agg) c.deref.ensures.value in
+    let found = c.in-Some.ensures in
     let bound = short (byte_len (queue_at h.pipes p).queue) (byte_len (queue_at qs p).queue) (byte_len from) c.in-Ok.taken (queue_short h p c.requires.sound) c.in-Ok.ensures.taken
     (omega (arith, ap length c.in-Ok.ensures.places, length-append (places (queue_at h.pipes p).queue) (take c.in-Ok.taken (places from)), length-take c.in-Ok.taken (places from))) in
     pushed-store h c.push_to.new.store qs p c.in-Ok.taken c.args.by c.args.agg from c.requires.sound c.requires.writing found bound c.in-Ok.ensures.places c.in-Ok.ensures.pipes c.in-Ok.ensures.shares
@@ -65,7 +63,7 @@ returns-in-Ok-clause-sound c =
     let qs = c.push_to.new.pipes.items in
     let p = c.args.p in
     let from = c.in-Some.found.now in
-    let found = c.in-Some.ensures ∙ ap (λ (ds : List (Domain (List Slice))). agg_in ds c.args.by c.args.agg) c.deref.ensures.value in
+    let found = c.in-Some.ensures in
     let bound = short (byte_len (queue_at h.pipes p).queue) (byte_len (queue_at qs p).queue) (byte_len from) c.in-Ok.taken (queue_short h p c.requires.sound) c.in-Ok.ensures.taken
     (omega (arith, ap length c.in-Ok.ensures.places, length-append (places (queue_at h.pipes p).queue) (take c.in-Ok.taken (places from)), length-take c.in-Ok.taken (places from))) in
     pushed-sound h c.push_to.new.store qs p c.in-Ok.taken c.args.by c.args.agg from c.requires.sound c.requires.writing found bound c.in-Ok.ensures.places c.in-Ok.ensures.pipes c.in-Ok.ensures.shares

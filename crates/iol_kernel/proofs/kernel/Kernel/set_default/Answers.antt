@@ -4,10 +4,10 @@ use Rattle.iol_kernel.specs.Kernel.{holding}
 use Rattle.iol_kernel.proofs.kernel.Kernel.set_default.Goals as goal
 
 pub set_default-requires : goal.set_default-requires
-set_default-requires c = record { live = live_held (holding c.args.self.now) c.args.d c.requires.live }
+set_default-requires c = live_held (holding c.args.self.now) c.args.d c.requires.live
 
 pub returns-clause-set : goal.returns-clause-set
-returns-clause-set c = default-machine (holding c.args.self.now) (domains_of c.set_default.new.domains) c.args.d c.args.pool c.set_default.ensures
+returns-clause-set c = default-machine (holding c.args.self.now) (domains_of c.set_default.new.self) c.args.d c.args.pool c.set_default.ensures
 
 pub returns-clause-sound : goal.returns-clause-sound
-returns-clause-sound c = default-sound (holding c.args.self.now) (domains_of c.set_default.new.domains) c.args.d c.args.pool c.requires.sound (live_held (holding c.args.self.now) c.args.d c.requires.live) c.set_default.ensures
+returns-clause-sound c = default-sound (holding c.args.self.now) (domains_of c.set_default.new.self) c.args.d c.args.pool c.requires.sound (live_held (holding c.args.self.now) c.args.d c.requires.live) c.set_default.ensures

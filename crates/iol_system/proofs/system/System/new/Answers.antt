@@ -1,4 +1,4 @@
-use Rattle.iol_system.specs.Kernel.{holding}
+use Rattle.iol_kernel.specs.Kernel.{holding}
 use Rattle.iol_system.proofs.Safe.{new_safe}
 use Rattle.iol_system.proofs.system.System.new.Goals as goal
 

@@ -1,7 +1,7 @@
 use Rattle.std.proofs.Common.{ap, subst}
-use Rattle.iol_system.specs.Holding.{machine_of}
+use Rattle.iol_kernel.specs.Holding.{machine_of}
 use Rattle.iol_system.specs.Values.{ValuesStayOver}
-use Rattle.iol_system.specs.Kernel.{holding}
+use Rattle.iol_kernel.specs.Kernel.{holding}
 use Rattle.std.specs.Prelude.{OnOk}
 use Rattle.iol_system.proofs.Safe.{run_access, run_values}
 use Rattle.iol_system.proofs.system.System.run.Goals as goal

@@ -2,8 +2,8 @@ use Rattle.std.proofs.Common.{subst}
 use Rattle.iol_core.proofs.Access.{access_step}
 use Rattle.iol_core.proofs.Values.{values_step}
 use Rattle.iol_core.specs.Values.{ValuesStay}
-use Rattle.iol_system.specs.Holding.{machine_of}
-use Rattle.iol_system.specs.Kernel.{holding}
+use Rattle.iol_kernel.specs.Holding.{machine_of}
+use Rattle.iol_kernel.specs.Kernel.{holding}
 use Rattle.iol_system.proofs.system.System.step.Goals as goal
 
 pub invariant_of-self : goal.invariant_of-self
