@@ -4,6 +4,7 @@ pub mod Sound
 pub mod Ends
 pub mod Effects
 pub mod Pipes
+pub mod Flowing
 pub mod Queueing
 pub mod Reports
 pub mod Beginning
