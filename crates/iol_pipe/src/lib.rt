@@ -5,7 +5,7 @@ ghost use Rattle.std.specs.Prelude.{◌≡◌, ◌+◌, ◌-◌, ◌<◌, ◌≤
 ghost use Rattle.std.specs.VecDeque.{deque_len, deque_capacity};
 ghost use Rattle.std.specs.Vec.{vec_capacity};
 ghost use Rattle.iol_core.specs.declared.numbers.BufId.{BufId};
-ghost use Rattle.iol_hold.specs.Moves.{same, tally, Shares, Covers, IsCountable};
+ghost use Rattle.iol_hold.specs.Moves.{same, tally, Shares, Moves, SameLists, Covers, IsCountable};
 ghost use Rattle.iol_hold.specs.Places.{slice_places, places, byte_len};
 ghost use Rattle.iol_hold.specs.Texts.{bufs_of};
 ghost use Rattle.iol_pipe.specs.Queue.{first_pool, may_see};
@@ -114,6 +114,29 @@ impl Pipe {
         let given = Agg::from_slices(slices);
         self.len -= given.len();
         Ok(given)
+    }
+
+    /// Gives all holds up: no byte waits any more.
+    pub fn clear(&mut self, store: &mut Store)
+        requires { Covers store.old (bufs_of self.old) }
+        ensures empty { self.new ≡ [] }
+        ensures moves { Moves store.old store.new (bufs_of self.old) [] }
+        ensures lists { SameLists store.old store.new }
+    {
+        give_up_all(&mut self.queue, store);
+        self.len = 0;
+    }
+}
+
+// Gives all holds up.
+fn give_up_all(queue: &mut VecDeque<Slice>, store: &mut Store)
+    requires { Covers store.old (bufs_of queue.old.items) }
+    ensures empty { queue.new.items ≡ [] }
+    ensures moves { Moves store.old store.new (bufs_of queue.old.items) [] }
+    ensures lists { SameLists store.old store.new }
+{
+    while let Some(slice) = queue.pop_back() {
+        slice.release(store);
     }
 }
 
