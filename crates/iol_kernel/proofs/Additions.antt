@@ -1,5 +1,5 @@
 -- A domain gets an aggregate of bytes that lie there already: for the machine, for the layout, and that all stays sound.
-use Rattle.std.proofs.Common.{◌≡◌, ◌≢◌, ℕ, ◌+◌, ◌-◌, ◌<◌, ◌≤◌, List, [], ◌++◌, length, map, take, drop, slice_range, ap, ◌∙◌, refl, sym, arith, Option, Some, None, true, false}
+use Rattle.std.proofs.Common.{◌≡◌, ◌≢◌, ℕ, ◌+◌, ◌-◌, ◌<◌, ◌≤◌, List, [], ◌++◌, length, length-append, take, drop, slice_range, ap, ◌∙◌, refl, sym, arith, Option, Some, None, true, false}
 use Rattle.std.specs.Prelude.{unwrap_or, option_map}
 use Rattle.std.proofs.lemmas.List.Elements.{All-append, All-take, All-drop, All-same}
 use Rattle.std.proofs.lemmas.List.{take_all, length-take, length-drop}
@@ -18,10 +18,10 @@ use Rattle.iol_hold.proofs.AtPlaces.{length-read, read_same, read_cut, read_repl
 use Rattle.iol_hold.proofs.Counting.{tally-append, tally_none}
 use Rattle.iol_hold.proofs.Moving.{shares_move, covers_given}
 use Rattle.iol_hold.proofs.Reading.{readable_stays, readable_none, length-text_of}
-use Rattle.iol_desc.specs.Tables.{domain_in, agg_in, with_agg_in, live_aggs_in}
+use Rattle.iol_desc.specs.Tables.{domain_in, agg_in, live_aggs_in}
 use Rattle.iol_kernel.specs.Seen.{seen}
-use Rattle.iol_kernel.specs.Adding.{slices_in, AddsShared}
-use Rattle.iol_kernel.specs.Holding.{Holding, machine_of, layout_of, IsSound, AddsText}
+use Rattle.iol_kernel.specs.Adding.{slices_in, replaced, AddsShared}
+use Rattle.iol_kernel.specs.Holding.{Holding, machine_of, layout_of, IsSound}
 use Rattle.iol_kernel.specs.Sharing.{read_of, Changes}
 use Rattle.iol_kernel.proofs.Meant.{aggregate-seen, with_agg-seen, domain-seen}
 use Rattle.iol_kernel.proofs.Sound.{agg_readable, agg_small}
@@ -143,3 +143,59 @@ module _ (h : Holding) (t : Stored) (ds : List (Domain (List Slice))) (d a from 
       added-sound h t ds d _ adds sound live few
       (record { each = All-same (IsThere h.store) _ _ adds.is_there (All-take (IsThere h.store) (to - from) (drop from (places xs)) (All-drop (IsThere h.store) from (places xs) (slices_readable h d a sound).each)) })
       (omega (arith, slices_small h d a sound, ap length adds.is_there, length-take (to - from) (drop from (places xs)), length-drop from (places xs)))
+
+-- An aggregate with another in place of a range.
+
+pub length-replaced : {A : Type 0} (xs ys : List A) (from to : ℕ) → from ≤ to → to ≤ length xs → length (replaced xs from to ys) ≡ from + length ys + (length xs - to)
+length-replaced xs ys from to ordered within = omega (
+  arith,
+  ordered,
+  within,
+  length-append (take from xs ++ ys) (drop to xs),
+  length-append (take from xs) ys,
+  length-take from xs,
+  length-drop to xs,
+)
+
+pub length-laid : (h : Holding) (d a : ℕ) → length (machine.text (layout_of h) d a) ≡ byte_len (slices_in h.domains d a)
+length-laid h d a = ap (λ (s : State). length (machine.text s d a)) (read_layout h) ∙ ap length (text-read number_at h d a) ∙ length-read number_at (slices_in h.domains d a)
+
+module _ (h : Holding) (t : Stored) (ds : List (Domain (List Slice))) (d a from to b : ℕ) (adds : AddsShared h.store t h.domains ds d (replaced (places (slices_in h.domains d a)) from to (places (slices_in h.domains d b)))) where
+  pub replaced-changes : Changes (λ s. aggs.with_agg s d (replaced (machine.text s d a) from to (machine.text s d b))) h (record h { store = t; domains = ds })
+  replaced-changes = added-changes h t ds d _ adds (λ s. replaced (machine.text s d a) from to (machine.text s d b))
+      (λ f. read_replaced f adds.slices (slices_in h.domains d a) (slices_in h.domains d b) from to adds.is_there
+      ∙ ap (λ (u : Text). replaced u from to (read f (slices_in h.domains d b))) (sym (text-read f h d a))
+      ∙ ap (λ (u : Text). replaced (machine.text (read_of f h) d a) from to u) (sym (text-read f h d b)))
+
+  pub replaced-sound : IsSound h → (domain_in h.domains d).live ≡ true → live_aggs_in h.domains < 65536 → length (replaced (machine.text (machine_of h) d a) from to (machine.text (machine_of h) d b)) ≤ 16777216 → IsSound (record h { store = t; domains = ds })
+  replaced-sound sound live few small =
+      let xs : List Place = places (slices_in h.domains d a) in
+      let ys : List Place = places (slices_in h.domains d b) in
+      let P : Place → Type 0 = IsThere h.store in
+      let good = (slices_readable h d a sound).each in
+      added-sound h t ds d _ adds sound live few
+      (record {
+        each = All-same P _ _ adds.is_there
+            (All-append P (take from xs ++ ys) (drop to xs) (All-append P (take from xs) ys (All-take P from xs good) (slices_readable h d b sound).each) (All-drop P to xs good));
+      })
+      (omega (arith, small, ap length adds.is_there, as_long))
+    where
+      as_long : length (replaced (places (slices_in h.domains d a)) from to (places (slices_in h.domains d b))) ≡ length (replaced (machine.text (machine_of h) d a) from to (machine.text (machine_of h) d b))
+      as_long =
+          let x : List Place = places (slices_in h.domains d a) in
+          let y : List Place = places (slices_in h.domains d b) in
+          let u : Text = machine.text (machine_of h) d a in
+          let v : Text = machine.text (machine_of h) d b in
+          omega (
+            arith,
+            length-text h d a,
+            length-text h d b,
+            length-append (take from x ++ y) (drop to x),
+            length-append (take from x) y,
+            length-take from x,
+            length-drop to x,
+            length-append (take from u ++ v) (drop to u),
+            length-append (take from u) v,
+            length-take from u,
+            length-drop to u,
+          )
