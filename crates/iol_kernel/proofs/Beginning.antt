@@ -35,6 +35,7 @@ new-sound h n domains' entries' tidy pipes' pools' =
       domains = (tt, tt);
       pipes = tt;
       fds = (tt, tt);
+      once = record { each = λ x. omega arith };
       counted = record { each = none_held h.store n entries' };
       tidy = tidy;
       still = record { each = λ q waits. (let free = ap (λ (x : Entry). x.kind) (ap (λ (es : List Entry). get_or es q no_entry) entries' ∙ every n q no_entry) in cc (free, waits)) };

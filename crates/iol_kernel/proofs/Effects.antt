@@ -24,9 +24,11 @@ use Rattle.iol_hold.proofs.Reading.{length-text_of}
 use Rattle.iol_desc.specs.Tables.{domain_in, with_domain_in, agg_in, without_agg_in, live_aggs_in, with_fds_in}
 use Rattle.iol_kernel.specs.Seen.{Pipe, seen}
 use Rattle.iol_kernel.specs.Counted.{IsCounted}
+use Rattle.iol_kernel.specs.Ends.{IsOpenOnce}
 use Rattle.iol_kernel.specs.Holding.{Holding, machine_of, Each, IsDomainReadable, IsPipeReadable, IsOpenEnd, IsSound, IsLimited, AddsText}
 use Rattle.iol_kernel.proofs.Meant.{pool-seen, is_pool-seen, pools-seen, closed-seen, added_pool-seen, length_pools-seen, add_domain-seen, with_agg-seen, without_agg-seen, with_fds-seen, with_domain-seen, domain-seen, live_aggs-seen, length-map'}
 use Rattle.iol_kernel.proofs.Uses.{uses-new_domain, uses-with_agg, uses-without_agg}
+use Rattle.iol_kernel.proofs.Once.{once_same, once_new_domain}
 use Rattle.iol_kernel.proofs.Sound.{AreHeld, counted_held, domains_stay, pipes_stay, seen-stays, sound_with, sound_fds, ends_open, each-push, limits_agg, limits_drop, drop_readable, add_readable, fds_stay}
 
 -- a new domain
@@ -40,6 +42,7 @@ grown-sound h ds sound is = subst (λ (xs : List (Domain (List Slice))). IsSound
   domains = each-push (IsDomainReadable h.store) h.domains new_domain sound.domains tt;
   pipes = sound.pipes;
   fds = each-push (λ (d : Domain (List Slice)). Each (IsOpenEnd h.pipes) d.fds) h.domains new_domain sound.fds tt;
+  once = once_new_domain h.domains sound.once;
   counted = record { each = λ b. omega (arith, sound.counted.each b, uses-new_domain b h.domains) };
   tidy = sound.tidy;
   still = sound.still;
@@ -103,11 +106,12 @@ unfolding machine_of
 moved-machine s t ds qs stays lists held e k = pools-seen (text_of t) ds s.pools t.pools qs lists ∙ seen-stays s t stays ds qs held s.pools e k
 
 pub moved-sound : (s t : Stored) (ds : List (Domain (List Slice))) (qs : List (Option (Pipe (List Slice)))) → Stays s t → IsCounted t ds qs → IsTidy t → IsStill t.arena → Each (IsDomainReadable s) ds → Each (IsPipeReadable s) qs
-    → Each (λ (d : Domain (List Slice)). Each (IsOpenEnd qs) d.fds) ds → IsLimited ds qs → length t.pools ≤ 1024 → IsSound (record { store = t; domains = ds; pipes = qs })
-moved-sound s t ds qs stays counted tidy still e k fds limits few = record {
+    → Each (λ (d : Domain (List Slice)). Each (IsOpenEnd qs) d.fds) ds → IsOpenOnce ds → IsLimited ds qs → length t.pools ≤ 1024 → IsSound (record { store = t; domains = ds; pipes = qs })
+moved-sound s t ds qs stays counted tidy still e k fds once limits few = record {
   domains = domains_stay s t stays ds qs (counted_held counted) e;
   pipes = pipes_stay s t stays ds qs (counted_held counted) k;
   fds = fds;
+  once = once;
   counted = counted;
   tidy = tidy;
   still = still;
@@ -137,6 +141,7 @@ placed-sound h t ds d text sound live few small adds =
       domains = add_readable t h.domains d adds.slices (domains_stay h.store t adds.moves.stays h.domains h.pipes held sound.domains) adds.readable;
       pipes = pipes_stay h.store t adds.moves.stays h.domains h.pipes held sound.pipes;
       fds = fds_stay h.pipes h.domains d (record x { aggs = x.aggs ++ (x.next_agg, adds.slices) ∷ []; next_agg = x.next_agg + 1 }) sound.fds refl;
+      once = once_same h.domains d (record x { aggs = x.aggs ++ (x.next_agg, adds.slices) ∷ []; next_agg = x.next_agg + 1 }) live refl sound.once;
       counted = record { each = λ b. omega (arith, sound.counted.each b, adds.moves.counts.each b, tally_none b, uses-with_agg b h.domains d adds.slices live) };
       tidy = adds.moves.tidy sound.tidy;
       still = adds.moves.still sound.still;
@@ -165,7 +170,7 @@ module _ (h : Holding) (t : Stored) (ds : List (Domain (List Slice))) (d a : ℕ
   pub dropped-sound : IsSound (record h { store = t; domains = ds })
   dropped-sound = subst (λ (ys : List (Domain (List Slice))). IsSound (record h { store = t; domains = ys })) (sym rest)
       (moved-sound h.store t (without_agg_in h.domains d a) h.pipes moves.stays dropped_counted (moves.tidy sound.tidy) (moves.still sound.still) (drop_readable h d a sound) sound.pipes
-      (fds_stay h.pipes h.domains d _ sound.fds refl) (limits_drop h.domains h.pipes d a xs sound.limits live found) (same_length h.store t lists sound.few_pools))
+      (fds_stay h.pipes h.domains d _ sound.fds refl) (once_same h.domains d _ live refl sound.once) (limits_drop h.domains h.pipes d a xs sound.limits live found) (same_length h.store t lists sound.few_pools))
 
 -- pools come and go; nothing is placed and nothing given up
 
@@ -174,7 +179,7 @@ module _ (h : Holding) (t : Stored) (sound : IsSound h) (moves : Moves h.store t
   unmoved_counted = record { each = λ b. omega (arith, sound.counted.each b, moves.counts.each b, tally_none b) }
 
   pub unmoved-sound : length t.pools ≤ 1024 → IsSound (record h { store = t })
-  unmoved-sound few = moved-sound h.store t h.domains h.pipes moves.stays unmoved_counted (moves.tidy sound.tidy) (moves.still sound.still) sound.domains sound.pipes sound.fds sound.limits few
+  unmoved-sound few = moved-sound h.store t h.domains h.pipes moves.stays unmoved_counted (moves.tidy sound.tidy) (moves.still sound.still) sound.domains sound.pipes sound.fds sound.once sound.limits few
 
   unmoved-seen : (ps : List Pool) → seen (text_of t) h.domains ps h.pipes ≡ seen (text_of h.store) h.domains ps h.pipes
   unmoved-seen ps = seen-stays h.store t moves.stays h.domains h.pipes (counted_held unmoved_counted) ps sound.domains sound.pipes
@@ -223,8 +228,8 @@ pub fds-machine : (h : Holding) (ds : List (Domain (List Slice))) (d : ℕ) (xs 
 unfolding machine_of
 fds-machine h ds d xs is = ap (λ (ys : List (Domain (List Slice))). seen (text_of h.store) ys h.store.pools h.pipes) is ∙ with_fds-seen (text_of h.store) h.domains h.store.pools h.pipes d xs
 
-pub fds-sound : (h : Holding) (ds : List (Domain (List Slice))) (d : ℕ) (xs : List (Option Descriptor)) → IsSound h → (domain_in h.domains d).live ≡ true → ds ≡ with_fds_in h.domains d xs → Each (IsOpenEnd h.pipes) xs → IsSound (record h { domains = ds })
-fds-sound h ds d xs sound live is ends = subst (λ (ys : List (Domain (List Slice))). IsSound (record h { domains = ys })) (sym is) (sound_fds h d xs sound live ends)
+pub fds-sound : (h : Holding) (ds : List (Domain (List Slice))) (d : ℕ) (xs : List (Option Descriptor)) → IsSound h → (domain_in h.domains d).live ≡ true → ds ≡ with_fds_in h.domains d xs → Each (IsOpenEnd h.pipes) xs → IsOpenOnce (with_fds_in h.domains d xs) → IsSound (record h { domains = ds })
+fds-sound h ds d xs sound live is ends once = subst (λ (ys : List (Domain (List Slice))). IsSound (record h { domains = ys })) (sym is) (sound_fds h d xs sound live ends once)
 
 -- a domain's default pool
 
@@ -237,4 +242,4 @@ default-machine h ds d p is =
 
 pub default-sound : (h : Holding) (ds : List (Domain (List Slice))) (d p : ℕ) → IsSound h → (domain_in h.domains d).live ≡ true → ds ≡ with_domain_in h.domains d (record (domain_in h.domains d) { default = Some p }) → IsSound (record h { domains = ds })
 default-sound h ds d p sound live is = subst (λ (ys : List (Domain (List Slice))). IsSound (record h { domains = ys })) (sym is)
-    (sound_with h d (record (domain_in h.domains d) { default = Some p }) sound live refl (ends_open h d sound))
+    (sound_with h d (record (domain_in h.domains d) { default = Some p }) sound live refl (ends_open h d sound) (once_same h.domains d _ live refl sound.once))

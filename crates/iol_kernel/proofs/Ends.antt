@@ -1,5 +1,5 @@
 -- Ends of pipes stay open where a pipe is added or its queue changes.
-use Rattle.std.proofs.Common.{◌≡◌, ◌≢◌, ℕ, suc, ◌+◌, ◌<◌, ◌≤◌, List, [], ◌∷◌, length, ap, ◌∙◌, refl, sym, arith, Option, Some, None, true, false, inl, inr, ◌⊎◌}
+use Rattle.std.proofs.Common.{◌≡◌, ◌≢◌, ℕ, ◌<◌, ◌≤◌, List, [], ◌∷◌, length, ap, ◌∙◌, sym, arith, Option, Some, None, true, false, inl, inr, ◌⊎◌}
 use Rattle.std.specs.Prelude.{slice_set, unwrap_or}
 use Rattle.std.proofs.lemmas.Bool.{cases_lt, cases_eq}
 use Rattle.std.proofs.lemmas.Bool.Decides.{nat_tests}
@@ -10,6 +10,7 @@ use Rattle.iol_core.specs.declared.descriptors.Descriptor.TheVariants as on
 use Rattle.iol_hold.specs.declared.slices.Slice.{Slice}
 use Rattle.iol_kernel.specs.Seen.{Pipe}
 use Rattle.iol_kernel.specs.Holding.{Each, IsOpenEnd, queue_at}
+use Rattle.iol_kernel.proofs.Once.{in_place-lowest}
 use Rattle.iol_kernel.proofs.Sound.{each-weaker}
 
 abbrev pub Pipes : Type 0
@@ -22,14 +23,6 @@ lowest_within : {A : Type 0} (xs : List (Option A)) → lowest xs ≤ length xs
 lowest_within [] = omega arith
 lowest_within (None ∷ xs) = omega arith
 lowest_within (Some x ∷ xs) = omega (arith, lowest_within xs)
-
-in_place-lowest : {A : Type 0} (xs : List (Option A)) → in_place xs (lowest xs) ≡ None
-in_place-lowest [] = refl
-in_place-lowest (None ∷ xs) = refl
-in_place-lowest (Some x ∷ xs) = rw (one (lowest xs)) (in_place-lowest xs)
-  where
-    one : (n : ℕ) → 1 + n ≡ suc n
-    one n = omega arith
 
 in_place-placed_same : {A : Type 0} (xs : List (Option A)) (n : ℕ) (x : A) → n ≤ length xs → in_place (placed xs n x) n ≡ Some x
 in_place-placed_same xs n x le = grind (arith, nat_tests, common_steps, le)
@@ -66,6 +59,16 @@ end_placed qs x (Some (on.Connection c)) h = h
 
 pub ends_placed : (qs : Pipes) (x : Pipe (List Slice)) (fds : List (Option Descriptor)) → Each (IsOpenEnd qs) fds → Each (IsOpenEnd (placed qs (lowest qs) x)) fds
 ends_placed qs x fds e = each-weaker (IsOpenEnd qs) (IsOpenEnd (placed qs (lowest qs) x)) fds (end_placed qs x) e
+
+-- the place of a new pipe has no open end before
+pub lowest_closed : (qs : Pipes) → ((queue_at qs (lowest qs)).reading ≡ true → ⊥) × ((queue_at qs (lowest qs)).writing ≡ true → ⊥)
+lowest_closed qs = (
+  λ h. no (sym (ap (λ (o : Option (Pipe (List Slice))). (unwrap_or o closed_pipe).reading) (in_place-lowest qs)) ∙ h),
+  λ h. no (sym (ap (λ (o : Option (Pipe (List Slice))). (unwrap_or o closed_pipe).writing) (in_place-lowest qs)) ∙ h),
+)
+  where
+    no : false ≡ true → ⊥
+    no e = cc
 
 -- the ends of the new pipe itself
 pub new_reading : (qs : Pipes) (x : Pipe (List Slice)) → (queue_at (placed qs (lowest qs) x) (lowest qs)).reading ≡ x.reading

@@ -1,5 +1,6 @@
 pub mod Meant
 pub mod Uses
+pub mod Once
 pub mod Sound
 pub mod Ends
 pub mod Effects

@@ -1,9 +1,10 @@
 -- Effects on pipes and their ends.
-use Rattle.std.proofs.Common.{inl, inr, ◌∷◌, ◌++◌, ◌<◌, length, length-append, length-set, ◌≡◌, ◌≢◌, ℕ, ◌+◌, ◌≤◌, ◌==◌, List, [], ap, ◌∙◌, refl, sym, subst, arith, Option, Some, None, true, false}
+use Rattle.std.proofs.Common.{inl, inr, ◌-◌, ◌∷◌, ◌++◌, ◌<◌, length, length-append, length-set, ◌≡◌, ◌≢◌, ℕ, ◌+◌, ◌≤◌, ◌==◌, List, [], ap, ◌∙◌, refl, sym, subst, arith, Option, Some, None, true, false}
 use Rattle.std.specs.Prelude.{slice_set, nat_lt, not, ◌&&◌, if◌then◌else◌, Bool}
 use Rattle.std.proofs.lemmas.Bool.Decides.{nat_tests}
 use Rattle.std.proofs.lemmas.Grind.{common_steps}
-use Rattle.std.proofs.lemmas.Bool.{cases_lt}
+use Rattle.std.proofs.lemmas.Bool.{cases_lt, cases_eq}
+use Rattle.std.proofs.lemmas.List.{set_comm}
 use Rattle.iol_core.specs.declared.limits.TheConstants.{MAX_PIPES}
 use Rattle.iol_hold.proofs.Counting.{tally_none}
 use Rattle.iol_kernel.proofs.Uses.{uses-placed}
@@ -19,10 +20,12 @@ use Rattle.iol_hold.specs.Texts.{text_of}
 use Rattle.iol_hold.proofs.Reading.{readable_none}
 use Rattle.iol_desc.specs.Tables.{domain_in, with_domain_in, with_fds_in}
 use Rattle.iol_kernel.specs.Seen.{Pipe, seen}
+use Rattle.iol_kernel.specs.Ends.{all_ends_on, IsOpenOnce}
 use Rattle.iol_kernel.specs.Holding.{Holding, machine_of, Each, IsOpenEnd, IsPipeReadable, IsSound, IsShort}
 use Rattle.iol_kernel.proofs.Meant.{add_pipe-seen, lowest-seen, taken-seen}
 use Rattle.iol_kernel.proofs.Sound.{each-set, each-get, each-weaker, each-placed, ends_open}
-use Rattle.iol_kernel.proofs.Ends.{ends_placed, new_reading, new_writing}
+use Rattle.iol_kernel.proofs.Once.{ends-with_domain, ends-placed, ends-freed, once_fewer, once_freed, both_once, all_ends_closed}
+use Rattle.iol_kernel.proofs.Ends.{ends_placed, lowest_closed, new_reading, new_writing}
 use Rattle.iol_kernel.proofs.Effects.{fds_held, fds-machine, fds-sound}
 
 abbrev empty : Pipe (List Slice)
@@ -63,6 +66,20 @@ length-placed qs x few free = elim (cases_lt (lowest qs) (length qs)) [
   | inr k ↦ (let p : placed qs (lowest qs) x ≡ qs ++ Some x ∷ [] = grind (arith, nat_tests, k) in omega (arith, ap length p, length-append qs (Some x ∷ []), lowest_few qs, k, free))
 ]
 
+-- its ends are open there alone
+once_piped : (h : Holding) (d : ℕ) → IsSound h → (domain_in h.domains d).live ≡ true → IsOpenOnce (with_fds_in h.domains d (both (domain_in h.domains d).fds (lowest h.pipes)))
+once_piped h d sound live =
+    let n : ℕ = lowest h.pipes in
+    let xs : List (Option Descriptor) = (domain_in h.domains d).fds in
+    let closed = lowest_closed h.pipes in
+    record {
+      each = λ e. (let total = ends-with_domain e h.domains d (record (domain_in h.domains d) { fds = both xs n }) live in
+          let once = both_once e n (all_ends_on e h.domains) (sound.once.each e)
+          (λ is. ap (λ (x : Descriptor). all_ends_on x h.domains) is ∙ all_ends_closed h.pipes (on.ReadEnd n) closed.0 h.domains sound.fds)
+          (λ is. ap (λ (x : Descriptor). all_ends_on x h.domains) is ∙ all_ends_closed h.pipes (on.WriteEnd n) closed.1 h.domains sound.fds) in
+          omega (arith, total, once, ends-placed e (on.ReadEnd n) xs, ends-placed e (on.WriteEnd n) (with_read_end xs n)));
+    }
+
 pub piped-sound : (h : Holding) (ds : List (Domain (List Slice))) (qs : List (Option (Pipe (List Slice)))) (d : ℕ) → IsSound h → (domain_in h.domains d).live ≡ true → taken h.pipes < MAX_PIPES → ds ≡ with_fds_in h.domains d (both (domain_in h.domains d).fds (lowest h.pipes)) → qs ≡ placed h.pipes (lowest h.pipes) empty → IsSound (record h { domains = ds; pipes = qs })
 piped-sound h ds qs d sound live few domains' pipes' =
     let more : List (Option (Pipe (List Slice))) = placed h.pipes (lowest h.pipes) empty in
@@ -70,6 +87,7 @@ piped-sound h ds qs d sound live few domains' pipes' =
     let sound' : IsSound k = record {
       domains = sound.domains;
       pipes = each-placed (IsPipeReadable h.store) h.pipes (lowest h.pipes) empty sound.pipes (readable_none h.store);
+      once = sound.once;
       counted = record { each = λ b. omega (arith, sound.counted.each b, uses-placed b h.pipes empty, tally_none b) };
       tidy = sound.tidy;
       still = sound.still;
@@ -85,7 +103,7 @@ piped-sound h ds qs d sound live few domains' pipes' =
     let xs : List (Option Descriptor) = (domain_in h.domains d).fds in
     let first : Each (IsOpenEnd more) (with_read_end xs (lowest h.pipes)) = each-placed (IsOpenEnd more) xs (lowest xs) (on.ReadEnd (lowest h.pipes)) (ends_open k d sound') (new_reading h.pipes empty) in
     let second : Each (IsOpenEnd more) (both xs (lowest h.pipes)) = each-placed (IsOpenEnd more) (with_read_end xs (lowest h.pipes)) (lowest (with_read_end xs (lowest h.pipes))) (on.WriteEnd (lowest h.pipes)) first (new_writing h.pipes empty) in
-    subst (λ (ys : List (Option (Pipe (List Slice)))). IsSound (record h { domains = ds; pipes = ys })) (sym pipes') (fds-sound k ds d (both xs (lowest h.pipes)) sound' live domains' second)
+    subst (λ (ys : List (Option (Pipe (List Slice)))). IsSound (record h { domains = ds; pipes = ys })) (sym pipes') (fds-sound k ds d (both xs (lowest h.pipes)) sound' live domains' second (once_piped h d sound live))
 
 few_open : (n k : ℕ) → nat_lt 1024 (n + k) ≡ false → n + k ≤ 1024
 few_open n k few = grind (arith, nat_tests, few)
@@ -99,6 +117,11 @@ taken_held h = taken-seen (text_of h.store) h.domains h.store.pools h.pipes
 
 pub descriptor_held : (h : Holding) (d fd : ℕ) → machine.descriptor (machine_of h) d fd ≡ in_place (domain_in h.domains d).fds fd
 descriptor_held h d fd = ap (λ (xs : List (Option Descriptor)). in_place xs fd) (fds_held h d)
+
+-- a descriptor is closed
+pub freed-sound : (h : Holding) (ds : List (Domain (List Slice))) (d fd : ℕ) (x : Descriptor) → IsSound h → (domain_in h.domains d).live ≡ true → in_place (domain_in h.domains d).fds fd ≡ Some x → ds ≡ with_fds_in h.domains d (slice_set (domain_in h.domains d).fds fd None) → IsSound (record h { domains = ds })
+freed-sound h ds d fd x sound live there is =
+    fds-sound h ds d (slice_set (domain_in h.domains d).fds fd None) sound live is (each-set (IsOpenEnd h.pipes) (domain_in h.domains d).fds fd None (ends_open h d sound) tt) (once_freed h.domains d fd x live there sound.once)
 
 -- a descriptor moves
 
@@ -127,11 +150,12 @@ moved_within-machine h ds d fd to x same is =
     pick : fds.with_fds (machine_of h) d (placed (fds.freed (machine_of h) d fd) (lowest (fds.freed (machine_of h) d fd)) x) ≡ fds.given_to (machine_of h) d fd to x
     pick = grind (arith, nat_tests, same)
 
-pub moved_within-sound : (h : Holding) (ds : List (Domain (List Slice))) (d fd : ℕ) (x : Descriptor) → IsSound h → (domain_in h.domains d).live ≡ true → IsOpenEnd h.pipes (Some x) → ds ≡ with_fds_in h.domains d (placed (slice_set (domain_in h.domains d).fds fd None) (lowest (slice_set (domain_in h.domains d).fds fd None)) x) → IsSound (record h { domains = ds })
-moved_within-sound h ds d fd x sound live open' is =
+pub moved_within-sound : (h : Holding) (ds : List (Domain (List Slice))) (d fd : ℕ) (x : Descriptor) → IsSound h → (domain_in h.domains d).live ≡ true → in_place (domain_in h.domains d).fds fd ≡ Some x → IsOpenEnd h.pipes (Some x) → ds ≡ with_fds_in h.domains d (placed (slice_set (domain_in h.domains d).fds fd None) (lowest (slice_set (domain_in h.domains d).fds fd None)) x) → IsSound (record h { domains = ds })
+moved_within-sound h ds d fd x sound live there open' is =
     let xs : List (Option Descriptor) = slice_set (domain_in h.domains d).fds fd None in
     fds-sound h ds d (placed xs (lowest xs) x) sound live is
     (each-placed (IsOpenEnd h.pipes) xs (lowest xs) x (each-set (IsOpenEnd h.pipes) (domain_in h.domains d).fds fd None (ends_open h d sound) tt) open')
+    (once_fewer h.domains d (record (domain_in h.domains d) { fds = placed xs (lowest xs) x }) live (λ e. omega (arith, ends-placed e x xs, ends-freed e x (domain_in h.domains d).fds fd there)) sound.once)
 
 -- across domains
 
@@ -164,12 +188,49 @@ moved_across-machine h ms ds d fd to x differ opened' closed' =
     pick : fds.with_fds (fds.opened (machine_of h) to x) d (fds.freed (machine_of h) d fd) ≡ fds.given_to (machine_of h) d fd to x
     pick = grind (arith, nat_tests, differ)
 
-pub moved_across-sound : (h : Holding) (ms ds : List (Domain (List Slice))) (d fd to : ℕ) (x : Descriptor) → IsSound h → (domain_in h.domains to).live ≡ true → (domain_in ms d).live ≡ true → IsOpenEnd h.pipes (Some x) → ms ≡ opened_in h.domains to x → ds ≡ with_fds_in ms d (slice_set (domain_in ms d).fds fd None) → IsSound (record h { domains = ds })
-moved_across-sound h ms ds d fd to x sound to_live live open' opened' closed' =
-    let xs : List (Option Descriptor) = (domain_in h.domains to).fds in
-    let k : Holding = record h { domains = ms } in
-    let mid : IsSound k = fds-sound h ms to (placed xs (lowest xs) x) sound to_live opened' (each-placed (IsOpenEnd h.pipes) xs (lowest xs) x (ends_open h to sound) open') in
-    fds-sound k ds d (slice_set (domain_in ms d).fds fd None) mid live closed' (each-set (IsOpenEnd h.pipes) (domain_in ms d).fds fd None (ends_open k d mid) tt)
+-- the receiver may as well get it after the giver's number is free
+with_domain-comm : (ds : List (Domain (List Slice))) (d e : ℕ) (x y : Domain (List Slice)) → d ≢ e → with_domain_in (with_domain_in ds d x) e y ≡ with_domain_in (with_domain_in ds e y) d x
+unfolding with_domain_in
+with_domain-comm ds d e x y differ = elim (cases_eq d 0) [
+  | inl k ↦ grind (arith, nat_tests, k)
+  | inr k ↦ elim (cases_eq e 0) [
+    | inl l ↦ grind (arith, nat_tests, l)
+    | inr l ↦ (let c = set_comm ds (d - 1) (e - 1) x y (λ is. differ (omega (arith, is, k, l))) in grind (arith, nat_tests, k, l, c))
+  ]
+]
+
+across-turned : (ds ms : List (Domain (List Slice))) (d fd to : ℕ) (x : Descriptor) → d ≢ to → ms ≡ opened_in ds to x → with_fds_in ms d (slice_set (domain_in ms d).fds fd None) ≡ opened_in (with_fds_in ds d (slice_set (domain_in ds d).fds fd None)) to x
+across-turned ds ms d fd to x differ is =
+    let xs : List (Option Descriptor) = (domain_in ds to).fds in
+    let got : Domain (List Slice) = record (domain_in ds to) { fds = placed xs (lowest xs) x } in
+    let less : Domain (List Slice) = record (domain_in ds d) { fds = slice_set (domain_in ds d).fds fd None } in
+    let freed : Domain (List Slice) → Domain (List Slice) = λ y. record y { fds = slice_set y.fds fd None } in
+    let opened : Domain (List Slice) → Domain (List Slice) = λ y. record y { fds = placed y.fds (lowest y.fds) x } in
+    ap (λ (ys : List (Domain (List Slice))). with_domain_in ys d (freed (domain_in ys d))) is
+    ∙ ap (λ (y : Domain (List Slice)). with_domain_in (with_domain_in ds to got) d (freed y)) (domain_in-other ds to d got (λ e. differ (sym e)))
+    ∙ with_domain-comm ds to d got less (λ e. differ (sym e))
+    ∙ ap (λ (y : Domain (List Slice)). with_domain_in (with_domain_in ds d less) to (opened y)) (sym (domain_in-other ds d to less differ))
+
+pub moved_across-sound : (h : Holding) (ms ds : List (Domain (List Slice))) (d fd to : ℕ) (x : Descriptor) → IsSound h → d ≢ to → (domain_in h.domains to).live ≡ true → (domain_in h.domains d).live ≡ true → in_place (domain_in h.domains d).fds fd ≡ Some x → IsOpenEnd h.pipes (Some x) → ms ≡ opened_in h.domains to x → ds ≡ with_fds_in ms d (slice_set (domain_in ms d).fds fd None) → IsSound (record h { domains = ds })
+moved_across-sound h ms ds d fd to x sound differ to_live live there open' opened' closed' =
+    let less : List (Domain (List Slice)) = with_fds_in h.domains d (slice_set (domain_in h.domains d).fds fd None) in
+    let k : Holding = record h { domains = less } in
+    let mid : IsSound k = freed-sound h less d fd x sound live there refl in
+    let y : Domain (List Slice) = domain_in less to in
+    let same : y ≡ domain_in h.domains to = domain_in-other h.domains d to _ differ in
+    let live' : y.live ≡ true = ap (λ (z : Domain (List Slice)). z.live) same ∙ to_live in
+    let last : List (Option Descriptor) = placed y.fds (lowest y.fds) x in
+    let once : IsOpenOnce (with_fds_in less to last) = record {
+      each = λ e. omega (
+        arith,
+        sound.once.each e,
+        ends-with_domain e h.domains d (record (domain_in h.domains d) { fds = slice_set (domain_in h.domains d).fds fd None }) live,
+        ends-freed e x (domain_in h.domains d).fds fd there,
+        ends-with_domain e less to (record y { fds = last }) live',
+        ends-placed e x y.fds,
+      );
+    } in
+    fds-sound k ds to last mid live' (closed' ∙ across-turned h.domains ms d fd to x differ opened') (each-placed (IsOpenEnd h.pipes) y.fds (lowest y.fds) x (ends_open k to mid) open') once
 
 pub not_none : {A : Type 0} (o p : Option A) (x : A) → p ≡ Some x → o ≡ p → o ≡ None → ⊥
 not_none o p x is same none = cc

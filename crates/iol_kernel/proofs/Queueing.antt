@@ -30,6 +30,7 @@ use Rattle.iol_kernel.specs.Counted.{IsCounted}
 use Rattle.iol_kernel.specs.Holding.{Holding, machine_of, Each, IsOpenEnd, IsPipeReadable, IsDomainReadable, IsShort, IsLimited, IsSound, TakesFront, queue_at}
 use Rattle.iol_kernel.proofs.Meant.{domain-seen, pipe_at-seen, with_pipe-seen, with_agg-seen, text-seen, aggregate-seen, pool-seen}
 use Rattle.iol_kernel.proofs.Uses.{uses-set_pipe, uses-with_agg}
+use Rattle.iol_kernel.proofs.Once.{once_same}
 use Rattle.iol_kernel.proofs.Sound.{each-get, each-set, each-weaker, agg_readable, counted_held, add_readable, fds_stay, limits_agg}
 use Rattle.iol_kernel.proofs.Ends.{ends_queued, there_if_open}
 use Rattle.iol_kernel.proofs.Effects.{moved-machine, moved-sound}
@@ -140,7 +141,7 @@ module _ (h : Holding) (t : Stored) (qs : List (Option (Pipe (List Slice)))) (p 
   pub pushed-sound : IsSound (record h { store = t; pipes = qs })
   pushed-sound = subst (λ (ys : List (Option (Pipe (List Slice)))). IsSound (record h { store = t; pipes = ys })) (sym pipes')
       (moved-sound h.store t h.domains more (shares_move shares).stays more_counted (shares.tidy sound.tidy) ((shares_move shares).still sound.still) sound.domains more_good
-      (each-weaker (λ (x : Domain (List Slice)). Each (IsOpenEnd h.pipes) x.fds) (λ (x : Domain (List Slice)). Each (IsOpenEnd more) x.fds) h.domains (λ x e. ends_queued h.pipes p (queue_at qs p).queue there x.fds e) sound.fds)
+      (each-weaker (λ (x : Domain (List Slice)). Each (IsOpenEnd h.pipes) x.fds) (λ (x : Domain (List Slice)). Each (IsOpenEnd more) x.fds) h.domains (λ x e. ends_queued h.pipes p (queue_at qs p).queue there x.fds e) sound.fds) sound.once
       (queue_limits h p (queue_at qs p).queue sound short) (omega (arith, sound.few_pools, ap length shares.pools)))
 
 pub text_held : (h : Holding) (d a : ℕ) (xs : List Slice) → Some xs ≡ agg_in h.domains d a → text_of h.store xs ≡ machine.text (machine_of h) d a
@@ -238,6 +239,7 @@ module _ (h : Holding) (t : Stored) (ds : List (Domain (List Slice))) (qs : List
         (moved-sound h.store t given less (shares_move takes.shares).stays taken_counted (takes.shares.tidy sound.tidy) ((shares_move takes.shares).still sound.still) given_good less_good
         (fds_stay less h.domains d (record x { aggs = x.aggs ++ (x.next_agg, takes.slices) ∷ []; next_agg = x.next_agg + 1 })
         (each-weaker (λ (x : Domain (List Slice)). Each (IsOpenEnd h.pipes) x.fds) (λ (x : Domain (List Slice)). Each (IsOpenEnd less) x.fds) h.domains (λ x e. ends_queued h.pipes p (queue_at qs p).queue there' x.fds e) sound.fds) refl)
+        (once_same h.domains d (record x { aggs = x.aggs ++ (x.next_agg, takes.slices) ∷ []; next_agg = x.next_agg + 1 }) live refl sound.once)
         (limits_agg h.domains less d takes.slices (queue_limits h p (queue_at qs p).queue sound parts_short.1) live (omega (arith, parts_short.0)) few) (omega (arith, sound.few_pools, ap length takes.shares.pools))))
 
 -- tests on a queue

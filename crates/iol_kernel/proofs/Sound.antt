@@ -20,6 +20,7 @@ use Rattle.iol_hold.proofs.Reading.{readable_stays, text_stays}
 use Rattle.iol_desc.specs.Tables.{domain_in, with_domain_in, agg_in, with_agg_in, without_agg_in, live_aggs_in, with_fds_in}
 use Rattle.iol_kernel.specs.Seen.{meant, Pipe, pipe_meant, seen}
 use Rattle.iol_kernel.specs.Counted.{uses, domain_uses, pipe_uses, all_uses, IsCounted}
+use Rattle.iol_kernel.specs.Ends.{IsOpenOnce}
 use Rattle.iol_kernel.specs.Holding.{Holding, Each, IsDomainReadable, IsPipeReadable, IsOpenEnd, IsSound, IsLimited}
 use Rattle.iol_kernel.proofs.Uses.{uses-same, sum-with_domain, length-without}
 
@@ -185,11 +186,12 @@ pub pipe_readable : (h : Holding) (p : ℕ) → IsSound h → IsPipeReadable h.s
 pipe_readable h p sound = let none : Option (Pipe (List Slice)) = None in each-get (IsPipeReadable h.store) h.pipes p none sound.pipes tt
 
 -- one domain changes, its aggregates do not
-pub sound_with : (h : Holding) (d : ℕ) (x : Domain (List Slice)) → IsSound h → (domain_in h.domains d).live ≡ true → x.aggs ≡ (domain_in h.domains d).aggs → Each (IsOpenEnd h.pipes) x.fds → IsSound (record h { domains = with_domain_in h.domains d x })
-sound_with h d x sound live same fds = record {
+pub sound_with : (h : Holding) (d : ℕ) (x : Domain (List Slice)) → IsSound h → (domain_in h.domains d).live ≡ true → x.aggs ≡ (domain_in h.domains d).aggs → Each (IsOpenEnd h.pipes) x.fds → IsOpenOnce (with_domain_in h.domains d x) → IsSound (record h { domains = with_domain_in h.domains d x })
+sound_with h d x sound live same fds once = record {
   domains = each-with_domain_in (IsDomainReadable h.store) h.domains d x sound.domains (subst (λ (es : List (ℕ × List Slice)). Each (λ e. AllReadable h.store e.1) es) (sym same) (aggs_readable h d sound));
   pipes = sound.pipes;
   fds = each-with_domain_in (λ (y : Domain (List Slice)). Each (IsOpenEnd h.pipes) y.fds) h.domains d x sound.fds fds;
+  once = once;
   counted = record { each = λ b. omega (arith, sound.counted.each b, uses-same b h.domains d x live same) };
   tidy = sound.tidy;
   still = sound.still;
@@ -202,8 +204,8 @@ sound_with h d x sound live same fds = record {
   few_pools = sound.few_pools;
 }
 
-pub sound_fds : (h : Holding) (d : ℕ) (xs : List (Option Descriptor)) → IsSound h → (domain_in h.domains d).live ≡ true → Each (IsOpenEnd h.pipes) xs → IsSound (record h { domains = with_fds_in h.domains d xs })
-sound_fds h d xs sound live fds = sound_with h d (record (domain_in h.domains d) { fds = xs }) sound live refl fds
+pub sound_fds : (h : Holding) (d : ℕ) (xs : List (Option Descriptor)) → IsSound h → (domain_in h.domains d).live ≡ true → Each (IsOpenEnd h.pipes) xs → IsOpenOnce (with_fds_in h.domains d xs) → IsSound (record h { domains = with_fds_in h.domains d xs })
+sound_fds h d xs sound live fds once = sound_with h d (record (domain_in h.domains d) { fds = xs }) sound live refl fds once
 
 -- limits, when a domain gets an aggregate, or gives one up
 

@@ -15,6 +15,7 @@ use Rattle.iol_pipe.specs.Queue.{may_see}
 use Rattle.iol_desc.specs.Tables.{with_agg_in, live_aggs_in}
 use Rattle.iol_kernel.specs.Seen.{Pipe, pipe_in, seen}
 use Rattle.iol_kernel.specs.Counted.{IsCounted}
+use Rattle.iol_kernel.specs.Ends.{IsOpenOnce}
 
 -- the layers' values: an aggregate and a queue are lists of slices of the store's buffers
 pub record Holding : Type 0 where
@@ -70,11 +71,12 @@ pub record IsLimited (domains : List (machine.Domain (List Slice))) (pipes : Lis
   pub few_pipes : length pipes ≤ MAX_PIPES
 
 -- Between any two events: what aggregates and queues name lies in live buffers of their pools, each buffer is counted
--- for each of its slices and no page is lost, and descriptors are open on open ends of pipes.
+-- for each of its slices and no page is lost, and descriptors are open on open ends of pipes, each on one of its own.
 pub record IsSound (h : Holding) : Type 0 where
   pub domains : Each (IsDomainReadable h.store) h.domains
   pub pipes : Each (IsPipeReadable h.store) h.pipes
   pub fds : Each (λ d. Each (IsOpenEnd h.pipes) d.fds) h.domains
+  pub once : IsOpenOnce h.domains
   pub counted : IsCounted h.store h.domains h.pipes
   pub tidy : IsTidy h.store
   pub still : IsStill h.store.arena

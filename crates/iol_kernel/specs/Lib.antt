@@ -1,5 +1,6 @@
 pub mod Seen
 pub mod Counted
+pub mod Ends
 pub mod Holding
 pub mod Kernel
 pub mod Report

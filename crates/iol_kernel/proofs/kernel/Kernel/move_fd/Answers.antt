@@ -23,7 +23,8 @@ pub returns-then-number-clause-moved : goal.returns-then-number-clause-moved
 returns-then-number-clause-moved c = moved_within-machine (holding c.args.self.now) (domains_of c.move_fd.new.self) c.args.by c.args.fd c.args.to c.args.given (sym c.number.ensures ∙ c.if-number.true ∙ c.number-2.ensures) c.move_fd.ensures.moved
 
 pub returns-then-number-clause-sound : goal.returns-then-number-clause-sound
-returns-then-number-clause-sound c = moved_within-sound (holding c.args.self.now) (domains_of c.move_fd.new.self) c.args.by c.args.fd c.args.given c.requires.sound (live_held (holding c.args.self.now) c.args.by c.requires.from) (end_held (holding c.args.self.now) c.args.by c.args.fd c.args.given c.requires.sound c.requires.given) c.move_fd.ensures.moved
+returns-then-number-clause-sound c = moved_within-sound (holding c.args.self.now) (domains_of c.move_fd.new.self) c.args.by c.args.fd c.args.given c.requires.sound (live_held (holding c.args.self.now) c.args.by c.requires.from)
+    (sym (descriptor_held (holding c.args.self.now) c.args.by c.args.fd) ∙ c.requires.given) (end_held (holding c.args.self.now) c.args.by c.args.fd c.args.given c.requires.sound c.requires.given) c.move_fd.ensures.moved
 
 pub add_fd-requires-clause-live : goal.add_fd-requires-clause-live
 add_fd-requires-clause-live c = live_held (holding c.args.self.now) c.args.to c.requires.to
@@ -57,4 +58,9 @@ pub returns-clause-moved : goal.returns-clause-moved
 returns-clause-moved c = moved_across-machine (holding c.args.self.now) (domains_of c.add_fd.new.self) (domains_of c.take_fd.new.self) c.args.by c.args.fd c.args.to c.args.given (λ e. c.if-number.false (c.number.ensures ∙ e ∙ sym c.number-2.ensures)) c.in_ok-number.ensures.opened c.take_fd.ensures
 
 pub returns-clause-sound : goal.returns-clause-sound
-returns-clause-sound c = moved_across-sound (holding c.args.self.now) (domains_of c.add_fd.new.self) (domains_of c.take_fd.new.self) c.args.by c.args.fd c.args.to c.args.given c.requires.sound (live_held (holding c.args.self.now) c.args.to c.requires.to) (other_live (domains_of c.args.self.now.domains) (domains_of c.add_fd.new.self) c.args.by c.args.to c.args.given (λ e. c.if-number.false (c.number.ensures ∙ sym e ∙ sym c.number-2.ensures)) c.in_ok-number.ensures.opened (live_held (holding c.args.self.now) c.args.by c.requires.from)) (end_held (holding c.args.self.now) c.args.by c.args.fd c.args.given c.requires.sound c.requires.given) c.in_ok-number.ensures.opened c.take_fd.ensures
+returns-clause-sound c =
+    let h = holding c.args.self.now in
+    let differ : c.args.by ≢ c.args.to = λ e. c.if-number.false (c.number.ensures ∙ e ∙ sym c.number-2.ensures) in
+    moved_across-sound h (domains_of c.add_fd.new.self) (domains_of c.take_fd.new.self) c.args.by c.args.fd c.args.to c.args.given c.requires.sound differ
+    (live_held h c.args.to c.requires.to) (live_held h c.args.by c.requires.from) (sym (descriptor_held h c.args.by c.args.fd) ∙ c.requires.given)
+    (end_held h c.args.by c.args.fd c.args.given c.requires.sound c.requires.given) c.in_ok-number.ensures.opened c.take_fd.ensures
