@@ -11,3 +11,4 @@ pub mod Reports
 pub mod Beginning
 pub mod Stay
 pub mod Sharing
+pub mod Additions

@@ -5,3 +5,4 @@ pub mod Holding
 pub mod Kernel
 pub mod Report
 pub mod Sharing
+pub mod Adding
