@@ -9,3 +9,5 @@ pub mod Reports
 pub mod Beginning
 pub mod Stay
 pub mod Sharing
+pub mod Exchanging
+pub mod Regrouping

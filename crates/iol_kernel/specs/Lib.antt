@@ -4,3 +4,4 @@ pub mod Holding
 pub mod Kernel
 pub mod Report
 pub mod Sharing
+pub mod Regrouped

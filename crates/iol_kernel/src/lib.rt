@@ -8,6 +8,7 @@ pub mod aggregates;
 pub mod descriptors;
 pub mod domains;
 pub mod kernel;
+pub mod moving;
 pub mod pools;
 pub mod queues;
 pub mod report;
