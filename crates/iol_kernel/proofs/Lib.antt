@@ -12,3 +12,5 @@ pub mod Beginning
 pub mod Stay
 pub mod Sharing
 pub mod Additions
+pub mod Exchanging
+pub mod Regrouping

@@ -6,3 +6,4 @@ pub mod Kernel
 pub mod Report
 pub mod Sharing
 pub mod Adding
+pub mod Regrouped

@@ -9,6 +9,7 @@ pub mod composing;
 pub mod descriptors;
 pub mod domains;
 pub mod kernel;
+pub mod moving;
 pub mod pools;
 pub mod queues;
 pub mod report;
