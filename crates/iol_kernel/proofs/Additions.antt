@@ -51,7 +51,7 @@ module _ (h : Holding) (t : Stored) (ds : List (Domain (List Slice))) (d : ℕ) 
   -- what is read of the new aggregate tells what the state becomes
   pub added-changes : (m : State → Text) → ((f : Place → ℕ × ℕ) → read f adds.slices ≡ m (read_of f h)) → Changes (λ s. aggs.with_agg s d (m s)) h (record h { store = t; domains = ds })
   added-changes m reads = record {
-    each = λ f. added-read f ∙ ap (aggs.with_agg (read_of f h) d) (reads f);
+    each = λ f keeps. added-read f ∙ ap (aggs.with_agg (read_of f h) d) (reads f);
     arena = adds.shares.arena;
   }
 

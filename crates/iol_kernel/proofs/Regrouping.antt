@@ -30,6 +30,7 @@ use Rattle.iol_kernel.specs.Sharing.{read_of, Changes}
 use Rattle.iol_kernel.proofs.Effects.{moved-sound, next_held}
 use Rattle.iol_kernel.proofs.Exchanging.{found_slices}
 use Rattle.iol_kernel.proofs.Meant.{domain-seen, with_domain-seen, aggregate-seen, without-map, live_aggs-seen}
+use Rattle.iol_kernel.proofs.Once.{once_same}
 use Rattle.iol_kernel.proofs.Sound.{each-without, each-with_domain_in, aggs_readable, aggs_small, agg_readable, agg_small, fds_stay}
 use Rattle.iol_kernel.proofs.Uses.{sum-with_domain, uses-without, length-without, agg_covered, countable}
 use Rattle.iol_kernel.proofs.Queueing.{none_held}
@@ -43,7 +44,7 @@ regrouped-sound h t d x given taken sound live same shares readable counts small
     moved-sound h.store t (with_domain_in h.domains d x) h.pipes (shares_move shares).stays
     (record { each = λ b. (let s = sum-with_domain (domain_uses b) h.domains d x live in omega (arith, sound.counted.each b, shares.counts.each b, counts b, s)) })
     (shares.tidy sound.tidy) ((shares_move shares).still sound.still)
-    (each-with_domain_in (IsDomainReadable h.store) h.domains d x sound.domains readable) sound.pipes (fds_stay h.pipes h.domains d x sound.fds same)
+    (each-with_domain_in (IsDomainReadable h.store) h.domains d x sound.domains readable) sound.pipes (fds_stay h.pipes h.domains d x sound.fds same) (once_same h.domains d x live same sound.once)
     (record {
       aggs = each-with_domain_in (λ (y : Domain (List Slice)). Each (λ e. byte_len e.1 ≤ 16777216) y.aggs) h.domains d x sound.limits.aggs small;
       few = (let s = sum-with_domain (λ (y : Domain (List Slice)). length y.aggs) h.domains d x live in omega (arith, few, s));
@@ -123,7 +124,7 @@ module _ (h : Holding) (t : Stored) (ds : List (Domain (List Slice))) (d a at : 
       ∙ split-seen f h.domains h.store.pools h.pipes d a at splits.first splits.second splits.before splits.after
 
   pub split-changes : Changes (λ s. (aggs.agg_split s d a at).after) h (record h { store = t; domains = ds })
-  split-changes = record { each = split-each; arena = splits.shares.arena }
+  split-changes = record { each = λ f keeps. split-each f; arena = splits.shares.arena }
 
   pub split-sound : IsSound h → (domain_in h.domains d).live ≡ true → agg_in h.domains d a ≢ None → live_aggs_in h.domains < 65536 → IsSound (record h { store = t; domains = ds })
   split-sound sound live there few =
