@@ -7,9 +7,10 @@ use Rattle.std.proofs.lemmas.Grind.{common_steps}
 use Rattle.std.proofs.lemmas.List.{set-get_or, set-set, append_assoc}
 use Rattle.iol_core.specs.Numbered.{lookup, without}
 use Rattle.iol_core.specs.State.{Domain, no_domain}
+use Rattle.iol_core.proofs.Lookups.{lookup-without}
 use Rattle.iol_desc.specs.Tables.{place_in, exchanged, domain_in, with_domain_in, with_aggs_in, agg_in, with_agg_in, without_agg_in, with_next}
 use Rattle.iol_hold.specs.declared.slices.Slice.{Slice}
-use Rattle.iol_kernel.specs.Regrouped.{slices_in, with_two}
+use Rattle.iol_kernel.specs.Regrouped.{slices_in, with_two, with_one}
 use Rattle.iol_kernel.proofs.Uses.{live_numbered}
 
 -- Of one domain's entries.
@@ -131,16 +132,6 @@ split_table ds rs fs ss d a first second live rest one two =
     changed_again (λ y. with_next y second) ds fs ss d (with_next (with_aggs x (without x.aggs a)) first) live e two
     ∙ ap (λ (y : Domain (List Slice)). with_domain_in ds d y) (two_numbered x a first second)
 
--- what was put in place of another stands there
-pub agg_exchanged : (ds ms : Domains) (d a : ℕ) (z : List Slice) → (domain_in ds d).live ≡ true → agg_in ds d a ≢ None → ms ≡ with_aggs_in ds d (exchanged (domain_in ds d).aggs a z) → agg_in ms d a ≡ Some z
-agg_exchanged ds ms d a z live there is =
-    ap (λ (ys : Domains). agg_in ys d a) is ∙ ap (λ (y : Domain (List Slice)). lookup y.aggs a) (domain_in-with ds d _ live) ∙ lookup-exchanged (domain_in ds d).aggs a z there
-
-pub live_aggs : (ds ms : Domains) (d : ℕ) (es : List (ℕ × List Slice)) → (domain_in ds d).live ≡ true → ms ≡ with_aggs_in ds d es → (domain_in ms d).live ≡ true
-live_aggs ds ms d es live is = ap (λ (ys : Domains). (domain_in ys d).live) is ∙ ap (λ (y : Domain (List Slice)). y.live) (domain_in-with ds d _ live) ∙ live
-
-pub ruleset table_rules = (domain_in-with, lookup-exchanged)
-
 -- the slices of an aggregate that was found
 pub slices_found : (ds : Domains) (d a : ℕ) (xs : List Slice) → Some xs ≡ agg_in ds d a → xs ≡ slices_in ds d a
 slices_found ds d a xs found = ap (λ (o : Option (List Slice)). unwrap_or o []) found
@@ -151,3 +142,36 @@ found_slices ds d a there = of (agg_in ds d a) there
     of : (o : Option (List Slice)) → o ≢ None → Some (unwrap_or o []) ≡ o
     of None none = absurd (none refl)
     of (Some xs) some = refl
+
+-- One aggregate in place of two.
+
+-- what another number stands for stays
+pub other_found : (ds ms : Domains) (d a b : ℕ) (z : List Slice) → (domain_in ds d).live ≡ true → a ≢ b → ms ≡ with_aggs_in ds d (exchanged (domain_in ds d).aggs a z) → agg_in ms d b ≡ agg_in ds d b
+other_found ds ms d a b z live differ is =
+    ap (λ (ys : Domains). agg_in ys d b) is
+    ∙ ap (λ (y : Domain (List Slice)). lookup y.aggs b) (domain_in-with ds d (with_aggs (domain_in ds d) (exchanged (domain_in ds d).aggs a z)) live)
+    ∙ lookup-exchanged_other (domain_in ds d).aggs a b z differ
+
+pub join_table : (ds fs ss rs ts js : Domains) (d a b : ℕ) (y z whole : List Slice) → (domain_in ds d).live ≡ true → fs ≡ with_aggs_in ds d (exchanged (domain_in ds d).aggs a y) → ss ≡ with_aggs_in fs d (exchanged (domain_in fs d).aggs b z)
+    → rs ≡ without_agg_in ss d a → ts ≡ without_agg_in rs d b → js ≡ with_agg_in ts d whole → js ≡ with_domain_in ds d (with_one (domain_in ds d) a b whole)
+join_table ds fs ss rs ts js d a b y z whole live one two three four five =
+    let x = domain_in ds d in
+    let es = exchanged x.aggs a y in
+    let fs' = exchanged es b z in
+    let e = changed_again (λ x. with_aggs x (exchanged x.aggs b z)) ds fs ss d (with_aggs x es) live one two in
+    let f = changed_again (λ x. with_aggs x (without x.aggs a)) ds ss rs d (with_aggs x fs') live e three in
+    let g = changed_again (λ x. with_aggs x (without x.aggs b)) ds rs ts d (with_aggs x (without fs' a)) live f four in
+    changed_again (λ x. with_next x whole) ds ts js d (with_aggs x (without (without fs' a) b)) live g five
+    ∙ ap (λ (es : List (ℕ × List Slice)). with_domain_in ds d (with_next (with_aggs x es) whole)) (without-twice fs' a b ∙ ap (λ (es : List (ℕ × List Slice)). without es a) (without-exchanged es b z) ∙ without-twice es b a ∙ ap (λ (es : List (ℕ × List Slice)). without es b) (without-exchanged x.aggs a y))
+
+still_live : (ds ms : Domains) (d : ℕ) (es : List (ℕ × List Slice)) → (domain_in ds d).live ≡ true → ms ≡ with_aggs_in ds d es → (domain_in ms d).live ≡ true
+still_live ds ms d es live is = ap (λ (ys : Domains). (domain_in ys d).live) is ∙ ap (λ (y : Domain (List Slice)). y.live) (domain_in-with ds d (with_aggs (domain_in ds d) es) live) ∙ live
+
+-- both come back, the second first
+pub both_back : (ds fs ss bs rs : Domains) (d a b : ℕ) (y z xs ys : List Slice) → (domain_in ds d).live ≡ true → Some xs ≡ agg_in ds d a → Some ys ≡ agg_in fs d b → fs ≡ with_aggs_in ds d (exchanged (domain_in ds d).aggs a y)
+    → ss ≡ with_aggs_in fs d (exchanged (domain_in fs d).aggs b z) → bs ≡ with_aggs_in ss d (exchanged (domain_in ss d).aggs b ys) → rs ≡ with_aggs_in bs d (exchanged (domain_in bs d).aggs a xs) → rs ≡ ds
+both_back ds fs ss bs rs d a b y z xs ys live first second one two three four =
+    let mid : bs ≡ fs = put_back fs ss bs d b z ys (still_live ds fs d (exchanged (domain_in ds d).aggs a y) live one) second two three in
+    put_back ds fs rs d a y xs live first one (four ∙ ap (λ (vs : Domains). with_aggs_in vs d (exchanged (domain_in vs d).aggs a xs)) mid)
+
+pub ruleset table_rules = (domain_in-with, lookup-exchanged, lookup-exchanged_other, lookup-without)

@@ -3,13 +3,14 @@ use Rattle.std.proofs.Common.{◌≡◌, ◌≢◌, ℕ, ◌+◌, ◌<◌, ◌�
 use Rattle.std.specs.Prelude.{unwrap_or, option_map, nat_lt, ◌||◌}
 use Rattle.std.proofs.lemmas.Bool.Decides.{nat_tests}
 use Rattle.std.proofs.lemmas.List.{map-append, length-take, length-drop}
-use Rattle.std.proofs.lemmas.List.Sums.{sum_by-append}
+use Rattle.std.proofs.lemmas.List.Sums.{sum_by-append, sum_by_push}
 use Rattle.iol_core.specs.Text.{Text}
-use Rattle.iol_core.specs.Numbered.{without}
+use Rattle.iol_core.specs.Numbered.{lookup, without}
 use Rattle.iol_core.specs.State as machine
 use Rattle.iol_core.specs.State.{State, Domain}
 use Rattle.iol_core.specs.Calls.Aggregates as aggs
 use Rattle.iol_core.specs.declared.numbers.BufId.{BufId}
+use Rattle.iol_core.proofs.Lookups.{lookup-without}
 use Rattle.iol_pool.specs.Pools.{Pool}
 use Rattle.iol_hold.specs.Stored.{Stored}
 use Rattle.iol_hold.specs.Layout.{read, layout_text}
@@ -17,21 +18,26 @@ use Rattle.iol_hold.specs.Moves.{Shares, Covers, IsCountable, tally}
 use Rattle.iol_hold.specs.Places.{Place, places, byte_len}
 use Rattle.iol_hold.specs.Texts.{byte_at, text_of, bufs_of, AllReadable}
 use Rattle.iol_hold.specs.declared.slices.Slice.{Slice}
-use Rattle.iol_hold.proofs.AtPlaces.{length-read, read_taken, read_rest}
-use Rattle.iol_hold.proofs.Counting.{tally-append}
-use Rattle.iol_hold.proofs.Moving.{shares_move}
-use Rattle.iol_hold.proofs.Reading.{readable_taken, readable_rest}
+use Rattle.iol_hold.proofs.AtPlaces.{length-read, read_taken, read_rest, read-append}
+use Rattle.iol_hold.proofs.Counting.{tally-append, bufs-append}
+use Rattle.iol_hold.proofs.Moving.{shares_move, shares_none}
+use Rattle.iol_hold.proofs.Reading.{readable_taken, readable_rest, readable_joined}
+use Rattle.iol_hold.proofs.Slicing.{byte_len-append}
 use Rattle.iol_desc.specs.Tables.{domain_in, with_domain_in, agg_in, live_aggs_in}
 use Rattle.iol_kernel.specs.Seen.{Pipe, meant, seen}
 use Rattle.iol_kernel.specs.Counted.{uses, domain_uses}
 use Rattle.iol_kernel.specs.Holding.{Holding, machine_of, layout_of, Each, IsDomainReadable, IsSound}
-use Rattle.iol_kernel.specs.Regrouped.{slices_in, with_two, SplitsAgg}
+use Rattle.iol_kernel.specs.Regrouped.{slices_in, with_two, with_one, joined_in, SplitsAgg}
 use Rattle.iol_kernel.specs.Sharing.{read_of, Changes}
 use Rattle.iol_kernel.proofs.Effects.{moved-sound, next_held}
 use Rattle.iol_kernel.proofs.Exchanging.{found_slices}
 use Rattle.iol_kernel.proofs.Meant.{domain-seen, with_domain-seen, aggregate-seen, without-map, live_aggs-seen}
+<<<<<<< HEAD
 use Rattle.iol_kernel.proofs.Once.{once_same}
 use Rattle.iol_kernel.proofs.Sound.{each-without, each-with_domain_in, aggs_readable, aggs_small, agg_readable, agg_small, fds_stay}
+=======
+use Rattle.iol_kernel.proofs.Sound.{each-push, each-without, each-with_domain_in, aggs_readable, aggs_small, agg_readable, agg_small, fds_stay}
+>>>>>>> 57ec4847d29726dd5640840a66bbb1df1c29c973
 use Rattle.iol_kernel.proofs.Uses.{sum-with_domain, uses-without, length-without, agg_covered, countable}
 use Rattle.iol_kernel.proofs.Queueing.{none_held}
 
@@ -77,6 +83,13 @@ next_laid h d = ap (λ (x : Domain Text). x.next_agg) (domain-seen layout_text h
 live_aggs_held : (h : Holding) → machine.live_aggs (machine_of h) ≡ live_aggs_in h.domains
 unfolding machine_of
 live_aggs_held h = live_aggs-seen (text_of h.store) h.domains h.store.pools h.pipes
+
+-- one more number
+pub few_one : (h : Holding) (d : ℕ) → aggs.too_many_aggs (machine_of h) d 1 2 ≡ false → (domain_in h.domains d).next_agg < 18446744073709551615
+few_one h d few = omega (arith, below (machine.live_aggs (machine_of h)) (machine.domain (machine_of h) d).next_agg few, next_held h d)
+  where
+    below : (n m : ℕ) → (nat_lt (65536 + 2) (n + 1) || nat_lt (18446744073709551614 + 1) (m + 1)) ≡ false → m < 18446744073709551615
+    below n m few = grind (arith, nat_tests, few)
 
 -- two more numbers, and one more aggregate
 pub few_two : (h : Holding) (d : ℕ) → aggs.too_many_aggs (machine_of h) d 2 1 ≡ false → ((domain_in h.domains d).next_agg + 1 < 18446744073709551615) × (live_aggs_in h.domains < 65536)
@@ -149,3 +162,53 @@ module _ (h : Holding) (t : Stored) (ds : List (Domain (List Slice))) (d a at : 
       each-two : (P : ℕ × List Slice → Type 0) (es : List (ℕ × List Slice)) (e f : ℕ × List Slice) → Each P es → P e → P f → Each P (es ++ e ∷ f ∷ [])
       each-two P [] e f h p q = (p, (q, tt))
       each-two P (g ∷ es) e f h p q = (h.0, each-two P es e f h.1 p q)
+
+-- Two aggregates are joined; the store stays as it was.
+
+join-seen : (f : Place → ℕ × ℕ) (ds : List (Domain (List Slice))) (ps : List Pool) (qs : List (Option (Pipe (List Slice)))) (d a b : ℕ) → seen (read f) (joined_in ds d a b) ps qs ≡ (aggs.agg_join (seen (read f) ds ps qs) d a b).after
+join-seen f ds ps qs d a b =
+    let s : State = seen (read f) ds ps qs in
+    let x : Domain (List Slice) = domain_in ds d in
+    let n : ℕ = x.next_agg in
+    let whole : List Slice = slices_in ds d a ++ slices_in ds d b in
+    let text : Text = machine.text s d a ++ machine.text s d b in
+    let one : read f whole ≡ text =
+    read-append f (slices_in ds d a) (slices_in ds d b)
+    ∙ ap (λ (w : Text). w ++ read f (slices_in ds d b)) (sym (text_read f ds ps qs d a))
+    ∙ ap (λ (w : Text). machine.text s d a ++ w) (sym (text_read f ds ps qs d b)) in
+    with_domain-seen (read f) ds ps qs d (with_one x a b whole)
+    ∙ ap (λ (es : List (ℕ × Text)). machine.with_domain s d (record (meant (read f) x) { aggs = es; next_agg = n + 1 })) (map-append (λ (e : ℕ × List Slice). (e.0, read f e.1)) (without (without x.aggs a) b) ((n, whole) ∷ []))
+    ∙ ap (λ (es : List (ℕ × Text)). machine.with_domain s d (record (meant (read f) x) { aggs = es ++ (n, read f whole) ∷ []; next_agg = n + 1 })) (without-map (read f) (without x.aggs a) b)
+    ∙ ap (λ (es : List (ℕ × Text)). machine.with_domain s d (record (meant (read f) x) { aggs = without es b ++ (n, read f whole) ∷ []; next_agg = n + 1 })) (without-map (read f) x.aggs a)
+    ∙ ap (λ (w : Text). machine.with_domain s d (record (meant (read f) x) { aggs = without (without (meant (read f) x).aggs a) b ++ (n, w) ∷ []; next_agg = n + 1 })) one
+    ∙ ap (λ (y : Domain Text). machine.with_domain s d (record y { aggs = without (without y.aggs a) b ++ (y.next_agg, text) ∷ []; next_agg = y.next_agg + 1 })) (sym (domain-seen (read f) ds ps qs d))
+
+module _ (h : Holding) (ds : List (Domain (List Slice))) (d a b : ℕ) (joined : ds ≡ joined_in h.domains d a b) where
+  join-each : (f : Place → ℕ × ℕ) → read_of f (record h { domains = ds }) ≡ (aggs.agg_join (read_of f h) d a b).after
+  unfolding read_of
+  join-each f = ap (λ (ys : List (Domain (List Slice))). seen (read f) ys h.store.pools h.pipes) joined ∙ join-seen f h.domains h.store.pools h.pipes d a b
+
+  pub join-changes : Changes (λ s. (aggs.agg_join s d a b).after) h (record h { domains = ds })
+  join-changes = record { each = join-each; arena = refl }
+
+  pub join-sound : IsSound h → (domain_in h.domains d).live ≡ true → agg_in h.domains d a ≢ None → agg_in h.domains d b ≢ None → a ≢ b → byte_len (slices_in h.domains d a) + byte_len (slices_in h.domains d b) ≤ 16777216 → IsSound (record h { domains = ds })
+  join-sound sound live first second differ short =
+      let x : Domain (List Slice) = domain_in h.domains d in
+      let xs : List Slice = slices_in h.domains d a in
+      let ys : List Slice = slices_in h.domains d b in
+      let found = found_slices h.domains d a first in
+      let also : Some ys ≡ lookup (without x.aggs a) b = found_slices h.domains d b second ∙ sym (lookup-without x.aggs a b differ) in
+      let readable : AllReadable h.store (xs ++ ys) = readable_joined (agg_readable h d a xs sound found) (agg_readable h d b ys sound (found_slices h.domains d b second)) in
+      let rest : List (ℕ × List Slice) = without (without x.aggs a) b in
+      subst (λ (zs : List (Domain (List Slice))). IsSound (record h { domains = zs })) (sym joined)
+      (regrouped-sound h h.store d (with_one x a b (xs ++ ys)) [] [] sound live refl (shares_none h.store)
+      (each-push (λ (e : ℕ × List Slice). AllReadable h.store e.1) rest (x.next_agg, xs ++ ys)
+      (each-without (λ (e : ℕ × List Slice). AllReadable h.store e.1) (without x.aggs a) b (each-without (λ (e : ℕ × List Slice). AllReadable h.store e.1) x.aggs a (aggs_readable h d sound))) readable)
+      (λ c. (let u = uses-without c x.aggs a xs found in
+      let v = uses-without c (without x.aggs a) b ys also in
+      let w = sum_by_push (λ (e : ℕ × List Slice). uses c e.1) rest (x.next_agg, xs ++ ys) in
+      let t = ap (tally c) (bufs-append xs ys) ∙ tally-append c (bufs_of xs) (bufs_of ys) in
+      omega (arith, u, v, w, t)))
+      (each-push (λ (e : ℕ × List Slice). byte_len e.1 ≤ 16777216) rest (x.next_agg, xs ++ ys)
+      (each-without (λ (e : ℕ × List Slice). byte_len e.1 ≤ 16777216) (without x.aggs a) b (each-without (λ (e : ℕ × List Slice). byte_len e.1 ≤ 16777216) x.aggs a (aggs_small h d sound))) (omega (arith, short, byte_len-append xs ys)))
+      (omega (arith, sound.limits.few, length-without x.aggs a xs found, length-without (without x.aggs a) b ys also, length-append rest ((x.next_agg, xs ++ ys) ∷ []))))

@@ -35,3 +35,7 @@ pub record SplitsAgg (s t : Stored) (old new : List (Domain (List Slice))) (d a 
   pub after : places second ≡ drop at (places (slices_in old d a))
   pub shares : Shares s t (bufs_of (slices_in old d a)) (bufs_of first ++ bufs_of second)
   pub split : new ≡ with_domain_in old d (with_two (domain_in old d) a first second)
+
+-- with two of a domain's aggregates joined
+abbrev pub joined_in : List (Domain (List Slice)) → (d a b : ℕ) → List (Domain (List Slice))
+joined_in ds d a b = with_domain_in ds d (with_one (domain_in ds d) a b (slices_in ds d a ++ slices_in ds d b))

@@ -9,11 +9,12 @@ ghost use Rattle.iol_hold.specs.Places.{byte_len};
 ghost use Rattle.iol_hold.specs.Texts.{bufs_of};
 ghost use Rattle.iol_desc.specs.Tables.{domains_of, domain_in, agg_in};
 ghost use Rattle.iol_kernel.specs.Holding.{machine_of, layout_of, IsSound};
-ghost use Rattle.iol_kernel.specs.Regrouped.{slices_in, SplitsAgg};
+ghost use Rattle.iol_kernel.specs.Regrouped.{slices_in, joined_in, SplitsAgg};
 ghost use Rattle.iol_kernel.specs.Sharing.{SharesBy};
 
 use crate::kernel::Kernel;
 use iol_agg::Agg;
+use iol_core::limits::MAX_AGGREGATE_BYTES;
 use iol_core::numbers::{AggId, DomainId};
 use iol_core::refusals::Refusal;
 use iol_desc::table::Table;
@@ -52,6 +53,43 @@ fn split_agg(
         }
         Err(error) => {
             domains.swap_agg(d, agg, error.value);
+            Err(AllocError)
+        }
+    }
+}
+
+/// Joins two aggregates of a domain to its next one.
+#[tactic(auto, using(crate::proofs::Exchanging::table_rules))]
+fn join_aggs(
+    alloc: Global,
+    domains: &mut Table<Agg>,
+    d: DomainId,
+    first: AggId,
+    second: AggId,
+) -> Result<AggId, AllocError>
+    requires live { (domain_in (domains_of domains.old) d).live ≡ true }
+    requires first { agg_in (domains_of domains.old) d first ≢ None }
+    requires second { agg_in (domains_of domains.old) d second ≢ None }
+    requires differ { first ≢ second }
+    requires few { (domain_in (domains_of domains.old) d).next_agg < 2 ^ 64 - 1 }
+    requires small { byte_len (slices_in (domains_of domains.old) d first) + byte_len (slices_in (domains_of domains.old) d second) < 2 ^ 32 }
+    ensures number { IfOk result (λ n. n ≡ (domain_in (domains_of domains.old) d).next_agg) }
+    ensures joined { OnOk result (domains_of domains.new ≡ joined_in (domains_of domains.old) d first second) }
+    ensures err { OnErr result (domains_of domains.new ≡ domains_of domains.old) }
+{
+    domains.reserve_aggs(d, 1)?;
+    let front = domains.swap_agg(d, first, Agg::new(alloc));
+    let back = domains.swap_agg(d, second, Agg::new(alloc));
+    match front.join(back) {
+        Ok(whole) => {
+            domains.take_agg(d, first);
+            domains.take_agg(d, second);
+            Ok(domains.add_agg(d, whole))
+        }
+        Err(error) => {
+            let (front, back) = error.value;
+            domains.swap_agg(d, second, back);
+            domains.swap_agg(d, first, front);
             Err(AllocError)
         }
     }
@@ -112,6 +150,62 @@ impl Kernel {
     {
         match split_agg(self.alloc, &mut self.store, &mut self.domains, by, agg, at) {
             Ok(numbers) => Ok(numbers),
+            Err(error) => Err(error),
+        }
+    }
+
+    #[tactic(auto, using(crate::proofs::Stay::stay_rules))]
+    pub fn agg_join(&mut self, by: DomainId, first: AggId, second: AggId) -> Result<AggId, Refusal>
+        requires { IsSound (holding self.old) }
+        ensures step { Step (calls.agg_join (machine_of (holding self.old)) by first second) (machine_of (holding self.old)) result (machine_of (holding self.new)) }
+        ensures shares { SharesBy (λ s. calls.agg_join s by first second) (holding self.old) result (holding self.new) }
+        ensures roomy { (p : ℕ) → result ≡ Err (Refusal.NoRoom p) → ⊥ }
+        ensures sound { IsSound (holding self.new) }
+        ensures stays { Stays (holding self.old).store (holding self.new).store }
+    {
+        if !self.is_live(by) {
+            return Err(Refusal::NoDomain);
+        }
+        if self.lacks_agg(by, first)
+            || self.lacks_agg(by, second)
+            || first.number() == second.number()
+        {
+            return Err(Refusal::BadAgg);
+        }
+        let len = self.agg_len(by, first) as u64 + self.agg_len(by, second) as u64;
+        if len > MAX_AGGREGATE_BYTES as u64 {
+            return Err(Refusal::TooLong);
+        }
+        if self.is_too_many(by, 1, 2) {
+            return Err(Refusal::TooMany);
+        }
+        match self.join_two(by, first, second) {
+            Ok(number) => Ok(number),
+            Err(_) => Err(Refusal::Memory),
+        }
+    }
+
+    /// Joins two aggregates to the domain's next one.
+    #[tactic(auto, using(crate::proofs::Stay::stay_rules))]
+    fn join_two(&mut self, by: DomainId, first: AggId, second: AggId) -> Result<AggId, AllocError>
+        requires sound { IsSound (holding self.old) }
+        requires live { is_live (machine_of (holding self.old)) by ≡ true }
+        requires first { lacks_agg (machine_of (holding self.old)) by first ≡ false }
+        requires second { lacks_agg (machine_of (holding self.old)) by second ≡ false }
+        requires differ { first ≢ second }
+        requires short { length (text (machine_of (holding self.old)) by first) + length (text (machine_of (holding self.old)) by second) ≤ MAX_AGGREGATE_BYTES }
+        requires few { too_many_aggs (machine_of (holding self.old)) by 1 2 ≡ false }
+        ensures number { IfOk result (λ n. n ≡ (calls.agg_join (machine_of (holding self.old)) by first second).answer) }
+        ensures laid_number { IfOk result (λ n. n ≡ (calls.agg_join (layout_of (holding self.old)) by first second).answer) }
+        ensures joined { OnOk result (machine_of (holding self.new) ≡ (calls.agg_join (machine_of (holding self.old)) by first second).after) }
+        ensures laid { OnOk result (layout_of (holding self.new) ≡ (calls.agg_join (layout_of (holding self.old)) by first second).after) }
+        ensures err { OnErr result (machine_of (holding self.new) ≡ machine_of (holding self.old)) }
+        ensures err_laid { OnErr result (layout_of (holding self.new) ≡ layout_of (holding self.old)) }
+        ensures store { (holding self.new).store ≡ (holding self.old).store }
+        ensures sound { IsSound (holding self.new) }
+    {
+        match join_aggs(self.alloc, &mut self.domains, by, first, second) {
+            Ok(number) => Ok(number),
             Err(error) => Err(error),
         }
     }
