@@ -6,6 +6,8 @@ pub mod Ends
 pub mod Effects
 pub mod Pipes
 pub mod Queueing
+pub mod ClosedEnds
+pub mod CloseAll
 pub mod Reports
 pub mod Beginning
 pub mod Stay

@@ -5,6 +5,7 @@
 #![tactic(auto)]
 
 pub mod aggregates;
+pub mod closing;
 pub mod descriptors;
 pub mod domains;
 pub mod kernel;
