@@ -205,6 +205,15 @@ impl<A: Drop> Domain<A> {
         mem::replace(&mut self.aggs, Vec::new(alloc))
     }
 
+    /// Takes what the numbers are open on: none is open any more.
+    pub(crate) fn take_fds(&mut self, alloc: Global) -> Vec<Option<Descriptor>>
+        ensures given { result.items ≡ self.old.domain.fds }
+        ensures rest { self.new.domain ≡ record self.old.domain { fds = [] } }
+        ensures room { self.old.room ≤ self.new.room }
+    {
+        mem::replace(&mut self.fds, Vec::new(alloc))
+    }
+
     /// What a descriptor is open on.
     pub(crate) fn descriptor(&self, fd: Fd) -> Option<Descriptor>
         ensures { result ≡ in_place self.now.domain.fds fd }

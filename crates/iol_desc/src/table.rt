@@ -278,6 +278,19 @@ impl<A: Drop> Table<A> {
         domain.take_fd(fd);
     }
 
+    /// Takes what a domain's numbers are open on, by rising number: none is open any more.
+    #[tactic(auto, using(crate::proofs::Rows::row_rules), unfolding(crate::specs::Tables::domain_in, crate::specs::Tables::with_domain_in))]
+    pub fn take_fds(&mut self, d: DomainId) -> Vec<Option<Descriptor>>
+        requires { (domain_in (domains_of self.old) d).live ≡ true }
+        ensures given { result.items ≡ (domain_in (domains_of self.old) d).fds }
+        ensures rest { domains_of self.new ≡ with_fds_in (domains_of self.old) d [] }
+    {
+        let at = self.place_of(d);
+        let alloc = self.alloc;
+        let domain = &mut self.rows[at];
+        domain.take_fds(alloc)
+    }
+
     /// Moves a domain's descriptor to its lowest number that is free when its own is.
     #[tactic(auto, using(crate::proofs::Rows::row_rules), unfolding(crate::specs::Tables::domain_in, crate::specs::Tables::with_domain_in))]
     pub fn move_fd(&mut self, d: DomainId, fd: Fd, on: Descriptor) -> Fd

@@ -7,6 +7,8 @@ pub mod Effects
 pub mod Pipes
 pub mod Flowing
 pub mod Queueing
+pub mod ClosedEnds
+pub mod CloseAll
 pub mod Reports
 pub mod Beginning
 pub mod Stay

@@ -103,6 +103,12 @@ same_end-differs (on.WriteEnd p) (on.Connection c) differ = refl
 same_end-differs (on.File f at mode) y differ = refl
 same_end-differs (on.Connection c) y differ = refl
 
+pub same_end-itself : (qs : Pipes) (x : Descriptor) → IsOpenEnd qs (Some x) → same_end x x ≡ 1
+same_end-itself qs (on.ReadEnd p) h = grind (arith, nat_tests)
+same_end-itself qs (on.WriteEnd p) h = grind (arith, nat_tests)
+same_end-itself qs (on.File f at mode) h = absurd h
+same_end-itself qs (on.Connection c) h = absurd h
+
 one_at_most : (b : Bool) → cond b 1 0 ≤ 1
 one_at_most true = omega arith
 one_at_most false = omega arith

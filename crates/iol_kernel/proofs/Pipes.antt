@@ -24,7 +24,7 @@ use Rattle.iol_kernel.specs.Ends.{all_ends_on, IsOpenOnce}
 use Rattle.iol_kernel.specs.Holding.{Holding, machine_of, Each, IsOpenEnd, IsPipeReadable, IsSound, IsShort}
 use Rattle.iol_kernel.proofs.Meant.{add_pipe-seen, lowest-seen, taken-seen}
 use Rattle.iol_kernel.proofs.Sound.{each-set, each-get, each-weaker, each-placed, ends_open}
-use Rattle.iol_kernel.proofs.Once.{ends-with_domain, ends-placed, ends-freed, once_fewer, once_freed, both_once, all_ends_closed}
+use Rattle.iol_kernel.proofs.Once.{same_end-itself, ends-with_domain, ends-placed, ends-freed, once_fewer, once_freed, both_once, all_ends_closed}
 use Rattle.iol_kernel.proofs.Ends.{ends_placed, lowest_closed, new_reading, new_writing}
 use Rattle.iol_kernel.proofs.Effects.{fds_held, fds-machine, fds-sound}
 
@@ -122,6 +122,17 @@ descriptor_held h d fd = ap (λ (xs : List (Option Descriptor)). in_place xs fd)
 pub freed-sound : (h : Holding) (ds : List (Domain (List Slice))) (d fd : ℕ) (x : Descriptor) → IsSound h → (domain_in h.domains d).live ≡ true → in_place (domain_in h.domains d).fds fd ≡ Some x → ds ≡ with_fds_in h.domains d (slice_set (domain_in h.domains d).fds fd None) → IsSound (record h { domains = ds })
 freed-sound h ds d fd x sound live there is =
     fds-sound h ds d (slice_set (domain_in h.domains d).fds fd None) sound live is (each-set (IsOpenEnd h.pipes) (domain_in h.domains d).fds fd None (ends_open h d sound) tt) (once_freed h.domains d fd x live there sound.once)
+
+-- then no other is open on its end
+pub freed-alone : (h : Holding) (ds : List (Domain (List Slice))) (d fd : ℕ) (x : Descriptor) → IsSound h → (domain_in h.domains d).live ≡ true → in_place (domain_in h.domains d).fds fd ≡ Some x → IsOpenEnd h.pipes (Some x) → ds ≡ with_fds_in h.domains d (slice_set (domain_in h.domains d).fds fd None) → all_ends_on x ds ≡ 0
+freed-alone h ds d fd x sound live there open' is = omega (
+  arith,
+  ap (all_ends_on x) is,
+  sound.once.each x,
+  ends-with_domain x h.domains d (record (domain_in h.domains d) { fds = slice_set (domain_in h.domains d).fds fd None }) live,
+  ends-freed x x (domain_in h.domains d).fds fd there,
+  same_end-itself h.pipes x open',
+)
 
 -- a descriptor moves
 

@@ -134,7 +134,7 @@ uses-placed b qs x = elim (cases_lt (lowest qs) (length qs)) [
       omega (arith, e, ap (sum_by (pipe_uses b)) p))
 ]
 
-uses_at : (b : BufId) (qs : Pipes) (p : ℕ) → pipe_uses b (in_place qs p) ≡ uses b (queue_at qs p).queue
+pub uses_at : (b : BufId) (qs : Pipes) (p : ℕ) → pipe_uses b (in_place qs p) ≡ uses b (queue_at qs p).queue
 unfolding tally
 uses_at b qs p = of (in_place qs p)
   where

@@ -6,6 +6,7 @@
 
 pub mod aggregates;
 pub mod composing;
+pub mod closing;
 pub mod descriptors;
 pub mod domains;
 pub mod kernel;

@@ -134,13 +134,13 @@ impl Kernel {
         if self.is_closed(pool) {
             return Err(Refusal::PoolClosed { pool });
         }
-        self.close(pool);
+        self.end_pool(pool);
         Ok(())
     }
 
     /// Closes a pool. No file and no connection can name it yet.
     #[tactic(auto, using(crate::proofs::Stay::stay_rules))]
-    fn close(&mut self, p: PoolId)
+    fn end_pool(&mut self, p: PoolId)
         requires sound { IsSound (holding self.old) }
         requires there { is_pool (machine_of (holding self.old)) p ≡ true }
         ensures idle { calls.is_busy (machine_of (holding self.old)) p ≡ false }

@@ -1,7 +1,7 @@
 use Rattle.std.proofs.Common.{◌∙◌, sym}
 use Rattle.iol_kernel.specs.Kernel.{holding}
 use Rattle.iol_kernel.proofs.Effects.{closed-machine, unmoved-sound, as_many_pools, is_pool_held, idle_held}
-use Rattle.iol_kernel.proofs.kernel.Kernel.close.Goals as goal
+use Rattle.iol_kernel.proofs.kernel.Kernel.end_pool.Goals as goal
 
 pub close_pool-requires : goal.close_pool-requires
 close_pool-requires c = sym (is_pool_held (holding c.args.self.now) c.args.p) ∙ c.requires.there

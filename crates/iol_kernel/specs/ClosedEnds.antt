@@ -1,0 +1,32 @@
+-- What closing an end does to a pipe, and to the pipes.
+use Rattle.std.specs.Prelude.{◌≡◌, ℕ, false, ◌||◌, if◌then◌else◌, List, [], Option, Some, None, slice_set}
+use Rattle.iol_core.specs.declared.descriptors.Descriptor.{Descriptor}
+use Rattle.iol_hold.specs.Stored.{Stored}
+use Rattle.iol_hold.specs.Moves.{Moves, SameLists}
+use Rattle.iol_hold.specs.Texts.{bufs_of}
+use Rattle.iol_hold.specs.declared.slices.Slice.{Slice}
+use Rattle.iol_kernel.specs.Seen.{Pipe}
+use Rattle.iol_kernel.specs.Ends.{same_end}
+use Rattle.iol_kernel.specs.Holding.{queue_at, IsOpenEnd}
+
+-- a pipe whose read end is closed: nothing waits any more
+abbrev pub without_reader : Pipe (List Slice) → Pipe (List Slice)
+without_reader x = record { queue = []; reading = false; writing = x.writing }
+
+-- a pipe whose write end is closed: where nobody reads either, nothing waits
+abbrev pub without_writer : Pipe (List Slice) → Pipe (List Slice)
+without_writer x = record { queue = if x.reading then x.queue else []; reading = x.reading; writing = false }
+
+-- with x in a place; a pipe whose ends are both closed is gone
+abbrev pub with_pipe_in : List (Option (Pipe (List Slice))) → (p : ℕ) → Pipe (List Slice) → List (Option (Pipe (List Slice)))
+with_pipe_in pipes p x = slice_set pipes p (if x.reading || x.writing then Some x else None)
+
+-- the pipe p became x, which holds a part of what it held
+pub record ClosesEnd (s t : Stored) (old new : List (Option (Pipe (List Slice)))) (p : ℕ) (x : Pipe (List Slice)) : Type 0 where
+  pub pipes : new ≡ with_pipe_in old p x
+  pub moves : Moves s t (bufs_of (queue_at old p).queue) (bufs_of x.queue)
+  pub lists : SameLists s t
+
+-- all ends but one stay open
+pub record KeepsEnds (end : Descriptor) (old new : List (Option (Pipe (List Slice)))) : Type 0 where
+  pub each : (e : Descriptor) → same_end end e ≡ 0 → IsOpenEnd old (Some e) → IsOpenEnd new (Some e)
