@@ -32,12 +32,8 @@ use Rattle.iol_kernel.specs.Sharing.{read_of, Changes}
 use Rattle.iol_kernel.proofs.Effects.{moved-sound, next_held}
 use Rattle.iol_kernel.proofs.Exchanging.{found_slices}
 use Rattle.iol_kernel.proofs.Meant.{domain-seen, with_domain-seen, aggregate-seen, without-map, live_aggs-seen}
-<<<<<<< HEAD
 use Rattle.iol_kernel.proofs.Once.{once_same}
-use Rattle.iol_kernel.proofs.Sound.{each-without, each-with_domain_in, aggs_readable, aggs_small, agg_readable, agg_small, fds_stay}
-=======
 use Rattle.iol_kernel.proofs.Sound.{each-push, each-without, each-with_domain_in, aggs_readable, aggs_small, agg_readable, agg_small, fds_stay}
->>>>>>> 57ec4847d29726dd5640840a66bbb1df1c29c973
 use Rattle.iol_kernel.proofs.Uses.{sum-with_domain, uses-without, length-without, agg_covered, countable}
 use Rattle.iol_kernel.proofs.Queueing.{none_held}
 
@@ -189,7 +185,7 @@ module _ (h : Holding) (ds : List (Domain (List Slice))) (d a b : ℕ) (joined :
   join-each f = ap (λ (ys : List (Domain (List Slice))). seen (read f) ys h.store.pools h.pipes) joined ∙ join-seen f h.domains h.store.pools h.pipes d a b
 
   pub join-changes : Changes (λ s. (aggs.agg_join s d a b).after) h (record h { domains = ds })
-  join-changes = record { each = join-each; arena = refl }
+  join-changes = record { each = λ f keeps. join-each f; arena = refl }
 
   pub join-sound : IsSound h → (domain_in h.domains d).live ≡ true → agg_in h.domains d a ≢ None → agg_in h.domains d b ≢ None → a ≢ b → byte_len (slices_in h.domains d a) + byte_len (slices_in h.domains d b) ≤ 16777216 → IsSound (record h { domains = ds })
   join-sound sound live first second differ short =
