@@ -11,3 +11,5 @@ pub mod Beginning
 pub mod Stay
 pub mod Sharing
 pub mod Additions
+pub mod Barring
+pub mod Gifts

@@ -8,6 +8,7 @@ pub mod aggregates;
 pub mod composing;
 pub mod descriptors;
 pub mod domains;
+pub mod giving;
 pub mod kernel;
 pub mod pools;
 pub mod queues;
