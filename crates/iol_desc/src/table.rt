@@ -163,6 +163,7 @@ impl<A: Drop> Table<A> {
         ensures given { Some result ≡ agg_in (domains_of self.old) d agg }
         ensures rest { domains_of self.new ≡ without_agg_in (domains_of self.old) d agg }
         ensures room { room_in self.old d ≤ room_in self.new d }
+        ensures others { (e : ℕ) → d ≢ e → room_in self.new e ≡ room_in self.old e }
     {
         let at = self.place_of(d);
         let domain = &mut self.rows[at];

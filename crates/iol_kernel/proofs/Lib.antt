@@ -16,3 +16,5 @@ pub mod Sharing
 pub mod Additions
 pub mod Exchanging
 pub mod Regrouping
+pub mod Barring
+pub mod Gifts

@@ -9,6 +9,7 @@ pub mod composing;
 pub mod closing;
 pub mod descriptors;
 pub mod domains;
+pub mod giving;
 pub mod kernel;
 pub mod moving;
 pub mod pools;
