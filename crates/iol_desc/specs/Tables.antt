@@ -13,6 +13,11 @@ pub record Row (A : Type 0) : Type 0 where
   pub domain : Domain A
   pub room : ℕ
 
+-- places, some of them free, and how many more can be taken without asking for memory
+pub record Slots (A : Type 0) : Type 0 where
+  pub places : List (Option A)
+  pub room : ℕ
+
 abbrev pub no_row : {A : Type 0} → Row A
 no_row = record { domain = no_domain; room = 0 }
 
