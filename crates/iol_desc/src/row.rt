@@ -123,7 +123,8 @@ impl<A: Drop> Domain<A> {
     pub(crate) fn end(&mut self)
         requires no_aggs { self.old.domain.aggs ≡ [] }
         requires no_fds { taken self.old.domain.fds ≡ 0 }
-        ensures { self.new.domain ≡ no_domain }
+        ensures ended { self.new.domain ≡ no_domain }
+        ensures count { length self.new.domain.aggs ≡ length self.old.domain.aggs }
     {
         self.live = false;
         self.next_agg = 1;
@@ -142,6 +143,7 @@ impl<A: Drop> Domain<A> {
     pub(crate) fn reserve_aggs(&mut self, count: usize) -> Result<(), AllocError>
         ensures domain { self.new.domain ≡ self.old.domain }
         ensures room { OnOk result (count ≤ self.new.room) }
+        ensures count { length self.new.domain.aggs ≡ length self.old.domain.aggs }
     {
         self.aggs.reserve(count)?;
         Ok(())
@@ -153,7 +155,9 @@ impl<A: Drop> Domain<A> {
         requires room { 0 < self.old.room }
         ensures number { result ≡ self.old.domain.next_agg }
         ensures added { self.new.domain ≡ with_next self.old.domain agg }
+        ensures short { length self.new.domain.aggs < 2 ^ 64 }
         ensures room { self.old.room ≤ self.new.room + 1 }
+        ensures count { length self.new.domain.aggs ≡ length self.old.domain.aggs + 1 }
     {
         let number = self.next_agg;
         self.aggs.push_reserved((AggId::new(number), agg));
@@ -162,11 +166,13 @@ impl<A: Drop> Domain<A> {
     }
 
     /// Takes the aggregate of this number.
+    #[tactic(auto, using(crate::proofs::Counted::counted_rules))]
     pub(crate) fn take_agg(&mut self, agg: AggId) -> A
         requires { lookup self.old.domain.aggs agg ≢ None }
         ensures given { Some result ≡ lookup self.old.domain.aggs agg }
         ensures rest { self.new.domain ≡ record self.old.domain { aggs = without self.old.domain.aggs agg } }
         ensures room { self.old.room ≤ self.new.room }
+        ensures count { length self.new.domain.aggs + 1 ≡ length self.old.domain.aggs }
     {
         take_numbered(&mut self.aggs, agg)
     }
@@ -177,6 +183,7 @@ impl<A: Drop> Domain<A> {
         ensures given { Some result ≡ lookup self.old.domain.aggs agg }
         ensures swapped { self.new.domain ≡ record self.old.domain { aggs = exchanged self.old.domain.aggs agg other } }
         ensures room { self.old.room ≤ self.new.room }
+        ensures count { length self.new.domain.aggs ≡ length self.old.domain.aggs }
     {
         swap_numbered(&mut self.aggs, agg, other)
     }
@@ -185,6 +192,7 @@ impl<A: Drop> Domain<A> {
     pub(crate) fn take_aggs(&mut self, alloc: Global) -> Vec<(AggId, A)>
         ensures given { result.items ≡ self.old.domain.aggs }
         ensures rest { self.new.domain ≡ record self.old.domain { aggs = [] } }
+        ensures count { length self.new.domain.aggs + vec_len result ≡ length self.old.domain.aggs }
     {
         mem::replace(&mut self.aggs, Vec::new(alloc))
     }
@@ -212,6 +220,7 @@ impl<A: Drop> Domain<A> {
         ensures opened { OnOk result (self.new.domain ≡ record self.old.domain { fds = with_ends self.old.domain.fds pipe }) }
         ensures err { OnErr result (self.new.domain ≡ self.old.domain) }
         ensures room { self.old.room ≤ self.new.room }
+        ensures count { length self.new.domain.aggs ≡ length self.old.domain.aggs }
     {
         open_ends(&mut self.fds, pipe)
     }
@@ -223,6 +232,7 @@ impl<A: Drop> Domain<A> {
         ensures opened { OnOk result (self.new.domain ≡ record self.old.domain { fds = with_next_fd self.old.domain.fds on }) }
         ensures err { OnErr result (self.new.domain ≡ self.old.domain) }
         ensures room { self.old.room ≤ self.new.room }
+        ensures count { length self.new.domain.aggs ≡ length self.old.domain.aggs }
     {
         open_next(&mut self.fds, on)
     }
@@ -232,6 +242,7 @@ impl<A: Drop> Domain<A> {
         requires { in_place self.old.domain.fds fd ≢ None }
         ensures closed { self.new.domain ≡ record self.old.domain { fds = slice_set self.old.domain.fds fd None } }
         ensures room { self.old.room ≤ self.new.room }
+        ensures count { length self.new.domain.aggs ≡ length self.old.domain.aggs }
     {
         self.fds.free(fd.number() as usize);
     }
@@ -242,6 +253,7 @@ impl<A: Drop> Domain<A> {
         ensures number { result ≡ lowest (slice_set self.old.domain.fds fd None) }
         ensures moved { self.new.domain ≡ record self.old.domain { fds = with_next_fd (slice_set self.old.domain.fds fd None) on } }
         ensures room { self.old.room ≤ self.new.room }
+        ensures count { length self.new.domain.aggs ≡ length self.old.domain.aggs }
     {
         Fd::new(self.fds.put_lower(fd.number() as usize, on) as u32)
     }
