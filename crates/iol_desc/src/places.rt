@@ -5,6 +5,7 @@ ghost use Rattle.iol_core.specs.Numbered.{in_place, lowest, placed, taken};
 
 use std::alloc::{AllocError, Global};
 use std::marker::Model;
+use std::mem;
 
 /// How many places are taken.
 pub fn taken_places<T>(places: &[Option<T>]) -> usize
@@ -208,5 +209,15 @@ impl<T: Drop> Places<T> {
         self.list.clear();
         self.count = 0;
         self.low = 0;
+    }
+
+    /// Takes all that the places hold, by place: none is taken any more.
+    pub fn take_all(&mut self, alloc: Global) -> Vec<Option<T>>
+        ensures given { result.items ≡ self.old.places }
+        ensures rest { self.new.places ≡ [] }
+    {
+        self.count = 0;
+        self.low = 0;
+        mem::replace(&mut self.list, Vec::new(alloc))
     }
 }

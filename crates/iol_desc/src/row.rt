@@ -203,7 +203,7 @@ impl<A: Drop> Domain<A> {
         ensures rest { self.new.domain ≡ record self.old.domain { fds = [] } }
         ensures room { self.old.room ≤ self.new.room }
     {
-        mem::replace(&mut self.fds, Vec::new(alloc))
+        self.fds.take_all(alloc)
     }
 
     /// What a descriptor is open on.
