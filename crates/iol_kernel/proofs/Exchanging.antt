@@ -156,13 +156,13 @@ pub join_table : (ds fs ss rs ts js : Domains) (d a b : ℕ) (y z whole : List S
     → rs ≡ without_agg_in ss d a → ts ≡ without_agg_in rs d b → js ≡ with_agg_in ts d whole → js ≡ with_domain_in ds d (with_one (domain_in ds d) a b whole)
 join_table ds fs ss rs ts js d a b y z whole live one two three four five =
     let x = domain_in ds d in
-    let es = exchanged x.aggs a y in
-    let fs' = exchanged es b z in
-    let e = changed_again (λ x. with_aggs x (exchanged x.aggs b z)) ds fs ss d (with_aggs x es) live one two in
-    let f = changed_again (λ x. with_aggs x (without x.aggs a)) ds ss rs d (with_aggs x fs') live e three in
-    let g = changed_again (λ x. with_aggs x (without x.aggs b)) ds rs ts d (with_aggs x (without fs' a)) live f four in
-    changed_again (λ x. with_next x whole) ds ts js d (with_aggs x (without (without fs' a) b)) live g five
-    ∙ ap (λ (es : List (ℕ × List Slice)). with_domain_in ds d (with_next (with_aggs x es) whole)) (without-twice fs' a b ∙ ap (λ (es : List (ℕ × List Slice)). without es a) (without-exchanged es b z) ∙ without-twice es b a ∙ ap (λ (es : List (ℕ × List Slice)). without es b) (without-exchanged x.aggs a y))
+    let once = exchanged x.aggs a y in
+    let twice = exchanged once b z in
+    let e = changed_again (λ x. with_aggs x (exchanged x.aggs b z)) ds fs ss d (with_aggs x once) live one two in
+    let f = changed_again (λ x. with_aggs x (without x.aggs a)) ds ss rs d (with_aggs x twice) live e three in
+    let g = changed_again (λ x. with_aggs x (without x.aggs b)) ds rs ts d (with_aggs x (without twice a)) live f four in
+    changed_again (λ x. with_next x whole) ds ts js d (with_aggs x (without (without twice a) b)) live g five
+    ∙ ap (λ (es : List (ℕ × List Slice)). with_domain_in ds d (with_next (with_aggs x es) whole)) (without-twice twice a b ∙ ap (λ (es : List (ℕ × List Slice)). without es a) (without-exchanged once b z) ∙ without-twice once b a ∙ ap (λ (es : List (ℕ × List Slice)). without es b) (without-exchanged x.aggs a y))
 
 still_live : (ds ms : Domains) (d : ℕ) (es : List (ℕ × List Slice)) → (domain_in ds d).live ≡ true → ms ≡ with_aggs_in ds d es → (domain_in ms d).live ≡ true
 still_live ds ms d es live is = ap (λ (ys : Domains). (domain_in ys d).live) is ∙ ap (λ (y : Domain (List Slice)). y.live) (domain_in-with ds d (with_aggs (domain_in ds d) es) live) ∙ live
