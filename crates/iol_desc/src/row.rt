@@ -202,6 +202,7 @@ impl<A: Drop> Domain<A> {
         ensures given { result.items ≡ self.old.domain.fds }
         ensures rest { self.new.domain ≡ record self.old.domain { fds = [] } }
         ensures room { self.old.room ≤ self.new.room }
+        ensures count { length self.new.domain.aggs ≡ length self.old.domain.aggs }
     {
         self.fds.take_all(alloc)
     }

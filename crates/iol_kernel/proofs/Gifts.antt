@@ -145,7 +145,7 @@ module _ (h : Holding) (ds : List (Domain (List Slice))) (d a e : ℕ) (live : (
 
   pub given-changes : Changes (λ s. (aggs.agg_give s d a e).after) h (record h { domains = ds })
   given-changes = record {
-    each = λ f. moved-read f ∙ ap (aggs.with_agg (aggs.without_agg (read_of f h) d a) e) (sym (text-read f h d a)) ∙ given_either (read_of f h) d a e (machine.text (read_of f h) d a) (live-read f);
+    each = λ f keeps. moved-read f ∙ ap (aggs.with_agg (aggs.without_agg (read_of f h) d a) e) (sym (text-read f h d a)) ∙ given_either (read_of f h) d a e (machine.text (read_of f h) d a) (live-read f);
     arena = refl;
   }
 
