@@ -6,8 +6,10 @@ pub mod Ends
 pub mod Effects
 pub mod Pipes
 pub mod Queueing
-pub mod ClosedEnds
 pub mod CloseAll
+pub mod ClosedEnds
+pub mod TakenEnds
+pub mod GivenUp
 pub mod Reports
 pub mod Beginning
 pub mod Stay

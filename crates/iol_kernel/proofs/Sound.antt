@@ -161,7 +161,7 @@ pub each-domain_in : (P : Domain (List Slice) → Type 0) (ds : List (Domain (Li
 unfolding domain_in
 each-domain_in P ds d e p = each-numbered P ds d no_domain e p
 
-each-with_domain_in : (P : Domain (List Slice) → Type 0) (ds : List (Domain (List Slice))) (d : ℕ) (x : Domain (List Slice)) → Each P ds → P x → Each P (with_domain_in ds d x)
+pub each-with_domain_in : (P : Domain (List Slice) → Type 0) (ds : List (Domain (List Slice))) (d : ℕ) (x : Domain (List Slice)) → Each P ds → P x → Each P (with_domain_in ds d x)
 unfolding with_domain_in
 each-with_domain_in P ds d x e p = each-with_numbered P ds d x e p
 

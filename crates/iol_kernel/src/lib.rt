@@ -8,6 +8,7 @@ pub mod aggregates;
 pub mod closing;
 pub mod descriptors;
 pub mod domains;
+pub mod ending;
 pub mod kernel;
 pub mod pools;
 pub mod queues;
