@@ -1,5 +1,5 @@
 -- Closing the end of a pipe, as the machine sees it.
-use Rattle.std.proofs.Common.{◌≡◌, ℕ, zero, suc, ◌+◌, ◌<◌, ◌≤◌, List, [], ◌∷◌, length, map, ap, ◌∙◌, refl, sym, subst, arith, Option, Some, None, inl, inr, ◌⊎◌, get_or, true, false, Bool, length-set, ◌≢◌}
+use Rattle.std.proofs.Common.{◌≡◌, ℕ, ◌+◌, ◌<◌, ◌≤◌, List, [], ◌∷◌, length, map, ap, ◌∙◌, refl, sym, subst, arith, Option, Some, None, inl, inr, ◌⊎◌, get_or, true, false, Bool, length-set, ◌≢◌}
 use Rattle.std.specs.Prelude.{slice_set, unwrap_or, option_map, if◌then◌else◌, ◌||◌, sum_by, cond, eqb}
 use Rattle.std.proofs.lemmas.Bool.{cases_eq}
 use Rattle.std.proofs.lemmas.Bool.Decides.{nat_tests}

@@ -1,5 +1,5 @@
 -- Ends that were taken from a domain, and are closed one after another.
-use Rattle.std.proofs.Common.{◌≡◌, ℕ, zero, suc, ◌+◌, ◌<◌, ◌≤◌, List, [], ◌∷◌, length, drop, ap, ◌∙◌, refl, sym, subst, arith, Option, Some, None, get_or, true}
+use Rattle.std.proofs.Common.{◌≡◌, ℕ, suc, ◌+◌, ◌<◌, List, [], ◌∷◌, length, drop, ap, ◌∙◌, sym, subst, arith, Option, Some, None, get_or, true}
 use Rattle.std.proofs.Math.Seq.{drop-cons}
 use Rattle.std.proofs.lemmas.List.Sums.{sum_by-cons}
 use Rattle.iol_core.specs.State.{Domain}
@@ -7,7 +7,7 @@ use Rattle.iol_core.specs.declared.descriptors.Descriptor.{Descriptor}
 use Rattle.iol_hold.specs.declared.slices.Slice.{Slice}
 use Rattle.iol_desc.specs.Tables.{domain_in, with_fds_in}
 use Rattle.iol_kernel.specs.Seen.{Pipe}
-use Rattle.iol_kernel.specs.Ends.{same_end, on_end, ends_on, all_ends_on, IsOpenOnce}
+use Rattle.iol_kernel.specs.Ends.{on_end, ends_on, all_ends_on}
 use Rattle.iol_kernel.specs.Holding.{Holding, Each, IsOpenEnd, IsSound}
 use Rattle.iol_kernel.specs.ClosedEnds.{AreTaken, KeepsEnds}
 use Rattle.iol_kernel.proofs.Once.{same_end-itself, ends-with_domain, once_fewer}

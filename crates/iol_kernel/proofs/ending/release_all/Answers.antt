@@ -1,4 +1,4 @@
-use Rattle.std.proofs.Common.{◌∙◌, sym}
+use Rattle.std.proofs.Common.{◌∙◌}
 use Rattle.iol_kernel.specs.Counted.{bufs_in}
 use Rattle.iol_kernel.proofs.GivenUp.{last_covered, last_released}
 use Rattle.iol_kernel.proofs.ending.release_all.Goals as goal
