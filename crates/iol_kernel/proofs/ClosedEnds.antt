@@ -1,5 +1,5 @@
 -- Closing the end of a pipe, as the machine sees it.
-use Rattle.std.proofs.Common.{◌≡◌, ℕ, zero, suc, ◌+◌, ◌<◌, ◌≤◌, List, [], ◌∷◌, length, map, ap, ◌∙◌, refl, sym, subst, arith, Option, Some, None, inl, inr, ◌⊎◌, get_or, true, false, Bool, length-set, ◌≢◌}
+use Rattle.std.proofs.Common.{◌≡◌, ℕ, ◌+◌, ◌<◌, ◌≤◌, List, [], ◌∷◌, length, map, ap, ◌∙◌, refl, sym, subst, arith, Option, Some, None, inl, inr, ◌⊎◌, get_or, true, false, Bool, length-set, ◌≢◌}
 use Rattle.std.specs.Prelude.{slice_set, unwrap_or, option_map, if◌then◌else◌, ◌||◌, sum_by, cond, eqb}
 use Rattle.std.proofs.lemmas.Bool.{cases_eq}
 use Rattle.std.proofs.lemmas.Bool.Decides.{nat_tests}
@@ -31,6 +31,7 @@ use Rattle.iol_kernel.proofs.Uses.{uses-set_pipe, uses_at}
 use Rattle.iol_kernel.proofs.Sound.{each-set, counted_held}
 use Rattle.iol_kernel.proofs.Ends.{there_if_open}
 use Rattle.iol_kernel.proofs.Effects.{moved-machine, moved-sound, same_length}
+use Rattle.iol_kernel.proofs.CloseAll.{set-again}
 use Rattle.iol_kernel.proofs.Queueing.{pipe_held, queue_readable, queue_short}
 
 abbrev pub Pipes : Type 0
@@ -40,11 +41,6 @@ pub moves_same : (s : Stored) (xs : List BufId) → Moves s s xs xs
 moves_same s xs = let m = moves_none s in record { counts = record { each = λ b. refl }; stays = m.stays; still = m.still; tidy = m.tidy }
 
 -- a pipe goes, in two steps
-
-set-again : {A : Type 0} (xs : List A) (n : ℕ) (x y : A) → slice_set (slice_set xs n x) n y ≡ slice_set xs n y
-set-again [] n x y = refl
-set-again (z ∷ xs) zero x y = refl
-set-again (z ∷ xs) (suc n) x y = ap (λ ys. z ∷ ys) (set-again xs n x y)
 
 -- a place that is read where there is one
 pub found_there : (old : Pipes) (n : ℕ) (z : Option (Pipe (List Slice))) (x : Pipe (List Slice)) → n < length old → z ≡ Some x → z ≡ get_or old n z → Some x ≡ in_place old n

@@ -7,8 +7,10 @@ pub mod Effects
 pub mod Pipes
 pub mod Flowing
 pub mod Queueing
-pub mod ClosedEnds
 pub mod CloseAll
+pub mod ClosedEnds
+pub mod TakenEnds
+pub mod GivenUp
 pub mod Reports
 pub mod Beginning
 pub mod Stay

@@ -1,13 +1,14 @@
 -- What closing an end does to a pipe, and to the pipes.
-use Rattle.std.specs.Prelude.{◌≡◌, ℕ, false, ◌||◌, if◌then◌else◌, List, [], Option, Some, None, slice_set}
+use Rattle.std.specs.Prelude.{◌≡◌, ℕ, ◌+◌, ◌≤◌, false, ◌||◌, if◌then◌else◌, List, [], Option, Some, None, slice_set}
+use Rattle.iol_core.specs.State.{Domain}
 use Rattle.iol_core.specs.declared.descriptors.Descriptor.{Descriptor}
 use Rattle.iol_hold.specs.Stored.{Stored}
 use Rattle.iol_hold.specs.Moves.{Moves, SameLists}
 use Rattle.iol_hold.specs.Texts.{bufs_of}
 use Rattle.iol_hold.specs.declared.slices.Slice.{Slice}
 use Rattle.iol_kernel.specs.Seen.{Pipe}
-use Rattle.iol_kernel.specs.Ends.{same_end}
-use Rattle.iol_kernel.specs.Holding.{queue_at, IsOpenEnd}
+use Rattle.iol_kernel.specs.Ends.{same_end, ends_on, all_ends_on}
+use Rattle.iol_kernel.specs.Holding.{queue_at, Each, IsOpenEnd}
 
 -- a pipe whose read end is closed: nothing waits any more
 abbrev pub without_reader : Pipe (List Slice) → Pipe (List Slice)
@@ -26,6 +27,11 @@ pub record ClosesEnd (s t : Stored) (old new : List (Option (Pipe (List Slice)))
   pub pipes : new ≡ with_pipe_in old p x
   pub moves : Moves s t (bufs_of (queue_at old p).queue) (bufs_of x.queue)
   pub lists : SameLists s t
+
+-- what a domain's numbers were open on: each end is open, and in no other descriptor
+pub record AreTaken (domains : List (Domain (List Slice))) (pipes : List (Option (Pipe (List Slice)))) (ends : List (Option Descriptor)) : Type 0 where
+  pub opened : Each (IsOpenEnd pipes) ends
+  pub once : (x : Descriptor) → all_ends_on x domains + ends_on x ends ≤ 1
 
 -- all ends but one stay open
 pub record KeepsEnds (end : Descriptor) (old new : List (Option (Pipe (List Slice)))) : Type 0 where

@@ -1,5 +1,5 @@
 -- How often each buffer is held, over all holders.
-use Rattle.std.specs.Prelude.{◌≡◌, ℕ, ◌+◌, List, Option, Some, None, sum_by}
+use Rattle.std.specs.Prelude.{◌≡◌, ℕ, ◌+◌, List, Option, Some, None, sum_by, flat_map}
 use Rattle.iol_core.specs.State.{Domain}
 use Rattle.iol_core.specs.declared.numbers.BufId.{BufId}
 use Rattle.iol_hold.specs.Stored.{Stored, count_of}
@@ -11,6 +11,10 @@ use Rattle.iol_kernel.specs.Seen.{Pipe}
 -- how many of the slices are of b
 abbrev pub uses : BufId → List Slice → ℕ
 uses b xs = tally b (bufs_of xs)
+
+-- what aggregates hold, by number
+abbrev pub bufs_in : List (ℕ × List Slice) → List BufId
+bufs_in aggs = flat_map (λ e. bufs_of e.1) aggs
 
 -- those in the domain's aggregates
 abbrev pub domain_uses : BufId → Domain (List Slice) → ℕ

@@ -10,6 +10,7 @@ pub mod closing;
 pub mod descriptors;
 pub mod domains;
 pub mod giving;
+pub mod ending;
 pub mod kernel;
 pub mod moving;
 pub mod pools;

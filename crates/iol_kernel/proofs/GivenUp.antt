@@ -1,0 +1,125 @@
+-- All that a domain has is given up.
+use Rattle.std.proofs.Common.{◌≡◌, ℕ, ◌+◌, ◌-◌, ◌≤◌, List, [], ◌∷◌, ◌++◌, length, ap, ◌∙◌, refl, sym, subst, arith, true}
+use Rattle.std.specs.Prelude.{sum_by}
+use Rattle.std.proofs.lemmas.Bool.Decides.{nat_tests}
+use Rattle.std.proofs.lemmas.List.{get_or-set_same}
+use Rattle.std.proofs.lemmas.List.Concat.{flat_map-cons}
+use Rattle.std.proofs.lemmas.List.Sums.{sum_by-cons, sum_by_push}
+use Rattle.iol_core.specs.Text.{Text}
+use Rattle.iol_core.specs.State as machine
+use Rattle.iol_core.specs.State.{Domain, no_domain}
+use Rattle.iol_core.specs.declared.numbers.BufId.{BufId}
+use Rattle.iol_hold.specs.Stored.{Stored}
+use Rattle.iol_hold.specs.Moves.{tally, Moves, Covers, SameLists}
+use Rattle.iol_hold.specs.Places.{byte_len}
+use Rattle.iol_hold.specs.Texts.{text_of, bufs_of}
+use Rattle.iol_hold.specs.declared.slices.Slice.{Slice}
+use Rattle.iol_hold.proofs.Counting.{tally-append, tally_none}
+use Rattle.iol_hold.proofs.Moving.{stays_trans}
+use Rattle.iol_desc.specs.Tables.{domain_in, with_domain_in, with_aggs_in}
+use Rattle.iol_kernel.specs.Seen.{seen}
+use Rattle.iol_kernel.specs.Counted.{uses, domain_uses, bufs_in, IsCounted}
+use Rattle.iol_kernel.specs.Holding.{Holding, machine_of, Each, IsDomainReadable, IsLimited, IsSound}
+use Rattle.iol_kernel.proofs.Meant.{domain-seen, with_domain-seen}
+use Rattle.iol_kernel.proofs.Uses.{live_numbered, sum-with_domain, domain_le}
+use Rattle.iol_kernel.proofs.Once.{once_same, once_fewer}
+use Rattle.iol_kernel.proofs.Sound.{counted_held, each-with_domain_in, sound_with, fds_stay}
+use Rattle.iol_kernel.proofs.Effects.{moved-machine, moved-sound, same_length}
+
+abbrev Domains : Type 0
+Domains = List (Domain (List Slice))
+
+-- aggregates, the last first
+
+pub tally-bufs_in : (b : BufId) (es : List (ℕ × List Slice)) → tally b (bufs_in es) ≡ sum_by (λ e. uses b e.1) es
+tally-bufs_in b [] = tally_none b
+tally-bufs_in b (e ∷ es) =
+    let c = sum_by-cons (λ (e : ℕ × List Slice). uses b e.1) e es in
+    let f = flat_map-cons (λ (e : ℕ × List Slice). bufs_of e.1) e es in
+    omega (arith, c, ap (tally b) f, tally-append b (bufs_of e.1) (bufs_in es), tally-bufs_in b es)
+
+tally-last : (b : BufId) (es rest : List (ℕ × List Slice)) (n : ℕ) (x : List Slice) → es ≡ rest ++ (n, x) ∷ [] → tally b (bufs_in es) ≡ tally b (bufs_in rest) + uses b x
+tally-last b es rest n x is =
+    let c = sum_by_push (λ (e : ℕ × List Slice). uses b e.1) rest (n, x) in
+    omega (arith, tally-bufs_in b es, tally-bufs_in b rest, ap (λ (l : List (ℕ × List Slice)). sum_by (λ e. uses b e.1) l) is, c)
+
+pub last_covered : (s t : Stored) (all : List BufId) (es rest : List (ℕ × List Slice)) (n : ℕ) (x : List Slice) → es ≡ rest ++ (n, x) ∷ [] → Covers s all → Moves s t all (bufs_in es) → Covers t (bufs_of x)
+last_covered s t all es rest n x is covers moves = record { each = λ b. omega (arith, covers.each b, moves.counts.each b, tally-last b es rest n x is) }
+
+pub last_released : (s t u : Stored) (all : List BufId) (es rest : List (ℕ × List Slice)) (n : ℕ) (x : List Slice) → es ≡ rest ++ (n, x) ∷ [] → Moves s t all (bufs_in es) → Moves t u (bufs_of x) [] → Moves s u all (bufs_in rest)
+last_released s t u all es rest n x is m k = record {
+  counts = record { each = λ b. omega (arith, tally_none b, m.counts.each b, k.counts.each b, tally-last b es rest n x is) };
+  stays = stays_trans m.stays k.stays;
+  still = λ h. k.still (m.still h);
+  tidy = λ h. k.tidy (m.tidy h);
+}
+
+-- all of a domain
+
+pub all_covered : (h : Holding) (d : ℕ) (es : List (ℕ × List Slice)) → IsSound h → (domain_in h.domains d).live ≡ true → es ≡ (domain_in h.domains d).aggs → Covers h.store (bufs_in es)
+all_covered h d es sound live is = record {
+  each = λ b. omega (arith, sound.counted.each b, domain_le (domain_uses b) h.domains d live, tally-bufs_in b es, ap (λ (l : List (ℕ × List Slice)). sum_by (λ e. uses b e.1) l) is);
+}
+
+module _ (h : Holding) (t : Stored) (ds : Domains) (d : ℕ) (es : List (ℕ × List Slice)) (sound : IsSound h) (live : (domain_in h.domains d).live ≡ true) (all : es ≡ (domain_in h.domains d).aggs)
+    (rest : ds ≡ with_aggs_in h.domains d []) (moves : Moves h.store t (bufs_in es) []) (lists : SameLists h.store t) where
+  abbrev emptied : Domain (List Slice)
+  emptied = record (domain_in h.domains d) { aggs = [] }
+
+  emptied_counted : IsCounted t (with_domain_in h.domains d emptied) h.pipes
+  emptied_counted = record {
+    each = λ b. omega (
+      arith,
+      sound.counted.each b,
+      moves.counts.each b,
+      tally_none b,
+      tally-bufs_in b es,
+      ap (λ (l : List (ℕ × List Slice)). sum_by (λ e. uses b e.1) l) all,
+      sum-with_domain (domain_uses b) h.domains d emptied live,
+    );
+  }
+
+  emptied_good : Each (IsDomainReadable h.store) (with_domain_in h.domains d emptied)
+  emptied_good = each-with_domain_in (IsDomainReadable h.store) h.domains d emptied sound.domains tt
+
+  emptied_limits : IsLimited (with_domain_in h.domains d emptied) h.pipes
+  emptied_limits = record {
+    aggs = each-with_domain_in (λ (y : Domain (List Slice)). Each (λ e. byte_len e.1 ≤ 16777216) y.aggs) h.domains d emptied sound.limits.aggs tt;
+    few = omega (arith, sound.limits.few, sum-with_domain (λ (y : Domain (List Slice)). length y.aggs) h.domains d emptied live);
+    queues = sound.limits.queues;
+    few_pipes = sound.limits.few_pipes;
+  }
+
+  pub emptied-machine : machine_of (record h { store = t; domains = ds }) ≡ machine.with_domain (machine_of h) d (record (machine.domain (machine_of h) d) { aggs = [] })
+  unfolding machine_of
+  emptied-machine =
+      ap (λ (ys : Domains). seen (text_of t) ys t.pools h.pipes) rest
+      ∙ moved-machine h.store t (with_domain_in h.domains d emptied) h.pipes moves.stays lists (counted_held emptied_counted) emptied_good sound.pipes
+      ∙ with_domain-seen (text_of h.store) h.domains h.store.pools h.pipes d emptied
+      ∙ ap (λ (y : Domain Text). machine.with_domain (machine_of h) d (record y { aggs = [] })) (sym (domain-seen (text_of h.store) h.domains h.store.pools h.pipes d))
+
+  pub emptied-sound : IsSound (record h { store = t; domains = ds })
+  emptied-sound = subst (λ (ys : Domains). IsSound (record h { store = t; domains = ys })) (sym rest)
+      (moved-sound h.store t (with_domain_in h.domains d emptied) h.pipes moves.stays emptied_counted (moves.tidy sound.tidy) (moves.still sound.still) emptied_good sound.pipes
+      (fds_stay h.pipes h.domains d emptied sound.fds refl) (once_same h.domains d emptied live refl sound.once) emptied_limits (same_length h.store t lists sound.few_pools))
+
+-- and the domain itself
+
+pub domain_in-changed : (ds es : Domains) (d : ℕ) (x : Domain (List Slice)) → (domain_in ds d).live ≡ true → es ≡ with_domain_in ds d x → domain_in es d ≡ x
+unfolding domain_in with_domain_in
+domain_in-changed ds es d x live is =
+    let n = live_numbered ds d live in
+    let s = get_or-set_same ds (d - 1) x (no_domain {A = List Slice}) (omega (arith, n.0, n.1)) in
+    ap (λ (ys : Domains). domain_in ys d) is ∙ grind (arith, nat_tests, n.0, s)
+
+pub live_meant : (h : Holding) (d : ℕ) → (domain_in h.domains d).live ≡ true → machine.is_live (machine_of h) d ≡ true
+unfolding machine_of
+live_meant h d live = ap (λ (x : Domain Text). x.live) (domain-seen (text_of h.store) h.domains h.store.pools h.pipes d) ∙ live
+
+pub ended-machine : (h : Holding) (ds : Domains) (d : ℕ) → ds ≡ with_domain_in h.domains d no_domain → machine_of (record h { domains = ds }) ≡ machine.with_domain (machine_of h) d no_domain
+unfolding machine_of
+ended-machine h ds d is = ap (λ (ys : Domains). seen (text_of h.store) ys h.store.pools h.pipes) is ∙ with_domain-seen (text_of h.store) h.domains h.store.pools h.pipes d no_domain
+
+pub ended-sound : (h : Holding) (ds : Domains) (d : ℕ) → IsSound h → (domain_in h.domains d).live ≡ true → (domain_in h.domains d).aggs ≡ [] → ds ≡ with_domain_in h.domains d no_domain → IsSound (record h { domains = ds })
+ended-sound h ds d sound live none is = subst (λ (ys : Domains). IsSound (record h { domains = ys })) (sym is)
+    (sound_with h d no_domain sound live (sym none) tt (once_fewer h.domains d no_domain live (λ e. omega arith) sound.once))
