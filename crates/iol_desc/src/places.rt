@@ -5,6 +5,7 @@ ghost use Rattle.iol_core.specs.Numbered.{in_place, lowest, placed, taken};
 
 use std::alloc::{AllocError, Global};
 use std::marker::Model;
+use std::mem;
 
 /// How many places are taken.
 pub fn taken_places<T>(places: &[Option<T>]) -> usize
@@ -199,6 +200,16 @@ impl<T: Drop> Places<T> {
         let lower = set_lower(&mut self.list, place, from, value);
         self.low = lower + 1;
         lower
+    }
+
+    /// Takes what is in all places.
+    pub fn take(&mut self, alloc: Global) -> Vec<Option<T>>
+        ensures given { result.items ≡ self.old.places }
+        ensures rest { self.new.places ≡ [] }
+    {
+        self.count = 0;
+        self.low = 0;
+        mem::replace(&mut self.list, Vec::new(alloc))
     }
 
     /// Frees all places.

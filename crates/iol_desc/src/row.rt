@@ -202,8 +202,9 @@ impl<A: Drop> Domain<A> {
         ensures given { result.items ≡ self.old.domain.fds }
         ensures rest { self.new.domain ≡ record self.old.domain { fds = [] } }
         ensures room { self.old.room ≤ self.new.room }
+        ensures count { length self.new.domain.aggs ≡ length self.old.domain.aggs }
     {
-        mem::replace(&mut self.fds, Vec::new(alloc))
+        self.fds.take(alloc)
     }
 
     /// What a descriptor is open on.

@@ -278,7 +278,7 @@ impl<A: Drop> Table<A> {
     }
 
     /// Takes what a domain's numbers are open on, by rising number: none is open any more.
-    #[tactic(auto, using(crate::proofs::Rows::row_rules), unfolding(crate::specs::Tables::domain_in, crate::specs::Tables::with_domain_in))]
+    #[tactic(auto, using(crate::proofs::Rows::row_rules, crate::proofs::Counted::counted_rules), unfolding(crate::specs::Tables::domain_in, crate::specs::Tables::with_domain_in))]
     pub fn take_fds(&mut self, d: DomainId) -> Vec<Option<Descriptor>>
         requires { (domain_in (domains_of self.old) d).live ≡ true }
         ensures given { result.items ≡ (domain_in (domains_of self.old) d).fds }
