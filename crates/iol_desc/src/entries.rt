@@ -34,11 +34,7 @@ fn entry<A>(list: &[(AggId, Option<A>)], agg: AggId) -> Option<&A>
 
 /// Puts something else in the entry of this number.
 #[tactic(auto, using(crate::proofs::Holes::found_rules))]
-fn replace<A: Drop>(
-    list: &mut Vec<(AggId, Option<A>)>,
-    agg: AggId,
-    other: Option<A>,
-) -> A
+fn replace<A: Drop>(list: &mut Vec<(AggId, Option<A>)>, agg: AggId, other: Option<A>) -> A
     requires rising { IsRising list.old.items }
     requires there { lookup (there list.old.items) agg ≢ None }
     ensures given { Some result ≡ lookup (there list.old.items) agg }
