@@ -12,5 +12,3 @@ pub mod limits;
 pub mod lists;
 pub mod numbers;
 pub mod refusals;
-#[cfg(test)]
-mod tests;

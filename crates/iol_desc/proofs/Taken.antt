@@ -1,5 +1,5 @@
 -- Places that are taken or free.
-use Rattle.std.proofs.Common.{◌≡◌, ◌≢◌, ℕ, zero, suc, ◌+◌, ◌≤◌, ◌<◌, List, [], ◌∷◌, ◌++◌, length, get_or, Option, Some, None, inl, inr, arith, refl}
+use Rattle.std.proofs.Common.{◌≡◌, ◌≢◌, ℕ, zero, suc, ◌+◌, ◌≤◌, ◌<◌, List, [], ◌∷◌, ◌++◌, length, get_or, drop, Option, Some, None, inl, inr, arith, refl}
 use Rattle.std.specs.List.{remove}
 use Rattle.std.proofs.lemmas.Bool.{cases_eq}
 use Rattle.iol_desc.specs.Tables.{place_in}
@@ -7,7 +7,7 @@ use Rattle.std.specs.Prelude.{slice_set}
 use Rattle.std.proofs.lemmas.Bool.Decides.{nat_tests}
 use Rattle.std.proofs.lemmas.Grind.{common_steps}
 use Rattle.std.proofs.lemmas.List.Sums.{prefix_len-le-length, prefix_len-drop_yes, prefix_len-drop_no, prefix_len-drop_all}
-use Rattle.iol_core.specs.Numbered.{lookup, without, lowest, taken, placed}
+use Rattle.iol_core.specs.Numbered.{in_place, lookup, without, lowest, taken, placed}
 
 pub lowest_le-taken : {A : Type 0} (xs : List (Option A)) → lowest xs ≤ taken xs
 lowest_le-taken [] = omega arith
@@ -71,6 +71,49 @@ place_without (e ∷ es) n there = elim (cases_eq e.0 n) [
       rw p (grind (arith, nat_tests, k, r)))
 ]
 
+-- from a place below which none is free
+
+pub lowest_from : {A : Type 0} (xs : List (Option A)) (n : ℕ) → n ≤ lowest xs → n + lowest (drop n xs) ≡ lowest xs
+lowest_from xs zero le = omega arith
+lowest_from [] (suc n) le = absurd (omega arith)
+lowest_from (None ∷ xs) (suc n) le = absurd (omega arith)
+lowest_from (Some x ∷ xs) (suc n) le = omega (arith, lowest_from xs n (omega arith))
+
+pub taken_le-length : {A : Type 0} (xs : List (Option A)) → taken xs ≤ length xs
+taken_le-length [] = omega arith
+taken_le-length (None ∷ xs) = omega (arith, taken_le-length xs)
+taken_le-length (Some x ∷ xs) = omega (arith, taken_le-length xs)
+
+pub taken_drop : {A : Type 0} (xs : List (Option A)) (n : ℕ) → taken (drop n xs) ≤ taken xs
+taken_drop xs zero = omega arith
+taken_drop [] (suc n) = omega arith
+taken_drop (None ∷ xs) (suc n) = omega (arith, taken_drop xs n)
+taken_drop (Some x ∷ xs) (suc n) = omega (arith, taken_drop xs n)
+
+pub low-placed : {A : Type 0} (xs : List (Option A)) (x : A) → lowest xs + 1 ≤ lowest (placed xs (lowest xs) x)
+low-placed [] x = omega arith
+low-placed (None ∷ xs) x = grind (arith, nat_tests, common_steps)
+low-placed (Some y ∷ xs) x = grind (arith, nat_tests, common_steps, low-placed xs x)
+
+pub taken-freed : {A : Type 0} (xs : List (Option A)) (n : ℕ) → in_place xs n ≢ None → taken (slice_set xs n None) + 1 ≡ taken xs
+taken-freed [] n there = absurd (there refl)
+taken-freed (None ∷ xs) zero there = absurd (there refl)
+taken-freed (Some x ∷ xs) zero there = omega arith
+taken-freed (None ∷ xs) (suc n) there = taken-freed xs n there
+taken-freed (Some x ∷ xs) (suc n) there = omega (arith, taken-freed xs n there)
+
+pub low-freed : {A : Type 0} (xs : List (Option A)) (n k : ℕ) → k ≤ lowest xs → k ≤ n → k ≤ lowest (slice_set xs n None)
+low-freed xs n zero low le = omega arith
+low-freed [] n (suc k) low le = absurd (omega arith)
+low-freed (x ∷ xs) zero (suc k) low le = absurd (omega arith)
+low-freed (None ∷ xs) (suc n) (suc k) low le = absurd (omega arith)
+low-freed (Some x ∷ xs) (suc n) (suc k) low le = omega (arith, low-freed xs n k (omega arith) (omega arith))
+
+pub within_place : {A : Type 0} (xs : List (Option A)) (n : ℕ) → in_place xs n ≢ None → n < length xs
+within_place [] n there = absurd (there refl)
+within_place (x ∷ xs) zero there = omega arith
+within_place (x ∷ xs) (suc n) there = omega (arith, within_place xs n there)
+
 pub ruleset prefix_rules = (prefix_len-drop_yes, prefix_len-drop_no, prefix_len-drop_all)
 
 pub ruleset entry_rules = (place_within, place_lookup, place_without)
@@ -78,3 +121,13 @@ pub ruleset entry_rules = (place_within, place_lookup, place_without)
 pub ruleset lowest_rules = (lowest_le-taken, prefix_len-drop_yes, prefix_len-drop_no, prefix_len-drop_all)
 
 pub ruleset put_rules = (taken_placed, taken_set_at)
+
+pub ruleset from_rules = (lowest_from, taken_drop, lowest_le-taken, prefix_len-le-length)
+
+pub ruleset method_rules = (low-placed, taken_placed, taken_le-length, lowest_le-taken)
+
+pub ruleset free_rules = (taken-freed, low-freed, within_place)
+
+pub ruleset lower_rules = (low-freed, lowest_freed)
+
+pub ruleset moved_rules = (taken-freed, low-freed, within_place, taken_placed, low-placed)

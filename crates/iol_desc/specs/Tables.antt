@@ -1,6 +1,6 @@
 -- The table of domains, whatever an aggregate is.
-use Rattle.std.specs.Prelude.{ℕ, ◌+◌, ◌==◌, ◌||◌, Bool, nat_lt, List, [], ◌∷◌, ◌++◌, length, Option, map, sum_by, slice_set}
-use Rattle.std.specs.List.{position_or_len}
+use Rattle.std.specs.Prelude.{◌≡◌, ◌<◌, ◌^◌, ℕ, ◌+◌, ◌==◌, ◌||◌, Bool, nat_lt, List, [], ◌∷◌, ◌++◌, length, Option, map, sum_by, slice_set}
+use Rattle.std.specs.List.{AllByRecursion, position_or_len}
 use Rattle.iol_core.specs.State.{Domain, no_domain}
 use Rattle.iol_core.specs.Numbered.{numbered_or, with_numbered, lookup, without, lowest, placed}
 use Rattle.iol_core.specs.Calls.Descriptors.{with_read_end}
@@ -11,6 +11,11 @@ use Rattle.iol_core.specs.declared.limits.TheConstants.{MAX_AGGREGATES, LAST_AGG
 -- a domain, and how many aggregates more it can take without asking for memory
 pub record Row (A : Type 0) : Type 0 where
   pub domain : Domain A
+  pub room : ℕ
+
+-- places, some of them free, and how many more can be taken without asking for memory
+pub record Slots (A : Type 0) : Type 0 where
+  pub places : List (Option A)
   pub room : ℕ
 
 abbrev pub no_row : {A : Type 0} → Row A
@@ -61,6 +66,11 @@ exchanged es n x = slice_set es (place_in es n) (n, x)
 -- the aggregates of all domains
 abbrev pub live_aggs_in : {A : Type 0} → List (Domain A) → ℕ
 live_aggs_in ds = sum_by (λ d. length d.aggs) ds
+
+-- so many aggregates are live, and no domain has more than a list can have
+pub record IsCounted {A : Type 0} (live : ℕ) (rows : List (Row A)) : Type 0 where
+  pub count : live ≡ live_aggs_in (domains_of rows)
+  pub short : AllByRecursion (λ r. length r.domain.aggs < 2 ^ 64) rows
 
 -- whether so many new ones, with so many given up, are too many for all domains or for the numbers of this one
 abbrev pub too_many_in : {A : Type 0} → List (Domain A) → (d made given : ℕ) → Bool

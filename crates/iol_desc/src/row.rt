@@ -6,7 +6,7 @@ ghost use Rattle.iol_core.specs.Numbered.{in_place, lookup, without, lowest, pla
 ghost use Rattle.iol_core.specs.Calls.Descriptors.{with_read_end};
 ghost use Rattle.iol_desc.specs.Tables.{with_next, exchanged, place_in, with_next_fd, with_ends};
 
-use crate::places::{lowest_place, put, taken_places};
+use crate::places::Places;
 use iol_core::descriptors::Descriptor;
 use iol_core::limits::MAX_OPEN;
 use iol_core::numbers::{AggId, Fd, PipeId, PoolId};
@@ -20,7 +20,7 @@ pub(crate) struct Domain<A> {
     pub(crate) live: bool,
     pub(crate) aggs: Vec<(AggId, A)>,
     pub(crate) next_agg: u64,
-    pub(crate) fds: Vec<Option<Descriptor>>,
+    pub(crate) fds: Places<Descriptor>,
     pub(crate) default: Option<PoolId>,
 }
 
@@ -30,7 +30,7 @@ impl<A> Model for Domain<A> {
 
     ghost Value = { tables.Row A };
 
-    ghost view = { λ d. record { domain = record { live = d.live; aggs = d.aggs.items; next_agg = d.next_agg; fds = d.fds.items; default = d.default }; room = vec_capacity d.aggs - vec_len d.aggs } };
+    ghost view = { λ d. record { domain = record { live = d.live; aggs = d.aggs.items; next_agg = d.next_agg; fds = d.fds.places; default = d.default }; room = vec_capacity d.aggs - vec_len d.aggs } };
 }
 
 /// The aggregate of this number.
@@ -81,44 +81,28 @@ fn swap_numbered<A: Drop>(aggs: &mut Vec<(AggId, A)>, agg: AggId, other: A) -> A
 }
 
 /// Opens both ends of a pipe.
-fn open_ends(fds: &mut Vec<Option<Descriptor>>, pipe: PipeId) -> Result<(Fd, Fd), AllocError>
-    requires { taken fds.old.items ≤ MAX_OPEN }
-    ensures numbers { IfOk result (λ ends. ends ≡ (lowest fds.old.items, lowest (with_read_end fds.old.items pipe))) }
-    ensures opened { OnOk result (fds.new.items ≡ with_ends fds.old.items pipe) }
-    ensures err { OnErr result (fds.new.items ≡ fds.old.items) }
+fn open_ends(fds: &mut Places<Descriptor>, pipe: PipeId) -> Result<(Fd, Fd), AllocError>
+    requires { taken fds.old.places ≤ MAX_OPEN }
+    ensures numbers { IfOk result (λ ends. ends ≡ (lowest fds.old.places, lowest (with_read_end fds.old.places pipe))) }
+    ensures opened { OnOk result (fds.new.places ≡ with_ends fds.old.places pipe) }
+    ensures err { OnErr result (fds.new.places ≡ fds.old.places) }
 {
     fds.reserve(2)?;
-    let read = lowest_place(fds);
-    put(fds, read, Descriptor::ReadEnd { pipe });
-    let write = lowest_place(fds);
-    put(fds, write, Descriptor::WriteEnd { pipe });
+    let read = fds.put(Descriptor::ReadEnd { pipe });
+    let write = fds.put(Descriptor::WriteEnd { pipe });
     Ok((Fd::new(read as u32), Fd::new(write as u32)))
 }
 
 /// Opens the lowest free number.
-fn open_next(fds: &mut Vec<Option<Descriptor>>, on: Descriptor) -> Result<Fd, AllocError>
-    requires { taken fds.old.items < MAX_OPEN }
-    ensures number { IfOk result (λ n. n ≡ lowest fds.old.items) }
-    ensures opened { OnOk result (fds.new.items ≡ with_next_fd fds.old.items on) }
-    ensures err { OnErr result (fds.new.items ≡ fds.old.items) }
+fn open_next(fds: &mut Places<Descriptor>, on: Descriptor) -> Result<Fd, AllocError>
+    requires { taken fds.old.places < MAX_OPEN }
+    ensures number { IfOk result (λ n. n ≡ lowest fds.old.places) }
+    ensures opened { OnOk result (fds.new.places ≡ with_next_fd fds.old.places on) }
+    ensures err { OnErr result (fds.new.places ≡ fds.old.places) }
 {
     fds.reserve(1)?;
-    let place = lowest_place(fds);
-    put(fds, place, on);
+    let place = fds.put(on);
     Ok(Fd::new(place as u32))
-}
-
-/// Frees a number, and opens the lowest.
-#[tactic(auto, using(crate::proofs::Taken::lowest_freed))]
-fn move_within(fds: &mut Vec<Option<Descriptor>>, fd: Fd, on: Descriptor) -> Fd
-    requires { fd < length fds.old.items }
-    ensures number { result ≡ lowest (slice_set fds.old.items fd None) }
-    ensures moved { fds.new.items ≡ with_next_fd (slice_set fds.old.items fd None) on }
-{
-    fds[fd.number() as usize] = None;
-    let place = lowest_place(fds);
-    fds[place] = Some(on);
-    Fd::new(place as u32)
 }
 
 impl<A: Drop> Domain<A> {
@@ -130,7 +114,7 @@ impl<A: Drop> Domain<A> {
             live: true,
             aggs: Vec::new(alloc),
             next_agg: 1,
-            fds: Vec::new(alloc),
+            fds: Places::new(alloc),
             default: None,
         }
     }
@@ -139,7 +123,8 @@ impl<A: Drop> Domain<A> {
     pub(crate) fn end(&mut self)
         requires no_aggs { self.old.domain.aggs ≡ [] }
         requires no_fds { taken self.old.domain.fds ≡ 0 }
-        ensures { self.new.domain ≡ no_domain }
+        ensures ended { self.new.domain ≡ no_domain }
+        ensures count { length self.new.domain.aggs ≡ length self.old.domain.aggs }
     {
         self.live = false;
         self.next_agg = 1;
@@ -158,6 +143,7 @@ impl<A: Drop> Domain<A> {
     pub(crate) fn reserve_aggs(&mut self, count: usize) -> Result<(), AllocError>
         ensures domain { self.new.domain ≡ self.old.domain }
         ensures room { OnOk result (count ≤ self.new.room) }
+        ensures count { length self.new.domain.aggs ≡ length self.old.domain.aggs }
     {
         self.aggs.reserve(count)?;
         Ok(())
@@ -169,7 +155,9 @@ impl<A: Drop> Domain<A> {
         requires room { 0 < self.old.room }
         ensures number { result ≡ self.old.domain.next_agg }
         ensures added { self.new.domain ≡ with_next self.old.domain agg }
+        ensures short { length self.new.domain.aggs < 2 ^ 64 }
         ensures room { self.old.room ≤ self.new.room + 1 }
+        ensures count { length self.new.domain.aggs ≡ length self.old.domain.aggs + 1 }
     {
         let number = self.next_agg;
         self.aggs.push_reserved((AggId::new(number), agg));
@@ -178,11 +166,13 @@ impl<A: Drop> Domain<A> {
     }
 
     /// Takes the aggregate of this number.
+    #[tactic(auto, using(crate::proofs::Counted::counted_rules))]
     pub(crate) fn take_agg(&mut self, agg: AggId) -> A
         requires { lookup self.old.domain.aggs agg ≢ None }
         ensures given { Some result ≡ lookup self.old.domain.aggs agg }
         ensures rest { self.new.domain ≡ record self.old.domain { aggs = without self.old.domain.aggs agg } }
         ensures room { self.old.room ≤ self.new.room }
+        ensures count { length self.new.domain.aggs + 1 ≡ length self.old.domain.aggs }
     {
         take_numbered(&mut self.aggs, agg)
     }
@@ -193,6 +183,7 @@ impl<A: Drop> Domain<A> {
         ensures given { Some result ≡ lookup self.old.domain.aggs agg }
         ensures swapped { self.new.domain ≡ record self.old.domain { aggs = exchanged self.old.domain.aggs agg other } }
         ensures room { self.old.room ≤ self.new.room }
+        ensures count { length self.new.domain.aggs ≡ length self.old.domain.aggs }
     {
         swap_numbered(&mut self.aggs, agg, other)
     }
@@ -201,6 +192,7 @@ impl<A: Drop> Domain<A> {
     pub(crate) fn take_aggs(&mut self, alloc: Global) -> Vec<(AggId, A)>
         ensures given { result.items ≡ self.old.domain.aggs }
         ensures rest { self.new.domain ≡ record self.old.domain { aggs = [] } }
+        ensures count { length self.new.domain.aggs + vec_len result ≡ length self.old.domain.aggs }
     {
         mem::replace(&mut self.aggs, Vec::new(alloc))
     }
@@ -210,15 +202,16 @@ impl<A: Drop> Domain<A> {
         ensures given { result.items ≡ self.old.domain.fds }
         ensures rest { self.new.domain ≡ record self.old.domain { fds = [] } }
         ensures room { self.old.room ≤ self.new.room }
+        ensures count { length self.new.domain.aggs ≡ length self.old.domain.aggs }
     {
-        mem::replace(&mut self.fds, Vec::new(alloc))
+        self.fds.take_all(alloc)
     }
 
     /// What a descriptor is open on.
     pub(crate) fn descriptor(&self, fd: Fd) -> Option<Descriptor>
         ensures { result ≡ in_place self.now.domain.fds fd }
     {
-        self.fds.get(fd.number() as usize).copied().flatten()
+        self.fds.get(fd.number() as usize).copied()
     }
 
     /// Whether so many more descriptors are too many.
@@ -226,7 +219,7 @@ impl<A: Drop> Domain<A> {
         requires made { made ≤ 2 }
         ensures { result ≡ nat_lt MAX_OPEN (taken self.now.domain.fds + made) }
     {
-        let open = taken_places(&self.fds);
+        let open = self.fds.taken();
         open > MAX_OPEN || MAX_OPEN < open + made
     }
 
@@ -237,6 +230,7 @@ impl<A: Drop> Domain<A> {
         ensures opened { OnOk result (self.new.domain ≡ record self.old.domain { fds = with_ends self.old.domain.fds pipe }) }
         ensures err { OnErr result (self.new.domain ≡ self.old.domain) }
         ensures room { self.old.room ≤ self.new.room }
+        ensures count { length self.new.domain.aggs ≡ length self.old.domain.aggs }
     {
         open_ends(&mut self.fds, pipe)
     }
@@ -248,6 +242,7 @@ impl<A: Drop> Domain<A> {
         ensures opened { OnOk result (self.new.domain ≡ record self.old.domain { fds = with_next_fd self.old.domain.fds on }) }
         ensures err { OnErr result (self.new.domain ≡ self.old.domain) }
         ensures room { self.old.room ≤ self.new.room }
+        ensures count { length self.new.domain.aggs ≡ length self.old.domain.aggs }
     {
         open_next(&mut self.fds, on)
     }
@@ -257,8 +252,9 @@ impl<A: Drop> Domain<A> {
         requires { in_place self.old.domain.fds fd ≢ None }
         ensures closed { self.new.domain ≡ record self.old.domain { fds = slice_set self.old.domain.fds fd None } }
         ensures room { self.old.room ≤ self.new.room }
+        ensures count { length self.new.domain.aggs ≡ length self.old.domain.aggs }
     {
-        self.fds[fd.number() as usize] = None;
+        self.fds.free(fd.number() as usize);
     }
 
     /// Closes an open number, and opens the lowest.
@@ -267,7 +263,8 @@ impl<A: Drop> Domain<A> {
         ensures number { result ≡ lowest (slice_set self.old.domain.fds fd None) }
         ensures moved { self.new.domain ≡ record self.old.domain { fds = with_next_fd (slice_set self.old.domain.fds fd None) on } }
         ensures room { self.old.room ≤ self.new.room }
+        ensures count { length self.new.domain.aggs ≡ length self.old.domain.aggs }
     {
-        move_within(&mut self.fds, fd, on)
+        Fd::new(self.fds.put_lower(fd.number() as usize, on) as u32)
     }
 }

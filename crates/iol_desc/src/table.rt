@@ -18,6 +18,7 @@ use std::marker::Model;
 pub struct Table<A> {
     alloc: Global,
     rows: Vec<Domain<A>>,
+    live_aggs: u128,
 }
 
 impl<A> Model for Table<A> {
@@ -27,17 +28,8 @@ impl<A> Model for Table<A> {
     ghost Value = { List (tables.Row A) };
 
     ghost view = { λ t. t.rows.items };
-}
 
-/// How many aggregates are live, or `usize::MAX` where there are more.
-fn live_aggs<A>(rows: &[Domain<A>]) -> usize
-    ensures { result ≡ min (live_aggs_in (domains_of rows.now)) usize.MAX }
-{
-    let mut count: usize = 0;
-    for domain in rows {
-        count = count.saturating_add(domain.aggs.len());
-    }
-    count
+    ghost invariant = { λ t. tables.IsCounted t.live_aggs t.rows.items };
 }
 
 impl<A: Drop> Table<A> {
@@ -48,6 +40,7 @@ impl<A: Drop> Table<A> {
         Table {
             alloc,
             rows: Vec::new(alloc),
+            live_aggs: 0,
         }
     }
 
@@ -68,7 +61,7 @@ impl<A: Drop> Table<A> {
     }
 
     /// The place of a live domain.
-    #[tactic(auto, using(crate::proofs::Rows::row_rules), unfolding(crate::specs::Tables::domain_in))]
+    #[tactic(auto, using(crate::proofs::Rows::row_rules, crate::proofs::Counted::counted_rules), unfolding(crate::specs::Tables::domain_in))]
     fn place_of(&self, d: DomainId) -> usize
         requires live { (domain_in (domains_of self.now) d).live ≡ true }
         ensures place { result + 1 ≡ d }
@@ -78,7 +71,7 @@ impl<A: Drop> Table<A> {
     }
 
     /// Whether the domain is live.
-    #[tactic(auto, using(crate::proofs::Rows::row_rules), unfolding(crate::specs::Tables::domain_in))]
+    #[tactic(auto, using(crate::proofs::Rows::row_rules, crate::proofs::Counted::counted_rules), unfolding(crate::specs::Tables::domain_in))]
     pub fn live(&self, d: DomainId) -> bool
         ensures { result ≡ (domain_in (domains_of self.now) d).live }
     {
@@ -91,7 +84,7 @@ impl<A: Drop> Table<A> {
     }
 
     /// Ends a domain that has no aggregate and no open descriptor: nothing is left of it.
-    #[tactic(auto, using(crate::proofs::Rows::row_rules), unfolding(crate::specs::Tables::domain_in, crate::specs::Tables::with_domain_in))]
+    #[tactic(auto, using(crate::proofs::Rows::row_rules, crate::proofs::Counted::counted_rules), unfolding(crate::specs::Tables::domain_in, crate::specs::Tables::with_domain_in))]
     pub fn end_domain(&mut self, d: DomainId)
         requires live { (domain_in (domains_of self.old) d).live ≡ true }
         requires no_aggs { (domain_in (domains_of self.old) d).aggs ≡ [] }
@@ -104,7 +97,7 @@ impl<A: Drop> Table<A> {
     }
 
     /// A domain's aggregate.
-    #[tactic(auto, using(crate::proofs::Rows::row_rules), unfolding(crate::specs::Tables::domain_in))]
+    #[tactic(auto, using(crate::proofs::Rows::row_rules, crate::proofs::Counted::counted_rules), unfolding(crate::specs::Tables::domain_in))]
     pub fn agg(&self, d: DomainId, agg: AggId) -> Option<&A>
         requires { (domain_in (domains_of self.now) d).live ≡ true }
         ensures { option_copied result ≡ agg_in (domains_of self.now) d agg }
@@ -114,7 +107,7 @@ impl<A: Drop> Table<A> {
     }
 
     /// Whether so many new aggregates, with so many given up, are too many.
-    #[tactic(auto, using(crate::proofs::Rows::row_rules), unfolding(crate::specs::Tables::domain_in))]
+    #[tactic(auto, using(crate::proofs::Rows::row_rules, crate::proofs::Counted::counted_rules), unfolding(crate::specs::Tables::domain_in))]
     pub fn is_too_many(&self, d: DomainId, made: u64, given: u64) -> bool
         requires live { (domain_in (domains_of self.now) d).live ≡ true }
         requires made { made ≤ 2 }
@@ -123,13 +116,12 @@ impl<A: Drop> Table<A> {
     {
         let domain = &self.rows[self.place_of(d)];
         let next = domain.next_agg;
-        let live = live_aggs(&self.rows) as u128;
-        MAX_AGGREGATES as u128 + (given as u128) < live + (made as u128)
+        MAX_AGGREGATES as u128 + (given as u128) < self.live_aggs + (made as u128)
             || LAST_AGGREGATE as u128 + 1 < next as u128 + (made as u128)
     }
 
     /// Reserves room for so many aggregates more of a domain.
-    #[tactic(auto, using(crate::proofs::Rows::row_rules), unfolding(crate::specs::Tables::domain_in, crate::specs::Tables::row_in))]
+    #[tactic(auto, using(crate::proofs::Rows::row_rules, crate::proofs::Counted::counted_rules), unfolding(crate::specs::Tables::domain_in, crate::specs::Tables::row_in))]
     pub fn reserve_aggs(&mut self, d: DomainId, count: usize) -> Result<(), AllocError>
         requires { (domain_in (domains_of self.old) d).live ≡ true }
         ensures same { domains_of self.new ≡ domains_of self.old }
@@ -141,7 +133,7 @@ impl<A: Drop> Table<A> {
     }
 
     /// Adds an aggregate under the domain's next number, in room that is reserved.
-    #[tactic(auto, using(crate::proofs::Rows::row_rules), unfolding(crate::specs::Tables::domain_in, crate::specs::Tables::with_domain_in, crate::specs::Tables::row_in))]
+    #[tactic(auto, using(crate::proofs::Rows::row_rules, crate::proofs::Counted::counted_rules), unfolding(crate::specs::Tables::domain_in, crate::specs::Tables::with_domain_in, crate::specs::Tables::row_in))]
     pub fn add_agg(&mut self, d: DomainId, agg: A) -> AggId
         requires live { (domain_in (domains_of self.old) d).live ≡ true }
         requires few { (domain_in (domains_of self.old) d).next_agg < 2 ^ 64 - 1 }
@@ -152,25 +144,30 @@ impl<A: Drop> Table<A> {
     {
         let at = self.place_of(d);
         let domain = &mut self.rows[at];
-        domain.add_agg(agg)
+        let number = domain.add_agg(agg);
+        self.live_aggs += 1;
+        number
     }
 
     /// Takes an aggregate from its domain.
-    #[tactic(auto, using(crate::proofs::Rows::row_rules), unfolding(crate::specs::Tables::domain_in, crate::specs::Tables::with_domain_in, crate::specs::Tables::row_in))]
+    #[tactic(auto, using(crate::proofs::Rows::row_rules, crate::proofs::Counted::counted_rules), unfolding(crate::specs::Tables::domain_in, crate::specs::Tables::with_domain_in, crate::specs::Tables::row_in))]
     pub fn take_agg(&mut self, d: DomainId, agg: AggId) -> A
         requires live { (domain_in (domains_of self.old) d).live ≡ true }
         requires there { agg_in (domains_of self.old) d agg ≢ None }
         ensures given { Some result ≡ agg_in (domains_of self.old) d agg }
         ensures rest { domains_of self.new ≡ without_agg_in (domains_of self.old) d agg }
         ensures room { room_in self.old d ≤ room_in self.new d }
+        ensures others { (e : ℕ) → d ≢ e → room_in self.new e ≡ room_in self.old e }
     {
         let at = self.place_of(d);
         let domain = &mut self.rows[at];
-        domain.take_agg(agg)
+        let given = domain.take_agg(agg);
+        self.live_aggs -= 1;
+        given
     }
 
     /// Puts another aggregate under the number of one, and gives that.
-    #[tactic(auto, using(crate::proofs::Rows::row_rules), unfolding(crate::specs::Tables::domain_in, crate::specs::Tables::with_domain_in, crate::specs::Tables::row_in))]
+    #[tactic(auto, using(crate::proofs::Rows::row_rules, crate::proofs::Counted::counted_rules), unfolding(crate::specs::Tables::domain_in, crate::specs::Tables::with_domain_in, crate::specs::Tables::row_in))]
     pub fn swap_agg(&mut self, d: DomainId, agg: AggId, other: A) -> A
         requires live { (domain_in (domains_of self.old) d).live ≡ true }
         requires there { agg_in (domains_of self.old) d agg ≢ None }
@@ -184,7 +181,7 @@ impl<A: Drop> Table<A> {
     }
 
     /// Takes all aggregates of a domain, by rising number.
-    #[tactic(auto, using(crate::proofs::Rows::row_rules), unfolding(crate::specs::Tables::domain_in, crate::specs::Tables::with_domain_in))]
+    #[tactic(auto, using(crate::proofs::Rows::row_rules, crate::proofs::Counted::counted_rules), unfolding(crate::specs::Tables::domain_in, crate::specs::Tables::with_domain_in))]
     pub fn take_aggs(&mut self, d: DomainId) -> Vec<(AggId, A)>
         requires { (domain_in (domains_of self.old) d).live ≡ true }
         ensures given { result.items ≡ (domain_in (domains_of self.old) d).aggs }
@@ -193,11 +190,13 @@ impl<A: Drop> Table<A> {
         let at = self.place_of(d);
         let alloc = self.alloc;
         let domain = &mut self.rows[at];
-        domain.take_aggs(alloc)
+        let given = domain.take_aggs(alloc);
+        self.live_aggs -= given.len() as u128;
+        given
     }
 
     /// The pool that a domain places bytes in.
-    #[tactic(auto, using(crate::proofs::Rows::row_rules), unfolding(crate::specs::Tables::domain_in))]
+    #[tactic(auto, using(crate::proofs::Rows::row_rules, crate::proofs::Counted::counted_rules), unfolding(crate::specs::Tables::domain_in))]
     pub fn default_of(&self, d: DomainId) -> Option<PoolId>
         requires { (domain_in (domains_of self.now) d).live ≡ true }
         ensures { result ≡ (domain_in (domains_of self.now) d).default }
@@ -207,7 +206,7 @@ impl<A: Drop> Table<A> {
     }
 
     /// Has a domain place bytes in a pool.
-    #[tactic(auto, using(crate::proofs::Rows::row_rules), unfolding(crate::specs::Tables::domain_in, crate::specs::Tables::with_domain_in))]
+    #[tactic(auto, using(crate::proofs::Rows::row_rules, crate::proofs::Counted::counted_rules), unfolding(crate::specs::Tables::domain_in, crate::specs::Tables::with_domain_in))]
     pub fn set_default(&mut self, d: DomainId, pool: PoolId)
         requires { (domain_in (domains_of self.old) d).live ≡ true }
         ensures { domains_of self.new ≡ with_domain_in (domains_of self.old) d (record (domain_in (domains_of self.old) d) { default = Some pool }) }
@@ -218,7 +217,7 @@ impl<A: Drop> Table<A> {
     }
 
     /// What a domain's descriptor is open on.
-    #[tactic(auto, using(crate::proofs::Rows::row_rules), unfolding(crate::specs::Tables::domain_in))]
+    #[tactic(auto, using(crate::proofs::Rows::row_rules, crate::proofs::Counted::counted_rules), unfolding(crate::specs::Tables::domain_in))]
     pub fn descriptor(&self, d: DomainId, fd: Fd) -> Option<Descriptor>
         requires { (domain_in (domains_of self.now) d).live ≡ true }
         ensures { result ≡ in_place (domain_in (domains_of self.now) d).fds fd }
@@ -228,7 +227,7 @@ impl<A: Drop> Table<A> {
     }
 
     /// Whether so many more open descriptors are too many.
-    #[tactic(auto, using(crate::proofs::Rows::row_rules), unfolding(crate::specs::Tables::domain_in))]
+    #[tactic(auto, using(crate::proofs::Rows::row_rules, crate::proofs::Counted::counted_rules), unfolding(crate::specs::Tables::domain_in))]
     pub fn is_open_beyond(&self, d: DomainId, made: usize) -> bool
         requires live { (domain_in (domains_of self.now) d).live ≡ true }
         requires made { made ≤ 2 }
@@ -239,7 +238,7 @@ impl<A: Drop> Table<A> {
     }
 
     /// Opens a domain's lowest free number.
-    #[tactic(auto, using(crate::proofs::Rows::row_rules), unfolding(crate::specs::Tables::domain_in, crate::specs::Tables::with_domain_in))]
+    #[tactic(auto, using(crate::proofs::Rows::row_rules, crate::proofs::Counted::counted_rules), unfolding(crate::specs::Tables::domain_in, crate::specs::Tables::with_domain_in))]
     pub fn add_fd(&mut self, d: DomainId, on: Descriptor) -> Result<Fd, AllocError>
         requires live { (domain_in (domains_of self.old) d).live ≡ true }
         requires few { taken (domain_in (domains_of self.old) d).fds < MAX_OPEN }
@@ -253,7 +252,7 @@ impl<A: Drop> Table<A> {
     }
 
     /// Opens both ends of a pipe in a domain, the read end under the lowest free number, then the write end.
-    #[tactic(auto, using(crate::proofs::Rows::row_rules), unfolding(crate::specs::Tables::domain_in, crate::specs::Tables::with_domain_in))]
+    #[tactic(auto, using(crate::proofs::Rows::row_rules, crate::proofs::Counted::counted_rules), unfolding(crate::specs::Tables::domain_in, crate::specs::Tables::with_domain_in))]
     pub fn add_ends(&mut self, d: DomainId, pipe: PipeId) -> Result<(Fd, Fd), AllocError>
         requires live { (domain_in (domains_of self.old) d).live ≡ true }
         requires few { taken (domain_in (domains_of self.old) d).fds ≤ MAX_OPEN }
@@ -267,7 +266,7 @@ impl<A: Drop> Table<A> {
     }
 
     /// Closes a domain's descriptor.
-    #[tactic(auto, using(crate::proofs::Rows::row_rules), unfolding(crate::specs::Tables::domain_in, crate::specs::Tables::with_domain_in))]
+    #[tactic(auto, using(crate::proofs::Rows::row_rules, crate::proofs::Counted::counted_rules), unfolding(crate::specs::Tables::domain_in, crate::specs::Tables::with_domain_in))]
     pub fn take_fd(&mut self, d: DomainId, fd: Fd)
         requires live { (domain_in (domains_of self.old) d).live ≡ true }
         requires there { in_place (domain_in (domains_of self.old) d).fds fd ≢ None }
@@ -279,7 +278,7 @@ impl<A: Drop> Table<A> {
     }
 
     /// Takes what a domain's numbers are open on, by rising number: none is open any more.
-    #[tactic(auto, using(crate::proofs::Rows::row_rules), unfolding(crate::specs::Tables::domain_in, crate::specs::Tables::with_domain_in))]
+    #[tactic(auto, using(crate::proofs::Rows::row_rules, crate::proofs::Counted::counted_rules), unfolding(crate::specs::Tables::domain_in, crate::specs::Tables::with_domain_in))]
     pub fn take_fds(&mut self, d: DomainId) -> Vec<Option<Descriptor>>
         requires { (domain_in (domains_of self.old) d).live ≡ true }
         ensures given { result.items ≡ (domain_in (domains_of self.old) d).fds }
@@ -292,7 +291,7 @@ impl<A: Drop> Table<A> {
     }
 
     /// Moves a domain's descriptor to its lowest number that is free when its own is.
-    #[tactic(auto, using(crate::proofs::Rows::row_rules), unfolding(crate::specs::Tables::domain_in, crate::specs::Tables::with_domain_in))]
+    #[tactic(auto, using(crate::proofs::Rows::row_rules, crate::proofs::Counted::counted_rules), unfolding(crate::specs::Tables::domain_in, crate::specs::Tables::with_domain_in))]
     pub fn move_fd(&mut self, d: DomainId, fd: Fd, on: Descriptor) -> Fd
         requires live { (domain_in (domains_of self.old) d).live ≡ true }
         requires there { in_place (domain_in (domains_of self.old) d).fds fd ≢ None }

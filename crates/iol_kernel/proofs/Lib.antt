@@ -5,6 +5,7 @@ pub mod Sound
 pub mod Ends
 pub mod Effects
 pub mod Pipes
+pub mod Flowing
 pub mod Queueing
 pub mod CloseAll
 pub mod ClosedEnds
@@ -14,3 +15,8 @@ pub mod Reports
 pub mod Beginning
 pub mod Stay
 pub mod Sharing
+pub mod Additions
+pub mod Exchanging
+pub mod Regrouping
+pub mod Barring
+pub mod Gifts

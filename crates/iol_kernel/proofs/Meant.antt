@@ -86,7 +86,7 @@ with_agg-seen {A} g ds ps qs d a =
     ∙ ap (λ (xs : List (ℕ × Text)). machine.with_domain (seen g ds ps qs) d (record (meant g x) { aggs = xs; next_agg = x.next_agg + 1 })) e
     ∙ ap (λ (y : Domain Text). machine.with_domain (seen g ds ps qs) d (record y { aggs = y.aggs ++ (y.next_agg, g a) ∷ []; next_agg = y.next_agg + 1 })) (sym (domain-seen g ds ps qs d))
 
-without-map : {A B : Type 0} (g : A → B) (es : List (ℕ × A)) (n : ℕ) → map (λ e. (e.0, g e.1)) (without es n) ≡ without (map (λ e. (e.0, g e.1)) es) n
+pub without-map : {A B : Type 0} (g : A → B) (es : List (ℕ × A)) (n : ℕ) → map (λ e. (e.0, g e.1)) (without es n) ≡ without (map (λ e. (e.0, g e.1)) es) n
 without-map g [] n = refl
 without-map {A} {B} g (e ∷ es) n = let r = without-map g es n in elim (cases_eq e.0 n) [ inl k ↦ grind (arith, nat_tests, k) | inr k ↦ grind (arith, nat_tests, k, r) ]
 

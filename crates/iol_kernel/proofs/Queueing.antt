@@ -73,24 +73,6 @@ laid_none = length_nowhere number_at
 
 pub ruleset length_rules = (length_some, length_none, laid_some, laid_none, domain-seen)
 
--- Writing: the queue gets what fits.
-
-pub pushed-machine : (h : Holding) (qs : List (Option (Pipe (List Slice)))) (p n : ℕ) (from : List Slice) (w : Text) → (queue_at h.pipes p).writing ≡ true → text_of h.store from ≡ w → places (queue_at qs p).queue ≡ places (queue_at h.pipes p).queue ++ take n (places from) → qs ≡ slice_set h.pipes p (Some (record (queue_at h.pipes p) { queue = (queue_at qs p).queue })) → machine_of (record h { pipes = qs }) ≡ machine.with_pipe (machine_of h) p (record (machine.pipe_at (machine_of h) p) { queue = (machine.pipe_at (machine_of h) p).queue ++ take n w })
-unfolding machine_of
-pushed-machine h qs p n from w writing is places' pipes' =
-    let x : Pipe (List Slice) = record (queue_at h.pipes p) { queue = (queue_at qs p).queue } in
-    let q : text_of h.store (queue_at qs p).queue ≡ (machine.pipe_at (machine_of h) p).queue ++ take n w =
-    text_pushed h.store (queue_at qs p).queue (queue_at h.pipes p).queue from n places'
-    ∙ ap (λ (t : Text). t ++ take n (text_of h.store from)) (sym (queue_held h p))
-    ∙ ap (λ (t : Text). (machine.pipe_at (machine_of h) p).queue ++ take n t) is in
-    ap (λ (ys : List (Option (Pipe (List Slice)))). seen (text_of h.store) h.domains h.store.pools ys) pipes'
-    ∙ with_pipe-seen (text_of h.store) h.domains h.store.pools h.pipes p x (any_true x.reading x.writing writing)
-    ∙ ap (λ (t : Text). machine.with_pipe (machine_of h) p (record (pipe_meant (text_of h.store) (queue_at h.pipes p)) { queue = t })) q
-    ∙ ap (λ (y : machine.Pipe). machine.with_pipe (machine_of h) p (record y { queue = (machine.pipe_at (machine_of h) p).queue ++ take n w })) (sym (pipe_held h p))
-  where
-    any_true : (a b : Bool) → b ≡ true → (a || b) ≡ true
-    any_true a b e = grind (arith, nat_tests, e)
-
 pub queue_readable : (h : Holding) (p : ℕ) → IsSound h → AllReadable h.store (queue_at h.pipes p).queue
 queue_readable h p sound = pick (in_place h.pipes p) (each-get (IsPipeReadable h.store) h.pipes p None sound.pipes tt)
   where
@@ -134,10 +116,6 @@ module _ (h : Holding) (t : Stored) (qs : List (Option (Pipe (List Slice)))) (p 
   more_good : Each (IsPipeReadable h.store) more
   more_good = each-set (IsPipeReadable h.store) h.pipes p (Some (record (queue_at h.pipes p) { queue = (queue_at qs p).queue })) sound.pipes queue_good
 
-  pub pushed-store : machine_of (record h { store = t; pipes = qs }) ≡ machine_of (record h { pipes = qs })
-  pushed-store = subst (λ (ys : List (Option (Pipe (List Slice)))). machine_of (record h { store = t; pipes = ys }) ≡ machine_of (record h { pipes = ys })) (sym pipes')
-      (moved-machine h.store t h.domains more (shares_move shares).stays (ap (map pool_meant) shares.pools) (counted_held more_counted) sound.domains more_good)
-
   pub pushed-sound : IsSound (record h { store = t; pipes = qs })
   pushed-sound = subst (λ (ys : List (Option (Pipe (List Slice)))). IsSound (record h { store = t; pipes = ys })) (sym pipes')
       (moved-sound h.store t h.domains more (shares_move shares).stays more_counted (shares.tidy sound.tidy) ((shares_move shares).still sound.still) sound.domains more_good
@@ -155,13 +133,6 @@ pub reading_held : (h : Holding) (d fd p : ℕ) → IsSound h → machine.descri
 reading_held h d fd p sound is = end_held h d fd (on.ReadEnd p) sound is
 
 -- Reading: a domain gets the front.
-
-admitted-same : (f g : ℕ → Bool) (t : Text) → ((p : ℕ) → f p ≡ g p) → admitted f t ≡ admitted g t
-admitted-same f g t same = ap (λ n. take n t) (prefix t)
-  where
-    prefix : (xs : Text) → prefix_len (λ b. f b.1) xs ≡ prefix_len (λ b. g b.1) xs
-    prefix [] = refl
-    prefix (x ∷ xs) = ap (λ b. cond b (1 + prefix_len (λ b. f b.1) xs) 0) (same x.1) ∙ ap (λ n. cond (g x.1) (1 + n) 0) (prefix xs)
 
 pub may_read_held : (h : Holding) (d q : ℕ) → names_in h.store.pools q d ≡ machine.may_read (machine_of h) d q
 unfolding machine_of
@@ -187,29 +158,6 @@ module _ (h : Holding) (t : Stored) (ds : List (Domain (List Slice))) (qs : List
 
   given_good : Each (IsDomainReadable h.store) given
   given_good = add_readable h.store h.domains d takes.slices sound.domains slices_good
-
-  pub taken-machine : IsCounted t given less → machine_of (record h { store = t; domains = ds; pipes = qs }) ≡ aggs.with_agg (reading.read_on (machine_of h) d 0 (Some (on.ReadEnd p)) (length (reading.read_text (machine_of h) d (Some (on.ReadEnd p)) n))) d (reading.read_text (machine_of h) d (Some (on.ReadEnd p)) n)
-  unfolding machine_of
-  taken-machine counted =
-      let m : State = machine_of h in
-      let x : Pipe (List Slice) = record (queue_at h.pipes p) { queue = (queue_at qs p).queue } in
-      let u : Text = admitted (machine.may_read m d) (take n (machine.pipe_at m p).queue) in
-      let first : text_of h.store takes.slices ≡ u =
-      text_given h.store takes.slices (queue_at h.pipes p).queue h.store.pools d n takes.given
-      ∙ admitted-same (λ q. names_in h.store.pools q d) (machine.may_read m d) (take n (text_of h.store (queue_at h.pipes p).queue)) (may_read_held h d)
-      ∙ ap (λ (q : Text). admitted (machine.may_read m d) (take n q)) (sym (queue_held h p)) in
-      let left : text_of h.store (queue_at qs p).queue ≡ drop (length u) (machine.pipe_at m p).queue =
-      text_left h.store takes.slices (queue_at qs p).queue (queue_at h.pipes p).queue h.store.pools d n takes.given takes.left
-      ∙ ap (λ (v : Text). drop (length v) (text_of h.store (queue_at h.pipes p).queue)) (sym (text_given h.store takes.slices (queue_at h.pipes p).queue h.store.pools d n takes.given) ∙ first)
-      ∙ ap (λ (q : Text). drop (length u) q) (sym (queue_held h p)) in
-      ap (λ (ys : List (Option (Pipe (List Slice)))). seen (text_of t) ds t.pools ys) pipes'
-      ∙ ap (λ (ys : List (Domain (List Slice))). seen (text_of t) ys t.pools less) takes.added
-      ∙ moved-machine h.store t given less (shares_move takes.shares).stays (ap (map pool_meant) takes.shares.pools) (counted_held counted) given_good less_good
-      ∙ with_agg-seen (text_of h.store) h.domains h.store.pools less d takes.slices
-      ∙ ap (λ (s : State). aggs.with_agg s d (text_of h.store takes.slices)) (with_pipe-seen (text_of h.store) h.domains h.store.pools h.pipes p x (any_true x.reading x.writing reading'))
-      ∙ ap (λ (v : Text). aggs.with_agg (machine.with_pipe m p (pipe_meant (text_of h.store) x)) d v) first
-      ∙ ap (λ (v : Text). aggs.with_agg (machine.with_pipe m p (record (pipe_meant (text_of h.store) (queue_at h.pipes p)) { queue = v })) d u) left
-      ∙ ap (λ (y : machine.Pipe). aggs.with_agg (machine.with_pipe m p (record y { queue = drop (length u) (machine.pipe_at m p).queue })) d u) (sym (pipe_held h p))
 
   module _ (live : (domain_in h.domains d).live ≡ true) (few : live_aggs_in h.domains < 65536) where
     pub taken_counted : IsCounted t given less
@@ -249,30 +197,6 @@ reading_means h p = sym (ap (λ (x : machine.Pipe). x.reading) (pipe_held h p))
 
 pub writing_means : (h : Holding) (p : ℕ) → (queue_at h.pipes p).writing ≡ (machine.pipe_at (machine_of h) p).writing
 writing_means h p = sym (ap (λ (x : machine.Pipe). x.writing) (pipe_held h p))
-
--- the first byte's pool, where the reader may not read it
-pub barred_first : (h : Holding) (d p n : ℕ) → 0 < n → barred (machine.may_read (machine_of h) d) (take (min n 1) (machine.pipe_at (machine_of h) p).queue) ≡ option_and_then (λ q. if machine.may_read (machine_of h) d q then None else Some q) (first_pool (queue_at h.pipes p).queue)
-barred_first h d p n some =
-    ap (λ (t : Text). barred (machine.may_read (machine_of h) d) (take (min n 1) t)) (queue_held h p)
-    ∙ ap (λ k. barred (machine.may_read (machine_of h) d) (take k (text_of h.store (queue_at h.pipes p).queue))) one
-    ∙ first (text_of h.store (queue_at h.pipes p).queue)
-    ∙ ap (λ (o : Option ℕ). option_and_then (λ q. if machine.may_read (machine_of h) d q then None else Some q) o) (sym (first_pool-text h.store (queue_at h.pipes p).queue))
-  where
-    one : min n 1 ≡ 1
-    one = omega arith
-
-    first : (t : Text) → barred (machine.may_read (machine_of h) d) (take 1 t) ≡ option_and_then (λ q. if machine.may_read (machine_of h) d q then None else Some q) (option_map (λ b. b.1) (slice_get t 0))
-    first [] = refl
-    first (x ∷ t) = elim (machine.may_read (machine_of h) d x.1) as (λ b. option_map (λ (y : ℕ × ℕ). y.1) (cond (not b) (Some x) None) ≡ (if b then None else Some x.1)) [ true ↦ refl | false ↦ refl ]
-
-pub first_admitted : (h : Holding) (d p n q : ℕ) → 0 < n → Some q ≡ first_pool (queue_at h.pipes p).queue → machine.may_read (machine_of h) d q ≡ true → None ≡ barred (machine.may_read (machine_of h) d) (take (min n 1) (machine.pipe_at (machine_of h) p).queue)
-first_admitted h d p n q some is named = sym (barred_first h d p n some ∙ ap (λ (o : Option ℕ). option_and_then (λ q. if machine.may_read (machine_of h) d q then None else Some q) o) (sym is) ∙ rw named refl)
-
-pub first_denied : (h : Holding) (d p n q : ℕ) → 0 < n → Some q ≡ first_pool (queue_at h.pipes p).queue → machine.may_read (machine_of h) d q ≡ false → Some q ≡ barred (machine.may_read (machine_of h) d) (take (min n 1) (machine.pipe_at (machine_of h) p).queue)
-first_denied h d p n q some is named = sym (barred_first h d p n some ∙ ap (λ (o : Option ℕ). option_and_then (λ q. if machine.may_read (machine_of h) d q then None else Some q) o) (sym is) ∙ rw named refl)
-
-pub first_empty : (h : Holding) (d p n : ℕ) → 0 < n → None ≡ first_pool (queue_at h.pipes p).queue → None ≡ barred (machine.may_read (machine_of h) d) (take (min n 1) (machine.pipe_at (machine_of h) p).queue)
-first_empty h d p n some is = sym (barred_first h d p n some ∙ ap (λ (o : Option ℕ). option_and_then (λ q. if machine.may_read (machine_of h) d q then None else Some q) o) (sym is))
 
 pub none_held : (h : Holding) (d a : ℕ) → None ≡ agg_in h.domains d a → aggs.lacks_agg (machine_of h) d a ≡ true
 unfolding machine_of

@@ -221,7 +221,7 @@ limits_agg ds qs d xs limits live small few =
       few_pipes = limits.few_pipes;
     }
 
-each-without : (P : ℕ × List Slice → Type 0) (es : List (ℕ × List Slice)) (a : ℕ) → Each P es → Each P (without es a)
+pub each-without : (P : ℕ × List Slice → Type 0) (es : List (ℕ × List Slice)) (a : ℕ) → Each P es → Each P (without es a)
 each-without P [] a h = tt
 each-without P (e ∷ es) a h = elim (cases_eq e.0 a) [
   | inl k ↦ (let w : es ≡ without (e ∷ es) a = grind (arith, nat_tests, k) in subst (λ (l : List (ℕ × List Slice)). Each P l) w h.1)

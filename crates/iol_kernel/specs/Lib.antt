@@ -6,3 +6,5 @@ pub mod ClosedEnds
 pub mod Kernel
 pub mod Report
 pub mod Sharing
+pub mod Adding
+pub mod Regrouped

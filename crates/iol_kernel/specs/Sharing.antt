@@ -3,7 +3,7 @@ use Rattle.std.specs.Prelude.{◌≡◌, ℕ, Result}
 use Rattle.iol_core.specs.State.{State}
 use Rattle.iol_core.specs.Meaning.{Meaning, Step}
 use Rattle.iol_core.specs.declared.refusals.Refusal.{Refusal}
-use Rattle.iol_hold.specs.Layout.{read}
+use Rattle.iol_hold.specs.Layout.{read, KeepsPools}
 use Rattle.iol_hold.specs.Places.{Place}
 use Rattle.iol_kernel.specs.Seen.{seen}
 use Rattle.iol_kernel.specs.Holding.{Holding, layout_of}
@@ -17,7 +17,7 @@ pub record SharesBy {A : Type 0} (m : State → Meaning A) (old : Holding) (r : 
 unfoldable pub read_of : (Place → ℕ × ℕ) → Holding → State
 read_of f h = seen (read f) h.domains h.store.pools h.pipes
 
--- From old to new the state changes as m says, whatever is read at the places; and the pages are as they were.
+-- From old to new the state changes as m says, whatever is read at the places, if with their pools; and the pages are as they were.
 pub record Changes (m : State → State) (old new : Holding) : Type 0 where
-  pub each : (f : Place → ℕ × ℕ) → read_of f new ≡ m (read_of f old)
+  pub each : (f : Place → ℕ × ℕ) → KeepsPools f → read_of f new ≡ m (read_of f old)
   pub arena : new.store.arena ≡ old.store.arena

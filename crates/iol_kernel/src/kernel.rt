@@ -153,9 +153,10 @@ impl Kernel {
     }
 
     /// Whether the pool's list names the domain.
-    #[tactic(auto, using(crate::proofs::Meant::pool_rules), unfolding(crate::specs::Holding::machine_of))]
+    #[tactic(auto, using(crate::proofs::Meant::pool_rules), unfolding(crate::specs::Holding::machine_of, crate::specs::Holding::layout_of))]
     pub fn may_read(&self, d: DomainId, p: PoolId) -> bool
-        ensures { result ≡ may_read (machine_of (holding self.now)) d p }
+        ensures means { result ≡ may_read (machine_of (holding self.now)) d p }
+        ensures laid { result ≡ may_read (layout_of (holding self.now)) d p }
     {
         self.store.pools().names(p, d)
     }

@@ -5,11 +5,14 @@
 #![tactic(auto)]
 
 pub mod aggregates;
+pub mod composing;
 pub mod closing;
 pub mod descriptors;
 pub mod domains;
+pub mod giving;
 pub mod ending;
 pub mod kernel;
+pub mod moving;
 pub mod pools;
 pub mod queues;
 pub mod report;

@@ -3,7 +3,8 @@ ghost use Rattle.std.specs.Prelude.{◌≡◌, ◌≢◌, ℕ, ◌+◌, ◌-◌,
 ghost use Rattle.iol_core.specs.State.{is_live, domain, descriptor};
 ghost use Rattle.iol_core.specs.Meaning.{Step};
 ghost use Rattle.iol_hold.specs.Moves.{Stays};
-ghost use Rattle.iol_kernel.specs.Holding.{machine_of, IsSound};
+ghost use Rattle.iol_kernel.specs.Holding.{machine_of, layout_of, IsSound};
+ghost use Rattle.iol_kernel.specs.Sharing.{SharesBy};
 ghost use Rattle.iol_core.specs.Text.{Text, admitted, barred};
 ghost use Rattle.iol_pipe.specs.Queue.{first_pool};
 ghost use Rattle.iol_core.specs.State.{pipe_at, text, with_pipe, may_read};
@@ -149,6 +150,7 @@ impl Kernel {
     pub fn iol_write(&mut self, by: DomainId, fd: Fd, agg: AggId) -> Result<u32, Refusal>
         requires { IsSound (holding self.old) }
         ensures step { Step (writing.iol_write (machine_of (holding self.old)) by fd agg) (machine_of (holding self.old)) result (machine_of (holding self.new)) }
+        ensures shares { SharesBy (λ s. writing.iol_write s by fd agg) (holding self.old) result (holding self.new) }
         ensures roomy { (p : ℕ) → result ≡ Err (Refusal.NoRoom p) → ⊥ }
         ensures sound { IsSound (holding self.new) }
         ensures stays { Stays (holding self.old).store (holding self.new).store }
@@ -177,7 +179,11 @@ impl Kernel {
         requires live { is_live (machine_of (holding self.old)) by ≡ true }
         requires there { lacks_agg (machine_of (holding self.old)) by agg ≡ false }
         requires to { descriptor (machine_of (holding self.old)) by fd ≡ Some (Descriptor.WriteEnd pipe) }
+        requires laid_live { is_live (layout_of (holding self.old)) by ≡ true }
+        requires laid_there { lacks_agg (layout_of (holding self.old)) by agg ≡ false }
+        requires laid_to { descriptor (layout_of (holding self.old)) by fd ≡ Some (Descriptor.WriteEnd pipe) }
         ensures step { Step (writing.iol_write (machine_of (holding self.old)) by fd agg) (machine_of (holding self.old)) result (machine_of (holding self.new)) }
+        ensures shares { SharesBy (λ s. writing.iol_write s by fd agg) (holding self.old) result (holding self.new) }
         ensures roomy { (p : ℕ) → result ≡ Err (Refusal.NoRoom p) → ⊥ }
         ensures sound { IsSound (holding self.new) }
         ensures stays { Stays (holding self.old).store (holding self.new).store }
@@ -196,14 +202,16 @@ impl Kernel {
 
     /// Whether a pipe's read end is open.
     fn is_read(&self, p: PipeId) -> bool
-        ensures { result ≡ (pipe_at (machine_of (holding self.now)) p).reading }
+        ensures means { result ≡ (pipe_at (machine_of (holding self.now)) p).reading }
+        ensures laid { result ≡ (pipe_at (layout_of (holding self.now)) p).reading }
     {
         is_reading(&self.pipes, p)
     }
 
     /// Whether a pipe's write end is open.
     fn is_written(&self, p: PipeId) -> bool
-        ensures { result ≡ (pipe_at (machine_of (holding self.now)) p).writing }
+        ensures means { result ≡ (pipe_at (machine_of (holding self.now)) p).writing }
+        ensures laid { result ≡ (pipe_at (layout_of (holding self.now)) p).writing }
     {
         is_writing(&self.pipes, p)
     }
@@ -211,6 +219,7 @@ impl Kernel {
     /// How many bytes wait in a pipe.
     fn waiting(&self, p: PipeId) -> u32
         ensures len { result ≡ length (pipe_at (machine_of (holding self.now)) p).queue }
+        ensures laid { result ≡ length (pipe_at (layout_of (holding self.now)) p).queue }
         ensures most { result ≤ MAX_QUEUE_BYTES }
     {
         queue_len(&self.pipes, p)
@@ -219,7 +228,8 @@ impl Kernel {
     /// Whether an aggregate has bytes and none fits into a pipe.
     fn takes_none(&self, by: DomainId, agg: AggId, p: PipeId) -> bool
         requires { is_live (machine_of (holding self.now)) by ≡ true }
-        ensures { result ≡ writing.takes_none (machine_of (holding self.now)) (Some (Descriptor.WriteEnd p)) (length (text (machine_of (holding self.now)) by agg)) }
+        ensures means { result ≡ writing.takes_none (machine_of (holding self.now)) (Some (Descriptor.WriteEnd p)) (length (text (machine_of (holding self.now)) by agg)) }
+        ensures laid { result ≡ writing.takes_none (layout_of (holding self.now)) (Some (Descriptor.WriteEnd p)) (length (text (layout_of (holding self.now)) by agg)) }
     {
         let len = self.agg_len(by, agg);
         len > 0 && len.min(MAX_QUEUE_BYTES as u32 - self.waiting(p)) == 0
@@ -234,7 +244,11 @@ impl Kernel {
         requires writing { (queue_at (holding self.old).pipes p).writing ≡ true }
         ensures taken { IfOk result (λ n. n ≡ writing.fitting (machine_of (holding self.old)) (Some (Descriptor.WriteEnd p)) (length (text (machine_of (holding self.old)) by agg))) }
         ensures pushed { IfOk result (λ n. machine_of (holding self.new) ≡ with_pipe (machine_of (holding self.old)) p (record (pipe_at (machine_of (holding self.old)) p) { queue = (pipe_at (machine_of (holding self.old)) p).queue ++ take n (text (machine_of (holding self.old)) by agg) })) }
+        ensures laid_taken { IfOk result (λ n. n ≡ writing.fitting (layout_of (holding self.old)) (Some (Descriptor.WriteEnd p)) (length (text (layout_of (holding self.old)) by agg))) }
+        ensures laid { IfOk result (λ n. layout_of (holding self.new) ≡ with_pipe (layout_of (holding self.old)) p (record (pipe_at (layout_of (holding self.old)) p) { queue = (pipe_at (layout_of (holding self.old)) p).queue ++ take n (text (layout_of (holding self.old)) by agg) })) }
+        ensures arena { (holding self.new).store.arena ≡ (holding self.old).store.arena }
         ensures err { OnErr result (machine_of (holding self.new) ≡ machine_of (holding self.old)) }
+        ensures err_laid { OnErr result (layout_of (holding self.new) ≡ layout_of (holding self.old)) }
         ensures sound { IsSound (holding self.new) }
         ensures stays { Stays (holding self.old).store (holding self.new).store }
     {
@@ -251,6 +265,7 @@ impl Kernel {
     pub fn iol_read(&mut self, by: DomainId, fd: Fd, count: u32) -> Result<AggId, Refusal>
         requires { IsSound (holding self.old) }
         ensures step { Step (reading.iol_read (machine_of (holding self.old)) by fd count) (machine_of (holding self.old)) result (machine_of (holding self.new)) }
+        ensures shares { SharesBy (λ s. reading.iol_read s by fd count) (holding self.old) result (holding self.new) }
         ensures roomy { (p : ℕ) → result ≡ Err (Refusal.NoRoom p) → ⊥ }
         ensures sound { IsSound (holding self.new) }
         ensures stays { Stays (holding self.old).store (holding self.new).store }
@@ -281,7 +296,10 @@ impl Kernel {
         requires sound { IsSound (holding self.old) }
         requires live { is_live (machine_of (holding self.old)) by ≡ true }
         requires from { descriptor (machine_of (holding self.old)) by fd ≡ Some (Descriptor.ReadEnd pipe) }
+        requires laid_live { is_live (layout_of (holding self.old)) by ≡ true }
+        requires laid_from { descriptor (layout_of (holding self.old)) by fd ≡ Some (Descriptor.ReadEnd pipe) }
         ensures step { Step (reading.iol_read (machine_of (holding self.old)) by fd count) (machine_of (holding self.old)) result (machine_of (holding self.new)) }
+        ensures shares { SharesBy (λ s. reading.iol_read s by fd count) (holding self.old) result (holding self.new) }
         ensures roomy { (p : ℕ) → result ≡ Err (Refusal.NoRoom p) → ⊥ }
         ensures sound { IsSound (holding self.new) }
         ensures stays { Stays (holding self.old).store (holding self.new).store }
@@ -303,7 +321,8 @@ impl Kernel {
 
     /// The pool of the first byte asked for, where the reader may not read it.
     fn first_barred(&self, by: DomainId, p: PipeId, count: u32) -> Option<PoolId>
-        ensures { result ≡ barred (may_read (machine_of (holding self.now)) by) (take (min count 1) (pipe_at (machine_of (holding self.now)) p).queue) }
+        ensures means { result ≡ barred (may_read (machine_of (holding self.now)) by) (take (min count 1) (pipe_at (machine_of (holding self.now)) p).queue) }
+        ensures laid { result ≡ barred (may_read (layout_of (holding self.now)) by) (take (min count 1) (pipe_at (layout_of (holding self.now)) p).queue) }
     {
         if count == 0 {
             return None;
@@ -320,7 +339,8 @@ impl Kernel {
 
     /// Whether bytes are asked for, none wait, and some may come.
     fn must_wait(&self, p: PipeId, count: u32) -> bool
-        ensures { result ≡ reading.must_wait (machine_of (holding self.now)) (Some (Descriptor.ReadEnd p)) count }
+        ensures means { result ≡ reading.must_wait (machine_of (holding self.now)) (Some (Descriptor.ReadEnd p)) count }
+        ensures laid { result ≡ reading.must_wait (layout_of (holding self.now)) (Some (Descriptor.ReadEnd p)) count }
     {
         count > 0 && self.waiting(p) == 0 && self.is_written(p)
     }
@@ -333,6 +353,10 @@ impl Kernel {
         requires few { too_many_aggs (machine_of (holding self.old)) by 1 0 ≡ false }
         requires reading { (queue_at (holding self.old).pipes p).reading ≡ true }
         ensures number { IfOk result (λ a. a ≡ next_agg (machine_of (holding self.old)) by) }
+        ensures number_laid { IfOk result (λ a. a ≡ next_agg (layout_of (holding self.old)) by) }
+        ensures laid { OnOk result (layout_of (holding self.new) ≡ with_agg (reading.read_on (layout_of (holding self.old)) by 0 (Some (Descriptor.ReadEnd p)) (length (reading.read_text (layout_of (holding self.old)) by (Some (Descriptor.ReadEnd p)) n))) by (reading.read_text (layout_of (holding self.old)) by (Some (Descriptor.ReadEnd p)) n)) }
+        ensures arena { (holding self.new).store.arena ≡ (holding self.old).store.arena }
+        ensures err_laid { OnErr result (layout_of (holding self.new) ≡ layout_of (holding self.old)) }
         ensures taken { OnOk result (machine_of (holding self.new) ≡ with_agg (reading.read_on (machine_of (holding self.old)) by 0 (Some (Descriptor.ReadEnd p)) (length (reading.read_text (machine_of (holding self.old)) by (Some (Descriptor.ReadEnd p)) n))) by (reading.read_text (machine_of (holding self.old)) by (Some (Descriptor.ReadEnd p)) n)) }
         ensures err { OnErr result (machine_of (holding self.new) ≡ machine_of (holding self.old)) }
         ensures sound { IsSound (holding self.new) }

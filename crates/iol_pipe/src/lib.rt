@@ -18,9 +18,6 @@ use std::alloc::{AllocError, Global};
 use std::collections::VecDeque;
 use std::marker::Model;
 
-#[cfg(test)]
-mod tests;
-
 /// A queue of at most `MAX_QUEUE_BYTES` bytes.
 #[derive(Drop)]
 pub struct Pipe {

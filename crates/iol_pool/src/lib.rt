@@ -8,5 +8,3 @@
 pub mod names;
 pub mod pools;
 pub mod report;
-#[cfg(test)]
-mod tests;

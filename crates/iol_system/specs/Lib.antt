@@ -1,4 +1,3 @@
 pub mod Safe
-pub mod Shared
 pub mod Room
 pub mod Values

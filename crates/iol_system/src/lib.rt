@@ -9,6 +9,3 @@ mod step;
 pub mod system;
 
 pub use iol_core::events::{Call, Event, Reply};
-
-#[cfg(test)]
-mod tests;

@@ -2,9 +2,8 @@
 ghost use Rattle.std.specs.Prelude.{◌≡◌, true, false, IfOk, OnErr};
 ghost use Rattle.iol_core.specs.Run.{StepsTo, Run};
 ghost use Rattle.iol_hold.specs.Moves.{Stays};
-ghost use Rattle.iol_kernel.specs.Holding.{machine_of, IsSound};
-ghost use Rattle.iol_core.specs.Sharing.{is_sharing};
-ghost use Rattle.iol_system.specs.Shared.{Shared};
+ghost use Rattle.iol_kernel.specs.Holding.{machine_of, layout_of, IsSound};
+ghost use Rattle.iol_core.specs.Sharing.{is_sharing, LaysOut};
 ghost use Rattle.iol_system.specs.Room.{fits, IsDone, IsNoRoom};
 ghost use Rattle.iol_kernel.specs.Kernel.{holding};
 
@@ -19,7 +18,8 @@ fn make_call(kernel: &mut Kernel, by: DomainId, call: &Call) -> Reply
     ensures step { StepsTo (machine_of (holding kernel.old)) (Event.Call by call.now) result (machine_of (holding kernel.new)) }
     ensures room { IsDone result → fits (holding kernel.old) (Event.Call by call.now) ≡ true }
     ensures no_room { IsNoRoom result → fits (holding kernel.old) (Event.Call by call.now) ≡ false }
-    ensures shares { is_sharing (Event.Call by call.now) ≡ true → Shared (holding kernel.old) (Event.Call by call.now) result (holding kernel.new) }
+    ensures shares { is_sharing (Event.Call by call.now) ≡ true → LaysOut (layout_of (holding kernel.old)) (Event.Call by call.now) result (layout_of (holding kernel.new)) }
+    ensures pages { is_sharing (Event.Call by call.now) ≡ true → (holding kernel.new).store.arena ≡ (holding kernel.old).store.arena }
     ensures sound { IsSound (holding kernel.new) }
     ensures stays { Stays (holding kernel.old).store (holding kernel.new).store }
 {
@@ -114,7 +114,8 @@ pub(crate) fn carry_out(kernel: &mut Kernel, event: &Event) -> Reply
     ensures step { StepsTo (machine_of (holding kernel.old)) event.now result (machine_of (holding kernel.new)) }
     ensures room { IsDone result → fits (holding kernel.old) event.now ≡ true }
     ensures no_room { IsNoRoom result → fits (holding kernel.old) event.now ≡ false }
-    ensures shares { is_sharing event.now ≡ true → Shared (holding kernel.old) event.now result (holding kernel.new) }
+    ensures shares { is_sharing event.now ≡ true → LaysOut (layout_of (holding kernel.old)) event.now result (layout_of (holding kernel.new)) }
+    ensures pages { is_sharing event.now ≡ true → (holding kernel.new).store.arena ≡ (holding kernel.old).store.arena }
     ensures sound { IsSound (holding kernel.new) }
     ensures stays { Stays (holding kernel.old).store (holding kernel.new).store }
 {

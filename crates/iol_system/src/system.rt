@@ -6,10 +6,9 @@ ghost use Rattle.iol_core.specs.Run.{StepsTo, Run};
 ghost use Rattle.iol_core.specs.Values.{ValuesStay};
 ghost use Rattle.iol_system.specs.Values.{ValuesStayOver};
 ghost use Rattle.iol_hold.specs.Moves.{Stays};
-ghost use Rattle.iol_kernel.specs.Holding.{machine_of, joined};
+ghost use Rattle.iol_kernel.specs.Holding.{machine_of, layout_of, joined};
 ghost use Rattle.iol_system.specs.Safe.{IsSafe};
-ghost use Rattle.iol_system.specs.Shared.{Shared};
-ghost use Rattle.iol_core.specs.Sharing.{is_sharing};
+ghost use Rattle.iol_core.specs.Sharing.{is_sharing, LaysOut};
 ghost use Rattle.iol_core.specs.Meaning.{first};
 ghost use Rattle.iol_core.specs.Calls.Aggregates.{show};
 ghost use Rattle.iol_kernel.specs.Report.{reports_of};
@@ -85,8 +84,9 @@ impl System {
         ensures room { IsDone result → fits self.old event ≡ true }
         ensures no_room { IsNoRoom result → fits self.old event ≡ false }
 
-        // What a sharing call makes lies where its arguments lay, and no page is published or freed.
-        ensures shares { is_sharing event ≡ true → Shared self.old event result self.new }
+        // What a sharing call hands on lies where it lay, and no page is published or freed.
+        ensures shares { is_sharing event ≡ true → LaysOut (layout_of self.old) event result (layout_of self.new) }
+        ensures pages { is_sharing event ≡ true → self.new.store.arena ≡ self.old.store.arena }
 
         // Counts are those of the slices, no page is lost, and what a domain has it may read.
         ensures safe { IsSafe self.new }

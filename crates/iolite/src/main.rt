@@ -4,6 +4,7 @@
 //! also names the programs `serve` and `loop`, which come with the server.
 #![tactic(auto)]
 
+mod calls;
 mod failure;
 mod printed;
 mod replay;

@@ -6,13 +6,12 @@ ghost use Rattle.iolite.specs.Failure.{IsOfLines};
 ghost use Rattle.iolite.specs.Sizes.{WriteSizes};
 ghost use Rattle.iol_core.specs.Configuration.{IsInRange};
 
+use crate::calls::parse_call;
 use crate::failure::Failure;
-use crate::words::{
-    LineError, decode_text, parse_domains, parse_u32, parse_u64, repeat_text, split_word,
-};
+use crate::words::{LineError, parse_u32, split_word};
 use iol_core::configuration::Config;
-use iol_core::events::{Call, Event};
-use iol_core::numbers::{AggId, DomainId, Fd, PoolId};
+use iol_core::events::Event;
+use iol_core::numbers::DomainId;
 use std::alloc::Global;
 
 /// What a line asks for, but for the sizes.
@@ -97,87 +96,5 @@ fn parse_config(chunks: &str, gen_limit: &str, sums: &str) -> Result<Config, Lin
         Ok(config)
     } else {
         Err(LineError::NotACommand)
-    }
-}
-
-/// Reads a call: its name, and after one space what it is called with.
-fn parse_call(alloc: Global, text: &str) -> Result<Call, LineError> {
-    let Some((name, rest)) = text.split_once(' ') else {
-        return parse_bare_call(alloc, text);
-    };
-    match name {
-        "pool_create" => {
-            let (chunks, list) = split_word(rest)?;
-            let chunks = parse_u32(chunks)?;
-            let domains = parse_domains(alloc, list)?;
-            Ok(Call::PoolCreate { chunks, domains })
-        }
-        "pool_close" => {
-            let pool = PoolId::new(parse_u32(rest)?);
-            Ok(Call::PoolClose { pool })
-        }
-        "set_pool" => {
-            let pool = PoolId::new(parse_u32(rest)?);
-            Ok(Call::SetPool { pool })
-        }
-        "agg_make" | "agg_fill" | "agg_drop" | "show" => parse_agg_call(alloc, name, rest),
-        _ => parse_descriptor_call(name, rest),
-    }
-}
-
-/// Reads a call that makes an aggregate, or that is called with one alone.
-fn parse_agg_call(alloc: Global, name: &str, rest: &str) -> Result<Call, LineError> {
-    match name {
-        "agg_make" => {
-            let bytes = decode_text(alloc, rest)?;
-            Ok(Call::AggMake { bytes })
-        }
-        "agg_fill" => {
-            let (count, text) = rest.split_once(' ').unwrap_or((rest, ""));
-            let bytes = repeat_text(alloc, parse_u32(count)?, text)?;
-            Ok(Call::AggMake { bytes })
-        }
-        "agg_drop" => {
-            let agg = AggId::new(parse_u64(rest)?);
-            Ok(Call::AggDrop { agg })
-        }
-        _ => {
-            let agg = AggId::new(parse_u64(rest)?);
-            Ok(Call::Show { agg })
-        }
-    }
-}
-
-/// Reads a call of which the line gives the name alone. A text that is not given is empty.
-fn parse_bare_call(alloc: Global, name: &str) -> Result<Call, LineError> {
-    match name {
-        "domain_new" => Ok(Call::DomainNew),
-        "pipe" => Ok(Call::Pipe),
-        "agg_make" => {
-            let bytes = decode_text(alloc, "")?;
-            Ok(Call::AggMake { bytes })
-        }
-        _ => Err(LineError::NotACommand),
-    }
-}
-
-/// Reads a call on a descriptor, which has one number more.
-fn parse_descriptor_call(name: &str, rest: &str) -> Result<Call, LineError> {
-    let (fd, last) = split_word(rest)?;
-    let fd = Fd::new(parse_u32(fd)?);
-    match name {
-        "give_fd" => {
-            let to = DomainId::new(parse_u32(last)?);
-            Ok(Call::GiveFd { fd, to })
-        }
-        "iol_read" => {
-            let count = parse_u32(last)?;
-            Ok(Call::IolRead { fd, count })
-        }
-        "iol_write" => {
-            let agg = AggId::new(parse_u64(last)?);
-            Ok(Call::IolWrite { fd, agg })
-        }
-        _ => Err(LineError::NotACommand),
     }
 }

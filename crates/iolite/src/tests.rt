@@ -3,7 +3,7 @@ use crate::printed::Printed;
 use crate::replay::replay;
 use iol_core::events::Reply;
 use iol_core::lists::Bytes;
-use iol_core::numbers::{AggId, ConnId, DomainId, Fd, FileId, PoolId};
+use iol_core::numbers::{ConnId, FileId};
 use iol_core::refusals::Refusal;
 use std::alloc::Global;
 use std::io;
@@ -41,9 +41,11 @@ fn assert_replies(rt: &(impl AllocGlobal + Abort), script: &str, replies: &str) 
 fn ample(rt: HostRuntime) {
     let script = "config 1 1 1\n1 domain_new\n1 pool_create 1 1\n1 set_pool 1\n1 agg_make a\n\
         1 show 1\n1 pipe\n1 iol_write 1 1\n1 iol_read 0 1\n1 give_fd 0 2\n1 agg_drop 1\n\
-        1 agg_fill 2 b\n1 pool_close 1\nreport\n";
+        1 agg_fill 2 b\n1 agg_dup 3\n1 agg_cut 3 0 1\n1 agg_replace 3 0 1 4\n1 agg_join 4 5\n\
+        1 agg_split 7 1\n1 agg_give 8 1\n1 close 1\n2 exit\n1 pool_close 1\nreport\n";
     let replies = "domain 2\npool 1\ndone\nagg 1\nbytes a\nfds 0 1\ncount 1\nagg 2\nfd 0\ndone\n\
-        agg 3\ndone\npool 1 pages 16 free 14 retired 0\nextents 0 dirty 0 buffers 2\n";
+        agg 3\nagg 4\nagg 5\nagg 6\nagg 7\naggs 8 9\nagg 10\ndone\ndone\ndone\n\
+        pool 1 pages 16 free 14 retired 0\nextents 0 dirty 0 buffers 2\n";
     assert_replies(&rt, script, replies);
 }
 
@@ -130,6 +132,82 @@ fn pools_and_their_pages(rt: HostRuntime) {
 }
 
 #[test]
+fn aggregates_rearranged(rt: HostRuntime) {
+    let table = [
+        // Replaced at the front, at the end, inside, and as a whole; an aggregate may stand in itself.
+        (
+            "1 pool_create 1 1\n1 set_pool 1\n1 agg_make hello\n1 agg_make XY\n\
+                1 agg_replace 1 0 1 2\n1 show 3\n1 agg_replace 1 4 5 2\n1 show 4\n\
+                1 agg_replace 1 1 4 2\n1 show 5\n1 agg_replace 1 0 5 2\n1 show 6\n\
+                1 agg_replace 1 2 2 1\n1 show 7\n1 agg_replace 1 3 2 2\n\
+                1 agg_replace 1 0 6 2\n1 agg_replace 1 0 1 9\n1 show 1\n",
+            "pool 1\ndone\nagg 1\nagg 2\nagg 3\nbytes XYello\nagg 4\nbytes hellXY\nagg 5\n\
+                bytes hXYo\nagg 6\nbytes XY\nagg 7\nbytes hehellollo\nrefused BadRange\n\
+                refused BadRange\nrefused BadAgg\nbytes hello\n",
+        ),
+        // Cuts inside and outside the range. A copy by reference outlives what it was made of.
+        (
+            "1 pool_create 1 1\n1 set_pool 1\n1 agg_make hello\n1 agg_cut 1 1 3\n1 show 2\n\
+                1 agg_cut 1 5 5\n1 show 3\n1 agg_cut 1 3 2\n1 agg_cut 1 0 6\n\
+                1 agg_cut 9 0 0\n1 agg_dup 1\n1 agg_drop 1\n1 show 4\n1 show 1\n",
+            "pool 1\ndone\nagg 1\nagg 2\nbytes el\nagg 3\nbytes\nrefused BadRange\n\
+                refused BadRange\nrefused BadAgg\nagg 4\ndone\nbytes hello\nrefused BadAgg\n",
+        ),
+        // Split, joined the other way, and given: not to a domain that the pool does not name.
+        (
+            "1 domain_new\n1 domain_new\n1 pool_create 1 1,2\n1 set_pool 1\n1 agg_make hello\n\
+                1 agg_split 1 2\n1 show 1\n1 agg_split 2 3\n1 agg_join 3 2\n1 show 4\n\
+                1 agg_join 4 4\n1 agg_give 4 3\n1 agg_give 4 2\n1 show 4\n2 show 1\n\
+                2 agg_give 1 2\n2 show 2\n2 agg_give 2 9\n",
+            "domain 2\ndomain 3\npool 1\ndone\nagg 1\naggs 2 3\nrefused BadAgg\n\
+                refused BadRange\nagg 4\nbytes llohe\nrefused BadAgg\nrefused Denied pool 1\n\
+                agg 1\nrefused BadAgg\nbytes llohe\nagg 2\nbytes llohe\nrefused NoDomain\n",
+        ),
+    ];
+    for (script, replies) in table {
+        assert_replies(&rt, script, replies);
+    }
+}
+
+#[test]
+fn descriptors_that_move_and_close(rt: HostRuntime) {
+    let table = [
+        // Given to oneself, to another, to a dead domain.
+        (
+            "1 domain_new\n1 pipe\n1 give_fd 0 1\n1 give_fd 1 1\n1 close 0\n1 give_fd 1 1\n\
+                1 give_fd 0 2\n1 give_fd 0 2\n2 exit\n2 pipe\n1 pipe\n1 give_fd 0 2\n",
+            "domain 2\nfds 0 1\nfd 0\nfd 1\ndone\nfd 0\nfd 0\nrefused BadFd\ndone\n\
+                refused NoDomain\nfds 0 1\nrefused NoDomain\n",
+        ),
+        // A queue fills at 65,536 bytes, and breaks when its reader closes: what waited is given up.
+        (
+            "1 pool_create 2 1\n1 set_pool 1\n1 agg_fill 65535 x\n1 agg_make yz\n1 pipe\n\
+                1 iol_write 1 1\n1 iol_write 1 2\n1 iol_write 1 2\n1 iol_read 0 65535\n\
+                1 iol_read 0 9\n1 show 4\n1 iol_read 0 1\n1 iol_write 1 2\n1 agg_drop 2\n\
+                1 agg_drop 4\n1 close 0\n1 iol_write 1 1\nreport\n1 close 1\n1 close 1\n1 pipe\n",
+            "pool 1\ndone\nagg 1\nagg 2\nfds 0 1\ncount 65535\ncount 1\nrefused WouldBlock\n\
+                agg 3\nagg 4\nbytes y\nrefused WouldBlock\ncount 2\ndone\ndone\ndone\n\
+                refused BrokenPipe\npool 1 pages 32 free 16 retired 0\n\
+                extents 0 dirty 0 buffers 1\ndone\nrefused BadFd\nfds 0 1\n",
+        ),
+        // A domain ends: its aggregates are given up and its ends closed. What it wrote can still be read.
+        (
+            "1 domain_new\n1 pool_create 1 1,2\n2 set_pool 1\n2 agg_make hello\n2 pipe\n\
+                2 iol_write 1 1\n2 give_fd 0 1\n2 exit\n2 show 1\n1 iol_read 0 3\n1 show 1\n\
+                1 iol_read 0 9\n1 iol_read 0 9\n1 show 3\n1 agg_drop 1\n1 agg_drop 2\nreport\n\
+                1 domain_new\n1 exit\n1 domain_new\n3 exit\n",
+            "domain 2\npool 1\ndone\nagg 1\nfds 0 1\ncount 5\nfd 0\ndone\nrefused NoDomain\n\
+                agg 1\nbytes hel\nagg 2\nagg 3\nbytes\ndone\ndone\n\
+                pool 1 pages 16 free 16 retired 0\nextents 0 dirty 0 buffers 0\ndomain 3\ndone\n\
+                refused NoDomain\ndone\n",
+        ),
+    ];
+    for (script, replies) in table {
+        assert_replies(&rt, script, replies);
+    }
+}
+
+#[test]
 fn lines_that_are_skipped(rt: HostRuntime) {
     let table = [
         ("", ""),
@@ -204,6 +282,18 @@ fn lines_that_are_bad(rt: HostRuntime) -> Result<(), Fail> {
         "1 pool_close 1 1",
         "1 agg_drop x",
         "agg_drop 1",
+        "1 exit 1",
+        "1 close",
+        "1 close x",
+        "1 close 0 1",
+        "1 agg_dup",
+        "1 agg_split 1",
+        "1 agg_join 1 2 3",
+        "1 agg_give 1",
+        "1 agg_cut 1 2",
+        "1 agg_cut 1 2 3 4",
+        "1 agg_cut 1 2 4294967296",
+        "1 agg_replace 1 0 1",
         "1 agg_fill",
         "1 agg_fill x x",
         "1 agg_fill 4294967296 x",
@@ -318,7 +408,6 @@ fn faults_of_input_and_output(rt: HostRuntime) {
 
 #[test]
 fn replies_that_no_call_gives_yet(rt: HostRuntime) -> Result<(), Fail> {
-    let (front, back) = (AggId::new(1), AggId::new(u64::MAX));
     let file = FileId::new(1024);
     let sent = b"a b".to_vec(rt.alloc())?;
     let bytes = Bytes::from_vec(sent);
@@ -326,7 +415,6 @@ fn replies_that_no_call_gives_yet(rt: HostRuntime) -> Result<(), Fail> {
     let table = vec![in rt.alloc();
         (Reply::File(file), "file 1024"),
         (Reply::Conn(ConnId::new(0)), "conn 0"),
-        (Reply::Aggs(front, back), "aggs 1 18446744073709551615"),
         (
             Reply::Segment {
                 bytes,

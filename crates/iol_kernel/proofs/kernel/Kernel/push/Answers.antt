@@ -7,12 +7,18 @@ use Rattle.iol_hold.specs.Places.{places}
 use Rattle.std.proofs.lemmas.List.{length-take}
 use Rattle.iol_kernel.proofs.Sound.{agg_small}
 use Rattle.iol_kernel.proofs.Uses.{agg_covered, countable}
-use Rattle.iol_kernel.proofs.Queueing.{queue_length, queue_short, pushed-machine, pushed-store, pushed-sound, text_held, none_held, length_held}
+use Rattle.iol_kernel.proofs.Queueing.{queue_short, pushed-sound, text_held, none_held, length_held}
 use Rattle.std.specs.Prelude.{min, ◌-◌}
 use Rattle.iol_core.specs.State.{text}
 use Rattle.iol_kernel.specs.Holding.{machine_of}
 use Rattle.std.proofs.Common.{length}
 use Rattle.iol_kernel.specs.Kernel.{holding}
+use Rattle.iol_hold.specs.Layout.{number_at}
+use Rattle.iol_hold.specs.Texts.{byte_at}
+use Rattle.iol_kernel.specs.Holding.{layout_of}
+use Rattle.iol_kernel.specs.Sharing.{read_of}
+use Rattle.iol_kernel.proofs.Sharing.{changes_machine, changes_layout}
+use Rattle.iol_kernel.proofs.Flowing.{after_push, pushed-changes, fits}
 use Rattle.iol_kernel.proofs.kernel.Kernel.push.Goals as goal
 
 pub agg-requires : goal.agg-requires
@@ -25,11 +31,12 @@ unreachable-requires c =
     cc
 
 pub returns-in-Ok-clause-taken : goal.returns-in-Ok-clause-taken
-returns-in-Ok-clause-taken c =
-    let found = c.in-Some.ensures in
-    c.in-Ok.ensures.taken
-    ∙ ap (λ n. min n (65536 - byte_len (queue_at c.args.self.now.pipes.items c.args.p).queue)) (sym (length_held (holding c.args.self.now) c.args.by c.args.agg c.in-Some.found.now found))
-    ∙ ap (λ n. min (length (text (machine_of (holding c.args.self.now)) c.args.by c.args.agg)) (65536 - n)) (sym (queue_length (holding c.args.self.now) c.args.p))
+unfolding machine_of read_of
+returns-in-Ok-clause-taken c = fits (byte_at c.args.self.now.store) (holding c.args.self.now) c.args.p c.args.by c.args.agg c.in-Some.found.now c.in-Ok.taken c.in-Some.ensures c.in-Ok.ensures.taken
+
+pub returns-in-Ok-clause-laid_taken : goal.returns-in-Ok-clause-laid_taken
+unfolding layout_of read_of
+returns-in-Ok-clause-laid_taken c = fits number_at (holding c.args.self.now) c.args.p c.args.by c.args.agg c.in-Some.found.now c.in-Ok.taken c.in-Some.ensures c.in-Ok.ensures.taken
 
 pub push_to-requires-clause-covered : goal.push_to-requires-clause-covered
 push_to-requires-clause-covered c =
@@ -47,15 +54,13 @@ short old new given n h is le = omega (arith, h, is, le)
 
 pub returns-in-Ok-clause-pushed : goal.returns-in-Ok-clause-pushed
 returns-in-Ok-clause-pushed c =
-    let h = holding c.args.self.now in
-    let qs = c.push_to.new.pipes.items in
-    let p = c.args.p in
-    let from = c.in-Some.found.now in
-    let found = c.in-Some.ensures in
-    let bound = short (byte_len (queue_at h.pipes p).queue) (byte_len (queue_at qs p).queue) (byte_len from) c.in-Ok.taken (queue_short h p c.requires.sound) c.in-Ok.ensures.taken
-    (omega (arith, ap length c.in-Ok.ensures.places, length-append (places (queue_at h.pipes p).queue) (take c.in-Ok.taken (places from)), length-take c.in-Ok.taken (places from))) in
-    pushed-store h c.push_to.new.store qs p c.in-Ok.taken c.args.by c.args.agg from c.requires.sound c.requires.writing found bound c.in-Ok.ensures.places c.in-Ok.ensures.pipes c.in-Ok.ensures.shares
-    ∙ pushed-machine h qs p c.in-Ok.taken from _ c.requires.writing (text_held h c.args.by c.args.agg from found) c.in-Ok.ensures.places c.in-Ok.ensures.pipes
+    changes_machine (after_push c.args.p c.in-Ok.taken c.args.by c.args.agg) (holding c.args.self.now) _
+    (pushed-changes (holding c.args.self.now) c.push_to.new.store c.push_to.new.pipes.items c.args.p c.in-Ok.taken c.args.by c.args.agg c.in-Some.found.now c.requires.writing c.in-Some.ensures c.in-Ok.ensures.places c.in-Ok.ensures.pipes c.in-Ok.ensures.shares)
+
+pub returns-in-Ok-clause-laid : goal.returns-in-Ok-clause-laid
+returns-in-Ok-clause-laid c =
+    changes_layout (after_push c.args.p c.in-Ok.taken c.args.by c.args.agg) (holding c.args.self.now) _
+    (pushed-changes (holding c.args.self.now) c.push_to.new.store c.push_to.new.pipes.items c.args.p c.in-Ok.taken c.args.by c.args.agg c.in-Some.found.now c.requires.writing c.in-Some.ensures c.in-Ok.ensures.places c.in-Ok.ensures.pipes c.in-Ok.ensures.shares)
 
 pub returns-in-Ok-clause-sound : goal.returns-in-Ok-clause-sound
 returns-in-Ok-clause-sound c =

@@ -3,7 +3,12 @@ use Rattle.std.proofs.Common.{◌∙◌, sym, inl, arith}
 use Rattle.iol_kernel.proofs.Effects.{live_held, few_held, few_live, next_held}
 use Rattle.iol_kernel.proofs.Ends.{there_if_open}
 use Rattle.iol_kernel.proofs.Uses.{queue_covered, countable}
-use Rattle.iol_kernel.proofs.Queueing.{taken-machine, taken_counted, taken-sound, queue_short}
+use Rattle.iol_hold.specs.Layout.{number_at}
+use Rattle.iol_kernel.specs.Holding.{layout_of}
+use Rattle.iol_kernel.specs.Sharing.{read_of}
+use Rattle.iol_kernel.proofs.Sharing.{changes_machine, changes_layout, next_read}
+use Rattle.iol_kernel.proofs.Flowing.{after_take, taken-changes}
+use Rattle.iol_kernel.proofs.Queueing.{taken-sound, queue_short}
 use Rattle.iol_kernel.specs.Kernel.{holding}
 use Rattle.iol_kernel.proofs.kernel.Kernel.take.Goals as goal
 
@@ -22,12 +27,19 @@ take_from-requires-clause-few c = few_held (holding c.args.self.now) c.args.by c
 pub returns-in-Ok-clause-number : goal.returns-in-Ok-clause-number
 returns-in-Ok-clause-number c = c.in-Ok.ensures.number ∙ sym (next_held (holding c.args.self.now) c.args.by)
 
+pub returns-in-Ok-clause-number_laid : goal.returns-in-Ok-clause-number_laid
+unfolding layout_of read_of
+returns-in-Ok-clause-number_laid c = c.in-Ok.ensures.number ∙ sym (next_read number_at (holding c.args.self.now) c.args.by)
+
 pub returns-in-Ok-clause-taken : goal.returns-in-Ok-clause-taken
 returns-in-Ok-clause-taken c =
-    let h = holding c.args.self.now in
-    taken-machine h c.take_from.new.store (domains_of c.take_from.new.domains) c.take_from.new.pipes.items c.args.p c.args.by c.args.n c.requires.sound c.requires.reading c.in-Ok.ensures.taken c.in-Ok.ensures.pipes
-    (taken_counted h c.take_from.new.store (domains_of c.take_from.new.domains) c.take_from.new.pipes.items c.args.p c.args.by c.args.n c.requires.sound c.requires.reading c.in-Ok.ensures.taken c.in-Ok.ensures.pipes
-    (live_held h c.args.by c.requires.live) (few_live h c.args.by c.requires.few))
+    changes_machine (after_take c.args.p c.args.by c.args.n) (holding c.args.self.now) _
+    (taken-changes (holding c.args.self.now) c.take_from.new.store (domains_of c.take_from.new.domains) c.take_from.new.pipes.items c.args.p c.args.by c.args.n c.requires.reading c.in-Ok.ensures.taken c.in-Ok.ensures.pipes)
+
+pub returns-in-Ok-clause-laid : goal.returns-in-Ok-clause-laid
+returns-in-Ok-clause-laid c =
+    changes_layout (after_take c.args.p c.args.by c.args.n) (holding c.args.self.now) _
+    (taken-changes (holding c.args.self.now) c.take_from.new.store (domains_of c.take_from.new.domains) c.take_from.new.pipes.items c.args.p c.args.by c.args.n c.requires.reading c.in-Ok.ensures.taken c.in-Ok.ensures.pipes)
 
 pub returns-in-Ok-clause-sound : goal.returns-in-Ok-clause-sound
 returns-in-Ok-clause-sound c =

@@ -1,0 +1,103 @@
+-- The first byte that a domain may not read, found by slices: each has a byte, and all its bytes are of one pool.
+use Rattle.std.proofs.Common.{◌≡◌, ℕ, zero, suc, ◌+◌, ◌-◌, ◌==◌, Bool, not, cond, true, false, Option, Some, None, List, [], ◌∷◌, ◌++◌, map, refl, sym, ap, ◌∙◌, arith}
+use Rattle.std.specs.List.{find, list_any, range_with_len}
+use Rattle.std.specs.Option.{option_map, unwrap_or}
+use Rattle.std.proofs.lemmas.List.{map-append}
+use Rattle.iol_core.specs.Text.{Text, barred}
+use Rattle.iol_core.specs.State as machine
+use Rattle.iol_core.specs.State.{State}
+use Rattle.iol_pool.specs.Pools.{Pool, names_in}
+use Rattle.iol_hold.specs.Places.{Place, place_in, slice_places, places}
+use Rattle.iol_hold.specs.Layout.{read, number_at, KeepsPools}
+use Rattle.iol_hold.specs.Texts.{byte_at}
+use Rattle.iol_hold.proofs.AtPlaces.{keeps_bytes, keeps_numbers}
+use Rattle.iol_hold.specs.declared.slices.Slice.{Slice}
+use Rattle.iol_desc.specs.Tables.{agg_in}
+use Rattle.iol_kernel.specs.Adding.{slices_in}
+use Rattle.iol_kernel.specs.Holding.{Holding, machine_of, layout_of}
+use Rattle.iol_kernel.specs.Sharing.{read_of}
+use Rattle.iol_kernel.proofs.Meant.{pool-seen}
+use Rattle.iol_kernel.proofs.Sharing.{read_machine, read_layout}
+use Rattle.iol_kernel.proofs.Additions.{text-read}
+
+barred-cons : (may : ℕ → Bool) (b : ℕ × ℕ) (t : Text) → barred may (b ∷ t) ≡ cond (not (may b.1)) (Some b.1) (barred may t)
+barred-cons may b t = first (not (may b.1))
+  where
+    first : (c : Bool) → option_map (λ x. x.1) (cond c (Some b) (find (λ x. not (may x.1)) t)) ≡ cond c (Some b.1) (barred may t)
+    first true = refl
+    first false = refl
+
+twice : (c : Bool) (x y : Option ℕ) → cond c x (cond c x y) ≡ cond c x y
+twice true x y = refl
+twice false x y = refl
+
+module _ (may : ℕ → Bool) (f : Place → ℕ × ℕ) (keeps : KeepsPools f) where
+  -- of a slice's bytes, one at least, and others after them
+  barred-run : (x : Slice) (from m : ℕ) (rest : Text) → barred may (map f (map (place_in x) (range_with_len from (suc m))) ++ rest) ≡ cond (not (may x.hold.pool)) (Some x.hold.pool) (barred may rest)
+  barred-run x from zero rest =
+      barred-cons may (f (place_in x from)) rest ∙ ap (λ p. cond (not (may p)) (Some p) (barred may rest)) (keeps (place_in x from))
+  barred-run x from (suc m) rest =
+      let run : Text = map f (map (place_in x) (range_with_len (from + 1) (suc m))) ++ rest in
+      barred-cons may (f (place_in x from)) run
+      ∙ ap (λ p. cond (not (may p)) (Some p) (barred may run)) (keeps (place_in x from))
+      ∙ ap (cond (not (may x.hold.pool)) (Some x.hold.pool)) (barred-run x (from + 1) m rest)
+      ∙ twice (not (may x.hold.pool)) (Some x.hold.pool) (barred may rest)
+
+  barred-slice : (x : Slice) (rest : Text) → barred may (map f (slice_places x) ++ rest) ≡ cond (not (may x.hold.pool)) (Some x.hold.pool) (barred may rest)
+  barred-slice x rest =
+      let some = x.some in
+      let len : x.len ≡ suc (x.len - 1) = omega (arith, some) in
+      ap (λ n. barred may (map f (map (place_in x) (range_with_len x.from n)) ++ rest)) len ∙ barred-run x x.from (x.len - 1) rest
+
+  pub barred-slices : (xs : List Slice) → barred may (read f xs) ≡ option_map (λ x. x.hold.pool) (find (λ x. not (may x.hold.pool)) xs)
+  barred-slices [] = refl
+  barred-slices (x ∷ xs) =
+      ap (barred may) (map-append f (slice_places x) (places xs))
+      ∙ barred-slice x (read f xs)
+      ∙ ap (cond (not (may x.hold.pool)) (Some x.hold.pool)) (barred-slices xs)
+      ∙ sym (first (not (may x.hold.pool)))
+    where
+      first : (c : Bool) → option_map (λ y. y.hold.pool) (cond c (Some x) (find (λ y. not (may y.hold.pool)) xs)) ≡ cond c (Some x.hold.pool) (option_map (λ y. y.hold.pool) (find (λ y. not (may y.hold.pool)) xs))
+      first true = refl
+      first false = refl
+
+pub may_read-read : (f : Place → ℕ × ℕ) (h : Holding) (d q : ℕ) → machine.may_read (read_of f h) d q ≡ names_in h.store.pools q d
+unfolding read_of
+may_read-read f h d q = ap (λ (x : machine.Pool). list_any (λ e. e == d) x.domains) (pool-seen (read f) h.domains h.store.pools h.pipes q)
+
+pub barred-read_of : (f : Place → ℕ × ℕ) → KeepsPools f → (h : Holding) (d a to : ℕ) → barred (machine.may_read (read_of f h) to) (machine.text (read_of f h) d a) ≡ option_map (λ x. x.hold.pool) (find (λ x. not (names_in h.store.pools x.hold.pool to)) (slices_in h.domains d a))
+barred-read_of f keeps h d a to =
+    let same : machine.may_read (read_of f h) to ≡ (λ q. names_in h.store.pools q to) = λ i. λ q. may_read-read f h to q i in
+    ap (λ (may : ℕ → Bool). barred may (machine.text (read_of f h) d a)) same
+    ∙ ap (barred (λ q. names_in h.store.pools q to)) (text-read f h d a)
+    ∙ barred-slices (λ q. names_in h.store.pools q to) f keeps (slices_in h.domains d a)
+
+-- the pool of the first of these slices that the domain may not read
+abbrev pub hidden : List Pool → (d : ℕ) → List Slice → Option ℕ
+hidden ps d xs = option_map (λ x. x.hold.pool) (find (λ x. not (names_in ps x.hold.pool d)) xs)
+
+barred_machine : (h : Holding) (d a to : ℕ) → barred (machine.may_read (machine_of h) to) (machine.text (machine_of h) d a) ≡ hidden h.store.pools to (slices_in h.domains d a)
+barred_machine h d a to = ap (λ (s : State). barred (machine.may_read s to) (machine.text s d a)) (read_machine h) ∙ barred-read_of (byte_at h.store) (keeps_bytes h.store) h d a to
+
+barred_layout : (h : Holding) (d a to : ℕ) → barred (machine.may_read (layout_of h) to) (machine.text (layout_of h) d a) ≡ hidden h.store.pools to (slices_in h.domains d a)
+barred_layout h d a to = ap (λ (s : State). barred (machine.may_read s to) (machine.text s d a)) (read_layout h) ∙ barred-read_of number_at keeps_numbers h d a to
+
+module _ (h : Holding) (d a to : ℕ) where
+  hidden_held : (xs ys : List Slice) (ps : List Pool) → Some xs ≡ agg_in h.domains d a → ys ≡ xs → ps ≡ h.store.pools → hidden ps to ys ≡ hidden h.store.pools to (slices_in h.domains d a)
+  hidden_held xs ys ps found same pools =
+      ap (λ (l : List Pool). hidden l to ys) pools ∙ ap (hidden h.store.pools to) (same ∙ ap (λ (o : Option (List Slice)). unwrap_or o []) found)
+
+  pub denied_machine : (xs ys : List Slice) (ps : List Pool) → Some xs ≡ agg_in h.domains d a → ys ≡ xs → ps ≡ h.store.pools → hidden ps to ys ≡ barred (machine.may_read (machine_of h) to) (machine.text (machine_of h) d a)
+  denied_machine xs ys ps found same pools = hidden_held xs ys ps found same pools ∙ sym (barred_machine h d a to)
+
+  pub denied_layout : (xs ys : List Slice) (ps : List Pool) → Some xs ≡ agg_in h.domains d a → ys ≡ xs → ps ≡ h.store.pools → hidden ps to ys ≡ barred (machine.may_read (layout_of h) to) (machine.text (layout_of h) d a)
+  denied_layout xs ys ps found same pools = hidden_held xs ys ps found same pools ∙ sym (barred_layout h d a to)
+
+  nothing : None ≡ agg_in h.domains d a → None ≡ hidden h.store.pools to (slices_in h.domains d a)
+  nothing none = ap (λ (o : Option (List Slice)). hidden h.store.pools to (unwrap_or o [])) none
+
+  pub nothing_machine : None ≡ agg_in h.domains d a → None ≡ barred (machine.may_read (machine_of h) to) (machine.text (machine_of h) d a)
+  nothing_machine none = nothing none ∙ sym (barred_machine h d a to)
+
+  pub nothing_layout : None ≡ agg_in h.domains d a → None ≡ barred (machine.may_read (layout_of h) to) (machine.text (layout_of h) d a)
+  nothing_layout none = nothing none ∙ sym (barred_layout h d a to)

@@ -1,0 +1,210 @@
+-- Effects that regroup a domain's aggregates: its slices move, and the store counts those that were divided.
+use Rattle.std.proofs.Common.{◌≡◌, ◌≢◌, ℕ, ◌+◌, ◌<◌, ◌≤◌, List, [], ◌∷◌, ◌++◌, length, take, drop, ap, ◌∙◌, refl, sym, subst, arith, Option, Some, None, true, false, length-append}
+use Rattle.std.specs.Prelude.{unwrap_or, option_map, nat_lt, ◌||◌}
+use Rattle.std.proofs.lemmas.Bool.Decides.{nat_tests}
+use Rattle.std.proofs.lemmas.List.{map-append, length-take, length-drop}
+use Rattle.std.proofs.lemmas.List.Sums.{sum_by-append, sum_by_push}
+use Rattle.iol_core.specs.Text.{Text}
+use Rattle.iol_core.specs.Numbered.{lookup, without}
+use Rattle.iol_core.specs.State as machine
+use Rattle.iol_core.specs.State.{State, Domain}
+use Rattle.iol_core.specs.Calls.Aggregates as aggs
+use Rattle.iol_core.specs.declared.numbers.BufId.{BufId}
+use Rattle.iol_core.proofs.Lookups.{lookup-without}
+use Rattle.iol_pool.specs.Pools.{Pool}
+use Rattle.iol_hold.specs.Stored.{Stored}
+use Rattle.iol_hold.specs.Layout.{read, layout_text}
+use Rattle.iol_hold.specs.Moves.{Shares, Covers, IsCountable, tally}
+use Rattle.iol_hold.specs.Places.{Place, places, byte_len}
+use Rattle.iol_hold.specs.Texts.{byte_at, text_of, bufs_of, AllReadable}
+use Rattle.iol_hold.specs.declared.slices.Slice.{Slice}
+use Rattle.iol_hold.proofs.AtPlaces.{length-read, read_taken, read_rest, read-append}
+use Rattle.iol_hold.proofs.Counting.{tally-append, bufs-append}
+use Rattle.iol_hold.proofs.Moving.{shares_move, shares_none}
+use Rattle.iol_hold.proofs.Reading.{readable_taken, readable_rest, readable_joined}
+use Rattle.iol_hold.proofs.Slicing.{byte_len-append}
+use Rattle.iol_desc.specs.Tables.{domain_in, with_domain_in, agg_in, live_aggs_in}
+use Rattle.iol_kernel.specs.Seen.{Pipe, meant, seen}
+use Rattle.iol_kernel.specs.Counted.{uses, domain_uses}
+use Rattle.iol_kernel.specs.Holding.{Holding, machine_of, layout_of, Each, IsDomainReadable, IsSound}
+use Rattle.iol_kernel.specs.Regrouped.{slices_in, with_two, with_one, joined_in, SplitsAgg}
+use Rattle.iol_kernel.specs.Sharing.{read_of, Changes}
+use Rattle.iol_kernel.proofs.Effects.{moved-sound, next_held}
+use Rattle.iol_kernel.proofs.Exchanging.{found_slices}
+use Rattle.iol_kernel.proofs.Meant.{domain-seen, with_domain-seen, aggregate-seen, without-map, live_aggs-seen}
+use Rattle.iol_kernel.proofs.Once.{once_same}
+use Rattle.iol_kernel.proofs.Sound.{each-push, each-without, each-with_domain_in, aggs_readable, aggs_small, agg_readable, agg_small, fds_stay}
+use Rattle.iol_kernel.proofs.Uses.{sum-with_domain, uses-without, length-without, agg_covered, countable}
+use Rattle.iol_kernel.proofs.Queueing.{none_held}
+
+-- One domain's aggregates change, and the store goes on.
+pub regrouped-sound : (h : Holding) (t : Stored) (d : ℕ) (x : Domain (List Slice)) (given taken : List BufId) → IsSound h → (domain_in h.domains d).live ≡ true → x.fds ≡ (domain_in h.domains d).fds → Shares h.store t taken given
+    → IsDomainReadable h.store x → ((b : BufId) → domain_uses b x + tally b taken ≡ domain_uses b (domain_in h.domains d) + tally b given)
+    → Each (λ (e : ℕ × List Slice). byte_len e.1 ≤ 16777216) x.aggs → length x.aggs + live_aggs_in h.domains ≤ 65536 + length (domain_in h.domains d).aggs
+    → IsSound (record h { store = t; domains = with_domain_in h.domains d x })
+regrouped-sound h t d x given taken sound live same shares readable counts small few =
+    moved-sound h.store t (with_domain_in h.domains d x) h.pipes (shares_move shares).stays
+    (record { each = λ b. (let s = sum-with_domain (domain_uses b) h.domains d x live in omega (arith, sound.counted.each b, shares.counts.each b, counts b, s)) })
+    (shares.tidy sound.tidy) ((shares_move shares).still sound.still)
+    (each-with_domain_in (IsDomainReadable h.store) h.domains d x sound.domains readable) sound.pipes (fds_stay h.pipes h.domains d x sound.fds same) (once_same h.domains d x live same sound.once)
+    (record {
+      aggs = each-with_domain_in (λ (y : Domain (List Slice)). Each (λ e. byte_len e.1 ≤ 16777216) y.aggs) h.domains d x sound.limits.aggs small;
+      few = (let s = sum-with_domain (λ (y : Domain (List Slice)). length y.aggs) h.domains d x live in omega (arith, few, s));
+      queues = sound.limits.queues;
+      few_pipes = sound.limits.few_pipes;
+    })
+    (omega (arith, sound.few_pools, ap length shares.pools))
+
+-- An aggregate's text, whatever is read at its places.
+pub text_read : (f : Place → ℕ × ℕ) (ds : List (Domain (List Slice))) (ps : List Pool) (qs : List (Option (Pipe (List Slice)))) (d a : ℕ) → machine.text (seen (read f) ds ps qs) d a ≡ read f (slices_in ds d a)
+text_read f ds ps qs d a = ap (λ (o : Option Text). unwrap_or o []) (aggregate-seen (read f) ds ps qs d a) ∙ of (agg_in ds d a)
+  where
+    of : (o : Option (List Slice)) → unwrap_or (option_map (read f) o) [] ≡ read f (unwrap_or o [])
+    of None = refl
+    of (Some xs) = refl
+
+-- What the machine says of aggregates, said of what is held.
+
+pub there_held : (h : Holding) (d a : ℕ) → aggs.lacks_agg (machine_of h) d a ≡ false → agg_in h.domains d a ≢ None
+there_held h d a there = λ none. (let lacks = none_held h d a (sym none) in cc (lacks, there))
+
+pub length_slices : (h : Holding) (d a : ℕ) → length (machine.text (machine_of h) d a) ≡ byte_len (slices_in h.domains d a)
+unfolding machine_of
+length_slices h d a = ap length (text_read (byte_at h.store) h.domains h.store.pools h.pipes d a) ∙ length-read (byte_at h.store) (slices_in h.domains d a)
+
+pub next_laid : (h : Holding) (d : ℕ) → (machine.domain (layout_of h) d).next_agg ≡ (domain_in h.domains d).next_agg
+unfolding layout_of
+next_laid h d = ap (λ (x : Domain Text). x.next_agg) (domain-seen layout_text h.domains h.store.pools h.pipes d)
+
+live_aggs_held : (h : Holding) → machine.live_aggs (machine_of h) ≡ live_aggs_in h.domains
+unfolding machine_of
+live_aggs_held h = live_aggs-seen (text_of h.store) h.domains h.store.pools h.pipes
+
+-- one more number
+pub few_one : (h : Holding) (d : ℕ) → aggs.too_many_aggs (machine_of h) d 1 2 ≡ false → (domain_in h.domains d).next_agg < 18446744073709551615
+few_one h d few = omega (arith, below (machine.live_aggs (machine_of h)) (machine.domain (machine_of h) d).next_agg few, next_held h d)
+  where
+    below : (n m : ℕ) → (nat_lt (65536 + 2) (n + 1) || nat_lt (18446744073709551614 + 1) (m + 1)) ≡ false → m < 18446744073709551615
+    below n m few = grind (arith, nat_tests, few)
+
+-- two more numbers, and one more aggregate
+pub few_two : (h : Holding) (d : ℕ) → aggs.too_many_aggs (machine_of h) d 2 1 ≡ false → ((domain_in h.domains d).next_agg + 1 < 18446744073709551615) × (live_aggs_in h.domains < 65536)
+few_two h d few =
+    let both = below (machine.live_aggs (machine_of h)) (machine.domain (machine_of h) d).next_agg few in
+    (omega (arith, both.0, next_held h d), omega (arith, both.1, live_aggs_held h))
+  where
+    below : (n m : ℕ) → (nat_lt (65536 + 1) (n + 2) || nat_lt (18446744073709551614 + 1) (m + 2)) ≡ false → (m + 1 < 18446744073709551615) × (n < 65536)
+    below n m few = (grind (arith, nat_tests, few), grind (arith, nat_tests, few))
+
+pub slices_covered : (h : Holding) (d a : ℕ) → IsSound h → (domain_in h.domains d).live ≡ true → agg_in h.domains d a ≢ None → Covers h.store (bufs_of (slices_in h.domains d a))
+slices_covered h d a sound live there = agg_covered h.store h.domains h.pipes d a (slices_in h.domains d a) sound.counted live (found_slices h.domains d a there)
+
+pub slices_short : (h : Holding) (d a : ℕ) → IsSound h → agg_in h.domains d a ≢ None → byte_len (slices_in h.domains d a) ≤ 16777216
+slices_short h d a sound there = agg_small h d a (slices_in h.domains d a) sound (found_slices h.domains d a there)
+
+pub slices_countable : (h : Holding) (d a : ℕ) → IsSound h → agg_in h.domains d a ≢ None → IsCountable h.store (bufs_of (slices_in h.domains d a))
+slices_countable h d a sound there = countable h.store h.domains h.pipes (slices_in h.domains d a) sound.counted sound.limits (slices_short h d a sound there)
+
+-- An aggregate is split.
+
+split-seen : (f : Place → ℕ × ℕ) (ds : List (Domain (List Slice))) (ps : List Pool) (qs : List (Option (Pipe (List Slice)))) (d a at : ℕ) (first second : List Slice) → places first ≡ take at (places (slices_in ds d a)) → places second ≡ drop at (places (slices_in ds d a))
+    → seen (read f) (with_domain_in ds d (with_two (domain_in ds d) a first second)) ps qs ≡ (aggs.agg_split (seen (read f) ds ps qs) d a at).after
+split-seen f ds ps qs d a at first second before after =
+    let s : State = seen (read f) ds ps qs in
+    let x : Domain (List Slice) = domain_in ds d in
+    let n : ℕ = x.next_agg in
+    let xs : List Slice = slices_in ds d a in
+    let text : Text = machine.text s d a in
+    let one : read f first ≡ take at text = read_taken f first xs at before ∙ ap (λ (w : Text). take at w) (sym (text_read f ds ps qs d a)) in
+    let two : read f second ≡ drop at text = read_rest f second xs at after ∙ ap (λ (w : Text). drop at w) (sym (text_read f ds ps qs d a)) in
+    with_domain-seen (read f) ds ps qs d (with_two x a first second)
+    ∙ ap (λ (es : List (ℕ × Text)). machine.with_domain s d (record (meant (read f) x) { aggs = es; next_agg = n + 2 })) (map-append (λ (e : ℕ × List Slice). (e.0, read f e.1)) (without x.aggs a) ((n, first) ∷ (n + 1, second) ∷ []))
+    ∙ ap (λ (es : List (ℕ × Text)). machine.with_domain s d (record (meant (read f) x) { aggs = es ++ (n, read f first) ∷ (n + 1, read f second) ∷ []; next_agg = n + 2 })) (without-map (read f) x.aggs a)
+    ∙ ap (λ (w : Text). machine.with_domain s d (record (meant (read f) x) { aggs = without (meant (read f) x).aggs a ++ (n, w) ∷ (n + 1, read f second) ∷ []; next_agg = n + 2 })) one
+    ∙ ap (λ (w : Text). machine.with_domain s d (record (meant (read f) x) { aggs = without (meant (read f) x).aggs a ++ (n, take at text) ∷ (n + 1, w) ∷ []; next_agg = n + 2 })) two
+    ∙ ap (λ (y : Domain Text). machine.with_domain s d (record y { aggs = without y.aggs a ++ (y.next_agg, take at text) ∷ (y.next_agg + 1, drop at text) ∷ []; next_agg = y.next_agg + 2 })) (sym (domain-seen (read f) ds ps qs d))
+
+module _ (h : Holding) (t : Stored) (ds : List (Domain (List Slice))) (d a at : ℕ) (splits : SplitsAgg h.store t h.domains ds d a at) where
+  split-each : (f : Place → ℕ × ℕ) → read_of f (record h { store = t; domains = ds }) ≡ (aggs.agg_split (read_of f h) d a at).after
+  unfolding read_of
+  split-each f =
+      ap (λ (ps : List Pool). seen (read f) ds ps h.pipes) splits.shares.pools
+      ∙ ap (λ (ys : List (Domain (List Slice))). seen (read f) ys h.store.pools h.pipes) splits.split
+      ∙ split-seen f h.domains h.store.pools h.pipes d a at splits.first splits.second splits.before splits.after
+
+  pub split-changes : Changes (λ s. (aggs.agg_split s d a at).after) h (record h { store = t; domains = ds })
+  split-changes = record { each = λ f keeps. split-each f; arena = splits.shares.arena }
+
+  pub split-sound : IsSound h → (domain_in h.domains d).live ≡ true → agg_in h.domains d a ≢ None → live_aggs_in h.domains < 65536 → IsSound (record h { store = t; domains = ds })
+  split-sound sound live there few =
+      let x : Domain (List Slice) = domain_in h.domains d in
+      let xs : List Slice = slices_in h.domains d a in
+      let found = found_slices h.domains d a there in
+      let readable : AllReadable h.store xs = agg_readable h d a xs sound found in
+      let short : byte_len xs ≤ 16777216 = agg_small h d a xs sound found in
+      let two : List (ℕ × List Slice) = (x.next_agg, splits.first) ∷ (x.next_agg + 1, splits.second) ∷ [] in
+      subst (λ (ys : List (Domain (List Slice))). IsSound (record h { store = t; domains = ys })) (sym splits.split)
+      (regrouped-sound h t d (with_two x a splits.first splits.second) (bufs_of splits.first ++ bufs_of splits.second) (bufs_of xs) sound live refl splits.shares
+      (each-two (λ (e : ℕ × List Slice). AllReadable h.store e.1) (without x.aggs a) (x.next_agg, splits.first) (x.next_agg + 1, splits.second)
+      (each-without (λ (e : ℕ × List Slice). AllReadable h.store e.1) x.aggs a (aggs_readable h d sound)) (readable_taken splits.first xs at splits.before readable) (readable_rest splits.second xs at splits.after readable))
+      (λ b. (let u = uses-without b x.aggs a xs found in
+      let v = sum_by-append (λ (e : ℕ × List Slice). uses b e.1) (without x.aggs a) two in
+      let w = tally-append b (bufs_of splits.first) (bufs_of splits.second) in
+      omega (arith, u, v, w)))
+      (each-two (λ (e : ℕ × List Slice). byte_len e.1 ≤ 16777216) (without x.aggs a) (x.next_agg, splits.first) (x.next_agg + 1, splits.second)
+      (each-without (λ (e : ℕ × List Slice). byte_len e.1 ≤ 16777216) x.aggs a (aggs_small h d sound)) (omega (arith, short, ap length splits.before, length-take at (places xs))) (omega (arith, short, ap length splits.after, length-drop at (places xs))))
+      (omega (arith, few, length-without x.aggs a xs found, length-append (without x.aggs a) two)))
+    where
+      each-two : (P : ℕ × List Slice → Type 0) (es : List (ℕ × List Slice)) (e f : ℕ × List Slice) → Each P es → P e → P f → Each P (es ++ e ∷ f ∷ [])
+      each-two P [] e f h p q = (p, (q, tt))
+      each-two P (g ∷ es) e f h p q = (h.0, each-two P es e f h.1 p q)
+
+-- Two aggregates are joined; the store stays as it was.
+
+join-seen : (f : Place → ℕ × ℕ) (ds : List (Domain (List Slice))) (ps : List Pool) (qs : List (Option (Pipe (List Slice)))) (d a b : ℕ) → seen (read f) (joined_in ds d a b) ps qs ≡ (aggs.agg_join (seen (read f) ds ps qs) d a b).after
+join-seen f ds ps qs d a b =
+    let s : State = seen (read f) ds ps qs in
+    let x : Domain (List Slice) = domain_in ds d in
+    let n : ℕ = x.next_agg in
+    let whole : List Slice = slices_in ds d a ++ slices_in ds d b in
+    let text : Text = machine.text s d a ++ machine.text s d b in
+    let one : read f whole ≡ text =
+    read-append f (slices_in ds d a) (slices_in ds d b)
+    ∙ ap (λ (w : Text). w ++ read f (slices_in ds d b)) (sym (text_read f ds ps qs d a))
+    ∙ ap (λ (w : Text). machine.text s d a ++ w) (sym (text_read f ds ps qs d b)) in
+    with_domain-seen (read f) ds ps qs d (with_one x a b whole)
+    ∙ ap (λ (es : List (ℕ × Text)). machine.with_domain s d (record (meant (read f) x) { aggs = es; next_agg = n + 1 })) (map-append (λ (e : ℕ × List Slice). (e.0, read f e.1)) (without (without x.aggs a) b) ((n, whole) ∷ []))
+    ∙ ap (λ (es : List (ℕ × Text)). machine.with_domain s d (record (meant (read f) x) { aggs = es ++ (n, read f whole) ∷ []; next_agg = n + 1 })) (without-map (read f) (without x.aggs a) b)
+    ∙ ap (λ (es : List (ℕ × Text)). machine.with_domain s d (record (meant (read f) x) { aggs = without es b ++ (n, read f whole) ∷ []; next_agg = n + 1 })) (without-map (read f) x.aggs a)
+    ∙ ap (λ (w : Text). machine.with_domain s d (record (meant (read f) x) { aggs = without (without (meant (read f) x).aggs a) b ++ (n, w) ∷ []; next_agg = n + 1 })) one
+    ∙ ap (λ (y : Domain Text). machine.with_domain s d (record y { aggs = without (without y.aggs a) b ++ (y.next_agg, text) ∷ []; next_agg = y.next_agg + 1 })) (sym (domain-seen (read f) ds ps qs d))
+
+module _ (h : Holding) (ds : List (Domain (List Slice))) (d a b : ℕ) (joined : ds ≡ joined_in h.domains d a b) where
+  join-each : (f : Place → ℕ × ℕ) → read_of f (record h { domains = ds }) ≡ (aggs.agg_join (read_of f h) d a b).after
+  unfolding read_of
+  join-each f = ap (λ (ys : List (Domain (List Slice))). seen (read f) ys h.store.pools h.pipes) joined ∙ join-seen f h.domains h.store.pools h.pipes d a b
+
+  pub join-changes : Changes (λ s. (aggs.agg_join s d a b).after) h (record h { domains = ds })
+  join-changes = record { each = λ f keeps. join-each f; arena = refl }
+
+  pub join-sound : IsSound h → (domain_in h.domains d).live ≡ true → agg_in h.domains d a ≢ None → agg_in h.domains d b ≢ None → a ≢ b → byte_len (slices_in h.domains d a) + byte_len (slices_in h.domains d b) ≤ 16777216 → IsSound (record h { domains = ds })
+  join-sound sound live first second differ short =
+      let x : Domain (List Slice) = domain_in h.domains d in
+      let xs : List Slice = slices_in h.domains d a in
+      let ys : List Slice = slices_in h.domains d b in
+      let found = found_slices h.domains d a first in
+      let also : Some ys ≡ lookup (without x.aggs a) b = found_slices h.domains d b second ∙ sym (lookup-without x.aggs a b differ) in
+      let readable : AllReadable h.store (xs ++ ys) = readable_joined (agg_readable h d a xs sound found) (agg_readable h d b ys sound (found_slices h.domains d b second)) in
+      let rest : List (ℕ × List Slice) = without (without x.aggs a) b in
+      subst (λ (zs : List (Domain (List Slice))). IsSound (record h { domains = zs })) (sym joined)
+      (regrouped-sound h h.store d (with_one x a b (xs ++ ys)) [] [] sound live refl (shares_none h.store)
+      (each-push (λ (e : ℕ × List Slice). AllReadable h.store e.1) rest (x.next_agg, xs ++ ys)
+      (each-without (λ (e : ℕ × List Slice). AllReadable h.store e.1) (without x.aggs a) b (each-without (λ (e : ℕ × List Slice). AllReadable h.store e.1) x.aggs a (aggs_readable h d sound))) readable)
+      (λ c. (let u = uses-without c x.aggs a xs found in
+      let v = uses-without c (without x.aggs a) b ys also in
+      let w = sum_by_push (λ (e : ℕ × List Slice). uses c e.1) rest (x.next_agg, xs ++ ys) in
+      let t = ap (tally c) (bufs-append xs ys) ∙ tally-append c (bufs_of xs) (bufs_of ys) in
+      omega (arith, u, v, w, t)))
+      (each-push (λ (e : ℕ × List Slice). byte_len e.1 ≤ 16777216) rest (x.next_agg, xs ++ ys)
+      (each-without (λ (e : ℕ × List Slice). byte_len e.1 ≤ 16777216) (without x.aggs a) b (each-without (λ (e : ℕ × List Slice). byte_len e.1 ≤ 16777216) x.aggs a (aggs_small h d sound))) (omega (arith, short, byte_len-append xs ys)))
+      (omega (arith, sound.limits.few, length-without x.aggs a xs found, length-without (without x.aggs a) b ys also, length-append rest ((x.next_agg, xs ++ ys) ∷ []))))
