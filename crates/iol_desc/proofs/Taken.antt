@@ -44,33 +44,6 @@ placed_at xs n m k x same lt is =
     let low : lowest (slice_set xs n None) ≤ n = lowest_freed xs n lt in
     rw (is, same) (grind (arith, nat_tests, common_steps, low), grind (arith, nat_tests, common_steps, low))
 
--- the entry of a number is found at its place, and taken out there
-
-pub place_within : {A : Type 0} (es : List (ℕ × A)) (n : ℕ) → lookup es n ≢ None → place_in es n < length es
-place_within [] n there = absurd (there refl)
-place_within (e ∷ es) n there = elim (cases_eq e.0 n) [
-  | inl k ↦ grind (arith, nat_tests, k)
-  | inr k ↦ (let r = place_within es n (λ none. there (grind (arith, nat_tests, k, none))) in grind (arith, nat_tests, k, r))
-]
-
-pub place_lookup : {A : Type 0} (es : List (ℕ × A)) (n : ℕ) (d : ℕ × A) → lookup es n ≢ None → lookup es n ≡ Some (get_or es (place_in es n) d).1
-place_lookup [] n d there = absurd (there refl)
-place_lookup (e ∷ es) n d there = elim (cases_eq e.0 n) [
-  | inl k ↦ grind (arith, nat_tests, k)
-  | inr k ↦ (let r = place_lookup es n d (λ none. there (grind (arith, nat_tests, k, none))) in
-      let p : place_in (e ∷ es) n ≡ suc (place_in es n) = grind (arith, nat_tests, k) in
-      rw p (grind (arith, nat_tests, k, r)))
-]
-
-pub place_without : {A : Type 0} (es : List (ℕ × A)) (n : ℕ) → lookup es n ≢ None → remove es (place_in es n) ≡ without es n
-place_without [] n there = absurd (there refl)
-place_without (e ∷ es) n there = elim (cases_eq e.0 n) [
-  | inl k ↦ grind (arith, nat_tests, k)
-  | inr k ↦ (let r = place_without es n (λ none. there (grind (arith, nat_tests, k, none))) in
-      let p : place_in (e ∷ es) n ≡ suc (place_in es n) = grind (arith, nat_tests, k) in
-      rw p (grind (arith, nat_tests, k, r)))
-]
-
 -- from a place below which none is free
 
 pub lowest_from : {A : Type 0} (xs : List (Option A)) (n : ℕ) → n ≤ lowest xs → n + lowest (drop n xs) ≡ lowest xs
@@ -113,10 +86,6 @@ pub within_place : {A : Type 0} (xs : List (Option A)) (n : ℕ) → in_place xs
 within_place [] n there = absurd (there refl)
 within_place (x ∷ xs) zero there = omega arith
 within_place (x ∷ xs) (suc n) there = omega (arith, within_place xs n there)
-
-pub ruleset prefix_rules = (prefix_len-drop_yes, prefix_len-drop_no, prefix_len-drop_all)
-
-pub ruleset entry_rules = (place_within, place_lookup, place_without)
 
 pub ruleset lowest_rules = (lowest_le-taken, prefix_len-drop_yes, prefix_len-drop_no, prefix_len-drop_all)
 

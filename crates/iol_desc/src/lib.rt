@@ -5,6 +5,7 @@
 //! asking for memory. Room is reserved first ([`reserve_aggs`](table::Table::reserve_aggs)), so that adding cannot fail.
 #![tactic(auto)]
 
+pub mod entries;
 pub mod places;
 mod row;
 pub mod table;

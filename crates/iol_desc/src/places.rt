@@ -202,6 +202,16 @@ impl<T: Drop> Places<T> {
         lower
     }
 
+    /// Takes what is in all places.
+    pub fn take(&mut self, alloc: Global) -> Vec<Option<T>>
+        ensures given { result.items ≡ self.old.places }
+        ensures rest { self.new.places ≡ [] }
+    {
+        self.count = 0;
+        self.low = 0;
+        mem::replace(&mut self.list, Vec::new(alloc))
+    }
+
     /// Frees all places.
     pub fn clear(&mut self)
         ensures { self.new.places ≡ [] }
@@ -209,15 +219,5 @@ impl<T: Drop> Places<T> {
         self.list.clear();
         self.count = 0;
         self.low = 0;
-    }
-
-    /// Takes all that the places hold, by place: none is taken any more.
-    pub fn take_all(&mut self, alloc: Global) -> Vec<Option<T>>
-        ensures given { result.items ≡ self.old.places }
-        ensures rest { self.new.places ≡ [] }
-    {
-        self.count = 0;
-        self.low = 0;
-        mem::replace(&mut self.list, Vec::new(alloc))
     }
 }

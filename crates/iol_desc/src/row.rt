@@ -6,78 +6,29 @@ ghost use Rattle.iol_core.specs.Numbered.{in_place, lookup, without, lowest, pla
 ghost use Rattle.iol_core.specs.Calls.Descriptors.{with_read_end};
 ghost use Rattle.iol_desc.specs.Tables.{with_next, exchanged, place_in, with_next_fd, with_ends};
 
+use crate::entries::{Entries, Taken};
 use crate::places::Places;
 use iol_core::descriptors::Descriptor;
 use iol_core::limits::MAX_OPEN;
 use iol_core::numbers::{AggId, Fd, PipeId, PoolId};
 use std::alloc::{AllocError, Global};
 use std::marker::Model;
-use std::mem;
 
-/// A domain: its aggregates by number, the newest last, and what its descriptors are open on.
+/// A domain: its aggregates by number, and what its descriptors are open on.
 #[derive(Drop)]
 pub(crate) struct Domain<A> {
     pub(crate) live: bool,
-    pub(crate) aggs: Vec<(AggId, A)>,
-    pub(crate) next_agg: u64,
+    pub(crate) aggs: Entries<A>,
     pub(crate) fds: Places<Descriptor>,
     pub(crate) default: Option<PoolId>,
 }
 
 impl<A> Model for Domain<A> {
-    ghost use Rattle.std.specs.Prelude.{◌-◌, vec_len, vec_capacity};
     ghost use Rattle.iol_desc.specs.Tables as tables;
 
     ghost Value = { tables.Row A };
 
-    ghost view = { λ d. record { domain = record { live = d.live; aggs = d.aggs.items; next_agg = d.next_agg; fds = d.fds.places; default = d.default }; room = vec_capacity d.aggs - vec_len d.aggs } };
-}
-
-/// The aggregate of this number.
-fn numbered<A>(aggs: &[(AggId, A)], agg: AggId) -> Option<&A>
-    ensures { option_copied result ≡ lookup aggs.now agg }
-{
-    aggs.iter().find(|e| e.0 == agg).map(|e| &e.1)
-}
-
-/// The place of the aggregate of this number, or the length where there is none.
-#[tactic(auto, using(crate::proofs::Taken::prefix_rules))]
-fn place_in<A>(aggs: &[(AggId, A)], agg: AggId) -> usize
-    ensures { result ≡ place_in aggs.now agg }
-{
-    for (i, entry) in aggs.iter().enumerate() {
-        if entry.0 == agg {
-            return i;
-        }
-    }
-    aggs.len()
-}
-
-/// Takes the aggregate of this number.
-#[tactic(auto, using(crate::proofs::Taken::entry_rules))]
-fn take_numbered<A: Drop>(aggs: &mut Vec<(AggId, A)>, agg: AggId) -> A
-    requires { lookup aggs.old.items agg ≢ None }
-    ensures given { Some result ≡ lookup aggs.old.items agg }
-    ensures rest { aggs.new.items ≡ without aggs.old.items agg }
-    ensures room { vec_capacity aggs.old - vec_len aggs.old ≤ vec_capacity aggs.new - vec_len aggs.new }
-{
-    let at = place_in(aggs, agg);
-    let (_, given) = aggs.remove(at);
-    given
-}
-
-/// Puts another aggregate under this number.
-#[tactic(auto, using(crate::proofs::Taken::entry_rules))]
-fn swap_numbered<A: Drop>(aggs: &mut Vec<(AggId, A)>, agg: AggId, other: A) -> A
-    requires { lookup aggs.old.items agg ≢ None }
-    ensures given { Some result ≡ lookup aggs.old.items agg }
-    ensures swapped { aggs.new.items ≡ exchanged aggs.old.items agg other }
-    ensures room { vec_capacity aggs.old - vec_len aggs.old ≤ vec_capacity aggs.new - vec_len aggs.new }
-{
-    let at = place_in(aggs, agg);
-    let entry = &mut aggs[at];
-    let (_, given) = mem::replace(entry, (agg, other));
-    given
+    ghost view = { λ d. record { domain = record { live = d.live; aggs = d.aggs.entries; next_agg = d.aggs.next; fds = d.fds.places; default = d.default }; room = d.aggs.room } };
 }
 
 /// Opens both ends of a pipe.
@@ -112,8 +63,7 @@ impl<A: Drop> Domain<A> {
     {
         Domain {
             live: true,
-            aggs: Vec::new(alloc),
-            next_agg: 1,
+            aggs: Entries::new(alloc),
             fds: Places::new(alloc),
             default: None,
         }
@@ -127,7 +77,7 @@ impl<A: Drop> Domain<A> {
         ensures count { length self.new.domain.aggs ≡ length self.old.domain.aggs }
     {
         self.live = false;
-        self.next_agg = 1;
+        self.aggs.clear();
         self.fds.clear();
         self.default = None;
     }
@@ -136,7 +86,7 @@ impl<A: Drop> Domain<A> {
     pub(crate) fn agg(&self, agg: AggId) -> Option<&A>
         ensures { option_copied result ≡ lookup self.now.domain.aggs agg }
     {
-        numbered(&self.aggs, agg)
+        self.aggs.get(agg)
     }
 
     /// Reserves room for so many aggregates more.
@@ -159,10 +109,7 @@ impl<A: Drop> Domain<A> {
         ensures room { self.old.room ≤ self.new.room + 1 }
         ensures count { length self.new.domain.aggs ≡ length self.old.domain.aggs + 1 }
     {
-        let number = self.next_agg;
-        self.aggs.push_reserved((AggId::new(number), agg));
-        self.next_agg += 1;
-        AggId::new(number)
+        self.aggs.push(agg)
     }
 
     /// Takes the aggregate of this number.
@@ -174,7 +121,7 @@ impl<A: Drop> Domain<A> {
         ensures room { self.old.room ≤ self.new.room }
         ensures count { length self.new.domain.aggs + 1 ≡ length self.old.domain.aggs }
     {
-        take_numbered(&mut self.aggs, agg)
+        self.aggs.take(agg)
     }
 
     /// Puts another aggregate under this number.
@@ -185,16 +132,22 @@ impl<A: Drop> Domain<A> {
         ensures room { self.old.room ≤ self.new.room }
         ensures count { length self.new.domain.aggs ≡ length self.old.domain.aggs }
     {
-        swap_numbered(&mut self.aggs, agg, other)
+        self.aggs.swap(agg, other)
+    }
+
+    /// How many aggregates there are.
+    pub(crate) fn agg_count(&self) -> usize
+        ensures { result ≡ length self.now.domain.aggs }
+    {
+        self.aggs.len()
     }
 
     /// Takes all aggregates, by number.
-    pub(crate) fn take_aggs(&mut self, alloc: Global) -> Vec<(AggId, A)>
-        ensures given { result.items ≡ self.old.domain.aggs }
+    pub(crate) fn take_aggs(&mut self, alloc: Global) -> Taken<A>
+        ensures given { result ≡ self.old.domain.aggs }
         ensures rest { self.new.domain ≡ record self.old.domain { aggs = [] } }
-        ensures count { length self.new.domain.aggs + vec_len result ≡ length self.old.domain.aggs }
     {
-        mem::replace(&mut self.aggs, Vec::new(alloc))
+        self.aggs.take_all(alloc)
     }
 
     /// Takes what the numbers are open on: none is open any more.
@@ -204,7 +157,7 @@ impl<A: Drop> Domain<A> {
         ensures room { self.old.room ≤ self.new.room }
         ensures count { length self.new.domain.aggs ≡ length self.old.domain.aggs }
     {
-        self.fds.take_all(alloc)
+        self.fds.take(alloc)
     }
 
     /// What a descriptor is open on.

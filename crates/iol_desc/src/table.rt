@@ -6,6 +6,7 @@ ghost use Rattle.iol_core.specs.Numbered.{in_place, lookup, without, lowest, pla
 ghost use Rattle.iol_core.specs.Calls.Descriptors.{with_read_end};
 ghost use Rattle.iol_desc.specs.Tables.{domains_of, row_in, room_in, domain_in, with_domain_in, agg_in, with_aggs_in, with_agg_in, without_agg_in, exchanged, live_aggs_in, too_many_in, with_fds_in, with_next_fd, with_ends};
 
+use crate::entries::Taken;
 use crate::row::Domain;
 use iol_core::descriptors::Descriptor;
 use iol_core::limits::{LAST_AGGREGATE, MAX_AGGREGATES, MAX_OPEN};
@@ -115,7 +116,7 @@ impl<A: Drop> Table<A> {
         ensures { result ≡ too_many_in (domains_of self.now) d made given }
     {
         let domain = &self.rows[self.place_of(d)];
-        let next = domain.next_agg;
+        let next = domain.aggs.next();
         MAX_AGGREGATES as u128 + (given as u128) < self.live_aggs + (made as u128)
             || LAST_AGGREGATE as u128 + 1 < next as u128 + (made as u128)
     }
@@ -182,16 +183,17 @@ impl<A: Drop> Table<A> {
 
     /// Takes all aggregates of a domain, by rising number.
     #[tactic(auto, using(crate::proofs::Rows::row_rules, crate::proofs::Counted::counted_rules), unfolding(crate::specs::Tables::domain_in, crate::specs::Tables::with_domain_in))]
-    pub fn take_aggs(&mut self, d: DomainId) -> Vec<(AggId, A)>
+    pub fn take_aggs(&mut self, d: DomainId) -> Taken<A>
         requires { (domain_in (domains_of self.old) d).live ≡ true }
-        ensures given { result.items ≡ (domain_in (domains_of self.old) d).aggs }
+        ensures given { result ≡ (domain_in (domains_of self.old) d).aggs }
         ensures rest { domains_of self.new ≡ with_aggs_in (domains_of self.old) d [] }
     {
         let at = self.place_of(d);
         let alloc = self.alloc;
         let domain = &mut self.rows[at];
+        let count = domain.agg_count();
         let given = domain.take_aggs(alloc);
-        self.live_aggs -= given.len() as u128;
+        self.live_aggs -= count as u128;
         given
     }
 

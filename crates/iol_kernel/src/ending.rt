@@ -13,14 +13,15 @@ ghost use Rattle.iol_kernel.specs.Holding.{machine_of, IsSound};
 use crate::kernel::Kernel;
 use iol_agg::Agg;
 use iol_core::descriptors::Descriptor;
-use iol_core::numbers::{AggId, DomainId};
+use iol_core::numbers::DomainId;
 use iol_core::refusals::Refusal;
+use iol_desc::entries::Taken;
 use iol_hold::Store;
 
 /// Gives all holds of aggregates up.
-fn release_all(store: &mut Store, aggs: Vec<(AggId, Agg)>)
-    requires { Covers store.old (bufs_in aggs.items) }
-    ensures moves { Moves store.old store.new (bufs_in aggs.items) [] }
+fn release_all(store: &mut Store, aggs: Taken<Agg>)
+    requires { Covers store.old (bufs_in aggs) }
+    ensures moves { Moves store.old store.new (bufs_in aggs) [] }
     ensures lists { SameLists store.old store.new }
 {
     let mut left = aggs;

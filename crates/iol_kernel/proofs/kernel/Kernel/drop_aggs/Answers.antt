@@ -8,12 +8,12 @@ pub take_aggs-aggs-requires : goal.take_aggs-aggs-requires
 take_aggs-aggs-requires c = live_held (holding c.args.self.now) c.args.by c.requires.live
 
 pub release_all-requires : goal.release_all-requires
-release_all-requires c = all_covered (holding c.args.self.now) c.args.by c.take_aggs-aggs.result.items c.requires.sound (live_held (holding c.args.self.now) c.args.by c.requires.live) c.take_aggs-aggs.ensures.given
+release_all-requires c = all_covered (holding c.args.self.now) c.args.by c.take_aggs-aggs.result c.requires.sound (live_held (holding c.args.self.now) c.args.by c.requires.live) c.take_aggs-aggs.ensures.given
 
 pub returns-clause-dropped : goal.returns-clause-dropped
-returns-clause-dropped c = emptied-machine (holding c.args.self.now) c.release_all.new.store (domains_of c.take_aggs-aggs.new.self) c.args.by c.take_aggs-aggs.result.items c.requires.sound
+returns-clause-dropped c = emptied-machine (holding c.args.self.now) c.release_all.new.store (domains_of c.take_aggs-aggs.new.self) c.args.by c.take_aggs-aggs.result c.requires.sound
     (live_held (holding c.args.self.now) c.args.by c.requires.live) c.take_aggs-aggs.ensures.given c.take_aggs-aggs.ensures.rest c.release_all.ensures.moves c.release_all.ensures.lists
 
 pub returns-clause-sound : goal.returns-clause-sound
-returns-clause-sound c = emptied-sound (holding c.args.self.now) c.release_all.new.store (domains_of c.take_aggs-aggs.new.self) c.args.by c.take_aggs-aggs.result.items c.requires.sound
+returns-clause-sound c = emptied-sound (holding c.args.self.now) c.release_all.new.store (domains_of c.take_aggs-aggs.new.self) c.args.by c.take_aggs-aggs.result c.requires.sound
     (live_held (holding c.args.self.now) c.args.by c.requires.live) c.take_aggs-aggs.ensures.given c.take_aggs-aggs.ensures.rest c.release_all.ensures.moves c.release_all.ensures.lists

@@ -1,0 +1,238 @@
+//! Aggregates under rising numbers, found by a binary search.
+ghost use Rattle.std.specs.Prelude.{◌≡◌, ◌≢◌, ◌+◌, ◌-◌, ◌<◌, ◌≤◌, ◌^◌, length, [], ◌∷◌, ◌++◌, Some, None, OnOk, filter, is_some, slice_set, vec_len, vec_capacity};
+ghost use Rattle.std.specs.Option.{option_copied, option_to_list};
+ghost use Rattle.iol_core.specs.Numbered.{lookup, without};
+ghost use Rattle.iol_desc.specs.Tables.{place_in, exchanged};
+ghost use Rattle.iol_desc.specs.Listed.{there, IsRising};
+
+use iol_core::numbers::AggId;
+use std::alloc::{AllocError, Global};
+use std::marker::Model;
+use std::mem;
+
+/// The place of the entry of this number, or the length where there is none.
+fn place_of<A>(list: &[(AggId, Option<A>)], agg: AggId) -> usize
+    requires { IsRising list.now }
+    ensures { result ≡ place_in list.now agg }
+{
+    let found = list.binary_search_by_key(&agg.number(), |entry| entry.0.number());
+    if let Ok(at) = found {
+        return at;
+    }
+    list.len()
+}
+
+/// What the entry of this number holds.
+#[tactic(auto, using(crate::proofs::Holes::found_rules))]
+fn entry<A>(list: &[(AggId, Option<A>)], agg: AggId) -> Option<&A>
+    requires { IsRising list.now }
+    ensures { option_copied result ≡ lookup (there list.now) agg }
+{
+    let found = list.get(place_of(list, agg))?;
+    found.1.as_ref()
+}
+
+/// Puts something else in the entry of this number.
+#[tactic(auto, using(crate::proofs::Holes::found_rules))]
+fn replace<A: Drop>(list: &mut Vec<(AggId, Option<A>)>, agg: AggId, other: Option<A>) -> A
+    requires rising { IsRising list.old.items }
+    requires there { lookup (there list.old.items) agg ≢ None }
+    ensures given { Some result ≡ lookup (there list.old.items) agg }
+    ensures items { list.new.items ≡ slice_set list.old.items (place_in list.old.items agg) (agg, other) }
+    ensures room { vec_capacity list.old - vec_len list.old ≤ vec_capacity list.new - vec_len list.new }
+{
+    let at = place_of(list, agg);
+    let entry = &mut list[at];
+    let (_, given) = mem::replace(entry, (agg, other));
+    given.unwrap()
+}
+
+/// Closes the holes.
+fn close_holes<A: Drop>(list: &mut Vec<(AggId, Option<A>)>)
+    ensures items { list.new.items ≡ filter (λ e. is_some e.1) list.old.items }
+    ensures capacity { vec_capacity list.new ≡ vec_capacity list.old }
+{
+    list.retain(|entry| entry.1.is_some());
+}
+
+/// Takes the last entry that is no hole, and the holes after it.
+#[tactic(auto, using(crate::proofs::Holes::end_rules))]
+fn pop_held<A: Drop>(list: &mut Vec<(AggId, Option<A>)>) -> Option<(AggId, A)>
+    ensures given { there list.old.items ≡ there list.new.items ++ option_to_list result }
+    ensures none { result ≡ None → there list.new.items ≡ [] }
+{
+    while let Some((number, held)) = list.pop() {
+        if let Some(agg) = held {
+            return Some((number, agg));
+        }
+    }
+    None
+}
+
+/// Aggregates by number, the newest last. One that is taken leaves a hole.
+#[derive(Drop)]
+pub(crate) struct Entries<A> {
+    list: Vec<(AggId, Option<A>)>,
+    holes: usize,
+    next: u64,
+}
+
+impl<A> Model for Entries<A> {
+    ghost use Rattle.std.specs.Prelude.{◌-◌, vec_len, vec_capacity};
+    ghost use Rattle.iol_desc.specs.Listed as listed;
+
+    ghost Value = { listed.Listed A };
+
+    ghost view = { λ e. record { entries = listed.there e.list.items; next = e.next; room = vec_capacity e.list - vec_len e.list } };
+
+    ghost invariant = { λ e. listed.IsListed e.holes e.next e.list.items };
+}
+
+impl<A: Drop> Entries<A> {
+    /// None yet, the first to be number 1.
+    pub(crate) fn new(alloc: Global) -> Entries<A>
+        ensures entries { result.entries ≡ [] }
+        ensures next { result.next ≡ 1 }
+    {
+        Entries {
+            list: Vec::new(alloc),
+            holes: 0,
+            next: 1,
+        }
+    }
+
+    /// None any more, the first to be number 1.
+    pub(crate) fn clear(&mut self)
+        ensures entries { self.new.entries ≡ [] }
+        ensures next { self.new.next ≡ 1 }
+    {
+        self.list.clear();
+        self.holes = 0;
+        self.next = 1;
+    }
+
+    /// How many there are.
+    pub(crate) fn len(&self) -> usize
+        ensures { result ≡ length self.now.entries }
+    {
+        self.list.len() - self.holes
+    }
+
+    /// The number of the next.
+    pub(crate) fn next(&self) -> u64
+        ensures { result ≡ self.now.next }
+    {
+        self.next
+    }
+
+    /// The aggregate of this number.
+    pub(crate) fn get(&self, agg: AggId) -> Option<&A>
+        ensures { option_copied result ≡ lookup self.now.entries agg }
+    {
+        entry(&self.list, agg)
+    }
+
+    /// Closes the holes.
+    #[tactic(auto, using(crate::proofs::Holes::method_rules))]
+    fn compact(&mut self)
+        ensures entries { self.new.entries ≡ self.old.entries }
+        ensures next { self.new.next ≡ self.old.next }
+    {
+        close_holes(&mut self.list);
+        self.holes = 0;
+    }
+
+    /// Reserves room for so many more. Where half of the list is holes, it need not grow.
+    pub(crate) fn reserve(&mut self, count: usize) -> Result<(), AllocError>
+        ensures entries { self.new.entries ≡ self.old.entries }
+        ensures next { self.new.next ≡ self.old.next }
+        ensures room { OnOk result (count ≤ self.new.room) }
+    {
+        let room = self.list.capacity() - self.list.len();
+        if room < count && self.list.len() - self.holes <= self.holes {
+            self.compact();
+        }
+        self.list.reserve(count)?;
+        Ok(())
+    }
+
+    /// Adds an aggregate under the next number, in room that is reserved.
+    #[tactic(auto, using(crate::proofs::Holes::method_rules))]
+    pub(crate) fn push(&mut self, agg: A) -> AggId
+        requires few { self.old.next < 2 ^ 64 - 1 }
+        requires room { 0 < self.old.room }
+        ensures number { result ≡ self.old.next }
+        ensures entries { self.new.entries ≡ self.old.entries ++ (self.old.next, agg) ∷ [] }
+        ensures next { self.new.next ≡ self.old.next + 1 }
+        ensures short { length self.new.entries < 2 ^ 64 }
+        ensures room { self.old.room ≤ self.new.room + 1 }
+    {
+        let number = AggId::new(self.next);
+        self.list.push_reserved((number, Some(agg)));
+        self.next += 1;
+        number
+    }
+
+    /// Takes the aggregate of this number.
+    #[tactic(auto, using(crate::proofs::Holes::method_rules))]
+    pub(crate) fn take(&mut self, agg: AggId) -> A
+        requires { lookup self.old.entries agg ≢ None }
+        ensures given { Some result ≡ lookup self.old.entries agg }
+        ensures entries { self.new.entries ≡ without self.old.entries agg }
+        ensures next { self.new.next ≡ self.old.next }
+        ensures room { self.old.room ≤ self.new.room }
+    {
+        let given = replace(&mut self.list, agg, None);
+        self.holes += 1;
+        given
+    }
+
+    /// Puts another aggregate under this number.
+    #[tactic(auto, using(crate::proofs::Holes::method_rules))]
+    pub(crate) fn swap(&mut self, agg: AggId, other: A) -> A
+        requires { lookup self.old.entries agg ≢ None }
+        ensures given { Some result ≡ lookup self.old.entries agg }
+        ensures entries { self.new.entries ≡ exchanged self.old.entries agg other }
+        ensures next { self.new.next ≡ self.old.next }
+        ensures room { self.old.room ≤ self.new.room }
+    {
+        replace(&mut self.list, agg, Some(other))
+    }
+
+    /// Takes all.
+    pub(crate) fn take_all(&mut self, alloc: Global) -> Taken<A>
+        ensures given { result ≡ self.old.entries }
+        ensures entries { self.new.entries ≡ [] }
+        ensures next { self.new.next ≡ self.old.next }
+    {
+        self.holes = 0;
+        Taken {
+            list: mem::replace(&mut self.list, Vec::new(alloc)),
+        }
+    }
+}
+
+/// Aggregates that were taken from a domain, by rising number.
+#[derive(Drop)]
+pub struct Taken<A> {
+    list: Vec<(AggId, Option<A>)>,
+}
+
+impl<A> Model for Taken<A> {
+    ghost use Rattle.std.specs.Prelude.{ℕ, List};
+    ghost use Rattle.iol_desc.specs.Listed.{there};
+
+    ghost Value = { List (ℕ × A) };
+
+    ghost view = { λ t. there t.list.items };
+}
+
+impl<A: Drop> Taken<A> {
+    /// Gives the last out.
+    pub fn pop(&mut self) -> Option<(AggId, A)>
+        ensures given { self.old ≡ self.new ++ option_to_list result }
+        ensures none { result ≡ None → self.new ≡ [] }
+    {
+        pop_held(&mut self.list)
+    }
+}
