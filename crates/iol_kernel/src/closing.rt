@@ -1,5 +1,5 @@
 //! Closing descriptors.
-ghost use Rattle.std.specs.Prelude.{◌≡◌, ℕ, true, false, not, if◌then◌else◌, Option, Some, None, List, [], ◌∷◌, ◌++◌};
+ghost use Rattle.std.specs.Prelude.{◌≡◌, ℕ, true, false, not, if◌then◌else◌, Option, Some, None, List, [], Err};
 ghost use Rattle.iol_core.specs.State.{is_live, descriptor};
 ghost use Rattle.iol_core.specs.Meaning.{Step};
 ghost use Rattle.iol_core.specs.Calls.Descriptors as calls;
@@ -24,7 +24,8 @@ fn close_reading(store: &mut Store, pipe: &mut Pipe) -> bool
     ensures moves { Moves store.old store.new (bufs_of pipe.old.queue) (bufs_of pipe.new.queue) }
     ensures lists { SameLists store.old store.new }
 {
-    pipe.queue.clear(store);
+    let waiting = &mut pipe.queue;
+    waiting.clear(store);
     pipe.reading = false;
     pipe.writing
 }
@@ -85,6 +86,7 @@ impl Kernel {
     pub fn close(&mut self, by: DomainId, fd: Fd) -> Result<(), Refusal>
         requires { IsSound (holding self.old) }
         ensures step { Step (calls.close (machine_of (holding self.old)) by fd) (machine_of (holding self.old)) result (machine_of (holding self.new)) }
+        ensures roomy { (p : ℕ) → result ≡ Err (Refusal.NoRoom p) → ⊥ }
         ensures sound { IsSound (holding self.new) }
         ensures stays { Stays (holding self.old).store (holding self.new).store }
     {

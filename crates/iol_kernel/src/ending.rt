@@ -1,5 +1,5 @@
 //! The end of a domain.
-ghost use Rattle.std.specs.Prelude.{◌≡◌, true, fold, Option, Some, None, List, []};
+ghost use Rattle.std.specs.Prelude.{◌≡◌, ℕ, true, fold, Option, Some, None, List, [], Err};
 ghost use Rattle.iol_core.specs.State.{is_live, domain, with_domain};
 ghost use Rattle.iol_core.specs.Meaning.{Step};
 ghost use Rattle.iol_core.specs.Calls.Domains as calls;
@@ -37,6 +37,7 @@ impl Kernel {
     pub fn exit(&mut self, by: DomainId) -> Result<(), Refusal>
         requires { IsSound (holding self.old) }
         ensures step { Step (calls.exit (machine_of (holding self.old)) by) (machine_of (holding self.old)) result (machine_of (holding self.new)) }
+        ensures roomy { (p : ℕ) → result ≡ Err (Refusal.NoRoom p) → ⊥ }
         ensures sound { IsSound (holding self.new) }
         ensures stays { Stays (holding self.old).store (holding self.new).store }
     {
