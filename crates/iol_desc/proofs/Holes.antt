@@ -215,3 +215,5 @@ pub ruleset end_rules = (there-push, there-hole)
 pub ruleset method_rules = (rising_listed, listed-taken, listed-exchanged, listed-push, listed-held, taken_held, exchanged_held, there-push, there-held)
 
 pub ruleset hole_rules = (listed_without_hole)
+
+pub ruleset pop_rules = (length-append)

@@ -86,6 +86,7 @@ fn pop_held<A: Drop>(list: &mut Vec<(AggId, Option<A>)>) -> Option<(AggId, A)>
 /// Aggregates by number, the newest last. One that is taken leaves a hole.
 #[derive(Drop)]
 pub(crate) struct Entries<A> {
+    // By rising number; None is a hole.
     list: Vec<(AggId, Option<A>)>,
     holes: usize,
     next: u64,
@@ -271,8 +272,10 @@ impl<A> Model for Taken<A> {
 
 impl<A: Drop> Taken<A> {
     /// Gives the last out.
+    #[tactic(auto, using(crate::proofs::Holes::pop_rules))]
     pub fn pop(&mut self) -> Option<(AggId, A)>
-        ensures { self.old ≡ self.new ++ option_to_list result }
+        ensures items { self.old ≡ self.new ++ option_to_list result }
+        ensures len { length self.new + length (option_to_list result) ≡ length self.old }
     {
         pop_held(&mut self.list)
     }
