@@ -16,3 +16,5 @@ mod pools;
 mod refusals;
 #[cfg(test)]
 mod systems;
+#[cfg(test)]
+mod tables;

@@ -1,5 +1,5 @@
 -- The live aggregates, counted over the rows of a table.
-use Rattle.std.proofs.Common.{◌≡◌, ◌≢◌, ℕ, zero, suc, ◌+◌, ◌-◌, ◌*◌, ◌<◌, ◌≤◌, ◌^◌, ◌==◌, List, [], ◌∷◌, ◌++◌, length, get_or, None, inl, inr, arith, refl, ap}
+use Rattle.std.proofs.Common.{◌≡◌, ◌≢◌, ℕ, zero, suc, ◌+◌, ◌-◌, ◌*◌, ◌<◌, ◌≤◌, ◌^◌, List, [], ◌∷◌, ◌++◌, length, get_or, None, inl, inr, arith, refl, ap}
 use Rattle.std.specs.Prelude.{slice_set}
 use Rattle.std.specs.List.{AllByRecursion}
 use Rattle.std.proofs.lemmas.Bool.{cases_eq}
@@ -7,7 +7,7 @@ use Rattle.std.proofs.lemmas.Bool.Decides.{nat_tests}
 use Rattle.std.proofs.lemmas.List.Sums.{sum_by-cons}
 use Rattle.iol_core.specs.State.{Domain}
 use Rattle.iol_core.specs.Numbered.{lookup, without}
-use Rattle.iol_desc.specs.Tables.{Row, no_row, domains_of, live_aggs_in, IsCounted}
+use Rattle.iol_desc.specs.Tables.{Row, domains_of, live_aggs_in, IsCounted}
 
 pub length-without : {A : Type 0} (es : List (ℕ × A)) (n : ℕ) → lookup es n ≢ None → length (without es n) + 1 ≡ length es
 length-without [] n there = absurd (there refl)

@@ -1,11 +1,11 @@
 -- Lists with holes: what is there, found, taken, added and exchanged.
-use Rattle.std.proofs.Common.{◌≡◌, ◌≢◌, ℕ, zero, suc, ◌+◌, ◌<◌, ◌≤◌, ◌==◌, List, [], ◌∷◌, ◌++◌, length, get_or, Option, Some, None, inl, inr, arith, refl, sym, ap, ◌∙◌, filter, length-append, length-set}
+use Rattle.std.proofs.Common.{◌≡◌, ◌≢◌, ℕ, suc, ◌+◌, ◌-◌, ◌<◌, ◌≤◌, List, [], ◌∷◌, ◌++◌, length, get_or, Option, Some, None, inl, inr, arith, refl, sym, subst, true, ap, ◌∙◌, filter, length-append, length-set}
 use Rattle.std.specs.Prelude.{slice_set, is_some}
 use Rattle.std.proofs.lemmas.Bool.{cases_eq}
 use Rattle.std.proofs.lemmas.Bool.Decides.{nat_tests}
 use Rattle.iol_core.specs.Numbered.{lookup, without}
 use Rattle.iol_desc.specs.Tables.{place_in, exchanged}
-use Rattle.iol_desc.specs.Listed.{there, Rises, IsRising, IsListed}
+use Rattle.iol_desc.specs.Listed.{there, DropsHole, Rises, IsRising, IsListed}
 use Rattle.iol_desc.proofs.Rising.{rises-lower, rises-set, rises-push}
 use Rattle.iol_desc.proofs.Counted.{length-without}
 
@@ -162,6 +162,35 @@ listed-held {A} holes next es listed = record {
   count = omega (arith, ap (λ (es : List (ℕ × A)). length es) (there-held es), length-held es);
 }
 
+rises-le : {X : Type 0} (es : List (ℕ × X)) (from to : ℕ) → Rises from es to → from ≤ to
+rises-le [] from to r = r
+rises-le (e ∷ es) from to r = omega (arith, r.0, rises-le es (e.0 + 1) to r.1)
+
+rises-front : {X : Type 0} (es fs : List (ℕ × X)) (from to : ℕ) → Rises from (es ++ fs) to → Rises from es to
+rises-front [] fs from to r = rises-le fs from to r
+rises-front (e ∷ es) fs from to r = (r.0, rises-front es fs (e.0 + 1) to r.1)
+
+length-there : {A : Type 0} (es : List (ℕ × Option A)) → length (there es) ≤ length es
+length-there [] = omega arith
+length-there ((m, None) ∷ es) = omega (arith, length-there es)
+length-there ((m, Some x) ∷ es) = omega (arith, length-there es)
+
+-- the last was a hole, and is dropped
+pub listed_without_hole : {A : Type 0} (holes next : ℕ) (old new : List (ℕ × Option A)) → IsListed holes next old → DropsHole true old new → (1 ≤ holes) × IsListed (holes - 1) next new × (there new ≡ there old)
+listed_without_hole {A} holes next old new listed drops =
+    let none : Option A = None in
+    let n = drops.0 in
+    let same : there old ≡ there new = ap (λ (es : List (ℕ × Option A)). there es) drops.1 ∙ there-hole new n in
+    let long : length old ≡ length new + 1 = ap (λ (es : List (ℕ × Option A)). length es) drops.1 ∙ length-append new ((n, none) ∷ []) in
+    let few : length (there old) ≡ length (there new) = ap (λ (es : List (ℕ × A)). length es) same in (
+      omega (arith, listed.count, long, few, length-there new),
+      record {
+        rises = rises-front new ((n, none) ∷ []) 0 next (subst (λ (es : List (ℕ × Option A)). Rises 0 es next) drops.1 listed.rises);
+        count = omega (arith, listed.count, long, few, length-there new);
+      },
+      sym same,
+    )
+
 -- the same, of a list whose numbers rise
 
 pub lookup_held : {A : Type 0} (es : List (ℕ × Option A)) (n : ℕ) → IsRising es → lookup (there es) n ≡ held_at es (place_in es n)
@@ -184,3 +213,7 @@ pub ruleset found_rules = (lookup_held, place_held)
 pub ruleset end_rules = (there-push, there-hole)
 
 pub ruleset method_rules = (rising_listed, listed-taken, listed-exchanged, listed-push, listed-held, taken_held, exchanged_held, there-push, there-held)
+
+pub ruleset hole_rules = (listed_without_hole)
+
+pub ruleset pop_rules = (length-append)

@@ -1,13 +1,10 @@
 -- Places that are taken or free.
-use Rattle.std.proofs.Common.{◌≡◌, ◌≢◌, ℕ, zero, suc, ◌+◌, ◌≤◌, ◌<◌, List, [], ◌∷◌, ◌++◌, length, get_or, drop, Option, Some, None, inl, inr, arith, refl}
-use Rattle.std.specs.List.{remove}
-use Rattle.std.proofs.lemmas.Bool.{cases_eq}
-use Rattle.iol_desc.specs.Tables.{place_in}
+use Rattle.std.proofs.Common.{◌≡◌, ◌≢◌, ℕ, zero, suc, ◌+◌, ◌≤◌, ◌<◌, List, [], ◌∷◌, ◌++◌, length, drop, Option, Some, None, arith, refl}
 use Rattle.std.specs.Prelude.{slice_set}
 use Rattle.std.proofs.lemmas.Bool.Decides.{nat_tests}
 use Rattle.std.proofs.lemmas.Grind.{common_steps}
 use Rattle.std.proofs.lemmas.List.Sums.{prefix_len-le-length, prefix_len-drop_yes, prefix_len-drop_no, prefix_len-drop_all}
-use Rattle.iol_core.specs.Numbered.{in_place, lookup, without, lowest, taken, placed}
+use Rattle.iol_core.specs.Numbered.{in_place, lowest, taken, placed}
 
 pub lowest_le-taken : {A : Type 0} (xs : List (Option A)) → lowest xs ≤ taken xs
 lowest_le-taken [] = omega arith

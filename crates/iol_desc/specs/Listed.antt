@@ -1,5 +1,5 @@
 -- Entries under rising numbers, of which some are holes.
-use Rattle.std.specs.Prelude.{◌≡◌, ℕ, ◌+◌, ◌<◌, ◌≤◌, List, [], ◌∷◌, length, Option, Some, None}
+use Rattle.std.specs.Prelude.{◌≡◌, ℕ, ◌+◌, ◌≤◌, Bool, true, false, List, [], ◌∷◌, ◌++◌, length, Option, Some, None}
 
 -- the entries that are there
 abbrev pub there : {A : Type 0} → List (ℕ × Option A) → List (ℕ × A)
@@ -25,3 +25,8 @@ pub record Listed (A : Type 0) : Type 0 where
   pub entries : List (ℕ × A)
   pub next : ℕ
   pub room : ℕ
+
+-- whether the last of old was a hole, and what is left without it
+abbrev pub DropsHole : {A : Type 0} → (is_hole : Bool) → (old new : List (ℕ × Option A)) → Type 0
+DropsHole true old new = (n : ℕ) × (old ≡ new ++ (n, None) ∷ [])
+DropsHole false old new = new ≡ old

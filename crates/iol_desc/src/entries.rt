@@ -3,7 +3,7 @@ ghost use Rattle.std.specs.Prelude.{◌≡◌, ◌≢◌, ◌+◌, ◌-◌, ◌<
 ghost use Rattle.std.specs.Option.{option_copied, option_to_list};
 ghost use Rattle.iol_core.specs.Numbered.{lookup, without};
 ghost use Rattle.iol_desc.specs.Tables.{place_in, exchanged};
-ghost use Rattle.iol_desc.specs.Listed.{there, IsRising};
+ghost use Rattle.iol_desc.specs.Listed.{there, DropsHole, IsRising};
 
 use iol_core::numbers::AggId;
 use std::alloc::{AllocError, Global};
@@ -55,6 +55,21 @@ fn close_holes<A: Drop>(list: &mut Vec<(AggId, Option<A>)>)
     list.retain(|entry| entry.1.is_some());
 }
 
+/// Drops the last entry where it is a hole.
+fn drop_hole<A: Drop>(list: &mut Vec<(AggId, Option<A>)>) -> bool
+    ensures hole { DropsHole result list.old.items list.new.items }
+    ensures room { vec_capacity list.old - vec_len list.old ≤ vec_capacity list.new - vec_len list.new }
+{
+    let Some((number, held)) = list.pop() else {
+        return false;
+    };
+    if held.is_none() {
+        return true;
+    }
+    list.push_reserved((number, held));
+    false
+}
+
 /// Takes the last entry that is no hole, and the holes after it.
 #[tactic(auto, using(crate::proofs::Holes::end_rules))]
 fn pop_held<A: Drop>(list: &mut Vec<(AggId, Option<A>)>) -> Option<(AggId, A)>
@@ -72,6 +87,7 @@ fn pop_held<A: Drop>(list: &mut Vec<(AggId, Option<A>)>) -> Option<(AggId, A)>
 /// Aggregates by number, the newest last. One that is taken leaves a hole.
 #[derive(Drop)]
 pub(crate) struct Entries<A> {
+    // By rising number; None is a hole.
     list: Vec<(AggId, Option<A>)>,
     holes: usize,
     next: u64,
@@ -173,6 +189,33 @@ impl<A: Drop> Entries<A> {
         number
     }
 
+    /// Drops the hole at the end, if there is one.
+    #[tactic(auto, using(crate::proofs::Holes::hole_rules))]
+    fn trim_one(&mut self) -> bool
+        ensures entries { self.new.entries ≡ self.old.entries }
+        ensures next { self.new.next ≡ self.old.next }
+        ensures room { self.old.room ≤ self.new.room }
+    {
+        if !drop_hole(&mut self.list) {
+            return false;
+        }
+        self.holes -= 1;
+        true
+    }
+
+    /// Drops the holes at the end.
+    fn trim(&mut self)
+        ensures entries { self.new.entries ≡ self.old.entries }
+        ensures next { self.new.next ≡ self.old.next }
+        ensures room { self.old.room ≤ self.new.room }
+    {
+        for _ in 0..self.list.len() {
+            if !self.trim_one() {
+                return;
+            }
+        }
+    }
+
     /// Takes the aggregate of this number.
     #[tactic(auto, using(crate::proofs::Holes::method_rules))]
     pub(crate) fn take(&mut self, agg: AggId) -> A
@@ -184,6 +227,7 @@ impl<A: Drop> Entries<A> {
     {
         let given = replace(&mut self.list, agg, None);
         self.holes += 1;
+        self.trim();
         given
     }
 
@@ -229,6 +273,7 @@ impl<A> Model for Taken<A> {
 
 impl<A: Drop> Taken<A> {
     /// Gives the last out.
+    #[tactic(auto, using(crate::proofs::Holes::pop_rules))]
     pub fn pop(&mut self) -> Option<(AggId, A)>
         ensures given { self.old ≡ self.new ++ option_to_list result }
         ensures none { result ≡ None → self.new ≡ [] }

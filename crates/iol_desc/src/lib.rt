@@ -3,6 +3,10 @@
 //! [`Table`](table::Table) holds domains numbered from 1, whatever an aggregate is. A contract sees it as a list of
 //! rows (`specs/Tables`): a domain as the copying machine has it, and how many aggregates more it can take without
 //! asking for memory. Room is reserved first ([`reserve_aggs`](table::Table::reserve_aggs)), so that adding cannot fail.
+//!
+//! No call walks the domains, nor a domain's aggregates or descriptors: the aggregates of all are counted, those of one
+//! are found by a binary search ([`Entries`](entries)), and its descriptors are counted, with a hint below which no
+//! number is free ([`Places`](places::Places)). The invariants carry this, and no public clause mentions it.
 #![tactic(auto)]
 
 pub mod entries;

@@ -19,6 +19,7 @@ use std::marker::Model;
 pub struct Table<A> {
     alloc: Global,
     rows: Vec<Domain<A>>,
+    // The aggregates of all rows.
     live_aggs: u128,
 }
 

@@ -1,5 +1,5 @@
-use Rattle.std.proofs.Common.{◌≡◌, ◌≢◌, ℕ, List, Option, Some, None, ap, ◌∙◌, sym, subst}
-use Rattle.iol_core.specs.Numbered.{lookup, without}
+use Rattle.std.proofs.Common.{◌≢◌, ℕ, List, Option, None, ap, ◌∙◌, sym, subst}
+use Rattle.iol_core.specs.Numbered.{lookup}
 use Rattle.iol_desc.specs.Tables.{exchanged}
 use Rattle.iol_desc.specs.Listed.{there, Listed}
 use Rattle.iol_desc.proofs.Holes.{listed-exchanged, exchanged_held}

@@ -1,6 +1,5 @@
-use Rattle.std.proofs.Common.{◌≡◌, ◌≢◌, ℕ, List, Option, Some, None, ap, ◌∙◌, sym, subst}
+use Rattle.std.proofs.Common.{◌≢◌, ℕ, List, Option, None, ap, ◌∙◌, sym, subst}
 use Rattle.iol_core.specs.Numbered.{lookup, without}
-use Rattle.iol_desc.specs.Tables.{exchanged}
 use Rattle.iol_desc.specs.Listed.{there, Listed}
 use Rattle.iol_desc.proofs.Holes.{listed-taken, taken_held}
 use Rattle.iol_desc.proofs.entries.Entries.take.Goals as goal
@@ -10,4 +9,4 @@ invariant_of-self g c = rw c.replace-given.ensures.items (listed-taken _ _ _ _ c
 
 pub returns-clause-entries : goal.returns-clause-entries
 returns-clause-entries g c =
-    ap (λ (es : List (ℕ × Option g.row.A.Denot)). there es) c.replace-given.ensures.items ∙ taken_held _ _ c.args.agg _ c.self.invariant ∙ ap (λ (l : Listed g.row.A.Denot). without l.entries c.args.agg) c.self.view_is
+    c.trim.ensures.entries ∙ ap (λ (es : List (ℕ × Option g.row.A.Denot)). there es) c.replace-given.ensures.items ∙ taken_held _ _ c.args.agg _ c.self.invariant ∙ ap (λ (l : Listed g.row.A.Denot). without l.entries c.args.agg) c.self.view_is

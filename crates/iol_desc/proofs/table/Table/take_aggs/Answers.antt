@@ -1,4 +1,4 @@
-use Rattle.std.proofs.Common.{ap, ◌∙◌, arith, length, List, ℕ}
+use Rattle.std.proofs.Common.{ap, arith, length}
 use Rattle.iol_core.specs.State.{Domain}
 use Rattle.iol_desc.proofs.Counted.{counted_fewer}
 use Rattle.iol_desc.proofs.table.Table.take_aggs.Goals as goal
