@@ -1,5 +1,5 @@
 //! Aggregates under rising numbers, found by a binary search.
-ghost use Rattle.std.specs.Prelude.{◌≡◌, ◌≢◌, ◌+◌, ◌-◌, ◌<◌, ◌≤◌, ◌^◌, length, [], ◌∷◌, ◌++◌, Some, None, OnOk, filter, is_some, slice_set, vec_len, vec_capacity};
+ghost use Rattle.std.specs.Prelude.{◌≡◌, ◌≢◌, ◌+◌, ◌-◌, ◌<◌, ◌≤◌, ◌^◌, length, [], ◌∷◌, ◌++◌, Some, None, IsSome, OnOk, ◌↔◌, filter, is_some, slice_set, vec_len, vec_capacity};
 ghost use Rattle.std.specs.Option.{option_copied, option_to_list};
 ghost use Rattle.iol_core.specs.Numbered.{lookup, without};
 ghost use Rattle.iol_desc.specs.Tables.{place_in, exchanged};
@@ -71,7 +71,7 @@ fn drop_hole<A: Drop>(list: &mut Vec<(AggId, Option<A>)>) -> bool
 }
 
 /// Takes the last entry that is no hole, and the holes after it.
-#[tactic(auto, using(crate::proofs::Holes::end_rules))]
+#[tactic(auto, using(crate::proofs::Holes::end_rules, crate::proofs::Holes::pop_rules))]
 fn pop_held<A: Drop>(list: &mut Vec<(AggId, Option<A>)>) -> Option<(AggId, A)>
     ensures given { there list.old.items ≡ there list.new.items ++ option_to_list result }
     ensures none { result ≡ None → there list.new.items ≡ [] }
