@@ -1,3 +1,4 @@
 pub mod Safe
+pub mod Replies
 pub mod Room
 pub mod Values

@@ -4,15 +4,79 @@ ghost use Rattle.iol_core.specs.Run.{StepsTo, Run};
 ghost use Rattle.iol_hold.specs.Moves.{Stays};
 ghost use Rattle.iol_kernel.specs.Holding.{machine_of, layout_of, IsSound};
 ghost use Rattle.iol_core.specs.Sharing.{is_sharing, LaysOut};
+ghost use Rattle.iol_system.specs.Replies.{told};
 ghost use Rattle.iol_system.specs.Room.{fits, IsDone, IsNoRoom};
 ghost use Rattle.iol_kernel.specs.Kernel.{holding};
 
-use iol_kernel::kernel::Kernel;
 use iol_core::events::{Call, Event, Reply};
 use iol_core::numbers::DomainId;
+use iol_core::refusals::Refusal;
+use iol_kernel::kernel::Kernel;
 use std::alloc::{AllocError, Global};
 
-/// Carries out one call of a domain.
+/// Carries out one call of a domain, which gives an answer or a refusal.
+fn answer_to(kernel: &mut Kernel, by: DomainId, call: &Call) -> Result<Reply, Refusal>
+    requires { IsSound (holding kernel.old) }
+    ensures step { StepsTo (machine_of (holding kernel.old)) (Event.Call by call.now) (told result) (machine_of (holding kernel.new)) }
+    ensures room { IsDone (told result) → fits (holding kernel.old) (Event.Call by call.now) ≡ true }
+    ensures no_room { IsNoRoom (told result) → fits (holding kernel.old) (Event.Call by call.now) ≡ false }
+    ensures shares { is_sharing (Event.Call by call.now) ≡ true → LaysOut (layout_of (holding kernel.old)) (Event.Call by call.now) (told result) (layout_of (holding kernel.new)) }
+    ensures pages { is_sharing (Event.Call by call.now) ≡ true → (holding kernel.new).store.arena ≡ (holding kernel.old).store.arena }
+    ensures sound { IsSound (holding kernel.new) }
+    ensures stays { Stays (holding kernel.old).store (holding kernel.new).store }
+{
+    match call {
+        Call::DomainNew => Ok(Reply::Domain(kernel.domain_new(by)?)),
+        Call::Exit => {
+            kernel.exit(by)?;
+            Ok(Reply::Done)
+        }
+        Call::PoolCreate { chunks, domains } => Ok(Reply::Pool(kernel.pool_create(
+            by, *chunks, domains,
+        )?)),
+        Call::PoolClose { pool } => {
+            kernel.pool_close(by, *pool)?;
+            Ok(Reply::Done)
+        }
+        Call::SetPool { pool } => {
+            kernel.set_pool(by, *pool)?;
+            Ok(Reply::Done)
+        }
+        Call::AggMake { bytes } => Ok(Reply::Agg(kernel.agg_make(by, bytes)?)),
+        Call::AggDup { agg } => Ok(Reply::Agg(kernel.agg_dup(by, *agg)?)),
+        Call::AggCut { agg, from, to } => Ok(Reply::Agg(kernel.agg_cut(by, *agg, *from, *to)?)),
+        Call::AggSplit { agg, at } => {
+            let (before, rest) = kernel.agg_split(by, *agg, *at)?;
+            Ok(Reply::Aggs(before, rest))
+        }
+        Call::AggJoin { first, second } => Ok(Reply::Agg(kernel.agg_join(by, *first, *second)?)),
+        Call::AggReplace {
+            agg,
+            from,
+            to,
+            with,
+        } => Ok(Reply::Agg(kernel.agg_replace(by, *agg, *from, *to, *with)?)),
+        Call::AggDrop { agg } => {
+            kernel.agg_drop(by, *agg)?;
+            Ok(Reply::Done)
+        }
+        Call::AggGive { agg, to } => Ok(Reply::Agg(kernel.agg_give(by, *agg, *to)?)),
+        Call::Show { agg } => Ok(Reply::Bytes(kernel.show(by, *agg)?)),
+        Call::Pipe => {
+            let (read, write) = kernel.pipe(by)?;
+            Ok(Reply::Fds(read, write))
+        }
+        Call::GiveFd { fd, to } => Ok(Reply::Fd(kernel.give_fd(by, *fd, *to)?)),
+        Call::Close { fd } => {
+            kernel.close(by, *fd)?;
+            Ok(Reply::Done)
+        }
+        Call::IolRead { fd, count } => Ok(Reply::Agg(kernel.iol_read(by, *fd, *count)?)),
+        Call::IolWrite { fd, agg } => Ok(Reply::Count(kernel.iol_write(by, *fd, *agg)?)),
+    }
+}
+
+/// Carries out one call of a domain, and replies.
 fn make_call(kernel: &mut Kernel, by: DomainId, call: &Call) -> Reply
     requires { IsSound (holding kernel.old) }
     ensures step { StepsTo (machine_of (holding kernel.old)) (Event.Call by call.now) result (machine_of (holding kernel.new)) }
@@ -23,88 +87,9 @@ fn make_call(kernel: &mut Kernel, by: DomainId, call: &Call) -> Reply
     ensures sound { IsSound (holding kernel.new) }
     ensures stays { Stays (holding kernel.old).store (holding kernel.new).store }
 {
-    match call {
-        Call::DomainNew => match kernel.domain_new(by) {
-            Ok(domain) => Reply::Domain(domain),
-            Err(refusal) => Reply::Refused(refusal),
-        },
-        Call::Exit => match kernel.exit(by) {
-            Ok(()) => Reply::Done,
-            Err(refusal) => Reply::Refused(refusal),
-        },
-        Call::PoolCreate { chunks, domains } => match kernel.pool_create(by, *chunks, domains) {
-            Ok(pool) => Reply::Pool(pool),
-            Err(refusal) => Reply::Refused(refusal),
-        },
-        Call::PoolClose { pool } => match kernel.pool_close(by, *pool) {
-            Ok(()) => Reply::Done,
-            Err(refusal) => Reply::Refused(refusal),
-        },
-        Call::SetPool { pool } => match kernel.set_pool(by, *pool) {
-            Ok(()) => Reply::Done,
-            Err(refusal) => Reply::Refused(refusal),
-        },
-        Call::AggMake { bytes } => match kernel.agg_make(by, bytes) {
-            Ok(agg) => Reply::Agg(agg),
-            Err(refusal) => Reply::Refused(refusal),
-        },
-        Call::AggDup { agg } => match kernel.agg_dup(by, *agg) {
-            Ok(agg) => Reply::Agg(agg),
-            Err(refusal) => Reply::Refused(refusal),
-        },
-        Call::AggCut { agg, from, to } => match kernel.agg_cut(by, *agg, *from, *to) {
-            Ok(agg) => Reply::Agg(agg),
-            Err(refusal) => Reply::Refused(refusal),
-        },
-        Call::AggSplit { agg, at } => match kernel.agg_split(by, *agg, *at) {
-            Ok((before, rest)) => Reply::Aggs(before, rest),
-            Err(refusal) => Reply::Refused(refusal),
-        },
-        Call::AggJoin { first, second } => match kernel.agg_join(by, *first, *second) {
-            Ok(agg) => Reply::Agg(agg),
-            Err(refusal) => Reply::Refused(refusal),
-        },
-        Call::AggReplace {
-            agg,
-            from,
-            to,
-            with,
-        } => match kernel.agg_replace(by, *agg, *from, *to, *with) {
-            Ok(agg) => Reply::Agg(agg),
-            Err(refusal) => Reply::Refused(refusal),
-        },
-        Call::AggDrop { agg } => match kernel.agg_drop(by, *agg) {
-            Ok(()) => Reply::Done,
-            Err(refusal) => Reply::Refused(refusal),
-        },
-        Call::AggGive { agg, to } => match kernel.agg_give(by, *agg, *to) {
-            Ok(agg) => Reply::Agg(agg),
-            Err(refusal) => Reply::Refused(refusal),
-        },
-        Call::Show { agg } => match kernel.show(by, *agg) {
-            Ok(bytes) => Reply::Bytes(bytes),
-            Err(refusal) => Reply::Refused(refusal),
-        },
-        Call::Pipe => match kernel.pipe(by) {
-            Ok((read, write)) => Reply::Fds(read, write),
-            Err(refusal) => Reply::Refused(refusal),
-        },
-        Call::GiveFd { fd, to } => match kernel.give_fd(by, *fd, *to) {
-            Ok(fd) => Reply::Fd(fd),
-            Err(refusal) => Reply::Refused(refusal),
-        },
-        Call::Close { fd } => match kernel.close(by, *fd) {
-            Ok(()) => Reply::Done,
-            Err(refusal) => Reply::Refused(refusal),
-        },
-        Call::IolRead { fd, count } => match kernel.iol_read(by, *fd, *count) {
-            Ok(agg) => Reply::Agg(agg),
-            Err(refusal) => Reply::Refused(refusal),
-        },
-        Call::IolWrite { fd, agg } => match kernel.iol_write(by, *fd, *agg) {
-            Ok(count) => Reply::Count(count),
-            Err(refusal) => Reply::Refused(refusal),
-        },
+    match answer_to(kernel, by, call) {
+        Ok(reply) => reply,
+        Err(refusal) => Reply::Refused(refusal),
     }
 }
 

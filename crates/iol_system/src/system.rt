@@ -15,14 +15,14 @@ ghost use Rattle.iol_kernel.specs.Report.{reports_of};
 ghost use Rattle.iol_arena.specs.Buffers.{SharesNoPage, live_pages};
 ghost use Rattle.iol_system.specs.Room.{fits, IsDone, IsNoRoom};
 
-use iol_kernel::kernel::Kernel;
-use iol_kernel::report::Report;
 use crate::step::{carry_out, run_all};
 use iol_agg::Parts;
 use iol_core::configuration::Config;
 use iol_core::events::{Event, Reply};
 use iol_core::numbers::{AggId, DomainId};
 use iol_core::refusals::Refusal;
+use iol_kernel::kernel::Kernel;
+use iol_kernel::report::Report;
 use std::alloc::{AllocError, Global};
 use std::marker::Model;
 
