@@ -146,20 +146,6 @@ module _ (h : Holding) (t : Stored) (ds : List (Domain (List Slice))) (d a from 
 
 -- An aggregate with another in place of a range.
 
-pub length-replaced : {A : Type 0} (xs ys : List A) (from to : ℕ) → from ≤ to → to ≤ length xs → length (replaced xs from to ys) ≡ from + length ys + (length xs - to)
-length-replaced xs ys from to ordered within = omega (
-  arith,
-  ordered,
-  within,
-  length-append (take from xs ++ ys) (drop to xs),
-  length-append (take from xs) ys,
-  length-take from xs,
-  length-drop to xs,
-)
-
-pub length-laid : (h : Holding) (d a : ℕ) → length (machine.text (layout_of h) d a) ≡ byte_len (slices_in h.domains d a)
-length-laid h d a = ap (λ (s : State). length (machine.text s d a)) (read_layout h) ∙ ap length (text-read number_at h d a) ∙ length-read number_at (slices_in h.domains d a)
-
 module _ (h : Holding) (t : Stored) (ds : List (Domain (List Slice))) (d a from to b : ℕ) (adds : AddsShared h.store t h.domains ds d (replaced (places (slices_in h.domains d a)) from to (places (slices_in h.domains d b)))) where
   pub replaced-changes : Changes (λ s. aggs.with_agg s d (replaced (machine.text s d a) from to (machine.text s d b))) h (record h { store = t; domains = ds })
   replaced-changes = added-changes h t ds d _ adds (λ s. replaced (machine.text s d a) from to (machine.text s d b))

@@ -217,9 +217,6 @@ module _ (h : Holding) (t : Stored) (qs : Pipes) (p : ℕ) (sound : IsSound h) (
   pub reader_closed-machine : machine_of (record h { store = t; pipes = qs }) ≡ fds.closed_on (machine_of h) (Some (on.ReadEnd p))
   reader_closed-machine = closed_pipe-machine h t qs p (without_reader (queue_at h.pipes p)) sound reader_there closes (inl refl) (λ e. refl) ∙ reader-machine h p
 
-  pub reader_closed-keeps : KeepsEnds (on.ReadEnd p) h.pipes qs
-  reader_closed-keeps = subst (KeepsEnds (on.ReadEnd p) h.pipes) (sym closes.pipes) (reader_keeps h.pipes p reader_there)
-
   pub reader_closed-sound : all_ends_on (on.ReadEnd p) h.domains ≡ 0 → IsSound (record h { store = t; pipes = qs })
   reader_closed-sound free = closed_pipe-sound h t qs p (without_reader (queue_at h.pipes p)) sound reader_there closes (inl refl) (λ e. refl) (on.ReadEnd p) (reader_keeps h.pipes p reader_there) free
 
@@ -242,9 +239,6 @@ module _ (h : Holding) (t : Stored) (qs : Pipes) (p : ℕ) (sound : IsSound h) (
 
   pub writer_closed-machine : machine_of (record h { store = t; pipes = qs }) ≡ fds.closed_on (machine_of h) (Some (on.WriteEnd p))
   writer_closed-machine = closed_pipe-machine h t qs p (without_writer (queue_at h.pipes p)) sound writer_there closes writer_part (none_of (queue_at h.pipes p).queue (queue_at h.pipes p).reading) ∙ writer-machine h p
-
-  pub writer_closed-keeps : KeepsEnds (on.WriteEnd p) h.pipes qs
-  writer_closed-keeps = subst (KeepsEnds (on.WriteEnd p) h.pipes) (sym closes.pipes) (writer_keeps h.pipes p writer_there)
 
   pub writer_closed-sound : all_ends_on (on.WriteEnd p) h.domains ≡ 0 → IsSound (record h { store = t; pipes = qs })
   writer_closed-sound free =

@@ -27,8 +27,8 @@ use Rattle.iol_kernel.specs.Counted.{IsCounted}
 use Rattle.iol_kernel.specs.Ends.{IsOpenOnce}
 use Rattle.iol_kernel.specs.Holding.{Holding, machine_of, Each, IsDomainReadable, IsPipeReadable, IsOpenEnd, IsSound, IsLimited, AddsText}
 use Rattle.iol_kernel.proofs.Meant.{pool-seen, is_pool-seen, pools-seen, closed-seen, added_pool-seen, length_pools-seen, add_domain-seen, with_agg-seen, without_agg-seen, with_fds-seen, with_domain-seen, domain-seen, live_aggs-seen, length-map'}
-use Rattle.iol_kernel.proofs.Uses.{uses-new_domain, uses-with_agg, uses-without_agg}
-use Rattle.iol_kernel.proofs.Once.{once_same, once_new_domain}
+use Rattle.iol_kernel.proofs.Uses.{uses-with_agg, uses-without_agg}
+use Rattle.iol_kernel.proofs.Once.{once_same}
 use Rattle.iol_kernel.proofs.Sound.{AreHeld, counted_held, domains_stay, pipes_stay, seen-stays, sound_with, sound_fds, ends_open, each-push, limits_agg, limits_drop, drop_readable, add_readable, fds_stay}
 
 -- a new domain
@@ -37,31 +37,7 @@ pub grown-machine : (h : Holding) (ds : List (Domain (List Slice))) → ds ≡ h
 unfolding machine_of
 grown-machine h ds is = ap (λ (xs : List (Domain (List Slice))). seen (text_of h.store) xs h.store.pools h.pipes) is ∙ add_domain-seen (text_of h.store) h.domains h.store.pools h.pipes
 
-pub grown-sound : (h : Holding) (ds : List (Domain (List Slice))) → IsSound h → ds ≡ h.domains ++ new_domain ∷ [] → IsSound (record h { domains = ds })
-grown-sound h ds sound is = subst (λ (xs : List (Domain (List Slice))). IsSound (record h { domains = xs })) (sym is) (record {
-  domains = each-push (IsDomainReadable h.store) h.domains new_domain sound.domains tt;
-  pipes = sound.pipes;
-  fds = each-push (λ (d : Domain (List Slice)). Each (IsOpenEnd h.pipes) d.fds) h.domains new_domain sound.fds tt;
-  once = once_new_domain h.domains sound.once;
-  counted = record { each = λ b. omega (arith, sound.counted.each b, uses-new_domain b h.domains) };
-  tidy = sound.tidy;
-  still = sound.still;
-  limits = record {
-    aggs = each-push (λ (d : Domain (List Slice)). Each (λ e. byte_len e.1 ≤ 16777216) d.aggs) h.domains new_domain sound.limits.aggs tt;
-    few = (let e = sum_by_push (λ (d : Domain (List Slice)). length d.aggs) h.domains new_domain in omega (arith, e, sound.limits.few));
-    queues = sound.limits.queues;
-    few_pipes = sound.limits.few_pipes;
-  };
-  few_pools = sound.few_pools;
-})
-
 -- a list of domains that is as it was
-
-pub same-machine : (h : Holding) (ds : List (Domain (List Slice))) → ds ≡ h.domains → machine_of (record h { domains = ds }) ≡ machine_of h
-same-machine h ds is = ap (λ (xs : List (Domain (List Slice))). machine_of (record h { domains = xs })) is
-
-pub same-sound : (h : Holding) (ds : List (Domain (List Slice))) → IsSound h → ds ≡ h.domains → IsSound (record h { domains = ds })
-same-sound h ds sound is = subst (λ (xs : List (Domain (List Slice))). IsSound (record h { domains = xs })) (sym is) sound
 
 pub on_ok : {A E P Q : Type 0} (r : Result A E) → (P → Q) → OnOk r P → OnOk r Q
 on_ok (Ok x) f h = f h
@@ -204,10 +180,6 @@ as_many_pools s t p closed few = omega (arith, few, ap length closed, length-map
 pub unchanged-sound : (h : Holding) (t : Stored) (ds : List (Domain (List Slice))) → IsSound h → t ≡ h.store → ds ≡ h.domains → IsSound (record h { store = t; domains = ds })
 unchanged-sound h t ds sound store' domains' =
     subst (λ (s : Stored). IsSound (record h { store = s; domains = ds })) (sym store') (subst (λ (xs : List (Domain (List Slice))). IsSound (record h { domains = xs })) (sym domains') sound)
-
-pub unchanged-machine : (h : Holding) (t : Stored) (ds : List (Domain (List Slice))) → t ≡ h.store → ds ≡ h.domains → machine_of (record h { store = t; domains = ds }) ≡ machine_of h
-unchanged-machine h t ds store' domains' =
-    ap (λ (s : Stored). machine_of (record h { store = s; domains = ds })) store' ∙ ap (λ (xs : List (Domain (List Slice))). machine_of (record h { domains = xs })) domains'
 
 pub is_pool_held : (h : Holding) (p : ℕ) → machine.is_pool (machine_of h) p ≡ is_numbered h.store.pools p
 unfolding machine_of

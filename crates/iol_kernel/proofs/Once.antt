@@ -34,21 +34,6 @@ once_fewer ds d x live fewer once = record { each = λ e. omega (arith, once.eac
 pub once_same : (ds : Domains) (d : ℕ) (x : Domain (List Slice)) → (domain_in ds d).live ≡ true → x.fds ≡ (domain_in ds d).fds → IsOpenOnce ds → IsOpenOnce (with_domain_in ds d x)
 once_same ds d x live same once = once_fewer ds d x live (λ e. omega (arith, ap (ends_on e) same)) once
 
-all_ends-fds : {A : Type 0} (e : Descriptor) (ds : List (Domain A)) → all_ends_on e ds ≡ sum_by (ends_on e) (map (λ d. d.fds) ds)
-all_ends-fds e [] = refl
-all_ends-fds {A} e (d ∷ ds) =
-    let r = all_ends-fds e ds in
-    let c = sum_by-cons (λ (y : Domain A). ends_on e y.fds) d ds in
-    let k = sum_by-cons (ends_on e) d.fds (map {B = List (Option Descriptor)} (λ (y : Domain A). y.fds) ds) in
-    omega (arith, r, c, k)
-
--- the descriptors of all domains stay
-pub once_kept : {A : Type 0} (ds es : List (Domain A)) → map {B = List (Option Descriptor)} (λ d. d.fds) es ≡ map (λ d. d.fds) ds → IsOpenOnce ds → IsOpenOnce es
-once_kept ds es same once = record { each = λ e. omega (arith, once.each e, all_ends-fds e ds, all_ends-fds e es, ap (sum_by (ends_on e)) same) }
-
-pub once_new_domain : (ds : Domains) → IsOpenOnce ds → IsOpenOnce (ds ++ new_domain ∷ [])
-once_new_domain ds once = record { each = λ e. (let c = sum_by_push (λ (y : Domain (List Slice)). ends_on e y.fds) ds new_domain in omega (arith, once.each e, c)) }
-
 -- one number is opened, or closed
 
 pub in_place-lowest : {A : Type 0} (xs : List (Option A)) → in_place xs (lowest xs) ≡ None

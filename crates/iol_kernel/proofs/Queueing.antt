@@ -36,20 +36,11 @@ use Rattle.iol_kernel.proofs.Ends.{ends_queued, there_if_open}
 use Rattle.iol_kernel.proofs.Effects.{moved-machine, moved-sound}
 use Rattle.iol_kernel.proofs.Pipes.{end_held}
 
-any_true : (a b : Bool) → a ≡ true → (a || b) ≡ true
-any_true a b e = grind (arith, nat_tests, e)
-
 -- a queue as the machine sees it
 
 pub pipe_held : (h : Holding) (p : ℕ) → machine.pipe_at (machine_of h) p ≡ pipe_meant (text_of h.store) (queue_at h.pipes p)
 unfolding machine_of
 pipe_held h p = pipe_at-seen (text_of h.store) h.domains h.store.pools h.pipes [] p refl
-
-pub queue_held : (h : Holding) (p : ℕ) → (machine.pipe_at (machine_of h) p).queue ≡ text_of h.store (queue_at h.pipes p).queue
-queue_held h p = ap (λ (x : machine.Pipe). x.queue) (pipe_held h p)
-
-pub queue_length : (h : Holding) (p : ℕ) → length (machine.pipe_at (machine_of h) p).queue ≡ byte_len (queue_at h.pipes p).queue
-queue_length h p = ap length (queue_held h p) ∙ length-text_of h.store (queue_at h.pipes p).queue
 
 -- how long an aggregate is, whatever is read at its places
 
@@ -134,10 +125,6 @@ reading_held h d fd p sound is = end_held h d fd (on.ReadEnd p) sound is
 
 -- Reading: a domain gets the front.
 
-pub may_read_held : (h : Holding) (d q : ℕ) → names_in h.store.pools q d ≡ machine.may_read (machine_of h) d q
-unfolding machine_of
-may_read_held h d q = sym (ap (λ (x : machine.Pool). list_any (λ e. e == d) x.domains) (pool-seen (text_of h.store) h.domains h.store.pools h.pipes q))
-
 module _ (h : Holding) (t : Stored) (ds : List (Domain (List Slice))) (qs : List (Option (Pipe (List Slice)))) (p d n : ℕ) (sound : IsSound h) (reading' : (queue_at h.pipes p).reading ≡ true)
     (takes : TakesFront h.store t (queue_at h.pipes p).queue (queue_at qs p).queue h.domains ds d n) (pipes' : qs ≡ slice_set h.pipes p (Some (record (queue_at h.pipes p) { queue = (queue_at qs p).queue }))) where
   abbrev less : List (Option (Pipe (List Slice)))
@@ -192,15 +179,6 @@ module _ (h : Holding) (t : Stored) (ds : List (Domain (List Slice))) (qs : List
 
 -- tests on a queue
 
-pub reading_means : (h : Holding) (p : ℕ) → (queue_at h.pipes p).reading ≡ (machine.pipe_at (machine_of h) p).reading
-reading_means h p = sym (ap (λ (x : machine.Pipe). x.reading) (pipe_held h p))
-
-pub writing_means : (h : Holding) (p : ℕ) → (queue_at h.pipes p).writing ≡ (machine.pipe_at (machine_of h) p).writing
-writing_means h p = sym (ap (λ (x : machine.Pipe). x.writing) (pipe_held h p))
-
 pub none_held : (h : Holding) (d a : ℕ) → None ≡ agg_in h.domains d a → aggs.lacks_agg (machine_of h) d a ≡ true
 unfolding machine_of
 none_held h d a none = ap (λ (o : Option Text). is_none o) (aggregate-seen (text_of h.store) h.domains h.store.pools h.pipes d a ∙ ap (option_map (text_of h.store)) (sym none))
-
-pub length_held : (h : Holding) (d a : ℕ) (xs : List Slice) → Some xs ≡ agg_in h.domains d a → length (machine.text (machine_of h) d a) ≡ byte_len xs
-length_held h d a xs found = ap length (sym (text_held h d a xs found)) ∙ length-text_of h.store xs

@@ -47,10 +47,6 @@ module _ (ds : Domains) (qs : Pipes) (xs : List (Option Descriptor)) (i : ℕ) (
   pub first_open : IsOpenEnd qs z
   first_open = firstly.opened.0
 
-  -- a free place
-  pub later_none : z ≡ None → AreTaken ds qs (drop (i + 1) xs)
-  later_none none = record { opened = firstly.opened.1; once = λ x. (let c = sum_by-cons (on_end x) z (drop (i + 1) xs) in omega (arith, c, firstly.once x)) }
-
   module _ (x : Descriptor) (some : z ≡ Some x) where
     pub first_alone : all_ends_on x ds ≡ 0
     first_alone =

@@ -114,9 +114,6 @@ uses-same b ds d x live is =
     let f = ap (λ (l : List (ℕ × List Slice)). sum_by (λ e. uses b e.1) l) is in
     omega (arith, e, f)
 
-pub uses-new_domain : (b : BufId) (ds : Domains) → sum_by (domain_uses b) (ds ++ new_domain ∷ []) ≡ sum_by (domain_uses b) ds
-uses-new_domain b ds = let e = sum_by_push (domain_uses b) ds new_domain in omega (arith, e)
-
 lowest_none : (xs : Pipes) → lowest xs < length xs → get_or xs (lowest xs) None ≡ None
 lowest_none [] h = refl
 lowest_none (None ∷ xs) h = refl

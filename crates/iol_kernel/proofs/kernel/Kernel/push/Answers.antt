@@ -7,7 +7,7 @@ use Rattle.iol_hold.specs.Places.{places}
 use Rattle.std.proofs.lemmas.List.{length-take}
 use Rattle.iol_kernel.proofs.Sound.{agg_small}
 use Rattle.iol_kernel.proofs.Uses.{agg_covered, countable}
-use Rattle.iol_kernel.proofs.Queueing.{queue_short, pushed-sound, text_held, none_held, length_held}
+use Rattle.iol_kernel.proofs.Queueing.{queue_short, pushed-sound, text_held, none_held}
 use Rattle.std.specs.Prelude.{min, ◌-◌}
 use Rattle.iol_core.specs.State.{text}
 use Rattle.iol_kernel.specs.Holding.{machine_of}
