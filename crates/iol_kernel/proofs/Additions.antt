@@ -20,8 +20,8 @@ use Rattle.iol_hold.proofs.Moving.{shares_move, covers_given}
 use Rattle.iol_hold.proofs.Reading.{readable_stays, readable_none, length-text_of}
 use Rattle.iol_desc.specs.Tables.{domain_in, agg_in, live_aggs_in}
 use Rattle.iol_kernel.specs.Seen.{seen}
-use Rattle.iol_kernel.specs.Adding.{slices_in, replaced, AddsShared}
-use Rattle.iol_kernel.specs.Holding.{Holding, machine_of, layout_of, IsSound}
+use Rattle.iol_kernel.specs.Adding.{replaced, AddsShared}
+use Rattle.iol_kernel.specs.Holding.{Holding, machine_of, layout_of, IsSound, slices_in}
 use Rattle.iol_kernel.specs.Sharing.{read_of, Changes}
 use Rattle.iol_kernel.proofs.Meant.{aggregate-seen, with_agg-seen, domain-seen}
 use Rattle.iol_kernel.proofs.Sound.{agg_readable, agg_small}

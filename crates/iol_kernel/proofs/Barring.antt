@@ -13,8 +13,7 @@ use Rattle.iol_hold.specs.Texts.{byte_at}
 use Rattle.iol_hold.proofs.AtPlaces.{keeps_bytes, keeps_numbers}
 use Rattle.iol_hold.specs.declared.slices.Slice.{Slice}
 use Rattle.iol_desc.specs.Tables.{agg_in}
-use Rattle.iol_kernel.specs.Adding.{slices_in}
-use Rattle.iol_kernel.specs.Holding.{Holding, machine_of, layout_of}
+use Rattle.iol_kernel.specs.Holding.{Holding, machine_of, layout_of, slices_in}
 use Rattle.iol_kernel.specs.Sharing.{read_of}
 use Rattle.iol_kernel.proofs.Meant.{pool-seen}
 use Rattle.iol_kernel.proofs.Sharing.{read_machine, read_layout}

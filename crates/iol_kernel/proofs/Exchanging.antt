@@ -10,7 +10,8 @@ use Rattle.iol_core.specs.State.{Domain, no_domain}
 use Rattle.iol_core.proofs.Lookups.{lookup-without}
 use Rattle.iol_desc.specs.Tables.{place_in, exchanged, domain_in, with_domain_in, with_aggs_in, agg_in, with_agg_in, without_agg_in, with_next}
 use Rattle.iol_hold.specs.declared.slices.Slice.{Slice}
-use Rattle.iol_kernel.specs.Regrouped.{slices_in, with_two, with_one}
+use Rattle.iol_kernel.specs.Holding.{slices_in}
+use Rattle.iol_kernel.specs.Regrouped.{with_two, with_one}
 use Rattle.iol_kernel.proofs.Uses.{live_numbered}
 
 -- Of one domain's entries.

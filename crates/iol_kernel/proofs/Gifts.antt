@@ -16,8 +16,7 @@ use Rattle.iol_hold.specs.Layout.{read}
 use Rattle.iol_hold.specs.declared.slices.Slice.{Slice}
 use Rattle.iol_desc.specs.Tables.{domain_in, with_domain_in, agg_in, with_agg_in, without_agg_in, live_aggs_in, with_next}
 use Rattle.iol_kernel.specs.Seen.{seen}
-use Rattle.iol_kernel.specs.Adding.{slices_in}
-use Rattle.iol_kernel.specs.Holding.{Holding, machine_of, IsSound}
+use Rattle.iol_kernel.specs.Holding.{Holding, machine_of, IsSound, slices_in}
 use Rattle.iol_kernel.specs.Sharing.{read_of, Changes}
 use Rattle.iol_kernel.proofs.Meant.{domain-seen, with_agg-seen, without_agg-seen}
 use Rattle.iol_kernel.proofs.Uses.{uses-with_agg, uses-without_agg, sum-with_domain, length-without}

@@ -15,6 +15,7 @@ pub mod Reports
 pub mod Beginning
 pub mod Stay
 pub mod Sharing
+pub mod ReadOf
 pub mod Additions
 pub mod Exchanging
 pub mod Regrouping

@@ -26,8 +26,8 @@ use Rattle.iol_hold.proofs.Slicing.{byte_len-append}
 use Rattle.iol_desc.specs.Tables.{domain_in, with_domain_in, agg_in, live_aggs_in}
 use Rattle.iol_kernel.specs.Seen.{Pipe, meant, seen}
 use Rattle.iol_kernel.specs.Counted.{uses, domain_uses}
-use Rattle.iol_kernel.specs.Holding.{Holding, machine_of, layout_of, Each, IsDomainReadable, IsSound}
-use Rattle.iol_kernel.specs.Regrouped.{slices_in, with_two, with_one, joined_in, SplitsAgg}
+use Rattle.iol_kernel.specs.Holding.{Holding, machine_of, layout_of, Each, IsDomainReadable, IsSound, slices_in}
+use Rattle.iol_kernel.specs.Regrouped.{with_two, with_one, joined_in, SplitsAgg}
 use Rattle.iol_kernel.specs.Sharing.{read_of, Changes}
 use Rattle.iol_kernel.proofs.Effects.{moved-sound, next_held}
 use Rattle.iol_kernel.proofs.Exchanging.{found_slices}

@@ -8,8 +8,7 @@ ghost use Rattle.iol_core.specs.Calls.Aggregates.{lacks_agg, too_many_aggs, next
 ghost use Rattle.iol_pool.specs.Pools.{names_in};
 ghost use Rattle.iol_hold.specs.Moves.{Stays};
 ghost use Rattle.iol_desc.specs.Tables.{domains_of, domain_in, agg_in, with_agg_in, without_agg_in};
-ghost use Rattle.iol_kernel.specs.Adding.{slices_in};
-ghost use Rattle.iol_kernel.specs.Holding.{machine_of, layout_of, IsSound};
+ghost use Rattle.iol_kernel.specs.Holding.{machine_of, layout_of, slices_in, IsSound};
 ghost use Rattle.iol_kernel.specs.Sharing.{SharesBy};
 
 use crate::kernel::Kernel;

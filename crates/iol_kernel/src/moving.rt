@@ -8,8 +8,8 @@ ghost use Rattle.iol_hold.specs.Moves.{Covers, IsCountable, Stays};
 ghost use Rattle.iol_hold.specs.Places.{byte_len};
 ghost use Rattle.iol_hold.specs.Texts.{bufs_of};
 ghost use Rattle.iol_desc.specs.Tables.{domains_of, domain_in, agg_in};
-ghost use Rattle.iol_kernel.specs.Holding.{machine_of, layout_of, IsSound};
-ghost use Rattle.iol_kernel.specs.Regrouped.{slices_in, joined_in, SplitsAgg};
+ghost use Rattle.iol_kernel.specs.Holding.{machine_of, layout_of, IsSound, slices_in};
+ghost use Rattle.iol_kernel.specs.Regrouped.{joined_in, SplitsAgg};
 ghost use Rattle.iol_kernel.specs.Sharing.{SharesBy};
 
 use crate::kernel::Kernel;
