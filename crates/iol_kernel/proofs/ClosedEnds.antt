@@ -32,7 +32,8 @@ use Rattle.iol_kernel.proofs.Sound.{each-set, counted_held}
 use Rattle.iol_kernel.proofs.Ends.{there_if_open}
 use Rattle.iol_kernel.proofs.Effects.{moved-machine, moved-sound, same_length}
 use Rattle.iol_kernel.proofs.CloseAll.{set-again}
-use Rattle.iol_kernel.proofs.Queueing.{pipe_held, queue_readable, queue_short}
+use Rattle.iol_kernel.proofs.Queueing.{queue_readable, queue_short}
+use Rattle.iol_kernel.proofs.ReadOf.{pipe_at-machine_of}
 
 abbrev pub Pipes : Type 0
 Pipes = List (Option (Pipe (List Slice)))
@@ -87,11 +88,11 @@ closed-seen g ds ps qs p x =
 
 -- what the machine does to the pipe
 reader-machine : (h : Holding) (p : ℕ) → machine.with_pipe (machine_of h) p (pipe_meant (text_of h.store) (without_reader (queue_at h.pipes p))) ≡ fds.closed_on (machine_of h) (Some (on.ReadEnd p))
-reader-machine h p = ap (λ (y : machine.Pipe). machine.with_pipe (machine_of h) p (record y { queue = []; reading = false })) (sym (pipe_held h p))
+reader-machine h p = ap (λ (y : machine.Pipe). machine.with_pipe (machine_of h) p (record y { queue = []; reading = false })) (sym (pipe_at-machine_of h p))
 
 writer-machine : (h : Holding) (p : ℕ) → machine.with_pipe (machine_of h) p (pipe_meant (text_of h.store) (without_writer (queue_at h.pipes p))) ≡ fds.closed_on (machine_of h) (Some (on.WriteEnd p))
 unfolding machine.with_pipe
-writer-machine h p = gone (queue_at h.pipes p).queue (queue_at h.pipes p).reading ∙ ap (λ (y : machine.Pipe). machine.with_pipe (machine_of h) p (record y { writing = false })) (sym (pipe_held h p))
+writer-machine h p = gone (queue_at h.pipes p).queue (queue_at h.pipes p).reading ∙ ap (λ (y : machine.Pipe). machine.with_pipe (machine_of h) p (record y { writing = false })) (sym (pipe_at-machine_of h p))
   where
     gone : (q : List Slice) (r : Bool) → machine.with_pipe (machine_of h) p (record { queue = text_of h.store (if r then q else []); reading = r; writing = false }) ≡ machine.with_pipe (machine_of h) p (record { queue = text_of h.store q; reading = r; writing = false })
     gone q true = refl

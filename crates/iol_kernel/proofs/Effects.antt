@@ -3,7 +3,6 @@ use Rattle.std.proofs.Common.{◌≡◌, ℕ, ◌+◌, ◌<◌, ◌≤◌, List,
 use Rattle.std.specs.Prelude.{Result, Ok, Err, OnOk, nat_lt, ◌||◌}
 use Rattle.std.proofs.Common.{length-append}
 use Rattle.std.proofs.lemmas.Bool.Decides.{nat_tests}
-use Rattle.std.proofs.lemmas.List.Sums.{sum_by_push}
 use Rattle.iol_core.specs.declared.descriptors.Descriptor.{Descriptor}
 use Rattle.iol_core.specs.Text.{Text}
 use Rattle.iol_core.specs.Numbered.{with_numbered, is_numbered}
@@ -16,7 +15,6 @@ use Rattle.iol_pool.specs.Pools.{Pool, pool_in, with_closed}
 use Rattle.iol_pool.proofs.Owning.{length-closed}
 use Rattle.iol_hold.specs.Stored.{Stored, IsTidy, IsStill}
 use Rattle.iol_hold.specs.Moves.{Stays, Moves, SameLists, pool_meant}
-use Rattle.iol_hold.specs.Places.{byte_len}
 use Rattle.iol_hold.specs.Texts.{text_of, bufs_of}
 use Rattle.iol_hold.specs.declared.slices.Slice.{Slice}
 use Rattle.iol_hold.proofs.Counting.{tally_none}
@@ -29,7 +27,7 @@ use Rattle.iol_kernel.specs.Holding.{Holding, machine_of, Each, IsDomainReadable
 use Rattle.iol_kernel.proofs.Meant.{pool-seen, is_pool-seen, pools-seen, closed-seen, added_pool-seen, length_pools-seen, add_domain-seen, with_agg-seen, without_agg-seen, with_fds-seen, with_domain-seen, domain-seen, live_aggs-seen, length-map'}
 use Rattle.iol_kernel.proofs.Uses.{uses-with_agg, uses-without_agg}
 use Rattle.iol_kernel.proofs.Once.{once_same}
-use Rattle.iol_kernel.proofs.Sound.{AreHeld, counted_held, domains_stay, pipes_stay, seen-stays, sound_with, sound_fds, ends_open, each-push, limits_agg, limits_drop, drop_readable, add_readable, fds_stay}
+use Rattle.iol_kernel.proofs.Sound.{AreHeld, counted_held, domains_stay, pipes_stay, seen-stays, sound_with, sound_fds, ends_open, limits_agg, limits_drop, drop_readable, add_readable, fds_stay}
 
 -- a new domain
 

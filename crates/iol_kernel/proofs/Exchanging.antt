@@ -1,6 +1,5 @@
 -- What is put under a number in place of another, and taken away again.
-use Rattle.std.proofs.Common.{◌≡◌, ◌≢◌, ℕ, suc, ◌+◌, ◌-◌, ◌<◌, ◌≤◌, List, [], ◌∷◌, length, ap, ◌∙◌, refl, sym, arith, Option, Some, None, inl, inr, true}
-use Rattle.std.specs.Prelude.{unwrap_or}
+use Rattle.std.proofs.Common.{◌≡◌, ◌≢◌, ℕ, suc, ◌+◌, ◌-◌, ◌<◌, ◌≤◌, List, [], ◌∷◌, length, ap, ◌∙◌, refl, sym, arith, Some, None, inl, inr, true}
 use Rattle.std.proofs.lemmas.Bool.{cases_eq}
 use Rattle.std.proofs.lemmas.Bool.Decides.{nat_tests}
 use Rattle.std.proofs.lemmas.Grind.{common_steps}
@@ -10,7 +9,6 @@ use Rattle.iol_core.specs.State.{Domain, no_domain}
 use Rattle.iol_core.proofs.Lookups.{lookup-without}
 use Rattle.iol_desc.specs.Tables.{place_in, exchanged, domain_in, with_domain_in, with_aggs_in, agg_in, with_agg_in, without_agg_in, with_next}
 use Rattle.iol_hold.specs.declared.slices.Slice.{Slice}
-use Rattle.iol_kernel.specs.Holding.{slices_in}
 use Rattle.iol_kernel.specs.Regrouped.{with_two, with_one}
 use Rattle.iol_kernel.proofs.Uses.{live_numbered}
 
@@ -132,17 +130,6 @@ split_table ds rs fs ss d a first second live rest one two =
     let e = changed_again (λ y. with_next y first) ds rs fs d (with_aggs x (without x.aggs a)) live rest one in
     changed_again (λ y. with_next y second) ds fs ss d (with_next (with_aggs x (without x.aggs a)) first) live e two
     ∙ ap (λ (y : Domain (List Slice)). with_domain_in ds d y) (two_numbered x a first second)
-
--- the slices of an aggregate that was found
-pub slices_found : (ds : Domains) (d a : ℕ) (xs : List Slice) → Some xs ≡ agg_in ds d a → xs ≡ slices_in ds d a
-slices_found ds d a xs found = ap (λ (o : Option (List Slice)). unwrap_or o []) found
-
-pub found_slices : (ds : Domains) (d a : ℕ) → agg_in ds d a ≢ None → Some (slices_in ds d a) ≡ agg_in ds d a
-found_slices ds d a there = of (agg_in ds d a) there
-  where
-    of : (o : Option (List Slice)) → o ≢ None → Some (unwrap_or o []) ≡ o
-    of None none = absurd (none refl)
-    of (Some xs) some = refl
 
 -- One aggregate in place of two.
 

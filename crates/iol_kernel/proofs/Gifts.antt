@@ -1,6 +1,6 @@
 -- An aggregate goes from one domain to another, or to the same under a new number.
-use Rattle.std.proofs.Common.{◌≡◌, ◌≢◌, ℕ, zero, suc, ◌+◌, ◌-◌, ◌<◌, ◌≤◌, ◌==◌, List, [], ◌∷◌, length, ap, ◌∙◌, refl, sym, subst, arith, Option, Some, None, inl, inr, true, false}
-use Rattle.std.specs.Prelude.{slice_set, unwrap_or, if◌then◌else◌, nat_lt, ◌||◌}
+use Rattle.std.proofs.Common.{◌≡◌, ◌≢◌, ℕ, zero, suc, ◌+◌, ◌-◌, ◌<◌, ◌≤◌, ◌==◌, List, [], ◌∷◌, length, ap, ◌∙◌, refl, sym, subst, arith, Some, None, inl, inr, true, false}
+use Rattle.std.specs.Prelude.{slice_set, if◌then◌else◌, nat_lt, ◌||◌}
 use Rattle.std.proofs.lemmas.Bool.{cases_lt, cases_eq}
 use Rattle.std.proofs.lemmas.Bool.Decides.{nat_tests}
 use Rattle.std.proofs.lemmas.Grind.{common_steps}
@@ -18,13 +18,14 @@ use Rattle.iol_desc.specs.Tables.{domain_in, with_domain_in, agg_in, with_agg_in
 use Rattle.iol_kernel.specs.Seen.{seen}
 use Rattle.iol_kernel.specs.Holding.{Holding, machine_of, IsSound, slices_in}
 use Rattle.iol_kernel.specs.Sharing.{read_of, Changes}
-use Rattle.iol_kernel.proofs.Meant.{domain-seen, with_agg-seen, without_agg-seen}
+use Rattle.iol_kernel.proofs.Meant.{with_agg-seen, without_agg-seen}
 use Rattle.iol_kernel.proofs.Uses.{uses-with_agg, uses-without_agg, sum-with_domain, length-without}
 use Rattle.iol_kernel.proofs.Sound.{agg_readable, agg_small, drop_readable, add_readable, fds_stay, limits_agg, limits_drop}
 use Rattle.iol_kernel.proofs.Once.{once_same}
 use Rattle.iol_kernel.proofs.Effects.{moved-sound, next_held}
 use Rattle.iol_kernel.proofs.Stay.{stays_here}
-use Rattle.iol_kernel.proofs.Additions.{text-read}
+use Rattle.iol_kernel.proofs.ReadOf.{is_live-read_of, text-read_of}
+use Rattle.iol_kernel.proofs.Slices.{found_slices}
 
 -- Numbered lists, where two places change.
 
@@ -131,10 +132,6 @@ few_given h d few = subst (λ n. n < 18446744073709551615) (next_held h d) (few_
 -- The whole change.
 
 module _ (h : Holding) (ds : List (Domain (List Slice))) (d a e : ℕ) (live : (domain_in h.domains d).live ≡ true) (moved : ds ≡ with_agg_in (without_agg_in h.domains d a) e (slices_in h.domains d a)) where
-  live-read : (f : Place → ℕ × ℕ) → machine.is_live (read_of f h) d ≡ true
-  unfolding read_of
-  live-read f = ap (λ (x : Domain Text). x.live) (domain-seen (read f) h.domains h.store.pools h.pipes d) ∙ live
-
   moved-read : (f : Place → ℕ × ℕ) → read_of f (record h { domains = ds }) ≡ aggs.with_agg (aggs.without_agg (read_of f h) d a) e (read f (slices_in h.domains d a))
   unfolding read_of
   moved-read f =
@@ -144,7 +141,7 @@ module _ (h : Holding) (ds : List (Domain (List Slice))) (d a e : ℕ) (live : (
 
   pub given-changes : Changes (λ s. (aggs.agg_give s d a e).after) h (record h { domains = ds })
   given-changes = record {
-    each = λ f keeps. moved-read f ∙ ap (aggs.with_agg (aggs.without_agg (read_of f h) d a) e) (sym (text-read f h d a)) ∙ given_either (read_of f h) d a e (machine.text (read_of f h) d a) (live-read f);
+    each = λ f keeps. moved-read f ∙ ap (aggs.with_agg (aggs.without_agg (read_of f h) d a) e) (sym (text-read_of f h d a)) ∙ given_either (read_of f h) d a e (machine.text (read_of f h) d a) (is_live-read_of f h d ∙ live);
     arena = refl;
   }
 
@@ -154,7 +151,7 @@ module _ (h : Holding) (ds : List (Domain (List Slice))) (d a e : ℕ) (live : (
       let rest : List (Domain (List Slice)) = without_agg_in h.domains d a in
       let x : Domain (List Slice) = record (domain_in h.domains d) { aggs = without (domain_in h.domains d).aggs a } in
       let y : Domain (List Slice) = with_next (domain_in rest e) xs in
-      let found : Some xs ≡ agg_in h.domains d a = is_some (agg_in h.domains d a) some in
+      let found : Some xs ≡ agg_in h.domains d a = found_slices h.domains d a some in
       let live' = left_live h.domains d a e to_live in
       let few : live_aggs_in rest < 65536 = omega (arith, sound.limits.few, sum-with_domain (λ (z : Domain (List Slice)). length z.aggs) h.domains d x live, length-without (domain_in h.domains d).aggs a xs found) in
       subst (λ (ys : List (Domain (List Slice))). IsSound (record h { domains = ys })) (sym moved)
@@ -163,7 +160,3 @@ module _ (h : Holding) (ds : List (Domain (List Slice))) (d a e : ℕ) (live : (
       sound.tidy sound.still (add_readable h.store rest e xs (drop_readable h d a sound) (agg_readable h d a xs sound found)) sound.pipes
       (fds_stay h.pipes rest e y (fds_stay h.pipes h.domains d x sound.fds refl) refl) (once_same rest e y live' refl (once_same h.domains d x live refl sound.once))
       (limits_agg rest h.pipes e xs (limits_drop h.domains h.pipes d a xs sound.limits live found) live' (agg_small h d a xs sound found) few) sound.few_pools)
-    where
-      is_some : (o : Option (List Slice)) → o ≢ None → Some (unwrap_or o []) ≡ o
-      is_some None none = absurd (none refl)
-      is_some (Some ys) none = refl

@@ -16,6 +16,7 @@ pub mod Beginning
 pub mod Stay
 pub mod Sharing
 pub mod ReadOf
+pub mod Slices
 pub mod Additions
 pub mod Exchanging
 pub mod Regrouping

@@ -1,12 +1,12 @@
 -- Each end of a pipe is open once, when a domain's descriptors change.
-use Rattle.std.proofs.Common.{◌≡◌, ℕ, suc, subst, false, Bool, ◌+◌, ◌<◌, ◌≤◌, ◌==◌, List, [], ◌∷◌, ◌++◌, length, map, ap, ◌∙◌, refl, sym, arith, Option, Some, None, inl, inr, true}
-use Rattle.std.specs.Prelude.{slice_set, sum_by, cond}
+use Rattle.std.proofs.Common.{◌≡◌, ℕ, suc, subst, false, Bool, ◌+◌, ◌<◌, ◌≤◌, ◌==◌, List, [], ◌∷◌, ◌++◌, length, ap, ◌∙◌, refl, sym, arith, Option, Some, None, inl, inr, true}
+use Rattle.std.specs.Prelude.{slice_set, cond}
 use Rattle.std.proofs.lemmas.Bool.{cases_lt, cases_eq}
 use Rattle.std.proofs.lemmas.Bool.Decides.{nat_tests}
 use Rattle.std.proofs.lemmas.List.{get_or_past}
 use Rattle.std.proofs.lemmas.List.Sums.{sum_by-set, sum_by_push, sum_by-cons}
 use Rattle.iol_core.specs.Numbered.{in_place, placed, lowest}
-use Rattle.iol_core.specs.State.{Domain, new_domain}
+use Rattle.iol_core.specs.State.{Domain}
 use Rattle.iol_core.specs.declared.descriptors.Descriptor.{Descriptor}
 use Rattle.iol_core.specs.declared.descriptors.Descriptor.TheVariants as on
 use Rattle.iol_hold.specs.declared.slices.Slice.{Slice}

@@ -5,7 +5,7 @@ use Rattle.std.proofs.lemmas.Bool.{cases_lt, cases_eq}
 use Rattle.std.proofs.lemmas.Bool.Decides.{nat_tests}
 use Rattle.std.proofs.lemmas.List.Sums.{sum_by-cons}
 use Rattle.iol_core.specs.Text.{Text}
-use Rattle.iol_core.specs.Numbered.{lookup, without, numbered_or, with_numbered, placed, in_place}
+use Rattle.iol_core.specs.Numbered.{lookup, without, numbered_or, with_numbered, placed}
 use Rattle.iol_core.specs.State as machine
 use Rattle.iol_core.specs.State.{Domain, new_domain, no_domain}
 use Rattle.iol_core.specs.declared.descriptors.Descriptor.{Descriptor}

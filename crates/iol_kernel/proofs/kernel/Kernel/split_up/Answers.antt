@@ -3,8 +3,10 @@ use Rattle.iol_core.specs.Calls.Aggregates as calls
 use Rattle.iol_desc.specs.Tables.{domains_of}
 use Rattle.iol_kernel.specs.Kernel.{holding}
 use Rattle.iol_kernel.proofs.Effects.{live_held, next_held}
-use Rattle.iol_kernel.proofs.Regrouping.{there_held, length_slices, next_laid, few_two, slices_covered, slices_countable, split-changes, split-sound}
+use Rattle.iol_kernel.proofs.Regrouping.{few_two, split-changes, split-sound}
 use Rattle.iol_kernel.proofs.Sharing.{changes_machine, changes_layout}
+use Rattle.iol_kernel.proofs.ReadOf.{next_agg-layout_of, length_text-machine_of}
+use Rattle.iol_kernel.proofs.Slices.{there_held, slices_covered, slices_countable}
 use Rattle.iol_kernel.proofs.kernel.Kernel.split_up.Goals as goal
 
 pub split_agg-requires-clause-live : goal.split_agg-requires-clause-live
@@ -17,23 +19,23 @@ pub split_agg-requires-clause-few : goal.split_agg-requires-clause-few
 split_agg-requires-clause-few c = (few_two (holding c.args.self.now) c.args.by c.requires.few).0
 
 pub split_agg-requires-clause-within : goal.split_agg-requires-clause-within
-split_agg-requires-clause-within c = subst (λ n. c.args.at ≤ n) (length_slices (holding c.args.self.now) c.args.by c.args.agg) c.requires.within
+split_agg-requires-clause-within c = subst (λ n. c.args.at ≤ n) (length_text-machine_of (holding c.args.self.now) c.args.by c.args.agg) c.requires.within
 
 pub split_agg-requires-clause-covered : goal.split_agg-requires-clause-covered
 split_agg-requires-clause-covered c =
     let h = holding c.args.self.now in
-    slices_covered h c.args.by c.args.agg c.requires.sound (live_held h c.args.by c.requires.live) (there_held h c.args.by c.args.agg c.requires.there)
+    slices_covered h c.args.by c.args.agg c.requires.sound (live_held h c.args.by c.requires.live)
 
 pub split_agg-requires-clause-countable : goal.split_agg-requires-clause-countable
 split_agg-requires-clause-countable c =
     let h = holding c.args.self.now in
-    slices_countable h c.args.by c.args.agg c.requires.sound (there_held h c.args.by c.args.agg c.requires.there)
+    slices_countable h c.args.by c.args.agg c.requires.sound
 
 pub returns-in-Ok-clause-numbers : goal.returns-in-Ok-clause-numbers
 returns-in-Ok-clause-numbers c = c.in-Ok.ensures.numbers ∙ ap {B = ℕ × ℕ} (λ n. (n, n + 1)) (sym (next_held (holding c.args.self.now) c.args.by))
 
 pub returns-in-Ok-clause-laid_numbers : goal.returns-in-Ok-clause-laid_numbers
-returns-in-Ok-clause-laid_numbers c = c.in-Ok.ensures.numbers ∙ ap {B = ℕ × ℕ} (λ n. (n, n + 1)) (sym (next_laid (holding c.args.self.now) c.args.by))
+returns-in-Ok-clause-laid_numbers c = c.in-Ok.ensures.numbers ∙ ap {B = ℕ × ℕ} (λ n. (n, n + 1)) (sym (next_agg-layout_of (holding c.args.self.now) c.args.by))
 
 pub returns-in-Ok-clause-split : goal.returns-in-Ok-clause-split
 returns-in-Ok-clause-split c =

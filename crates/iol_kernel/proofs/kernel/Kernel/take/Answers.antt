@@ -6,10 +6,11 @@ use Rattle.iol_kernel.proofs.Uses.{queue_covered, countable}
 use Rattle.iol_hold.specs.Layout.{number_at}
 use Rattle.iol_kernel.specs.Holding.{layout_of}
 use Rattle.iol_kernel.specs.Sharing.{read_of}
-use Rattle.iol_kernel.proofs.Sharing.{changes_machine, changes_layout, next_read}
+use Rattle.iol_kernel.proofs.Sharing.{changes_machine, changes_layout}
 use Rattle.iol_kernel.proofs.Flowing.{after_take, taken-changes}
 use Rattle.iol_kernel.proofs.Queueing.{taken-sound, queue_short}
 use Rattle.iol_kernel.specs.Kernel.{holding}
+use Rattle.iol_kernel.proofs.ReadOf.{next_agg-read_of}
 use Rattle.iol_kernel.proofs.kernel.Kernel.take.Goals as goal
 
 pub take_from-requires-clause-covered : goal.take_from-requires-clause-covered
@@ -29,7 +30,7 @@ returns-in-Ok-clause-number c = c.in-Ok.ensures.number ∙ sym (next_held (holdi
 
 pub returns-in-Ok-clause-number_laid : goal.returns-in-Ok-clause-number_laid
 unfolding layout_of read_of
-returns-in-Ok-clause-number_laid c = c.in-Ok.ensures.number ∙ sym (next_read number_at (holding c.args.self.now) c.args.by)
+returns-in-Ok-clause-number_laid c = c.in-Ok.ensures.number ∙ sym (next_agg-read_of number_at (holding c.args.self.now) c.args.by)
 
 pub returns-in-Ok-clause-taken : goal.returns-in-Ok-clause-taken
 returns-in-Ok-clause-taken c =
