@@ -55,22 +55,24 @@ pub fds_held : (h : Holding) (d : ℕ) → (machine.domain (machine_of h) d).fds
 unfolding machine_of
 fds_held h d = ap (λ (x : Domain Text). x.fds) (domain-seen (text_of h.store) h.domains h.store.pools h.pipes d)
 
-few_numbers : (n m : ℕ) → (nat_lt 65536 n || nat_lt (18446744073709551614 + 1) (m + 1)) ≡ false → m < 18446744073709551615
-few_numbers n m few = grind (arith, nat_tests, few)
-
-pub few_held : (h : Holding) (d : ℕ) → aggs.too_many_aggs (machine_of h) d 1 0 ≡ false → (domain_in h.domains d).next_agg < 18446744073709551615
-few_held h d few = subst (λ n. n < 18446744073709551615) (next_held h d) (few_numbers (machine.live_aggs (machine_of h) + 1) (machine.domain (machine_of h) d).next_agg few)
-
 pub closed_held : (h : Holding) (p : ℕ) → (machine.pool (machine_of h) p).closed ≡ (pool_in h.store.pools p).closed
 unfolding machine_of
 closed_held h p = ap (λ (x : machine.Pool). x.closed) (pool-seen (text_of h.store) h.domains h.store.pools h.pipes p)
 
-pub few_live : (h : Holding) (d : ℕ) → aggs.too_many_aggs (machine_of h) d 1 0 ≡ false → live_aggs_in h.domains < 65536
-unfolding machine_of
-few_live h d few = omega (arith, live_aggs-seen (text_of h.store) h.domains h.store.pools h.pipes, below (machine.live_aggs (machine_of h)) (machine.domain (machine_of h) d).next_agg few)
+-- no more aggregates, and no more numbers, than there may be
+
+pub few_numbers : (h : Holding) (d made given : ℕ) → aggs.too_many_aggs (machine_of h) d made given ≡ false → (domain_in h.domains d).next_agg + made ≤ 18446744073709551615
+few_numbers h d made given few = omega (arith, next_held h d, within (machine.live_aggs (machine_of h)) (machine.domain (machine_of h) d).next_agg few)
   where
-    below : (n m : ℕ) → (nat_lt (65536 + 0) (n + 1) || nat_lt (18446744073709551614 + 1) (m + 1)) ≡ false → n < 65536
-    below n m few = grind (arith, nat_tests, few)
+    within : (n m : ℕ) → (nat_lt (65536 + given) (n + made) || nat_lt (18446744073709551614 + 1) (m + made)) ≡ false → m + made ≤ 18446744073709551615
+    within n m few = grind (arith, nat_tests, few)
+
+pub few_aggs : (h : Holding) (d made given : ℕ) → aggs.too_many_aggs (machine_of h) d made given ≡ false → live_aggs_in h.domains + made ≤ 65536 + given
+unfolding machine_of
+few_aggs h d made given few = omega (arith, live_aggs-seen (text_of h.store) h.domains h.store.pools h.pipes, within (machine.live_aggs (machine_of h)) (machine.domain (machine_of h) d).next_agg few)
+  where
+    within : (n m : ℕ) → (nat_lt (65536 + given) (n + made) || nat_lt (18446744073709551614 + 1) (m + made)) ≡ false → n + made ≤ 65536 + given
+    within n m few = grind (arith, nat_tests, few)
 
 -- the store goes on
 

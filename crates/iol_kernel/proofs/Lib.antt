@@ -1,4 +1,5 @@
 pub mod Meant
+pub mod Rows
 pub mod Uses
 pub mod Once
 pub mod Sound

@@ -1,10 +1,8 @@
 -- Effects on pipes and their ends.
-use Rattle.std.proofs.Common.{inl, inr, ◌-◌, ◌∷◌, ◌++◌, ◌<◌, length, length-append, length-set, ◌≡◌, ◌≢◌, ℕ, ◌+◌, ◌≤◌, ◌==◌, List, [], ap, ◌∙◌, refl, sym, subst, arith, Option, Some, None, true, false}
+use Rattle.std.proofs.Common.{inl, inr, ◌∷◌, ◌++◌, ◌<◌, length, length-append, length-set, ◌≡◌, ◌≢◌, ℕ, ◌+◌, ◌≤◌, ◌==◌, List, [], ap, ◌∙◌, refl, sym, subst, arith, Option, Some, None, true, false}
 use Rattle.std.specs.Prelude.{slice_set, nat_lt, not, ◌&&◌, if◌then◌else◌, Bool}
 use Rattle.std.proofs.lemmas.Bool.Decides.{nat_tests}
-use Rattle.std.proofs.lemmas.Grind.{common_steps}
-use Rattle.std.proofs.lemmas.Bool.{cases_lt, cases_eq}
-use Rattle.std.proofs.lemmas.List.{set_comm}
+use Rattle.std.proofs.lemmas.Bool.{cases_lt}
 use Rattle.iol_core.specs.declared.limits.TheConstants.{MAX_PIPES}
 use Rattle.iol_hold.proofs.Counting.{tally_none}
 use Rattle.iol_kernel.proofs.Uses.{uses-placed}
@@ -27,6 +25,7 @@ use Rattle.iol_kernel.proofs.Sound.{each-set, each-get, each-weaker, each-placed
 use Rattle.iol_kernel.proofs.Once.{same_end-itself, ends-with_domain, ends-placed, ends-freed, once_fewer, once_freed, both_once, all_ends_closed}
 use Rattle.iol_kernel.proofs.Ends.{ends_placed, lowest_closed, new_reading, new_writing}
 use Rattle.iol_kernel.proofs.Effects.{fds_held, fds-machine, fds-sound}
+use Rattle.iol_kernel.proofs.Rows.{domain_in-with_other, with_domain_in-comm}
 
 abbrev empty : Pipe (List Slice)
 empty = record { queue = []; reading = true; writing = true }
@@ -170,20 +169,16 @@ moved_within-sound h ds d fd x sound live there open' is =
 
 -- across domains
 
-domain_in-other : (ds : List (Domain (List Slice))) (d e : ℕ) (x : Domain (List Slice)) → d ≢ e → domain_in (with_domain_in ds d x) e ≡ domain_in ds e
-unfolding domain_in with_domain_in
-domain_in-other ds d e x differ = grind (arith, nat_tests, common_steps, differ)
-
 abbrev opened_in : List (Domain (List Slice)) → (d : ℕ) → Descriptor → List (Domain (List Slice))
 opened_in ds d x = with_fds_in ds d (placed (domain_in ds d).fds (lowest (domain_in ds d).fds) x)
 
 pub other_live : (ds ms : List (Domain (List Slice))) (d to : ℕ) (x : Descriptor) → to ≢ d → ms ≡ opened_in ds to x → (domain_in ds d).live ≡ true → (domain_in ms d).live ≡ true
 other_live ds ms d to x differ is live =
-    ap (λ (ys : List (Domain (List Slice))). (domain_in ys d).live) is ∙ ap (λ (y : Domain (List Slice)). y.live) (domain_in-other ds to d _ differ) ∙ live
+    ap (λ (ys : List (Domain (List Slice))). (domain_in ys d).live) is ∙ ap (λ (y : Domain (List Slice)). y.live) (domain_in-with_other ds to d _ differ) ∙ live
 
 pub other_fds : (ds ms : List (Domain (List Slice))) (d to : ℕ) (x : Descriptor) → to ≢ d → ms ≡ opened_in ds to x → (domain_in ms d).fds ≡ (domain_in ds d).fds
 other_fds ds ms d to x differ is =
-    ap (λ (ys : List (Domain (List Slice))). (domain_in ys d).fds) is ∙ ap (λ (y : Domain (List Slice)). y.fds) (domain_in-other ds to d _ differ)
+    ap (λ (ys : List (Domain (List Slice))). (domain_in ys d).fds) is ∙ ap (λ (y : Domain (List Slice)). y.fds) (domain_in-with_other ds to d _ differ)
 
 pub moved_across-number : (h : Holding) (d fd to n : ℕ) → d ≢ to → n ≡ lowest (domain_in h.domains to).fds → n ≡ (if d == to then lowest (fds.freed (machine_of h) d fd) else fds.next_fd (machine_of h) to)
 moved_across-number h d fd to n differ is = let e = ap lowest (fds_held h to) in grind (arith, nat_tests, e, is, differ)
@@ -199,17 +194,6 @@ moved_across-machine h ms ds d fd to x differ opened' closed' =
     pick : fds.with_fds (fds.opened (machine_of h) to x) d (fds.freed (machine_of h) d fd) ≡ fds.given_to (machine_of h) d fd to x
     pick = grind (arith, nat_tests, differ)
 
--- the receiver may as well get it after the giver's number is free
-with_domain-comm : (ds : List (Domain (List Slice))) (d e : ℕ) (x y : Domain (List Slice)) → d ≢ e → with_domain_in (with_domain_in ds d x) e y ≡ with_domain_in (with_domain_in ds e y) d x
-unfolding with_domain_in
-with_domain-comm ds d e x y differ = elim (cases_eq d 0) [
-  | inl k ↦ grind (arith, nat_tests, k)
-  | inr k ↦ elim (cases_eq e 0) [
-    | inl l ↦ grind (arith, nat_tests, l)
-    | inr l ↦ (let c = set_comm ds (d - 1) (e - 1) x y (λ is. differ (omega (arith, is, k, l))) in grind (arith, nat_tests, k, l, c))
-  ]
-]
-
 across-turned : (ds ms : List (Domain (List Slice))) (d fd to : ℕ) (x : Descriptor) → d ≢ to → ms ≡ opened_in ds to x → with_fds_in ms d (slice_set (domain_in ms d).fds fd None) ≡ opened_in (with_fds_in ds d (slice_set (domain_in ds d).fds fd None)) to x
 across-turned ds ms d fd to x differ is =
     let xs : List (Option Descriptor) = (domain_in ds to).fds in
@@ -218,9 +202,9 @@ across-turned ds ms d fd to x differ is =
     let freed : Domain (List Slice) → Domain (List Slice) = λ y. record y { fds = slice_set y.fds fd None } in
     let opened : Domain (List Slice) → Domain (List Slice) = λ y. record y { fds = placed y.fds (lowest y.fds) x } in
     ap (λ (ys : List (Domain (List Slice))). with_domain_in ys d (freed (domain_in ys d))) is
-    ∙ ap (λ (y : Domain (List Slice)). with_domain_in (with_domain_in ds to got) d (freed y)) (domain_in-other ds to d got (λ e. differ (sym e)))
-    ∙ with_domain-comm ds to d got less (λ e. differ (sym e))
-    ∙ ap (λ (y : Domain (List Slice)). with_domain_in (with_domain_in ds d less) to (opened y)) (sym (domain_in-other ds d to less differ))
+    ∙ ap (λ (y : Domain (List Slice)). with_domain_in (with_domain_in ds to got) d (freed y)) (domain_in-with_other ds to d got (λ e. differ (sym e)))
+    ∙ with_domain_in-comm ds to d got less (λ e. differ (sym e))
+    ∙ ap (λ (y : Domain (List Slice)). with_domain_in (with_domain_in ds d less) to (opened y)) (sym (domain_in-with_other ds d to less differ))
 
 pub moved_across-sound : (h : Holding) (ms ds : List (Domain (List Slice))) (d fd to : ℕ) (x : Descriptor) → IsSound h → d ≢ to → (domain_in h.domains to).live ≡ true → (domain_in h.domains d).live ≡ true → in_place (domain_in h.domains d).fds fd ≡ Some x → IsOpenEnd h.pipes (Some x) → ms ≡ opened_in h.domains to x → ds ≡ with_fds_in ms d (slice_set (domain_in ms d).fds fd None) → IsSound (record h { domains = ds })
 moved_across-sound h ms ds d fd to x sound differ to_live live there open' opened' closed' =
@@ -228,7 +212,7 @@ moved_across-sound h ms ds d fd to x sound differ to_live live there open' opene
     let k : Holding = record h { domains = less } in
     let mid : IsSound k = freed-sound h less d fd x sound live there refl in
     let y : Domain (List Slice) = domain_in less to in
-    let same : y ≡ domain_in h.domains to = domain_in-other h.domains d to _ differ in
+    let same : y ≡ domain_in h.domains to = domain_in-with_other h.domains d to _ differ in
     let live' : y.live ≡ true = ap (λ (z : Domain (List Slice)). z.live) same ∙ to_live in
     let last : List (Option Descriptor) = placed y.fds (lowest y.fds) x in
     let once : IsOpenOnce (with_fds_in less to last) = record {

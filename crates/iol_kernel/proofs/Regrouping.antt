@@ -1,7 +1,5 @@
 -- Effects that regroup a domain's aggregates: its slices move, and the store counts those that were divided.
-use Rattle.std.proofs.Common.{◌≡◌, ◌≢◌, ℕ, ◌+◌, ◌<◌, ◌≤◌, List, [], ◌∷◌, ◌++◌, length, take, drop, ap, ◌∙◌, refl, sym, subst, arith, Option, Some, None, true, false, length-append}
-use Rattle.std.specs.Prelude.{nat_lt, ◌||◌}
-use Rattle.std.proofs.lemmas.Bool.Decides.{nat_tests}
+use Rattle.std.proofs.Common.{◌≡◌, ◌≢◌, ℕ, ◌+◌, ◌<◌, ◌≤◌, List, [], ◌∷◌, ◌++◌, length, take, drop, ap, ◌∙◌, refl, sym, subst, arith, Option, Some, None, true, length-append}
 use Rattle.std.proofs.lemmas.List.{map-append, length-take, length-drop}
 use Rattle.std.proofs.lemmas.List.Sums.{sum_by-append, sum_by_push}
 use Rattle.iol_core.specs.Text.{Text}
@@ -16,7 +14,7 @@ use Rattle.iol_hold.specs.Stored.{Stored}
 use Rattle.iol_hold.specs.Layout.{read}
 use Rattle.iol_hold.specs.Moves.{Shares, tally}
 use Rattle.iol_hold.specs.Places.{Place, places, byte_len}
-use Rattle.iol_hold.specs.Texts.{text_of, bufs_of, AllReadable}
+use Rattle.iol_hold.specs.Texts.{bufs_of, AllReadable}
 use Rattle.iol_hold.specs.declared.slices.Slice.{Slice}
 use Rattle.iol_hold.proofs.AtPlaces.{read_taken, read_rest, read-append}
 use Rattle.iol_hold.proofs.Counting.{tally-append, bufs-append}
@@ -26,11 +24,11 @@ use Rattle.iol_hold.proofs.Slicing.{byte_len-append}
 use Rattle.iol_desc.specs.Tables.{domain_in, with_domain_in, agg_in, live_aggs_in}
 use Rattle.iol_kernel.specs.Seen.{Pipe, meant, seen}
 use Rattle.iol_kernel.specs.Counted.{uses, domain_uses}
-use Rattle.iol_kernel.specs.Holding.{Holding, machine_of, Each, IsDomainReadable, IsSound, slices_in}
+use Rattle.iol_kernel.specs.Holding.{Holding, Each, IsDomainReadable, IsSound, slices_in}
 use Rattle.iol_kernel.specs.Regrouped.{with_two, with_one, joined_in, SplitsAgg}
 use Rattle.iol_kernel.specs.Sharing.{read_of, Changes}
-use Rattle.iol_kernel.proofs.Effects.{moved-sound, next_held}
-use Rattle.iol_kernel.proofs.Meant.{domain-seen, with_domain-seen, without-map, live_aggs-seen}
+use Rattle.iol_kernel.proofs.Effects.{moved-sound}
+use Rattle.iol_kernel.proofs.Meant.{domain-seen, with_domain-seen, without-map}
 use Rattle.iol_kernel.proofs.Once.{once_same}
 use Rattle.iol_kernel.proofs.Sound.{each-push, each-without, each-with_domain_in, aggs_readable, aggs_small, agg_readable, agg_small, fds_stay}
 use Rattle.iol_kernel.proofs.Uses.{sum-with_domain, uses-without, length-without}
@@ -54,26 +52,6 @@ regrouped-sound h t d x given taken sound live same shares readable counts small
       few_pipes = sound.limits.few_pipes;
     })
     (omega (arith, sound.few_pools, ap length shares.pools))
-
-live_aggs_held : (h : Holding) → machine.live_aggs (machine_of h) ≡ live_aggs_in h.domains
-unfolding machine_of
-live_aggs_held h = live_aggs-seen (text_of h.store) h.domains h.store.pools h.pipes
-
--- one more number
-pub few_one : (h : Holding) (d : ℕ) → aggs.too_many_aggs (machine_of h) d 1 2 ≡ false → (domain_in h.domains d).next_agg < 18446744073709551615
-few_one h d few = omega (arith, below (machine.live_aggs (machine_of h)) (machine.domain (machine_of h) d).next_agg few, next_held h d)
-  where
-    below : (n m : ℕ) → (nat_lt (65536 + 2) (n + 1) || nat_lt (18446744073709551614 + 1) (m + 1)) ≡ false → m < 18446744073709551615
-    below n m few = grind (arith, nat_tests, few)
-
--- two more numbers, and one more aggregate
-pub few_two : (h : Holding) (d : ℕ) → aggs.too_many_aggs (machine_of h) d 2 1 ≡ false → ((domain_in h.domains d).next_agg + 1 < 18446744073709551615) × (live_aggs_in h.domains < 65536)
-few_two h d few =
-    let both = below (machine.live_aggs (machine_of h)) (machine.domain (machine_of h) d).next_agg few in
-    (omega (arith, both.0, next_held h d), omega (arith, both.1, live_aggs_held h))
-  where
-    below : (n m : ℕ) → (nat_lt (65536 + 1) (n + 2) || nat_lt (18446744073709551614 + 1) (m + 2)) ≡ false → (m + 1 < 18446744073709551615) × (n < 65536)
-    below n m few = (grind (arith, nat_tests, few), grind (arith, nat_tests, few))
 
 -- An aggregate is split.
 

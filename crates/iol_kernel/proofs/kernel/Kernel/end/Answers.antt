@@ -11,7 +11,8 @@ use Rattle.iol_kernel.specs.Holding.{Holding, machine_of}
 use Rattle.iol_kernel.specs.Kernel.{holding}
 use Rattle.iol_kernel.proofs.Effects.{live_held, fds_held}
 use Rattle.iol_kernel.proofs.CloseAll.{ended_after}
-use Rattle.iol_kernel.proofs.GivenUp.{domain_in-changed, live_meant, ended-machine, ended-sound}
+use Rattle.iol_kernel.proofs.GivenUp.{live_meant, ended-machine, ended-sound}
+use Rattle.iol_kernel.proofs.Rows.{domain_in-changed}
 use Rattle.iol_kernel.proofs.kernel.Kernel.end.Goals as goal
 
 pub close_fds-requires-clause-live : goal.close_fds-requires-clause-live

@@ -1,9 +1,9 @@
-use Rattle.std.proofs.Common.{◌∙◌, sym}
+use Rattle.std.proofs.Common.{arith, ◌∙◌, sym}
 use Rattle.iol_desc.specs.Tables.{domains_of}
 use Rattle.iol_kernel.specs.Kernel.{holding}
-use Rattle.iol_kernel.proofs.Effects.{live_held, next_held}
+use Rattle.iol_kernel.proofs.Effects.{live_held, next_held, few_numbers}
 use Rattle.iol_kernel.proofs.Sharing.{changes_machine, changes_layout}
-use Rattle.iol_kernel.proofs.Gifts.{few_given, given-changes, given-sound}
+use Rattle.iol_kernel.proofs.Gifts.{given-changes, given-sound}
 use Rattle.iol_kernel.proofs.ReadOf.{next_agg-layout_of}
 use Rattle.iol_kernel.proofs.Slices.{there_held}
 use Rattle.iol_kernel.proofs.kernel.Kernel.give.Goals as goal
@@ -18,7 +18,7 @@ pub move_agg-requires-clause-there : goal.move_agg-requires-clause-there
 move_agg-requires-clause-there c = there_held (holding c.args.self.now) c.args.by c.args.agg c.requires.there
 
 pub move_agg-requires-clause-few : goal.move_agg-requires-clause-few
-move_agg-requires-clause-few c = few_given (holding c.args.self.now) c.args.to c.requires.few
+move_agg-requires-clause-few c = omega (arith, few_numbers (holding c.args.self.now) c.args.to 1 1 c.requires.few)
 
 pub returns-in-Ok-clause-number : goal.returns-in-Ok-clause-number
 returns-in-Ok-clause-number c = c.in-Ok.ensures.number ∙ sym (next_held (holding c.args.self.now) c.args.to)

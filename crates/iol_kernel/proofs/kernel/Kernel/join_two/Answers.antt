@@ -2,8 +2,8 @@ use Rattle.std.proofs.Common.{◌∙◌, sym, arith}
 use Rattle.iol_core.specs.Calls.Aggregates as calls
 use Rattle.iol_desc.specs.Tables.{domains_of}
 use Rattle.iol_kernel.specs.Kernel.{holding}
-use Rattle.iol_kernel.proofs.Effects.{live_held, next_held}
-use Rattle.iol_kernel.proofs.Regrouping.{few_one, join-changes, join-sound}
+use Rattle.iol_kernel.proofs.Effects.{live_held, next_held, few_numbers}
+use Rattle.iol_kernel.proofs.Regrouping.{join-changes, join-sound}
 use Rattle.iol_kernel.proofs.Sharing.{changes_machine, changes_layout}
 use Rattle.iol_kernel.proofs.ReadOf.{next_agg-layout_of, length_text-machine_of}
 use Rattle.iol_kernel.proofs.Slices.{there_held}
@@ -19,7 +19,7 @@ pub join_aggs-requires-clause-second : goal.join_aggs-requires-clause-second
 join_aggs-requires-clause-second c = there_held (holding c.args.self.now) c.args.by c.args.second c.requires.second
 
 pub join_aggs-requires-clause-few : goal.join_aggs-requires-clause-few
-join_aggs-requires-clause-few c = few_one (holding c.args.self.now) c.args.by c.requires.few
+join_aggs-requires-clause-few c = omega (arith, few_numbers (holding c.args.self.now) c.args.by 1 2 c.requires.few)
 
 pub join_aggs-requires-clause-small : goal.join_aggs-requires-clause-small
 join_aggs-requires-clause-small c =
