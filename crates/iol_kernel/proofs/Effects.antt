@@ -47,22 +47,22 @@ pub live_held : (h : Holding) (d : ℕ) → machine.is_live (machine_of h) d ≡
 unfolding machine_of
 live_held h d live = sym (ap (λ (x : Domain Text). x.live) (domain-seen (text_of h.store) h.domains h.store.pools h.pipes d)) ∙ live
 
-pub next_held : (h : Holding) (d : ℕ) → (machine.domain (machine_of h) d).next_agg ≡ (domain_in h.domains d).next_agg
+pub next_agg-machine_of : (h : Holding) (d : ℕ) → (machine.domain (machine_of h) d).next_agg ≡ (domain_in h.domains d).next_agg
 unfolding machine_of
-next_held h d = ap (λ (x : Domain Text). x.next_agg) (domain-seen (text_of h.store) h.domains h.store.pools h.pipes d)
+next_agg-machine_of h d = ap (λ (x : Domain Text). x.next_agg) (domain-seen (text_of h.store) h.domains h.store.pools h.pipes d)
 
-pub fds_held : (h : Holding) (d : ℕ) → (machine.domain (machine_of h) d).fds ≡ (domain_in h.domains d).fds
+pub fds-machine_of : (h : Holding) (d : ℕ) → (machine.domain (machine_of h) d).fds ≡ (domain_in h.domains d).fds
 unfolding machine_of
-fds_held h d = ap (λ (x : Domain Text). x.fds) (domain-seen (text_of h.store) h.domains h.store.pools h.pipes d)
+fds-machine_of h d = ap (λ (x : Domain Text). x.fds) (domain-seen (text_of h.store) h.domains h.store.pools h.pipes d)
 
-pub closed_held : (h : Holding) (p : ℕ) → (machine.pool (machine_of h) p).closed ≡ (pool_in h.store.pools p).closed
+pub closed-machine_of : (h : Holding) (p : ℕ) → (machine.pool (machine_of h) p).closed ≡ (pool_in h.store.pools p).closed
 unfolding machine_of
-closed_held h p = ap (λ (x : machine.Pool). x.closed) (pool-seen (text_of h.store) h.domains h.store.pools h.pipes p)
+closed-machine_of h p = ap (λ (x : machine.Pool). x.closed) (pool-seen (text_of h.store) h.domains h.store.pools h.pipes p)
 
 -- no more aggregates, and no more numbers, than there may be
 
 pub few_numbers : (h : Holding) (d made given : ℕ) → aggs.too_many_aggs (machine_of h) d made given ≡ false → (domain_in h.domains d).next_agg + made ≤ 18446744073709551615
-few_numbers h d made given few = omega (arith, next_held h d, within (machine.live_aggs (machine_of h)) (machine.domain (machine_of h) d).next_agg few)
+few_numbers h d made given few = omega (arith, next_agg-machine_of h d, within (machine.live_aggs (machine_of h)) (machine.domain (machine_of h) d).next_agg few)
   where
     within : (n m : ℕ) → (nat_lt (65536 + given) (n + made) || nat_lt (18446744073709551614 + 1) (m + made)) ≡ false → m + made ≤ 18446744073709551615
     within n m few = grind (arith, nat_tests, few)
@@ -181,18 +181,18 @@ pub unchanged-sound : (h : Holding) (t : Stored) (ds : List (Domain (List Slice)
 unchanged-sound h t ds sound store' domains' =
     subst (λ (s : Stored). IsSound (record h { store = s; domains = ds })) (sym store') (subst (λ (xs : List (Domain (List Slice))). IsSound (record h { domains = xs })) (sym domains') sound)
 
-pub is_pool_held : (h : Holding) (p : ℕ) → machine.is_pool (machine_of h) p ≡ is_numbered h.store.pools p
+pub is_pool-machine_of : (h : Holding) (p : ℕ) → machine.is_pool (machine_of h) p ≡ is_numbered h.store.pools p
 unfolding machine_of
-is_pool_held h p = is_pool-seen (text_of h.store) h.domains h.store.pools h.pipes p
+is_pool-machine_of h p = is_pool-seen (text_of h.store) h.domains h.store.pools h.pipes p
 
 -- there are no files and connections yet
 pub idle_held : (h : Holding) (p : ℕ) → pools.is_busy (machine_of h) p ≡ false
 unfolding machine_of seen
 idle_held h p = refl
 
-pub pools_held : (h : Holding) → length (machine_of h).pools ≡ length h.store.pools
+pub length_pools-machine_of : (h : Holding) → length (machine_of h).pools ≡ length h.store.pools
 unfolding machine_of
-pools_held h = length_pools-seen (text_of h.store) h.domains h.store.pools h.pipes
+length_pools-machine_of h = length_pools-seen (text_of h.store) h.domains h.store.pools h.pipes
 
 -- a domain's descriptors change
 

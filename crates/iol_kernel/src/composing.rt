@@ -91,6 +91,7 @@ fn add_replaced(
 impl Kernel {
     ghost use Rattle.iol_kernel.specs.Kernel.{holding};
 
+    /// Makes an aggregate of the same bytes once more.
     #[tactic(auto, using(crate::proofs::Stay::stay_rules))]
     pub fn agg_dup(&mut self, by: DomainId, agg: AggId) -> Result<AggId, Refusal>
         requires { IsSound (holding self.old) }
@@ -146,6 +147,7 @@ impl Kernel {
         }
     }
 
+    /// Makes an aggregate of the bytes `from..to` of another, which stays.
     #[tactic(auto, using(crate::proofs::Stay::stay_rules))]
     pub fn agg_cut(
         &mut self,
@@ -211,6 +213,7 @@ impl Kernel {
         }
     }
 
+    /// Makes an aggregate of the bytes of one, with those of another in place of `from..to`. Both stay.
     #[tactic(auto, using(crate::proofs::Stay::stay_rules))]
     pub fn agg_replace(
         &mut self,

@@ -53,6 +53,7 @@ fn move_agg(
 impl Kernel {
     ghost use Rattle.iol_kernel.specs.Kernel.{holding};
 
+    /// Moves an aggregate to a domain that may read all its bytes.
     #[tactic(auto, using(crate::proofs::Stay::stay_rules))]
     pub fn agg_give(&mut self, by: DomainId, agg: AggId, to: DomainId) -> Result<AggId, Refusal>
         requires { IsSound (holding self.old) }

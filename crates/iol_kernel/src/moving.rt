@@ -98,6 +98,7 @@ fn join_aggs(
 impl Kernel {
     ghost use Rattle.iol_kernel.specs.Kernel.{holding};
 
+    /// Splits an aggregate into the bytes before a place and those from it on.
     #[tactic(auto, using(crate::proofs::Stay::stay_rules))]
     pub fn agg_split(
         &mut self,
@@ -154,6 +155,7 @@ impl Kernel {
         }
     }
 
+    /// Joins two aggregates, the first and then the second.
     #[tactic(auto, using(crate::proofs::Stay::stay_rules))]
     pub fn agg_join(&mut self, by: DomainId, first: AggId, second: AggId) -> Result<AggId, Refusal>
         requires { IsSound (holding self.old) }

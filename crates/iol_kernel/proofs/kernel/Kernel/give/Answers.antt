@@ -1,7 +1,7 @@
 use Rattle.std.proofs.Common.{arith, ◌∙◌, sym}
 use Rattle.iol_desc.specs.Tables.{domains_of}
 use Rattle.iol_kernel.specs.Kernel.{holding}
-use Rattle.iol_kernel.proofs.Effects.{live_held, next_held, few_numbers}
+use Rattle.iol_kernel.proofs.Effects.{live_held, next_agg-machine_of, few_numbers}
 use Rattle.iol_kernel.proofs.Sharing.{changes_machine, changes_layout}
 use Rattle.iol_kernel.proofs.Gifts.{given-changes, given-sound}
 use Rattle.iol_kernel.proofs.ReadOf.{next_agg-layout_of}
@@ -21,7 +21,7 @@ pub move_agg-requires-clause-few : goal.move_agg-requires-clause-few
 move_agg-requires-clause-few c = omega (arith, few_numbers (holding c.args.self.now) c.args.to 1 1 c.requires.few)
 
 pub returns-in-Ok-clause-number : goal.returns-in-Ok-clause-number
-returns-in-Ok-clause-number c = c.in-Ok.ensures.number ∙ sym (next_held (holding c.args.self.now) c.args.to)
+returns-in-Ok-clause-number c = c.in-Ok.ensures.number ∙ sym (next_agg-machine_of (holding c.args.self.now) c.args.to)
 
 pub returns-in-Ok-clause-laid_number : goal.returns-in-Ok-clause-laid_number
 returns-in-Ok-clause-laid_number c = c.in-Ok.ensures.number ∙ sym (next_agg-layout_of (holding c.args.self.now) c.args.to)

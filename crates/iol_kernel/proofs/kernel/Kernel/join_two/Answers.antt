@@ -2,7 +2,7 @@ use Rattle.std.proofs.Common.{◌∙◌, sym, arith}
 use Rattle.iol_core.specs.Calls.Aggregates as calls
 use Rattle.iol_desc.specs.Tables.{domains_of}
 use Rattle.iol_kernel.specs.Kernel.{holding}
-use Rattle.iol_kernel.proofs.Effects.{live_held, next_held, few_numbers}
+use Rattle.iol_kernel.proofs.Effects.{live_held, next_agg-machine_of, few_numbers}
 use Rattle.iol_kernel.proofs.Regrouping.{join-changes, join-sound}
 use Rattle.iol_kernel.proofs.Sharing.{changes_machine, changes_layout}
 use Rattle.iol_kernel.proofs.ReadOf.{next_agg-layout_of, length_text-machine_of}
@@ -27,7 +27,7 @@ join_aggs-requires-clause-small c =
     omega (arith, c.requires.short, length_text-machine_of h c.args.by c.args.first, length_text-machine_of h c.args.by c.args.second)
 
 pub returns-in-Ok-clause-number : goal.returns-in-Ok-clause-number
-returns-in-Ok-clause-number c = c.in-Ok.ensures.number ∙ sym (next_held (holding c.args.self.now) c.args.by)
+returns-in-Ok-clause-number c = c.in-Ok.ensures.number ∙ sym (next_agg-machine_of (holding c.args.self.now) c.args.by)
 
 pub returns-in-Ok-clause-laid_number : goal.returns-in-Ok-clause-laid_number
 returns-in-Ok-clause-laid_number c = c.in-Ok.ensures.number ∙ sym (next_agg-layout_of (holding c.args.self.now) c.args.by)

@@ -1,7 +1,7 @@
 use Rattle.std.proofs.Common.{◌∙◌, sym, arith}
 use Rattle.iol_desc.specs.Tables.{domains_of}
 use Rattle.iol_kernel.specs.Kernel.{holding}
-use Rattle.iol_kernel.proofs.Effects.{live_held, next_held, few_numbers, few_aggs}
+use Rattle.iol_kernel.proofs.Effects.{live_held, next_agg-machine_of, few_numbers, few_aggs}
 use Rattle.iol_kernel.proofs.Sharing.{changes_machine, changes_layout}
 use Rattle.iol_kernel.proofs.Additions.{replaced-changes, replaced-sound}
 use Rattle.iol_kernel.proofs.ReadOf.{next_agg-layout_of, length_text-machine_of}
@@ -36,7 +36,7 @@ pub add_replaced-requires-clause-countable : goal.add_replaced-requires-clause-c
 add_replaced-requires-clause-countable c = thrice_countable (holding c.args.self.now) c.args.by c.args.agg c.args.other c.requires.sound
 
 pub returns-in-Ok-clause-number : goal.returns-in-Ok-clause-number
-returns-in-Ok-clause-number c = c.in-Ok.ensures.number ∙ sym (next_held (holding c.args.self.now) c.args.by)
+returns-in-Ok-clause-number c = c.in-Ok.ensures.number ∙ sym (next_agg-machine_of (holding c.args.self.now) c.args.by)
 
 pub returns-in-Ok-clause-laid_number : goal.returns-in-Ok-clause-laid_number
 returns-in-Ok-clause-laid_number c = c.in-Ok.ensures.number ∙ sym (next_agg-layout_of (holding c.args.self.now) c.args.by)

@@ -2,7 +2,7 @@ use Rattle.std.proofs.Common.{arith, ◌∙◌, ℕ, ◌+◌, ◌≤◌, ap, sym
 use Rattle.iol_core.specs.Calls.Aggregates as calls
 use Rattle.iol_desc.specs.Tables.{domains_of}
 use Rattle.iol_kernel.specs.Kernel.{holding}
-use Rattle.iol_kernel.proofs.Effects.{live_held, next_held, few_numbers, few_aggs}
+use Rattle.iol_kernel.proofs.Effects.{live_held, next_agg-machine_of, few_numbers, few_aggs}
 use Rattle.iol_kernel.proofs.Regrouping.{split-changes, split-sound}
 use Rattle.iol_kernel.proofs.Sharing.{changes_machine, changes_layout}
 use Rattle.iol_kernel.proofs.ReadOf.{next_agg-layout_of, length_text-machine_of}
@@ -32,7 +32,7 @@ split_agg-requires-clause-countable c =
     slices_countable h c.args.by c.args.agg c.requires.sound
 
 pub returns-in-Ok-clause-numbers : goal.returns-in-Ok-clause-numbers
-returns-in-Ok-clause-numbers c = c.in-Ok.ensures.numbers ∙ ap {B = ℕ × ℕ} (λ n. (n, n + 1)) (sym (next_held (holding c.args.self.now) c.args.by))
+returns-in-Ok-clause-numbers c = c.in-Ok.ensures.numbers ∙ ap {B = ℕ × ℕ} (λ n. (n, n + 1)) (sym (next_agg-machine_of (holding c.args.self.now) c.args.by))
 
 pub returns-in-Ok-clause-laid_numbers : goal.returns-in-Ok-clause-laid_numbers
 returns-in-Ok-clause-laid_numbers c = c.in-Ok.ensures.numbers ∙ ap {B = ℕ × ℕ} (λ n. (n, n + 1)) (sym (next_agg-layout_of (holding c.args.self.now) c.args.by))

@@ -1,6 +1,6 @@
 use Rattle.iol_desc.specs.Tables.{domains_of}
 use Rattle.std.proofs.Common.{◌∙◌, sym, inl, arith}
-use Rattle.iol_kernel.proofs.Effects.{live_held, next_held, few_numbers, few_aggs}
+use Rattle.iol_kernel.proofs.Effects.{live_held, next_agg-machine_of, few_numbers, few_aggs}
 use Rattle.iol_kernel.proofs.Ends.{there_if_open}
 use Rattle.iol_kernel.proofs.Uses.{queue_covered, countable}
 use Rattle.iol_hold.specs.Layout.{number_at}
@@ -26,7 +26,7 @@ pub take_from-requires-clause-few : goal.take_from-requires-clause-few
 take_from-requires-clause-few c = omega (arith, few_numbers (holding c.args.self.now) c.args.by 1 0 c.requires.few)
 
 pub returns-in-Ok-clause-number : goal.returns-in-Ok-clause-number
-returns-in-Ok-clause-number c = c.in-Ok.ensures.number ∙ sym (next_held (holding c.args.self.now) c.args.by)
+returns-in-Ok-clause-number c = c.in-Ok.ensures.number ∙ sym (next_agg-machine_of (holding c.args.self.now) c.args.by)
 
 pub returns-in-Ok-clause-number_laid : goal.returns-in-Ok-clause-number_laid
 unfolding layout_of read_of
