@@ -1,6 +1,5 @@
 -- A domain gets an aggregate of bytes that lie there already: for the machine, for the layout, and that all stays sound.
-use Rattle.std.proofs.Common.{◌≡◌, ◌≢◌, ℕ, ◌+◌, ◌-◌, ◌<◌, ◌≤◌, List, [], ◌++◌, length, length-append, take, drop, slice_range, ap, ◌∙◌, refl, sym, arith, Option, Some, None, true, false}
-use Rattle.std.specs.Prelude.{unwrap_or, option_map}
+use Rattle.std.proofs.Common.{◌≡◌, ℕ, ◌-◌, ◌<◌, ◌≤◌, List, ◌++◌, length, length-append, take, drop, slice_range, ap, ◌∙◌, refl, sym, arith, true}
 use Rattle.std.proofs.lemmas.List.Elements.{All-append, All-take, All-drop, All-same}
 use Rattle.std.proofs.lemmas.List.{take_all, length-take, length-drop}
 use Rattle.iol_core.specs.Text.{Text, part}
@@ -9,36 +8,22 @@ use Rattle.iol_core.specs.State.{State, Domain}
 use Rattle.iol_core.specs.Calls.Aggregates as aggs
 use Rattle.iol_pool.specs.Pools.{Pool}
 use Rattle.iol_hold.specs.Stored.{Stored}
-use Rattle.iol_hold.specs.Moves.{Covers, IsCountable}
 use Rattle.iol_hold.specs.Places.{Place, places, byte_len}
-use Rattle.iol_hold.specs.Layout.{read, number_at, layout_text}
-use Rattle.iol_hold.specs.Texts.{byte_at, text_of, bufs_of, AllReadable, IsThere}
+use Rattle.iol_hold.specs.Layout.{read}
+use Rattle.iol_hold.specs.Texts.{text_of, AllReadable, IsThere}
 use Rattle.iol_hold.specs.declared.slices.Slice.{Slice}
-use Rattle.iol_hold.proofs.AtPlaces.{length-read, read_same, read_cut, read_replaced}
-use Rattle.iol_hold.proofs.Counting.{tally-append, tally_none}
+use Rattle.iol_hold.proofs.AtPlaces.{read_same, read_cut, read_replaced}
 use Rattle.iol_hold.proofs.Moving.{shares_move, covers_given}
-use Rattle.iol_hold.proofs.Reading.{readable_stays, readable_none, length-text_of}
-use Rattle.iol_desc.specs.Tables.{domain_in, agg_in, live_aggs_in}
+use Rattle.iol_hold.proofs.Reading.{readable_stays, length-text_of}
+use Rattle.iol_desc.specs.Tables.{domain_in, live_aggs_in}
 use Rattle.iol_kernel.specs.Seen.{seen}
-use Rattle.iol_kernel.specs.Adding.{slices_in, replaced, AddsShared}
-use Rattle.iol_kernel.specs.Holding.{Holding, machine_of, layout_of, IsSound}
+use Rattle.iol_kernel.specs.Adding.{replaced, AddsShared}
+use Rattle.iol_kernel.specs.Holding.{Holding, machine_of, IsSound, slices_in}
 use Rattle.iol_kernel.specs.Sharing.{read_of, Changes}
-use Rattle.iol_kernel.proofs.Meant.{aggregate-seen, with_agg-seen, domain-seen}
-use Rattle.iol_kernel.proofs.Sound.{agg_readable, agg_small}
-use Rattle.iol_kernel.proofs.Uses.{agg_covered, all_few, uses_few, countable}
+use Rattle.iol_kernel.proofs.Meant.{with_agg-seen}
 use Rattle.iol_kernel.proofs.Effects.{placed-sound}
-use Rattle.iol_kernel.proofs.Sharing.{read_machine, read_layout}
-use Rattle.iol_kernel.proofs.Queueing.{none_held}
-
--- an aggregate's text, whatever is read at its places
-pub text-read : (f : Place → ℕ × ℕ) (h : Holding) (d a : ℕ) → machine.text (read_of f h) d a ≡ read f (slices_in h.domains d a)
-unfolding read_of
-text-read f h d a =
-    ap (λ (o : Option Text). unwrap_or o []) (aggregate-seen (read f) h.domains h.store.pools h.pipes d a) ∙ found (agg_in h.domains d a)
-  where
-    found : (o : Option (List Slice)) → unwrap_or (option_map (read f) o) [] ≡ read f (unwrap_or o [])
-    found None = refl
-    found (Some xs) = refl
+use Rattle.iol_kernel.proofs.ReadOf.{text-read_of, length_text-machine_of}
+use Rattle.iol_kernel.proofs.Slices.{slices_readable, slices_small}
 
 module _ (h : Holding) (t : Stored) (ds : List (Domain (List Slice))) (d : ℕ) (bytes : List Place) (adds : AddsShared h.store t h.domains ds d bytes) where
   added-read : (f : Place → ℕ × ℕ) → read_of f (record h { store = t; domains = ds }) ≡ aggs.with_agg (read_of f h) d (read f adds.slices)
@@ -66,73 +51,16 @@ module _ (h : Holding) (t : Stored) (ds : List (Domain (List Slice))) (d : ℕ) 
         added = adds.added;
       })
 
--- an aggregate of a sound holding, or none
-
-pub slices_readable : (h : Holding) (d a : ℕ) → IsSound h → AllReadable h.store (slices_in h.domains d a)
-slices_readable h d a sound = found (agg_in h.domains d a) (λ xs is. agg_readable h d a xs sound is)
-  where
-    found : (o : Option (List Slice)) → ((xs : List Slice) → Some xs ≡ o → AllReadable h.store xs) → AllReadable h.store (unwrap_or o [])
-    found None r = readable_none h.store
-    found (Some xs) r = r xs refl
-
-pub slices_small : (h : Holding) (d a : ℕ) → IsSound h → byte_len (slices_in h.domains d a) ≤ 16777216
-slices_small h d a sound = found (agg_in h.domains d a) (λ xs is. agg_small h d a xs sound is)
-  where
-    found : (o : Option (List Slice)) → ((xs : List Slice) → Some xs ≡ o → byte_len xs ≤ 16777216) → byte_len (unwrap_or o []) ≤ 16777216
-    found None r = omega arith
-    found (Some xs) r = r xs refl
-
-pub slices_covered : (h : Holding) (d a : ℕ) → IsSound h → (domain_in h.domains d).live ≡ true → Covers h.store (bufs_of (slices_in h.domains d a))
-slices_covered h d a sound live = found (agg_in h.domains d a) (λ xs is. agg_covered h.store h.domains h.pipes d a xs sound.counted live is)
-  where
-    found : (o : Option (List Slice)) → ((xs : List Slice) → Some xs ≡ o → Covers h.store (bufs_of xs)) → Covers h.store (bufs_of (unwrap_or o []))
-    found None r = record { each = λ b. omega (arith, tally_none b) }
-    found (Some xs) r = r xs refl
-
-pub slices_countable : (h : Holding) (d a : ℕ) → IsSound h → IsCountable h.store (bufs_of (slices_in h.domains d a))
-slices_countable h d a sound = countable h.store h.domains h.pipes (slices_in h.domains d a) sound.counted sound.limits (slices_small h d a sound)
-
--- of two aggregates, the first twice
-pub thrice_countable : (h : Holding) (d a b : ℕ) → IsSound h → IsCountable h.store (bufs_of (slices_in h.domains d a) ++ bufs_of (slices_in h.domains d a) ++ bufs_of (slices_in h.domains d b))
-thrice_countable h d a b sound =
-    let xs : List Slice = slices_in h.domains d a in
-    let ys : List Slice = slices_in h.domains d b in
-    record {
-      each = λ n. omega (
-        arith,
-        all_few n h.domains h.pipes sound.limits,
-        sound.counted.each n,
-        uses_few n xs,
-        uses_few n ys,
-        slices_small h d a sound,
-        slices_small h d b sound,
-        tally-append n (bufs_of xs) (bufs_of xs),
-        tally-append n (bufs_of xs ++ bufs_of xs) (bufs_of ys),
-      );
-    }
-
--- what the machine says of an aggregate, said of its slices
-
-pub slices_there : (h : Holding) (d a : ℕ) → aggs.lacks_agg (machine_of h) d a ≡ false → agg_in h.domains d a ≢ None
-slices_there h d a there = λ none. (let lacks = none_held h d a (sym none) in cc (lacks, there))
-
-pub length-text : (h : Holding) (d a : ℕ) → length (machine.text (machine_of h) d a) ≡ byte_len (slices_in h.domains d a)
-length-text h d a = ap (λ (s : State). length (machine.text s d a)) (read_machine h) ∙ ap length (text-read (byte_at h.store) h d a) ∙ length-read (byte_at h.store) (slices_in h.domains d a)
-
-pub next_laid : (h : Holding) (d : ℕ) → (machine.domain (layout_of h) d).next_agg ≡ (domain_in h.domains d).next_agg
-unfolding layout_of
-next_laid h d = ap (λ (x : Domain Text). x.next_agg) (domain-seen layout_text h.domains h.store.pools h.pipes d)
-
 -- Part of an aggregate, or all of it.
 
 module _ (h : Holding) (t : Stored) (ds : List (Domain (List Slice))) (d a from to : ℕ) (adds : AddsShared h.store t h.domains ds d (slice_range (places (slices_in h.domains d a)) from to)) where
   pub cut-changes : Changes (λ s. aggs.with_agg s d (part (machine.text s d a) from to)) h (record h { store = t; domains = ds })
   cut-changes = added-changes h t ds d _ adds (λ s. part (machine.text s d a) from to)
-      (λ f. read_cut f adds.slices (slices_in h.domains d a) from to adds.is_there ∙ ap (λ (u : Text). slice_range u from to) (sym (text-read f h d a)))
+      (λ f. read_cut f adds.slices (slices_in h.domains d a) from to adds.is_there ∙ ap (λ (u : Text). slice_range u from to) (sym (text-read_of f h d a)))
 
   pub dup-changes : from ≡ 0 → to ≡ byte_len (slices_in h.domains d a) → Changes (λ s. aggs.with_agg s d (machine.text s d a)) h (record h { store = t; domains = ds })
   dup-changes none all = added-changes h t ds d _ adds (λ s. machine.text s d a)
-      (λ f. read_same f adds.slices (slices_in h.domains d a) (adds.is_there ∙ whole (places (slices_in h.domains d a)) from to none all) ∙ sym (text-read f h d a))
+      (λ f. read_same f adds.slices (slices_in h.domains d a) (adds.is_there ∙ whole (places (slices_in h.domains d a)) from to none all) ∙ sym (text-read_of f h d a))
     where
       whole : (ps : List Place) (from to : ℕ) → from ≡ 0 → to ≡ length ps → slice_range ps from to ≡ ps
       whole ps from to none all = rw none (rw all (take_all (length ps - 0) ps (omega arith)))
@@ -146,26 +74,12 @@ module _ (h : Holding) (t : Stored) (ds : List (Domain (List Slice))) (d a from 
 
 -- An aggregate with another in place of a range.
 
-pub length-replaced : {A : Type 0} (xs ys : List A) (from to : ℕ) → from ≤ to → to ≤ length xs → length (replaced xs from to ys) ≡ from + length ys + (length xs - to)
-length-replaced xs ys from to ordered within = omega (
-  arith,
-  ordered,
-  within,
-  length-append (take from xs ++ ys) (drop to xs),
-  length-append (take from xs) ys,
-  length-take from xs,
-  length-drop to xs,
-)
-
-pub length-laid : (h : Holding) (d a : ℕ) → length (machine.text (layout_of h) d a) ≡ byte_len (slices_in h.domains d a)
-length-laid h d a = ap (λ (s : State). length (machine.text s d a)) (read_layout h) ∙ ap length (text-read number_at h d a) ∙ length-read number_at (slices_in h.domains d a)
-
 module _ (h : Holding) (t : Stored) (ds : List (Domain (List Slice))) (d a from to b : ℕ) (adds : AddsShared h.store t h.domains ds d (replaced (places (slices_in h.domains d a)) from to (places (slices_in h.domains d b)))) where
   pub replaced-changes : Changes (λ s. aggs.with_agg s d (replaced (machine.text s d a) from to (machine.text s d b))) h (record h { store = t; domains = ds })
   replaced-changes = added-changes h t ds d _ adds (λ s. replaced (machine.text s d a) from to (machine.text s d b))
       (λ f. read_replaced f adds.slices (slices_in h.domains d a) (slices_in h.domains d b) from to adds.is_there
-      ∙ ap (λ (u : Text). replaced u from to (read f (slices_in h.domains d b))) (sym (text-read f h d a))
-      ∙ ap (λ (u : Text). replaced (machine.text (read_of f h) d a) from to u) (sym (text-read f h d b)))
+      ∙ ap (λ (u : Text). replaced u from to (read f (slices_in h.domains d b))) (sym (text-read_of f h d a))
+      ∙ ap (λ (u : Text). replaced (machine.text (read_of f h) d a) from to u) (sym (text-read_of f h d b)))
 
   pub replaced-sound : IsSound h → (domain_in h.domains d).live ≡ true → live_aggs_in h.domains < 65536 → length (replaced (machine.text (machine_of h) d a) from to (machine.text (machine_of h) d b)) ≤ 16777216 → IsSound (record h { store = t; domains = ds })
   replaced-sound sound live few small =
@@ -188,8 +102,8 @@ module _ (h : Holding) (t : Stored) (ds : List (Domain (List Slice))) (d a from 
           let v : Text = machine.text (machine_of h) d b in
           omega (
             arith,
-            length-text h d a,
-            length-text h d b,
+            length_text-machine_of h d a,
+            length_text-machine_of h d b,
             length-append (take from x ++ y) (drop to x),
             length-append (take from x) y,
             length-take from x,

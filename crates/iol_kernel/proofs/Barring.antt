@@ -1,6 +1,6 @@
 -- The first byte that a domain may not read, found by slices: each has a byte, and all its bytes are of one pool.
-use Rattle.std.proofs.Common.{◌≡◌, ℕ, zero, suc, ◌+◌, ◌-◌, ◌==◌, Bool, not, cond, true, false, Option, Some, None, List, [], ◌∷◌, ◌++◌, map, refl, sym, ap, ◌∙◌, arith}
-use Rattle.std.specs.List.{find, list_any, range_with_len}
+use Rattle.std.proofs.Common.{◌≡◌, ℕ, zero, suc, ◌+◌, ◌-◌, Bool, not, cond, true, false, Option, Some, None, List, [], ◌∷◌, ◌++◌, map, refl, sym, ap, ◌∙◌, arith}
+use Rattle.std.specs.List.{find, range_with_len}
 use Rattle.std.specs.Option.{option_map, unwrap_or}
 use Rattle.std.proofs.lemmas.List.{map-append}
 use Rattle.iol_core.specs.Text.{Text, barred}
@@ -13,12 +13,10 @@ use Rattle.iol_hold.specs.Texts.{byte_at}
 use Rattle.iol_hold.proofs.AtPlaces.{keeps_bytes, keeps_numbers}
 use Rattle.iol_hold.specs.declared.slices.Slice.{Slice}
 use Rattle.iol_desc.specs.Tables.{agg_in}
-use Rattle.iol_kernel.specs.Adding.{slices_in}
-use Rattle.iol_kernel.specs.Holding.{Holding, machine_of, layout_of}
+use Rattle.iol_kernel.specs.Holding.{Holding, machine_of, layout_of, slices_in}
 use Rattle.iol_kernel.specs.Sharing.{read_of}
-use Rattle.iol_kernel.proofs.Meant.{pool-seen}
 use Rattle.iol_kernel.proofs.Sharing.{read_machine, read_layout}
-use Rattle.iol_kernel.proofs.Additions.{text-read}
+use Rattle.iol_kernel.proofs.ReadOf.{may_read-read_of, text-read_of}
 
 barred-cons : (may : ℕ → Bool) (b : ℕ × ℕ) (t : Text) → barred may (b ∷ t) ≡ cond (not (may b.1)) (Some b.1) (barred may t)
 barred-cons may b t = first (not (may b.1))
@@ -61,15 +59,11 @@ module _ (may : ℕ → Bool) (f : Place → ℕ × ℕ) (keeps : KeepsPools f) 
       first true = refl
       first false = refl
 
-pub may_read-read : (f : Place → ℕ × ℕ) (h : Holding) (d q : ℕ) → machine.may_read (read_of f h) d q ≡ names_in h.store.pools q d
-unfolding read_of
-may_read-read f h d q = ap (λ (x : machine.Pool). list_any (λ e. e == d) x.domains) (pool-seen (read f) h.domains h.store.pools h.pipes q)
-
 pub barred-read_of : (f : Place → ℕ × ℕ) → KeepsPools f → (h : Holding) (d a to : ℕ) → barred (machine.may_read (read_of f h) to) (machine.text (read_of f h) d a) ≡ option_map (λ x. x.hold.pool) (find (λ x. not (names_in h.store.pools x.hold.pool to)) (slices_in h.domains d a))
 barred-read_of f keeps h d a to =
-    let same : machine.may_read (read_of f h) to ≡ (λ q. names_in h.store.pools q to) = λ i. λ q. may_read-read f h to q i in
+    let same : machine.may_read (read_of f h) to ≡ (λ q. names_in h.store.pools q to) = λ i. λ q. may_read-read_of f h to q i in
     ap (λ (may : ℕ → Bool). barred may (machine.text (read_of f h) d a)) same
-    ∙ ap (barred (λ q. names_in h.store.pools q to)) (text-read f h d a)
+    ∙ ap (barred (λ q. names_in h.store.pools q to)) (text-read_of f h d a)
     ∙ barred-slices (λ q. names_in h.store.pools q to) f keeps (slices_in h.domains d a)
 
 -- the pool of the first of these slices that the domain may not read

@@ -1,15 +1,13 @@
 -- Closing, on the machine alone: it changes pipes and connections, and no domain.
-use Rattle.std.proofs.Common.{◌≡◌, ℕ, zero, suc, ◌-◌, List, [], ◌∷◌, ap, ◌∙◌, refl, sym, arith, inl, inr, Option, Some, None}
-use Rattle.std.specs.Prelude.{fold, slice_set}
-use Rattle.std.proofs.lemmas.Bool.{cases_eq}
-use Rattle.std.proofs.lemmas.Bool.Decides.{nat_tests}
-use Rattle.iol_core.specs.Numbered.{with_numbered}
+use Rattle.std.proofs.Common.{◌≡◌, ℕ, List, [], ◌∷◌, ap, ◌∙◌, refl, sym, Option, Some, None}
+use Rattle.std.specs.Prelude.{fold}
 use Rattle.iol_core.specs.Text.{Text}
 use Rattle.iol_core.specs.State as machine
 use Rattle.iol_core.specs.State.{State, Domain, no_domain}
 use Rattle.iol_core.specs.Calls.Descriptors as fds
 use Rattle.iol_core.specs.declared.descriptors.Descriptor.{Descriptor}
 use Rattle.iol_core.specs.declared.descriptors.Descriptor.TheVariants as on
+use Rattle.iol_kernel.proofs.Rows.{with_domain-twice}
 
 pub closed_on-with_domain : (s : State) (d : ℕ) (x : Domain Text) (o : Option Descriptor) → fds.closed_on (machine.with_domain s d x) o ≡ machine.with_domain (fds.closed_on s o) d x
 unfolding machine.with_domain machine.with_pipe machine.with_conn machine.pipe_at machine.conn_at
@@ -36,26 +34,11 @@ pub fold-with_domain : (s : State) (d : ℕ) (x : Domain Text) (os : List (Optio
 fold-with_domain s d x [] = refl
 fold-with_domain s d x (o ∷ os) = ap (λ (u : State). fold fds.closed_on u os) (closed_on-with_domain s d x o) ∙ fold-with_domain (fds.closed_on s o) d x os
 
-pub set-again : {A : Type 0} (xs : List A) (n : ℕ) (x y : A) → slice_set (slice_set xs n x) n y ≡ slice_set xs n y
-set-again [] n x y = refl
-set-again (z ∷ xs) zero x y = refl
-set-again (z ∷ xs) (suc n) x y = ap (λ ys. z ∷ ys) (set-again xs n x y)
-
-with_domain-again : (s : State) (d : ℕ) (x y : Domain Text) → machine.with_domain (machine.with_domain s d x) d y ≡ machine.with_domain s d y
-unfolding machine.with_domain
-with_domain-again s d x y = ap (λ (ds : List (Domain Text)). record s { domains = ds }) (again s.domains)
-  where
-    again : (ds : List (Domain Text)) → with_numbered (with_numbered ds d x) d y ≡ with_numbered ds d y
-    again ds = elim (cases_eq d 0) [
-      | inl k ↦ grind (arith, nat_tests, k)
-      | inr k ↦ (let e = set-again ds (d - 1) x y in grind (arith, nat_tests, k, e))
-    ]
-
 -- nothing is left of a domain, so what it had before does not matter
 pub ended_after : (m s : State) (d : ℕ) (x : Domain Text) (os : List (Option Descriptor)) → s ≡ machine.with_domain m d x → machine.with_domain (fold fds.closed_on (fds.with_fds s d []) os) d no_domain ≡ machine.with_domain (fold fds.closed_on m os) d no_domain
 ended_after m s d x os is =
     ap (λ (u : State). machine.with_domain u d no_domain) (fold-with_domain s d (record (machine.domain s d) { fds = [] }) os)
-    ∙ with_domain-again (fold fds.closed_on s os) d (record (machine.domain s d) { fds = [] }) no_domain
+    ∙ with_domain-twice (fold fds.closed_on s os) d (record (machine.domain s d) { fds = [] }) no_domain
     ∙ ap (λ (u : State). machine.with_domain (fold fds.closed_on u os) d no_domain) is
     ∙ ap (λ (u : State). machine.with_domain u d no_domain) (fold-with_domain m d x os)
-    ∙ with_domain-again (fold fds.closed_on m os) d x no_domain
+    ∙ with_domain-twice (fold fds.closed_on m os) d x no_domain

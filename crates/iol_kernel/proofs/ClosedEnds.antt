@@ -3,7 +3,7 @@ use Rattle.std.proofs.Common.{◌≡◌, ℕ, ◌+◌, ◌<◌, ◌≤◌, List,
 use Rattle.std.specs.Prelude.{slice_set, unwrap_or, option_map, if◌then◌else◌, ◌||◌, sum_by, cond, eqb}
 use Rattle.std.proofs.lemmas.Bool.{cases_eq}
 use Rattle.std.proofs.lemmas.Bool.Decides.{nat_tests}
-use Rattle.std.proofs.lemmas.List.{map-set, get_or-set_same, get_or-set_other, get_or_default}
+use Rattle.std.proofs.lemmas.List.{set-set, map-set, get_or-set_same, get_or-set_other, get_or_default}
 use Rattle.std.proofs.lemmas.List.Sums.{sum_by-set, sum_by-cons}
 use Rattle.iol_core.specs.Text.{Text}
 use Rattle.iol_core.specs.Numbered.{in_place}
@@ -27,15 +27,12 @@ use Rattle.iol_kernel.specs.Counted.{uses, pipe_uses, IsCounted}
 use Rattle.iol_kernel.specs.Ends.{same_end, on_end, ends_on, all_ends_on}
 use Rattle.iol_kernel.specs.Holding.{Holding, machine_of, Each, IsOpenEnd, IsPipeReadable, IsShort, IsLimited, IsSound, queue_at}
 use Rattle.iol_kernel.specs.ClosedEnds.{without_reader, without_writer, with_pipe_in, ClosesEnd, KeepsEnds}
-use Rattle.iol_kernel.proofs.Uses.{uses-set_pipe, uses_at}
+use Rattle.iol_kernel.proofs.Uses.{uses-set_pipe, uses_at, Pipes}
 use Rattle.iol_kernel.proofs.Sound.{each-set, counted_held}
-use Rattle.iol_kernel.proofs.Ends.{there_if_open}
+use Rattle.iol_kernel.proofs.Ends.{there_if_open, closed_pipe}
 use Rattle.iol_kernel.proofs.Effects.{moved-machine, moved-sound, same_length}
-use Rattle.iol_kernel.proofs.CloseAll.{set-again}
-use Rattle.iol_kernel.proofs.Queueing.{pipe_held, queue_readable, queue_short}
-
-abbrev pub Pipes : Type 0
-Pipes = List (Option (Pipe (List Slice)))
+use Rattle.iol_kernel.proofs.Queueing.{queue_readable, queue_short}
+use Rattle.iol_kernel.proofs.ReadOf.{pipe_at-machine_of}
 
 pub moves_same : (s : Stored) (xs : List BufId) → Moves s s xs xs
 moves_same s xs = let m = moves_none s in record { counts = record { each = λ b. refl }; stays = m.stays; still = m.still; tidy = m.tidy }
@@ -52,7 +49,7 @@ closes_gone s t old n p x y after same there is gone moves lists =
     let found : queue_at old p ≡ x = ap (queue_at old) (sym same) ∙ ap (λ (o : Option (Pipe (List Slice))). unwrap_or o (record { queue = []; reading = false; writing = false })) (sym there) in
     let become : after (queue_at old p) ≡ y = ap after found ∙ sym is in
     record {
-      pipes = set-again old n (Some y) None ∙ ap (λ k. slice_set old k None) same
+      pipes = set-set old n (Some y) None ∙ ap (λ k. slice_set old k None) same
           ∙ sym (ap (λ (z : Pipe (List Slice)). slice_set old p (if z.reading || z.writing then Some z else None)) (ap after found) ∙ rw gone refl);
       moves = subst (λ (z : Pipe (List Slice)). Moves s t (bufs_of z.queue) (bufs_of (after (queue_at old p)).queue)) (sym found) (subst (λ (z : Pipe (List Slice)). Moves s t (bufs_of x.queue) (bufs_of z.queue)) (sym become) moves);
       lists = lists;
@@ -87,20 +84,17 @@ closed-seen g ds ps qs p x =
 
 -- what the machine does to the pipe
 reader-machine : (h : Holding) (p : ℕ) → machine.with_pipe (machine_of h) p (pipe_meant (text_of h.store) (without_reader (queue_at h.pipes p))) ≡ fds.closed_on (machine_of h) (Some (on.ReadEnd p))
-reader-machine h p = ap (λ (y : machine.Pipe). machine.with_pipe (machine_of h) p (record y { queue = []; reading = false })) (sym (pipe_held h p))
+reader-machine h p = ap (λ (y : machine.Pipe). machine.with_pipe (machine_of h) p (record y { queue = []; reading = false })) (sym (pipe_at-machine_of h p))
 
 writer-machine : (h : Holding) (p : ℕ) → machine.with_pipe (machine_of h) p (pipe_meant (text_of h.store) (without_writer (queue_at h.pipes p))) ≡ fds.closed_on (machine_of h) (Some (on.WriteEnd p))
 unfolding machine.with_pipe
-writer-machine h p = gone (queue_at h.pipes p).queue (queue_at h.pipes p).reading ∙ ap (λ (y : machine.Pipe). machine.with_pipe (machine_of h) p (record y { writing = false })) (sym (pipe_held h p))
+writer-machine h p = gone (queue_at h.pipes p).queue (queue_at h.pipes p).reading ∙ ap (λ (y : machine.Pipe). machine.with_pipe (machine_of h) p (record y { writing = false })) (sym (pipe_at-machine_of h p))
   where
     gone : (q : List Slice) (r : Bool) → machine.with_pipe (machine_of h) p (record { queue = text_of h.store (if r then q else []); reading = r; writing = false }) ≡ machine.with_pipe (machine_of h) p (record { queue = text_of h.store q; reading = r; writing = false })
     gone q true = refl
     gone q false = refl
 
 -- other ends stay open
-
-abbrev closed_pipe : Pipe (List Slice)
-closed_pipe = record { queue = []; reading = false; writing = false }
 
 queue-here : (qs : Pipes) (p : ℕ) (o : Option (Pipe (List Slice))) → p < length qs → queue_at (slice_set qs p o) p ≡ unwrap_or o closed_pipe
 queue-here qs p o there = let none : Option (Pipe (List Slice)) = None in ap (λ (y : Option (Pipe (List Slice))). unwrap_or y closed_pipe) (get_or-set_same qs p o none there)
@@ -217,9 +211,6 @@ module _ (h : Holding) (t : Stored) (qs : Pipes) (p : ℕ) (sound : IsSound h) (
   pub reader_closed-machine : machine_of (record h { store = t; pipes = qs }) ≡ fds.closed_on (machine_of h) (Some (on.ReadEnd p))
   reader_closed-machine = closed_pipe-machine h t qs p (without_reader (queue_at h.pipes p)) sound reader_there closes (inl refl) (λ e. refl) ∙ reader-machine h p
 
-  pub reader_closed-keeps : KeepsEnds (on.ReadEnd p) h.pipes qs
-  reader_closed-keeps = subst (KeepsEnds (on.ReadEnd p) h.pipes) (sym closes.pipes) (reader_keeps h.pipes p reader_there)
-
   pub reader_closed-sound : all_ends_on (on.ReadEnd p) h.domains ≡ 0 → IsSound (record h { store = t; pipes = qs })
   reader_closed-sound free = closed_pipe-sound h t qs p (without_reader (queue_at h.pipes p)) sound reader_there closes (inl refl) (λ e. refl) (on.ReadEnd p) (reader_keeps h.pipes p reader_there) free
 
@@ -242,9 +233,6 @@ module _ (h : Holding) (t : Stored) (qs : Pipes) (p : ℕ) (sound : IsSound h) (
 
   pub writer_closed-machine : machine_of (record h { store = t; pipes = qs }) ≡ fds.closed_on (machine_of h) (Some (on.WriteEnd p))
   writer_closed-machine = closed_pipe-machine h t qs p (without_writer (queue_at h.pipes p)) sound writer_there closes writer_part (none_of (queue_at h.pipes p).queue (queue_at h.pipes p).reading) ∙ writer-machine h p
-
-  pub writer_closed-keeps : KeepsEnds (on.WriteEnd p) h.pipes qs
-  writer_closed-keeps = subst (KeepsEnds (on.WriteEnd p) h.pipes) (sym closes.pipes) (writer_keeps h.pipes p writer_there)
 
   pub writer_closed-sound : all_ends_on (on.WriteEnd p) h.domains ≡ 0 → IsSound (record h { store = t; pipes = qs })
   writer_closed-sound free =

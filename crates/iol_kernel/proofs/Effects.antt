@@ -3,7 +3,6 @@ use Rattle.std.proofs.Common.{◌≡◌, ℕ, ◌+◌, ◌<◌, ◌≤◌, List,
 use Rattle.std.specs.Prelude.{Result, Ok, Err, OnOk, nat_lt, ◌||◌}
 use Rattle.std.proofs.Common.{length-append}
 use Rattle.std.proofs.lemmas.Bool.Decides.{nat_tests}
-use Rattle.std.proofs.lemmas.List.Sums.{sum_by_push}
 use Rattle.iol_core.specs.declared.descriptors.Descriptor.{Descriptor}
 use Rattle.iol_core.specs.Text.{Text}
 use Rattle.iol_core.specs.Numbered.{with_numbered, is_numbered}
@@ -16,7 +15,6 @@ use Rattle.iol_pool.specs.Pools.{Pool, pool_in, with_closed}
 use Rattle.iol_pool.proofs.Owning.{length-closed}
 use Rattle.iol_hold.specs.Stored.{Stored, IsTidy, IsStill}
 use Rattle.iol_hold.specs.Moves.{Stays, Moves, SameLists, pool_meant}
-use Rattle.iol_hold.specs.Places.{byte_len}
 use Rattle.iol_hold.specs.Texts.{text_of, bufs_of}
 use Rattle.iol_hold.specs.declared.slices.Slice.{Slice}
 use Rattle.iol_hold.proofs.Counting.{tally_none}
@@ -27,9 +25,9 @@ use Rattle.iol_kernel.specs.Counted.{IsCounted}
 use Rattle.iol_kernel.specs.Ends.{IsOpenOnce}
 use Rattle.iol_kernel.specs.Holding.{Holding, machine_of, Each, IsDomainReadable, IsPipeReadable, IsOpenEnd, IsSound, IsLimited, AddsText}
 use Rattle.iol_kernel.proofs.Meant.{pool-seen, is_pool-seen, pools-seen, closed-seen, added_pool-seen, length_pools-seen, add_domain-seen, with_agg-seen, without_agg-seen, with_fds-seen, with_domain-seen, domain-seen, live_aggs-seen, length-map'}
-use Rattle.iol_kernel.proofs.Uses.{uses-new_domain, uses-with_agg, uses-without_agg}
-use Rattle.iol_kernel.proofs.Once.{once_same, once_new_domain}
-use Rattle.iol_kernel.proofs.Sound.{AreHeld, counted_held, domains_stay, pipes_stay, seen-stays, sound_with, sound_fds, ends_open, each-push, limits_agg, limits_drop, drop_readable, add_readable, fds_stay}
+use Rattle.iol_kernel.proofs.Uses.{uses-with_agg, uses-without_agg}
+use Rattle.iol_kernel.proofs.Once.{once_same}
+use Rattle.iol_kernel.proofs.Sound.{AreHeld, counted_held, domains_stay, pipes_stay, seen-stays, sound_with, sound_fds, ends_open, limits_agg, limits_drop, drop_readable, add_readable, fds_stay}
 
 -- a new domain
 
@@ -37,31 +35,7 @@ pub grown-machine : (h : Holding) (ds : List (Domain (List Slice))) → ds ≡ h
 unfolding machine_of
 grown-machine h ds is = ap (λ (xs : List (Domain (List Slice))). seen (text_of h.store) xs h.store.pools h.pipes) is ∙ add_domain-seen (text_of h.store) h.domains h.store.pools h.pipes
 
-pub grown-sound : (h : Holding) (ds : List (Domain (List Slice))) → IsSound h → ds ≡ h.domains ++ new_domain ∷ [] → IsSound (record h { domains = ds })
-grown-sound h ds sound is = subst (λ (xs : List (Domain (List Slice))). IsSound (record h { domains = xs })) (sym is) (record {
-  domains = each-push (IsDomainReadable h.store) h.domains new_domain sound.domains tt;
-  pipes = sound.pipes;
-  fds = each-push (λ (d : Domain (List Slice)). Each (IsOpenEnd h.pipes) d.fds) h.domains new_domain sound.fds tt;
-  once = once_new_domain h.domains sound.once;
-  counted = record { each = λ b. omega (arith, sound.counted.each b, uses-new_domain b h.domains) };
-  tidy = sound.tidy;
-  still = sound.still;
-  limits = record {
-    aggs = each-push (λ (d : Domain (List Slice)). Each (λ e. byte_len e.1 ≤ 16777216) d.aggs) h.domains new_domain sound.limits.aggs tt;
-    few = (let e = sum_by_push (λ (d : Domain (List Slice)). length d.aggs) h.domains new_domain in omega (arith, e, sound.limits.few));
-    queues = sound.limits.queues;
-    few_pipes = sound.limits.few_pipes;
-  };
-  few_pools = sound.few_pools;
-})
-
 -- a list of domains that is as it was
-
-pub same-machine : (h : Holding) (ds : List (Domain (List Slice))) → ds ≡ h.domains → machine_of (record h { domains = ds }) ≡ machine_of h
-same-machine h ds is = ap (λ (xs : List (Domain (List Slice))). machine_of (record h { domains = xs })) is
-
-pub same-sound : (h : Holding) (ds : List (Domain (List Slice))) → IsSound h → ds ≡ h.domains → IsSound (record h { domains = ds })
-same-sound h ds sound is = subst (λ (xs : List (Domain (List Slice))). IsSound (record h { domains = xs })) (sym is) sound
 
 pub on_ok : {A E P Q : Type 0} (r : Result A E) → (P → Q) → OnOk r P → OnOk r Q
 on_ok (Ok x) f h = f h
@@ -73,30 +47,32 @@ pub live_held : (h : Holding) (d : ℕ) → machine.is_live (machine_of h) d ≡
 unfolding machine_of
 live_held h d live = sym (ap (λ (x : Domain Text). x.live) (domain-seen (text_of h.store) h.domains h.store.pools h.pipes d)) ∙ live
 
-pub next_held : (h : Holding) (d : ℕ) → (machine.domain (machine_of h) d).next_agg ≡ (domain_in h.domains d).next_agg
+pub next_agg-machine_of : (h : Holding) (d : ℕ) → (machine.domain (machine_of h) d).next_agg ≡ (domain_in h.domains d).next_agg
 unfolding machine_of
-next_held h d = ap (λ (x : Domain Text). x.next_agg) (domain-seen (text_of h.store) h.domains h.store.pools h.pipes d)
+next_agg-machine_of h d = ap (λ (x : Domain Text). x.next_agg) (domain-seen (text_of h.store) h.domains h.store.pools h.pipes d)
 
-pub fds_held : (h : Holding) (d : ℕ) → (machine.domain (machine_of h) d).fds ≡ (domain_in h.domains d).fds
+pub fds-machine_of : (h : Holding) (d : ℕ) → (machine.domain (machine_of h) d).fds ≡ (domain_in h.domains d).fds
 unfolding machine_of
-fds_held h d = ap (λ (x : Domain Text). x.fds) (domain-seen (text_of h.store) h.domains h.store.pools h.pipes d)
+fds-machine_of h d = ap (λ (x : Domain Text). x.fds) (domain-seen (text_of h.store) h.domains h.store.pools h.pipes d)
 
-few_numbers : (n m : ℕ) → (nat_lt 65536 n || nat_lt (18446744073709551614 + 1) (m + 1)) ≡ false → m < 18446744073709551615
-few_numbers n m few = grind (arith, nat_tests, few)
-
-pub few_held : (h : Holding) (d : ℕ) → aggs.too_many_aggs (machine_of h) d 1 0 ≡ false → (domain_in h.domains d).next_agg < 18446744073709551615
-few_held h d few = subst (λ n. n < 18446744073709551615) (next_held h d) (few_numbers (machine.live_aggs (machine_of h) + 1) (machine.domain (machine_of h) d).next_agg few)
-
-pub closed_held : (h : Holding) (p : ℕ) → (machine.pool (machine_of h) p).closed ≡ (pool_in h.store.pools p).closed
+pub closed-machine_of : (h : Holding) (p : ℕ) → (machine.pool (machine_of h) p).closed ≡ (pool_in h.store.pools p).closed
 unfolding machine_of
-closed_held h p = ap (λ (x : machine.Pool). x.closed) (pool-seen (text_of h.store) h.domains h.store.pools h.pipes p)
+closed-machine_of h p = ap (λ (x : machine.Pool). x.closed) (pool-seen (text_of h.store) h.domains h.store.pools h.pipes p)
 
-pub few_live : (h : Holding) (d : ℕ) → aggs.too_many_aggs (machine_of h) d 1 0 ≡ false → live_aggs_in h.domains < 65536
-unfolding machine_of
-few_live h d few = omega (arith, live_aggs-seen (text_of h.store) h.domains h.store.pools h.pipes, below (machine.live_aggs (machine_of h)) (machine.domain (machine_of h) d).next_agg few)
+-- no more aggregates, and no more numbers, than there may be
+
+pub few_numbers : (h : Holding) (d made given : ℕ) → aggs.too_many_aggs (machine_of h) d made given ≡ false → (domain_in h.domains d).next_agg + made ≤ 18446744073709551615
+few_numbers h d made given few = omega (arith, next_agg-machine_of h d, within (machine.live_aggs (machine_of h)) (machine.domain (machine_of h) d).next_agg few)
   where
-    below : (n m : ℕ) → (nat_lt (65536 + 0) (n + 1) || nat_lt (18446744073709551614 + 1) (m + 1)) ≡ false → n < 65536
-    below n m few = grind (arith, nat_tests, few)
+    within : (n m : ℕ) → (nat_lt (65536 + given) (n + made) || nat_lt (18446744073709551614 + 1) (m + made)) ≡ false → m + made ≤ 18446744073709551615
+    within n m few = grind (arith, nat_tests, few)
+
+pub few_aggs : (h : Holding) (d made given : ℕ) → aggs.too_many_aggs (machine_of h) d made given ≡ false → live_aggs_in h.domains + made ≤ 65536 + given
+unfolding machine_of
+few_aggs h d made given few = omega (arith, live_aggs-seen (text_of h.store) h.domains h.store.pools h.pipes, within (machine.live_aggs (machine_of h)) (machine.domain (machine_of h) d).next_agg few)
+  where
+    within : (n m : ℕ) → (nat_lt (65536 + given) (n + made) || nat_lt (18446744073709551614 + 1) (m + made)) ≡ false → n + made ≤ 65536 + given
+    within n m few = grind (arith, nat_tests, few)
 
 -- the store goes on
 
@@ -205,22 +181,18 @@ pub unchanged-sound : (h : Holding) (t : Stored) (ds : List (Domain (List Slice)
 unchanged-sound h t ds sound store' domains' =
     subst (λ (s : Stored). IsSound (record h { store = s; domains = ds })) (sym store') (subst (λ (xs : List (Domain (List Slice))). IsSound (record h { domains = xs })) (sym domains') sound)
 
-pub unchanged-machine : (h : Holding) (t : Stored) (ds : List (Domain (List Slice))) → t ≡ h.store → ds ≡ h.domains → machine_of (record h { store = t; domains = ds }) ≡ machine_of h
-unchanged-machine h t ds store' domains' =
-    ap (λ (s : Stored). machine_of (record h { store = s; domains = ds })) store' ∙ ap (λ (xs : List (Domain (List Slice))). machine_of (record h { domains = xs })) domains'
-
-pub is_pool_held : (h : Holding) (p : ℕ) → machine.is_pool (machine_of h) p ≡ is_numbered h.store.pools p
+pub is_pool-machine_of : (h : Holding) (p : ℕ) → machine.is_pool (machine_of h) p ≡ is_numbered h.store.pools p
 unfolding machine_of
-is_pool_held h p = is_pool-seen (text_of h.store) h.domains h.store.pools h.pipes p
+is_pool-machine_of h p = is_pool-seen (text_of h.store) h.domains h.store.pools h.pipes p
 
 -- there are no files and connections yet
 pub idle_held : (h : Holding) (p : ℕ) → pools.is_busy (machine_of h) p ≡ false
 unfolding machine_of seen
 idle_held h p = refl
 
-pub pools_held : (h : Holding) → length (machine_of h).pools ≡ length h.store.pools
+pub length_pools-machine_of : (h : Holding) → length (machine_of h).pools ≡ length h.store.pools
 unfolding machine_of
-pools_held h = length_pools-seen (text_of h.store) h.domains h.store.pools h.pipes
+length_pools-machine_of h = length_pools-seen (text_of h.store) h.domains h.store.pools h.pipes
 
 -- a domain's descriptors change
 

@@ -12,11 +12,9 @@ use Rattle.iol_kernel.specs.Seen.{Pipe}
 use Rattle.iol_kernel.specs.Holding.{Each, IsOpenEnd, queue_at}
 use Rattle.iol_kernel.proofs.Once.{in_place-lowest}
 use Rattle.iol_kernel.proofs.Sound.{each-weaker}
+use Rattle.iol_kernel.proofs.Uses.{Pipes}
 
-abbrev pub Pipes : Type 0
-Pipes = List (Option (Pipe (List Slice)))
-
-abbrev closed_pipe : Pipe (List Slice)
+abbrev pub closed_pipe : Pipe (List Slice)
 closed_pipe = record { queue = []; reading = false; writing = false }
 
 lowest_within : {A : Type 0} (xs : List (Option A)) → lowest xs ≤ length xs

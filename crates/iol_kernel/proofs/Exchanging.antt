@@ -1,17 +1,16 @@
 -- What is put under a number in place of another, and taken away again.
-use Rattle.std.proofs.Common.{◌≡◌, ◌≢◌, ℕ, suc, ◌+◌, ◌-◌, ◌<◌, ◌≤◌, List, [], ◌∷◌, length, ap, ◌∙◌, refl, sym, arith, Option, Some, None, inl, inr, true}
-use Rattle.std.specs.Prelude.{unwrap_or}
+use Rattle.std.proofs.Common.{◌≡◌, ◌≢◌, ℕ, suc, ◌+◌, List, [], ◌∷◌, ap, ◌∙◌, refl, sym, arith, Some, None, inl, inr, true}
 use Rattle.std.proofs.lemmas.Bool.{cases_eq}
 use Rattle.std.proofs.lemmas.Bool.Decides.{nat_tests}
-use Rattle.std.proofs.lemmas.Grind.{common_steps}
-use Rattle.std.proofs.lemmas.List.{set-get_or, set-set, append_assoc}
+use Rattle.std.proofs.lemmas.List.{append_assoc}
 use Rattle.iol_core.specs.Numbered.{lookup, without}
-use Rattle.iol_core.specs.State.{Domain, no_domain}
+use Rattle.iol_core.specs.State.{Domain}
 use Rattle.iol_core.proofs.Lookups.{lookup-without}
 use Rattle.iol_desc.specs.Tables.{place_in, exchanged, domain_in, with_domain_in, with_aggs_in, agg_in, with_agg_in, without_agg_in, with_next}
 use Rattle.iol_hold.specs.declared.slices.Slice.{Slice}
-use Rattle.iol_kernel.specs.Regrouped.{slices_in, with_two, with_one}
-use Rattle.iol_kernel.proofs.Uses.{live_numbered}
+use Rattle.iol_kernel.specs.Regrouped.{with_two, with_one}
+use Rattle.iol_kernel.proofs.Rows.{domain_in-with_same, with_domain_in-twice, with_domain_in-same}
+use Rattle.iol_kernel.proofs.Uses.{Domains}
 
 -- Of one domain's entries.
 
@@ -71,31 +70,13 @@ without-twice (e ∷ es) m n = let r = without-twice es m n in elim (cases_eq e.
 
 -- Of a table, where one domain changes.
 
-abbrev Domains : Type 0
-Domains = List (Domain (List Slice))
-
-with_there : (ds : Domains) (d : ℕ) (x : Domain (List Slice)) → 0 < d → d ≤ length ds → domain_in (with_domain_in ds d x) d ≡ x
-unfolding domain_in with_domain_in
-with_there ds d x lo hi = grind (arith, nat_tests, common_steps, lo, hi)
-
-pub domain_in-with : (ds : Domains) (d : ℕ) (x : Domain (List Slice)) → (domain_in ds d).live ≡ true → domain_in (with_domain_in ds d x) d ≡ x
-domain_in-with ds d x live = let n = live_numbered ds d live in with_there ds d x n.0 n.1
-
-pub with_domain_in-twice : (ds : Domains) (d : ℕ) (x y : Domain (List Slice)) → with_domain_in (with_domain_in ds d x) d y ≡ with_domain_in ds d y
-unfolding with_domain_in
-with_domain_in-twice ds d x y = let e = set-set ds (d - 1) x y in elim (cases_eq d 0) [ inl k ↦ grind (arith, nat_tests, k) | inr k ↦ grind (arith, nat_tests, k, e) ]
-
-pub with_domain_in-same : (ds : Domains) (d : ℕ) → with_domain_in ds d (domain_in ds d) ≡ ds
-unfolding domain_in with_domain_in
-with_domain_in-same ds d = let e = set-get_or ds (d - 1) no_domain in elim (cases_eq d 0) [ inl k ↦ grind (arith, nat_tests, k) | inr k ↦ grind (arith, nat_tests, k, e) ]
-
 -- a domain that changed already changes once more
 pub changed_again : (F : Domain (List Slice) → Domain (List Slice)) (ds ms rs : Domains) (d : ℕ) (x : Domain (List Slice)) → (domain_in ds d).live ≡ true → ms ≡ with_domain_in ds d x → rs ≡ with_domain_in ms d (F (domain_in ms d)) → rs ≡ with_domain_in ds d (F x)
 changed_again F ds ms rs d x live is then =
     then
     ∙ ap (λ (ys : Domains). with_domain_in ys d (F (domain_in ys d))) is
     ∙ with_domain_in-twice ds d x (F (domain_in (with_domain_in ds d x) d))
-    ∙ ap (λ (y : Domain (List Slice)). with_domain_in ds d (F y)) (domain_in-with ds d x live)
+    ∙ ap (λ (y : Domain (List Slice)). with_domain_in ds d (F y)) (domain_in-with_same ds d x live)
 
 -- An aggregate is put away and another stands for it; then that one is taken away, or the first comes back.
 
@@ -132,24 +113,13 @@ split_table ds rs fs ss d a first second live rest one two =
     changed_again (λ y. with_next y second) ds fs ss d (with_next (with_aggs x (without x.aggs a)) first) live e two
     ∙ ap (λ (y : Domain (List Slice)). with_domain_in ds d y) (two_numbered x a first second)
 
--- the slices of an aggregate that was found
-pub slices_found : (ds : Domains) (d a : ℕ) (xs : List Slice) → Some xs ≡ agg_in ds d a → xs ≡ slices_in ds d a
-slices_found ds d a xs found = ap (λ (o : Option (List Slice)). unwrap_or o []) found
-
-pub found_slices : (ds : Domains) (d a : ℕ) → agg_in ds d a ≢ None → Some (slices_in ds d a) ≡ agg_in ds d a
-found_slices ds d a there = of (agg_in ds d a) there
-  where
-    of : (o : Option (List Slice)) → o ≢ None → Some (unwrap_or o []) ≡ o
-    of None none = absurd (none refl)
-    of (Some xs) some = refl
-
 -- One aggregate in place of two.
 
 -- what another number stands for stays
 pub other_found : (ds ms : Domains) (d a b : ℕ) (z : List Slice) → (domain_in ds d).live ≡ true → a ≢ b → ms ≡ with_aggs_in ds d (exchanged (domain_in ds d).aggs a z) → agg_in ms d b ≡ agg_in ds d b
 other_found ds ms d a b z live differ is =
     ap (λ (ys : Domains). agg_in ys d b) is
-    ∙ ap (λ (y : Domain (List Slice)). lookup y.aggs b) (domain_in-with ds d (with_aggs (domain_in ds d) (exchanged (domain_in ds d).aggs a z)) live)
+    ∙ ap (λ (y : Domain (List Slice)). lookup y.aggs b) (domain_in-with_same ds d (with_aggs (domain_in ds d) (exchanged (domain_in ds d).aggs a z)) live)
     ∙ lookup-exchanged_other (domain_in ds d).aggs a b z differ
 
 pub join_table : (ds fs ss rs ts js : Domains) (d a b : ℕ) (y z whole : List Slice) → (domain_in ds d).live ≡ true → fs ≡ with_aggs_in ds d (exchanged (domain_in ds d).aggs a y) → ss ≡ with_aggs_in fs d (exchanged (domain_in fs d).aggs b z)
@@ -165,7 +135,7 @@ join_table ds fs ss rs ts js d a b y z whole live one two three four five =
     ∙ ap (λ (es : List (ℕ × List Slice)). with_domain_in ds d (with_next (with_aggs x es) whole)) (without-twice twice a b ∙ ap (λ (es : List (ℕ × List Slice)). without es a) (without-exchanged once b z) ∙ without-twice once b a ∙ ap (λ (es : List (ℕ × List Slice)). without es b) (without-exchanged x.aggs a y))
 
 still_live : (ds ms : Domains) (d : ℕ) (es : List (ℕ × List Slice)) → (domain_in ds d).live ≡ true → ms ≡ with_aggs_in ds d es → (domain_in ms d).live ≡ true
-still_live ds ms d es live is = ap (λ (ys : Domains). (domain_in ys d).live) is ∙ ap (λ (y : Domain (List Slice)). y.live) (domain_in-with ds d (with_aggs (domain_in ds d) es) live) ∙ live
+still_live ds ms d es live is = ap (λ (ys : Domains). (domain_in ys d).live) is ∙ ap (λ (y : Domain (List Slice)). y.live) (domain_in-with_same ds d (with_aggs (domain_in ds d) es) live) ∙ live
 
 -- both come back, the second first
 pub both_back : (ds fs ss bs rs : Domains) (d a b : ℕ) (y z xs ys : List Slice) → (domain_in ds d).live ≡ true → Some xs ≡ agg_in ds d a → Some ys ≡ agg_in fs d b → fs ≡ with_aggs_in ds d (exchanged (domain_in ds d).aggs a y)
@@ -174,4 +144,4 @@ both_back ds fs ss bs rs d a b y z xs ys live first second one two three four =
     let mid : bs ≡ fs = put_back fs ss bs d b z ys (still_live ds fs d (exchanged (domain_in ds d).aggs a y) live one) second two three in
     put_back ds fs rs d a y xs live first one (four ∙ ap (λ (vs : Domains). with_aggs_in vs d (exchanged (domain_in vs d).aggs a xs)) mid)
 
-pub ruleset table_rules = (domain_in-with, lookup-exchanged, lookup-exchanged_other, lookup-without)
+pub ruleset table_rules = (domain_in-with_same, lookup-exchanged, lookup-exchanged_other, lookup-without)

@@ -1,7 +1,7 @@
 -- What is written to queues and read from them, whatever is read at the places.
-use Rattle.std.proofs.Common.{◌≡◌, ℕ, ◌+◌, ◌-◌, ◌<◌, ◌==◌, cond, List, [], ◌∷◌, ◌++◌, length, take, drop, ap, ◌∙◌, refl, sym, arith, Option, Some, None, true, false, Bool}
+use Rattle.std.proofs.Common.{◌≡◌, ℕ, ◌+◌, ◌-◌, ◌<◌, cond, List, [], ◌∷◌, ◌++◌, length, take, drop, ap, ◌∙◌, refl, sym, arith, Option, Some, None, true, false, Bool}
 use Rattle.std.specs.Prelude.{slice_set, ◌||◌, min, not, option_map, option_and_then, if◌then◌else◌}
-use Rattle.std.specs.List.{list_any, prefix_len, slice_get}
+use Rattle.std.specs.List.{prefix_len, slice_get}
 use Rattle.std.proofs.lemmas.Bool.Decides.{nat_tests}
 use Rattle.iol_core.specs.Text.{Text, admitted, barred}
 use Rattle.iol_core.specs.State as machine
@@ -16,31 +16,22 @@ use Rattle.iol_hold.specs.Places.{Place, places, byte_len}
 use Rattle.iol_hold.specs.Layout.{read, KeepsPools}
 use Rattle.iol_hold.specs.Texts.{bufs_of}
 use Rattle.iol_hold.specs.declared.slices.Slice.{Slice}
-use Rattle.iol_hold.proofs.AtPlaces.{length-read, read_pushed}
+use Rattle.iol_hold.proofs.AtPlaces.{read_pushed}
 use Rattle.iol_pipe.proofs.Given.{read_given, read_left, first_pool-read}
 use Rattle.iol_pipe.specs.Queue.{first_pool}
 use Rattle.iol_desc.specs.Tables.{agg_in}
 use Rattle.iol_kernel.specs.Seen.{Pipe, pipe_meant, seen}
 use Rattle.iol_kernel.specs.Holding.{Holding, TakesFront, queue_at}
 use Rattle.iol_kernel.specs.Sharing.{read_of, Changes}
-use Rattle.iol_kernel.proofs.Meant.{pipe_at-seen, with_pipe-seen, with_agg-seen, text-seen, pool-seen}
+use Rattle.iol_kernel.proofs.Meant.{with_pipe-seen, with_agg-seen}
+use Rattle.iol_kernel.proofs.ReadOf.{may_read-read_of, text-read_of, length_text-read_of, pipe_at-read_of, queue-read_of, length_queue-read_of}
+use Rattle.iol_kernel.proofs.Slices.{slices_found}
 
 left_true : (a b : Bool) → a ≡ true → (a || b) ≡ true
 left_true a b e = grind (arith, nat_tests, e)
 
 right_true : (a b : Bool) → b ≡ true → (a || b) ≡ true
 right_true a b e = grind (arith, nat_tests, e)
-
-pub pipe_read : (f : Place → ℕ × ℕ) (h : Holding) (p : ℕ) → machine.pipe_at (read_of f h) p ≡ pipe_meant (read f) (queue_at h.pipes p)
-unfolding read_of
-pipe_read f h p = pipe_at-seen (read f) h.domains h.store.pools h.pipes [] p refl
-
-pub queue_read : (f : Place → ℕ × ℕ) (h : Holding) (p : ℕ) → (machine.pipe_at (read_of f h) p).queue ≡ read f (queue_at h.pipes p).queue
-queue_read f h p = ap (λ (x : machine.Pipe). x.queue) (pipe_read f h p)
-
-pub text_read : (f : Place → ℕ × ℕ) (h : Holding) (d a : ℕ) (xs : List Slice) → Some xs ≡ agg_in h.domains d a → read f xs ≡ machine.text (read_of f h) d a
-unfolding read_of
-text_read f h d a xs found = sym (text-seen (read f) h.domains h.store.pools h.pipes d a xs found)
 
 -- Writing: the queue gets what fits.
 
@@ -57,13 +48,13 @@ module _ (h : Holding) (t : Stored) (qs : List (Option (Pipe (List Slice)))) (p 
       let x : Pipe (List Slice) = record (queue_at h.pipes p) { queue = (queue_at qs p).queue } in
       let q : read f (queue_at qs p).queue ≡ (machine.pipe_at m p).queue ++ take n (machine.text m d a) =
       read_pushed f (queue_at qs p).queue (queue_at h.pipes p).queue from n places'
-      ∙ ap (λ (t : Text). t ++ take n (read f from)) (sym (queue_read f h p))
-      ∙ ap (λ (t : Text). (machine.pipe_at m p).queue ++ take n t) (text_read f h d a from found) in
+      ∙ ap (λ (t : Text). t ++ take n (read f from)) (sym (queue-read_of f h p))
+      ∙ ap (λ (t : Text). (machine.pipe_at m p).queue ++ take n t) (ap (read f) (slices_found h.domains d a from found) ∙ sym (text-read_of f h d a)) in
       ap (λ (ps : List Pool). seen (read f) h.domains ps qs) shares.pools
       ∙ ap (λ (ys : List (Option (Pipe (List Slice)))). seen (read f) h.domains h.store.pools ys) pipes'
       ∙ with_pipe-seen (read f) h.domains h.store.pools h.pipes p x (right_true x.reading x.writing writing)
       ∙ ap (λ (t : Text). machine.with_pipe m p (record (pipe_meant (read f) (queue_at h.pipes p)) { queue = t })) q
-      ∙ ap (λ (y : machine.Pipe). machine.with_pipe m p (record y { queue = (machine.pipe_at m p).queue ++ take n (machine.text m d a) })) (sym (pipe_read f h p))
+      ∙ ap (λ (y : machine.Pipe). machine.with_pipe m p (record y { queue = (machine.pipe_at m p).queue ++ take n (machine.text m d a) })) (sym (pipe_at-read_of f h p))
 
   pub pushed-changes : Changes (after_push p n d a) h (record h { store = t; pipes = qs })
   pushed-changes = record { each = λ f keeps. pushed-read f; arena = shares.arena }
@@ -76,10 +67,6 @@ admitted-same f g t same = ap (λ n. take n t) (prefix t)
     prefix : (xs : Text) → prefix_len (λ b. f b.1) xs ≡ prefix_len (λ b. g b.1) xs
     prefix [] = refl
     prefix (x ∷ xs) = ap (λ b. cond b (1 + prefix_len (λ b. f b.1) xs) 0) (same x.1) ∙ ap (λ n. cond (g x.1) (1 + n) 0) (prefix xs)
-
-pub may_read_read : (f : Place → ℕ × ℕ) (h : Holding) (d q : ℕ) → names_in h.store.pools q d ≡ machine.may_read (read_of f h) d q
-unfolding read_of
-may_read_read f h d q = sym (ap (λ (x : machine.Pool). list_any (λ e. e == d) x.domains) (pool-seen (read f) h.domains h.store.pools h.pipes q))
 
 abbrev pub after_take : (p d n : ℕ) → State → State
 after_take p d n s =
@@ -96,12 +83,12 @@ module _ (h : Holding) (t : Stored) (ds : List (Domain (List Slice))) (qs : List
       let u : Text = admitted (machine.may_read m d) (take n (machine.pipe_at m p).queue) in
       let first : read f takes.slices ≡ u =
       read_given f keeps takes.slices (queue_at h.pipes p).queue h.store.pools d n takes.given
-      ∙ admitted-same (λ q. names_in h.store.pools q d) (machine.may_read m d) (take n (read f (queue_at h.pipes p).queue)) (may_read_read f h d)
-      ∙ ap (λ (q : Text). admitted (machine.may_read m d) (take n q)) (sym (queue_read f h p)) in
+      ∙ admitted-same (λ q. names_in h.store.pools q d) (machine.may_read m d) (take n (read f (queue_at h.pipes p).queue)) (λ q. sym (may_read-read_of f h d q))
+      ∙ ap (λ (q : Text). admitted (machine.may_read m d) (take n q)) (sym (queue-read_of f h p)) in
       let left : read f (queue_at qs p).queue ≡ drop (length u) (machine.pipe_at m p).queue =
       read_left f keeps takes.slices (queue_at qs p).queue (queue_at h.pipes p).queue h.store.pools d n takes.given takes.left
       ∙ ap (λ (v : Text). drop (length v) (read f (queue_at h.pipes p).queue)) (sym (read_given f keeps takes.slices (queue_at h.pipes p).queue h.store.pools d n takes.given) ∙ first)
-      ∙ ap (λ (q : Text). drop (length u) q) (sym (queue_read f h p)) in
+      ∙ ap (λ (q : Text). drop (length u) q) (sym (queue-read_of f h p)) in
       ap (λ (ps : List Pool). seen (read f) ds ps qs) takes.shares.pools
       ∙ ap (λ (ys : List (Option (Pipe (List Slice)))). seen (read f) ds h.store.pools ys) pipes'
       ∙ ap (λ (ys : List (Domain (List Slice))). seen (read f) ys h.store.pools less) takes.added
@@ -109,31 +96,17 @@ module _ (h : Holding) (t : Stored) (ds : List (Domain (List Slice))) (qs : List
       ∙ ap (λ (s : State). aggs.with_agg s d (read f takes.slices)) (with_pipe-seen (read f) h.domains h.store.pools h.pipes p x (left_true x.reading x.writing reading'))
       ∙ ap (λ (v : Text). aggs.with_agg (machine.with_pipe m p (pipe_meant (read f) x)) d v) first
       ∙ ap (λ (v : Text). aggs.with_agg (machine.with_pipe m p (record (pipe_meant (read f) (queue_at h.pipes p)) { queue = v })) d u) left
-      ∙ ap (λ (y : machine.Pipe). aggs.with_agg (machine.with_pipe m p (record y { queue = drop (length u) (machine.pipe_at m p).queue })) d u) (sym (pipe_read f h p))
+      ∙ ap (λ (y : machine.Pipe). aggs.with_agg (machine.with_pipe m p (record y { queue = drop (length u) (machine.pipe_at m p).queue })) d u) (sym (pipe_at-read_of f h p))
 
   pub taken-changes : Changes (after_take p d n) h (record h { store = t; domains = ds; pipes = qs })
   taken-changes = record { each = taken-read; arena = takes.shares.arena }
-
--- Tests on a queue.
-
-pub length_queue : (f : Place → ℕ × ℕ) (h : Holding) (p : ℕ) → length (machine.pipe_at (read_of f h) p).queue ≡ byte_len (queue_at h.pipes p).queue
-length_queue f h p = ap length (queue_read f h p) ∙ length-read f (queue_at h.pipes p).queue
-
-pub reading_read : (f : Place → ℕ × ℕ) (h : Holding) (p : ℕ) → (queue_at h.pipes p).reading ≡ (machine.pipe_at (read_of f h) p).reading
-reading_read f h p = sym (ap (λ (x : machine.Pipe). x.reading) (pipe_read f h p))
-
-pub writing_read : (f : Place → ℕ × ℕ) (h : Holding) (p : ℕ) → (queue_at h.pipes p).writing ≡ (machine.pipe_at (read_of f h) p).writing
-writing_read f h p = sym (ap (λ (x : machine.Pipe). x.writing) (pipe_read f h p))
-
-pub length_text : (f : Place → ℕ × ℕ) (h : Holding) (d a : ℕ) (xs : List Slice) → Some xs ≡ agg_in h.domains d a → length (machine.text (read_of f h) d a) ≡ byte_len xs
-length_text f h d a xs found = ap length (sym (text_read f h d a xs found)) ∙ length-read f xs
 
 -- how many bytes of an aggregate fit
 pub fits : (f : Place → ℕ × ℕ) (h : Holding) (p d a : ℕ) (xs : List Slice) (n : ℕ) → Some xs ≡ agg_in h.domains d a → n ≡ min (byte_len xs) (65536 - byte_len (queue_at h.pipes p).queue) → n ≡ min (length (machine.text (read_of f h) d a)) (65536 - length (machine.pipe_at (read_of f h) p).queue)
 fits f h p d a xs n found is =
     is
-    ∙ ap (λ k. min k (65536 - byte_len (queue_at h.pipes p).queue)) (sym (length_text f h d a xs found))
-    ∙ ap (λ k. min (length (machine.text (read_of f h) d a)) (65536 - k)) (sym (length_queue f h p))
+    ∙ ap (λ k. min k (65536 - byte_len (queue_at h.pipes p).queue)) (ap byte_len (slices_found h.domains d a xs found) ∙ sym (length_text-read_of f h d a))
+    ∙ ap (λ k. min (length (machine.text (read_of f h) d a)) (65536 - k)) (sym (length_queue-read_of f h p))
 
 -- the first byte's pool, where the reader may not read it
 
@@ -146,7 +119,7 @@ denied_at m d o = option_and_then (λ q. if machine.may_read m d q then None els
 barred_first : (f : Place → ℕ × ℕ) → KeepsPools f → (h : Holding) (d p n : ℕ) → 0 < n → first_barred (read_of f h) d p n ≡ denied_at (read_of f h) d (first_pool (queue_at h.pipes p).queue)
 barred_first f keeps h d p n some =
     let m : State = read_of f h in
-    ap (λ (t : Text). barred (machine.may_read m d) (take (min n 1) t)) (queue_read f h p)
+    ap (λ (t : Text). barred (machine.may_read m d) (take (min n 1) t)) (queue-read_of f h p)
     ∙ ap (λ k. barred (machine.may_read m d) (take k (read f (queue_at h.pipes p).queue))) one
     ∙ first m (read f (queue_at h.pipes p).queue)
     ∙ ap (λ (o : Option ℕ). denied_at m d o) (sym (first_pool-read f keeps (queue_at h.pipes p).queue))

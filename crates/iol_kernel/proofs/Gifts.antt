@@ -1,12 +1,10 @@
 -- An aggregate goes from one domain to another, or to the same under a new number.
-use Rattle.std.proofs.Common.{◌≡◌, ◌≢◌, ℕ, zero, suc, ◌+◌, ◌-◌, ◌<◌, ◌≤◌, ◌==◌, List, [], ◌∷◌, length, ap, ◌∙◌, refl, sym, subst, arith, Option, Some, None, inl, inr, true, false}
-use Rattle.std.specs.Prelude.{slice_set, unwrap_or, if◌then◌else◌, nat_lt, ◌||◌}
-use Rattle.std.proofs.lemmas.Bool.{cases_lt, cases_eq}
+use Rattle.std.proofs.Common.{◌≡◌, ◌≢◌, ℕ, ◌<◌, ◌==◌, List, length, ap, ◌∙◌, refl, sym, subst, arith, Some, None, inl, inr, true}
+use Rattle.std.specs.Prelude.{if◌then◌else◌}
+use Rattle.std.proofs.lemmas.Bool.{cases_eq}
 use Rattle.std.proofs.lemmas.Bool.Decides.{nat_tests}
-use Rattle.std.proofs.lemmas.Grind.{common_steps}
-use Rattle.std.proofs.lemmas.List.{get_or_past, set_comm}
 use Rattle.iol_core.specs.Text.{Text}
-use Rattle.iol_core.specs.Numbered.{numbered_or, with_numbered, without}
+use Rattle.iol_core.specs.Numbered.{numbered_or, without}
 use Rattle.iol_core.specs.State as machine
 use Rattle.iol_core.specs.State.{State, Domain, no_domain}
 use Rattle.iol_core.specs.Calls.Aggregates as aggs
@@ -16,73 +14,19 @@ use Rattle.iol_hold.specs.Layout.{read}
 use Rattle.iol_hold.specs.declared.slices.Slice.{Slice}
 use Rattle.iol_desc.specs.Tables.{domain_in, with_domain_in, agg_in, with_agg_in, without_agg_in, live_aggs_in, with_next}
 use Rattle.iol_kernel.specs.Seen.{seen}
-use Rattle.iol_kernel.specs.Adding.{slices_in}
-use Rattle.iol_kernel.specs.Holding.{Holding, machine_of, IsSound}
+use Rattle.iol_kernel.specs.Holding.{Holding, IsSound, slices_in}
 use Rattle.iol_kernel.specs.Sharing.{read_of, Changes}
-use Rattle.iol_kernel.proofs.Meant.{domain-seen, with_agg-seen, without_agg-seen}
+use Rattle.iol_kernel.proofs.Meant.{with_agg-seen, without_agg-seen}
 use Rattle.iol_kernel.proofs.Uses.{uses-with_agg, uses-without_agg, sum-with_domain, length-without}
 use Rattle.iol_kernel.proofs.Sound.{agg_readable, agg_small, drop_readable, add_readable, fds_stay, limits_agg, limits_drop}
 use Rattle.iol_kernel.proofs.Once.{once_same}
-use Rattle.iol_kernel.proofs.Effects.{moved-sound, next_held}
+use Rattle.iol_kernel.proofs.Effects.{moved-sound}
 use Rattle.iol_kernel.proofs.Stay.{stays_here}
-use Rattle.iol_kernel.proofs.Additions.{text-read}
+use Rattle.iol_kernel.proofs.ReadOf.{is_live-read_of, text-read_of}
+use Rattle.iol_kernel.proofs.Slices.{found_slices}
+use Rattle.iol_kernel.proofs.Rows.{domain-with_same, domain-with_other, with_domain-twice, with_domain-comm}
 
--- Numbered lists, where two places change.
-
-there : {A : Type 0} (xs : List A) (n : ℕ) (z : A) → (numbered_or xs n z ≡ z → ⊥) → (0 < n) × (n ≤ length xs)
-there xs n z some = elim (cases_eq n 0) [
-  | inl k ↦ absurd (some (grind (arith, nat_tests, k)))
-  | inr k ↦ elim (cases_lt (n - 1) (length xs)) [
-    | inl h ↦ (omega (arith, k, h), omega (arith, k, h))
-    | inr h ↦ (let past = get_or_past xs (n - 1) z h in absurd (some (grind (arith, nat_tests, k, past))))
-  ]
-]
-
-numbered_or-same : {A : Type 0} (xs : List A) (n : ℕ) (x z : A) → 0 < n → n ≤ length xs → numbered_or (with_numbered xs n x) n z ≡ x
-numbered_or-same xs n x z some within = grind (arith, nat_tests, common_steps, some, within)
-
-set_twice : {A : Type 0} (xs : List A) (n : ℕ) (x y : A) → slice_set (slice_set xs n x) n y ≡ slice_set xs n y
-set_twice [] n x y = refl
-set_twice (w ∷ xs) zero x y = refl
-set_twice (w ∷ xs) (suc n) x y = ap (λ l. w ∷ l) (set_twice xs n x y)
-
-with_numbered-twice : {A : Type 0} (xs : List A) (n : ℕ) (x y : A) → with_numbered (with_numbered xs n x) n y ≡ with_numbered xs n y
-with_numbered-twice xs n x y = elim (cases_eq n 0) [
-  | inl k ↦ grind (arith, nat_tests, k)
-  | inr k ↦ (let e = set_twice xs (n - 1) x y in grind (arith, nat_tests, k, e))
-]
-
-with_numbered-comm : {A : Type 0} (xs : List A) (m n : ℕ) (x y : A) → m ≢ n → with_numbered (with_numbered xs m x) n y ≡ with_numbered (with_numbered xs n y) m x
-with_numbered-comm xs m n x y differ = elim (cases_eq m 0) [
-  | inl k ↦ grind (arith, nat_tests, k)
-  | inr k ↦ elim (cases_eq n 0) [
-    | inl l ↦ grind (arith, nat_tests, l)
-    | inr l ↦ (let c = set_comm xs (m - 1) (n - 1) x y (λ is. differ (omega (arith, is, k, l))) in grind (arith, nat_tests, k, l, c))
-  ]
-]
-
-numbered_or-other : {A : Type 0} (xs : List A) (m n : ℕ) (x z : A) → m ≢ n → numbered_or (with_numbered xs m x) n z ≡ numbered_or xs n z
-numbered_or-other xs m n x z differ = grind (arith, nat_tests, common_steps, differ)
-
--- States of the machine.
-
-domain-same : (s : State) (d : ℕ) (x : Domain Text) → machine.is_live s d ≡ true → machine.domain (machine.with_domain s d x) d ≡ x
-unfolding machine.domain machine.with_domain
-domain-same s d x live =
-    let e = there s.domains d no_domain (λ none. (let f = ap (λ (y : Domain Text). y.live) none in absurd (cc (live, f)))) in
-    numbered_or-same s.domains d x no_domain e.0 e.1
-
-domain-other : (s : State) (d e : ℕ) (x : Domain Text) → d ≢ e → machine.domain (machine.with_domain s d x) e ≡ machine.domain s e
-unfolding machine.domain machine.with_domain
-domain-other s d e x differ = numbered_or-other s.domains d e x no_domain differ
-
-domain-twice : (s : State) (d : ℕ) (x y : Domain Text) → machine.with_domain (machine.with_domain s d x) d y ≡ machine.with_domain s d y
-unfolding machine.with_domain
-domain-twice s d x y = ap (λ (ds : List (Domain Text)). record s { domains = ds }) (with_numbered-twice s.domains d x y)
-
-domain-comm : (s : State) (d e : ℕ) (x y : Domain Text) → d ≢ e → machine.with_domain (machine.with_domain s d x) e y ≡ machine.with_domain (machine.with_domain s e y) d x
-unfolding machine.with_domain
-domain-comm s d e x y differ = ap (λ (ds : List (Domain Text)). record s { domains = ds }) (with_numbered-comm s.domains d e x y differ)
+-- On the machine's states.
 
 abbrev less : Domain Text → (a : ℕ) → Domain Text
 less x a = record x { aggs = without x.aggs a }
@@ -91,16 +35,16 @@ less x a = record x { aggs = without x.aggs a }
 given_within : (s : State) (d a : ℕ) (t : Text) → machine.is_live s d ≡ true → aggs.with_agg (aggs.without_agg s d a) d t ≡ aggs.with_new s d (without (machine.domain s d).aggs a) t
 given_within s d a t live =
     let x : Domain Text = less (machine.domain s d) a in
-    ap (λ (y : Domain Text). machine.with_domain (machine.with_domain s d x) d (with_next y t)) (domain-same s d x live) ∙ domain-twice s d x (with_next x t)
+    ap (λ (y : Domain Text). machine.with_domain (machine.with_domain s d x) d (with_next y t)) (domain-with_same s d x live) ∙ with_domain-twice s d x (with_next x t)
 
 -- to another: taken and then added, or added and then taken
 given_across : (s : State) (d a e : ℕ) (t : Text) → d ≢ e → aggs.with_agg (aggs.without_agg s d a) e t ≡ aggs.without_agg (aggs.with_agg s e t) d a
 given_across s d a e t differ =
     let x : Domain Text = less (machine.domain s d) a in
     let y : Domain Text = with_next (machine.domain s e) t in
-    ap (λ (z : Domain Text). machine.with_domain (machine.with_domain s d x) e (with_next z t)) (domain-other s d e x differ)
-    ∙ domain-comm s d e x y differ
-    ∙ ap (λ (z : Domain Text). machine.with_domain (machine.with_domain s e y) d (less z a)) (sym (domain-other s e d y (λ i. differ (sym i))))
+    ap (λ (z : Domain Text). machine.with_domain (machine.with_domain s d x) e (with_next z t)) (domain-with_other s d e x differ)
+    ∙ with_domain-comm s d e x y differ
+    ∙ ap (λ (z : Domain Text). machine.with_domain (machine.with_domain s e y) d (less z a)) (sym (domain-with_other s e d y (λ i. differ (sym i))))
 
 given_either : (s : State) (d a e : ℕ) (t : Text) → machine.is_live s d ≡ true → aggs.with_agg (aggs.without_agg s d a) e t ≡ (if d == e then aggs.with_new s d (without (machine.domain s d).aggs a) t else aggs.without_agg (aggs.with_agg s e t) d a)
 given_either s d a e t live = elim (cases_eq d e) [
@@ -123,19 +67,9 @@ left_live ds d a e live = kept (λ y. y.live) ds d e (record (domain_in ds d) { 
 pub left_next : (ds : List (Domain (List Slice))) (d a e : ℕ) → (domain_in (without_agg_in ds d a) e).next_agg ≡ (domain_in ds e).next_agg
 left_next ds d a e = kept (λ y. y.next_agg) ds d e (record (domain_in ds d) { aggs = without (domain_in ds d).aggs a }) refl
 
-few_numbers : (n m : ℕ) → (nat_lt (65536 + 1) n || nat_lt (18446744073709551614 + 1) (m + 1)) ≡ false → m < 18446744073709551615
-few_numbers n m few = grind (arith, nat_tests, few)
-
-pub few_given : (h : Holding) (d : ℕ) → aggs.too_many_aggs (machine_of h) d 1 1 ≡ false → (domain_in h.domains d).next_agg < 18446744073709551615
-few_given h d few = subst (λ n. n < 18446744073709551615) (next_held h d) (few_numbers (machine.live_aggs (machine_of h) + 1) (machine.domain (machine_of h) d).next_agg few)
-
 -- The whole change.
 
 module _ (h : Holding) (ds : List (Domain (List Slice))) (d a e : ℕ) (live : (domain_in h.domains d).live ≡ true) (moved : ds ≡ with_agg_in (without_agg_in h.domains d a) e (slices_in h.domains d a)) where
-  live-read : (f : Place → ℕ × ℕ) → machine.is_live (read_of f h) d ≡ true
-  unfolding read_of
-  live-read f = ap (λ (x : Domain Text). x.live) (domain-seen (read f) h.domains h.store.pools h.pipes d) ∙ live
-
   moved-read : (f : Place → ℕ × ℕ) → read_of f (record h { domains = ds }) ≡ aggs.with_agg (aggs.without_agg (read_of f h) d a) e (read f (slices_in h.domains d a))
   unfolding read_of
   moved-read f =
@@ -145,7 +79,7 @@ module _ (h : Holding) (ds : List (Domain (List Slice))) (d a e : ℕ) (live : (
 
   pub given-changes : Changes (λ s. (aggs.agg_give s d a e).after) h (record h { domains = ds })
   given-changes = record {
-    each = λ f keeps. moved-read f ∙ ap (aggs.with_agg (aggs.without_agg (read_of f h) d a) e) (sym (text-read f h d a)) ∙ given_either (read_of f h) d a e (machine.text (read_of f h) d a) (live-read f);
+    each = λ f keeps. moved-read f ∙ ap (aggs.with_agg (aggs.without_agg (read_of f h) d a) e) (sym (text-read_of f h d a)) ∙ given_either (read_of f h) d a e (machine.text (read_of f h) d a) (is_live-read_of f h d ∙ live);
     arena = refl;
   }
 
@@ -155,7 +89,7 @@ module _ (h : Holding) (ds : List (Domain (List Slice))) (d a e : ℕ) (live : (
       let rest : List (Domain (List Slice)) = without_agg_in h.domains d a in
       let x : Domain (List Slice) = record (domain_in h.domains d) { aggs = without (domain_in h.domains d).aggs a } in
       let y : Domain (List Slice) = with_next (domain_in rest e) xs in
-      let found : Some xs ≡ agg_in h.domains d a = is_some (agg_in h.domains d a) some in
+      let found : Some xs ≡ agg_in h.domains d a = found_slices h.domains d a some in
       let live' = left_live h.domains d a e to_live in
       let few : live_aggs_in rest < 65536 = omega (arith, sound.limits.few, sum-with_domain (λ (z : Domain (List Slice)). length z.aggs) h.domains d x live, length-without (domain_in h.domains d).aggs a xs found) in
       subst (λ (ys : List (Domain (List Slice))). IsSound (record h { domains = ys })) (sym moved)
@@ -164,7 +98,3 @@ module _ (h : Holding) (ds : List (Domain (List Slice))) (d a e : ℕ) (live : (
       sound.tidy sound.still (add_readable h.store rest e xs (drop_readable h d a sound) (agg_readable h d a xs sound found)) sound.pipes
       (fds_stay h.pipes rest e y (fds_stay h.pipes h.domains d x sound.fds refl) refl) (once_same rest e y live' refl (once_same h.domains d x live refl sound.once))
       (limits_agg rest h.pipes e xs (limits_drop h.domains h.pipes d a xs sound.limits live found) live' (agg_small h d a xs sound found) few) sound.few_pools)
-    where
-      is_some : (o : Option (List Slice)) → o ≢ None → Some (unwrap_or o []) ≡ o
-      is_some None none = absurd (none refl)
-      is_some (Some ys) none = refl

@@ -1,8 +1,6 @@
 -- All that a domain has is given up.
-use Rattle.std.proofs.Common.{◌≡◌, ℕ, ◌+◌, ◌-◌, ◌≤◌, List, [], ◌∷◌, ◌++◌, length, ap, ◌∙◌, refl, sym, subst, arith, true}
+use Rattle.std.proofs.Common.{◌≡◌, ℕ, ◌+◌, ◌≤◌, List, [], ◌∷◌, ◌++◌, length, ap, ◌∙◌, refl, sym, subst, arith, true}
 use Rattle.std.specs.Prelude.{sum_by}
-use Rattle.std.proofs.lemmas.Bool.Decides.{nat_tests}
-use Rattle.std.proofs.lemmas.List.{get_or-set_same}
 use Rattle.std.proofs.lemmas.List.Concat.{flat_map-cons}
 use Rattle.std.proofs.lemmas.List.Sums.{sum_by-cons, sum_by_push}
 use Rattle.iol_core.specs.Text.{Text}
@@ -21,13 +19,10 @@ use Rattle.iol_kernel.specs.Seen.{seen}
 use Rattle.iol_kernel.specs.Counted.{uses, domain_uses, bufs_in, IsCounted}
 use Rattle.iol_kernel.specs.Holding.{Holding, machine_of, Each, IsDomainReadable, IsLimited, IsSound}
 use Rattle.iol_kernel.proofs.Meant.{domain-seen, with_domain-seen}
-use Rattle.iol_kernel.proofs.Uses.{live_numbered, sum-with_domain, domain_le}
+use Rattle.iol_kernel.proofs.Uses.{sum-with_domain, domain_le, Domains}
 use Rattle.iol_kernel.proofs.Once.{once_same, once_fewer}
 use Rattle.iol_kernel.proofs.Sound.{counted_held, each-with_domain_in, sound_with, fds_stay}
 use Rattle.iol_kernel.proofs.Effects.{moved-machine, moved-sound, same_length}
-
-abbrev Domains : Type 0
-Domains = List (Domain (List Slice))
 
 -- aggregates, the last first
 
@@ -104,13 +99,6 @@ module _ (h : Holding) (t : Stored) (ds : Domains) (d : ℕ) (es : List (ℕ × 
       (fds_stay h.pipes h.domains d emptied sound.fds refl) (once_same h.domains d emptied live refl sound.once) emptied_limits (same_length h.store t lists sound.few_pools))
 
 -- and the domain itself
-
-pub domain_in-changed : (ds es : Domains) (d : ℕ) (x : Domain (List Slice)) → (domain_in ds d).live ≡ true → es ≡ with_domain_in ds d x → domain_in es d ≡ x
-unfolding domain_in with_domain_in
-domain_in-changed ds es d x live is =
-    let n = live_numbered ds d live in
-    let s = get_or-set_same ds (d - 1) x (no_domain {A = List Slice}) (omega (arith, n.0, n.1)) in
-    ap (λ (ys : Domains). domain_in ys d) is ∙ grind (arith, nat_tests, n.0, s)
 
 pub live_meant : (h : Holding) (d : ℕ) → (domain_in h.domains d).live ≡ true → machine.is_live (machine_of h) d ≡ true
 unfolding machine_of

@@ -1,4 +1,5 @@
 pub mod Meant
+pub mod Rows
 pub mod Uses
 pub mod Once
 pub mod Sound
@@ -15,6 +16,8 @@ pub mod Reports
 pub mod Beginning
 pub mod Stay
 pub mod Sharing
+pub mod ReadOf
+pub mod Slices
 pub mod Additions
 pub mod Exchanging
 pub mod Regrouping

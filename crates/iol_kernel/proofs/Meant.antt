@@ -122,10 +122,6 @@ pub add_domain-seen : {A : Type 0} (g : A → Text) (ds : List (Domain A)) (ps :
 unfolding seen
 add_domain-seen {A} g ds ps qs = ap (λ (xs : List (Domain Text)). record (seen g ds ps qs) { domains = xs }) (map-append (meant g) ds (new_domain {A = A} ∷ []))
 
-pub add_pool-seen : {A : Type 0} (g : A → Text) (ds : List (Domain A)) (ps : List Pool) (qs : List (Option (Pipe A))) (p : Pool) → seen g ds (ps ++ p ∷ []) qs ≡ record (seen g ds ps qs) { pools = (seen g ds ps qs).pools ++ pool_meant p ∷ [] }
-unfolding seen
-add_pool-seen g ds ps qs p = ap (λ (xs : List machine.Pool). record (seen g ds ps qs) { pools = xs }) (map-append pool_meant ps (p ∷ []))
-
 -- pipes
 
 abbrev pub no_pipe : {A : Type 0} → A → Pipe A

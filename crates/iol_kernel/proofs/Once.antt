@@ -1,26 +1,19 @@
 -- Each end of a pipe is open once, when a domain's descriptors change.
-use Rattle.std.proofs.Common.{◌≡◌, ℕ, suc, subst, false, Bool, ◌+◌, ◌<◌, ◌≤◌, ◌==◌, List, [], ◌∷◌, ◌++◌, length, map, ap, ◌∙◌, refl, sym, arith, Option, Some, None, inl, inr, true}
-use Rattle.std.specs.Prelude.{slice_set, sum_by, cond}
+use Rattle.std.proofs.Common.{◌≡◌, ℕ, suc, subst, false, Bool, ◌+◌, ◌<◌, ◌≤◌, ◌==◌, List, [], ◌∷◌, ◌++◌, length, ap, ◌∙◌, refl, sym, arith, Option, Some, None, inl, inr, true}
+use Rattle.std.specs.Prelude.{slice_set, cond}
 use Rattle.std.proofs.lemmas.Bool.{cases_lt, cases_eq}
 use Rattle.std.proofs.lemmas.Bool.Decides.{nat_tests}
 use Rattle.std.proofs.lemmas.List.{get_or_past}
 use Rattle.std.proofs.lemmas.List.Sums.{sum_by-set, sum_by_push, sum_by-cons}
 use Rattle.iol_core.specs.Numbered.{in_place, placed, lowest}
-use Rattle.iol_core.specs.State.{Domain, new_domain}
+use Rattle.iol_core.specs.State.{Domain}
 use Rattle.iol_core.specs.declared.descriptors.Descriptor.{Descriptor}
 use Rattle.iol_core.specs.declared.descriptors.Descriptor.TheVariants as on
 use Rattle.iol_hold.specs.declared.slices.Slice.{Slice}
 use Rattle.iol_desc.specs.Tables.{domain_in, with_domain_in, with_fds_in}
-use Rattle.iol_kernel.specs.Seen.{Pipe}
 use Rattle.iol_kernel.specs.Ends.{same_end, on_end, ends_on, all_ends_on, IsOpenOnce}
 use Rattle.iol_kernel.specs.Holding.{Each, IsOpenEnd}
-use Rattle.iol_kernel.proofs.Uses.{sum-with_domain}
-
-abbrev Domains : Type 0
-Domains = List (Domain (List Slice))
-
-abbrev Pipes : Type 0
-Pipes = List (Option (Pipe (List Slice)))
+use Rattle.iol_kernel.proofs.Uses.{sum-with_domain, Domains, Pipes}
 
 -- a domain's descriptors change
 
@@ -33,21 +26,6 @@ once_fewer ds d x live fewer once = record { each = λ e. omega (arith, once.eac
 -- they stay, whatever else changes
 pub once_same : (ds : Domains) (d : ℕ) (x : Domain (List Slice)) → (domain_in ds d).live ≡ true → x.fds ≡ (domain_in ds d).fds → IsOpenOnce ds → IsOpenOnce (with_domain_in ds d x)
 once_same ds d x live same once = once_fewer ds d x live (λ e. omega (arith, ap (ends_on e) same)) once
-
-all_ends-fds : {A : Type 0} (e : Descriptor) (ds : List (Domain A)) → all_ends_on e ds ≡ sum_by (ends_on e) (map (λ d. d.fds) ds)
-all_ends-fds e [] = refl
-all_ends-fds {A} e (d ∷ ds) =
-    let r = all_ends-fds e ds in
-    let c = sum_by-cons (λ (y : Domain A). ends_on e y.fds) d ds in
-    let k = sum_by-cons (ends_on e) d.fds (map {B = List (Option Descriptor)} (λ (y : Domain A). y.fds) ds) in
-    omega (arith, r, c, k)
-
--- the descriptors of all domains stay
-pub once_kept : {A : Type 0} (ds es : List (Domain A)) → map {B = List (Option Descriptor)} (λ d. d.fds) es ≡ map (λ d. d.fds) ds → IsOpenOnce ds → IsOpenOnce es
-once_kept ds es same once = record { each = λ e. omega (arith, once.each e, all_ends-fds e ds, all_ends-fds e es, ap (sum_by (ends_on e)) same) }
-
-pub once_new_domain : (ds : Domains) → IsOpenOnce ds → IsOpenOnce (ds ++ new_domain ∷ [])
-once_new_domain ds once = record { each = λ e. (let c = sum_by_push (λ (y : Domain (List Slice)). ends_on e y.fds) ds new_domain in omega (arith, once.each e, c)) }
 
 -- one number is opened, or closed
 

@@ -1,10 +1,8 @@
 -- Effects on pipes and their ends.
-use Rattle.std.proofs.Common.{inl, inr, ◌-◌, ◌∷◌, ◌++◌, ◌<◌, length, length-append, length-set, ◌≡◌, ◌≢◌, ℕ, ◌+◌, ◌≤◌, ◌==◌, List, [], ap, ◌∙◌, refl, sym, subst, arith, Option, Some, None, true, false}
+use Rattle.std.proofs.Common.{inl, inr, ◌∷◌, ◌++◌, ◌<◌, length, length-append, length-set, ◌≡◌, ◌≢◌, ℕ, ◌+◌, ◌≤◌, ◌==◌, List, [], ap, ◌∙◌, refl, sym, subst, arith, Option, Some, None, true, false}
 use Rattle.std.specs.Prelude.{slice_set, nat_lt, not, ◌&&◌, if◌then◌else◌, Bool}
 use Rattle.std.proofs.lemmas.Bool.Decides.{nat_tests}
-use Rattle.std.proofs.lemmas.Grind.{common_steps}
-use Rattle.std.proofs.lemmas.Bool.{cases_lt, cases_eq}
-use Rattle.std.proofs.lemmas.List.{set_comm}
+use Rattle.std.proofs.lemmas.Bool.{cases_lt}
 use Rattle.iol_core.specs.declared.limits.TheConstants.{MAX_PIPES}
 use Rattle.iol_hold.proofs.Counting.{tally_none}
 use Rattle.iol_kernel.proofs.Uses.{uses-placed}
@@ -18,7 +16,7 @@ use Rattle.iol_core.specs.declared.descriptors.Descriptor.TheVariants as on
 use Rattle.iol_hold.specs.declared.slices.Slice.{Slice}
 use Rattle.iol_hold.specs.Texts.{text_of}
 use Rattle.iol_hold.proofs.Reading.{readable_none}
-use Rattle.iol_desc.specs.Tables.{domain_in, with_domain_in, with_fds_in}
+use Rattle.iol_desc.specs.Tables.{domain_in, with_domain_in, with_fds_in, with_next_fd, with_ends}
 use Rattle.iol_kernel.specs.Seen.{Pipe, seen}
 use Rattle.iol_kernel.specs.Ends.{all_ends_on, IsOpenOnce}
 use Rattle.iol_kernel.specs.Holding.{Holding, machine_of, Each, IsOpenEnd, IsPipeReadable, IsSound, IsShort}
@@ -26,7 +24,8 @@ use Rattle.iol_kernel.proofs.Meant.{add_pipe-seen, lowest-seen, taken-seen}
 use Rattle.iol_kernel.proofs.Sound.{each-set, each-get, each-weaker, each-placed, ends_open}
 use Rattle.iol_kernel.proofs.Once.{same_end-itself, ends-with_domain, ends-placed, ends-freed, once_fewer, once_freed, both_once, all_ends_closed}
 use Rattle.iol_kernel.proofs.Ends.{ends_placed, lowest_closed, new_reading, new_writing}
-use Rattle.iol_kernel.proofs.Effects.{fds_held, fds-machine, fds-sound}
+use Rattle.iol_kernel.proofs.Effects.{fds-machine_of, fds-machine, fds-sound}
+use Rattle.iol_kernel.proofs.Rows.{domain_in-with_other, with_domain_in-comm}
 
 abbrev empty : Pipe (List Slice)
 empty = record { queue = []; reading = true; writing = true }
@@ -35,24 +34,21 @@ empty = record { queue = []; reading = true; writing = true }
 pub ends-machine : (h : Holding) (d : ℕ) → ◌≡◌ {A = ℕ × ℕ} (fds.pipe (machine_of h) d).answer (lowest (domain_in h.domains d).fds, lowest (with_read_end (domain_in h.domains d).fds (lowest h.pipes)))
 unfolding machine_of
 ends-machine h d =
-    ap {B = ℕ × ℕ} (λ (xs : List (Option Descriptor)). (lowest xs, lowest (with_read_end xs (lowest (machine_of h).pipes)))) (fds_held h d)
+    ap {B = ℕ × ℕ} (λ (xs : List (Option Descriptor)). (lowest xs, lowest (with_read_end xs (lowest (machine_of h).pipes)))) (fds-machine_of h d)
     ∙ ap {B = ℕ × ℕ} (λ n. (lowest (domain_in h.domains d).fds, lowest (with_read_end (domain_in h.domains d).fds n))) (lowest-seen (text_of h.store) h.domains h.store.pools h.pipes)
 
--- a new pipe, with both ends in a domain
-
-abbrev both : List (Option Descriptor) → (pipe : ℕ) → List (Option Descriptor)
-both xs n = placed (with_read_end xs n) (lowest (with_read_end xs n)) (on.WriteEnd n)
+-- a new pipe, with with_ends ends in a domain
 
 abbrev piped : State → (d : ℕ) → List (Option Descriptor) → (pipe : ℕ) → State
-piped m d xs n = record (fds.with_fds m d (both xs n)) { pipes = placed m.pipes n new_pipe }
+piped m d xs n = record (fds.with_fds m d (with_ends xs n)) { pipes = placed m.pipes n new_pipe }
 
-pub piped-machine : (h : Holding) (ds : List (Domain (List Slice))) (qs : List (Option (Pipe (List Slice)))) (d : ℕ) → ds ≡ with_fds_in h.domains d (both (domain_in h.domains d).fds (lowest h.pipes)) → qs ≡ placed h.pipes (lowest h.pipes) empty → machine_of (record h { domains = ds; pipes = qs }) ≡ (fds.pipe (machine_of h) d).after
+pub piped-machine : (h : Holding) (ds : List (Domain (List Slice))) (qs : List (Option (Pipe (List Slice)))) (d : ℕ) → ds ≡ with_fds_in h.domains d (with_ends (domain_in h.domains d).fds (lowest h.pipes)) → qs ≡ placed h.pipes (lowest h.pipes) empty → machine_of (record h { domains = ds; pipes = qs }) ≡ (fds.pipe (machine_of h) d).after
 unfolding machine_of machine.with_domain
 piped-machine h ds qs d domains' pipes' =
     ap (λ (ys : List (Option (Pipe (List Slice)))). seen (text_of h.store) ds h.store.pools ys) pipes'
     ∙ add_pipe-seen (text_of h.store) ds h.store.pools h.pipes (lowest h.pipes) empty
-    ∙ ap (λ (x : State). record x { pipes = placed x.pipes (lowest h.pipes) new_pipe }) (fds-machine h ds d (both (domain_in h.domains d).fds (lowest h.pipes)) domains')
-    ∙ ap (λ (xs : List (Option Descriptor)). piped (machine_of h) d xs (lowest h.pipes)) (sym (fds_held h d))
+    ∙ ap (λ (x : State). record x { pipes = placed x.pipes (lowest h.pipes) new_pipe }) (fds-machine h ds d (with_ends (domain_in h.domains d).fds (lowest h.pipes)) domains')
+    ∙ ap (λ (xs : List (Option Descriptor)). piped (machine_of h) d xs (lowest h.pipes)) (sym (fds-machine_of h d))
     ∙ ap (λ n. piped (machine_of h) d (machine.domain (machine_of h) d).fds n) (sym (lowest-seen (text_of h.store) h.domains h.store.pools h.pipes))
 
 lowest_few : {A : Type 0} (xs : List (Option A)) → lowest xs ≤ taken xs
@@ -67,20 +63,20 @@ length-placed qs x few free = elim (cases_lt (lowest qs) (length qs)) [
 ]
 
 -- its ends are open there alone
-once_piped : (h : Holding) (d : ℕ) → IsSound h → (domain_in h.domains d).live ≡ true → IsOpenOnce (with_fds_in h.domains d (both (domain_in h.domains d).fds (lowest h.pipes)))
+once_piped : (h : Holding) (d : ℕ) → IsSound h → (domain_in h.domains d).live ≡ true → IsOpenOnce (with_fds_in h.domains d (with_ends (domain_in h.domains d).fds (lowest h.pipes)))
 once_piped h d sound live =
     let n : ℕ = lowest h.pipes in
     let xs : List (Option Descriptor) = (domain_in h.domains d).fds in
     let closed = lowest_closed h.pipes in
     record {
-      each = λ e. (let total = ends-with_domain e h.domains d (record (domain_in h.domains d) { fds = both xs n }) live in
+      each = λ e. (let total = ends-with_domain e h.domains d (record (domain_in h.domains d) { fds = with_ends xs n }) live in
           let once = both_once e n (all_ends_on e h.domains) (sound.once.each e)
           (λ is. ap (λ (x : Descriptor). all_ends_on x h.domains) is ∙ all_ends_closed h.pipes (on.ReadEnd n) closed.0 h.domains sound.fds)
           (λ is. ap (λ (x : Descriptor). all_ends_on x h.domains) is ∙ all_ends_closed h.pipes (on.WriteEnd n) closed.1 h.domains sound.fds) in
           omega (arith, total, once, ends-placed e (on.ReadEnd n) xs, ends-placed e (on.WriteEnd n) (with_read_end xs n)));
     }
 
-pub piped-sound : (h : Holding) (ds : List (Domain (List Slice))) (qs : List (Option (Pipe (List Slice)))) (d : ℕ) → IsSound h → (domain_in h.domains d).live ≡ true → taken h.pipes < MAX_PIPES → ds ≡ with_fds_in h.domains d (both (domain_in h.domains d).fds (lowest h.pipes)) → qs ≡ placed h.pipes (lowest h.pipes) empty → IsSound (record h { domains = ds; pipes = qs })
+pub piped-sound : (h : Holding) (ds : List (Domain (List Slice))) (qs : List (Option (Pipe (List Slice)))) (d : ℕ) → IsSound h → (domain_in h.domains d).live ≡ true → taken h.pipes < MAX_PIPES → ds ≡ with_fds_in h.domains d (with_ends (domain_in h.domains d).fds (lowest h.pipes)) → qs ≡ placed h.pipes (lowest h.pipes) empty → IsSound (record h { domains = ds; pipes = qs })
 piped-sound h ds qs d sound live few domains' pipes' =
     let more : List (Option (Pipe (List Slice))) = placed h.pipes (lowest h.pipes) empty in
     let k : Holding = record h { pipes = more } in
@@ -102,21 +98,21 @@ piped-sound h ds qs d sound live few domains' pipes' =
     } in
     let xs : List (Option Descriptor) = (domain_in h.domains d).fds in
     let first : Each (IsOpenEnd more) (with_read_end xs (lowest h.pipes)) = each-placed (IsOpenEnd more) xs (lowest xs) (on.ReadEnd (lowest h.pipes)) (ends_open k d sound') (new_reading h.pipes empty) in
-    let second : Each (IsOpenEnd more) (both xs (lowest h.pipes)) = each-placed (IsOpenEnd more) (with_read_end xs (lowest h.pipes)) (lowest (with_read_end xs (lowest h.pipes))) (on.WriteEnd (lowest h.pipes)) first (new_writing h.pipes empty) in
-    subst (λ (ys : List (Option (Pipe (List Slice)))). IsSound (record h { domains = ds; pipes = ys })) (sym pipes') (fds-sound k ds d (both xs (lowest h.pipes)) sound' live domains' second (once_piped h d sound live))
+    let second : Each (IsOpenEnd more) (with_ends xs (lowest h.pipes)) = each-placed (IsOpenEnd more) (with_read_end xs (lowest h.pipes)) (lowest (with_read_end xs (lowest h.pipes))) (on.WriteEnd (lowest h.pipes)) first (new_writing h.pipes empty) in
+    subst (λ (ys : List (Option (Pipe (List Slice)))). IsSound (record h { domains = ds; pipes = ys })) (sym pipes') (fds-sound k ds d (with_ends xs (lowest h.pipes)) sound' live domains' second (once_piped h d sound live))
 
 few_open : (n k : ℕ) → nat_lt 1024 (n + k) ≡ false → n + k ≤ 1024
 few_open n k few = grind (arith, nat_tests, few)
 
 pub few_open_held : (h : Holding) (d k : ℕ) → fds.too_many_open (machine_of h) d k ≡ false → taken (domain_in h.domains d).fds + k ≤ 1024
-few_open_held h d k few = subst (λ (xs : List (Option Descriptor)). taken xs + k ≤ 1024) (fds_held h d) (few_open (taken (machine.domain (machine_of h) d).fds) k few)
+few_open_held h d k few = subst (λ (xs : List (Option Descriptor)). taken xs + k ≤ 1024) (fds-machine_of h d) (few_open (taken (machine.domain (machine_of h) d).fds) k few)
 
-pub taken_held : (h : Holding) → taken (machine_of h).pipes ≡ taken h.pipes
+pub taken_pipes-machine_of : (h : Holding) → taken (machine_of h).pipes ≡ taken h.pipes
 unfolding machine_of
-taken_held h = taken-seen (text_of h.store) h.domains h.store.pools h.pipes
+taken_pipes-machine_of h = taken-seen (text_of h.store) h.domains h.store.pools h.pipes
 
-pub descriptor_held : (h : Holding) (d fd : ℕ) → machine.descriptor (machine_of h) d fd ≡ in_place (domain_in h.domains d).fds fd
-descriptor_held h d fd = ap (λ (xs : List (Option Descriptor)). in_place xs fd) (fds_held h d)
+pub descriptor-machine_of : (h : Holding) (d fd : ℕ) → machine.descriptor (machine_of h) d fd ≡ in_place (domain_in h.domains d).fds fd
+descriptor-machine_of h d fd = ap (λ (xs : List (Option Descriptor)). in_place xs fd) (fds-machine_of h d)
 
 -- a descriptor is closed
 pub freed-sound : (h : Holding) (ds : List (Domain (List Slice))) (d fd : ℕ) (x : Descriptor) → IsSound h → (domain_in h.domains d).live ≡ true → in_place (domain_in h.domains d).fds fd ≡ Some x → ds ≡ with_fds_in h.domains d (slice_set (domain_in h.domains d).fds fd None) → IsSound (record h { domains = ds })
@@ -137,7 +133,7 @@ freed-alone h ds d fd x sound live there open' is = omega (
 -- a descriptor moves
 
 pub end_held : (h : Holding) (d fd : ℕ) (x : Descriptor) → IsSound h → machine.descriptor (machine_of h) d fd ≡ Some x → IsOpenEnd h.pipes (Some x)
-end_held h d fd x sound is = subst (IsOpenEnd h.pipes) (sym (descriptor_held h d fd) ∙ is) (each-get (IsOpenEnd h.pipes) (domain_in h.domains d).fds fd None (ends_open h d sound) tt)
+end_held h d fd x sound is = subst (IsOpenEnd h.pipes) (sym (descriptor-machine_of h d fd) ∙ is) (each-get (IsOpenEnd h.pipes) (domain_in h.domains d).fds fd None (ends_open h d sound) tt)
 
 pub any_end : (h : Holding) (m : State) (to : ℕ) (x : Descriptor) → IsOpenEnd h.pipes (Some x) → fds.denied_by m to (fds.needed_pool m (Some x)) ≡ None
 any_end h m to (on.File f at mode) open' = absurd open'
@@ -145,17 +141,17 @@ any_end h m to (on.ReadEnd p) open' = refl
 any_end h m to (on.WriteEnd p) open' = refl
 any_end h m to (on.Connection c) open' = absurd open'
 
-pub freed_held : (h : Holding) (d fd : ℕ) → fds.freed (machine_of h) d fd ≡ slice_set (domain_in h.domains d).fds fd None
-freed_held h d fd = ap (λ (xs : List (Option Descriptor)). slice_set xs fd None) (fds_held h d)
+pub freed-machine_of : (h : Holding) (d fd : ℕ) → fds.freed (machine_of h) d fd ≡ slice_set (domain_in h.domains d).fds fd None
+freed-machine_of h d fd = ap (λ (xs : List (Option Descriptor)). slice_set xs fd None) (fds-machine_of h d)
 
 -- within a domain
 pub moved_within-number : (h : Holding) (d fd to n : ℕ) → d ≡ to → n ≡ lowest (slice_set (domain_in h.domains d).fds fd None) → n ≡ (if d == to then lowest (fds.freed (machine_of h) d fd) else fds.next_fd (machine_of h) to)
-moved_within-number h d fd to n same is = let e = ap lowest (freed_held h d fd) in grind (arith, nat_tests, e, is, same)
+moved_within-number h d fd to n same is = let e = ap lowest (freed-machine_of h d fd) in grind (arith, nat_tests, e, is, same)
 
 pub moved_within-machine : (h : Holding) (ds : List (Domain (List Slice))) (d fd to : ℕ) (x : Descriptor) → d ≡ to → ds ≡ with_fds_in h.domains d (placed (slice_set (domain_in h.domains d).fds fd None) (lowest (slice_set (domain_in h.domains d).fds fd None)) x) → machine_of (record h { domains = ds }) ≡ fds.given_to (machine_of h) d fd to x
 moved_within-machine h ds d fd to x same is =
     fds-machine h ds d (placed (slice_set (domain_in h.domains d).fds fd None) (lowest (slice_set (domain_in h.domains d).fds fd None)) x) is
-    ∙ ap (λ (xs : List (Option Descriptor)). fds.with_fds (machine_of h) d (placed xs (lowest xs) x)) (sym (freed_held h d fd))
+    ∙ ap (λ (xs : List (Option Descriptor)). fds.with_fds (machine_of h) d (placed xs (lowest xs) x)) (sym (freed-machine_of h d fd))
     ∙ pick
   where
     pick : fds.with_fds (machine_of h) d (placed (fds.freed (machine_of h) d fd) (lowest (fds.freed (machine_of h) d fd)) x) ≡ fds.given_to (machine_of h) d fd to x
@@ -170,45 +166,30 @@ moved_within-sound h ds d fd x sound live there open' is =
 
 -- across domains
 
-domain_in-other : (ds : List (Domain (List Slice))) (d e : ℕ) (x : Domain (List Slice)) → d ≢ e → domain_in (with_domain_in ds d x) e ≡ domain_in ds e
-unfolding domain_in with_domain_in
-domain_in-other ds d e x differ = grind (arith, nat_tests, common_steps, differ)
-
 abbrev opened_in : List (Domain (List Slice)) → (d : ℕ) → Descriptor → List (Domain (List Slice))
-opened_in ds d x = with_fds_in ds d (placed (domain_in ds d).fds (lowest (domain_in ds d).fds) x)
+opened_in ds d x = with_fds_in ds d (with_next_fd (domain_in ds d).fds x)
 
 pub other_live : (ds ms : List (Domain (List Slice))) (d to : ℕ) (x : Descriptor) → to ≢ d → ms ≡ opened_in ds to x → (domain_in ds d).live ≡ true → (domain_in ms d).live ≡ true
 other_live ds ms d to x differ is live =
-    ap (λ (ys : List (Domain (List Slice))). (domain_in ys d).live) is ∙ ap (λ (y : Domain (List Slice)). y.live) (domain_in-other ds to d _ differ) ∙ live
+    ap (λ (ys : List (Domain (List Slice))). (domain_in ys d).live) is ∙ ap (λ (y : Domain (List Slice)). y.live) (domain_in-with_other ds to d _ differ) ∙ live
 
 pub other_fds : (ds ms : List (Domain (List Slice))) (d to : ℕ) (x : Descriptor) → to ≢ d → ms ≡ opened_in ds to x → (domain_in ms d).fds ≡ (domain_in ds d).fds
 other_fds ds ms d to x differ is =
-    ap (λ (ys : List (Domain (List Slice))). (domain_in ys d).fds) is ∙ ap (λ (y : Domain (List Slice)). y.fds) (domain_in-other ds to d _ differ)
+    ap (λ (ys : List (Domain (List Slice))). (domain_in ys d).fds) is ∙ ap (λ (y : Domain (List Slice)). y.fds) (domain_in-with_other ds to d _ differ)
 
 pub moved_across-number : (h : Holding) (d fd to n : ℕ) → d ≢ to → n ≡ lowest (domain_in h.domains to).fds → n ≡ (if d == to then lowest (fds.freed (machine_of h) d fd) else fds.next_fd (machine_of h) to)
-moved_across-number h d fd to n differ is = let e = ap lowest (fds_held h to) in grind (arith, nat_tests, e, is, differ)
+moved_across-number h d fd to n differ is = let e = ap lowest (fds-machine_of h to) in grind (arith, nat_tests, e, is, differ)
 
 pub moved_across-machine : (h : Holding) (ms ds : List (Domain (List Slice))) (d fd to : ℕ) (x : Descriptor) → d ≢ to → ms ≡ opened_in h.domains to x → ds ≡ with_fds_in ms d (slice_set (domain_in ms d).fds fd None) → machine_of (record h { domains = ds }) ≡ fds.given_to (machine_of h) d fd to x
 moved_across-machine h ms ds d fd to x differ opened' closed' =
     fds-machine (record h { domains = ms }) ds d (slice_set (domain_in ms d).fds fd None) closed'
     ∙ ap (λ (s : State). fds.with_fds s d (slice_set (domain_in ms d).fds fd None)) (fds-machine h ms to (placed (domain_in h.domains to).fds (lowest (domain_in h.domains to).fds) x) opened')
-    ∙ ap (λ (xs : List (Option Descriptor)). fds.with_fds (fds.with_fds (machine_of h) to (placed xs (lowest xs) x)) d (slice_set (domain_in ms d).fds fd None)) (sym (fds_held h to))
-    ∙ ap (λ (xs : List (Option Descriptor)). fds.with_fds (fds.opened (machine_of h) to x) d (slice_set xs fd None)) (other_fds h.domains ms d to x (λ e. differ (sym e)) opened' ∙ sym (fds_held h d))
+    ∙ ap (λ (xs : List (Option Descriptor)). fds.with_fds (fds.with_fds (machine_of h) to (placed xs (lowest xs) x)) d (slice_set (domain_in ms d).fds fd None)) (sym (fds-machine_of h to))
+    ∙ ap (λ (xs : List (Option Descriptor)). fds.with_fds (fds.opened (machine_of h) to x) d (slice_set xs fd None)) (other_fds h.domains ms d to x (λ e. differ (sym e)) opened' ∙ sym (fds-machine_of h d))
     ∙ pick
   where
     pick : fds.with_fds (fds.opened (machine_of h) to x) d (fds.freed (machine_of h) d fd) ≡ fds.given_to (machine_of h) d fd to x
     pick = grind (arith, nat_tests, differ)
-
--- the receiver may as well get it after the giver's number is free
-with_domain-comm : (ds : List (Domain (List Slice))) (d e : ℕ) (x y : Domain (List Slice)) → d ≢ e → with_domain_in (with_domain_in ds d x) e y ≡ with_domain_in (with_domain_in ds e y) d x
-unfolding with_domain_in
-with_domain-comm ds d e x y differ = elim (cases_eq d 0) [
-  | inl k ↦ grind (arith, nat_tests, k)
-  | inr k ↦ elim (cases_eq e 0) [
-    | inl l ↦ grind (arith, nat_tests, l)
-    | inr l ↦ (let c = set_comm ds (d - 1) (e - 1) x y (λ is. differ (omega (arith, is, k, l))) in grind (arith, nat_tests, k, l, c))
-  ]
-]
 
 across-turned : (ds ms : List (Domain (List Slice))) (d fd to : ℕ) (x : Descriptor) → d ≢ to → ms ≡ opened_in ds to x → with_fds_in ms d (slice_set (domain_in ms d).fds fd None) ≡ opened_in (with_fds_in ds d (slice_set (domain_in ds d).fds fd None)) to x
 across-turned ds ms d fd to x differ is =
@@ -218,9 +199,9 @@ across-turned ds ms d fd to x differ is =
     let freed : Domain (List Slice) → Domain (List Slice) = λ y. record y { fds = slice_set y.fds fd None } in
     let opened : Domain (List Slice) → Domain (List Slice) = λ y. record y { fds = placed y.fds (lowest y.fds) x } in
     ap (λ (ys : List (Domain (List Slice))). with_domain_in ys d (freed (domain_in ys d))) is
-    ∙ ap (λ (y : Domain (List Slice)). with_domain_in (with_domain_in ds to got) d (freed y)) (domain_in-other ds to d got (λ e. differ (sym e)))
-    ∙ with_domain-comm ds to d got less (λ e. differ (sym e))
-    ∙ ap (λ (y : Domain (List Slice)). with_domain_in (with_domain_in ds d less) to (opened y)) (sym (domain_in-other ds d to less differ))
+    ∙ ap (λ (y : Domain (List Slice)). with_domain_in (with_domain_in ds to got) d (freed y)) (domain_in-with_other ds to d got (λ e. differ (sym e)))
+    ∙ with_domain_in-comm ds to d got less (λ e. differ (sym e))
+    ∙ ap (λ (y : Domain (List Slice)). with_domain_in (with_domain_in ds d less) to (opened y)) (sym (domain_in-with_other ds d to less differ))
 
 pub moved_across-sound : (h : Holding) (ms ds : List (Domain (List Slice))) (d fd to : ℕ) (x : Descriptor) → IsSound h → d ≢ to → (domain_in h.domains to).live ≡ true → (domain_in h.domains d).live ≡ true → in_place (domain_in h.domains d).fds fd ≡ Some x → IsOpenEnd h.pipes (Some x) → ms ≡ opened_in h.domains to x → ds ≡ with_fds_in ms d (slice_set (domain_in ms d).fds fd None) → IsSound (record h { domains = ds })
 moved_across-sound h ms ds d fd to x sound differ to_live live there open' opened' closed' =
@@ -228,7 +209,7 @@ moved_across-sound h ms ds d fd to x sound differ to_live live there open' opene
     let k : Holding = record h { domains = less } in
     let mid : IsSound k = freed-sound h less d fd x sound live there refl in
     let y : Domain (List Slice) = domain_in less to in
-    let same : y ≡ domain_in h.domains to = domain_in-other h.domains d to _ differ in
+    let same : y ≡ domain_in h.domains to = domain_in-with_other h.domains d to _ differ in
     let live' : y.live ≡ true = ap (λ (z : Domain (List Slice)). z.live) same ∙ to_live in
     let last : List (Option Descriptor) = placed y.fds (lowest y.fds) x in
     let once : IsOpenOnce (with_fds_in less to last) = record {

@@ -1,77 +1,32 @@
 -- Effects on queues, as the machine sees them.
-use Rattle.std.proofs.Common.{◌≡◌, ℕ, ◌+◌, ◌<◌, ◌≤◌, ◌==◌, cond, List, [], ◌∷◌, ◌++◌, length, map, take, drop, ap, ◌∙◌, refl, sym, subst, arith, Option, Some, None, true, false, inl, inr, Bool, length-set}
-use Rattle.std.specs.Prelude.{slice_set, unwrap_or, option_map, is_none, min, option_and_then, if◌then◌else◌, not, ◌||◌}
-use Rattle.std.specs.List.{list_any, prefix_len, slice_get}
-use Rattle.std.proofs.lemmas.Bool.Decides.{nat_tests}
+use Rattle.std.proofs.Common.{◌≡◌, ℕ, ◌+◌, ◌<◌, ◌≤◌, List, [], ◌∷◌, ◌++◌, length, take, ap, refl, sym, subst, arith, Option, Some, None, true, false, inl, inr, length-set}
+use Rattle.std.specs.Prelude.{slice_set, unwrap_or}
+use Rattle.std.specs.List.{prefix_len}
 use Rattle.std.proofs.lemmas.List.{length-take, length-drop}
-use Rattle.iol_core.specs.Text.{Text, admitted, barred}
 use Rattle.iol_core.specs.Numbered.{in_place}
 use Rattle.iol_core.specs.State as machine
 use Rattle.iol_core.specs.State.{State, Domain}
-use Rattle.iol_core.specs.Calls.Aggregates as aggs
-use Rattle.iol_core.specs.Calls.Reading as reading
 use Rattle.iol_core.specs.declared.descriptors.Descriptor.TheVariants as on
-use Rattle.iol_pool.specs.Pools.{Pool, names_in}
 use Rattle.iol_hold.specs.Stored.{Stored}
-use Rattle.iol_hold.specs.Moves.{Shares, pool_meant}
-use Rattle.iol_hold.specs.Places.{Place, places, byte_len}
-use Rattle.iol_hold.specs.Layout.{read, number_at, layout_text}
-use Rattle.iol_hold.specs.Texts.{byte_at, text_of, bufs_of, AllReadable}
-use Rattle.iol_hold.proofs.AtPlaces.{length-read}
+use Rattle.iol_hold.specs.Moves.{Shares}
+use Rattle.iol_hold.specs.Places.{places, byte_len}
+use Rattle.iol_hold.specs.Texts.{bufs_of, AllReadable}
 use Rattle.iol_hold.specs.declared.slices.Slice.{Slice}
 use Rattle.iol_hold.proofs.Counting.{tally-append}
 use Rattle.iol_hold.proofs.Moving.{shares_move}
-use Rattle.iol_hold.proofs.Reading.{length-text_of, readable_none, readable_rest}
-use Rattle.iol_pipe.specs.Queue.{first_pool, may_see}
-use Rattle.iol_pipe.proofs.Texts.{readable_pushed, text_pushed, readable_given, text_given, text_left, first_pool-text}
+use Rattle.iol_hold.proofs.Reading.{readable_none, readable_rest}
+use Rattle.iol_pipe.specs.Queue.{may_see}
+use Rattle.iol_pipe.proofs.Texts.{readable_pushed, readable_given}
 use Rattle.iol_desc.specs.Tables.{agg_in, domain_in, with_agg_in, live_aggs_in}
-use Rattle.iol_kernel.specs.Seen.{Pipe, pipe_meant, seen}
+use Rattle.iol_kernel.specs.Seen.{Pipe}
 use Rattle.iol_kernel.specs.Counted.{IsCounted}
 use Rattle.iol_kernel.specs.Holding.{Holding, machine_of, Each, IsOpenEnd, IsPipeReadable, IsDomainReadable, IsShort, IsLimited, IsSound, TakesFront, queue_at}
-use Rattle.iol_kernel.proofs.Meant.{domain-seen, pipe_at-seen, with_pipe-seen, with_agg-seen, text-seen, aggregate-seen, pool-seen}
 use Rattle.iol_kernel.proofs.Uses.{uses-set_pipe, uses-with_agg}
 use Rattle.iol_kernel.proofs.Once.{once_same}
-use Rattle.iol_kernel.proofs.Sound.{each-get, each-set, each-weaker, agg_readable, counted_held, add_readable, fds_stay, limits_agg}
+use Rattle.iol_kernel.proofs.Sound.{each-get, each-set, each-weaker, agg_readable, add_readable, fds_stay, limits_agg}
 use Rattle.iol_kernel.proofs.Ends.{ends_queued, there_if_open}
-use Rattle.iol_kernel.proofs.Effects.{moved-machine, moved-sound}
+use Rattle.iol_kernel.proofs.Effects.{moved-sound}
 use Rattle.iol_kernel.proofs.Pipes.{end_held}
-
-any_true : (a b : Bool) → a ≡ true → (a || b) ≡ true
-any_true a b e = grind (arith, nat_tests, e)
-
--- a queue as the machine sees it
-
-pub pipe_held : (h : Holding) (p : ℕ) → machine.pipe_at (machine_of h) p ≡ pipe_meant (text_of h.store) (queue_at h.pipes p)
-unfolding machine_of
-pipe_held h p = pipe_at-seen (text_of h.store) h.domains h.store.pools h.pipes [] p refl
-
-pub queue_held : (h : Holding) (p : ℕ) → (machine.pipe_at (machine_of h) p).queue ≡ text_of h.store (queue_at h.pipes p).queue
-queue_held h p = ap (λ (x : machine.Pipe). x.queue) (pipe_held h p)
-
-pub queue_length : (h : Holding) (p : ℕ) → length (machine.pipe_at (machine_of h) p).queue ≡ byte_len (queue_at h.pipes p).queue
-queue_length h p = ap length (queue_held h p) ∙ length-text_of h.store (queue_at h.pipes p).queue
-
--- how long an aggregate is, whatever is read at its places
-
-pub length_at : (f : Place → ℕ × ℕ) (ds : List (Domain (List Slice))) (ps : List Pool) (qs : List (Option (Pipe (List Slice)))) (d a : ℕ) (xs : List Slice) → Some xs ≡ agg_in ds d a → length (machine.text (seen (read f) ds ps qs) d a) ≡ byte_len xs
-length_at f ds ps qs d a xs found = ap length (text-seen (read f) ds ps qs d a xs found) ∙ length-read f xs
-
-pub length_nowhere : (f : Place → ℕ × ℕ) (ds : List (Domain (List Slice))) (ps : List Pool) (qs : List (Option (Pipe (List Slice)))) (d a : ℕ) → None ≡ agg_in ds d a → length (machine.text (seen (read f) ds ps qs) d a) ≡ 0
-length_nowhere f ds ps qs d a none = ap (λ (o : Option Text). length (unwrap_or o [])) (aggregate-seen (read f) ds ps qs d a ∙ ap (option_map (read f)) (sym none))
-
-pub length_some : (s : Stored) (ds : List (Domain (List Slice))) (ps : List Pool) (qs : List (Option (Pipe (List Slice)))) (d a : ℕ) (xs : List Slice) → Some xs ≡ agg_in ds d a → length (machine.text (seen (text_of s) ds ps qs) d a) ≡ byte_len xs
-length_some s = length_at (byte_at s)
-
-pub length_none : (s : Stored) (ds : List (Domain (List Slice))) (ps : List Pool) (qs : List (Option (Pipe (List Slice)))) (d a : ℕ) → None ≡ agg_in ds d a → length (machine.text (seen (text_of s) ds ps qs) d a) ≡ 0
-length_none s = length_nowhere (byte_at s)
-
-pub laid_some : (ds : List (Domain (List Slice))) (ps : List Pool) (qs : List (Option (Pipe (List Slice)))) (d a : ℕ) (xs : List Slice) → Some xs ≡ agg_in ds d a → length (machine.text (seen layout_text ds ps qs) d a) ≡ byte_len xs
-laid_some = length_at number_at
-
-pub laid_none : (ds : List (Domain (List Slice))) (ps : List Pool) (qs : List (Option (Pipe (List Slice)))) (d a : ℕ) → None ≡ agg_in ds d a → length (machine.text (seen layout_text ds ps qs) d a) ≡ 0
-laid_none = length_nowhere number_at
-
-pub ruleset length_rules = (length_some, length_none, laid_some, laid_none, domain-seen)
 
 pub queue_readable : (h : Holding) (p : ℕ) → IsSound h → AllReadable h.store (queue_at h.pipes p).queue
 queue_readable h p sound = pick (in_place h.pipes p) (each-get (IsPipeReadable h.store) h.pipes p None sound.pipes tt)
@@ -122,10 +77,6 @@ module _ (h : Holding) (t : Stored) (qs : List (Option (Pipe (List Slice)))) (p 
       (each-weaker (λ (x : Domain (List Slice)). Each (IsOpenEnd h.pipes) x.fds) (λ (x : Domain (List Slice)). Each (IsOpenEnd more) x.fds) h.domains (λ x e. ends_queued h.pipes p (queue_at qs p).queue there x.fds e) sound.fds) sound.once
       (queue_limits h p (queue_at qs p).queue sound short) (omega (arith, sound.few_pools, ap length shares.pools)))
 
-pub text_held : (h : Holding) (d a : ℕ) (xs : List Slice) → Some xs ≡ agg_in h.domains d a → text_of h.store xs ≡ machine.text (machine_of h) d a
-unfolding machine_of
-text_held h d a xs found = sym (text-seen (text_of h.store) h.domains h.store.pools h.pipes d a xs found)
-
 pub writing_held : (h : Holding) (d fd p : ℕ) → IsSound h → machine.descriptor (machine_of h) d fd ≡ Some (on.WriteEnd p) → (queue_at h.pipes p).writing ≡ true
 writing_held h d fd p sound is = end_held h d fd (on.WriteEnd p) sound is
 
@@ -133,10 +84,6 @@ pub reading_held : (h : Holding) (d fd p : ℕ) → IsSound h → machine.descri
 reading_held h d fd p sound is = end_held h d fd (on.ReadEnd p) sound is
 
 -- Reading: a domain gets the front.
-
-pub may_read_held : (h : Holding) (d q : ℕ) → names_in h.store.pools q d ≡ machine.may_read (machine_of h) d q
-unfolding machine_of
-may_read_held h d q = sym (ap (λ (x : machine.Pool). list_any (λ e. e == d) x.domains) (pool-seen (text_of h.store) h.domains h.store.pools h.pipes q))
 
 module _ (h : Holding) (t : Stored) (ds : List (Domain (List Slice))) (qs : List (Option (Pipe (List Slice)))) (p d n : ℕ) (sound : IsSound h) (reading' : (queue_at h.pipes p).reading ≡ true)
     (takes : TakesFront h.store t (queue_at h.pipes p).queue (queue_at qs p).queue h.domains ds d n) (pipes' : qs ≡ slice_set h.pipes p (Some (record (queue_at h.pipes p) { queue = (queue_at qs p).queue }))) where
@@ -189,18 +136,3 @@ module _ (h : Holding) (t : Stored) (ds : List (Domain (List Slice))) (qs : List
         (each-weaker (λ (x : Domain (List Slice)). Each (IsOpenEnd h.pipes) x.fds) (λ (x : Domain (List Slice)). Each (IsOpenEnd less) x.fds) h.domains (λ x e. ends_queued h.pipes p (queue_at qs p).queue there' x.fds e) sound.fds) refl)
         (once_same h.domains d (record x { aggs = x.aggs ++ (x.next_agg, takes.slices) ∷ []; next_agg = x.next_agg + 1 }) live refl sound.once)
         (limits_agg h.domains less d takes.slices (queue_limits h p (queue_at qs p).queue sound parts_short.1) live (omega (arith, parts_short.0)) few) (omega (arith, sound.few_pools, ap length takes.shares.pools))))
-
--- tests on a queue
-
-pub reading_means : (h : Holding) (p : ℕ) → (queue_at h.pipes p).reading ≡ (machine.pipe_at (machine_of h) p).reading
-reading_means h p = sym (ap (λ (x : machine.Pipe). x.reading) (pipe_held h p))
-
-pub writing_means : (h : Holding) (p : ℕ) → (queue_at h.pipes p).writing ≡ (machine.pipe_at (machine_of h) p).writing
-writing_means h p = sym (ap (λ (x : machine.Pipe). x.writing) (pipe_held h p))
-
-pub none_held : (h : Holding) (d a : ℕ) → None ≡ agg_in h.domains d a → aggs.lacks_agg (machine_of h) d a ≡ true
-unfolding machine_of
-none_held h d a none = ap (λ (o : Option Text). is_none o) (aggregate-seen (text_of h.store) h.domains h.store.pools h.pipes d a ∙ ap (option_map (text_of h.store)) (sym none))
-
-pub length_held : (h : Holding) (d a : ℕ) (xs : List Slice) → Some xs ≡ agg_in h.domains d a → length (machine.text (machine_of h) d a) ≡ byte_len xs
-length_held h d a xs found = ap length (sym (text_held h d a xs found)) ∙ length-text_of h.store xs

@@ -1,7 +1,5 @@
 -- Effects that regroup a domain's aggregates: its slices move, and the store counts those that were divided.
-use Rattle.std.proofs.Common.{◌≡◌, ◌≢◌, ℕ, ◌+◌, ◌<◌, ◌≤◌, List, [], ◌∷◌, ◌++◌, length, take, drop, ap, ◌∙◌, refl, sym, subst, arith, Option, Some, None, true, false, length-append}
-use Rattle.std.specs.Prelude.{unwrap_or, option_map, nat_lt, ◌||◌}
-use Rattle.std.proofs.lemmas.Bool.Decides.{nat_tests}
+use Rattle.std.proofs.Common.{◌≡◌, ◌≢◌, ℕ, ◌+◌, ◌<◌, ◌≤◌, List, [], ◌∷◌, ◌++◌, length, take, drop, ap, ◌∙◌, refl, sym, subst, arith, Option, Some, None, true, length-append}
 use Rattle.std.proofs.lemmas.List.{map-append, length-take, length-drop}
 use Rattle.std.proofs.lemmas.List.Sums.{sum_by-append, sum_by_push}
 use Rattle.iol_core.specs.Text.{Text}
@@ -13,12 +11,12 @@ use Rattle.iol_core.specs.declared.numbers.BufId.{BufId}
 use Rattle.iol_core.proofs.Lookups.{lookup-without}
 use Rattle.iol_pool.specs.Pools.{Pool}
 use Rattle.iol_hold.specs.Stored.{Stored}
-use Rattle.iol_hold.specs.Layout.{read, layout_text}
-use Rattle.iol_hold.specs.Moves.{Shares, Covers, IsCountable, tally}
+use Rattle.iol_hold.specs.Layout.{read}
+use Rattle.iol_hold.specs.Moves.{Shares, tally}
 use Rattle.iol_hold.specs.Places.{Place, places, byte_len}
-use Rattle.iol_hold.specs.Texts.{byte_at, text_of, bufs_of, AllReadable}
+use Rattle.iol_hold.specs.Texts.{bufs_of, AllReadable}
 use Rattle.iol_hold.specs.declared.slices.Slice.{Slice}
-use Rattle.iol_hold.proofs.AtPlaces.{length-read, read_taken, read_rest, read-append}
+use Rattle.iol_hold.proofs.AtPlaces.{read_taken, read_rest, read-append}
 use Rattle.iol_hold.proofs.Counting.{tally-append, bufs-append}
 use Rattle.iol_hold.proofs.Moving.{shares_move, shares_none}
 use Rattle.iol_hold.proofs.Reading.{readable_taken, readable_rest, readable_joined}
@@ -26,16 +24,16 @@ use Rattle.iol_hold.proofs.Slicing.{byte_len-append}
 use Rattle.iol_desc.specs.Tables.{domain_in, with_domain_in, agg_in, live_aggs_in}
 use Rattle.iol_kernel.specs.Seen.{Pipe, meant, seen}
 use Rattle.iol_kernel.specs.Counted.{uses, domain_uses}
-use Rattle.iol_kernel.specs.Holding.{Holding, machine_of, layout_of, Each, IsDomainReadable, IsSound}
-use Rattle.iol_kernel.specs.Regrouped.{slices_in, with_two, with_one, joined_in, SplitsAgg}
+use Rattle.iol_kernel.specs.Holding.{Holding, Each, IsDomainReadable, IsSound, slices_in}
+use Rattle.iol_kernel.specs.Regrouped.{with_two, with_one, joined_in, SplitsAgg}
 use Rattle.iol_kernel.specs.Sharing.{read_of, Changes}
-use Rattle.iol_kernel.proofs.Effects.{moved-sound, next_held}
-use Rattle.iol_kernel.proofs.Exchanging.{found_slices}
-use Rattle.iol_kernel.proofs.Meant.{domain-seen, with_domain-seen, aggregate-seen, without-map, live_aggs-seen}
+use Rattle.iol_kernel.proofs.Effects.{moved-sound}
+use Rattle.iol_kernel.proofs.Meant.{domain-seen, with_domain-seen, without-map}
 use Rattle.iol_kernel.proofs.Once.{once_same}
 use Rattle.iol_kernel.proofs.Sound.{each-push, each-without, each-with_domain_in, aggs_readable, aggs_small, agg_readable, agg_small, fds_stay}
-use Rattle.iol_kernel.proofs.Uses.{sum-with_domain, uses-without, length-without, agg_covered, countable}
-use Rattle.iol_kernel.proofs.Queueing.{none_held}
+use Rattle.iol_kernel.proofs.Uses.{sum-with_domain, uses-without, length-without}
+use Rattle.iol_kernel.proofs.ReadOf.{text-seen_read}
+use Rattle.iol_kernel.proofs.Slices.{found_slices}
 
 -- One domain's aggregates change, and the store goes on.
 pub regrouped-sound : (h : Holding) (t : Stored) (d : ℕ) (x : Domain (List Slice)) (given taken : List BufId) → IsSound h → (domain_in h.domains d).live ≡ true → x.fds ≡ (domain_in h.domains d).fds → Shares h.store t taken given
@@ -55,56 +53,6 @@ regrouped-sound h t d x given taken sound live same shares readable counts small
     })
     (omega (arith, sound.few_pools, ap length shares.pools))
 
--- An aggregate's text, whatever is read at its places.
-pub text_read : (f : Place → ℕ × ℕ) (ds : List (Domain (List Slice))) (ps : List Pool) (qs : List (Option (Pipe (List Slice)))) (d a : ℕ) → machine.text (seen (read f) ds ps qs) d a ≡ read f (slices_in ds d a)
-text_read f ds ps qs d a = ap (λ (o : Option Text). unwrap_or o []) (aggregate-seen (read f) ds ps qs d a) ∙ of (agg_in ds d a)
-  where
-    of : (o : Option (List Slice)) → unwrap_or (option_map (read f) o) [] ≡ read f (unwrap_or o [])
-    of None = refl
-    of (Some xs) = refl
-
--- What the machine says of aggregates, said of what is held.
-
-pub there_held : (h : Holding) (d a : ℕ) → aggs.lacks_agg (machine_of h) d a ≡ false → agg_in h.domains d a ≢ None
-there_held h d a there = λ none. (let lacks = none_held h d a (sym none) in cc (lacks, there))
-
-pub length_slices : (h : Holding) (d a : ℕ) → length (machine.text (machine_of h) d a) ≡ byte_len (slices_in h.domains d a)
-unfolding machine_of
-length_slices h d a = ap length (text_read (byte_at h.store) h.domains h.store.pools h.pipes d a) ∙ length-read (byte_at h.store) (slices_in h.domains d a)
-
-pub next_laid : (h : Holding) (d : ℕ) → (machine.domain (layout_of h) d).next_agg ≡ (domain_in h.domains d).next_agg
-unfolding layout_of
-next_laid h d = ap (λ (x : Domain Text). x.next_agg) (domain-seen layout_text h.domains h.store.pools h.pipes d)
-
-live_aggs_held : (h : Holding) → machine.live_aggs (machine_of h) ≡ live_aggs_in h.domains
-unfolding machine_of
-live_aggs_held h = live_aggs-seen (text_of h.store) h.domains h.store.pools h.pipes
-
--- one more number
-pub few_one : (h : Holding) (d : ℕ) → aggs.too_many_aggs (machine_of h) d 1 2 ≡ false → (domain_in h.domains d).next_agg < 18446744073709551615
-few_one h d few = omega (arith, below (machine.live_aggs (machine_of h)) (machine.domain (machine_of h) d).next_agg few, next_held h d)
-  where
-    below : (n m : ℕ) → (nat_lt (65536 + 2) (n + 1) || nat_lt (18446744073709551614 + 1) (m + 1)) ≡ false → m < 18446744073709551615
-    below n m few = grind (arith, nat_tests, few)
-
--- two more numbers, and one more aggregate
-pub few_two : (h : Holding) (d : ℕ) → aggs.too_many_aggs (machine_of h) d 2 1 ≡ false → ((domain_in h.domains d).next_agg + 1 < 18446744073709551615) × (live_aggs_in h.domains < 65536)
-few_two h d few =
-    let both = below (machine.live_aggs (machine_of h)) (machine.domain (machine_of h) d).next_agg few in
-    (omega (arith, both.0, next_held h d), omega (arith, both.1, live_aggs_held h))
-  where
-    below : (n m : ℕ) → (nat_lt (65536 + 1) (n + 2) || nat_lt (18446744073709551614 + 1) (m + 2)) ≡ false → (m + 1 < 18446744073709551615) × (n < 65536)
-    below n m few = (grind (arith, nat_tests, few), grind (arith, nat_tests, few))
-
-pub slices_covered : (h : Holding) (d a : ℕ) → IsSound h → (domain_in h.domains d).live ≡ true → agg_in h.domains d a ≢ None → Covers h.store (bufs_of (slices_in h.domains d a))
-slices_covered h d a sound live there = agg_covered h.store h.domains h.pipes d a (slices_in h.domains d a) sound.counted live (found_slices h.domains d a there)
-
-pub slices_short : (h : Holding) (d a : ℕ) → IsSound h → agg_in h.domains d a ≢ None → byte_len (slices_in h.domains d a) ≤ 16777216
-slices_short h d a sound there = agg_small h d a (slices_in h.domains d a) sound (found_slices h.domains d a there)
-
-pub slices_countable : (h : Holding) (d a : ℕ) → IsSound h → agg_in h.domains d a ≢ None → IsCountable h.store (bufs_of (slices_in h.domains d a))
-slices_countable h d a sound there = countable h.store h.domains h.pipes (slices_in h.domains d a) sound.counted sound.limits (slices_short h d a sound there)
-
 -- An aggregate is split.
 
 split-seen : (f : Place → ℕ × ℕ) (ds : List (Domain (List Slice))) (ps : List Pool) (qs : List (Option (Pipe (List Slice)))) (d a at : ℕ) (first second : List Slice) → places first ≡ take at (places (slices_in ds d a)) → places second ≡ drop at (places (slices_in ds d a))
@@ -115,8 +63,8 @@ split-seen f ds ps qs d a at first second before after =
     let n : ℕ = x.next_agg in
     let xs : List Slice = slices_in ds d a in
     let text : Text = machine.text s d a in
-    let one : read f first ≡ take at text = read_taken f first xs at before ∙ ap (λ (w : Text). take at w) (sym (text_read f ds ps qs d a)) in
-    let two : read f second ≡ drop at text = read_rest f second xs at after ∙ ap (λ (w : Text). drop at w) (sym (text_read f ds ps qs d a)) in
+    let one : read f first ≡ take at text = read_taken f first xs at before ∙ ap (λ (w : Text). take at w) (sym (text-seen_read f ds ps qs d a)) in
+    let two : read f second ≡ drop at text = read_rest f second xs at after ∙ ap (λ (w : Text). drop at w) (sym (text-seen_read f ds ps qs d a)) in
     with_domain-seen (read f) ds ps qs d (with_two x a first second)
     ∙ ap (λ (es : List (ℕ × Text)). machine.with_domain s d (record (meant (read f) x) { aggs = es; next_agg = n + 2 })) (map-append (λ (e : ℕ × List Slice). (e.0, read f e.1)) (without x.aggs a) ((n, first) ∷ (n + 1, second) ∷ []))
     ∙ ap (λ (es : List (ℕ × Text)). machine.with_domain s d (record (meant (read f) x) { aggs = es ++ (n, read f first) ∷ (n + 1, read f second) ∷ []; next_agg = n + 2 })) (without-map (read f) x.aggs a)
@@ -170,8 +118,8 @@ join-seen f ds ps qs d a b =
     let text : Text = machine.text s d a ++ machine.text s d b in
     let one : read f whole ≡ text =
     read-append f (slices_in ds d a) (slices_in ds d b)
-    ∙ ap (λ (w : Text). w ++ read f (slices_in ds d b)) (sym (text_read f ds ps qs d a))
-    ∙ ap (λ (w : Text). machine.text s d a ++ w) (sym (text_read f ds ps qs d b)) in
+    ∙ ap (λ (w : Text). w ++ read f (slices_in ds d b)) (sym (text-seen_read f ds ps qs d a))
+    ∙ ap (λ (w : Text). machine.text s d a ++ w) (sym (text-seen_read f ds ps qs d b)) in
     with_domain-seen (read f) ds ps qs d (with_one x a b whole)
     ∙ ap (λ (es : List (ℕ × Text)). machine.with_domain s d (record (meant (read f) x) { aggs = es; next_agg = n + 1 })) (map-append (λ (e : ℕ × List Slice). (e.0, read f e.1)) (without (without x.aggs a) b) ((n, whole) ∷ []))
     ∙ ap (λ (es : List (ℕ × Text)). machine.with_domain s d (record (meant (read f) x) { aggs = es ++ (n, read f whole) ∷ []; next_agg = n + 1 })) (without-map (read f) (without x.aggs a) b)

@@ -1,14 +1,10 @@
 -- A change that is the same whatever is read at the places is one of the machine and one of the layout.
 use Rattle.std.proofs.Common.{◌≡◌, ℕ, ap, ◌∙◌, refl, sym}
-use Rattle.iol_core.specs.Text.{Text}
-use Rattle.iol_core.specs.State as machine
 use Rattle.iol_core.specs.State.{State}
-use Rattle.iol_desc.specs.Tables.{domain_in}
-use Rattle.iol_kernel.proofs.Meant.{domain-seen}
 use Rattle.iol_arena.specs.State as arena
 use Rattle.iol_hold.specs.Stored.{Stored, with_arena}
 use Rattle.iol_hold.specs.Places.{Place}
-use Rattle.iol_hold.specs.Layout.{read, number_at}
+use Rattle.iol_hold.specs.Layout.{number_at}
 use Rattle.iol_hold.specs.Texts.{byte_at}
 use Rattle.iol_hold.proofs.AtPlaces.{keeps_bytes, keeps_numbers}
 use Rattle.iol_kernel.specs.Holding.{Holding, machine_of, layout_of}
@@ -35,8 +31,3 @@ changes_machine m old new c =
 
 pub changes_layout : (m : State → State) (old new : Holding) → Changes m old new → layout_of new ≡ m (layout_of old)
 changes_layout m old new c = read_layout new ∙ c.each number_at keeps_numbers ∙ ap m (sym (read_layout old))
-
--- the next number of a domain, whatever is read at the places
-pub next_read : (f : Place → ℕ × ℕ) (h : Holding) (d : ℕ) → (machine.domain (read_of f h) d).next_agg ≡ (domain_in h.domains d).next_agg
-unfolding read_of
-next_read f h d = ap (λ (x : machine.Domain Text). x.next_agg) (domain-seen (read f) h.domains h.store.pools h.pipes d)

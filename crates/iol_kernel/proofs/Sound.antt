@@ -5,7 +5,7 @@ use Rattle.std.proofs.lemmas.Bool.{cases_lt, cases_eq}
 use Rattle.std.proofs.lemmas.Bool.Decides.{nat_tests}
 use Rattle.std.proofs.lemmas.List.Sums.{sum_by-cons}
 use Rattle.iol_core.specs.Text.{Text}
-use Rattle.iol_core.specs.Numbered.{lookup, without, numbered_or, with_numbered, placed, in_place}
+use Rattle.iol_core.specs.Numbered.{lookup, without, numbered_or, with_numbered, placed}
 use Rattle.iol_core.specs.State as machine
 use Rattle.iol_core.specs.State.{Domain, new_domain, no_domain}
 use Rattle.iol_core.specs.declared.descriptors.Descriptor.{Descriptor}
@@ -181,9 +181,6 @@ agg_small h d a xs sound is = each-lookup (λ (ys : List Slice). byte_len ys ≤
 
 pub agg_readable : (h : Holding) (d a : ℕ) (xs : List Slice) → IsSound h → Some xs ≡ agg_in h.domains d a → AllReadable h.store xs
 agg_readable h d a xs sound is = each-lookup (AllReadable h.store) (domain_in h.domains d).aggs a xs (aggs_readable h d sound) is
-
-pub pipe_readable : (h : Holding) (p : ℕ) → IsSound h → IsPipeReadable h.store (in_place h.pipes p)
-pipe_readable h p sound = let none : Option (Pipe (List Slice)) = None in each-get (IsPipeReadable h.store) h.pipes p none sound.pipes tt
 
 -- one domain changes, its aggregates do not
 pub sound_with : (h : Holding) (d : ℕ) (x : Domain (List Slice)) → IsSound h → (domain_in h.domains d).live ≡ true → x.aggs ≡ (domain_in h.domains d).aggs → Each (IsOpenEnd h.pipes) x.fds → IsOpenOnce (with_domain_in h.domains d x) → IsSound (record h { domains = with_domain_in h.domains d x })

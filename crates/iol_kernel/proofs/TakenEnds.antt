@@ -1,12 +1,9 @@
 -- Ends that were taken from a domain, and are closed one after another.
-use Rattle.std.proofs.Common.{◌≡◌, ℕ, suc, ◌+◌, ◌<◌, List, [], ◌∷◌, length, drop, ap, ◌∙◌, sym, subst, arith, Option, Some, None, get_or, true}
+use Rattle.std.proofs.Common.{◌≡◌, ℕ, suc, ◌+◌, ◌<◌, List, [], ◌∷◌, length, drop, ap, ◌∙◌, sym, subst, arith, Option, Some, get_or, true}
 use Rattle.std.proofs.Math.Seq.{drop-cons}
 use Rattle.std.proofs.lemmas.List.Sums.{sum_by-cons}
-use Rattle.iol_core.specs.State.{Domain}
 use Rattle.iol_core.specs.declared.descriptors.Descriptor.{Descriptor}
-use Rattle.iol_hold.specs.declared.slices.Slice.{Slice}
 use Rattle.iol_desc.specs.Tables.{domain_in, with_fds_in}
-use Rattle.iol_kernel.specs.Seen.{Pipe}
 use Rattle.iol_kernel.specs.Ends.{on_end, ends_on, all_ends_on}
 use Rattle.iol_kernel.specs.Holding.{Holding, Each, IsOpenEnd, IsSound}
 use Rattle.iol_kernel.specs.ClosedEnds.{AreTaken, KeepsEnds}
@@ -14,12 +11,7 @@ use Rattle.iol_kernel.proofs.Once.{same_end-itself, ends-with_domain, once_fewer
 use Rattle.iol_kernel.proofs.Sound.{ends_open}
 use Rattle.iol_kernel.proofs.Effects.{fds-sound}
 use Rattle.iol_kernel.proofs.ClosedEnds.{ends_kept}
-
-abbrev Domains : Type 0
-Domains = List (Domain (List Slice))
-
-abbrev Pipes : Type 0
-Pipes = List (Option (Pipe (List Slice)))
+use Rattle.iol_kernel.proofs.Uses.{Domains, Pipes}
 
 -- all numbers of a domain are taken
 
@@ -46,10 +38,6 @@ module _ (ds : Domains) (qs : Pipes) (xs : List (Option Descriptor)) (i : ℕ) (
 
   pub first_open : IsOpenEnd qs z
   first_open = firstly.opened.0
-
-  -- a free place
-  pub later_none : z ≡ None → AreTaken ds qs (drop (i + 1) xs)
-  later_none none = record { opened = firstly.opened.1; once = λ x. (let c = sum_by-cons (on_end x) z (drop (i + 1) xs) in omega (arith, c, firstly.once x)) }
 
   module _ (x : Descriptor) (some : z ≡ Some x) where
     pub first_alone : all_ends_on x ds ≡ 0

@@ -3,10 +3,9 @@ use Rattle.std.proofs.Common.{◌≡◌, ℕ, suc, ◌+◌, ◌-◌, ◌*◌, �
 use Rattle.std.specs.Prelude.{slice_set, sum_by, unwrap_or}
 use Rattle.std.proofs.lemmas.Bool.{cases_lt, cases_eq}
 use Rattle.std.proofs.lemmas.Bool.Decides.{nat_tests}
-use Rattle.std.proofs.lemmas.List.{get_or_past}
 use Rattle.std.proofs.lemmas.List.Sums.{sum_by-set, sum_by_push, sum_by-cons, get_or-le-sum_by}
 use Rattle.iol_core.specs.Numbered.{lookup, without, numbered_or, with_numbered, placed, lowest, in_place}
-use Rattle.iol_core.specs.State.{Domain, new_domain, no_domain}
+use Rattle.iol_core.specs.State.{Domain, no_domain}
 use Rattle.iol_core.specs.declared.numbers.BufId.{BufId}
 use Rattle.iol_hold.specs.Stored.{Stored}
 use Rattle.iol_hold.specs.Moves.{tally, Covers, IsCountable}
@@ -19,11 +18,12 @@ use Rattle.iol_desc.specs.Tables.{domain_in, with_domain_in, agg_in, with_agg_in
 use Rattle.iol_kernel.specs.Seen.{Pipe}
 use Rattle.iol_kernel.specs.Counted.{uses, domain_uses, pipe_uses, all_uses, IsCounted}
 use Rattle.iol_kernel.specs.Holding.{Each, IsLimited, IsShort, queue_at}
+use Rattle.iol_kernel.proofs.Rows.{live_numbered}
 
-abbrev Domains : Type 0
+abbrev pub Domains : Type 0
 Domains = List (Domain (List Slice))
 
-abbrev Pipes : Type 0
+abbrev pub Pipes : Type 0
 Pipes = List (Option (Pipe (List Slice)))
 
 -- Of one domain's aggregates.
@@ -57,16 +57,6 @@ length-without (e ∷ es) a xs is = elim (cases_eq e.0 a) [
 ]
 
 -- Of a live domain.
-
-pub live_numbered : (ds : Domains) (d : ℕ) → (domain_in ds d).live ≡ true → (0 < d) × (d ≤ length ds)
-unfolding domain_in
-live_numbered ds d live = elim (cases_eq d 0) [
-  | inl k ↦ (let e : numbered_or ds d no_domain ≡ no_domain = grind (arith, nat_tests, k) in let f = ap (λ (x : Domain (List Slice)). x.live) e in absurd (cc (live, f)))
-  | inr k ↦ elim (cases_lt (d - 1) (length ds)) [
-    | inl h ↦ (omega arith, omega arith)
-    | inr h ↦ (let past = get_or_past ds (d - 1) no_domain h in let e : numbered_or ds d no_domain ≡ no_domain = grind (arith, nat_tests, k, past) in let f = ap (λ (x : Domain (List Slice)). x.live) e in absurd (cc (live, f)))
-  ]
-]
 
 changed_sum : (w : Domain (List Slice) → ℕ) (ds : Domains) (d : ℕ) (x : Domain (List Slice)) → 0 < d → d ≤ length ds → sum_by w (with_domain_in ds d x) + w (domain_in ds d) ≡ sum_by w ds + w x
 unfolding domain_in with_domain_in
@@ -113,9 +103,6 @@ uses-same b ds d x live is =
     let e = sum-with_domain (domain_uses b) ds d x live in
     let f = ap (λ (l : List (ℕ × List Slice)). sum_by (λ e. uses b e.1) l) is in
     omega (arith, e, f)
-
-pub uses-new_domain : (b : BufId) (ds : Domains) → sum_by (domain_uses b) (ds ++ new_domain ∷ []) ≡ sum_by (domain_uses b) ds
-uses-new_domain b ds = let e = sum_by_push (domain_uses b) ds new_domain in omega (arith, e)
 
 lowest_none : (xs : Pipes) → lowest xs < length xs → get_or xs (lowest xs) None ≡ None
 lowest_none [] h = refl

@@ -1,16 +1,12 @@
 -- An aggregate of the bytes of others, which stay where they lie.
-use Rattle.std.specs.Prelude.{◌≡◌, ℕ, ◌++◌, List, [], take, drop, unwrap_or}
+use Rattle.std.specs.Prelude.{◌≡◌, ℕ, ◌++◌, List, [], take, drop}
 use Rattle.iol_core.specs.State.{Domain}
 use Rattle.iol_hold.specs.Stored.{Stored}
 use Rattle.iol_hold.specs.Moves.{Shares}
 use Rattle.iol_hold.specs.Places.{Place, places}
 use Rattle.iol_hold.specs.Texts.{bufs_of}
 use Rattle.iol_hold.specs.declared.slices.Slice.{Slice}
-use Rattle.iol_desc.specs.Tables.{agg_in, with_agg_in}
-
--- the slices of a domain's aggregate: none where there is no such aggregate
-abbrev pub slices_in : List (Domain (List Slice)) → (d a : ℕ) → List Slice
-slices_in ds d a = unwrap_or (agg_in ds d a) []
+use Rattle.iol_desc.specs.Tables.{with_agg_in}
 
 -- xs with ys in place of what lies from..to
 abbrev pub replaced : {A : Type 0} → List A → (from to : ℕ) → List A → List A

@@ -1,5 +1,5 @@
 -- What a system holds, and the state of the copying machine that it stands for.
-use Rattle.std.specs.Prelude.{◌≡◌, ℕ, ◌≤◌, true, ◌++◌, length, List, [], ◌∷◌, take, drop, take_while, flat_map, Option, Some, None}
+use Rattle.std.specs.Prelude.{◌≡◌, ℕ, ◌≤◌, true, ◌++◌, length, List, [], ◌∷◌, take, drop, take_while, flat_map, Option, Some, None, unwrap_or}
 use Rattle.iol_core.specs.State as machine
 use Rattle.iol_core.specs.Text.{Text}
 use Rattle.iol_core.specs.declared.descriptors.Descriptor.{Descriptor}
@@ -12,7 +12,7 @@ use Rattle.iol_hold.specs.Moves.{Moves, Shares}
 use Rattle.iol_hold.specs.Texts.{text_of, bufs_of, AllReadable}
 use Rattle.iol_hold.specs.declared.slices.Slice.{Slice}
 use Rattle.iol_pipe.specs.Queue.{may_see}
-use Rattle.iol_desc.specs.Tables.{with_agg_in, live_aggs_in}
+use Rattle.iol_desc.specs.Tables.{agg_in, with_agg_in, live_aggs_in}
 use Rattle.iol_kernel.specs.Seen.{Pipe, pipe_in, seen}
 use Rattle.iol_kernel.specs.Counted.{IsCounted}
 use Rattle.iol_kernel.specs.Ends.{IsOpenOnce}
@@ -46,6 +46,10 @@ IsDomainReadable s d = Each (λ e. AllReadable s e.1) d.aggs
 abbrev pub IsPipeReadable : Stored → Option (Pipe (List Slice)) → Type 0
 IsPipeReadable s None = Unit {0}
 IsPipeReadable s (Some p) = AllReadable s p.queue
+
+-- the slices of a domain's aggregate: none where there is no such aggregate
+abbrev pub slices_in : List (machine.Domain (List Slice)) → (d a : ℕ) → List Slice
+slices_in ds d a = unwrap_or (agg_in ds d a) []
 
 -- a pipe, or an empty one whose ends are closed
 abbrev pub queue_at : List (Option (Pipe (List Slice))) → (p : ℕ) → Pipe (List Slice)

@@ -1,5 +1,5 @@
 -- A domain's aggregates after one was split in two, or two were joined.
-use Rattle.std.specs.Prelude.{◌≡◌, ℕ, ◌+◌, List, [], ◌∷◌, ◌++◌, take, drop, unwrap_or}
+use Rattle.std.specs.Prelude.{◌≡◌, ℕ, ◌+◌, List, [], ◌∷◌, ◌++◌, take, drop}
 use Rattle.iol_core.specs.Numbered.{without}
 use Rattle.iol_core.specs.State.{Domain}
 use Rattle.iol_hold.specs.Moves.{Shares}
@@ -7,11 +7,8 @@ use Rattle.iol_hold.specs.Places.{places}
 use Rattle.iol_hold.specs.Stored.{Stored}
 use Rattle.iol_hold.specs.Texts.{bufs_of}
 use Rattle.iol_hold.specs.declared.slices.Slice.{Slice}
-use Rattle.iol_desc.specs.Tables.{domain_in, with_domain_in, agg_in}
-
--- the slices of a domain's aggregate, or none
-abbrev pub slices_in : List (Domain (List Slice)) → (d a : ℕ) → List Slice
-slices_in ds d a = unwrap_or (agg_in ds d a) []
+use Rattle.iol_desc.specs.Tables.{domain_in, with_domain_in, with_next}
+use Rattle.iol_kernel.specs.Holding.{slices_in}
 
 -- with two aggregates in place of a, under the next numbers
 abbrev pub with_two : Domain (List Slice) → (a : ℕ) → (first second : List Slice) → Domain (List Slice)
@@ -22,10 +19,7 @@ with_two x a first second = record x {
 
 -- with one aggregate in place of a and b, under the next number
 abbrev pub with_one : Domain (List Slice) → (a b : ℕ) → (whole : List Slice) → Domain (List Slice)
-with_one x a b whole = record x {
-  aggs = without (without x.aggs a) b ++ (x.next_agg, whole) ∷ [];
-  next_agg = x.next_agg + 1;
-}
+with_one x a b whole = with_next (record x { aggs = without (without x.aggs a) b }) whole
 
 -- a domain's aggregate was split: what lies before a place, and what lies from it on
 pub record SplitsAgg (s t : Stored) (old new : List (Domain (List Slice))) (d a at : ℕ) : Type 0 where

@@ -56,6 +56,7 @@ fn add_bytes(
 impl Kernel {
     ghost use Rattle.iol_kernel.specs.Kernel.{holding};
 
+    /// Places bytes in the caller's default pool, as its next aggregate.
     #[tactic(auto, using(crate::proofs::Stay::stay_rules))]
     pub fn agg_make(&mut self, by: DomainId, bytes: &Bytes) -> Result<AggId, Refusal>
         requires { IsSound (holding self.old) }
@@ -113,6 +114,7 @@ impl Kernel {
         }
     }
 
+    /// Gives an aggregate up.
     #[tactic(auto, using(crate::proofs::Stay::stay_rules))]
     pub fn agg_drop(&mut self, by: DomainId, agg: AggId) -> Result<(), Refusal>
         requires { IsSound (holding self.old) }
@@ -144,6 +146,7 @@ impl Kernel {
         given.release(&mut self.store);
     }
 
+    /// A copy of an aggregate's bytes.
     pub fn show(&self, by: DomainId, agg: AggId) -> Result<Bytes, Refusal>
         requires { IsSound (holding self.now) }
         ensures { Step (calls.show (machine_of (holding self.now)) by agg) (machine_of (holding self.now)) result (machine_of (holding self.now)) }
@@ -175,6 +178,7 @@ impl Kernel {
         Ok(self.parts_of(by, agg))
     }
 
+    /// The bytes of an aggregate that is there, where they lie.
     fn parts_of(&self, by: DomainId, agg: AggId) -> Parts<'_>
         requires sound { IsSound (holding self.now) }
         requires live { is_live (machine_of (holding self.now)) by ≡ true }

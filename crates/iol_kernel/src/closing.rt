@@ -82,6 +82,7 @@ fn close_write_end(store: &mut Store, pipes: &mut Vec<Option<Pipe>>, p: PipeId)
 impl Kernel {
     ghost use Rattle.iol_kernel.specs.Kernel.{holding};
 
+    /// Closes a descriptor.
     #[tactic(auto, using(crate::proofs::Stay::stay_rules))]
     pub fn close(&mut self, by: DomainId, fd: Fd) -> Result<(), Refusal>
         requires { IsSound (holding self.old) }

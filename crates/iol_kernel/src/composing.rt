@@ -8,8 +8,8 @@ ghost use Rattle.iol_hold.specs.Moves.{Covers, IsCountable, Stays};
 ghost use Rattle.iol_hold.specs.Places.{places, byte_len};
 ghost use Rattle.iol_hold.specs.Texts.{bufs_of};
 ghost use Rattle.iol_desc.specs.Tables.{domains_of, domain_in, agg_in};
-ghost use Rattle.iol_kernel.specs.Adding.{slices_in, replaced, AddsShared};
-ghost use Rattle.iol_kernel.specs.Holding.{machine_of, layout_of, IsSound};
+ghost use Rattle.iol_kernel.specs.Adding.{replaced, AddsShared};
+ghost use Rattle.iol_kernel.specs.Holding.{machine_of, layout_of, slices_in, IsSound};
 ghost use Rattle.iol_kernel.specs.Sharing.{SharesBy, Changes};
 
 use crate::kernel::Kernel;
@@ -91,6 +91,7 @@ fn add_replaced(
 impl Kernel {
     ghost use Rattle.iol_kernel.specs.Kernel.{holding};
 
+    /// Makes an aggregate of the same bytes once more.
     #[tactic(auto, using(crate::proofs::Stay::stay_rules))]
     pub fn agg_dup(&mut self, by: DomainId, agg: AggId) -> Result<AggId, Refusal>
         requires { IsSound (holding self.old) }
@@ -146,6 +147,7 @@ impl Kernel {
         }
     }
 
+    /// Makes an aggregate of the bytes `from..to` of another, which stays.
     #[tactic(auto, using(crate::proofs::Stay::stay_rules))]
     pub fn agg_cut(
         &mut self,
@@ -211,6 +213,7 @@ impl Kernel {
         }
     }
 
+    /// Makes an aggregate of the bytes of one, with those of another in place of `from..to`. Both stay.
     #[tactic(auto, using(crate::proofs::Stay::stay_rules))]
     pub fn agg_replace(
         &mut self,

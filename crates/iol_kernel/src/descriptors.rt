@@ -7,7 +7,7 @@ ghost use Rattle.iol_kernel.specs.Holding.{machine_of, IsSound};
 ghost use Rattle.iol_core.specs.Numbered.{lowest, placed, taken, in_place};
 ghost use Rattle.iol_core.specs.Calls.Descriptors as calls;
 ghost use Rattle.iol_core.specs.Calls.Descriptors.{with_read_end, too_many_open};
-ghost use Rattle.iol_desc.specs.Tables.{domains_of, domain_in, with_fds_in};
+ghost use Rattle.iol_desc.specs.Tables.{domains_of, domain_in, with_fds_in, with_ends};
 
 use crate::kernel::{Kernel, Pipe};
 use iol_agg::Agg;
@@ -30,7 +30,7 @@ fn add_pipe(
     requires few { taken (domain_in (domains_of domains.old) d).fds ≤ 1024 }
     requires few_pipes { taken pipes.old.items < MAX_PIPES }
     ensures numbers { IfOk result (λ ends. ends ≡ (lowest (domain_in (domains_of domains.old) d).fds, lowest (with_read_end (domain_in (domains_of domains.old) d).fds (lowest pipes.old.items)))) }
-    ensures opened { OnOk result ((domains_of domains.new) ≡ with_fds_in (domains_of domains.old) d (placed (with_read_end (domain_in (domains_of domains.old) d).fds (lowest pipes.old.items)) (lowest (with_read_end (domain_in (domains_of domains.old) d).fds (lowest pipes.old.items))) (Descriptor.WriteEnd (lowest pipes.old.items)))) }
+    ensures opened { OnOk result ((domains_of domains.new) ≡ with_fds_in (domains_of domains.old) d (with_ends (domain_in (domains_of domains.old) d).fds (lowest pipes.old.items))) }
     ensures added { OnOk result (pipes.new.items ≡ placed pipes.old.items (lowest pipes.old.items) (record { queue = []; reading = true; writing = true })) }
     ensures err { OnErr result ((domains_of domains.new) ≡ (domains_of domains.old)) }
     ensures err_pipes { OnErr result (pipes.new.items ≡ pipes.old.items) }
@@ -53,6 +53,7 @@ fn add_pipe(
 impl Kernel {
     ghost use Rattle.iol_kernel.specs.Kernel.{holding};
 
+    /// Makes a pipe, and opens its read end and its write end.
     #[tactic(auto, using(crate::proofs::Stay::stay_rules))]
     pub fn pipe(&mut self, by: DomainId) -> Result<(Fd, Fd), Refusal>
         requires { IsSound (holding self.old) }
@@ -91,6 +92,7 @@ impl Kernel {
         }
     }
 
+    /// Moves a descriptor to a domain's lowest free number.
     #[tactic(auto, using(crate::proofs::Stay::stay_rules))]
     pub fn give_fd(&mut self, by: DomainId, fd: Fd, to: DomainId) -> Result<Fd, Refusal>
         requires { IsSound (holding self.old) }

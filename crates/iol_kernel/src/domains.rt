@@ -15,6 +15,7 @@ use std::alloc::AllocError;
 impl Kernel {
     ghost use Rattle.iol_kernel.specs.Kernel.{holding};
 
+    /// Makes a domain.
     #[tactic(auto, using(crate::proofs::Stay::stay_rules))]
     pub fn domain_new(&mut self, by: DomainId) -> Result<DomainId, Refusal>
         requires { IsSound (holding self.old) }

@@ -33,6 +33,7 @@ fn release_all(store: &mut Store, aggs: Taken<Agg>)
 impl Kernel {
     ghost use Rattle.iol_kernel.specs.Kernel.{holding};
 
+    /// Ends the caller: its descriptors are closed by rising number, and its aggregates given up.
     #[tactic(auto, using(crate::proofs::Stay::stay_rules))]
     pub fn exit(&mut self, by: DomainId) -> Result<(), Refusal>
         requires { IsSound (holding self.old) }

@@ -8,8 +8,7 @@ ghost use Rattle.iol_core.specs.Calls.Aggregates.{lacks_agg, too_many_aggs, next
 ghost use Rattle.iol_pool.specs.Pools.{names_in};
 ghost use Rattle.iol_hold.specs.Moves.{Stays};
 ghost use Rattle.iol_desc.specs.Tables.{domains_of, domain_in, agg_in, with_agg_in, without_agg_in};
-ghost use Rattle.iol_kernel.specs.Adding.{slices_in};
-ghost use Rattle.iol_kernel.specs.Holding.{machine_of, layout_of, IsSound};
+ghost use Rattle.iol_kernel.specs.Holding.{machine_of, layout_of, slices_in, IsSound};
 ghost use Rattle.iol_kernel.specs.Sharing.{SharesBy};
 
 use crate::kernel::Kernel;
@@ -54,6 +53,7 @@ fn move_agg(
 impl Kernel {
     ghost use Rattle.iol_kernel.specs.Kernel.{holding};
 
+    /// Moves an aggregate to a domain that may read all its bytes.
     #[tactic(auto, using(crate::proofs::Stay::stay_rules))]
     pub fn agg_give(&mut self, by: DomainId, agg: AggId, to: DomainId) -> Result<AggId, Refusal>
         requires { IsSound (holding self.old) }

@@ -186,7 +186,7 @@ impl Kernel {
     }
 
     /// How long a domain's aggregate is.
-    #[tactic(auto, using(crate::proofs::Queueing::length_rules), unfolding(crate::specs::Holding::machine_of, crate::specs::Holding::layout_of))]
+    #[tactic(auto, using(crate::proofs::ReadOf::length_rules), unfolding(crate::specs::Holding::machine_of, crate::specs::Holding::layout_of))]
     pub fn agg_len(&self, d: DomainId, agg: AggId) -> u32
         requires { is_live (machine_of (holding self.now)) d ≡ true }
         ensures means { result ≡ length (text (machine_of (holding self.now)) d agg) }

@@ -5,12 +5,12 @@
 #![tactic(auto)]
 
 pub mod aggregates;
-pub mod composing;
 pub mod closing;
+pub mod composing;
 pub mod descriptors;
 pub mod domains;
-pub mod giving;
 pub mod ending;
+pub mod giving;
 pub mod kernel;
 pub mod moving;
 pub mod pools;

@@ -8,8 +8,8 @@ ghost use Rattle.iol_hold.specs.Moves.{Covers, IsCountable, Stays};
 ghost use Rattle.iol_hold.specs.Places.{byte_len};
 ghost use Rattle.iol_hold.specs.Texts.{bufs_of};
 ghost use Rattle.iol_desc.specs.Tables.{domains_of, domain_in, agg_in};
-ghost use Rattle.iol_kernel.specs.Holding.{machine_of, layout_of, IsSound};
-ghost use Rattle.iol_kernel.specs.Regrouped.{slices_in, joined_in, SplitsAgg};
+ghost use Rattle.iol_kernel.specs.Holding.{machine_of, layout_of, IsSound, slices_in};
+ghost use Rattle.iol_kernel.specs.Regrouped.{joined_in, SplitsAgg};
 ghost use Rattle.iol_kernel.specs.Sharing.{SharesBy};
 
 use crate::kernel::Kernel;
@@ -98,6 +98,7 @@ fn join_aggs(
 impl Kernel {
     ghost use Rattle.iol_kernel.specs.Kernel.{holding};
 
+    /// Splits an aggregate into the bytes before a place and those from it on.
     #[tactic(auto, using(crate::proofs::Stay::stay_rules))]
     pub fn agg_split(
         &mut self,
@@ -154,6 +155,7 @@ impl Kernel {
         }
     }
 
+    /// Joins two aggregates, the first and then the second.
     #[tactic(auto, using(crate::proofs::Stay::stay_rules))]
     pub fn agg_join(&mut self, by: DomainId, first: AggId, second: AggId) -> Result<AggId, Refusal>
         requires { IsSound (holding self.old) }

@@ -23,6 +23,7 @@ use iol_pool::names::Names;
 impl Kernel {
     ghost use Rattle.iol_kernel.specs.Kernel.{holding};
 
+    /// Has the caller place in the pool from now on.
     #[tactic(auto, using(crate::proofs::Stay::stay_rules))]
     pub fn set_pool(&mut self, by: DomainId, pool: PoolId) -> Result<(), Refusal>
         requires { IsSound (holding self.old) }
@@ -65,6 +66,7 @@ impl Kernel {
         list.iter().all(|d| self.is_live(*d))
     }
 
+    /// Makes a pool of so many chunks, which the domains of a list may read.
     #[tactic(auto, using(crate::proofs::Stay::stay_rules))]
     pub fn pool_create(
         &mut self,
@@ -115,6 +117,7 @@ impl Kernel {
         }
     }
 
+    /// Closes a pool: nothing more is placed in it, and its bytes stay readable.
     #[tactic(auto, using(crate::proofs::Stay::stay_rules))]
     pub fn pool_close(&mut self, by: DomainId, pool: PoolId) -> Result<(), Refusal>
         requires { IsSound (holding self.old) }

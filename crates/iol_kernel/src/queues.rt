@@ -146,6 +146,7 @@ fn is_writing(pipes: &[Option<Pipe>], p: PipeId) -> bool
 impl Kernel {
     ghost use Rattle.iol_kernel.specs.Kernel.{holding};
 
+    /// Writes an aggregate, which stays, and tells how many of its bytes were taken.
     #[tactic(auto, using(crate::proofs::Stay::stay_rules))]
     pub fn iol_write(&mut self, by: DomainId, fd: Fd, agg: AggId) -> Result<u32, Refusal>
         requires { IsSound (holding self.old) }
@@ -261,6 +262,7 @@ impl Kernel {
         }
     }
 
+    /// Reads up to `count` bytes, as the caller's next aggregate.
     #[tactic(auto, using(crate::proofs::Stay::stay_rules))]
     pub fn iol_read(&mut self, by: DomainId, fd: Fd, count: u32) -> Result<AggId, Refusal>
         requires { IsSound (holding self.old) }

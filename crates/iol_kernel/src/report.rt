@@ -21,7 +21,7 @@ pub struct Report {
     pub buffers: u32,
 }
 
-// The pools that still have their chunks.
+/// The pools that still have their chunks, by rising number.
 pub fn report_pools(alloc: Global, store: &Store) -> Result<Vec<PoolReport>, AllocError>
     requires { length store.now.pools ≤ MAX_POOLS }
     ensures { IfOk result (λ v. v.items ≡ reports_of store.now (length store.now.pools)) }

@@ -2,8 +2,10 @@ use Rattle.std.proofs.Common.{◌≡◌, ◌∙◌, List, ◌++◌, ap, Some}
 use Rattle.iol_core.specs.State.{Domain}
 use Rattle.iol_hold.specs.declared.slices.Slice.{Slice}
 use Rattle.iol_desc.specs.Tables.{domains_of, domain_in, with_domain_in}
-use Rattle.iol_kernel.specs.Regrouped.{slices_in, joined_in, with_one}
-use Rattle.iol_kernel.proofs.Exchanging.{slices_found, other_found, join_table, both_back}
+use Rattle.iol_kernel.specs.Holding.{slices_in}
+use Rattle.iol_kernel.specs.Regrouped.{joined_in, with_one}
+use Rattle.iol_kernel.proofs.Exchanging.{other_found, join_table, both_back}
+use Rattle.iol_kernel.proofs.Slices.{slices_found}
 use Rattle.iol_kernel.proofs.moving.join_aggs.Goals as goal
 
 pub returns-in-Ok-clause-joined : goal.returns-in-Ok-clause-joined

@@ -6,7 +6,7 @@ use Rattle.iol_core.specs.declared.descriptors.Descriptor.{Descriptor}
 use Rattle.iol_desc.specs.Tables.{domains_of}
 use Rattle.iol_kernel.specs.Holding.{machine_of}
 use Rattle.iol_kernel.specs.Kernel.{holding}
-use Rattle.iol_kernel.proofs.Effects.{live_held, fds_held, fds-machine}
+use Rattle.iol_kernel.proofs.Effects.{live_held, fds-machine_of, fds-machine}
 use Rattle.iol_kernel.proofs.TakenEnds.{taken-sound, taken_ends}
 use Rattle.iol_kernel.proofs.kernel.Kernel.close_fds.Goals as goal
 
@@ -25,4 +25,4 @@ returns-clause-closed c =
     let h = holding c.args.self.now in
     c.close_ends.ensures.closed
     ∙ ap (λ (s : State). fold closed_on s c.deref.result.now) (fds-machine h (domains_of c.take_fds-ends.new.self) c.args.by _ c.take_fds-ends.ensures.rest)
-    ∙ ap (λ (xs : List (Option Descriptor)). fold closed_on (with_fds (machine_of h) c.args.by []) xs) (c.deref.ensures.value ∙ c.take_fds-ends.ensures.given ∙ sym (fds_held h c.args.by))
+    ∙ ap (λ (xs : List (Option Descriptor)). fold closed_on (with_fds (machine_of h) c.args.by []) xs) (c.deref.ensures.value ∙ c.take_fds-ends.ensures.given ∙ sym (fds-machine_of h c.args.by))

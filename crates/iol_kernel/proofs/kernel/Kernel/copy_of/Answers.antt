@@ -2,8 +2,9 @@ use Rattle.std.proofs.Common.{◌∙◌, sym, ap}
 use Rattle.iol_core.specs.Text.{bytes_of}
 use Rattle.iol_kernel.proofs.Effects.{live_held}
 use Rattle.iol_kernel.proofs.Sound.{agg_readable}
-use Rattle.iol_kernel.proofs.Queueing.{text_held, none_held}
 use Rattle.iol_kernel.specs.Kernel.{holding}
+use Rattle.iol_kernel.proofs.ReadOf.{text-machine_of}
+use Rattle.iol_kernel.proofs.Slices.{none_held}
 use Rattle.iol_kernel.proofs.kernel.Kernel.copy_of.Goals as goal
 
 pub agg-requires : goal.agg-requires
@@ -19,4 +20,4 @@ pub to_vec-requires : goal.to_vec-requires
 to_vec-requires c = agg_readable (holding c.args.self.now) c.args.by c.args.agg c.in-Some.found.now c.requires.sound (c.in-Some.ensures)
 
 pub returns-in-Ok : goal.returns-in-Ok
-returns-in-Ok c = c.in-Ok.ensures ∙ ap bytes_of (text_held (holding c.args.self.now) c.args.by c.args.agg c.in-Some.found.now (c.in-Some.ensures))
+returns-in-Ok c = c.in-Ok.ensures ∙ ap bytes_of (sym (text-machine_of (holding c.args.self.now) c.args.by c.args.agg c.in-Some.found.now (c.in-Some.ensures)))

@@ -9,9 +9,10 @@ use Rattle.iol_hold.specs.declared.slices.Slice.{Slice}
 use Rattle.iol_desc.specs.Tables.{domains_of, domain_in, with_aggs_in, with_fds_in}
 use Rattle.iol_kernel.specs.Holding.{Holding, machine_of}
 use Rattle.iol_kernel.specs.Kernel.{holding}
-use Rattle.iol_kernel.proofs.Effects.{live_held, fds_held}
+use Rattle.iol_kernel.proofs.Effects.{live_held, fds-machine_of}
 use Rattle.iol_kernel.proofs.CloseAll.{ended_after}
-use Rattle.iol_kernel.proofs.GivenUp.{domain_in-changed, live_meant, ended-machine, ended-sound}
+use Rattle.iol_kernel.proofs.GivenUp.{live_meant, ended-machine, ended-sound}
+use Rattle.iol_kernel.proofs.Rows.{domain_in-changed}
 use Rattle.iol_kernel.proofs.kernel.Kernel.end.Goals as goal
 
 pub close_fds-requires-clause-live : goal.close_fds-requires-clause-live
@@ -52,7 +53,7 @@ returns-clause-ended c =
     let d = c.args.by in
     let live = live_held h d c.requires.live in
     let same : (machine.domain (machine_of k) d).fds ≡ (machine.domain (machine_of h) d).fds =
-    fds_held k d ∙ ap (λ (y : Domain (List Slice)). y.fds) (domain_in-changed h.domains k.domains d (record (domain_in h.domains d) { aggs = [] }) live c.drop_aggs.ensures.domains) ∙ sym (fds_held h d) in
+    fds-machine_of k d ∙ ap (λ (y : Domain (List Slice)). y.fds) (domain_in-changed h.domains k.domains d (record (domain_in h.domains d) { aggs = [] }) live c.drop_aggs.ensures.domains) ∙ sym (fds-machine_of h d) in
     ended-machine l (domains_of c.end_domain.new.self) d c.end_domain.ensures
     ∙ ap (λ (s : State). machine.with_domain s d no_domain) c.close_fds.ensures.closed
     ∙ ap (λ (xs : List (Option Descriptor)). machine.with_domain (fold closed_on (with_fds (machine_of k) d []) xs) d no_domain) same

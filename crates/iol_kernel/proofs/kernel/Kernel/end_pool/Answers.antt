@@ -1,10 +1,10 @@
 use Rattle.std.proofs.Common.{◌∙◌, sym}
 use Rattle.iol_kernel.specs.Kernel.{holding}
-use Rattle.iol_kernel.proofs.Effects.{closed-machine, unmoved-sound, as_many_pools, is_pool_held, idle_held}
+use Rattle.iol_kernel.proofs.Effects.{closed-machine, unmoved-sound, as_many_pools, is_pool-machine_of, idle_held}
 use Rattle.iol_kernel.proofs.kernel.Kernel.end_pool.Goals as goal
 
 pub close_pool-requires : goal.close_pool-requires
-close_pool-requires c = sym (is_pool_held (holding c.args.self.now) c.args.p) ∙ c.requires.there
+close_pool-requires c = sym (is_pool-machine_of (holding c.args.self.now) c.args.p) ∙ c.requires.there
 
 pub returns-clause-idle : goal.returns-clause-idle
 returns-clause-idle c = idle_held (holding c.args.self.now) c.args.p

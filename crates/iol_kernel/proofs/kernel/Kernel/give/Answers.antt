@@ -1,10 +1,11 @@
-use Rattle.std.proofs.Common.{◌∙◌, sym}
+use Rattle.std.proofs.Common.{arith, ◌∙◌, sym}
 use Rattle.iol_desc.specs.Tables.{domains_of}
 use Rattle.iol_kernel.specs.Kernel.{holding}
-use Rattle.iol_kernel.proofs.Effects.{live_held, next_held}
+use Rattle.iol_kernel.proofs.Effects.{live_held, next_agg-machine_of, few_numbers}
 use Rattle.iol_kernel.proofs.Sharing.{changes_machine, changes_layout}
-use Rattle.iol_kernel.proofs.Additions.{slices_there, next_laid}
-use Rattle.iol_kernel.proofs.Gifts.{few_given, given-changes, given-sound}
+use Rattle.iol_kernel.proofs.Gifts.{given-changes, given-sound}
+use Rattle.iol_kernel.proofs.ReadOf.{next_agg-layout_of}
+use Rattle.iol_kernel.proofs.Slices.{there_held}
 use Rattle.iol_kernel.proofs.kernel.Kernel.give.Goals as goal
 
 pub move_agg-requires-clause-from : goal.move_agg-requires-clause-from
@@ -14,16 +15,16 @@ pub move_agg-requires-clause-to : goal.move_agg-requires-clause-to
 move_agg-requires-clause-to c = live_held (holding c.args.self.now) c.args.to c.requires.to
 
 pub move_agg-requires-clause-there : goal.move_agg-requires-clause-there
-move_agg-requires-clause-there c = slices_there (holding c.args.self.now) c.args.by c.args.agg c.requires.there
+move_agg-requires-clause-there c = there_held (holding c.args.self.now) c.args.by c.args.agg c.requires.there
 
 pub move_agg-requires-clause-few : goal.move_agg-requires-clause-few
-move_agg-requires-clause-few c = few_given (holding c.args.self.now) c.args.to c.requires.few
+move_agg-requires-clause-few c = omega (arith, few_numbers (holding c.args.self.now) c.args.to 1 1 c.requires.few)
 
 pub returns-in-Ok-clause-number : goal.returns-in-Ok-clause-number
-returns-in-Ok-clause-number c = c.in-Ok.ensures.number ∙ sym (next_held (holding c.args.self.now) c.args.to)
+returns-in-Ok-clause-number c = c.in-Ok.ensures.number ∙ sym (next_agg-machine_of (holding c.args.self.now) c.args.to)
 
 pub returns-in-Ok-clause-laid_number : goal.returns-in-Ok-clause-laid_number
-returns-in-Ok-clause-laid_number c = c.in-Ok.ensures.number ∙ sym (next_laid (holding c.args.self.now) c.args.to)
+returns-in-Ok-clause-laid_number c = c.in-Ok.ensures.number ∙ sym (next_agg-layout_of (holding c.args.self.now) c.args.to)
 
 pub returns-in-Ok-clause-given : goal.returns-in-Ok-clause-given
 returns-in-Ok-clause-given c =
@@ -38,4 +39,4 @@ returns-in-Ok-clause-laid c =
 pub returns-in-Ok-clause-sound : goal.returns-in-Ok-clause-sound
 returns-in-Ok-clause-sound c =
     let h = holding c.args.self.now in
-    given-sound h (domains_of c.move_agg.new.domains) c.args.by c.args.agg c.args.to (live_held h c.args.by c.requires.from) c.in-Ok.ensures.moved c.requires.sound (live_held h c.args.to c.requires.to) (slices_there h c.args.by c.args.agg c.requires.there)
+    given-sound h (domains_of c.move_agg.new.domains) c.args.by c.args.agg c.args.to (live_held h c.args.by c.requires.from) c.in-Ok.ensures.moved c.requires.sound (live_held h c.args.to c.requires.to) (there_held h c.args.by c.args.agg c.requires.there)

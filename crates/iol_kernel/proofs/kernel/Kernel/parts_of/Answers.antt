@@ -4,8 +4,9 @@ use Rattle.iol_kernel.proofs.Effects.{live_held}
 use Rattle.iol_kernel.proofs.Sound.{agg_readable}
 use Rattle.iol_agg.proofs.Partwise.{flat_map-parts_of}
 use Rattle.iol_kernel.specs.Holding.{joined}
-use Rattle.iol_kernel.proofs.Queueing.{text_held, none_held}
 use Rattle.iol_kernel.specs.Kernel.{holding}
+use Rattle.iol_kernel.proofs.ReadOf.{text-machine_of}
+use Rattle.iol_kernel.proofs.Slices.{none_held}
 use Rattle.iol_kernel.proofs.kernel.Kernel.parts_of.Goals as goal
 
 pub agg-requires : goal.agg-requires
@@ -25,4 +26,4 @@ returns c =
     let found = c.in-Some.ensures in
     ap joined c.parts.ensures
     ∙ flat_map-parts_of c.args.self.now.store c.in-Some.found.now (agg_readable (holding c.args.self.now) c.args.by c.args.agg c.in-Some.found.now c.requires.sound found)
-    ∙ ap bytes_of (text_held (holding c.args.self.now) c.args.by c.args.agg c.in-Some.found.now found)
+    ∙ ap bytes_of (sym (text-machine_of (holding c.args.self.now) c.args.by c.args.agg c.in-Some.found.now found))

@@ -7,9 +7,8 @@ use Rattle.iol_hold.specs.Places.{places}
 use Rattle.std.proofs.lemmas.List.{length-take}
 use Rattle.iol_kernel.proofs.Sound.{agg_small}
 use Rattle.iol_kernel.proofs.Uses.{agg_covered, countable}
-use Rattle.iol_kernel.proofs.Queueing.{queue_short, pushed-sound, text_held, none_held, length_held}
+use Rattle.iol_kernel.proofs.Queueing.{queue_short, pushed-sound}
 use Rattle.std.specs.Prelude.{min, ◌-◌}
-use Rattle.iol_core.specs.State.{text}
 use Rattle.iol_kernel.specs.Holding.{machine_of}
 use Rattle.std.proofs.Common.{length}
 use Rattle.iol_kernel.specs.Kernel.{holding}
@@ -19,6 +18,7 @@ use Rattle.iol_kernel.specs.Holding.{layout_of}
 use Rattle.iol_kernel.specs.Sharing.{read_of}
 use Rattle.iol_kernel.proofs.Sharing.{changes_machine, changes_layout}
 use Rattle.iol_kernel.proofs.Flowing.{after_push, pushed-changes, fits}
+use Rattle.iol_kernel.proofs.Slices.{none_held}
 use Rattle.iol_kernel.proofs.kernel.Kernel.push.Goals as goal
 
 pub agg-requires : goal.agg-requires
