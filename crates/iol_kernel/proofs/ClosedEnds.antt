@@ -69,8 +69,6 @@ uses-with_pipe b qs p x there empty = pick (x.reading || x.writing) refl
         let e = sum_by-set (pipe_uses b) qs p none none there in
         omega (arith, e, uses_at b qs p, ap (uses b) (empty is), tally_none b)
 
--- the machine
-
 -- what the machine does to the pipe
 reader-machine : (h : Holding) (p : ℕ) → machine.with_pipe (machine_of h) p (pipe_meant (text_of h.store) (without_reader (queue_at h.pipes p))) ≡ fds.closed_on (machine_of h) (Some (on.ReadEnd p))
 reader-machine h p = ap (λ (y : machine.Pipe). machine.with_pipe (machine_of h) p (record y { queue = []; reading = false })) (sym (pipe_at-machine_of h p))
