@@ -1,11 +1,10 @@
 -- Closing the end of a pipe, as the machine sees it.
-use Rattle.std.proofs.Common.{◌≡◌, ℕ, ◌+◌, ◌<◌, ◌≤◌, List, [], ◌∷◌, length, map, ap, ◌∙◌, refl, sym, subst, arith, Option, Some, None, inl, inr, ◌⊎◌, get_or, true, false, Bool, length-set, ◌≢◌}
-use Rattle.std.specs.Prelude.{slice_set, unwrap_or, option_map, if◌then◌else◌, ◌||◌, sum_by, cond, eqb}
+use Rattle.std.proofs.Common.{◌≡◌, ℕ, ◌+◌, ◌<◌, ◌≤◌, List, [], ◌∷◌, length, ap, ◌∙◌, refl, sym, subst, arith, Option, Some, None, inl, inr, ◌⊎◌, get_or, true, false, Bool, length-set, ◌≢◌}
+use Rattle.std.specs.Prelude.{slice_set, unwrap_or, if◌then◌else◌, ◌||◌, sum_by, cond, eqb}
 use Rattle.std.proofs.lemmas.Bool.{cases_eq}
 use Rattle.std.proofs.lemmas.Bool.Decides.{nat_tests}
-use Rattle.std.proofs.lemmas.List.{set-set, map-set, get_or-set_same, get_or-set_other, get_or_default}
+use Rattle.std.proofs.lemmas.List.{set-set, get_or-set_same, get_or-set_other, get_or_default}
 use Rattle.std.proofs.lemmas.List.Sums.{sum_by-set, sum_by-cons}
-use Rattle.iol_core.specs.Text.{Text}
 use Rattle.iol_core.specs.Numbered.{in_place}
 use Rattle.iol_core.specs.State as machine
 use Rattle.iol_core.specs.State.{State, Domain}
@@ -13,7 +12,6 @@ use Rattle.iol_core.specs.Calls.Descriptors as fds
 use Rattle.iol_core.specs.declared.descriptors.Descriptor.{Descriptor}
 use Rattle.iol_core.specs.declared.descriptors.Descriptor.TheVariants as on
 use Rattle.iol_core.specs.declared.numbers.BufId.{BufId}
-use Rattle.iol_pool.specs.Pools.{Pool}
 use Rattle.iol_hold.specs.Stored.{Stored}
 use Rattle.iol_hold.specs.Moves.{Moves, SameLists}
 use Rattle.iol_hold.specs.Places.{byte_len}
@@ -33,6 +31,7 @@ use Rattle.iol_kernel.proofs.Ends.{there_if_open, closed_pipe}
 use Rattle.iol_kernel.proofs.Effects.{moved-machine, moved-sound, same_length}
 use Rattle.iol_kernel.proofs.Queueing.{queue_readable, queue_short}
 use Rattle.iol_kernel.proofs.ReadOf.{pipe_at-machine_of}
+use Rattle.iol_kernel.proofs.Meant.{with_pipe_in-seen}
 
 pub moves_same : (s : Stored) (xs : List BufId) → Moves s s xs xs
 moves_same s xs = let m = moves_none s in record { counts = record { each = λ b. refl }; stays = m.stays; still = m.still; tidy = m.tidy }
@@ -69,18 +68,6 @@ uses-with_pipe b qs p x there empty = pick (x.reading || x.writing) refl
         let none : Option (Pipe (List Slice)) = None in
         let e = sum_by-set (pipe_uses b) qs p none none there in
         omega (arith, e, uses_at b qs p, ap (uses b) (empty is), tally_none b)
-
--- the machine
-
-with_pipe_in-seen : {A : Type 0} (g : A → Text) (x : Pipe A) (k : Bool) → option_map (pipe_meant g) (if k then Some x else None) ≡ (if k then Some (pipe_meant g x) else None)
-with_pipe_in-seen g x true = refl
-with_pipe_in-seen g x false = refl
-
-closed-seen : (g : List Slice → Text) (ds : List (Domain (List Slice))) (ps : List Pool) (qs : Pipes) (p : ℕ) (x : Pipe (List Slice)) → seen g ds ps (with_pipe_in qs p x) ≡ machine.with_pipe (seen g ds ps qs) p (pipe_meant g x)
-unfolding seen machine.with_pipe
-closed-seen g ds ps qs p x =
-    ap (λ (xs : List (Option machine.Pipe)). record (seen g ds ps qs) { pipes = xs })
-    (map-set (option_map (pipe_meant g)) qs p (if x.reading || x.writing then Some x else None) ∙ ap (λ o. slice_set (map (option_map (pipe_meant g)) qs) p o) (with_pipe_in-seen g x (x.reading || x.writing)))
 
 -- what the machine does to the pipe
 reader-machine : (h : Holding) (p : ℕ) → machine.with_pipe (machine_of h) p (pipe_meant (text_of h.store) (without_reader (queue_at h.pipes p))) ≡ fds.closed_on (machine_of h) (Some (on.ReadEnd p))
@@ -195,7 +182,7 @@ module _ (h : Holding) (t : Stored) (qs : Pipes) (p : ℕ) (x : Pipe (List Slice
   closed_pipe-machine =
       ap (λ (ys : Pipes). seen (text_of t) h.domains t.pools ys) closes.pipes
       ∙ moved-machine h.store t h.domains less closes.moves.stays closes.lists (counted_held less_counted) sound.domains less_good
-      ∙ closed-seen (text_of h.store) h.domains h.store.pools h.pipes p x
+      ∙ with_pipe_in-seen (text_of h.store) h.domains h.store.pools h.pipes p x
 
   closed_pipe-sound : (end : Descriptor) → KeepsEnds end h.pipes less → all_ends_on end h.domains ≡ 0 → IsSound (record h { store = t; pipes = qs })
   closed_pipe-sound end keeps free = subst (λ (ys : Pipes). IsSound (record h { store = t; pipes = ys })) (sym closes.pipes)

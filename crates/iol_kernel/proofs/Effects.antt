@@ -35,8 +35,7 @@ pub grown-machine : (h : Holding) (ds : List (Domain (List Slice))) → ds ≡ h
 unfolding machine_of
 grown-machine h ds is = ap (λ (xs : List (Domain (List Slice))). seen (text_of h.store) xs h.store.pools h.pipes) is ∙ add_domain-seen (text_of h.store) h.domains h.store.pools h.pipes
 
--- a list of domains that is as it was
-
+-- what follows from a success
 pub on_ok : {A E P Q : Type 0} (r : Result A E) → (P → Q) → OnOk r P → OnOk r Q
 on_ok (Ok x) f h = f h
 on_ok (Err e) f h = h

@@ -68,9 +68,7 @@ without-twice (e ∷ es) m n = let r = without-twice es m n in elim (cases_eq e.
   | inr k ↦ elim (cases_eq e.0 n) [ inl l ↦ grind (arith, nat_tests, k, l) | inr l ↦ grind (arith, nat_tests, k, l, r) ]
 ]
 
--- Of a table, where one domain changes.
-
--- a domain that changed already changes once more
+-- Of a table: a domain that changed already changes once more.
 pub changed_again : (F : Domain (List Slice) → Domain (List Slice)) (ds ms rs : Domains) (d : ℕ) (x : Domain (List Slice)) → (domain_in ds d).live ≡ true → ms ≡ with_domain_in ds d x → rs ≡ with_domain_in ms d (F (domain_in ms d)) → rs ≡ with_domain_in ds d (F x)
 changed_again F ds ms rs d x live is then =
     then

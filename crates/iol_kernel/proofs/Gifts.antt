@@ -26,7 +26,7 @@ use Rattle.iol_kernel.proofs.ReadOf.{is_live-read_of, text-read_of}
 use Rattle.iol_kernel.proofs.Slices.{found_slices}
 use Rattle.iol_kernel.proofs.Rows.{domain-with_same, domain-with_other, with_domain-twice, with_domain-comm}
 
--- On the machine's states.
+-- On the machine's states: an aggregate is taken from a domain and added to one.
 
 abbrev less : Domain Text → (a : ℕ) → Domain Text
 less x a = record x { aggs = without x.aggs a }

@@ -1,6 +1,6 @@
 -- What the tables stand for, word by word.
 use Rattle.std.proofs.Common.{inl, inr, ◌≡◌, ℕ, suc, ◌+◌, ◌-◌, List, [], ◌∷◌, ◌++◌, length, map, ap, ◌∙◌, refl, sym, arith, Option, Some, None, true, false}
-use Rattle.std.specs.Prelude.{slice_set, unwrap_or, if◌then◌else◌, option_map, ◌||◌, nat_lt}
+use Rattle.std.specs.Prelude.{slice_set, unwrap_or, if◌then◌else◌, option_map, ◌||◌, nat_lt, Bool}
 use Rattle.std.specs.List.{sum_by}
 use Rattle.std.proofs.Math.ListN.{get_or-map}
 use Rattle.std.proofs.lemmas.List.{map-set, map-append}
@@ -179,15 +179,21 @@ pipe_at-seen {A} g ds ps qs z p none =
     found None = ap (λ (t : Text). record machine.no_pipe { queue = t }) (sym none)
     found (Some x) = refl
 
--- a pipe with an open end stays
-stays : {A : Type 0} (g : A → Text) (x : Pipe A) → (x.reading || x.writing) ≡ true → (if x.reading || x.writing then Some (pipe_meant g x) else None) ≡ Some (pipe_meant g x)
-stays g x any = rw any refl
+-- a pipe stays where an end is open
+kept_or_gone : {A : Type 0} (g : A → Text) (x : Pipe A) (k : Bool) → option_map (pipe_meant g) (if k then Some x else None) ≡ (if k then Some (pipe_meant g x) else None)
+kept_or_gone g x true = refl
+kept_or_gone g x false = refl
+
+pub with_pipe_in-seen : {A : Type 0} (g : A → Text) (ds : List (Domain A)) (ps : List Pool) (qs : List (Option (Pipe A))) (p : ℕ) (x : Pipe A)
+    → seen g ds ps (slice_set qs p (if x.reading || x.writing then Some x else None)) ≡ machine.with_pipe (seen g ds ps qs) p (pipe_meant g x)
+unfolding seen machine.with_pipe
+with_pipe_in-seen g ds ps qs p x =
+    ap (λ (xs : List (Option machine.Pipe)). record (seen g ds ps qs) { pipes = xs })
+    (map-set (option_map (pipe_meant g)) qs p (if x.reading || x.writing then Some x else None) ∙ ap (λ o. slice_set (map (option_map (pipe_meant g)) qs) p o) (kept_or_gone g x (x.reading || x.writing)))
 
 pub with_pipe-seen : {A : Type 0} (g : A → Text) (ds : List (Domain A)) (ps : List Pool) (qs : List (Option (Pipe A))) (p : ℕ) (x : Pipe A) → (x.reading || x.writing) ≡ true → seen g ds ps (slice_set qs p (Some x)) ≡ machine.with_pipe (seen g ds ps qs) p (pipe_meant g x)
-unfolding seen machine.with_pipe
-with_pipe-seen g ds ps qs p x any =
-    ap (λ (xs : List (Option machine.Pipe)). record (seen g ds ps qs) { pipes = xs })
-    (map-set (option_map (pipe_meant g)) qs p (Some x) ∙ ap (λ o. slice_set (map (option_map (pipe_meant g)) qs) p o) (sym (stays g x any)))
+with_pipe-seen {A} g ds ps qs p x any =
+    ap (λ b. seen g ds ps (slice_set qs p (if b then Some x else None))) (sym any) ∙ with_pipe_in-seen g ds ps qs p x
 
 pub ruleset domain_rules = (domain-seen, aggregate-seen, too_many-seen, text-seen)
 

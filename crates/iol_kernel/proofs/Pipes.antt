@@ -37,7 +37,7 @@ ends-machine h d =
     ap {B = ℕ × ℕ} (λ (xs : List (Option Descriptor)). (lowest xs, lowest (with_read_end xs (lowest (machine_of h).pipes)))) (fds-machine_of h d)
     ∙ ap {B = ℕ × ℕ} (λ n. (lowest (domain_in h.domains d).fds, lowest (with_read_end (domain_in h.domains d).fds n))) (lowest-seen (text_of h.store) h.domains h.store.pools h.pipes)
 
--- a new pipe, with with_ends ends in a domain
+-- a new pipe, with both ends in a domain
 
 abbrev piped : State → (d : ℕ) → List (Option Descriptor) → (pipe : ℕ) → State
 piped m d xs n = record (fds.with_fds m d (with_ends xs n)) { pipes = placed m.pipes n new_pipe }

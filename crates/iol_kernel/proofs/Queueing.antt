@@ -1,4 +1,4 @@
--- Effects on queues, as the machine sees them.
+-- Pipes stay sound where a queue gets bytes or gives them to a domain.
 use Rattle.std.proofs.Common.{◌≡◌, ℕ, ◌+◌, ◌<◌, ◌≤◌, List, [], ◌∷◌, ◌++◌, length, take, ap, refl, sym, subst, arith, Option, Some, None, true, false, inl, inr, length-set}
 use Rattle.std.specs.Prelude.{slice_set, unwrap_or}
 use Rattle.std.specs.List.{prefix_len}

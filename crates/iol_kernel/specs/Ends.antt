@@ -10,6 +10,7 @@ same_end (on.ReadEnd p) (on.ReadEnd q) = cond (eqb p q) 1 0
 same_end (on.WriteEnd p) (on.WriteEnd q) = cond (eqb p q) 1 0
 same_end _ _ = 0
 
+-- 1 where a number is open on the end x
 abbrev pub on_end : Descriptor → Option Descriptor → ℕ
 on_end x None = 0
 on_end x (Some y) = same_end x y

@@ -40,9 +40,11 @@ abbrev pub Each : {A : Type 0} → (A → Type 0) → List A → Type 0
 Each P [] = Unit {0}
 Each P (x ∷ xs) = P x × Each P xs
 
+-- what its aggregates name lies in live buffers of their pools
 abbrev pub IsDomainReadable : Stored → machine.Domain (List Slice) → Type 0
 IsDomainReadable s d = Each (λ e. AllReadable s e.1) d.aggs
 
+-- so does what its queue names
 abbrev pub IsPipeReadable : Stored → Option (Pipe (List Slice)) → Type 0
 IsPipeReadable s None = Unit {0}
 IsPipeReadable s (Some p) = AllReadable s p.queue
@@ -63,6 +65,7 @@ IsOpenEnd pipes (Some (on.WriteEnd p)) = (queue_at pipes p).writing ≡ true
 IsOpenEnd pipes (Some (on.File f at mode)) = ⊥
 IsOpenEnd pipes (Some (on.Connection c)) = ⊥
 
+-- its queue is within the limit
 abbrev pub IsShort : Option (Pipe (List Slice)) → Type 0
 IsShort None = Unit {0}
 IsShort (Some p) = byte_len p.queue ≤ MAX_QUEUE_BYTES

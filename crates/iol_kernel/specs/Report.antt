@@ -6,6 +6,7 @@ use Rattle.iol_pool.specs.Pools.{pool_in}
 use Rattle.iol_pool.specs.declared.report.PoolReport.{PoolReport}
 use Rattle.iol_hold.specs.Stored.{Stored}
 
+-- the chunks that a pool has
 abbrev pub chunks_in : Stored → (p : ℕ) → List ℕ
 chunks_in s p = (pool_in s.pools p).chunks
 

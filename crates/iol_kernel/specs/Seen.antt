@@ -17,6 +17,7 @@ pub record Pipe (A : Type 0) : Type 0 where
   pub reading : Bool
   pub writing : Bool
 
+-- its queue as the text that g gives
 abbrev pub pipe_meant : {A : Type 0} → (A → Text) → Pipe A → machine.Pipe
 pipe_meant g p = record { queue = g p.queue; reading = p.reading; writing = p.writing }
 
@@ -32,5 +33,6 @@ seen g domains pools pipes = record {
   next_conn = 1;
 }
 
+-- the pipe in a place; where there is none, a pipe of that queue whose ends are closed
 abbrev pub pipe_in : {A : Type 0} → A → List (Option (Pipe A)) → (p : ℕ) → Pipe A
 pipe_in none pipes p = unwrap_or (in_place pipes p) (record { queue = none; reading = false; writing = false })
