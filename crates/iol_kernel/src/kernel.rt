@@ -78,7 +78,7 @@ impl Kernel {
 
     /// Whether a domain is live.
     #[tactic(auto, using(crate::proofs::Meant::domain_rules), unfolding(crate::specs::Holding::machine_of, crate::specs::Holding::layout_of))]
-    pub fn is_live(&self, d: DomainId) -> bool
+    pub(crate) fn is_live(&self, d: DomainId) -> bool
         ensures means { result ≡ is_live (machine_of (holding self.now)) d }
         ensures laid { result ≡ is_live (layout_of (holding self.now)) d }
     {
@@ -87,7 +87,7 @@ impl Kernel {
 
     /// Whether the domain has no such aggregate.
     #[tactic(auto, using(crate::proofs::Meant::domain_rules), unfolding(crate::specs::Holding::machine_of, crate::specs::Holding::layout_of))]
-    pub fn lacks_agg(&self, d: DomainId, agg: AggId) -> bool
+    pub(crate) fn lacks_agg(&self, d: DomainId, agg: AggId) -> bool
         requires { is_live (machine_of (holding self.now)) d ≡ true }
         ensures means { result ≡ lacks_agg (machine_of (holding self.now)) d agg }
         ensures laid { result ≡ lacks_agg (layout_of (holding self.now)) d agg }
@@ -97,7 +97,7 @@ impl Kernel {
 
     /// Whether so many new aggregates, with so many given up, are too many.
     #[tactic(auto, using(crate::proofs::Meant::domain_rules), unfolding(crate::specs::Holding::machine_of, crate::specs::Holding::layout_of))]
-    pub fn is_too_many(&self, d: DomainId, made: u64, given: u64) -> bool
+    pub(crate) fn is_too_many(&self, d: DomainId, made: u64, given: u64) -> bool
         requires live { is_live (machine_of (holding self.now)) d ≡ true }
         requires made { made ≤ 2 }
         requires given { given ≤ 2 }
@@ -109,7 +109,7 @@ impl Kernel {
 
     /// The pool that the domain places in.
     #[tactic(auto, using(crate::proofs::Meant::domain_rules), unfolding(crate::specs::Holding::machine_of))]
-    pub fn default_of(&self, d: DomainId) -> Option<PoolId>
+    pub(crate) fn default_of(&self, d: DomainId) -> Option<PoolId>
         requires { is_live (machine_of (holding self.now)) d ≡ true }
         ensures { result ≡ (domain (machine_of (holding self.now)) d).default }
     {
@@ -118,7 +118,7 @@ impl Kernel {
 
     /// What the domain's descriptor is open on.
     #[tactic(auto, using(crate::proofs::Meant::domain_rules), unfolding(crate::specs::Holding::machine_of, crate::specs::Holding::layout_of))]
-    pub fn descriptor(&self, d: DomainId, fd: Fd) -> Option<Descriptor>
+    pub(crate) fn descriptor(&self, d: DomainId, fd: Fd) -> Option<Descriptor>
         requires { is_live (machine_of (holding self.now)) d ≡ true }
         ensures means { result ≡ descriptor (machine_of (holding self.now)) d fd }
         ensures laid { result ≡ descriptor (layout_of (holding self.now)) d fd }
@@ -128,7 +128,7 @@ impl Kernel {
 
     /// Whether so many more descriptors are too many.
     #[tactic(auto, using(crate::proofs::Meant::domain_rules), unfolding(crate::specs::Holding::machine_of))]
-    pub fn is_open_beyond(&self, d: DomainId, made: usize) -> bool
+    pub(crate) fn is_open_beyond(&self, d: DomainId, made: usize) -> bool
         requires live { is_live (machine_of (holding self.now)) d ≡ true }
         requires made { made ≤ 2 }
         ensures { result ≡ too_many_open (machine_of (holding self.now)) d made }
@@ -138,7 +138,7 @@ impl Kernel {
 
     /// Whether there is a pool of this number.
     #[tactic(auto, using(crate::proofs::Meant::pool_rules), unfolding(crate::specs::Holding::machine_of))]
-    pub fn is_pool(&self, p: PoolId) -> bool
+    pub(crate) fn is_pool(&self, p: PoolId) -> bool
         ensures { result ≡ is_pool (machine_of (holding self.now)) p }
     {
         self.store.pools().is_pool(p)
@@ -146,7 +146,7 @@ impl Kernel {
 
     /// Whether nothing more is placed in the pool.
     #[tactic(auto, using(crate::proofs::Meant::pool_rules), unfolding(crate::specs::Holding::machine_of))]
-    pub fn is_closed(&self, p: PoolId) -> bool
+    pub(crate) fn is_closed(&self, p: PoolId) -> bool
         ensures { result ≡ (pool (machine_of (holding self.now)) p).closed }
     {
         self.store.pools().is_closed(p)
@@ -154,7 +154,7 @@ impl Kernel {
 
     /// Whether the pool's list names the domain.
     #[tactic(auto, using(crate::proofs::Meant::pool_rules), unfolding(crate::specs::Holding::machine_of, crate::specs::Holding::layout_of))]
-    pub fn may_read(&self, d: DomainId, p: PoolId) -> bool
+    pub(crate) fn may_read(&self, d: DomainId, p: PoolId) -> bool
         ensures means { result ≡ may_read (machine_of (holding self.now)) d p }
         ensures laid { result ≡ may_read (layout_of (holding self.now)) d p }
     {
@@ -163,7 +163,7 @@ impl Kernel {
 
     /// How many domains were ever made.
     #[tactic(auto, using(crate::proofs::Meant::count_rules), unfolding(crate::specs::Holding::machine_of))]
-    pub fn domain_count(&self) -> usize
+    pub(crate) fn domain_count(&self) -> usize
         ensures { result ≡ length (machine_of (holding self.now)).domains }
     {
         self.domains.len()
@@ -171,7 +171,7 @@ impl Kernel {
 
     /// How many pools were ever made.
     #[tactic(auto, using(crate::proofs::Meant::count_rules), unfolding(crate::specs::Holding::machine_of))]
-    pub fn pool_count(&self) -> usize
+    pub(crate) fn pool_count(&self) -> usize
         ensures { result ≡ length (machine_of (holding self.now)).pools }
     {
         self.store.pools().len()
@@ -179,7 +179,7 @@ impl Kernel {
 
     /// How many pipes are live.
     #[tactic(auto, using(crate::proofs::Meant::count_rules), unfolding(crate::specs::Holding::machine_of))]
-    pub fn pipe_count(&self) -> usize
+    pub(crate) fn pipe_count(&self) -> usize
         ensures { result ≡ taken (machine_of (holding self.now)).pipes }
     {
         taken_places(&self.pipes)
@@ -187,7 +187,7 @@ impl Kernel {
 
     /// How long a domain's aggregate is.
     #[tactic(auto, using(crate::proofs::ReadOf::length_rules), unfolding(crate::specs::Holding::machine_of, crate::specs::Holding::layout_of))]
-    pub fn agg_len(&self, d: DomainId, agg: AggId) -> u32
+    pub(crate) fn agg_len(&self, d: DomainId, agg: AggId) -> u32
         requires { is_live (machine_of (holding self.now)) d ≡ true }
         ensures means { result ≡ length (text (machine_of (holding self.now)) d agg) }
         ensures laid { result ≡ length (text (layout_of (holding self.now)) d agg) }

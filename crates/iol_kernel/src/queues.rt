@@ -355,7 +355,7 @@ impl Kernel {
         requires few { too_many_aggs (machine_of (holding self.old)) by 1 0 ≡ false }
         requires reading { (queue_at (holding self.old).pipes p).reading ≡ true }
         ensures number { IfOk result (λ a. a ≡ next_agg (machine_of (holding self.old)) by) }
-        ensures number_laid { IfOk result (λ a. a ≡ next_agg (layout_of (holding self.old)) by) }
+        ensures laid_number { IfOk result (λ a. a ≡ next_agg (layout_of (holding self.old)) by) }
         ensures laid { OnOk result (layout_of (holding self.new) ≡ with_agg (reading.read_on (layout_of (holding self.old)) by 0 (Some (Descriptor.ReadEnd p)) (length (reading.read_text (layout_of (holding self.old)) by (Some (Descriptor.ReadEnd p)) n))) by (reading.read_text (layout_of (holding self.old)) by (Some (Descriptor.ReadEnd p)) n)) }
         ensures arena { (holding self.new).store.arena ≡ (holding self.old).store.arena }
         ensures err_laid { OnErr result (layout_of (holding self.new) ≡ layout_of (holding self.old)) }

@@ -22,7 +22,7 @@ pub struct Report {
 }
 
 /// The pools that still have their chunks, by rising number.
-pub fn report_pools(alloc: Global, store: &Store) -> Result<Vec<PoolReport>, AllocError>
+pub(crate) fn report_pools(alloc: Global, store: &Store) -> Result<Vec<PoolReport>, AllocError>
     requires { length store.now.pools ≤ MAX_POOLS }
     ensures { IfOk result (λ v. v.items ≡ reports_of store.now (length store.now.pools)) }
 {

@@ -28,9 +28,9 @@ take_from-requires-clause-few c = omega (arith, few_numbers (holding c.args.self
 pub returns-in-Ok-clause-number : goal.returns-in-Ok-clause-number
 returns-in-Ok-clause-number c = c.in-Ok.ensures.number ∙ sym (next_agg-machine_of (holding c.args.self.now) c.args.by)
 
-pub returns-in-Ok-clause-number_laid : goal.returns-in-Ok-clause-number_laid
+pub returns-in-Ok-clause-laid_number : goal.returns-in-Ok-clause-laid_number
 unfolding layout_of read_of
-returns-in-Ok-clause-number_laid c = c.in-Ok.ensures.number ∙ sym (next_agg-read_of number_at (holding c.args.self.now) c.args.by)
+returns-in-Ok-clause-laid_number c = c.in-Ok.ensures.number ∙ sym (next_agg-read_of number_at (holding c.args.self.now) c.args.by)
 
 pub returns-in-Ok-clause-taken : goal.returns-in-Ok-clause-taken
 returns-in-Ok-clause-taken c =
