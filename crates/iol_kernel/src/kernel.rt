@@ -1,11 +1,12 @@
 //! What a system holds, and the tests that its calls make.
-ghost use Rattle.std.specs.Prelude.{◌⊎◌, ◌↔◌, Err, IfOk, IfErr, ◌≡◌, ◌≢◌, ◌==◌, ℕ, ◌+◌, ◌-◌, ◌<◌, ◌≤◌, length, true, false, Option, Some, None, option_map, is_none, is_some, IfSome, nat_lt};
+ghost use Rattle.std.specs.Prelude.{replicate, ◌*◌, ◌⊎◌, ◌↔◌, Err, IfOk, IfErr, ◌≡◌, ◌≢◌, ◌==◌, ℕ, ◌+◌, ◌-◌, ◌<◌, ◌≤◌, length, true, false, Option, Some, None, option_map, is_none, is_some, IfSome, nat_lt};
 ghost use Rattle.std.specs.Option.{option_copied};
 ghost use Rattle.iol_core.specs.Configuration.{IsInRange};
 ghost use Rattle.iol_core.specs.State.{new_state, no_slots, is_live, is_pool, may_read, pool, domain, aggregate, text, descriptor};
 ghost use Rattle.iol_core.specs.Numbered.{numbered_or, is_numbered, taken};
 ghost use Rattle.iol_core.specs.Calls.Aggregates.{lacks_agg, too_many_aggs};
 ghost use Rattle.iol_core.specs.Calls.Descriptors.{too_many_open};
+ghost use Rattle.iol_arena.specs.State.{no_entry};
 ghost use Rattle.iol_arena.specs.Buffers.{SharesNoPage, live_pages};
 ghost use Rattle.iol_kernel.specs.Report.{reports_of};
 ghost use Rattle.iol_desc.specs.Tables.{domain_in};
@@ -58,6 +59,9 @@ impl Kernel {
         ensures range { (result ≡ Err Refusal.BadRange) ↔ (IsInRange config → ⊥) }
         ensures errors { IfErr result (λ e. (e ≡ Refusal.BadRange) ⊎ (e ≡ Refusal.Memory)) }
         ensures new { IfOk result (λ k. machine_of (holding k) ≡ new_state no_slots) }
+        ensures entries { IfOk result (λ k. (holding k).store.arena.entries ≡ replicate (config.chunks * 16) no_entry) }
+        ensures taken { IfOk result (λ k. (holding k).store.arena.taken ≡ replicate config.chunks false) }
+        ensures limit { IfOk result (λ k. (holding k).store.arena.limit ≡ config.gen_limit) }
         ensures sound { IfOk result (λ k. IsSound (holding k)) }
     {
         let store = match Store::new(alloc, config) {

@@ -1,5 +1,5 @@
 //! A system: events, one step, and a run.
-ghost use Rattle.std.specs.Prelude.{◌≡◌, ◌⊎◌, ◌↔◌, length, true, false, Some, None, Err, IfOk, IfErr, OnOk, OnErr};
+ghost use Rattle.std.specs.Prelude.{replicate, ◌*◌, ◌≡◌, ◌⊎◌, ◌↔◌, length, true, false, Some, None, Err, IfOk, IfErr, OnOk, OnErr};
 ghost use Rattle.iol_core.specs.Configuration.{IsInRange};
 ghost use Rattle.iol_core.specs.State.{new_state, no_slots};
 ghost use Rattle.iol_core.specs.Run.{StepsTo, Run};
@@ -12,6 +12,7 @@ ghost use Rattle.iol_core.specs.Sharing.{is_sharing, LaysOut};
 ghost use Rattle.iol_core.specs.Meaning.{first};
 ghost use Rattle.iol_core.specs.Calls.Aggregates.{show};
 ghost use Rattle.iol_kernel.specs.Report.{reports_of};
+ghost use Rattle.iol_arena.specs.State.{no_entry};
 ghost use Rattle.iol_arena.specs.Buffers.{SharesNoPage, live_pages};
 ghost use Rattle.iol_system.specs.Room.{fits, IsDone, IsNoRoom};
 
@@ -52,6 +53,11 @@ impl System {
         ensures range { (result ≡ Err Refusal.BadRange) ↔ (IsInRange config → ⊥) }
         ensures errors { IfErr result (λ e. (e ≡ Refusal.BadRange) ⊎ (e ≡ Refusal.Memory)) }
         ensures new { IfOk result (λ s. machine_of s ≡ new_state no_slots) }
+
+        // Of as many pages as the sizes say, none used yet, and of their generation limit.
+        ensures entries { IfOk result (λ s. s.store.arena.entries ≡ replicate (config.chunks * 16) no_entry) }
+        ensures taken { IfOk result (λ s. s.store.arena.taken ≡ replicate config.chunks false) }
+        ensures limit { IfOk result (λ s. s.store.arena.limit ≡ config.gen_limit) }
         ensures safe { IfOk result IsSafe }
     {
         let kernel = Kernel::new(alloc, config)?;
