@@ -18,14 +18,14 @@ use Rattle.iol_hold.proofs.Reading.{readable_stays, length-text_of}
 use Rattle.iol_desc.specs.Tables.{domain_in, live_aggs_in}
 use Rattle.iol_kernel.specs.Seen.{seen}
 use Rattle.iol_kernel.specs.Adding.{replaced, AddsShared}
-use Rattle.iol_kernel.specs.Holding.{Holding, machine_of, IsSound, slices_in}
+use Rattle.iol_kernel.specs.KernelState.{KernelState, machine_of, IsSound, slices_in}
 use Rattle.iol_kernel.specs.Sharing.{read_of, Changes}
 use Rattle.iol_kernel.proofs.Meant.{with_agg-seen}
 use Rattle.iol_kernel.proofs.Effects.{placed-sound}
 use Rattle.iol_kernel.proofs.ReadOf.{text-read_of, length_text-machine_of}
 use Rattle.iol_kernel.proofs.Slices.{slices_readable, slices_small}
 
-module _ (h : Holding) (t : Stored) (ds : List (Domain (List Slice))) (d : ℕ) (bytes : List Place) (adds : AddsShared h.store t h.domains ds d bytes) where
+module _ (h : KernelState) (t : Stored) (ds : List (Domain (List Slice))) (d : ℕ) (bytes : List Place) (adds : AddsShared h.store t h.domains ds d bytes) where
   added-read : (f : Place → ℕ × ℕ) → read_of f (record h { store = t; domains = ds }) ≡ aggs.with_agg (read_of f h) d (read f adds.slices)
   unfolding read_of
   added-read f =
@@ -53,7 +53,7 @@ module _ (h : Holding) (t : Stored) (ds : List (Domain (List Slice))) (d : ℕ) 
 
 -- Part of an aggregate, or all of it.
 
-module _ (h : Holding) (t : Stored) (ds : List (Domain (List Slice))) (d a from to : ℕ) (adds : AddsShared h.store t h.domains ds d (slice_range (places (slices_in h.domains d a)) from to)) where
+module _ (h : KernelState) (t : Stored) (ds : List (Domain (List Slice))) (d a from to : ℕ) (adds : AddsShared h.store t h.domains ds d (slice_range (places (slices_in h.domains d a)) from to)) where
   pub cut-changes : Changes (λ s. aggs.with_agg s d (part (machine.text s d a) from to)) h (record h { store = t; domains = ds })
   cut-changes = added-changes h t ds d _ adds (λ s. part (machine.text s d a) from to)
       (λ f. read_cut f adds.slices (slices_in h.domains d a) from to adds.is_there ∙ ap (λ (u : Text). slice_range u from to) (sym (text-read_of f h d a)))
@@ -74,7 +74,7 @@ module _ (h : Holding) (t : Stored) (ds : List (Domain (List Slice))) (d a from 
 
 -- An aggregate with another in place of a range.
 
-module _ (h : Holding) (t : Stored) (ds : List (Domain (List Slice))) (d a from to b : ℕ) (adds : AddsShared h.store t h.domains ds d (replaced (places (slices_in h.domains d a)) from to (places (slices_in h.domains d b)))) where
+module _ (h : KernelState) (t : Stored) (ds : List (Domain (List Slice))) (d a from to b : ℕ) (adds : AddsShared h.store t h.domains ds d (replaced (places (slices_in h.domains d a)) from to (places (slices_in h.domains d b)))) where
   pub replaced-changes : Changes (λ s. aggs.with_agg s d (replaced (machine.text s d a) from to (machine.text s d b))) h (record h { store = t; domains = ds })
   replaced-changes = added-changes h t ds d _ adds (λ s. replaced (machine.text s d a) from to (machine.text s d b))
       (λ f. read_replaced f adds.slices (slices_in h.domains d a) (slices_in h.domains d b) from to adds.is_there

@@ -13,7 +13,7 @@ use Rattle.iol_hold.specs.Texts.{byte_at}
 use Rattle.iol_hold.proofs.AtPlaces.{keeps_bytes, keeps_numbers}
 use Rattle.iol_hold.specs.declared.slices.Slice.{Slice}
 use Rattle.iol_desc.specs.Tables.{agg_in}
-use Rattle.iol_kernel.specs.Holding.{Holding, machine_of, layout_of, slices_in}
+use Rattle.iol_kernel.specs.KernelState.{KernelState, machine_of, layout_of, slices_in}
 use Rattle.iol_kernel.specs.Sharing.{read_of}
 use Rattle.iol_kernel.proofs.Sharing.{read_machine, read_layout}
 use Rattle.iol_kernel.proofs.ReadOf.{may_read-read_of, text-read_of}
@@ -59,7 +59,7 @@ module _ (may : ℕ → Bool) (f : Place → ℕ × ℕ) (keeps : KeepsPools f) 
       first true = refl
       first false = refl
 
-pub barred-read_of : (f : Place → ℕ × ℕ) → KeepsPools f → (h : Holding) (d a to : ℕ) → barred (machine.may_read (read_of f h) to) (machine.text (read_of f h) d a) ≡ option_map (λ x. x.hold.pool) (find (λ x. not (names_in h.store.pools x.hold.pool to)) (slices_in h.domains d a))
+pub barred-read_of : (f : Place → ℕ × ℕ) → KeepsPools f → (h : KernelState) (d a to : ℕ) → barred (machine.may_read (read_of f h) to) (machine.text (read_of f h) d a) ≡ option_map (λ x. x.hold.pool) (find (λ x. not (names_in h.store.pools x.hold.pool to)) (slices_in h.domains d a))
 barred-read_of f keeps h d a to =
     let same : machine.may_read (read_of f h) to ≡ (λ q. names_in h.store.pools q to) = λ i. λ q. may_read-read_of f h to q i in
     ap (λ (may : ℕ → Bool). barred may (machine.text (read_of f h) d a)) same
@@ -70,13 +70,13 @@ barred-read_of f keeps h d a to =
 abbrev pub hidden : List Pool → (d : ℕ) → List Slice → Option ℕ
 hidden ps d xs = option_map (λ x. x.hold.pool) (find (λ x. not (names_in ps x.hold.pool d)) xs)
 
-barred_machine : (h : Holding) (d a to : ℕ) → barred (machine.may_read (machine_of h) to) (machine.text (machine_of h) d a) ≡ hidden h.store.pools to (slices_in h.domains d a)
+barred_machine : (h : KernelState) (d a to : ℕ) → barred (machine.may_read (machine_of h) to) (machine.text (machine_of h) d a) ≡ hidden h.store.pools to (slices_in h.domains d a)
 barred_machine h d a to = ap (λ (s : State). barred (machine.may_read s to) (machine.text s d a)) (read_machine h) ∙ barred-read_of (byte_at h.store) (keeps_bytes h.store) h d a to
 
-barred_layout : (h : Holding) (d a to : ℕ) → barred (machine.may_read (layout_of h) to) (machine.text (layout_of h) d a) ≡ hidden h.store.pools to (slices_in h.domains d a)
+barred_layout : (h : KernelState) (d a to : ℕ) → barred (machine.may_read (layout_of h) to) (machine.text (layout_of h) d a) ≡ hidden h.store.pools to (slices_in h.domains d a)
 barred_layout h d a to = ap (λ (s : State). barred (machine.may_read s to) (machine.text s d a)) (read_layout h) ∙ barred-read_of number_at keeps_numbers h d a to
 
-module _ (h : Holding) (d a to : ℕ) where
+module _ (h : KernelState) (d a to : ℕ) where
   hidden_held : (xs ys : List Slice) (ps : List Pool) → Some xs ≡ agg_in h.domains d a → ys ≡ xs → ps ≡ h.store.pools → hidden ps to ys ≡ hidden h.store.pools to (slices_in h.domains d a)
   hidden_held xs ys ps found same pools =
       ap (λ (l : List Pool). hidden l to ys) pools ∙ ap (hidden h.store.pools to) (same ∙ ap (λ (o : Option (List Slice)). unwrap_or o []) found)

@@ -10,9 +10,9 @@ use Rattle.iol_hold.specs.Stored.{Stored, count_in, count_of, IsTidy}
 use Rattle.iol_hold.specs.Texts.{text_of}
 use Rattle.iol_hold.specs.declared.slices.Slice.{Slice}
 use Rattle.iol_kernel.specs.Seen.{Pipe, seen}
-use Rattle.iol_kernel.specs.Holding.{Holding, machine_of, IsSound}
+use Rattle.iol_kernel.specs.KernelState.{KernelState, machine_of, IsSound}
 
-pub new-machine : (h : Holding) → h.domains ≡ new_domain ∷ [] → h.store.pools ≡ [] → h.pipes ≡ [] → machine_of h ≡ new_state no_slots
+pub new-machine : (h : KernelState) → h.domains ≡ new_domain ∷ [] → h.store.pools ≡ [] → h.pipes ≡ [] → machine_of h ≡ new_state no_slots
 unfolding machine_of seen
 new-machine h domains' pools' pipes' =
     ap (λ (ds : List (Domain (List Slice))). seen (text_of h.store) ds h.store.pools h.pipes) domains'
@@ -29,7 +29,7 @@ none_held : (s : Stored) (n : ℕ) → s.arena.entries ≡ replicate n no_entry 
 unfolding count_of
 none_held s n e b = ap (λ (x : Entry). count_in x (get_or s.counts b.page 0) b.generation) (ap (λ (es : List Entry). get_or es b.page no_entry) e ∙ every n b.page no_entry)
 
-pub new-sound : (h : Holding) (n : ℕ) → h.domains ≡ new_domain ∷ [] → h.store.arena.entries ≡ replicate n no_entry → IsTidy h.store → h.pipes ≡ [] → h.store.pools ≡ [] → IsSound h
+pub new-sound : (h : KernelState) (n : ℕ) → h.domains ≡ new_domain ∷ [] → h.store.arena.entries ≡ replicate n no_entry → IsTidy h.store → h.pipes ≡ [] → h.store.pools ≡ [] → IsSound h
 new-sound h n domains' entries' tidy pipes' pools' =
     subst (λ (ds : List (Domain (List Slice))). IsSound (record h { domains = ds })) (sym domains') (subst (λ (qs : List (Option (Pipe (List Slice)))). IsSound (record h { domains = new_domain ∷ []; pipes = qs })) (sym pipes') (record {
       domains = (tt, tt);

@@ -23,7 +23,7 @@ use Rattle.iol_hold.proofs.Reading.{readable_none}
 use Rattle.iol_kernel.specs.Seen.{Pipe, pipe_meant, seen}
 use Rattle.iol_kernel.specs.Counted.{uses, pipe_uses, IsCounted}
 use Rattle.iol_kernel.specs.Ends.{same_end, on_end, ends_on, all_ends_on}
-use Rattle.iol_kernel.specs.Holding.{Holding, machine_of, Each, IsOpenEnd, IsPipeReadable, IsShort, IsLimited, IsSound, queue_at}
+use Rattle.iol_kernel.specs.KernelState.{KernelState, machine_of, Each, IsOpenEnd, IsPipeReadable, IsShort, IsLimited, IsSound, queue_at}
 use Rattle.iol_kernel.specs.ClosedEnds.{without_reader, without_writer, with_pipe_in, ClosesEnd, KeepsEnds}
 use Rattle.iol_kernel.proofs.Uses.{uses-set_pipe, uses_at, Pipes}
 use Rattle.iol_kernel.proofs.Sound.{each-set, counted_held}
@@ -70,10 +70,10 @@ uses-with_pipe b qs p x there empty = pick (x.reading || x.writing) refl
         omega (arith, e, uses_at b qs p, ap (uses b) (empty is), tally_none b)
 
 -- what the machine does to the pipe
-reader-machine : (h : Holding) (p : ℕ) → machine.with_pipe (machine_of h) p (pipe_meant (text_of h.store) (without_reader (queue_at h.pipes p))) ≡ fds.closed_on (machine_of h) (Some (on.ReadEnd p))
+reader-machine : (h : KernelState) (p : ℕ) → machine.with_pipe (machine_of h) p (pipe_meant (text_of h.store) (without_reader (queue_at h.pipes p))) ≡ fds.closed_on (machine_of h) (Some (on.ReadEnd p))
 reader-machine h p = ap (λ (y : machine.Pipe). machine.with_pipe (machine_of h) p (record y { queue = []; reading = false })) (sym (pipe_at-machine_of h p))
 
-writer-machine : (h : Holding) (p : ℕ) → machine.with_pipe (machine_of h) p (pipe_meant (text_of h.store) (without_writer (queue_at h.pipes p))) ≡ fds.closed_on (machine_of h) (Some (on.WriteEnd p))
+writer-machine : (h : KernelState) (p : ℕ) → machine.with_pipe (machine_of h) p (pipe_meant (text_of h.store) (without_writer (queue_at h.pipes p))) ≡ fds.closed_on (machine_of h) (Some (on.WriteEnd p))
 unfolding machine.with_pipe
 writer-machine h p = gone (queue_at h.pipes p).queue (queue_at h.pipes p).reading ∙ ap (λ (y : machine.Pipe). machine.with_pipe (machine_of h) p (record y { writing = false })) (sym (pipe_at-machine_of h p))
   where
@@ -152,7 +152,7 @@ if_kept : (P : Option (Pipe (List Slice)) → Type 0) (b : Bool) (x : Pipe (List
 if_kept P true x none some = some
 if_kept P false x none some = none
 
-module _ (h : Holding) (t : Stored) (qs : Pipes) (p : ℕ) (x : Pipe (List Slice)) (sound : IsSound h) (there : p < length h.pipes) (closes : ClosesEnd h.store t h.pipes qs p x)
+module _ (h : KernelState) (t : Stored) (qs : Pipes) (p : ℕ) (x : Pipe (List Slice)) (sound : IsSound h) (there : p < length h.pipes) (closes : ClosesEnd h.store t h.pipes qs p x)
     (part : (x.queue ≡ []) ⊎ (x.queue ≡ (queue_at h.pipes p).queue)) (empty : (x.reading || x.writing) ≡ false → x.queue ≡ []) where
   abbrev less : Pipes
   less = with_pipe_in h.pipes p x
@@ -191,7 +191,7 @@ module _ (h : Holding) (t : Stored) (qs : Pipes) (p : ℕ) (x : Pipe (List Slice
 
 -- a read end
 
-module _ (h : Holding) (t : Stored) (qs : Pipes) (p : ℕ) (sound : IsSound h) (reading : (queue_at h.pipes p).reading ≡ true) (closes : ClosesEnd h.store t h.pipes qs p (without_reader (queue_at h.pipes p))) where
+module _ (h : KernelState) (t : Stored) (qs : Pipes) (p : ℕ) (sound : IsSound h) (reading : (queue_at h.pipes p).reading ≡ true) (closes : ClosesEnd h.store t h.pipes qs p (without_reader (queue_at h.pipes p))) where
   reader_there : p < length h.pipes
   reader_there = there_if_open h.pipes p (inl reading)
 
@@ -211,7 +211,7 @@ none_of : (q : List Slice) (r : Bool) → (r || false) ≡ false → (if r then 
 none_of q true e = absurd (cc)
 none_of q false e = refl
 
-module _ (h : Holding) (t : Stored) (qs : Pipes) (p : ℕ) (sound : IsSound h) (writing : (queue_at h.pipes p).writing ≡ true) (closes : ClosesEnd h.store t h.pipes qs p (without_writer (queue_at h.pipes p))) where
+module _ (h : KernelState) (t : Stored) (qs : Pipes) (p : ℕ) (sound : IsSound h) (writing : (queue_at h.pipes p).writing ≡ true) (closes : ClosesEnd h.store t h.pipes qs p (without_writer (queue_at h.pipes p))) where
   writer_there : p < length h.pipes
   writer_there = there_if_open h.pipes p (inr writing)
 

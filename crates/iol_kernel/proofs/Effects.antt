@@ -23,7 +23,7 @@ use Rattle.iol_desc.specs.Tables.{domain_in, with_domain_in, agg_in, without_agg
 use Rattle.iol_kernel.specs.Seen.{Pipe, seen}
 use Rattle.iol_kernel.specs.Counted.{IsCounted}
 use Rattle.iol_kernel.specs.Ends.{IsOpenOnce}
-use Rattle.iol_kernel.specs.Holding.{Holding, machine_of, Each, IsDomainReadable, IsPipeReadable, IsOpenEnd, IsSound, IsLimited, AddsText}
+use Rattle.iol_kernel.specs.KernelState.{KernelState, machine_of, Each, IsDomainReadable, IsPipeReadable, IsOpenEnd, IsSound, IsLimited, AddsText}
 use Rattle.iol_kernel.proofs.Meant.{pool-seen, is_pool-seen, pools-seen, closed-seen, added_pool-seen, length_pools-seen, add_domain-seen, with_agg-seen, without_agg-seen, with_fds-seen, with_domain-seen, domain-seen, live_aggs-seen, length-map'}
 use Rattle.iol_kernel.proofs.Uses.{uses-with_agg, uses-without_agg}
 use Rattle.iol_kernel.proofs.Once.{once_same}
@@ -31,7 +31,7 @@ use Rattle.iol_kernel.proofs.Sound.{AreHeld, counted_held, domains_stay, pipes_s
 
 -- a new domain
 
-pub grown-machine : (h : Holding) (ds : List (Domain (List Slice))) → ds ≡ h.domains ++ new_domain ∷ [] → machine_of (record h { domains = ds }) ≡ record (machine_of h) { domains = (machine_of h).domains ++ new_domain ∷ [] }
+pub grown-machine : (h : KernelState) (ds : List (Domain (List Slice))) → ds ≡ h.domains ++ new_domain ∷ [] → machine_of (record h { domains = ds }) ≡ record (machine_of h) { domains = (machine_of h).domains ++ new_domain ∷ [] }
 unfolding machine_of
 grown-machine h ds is = ap (λ (xs : List (Domain (List Slice))). seen (text_of h.store) xs h.store.pools h.pipes) is ∙ add_domain-seen (text_of h.store) h.domains h.store.pools h.pipes
 
@@ -42,31 +42,31 @@ on_ok (Err e) f h = h
 
 -- what the machine says of a domain, said of what is held
 
-pub live_held : (h : Holding) (d : ℕ) → machine.is_live (machine_of h) d ≡ true → (domain_in h.domains d).live ≡ true
+pub live_held : (h : KernelState) (d : ℕ) → machine.is_live (machine_of h) d ≡ true → (domain_in h.domains d).live ≡ true
 unfolding machine_of
 live_held h d live = sym (ap (λ (x : Domain Text). x.live) (domain-seen (text_of h.store) h.domains h.store.pools h.pipes d)) ∙ live
 
-pub next_agg-machine_of : (h : Holding) (d : ℕ) → (machine.domain (machine_of h) d).next_agg ≡ (domain_in h.domains d).next_agg
+pub next_agg-machine_of : (h : KernelState) (d : ℕ) → (machine.domain (machine_of h) d).next_agg ≡ (domain_in h.domains d).next_agg
 unfolding machine_of
 next_agg-machine_of h d = ap (λ (x : Domain Text). x.next_agg) (domain-seen (text_of h.store) h.domains h.store.pools h.pipes d)
 
-pub fds-machine_of : (h : Holding) (d : ℕ) → (machine.domain (machine_of h) d).fds ≡ (domain_in h.domains d).fds
+pub fds-machine_of : (h : KernelState) (d : ℕ) → (machine.domain (machine_of h) d).fds ≡ (domain_in h.domains d).fds
 unfolding machine_of
 fds-machine_of h d = ap (λ (x : Domain Text). x.fds) (domain-seen (text_of h.store) h.domains h.store.pools h.pipes d)
 
-pub closed-machine_of : (h : Holding) (p : ℕ) → (machine.pool (machine_of h) p).closed ≡ (pool_in h.store.pools p).closed
+pub closed-machine_of : (h : KernelState) (p : ℕ) → (machine.pool (machine_of h) p).closed ≡ (pool_in h.store.pools p).closed
 unfolding machine_of
 closed-machine_of h p = ap (λ (x : machine.Pool). x.closed) (pool-seen (text_of h.store) h.domains h.store.pools h.pipes p)
 
 -- no more aggregates, and no more numbers, than there may be
 
-pub few_numbers : (h : Holding) (d made given : ℕ) → aggs.too_many_aggs (machine_of h) d made given ≡ false → (domain_in h.domains d).next_agg + made ≤ 18446744073709551615
+pub few_numbers : (h : KernelState) (d made given : ℕ) → aggs.too_many_aggs (machine_of h) d made given ≡ false → (domain_in h.domains d).next_agg + made ≤ 18446744073709551615
 few_numbers h d made given few = omega (arith, next_agg-machine_of h d, within (machine.live_aggs (machine_of h)) (machine.domain (machine_of h) d).next_agg few)
   where
     within : (n m : ℕ) → (nat_lt (65536 + given) (n + made) || nat_lt (18446744073709551614 + 1) (m + made)) ≡ false → m + made ≤ 18446744073709551615
     within n m few = grind (arith, nat_tests, few)
 
-pub few_aggs : (h : Holding) (d made given : ℕ) → aggs.too_many_aggs (machine_of h) d made given ≡ false → live_aggs_in h.domains + made ≤ 65536 + given
+pub few_aggs : (h : KernelState) (d made given : ℕ) → aggs.too_many_aggs (machine_of h) d made given ≡ false → live_aggs_in h.domains + made ≤ 65536 + given
 unfolding machine_of
 few_aggs h d made given few = omega (arith, live_aggs-seen (text_of h.store) h.domains h.store.pools h.pipes, within (machine.live_aggs (machine_of h)) (machine.domain (machine_of h) d).next_agg few)
   where
@@ -99,7 +99,7 @@ moved-sound s t ds qs stays counted tidy still e k fds once limits few = record 
 adds_held : (s t : Stored) (ds : List (Domain (List Slice))) (qs : List (Option (Pipe (List Slice)))) (xs : List Slice) → IsCounted s ds qs → Moves s t [] (bufs_of xs) → AreHeld t ds qs
 adds_held s t ds qs xs counted m = record { each = λ b. omega (arith, counted.each b, m.counts.each b, tally_none b) }
 
-pub placed-machine : (h : Holding) (t : Stored) (ds : List (Domain (List Slice))) (d : ℕ) (text : Text) → IsSound h → AddsText h.store t h.domains ds d text → machine_of (record h { store = t; domains = ds }) ≡ aggs.with_agg (machine_of h) d text
+pub placed-machine : (h : KernelState) (t : Stored) (ds : List (Domain (List Slice))) (d : ℕ) (text : Text) → IsSound h → AddsText h.store t h.domains ds d text → machine_of (record h { store = t; domains = ds }) ≡ aggs.with_agg (machine_of h) d text
 unfolding machine_of
 placed-machine h t ds d text sound adds =
     ap (λ (xs : List (Domain (List Slice))). seen (text_of t) xs t.pools h.pipes) adds.added
@@ -108,7 +108,7 @@ placed-machine h t ds d text sound adds =
     ∙ ap (λ (x : State). aggs.with_agg x d (text_of t adds.slices)) (seen-stays h.store t adds.moves.stays h.domains h.pipes (adds_held h.store t h.domains h.pipes adds.slices sound.counted adds.moves) h.store.pools sound.domains sound.pipes)
     ∙ ap (aggs.with_agg (machine_of h) d) adds.is_text
 
-pub placed-sound : (h : Holding) (t : Stored) (ds : List (Domain (List Slice))) (d : ℕ) (text : Text) → IsSound h → (domain_in h.domains d).live ≡ true → live_aggs_in h.domains < 65536 → length text ≤ 16777216 → AddsText h.store t h.domains ds d text → IsSound (record h { store = t; domains = ds })
+pub placed-sound : (h : KernelState) (t : Stored) (ds : List (Domain (List Slice))) (d : ℕ) (text : Text) → IsSound h → (domain_in h.domains d).live ≡ true → live_aggs_in h.domains < 65536 → length text ≤ 16777216 → AddsText h.store t h.domains ds d text → IsSound (record h { store = t; domains = ds })
 placed-sound h t ds d text sound live few small adds =
     let held = adds_held h.store t h.domains h.pipes adds.slices sound.counted adds.moves in
     let x : Domain (List Slice) = domain_in h.domains d in
@@ -130,7 +130,7 @@ same_length s t lists few = omega (arith, few, ap length lists, length-map' pool
 
 -- a domain gives an aggregate up
 
-module _ (h : Holding) (t : Stored) (ds : List (Domain (List Slice))) (d a : ℕ) (xs : List Slice) (sound : IsSound h) (live : (domain_in h.domains d).live ≡ true) (found : Some xs ≡ agg_in h.domains d a)
+module _ (h : KernelState) (t : Stored) (ds : List (Domain (List Slice))) (d a : ℕ) (xs : List Slice) (sound : IsSound h) (live : (domain_in h.domains d).live ≡ true) (found : Some xs ≡ agg_in h.domains d a)
     (rest : ds ≡ without_agg_in h.domains d a) (moves : Moves h.store t (bufs_of xs) []) (lists : SameLists h.store t) where
   dropped_counted : IsCounted t (without_agg_in h.domains d a) h.pipes
   dropped_counted = record { each = λ b. omega (arith, sound.counted.each b, moves.counts.each b, tally_none b, uses-without_agg b h.domains d a xs live found) }
@@ -149,7 +149,7 @@ module _ (h : Holding) (t : Stored) (ds : List (Domain (List Slice))) (d a : ℕ
 
 -- pools come and go; nothing is placed and nothing given up
 
-module _ (h : Holding) (t : Stored) (sound : IsSound h) (moves : Moves h.store t [] []) where
+module _ (h : KernelState) (t : Stored) (sound : IsSound h) (moves : Moves h.store t [] []) where
   unmoved_counted : IsCounted t h.domains h.pipes
   unmoved_counted = record { each = λ b. omega (arith, sound.counted.each b, moves.counts.each b, tally_none b) }
 
@@ -176,41 +176,41 @@ as_many_pools s t p closed few = omega (arith, few, ap length closed, length-map
 
 -- a store that is as it was
 
-pub unchanged-sound : (h : Holding) (t : Stored) (ds : List (Domain (List Slice))) → IsSound h → t ≡ h.store → ds ≡ h.domains → IsSound (record h { store = t; domains = ds })
+pub unchanged-sound : (h : KernelState) (t : Stored) (ds : List (Domain (List Slice))) → IsSound h → t ≡ h.store → ds ≡ h.domains → IsSound (record h { store = t; domains = ds })
 unchanged-sound h t ds sound store' domains' =
     subst (λ (s : Stored). IsSound (record h { store = s; domains = ds })) (sym store') (subst (λ (xs : List (Domain (List Slice))). IsSound (record h { domains = xs })) (sym domains') sound)
 
-pub is_pool-machine_of : (h : Holding) (p : ℕ) → machine.is_pool (machine_of h) p ≡ is_numbered h.store.pools p
+pub is_pool-machine_of : (h : KernelState) (p : ℕ) → machine.is_pool (machine_of h) p ≡ is_numbered h.store.pools p
 unfolding machine_of
 is_pool-machine_of h p = is_pool-seen (text_of h.store) h.domains h.store.pools h.pipes p
 
 -- there are no files and connections yet
-pub idle_held : (h : Holding) (p : ℕ) → pools.is_busy (machine_of h) p ≡ false
+pub idle_held : (h : KernelState) (p : ℕ) → pools.is_busy (machine_of h) p ≡ false
 unfolding machine_of seen
 idle_held h p = refl
 
-pub length_pools-machine_of : (h : Holding) → length (machine_of h).pools ≡ length h.store.pools
+pub length_pools-machine_of : (h : KernelState) → length (machine_of h).pools ≡ length h.store.pools
 unfolding machine_of
 length_pools-machine_of h = length_pools-seen (text_of h.store) h.domains h.store.pools h.pipes
 
 -- a domain's descriptors change
 
-pub fds-machine : (h : Holding) (ds : List (Domain (List Slice))) (d : ℕ) (xs : List (Option Descriptor)) → ds ≡ with_fds_in h.domains d xs → machine_of (record h { domains = ds }) ≡ fds.with_fds (machine_of h) d xs
+pub fds-machine : (h : KernelState) (ds : List (Domain (List Slice))) (d : ℕ) (xs : List (Option Descriptor)) → ds ≡ with_fds_in h.domains d xs → machine_of (record h { domains = ds }) ≡ fds.with_fds (machine_of h) d xs
 unfolding machine_of
 fds-machine h ds d xs is = ap (λ (ys : List (Domain (List Slice))). seen (text_of h.store) ys h.store.pools h.pipes) is ∙ with_fds-seen (text_of h.store) h.domains h.store.pools h.pipes d xs
 
-pub fds-sound : (h : Holding) (ds : List (Domain (List Slice))) (d : ℕ) (xs : List (Option Descriptor)) → IsSound h → (domain_in h.domains d).live ≡ true → ds ≡ with_fds_in h.domains d xs → Each (IsOpenEnd h.pipes) xs → IsOpenOnce (with_fds_in h.domains d xs) → IsSound (record h { domains = ds })
+pub fds-sound : (h : KernelState) (ds : List (Domain (List Slice))) (d : ℕ) (xs : List (Option Descriptor)) → IsSound h → (domain_in h.domains d).live ≡ true → ds ≡ with_fds_in h.domains d xs → Each (IsOpenEnd h.pipes) xs → IsOpenOnce (with_fds_in h.domains d xs) → IsSound (record h { domains = ds })
 fds-sound h ds d xs sound live is ends once = subst (λ (ys : List (Domain (List Slice))). IsSound (record h { domains = ys })) (sym is) (sound_fds h d xs sound live ends once)
 
 -- a domain's default pool
 
-pub default-machine : (h : Holding) (ds : List (Domain (List Slice))) (d p : ℕ) → ds ≡ with_domain_in h.domains d (record (domain_in h.domains d) { default = Some p }) → machine_of (record h { domains = ds }) ≡ machine.with_domain (machine_of h) d (record (machine.domain (machine_of h) d) { default = Some p })
+pub default-machine : (h : KernelState) (ds : List (Domain (List Slice))) (d p : ℕ) → ds ≡ with_domain_in h.domains d (record (domain_in h.domains d) { default = Some p }) → machine_of (record h { domains = ds }) ≡ machine.with_domain (machine_of h) d (record (machine.domain (machine_of h) d) { default = Some p })
 unfolding machine_of
 default-machine h ds d p is =
     ap (λ (ys : List (Domain (List Slice))). seen (text_of h.store) ys h.store.pools h.pipes) is
     ∙ with_domain-seen (text_of h.store) h.domains h.store.pools h.pipes d (record (domain_in h.domains d) { default = Some p })
     ∙ ap (λ (x : Domain Text). machine.with_domain (machine_of h) d (record x { default = Some p })) (sym (domain-seen (text_of h.store) h.domains h.store.pools h.pipes d))
 
-pub default-sound : (h : Holding) (ds : List (Domain (List Slice))) (d p : ℕ) → IsSound h → (domain_in h.domains d).live ≡ true → ds ≡ with_domain_in h.domains d (record (domain_in h.domains d) { default = Some p }) → IsSound (record h { domains = ds })
+pub default-sound : (h : KernelState) (ds : List (Domain (List Slice))) (d p : ℕ) → IsSound h → (domain_in h.domains d).live ≡ true → ds ≡ with_domain_in h.domains d (record (domain_in h.domains d) { default = Some p }) → IsSound (record h { domains = ds })
 default-sound h ds d p sound live is = subst (λ (ys : List (Domain (List Slice))). IsSound (record h { domains = ys })) (sym is)
     (sound_with h d (record (domain_in h.domains d) { default = Some p }) sound live refl (ends_open h d sound) (once_same h.domains d _ live refl sound.once))

@@ -9,7 +9,7 @@ use Rattle.iol_core.specs.declared.descriptors.Descriptor.{Descriptor}
 use Rattle.iol_core.specs.declared.descriptors.Descriptor.TheVariants as on
 use Rattle.iol_hold.specs.declared.slices.Slice.{Slice}
 use Rattle.iol_kernel.specs.Seen.{Pipe}
-use Rattle.iol_kernel.specs.Holding.{Each, IsOpenEnd, queue_at}
+use Rattle.iol_kernel.specs.KernelState.{Each, IsOpenEnd, queue_at}
 use Rattle.iol_kernel.proofs.Once.{in_place-lowest}
 use Rattle.iol_kernel.proofs.Sound.{each-weaker}
 use Rattle.iol_kernel.proofs.Uses.{Pipes}

@@ -21,7 +21,7 @@ use Rattle.iol_pipe.proofs.Given.{read_given, read_left, first_pool-read}
 use Rattle.iol_pipe.specs.Queue.{first_pool}
 use Rattle.iol_desc.specs.Tables.{agg_in}
 use Rattle.iol_kernel.specs.Seen.{Pipe, pipe_meant, seen}
-use Rattle.iol_kernel.specs.Holding.{Holding, TakesFront, queue_at}
+use Rattle.iol_kernel.specs.KernelState.{KernelState, TakesFront, queue_at}
 use Rattle.iol_kernel.specs.Sharing.{read_of, Changes}
 use Rattle.iol_kernel.proofs.Meant.{with_pipe-seen, with_agg-seen}
 use Rattle.iol_kernel.proofs.ReadOf.{may_read-read_of, text-read_of, length_text-read_of, pipe_at-read_of, queue-read_of, length_queue-read_of}
@@ -38,7 +38,7 @@ right_true a b e = grind (arith, nat_tests, e)
 abbrev pub after_push : (p n d a : ℕ) → State → State
 after_push p n d a s = machine.with_pipe s p (record (machine.pipe_at s p) { queue = (machine.pipe_at s p).queue ++ take n (machine.text s d a) })
 
-module _ (h : Holding) (t : Stored) (qs : List (Option (Pipe (List Slice)))) (p n d a : ℕ) (from : List Slice) (writing : (queue_at h.pipes p).writing ≡ true) (found : Some from ≡ agg_in h.domains d a)
+module _ (h : KernelState) (t : Stored) (qs : List (Option (Pipe (List Slice)))) (p n d a : ℕ) (from : List Slice) (writing : (queue_at h.pipes p).writing ≡ true) (found : Some from ≡ agg_in h.domains d a)
     (places' : places (queue_at qs p).queue ≡ places (queue_at h.pipes p).queue ++ take n (places from)) (pipes' : qs ≡ slice_set h.pipes p (Some (record (queue_at h.pipes p) { queue = (queue_at qs p).queue })))
     (shares : Shares h.store t (bufs_of (queue_at h.pipes p).queue) (bufs_of (queue_at qs p).queue)) where
   pushed-read : (f : Place → ℕ × ℕ) → read_of f (record h { store = t; pipes = qs }) ≡ after_push p n d a (read_of f h)
@@ -72,7 +72,7 @@ abbrev pub after_take : (p d n : ℕ) → State → State
 after_take p d n s =
     aggs.with_agg (reading.read_on s d 0 (Some (on.ReadEnd p)) (length (reading.read_text s d (Some (on.ReadEnd p)) n))) d (reading.read_text s d (Some (on.ReadEnd p)) n)
 
-module _ (h : Holding) (t : Stored) (ds : List (Domain (List Slice))) (qs : List (Option (Pipe (List Slice)))) (p d n : ℕ) (reading' : (queue_at h.pipes p).reading ≡ true)
+module _ (h : KernelState) (t : Stored) (ds : List (Domain (List Slice))) (qs : List (Option (Pipe (List Slice)))) (p d n : ℕ) (reading' : (queue_at h.pipes p).reading ≡ true)
     (takes : TakesFront h.store t (queue_at h.pipes p).queue (queue_at qs p).queue h.domains ds d n) (pipes' : qs ≡ slice_set h.pipes p (Some (record (queue_at h.pipes p) { queue = (queue_at qs p).queue }))) where
   taken-read : (f : Place → ℕ × ℕ) → KeepsPools f → read_of f (record h { store = t; domains = ds; pipes = qs }) ≡ after_take p d n (read_of f h)
   unfolding read_of
@@ -102,7 +102,7 @@ module _ (h : Holding) (t : Stored) (ds : List (Domain (List Slice))) (qs : List
   taken-changes = record { each = taken-read; arena = takes.shares.arena }
 
 -- how many bytes of an aggregate fit
-pub fits : (f : Place → ℕ × ℕ) (h : Holding) (p d a : ℕ) (xs : List Slice) (n : ℕ) → Some xs ≡ agg_in h.domains d a → n ≡ min (byte_len xs) (65536 - byte_len (queue_at h.pipes p).queue) → n ≡ min (length (machine.text (read_of f h) d a)) (65536 - length (machine.pipe_at (read_of f h) p).queue)
+pub fits : (f : Place → ℕ × ℕ) (h : KernelState) (p d a : ℕ) (xs : List Slice) (n : ℕ) → Some xs ≡ agg_in h.domains d a → n ≡ min (byte_len xs) (65536 - byte_len (queue_at h.pipes p).queue) → n ≡ min (length (machine.text (read_of f h) d a)) (65536 - length (machine.pipe_at (read_of f h) p).queue)
 fits f h p d a xs n found is =
     is
     ∙ ap (λ k. min k (65536 - byte_len (queue_at h.pipes p).queue)) (ap byte_len (slices_found h.domains d a xs found) ∙ sym (length_text-read_of f h d a))
@@ -116,7 +116,7 @@ first_barred m d p n = barred (machine.may_read m d) (take (min n 1) (machine.pi
 abbrev denied_at : State → (d : ℕ) → Option ℕ → Option ℕ
 denied_at m d o = option_and_then (λ q. if machine.may_read m d q then None else Some q) o
 
-barred_first : (f : Place → ℕ × ℕ) → KeepsPools f → (h : Holding) (d p n : ℕ) → 0 < n → first_barred (read_of f h) d p n ≡ denied_at (read_of f h) d (first_pool (queue_at h.pipes p).queue)
+barred_first : (f : Place → ℕ × ℕ) → KeepsPools f → (h : KernelState) (d p n : ℕ) → 0 < n → first_barred (read_of f h) d p n ≡ denied_at (read_of f h) d (first_pool (queue_at h.pipes p).queue)
 barred_first f keeps h d p n some =
     let m : State = read_of f h in
     ap (λ (t : Text). barred (machine.may_read m d) (take (min n 1) t)) (queue-read_of f h p)
@@ -131,11 +131,11 @@ barred_first f keeps h d p n some =
     first m [] = refl
     first m (x ∷ t) = elim (machine.may_read m d x.1) as (λ b. option_map (λ (y : ℕ × ℕ). y.1) (cond (not b) (Some x) None) ≡ (if b then None else Some x.1)) [ true ↦ refl | false ↦ refl ]
 
-pub first_admitted : (f : Place → ℕ × ℕ) → KeepsPools f → (h : Holding) (d p n q : ℕ) → 0 < n → Some q ≡ first_pool (queue_at h.pipes p).queue → machine.may_read (read_of f h) d q ≡ true → None ≡ first_barred (read_of f h) d p n
+pub first_admitted : (f : Place → ℕ × ℕ) → KeepsPools f → (h : KernelState) (d p n q : ℕ) → 0 < n → Some q ≡ first_pool (queue_at h.pipes p).queue → machine.may_read (read_of f h) d q ≡ true → None ≡ first_barred (read_of f h) d p n
 first_admitted f keeps h d p n q some is named = sym (barred_first f keeps h d p n some ∙ ap (λ (o : Option ℕ). denied_at (read_of f h) d o) (sym is) ∙ rw named refl)
 
-pub first_denied : (f : Place → ℕ × ℕ) → KeepsPools f → (h : Holding) (d p n q : ℕ) → 0 < n → Some q ≡ first_pool (queue_at h.pipes p).queue → machine.may_read (read_of f h) d q ≡ false → Some q ≡ first_barred (read_of f h) d p n
+pub first_denied : (f : Place → ℕ × ℕ) → KeepsPools f → (h : KernelState) (d p n q : ℕ) → 0 < n → Some q ≡ first_pool (queue_at h.pipes p).queue → machine.may_read (read_of f h) d q ≡ false → Some q ≡ first_barred (read_of f h) d p n
 first_denied f keeps h d p n q some is named = sym (barred_first f keeps h d p n some ∙ ap (λ (o : Option ℕ). denied_at (read_of f h) d o) (sym is) ∙ rw named refl)
 
-pub first_empty : (f : Place → ℕ × ℕ) → KeepsPools f → (h : Holding) (d p n : ℕ) → 0 < n → None ≡ first_pool (queue_at h.pipes p).queue → None ≡ first_barred (read_of f h) d p n
+pub first_empty : (f : Place → ℕ × ℕ) → KeepsPools f → (h : KernelState) (d p n : ℕ) → 0 < n → None ≡ first_pool (queue_at h.pipes p).queue → None ≡ first_barred (read_of f h) d p n
 first_empty f keeps h d p n some is = sym (barred_first f keeps h d p n some ∙ ap (λ (o : Option ℕ). denied_at (read_of f h) d o) (sym is))

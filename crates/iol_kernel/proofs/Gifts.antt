@@ -14,7 +14,7 @@ use Rattle.iol_hold.specs.Layout.{read}
 use Rattle.iol_hold.specs.declared.slices.Slice.{Slice}
 use Rattle.iol_desc.specs.Tables.{domain_in, with_domain_in, agg_in, with_agg_in, without_agg_in, live_aggs_in, with_next}
 use Rattle.iol_kernel.specs.Seen.{seen}
-use Rattle.iol_kernel.specs.Holding.{Holding, IsSound, slices_in}
+use Rattle.iol_kernel.specs.KernelState.{KernelState, IsSound, slices_in}
 use Rattle.iol_kernel.specs.Sharing.{read_of, Changes}
 use Rattle.iol_kernel.proofs.Meant.{with_agg-seen, without_agg-seen}
 use Rattle.iol_kernel.proofs.Uses.{uses-with_agg, uses-without_agg, sum-with_domain, length-without}
@@ -69,7 +69,7 @@ left_next ds d a e = kept (λ y. y.next_agg) ds d e (record (domain_in ds d) { a
 
 -- The whole change.
 
-module _ (h : Holding) (ds : List (Domain (List Slice))) (d a e : ℕ) (live : (domain_in h.domains d).live ≡ true) (moved : ds ≡ with_agg_in (without_agg_in h.domains d a) e (slices_in h.domains d a)) where
+module _ (h : KernelState) (ds : List (Domain (List Slice))) (d a e : ℕ) (live : (domain_in h.domains d).live ≡ true) (moved : ds ≡ with_agg_in (without_agg_in h.domains d a) e (slices_in h.domains d a)) where
   moved-read : (f : Place → ℕ × ℕ) → read_of f (record h { domains = ds }) ≡ aggs.with_agg (aggs.without_agg (read_of f h) d a) e (read f (slices_in h.domains d a))
   unfolding read_of
   moved-read f =

@@ -17,7 +17,7 @@ use Rattle.iol_hold.proofs.Moving.{stays_trans}
 use Rattle.iol_desc.specs.Tables.{domain_in, with_domain_in, with_aggs_in}
 use Rattle.iol_kernel.specs.Seen.{seen}
 use Rattle.iol_kernel.specs.Counted.{uses, domain_uses, bufs_in, IsCounted}
-use Rattle.iol_kernel.specs.Holding.{Holding, machine_of, Each, IsDomainReadable, IsLimited, IsSound}
+use Rattle.iol_kernel.specs.KernelState.{KernelState, machine_of, Each, IsDomainReadable, IsLimited, IsSound}
 use Rattle.iol_kernel.proofs.Meant.{domain-seen, with_domain-seen}
 use Rattle.iol_kernel.proofs.Uses.{sum-with_domain, domain_le, Domains}
 use Rattle.iol_kernel.proofs.Once.{once_same, once_fewer}
@@ -51,12 +51,12 @@ last_released s t u all es rest n x is m k = record {
 
 -- all of a domain
 
-pub all_covered : (h : Holding) (d : ℕ) (es : List (ℕ × List Slice)) → IsSound h → (domain_in h.domains d).live ≡ true → es ≡ (domain_in h.domains d).aggs → Covers h.store (bufs_in es)
+pub all_covered : (h : KernelState) (d : ℕ) (es : List (ℕ × List Slice)) → IsSound h → (domain_in h.domains d).live ≡ true → es ≡ (domain_in h.domains d).aggs → Covers h.store (bufs_in es)
 all_covered h d es sound live is = record {
   each = λ b. omega (arith, sound.counted.each b, domain_le (domain_uses b) h.domains d live, tally-bufs_in b es, ap (λ (l : List (ℕ × List Slice)). sum_by (λ e. uses b e.1) l) is);
 }
 
-module _ (h : Holding) (t : Stored) (ds : Domains) (d : ℕ) (es : List (ℕ × List Slice)) (sound : IsSound h) (live : (domain_in h.domains d).live ≡ true) (all : es ≡ (domain_in h.domains d).aggs)
+module _ (h : KernelState) (t : Stored) (ds : Domains) (d : ℕ) (es : List (ℕ × List Slice)) (sound : IsSound h) (live : (domain_in h.domains d).live ≡ true) (all : es ≡ (domain_in h.domains d).aggs)
     (rest : ds ≡ with_aggs_in h.domains d []) (moves : Moves h.store t (bufs_in es) []) (lists : SameLists h.store t) where
   abbrev emptied : Domain (List Slice)
   emptied = record (domain_in h.domains d) { aggs = [] }
@@ -100,14 +100,14 @@ module _ (h : Holding) (t : Stored) (ds : Domains) (d : ℕ) (es : List (ℕ × 
 
 -- and the domain itself
 
-pub live_meant : (h : Holding) (d : ℕ) → (domain_in h.domains d).live ≡ true → machine.is_live (machine_of h) d ≡ true
+pub live_meant : (h : KernelState) (d : ℕ) → (domain_in h.domains d).live ≡ true → machine.is_live (machine_of h) d ≡ true
 unfolding machine_of
 live_meant h d live = ap (λ (x : Domain Text). x.live) (domain-seen (text_of h.store) h.domains h.store.pools h.pipes d) ∙ live
 
-pub ended-machine : (h : Holding) (ds : Domains) (d : ℕ) → ds ≡ with_domain_in h.domains d no_domain → machine_of (record h { domains = ds }) ≡ machine.with_domain (machine_of h) d no_domain
+pub ended-machine : (h : KernelState) (ds : Domains) (d : ℕ) → ds ≡ with_domain_in h.domains d no_domain → machine_of (record h { domains = ds }) ≡ machine.with_domain (machine_of h) d no_domain
 unfolding machine_of
 ended-machine h ds d is = ap (λ (ys : Domains). seen (text_of h.store) ys h.store.pools h.pipes) is ∙ with_domain-seen (text_of h.store) h.domains h.store.pools h.pipes d no_domain
 
-pub ended-sound : (h : Holding) (ds : Domains) (d : ℕ) → IsSound h → (domain_in h.domains d).live ≡ true → (domain_in h.domains d).aggs ≡ [] → ds ≡ with_domain_in h.domains d no_domain → IsSound (record h { domains = ds })
+pub ended-sound : (h : KernelState) (ds : Domains) (d : ℕ) → IsSound h → (domain_in h.domains d).live ≡ true → (domain_in h.domains d).aggs ≡ [] → ds ≡ with_domain_in h.domains d no_domain → IsSound (record h { domains = ds })
 ended-sound h ds d sound live none is = subst (λ (ys : Domains). IsSound (record h { domains = ys })) (sym is)
     (sound_with h d no_domain sound live (sym none) tt (once_fewer h.domains d no_domain live (λ e. omega arith) sound.once))

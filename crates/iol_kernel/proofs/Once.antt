@@ -12,7 +12,7 @@ use Rattle.iol_core.specs.declared.descriptors.Descriptor.TheVariants as on
 use Rattle.iol_hold.specs.declared.slices.Slice.{Slice}
 use Rattle.iol_desc.specs.Tables.{domain_in, with_domain_in, with_fds_in}
 use Rattle.iol_kernel.specs.Ends.{same_end, on_end, ends_on, all_ends_on, IsOpenOnce}
-use Rattle.iol_kernel.specs.Holding.{Each, IsOpenEnd}
+use Rattle.iol_kernel.specs.KernelState.{Each, IsOpenEnd}
 use Rattle.iol_kernel.proofs.Uses.{sum-with_domain, Domains, Pipes}
 
 -- a domain's descriptors change

@@ -19,7 +19,7 @@ use Rattle.iol_hold.proofs.Reading.{readable_none}
 use Rattle.iol_desc.specs.Tables.{domain_in, with_domain_in, with_fds_in, with_next_fd, with_ends}
 use Rattle.iol_kernel.specs.Seen.{Pipe, seen}
 use Rattle.iol_kernel.specs.Ends.{all_ends_on, IsOpenOnce}
-use Rattle.iol_kernel.specs.Holding.{Holding, machine_of, Each, IsOpenEnd, IsPipeReadable, IsSound, IsShort}
+use Rattle.iol_kernel.specs.KernelState.{KernelState, machine_of, Each, IsOpenEnd, IsPipeReadable, IsSound, IsShort}
 use Rattle.iol_kernel.proofs.Meant.{add_pipe-seen, lowest-seen, taken-seen}
 use Rattle.iol_kernel.proofs.Sound.{each-set, each-get, each-weaker, each-placed, ends_open}
 use Rattle.iol_kernel.proofs.Once.{same_end-itself, ends-with_domain, ends-placed, ends-freed, once_fewer, once_freed, both_once, all_ends_closed}
@@ -31,7 +31,7 @@ abbrev empty : Pipe (List Slice)
 empty = record { queue = []; reading = true; writing = true }
 
 -- the numbers of a new pipe's ends
-pub ends-machine : (h : Holding) (d : ℕ) → ◌≡◌ {A = ℕ × ℕ} (fds.pipe (machine_of h) d).answer (lowest (domain_in h.domains d).fds, lowest (with_read_end (domain_in h.domains d).fds (lowest h.pipes)))
+pub ends-machine : (h : KernelState) (d : ℕ) → ◌≡◌ {A = ℕ × ℕ} (fds.pipe (machine_of h) d).answer (lowest (domain_in h.domains d).fds, lowest (with_read_end (domain_in h.domains d).fds (lowest h.pipes)))
 unfolding machine_of
 ends-machine h d =
     ap {B = ℕ × ℕ} (λ (xs : List (Option Descriptor)). (lowest xs, lowest (with_read_end xs (lowest (machine_of h).pipes)))) (fds-machine_of h d)
@@ -42,7 +42,7 @@ ends-machine h d =
 abbrev piped : State → (d : ℕ) → List (Option Descriptor) → (pipe : ℕ) → State
 piped m d xs n = record (fds.with_fds m d (with_ends xs n)) { pipes = placed m.pipes n new_pipe }
 
-pub piped-machine : (h : Holding) (ds : List (Domain (List Slice))) (qs : List (Option (Pipe (List Slice)))) (d : ℕ) → ds ≡ with_fds_in h.domains d (with_ends (domain_in h.domains d).fds (lowest h.pipes)) → qs ≡ placed h.pipes (lowest h.pipes) empty → machine_of (record h { domains = ds; pipes = qs }) ≡ (fds.pipe (machine_of h) d).after
+pub piped-machine : (h : KernelState) (ds : List (Domain (List Slice))) (qs : List (Option (Pipe (List Slice)))) (d : ℕ) → ds ≡ with_fds_in h.domains d (with_ends (domain_in h.domains d).fds (lowest h.pipes)) → qs ≡ placed h.pipes (lowest h.pipes) empty → machine_of (record h { domains = ds; pipes = qs }) ≡ (fds.pipe (machine_of h) d).after
 unfolding machine_of machine.with_domain
 piped-machine h ds qs d domains' pipes' =
     ap (λ (ys : List (Option (Pipe (List Slice)))). seen (text_of h.store) ds h.store.pools ys) pipes'
@@ -63,7 +63,7 @@ length-placed qs x few free = elim (cases_lt (lowest qs) (length qs)) [
 ]
 
 -- its ends are open there alone
-once_piped : (h : Holding) (d : ℕ) → IsSound h → (domain_in h.domains d).live ≡ true → IsOpenOnce (with_fds_in h.domains d (with_ends (domain_in h.domains d).fds (lowest h.pipes)))
+once_piped : (h : KernelState) (d : ℕ) → IsSound h → (domain_in h.domains d).live ≡ true → IsOpenOnce (with_fds_in h.domains d (with_ends (domain_in h.domains d).fds (lowest h.pipes)))
 once_piped h d sound live =
     let n : ℕ = lowest h.pipes in
     let xs : List (Option Descriptor) = (domain_in h.domains d).fds in
@@ -76,10 +76,10 @@ once_piped h d sound live =
           omega (arith, total, once, ends-placed e (on.ReadEnd n) xs, ends-placed e (on.WriteEnd n) (with_read_end xs n)));
     }
 
-pub piped-sound : (h : Holding) (ds : List (Domain (List Slice))) (qs : List (Option (Pipe (List Slice)))) (d : ℕ) → IsSound h → (domain_in h.domains d).live ≡ true → taken h.pipes < MAX_PIPES → ds ≡ with_fds_in h.domains d (with_ends (domain_in h.domains d).fds (lowest h.pipes)) → qs ≡ placed h.pipes (lowest h.pipes) empty → IsSound (record h { domains = ds; pipes = qs })
+pub piped-sound : (h : KernelState) (ds : List (Domain (List Slice))) (qs : List (Option (Pipe (List Slice)))) (d : ℕ) → IsSound h → (domain_in h.domains d).live ≡ true → taken h.pipes < MAX_PIPES → ds ≡ with_fds_in h.domains d (with_ends (domain_in h.domains d).fds (lowest h.pipes)) → qs ≡ placed h.pipes (lowest h.pipes) empty → IsSound (record h { domains = ds; pipes = qs })
 piped-sound h ds qs d sound live few domains' pipes' =
     let more : List (Option (Pipe (List Slice))) = placed h.pipes (lowest h.pipes) empty in
-    let k : Holding = record h { pipes = more } in
+    let k : KernelState = record h { pipes = more } in
     let sound' : IsSound k = record {
       domains = sound.domains;
       pipes = each-placed (IsPipeReadable h.store) h.pipes (lowest h.pipes) empty sound.pipes (readable_none h.store);
@@ -104,23 +104,23 @@ piped-sound h ds qs d sound live few domains' pipes' =
 few_open : (n k : ℕ) → nat_lt 1024 (n + k) ≡ false → n + k ≤ 1024
 few_open n k few = grind (arith, nat_tests, few)
 
-pub few_open_held : (h : Holding) (d k : ℕ) → fds.too_many_open (machine_of h) d k ≡ false → taken (domain_in h.domains d).fds + k ≤ 1024
+pub few_open_held : (h : KernelState) (d k : ℕ) → fds.too_many_open (machine_of h) d k ≡ false → taken (domain_in h.domains d).fds + k ≤ 1024
 few_open_held h d k few = subst (λ (xs : List (Option Descriptor)). taken xs + k ≤ 1024) (fds-machine_of h d) (few_open (taken (machine.domain (machine_of h) d).fds) k few)
 
-pub taken_pipes-machine_of : (h : Holding) → taken (machine_of h).pipes ≡ taken h.pipes
+pub taken_pipes-machine_of : (h : KernelState) → taken (machine_of h).pipes ≡ taken h.pipes
 unfolding machine_of
 taken_pipes-machine_of h = taken-seen (text_of h.store) h.domains h.store.pools h.pipes
 
-pub descriptor-machine_of : (h : Holding) (d fd : ℕ) → machine.descriptor (machine_of h) d fd ≡ in_place (domain_in h.domains d).fds fd
+pub descriptor-machine_of : (h : KernelState) (d fd : ℕ) → machine.descriptor (machine_of h) d fd ≡ in_place (domain_in h.domains d).fds fd
 descriptor-machine_of h d fd = ap (λ (xs : List (Option Descriptor)). in_place xs fd) (fds-machine_of h d)
 
 -- a descriptor is closed
-pub freed-sound : (h : Holding) (ds : List (Domain (List Slice))) (d fd : ℕ) (x : Descriptor) → IsSound h → (domain_in h.domains d).live ≡ true → in_place (domain_in h.domains d).fds fd ≡ Some x → ds ≡ with_fds_in h.domains d (slice_set (domain_in h.domains d).fds fd None) → IsSound (record h { domains = ds })
+pub freed-sound : (h : KernelState) (ds : List (Domain (List Slice))) (d fd : ℕ) (x : Descriptor) → IsSound h → (domain_in h.domains d).live ≡ true → in_place (domain_in h.domains d).fds fd ≡ Some x → ds ≡ with_fds_in h.domains d (slice_set (domain_in h.domains d).fds fd None) → IsSound (record h { domains = ds })
 freed-sound h ds d fd x sound live there is =
     fds-sound h ds d (slice_set (domain_in h.domains d).fds fd None) sound live is (each-set (IsOpenEnd h.pipes) (domain_in h.domains d).fds fd None (ends_open h d sound) tt) (once_freed h.domains d fd x live there sound.once)
 
 -- then no other is open on its end
-pub freed-alone : (h : Holding) (ds : List (Domain (List Slice))) (d fd : ℕ) (x : Descriptor) → IsSound h → (domain_in h.domains d).live ≡ true → in_place (domain_in h.domains d).fds fd ≡ Some x → IsOpenEnd h.pipes (Some x) → ds ≡ with_fds_in h.domains d (slice_set (domain_in h.domains d).fds fd None) → all_ends_on x ds ≡ 0
+pub freed-alone : (h : KernelState) (ds : List (Domain (List Slice))) (d fd : ℕ) (x : Descriptor) → IsSound h → (domain_in h.domains d).live ≡ true → in_place (domain_in h.domains d).fds fd ≡ Some x → IsOpenEnd h.pipes (Some x) → ds ≡ with_fds_in h.domains d (slice_set (domain_in h.domains d).fds fd None) → all_ends_on x ds ≡ 0
 freed-alone h ds d fd x sound live there open' is = omega (
   arith,
   ap (all_ends_on x) is,
@@ -132,23 +132,23 @@ freed-alone h ds d fd x sound live there open' is = omega (
 
 -- a descriptor moves
 
-pub end_held : (h : Holding) (d fd : ℕ) (x : Descriptor) → IsSound h → machine.descriptor (machine_of h) d fd ≡ Some x → IsOpenEnd h.pipes (Some x)
+pub end_held : (h : KernelState) (d fd : ℕ) (x : Descriptor) → IsSound h → machine.descriptor (machine_of h) d fd ≡ Some x → IsOpenEnd h.pipes (Some x)
 end_held h d fd x sound is = subst (IsOpenEnd h.pipes) (sym (descriptor-machine_of h d fd) ∙ is) (each-get (IsOpenEnd h.pipes) (domain_in h.domains d).fds fd None (ends_open h d sound) tt)
 
-pub any_end : (h : Holding) (m : State) (to : ℕ) (x : Descriptor) → IsOpenEnd h.pipes (Some x) → fds.denied_by m to (fds.needed_pool m (Some x)) ≡ None
+pub any_end : (h : KernelState) (m : State) (to : ℕ) (x : Descriptor) → IsOpenEnd h.pipes (Some x) → fds.denied_by m to (fds.needed_pool m (Some x)) ≡ None
 any_end h m to (on.File f at mode) open' = absurd open'
 any_end h m to (on.ReadEnd p) open' = refl
 any_end h m to (on.WriteEnd p) open' = refl
 any_end h m to (on.Connection c) open' = absurd open'
 
-pub freed-machine_of : (h : Holding) (d fd : ℕ) → fds.freed (machine_of h) d fd ≡ slice_set (domain_in h.domains d).fds fd None
+pub freed-machine_of : (h : KernelState) (d fd : ℕ) → fds.freed (machine_of h) d fd ≡ slice_set (domain_in h.domains d).fds fd None
 freed-machine_of h d fd = ap (λ (xs : List (Option Descriptor)). slice_set xs fd None) (fds-machine_of h d)
 
 -- within a domain
-pub moved_within-number : (h : Holding) (d fd to n : ℕ) → d ≡ to → n ≡ lowest (slice_set (domain_in h.domains d).fds fd None) → n ≡ (if d == to then lowest (fds.freed (machine_of h) d fd) else fds.next_fd (machine_of h) to)
+pub moved_within-number : (h : KernelState) (d fd to n : ℕ) → d ≡ to → n ≡ lowest (slice_set (domain_in h.domains d).fds fd None) → n ≡ (if d == to then lowest (fds.freed (machine_of h) d fd) else fds.next_fd (machine_of h) to)
 moved_within-number h d fd to n same is = let e = ap lowest (freed-machine_of h d fd) in grind (arith, nat_tests, e, is, same)
 
-pub moved_within-machine : (h : Holding) (ds : List (Domain (List Slice))) (d fd to : ℕ) (x : Descriptor) → d ≡ to → ds ≡ with_fds_in h.domains d (placed (slice_set (domain_in h.domains d).fds fd None) (lowest (slice_set (domain_in h.domains d).fds fd None)) x) → machine_of (record h { domains = ds }) ≡ fds.given_to (machine_of h) d fd to x
+pub moved_within-machine : (h : KernelState) (ds : List (Domain (List Slice))) (d fd to : ℕ) (x : Descriptor) → d ≡ to → ds ≡ with_fds_in h.domains d (placed (slice_set (domain_in h.domains d).fds fd None) (lowest (slice_set (domain_in h.domains d).fds fd None)) x) → machine_of (record h { domains = ds }) ≡ fds.given_to (machine_of h) d fd to x
 moved_within-machine h ds d fd to x same is =
     fds-machine h ds d (placed (slice_set (domain_in h.domains d).fds fd None) (lowest (slice_set (domain_in h.domains d).fds fd None)) x) is
     ∙ ap (λ (xs : List (Option Descriptor)). fds.with_fds (machine_of h) d (placed xs (lowest xs) x)) (sym (freed-machine_of h d fd))
@@ -157,7 +157,7 @@ moved_within-machine h ds d fd to x same is =
     pick : fds.with_fds (machine_of h) d (placed (fds.freed (machine_of h) d fd) (lowest (fds.freed (machine_of h) d fd)) x) ≡ fds.given_to (machine_of h) d fd to x
     pick = grind (arith, nat_tests, same)
 
-pub moved_within-sound : (h : Holding) (ds : List (Domain (List Slice))) (d fd : ℕ) (x : Descriptor) → IsSound h → (domain_in h.domains d).live ≡ true → in_place (domain_in h.domains d).fds fd ≡ Some x → IsOpenEnd h.pipes (Some x) → ds ≡ with_fds_in h.domains d (placed (slice_set (domain_in h.domains d).fds fd None) (lowest (slice_set (domain_in h.domains d).fds fd None)) x) → IsSound (record h { domains = ds })
+pub moved_within-sound : (h : KernelState) (ds : List (Domain (List Slice))) (d fd : ℕ) (x : Descriptor) → IsSound h → (domain_in h.domains d).live ≡ true → in_place (domain_in h.domains d).fds fd ≡ Some x → IsOpenEnd h.pipes (Some x) → ds ≡ with_fds_in h.domains d (placed (slice_set (domain_in h.domains d).fds fd None) (lowest (slice_set (domain_in h.domains d).fds fd None)) x) → IsSound (record h { domains = ds })
 moved_within-sound h ds d fd x sound live there open' is =
     let xs : List (Option Descriptor) = slice_set (domain_in h.domains d).fds fd None in
     fds-sound h ds d (placed xs (lowest xs) x) sound live is
@@ -177,10 +177,10 @@ pub other_fds : (ds ms : List (Domain (List Slice))) (d to : ℕ) (x : Descripto
 other_fds ds ms d to x differ is =
     ap (λ (ys : List (Domain (List Slice))). (domain_in ys d).fds) is ∙ ap (λ (y : Domain (List Slice)). y.fds) (domain_in-with_other ds to d _ differ)
 
-pub moved_across-number : (h : Holding) (d fd to n : ℕ) → d ≢ to → n ≡ lowest (domain_in h.domains to).fds → n ≡ (if d == to then lowest (fds.freed (machine_of h) d fd) else fds.next_fd (machine_of h) to)
+pub moved_across-number : (h : KernelState) (d fd to n : ℕ) → d ≢ to → n ≡ lowest (domain_in h.domains to).fds → n ≡ (if d == to then lowest (fds.freed (machine_of h) d fd) else fds.next_fd (machine_of h) to)
 moved_across-number h d fd to n differ is = let e = ap lowest (fds-machine_of h to) in grind (arith, nat_tests, e, is, differ)
 
-pub moved_across-machine : (h : Holding) (ms ds : List (Domain (List Slice))) (d fd to : ℕ) (x : Descriptor) → d ≢ to → ms ≡ opened_in h.domains to x → ds ≡ with_fds_in ms d (slice_set (domain_in ms d).fds fd None) → machine_of (record h { domains = ds }) ≡ fds.given_to (machine_of h) d fd to x
+pub moved_across-machine : (h : KernelState) (ms ds : List (Domain (List Slice))) (d fd to : ℕ) (x : Descriptor) → d ≢ to → ms ≡ opened_in h.domains to x → ds ≡ with_fds_in ms d (slice_set (domain_in ms d).fds fd None) → machine_of (record h { domains = ds }) ≡ fds.given_to (machine_of h) d fd to x
 moved_across-machine h ms ds d fd to x differ opened' closed' =
     fds-machine (record h { domains = ms }) ds d (slice_set (domain_in ms d).fds fd None) closed'
     ∙ ap (λ (s : State). fds.with_fds s d (slice_set (domain_in ms d).fds fd None)) (fds-machine h ms to (placed (domain_in h.domains to).fds (lowest (domain_in h.domains to).fds) x) opened')
@@ -203,10 +203,10 @@ across-turned ds ms d fd to x differ is =
     ∙ with_domain_in-comm ds to d got less (λ e. differ (sym e))
     ∙ ap (λ (y : Domain (List Slice)). with_domain_in (with_domain_in ds d less) to (opened y)) (sym (domain_in-with_other ds d to less differ))
 
-pub moved_across-sound : (h : Holding) (ms ds : List (Domain (List Slice))) (d fd to : ℕ) (x : Descriptor) → IsSound h → d ≢ to → (domain_in h.domains to).live ≡ true → (domain_in h.domains d).live ≡ true → in_place (domain_in h.domains d).fds fd ≡ Some x → IsOpenEnd h.pipes (Some x) → ms ≡ opened_in h.domains to x → ds ≡ with_fds_in ms d (slice_set (domain_in ms d).fds fd None) → IsSound (record h { domains = ds })
+pub moved_across-sound : (h : KernelState) (ms ds : List (Domain (List Slice))) (d fd to : ℕ) (x : Descriptor) → IsSound h → d ≢ to → (domain_in h.domains to).live ≡ true → (domain_in h.domains d).live ≡ true → in_place (domain_in h.domains d).fds fd ≡ Some x → IsOpenEnd h.pipes (Some x) → ms ≡ opened_in h.domains to x → ds ≡ with_fds_in ms d (slice_set (domain_in ms d).fds fd None) → IsSound (record h { domains = ds })
 moved_across-sound h ms ds d fd to x sound differ to_live live there open' opened' closed' =
     let less : List (Domain (List Slice)) = with_fds_in h.domains d (slice_set (domain_in h.domains d).fds fd None) in
-    let k : Holding = record h { domains = less } in
+    let k : KernelState = record h { domains = less } in
     let mid : IsSound k = freed-sound h less d fd x sound live there refl in
     let y : Domain (List Slice) = domain_in less to in
     let same : y ≡ domain_in h.domains to = domain_in-with_other h.domains d to _ differ in
@@ -227,7 +227,7 @@ moved_across-sound h ms ds d fd to x sound differ to_live live there open' opene
 pub not_none : {A : Type 0} (o p : Option A) (x : A) → p ≡ Some x → o ≡ p → o ≡ None → ⊥
 not_none o p x is same none = cc
 
-pub few_to : (h : Holding) (d to : ℕ) → d ≢ to → (not (d == to) && fds.too_many_open (machine_of h) to 1) ≡ false → taken (domain_in h.domains to).fds + 1 ≤ 1024
+pub few_to : (h : KernelState) (d to : ℕ) → d ≢ to → (not (d == to) && fds.too_many_open (machine_of h) to 1) ≡ false → taken (domain_in h.domains to).fds + 1 ≤ 1024
 few_to h d to differ few = few_open_held h to 1 (pick (nat_lt 1024 (taken (machine.domain (machine_of h) to).fds + 1)) few)
   where
     pick : (b : Bool) → (not (d == to) && b) ≡ false → b ≡ false

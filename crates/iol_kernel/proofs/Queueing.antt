@@ -20,7 +20,7 @@ use Rattle.iol_pipe.proofs.Texts.{readable_pushed, readable_given}
 use Rattle.iol_desc.specs.Tables.{agg_in, domain_in, with_agg_in, live_aggs_in}
 use Rattle.iol_kernel.specs.Seen.{Pipe}
 use Rattle.iol_kernel.specs.Counted.{IsCounted}
-use Rattle.iol_kernel.specs.Holding.{Holding, machine_of, Each, IsOpenEnd, IsPipeReadable, IsDomainReadable, IsShort, IsLimited, IsSound, TakesFront, queue_at}
+use Rattle.iol_kernel.specs.KernelState.{KernelState, machine_of, Each, IsOpenEnd, IsPipeReadable, IsDomainReadable, IsShort, IsLimited, IsSound, TakesFront, queue_at}
 use Rattle.iol_kernel.proofs.Uses.{uses-set_pipe, uses-with_agg}
 use Rattle.iol_kernel.proofs.Once.{once_same}
 use Rattle.iol_kernel.proofs.Sound.{each-get, each-set, each-weaker, agg_readable, add_readable, fds_stay, limits_agg}
@@ -28,7 +28,7 @@ use Rattle.iol_kernel.proofs.Ends.{ends_queued, there_if_open}
 use Rattle.iol_kernel.proofs.Effects.{moved-sound}
 use Rattle.iol_kernel.proofs.Pipes.{end_held}
 
-pub queue_readable : (h : Holding) (p : ℕ) → IsSound h → AllReadable h.store (queue_at h.pipes p).queue
+pub queue_readable : (h : KernelState) (p : ℕ) → IsSound h → AllReadable h.store (queue_at h.pipes p).queue
 queue_readable h p sound = pick (in_place h.pipes p) (each-get (IsPipeReadable h.store) h.pipes p None sound.pipes tt)
   where
     pick : (o : Option (Pipe (List Slice))) → IsPipeReadable h.store o → AllReadable h.store (unwrap_or o (record { queue = []; reading = false; writing = false })).queue
@@ -36,7 +36,7 @@ queue_readable h p sound = pick (in_place h.pipes p) (each-get (IsPipeReadable h
     pick (Some x) r = r
 
 -- within the limits
-queue_limits : (h : Holding) (p : ℕ) (q : List Slice) → IsSound h → byte_len q ≤ 65536 → IsLimited h.domains (slice_set h.pipes p (Some (record (queue_at h.pipes p) { queue = q })))
+queue_limits : (h : KernelState) (p : ℕ) (q : List Slice) → IsSound h → byte_len q ≤ 65536 → IsLimited h.domains (slice_set h.pipes p (Some (record (queue_at h.pipes p) { queue = q })))
 queue_limits h p q sound short = record {
   aggs = sound.limits.aggs;
   few = sound.limits.few;
@@ -44,7 +44,7 @@ queue_limits h p q sound short = record {
   few_pipes = omega (arith, sound.limits.few_pipes, length-set h.pipes p (Some (record (queue_at h.pipes p) { queue = q })));
 }
 
-pub queue_short : (h : Holding) (p : ℕ) → IsSound h → byte_len (queue_at h.pipes p).queue ≤ 65536
+pub queue_short : (h : KernelState) (p : ℕ) → IsSound h → byte_len (queue_at h.pipes p).queue ≤ 65536
 queue_short h p sound = pick (in_place h.pipes p) (each-get IsShort h.pipes p None sound.limits.queues tt)
   where
     pick : (o : Option (Pipe (List Slice))) → IsShort o → byte_len (unwrap_or o (record { queue = []; reading = false; writing = false })).queue ≤ 65536
@@ -52,7 +52,7 @@ queue_short h p sound = pick (in_place h.pipes p) (each-get IsShort h.pipes p No
     pick (Some x) r = r
 
 -- and the store goes on
-module _ (h : Holding) (t : Stored) (qs : List (Option (Pipe (List Slice)))) (p n d a : ℕ) (from : List Slice) (sound : IsSound h) (writing : (queue_at h.pipes p).writing ≡ true) (found : Some from ≡ agg_in h.domains d a)
+module _ (h : KernelState) (t : Stored) (qs : List (Option (Pipe (List Slice)))) (p n d a : ℕ) (from : List Slice) (sound : IsSound h) (writing : (queue_at h.pipes p).writing ≡ true) (found : Some from ≡ agg_in h.domains d a)
     (short : byte_len (queue_at qs p).queue ≤ 65536)
     (places' : places (queue_at qs p).queue ≡ places (queue_at h.pipes p).queue ++ take n (places from)) (pipes' : qs ≡ slice_set h.pipes p (Some (record (queue_at h.pipes p) { queue = (queue_at qs p).queue })))
     (shares : Shares h.store t (bufs_of (queue_at h.pipes p).queue) (bufs_of (queue_at qs p).queue)) where
@@ -77,15 +77,15 @@ module _ (h : Holding) (t : Stored) (qs : List (Option (Pipe (List Slice)))) (p 
       (each-weaker (λ (x : Domain (List Slice)). Each (IsOpenEnd h.pipes) x.fds) (λ (x : Domain (List Slice)). Each (IsOpenEnd more) x.fds) h.domains (λ x e. ends_queued h.pipes p (queue_at qs p).queue there x.fds e) sound.fds) sound.once
       (queue_limits h p (queue_at qs p).queue sound short) (omega (arith, sound.few_pools, ap length shares.pools)))
 
-pub writing_held : (h : Holding) (d fd p : ℕ) → IsSound h → machine.descriptor (machine_of h) d fd ≡ Some (on.WriteEnd p) → (queue_at h.pipes p).writing ≡ true
+pub writing_held : (h : KernelState) (d fd p : ℕ) → IsSound h → machine.descriptor (machine_of h) d fd ≡ Some (on.WriteEnd p) → (queue_at h.pipes p).writing ≡ true
 writing_held h d fd p sound is = end_held h d fd (on.WriteEnd p) sound is
 
-pub reading_held : (h : Holding) (d fd p : ℕ) → IsSound h → machine.descriptor (machine_of h) d fd ≡ Some (on.ReadEnd p) → (queue_at h.pipes p).reading ≡ true
+pub reading_held : (h : KernelState) (d fd p : ℕ) → IsSound h → machine.descriptor (machine_of h) d fd ≡ Some (on.ReadEnd p) → (queue_at h.pipes p).reading ≡ true
 reading_held h d fd p sound is = end_held h d fd (on.ReadEnd p) sound is
 
 -- Reading: a domain gets the front.
 
-module _ (h : Holding) (t : Stored) (ds : List (Domain (List Slice))) (qs : List (Option (Pipe (List Slice)))) (p d n : ℕ) (sound : IsSound h) (reading' : (queue_at h.pipes p).reading ≡ true)
+module _ (h : KernelState) (t : Stored) (ds : List (Domain (List Slice))) (qs : List (Option (Pipe (List Slice)))) (p d n : ℕ) (sound : IsSound h) (reading' : (queue_at h.pipes p).reading ≡ true)
     (takes : TakesFront h.store t (queue_at h.pipes p).queue (queue_at qs p).queue h.domains ds d n) (pipes' : qs ≡ slice_set h.pipes p (Some (record (queue_at h.pipes p) { queue = (queue_at qs p).queue }))) where
   abbrev less : List (Option (Pipe (List Slice)))
   less = slice_set h.pipes p (Some (record (queue_at h.pipes p) { queue = (queue_at qs p).queue }))

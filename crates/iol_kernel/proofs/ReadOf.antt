@@ -1,4 +1,4 @@
--- What a holding stands for, word by word, whatever is read at its places.
+-- What a state stands for, word by word, whatever is read at its places.
 use Rattle.std.proofs.Common.{◌≡◌, ℕ, ◌==◌, List, [], length, ap, ◌∙◌, refl, sym, Option, Some, None}
 use Rattle.std.specs.Prelude.{unwrap_or, option_map}
 use Rattle.std.specs.List.{list_any}
@@ -14,25 +14,25 @@ use Rattle.iol_hold.specs.declared.slices.Slice.{Slice}
 use Rattle.iol_hold.proofs.AtPlaces.{length-read}
 use Rattle.iol_desc.specs.Tables.{domain_in, agg_in}
 use Rattle.iol_kernel.specs.Seen.{Pipe, pipe_meant, seen}
-use Rattle.iol_kernel.specs.Holding.{Holding, machine_of, layout_of, queue_at, slices_in}
+use Rattle.iol_kernel.specs.KernelState.{KernelState, machine_of, layout_of, queue_at, slices_in}
 use Rattle.iol_kernel.specs.Sharing.{read_of}
 use Rattle.iol_kernel.proofs.Meant.{domain-seen, pool-seen, aggregate-seen, text-seen, pipe_at-seen}
 use Rattle.iol_kernel.proofs.Sharing.{read_machine, read_layout}
 
 -- domains and pools
 
-pub is_live-read_of : (f : Place → ℕ × ℕ) (h : Holding) (d : ℕ) → machine.is_live (read_of f h) d ≡ (domain_in h.domains d).live
+pub is_live-read_of : (f : Place → ℕ × ℕ) (h : KernelState) (d : ℕ) → machine.is_live (read_of f h) d ≡ (domain_in h.domains d).live
 unfolding read_of
 is_live-read_of f h d = ap (λ (x : Domain Text). x.live) (domain-seen (read f) h.domains h.store.pools h.pipes d)
 
-pub next_agg-read_of : (f : Place → ℕ × ℕ) (h : Holding) (d : ℕ) → (machine.domain (read_of f h) d).next_agg ≡ (domain_in h.domains d).next_agg
+pub next_agg-read_of : (f : Place → ℕ × ℕ) (h : KernelState) (d : ℕ) → (machine.domain (read_of f h) d).next_agg ≡ (domain_in h.domains d).next_agg
 unfolding read_of
 next_agg-read_of f h d = ap (λ (x : Domain Text). x.next_agg) (domain-seen (read f) h.domains h.store.pools h.pipes d)
 
-pub next_agg-layout_of : (h : Holding) (d : ℕ) → (machine.domain (layout_of h) d).next_agg ≡ (domain_in h.domains d).next_agg
+pub next_agg-layout_of : (h : KernelState) (d : ℕ) → (machine.domain (layout_of h) d).next_agg ≡ (domain_in h.domains d).next_agg
 next_agg-layout_of h d = ap (λ (s : State). (machine.domain s d).next_agg) (read_layout h) ∙ next_agg-read_of number_at h d
 
-pub may_read-read_of : (f : Place → ℕ × ℕ) (h : Holding) (d q : ℕ) → machine.may_read (read_of f h) d q ≡ names_in h.store.pools q d
+pub may_read-read_of : (f : Place → ℕ × ℕ) (h : KernelState) (d q : ℕ) → machine.may_read (read_of f h) d q ≡ names_in h.store.pools q d
 unfolding read_of
 may_read-read_of f h d q = ap (λ (x : machine.Pool). list_any (λ e. e == d) x.domains) (pool-seen (read f) h.domains h.store.pools h.pipes q)
 
@@ -45,18 +45,18 @@ text-seen_read f ds ps qs d a = ap (λ (o : Option Text). unwrap_or o []) (aggre
     found None = refl
     found (Some xs) = refl
 
-pub text-read_of : (f : Place → ℕ × ℕ) (h : Holding) (d a : ℕ) → machine.text (read_of f h) d a ≡ read f (slices_in h.domains d a)
+pub text-read_of : (f : Place → ℕ × ℕ) (h : KernelState) (d a : ℕ) → machine.text (read_of f h) d a ≡ read f (slices_in h.domains d a)
 unfolding read_of
 text-read_of f h d a = text-seen_read f h.domains h.store.pools h.pipes d a
 
-pub text-machine_of : (h : Holding) (d a : ℕ) (xs : List Slice) → Some xs ≡ agg_in h.domains d a → machine.text (machine_of h) d a ≡ text_of h.store xs
+pub text-machine_of : (h : KernelState) (d a : ℕ) (xs : List Slice) → Some xs ≡ agg_in h.domains d a → machine.text (machine_of h) d a ≡ text_of h.store xs
 unfolding machine_of
 text-machine_of h d a xs found = text-seen (text_of h.store) h.domains h.store.pools h.pipes d a xs found
 
-pub length_text-read_of : (f : Place → ℕ × ℕ) (h : Holding) (d a : ℕ) → length (machine.text (read_of f h) d a) ≡ byte_len (slices_in h.domains d a)
+pub length_text-read_of : (f : Place → ℕ × ℕ) (h : KernelState) (d a : ℕ) → length (machine.text (read_of f h) d a) ≡ byte_len (slices_in h.domains d a)
 length_text-read_of f h d a = ap length (text-read_of f h d a) ∙ length-read f (slices_in h.domains d a)
 
-pub length_text-machine_of : (h : Holding) (d a : ℕ) → length (machine.text (machine_of h) d a) ≡ byte_len (slices_in h.domains d a)
+pub length_text-machine_of : (h : KernelState) (d a : ℕ) → length (machine.text (machine_of h) d a) ≡ byte_len (slices_in h.domains d a)
 length_text-machine_of h d a = ap (λ (s : State). length (machine.text s d a)) (read_machine h) ∙ length_text-read_of (byte_at h.store) h d a
 
 -- its length, where it was looked up
@@ -83,21 +83,21 @@ pub ruleset length_rules = (length_some, length_none, laid_some, laid_none, doma
 
 -- pipes
 
-pub pipe_at-read_of : (f : Place → ℕ × ℕ) (h : Holding) (p : ℕ) → machine.pipe_at (read_of f h) p ≡ pipe_meant (read f) (queue_at h.pipes p)
+pub pipe_at-read_of : (f : Place → ℕ × ℕ) (h : KernelState) (p : ℕ) → machine.pipe_at (read_of f h) p ≡ pipe_meant (read f) (queue_at h.pipes p)
 unfolding read_of
 pipe_at-read_of f h p = pipe_at-seen (read f) h.domains h.store.pools h.pipes [] p refl
 
-pub pipe_at-machine_of : (h : Holding) (p : ℕ) → machine.pipe_at (machine_of h) p ≡ pipe_meant (text_of h.store) (queue_at h.pipes p)
+pub pipe_at-machine_of : (h : KernelState) (p : ℕ) → machine.pipe_at (machine_of h) p ≡ pipe_meant (text_of h.store) (queue_at h.pipes p)
 pipe_at-machine_of h p = ap (λ (s : State). machine.pipe_at s p) (read_machine h) ∙ pipe_at-read_of (byte_at h.store) h p
 
-pub queue-read_of : (f : Place → ℕ × ℕ) (h : Holding) (p : ℕ) → (machine.pipe_at (read_of f h) p).queue ≡ read f (queue_at h.pipes p).queue
+pub queue-read_of : (f : Place → ℕ × ℕ) (h : KernelState) (p : ℕ) → (machine.pipe_at (read_of f h) p).queue ≡ read f (queue_at h.pipes p).queue
 queue-read_of f h p = ap (λ (x : machine.Pipe). x.queue) (pipe_at-read_of f h p)
 
-pub length_queue-read_of : (f : Place → ℕ × ℕ) (h : Holding) (p : ℕ) → length (machine.pipe_at (read_of f h) p).queue ≡ byte_len (queue_at h.pipes p).queue
+pub length_queue-read_of : (f : Place → ℕ × ℕ) (h : KernelState) (p : ℕ) → length (machine.pipe_at (read_of f h) p).queue ≡ byte_len (queue_at h.pipes p).queue
 length_queue-read_of f h p = ap length (queue-read_of f h p) ∙ length-read f (queue_at h.pipes p).queue
 
-pub reading-read_of : (f : Place → ℕ × ℕ) (h : Holding) (p : ℕ) → (machine.pipe_at (read_of f h) p).reading ≡ (queue_at h.pipes p).reading
+pub reading-read_of : (f : Place → ℕ × ℕ) (h : KernelState) (p : ℕ) → (machine.pipe_at (read_of f h) p).reading ≡ (queue_at h.pipes p).reading
 reading-read_of f h p = ap (λ (x : machine.Pipe). x.reading) (pipe_at-read_of f h p)
 
-pub writing-read_of : (f : Place → ℕ × ℕ) (h : Holding) (p : ℕ) → (machine.pipe_at (read_of f h) p).writing ≡ (queue_at h.pipes p).writing
+pub writing-read_of : (f : Place → ℕ × ℕ) (h : KernelState) (p : ℕ) → (machine.pipe_at (read_of f h) p).writing ≡ (queue_at h.pipes p).writing
 writing-read_of f h p = ap (λ (x : machine.Pipe). x.writing) (pipe_at-read_of f h p)

@@ -24,7 +24,7 @@ use Rattle.iol_hold.proofs.Slicing.{byte_len-append}
 use Rattle.iol_desc.specs.Tables.{domain_in, with_domain_in, agg_in, live_aggs_in}
 use Rattle.iol_kernel.specs.Seen.{Pipe, meant, seen}
 use Rattle.iol_kernel.specs.Counted.{uses, domain_uses}
-use Rattle.iol_kernel.specs.Holding.{Holding, Each, IsDomainReadable, IsSound, slices_in}
+use Rattle.iol_kernel.specs.KernelState.{KernelState, Each, IsDomainReadable, IsSound, slices_in}
 use Rattle.iol_kernel.specs.Regrouped.{with_two, with_one, joined_in, SplitsAgg}
 use Rattle.iol_kernel.specs.Sharing.{read_of, Changes}
 use Rattle.iol_kernel.proofs.Effects.{moved-sound}
@@ -36,7 +36,7 @@ use Rattle.iol_kernel.proofs.ReadOf.{text-seen_read}
 use Rattle.iol_kernel.proofs.Slices.{found_slices}
 
 -- One domain's aggregates change, and the store goes on.
-pub regrouped-sound : (h : Holding) (t : Stored) (d : ℕ) (x : Domain (List Slice)) (given taken : List BufId) → IsSound h → (domain_in h.domains d).live ≡ true → x.fds ≡ (domain_in h.domains d).fds → Shares h.store t taken given
+pub regrouped-sound : (h : KernelState) (t : Stored) (d : ℕ) (x : Domain (List Slice)) (given taken : List BufId) → IsSound h → (domain_in h.domains d).live ≡ true → x.fds ≡ (domain_in h.domains d).fds → Shares h.store t taken given
     → IsDomainReadable h.store x → ((b : BufId) → domain_uses b x + tally b taken ≡ domain_uses b (domain_in h.domains d) + tally b given)
     → Each (λ (e : ℕ × List Slice). byte_len e.1 ≤ 16777216) x.aggs → length x.aggs + live_aggs_in h.domains ≤ 65536 + length (domain_in h.domains d).aggs
     → IsSound (record h { store = t; domains = with_domain_in h.domains d x })
@@ -72,7 +72,7 @@ split-seen f ds ps qs d a at first second before after =
     ∙ ap (λ (w : Text). machine.with_domain s d (record (meant (read f) x) { aggs = without (meant (read f) x).aggs a ++ (n, take at text) ∷ (n + 1, w) ∷ []; next_agg = n + 2 })) two
     ∙ ap (λ (y : Domain Text). machine.with_domain s d (record y { aggs = without y.aggs a ++ (y.next_agg, take at text) ∷ (y.next_agg + 1, drop at text) ∷ []; next_agg = y.next_agg + 2 })) (sym (domain-seen (read f) ds ps qs d))
 
-module _ (h : Holding) (t : Stored) (ds : List (Domain (List Slice))) (d a at : ℕ) (splits : SplitsAgg h.store t h.domains ds d a at) where
+module _ (h : KernelState) (t : Stored) (ds : List (Domain (List Slice))) (d a at : ℕ) (splits : SplitsAgg h.store t h.domains ds d a at) where
   split-each : (f : Place → ℕ × ℕ) → read_of f (record h { store = t; domains = ds }) ≡ (aggs.agg_split (read_of f h) d a at).after
   unfolding read_of
   split-each f =
@@ -127,7 +127,7 @@ join-seen f ds ps qs d a b =
     ∙ ap (λ (w : Text). machine.with_domain s d (record (meant (read f) x) { aggs = without (without (meant (read f) x).aggs a) b ++ (n, w) ∷ []; next_agg = n + 1 })) one
     ∙ ap (λ (y : Domain Text). machine.with_domain s d (record y { aggs = without (without y.aggs a) b ++ (y.next_agg, text) ∷ []; next_agg = y.next_agg + 1 })) (sym (domain-seen (read f) ds ps qs d))
 
-module _ (h : Holding) (ds : List (Domain (List Slice))) (d a b : ℕ) (joined : ds ≡ joined_in h.domains d a b) where
+module _ (h : KernelState) (ds : List (Domain (List Slice))) (d a b : ℕ) (joined : ds ≡ joined_in h.domains d a b) where
   join-each : (f : Place → ℕ × ℕ) → read_of f (record h { domains = ds }) ≡ (aggs.agg_join (read_of f h) d a b).after
   unfolding read_of
   join-each f = ap (λ (ys : List (Domain (List Slice))). seen (read f) ys h.store.pools h.pipes) joined ∙ join-seen f h.domains h.store.pools h.pipes d a b

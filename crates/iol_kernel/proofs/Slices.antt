@@ -1,4 +1,4 @@
--- A domain's aggregate in a sound holding, as slices: none where there is no such aggregate.
+-- A domain's aggregate in a sound state, as slices: none where there is no such aggregate.
 use Rattle.std.proofs.Common.{◌≡◌, ◌≢◌, ℕ, ◌≤◌, List, [], ◌++◌, ap, sym, refl, arith, Option, Some, None, true, false, ◌∙◌}
 use Rattle.std.specs.Prelude.{unwrap_or, option_map, is_none}
 use Rattle.iol_core.specs.Text.{Text}
@@ -11,7 +11,7 @@ use Rattle.iol_hold.specs.declared.slices.Slice.{Slice}
 use Rattle.iol_hold.proofs.Counting.{tally-append, tally_none}
 use Rattle.iol_hold.proofs.Reading.{readable_none}
 use Rattle.iol_desc.specs.Tables.{domain_in, agg_in}
-use Rattle.iol_kernel.specs.Holding.{Holding, machine_of, IsSound, slices_in}
+use Rattle.iol_kernel.specs.KernelState.{KernelState, machine_of, IsSound, slices_in}
 use Rattle.iol_kernel.proofs.Meant.{aggregate-seen}
 use Rattle.iol_kernel.proofs.Sound.{agg_readable, agg_small}
 use Rattle.iol_kernel.proofs.Uses.{agg_covered, all_few, uses_few, countable}
@@ -28,41 +28,41 @@ found_slices ds d a there = of (agg_in ds d a) there
     of None none = absurd (none refl)
     of (Some xs) some = refl
 
-pub none_held : (h : Holding) (d a : ℕ) → None ≡ agg_in h.domains d a → aggs.lacks_agg (machine_of h) d a ≡ true
+pub none_held : (h : KernelState) (d a : ℕ) → None ≡ agg_in h.domains d a → aggs.lacks_agg (machine_of h) d a ≡ true
 unfolding machine_of
 none_held h d a none = ap (λ (o : Option Text). is_none o) (aggregate-seen (text_of h.store) h.domains h.store.pools h.pipes d a ∙ ap (option_map (text_of h.store)) (sym none))
 
-pub there_held : (h : Holding) (d a : ℕ) → aggs.lacks_agg (machine_of h) d a ≡ false → agg_in h.domains d a ≢ None
+pub there_held : (h : KernelState) (d a : ℕ) → aggs.lacks_agg (machine_of h) d a ≡ false → agg_in h.domains d a ≢ None
 there_held h d a there = λ none. (let lacks = none_held h d a (sym none) in cc (lacks, there))
 
 -- what is known of its slices
 
-pub slices_readable : (h : Holding) (d a : ℕ) → IsSound h → AllReadable h.store (slices_in h.domains d a)
+pub slices_readable : (h : KernelState) (d a : ℕ) → IsSound h → AllReadable h.store (slices_in h.domains d a)
 slices_readable h d a sound = found (agg_in h.domains d a) (λ xs is. agg_readable h d a xs sound is)
   where
     found : (o : Option (List Slice)) → ((xs : List Slice) → Some xs ≡ o → AllReadable h.store xs) → AllReadable h.store (unwrap_or o [])
     found None r = readable_none h.store
     found (Some xs) r = r xs refl
 
-pub slices_small : (h : Holding) (d a : ℕ) → IsSound h → byte_len (slices_in h.domains d a) ≤ 16777216
+pub slices_small : (h : KernelState) (d a : ℕ) → IsSound h → byte_len (slices_in h.domains d a) ≤ 16777216
 slices_small h d a sound = found (agg_in h.domains d a) (λ xs is. agg_small h d a xs sound is)
   where
     found : (o : Option (List Slice)) → ((xs : List Slice) → Some xs ≡ o → byte_len xs ≤ 16777216) → byte_len (unwrap_or o []) ≤ 16777216
     found None r = omega arith
     found (Some xs) r = r xs refl
 
-pub slices_covered : (h : Holding) (d a : ℕ) → IsSound h → (domain_in h.domains d).live ≡ true → Covers h.store (bufs_of (slices_in h.domains d a))
+pub slices_covered : (h : KernelState) (d a : ℕ) → IsSound h → (domain_in h.domains d).live ≡ true → Covers h.store (bufs_of (slices_in h.domains d a))
 slices_covered h d a sound live = found (agg_in h.domains d a) (λ xs is. agg_covered h.store h.domains h.pipes d a xs sound.counted live is)
   where
     found : (o : Option (List Slice)) → ((xs : List Slice) → Some xs ≡ o → Covers h.store (bufs_of xs)) → Covers h.store (bufs_of (unwrap_or o []))
     found None r = record { each = λ b. omega (arith, tally_none b) }
     found (Some xs) r = r xs refl
 
-pub slices_countable : (h : Holding) (d a : ℕ) → IsSound h → IsCountable h.store (bufs_of (slices_in h.domains d a))
+pub slices_countable : (h : KernelState) (d a : ℕ) → IsSound h → IsCountable h.store (bufs_of (slices_in h.domains d a))
 slices_countable h d a sound = countable h.store h.domains h.pipes (slices_in h.domains d a) sound.counted sound.limits (slices_small h d a sound)
 
 -- of two aggregates, the first twice
-pub thrice_countable : (h : Holding) (d a b : ℕ) → IsSound h → IsCountable h.store (bufs_of (slices_in h.domains d a) ++ bufs_of (slices_in h.domains d a) ++ bufs_of (slices_in h.domains d b))
+pub thrice_countable : (h : KernelState) (d a b : ℕ) → IsSound h → IsCountable h.store (bufs_of (slices_in h.domains d a) ++ bufs_of (slices_in h.domains d a) ++ bufs_of (slices_in h.domains d b))
 thrice_countable h d a b sound =
     let xs : List Slice = slices_in h.domains d a in
     let ys : List Slice = slices_in h.domains d b in

@@ -21,7 +21,7 @@ use Rattle.iol_desc.specs.Tables.{domain_in, with_domain_in, agg_in, with_agg_in
 use Rattle.iol_kernel.specs.Seen.{meant, Pipe, pipe_meant, seen}
 use Rattle.iol_kernel.specs.Counted.{uses, domain_uses, pipe_uses, all_uses, IsCounted}
 use Rattle.iol_kernel.specs.Ends.{IsOpenOnce}
-use Rattle.iol_kernel.specs.Holding.{Holding, Each, IsDomainReadable, IsPipeReadable, IsOpenEnd, IsSound, IsLimited}
+use Rattle.iol_kernel.specs.KernelState.{KernelState, Each, IsDomainReadable, IsPipeReadable, IsOpenEnd, IsSound, IsLimited}
 use Rattle.iol_kernel.proofs.Uses.{uses-same, sum-with_domain, length-without}
 
 pub each-push : {A : Type 0} (P : A → Type 0) (xs : List A) (x : A) → Each P xs → P x → Each P (xs ++ x ∷ [])
@@ -165,25 +165,25 @@ pub each-with_domain_in : (P : Domain (List Slice) → Type 0) (ds : List (Domai
 unfolding with_domain_in
 each-with_domain_in P ds d x e p = each-with_numbered P ds d x e p
 
--- what a domain of a sound holding has
+-- what a domain of a sound state has
 
-pub aggs_readable : (h : Holding) (d : ℕ) → IsSound h → IsDomainReadable h.store (domain_in h.domains d)
+pub aggs_readable : (h : KernelState) (d : ℕ) → IsSound h → IsDomainReadable h.store (domain_in h.domains d)
 aggs_readable h d sound = each-domain_in (IsDomainReadable h.store) h.domains d sound.domains tt
 
-pub ends_open : (h : Holding) (d : ℕ) → IsSound h → Each (IsOpenEnd h.pipes) (domain_in h.domains d).fds
+pub ends_open : (h : KernelState) (d : ℕ) → IsSound h → Each (IsOpenEnd h.pipes) (domain_in h.domains d).fds
 ends_open h d sound = each-domain_in (λ (x : Domain (List Slice)). Each (IsOpenEnd h.pipes) x.fds) h.domains d sound.fds tt
 
-pub aggs_small : (h : Holding) (d : ℕ) → IsSound h → Each (λ (e : ℕ × List Slice). byte_len e.1 ≤ 16777216) (domain_in h.domains d).aggs
+pub aggs_small : (h : KernelState) (d : ℕ) → IsSound h → Each (λ (e : ℕ × List Slice). byte_len e.1 ≤ 16777216) (domain_in h.domains d).aggs
 aggs_small h d sound = each-domain_in (λ (y : Domain (List Slice)). Each (λ e. byte_len e.1 ≤ 16777216) y.aggs) h.domains d sound.limits.aggs tt
 
-pub agg_small : (h : Holding) (d a : ℕ) (xs : List Slice) → IsSound h → Some xs ≡ agg_in h.domains d a → byte_len xs ≤ 16777216
+pub agg_small : (h : KernelState) (d a : ℕ) (xs : List Slice) → IsSound h → Some xs ≡ agg_in h.domains d a → byte_len xs ≤ 16777216
 agg_small h d a xs sound is = each-lookup (λ (ys : List Slice). byte_len ys ≤ 16777216) (domain_in h.domains d).aggs a xs (aggs_small h d sound) is
 
-pub agg_readable : (h : Holding) (d a : ℕ) (xs : List Slice) → IsSound h → Some xs ≡ agg_in h.domains d a → AllReadable h.store xs
+pub agg_readable : (h : KernelState) (d a : ℕ) (xs : List Slice) → IsSound h → Some xs ≡ agg_in h.domains d a → AllReadable h.store xs
 agg_readable h d a xs sound is = each-lookup (AllReadable h.store) (domain_in h.domains d).aggs a xs (aggs_readable h d sound) is
 
 -- one domain changes, its aggregates do not
-pub sound_with : (h : Holding) (d : ℕ) (x : Domain (List Slice)) → IsSound h → (domain_in h.domains d).live ≡ true → x.aggs ≡ (domain_in h.domains d).aggs → Each (IsOpenEnd h.pipes) x.fds → IsOpenOnce (with_domain_in h.domains d x) → IsSound (record h { domains = with_domain_in h.domains d x })
+pub sound_with : (h : KernelState) (d : ℕ) (x : Domain (List Slice)) → IsSound h → (domain_in h.domains d).live ≡ true → x.aggs ≡ (domain_in h.domains d).aggs → Each (IsOpenEnd h.pipes) x.fds → IsOpenOnce (with_domain_in h.domains d x) → IsSound (record h { domains = with_domain_in h.domains d x })
 sound_with h d x sound live same fds once = record {
   domains = each-with_domain_in (IsDomainReadable h.store) h.domains d x sound.domains (subst (λ (es : List (ℕ × List Slice)). Each (λ e. AllReadable h.store e.1) es) (sym same) (aggs_readable h d sound));
   pipes = sound.pipes;
@@ -201,7 +201,7 @@ sound_with h d x sound live same fds once = record {
   few_pools = sound.few_pools;
 }
 
-pub sound_fds : (h : Holding) (d : ℕ) (xs : List (Option Descriptor)) → IsSound h → (domain_in h.domains d).live ≡ true → Each (IsOpenEnd h.pipes) xs → IsOpenOnce (with_fds_in h.domains d xs) → IsSound (record h { domains = with_fds_in h.domains d xs })
+pub sound_fds : (h : KernelState) (d : ℕ) (xs : List (Option Descriptor)) → IsSound h → (domain_in h.domains d).live ≡ true → Each (IsOpenEnd h.pipes) xs → IsOpenOnce (with_fds_in h.domains d xs) → IsSound (record h { domains = with_fds_in h.domains d xs })
 sound_fds h d xs sound live fds once = sound_with h d (record (domain_in h.domains d) { fds = xs }) sound live refl fds once
 
 -- limits, when a domain gets an aggregate, or gives one up
@@ -239,7 +239,7 @@ limits_drop ds qs d a xs limits live is =
     }
 
 -- the other aggregates can still be read
-pub drop_readable : (h : Holding) (d a : ℕ) → IsSound h → Each (IsDomainReadable h.store) (without_agg_in h.domains d a)
+pub drop_readable : (h : KernelState) (d a : ℕ) → IsSound h → Each (IsDomainReadable h.store) (without_agg_in h.domains d a)
 drop_readable h d a sound =
     let x : Domain (List Slice) = domain_in h.domains d in
     each-with_domain_in (IsDomainReadable h.store) h.domains d (record x { aggs = without x.aggs a }) sound.domains (each-without (λ (e : ℕ × List Slice). AllReadable h.store e.1) x.aggs a (aggs_readable h d sound))

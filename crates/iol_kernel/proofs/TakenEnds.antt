@@ -5,7 +5,7 @@ use Rattle.std.proofs.lemmas.List.Sums.{sum_by-cons}
 use Rattle.iol_core.specs.declared.descriptors.Descriptor.{Descriptor}
 use Rattle.iol_desc.specs.Tables.{domain_in, with_fds_in}
 use Rattle.iol_kernel.specs.Ends.{on_end, ends_on, all_ends_on}
-use Rattle.iol_kernel.specs.Holding.{Holding, Each, IsOpenEnd, IsSound}
+use Rattle.iol_kernel.specs.KernelState.{KernelState, Each, IsOpenEnd, IsSound}
 use Rattle.iol_kernel.specs.ClosedEnds.{AreTaken, KeepsEnds}
 use Rattle.iol_kernel.proofs.Once.{same_end-itself, ends-with_domain, once_fewer}
 use Rattle.iol_kernel.proofs.Sound.{ends_open}
@@ -15,10 +15,10 @@ use Rattle.iol_kernel.proofs.Uses.{Domains, Pipes}
 
 -- all numbers of a domain are taken
 
-pub taken-sound : (h : Holding) (ds : Domains) (d : ℕ) → IsSound h → (domain_in h.domains d).live ≡ true → ds ≡ with_fds_in h.domains d [] → IsSound (record h { domains = ds })
+pub taken-sound : (h : KernelState) (ds : Domains) (d : ℕ) → IsSound h → (domain_in h.domains d).live ≡ true → ds ≡ with_fds_in h.domains d [] → IsSound (record h { domains = ds })
 taken-sound h ds d sound live is = fds-sound h ds d [] sound live is tt (once_fewer h.domains d (record (domain_in h.domains d) { fds = [] }) live (λ e. omega arith) sound.once)
 
-pub taken_ends : (h : Holding) (ds : Domains) (d : ℕ) (ends : List (Option Descriptor)) → IsSound h → (domain_in h.domains d).live ≡ true → ends ≡ (domain_in h.domains d).fds → ds ≡ with_fds_in h.domains d [] → AreTaken ds h.pipes ends
+pub taken_ends : (h : KernelState) (ds : Domains) (d : ℕ) (ends : List (Option Descriptor)) → IsSound h → (domain_in h.domains d).live ≡ true → ends ≡ (domain_in h.domains d).fds → ds ≡ with_fds_in h.domains d [] → AreTaken ds h.pipes ends
 taken_ends h ds d ends sound live is rest = record {
   opened = subst (λ (xs : List (Option Descriptor)). Each (IsOpenEnd h.pipes) xs) (sym is) (ends_open h d sound);
   once = λ x. omega (arith, ap (ends_on x) is, ap (all_ends_on x) rest, sound.once.each x, ends-with_domain x h.domains d (record (domain_in h.domains d) { fds = [] }) live);

@@ -17,7 +17,7 @@ use Rattle.iol_hold.proofs.Counting.{same_few}
 use Rattle.iol_desc.specs.Tables.{domain_in, with_domain_in, agg_in, with_agg_in, without_agg_in, live_aggs_in}
 use Rattle.iol_kernel.specs.Seen.{Pipe}
 use Rattle.iol_kernel.specs.Counted.{uses, domain_uses, pipe_uses, all_uses, IsCounted}
-use Rattle.iol_kernel.specs.Holding.{Each, IsLimited, IsShort, queue_at}
+use Rattle.iol_kernel.specs.KernelState.{Each, IsLimited, IsShort, queue_at}
 use Rattle.iol_kernel.proofs.Rows.{live_numbered}
 
 abbrev pub Domains : Type 0

@@ -8,7 +8,7 @@ use Rattle.iol_hold.specs.Texts.{bufs_of}
 use Rattle.iol_hold.specs.declared.slices.Slice.{Slice}
 use Rattle.iol_kernel.specs.Seen.{Pipe}
 use Rattle.iol_kernel.specs.Ends.{same_end, ends_on, all_ends_on}
-use Rattle.iol_kernel.specs.Holding.{queue_at, Each, IsOpenEnd}
+use Rattle.iol_kernel.specs.KernelState.{queue_at, Each, IsOpenEnd}
 
 -- a pipe whose read end is closed: nothing waits any more
 abbrev pub without_reader : Pipe (List Slice) → Pipe (List Slice)

@@ -1,7 +1,7 @@
 pub mod Seen
 pub mod Counted
 pub mod Ends
-pub mod Holding
+pub mod KernelState
 pub mod ClosedEnds
 pub mod Kernel
 pub mod Report

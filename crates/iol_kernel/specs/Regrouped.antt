@@ -8,7 +8,7 @@ use Rattle.iol_hold.specs.Stored.{Stored}
 use Rattle.iol_hold.specs.Texts.{bufs_of}
 use Rattle.iol_hold.specs.declared.slices.Slice.{Slice}
 use Rattle.iol_desc.specs.Tables.{domain_in, with_domain_in, with_next}
-use Rattle.iol_kernel.specs.Holding.{slices_in}
+use Rattle.iol_kernel.specs.KernelState.{slices_in}
 
 -- with two aggregates in place of a, under the next numbers
 abbrev pub with_two : Domain (List Slice) → (a : ℕ) → (first second : List Slice) → Domain (List Slice)

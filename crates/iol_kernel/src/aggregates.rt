@@ -11,7 +11,7 @@ ghost use Rattle.iol_pool.specs.Pools.{pool_in};
 ghost use Rattle.iol_hold.specs.Room.{has_room};
 ghost use Rattle.iol_desc.specs.Tables.{domains_of, domain_in};
 ghost use Rattle.iol_hold.specs.Moves.{Stays};
-ghost use Rattle.iol_kernel.specs.Holding.{machine_of, joined, IsSound, AddsText};
+ghost use Rattle.iol_kernel.specs.KernelState.{machine_of, joined, IsSound, AddsText};
 
 use crate::kernel::Kernel;
 use iol_agg::{Agg, Parts};
@@ -54,17 +54,17 @@ fn add_bytes(
 }
 
 impl Kernel {
-    ghost use Rattle.iol_kernel.specs.Kernel.{holding};
+    ghost use Rattle.iol_kernel.specs.Kernel.{state_of};
 
     /// Places bytes in the caller's default pool, as its next aggregate.
     #[tactic(auto, using(crate::proofs::Stay::stay_rules))]
     pub fn agg_make(&mut self, by: DomainId, bytes: &Bytes) -> Result<AggId, Refusal>
-        requires { IsSound (holding self.old) }
-        ensures step { Step (calls.agg_make (machine_of (holding self.old)) by bytes.now) (machine_of (holding self.old)) result (machine_of (holding self.new)) }
-        ensures sound { IsSound (holding self.new) }
-        ensures stays { Stays (holding self.old).store (holding self.new).store }
-        ensures room { OnOk result (has_room (holding self.old).store (default_pool (machine_of (holding self.old)) by) (length bytes.now) ≡ true) }
-        ensures no_room { (p : ℕ) → result ≡ Err (Refusal.NoRoom p) → has_room (holding self.old).store (default_pool (machine_of (holding self.old)) by) (length bytes.now) ≡ false }
+        requires { IsSound (state_of self.old) }
+        ensures step { Step (calls.agg_make (machine_of (state_of self.old)) by bytes.now) (machine_of (state_of self.old)) result (machine_of (state_of self.new)) }
+        ensures sound { IsSound (state_of self.new) }
+        ensures stays { Stays (state_of self.old).store (state_of self.new).store }
+        ensures room { OnOk result (has_room (state_of self.old).store (default_pool (machine_of (state_of self.old)) by) (length bytes.now) ≡ true) }
+        ensures no_room { (p : ℕ) → result ≡ Err (Refusal.NoRoom p) → has_room (state_of self.old).store (default_pool (machine_of (state_of self.old)) by) (length bytes.now) ≡ false }
     {
         if !self.is_live(by) {
             return Err(Refusal::NoDomain);
@@ -87,19 +87,19 @@ impl Kernel {
     /// Places bytes in a pool, as the domain's next aggregate.
     #[tactic(auto, using(crate::proofs::Stay::stay_rules))]
     fn place(&mut self, by: DomainId, pool: PoolId, bytes: &[u8]) -> Result<AggId, Refusal>
-        requires sound { IsSound (holding self.old) }
-        requires live { is_live (machine_of (holding self.old)) by ≡ true }
-        requires few { too_many_aggs (machine_of (holding self.old)) by 1 0 ≡ false }
+        requires sound { IsSound (state_of self.old) }
+        requires live { is_live (machine_of (state_of self.old)) by ≡ true }
+        requires few { too_many_aggs (machine_of (state_of self.old)) by 1 0 ≡ false }
         requires small { length bytes.now ≤ 2 ^ 24 }
-        requires open { (state.pool (machine_of (holding self.old)) pool).closed ≡ false }
-        ensures number { IfOk result (λ n. n ≡ calls.next_agg (machine_of (holding self.old)) by) }
-        ensures placed { OnOk result (machine_of (holding self.new) ≡ calls.with_agg (machine_of (holding self.old)) by (labelled pool bytes.now)) }
-        ensures sound { IsSound (holding self.new) }
-        ensures stays { Stays (holding self.old).store (holding self.new).store }
-        ensures room { OnOk result (has_room (holding self.old).store pool (length bytes.now) ≡ true) }
-        ensures no_room { (p : ℕ) → result ≡ Err (Refusal.NoRoom p) → (p ≡ pool) × (has_room (holding self.old).store pool (length bytes.now) ≡ false) }
+        requires open { (state.pool (machine_of (state_of self.old)) pool).closed ≡ false }
+        ensures number { IfOk result (λ n. n ≡ calls.next_agg (machine_of (state_of self.old)) by) }
+        ensures placed { OnOk result (machine_of (state_of self.new) ≡ calls.with_agg (machine_of (state_of self.old)) by (labelled pool bytes.now)) }
+        ensures sound { IsSound (state_of self.new) }
+        ensures stays { Stays (state_of self.old).store (state_of self.new).store }
+        ensures room { OnOk result (has_room (state_of self.old).store pool (length bytes.now) ≡ true) }
+        ensures no_room { (p : ℕ) → result ≡ Err (Refusal.NoRoom p) → (p ≡ pool) × (has_room (state_of self.old).store pool (length bytes.now) ≡ false) }
         ensures late { IfErr result (WantOfRoom pool) }
-        ensures err { OnErr result (machine_of (holding self.new) ≡ machine_of (holding self.old)) }
+        ensures err { OnErr result (machine_of (state_of self.new) ≡ machine_of (state_of self.old)) }
     {
         match add_bytes(
             self.alloc,
@@ -117,10 +117,10 @@ impl Kernel {
     /// Gives an aggregate up.
     #[tactic(auto, using(crate::proofs::Stay::stay_rules))]
     pub fn agg_drop(&mut self, by: DomainId, agg: AggId) -> Result<(), Refusal>
-        requires { IsSound (holding self.old) }
-        ensures step { Step (calls.agg_drop (machine_of (holding self.old)) by agg) (machine_of (holding self.old)) result (machine_of (holding self.new)) }
-        ensures sound { IsSound (holding self.new) }
-        ensures stays { Stays (holding self.old).store (holding self.new).store }
+        requires { IsSound (state_of self.old) }
+        ensures step { Step (calls.agg_drop (machine_of (state_of self.old)) by agg) (machine_of (state_of self.old)) result (machine_of (state_of self.new)) }
+        ensures sound { IsSound (state_of self.new) }
+        ensures stays { Stays (state_of self.old).store (state_of self.new).store }
     {
         if !self.is_live(by) {
             return Err(Refusal::NoDomain);
@@ -135,12 +135,12 @@ impl Kernel {
     /// Takes an aggregate from its domain, and gives its holds up.
     #[tactic(auto, using(crate::proofs::Stay::stay_rules))]
     fn give_up(&mut self, by: DomainId, agg: AggId)
-        requires sound { IsSound (holding self.old) }
-        requires live { is_live (machine_of (holding self.old)) by ≡ true }
-        requires there { lacks_agg (machine_of (holding self.old)) by agg ≡ false }
-        ensures given { machine_of (holding self.new) ≡ calls.without_agg (machine_of (holding self.old)) by agg }
-        ensures sound { IsSound (holding self.new) }
-        ensures stays { Stays (holding self.old).store (holding self.new).store }
+        requires sound { IsSound (state_of self.old) }
+        requires live { is_live (machine_of (state_of self.old)) by ≡ true }
+        requires there { lacks_agg (machine_of (state_of self.old)) by agg ≡ false }
+        ensures given { machine_of (state_of self.new) ≡ calls.without_agg (machine_of (state_of self.old)) by agg }
+        ensures sound { IsSound (state_of self.new) }
+        ensures stays { Stays (state_of self.old).store (state_of self.new).store }
     {
         let given = self.domains.take_agg(by, agg);
         given.release(&mut self.store);
@@ -148,8 +148,8 @@ impl Kernel {
 
     /// A copy of an aggregate's bytes.
     pub fn show(&self, by: DomainId, agg: AggId) -> Result<Bytes, Refusal>
-        requires { IsSound (holding self.now) }
-        ensures { Step (calls.show (machine_of (holding self.now)) by agg) (machine_of (holding self.now)) result (machine_of (holding self.now)) }
+        requires { IsSound (state_of self.now) }
+        ensures { Step (calls.show (machine_of (state_of self.now)) by agg) (machine_of (state_of self.now)) result (machine_of (state_of self.now)) }
     {
         if !self.is_live(by) {
             return Err(Refusal::NoDomain);
@@ -165,9 +165,9 @@ impl Kernel {
 
     /// An aggregate's bytes, where they lie.
     pub fn parts(&self, by: DomainId, agg: AggId) -> Result<Parts<'_>, Refusal>
-        requires { IsSound (holding self.now) }
-        ensures ok { IfOk result (λ parts. (first (calls.show (machine_of (holding self.now)) by agg).refusals ≡ None) × (joined parts ≡ (calls.show (machine_of (holding self.now)) by agg).answer)) }
-        ensures err { IfErr result (λ x. first (calls.show (machine_of (holding self.now)) by agg).refusals ≡ Some x) }
+        requires { IsSound (state_of self.now) }
+        ensures ok { IfOk result (λ parts. (first (calls.show (machine_of (state_of self.now)) by agg).refusals ≡ None) × (joined parts ≡ (calls.show (machine_of (state_of self.now)) by agg).answer)) }
+        ensures err { IfErr result (λ x. first (calls.show (machine_of (state_of self.now)) by agg).refusals ≡ Some x) }
     {
         if !self.is_live(by) {
             return Err(Refusal::NoDomain);
@@ -180,10 +180,10 @@ impl Kernel {
 
     /// The bytes of an aggregate that is there, where they lie.
     fn parts_of(&self, by: DomainId, agg: AggId) -> Parts<'_>
-        requires sound { IsSound (holding self.now) }
-        requires live { is_live (machine_of (holding self.now)) by ≡ true }
-        requires there { lacks_agg (machine_of (holding self.now)) by agg ≡ false }
-        ensures { joined result ≡ bytes_of (state.text (machine_of (holding self.now)) by agg) }
+        requires sound { IsSound (state_of self.now) }
+        requires live { is_live (machine_of (state_of self.now)) by ≡ true }
+        requires there { lacks_agg (machine_of (state_of self.now)) by agg ≡ false }
+        ensures { joined result ≡ bytes_of (state.text (machine_of (state_of self.now)) by agg) }
     {
         let Some(found) = self.domains.agg(by, agg) else {
             unreachable!()
@@ -193,10 +193,10 @@ impl Kernel {
 
     /// A copy of an aggregate's bytes.
     fn copy_of(&self, by: DomainId, agg: AggId) -> Result<Vec<u8>, AllocError>
-        requires sound { IsSound (holding self.now) }
-        requires live { is_live (machine_of (holding self.now)) by ≡ true }
-        requires there { lacks_agg (machine_of (holding self.now)) by agg ≡ false }
-        ensures { IfOk result (λ bytes. bytes.items ≡ bytes_of (state.text (machine_of (holding self.now)) by agg)) }
+        requires sound { IsSound (state_of self.now) }
+        requires live { is_live (machine_of (state_of self.now)) by ≡ true }
+        requires there { lacks_agg (machine_of (state_of self.now)) by agg ≡ false }
+        ensures { IfOk result (λ bytes. bytes.items ≡ bytes_of (state.text (machine_of (state_of self.now)) by agg)) }
     {
         let Some(found) = self.domains.agg(by, agg) else {
             unreachable!()

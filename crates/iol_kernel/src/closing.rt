@@ -7,7 +7,7 @@ ghost use Rattle.iol_core.specs.Calls.Descriptors.{closed_on, freed, with_fds};
 ghost use Rattle.iol_hold.specs.Moves.{Covers, Moves, SameLists, Stays};
 ghost use Rattle.iol_hold.specs.Texts.{bufs_of};
 ghost use Rattle.iol_kernel.specs.Ends.{all_ends_on};
-ghost use Rattle.iol_kernel.specs.Holding.{machine_of, queue_at, IsOpenEnd, IsSound};
+ghost use Rattle.iol_kernel.specs.KernelState.{machine_of, queue_at, IsOpenEnd, IsSound};
 ghost use Rattle.iol_kernel.specs.ClosedEnds.{without_reader, without_writer, ClosesEnd, KeepsEnds};
 
 use crate::kernel::{Kernel, Pipe};
@@ -80,16 +80,16 @@ fn close_write_end(store: &mut Store, pipes: &mut Vec<Option<Pipe>>, p: PipeId)
 }
 
 impl Kernel {
-    ghost use Rattle.iol_kernel.specs.Kernel.{holding};
+    ghost use Rattle.iol_kernel.specs.Kernel.{state_of};
 
     /// Closes a descriptor.
     #[tactic(auto, using(crate::proofs::Stay::stay_rules))]
     pub fn close(&mut self, by: DomainId, fd: Fd) -> Result<(), Refusal>
-        requires { IsSound (holding self.old) }
-        ensures step { Step (calls.close (machine_of (holding self.old)) by fd) (machine_of (holding self.old)) result (machine_of (holding self.new)) }
+        requires { IsSound (state_of self.old) }
+        ensures step { Step (calls.close (machine_of (state_of self.old)) by fd) (machine_of (state_of self.old)) result (machine_of (state_of self.new)) }
         ensures roomy { (p : ℕ) → result ≡ Err (Refusal.NoRoom p) → ⊥ }
-        ensures sound { IsSound (holding self.new) }
-        ensures stays { Stays (holding self.old).store (holding self.new).store }
+        ensures sound { IsSound (state_of self.new) }
+        ensures stays { Stays (state_of self.old).store (state_of self.new).store }
     {
         if !self.is_live(by) {
             return Err(Refusal::NoDomain);
@@ -104,12 +104,12 @@ impl Kernel {
     /// Closes an open descriptor, and the end that it is open on.
     #[tactic(auto, using(crate::proofs::Stay::stay_rules))]
     fn close_fd(&mut self, by: DomainId, fd: Fd, end: Descriptor)
-        requires sound { IsSound (holding self.old) }
-        requires live { is_live (machine_of (holding self.old)) by ≡ true }
-        requires open { descriptor (machine_of (holding self.old)) by fd ≡ Some end }
-        ensures closed { machine_of (holding self.new) ≡ with_fds (closed_on (machine_of (holding self.old)) (Some end)) by (freed (machine_of (holding self.old)) by fd) }
-        ensures sound { IsSound (holding self.new) }
-        ensures stays { Stays (holding self.old).store (holding self.new).store }
+        requires sound { IsSound (state_of self.old) }
+        requires live { is_live (machine_of (state_of self.old)) by ≡ true }
+        requires open { descriptor (machine_of (state_of self.old)) by fd ≡ Some end }
+        ensures closed { machine_of (state_of self.new) ≡ with_fds (closed_on (machine_of (state_of self.old)) (Some end)) by (freed (machine_of (state_of self.old)) by fd) }
+        ensures sound { IsSound (state_of self.new) }
+        ensures stays { Stays (state_of self.old).store (state_of self.new).store }
     {
         self.domains.take_fd(by, fd);
         self.close_end(end);
@@ -118,14 +118,14 @@ impl Kernel {
     /// Closes an end of a pipe, on which no descriptor is open any more. There are no files and connections yet.
     #[tactic(auto, using(crate::proofs::Stay::stay_rules))]
     pub(crate) fn close_end(&mut self, end: Descriptor)
-        requires sound { IsSound (holding self.old) }
-        requires open { IsOpenEnd (holding self.old).pipes (Some end) }
-        requires free { all_ends_on end (holding self.old).domains ≡ 0 }
-        ensures closed { machine_of (holding self.new) ≡ closed_on (machine_of (holding self.old)) (Some end) }
-        ensures domains { (holding self.new).domains ≡ (holding self.old).domains }
-        ensures others { KeepsEnds end (holding self.old).pipes (holding self.new).pipes }
-        ensures sound { IsSound (holding self.new) }
-        ensures stays { Stays (holding self.old).store (holding self.new).store }
+        requires sound { IsSound (state_of self.old) }
+        requires open { IsOpenEnd (state_of self.old).pipes (Some end) }
+        requires free { all_ends_on end (state_of self.old).domains ≡ 0 }
+        ensures closed { machine_of (state_of self.new) ≡ closed_on (machine_of (state_of self.old)) (Some end) }
+        ensures domains { (state_of self.new).domains ≡ (state_of self.old).domains }
+        ensures others { KeepsEnds end (state_of self.old).pipes (state_of self.new).pipes }
+        ensures sound { IsSound (state_of self.new) }
+        ensures stays { Stays (state_of self.old).store (state_of self.new).store }
     {
         match end {
             Descriptor::ReadEnd { pipe } => close_read_end(&mut self.store, &mut self.pipes, pipe),

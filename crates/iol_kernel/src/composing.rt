@@ -9,7 +9,7 @@ ghost use Rattle.iol_hold.specs.Places.{places, byte_len};
 ghost use Rattle.iol_hold.specs.Texts.{bufs_of};
 ghost use Rattle.iol_desc.specs.Tables.{domains_of, domain_in, agg_in};
 ghost use Rattle.iol_kernel.specs.Adding.{replaced, AddsShared};
-ghost use Rattle.iol_kernel.specs.Holding.{machine_of, layout_of, slices_in, IsSound};
+ghost use Rattle.iol_kernel.specs.KernelState.{machine_of, layout_of, slices_in, IsSound};
 ghost use Rattle.iol_kernel.specs.Sharing.{SharesBy, Changes};
 
 use crate::kernel::Kernel;
@@ -89,17 +89,17 @@ fn add_replaced(
 }
 
 impl Kernel {
-    ghost use Rattle.iol_kernel.specs.Kernel.{holding};
+    ghost use Rattle.iol_kernel.specs.Kernel.{state_of};
 
     /// Makes an aggregate of the same bytes once more.
     #[tactic(auto, using(crate::proofs::Stay::stay_rules))]
     pub fn agg_dup(&mut self, by: DomainId, agg: AggId) -> Result<AggId, Refusal>
-        requires { IsSound (holding self.old) }
-        ensures step { Step (calls.agg_dup (machine_of (holding self.old)) by agg) (machine_of (holding self.old)) result (machine_of (holding self.new)) }
-        ensures shares { SharesBy (λ s. calls.agg_dup s by agg) (holding self.old) result (holding self.new) }
+        requires { IsSound (state_of self.old) }
+        ensures step { Step (calls.agg_dup (machine_of (state_of self.old)) by agg) (machine_of (state_of self.old)) result (machine_of (state_of self.new)) }
+        ensures shares { SharesBy (λ s. calls.agg_dup s by agg) (state_of self.old) result (state_of self.new) }
         ensures roomy { (p : ℕ) → result ≡ Err (Refusal.NoRoom p) → ⊥ }
-        ensures sound { IsSound (holding self.new) }
-        ensures stays { Stays (holding self.old).store (holding self.new).store }
+        ensures sound { IsSound (state_of self.new) }
+        ensures stays { Stays (state_of self.old).store (state_of self.new).store }
     {
         if !self.is_live(by) {
             return Err(Refusal::NoDomain);
@@ -119,18 +119,18 @@ impl Kernel {
     /// Adds the same bytes once more.
     #[tactic(auto, using(crate::proofs::Stay::stay_rules))]
     fn add_dup(&mut self, by: DomainId, agg: AggId) -> Result<AggId, AllocError>
-        requires sound { IsSound (holding self.old) }
-        requires live { is_live (machine_of (holding self.old)) by ≡ true }
-        requires there { lacks_agg (machine_of (holding self.old)) by agg ≡ false }
-        requires few { too_many_aggs (machine_of (holding self.old)) by 1 0 ≡ false }
-        ensures number { IfOk result (λ n. n ≡ next_agg (machine_of (holding self.old)) by) }
-        ensures laid_number { IfOk result (λ n. n ≡ next_agg (layout_of (holding self.old)) by) }
-        ensures added { OnOk result (machine_of (holding self.new) ≡ (calls.agg_dup (machine_of (holding self.old)) by agg).after) }
-        ensures laid { OnOk result (layout_of (holding self.new) ≡ (calls.agg_dup (layout_of (holding self.old)) by agg).after) }
-        ensures err { OnErr result (holding self.new ≡ holding self.old) }
-        ensures arena { (holding self.new).store.arena ≡ (holding self.old).store.arena }
-        ensures sound { IsSound (holding self.new) }
-        ensures stays { Stays (holding self.old).store (holding self.new).store }
+        requires sound { IsSound (state_of self.old) }
+        requires live { is_live (machine_of (state_of self.old)) by ≡ true }
+        requires there { lacks_agg (machine_of (state_of self.old)) by agg ≡ false }
+        requires few { too_many_aggs (machine_of (state_of self.old)) by 1 0 ≡ false }
+        ensures number { IfOk result (λ n. n ≡ next_agg (machine_of (state_of self.old)) by) }
+        ensures laid_number { IfOk result (λ n. n ≡ next_agg (layout_of (state_of self.old)) by) }
+        ensures added { OnOk result (machine_of (state_of self.new) ≡ (calls.agg_dup (machine_of (state_of self.old)) by agg).after) }
+        ensures laid { OnOk result (layout_of (state_of self.new) ≡ (calls.agg_dup (layout_of (state_of self.old)) by agg).after) }
+        ensures err { OnErr result (state_of self.new ≡ state_of self.old) }
+        ensures arena { (state_of self.new).store.arena ≡ (state_of self.old).store.arena }
+        ensures sound { IsSound (state_of self.new) }
+        ensures stays { Stays (state_of self.old).store (state_of self.new).store }
     {
         let len = self.agg_len(by, agg);
         match add_part(
@@ -156,12 +156,12 @@ impl Kernel {
         from: u32,
         to: u32,
     ) -> Result<AggId, Refusal>
-        requires { IsSound (holding self.old) }
-        ensures step { Step (calls.agg_cut (machine_of (holding self.old)) by agg from to) (machine_of (holding self.old)) result (machine_of (holding self.new)) }
-        ensures shares { SharesBy (λ s. calls.agg_cut s by agg from to) (holding self.old) result (holding self.new) }
+        requires { IsSound (state_of self.old) }
+        ensures step { Step (calls.agg_cut (machine_of (state_of self.old)) by agg from to) (machine_of (state_of self.old)) result (machine_of (state_of self.new)) }
+        ensures shares { SharesBy (λ s. calls.agg_cut s by agg from to) (state_of self.old) result (state_of self.new) }
         ensures roomy { (p : ℕ) → result ≡ Err (Refusal.NoRoom p) → ⊥ }
-        ensures sound { IsSound (holding self.new) }
-        ensures stays { Stays (holding self.old).store (holding self.new).store }
+        ensures sound { IsSound (state_of self.new) }
+        ensures stays { Stays (state_of self.old).store (state_of self.new).store }
     {
         if !self.is_live(by) {
             return Err(Refusal::NoDomain);
@@ -184,20 +184,20 @@ impl Kernel {
     /// Adds the bytes of a range once more.
     #[tactic(auto, using(crate::proofs::Stay::stay_rules))]
     fn add_cut(&mut self, by: DomainId, agg: AggId, from: u32, to: u32) -> Result<AggId, AllocError>
-        requires sound { IsSound (holding self.old) }
-        requires live { is_live (machine_of (holding self.old)) by ≡ true }
-        requires there { lacks_agg (machine_of (holding self.old)) by agg ≡ false }
+        requires sound { IsSound (state_of self.old) }
+        requires live { is_live (machine_of (state_of self.old)) by ≡ true }
+        requires there { lacks_agg (machine_of (state_of self.old)) by agg ≡ false }
         requires ordered { from ≤ to }
-        requires within { to ≤ length (text (machine_of (holding self.old)) by agg) }
-        requires few { too_many_aggs (machine_of (holding self.old)) by 1 0 ≡ false }
-        ensures number { IfOk result (λ n. n ≡ next_agg (machine_of (holding self.old)) by) }
-        ensures laid_number { IfOk result (λ n. n ≡ next_agg (layout_of (holding self.old)) by) }
-        ensures added { OnOk result (machine_of (holding self.new) ≡ (calls.agg_cut (machine_of (holding self.old)) by agg from to).after) }
-        ensures laid { OnOk result (layout_of (holding self.new) ≡ (calls.agg_cut (layout_of (holding self.old)) by agg from to).after) }
-        ensures err { OnErr result (holding self.new ≡ holding self.old) }
-        ensures arena { (holding self.new).store.arena ≡ (holding self.old).store.arena }
-        ensures sound { IsSound (holding self.new) }
-        ensures stays { Stays (holding self.old).store (holding self.new).store }
+        requires within { to ≤ length (text (machine_of (state_of self.old)) by agg) }
+        requires few { too_many_aggs (machine_of (state_of self.old)) by 1 0 ≡ false }
+        ensures number { IfOk result (λ n. n ≡ next_agg (machine_of (state_of self.old)) by) }
+        ensures laid_number { IfOk result (λ n. n ≡ next_agg (layout_of (state_of self.old)) by) }
+        ensures added { OnOk result (machine_of (state_of self.new) ≡ (calls.agg_cut (machine_of (state_of self.old)) by agg from to).after) }
+        ensures laid { OnOk result (layout_of (state_of self.new) ≡ (calls.agg_cut (layout_of (state_of self.old)) by agg from to).after) }
+        ensures err { OnErr result (state_of self.new ≡ state_of self.old) }
+        ensures arena { (state_of self.new).store.arena ≡ (state_of self.old).store.arena }
+        ensures sound { IsSound (state_of self.new) }
+        ensures stays { Stays (state_of self.old).store (state_of self.new).store }
     {
         match add_part(
             self.alloc,
@@ -223,12 +223,12 @@ impl Kernel {
         to: u32,
         other: AggId,
     ) -> Result<AggId, Refusal>
-        requires { IsSound (holding self.old) }
-        ensures step { Step (calls.agg_replace (machine_of (holding self.old)) by agg from to other) (machine_of (holding self.old)) result (machine_of (holding self.new)) }
-        ensures shares { SharesBy (λ s. calls.agg_replace s by agg from to other) (holding self.old) result (holding self.new) }
+        requires { IsSound (state_of self.old) }
+        ensures step { Step (calls.agg_replace (machine_of (state_of self.old)) by agg from to other) (machine_of (state_of self.old)) result (machine_of (state_of self.new)) }
+        ensures shares { SharesBy (λ s. calls.agg_replace s by agg from to other) (state_of self.old) result (state_of self.new) }
         ensures roomy { (p : ℕ) → result ≡ Err (Refusal.NoRoom p) → ⊥ }
-        ensures sound { IsSound (holding self.new) }
-        ensures stays { Stays (holding self.old).store (holding self.new).store }
+        ensures sound { IsSound (state_of self.new) }
+        ensures stays { Stays (state_of self.old).store (state_of self.new).store }
     {
         if !self.is_live(by) {
             return Err(Refusal::NoDomain);
@@ -253,11 +253,11 @@ impl Kernel {
 
     /// How long an aggregate is with another in place of a range.
     fn replaced_len(&self, by: DomainId, agg: AggId, from: u32, to: u32, other: AggId) -> u64
-        requires live { is_live (machine_of (holding self.now)) by ≡ true }
+        requires live { is_live (machine_of (state_of self.now)) by ≡ true }
         requires ordered { from ≤ to }
-        requires within { to ≤ length (text (machine_of (holding self.now)) by agg) }
-        ensures means { result ≡ length (replaced (text (machine_of (holding self.now)) by agg) from to (text (machine_of (holding self.now)) by other)) }
-        ensures laid { result ≡ length (replaced (text (layout_of (holding self.now)) by agg) from to (text (layout_of (holding self.now)) by other)) }
+        requires within { to ≤ length (text (machine_of (state_of self.now)) by agg) }
+        ensures means { result ≡ length (replaced (text (machine_of (state_of self.now)) by agg) from to (text (machine_of (state_of self.now)) by other)) }
+        ensures laid { result ≡ length (replaced (text (layout_of (state_of self.now)) by agg) from to (text (layout_of (state_of self.now)) by other)) }
     {
         let after = self.agg_len(by, agg) - to;
         from as u64 + self.agg_len(by, other) as u64 + after as u64
@@ -273,22 +273,22 @@ impl Kernel {
         to: u32,
         other: AggId,
     ) -> Result<AggId, AllocError>
-        requires sound { IsSound (holding self.old) }
-        requires live { is_live (machine_of (holding self.old)) by ≡ true }
-        requires there { lacks_agg (machine_of (holding self.old)) by agg ≡ false }
+        requires sound { IsSound (state_of self.old) }
+        requires live { is_live (machine_of (state_of self.old)) by ≡ true }
+        requires there { lacks_agg (machine_of (state_of self.old)) by agg ≡ false }
         requires ordered { from ≤ to }
-        requires within { to ≤ length (text (machine_of (holding self.old)) by agg) }
-        requires other_there { lacks_agg (machine_of (holding self.old)) by other ≡ false }
-        requires small { length (replaced (text (machine_of (holding self.old)) by agg) from to (text (machine_of (holding self.old)) by other)) ≤ MAX_AGGREGATE_BYTES }
-        requires few { too_many_aggs (machine_of (holding self.old)) by 1 0 ≡ false }
-        ensures number { IfOk result (λ n. n ≡ next_agg (machine_of (holding self.old)) by) }
-        ensures laid_number { IfOk result (λ n. n ≡ next_agg (layout_of (holding self.old)) by) }
-        ensures added { OnOk result (machine_of (holding self.new) ≡ (calls.agg_replace (machine_of (holding self.old)) by agg from to other).after) }
-        ensures laid { OnOk result (layout_of (holding self.new) ≡ (calls.agg_replace (layout_of (holding self.old)) by agg from to other).after) }
-        ensures err { OnErr result (holding self.new ≡ holding self.old) }
-        ensures arena { (holding self.new).store.arena ≡ (holding self.old).store.arena }
-        ensures sound { IsSound (holding self.new) }
-        ensures stays { Stays (holding self.old).store (holding self.new).store }
+        requires within { to ≤ length (text (machine_of (state_of self.old)) by agg) }
+        requires other_there { lacks_agg (machine_of (state_of self.old)) by other ≡ false }
+        requires small { length (replaced (text (machine_of (state_of self.old)) by agg) from to (text (machine_of (state_of self.old)) by other)) ≤ MAX_AGGREGATE_BYTES }
+        requires few { too_many_aggs (machine_of (state_of self.old)) by 1 0 ≡ false }
+        ensures number { IfOk result (λ n. n ≡ next_agg (machine_of (state_of self.old)) by) }
+        ensures laid_number { IfOk result (λ n. n ≡ next_agg (layout_of (state_of self.old)) by) }
+        ensures added { OnOk result (machine_of (state_of self.new) ≡ (calls.agg_replace (machine_of (state_of self.old)) by agg from to other).after) }
+        ensures laid { OnOk result (layout_of (state_of self.new) ≡ (calls.agg_replace (layout_of (state_of self.old)) by agg from to other).after) }
+        ensures err { OnErr result (state_of self.new ≡ state_of self.old) }
+        ensures arena { (state_of self.new).store.arena ≡ (state_of self.old).store.arena }
+        ensures sound { IsSound (state_of self.new) }
+        ensures stays { Stays (state_of self.old).store (state_of self.new).store }
     {
         match add_replaced(
             self.alloc,

@@ -3,7 +3,7 @@ ghost use Rattle.std.specs.Prelude.{◌≡◌, ◌≢◌, ℕ, ◌+◌, ◌-◌,
 ghost use Rattle.iol_core.specs.State.{is_live, domain, descriptor};
 ghost use Rattle.iol_core.specs.Meaning.{Step};
 ghost use Rattle.iol_hold.specs.Moves.{Stays};
-ghost use Rattle.iol_kernel.specs.Holding.{machine_of, IsSound};
+ghost use Rattle.iol_kernel.specs.KernelState.{machine_of, IsSound};
 ghost use Rattle.iol_core.specs.Numbered.{lowest, placed, taken, in_place};
 ghost use Rattle.iol_core.specs.Calls.Descriptors as calls;
 ghost use Rattle.iol_core.specs.Calls.Descriptors.{with_read_end, too_many_open};
@@ -51,15 +51,15 @@ fn add_pipe(
 }
 
 impl Kernel {
-    ghost use Rattle.iol_kernel.specs.Kernel.{holding};
+    ghost use Rattle.iol_kernel.specs.Kernel.{state_of};
 
     /// Makes a pipe, and opens its read end and its write end.
     #[tactic(auto, using(crate::proofs::Stay::stay_rules))]
     pub fn pipe(&mut self, by: DomainId) -> Result<(Fd, Fd), Refusal>
-        requires { IsSound (holding self.old) }
-        ensures step { Step (calls.pipe (machine_of (holding self.old)) by) (machine_of (holding self.old)) result (machine_of (holding self.new)) }
-        ensures sound { IsSound (holding self.new) }
-        ensures stays { Stays (holding self.old).store (holding self.new).store }
+        requires { IsSound (state_of self.old) }
+        ensures step { Step (calls.pipe (machine_of (state_of self.old)) by) (machine_of (state_of self.old)) result (machine_of (state_of self.new)) }
+        ensures sound { IsSound (state_of self.new) }
+        ensures stays { Stays (state_of self.old).store (state_of self.new).store }
     {
         if !self.is_live(by) {
             return Err(Refusal::NoDomain);
@@ -76,15 +76,15 @@ impl Kernel {
     /// Adds a pipe with both ends in a domain.
     #[tactic(auto, using(crate::proofs::Stay::stay_rules))]
     fn new_pipe(&mut self, by: DomainId) -> Result<(Fd, Fd), AllocError>
-        requires sound { IsSound (holding self.old) }
-        requires live { is_live (machine_of (holding self.old)) by ≡ true }
-        requires few { too_many_open (machine_of (holding self.old)) by 2 ≡ false }
-        requires few_pipes { taken (machine_of (holding self.old)).pipes < MAX_PIPES }
-        ensures numbers { IfOk result (λ ends. ends ≡ (calls.pipe (machine_of (holding self.old)) by).answer) }
-        ensures opened { OnOk result (machine_of (holding self.new) ≡ (calls.pipe (machine_of (holding self.old)) by).after) }
-        ensures err { OnErr result (machine_of (holding self.new) ≡ machine_of (holding self.old)) }
-        ensures sound { IsSound (holding self.new) }
-        ensures stays { Stays (holding self.old).store (holding self.new).store }
+        requires sound { IsSound (state_of self.old) }
+        requires live { is_live (machine_of (state_of self.old)) by ≡ true }
+        requires few { too_many_open (machine_of (state_of self.old)) by 2 ≡ false }
+        requires few_pipes { taken (machine_of (state_of self.old)).pipes < MAX_PIPES }
+        ensures numbers { IfOk result (λ ends. ends ≡ (calls.pipe (machine_of (state_of self.old)) by).answer) }
+        ensures opened { OnOk result (machine_of (state_of self.new) ≡ (calls.pipe (machine_of (state_of self.old)) by).after) }
+        ensures err { OnErr result (machine_of (state_of self.new) ≡ machine_of (state_of self.old)) }
+        ensures sound { IsSound (state_of self.new) }
+        ensures stays { Stays (state_of self.old).store (state_of self.new).store }
     {
         match add_pipe(self.alloc, &mut self.domains, &mut self.pipes, by) {
             Ok(ends) => Ok(ends),
@@ -95,10 +95,10 @@ impl Kernel {
     /// Moves a descriptor to a domain's lowest free number.
     #[tactic(auto, using(crate::proofs::Stay::stay_rules))]
     pub fn give_fd(&mut self, by: DomainId, fd: Fd, to: DomainId) -> Result<Fd, Refusal>
-        requires { IsSound (holding self.old) }
-        ensures step { Step (calls.give_fd (machine_of (holding self.old)) by fd to) (machine_of (holding self.old)) result (machine_of (holding self.new)) }
-        ensures sound { IsSound (holding self.new) }
-        ensures stays { Stays (holding self.old).store (holding self.new).store }
+        requires { IsSound (state_of self.old) }
+        ensures step { Step (calls.give_fd (machine_of (state_of self.old)) by fd to) (machine_of (state_of self.old)) result (machine_of (state_of self.new)) }
+        ensures sound { IsSound (state_of self.new) }
+        ensures stays { Stays (state_of self.old).store (state_of self.new).store }
     {
         if !self.is_live(by) || !self.is_live(to) {
             return Err(Refusal::NoDomain);
@@ -124,17 +124,17 @@ impl Kernel {
         to: DomainId,
         given: Descriptor,
     ) -> Result<Fd, AllocError>
-        requires sound { IsSound (holding self.old) }
-        requires from { is_live (machine_of (holding self.old)) by ≡ true }
-        requires to { is_live (machine_of (holding self.old)) to ≡ true }
-        requires given { descriptor (machine_of (holding self.old)) by fd ≡ Some given }
-        requires few { (not (by == to) && too_many_open (machine_of (holding self.old)) to 1) ≡ false }
-        ensures any { calls.denied_by (machine_of (holding self.old)) to (calls.needed_pool (machine_of (holding self.old)) (Some given)) ≡ None }
-        ensures number { IfOk result (λ n. n ≡ (if by == to then lowest (calls.freed (machine_of (holding self.old)) by fd) else calls.next_fd (machine_of (holding self.old)) to)) }
-        ensures moved { OnOk result (machine_of (holding self.new) ≡ calls.given_to (machine_of (holding self.old)) by fd to given) }
-        ensures err { OnErr result (machine_of (holding self.new) ≡ machine_of (holding self.old)) }
-        ensures sound { IsSound (holding self.new) }
-        ensures stays { Stays (holding self.old).store (holding self.new).store }
+        requires sound { IsSound (state_of self.old) }
+        requires from { is_live (machine_of (state_of self.old)) by ≡ true }
+        requires to { is_live (machine_of (state_of self.old)) to ≡ true }
+        requires given { descriptor (machine_of (state_of self.old)) by fd ≡ Some given }
+        requires few { (not (by == to) && too_many_open (machine_of (state_of self.old)) to 1) ≡ false }
+        ensures any { calls.denied_by (machine_of (state_of self.old)) to (calls.needed_pool (machine_of (state_of self.old)) (Some given)) ≡ None }
+        ensures number { IfOk result (λ n. n ≡ (if by == to then lowest (calls.freed (machine_of (state_of self.old)) by fd) else calls.next_fd (machine_of (state_of self.old)) to)) }
+        ensures moved { OnOk result (machine_of (state_of self.new) ≡ calls.given_to (machine_of (state_of self.old)) by fd to given) }
+        ensures err { OnErr result (machine_of (state_of self.new) ≡ machine_of (state_of self.old)) }
+        ensures sound { IsSound (state_of self.new) }
+        ensures stays { Stays (state_of self.old).store (state_of self.new).store }
     {
         if by.number() == to.number() {
             return Ok(self.domains.move_fd(by, fd, given));

@@ -8,7 +8,7 @@ ghost use Rattle.iol_hold.specs.Moves.{Covers, Moves, SameLists, Stays};
 ghost use Rattle.iol_desc.specs.Tables.{with_aggs_in, with_fds_in};
 ghost use Rattle.iol_kernel.specs.Counted.{bufs_in};
 ghost use Rattle.iol_kernel.specs.ClosedEnds.{AreTaken};
-ghost use Rattle.iol_kernel.specs.Holding.{machine_of, IsSound};
+ghost use Rattle.iol_kernel.specs.KernelState.{machine_of, IsSound};
 
 use crate::kernel::Kernel;
 use iol_agg::Agg;
@@ -31,16 +31,16 @@ fn release_all(store: &mut Store, aggs: Taken<Agg>)
 }
 
 impl Kernel {
-    ghost use Rattle.iol_kernel.specs.Kernel.{holding};
+    ghost use Rattle.iol_kernel.specs.Kernel.{state_of};
 
     /// Ends the caller: its descriptors are closed by rising number, and its aggregates given up.
     #[tactic(auto, using(crate::proofs::Stay::stay_rules))]
     pub fn exit(&mut self, by: DomainId) -> Result<(), Refusal>
-        requires { IsSound (holding self.old) }
-        ensures step { Step (calls.exit (machine_of (holding self.old)) by) (machine_of (holding self.old)) result (machine_of (holding self.new)) }
+        requires { IsSound (state_of self.old) }
+        ensures step { Step (calls.exit (machine_of (state_of self.old)) by) (machine_of (state_of self.old)) result (machine_of (state_of self.new)) }
         ensures roomy { (p : ℕ) → result ≡ Err (Refusal.NoRoom p) → ⊥ }
-        ensures sound { IsSound (holding self.new) }
-        ensures stays { Stays (holding self.old).store (holding self.new).store }
+        ensures sound { IsSound (state_of self.new) }
+        ensures stays { Stays (state_of self.old).store (state_of self.new).store }
     {
         if !self.is_live(by) {
             return Err(Refusal::NoDomain);
@@ -51,11 +51,11 @@ impl Kernel {
 
     /// Ends a domain: all that it has is given up.
     fn end(&mut self, by: DomainId)
-        requires sound { IsSound (holding self.old) }
-        requires live { is_live (machine_of (holding self.old)) by ≡ true }
-        ensures ended { machine_of (holding self.new) ≡ (calls.exit (machine_of (holding self.old)) by).after }
-        ensures sound { IsSound (holding self.new) }
-        ensures stays { Stays (holding self.old).store (holding self.new).store }
+        requires sound { IsSound (state_of self.old) }
+        requires live { is_live (machine_of (state_of self.old)) by ≡ true }
+        ensures ended { machine_of (state_of self.new) ≡ (calls.exit (machine_of (state_of self.old)) by).after }
+        ensures sound { IsSound (state_of self.new) }
+        ensures stays { Stays (state_of self.old).store (state_of self.new).store }
     {
         self.drop_aggs(by);
         self.close_fds(by);
@@ -65,12 +65,12 @@ impl Kernel {
     /// Gives up all aggregates of a domain.
     #[tactic(auto, using(crate::proofs::Stay::stay_rules))]
     fn drop_aggs(&mut self, by: DomainId)
-        requires sound { IsSound (holding self.old) }
-        requires live { is_live (machine_of (holding self.old)) by ≡ true }
-        ensures dropped { machine_of (holding self.new) ≡ with_domain (machine_of (holding self.old)) by (record (domain (machine_of (holding self.old)) by) { aggs = [] }) }
-        ensures domains { (holding self.new).domains ≡ with_aggs_in (holding self.old).domains by [] }
-        ensures sound { IsSound (holding self.new) }
-        ensures stays { Stays (holding self.old).store (holding self.new).store }
+        requires sound { IsSound (state_of self.old) }
+        requires live { is_live (machine_of (state_of self.old)) by ≡ true }
+        ensures dropped { machine_of (state_of self.new) ≡ with_domain (machine_of (state_of self.old)) by (record (domain (machine_of (state_of self.old)) by) { aggs = [] }) }
+        ensures domains { (state_of self.new).domains ≡ with_aggs_in (state_of self.old).domains by [] }
+        ensures sound { IsSound (state_of self.new) }
+        ensures stays { Stays (state_of self.old).store (state_of self.new).store }
     {
         let aggs = self.domains.take_aggs(by);
         release_all(&mut self.store, aggs);
@@ -79,12 +79,12 @@ impl Kernel {
     /// Closes all descriptors of a domain, by rising number.
     #[tactic(auto, using(crate::proofs::Stay::stay_rules))]
     fn close_fds(&mut self, by: DomainId)
-        requires sound { IsSound (holding self.old) }
-        requires live { is_live (machine_of (holding self.old)) by ≡ true }
-        ensures closed { machine_of (holding self.new) ≡ fold closed_on (with_fds (machine_of (holding self.old)) by []) (domain (machine_of (holding self.old)) by).fds }
-        ensures domains { (holding self.new).domains ≡ with_fds_in (holding self.old).domains by [] }
-        ensures sound { IsSound (holding self.new) }
-        ensures stays { Stays (holding self.old).store (holding self.new).store }
+        requires sound { IsSound (state_of self.old) }
+        requires live { is_live (machine_of (state_of self.old)) by ≡ true }
+        ensures closed { machine_of (state_of self.new) ≡ fold closed_on (with_fds (machine_of (state_of self.old)) by []) (domain (machine_of (state_of self.old)) by).fds }
+        ensures domains { (state_of self.new).domains ≡ with_fds_in (state_of self.old).domains by [] }
+        ensures sound { IsSound (state_of self.new) }
+        ensures stays { Stays (state_of self.old).store (state_of self.new).store }
     {
         let ends = self.domains.take_fds(by);
         self.close_ends(&ends);
@@ -93,12 +93,12 @@ impl Kernel {
     /// Closes ends that were taken from a domain, one after another.
     #[tactic(auto, using(crate::proofs::Stay::stay_rules))]
     fn close_ends(&mut self, ends: &[Option<Descriptor>])
-        requires sound { IsSound (holding self.old) }
-        requires taken { AreTaken (holding self.old).domains (holding self.old).pipes ends.now }
-        ensures closed { machine_of (holding self.new) ≡ fold closed_on (machine_of (holding self.old)) ends.now }
-        ensures domains { (holding self.new).domains ≡ (holding self.old).domains }
-        ensures sound { IsSound (holding self.new) }
-        ensures stays { Stays (holding self.old).store (holding self.new).store }
+        requires sound { IsSound (state_of self.old) }
+        requires taken { AreTaken (state_of self.old).domains (state_of self.old).pipes ends.now }
+        ensures closed { machine_of (state_of self.new) ≡ fold closed_on (machine_of (state_of self.old)) ends.now }
+        ensures domains { (state_of self.new).domains ≡ (state_of self.old).domains }
+        ensures sound { IsSound (state_of self.new) }
+        ensures stays { Stays (state_of self.old).store (state_of self.new).store }
     {
         for place in ends {
             let Some(end) = *place else {

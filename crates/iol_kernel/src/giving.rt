@@ -8,7 +8,7 @@ ghost use Rattle.iol_core.specs.Calls.Aggregates.{lacks_agg, too_many_aggs, next
 ghost use Rattle.iol_pool.specs.Pools.{names_in};
 ghost use Rattle.iol_hold.specs.Moves.{Stays};
 ghost use Rattle.iol_desc.specs.Tables.{domains_of, domain_in, agg_in, with_agg_in, without_agg_in};
-ghost use Rattle.iol_kernel.specs.Holding.{machine_of, layout_of, slices_in, IsSound};
+ghost use Rattle.iol_kernel.specs.KernelState.{machine_of, layout_of, slices_in, IsSound};
 ghost use Rattle.iol_kernel.specs.Sharing.{SharesBy};
 
 use crate::kernel::Kernel;
@@ -51,17 +51,17 @@ fn move_agg(
 }
 
 impl Kernel {
-    ghost use Rattle.iol_kernel.specs.Kernel.{holding};
+    ghost use Rattle.iol_kernel.specs.Kernel.{state_of};
 
     /// Moves an aggregate to a domain that may read all its bytes.
     #[tactic(auto, using(crate::proofs::Stay::stay_rules))]
     pub fn agg_give(&mut self, by: DomainId, agg: AggId, to: DomainId) -> Result<AggId, Refusal>
-        requires { IsSound (holding self.old) }
-        ensures step { Step (calls.agg_give (machine_of (holding self.old)) by agg to) (machine_of (holding self.old)) result (machine_of (holding self.new)) }
-        ensures shares { SharesBy (λ s. calls.agg_give s by agg to) (holding self.old) result (holding self.new) }
+        requires { IsSound (state_of self.old) }
+        ensures step { Step (calls.agg_give (machine_of (state_of self.old)) by agg to) (machine_of (state_of self.old)) result (machine_of (state_of self.new)) }
+        ensures shares { SharesBy (λ s. calls.agg_give s by agg to) (state_of self.old) result (state_of self.new) }
         ensures roomy { (p : ℕ) → result ≡ Err (Refusal.NoRoom p) → ⊥ }
-        ensures sound { IsSound (holding self.new) }
-        ensures stays { Stays (holding self.old).store (holding self.new).store }
+        ensures sound { IsSound (state_of self.new) }
+        ensures stays { Stays (state_of self.old).store (state_of self.new).store }
     {
         if !self.is_live(by) || !self.is_live(to) {
             return Err(Refusal::NoDomain);
@@ -83,9 +83,9 @@ impl Kernel {
 
     /// The pool of the first byte of an aggregate that the receiver may not read.
     fn first_denied(&self, by: DomainId, agg: AggId, to: DomainId) -> Option<PoolId>
-        requires { is_live (machine_of (holding self.now)) by ≡ true }
-        ensures means { result ≡ barred (may_read (machine_of (holding self.now)) to) (text (machine_of (holding self.now)) by agg) }
-        ensures laid { result ≡ barred (may_read (layout_of (holding self.now)) to) (text (layout_of (holding self.now)) by agg) }
+        requires { is_live (machine_of (state_of self.now)) by ≡ true }
+        ensures means { result ≡ barred (may_read (machine_of (state_of self.now)) to) (text (machine_of (state_of self.now)) by agg) }
+        ensures laid { result ≡ barred (may_read (layout_of (state_of self.now)) to) (text (layout_of (state_of self.now)) by agg) }
     {
         let Some(found) = self.domains.agg(by, agg) else {
             return None;
@@ -96,19 +96,19 @@ impl Kernel {
     /// Moves an aggregate.
     #[tactic(auto, using(crate::proofs::Stay::stay_rules))]
     fn give(&mut self, by: DomainId, agg: AggId, to: DomainId) -> Result<AggId, AllocError>
-        requires sound { IsSound (holding self.old) }
-        requires from { is_live (machine_of (holding self.old)) by ≡ true }
-        requires to { is_live (machine_of (holding self.old)) to ≡ true }
-        requires there { lacks_agg (machine_of (holding self.old)) by agg ≡ false }
-        requires few { too_many_aggs (machine_of (holding self.old)) to 1 1 ≡ false }
-        ensures number { IfOk result (λ n. n ≡ next_agg (machine_of (holding self.old)) to) }
-        ensures laid_number { IfOk result (λ n. n ≡ next_agg (layout_of (holding self.old)) to) }
-        ensures given { OnOk result (machine_of (holding self.new) ≡ (calls.agg_give (machine_of (holding self.old)) by agg to).after) }
-        ensures laid { OnOk result (layout_of (holding self.new) ≡ (calls.agg_give (layout_of (holding self.old)) by agg to).after) }
-        ensures err { OnErr result (holding self.new ≡ holding self.old) }
-        ensures arena { (holding self.new).store.arena ≡ (holding self.old).store.arena }
-        ensures sound { IsSound (holding self.new) }
-        ensures stays { Stays (holding self.old).store (holding self.new).store }
+        requires sound { IsSound (state_of self.old) }
+        requires from { is_live (machine_of (state_of self.old)) by ≡ true }
+        requires to { is_live (machine_of (state_of self.old)) to ≡ true }
+        requires there { lacks_agg (machine_of (state_of self.old)) by agg ≡ false }
+        requires few { too_many_aggs (machine_of (state_of self.old)) to 1 1 ≡ false }
+        ensures number { IfOk result (λ n. n ≡ next_agg (machine_of (state_of self.old)) to) }
+        ensures laid_number { IfOk result (λ n. n ≡ next_agg (layout_of (state_of self.old)) to) }
+        ensures given { OnOk result (machine_of (state_of self.new) ≡ (calls.agg_give (machine_of (state_of self.old)) by agg to).after) }
+        ensures laid { OnOk result (layout_of (state_of self.new) ≡ (calls.agg_give (layout_of (state_of self.old)) by agg to).after) }
+        ensures err { OnErr result (state_of self.new ≡ state_of self.old) }
+        ensures arena { (state_of self.new).store.arena ≡ (state_of self.old).store.arena }
+        ensures sound { IsSound (state_of self.new) }
+        ensures stays { Stays (state_of self.old).store (state_of self.new).store }
     {
         match move_agg(&mut self.domains, by, agg, to) {
             Ok(number) => Ok(number),

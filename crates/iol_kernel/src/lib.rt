@@ -1,7 +1,7 @@
 //! The kernel: what a system holds, and each call of a domain, one method a call.
 //!
 //! A call tests its refusals in order and then has one effect. Its contract says what the call means for the copying
-//! machine that the kernel stands for (`specs/Holding`), and that all stays sound.
+//! machine that the kernel stands for (`specs/KernelState`), and that all stays sound.
 #![tactic(auto)]
 
 pub mod aggregates;

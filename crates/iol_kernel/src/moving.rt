@@ -8,7 +8,7 @@ ghost use Rattle.iol_hold.specs.Moves.{Covers, IsCountable, Stays};
 ghost use Rattle.iol_hold.specs.Places.{byte_len};
 ghost use Rattle.iol_hold.specs.Texts.{bufs_of};
 ghost use Rattle.iol_desc.specs.Tables.{domains_of, domain_in, agg_in};
-ghost use Rattle.iol_kernel.specs.Holding.{machine_of, layout_of, IsSound, slices_in};
+ghost use Rattle.iol_kernel.specs.KernelState.{machine_of, layout_of, IsSound, slices_in};
 ghost use Rattle.iol_kernel.specs.Regrouped.{joined_in, SplitsAgg};
 ghost use Rattle.iol_kernel.specs.Sharing.{SharesBy};
 
@@ -96,7 +96,7 @@ fn join_aggs(
 }
 
 impl Kernel {
-    ghost use Rattle.iol_kernel.specs.Kernel.{holding};
+    ghost use Rattle.iol_kernel.specs.Kernel.{state_of};
 
     /// Splits an aggregate into the bytes before a place and those from it on.
     #[tactic(auto, using(crate::proofs::Stay::stay_rules))]
@@ -106,12 +106,12 @@ impl Kernel {
         agg: AggId,
         at: u32,
     ) -> Result<(AggId, AggId), Refusal>
-        requires { IsSound (holding self.old) }
-        ensures step { Step (calls.agg_split (machine_of (holding self.old)) by agg at) (machine_of (holding self.old)) result (machine_of (holding self.new)) }
-        ensures shares { SharesBy (λ s. calls.agg_split s by agg at) (holding self.old) result (holding self.new) }
+        requires { IsSound (state_of self.old) }
+        ensures step { Step (calls.agg_split (machine_of (state_of self.old)) by agg at) (machine_of (state_of self.old)) result (machine_of (state_of self.new)) }
+        ensures shares { SharesBy (λ s. calls.agg_split s by agg at) (state_of self.old) result (state_of self.new) }
         ensures roomy { (p : ℕ) → result ≡ Err (Refusal.NoRoom p) → ⊥ }
-        ensures sound { IsSound (holding self.new) }
-        ensures stays { Stays (holding self.old).store (holding self.new).store }
+        ensures sound { IsSound (state_of self.new) }
+        ensures stays { Stays (state_of self.old).store (state_of self.new).store }
     {
         if !self.is_live(by) {
             return Err(Refusal::NoDomain);
@@ -134,20 +134,20 @@ impl Kernel {
     /// Splits an aggregate into the domain's next two.
     #[tactic(auto, using(crate::proofs::Stay::stay_rules))]
     fn split_up(&mut self, by: DomainId, agg: AggId, at: u32) -> Result<(AggId, AggId), AllocError>
-        requires sound { IsSound (holding self.old) }
-        requires live { is_live (machine_of (holding self.old)) by ≡ true }
-        requires there { lacks_agg (machine_of (holding self.old)) by agg ≡ false }
-        requires within { at ≤ length (text (machine_of (holding self.old)) by agg) }
-        requires few { too_many_aggs (machine_of (holding self.old)) by 2 1 ≡ false }
-        ensures numbers { IfOk result (λ r. r ≡ (calls.agg_split (machine_of (holding self.old)) by agg at).answer) }
-        ensures laid_numbers { IfOk result (λ r. r ≡ (calls.agg_split (layout_of (holding self.old)) by agg at).answer) }
-        ensures split { OnOk result (machine_of (holding self.new) ≡ (calls.agg_split (machine_of (holding self.old)) by agg at).after) }
-        ensures laid { OnOk result (layout_of (holding self.new) ≡ (calls.agg_split (layout_of (holding self.old)) by agg at).after) }
-        ensures err { OnErr result (machine_of (holding self.new) ≡ machine_of (holding self.old)) }
-        ensures err_laid { OnErr result (layout_of (holding self.new) ≡ layout_of (holding self.old)) }
-        ensures arena { (holding self.new).store.arena ≡ (holding self.old).store.arena }
-        ensures sound { IsSound (holding self.new) }
-        ensures stays { Stays (holding self.old).store (holding self.new).store }
+        requires sound { IsSound (state_of self.old) }
+        requires live { is_live (machine_of (state_of self.old)) by ≡ true }
+        requires there { lacks_agg (machine_of (state_of self.old)) by agg ≡ false }
+        requires within { at ≤ length (text (machine_of (state_of self.old)) by agg) }
+        requires few { too_many_aggs (machine_of (state_of self.old)) by 2 1 ≡ false }
+        ensures numbers { IfOk result (λ r. r ≡ (calls.agg_split (machine_of (state_of self.old)) by agg at).answer) }
+        ensures laid_numbers { IfOk result (λ r. r ≡ (calls.agg_split (layout_of (state_of self.old)) by agg at).answer) }
+        ensures split { OnOk result (machine_of (state_of self.new) ≡ (calls.agg_split (machine_of (state_of self.old)) by agg at).after) }
+        ensures laid { OnOk result (layout_of (state_of self.new) ≡ (calls.agg_split (layout_of (state_of self.old)) by agg at).after) }
+        ensures err { OnErr result (machine_of (state_of self.new) ≡ machine_of (state_of self.old)) }
+        ensures err_laid { OnErr result (layout_of (state_of self.new) ≡ layout_of (state_of self.old)) }
+        ensures arena { (state_of self.new).store.arena ≡ (state_of self.old).store.arena }
+        ensures sound { IsSound (state_of self.new) }
+        ensures stays { Stays (state_of self.old).store (state_of self.new).store }
     {
         match split_agg(self.alloc, &mut self.store, &mut self.domains, by, agg, at) {
             Ok(numbers) => Ok(numbers),
@@ -158,12 +158,12 @@ impl Kernel {
     /// Joins two aggregates, the first and then the second.
     #[tactic(auto, using(crate::proofs::Stay::stay_rules))]
     pub fn agg_join(&mut self, by: DomainId, first: AggId, second: AggId) -> Result<AggId, Refusal>
-        requires { IsSound (holding self.old) }
-        ensures step { Step (calls.agg_join (machine_of (holding self.old)) by first second) (machine_of (holding self.old)) result (machine_of (holding self.new)) }
-        ensures shares { SharesBy (λ s. calls.agg_join s by first second) (holding self.old) result (holding self.new) }
+        requires { IsSound (state_of self.old) }
+        ensures step { Step (calls.agg_join (machine_of (state_of self.old)) by first second) (machine_of (state_of self.old)) result (machine_of (state_of self.new)) }
+        ensures shares { SharesBy (λ s. calls.agg_join s by first second) (state_of self.old) result (state_of self.new) }
         ensures roomy { (p : ℕ) → result ≡ Err (Refusal.NoRoom p) → ⊥ }
-        ensures sound { IsSound (holding self.new) }
-        ensures stays { Stays (holding self.old).store (holding self.new).store }
+        ensures sound { IsSound (state_of self.new) }
+        ensures stays { Stays (state_of self.old).store (state_of self.new).store }
     {
         if !self.is_live(by) {
             return Err(Refusal::NoDomain);
@@ -190,21 +190,21 @@ impl Kernel {
     /// Joins two aggregates to the domain's next one.
     #[tactic(auto, using(crate::proofs::Stay::stay_rules))]
     fn join_two(&mut self, by: DomainId, first: AggId, second: AggId) -> Result<AggId, AllocError>
-        requires sound { IsSound (holding self.old) }
-        requires live { is_live (machine_of (holding self.old)) by ≡ true }
-        requires first { lacks_agg (machine_of (holding self.old)) by first ≡ false }
-        requires second { lacks_agg (machine_of (holding self.old)) by second ≡ false }
+        requires sound { IsSound (state_of self.old) }
+        requires live { is_live (machine_of (state_of self.old)) by ≡ true }
+        requires first { lacks_agg (machine_of (state_of self.old)) by first ≡ false }
+        requires second { lacks_agg (machine_of (state_of self.old)) by second ≡ false }
         requires differ { first ≢ second }
-        requires short { length (text (machine_of (holding self.old)) by first) + length (text (machine_of (holding self.old)) by second) ≤ MAX_AGGREGATE_BYTES }
-        requires few { too_many_aggs (machine_of (holding self.old)) by 1 2 ≡ false }
-        ensures number { IfOk result (λ n. n ≡ (calls.agg_join (machine_of (holding self.old)) by first second).answer) }
-        ensures laid_number { IfOk result (λ n. n ≡ (calls.agg_join (layout_of (holding self.old)) by first second).answer) }
-        ensures joined { OnOk result (machine_of (holding self.new) ≡ (calls.agg_join (machine_of (holding self.old)) by first second).after) }
-        ensures laid { OnOk result (layout_of (holding self.new) ≡ (calls.agg_join (layout_of (holding self.old)) by first second).after) }
-        ensures err { OnErr result (machine_of (holding self.new) ≡ machine_of (holding self.old)) }
-        ensures err_laid { OnErr result (layout_of (holding self.new) ≡ layout_of (holding self.old)) }
-        ensures store { (holding self.new).store ≡ (holding self.old).store }
-        ensures sound { IsSound (holding self.new) }
+        requires short { length (text (machine_of (state_of self.old)) by first) + length (text (machine_of (state_of self.old)) by second) ≤ MAX_AGGREGATE_BYTES }
+        requires few { too_many_aggs (machine_of (state_of self.old)) by 1 2 ≡ false }
+        ensures number { IfOk result (λ n. n ≡ (calls.agg_join (machine_of (state_of self.old)) by first second).answer) }
+        ensures laid_number { IfOk result (λ n. n ≡ (calls.agg_join (layout_of (state_of self.old)) by first second).answer) }
+        ensures joined { OnOk result (machine_of (state_of self.new) ≡ (calls.agg_join (machine_of (state_of self.old)) by first second).after) }
+        ensures laid { OnOk result (layout_of (state_of self.new) ≡ (calls.agg_join (layout_of (state_of self.old)) by first second).after) }
+        ensures err { OnErr result (machine_of (state_of self.new) ≡ machine_of (state_of self.old)) }
+        ensures err_laid { OnErr result (layout_of (state_of self.new) ≡ layout_of (state_of self.old)) }
+        ensures store { (state_of self.new).store ≡ (state_of self.old).store }
+        ensures sound { IsSound (state_of self.new) }
     {
         match join_aggs(self.alloc, &mut self.domains, by, first, second) {
             Ok(number) => Ok(number),

@@ -3,7 +3,7 @@ ghost use Rattle.std.specs.Prelude.{◌≡◌, ◌≢◌, ℕ, ◌+◌, ◌-◌,
 ghost use Rattle.iol_core.specs.State.{is_live, domain, descriptor};
 ghost use Rattle.iol_core.specs.Meaning.{Step};
 ghost use Rattle.iol_hold.specs.Moves.{Stays};
-ghost use Rattle.iol_kernel.specs.Holding.{machine_of, layout_of, IsSound};
+ghost use Rattle.iol_kernel.specs.KernelState.{machine_of, layout_of, IsSound};
 ghost use Rattle.iol_kernel.specs.Sharing.{SharesBy};
 ghost use Rattle.iol_core.specs.Text.{Text, admitted, barred};
 ghost use Rattle.iol_pipe.specs.Queue.{first_pool};
@@ -15,7 +15,7 @@ ghost use Rattle.iol_hold.specs.Moves.{Shares, Covers, IsCountable};
 ghost use Rattle.iol_hold.specs.Places.{places, byte_len};
 ghost use Rattle.iol_hold.specs.Texts.{bufs_of};
 ghost use Rattle.iol_desc.specs.Tables.{domains_of, domain_in};
-ghost use Rattle.iol_kernel.specs.Holding.{queue_at, TakesFront};
+ghost use Rattle.iol_kernel.specs.KernelState.{queue_at, TakesFront};
 
 use crate::kernel::{Kernel, Pipe};
 use iol_agg::Agg;
@@ -144,17 +144,17 @@ fn is_writing(pipes: &[Option<Pipe>], p: PipeId) -> bool
 }
 
 impl Kernel {
-    ghost use Rattle.iol_kernel.specs.Kernel.{holding};
+    ghost use Rattle.iol_kernel.specs.Kernel.{state_of};
 
     /// Writes an aggregate, which stays, and tells how many of its bytes were taken.
     #[tactic(auto, using(crate::proofs::Stay::stay_rules))]
     pub fn iol_write(&mut self, by: DomainId, fd: Fd, agg: AggId) -> Result<u32, Refusal>
-        requires { IsSound (holding self.old) }
-        ensures step { Step (writing.iol_write (machine_of (holding self.old)) by fd agg) (machine_of (holding self.old)) result (machine_of (holding self.new)) }
-        ensures shares { SharesBy (λ s. writing.iol_write s by fd agg) (holding self.old) result (holding self.new) }
+        requires { IsSound (state_of self.old) }
+        ensures step { Step (writing.iol_write (machine_of (state_of self.old)) by fd agg) (machine_of (state_of self.old)) result (machine_of (state_of self.new)) }
+        ensures shares { SharesBy (λ s. writing.iol_write s by fd agg) (state_of self.old) result (state_of self.new) }
         ensures roomy { (p : ℕ) → result ≡ Err (Refusal.NoRoom p) → ⊥ }
-        ensures sound { IsSound (holding self.new) }
-        ensures stays { Stays (holding self.old).store (holding self.new).store }
+        ensures sound { IsSound (state_of self.new) }
+        ensures stays { Stays (state_of self.old).store (state_of self.new).store }
     {
         if !self.is_live(by) {
             return Err(Refusal::NoDomain);
@@ -176,18 +176,18 @@ impl Kernel {
     /// Writes an aggregate to a pipe.
     #[tactic(auto, using(crate::proofs::Stay::stay_rules))]
     fn write_pipe(&mut self, by: DomainId, fd: Fd, agg: AggId, pipe: PipeId) -> Result<u32, Refusal>
-        requires sound { IsSound (holding self.old) }
-        requires live { is_live (machine_of (holding self.old)) by ≡ true }
-        requires there { lacks_agg (machine_of (holding self.old)) by agg ≡ false }
-        requires to { descriptor (machine_of (holding self.old)) by fd ≡ Some (Descriptor.WriteEnd pipe) }
-        requires laid_live { is_live (layout_of (holding self.old)) by ≡ true }
-        requires laid_there { lacks_agg (layout_of (holding self.old)) by agg ≡ false }
-        requires laid_to { descriptor (layout_of (holding self.old)) by fd ≡ Some (Descriptor.WriteEnd pipe) }
-        ensures step { Step (writing.iol_write (machine_of (holding self.old)) by fd agg) (machine_of (holding self.old)) result (machine_of (holding self.new)) }
-        ensures shares { SharesBy (λ s. writing.iol_write s by fd agg) (holding self.old) result (holding self.new) }
+        requires sound { IsSound (state_of self.old) }
+        requires live { is_live (machine_of (state_of self.old)) by ≡ true }
+        requires there { lacks_agg (machine_of (state_of self.old)) by agg ≡ false }
+        requires to { descriptor (machine_of (state_of self.old)) by fd ≡ Some (Descriptor.WriteEnd pipe) }
+        requires laid_live { is_live (layout_of (state_of self.old)) by ≡ true }
+        requires laid_there { lacks_agg (layout_of (state_of self.old)) by agg ≡ false }
+        requires laid_to { descriptor (layout_of (state_of self.old)) by fd ≡ Some (Descriptor.WriteEnd pipe) }
+        ensures step { Step (writing.iol_write (machine_of (state_of self.old)) by fd agg) (machine_of (state_of self.old)) result (machine_of (state_of self.new)) }
+        ensures shares { SharesBy (λ s. writing.iol_write s by fd agg) (state_of self.old) result (state_of self.new) }
         ensures roomy { (p : ℕ) → result ≡ Err (Refusal.NoRoom p) → ⊥ }
-        ensures sound { IsSound (holding self.new) }
-        ensures stays { Stays (holding self.old).store (holding self.new).store }
+        ensures sound { IsSound (state_of self.new) }
+        ensures stays { Stays (state_of self.old).store (state_of self.new).store }
     {
         if !self.is_read(pipe) {
             return Err(Refusal::BrokenPipe);
@@ -203,24 +203,24 @@ impl Kernel {
 
     /// Whether a pipe's read end is open.
     fn is_read(&self, p: PipeId) -> bool
-        ensures means { result ≡ (pipe_at (machine_of (holding self.now)) p).reading }
-        ensures laid { result ≡ (pipe_at (layout_of (holding self.now)) p).reading }
+        ensures means { result ≡ (pipe_at (machine_of (state_of self.now)) p).reading }
+        ensures laid { result ≡ (pipe_at (layout_of (state_of self.now)) p).reading }
     {
         is_reading(&self.pipes, p)
     }
 
     /// Whether a pipe's write end is open.
     fn is_written(&self, p: PipeId) -> bool
-        ensures means { result ≡ (pipe_at (machine_of (holding self.now)) p).writing }
-        ensures laid { result ≡ (pipe_at (layout_of (holding self.now)) p).writing }
+        ensures means { result ≡ (pipe_at (machine_of (state_of self.now)) p).writing }
+        ensures laid { result ≡ (pipe_at (layout_of (state_of self.now)) p).writing }
     {
         is_writing(&self.pipes, p)
     }
 
     /// How many bytes wait in a pipe.
     fn waiting(&self, p: PipeId) -> u32
-        ensures len { result ≡ length (pipe_at (machine_of (holding self.now)) p).queue }
-        ensures laid { result ≡ length (pipe_at (layout_of (holding self.now)) p).queue }
+        ensures len { result ≡ length (pipe_at (machine_of (state_of self.now)) p).queue }
+        ensures laid { result ≡ length (pipe_at (layout_of (state_of self.now)) p).queue }
         ensures most { result ≤ MAX_QUEUE_BYTES }
     {
         queue_len(&self.pipes, p)
@@ -228,9 +228,9 @@ impl Kernel {
 
     /// Whether an aggregate has bytes and none fits into a pipe.
     fn takes_none(&self, by: DomainId, agg: AggId, p: PipeId) -> bool
-        requires { is_live (machine_of (holding self.now)) by ≡ true }
-        ensures means { result ≡ writing.takes_none (machine_of (holding self.now)) (Some (Descriptor.WriteEnd p)) (length (text (machine_of (holding self.now)) by agg)) }
-        ensures laid { result ≡ writing.takes_none (layout_of (holding self.now)) (Some (Descriptor.WriteEnd p)) (length (text (layout_of (holding self.now)) by agg)) }
+        requires { is_live (machine_of (state_of self.now)) by ≡ true }
+        ensures means { result ≡ writing.takes_none (machine_of (state_of self.now)) (Some (Descriptor.WriteEnd p)) (length (text (machine_of (state_of self.now)) by agg)) }
+        ensures laid { result ≡ writing.takes_none (layout_of (state_of self.now)) (Some (Descriptor.WriteEnd p)) (length (text (layout_of (state_of self.now)) by agg)) }
     {
         let len = self.agg_len(by, agg);
         len > 0 && len.min(MAX_QUEUE_BYTES as u32 - self.waiting(p)) == 0
@@ -239,19 +239,19 @@ impl Kernel {
     /// Adds the longest prefix of an aggregate that fits to a pipe's queue.
     #[tactic(auto, using(crate::proofs::Stay::stay_rules))]
     fn push(&mut self, by: DomainId, agg: AggId, p: PipeId) -> Result<u32, AllocError>
-        requires sound { IsSound (holding self.old) }
-        requires live { is_live (machine_of (holding self.old)) by ≡ true }
-        requires there { lacks_agg (machine_of (holding self.old)) by agg ≡ false }
-        requires writing { (queue_at (holding self.old).pipes p).writing ≡ true }
-        ensures taken { IfOk result (λ n. n ≡ writing.fitting (machine_of (holding self.old)) (Some (Descriptor.WriteEnd p)) (length (text (machine_of (holding self.old)) by agg))) }
-        ensures pushed { IfOk result (λ n. machine_of (holding self.new) ≡ with_pipe (machine_of (holding self.old)) p (record (pipe_at (machine_of (holding self.old)) p) { queue = (pipe_at (machine_of (holding self.old)) p).queue ++ take n (text (machine_of (holding self.old)) by agg) })) }
-        ensures laid_taken { IfOk result (λ n. n ≡ writing.fitting (layout_of (holding self.old)) (Some (Descriptor.WriteEnd p)) (length (text (layout_of (holding self.old)) by agg))) }
-        ensures laid { IfOk result (λ n. layout_of (holding self.new) ≡ with_pipe (layout_of (holding self.old)) p (record (pipe_at (layout_of (holding self.old)) p) { queue = (pipe_at (layout_of (holding self.old)) p).queue ++ take n (text (layout_of (holding self.old)) by agg) })) }
-        ensures arena { (holding self.new).store.arena ≡ (holding self.old).store.arena }
-        ensures err { OnErr result (machine_of (holding self.new) ≡ machine_of (holding self.old)) }
-        ensures err_laid { OnErr result (layout_of (holding self.new) ≡ layout_of (holding self.old)) }
-        ensures sound { IsSound (holding self.new) }
-        ensures stays { Stays (holding self.old).store (holding self.new).store }
+        requires sound { IsSound (state_of self.old) }
+        requires live { is_live (machine_of (state_of self.old)) by ≡ true }
+        requires there { lacks_agg (machine_of (state_of self.old)) by agg ≡ false }
+        requires writing { (queue_at (state_of self.old).pipes p).writing ≡ true }
+        ensures taken { IfOk result (λ n. n ≡ writing.fitting (machine_of (state_of self.old)) (Some (Descriptor.WriteEnd p)) (length (text (machine_of (state_of self.old)) by agg))) }
+        ensures pushed { IfOk result (λ n. machine_of (state_of self.new) ≡ with_pipe (machine_of (state_of self.old)) p (record (pipe_at (machine_of (state_of self.old)) p) { queue = (pipe_at (machine_of (state_of self.old)) p).queue ++ take n (text (machine_of (state_of self.old)) by agg) })) }
+        ensures laid_taken { IfOk result (λ n. n ≡ writing.fitting (layout_of (state_of self.old)) (Some (Descriptor.WriteEnd p)) (length (text (layout_of (state_of self.old)) by agg))) }
+        ensures laid { IfOk result (λ n. layout_of (state_of self.new) ≡ with_pipe (layout_of (state_of self.old)) p (record (pipe_at (layout_of (state_of self.old)) p) { queue = (pipe_at (layout_of (state_of self.old)) p).queue ++ take n (text (layout_of (state_of self.old)) by agg) })) }
+        ensures arena { (state_of self.new).store.arena ≡ (state_of self.old).store.arena }
+        ensures err { OnErr result (machine_of (state_of self.new) ≡ machine_of (state_of self.old)) }
+        ensures err_laid { OnErr result (layout_of (state_of self.new) ≡ layout_of (state_of self.old)) }
+        ensures sound { IsSound (state_of self.new) }
+        ensures stays { Stays (state_of self.old).store (state_of self.new).store }
     {
         let Some(found) = self.domains.agg(by, agg) else {
             unreachable!()
@@ -265,12 +265,12 @@ impl Kernel {
     /// Reads up to `count` bytes, as the caller's next aggregate.
     #[tactic(auto, using(crate::proofs::Stay::stay_rules))]
     pub fn iol_read(&mut self, by: DomainId, fd: Fd, count: u32) -> Result<AggId, Refusal>
-        requires { IsSound (holding self.old) }
-        ensures step { Step (reading.iol_read (machine_of (holding self.old)) by fd count) (machine_of (holding self.old)) result (machine_of (holding self.new)) }
-        ensures shares { SharesBy (λ s. reading.iol_read s by fd count) (holding self.old) result (holding self.new) }
+        requires { IsSound (state_of self.old) }
+        ensures step { Step (reading.iol_read (machine_of (state_of self.old)) by fd count) (machine_of (state_of self.old)) result (machine_of (state_of self.new)) }
+        ensures shares { SharesBy (λ s. reading.iol_read s by fd count) (state_of self.old) result (state_of self.new) }
         ensures roomy { (p : ℕ) → result ≡ Err (Refusal.NoRoom p) → ⊥ }
-        ensures sound { IsSound (holding self.new) }
-        ensures stays { Stays (holding self.old).store (holding self.new).store }
+        ensures sound { IsSound (state_of self.new) }
+        ensures stays { Stays (state_of self.old).store (state_of self.new).store }
     {
         if !self.is_live(by) {
             return Err(Refusal::NoDomain);
@@ -295,16 +295,16 @@ impl Kernel {
         pipe: PipeId,
         count: u32,
     ) -> Result<AggId, Refusal>
-        requires sound { IsSound (holding self.old) }
-        requires live { is_live (machine_of (holding self.old)) by ≡ true }
-        requires from { descriptor (machine_of (holding self.old)) by fd ≡ Some (Descriptor.ReadEnd pipe) }
-        requires laid_live { is_live (layout_of (holding self.old)) by ≡ true }
-        requires laid_from { descriptor (layout_of (holding self.old)) by fd ≡ Some (Descriptor.ReadEnd pipe) }
-        ensures step { Step (reading.iol_read (machine_of (holding self.old)) by fd count) (machine_of (holding self.old)) result (machine_of (holding self.new)) }
-        ensures shares { SharesBy (λ s. reading.iol_read s by fd count) (holding self.old) result (holding self.new) }
+        requires sound { IsSound (state_of self.old) }
+        requires live { is_live (machine_of (state_of self.old)) by ≡ true }
+        requires from { descriptor (machine_of (state_of self.old)) by fd ≡ Some (Descriptor.ReadEnd pipe) }
+        requires laid_live { is_live (layout_of (state_of self.old)) by ≡ true }
+        requires laid_from { descriptor (layout_of (state_of self.old)) by fd ≡ Some (Descriptor.ReadEnd pipe) }
+        ensures step { Step (reading.iol_read (machine_of (state_of self.old)) by fd count) (machine_of (state_of self.old)) result (machine_of (state_of self.new)) }
+        ensures shares { SharesBy (λ s. reading.iol_read s by fd count) (state_of self.old) result (state_of self.new) }
         ensures roomy { (p : ℕ) → result ≡ Err (Refusal.NoRoom p) → ⊥ }
-        ensures sound { IsSound (holding self.new) }
-        ensures stays { Stays (holding self.old).store (holding self.new).store }
+        ensures sound { IsSound (state_of self.new) }
+        ensures stays { Stays (state_of self.old).store (state_of self.new).store }
     {
         if self.is_too_many(by, 1, 0) {
             return Err(Refusal::TooMany);
@@ -323,8 +323,8 @@ impl Kernel {
 
     /// The pool of the first byte asked for, where the reader may not read it.
     fn first_barred(&self, by: DomainId, p: PipeId, count: u32) -> Option<PoolId>
-        ensures means { result ≡ barred (may_read (machine_of (holding self.now)) by) (take (min count 1) (pipe_at (machine_of (holding self.now)) p).queue) }
-        ensures laid { result ≡ barred (may_read (layout_of (holding self.now)) by) (take (min count 1) (pipe_at (layout_of (holding self.now)) p).queue) }
+        ensures means { result ≡ barred (may_read (machine_of (state_of self.now)) by) (take (min count 1) (pipe_at (machine_of (state_of self.now)) p).queue) }
+        ensures laid { result ≡ barred (may_read (layout_of (state_of self.now)) by) (take (min count 1) (pipe_at (layout_of (state_of self.now)) p).queue) }
     {
         if count == 0 {
             return None;
@@ -341,8 +341,8 @@ impl Kernel {
 
     /// Whether bytes are asked for, none wait, and some may come.
     fn must_wait(&self, p: PipeId, count: u32) -> bool
-        ensures means { result ≡ reading.must_wait (machine_of (holding self.now)) (Some (Descriptor.ReadEnd p)) count }
-        ensures laid { result ≡ reading.must_wait (layout_of (holding self.now)) (Some (Descriptor.ReadEnd p)) count }
+        ensures means { result ≡ reading.must_wait (machine_of (state_of self.now)) (Some (Descriptor.ReadEnd p)) count }
+        ensures laid { result ≡ reading.must_wait (layout_of (state_of self.now)) (Some (Descriptor.ReadEnd p)) count }
     {
         count > 0 && self.waiting(p) == 0 && self.is_written(p)
     }
@@ -350,19 +350,19 @@ impl Kernel {
     /// Takes what the reader may see of the first bytes of a pipe's queue, as its next aggregate.
     #[tactic(auto, using(crate::proofs::Stay::stay_rules))]
     fn take(&mut self, by: DomainId, p: PipeId, n: u32) -> Result<AggId, AllocError>
-        requires sound { IsSound (holding self.old) }
-        requires live { is_live (machine_of (holding self.old)) by ≡ true }
-        requires few { too_many_aggs (machine_of (holding self.old)) by 1 0 ≡ false }
-        requires reading { (queue_at (holding self.old).pipes p).reading ≡ true }
-        ensures number { IfOk result (λ a. a ≡ next_agg (machine_of (holding self.old)) by) }
-        ensures laid_number { IfOk result (λ a. a ≡ next_agg (layout_of (holding self.old)) by) }
-        ensures laid { OnOk result (layout_of (holding self.new) ≡ with_agg (reading.read_on (layout_of (holding self.old)) by 0 (Some (Descriptor.ReadEnd p)) (length (reading.read_text (layout_of (holding self.old)) by (Some (Descriptor.ReadEnd p)) n))) by (reading.read_text (layout_of (holding self.old)) by (Some (Descriptor.ReadEnd p)) n)) }
-        ensures arena { (holding self.new).store.arena ≡ (holding self.old).store.arena }
-        ensures err_laid { OnErr result (layout_of (holding self.new) ≡ layout_of (holding self.old)) }
-        ensures taken { OnOk result (machine_of (holding self.new) ≡ with_agg (reading.read_on (machine_of (holding self.old)) by 0 (Some (Descriptor.ReadEnd p)) (length (reading.read_text (machine_of (holding self.old)) by (Some (Descriptor.ReadEnd p)) n))) by (reading.read_text (machine_of (holding self.old)) by (Some (Descriptor.ReadEnd p)) n)) }
-        ensures err { OnErr result (machine_of (holding self.new) ≡ machine_of (holding self.old)) }
-        ensures sound { IsSound (holding self.new) }
-        ensures stays { Stays (holding self.old).store (holding self.new).store }
+        requires sound { IsSound (state_of self.old) }
+        requires live { is_live (machine_of (state_of self.old)) by ≡ true }
+        requires few { too_many_aggs (machine_of (state_of self.old)) by 1 0 ≡ false }
+        requires reading { (queue_at (state_of self.old).pipes p).reading ≡ true }
+        ensures number { IfOk result (λ a. a ≡ next_agg (machine_of (state_of self.old)) by) }
+        ensures laid_number { IfOk result (λ a. a ≡ next_agg (layout_of (state_of self.old)) by) }
+        ensures laid { OnOk result (layout_of (state_of self.new) ≡ with_agg (reading.read_on (layout_of (state_of self.old)) by 0 (Some (Descriptor.ReadEnd p)) (length (reading.read_text (layout_of (state_of self.old)) by (Some (Descriptor.ReadEnd p)) n))) by (reading.read_text (layout_of (state_of self.old)) by (Some (Descriptor.ReadEnd p)) n)) }
+        ensures arena { (state_of self.new).store.arena ≡ (state_of self.old).store.arena }
+        ensures err_laid { OnErr result (layout_of (state_of self.new) ≡ layout_of (state_of self.old)) }
+        ensures taken { OnOk result (machine_of (state_of self.new) ≡ with_agg (reading.read_on (machine_of (state_of self.old)) by 0 (Some (Descriptor.ReadEnd p)) (length (reading.read_text (machine_of (state_of self.old)) by (Some (Descriptor.ReadEnd p)) n))) by (reading.read_text (machine_of (state_of self.old)) by (Some (Descriptor.ReadEnd p)) n)) }
+        ensures err { OnErr result (machine_of (state_of self.new) ≡ machine_of (state_of self.old)) }
+        ensures sound { IsSound (state_of self.new) }
+        ensures stays { Stays (state_of self.old).store (state_of self.new).store }
     {
         match take_from(
             self.alloc,

@@ -1,5 +1,5 @@
 pub mod Given
-pub mod Holding
+pub mod KernelState
 pub mod Prefixes
 pub mod Shared
 pub mod Texts

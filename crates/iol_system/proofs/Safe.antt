@@ -8,11 +8,11 @@ use Rattle.iol_core.specs.declared.events.Event.{Event}
 use Rattle.iol_core.specs.declared.events.Reply.{Reply}
 use Rattle.iol_core.proofs.Access.{access_run, access_new}
 use Rattle.iol_core.proofs.Values.{values_run}
-use Rattle.iol_kernel.specs.Holding.{Holding, machine_of, IsSound}
+use Rattle.iol_kernel.specs.KernelState.{KernelState, machine_of, IsSound}
 use Rattle.iol_system.specs.Safe.{IsSafe}
 use Rattle.iol_system.specs.Values.{ValuesStayOver}
 
-pub new_safe : (h : Holding) → IsSound h → machine_of h ≡ new_state no_slots → IsSafe h
+pub new_safe : (h : KernelState) → IsSound h → machine_of h ≡ new_state no_slots → IsSafe h
 new_safe h sound new = record { sound = sound; access = subst HasAccess (sym new) (access_new no_slots) }
 
 -- after a run, or a refused one

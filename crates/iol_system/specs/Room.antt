@@ -10,15 +10,15 @@ use Rattle.iol_core.specs.declared.events.Reply.TheVariants as reply
 use Rattle.iol_core.specs.declared.refusals.Refusal.TheVariants.{NoRoom}
 use Rattle.iol_arena.specs.Chunks.{free_chunks}
 use Rattle.iol_hold.specs.Room.{has_room}
-use Rattle.iol_kernel.specs.Holding.{Holding, machine_of}
+use Rattle.iol_kernel.specs.KernelState.{KernelState, machine_of}
 
 -- whether a call's pages, or its chunks, are there
-abbrev pub call_fits : Holding → (by : ℕ) → Call → Bool
+abbrev pub call_fits : KernelState → (by : ℕ) → Call → Bool
 call_fits h by (call.AggMake bytes) = has_room h.store (default_pool (machine_of h) by) (length bytes)
 call_fits h by (call.PoolCreate chunks list) = nat_le chunks (length (free_chunks h.store.arena))
 call_fits h by c = true
 
-abbrev pub fits : Holding → Event → Bool
+abbrev pub fits : KernelState → Event → Bool
 fits h (event.Call by c) = call_fits h by c
 
 abbrev pub IsDone : Reply → Type 0

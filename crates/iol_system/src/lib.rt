@@ -2,7 +2,7 @@
 //!
 //! [`System::run`](system::System::run) carries the headline: whatever the list of events, the replies and the state
 //! after them are those of a machine that copies at every call (`iol_core`, `specs/Run`). What a system holds, and
-//! the machine's state that it stands for, is `iol_kernel`'s `specs/Holding`; when there is room, `specs/Room`.
+//! the machine's state that it stands for, is `iol_kernel`'s `specs/KernelState`; when there is room, `specs/Room`.
 #![tactic(auto)]
 
 mod step;

@@ -2,11 +2,11 @@
 ghost use Rattle.std.specs.Prelude.{◌≡◌, true, false, IfOk, OnErr};
 ghost use Rattle.iol_core.specs.Run.{StepsTo, Run};
 ghost use Rattle.iol_hold.specs.Moves.{Stays};
-ghost use Rattle.iol_kernel.specs.Holding.{machine_of, layout_of, IsSound};
+ghost use Rattle.iol_kernel.specs.KernelState.{machine_of, layout_of, IsSound};
 ghost use Rattle.iol_core.specs.Sharing.{is_sharing, LaysOut};
 ghost use Rattle.iol_system.specs.Replies.{told};
 ghost use Rattle.iol_system.specs.Room.{fits, IsDone, IsNoRoom};
-ghost use Rattle.iol_kernel.specs.Kernel.{holding};
+ghost use Rattle.iol_kernel.specs.Kernel.{state_of};
 
 use iol_core::events::{Call, Event, Reply};
 use iol_core::numbers::DomainId;
@@ -16,14 +16,14 @@ use std::alloc::{AllocError, Global};
 
 /// Carries out one call of a domain, which gives an answer or a refusal.
 fn answer_to(kernel: &mut Kernel, by: DomainId, call: &Call) -> Result<Reply, Refusal>
-    requires { IsSound (holding kernel.old) }
-    ensures step { StepsTo (machine_of (holding kernel.old)) (Event.Call by call.now) (told result) (machine_of (holding kernel.new)) }
-    ensures room { IsDone (told result) → fits (holding kernel.old) (Event.Call by call.now) ≡ true }
-    ensures no_room { IsNoRoom (told result) → fits (holding kernel.old) (Event.Call by call.now) ≡ false }
-    ensures shares { is_sharing (Event.Call by call.now) ≡ true → LaysOut (layout_of (holding kernel.old)) (Event.Call by call.now) (told result) (layout_of (holding kernel.new)) }
-    ensures pages { is_sharing (Event.Call by call.now) ≡ true → (holding kernel.new).store.arena ≡ (holding kernel.old).store.arena }
-    ensures sound { IsSound (holding kernel.new) }
-    ensures stays { Stays (holding kernel.old).store (holding kernel.new).store }
+    requires { IsSound (state_of kernel.old) }
+    ensures step { StepsTo (machine_of (state_of kernel.old)) (Event.Call by call.now) (told result) (machine_of (state_of kernel.new)) }
+    ensures room { IsDone (told result) → fits (state_of kernel.old) (Event.Call by call.now) ≡ true }
+    ensures no_room { IsNoRoom (told result) → fits (state_of kernel.old) (Event.Call by call.now) ≡ false }
+    ensures shares { is_sharing (Event.Call by call.now) ≡ true → LaysOut (layout_of (state_of kernel.old)) (Event.Call by call.now) (told result) (layout_of (state_of kernel.new)) }
+    ensures pages { is_sharing (Event.Call by call.now) ≡ true → (state_of kernel.new).store.arena ≡ (state_of kernel.old).store.arena }
+    ensures sound { IsSound (state_of kernel.new) }
+    ensures stays { Stays (state_of kernel.old).store (state_of kernel.new).store }
 {
     match call {
         Call::DomainNew => Ok(Reply::Domain(kernel.domain_new(by)?)),
@@ -78,14 +78,14 @@ fn answer_to(kernel: &mut Kernel, by: DomainId, call: &Call) -> Result<Reply, Re
 
 /// Carries out one call of a domain, and replies.
 fn make_call(kernel: &mut Kernel, by: DomainId, call: &Call) -> Reply
-    requires { IsSound (holding kernel.old) }
-    ensures step { StepsTo (machine_of (holding kernel.old)) (Event.Call by call.now) result (machine_of (holding kernel.new)) }
-    ensures room { IsDone result → fits (holding kernel.old) (Event.Call by call.now) ≡ true }
-    ensures no_room { IsNoRoom result → fits (holding kernel.old) (Event.Call by call.now) ≡ false }
-    ensures shares { is_sharing (Event.Call by call.now) ≡ true → LaysOut (layout_of (holding kernel.old)) (Event.Call by call.now) result (layout_of (holding kernel.new)) }
-    ensures pages { is_sharing (Event.Call by call.now) ≡ true → (holding kernel.new).store.arena ≡ (holding kernel.old).store.arena }
-    ensures sound { IsSound (holding kernel.new) }
-    ensures stays { Stays (holding kernel.old).store (holding kernel.new).store }
+    requires { IsSound (state_of kernel.old) }
+    ensures step { StepsTo (machine_of (state_of kernel.old)) (Event.Call by call.now) result (machine_of (state_of kernel.new)) }
+    ensures room { IsDone result → fits (state_of kernel.old) (Event.Call by call.now) ≡ true }
+    ensures no_room { IsNoRoom result → fits (state_of kernel.old) (Event.Call by call.now) ≡ false }
+    ensures shares { is_sharing (Event.Call by call.now) ≡ true → LaysOut (layout_of (state_of kernel.old)) (Event.Call by call.now) result (layout_of (state_of kernel.new)) }
+    ensures pages { is_sharing (Event.Call by call.now) ≡ true → (state_of kernel.new).store.arena ≡ (state_of kernel.old).store.arena }
+    ensures sound { IsSound (state_of kernel.new) }
+    ensures stays { Stays (state_of kernel.old).store (state_of kernel.new).store }
 {
     match answer_to(kernel, by, call) {
         Ok(reply) => reply,
@@ -95,14 +95,14 @@ fn make_call(kernel: &mut Kernel, by: DomainId, call: &Call) -> Reply
 
 /// Carries out one event.
 pub(crate) fn carry_out(kernel: &mut Kernel, event: &Event) -> Reply
-    requires { IsSound (holding kernel.old) }
-    ensures step { StepsTo (machine_of (holding kernel.old)) event.now result (machine_of (holding kernel.new)) }
-    ensures room { IsDone result → fits (holding kernel.old) event.now ≡ true }
-    ensures no_room { IsNoRoom result → fits (holding kernel.old) event.now ≡ false }
-    ensures shares { is_sharing event.now ≡ true → LaysOut (layout_of (holding kernel.old)) event.now result (layout_of (holding kernel.new)) }
-    ensures pages { is_sharing event.now ≡ true → (holding kernel.new).store.arena ≡ (holding kernel.old).store.arena }
-    ensures sound { IsSound (holding kernel.new) }
-    ensures stays { Stays (holding kernel.old).store (holding kernel.new).store }
+    requires { IsSound (state_of kernel.old) }
+    ensures step { StepsTo (machine_of (state_of kernel.old)) event.now result (machine_of (state_of kernel.new)) }
+    ensures room { IsDone result → fits (state_of kernel.old) event.now ≡ true }
+    ensures no_room { IsNoRoom result → fits (state_of kernel.old) event.now ≡ false }
+    ensures shares { is_sharing event.now ≡ true → LaysOut (layout_of (state_of kernel.old)) event.now result (layout_of (state_of kernel.new)) }
+    ensures pages { is_sharing event.now ≡ true → (state_of kernel.new).store.arena ≡ (state_of kernel.old).store.arena }
+    ensures sound { IsSound (state_of kernel.new) }
+    ensures stays { Stays (state_of kernel.old).store (state_of kernel.new).store }
 {
     match event {
         Event::Call { by, call } => make_call(kernel, *by, call),
@@ -116,11 +116,11 @@ pub(crate) fn run_all(
     kernel: &mut Kernel,
     events: &[Event],
 ) -> Result<Vec<Reply>, AllocError>
-    requires { IsSound (holding kernel.old) }
-    ensures run { IfOk result (λ replies. Run (machine_of (holding kernel.old)) events.now replies.items (machine_of (holding kernel.new))) }
+    requires { IsSound (state_of kernel.old) }
+    ensures run { IfOk result (λ replies. Run (machine_of (state_of kernel.old)) events.now replies.items (machine_of (state_of kernel.new))) }
     ensures err { OnErr result (kernel.new ≡ kernel.old) }
-    ensures sound { IsSound (holding kernel.new) }
-    ensures stays { Stays (holding kernel.old).store (holding kernel.new).store }
+    ensures sound { IsSound (state_of kernel.new) }
+    ensures stays { Stays (state_of kernel.old).store (state_of kernel.new).store }
 {
     let mut replies = Vec::with_capacity(alloc, events.len())?;
     for event in events {

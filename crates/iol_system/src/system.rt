@@ -6,7 +6,7 @@ ghost use Rattle.iol_core.specs.Run.{StepsTo, Run};
 ghost use Rattle.iol_core.specs.Values.{ValuesStay};
 ghost use Rattle.iol_system.specs.Values.{ValuesStayOver};
 ghost use Rattle.iol_hold.specs.Moves.{Stays};
-ghost use Rattle.iol_kernel.specs.Holding.{machine_of, layout_of, joined};
+ghost use Rattle.iol_kernel.specs.KernelState.{machine_of, layout_of, joined};
 ghost use Rattle.iol_system.specs.Safe.{IsSafe};
 ghost use Rattle.iol_core.specs.Sharing.{is_sharing, LaysOut};
 ghost use Rattle.iol_core.specs.Meaning.{first};
@@ -35,16 +35,16 @@ pub struct System {
 }
 
 impl Model for System {
-    ghost use Rattle.iol_kernel.specs.Holding as held;
+    ghost use Rattle.iol_kernel.specs.KernelState as held;
     ghost use Rattle.iol_system.specs.Safe.{IsSafe};
 
-    ghost Value = { held.Holding };
+    ghost Value = { held.KernelState };
 
-    ghost use Rattle.iol_kernel.specs.Kernel.{holding};
+    ghost use Rattle.iol_kernel.specs.Kernel.{state_of};
 
-    ghost view = { λ s. holding s.kernel };
+    ghost view = { λ s. state_of s.kernel };
 
-    ghost invariant = { λ s. IsSafe (holding s.kernel) };
+    ghost invariant = { λ s. IsSafe (state_of s.kernel) };
 }
 
 impl System {

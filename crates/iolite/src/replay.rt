@@ -4,7 +4,7 @@ ghost use Rattle.std.specs.IoError.{error_kind};
 ghost use Rattle.iol_core.specs.Run.{Run};
 ghost use Rattle.iol_core.specs.State.{State, new_state, no_slots};
 ghost use Rattle.iolite.specs.Failure.{status_of, IsOfInput};
-ghost use Rattle.iol_kernel.specs.Holding.{machine_of};
+ghost use Rattle.iol_kernel.specs.KernelState.{machine_of};
 ghost use Rattle.iolite.specs.Script.{IsScriptText, IsWholeOrTooLong, IsAnswer, asks_report, is_report, events_of, replies_of};
 
 use crate::failure::Failure;

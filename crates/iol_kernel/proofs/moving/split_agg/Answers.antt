@@ -5,7 +5,7 @@ use Rattle.iol_hold.specs.Texts.{bufs_of}
 use Rattle.iol_hold.specs.declared.slices.Slice.{Slice}
 use Rattle.iol_core.specs.State.{Domain}
 use Rattle.iol_desc.specs.Tables.{domains_of, domain_in, with_domain_in}
-use Rattle.iol_kernel.specs.Holding.{slices_in}
+use Rattle.iol_kernel.specs.KernelState.{slices_in}
 use Rattle.iol_kernel.specs.Regrouped.{with_two}
 use Rattle.iol_kernel.proofs.Exchanging.{taken_out, split_table, put_back}
 use Rattle.iol_kernel.proofs.Slices.{slices_found}

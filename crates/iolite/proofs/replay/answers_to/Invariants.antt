@@ -2,7 +2,7 @@ use Rattle.std.proofs.Common.{◌≡◌, ◌≤◌, ◌++◌, length, map, vec_l
 use Rattle.std.specs.Vec.Iter.{into_iter_items, into_iter_len}
 use Rattle.iol_core.specs.Run.{Run}
 use Rattle.iol_core.specs.State.{new_state, no_slots}
-use Rattle.iol_kernel.specs.Holding.{machine_of}
+use Rattle.iol_kernel.specs.KernelState.{machine_of}
 use Rattle.iolite.specs.Script.{asks_report, is_report, events_of, replies_of}
 use Rattle.iolite.proofs.replay.answers_to.Given as goal
 

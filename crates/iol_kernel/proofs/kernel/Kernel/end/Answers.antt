@@ -7,8 +7,8 @@ use Rattle.iol_core.specs.Calls.Descriptors.{closed_on, with_fds}
 use Rattle.iol_core.specs.declared.descriptors.Descriptor.{Descriptor}
 use Rattle.iol_hold.specs.declared.slices.Slice.{Slice}
 use Rattle.iol_desc.specs.Tables.{domains_of, domain_in, with_aggs_in, with_fds_in}
-use Rattle.iol_kernel.specs.Holding.{Holding, machine_of}
-use Rattle.iol_kernel.specs.Kernel.{holding}
+use Rattle.iol_kernel.specs.KernelState.{KernelState, machine_of}
+use Rattle.iol_kernel.specs.Kernel.{state_of}
 use Rattle.iol_kernel.proofs.Effects.{live_held, fds-machine_of}
 use Rattle.iol_kernel.proofs.CloseAll.{ended_after}
 use Rattle.iol_kernel.proofs.GivenUp.{live_meant, ended-machine, ended-sound}
@@ -17,13 +17,13 @@ use Rattle.iol_kernel.proofs.kernel.Kernel.end.Goals as goal
 
 pub close_fds-requires-clause-live : goal.close_fds-requires-clause-live
 close_fds-requires-clause-live c =
-    let h : Holding = holding c.args.self.now in
-    let k : Holding = holding c.drop_aggs.new.self in
+    let h : KernelState = state_of c.args.self.now in
+    let k : KernelState = state_of c.drop_aggs.new.self in
     let live = live_held h c.args.by c.requires.live in
     live_meant k c.args.by (ap (λ (x : Domain (List Slice)). x.live) (domain_in-changed h.domains k.domains c.args.by _ live c.drop_aggs.ensures.domains) ∙ live)
 
 -- what is left of it before it ends
-left_of : (h k l : Holding) (d : ℕ) → (domain_in h.domains d).live ≡ true → k.domains ≡ with_aggs_in h.domains d [] → l.domains ≡ with_fds_in k.domains d [] → domain_in l.domains d ≡ record (domain_in h.domains d) { aggs = []; fds = [] }
+left_of : (h k l : KernelState) (d : ℕ) → (domain_in h.domains d).live ≡ true → k.domains ≡ with_aggs_in h.domains d [] → l.domains ≡ with_fds_in k.domains d [] → domain_in l.domains d ≡ record (domain_in h.domains d) { aggs = []; fds = [] }
 left_of h k l d live dropped closed =
     let x = domain_in-changed h.domains k.domains d (record (domain_in h.domains d) { aggs = [] }) live dropped in
     domain_in-changed k.domains l.domains d (record (domain_in k.domains d) { fds = [] }) (ap (λ (y : Domain (List Slice)). y.live) x ∙ live) closed
@@ -31,25 +31,25 @@ left_of h k l d live dropped closed =
 
 pub end_domain-requires-clause-live : goal.end_domain-requires-clause-live
 end_domain-requires-clause-live c =
-    let h : Holding = holding c.args.self.now in
+    let h : KernelState = state_of c.args.self.now in
     let live = live_held h c.args.by c.requires.live in
-    ap (λ (y : Domain (List Slice)). y.live) (left_of h (holding c.drop_aggs.new.self) (holding c.close_fds.new.self) c.args.by live c.drop_aggs.ensures.domains c.close_fds.ensures.domains) ∙ live
+    ap (λ (y : Domain (List Slice)). y.live) (left_of h (state_of c.drop_aggs.new.self) (state_of c.close_fds.new.self) c.args.by live c.drop_aggs.ensures.domains c.close_fds.ensures.domains) ∙ live
 
 pub end_domain-requires-clause-no_aggs : goal.end_domain-requires-clause-no_aggs
 end_domain-requires-clause-no_aggs c =
-    let h : Holding = holding c.args.self.now in
-    ap (λ (y : Domain (List Slice)). y.aggs) (left_of h (holding c.drop_aggs.new.self) (holding c.close_fds.new.self) c.args.by (live_held h c.args.by c.requires.live) c.drop_aggs.ensures.domains c.close_fds.ensures.domains)
+    let h : KernelState = state_of c.args.self.now in
+    ap (λ (y : Domain (List Slice)). y.aggs) (left_of h (state_of c.drop_aggs.new.self) (state_of c.close_fds.new.self) c.args.by (live_held h c.args.by c.requires.live) c.drop_aggs.ensures.domains c.close_fds.ensures.domains)
 
 pub end_domain-requires-clause-no_fds : goal.end_domain-requires-clause-no_fds
 end_domain-requires-clause-no_fds c =
-    let h : Holding = holding c.args.self.now in
-    ap (λ (y : Domain (List Slice)). taken y.fds) (left_of h (holding c.drop_aggs.new.self) (holding c.close_fds.new.self) c.args.by (live_held h c.args.by c.requires.live) c.drop_aggs.ensures.domains c.close_fds.ensures.domains)
+    let h : KernelState = state_of c.args.self.now in
+    ap (λ (y : Domain (List Slice)). taken y.fds) (left_of h (state_of c.drop_aggs.new.self) (state_of c.close_fds.new.self) c.args.by (live_held h c.args.by c.requires.live) c.drop_aggs.ensures.domains c.close_fds.ensures.domains)
 
 pub returns-clause-ended : goal.returns-clause-ended
 returns-clause-ended c =
-    let h : Holding = holding c.args.self.now in
-    let k : Holding = holding c.drop_aggs.new.self in
-    let l : Holding = holding c.close_fds.new.self in
+    let h : KernelState = state_of c.args.self.now in
+    let k : KernelState = state_of c.drop_aggs.new.self in
+    let l : KernelState = state_of c.close_fds.new.self in
     let d = c.args.by in
     let live = live_held h d c.requires.live in
     let same : (machine.domain (machine_of k) d).fds ≡ (machine.domain (machine_of h) d).fds =
@@ -61,8 +61,8 @@ returns-clause-ended c =
 
 pub returns-clause-sound : goal.returns-clause-sound
 returns-clause-sound c =
-    let h : Holding = holding c.args.self.now in
-    let l : Holding = holding c.close_fds.new.self in
+    let h : KernelState = state_of c.args.self.now in
+    let l : KernelState = state_of c.close_fds.new.self in
     let live = live_held h c.args.by c.requires.live in
-    let left = left_of h (holding c.drop_aggs.new.self) l c.args.by live c.drop_aggs.ensures.domains c.close_fds.ensures.domains in
+    let left = left_of h (state_of c.drop_aggs.new.self) l c.args.by live c.drop_aggs.ensures.domains c.close_fds.ensures.domains in
     ended-sound l (domains_of c.end_domain.new.self) c.args.by c.close_fds.ensures.sound (ap (λ (y : Domain (List Slice)). y.live) left ∙ live) (ap (λ (y : Domain (List Slice)). y.aggs) left) c.end_domain.ensures

@@ -2,7 +2,7 @@ use Rattle.std.proofs.Common.{◌∙◌, sym}
 use Rattle.iol_hold.specs.Texts.{text_of}
 use Rattle.iol_hold.specs.Layout.{layout_text}
 use Rattle.iol_desc.specs.Tables.{domains_of}
-use Rattle.iol_kernel.specs.Holding.{machine_of, layout_of}
+use Rattle.iol_kernel.specs.KernelState.{machine_of, layout_of}
 use Rattle.iol_kernel.proofs.Meant.{too_many-seen}
 use Rattle.iol_kernel.proofs.kernel.Kernel.is_too_many.Goals as goal
 

@@ -18,17 +18,17 @@ use Rattle.iol_kernel.specs.Counted.{IsCounted}
 use Rattle.iol_kernel.specs.Ends.{IsOpenOnce}
 
 -- the layers' values: an aggregate and a queue are lists of slices of the store's buffers
-pub record Holding : Type 0 where
+pub record KernelState : Type 0 where
   pub store : Stored
   pub domains : List (machine.Domain (List Slice))
   pub pipes : List (Option (Pipe (List Slice)))
 
 -- the copying machine's state: for slices, the text that lies there
-unfoldable pub machine_of : Holding → machine.State
+unfoldable pub machine_of : KernelState → machine.State
 machine_of h = seen (text_of h.store) h.domains h.store.pools h.pipes
 
 -- the same with, for each byte, the number of its place: what a call means for bytes it means for their places
-unfoldable pub layout_of : Holding → machine.State
+unfoldable pub layout_of : KernelState → machine.State
 layout_of h = seen layout_text h.domains h.store.pools h.pipes
 
 -- bytes in parts, one part after another
@@ -79,7 +79,7 @@ pub record IsLimited (domains : List (machine.Domain (List Slice))) (pipes : Lis
 
 -- Between any two events: what aggregates and queues name lies in live buffers of their pools, each buffer is counted
 -- for each of its slices and no page is lost, and descriptors are open on open ends of pipes, each on one of its own.
-pub record IsSound (h : Holding) : Type 0 where
+pub record IsSound (h : KernelState) : Type 0 where
   pub domains : Each (IsDomainReadable h.store) h.domains
   pub pipes : Each (IsPipeReadable h.store) h.pipes
   pub fds : Each (λ d. Each (IsOpenEnd h.pipes) d.fds) h.domains
