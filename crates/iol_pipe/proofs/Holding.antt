@@ -8,7 +8,7 @@ use Rattle.iol_hold.specs.Texts.{bufs_of}
 use Rattle.iol_hold.specs.declared.slices.Slice.{Slice}
 use Rattle.iol_hold.proofs.Counting.{tally-append, tally_none}
 use Rattle.iol_agg.specs.Held.{IsHeldBy}
-use Rattle.iol_agg.proofs.KernelState.{tally-few}
+use Rattle.iol_agg.proofs.Holding.{tally-few}
 
 -- Bytes were filled beside the queue's.
 

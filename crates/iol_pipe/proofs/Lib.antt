@@ -1,5 +1,5 @@
 pub mod Given
-pub mod KernelState
+pub mod Holding
 pub mod Prefixes
 pub mod Shared
 pub mod Texts

@@ -1,4 +1,4 @@
-use Rattle.iol_agg.proofs.KernelState.{held_moves}
+use Rattle.iol_agg.proofs.Holding.{held_moves}
 use Rattle.iol_ample.proofs.aggregates.ample.Goals as goal
 
 pub copy_all-requires : goal.copy_all-requires

@@ -1,4 +1,4 @@
-use Rattle.iol_agg.proofs.KernelState.{moved_covers}
+use Rattle.iol_agg.proofs.Holding.{moved_covers}
 use Rattle.iol_ample.proofs.aggregates.round.Goals as goal
 
 pub release-requires : goal.release-requires

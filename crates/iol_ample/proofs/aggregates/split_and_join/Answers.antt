@@ -1,5 +1,5 @@
 use Rattle.std.proofs.Common.{arith}
-use Rattle.iol_agg.proofs.KernelState.{held_countable}
+use Rattle.iol_agg.proofs.Holding.{held_countable}
 use Rattle.iol_ample.proofs.aggregates.split_and_join.Goals as goal
 
 pub split-requires-clause-countable : goal.split-requires-clause-countable

@@ -1,4 +1,4 @@
-use Rattle.iol_agg.proofs.KernelState.{on_ok, held_on}
+use Rattle.iol_agg.proofs.Holding.{on_ok, held_on}
 use Rattle.iol_ample.proofs.pipes.add_pool.Goals as goal
 
 pub returns : goal.returns
