@@ -13,7 +13,7 @@ use Rattle.iol_arena.specs.State.{State, chunk_count, generation_at}
 use Rattle.iol_arena.specs.Buffers.{IsLive, Keeps, bytes_of}
 use Rattle.iol_arena.specs.Chunks.{TakesChunks, all_taken, free_chunks, is_taken, is_untaken}
 use Rattle.iol_arena.proofs.Good.{bool_cases}
-use Rattle.iol_arena.proofs.Giving.{taken_in, taken_stays}
+use Rattle.iol_arena.proofs.Giving.{taken_in, taken_out, taken_stays}
 use Rattle.iol_arena.proofs.Members.{In, in_contains, contains_in, in_take}
 use Rattle.iol_pool.specs.Pools.{Pool, no_pool, pool_in, with_closed, with_emptied, all_given, with_given, goes_back, settled, settled_arena}
 use Rattle.iol_pool.specs.Owned.{AreOwned}
@@ -219,11 +219,12 @@ pool_in-none p = elim (cases_eq p 0) [ inl z ↦ grind (arith, nat_tests, z) | i
 none_owned : (p c : ℕ) → Contains (pool_in (let l : List Pool = [] in l) p).chunks c → ⊥
 none_owned p c h = in_contains [] c (subst (λ (x : Pool). Contains x.chunks c) (pool_in-none p) h)
 
-pub owned_none : (s : State) → AreOwned s []
-owned_none s = record {
+pub owned_none : (s : State) → ((c : ℕ) → c < chunk_count s → is_taken s c ≡ false) → AreOwned s []
+owned_none s free = record {
   within = λ p c h. absurd (none_owned p c h);
   taken = λ p c h. absurd (none_owned p c h);
   single = λ p q c h k. absurd (none_owned p c h);
+  owner = λ c h is. (let no = free c h in cc (no, is));
 }
 
 -- in an arena that gave out the same chunks
@@ -232,6 +233,7 @@ owned_stays s t ps same o = record {
   within = λ p c h. subst (λ (l : List Bool). c < length l) (sym same) (o.within p c h);
   taken = λ p c h. subst (λ (l : List Bool). get_or l c true ≡ true) (sym same) (o.taken p c h);
   single = o.single;
+  owner = λ c h is. o.owner c (subst (λ (l : List Bool). c < length l) same h) (subst (λ (l : List Bool). get_or l c true ≡ true) same is);
 }
 
 -- by pools with the same chunks
@@ -240,6 +242,7 @@ owned_same s ps qs same o = record {
   within = λ p c h. o.within p c (subst (λ l. Contains l c) (same p) h);
   taken = λ p c h. o.taken p c (subst (λ l. Contains l c) (same p) h);
   single = λ p q c h k. o.single p q c (subst (λ l. Contains l c) (same p) h) (subst (λ l. Contains l c) (same q) k);
+  owner = λ c h is. (let w = o.owner c h is in (w.0, subst (λ l. Contains l c) (sym (same w.0)) w.1));
 }
 
 pub owned_closed : (s : State) (ps : List Pool) (p : ℕ) → is_numbered ps p ≡ true → AreOwned s ps → AreOwned s (with_closed ps p)
@@ -254,14 +257,55 @@ given_out : (taken : List Bool) (cs : List ℕ) (q : ℕ) → (In cs q → ⊥) 
 given_out taken [] q out = refl
 given_out taken (c ∷ cs) q out = given_out (set taken c false) cs q (λ h. out (inr h)) ∙ get_or-set_other taken c q false true (λ e. out (inl e))
 
+given_stays : (taken : List Bool) (cs : List ℕ) (q : ℕ) → get_or taken q true ≡ false → get_or (all_given taken cs) q true ≡ false
+given_stays taken [] q h = h
+given_stays taken (c ∷ cs) q h = given_stays (set taken c false) cs q (elim (cases_eq q c) [
+  | inl e ↦ (let there : q < length taken = within taken q h in ap (λ k. get_or (set taken k false) q true) (sym e) ∙ get_or-set_same taken q false true there)
+  | inr ne ↦ get_or-set_other taken c q false true ne ∙ h
+])
+  where
+    within : (taken : List Bool) (q : ℕ) → get_or taken q true ≡ false → q < length taken
+    within taken q h = elim (cases_lt q (length taken)) [
+      | inl lt ↦ lt
+      | inr ge ↦ (let past = get_or_past taken q true ge in let no : true ≡ false = sym past ∙ h in absurd (cc no))
+    ]
+
+given_in : (taken : List Bool) (cs : List ℕ) (q : ℕ) → In cs q → q < length taken → get_or (all_given taken cs) q true ≡ false
+given_in taken [] q h lt = absurd h
+given_in taken (c ∷ cs) q (inl e) lt = given_stays (set taken c false) cs q (ap (λ k. get_or (set taken k false) q true) (sym e) ∙ get_or-set_same taken q false true lt)
+given_in taken (c ∷ cs) q (inr h) lt = given_in (set taken c false) cs q h (omega (arith, lt, length-set taken c false))
+
 pub owned_settled : (s : State) (ps : List Pool) (p : ℕ) → is_numbered ps p ≡ true → AreOwned s ps → AreOwned (with_given s (pool_in ps p).chunks) (with_emptied ps p)
 owned_settled s ps p there o = record {
   within = λ q c h. omega (arith, o.within q c (emptied ps p q c there h).1, length-all_given s.taken (pool_in ps p).chunks);
   taken = λ q c h. (let e = emptied ps p q c there h in given_out s.taken (pool_in ps p).chunks c (λ k. e.0 (o.single q p c e.1 (contains_in (pool_in ps p).chunks c k))) ∙ o.taken q c e.1);
   single = λ q r c h k. o.single q r c (emptied ps p q c there h).1 (emptied ps p r c there k).1;
+  owner = λ c h is.
+      let cs = (pool_in ps p).chunks in
+      let within : c < chunk_count s = omega (arith, h, length-all_given s.taken cs) in
+      let out : In cs c → ⊥ = λ k. (let no = given_in s.taken cs c k within in cc (no, is)) in
+      let w = o.owner c within (sym (given_out s.taken cs c out) ∙ is) in
+      let other : w.0 ≡ p → ⊥ = λ e. out (in_contains cs c (subst (λ q. Contains (pool_in ps q).chunks c) e w.1)) in
+      (w.0, subst (λ l. Contains l c) (sym (chunks-emptied ps p w.0 other)) w.1);
 }
 
+pub in_or_out : (xs : List ℕ) (q : ℕ) → In xs q ⊎ (In xs q → ⊥)
+in_or_out [] q = inr (λ h. h)
+in_or_out (x ∷ xs) q = elim (cases_eq q x) [
+  | inl e ↦ inl (inl e)
+  | inr ne ↦ elim (in_or_out xs q) [ inl h ↦ inl (inr h) | inr out ↦ inr (λ h. elim h [ inl e ↦ ne e | inr k ↦ out k ]) ]
+]
+
 -- chunks taken for a new pool
+
+-- there is no pool past the last
+pub nowhere : (ps : List Pool) (c : ℕ) → Contains (pool_in ps (length ps + 1)).chunks c → ⊥
+unfolding pool_in
+nowhere ps c h =
+    let past = get_or_past ps (length ps + 1 - 1) no_pool (omega arith) in
+    let none : pool_in ps (length ps + 1) ≡ no_pool = grind (arith, nat_tests, past) in
+    let k = subst (λ (x : Pool). Contains x.chunks c) none h in
+    omega (arith, k.1)
 
 in_passes : (f : ℕ → Bool) (xs : List ℕ) (q : ℕ) → In (filter f xs) q → f q ≡ true
 in_passes f [] q h = elim h [ ]
@@ -305,4 +349,14 @@ module _ (s t : State) (ps : List Pool) (x : Pool) (takes : TakesChunks s t x.ch
   ]
 
   pub owned_added : AreOwned t (ps ++ x ∷ [])
-  owned_added = record { within = below; taken = given; single = one }
+  owned_added = record { within = below; taken = given; single = one; owner = owner }
+    where
+      owner : (c : ℕ) → c < chunk_count t → is_taken t c ≡ true → (p : ℕ) × Contains (pool_in (ps ++ x ∷ []) p).chunks c
+      owner c h is = elim (in_or_out x.chunks c) [
+        | inl new ↦ (length ps + 1, subst (λ (y : Pool). Contains y.chunks c) (sym (pool_in-pushed ps x)) (contains_in x.chunks c new))
+        | inr old ↦ (
+          let was : is_taken s c ≡ true = sym (taken_out s.taken x.chunks c old) ∙ ap (λ (l : List Bool). get_or l c true) (sym taken_is) ∙ is in
+          let w = o.owner c (omega (arith, h, takes.count)) was in
+          let before : w.0 ≡ length ps + 1 → ⊥ = λ e. nowhere ps c (subst (λ q. Contains (pool_in ps q).chunks c) e w.1) in
+          (w.0, subst (λ (y : Pool). Contains y.chunks c) (sym (pool_in-before ps x w.0 before)) w.1))
+      ]
