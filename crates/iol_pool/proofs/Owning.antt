@@ -14,7 +14,7 @@ use Rattle.iol_arena.specs.Buffers.{IsLive, Keeps, bytes_of}
 use Rattle.iol_arena.specs.Chunks.{TakesChunks, all_taken, free_chunks, is_taken, is_untaken}
 use Rattle.iol_arena.proofs.Good.{bool_cases}
 use Rattle.iol_arena.proofs.Giving.{taken_in, taken_out, taken_stays}
-use Rattle.iol_arena.proofs.Members.{In, in_contains, contains_in, in_take}
+use Rattle.iol_arena.proofs.Members.{In, in_contains, contains_in, in_or_out, in_passes, in_take}
 use Rattle.iol_pool.specs.Pools.{Pool, no_pool, pool_in, with_closed, with_emptied, all_given, with_given, goes_back, settled, settled_arena}
 use Rattle.iol_pool.specs.Owned.{AreOwned}
 
@@ -289,13 +289,6 @@ owned_settled s ps p there o = record {
       (w.0, subst (λ l. Contains l c) (sym (chunks-emptied ps p w.0 other)) w.1);
 }
 
-pub in_or_out : (xs : List ℕ) (q : ℕ) → In xs q ⊎ (In xs q → ⊥)
-in_or_out [] q = inr (λ h. h)
-in_or_out (x ∷ xs) q = elim (cases_eq q x) [
-  | inl e ↦ inl (inl e)
-  | inr ne ↦ elim (in_or_out xs q) [ inl h ↦ inl (inr h) | inr out ↦ inr (λ h. elim h [ inl e ↦ ne e | inr k ↦ out k ]) ]
-]
-
 -- chunks taken for a new pool
 
 -- there is no pool past the last
@@ -306,13 +299,6 @@ nowhere ps c h =
     let none : pool_in ps (length ps + 1) ≡ no_pool = grind (arith, nat_tests, past) in
     let k = subst (λ (x : Pool). Contains x.chunks c) none h in
     omega (arith, k.1)
-
-in_passes : (f : ℕ → Bool) (xs : List ℕ) (q : ℕ) → In (filter f xs) q → f q ≡ true
-in_passes f [] q h = elim h [ ]
-in_passes f (x ∷ xs) q h = elim (bool_cases (f x)) [
-  | inl e ↦ (let k : In (x ∷ filter f xs) q = rw e at h in elim k [ inl a ↦ ap f a ∙ e | inr a ↦ in_passes f xs q a ])
-  | inr e ↦ (let k : In (filter f xs) q = rw e at h in in_passes f xs q k)
-]
 
 module _ (s t : State) (ps : List Pool) (x : Pool) (takes : TakesChunks s t x.chunks) (o : AreOwned s ps) where
   taken_is : t.taken ≡ all_taken s.taken x.chunks

@@ -1,6 +1,6 @@
 use Rattle.std.proofs.Common.{ap, sym, ◌∙◌, subst, take, drop, List}
 use Rattle.iol_core.specs.declared.numbers.BufId.{BufId}
-use Rattle.iol_arena.specs.State.{State, pages_for}
+use Rattle.iol_arena.specs.State.{State, HasRuns, pages_for}
 use Rattle.iol_arena.specs.Buffers.{SharesNoPage}
 use Rattle.iol_arena.specs.Pages.{MadeOn, IsSameBut, AreUsable}
 use Rattle.iol_arena.specs.Parts.{part_pages, published, new_bufs}
@@ -36,3 +36,6 @@ returns-clause-returned c =
     let n = c.args.len in
     let arena = c.publish_all.ensures.arena ∙ ap (λ l. published s l n) c.as_slice.ensures in
     subst (λ t. AreUsable t (drop (pages_for n) (part_pages ps))) (sym arena) (returned-published s ps n c.requires.apart c.requires.pending)
+
+pub returns-clause-runs : goal.returns-clause-runs
+returns-clause-runs c = subst (λ (s : State). HasRuns s.entries) c.self.view_is c.self.invariant.sound.runs
