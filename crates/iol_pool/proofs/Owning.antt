@@ -60,6 +60,11 @@ pool_in-before ps x q other = elim (cases_eq q 0) [
   ]
 ]
 
+-- closing a pool leaves the others as they were
+pub pool_in-closed : (ps : List Pool) (p q : ℕ) → (q ≡ p → ⊥) → pool_in (with_closed ps p) q ≡ pool_in ps q
+unfolding with_closed
+pool_in-closed ps p q n = pool_in-other ps p q (record (pool_in ps p) { closed = true }) n
+
 -- a closed pool has its chunks
 pub chunks-closed : (ps : List Pool) (p q : ℕ) → is_numbered ps p ≡ true → (pool_in (with_closed ps p) q).chunks ≡ (pool_in ps q).chunks
 unfolding with_closed
@@ -212,7 +217,7 @@ chunk_count-settled s ps p = elim (bool_cases (goes_back s ps p)) [
 
 -- Whose each chunk is.
 
-pool_in-none : (p : ℕ) → pool_in (let l : List Pool = [] in l) p ≡ no_pool
+pub pool_in-none : (p : ℕ) → pool_in (let l : List Pool = [] in l) p ≡ no_pool
 unfolding pool_in
 pool_in-none p = elim (cases_eq p 0) [ inl z ↦ grind (arith, nat_tests, z) | inr z ↦ grind (arith, nat_tests, z) ]
 
