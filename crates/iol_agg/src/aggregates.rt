@@ -9,7 +9,9 @@ ghost use Rattle.iol_arena.specs.Chunks.{free_pages};
 ghost use Rattle.iol_pool.specs.Pools.{pool_in};
 ghost use Rattle.iol_hold.specs.Moves.{Moves, Covers, SameLists};
 ghost use Rattle.iol_hold.specs.Places.{byte_len};
+ghost use Rattle.iol_hold.specs.Releases.{FreesOnly};
 ghost use Rattle.iol_hold.specs.Room.{has_room};
+ghost use Rattle.iol_hold.specs.Stored.{AllSettled};
 ghost use Rattle.iol_hold.specs.Texts.{text_of, bufs_of, AllReadable, IsFilled};
 ghost use Rattle.iol_agg.specs.Parts.{parts_of, whole_texts};
 
@@ -145,6 +147,8 @@ impl Agg {
         requires { Covers store.old (bufs_of self) }
         ensures moves { Moves store.old store.new (bufs_of self) [] }
         ensures lists { SameLists store.old store.new }
+        ensures frees { FreesOnly store.old store.new }
+        ensures settles { AllReadable store.old self → AllSettled store.old → AllSettled store.new }
     {
         let mut slices = self.slices;
         while let Some(slice) = slices.pop() {

@@ -7,7 +7,9 @@ ghost use Rattle.std.specs.Vec.{vec_capacity};
 ghost use Rattle.iol_core.specs.declared.numbers.BufId.{BufId};
 ghost use Rattle.iol_hold.specs.Moves.{same, tally, Shares, Moves, SameLists, Covers, IsCountable};
 ghost use Rattle.iol_hold.specs.Places.{slice_places, places, byte_len};
-ghost use Rattle.iol_hold.specs.Texts.{bufs_of};
+ghost use Rattle.iol_hold.specs.Releases.{FreesOnly};
+ghost use Rattle.iol_hold.specs.Stored.{AllSettled};
+ghost use Rattle.iol_hold.specs.Texts.{bufs_of, AllReadable};
 ghost use Rattle.iol_pipe.specs.Queue.{first_pool, may_see};
 
 use iol_agg::Agg;
@@ -119,6 +121,8 @@ impl Pipe {
         ensures empty { self.new ≡ [] }
         ensures moves { Moves store.old store.new (bufs_of self.old) [] }
         ensures lists { SameLists store.old store.new }
+        ensures frees { FreesOnly store.old store.new }
+        ensures settles { AllReadable store.old self.old → AllSettled store.old → AllSettled store.new }
     {
         give_up_all(&mut self.queue, store);
         self.len = 0;
@@ -131,6 +135,8 @@ fn give_up_all(queue: &mut VecDeque<Slice>, store: &mut Store)
     ensures empty { queue.new.items ≡ [] }
     ensures moves { Moves store.old store.new (bufs_of queue.old.items) [] }
     ensures lists { SameLists store.old store.new }
+    ensures frees { FreesOnly store.old store.new }
+    ensures settles { AllReadable store.old queue.old.items → AllSettled store.old → AllSettled store.new }
 {
     while let Some(slice) = queue.pop_back() {
         slice.release(store);
