@@ -1,11 +1,13 @@
 //! Aggregates.
-ghost use Rattle.std.specs.Prelude.{◌≡◌, ℕ, ◌+◌, ◌<◌, ◌≤◌, ◌^◌, ◌↔◌, [], length, drop, map, true, false, Err, IsTrue, IfOk, IfErr, OnOk, OnErr};
+ghost use Rattle.std.specs.Prelude.{◌≡◌, ℕ, ◌+◌, ◌<◌, ◌≤◌, ◌^◌, ◌↔◌, [], length, take, drop, map, true, false, Err, IsTrue, IfOk, IfErr, OnOk, OnErr};
 ghost use Rattle.std.specs.List.{All};
 ghost use Rattle.std.specs.Vec.{vec_capacity};
 ghost use Rattle.iol_core.specs.Meaning.{WantOfRoom};
 ghost use Rattle.iol_core.specs.Text as text;
 ghost use Rattle.iol_arena.specs.State.{pages_for};
+ghost use Rattle.iol_arena.specs.Buffers.{Grows};
 ghost use Rattle.iol_arena.specs.Chunks.{free_pages};
+ghost use Rattle.iol_arena.specs.Pages.{IsSameBut, MadeOn};
 ghost use Rattle.iol_pool.specs.Pools.{pool_in};
 ghost use Rattle.iol_hold.specs.Moves.{Moves, Covers, SameLists};
 ghost use Rattle.iol_hold.specs.Places.{byte_len};
@@ -81,6 +83,10 @@ impl Agg {
         ensures text { IfOk result (λ a. text_of store.new a ≡ text.labelled pool bytes.now) }
         ensures readable { IfOk result (λ a. AllReadable store.new a) }
         ensures moves { IfOk result (λ a. Moves store.old store.new [] (bufs_of a)) }
+        ensures made_on { IfOk result (λ a. MadeOn store.old.arena store.new.arena (bufs_of a) (take (pages_for (length bytes.now)) (free_pages store.old.arena (pool_in store.old.pools pool).chunks))) }
+        ensures others { OnOk result (IsSameBut (take (pages_for (length bytes.now)) (free_pages store.old.arena (pool_in store.old.pools pool).chunks)) store.old.arena store.new.arena) }
+        ensures grows { OnOk result (Grows store.old.arena store.new.arena) }
+        ensures settles { AllSettled store.old → AllSettled store.new }
         ensures pools { store.new.pools ≡ store.old.pools }
         ensures lowest { OnOk result (free_pages store.new.arena (pool_in store.old.pools pool).chunks ≡ drop (pages_for (length bytes.now)) (free_pages store.old.arena (pool_in store.old.pools pool).chunks)) }
         ensures room { OnOk result (has_room store.old pool (length bytes.now) ≡ true) }

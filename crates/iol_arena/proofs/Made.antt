@@ -13,7 +13,8 @@ use Rattle.iol_arena.specs.declared.pages.Part.{Part}
 use Rattle.iol_core.specs.declared.numbers.BufId.{BufId}
 use Rattle.iol_arena.proofs.Each.{order, length-each_from, each_before, each_after, each_there, generation-each_from}
 use Rattle.iol_arena.proofs.Marks.{pages_some, pages_fit, pages_hold, published_before, published_after, length-published_entries}
-use Rattle.iol_arena.proofs.Steps.{all_after_mark, all_after_publish}
+use Rattle.iol_arena.proofs.Steps.{all_after_mark, all_after_publish, publish_step}
+use Rattle.std.proofs.lemmas.List.{take_all}
 use Rattle.iol_arena.proofs.Keeps.{published_first}
 use Rattle.iol_arena.proofs.Members.{In, in_left, in_right, in_either, in_range, range_in, in_rising, rising_range, rising_from, contains_in, in_contains}
 
@@ -415,3 +416,37 @@ module _ (s : State) (ps : List Part) (apart : AreApart 0 ps) (all : AreAll Pend
 
   pub unraised-abandoned : (q : ℕ) → generation_at (abandoned s ps) q ≡ generation_at s q
   unraised-abandoned q = ap (λ t. generation_at t q) (abandoned-is s ps) ∙ (became s 0 ps 0 q apart all).kept (λ h. subst (λ l. In (part_pages l) q) (needed-none ps) h)
+
+-- Buffers on parts whose pages are all needed, made one after another by something that writes bytes besides.
+
+pub entries_step : (s t : State) (p : Part) (ps : List Part) (n here m : ℕ) → 0 < n → here ≡ min n (p.count * 4096) → t.entries ≡ published_entries s.entries p here → m ≡ n - here
+    → (published t ps m).entries ≡ (published s (p ∷ ps) n).entries
+entries_step s t p ps n here m some is e left =
+    let one = published_part s p here in
+    entries-published t one ps m e ∙ ap (λ (x : State). x.entries) (publish_step s one p ps n here m some is refl left)
+
+module _ (s t : State) (ps : List Part) (n : ℕ) (bufs : List BufId) (apart : AreApart 0 ps) (all : AreAll Pending s.limit s.entries ps)
+    (is : t.entries ≡ (published s ps n).entries) (new : bufs ≡ new_bufs s.entries ps n) (long : length (part_pages ps) ≡ pages_for n) where
+  pub made_all : MadeOn s t bufs (part_pages ps)
+  made_all =
+      let whole : take (pages_for n) (part_pages ps) ≡ part_pages ps = take_all (pages_for n) (part_pages ps) (omega (arith, long)) in
+      subst (λ l. MadeOn s t bufs l) whole (subst (λ bs. MadeOn s t bs (take (pages_for n) (part_pages ps))) (sym new) (made_same is (made-published s ps n apart all)))
+
+  pub others_all : IsSameBut (part_pages ps) s t
+  others_all = same_but_trans (others-published s ps n apart all) (same_but_entries (part_pages ps) is)
+
+-- no bytes make no buffer
+pub made_none : (s : State) (pages : List ℕ) → MadeOn s s [] (take (pages_for 0) pages)
+made_none s pages =
+    let none : take (pages_for 0) pages ≡ [] = ap (λ k. take k pages) pages_none in
+    record {
+      runs = [];
+      apart = tt;
+      cover = sym none;
+      begun = refl;
+      whole = refl;
+      raises = record { raised = λ q h. absurd (in_contains [] q (subst (λ l. Contains l q) none h)); kept = λ q out. refl };
+    }
+
+pub same_but_none : (s : State) (pages : List ℕ) → IsSameBut pages s s
+same_but_none s pages = record { each = λ q out. refl }

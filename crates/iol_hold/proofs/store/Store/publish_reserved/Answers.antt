@@ -4,6 +4,8 @@ use Rattle.std.proofs.lemmas.List.Elements.{All-map}
 use Rattle.iol_core.specs.declared.numbers.BufId.{BufId}
 use Rattle.iol_arena.specs.Adds.{IsNew}
 use Rattle.iol_arena.specs.Buffers.{bytes_in}
+use Rattle.iol_arena.specs.State.{pages_for}
+use Rattle.iol_arena.specs.Pages.{MadeOn}
 use Rattle.iol_arena.specs.Parts.{new_bufs, part_bytes, part_pages}
 use Rattle.iol_arena.proofs.Members.{In, contains_in}
 use Rattle.iol_hold.specs.Filling.{IsHeld}
@@ -104,3 +106,10 @@ returns-clause-free c =
     let a = c.publish_reserved-bufs.new.self in
     let free : FreesNone s.arena a ps c.args.len = record { each = λ long q. ap (λ (x : State). usable x q) c.publish_reserved-bufs.ensures.arena ∙ usable-published s.arena 0 ps c.args.len held.pages.apart held.pages.pending long q } in
     subst (λ (x : Stored). FreesNone x.arena a ps c.args.len) c.self.view_is free
+
+pub returns-clause-made_on : goal.returns-clause-made_on
+returns-clause-made_on c =
+    let is = ap (map (λ (h : Buffer). h.buf)) c.new.ensures ∙ bufs-held_in c.args.reserved.pool c.publish_reserved-bufs.result.items in
+    let placed = take (pages_for c.args.len) (part_pages c.args.reserved.reservation.parts.items) in
+    let a = c.publish_reserved-bufs.new.self in
+    subst (λ bs. MadeOn c.args.self.now.arena a bs placed) (sym is) (subst (λ (x : Stored). MadeOn x.arena a c.publish_reserved-bufs.result.items placed) c.self.view_is c.publish_reserved-bufs.ensures.made_on)
