@@ -94,18 +94,30 @@ impl Agg {
         ensures late { IfErr result (WantOfRoom pool) }
         ensures err { OnErr result (store.new ≡ store.old) }
     {
-        let Ok(mut slices) = Vec::with_capacity(alloc, bytes.len().div_ceil(PAGE_BYTES)) else {
+        let Ok(slices) = Vec::with_capacity(alloc, bytes.len().div_ceil(PAGE_BYTES)) else {
             return Err(Refusal::Memory);
         };
         let holds = match store.fill(alloc, pool, bytes) {
             Ok(holds) => holds,
             Err(refusal) => return Err(refusal),
         };
+        Ok(Agg::of_holds(slices, store, holds))
+    }
+
+    /// The bytes of whole buffers, one after another, as slices in a list that has room for them. The holds become the
+    /// aggregate's. No memory is taken.
+    pub fn of_holds(slices: Vec<Slice>, store: &Store, holds: Holds) -> Agg
+        requires none { slices.items ≡ [] }
+        requires filled { All (IsFilled store.now) holds }
+        requires room { length holds ≤ vec_capacity slices }
+        requires small { length (whole_texts store.now holds) < 2 ^ 32 }
+        ensures text { text_of store.now result ≡ whole_texts store.now holds }
+        ensures readable { AllReadable store.now result }
+        ensures bufs { bufs_of result ≡ map (λ h. h.buf) holds }
+    {
+        let mut slices = slices;
         add_whole(&mut slices, store, holds);
-        Ok(Agg {
-            slices,
-            len: bytes.len() as u32,
-        })
+        Agg::from_slices(slices)
     }
 
     /// The number of bytes.

@@ -37,6 +37,13 @@ impl Slice {
         Slice { hold, from: 0, len }
     }
 
+    /// The identity of the buffer: its first page, with that page's generation. No other buffer ever has the same.
+    pub fn identity(&self) -> BufId
+        ensures { result ≡ self.now.hold.buf }
+    {
+        self.hold.buf()
+    }
+
     /// The same bytes, held once more.
     pub fn share(&self, store: &mut Store) -> Slice
         requires live { 0 < count_of store.old self.now.hold.buf }
