@@ -41,6 +41,17 @@ keeps_pages_frees frees = record {
   chunks = λ p was is. ap (λ (x : Pool). x.chunks) (frees.pools p was);
 }
 
+-- where pages are as they were, and pools that stay open have their chunks
+pub keeps_pages_entries : (s t : Stored) → t.arena.entries ≡ s.arena.entries → t.arena.limit ≡ s.arena.limit
+    → ((p : ℕ) → (pool_in s.pools p).closed ≡ false → (pool_in t.pools p).closed ≡ false → (pool_in t.pools p).chunks ≡ (pool_in s.pools p).chunks) → KeepsPages s t []
+keeps_pages_entries s t entries limit chunks = record {
+  count = ap length entries;
+  limit = limit;
+  raises = record { raised = λ q h. absurd (no_member q h); kept = λ q out. ap (λ (es : List Entry). (entry_in es q).generation) entries };
+  others = λ q out. inl (ap (λ (es : List Entry). (entry_in es q).kind) entries);
+  chunks = chunks;
+}
+
 -- after a placing on these pages
 pub keeps_pages_made : {s t : Stored} {bufs : List BufId} {placed : List ℕ} → MadeOn s.arena t.arena bufs placed → IsSameBut placed s.arena t.arena → Grows s.arena t.arena → t.pools ≡ s.pools → KeepsPages s t placed
 keeps_pages_made made others grows pools = record {

@@ -65,6 +65,10 @@ pub pool_in-closed : (ps : List Pool) (p q : ℕ) → (q ≡ p → ⊥) → pool
 unfolding with_closed
 pool_in-closed ps p q n = pool_in-other ps p q (record (pool_in ps p) { closed = true }) n
 
+pub closed-closed : (ps : List Pool) (p : ℕ) → is_numbered ps p ≡ true → (pool_in (with_closed ps p) p).closed ≡ true
+unfolding with_closed
+closed-closed ps p there = ap (λ (x : Pool). x.closed) (pool_in-there ps p (record (pool_in ps p) { closed = true }) there)
+
 -- a closed pool has its chunks
 pub chunks-closed : (ps : List Pool) (p q : ℕ) → is_numbered ps p ≡ true → (pool_in (with_closed ps p) q).chunks ≡ (pool_in ps q).chunks
 unfolding with_closed
@@ -145,6 +149,21 @@ unfolding with_emptied
 pool_in-settled s ps p q other = elim (bool_cases (goes_back s ps p)) [
   | inl e ↦ ap (λ (l : List Pool). pool_in l q) (settled-yes s ps p e) ∙ pool_in-other ps p q (record (pool_in ps p) { chunks = [] }) other
   | inr e ↦ ap (λ (l : List Pool). pool_in l q) (settled-no s ps p e)
+]
+
+-- a settled pool is closed as it was
+pub closed-settled : (s : State) (ps : List Pool) (p q : ℕ) → (pool_in (settled s ps p) q).closed ≡ (pool_in ps q).closed
+unfolding with_emptied
+closed-settled s ps p q = elim (cases_eq q p) [
+  | inr ne ↦ ap (λ (x : Pool). x.closed) (pool_in-settled s ps p q ne)
+  | inl e ↦ elim (bool_cases (is_numbered ps p)) [
+    | inr out ↦ ap (λ (l : List Pool). (pool_in l q).closed) (settled-nowhere s ps p out)
+    | inl there ↦ elim (bool_cases (goes_back s ps p)) [
+      | inr stays ↦ ap (λ (l : List Pool). (pool_in l q).closed) (settled-no s ps p stays)
+      | inl back ↦ ap (λ (l : List Pool). (pool_in l q).closed) (settled-yes s ps p back) ∙ ap (λ r. (pool_in (with_numbered ps p (record (pool_in ps p) { chunks = [] })) r).closed) e
+          ∙ ap (λ (x : Pool). x.closed) (pool_in-there ps p (record (pool_in ps p) { chunks = [] }) there) ∙ ap (λ r. (pool_in ps r).closed) (sym e)
+    ]
+  ]
 ]
 
 -- settling and closing change nothing but the chunks, and whether the pool is closed
@@ -295,6 +314,10 @@ owned_settled s ps p there o = record {
 }
 
 -- chunks taken for a new pool
+
+pub past_closed : (ps : List Pool) → (pool_in ps (length ps + 1)).closed ≡ true
+unfolding pool_in
+past_closed ps = let past = get_or_past ps (length ps + 1 - 1) no_pool (omega arith) in grind (arith, nat_tests, past)
 
 -- there is no pool past the last
 pub nowhere : (ps : List Pool) (c : ℕ) → Contains (pool_in ps (length ps + 1)).chunks c → ⊥
