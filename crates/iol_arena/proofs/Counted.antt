@@ -152,22 +152,3 @@ all_found s xs i need have is (inl all) = ap (λ l. take need (free_pages s l)) 
 all_found s xs i need have is (inr enough) =
     let whole = ap (λ l. filter (usable s) l) (sym (flat_map-append chunk_pages (take i xs) (drop i xs)) ∙ ap (λ l. flat_map chunk_pages l) (take-append-drop i xs)) in
     sym (take_full need (free_pages s (take i xs)) (free_pages s (drop i xs)) (omega arith)) ∙ ap (λ l. take need l) (sym (filter-append (usable s) (flat_map chunk_pages (take i xs)) (flat_map chunk_pages (drop i xs))) ∙ whole)
-
--- chunks that have no free page may be passed over
-pub free-skip : (s : State) (xs : List ℕ) (n : ℕ) → ((k : ℕ) → k < n → filter (usable s) (chunk_pages (get_or xs k 0)) ≡ []) → free_pages s (drop n xs) ≡ free_pages s xs
-free-skip s xs zero none = refl
-free-skip s [] (suc n) none = refl
-free-skip s (x ∷ xs) (suc n) none =
-    free-skip s xs n (λ k h. none (suc k) (omega arith)) ∙ sym (filter-append (usable s) (chunk_pages x) (flat_map chunk_pages xs) ∙ ap (λ l. l ++ free_pages s xs) (none 0 (omega arith)))
-
-chunks_from : (low high n : ℕ) (cs : List ℕ) → low ≤ high → AreChunks high n cs → AreChunks low n cs
-chunks_from low high n [] h all = tt
-chunks_from low high n (c ∷ cs) h all = (omega (arith, all.0), all.1, all.2)
-
-pub chunks_drop : (low n k : ℕ) (cs : List ℕ) → AreChunks low n cs → AreChunks low n (drop k cs)
-chunks_drop low n zero cs all = all
-chunks_drop low n (suc k) [] all = tt
-chunks_drop low n (suc k) (c ∷ cs) all = chunks_from low (c + 1) n (drop k cs) (omega (arith, all.0)) (chunks_drop (c + 1) n k cs all.2)
-
-pub rest_is : (n : ℕ) (xs : List ℕ) → take (length xs - n) (drop n xs) ≡ drop n xs
-rest_is n xs = take_all (length xs - n) (drop n xs) (omega (arith, length-drop n xs))
