@@ -12,8 +12,8 @@ ghost use Rattle.iol_pool.specs.Pools.{pool_in};
 ghost use Rattle.iol_hold.specs.Moves.{Moves, Covers, SameLists};
 ghost use Rattle.iol_hold.specs.Places.{byte_len};
 ghost use Rattle.iol_hold.specs.Releases.{FreesOnly};
-ghost use Rattle.iol_hold.specs.Room.{has_room};
-ghost use Rattle.iol_hold.specs.Stored.{AllSettled};
+ghost use Rattle.iol_hold.specs.Room.{has_room, lowest_of, others_of};
+ghost use Rattle.iol_hold.specs.Stored.{AllSettled, held_bufs};
 ghost use Rattle.iol_hold.specs.Texts.{text_of, bufs_of, AllReadable, IsFilled};
 ghost use Rattle.iol_agg.specs.Parts.{parts_of, whole_texts};
 
@@ -83,14 +83,18 @@ impl Agg {
         ensures text { IfOk result (λ a. text_of store.new a ≡ text.labelled pool bytes.now) }
         ensures readable { IfOk result (λ a. AllReadable store.new a) }
         ensures moves { IfOk result (λ a. Moves store.old store.new [] (bufs_of a)) }
-        ensures made_on { IfOk result (λ a. MadeOn store.old.arena store.new.arena (bufs_of a) (take (pages_for (length bytes.now)) (free_pages store.old.arena (pool_in store.old.pools pool).chunks))) }
-        ensures others { OnOk result (IsSameBut (take (pages_for (length bytes.now)) (free_pages store.old.arena (pool_in store.old.pools pool).chunks)) store.old.arena store.new.arena) }
+        ensures made_on { IfOk result (λ a. MadeOn store.old.arena store.new.arena (bufs_of a)
+            (lowest_of store.old pool (length bytes.now))) }
+        ensures others { OnOk result (IsSameBut (lowest_of store.old pool (length bytes.now))
+            store.old.arena store.new.arena) }
         ensures grows { OnOk result (Grows store.old.arena store.new.arena) }
         ensures settles { AllSettled store.old → AllSettled store.new }
         ensures pools { store.new.pools ≡ store.old.pools }
-        ensures lowest { OnOk result (free_pages store.new.arena (pool_in store.old.pools pool).chunks ≡ drop (pages_for (length bytes.now)) (free_pages store.old.arena (pool_in store.old.pools pool).chunks)) }
+        ensures lowest { OnOk result (free_pages store.new.arena
+            (pool_in store.old.pools pool).chunks ≡ others_of store.old pool (length bytes.now)) }
         ensures room { OnOk result (has_room store.old pool (length bytes.now) ≡ true) }
-        ensures no_room { (p : ℕ) → result ≡ Err (Refusal.NoRoom p) → has_room store.old pool (length bytes.now) ≡ false }
+        ensures no_room { (p : ℕ) → result ≡ Err (Refusal.NoRoom p) →
+            has_room store.old pool (length bytes.now) ≡ false }
         ensures late { IfErr result (WantOfRoom pool) }
         ensures err { OnErr result (store.new ≡ store.old) }
     {
@@ -113,7 +117,7 @@ impl Agg {
         requires small { length (whole_texts store.now holds) < 2 ^ 32 }
         ensures text { text_of store.now result ≡ whole_texts store.now holds }
         ensures readable { AllReadable store.now result }
-        ensures bufs { bufs_of result ≡ map (λ h. h.buf) holds }
+        ensures bufs { bufs_of result ≡ held_bufs holds }
     {
         let mut slices = slices;
         add_whole(&mut slices, store, holds);
@@ -182,7 +186,7 @@ fn add_whole(slices: &mut Vec<Slice>, store: &Store, holds: Holds)
     requires room { length holds ≤ vec_capacity slices.old }
     ensures text { text_of store.now slices.new.items ≡ whole_texts store.now holds }
     ensures readable { AllReadable store.now slices.new.items }
-    ensures bufs { bufs_of slices.new.items ≡ map (λ h. h.buf) holds }
+    ensures bufs { bufs_of slices.new.items ≡ held_bufs holds }
 {
     let mut left = holds;
     while let Some(hold) = left.take_first() {

@@ -28,14 +28,14 @@ count_changed f g a (suc n) p same lo hi =
     let y = length-filter-cons g a rest in
     elim (cases_eq p a) [
       | inl e ↦ (
-        let z = ap length (filter_same g f rest (λ q i. same q (λ at. (let r = range_in (a + 1) n q i in omega (arith, r.0, at, e))))) in
-        let u = ap (λ k. one (f k)) e in
-        let v = ap (λ k. one (g k)) e in
-        omega (arith, x, y, z, u, v))
+          let z = ap length (filter_same g f rest (λ q i. same q (λ at. (let r = range_in (a + 1) n q i in omega (arith, r.0, at, e))))) in
+          let u = ap (λ k. one (f k)) e in
+          let v = ap (λ k. one (g k)) e in
+          omega (arith, x, y, z, u, v))
       | inr ne ↦ (
-        let z = ap one (same a (λ at. ne (sym at))) in
-        let r = count_changed f g (a + 1) n p same (above a p lo ne) (omega arith) in
-        omega (arith, x, y, z, r))
+          let z = ap one (same a (λ at. ne (sym at))) in
+          let r = count_changed f g (a + 1) n p same (above a p lo ne) (omega arith) in
+          omega (arith, x, y, z, r))
     ]
   where
     above : (a p : ℕ) → a ≤ p → (p ≡ a → ⊥) → a + 1 ≤ p
@@ -78,15 +78,15 @@ counted_set free limit es p e m old within there is = record {
       let same : (q : ℕ) → (q ≡ p → ⊥) → g q ≡ f q = λ q ne. ap (is_free limit) (get_or-set_other es p q e no_entry ne) in
       elim (cases_eq c (p / 16)) [
         | inl at ↦ (
-          let changed = count_changed f g (p / 16 * 16) 16 p same (omega arith) (omega arith) in
-          let here : one (g p) ≡ one (is_free limit e) = ap (λ x. one (is_free limit x)) (get_or-set_same es p e no_entry there) in
-          let was = old.each (p / 16) within in
-          let now : get_or (set free (p / 16) m) (p / 16) 0 ≡ m = get_or-set_same free (p / 16) m 0 within in
-          ap (λ k. get_or (set free (p / 16) m) k 0) at ∙ omega (arith, changed, here, was, now, is) ∙ ap (λ k. length (filter g (range_with_len (k * 16) 16))) (sym at))
+            let changed = count_changed f g (p / 16 * 16) 16 p same (omega arith) (omega arith) in
+            let here : one (g p) ≡ one (is_free limit e) = ap (λ x. one (is_free limit x)) (get_or-set_same es p e no_entry there) in
+            let was = old.each (p / 16) within in
+            let now : get_or (set free (p / 16) m) (p / 16) 0 ≡ m = get_or-set_same free (p / 16) m 0 within in
+            ap (λ k. get_or (set free (p / 16) m) k 0) at ∙ omega (arith, changed, here, was, now, is) ∙ ap (λ k. length (filter g (range_with_len (k * 16) 16))) (sym at))
         | inr ne ↦ (
-          let out = get_or-set_other free (p / 16) c m 0 ne in
-          let was = old.each c (omega (arith, h, length-set free (p / 16) m)) in
-          out ∙ was ∙ sym (ap length (filter_same g f (range_with_len (c * 16) 16) (λ q i. same q (λ at. (let r = range_in (c * 16) 16 q i in ne (omega (arith, r.0, r.1, at))))))))
+            let out = get_or-set_other free (p / 16) c m 0 ne in
+            let was = old.each c (omega (arith, h, length-set free (p / 16) m)) in
+            out ∙ was ∙ sym (ap length (filter_same g f (range_with_len (c * 16) 16) (λ q i. same q (λ at. (let r = range_in (c * 16) 16 q i in ne (omega (arith, r.0, r.1, at))))))))
       ];
 }
 

@@ -77,19 +77,19 @@ cover (p ∷ ps) (suc n) =
     let left : ℕ = suc n - p.count * 4096 in
     elim (first_case n p.count) [
       | inl few ↦ (
-        let k : pages_for here ≡ pages_for (suc n) = ap pages_for few.1 in
-        let fit = pages_fit (suc n) p.count (omega (arith, few.0)) in
-        ap (λ m. range_with_len p.first (pages_for here) ++ part_pages (needed ps m)) few.2
-        ∙ ap (λ l. range_with_len p.first (pages_for here) ++ part_pages l) (needed-none ps)
-        ∙ append-none (range_with_len p.first (pages_for here))
-        ∙ ap (range_with_len p.first) k
-        ∙ sym (take-range_less (pages_for (suc n)) p.first p.count (part_pages ps) fit))
+          let k : pages_for here ≡ pages_for (suc n) = ap pages_for few.1 in
+          let fit = pages_fit (suc n) p.count (omega (arith, few.0)) in
+          ap (λ m. range_with_len p.first (pages_for here) ++ part_pages (needed ps m)) few.2
+          ∙ ap (λ l. range_with_len p.first (pages_for here) ++ part_pages l) (needed-none ps)
+          ∙ append-none (range_with_len p.first (pages_for here))
+          ∙ ap (range_with_len p.first) k
+          ∙ sym (take-range_less (pages_for (suc n)) p.first p.count (part_pages ps) fit))
       | inr many ↦ (
-        let k : pages_for here ≡ p.count = ap pages_for many.1 ∙ pages_whole p.count in
-        ap (λ m. range_with_len p.first m ++ part_pages (needed ps left)) k
-        ∙ ap (λ l. range_with_len p.first p.count ++ l) (cover ps left)
-        ∙ sym (take-range_more p.count (pages_for left) p.first (part_pages ps))
-        ∙ ap (λ m. take m (part_pages (p ∷ ps))) (sym (pages_split (suc n) p.count many.0)))
+          let k : pages_for here ≡ p.count = ap pages_for many.1 ∙ pages_whole p.count in
+          ap (λ m. range_with_len p.first m ++ part_pages (needed ps left)) k
+          ∙ ap (λ l. range_with_len p.first p.count ++ l) (cover ps left)
+          ∙ sym (take-range_more p.count (pages_for left) p.first (part_pages ps))
+          ∙ ap (λ m. take m (part_pages (p ∷ ps))) (sym (pages_split (suc n) p.count many.0)))
     ]
 
 -- the runs are apart as the parts are
@@ -100,8 +100,7 @@ needed_apart low (p ∷ ps) (suc n) apart =
     let here : ℕ = min (suc n) (p.count * 4096) in
     let left : ℕ = suc n - p.count * 4096 in
     let some : 0 < here = omega (arith, apart.0.some) in
-    let fit = pages_fit here p.count (omega arith) in
-    (
+    let fit = pages_fit here p.count (omega arith) in (
       record { rising = apart.0.rising; some = pages_some here some; chunk = omega (arith, apart.0.chunk, fit); apart = apart.0.apart },
       elim (first_case n p.count) [
         | inl few ↦ subst (λ l. AreApart (p.first + pages_for here) l) (sym (ap (needed ps) few.2 ∙ needed-none ps)) tt
@@ -223,8 +222,8 @@ became_dropped s p ps low q t apart all limit rest =
       out = λ h. rest.out (λ k. h (in_right (range_with_len p.first p.count) (part_pages ps) q k)) ∙ away (λ k. h (in_left (range_with_len p.first p.count) (part_pages ps) q k));
       back = λ h k. elim (in_either (range_with_len p.first p.count) (part_pages ps) q h) [
         | inl a ↦ (
-          let r = range_in p.first p.count q a in
-          ap (λ (e : Entry). is_free t.limit e) (rest.out (near a) ∙ here r.0 r.1) ∙ ap (λ l. is_free l (marked Free 0 (entry_at s q))) limit ∙ usable_left s.limit (entry_at s q) (all.0.below q r.0 r.1))
+            let r = range_in p.first p.count q a in
+            ap (λ (e : Entry). is_free t.limit e) (rest.out (near a) ∙ here r.0 r.1) ∙ ap (λ l. is_free l (marked Free 0 (entry_at s q))) limit ∙ usable_left s.limit (entry_at s q) (all.0.below q r.0 r.1))
         | inr a ↦ rest.back a none
       ];
     }
@@ -263,11 +262,11 @@ became_filled s p ps low n q t apart all limit rest =
       out = λ h. rest.out (λ j. h (in_right pages (part_pages ps) q j)) ∙ part_out s p here all.0 some fit q (λ j. h (in_left pages (part_pages ps) q j));
       back = λ h j. elim (in_either pages (part_pages ps) q h) [
         | inl a ↦ (
-          let r = range_in p.first p.count q a in
-          elim (cases_lt q (p.first + k)) [
-            | inl c ↦ absurd (j (in_left run others q (in_range p.first k q r.0 c)))
-            | inr c ↦ ap (λ (e : Entry). is_free t.limit e) (rest.out (near a) ∙ part_left s p here all.0 some fit q c r.1) ∙ ap (λ l. is_free l (marked Free 0 (entry_at s q))) limit ∙ usable_left s.limit (entry_at s q) (all.0.below q r.0 r.1)
-          ])
+            let r = range_in p.first p.count q a in
+            elim (cases_lt q (p.first + k)) [
+              | inl c ↦ absurd (j (in_left run others q (in_range p.first k q r.0 c)))
+              | inr c ↦ ap (λ (e : Entry). is_free t.limit e) (rest.out (near a) ∙ part_left s p here all.0 some fit q c r.1) ∙ ap (λ l. is_free l (marked Free 0 (entry_at s q))) limit ∙ usable_left s.limit (entry_at s q) (all.0.below q r.0 r.1)
+            ])
         | inr a ↦ rest.back a (λ i. j (in_right run others q i))
       ];
     }

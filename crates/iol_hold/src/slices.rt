@@ -80,7 +80,8 @@ impl Slice {
         requires { 0 < count_of store.old self.hold.buf }
         ensures moves { Moves store.old store.new (self.hold.buf ∷ []) [] }
         ensures frees { FreesOnly store.old store.new }
-        ensures settles { IsHome store.old self.hold.pool self.hold.buf → AllSettled store.old → AllSettled store.new }
+        ensures settles { IsHome store.old self.hold.pool self.hold.buf → AllSettled store.old →
+            AllSettled store.new }
         ensures lists { SameLists store.old store.new }
     {
         store.release(self.hold);

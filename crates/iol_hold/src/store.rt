@@ -44,7 +44,8 @@ impl Store {
     pub fn new(alloc: Global, config: Config) -> Result<Store, Refusal>
         ensures range { (result ≡ Err Refusal.BadRange) ↔ (IsInRange config → ⊥) }
         ensures errors { IfErr result (λ e. (e ≡ Refusal.BadRange) ⊎ (e ≡ Refusal.Memory)) }
-        ensures entries { IfOk result (λ s. s.arena.entries ≡ replicate (config.chunks * 16) no_entry) }
+        ensures entries { IfOk result (λ s. s.arena.entries ≡
+            replicate (config.chunks * CHUNK_PAGES) no_entry) }
         ensures taken { IfOk result (λ s. s.arena.taken ≡ replicate config.chunks false) }
         ensures limit { IfOk result (λ s. s.arena.limit ≡ config.gen_limit) }
         ensures pools { IfOk result (λ s. s.pools ≡ []) }
@@ -110,7 +111,8 @@ impl Store {
         ensures moves { Moves self.old self.new (buf ∷ []) [] }
         ensures pools { self.new.pools ≡ self.old.pools }
         ensures frees { FreesOnly self.old self.new }
-        ensures others { (p : ℕ) → IsHome self.old p buf → AllSettled self.old → AllSettledBut p self.new }
+        ensures others { (p : ℕ) → IsHome self.old p buf → AllSettled self.old →
+            AllSettledBut p self.new }
         ensures tidy { IsTidy self.new }
     {
         self.arena.free(buf);
@@ -136,7 +138,8 @@ impl Store {
         ensures frees { FreesOnly self.old self.new }
         ensures lists { SameLists self.old self.new }
         ensures settled { count_of self.old hold.buf ≡ 1 → IsSettled self.new hold.pool }
-        ensures settles { IsHome self.old hold.pool hold.buf → AllSettled self.old → AllSettled self.new }
+        ensures settles { IsHome self.old hold.pool hold.buf → AllSettled self.old →
+            AllSettled self.new }
     {
         let buf = hold.buf();
         let count = self.count_at(buf);

@@ -76,9 +76,12 @@ impl Pipe {
     pub fn push(&mut self, store: &mut Store, from: &Agg) -> Result<u32, AllocError>
         requires covered { Covers store.old (bufs_of from.now) }
         requires countable { IsCountable store.old (bufs_of from.now) }
-        ensures taken { IfOk result (λ n. n ≡ min (byte_len from.now) (MAX_QUEUE_BYTES - byte_len self.old)) }
-        ensures places { IfOk result (λ n. places self.new ≡ places self.old ++ take n (places from.now)) }
-        ensures shares { OnOk result (Shares store.old store.new (bufs_of self.old) (bufs_of self.new)) }
+        ensures taken { IfOk result (λ n. n ≡
+            min (byte_len from.now) (MAX_QUEUE_BYTES - byte_len self.old)) }
+        ensures places { IfOk result (λ n. places self.new ≡ places self.old ++
+            take n (places from.now)) }
+        ensures shares { OnOk result (Shares store.old store.new (bufs_of self.old)
+            (bufs_of self.new)) }
         ensures err { OnErr result (self.new ≡ self.old) }
         ensures err_store { OnErr result (store.new ≡ store.old) }
     {
@@ -101,9 +104,11 @@ impl Pipe {
     ) -> Result<Agg, AllocError>
         requires covered { Covers store.old (bufs_of self.old) }
         requires countable { IsCountable store.old (bufs_of self.old) }
-        ensures given { IfOk result (λ a. places a ≡ take_while (may_see store.old.pools d) (take n (places self.old))) }
+        ensures given { IfOk result (λ a. places a ≡
+            take_while (may_see store.old.pools d) (take n (places self.old))) }
         ensures rest { IfOk result (λ a. places self.new ≡ drop (byte_len a) (places self.old)) }
-        ensures shares { IfOk result (λ a. Shares store.old store.new (bufs_of self.old) (bufs_of a ++ bufs_of self.new)) }
+        ensures shares { IfOk result (λ a.
+            Shares store.old store.new (bufs_of self.old) (bufs_of a ++ bufs_of self.new)) }
         ensures err { OnErr result (self.new ≡ self.old) }
         ensures err_store { OnErr result (store.new ≡ store.old) }
     {
@@ -122,7 +127,8 @@ impl Pipe {
         ensures moves { Moves store.old store.new (bufs_of self.old) [] }
         ensures lists { SameLists store.old store.new }
         ensures frees { FreesOnly store.old store.new }
-        ensures settles { AllReadable store.old self.old → AllSettled store.old → AllSettled store.new }
+        ensures settles { AllReadable store.old self.old → AllSettled store.old →
+            AllSettled store.new }
     {
         give_up_all(&mut self.queue, store);
         self.len = 0;
@@ -136,7 +142,8 @@ fn give_up_all(queue: &mut VecDeque<Slice>, store: &mut Store)
     ensures moves { Moves store.old store.new (bufs_of queue.old.items) [] }
     ensures lists { SameLists store.old store.new }
     ensures frees { FreesOnly store.old store.new }
-    ensures settles { AllReadable store.old queue.old.items → AllSettled store.old → AllSettled store.new }
+    ensures settles { AllReadable store.old queue.old.items → AllSettled store.old →
+        AllSettled store.new }
 {
     while let Some(slice) = queue.pop_back() {
         slice.release(store);
@@ -149,7 +156,8 @@ fn add_prefix(queue: &mut VecDeque<Slice>, store: &mut Store, slices: &[Slice], 
     requires covered { Covers store.old (bufs_of slices.now) }
     requires countable { IsCountable store.old (bufs_of slices.now) }
     ensures places { places queue.new.items ≡ places queue.old.items ++ take n (places slices.now) }
-    ensures shares { Shares store.old store.new (bufs_of queue.old.items) (bufs_of queue.new.items) }
+    ensures shares { Shares store.old store.new (bufs_of queue.old.items)
+        (bufs_of queue.new.items) }
 {
     let mut left = n;
     for slice in slices {
@@ -174,9 +182,11 @@ fn take_prefix(
     requires room { min (length queue.old.items) n ≤ vec_capacity out.old }
     requires covered { Covers store.old (bufs_of queue.old.items) }
     requires countable { IsCountable store.old (bufs_of queue.old.items) }
-    ensures given { places out.new.items ≡ take_while (may_see store.old.pools d) (take n (places queue.old.items)) }
+    ensures given { places out.new.items ≡
+        take_while (may_see store.old.pools d) (take n (places queue.old.items)) }
     ensures whole { places out.new.items ++ places queue.new.items ≡ places queue.old.items }
-    ensures shares { Shares store.old store.new (bufs_of queue.old.items) (bufs_of out.new.items ++ bufs_of queue.new.items) }
+    ensures shares { Shares store.old store.new (bufs_of queue.old.items)
+        (bufs_of out.new.items ++ bufs_of queue.new.items) }
 {
     let mut left = n;
     while left > 0 {
@@ -201,9 +211,13 @@ fn take_first(queue: &mut VecDeque<Slice>, store: &mut Store, most: u32) -> Slic
     ensures places { slice_places result ++ places queue.new.items ≡ places queue.old.items }
     ensures pool { (x : Slice) → result.hold.pool ≡ (slice_index_or queue.old.items 0 x).hold.pool }
     ensures len { result.len ≤ most }
-    ensures fewer { min (length queue.new.items) (most - result.len) + 1 ≤ min (length queue.old.items) most }
-    ensures shares { Shares store.old store.new (bufs_of queue.old.items) (result.hold.buf ∷ bufs_of queue.new.items) }
-    ensures whole { result.len < most → (b : BufId) → same b result.hold.buf + tally b (bufs_of queue.new.items) ≤ tally b (bufs_of queue.old.items) }
+    ensures fewer { min (length queue.new.items) (most - result.len) + 1 ≤ min
+        (length queue.old.items) most }
+    ensures shares { Shares store.old store.new (bufs_of queue.old.items)
+        (result.hold.buf ∷ bufs_of queue.new.items) }
+    ensures whole { result.len < most → (b : BufId) →
+        same b result.hold.buf + tally b (bufs_of queue.new.items) ≤ tally b
+        (bufs_of queue.old.items) }
 {
     let Some(first) = queue.pop_front() else {
         unreachable!();

@@ -197,7 +197,8 @@ impl Pools {
     /// Whether each of these pools names the domain; else the first that does not.
     pub fn admits(&self, pools: &[PoolId], d: DomainId) -> Result<(), PoolId>
         ensures ok { OnOk result (find (λ p. not (names_in self.now p d)) pools.now ≡ None) }
-        ensures first { IfErr result (λ p. find (λ p. not (names_in self.now p d)) pools.now ≡ Some p) }
+        ensures first { IfErr result
+            (λ p. find (λ p. not (names_in self.now p d)) pools.now ≡ Some p) }
     {
         for p in pools {
             if !self.names(*p, d) {
@@ -291,9 +292,10 @@ impl Pools {
         requires there { is_numbered self.now p ≡ true }
         requires owned { AreOwned arena.now self.now }
         ensures pool { result.pool ≡ p }
-        ensures pages { result.pages ≡ 16 * length (pool_in self.now p).chunks }
+        ensures pages { result.pages ≡ CHUNK_PAGES * length (pool_in self.now p).chunks }
         ensures free { result.free ≡ length (free_pages arena.now (pool_in self.now p).chunks) }
-        ensures retired { result.retired ≡ length (retired_pages arena.now (pool_in self.now p).chunks) }
+        ensures retired { result.retired ≡
+            length (retired_pages arena.now (pool_in self.now p).chunks) }
     {
         let chunks = self.chunks(p).as_slice();
         let _few = arena.chunk_count();
