@@ -131,6 +131,7 @@ impl Agg {
         self.len
     }
 
+    /// Whether there is no byte.
     pub fn is_empty(&self) -> bool
         ensures { IsTrue result ↔ (byte_len self.now ≡ 0) }
     {
@@ -164,7 +165,7 @@ impl Agg {
         Ok(bytes)
     }
 
-    /// Gives all holds up.
+    /// Releases all holds.
     pub fn release(self, store: &mut Store)
         requires { Covers store.old (bufs_of self) }
         ensures moves { Moves store.old store.new (bufs_of self) [] }

@@ -12,7 +12,7 @@ use Rattle.iol_arena.proofs.Marks.{pages_some}
 use Rattle.iol_arena.proofs.Each.{order, each_before, each_after, each_there}
 use Rattle.iol_hold.specs.Stored.{Stored, count_of, with_arena}
 use Rattle.iol_hold.specs.Moves.{tally, Counts}
-use Rattle.iol_pool.specs.Pools.{Pool, pool_in, goes_back, with_given, settled, settled_arena}
+use Rattle.iol_pool.specs.Pools.{Pool, pool_in, goes_back, with_returned, settled, settled_arena}
 use Rattle.iol_pool.proofs.Owning.{settled-no, pool_in-settled}
 use Rattle.std.specs.List.{list_all}
 use Rattle.iol_arena.specs.Chunks.{is_unused}
@@ -115,11 +115,11 @@ frees_one s b runs after live = record {
 -- chunks that go back leave pages as they are
 pub settled_entries : (s : State) (ps : List Pool) (p : ℕ) → (settled_arena s ps p).entries ≡ s.entries
 unfolding settled_arena
-settled_entries s ps p = elim (goes_back s ps p) as (λ b. ◌≡◌ {A = List Entry} (cond b (with_given s (pool_in ps p).chunks) s).entries s.entries) [ true ↦ refl | false ↦ refl ]
+settled_entries s ps p = elim (goes_back s ps p) as (λ b. ◌≡◌ {A = List Entry} (cond b (with_returned s (pool_in ps p).chunks) s).entries s.entries) [ true ↦ refl | false ↦ refl ]
 
 pub settled_limit : (s : State) (ps : List Pool) (p : ℕ) → (settled_arena s ps p).limit ≡ s.limit
 unfolding settled_arena
-settled_limit s ps p = elim (goes_back s ps p) as (λ b. ◌≡◌ {A = ℕ} (cond b (with_given s (pool_in ps p).chunks) s).limit s.limit) [ true ↦ refl | false ↦ refl ]
+settled_limit s ps p = elim (goes_back s ps p) as (λ b. ◌≡◌ {A = ℕ} (cond b (with_returned s (pool_in ps p).chunks) s).limit s.limit) [ true ↦ refl | false ↦ refl ]
 
 pub open_settled : (s : State) (ps : List Pool) (p q : ℕ) → (pool_in ps q).closed ≡ false → pool_in (settled s ps p) q ≡ pool_in ps q
 open_settled s ps p q is = elim (cases_eq q p) [

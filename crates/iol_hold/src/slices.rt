@@ -75,7 +75,7 @@ impl Slice {
         }
     }
 
-    /// Gives the hold up.
+    /// Releases the hold: see [`Store::release`].
     pub fn release(self, store: &mut Store)
         requires { 0 < count_of store.old self.hold.buf }
         ensures moves { Moves store.old store.new (self.hold.buf ∷ []) [] }

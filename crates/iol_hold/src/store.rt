@@ -118,7 +118,7 @@ impl Store {
         self.arena.free(buf);
     }
 
-    // Gives the chunks of a closed pool back, if nothing stands on them.
+    // Returns the chunks of a closed pool, if nothing stands on them.
     fn settle(&mut self, pool: PoolId)
         ensures moves { Moves self.old self.new [] [] }
         ensures lists { SameLists self.old self.new }
@@ -130,8 +130,8 @@ impl Store {
         self.pools.settle(&mut self.arena, pool);
     }
 
-    /// Gives a hold up. With the last one the buffer's pages are free at once, and the chunks of a closed pool go back
-    /// if nothing else lies in them.
+    /// Releases a hold. With the last one the buffer's pages are free at once, and the chunks of a closed pool are
+    /// returned if nothing else lies in them.
     pub fn release(&mut self, hold: Hold)
         requires { 0 < count_of self.old hold.buf }
         ensures moves { Moves self.old self.new (hold.buf ∷ []) [] }

@@ -1,4 +1,16 @@
-//! Pipes: bounded queues of bytes, as slices.
+//! Pipes: queues of at most 65,536 bytes, as slices.
+//!
+//! A pipe holds the buffer of each slice that waits in it. What is pushed is shared, and what is taken off moves: no
+//! byte is copied.
+//!
+//! The contract. `push` (`taken`: the longest prefix that fits; `places`, `shares`, `err`), `front` (`given`: the longest
+//! prefix of at most n bytes whose pools all name the domain; `rest`, `shares`, `err`), `clear` (`moves`, `frees`,
+//! `settles`), `len`, `is_empty`, `first_pool`. The words are in `specs/Queue` and iol_hold's.
+//!
+//! ```
+//! let taken = pipe.push(&mut store, &agg)?;
+//! let read = pipe.front(alloc, &mut store, taken, reader)?;
+//! ```
 #![tactic(auto)]
 
 ghost use Rattle.std.specs.Prelude.{◌≡◌, ◌+◌, ◌-◌, ◌<◌, ◌≤◌, ◌↔◌, min, [], ◌∷◌, ◌++◌, length, take, drop, take_while, slice_index_or, IsTrue, IfOk, OnOk, OnErr};
@@ -58,6 +70,7 @@ impl Pipe {
         self.len
     }
 
+    /// Whether no byte waits.
     pub fn is_empty(&self) -> bool
         ensures { IsTrue result ↔ (byte_len self.now ≡ 0) }
     {
@@ -94,7 +107,7 @@ impl Pipe {
         Ok(taken)
     }
 
-    /// Takes off and gives the longest prefix of at most `n` bytes whose pools all name the domain.
+    /// Takes off the longest prefix of at most `n` bytes whose pools all name the domain.
     pub fn front(
         &mut self,
         alloc: Global,
@@ -120,7 +133,7 @@ impl Pipe {
         Ok(given)
     }
 
-    /// Gives all holds up: no byte waits any more.
+    /// Releases all holds: no byte waits any more.
     pub fn clear(&mut self, store: &mut Store)
         requires { Covers store.old (bufs_of self.old) }
         ensures empty { self.new ≡ [] }
@@ -130,13 +143,13 @@ impl Pipe {
         ensures settles { AllReadable store.old self.old → AllSettled store.old →
             AllSettled store.new }
     {
-        give_up_all(&mut self.queue, store);
+        release_all(&mut self.queue, store);
         self.len = 0;
     }
 }
 
-// Gives all holds up.
-fn give_up_all(queue: &mut VecDeque<Slice>, store: &mut Store)
+// Releases all holds.
+fn release_all(queue: &mut VecDeque<Slice>, store: &mut Store)
     requires { Covers store.old (bufs_of queue.old.items) }
     ensures empty { queue.new.items ≡ [] }
     ensures moves { Moves store.old store.new (bufs_of queue.old.items) [] }

@@ -13,9 +13,9 @@ use Rattle.iol_arena.specs.State.{State, chunk_count, generation_at}
 use Rattle.iol_arena.specs.Buffers.{IsLive, Keeps, bytes_of}
 use Rattle.iol_arena.specs.Chunks.{TakesChunks, all_taken, free_chunks, is_taken, is_untaken}
 use Rattle.iol_arena.proofs.Good.{bool_cases}
-use Rattle.iol_arena.proofs.Giving.{taken_in, taken_out, taken_stays}
+use Rattle.iol_arena.proofs.Taking.{taken_in, taken_out, taken_stays}
 use Rattle.iol_arena.proofs.Members.{In, in_contains, contains_in, in_or_out, in_passes, in_take}
-use Rattle.iol_pool.specs.Pools.{Pool, no_pool, pool_in, with_closed, with_emptied, all_given, with_given, goes_back, settled, settled_arena}
+use Rattle.iol_pool.specs.Pools.{Pool, no_pool, pool_in, with_closed, with_emptied, all_returned, with_returned, goes_back, settled, settled_arena}
 use Rattle.iol_pool.specs.Owned.{AreOwned}
 
 -- Pools by number.
@@ -89,9 +89,9 @@ emptied ps p q c there h = elim (cases_eq q p) [
   | inr n ↦ (n, subst (λ (x : Pool). Contains x.chunks c) (pool_in-other ps p q (record (pool_in ps p) { chunks = [] }) n) h)
 ]
 
-pub length-all_given : (taken : List Bool) (cs : List ℕ) → length (all_given taken cs) ≡ length taken
-length-all_given taken [] = refl
-length-all_given taken (c ∷ cs) = length-all_given (set taken c false) cs ∙ length-set taken c false
+pub length-all_returned : (taken : List Bool) (cs : List ℕ) → length (all_returned taken cs) ≡ length taken
+length-all_returned taken [] = refl
+length-all_returned taken (c ∷ cs) = length-all_returned (set taken c false) cs ∙ length-set taken c false
 
 -- a number of no pool
 set_past : (ps : List Pool) (i : ℕ) (x : Pool) → length ps ≤ i → set ps i x ≡ ps
@@ -126,7 +126,7 @@ pub settled_arena-no : (s : State) (ps : List Pool) (p : ℕ) → goes_back s ps
 unfolding settled_arena
 settled_arena-no s ps p out = rw out refl
 
-pub settled_arena-yes : (s : State) (ps : List Pool) (p : ℕ) → goes_back s ps p ≡ true → settled_arena s ps p ≡ with_given s (pool_in ps p).chunks
+pub settled_arena-yes : (s : State) (ps : List Pool) (p : ℕ) → goes_back s ps p ≡ true → settled_arena s ps p ≡ with_returned s (pool_in ps p).chunks
 unfolding settled_arena
 settled_arena-yes s ps p back = rw back refl
 
@@ -139,7 +139,7 @@ settled-nowhere s ps p out = elim (bool_cases (goes_back s ps p)) [
 
 pub settled_arena-nowhere : (s : State) (ps : List Pool) (p : ℕ) → is_numbered ps p ≡ false → settled_arena s ps p ≡ s
 settled_arena-nowhere s ps p out = elim (bool_cases (goes_back s ps p)) [
-  | inl e ↦ settled_arena-yes s ps p e ∙ ap (λ (x : Pool). with_given s x.chunks) (pool_in-nowhere ps p out)
+  | inl e ↦ settled_arena-yes s ps p e ∙ ap (λ (x : Pool). with_returned s x.chunks) (pool_in-nowhere ps p out)
   | inr e ↦ settled_arena-no s ps p e
 ]
 
@@ -230,7 +230,7 @@ keeps-settled s ps p = record {
 
 pub chunk_count-settled : (s : State) (ps : List Pool) (p : ℕ) → chunk_count (settled_arena s ps p) ≡ chunk_count s
 chunk_count-settled s ps p = elim (bool_cases (goes_back s ps p)) [
-  | inl e ↦ ap (λ (t : State). length t.taken) (settled_arena-yes s ps p e) ∙ length-all_given s.taken (pool_in ps p).chunks
+  | inl e ↦ ap (λ (t : State). length t.taken) (settled_arena-yes s ps p e) ∙ length-all_returned s.taken (pool_in ps p).chunks
   | inr e ↦ ap (λ (t : State). length t.taken) (settled_arena-no s ps p e)
 ]
 
@@ -277,13 +277,13 @@ all_owned s ps p o = λ k d h. o.within p (get_or (pool_in ps p).chunks k d) (Co
 
 -- chunks given back
 
-given_out : (taken : List Bool) (cs : List ℕ) (q : ℕ) → (In cs q → ⊥) → get_or (all_given taken cs) q true ≡ get_or taken q true
-given_out taken [] q out = refl
-given_out taken (c ∷ cs) q out = given_out (set taken c false) cs q (λ h. out (inr h)) ∙ get_or-set_other taken c q false true (λ e. out (inl e))
+returned_out : (taken : List Bool) (cs : List ℕ) (q : ℕ) → (In cs q → ⊥) → get_or (all_returned taken cs) q true ≡ get_or taken q true
+returned_out taken [] q out = refl
+returned_out taken (c ∷ cs) q out = returned_out (set taken c false) cs q (λ h. out (inr h)) ∙ get_or-set_other taken c q false true (λ e. out (inl e))
 
-given_stays : (taken : List Bool) (cs : List ℕ) (q : ℕ) → get_or taken q true ≡ false → get_or (all_given taken cs) q true ≡ false
-given_stays taken [] q h = h
-given_stays taken (c ∷ cs) q h = given_stays (set taken c false) cs q (elim (cases_eq q c) [
+returned_stays : (taken : List Bool) (cs : List ℕ) (q : ℕ) → get_or taken q true ≡ false → get_or (all_returned taken cs) q true ≡ false
+returned_stays taken [] q h = h
+returned_stays taken (c ∷ cs) q h = returned_stays (set taken c false) cs q (elim (cases_eq q c) [
   | inl e ↦ (let there : q < length taken = within taken q h in ap (λ k. get_or (set taken k false) q true) (sym e) ∙ get_or-set_same taken q false true there)
   | inr ne ↦ get_or-set_other taken c q false true ne ∙ h
 ])
@@ -294,21 +294,21 @@ given_stays taken (c ∷ cs) q h = given_stays (set taken c false) cs q (elim (c
       | inr ge ↦ (let past = get_or_past taken q true ge in let no : true ≡ false = sym past ∙ h in absurd (cc no))
     ]
 
-given_in : (taken : List Bool) (cs : List ℕ) (q : ℕ) → In cs q → q < length taken → get_or (all_given taken cs) q true ≡ false
-given_in taken [] q h lt = absurd h
-given_in taken (c ∷ cs) q (inl e) lt = given_stays (set taken c false) cs q (ap (λ k. get_or (set taken k false) q true) (sym e) ∙ get_or-set_same taken q false true lt)
-given_in taken (c ∷ cs) q (inr h) lt = given_in (set taken c false) cs q h (omega (arith, lt, length-set taken c false))
+returned_in : (taken : List Bool) (cs : List ℕ) (q : ℕ) → In cs q → q < length taken → get_or (all_returned taken cs) q true ≡ false
+returned_in taken [] q h lt = absurd h
+returned_in taken (c ∷ cs) q (inl e) lt = returned_stays (set taken c false) cs q (ap (λ k. get_or (set taken k false) q true) (sym e) ∙ get_or-set_same taken q false true lt)
+returned_in taken (c ∷ cs) q (inr h) lt = returned_in (set taken c false) cs q h (omega (arith, lt, length-set taken c false))
 
-pub owned_settled : (s : State) (ps : List Pool) (p : ℕ) → is_numbered ps p ≡ true → AreOwned s ps → AreOwned (with_given s (pool_in ps p).chunks) (with_emptied ps p)
+pub owned_settled : (s : State) (ps : List Pool) (p : ℕ) → is_numbered ps p ≡ true → AreOwned s ps → AreOwned (with_returned s (pool_in ps p).chunks) (with_emptied ps p)
 owned_settled s ps p there o = record {
-  within = λ q c h. omega (arith, o.within q c (emptied ps p q c there h).1, length-all_given s.taken (pool_in ps p).chunks);
-  taken = λ q c h. (let e = emptied ps p q c there h in given_out s.taken (pool_in ps p).chunks c (λ k. e.0 (o.single q p c e.1 (contains_in (pool_in ps p).chunks c k))) ∙ o.taken q c e.1);
+  within = λ q c h. omega (arith, o.within q c (emptied ps p q c there h).1, length-all_returned s.taken (pool_in ps p).chunks);
+  taken = λ q c h. (let e = emptied ps p q c there h in returned_out s.taken (pool_in ps p).chunks c (λ k. e.0 (o.single q p c e.1 (contains_in (pool_in ps p).chunks c k))) ∙ o.taken q c e.1);
   single = λ q r c h k. o.single q r c (emptied ps p q c there h).1 (emptied ps p r c there k).1;
   owner = λ c h is.
       let cs = (pool_in ps p).chunks in
-      let within : c < chunk_count s = omega (arith, h, length-all_given s.taken cs) in
-      let out : In cs c → ⊥ = λ k. (let no = given_in s.taken cs c k within in cc (no, is)) in
-      let w = o.owner c within (sym (given_out s.taken cs c out) ∙ is) in
+      let within : c < chunk_count s = omega (arith, h, length-all_returned s.taken cs) in
+      let out : In cs c → ⊥ = λ k. (let no = returned_in s.taken cs c k within in cc (no, is)) in
+      let w = o.owner c within (sym (returned_out s.taken cs c out) ∙ is) in
       let other : w.0 ≡ p → ⊥ = λ e. out (in_contains cs c (subst (λ q. Contains (pool_in ps q).chunks c) e w.1)) in
       (w.0, subst (λ l. Contains l c) (sym (chunks-emptied ps p w.0 other)) w.1);
 }

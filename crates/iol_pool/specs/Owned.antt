@@ -5,7 +5,7 @@ use Rattle.iol_arena.specs.State.{State, chunk_count}
 use Rattle.iol_arena.specs.Chunks.{is_taken}
 use Rattle.iol_pool.specs.Pools.{Pool, pool_in}
 
--- the chunks of pools are of the arena and given out, and each chunk that is given out has just one pool
+-- the chunks of pools are of the arena and taken, and each chunk that is taken has just one pool
 pub record AreOwned (s : State) (ps : List Pool) : Type 0 where
   pub within : (p c : ℕ) → Contains (pool_in ps p).chunks c → c < chunk_count s
   pub taken : (p c : ℕ) → Contains (pool_in ps p).chunks c → is_taken s c ≡ true

@@ -66,6 +66,7 @@ impl Names {
         Some(Names { list: found, len })
     }
 
+    /// The domains, each once.
     pub fn as_slice(&self) -> &[DomainId]
         ensures { result.now ≡ self.now }
     {

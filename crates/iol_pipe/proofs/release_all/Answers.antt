@@ -5,7 +5,7 @@ use Rattle.iol_hold.specs.declared.slices.Slice.{Slice}
 use Rattle.iol_hold.proofs.Reading.{bufs_of-push, home_stays, readable_last}
 use Rattle.iol_hold.proofs.Releasing.{frees_trans, frees_none}
 use Rattle.iol_hold.proofs.Moving.{moves_less, last_held}
-use Rattle.iol_pipe.proofs.give_up_all.Goals as goal
+use Rattle.iol_pipe.proofs.release_all.Goals as goal
 
 pub release-requires : goal.release-requires
 release-requires c =

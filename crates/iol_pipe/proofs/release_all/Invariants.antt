@@ -3,7 +3,7 @@ use Rattle.iol_hold.specs.Moves.{Moves, SameLists}
 use Rattle.iol_hold.specs.Releases.{FreesOnly}
 use Rattle.iol_hold.specs.Stored.{AllSettled}
 use Rattle.iol_hold.specs.Texts.{bufs_of, AllReadable}
-use Rattle.iol_pipe.proofs.give_up_all.Given as goal
+use Rattle.iol_pipe.proofs.release_all.Given as goal
 
 abbrev pub invariant-loop-slice : goal.invariant-loop-slice
 invariant-loop-slice l = record {
