@@ -4,6 +4,7 @@ ghost use Rattle.iol_core.specs.Configuration.{IsInRange};
 ghost use Rattle.iol_core.specs.State.{new_state, no_slots};
 ghost use Rattle.iol_core.specs.Run.{StepsTo, Run};
 ghost use Rattle.iol_core.specs.Values.{ValuesStay};
+ghost use Rattle.iol_system.specs.Promises.{Promises, Chain};
 ghost use Rattle.iol_system.specs.Values.{ValuesStayOver};
 ghost use Rattle.iol_hold.specs.Moves.{Stays};
 ghost use Rattle.iol_kernel.specs.KernelState.{machine_of, layout_of, joined};
@@ -100,12 +101,19 @@ impl System {
         // A live buffer keeps its bytes, and no identity is given twice; an aggregate keeps its value.
         ensures stays { Stays self.old.store self.new.store }
         ensures values { ValuesStay (machine_of self.old) event (machine_of self.new) }
+
+        // All of this in one, as each link of a run has it.
+        ensures promises { Promises self.old event result self.new }
     {
         carry_out(&mut self.kernel, &event)
     }
 
     /// Carries out events in order. For want of memory for the replies, none.
+    ///
+    /// A run is a chain of steps, each of which keeps all that [`System::step`] promises. What follows from that for
+    /// whole runs is stated in [`laws`](crate::laws).
     pub fn run(&mut self, events: &[Event]) -> Result<Vec<Reply>, AllocError>
+        ensures chain { IfOk result (λ replies. Chain self.old events.now replies.items self.new) }
         ensures run { IfOk result (λ replies. Run (machine_of self.old) events.now replies.items (machine_of self.new)) }
         ensures safe { IsSafe self.new }
         ensures stays { Stays self.old.store self.new.store }
