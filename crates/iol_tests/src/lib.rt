@@ -13,7 +13,11 @@ mod pipes;
 #[cfg(test)]
 mod pools;
 #[cfg(test)]
+mod readme;
+#[cfg(test)]
 mod refusals;
+#[cfg(test)]
+mod rounds;
 #[cfg(test)]
 mod systems;
 #[cfg(test)]

@@ -93,29 +93,6 @@ fn is_refused(reply: &Reply) -> bool {
     }
 }
 
-// An aggregate is made and given up, again and again.
-fn rounds<R: Abort>(rt: &R, alloc: Global, system: &mut System) -> Result<(), AllocError> {
-    for n in 0..100_000 {
-        let bytes = Bytes::from_vec(b"a".to_vec(alloc)?);
-        let made = system.step(by_one(Call::AggMake { bytes }));
-        assert!(rt; !is_refused(&made));
-        let agg = AggId::new(n + 1);
-        let given_up = system.step(by_one(Call::AggDrop { agg }));
-        assert!(rt; matches!(given_up, Reply::Done));
-    }
-    Ok(())
-}
-
-// A system where domain 1 places in a pool of one chunk.
-fn pooled(alloc: Global) -> Result<System, Fail> {
-    let mut system = System::new(alloc, Config::DEFAULT)?;
-    let domains = Domains::from_vec([DomainId::new(1)].to_vec(alloc)?);
-    let _made = system.step(by_one(Call::PoolCreate { chunks: 1, domains }));
-    let pool = PoolId::new(1);
-    let _set = system.step(by_one(Call::SetPool { pool }));
-    Ok(system)
-}
-
 // Every call, one by one.
 fn steps<R: Abort>(rt: &R, alloc: Global) -> Result<(), Fail> {
     let mut system = System::new(alloc, Config::DEFAULT)?;
@@ -153,7 +130,5 @@ fn run<R: Abort>(rt: &R, alloc: Global) -> Result<(), Fail> {
 fn ample(rt: HostRuntime) -> Result<(), Fail> {
     steps(&rt, rt.alloc())?;
     run(&rt, rt.alloc())?;
-    let mut system = pooled(rt.alloc())?;
-    rounds(&rt, rt.alloc(), &mut system)?;
     Ok(())
 }

@@ -3,15 +3,18 @@ ghost use Rattle.std.specs.Prelude.{◌≡◌, ◌↔◌, ◌<◌, ◌+◌, ◌*
 ghost use Rattle.std.specs.List.{before_first, after_first, position_or_len, repeat};
 ghost use Rattle.std.specs.Str.Parse.{IsNumeral, digits_value};
 ghost use Rattle.iolite.specs.declared.words.LineError.TheVariants.{Memory};
+ghost use Rattle.iolite.specs.declared.words.TheConstants.{MAX_REPEATED_BYTES};
 ghost use Rattle.percent_encoding.specs.Percent.{percent_decode as decoded};
 
+use iol_core::limits::MAX_AGGREGATE_BYTES;
 use iol_core::lists::{Bytes, Domains};
 use iol_core::numbers::DomainId;
 use percent_encoding::percent_decode;
 use std::alloc::{AllocError, AllocFailed, Global};
 
-/// The bytes that a text may have once it is repeated: one more than an aggregate may have.
-const MAX_REPEATED_BYTES: u64 = 0x100_0001;
+/// The bytes that a text may have once it is repeated: one more than an aggregate may have, so that a script can ask
+/// for one that is too long.
+const MAX_REPEATED_BYTES: u64 = MAX_AGGREGATE_BYTES as u64 + 1;
 
 /// Why a line has no meaning.
 #[derive(Clone, Copy, Debug, PartialEq, Eq)]
@@ -100,7 +103,7 @@ pub fn decode_text(alloc: Global, text: &str) -> Result<Bytes, AllocError>
 /// Reads a text, so many times over. Where that is too long the line is not a command.
 pub fn repeat_text(alloc: Global, count: u32, text: &str) -> Result<Bytes, LineError>
     ensures bytes { IfOk result (λ bytes. bytes ≡ repeat count (decoded text.now)) }
-    ensures long { (result ≡ Err LineError.NotACommand) ↔ (2 ^ 24 + 1 < count * length (decoded text.now)) }
+    ensures long { (result ≡ Err LineError.NotACommand) ↔ (MAX_REPEATED_BYTES < count * length (decoded text.now)) }
 {
     let length = percent_decode(text.as_bytes()).count() as u64;
     if length.saturating_mul(u64::from(count)) > MAX_REPEATED_BYTES {

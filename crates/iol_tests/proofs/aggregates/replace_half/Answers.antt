@@ -2,7 +2,7 @@ use Rattle.std.proofs.Common.{[], arith}
 use Rattle.iol_hold.specs.Moves.{Shares}
 use Rattle.iol_hold.specs.Texts.{bufs_of}
 use Rattle.iol_agg.proofs.Holding.{of_ok, held_thrice, made_covers}
-use Rattle.iol_ample.proofs.aggregates.replace_half.Goals as goal
+use Rattle.iol_tests.proofs.aggregates.replace_half.Goals as goal
 
 pub replace-requires-clause-countable : goal.replace-requires-clause-countable
 replace-requires-clause-countable g c = held_thrice c.args.agg.now c.requires (omega arith)

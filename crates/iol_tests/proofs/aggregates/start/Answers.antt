@@ -2,7 +2,7 @@ use Rattle.std.proofs.Common.{◌≡◌, ◌*◌, replicate}
 use Rattle.iol_arena.specs.State.{no_entry}
 use Rattle.iol_hold.specs.Stored.{Stored}
 use Rattle.iol_agg.proofs.Holding.{of_ok, on_ok, held_none, held_on}
-use Rattle.iol_ample.proofs.aggregates.start.Goals as goal
+use Rattle.iol_tests.proofs.aggregates.start.Goals as goal
 
 pub returns : goal.returns
 returns g c =

@@ -5,7 +5,7 @@ use Rattle.std.specs.List.{All}
 use Rattle.iol_core.specs.declared.refusals.Refusal.{Refusal}
 use Rattle.iol_hold.specs.Stored.{Stored, Buffer}
 use Rattle.iol_hold.specs.Texts.{IsFilled}
-use Rattle.iol_ample.proofs.holds.fill_one.Goals as goal
+use Rattle.iol_tests.proofs.holds.fill_one.Goals as goal
 
 filled_first : (s : Stored) (r : Result (List Buffer) Refusal) (o : Option Buffer) (holds rest : List Buffer) (h : Buffer) → IfOk r (λ xs. All (IsFilled s) xs) → r ≡ Ok holds
     → MatchOption o (holds ≡ []) (λ x. holds ≡ x ∷ rest) → o ≡ Some h → IsFilled s h

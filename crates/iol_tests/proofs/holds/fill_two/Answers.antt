@@ -4,7 +4,7 @@ use Rattle.iol_core.specs.declared.refusals.Refusal.{Refusal}
 use Rattle.iol_hold.specs.Stored.{Stored, Buffer}
 use Rattle.iol_hold.specs.Moves.{Moves, Covers}
 use Rattle.iol_hold.proofs.Moving.{covers_given}
-use Rattle.iol_ample.proofs.holds.fill_two.Goals as goal
+use Rattle.iol_tests.proofs.holds.fill_two.Goals as goal
 
 made : (s t : Stored) (r : Result (List Buffer) Refusal) (holds : List Buffer) → IfOk r (λ xs. Moves s t [] (map (λ h. h.buf) xs)) → r ≡ Ok holds → Covers t (map (λ h. h.buf) holds)
 made s t r holds moves ok = covers_given (subst (λ (x : Result (List Buffer) Refusal). IfOk x (λ xs. Moves s t [] (map (λ h. h.buf) xs))) ok moves).counts

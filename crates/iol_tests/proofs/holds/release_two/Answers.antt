@@ -3,7 +3,7 @@ use Rattle.std.specs.Option.{MatchOption}
 use Rattle.iol_hold.specs.Stored.{Stored, Buffer}
 use Rattle.iol_hold.specs.Moves.{Covers}
 use Rattle.iol_hold.proofs.Moving.{covers_first, covers_less}
-use Rattle.iol_ample.proofs.holds.release_two.Goals as goal
+use Rattle.iol_tests.proofs.holds.release_two.Goals as goal
 
 taken : (s : Stored) (o : Option Buffer) (holds rest : List Buffer) (h : Buffer) → Covers s (map (λ x. x.buf) holds)
     → MatchOption o (holds ≡ []) (λ x. holds ≡ x ∷ rest) → o ≡ Some h → Covers s (h.buf ∷ map (λ x. x.buf) rest)

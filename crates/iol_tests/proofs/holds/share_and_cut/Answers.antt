@@ -3,7 +3,7 @@ use Rattle.iol_core.specs.declared.numbers.BufId.{BufId}
 use Rattle.iol_hold.specs.Stored.{Stored, Buffer, count_of}
 use Rattle.iol_hold.specs.Moves.{Shares}
 use Rattle.iol_hold.proofs.Moving.{covers_first, covers_given}
-use Rattle.iol_ample.proofs.holds.share_and_cut.Goals as goal
+use Rattle.iol_tests.proofs.holds.share_and_cut.Goals as goal
 
 shared : (s t : Stored) (b d : BufId) → Shares s t [] (b ∷ []) → d ≡ b → 0 < count_of t d
 shared s t b d m e = subst (λ (x : BufId). 0 < count_of t x) (sym e) (covers_first b [] (covers_given m.counts))

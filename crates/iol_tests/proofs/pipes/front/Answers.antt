@@ -3,7 +3,7 @@ use Rattle.iol_hold.specs.Moves.{Shares}
 use Rattle.iol_hold.specs.Texts.{bufs_of}
 use Rattle.iol_agg.proofs.Holding.{of_ok, held_countable}
 use Rattle.iol_pipe.proofs.Holding.{given_covers, held_given}
-use Rattle.iol_ample.proofs.pipes.front.Goals as goal
+use Rattle.iol_tests.proofs.pipes.front.Goals as goal
 
 pub front-requires-clause-countable : goal.front-requires-clause-countable
 front-requires-clause-countable g c = held_countable c.args.pipe.now c.requires (omega arith)

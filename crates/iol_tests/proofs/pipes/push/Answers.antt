@@ -3,7 +3,7 @@ use Rattle.iol_hold.specs.Moves.{Moves}
 use Rattle.iol_hold.specs.Texts.{bufs_of}
 use Rattle.iol_agg.proofs.Holding.{of_ok, on_ok, moved_covers}
 use Rattle.iol_pipe.proofs.Holding.{beside_countable, beside_covers, held_pushed}
-use Rattle.iol_ample.proofs.pipes.push.Goals as goal
+use Rattle.iol_tests.proofs.pipes.push.Goals as goal
 
 pub push-requires-clause-covered : goal.push-requires-clause-covered
 push-requires-clause-covered g c =

@@ -2,7 +2,7 @@ use Rattle.std.proofs.Common.{◌≡◌, ◌*◌, replicate}
 use Rattle.iol_arena.specs.State.{no_entry}
 use Rattle.iol_hold.specs.Stored.{Stored}
 use Rattle.iol_agg.proofs.Holding.{of_ok, held_none}
-use Rattle.iol_ample.proofs.pipes.start.Goals as goal
+use Rattle.iol_tests.proofs.pipes.start.Goals as goal
 
 pub add_pool-both-requires : goal.add_pool-both-requires
 add_pool-both-requires g c =

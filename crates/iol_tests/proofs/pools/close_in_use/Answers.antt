@@ -5,7 +5,7 @@ use Rattle.iol_arena.specs.State.{State, chunk_count}
 use Rattle.iol_arena.specs.Buffers.{IsLive}
 use Rattle.iol_pool.specs.Pools.{Pool, settled, with_closed}
 use Rattle.iol_pool.proofs.Owning.{all_owned, owned_stays, is_numbered-closed, is_numbered-settled, live-settled}
-use Rattle.iol_ample.proofs.pools.close_in_use.Goals as goal
+use Rattle.iol_tests.proofs.pools.close_in_use.Goals as goal
 
 numbered_still : (s : State) (ps qs : List Pool) (p : ℕ) → is_numbered ps p ≡ true → qs ≡ settled s (with_closed ps p) p → is_numbered qs p ≡ true
 numbered_still s ps qs p there is = ap (λ (l : List Pool). is_numbered l p) is ∙ is_numbered-settled s (with_closed ps p) p p ∙ is_numbered-closed ps p p ∙ there
