@@ -106,7 +106,10 @@ pub(crate) fn run_all(
     events: &[Event],
 ) -> Result<Vec<Reply>, AllocError>
     requires { IsSafe (state_of kernel.old) }
-    ensures chain { IfOk result (λ replies. Chain (state_of kernel.old) events.now replies.items (state_of kernel.new)) }
+    ensures chain {
+        IfOk result
+            (λ replies. Chain (state_of kernel.old) events.now replies.items (state_of kernel.new))
+    }
     ensures safe { IsSafe (state_of kernel.new) }
     ensures err { OnErr result (kernel.new ≡ kernel.old) }
 {

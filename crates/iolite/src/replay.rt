@@ -45,7 +45,9 @@ pub fn replay<R: Read, W: Write, E: Write>(
 ) -> u8
     ensures statuses { (result ≡ 0) ⊎ (result ≡ 2) ⊎ (result ≡ 3) }
     ensures bad_script_prints_nothing { result ≡ 2 → output.new ≡ output.old }
-    ensures no_script { IfSome (R.remaining input.old) (λ given. ¬ (IsScriptText given) → result ≢ 0) }
+    ensures no_script {
+        IfSome (R.remaining input.old) (λ given. ¬ (IsScriptText given) → result ≢ 0)
+    }
     ensures replayed {
         result ≡ 0 → IfSome (R.remaining input.old)
             (λ given. Replayed given (W.contents output.old) (W.contents output.new))
@@ -62,9 +64,14 @@ pub fn replay<R: Read, W: Write, E: Write>(
 
 /// Does the work of `replay`, up to the first failure.
 fn run<R: Read, W: Write>(alloc: Global, input: &mut R, output: &mut W) -> Result<(), Failure>
-    ensures untouched { IfErr result (λ failure. status_of failure ≡ 2 → output.new ≡ output.old) }
+    ensures untouched {
+        IfErr result (λ failure. status_of failure ≡ 2 → output.new ≡ output.old)
+    }
     ensures ok { OnOk result (IfSome (R.remaining input.old) IsScriptText) }
-    ensures bad { result ≡ Err Failure.BadScript → IfSome (R.remaining input.old) (λ given. ¬ (IsScriptText given)) }
+    ensures bad {
+        result ≡ Err Failure.BadScript →
+            IfSome (R.remaining input.old) (λ given. ¬ (IsScriptText given))
+    }
     ensures replayed {
         OnOk result (IfSome (R.remaining input.old)
             (λ given. Replayed given (W.contents output.old) (W.contents output.new)))
@@ -78,9 +85,14 @@ fn run<R: Read, W: Write>(alloc: Global, input: &mut R, output: &mut W) -> Resul
 
 /// Reads the input to its end, as a script.
 fn read_text<R: Read>(alloc: Global, input: &mut R) -> Result<String, Failure>
-    ensures whole { IfOk result (λ text. IfSome (R.remaining input.old) (λ given. string_bytes text ≡ given)) }
+    ensures whole {
+        IfOk result (λ text. IfSome (R.remaining input.old) (λ given. string_bytes text ≡ given))
+    }
     ensures script { IfOk result (λ text. IsScriptText (string_bytes text)) }
-    ensures bad { result ≡ Err Failure.BadScript → IfSome (R.remaining input.old) (λ given. ¬ (IsScriptText given)) }
+    ensures bad {
+        result ≡ Err Failure.BadScript →
+            IfSome (R.remaining input.old) (λ given. ¬ (IsScriptText given))
+    }
     ensures error { IfErr result IsOfInput }
 {
     let bytes = read_bytes(alloc, input)?;
@@ -89,8 +101,12 @@ fn read_text<R: Read>(alloc: Global, input: &mut R) -> Result<String, Failure>
 
 /// Reads the input to its end, or to one byte past the most that a script may have.
 fn read_bytes<R: Read>(alloc: Global, input: &mut R) -> Result<Vec<u8>, Failure>
-    ensures bytes { IfOk result (λ bytes. IfSome (R.remaining input.old) (IsWholeOrTooLong bytes.items)) }
-    ensures error { IfErr result (λ failure. (failure ≡ Failure.Input) ⊎ (failure ≡ Failure.Memory)) }
+    ensures bytes {
+        IfOk result (λ bytes. IfSome (R.remaining input.old) (IsWholeOrTooLong bytes.items))
+    }
+    ensures error {
+        IfErr result (λ failure. (failure ≡ Failure.Input) ⊎ (failure ≡ Failure.Memory))
+    }
 {
     let mut bytes = Vec::new(alloc);
     match input.take(MAX_SCRIPT_BYTES + 1).read_to_end(&mut bytes) {
@@ -117,7 +133,9 @@ fn text_of(bytes: Vec<u8>) -> Result<String, Failure>
 
 // Answers each line of a script, by a new system of the script's sizes.
 fn answers_to(alloc: Global, script: Script) -> Result<Vec<Answer>, Failure>
-    ensures answered { IfOk result (λ answers. Answered script.config script.lines.items answers.items) }
+    ensures answered {
+        IfOk result (λ answers. Answered script.config script.lines.items answers.items)
+    }
     ensures error { IfErr result (λ failure. failure ≡ Failure.Memory) }
 {
     let config = script.config.unwrap_or(Config::DEFAULT);
@@ -156,8 +174,13 @@ fn answer_to(system: &mut System, line: Line) -> Result<Answer, Failure>
 
 // Prints each reply on a line of its own, and of each report its lines.
 fn print<W: Write>(alloc: Global, answers: &[Answer], output: &mut W) -> Result<(), Failure>
-    ensures lines { OnOk result (Appends (W.contents output.old) (W.contents output.new) (lines_of answers.now)) }
-    ensures error { IfErr result (λ failure. (failure ≡ Failure.Output) ⊎ (failure ≡ Failure.Memory)) }
+    ensures lines {
+        OnOk result
+            (Appends (W.contents output.old) (W.contents output.new) (lines_of answers.now))
+    }
+    ensures error {
+        IfErr result (λ failure. (failure ≡ Failure.Output) ⊎ (failure ≡ Failure.Memory))
+    }
 {
     match write_lines(alloc, answers, output) {
         Ok(()) => Ok(()),
@@ -167,7 +190,10 @@ fn print<W: Write>(alloc: Global, answers: &[Answer], output: &mut W) -> Result<
 
 // Writes the lines of all answers, in order, many at a time.
 fn write_lines<W: Write>(alloc: Global, answers: &[Answer], output: &mut W) -> io::Result<()>
-    ensures { OnOk result (Appends (W.contents output.old) (W.contents output.new) (lines_of answers.now)) }
+    ensures {
+        OnOk result
+            (Appends (W.contents output.old) (W.contents output.new) (lines_of answers.now))
+    }
 {
     let mut pending = Vec::with_capacity(alloc, BUFFER_BYTES)?;
     for answer in answers {
@@ -184,7 +210,8 @@ fn write_lines<W: Write>(alloc: Global, answers: &[Answer], output: &mut W) -> i
 // Writes the text of an answer, and the end of its last line.
 fn write_answer<W: Write>(answer: &Answer, output: &mut W) -> io::Result<()>
     ensures {
-        OnOk result (Appends (W.contents output.old) (W.contents output.new) (answer_text answer.now ++ newline))
+        OnOk result (Appends (W.contents output.old) (W.contents output.new)
+            (answer_text answer.now ++ newline))
     }
 {
     match answer {
