@@ -188,7 +188,8 @@ fn print<W: Write>(alloc: Global, answers: &[Answer], output: &mut W) -> Result<
     }
 }
 
-// Writes the lines of all answers, in order, many at a time.
+// Writes the lines of all answers, in order, many at a time. They are gathered here and not in a `BufWriter`, of which
+// no contract says that the writer it gives back is the one that it was given.
 fn write_lines<W: Write>(alloc: Global, answers: &[Answer], output: &mut W) -> io::Result<()>
     ensures {
         OnOk result
