@@ -1,3 +1,5 @@
+pub mod Laws
+pub mod Promises
 pub mod Safe
 pub mod Replies
 pub mod Room

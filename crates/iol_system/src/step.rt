@@ -1,12 +1,14 @@
 //! One event, and events in order.
 ghost use Rattle.std.specs.Prelude.{◌≡◌, true, false, IfOk, OnErr};
-ghost use Rattle.iol_core.specs.Run.{StepsTo, Run};
+ghost use Rattle.iol_core.specs.Run.{StepsTo};
 ghost use Rattle.iol_hold.specs.Moves.{Stays};
 ghost use Rattle.iol_kernel.specs.KernelState.{machine_of, layout_of, IsSound};
 ghost use Rattle.iol_core.specs.Sharing.{is_sharing, LaysOut};
-ghost use Rattle.iol_system.specs.Replies.{told};
-ghost use Rattle.iol_system.specs.Room.{fits, IsDone, IsNoRoom};
 ghost use Rattle.iol_kernel.specs.Kernel.{state_of};
+ghost use Rattle.iol_system.specs.Promises.{Promises, Chain};
+ghost use Rattle.iol_system.specs.Replies.{reply_of};
+ghost use Rattle.iol_system.specs.Room.{fits, IsDone, IsNoRoom};
+ghost use Rattle.iol_system.specs.Safe.{IsSafe};
 
 use iol_core::events::{Call, Event, Reply};
 use iol_core::numbers::DomainId;
@@ -14,13 +16,13 @@ use iol_core::refusals::Refusal;
 use iol_kernel::kernel::Kernel;
 use std::alloc::{AllocError, Global};
 
-/// Carries out one call of a domain, which gives an answer or a refusal.
+// Carries out one call of a domain: its answer, or its refusal. Each clause comes from that call of the kernel.
 fn answer_to(kernel: &mut Kernel, by: DomainId, call: &Call) -> Result<Reply, Refusal>
     requires { IsSound (state_of kernel.old) }
-    ensures step { StepsTo (machine_of (state_of kernel.old)) (Event.Call by call.now) (told result) (machine_of (state_of kernel.new)) }
-    ensures room { IsDone (told result) → fits (state_of kernel.old) (Event.Call by call.now) ≡ true }
-    ensures no_room { IsNoRoom (told result) → fits (state_of kernel.old) (Event.Call by call.now) ≡ false }
-    ensures shares { is_sharing (Event.Call by call.now) ≡ true → LaysOut (layout_of (state_of kernel.old)) (Event.Call by call.now) (told result) (layout_of (state_of kernel.new)) }
+    ensures step { StepsTo (machine_of (state_of kernel.old)) (Event.Call by call.now) (reply_of result) (machine_of (state_of kernel.new)) }
+    ensures room { IsDone (reply_of result) → fits (state_of kernel.old) (Event.Call by call.now) ≡ true }
+    ensures no_room { IsNoRoom (reply_of result) → fits (state_of kernel.old) (Event.Call by call.now) ≡ false }
+    ensures shares { is_sharing (Event.Call by call.now) ≡ true → LaysOut (layout_of (state_of kernel.old)) (Event.Call by call.now) (reply_of result) (layout_of (state_of kernel.new)) }
     ensures pages { is_sharing (Event.Call by call.now) ≡ true → (state_of kernel.new).store.arena ≡ (state_of kernel.old).store.arena }
     ensures sound { IsSound (state_of kernel.new) }
     ensures stays { Stays (state_of kernel.old).store (state_of kernel.new).store }
@@ -76,16 +78,10 @@ fn answer_to(kernel: &mut Kernel, by: DomainId, call: &Call) -> Result<Reply, Re
     }
 }
 
-/// Carries out one call of a domain, and replies.
+// Carries out one call of a domain, and replies.
 fn make_call(kernel: &mut Kernel, by: DomainId, call: &Call) -> Reply
-    requires { IsSound (state_of kernel.old) }
-    ensures step { StepsTo (machine_of (state_of kernel.old)) (Event.Call by call.now) result (machine_of (state_of kernel.new)) }
-    ensures room { IsDone result → fits (state_of kernel.old) (Event.Call by call.now) ≡ true }
-    ensures no_room { IsNoRoom result → fits (state_of kernel.old) (Event.Call by call.now) ≡ false }
-    ensures shares { is_sharing (Event.Call by call.now) ≡ true → LaysOut (layout_of (state_of kernel.old)) (Event.Call by call.now) result (layout_of (state_of kernel.new)) }
-    ensures pages { is_sharing (Event.Call by call.now) ≡ true → (state_of kernel.new).store.arena ≡ (state_of kernel.old).store.arena }
-    ensures sound { IsSound (state_of kernel.new) }
-    ensures stays { Stays (state_of kernel.old).store (state_of kernel.new).store }
+    requires { IsSafe (state_of kernel.old) }
+    ensures { Promises (state_of kernel.old) (Event.Call by call.now) result (state_of kernel.new) }
 {
     match answer_to(kernel, by, call) {
         Ok(reply) => reply,
@@ -95,14 +91,8 @@ fn make_call(kernel: &mut Kernel, by: DomainId, call: &Call) -> Reply
 
 /// Carries out one event.
 pub(crate) fn carry_out(kernel: &mut Kernel, event: &Event) -> Reply
-    requires { IsSound (state_of kernel.old) }
-    ensures step { StepsTo (machine_of (state_of kernel.old)) event.now result (machine_of (state_of kernel.new)) }
-    ensures room { IsDone result → fits (state_of kernel.old) event.now ≡ true }
-    ensures no_room { IsNoRoom result → fits (state_of kernel.old) event.now ≡ false }
-    ensures shares { is_sharing event.now ≡ true → LaysOut (layout_of (state_of kernel.old)) event.now result (layout_of (state_of kernel.new)) }
-    ensures pages { is_sharing event.now ≡ true → (state_of kernel.new).store.arena ≡ (state_of kernel.old).store.arena }
-    ensures sound { IsSound (state_of kernel.new) }
-    ensures stays { Stays (state_of kernel.old).store (state_of kernel.new).store }
+    requires { IsSafe (state_of kernel.old) }
+    ensures { Promises (state_of kernel.old) event.now result (state_of kernel.new) }
 {
     match event {
         Event::Call { by, call } => make_call(kernel, *by, call),
@@ -110,17 +100,18 @@ pub(crate) fn carry_out(kernel: &mut Kernel, event: &Event) -> Reply
 }
 
 /// Carries out events in order. The room for the replies comes first.
-#[tactic(auto, using(iol_kernel::proofs::Stay::stay_rules))]
 pub(crate) fn run_all(
     alloc: Global,
     kernel: &mut Kernel,
     events: &[Event],
 ) -> Result<Vec<Reply>, AllocError>
-    requires { IsSound (state_of kernel.old) }
-    ensures run { IfOk result (λ replies. Run (machine_of (state_of kernel.old)) events.now replies.items (machine_of (state_of kernel.new))) }
+    requires { IsSafe (state_of kernel.old) }
+    ensures chain {
+        IfOk result
+            (λ replies. Chain (state_of kernel.old) events.now replies.items (state_of kernel.new))
+    }
+    ensures safe { IsSafe (state_of kernel.new) }
     ensures err { OnErr result (kernel.new ≡ kernel.old) }
-    ensures sound { IsSound (state_of kernel.new) }
-    ensures stays { Stays (state_of kernel.old).store (state_of kernel.new).store }
 {
     let mut replies = Vec::with_capacity(alloc, events.len())?;
     for event in events {

@@ -1,2 +1,4 @@
 pub mod Answered
+pub mod Appending
+pub mod Said
 pub mod ScriptText

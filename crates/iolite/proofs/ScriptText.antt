@@ -1,20 +1,21 @@
 -- What is read of a script's bytes.
-use Rattle.std.proofs.Common.{◌≡◌, ◌≤◌, ◌<◌, ◌^◌, ◌∙◌, ◌⊎◌, inl, inr, ℕ, List, [], ◌++◌, Result, Ok, Err, IfSome, IfOk, OnErr, length, take, arith, ap, subst, sym}
+use Rattle.std.proofs.Common.{◌≡◌, ◌≤◌, ◌<◌, ◌∙◌, ◌⊎◌, inl, inr, ℕ, List, [], ◌++◌, Result, Ok, Err, IfSome, IfOk, OnErr, length, take, arith, ap, subst, sym}
 use Rattle.std.proofs.lemmas.Bool.{cases_lt}
 use Rattle.std.proofs.lemmas.List.{take_all, length-take}
 use Rattle.std.proofs.lemmas.Option.{IfSome_then}
 use Rattle.std.specs.Option.{option_map}
 use Rattle.std.specs.declared.option.Option.{Option}
 use Rattle.std.specs.declared.option.Option.TheVariants.{Some, None}
+use Rattle.iolite.specs.declared.replay.TheConstants.{MAX_SCRIPT_BYTES}
 use Rattle.iolite.specs.Script.{IsScriptText, IsWholeOrTooLong}
 
 -- what is read up to a limit past the most
-IsWholeOrTooLong-cases : (limit : ℕ) (given read : List ℕ) → 2 ^ 24 < limit → read ≡ take limit given → (limit < length given) ⊎ (length given ≤ limit) → IsWholeOrTooLong read given
+IsWholeOrTooLong-cases : (limit : ℕ) (given read : List ℕ) → MAX_SCRIPT_BYTES < limit → read ≡ take limit given → (limit < length given) ⊎ (length given ≤ limit) → IsWholeOrTooLong read given
 IsWholeOrTooLong-cases limit given read past e (inl longer) = inr (omega (arith, length-take limit given, ap length e), omega arith)
 IsWholeOrTooLong-cases limit given read past e (inr all) = inl (e ∙ take_all limit given all)
 
 -- the same of a reader's known bytes
-pub IsWholeOrTooLong-take : (known : Option (List ℕ)) (limit : ℕ) (read start : List ℕ) → start ≡ [] → 2 ^ 24 < limit → IfSome (option_map (take limit) known) (λ xs. read ≡ start ++ xs) → IfSome known (IsWholeOrTooLong read)
+pub IsWholeOrTooLong-take : (known : Option (List ℕ)) (limit : ℕ) (read start : List ℕ) → start ≡ [] → MAX_SCRIPT_BYTES < limit → IfSome (option_map (take limit) known) (λ xs. read ≡ start ++ xs) → IfSome known (IsWholeOrTooLong read)
 IsWholeOrTooLong-take None limit read start e past h = h
 IsWholeOrTooLong-take (Some given) limit read start e past h = IsWholeOrTooLong-cases limit given read past (subst (λ s. read ≡ s ++ take limit given) e h) (cases_lt limit (length given))
 

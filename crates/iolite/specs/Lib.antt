@@ -1,3 +1,5 @@
+pub mod Answers
 pub mod Failure
+pub mod Printed
 pub mod Script
 pub mod Sizes

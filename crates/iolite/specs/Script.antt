@@ -1,49 +1,88 @@
--- What is read as a script at all, and what its lines are answered.
-use Rattle.std.specs.Prelude.{◌≡◌, ◌⊎◌, ◌^◌, ◌<◌, ◌≤◌, ℕ, Bool, true, false, List, Option, Some, None, length, IsUtf8}
-use Rattle.std.specs.List.{filter_map}
-use Rattle.iol_core.specs.State.{State}
-use Rattle.iol_core.specs.Run.{StepsTo}
-use Rattle.iol_core.specs.declared.events.Event.{Event}
-use Rattle.iol_core.specs.declared.events.Reply.{Reply}
+-- Scripts: what is read as one, what its lines ask for, and what they are answered.
+use Rattle.std.specs.Prelude.{◌≡◌, ◌⊎◌, ◌<◌, ◌≤◌, ◌==◌, ℕ, Bool, true, not, List, [], ◌∷◌, ◌++◌, Option, Some, None, length, codes, IsUtf8, ⊤}
+use Rattle.std.specs.List.{before_first, after_first, filter, slice_split}
+use Rattle.std.specs.Str.Parse.{IsNumeral, digits_value}
+use Rattle.iol_core.specs.Configuration.{IsInRange}
+use Rattle.iol_core.specs.declared.configuration.Config.{Config}
+use Rattle.iol_core.specs.declared.events.Event.TheVariants as event
+use Rattle.iolite.specs.declared.replay.TheConstants.{MAX_SCRIPT_BYTES}
 use Rattle.iolite.specs.declared.script.Line.{Line}
 use Rattle.iolite.specs.declared.script.Line.TheVariants as line
-use Rattle.iolite.specs.declared.replay.Answer.{Answer}
-use Rattle.iolite.specs.declared.replay.Answer.TheVariants as answer
 
+-- at most as long as a script may be, and UTF-8
 abbrev pub IsScriptText : List ℕ → Type 0
-IsScriptText bytes = (length bytes ≤ 2 ^ 24) × IsUtf8 bytes
+IsScriptText bytes = (length bytes ≤ MAX_SCRIPT_BYTES) × IsUtf8 bytes
 
 -- the bytes read are all that were given, or there are more than a script may have
 abbrev pub IsWholeOrTooLong : (read given : List ℕ) → Type 0
-IsWholeOrTooLong read given = (read ≡ given) ⊎ ((2 ^ 24 < length read) × (2 ^ 24 < length given))
+IsWholeOrTooLong read given = (read ≡ given) ⊎ ((MAX_SCRIPT_BYTES < length read) × (MAX_SCRIPT_BYTES < length given))
 
-abbrev pub event_of : Line → Option Event
-event_of (line.Event e) = Some e
-event_of line.Report = None
+-- an empty line or a comment, which is passed over
+abbrev pub is_blank : List ℕ → Bool
+is_blank [] = true
+is_blank (c ∷ rest) = c == 35
 
-abbrev pub reply_of : Answer → Option Reply
-reply_of (answer.Reply r) = Some r
-reply_of (answer.Report r) = None
+-- all others
+abbrev pub without_blank : List (List ℕ) → List (List ℕ)
+without_blank ls = filter (λ l. not (is_blank l)) ls
 
-abbrev pub asks_report : Line → Bool
-asks_report (line.Event e) = false
-asks_report line.Report = true
+-- the lines of a script that say something
+abbrev pub commands : List ℕ → List (List ℕ)
+commands text = without_blank (slice_split (λ b. b == 10) text)
 
-abbrev pub is_report : Answer → Bool
-is_report (answer.Reply r) = false
-is_report (answer.Report r) = true
+-- the first word of a line, and what comes after the space behind it
+abbrev pub word : List ℕ → List ℕ
+word l = before_first (λ b. b == 32) l
 
--- the events among lines, in order
-abbrev pub events_of : List Line → List Event
-events_of lines = filter_map event_of lines
+abbrev pub rest_of : List ℕ → List ℕ
+rest_of l = after_first (λ b. b == 32) l
 
--- the replies among answers, in order
-abbrev pub replies_of : List Answer → List Reply
-replies_of answers = filter_map reply_of answers
+-- the sizes of a system: `CHUNKS GENERATIONS SUMS`, each in its range
+pub record AreSizes (words : List ℕ) (config : Config) : Type 0 where
+  pub chunks : config.chunks ≡ digits_value 10 (word words)
+  pub gen_limit : config.gen_limit ≡ digits_value 10 (word (rest_of words))
+  pub sums : config.sums ≡ digits_value 10 (rest_of (rest_of words))
+  pub in_range : IsInRange config
 
--- From old, the line may be answered so, going on to new: an event by one step, a report by none.
-abbrev pub IsAnswer : State → Line → Answer → State → Type 0
-IsAnswer old (line.Event e) (answer.Reply r) new = StepsTo old e r new
-IsAnswer old line.Report (answer.Report r) new = new ≡ old
-IsAnswer old (line.Event e) (answer.Report r) new = ⊥
-IsAnswer old line.Report (answer.Reply r) new = ⊥
+-- a line that gives them: `config CHUNKS GENERATIONS SUMS`
+pub record GivesSizes (l : List ℕ) (config : Config) : Type 0 where
+  pub name : word l ≡ codes "config"
+  pub sizes : AreSizes (rest_of l) config
+
+-- a line that asks for a report, or for a call of the domain that it begins with; which call it is, is left open here
+abbrev pub Asks : List ℕ → Line → Type 0
+Asks l line.Report = l ≡ codes "report"
+Asks l (line.Event (event.Call by c)) = IsNumeral 10 (word l) × (by ≡ digits_value 10 (word l))
+
+abbrev pub AskInOrder : List (List ℕ) → List Line → Type 0
+AskInOrder [] [] = ⊤
+AskInOrder (l ∷ ls) (x ∷ xs) = Asks l x × AskInOrder ls xs
+AskInOrder [] (x ∷ xs) = ⊥
+AskInOrder (l ∷ ls) [] = ⊥
+
+-- The lines say this: the sizes, which the first may give, and then what each asks for. No line is left out.
+abbrev pub Says : List (List ℕ) → Option Config → List Line → Type 0
+Says ls None asked = AskInOrder ls asked
+Says [] (Some config) asked = ⊥
+Says (l ∷ ls) (Some config) asked = GivesSizes l config × AskInOrder ls asked
+
+-- The words are sizes, which are taken where none were given and nothing was asked for.
+pub record SetsSizes (old : Option Config) (asked : List Line) (words : List ℕ) (new : Option Config) (more : List Line) : Type 0 where
+  pub config : Config
+  pub sizes : AreSizes words config
+  pub none : old ≡ None
+  pub first : asked ≡ []
+  pub set : new ≡ Some config
+  pub kept : more ≡ []
+
+-- the line asks for something more
+pub record AsksMore (old : Option Config) (asked : List Line) (l : List ℕ) (new : Option Config) (more : List Line) : Type 0 where
+  pub line : Line
+  pub asks : Asks l line
+  pub kept : new ≡ old
+  pub added : more ≡ asked ++ line ∷ []
+
+-- A line that is no blank one asks for something more, or gives the sizes.
+abbrev pub AddsLine : (old : Option Config) (asked : List Line) (l : List ℕ) (new : Option Config) (more : List Line) → Type 0
+AddsLine old asked l new more =
+    AsksMore old asked l new more ⊎ ((word l ≡ codes "config") × SetsSizes old asked (rest_of l) new more)

@@ -1,7 +1,6 @@
 //! The programs over an IO-Lite system.
 //!
-//! `iolite replay` runs a script, read from standard input, and prints a reply a line. The usage line
-//! also names the programs `serve` and `loop`, which come with the server.
+//! `iolite replay` runs a script, read from standard input, and prints a reply a line.
 #![tactic(auto)]
 
 mod calls;
@@ -19,7 +18,7 @@ use std::io::ErrorKind;
 use std::process::ExitCode;
 use std::rt::Env;
 
-const USAGE: &str = "usage: iolite replay | serve PORT ROOT COUNT | loop ROOT PATH";
+const USAGE: &str = "usage: iolite replay";
 
 /// The exit status of a program that was given words it does not know.
 const BAD_WORDS: u8 = 2;

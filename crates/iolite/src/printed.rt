@@ -1,5 +1,9 @@
-//! The lines that replies and reports are printed as.
+//! The lines that replies and reports are printed as. What each prints stands in `specs/Printed`.
+ghost use Rattle.std.specs.Prelude.{Some};
+ghost use Rattle.iolite.specs.Printed.{bytes_text, four_digits, refusal_text, reply_text, report_text};
+
 use iol_core::events::Reply;
+use iol_core::refusals::Refusal;
 use iol_kernel::report::Report;
 use percent_encoding::{AsciiSet, CONTROLS, ascii_set, percent_encode};
 use std::fmt;
@@ -12,6 +16,8 @@ const ESCAPED: AsciiSet = ascii_set!(CONTROLS.add(b' ').add(b'%'));
 pub struct Printed<'a>(pub &'a Reply);
 
 impl fmt::Display for Printed<'_> {
+    ghost output = { λ printed. Some (reply_text printed.0.now) };
+
     fn fmt<W: fmt::Write>(&self, f: &mut fmt::Formatter<W>) -> fmt::Result {
         match self.0 {
             Reply::Done => write!(f, "done"),
@@ -29,10 +35,13 @@ impl fmt::Display for Printed<'_> {
                 write!(f, "bytes{text}")
             }
             Reply::Segment { bytes, checksum } => {
-                let text = Text(bytes.as_slice());
-                write!(f, "segment {checksum:04x}{text}")
+                let (sum, text) = (FourDigits(*checksum), Text(bytes.as_slice()));
+                write!(f, "segment {sum}{text}")
             }
-            Reply::Refused(refusal) => write!(f, "refused {refusal}"),
+            Reply::Refused(refusal) => {
+                let text = RefusalText(*refusal);
+                write!(f, "refused {text}")
+            }
         }
     }
 }
@@ -42,6 +51,8 @@ impl fmt::Display for Printed<'_> {
 pub struct PrintedReport<'a>(pub &'a Report);
 
 impl fmt::Display for PrintedReport<'_> {
+    ghost output = { λ printed. Some (report_text printed.0.now) };
+
     fn fmt<W: fmt::Write>(&self, f: &mut fmt::Formatter<W>) -> fmt::Result {
         for of in self.0.pools.as_slice() {
             let (pool, pages, free, retired) = (of.pool, of.pages, of.free, of.retired);
@@ -57,11 +68,47 @@ impl fmt::Display for PrintedReport<'_> {
 struct Text<'a>(&'a [u8]);
 
 impl fmt::Display for Text<'_> {
+    ghost output = { λ text. Some (bytes_text text.0.now) };
+
     fn fmt<W: fmt::Write>(&self, f: &mut fmt::Formatter<W>) -> fmt::Result {
         if self.0.is_empty() {
             return Ok(());
         }
         let encoded = percent_encode(self.0, ESCAPED);
         write!(f, " {encoded}")
+    }
+}
+
+/// A number, to be printed as four hexadecimal digits.
+#[derive(Clone, Copy)]
+struct FourDigits(u16);
+
+impl fmt::Display for FourDigits {
+    ghost output = { λ number. Some (four_digits number.0) };
+
+    fn fmt<W: fmt::Write>(&self, f: &mut fmt::Formatter<W>) -> fmt::Result {
+        let number = self.0;
+        let (first, second) = (number / 4096, number / 256 % 16);
+        let (third, fourth) = (number / 16 % 16, number % 16);
+        write!(f, "{first:x}{second:x}{third:x}{fourth:x}")
+    }
+}
+
+/// A refusal: its name, and the pool or the file that it names. The text of its own `Display` has no contract.
+#[derive(Clone, Copy)]
+struct RefusalText(Refusal);
+
+impl fmt::Display for RefusalText {
+    ghost output = { λ text. Some (refusal_text text.0) };
+
+    fn fmt<W: fmt::Write>(&self, f: &mut fmt::Formatter<W>) -> fmt::Result {
+        match self.0 {
+            Refusal::Denied { pool } => write!(f, "Denied pool {pool}"),
+            Refusal::PoolClosed { pool } => write!(f, "PoolClosed pool {pool}"),
+            Refusal::PoolBusy { pool } => write!(f, "PoolBusy pool {pool}"),
+            Refusal::NoRoom { pool } => write!(f, "NoRoom pool {pool}"),
+            Refusal::Fault { file } => write!(f, "Fault file {file}"),
+            refusal => f.write_str(refusal.name()),
+        }
     }
 }

@@ -1,11 +1,11 @@
 //! The program `replay`.
-ghost use Rattle.std.specs.Prelude.{◌≡◌, ◌≢◌, ◌⊎◌, Err, IfOk, IfErr, IfSome, OnOk, OnErr, map, string_bytes};
+ghost use Rattle.std.specs.Prelude.{◌≡◌, ◌≢◌, ◌⊎◌, ◌++◌, Err, IfOk, IfErr, IfSome, OnOk, OnErr, string_bytes};
+ghost use Rattle.std.specs.Io.KnownBytes.{Appends};
 ghost use Rattle.std.specs.IoError.{error_kind};
-ghost use Rattle.iol_core.specs.Run.{Run};
-ghost use Rattle.iol_core.specs.State.{State, new_state, no_slots};
+ghost use Rattle.iolite.specs.Answers.{Answered, IsAnswer, Replayed};
 ghost use Rattle.iolite.specs.Failure.{status_of, IsOfInput};
-ghost use Rattle.iol_kernel.specs.KernelState.{machine_of};
-ghost use Rattle.iolite.specs.Script.{IsScriptText, IsWholeOrTooLong, IsAnswer, asks_report, is_report, events_of, replies_of};
+ghost use Rattle.iolite.specs.Printed.{answer_text, lines_of, newline};
+ghost use Rattle.iolite.specs.Script.{IsScriptText, IsWholeOrTooLong};
 
 use crate::failure::Failure;
 use crate::printed::{Printed, PrintedReport};
@@ -16,10 +16,13 @@ use iol_kernel::report::Report;
 use iol_system::system::System;
 use std::alloc::Global;
 use std::io;
-use std::io::{BufWriter, ErrorKind, Read, Write};
+use std::io::{ErrorKind, Read, Write};
 
 /// The bytes that a script may have.
 const MAX_SCRIPT_BYTES: u64 = 0x100_0000;
+
+/// The bytes of lines that are kept before they are written.
+const BUFFER_BYTES: usize = 8192;
 
 /// What a line of a script is answered.
 #[derive(Debug, Drop)]
@@ -28,10 +31,12 @@ pub enum Answer {
     Report(Report),
 }
 
-/// Runs the script that the input holds, and prints a reply a line. The answer is the exit status.
+/// Runs the script that the input holds, and prints a reply a line. The answer is the exit status: 0, or 2 for a bad
+/// script or line, or 3 where input, output or memory failed.
 ///
-/// The script is read whole before the first event, so a bad one prints nothing on `output`. What
-/// goes wrong is told on `errors` in one line, and nothing is told where that cannot be written.
+/// Each line of the script is answered by a system of the script's sizes, and each answer printed, in order. The
+/// script is read whole before the first event, so a bad one prints nothing on `output`. What goes wrong is told on
+/// `errors` in one line, and nothing is told where that cannot be written.
 pub fn replay<R: Read, W: Write, E: Write>(
     alloc: Global,
     input: &mut R,
@@ -40,7 +45,13 @@ pub fn replay<R: Read, W: Write, E: Write>(
 ) -> u8
     ensures statuses { (result ≡ 0) ⊎ (result ≡ 2) ⊎ (result ≡ 3) }
     ensures bad_script_prints_nothing { result ≡ 2 → output.new ≡ output.old }
-    ensures no_script { IfSome (R.remaining input.old) (λ given. ¬ (IsScriptText given) → result ≢ 0) }
+    ensures no_script {
+        IfSome (R.remaining input.old) (λ given. ¬ (IsScriptText given) → result ≢ 0)
+    }
+    ensures replayed {
+        result ≡ 0 → IfSome (R.remaining input.old)
+            (λ given. Replayed given (W.contents output.old) (W.contents output.new))
+    }
 {
     match run(alloc, input, output) {
         Ok(()) => 0,
@@ -53,9 +64,18 @@ pub fn replay<R: Read, W: Write, E: Write>(
 
 /// Does the work of `replay`, up to the first failure.
 fn run<R: Read, W: Write>(alloc: Global, input: &mut R, output: &mut W) -> Result<(), Failure>
-    ensures untouched { IfErr result (λ failure. status_of failure ≡ 2 → output.new ≡ output.old) }
+    ensures untouched {
+        IfErr result (λ failure. status_of failure ≡ 2 → output.new ≡ output.old)
+    }
     ensures ok { OnOk result (IfSome (R.remaining input.old) IsScriptText) }
-    ensures bad { result ≡ Err Failure.BadScript → IfSome (R.remaining input.old) (λ given. ¬ (IsScriptText given)) }
+    ensures bad {
+        result ≡ Err Failure.BadScript →
+            IfSome (R.remaining input.old) (λ given. ¬ (IsScriptText given))
+    }
+    ensures replayed {
+        OnOk result (IfSome (R.remaining input.old)
+            (λ given. Replayed given (W.contents output.old) (W.contents output.new)))
+    }
 {
     let text = read_text(alloc, input)?;
     let script = Script::parse(alloc, text.as_str())?;
@@ -65,9 +85,14 @@ fn run<R: Read, W: Write>(alloc: Global, input: &mut R, output: &mut W) -> Resul
 
 /// Reads the input to its end, as a script.
 fn read_text<R: Read>(alloc: Global, input: &mut R) -> Result<String, Failure>
-    ensures whole { IfOk result (λ text. IfSome (R.remaining input.old) (λ given. string_bytes text ≡ given)) }
+    ensures whole {
+        IfOk result (λ text. IfSome (R.remaining input.old) (λ given. string_bytes text ≡ given))
+    }
     ensures script { IfOk result (λ text. IsScriptText (string_bytes text)) }
-    ensures bad { result ≡ Err Failure.BadScript → IfSome (R.remaining input.old) (λ given. ¬ (IsScriptText given)) }
+    ensures bad {
+        result ≡ Err Failure.BadScript →
+            IfSome (R.remaining input.old) (λ given. ¬ (IsScriptText given))
+    }
     ensures error { IfErr result IsOfInput }
 {
     let bytes = read_bytes(alloc, input)?;
@@ -76,8 +101,12 @@ fn read_text<R: Read>(alloc: Global, input: &mut R) -> Result<String, Failure>
 
 /// Reads the input to its end, or to one byte past the most that a script may have.
 fn read_bytes<R: Read>(alloc: Global, input: &mut R) -> Result<Vec<u8>, Failure>
-    ensures bytes { IfOk result (λ bytes. IfSome (R.remaining input.old) (IsWholeOrTooLong bytes.items)) }
-    ensures error { IfErr result (λ failure. (failure ≡ Failure.Input) ⊎ (failure ≡ Failure.Memory)) }
+    ensures bytes {
+        IfOk result (λ bytes. IfSome (R.remaining input.old) (IsWholeOrTooLong bytes.items))
+    }
+    ensures error {
+        IfErr result (λ failure. (failure ≡ Failure.Input) ⊎ (failure ≡ Failure.Memory))
+    }
 {
     let mut bytes = Vec::new(alloc);
     match input.take(MAX_SCRIPT_BYTES + 1).read_to_end(&mut bytes) {
@@ -102,10 +131,11 @@ fn text_of(bytes: Vec<u8>) -> Result<String, Failure>
     }
 }
 
-/// Runs a script on a new system. The events are a run, and the reports are no part of it.
+// Answers each line of a script, by a new system of the script's sizes.
 fn answers_to(alloc: Global, script: Script) -> Result<Vec<Answer>, Failure>
-    ensures run { IfOk result (λ answers. (after : State) × Run (new_state no_slots) (events_of script.lines.items) (replies_of answers.items) after) }
-    ensures in_place { IfOk result (λ answers. map is_report answers.items ≡ map asks_report script.lines.items) }
+    ensures answered {
+        IfOk result (λ answers. Answered script.config script.lines.items answers.items)
+    }
     ensures error { IfErr result (λ failure. failure ≡ Failure.Memory) }
 {
     let config = script.config.unwrap_or(Config::DEFAULT);
@@ -125,9 +155,9 @@ fn answers_to(alloc: Global, script: Script) -> Result<Vec<Answer>, Failure>
     Ok(answers)
 }
 
-/// Carries out an event, or makes a report, which changes nothing.
+// Carries out an event, or makes a report, which changes nothing.
 fn answer_to(system: &mut System, line: Line) -> Result<Answer, Failure>
-    ensures answer { IfOk result (λ answer. IsAnswer (machine_of system.old) line answer (machine_of system.new)) }
+    ensures answer { IfOk result (λ answer. IsAnswer system.old line answer system.new) }
     ensures error { IfErr result (λ failure. failure ≡ Failure.Memory) }
 {
     match line {
@@ -142,9 +172,15 @@ fn answer_to(system: &mut System, line: Line) -> Result<Answer, Failure>
     }
 }
 
-/// Prints each reply on a line of its own, and of each report its lines.
+// Prints each reply on a line of its own, and of each report its lines.
 fn print<W: Write>(alloc: Global, answers: &[Answer], output: &mut W) -> Result<(), Failure>
-    ensures { IfErr result (λ failure. (failure ≡ Failure.Output) ⊎ (failure ≡ Failure.Memory)) }
+    ensures lines {
+        OnOk result
+            (Appends (W.contents output.old) (W.contents output.new) (lines_of answers.now))
+    }
+    ensures error {
+        IfErr result (λ failure. (failure ≡ Failure.Output) ⊎ (failure ≡ Failure.Memory))
+    }
 {
     match write_lines(alloc, answers, output) {
         Ok(()) => Ok(()),
@@ -152,21 +188,43 @@ fn print<W: Write>(alloc: Global, answers: &[Answer], output: &mut W) -> Result<
     }
 }
 
-fn write_lines<W: Write>(alloc: Global, answers: &[Answer], output: &mut W) -> io::Result<()> {
-    let mut lines = BufWriter::new(alloc, output)?;
+// Writes the lines of all answers, in order, many at a time. They are gathered here and not in a `BufWriter`, of which
+// no contract says that the writer it gives back is the one that it was given.
+fn write_lines<W: Write>(alloc: Global, answers: &[Answer], output: &mut W) -> io::Result<()>
+    ensures {
+        OnOk result
+            (Appends (W.contents output.old) (W.contents output.new) (lines_of answers.now))
+    }
+{
+    let mut pending = Vec::with_capacity(alloc, BUFFER_BYTES)?;
     for answer in answers {
-        match answer {
-            Answer::Reply(reply) => {
-                let printed = Printed(reply);
-                writeln!(lines, "{printed}")?;
-            }
-            Answer::Report(report) => {
-                let printed = PrintedReport(report);
-                writeln!(lines, "{printed}")?;
-            }
+        write_answer(answer, &mut pending)?;
+        if pending.len() >= BUFFER_BYTES {
+            output.write_all(pending.as_slice())?;
+            pending.clear();
         }
     }
-    lines.flush()
+    output.write_all(pending.as_slice())?;
+    output.flush()
+}
+
+// Writes the text of an answer, and the end of its last line.
+fn write_answer<W: Write>(answer: &Answer, output: &mut W) -> io::Result<()>
+    ensures {
+        OnOk result (Appends (W.contents output.old) (W.contents output.new)
+            (answer_text answer.now ++ newline))
+    }
+{
+    match answer {
+        Answer::Reply(reply) => {
+            let printed = Printed(reply);
+            writeln!(output, "{printed}")
+        }
+        Answer::Report(report) => {
+            let printed = PrintedReport(report);
+            writeln!(output, "{printed}")
+        }
+    }
 }
 
 /// The failure that an error of a reader or a writer is: want of memory, or `otherwise`.

@@ -3,15 +3,18 @@ ghost use Rattle.std.specs.Prelude.{◌≡◌, ◌↔◌, ◌<◌, ◌+◌, ◌*
 ghost use Rattle.std.specs.List.{before_first, after_first, position_or_len, repeat};
 ghost use Rattle.std.specs.Str.Parse.{IsNumeral, digits_value};
 ghost use Rattle.iolite.specs.declared.words.LineError.TheVariants.{Memory};
+ghost use Rattle.iolite.specs.declared.words.TheConstants.{MAX_REPEATED_BYTES};
 ghost use Rattle.percent_encoding.specs.Percent.{percent_decode as decoded};
 
+use iol_core::limits::MAX_AGGREGATE_BYTES;
 use iol_core::lists::{Bytes, Domains};
 use iol_core::numbers::DomainId;
 use percent_encoding::percent_decode;
 use std::alloc::{AllocError, AllocFailed, Global};
 
-/// The bytes that a text may have once it is repeated: one more than an aggregate may have.
-const MAX_REPEATED_BYTES: u64 = 0x100_0001;
+/// The bytes that a text may have once it is repeated: one more than an aggregate may have, so that a script can ask
+/// for one that is too long.
+const MAX_REPEATED_BYTES: u64 = MAX_AGGREGATE_BYTES as u64 + 1;
 
 /// Why a line has no meaning.
 #[derive(Clone, Copy, Debug, PartialEq, Eq)]
@@ -41,7 +44,9 @@ impl<T: Drop> From<AllocFailed<T>> for LineError {
 
 /// Reads a number of decimal digits alone.
 pub fn parse_u32(word: &str) -> Result<u32, LineError>
-    ensures accepts { IsOk result ↔ (IsNumeral 10 word.now × (digits_value 10 word.now < 2 ^ 32)) }
+    ensures accepts {
+        IsOk result ↔ (IsNumeral 10 word.now × (digits_value 10 word.now < 2 ^ 32))
+    }
     ensures value { IfOk result (λ n. n ≡ digits_value 10 word.now) }
 {
     if word.as_bytes().first() == Some(&b'+') {
@@ -55,7 +60,9 @@ pub fn parse_u32(word: &str) -> Result<u32, LineError>
 
 /// Reads a number of decimal digits alone.
 pub fn parse_u64(word: &str) -> Result<u64, LineError>
-    ensures accepts { IsOk result ↔ (IsNumeral 10 word.now × (digits_value 10 word.now < 2 ^ 64)) }
+    ensures accepts {
+        IsOk result ↔ (IsNumeral 10 word.now × (digits_value 10 word.now < 2 ^ 64))
+    }
     ensures value { IfOk result (λ n. n ≡ digits_value 10 word.now) }
 {
     if word.as_bytes().first() == Some(&b'+') {
@@ -100,7 +107,10 @@ pub fn decode_text(alloc: Global, text: &str) -> Result<Bytes, AllocError>
 /// Reads a text, so many times over. Where that is too long the line is not a command.
 pub fn repeat_text(alloc: Global, count: u32, text: &str) -> Result<Bytes, LineError>
     ensures bytes { IfOk result (λ bytes. bytes ≡ repeat count (decoded text.now)) }
-    ensures long { (result ≡ Err LineError.NotACommand) ↔ (2 ^ 24 + 1 < count * length (decoded text.now)) }
+    ensures long {
+        (result ≡ Err LineError.NotACommand)
+            ↔ (MAX_REPEATED_BYTES < count * length (decoded text.now))
+    }
 {
     let length = percent_decode(text.as_bytes()).count() as u64;
     if length.saturating_mul(u64::from(count)) > MAX_REPEATED_BYTES {

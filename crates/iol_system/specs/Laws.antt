@@ -1,0 +1,65 @@
+-- Laws of runs: what follows from a chain of steps that keep their promises. Each is the contract of a function of `laws`.
+use Rattle.std.specs.Prelude.{◌≡◌, true, List, ◌∷◌, ◌++◌}
+use Rattle.std.specs.List.{list_all}
+use Rattle.iol_core.specs.Run.{Run}
+use Rattle.iol_core.specs.Sharing.{is_sharing}
+use Rattle.iol_core.specs.declared.events.Event.{Event}
+use Rattle.iol_core.specs.declared.events.Reply.{Reply}
+use Rattle.iol_hold.specs.Moves.{Stays}
+use Rattle.iol_kernel.specs.KernelState.{KernelState, machine_of, layout_of}
+use Rattle.iol_system.specs.Promises.{Promises, Chain}
+use Rattle.iol_system.specs.Safe.{IsSafe}
+use Rattle.iol_system.specs.Values.{ValuesStayOver}
+
+-- the replies of a run, and the state after it, are those of the copying machine
+abbrev pub RunsAsTheMachine : Type 0
+RunsAsTheMachine = (old new : KernelState) (es : List Event) (rs : List Reply) → Chain old es rs new → Run (machine_of old) es rs (machine_of new)
+
+-- What the system held between the first events of a run and the others. Each part is a run of its own.
+pub record Between (old : KernelState) (past future : List Event) (rs : List Reply) (new : KernelState) : Type 0 where
+  pub now : KernelState
+  pub past_replies : List Reply
+  pub future_replies : List Reply
+  pub replies : rs ≡ past_replies ++ future_replies
+  pub before : Chain old past past_replies now
+  pub after : Chain now future future_replies new
+
+-- a run of some events and then others is a run of the first, and from there one of the others
+abbrev pub RunsInParts : Type 0
+RunsInParts = (old new : KernelState) (past future : List Event) (rs : List Reply) → Chain old (past ++ future) rs new → Between old past future rs new
+
+-- an event of a run, and its reply: a step that keeps all promises, between a run of the events before and one of those after it
+pub record Moment (old : KernelState) (past : List Event) (e : Event) (future : List Event) (rs : List Reply) (new : KernelState) : Type 0 where
+  pub before : KernelState
+  pub after : KernelState
+  pub past_replies : List Reply
+  pub reply : Reply
+  pub future_replies : List Reply
+  pub replies : rs ≡ past_replies ++ reply ∷ future_replies
+  pub past_runs : Chain old past past_replies before
+  pub promises : Promises before e reply after
+  pub future_runs : Chain after future future_replies new
+
+-- Each event of a run keeps all promises of a step: so NoRoom is answered exactly where there is no room, and so on.
+abbrev pub EachEventIsAStep : Type 0
+EachEventIsAStep = (old new : KernelState) (past : List Event) (e : Event) (future : List Event) (rs : List Reply) → Chain old (past ++ e ∷ future) rs new → Moment old past e future rs new
+
+-- a run from a safe system ends in one; by the law on parts the system is safe at each moment
+abbrev pub RunsStaySafe : Type 0
+RunsStaySafe = (old new : KernelState) (es : List Event) (rs : List Reply) → Chain old es rs new → IsSafe old → IsSafe new
+
+-- what is live before and after a run has the same bytes and pool, and no identity is given twice
+abbrev pub RunsKeepBuffers : Type 0
+RunsKeepBuffers = (old new : KernelState) (es : List Event) (rs : List Reply) → Chain old es rs new → Stays old.store new.store
+
+-- an aggregate that no event of a run gives up keeps its value
+abbrev pub RunsKeepValues : Type 0
+RunsKeepValues = (old new : KernelState) (es : List Event) (rs : List Reply) → Chain old es rs new → ValuesStayOver (machine_of old) es (machine_of new)
+
+-- after a run of calls that share, each byte lies where the calls' own meaning puts its place, and each page is as it was
+pub record SharesOver (old : KernelState) (es : List Event) (rs : List Reply) (new : KernelState) : Type 0 where
+  pub places : Run (layout_of old) es rs (layout_of new)
+  pub arena : new.store.arena ≡ old.store.arena
+
+abbrev pub RunsShare : Type 0
+RunsShare = (old new : KernelState) (es : List Event) (rs : List Reply) → Chain old es rs new → list_all is_sharing es ≡ true → SharesOver old es rs new

@@ -1,0 +1,193 @@
+//! Rounds of calls keep no memory: each kind of round gives up what it made, is made 1,000 times and then on to 100,000
+//! times, and what the process has in memory grows by a tenth at most between the two.
+use iol_core::configuration::Config;
+use iol_core::events::{Call, Event, Reply};
+use iol_core::lists::{Bytes, Domains};
+use iol_core::numbers::{AggId, DomainId, Fd, PoolId};
+use iol_system::system::System;
+use std::alloc::{AllocError, AllocFailed, Global};
+use std::fs;
+use std::test::Fail;
+
+const FIRST: u32 = 1_000;
+const ALL: u32 = 100_000;
+
+/// The sizes of the system: as small as can be, so that what is kept stands out.
+const SIZES: Config = Config {
+    chunks: 1,
+    gen_limit: u32::MAX,
+    sums: 1,
+};
+
+/// Why rounds stop.
+#[derive(Clone, Copy, Debug, PartialEq, Eq)]
+enum Failure {
+    /// A call was refused.
+    Refused,
+
+    /// A call was answered as another would be.
+    AnotherAnswer,
+
+    /// There was no memory for what a call is made with.
+    Memory,
+
+    /// The size of the process could not be read.
+    Unmeasured,
+}
+
+impl From<AllocError> for Failure {
+    fn from(_error: AllocError) -> Failure {
+        Failure::Memory
+    }
+}
+
+impl<T: Drop> From<AllocFailed<T>> for Failure {
+    fn from(_error: AllocFailed<T>) -> Failure {
+        Failure::Memory
+    }
+}
+
+/// A kind of round.
+#[derive(Clone, Copy, Debug, PartialEq, Eq)]
+enum Round {
+    /// An aggregate is made and dropped.
+    MakeAndDrop,
+
+    /// An aggregate is written into a pipe, read from it, and what was read dropped.
+    WriteAndRead,
+
+    /// A copy is made, and the one before it dropped, so that holes come to lie between the first and the last.
+    DropInTheMiddle,
+}
+
+/// Rounds of one kind, on a system of their own.
+#[derive(Drop)]
+struct Rounds {
+    alloc: Global,
+    system: System,
+    round: Round,
+
+    /// An aggregate that stays.
+    first: AggId,
+
+    /// The copy of it that was made last.
+    last: AggId,
+}
+
+impl Rounds {
+    /// A system with a pool, a pipe, an aggregate and a copy of it.
+    fn new(alloc: Global, round: Round) -> Result<Rounds, Failure> {
+        let Ok(mut system) = System::new(alloc, SIZES) else {
+            return Err(Failure::Refused);
+        };
+        let domains = Domains::from_vec([DomainId::new(1)].to_vec(alloc)?);
+        carry_out(&mut system, Call::PoolCreate { chunks: 1, domains })?;
+        let pool = PoolId::new(1);
+        carry_out(&mut system, Call::SetPool { pool })?;
+        carry_out(&mut system, Call::Pipe)?;
+        let bytes = text(alloc)?;
+        let first = make(&mut system, Call::AggMake { bytes })?;
+        let last = make(&mut system, Call::AggDup { agg: first })?;
+        Ok(Rounds {
+            alloc,
+            system,
+            round,
+            first,
+            last,
+        })
+    }
+
+    /// Makes so many rounds, or fails at the first call that is refused.
+    fn repeat(&mut self, count: u32) -> Result<(), Failure> {
+        for _ in 0..count {
+            self.make_round()?;
+        }
+        Ok(())
+    }
+
+    fn make_round(&mut self) -> Result<(), Failure> {
+        match self.round {
+            Round::MakeAndDrop => self.make_and_drop(),
+            Round::WriteAndRead => self.write_and_read(),
+            Round::DropInTheMiddle => self.drop_in_the_middle(),
+        }
+    }
+
+    fn make_and_drop(&mut self) -> Result<(), Failure> {
+        let bytes = text(self.alloc)?;
+        let agg = make(&mut self.system, Call::AggMake { bytes })?;
+        carry_out(&mut self.system, Call::AggDrop { agg })?;
+        Ok(())
+    }
+
+    fn write_and_read(&mut self) -> Result<(), Failure> {
+        let (fd, agg) = (Fd::new(1), self.first);
+        carry_out(&mut self.system, Call::IolWrite { fd, agg })?;
+        let (fd, count) = (Fd::new(0), 9);
+        let agg = make(&mut self.system, Call::IolRead { fd, count })?;
+        carry_out(&mut self.system, Call::AggDrop { agg })?;
+        Ok(())
+    }
+
+    fn drop_in_the_middle(&mut self) -> Result<(), Failure> {
+        let made = make(&mut self.system, Call::AggDup { agg: self.first })?;
+        carry_out(&mut self.system, Call::AggDrop { agg: self.last })?;
+        self.last = made;
+        Ok(())
+    }
+}
+
+/// A short text to make an aggregate of.
+fn text(alloc: Global) -> Result<Bytes, AllocError> {
+    let bytes = b"hello".to_vec(alloc)?;
+    Ok(Bytes::from_vec(bytes))
+}
+
+/// Makes a call of domain 1, which has to pass.
+fn carry_out(system: &mut System, call: Call) -> Result<Reply, Failure> {
+    let by = DomainId::new(1);
+    match system.step(Event::Call { by, call }) {
+        Reply::Refused(_) => Err(Failure::Refused),
+        reply => Ok(reply),
+    }
+}
+
+/// Makes a call that gives an aggregate.
+fn make(system: &mut System, call: Call) -> Result<AggId, Failure> {
+    match carry_out(system, call)? {
+        Reply::Agg(agg) => Ok(agg),
+        _ => Err(Failure::AnotherAnswer),
+    }
+}
+
+/// The pages of the process that are in memory, as Linux tells them: the second number of `/proc/self/statm`.
+fn resident_pages(rt: &HostRuntime) -> Result<u64, Failure> {
+    let Ok(text) = fs::read_to_string(rt, "/proc/self/statm") else {
+        return Err(Failure::Unmeasured);
+    };
+    let Some(word) = text.split(' ').nth(1) else {
+        return Err(Failure::Unmeasured);
+    };
+    match word.parse::<u64>() {
+        Ok(pages) => Ok(pages),
+        Err(_) => Err(Failure::Unmeasured),
+    }
+}
+
+#[test]
+fn rounds_keep_no_memory(rt: HostRuntime) -> Result<(), Fail> {
+    for round in [
+        Round::MakeAndDrop,
+        Round::WriteAndRead,
+        Round::DropInTheMiddle,
+    ] {
+        let mut rounds = Rounds::new(rt.alloc(), round)?;
+        rounds.repeat(FIRST)?;
+        let first = resident_pages(&rt)?;
+        rounds.repeat(ALL - FIRST)?;
+        let all = resident_pages(&rt)?;
+        let is_kept = u128::from(all) * 10 <= u128::from(first) * 11;
+        assert!(rt; is_kept, "{round:?}: from {first} to {all} pages");
+    }
+    Ok(())
+}
