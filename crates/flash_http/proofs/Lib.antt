@@ -1,2 +1,3 @@
 pub mod ScanLemmas
 pub mod WindowLaws
+pub mod Digits

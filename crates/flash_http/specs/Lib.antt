@@ -1,2 +1,6 @@
 pub mod Window
 pub mod Scan
+pub mod Fields
+pub mod Target
+pub mod Range
+pub mod Name
