@@ -1,5 +1,5 @@
 -- The fields and the method of a head, and what they say.
-use Rattle.std.specs.Prelude.{ℕ, ◌&&◌, ◌||◌, ◌==◌, not, Bool, true, false, List, [], ◌∷◌, length, map, filter, codes, bytes_eq}
+use Rattle.std.specs.Prelude.{ℕ, ◌&&◌, ◌||◌, ◌==◌, not, Bool, true, false, List, [], ◌∷◌, length, map, filter, codes, bytes_eq, Option, Some, None, if◌then◌else◌}
 use Rattle.std.specs.List.{list_all, list_any, slice_split}
 use Rattle.std.specs.Int.{is_in_range}
 use Rattle.std.specs.Str.{str_eq_ignore_ascii_case}
@@ -36,10 +36,13 @@ has_one_host fields = is_one_host (values_of (codes "host") fields)
 
 -- ---- content (RFC 9112, section 6.3: a request has it by Transfer-Encoding or Content-Length)
 
+abbrev pub is_not_zero : List ℕ → Bool
+is_not_zero value = not (bytes_eq value (codes "0"))
+
 abbrev pub has_content : List Field → Bool
 has_content fields =
     not (lacks (codes "transfer-encoding") fields)
-    || list_any (λ value. not (bytes_eq value (codes "0"))) (values_of (codes "content-length") fields)
+    || list_any is_not_zero (values_of (codes "content-length") fields)
 
 -- ---- Connection (RFC 9110, section 7.6.1; RFC 9112, section 9.3)
 
@@ -50,6 +53,17 @@ names_close value =
 
 abbrev pub asks_to_close : List Field → Bool
 asks_to_close fields = list_any names_close (values_of (codes "connection") fields)
+
+-- ---- Range and If-Range (RFC 9110, sections 13.1.5 and 14.2)
+
+abbrev pub only : List (List ℕ) → Option (List ℕ)
+only [] = None
+only (value ∷ []) = Some value
+only (value ∷ other ∷ others) = None
+
+-- the value of the one Range field; none where a condition goes with it
+abbrev pub one_range : List Field → Option (List ℕ)
+one_range fields = if lacks (codes "if-range") fields then only (values_of (codes "range") fields) else None
 
 -- ---- methods, whose case counts (RFC 9110, section 9.1)
 

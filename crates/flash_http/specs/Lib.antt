@@ -4,3 +4,5 @@ pub mod Fields
 pub mod Target
 pub mod Range
 pub mod Name
+pub mod Request
+pub mod Views
