@@ -3,4 +3,5 @@ pub mod WindowLaws
 pub mod Digits
 pub mod FieldLemmas
 pub mod TargetLemmas
+pub mod HeadLemmas
 pub mod OneAnswer

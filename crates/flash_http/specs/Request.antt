@@ -104,6 +104,10 @@ Asks (Some r) a =
 abbrev pub IsAnswerTo : List ℕ → Answer → Type 0
 IsAnswerTo bytes a = (reading : Option Reading) × Reads bytes reading × Asks reading a
 
+-- a head whose target is looked at, since its fields and its method refuse nothing
+abbrev pub LooksAtTarget : List ℕ → Type 0
+LooksAtTarget bytes = (reading : Reading) × Reads bytes (Some reading) × (refusal reading ≡ None)
+
 -- a head has one answer
 abbrev pub OneAnswer : Type 0
 OneAnswer = (head : List ℕ) (a b : Answer) → IsAnswerTo head a → IsAnswerTo head b → a ≡ b

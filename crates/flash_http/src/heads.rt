@@ -1,5 +1,6 @@
 //! What a head asks for.
-ghost use Rattle.std.specs.Prelude.{◌≡◌, true, Some, IfOk, option_map};
+ghost use Rattle.std.specs.Prelude.{◌≡◌, ◌≤◌, true, Some, None, IfOk, OnErr, length, option_map};
+ghost use Rattle.httparse.specs.Spans.{IsRequestWithin, IsRequestOf};
 ghost use Rattle.flash_http.specs.Request as spec;
 ghost use Rattle.flash_http.specs.Views.{reading};
 
@@ -11,7 +12,7 @@ use crate::requests::{Asked, Part, Request};
 use crate::targets::file_of;
 use http::StatusCode;
 use httparse::Status;
-use httparse::spans::{EMPTY_HEADER_SPAN, parse_request};
+use httparse::spans::{EMPTY_HEADER_SPAN, HeaderSpan, RequestSpans, parse_request};
 use std::alloc::{AllocError, Global};
 
 /// The fields that a head may have.
@@ -83,7 +84,8 @@ impl Parsed<'_> {
     }
 
     fn ask(&self, alloc: Global) -> Result<Asked, AllocError>
-        ensures { IfOk result (λ asked. spec.Asks (Some (reading self.now)) (spec.answer asked)) }
+        ensures answer { IfOk result (λ asked. spec.Asks (Some (reading self.now)) (spec.answer asked)) }
+        ensures memory { OnErr result (spec.refusal (reading self.now) ≡ None) }
     {
         if let Some(refusal) = self.refusal() {
             return Ok(refusal);
@@ -104,23 +106,34 @@ impl Parsed<'_> {
     }
 }
 
+// The parts of a head that was read whole.
+fn parts_of<'a>(head: &'a [u8], found: RequestSpans, spans: &'a [HeaderSpan]) -> Parsed<'a>
+    requires within { IsRequestWithin head.now spans.now found }
+    requires complete { IsRequestOf head.now spans.now found }
+    requires whole { found.len ≡ length head.now }
+    requires room { length spans.now ≤ MAX_FIELDS }
+    ensures { spec.Reads head.now (Some (reading result)) }
+{
+    Parsed {
+        method: found.method.of(head),
+        target: found.path.of(head),
+        minor: found.version,
+        fields: Fields::new(head, &spans[..found.headers]),
+    }
+}
+
 /// Says what a head asks for: `head` is the whole head, from its first line to the empty line at its end.
 ///
-/// It follows RFC 9110, RFC 9112 and RFC 3986 by the profile of docs/HTTP.md. Memory is needed for the target alone;
-/// where it is refused, the same call again gives the answer.
+/// It follows RFC 9110, RFC 9112 and RFC 3986 by the profile of docs/HTTP.md. Memory is needed for the target alone, and
+/// only where the fields and the method refuse nothing; where it is refused, the same call again gives the answer.
 pub fn read_head(alloc: Global, head: &[u8]) -> Result<Asked, AllocError>
-    ensures { IfOk result (λ asked. spec.IsAnswerTo head.now (spec.answer asked)) }
+    ensures answer { IfOk result (λ asked. spec.IsAnswerTo head.now (spec.answer asked)) }
+    ensures memory { OnErr result (spec.LooksAtTarget head.now) }
 {
     let mut spans = [EMPTY_HEADER_SPAN; MAX_FIELDS];
     match parse_request(head, &mut spans) {
         Ok(Status::Complete(found)) if found.len == head.len() => {
-            let parsed = Parsed {
-                method: found.method.of(head),
-                target: found.path.of(head),
-                minor: found.version,
-                fields: Fields::new(head, &spans[..found.headers]),
-            };
-            parsed.ask(alloc)
+            parts_of(head, found, &spans).ask(alloc)
         }
         _ => Ok(bad(false)),
     }
