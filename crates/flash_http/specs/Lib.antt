@@ -3,6 +3,8 @@ pub mod Scan
 pub mod Fields
 pub mod Target
 pub mod Range
-pub mod Name
+pub mod MediaType
 pub mod Request
 pub mod Views
+pub mod Response
+pub mod Chunk

@@ -10,7 +10,7 @@ use Rattle.flash_http.specs.declared.heads.TheConstants.{MAX_FIELDS}
 use Rattle.flash_http.specs.Fields.{Field, one_range, has_one_host, has_content, asks_to_close, is_served_method, is_known_method}
 use Rattle.flash_http.specs.Target.{TargetIs}
 use Rattle.flash_http.specs.Range.{part_of_value}
-use Rattle.flash_http.specs.Name.{is_script}
+use Rattle.flash_http.specs.MediaType.{is_script}
 
 -- what is served: a `Request`, without where its text lies in memory
 pub record Wanted : Type 0 where
