@@ -5,3 +5,4 @@ pub mod FieldLemmas
 pub mod TargetLemmas
 pub mod HeadLemmas
 pub mod OneAnswer
+pub mod StatusTexts

@@ -1,5 +1,6 @@
 //! The heads of answers, and the bodies of refusals.
-ghost use Rattle.std.specs.Prelude.{◌≡◌, IfOk, Some, length, string_bytes};
+ghost use Rattle.std.specs.Prelude.{◌≡◌, IfOk, codes, length, string_bytes, unwrap_or};
+ghost use Rattle.http.specs.StatusCode.{reason_phrase};
 ghost use Rattle.flash_http.specs.Range.{LiesWithin};
 ghost use Rattle.flash_http.specs.Response as spec;
 
@@ -98,14 +99,23 @@ fn connection_line(close: bool) -> &'static str
     if close { "Connection: close\r\n" } else { "" }
 }
 
+// The phrase that is written after a status code.
+fn phrase_of(status: StatusCode) -> &'static str
+    ensures { result.now ≡ unwrap_or (reason_phrase status) (codes "<unknown status code>") }
+{
+    status
+        .canonical_reason()
+        .unwrap_or("<unknown status code>")
+}
+
+// The bytes of a refusal's body: the code, a space, the phrase and a line feed.
+#[tactic(auto, using(crate::proofs::StatusTexts::error_body_len))]
 fn error_len(status: StatusCode) -> u64
     ensures { result ≡ length (spec.error_body status) }
 {
-    let digits = status.as_str();
-    let phrase = status
-        .canonical_reason()
-        .unwrap_or("<unknown status code>");
-    (digits.len() + phrase.len() + 2) as u64
+    // Reading the code tells the proof that it has three digits.
+    let _code = status.as_u16();
+    (status.as_str().len() + phrase_of(status).len() + 2) as u64
 }
 
 /// The body of a refusal: the code and the phrase of its status, and a line feed.
