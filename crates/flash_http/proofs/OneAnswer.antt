@@ -4,7 +4,7 @@ use Rattle.std.specs.Prelude.{MatchOption, unwrap_or}
 use Rattle.httparse.proofs.GrammarLemmas.{request_unique}
 use Rattle.flash_http.proofs.TargetLemmas.{same_path, same_query}
 use Rattle.flash_http.specs.Target.{Names, TargetIs, file_name}
-use Rattle.flash_http.specs.Request.{Answer, Reading, reading_of, Reads, served, refusal, Asks, IsAnswerTo, OneAnswer}
+use Rattle.flash_http.specs.Request.{Answer, Reading, reading_of, Reads, served, refusal, Asks, OneAnswer}
 
 one_reading : (bytes : List ℕ) (r q : Option Reading) → Reads bytes r → Reads bytes q → r ≡ q
 one_reading bytes None None a b = refl

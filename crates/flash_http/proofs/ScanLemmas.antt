@@ -6,7 +6,7 @@ use Rattle.flash_http.specs.declared.windows.Window.TheVariants.{Wait, TooLarge}
 use Rattle.flash_http.specs.declared.scanning.Line.{Line}
 use Rattle.flash_http.specs.declared.scanning.Line.TheVariants.{Fresh, Return, Text}
 use Rattle.flash_http.specs.declared.scanning.Scan.{Scan}
-use Rattle.flash_http.specs.Window.{lines_from, lines, is_empty_line, line_len, skip_len, after_skip, head_len, head_in, window_at, window_in}
+use Rattle.flash_http.specs.Window.{lines_from, lines, is_empty_line, skip_len, after_skip, head_len, head_in, window_at, window_in}
 use Rattle.flash_http.specs.Scan.{next_line, is_text, found_from, window_from}
 
 cond_holds : {A : Type 0} (P : A → Type 0) (v : Bool) (x y : A) → P x → P y → P (cond v x y)

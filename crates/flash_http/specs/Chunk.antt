@@ -1,5 +1,5 @@
 -- Chunks: a body of unknown length, piece by piece (RFC 9112, section 7.1).
-use Rattle.std.specs.Prelude.{◌≡◌, ℕ, Bool, false, List, [], ◌++◌, length, codes}
+use Rattle.std.specs.Prelude.{◌≡◌, ℕ, false, List, [], ◌++◌, length, codes}
 use Rattle.std.specs.List.{flat_map}
 use Rattle.std.specs.Fmt.{digits}
 use Rattle.httparse.specs.Grammar.{ChunkLine, ReadsChunkLine, chunk_size}

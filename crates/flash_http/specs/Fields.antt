@@ -1,9 +1,11 @@
 -- The fields and the method of a head, and what they say.
-use Rattle.std.specs.Prelude.{ℕ, ◌&&◌, ◌||◌, ◌==◌, not, Bool, true, false, List, [], ◌∷◌, length, map, filter, codes, bytes_eq, Option, Some, None, if◌then◌else◌}
+use Rattle.std.specs.Prelude.{ℕ, ◌&&◌, ◌||◌, ◌==◌, not, Bool, false, List, [], ◌∷◌, length, map, filter, codes, bytes_eq, Option, Some, None, if◌then◌else◌}
 use Rattle.std.specs.List.{list_all, list_any, slice_split}
 use Rattle.std.specs.Int.{is_in_range}
 use Rattle.std.specs.Str.{str_eq_ignore_ascii_case}
 use Rattle.httparse.specs.Grammar.{trim_ows}
+use Rattle.httparse.specs.Spans.{header_bytes}
+use Rattle.httparse.specs.declared.spans.HeaderSpan.{HeaderSpan}
 
 -- A field: its name, and its value without the white space around it (RFC 9110, section 5).
 abbrev pub Field : Type 0
@@ -16,6 +18,10 @@ is_named name field = str_eq_ignore_ascii_case field.0 name
 -- the values of the fields of a name, in order
 abbrev pub values_of : List ℕ → List Field → List (List ℕ)
 values_of name fields = map (λ field. field.1) (filter (is_named name) fields)
+
+-- the same, where the fields lie in a head at these places
+abbrev pub values_at : (name head : List ℕ) → List HeaderSpan → List (List ℕ)
+values_at name head spans = values_of name (map (header_bytes head) spans)
 
 abbrev pub lacks : List ℕ → List Field → Bool
 lacks name fields = length (values_of name fields) == 0

@@ -1,5 +1,5 @@
 -- Byte ranges: the part that a Range field asks for, and what it selects of a file (RFC 9110, sections 14.1 and 14.2).
-use Rattle.std.specs.Prelude.{ℕ, ◌+◌, ◌-◌, ◌<◌, ◌≤◌, ◌==◌, ◌&&◌, Bool, List, [], length, take, drop, codes, bytes_eq, nat_lt, nat_le, min, Option, Some, None, option_map, ⊤, if◌then◌else◌}
+use Rattle.std.specs.Prelude.{ℕ, ◌+◌, ◌-◌, ◌<◌, ◌≤◌, ◌==◌, ◌&&◌, Bool, List, length, take, drop, codes, bytes_eq, nat_lt, nat_le, min, Option, Some, None, option_map, ⊤, if◌then◌else◌}
 use Rattle.std.specs.List.{list_all, position}
 use Rattle.std.specs.Char.{is_ascii_digit}
 use Rattle.std.specs.Str.Parse.{digits_value}

@@ -1,5 +1,5 @@
 -- What a head asks for, as a relation between its bytes and an answer.
-use Rattle.std.specs.Prelude.{◌≡◌, ℕ, ◌≤◌, ◌||◌, ◌&&◌, ◌==◌, not, string_bytes, Bool, true, false, List, [], ◌∷◌, length, map, codes, bytes_eq, Option, Some, None, MatchOption, option_and_then, if◌then◌else◌}
+use Rattle.std.specs.Prelude.{◌≡◌, ℕ, ◌≤◌, ◌||◌, ◌==◌, not, string_bytes, Bool, true, false, List, [], length, map, codes, bytes_eq, Option, Some, None, MatchOption, option_and_then, if◌then◌else◌}
 use Rattle.httparse.specs.Grammar.{RequestHead, ReadsRequest}
 use Rattle.httparse.specs.Spans.{name_and_value}
 use Rattle.flash_http.specs.declared.requests.Part.{Part}
@@ -28,8 +28,13 @@ pub data Answer : Type 0 where
 
 abbrev pub wanted : Request → Wanted
 wanted r = record {
-  head_only = r.head_only; name = string_bytes r.name; query = string_bytes r.query;
-  keep = r.keep; range = r.range; chunked = r.chunked }
+  head_only = r.head_only;
+  name = string_bytes r.name;
+  query = string_bytes r.query;
+  keep = r.keep;
+  range = r.range;
+  chunked = r.chunked;
+}
 
 abbrev pub answer : Asked → Answer
 answer (asked.Serve r) = serve (wanted r)
@@ -90,8 +95,13 @@ range_of r name =
 abbrev pub served : Reading → Option (List ℕ × List ℕ) → Answer
 served r None = bad r
 served r (Some file) = serve (record {
-  head_only = is_head_only r; name = file.0; query = file.1;
-  keep = not (closes r); range = range_of r file.0; chunked = r.minor == 1 })
+  head_only = is_head_only r;
+  name = file.0;
+  query = file.1;
+  keep = not (closes r);
+  range = range_of r file.0;
+  chunked = r.minor == 1;
+})
 
 abbrev pub Asks : Option Reading → Answer → Type 0
 Asks None a = a ≡ refuse 400 false true

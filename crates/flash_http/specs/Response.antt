@@ -1,5 +1,5 @@
 -- The head of an answer, and the body of a refusal (RFC 9110; RFC 9112, sections 4 to 6: a line ends with CR LF).
-use Rattle.std.specs.Prelude.{ℕ, ◌+◌, ◌-◌, ◌==◌, Bool, true, List, [], ◌++◌, length, codes, decimal, Option, Some, None, if◌then◌else◌}
+use Rattle.std.specs.Prelude.{ℕ, ◌+◌, ◌-◌, ◌==◌, Bool, List, [], ◌++◌, length, codes, decimal, Option, Some, None, if◌then◌else◌}
 use Rattle.http.specs.StatusCode.{status_text}
 use Rattle.flash_http.specs.declared.names.MediaType.{MediaType}
 use Rattle.flash_http.specs.declared.names.MediaType.TheVariants.{PlainText}
@@ -51,17 +51,37 @@ error_body status = status_text status ++ codes "\n"
 
 abbrev pub refusal_head : (status : ℕ) → (close : Bool) → ResponseHead
 refusal_head status close = record {
-  status = status; media_type = PlainText; framing = Length (length (error_body status)); range = None; close = close }
+  status = status;
+  media_type = PlainText;
+  framing = Length (length (error_body status));
+  range = None;
+  close = close;
+}
 
 -- of a file of len bytes: 200 OK, 206 Partial Content or 416 Range Not Satisfiable (RFC 9110, section 15)
 abbrev pub file_head : MediaType → Selection → (len : ℕ) → (close : Bool) → ResponseHead
 file_head media select.Whole len close = record {
-  status = 200; media_type = media; framing = Length len; range = None; close = close }
+  status = 200;
+  media_type = media;
+  framing = Length len;
+  range = None;
+  close = close;
+}
 file_head media (select.Bytes first last) len close = record {
-  status = 206; media_type = media; framing = Length (last - first + 1); range = Some (Bytes first last len); close = close }
+  status = 206;
+  media_type = media;
+  framing = Length (last - first + 1);
+  range = Some (Bytes first last len);
+  close = close;
+}
 file_head media select.Unsatisfiable len close = record (refusal_head 416 close) { range = Some (Unsatisfied len) }
 
 -- of a script, whose output is text of unknown length: in chunks, or up to the close of the connection
 abbrev pub script_head : (chunked close : Bool) → ResponseHead
 script_head chunked close = record {
-  status = 200; media_type = PlainText; framing = (if chunked then Chunked else UntilClose); range = None; close = close }
+  status = 200;
+  media_type = PlainText;
+  framing = (if chunked then Chunked else UntilClose);
+  range = None;
+  close = close;
+}

@@ -1,5 +1,5 @@
 -- The search for a head byte by byte, as the code goes: not needed to understand what a window is.
-use Rattle.std.specs.Prelude.{ℕ, ◌+◌, ◌==◌, Bool, true, false, List, [], ◌∷◌, length, Option, Some, None, if◌then◌else◌}
+use Rattle.std.specs.Prelude.{◌≡◌, ℕ, ◌+◌, ◌==◌, Bool, true, false, List, [], ◌∷◌, ◌++◌, length, Option, Some, None, if◌then◌else◌}
 use Rattle.flash_http.specs.declared.windows.Window.{Window}
 use Rattle.flash_http.specs.declared.scanning.Line.{Line}
 use Rattle.flash_http.specs.declared.scanning.Line.TheVariants.{Fresh, Return, Text}
@@ -28,3 +28,11 @@ found_from begun skip len line (b ∷ bytes) =
 -- the window of a stream of which so much was searched, with the bytes that come after
 abbrev pub window_from : Scan → List ℕ → Window
 window_from s bytes = window_at (found_from s.begun s.skip s.len s.line bytes) (s.skip + s.len + length bytes)
+
+-- these bytes settle the window, whatever comes after them
+abbrev pub Finds : Scan → (bytes : List ℕ) → Window → Type 0
+Finds s bytes w = (rest : List ℕ) → window_from s (bytes ++ rest) ≡ w
+
+-- the search goes on after these bytes
+abbrev pub GoesOn : (old : Scan) → (bytes : List ℕ) → (new : Scan) → Type 0
+GoesOn old bytes new = (rest : List ℕ) → window_from old (bytes ++ rest) ≡ window_from new rest

@@ -1,5 +1,5 @@
 -- What the private types of the reader stand for.
-use Rattle.std.specs.Prelude.{ℕ, List, map, string_bytes}
+use Rattle.std.specs.Prelude.{ℕ, List, string_bytes}
 use Rattle.flash_http.specs.declared.heads.Parsed.{Parsed}
 use Rattle.flash_http.specs.declared.targets.File.{File}
 use Rattle.flash_http.specs.Request.{Reading}

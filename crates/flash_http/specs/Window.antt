@@ -1,6 +1,5 @@
 -- The window of a stream: where its next head lies.
-use Rattle.std.specs.Prelude.{ℕ, ◌+◌, ◌<◌, ◌≤◌, ◌==◌, ◌≡◌, ◌≢◌, Bool, true, false, List, [], ◌∷◌, ◌++◌, length, Option, Some, None, option_map, nat_lt, nat_le, ⊤, if◌then◌else◌}
-use Rattle.std.specs.List.{flat_map}
+use Rattle.std.specs.Prelude.{ℕ, ◌+◌, ◌<◌, ◌≤◌, ◌==◌, ◌≡◌, ◌≢◌, Bool, true, false, List, [], ◌∷◌, ◌++◌, length, Option, Some, None, option_map, nat_lt, nat_le, if◌then◌else◌}
 use Rattle.flash_http.specs.declared.windows.Window.{Window}
 use Rattle.flash_http.specs.declared.windows.Window.TheVariants.{Wait, Head, TooLarge}
 use Rattle.flash_http.specs.declared.windows.TheConstants.{MAX_HEAD_BYTES}
@@ -61,10 +60,6 @@ window_at (Some p) count = if nat_le (p.0 + p.1) MAX_HEAD_BYTES then Head p.0 p.
 -- The window of a stream: its first head, if that ends within the limit.
 abbrev pub window_in : List ℕ → Window
 window_in stream = window_at (head_in (lines stream)) (length stream)
-
--- the stream that comes in these pieces
-abbrev pub joined : List (List ℕ) → List ℕ
-joined pieces = flat_map (λ piece. piece) pieces
 
 -- a head has bytes, and lies within the stream and the limit
 abbrev pub FitsIn : (count : ℕ) → Window → Type 0

@@ -7,7 +7,9 @@ ghost use Rattle.httparse.specs.Grammar.{skip_ows, trim_ows};
 ghost use Rattle.httparse.specs.Spans.{IsHeaderWithin, header_bytes};
 ghost use Rattle.flash_http.specs.Fields as spec;
 
-use http_header::{CONNECTION, CONTENT_LENGTH, HOST, HeaderName, IF_RANGE, RANGE, TRANSFER_ENCODING};
+use http_header::{
+    CONNECTION, CONTENT_LENGTH, HOST, HeaderName, IF_RANGE, RANGE, TRANSFER_ENCODING,
+};
 use httparse::is_space_or_tab;
 use httparse::spans::HeaderSpan;
 use std::marker::Model;
@@ -39,13 +41,13 @@ struct Values<'a> {
 }
 
 impl<'a> Model for Values<'a> {
-    ghost use Rattle.std.specs.Prelude.{List, ℕ, All, length, map};
-    ghost use Rattle.httparse.specs.Spans.{IsHeaderWithin, header_bytes};
-    ghost use Rattle.flash_http.specs.Fields.{values_of};
+    ghost use Rattle.std.specs.Prelude.{List, ℕ, All, length};
+    ghost use Rattle.httparse.specs.Spans.{IsHeaderWithin};
+    ghost use Rattle.flash_http.specs.Fields.{values_at};
 
     ghost Value = { List (List ℕ) };
 
-    ghost view = { λ v. values_of v.name (map (header_bytes v.head.now) v.spans.now) };
+    ghost view = { λ v. values_at v.name v.head.now v.spans.now };
 
     ghost invariant = { λ v. All (IsHeaderWithin (length v.head.now)) v.spans.now };
 }
@@ -64,9 +66,8 @@ fn next_value<'a>(
     name: &HeaderName,
 ) -> Option<(&'a [u8], &'a [HeaderSpan])>
     requires { All (IsHeaderWithin (length head.now)) spans.now }
-    ensures value { MatchOption result (spec.values_of name.now (map (header_bytes head.now) spans.now) ≡ [])
-        (λ r. spec.values_of name.now (map (header_bytes head.now) spans.now)
-            ≡ r.0.now ∷ spec.values_of name.now (map (header_bytes head.now) r.1.now)) }
+    ensures value { MatchOption result (spec.values_at name.now head.now spans.now ≡ [])
+        (λ r. spec.values_at name.now head.now spans.now ≡ r.0.now ∷ spec.values_at name.now head.now r.1.now) }
     ensures within { IfSome result (λ r. All (IsHeaderWithin (length head.now)) r.1.now) }
 {
     while let [span, rest @ ..] = spans {

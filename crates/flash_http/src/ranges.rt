@@ -122,14 +122,18 @@ pub fn select(part: Option<Part>, len: u64) -> Selection
     match part {
         None => Selection::Whole,
         Some(Part::From { first, last: None }) => bytes_between(first, u64::MAX, len),
-        Some(Part::From {
-            first,
-            last: Some(last),
-        }) if last < first => Selection::Whole,
-        Some(Part::From {
-            first,
-            last: Some(last),
-        }) => bytes_between(first, last, len),
+        Some(
+            Part::From {
+                first,
+                last: Some(last),
+            },
+        ) if last < first => Selection::Whole,
+        Some(
+            Part::From {
+                first,
+                last: Some(last),
+            },
+        ) => bytes_between(first, last, len),
         Some(Part::Final { n: 0 }) => Selection::Unsatisfiable,
         Some(Part::Final { n }) => Selection::Bytes {
             first: len - n.min(len),

@@ -103,9 +103,7 @@ fn connection_line(close: bool) -> &'static str
 fn phrase_of(status: StatusCode) -> &'static str
     ensures { result.now ≡ unwrap_or (reason_phrase status) (codes "<unknown status code>") }
 {
-    status
-        .canonical_reason()
-        .unwrap_or("<unknown status code>")
+    status.canonical_reason().unwrap_or("<unknown status code>")
 }
 
 // The bytes of a refusal's body: the code, a space, the phrase and a line feed.

@@ -1,7 +1,8 @@
 //! Where the next head of a stream lies.
-ghost use Rattle.std.specs.Prelude.{◌≡◌, ◌<◌, ◌+◌, ◌++◌, ◌∷◌, List, ℕ, IfSome, IfNone, length};
-ghost use Rattle.flash_http.specs.Window.{window_in, joined, FitsIn, WindowsStay};
-ghost use Rattle.flash_http.specs.Scan.{window_from, next_line};
+ghost use Rattle.std.specs.Prelude.{◌≡◌, ◌<◌, ◌+◌, ◌∷◌, [], IfSome, IfNone, length};
+ghost use Rattle.std.specs.List.{concat};
+ghost use Rattle.flash_http.specs.Window.{window_in, FitsIn, WindowsStay};
+ghost use Rattle.flash_http.specs.Scan.{next_line, Finds, GoesOn};
 
 use crate::windows::{MAX_HEAD_BYTES, Window};
 use iol_agg::Parts;
@@ -45,8 +46,8 @@ impl Scan {
     fn step(&mut self, byte: u8) -> Option<Window>
         requires { self.old.skip + self.old.len < MAX_HEAD_BYTES }
         ensures count { IfNone result (self.new.skip + self.new.len ≡ self.old.skip + self.old.len + 1) }
-        ensures found { IfSome result (λ w. (rest : List ℕ) → window_from self.old (byte ∷ rest) ≡ w) }
-        ensures goes_on { IfNone result ((rest : List ℕ) → window_from self.old (byte ∷ rest) ≡ window_from self.new rest) }
+        ensures found { IfSome result (Finds self.old (byte ∷ [])) }
+        ensures goes_on { IfNone result (GoesOn self.old (byte ∷ []) self.new) }
     {
         self.len += 1;
         if byte != b'\n' {
@@ -75,8 +76,8 @@ impl Scan {
     fn feed(&mut self, byte: u8) -> Option<Window>
         requires { self.old.skip + self.old.len < MAX_HEAD_BYTES }
         ensures room { IfNone result (self.new.skip + self.new.len < MAX_HEAD_BYTES) }
-        ensures found { IfSome result (λ w. (rest : List ℕ) → window_from self.old (byte ∷ rest) ≡ w) }
-        ensures goes_on { IfNone result ((rest : List ℕ) → window_from self.old (byte ∷ rest) ≡ window_from self.new rest) }
+        ensures found { IfSome result (Finds self.old (byte ∷ [])) }
+        ensures goes_on { IfNone result (GoesOn self.old (byte ∷ []) self.new) }
     {
         let found = self.step(byte);
         if found.is_none() && self.skip + self.len == MAX_HEAD_BYTES {
@@ -90,8 +91,8 @@ impl Scan {
     fn feed_all(&mut self, bytes: &[u8]) -> Option<Window>
         requires { self.old.skip + self.old.len < MAX_HEAD_BYTES }
         ensures room { IfNone result (self.new.skip + self.new.len < MAX_HEAD_BYTES) }
-        ensures found { IfSome result (λ w. (rest : List ℕ) → window_from self.old (bytes.now ++ rest) ≡ w) }
-        ensures goes_on { IfNone result ((rest : List ℕ) → window_from self.old (bytes.now ++ rest) ≡ window_from self.new rest) }
+        ensures found { IfSome result (Finds self.old bytes.now) }
+        ensures goes_on { IfNone result (GoesOn self.old bytes.now self.new) }
     {
         for byte in bytes {
             let found = self.feed(*byte);
@@ -118,8 +119,8 @@ pub fn window_of(stream: &[u8]) -> Window
 /// The window of a stream whose bytes so far lie in these pieces, however it was cut.
 #[tactic(auto, using(crate::proofs::WindowLaws::window_fits))]
 pub fn window(parts: Parts<'_>) -> Window
-    ensures window { result ≡ window_in (joined parts.entry) }
-    ensures fits { FitsIn (length (joined parts.entry)) result }
+    ensures window { result ≡ window_in (concat parts.entry) }
+    ensures fits { FitsIn (length (concat parts.entry)) result }
 {
     let mut scan = START;
     for part in parts {

@@ -77,7 +77,8 @@ fn is_dot_segment(segment: &[u8]) -> bool
 fn has_dot_segment(path: &[u8]) -> bool
     ensures { result ≡ list_any spec.is_dot_segment (spec.segments path.now) }
 {
-    path.split(|b| *b == b'/').any(|segment| is_dot_segment(segment))
+    path.split(|b| *b == b'/')
+        .any(|segment| is_dot_segment(segment))
 }
 
 fn without_slash(path: &str) -> &str

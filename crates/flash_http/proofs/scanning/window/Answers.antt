@@ -1,5 +1,5 @@
 use Rattle.std.proofs.Common.{arith}
-use Rattle.flash_http.specs.Window.{joined}
+use Rattle.std.specs.List.{concat}
 use Rattle.flash_http.proofs.ScanLemmas.{window_start}
 use Rattle.flash_http.proofs.scanning.window.Goals as goal
 
@@ -8,5 +8,5 @@ loop-part-init c = record {
   can = tt;
   finite = tt;
   room = omega arith;
-  same = rw c.into_iter-part-iterator.ensures.into_iter_gives (window_start (joined c.args.parts));
+  same = rw c.into_iter-part-iterator.ensures.into_iter_gives (window_start (concat c.args.parts));
 }

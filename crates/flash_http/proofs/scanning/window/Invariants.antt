@@ -1,5 +1,6 @@
 use Rattle.std.proofs.Common.{◌≡◌, ◌<◌, ◌+◌}
-use Rattle.flash_http.specs.Window.{window_in, joined}
+use Rattle.std.specs.List.{concat}
+use Rattle.flash_http.specs.Window.{window_in}
 use Rattle.flash_http.specs.Scan.{window_from}
 use Rattle.flash_http.proofs.scanning.window.Given as goal
 
@@ -9,5 +10,5 @@ invariant-loop-part l = record {
   can : (goal.iterator-loop-part).can_next l.part-iterator;
   finite : (goal.iterator-loop-part).is_finite l.part-iterator;
   room : l.scan.skip + l.scan.len < 8192;
-  same : window_from l.scan (joined l.part-iterator) ≡ window_in (joined l.fn.parts);
+  same : window_from l.scan (concat l.part-iterator) ≡ window_in (concat l.fn.parts);
 }
