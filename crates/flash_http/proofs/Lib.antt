@@ -6,3 +6,5 @@ pub mod TargetLemmas
 pub mod HeadLemmas
 pub mod OneAnswer
 pub mod StatusTexts
+pub mod ChunkLines
+pub mod Examples

@@ -13,7 +13,8 @@ pub const LAST_CHUNK: &str = "0\r\n\r\n";
 /// The line before the `len` bytes of a chunk. No bytes make no chunk: that would end the body.
 pub fn chunk_head(alloc: Global, len: u64) -> Result<String, AllocError>
     requires { 0 < len }
-    ensures { IfOk result (λ text. string_bytes text ≡ spec.chunk_head len) }
+    ensures text { IfOk result (λ text. string_bytes text ≡ spec.chunk_head len) }
+    ensures reads { IfOk result (λ text. spec.ReadsAsSize (string_bytes text) len) }
 {
     format!(in alloc; "{len:x}\r\n")
 }
