@@ -78,10 +78,7 @@ const BODIES: [(StatusCode, &str); 6] = [
         StatusCode::INTERNAL_SERVER_ERROR,
         "500 Internal Server Error\n",
     ),
-    (
-        StatusCode::SERVICE_UNAVAILABLE,
-        "503 Service Unavailable\n",
-    ),
+    (StatusCode::SERVICE_UNAVAILABLE, "503 Service Unavailable\n"),
 ];
 
 #[test]
@@ -102,7 +99,9 @@ fn bodies(rt: HostRuntime) -> Result<(), Fail> {
         assert!(rt; body.as_str() == *expected, "{body}");
         let answer = refusal(alloc, *status, true)?;
         let len = body.len();
-        let length = format!(in alloc; "\r\nContent-Length: {len}\r\nConnection: close\r\n\r\n{body}")?;
+        let length = format!(in alloc;
+            "\r\nContent-Length: {len}\r\nConnection: close\r\n\r\n{body}"
+        )?;
         assert!(rt; answer.as_str().ends_with(length.as_str()), "{answer}");
     }
     Ok(())

@@ -28,7 +28,8 @@ fn two_lines_chunked(rt: HostRuntime) -> Result<(), Fail> {
     let head = ResponseHead::of_script(true, false).to_text(alloc)?;
     let size = chunk_head(alloc, 6)?;
     let answer = format!(in alloc; "{head}{size}a\nq=1\n{CHUNK_END}{LAST_CHUNK}")?;
-    let expected = "HTTP/1.1 200 OK\r\nContent-Type: text/plain\r\nTransfer-Encoding: chunked\r\n\r\n6\r\na\nq=1\n\r\n0\r\n\r\n";
+    let expected =
+        "HTTP/1.1 200 OK\r\nContent-Type: text/plain\r\nTransfer-Encoding: chunked\r\n\r\n6\r\na\nq=1\n\r\n0\r\n\r\n";
     assert!(rt; answer.as_str() == expected, "{answer}");
     let plain = ResponseHead::of_script(false, true).to_text(alloc)?;
     let expected = "HTTP/1.1 200 OK\r\nContent-Type: text/plain\r\nConnection: close\r\n\r\n";

@@ -17,10 +17,12 @@ fn word(is: bool, word: &'static str) -> &'static str {
 fn range_words(alloc: Global, range: Option<Part>) -> Result<String, AllocError> {
     match range {
         None => Ok(String::new(alloc)),
-        Some(Part::From {
-            first,
-            last: Some(last),
-        }) => format!(in alloc; " {first}-{last}"),
+        Some(
+            Part::From {
+                first,
+                last: Some(last),
+            },
+        ) => format!(in alloc; " {first}-{last}"),
         Some(Part::From { first, last: None }) => format!(in alloc; " {first}-"),
         Some(Part::Final { n }) => format!(in alloc; " -{n}"),
     }
@@ -61,9 +63,17 @@ pub fn check_rows<R: Abort>(rt: &R, alloc: Global, rows: &[Row]) -> Result<(), A
             skip: 0,
             len: row.head.len(),
         };
-        assert!(rt; window_of(row.head.as_bytes()) == whole, "window of {}", row.head);
+        assert!(rt;
+            window_of(row.head.as_bytes()) == whole,
+            "window of {}",
+            row.head
+        );
         let outcome = outcome_of(alloc, row.head)?;
-        assert!(rt; outcome.as_str() == row.outcome, "{outcome} of {}", row.head);
+        assert!(rt;
+            outcome.as_str() == row.outcome,
+            "{outcome} of {}",
+            row.head
+        );
     }
     Ok(())
 }

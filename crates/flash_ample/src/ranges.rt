@@ -5,22 +5,58 @@ use std::test::Fail;
 
 // The fields of a request, the bytes of the file, and what of the answer tells of the range.
 const RANGES: [(&str, u64, &str); 20] = [
-    ("Range: bytes=-2\r\n", 6, "206 Partial Content 2 bytes 4-5/6"),
-    ("Range: bytes=9-\r\n", 6, "416 Range Not Satisfiable 26 bytes */6"),
+    (
+        "Range: bytes=-2\r\n",
+        6,
+        "206 Partial Content 2 bytes 4-5/6",
+    ),
+    (
+        "Range: bytes=9-\r\n",
+        6,
+        "416 Range Not Satisfiable 26 bytes */6",
+    ),
     ("Range: bytes=2-1\r\n", 6, "200 OK 6"),
-    ("Range: bytes=4-99\r\n", 6, "206 Partial Content 2 bytes 4-5/6"),
-    ("Range: bytes=0-0\r\n", 6, "206 Partial Content 1 bytes 0-0/6"),
-    ("Range: bytes=-9\r\n", 6, "206 Partial Content 6 bytes 0-5/6"),
-    ("Range: bytes=-0\r\n", 6, "416 Range Not Satisfiable 26 bytes */6"),
-    ("Range: bytes=6-\r\n", 6, "416 Range Not Satisfiable 26 bytes */6"),
-    ("Range: bytes=5-\r\n", 6, "206 Partial Content 1 bytes 5-5/6"),
+    (
+        "Range: bytes=4-99\r\n",
+        6,
+        "206 Partial Content 2 bytes 4-5/6",
+    ),
+    (
+        "Range: bytes=0-0\r\n",
+        6,
+        "206 Partial Content 1 bytes 0-0/6",
+    ),
+    (
+        "Range: bytes=-9\r\n",
+        6,
+        "206 Partial Content 6 bytes 0-5/6",
+    ),
+    (
+        "Range: bytes=-0\r\n",
+        6,
+        "416 Range Not Satisfiable 26 bytes */6",
+    ),
+    (
+        "Range: bytes=6-\r\n",
+        6,
+        "416 Range Not Satisfiable 26 bytes */6",
+    ),
+    (
+        "Range: bytes=5-\r\n",
+        6,
+        "206 Partial Content 1 bytes 5-5/6",
+    ),
     ("Range: bytes=0-1,3-4\r\n", 6, "200 OK 6"),
     ("Range: Bytes=0-1\r\n", 6, "200 OK 6"),
     ("Range: bytes= 0-1\r\n", 6, "200 OK 6"),
     ("Range: bytes=-\r\n", 6, "200 OK 6"),
     ("Range: bytes=0--1\r\n", 6, "200 OK 6"),
     ("Range: bytes=+0-1\r\n", 6, "200 OK 6"),
-    ("Range: bytes=000000000000001-1\r\n", 6, "206 Partial Content 1 bytes 1-1/6"),
+    (
+        "Range: bytes=000000000000001-1\r\n",
+        6,
+        "206 Partial Content 1 bytes 1-1/6",
+    ),
     ("Range: bytes=0000000000000001-1\r\n", 6, "200 OK 6"),
     ("Range: bytes=0-1\r\nRange: bytes=0-1\r\n", 6, "200 OK 6"),
     ("Range: bytes=0-1\r\nIf-Range: \"a\"\r\n", 6, "200 OK 6"),

@@ -40,7 +40,10 @@ fn heads_at_the_limit(rt: HostRuntime) -> Result<(), Fail> {
     for (skip, len, expected) in &SIZES {
         let text = stream_of(alloc, skip, *len)?;
         assert!(rt; text.len() == skip.len() + len);
-        assert!(rt; window_of(text.as_bytes()) == *expected, "of {len} after {skip}");
+        assert!(rt;
+            window_of(text.as_bytes()) == *expected,
+            "of {len} after {skip}"
+        );
     }
     Ok(())
 }

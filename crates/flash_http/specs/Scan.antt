@@ -16,6 +16,10 @@ is_text Fresh = false
 is_text Return = false
 is_text Text = true
 
+-- the bytes that were searched
+abbrev pub searched : Scan → ℕ
+searched s = s.skip + s.len
+
 -- the head that is found from here on
 abbrev pub found_from : (begun : Bool) → (skip len : ℕ) → Line → List ℕ → Option (ℕ × ℕ)
 found_from begun skip len line [] = None
@@ -27,7 +31,7 @@ found_from begun skip len line (b ∷ bytes) =
 
 -- the window of a stream of which so much was searched, with the bytes that come after
 abbrev pub window_from : Scan → List ℕ → Window
-window_from s bytes = window_at (found_from s.begun s.skip s.len s.line bytes) (s.skip + s.len + length bytes)
+window_from s bytes = window_at (found_from s.begun s.skip s.len s.line bytes) (searched s + length bytes)
 
 -- these bytes settle the window, whatever comes after them
 abbrev pub Finds : Scan → (bytes : List ℕ) → Window → Type 0

@@ -67,7 +67,8 @@ fn next_value<'a>(
 ) -> Option<(&'a [u8], &'a [HeaderSpan])>
     requires { All (IsHeaderWithin (length head.now)) spans.now }
     ensures value { MatchOption result (spec.values_at name.now head.now spans.now ≡ [])
-        (λ r. spec.values_at name.now head.now spans.now ≡ r.0.now ∷ spec.values_at name.now head.now r.1.now) }
+        (λ r. spec.values_at name.now head.now spans.now
+        ≡ r.0.now ∷ spec.values_at name.now head.now r.1.now) }
     ensures within { IfSome result (λ r. All (IsHeaderWithin (length head.now)) r.1.now) }
 {
     while let [span, rest @ ..] = spans {
@@ -129,7 +130,8 @@ impl<'a> Fields<'a> {
     }
 
     fn has_length(&self) -> bool
-        ensures { result ≡ list_any spec.is_not_zero (spec.values_of (codes "content-length") self.now) }
+        ensures { result
+            ≡ list_any spec.is_not_zero (spec.values_of (codes "content-length") self.now) }
     {
         self.values(CONTENT_LENGTH).any(|len| is_not_zero(len))
     }

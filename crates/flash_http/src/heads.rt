@@ -84,7 +84,8 @@ impl Parsed<'_> {
     }
 
     fn ask(&self, alloc: Global) -> Result<Asked, AllocError>
-        ensures answer { IfOk result (λ asked. spec.Asks (Some (reading self.now)) (spec.answer asked)) }
+        ensures answer { IfOk result
+            (λ asked. spec.Asks (Some (reading self.now)) (spec.answer asked)) }
         ensures memory { OnErr result (spec.refusal (reading self.now) ≡ None) }
     {
         if let Some(refusal) = self.refusal() {
@@ -124,8 +125,8 @@ fn parts_of<'a>(head: &'a [u8], found: RequestSpans, spans: &'a [HeaderSpan]) ->
 
 /// Says what a head asks for: `head` is the whole head, from its first line to the empty line at its end.
 ///
-/// It follows RFC 9110, RFC 9112 and RFC 3986 by the profile of docs/HTTP.md. Memory is needed for the target alone, and
-/// only where the fields and the method refuse nothing; where it is refused, the same call again gives the answer.
+/// It follows RFC 9110, RFC 9112 and RFC 3986 by the profile of docs/HTTP.md. Memory is wanted for the target alone, and
+/// only where the fields and the method refuse nothing. Where it is refused, the same call again gives the answer.
 pub fn read_head(alloc: Global, head: &[u8]) -> Result<Asked, AllocError>
     ensures answer { IfOk result (λ asked. spec.IsAnswerTo head.now (spec.answer asked)) }
     ensures memory { OnErr result (spec.LooksAtTarget head.now) }

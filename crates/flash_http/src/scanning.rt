@@ -2,7 +2,7 @@
 ghost use Rattle.std.specs.Prelude.{◌≡◌, ◌<◌, ◌+◌, ◌∷◌, [], IfSome, IfNone, length};
 ghost use Rattle.std.specs.List.{concat};
 ghost use Rattle.flash_http.specs.Window.{window_in, FitsIn, WindowsStay};
-ghost use Rattle.flash_http.specs.Scan.{next_line, Finds, GoesOn};
+ghost use Rattle.flash_http.specs.Scan.{next_line, searched, Finds, GoesOn};
 
 use crate::windows::{MAX_HEAD_BYTES, Window};
 use iol_agg::Parts;
@@ -44,8 +44,8 @@ fn line_with(line: Line, byte: u8) -> Line
 impl Scan {
     // Takes a byte, whatever the limit.
     fn step(&mut self, byte: u8) -> Option<Window>
-        requires { self.old.skip + self.old.len < MAX_HEAD_BYTES }
-        ensures count { IfNone result (self.new.skip + self.new.len ≡ self.old.skip + self.old.len + 1) }
+        requires { searched self.old < MAX_HEAD_BYTES }
+        ensures count { IfNone result (searched self.new ≡ searched self.old + 1) }
         ensures found { IfSome result (Finds self.old (byte ∷ [])) }
         ensures goes_on { IfNone result (GoesOn self.old (byte ∷ []) self.new) }
     {
@@ -74,8 +74,8 @@ impl Scan {
     // Takes a byte, and stops at the limit.
     #[tactic(auto, using(crate::proofs::ScanLemmas::window_full))]
     fn feed(&mut self, byte: u8) -> Option<Window>
-        requires { self.old.skip + self.old.len < MAX_HEAD_BYTES }
-        ensures room { IfNone result (self.new.skip + self.new.len < MAX_HEAD_BYTES) }
+        requires { searched self.old < MAX_HEAD_BYTES }
+        ensures room { IfNone result (searched self.new < MAX_HEAD_BYTES) }
         ensures found { IfSome result (Finds self.old (byte ∷ [])) }
         ensures goes_on { IfNone result (GoesOn self.old (byte ∷ []) self.new) }
     {
@@ -89,8 +89,8 @@ impl Scan {
 
     // Takes bytes, up to the first that settles the window.
     fn feed_all(&mut self, bytes: &[u8]) -> Option<Window>
-        requires { self.old.skip + self.old.len < MAX_HEAD_BYTES }
-        ensures room { IfNone result (self.new.skip + self.new.len < MAX_HEAD_BYTES) }
+        requires { searched self.old < MAX_HEAD_BYTES }
+        ensures room { IfNone result (searched self.new < MAX_HEAD_BYTES) }
         ensures found { IfSome result (Finds self.old bytes.now) }
         ensures goes_on { IfNone result (GoesOn self.old bytes.now self.new) }
     {

@@ -24,7 +24,8 @@ fn has_byte(bytes: &[u8], byte: u8) -> bool
 
 // Whether the target is a path, or a URL of http or https.
 fn is_served_form(target: &[u8], uri: &Uri) -> bool
-    ensures { result ≡ spec.is_served_form target.now (uri_scheme uri.now) (uri_authority uri.now) }
+    ensures { result
+        ≡ spec.is_served_form target.now (uri_scheme uri.now) (uri_authority uri.now) }
 {
     match uri.scheme_str() {
         Some(scheme) => scheme == "http" || scheme == "https",

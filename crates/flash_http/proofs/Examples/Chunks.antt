@@ -2,7 +2,8 @@
 use Rattle.std.proofs.Common.{◌≡◌, [], ◌∷◌, refl}
 use Rattle.std.specs.Prelude.{codes}
 use Rattle.std.specs.Fmt.{digits}
-use Rattle.flash_http.specs.Chunk.{chunk_head, chunked_body}
+use Rattle.flash_http.specs.declared.chunks.TheConstants.{CHUNK_END, LAST_CHUNK}
+use Rattle.flash_http.specs.Chunk.{chunk_head, chunk_end, last_chunk, chunked_body}
 
 size_of_4096 : chunk_head 4096 ≡ codes "1000\r\n"
 unfolding digits
@@ -14,3 +15,7 @@ two_pieces = refl
 
 no_bytes : chunked_body [] ≡ codes "0\r\n\r\n"
 no_bytes = refl
+
+-- the constants of the crate are the texts of the definitions
+constants : (CHUNK_END.now ≡ chunk_end) × (LAST_CHUNK.now ≡ last_chunk)
+constants = (refl, refl)

@@ -1,5 +1,5 @@
 -- Fields: examples.
-use Rattle.std.proofs.Common.{◌≡◌, ℕ, List, [], ◌∷◌, true, false, Some, None, refl}
+use Rattle.std.proofs.Common.{◌≡◌, List, [], ◌∷◌, true, false, Some, None, refl}
 use Rattle.std.specs.Prelude.{codes}
 use Rattle.httparse.specs.Grammar.{trim_ows}
 use Rattle.flash_http.specs.Fields.{Field, values_of, has_one_host, has_content, names_close, one_range, is_served_method, is_known_method}

@@ -2,7 +2,7 @@
 use Rattle.std.proofs.Common.{◌≡◌, ℕ, List, [], ◌∷◌, true, false, Some, None, refl}
 use Rattle.std.specs.Prelude.{codes}
 use Rattle.httparse.specs.Grammar.{trim_ows}
-use Rattle.flash_http.specs.declared.requests.Part.TheVariants.{From, Final}
+use Rattle.flash_http.specs.declared.requests.Part.TheVariants.{Final}
 use Rattle.flash_http.specs.Fields.{Field}
 use Rattle.flash_http.specs.Request.{Reading, serve, refuse, refusal, range_of, served}
 

@@ -1,8 +1,8 @@
 -- Windows: examples.
-use Rattle.std.proofs.Common.{◌≡◌, List, [], ◌∷◌, ◌++◌, refl}
-use Rattle.std.specs.Prelude.{codes, replicate}
+use Rattle.std.proofs.Common.{◌≡◌, [], ◌∷◌, refl}
+use Rattle.std.specs.Prelude.{codes}
 use Rattle.flash_http.specs.Window.{lines, window_in}
-use Rattle.flash_http.specs.declared.windows.Window.TheVariants.{Wait, Head, TooLarge}
+use Rattle.flash_http.specs.declared.windows.Window.TheVariants.{Wait, Head}
 
 whole_lines : lines (codes "a\r\nbc\nd") ≡ codes "a\r" ∷ codes "bc" ∷ []
 whole_lines = refl
