@@ -1,5 +1,6 @@
 //! Fifty heads that are malformed, or not served, in one place each.
 use crate::outcomes::outcome_of;
+use std::alloc::{AllocError, Global};
 use std::test::Fail;
 
 // What is wrong, and the head.
@@ -213,6 +214,28 @@ fn refused_heads(rt: HostRuntime) -> Result<(), Fail> {
     for (wrong, head, expected) in &REFUSED_HEADS {
         let outcome = outcome_of(alloc, head)?;
         assert!(rt; outcome.as_str() == *expected, "{outcome} for {wrong}");
+    }
+    Ok(())
+}
+
+// A head with a host and so many other fields.
+fn head_of(alloc: Global, others: usize) -> Result<String, AllocError> {
+    let mut head = String::from_str(alloc, "GET / HTTP/1.1\r\nHost: a\r\n")?;
+    for _ in 0..others {
+        head.push_str("X: y\r\n")?;
+    }
+    head.push_str("\r\n")?;
+    Ok(head)
+}
+
+// 64 fields are read, and no more.
+#[test]
+fn fields_at_the_limit(rt: HostRuntime) -> Result<(), Fail> {
+    let alloc = rt.alloc();
+    for (others, expected) in [(63, "index.html"), (64, "400 close")] {
+        let head = head_of(alloc, others)?;
+        let outcome = outcome_of(alloc, &head)?;
+        assert!(rt; outcome.as_str() == expected, "{outcome} for {others}");
     }
     Ok(())
 }

@@ -48,6 +48,15 @@ fn heads_at_the_limit(rt: HostRuntime) -> Result<(), Fail> {
     Ok(())
 }
 
+// A line that never ends.
+#[test]
+fn endless_line(rt: HostRuntime) -> Result<(), Fail> {
+    let line = vec![in rt.alloc(); b'a'; 8192]?;
+    assert!(rt; window_of(&line) == Window::TooLarge);
+    assert!(rt; window_of(&line[1..]) == Window::Wait);
+    Ok(())
+}
+
 // Streams, and where their first head lies.
 const STREAMS: [(&str, Window); 8] = [
     ("", Window::Wait),
