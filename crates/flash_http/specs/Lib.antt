@@ -1,0 +1,10 @@
+pub mod Window
+pub mod Scan
+pub mod Fields
+pub mod Target
+pub mod Range
+pub mod MediaType
+pub mod Request
+pub mod Views
+pub mod Response
+pub mod Chunk

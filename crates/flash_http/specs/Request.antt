@@ -1,0 +1,123 @@
+-- What a head asks for, as a relation between its bytes and an answer.
+use Rattle.std.specs.Prelude.{◌≡◌, ℕ, ◌≤◌, ◌||◌, ◌==◌, not, string_bytes, Bool, true, false, List, [], length, map, codes, bytes_eq, Option, Some, None, MatchOption, option_and_then, if◌then◌else◌}
+use Rattle.httparse.specs.Grammar.{RequestHead, ReadsRequest}
+use Rattle.httparse.specs.Spans.{name_and_value}
+use Rattle.flash_http.specs.declared.requests.Part.{Part}
+use Rattle.flash_http.specs.declared.requests.Request.{Request}
+use Rattle.flash_http.specs.declared.requests.Asked.{Asked}
+use Rattle.flash_http.specs.declared.requests.Asked.TheVariants as asked
+use Rattle.flash_http.specs.declared.heads.TheConstants.{MAX_FIELDS}
+use Rattle.flash_http.specs.Fields.{Field, one_range, has_one_host, has_content, asks_to_close, is_served_method, is_known_method}
+use Rattle.flash_http.specs.Target.{TargetIs}
+use Rattle.flash_http.specs.Range.{part_of_value}
+use Rattle.flash_http.specs.MediaType.{is_script}
+
+-- what is served: a `Request`, without where its text lies in memory
+pub record Wanted : Type 0 where
+  pub head_only : Bool
+  pub name : List ℕ
+  pub query : List ℕ
+  pub keep : Bool
+  pub range : Option Part
+  pub chunked : Bool
+
+-- what a head comes to: to serve a file, or to refuse with a status; whether with no body; whether with a close
+pub data Answer : Type 0 where
+  serve : Wanted → Answer
+  refuse : (status : ℕ) → (head_only close : Bool) → Answer
+
+abbrev pub wanted : Request → Wanted
+wanted r = record {
+  head_only = r.head_only;
+  name = string_bytes r.name;
+  query = string_bytes r.query;
+  keep = r.keep;
+  range = r.range;
+  chunked = r.chunked;
+}
+
+abbrev pub answer : Asked → Answer
+answer (asked.Serve r) = serve (wanted r)
+answer (asked.Refuse status head_only close) = refuse status head_only close
+
+-- ---- the head (RFC 9112, sections 2.1, 3 and 5, as `httparse` writes them)
+
+-- what is looked at of a head; minor is that of its version
+pub record Reading : Type 0 where
+  pub method : List ℕ
+  pub target : List ℕ
+  pub minor : ℕ
+  pub fields : List Field
+
+abbrev pub reading_of : RequestHead → Reading
+reading_of h = record { method = h.method; target = h.target; minor = h.minor; fields = map name_and_value h.fields }
+
+-- the bytes are this head, from the first to the last
+abbrev pub IsHead : List ℕ → RequestHead → Type 0
+IsHead bytes h = ReadsRequest bytes h [] × (length h.fields ≤ MAX_FIELDS)
+
+-- what is read in the bytes, or nothing
+abbrev pub Reads : List ℕ → Option Reading → Type 0
+Reads bytes None = (h : RequestHead) → IsHead bytes h → ⊥
+Reads bytes (Some reading) = (h : RequestHead) × IsHead bytes h × (reading ≡ reading_of h)
+
+-- ---- what it says
+
+abbrev pub is_head_only : Reading → Bool
+is_head_only r = bytes_eq r.method (codes "HEAD")
+
+-- a connection stays open in HTTP/1.1 unless it is asked to close (RFC 9112, section 9.3)
+abbrev pub closes : Reading → Bool
+closes r = r.minor == 0 || asks_to_close r.fields
+
+-- HTTP/1.0 knows no Host (RFC 9112, section 3.2)
+abbrev pub is_host_fine : Reading → Bool
+is_host_fine r = r.minor == 0 || has_one_host r.fields
+
+-- 400 Bad Request, after which the connection closes
+abbrev pub bad : Reading → Answer
+bad r = refuse 400 (is_head_only r) true
+
+-- what the fields and the method refuse: 400, 405 Method Not Allowed or 501 Not Implemented
+abbrev pub refusal : Reading → Option Answer
+refusal r =
+    if not (is_host_fine r) || has_content r.fields then Some (bad r)
+    else (if is_served_method r.method then None
+    else Some (refuse (if is_known_method r.method then 405 else 501) (is_head_only r) (closes r)))
+
+-- the part of the file that is asked for: with GET, and of no script
+abbrev pub range_of : Reading → (name : List ℕ) → Option Part
+range_of r name =
+    if is_head_only r || is_script name then None else option_and_then part_of_value (one_range r.fields)
+
+-- ---- all of it
+
+abbrev pub served : Reading → Option (List ℕ × List ℕ) → Answer
+served r None = bad r
+served r (Some file) = serve (record {
+  head_only = is_head_only r;
+  name = file.0;
+  query = file.1;
+  keep = not (closes r);
+  range = range_of r file.0;
+  chunked = r.minor == 1;
+})
+
+abbrev pub Asks : Option Reading → Answer → Type 0
+Asks None a = a ≡ refuse 400 false true
+Asks (Some r) a =
+    MatchOption (refusal r)
+    ((file : Option (List ℕ × List ℕ)) × TargetIs r.target file × (a ≡ served r file))
+    (λ refused. a ≡ refused)
+
+-- What a head asks for: the first check that fails refuses it.
+abbrev pub IsAnswerTo : List ℕ → Answer → Type 0
+IsAnswerTo bytes a = (reading : Option Reading) × Reads bytes reading × Asks reading a
+
+-- a head whose target is looked at, since its fields and its method refuse nothing
+abbrev pub LooksAtTarget : List ℕ → Type 0
+LooksAtTarget bytes = (reading : Reading) × Reads bytes (Some reading) × (refusal reading ≡ None)
+
+-- a head has one answer
+abbrev pub OneAnswer : Type 0
+OneAnswer = (head : List ℕ) (a b : Answer) → IsAnswerTo head a → IsAnswerTo head b → a ≡ b

@@ -1,0 +1,42 @@
+-- The search for a head byte by byte, as the code goes: not needed to understand what a window is.
+use Rattle.std.specs.Prelude.{◌≡◌, ℕ, ◌+◌, ◌==◌, Bool, true, false, List, [], ◌∷◌, ◌++◌, length, Option, Some, None, if◌then◌else◌}
+use Rattle.flash_http.specs.declared.windows.Window.{Window}
+use Rattle.flash_http.specs.declared.scanning.Line.{Line}
+use Rattle.flash_http.specs.declared.scanning.Line.TheVariants.{Fresh, Return, Text}
+use Rattle.flash_http.specs.declared.scanning.Scan.{Scan}
+use Rattle.flash_http.specs.Window.{window_at}
+
+abbrev pub next_line : Line → ℕ → Line
+next_line Fresh b = if b == 13 then Return else Text
+next_line Return b = Text
+next_line Text b = Text
+
+abbrev pub is_text : Line → Bool
+is_text Fresh = false
+is_text Return = false
+is_text Text = true
+
+-- the bytes that were searched
+abbrev pub searched : Scan → ℕ
+searched s = s.skip + s.len
+
+-- the head that is found from here on
+abbrev pub found_from : (begun : Bool) → (skip len : ℕ) → Line → List ℕ → Option (ℕ × ℕ)
+found_from begun skip len line [] = None
+found_from begun skip len line (b ∷ bytes) =
+    if b == 10 then
+    (if is_text line then found_from true skip (len + 1) Fresh bytes
+    else (if begun then Some (skip, len + 1) else found_from false (skip + (len + 1)) 0 Fresh bytes))
+    else found_from begun skip (len + 1) (next_line line b) bytes
+
+-- the window of a stream of which so much was searched, with the bytes that come after
+abbrev pub window_from : Scan → List ℕ → Window
+window_from s bytes = window_at (found_from s.begun s.skip s.len s.line bytes) (searched s + length bytes)
+
+-- these bytes settle the window, whatever comes after them
+abbrev pub Finds : Scan → (bytes : List ℕ) → Window → Type 0
+Finds s bytes w = (rest : List ℕ) → window_from s (bytes ++ rest) ≡ w
+
+-- the search goes on after these bytes
+abbrev pub GoesOn : (old : Scan) → (bytes : List ℕ) → (new : Scan) → Type 0
+GoesOn old bytes new = (rest : List ℕ) → window_from old (bytes ++ rest) ≡ window_from new rest

@@ -1,0 +1,143 @@
+//! Byte ranges: the part of a file that a field asks for, and what is sent of it.
+ghost use Rattle.std.specs.Prelude.{◌≡◌, ◌≤◌, length, true};
+ghost use Rattle.std.specs.List.{list_all, position};
+ghost use Rattle.std.specs.Char.{is_ascii_digit};
+ghost use Rattle.flash_http.specs.Range as spec;
+
+use crate::requests::Part;
+use std::str;
+
+/// The digits that a number in a Range field may have.
+pub const MAX_DIGITS: usize = 15;
+
+/// What is sent of a file (RFC 9110, section 14.1.2). Places count from 0.
+#[derive(Clone, Copy, Debug, PartialEq, Eq)]
+pub enum Selection {
+    /// All of it, by status 200.
+    Whole,
+    /// The bytes from place `first` up to place `last` and with it, by status 206.
+    Bytes { first: u64, last: u64 },
+    /// Nothing that was asked for is there, status 416.
+    Unsatisfiable,
+}
+
+fn all_digits(text: &[u8]) -> bool
+    ensures { result ≡ list_all is_ascii_digit text.now }
+{
+    text.iter().all(|b| b.is_ascii_digit())
+}
+
+fn parsed(digits: &str) -> Option<u64>
+    requires digits { list_all is_ascii_digit digits.now ≡ true }
+    requires short { length digits.now ≤ MAX_DIGITS }
+    ensures { result ≡ spec.number digits.now }
+{
+    digits.parse().ok()
+}
+
+// The number that digits write.
+fn number_of(digits: &[u8]) -> Option<u64>
+    ensures { result ≡ spec.number digits.now }
+{
+    if digits.len() > MAX_DIGITS || !all_digits(digits) {
+        return None;
+    }
+    match str::from_utf8(digits) {
+        Ok(text) => parsed(text),
+        Err(_) => None,
+    }
+}
+
+// The part that is meant by what stands before and after the hyphen.
+fn part_between(first: &[u8], last: &[u8]) -> Option<Part>
+    ensures { result ≡ spec.part_between first.now last.now }
+{
+    if first.is_empty() {
+        let n = number_of(last)?;
+        return Some(Part::Final { n });
+    }
+    let start = number_of(first)?;
+    if last.is_empty() {
+        return Some(Part::From {
+            first: start,
+            last: None,
+        });
+    }
+    let end = number_of(last)?;
+    if start <= end {
+        Some(Part::From {
+            first: start,
+            last: Some(end),
+        })
+    } else {
+        None
+    }
+}
+
+fn hyphen_in(range: &[u8]) -> Option<usize>
+    ensures { result ≡ position spec.is_hyphen range.now }
+{
+    range.iter().position(|b| *b == b'-')
+}
+
+// The part that one range spells.
+fn part_in(range: &[u8]) -> Option<Part>
+    ensures { result ≡ spec.part_in range.now }
+{
+    let hyphen = hyphen_in(range)?;
+    part_between(&range[..hyphen], &range[hyphen + 1..])
+}
+
+// The part that the value of a Range field asks for.
+pub(crate) fn part_of_value(value: &[u8]) -> Option<Part>
+    ensures { result ≡ spec.part_of_value value.now }
+{
+    part_in(value.strip_prefix(b"bytes=".as_slice())?)
+}
+
+fn bytes_between(first: u64, last: u64, len: u64) -> Selection
+    requires { first ≤ last }
+    ensures selection { result ≡ spec.bytes_between first last len }
+    ensures within { spec.LiesWithin len result }
+{
+    if first >= len {
+        return Selection::Unsatisfiable;
+    }
+    Selection::Bytes {
+        first,
+        last: last.min(len - 1),
+    }
+}
+
+/// What is sent of a file of `len` bytes where this part is asked for.
+///
+/// It is all of an empty file, and where the part ends before it begins.
+pub fn select(part: Option<Part>, len: u64) -> Selection
+    ensures selection { result ≡ spec.selected part len }
+    ensures within { spec.LiesWithin len result }
+{
+    if len == 0 {
+        return Selection::Whole;
+    }
+    match part {
+        None => Selection::Whole,
+        Some(Part::From { first, last: None }) => bytes_between(first, u64::MAX, len),
+        Some(
+            Part::From {
+                first,
+                last: Some(last),
+            },
+        ) if last < first => Selection::Whole,
+        Some(
+            Part::From {
+                first,
+                last: Some(last),
+            },
+        ) => bytes_between(first, last, len),
+        Some(Part::Final { n: 0 }) => Selection::Unsatisfiable,
+        Some(Part::Final { n }) => Selection::Bytes {
+            first: len - n.min(len),
+            last: len - 1,
+        },
+    }
+}
