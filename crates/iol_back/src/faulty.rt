@@ -1,0 +1,92 @@
+//! A store that fails once.
+ghost use Rattle.std.specs.Prelude.{◌≡◌, ◌≢◌, ℕ, ◌+◌, ◌-◌, ◌/◌, ◌<◌, ◌≤◌, ◌^◌, min, true, false, take, drop, length, slice_range, OnOk, OnErr, IsErr};
+ghost use Rattle.iol_back.specs.Disk.{Disk, IsSlot, content, raised, last_failure, Counts, Writes, Tears, OthersStay};
+
+use crate::backing::{Backing, StoreFault};
+use iol_core::numbers::FileId;
+
+/// A store over another, whose k-th read or write fails: a read before it reads, a write after it wrote half of its
+/// bytes, rounded down.
+#[derive(Drop)]
+pub struct FaultyBacking<B> {
+    inner: B,
+    left: u64,
+    failed: u64,
+}
+
+impl<B: Backing> FaultyBacking<B> {
+    ghost use Rattle.iol_back.specs.Faulty.{inner_of, calls_to_fault, faulty_disk};
+
+    /// A store whose k-th call to come fails, counted from 1. With 0 none does.
+    pub fn new(inner: B, k: u64) -> FaultyBacking<B>
+        ensures inner { inner_of result ≡ inner }
+        ensures calls { calls_to_fault result ≡ k }
+        ensures failures { (faulty_disk B.disk result).failures ≡ 0 }
+    {
+        FaultyBacking {
+            inner,
+            left: k,
+            failed: 0,
+        }
+    }
+
+    // Counts a call, and tells whether it is the one that fails.
+    fn count_call(&mut self) -> bool
+        ensures due { result ≡ true → self.old.left ≡ 1 }
+        ensures not_due { result ≡ false → self.old.left ≢ 1 }
+        ensures left { self.new.left ≡ self.old.left - 1 }
+        ensures inner { self.new.inner ≡ self.old.inner }
+        ensures failed { self.new.failed ≡ self.old.failed }
+    {
+        let due = self.left == 1;
+        self.left = self.left.saturating_sub(1);
+        due
+    }
+
+    // Counts a failure.
+    fn fail(&mut self) -> StoreFault
+        ensures left { self.new.left ≡ self.old.left }
+        ensures inner { self.new.inner ≡ self.old.inner }
+        ensures failed { self.new.failed ≡ raised self.old.failed }
+    {
+        self.failed = self.failed.saturating_add(1);
+        StoreFault
+    }
+}
+
+impl<B: Backing> Backing for FaultyBacking<B> {
+    ghost use Rattle.iol_back.specs.Faulty.{inner_of, calls_to_fault, faulty_disk};
+
+    ghost disk = { faulty_disk B.disk };
+
+    fn length(&self, file: FileId) -> u32 {
+        self.inner.length(file)
+    }
+
+    fn read_at(&mut self, file: FileId, at: u32, into: &mut [u8]) -> Result<(), StoreFault> {
+        let due = self.count_call();
+        if due || self.failed == u64::MAX || self.inner.read_at(file, at, into).is_err() {
+            return Err(self.fail());
+        }
+        Ok(())
+    }
+
+    fn write_at(&mut self, file: FileId, at: u32, bytes: &[u8]) -> Result<(), StoreFault> {
+        let due = self.count_call();
+        if self.failed == u64::MAX {
+            return Err(self.fail());
+        }
+        if due {
+            let _half = self.inner.write_at(file, at, &bytes[..bytes.len() / 2]);
+            return Err(self.fail());
+        }
+        if self.inner.write_at(file, at, bytes).is_err() {
+            return Err(self.fail());
+        }
+        Ok(())
+    }
+
+    fn failures(&self) -> u64 {
+        self.failed
+    }
+}

@@ -1,0 +1,85 @@
+//! A store in memory.
+ghost use Rattle.std.specs.Prelude.{◌≡◌, ℕ, ◌+◌, ◌-◌, ◌<◌, ◌≤◌, ◌^◌, ◌↔◌, min, true, length, take, drop, OnOk, OnErr, IsOk, IsTrue};
+ghost use Rattle.iol_back.specs.Disk.{Disk, IsSlot, content, raised, last_failure, Counts, Writes, Tears, OthersStay};
+
+use crate::backing::{Backing, StoreFault};
+use crate::slots::Slots;
+use iol_core::limits::MAX_FILES;
+use iol_core::numbers::FileId;
+use std::alloc::AllocError;
+use std::marker::Model;
+
+/// Lists of bytes in memory, as a store. It is honest, and a growth of a list that is refused is a failure.
+#[derive(Drop)]
+pub struct MemoryBacking {
+    slots: Slots,
+    failures: u64,
+}
+
+impl Model for MemoryBacking {
+    ghost use Rattle.std.specs.Prelude.{true};
+    ghost use Rattle.iol_back.specs.Disk.{Disk};
+
+    ghost Value = { Disk };
+
+    ghost view = { λ m. record { slots = m.slots; failures = m.failures; honest = true } };
+}
+
+impl MemoryBacking {
+    /// A store of these lists.
+    pub fn new(slots: Slots) -> MemoryBacking
+        ensures slots { result.slots ≡ slots }
+        ensures failures { result.failures ≡ 0 }
+        ensures honest { result.honest ≡ true }
+    {
+        MemoryBacking { slots, failures: 0 }
+    }
+
+    // Whether there are so many bytes from `at` on, and they may be read or written.
+    fn reaches(&self, file: FileId, at: u32, count: usize) -> bool
+        ensures { IsTrue result ↔ (self.now.failures < last_failure) × IsSlot file × (at + count ≤ length (content self.now.slots file)) }
+    {
+        let number = file.number() as usize;
+        let len = self.slots.bytes(file).len();
+        let at = at as usize;
+        self.failures < u64::MAX && 0 < number && number <= MAX_FILES && at <= len && count <= len - at
+    }
+
+    // Counts a failure.
+    fn fail(&mut self) -> StoreFault
+        ensures failures { self.new.failures ≡ raised self.old.failures }
+        ensures slots { self.new.slots ≡ self.old.slots }
+        ensures honest { self.new.honest ≡ self.old.honest }
+    {
+        self.failures = self.failures.saturating_add(1);
+        StoreFault
+    }
+}
+
+impl Backing for MemoryBacking {
+    ghost disk = { λ m. m };
+
+    fn length(&self, file: FileId) -> u32 {
+        self.slots.bytes(file).len().min(u32::MAX as usize) as u32
+    }
+
+    fn read_at(&mut self, file: FileId, at: u32, into: &mut [u8]) -> Result<(), StoreFault> {
+        if !self.reaches(file, at, into.len()) {
+            return Err(self.fail());
+        }
+        let at = at as usize;
+        into.copy_from_slice(&self.slots.bytes(file)[at..at + into.len()]);
+        Ok(())
+    }
+
+    fn write_at(&mut self, file: FileId, at: u32, bytes: &[u8]) -> Result<(), StoreFault> {
+        if !self.reaches(file, at, 0) || self.slots.overwrite(file, at as usize, bytes).is_err() {
+            return Err(self.fail());
+        }
+        Ok(())
+    }
+
+    fn failures(&self) -> u64 {
+        self.failures
+    }
+}
