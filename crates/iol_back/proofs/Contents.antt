@@ -48,10 +48,10 @@ pub content-push_none : {A : Type 0} (f : A → List ℕ) (xs : List A) (x : A) 
 content-push_none f xs x n none = ap (λ (r : List (List ℕ)). content r n) (map-append f xs (x ∷ []) ∙ ap (λ (w : List ℕ). map f xs ++ w ∷ []) none) ∙ content-push (map f xs) n
 
 -- what follows of a success, or of a refusal
-pub OnOk-map : {A E P Q : Type 0} (r : Result A E) → (P → Q) → OnOk r P → OnOk r Q
-OnOk-map (Ok x) f p = f p
-OnOk-map (Err e) f p = tt
+pub on_ok : {A E P Q : Type 0} (r : Result A E) → (P → Q) → OnOk r P → OnOk r Q
+on_ok (Ok x) f p = f p
+on_ok (Err e) f p = tt
 
-pub OnErr-map : {A E P Q : Type 0} (r : Result A E) → (P → Q) → OnErr r P → OnErr r Q
-OnErr-map (Ok x) f p = tt
-OnErr-map (Err e) f p = f p
+pub on_err : {A E P Q : Type 0} (r : Result A E) → (P → Q) → OnErr r P → OnErr r Q
+on_err (Ok x) f p = tt
+on_err (Err e) f p = f p

@@ -26,10 +26,18 @@ last_failure = 2 ^ 64 - 1
 abbrev pub raised : ℕ → ℕ
 raised n = min (n + 1) last_failure
 
+-- no failure was counted, and the store still answers
+abbrev pub NoneCounted : (old new : ℕ) → Type 0
+NoneCounted old new = (new ≡ old) × (old < last_failure)
+
 -- a call that fails counts as one failure, and no other does
 abbrev pub Counts : {E : Type 0} → (old new : ℕ) → Result (Unit {0}) E → Type 0
-Counts old new (Ok x) = (new ≡ old) × (old < last_failure)
+Counts old new (Ok x) = NoneCounted old new
 Counts old new (Err e) = new ≡ raised old
+
+-- whether a range may be read
+abbrev pub CanRead : Disk → (file at count : ℕ) → Type 0
+CanRead disk file at count = (disk.failures < last_failure) × IsSlot file × (at + count ≤ length (content disk.slots file))
 
 -- all files but this have the bytes that they had
 pub record OthersStay (file : ℕ) (old new : List (List ℕ)) : Type 0 where

@@ -1,6 +1,6 @@
 //! A store that fails once.
 ghost use Rattle.std.specs.Prelude.{◌≡◌, ◌≢◌, ℕ, ◌+◌, ◌-◌, ◌/◌, ◌<◌, ◌≤◌, ◌^◌, min, true, false, take, drop, length, slice_range, OnOk, OnErr, IsErr};
-ghost use Rattle.iol_back.specs.Disk.{Disk, IsSlot, content, raised, last_failure, Counts, Writes, Tears, OthersStay};
+ghost use Rattle.iol_back.specs.Disk.{Disk, IsSlot, content, raised, last_failure, NoneCounted, Counts, Writes, Tears, OthersStay};
 
 use crate::backing::{Backing, StoreFault};
 use iol_core::numbers::FileId;
@@ -63,7 +63,31 @@ impl<B: Backing> Backing for FaultyBacking<B> {
         self.inner.length(file)
     }
 
-    fn read_at(&mut self, file: FileId, at: u32, into: &mut [u8]) -> Result<(), StoreFault> {
+    fn read_at(&mut self, file: FileId, at: u32, into: &mut [u8]) -> Result<(), StoreFault>
+        ensures honest { (faulty_disk B.disk self.new).honest ≡ (faulty_disk B.disk self.old).honest }
+        ensures counts { Counts (faulty_disk B.disk self.old).failures (faulty_disk B.disk self.new).failures result }
+        ensures slot { OnOk result (IsSlot file) }
+        ensures slots {
+            let old = faulty_disk B.disk self.old in
+            old.honest ≡ true → (faulty_disk B.disk self.new).slots ≡ old.slots
+        }
+        ensures within {
+            let old = faulty_disk B.disk self.old in
+            old.honest ≡ true → OnOk result (at + length into.old ≤ length (content old.slots file))
+        }
+        ensures read {
+            let old = faulty_disk B.disk self.old in
+            old.honest ≡ true → OnOk result (into.new ≡ take (length into.old) (drop at (content old.slots file)))
+        }
+
+        // The call that is due fails and reads nothing; any other fails where the store below does.
+        ensures calls { calls_to_fault self.new ≡ calls_to_fault self.old - 1 }
+        ensures due { calls_to_fault self.old ≡ 1 → IsErr result × (inner_of self.new ≡ inner_of self.old) }
+        ensures passed {
+            calls_to_fault self.old ≢ 1 → (faulty_disk B.disk self.old).failures < last_failure →
+                Counts (B.disk (inner_of self.old)).failures (B.disk (inner_of self.new)).failures result
+        }
+    {
         let due = self.count_call();
         if due || self.failed == u64::MAX || self.inner.read_at(file, at, into).is_err() {
             return Err(self.fail());
@@ -71,16 +95,47 @@ impl<B: Backing> Backing for FaultyBacking<B> {
         Ok(())
     }
 
-    fn write_at(&mut self, file: FileId, at: u32, bytes: &[u8]) -> Result<(), StoreFault> {
-        let due = self.count_call();
-        if self.failed == u64::MAX {
-            return Err(self.fail());
+    fn write_at(&mut self, file: FileId, at: u32, bytes: &[u8]) -> Result<(), StoreFault>
+        ensures honest { (faulty_disk B.disk self.new).honest ≡ (faulty_disk B.disk self.old).honest }
+        ensures counts { Counts (faulty_disk B.disk self.old).failures (faulty_disk B.disk self.new).failures result }
+        ensures slot { OnOk result (IsSlot file) }
+        ensures others {
+            let old = faulty_disk B.disk self.old in
+            old.honest ≡ true → OthersStay file old.slots (faulty_disk B.disk self.new).slots
         }
+        ensures written {
+            let old = faulty_disk B.disk self.old in
+            let new = faulty_disk B.disk self.new in
+            old.honest ≡ true → OnOk result (Writes at bytes.now (content old.slots file) (content new.slots file))
+        }
+        ensures torn {
+            let old = faulty_disk B.disk self.old in
+            let new = faulty_disk B.disk self.new in
+            old.honest ≡ true →
+                OnErr result (Tears at (length bytes.now) (content old.slots file) (content new.slots file))
+        }
+
+        // The call that is due fails, after the store below took half of the bytes; any other fails where that does.
+        ensures calls { calls_to_fault self.new ≡ calls_to_fault self.old - 1 }
+        ensures due { calls_to_fault self.old ≡ 1 → IsErr result }
+        ensures half {
+            let old = B.disk (inner_of self.old) in
+            let new = B.disk (inner_of self.new) in
+            let half = take (length bytes.now / 2) bytes.now in
+            calls_to_fault self.old ≡ 1 → old.honest ≡ true → NoneCounted old.failures new.failures →
+                Writes at half (content old.slots file) (content new.slots file)
+        }
+        ensures passed {
+            calls_to_fault self.old ≢ 1 → (faulty_disk B.disk self.old).failures < last_failure →
+                Counts (B.disk (inner_of self.old)).failures (B.disk (inner_of self.new)).failures result
+        }
+    {
+        let due = self.count_call();
         if due {
             let _half = self.inner.write_at(file, at, &bytes[..bytes.len() / 2]);
             return Err(self.fail());
         }
-        if self.inner.write_at(file, at, bytes).is_err() {
+        if self.failed == u64::MAX || self.inner.write_at(file, at, bytes).is_err() {
             return Err(self.fail());
         }
         Ok(())

@@ -1,6 +1,6 @@
 //! A store in memory.
 ghost use Rattle.std.specs.Prelude.{◌≡◌, ℕ, ◌+◌, ◌-◌, ◌<◌, ◌≤◌, ◌^◌, ◌↔◌, min, true, length, take, drop, OnOk, OnErr, IsOk, IsTrue};
-ghost use Rattle.iol_back.specs.Disk.{Disk, IsSlot, content, raised, last_failure, Counts, Writes, Tears, OthersStay};
+ghost use Rattle.iol_back.specs.Disk.{Disk, IsSlot, content, raised, CanRead, Counts, Writes, OthersStay};
 
 use crate::backing::{Backing, StoreFault};
 use crate::slots::Slots;
@@ -35,9 +35,9 @@ impl MemoryBacking {
         MemoryBacking { slots, failures: 0 }
     }
 
-    // Whether there are so many bytes from `at` on, and they may be read or written.
-    fn reaches(&self, file: FileId, at: u32, count: usize) -> bool
-        ensures { IsTrue result ↔ (self.now.failures < last_failure) × IsSlot file × (at + count ≤ length (content self.now.slots file)) }
+    // Whether there are so many bytes from `at` on, and the store still answers.
+    fn can_read(&self, file: FileId, at: u32, count: usize) -> bool
+        ensures { IsTrue result ↔ CanRead self.now file at count }
     {
         let number = file.number() as usize;
         let len = self.slots.bytes(file).len();
@@ -63,8 +63,18 @@ impl Backing for MemoryBacking {
         self.slots.bytes(file).len().min(u32::MAX as usize) as u32
     }
 
-    fn read_at(&mut self, file: FileId, at: u32, into: &mut [u8]) -> Result<(), StoreFault> {
-        if !self.reaches(file, at, into.len()) {
+    fn read_at(&mut self, file: FileId, at: u32, into: &mut [u8]) -> Result<(), StoreFault>
+        ensures honest { self.new.honest ≡ self.old.honest }
+        ensures counts { Counts self.old.failures self.new.failures result }
+        ensures slot { OnOk result (IsSlot file) }
+        ensures slots { self.new.slots ≡ self.old.slots }
+        ensures within { OnOk result (at + length into.old ≤ length (content self.old.slots file)) }
+        ensures read { OnOk result (into.new ≡ take (length into.old) (drop at (content self.old.slots file))) }
+
+        // It fails for no other reason.
+        ensures succeeds { CanRead self.old file at (length into.old) → IsOk result }
+    {
+        if !self.can_read(file, at, into.len()) {
             return Err(self.fail());
         }
         let at = at as usize;
@@ -72,8 +82,19 @@ impl Backing for MemoryBacking {
         Ok(())
     }
 
-    fn write_at(&mut self, file: FileId, at: u32, bytes: &[u8]) -> Result<(), StoreFault> {
-        if !self.reaches(file, at, 0) || self.slots.overwrite(file, at as usize, bytes).is_err() {
+    fn write_at(&mut self, file: FileId, at: u32, bytes: &[u8]) -> Result<(), StoreFault>
+        ensures honest { self.new.honest ≡ self.old.honest }
+        ensures counts { Counts self.old.failures self.new.failures result }
+        ensures slot { OnOk result (IsSlot file) }
+        ensures others { OthersStay file self.old.slots self.new.slots }
+        ensures written {
+            OnOk result (Writes at bytes.now (content self.old.slots file) (content self.new.slots file))
+        }
+
+        // A write that fails changes nothing.
+        ensures err { OnErr result (content self.new.slots file ≡ content self.old.slots file) }
+    {
+        if !self.can_read(file, at, 0) || self.slots.overwrite(file, at as usize, bytes).is_err() {
             return Err(self.fail());
         }
         Ok(())

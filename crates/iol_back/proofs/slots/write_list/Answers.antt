@@ -1,6 +1,6 @@
 use Rattle.std.proofs.Common.{ℕ, ◌∙◌, ◌≤◌, ◌≡◌, sym, ap, List, Result, Ok, Err, subst, length}
 use Rattle.iol_back.specs.Disk.{content, overwritten}
-use Rattle.iol_back.proofs.Contents.{content-map, content-set_same, content-set_other, OnOk-map, OnErr-map}
+use Rattle.iol_back.proofs.Contents.{content-map, content-set_same, content-set_other, on_ok, on_err}
 use Rattle.iol_back.proofs.slots.write_list.Goals as goal
 
 pub overwrite-requires : goal.overwrite-requires
@@ -18,10 +18,10 @@ pub returns-clause-err : goal.returns-clause-err
 returns-clause-err c =
     let new = content-set_same (λ v. v.items) c.reach.new.lists.items c.args.number c.overwrite.new.list c.requires.slot.0 c.in_ok-reach.ensures.there in
     let old = ap (λ v. v.items) c.index_mut.ensures.value ∙ sym (content-map (λ v. v.items) c.reach.new.lists.items c.args.number c.index_mut.result.now c.requires.slot.0 c.in_ok-reach.ensures.there) ∙ c.reach.ensures.stay.each c.args.number in
-    OnErr-map c.overwrite.result (λ same. new ∙ same ∙ old) c.overwrite.ensures.err
+    on_err c.overwrite.result (λ same. new ∙ same ∙ old) c.overwrite.ensures.err
 
 pub returns-clause-written : goal.returns-clause-written
 returns-clause-written c =
     let new = content-set_same (λ v. v.items) c.reach.new.lists.items c.args.number c.overwrite.new.list c.requires.slot.0 c.in_ok-reach.ensures.there in
     let old = ap (λ v. v.items) c.index_mut.ensures.value ∙ sym (content-map (λ v. v.items) c.reach.new.lists.items c.args.number c.index_mut.result.now c.requires.slot.0 c.in_ok-reach.ensures.there) ∙ c.reach.ensures.stay.each c.args.number in
-    OnOk-map c.overwrite.result (λ written. new ∙ written ∙ ap (λ (w : List ℕ). overwritten c.args.at c.args.bytes.now w) old) c.overwrite.ensures.written
+    on_ok c.overwrite.result (λ written. new ∙ written ∙ ap (λ (w : List ℕ). overwritten c.args.at c.args.bytes.now w) old) c.overwrite.ensures.written
