@@ -55,3 +55,13 @@ on_ok (Err e) f p = tt
 pub on_err : {A E P Q : Type 0} (r : Result A E) → (P → Q) → OnErr r P → OnErr r Q
 on_err (Ok x) f p = tt
 on_err (Err e) f p = f p
+
+-- a file that has bytes is there
+pub content-some : {A : Type 0} (f : A → List ℕ) (xs : List A) (n : ℕ) → 0 < length (content (map f xs) n) → n ≤ length xs
+content-some f xs n some = elim (cases_lt (length xs) n) [
+  | inl past ↦ absurd (none (subst (λ (k : ℕ). k < n) (sym (length-map xs f)) past))
+  | inr there ↦ there
+]
+  where
+    none : length (map f xs) < n → ⊥
+    none past = let e = content-none (map f xs) n (inr past) in let zero = ap length e in omega (arith, zero)

@@ -27,14 +27,10 @@ pub trait Backing {
         ensures counts { Counts (disk self.old).failures (disk self.new).failures result }
         ensures slot { OnOk result (IsSlot file) }
         ensures slots { (disk self.old).honest ≡ true → (disk self.new).slots ≡ (disk self.old).slots }
-        ensures within {
-            let old = content (disk self.old).slots file in
-            (disk self.old).honest ≡ true → OnOk result (at + length into.old ≤ length old)
-        }
-        ensures read {
-            let old = content (disk self.old).slots file in
-            (disk self.old).honest ≡ true → OnOk result (into.new ≡ take (length into.old) (drop at old))
-        };
+        ensures within { let old = content (disk self.old).slots file in
+            (disk self.old).honest ≡ true → OnOk result (at + length into.old ≤ length old) }
+        ensures read { let old = content (disk self.old).slots file in
+            (disk self.old).honest ≡ true → OnOk result (into.new ≡ take (length into.old) (drop at old)) };
 
     /// Writes bytes from place `at` on, over those that are there; past the end the file grows. A write that begins past
     /// the end fails. One that fails may leave any bytes in its range.
@@ -43,16 +39,12 @@ pub trait Backing {
         ensures counts { Counts (disk self.old).failures (disk self.new).failures result }
         ensures slot { OnOk result (IsSlot file) }
         ensures others { (disk self.old).honest ≡ true → OthersStay file (disk self.old).slots (disk self.new).slots }
-        ensures written {
-            let old = content (disk self.old).slots file in
+        ensures written { let old = content (disk self.old).slots file in
             let new = content (disk self.new).slots file in
-            (disk self.old).honest ≡ true → OnOk result (Writes at bytes.now old new)
-        }
-        ensures torn {
-            let old = content (disk self.old).slots file in
+            (disk self.old).honest ≡ true → OnOk result (Writes at bytes.now old new) }
+        ensures torn { let old = content (disk self.old).slots file in
             let new = content (disk self.new).slots file in
-            (disk self.old).honest ≡ true → OnErr result (Tears at (length bytes.now) old new)
-        };
+            (disk self.old).honest ≡ true → OnErr result (Tears at (length bytes.now) old new) };
 
     /// How often the store has failed, up to `u64::MAX`.
     fn failures(&self) -> u64

@@ -67,26 +67,18 @@ impl<B: Backing> Backing for FaultyBacking<B> {
         ensures honest { (faulty_disk B.disk self.new).honest ≡ (faulty_disk B.disk self.old).honest }
         ensures counts { Counts (faulty_disk B.disk self.old).failures (faulty_disk B.disk self.new).failures result }
         ensures slot { OnOk result (IsSlot file) }
-        ensures slots {
-            let old = faulty_disk B.disk self.old in
-            old.honest ≡ true → (faulty_disk B.disk self.new).slots ≡ old.slots
-        }
-        ensures within {
-            let old = faulty_disk B.disk self.old in
-            old.honest ≡ true → OnOk result (at + length into.old ≤ length (content old.slots file))
-        }
-        ensures read {
-            let old = faulty_disk B.disk self.old in
-            old.honest ≡ true → OnOk result (into.new ≡ take (length into.old) (drop at (content old.slots file)))
-        }
+        ensures slots { let old = faulty_disk B.disk self.old in
+            old.honest ≡ true → (faulty_disk B.disk self.new).slots ≡ old.slots }
+        ensures within { let old = faulty_disk B.disk self.old in
+            old.honest ≡ true → OnOk result (at + length into.old ≤ length (content old.slots file)) }
+        ensures read { let old = faulty_disk B.disk self.old in
+            old.honest ≡ true → OnOk result (into.new ≡ take (length into.old) (drop at (content old.slots file))) }
 
         // The call that is due fails and reads nothing; any other fails where the store below does.
         ensures calls { calls_to_fault self.new ≡ calls_to_fault self.old - 1 }
         ensures due { calls_to_fault self.old ≡ 1 → IsErr result × (inner_of self.new ≡ inner_of self.old) }
-        ensures passed {
-            calls_to_fault self.old ≢ 1 → (faulty_disk B.disk self.old).failures < last_failure →
-                Counts (B.disk (inner_of self.old)).failures (B.disk (inner_of self.new)).failures result
-        }
+        ensures passed { calls_to_fault self.old ≢ 1 → (faulty_disk B.disk self.old).failures < last_failure →
+            Counts (B.disk (inner_of self.old)).failures (B.disk (inner_of self.new)).failures result }
     {
         let due = self.count_call();
         if due || self.failed == u64::MAX || self.inner.read_at(file, at, into).is_err() {
@@ -99,36 +91,26 @@ impl<B: Backing> Backing for FaultyBacking<B> {
         ensures honest { (faulty_disk B.disk self.new).honest ≡ (faulty_disk B.disk self.old).honest }
         ensures counts { Counts (faulty_disk B.disk self.old).failures (faulty_disk B.disk self.new).failures result }
         ensures slot { OnOk result (IsSlot file) }
-        ensures others {
-            let old = faulty_disk B.disk self.old in
-            old.honest ≡ true → OthersStay file old.slots (faulty_disk B.disk self.new).slots
-        }
-        ensures written {
-            let old = faulty_disk B.disk self.old in
+        ensures others { let old = faulty_disk B.disk self.old in
+            old.honest ≡ true → OthersStay file old.slots (faulty_disk B.disk self.new).slots }
+        ensures written { let old = faulty_disk B.disk self.old in
             let new = faulty_disk B.disk self.new in
-            old.honest ≡ true → OnOk result (Writes at bytes.now (content old.slots file) (content new.slots file))
-        }
-        ensures torn {
-            let old = faulty_disk B.disk self.old in
+            old.honest ≡ true → OnOk result (Writes at bytes.now (content old.slots file) (content new.slots file)) }
+        ensures torn { let old = faulty_disk B.disk self.old in
             let new = faulty_disk B.disk self.new in
             old.honest ≡ true →
-                OnErr result (Tears at (length bytes.now) (content old.slots file) (content new.slots file))
-        }
+            OnErr result (Tears at (length bytes.now) (content old.slots file) (content new.slots file)) }
 
         // The call that is due fails, after the store below took half of the bytes; any other fails where that does.
         ensures calls { calls_to_fault self.new ≡ calls_to_fault self.old - 1 }
         ensures due { calls_to_fault self.old ≡ 1 → IsErr result }
-        ensures half {
-            let old = B.disk (inner_of self.old) in
+        ensures half { let old = B.disk (inner_of self.old) in
             let new = B.disk (inner_of self.new) in
             let half = take (length bytes.now / 2) bytes.now in
             calls_to_fault self.old ≡ 1 → old.honest ≡ true → NoneCounted old.failures new.failures →
-                Writes at half (content old.slots file) (content new.slots file)
-        }
-        ensures passed {
-            calls_to_fault self.old ≢ 1 → (faulty_disk B.disk self.old).failures < last_failure →
-                Counts (B.disk (inner_of self.old)).failures (B.disk (inner_of self.new)).failures result
-        }
+            Writes at half (content old.slots file) (content new.slots file) }
+        ensures passed { calls_to_fault self.old ≢ 1 → (faulty_disk B.disk self.old).failures < last_failure →
+            Counts (B.disk (inner_of self.old)).failures (B.disk (inner_of self.new)).failures result }
     {
         let due = self.count_call();
         if due {

@@ -42,7 +42,11 @@ impl MemoryBacking {
         let number = file.number() as usize;
         let len = self.slots.bytes(file).len();
         let at = at as usize;
-        self.failures < u64::MAX && 0 < number && number <= MAX_FILES && at <= len && count <= len - at
+        self.failures < u64::MAX
+            && 0 < number
+            && number <= MAX_FILES
+            && at <= len
+            && count <= len - at
     }
 
     // Counts a failure.
@@ -87,12 +91,11 @@ impl Backing for MemoryBacking {
         ensures counts { Counts self.old.failures self.new.failures result }
         ensures slot { OnOk result (IsSlot file) }
         ensures others { OthersStay file self.old.slots self.new.slots }
-        ensures written {
-            OnOk result (Writes at bytes.now (content self.old.slots file) (content self.new.slots file))
-        }
+        ensures written { OnOk result (Writes at bytes.now (content self.old.slots file) (content self.new.slots file)) }
 
-        // A write that fails changes nothing.
+        // A write that fails changes nothing, and one inside of the file fails for no other reason.
         ensures err { OnErr result (content self.new.slots file ≡ content self.old.slots file) }
+        ensures succeeds { CanRead self.old file at (length bytes.now) → IsOk result }
     {
         if !self.can_read(file, at, 0) || self.slots.overwrite(file, at as usize, bytes).is_err() {
             return Err(self.fail());

@@ -1,5 +1,5 @@
 //! Lists of bytes by file number.
-ghost use Rattle.std.specs.Prelude.{◌≡◌, ℕ, ◌+◌, ◌-◌, ◌<◌, ◌≤◌, [], ◌++◌, length, map, take, drop, OnOk, OnErr, vec_len};
+ghost use Rattle.std.specs.Prelude.{◌≡◌, ℕ, ◌+◌, ◌-◌, ◌<◌, ◌≤◌, [], ◌++◌, length, map, take, drop, OnOk, OnErr, IsOk, vec_len};
 ghost use Rattle.iol_core.specs.Numbered.{numbered_or};
 ghost use Rattle.iol_back.specs.Disk.{IsSlot, content, overwritten, OthersStay, AllStay};
 ghost use Rattle.iol_back.specs.Lists.{items_of};
@@ -33,6 +33,7 @@ fn overwrite(list: &mut Vec<u8>, at: usize, bytes: &[u8]) -> Result<(), AllocErr
     requires { at ≤ length list.old.items }
     ensures written { OnOk result (list.new.items ≡ overwritten at bytes.now list.old.items) }
     ensures err { OnErr result (list.new.items ≡ list.old.items) }
+    ensures inside { at + length bytes.now ≤ length list.old.items → IsOk result }
 {
     let inside = bytes.len().min(list.len() - at);
     let (first, rest) = bytes.split_at(inside);
@@ -48,6 +49,7 @@ fn reach(lists: &mut Vec<Vec<u8>>, alloc: Global, number: usize) -> Result<(), A
     ensures stay { AllStay (items_of lists.old.items) (items_of lists.new.items) }
     ensures there { OnOk result (number ≤ length lists.new.items) }
     ensures few { length lists.new.items ≤ MAX_FILES }
+    ensures already { number ≤ length lists.old.items → IsOk result }
 {
     while lists.len() < number {
         lists.reserve(1)?;
@@ -57,22 +59,25 @@ fn reach(lists: &mut Vec<Vec<u8>>, alloc: Global, number: usize) -> Result<(), A
 }
 
 // Puts bytes over those of a list from `at` on. Refused, it changes no list's bytes.
-fn write_list(lists: &mut Vec<Vec<u8>>, alloc: Global, number: usize, at: usize, bytes: &[u8]) -> Result<(), AllocError>
+fn write_list(
+    lists: &mut Vec<Vec<u8>>,
+    alloc: Global,
+    number: usize,
+    at: usize,
+    bytes: &[u8],
+) -> Result<(), AllocError>
     requires slot { IsSlot number }
     requires few { length lists.old.items ≤ MAX_FILES }
     requires begins { at ≤ length (content (items_of lists.old.items) number) }
     ensures few { length lists.new.items ≤ MAX_FILES }
     ensures others { OthersStay number (items_of lists.old.items) (items_of lists.new.items) }
-    ensures written {
-        let old = items_of lists.old.items in
+    ensures written { let old = items_of lists.old.items in
         let new = items_of lists.new.items in
-        OnOk result (content new number ≡ overwritten at bytes.now (content old number))
-    }
-    ensures err {
-        let old = items_of lists.old.items in
+        OnOk result (content new number ≡ overwritten at bytes.now (content old number)) }
+    ensures err { let old = items_of lists.old.items in
         let new = items_of lists.new.items in
-        OnErr result (content new number ≡ content old number)
-    }
+        OnErr result (content new number ≡ content old number) }
+    ensures inside { 0 < length bytes.now → at + length bytes.now ≤ length (content (items_of lists.old.items) number) → IsOk result }
 {
     reach(lists, alloc, number)?;
     overwrite(&mut lists[number - 1], at, bytes)
@@ -114,14 +119,30 @@ impl Slots {
         self.overwrite(file, end, bytes)
     }
 
-    /// Puts bytes over those of a file from `at` on. Refused, it changes nothing.
-    pub(crate) fn overwrite(&mut self, file: FileId, at: usize, bytes: &[u8]) -> Result<(), AllocError>
+    /// Puts bytes over those of a file from `at` on. Refused, it changes nothing; where the file need not grow it is
+    /// never refused.
+    pub(crate) fn overwrite(
+        &mut self,
+        file: FileId,
+        at: usize,
+        bytes: &[u8],
+    ) -> Result<(), AllocError>
         requires slot { IsSlot file }
         requires begins { at ≤ length (content self.old file) }
         ensures written { OnOk result (content self.new file ≡ overwritten at bytes.now (content self.old file)) }
         ensures others { OthersStay file self.old self.new }
         ensures err { OnErr result (content self.new file ≡ content self.old file) }
+        ensures inside { at + length bytes.now ≤ length (content self.old file) → IsOk result }
     {
-        write_list(&mut self.lists, self.alloc, file.number() as usize, at, bytes)
+        if bytes.is_empty() {
+            return Ok(());
+        }
+        write_list(
+            &mut self.lists,
+            self.alloc,
+            file.number() as usize,
+            at,
+            bytes,
+        )
     }
 }

@@ -7,6 +7,7 @@ use Rattle.iol_back.proofs.slots.reach.Given as goal
 
 abbrev pub invariant-loop-alloc : goal.invariant-loop-alloc
 invariant-loop-alloc l = record {
+  no_fewer : length l.fn.lists.items ≤ length l.lists.items;
   few : length l.lists.items ≤ MAX_FILES;
   stay : AllStay (items_of l.fn.lists.items) (items_of l.lists.items);
 }

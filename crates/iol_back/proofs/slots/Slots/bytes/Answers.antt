@@ -1,6 +1,5 @@
 use Rattle.std.proofs.Common.{ℕ, ◌≡◌, ◌-◌, ◌∙◌, ◌<◌, inl, inr, sym, ap, length, arith, get_or}
 use Rattle.std.proofs.lemmas.List.{length-map}
-use Rattle.iol_back.specs.Disk.{content}
 use Rattle.iol_back.proofs.Contents.{content-none, content-map}
 use Rattle.iol_back.proofs.slots.Slots.bytes.Goals as goal
 
