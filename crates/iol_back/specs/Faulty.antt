@@ -11,6 +11,7 @@ inner_of f = f.inner
 abbrev pub calls_to_fault : {B : Type 0} → FaultyBacking B → ℕ
 calls_to_fault f = f.left
 
--- bytes and honesty of the store below, and the failures of both
-abbrev pub faulty_disk : {B : Type 0} → (B → Disk) → FaultyBacking B → Disk
-faulty_disk disk f = record { slots = (disk f.inner).slots; failures = f.failed; honest = (disk f.inner).honest }
+-- as a store: the bytes and the honesty of the one below, and the failures of both
+abbrev pub disk_over : {B : Type 0} → (B → Disk) → FaultyBacking B → Disk
+disk_over disk f =
+    record { slots = (disk f.inner).slots; failures = f.failed; honest = (disk f.inner).honest }

@@ -1,6 +1,6 @@
 //! A store in memory.
 ghost use Rattle.std.specs.Prelude.{◌≡◌, ℕ, ◌+◌, ◌-◌, ◌<◌, ◌≤◌, ◌^◌, ◌↔◌, min, true, length, take, drop, OnOk, OnErr, IsOk, IsTrue};
-ghost use Rattle.iol_back.specs.Disk.{Disk, IsSlot, content, raised, CanRead, Counts, Writes, OthersStay};
+ghost use Rattle.iol_back.specs.Disk.{Disk, IsSlot, content, raised, CanRead, Counts, Reads, Writes, OthersStay};
 
 use crate::backing::{Backing, StoreFault};
 use crate::slots::Slots;
@@ -69,11 +69,10 @@ impl Backing for MemoryBacking {
 
     fn read_at(&mut self, file: FileId, at: u32, into: &mut [u8]) -> Result<(), StoreFault>
         ensures honest { self.new.honest ≡ self.old.honest }
-        ensures counts { Counts self.old.failures self.new.failures result }
+        ensures counts { Counts self.old self.new result }
         ensures slot { OnOk result (IsSlot file) }
         ensures slots { self.new.slots ≡ self.old.slots }
-        ensures within { OnOk result (at + length into.old ≤ length (content self.old.slots file)) }
-        ensures read { OnOk result (into.new ≡ take (length into.old) (drop at (content self.old.slots file))) }
+        ensures read { OnOk result (Reads at (content self.old.slots file) into.old into.new) }
 
         // It fails for no other reason.
         ensures succeeds { CanRead self.old file at (length into.old) → IsOk result }
@@ -88,12 +87,13 @@ impl Backing for MemoryBacking {
 
     fn write_at(&mut self, file: FileId, at: u32, bytes: &[u8]) -> Result<(), StoreFault>
         ensures honest { self.new.honest ≡ self.old.honest }
-        ensures counts { Counts self.old.failures self.new.failures result }
+        ensures counts { Counts self.old self.new result }
         ensures slot { OnOk result (IsSlot file) }
         ensures others { OthersStay file self.old.slots self.new.slots }
-        ensures written { OnOk result (Writes at bytes.now (content self.old.slots file) (content self.new.slots file)) }
+        ensures written { let new = content self.new.slots file in
+            OnOk result (Writes at bytes.now (content self.old.slots file) new) }
 
-        // A write that fails changes nothing, and one inside of the file fails for no other reason.
+        // A write that fails changes nothing. One inside of the file fails for no other reason.
         ensures err { OnErr result (content self.new.slots file ≡ content self.old.slots file) }
         ensures succeeds { CanRead self.old file at (length bytes.now) → IsOk result }
     {

@@ -77,7 +77,8 @@ fn write_list(
     ensures err { let old = items_of lists.old.items in
         let new = items_of lists.new.items in
         OnErr result (content new number ≡ content old number) }
-    ensures inside { 0 < length bytes.now → at + length bytes.now ≤ length (content (items_of lists.old.items) number) → IsOk result }
+    ensures inside { let old = content (items_of lists.old.items) number in
+        0 < length bytes.now → at + length bytes.now ≤ length old → IsOk result }
 {
     reach(lists, alloc, number)?;
     overwrite(&mut lists[number - 1], at, bytes)
@@ -111,7 +112,8 @@ impl Slots {
     /// Puts bytes at the end of a file. Refused, it changes nothing.
     pub fn append(&mut self, file: FileId, bytes: &[u8]) -> Result<(), AllocError>
         requires { IsSlot file }
-        ensures appended { OnOk result (content self.new file ≡ content self.old file ++ bytes.now) }
+        ensures appended { let old = content self.old file in
+            OnOk result (content self.new file ≡ old ++ bytes.now) }
         ensures others { OthersStay file self.old self.new }
         ensures err { OnErr result (content self.new file ≡ content self.old file) }
     {
@@ -129,7 +131,8 @@ impl Slots {
     ) -> Result<(), AllocError>
         requires slot { IsSlot file }
         requires begins { at ≤ length (content self.old file) }
-        ensures written { OnOk result (content self.new file ≡ overwritten at bytes.now (content self.old file)) }
+        ensures written { let old = content self.old file in
+            OnOk result (content self.new file ≡ overwritten at bytes.now old) }
         ensures others { OthersStay file self.old self.new }
         ensures err { OnErr result (content self.new file ≡ content self.old file) }
         ensures inside { at + length bytes.now ≤ length (content self.old file) → IsOk result }
