@@ -1,0 +1,8 @@
+pub mod Comparing
+pub mod Places
+pub mod Edits
+pub mod Times
+pub mod Rising
+pub mod Listed
+pub mod Indexing
+pub mod Changing
