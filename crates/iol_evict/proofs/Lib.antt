@@ -6,3 +6,6 @@ pub mod Rising
 pub mod Listed
 pub mod Indexing
 pub mod Changing
+pub mod Lowered
+pub mod Firsts
+mod Examples

@@ -1,6 +1,8 @@
 -- Which entry goes first.
-use Rattle.std.specs.Prelude.{◌≡◌, ℕ, ◌≤◌, ◌⊎◌, Bool, true, false, List, All, Contains}
+use Rattle.std.specs.Prelude.{◌≡◌, ℕ, ◌<◌, ◌≤◌, ◌⊎◌, Bool, true, false, List, length, slice_index, All, Contains}
+use Rattle.slab.specs.Slab.{Slab}
 use Rattle.iol_evict.specs.declared.entry.Entry.{Entry}
+use Rattle.iol_evict.specs.Indexes.{entry_of}
 
 -- by height, then file, then place
 pub record KeyLe (a b : Entry) : Type 0 where
@@ -20,3 +22,18 @@ pub record IsVictim (in_use : ℕ → ℕ → Bool) (es : List Entry) (place : �
   pub there : Contains es victim
   pub first : All (Precedes in_use victim) es
   pub lies : place ≡ (victim.file, victim.at)
+
+-- of each of these entries it may be asked whether it is in use
+pub record CanAskOf (can_ask : ℕ → ℕ → Type 0) (s : Slab Entry) (keys : List ℕ) : Type 0 where
+  pub each : (i : ℕ) → i < length keys → can_ask (entry_of s (slice_index keys i)).file (entry_of s (slice_index keys i)).at
+
+abbrev pub is_used : (in_use : ℕ → ℕ → Bool) → Slab Entry → List ℕ → (i : ℕ) → Bool
+is_used in_use s keys i = in_use (entry_of s (slice_index keys i)).file (entry_of s (slice_index keys i)).at
+
+-- the first of the entries that is not in use, or the first where all are
+pub record GoesFirst (in_use : ℕ → ℕ → Bool) (s : Slab Entry) (keys : List ℕ) (place : ℕ × ℕ) : Type 0 where
+  pub index : ℕ
+  pub within : index < length keys
+  pub lies : place ≡ ((entry_of s (slice_index keys index)).file, (entry_of s (slice_index keys index)).at)
+  pub before : (i : ℕ) → i < index → is_used in_use s keys i ≡ true
+  pub idle : (is_used in_use s keys index ≡ false) ⊎ ((index ≡ 0) × ((i : ℕ) → i < length keys → is_used in_use s keys i ≡ true))

@@ -6,8 +6,11 @@ ghost use Rattle.iol_evict.specs.Ranking.{Table, entry_at, entry_or, put_in, wit
 ghost use Rattle.iol_evict.specs.Victims.{IsVictim};
 
 use crate::entry::{By, Entry, Rank};
-use crate::index::{find_key, insert_key, read_entry, remove_key};
+use crate::index::{find_key, insert_key, read_entry, remove_key, write_height};
+use crate::lowering::{insert_all, lower_each};
 use crate::rank::rank_of;
+use crate::users::InUse;
+use crate::victim::first_idle;
 use iol_core::numbers::FileId;
 use slab::Slab;
 use std::alloc::{AllocError, Global};
@@ -23,7 +26,7 @@ pub(crate) struct Entries {
 }
 
 impl Model for Entries {
-    ghost use Rattle.std.specs.Prelude.{◌+◌, ◌≤◌, map, vec_len, vec_capacity};
+    ghost use Rattle.std.specs.Prelude.{◌≡◌, ◌+◌, ◌≤◌, map, vec_len, vec_capacity};
     ghost use Rattle.slab.specs.Slab.{HasRoomFor};
     ghost use Rattle.iol_evict.specs.Ranking.{Table};
     ghost use Rattle.iol_evict.specs.Indexes.{entry_of, IsIndexed};
@@ -35,18 +38,9 @@ impl Model for Entries {
     ghost invariant = { λ e. record {
         indexed : IsIndexed e.slab e.by_place.items e.by_height.items;
         slab_room : HasRoomFor e.slab e.room;
+        lens : vec_len e.by_place ≡ vec_len e.by_height;
         place_room : vec_len e.by_place + e.room ≤ vec_capacity e.by_place;
         height_room : vec_len e.by_height + e.room ≤ vec_capacity e.by_height } };
-}
-
-// Gives the entry at a key another height.
-fn write_height(slab: &mut Slab<Entry>, key: usize, height: u64)
-    requires { ContainsKey slab.old key }
-    ensures updates { Updates slab.old slab.new key (Some (record (entry_of slab.old key) { height = height })) }
-    ensures len { slab_len slab.new ≡ slab_len slab.old }
-    ensures capacity { slab.new.capacity ≡ slab.old.capacity }
-{
-    slab[key].height = height;
 }
 
 // The rank of a place.
@@ -156,5 +150,23 @@ impl Entries {
         remove_key(&self.slab, &mut self.by_height, By::Height, &rank_of(By::Height, &entry));
         write_height(&mut self.slab, key, height);
         insert_key(&self.slab, &mut self.by_height, By::Height, key);
+    }
+
+    /// Takes `low` from every height; one below it becomes 0. All keys are sorted by height anew: the caller does this
+    /// seldom.
+    pub(crate) fn lower(&mut self, low: u64)
+        ensures { self.new ≡ record self.old { entries = map (lowered_by low) self.old.entries } }
+    {
+        lower_each(&mut self.slab, self.by_place.as_slice(), low);
+        self.by_height.clear();
+        insert_all(&self.slab, self.by_place.as_slice(), &mut self.by_height);
+    }
+
+    /// The place of the entry that goes first.
+    pub(crate) fn least<U: InUse>(&self, users: &U) -> Option<(FileId, u32)>
+        requires { All (λ e. U.can_ask users.now e.file e.at) self.now.entries }
+        ensures { MatchOption result (self.now.entries ≡ []) (IsVictim (U.in_use users.now) self.now.entries) }
+    {
+        first_idle(&self.slab, self.by_height.as_slice(), users)
     }
 }

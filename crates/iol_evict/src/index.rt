@@ -1,6 +1,6 @@
 //! Sorted lists of a slab's keys.
 ghost use Rattle.std.specs.Prelude.{◌≡◌, ℕ, ◌+◌, ◌-◌, ◌/◌, ◌<◌, ◌≤◌, length, Some, vec_len, vec_capacity};
-ghost use Rattle.slab.specs.Slab.{get, ContainsKey};
+ghost use Rattle.slab.specs.Slab.{get, ContainsKey, Updates, slab_len};
 ghost use Rattle.iol_evict.specs.Ranks.{rank_by};
 ghost use Rattle.iol_evict.specs.Indexes.{entry_of, AreLive, IsRising, IsPlace, HasRank, IsApart, Finds, Adds, Takes};
 
@@ -14,6 +14,16 @@ pub(crate) fn read_entry(entries: &Slab<Entry>, key: usize) -> Entry
     ensures { result ≡ entry_of entries.now key }
 {
     entries[key]
+}
+
+/// Gives the entry at a key another height.
+pub(crate) fn write_height(slab: &mut Slab<Entry>, key: usize, height: u64)
+    requires { ContainsKey slab.old key }
+    ensures updates { Updates slab.old slab.new key (Some (record (entry_of slab.old key) { height = height })) }
+    ensures len { slab_len slab.new ≡ slab_len slab.old }
+    ensures capacity { slab.new.capacity ≡ slab.old.capacity }
+{
+    slab[key].height = height;
 }
 
 /// How many keys come before a rank.

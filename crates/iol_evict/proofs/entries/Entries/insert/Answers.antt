@@ -26,6 +26,7 @@ invariant_of-self c =
     record {
       indexed = indexed-insert _ _ _ _ _ _ _ c.args.entry c.self.invariant.indexed c.insert_reserved-key.ensures.was_vacant c.insert_reserved-key.ensures.updates c.requires.sized absent c.insert_key.ensures.adds c.insert_key-2.ensures.adds;
       slab_room = omega (arith, some, c.requires.room, c.insert_reserved-key.ensures.len, c.insert_reserved-key.ensures.capacity, c.self.invariant.slab_room);
+      lens = omega (arith, c.insert_key.ensures.len, c.insert_key-2.ensures.len, c.self.invariant.lens);
       place_room = omega (arith, some, c.requires.room, c.insert_key.ensures.len, c.insert_key.ensures.capacity, c.self.invariant.place_room);
       height_room = omega (arith, some, c.requires.room, c.insert_key-2.ensures.len, c.insert_key-2.ensures.capacity, c.self.invariant.height_room);
     }

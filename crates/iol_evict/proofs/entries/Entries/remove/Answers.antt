@@ -29,6 +29,7 @@ invariant_of-self c =
     record {
       indexed = indexed-remove _ _ _ _ _ _ _ _ _ c.self.invariant.indexed c.remove_key-key.ensures.takes second c.remove.ensures.updates;
       slab_room = omega (arith, c.remove.ensures.len, c.remove.ensures.capacity, c.self.invariant.slab_room);
+      lens = omega (arith, c.remove_key-key.ensures.len, c.remove_key.ensures.len, c.self.invariant.lens);
       place_room = omega (arith, c.remove_key-key.ensures.len, c.remove_key-key.ensures.capacity, c.self.invariant.place_room);
       height_room = omega (arith, c.remove_key.ensures.len, c.remove_key.ensures.capacity, c.self.invariant.height_room);
     }

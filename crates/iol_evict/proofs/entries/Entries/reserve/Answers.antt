@@ -9,6 +9,7 @@ invariant_of-self c =
     record {
       indexed = subst (λ (l : List ℕ). IsIndexed c.reserve_each.new.slab l c.reserve_each.new.by_height.items) (sym c.reserve_each.ensures.places) (subst (λ (l : List ℕ). IsIndexed c.reserve_each.new.slab c.self.inside.by_place.items l) (sym c.reserve_each.ensures.heights) same);
       slab_room = omega (arith, c.reserve_each.ensures.len, c.reserve_each.ensures.slab_kept, c.self.invariant.slab_room);
+      lens = omega (arith, c.reserve_each.ensures.place_len, c.reserve_each.ensures.height_len, c.self.invariant.lens);
       place_room = omega (arith, c.reserve_each.ensures.place_len, c.reserve_each.ensures.places_kept, c.self.invariant.place_room);
       height_room = omega (arith, c.reserve_each.ensures.height_len, c.reserve_each.ensures.heights_kept, c.self.invariant.height_room);
     }
@@ -19,6 +20,7 @@ invariant_of-self-2 c =
     record {
       indexed = subst (λ (l : List ℕ). IsIndexed c.reserve_each.new.slab l c.reserve_each.new.by_height.items) (sym c.reserve_each.ensures.places) (subst (λ (l : List ℕ). IsIndexed c.reserve_each.new.slab c.self.inside.by_place.items l) (sym c.reserve_each.ensures.heights) same);
       slab_room = c.in_ok-reserve_each.ensures.slab_room;
+      lens = omega (arith, c.reserve_each.ensures.place_len, c.reserve_each.ensures.height_len, c.self.invariant.lens);
       place_room = c.in_ok-reserve_each.ensures.place_room;
       height_room = c.in_ok-reserve_each.ensures.height_room;
     }

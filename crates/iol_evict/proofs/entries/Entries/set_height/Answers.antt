@@ -44,6 +44,7 @@ invariant_of-self c =
     record {
       indexed = indexed-height _ _ _ _ _ _ _ _ _ _ c.self.invariant.indexed found taken c.write_height.ensures.updates c.insert_key.ensures.adds;
       slab_room = omega (arith, c.write_height.ensures.len, c.write_height.ensures.capacity, c.self.invariant.slab_room);
+      lens = omega (arith, c.remove_key.ensures.len, c.insert_key.ensures.len, c.self.invariant.lens);
       place_room = c.self.invariant.place_room;
       height_room = omega (arith, c.remove_key.ensures.len, c.remove_key.ensures.capacity, c.insert_key.ensures.len, c.insert_key.ensures.capacity, c.self.invariant.height_room);
     }
