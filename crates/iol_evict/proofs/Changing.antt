@@ -1,5 +1,5 @@
 -- Entries and their indexes after a change.
-use Rattle.std.proofs.Common.{inl, inr, ◌≡◌, ◌≢◌, ℕ, ◌+◌, ◌<◌, ◌≤◌, ◌⊎◌, Bool, true, false, List, [], ◌∷◌, length, get_or, map, arith, refl, sym, ap, subst, ◌∙◌, Option, Some, None, IsSome, unwrap_or}
+use Rattle.std.proofs.Common.{inl, inr, ◌≡◌, ◌≢◌, ℕ, ◌<◌, true, false, List, length, get_or, arith, refl, sym, ap, subst, ◌∙◌, Option, Some, None, IsSome, unwrap_or}
 use Rattle.std.specs.List.{insert, remove}
 use Rattle.std.proofs.lemmas.Bool.{cases_eq}
 use Rattle.std.proofs.lemmas.List.{length-map}
@@ -7,16 +7,15 @@ use Rattle.std.proofs.lemmas.List.Sums.{sum_by-insert, sum_by-remove}
 use Rattle.slab.specs.Slab.{Slab, get, ContainsKey, Updates, SameValues}
 use Rattle.iol_evict.specs.declared.entry.Entry.{Entry}
 use Rattle.iol_evict.specs.declared.entry.Rank.{Rank}
-use Rattle.iol_evict.specs.declared.entry.By.{By}
 use Rattle.iol_evict.specs.declared.entry.By.TheVariants.{Place, Height}
 use Rattle.iol_evict.specs.Ranking.{Table, no_entry, is_at, entry_at}
 use Rattle.iol_evict.specs.Ranks.{rank_by}
-use Rattle.iol_evict.specs.Indexes.{entry_of, rank_at, one_if, times, AreLive, IsRising, IsPlace, IsApart, HasRank, HaveSameKeys, Finds, Adds, Takes, IsIndexed}
+use Rattle.iol_evict.specs.Indexes.{entry_of, one_if, times, AreLive, IsRising, HasRank, HaveSameKeys, Finds, Adds, Takes, IsIndexed}
 use Rattle.iol_evict.proofs.Edits.{each-insert, each-remove, remove-cases}
 use Rattle.iol_evict.proofs.Times.{StandsIn, stands-same, same-sym, same-insert, same-remove, each-same}
 use Rattle.iol_evict.proofs.Rising.{SameAt, same-entry, same-others, live-same, live-other, rising-ranks, rising-same, rising-insert, rising-remove}
 use Rattle.iol_evict.proofs.Listed.{is_at-true, entry_at-none}
-use Rattle.iol_evict.proofs.Indexing.{entries_of, rank_of_place, read, taken-key, taken-gone, has-rank, places-apart}
+use Rattle.iol_evict.proofs.Indexing.{entries_of, read, taken-key, taken-gone, has-rank, places-apart}
 
 -- the keys of the second index are live, too
 pub live-heights : (s : Slab Entry) (ks js : List ℕ) → IsIndexed s ks js → AreLive s js
@@ -62,7 +61,7 @@ indexed-insert s t ks ks' js js' key e indexed free updates sized absent placed 
       live = record { each = subst (λ (l : List ℕ). (i : ℕ) → i < length l → ContainsKey t (get_or l i 0)) (sym placed.keys) (each-insert (λ k. ContainsKey t k) ks placed.index key (live-same s t ks at_places indexed.live).each (contains-now t key e updates.changed) placed.place.within) };
       places = subst (λ (l : List ℕ). IsRising Place t l) (sym placed.keys) (rising-insert Place t ks key placed.index (rising-same Place s t ks at_places indexed.places) placed.place (record { each = apart }));
       heights = subst (λ (l : List ℕ). IsRising Height t l) (sym heightened.keys) (rising-insert Height t js key heightened.index (rising-same Height s t js at_heights indexed.heights) heightened.place
-        (record { each = each-same (λ k. (entry_of t k).file ≡ (entry_of t key).file → (entry_of t k).at ≡ (entry_of t key).at → ⊥) ks js indexed.same apart }));
+          (record { each = each-same (λ k. (entry_of t k).file ≡ (entry_of t key).file → (entry_of t k).at ≡ (entry_of t key).at → ⊥) ks js indexed.same apart }));
       same = subst (λ (l : List ℕ). HaveSameKeys l js') (sym placed.keys) (subst (λ (l : List ℕ). HaveSameKeys (insert ks placed.index key) l) (sym heightened.keys) (same-insert ks js placed.index heightened.index key indexed.same));
       sized = subst (λ (l : List ℕ). (i : ℕ) → i < length l → 0 < (entry_of t (get_or l i 0)).size) (sym placed.keys) (each-insert (λ k. 0 < (entry_of t k).size) ks placed.index key (λ i within. subst (λ (x : Entry). 0 < x.size) (sym (same-entry s t ks i at_places within)) (indexed.sized i within)) (subst (λ (x : Entry). 0 < x.size) (sym now) sized) placed.place.within);
     }
@@ -117,17 +116,19 @@ indexed-height s t ks js js' js'' rank key taken height indexed found from_heigh
     let at_heights = same-others s t js' key (Some (record (entry_of s key) { height = height })) updates gone in
     let now = entry-now t key (record (entry_of s key) { height = height }) updates.changed in
     record {
-      live = record { each = λ i within. elim (cases_eq (get_or ks i 0) key) [
-        | inl is ↦ subst (λ (k : ℕ). ContainsKey t k) (sym is) (contains-now t key (record (entry_of s key) { height = height }) updates.changed)
-        | inr other ↦ subst (λ (o : Option Entry). IsSome o) (sym (updates.others (get_or ks i 0) other)) (indexed.live.each i within)
-      ] };
+      live = record {
+        each = λ i within. elim (cases_eq (get_or ks i 0) key) [
+          | inl is ↦ subst (λ (k : ℕ). ContainsKey t k) (sym is) (contains-now t key (record (entry_of s key) { height = height }) updates.changed)
+          | inr other ↦ subst (λ (o : Option Entry). IsSome o) (sym (updates.others (get_or ks i 0) other)) (indexed.live.each i within)
+        ];
+      };
       places = rising-ranks Place s t ks (λ i within. elim (cases_eq (get_or ks i 0) key) [
         | inl is ↦ ap (λ (k : ℕ). rank_by Place (entry_of t k)) is ∙ ap (rank_by Place) now ∙ ap (λ (k : ℕ). rank_by Place (entry_of s k)) (sym is)
         | inr other ↦ ap (λ (o : Option Entry). rank_by Place (unwrap_or o no_entry)) (updates.others (get_or ks i 0) other)
       ]) indexed.places;
       heights = subst (λ (l : List ℕ). IsRising Height t l) (sym heightened.keys) (rising-insert Height t js' key heightened.index
-        (rising-same Height s t js' at_heights (subst (λ (l : List ℕ). IsRising Height s l) (sym from_heights.keys) (rising-remove Height s js from_heights.index indexed.heights from_heights.within)))
-        heightened.place (record { each = λ i within. apart i within in_places (gone i within) (same-entry s t js' i at_heights within) now }));
+          (rising-same Height s t js' at_heights (subst (λ (l : List ℕ). IsRising Height s l) (sym from_heights.keys) (rising-remove Height s js from_heights.index indexed.heights from_heights.within)))
+          heightened.place (record { each = λ i within. apart i within in_places (gone i within) (same-entry s t js' i at_heights within) now }));
       same = same-again ks js js' js'' from_heights.index heightened.index key indexed.same from_heights.within (from_heights.is ∙ one) from_heights.keys heightened.keys;
       sized = λ i within. elim (cases_eq (get_or ks i 0) key) [
         | inl is ↦ subst (λ (k : ℕ). 0 < (entry_of t k).size) (sym is) (subst (λ (x : Entry). 0 < x.size) (sym now) (subst (λ (k : ℕ). 0 < (entry_of s k).size) is (indexed.sized i within)))
@@ -143,8 +144,8 @@ indexed-height s t ks js js' js'' rank key taken height indexed found from_heigh
         let there = stands-same ks js stood.from indexed.same stood.within in
         let in_ks : StandsIn ks (get_or js' i 0) = record { index = there.index; within = there.within; is = there.is ∙ sym was } in
         places-apart s ks (get_or js' i 0) key indexed.places in_ks in_places other
-          (sym (ap (λ (x : Entry). x.file) same) ∙ f ∙ ap (λ (x : Entry). x.file) now)
-          (sym (ap (λ (x : Entry). x.at) same) ∙ a ∙ ap (λ (x : Entry). x.at) now)
+        (sym (ap (λ (x : Entry). x.file) same) ∙ f ∙ ap (λ (x : Entry). x.file) now)
+        (sym (ap (λ (x : Entry). x.at) same) ∙ a ∙ ap (λ (x : Entry). x.at) now)
 
 -- a table, part by part
 pub table-is : (es es' : List Entry) (n m : ℕ) → es ≡ es' → n ≡ m → ◌≡◌ {A = Table} (record { entries = es; room = n }) (record { entries = es'; room = m })

@@ -1,5 +1,5 @@
 -- The definitions, computed: three entries, and L past 2^62.
-use Rattle.std.proofs.Common.{◌≡◌, ◌-◌, ◌+◌, ◌*◌, ◌^◌, [], ◌∷◌, List, ℕ, refl}
+use Rattle.std.proofs.Common.{◌≡◌, ◌-◌, ◌^◌, [], ◌∷◌, refl}
 use Rattle.iol_evict.specs.Ranking.{Ranking, entry_or, entered, hit_at, left_at, evicted_at}
 
 abbrev three : Ranking

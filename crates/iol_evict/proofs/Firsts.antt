@@ -1,14 +1,14 @@
 -- The entry that goes first.
-use Rattle.std.proofs.Common.{inl, inr, ◌≡◌, ◌≢◌, ℕ, ◌+◌, ◌<◌, ◌≤◌, ◌⊎◌, Bool, true, false, List, [], ◌∷◌, length, get_or, map, arith, refl, sym, ap, subst, ◌∙◌, Option, Some, None, MatchOption, All, Contains}
+use Rattle.std.proofs.Common.{inl, inr, ◌≡◌, ℕ, ◌<◌, ◌≤◌, Bool, true, false, List, [], ◌∷◌, length, get_or, arith, refl, sym, ap, subst, ◌∙◌, Option, Some, None, MatchOption, All, Contains}
 use Rattle.std.proofs.lemmas.Bool.{cases_eq, cases_lt}
 use Rattle.std.proofs.lemmas.List.{length-map}
 use Rattle.std.proofs.lemmas.List.Elements.{All-get_or, All-from_get_or, Contains-get_or}
 use Rattle.slab.specs.Slab.{Slab}
 use Rattle.iol_evict.specs.declared.entry.Entry.{Entry}
-use Rattle.iol_evict.specs.declared.entry.By.TheVariants.{Place, Height}
+use Rattle.iol_evict.specs.declared.entry.By.TheVariants.{Height}
 use Rattle.iol_evict.specs.Ranking.{no_entry}
 use Rattle.iol_evict.specs.Ranks.{rank_by, RankLt}
-use Rattle.iol_evict.specs.Indexes.{entry_of, rank_at, IsRising, HaveSameKeys, IsIndexed}
+use Rattle.iol_evict.specs.Indexes.{entry_of, IsRising, IsIndexed}
 use Rattle.iol_evict.specs.Victims.{KeyLe, Precedes, IsVictim, CanAskOf, is_used, GoesFirst}
 use Rattle.iol_evict.proofs.Times.{stands-same, same-sym, each-same}
 use Rattle.iol_evict.proofs.Indexing.{entries_of, read}
@@ -48,7 +48,7 @@ victim-first used s ks js place indexed first =
       victim = entry_of s (get_or js first.index 0);
       there = subst (λ (e : Entry). Contains (entries_of s ks) e) (read s ks stood.index stood.within ∙ ap (entry_of s) stood.is) (Contains-get_or (entries_of s ks) stood.index no_entry short);
       first = All-from_get_or (Precedes used (entry_of s (get_or js first.index 0))) (entries_of s ks) no_entry
-        (λ i upto. let within : i < length ks = subst (λ (n : ℕ). i < n) (length-map ks (entry_of s)) upto in
+          (λ i upto. let within : i < length ks = subst (λ (n : ℕ). i < n) (length-map ks (entry_of s)) upto in
           subst (λ (e : Entry). Precedes used (entry_of s (get_or js first.index 0)) e) (sym (read s ks i within))
           (each-same (λ k. Precedes used (entry_of s (get_or js first.index 0)) (entry_of s k)) js ks (same-sym ks js indexed.same) (precedes-each used s js place first indexed.heights) i within));
       lies = first.lies;
@@ -65,7 +65,7 @@ entries-none s (k ∷ ks) js indexed none =
 pub ask-heights : (ask : ℕ → ℕ → Type 0) (s : Slab Entry) (ks js : List ℕ) → IsIndexed s ks js → All (λ e. ask e.file e.at) (entries_of s ks) → CanAskOf ask s js
 ask-heights ask s ks js indexed all = record {
   each = each-same (λ k. ask (entry_of s k).file (entry_of s k).at) ks js indexed.same
-    (λ i within. subst (λ (e : Entry). ask e.file e.at) (read s ks i within)
+      (λ i within. subst (λ (e : Entry). ask e.file e.at) (read s ks i within)
       (All-get_or (λ e. ask e.file e.at) (entries_of s ks) i no_entry (subst (λ (n : ℕ). i < n) (sym (length-map ks (entry_of s))) within) all));
 }
 

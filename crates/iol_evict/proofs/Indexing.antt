@@ -1,22 +1,22 @@
 -- Entries and their two indexes.
-use Rattle.std.proofs.Common.{inl, inr, ◌≡◌, ◌≢◌, ℕ, ◌+◌, ◌<◌, ◌≤◌, ◌⊎◌, Bool, true, false, if◌then◌else◌, List, [], ◌∷◌, length, get_or, map, take, drop, ◌++◌, arith, refl, sym, ap, subst, ◌∙◌, Option, Some, None, unwrap_or, suc}
+use Rattle.std.proofs.Common.{inl, inr, ◌≡◌, ◌≢◌, ℕ, ◌<◌, ◌≤◌, true, false, List, ◌∷◌, length, get_or, map, take, drop, arith, refl, sym, ap, subst, ◌∙◌, Option, Some, None, unwrap_or, suc}
 use Rattle.std.specs.List.{insert, remove}
 use Rattle.std.proofs.lemmas.Bool.{cases_eq, cases_lt}
 use Rattle.std.proofs.lemmas.Bool.Decides.{nat_tests}
 use Rattle.std.proofs.lemmas.List.{get_or-map, length-map, map-append, take-map, drop-map, ext_get_or}
-use Rattle.slab.specs.Slab.{Slab, get, ContainsKey, Updates}
+use Rattle.slab.specs.Slab.{Slab, Updates}
 use Rattle.iol_evict.specs.declared.entry.Entry.{Entry}
 use Rattle.iol_evict.specs.declared.entry.Rank.{Rank}
 use Rattle.iol_evict.specs.declared.entry.By.{By}
-use Rattle.iol_evict.specs.declared.entry.By.TheVariants.{Place, Height}
+use Rattle.iol_evict.specs.declared.entry.By.TheVariants.{Place}
 use Rattle.iol_evict.specs.Ranking.{no_entry, is_at, lies_before, entry_at, entry_or, put_in, without, set_at, with_height}
 use Rattle.iol_evict.specs.Ranks.{rank_by, RankLt, RankLe}
-use Rattle.iol_evict.specs.Indexes.{entry_of, rank_at, AreLive, IsRising, IsPlace, IsApart, HasRank, HaveSameKeys, Finds, Adds, Takes}
+use Rattle.iol_evict.specs.Indexes.{entry_of, rank_at, IsRising, HasRank, Finds, Adds, Takes}
 use Rattle.iol_evict.proofs.Comparing.{lt_not_le, le_refl}
 use Rattle.iol_evict.proofs.Edits.{remove-cases}
-use Rattle.iol_evict.proofs.Times.{StandsIn, stands-same, same-sym}
+use Rattle.iol_evict.proofs.Times.{StandsIn}
 use Rattle.iol_evict.proofs.Rising.{SameAt, same-entry}
-use Rattle.iol_evict.proofs.Listed.{is_at-file, is_at-at, is_at-true, is_at-false, insert-put_in, remove-without, entry_at-is, LiesAt, entry_at-some, entry_at-none}
+use Rattle.iol_evict.proofs.Listed.{is_at-file, is_at-at, is_at-true, is_at-false, insert-put_in, remove-without, entry_at-is, entry_at-some}
 
 abbrev pub entries_of : Slab Entry → List ℕ → List Entry
 entries_of s keys = map (entry_of s) keys
@@ -78,7 +78,7 @@ found-entry s keys file at key rising found =
 
 pub entries-same : (s t : Slab Entry) (keys : List ℕ) → SameAt s t keys → entries_of t keys ≡ entries_of s keys
 entries-same s t keys same = ext_get_or no_entry (entries_of t keys) (entries_of s keys) (length-map keys (entry_of t) ∙ sym (length-map keys (entry_of s)))
-  (λ i upto. let within : i < length keys = subst (λ (n : ℕ). i < n) (length-map keys (entry_of t)) upto in read t keys i within ∙ same-entry s t keys i same within ∙ sym (read s keys i within))
+    (λ i upto. let within : i < length keys = subst (λ (n : ℕ). i < n) (length-map keys (entry_of t)) upto in read t keys i within ∙ same-entry s t keys i same within ∙ sym (read s keys i within))
 
 map-insert : (f : ℕ → Entry) (keys : List ℕ) (n key : ℕ) → map f (insert keys n key) ≡ insert (map f keys) n (f key)
 map-insert f keys n key = map-append f (take n keys) (key ∷ drop n keys) ∙ (let t = take-map f n keys in let d = drop-map f n keys in cc)
@@ -92,19 +92,19 @@ entries-put_in s t old new key e same is adds =
     let put = ap (entries_of t) adds.keys ∙ map-insert (entry_of t) old adds.index key ∙ ap (λ (x : Entry). insert (entries_of t old) adds.index x) is ∙ ap (λ (es : List Entry). insert es adds.index e) (entries-same s t old same) in
     let short : adds.index ≤ length (entries_of s old) = subst (λ (n : ℕ). adds.index ≤ n) (sym (length-map old (entry_of s))) adds.place.within in
     put ∙ insert-put_in (entries_of s old) adds.index e short
-      (λ i lt. let within : i < length old = omega (arith, lt, adds.place.within) in
-        subst (λ (x : Entry). lies_before x e.file e.at ≡ true) (sym (read s old i within ∙ refl))
-        (lt-before (entry_of s (get_or old i 0)) e.file e.at (subst (λ (x : Entry). RankLt (rank_by Place x) (rank_of_place e.file e.at)) (same-entry s t old i same within) (subst (λ (x : Entry). RankLt (rank_at Place t old i) (rank_by Place x)) is (adds.place.before i lt)))))
-      (λ lt. let within : adds.index < length old = subst (λ (n : ℕ). adds.index < n) (length-map old (entry_of s)) lt in
-        subst (λ (x : Entry). lies_before x e.file e.at ≡ false) (sym (read s old adds.index within))
-        (le-before (entry_of s (get_or old adds.index 0)) e.file e.at (subst (λ (x : Entry). RankLe (rank_of_place e.file e.at) (rank_by Place x)) (same-entry s t old adds.index same within) (subst (λ (x : Entry). RankLe (rank_by Place x) (rank_at Place t old adds.index)) is (adds.place.after adds.index (omega arith) within)))))
+    (λ i lt. let within : i < length old = omega (arith, lt, adds.place.within) in
+    subst (λ (x : Entry). lies_before x e.file e.at ≡ true) (sym (read s old i within ∙ refl))
+    (lt-before (entry_of s (get_or old i 0)) e.file e.at (subst (λ (x : Entry). RankLt (rank_by Place x) (rank_of_place e.file e.at)) (same-entry s t old i same within) (subst (λ (x : Entry). RankLt (rank_at Place t old i) (rank_by Place x)) is (adds.place.before i lt)))))
+    (λ lt. let within : adds.index < length old = subst (λ (n : ℕ). adds.index < n) (length-map old (entry_of s)) lt in
+    subst (λ (x : Entry). lies_before x e.file e.at ≡ false) (sym (read s old adds.index within))
+    (le-before (entry_of s (get_or old adds.index 0)) e.file e.at (subst (λ (x : Entry). RankLe (rank_of_place e.file e.at) (rank_by Place x)) (same-entry s t old adds.index same within) (subst (λ (x : Entry). RankLe (rank_by Place x) (rank_at Place t old adds.index)) is (adds.place.after adds.index (omega arith) within)))))
 
 -- an entry goes
 pub entries-without : (s t : Slab Entry) (old new : List ℕ) (file at key : ℕ) → IsRising Place s old → Takes Place s (rank_of_place file at) key old new → SameAt s t new → entries_of t new ≡ without (entries_of s old) file at
 entries-without s t old new file at key rising takes same =
     let short = subst (λ (n : ℕ). takes.index < n) (sym (length-map old (entry_of s))) takes.within in
     entries-same s t new same ∙ ap (entries_of s) takes.keys ∙ map-remove (entry_of s) old takes.index
-      ∙ remove-without (entries_of s old) takes.index file at short (away-before s old file at takes.index rising takes.within takes.has) (here-at s old file at takes.index takes.within takes.has)
+    ∙ remove-without (entries_of s old) takes.index file at short (away-before s old file at takes.index rising takes.within takes.has) (here-at s old file at takes.index takes.within takes.has)
 
 -- each rank stands once
 pub one_index : (by : By) (s : Slab Entry) (keys : List ℕ) (i n : ℕ) → IsRising by s keys → i < length keys → n < length keys → rank_at by s keys i ≡ rank_at by s keys n → i ≡ n
@@ -118,6 +118,7 @@ one_index by s keys i n rising in_i in_n same = elim (cases_lt i n) [
   where
     never : RankLt (rank_at by s keys i) (rank_at by s keys n) → ⊥
     never lt = lt_not_le (rank_at by s keys i) (rank_at by s keys n) lt (subst (λ (r : Rank). RankLe (rank_at by s keys n) r) (sym same) (le_refl (rank_at by s keys n)))
+
     never_after : RankLt (rank_at by s keys n) (rank_at by s keys i) → ⊥
     never_after lt = lt_not_le (rank_at by s keys n) (rank_at by s keys i) lt (subst (λ (r : Rank). RankLe r (rank_at by s keys n)) (sym same) (le_refl (rank_at by s keys n)))
 
@@ -152,23 +153,25 @@ places-apart s keys a b rising in_a in_b other f t =
 -- an entry has another height
 pub entries-with_height : (s t : Slab Entry) (keys : List ℕ) (file at height key : ℕ) → IsRising Place s keys → Finds Place s keys (rank_of_place file at) key → Updates s t key (Some (record (entry_of s key) { height = height })) → entries_of t keys ≡ with_height (entries_of s keys) file at height
 entries-with_height s t keys file at height key rising found updates = ext_get_or no_entry (entries_of t keys) (with_height (entries_of s keys) file at height)
-  (length-map keys (entry_of t) ∙ sym (length-map keys (entry_of s)) ∙ sym (length-map (entries_of s keys) (set_at file at height)))
-  (λ i upto.
+    (length-map keys (entry_of t) ∙ sym (length-map keys (entry_of s)) ∙ sym (length-map (entries_of s keys) (set_at file at height)))
+    (λ i upto.
     let within : i < length keys = subst (λ (n : ℕ). i < n) (length-map keys (entry_of t)) upto in
     let short = subst (λ (n : ℕ). i < n) (sym (length-map keys (entry_of s))) within in
     read t keys i within ∙ each i within ∙ ap (set_at file at height) (sym (read s keys i within)) ∙ sym (get_or-map (set_at file at height) (entries_of s keys) i no_entry no_entry short))
   where
     here : (e : Entry) → is_at e file at ≡ true → record e { height = height } ≡ set_at file at height e
     here e is = rw is refl
+
     away : (e : Entry) → is_at e file at ≡ false → e ≡ set_at file at height e
     away e is = rw is refl
+
     each : (i : ℕ) → i < length keys → entry_of t (get_or keys i 0) ≡ set_at file at height (entry_of s (get_or keys i 0))
     each i within = elim (cases_eq (get_or keys i 0) key) [
       | inl same ↦ ap (entry_of t) same ∙ ap (λ (o : Option Entry). unwrap_or o no_entry) updates.changed
-        ∙ here (entry_of s key) (rank-here (entry_of s key) file at (sym (ap (λ (k : ℕ). rank_by Place (entry_of s k)) found.is) ∙ found.has))
-        ∙ ap (λ (k : ℕ). set_at file at height (entry_of s k)) (sym same)
+          ∙ here (entry_of s key) (rank-here (entry_of s key) file at (sym (ap (λ (k : ℕ). rank_by Place (entry_of s k)) found.is) ∙ found.has))
+          ∙ ap (λ (k : ℕ). set_at file at height (entry_of s k)) (sym same)
       | inr other ↦ ap (λ (o : Option Entry). unwrap_or o no_entry) (updates.others (get_or keys i 0) other)
-        ∙ away (entry_of s (get_or keys i 0)) (is_at-false (entry_of s (get_or keys i 0)) file at (λ f a. other (same_key s keys i found.index file at rising within found.within (rank-place (entry_of s (get_or keys i 0)) file at (is_at-true (entry_of s (get_or keys i 0)) file at f a)) found.has ∙ found.is)))
+          ∙ away (entry_of s (get_or keys i 0)) (is_at-false (entry_of s (get_or keys i 0)) file at (λ f a. other (same_key s keys i found.index file at rising within found.within (rank-place (entry_of s (get_or keys i 0)) file at (is_at-true (entry_of s (get_or keys i 0)) file at f a)) found.has ∙ found.is)))
     ]
       where
         same_key : (s : Slab Entry) (keys : List ℕ) (i n file at : ℕ) → IsRising Place s keys → i < length keys → n < length keys → rank_at Place s keys i ≡ rank_of_place file at → rank_at Place s keys n ≡ rank_of_place file at → get_or keys i 0 ≡ get_or keys n 0

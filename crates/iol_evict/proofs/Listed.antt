@@ -1,9 +1,7 @@
 -- The list of entries, in the order of file and place.
-use Rattle.std.proofs.Common.{inl, inr, ◌≡◌, ◌≢◌, ℕ, ◌+◌, ◌<◌, ◌≤◌, ◌⊎◌, Bool, true, false, if◌then◌else◌, List, [], ◌∷◌, length, get_or, map, take, drop, ◌++◌, arith, refl, sym, ap, subst, ◌∙◌, Option, Some, None, zero, suc}
-use Rattle.std.specs.List.{insert, remove, find}
-use Rattle.std.proofs.Math.ListN.{set}
+use Rattle.std.proofs.Common.{◌≡◌, ◌≢◌, ℕ, ◌<◌, ◌≤◌, Bool, true, false, List, [], ◌∷◌, length, get_or, arith, refl, sym, ap, ◌∙◌, Some, None, zero, suc}
+use Rattle.std.specs.List.{insert, remove}
 use Rattle.std.proofs.lemmas.Bool.Decides.{nat_tests}
-use Rattle.std.proofs.lemmas.Grind.{common_steps}
 use Rattle.iol_evict.specs.declared.entry.Entry.{Entry}
 use Rattle.iol_evict.specs.Ranking.{no_entry, is_at, lies_before, entry_at, put_in, without}
 
@@ -73,6 +71,7 @@ entry_at-none (x ∷ es) i file at none within = by (is_at x file at) refl (λ j
   where
     some : (e : Entry) → Some e ≡ None → ⊥
     some e is = cc
+
     by : (b : Bool) → is_at x file at ≡ b → ((j : ℕ) → entry_at es file at ≡ None → j < length es → is_at (get_or es j no_entry) file at ≡ false) → (i : ℕ) → i < length (x ∷ es) → is_at (get_or (x ∷ es) i no_entry) file at ≡ false
     by true here more i within = absurd (some x (let e : entry_at (x ∷ es) file at ≡ Some x = rw here refl in sym e ∙ none))
     by false away more zero within = away

@@ -1,14 +1,13 @@
 -- All entries lowered, and sorted by height anew.
-use Rattle.std.proofs.Common.{inl, inr, ◌≡◌, ◌≢◌, ℕ, ◌+◌, ◌-◌, ◌<◌, ◌≤◌, ◌⊎◌, List, [], ◌∷◌, length, get_or, map, take, arith, refl, sym, ap, subst, ◌∙◌, Option, Some, None, IsSome}
-use Rattle.std.specs.List.{insert}
+use Rattle.std.proofs.Common.{◌≡◌, ℕ, ◌+◌, ◌<◌, List, [], length, get_or, map, take, arith, refl, sym, ap, subst, ◌∙◌}
 use Rattle.std.proofs.lemmas.List.{get_or-take, length-take, length-map, get_or-map, ext_get_or}
 use Rattle.std.proofs.lemmas.List.Sums.{sum_by-insert, sum_by_more}
-use Rattle.slab.specs.Slab.{Slab, get, ContainsKey}
+use Rattle.slab.specs.Slab.{Slab, ContainsKey}
 use Rattle.iol_evict.specs.declared.entry.Entry.{Entry}
 use Rattle.iol_evict.specs.declared.entry.By.TheVariants.{Place, Height}
 use Rattle.iol_evict.specs.Ranking.{no_entry, lowered_by}
 use Rattle.iol_evict.specs.Ranks.{rank_by}
-use Rattle.iol_evict.specs.Indexes.{entry_of, rank_at, one_if, times, AreLive, IsRising, IsApart, HaveSameKeys, Adds, Lowers, IsIndexed}
+use Rattle.iol_evict.specs.Indexes.{entry_of, one_if, times, AreLive, IsRising, IsApart, HaveSameKeys, Adds, Lowers, IsIndexed}
 use Rattle.iol_evict.proofs.Times.{StandsIn, stands-same, each-same}
 use Rattle.iol_evict.proofs.Rising.{rising-ranks, rising-insert}
 use Rattle.iol_evict.proofs.Indexing.{entries_of, read, one_index, places-apart}
@@ -20,7 +19,7 @@ first_keys keys n i within = let e = length-take n keys in (omega (arith, within
 pub live-first : (s : Slab Entry) (keys by_height : List ℕ) (n : ℕ) → AreLive s keys → HaveSameKeys (take n keys) by_height → AreLive s by_height
 live-first s keys by_height n live same = record {
   each = each-same (λ k. ContainsKey s k) (take n keys) by_height same
-    (λ i within. let both = first_keys keys n i within in subst (λ (k : ℕ). ContainsKey s k) (sym (get_or-take n keys i 0 both.0)) (live.each i both.1));
+      (λ i within. let both = first_keys keys n i within in subst (λ (k : ℕ). ContainsKey s k) (sym (get_or-take n keys i 0 both.0)) (live.each i both.1));
 }
 
 pub apart-first : (s : Slab Entry) (keys by_height : List ℕ) (n : ℕ) → IsRising Place s keys → n < length keys → HaveSameKeys (take n keys) by_height → IsApart s by_height (get_or keys n 0)
@@ -45,7 +44,7 @@ pub same-next : (s : Slab Entry) (keys old new : List ℕ) (n : ℕ) → n < len
 same-next s keys old new n in_it same adds = record {
   each = λ k.
       sum_by_more (one_if k) keys n 0 in_it ∙ ap (λ (t : ℕ). t + one_if k (get_or keys n 0)) (same.each k)
-        ∙ sym (sum_by-insert (one_if k) old adds.index (get_or keys n 0)) ∙ ap (times k) (sym adds.keys);
+      ∙ sym (sum_by-insert (one_if k) old adds.index (get_or keys n 0)) ∙ ap (times k) (sym adds.keys);
 }
 
 pub same-none : (keys by_height : List ℕ) → by_height ≡ [] → HaveSameKeys (take 0 keys) by_height
@@ -69,8 +68,8 @@ indexed-lowered s t keys old by_height low indexed lowers heights same = record 
 
 pub entries-lowered : (s t : Slab Entry) (keys : List ℕ) (low : ℕ) → Lowers low keys (length keys) s t → entries_of t keys ≡ map (lowered_by low) (entries_of s keys)
 entries-lowered s t keys low lowers = ext_get_or no_entry (entries_of t keys) (map (lowered_by low) (entries_of s keys))
-  (length-map keys (entry_of t) ∙ sym (length-map keys (entry_of s)) ∙ sym (length-map (entries_of s keys) (lowered_by low)))
-  (λ i upto.
+    (length-map keys (entry_of t) ∙ sym (length-map keys (entry_of s)) ∙ sym (length-map (entries_of s keys) (lowered_by low)))
+    (λ i upto.
     let within : i < length keys = subst (λ (n : ℕ). i < n) (length-map keys (entry_of t)) upto in
     let short = subst (λ (n : ℕ). i < n) (sym (length-map keys (entry_of s))) within in
     read t keys i within ∙ lowers.done i within within ∙ ap (lowered_by low) (sym (read s keys i within)) ∙ sym (get_or-map (lowered_by low) (entries_of s keys) i no_entry no_entry short))

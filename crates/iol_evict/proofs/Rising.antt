@@ -1,8 +1,7 @@
 -- Lists that keep their order, and what is live.
-use Rattle.std.proofs.Common.{inl, inr, ◌≡◌, ◌≢◌, ℕ, ◌+◌, ◌<◌, ◌≤◌, ◌⊎◌, List, length, get_or, arith, refl, sym, ap, subst, ◌∙◌, Option, Some, None, IsSome, unwrap_or}
+use Rattle.std.proofs.Common.{inl, inr, ◌≡◌, ◌≢◌, ℕ, ◌+◌, ◌<◌, ◌≤◌, ◌⊎◌, List, length, get_or, arith, sym, ap, subst, ◌∙◌, Option, None, IsSome, unwrap_or}
 use Rattle.std.specs.List.{insert, remove}
-use Rattle.std.proofs.lemmas.Bool.{cases_eq}
-use Rattle.slab.specs.Slab.{Slab, get, ContainsKey, Updates}
+use Rattle.slab.specs.Slab.{Slab, get, Updates}
 use Rattle.iol_evict.specs.declared.entry.Entry.{Entry}
 use Rattle.iol_evict.specs.declared.entry.Rank.{Rank}
 use Rattle.iol_evict.specs.declared.entry.By.{By}
@@ -11,7 +10,7 @@ use Rattle.iol_evict.specs.Ranks.{rank_by, RankLt, RankLe}
 use Rattle.iol_evict.specs.Ranking.{no_entry}
 use Rattle.iol_evict.specs.Indexes.{entry_of, rank_at, AreLive, IsRising, IsPlace, IsApart}
 use Rattle.iol_evict.proofs.Comparing.{le_other}
-use Rattle.iol_evict.proofs.Edits.{WasAt, StoodAt, insert-cases, remove-cases}
+use Rattle.iol_evict.proofs.Edits.{WasAt, insert-cases, remove-cases}
 
 -- the same entries at these keys
 pub record SameAt (s t : Slab Entry) (keys : List ℕ) : Type 0 where
@@ -59,12 +58,14 @@ rising-insert by s keys key n rising place apart = record {
     -- from the equations on the keys
     swap : (x y x' y' : ℕ) → x ≡ x' → y ≡ y' → RankLt (rank_of_key by s x') (rank_of_key by s y') → RankLt (rank_of_key by s x) (rank_of_key by s y)
     swap x y x' y' ex ey lt = subst (λ (k : ℕ). RankLt (rank_of_key by s k) (rank_of_key by s y)) (sym ex) (subst (λ (k : ℕ). RankLt (rank_of_key by s x') (rank_of_key by s k)) (sym ey) lt)
+
     above : (m : ℕ) → n ≤ m → m < length keys → RankLt (rank_by by (entry_of s key)) (rank_at by s keys m)
     above m from within = other by (place.after m from within) (apart.each m within)
       where
         other : (b : By) → RankLe (rank_by b (entry_of s key)) (rank_at b s keys m) → ((entry_of s (get_or keys m 0)).file ≡ (entry_of s key).file → (entry_of s (get_or keys m 0)).at ≡ (entry_of s key).at → ⊥) → RankLt (rank_by b (entry_of s key)) (rank_at b s keys m)
         other Place le ne = le_other (rank_by Place (entry_of s key)) (rank_at Place s keys m) le (λ f a. ne (sym f) (sym a))
         other Height le ne = le_other (rank_by Height (entry_of s key)) (rank_at Height s keys m) le (λ f a. ne (sym f) (sym a))
+
     both : (i j : ℕ) → i < j → (((i ≡ n) × (get_or (insert keys n key) i 0 ≡ key)) ⊎ WasAt keys n i (get_or (insert keys n key) i 0)) → (((j ≡ n) × (get_or (insert keys n key) j 0 ≡ key)) ⊎ WasAt keys n j (get_or (insert keys n key) j 0)) → RankLt (rank_at by s (insert keys n key) i) (rank_at by s (insert keys n key) j)
     both i j lt (inl a) (inl b) = absurd (omega (arith, lt, a.0, b.0))
     both i j lt (inl a) (inr b) = swap _ _ key (get_or keys b.from 0) a.1 b.is (above b.from (elim b.side [ inl c ↦ omega (arith, lt, a.0, c.0, c.1) | inr c ↦ omega (arith, lt, a.0, c.0, c.1) ]) b.within)

@@ -1,6 +1,6 @@
 -- Sorted lists of a slab's keys.
-use Rattle.std.specs.Prelude.{◌≡◌, ℕ, ◌+◌, ◌<◌, ◌≤◌, ◌==◌, if◌then◌else◌, List, length, map, sum_by, slice_index, unwrap_or, insert, remove}
-use Rattle.slab.specs.Slab.{Slab, get, ContainsKey, slab_len}
+use Rattle.std.specs.Prelude.{◌≡◌, ℕ, ◌<◌, ◌≤◌, ◌==◌, if◌then◌else◌, List, length, sum_by, slice_index, unwrap_or, insert, remove}
+use Rattle.slab.specs.Slab.{Slab, get, ContainsKey}
 use Rattle.iol_evict.specs.declared.entry.Entry.{Entry}
 use Rattle.iol_evict.specs.declared.entry.Rank.{Rank}
 use Rattle.iol_evict.specs.declared.entry.By.{By}
@@ -36,7 +36,7 @@ pub record HasRank (by : By) (s : Slab Entry) (keys : List ℕ) (rank : Rank) : 
 -- no entry at these keys has the place of that one
 pub record IsApart (s : Slab Entry) (keys : List ℕ) (key : ℕ) : Type 0 where
   pub each : (i : ℕ) → i < length keys → (entry_of s (slice_index keys i)).file ≡ (entry_of s key).file →
-    (entry_of s (slice_index keys i)).at ≡ (entry_of s key).at → ⊥
+      (entry_of s (slice_index keys i)).at ≡ (entry_of s key).at → ⊥
 
 abbrev pub one_if : (key k : ℕ) → ℕ
 one_if key k = if k == key then 1 else 0
@@ -79,7 +79,7 @@ pub record IsIndexed (s : Slab Entry) (by_place by_height : List ℕ) : Type 0 w
 -- The entries at the first n of these keys are lower by `low`, and all others as they were.
 pub record Lowers (low : ℕ) (keys : List ℕ) (n : ℕ) (old new : Slab Entry) : Type 0 where
   pub done : (i : ℕ) → i < n → i < length keys →
-    entry_of new (slice_index keys i) ≡ lowered_by low (entry_of old (slice_index keys i))
+      entry_of new (slice_index keys i) ≡ lowered_by low (entry_of old (slice_index keys i))
   pub rest : (i : ℕ) → n ≤ i → i < length keys →
-    entry_of new (slice_index keys i) ≡ entry_of old (slice_index keys i)
+      entry_of new (slice_index keys i) ≡ entry_of old (slice_index keys i)
   pub live : AreLive new keys

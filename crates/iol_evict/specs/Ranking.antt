@@ -1,6 +1,6 @@
 -- The entries of an order and what becomes of them, by GreedyDual-Size (Cao and Irani, "Cost-Aware
 -- WWW Proxy Caching Algorithms", 1997).
-use Rattle.std.specs.Prelude.{ℕ, ◌+◌, ◌-◌, ◌*◌, ◌/◌, ◌^◌, ◌==◌, ◌&&◌, ◌||◌, nat_lt, if◌then◌else◌, Bool, List, [], ◌∷◌, map, find, Option, Some, None, option_map, unwrap_or}
+use Rattle.std.specs.Prelude.{ℕ, ◌+◌, ◌-◌, ◌*◌, ◌/◌, ◌^◌, ◌==◌, ◌&&◌, ◌||◌, nat_lt, if◌then◌else◌, Bool, List, [], ◌∷◌, map, find, Option, unwrap_or}
 use Rattle.iol_evict.specs.declared.entry.Entry.{Entry}
 use Rattle.iol_evict.specs.declared.entry.TheConstants.{MAX_LOW}
 
@@ -75,8 +75,8 @@ lowered_by low e = record e { height = e.height - low }
 abbrev pub lowered : Ranking → Ranking
 lowered r =
     if nat_lt MAX_LOW r.low
-      then record { low = 0; entries = map (lowered_by r.low) r.entries; room = r.room }
-      else r
+    then record { low = 0; entries = map (lowered_by r.low) r.entries; room = r.room }
+    else r
 
 -- an entry is evicted: L becomes the height that it had
 abbrev pub evicted_at : Ranking → (file at : ℕ) → Ranking

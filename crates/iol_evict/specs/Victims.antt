@@ -14,7 +14,7 @@ pub record KeyLe (a b : Entry) : Type 0 where
 abbrev pub Precedes : (in_use : ℕ → ℕ → Bool) → (a b : Entry) → Type 0
 Precedes in_use a b =
     ((in_use a.file a.at ≡ false) × (in_use b.file b.at ≡ true))
-      ⊎ ((in_use a.file a.at ≡ in_use b.file b.at) × KeyLe a b)
+    ⊎ ((in_use a.file a.at ≡ in_use b.file b.at) × KeyLe a b)
 
 -- the place of the entry that goes first
 pub record IsVictim (in_use : ℕ → ℕ → Bool) (es : List Entry) (place : ℕ × ℕ) : Type 0 where

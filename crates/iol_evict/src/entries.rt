@@ -36,11 +36,12 @@ impl Model for Entries {
     ghost view = { λ e. record { entries = map (entry_of e.slab) e.by_place.items; room = e.room } };
 
     ghost invariant = { λ e. record {
-        indexed : IsIndexed e.slab e.by_place.items e.by_height.items;
-        slab_room : HasRoomFor e.slab e.room;
-        lens : vec_len e.by_place ≡ vec_len e.by_height;
-        place_room : vec_len e.by_place + e.room ≤ vec_capacity e.by_place;
-        height_room : vec_len e.by_height + e.room ≤ vec_capacity e.by_height } };
+      indexed : IsIndexed e.slab e.by_place.items e.by_height.items;
+      slab_room : HasRoomFor e.slab e.room;
+      lens : vec_len e.by_place ≡ vec_len e.by_height;
+      place_room : vec_len e.by_place + e.room ≤ vec_capacity e.by_place;
+      height_room : vec_len e.by_height + e.room ≤ vec_capacity e.by_height;
+    } };
 }
 
 // The rank of a place.
@@ -55,7 +56,12 @@ fn place_of(file: FileId, at: u32) -> Rank
 }
 
 // Makes room for so many more, in each.
-fn reserve_each(slab: &mut Slab<Entry>, by_place: &mut Vec<usize>, by_height: &mut Vec<usize>, count: usize) -> Result<(), AllocError>
+fn reserve_each(
+    slab: &mut Slab<Entry>,
+    by_place: &mut Vec<usize>,
+    by_height: &mut Vec<usize>,
+    count: usize,
+) -> Result<(), AllocError>
     ensures slab_room { OnOk result (HasRoomFor slab.new count) }
     ensures place_room { OnOk result (vec_len by_place.new + count ≤ vec_capacity by_place.new) }
     ensures height_room { OnOk result (vec_len by_height.new + count ≤ vec_capacity by_height.new) }
@@ -98,7 +104,12 @@ impl Entries {
         if count <= self.room {
             return Ok(());
         }
-        reserve_each(&mut self.slab, &mut self.by_place, &mut self.by_height, count)?;
+        reserve_each(
+            &mut self.slab,
+            &mut self.by_place,
+            &mut self.by_height,
+            count,
+        )?;
         self.room = count;
         Ok(())
     }
@@ -109,7 +120,12 @@ impl Entries {
         ensures entry { result ≡ entry_or self.now.entries file at }
         ensures sized { 0 < result.size }
     {
-        let key = find_key(&self.slab, self.by_place.as_slice(), By::Place, &place_of(file, at));
+        let key = find_key(
+            &self.slab,
+            self.by_place.as_slice(),
+            By::Place,
+            &place_of(file, at),
+        );
         read_entry(&self.slab, key)
     }
 
@@ -132,9 +148,19 @@ impl Entries {
         ensures entry { result ≡ entry_or self.old.entries file at }
         ensures rest { self.new ≡ record { entries = without self.old.entries file at; room = self.old.room + 1 } }
     {
-        let key = remove_key(&self.slab, &mut self.by_place, By::Place, &place_of(file, at));
+        let key = remove_key(
+            &self.slab,
+            &mut self.by_place,
+            By::Place,
+            &place_of(file, at),
+        );
         let entry = read_entry(&self.slab, key);
-        remove_key(&self.slab, &mut self.by_height, By::Height, &rank_of(By::Height, &entry));
+        remove_key(
+            &self.slab,
+            &mut self.by_height,
+            By::Height,
+            &rank_of(By::Height, &entry),
+        );
         self.slab.remove(key);
         self.room += 1;
         entry
@@ -145,9 +171,19 @@ impl Entries {
         requires { entry_at self.old.entries file at ≢ None }
         ensures { self.new ≡ record self.old { entries = with_height self.old.entries file at height } }
     {
-        let key = find_key(&self.slab, self.by_place.as_slice(), By::Place, &place_of(file, at));
+        let key = find_key(
+            &self.slab,
+            self.by_place.as_slice(),
+            By::Place,
+            &place_of(file, at),
+        );
         let entry = read_entry(&self.slab, key);
-        remove_key(&self.slab, &mut self.by_height, By::Height, &rank_of(By::Height, &entry));
+        remove_key(
+            &self.slab,
+            &mut self.by_height,
+            By::Height,
+            &rank_of(By::Height, &entry),
+        );
         write_height(&mut self.slab, key, height);
         insert_key(&self.slab, &mut self.by_height, By::Height, key);
     }

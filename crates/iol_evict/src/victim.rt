@@ -11,7 +11,11 @@ use iol_core::numbers::FileId;
 use slab::Slab;
 
 /// The place of the first entry that is not in use, or else of the first.
-pub(crate) fn first_idle<U: InUse>(slab: &Slab<Entry>, keys: &[usize], users: &U) -> Option<(FileId, u32)>
+pub(crate) fn first_idle<U: InUse>(
+    slab: &Slab<Entry>,
+    keys: &[usize],
+    users: &U,
+) -> Option<(FileId, u32)>
     requires live { AreLive slab.now keys.now }
     requires ask { CanAskOf (U.can_ask users.now) slab.now keys.now }
     ensures { MatchOption result (length keys.now ≡ 0) (GoesFirst (U.in_use users.now) slab.now keys.now) }

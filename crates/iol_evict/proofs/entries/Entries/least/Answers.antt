@@ -1,4 +1,4 @@
-use Rattle.std.proofs.Common.{◌≡◌, ℕ, List, [], ◌∙◌, ap, sym, subst, length, All, MatchOption}
+use Rattle.std.proofs.Common.{◌≡◌, ℕ, List, [], sym, subst, length, All, MatchOption}
 use Rattle.iol_evict.specs.Ranking.{Table}
 use Rattle.iol_evict.specs.Indexes.{AreLive}
 use Rattle.iol_evict.specs.Victims.{CanAskOf, GoesFirst, IsVictim}

@@ -1,5 +1,5 @@
 use Rattle.std.proofs.Common.{ℕ, List, ◌∙◌, ap, sym, subst, arith, length, map}
-use Rattle.iol_evict.specs.declared.entry.By.TheVariants.{Place, Height}
+use Rattle.iol_evict.specs.declared.entry.By.TheVariants.{Place}
 use Rattle.iol_evict.specs.Ranking.{Table, lowered_by}
 use Rattle.iol_evict.specs.Indexes.{IsRising, HaveSameKeys, Lowers}
 use Rattle.iol_evict.proofs.Lowered.{rising-lowered, indexed-lowered, entries-lowered}

@@ -1,5 +1,4 @@
-use Rattle.std.proofs.Common.{◌≡◌, ◌≢◌, ◌+◌, ◌∙◌, ap, sym, subst, arith, List, ℕ, None}
-use Rattle.iol_evict.specs.declared.entry.Entry.{Entry}
+use Rattle.std.proofs.Common.{◌≢◌, ◌+◌, ◌∙◌, ap, sym, subst, arith, None}
 use Rattle.iol_evict.specs.declared.entry.Rank.{Rank}
 use Rattle.iol_evict.specs.declared.entry.By.TheVariants.{Place, Height}
 use Rattle.iol_evict.specs.Ranking.{Table, entry_at, entry_or, without}

@@ -1,10 +1,9 @@
-use Rattle.std.proofs.Common.{◌≡◌, ◌≢◌, ◌+◌, ◌∙◌, ap, sym, subst, arith, List, ℕ, None}
-use Rattle.iol_evict.specs.declared.entry.Entry.{Entry}
+use Rattle.std.proofs.Common.{◌≢◌, ◌∙◌, ap, sym, subst, arith, List, ℕ, None}
 use Rattle.iol_evict.specs.declared.entry.Rank.{Rank}
 use Rattle.iol_evict.specs.declared.entry.By.TheVariants.{Place, Height}
 use Rattle.iol_evict.specs.Ranking.{Table, entry_at, with_height}
 use Rattle.iol_evict.specs.Ranks.{rank_by}
-use Rattle.iol_evict.specs.Indexes.{HasRank, Finds, Takes, IsRising}
+use Rattle.iol_evict.specs.Indexes.{HasRank, Finds, Takes}
 use Rattle.iol_evict.proofs.Rising.{live-same, rising-same}
 use Rattle.iol_evict.proofs.Indexing.{has-place, entries-with_height}
 use Rattle.iol_evict.proofs.Changing.{live-heights, stands-found, same-left, live-left, rising-left, indexed-height, table-is}
