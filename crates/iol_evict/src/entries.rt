@@ -33,7 +33,8 @@ impl Model for Entries {
 
     ghost Value = { Table };
 
-    ghost view = { λ e. record { entries = map (entry_of e.slab) e.by_place.items; room = e.room } };
+    ghost view = { λ e.
+        record { entries = map (entry_of e.slab) e.by_place.items; room = e.room } };
 
     ghost invariant = { λ e. record {
       indexed : IsIndexed e.slab e.by_place.items e.by_height.items;
@@ -134,7 +135,8 @@ impl Entries {
         requires room { 0 < self.old.room }
         requires absent { entry_at self.old.entries entry.file entry.at ≡ None }
         requires sized { 0 < entry.size }
-        ensures { self.new ≡ record { entries = put_in self.old.entries entry; room = self.old.room - 1 } }
+        ensures { let new = put_in self.old.entries entry in
+            self.new ≡ record { entries = new; room = self.old.room - 1 } }
     {
         let key = self.slab.insert_reserved(entry);
         insert_key(&self.slab, &mut self.by_place, By::Place, key);
@@ -146,7 +148,8 @@ impl Entries {
     pub(crate) fn remove(&mut self, file: FileId, at: u32) -> Entry
         requires { entry_at self.old.entries file at ≢ None }
         ensures entry { result ≡ entry_or self.old.entries file at }
-        ensures rest { self.new ≡ record { entries = without self.old.entries file at; room = self.old.room + 1 } }
+        ensures rest { let new = without self.old.entries file at in
+            self.new ≡ record { entries = new; room = self.old.room + 1 } }
     {
         let key = remove_key(
             &self.slab,
@@ -169,7 +172,8 @@ impl Entries {
     /// Gives the entry at a place another height.
     pub(crate) fn set_height(&mut self, file: FileId, at: u32, height: u64)
         requires { entry_at self.old.entries file at ≢ None }
-        ensures { self.new ≡ record self.old { entries = with_height self.old.entries file at height } }
+        ensures { let new = with_height self.old.entries file at height in
+            self.new ≡ record self.old { entries = new } }
     {
         let key = find_key(
             &self.slab,

@@ -19,7 +19,8 @@ pub(crate) fn read_entry(entries: &Slab<Entry>, key: usize) -> Entry
 /// Gives the entry at a key another height.
 pub(crate) fn write_height(slab: &mut Slab<Entry>, key: usize, height: u64)
     requires { ContainsKey slab.old key }
-    ensures updates { Updates slab.old slab.new key (Some (record (entry_of slab.old key) { height = height })) }
+    ensures updates { let new = record (entry_of slab.old key) { height = height } in
+        Updates slab.old slab.new key (Some new) }
     ensures len { slab_len slab.new ≡ slab_len slab.old }
     ensures capacity { slab.new.capacity ≡ slab.old.capacity }
 {

@@ -28,7 +28,8 @@ impl Model for Order {
 
     ghost Value = { Ranking };
 
-    ghost view = { λ o. record { low = o.low; entries = o.entries.entries; room = o.entries.room } };
+    ghost view = { λ o.
+        record { low = o.low; entries = o.entries.entries; room = o.entries.room } };
 
     ghost invariant = { λ o. o.low ≤ MAX_LOW };
 }
