@@ -48,12 +48,28 @@ fn outside_of_files(rt: HostRuntime) {
     let mut store = make_store(&rt, rt.alloc());
     let mut two = [0; 2];
     let fault = Err(StoreFault);
-    assert_eq!(rt; store.read_at(FileId::new(1), 5, &mut two), fault, "past the end");
-    assert_eq!(rt; store.write_at(FileId::new(1), 7, b"x"), fault, "begins past the end");
+    assert_eq!(rt;
+        store.read_at(FileId::new(1), 5, &mut two),
+        fault,
+        "past the end"
+    );
+    assert_eq!(rt;
+        store.write_at(FileId::new(1), 7, b"x"),
+        fault,
+        "begins past the end"
+    );
     for number in [0, 1025] {
         let file = FileId::new(number);
-        assert_eq!(rt; store.read_at(file, 0, &mut []), fault, "no such file: {number}");
-        assert_eq!(rt; store.write_at(file, 0, b""), fault, "no such file: {number}");
+        assert_eq!(rt;
+            store.read_at(file, 0, &mut []),
+            fault,
+            "no such file: {number}"
+        );
+        assert_eq!(rt;
+            store.write_at(file, 0, b""),
+            fault,
+            "no such file: {number}"
+        );
         assert_eq!(rt; store.length(file), 0);
     }
     assert_eq!(rt; store.failures(), 6);
@@ -65,13 +81,22 @@ fn outside_of_files(rt: HostRuntime) {
 #[test]
 fn fault_at_each_call(rt: HostRuntime) {
     let file = FileId::new(1);
-    for (k, want) in [(0, b"VWXYZf"), (1, b"VbXYZf"), (2, b"VWXdef"), (3, b"VWXYZf")] {
+    for (k, want) in [
+        (0, b"VWXYZf"),
+        (1, b"VbXYZf"),
+        (2, b"VWXdef"),
+        (3, b"VWXYZf"),
+    ] {
         let mut store = FaultyBacking::new(make_store(&rt, rt.alloc()), k);
         let mut one = [0; 1];
         let first = store.write_at(file, 0, b"VW").is_ok();
         let second = store.write_at(file, 2, b"XYZ").is_ok();
         let third = store.read_at(file, 5, &mut one).is_ok();
-        assert_eq!(rt; (first, second, third), (k != 1, k != 2, k != 3), "fault at {k}");
+        assert_eq!(rt;
+            (first, second, third),
+            (k != 1, k != 2, k != 3),
+            "fault at {k}"
+        );
         assert_eq!(rt; store.failures(), u64::from(k != 0));
         let mut bytes = [0; 6];
         assert_eq!(rt; store.read_at(file, 0, &mut bytes), Ok(()));

@@ -3,3 +3,5 @@
 
 #[cfg(test)]
 mod backing;
+#[cfg(test)]
+mod order;
