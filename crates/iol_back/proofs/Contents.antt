@@ -1,0 +1,67 @@
+-- Files by number.
+use Rattle.std.proofs.Common.{inl, inr, ◌≡◌, ◌≢◌, ℕ, ◌-◌, ◌<◌, ◌≤◌, ◌⊎◌, List, [], ◌∷◌, ◌++◌, length, map, get_or, ap, subst, ◌∙◌, sym, arith, Result, Ok, Err, OnOk, OnErr}
+use Rattle.std.proofs.lemmas.List.{get_or-map, get_or-set_same, get_or-set_other, length-map, map-append}
+use Rattle.std.proofs.Math.ListN.{set, length-set}
+use Rattle.std.proofs.lemmas.Bool.{cases_eq, cases_lt}
+use Rattle.std.proofs.lemmas.Bool.Decides.{nat_tests}
+use Rattle.std.proofs.lemmas.Grind.{common_steps}
+use Rattle.iol_core.proofs.Lookups.{numbered_or-push}
+use Rattle.iol_back.specs.Disk.{content}
+
+-- there is none
+pub content-none : (slots : List (List ℕ)) (n : ℕ) → (n ≡ 0) ⊎ (length slots < n) → content slots n ≡ []
+unfolding content
+content-none slots n out = elim out [
+  | inl k ↦ grind (arith, nat_tests, common_steps, k)
+  | inr past ↦ grind (arith, nat_tests, common_steps, past)
+]
+
+-- as it stands in a list
+pub content-map : {A : Type 0} (f : A → List ℕ) (xs : List A) (n : ℕ) (d : A) → 0 < n → n ≤ length xs → content (map f xs) n ≡ f (get_or xs (n - 1) d)
+unfolding content
+content-map f xs n d some within =
+    let e = get_or-map f xs (n - 1) d [] (omega arith) in
+    grind (arith, nat_tests, e, some)
+
+pub content-push : (slots : List (List ℕ)) (n : ℕ) → content (slots ++ [] ∷ []) n ≡ content slots n
+unfolding content
+content-push slots n = elim (numbered_or-push slots n [] []) [
+  | inl same ↦ same
+  | inr both ↦ both.1 ∙ sym both.0
+]
+
+pub content-set_same : {A : Type 0} (f : A → List ℕ) (xs : List A) (n : ℕ) (x : A) → 0 < n → n ≤ length xs → content (map f (set xs (n - 1) x)) n ≡ f x
+content-set_same f xs n x some within =
+    content-map f (set xs (n - 1) x) n x some (omega (arith, length-set xs (n - 1) x)) ∙ ap f (get_or-set_same xs (n - 1) x x (omega arith))
+
+pub content-set_other : {A : Type 0} (f : A → List ℕ) (xs : List A) (n m : ℕ) (x : A) → 0 < n → n ≤ length xs → m ≢ n → content (map f (set xs (n - 1) x)) m ≡ content (map f xs) m
+content-set_other f xs n m x some within other = elim (cases_eq m 0) [
+  | inl z ↦ content-none (map f (set xs (n - 1) x)) m (inl z) ∙ sym (content-none (map f xs) m (inl z))
+  | inr nz ↦ elim (cases_lt (length xs) m) [
+    | inl past ↦ content-none (map f (set xs (n - 1) x)) m (inr (subst (λ (k : ℕ). k < m) (sym (length-map (set xs (n - 1) x) f ∙ length-set xs (n - 1) x)) past)) ∙ sym (content-none (map f xs) m (inr (subst (λ (k : ℕ). k < m) (sym (length-map xs f)) past)))
+    | inr in_it ↦ content-map f (set xs (n - 1) x) m x (omega (arith, nz)) (omega (arith, in_it, length-set xs (n - 1) x)) ∙ ap f (get_or-set_other xs (n - 1) (m - 1) x x (λ e. other (omega (arith, e, nz, some)))) ∙ sym (content-map f xs m x (omega (arith, nz)) in_it)
+  ]
+]
+
+-- with an empty one more
+pub content-push_none : {A : Type 0} (f : A → List ℕ) (xs : List A) (x : A) (n : ℕ) → f x ≡ [] → content (map f (xs ++ x ∷ [])) n ≡ content (map f xs) n
+content-push_none f xs x n none = ap (λ (r : List (List ℕ)). content r n) (map-append f xs (x ∷ []) ∙ ap (λ (w : List ℕ). map f xs ++ w ∷ []) none) ∙ content-push (map f xs) n
+
+-- what follows of a success, or of a refusal
+pub on_ok : {A E P Q : Type 0} (r : Result A E) → (P → Q) → OnOk r P → OnOk r Q
+on_ok (Ok x) f p = f p
+on_ok (Err e) f p = tt
+
+pub on_err : {A E P Q : Type 0} (r : Result A E) → (P → Q) → OnErr r P → OnErr r Q
+on_err (Ok x) f p = tt
+on_err (Err e) f p = f p
+
+-- a file that has bytes is there
+pub content-some : {A : Type 0} (f : A → List ℕ) (xs : List A) (n : ℕ) → 0 < length (content (map f xs) n) → n ≤ length xs
+content-some f xs n some = elim (cases_lt (length xs) n) [
+  | inl past ↦ absurd (none (subst (λ (k : ℕ). k < n) (sym (length-map xs f)) past))
+  | inr there ↦ there
+]
+  where
+    none : length (map f xs) < n → ⊥
+    none past = let e = content-none (map f xs) n (inr past) in let zero = ap length e in omega (arith, zero)

@@ -1,0 +1,75 @@
+-- What a contract sees of a backing store.
+use Rattle.std.specs.Prelude.{◌≡◌, ◌≢◌, ℕ, ◌+◌, ◌<◌, ◌≤◌, ◌^◌, ◌-◌, ◌⊎◌, Bool, true, List, [], ◌++◌, length, take, drop, min, max, slice_index, Result, Ok, Err}
+use Rattle.iol_core.specs.Numbered.{numbered_or}
+use Rattle.iol_core.specs.declared.limits.TheConstants.{MAX_FILES}
+
+-- The bytes of each file, how often the store failed, and whether it is honest. An honest store
+-- gives back what was written to it, and nobody else writes it. Of any other only its failures are
+-- told.
+pub record Disk : Type 0 where
+  pub slots : List (List ℕ)
+  pub failures : ℕ
+  pub honest : Bool
+
+-- files have the slots 1 to 1,024
+abbrev pub IsSlot : ℕ → Type 0
+IsSlot f = (0 < f) × (f ≤ MAX_FILES)
+
+-- the bytes of a file: none past the last slot
+unfoldable pub content : (slots : List (List ℕ)) → (file : ℕ) → List ℕ
+content slots f = numbered_or slots f []
+
+-- failures are counted up to here: a store that failed so often fails from then on
+abbrev pub last_failure : ℕ
+last_failure = 2 ^ 64 - 1
+
+-- one failure more
+abbrev pub raised : ℕ → ℕ
+raised n = min (n + 1) last_failure
+
+-- a call that counted no failure; the store still answers
+abbrev pub Succeeds : (old new : Disk) → Type 0
+Succeeds old new = (new.failures ≡ old.failures) × (old.failures < last_failure)
+
+-- a call that fails counts as one failure, and no other does
+abbrev pub Counts : {E : Type 0} → (old new : Disk) → Result (Unit {0}) E → Type 0
+Counts old new (Ok x) = Succeeds old new
+Counts old new (Err e) = new.failures ≡ raised old.failures
+
+-- a fact that is promised of an honest store
+abbrev pub IfHonest : Disk → Type 0 → Type 0
+IfHonest disk P = disk.honest ≡ true → P
+
+-- whether a store that still answers has the range
+abbrev pub CanRead : Disk → (file at count : ℕ) → Type 0
+CanRead disk file at count =
+    (disk.failures < last_failure) × IsSlot file × (at + count ≤ length (content disk.slots file))
+
+-- a read that succeeded: its range lies in the file, and it gave the bytes there
+pub record Reads (at : ℕ) (bytes old new : List ℕ) : Type 0 where
+  pub within : at + length old ≤ length bytes
+  pub read : new ≡ take (length old) (drop at bytes)
+
+-- all files have the bytes that they had
+pub record AllStay (old new : List (List ℕ)) : Type 0 where
+  pub each : (f : ℕ) → content new f ≡ content old f
+
+-- all files but this have the bytes that they had
+pub record OthersStay (file : ℕ) (old new : List (List ℕ)) : Type 0 where
+  pub each : (f : ℕ) → f ≢ file → content new f ≡ content old f
+
+-- bytes written from `at` on, in place of those that were there; past the end the file grows
+abbrev pub overwritten : (at : ℕ) → (bytes old : List ℕ) → List ℕ
+overwritten at bytes old = take at old ++ bytes ++ drop (at + length bytes) old
+
+-- a write that succeeded: it did not begin past the end
+pub record Writes (at : ℕ) (bytes old new : List ℕ) : Type 0 where
+  pub begins : at ≤ length old
+  pub written : new ≡ overwritten at bytes old
+
+-- A write of n bytes from `at` on that failed: outside of its range all is as it was, inside is
+-- anything. The length is the old one, the range's end, or between the two.
+pub record Tears (at n : ℕ) (old new : List ℕ) : Type 0 where
+  pub each : (i : ℕ) → (i < at) ⊎ (at + n ≤ i) → slice_index new i ≡ slice_index old i
+  pub no_shorter : length old ≤ length new
+  pub no_longer : length new ≤ max (length old) (at + n)

@@ -1,0 +1,17 @@
+-- A store whose k-th call fails, over another.
+use Rattle.std.specs.Prelude.{ℕ}
+use Rattle.iol_back.specs.Disk.{Disk}
+use Rattle.iol_back.specs.declared.faulty.FaultyBacking.{FaultyBacking}
+
+-- the store below
+abbrev pub inner_of : {B : Type 0} → FaultyBacking B → B
+inner_of f = f.inner
+
+-- which of the calls to come fails: with 1 the next, with 0 none
+abbrev pub calls_to_fault : {B : Type 0} → FaultyBacking B → ℕ
+calls_to_fault f = f.left
+
+-- as a store: the bytes and the honesty of the one below, and the failures of both
+abbrev pub disk_over : {B : Type 0} → (B → Disk) → FaultyBacking B → Disk
+disk_over disk f =
+    record { slots = (disk f.inner).slots; failures = f.failed; honest = (disk f.inner).honest }

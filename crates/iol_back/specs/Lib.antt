@@ -1,0 +1,3 @@
+pub mod Disk
+pub mod Faulty
+pub mod Lists

@@ -1,0 +1,17 @@
+//! Backing stores: where the bytes of files come from, and where they are written back.
+//!
+//! A [`Backing`](backing::Backing) holds a list of bytes for each of the files 1 to 1,024, and may fail. Its contracts
+//! (`specs/Disk`) say what it reads and writes where it is honest, that it counts its failures, and that a write that
+//! fails leaves all outside of its range as it was. There are [`MemoryBacking`](memory::MemoryBacking), whose lists lie
+//! in memory, and [`FaultyBacking`](faulty::FaultyBacking), which lets one call to another store fail.
+//!
+//!     let mut slots = Slots::new(alloc);
+//!     slots.append(FileId::new(1), b"abcdef")?;
+//!     let mut store = FaultyBacking::new(MemoryBacking::new(slots), 2);
+//!     store.read_at(FileId::new(1), 2, &mut bytes)?;
+#![tactic(auto)]
+
+pub mod backing;
+pub mod faulty;
+pub mod memory;
+pub mod slots;

@@ -1,0 +1,109 @@
+//! A store in memory.
+ghost use Rattle.std.specs.Prelude.{◌≡◌, ℕ, ◌+◌, ◌-◌, ◌<◌, ◌≤◌, ◌^◌, ◌↔◌, min, true, length, take, drop, OnOk, OnErr, IsOk, IsTrue};
+ghost use Rattle.iol_back.specs.Disk.{Disk, IsSlot, content, raised, CanRead, Counts, Reads, Writes, OthersStay};
+
+use crate::backing::{Backing, StoreFault};
+use crate::slots::Slots;
+use iol_core::limits::MAX_FILES;
+use iol_core::numbers::FileId;
+use std::alloc::AllocError;
+use std::marker::Model;
+
+/// Lists of bytes in memory, as a store. It is honest, and a growth of a list that is refused is a failure.
+#[derive(Drop)]
+pub struct MemoryBacking {
+    slots: Slots,
+    failures: u64,
+}
+
+impl Model for MemoryBacking {
+    ghost use Rattle.std.specs.Prelude.{true};
+    ghost use Rattle.iol_back.specs.Disk.{Disk};
+
+    ghost Value = { Disk };
+
+    ghost view = { λ m. record { slots = m.slots; failures = m.failures; honest = true } };
+}
+
+impl MemoryBacking {
+    /// A store of these lists.
+    pub fn new(slots: Slots) -> MemoryBacking
+        ensures slots { result.slots ≡ slots }
+        ensures failures { result.failures ≡ 0 }
+        ensures honest { result.honest ≡ true }
+    {
+        MemoryBacking { slots, failures: 0 }
+    }
+
+    // Whether there are so many bytes from `at` on, and the store still answers.
+    fn can_read(&self, file: FileId, at: u32, count: usize) -> bool
+        ensures { IsTrue result ↔ CanRead self.now file at count }
+    {
+        let number = file.number() as usize;
+        let len = self.slots.bytes(file).len();
+        let at = at as usize;
+        self.failures < u64::MAX
+            && 0 < number
+            && number <= MAX_FILES
+            && at <= len
+            && count <= len - at
+    }
+
+    // Counts a failure.
+    fn fail(&mut self) -> StoreFault
+        ensures failures { self.new.failures ≡ raised self.old.failures }
+        ensures slots { self.new.slots ≡ self.old.slots }
+        ensures honest { self.new.honest ≡ self.old.honest }
+    {
+        self.failures = self.failures.saturating_add(1);
+        StoreFault
+    }
+}
+
+impl Backing for MemoryBacking {
+    ghost disk = { λ m. m };
+
+    fn length(&self, file: FileId) -> u32 {
+        self.slots.bytes(file).len().min(u32::MAX as usize) as u32
+    }
+
+    fn read_at(&mut self, file: FileId, at: u32, into: &mut [u8]) -> Result<(), StoreFault>
+        ensures honest { self.new.honest ≡ self.old.honest }
+        ensures counts { Counts self.old self.new result }
+        ensures slot { OnOk result (IsSlot file) }
+        ensures slots { self.new.slots ≡ self.old.slots }
+        ensures read { OnOk result (Reads at (content self.old.slots file) into.old into.new) }
+
+        // It fails for no other reason.
+        ensures succeeds { CanRead self.old file at (length into.old) → IsOk result }
+    {
+        if !self.can_read(file, at, into.len()) {
+            return Err(self.fail());
+        }
+        let at = at as usize;
+        into.copy_from_slice(&self.slots.bytes(file)[at..at + into.len()]);
+        Ok(())
+    }
+
+    fn write_at(&mut self, file: FileId, at: u32, bytes: &[u8]) -> Result<(), StoreFault>
+        ensures honest { self.new.honest ≡ self.old.honest }
+        ensures counts { Counts self.old self.new result }
+        ensures slot { OnOk result (IsSlot file) }
+        ensures others { OthersStay file self.old.slots self.new.slots }
+        ensures written { let new = content self.new.slots file in
+            OnOk result (Writes at bytes.now (content self.old.slots file) new) }
+
+        // A write that fails changes nothing. One inside of the file fails for no other reason.
+        ensures err { OnErr result (content self.new.slots file ≡ content self.old.slots file) }
+        ensures succeeds { CanRead self.old file at (length bytes.now) → IsOk result }
+    {
+        if !self.can_read(file, at, 0) || self.slots.overwrite(file, at as usize, bytes).is_err() {
+            return Err(self.fail());
+        }
+        Ok(())
+    }
+
+    fn failures(&self) -> u64 {
+        self.failures
+    }
+}

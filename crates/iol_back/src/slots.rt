@@ -1,0 +1,151 @@
+//! Lists of bytes by file number.
+ghost use Rattle.std.specs.Prelude.{◌≡◌, ℕ, ◌+◌, ◌-◌, ◌<◌, ◌≤◌, [], ◌++◌, length, map, take, drop, OnOk, OnErr, IsOk, vec_len};
+ghost use Rattle.iol_core.specs.Numbered.{numbered_or};
+ghost use Rattle.iol_back.specs.Disk.{IsSlot, content, overwritten, OthersStay, AllStay};
+ghost use Rattle.iol_back.specs.Lists.{items_of};
+
+use iol_core::limits::MAX_FILES;
+use iol_core::numbers::FileId;
+use std::alloc::{AllocError, Global};
+use std::marker::Model;
+
+/// A list of bytes for each of the files 1 to 1,024, at first empty.
+#[derive(Drop)]
+pub struct Slots {
+    lists: Vec<Vec<u8>>,
+    alloc: Global,
+}
+
+impl Model for Slots {
+    ghost use Rattle.std.specs.Prelude.{ℕ, ◌≤◌, List, length};
+    ghost use Rattle.iol_back.specs.Lists.{items_of};
+    ghost use Rattle.iol_core.specs.declared.limits.TheConstants.{MAX_FILES};
+
+    ghost Value = { List (List ℕ) };
+
+    ghost view = { λ s. items_of s.lists.items };
+
+    ghost invariant = { λ s. length s.lists.items ≤ MAX_FILES };
+}
+
+// Puts bytes over those from `at` on. Refused, it changes nothing.
+fn overwrite(list: &mut Vec<u8>, at: usize, bytes: &[u8]) -> Result<(), AllocError>
+    requires { at ≤ length list.old.items }
+    ensures written { OnOk result (list.new.items ≡ overwritten at bytes.now list.old.items) }
+    ensures err { OnErr result (list.new.items ≡ list.old.items) }
+    ensures inside { at + length bytes.now ≤ length list.old.items → IsOk result }
+{
+    let inside = bytes.len().min(list.len() - at);
+    let (first, rest) = bytes.split_at(inside);
+    list.extend_from_slice(rest)?;
+    list.slice_mut(at..at + inside).copy_from_slice(first);
+    Ok(())
+}
+
+// Adds empty lists until there is one of this number.
+fn reach(lists: &mut Vec<Vec<u8>>, alloc: Global, number: usize) -> Result<(), AllocError>
+    requires number { number ≤ MAX_FILES }
+    requires few { length lists.old.items ≤ MAX_FILES }
+    ensures stay { AllStay (items_of lists.old.items) (items_of lists.new.items) }
+    ensures there { OnOk result (number ≤ length lists.new.items) }
+    ensures few { length lists.new.items ≤ MAX_FILES }
+    ensures already { number ≤ length lists.old.items → IsOk result }
+{
+    while lists.len() < number {
+        lists.reserve(1)?;
+        lists.push_reserved(Vec::new(alloc));
+    }
+    Ok(())
+}
+
+// Puts bytes over those of a list from `at` on. Refused, it changes no list's bytes.
+fn write_list(
+    lists: &mut Vec<Vec<u8>>,
+    alloc: Global,
+    number: usize,
+    at: usize,
+    bytes: &[u8],
+) -> Result<(), AllocError>
+    requires slot { IsSlot number }
+    requires few { length lists.old.items ≤ MAX_FILES }
+    requires begins { at ≤ length (content (items_of lists.old.items) number) }
+    ensures few { length lists.new.items ≤ MAX_FILES }
+    ensures others { OthersStay number (items_of lists.old.items) (items_of lists.new.items) }
+    ensures written { let old = items_of lists.old.items in
+        let new = items_of lists.new.items in
+        OnOk result (content new number ≡ overwritten at bytes.now (content old number)) }
+    ensures err { let old = items_of lists.old.items in
+        let new = items_of lists.new.items in
+        OnErr result (content new number ≡ content old number) }
+    ensures inside { let old = content (items_of lists.old.items) number in
+        0 < length bytes.now → at + length bytes.now ≤ length old → IsOk result }
+{
+    reach(lists, alloc, number)?;
+    overwrite(&mut lists[number - 1], at, bytes)
+}
+
+impl Slots {
+    /// Empty lists.
+    pub fn new(alloc: Global) -> Slots
+        ensures { result ≡ [] }
+    {
+        Slots {
+            lists: Vec::new(alloc),
+            alloc,
+        }
+    }
+
+    /// The bytes of a file.
+    pub fn bytes(&self, file: FileId) -> &[u8]
+        ensures { result.now ≡ content self.now file }
+    {
+        let number = file.number() as usize;
+        if number == 0 {
+            return &[];
+        }
+        if number > self.lists.len() {
+            return &[];
+        }
+        self.lists[number - 1].as_slice()
+    }
+
+    /// Puts bytes at the end of a file. Refused, it changes nothing.
+    pub fn append(&mut self, file: FileId, bytes: &[u8]) -> Result<(), AllocError>
+        requires { IsSlot file }
+        ensures appended { let old = content self.old file in
+            OnOk result (content self.new file ≡ old ++ bytes.now) }
+        ensures others { OthersStay file self.old self.new }
+        ensures err { OnErr result (content self.new file ≡ content self.old file) }
+    {
+        let end = self.bytes(file).len();
+        self.overwrite(file, end, bytes)
+    }
+
+    /// Puts bytes over those of a file from `at` on. Refused, it changes nothing; where the file need not grow it is
+    /// never refused.
+    pub(crate) fn overwrite(
+        &mut self,
+        file: FileId,
+        at: usize,
+        bytes: &[u8],
+    ) -> Result<(), AllocError>
+        requires slot { IsSlot file }
+        requires begins { at ≤ length (content self.old file) }
+        ensures written { let old = content self.old file in
+            OnOk result (content self.new file ≡ overwritten at bytes.now old) }
+        ensures others { OthersStay file self.old self.new }
+        ensures err { OnErr result (content self.new file ≡ content self.old file) }
+        ensures inside { at + length bytes.now ≤ length (content self.old file) → IsOk result }
+    {
+        if bytes.is_empty() {
+            return Ok(());
+        }
+        write_list(
+            &mut self.lists,
+            self.alloc,
+            file.number() as usize,
+            at,
+            bytes,
+        )
+    }
+}

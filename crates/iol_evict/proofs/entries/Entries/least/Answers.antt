@@ -1,0 +1,23 @@
+use Rattle.std.proofs.Common.{◌≡◌, ℕ, List, [], sym, subst, length, All, MatchOption}
+use Rattle.iol_evict.specs.Ranking.{Table}
+use Rattle.iol_evict.specs.Indexes.{AreLive}
+use Rattle.iol_evict.specs.Victims.{CanAskOf, GoesFirst, IsVictim}
+use Rattle.iol_evict.proofs.Changing.{live-heights}
+use Rattle.iol_evict.proofs.Firsts.{victim-first, entries-none, ask-heights, match-map}
+use Rattle.iol_evict.proofs.entries.Entries.least.Goals as goal
+
+pub first_idle-requires-clause-live : goal.first_idle-requires-clause-live
+first_idle-requires-clause-live g c = subst (λ (l : List ℕ). AreLive c.self.inside.slab l) (sym c.as_slice.ensures.value) (live-heights _ _ _ c.self.invariant.indexed)
+
+pub first_idle-requires-clause-ask : goal.first_idle-requires-clause-ask
+first_idle-requires-clause-ask g c =
+    let ask = g.U.InUse.can_ask c.args.users.now in
+    let all = subst (λ (t : Table). All (λ e. ask e.file e.at) t.entries) (sym c.self.view_is) c.requires in
+    subst (λ (l : List ℕ). CanAskOf ask c.self.inside.slab l) (sym c.as_slice.ensures.value) (ask-heights ask _ _ _ c.self.invariant.indexed all)
+
+pub returns : goal.returns
+returns g c =
+    let used = g.U.InUse.in_use c.args.users.now in
+    let found = subst (λ (l : List ℕ). MatchOption c.first_idle.result (length l ≡ 0) (GoesFirst used c.self.inside.slab l)) c.as_slice.ensures.value c.first_idle.ensures in
+    subst (λ (t : Table). MatchOption c.first_idle.result (t.entries ≡ []) (IsVictim used t.entries)) c.self.view_is
+    (match-map c.first_idle.result (entries-none _ _ _ c.self.invariant.indexed) (λ place. victim-first used _ _ _ place c.self.invariant.indexed) found)

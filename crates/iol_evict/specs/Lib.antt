@@ -1,0 +1,4 @@
+pub mod Ranks
+pub mod Ranking
+pub mod Victims
+pub mod Indexes

@@ -1,0 +1,83 @@
+-- The entries of an order and what becomes of them, by GreedyDual-Size (Cao and Irani, "Cost-Aware
+-- WWW Proxy Caching Algorithms", 1997).
+use Rattle.std.specs.Prelude.{ℕ, ◌+◌, ◌-◌, ◌*◌, ◌/◌, ◌^◌, ◌==◌, ◌&&◌, ◌||◌, nat_lt, if◌then◌else◌, Bool, List, [], ◌∷◌, map, find, Option, unwrap_or}
+use Rattle.iol_evict.specs.declared.entry.Entry.{Entry}
+use Rattle.iol_evict.specs.declared.entry.TheConstants.{MAX_LOW}
+
+-- the entries in the order of file and place, and how many more may come in without memory
+pub record Table : Type 0 where
+  pub entries : List Entry
+  pub room : ℕ
+
+-- L, the entries in the order of file and place, and how many more may enter without memory
+pub record Ranking : Type 0 where
+  pub low : ℕ
+  pub entries : List Entry
+  pub room : ℕ
+
+-- how far above L an entry begins: its cost by its size, in units of 2^-24
+abbrev pub worth : (size cost : ℕ) → ℕ
+worth size cost = cost * 2 ^ 24 / size
+
+abbrev pub is_at : Entry → (file at : ℕ) → Bool
+is_at e file at = (e.file == file) && (e.at == at)
+
+abbrev pub lies_before : Entry → (file at : ℕ) → Bool
+lies_before e file at = nat_lt e.file file || ((e.file == file) && nat_lt e.at at)
+
+-- the entry at a place
+abbrev pub entry_at : List Entry → (file at : ℕ) → Option Entry
+entry_at es file at = find (λ e. is_at e file at) es
+
+abbrev pub no_entry : Entry
+no_entry = record { file = 0; at = 0; size = 0; cost = 0; height = 0 }
+
+-- the entry at a place, where one lies
+abbrev pub entry_or : List Entry → (file at : ℕ) → Entry
+entry_or es file at = unwrap_or (entry_at es file at) no_entry
+
+-- with one more, in the order of file and place
+abbrev pub put_in : List Entry → Entry → List Entry
+put_in [] e = e ∷ []
+put_in (x ∷ xs) e = if lies_before x e.file e.at then x ∷ put_in xs e else e ∷ x ∷ xs
+
+abbrev pub without : List Entry → (file at : ℕ) → List Entry
+without [] file at = []
+without (x ∷ xs) file at = if is_at x file at then xs else x ∷ without xs file at
+
+-- with this height at a place
+abbrev pub set_at : (file at height : ℕ) → Entry → Entry
+set_at file at height e = if is_at e file at then record e { height = height } else e
+
+abbrev pub with_height : List Entry → (file at height : ℕ) → List Entry
+with_height es file at height = map (set_at file at height) es
+
+-- an entry comes in, its cost by its size above L
+abbrev pub entered : Ranking → (file at size cost : ℕ) → Ranking
+entered r file at size cost =
+    let e : Entry = record { file = file; at = at; size = size; cost = cost; height = r.low + worth size cost } in
+    record { low = r.low; entries = put_in r.entries e; room = r.room - 1 }
+
+-- an entry is used: it has the height that it would enter with
+abbrev pub hit_at : Ranking → (file at : ℕ) → Ranking
+hit_at r file at =
+    let e : Entry = entry_or r.entries file at in
+    record r { entries = with_height r.entries file at (r.low + worth e.size e.cost) }
+
+-- an entry goes, and L stays
+abbrev pub left_at : Ranking → (file at : ℕ) → Ranking
+left_at r file at = record { low = r.low; entries = without r.entries file at; room = r.room + 1 }
+
+abbrev pub lowered_by : (low : ℕ) → Entry → Entry
+lowered_by low e = record e { height = e.height - low }
+
+-- past 2^62, L is taken from every height and from itself; a height below it becomes 0
+abbrev pub lowered : Ranking → Ranking
+lowered r =
+    if nat_lt MAX_LOW r.low
+    then record { low = 0; entries = map (lowered_by r.low) r.entries; room = r.room }
+    else r
+
+-- an entry is evicted: L becomes the height that it had
+abbrev pub evicted_at : Ranking → (file at : ℕ) → Ranking
+evicted_at r file at = lowered (record (left_at r file at) { low = (entry_or r.entries file at).height })

@@ -1,0 +1,39 @@
+-- Which entry goes first.
+use Rattle.std.specs.Prelude.{◌≡◌, ℕ, ◌<◌, ◌≤◌, ◌⊎◌, Bool, true, false, List, length, slice_index, All, Contains}
+use Rattle.slab.specs.Slab.{Slab}
+use Rattle.iol_evict.specs.declared.entry.Entry.{Entry}
+use Rattle.iol_evict.specs.Indexes.{entry_of}
+
+-- by height, then file, then place
+pub record KeyLe (a b : Entry) : Type 0 where
+  pub height : a.height ≤ b.height
+  pub file : a.height ≡ b.height → a.file ≤ b.file
+  pub at : a.height ≡ b.height → a.file ≡ b.file → a.at ≤ b.at
+
+-- those that are not in use before those that are, and then by the key
+abbrev pub Precedes : (in_use : ℕ → ℕ → Bool) → (a b : Entry) → Type 0
+Precedes in_use a b =
+    ((in_use a.file a.at ≡ false) × (in_use b.file b.at ≡ true))
+    ⊎ ((in_use a.file a.at ≡ in_use b.file b.at) × KeyLe a b)
+
+-- the place of the entry that goes first
+pub record IsVictim (in_use : ℕ → ℕ → Bool) (es : List Entry) (place : ℕ × ℕ) : Type 0 where
+  pub victim : Entry
+  pub there : Contains es victim
+  pub first : All (Precedes in_use victim) es
+  pub lies : place ≡ (victim.file, victim.at)
+
+-- of each of these entries it may be asked whether it is in use
+pub record CanAskOf (can_ask : ℕ → ℕ → Type 0) (s : Slab Entry) (keys : List ℕ) : Type 0 where
+  pub each : (i : ℕ) → i < length keys → can_ask (entry_of s (slice_index keys i)).file (entry_of s (slice_index keys i)).at
+
+abbrev pub is_used : (in_use : ℕ → ℕ → Bool) → Slab Entry → List ℕ → (i : ℕ) → Bool
+is_used in_use s keys i = in_use (entry_of s (slice_index keys i)).file (entry_of s (slice_index keys i)).at
+
+-- the first of the entries that is not in use, or the first where all are
+pub record GoesFirst (in_use : ℕ → ℕ → Bool) (s : Slab Entry) (keys : List ℕ) (place : ℕ × ℕ) : Type 0 where
+  pub index : ℕ
+  pub within : index < length keys
+  pub lies : place ≡ ((entry_of s (slice_index keys index)).file, (entry_of s (slice_index keys index)).at)
+  pub before : (i : ℕ) → i < index → is_used in_use s keys i ≡ true
+  pub idle : (is_used in_use s keys index ≡ false) ⊎ ((index ≡ 0) × ((i : ℕ) → i < length keys → is_used in_use s keys i ≡ true))

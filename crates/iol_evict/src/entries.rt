@@ -1,0 +1,212 @@
+//! Entries, found by place and by height.
+ghost use Rattle.std.specs.Prelude.{◌≡◌, ◌≢◌, ℕ, ◌+◌, ◌-◌, ◌<◌, ◌≤◌, [], All, Some, None, MatchOption, OnOk, OnErr, length, map, vec_len, vec_capacity};
+ghost use Rattle.slab.specs.Slab.{get, ContainsKey, Updates, HasRoomFor, slab_len, SameValues};
+ghost use Rattle.iol_evict.specs.Indexes.{entry_of, AreLive, IsRising, IsIndexed, Lowers};
+ghost use Rattle.iol_evict.specs.Ranking.{Table, entry_at, entry_or, put_in, without, with_height, lowered_by};
+ghost use Rattle.iol_evict.specs.Victims.{IsVictim};
+
+use crate::entry::{By, Entry, Rank};
+use crate::index::{find_key, insert_key, read_entry, remove_key, write_height};
+use crate::lowering::{insert_all, lower_each};
+use crate::rank::rank_of;
+use crate::users::InUse;
+use crate::victim::first_idle;
+use iol_core::numbers::FileId;
+use slab::Slab;
+use std::alloc::{AllocError, Global};
+use std::marker::Model;
+
+/// Entries in a slab, and its keys in the order of file and place, and in that of height, file and place.
+#[derive(Drop)]
+pub(crate) struct Entries {
+    slab: Slab<Entry>,
+    by_place: Vec<usize>,
+    by_height: Vec<usize>,
+    room: usize,
+}
+
+impl Model for Entries {
+    ghost use Rattle.std.specs.Prelude.{◌≡◌, ◌+◌, ◌≤◌, map, vec_len, vec_capacity};
+    ghost use Rattle.slab.specs.Slab.{HasRoomFor};
+    ghost use Rattle.iol_evict.specs.Ranking.{Table};
+    ghost use Rattle.iol_evict.specs.Indexes.{entry_of, IsIndexed};
+
+    ghost Value = { Table };
+
+    ghost view = { λ e.
+        record { entries = map (entry_of e.slab) e.by_place.items; room = e.room } };
+
+    ghost invariant = { λ e. record {
+      indexed : IsIndexed e.slab e.by_place.items e.by_height.items;
+      slab_room : HasRoomFor e.slab e.room;
+      lens : vec_len e.by_place ≡ vec_len e.by_height;
+      place_room : vec_len e.by_place + e.room ≤ vec_capacity e.by_place;
+      height_room : vec_len e.by_height + e.room ≤ vec_capacity e.by_height;
+    } };
+}
+
+// The rank of a place.
+fn place_of(file: FileId, at: u32) -> Rank
+    ensures { result ≡ record { height = 0; file = file; at = at } }
+{
+    Rank {
+        height: 0,
+        file,
+        at,
+    }
+}
+
+// Makes room for so many more, in each.
+fn reserve_each(
+    slab: &mut Slab<Entry>,
+    by_place: &mut Vec<usize>,
+    by_height: &mut Vec<usize>,
+    count: usize,
+) -> Result<(), AllocError>
+    ensures slab_room { OnOk result (HasRoomFor slab.new count) }
+    ensures place_room { OnOk result (vec_len by_place.new + count ≤ vec_capacity by_place.new) }
+    ensures height_room { OnOk result (vec_len by_height.new + count ≤ vec_capacity by_height.new) }
+    ensures values { SameValues slab.old slab.new }
+    ensures len { slab_len slab.new ≡ slab_len slab.old }
+    ensures places { by_place.new.items ≡ by_place.old.items }
+    ensures place_len { vec_len by_place.new ≡ vec_len by_place.old }
+    ensures heights { by_height.new.items ≡ by_height.old.items }
+    ensures height_len { vec_len by_height.new ≡ vec_len by_height.old }
+    ensures slab_kept { slab.old.capacity ≤ slab.new.capacity }
+    ensures places_kept { vec_capacity by_place.old ≤ vec_capacity by_place.new }
+    ensures heights_kept { vec_capacity by_height.old ≤ vec_capacity by_height.new }
+{
+    slab.reserve(count)?;
+    by_place.reserve(count)?;
+    by_height.reserve(count)?;
+    Ok(())
+}
+
+impl Entries {
+    /// No entries.
+    pub(crate) fn new(alloc: Global) -> Entries
+        ensures { result ≡ record { entries = []; room = 0 } }
+    {
+        Entries {
+            slab: Slab::new(alloc),
+            by_place: Vec::new(alloc),
+            by_height: Vec::new(alloc),
+            room: 0,
+        }
+    }
+
+    /// Makes room for so many more.
+    pub(crate) fn reserve(&mut self, count: usize) -> Result<(), AllocError>
+        ensures room { OnOk result (count ≤ self.new.room) }
+        ensures entries { self.new.entries ≡ self.old.entries }
+        ensures no_less { self.old.room ≤ self.new.room }
+        ensures err { OnErr result (self.new.room ≡ self.old.room) }
+    {
+        if count <= self.room {
+            return Ok(());
+        }
+        reserve_each(
+            &mut self.slab,
+            &mut self.by_place,
+            &mut self.by_height,
+            count,
+        )?;
+        self.room = count;
+        Ok(())
+    }
+
+    /// The entry at a place.
+    pub(crate) fn get(&self, file: FileId, at: u32) -> Entry
+        requires { entry_at self.now.entries file at ≢ None }
+        ensures entry { result ≡ entry_or self.now.entries file at }
+        ensures sized { 0 < result.size }
+    {
+        let key = find_key(
+            &self.slab,
+            self.by_place.as_slice(),
+            By::Place,
+            &place_of(file, at),
+        );
+        read_entry(&self.slab, key)
+    }
+
+    /// Puts an entry in, in room that is there.
+    pub(crate) fn insert(&mut self, entry: Entry)
+        requires room { 0 < self.old.room }
+        requires absent { entry_at self.old.entries entry.file entry.at ≡ None }
+        requires sized { 0 < entry.size }
+        ensures { let new = put_in self.old.entries entry in
+            self.new ≡ record { entries = new; room = self.old.room - 1 } }
+    {
+        let key = self.slab.insert_reserved(entry);
+        insert_key(&self.slab, &mut self.by_place, By::Place, key);
+        insert_key(&self.slab, &mut self.by_height, By::Height, key);
+        self.room -= 1;
+    }
+
+    /// Takes out the entry at a place.
+    pub(crate) fn remove(&mut self, file: FileId, at: u32) -> Entry
+        requires { entry_at self.old.entries file at ≢ None }
+        ensures entry { result ≡ entry_or self.old.entries file at }
+        ensures rest { let new = without self.old.entries file at in
+            self.new ≡ record { entries = new; room = self.old.room + 1 } }
+    {
+        let key = remove_key(
+            &self.slab,
+            &mut self.by_place,
+            By::Place,
+            &place_of(file, at),
+        );
+        let entry = read_entry(&self.slab, key);
+        remove_key(
+            &self.slab,
+            &mut self.by_height,
+            By::Height,
+            &rank_of(By::Height, &entry),
+        );
+        self.slab.remove(key);
+        self.room += 1;
+        entry
+    }
+
+    /// Gives the entry at a place another height.
+    pub(crate) fn set_height(&mut self, file: FileId, at: u32, height: u64)
+        requires { entry_at self.old.entries file at ≢ None }
+        ensures { let new = with_height self.old.entries file at height in
+            self.new ≡ record self.old { entries = new } }
+    {
+        let key = find_key(
+            &self.slab,
+            self.by_place.as_slice(),
+            By::Place,
+            &place_of(file, at),
+        );
+        let entry = read_entry(&self.slab, key);
+        remove_key(
+            &self.slab,
+            &mut self.by_height,
+            By::Height,
+            &rank_of(By::Height, &entry),
+        );
+        write_height(&mut self.slab, key, height);
+        insert_key(&self.slab, &mut self.by_height, By::Height, key);
+    }
+
+    /// Takes `low` from every height; one below it becomes 0. All keys are sorted by height anew: the caller does this
+    /// seldom.
+    pub(crate) fn lower(&mut self, low: u64)
+        ensures { self.new ≡ record self.old { entries = map (lowered_by low) self.old.entries } }
+    {
+        lower_each(&mut self.slab, self.by_place.as_slice(), low);
+        self.by_height.clear();
+        insert_all(&self.slab, self.by_place.as_slice(), &mut self.by_height);
+    }
+
+    /// The place of the entry that goes first.
+    pub(crate) fn least<U: InUse>(&self, users: &U) -> Option<(FileId, u32)>
+        requires { All (λ e. U.can_ask users.now e.file e.at) self.now.entries }
+        ensures { MatchOption result (self.now.entries ≡ []) (IsVictim (U.in_use users.now) self.now.entries) }
+    {
+        first_idle(&self.slab, self.by_height.as_slice(), users)
+    }
+}

@@ -1,0 +1,86 @@
+//! Sorted lists of a slab's keys.
+ghost use Rattle.std.specs.Prelude.{◌≡◌, ℕ, ◌+◌, ◌-◌, ◌/◌, ◌<◌, ◌≤◌, length, Some, vec_len, vec_capacity};
+ghost use Rattle.slab.specs.Slab.{get, ContainsKey, Updates, slab_len};
+ghost use Rattle.iol_evict.specs.Ranks.{rank_by};
+ghost use Rattle.iol_evict.specs.Indexes.{entry_of, AreLive, IsRising, IsPlace, HasRank, IsApart, Finds, Adds, Takes};
+
+use crate::entry::{By, Entry, Rank};
+use crate::rank::{comes_before, rank_of};
+use slab::Slab;
+
+/// The entry at a key.
+pub(crate) fn read_entry(entries: &Slab<Entry>, key: usize) -> Entry
+    requires { ContainsKey entries.now key }
+    ensures { result ≡ entry_of entries.now key }
+{
+    entries[key]
+}
+
+/// Gives the entry at a key another height.
+pub(crate) fn write_height(slab: &mut Slab<Entry>, key: usize, height: u64)
+    requires { ContainsKey slab.old key }
+    ensures updates { let new = record (entry_of slab.old key) { height = height } in
+        Updates slab.old slab.new key (Some new) }
+    ensures len { slab_len slab.new ≡ slab_len slab.old }
+    ensures capacity { slab.new.capacity ≡ slab.old.capacity }
+{
+    slab[key].height = height;
+}
+
+/// How many keys come before a rank.
+pub(crate) fn position(entries: &Slab<Entry>, keys: &[usize], by: By, rank: &Rank) -> usize
+    requires live { AreLive entries.now keys.now }
+    requires rising { IsRising by entries.now keys.now }
+    ensures { IsPlace by entries.now keys.now rank.now result }
+{
+    let mut low = 0;
+    let mut high = keys.len();
+    while low < high {
+        let middle = low + (high - low) / 2;
+        let entry = read_entry(entries, keys[middle]);
+        if comes_before(&rank_of(by, &entry), rank) {
+            low = middle + 1;
+        } else {
+            high = middle;
+        }
+    }
+    low
+}
+
+/// The key whose entry has this rank.
+pub(crate) fn find_key(entries: &Slab<Entry>, keys: &[usize], by: By, rank: &Rank) -> usize
+    requires live { AreLive entries.now keys.now }
+    requires rising { IsRising by entries.now keys.now }
+    requires there { HasRank by entries.now keys.now rank.now }
+    ensures { Finds by entries.now keys.now rank.now result }
+{
+    keys[position(entries, keys, by, rank)]
+}
+
+/// Puts a key in its place, in room that is there.
+pub(crate) fn insert_key(entries: &Slab<Entry>, keys: &mut Vec<usize>, by: By, key: usize)
+    requires live { AreLive entries.now keys.old.items }
+    requires there { ContainsKey entries.now key }
+    requires rising { IsRising by entries.now keys.old.items }
+    requires room { vec_len keys.old < vec_capacity keys.old }
+    ensures adds { Adds by entries.now key keys.old.items keys.new.items }
+    ensures len { vec_len keys.new ≡ vec_len keys.old + 1 }
+    ensures capacity { vec_capacity keys.new ≡ vec_capacity keys.old }
+{
+    let entry = read_entry(entries, key);
+    let place = position(entries, keys.as_slice(), by, &rank_of(by, &entry));
+    let _inserted = keys.insert(place, key);
+}
+
+/// Takes away the key whose entry has this rank.
+pub(crate) fn remove_key(entries: &Slab<Entry>, keys: &mut Vec<usize>, by: By, rank: &Rank) -> usize
+    requires live { AreLive entries.now keys.old.items }
+    requires rising { IsRising by entries.now keys.old.items }
+    requires there { HasRank by entries.now keys.old.items rank.now }
+    ensures takes { Takes by entries.now rank.now result keys.old.items keys.new.items }
+    ensures len { vec_len keys.new + 1 ≡ vec_len keys.old }
+    ensures capacity { vec_capacity keys.new ≡ vec_capacity keys.old }
+{
+    let place = position(entries, keys.as_slice(), by, rank);
+    keys.remove(place)
+}

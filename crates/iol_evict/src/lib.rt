@@ -1,0 +1,20 @@
+//! Which part of a file is evicted first, by GreedyDual-Size (Cao and Irani 1997).
+//!
+//! An [`Order`](order::Order) holds entries for parts of files. Each has a height: its cost by its size above L, which
+//! is the height of the last entry that was evicted. The least of those that are not in use goes first. A contract sees
+//! L, the entries in the order of file and place, and the room for more (`specs/Ranking`, `specs/Victims`); who is in
+//! use is told by an [`InUse`](users::InUse), which is asked for the first entries alone.
+//!
+//!     order.reserve(1)?;
+//!     order.enter(file, 8192, 4096, 1);
+//!     let victim = order.least(&users);
+#![tactic(auto)]
+
+mod entries;
+pub mod entry;
+mod index;
+mod lowering;
+pub mod order;
+mod rank;
+pub mod users;
+mod victim;

@@ -1,0 +1,138 @@
+//! The order in which parts of files are evicted.
+ghost use Rattle.std.specs.Prelude.{◌≡◌, ◌≢◌, ℕ, ◌+◌, ◌-◌, ◌*◌, ◌/◌, ◌^◌, ◌<◌, ◌≤◌, [], All, true, false, None, MatchOption, OnOk, OnErr};
+ghost use Rattle.iol_evict.specs.Ranking.{Ranking, worth, entry_at, entry_or, entered, hit_at, left_at, evicted_at};
+ghost use Rattle.iol_evict.specs.Victims.{IsVictim};
+
+use crate::entries::Entries;
+use crate::entry::{Entry, MAX_LOW};
+use crate::users::InUse;
+use iol_core::numbers::FileId;
+use std::alloc::{AllocError, Global};
+use std::marker::Model;
+
+/// Parts of files, in the order in which they are evicted.
+///
+/// A contract sees L, the entries in the order of file and place, and the room: how many more may enter without memory.
+/// No call but `reserve` wants memory, and none walks the entries, but `least` those in use that go first, and `leave`
+/// once L is past 2^62.
+#[derive(Drop)]
+pub struct Order {
+    entries: Entries,
+    low: u64,
+}
+
+impl Model for Order {
+    ghost use Rattle.std.specs.Prelude.{◌≤◌};
+    ghost use Rattle.iol_evict.specs.Ranking.{Ranking};
+    ghost use Rattle.iol_evict.specs.declared.entry.TheConstants.{MAX_LOW};
+
+    ghost Value = { Ranking };
+
+    ghost view = { λ o.
+        record { low = o.low; entries = o.entries.entries; room = o.entries.room } };
+
+    ghost invariant = { λ o. o.low ≤ MAX_LOW };
+}
+
+// How far above L an entry begins.
+fn worth_of(size: u32, cost: u32) -> u64
+    requires { 0 < size }
+    ensures worth { result ≡ worth size cost }
+    ensures small { result < 2 ^ 56 }
+{
+    cost as u64 * 0x100_0000 / size as u64
+}
+
+impl Order {
+    /// An order without entries and room, and with L at 0.
+    pub fn new(alloc: Global) -> Order
+        ensures { result ≡ record { low = 0; entries = []; room = 0 } }
+    {
+        Order {
+            entries: Entries::new(alloc),
+            low: 0,
+        }
+    }
+
+    /// Makes room for so many entries more. Refused, it leaves the room that there was.
+    pub fn reserve(&mut self, count: usize) -> Result<(), AllocError>
+        ensures room { OnOk result (count ≤ self.new.room) }
+        ensures same { self.new ≡ record self.old { room = self.new.room } }
+        ensures no_less { self.old.room ≤ self.new.room }
+        ensures err { OnErr result (self.new.room ≡ self.old.room) }
+    {
+        self.entries.reserve(count)?;
+        Ok(())
+    }
+
+    /// Puts the part of a file that begins at `at` in, in room that was made for it.
+    pub fn enter(&mut self, file: FileId, at: u32, size: u32, cost: u32)
+        requires room { 0 < self.old.room }
+        requires absent { entry_at self.old.entries file at ≡ None }
+        requires sized { 0 < size }
+        ensures { self.new ≡ entered self.old file at size cost }
+    {
+        let height = self.low + worth_of(size, cost);
+        let entry = Entry {
+            file,
+            at,
+            size,
+            cost,
+            height,
+        };
+        self.entries.insert(entry);
+    }
+
+    /// Counts a use of an entry: it has the height that it would enter with.
+    pub fn hit(&mut self, file: FileId, at: u32)
+        requires { entry_at self.old.entries file at ≢ None }
+        ensures { self.new ≡ hit_at self.old file at }
+    {
+        let entry = self.entries.get(file, at);
+        let height = self.low + worth_of(entry.size, entry.cost);
+        self.entries.set_height(file, at, height);
+    }
+
+    /// Takes an entry out. Where it was evicted, L becomes the height that it had, and past 2^62 all heights are lowered.
+    pub fn leave(&mut self, file: FileId, at: u32, evicted: bool)
+        requires { entry_at self.old.entries file at ≢ None }
+        ensures left { evicted ≡ false → self.new ≡ left_at self.old file at }
+        ensures evicted { evicted ≡ true → self.new ≡ evicted_at self.old file at }
+    {
+        let entry = self.entries.remove(file, at);
+        if !evicted {
+            return;
+        }
+        if entry.height <= MAX_LOW {
+            self.low = entry.height;
+            return;
+        }
+        self.entries.lower(entry.height);
+        self.low = 0;
+    }
+
+    /// The file and place of the entry that goes first: of those not in use, or else of all, the least by height, file
+    /// and place.
+    pub fn least<U: InUse>(&self, users: &U) -> Option<(FileId, u32)>
+        requires { All (λ e. U.can_ask users.now e.file e.at) self.now.entries }
+        ensures { MatchOption result (self.now.entries ≡ []) (IsVictim (U.in_use users.now) self.now.entries) }
+    {
+        self.entries.least(users)
+    }
+
+    /// L: the height of the last entry that was evicted.
+    pub fn low(&self) -> u64
+        ensures low { result ≡ self.now.low }
+        ensures most { result ≤ MAX_LOW }
+    {
+        self.low
+    }
+
+    /// The height of an entry.
+    pub fn height(&self, file: FileId, at: u32) -> u64
+        requires { entry_at self.now.entries file at ≢ None }
+        ensures { result ≡ (entry_or self.now.entries file at).height }
+    {
+        self.entries.get(file, at).height
+    }
+}

@@ -1,0 +1,34 @@
+//! Comparing ranks.
+ghost use Rattle.std.specs.Prelude.{◌≡◌, true, false};
+ghost use Rattle.iol_evict.specs.Ranks.{rank_by, RankLt, RankLe};
+
+use crate::entry::{By, Entry, Rank};
+
+pub(crate) fn rank_of(by: By, entry: &Entry) -> Rank
+    ensures { result ≡ rank_by by entry.now }
+{
+    let height = match by {
+        By::Place => 0,
+        By::Height => entry.height,
+    };
+    Rank {
+        height,
+        file: entry.file,
+        at: entry.at,
+    }
+}
+
+pub(crate) fn comes_before(a: &Rank, b: &Rank) -> bool
+    ensures yes { result ≡ true → RankLt a.now b.now }
+    ensures no { result ≡ false → RankLe b.now a.now }
+{
+    if a.height != b.height {
+        return a.height < b.height;
+    }
+    let first = a.file.number();
+    let second = b.file.number();
+    if first != second {
+        return first < second;
+    }
+    a.at < b.at
+}
