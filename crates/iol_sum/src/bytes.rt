@@ -1,6 +1,7 @@
 //! The sum of bytes that lie in one piece.
 ghost use Rattle.std.specs.Prelude.{◌≡◌};
-ghost use Rattle.iol_core.specs.Checksum.{word_sum, folded};
+ghost use Rattle.iol_core.specs.Checksum.{folded};
+ghost use Rattle.iol_sum.specs.Pieces.{IsSumOf};
 
 // A number of 16 bits that is as much in ones' complement. 2^64 is one more than a multiple of 65535, so the halves add.
 fn fold(total: u128) -> u16
@@ -21,7 +22,7 @@ fn fold(total: u128) -> u16
 /// Eight bytes are read at a time, the first as the lowest. Each word then has its two bytes swapped, and so has the sum,
 /// which is swapped back in the end (RFC 1071, section 2 (B)).
 pub fn sum_of(bytes: &[u8]) -> u16
-    ensures { result ≡ folded (word_sum bytes.now) }
+    ensures { IsSumOf bytes.now result }
 {
     let (chunks, rest) = bytes.as_chunks::<8>();
     let mut total = 0u128;

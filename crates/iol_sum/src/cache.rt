@@ -1,9 +1,9 @@
 //! Sums of slices, remembered.
 ghost use Rattle.std.specs.Prelude.{◌≡◌, ◌<◌, [], IfOk, IfSome};
-ghost use Rattle.iol_core.specs.Checksum.{word_sum, folded};
 ghost use Rattle.iol_core.specs.Text as text;
 ghost use Rattle.iol_arena.specs.State.{State};
 ghost use Rattle.iol_hold.specs.Texts.{slice_bytes, text_of, IsReadable, AllReadable};
+ghost use Rattle.iol_sum.specs.Pieces.{IsSumOf};
 ghost use Rattle.iol_sum.specs.Sums.{key_of, sum_kept, IsRight, Uses, UsesEach};
 
 use crate::bytes::sum_of;
@@ -50,7 +50,7 @@ impl SumCache {
     pub fn sum(&mut self, store: &Store, slice: &Slice) -> u16
         requires readable { IsReadable store.now slice.now }
         requires right { IsRight store.now.arena self.old }
-        ensures value { result ≡ folded (word_sum (slice_bytes store.now slice.now)) }
+        ensures value { IsSumOf (slice_bytes store.now slice.now) result }
         ensures uses { Uses self.old (key_of slice.now) result self.new }
         ensures right { IsRight store.now.arena self.new }
     {
@@ -68,7 +68,7 @@ impl SumCache {
         requires readable { IsReadable store.now slice.now }
         requires right { IsRight store.now.arena self.now }
         ensures kept { result ≡ sum_kept self.now (key_of slice.now) }
-        ensures value { IfSome result (λ n. n ≡ folded (word_sum (slice_bytes store.now slice.now))) }
+        ensures value { IfSome result (IsSumOf (slice_bytes store.now slice.now)) }
     {
         // The store stands in the clauses alone: what is remembered is right of it.
         let _store = store;
@@ -80,7 +80,7 @@ impl SumCache {
     pub fn sum_all(&mut self, store: &Store, slices: &[Slice]) -> u16
         requires readable { AllReadable store.now slices.now }
         requires right { IsRight store.now.arena self.old }
-        ensures value { result ≡ folded (word_sum (text.bytes_of (text_of store.now slices.now))) }
+        ensures value { IsSumOf (text.bytes_of (text_of store.now slices.now)) result }
         ensures uses { UsesEach store.now self.old slices.now self.new }
         ensures right { IsRight store.now.arena self.new }
     {
