@@ -35,7 +35,7 @@ impl SumCache {
         requires { 0 < sums }
         ensures entries { IfOk result (λ c. c.entries ≡ []) }
         ensures limit { IfOk result (λ c. c.limit ≡ sums) }
-        ensures right { (s : State) → IfOk result (IsRight s) }
+        ensures right { IfOk result (λ c. (s : State) → IsRight s c) }
     {
         let limit = NonZeroUsize::new(sums as usize).unwrap();
         Ok(SumCache {
