@@ -16,6 +16,7 @@ use std::process::Abort;
 use std::test::Fail;
 
 const ABC: u16 = 0xc462;
+
 const ABD: u16 = 0xc562;
 
 // A store of one chunk, and a pool that has it.
@@ -73,13 +74,7 @@ fn sum_at<R: Abort>(rt: &R, sums: &mut SumCache, store: &Store, agg: &Agg, at: u
 }
 
 // What is remembered of the slice at that place.
-fn known_at<R: Abort>(
-    rt: &R,
-    sums: &SumCache,
-    store: &Store,
-    agg: &Agg,
-    at: usize,
-) -> Option<u16>
+fn known_at<R: Abort>(rt: &R, sums: &SumCache, store: &Store, agg: &Agg, at: usize) -> Option<u16>
     requires readable { AllReadable store.now agg.now }
     requires right { IsRight store.now.arena sums.now }
 {

@@ -1,6 +1,4 @@
 use Rattle.iol_agg.proofs.Holding.{moved_covers}
-use Rattle.iol_arena.specs.State.{State}
-use Rattle.iol_sum.specs.Sums.{IsRight}
 use Rattle.iol_sum.proofs.Keeping.{IsRight-keeps}
 use Rattle.iol_sum_tests.proofs.remembered.round.Goals as goal
 
