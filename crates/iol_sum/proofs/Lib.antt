@@ -1,3 +1,4 @@
+pub mod Examples
 pub mod Folding
 pub mod Joining
 pub mod Chunked
