@@ -3,7 +3,7 @@ ghost use Rattle.std.specs.Prelude.{◌≡◌};
 ghost use Rattle.iol_core.specs.Checksum.{folded};
 ghost use Rattle.iol_sum.specs.Pieces.{IsSumOf};
 
-// A number of 16 bits that is as much in ones' complement. 2^64 is one more than a multiple of 65535, so the halves add.
+// The number in 16 bits of ones' complement. 2^64 is one more than a multiple of 65535, so the halves add.
 fn fold(total: u128) -> u16
     ensures { result ≡ folded total }
 {
@@ -16,11 +16,11 @@ fn fold(total: u128) -> u16
     rest as u16
 }
 
-/// The folded sum of the bytes, as big-endian words of 16 bits. An odd last byte is the high byte of a word whose low byte
-/// is 0. Any number of bytes will do.
+/// The folded sum of the bytes, as big-endian words of 16 bits. An odd last byte is the high byte of a word whose
+/// low byte is 0. There may be any number of bytes.
 ///
-/// Eight bytes are read at a time, the first as the lowest. Each word then has its two bytes swapped, and so has the sum,
-/// which is swapped back in the end (RFC 1071, section 2 (B)).
+/// Eight bytes are read at a time, the first as the lowest. Each word then has its two bytes swapped, and so has the
+/// sum, which is swapped back in the end (RFC 1071, section 2 (B)).
 pub fn sum_of(bytes: &[u8]) -> u16
     ensures { IsSumOf bytes.now result }
 {

@@ -45,8 +45,8 @@ impl SumCache {
 
     /// The folded sum of the slice's bytes.
     ///
-    /// Its key comes first among those remembered. Where the key is new and the list is full, the last one goes. Where
-    /// memory is refused, the sum is answered all the same, and the list stays as it was.
+    /// Its key comes first among those remembered. Where the key is new and the list is full, the last one goes.
+    /// Where memory is refused, the sum is answered all the same, and the list stays as it was.
     pub fn sum(&mut self, store: &Store, slice: &Slice) -> u16
         requires readable { IsReadable store.now slice.now }
         requires right { IsRight store.now.arena self.old }

@@ -17,7 +17,8 @@ fn add(a: u16, b: u16) -> u16
 
 /// The folded sum of bytes, from that of a first piece and that of the rest.
 ///
-/// `at_odd` says that the rest begins at an odd place, counted from 0. Its sum is then added with the two bytes swapped.
+/// `at_odd` says that the rest begins at an odd place, counted from 0. Its sum is then added with its two bytes
+/// swapped (RFC 1071, section 2 (B)).
 pub fn combine(sum: u16, at_odd: bool, rest: u16) -> u16
     ensures value { result ≡ joined sum at_odd rest }
     ensures law { JoinsPieces sum at_odd rest result }
