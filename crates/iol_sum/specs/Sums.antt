@@ -1,0 +1,65 @@
+-- Sums that are remembered, the one that was used last first.
+use Rattle.std.specs.Prelude.{◌≡◌, ℕ, ◌+◌, ◌-◌, ◌<◌, ◌≤◌, ◌⊎◌, Bool, nat_eq, ◌&&◌, if◌then◌else◌, Option, None, is_some, List, [], ◌∷◌, length, take, slice_range}
+use Rattle.std.specs.List.{All, IsDistinct}
+use Rattle.std.specs.Map.{keys_of, lookup, remove_entry}
+use Rattle.iol_core.specs.Checksum.{word_sum, folded}
+use Rattle.iol_core.specs.declared.numbers.BufId.{BufId}
+use Rattle.iol_arena.specs.State.{State, generation_at}
+use Rattle.iol_arena.specs.Buffers.{IsLive, bytes_of}
+use Rattle.iol_hold.specs.Stored.{Stored}
+use Rattle.iol_hold.specs.Texts.{slice_bytes}
+use Rattle.iol_hold.specs.declared.slices.Slice.{Slice}
+use Rattle.iol_sum.specs.declared.keys.Key.{Key}
+
+-- the remembered sums with their keys, and how many there may be
+pub record Sums : Type 0 where
+  pub entries : List (Key × ℕ)
+  pub limit : ℕ
+
+-- the key of a slice
+abbrev pub key_of : Slice → Key
+key_of x = record { page = x.hold.buf.page; generation = x.hold.buf.generation; from = x.from; len = x.len }
+
+-- the buffer of a key
+abbrev pub buf_of : Key → BufId
+buf_of k = record { page = k.page; generation = k.generation }
+
+abbrev pub same : (a b : Key) → Bool
+same a b = nat_eq a.page b.page && (nat_eq a.generation b.generation && (nat_eq a.from b.from && nat_eq a.len b.len))
+
+-- what is remembered under a key
+abbrev pub sum_kept : Sums → Key → Option ℕ
+sum_kept c k = lookup (same k) c.entries
+
+-- the folded sum of the bytes that a key names
+abbrev pub sum_at : State → Key → ℕ
+sum_at s k = folded (word_sum (slice_range (bytes_of s (buf_of k)) k.from (k.from + k.len)))
+
+-- where the key's buffer is live, the sum is that of its bytes; and that buffer was published already
+pub record IsRightSum (s : State) (e : Key × ℕ) : Type 0 where
+  pub value : IsLive s (buf_of e.0) → e.1 ≡ sum_at s e.0
+  pub published : e.0.generation ≤ generation_at s e.0.page
+
+-- each remembered sum is right, each key is there once, and there are no more than may be
+pub record IsRight (s : State) (c : Sums) : Type 0 where
+  pub each : All (IsRightSum s) c.entries
+  pub distinct : IsDistinct same (keys_of c.entries)
+  pub fits : length c.entries ≤ c.limit
+  pub some : 0 < c.limit
+
+-- the entries that stay behind the one that is used: the others, or for a new key all but the last of a full list
+abbrev pub others : Sums → Key → List (Key × ℕ)
+others c k = if is_some (sum_kept c k) then remove_entry (same k) c.entries else take (c.limit - 1) c.entries
+
+-- the sum was used: its key comes first
+abbrev pub used : Sums → Key → (sum : ℕ) → Sums
+used c k n = record { entries = (k, n) ∷ others c k; limit = c.limit }
+
+-- the sum was used, or its key is new and memory was refused
+abbrev pub Uses : (old : Sums) → Key → (sum : ℕ) → (new : Sums) → Type 0
+Uses old k n new = (new ≡ used old k n) ⊎ ((new ≡ old) × (sum_kept old k ≡ None))
+
+-- the sums of the slices were used, in order
+unfoldable pub UsesEach : Stored → (old : Sums) → List Slice → (new : Sums) → Type 0
+UsesEach s old [] new = new ≡ old
+UsesEach s old (x ∷ xs) new = (mid : Sums) × Uses old (key_of x) (folded (word_sum (slice_bytes s x))) mid × UsesEach s mid xs new

@@ -1,0 +1,42 @@
+//! The sum of bytes that lie in one piece.
+ghost use Rattle.std.specs.Prelude.{◌≡◌};
+ghost use Rattle.iol_core.specs.Checksum.{folded};
+ghost use Rattle.iol_sum.specs.Pieces.{IsSumOf};
+
+// The number in 16 bits of ones' complement. 2^64 is one more than a multiple of 65535, so the halves add.
+fn fold(total: u128) -> u16
+    ensures { result ≡ folded total }
+{
+    let high = (total / 0x1_0000_0000_0000_0000) as u64;
+    let low = (total % 0x1_0000_0000_0000_0000) as u64;
+    let rest = (high % 65535 + low % 65535) % 65535;
+    if rest == 0 && total > 0 {
+        return 65535;
+    }
+    rest as u16
+}
+
+/// The folded sum of the bytes, as big-endian words of 16 bits. An odd last byte is the high byte of a word whose
+/// low byte is 0. There may be any number of bytes.
+///
+/// Eight bytes are read at a time, the first as the lowest. Each word then has its two bytes swapped, and so has the
+/// sum, which is swapped back in the end (RFC 1071, section 2 (B)).
+pub fn sum_of(bytes: &[u8]) -> u16
+    ensures { IsSumOf bytes.now result }
+{
+    let (chunks, rest) = bytes.as_chunks::<8>();
+    let mut total = 0u128;
+    for chunk in chunks {
+        total += u128::from(u64::from_le_bytes(*chunk));
+    }
+    let mut is_first = true;
+    for byte in rest {
+        total += if is_first {
+            u128::from(*byte)
+        } else {
+            u128::from(*byte) * 256
+        };
+        is_first = !is_first;
+    }
+    fold(total).swap_bytes()
+}

@@ -1,0 +1,7 @@
+//! Tests of `iol_sum`, in a crate of their own: a crate with tests is proved twice.
+#![tactic(auto)]
+
+#[cfg(test)]
+mod remembered;
+#[cfg(test)]
+mod values;

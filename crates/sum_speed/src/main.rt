@@ -1,0 +1,61 @@
+//! How fast sums are: `sum_speed bytes LEN ROUNDS` sums so many bytes so many times, `sum_speed remembered LEN ROUNDS` asks
+//! as often for the sum of an aggregate of them, which is remembered. Both print the sum. `bench/sums` measures them.
+#![tactic(auto)]
+
+mod rounds;
+
+use anyhow::{Context, bail};
+use iol_agg::Agg;
+use iol_core::configuration::Config;
+use iol_core::limits::MAX_AGGREGATE_BYTES;
+use iol_core::numbers::DomainId;
+use iol_hold::Store;
+use iol_pool::names::Names;
+use iol_sum::SumCache;
+use rounds::{sum_often, sum_remembered_often};
+use std::alloc::Global;
+use std::env;
+
+// Bytes of all values.
+fn text(alloc: Global, len: usize) -> anyhow::Result<Vec<u8>> {
+    let mut text = Vec::with_capacity(alloc, len)?;
+    for place in 0..len {
+        text.push((place % 251) as u8)?;
+    }
+    Ok(text)
+}
+
+// The sum of an aggregate of these bytes, asked for again and again.
+fn remembered(alloc: Global, text: &[u8], rounds: u64) -> anyhow::Result<u16> {
+    let config = Config {
+        chunks: 256,
+        gen_limit: 1,
+        sums: 1_024,
+    };
+    let mut store = Store::new(alloc, config)?;
+    let names = Names::of(&[DomainId::new(1)]).context("a domain")?;
+    let pool = store.create_pool(alloc, config.chunks, names)?;
+    if text.len() > MAX_AGGREGATE_BYTES || store.pools().is_closed(pool) {
+        bail!("too many bytes");
+    }
+    let agg = Agg::fill(alloc, &mut store, pool, text)?;
+    let mut sums = SumCache::new(alloc, config.sums)?;
+    Ok(sum_remembered_often(&mut sums, &store, &agg, rounds))
+}
+
+fn main(rt: HostRuntime) -> anyhow::Result<()> {
+    let alloc = rt.alloc();
+    let mut words = env::args(&rt)?;
+    let _program = words.next();
+    let what = words.next().context("bytes or remembered?")?;
+    let len: usize = words.next().context("how many bytes?")?.parse()?;
+    let rounds: u64 = words.next().context("how often?")?.parse()?;
+    let text = text(alloc, len)?;
+    let sum = match what.as_str() {
+        "bytes" => sum_often(&text, rounds),
+        "remembered" => remembered(alloc, &text, rounds)?,
+        _ => bail!("bytes or remembered?"),
+    };
+    println!(rt; "{sum:04x}")?;
+    Ok(())
+}
