@@ -2,7 +2,7 @@ use Rattle.std.proofs.Common.{◌≡◌, ◌*◌, replicate}
 use Rattle.iol_arena.specs.State.{no_entry}
 use Rattle.iol_hold.specs.Stored.{Stored}
 use Rattle.iol_agg.proofs.Holding.{of_ok, on_ok, held_none, held_on}
-use Rattle.flash_ample.proofs.windows.start.Goals as goal
+use Rattle.flash_tests.proofs.windows.start.Goals as goal
 
 pub returns : goal.returns
 returns g c =
