@@ -369,8 +369,8 @@ module _ (s t : State) (ps : List Pool) (x : Pool) (takes : TakesChunks s t x.ch
       owner c h is = elim (in_or_out x.chunks c) [
         | inl new ↦ (length ps + 1, subst (λ (y : Pool). Contains y.chunks c) (sym (pool_in-pushed ps x)) (contains_in x.chunks c new))
         | inr old ↦ (
-          let was : is_taken s c ≡ true = sym (taken_out s.taken x.chunks c old) ∙ ap (λ (l : List Bool). get_or l c true) (sym taken_is) ∙ is in
-          let w = o.owner c (omega (arith, h, takes.count)) was in
-          let before : w.0 ≡ length ps + 1 → ⊥ = λ e. nowhere ps c (subst (λ q. Contains (pool_in ps q).chunks c) e w.1) in
-          (w.0, subst (λ (y : Pool). Contains y.chunks c) (sym (pool_in-before ps x w.0 before)) w.1))
+            let was : is_taken s c ≡ true = sym (taken_out s.taken x.chunks c old) ∙ ap (λ (l : List Bool). get_or l c true) (sym taken_is) ∙ is in
+            let w = o.owner c (omega (arith, h, takes.count)) was in
+            let before : w.0 ≡ length ps + 1 → ⊥ = λ e. nowhere ps c (subst (λ q. Contains (pool_in ps q).chunks c) e w.1) in
+            (w.0, subst (λ (y : Pool). Contains y.chunks c) (sym (pool_in-before ps x w.0 before)) w.1))
       ]
