@@ -20,15 +20,15 @@ use Rattle.iol_arena.proofs.Members.{In, in_left, in_right, in_either, in_range,
 
 -- Pages for numbers of bytes.
 
-pages_split : (n c : ℕ) → c * 4096 ≤ n → pages_for n ≡ c + pages_for (n - c * 4096)
+pub pages_split : (n c : ℕ) → c * 4096 ≤ n → pages_for n ≡ c + pages_for (n - c * 4096)
 unfolding pages_for
 pages_split n c h = omega arith
 
-pages_whole : (c : ℕ) → pages_for (c * 4096) ≡ c
+pub pages_whole : (c : ℕ) → pages_for (c * 4096) ≡ c
 unfolding pages_for
 pages_whole c = omega arith
 
-pages_none : pages_for 0 ≡ 0
+pub pages_none : pages_for 0 ≡ 0
 unfolding pages_for
 pages_none = refl
 
