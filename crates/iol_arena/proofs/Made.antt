@@ -1,18 +1,18 @@
 -- Buffers made on parts that waited: which pages they lie on, and which go back.
-use Rattle.std.proofs.Common.{◌≡◌, true, false, ℕ, zero, suc, ◌+◌, ◌-◌, ◌*◌, ◌<◌, ◌≤◌, ◌⊎◌, inl, inr, List, [], ◌∷◌, ◌++◌, length, map, take, drop, min, refl, sym, ap, ◌∙◌, arith, subst, nat_lt, ◌&&◌}
+use Rattle.std.proofs.Common.{◌≡◌, true, ℕ, zero, suc, ◌+◌, ◌-◌, ◌*◌, ◌<◌, ◌≤◌, ◌⊎◌, inl, inr, List, [], ◌∷◌, ◌++◌, length, map, take, drop, min, refl, sym, ap, ◌∙◌, arith, subst}
 use Rattle.std.specs.List.{Contains, range_with_len}
 use Rattle.std.proofs.lemmas.Bool.{cases_lt, lt-ltb}
-use Rattle.iol_arena.specs.State.{State, entry_at, entry_in, generation_at, pages_for, marked, each_from, with_marked, kind_free, is_free}
+use Rattle.iol_arena.specs.State.{State, entry_at, entry_in, generation_at, pages_for, marked, each_from, with_marked, is_free}
 use Rattle.iol_arena.specs.Buffers.{len_of, kind_len}
 use Rattle.iol_arena.specs.Chunks.{IsRisingFrom, usable}
-use Rattle.iol_arena.specs.Parts.{IsAll, AreAll, IsNext, AreApart, published, published_part, published_entries, new_bufs, part_pages, abandoned}
-use Rattle.iol_arena.specs.Pages.{Raises, IsSameBut, AreUsable, MadeOn, begun_on}
+use Rattle.iol_arena.specs.Parts.{IsAll, AreAll, AreApart, published, published_part, published_entries, new_bufs, part_pages, abandoned}
+use Rattle.iol_arena.specs.Pages.{IsSameBut, AreUsable, MadeOn, begun_on}
 use Rattle.iol_arena.specs.declared.pages.PageKind.TheVariants.{Free, Pending, Head, Tail}
 use Rattle.iol_arena.specs.declared.pages.Entry.{Entry}
 use Rattle.iol_arena.specs.declared.pages.Part.{Part}
 use Rattle.iol_core.specs.declared.numbers.BufId.{BufId}
 use Rattle.iol_arena.proofs.Each.{order, length-each_from, each_before, each_after, each_there, generation-each_from}
-use Rattle.iol_arena.proofs.Marks.{pages_some, pages_fit, pages_hold, published_before, published_after, length-published_entries}
+use Rattle.iol_arena.proofs.Marks.{pages_some, pages_fit, published_before, published_after}
 use Rattle.iol_arena.proofs.Steps.{all_after_mark, all_after_publish, publish_step}
 use Rattle.std.proofs.lemmas.List.{take_all}
 use Rattle.iol_arena.proofs.Keeps.{published_first}

@@ -1,18 +1,17 @@
 -- Pools that keep no chunks in which nothing lies.
-use Rattle.std.proofs.Common.{◌≡◌, true, false, inl, inr, ℕ, ◌+◌, ◌*◌, ◌/◌, ◌<◌, ◌≤◌, Bool, List, [], ◌∷◌, ◌++◌, length, take, refl, sym, ap, ◌∙◌, arith, subst}
+use Rattle.std.proofs.Common.{◌≡◌, true, false, inl, inr, ℕ, ◌+◌, ◌*◌, ◌/◌, Bool, List, [], ◌∷◌, ◌++◌, length, take, refl, sym, ap, ◌∙◌, arith, subst}
 use Rattle.std.specs.Prelude.{◌&&◌}
-use Rattle.std.specs.List.{Contains, filter, flat_map, list_all}
+use Rattle.std.specs.List.{Contains, flat_map, list_all}
 use Rattle.std.proofs.lemmas.Bool.{cases_eq}
-use Rattle.iol_core.specs.Numbered.{is_numbered}
 use Rattle.iol_core.specs.declared.numbers.BufId.{BufId}
-use Rattle.iol_arena.specs.State.{State, HasRuns, entry_at, entry_in, kind_free, pages_for}
+use Rattle.iol_arena.specs.State.{State, HasRuns, entry_at, entry_in, kind_free}
 use Rattle.iol_arena.specs.Buffers.{IsLive, kind_len, with_freed}
 use Rattle.iol_arena.specs.Chunks.{is_unused, chunk_pages, usable, free_pages}
 use Rattle.iol_arena.specs.Pages.{IsSameBut}
 use Rattle.iol_arena.specs.declared.pages.Entry.{Entry}
 use Rattle.iol_arena.proofs.Members.{In, range_in, in_or_out, in_passes, in_take, contains_in, in_contains}
 use Rattle.iol_arena.proofs.Good.{and_left}
-use Rattle.iol_pool.specs.Pools.{Pool, no_pool, pool_in, goes_back, settled, settled_arena, with_closed}
+use Rattle.iol_pool.specs.Pools.{Pool, pool_in, settled, settled_arena, with_closed}
 use Rattle.iol_pool.specs.Owned.{AreOwned}
 use Rattle.iol_pool.proofs.Owning.{pool_in-settled, pool_in-closed, pool_in-none, pool_in-pushed, pool_in-before}
 use Rattle.iol_hold.specs.Stored.{Stored, IsHome, IsSettled, AllSettled, AllSettledBut, with_arena}

@@ -1,17 +1,17 @@
 -- Pages after releases.
-use Rattle.std.proofs.Common.{inl, inr, ◌≡◌, ◌⊎◌, true, false, cond, ℕ, ◌+◌, ◌<◌, ◌≤◌, List, [], ◌∷◌, length, get_or, refl, sym, ap, ◌∙◌, arith, subst, ◌&&◌, Option, Some, None}
+use Rattle.std.proofs.Common.{inl, inr, ◌≡◌, ◌⊎◌, true, false, cond, ℕ, ◌+◌, ◌<◌, ◌≤◌, List, [], length, get_or, refl, sym, ap, ◌∙◌, arith, subst, ◌&&◌, Some, None}
 use Rattle.std.proofs.lemmas.Bool.{cases_eq}
 use Rattle.iol_core.specs.declared.numbers.BufId.{BufId}
 use Rattle.iol_arena.specs.State.{State, HasRuns, entry_at, entry_in, generation_at, pages_for, marked, kind_head}
 use Rattle.iol_arena.specs.Buffers.{IsLive, kind_len, with_freed}
 use Rattle.iol_arena.specs.declared.pages.Entry.{Entry}
 use Rattle.iol_arena.specs.declared.pages.PageKind as kind
-use Rattle.iol_arena.specs.declared.pages.PageKind.TheVariants.{Free, Head, Tail}
+use Rattle.iol_arena.specs.declared.pages.PageKind.TheVariants.{Free, Head}
 use Rattle.iol_arena.proofs.Keeps.{freed_head}
 use Rattle.iol_arena.proofs.Marks.{pages_some}
 use Rattle.iol_arena.proofs.Each.{order, each_before, each_after, each_there}
 use Rattle.iol_hold.specs.Stored.{Stored, count_of, with_arena}
-use Rattle.iol_hold.specs.Moves.{tally, Counts}
+use Rattle.iol_hold.specs.Moves.{Counts}
 use Rattle.iol_pool.specs.Pools.{Pool, pool_in, goes_back, with_returned, settled, settled_arena}
 use Rattle.iol_pool.proofs.Owning.{settled-no, pool_in-settled}
 use Rattle.std.specs.List.{list_all}
