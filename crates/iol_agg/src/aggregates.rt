@@ -98,13 +98,8 @@ impl Agg {
         ensures late { IfErr result (WantOfRoom pool) }
         ensures err { OnErr result (store.new ≡ store.old) }
     {
-        let Ok(slices) = Vec::with_capacity(alloc, bytes.len().div_ceil(PAGE_BYTES)) else {
-            return Err(Refusal::Memory);
-        };
-        let holds = match store.fill(alloc, pool, bytes) {
-            Ok(holds) => holds,
-            Err(refusal) => return Err(refusal),
-        };
+        let slices = Vec::with_capacity(alloc, bytes.len().div_ceil(PAGE_BYTES))?;
+        let holds = store.fill(alloc, pool, bytes)?;
         Ok(Agg::of_holds(slices, store, holds))
     }
 

@@ -1,18 +1,17 @@
 -- The free pages of each chunk, counted.
-use Rattle.std.proofs.Common.{◌-◌, ◌≡◌, ◌≢◌, false, true, Bool, ℕ, zero, suc, ◌+◌, ◌*◌, ◌/◌, ◌<◌, ◌≤◌, ◌⊎◌, inl, inr, List, [], ◌∷◌, length, get_or, set, take, drop, ◌++◌, refl, sym, ap, ◌∙◌, arith, subst, flat_map, cond, replicate, length-set}
+use Rattle.std.proofs.Common.{◌≡◌, false, true, Bool, ℕ, zero, suc, ◌+◌, ◌*◌, ◌/◌, ◌<◌, ◌≤◌, ◌⊎◌, inl, inr, List, [], ◌∷◌, length, get_or, set, take, drop, refl, sym, ap, ◌∙◌, arith, subst, flat_map, cond, replicate, length-set}
 use Rattle.std.specs.List.{filter, range_with_len}
 use Rattle.std.proofs.lemmas.Bool.{cases_eq, lt-ltb}
-use Rattle.std.proofs.lemmas.List.{get_or-set_same, get_or-set_other, length-drop, length-replicate, take_all, take-append-drop}
+use Rattle.std.proofs.lemmas.List.{get_or-set_same, get_or-set_other, length-replicate, take_all, take-append-drop}
 use Rattle.std.proofs.lemmas.List.Elements.{filter-append}
 use Rattle.std.proofs.lemmas.Grind.{flat_map-append}
 use Rattle.iol_arena.specs.State.{State, HasRuns, IsSound, entry_in, no_entry, is_free, kind_head}
 use Rattle.iol_arena.specs.View.{AreCounted, one}
-use Rattle.iol_arena.specs.Chunks.{AreChunks, chunk_pages, usable, free_pages}
+use Rattle.iol_arena.specs.Chunks.{chunk_pages, usable, free_pages}
 use Rattle.iol_arena.specs.declared.pages.Entry.{Entry}
 use Rattle.iol_arena.proofs.Each.{order}
-use Rattle.iol_arena.proofs.Good.{bool_cases}
 use Rattle.iol_arena.proofs.Scan.{take_full}
-use Rattle.iol_arena.proofs.Members.{In, filter_same, range_in}
+use Rattle.iol_arena.proofs.Members.{filter_same, range_in}
 
 -- one element more
 length-filter-cons : (f : ℕ → Bool) (x : ℕ) (xs : List ℕ) → length (filter f (x ∷ xs)) ≡ one (f x) + length (filter f xs)

@@ -1,18 +1,18 @@
 -- Buffers made on parts that waited: which pages they lie on, and which go back.
-use Rattle.std.proofs.Common.{◌≡◌, true, false, ℕ, zero, suc, ◌+◌, ◌-◌, ◌*◌, ◌<◌, ◌≤◌, ◌⊎◌, inl, inr, List, [], ◌∷◌, ◌++◌, length, map, take, drop, min, refl, sym, ap, ◌∙◌, arith, subst, nat_lt, ◌&&◌}
+use Rattle.std.proofs.Common.{◌≡◌, true, ℕ, zero, suc, ◌+◌, ◌-◌, ◌*◌, ◌<◌, ◌≤◌, ◌⊎◌, inl, inr, List, [], ◌∷◌, ◌++◌, length, map, take, drop, min, refl, sym, ap, ◌∙◌, arith, subst}
 use Rattle.std.specs.List.{Contains, range_with_len}
 use Rattle.std.proofs.lemmas.Bool.{cases_lt, lt-ltb}
-use Rattle.iol_arena.specs.State.{State, entry_at, entry_in, generation_at, pages_for, marked, each_from, with_marked, kind_free, is_free}
+use Rattle.iol_arena.specs.State.{State, entry_at, entry_in, generation_at, pages_for, marked, each_from, with_marked, is_free}
 use Rattle.iol_arena.specs.Buffers.{len_of, kind_len}
 use Rattle.iol_arena.specs.Chunks.{IsRisingFrom, usable}
-use Rattle.iol_arena.specs.Parts.{IsAll, AreAll, IsNext, AreApart, published, published_part, published_entries, new_bufs, part_pages, abandoned}
-use Rattle.iol_arena.specs.Pages.{Raises, IsSameBut, AreUsable, MadeOn, begun_on}
+use Rattle.iol_arena.specs.Parts.{IsAll, AreAll, AreApart, published, published_part, published_entries, new_bufs, part_pages, abandoned}
+use Rattle.iol_arena.specs.Pages.{IsSameBut, AreUsable, MadeOn, begun_on}
 use Rattle.iol_arena.specs.declared.pages.PageKind.TheVariants.{Free, Pending, Head, Tail}
 use Rattle.iol_arena.specs.declared.pages.Entry.{Entry}
 use Rattle.iol_arena.specs.declared.pages.Part.{Part}
 use Rattle.iol_core.specs.declared.numbers.BufId.{BufId}
 use Rattle.iol_arena.proofs.Each.{order, length-each_from, each_before, each_after, each_there, generation-each_from}
-use Rattle.iol_arena.proofs.Marks.{pages_some, pages_fit, pages_hold, published_before, published_after, length-published_entries}
+use Rattle.iol_arena.proofs.Marks.{pages_some, pages_fit, published_before, published_after}
 use Rattle.iol_arena.proofs.Steps.{all_after_mark, all_after_publish, publish_step}
 use Rattle.std.proofs.lemmas.List.{take_all}
 use Rattle.iol_arena.proofs.Keeps.{published_first}
@@ -20,15 +20,15 @@ use Rattle.iol_arena.proofs.Members.{In, in_left, in_right, in_either, in_range,
 
 -- Pages for numbers of bytes.
 
-pages_split : (n c : ℕ) → c * 4096 ≤ n → pages_for n ≡ c + pages_for (n - c * 4096)
+pub pages_split : (n c : ℕ) → c * 4096 ≤ n → pages_for n ≡ c + pages_for (n - c * 4096)
 unfolding pages_for
 pages_split n c h = omega arith
 
-pages_whole : (c : ℕ) → pages_for (c * 4096) ≡ c
+pub pages_whole : (c : ℕ) → pages_for (c * 4096) ≡ c
 unfolding pages_for
 pages_whole c = omega arith
 
-pages_none : pages_for 0 ≡ 0
+pub pages_none : pages_for 0 ≡ 0
 unfolding pages_for
 pages_none = refl
 

@@ -1,18 +1,17 @@
 -- Pools that keep no chunks in which nothing lies.
-use Rattle.std.proofs.Common.{◌≡◌, true, false, inl, inr, ℕ, ◌+◌, ◌*◌, ◌/◌, ◌<◌, ◌≤◌, Bool, List, [], ◌∷◌, ◌++◌, length, take, refl, sym, ap, ◌∙◌, arith, subst}
+use Rattle.std.proofs.Common.{◌≡◌, true, false, inl, inr, ℕ, ◌+◌, ◌*◌, ◌/◌, Bool, List, [], ◌∷◌, ◌++◌, length, take, refl, sym, ap, ◌∙◌, arith, subst}
 use Rattle.std.specs.Prelude.{◌&&◌}
-use Rattle.std.specs.List.{Contains, filter, flat_map, list_all}
+use Rattle.std.specs.List.{Contains, flat_map, list_all}
 use Rattle.std.proofs.lemmas.Bool.{cases_eq}
-use Rattle.iol_core.specs.Numbered.{is_numbered}
 use Rattle.iol_core.specs.declared.numbers.BufId.{BufId}
-use Rattle.iol_arena.specs.State.{State, HasRuns, entry_at, entry_in, kind_free, pages_for}
+use Rattle.iol_arena.specs.State.{State, HasRuns, entry_at, entry_in, kind_free}
 use Rattle.iol_arena.specs.Buffers.{IsLive, kind_len, with_freed}
 use Rattle.iol_arena.specs.Chunks.{is_unused, chunk_pages, usable, free_pages}
 use Rattle.iol_arena.specs.Pages.{IsSameBut}
 use Rattle.iol_arena.specs.declared.pages.Entry.{Entry}
 use Rattle.iol_arena.proofs.Members.{In, range_in, in_or_out, in_passes, in_take, contains_in, in_contains}
 use Rattle.iol_arena.proofs.Good.{and_left}
-use Rattle.iol_pool.specs.Pools.{Pool, no_pool, pool_in, goes_back, settled, settled_arena, with_closed}
+use Rattle.iol_pool.specs.Pools.{Pool, pool_in, settled, settled_arena, with_closed}
 use Rattle.iol_pool.specs.Owned.{AreOwned}
 use Rattle.iol_pool.proofs.Owning.{pool_in-settled, pool_in-closed, pool_in-none, pool_in-pushed, pool_in-before}
 use Rattle.iol_hold.specs.Stored.{Stored, IsHome, IsSettled, AllSettled, AllSettledBut, with_arena}
@@ -65,9 +64,9 @@ settled_freed s b pool runs owned live home all = record {
   each = λ p ne. settled_of s (with_arena s (with_freed s.arena b.page)) p refl (λ q here free. elim (page_after s.arena b.page runs live.head q) [
     | inl same ↦ sym (ap (λ (e : Entry). kind_free e.kind) same) ∙ free
     | inr gone ↦ (
-      let run = runs.each b.page (kind_len (entry_at s.arena b.page).kind) live.head in
-      let at : q / 16 ≡ b.page / 16 = omega (arith, gone.0, gone.1, run.chunk) in
-      absurd (ne (owned.single p pool (q / 16) here (subst (λ c. Contains (pool_in s.pools pool).chunks c) (sym at) home))))
+        let run = runs.each b.page (kind_len (entry_at s.arena b.page).kind) live.head in
+        let at : q / 16 ≡ b.page / 16 = omega (arith, gone.0, gone.1, run.chunk) in
+        absurd (ne (owned.single p pool (q / 16) here (subst (λ c. Contains (pool_in s.pools pool).chunks c) (sym at) home))))
   ]) (all.each p);
 }
 
@@ -77,8 +76,8 @@ settled_then s t p arena pools own others = record {
   each = λ q. elim (cases_eq q p) [
     | inl e ↦ subst (λ r. IsSettled t r) (sym e) own
     | inr ne ↦ (
-      let entries : t.arena.entries ≡ s.arena.entries = ap (λ (a : State). a.entries) arena ∙ settled_entries s.arena s.pools p in
-      settled_of s t q (ap (λ (ps : List Pool). pool_in ps q) pools ∙ pool_in-settled s.arena s.pools p q ne) (λ r here free. sym (ap (λ (es : List Entry). kind_free (entry_in es r).kind) entries) ∙ free) (others.each q ne))
+        let entries : t.arena.entries ≡ s.arena.entries = ap (λ (a : State). a.entries) arena ∙ settled_entries s.arena s.pools p in
+        settled_of s t q (ap (λ (ps : List Pool). pool_in ps q) pools ∙ pool_in-settled s.arena s.pools p q ne) (λ r here free. sym (ap (λ (es : List Entry). kind_free (entry_in es r).kind) entries) ∙ free) (others.each q ne))
   ];
 }
 
@@ -97,10 +96,10 @@ pub settled_added : (s t : Stored) (x : Pool) → x.closed ≡ false → t.pools
 settled_added s t x is pools entries all = record {
   each = λ p. elim (cases_eq p (length s.pools + 1)) [
     | inl e ↦ λ back. (
-      let new : pool_in t.pools p ≡ x = ap (λ (ps : List Pool). pool_in ps p) pools ∙ ap (λ q. pool_in (s.pools ++ x ∷ []) q) e ∙ pool_in-pushed s.pools x in
-      let shut = first_of (pool_in t.pools p).closed _ back in
-      let no : true ≡ false = sym shut ∙ ap (λ (y : Pool). y.closed) new ∙ is in
-      absurd (cc no))
+        let new : pool_in t.pools p ≡ x = ap (λ (ps : List Pool). pool_in ps p) pools ∙ ap (λ q. pool_in (s.pools ++ x ∷ []) q) e ∙ pool_in-pushed s.pools x in
+        let shut = first_of (pool_in t.pools p).closed _ back in
+        let no : true ≡ false = sym shut ∙ ap (λ (y : Pool). y.closed) new ∙ is in
+        absurd (cc no))
     | inr ne ↦ settled_of s t p (ap (λ (ps : List Pool). pool_in ps p) pools ∙ pool_in-before s.pools x p ne)
         (λ q here free. sym (ap (λ (es : List Entry). kind_free (entry_in es q).kind) entries) ∙ free) (all.each p)
   ];

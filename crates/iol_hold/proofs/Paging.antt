@@ -1,5 +1,5 @@
 -- What becomes of pages: where nothing changes, after releases, after a placing, and one step after another.
-use Rattle.std.proofs.Common.{◌≡◌, ◌⊎◌, inl, inr, false, ℕ, ◌-◌, Bool, List, [], ◌∷◌, get_or, map, ap, sym, ◌∙◌, length, refl, arith, zero, suc}
+use Rattle.std.proofs.Common.{◌≡◌, inl, inr, false, ℕ, ◌-◌, List, [], ◌∷◌, get_or, map, ap, sym, ◌∙◌, length, refl, arith, zero, suc}
 use Rattle.std.specs.List.{Contains}
 use Rattle.std.proofs.lemmas.Bool.{cases_eq}
 use Rattle.std.proofs.lemmas.Bool.Decides.{nat_tests}
@@ -7,9 +7,8 @@ use Rattle.iol_core.specs.State as machine
 use Rattle.iol_core.specs.declared.numbers.BufId.{BufId}
 use Rattle.iol_arena.specs.State.{State, entry_at, entry_in, generation_at, page_count}
 use Rattle.iol_arena.specs.Buffers.{Grows}
-use Rattle.iol_arena.specs.Pages.{IsSameBut, MadeOn, Raises}
+use Rattle.iol_arena.specs.Pages.{IsSameBut, MadeOn}
 use Rattle.iol_arena.specs.declared.pages.Entry.{Entry}
-use Rattle.iol_arena.specs.declared.pages.PageKind.TheVariants.{Free}
 use Rattle.iol_arena.proofs.Members.{in_contains}
 use Rattle.iol_pool.specs.Pools.{Pool, no_pool, pool_in}
 use Rattle.iol_hold.specs.Stored.{Stored}

@@ -1,17 +1,17 @@
 -- Pages after releases.
-use Rattle.std.proofs.Common.{inl, inr, ◌≡◌, ◌⊎◌, true, false, cond, ℕ, ◌+◌, ◌<◌, ◌≤◌, List, [], ◌∷◌, length, get_or, refl, sym, ap, ◌∙◌, arith, subst, ◌&&◌, Option, Some, None}
+use Rattle.std.proofs.Common.{inl, inr, ◌≡◌, ◌⊎◌, true, false, cond, ℕ, ◌+◌, ◌<◌, ◌≤◌, List, [], length, get_or, refl, sym, ap, ◌∙◌, arith, subst, ◌&&◌, Some, None}
 use Rattle.std.proofs.lemmas.Bool.{cases_eq}
 use Rattle.iol_core.specs.declared.numbers.BufId.{BufId}
 use Rattle.iol_arena.specs.State.{State, HasRuns, entry_at, entry_in, generation_at, pages_for, marked, kind_head}
 use Rattle.iol_arena.specs.Buffers.{IsLive, kind_len, with_freed}
 use Rattle.iol_arena.specs.declared.pages.Entry.{Entry}
 use Rattle.iol_arena.specs.declared.pages.PageKind as kind
-use Rattle.iol_arena.specs.declared.pages.PageKind.TheVariants.{Free, Head, Tail}
+use Rattle.iol_arena.specs.declared.pages.PageKind.TheVariants.{Free, Head}
 use Rattle.iol_arena.proofs.Keeps.{freed_head}
 use Rattle.iol_arena.proofs.Marks.{pages_some}
 use Rattle.iol_arena.proofs.Each.{order, each_before, each_after, each_there}
 use Rattle.iol_hold.specs.Stored.{Stored, count_of, with_arena}
-use Rattle.iol_hold.specs.Moves.{tally, Counts}
+use Rattle.iol_hold.specs.Moves.{Counts}
 use Rattle.iol_pool.specs.Pools.{Pool, pool_in, goes_back, with_returned, settled, settled_arena}
 use Rattle.iol_pool.proofs.Owning.{settled-no, pool_in-settled}
 use Rattle.std.specs.List.{list_all}
@@ -23,8 +23,8 @@ use Rattle.iol_hold.proofs.Freeing.{length-with_freed}
 none_first : (k : kind.PageKind) (q p : ℕ) → k ≡ Free → first_page k q ≡ Some p → ⊥
 none_first k q p free some = absurd_of (sym (ap (λ (x : kind.PageKind). first_page x q) free) ∙ some)
   where
-  absurd_of : None ≡ Some p → ⊥
-  absurd_of e = cc
+    absurd_of : None ≡ Some p → ⊥
+    absurd_of e = cc
 
 -- where no entry changed
 pub frees_none : (s t : Stored) → t.arena.entries ≡ s.arena.entries → t.arena.limit ≡ s.arena.limit → ((p : ℕ) → (pool_in s.pools p).closed ≡ false → pool_in t.pools p ≡ pool_in s.pools p) → FreesOnly s t
@@ -51,9 +51,9 @@ frees_trans {a = a} {b = b} {c = c} {xs = xs} m n counts = record {
   ];
   freed = λ q p free some. elim (m.each q) [
     | inl was ↦ (
-      let there = ap (λ (k : kind.PageKind). first_page k q) was ∙ some in
-      let buf : buf_at b.arena p ≡ buf_at a.arena p = λ i. (let x : BufId = record { page = p; generation = m.raised p i } in x) in
-      ap (count_of c) (sym buf) ∙ n.freed q p free there)
+        let there = ap (λ (k : kind.PageKind). first_page k q) was ∙ some in
+        let buf : buf_at b.arena p ≡ buf_at a.arena p = λ i. (let x : BufId = record { page = p; generation = m.raised p i } in x) in
+        ap (count_of c) (sym buf) ∙ n.freed q p free there)
     | inr gone ↦ (let z = m.freed q p gone some in omega (arith, z, counts.each (buf_at a.arena p), tally_none (buf_at a.arena p)))
   ];
 }
@@ -80,12 +80,12 @@ module _ (s : State) (p : ℕ) (runs : HasRuns s.entries) (head : (entry_at s p)
   first_of : (q r : ℕ) → p ≤ q → q < p + count → first_page (entry_at s q).kind q ≡ Some r → r ≡ p
   first_of q r lo hi some = elim (cases_eq q p) [
     | inl e ↦ (
-      let is : first_page (entry_at s q).kind q ≡ Some p = ap (λ n. first_page (entry_at s n).kind n) e ∙ ap (λ (k : kind.PageKind). first_page k p) head in
-      cc)
+        let is : first_page (entry_at s q).kind q ≡ Some p = ap (λ n. first_page (entry_at s n).kind n) e ∙ ap (λ (k : kind.PageKind). first_page k p) head in
+        cc)
     | inr ne ↦ (
-      let tail = (runs.each p (kind_len (entry_at s p).kind) head).tails q (omega (arith, lo, ne)) hi in
-      let is : first_page (entry_at s q).kind q ≡ Some p = ap (λ (k : kind.PageKind). first_page k q) tail in
-      cc)
+        let tail = (runs.each p (kind_len (entry_at s p).kind) head).tails q (omega (arith, lo, ne)) hi in
+        let is : first_page (entry_at s q).kind q ≡ Some p = ap (λ (k : kind.PageKind). first_page k q) tail in
+        cc)
   ]
 
 -- one buffer freed, whole
@@ -107,8 +107,8 @@ frees_one s b runs after live = record {
   freed = λ q p free some. elim (page_after s.arena b.page runs live.head q) [
     | inl e ↦ absurd (none_first (entry_at s.arena q).kind q p (sym (ap (λ (x : Entry). x.kind) e) ∙ free) some)
     | inr e ↦ (
-      let at : p ≡ b.page = first_of s.arena b.page runs live.head q p e.0 e.1 some in
-      no_head (entry_at (with_freed s.arena b.page) p) (get_or s.counts p 0) (generation_at s.arena p) (ap (λ n. kind_head (entry_at (with_freed s.arena b.page) n).kind) at ∙ first_free s.arena b.page runs live.head))
+        let at : p ≡ b.page = first_of s.arena b.page runs live.head q p e.0 e.1 some in
+        no_head (entry_at (with_freed s.arena b.page) p) (get_or s.counts p 0) (generation_at s.arena p) (ap (λ n. kind_head (entry_at (with_freed s.arena b.page) n).kind) at ∙ first_free s.arena b.page runs live.head))
   ];
 }
 
@@ -124,8 +124,8 @@ settled_limit s ps p = elim (goes_back s ps p) as (λ b. ◌≡◌ {A = ℕ} (co
 pub open_settled : (s : State) (ps : List Pool) (p q : ℕ) → (pool_in ps q).closed ≡ false → pool_in (settled s ps p) q ≡ pool_in ps q
 open_settled s ps p q is = elim (cases_eq q p) [
   | inl e ↦ (
-    let shut : (pool_in ps p).closed ≡ false = ap (λ n. (pool_in ps n).closed) (sym e) ∙ is in
-    let stays : goes_back s ps p ≡ false = ap (λ b. b && list_all (is_unused s) (pool_in ps p).chunks) shut in
-    ap (λ (xs : List Pool). pool_in xs q) (settled-no s ps p stays))
+      let shut : (pool_in ps p).closed ≡ false = ap (λ n. (pool_in ps n).closed) (sym e) ∙ is in
+      let stays : goes_back s ps p ≡ false = ap (λ b. b && list_all (is_unused s) (pool_in ps p).chunks) shut in
+      ap (λ (xs : List Pool). pool_in xs q) (settled-no s ps p stays))
   | inr ne ↦ pool_in-settled s ps p q ne
 ]

@@ -52,14 +52,9 @@ impl Store {
         ensures tidy { IfOk result IsTidy }
         ensures settled { IfOk result AllSettled }
     {
-        let arena = match Arena::new(alloc, config) {
-            Ok(arena) => arena,
-            Err(refusal) => return Err(refusal),
-        };
+        let arena = Arena::new(alloc, config)?;
         let pages = config.chunks as usize * CHUNK_PAGES;
-        let Ok(counts) = vec![in alloc; 0u64; pages] else {
-            return Err(Refusal::Memory);
-        };
+        let counts = vec![in alloc; 0u64; pages]?;
         Ok(Store {
             arena,
             pools: Pools::new(alloc),

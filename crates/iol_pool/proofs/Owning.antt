@@ -1,7 +1,7 @@
 -- Pools by number, and whose each chunk is.
 use Rattle.std.proofs.Common.{◌≡◌, ◌⊎◌, inl, inr, ℕ, zero, suc, ◌+◌, ◌-◌, ◌<◌, ◌≤◌, Bool, true, false, not, List, [], ◌∷◌, ◌++◌, length, get_or, set, map, refl, sym, ap, ◌∙◌, subst, arith, length-set, length-append}
 use Rattle.std.specs.Prelude.{nat_lt, nat_le, ◌&&◌}
-use Rattle.std.specs.List.{All, Contains, filter, range_with_len}
+use Rattle.std.specs.List.{All, Contains, range_with_len}
 use Rattle.std.proofs.Math.Seq.{get_or-append_seam, map-set_same}
 use Rattle.std.proofs.lemmas.List.{get_or-set_other, get_or-set_same, get_or_append_left, get_or_past}
 use Rattle.std.proofs.lemmas.List.Elements.{Contains-get_or}
@@ -369,8 +369,8 @@ module _ (s t : State) (ps : List Pool) (x : Pool) (takes : TakesChunks s t x.ch
       owner c h is = elim (in_or_out x.chunks c) [
         | inl new ↦ (length ps + 1, subst (λ (y : Pool). Contains y.chunks c) (sym (pool_in-pushed ps x)) (contains_in x.chunks c new))
         | inr old ↦ (
-          let was : is_taken s c ≡ true = sym (taken_out s.taken x.chunks c old) ∙ ap (λ (l : List Bool). get_or l c true) (sym taken_is) ∙ is in
-          let w = o.owner c (omega (arith, h, takes.count)) was in
-          let before : w.0 ≡ length ps + 1 → ⊥ = λ e. nowhere ps c (subst (λ q. Contains (pool_in ps q).chunks c) e w.1) in
-          (w.0, subst (λ (y : Pool). Contains y.chunks c) (sym (pool_in-before ps x w.0 before)) w.1))
+            let was : is_taken s c ≡ true = sym (taken_out s.taken x.chunks c old) ∙ ap (λ (l : List Bool). get_or l c true) (sym taken_is) ∙ is in
+            let w = o.owner c (omega (arith, h, takes.count)) was in
+            let before : w.0 ≡ length ps + 1 → ⊥ = λ e. nowhere ps c (subst (λ q. Contains (pool_in ps q).chunks c) e w.1) in
+            (w.0, subst (λ (y : Pool). Contains y.chunks c) (sym (pool_in-before ps x w.0 before)) w.1))
       ]

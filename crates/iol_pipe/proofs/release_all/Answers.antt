@@ -1,9 +1,8 @@
-use Rattle.std.proofs.Common.{◌≡◌, refl, ◌++◌, ◌∷◌, [], ap, ◌∙◌, subst, List}
+use Rattle.std.proofs.Common.{◌∙◌, subst}
 use Rattle.iol_hold.specs.Moves.{Moves}
 use Rattle.iol_hold.specs.Texts.{bufs_of, AllReadable}
-use Rattle.iol_hold.specs.declared.slices.Slice.{Slice}
 use Rattle.iol_hold.proofs.Reading.{bufs_of-push, home_stays, readable_last}
-use Rattle.iol_hold.proofs.Releasing.{frees_trans, frees_none}
+use Rattle.iol_hold.proofs.Releasing.{frees_trans}
 use Rattle.iol_hold.proofs.Moving.{moves_less, last_held}
 use Rattle.iol_pipe.proofs.release_all.Goals as goal
 

@@ -1,4 +1,4 @@
-use Rattle.std.proofs.Common.{length, arith, sym, ap, ◌∙◌}
+use Rattle.std.proofs.Common.{length, arith, ap}
 use Rattle.iol_hold.proofs.Reading.{length-text_of}
 use Rattle.iol_agg.proofs.aggregates.Agg.of_holds.Goals as goal
 

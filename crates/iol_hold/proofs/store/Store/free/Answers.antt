@@ -7,7 +7,6 @@ use Rattle.iol_hold.proofs.Emptied.{settled_freed}
 use Rattle.iol_hold.specs.Moves.{Moves}
 use Rattle.iol_hold.specs.View.{stored}
 use Rattle.iol_hold.proofs.Counting.{live_of}
-use Rattle.iol_pool.proofs.Owning.{owned_stays}
 use Rattle.iol_hold.proofs.Freeing.{freed_moves, freed_tidy, length-with_freed}
 use Rattle.iol_hold.specs.Releases.{FreesOnly}
 use Rattle.iol_hold.proofs.Releasing.{frees_one}

@@ -50,7 +50,7 @@ returns-clause-frees c =
     let s : Stored = stored c.self.inside in
     let t = with_both s c.settle.new.arena c.settle.new.self in
     let frees = frees_none s t (ap (λ (a : State). a.entries) c.settle.ensures.arena ∙ settled_entries s.arena s.pools c.args.pool) (ap (λ (a : State). a.limit) c.settle.ensures.arena ∙ settled_limit s.arena s.pools c.args.pool)
-        (λ q is. ap (λ (ps : List Pool). pool_in ps q) c.settle.ensures.pools ∙ open_settled s.arena s.pools c.args.pool q is) in
+    (λ q is. ap (λ (ps : List Pool). pool_in ps q) c.settle.ensures.pools ∙ open_settled s.arena s.pools c.args.pool q is) in
     subst (λ x. FreesOnly x t) c.self.view_is frees
 
 pub returns-clause-settles : goal.returns-clause-settles
