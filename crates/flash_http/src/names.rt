@@ -53,8 +53,8 @@ impl MediaType {
         }
     }
 
-    /// The media type as it stands in a head.
-    pub fn as_str(self) -> &'static str
+    // The media type as it stands in a head.
+    pub(crate) fn as_str(self) -> &'static str
         ensures { result.now ≡ spec.media_text self }
     {
         match self {

@@ -33,9 +33,11 @@ pub enum ContentRange {
 /// The head of an answer.
 #[derive(Clone, Copy, Debug, PartialEq, Eq)]
 pub struct ResponseHead {
+    /// The status; its phrase is written beside it, and the methods that are served with a 405.
     pub status: StatusCode,
     pub media_type: MediaType,
     pub framing: Framing,
+    /// Which bytes of a file the body has (206), or that it has none of those asked for (416).
     pub range: Option<ContentRange>,
     /// Whether the connection closes after the answer.
     pub close: bool,
