@@ -6,41 +6,34 @@ ghost use Rattle.iol_system.specs.Laws.{RunsStaySafe, RunsKeepBuffers, RunsKeepV
 /// The replies of a run, and the state after it, are those of the machine that copies at every call.
 pub fn runs_as_the_machine()
     ensures { RunsAsTheMachine }
-{
-}
+{}
 
 /// A run of some events and then others is a run of the first, and from there one of the others.
 pub fn runs_in_parts()
     ensures { RunsInParts }
-{
-}
+{}
 
 /// Each event of a run keeps all promises of a step: NoRoom exactly where there is no room, sharing, and the others.
 pub fn each_event_is_a_step()
     ensures { EachEventIsAStep }
-{
-}
+{}
 
 /// A run from a safe system ends in a safe one. With [`runs_in_parts`], counts and access are right at each moment.
 pub fn runs_stay_safe()
     ensures { RunsStaySafe }
-{
-}
+{}
 
 /// What is live before and after a run has the same bytes and pool, and no identity is given twice.
 pub fn runs_keep_buffers()
     ensures { RunsKeepBuffers }
-{
-}
+{}
 
 /// An aggregate that no event of a run gives up keeps its value.
 pub fn runs_keep_values()
     ensures { RunsKeepValues }
-{
-}
+{}
 
 /// A run of sharing calls copies nothing: what they hand on lies where it lay, and no page is published or freed.
 pub fn runs_share()
     ensures { RunsShare }
-{
-}
+{}

@@ -19,11 +19,17 @@ use std::alloc::{AllocError, Global};
 // Carries out one call of a domain: its answer, or its refusal. Each clause comes from that call of the kernel.
 fn answer_to(kernel: &mut Kernel, by: DomainId, call: &Call) -> Result<Reply, Refusal>
     requires { IsSound (state_of kernel.old) }
-    ensures step { StepsTo (machine_of (state_of kernel.old)) (Event.Call by call.now) (reply_of result) (machine_of (state_of kernel.new)) }
-    ensures room { IsDone (reply_of result) → fits (state_of kernel.old) (Event.Call by call.now) ≡ true }
-    ensures no_room { IsNoRoom (reply_of result) → fits (state_of kernel.old) (Event.Call by call.now) ≡ false }
-    ensures shares { is_sharing (Event.Call by call.now) ≡ true → LaysOut (layout_of (state_of kernel.old)) (Event.Call by call.now) (reply_of result) (layout_of (state_of kernel.new)) }
-    ensures pages { is_sharing (Event.Call by call.now) ≡ true → (state_of kernel.new).store.arena ≡ (state_of kernel.old).store.arena }
+    ensures step { StepsTo (machine_of (state_of kernel.old)) (Event.Call by call.now)
+        (reply_of result) (machine_of (state_of kernel.new)) }
+    ensures room { IsDone (reply_of result) →
+        fits (state_of kernel.old) (Event.Call by call.now) ≡ true }
+    ensures no_room { IsNoRoom (reply_of result) →
+        fits (state_of kernel.old) (Event.Call by call.now) ≡ false }
+    ensures shares { is_sharing (Event.Call by call.now) ≡ true →
+        LaysOut (layout_of (state_of kernel.old)) (Event.Call by call.now) (reply_of result)
+        (layout_of (state_of kernel.new)) }
+    ensures pages { is_sharing (Event.Call by call.now) ≡ true →
+        (state_of kernel.new).store.arena ≡ (state_of kernel.old).store.arena }
     ensures sound { IsSound (state_of kernel.new) }
     ensures stays { Stays (state_of kernel.old).store (state_of kernel.new).store }
 {
@@ -106,10 +112,8 @@ pub(crate) fn run_all(
     events: &[Event],
 ) -> Result<Vec<Reply>, AllocError>
     requires { IsSafe (state_of kernel.old) }
-    ensures chain {
-        IfOk result
-            (λ replies. Chain (state_of kernel.old) events.now replies.items (state_of kernel.new))
-    }
+    ensures chain { IfOk result
+        (λ replies. Chain (state_of kernel.old) events.now replies.items (state_of kernel.new)) }
     ensures safe { IsSafe (state_of kernel.new) }
     ensures err { OnErr result (kernel.new ≡ kernel.old) }
 {

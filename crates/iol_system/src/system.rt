@@ -57,9 +57,8 @@ impl System {
         ensures new { IfOk result (λ s. machine_of s ≡ new_state no_slots) }
 
         // Of as many pages as the sizes say, none used yet, and of their generation limit.
-        ensures entries {
-            IfOk result (λ s. s.store.arena.entries ≡ replicate (config.chunks * CHUNK_PAGES) no_entry)
-        }
+        ensures entries { IfOk result
+            (λ s. s.store.arena.entries ≡ replicate (config.chunks * CHUNK_PAGES) no_entry) }
         ensures taken { IfOk result (λ s. s.store.arena.taken ≡ replicate config.chunks false) }
         ensures limit { IfOk result (λ s. s.store.arena.limit ≡ config.gen_limit) }
         ensures safe { IfOk result IsSafe }
@@ -70,13 +69,11 @@ impl System {
 
     /// The bytes of a domain's aggregate, where they lie. Nothing is copied, and no memory is taken.
     pub fn parts(&self, by: DomainId, agg: AggId) -> Result<Parts<'_>, Refusal>
-        ensures ok {
-            IfOk result (λ parts. (first (show (machine_of self.now) by agg).refusals ≡ None)
-                × (joined parts ≡ (show (machine_of self.now) by agg).answer))
-        }
-        ensures err {
-            IfErr result (λ x. first (show (machine_of self.now) by agg).refusals ≡ Some x)
-        }
+        ensures ok { IfOk result
+            (λ parts. (first (show (machine_of self.now) by agg).refusals ≡ None)
+            × (joined parts ≡ (show (machine_of self.now) by agg).answer)) }
+        ensures err { IfErr result
+            (λ x. first (show (machine_of self.now) by agg).refusals ≡ Some x) }
     {
         self.kernel.parts(by, agg)
     }
@@ -84,12 +81,9 @@ impl System {
     /// What lies in the system, counted: the pools that still have their chunks, by number, and the live buffers, no two
     /// of which share a page. It changes nothing.
     pub fn report(&self) -> Result<Report, AllocError>
-        ensures pools {
-            IfOk result (λ r. r.pools.items ≡ reports_of self.now.store (length self.now.store.pools))
-        }
-        ensures buffers {
-            IfOk result (λ r. r.buffers ≡ length (live_pages self.now.store.arena))
-        }
+        ensures pools { IfOk result
+            (λ r. r.pools.items ≡ reports_of self.now.store (length self.now.store.pools)) }
+        ensures buffers { IfOk result (λ r. r.buffers ≡ length (live_pages self.now.store.arena)) }
         ensures extents { IfOk result (λ r. r.extents ≡ 0) }
         ensures dirty { IfOk result (λ r. r.dirty ≡ 0) }
         ensures alone { SharesNoPage self.now.store.arena }
@@ -104,9 +98,8 @@ impl System {
         ensures no_room { IsNoRoom result → fits self.old event ≡ false }
 
         // What a sharing call hands on lies where it lay, and no page is published or freed.
-        ensures shares {
-            is_sharing event ≡ true → LaysOut (layout_of self.old) event result (layout_of self.new)
-        }
+        ensures shares { is_sharing event ≡ true →
+            LaysOut (layout_of self.old) event result (layout_of self.new) }
         ensures pages { is_sharing event ≡ true → self.new.store.arena ≡ self.old.store.arena }
 
         // Counts are those of the slices, no page is lost, and what a domain has it may read.
@@ -128,15 +121,12 @@ impl System {
     /// whole runs is stated in [`laws`](crate::laws).
     pub fn run(&mut self, events: &[Event]) -> Result<Vec<Reply>, AllocError>
         ensures chain { IfOk result (λ replies. Chain self.old events.now replies.items self.new) }
-        ensures run {
-            IfOk result
-                (λ replies. Run (machine_of self.old) events.now replies.items (machine_of self.new))
-        }
+        ensures run { IfOk result
+            (λ replies. Run (machine_of self.old) events.now replies.items (machine_of self.new)) }
         ensures safe { IsSafe self.new }
         ensures stays { Stays self.old.store self.new.store }
-        ensures values {
-            OnOk result (ValuesStayOver (machine_of self.old) events.now (machine_of self.new))
-        }
+        ensures values { OnOk result
+            (ValuesStayOver (machine_of self.old) events.now (machine_of self.new)) }
         ensures err { OnErr result (self.new ≡ self.old) }
     {
         run_all(self.alloc, &mut self.kernel, events)

@@ -10,6 +10,7 @@ use std::fs;
 use std::test::Fail;
 
 const FIRST: u32 = 1_000;
+
 const ALL: u32 = 100_000;
 
 /// The sizes of the system: as small as can be, so that what is kept stands out.

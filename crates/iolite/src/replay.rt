@@ -45,13 +45,10 @@ pub fn replay<R: Read, W: Write, E: Write>(
 ) -> u8
     ensures statuses { (result ≡ 0) ⊎ (result ≡ 2) ⊎ (result ≡ 3) }
     ensures bad_script_prints_nothing { result ≡ 2 → output.new ≡ output.old }
-    ensures no_script {
-        IfSome (R.remaining input.old) (λ given. ¬ (IsScriptText given) → result ≢ 0)
-    }
-    ensures replayed {
-        result ≡ 0 → IfSome (R.remaining input.old)
-            (λ given. Replayed given (W.contents output.old) (W.contents output.new))
-    }
+    ensures no_script { IfSome (R.remaining input.old)
+        (λ given. ¬ (IsScriptText given) → result ≢ 0) }
+    ensures replayed { result ≡ 0 → IfSome (R.remaining input.old)
+        (λ given. Replayed given (W.contents output.old) (W.contents output.new)) }
 {
     match run(alloc, input, output) {
         Ok(()) => 0,
@@ -64,18 +61,12 @@ pub fn replay<R: Read, W: Write, E: Write>(
 
 /// Does the work of `replay`, up to the first failure.
 fn run<R: Read, W: Write>(alloc: Global, input: &mut R, output: &mut W) -> Result<(), Failure>
-    ensures untouched {
-        IfErr result (λ failure. status_of failure ≡ 2 → output.new ≡ output.old)
-    }
+    ensures untouched { IfErr result (λ failure. status_of failure ≡ 2 → output.new ≡ output.old) }
     ensures ok { OnOk result (IfSome (R.remaining input.old) IsScriptText) }
-    ensures bad {
-        result ≡ Err Failure.BadScript →
-            IfSome (R.remaining input.old) (λ given. ¬ (IsScriptText given))
-    }
-    ensures replayed {
-        OnOk result (IfSome (R.remaining input.old)
-            (λ given. Replayed given (W.contents output.old) (W.contents output.new)))
-    }
+    ensures bad { result ≡ Err Failure.BadScript →
+        IfSome (R.remaining input.old) (λ given. ¬ (IsScriptText given)) }
+    ensures replayed { OnOk result (IfSome (R.remaining input.old)
+        (λ given. Replayed given (W.contents output.old) (W.contents output.new))) }
 {
     let text = read_text(alloc, input)?;
     let script = Script::parse(alloc, text.as_str())?;
@@ -85,14 +76,11 @@ fn run<R: Read, W: Write>(alloc: Global, input: &mut R, output: &mut W) -> Resul
 
 /// Reads the input to its end, as a script.
 fn read_text<R: Read>(alloc: Global, input: &mut R) -> Result<String, Failure>
-    ensures whole {
-        IfOk result (λ text. IfSome (R.remaining input.old) (λ given. string_bytes text ≡ given))
-    }
+    ensures whole { IfOk result
+        (λ text. IfSome (R.remaining input.old) (λ given. string_bytes text ≡ given)) }
     ensures script { IfOk result (λ text. IsScriptText (string_bytes text)) }
-    ensures bad {
-        result ≡ Err Failure.BadScript →
-            IfSome (R.remaining input.old) (λ given. ¬ (IsScriptText given))
-    }
+    ensures bad { result ≡ Err Failure.BadScript →
+        IfSome (R.remaining input.old) (λ given. ¬ (IsScriptText given)) }
     ensures error { IfErr result IsOfInput }
 {
     let bytes = read_bytes(alloc, input)?;
@@ -101,12 +89,10 @@ fn read_text<R: Read>(alloc: Global, input: &mut R) -> Result<String, Failure>
 
 /// Reads the input to its end, or to one byte past the most that a script may have.
 fn read_bytes<R: Read>(alloc: Global, input: &mut R) -> Result<Vec<u8>, Failure>
-    ensures bytes {
-        IfOk result (λ bytes. IfSome (R.remaining input.old) (IsWholeOrTooLong bytes.items))
-    }
-    ensures error {
-        IfErr result (λ failure. (failure ≡ Failure.Input) ⊎ (failure ≡ Failure.Memory))
-    }
+    ensures bytes { IfOk result
+        (λ bytes. IfSome (R.remaining input.old) (IsWholeOrTooLong bytes.items)) }
+    ensures error { IfErr result
+        (λ failure. (failure ≡ Failure.Input) ⊎ (failure ≡ Failure.Memory)) }
 {
     let mut bytes = Vec::new(alloc);
     match input.take(MAX_SCRIPT_BYTES + 1).read_to_end(&mut bytes) {
@@ -133,9 +119,8 @@ fn text_of(bytes: Vec<u8>) -> Result<String, Failure>
 
 // Answers each line of a script, by a new system of the script's sizes.
 fn answers_to(alloc: Global, script: Script) -> Result<Vec<Answer>, Failure>
-    ensures answered {
-        IfOk result (λ answers. Answered script.config script.lines.items answers.items)
-    }
+    ensures answered { IfOk result
+        (λ answers. Answered script.config script.lines.items answers.items) }
     ensures error { IfErr result (λ failure. failure ≡ Failure.Memory) }
 {
     let config = script.config.unwrap_or(Config::DEFAULT);
@@ -174,13 +159,10 @@ fn answer_to(system: &mut System, line: Line) -> Result<Answer, Failure>
 
 // Prints each reply on a line of its own, and of each report its lines.
 fn print<W: Write>(alloc: Global, answers: &[Answer], output: &mut W) -> Result<(), Failure>
-    ensures lines {
-        OnOk result
-            (Appends (W.contents output.old) (W.contents output.new) (lines_of answers.now))
-    }
-    ensures error {
-        IfErr result (λ failure. (failure ≡ Failure.Output) ⊎ (failure ≡ Failure.Memory))
-    }
+    ensures lines { OnOk result
+        (Appends (W.contents output.old) (W.contents output.new) (lines_of answers.now)) }
+    ensures error { IfErr result
+        (λ failure. (failure ≡ Failure.Output) ⊎ (failure ≡ Failure.Memory)) }
 {
     match write_lines(alloc, answers, output) {
         Ok(()) => Ok(()),
@@ -191,10 +173,8 @@ fn print<W: Write>(alloc: Global, answers: &[Answer], output: &mut W) -> Result<
 // Writes the lines of all answers, in order, many at a time. They are gathered here and not in a `BufWriter`, of which
 // no contract says that the writer it gives back is the one that it was given.
 fn write_lines<W: Write>(alloc: Global, answers: &[Answer], output: &mut W) -> io::Result<()>
-    ensures {
-        OnOk result
-            (Appends (W.contents output.old) (W.contents output.new) (lines_of answers.now))
-    }
+    ensures { OnOk result
+        (Appends (W.contents output.old) (W.contents output.new) (lines_of answers.now)) }
 {
     let mut pending = Vec::with_capacity(alloc, BUFFER_BYTES)?;
     for answer in answers {
@@ -210,10 +190,8 @@ fn write_lines<W: Write>(alloc: Global, answers: &[Answer], output: &mut W) -> i
 
 // Writes the text of an answer, and the end of its last line.
 fn write_answer<W: Write>(answer: &Answer, output: &mut W) -> io::Result<()>
-    ensures {
-        OnOk result (Appends (W.contents output.old) (W.contents output.new)
-            (answer_text answer.now ++ newline))
-    }
+    ensures { OnOk result (Appends (W.contents output.old) (W.contents output.new)
+        (answer_text answer.now ++ newline)) }
 {
     match answer {
         Answer::Reply(reply) => {

@@ -39,9 +39,8 @@ pub struct Script {
 impl Script {
     /// Reads a script. It fails at the first line that is not a command, or for want of memory.
     pub fn parse(alloc: Global, text: &str) -> Result<Script, Failure>
-        ensures says {
-            IfOk result (λ script. Says (commands text.now) script.config script.lines.items)
-        }
+        ensures says { IfOk result
+            (λ script. Says (commands text.now) script.config script.lines.items) }
         ensures error { IfErr result IsOfLines }
     {
         let mut script = Script {
@@ -65,10 +64,8 @@ impl Script {
 
     /// Adds what one line says. The sizes may stand once, before all that is asked for.
     fn add_line(&mut self, alloc: Global, line: &str) -> Result<(), LineError>
-        ensures {
-            OnOk result (AddsLine self.old.config self.old.lines.items line.now
-                self.new.config self.new.lines.items)
-        }
+        ensures { OnOk result (AddsLine self.old.config self.old.lines.items line.now
+            self.new.config self.new.lines.items) }
     {
         if line == "report" {
             self.lines.push(Line::Report)?;
@@ -86,10 +83,8 @@ impl Script {
 
     // Takes the sizes that a line gives, where none were given and nothing was asked for yet.
     fn set_sizes(&mut self, words: &str) -> Result<(), LineError>
-        ensures {
-            OnOk result (SetsSizes self.old.config self.old.lines.items words.now
-                self.new.config self.new.lines.items)
-        }
+        ensures { OnOk result (SetsSizes self.old.config self.old.lines.items words.now
+            self.new.config self.new.lines.items) }
     {
         if self.config.is_some() || !self.lines.is_empty() {
             return Err(LineError::NotACommand);
@@ -119,9 +114,7 @@ fn parse_sizes(words: &str) -> Result<Config, LineError>
 fn parse_config(chunks: &str, gen_limit: &str, sums: &str) -> Result<Config, LineError>
     ensures in_range { IfOk result IsInRange }
     ensures chunks { IfOk result (λ config. config.chunks ≡ digits_value 10 chunks.now) }
-    ensures gen_limit {
-        IfOk result (λ config. config.gen_limit ≡ digits_value 10 gen_limit.now)
-    }
+    ensures gen_limit { IfOk result (λ config. config.gen_limit ≡ digits_value 10 gen_limit.now) }
     ensures sums { IfOk result (λ config. config.sums ≡ digits_value 10 sums.now) }
     ensures accepts { WriteSizes chunks.now gen_limit.now sums.now → IsOk result }
 {

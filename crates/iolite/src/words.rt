@@ -44,9 +44,7 @@ impl<T: Drop> From<AllocFailed<T>> for LineError {
 
 /// Reads a number of decimal digits alone.
 pub fn parse_u32(word: &str) -> Result<u32, LineError>
-    ensures accepts {
-        IsOk result ↔ (IsNumeral 10 word.now × (digits_value 10 word.now < 2 ^ 32))
-    }
+    ensures accepts { IsOk result ↔ (IsNumeral 10 word.now × (digits_value 10 word.now < 2 ^ 32)) }
     ensures value { IfOk result (λ n. n ≡ digits_value 10 word.now) }
 {
     if word.as_bytes().first() == Some(&b'+') {
@@ -60,9 +58,7 @@ pub fn parse_u32(word: &str) -> Result<u32, LineError>
 
 /// Reads a number of decimal digits alone.
 pub fn parse_u64(word: &str) -> Result<u64, LineError>
-    ensures accepts {
-        IsOk result ↔ (IsNumeral 10 word.now × (digits_value 10 word.now < 2 ^ 64))
-    }
+    ensures accepts { IsOk result ↔ (IsNumeral 10 word.now × (digits_value 10 word.now < 2 ^ 64)) }
     ensures value { IfOk result (λ n. n ≡ digits_value 10 word.now) }
 {
     if word.as_bytes().first() == Some(&b'+') {
@@ -107,10 +103,8 @@ pub fn decode_text(alloc: Global, text: &str) -> Result<Bytes, AllocError>
 /// Reads a text, so many times over. Where that is too long the line is not a command.
 pub fn repeat_text(alloc: Global, count: u32, text: &str) -> Result<Bytes, LineError>
     ensures bytes { IfOk result (λ bytes. bytes ≡ repeat count (decoded text.now)) }
-    ensures long {
-        (result ≡ Err LineError.NotACommand)
-            ↔ (MAX_REPEATED_BYTES < count * length (decoded text.now))
-    }
+    ensures long { (result ≡ Err LineError.NotACommand)
+        ↔ (MAX_REPEATED_BYTES < count * length (decoded text.now)) }
 {
     let length = percent_decode(text.as_bytes()).count() as u64;
     if length.saturating_mul(u64::from(count)) > MAX_REPEATED_BYTES {
