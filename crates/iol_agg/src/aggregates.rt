@@ -1,15 +1,19 @@
 //! Aggregates.
-ghost use Rattle.std.specs.Prelude.{◌≡◌, ℕ, ◌+◌, ◌<◌, ◌≤◌, ◌^◌, ◌↔◌, [], length, drop, map, true, false, Err, IsTrue, IfOk, IfErr, OnOk, OnErr};
+ghost use Rattle.std.specs.Prelude.{◌≡◌, ℕ, ◌+◌, ◌<◌, ◌≤◌, ◌^◌, ◌↔◌, [], length, take, drop, map, true, false, Err, IsTrue, IfOk, IfErr, OnOk, OnErr};
 ghost use Rattle.std.specs.List.{All};
 ghost use Rattle.std.specs.Vec.{vec_capacity};
 ghost use Rattle.iol_core.specs.Meaning.{WantOfRoom};
 ghost use Rattle.iol_core.specs.Text as text;
 ghost use Rattle.iol_arena.specs.State.{pages_for};
+ghost use Rattle.iol_arena.specs.Buffers.{Grows};
 ghost use Rattle.iol_arena.specs.Chunks.{free_pages};
+ghost use Rattle.iol_arena.specs.Pages.{IsSameBut, MadeOn};
 ghost use Rattle.iol_pool.specs.Pools.{pool_in};
 ghost use Rattle.iol_hold.specs.Moves.{Moves, Covers, SameLists};
 ghost use Rattle.iol_hold.specs.Places.{byte_len};
-ghost use Rattle.iol_hold.specs.Room.{has_room};
+ghost use Rattle.iol_hold.specs.Releases.{FreesOnly};
+ghost use Rattle.iol_hold.specs.Room.{has_room, lowest_of, others_of};
+ghost use Rattle.iol_hold.specs.Stored.{AllSettled, held_bufs};
 ghost use Rattle.iol_hold.specs.Texts.{text_of, bufs_of, AllReadable, IsFilled};
 ghost use Rattle.iol_agg.specs.Parts.{parts_of, whole_texts};
 
@@ -79,25 +83,40 @@ impl Agg {
         ensures text { IfOk result (λ a. text_of store.new a ≡ text.labelled pool bytes.now) }
         ensures readable { IfOk result (λ a. AllReadable store.new a) }
         ensures moves { IfOk result (λ a. Moves store.old store.new [] (bufs_of a)) }
+        ensures made_on { IfOk result (λ a. MadeOn store.old.arena store.new.arena (bufs_of a)
+            (lowest_of store.old pool (length bytes.now))) }
+        ensures others { OnOk result (IsSameBut (lowest_of store.old pool (length bytes.now))
+            store.old.arena store.new.arena) }
+        ensures grows { OnOk result (Grows store.old.arena store.new.arena) }
+        ensures settles { AllSettled store.old → AllSettled store.new }
         ensures pools { store.new.pools ≡ store.old.pools }
-        ensures lowest { OnOk result (free_pages store.new.arena (pool_in store.old.pools pool).chunks ≡ drop (pages_for (length bytes.now)) (free_pages store.old.arena (pool_in store.old.pools pool).chunks)) }
+        ensures lowest { OnOk result (free_pages store.new.arena
+            (pool_in store.old.pools pool).chunks ≡ others_of store.old pool (length bytes.now)) }
         ensures room { OnOk result (has_room store.old pool (length bytes.now) ≡ true) }
-        ensures no_room { (p : ℕ) → result ≡ Err (Refusal.NoRoom p) → has_room store.old pool (length bytes.now) ≡ false }
+        ensures no_room { (p : ℕ) → result ≡ Err (Refusal.NoRoom p) →
+            has_room store.old pool (length bytes.now) ≡ false }
         ensures late { IfErr result (WantOfRoom pool) }
         ensures err { OnErr result (store.new ≡ store.old) }
     {
-        let Ok(mut slices) = Vec::with_capacity(alloc, bytes.len().div_ceil(PAGE_BYTES)) else {
-            return Err(Refusal::Memory);
-        };
-        let holds = match store.fill(alloc, pool, bytes) {
-            Ok(holds) => holds,
-            Err(refusal) => return Err(refusal),
-        };
+        let slices = Vec::with_capacity(alloc, bytes.len().div_ceil(PAGE_BYTES))?;
+        let holds = store.fill(alloc, pool, bytes)?;
+        Ok(Agg::of_holds(slices, store, holds))
+    }
+
+    /// The bytes of whole buffers, one after another, as slices in a list that has room for them. The holds become the
+    /// aggregate's. No memory is taken.
+    pub fn of_holds(slices: Vec<Slice>, store: &Store, holds: Holds) -> Agg
+        requires none { slices.items ≡ [] }
+        requires filled { All (IsFilled store.now) holds }
+        requires room { length holds ≤ vec_capacity slices }
+        requires small { length (whole_texts store.now holds) < 2 ^ 32 }
+        ensures text { text_of store.now result ≡ whole_texts store.now holds }
+        ensures readable { AllReadable store.now result }
+        ensures bufs { bufs_of result ≡ held_bufs holds }
+    {
+        let mut slices = slices;
         add_whole(&mut slices, store, holds);
-        Ok(Agg {
-            slices,
-            len: bytes.len() as u32,
-        })
+        Agg::from_slices(slices)
     }
 
     /// The number of bytes.
@@ -107,6 +126,7 @@ impl Agg {
         self.len
     }
 
+    /// Whether there is no byte.
     pub fn is_empty(&self) -> bool
         ensures { IsTrue result ↔ (byte_len self.now ≡ 0) }
     {
@@ -140,11 +160,13 @@ impl Agg {
         Ok(bytes)
     }
 
-    /// Gives all holds up.
+    /// Releases all holds.
     pub fn release(self, store: &mut Store)
         requires { Covers store.old (bufs_of self) }
         ensures moves { Moves store.old store.new (bufs_of self) [] }
         ensures lists { SameLists store.old store.new }
+        ensures frees { FreesOnly store.old store.new }
+        ensures settles { AllReadable store.old self → AllSettled store.old → AllSettled store.new }
     {
         let mut slices = self.slices;
         while let Some(slice) = slices.pop() {
@@ -160,7 +182,7 @@ fn add_whole(slices: &mut Vec<Slice>, store: &Store, holds: Holds)
     requires room { length holds ≤ vec_capacity slices.old }
     ensures text { text_of store.now slices.new.items ≡ whole_texts store.now holds }
     ensures readable { AllReadable store.now slices.new.items }
-    ensures bufs { bufs_of slices.new.items ≡ map (λ h. h.buf) holds }
+    ensures bufs { bufs_of slices.new.items ≡ held_bufs holds }
 {
     let mut left = holds;
     while let Some(hold) = left.take_first() {

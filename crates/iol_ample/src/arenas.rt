@@ -49,7 +49,7 @@ fn ample(rt: HostRuntime) -> Result<(), Fail> {
     let mut arena = Arena::new(alloc, config).expect(&rt, "memory");
     let chunk = arena.take_chunk().expect(&rt, "a chunk");
     assert_eq!(rt; arena.free_in(chunk), 16);
-    assert_eq!(rt; arena.retired(chunk), 0);
+    assert_eq!(rt; arena.retired_in(chunk), 0);
     assert!(rt; arena.is_unused(chunk));
     let set = arena.take_chunks(alloc, 2).expect(&rt, "chunks");
     for _ in 0..100_000 {

@@ -14,3 +14,7 @@ pub mod Reserving
 pub mod PublishingAll
 pub mod Numbering
 pub mod AtPlaces
+pub mod Leaving
+pub mod Releasing
+pub mod Paging
+pub mod Emptied

@@ -8,3 +8,5 @@ pub mod View
 pub mod Lending
 pub mod Filling
 pub mod Layout
+pub mod Releases
+pub mod Pages

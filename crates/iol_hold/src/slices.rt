@@ -20,8 +20,9 @@ pub struct Slice {
 
 impl Slice {
     ghost use Rattle.iol_arena.specs.Buffers.{bytes_of};
-    ghost use Rattle.iol_hold.specs.Stored.{count_of};
+    ghost use Rattle.iol_hold.specs.Stored.{count_of, IsHome, AllSettled};
     ghost use Rattle.iol_hold.specs.Moves.{Shares, Moves, SameLists};
+    ghost use Rattle.iol_hold.specs.Releases.{FreesOnly};
     ghost use Rattle.iol_hold.specs.Places.{slice_places};
     ghost use Rattle.iol_hold.specs.Texts.{slice_bytes, IsFilled, IsReadable};
 
@@ -34,6 +35,13 @@ impl Slice {
     {
         let len = store.len(&hold);
         Slice { hold, from: 0, len }
+    }
+
+    /// The identity of the buffer: its first page, with that page's generation. No other buffer ever has the same.
+    pub fn identity(&self) -> BufId
+        ensures { result ≡ self.now.hold.buf }
+    {
+        self.hold.buf()
     }
 
     /// The same bytes, held once more.
@@ -67,10 +75,13 @@ impl Slice {
         }
     }
 
-    /// Gives the hold up.
+    /// Releases the hold: see [`Store::release`].
     pub fn release(self, store: &mut Store)
         requires { 0 < count_of store.old self.hold.buf }
         ensures moves { Moves store.old store.new (self.hold.buf ∷ []) [] }
+        ensures frees { FreesOnly store.old store.new }
+        ensures settles { IsHome store.old self.hold.pool self.hold.buf → AllSettled store.old →
+            AllSettled store.new }
         ensures lists { SameLists store.old store.new }
     {
         store.release(self.hold);

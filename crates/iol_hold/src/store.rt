@@ -3,8 +3,9 @@ ghost use Rattle.std.specs.Prelude.{◌≡◌, ◌⊎◌, ◌↔◌, ℕ, ◌+�
 ghost use Rattle.iol_core.specs.Configuration.{IsInRange};
 ghost use Rattle.iol_arena.specs.State.{no_entry};
 ghost use Rattle.iol_arena.specs.Buffers.{IsLive, SharesNoPage, bytes_of, live_pages};
-ghost use Rattle.iol_hold.specs.Stored.{count_of, with_count, IsTidy, IsSettled};
+ghost use Rattle.iol_hold.specs.Stored.{count_of, with_count, IsHome, IsTidy, IsSettled, AllSettled, AllSettledBut};
 ghost use Rattle.iol_hold.specs.Moves.{Shares, Moves, SameLists};
+ghost use Rattle.iol_hold.specs.Releases.{FreesOnly};
 
 use crate::holds::Hold;
 use iol_arena::arena::Arena;
@@ -43,20 +44,17 @@ impl Store {
     pub fn new(alloc: Global, config: Config) -> Result<Store, Refusal>
         ensures range { (result ≡ Err Refusal.BadRange) ↔ (IsInRange config → ⊥) }
         ensures errors { IfErr result (λ e. (e ≡ Refusal.BadRange) ⊎ (e ≡ Refusal.Memory)) }
-        ensures entries { IfOk result (λ s. s.arena.entries ≡ replicate (config.chunks * 16) no_entry) }
+        ensures entries { IfOk result (λ s. s.arena.entries ≡
+            replicate (config.chunks * CHUNK_PAGES) no_entry) }
         ensures taken { IfOk result (λ s. s.arena.taken ≡ replicate config.chunks false) }
         ensures limit { IfOk result (λ s. s.arena.limit ≡ config.gen_limit) }
         ensures pools { IfOk result (λ s. s.pools ≡ []) }
         ensures tidy { IfOk result IsTidy }
+        ensures settled { IfOk result AllSettled }
     {
-        let arena = match Arena::new(alloc, config) {
-            Ok(arena) => arena,
-            Err(refusal) => return Err(refusal),
-        };
+        let arena = Arena::new(alloc, config)?;
         let pages = config.chunks as usize * CHUNK_PAGES;
-        let Ok(counts) = vec![in alloc; 0u64; pages] else {
-            return Err(Refusal::Memory);
-        };
+        let counts = vec![in alloc; 0u64; pages]?;
         Ok(Store {
             arena,
             pools: Pools::new(alloc),
@@ -107,28 +105,36 @@ impl Store {
         requires { count_of self.old buf ≡ 1 }
         ensures moves { Moves self.old self.new (buf ∷ []) [] }
         ensures pools { self.new.pools ≡ self.old.pools }
+        ensures frees { FreesOnly self.old self.new }
+        ensures others { (p : ℕ) → IsHome self.old p buf → AllSettled self.old →
+            AllSettledBut p self.new }
         ensures tidy { IsTidy self.new }
     {
         self.arena.free(buf);
     }
 
-    // Gives the chunks of a closed pool back, if nothing stands on them.
+    // Returns the chunks of a closed pool, if nothing stands on them.
     fn settle(&mut self, pool: PoolId)
         ensures moves { Moves self.old self.new [] [] }
         ensures lists { SameLists self.old self.new }
         ensures settled { IsSettled self.new pool }
+        ensures settles { AllSettledBut pool self.old → AllSettled self.new }
+        ensures frees { FreesOnly self.old self.new }
         ensures tidy { IsTidy self.new }
     {
         self.pools.settle(&mut self.arena, pool);
     }
 
-    /// Gives a hold up. With the last one the buffer's pages are free at once, and the chunks of a closed pool go back
-    /// if nothing else lies in them.
+    /// Releases a hold. With the last one the buffer's pages are free at once, and the chunks of a closed pool are
+    /// returned if nothing else lies in them.
     pub fn release(&mut self, hold: Hold)
         requires { 0 < count_of self.old hold.buf }
         ensures moves { Moves self.old self.new (hold.buf ∷ []) [] }
+        ensures frees { FreesOnly self.old self.new }
         ensures lists { SameLists self.old self.new }
         ensures settled { count_of self.old hold.buf ≡ 1 → IsSettled self.new hold.pool }
+        ensures settles { IsHome self.old hold.pool hold.buf → AllSettled self.old →
+            AllSettled self.new }
     {
         let buf = hold.buf();
         let count = self.count_at(buf);

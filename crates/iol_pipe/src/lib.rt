@@ -1,4 +1,16 @@
-//! Pipes: bounded queues of bytes, as slices.
+//! Pipes: queues of at most 65,536 bytes, as slices.
+//!
+//! A pipe holds the buffer of each slice that waits in it. What is pushed is shared, and what is taken off moves: no
+//! byte is copied.
+//!
+//! The contract. `push` (`taken`: the longest prefix that fits; `places`, `shares`, `err`), `front` (`given`: the longest
+//! prefix of at most n bytes whose pools all name the domain; `rest`, `shares`, `err`), `clear` (`moves`, `frees`,
+//! `settles`), `len`, `is_empty`, `first_pool`. The words are in `specs/Queue` and iol_hold's.
+//!
+//! ```
+//! let taken = pipe.push(&mut store, &agg)?;
+//! let read = pipe.front(alloc, &mut store, taken, reader)?;
+//! ```
 #![tactic(auto)]
 
 ghost use Rattle.std.specs.Prelude.{◌≡◌, ◌+◌, ◌-◌, ◌<◌, ◌≤◌, ◌↔◌, min, [], ◌∷◌, ◌++◌, length, take, drop, take_while, slice_index_or, IsTrue, IfOk, OnOk, OnErr};
@@ -7,7 +19,9 @@ ghost use Rattle.std.specs.Vec.{vec_capacity};
 ghost use Rattle.iol_core.specs.declared.numbers.BufId.{BufId};
 ghost use Rattle.iol_hold.specs.Moves.{same, tally, Shares, Moves, SameLists, Covers, IsCountable};
 ghost use Rattle.iol_hold.specs.Places.{slice_places, places, byte_len};
-ghost use Rattle.iol_hold.specs.Texts.{bufs_of};
+ghost use Rattle.iol_hold.specs.Releases.{FreesOnly};
+ghost use Rattle.iol_hold.specs.Stored.{AllSettled};
+ghost use Rattle.iol_hold.specs.Texts.{bufs_of, AllReadable};
 ghost use Rattle.iol_pipe.specs.Queue.{first_pool, may_see};
 
 use iol_agg::Agg;
@@ -56,6 +70,7 @@ impl Pipe {
         self.len
     }
 
+    /// Whether no byte waits.
     pub fn is_empty(&self) -> bool
         ensures { IsTrue result ↔ (byte_len self.now ≡ 0) }
     {
@@ -74,9 +89,12 @@ impl Pipe {
     pub fn push(&mut self, store: &mut Store, from: &Agg) -> Result<u32, AllocError>
         requires covered { Covers store.old (bufs_of from.now) }
         requires countable { IsCountable store.old (bufs_of from.now) }
-        ensures taken { IfOk result (λ n. n ≡ min (byte_len from.now) (MAX_QUEUE_BYTES - byte_len self.old)) }
-        ensures places { IfOk result (λ n. places self.new ≡ places self.old ++ take n (places from.now)) }
-        ensures shares { OnOk result (Shares store.old store.new (bufs_of self.old) (bufs_of self.new)) }
+        ensures taken { IfOk result (λ n. n ≡
+            min (byte_len from.now) (MAX_QUEUE_BYTES - byte_len self.old)) }
+        ensures places { IfOk result (λ n. places self.new ≡ places self.old ++
+            take n (places from.now)) }
+        ensures shares { OnOk result (Shares store.old store.new (bufs_of self.old)
+            (bufs_of self.new)) }
         ensures err { OnErr result (self.new ≡ self.old) }
         ensures err_store { OnErr result (store.new ≡ store.old) }
     {
@@ -89,7 +107,7 @@ impl Pipe {
         Ok(taken)
     }
 
-    /// Takes off and gives the longest prefix of at most `n` bytes whose pools all name the domain.
+    /// Takes off the longest prefix of at most `n` bytes whose pools all name the domain.
     pub fn front(
         &mut self,
         alloc: Global,
@@ -99,9 +117,11 @@ impl Pipe {
     ) -> Result<Agg, AllocError>
         requires covered { Covers store.old (bufs_of self.old) }
         requires countable { IsCountable store.old (bufs_of self.old) }
-        ensures given { IfOk result (λ a. places a ≡ take_while (may_see store.old.pools d) (take n (places self.old))) }
+        ensures given { IfOk result (λ a. places a ≡
+            take_while (may_see store.old.pools d) (take n (places self.old))) }
         ensures rest { IfOk result (λ a. places self.new ≡ drop (byte_len a) (places self.old)) }
-        ensures shares { IfOk result (λ a. Shares store.old store.new (bufs_of self.old) (bufs_of a ++ bufs_of self.new)) }
+        ensures shares { IfOk result (λ a.
+            Shares store.old store.new (bufs_of self.old) (bufs_of a ++ bufs_of self.new)) }
         ensures err { OnErr result (self.new ≡ self.old) }
         ensures err_store { OnErr result (store.new ≡ store.old) }
     {
@@ -113,24 +133,30 @@ impl Pipe {
         Ok(given)
     }
 
-    /// Gives all holds up: no byte waits any more.
+    /// Releases all holds: no byte waits any more.
     pub fn clear(&mut self, store: &mut Store)
         requires { Covers store.old (bufs_of self.old) }
         ensures empty { self.new ≡ [] }
         ensures moves { Moves store.old store.new (bufs_of self.old) [] }
         ensures lists { SameLists store.old store.new }
+        ensures frees { FreesOnly store.old store.new }
+        ensures settles { AllReadable store.old self.old → AllSettled store.old →
+            AllSettled store.new }
     {
-        give_up_all(&mut self.queue, store);
+        release_all(&mut self.queue, store);
         self.len = 0;
     }
 }
 
-// Gives all holds up.
-fn give_up_all(queue: &mut VecDeque<Slice>, store: &mut Store)
+// Releases all holds.
+fn release_all(queue: &mut VecDeque<Slice>, store: &mut Store)
     requires { Covers store.old (bufs_of queue.old.items) }
     ensures empty { queue.new.items ≡ [] }
     ensures moves { Moves store.old store.new (bufs_of queue.old.items) [] }
     ensures lists { SameLists store.old store.new }
+    ensures frees { FreesOnly store.old store.new }
+    ensures settles { AllReadable store.old queue.old.items → AllSettled store.old →
+        AllSettled store.new }
 {
     while let Some(slice) = queue.pop_back() {
         slice.release(store);
@@ -143,7 +169,8 @@ fn add_prefix(queue: &mut VecDeque<Slice>, store: &mut Store, slices: &[Slice], 
     requires covered { Covers store.old (bufs_of slices.now) }
     requires countable { IsCountable store.old (bufs_of slices.now) }
     ensures places { places queue.new.items ≡ places queue.old.items ++ take n (places slices.now) }
-    ensures shares { Shares store.old store.new (bufs_of queue.old.items) (bufs_of queue.new.items) }
+    ensures shares { Shares store.old store.new (bufs_of queue.old.items)
+        (bufs_of queue.new.items) }
 {
     let mut left = n;
     for slice in slices {
@@ -168,9 +195,11 @@ fn take_prefix(
     requires room { min (length queue.old.items) n ≤ vec_capacity out.old }
     requires covered { Covers store.old (bufs_of queue.old.items) }
     requires countable { IsCountable store.old (bufs_of queue.old.items) }
-    ensures given { places out.new.items ≡ take_while (may_see store.old.pools d) (take n (places queue.old.items)) }
+    ensures given { places out.new.items ≡
+        take_while (may_see store.old.pools d) (take n (places queue.old.items)) }
     ensures whole { places out.new.items ++ places queue.new.items ≡ places queue.old.items }
-    ensures shares { Shares store.old store.new (bufs_of queue.old.items) (bufs_of out.new.items ++ bufs_of queue.new.items) }
+    ensures shares { Shares store.old store.new (bufs_of queue.old.items)
+        (bufs_of out.new.items ++ bufs_of queue.new.items) }
 {
     let mut left = n;
     while left > 0 {
@@ -195,9 +224,13 @@ fn take_first(queue: &mut VecDeque<Slice>, store: &mut Store, most: u32) -> Slic
     ensures places { slice_places result ++ places queue.new.items ≡ places queue.old.items }
     ensures pool { (x : Slice) → result.hold.pool ≡ (slice_index_or queue.old.items 0 x).hold.pool }
     ensures len { result.len ≤ most }
-    ensures fewer { min (length queue.new.items) (most - result.len) + 1 ≤ min (length queue.old.items) most }
-    ensures shares { Shares store.old store.new (bufs_of queue.old.items) (result.hold.buf ∷ bufs_of queue.new.items) }
-    ensures whole { result.len < most → (b : BufId) → same b result.hold.buf + tally b (bufs_of queue.new.items) ≤ tally b (bufs_of queue.old.items) }
+    ensures fewer { min (length queue.new.items) (most - result.len) + 1 ≤ min
+        (length queue.old.items) most }
+    ensures shares { Shares store.old store.new (bufs_of queue.old.items)
+        (result.hold.buf ∷ bufs_of queue.new.items) }
+    ensures whole { result.len < most → (b : BufId) →
+        same b result.hold.buf + tally b (bufs_of queue.new.items) ≤ tally b
+        (bufs_of queue.old.items) }
 {
     let Some(first) = queue.pop_front() else {
         unreachable!();

@@ -1,7 +1,7 @@
 -- Pools by number, and whose each chunk is.
 use Rattle.std.proofs.Common.{◌≡◌, ◌⊎◌, inl, inr, ℕ, zero, suc, ◌+◌, ◌-◌, ◌<◌, ◌≤◌, Bool, true, false, not, List, [], ◌∷◌, ◌++◌, length, get_or, set, map, refl, sym, ap, ◌∙◌, subst, arith, length-set, length-append}
 use Rattle.std.specs.Prelude.{nat_lt, nat_le, ◌&&◌}
-use Rattle.std.specs.List.{All, Contains, filter, range_with_len}
+use Rattle.std.specs.List.{All, Contains, range_with_len}
 use Rattle.std.proofs.Math.Seq.{get_or-append_seam, map-set_same}
 use Rattle.std.proofs.lemmas.List.{get_or-set_other, get_or-set_same, get_or_append_left, get_or_past}
 use Rattle.std.proofs.lemmas.List.Elements.{Contains-get_or}
@@ -13,9 +13,9 @@ use Rattle.iol_arena.specs.State.{State, chunk_count, generation_at}
 use Rattle.iol_arena.specs.Buffers.{IsLive, Keeps, bytes_of}
 use Rattle.iol_arena.specs.Chunks.{TakesChunks, all_taken, free_chunks, is_taken, is_untaken}
 use Rattle.iol_arena.proofs.Good.{bool_cases}
-use Rattle.iol_arena.proofs.Giving.{taken_in, taken_stays}
-use Rattle.iol_arena.proofs.Members.{In, in_contains, contains_in, in_take}
-use Rattle.iol_pool.specs.Pools.{Pool, no_pool, pool_in, with_closed, with_emptied, all_given, with_given, goes_back, settled, settled_arena}
+use Rattle.iol_arena.proofs.Taking.{taken_in, taken_out, taken_stays}
+use Rattle.iol_arena.proofs.Members.{In, in_contains, contains_in, in_or_out, in_passes, in_take}
+use Rattle.iol_pool.specs.Pools.{Pool, no_pool, pool_in, with_closed, with_emptied, all_returned, with_returned, goes_back, settled, settled_arena}
 use Rattle.iol_pool.specs.Owned.{AreOwned}
 
 -- Pools by number.
@@ -60,6 +60,15 @@ pool_in-before ps x q other = elim (cases_eq q 0) [
   ]
 ]
 
+-- closing a pool leaves the others as they were
+pub pool_in-closed : (ps : List Pool) (p q : ℕ) → (q ≡ p → ⊥) → pool_in (with_closed ps p) q ≡ pool_in ps q
+unfolding with_closed
+pool_in-closed ps p q n = pool_in-other ps p q (record (pool_in ps p) { closed = true }) n
+
+pub closed-closed : (ps : List Pool) (p : ℕ) → is_numbered ps p ≡ true → (pool_in (with_closed ps p) p).closed ≡ true
+unfolding with_closed
+closed-closed ps p there = ap (λ (x : Pool). x.closed) (pool_in-there ps p (record (pool_in ps p) { closed = true }) there)
+
 -- a closed pool has its chunks
 pub chunks-closed : (ps : List Pool) (p q : ℕ) → is_numbered ps p ≡ true → (pool_in (with_closed ps p) q).chunks ≡ (pool_in ps q).chunks
 unfolding with_closed
@@ -80,9 +89,9 @@ emptied ps p q c there h = elim (cases_eq q p) [
   | inr n ↦ (n, subst (λ (x : Pool). Contains x.chunks c) (pool_in-other ps p q (record (pool_in ps p) { chunks = [] }) n) h)
 ]
 
-pub length-all_given : (taken : List Bool) (cs : List ℕ) → length (all_given taken cs) ≡ length taken
-length-all_given taken [] = refl
-length-all_given taken (c ∷ cs) = length-all_given (set taken c false) cs ∙ length-set taken c false
+pub length-all_returned : (taken : List Bool) (cs : List ℕ) → length (all_returned taken cs) ≡ length taken
+length-all_returned taken [] = refl
+length-all_returned taken (c ∷ cs) = length-all_returned (set taken c false) cs ∙ length-set taken c false
 
 -- a number of no pool
 set_past : (ps : List Pool) (i : ℕ) (x : Pool) → length ps ≤ i → set ps i x ≡ ps
@@ -117,7 +126,7 @@ pub settled_arena-no : (s : State) (ps : List Pool) (p : ℕ) → goes_back s ps
 unfolding settled_arena
 settled_arena-no s ps p out = rw out refl
 
-pub settled_arena-yes : (s : State) (ps : List Pool) (p : ℕ) → goes_back s ps p ≡ true → settled_arena s ps p ≡ with_given s (pool_in ps p).chunks
+pub settled_arena-yes : (s : State) (ps : List Pool) (p : ℕ) → goes_back s ps p ≡ true → settled_arena s ps p ≡ with_returned s (pool_in ps p).chunks
 unfolding settled_arena
 settled_arena-yes s ps p back = rw back refl
 
@@ -130,7 +139,7 @@ settled-nowhere s ps p out = elim (bool_cases (goes_back s ps p)) [
 
 pub settled_arena-nowhere : (s : State) (ps : List Pool) (p : ℕ) → is_numbered ps p ≡ false → settled_arena s ps p ≡ s
 settled_arena-nowhere s ps p out = elim (bool_cases (goes_back s ps p)) [
-  | inl e ↦ settled_arena-yes s ps p e ∙ ap (λ (x : Pool). with_given s x.chunks) (pool_in-nowhere ps p out)
+  | inl e ↦ settled_arena-yes s ps p e ∙ ap (λ (x : Pool). with_returned s x.chunks) (pool_in-nowhere ps p out)
   | inr e ↦ settled_arena-no s ps p e
 ]
 
@@ -140,6 +149,21 @@ unfolding with_emptied
 pool_in-settled s ps p q other = elim (bool_cases (goes_back s ps p)) [
   | inl e ↦ ap (λ (l : List Pool). pool_in l q) (settled-yes s ps p e) ∙ pool_in-other ps p q (record (pool_in ps p) { chunks = [] }) other
   | inr e ↦ ap (λ (l : List Pool). pool_in l q) (settled-no s ps p e)
+]
+
+-- a settled pool is closed as it was
+pub closed-settled : (s : State) (ps : List Pool) (p q : ℕ) → (pool_in (settled s ps p) q).closed ≡ (pool_in ps q).closed
+unfolding with_emptied
+closed-settled s ps p q = elim (cases_eq q p) [
+  | inr ne ↦ ap (λ (x : Pool). x.closed) (pool_in-settled s ps p q ne)
+  | inl e ↦ elim (bool_cases (is_numbered ps p)) [
+    | inr out ↦ ap (λ (l : List Pool). (pool_in l q).closed) (settled-nowhere s ps p out)
+    | inl there ↦ elim (bool_cases (goes_back s ps p)) [
+      | inr stays ↦ ap (λ (l : List Pool). (pool_in l q).closed) (settled-no s ps p stays)
+      | inl back ↦ ap (λ (l : List Pool). (pool_in l q).closed) (settled-yes s ps p back) ∙ ap (λ r. (pool_in (with_numbered ps p (record (pool_in ps p) { chunks = [] })) r).closed) e
+          ∙ ap (λ (x : Pool). x.closed) (pool_in-there ps p (record (pool_in ps p) { chunks = [] }) there) ∙ ap (λ r. (pool_in ps r).closed) (sym e)
+    ]
+  ]
 ]
 
 -- settling and closing change nothing but the chunks, and whether the pool is closed
@@ -206,24 +230,25 @@ keeps-settled s ps p = record {
 
 pub chunk_count-settled : (s : State) (ps : List Pool) (p : ℕ) → chunk_count (settled_arena s ps p) ≡ chunk_count s
 chunk_count-settled s ps p = elim (bool_cases (goes_back s ps p)) [
-  | inl e ↦ ap (λ (t : State). length t.taken) (settled_arena-yes s ps p e) ∙ length-all_given s.taken (pool_in ps p).chunks
+  | inl e ↦ ap (λ (t : State). length t.taken) (settled_arena-yes s ps p e) ∙ length-all_returned s.taken (pool_in ps p).chunks
   | inr e ↦ ap (λ (t : State). length t.taken) (settled_arena-no s ps p e)
 ]
 
 -- Whose each chunk is.
 
-pool_in-none : (p : ℕ) → pool_in (let l : List Pool = [] in l) p ≡ no_pool
+pub pool_in-none : (p : ℕ) → pool_in (let l : List Pool = [] in l) p ≡ no_pool
 unfolding pool_in
 pool_in-none p = elim (cases_eq p 0) [ inl z ↦ grind (arith, nat_tests, z) | inr z ↦ grind (arith, nat_tests, z) ]
 
 none_owned : (p c : ℕ) → Contains (pool_in (let l : List Pool = [] in l) p).chunks c → ⊥
 none_owned p c h = in_contains [] c (subst (λ (x : Pool). Contains x.chunks c) (pool_in-none p) h)
 
-pub owned_none : (s : State) → AreOwned s []
-owned_none s = record {
+pub owned_none : (s : State) → ((c : ℕ) → c < chunk_count s → is_taken s c ≡ false) → AreOwned s []
+owned_none s free = record {
   within = λ p c h. absurd (none_owned p c h);
   taken = λ p c h. absurd (none_owned p c h);
   single = λ p q c h k. absurd (none_owned p c h);
+  owner = λ c h is. (let no = free c h in cc (no, is));
 }
 
 -- in an arena that gave out the same chunks
@@ -232,6 +257,7 @@ owned_stays s t ps same o = record {
   within = λ p c h. subst (λ (l : List Bool). c < length l) (sym same) (o.within p c h);
   taken = λ p c h. subst (λ (l : List Bool). get_or l c true ≡ true) (sym same) (o.taken p c h);
   single = o.single;
+  owner = λ c h is. o.owner c (subst (λ (l : List Bool). c < length l) same h) (subst (λ (l : List Bool). get_or l c true ≡ true) same is);
 }
 
 -- by pools with the same chunks
@@ -240,6 +266,7 @@ owned_same s ps qs same o = record {
   within = λ p c h. o.within p c (subst (λ l. Contains l c) (same p) h);
   taken = λ p c h. o.taken p c (subst (λ l. Contains l c) (same p) h);
   single = λ p q c h k. o.single p q c (subst (λ l. Contains l c) (same p) h) (subst (λ l. Contains l c) (same q) k);
+  owner = λ c h is. (let w = o.owner c h is in (w.0, subst (λ l. Contains l c) (sym (same w.0)) w.1));
 }
 
 pub owned_closed : (s : State) (ps : List Pool) (p : ℕ) → is_numbered ps p ≡ true → AreOwned s ps → AreOwned s (with_closed ps p)
@@ -250,25 +277,56 @@ all_owned s ps p o = λ k d h. o.within p (get_or (pool_in ps p).chunks k d) (Co
 
 -- chunks given back
 
-given_out : (taken : List Bool) (cs : List ℕ) (q : ℕ) → (In cs q → ⊥) → get_or (all_given taken cs) q true ≡ get_or taken q true
-given_out taken [] q out = refl
-given_out taken (c ∷ cs) q out = given_out (set taken c false) cs q (λ h. out (inr h)) ∙ get_or-set_other taken c q false true (λ e. out (inl e))
+returned_out : (taken : List Bool) (cs : List ℕ) (q : ℕ) → (In cs q → ⊥) → get_or (all_returned taken cs) q true ≡ get_or taken q true
+returned_out taken [] q out = refl
+returned_out taken (c ∷ cs) q out = returned_out (set taken c false) cs q (λ h. out (inr h)) ∙ get_or-set_other taken c q false true (λ e. out (inl e))
 
-pub owned_settled : (s : State) (ps : List Pool) (p : ℕ) → is_numbered ps p ≡ true → AreOwned s ps → AreOwned (with_given s (pool_in ps p).chunks) (with_emptied ps p)
+returned_stays : (taken : List Bool) (cs : List ℕ) (q : ℕ) → get_or taken q true ≡ false → get_or (all_returned taken cs) q true ≡ false
+returned_stays taken [] q h = h
+returned_stays taken (c ∷ cs) q h = returned_stays (set taken c false) cs q (elim (cases_eq q c) [
+  | inl e ↦ (let there : q < length taken = within taken q h in ap (λ k. get_or (set taken k false) q true) (sym e) ∙ get_or-set_same taken q false true there)
+  | inr ne ↦ get_or-set_other taken c q false true ne ∙ h
+])
+  where
+    within : (taken : List Bool) (q : ℕ) → get_or taken q true ≡ false → q < length taken
+    within taken q h = elim (cases_lt q (length taken)) [
+      | inl lt ↦ lt
+      | inr ge ↦ (let past = get_or_past taken q true ge in let no : true ≡ false = sym past ∙ h in absurd (cc no))
+    ]
+
+returned_in : (taken : List Bool) (cs : List ℕ) (q : ℕ) → In cs q → q < length taken → get_or (all_returned taken cs) q true ≡ false
+returned_in taken [] q h lt = absurd h
+returned_in taken (c ∷ cs) q (inl e) lt = returned_stays (set taken c false) cs q (ap (λ k. get_or (set taken k false) q true) (sym e) ∙ get_or-set_same taken q false true lt)
+returned_in taken (c ∷ cs) q (inr h) lt = returned_in (set taken c false) cs q h (omega (arith, lt, length-set taken c false))
+
+pub owned_settled : (s : State) (ps : List Pool) (p : ℕ) → is_numbered ps p ≡ true → AreOwned s ps → AreOwned (with_returned s (pool_in ps p).chunks) (with_emptied ps p)
 owned_settled s ps p there o = record {
-  within = λ q c h. omega (arith, o.within q c (emptied ps p q c there h).1, length-all_given s.taken (pool_in ps p).chunks);
-  taken = λ q c h. (let e = emptied ps p q c there h in given_out s.taken (pool_in ps p).chunks c (λ k. e.0 (o.single q p c e.1 (contains_in (pool_in ps p).chunks c k))) ∙ o.taken q c e.1);
+  within = λ q c h. omega (arith, o.within q c (emptied ps p q c there h).1, length-all_returned s.taken (pool_in ps p).chunks);
+  taken = λ q c h. (let e = emptied ps p q c there h in returned_out s.taken (pool_in ps p).chunks c (λ k. e.0 (o.single q p c e.1 (contains_in (pool_in ps p).chunks c k))) ∙ o.taken q c e.1);
   single = λ q r c h k. o.single q r c (emptied ps p q c there h).1 (emptied ps p r c there k).1;
+  owner = λ c h is.
+      let cs = (pool_in ps p).chunks in
+      let within : c < chunk_count s = omega (arith, h, length-all_returned s.taken cs) in
+      let out : In cs c → ⊥ = λ k. (let no = returned_in s.taken cs c k within in cc (no, is)) in
+      let w = o.owner c within (sym (returned_out s.taken cs c out) ∙ is) in
+      let other : w.0 ≡ p → ⊥ = λ e. out (in_contains cs c (subst (λ q. Contains (pool_in ps q).chunks c) e w.1)) in
+      (w.0, subst (λ l. Contains l c) (sym (chunks-emptied ps p w.0 other)) w.1);
 }
 
 -- chunks taken for a new pool
 
-in_passes : (f : ℕ → Bool) (xs : List ℕ) (q : ℕ) → In (filter f xs) q → f q ≡ true
-in_passes f [] q h = elim h [ ]
-in_passes f (x ∷ xs) q h = elim (bool_cases (f x)) [
-  | inl e ↦ (let k : In (x ∷ filter f xs) q = rw e at h in elim k [ inl a ↦ ap f a ∙ e | inr a ↦ in_passes f xs q a ])
-  | inr e ↦ (let k : In (filter f xs) q = rw e at h in in_passes f xs q k)
-]
+pub past_closed : (ps : List Pool) → (pool_in ps (length ps + 1)).closed ≡ true
+unfolding pool_in
+past_closed ps = let past = get_or_past ps (length ps + 1 - 1) no_pool (omega arith) in grind (arith, nat_tests, past)
+
+-- there is no pool past the last
+pub nowhere : (ps : List Pool) (c : ℕ) → Contains (pool_in ps (length ps + 1)).chunks c → ⊥
+unfolding pool_in
+nowhere ps c h =
+    let past = get_or_past ps (length ps + 1 - 1) no_pool (omega arith) in
+    let none : pool_in ps (length ps + 1) ≡ no_pool = grind (arith, nat_tests, past) in
+    let k = subst (λ (x : Pool). Contains x.chunks c) none h in
+    omega (arith, k.1)
 
 module _ (s t : State) (ps : List Pool) (x : Pool) (takes : TakesChunks s t x.chunks) (o : AreOwned s ps) where
   taken_is : t.taken ≡ all_taken s.taken x.chunks
@@ -305,4 +363,14 @@ module _ (s t : State) (ps : List Pool) (x : Pool) (takes : TakesChunks s t x.ch
   ]
 
   pub owned_added : AreOwned t (ps ++ x ∷ [])
-  owned_added = record { within = below; taken = given; single = one }
+  owned_added = record { within = below; taken = given; single = one; owner = owner }
+    where
+      owner : (c : ℕ) → c < chunk_count t → is_taken t c ≡ true → (p : ℕ) × Contains (pool_in (ps ++ x ∷ []) p).chunks c
+      owner c h is = elim (in_or_out x.chunks c) [
+        | inl new ↦ (length ps + 1, subst (λ (y : Pool). Contains y.chunks c) (sym (pool_in-pushed ps x)) (contains_in x.chunks c new))
+        | inr old ↦ (
+            let was : is_taken s c ≡ true = sym (taken_out s.taken x.chunks c old) ∙ ap (λ (l : List Bool). get_or l c true) (sym taken_is) ∙ is in
+            let w = o.owner c (omega (arith, h, takes.count)) was in
+            let before : w.0 ≡ length ps + 1 → ⊥ = λ e. nowhere ps c (subst (λ q. Contains (pool_in ps q).chunks c) e w.1) in
+            (w.0, subst (λ (y : Pool). Contains y.chunks c) (sym (pool_in-before ps x w.0 before)) w.1))
+      ]

@@ -5,8 +5,9 @@ use Rattle.iol_arena.specs.State.{State, chunk_count}
 use Rattle.iol_arena.specs.Chunks.{is_taken}
 use Rattle.iol_pool.specs.Pools.{Pool, pool_in}
 
--- the chunks of pools are of the arena, given out, and of one pool each
+-- the chunks of pools are of the arena and taken, and each chunk that is taken has just one pool
 pub record AreOwned (s : State) (ps : List Pool) : Type 0 where
   pub within : (p c : ℕ) → Contains (pool_in ps p).chunks c → c < chunk_count s
   pub taken : (p c : ℕ) → Contains (pool_in ps p).chunks c → is_taken s c ≡ true
   pub single : (p q c : ℕ) → Contains (pool_in ps p).chunks c → Contains (pool_in ps q).chunks c → p ≡ q
+  pub owner : (c : ℕ) → c < chunk_count s → is_taken s c ≡ true → (p : ℕ) × Contains (pool_in ps p).chunks c

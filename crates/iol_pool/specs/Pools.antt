@@ -36,21 +36,21 @@ with_closed ps p = with_numbered ps p (record (pool_in ps p) { closed = true })
 unfoldable pub with_emptied : List Pool → (p : ℕ) → List Pool
 with_emptied ps p = with_numbered ps p (record (pool_in ps p) { chunks = [] })
 
--- with these chunks not given out
-abbrev pub all_given : List Bool → List ℕ → List Bool
-all_given taken [] = taken
-all_given taken (c ∷ cs) = all_given (slice_set taken c false) cs
+-- with these chunks free again
+abbrev pub all_returned : List Bool → List ℕ → List Bool
+all_returned taken [] = taken
+all_returned taken (c ∷ cs) = all_returned (slice_set taken c false) cs
 
-abbrev pub with_given : State → List ℕ → State
-with_given s cs = record { memory = s.memory; entries = s.entries; limit = s.limit; taken = all_given s.taken cs }
+abbrev pub with_returned : State → List ℕ → State
+with_returned s cs = record { memory = s.memory; entries = s.entries; limit = s.limit; taken = all_returned s.taken cs }
 
--- chunks go back when their pool is closed and nothing stands on a page of them
+-- chunks are returned when their pool is closed and nothing stands on a page of them
 abbrev pub goes_back : State → List Pool → (p : ℕ) → Bool
 goes_back s ps p = (pool_in ps p).closed && list_all (is_unused s) (pool_in ps p).chunks
 
--- the pools, and the arena, after the chunks of pool p went back if they do
+-- the pools, and the arena, after the chunks of pool p were returned, if they are
 unfoldable pub settled : State → List Pool → (p : ℕ) → List Pool
 settled s ps p = if goes_back s ps p then with_emptied ps p else ps
 
 unfoldable pub settled_arena : State → List Pool → (p : ℕ) → State
-settled_arena s ps p = if goes_back s ps p then with_given s (pool_in ps p).chunks else s
+settled_arena s ps p = if goes_back s ps p then with_returned s (pool_in ps p).chunks else s

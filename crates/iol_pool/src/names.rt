@@ -55,7 +55,8 @@ fn note_distinct(found: &mut [DomainId; MAX_LISTED], list: &[DomainId]) -> usize
 impl Names {
     /// The domains of a list, unless it names more than sixteen.
     pub fn of(list: &[DomainId]) -> Option<Names>
-        ensures { MatchOption result (MAX_LISTED < length (distinct list.now)) (λ n. (n ≡ distinct list.now) × (length (distinct list.now) ≤ MAX_LISTED)) }
+        ensures { MatchOption result (MAX_LISTED < length (distinct list.now))
+            (λ n. (n ≡ distinct list.now) × (length (distinct list.now) ≤ MAX_LISTED)) }
     {
         let mut found = [DomainId::new(0); MAX_LISTED];
         let len = note_distinct(&mut found, list);
@@ -65,6 +66,7 @@ impl Names {
         Some(Names { list: found, len })
     }
 
+    /// The domains, each once.
     pub fn as_slice(&self) -> &[DomainId]
         ensures { result.now ≡ self.now }
     {

@@ -5,7 +5,7 @@ ghost use Rattle.std.specs.List.{All, list_all, list_any};
 ghost use Rattle.iol_core.specs.Numbered.{is_numbered};
 ghost use Rattle.iol_arena.specs.State.{chunk_count};
 ghost use Rattle.iol_arena.specs.Chunks.{free_chunks, free_pages, is_unused, retired_pages};
-ghost use Rattle.iol_pool.specs.Pools.{AddsPool, goes_back, names_in, no_pool, pool_in, settled, settled_arena, with_closed, with_emptied, with_given};
+ghost use Rattle.iol_pool.specs.Pools.{AddsPool, goes_back, names_in, no_pool, pool_in, settled, settled_arena, with_closed, with_emptied, with_returned};
 ghost use Rattle.iol_pool.specs.Owned.{AreOwned};
 
 use crate::names::Names;
@@ -106,11 +106,11 @@ fn are_unused(arena: &Arena, chunks: &[ChunkNo]) -> bool
     true
 }
 
-// Gives the chunks back.
-fn give_all(arena: &mut Arena, chunks: &[ChunkNo])
+// Returns the chunks.
+fn return_all(arena: &mut Arena, chunks: &[ChunkNo])
     requires within { All (λ c. c < chunk_count arena.old) chunks.now }
     requires unused { list_all (is_unused arena.old) chunks.now ≡ true }
-    ensures { arena.new ≡ with_given arena.old chunks.now }
+    ensures { arena.new ≡ with_returned arena.old chunks.now }
 {
     for chunk in chunks {
         arena.give_chunk(*chunk);
@@ -138,7 +138,7 @@ fn count_retired(arena: &Arena, chunks: &[ChunkNo]) -> u32
 {
     let mut count = 0;
     for chunk in chunks {
-        count += arena.retired(*chunk);
+        count += arena.retired_in(*chunk);
     }
     count
 }
@@ -161,6 +161,7 @@ impl Pools {
         self.list.len()
     }
 
+    /// Whether no pool was ever made.
     pub fn is_empty(&self) -> bool
         ensures { IsTrue result ↔ (self.now ≡ []) }
     {
@@ -197,7 +198,8 @@ impl Pools {
     /// Whether each of these pools names the domain; else the first that does not.
     pub fn admits(&self, pools: &[PoolId], d: DomainId) -> Result<(), PoolId>
         ensures ok { OnOk result (find (λ p. not (names_in self.now p d)) pools.now ≡ None) }
-        ensures first { IfErr result (λ p. find (λ p. not (names_in self.now p d)) pools.now ≡ Some p) }
+        ensures first { IfErr result
+            (λ p. find (λ p. not (names_in self.now p d)) pools.now ≡ Some p) }
     {
         for p in pools {
             if !self.names(*p, d) {
@@ -257,7 +259,7 @@ impl Pools {
         self.is_closed(p) && are_unused(arena, self.chunks(p).as_slice())
     }
 
-    /// Gives the chunks of a pool back if it is closed and nothing stands on them.
+    /// Returns the chunks of a pool if it is closed and nothing stands on them.
     pub fn settle(&mut self, arena: &mut Arena, p: PoolId)
         requires { AreOwned arena.old self.old }
         ensures pools { self.new ≡ settled arena.old self.old p }
@@ -270,11 +272,11 @@ impl Pools {
         if !self.goes_back(arena, p) {
             return;
         }
-        give_all(arena, self.chunks(p).as_slice());
+        return_all(arena, self.chunks(p).as_slice());
         set_emptied(self.alloc, &mut self.list, p);
     }
 
-    /// Closes a pool: nothing more is placed in it, and its chunks go back at once if nothing stands on them.
+    /// Closes a pool: nothing more is placed in it, and its chunks are returned at once if nothing stands on them.
     pub fn close(&mut self, arena: &mut Arena, p: PoolId)
         requires there { is_numbered self.old p ≡ true }
         requires owned { AreOwned arena.old self.old }
@@ -291,11 +293,13 @@ impl Pools {
         requires there { is_numbered self.now p ≡ true }
         requires owned { AreOwned arena.now self.now }
         ensures pool { result.pool ≡ p }
-        ensures pages { result.pages ≡ 16 * length (pool_in self.now p).chunks }
+        ensures pages { result.pages ≡ CHUNK_PAGES * length (pool_in self.now p).chunks }
         ensures free { result.free ≡ length (free_pages arena.now (pool_in self.now p).chunks) }
-        ensures retired { result.retired ≡ length (retired_pages arena.now (pool_in self.now p).chunks) }
+        ensures retired { result.retired ≡
+            length (retired_pages arena.now (pool_in self.now p).chunks) }
     {
         let chunks = self.chunks(p).as_slice();
+        // Tells that a pool has few chunks, so that the sums fit.
         let _few = arena.chunk_count();
         PoolReport {
             pool: p,

@@ -1,13 +1,10 @@
-use Rattle.std.proofs.Common.{◌≡◌, ◌++◌, ◌∷◌, [], ap, ◌∙◌, subst, List}
-use Rattle.std.proofs.lemmas.List.{map-append}
+use Rattle.std.proofs.Common.{◌∙◌, subst}
 use Rattle.iol_hold.specs.Moves.{Moves}
-use Rattle.iol_hold.specs.Texts.{bufs_of}
-use Rattle.iol_hold.specs.declared.slices.Slice.{Slice}
+use Rattle.iol_hold.specs.Texts.{bufs_of, AllReadable}
+use Rattle.iol_hold.proofs.Reading.{bufs_of-push, home_stays, readable_last}
+use Rattle.iol_hold.proofs.Releasing.{frees_trans}
 use Rattle.iol_hold.proofs.Moving.{moves_less, last_held}
 use Rattle.iol_agg.proofs.aggregates.Agg.release.Goals as goal
-
-last_of : (xs ys : List Slice) (x : Slice) → xs ≡ ys ++ x ∷ [] → bufs_of xs ≡ bufs_of ys ++ x.hold.buf ∷ []
-last_of xs ys x e = ap bufs_of e ∙ map-append (λ (z : Slice). z.hold.buf) ys (x ∷ [])
 
 pub release-requires : goal.release-requires
 release-requires c =
@@ -15,7 +12,7 @@ release-requires c =
     let t = c.loop-slice.store in
     let rest = c.pop.new.self.items in
     let x = c.in-Some.slice in
-    last_held s t (bufs_of c.args.self) (bufs_of rest) x.hold.buf c.requires (subst (λ l. Moves s t (bufs_of c.args.self) l) (last_of c.loop-slice.slices.items rest x c.in-Some.ensures.items) c.loop-slice.invariant.moves)
+    last_held s t (bufs_of c.args.self) (bufs_of rest) x.hold.buf c.requires (subst (λ l. Moves s t (bufs_of c.args.self) l) (bufs_of-push c.loop-slice.slices.items rest x c.in-Some.ensures.items) c.loop-slice.invariant.moves)
 
 pub loop-slice-preserved : goal.loop-slice-preserved
 loop-slice-preserved c =
@@ -23,7 +20,16 @@ loop-slice-preserved c =
     let t = c.loop-slice.store in
     let rest = c.pop.new.self.items in
     let x = c.in-Some.slice in
+    let moves = subst (λ l. Moves s t (bufs_of c.args.self) l) (bufs_of-push c.loop-slice.slices.items rest x c.in-Some.ensures.items) c.loop-slice.invariant.moves in
     record {
-      moves = moves_less (subst (λ l. Moves s t (bufs_of c.args.self) l) (last_of c.loop-slice.slices.items rest x c.in-Some.ensures.items) c.loop-slice.invariant.moves) c.release.ensures.moves;
+      moves = moves_less moves c.release.ensures.moves;
       lists = c.release.ensures.lists ∙ c.loop-slice.invariant.lists;
+      frees = frees_trans c.loop-slice.invariant.frees c.release.ensures.frees c.release.ensures.moves.counts;
+      settles = λ readable all.
+          let r = c.loop-slice.invariant.settles readable all in
+          let l = readable_last rest x (subst (λ xs. AllReadable s xs) c.in-Some.ensures.items r.0) in
+          (l.0, c.release.ensures.settles (home_stays x c.loop-slice.invariant.moves.stays (last_held s t (bufs_of c.args.self) (bufs_of rest) x.hold.buf c.requires moves) l.1) r.1);
     }
+
+pub returns-clause-settles : goal.returns-clause-settles
+returns-clause-settles c = λ readable all. (c.loop-slice.invariant.settles readable all).1

@@ -1,19 +1,26 @@
-use Rattle.std.proofs.Common.{◌≡◌, ◌∙◌, ap, sym, subst, refl, length, get_or, map, take, List, flat_map}
+use Rattle.std.proofs.Common.{◌≡◌, ◌∙◌, ap, sym, subst, refl, length, get_or, map, take, List, flat_map, arith}
 use Rattle.std.specs.List.{All}
 use Rattle.std.proofs.lemmas.List.Elements.{All-map}
 use Rattle.iol_core.specs.declared.numbers.BufId.{BufId}
 use Rattle.iol_arena.specs.Adds.{IsNew}
 use Rattle.iol_arena.specs.Buffers.{bytes_in}
+use Rattle.iol_arena.specs.State.{pages_for}
+use Rattle.iol_arena.specs.Pages.{MadeOn}
 use Rattle.iol_arena.specs.Parts.{new_bufs, part_bytes, part_pages}
 use Rattle.iol_arena.proofs.Members.{In, contains_in}
 use Rattle.iol_hold.specs.Filling.{IsHeld}
-use Rattle.iol_hold.specs.Stored.{Stored, Buffer, IsTidy}
+use Rattle.iol_hold.specs.Stored.{Stored, Buffer}
 use Rattle.iol_hold.specs.Texts.{IsFilled}
 use Rattle.iol_hold.specs.View.{stored}
-use Rattle.iol_hold.specs.Waiting.{Publishes, all_held}
+use Rattle.iol_hold.specs.Waiting.{Publishes, FreesNone, all_held}
 use Rattle.iol_hold.proofs.Counting.{bufs-held_in}
 use Rattle.iol_pool.proofs.Owning.{owned_stays}
+use Rattle.iol_hold.proofs.Placing.{HoldsAll, holds_all, tidy_of}
 use Rattle.iol_hold.proofs.PublishingAll.{AllPublished, after, publish_all, published_publishes, new_bufs_in, length-all_held}
+use Rattle.std.proofs.lemmas.List.{length-map}
+use Rattle.iol_arena.specs.State.{State}
+use Rattle.iol_arena.specs.Chunks.{usable}
+use Rattle.iol_hold.proofs.Leaving.{length-new_bufs, usable-published}
 use Rattle.iol_hold.proofs.store.Store.publish_reserved.Goals as goal
 
 pub returns-clause-tidy : goal.returns-clause-tidy
@@ -25,7 +32,8 @@ returns-clause-tidy c =
     let counts = c.hold_once.ensures ∙ ap (all_held s.counts) (c.as_slice.ensures ∙ c.publish_reserved-bufs.ensures.bufs) in
     let t : Stored = record { arena = c.publish_reserved-bufs.new.self; pools = s.pools; counts = c.hold_once.new.counts.items } in
     let same : t ≡ after s ps c.args.len new = λ i. record { arena = c.publish_reserved-bufs.ensures.arena i; pools = s.pools; counts = counts i } in
-    subst IsTidy (sym same) (publish_all s s.arena.entries 0 ps c.args.len held.pages.apart held.pages.pending c.self.invariant.counts (λ q lo. refl) c.self.invariant.tidy).tidy
+    let all = (publish_all s s.arena.entries 0 ps c.args.len held.pages.apart held.pages.pending c.self.invariant.counts (λ q lo. refl) (holds_all c.self.invariant.tidy)).held in
+    tidy_of (subst HoldsAll (sym same) all) c.publish_reserved-bufs.ensures.runs (owned_stays s.arena c.publish_reserved-bufs.new.self s.pools c.publish_reserved-bufs.ensures.adds.grows.taken c.self.invariant.tidy.owned)
 
 pub returns-clause-publishes : goal.returns-clause-publishes
 returns-clause-publishes c =
@@ -37,7 +45,7 @@ returns-clause-publishes c =
     let counts = c.hold_once.ensures ∙ ap (all_held s.counts) (c.as_slice.ensures ∙ bufs) in
     let t : Stored = record { arena = c.publish_reserved-bufs.new.self; pools = s.pools; counts = c.hold_once.new.counts.items } in
     let same : t ≡ after s ps c.args.len new = λ i. record { arena = c.publish_reserved-bufs.ensures.arena i; pools = s.pools; counts = counts i } in
-    let all : AllPublished s t ps new = subst (λ x. AllPublished s x ps new) (sym same) (publish_all s s.arena.entries 0 ps c.args.len held.pages.apart held.pages.pending c.self.invariant.counts (λ q lo. refl) c.self.invariant.tidy) in
+    let all : AllPublished s t ps new = subst (λ x. AllPublished s x ps new) (sym same) (publish_all s s.arena.entries 0 ps c.args.len held.pages.apart held.pages.pending c.self.invariant.counts (λ q lo. refl) (holds_all c.self.invariant.tidy)) in
     let is = ap (map (λ (h : Buffer). h.buf)) c.new.ensures ∙ bufs-held_in c.args.reserved.pool c.publish_reserved-bufs.result.items ∙ bufs in
     subst (λ bs. Publishes c.args.self.now t ps bs) (sym is) (subst (λ (x : Stored). Publishes x t ps new) c.self.view_is (published_publishes s t ps new all c.publish_reserved-bufs.ensures.adds.grows refl))
 
@@ -80,6 +88,28 @@ invariant_of-self c =
     let counts = c.hold_once.ensures ∙ ap (all_held s.counts) c.as_slice.ensures in
     record {
       counts = ap length counts ∙ length-all_held s.counts c.publish_reserved-bufs.result.items ∙ c.self.invariant.counts ∙ sym c.publish_reserved-bufs.ensures.adds.grows.count;
-      owned = owned_stays s.arena c.publish_reserved-bufs.new.self s.pools c.publish_reserved-bufs.ensures.adds.grows.taken c.self.invariant.owned;
       tidy = returns-clause-tidy c;
     }
+
+pub returns-clause-few : goal.returns-clause-few
+returns-clause-few c =
+    let s : Stored = stored c.self.inside in
+    let ps = c.args.reserved.reservation.parts.items in
+    let n = ap length c.new.ensures ∙ length-map c.publish_reserved-bufs.result.items (λ b. let x : Buffer = record { pool = c.args.reserved.pool; buf = b } in x) ∙ ap length c.publish_reserved-bufs.ensures.bufs in
+    omega (arith, n, length-new_bufs s.arena.entries ps c.args.len)
+
+pub returns-clause-free : goal.returns-clause-free
+returns-clause-free c =
+    let s : Stored = stored c.self.inside in
+    let ps = c.args.reserved.reservation.parts.items in
+    let held = subst (λ (x : Stored). IsHeld x c.args.reserved) (sym c.self.view_is) c.requires in
+    let a = c.publish_reserved-bufs.new.self in
+    let free : FreesNone s.arena a ps c.args.len = record { each = λ long q. ap (λ (x : State). usable x q) c.publish_reserved-bufs.ensures.arena ∙ usable-published s.arena 0 ps c.args.len held.pages.apart held.pages.pending long q } in
+    subst (λ (x : Stored). FreesNone x.arena a ps c.args.len) c.self.view_is free
+
+pub returns-clause-made_on : goal.returns-clause-made_on
+returns-clause-made_on c =
+    let is = ap (map (λ (h : Buffer). h.buf)) c.new.ensures ∙ bufs-held_in c.args.reserved.pool c.publish_reserved-bufs.result.items in
+    let placed = take (pages_for c.args.len) (part_pages c.args.reserved.reservation.parts.items) in
+    let a = c.publish_reserved-bufs.new.self in
+    subst (λ bs. MadeOn c.args.self.now.arena a bs placed) (sym is) (subst (λ (x : Stored). MadeOn x.arena a c.publish_reserved-bufs.result.items placed) c.self.view_is c.publish_reserved-bufs.ensures.made_on)

@@ -1,10 +1,14 @@
 use Rattle.std.proofs.Common.{◌≡◌, ℕ, ◌+◌, ◌-◌, [], ◌∷◌, arith, refl, sym, ap, ◌∙◌, subst}
 use Rattle.iol_core.specs.declared.numbers.BufId.{BufId}
-use Rattle.iol_hold.specs.Stored.{count_of, with_count}
+use Rattle.iol_hold.specs.Stored.{AllSettledBut, IsHome, count_of, with_count}
+use Rattle.iol_hold.proofs.Emptied.{all_settled_same}
 use Rattle.iol_hold.specs.Moves.{Moves}
 use Rattle.iol_hold.proofs.Counting.{one_less}
 use Rattle.iol_hold.proofs.Moving.{shares_move, moves_trans}
 use Rattle.iol_hold.proofs.Placing.{tidy_count}
+use Rattle.iol_pool.specs.Pools.{pool_in}
+use Rattle.iol_hold.specs.Stored.{Stored}
+use Rattle.iol_hold.proofs.Releasing.{frees_none, frees_trans}
 use Rattle.iol_hold.proofs.store.Store.release.Goals as goal
 
 pub returns-then-count-gt1-clause-moves : goal.returns-then-count-gt1-clause-moves
@@ -21,3 +25,18 @@ pub returns-else-count-gt1-clause-moves : goal.returns-else-count-gt1-clause-mov
 returns-else-count-gt1-clause-moves c =
     let s = c.args.self.now in
     subst (λ b. Moves s c.settle.new.self (b ∷ []) []) c.buf-buf.ensures (moves_trans c.free.ensures.moves c.settle.ensures.moves)
+
+pub returns-then-count-gt1-clause-frees : goal.returns-then-count-gt1-clause-frees
+returns-then-count-gt1-clause-frees c = frees_none c.args.self.now c.set_count.new.self (ap (λ (x : Stored). x.arena.entries) c.set_count.ensures.set) (ap (λ (x : Stored). x.arena.limit) c.set_count.ensures.set) (λ p is. ap (λ (x : Stored). pool_in x.pools p) c.set_count.ensures.set)
+
+pub returns-else-count-gt1-clause-frees : goal.returns-else-count-gt1-clause-frees
+returns-else-count-gt1-clause-frees c = frees_trans c.free.ensures.frees c.settle.ensures.frees c.settle.ensures.moves.counts
+
+pub returns-then-count-gt1-clause-settles : goal.returns-then-count-gt1-clause-settles
+returns-then-count-gt1-clause-settles c = λ home all. all_settled_same c.args.self.now c.set_count.new.self (ap (λ (x : Stored). x.arena) c.set_count.ensures.set) (ap (λ (x : Stored). x.pools) c.set_count.ensures.set) all
+
+pub returns-else-count-gt1-clause-settles : goal.returns-else-count-gt1-clause-settles
+returns-else-count-gt1-clause-settles c = λ home all.
+    let p : ℕ = c.args.hold.pool in
+    let others : AllSettledBut p c.free.new.self = c.free.ensures.others p (subst (λ b. IsHome c.args.self.now p b) (sym c.buf-buf.ensures) home) all in
+    c.settle.ensures.settles (subst (λ q. AllSettledBut q c.free.new.self) (sym c.pool.ensures) others)
