@@ -17,6 +17,7 @@ use iol_kernel::kernel::Kernel;
 use std::alloc::{AllocError, Global};
 
 // Carries out one call of a domain: its answer, or its refusal. Each clause comes from that call of the kernel.
+#[tactic(auto, using(iol_kernel::proofs::Carried::carried_rules))]
 fn answer_to(kernel: &mut Kernel, by: DomainId, call: &Call) -> Result<Reply, Refusal>
     requires { IsSound (state_of kernel.old) }
     ensures step { StepsTo (machine_of (state_of kernel.old)) (Event.Call by call.now)
