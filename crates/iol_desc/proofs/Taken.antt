@@ -84,6 +84,22 @@ within_place [] n there = absurd (there refl)
 within_place (x ∷ xs) zero there = omega arith
 within_place (x ∷ xs) (suc n) there = omega (arith, within_place xs n there)
 
+-- another value in a place that is taken
+
+pub taken-replaced : {A : Type 0} (xs : List (Option A)) (n : ℕ) (x : A) → in_place xs n ≢ None → taken (slice_set xs n (Some x)) ≡ taken xs
+taken-replaced [] n x there = refl
+taken-replaced (None ∷ xs) zero x there = absurd (there refl)
+taken-replaced (Some y ∷ xs) zero x there = refl
+taken-replaced (None ∷ xs) (suc n) x there = taken-replaced xs n x there
+taken-replaced (Some y ∷ xs) (suc n) x there = omega (arith, taken-replaced xs n x there)
+
+pub lowest-replaced : {A : Type 0} (xs : List (Option A)) (n : ℕ) (x : A) → in_place xs n ≢ None → lowest (slice_set xs n (Some x)) ≡ lowest xs
+lowest-replaced [] n x there = refl
+lowest-replaced (None ∷ xs) zero x there = absurd (there refl)
+lowest-replaced (Some y ∷ xs) zero x there = refl
+lowest-replaced (None ∷ xs) (suc n) x there = refl
+lowest-replaced (Some y ∷ xs) (suc n) x there = omega (arith, lowest-replaced xs n x there)
+
 pub ruleset lowest_rules = (lowest_le-taken, prefix_len-drop_yes, prefix_len-drop_no, prefix_len-drop_all)
 
 pub ruleset put_rules = (taken_placed, taken_set_at)
@@ -97,3 +113,5 @@ pub ruleset free_rules = (taken-freed, low-freed, within_place)
 pub ruleset lower_rules = (low-freed, lowest_freed)
 
 pub ruleset moved_rules = (taken-freed, low-freed, within_place, taken_placed, low-placed)
+
+pub ruleset lent_rules = (taken-replaced, lowest-replaced, within_place)

@@ -1,6 +1,8 @@
 //! Lists of places, some of them free.
-ghost use Rattle.std.specs.Prelude.{◌≡◌, ◌≢◌, ◌+◌, ◌-◌, ◌<◌, ◌≤◌, length, [], None, OnOk, slice_set, vec_len, vec_capacity};
+ghost use Rattle.std.specs.Prelude.{◌≡◌, ◌≢◌, ◌+◌, ◌-◌, ◌<◌, ◌≤◌, length, [], None, Some, OnOk, slice_set, vec_len, vec_capacity};
 ghost use Rattle.std.specs.Option.{option_copied};
+ghost use Rattle.std.specs.Borrow.{sem};
+ghost use Rattle.iol_desc.specs.Lending.{LendsPlace, LendsValue};
 ghost use Rattle.iol_core.specs.Numbered.{in_place, lowest, placed, taken};
 
 use std::alloc::{AllocError, Global};
@@ -93,6 +95,18 @@ fn set_lower<T: Drop>(places: &mut Vec<Option<T>>, place: usize, from: usize, va
     lower
 }
 
+/// The value of a place that is taken, for writing.
+fn occupant<T>(place: &mut Option<T>) -> &mut T
+    requires { place.old ≢ None }
+    ensures* writes_back { sem 𝓛 (LendsValue T.row place.entry result) }
+    ensures value { place.old ≡ Some result.now }
+{
+    match place {
+        Some(value) => value,
+        None => unreachable!(),
+    }
+}
+
 /// Places from 0, some of them free. A value goes into the lowest.
 #[derive(Drop)]
 pub struct Places<T> {
@@ -131,6 +145,16 @@ impl<T: Drop> Places<T> {
         ensures { option_copied result ≡ in_place self.now.places place }
     {
         self.list.get(place)?.as_ref()
+    }
+
+    /// The value in a place that is taken, for writing.
+    #[tactic(auto, using(crate::proofs::Taken::lent_rules))]
+    pub fn value_mut(&mut self, place: usize) -> &mut T
+        requires { in_place self.old.places place ≢ None }
+        ensures* writes_back { sem 𝓛 (LendsPlace T.row self.entry place result) }
+        ensures value { in_place self.old.places place ≡ Some result.now }
+    {
+        occupant(&mut self.list[place])
     }
 
     /// How many places are taken.

@@ -10,37 +10,33 @@ use Rattle.iol_pool.specs.Pools.{Pool}
 use Rattle.iol_hold.specs.Stored.{Stored}
 use Rattle.iol_hold.specs.Places.{Place, places, byte_len}
 use Rattle.iol_hold.specs.Layout.{read}
-use Rattle.iol_hold.specs.Texts.{text_of, AllReadable, IsThere}
+use Rattle.iol_hold.specs.Texts.{text_of, AllReadable, IsThere, byte_at}
 use Rattle.iol_hold.specs.declared.slices.Slice.{Slice}
 use Rattle.iol_hold.proofs.AtPlaces.{read_same, read_cut, read_replaced}
 use Rattle.iol_hold.proofs.Moving.{shares_move, covers_given}
 use Rattle.iol_hold.proofs.Reading.{readable_stays, length-text_of}
 use Rattle.iol_desc.specs.Tables.{domain_in, live_aggs_in}
-use Rattle.iol_kernel.specs.Seen.{seen}
+use Rattle.iol_kernel.specs.Views.{state_view}
 use Rattle.iol_kernel.specs.Adding.{replaced, AddsShared}
-use Rattle.iol_kernel.specs.KernelState.{KernelState, machine_of, IsSound, slices_in}
-use Rattle.iol_kernel.specs.Sharing.{read_of, Changes}
-use Rattle.iol_kernel.proofs.Meant.{with_agg-seen}
+use Rattle.iol_kernel.specs.KernelState.{KernelState, machine_of, IsSound, slices_in, read_of}
+use Rattle.iol_kernel.proofs.Views.{with_agg-view}
 use Rattle.iol_kernel.proofs.Effects.{placed-sound}
-use Rattle.iol_kernel.proofs.ReadOf.{text-read_of, length_text-machine_of}
+use Rattle.iol_kernel.proofs.ReadOf.{text-read_of, length_text-read_of, next_agg-read_of}
 use Rattle.iol_kernel.proofs.Slices.{slices_readable, slices_small}
+use Rattle.iol_core.specs.declared.limits.TheConstants.{MAX_AGGREGATES, MAX_AGGREGATE_BYTES}
+
+use Rattle.iol_kernel.specs.Calls.{Answers}
 
 module _ (h : KernelState) (t : Stored) (ds : List (Domain (List Slice))) (d : ℕ) (bytes : List Place) (adds : AddsShared h.store t h.domains ds d bytes) where
   added-read : (f : Place → ℕ × ℕ) → read_of f (record h { store = t; domains = ds }) ≡ aggs.with_agg (read_of f h) d (read f adds.slices)
   unfolding read_of
   added-read f =
-      ap (λ (xs : List (Domain (List Slice))). seen (read f) xs t.pools h.pipes) adds.added
-      ∙ with_agg-seen (read f) h.domains t.pools h.pipes d adds.slices
-      ∙ ap (λ (ps : List Pool). aggs.with_agg (seen (read f) h.domains ps h.pipes) d (read f adds.slices)) adds.shares.pools
+      ap (λ (xs : List (Domain (List Slice))). state_view (read f) xs t.pools h.pipes) adds.added
+      ∙ with_agg-view (read f) h.domains t.pools h.pipes d adds.slices
+      ∙ ap (λ (ps : List Pool). aggs.with_agg (state_view (read f) h.domains ps h.pipes) d (read f adds.slices)) adds.shares.pools
 
-  -- what is read of the new aggregate tells what the state becomes
-  pub added-changes : (m : State → Text) → ((f : Place → ℕ × ℕ) → read f adds.slices ≡ m (read_of f h)) → Changes (λ s. aggs.with_agg s d (m s)) h (record h { store = t; domains = ds })
-  added-changes m reads = record {
-    each = λ f keeps. added-read f ∙ ap (aggs.with_agg (read_of f h) d) (reads f);
-    arena = adds.shares.arena;
-  }
 
-  pub added-sound : IsSound h → (domain_in h.domains d).live ≡ true → live_aggs_in h.domains < 65536 → AllReadable h.store adds.slices → byte_len adds.slices ≤ 16777216 → IsSound (record h { store = t; domains = ds })
+  added-sound : IsSound h → (domain_in h.domains d).live ≡ true → live_aggs_in h.domains < MAX_AGGREGATES → AllReadable h.store adds.slices → byte_len adds.slices ≤ MAX_AGGREGATE_BYTES → IsSound (record h { store = t; domains = ds })
   added-sound sound live few readable small =
       placed-sound h t ds d (text_of t adds.slices) sound live few (omega (arith, small, length-text_of t adds.slices)) (record {
         slices = adds.slices;
@@ -53,36 +49,47 @@ module _ (h : KernelState) (t : Stored) (ds : List (Domain (List Slice))) (d : �
 
 -- Part of an aggregate, or all of it.
 
-module _ (h : KernelState) (t : Stored) (ds : List (Domain (List Slice))) (d a from to : ℕ) (adds : AddsShared h.store t h.domains ds d (slice_range (places (slices_in h.domains d a)) from to)) where
-  pub cut-changes : Changes (λ s. aggs.with_agg s d (part (machine.text s d a) from to)) h (record h { store = t; domains = ds })
-  cut-changes = added-changes h t ds d _ adds (λ s. part (machine.text s d a) from to)
-      (λ f. read_cut f adds.slices (slices_in h.domains d a) from to adds.is_there ∙ ap (λ (u : Text). slice_range u from to) (sym (text-read_of f h d a)))
-
-  pub dup-changes : from ≡ 0 → to ≡ byte_len (slices_in h.domains d a) → Changes (λ s. aggs.with_agg s d (machine.text s d a)) h (record h { store = t; domains = ds })
-  dup-changes none all = added-changes h t ds d _ adds (λ s. machine.text s d a)
-      (λ f. read_same f adds.slices (slices_in h.domains d a) (adds.is_there ∙ whole (places (slices_in h.domains d a)) from to none all) ∙ sym (text-read_of f h d a))
-    where
-      whole : (ps : List Place) (from to : ℕ) → from ≡ 0 → to ≡ length ps → slice_range ps from to ≡ ps
-      whole ps from to none all = rw none (rw all (take_all (length ps - 0) ps (omega arith)))
-
-  pub cut-sound : IsSound h → (domain_in h.domains d).live ≡ true → live_aggs_in h.domains < 65536 → IsSound (record h { store = t; domains = ds })
-  cut-sound sound live few =
+module _ (h : KernelState) (t : Stored) (ds : List (Domain (List Slice))) (d a from to n : ℕ) (adds : AddsShared h.store t h.domains ds d (slice_range (places (slices_in h.domains d a)) from to))
+    (sound : IsSound h) (live : (domain_in h.domains d).live ≡ true) (few : live_aggs_in h.domains < MAX_AGGREGATES) (number : n ≡ (domain_in h.domains d).next_agg) where
+  cut-sound : IsSound (record h { store = t; domains = ds })
+  cut-sound =
       let xs : List Slice = slices_in h.domains d a in
       added-sound h t ds d _ adds sound live few
       (record { each = All-same (IsThere h.store) _ _ adds.is_there (All-take (IsThere h.store) (to - from) (drop from (places xs)) (All-drop (IsThere h.store) from (places xs) (slices_readable h d a sound).each)) })
       (omega (arith, slices_small h d a sound, ap length adds.is_there, length-take (to - from) (drop from (places xs)), length-drop from (places xs)))
 
+  pub cut_answers : Answers (λ s. aggs.agg_cut s d a from to) h n (record h { store = t; domains = ds })
+  cut_answers = record {
+    answer = λ f keeps. number ∙ sym (next_agg-read_of f h d);
+    after = λ f keeps. added-read h t ds d _ adds f
+        ∙ ap (aggs.with_agg (read_of f h) d) (read_cut f adds.slices (slices_in h.domains d a) from to adds.is_there ∙ ap (λ (u : Text). slice_range u from to) (sym (text-read_of f h d a)));
+    arena = adds.shares.arena;
+    pools = adds.shares.pools;
+    sound = cut-sound;
+    stays = (shares_move adds.shares).stays;
+  }
+
+  pub dup_answers : from ≡ 0 → to ≡ byte_len (slices_in h.domains d a) → Answers (λ s. aggs.agg_dup s d a) h n (record h { store = t; domains = ds })
+  dup_answers none all = record {
+    answer = λ f keeps. number ∙ sym (next_agg-read_of f h d);
+    after = λ f keeps. added-read h t ds d _ adds f
+        ∙ ap (aggs.with_agg (read_of f h) d) (read_same f adds.slices (slices_in h.domains d a) (adds.is_there ∙ whole (places (slices_in h.domains d a)) from to none all) ∙ sym (text-read_of f h d a));
+    arena = adds.shares.arena;
+    pools = adds.shares.pools;
+    sound = cut-sound;
+    stays = (shares_move adds.shares).stays;
+  }
+    where
+      whole : (ps : List Place) (from to : ℕ) → from ≡ 0 → to ≡ length ps → slice_range ps from to ≡ ps
+      whole ps from to none all = rw none (rw all (take_all (length ps - 0) ps (omega arith)))
+
 -- An aggregate with another in place of a range.
 
-module _ (h : KernelState) (t : Stored) (ds : List (Domain (List Slice))) (d a from to b : ℕ) (adds : AddsShared h.store t h.domains ds d (replaced (places (slices_in h.domains d a)) from to (places (slices_in h.domains d b)))) where
-  pub replaced-changes : Changes (λ s. aggs.with_agg s d (replaced (machine.text s d a) from to (machine.text s d b))) h (record h { store = t; domains = ds })
-  replaced-changes = added-changes h t ds d _ adds (λ s. replaced (machine.text s d a) from to (machine.text s d b))
-      (λ f. read_replaced f adds.slices (slices_in h.domains d a) (slices_in h.domains d b) from to adds.is_there
-      ∙ ap (λ (u : Text). replaced u from to (read f (slices_in h.domains d b))) (sym (text-read_of f h d a))
-      ∙ ap (λ (u : Text). replaced (machine.text (read_of f h) d a) from to u) (sym (text-read_of f h d b)))
-
-  pub replaced-sound : IsSound h → (domain_in h.domains d).live ≡ true → live_aggs_in h.domains < 65536 → length (replaced (machine.text (machine_of h) d a) from to (machine.text (machine_of h) d b)) ≤ 16777216 → IsSound (record h { store = t; domains = ds })
-  replaced-sound sound live few small =
+module _ (h : KernelState) (t : Stored) (ds : List (Domain (List Slice))) (d a from to b n : ℕ) (adds : AddsShared h.store t h.domains ds d (replaced (places (slices_in h.domains d a)) from to (places (slices_in h.domains d b))))
+    (sound : IsSound h) (live : (domain_in h.domains d).live ≡ true) (few : live_aggs_in h.domains < MAX_AGGREGATES) (number : n ≡ (domain_in h.domains d).next_agg)
+    (small : length (replaced (machine.text (machine_of h) d a) from to (machine.text (machine_of h) d b)) ≤ MAX_AGGREGATE_BYTES) where
+  replaced-sound : IsSound (record h { store = t; domains = ds })
+  replaced-sound =
       let xs : List Place = places (slices_in h.domains d a) in
       let ys : List Place = places (slices_in h.domains d b) in
       let P : Place → Type 0 = IsThere h.store in
@@ -102,8 +109,8 @@ module _ (h : KernelState) (t : Stored) (ds : List (Domain (List Slice))) (d a f
           let v : Text = machine.text (machine_of h) d b in
           omega (
             arith,
-            length_text-machine_of h d a,
-            length_text-machine_of h d b,
+            length_text-read_of (byte_at h.store) h d a,
+            length_text-read_of (byte_at h.store) h d b,
             length-append (take from x ++ y) (drop to x),
             length-append (take from x) y,
             length-take from x,
@@ -113,3 +120,17 @@ module _ (h : KernelState) (t : Stored) (ds : List (Domain (List Slice))) (d a f
             length-take from u,
             length-drop to u,
           )
+
+  pub replaced_answers : Answers (λ s. aggs.agg_replace s d a from to b) h n (record h { store = t; domains = ds })
+  replaced_answers = record {
+    answer = λ f keeps. number ∙ sym (next_agg-read_of f h d);
+    after = λ f keeps. added-read h t ds d _ adds f
+        ∙ ap (aggs.with_agg (read_of f h) d)
+        (read_replaced f adds.slices (slices_in h.domains d a) (slices_in h.domains d b) from to adds.is_there
+        ∙ ap (λ (u : Text). replaced u from to (read f (slices_in h.domains d b))) (sym (text-read_of f h d a))
+        ∙ ap (λ (u : Text). replaced (machine.text (read_of f h) d a) from to u) (sym (text-read_of f h d b)));
+    arena = adds.shares.arena;
+    pools = adds.shares.pools;
+    sound = replaced-sound;
+    stays = (shares_move adds.shares).stays;
+  }

@@ -13,10 +13,8 @@ use Rattle.iol_hold.specs.Texts.{byte_at}
 use Rattle.iol_hold.proofs.AtPlaces.{keeps_bytes, keeps_numbers}
 use Rattle.iol_hold.specs.declared.slices.Slice.{Slice}
 use Rattle.iol_desc.specs.Tables.{agg_in}
-use Rattle.iol_kernel.specs.KernelState.{KernelState, machine_of, layout_of, slices_in}
-use Rattle.iol_kernel.specs.Sharing.{read_of}
-use Rattle.iol_kernel.proofs.Sharing.{read_machine, read_layout}
-use Rattle.iol_kernel.proofs.ReadOf.{may_read-read_of, text-read_of}
+use Rattle.iol_kernel.specs.KernelState.{KernelState, Reading, read_of}
+use Rattle.iol_kernel.proofs.ReadOf.{may_read-read_of}
 
 barred-cons : (may : ℕ → Bool) (b : ℕ × ℕ) (t : Text) → barred may (b ∷ t) ≡ cond (not (may b.1)) (Some b.1) (barred may t)
 barred-cons may b t = first (not (may b.1))
@@ -59,39 +57,11 @@ module _ (may : ℕ → Bool) (f : Place → ℕ × ℕ) (keeps : KeepsPools f) 
       first true = refl
       first false = refl
 
-pub barred-read_of : (f : Place → ℕ × ℕ) → KeepsPools f → (h : KernelState) (d a to : ℕ) → barred (machine.may_read (read_of f h) to) (machine.text (read_of f h) d a) ≡ option_map (λ x. x.hold.pool) (find (λ x. not (names_in h.store.pools x.hold.pool to)) (slices_in h.domains d a))
-barred-read_of f keeps h d a to =
-    let same : machine.may_read (read_of f h) to ≡ (λ q. names_in h.store.pools q to) = λ i. λ q. may_read-read_of f h to q i in
-    ap (λ (may : ℕ → Bool). barred may (machine.text (read_of f h) d a)) same
-    ∙ ap (barred (λ q. names_in h.store.pools q to)) (text-read_of f h d a)
-    ∙ barred-slices (λ q. names_in h.store.pools q to) f keeps (slices_in h.domains d a)
-
 -- the pool of the first of these slices that the domain may not read
 abbrev pub hidden : List Pool → (d : ℕ) → List Slice → Option ℕ
 hidden ps d xs = option_map (λ x. x.hold.pool) (find (λ x. not (names_in ps x.hold.pool d)) xs)
 
-barred_machine : (h : KernelState) (d a to : ℕ) → barred (machine.may_read (machine_of h) to) (machine.text (machine_of h) d a) ≡ hidden h.store.pools to (slices_in h.domains d a)
-barred_machine h d a to = ap (λ (s : State). barred (machine.may_read s to) (machine.text s d a)) (read_machine h) ∙ barred-read_of (byte_at h.store) (keeps_bytes h.store) h d a to
-
-barred_layout : (h : KernelState) (d a to : ℕ) → barred (machine.may_read (layout_of h) to) (machine.text (layout_of h) d a) ≡ hidden h.store.pools to (slices_in h.domains d a)
-barred_layout h d a to = ap (λ (s : State). barred (machine.may_read s to) (machine.text s d a)) (read_layout h) ∙ barred-read_of number_at keeps_numbers h d a to
-
-module _ (h : KernelState) (d a to : ℕ) where
-  hidden_held : (xs ys : List Slice) (ps : List Pool) → Some xs ≡ agg_in h.domains d a → ys ≡ xs → ps ≡ h.store.pools → hidden ps to ys ≡ hidden h.store.pools to (slices_in h.domains d a)
-  hidden_held xs ys ps found same pools =
-      ap (λ (l : List Pool). hidden l to ys) pools ∙ ap (hidden h.store.pools to) (same ∙ ap (λ (o : Option (List Slice)). unwrap_or o []) found)
-
-  pub denied_machine : (xs ys : List Slice) (ps : List Pool) → Some xs ≡ agg_in h.domains d a → ys ≡ xs → ps ≡ h.store.pools → hidden ps to ys ≡ barred (machine.may_read (machine_of h) to) (machine.text (machine_of h) d a)
-  denied_machine xs ys ps found same pools = hidden_held xs ys ps found same pools ∙ sym (barred_machine h d a to)
-
-  pub denied_layout : (xs ys : List Slice) (ps : List Pool) → Some xs ≡ agg_in h.domains d a → ys ≡ xs → ps ≡ h.store.pools → hidden ps to ys ≡ barred (machine.may_read (layout_of h) to) (machine.text (layout_of h) d a)
-  denied_layout xs ys ps found same pools = hidden_held xs ys ps found same pools ∙ sym (barred_layout h d a to)
-
-  nothing : None ≡ agg_in h.domains d a → None ≡ hidden h.store.pools to (slices_in h.domains d a)
-  nothing none = ap (λ (o : Option (List Slice)). hidden h.store.pools to (unwrap_or o [])) none
-
-  pub nothing_machine : None ≡ agg_in h.domains d a → None ≡ barred (machine.may_read (machine_of h) to) (machine.text (machine_of h) d a)
-  nothing_machine none = nothing none ∙ sym (barred_machine h d a to)
-
-  pub nothing_layout : None ≡ agg_in h.domains d a → None ≡ barred (machine.may_read (layout_of h) to) (machine.text (layout_of h) d a)
-  nothing_layout none = nothing none ∙ sym (barred_layout h d a to)
+pub hidden_barred : (f : Reading) → KeepsPools f → (h : KernelState) (to : ℕ) (xs : List Slice) → hidden h.store.pools to xs ≡ barred (machine.may_read (read_of f h) to) (read f xs)
+hidden_barred f keeps h to xs =
+    let same : machine.may_read (read_of f h) to ≡ (λ q. names_in h.store.pools q to) = λ i. λ q. may_read-read_of f h to q i in
+    sym (ap (λ (may : ℕ → Bool). barred may (read f xs)) same ∙ barred-slices (λ q. names_in h.store.pools q to) f keeps xs)

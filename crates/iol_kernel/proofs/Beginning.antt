@@ -9,15 +9,16 @@ use Rattle.iol_pool.specs.Pools.{Pool}
 use Rattle.iol_hold.specs.Stored.{Stored, count_in, count_of, IsTidy}
 use Rattle.iol_hold.specs.Texts.{text_of}
 use Rattle.iol_hold.specs.declared.slices.Slice.{Slice}
-use Rattle.iol_kernel.specs.Seen.{Pipe, seen}
-use Rattle.iol_kernel.specs.KernelState.{KernelState, machine_of, IsSound}
+use Rattle.iol_kernel.specs.Views.{Pipe, state_view}
+use Rattle.iol_kernel.specs.KernelState.{KernelState, machine_of, IsSound, read_of}
+
 
 pub new-machine : (h : KernelState) → h.domains ≡ new_domain ∷ [] → h.store.pools ≡ [] → h.pipes ≡ [] → machine_of h ≡ new_state no_slots
-unfolding machine_of seen
+unfolding read_of state_view
 new-machine h domains' pools' pipes' =
-    ap (λ (ds : List (Domain (List Slice))). seen (text_of h.store) ds h.store.pools h.pipes) domains'
-    ∙ ap (λ (ps : List Pool). seen (text_of h.store) (new_domain ∷ []) ps h.pipes) pools'
-    ∙ ap (λ (qs : List (Option (Pipe (List Slice)))). seen (text_of h.store) (new_domain ∷ []) [] qs) pipes'
+    ap (λ (ds : List (Domain (List Slice))). state_view (text_of h.store) ds h.store.pools h.pipes) domains'
+    ∙ ap (λ (ps : List Pool). state_view (text_of h.store) (new_domain ∷ []) ps h.pipes) pools'
+    ∙ ap (λ (qs : List (Option (Pipe (List Slice)))). state_view (text_of h.store) (new_domain ∷ []) [] qs) pipes'
 
 every : {A : Type 0} (n i : ℕ) (x : A) → get_or (replicate n x) i x ≡ x
 every zero i x = refl

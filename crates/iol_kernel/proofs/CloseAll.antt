@@ -1,5 +1,5 @@
 -- Closing, on the machine alone: it changes pipes and connections, and no domain.
-use Rattle.std.proofs.Common.{◌≡◌, ℕ, List, [], ◌∷◌, ap, ◌∙◌, refl, sym, Option, Some, None}
+use Rattle.std.proofs.Common.{◌≡◌, ℕ, List, [], ◌∷◌, ap, ◌∙◌, refl, sym, Option, Some, None, true}
 use Rattle.std.specs.Prelude.{fold}
 use Rattle.iol_core.specs.Text.{Text}
 use Rattle.iol_core.specs.State as machine
@@ -7,7 +7,7 @@ use Rattle.iol_core.specs.State.{State, Domain, no_domain}
 use Rattle.iol_core.specs.Calls.Descriptors as fds
 use Rattle.iol_core.specs.declared.descriptors.Descriptor.{Descriptor}
 use Rattle.iol_core.specs.declared.descriptors.Descriptor.TheVariants as on
-use Rattle.iol_kernel.proofs.Rows.{with_domain-twice}
+use Rattle.iol_kernel.proofs.Rows.{with_domain-twice, domain-with_same}
 
 pub closed_on-with_domain : (s : State) (d : ℕ) (x : Domain Text) (o : Option Descriptor) → fds.closed_on (machine.with_domain s d x) o ≡ machine.with_domain (fds.closed_on s o) d x
 unfolding machine.with_domain machine.with_pipe machine.with_conn machine.pipe_at machine.conn_at
@@ -35,10 +35,19 @@ fold-with_domain s d x [] = refl
 fold-with_domain s d x (o ∷ os) = ap (λ (u : State). fold fds.closed_on u os) (closed_on-with_domain s d x o) ∙ fold-with_domain (fds.closed_on s o) d x os
 
 -- nothing is left of a domain, so what it had before does not matter
-pub ended_after : (m s : State) (d : ℕ) (x : Domain Text) (os : List (Option Descriptor)) → s ≡ machine.with_domain m d x → machine.with_domain (fold fds.closed_on (fds.with_fds s d []) os) d no_domain ≡ machine.with_domain (fold fds.closed_on m os) d no_domain
+ended_after : (m s : State) (d : ℕ) (x : Domain Text) (os : List (Option Descriptor)) → s ≡ machine.with_domain m d x → machine.with_domain (fold fds.closed_on (fds.with_fds s d []) os) d no_domain ≡ machine.with_domain (fold fds.closed_on m os) d no_domain
 ended_after m s d x os is =
     ap (λ (u : State). machine.with_domain u d no_domain) (fold-with_domain s d (record (machine.domain s d) { fds = [] }) os)
     ∙ with_domain-twice (fold fds.closed_on s os) d (record (machine.domain s d) { fds = [] }) no_domain
     ∙ ap (λ (u : State). machine.with_domain (fold fds.closed_on u os) d no_domain) is
     ∙ ap (λ (u : State). machine.with_domain u d no_domain) (fold-with_domain m d x os)
     ∙ with_domain-twice (fold fds.closed_on m os) d x no_domain
+
+-- all at once: the aggregates are dropped, the descriptors closed, and the domain ended
+pub ended_all : (m : State) (d : ℕ) → machine.is_live m d ≡ true
+    → (let s : State = machine.with_domain m d (record (machine.domain m d) { aggs = [] }) in machine.with_domain (fold fds.closed_on (fds.with_fds s d []) (machine.domain s d).fds) d no_domain) ≡ machine.with_domain (fold fds.closed_on m (machine.domain m d).fds) d no_domain
+ended_all m d live =
+    let x : Domain Text = record (machine.domain m d) { aggs = [] } in
+    let s : State = machine.with_domain m d x in
+    ap (λ (os : List (Option Descriptor)). machine.with_domain (fold fds.closed_on (fds.with_fds s d []) os) d no_domain) (ap (λ (y : Domain Text). y.fds) (domain-with_same m d x live))
+    ∙ ended_after m s d x (machine.domain m d).fds refl

@@ -20,18 +20,20 @@ use Rattle.iol_hold.specs.declared.slices.Slice.{Slice}
 use Rattle.iol_hold.proofs.Counting.{tally_none}
 use Rattle.iol_hold.proofs.Moving.{moves_none}
 use Rattle.iol_hold.proofs.Reading.{readable_none}
-use Rattle.iol_kernel.specs.Seen.{Pipe, pipe_meant, seen}
+use Rattle.iol_kernel.specs.Views.{Pipe, pipe_view, state_view}
 use Rattle.iol_kernel.specs.Counted.{uses, pipe_uses, IsCounted}
 use Rattle.iol_kernel.specs.Ends.{same_end, on_end, ends_on, all_ends_on}
-use Rattle.iol_kernel.specs.KernelState.{KernelState, machine_of, Each, IsOpenEnd, IsPipeReadable, IsShort, IsLimited, IsSound, queue_at}
+use Rattle.iol_kernel.specs.KernelState.{KernelState, Each, IsOpenEnd, IsPipeReadable, IsShort, IsLimited, IsSound, queue_at, Reading, read_of}
 use Rattle.iol_kernel.specs.ClosedEnds.{without_reader, without_writer, with_pipe_in, ClosesEnd, KeepsEnds}
 use Rattle.iol_kernel.proofs.Uses.{uses-set_pipe, uses_at, Pipes}
-use Rattle.iol_kernel.proofs.Sound.{each-set, counted_held}
+use Rattle.iol_kernel.proofs.Sound.{each-set}
 use Rattle.iol_kernel.proofs.Ends.{there_if_open, closed_pipe}
-use Rattle.iol_kernel.proofs.Effects.{moved-machine, moved-sound, same_length}
+use Rattle.iol_kernel.proofs.Effects.{moved-sound, same_length, leaves}
 use Rattle.iol_kernel.proofs.Queueing.{queue_readable, queue_short}
-use Rattle.iol_kernel.proofs.ReadOf.{pipe_at-machine_of}
-use Rattle.iol_kernel.proofs.Meant.{with_pipe_in-seen}
+use Rattle.iol_kernel.proofs.ReadOf.{pipe_at-read_of}
+use Rattle.iol_kernel.proofs.Views.{with_pipe_in-view, pools-view}
+use Rattle.iol_hold.specs.Layout.{read}
+use Rattle.iol_kernel.specs.Calls.{Leaves}
 
 pub moves_same : (s : Stored) (xs : List BufId) → Moves s s xs xs
 moves_same s xs = let m = moves_none s in record { counts = record { each = λ b. refl }; stays = m.stays; still = m.still; tidy = m.tidy }
@@ -70,14 +72,14 @@ uses-with_pipe b qs p x there empty = pick (x.reading || x.writing) refl
         omega (arith, e, uses_at b qs p, ap (uses b) (empty is), tally_none b)
 
 -- what the machine does to the pipe
-reader-machine : (h : KernelState) (p : ℕ) → machine.with_pipe (machine_of h) p (pipe_meant (text_of h.store) (without_reader (queue_at h.pipes p))) ≡ fds.closed_on (machine_of h) (Some (on.ReadEnd p))
-reader-machine h p = ap (λ (y : machine.Pipe). machine.with_pipe (machine_of h) p (record y { queue = []; reading = false })) (sym (pipe_at-machine_of h p))
+reader-read : (f : Reading) (h : KernelState) (p : ℕ) → machine.with_pipe (read_of f h) p (pipe_view (read f) (without_reader (queue_at h.pipes p))) ≡ fds.closed_on (read_of f h) (Some (on.ReadEnd p))
+reader-read f h p = ap (λ (y : machine.Pipe). machine.with_pipe (read_of f h) p (record y { queue = []; reading = false })) (sym (pipe_at-read_of f h p))
 
-writer-machine : (h : KernelState) (p : ℕ) → machine.with_pipe (machine_of h) p (pipe_meant (text_of h.store) (without_writer (queue_at h.pipes p))) ≡ fds.closed_on (machine_of h) (Some (on.WriteEnd p))
+writer-read : (f : Reading) (h : KernelState) (p : ℕ) → machine.with_pipe (read_of f h) p (pipe_view (read f) (without_writer (queue_at h.pipes p))) ≡ fds.closed_on (read_of f h) (Some (on.WriteEnd p))
 unfolding machine.with_pipe
-writer-machine h p = gone (queue_at h.pipes p).queue (queue_at h.pipes p).reading ∙ ap (λ (y : machine.Pipe). machine.with_pipe (machine_of h) p (record y { writing = false })) (sym (pipe_at-machine_of h p))
+writer-read f h p = gone (queue_at h.pipes p).queue (queue_at h.pipes p).reading ∙ ap (λ (y : machine.Pipe). machine.with_pipe (read_of f h) p (record y { writing = false })) (sym (pipe_at-read_of f h p))
   where
-    gone : (q : List Slice) (r : Bool) → machine.with_pipe (machine_of h) p (record { queue = text_of h.store (if r then q else []); reading = r; writing = false }) ≡ machine.with_pipe (machine_of h) p (record { queue = text_of h.store q; reading = r; writing = false })
+    gone : (q : List Slice) (r : Bool) → machine.with_pipe (read_of f h) p (record { queue = read f (if r then q else []); reading = r; writing = false }) ≡ machine.with_pipe (read_of f h) p (record { queue = read f q; reading = r; writing = false })
     gone q true = refl
     gone q false = refl
 
@@ -177,12 +179,15 @@ module _ (h : KernelState) (t : Stored) (qs : Pipes) (p : ℕ) (x : Pipe (List S
     few_pipes = omega (arith, sound.limits.few_pipes, length-set h.pipes p (if x.reading || x.writing then Some x else None));
   }
 
-  closed_pipe-machine : machine_of (record h { store = t; pipes = qs }) ≡ machine.with_pipe (machine_of h) p (pipe_meant (text_of h.store) x)
-  unfolding machine_of
-  closed_pipe-machine =
-      ap (λ (ys : Pipes). seen (text_of t) h.domains t.pools ys) closes.pipes
-      ∙ moved-machine h.store t h.domains less closes.moves.stays closes.lists (counted_held less_counted) sound.domains less_good
-      ∙ with_pipe_in-seen (text_of h.store) h.domains h.store.pools h.pipes p x
+  closed_pipe-read : (f : Reading) → read_of f (record h { store = t; pipes = qs }) ≡ machine.with_pipe (read_of f h) p (pipe_view (read f) x)
+  unfolding read_of
+  closed_pipe-read f =
+      ap (λ (ys : Pipes). state_view (read f) h.domains t.pools ys) closes.pipes
+      ∙ pools-view (read f) h.domains h.store.pools t.pools less closes.lists
+      ∙ with_pipe_in-view (read f) h.domains h.store.pools h.pipes p x
+
+  qs_good : Each (IsPipeReadable h.store) qs
+  qs_good = subst (λ (ys : Pipes). Each (IsPipeReadable h.store) ys) (sym closes.pipes) less_good
 
   closed_pipe-sound : (end : Descriptor) → KeepsEnds end h.pipes less → all_ends_on end h.domains ≡ 0 → IsSound (record h { store = t; pipes = qs })
   closed_pipe-sound end keeps free = subst (λ (ys : Pipes). IsSound (record h { store = t; pipes = ys })) (sym closes.pipes)
@@ -195,11 +200,13 @@ module _ (h : KernelState) (t : Stored) (qs : Pipes) (p : ℕ) (sound : IsSound 
   reader_there : p < length h.pipes
   reader_there = there_if_open h.pipes p (inl reading)
 
-  pub reader_closed-machine : machine_of (record h { store = t; pipes = qs }) ≡ fds.closed_on (machine_of h) (Some (on.ReadEnd p))
-  reader_closed-machine = closed_pipe-machine h t qs p (without_reader (queue_at h.pipes p)) sound reader_there closes (inl refl) (λ e. refl) ∙ reader-machine h p
-
-  pub reader_closed-sound : all_ends_on (on.ReadEnd p) h.domains ≡ 0 → IsSound (record h { store = t; pipes = qs })
-  reader_closed-sound free = closed_pipe-sound h t qs p (without_reader (queue_at h.pipes p)) sound reader_there closes (inl refl) (λ e. refl) (on.ReadEnd p) (reader_keeps h.pipes p reader_there) free
+  pub reader_closed : all_ends_on (on.ReadEnd p) h.domains ≡ 0 → Leaves (λ s. fds.closed_on s (Some (on.ReadEnd p))) h (record h { store = t; pipes = qs })
+  reader_closed free =
+      let x : Pipe (List Slice) = without_reader (queue_at h.pipes p) in
+      leaves (λ s. fds.closed_on s (Some (on.ReadEnd p))) h t h.domains qs
+      (λ f. closed_pipe-read h t qs p x sound reader_there closes (inl refl) (λ e. refl) f ∙ reader-read f h p)
+      closes.moves.stays sound.domains (qs_good h t qs p x sound reader_there closes (inl refl) (λ e. refl))
+      (closed_pipe-sound h t qs p x sound reader_there closes (inl refl) (λ e. refl) (on.ReadEnd p) (reader_keeps h.pipes p reader_there) free)
 
 -- a write end
 
@@ -218,9 +225,11 @@ module _ (h : KernelState) (t : Stored) (qs : Pipes) (p : ℕ) (sound : IsSound 
   writer_part : ((without_writer (queue_at h.pipes p)).queue ≡ []) ⊎ ((without_writer (queue_at h.pipes p)).queue ≡ (queue_at h.pipes p).queue)
   writer_part = part_of (queue_at h.pipes p).queue (queue_at h.pipes p).reading
 
-  pub writer_closed-machine : machine_of (record h { store = t; pipes = qs }) ≡ fds.closed_on (machine_of h) (Some (on.WriteEnd p))
-  writer_closed-machine = closed_pipe-machine h t qs p (without_writer (queue_at h.pipes p)) sound writer_there closes writer_part (none_of (queue_at h.pipes p).queue (queue_at h.pipes p).reading) ∙ writer-machine h p
-
-  pub writer_closed-sound : all_ends_on (on.WriteEnd p) h.domains ≡ 0 → IsSound (record h { store = t; pipes = qs })
-  writer_closed-sound free =
-      closed_pipe-sound h t qs p (without_writer (queue_at h.pipes p)) sound writer_there closes writer_part (none_of (queue_at h.pipes p).queue (queue_at h.pipes p).reading) (on.WriteEnd p) (writer_keeps h.pipes p writer_there) free
+  pub writer_closed : all_ends_on (on.WriteEnd p) h.domains ≡ 0 → Leaves (λ s. fds.closed_on s (Some (on.WriteEnd p))) h (record h { store = t; pipes = qs })
+  writer_closed free =
+      let x : Pipe (List Slice) = without_writer (queue_at h.pipes p) in
+      let none = none_of (queue_at h.pipes p).queue (queue_at h.pipes p).reading in
+      leaves (λ s. fds.closed_on s (Some (on.WriteEnd p))) h t h.domains qs
+      (λ f. closed_pipe-read h t qs p x sound writer_there closes writer_part none f ∙ writer-read f h p)
+      closes.moves.stays sound.domains (qs_good h t qs p x sound writer_there closes writer_part none)
+      (closed_pipe-sound h t qs p x sound writer_there closes writer_part none (on.WriteEnd p) (writer_keeps h.pipes p writer_there) free)

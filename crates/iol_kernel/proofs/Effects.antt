@@ -1,9 +1,11 @@
 -- What the effects of the calls are made of: a change of what is held, as the machine sees it, and that it stays sound.
 use Rattle.std.proofs.Common.{◌≡◌, ℕ, ◌+◌, ◌<◌, ◌≤◌, List, [], ◌∷◌, ◌++◌, length, map, ap, ◌∙◌, refl, sym, subst, arith, Option, Some, true, false}
-use Rattle.std.specs.Prelude.{Result, Ok, Err, OnOk, nat_lt, ◌||◌}
+use Rattle.std.specs.Prelude.{MatchOption, None, Result, Ok, Err, OnOk, nat_lt, ◌||◌}
 use Rattle.std.proofs.Common.{length-append}
 use Rattle.std.proofs.lemmas.Bool.Decides.{nat_tests}
 use Rattle.iol_core.specs.declared.descriptors.Descriptor.{Descriptor}
+use Rattle.iol_core.specs.Meaning.{Meaning, first}
+use Rattle.iol_core.specs.declared.refusals.Refusal.{Refusal}
 use Rattle.iol_core.specs.Text.{Text}
 use Rattle.iol_core.specs.Numbered.{with_numbered, is_numbered}
 use Rattle.iol_core.specs.State as machine
@@ -15,70 +17,85 @@ use Rattle.iol_pool.specs.Pools.{Pool, pool_in, with_closed}
 use Rattle.iol_pool.proofs.Owning.{length-closed}
 use Rattle.iol_hold.specs.Stored.{Stored, IsTidy, IsStill}
 use Rattle.iol_hold.specs.Moves.{Stays, Moves, SameLists, pool_meant}
-use Rattle.iol_hold.specs.Texts.{text_of, bufs_of}
+use Rattle.iol_hold.specs.Texts.{text_of, bufs_of, byte_at}
 use Rattle.iol_hold.specs.declared.slices.Slice.{Slice}
 use Rattle.iol_hold.proofs.Counting.{tally_none}
+use Rattle.iol_hold.specs.Places.{byte_len}
 use Rattle.iol_hold.proofs.Reading.{length-text_of}
 use Rattle.iol_desc.specs.Tables.{domain_in, with_domain_in, agg_in, without_agg_in, live_aggs_in, with_fds_in}
-use Rattle.iol_kernel.specs.Seen.{Pipe, seen}
-use Rattle.iol_kernel.specs.Counted.{IsCounted}
-use Rattle.iol_kernel.specs.Ends.{IsOpenOnce}
-use Rattle.iol_kernel.specs.KernelState.{KernelState, machine_of, Each, IsDomainReadable, IsPipeReadable, IsOpenEnd, IsSound, IsLimited, AddsText}
-use Rattle.iol_kernel.proofs.Meant.{pool-seen, is_pool-seen, pools-seen, closed-seen, added_pool-seen, length_pools-seen, add_domain-seen, with_agg-seen, without_agg-seen, with_fds-seen, with_domain-seen, domain-seen, live_aggs-seen, length-map'}
+use Rattle.iol_kernel.specs.Views.{Pipe, state_view}
+use Rattle.iol_kernel.specs.Counted.{IsCounted, domain_uses}
+use Rattle.iol_kernel.specs.Ends.{IsOpenOnce, ends_on}
+use Rattle.iol_kernel.specs.KernelState.{KernelState, machine_of, Each, IsDomainReadable, IsPipeReadable, IsOpenEnd, IsSound, IsLimited, Reading, read_of}
+use Rattle.iol_kernel.proofs.Views.{pools-view, closed-view, added_pool-view, add_domain-view, with_agg-view, without_agg-view, with_fds-view, with_domain-view, domain-view, live_aggs-view, length-map'}
 use Rattle.iol_kernel.proofs.Uses.{uses-with_agg, uses-without_agg}
 use Rattle.iol_kernel.proofs.Once.{once_same}
-use Rattle.iol_kernel.proofs.Sound.{AreHeld, counted_held, domains_stay, pipes_stay, seen-stays, sound_with, sound_fds, ends_open, limits_agg, limits_drop, drop_readable, add_readable, fds_stay}
+use Rattle.iol_kernel.proofs.Sound.{AreHeld, counted_held, domains_stay, pipes_stay, view-stays, sound_with, sound_fds, ends_open, limits_agg, limits_drop, drop_readable, add_readable, fds_stay, each-push}
+use Rattle.iol_core.specs.declared.limits.TheConstants.{MAX_AGGREGATES, MAX_AGGREGATE_BYTES, MAX_POOLS}
+use Rattle.iol_hold.proofs.Moving.{stays_trans}
+use Rattle.iol_hold.specs.Layout.{read}
+use Rattle.iol_kernel.proofs.ReadOf.{next_agg-read_of}
+use Rattle.iol_kernel.proofs.Stay.{stays_here}
+use Rattle.iol_kernel.specs.Adding.{AddsText}
+use Rattle.iol_kernel.specs.Calls.{AddsAgg, Answers, Leaves, KeepsPlaces}
+use Rattle.std.proofs.lemmas.List.Sums.{sum_by_push}
 
 -- a new domain
 
-pub grown-machine : (h : KernelState) (ds : List (Domain (List Slice))) → ds ≡ h.domains ++ new_domain ∷ [] → machine_of (record h { domains = ds }) ≡ record (machine_of h) { domains = (machine_of h).domains ++ new_domain ∷ [] }
-unfolding machine_of
-grown-machine h ds is = ap (λ (xs : List (Domain (List Slice))). seen (text_of h.store) xs h.store.pools h.pipes) is ∙ add_domain-seen (text_of h.store) h.domains h.store.pools h.pipes
+pub grown-read : (f : Reading) (h : KernelState) (ds : List (Domain (List Slice))) → ds ≡ h.domains ++ new_domain ∷ [] → read_of f (record h { domains = ds }) ≡ record (read_of f h) { domains = (read_of f h).domains ++ new_domain ∷ [] }
+unfolding read_of
+grown-read f h ds is = ap (λ (xs : List (Domain (List Slice))). state_view (read f) xs h.store.pools h.pipes) is ∙ add_domain-view (read f) h.domains h.store.pools h.pipes
 
--- what follows from a success
-pub on_ok : {A E P Q : Type 0} (r : Result A E) → (P → Q) → OnOk r P → OnOk r Q
-on_ok (Ok x) f h = f h
-on_ok (Err e) f h = h
-
--- what the machine says of a domain, said of what is held
-
-pub live_held : (h : KernelState) (d : ℕ) → machine.is_live (machine_of h) d ≡ true → (domain_in h.domains d).live ≡ true
-unfolding machine_of
-live_held h d live = sym (ap (λ (x : Domain Text). x.live) (domain-seen (text_of h.store) h.domains h.store.pools h.pipes d)) ∙ live
-
-pub next_agg-machine_of : (h : KernelState) (d : ℕ) → (machine.domain (machine_of h) d).next_agg ≡ (domain_in h.domains d).next_agg
-unfolding machine_of
-next_agg-machine_of h d = ap (λ (x : Domain Text). x.next_agg) (domain-seen (text_of h.store) h.domains h.store.pools h.pipes d)
-
-pub fds-machine_of : (h : KernelState) (d : ℕ) → (machine.domain (machine_of h) d).fds ≡ (domain_in h.domains d).fds
-unfolding machine_of
-fds-machine_of h d = ap (λ (x : Domain Text). x.fds) (domain-seen (text_of h.store) h.domains h.store.pools h.pipes d)
-
-pub closed-machine_of : (h : KernelState) (p : ℕ) → (machine.pool (machine_of h) p).closed ≡ (pool_in h.store.pools p).closed
-unfolding machine_of
-closed-machine_of h p = ap (λ (x : machine.Pool). x.closed) (pool-seen (text_of h.store) h.domains h.store.pools h.pipes p)
+pub grown-sound : (h : KernelState) (ds : List (Domain (List Slice))) → IsSound h → ds ≡ h.domains ++ new_domain ∷ [] → IsSound (record h { domains = ds })
+grown-sound h ds sound is = subst (λ (ys : List (Domain (List Slice))). IsSound (record h { domains = ys })) (sym is) (record {
+  domains = each-push (IsDomainReadable h.store) h.domains new_domain sound.domains tt;
+  pipes = sound.pipes;
+  fds = each-push (λ (x : Domain (List Slice)). Each (IsOpenEnd h.pipes) x.fds) h.domains new_domain sound.fds tt;
+  once = record { each = λ e. omega (arith, sound.once.each e, sum_by_push (λ (x : Domain (List Slice)). ends_on e x.fds) h.domains new_domain) };
+  counted = record { each = λ b. omega (arith, sound.counted.each b, sum_by_push (domain_uses b) h.domains new_domain) };
+  tidy = sound.tidy;
+  still = sound.still;
+  limits = record {
+    aggs = each-push (λ (x : Domain (List Slice)). Each (λ e. byte_len e.1 ≤ MAX_AGGREGATE_BYTES) x.aggs) h.domains new_domain sound.limits.aggs tt;
+    few = omega (arith, sound.limits.few, sum_by_push (λ (x : Domain (List Slice)). length x.aggs) h.domains new_domain);
+    queues = sound.limits.queues;
+    few_pipes = sound.limits.few_pipes;
+  };
+  few_pools = sound.few_pools;
+})
 
 -- no more aggregates, and no more numbers, than there may be
 
-pub few_numbers : (h : KernelState) (d made given : ℕ) → aggs.too_many_aggs (machine_of h) d made given ≡ false → (domain_in h.domains d).next_agg + made ≤ 18446744073709551615
-few_numbers h d made given few = omega (arith, next_agg-machine_of h d, within (machine.live_aggs (machine_of h)) (machine.domain (machine_of h) d).next_agg few)
+pub few_numbers : (f : Reading) (h : KernelState) (d made given : ℕ) → aggs.too_many_aggs (read_of f h) d made given ≡ false → (domain_in h.domains d).next_agg + made ≤ 18446744073709551615
+few_numbers f h d made given few = omega (arith, next_agg-read_of f h d, within (machine.live_aggs (read_of f h)) (machine.domain (read_of f h) d).next_agg few)
   where
     within : (n m : ℕ) → (nat_lt (65536 + given) (n + made) || nat_lt (18446744073709551614 + 1) (m + made)) ≡ false → m + made ≤ 18446744073709551615
     within n m few = grind (arith, nat_tests, few)
 
-pub few_aggs : (h : KernelState) (d made given : ℕ) → aggs.too_many_aggs (machine_of h) d made given ≡ false → live_aggs_in h.domains + made ≤ 65536 + given
-unfolding machine_of
-few_aggs h d made given few = omega (arith, live_aggs-seen (text_of h.store) h.domains h.store.pools h.pipes, within (machine.live_aggs (machine_of h)) (machine.domain (machine_of h) d).next_agg few)
+pub few_aggs : (f : Reading) (h : KernelState) (d made given : ℕ) → aggs.too_many_aggs (read_of f h) d made given ≡ false → live_aggs_in h.domains + made ≤ 65536 + given
+unfolding read_of
+few_aggs f h d made given few = omega (arith, live_aggs-view (read f) h.domains h.store.pools h.pipes, within (machine.live_aggs (read_of f h)) (machine.domain (read_of f h) d).next_agg few)
   where
     within : (n m : ℕ) → (nat_lt (65536 + given) (n + made) || nat_lt (18446744073709551614 + 1) (m + made)) ≡ false → n + made ≤ 65536 + given
     within n m few = grind (arith, nat_tests, few)
 
 -- the store goes on
 
-pub moved-machine : (s t : Stored) (ds : List (Domain (List Slice))) (qs : List (Option (Pipe (List Slice)))) → Stays s t → SameLists s t → AreHeld t ds qs → Each (IsDomainReadable s) ds → Each (IsPipeReadable s) qs
-    → machine_of (record { store = t; domains = ds; pipes = qs }) ≡ machine_of (record { store = s; domains = ds; pipes = qs })
-unfolding machine_of
-moved-machine s t ds qs stays lists held e k = pools-seen (text_of t) ds s.pools t.pools qs lists ∙ seen-stays s t stays ds qs held s.pools e k
+-- what is held is read as it was
+pub moved-read : (s t : Stored) (ds : List (Domain (List Slice))) (qs : List (Option (Pipe (List Slice)))) → Stays s t → AreHeld t ds qs → Each (IsDomainReadable s) ds → Each (IsPipeReadable s) qs
+    → machine_of (record { store = t; domains = ds; pipes = qs }) ≡ read_of (byte_at s) (record { store = t; domains = ds; pipes = qs })
+unfolding read_of
+moved-read s t ds qs stays held e k = view-stays s t stays ds qs held t.pools e k
+
+-- a change of the tables that is the same whatever is read, while the store goes on
+pub leaves : (after : State → State) (h : KernelState) (t : Stored) (ds : List (Domain (List Slice))) (qs : List (Option (Pipe (List Slice)))) → ((f : Reading) → read_of f (record { store = t; domains = ds; pipes = qs }) ≡ after (read_of f h))
+    → Stays h.store t → Each (IsDomainReadable h.store) ds → Each (IsPipeReadable h.store) qs → IsSound (record { store = t; domains = ds; pipes = qs }) → Leaves after h (record { store = t; domains = ds; pipes = qs })
+leaves after h t ds qs reads stays e k sound = record {
+  bytes = moved-read h.store t ds qs stays (counted_held sound.counted) e k ∙ reads (byte_at h.store);
+  places = λ f keeps. reads f;
+  sound = sound;
+  stays = stays;
+}
 
 pub moved-sound : (s t : Stored) (ds : List (Domain (List Slice))) (qs : List (Option (Pipe (List Slice)))) → Stays s t → IsCounted t ds qs → IsTidy t → IsStill t.arena → Each (IsDomainReadable s) ds → Each (IsPipeReadable s) qs
     → Each (λ (d : Domain (List Slice)). Each (IsOpenEnd qs) d.fds) ds → IsOpenOnce ds → IsLimited ds qs → length t.pools ≤ 1024 → IsSound (record { store = t; domains = ds; pipes = qs })
@@ -94,21 +111,64 @@ moved-sound s t ds qs stays counted tidy still e k fds once limits few = record 
   few_pools = few;
 }
 
+-- the tables change, and the store stays
+pub leaves_here : (after : State → State) (h : KernelState) (ds : List (Domain (List Slice))) → ((f : Reading) → read_of f (record h { domains = ds }) ≡ after (read_of f h)) → IsSound (record h { domains = ds }) → Leaves after h (record h { domains = ds })
+leaves_here after h ds reads sound = record { bytes = reads (byte_at h.store); places = λ f keeps. reads f; sound = sound; stays = stays_here h.store }
+
+-- a late refusal
+pub keeps_late : {A : Type 0} (m : State → Meaning A) (h k : KernelState) (x : Refusal) → k ≡ h → IsSound h → ((f : Reading) → first (m (read_of f h)).refusals ≡ None) → ((f : Reading) → (m (read_of f h)).Late x) → KeepsPlaces m h (Err x) k
+keeps_late {A} m h k x same sound none late = subst (λ (l : KernelState). KeepsPlaces m h (Err x) l) (sym same) (record {
+  step = (of (m (machine_of h)) (none (byte_at h.store)) (late (byte_at h.store)), refl);
+  places = λ f keeps. (of (m (read_of f h)) (none f) (late f), refl);
+  refused = refl;
+  sound = sound;
+  stays = stays_here h.store;
+})
+  where
+    of : (n : Meaning A) → first n.refusals ≡ None → n.Late x → MatchOption (first n.refusals) (n.Late x) (λ y. x ≡ y)
+    of n none late = rw none late
+
+-- one change after another
+pub leaves_then : (m n : State → State) (h k l : KernelState) → Leaves m h k → Leaves n k l → Leaves (λ s. n (m s)) h l
+leaves_then m n h k l one two = record {
+  bytes = two.bytes ∙ ap n one.bytes;
+  places = λ f keeps. two.places f keeps ∙ ap n (one.places f keeps);
+  sound = two.sound;
+  stays = stays_trans one.stays two.stays;
+}
+
+-- the same change, said in other words
+pub leaves_as : (m n : State → State) (h k : KernelState) → ((f : Reading) → m (read_of f h) ≡ n (read_of f h)) → Leaves m h k → Leaves n h k
+leaves_as m n h k same one = record { bytes = one.bytes ∙ same (byte_at h.store); places = λ f keeps. one.places f keeps ∙ same f; sound = one.sound; stays = one.stays }
+
 -- a domain gets an aggregate of new bytes
 
 adds_held : (s t : Stored) (ds : List (Domain (List Slice))) (qs : List (Option (Pipe (List Slice)))) (xs : List Slice) → IsCounted s ds qs → Moves s t [] (bufs_of xs) → AreHeld t ds qs
 adds_held s t ds qs xs counted m = record { each = λ b. omega (arith, counted.each b, m.counts.each b, tally_none b) }
 
-pub placed-machine : (h : KernelState) (t : Stored) (ds : List (Domain (List Slice))) (d : ℕ) (text : Text) → IsSound h → AddsText h.store t h.domains ds d text → machine_of (record h { store = t; domains = ds }) ≡ aggs.with_agg (machine_of h) d text
-unfolding machine_of
-placed-machine h t ds d text sound adds =
-    ap (λ (xs : List (Domain (List Slice))). seen (text_of t) xs t.pools h.pipes) adds.added
-    ∙ with_agg-seen (text_of t) h.domains t.pools h.pipes d adds.slices
-    ∙ ap (λ (ps : List Pool). aggs.with_agg (seen (text_of t) h.domains ps h.pipes) d (text_of t adds.slices)) adds.pools
-    ∙ ap (λ (x : State). aggs.with_agg x d (text_of t adds.slices)) (seen-stays h.store t adds.moves.stays h.domains h.pipes (adds_held h.store t h.domains h.pipes adds.slices sound.counted adds.moves) h.store.pools sound.domains sound.pipes)
-    ∙ ap (aggs.with_agg (machine_of h) d) adds.is_text
+module _ (h : KernelState) (t : Stored) (ds : List (Domain (List Slice))) (d : ℕ) (text : Text) (sound : IsSound h) (adds : AddsText h.store t h.domains ds d text) where
+  placed-read : (f : Reading) → read_of f (record h { store = t; domains = ds }) ≡ aggs.with_agg (read_of f h) d (read f adds.slices)
+  unfolding read_of
+  placed-read f =
+      ap (λ (xs : List (Domain (List Slice))). state_view (read f) xs t.pools h.pipes) adds.added
+      ∙ with_agg-view (read f) h.domains t.pools h.pipes d adds.slices
+      ∙ ap (λ (ps : List Pool). aggs.with_agg (state_view (read f) h.domains ps h.pipes) d (read f adds.slices)) adds.pools
 
-pub placed-sound : (h : KernelState) (t : Stored) (ds : List (Domain (List Slice))) (d : ℕ) (text : Text) → IsSound h → (domain_in h.domains d).live ≡ true → live_aggs_in h.domains < 65536 → length text ≤ 16777216 → AddsText h.store t h.domains ds d text → IsSound (record h { store = t; domains = ds })
+  held-read : read_of (byte_at t) h ≡ machine_of h
+  unfolding read_of
+  held-read = view-stays h.store t adds.moves.stays h.domains h.pipes (adds_held h.store t h.domains h.pipes adds.slices sound.counted adds.moves) h.store.pools sound.domains sound.pipes
+
+  pub placed-machine : machine_of (record h { store = t; domains = ds }) ≡ aggs.with_agg (machine_of h) d text
+  placed-machine =
+      placed-read (byte_at t)
+      ∙ ap (λ (x : State). aggs.with_agg x d (text_of t adds.slices)) held-read
+      ∙ ap (aggs.with_agg (machine_of h) d) adds.is_text
+
+  -- nothing else changes, whatever is read
+  pub placed_alone : AddsAgg d h (record h { store = t; domains = ds })
+  placed_alone = record { slices = adds.slices; each = placed-read }
+
+pub placed-sound : (h : KernelState) (t : Stored) (ds : List (Domain (List Slice))) (d : ℕ) (text : Text) → IsSound h → (domain_in h.domains d).live ≡ true → live_aggs_in h.domains < MAX_AGGREGATES → length text ≤ MAX_AGGREGATE_BYTES → AddsText h.store t h.domains ds d text → IsSound (record h { store = t; domains = ds })
 placed-sound h t ds d text sound live few small adds =
     let held = adds_held h.store t h.domains h.pipes adds.slices sound.counted adds.moves in
     let x : Domain (List Slice) = domain_in h.domains d in
@@ -135,37 +195,20 @@ module _ (h : KernelState) (t : Stored) (ds : List (Domain (List Slice))) (d a :
   dropped_counted : IsCounted t (without_agg_in h.domains d a) h.pipes
   dropped_counted = record { each = λ b. omega (arith, sound.counted.each b, moves.counts.each b, tally_none b, uses-without_agg b h.domains d a xs live found) }
 
-  pub dropped-machine : machine_of (record h { store = t; domains = ds }) ≡ aggs.without_agg (machine_of h) d a
-  unfolding machine_of
-  dropped-machine =
-      ap (λ (ys : List (Domain (List Slice))). seen (text_of t) ys t.pools h.pipes) rest
-      ∙ moved-machine h.store t (without_agg_in h.domains d a) h.pipes moves.stays lists (counted_held dropped_counted) (drop_readable h d a sound) sound.pipes
-      ∙ without_agg-seen (text_of h.store) h.domains h.store.pools h.pipes d a
+  dropped-read : (f : Reading) → read_of f (record h { store = t; domains = ds }) ≡ aggs.without_agg (read_of f h) d a
+  unfolding read_of
+  dropped-read f =
+      ap (λ (ys : List (Domain (List Slice))). state_view (read f) ys t.pools h.pipes) rest
+      ∙ pools-view (read f) (without_agg_in h.domains d a) h.store.pools t.pools h.pipes lists
+      ∙ without_agg-view (read f) h.domains h.store.pools h.pipes d a
 
-  pub dropped-sound : IsSound (record h { store = t; domains = ds })
+  dropped-sound : IsSound (record h { store = t; domains = ds })
   dropped-sound = subst (λ (ys : List (Domain (List Slice))). IsSound (record h { store = t; domains = ys })) (sym rest)
       (moved-sound h.store t (without_agg_in h.domains d a) h.pipes moves.stays dropped_counted (moves.tidy sound.tidy) (moves.still sound.still) (drop_readable h d a sound) sound.pipes
       (fds_stay h.pipes h.domains d _ sound.fds refl) (once_same h.domains d _ live refl sound.once) (limits_drop h.domains h.pipes d a xs sound.limits live found) (same_length h.store t lists sound.few_pools))
 
--- pools come and go; nothing is placed and nothing given up
-
-module _ (h : KernelState) (t : Stored) (sound : IsSound h) (moves : Moves h.store t [] []) where
-  unmoved_counted : IsCounted t h.domains h.pipes
-  unmoved_counted = record { each = λ b. omega (arith, sound.counted.each b, moves.counts.each b, tally_none b) }
-
-  pub unmoved-sound : length t.pools ≤ 1024 → IsSound (record h { store = t })
-  unmoved-sound few = moved-sound h.store t h.domains h.pipes moves.stays unmoved_counted (moves.tidy sound.tidy) (moves.still sound.still) sound.domains sound.pipes sound.fds sound.once sound.limits few
-
-  unmoved-seen : (ps : List Pool) → seen (text_of t) h.domains ps h.pipes ≡ seen (text_of h.store) h.domains ps h.pipes
-  unmoved-seen ps = seen-stays h.store t moves.stays h.domains h.pipes (counted_held unmoved_counted) ps sound.domains sound.pipes
-
-  pub pooled-machine : (list : List ℕ) → map pool_meant t.pools ≡ map pool_meant h.store.pools ++ record { domains = list; closed = false } ∷ [] → machine_of (record h { store = t }) ≡ record (machine_of h) { pools = (machine_of h).pools ++ record { domains = list; closed = false } ∷ [] }
-  unfolding machine_of
-  pooled-machine list added = unmoved-seen t.pools ∙ added_pool-seen (text_of h.store) h.domains h.store.pools t.pools h.pipes (record { domains = list; closed = false }) added
-
-  pub closed-machine : (p : ℕ) → map pool_meant t.pools ≡ map pool_meant (with_closed h.store.pools p) → machine_of (record h { store = t }) ≡ record (machine_of h) { pools = with_numbered (machine_of h).pools p (record (machine.pool (machine_of h) p) { closed = true }) }
-  unfolding machine_of
-  closed-machine p closed = unmoved-seen t.pools ∙ closed-seen (text_of h.store) h.domains h.store.pools t.pools h.pipes p closed
+  pub dropped : Leaves (λ s. aggs.without_agg s d a) h (record h { store = t; domains = ds })
+  dropped = leaves (λ s. aggs.without_agg s d a) h t ds h.pipes dropped-read moves.stays (subst (λ (ys : List (Domain (List Slice))). Each (IsDomainReadable h.store) ys) (sym rest) (drop_readable h d a sound)) sound.pipes dropped-sound
 
 -- one pool more, or as many
 pub one_more_pool : (s t : Stored) (x : machine.Pool) → map pool_meant t.pools ≡ map pool_meant s.pools ++ x ∷ [] → length s.pools < 1024 → length t.pools ≤ 1024
@@ -174,43 +217,57 @@ one_more_pool s t x added few = omega (arith, few, ap length added, length-appen
 pub as_many_pools : (s t : Stored) (p : ℕ) → map pool_meant t.pools ≡ map pool_meant (with_closed s.pools p) → length s.pools ≤ 1024 → length t.pools ≤ 1024
 as_many_pools s t p closed few = omega (arith, few, ap length closed, length-map' pool_meant (with_closed s.pools p), length-map' pool_meant t.pools, length-closed s.pools p)
 
--- a store that is as it was
+-- pools come and go; nothing is placed and nothing given up
 
-pub unchanged-sound : (h : KernelState) (t : Stored) (ds : List (Domain (List Slice))) → IsSound h → t ≡ h.store → ds ≡ h.domains → IsSound (record h { store = t; domains = ds })
-unchanged-sound h t ds sound store' domains' =
-    subst (λ (s : Stored). IsSound (record h { store = s; domains = ds })) (sym store') (subst (λ (xs : List (Domain (List Slice))). IsSound (record h { domains = xs })) (sym domains') sound)
+module _ (h : KernelState) (t : Stored) (sound : IsSound h) (moves : Moves h.store t [] []) where
+  unmoved_counted : IsCounted t h.domains h.pipes
+  unmoved_counted = record { each = λ b. omega (arith, sound.counted.each b, moves.counts.each b, tally_none b) }
 
-pub is_pool-machine_of : (h : KernelState) (p : ℕ) → machine.is_pool (machine_of h) p ≡ is_numbered h.store.pools p
-unfolding machine_of
-is_pool-machine_of h p = is_pool-seen (text_of h.store) h.domains h.store.pools h.pipes p
+  unmoved-sound : length t.pools ≤ MAX_POOLS → IsSound (record h { store = t })
+  unmoved-sound few = moved-sound h.store t h.domains h.pipes moves.stays unmoved_counted (moves.tidy sound.tidy) (moves.still sound.still) sound.domains sound.pipes sound.fds sound.once sound.limits few
 
--- there are no files and connections yet
-pub idle_held : (h : KernelState) (p : ℕ) → pools.is_busy (machine_of h) p ≡ false
-unfolding machine_of seen
-idle_held h p = refl
+  pooled-read : (list : List ℕ) → map pool_meant t.pools ≡ map pool_meant h.store.pools ++ record { domains = list; closed = false } ∷ [] → (f : Reading) → read_of f (record h { store = t }) ≡ record (read_of f h) { pools = (read_of f h).pools ++ record { domains = list; closed = false } ∷ [] }
+  unfolding read_of
+  pooled-read list added f = added_pool-view (read f) h.domains h.store.pools t.pools h.pipes (record { domains = list; closed = false }) added
 
-pub length_pools-machine_of : (h : KernelState) → length (machine_of h).pools ≡ length h.store.pools
-unfolding machine_of
-length_pools-machine_of h = length_pools-seen (text_of h.store) h.domains h.store.pools h.pipes
+  pool_closed-read : (p : ℕ) → map pool_meant t.pools ≡ map pool_meant (with_closed h.store.pools p) → (f : Reading) → read_of f (record h { store = t }) ≡ record (read_of f h) { pools = with_numbered (read_of f h).pools p (record (machine.pool (read_of f h) p) { closed = true }) }
+  unfolding read_of
+  pool_closed-read p closed f = closed-view (read f) h.domains h.store.pools t.pools h.pipes p closed
+
+  pub pooled : (list : List ℕ) → map pool_meant t.pools ≡ map pool_meant h.store.pools ++ record { domains = list; closed = false } ∷ [] → length h.store.pools < MAX_POOLS → Leaves (λ s. record s { pools = s.pools ++ record { domains = list; closed = false } ∷ [] }) h (record h { store = t })
+  pooled list added few = leaves (λ s. record s { pools = s.pools ++ record { domains = list; closed = false } ∷ [] }) h t h.domains h.pipes (pooled-read list added) moves.stays sound.domains sound.pipes (unmoved-sound (one_more_pool h.store t _ added few))
+
+  pub pool_closed : (p : ℕ) → map pool_meant t.pools ≡ map pool_meant (with_closed h.store.pools p) → Leaves (λ s. record s { pools = with_numbered s.pools p (record (machine.pool s p) { closed = true }) }) h (record h { store = t })
+  pool_closed p closed = leaves (λ s. record s { pools = with_numbered s.pools p (record (machine.pool s p) { closed = true }) }) h t h.domains h.pipes (pool_closed-read p closed) moves.stays sound.domains sound.pipes (unmoved-sound (as_many_pools h.store t p closed sound.few_pools))
 
 -- a domain's descriptors change
 
-pub fds-machine : (h : KernelState) (ds : List (Domain (List Slice))) (d : ℕ) (xs : List (Option Descriptor)) → ds ≡ with_fds_in h.domains d xs → machine_of (record h { domains = ds }) ≡ fds.with_fds (machine_of h) d xs
-unfolding machine_of
-fds-machine h ds d xs is = ap (λ (ys : List (Domain (List Slice))). seen (text_of h.store) ys h.store.pools h.pipes) is ∙ with_fds-seen (text_of h.store) h.domains h.store.pools h.pipes d xs
+pub fds-changed : (f : Reading) (h : KernelState) (ds : List (Domain (List Slice))) (d : ℕ) (xs : List (Option Descriptor)) → ds ≡ with_fds_in h.domains d xs → read_of f (record h { domains = ds }) ≡ fds.with_fds (read_of f h) d xs
+unfolding read_of
+fds-changed f h ds d xs is = ap (λ (ys : List (Domain (List Slice))). state_view (read f) ys h.store.pools h.pipes) is ∙ with_fds-view (read f) h.domains h.store.pools h.pipes d xs
 
 pub fds-sound : (h : KernelState) (ds : List (Domain (List Slice))) (d : ℕ) (xs : List (Option Descriptor)) → IsSound h → (domain_in h.domains d).live ≡ true → ds ≡ with_fds_in h.domains d xs → Each (IsOpenEnd h.pipes) xs → IsOpenOnce (with_fds_in h.domains d xs) → IsSound (record h { domains = ds })
 fds-sound h ds d xs sound live is ends once = subst (λ (ys : List (Domain (List Slice))). IsSound (record h { domains = ys })) (sym is) (sound_fds h d xs sound live ends once)
 
 -- a domain's default pool
 
-pub default-machine : (h : KernelState) (ds : List (Domain (List Slice))) (d p : ℕ) → ds ≡ with_domain_in h.domains d (record (domain_in h.domains d) { default = Some p }) → machine_of (record h { domains = ds }) ≡ machine.with_domain (machine_of h) d (record (machine.domain (machine_of h) d) { default = Some p })
-unfolding machine_of
-default-machine h ds d p is =
-    ap (λ (ys : List (Domain (List Slice))). seen (text_of h.store) ys h.store.pools h.pipes) is
-    ∙ with_domain-seen (text_of h.store) h.domains h.store.pools h.pipes d (record (domain_in h.domains d) { default = Some p })
-    ∙ ap (λ (x : Domain Text). machine.with_domain (machine_of h) d (record x { default = Some p })) (sym (domain-seen (text_of h.store) h.domains h.store.pools h.pipes d))
+default-read : (f : Reading) (h : KernelState) (ds : List (Domain (List Slice))) (d p : ℕ) → ds ≡ with_domain_in h.domains d (record (domain_in h.domains d) { default = Some p }) → read_of f (record h { domains = ds }) ≡ machine.with_domain (read_of f h) d (record (machine.domain (read_of f h) d) { default = Some p })
+unfolding read_of
+default-read f h ds d p is =
+    ap (λ (ys : List (Domain (List Slice))). state_view (read f) ys h.store.pools h.pipes) is
+    ∙ with_domain-view (read f) h.domains h.store.pools h.pipes d (record (domain_in h.domains d) { default = Some p })
+    ∙ ap (λ (x : Domain Text). machine.with_domain (read_of f h) d (record x { default = Some p })) (sym (domain-view (read f) h.domains h.store.pools h.pipes d))
 
-pub default-sound : (h : KernelState) (ds : List (Domain (List Slice))) (d p : ℕ) → IsSound h → (domain_in h.domains d).live ≡ true → ds ≡ with_domain_in h.domains d (record (domain_in h.domains d) { default = Some p }) → IsSound (record h { domains = ds })
+default-sound : (h : KernelState) (ds : List (Domain (List Slice))) (d p : ℕ) → IsSound h → (domain_in h.domains d).live ≡ true → ds ≡ with_domain_in h.domains d (record (domain_in h.domains d) { default = Some p }) → IsSound (record h { domains = ds })
 default-sound h ds d p sound live is = subst (λ (ys : List (Domain (List Slice))). IsSound (record h { domains = ys })) (sym is)
     (sound_with h d (record (domain_in h.domains d) { default = Some p }) sound live refl (ends_open h d sound) (once_same h.domains d _ live refl sound.once))
+
+pub default_set : (h : KernelState) (ds : List (Domain (List Slice))) (d p : ℕ) → IsSound h → (domain_in h.domains d).live ≡ true → ds ≡ with_domain_in h.domains d (record (domain_in h.domains d) { default = Some p }) → Answers (λ s. pools.set_pool s d p) h tt (record h { domains = ds })
+default_set h ds d p sound live is = record {
+  answer = λ f keeps. refl;
+  after = λ f keeps. default-read f h ds d p is;
+  arena = refl;
+  pools = refl;
+  sound = default-sound h ds d p sound live is;
+  stays = stays_here h.store;
+}

@@ -8,7 +8,7 @@ use Rattle.iol_core.specs.Numbered.{in_place, placed, lowest}
 use Rattle.iol_core.specs.declared.descriptors.Descriptor.{Descriptor}
 use Rattle.iol_core.specs.declared.descriptors.Descriptor.TheVariants as on
 use Rattle.iol_hold.specs.declared.slices.Slice.{Slice}
-use Rattle.iol_kernel.specs.Seen.{Pipe}
+use Rattle.iol_kernel.specs.Views.{Pipe}
 use Rattle.iol_kernel.specs.KernelState.{Each, IsOpenEnd, queue_at}
 use Rattle.iol_kernel.proofs.Once.{in_place-lowest}
 use Rattle.iol_kernel.proofs.Sound.{each-weaker}
@@ -113,3 +113,22 @@ end_queued qs p q lt (Some (on.Connection c)) h = h
 
 pub ends_queued : (qs : Pipes) (p : ℕ) (q : List Slice) → p < length qs → (fds : List (Option Descriptor)) → Each (IsOpenEnd qs) fds → Each (IsOpenEnd (slice_set qs p (Some (record (queue_at qs p) { queue = q })))) fds
 ends_queued qs p q lt fds e = each-weaker (IsOpenEnd qs) (IsOpenEnd (slice_set qs p (Some (record (queue_at qs p) { queue = q })))) fds (end_queued qs p q lt) e
+
+-- a pipe with an open end is there
+
+some_end : (qs : Pipes) (p : ℕ) → in_place qs p ≡ None → ((queue_at qs p).reading ≡ true) ⊎ ((queue_at qs p).writing ≡ true) → ⊥
+some_end qs p none h = elim h [
+  | inl r ↦ no (sym (ap (λ (o : Option (Pipe (List Slice))). (unwrap_or o closed_pipe).reading) none) ∙ r)
+  | inr w ↦ no (sym (ap (λ (o : Option (Pipe (List Slice))). (unwrap_or o closed_pipe).writing) none) ∙ w)
+]
+  where
+    no : false ≡ true → ⊥
+    no e = cc
+
+pub there_if_reading : (qs : Pipes) (p : ℕ) → (queue_at qs p).reading ≡ true → in_place qs p ≢ None
+there_if_reading qs p r = λ none. some_end qs p none (inl r)
+
+pub there_if_writing : (qs : Pipes) (p : ℕ) → (queue_at qs p).writing ≡ true → in_place qs p ≢ None
+there_if_writing qs p w = λ none. some_end qs p none (inr w)
+
+pub ruleset there_rules = (there_if_reading, there_if_writing)

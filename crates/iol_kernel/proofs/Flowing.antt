@@ -20,12 +20,12 @@ use Rattle.iol_hold.proofs.AtPlaces.{read_pushed}
 use Rattle.iol_pipe.proofs.Given.{read_given, read_left, first_pool-read}
 use Rattle.iol_pipe.specs.Queue.{first_pool}
 use Rattle.iol_desc.specs.Tables.{agg_in}
-use Rattle.iol_kernel.specs.Seen.{Pipe, pipe_meant, seen}
-use Rattle.iol_kernel.specs.KernelState.{KernelState, TakesFront, queue_at}
-use Rattle.iol_kernel.specs.Sharing.{read_of, Changes}
-use Rattle.iol_kernel.proofs.Meant.{with_pipe-seen, with_agg-seen}
+use Rattle.iol_kernel.specs.Views.{Pipe, pipe_view, state_view}
+use Rattle.iol_kernel.specs.KernelState.{KernelState, queue_at, Reading, read_of}
+use Rattle.iol_kernel.proofs.Views.{with_pipe-view, with_agg-view}
 use Rattle.iol_kernel.proofs.ReadOf.{may_read-read_of, text-read_of, length_text-read_of, pipe_at-read_of, queue-read_of, length_queue-read_of}
 use Rattle.iol_kernel.proofs.Slices.{slices_found}
+use Rattle.iol_kernel.specs.Adding.{TakesFront}
 
 left_true : (a b : Bool) → a ≡ true → (a || b) ≡ true
 left_true a b e = grind (arith, nat_tests, e)
@@ -41,7 +41,7 @@ after_push p n d a s = machine.with_pipe s p (record (machine.pipe_at s p) { que
 module _ (h : KernelState) (t : Stored) (qs : List (Option (Pipe (List Slice)))) (p n d a : ℕ) (from : List Slice) (writing : (queue_at h.pipes p).writing ≡ true) (found : Some from ≡ agg_in h.domains d a)
     (places' : places (queue_at qs p).queue ≡ places (queue_at h.pipes p).queue ++ take n (places from)) (pipes' : qs ≡ slice_set h.pipes p (Some (record (queue_at h.pipes p) { queue = (queue_at qs p).queue })))
     (shares : Shares h.store t (bufs_of (queue_at h.pipes p).queue) (bufs_of (queue_at qs p).queue)) where
-  pushed-read : (f : Place → ℕ × ℕ) → read_of f (record h { store = t; pipes = qs }) ≡ after_push p n d a (read_of f h)
+  pub pushed-read : (f : Reading) → read_of f (record h { store = t; pipes = qs }) ≡ after_push p n d a (read_of f h)
   unfolding read_of
   pushed-read f =
       let m : State = read_of f h in
@@ -50,14 +50,11 @@ module _ (h : KernelState) (t : Stored) (qs : List (Option (Pipe (List Slice))))
       read_pushed f (queue_at qs p).queue (queue_at h.pipes p).queue from n places'
       ∙ ap (λ (t : Text). t ++ take n (read f from)) (sym (queue-read_of f h p))
       ∙ ap (λ (t : Text). (machine.pipe_at m p).queue ++ take n t) (ap (read f) (slices_found h.domains d a from found) ∙ sym (text-read_of f h d a)) in
-      ap (λ (ps : List Pool). seen (read f) h.domains ps qs) shares.pools
-      ∙ ap (λ (ys : List (Option (Pipe (List Slice)))). seen (read f) h.domains h.store.pools ys) pipes'
-      ∙ with_pipe-seen (read f) h.domains h.store.pools h.pipes p x (right_true x.reading x.writing writing)
-      ∙ ap (λ (t : Text). machine.with_pipe m p (record (pipe_meant (read f) (queue_at h.pipes p)) { queue = t })) q
+      ap (λ (ps : List Pool). state_view (read f) h.domains ps qs) shares.pools
+      ∙ ap (λ (ys : List (Option (Pipe (List Slice)))). state_view (read f) h.domains h.store.pools ys) pipes'
+      ∙ with_pipe-view (read f) h.domains h.store.pools h.pipes p x (right_true x.reading x.writing writing)
+      ∙ ap (λ (t : Text). machine.with_pipe m p (record (pipe_view (read f) (queue_at h.pipes p)) { queue = t })) q
       ∙ ap (λ (y : machine.Pipe). machine.with_pipe m p (record y { queue = (machine.pipe_at m p).queue ++ take n (machine.text m d a) })) (sym (pipe_at-read_of f h p))
-
-  pub pushed-changes : Changes (after_push p n d a) h (record h { store = t; pipes = qs })
-  pushed-changes = record { each = λ f keeps. pushed-read f; arena = shares.arena }
 
 -- Reading: a domain gets the front.
 
@@ -74,7 +71,7 @@ after_take p d n s =
 
 module _ (h : KernelState) (t : Stored) (ds : List (Domain (List Slice))) (qs : List (Option (Pipe (List Slice)))) (p d n : ℕ) (reading' : (queue_at h.pipes p).reading ≡ true)
     (takes : TakesFront h.store t (queue_at h.pipes p).queue (queue_at qs p).queue h.domains ds d n) (pipes' : qs ≡ slice_set h.pipes p (Some (record (queue_at h.pipes p) { queue = (queue_at qs p).queue }))) where
-  taken-read : (f : Place → ℕ × ℕ) → KeepsPools f → read_of f (record h { store = t; domains = ds; pipes = qs }) ≡ after_take p d n (read_of f h)
+  pub taken-read : (f : Reading) → KeepsPools f → read_of f (record h { store = t; domains = ds; pipes = qs }) ≡ after_take p d n (read_of f h)
   unfolding read_of
   taken-read f keeps =
       let m : State = read_of f h in
@@ -89,20 +86,17 @@ module _ (h : KernelState) (t : Stored) (ds : List (Domain (List Slice))) (qs : 
       read_left f keeps takes.slices (queue_at qs p).queue (queue_at h.pipes p).queue h.store.pools d n takes.given takes.left
       ∙ ap (λ (v : Text). drop (length v) (read f (queue_at h.pipes p).queue)) (sym (read_given f keeps takes.slices (queue_at h.pipes p).queue h.store.pools d n takes.given) ∙ first)
       ∙ ap (λ (q : Text). drop (length u) q) (sym (queue-read_of f h p)) in
-      ap (λ (ps : List Pool). seen (read f) ds ps qs) takes.shares.pools
-      ∙ ap (λ (ys : List (Option (Pipe (List Slice)))). seen (read f) ds h.store.pools ys) pipes'
-      ∙ ap (λ (ys : List (Domain (List Slice))). seen (read f) ys h.store.pools less) takes.added
-      ∙ with_agg-seen (read f) h.domains h.store.pools less d takes.slices
-      ∙ ap (λ (s : State). aggs.with_agg s d (read f takes.slices)) (with_pipe-seen (read f) h.domains h.store.pools h.pipes p x (left_true x.reading x.writing reading'))
-      ∙ ap (λ (v : Text). aggs.with_agg (machine.with_pipe m p (pipe_meant (read f) x)) d v) first
-      ∙ ap (λ (v : Text). aggs.with_agg (machine.with_pipe m p (record (pipe_meant (read f) (queue_at h.pipes p)) { queue = v })) d u) left
+      ap (λ (ps : List Pool). state_view (read f) ds ps qs) takes.shares.pools
+      ∙ ap (λ (ys : List (Option (Pipe (List Slice)))). state_view (read f) ds h.store.pools ys) pipes'
+      ∙ ap (λ (ys : List (Domain (List Slice))). state_view (read f) ys h.store.pools less) takes.added
+      ∙ with_agg-view (read f) h.domains h.store.pools less d takes.slices
+      ∙ ap (λ (s : State). aggs.with_agg s d (read f takes.slices)) (with_pipe-view (read f) h.domains h.store.pools h.pipes p x (left_true x.reading x.writing reading'))
+      ∙ ap (λ (v : Text). aggs.with_agg (machine.with_pipe m p (pipe_view (read f) x)) d v) first
+      ∙ ap (λ (v : Text). aggs.with_agg (machine.with_pipe m p (record (pipe_view (read f) (queue_at h.pipes p)) { queue = v })) d u) left
       ∙ ap (λ (y : machine.Pipe). aggs.with_agg (machine.with_pipe m p (record y { queue = drop (length u) (machine.pipe_at m p).queue })) d u) (sym (pipe_at-read_of f h p))
 
-  pub taken-changes : Changes (after_take p d n) h (record h { store = t; domains = ds; pipes = qs })
-  taken-changes = record { each = taken-read; arena = takes.shares.arena }
-
 -- how many bytes of an aggregate fit
-pub fits : (f : Place → ℕ × ℕ) (h : KernelState) (p d a : ℕ) (xs : List Slice) (n : ℕ) → Some xs ≡ agg_in h.domains d a → n ≡ min (byte_len xs) (65536 - byte_len (queue_at h.pipes p).queue) → n ≡ min (length (machine.text (read_of f h) d a)) (65536 - length (machine.pipe_at (read_of f h) p).queue)
+pub fits : (f : Reading) (h : KernelState) (p d a : ℕ) (xs : List Slice) (n : ℕ) → Some xs ≡ agg_in h.domains d a → n ≡ min (byte_len xs) (65536 - byte_len (queue_at h.pipes p).queue) → n ≡ min (length (machine.text (read_of f h) d a)) (65536 - length (machine.pipe_at (read_of f h) p).queue)
 fits f h p d a xs n found is =
     is
     ∙ ap (λ k. min k (65536 - byte_len (queue_at h.pipes p).queue)) (ap byte_len (slices_found h.domains d a xs found) ∙ sym (length_text-read_of f h d a))
@@ -116,7 +110,7 @@ first_barred m d p n = barred (machine.may_read m d) (take (min n 1) (machine.pi
 abbrev denied_at : State → (d : ℕ) → Option ℕ → Option ℕ
 denied_at m d o = option_and_then (λ q. if machine.may_read m d q then None else Some q) o
 
-barred_first : (f : Place → ℕ × ℕ) → KeepsPools f → (h : KernelState) (d p n : ℕ) → 0 < n → first_barred (read_of f h) d p n ≡ denied_at (read_of f h) d (first_pool (queue_at h.pipes p).queue)
+barred_first : (f : Reading) → KeepsPools f → (h : KernelState) (d p n : ℕ) → 0 < n → first_barred (read_of f h) d p n ≡ denied_at (read_of f h) d (first_pool (queue_at h.pipes p).queue)
 barred_first f keeps h d p n some =
     let m : State = read_of f h in
     ap (λ (t : Text). barred (machine.may_read m d) (take (min n 1) t)) (queue-read_of f h p)
@@ -131,11 +125,11 @@ barred_first f keeps h d p n some =
     first m [] = refl
     first m (x ∷ t) = elim (machine.may_read m d x.1) as (λ b. option_map (λ (y : ℕ × ℕ). y.1) (cond (not b) (Some x) None) ≡ (if b then None else Some x.1)) [ true ↦ refl | false ↦ refl ]
 
-pub first_admitted : (f : Place → ℕ × ℕ) → KeepsPools f → (h : KernelState) (d p n q : ℕ) → 0 < n → Some q ≡ first_pool (queue_at h.pipes p).queue → machine.may_read (read_of f h) d q ≡ true → None ≡ first_barred (read_of f h) d p n
+pub first_admitted : (f : Reading) → KeepsPools f → (h : KernelState) (d p n q : ℕ) → 0 < n → Some q ≡ first_pool (queue_at h.pipes p).queue → machine.may_read (read_of f h) d q ≡ true → None ≡ first_barred (read_of f h) d p n
 first_admitted f keeps h d p n q some is named = sym (barred_first f keeps h d p n some ∙ ap (λ (o : Option ℕ). denied_at (read_of f h) d o) (sym is) ∙ rw named refl)
 
-pub first_denied : (f : Place → ℕ × ℕ) → KeepsPools f → (h : KernelState) (d p n q : ℕ) → 0 < n → Some q ≡ first_pool (queue_at h.pipes p).queue → machine.may_read (read_of f h) d q ≡ false → Some q ≡ first_barred (read_of f h) d p n
+pub first_denied : (f : Reading) → KeepsPools f → (h : KernelState) (d p n q : ℕ) → 0 < n → Some q ≡ first_pool (queue_at h.pipes p).queue → machine.may_read (read_of f h) d q ≡ false → Some q ≡ first_barred (read_of f h) d p n
 first_denied f keeps h d p n q some is named = sym (barred_first f keeps h d p n some ∙ ap (λ (o : Option ℕ). denied_at (read_of f h) d o) (sym is) ∙ rw named refl)
 
-pub first_empty : (f : Place → ℕ × ℕ) → KeepsPools f → (h : KernelState) (d p n : ℕ) → 0 < n → None ≡ first_pool (queue_at h.pipes p).queue → None ≡ first_barred (read_of f h) d p n
+pub first_empty : (f : Reading) → KeepsPools f → (h : KernelState) (d p n : ℕ) → 0 < n → None ≡ first_pool (queue_at h.pipes p).queue → None ≡ first_barred (read_of f h) d p n
 first_empty f keeps h d p n some is = sym (barred_first f keeps h d p n some ∙ ap (λ (o : Option ℕ). denied_at (read_of f h) d o) (sym is))

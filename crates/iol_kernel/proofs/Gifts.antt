@@ -13,18 +13,19 @@ use Rattle.iol_hold.specs.Places.{Place}
 use Rattle.iol_hold.specs.Layout.{read}
 use Rattle.iol_hold.specs.declared.slices.Slice.{Slice}
 use Rattle.iol_desc.specs.Tables.{domain_in, with_domain_in, agg_in, with_agg_in, without_agg_in, live_aggs_in, with_next}
-use Rattle.iol_kernel.specs.Seen.{seen}
-use Rattle.iol_kernel.specs.KernelState.{KernelState, IsSound, slices_in}
-use Rattle.iol_kernel.specs.Sharing.{read_of, Changes}
-use Rattle.iol_kernel.proofs.Meant.{with_agg-seen, without_agg-seen}
+use Rattle.iol_kernel.specs.Views.{state_view}
+use Rattle.iol_kernel.specs.KernelState.{KernelState, IsSound, slices_in, Reading, read_of}
+use Rattle.iol_kernel.proofs.Views.{with_agg-view, without_agg-view}
 use Rattle.iol_kernel.proofs.Uses.{uses-with_agg, uses-without_agg, sum-with_domain, length-without}
 use Rattle.iol_kernel.proofs.Sound.{agg_readable, agg_small, drop_readable, add_readable, fds_stay, limits_agg, limits_drop}
 use Rattle.iol_kernel.proofs.Once.{once_same}
 use Rattle.iol_kernel.proofs.Effects.{moved-sound}
 use Rattle.iol_kernel.proofs.Stay.{stays_here}
-use Rattle.iol_kernel.proofs.ReadOf.{is_live-read_of, text-read_of}
+use Rattle.iol_kernel.proofs.ReadOf.{is_live-read_of, text-read_of, next_agg-read_of}
 use Rattle.iol_kernel.proofs.Slices.{found_slices}
 use Rattle.iol_kernel.proofs.Rows.{domain-with_same, domain-with_other, with_domain-twice, with_domain-comm}
+use Rattle.iol_core.specs.declared.limits.TheConstants.{MAX_AGGREGATES}
+use Rattle.iol_kernel.specs.Calls.{Answers}
 
 -- On the machine's states: an aggregate is taken from a domain and added to one.
 
@@ -70,20 +71,17 @@ left_next ds d a e = kept (λ y. y.next_agg) ds d e (record (domain_in ds d) { a
 -- The whole change.
 
 module _ (h : KernelState) (ds : List (Domain (List Slice))) (d a e : ℕ) (live : (domain_in h.domains d).live ≡ true) (moved : ds ≡ with_agg_in (without_agg_in h.domains d a) e (slices_in h.domains d a)) where
-  moved-read : (f : Place → ℕ × ℕ) → read_of f (record h { domains = ds }) ≡ aggs.with_agg (aggs.without_agg (read_of f h) d a) e (read f (slices_in h.domains d a))
+  moved-read : (f : Reading) → read_of f (record h { domains = ds }) ≡ aggs.with_agg (aggs.without_agg (read_of f h) d a) e (read f (slices_in h.domains d a))
   unfolding read_of
   moved-read f =
-      ap (λ (xs : List (Domain (List Slice))). seen (read f) xs h.store.pools h.pipes) moved
-      ∙ with_agg-seen (read f) (without_agg_in h.domains d a) h.store.pools h.pipes e (slices_in h.domains d a)
-      ∙ ap (λ (s : State). aggs.with_agg s e (read f (slices_in h.domains d a))) (without_agg-seen (read f) h.domains h.store.pools h.pipes d a)
+      ap (λ (xs : List (Domain (List Slice))). state_view (read f) xs h.store.pools h.pipes) moved
+      ∙ with_agg-view (read f) (without_agg_in h.domains d a) h.store.pools h.pipes e (slices_in h.domains d a)
+      ∙ ap (λ (s : State). aggs.with_agg s e (read f (slices_in h.domains d a))) (without_agg-view (read f) h.domains h.store.pools h.pipes d a)
 
-  pub given-changes : Changes (λ s. (aggs.agg_give s d a e).after) h (record h { domains = ds })
-  given-changes = record {
-    each = λ f keeps. moved-read f ∙ ap (aggs.with_agg (aggs.without_agg (read_of f h) d a) e) (sym (text-read_of f h d a)) ∙ given_either (read_of f h) d a e (machine.text (read_of f h) d a) (is_live-read_of f h d ∙ live);
-    arena = refl;
-  }
+  given-each : (f : Reading) → read_of f (record h { domains = ds }) ≡ (aggs.agg_give (read_of f h) d a e).after
+  given-each f = moved-read f ∙ ap (aggs.with_agg (aggs.without_agg (read_of f h) d a) e) (sym (text-read_of f h d a)) ∙ given_either (read_of f h) d a e (machine.text (read_of f h) d a) (is_live-read_of f h d ∙ live)
 
-  pub given-sound : IsSound h → (domain_in h.domains e).live ≡ true → agg_in h.domains d a ≢ None → IsSound (record h { domains = ds })
+  given-sound : IsSound h → (domain_in h.domains e).live ≡ true → agg_in h.domains d a ≢ None → IsSound (record h { domains = ds })
   given-sound sound to_live some =
       let xs : List Slice = slices_in h.domains d a in
       let rest : List (Domain (List Slice)) = without_agg_in h.domains d a in
@@ -91,10 +89,20 @@ module _ (h : KernelState) (ds : List (Domain (List Slice))) (d a e : ℕ) (live
       let y : Domain (List Slice) = with_next (domain_in rest e) xs in
       let found : Some xs ≡ agg_in h.domains d a = found_slices h.domains d a some in
       let live' = left_live h.domains d a e to_live in
-      let few : live_aggs_in rest < 65536 = omega (arith, sound.limits.few, sum-with_domain (λ (z : Domain (List Slice)). length z.aggs) h.domains d x live, length-without (domain_in h.domains d).aggs a xs found) in
+      let few : live_aggs_in rest < MAX_AGGREGATES = omega (arith, sound.limits.few, sum-with_domain (λ (z : Domain (List Slice)). length z.aggs) h.domains d x live, length-without (domain_in h.domains d).aggs a xs found) in
       subst (λ (ys : List (Domain (List Slice))). IsSound (record h { domains = ys })) (sym moved)
       (moved-sound h.store h.store (with_agg_in rest e xs) h.pipes (stays_here h.store)
       (record { each = λ b. omega (arith, sound.counted.each b, uses-without_agg b h.domains d a xs live found, uses-with_agg b rest e xs live') })
       sound.tidy sound.still (add_readable h.store rest e xs (drop_readable h d a sound) (agg_readable h d a xs sound found)) sound.pipes
       (fds_stay h.pipes rest e y (fds_stay h.pipes h.domains d x sound.fds refl) refl) (once_same rest e y live' refl (once_same h.domains d x live refl sound.once))
       (limits_agg rest h.pipes e xs (limits_drop h.domains h.pipes d a xs sound.limits live found) live' (agg_small h d a xs sound found) few) sound.few_pools)
+
+  pub given_answers : (n : ℕ) → IsSound h → (domain_in h.domains e).live ≡ true → agg_in h.domains d a ≢ None → n ≡ (domain_in h.domains e).next_agg → Answers (λ s. aggs.agg_give s d a e) h n (record h { domains = ds })
+  given_answers n sound to_live there number = record {
+    answer = λ f keeps. number ∙ sym (next_agg-read_of f h e);
+    after = λ f keeps. given-each f;
+    arena = refl;
+    pools = refl;
+    sound = given-sound sound to_live there;
+    stays = stays_here h.store;
+  }

@@ -15,14 +15,17 @@ use Rattle.iol_hold.specs.declared.slices.Slice.{Slice}
 use Rattle.iol_hold.proofs.Counting.{tally-append, tally_none}
 use Rattle.iol_hold.proofs.Moving.{stays_trans}
 use Rattle.iol_desc.specs.Tables.{domain_in, with_domain_in, with_aggs_in}
-use Rattle.iol_kernel.specs.Seen.{seen}
+use Rattle.iol_kernel.specs.Views.{state_view}
 use Rattle.iol_kernel.specs.Counted.{uses, domain_uses, bufs_in, IsCounted}
-use Rattle.iol_kernel.specs.KernelState.{KernelState, machine_of, Each, IsDomainReadable, IsLimited, IsSound}
-use Rattle.iol_kernel.proofs.Meant.{domain-seen, with_domain-seen}
+use Rattle.iol_kernel.specs.KernelState.{KernelState, Each, IsDomainReadable, IsLimited, IsSound, Reading, read_of}
+use Rattle.iol_kernel.proofs.Views.{domain-view, with_domain-view, pools-view}
 use Rattle.iol_kernel.proofs.Uses.{sum-with_domain, domain_le, Domains}
 use Rattle.iol_kernel.proofs.Once.{once_same, once_fewer}
-use Rattle.iol_kernel.proofs.Sound.{counted_held, each-with_domain_in, sound_with, fds_stay}
-use Rattle.iol_kernel.proofs.Effects.{moved-machine, moved-sound, same_length}
+use Rattle.iol_kernel.proofs.Sound.{each-with_domain_in, sound_with, fds_stay}
+use Rattle.iol_kernel.proofs.Effects.{moved-sound, same_length, leaves, leaves_here}
+use Rattle.iol_core.specs.declared.limits.TheConstants.{MAX_AGGREGATE_BYTES}
+use Rattle.iol_hold.specs.Layout.{read}
+use Rattle.iol_kernel.specs.Calls.{Leaves}
 
 -- aggregates, the last first
 
@@ -79,35 +82,37 @@ module _ (h : KernelState) (t : Stored) (ds : Domains) (d : ℕ) (es : List (ℕ
 
   emptied_limits : IsLimited (with_domain_in h.domains d emptied) h.pipes
   emptied_limits = record {
-    aggs = each-with_domain_in (λ (y : Domain (List Slice)). Each (λ e. byte_len e.1 ≤ 16777216) y.aggs) h.domains d emptied sound.limits.aggs tt;
+    aggs = each-with_domain_in (λ (y : Domain (List Slice)). Each (λ e. byte_len e.1 ≤ MAX_AGGREGATE_BYTES) y.aggs) h.domains d emptied sound.limits.aggs tt;
     few = omega (arith, sound.limits.few, sum-with_domain (λ (y : Domain (List Slice)). length y.aggs) h.domains d emptied live);
     queues = sound.limits.queues;
     few_pipes = sound.limits.few_pipes;
   }
 
-  pub emptied-machine : machine_of (record h { store = t; domains = ds }) ≡ machine.with_domain (machine_of h) d (record (machine.domain (machine_of h) d) { aggs = [] })
-  unfolding machine_of
-  emptied-machine =
-      ap (λ (ys : Domains). seen (text_of t) ys t.pools h.pipes) rest
-      ∙ moved-machine h.store t (with_domain_in h.domains d emptied) h.pipes moves.stays lists (counted_held emptied_counted) emptied_good sound.pipes
-      ∙ with_domain-seen (text_of h.store) h.domains h.store.pools h.pipes d emptied
-      ∙ ap (λ (y : Domain Text). machine.with_domain (machine_of h) d (record y { aggs = [] })) (sym (domain-seen (text_of h.store) h.domains h.store.pools h.pipes d))
+  emptied-read : (f : Reading) → read_of f (record h { store = t; domains = ds }) ≡ machine.with_domain (read_of f h) d (record (machine.domain (read_of f h) d) { aggs = [] })
+  unfolding read_of
+  emptied-read f =
+      ap (λ (ys : Domains). state_view (read f) ys t.pools h.pipes) rest
+      ∙ pools-view (read f) (with_domain_in h.domains d emptied) h.store.pools t.pools h.pipes lists
+      ∙ with_domain-view (read f) h.domains h.store.pools h.pipes d emptied
+      ∙ ap (λ (y : Domain Text). machine.with_domain (read_of f h) d (record y { aggs = [] })) (sym (domain-view (read f) h.domains h.store.pools h.pipes d))
 
-  pub emptied-sound : IsSound (record h { store = t; domains = ds })
+  emptied-sound : IsSound (record h { store = t; domains = ds })
   emptied-sound = subst (λ (ys : Domains). IsSound (record h { store = t; domains = ys })) (sym rest)
       (moved-sound h.store t (with_domain_in h.domains d emptied) h.pipes moves.stays emptied_counted (moves.tidy sound.tidy) (moves.still sound.still) emptied_good sound.pipes
       (fds_stay h.pipes h.domains d emptied sound.fds refl) (once_same h.domains d emptied live refl sound.once) emptied_limits (same_length h.store t lists sound.few_pools))
 
+  pub aggs_dropped : Leaves (λ s. machine.with_domain s d (record (machine.domain s d) { aggs = [] })) h (record h { store = t; domains = ds })
+  aggs_dropped = leaves (λ s. machine.with_domain s d (record (machine.domain s d) { aggs = [] })) h t ds h.pipes emptied-read moves.stays (subst (λ (ys : Domains). Each (IsDomainReadable h.store) ys) (sym rest) emptied_good) sound.pipes emptied-sound
+
 -- and the domain itself
 
-pub live_meant : (h : KernelState) (d : ℕ) → (domain_in h.domains d).live ≡ true → machine.is_live (machine_of h) d ≡ true
-unfolding machine_of
-live_meant h d live = ap (λ (x : Domain Text). x.live) (domain-seen (text_of h.store) h.domains h.store.pools h.pipes d) ∙ live
+ended-read : (f : Reading) (h : KernelState) (ds : Domains) (d : ℕ) → ds ≡ with_domain_in h.domains d no_domain → read_of f (record h { domains = ds }) ≡ machine.with_domain (read_of f h) d no_domain
+unfolding read_of
+ended-read f h ds d is = ap (λ (ys : Domains). state_view (read f) ys h.store.pools h.pipes) is ∙ with_domain-view (read f) h.domains h.store.pools h.pipes d no_domain
 
-pub ended-machine : (h : KernelState) (ds : Domains) (d : ℕ) → ds ≡ with_domain_in h.domains d no_domain → machine_of (record h { domains = ds }) ≡ machine.with_domain (machine_of h) d no_domain
-unfolding machine_of
-ended-machine h ds d is = ap (λ (ys : Domains). seen (text_of h.store) ys h.store.pools h.pipes) is ∙ with_domain-seen (text_of h.store) h.domains h.store.pools h.pipes d no_domain
-
-pub ended-sound : (h : KernelState) (ds : Domains) (d : ℕ) → IsSound h → (domain_in h.domains d).live ≡ true → (domain_in h.domains d).aggs ≡ [] → ds ≡ with_domain_in h.domains d no_domain → IsSound (record h { domains = ds })
+ended-sound : (h : KernelState) (ds : Domains) (d : ℕ) → IsSound h → (domain_in h.domains d).live ≡ true → (domain_in h.domains d).aggs ≡ [] → ds ≡ with_domain_in h.domains d no_domain → IsSound (record h { domains = ds })
 ended-sound h ds d sound live none is = subst (λ (ys : Domains). IsSound (record h { domains = ys })) (sym is)
     (sound_with h d no_domain sound live (sym none) tt (once_fewer h.domains d no_domain live (λ e. omega arith) sound.once))
+
+pub domain_ended : (h : KernelState) (ds : Domains) (d : ℕ) → IsSound h → (domain_in h.domains d).live ≡ true → (domain_in h.domains d).aggs ≡ [] → ds ≡ with_domain_in h.domains d no_domain → Leaves (λ s. machine.with_domain s d no_domain) h (record h { domains = ds })
+domain_ended h ds d sound live none is = leaves_here (λ s. machine.with_domain s d no_domain) h ds (λ f. ended-read f h ds d is) (ended-sound h ds d sound live none is)

@@ -1,11 +1,11 @@
-pub mod Meant
+pub mod Views
 pub mod Rows
 pub mod Uses
 pub mod Once
 pub mod Sound
 pub mod Ends
 pub mod Effects
-pub mod Pipes
+pub mod Opening
 pub mod Flowing
 pub mod Queueing
 pub mod CloseAll
@@ -15,7 +15,7 @@ pub mod GivenUp
 pub mod Reports
 pub mod Beginning
 pub mod Stay
-pub mod Sharing
+pub mod Carried
 pub mod ReadOf
 pub mod Slices
 pub mod Additions

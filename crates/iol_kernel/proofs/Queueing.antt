@@ -1,16 +1,20 @@
 -- Pipes stay sound where a queue gets bytes or gives them to a domain.
-use Rattle.std.proofs.Common.{◌≡◌, ℕ, ◌+◌, ◌<◌, ◌≤◌, List, [], ◌∷◌, ◌++◌, length, take, ap, refl, sym, subst, arith, Option, Some, None, true, false, inl, inr, length-set}
-use Rattle.std.specs.Prelude.{slice_set, unwrap_or}
+use Rattle.std.proofs.Common.{◌≡◌, ◌∙◌, ℕ, ◌+◌, ◌-◌, ◌<◌, ◌≤◌, List, [], ◌∷◌, ◌++◌, length, take, ap, refl, sym, subst, arith, Option, Some, None, true, false, inl, inr, length-set}
+use Rattle.std.specs.Prelude.{slice_set, unwrap_or, min}
 use Rattle.std.specs.List.{prefix_len}
 use Rattle.std.proofs.lemmas.List.{length-take, length-drop}
 use Rattle.iol_core.specs.Numbered.{in_place}
+use Rattle.iol_core.specs.Calls.Aggregates as aggs
+use Rattle.iol_core.specs.Calls.Reading as reading
+use Rattle.iol_core.specs.Calls.Writing as writing
+use Rattle.iol_core.specs.declared.descriptors.Descriptor.{Descriptor}
 use Rattle.iol_core.specs.State as machine
 use Rattle.iol_core.specs.State.{State, Domain}
 use Rattle.iol_core.specs.declared.descriptors.Descriptor.TheVariants as on
 use Rattle.iol_hold.specs.Stored.{Stored}
 use Rattle.iol_hold.specs.Moves.{Shares}
 use Rattle.iol_hold.specs.Places.{places, byte_len}
-use Rattle.iol_hold.specs.Texts.{bufs_of, AllReadable}
+use Rattle.iol_hold.specs.Texts.{bufs_of, AllReadable, byte_at}
 use Rattle.iol_hold.specs.declared.slices.Slice.{Slice}
 use Rattle.iol_hold.proofs.Counting.{tally-append}
 use Rattle.iol_hold.proofs.Moving.{shares_move}
@@ -18,15 +22,21 @@ use Rattle.iol_hold.proofs.Reading.{readable_none, readable_rest}
 use Rattle.iol_pipe.specs.Queue.{may_see}
 use Rattle.iol_pipe.proofs.Texts.{readable_pushed, readable_given}
 use Rattle.iol_desc.specs.Tables.{agg_in, domain_in, with_agg_in, live_aggs_in}
-use Rattle.iol_kernel.specs.Seen.{Pipe}
+use Rattle.iol_kernel.specs.Views.{Pipe}
 use Rattle.iol_kernel.specs.Counted.{IsCounted}
-use Rattle.iol_kernel.specs.KernelState.{KernelState, machine_of, Each, IsOpenEnd, IsPipeReadable, IsDomainReadable, IsShort, IsLimited, IsSound, TakesFront, queue_at}
+use Rattle.iol_kernel.specs.KernelState.{KernelState, Each, IsOpenEnd, IsPipeReadable, IsDomainReadable, IsShort, IsLimited, IsSound, queue_at, Reading, read_of}
 use Rattle.iol_kernel.proofs.Uses.{uses-set_pipe, uses-with_agg}
 use Rattle.iol_kernel.proofs.Once.{once_same}
 use Rattle.iol_kernel.proofs.Sound.{each-get, each-set, each-weaker, agg_readable, add_readable, fds_stay, limits_agg}
 use Rattle.iol_kernel.proofs.Ends.{ends_queued, there_if_open}
 use Rattle.iol_kernel.proofs.Effects.{moved-sound}
-use Rattle.iol_kernel.proofs.Pipes.{end_held}
+use Rattle.iol_kernel.proofs.Opening.{end_held}
+use Rattle.iol_core.specs.declared.limits.TheConstants.{MAX_AGGREGATES, MAX_QUEUE_BYTES}
+use Rattle.iol_kernel.specs.Adding.{TakesFront}
+use Rattle.iol_kernel.proofs.Flowing.{fits, pushed-read, taken-read}
+use Rattle.iol_kernel.proofs.ReadOf.{next_agg-read_of}
+use Rattle.iol_kernel.specs.Calls.{Answers}
+use Rattle.iol_kernel.specs.Queues.{with_queue_of}
 
 pub queue_readable : (h : KernelState) (p : ℕ) → IsSound h → AllReadable h.store (queue_at h.pipes p).queue
 queue_readable h p sound = pick (in_place h.pipes p) (each-get (IsPipeReadable h.store) h.pipes p None sound.pipes tt)
@@ -77,11 +87,11 @@ module _ (h : KernelState) (t : Stored) (qs : List (Option (Pipe (List Slice))))
       (each-weaker (λ (x : Domain (List Slice)). Each (IsOpenEnd h.pipes) x.fds) (λ (x : Domain (List Slice)). Each (IsOpenEnd more) x.fds) h.domains (λ x e. ends_queued h.pipes p (queue_at qs p).queue there x.fds e) sound.fds) sound.once
       (queue_limits h p (queue_at qs p).queue sound short) (omega (arith, sound.few_pools, ap length shares.pools)))
 
-pub writing_held : (h : KernelState) (d fd p : ℕ) → IsSound h → machine.descriptor (machine_of h) d fd ≡ Some (on.WriteEnd p) → (queue_at h.pipes p).writing ≡ true
-writing_held h d fd p sound is = end_held h d fd (on.WriteEnd p) sound is
+pub writing_held : (f : Reading) (h : KernelState) (d fd p : ℕ) → IsSound h → machine.descriptor (read_of f h) d fd ≡ Some (on.WriteEnd p) → (queue_at h.pipes p).writing ≡ true
+writing_held f h d fd p sound is = end_held f h d fd (on.WriteEnd p) sound is
 
-pub reading_held : (h : KernelState) (d fd p : ℕ) → IsSound h → machine.descriptor (machine_of h) d fd ≡ Some (on.ReadEnd p) → (queue_at h.pipes p).reading ≡ true
-reading_held h d fd p sound is = end_held h d fd (on.ReadEnd p) sound is
+pub reading_held : (f : Reading) (h : KernelState) (d fd p : ℕ) → IsSound h → machine.descriptor (read_of f h) d fd ≡ Some (on.ReadEnd p) → (queue_at h.pipes p).reading ≡ true
+reading_held f h d fd p sound is = end_held f h d fd (on.ReadEnd p) sound is
 
 -- Reading: a domain gets the front.
 
@@ -106,7 +116,7 @@ module _ (h : KernelState) (t : Stored) (ds : List (Domain (List Slice))) (qs : 
   given_good : Each (IsDomainReadable h.store) given
   given_good = add_readable h.store h.domains d takes.slices sound.domains slices_good
 
-  module _ (live : (domain_in h.domains d).live ≡ true) (few : live_aggs_in h.domains < 65536) where
+  module _ (live : (domain_in h.domains d).live ≡ true) (few : live_aggs_in h.domains < MAX_AGGREGATES) where
     pub taken_counted : IsCounted t given less
     taken_counted = record {
       each = λ b. omega (
@@ -136,3 +146,49 @@ module _ (h : KernelState) (t : Stored) (ds : List (Domain (List Slice))) (qs : 
         (each-weaker (λ (x : Domain (List Slice)). Each (IsOpenEnd h.pipes) x.fds) (λ (x : Domain (List Slice)). Each (IsOpenEnd less) x.fds) h.domains (λ x e. ends_queued h.pipes p (queue_at qs p).queue there' x.fds e) sound.fds) refl)
         (once_same h.domains d (record x { aggs = x.aggs ++ (x.next_agg, takes.slices) ∷ []; next_agg = x.next_agg + 1 }) live refl sound.once)
         (limits_agg h.domains less d takes.slices (queue_limits h p (queue_at qs p).queue sound parts_short.1) live (omega (arith, parts_short.0)) few) (omega (arith, sound.few_pools, ap length takes.shares.pools))))
+
+-- An open descriptor that is not a pipe's end for writing, or for reading, is not open for it.
+
+pub not_writable : (qs : List (Option (Pipe (List Slice)))) (x : Descriptor) → IsOpenEnd qs (Some x) → ((p : ℕ) → x ≡ on.WriteEnd p → ⊥) → writing.can_write (Some x) ≡ false
+not_writable qs (on.ReadEnd p) open' other = refl
+not_writable qs (on.WriteEnd p) open' other = absurd (other p refl)
+not_writable qs (on.File f at mode) open' other = absurd open'
+not_writable qs (on.Connection c) open' other = absurd open'
+
+pub not_readable : (qs : List (Option (Pipe (List Slice)))) (x : Descriptor) → IsOpenEnd qs (Some x) → ((p : ℕ) → x ≡ on.ReadEnd p → ⊥) → reading.can_read (Some x) ≡ false
+not_readable qs (on.ReadEnd p) open' other = absurd (other p refl)
+not_readable qs (on.WriteEnd p) open' other = refl
+not_readable qs (on.File f at mode) open' other = absurd open'
+not_readable qs (on.Connection c) open' other = absurd open'
+
+-- What the calls answer.
+
+pub taken_answers : (h : KernelState) (t : Stored) (ds : List (Domain (List Slice))) (qs : List (Option (Pipe (List Slice)))) (fd p d n a : ℕ) → (sound : IsSound h) → (from : (f : Reading) → machine.descriptor (read_of f h) d fd ≡ Some (on.ReadEnd p))
+    → TakesFront h.store t (queue_at h.pipes p).queue (queue_at qs p).queue h.domains ds d n → qs ≡ with_queue_of h.pipes p qs → (domain_in h.domains d).live ≡ true → live_aggs_in h.domains < MAX_AGGREGATES → a ≡ (domain_in h.domains d).next_agg
+    → Answers (λ s. reading.iol_read s d fd n) h a (record h { store = t; domains = ds; pipes = qs })
+taken_answers h t ds qs fd p d n a sound from takes pipes' live few number =
+    let reading' = reading_held (byte_at h.store) h d fd p sound (from (byte_at h.store)) in
+    record {
+      answer = λ f keeps. number ∙ sym (next_agg-read_of f h d);
+      after = λ f keeps. taken-read h t ds qs p d n reading' takes pipes' f keeps ∙ ap (λ (o : Option Descriptor). aggs.with_agg (reading.read_on (read_of f h) d fd o (length (reading.read_text (read_of f h) d o n))) d (reading.read_text (read_of f h) d o n)) (sym (from f));
+      arena = takes.shares.arena;
+      pools = takes.shares.pools;
+      sound = taken-sound h t ds qs p d n sound reading' takes pipes' live few;
+      stays = (shares_move takes.shares).stays;
+    }
+
+pub pushed_answers : (h : KernelState) (t : Stored) (qs : List (Option (Pipe (List Slice)))) (fd p n d a : ℕ) (from : List Slice) → IsSound h → ((f : Reading) → machine.descriptor (read_of f h) d fd ≡ Some (on.WriteEnd p)) → Some from ≡ agg_in h.domains d a → byte_len (queue_at qs p).queue ≤ MAX_QUEUE_BYTES
+    → n ≡ min (byte_len from) (MAX_QUEUE_BYTES - byte_len (queue_at h.pipes p).queue) → places (queue_at qs p).queue ≡ places (queue_at h.pipes p).queue ++ take n (places from) → qs ≡ with_queue_of h.pipes p qs → Shares h.store t (bufs_of (queue_at h.pipes p).queue) (bufs_of (queue_at qs p).queue)
+    → Answers (λ s. writing.iol_write s d fd a) h n (record h { store = t; pipes = qs })
+pushed_answers h t qs fd p n d a from sound to found short is places' pipes' shares =
+    let writing' = writing_held (byte_at h.store) h d fd p sound (to (byte_at h.store)) in
+    record {
+      answer = λ f keeps. fits f h p d a from n found is ∙ ap (λ (o : Option Descriptor). writing.fitting (read_of f h) o (length (machine.text (read_of f h) d a))) (sym (to f));
+      after = λ f keeps. pushed-read h t qs p n d a from writing' found places' pipes' shares f
+          ∙ ap (λ k. machine.with_pipe (read_of f h) p (record (machine.pipe_at (read_of f h) p) { queue = (machine.pipe_at (read_of f h) p).queue ++ take k (machine.text (read_of f h) d a) })) (fits f h p d a from n found is)
+          ∙ ap (λ (o : Option Descriptor). writing.written (read_of f h) d fd o (take (writing.fitting (read_of f h) o (length (machine.text (read_of f h) d a))) (machine.text (read_of f h) d a))) (sym (to f));
+      arena = shares.arena;
+      pools = shares.pools;
+      sound = pushed-sound h t qs p n d a from sound writing' found short places' pipes' shares;
+      stays = (shares_move shares).stays;
+    }

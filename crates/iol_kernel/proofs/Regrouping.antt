@@ -22,23 +22,25 @@ use Rattle.iol_hold.proofs.Moving.{shares_move, shares_none}
 use Rattle.iol_hold.proofs.Reading.{readable_taken, readable_rest, readable_joined}
 use Rattle.iol_hold.proofs.Slicing.{byte_len-append}
 use Rattle.iol_desc.specs.Tables.{domain_in, with_domain_in, agg_in, live_aggs_in}
-use Rattle.iol_kernel.specs.Seen.{Pipe, meant, seen}
+use Rattle.iol_kernel.specs.Views.{Pipe, domain_view, state_view}
 use Rattle.iol_kernel.specs.Counted.{uses, domain_uses}
-use Rattle.iol_kernel.specs.KernelState.{KernelState, Each, IsDomainReadable, IsSound, slices_in}
+use Rattle.iol_kernel.specs.KernelState.{KernelState, Each, IsDomainReadable, IsSound, slices_in, Reading, joined, read_of}
 use Rattle.iol_kernel.specs.Regrouped.{with_two, with_one, joined_in, SplitsAgg}
-use Rattle.iol_kernel.specs.Sharing.{read_of, Changes}
 use Rattle.iol_kernel.proofs.Effects.{moved-sound}
-use Rattle.iol_kernel.proofs.Meant.{domain-seen, with_domain-seen, without-map}
+use Rattle.iol_kernel.proofs.Views.{domain-view, with_domain-view, without-map}
 use Rattle.iol_kernel.proofs.Once.{once_same}
 use Rattle.iol_kernel.proofs.Sound.{each-push, each-without, each-with_domain_in, aggs_readable, aggs_small, agg_readable, agg_small, fds_stay}
 use Rattle.iol_kernel.proofs.Uses.{sum-with_domain, uses-without, length-without}
-use Rattle.iol_kernel.proofs.ReadOf.{text-seen_read}
+use Rattle.iol_kernel.proofs.ReadOf.{next_agg-read_of, text-view}
 use Rattle.iol_kernel.proofs.Slices.{found_slices}
+use Rattle.iol_core.specs.declared.limits.TheConstants.{MAX_AGGREGATES, MAX_AGGREGATE_BYTES}
+use Rattle.iol_kernel.proofs.Stay.{stays_here}
+use Rattle.iol_kernel.specs.Calls.{Answers}
 
 -- One domain's aggregates change, and the store goes on.
-pub regrouped-sound : (h : KernelState) (t : Stored) (d : ℕ) (x : Domain (List Slice)) (given taken : List BufId) → IsSound h → (domain_in h.domains d).live ≡ true → x.fds ≡ (domain_in h.domains d).fds → Shares h.store t taken given
+regrouped-sound : (h : KernelState) (t : Stored) (d : ℕ) (x : Domain (List Slice)) (given taken : List BufId) → IsSound h → (domain_in h.domains d).live ≡ true → x.fds ≡ (domain_in h.domains d).fds → Shares h.store t taken given
     → IsDomainReadable h.store x → ((b : BufId) → domain_uses b x + tally b taken ≡ domain_uses b (domain_in h.domains d) + tally b given)
-    → Each (λ (e : ℕ × List Slice). byte_len e.1 ≤ 16777216) x.aggs → length x.aggs + live_aggs_in h.domains ≤ 65536 + length (domain_in h.domains d).aggs
+    → Each (λ (e : ℕ × List Slice). byte_len e.1 ≤ MAX_AGGREGATE_BYTES) x.aggs → length x.aggs + live_aggs_in h.domains ≤ 65536 + length (domain_in h.domains d).aggs
     → IsSound (record h { store = t; domains = with_domain_in h.domains d x })
 regrouped-sound h t d x given taken sound live same shares readable counts small few =
     moved-sound h.store t (with_domain_in h.domains d x) h.pipes (shares_move shares).stays
@@ -46,7 +48,7 @@ regrouped-sound h t d x given taken sound live same shares readable counts small
     (shares.tidy sound.tidy) ((shares_move shares).still sound.still)
     (each-with_domain_in (IsDomainReadable h.store) h.domains d x sound.domains readable) sound.pipes (fds_stay h.pipes h.domains d x sound.fds same) (once_same h.domains d x live same sound.once)
     (record {
-      aggs = each-with_domain_in (λ (y : Domain (List Slice)). Each (λ e. byte_len e.1 ≤ 16777216) y.aggs) h.domains d x sound.limits.aggs small;
+      aggs = each-with_domain_in (λ (y : Domain (List Slice)). Each (λ e. byte_len e.1 ≤ MAX_AGGREGATE_BYTES) y.aggs) h.domains d x sound.limits.aggs small;
       few = (let s = sum-with_domain (λ (y : Domain (List Slice)). length y.aggs) h.domains d x live in omega (arith, few, s));
       queues = sound.limits.queues;
       few_pipes = sound.limits.few_pipes;
@@ -55,41 +57,38 @@ regrouped-sound h t d x given taken sound live same shares readable counts small
 
 -- An aggregate is split.
 
-split-seen : (f : Place → ℕ × ℕ) (ds : List (Domain (List Slice))) (ps : List Pool) (qs : List (Option (Pipe (List Slice)))) (d a at : ℕ) (first second : List Slice) → places first ≡ take at (places (slices_in ds d a)) → places second ≡ drop at (places (slices_in ds d a))
-    → seen (read f) (with_domain_in ds d (with_two (domain_in ds d) a first second)) ps qs ≡ (aggs.agg_split (seen (read f) ds ps qs) d a at).after
-split-seen f ds ps qs d a at first second before after =
-    let s : State = seen (read f) ds ps qs in
+split-view : (f : Reading) (ds : List (Domain (List Slice))) (ps : List Pool) (qs : List (Option (Pipe (List Slice)))) (d a at : ℕ) (first second : List Slice) → places first ≡ take at (places (slices_in ds d a)) → places second ≡ drop at (places (slices_in ds d a))
+    → state_view (read f) (with_domain_in ds d (with_two (domain_in ds d) a first second)) ps qs ≡ (aggs.agg_split (state_view (read f) ds ps qs) d a at).after
+split-view f ds ps qs d a at first second before after =
+    let s : State = state_view (read f) ds ps qs in
     let x : Domain (List Slice) = domain_in ds d in
     let n : ℕ = x.next_agg in
     let xs : List Slice = slices_in ds d a in
     let text : Text = machine.text s d a in
-    let one : read f first ≡ take at text = read_taken f first xs at before ∙ ap (λ (w : Text). take at w) (sym (text-seen_read f ds ps qs d a)) in
-    let two : read f second ≡ drop at text = read_rest f second xs at after ∙ ap (λ (w : Text). drop at w) (sym (text-seen_read f ds ps qs d a)) in
-    with_domain-seen (read f) ds ps qs d (with_two x a first second)
-    ∙ ap (λ (es : List (ℕ × Text)). machine.with_domain s d (record (meant (read f) x) { aggs = es; next_agg = n + 2 })) (map-append (λ (e : ℕ × List Slice). (e.0, read f e.1)) (without x.aggs a) ((n, first) ∷ (n + 1, second) ∷ []))
-    ∙ ap (λ (es : List (ℕ × Text)). machine.with_domain s d (record (meant (read f) x) { aggs = es ++ (n, read f first) ∷ (n + 1, read f second) ∷ []; next_agg = n + 2 })) (without-map (read f) x.aggs a)
-    ∙ ap (λ (w : Text). machine.with_domain s d (record (meant (read f) x) { aggs = without (meant (read f) x).aggs a ++ (n, w) ∷ (n + 1, read f second) ∷ []; next_agg = n + 2 })) one
-    ∙ ap (λ (w : Text). machine.with_domain s d (record (meant (read f) x) { aggs = without (meant (read f) x).aggs a ++ (n, take at text) ∷ (n + 1, w) ∷ []; next_agg = n + 2 })) two
-    ∙ ap (λ (y : Domain Text). machine.with_domain s d (record y { aggs = without y.aggs a ++ (y.next_agg, take at text) ∷ (y.next_agg + 1, drop at text) ∷ []; next_agg = y.next_agg + 2 })) (sym (domain-seen (read f) ds ps qs d))
+    let one : read f first ≡ take at text = read_taken f first xs at before ∙ ap (λ (w : Text). take at w) (sym (text-view f ds ps qs d a)) in
+    let two : read f second ≡ drop at text = read_rest f second xs at after ∙ ap (λ (w : Text). drop at w) (sym (text-view f ds ps qs d a)) in
+    with_domain-view (read f) ds ps qs d (with_two x a first second)
+    ∙ ap (λ (es : List (ℕ × Text)). machine.with_domain s d (record (domain_view (read f) x) { aggs = es; next_agg = n + 2 })) (map-append (λ (e : ℕ × List Slice). (e.0, read f e.1)) (without x.aggs a) ((n, first) ∷ (n + 1, second) ∷ []))
+    ∙ ap (λ (es : List (ℕ × Text)). machine.with_domain s d (record (domain_view (read f) x) { aggs = es ++ (n, read f first) ∷ (n + 1, read f second) ∷ []; next_agg = n + 2 })) (without-map (read f) x.aggs a)
+    ∙ ap (λ (w : Text). machine.with_domain s d (record (domain_view (read f) x) { aggs = without (domain_view (read f) x).aggs a ++ (n, w) ∷ (n + 1, read f second) ∷ []; next_agg = n + 2 })) one
+    ∙ ap (λ (w : Text). machine.with_domain s d (record (domain_view (read f) x) { aggs = without (domain_view (read f) x).aggs a ++ (n, take at text) ∷ (n + 1, w) ∷ []; next_agg = n + 2 })) two
+    ∙ ap (λ (y : Domain Text). machine.with_domain s d (record y { aggs = without y.aggs a ++ (y.next_agg, take at text) ∷ (y.next_agg + 1, drop at text) ∷ []; next_agg = y.next_agg + 2 })) (sym (domain-view (read f) ds ps qs d))
 
 module _ (h : KernelState) (t : Stored) (ds : List (Domain (List Slice))) (d a at : ℕ) (splits : SplitsAgg h.store t h.domains ds d a at) where
-  split-each : (f : Place → ℕ × ℕ) → read_of f (record h { store = t; domains = ds }) ≡ (aggs.agg_split (read_of f h) d a at).after
+  split-each : (f : Reading) → read_of f (record h { store = t; domains = ds }) ≡ (aggs.agg_split (read_of f h) d a at).after
   unfolding read_of
   split-each f =
-      ap (λ (ps : List Pool). seen (read f) ds ps h.pipes) splits.shares.pools
-      ∙ ap (λ (ys : List (Domain (List Slice))). seen (read f) ys h.store.pools h.pipes) splits.split
-      ∙ split-seen f h.domains h.store.pools h.pipes d a at splits.first splits.second splits.before splits.after
+      ap (λ (ps : List Pool). state_view (read f) ds ps h.pipes) splits.shares.pools
+      ∙ ap (λ (ys : List (Domain (List Slice))). state_view (read f) ys h.store.pools h.pipes) splits.split
+      ∙ split-view f h.domains h.store.pools h.pipes d a at splits.first splits.second splits.before splits.after
 
-  pub split-changes : Changes (λ s. (aggs.agg_split s d a at).after) h (record h { store = t; domains = ds })
-  split-changes = record { each = λ f keeps. split-each f; arena = splits.shares.arena }
-
-  pub split-sound : IsSound h → (domain_in h.domains d).live ≡ true → agg_in h.domains d a ≢ None → live_aggs_in h.domains < 65536 → IsSound (record h { store = t; domains = ds })
+  split-sound : IsSound h → (domain_in h.domains d).live ≡ true → agg_in h.domains d a ≢ None → live_aggs_in h.domains < MAX_AGGREGATES → IsSound (record h { store = t; domains = ds })
   split-sound sound live there few =
       let x : Domain (List Slice) = domain_in h.domains d in
       let xs : List Slice = slices_in h.domains d a in
       let found = found_slices h.domains d a there in
       let readable : AllReadable h.store xs = agg_readable h d a xs sound found in
-      let short : byte_len xs ≤ 16777216 = agg_small h d a xs sound found in
+      let short : byte_len xs ≤ MAX_AGGREGATE_BYTES = agg_small h d a xs sound found in
       let two : List (ℕ × List Slice) = (x.next_agg, splits.first) ∷ (x.next_agg + 1, splits.second) ∷ [] in
       subst (λ (ys : List (Domain (List Slice))). IsSound (record h { store = t; domains = ys })) (sym splits.split)
       (regrouped-sound h t d (with_two x a splits.first splits.second) (bufs_of splits.first ++ bufs_of splits.second) (bufs_of xs) sound live refl splits.shares
@@ -99,43 +98,50 @@ module _ (h : KernelState) (t : Stored) (ds : List (Domain (List Slice))) (d a a
       let v = sum_by-append (λ (e : ℕ × List Slice). uses b e.1) (without x.aggs a) two in
       let w = tally-append b (bufs_of splits.first) (bufs_of splits.second) in
       omega (arith, u, v, w)))
-      (each-two (λ (e : ℕ × List Slice). byte_len e.1 ≤ 16777216) (without x.aggs a) (x.next_agg, splits.first) (x.next_agg + 1, splits.second)
-      (each-without (λ (e : ℕ × List Slice). byte_len e.1 ≤ 16777216) x.aggs a (aggs_small h d sound)) (omega (arith, short, ap length splits.before, length-take at (places xs))) (omega (arith, short, ap length splits.after, length-drop at (places xs))))
+      (each-two (λ (e : ℕ × List Slice). byte_len e.1 ≤ MAX_AGGREGATE_BYTES) (without x.aggs a) (x.next_agg, splits.first) (x.next_agg + 1, splits.second)
+      (each-without (λ (e : ℕ × List Slice). byte_len e.1 ≤ MAX_AGGREGATE_BYTES) x.aggs a (aggs_small h d sound)) (omega (arith, short, ap length splits.before, length-take at (places xs))) (omega (arith, short, ap length splits.after, length-drop at (places xs))))
       (omega (arith, few, length-without x.aggs a xs found, length-append (without x.aggs a) two)))
     where
       each-two : (P : ℕ × List Slice → Type 0) (es : List (ℕ × List Slice)) (e f : ℕ × List Slice) → Each P es → P e → P f → Each P (es ++ e ∷ f ∷ [])
       each-two P [] e f h p q = (p, (q, tt))
       each-two P (g ∷ es) e f h p q = (h.0, each-two P es e f h.1 p q)
 
+  pub split_answers : (r : ℕ × ℕ) → IsSound h → (domain_in h.domains d).live ≡ true → agg_in h.domains d a ≢ None → live_aggs_in h.domains < MAX_AGGREGATES → r ≡ ((domain_in h.domains d).next_agg, (domain_in h.domains d).next_agg + 1) → Answers (λ s. aggs.agg_split s d a at) h r (record h { store = t; domains = ds })
+  split_answers r sound live there few numbers = record {
+    answer = λ f keeps. numbers ∙ ap {B = ℕ × ℕ} (λ n. (n, n + 1)) (sym (next_agg-read_of f h d));
+    after = λ f keeps. split-each f;
+    arena = splits.shares.arena;
+    pools = splits.shares.pools;
+    sound = split-sound sound live there few;
+    stays = (shares_move splits.shares).stays;
+  }
+
 -- Two aggregates are joined; the store stays as it was.
 
-join-seen : (f : Place → ℕ × ℕ) (ds : List (Domain (List Slice))) (ps : List Pool) (qs : List (Option (Pipe (List Slice)))) (d a b : ℕ) → seen (read f) (joined_in ds d a b) ps qs ≡ (aggs.agg_join (seen (read f) ds ps qs) d a b).after
-join-seen f ds ps qs d a b =
-    let s : State = seen (read f) ds ps qs in
+join-view : (f : Reading) (ds : List (Domain (List Slice))) (ps : List Pool) (qs : List (Option (Pipe (List Slice)))) (d a b : ℕ) → state_view (read f) (joined_in ds d a b) ps qs ≡ (aggs.agg_join (state_view (read f) ds ps qs) d a b).after
+join-view f ds ps qs d a b =
+    let s : State = state_view (read f) ds ps qs in
     let x : Domain (List Slice) = domain_in ds d in
     let n : ℕ = x.next_agg in
     let whole : List Slice = slices_in ds d a ++ slices_in ds d b in
     let text : Text = machine.text s d a ++ machine.text s d b in
     let one : read f whole ≡ text =
     read-append f (slices_in ds d a) (slices_in ds d b)
-    ∙ ap (λ (w : Text). w ++ read f (slices_in ds d b)) (sym (text-seen_read f ds ps qs d a))
-    ∙ ap (λ (w : Text). machine.text s d a ++ w) (sym (text-seen_read f ds ps qs d b)) in
-    with_domain-seen (read f) ds ps qs d (with_one x a b whole)
-    ∙ ap (λ (es : List (ℕ × Text)). machine.with_domain s d (record (meant (read f) x) { aggs = es; next_agg = n + 1 })) (map-append (λ (e : ℕ × List Slice). (e.0, read f e.1)) (without (without x.aggs a) b) ((n, whole) ∷ []))
-    ∙ ap (λ (es : List (ℕ × Text)). machine.with_domain s d (record (meant (read f) x) { aggs = es ++ (n, read f whole) ∷ []; next_agg = n + 1 })) (without-map (read f) (without x.aggs a) b)
-    ∙ ap (λ (es : List (ℕ × Text)). machine.with_domain s d (record (meant (read f) x) { aggs = without es b ++ (n, read f whole) ∷ []; next_agg = n + 1 })) (without-map (read f) x.aggs a)
-    ∙ ap (λ (w : Text). machine.with_domain s d (record (meant (read f) x) { aggs = without (without (meant (read f) x).aggs a) b ++ (n, w) ∷ []; next_agg = n + 1 })) one
-    ∙ ap (λ (y : Domain Text). machine.with_domain s d (record y { aggs = without (without y.aggs a) b ++ (y.next_agg, text) ∷ []; next_agg = y.next_agg + 1 })) (sym (domain-seen (read f) ds ps qs d))
+    ∙ ap (λ (w : Text). w ++ read f (slices_in ds d b)) (sym (text-view f ds ps qs d a))
+    ∙ ap (λ (w : Text). machine.text s d a ++ w) (sym (text-view f ds ps qs d b)) in
+    with_domain-view (read f) ds ps qs d (with_one x a b whole)
+    ∙ ap (λ (es : List (ℕ × Text)). machine.with_domain s d (record (domain_view (read f) x) { aggs = es; next_agg = n + 1 })) (map-append (λ (e : ℕ × List Slice). (e.0, read f e.1)) (without (without x.aggs a) b) ((n, whole) ∷ []))
+    ∙ ap (λ (es : List (ℕ × Text)). machine.with_domain s d (record (domain_view (read f) x) { aggs = es ++ (n, read f whole) ∷ []; next_agg = n + 1 })) (without-map (read f) (without x.aggs a) b)
+    ∙ ap (λ (es : List (ℕ × Text)). machine.with_domain s d (record (domain_view (read f) x) { aggs = without es b ++ (n, read f whole) ∷ []; next_agg = n + 1 })) (without-map (read f) x.aggs a)
+    ∙ ap (λ (w : Text). machine.with_domain s d (record (domain_view (read f) x) { aggs = without (without (domain_view (read f) x).aggs a) b ++ (n, w) ∷ []; next_agg = n + 1 })) one
+    ∙ ap (λ (y : Domain Text). machine.with_domain s d (record y { aggs = without (without y.aggs a) b ++ (y.next_agg, text) ∷ []; next_agg = y.next_agg + 1 })) (sym (domain-view (read f) ds ps qs d))
 
 module _ (h : KernelState) (ds : List (Domain (List Slice))) (d a b : ℕ) (joined : ds ≡ joined_in h.domains d a b) where
-  join-each : (f : Place → ℕ × ℕ) → read_of f (record h { domains = ds }) ≡ (aggs.agg_join (read_of f h) d a b).after
+  join-each : (f : Reading) → read_of f (record h { domains = ds }) ≡ (aggs.agg_join (read_of f h) d a b).after
   unfolding read_of
-  join-each f = ap (λ (ys : List (Domain (List Slice))). seen (read f) ys h.store.pools h.pipes) joined ∙ join-seen f h.domains h.store.pools h.pipes d a b
+  join-each f = ap (λ (ys : List (Domain (List Slice))). state_view (read f) ys h.store.pools h.pipes) joined ∙ join-view f h.domains h.store.pools h.pipes d a b
 
-  pub join-changes : Changes (λ s. (aggs.agg_join s d a b).after) h (record h { domains = ds })
-  join-changes = record { each = λ f keeps. join-each f; arena = refl }
-
-  pub join-sound : IsSound h → (domain_in h.domains d).live ≡ true → agg_in h.domains d a ≢ None → agg_in h.domains d b ≢ None → a ≢ b → byte_len (slices_in h.domains d a) + byte_len (slices_in h.domains d b) ≤ 16777216 → IsSound (record h { domains = ds })
+  join-sound : IsSound h → (domain_in h.domains d).live ≡ true → agg_in h.domains d a ≢ None → agg_in h.domains d b ≢ None → a ≢ b → byte_len (slices_in h.domains d a) + byte_len (slices_in h.domains d b) ≤ MAX_AGGREGATE_BYTES → IsSound (record h { domains = ds })
   join-sound sound live first second differ short =
       let x : Domain (List Slice) = domain_in h.domains d in
       let xs : List Slice = slices_in h.domains d a in
@@ -153,6 +159,16 @@ module _ (h : KernelState) (ds : List (Domain (List Slice))) (d a b : ℕ) (join
       let w = sum_by_push (λ (e : ℕ × List Slice). uses c e.1) rest (x.next_agg, xs ++ ys) in
       let t = ap (tally c) (bufs-append xs ys) ∙ tally-append c (bufs_of xs) (bufs_of ys) in
       omega (arith, u, v, w, t)))
-      (each-push (λ (e : ℕ × List Slice). byte_len e.1 ≤ 16777216) rest (x.next_agg, xs ++ ys)
-      (each-without (λ (e : ℕ × List Slice). byte_len e.1 ≤ 16777216) (without x.aggs a) b (each-without (λ (e : ℕ × List Slice). byte_len e.1 ≤ 16777216) x.aggs a (aggs_small h d sound))) (omega (arith, short, byte_len-append xs ys)))
+      (each-push (λ (e : ℕ × List Slice). byte_len e.1 ≤ MAX_AGGREGATE_BYTES) rest (x.next_agg, xs ++ ys)
+      (each-without (λ (e : ℕ × List Slice). byte_len e.1 ≤ MAX_AGGREGATE_BYTES) (without x.aggs a) b (each-without (λ (e : ℕ × List Slice). byte_len e.1 ≤ MAX_AGGREGATE_BYTES) x.aggs a (aggs_small h d sound))) (omega (arith, short, byte_len-append xs ys)))
       (omega (arith, sound.limits.few, length-without x.aggs a xs found, length-without (without x.aggs a) b ys also, length-append rest ((x.next_agg, xs ++ ys) ∷ []))))
+
+  pub join_answers : (n : ℕ) → IsSound h → (domain_in h.domains d).live ≡ true → agg_in h.domains d a ≢ None → agg_in h.domains d b ≢ None → a ≢ b → byte_len (slices_in h.domains d a) + byte_len (slices_in h.domains d b) ≤ MAX_AGGREGATE_BYTES → n ≡ (domain_in h.domains d).next_agg → Answers (λ s. aggs.agg_join s d a b) h n (record h { domains = ds })
+  join_answers n sound live first second differ short number = record {
+    answer = λ f keeps. number ∙ sym (next_agg-read_of f h d);
+    after = λ f keeps. join-each f;
+    arena = refl;
+    pools = refl;
+    sound = join-sound sound live first second differ short;
+    stays = stays_here h.store;
+  }

@@ -1,9 +1,10 @@
 -- A domain's aggregate in a sound state, as slices: none where there is no such aggregate.
-use Rattle.std.proofs.Common.{◌≡◌, ◌≢◌, ℕ, ◌≤◌, List, [], ◌++◌, ap, sym, refl, arith, Option, Some, None, true, false, ◌∙◌}
+use Rattle.std.proofs.Common.{◌≡◌, ◌≢◌, ℕ, ◌≤◌, List, [], ◌++◌, ap, sym, refl, arith, Option, Some, None, true, false, ◌∙◌, inl, inr}
 use Rattle.std.specs.Prelude.{unwrap_or, option_map, is_none}
 use Rattle.iol_core.specs.Text.{Text}
 use Rattle.iol_core.specs.State.{Domain}
 use Rattle.iol_core.specs.Calls.Aggregates as aggs
+use Rattle.iol_core.specs.declared.refusals.Refusal.TheVariants.{NoDomain, BadAgg}
 use Rattle.iol_hold.specs.Moves.{Covers, IsCountable}
 use Rattle.iol_hold.specs.Places.{byte_len}
 use Rattle.iol_hold.specs.Texts.{text_of, bufs_of, AllReadable}
@@ -11,10 +12,14 @@ use Rattle.iol_hold.specs.declared.slices.Slice.{Slice}
 use Rattle.iol_hold.proofs.Counting.{tally-append, tally_none}
 use Rattle.iol_hold.proofs.Reading.{readable_none}
 use Rattle.iol_desc.specs.Tables.{domain_in, agg_in}
-use Rattle.iol_kernel.specs.KernelState.{KernelState, machine_of, IsSound, slices_in}
-use Rattle.iol_kernel.proofs.Meant.{aggregate-seen}
+use Rattle.iol_kernel.specs.KernelState.{KernelState, IsSound, slices_in, Reading, read_of}
+use Rattle.iol_kernel.proofs.Views.{aggregate-view}
 use Rattle.iol_kernel.proofs.Sound.{agg_readable, agg_small}
 use Rattle.iol_kernel.proofs.Uses.{agg_covered, all_few, uses_few, countable}
+use Rattle.iol_core.specs.declared.limits.TheConstants.{MAX_AGGREGATE_BYTES}
+use Rattle.iol_hold.specs.Layout.{read}
+use Rattle.iol_kernel.proofs.ReadOf.{is_live-read_of, text-read_of}
+use Rattle.iol_kernel.specs.Calls.{IsFound, IsMissing}
 
 -- an aggregate that is looked up
 
@@ -28,12 +33,32 @@ found_slices ds d a there = of (agg_in ds d a) there
     of None none = absurd (none refl)
     of (Some xs) some = refl
 
-pub none_held : (h : KernelState) (d a : ℕ) → None ≡ agg_in h.domains d a → aggs.lacks_agg (machine_of h) d a ≡ true
-unfolding machine_of
-none_held h d a none = ap (λ (o : Option Text). is_none o) (aggregate-seen (text_of h.store) h.domains h.store.pools h.pipes d a ∙ ap (option_map (text_of h.store)) (sym none))
+pub none_held : (f : Reading) (h : KernelState) (d a : ℕ) → None ≡ agg_in h.domains d a → aggs.lacks_agg (read_of f h) d a ≡ true
+unfolding read_of
+none_held f h d a none = ap (λ (o : Option Text). is_none o) (aggregate-view (read f) h.domains h.store.pools h.pipes d a ∙ ap (option_map (read f)) (sym none))
 
-pub there_held : (h : KernelState) (d a : ℕ) → aggs.lacks_agg (machine_of h) d a ≡ false → agg_in h.domains d a ≢ None
-there_held h d a there = λ none. (let lacks = none_held h d a (sym none) in cc (lacks, there))
+pub some_held : (f : Reading) (h : KernelState) (d a : ℕ) (xs : List Slice) → Some xs ≡ agg_in h.domains d a → aggs.lacks_agg (read_of f h) d a ≡ false
+unfolding read_of
+some_held f h d a xs found = ap (λ (o : Option Text). is_none o) (aggregate-view (read f) h.domains h.store.pools h.pipes d a ∙ ap (option_map (read f)) (sym found))
+
+pub there_held : (f : Reading) (h : KernelState) (d a : ℕ) → aggs.lacks_agg (read_of f h) d a ≡ false → agg_in h.domains d a ≢ None
+there_held f h d a there = λ none. (let lacks = none_held f h d a (sym none) in cc (lacks, there))
+
+-- it is found
+
+pub is_found : (h : KernelState) (d a : ℕ) (xs : List Slice) → (domain_in h.domains d).live ≡ true → Some xs ≡ agg_in h.domains d a → IsFound h d a xs
+is_found h d a xs live found = record {
+  found = found;
+  live = λ f. is_live-read_of f h d ∙ live;
+  there = λ f. some_held f h d a xs found;
+  text = λ f. text-read_of f h d a ∙ ap (read f) (sym (slices_found h.domains d a xs found));
+}
+
+pub no_domain_missing : (h : KernelState) (d a : ℕ) → (domain_in h.domains d).live ≡ false → IsMissing h d a NoDomain
+no_domain_missing h d a ended = inl (refl, λ f. is_live-read_of f h d ∙ ended)
+
+pub no_agg_missing : (h : KernelState) (d a : ℕ) → (domain_in h.domains d).live ≡ true → None ≡ agg_in h.domains d a → IsMissing h d a BadAgg
+no_agg_missing h d a live none = inr (refl, λ f. (is_live-read_of f h d ∙ live, none_held f h d a none))
 
 -- what is known of its slices
 
@@ -44,10 +69,10 @@ slices_readable h d a sound = found (agg_in h.domains d a) (λ xs is. agg_readab
     found None r = readable_none h.store
     found (Some xs) r = r xs refl
 
-pub slices_small : (h : KernelState) (d a : ℕ) → IsSound h → byte_len (slices_in h.domains d a) ≤ 16777216
+pub slices_small : (h : KernelState) (d a : ℕ) → IsSound h → byte_len (slices_in h.domains d a) ≤ MAX_AGGREGATE_BYTES
 slices_small h d a sound = found (agg_in h.domains d a) (λ xs is. agg_small h d a xs sound is)
   where
-    found : (o : Option (List Slice)) → ((xs : List Slice) → Some xs ≡ o → byte_len xs ≤ 16777216) → byte_len (unwrap_or o []) ≤ 16777216
+    found : (o : Option (List Slice)) → ((xs : List Slice) → Some xs ≡ o → byte_len xs ≤ MAX_AGGREGATE_BYTES) → byte_len (unwrap_or o []) ≤ MAX_AGGREGATE_BYTES
     found None r = omega arith
     found (Some xs) r = r xs refl
 

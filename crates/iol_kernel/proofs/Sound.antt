@@ -18,11 +18,12 @@ use Rattle.iol_hold.specs.Texts.{text_of, bufs_of, AllReadable}
 use Rattle.iol_hold.specs.declared.slices.Slice.{Slice}
 use Rattle.iol_hold.proofs.Reading.{readable_stays, text_stays}
 use Rattle.iol_desc.specs.Tables.{domain_in, with_domain_in, agg_in, with_agg_in, without_agg_in, live_aggs_in, with_fds_in}
-use Rattle.iol_kernel.specs.Seen.{meant, Pipe, pipe_meant, seen}
+use Rattle.iol_kernel.specs.Views.{domain_view, Pipe, pipe_view, state_view}
 use Rattle.iol_kernel.specs.Counted.{uses, domain_uses, pipe_uses, all_uses, IsCounted}
 use Rattle.iol_kernel.specs.Ends.{IsOpenOnce}
 use Rattle.iol_kernel.specs.KernelState.{KernelState, Each, IsDomainReadable, IsPipeReadable, IsOpenEnd, IsSound, IsLimited}
 use Rattle.iol_kernel.proofs.Uses.{uses-same, sum-with_domain, length-without}
+use Rattle.iol_core.specs.declared.limits.TheConstants.{MAX_AGGREGATES, MAX_AGGREGATE_BYTES}
 
 pub each-push : {A : Type 0} (P : A → Type 0) (xs : List A) (x : A) → Each P xs → P x → Each P (xs ++ x ∷ [])
 each-push P [] x e p = (p, tt)
@@ -122,22 +123,22 @@ module _ (old new : Stored) (m : Stays old new) (ds : List (Domain (List Slice))
   pub pipes_stay : Each (IsPipeReadable old) qs → Each (IsPipeReadable new) qs
   pipes_stay e = each-both (IsPipeReadable old) (IsPipeCovered new) (IsPipeReadable new) qs pipe_stays e pipes_held
 
-  domain_same : (d : Domain (List Slice)) → IsDomainReadable old d → IsDomainCovered new d → meant (text_of new) d ≡ meant (text_of old) d
+  domain_same : (d : Domain (List Slice)) → IsDomainReadable old d → IsDomainCovered new d → domain_view (text_of new) d ≡ domain_view (text_of old) d
   domain_same d e k =
-      ap (λ (xs : List (ℕ × Text)). record (meant (text_of old) d) { aggs = xs })
+      ap (λ (xs : List (ℕ × Text)). record (domain_view (text_of old) d) { aggs = xs })
       (map-kept {B = ℕ × Text} (λ (e : ℕ × List Slice). AllReadable old e.1) (IsAggCovered new) (λ e. (e.0, text_of new e.1)) (λ e. (e.0, text_of old e.1)) d.aggs
       (λ x r c. ap {B = ℕ × Text} (λ t. (x.0, t)) (text_stays x.1 m c r)) e k)
 
-  pipe_same : (p : Option (Pipe (List Slice))) → IsPipeReadable old p → IsPipeCovered new p → option_map (pipe_meant (text_of new)) p ≡ option_map (pipe_meant (text_of old)) p
+  pipe_same : (p : Option (Pipe (List Slice))) → IsPipeReadable old p → IsPipeCovered new p → option_map (pipe_view (text_of new)) p ≡ option_map (pipe_view (text_of old)) p
   pipe_same None e k = refl
-  pipe_same (Some p) e k = ap (λ (t : Text). Some (record (pipe_meant (text_of old) p) { queue = t })) (text_stays p.queue m k e)
+  pipe_same (Some p) e k = ap (λ (t : Text). Some (record (pipe_view (text_of old) p) { queue = t })) (text_stays p.queue m k e)
 
   -- so the machine has what it had
-  pub seen-stays : (ps : List Pool) → Each (IsDomainReadable old) ds → Each (IsPipeReadable old) qs → seen (text_of new) ds ps qs ≡ seen (text_of old) ds ps qs
-  unfolding seen
-  seen-stays ps e k =
-      ap (λ (xs : List (Domain Text)). record (seen (text_of new) ds ps qs) { domains = xs }) (map-kept (IsDomainReadable old) (IsDomainCovered new) (meant (text_of new)) (meant (text_of old)) ds domain_same e domains_held)
-      ∙ ap (λ (xs : List (Option machine.Pipe)). record (seen (text_of old) ds ps qs) { pipes = xs }) (map-kept (IsPipeReadable old) (IsPipeCovered new) (option_map (pipe_meant (text_of new))) (option_map (pipe_meant (text_of old))) qs pipe_same k pipes_held)
+  pub view-stays : (ps : List Pool) → Each (IsDomainReadable old) ds → Each (IsPipeReadable old) qs → state_view (text_of new) ds ps qs ≡ state_view (text_of old) ds ps qs
+  unfolding state_view
+  view-stays ps e k =
+      ap (λ (xs : List (Domain Text)). record (state_view (text_of new) ds ps qs) { domains = xs }) (map-kept (IsDomainReadable old) (IsDomainCovered new) (domain_view (text_of new)) (domain_view (text_of old)) ds domain_same e domains_held)
+      ∙ ap (λ (xs : List (Option machine.Pipe)). record (state_view (text_of old) ds ps qs) { pipes = xs }) (map-kept (IsPipeReadable old) (IsPipeCovered new) (option_map (pipe_view (text_of new))) (option_map (pipe_view (text_of old))) qs pipe_same k pipes_held)
 
 pub each-numbered : {A : Type 0} (P : A → Type 0) (xs : List A) (n : ℕ) (z : A) → Each P xs → P z → P (numbered_or xs n z)
 each-numbered P xs n z e p = elim (cases_eq n 0) [
@@ -173,11 +174,11 @@ aggs_readable h d sound = each-domain_in (IsDomainReadable h.store) h.domains d 
 pub ends_open : (h : KernelState) (d : ℕ) → IsSound h → Each (IsOpenEnd h.pipes) (domain_in h.domains d).fds
 ends_open h d sound = each-domain_in (λ (x : Domain (List Slice)). Each (IsOpenEnd h.pipes) x.fds) h.domains d sound.fds tt
 
-pub aggs_small : (h : KernelState) (d : ℕ) → IsSound h → Each (λ (e : ℕ × List Slice). byte_len e.1 ≤ 16777216) (domain_in h.domains d).aggs
-aggs_small h d sound = each-domain_in (λ (y : Domain (List Slice)). Each (λ e. byte_len e.1 ≤ 16777216) y.aggs) h.domains d sound.limits.aggs tt
+pub aggs_small : (h : KernelState) (d : ℕ) → IsSound h → Each (λ (e : ℕ × List Slice). byte_len e.1 ≤ MAX_AGGREGATE_BYTES) (domain_in h.domains d).aggs
+aggs_small h d sound = each-domain_in (λ (y : Domain (List Slice)). Each (λ e. byte_len e.1 ≤ MAX_AGGREGATE_BYTES) y.aggs) h.domains d sound.limits.aggs tt
 
-pub agg_small : (h : KernelState) (d a : ℕ) (xs : List Slice) → IsSound h → Some xs ≡ agg_in h.domains d a → byte_len xs ≤ 16777216
-agg_small h d a xs sound is = each-lookup (λ (ys : List Slice). byte_len ys ≤ 16777216) (domain_in h.domains d).aggs a xs (aggs_small h d sound) is
+pub agg_small : (h : KernelState) (d a : ℕ) (xs : List Slice) → IsSound h → Some xs ≡ agg_in h.domains d a → byte_len xs ≤ MAX_AGGREGATE_BYTES
+agg_small h d a xs sound is = each-lookup (λ (ys : List Slice). byte_len ys ≤ MAX_AGGREGATE_BYTES) (domain_in h.domains d).aggs a xs (aggs_small h d sound) is
 
 pub agg_readable : (h : KernelState) (d a : ℕ) (xs : List Slice) → IsSound h → Some xs ≡ agg_in h.domains d a → AllReadable h.store xs
 agg_readable h d a xs sound is = each-lookup (AllReadable h.store) (domain_in h.domains d).aggs a xs (aggs_readable h d sound) is
@@ -193,7 +194,7 @@ sound_with h d x sound live same fds once = record {
   tidy = sound.tidy;
   still = sound.still;
   limits = record {
-    aggs = each-with_domain_in (λ (y : Domain (List Slice)). Each (λ e. byte_len e.1 ≤ 16777216) y.aggs) h.domains d x sound.limits.aggs (subst (λ (es : List (ℕ × List Slice)). Each (λ e. byte_len e.1 ≤ 16777216) es) (sym same) (aggs_small h d sound));
+    aggs = each-with_domain_in (λ (y : Domain (List Slice)). Each (λ e. byte_len e.1 ≤ MAX_AGGREGATE_BYTES) y.aggs) h.domains d x sound.limits.aggs (subst (λ (es : List (ℕ × List Slice)). Each (λ e. byte_len e.1 ≤ MAX_AGGREGATE_BYTES) es) (sym same) (aggs_small h d sound));
     few = omega (arith, sound.limits.few, sum-with_domain (λ (y : Domain (List Slice)). length y.aggs) h.domains d x live, ap length same);
     queues = sound.limits.queues;
     few_pipes = sound.limits.few_pipes;
@@ -206,13 +207,13 @@ sound_fds h d xs sound live fds once = sound_with h d (record (domain_in h.domai
 
 -- limits, when a domain gets an aggregate, or gives one up
 
-pub limits_agg : (ds : List (Domain (List Slice))) (qs : List (Option (Pipe (List Slice)))) (d : ℕ) (xs : List Slice) → IsLimited ds qs → (domain_in ds d).live ≡ true → byte_len xs ≤ 16777216 → live_aggs_in ds < 65536 → IsLimited (with_agg_in ds d xs) qs
+pub limits_agg : (ds : List (Domain (List Slice))) (qs : List (Option (Pipe (List Slice)))) (d : ℕ) (xs : List Slice) → IsLimited ds qs → (domain_in ds d).live ≡ true → byte_len xs ≤ MAX_AGGREGATE_BYTES → live_aggs_in ds < MAX_AGGREGATES → IsLimited (with_agg_in ds d xs) qs
 limits_agg ds qs d xs limits live small few =
     let x : Domain (List Slice) = domain_in ds d in
     let y : Domain (List Slice) = record x { aggs = x.aggs ++ (x.next_agg, xs) ∷ []; next_agg = x.next_agg + 1 } in
-    let was : Each (λ (e : ℕ × List Slice). byte_len e.1 ≤ 16777216) x.aggs = each-domain_in (λ (y : Domain (List Slice)). Each (λ e. byte_len e.1 ≤ 16777216) y.aggs) ds d limits.aggs tt in
+    let was : Each (λ (e : ℕ × List Slice). byte_len e.1 ≤ MAX_AGGREGATE_BYTES) x.aggs = each-domain_in (λ (y : Domain (List Slice)). Each (λ e. byte_len e.1 ≤ MAX_AGGREGATE_BYTES) y.aggs) ds d limits.aggs tt in
     record {
-      aggs = each-with_domain_in (λ (y : Domain (List Slice)). Each (λ e. byte_len e.1 ≤ 16777216) y.aggs) ds d y limits.aggs (each-push (λ (e : ℕ × List Slice). byte_len e.1 ≤ 16777216) x.aggs (x.next_agg, xs) was small);
+      aggs = each-with_domain_in (λ (y : Domain (List Slice)). Each (λ e. byte_len e.1 ≤ MAX_AGGREGATE_BYTES) y.aggs) ds d y limits.aggs (each-push (λ (e : ℕ × List Slice). byte_len e.1 ≤ MAX_AGGREGATE_BYTES) x.aggs (x.next_agg, xs) was small);
       few = omega (arith, few, sum-with_domain (λ (y : Domain (List Slice)). length y.aggs) ds d y live, length-append x.aggs ((x.next_agg, xs) ∷ []));
       queues = limits.queues;
       few_pipes = limits.few_pipes;
@@ -230,9 +231,9 @@ each-without P (e ∷ es) a h = elim (cases_eq e.0 a) [
 pub limits_drop : (ds : List (Domain (List Slice))) (qs : List (Option (Pipe (List Slice)))) (d a : ℕ) (xs : List Slice) → IsLimited ds qs → (domain_in ds d).live ≡ true → Some xs ≡ agg_in ds d a → IsLimited (without_agg_in ds d a) qs
 limits_drop ds qs d a xs limits live is =
     let x : Domain (List Slice) = domain_in ds d in
-    let was : Each (λ (e : ℕ × List Slice). byte_len e.1 ≤ 16777216) x.aggs = each-domain_in (λ (y : Domain (List Slice)). Each (λ e. byte_len e.1 ≤ 16777216) y.aggs) ds d limits.aggs tt in
+    let was : Each (λ (e : ℕ × List Slice). byte_len e.1 ≤ MAX_AGGREGATE_BYTES) x.aggs = each-domain_in (λ (y : Domain (List Slice)). Each (λ e. byte_len e.1 ≤ MAX_AGGREGATE_BYTES) y.aggs) ds d limits.aggs tt in
     record {
-      aggs = each-with_domain_in (λ (y : Domain (List Slice)). Each (λ e. byte_len e.1 ≤ 16777216) y.aggs) ds d (record x { aggs = without x.aggs a }) limits.aggs (each-without (λ (e : ℕ × List Slice). byte_len e.1 ≤ 16777216) x.aggs a was);
+      aggs = each-with_domain_in (λ (y : Domain (List Slice)). Each (λ e. byte_len e.1 ≤ MAX_AGGREGATE_BYTES) y.aggs) ds d (record x { aggs = without x.aggs a }) limits.aggs (each-without (λ (e : ℕ × List Slice). byte_len e.1 ≤ MAX_AGGREGATE_BYTES) x.aggs a was);
       few = omega (arith, limits.few, sum-with_domain (λ (y : Domain (List Slice)). length y.aggs) ds d (record x { aggs = without x.aggs a }) live, length-without x.aggs a xs is);
       queues = limits.queues;
       few_pipes = limits.few_pipes;

@@ -15,10 +15,12 @@ use Rattle.iol_hold.specs.declared.slices.Slice.{Slice}
 use Rattle.iol_hold.proofs.Slicing.{byte_len-cons}
 use Rattle.iol_hold.proofs.Counting.{same_few}
 use Rattle.iol_desc.specs.Tables.{domain_in, with_domain_in, agg_in, with_agg_in, without_agg_in, live_aggs_in}
-use Rattle.iol_kernel.specs.Seen.{Pipe}
+use Rattle.iol_kernel.specs.Views.{Pipe}
 use Rattle.iol_kernel.specs.Counted.{uses, domain_uses, pipe_uses, all_uses, IsCounted}
 use Rattle.iol_kernel.specs.KernelState.{Each, IsLimited, IsShort, queue_at}
 use Rattle.iol_kernel.proofs.Rows.{live_numbered}
+use Rattle.iol_core.specs.declared.limits.TheConstants.{MAX_AGGREGATE_BYTES, MAX_QUEUE_BYTES}
+
 
 abbrev pub Domains : Type 0
 Domains = List (Domain (List Slice))
@@ -154,7 +156,7 @@ unfolding tally
 uses_few b [] = omega arith
 uses_few b (x ∷ xs) = let r = uses_few b xs in omega (arith, r, byte_len-cons x xs, same_few b x.hold.buf, x.some)
 
-aggs_few : (b : BufId) (es : List (ℕ × List Slice)) → Each (λ e. byte_len e.1 ≤ 16777216) es → sum_by (λ e. uses b e.1) es ≤ 16777216 * length es
+aggs_few : (b : BufId) (es : List (ℕ × List Slice)) → Each (λ e. byte_len e.1 ≤ MAX_AGGREGATE_BYTES) es → sum_by (λ e. uses b e.1) es ≤ MAX_AGGREGATE_BYTES * length es
 aggs_few b [] h = omega arith
 aggs_few b (e ∷ es) h =
     let r = aggs_few b es h.1 in
@@ -162,7 +164,7 @@ aggs_few b (e ∷ es) h =
     let u = uses_few b e.1 in
     omega (arith, r, c, u, h.0)
 
-domains_few : (b : BufId) (ds : Domains) → Each (λ d. Each (λ e. byte_len e.1 ≤ 16777216) d.aggs) ds → sum_by (domain_uses b) ds ≤ 16777216 * live_aggs_in ds
+domains_few : (b : BufId) (ds : Domains) → Each (λ d. Each (λ e. byte_len e.1 ≤ MAX_AGGREGATE_BYTES) d.aggs) ds → sum_by (domain_uses b) ds ≤ MAX_AGGREGATE_BYTES * live_aggs_in ds
 domains_few b [] h = omega arith
 domains_few b (d ∷ ds) h =
     let r = domains_few b ds h.1 in
@@ -171,7 +173,7 @@ domains_few b (d ∷ ds) h =
     let u = aggs_few b d.aggs h.0 in
     omega (arith, r, c, l, u)
 
-pipes_few : (b : BufId) (qs : Pipes) → Each IsShort qs → sum_by (pipe_uses b) qs ≤ 65536 * length qs
+pipes_few : (b : BufId) (qs : Pipes) → Each IsShort qs → sum_by (pipe_uses b) qs ≤ MAX_QUEUE_BYTES * length qs
 pipes_few b [] h = omega arith
 pipes_few b (None ∷ qs) h = let r = pipes_few b qs h.1 in let c = sum_by-cons (pipe_uses b) None qs in omega (arith, r, c)
 pipes_few b (Some x ∷ qs) h = let r = pipes_few b qs h.1 in let c = sum_by-cons (pipe_uses b) (Some x) qs in let u = uses_few b x.queue in omega (arith, r, c, u, h.0)
@@ -180,5 +182,5 @@ pub all_few : (b : BufId) (ds : Domains) (qs : Pipes) → IsLimited ds qs → al
 all_few b ds qs limits = let x = domains_few b ds limits.aggs in let y = pipes_few b qs limits.queues in omega (arith, x, y, limits.few, limits.few_pipes)
 
 -- holds more on an aggregate or queue within the limits
-pub countable : (s : Stored) (ds : Domains) (qs : Pipes) (xs : List Slice) → IsCounted s ds qs → IsLimited ds qs → byte_len xs ≤ 16777216 → IsCountable s (bufs_of xs)
+pub countable : (s : Stored) (ds : Domains) (qs : Pipes) (xs : List Slice) → IsCounted s ds qs → IsLimited ds qs → byte_len xs ≤ MAX_AGGREGATE_BYTES → IsCountable s (bufs_of xs)
 countable s ds qs xs counted limits small = record { each = λ b. (let x = all_few b ds qs limits in let y = uses_few b xs in omega (arith, x, y, counted.each b, small)) }

@@ -1,11 +1,13 @@
--- An aggregate of the bytes of others, which stay where they lie.
-use Rattle.std.specs.Prelude.{◌≡◌, ℕ, ◌++◌, List, [], take, drop}
+-- A domain gets an aggregate: of new bytes, of bytes that lie there already, or of the front of a queue.
+use Rattle.std.specs.Prelude.{◌≡◌, ℕ, ◌++◌, List, [], take, drop, take_while}
+use Rattle.iol_core.specs.Text.{Text}
 use Rattle.iol_core.specs.State.{Domain}
 use Rattle.iol_hold.specs.Stored.{Stored}
-use Rattle.iol_hold.specs.Moves.{Shares}
-use Rattle.iol_hold.specs.Places.{Place, places}
-use Rattle.iol_hold.specs.Texts.{bufs_of}
+use Rattle.iol_hold.specs.Moves.{Moves, Shares}
+use Rattle.iol_hold.specs.Places.{Place, places, byte_len}
+use Rattle.iol_hold.specs.Texts.{text_of, bufs_of, AllReadable}
 use Rattle.iol_hold.specs.declared.slices.Slice.{Slice}
+use Rattle.iol_pipe.specs.Queue.{may_see}
 use Rattle.iol_desc.specs.Tables.{with_agg_in}
 
 -- xs with ys in place of what lies from..to
@@ -17,4 +19,21 @@ pub record AddsShared (s t : Stored) (old new : List (Domain (List Slice))) (d :
   pub slices : List Slice
   pub is_there : places slices ≡ bytes
   pub shares : Shares s t [] (bufs_of slices)
+  pub added : new ≡ with_agg_in old d slices
+
+-- a domain got an aggregate of this text, in new buffers
+pub record AddsText (s t : Stored) (old new : List (Domain (List Slice))) (d : ℕ) (text : Text) : Type 0 where
+  pub slices : List Slice
+  pub is_text : text_of t slices ≡ text
+  pub readable : AllReadable t slices
+  pub moves : Moves s t [] (bufs_of slices)
+  pub pools : t.pools ≡ s.pools
+  pub added : new ≡ with_agg_in old d slices
+
+-- a domain got the longest prefix of a queue, of at most n bytes, whose pools all name it
+pub record TakesFront (s t : Stored) (queue rest : List Slice) (old new : List (Domain (List Slice))) (d n : ℕ) : Type 0 where
+  pub slices : List Slice
+  pub given : places slices ≡ take_while (may_see s.pools d) (take n (places queue))
+  pub left : places rest ≡ drop (byte_len slices) (places queue)
+  pub shares : Shares s t (bufs_of queue) (bufs_of slices ++ bufs_of rest)
   pub added : new ≡ with_agg_in old d slices

@@ -6,7 +6,7 @@ use Rattle.iol_hold.specs.Stored.{Stored}
 use Rattle.iol_hold.specs.Moves.{Moves, SameLists}
 use Rattle.iol_hold.specs.Texts.{bufs_of}
 use Rattle.iol_hold.specs.declared.slices.Slice.{Slice}
-use Rattle.iol_kernel.specs.Seen.{Pipe}
+use Rattle.iol_kernel.specs.Views.{Pipe}
 use Rattle.iol_kernel.specs.Ends.{same_end, ends_on, all_ends_on}
 use Rattle.iol_kernel.specs.KernelState.{queue_at, Each, IsOpenEnd}
 

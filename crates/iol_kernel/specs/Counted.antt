@@ -6,7 +6,7 @@ use Rattle.iol_hold.specs.Stored.{Stored, count_of}
 use Rattle.iol_hold.specs.Moves.{tally}
 use Rattle.iol_hold.specs.Texts.{bufs_of}
 use Rattle.iol_hold.specs.declared.slices.Slice.{Slice}
-use Rattle.iol_kernel.specs.Seen.{Pipe}
+use Rattle.iol_kernel.specs.Views.{Pipe}
 
 -- how many of the slices are of b
 abbrev pub uses : BufId → List Slice → ℕ

@@ -1,7 +1,38 @@
--- The fields of the kernel, as what it holds.
+-- The fields of the kernel, as what it holds; and the words of contracts, said of kernels.
+use Rattle.std.specs.Prelude.{ℕ, List, Result}
+use Rattle.iol_core.specs.State.{State}
+use Rattle.iol_core.specs.Meaning.{Meaning}
+use Rattle.iol_core.specs.declared.refusals.Refusal.{Refusal}
+use Rattle.iol_hold.specs.declared.slices.Slice.{Slice}
 use Rattle.iol_desc.specs.Tables.{domains_of}
-use Rattle.iol_kernel.specs.KernelState.{KernelState}
+use Rattle.iol_kernel.specs.Calls as calls
+use Rattle.iol_kernel.specs.KernelState.{KernelState, Reading, read_of}
 use Rattle.iol_kernel.specs.declared.kernel.Kernel.{Kernel}
 
 abbrev pub state_of : Kernel → KernelState
-state_of k = record { store = k.store; domains = domains_of k.domains; pipes = k.pipes.items }
+state_of k = record { store = k.store; domains = domains_of k.domains; pipes = k.pipes.places }
+
+-- the copying machine's state, with what f reads at each place
+abbrev pub as_read : Reading → Kernel → State
+as_read f k = read_of f (state_of k)
+
+abbrev pub CarriesOut : {A : Type 0} → (State → Meaning A) → Kernel → Result A Refusal → Kernel → Type 0
+CarriesOut m old r new = calls.CarriesOut m (state_of old) r (state_of new)
+
+abbrev pub KeepsPlaces : {A : Type 0} → (State → Meaning A) → Kernel → Result A Refusal → Kernel → Type 0
+KeepsPlaces m old r new = calls.KeepsPlaces m (state_of old) r (state_of new)
+
+abbrev pub Answers : {A : Type 0} → (State → Meaning A) → Kernel → A → Kernel → Type 0
+Answers m old a new = calls.Answers m (state_of old) a (state_of new)
+
+abbrev pub Leaves : (State → State) → Kernel → Kernel → Type 0
+Leaves after old new = calls.Leaves after (state_of old) (state_of new)
+
+abbrev pub AddsAgg : (d : ℕ) → (old new : Kernel) → Type 0
+AddsAgg d old new = calls.AddsAgg d (state_of old) (state_of new)
+
+abbrev pub IsFound : Kernel → (d a : ℕ) → List Slice → Type 0
+IsFound k d a xs = calls.IsFound (state_of k) d a xs
+
+abbrev pub IsMissing : Kernel → (d a : ℕ) → Refusal → Type 0
+IsMissing k d a x = calls.IsMissing (state_of k) d a x

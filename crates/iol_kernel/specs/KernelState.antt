@@ -1,19 +1,16 @@
 -- What a system holds, and the state of the copying machine that it stands for.
-use Rattle.std.specs.Prelude.{◌≡◌, ℕ, ◌≤◌, true, ◌++◌, length, List, [], ◌∷◌, take, drop, take_while, flat_map, Option, Some, None, unwrap_or}
+use Rattle.std.specs.Prelude.{◌≡◌, ℕ, ◌≤◌, true, length, List, [], ◌∷◌, flat_map, Option, Some, None, unwrap_or}
 use Rattle.iol_core.specs.State as machine
-use Rattle.iol_core.specs.Text.{Text}
 use Rattle.iol_core.specs.declared.descriptors.Descriptor.{Descriptor}
 use Rattle.iol_core.specs.declared.descriptors.Descriptor.TheVariants as on
 use Rattle.iol_core.specs.declared.limits.TheConstants.{MAX_AGGREGATE_BYTES, MAX_AGGREGATES, MAX_QUEUE_BYTES, MAX_PIPES, MAX_POOLS}
 use Rattle.iol_hold.specs.Stored.{Stored, IsTidy, IsStill}
-use Rattle.iol_hold.specs.Places.{places, byte_len}
-use Rattle.iol_hold.specs.Layout.{layout_text}
-use Rattle.iol_hold.specs.Moves.{Moves, Shares}
-use Rattle.iol_hold.specs.Texts.{text_of, bufs_of, AllReadable}
+use Rattle.iol_hold.specs.Places.{Place, byte_len}
+use Rattle.iol_hold.specs.Layout.{read, number_at}
+use Rattle.iol_hold.specs.Texts.{byte_at, AllReadable}
 use Rattle.iol_hold.specs.declared.slices.Slice.{Slice}
-use Rattle.iol_pipe.specs.Queue.{may_see}
-use Rattle.iol_desc.specs.Tables.{agg_in, with_agg_in, live_aggs_in}
-use Rattle.iol_kernel.specs.Seen.{Pipe, pipe_in, seen}
+use Rattle.iol_desc.specs.Tables.{agg_in, live_aggs_in}
+use Rattle.iol_kernel.specs.Views.{Pipe, pipe_in, state_view}
 use Rattle.iol_kernel.specs.Counted.{IsCounted}
 use Rattle.iol_kernel.specs.Ends.{IsOpenOnce}
 
@@ -23,13 +20,21 @@ pub record KernelState : Type 0 where
   pub domains : List (machine.Domain (List Slice))
   pub pipes : List (Option (Pipe (List Slice)))
 
--- the copying machine's state: for slices, the text that lies there
-unfoldable pub machine_of : KernelState → machine.State
-machine_of h = seen (text_of h.store) h.domains h.store.pools h.pipes
+-- what is read at each place: a number, and whose it is
+abbrev pub Reading : Type 0
+Reading = Place → ℕ × ℕ
 
--- the same with, for each byte, the number of its place: what a call means for bytes it means for their places
-unfoldable pub layout_of : KernelState → machine.State
-layout_of h = seen layout_text h.domains h.store.pools h.pipes
+-- the copying machine's state, with what f reads at each place
+unfoldable pub read_of : Reading → KernelState → machine.State
+read_of f h = state_view (read f) h.domains h.store.pools h.pipes
+
+-- with the bytes that lie there: what the system stands for
+abbrev pub machine_of : KernelState → machine.State
+machine_of h = read_of (byte_at h.store) h
+
+-- with the number of the place of each byte
+abbrev pub layout_of : KernelState → machine.State
+layout_of h = read_of number_at h
 
 -- bytes in parts, one part after another
 abbrev pub joined : List (List ℕ) → List ℕ
@@ -44,7 +49,7 @@ Each P (x ∷ xs) = P x × Each P xs
 abbrev pub IsDomainReadable : Stored → machine.Domain (List Slice) → Type 0
 IsDomainReadable s d = Each (λ e. AllReadable s e.1) d.aggs
 
--- so does what its queue names
+-- what a pipe's queue names lies in live buffers of their pools
 abbrev pub IsPipeReadable : Stored → Option (Pipe (List Slice)) → Type 0
 IsPipeReadable s None = Unit {0}
 IsPipeReadable s (Some p) = AllReadable s p.queue
@@ -89,20 +94,3 @@ pub record IsSound (h : KernelState) : Type 0 where
   pub still : IsStill h.store.arena
   pub limits : IsLimited h.domains h.pipes
   pub few_pools : length h.store.pools ≤ MAX_POOLS
-
--- a domain got an aggregate of this text, in new buffers
-pub record AddsText (s t : Stored) (old new : List (machine.Domain (List Slice))) (d : ℕ) (text : Text) : Type 0 where
-  pub slices : List Slice
-  pub is_text : text_of t slices ≡ text
-  pub readable : AllReadable t slices
-  pub moves : Moves s t [] (bufs_of slices)
-  pub pools : t.pools ≡ s.pools
-  pub added : new ≡ with_agg_in old d slices
-
--- a domain got the longest prefix of a queue, of at most n bytes, whose pools all name it
-pub record TakesFront (s t : Stored) (queue rest : List Slice) (old new : List (machine.Domain (List Slice))) (d n : ℕ) : Type 0 where
-  pub slices : List Slice
-  pub given : places slices ≡ take_while (may_see s.pools d) (take n (places queue))
-  pub left : places rest ≡ drop (byte_len slices) (places queue)
-  pub shares : Shares s t (bufs_of queue) (bufs_of slices ++ bufs_of rest)
-  pub added : new ≡ with_agg_in old d slices

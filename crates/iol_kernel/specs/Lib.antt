@@ -1,10 +1,11 @@
-pub mod Seen
+pub mod Views
 pub mod Counted
 pub mod Ends
 pub mod KernelState
 pub mod ClosedEnds
 pub mod Kernel
 pub mod Report
-pub mod Sharing
+pub mod Calls
 pub mod Adding
 pub mod Regrouped
+pub mod Queues

@@ -1,70 +1,41 @@
-//! Making and showing aggregates.
-ghost use Rattle.std.specs.Prelude.{◌≡◌, ◌≢◌, ℕ, ◌+◌, ◌-◌, ◌<◌, ◌≤◌, ◌^◌, length, true, false, not, ◌&&◌, ◌==◌, min, take, drop, slice_set, Option, Some, None, List, [], ◌∷◌, ◌++◌, IfOk, IfErr, OnOk, OnErr, Ok, Err};
-ghost use Rattle.iol_core.specs.State.{is_live};
+//! Aggregates: made of new bytes or of those that lie there already, shown, and dropped.
+ghost use Rattle.std.specs.Prelude.{◌≡◌, ◌≢◌, ℕ, ◌+◌, ◌<◌, ◌≤◌, length, true, false, Option, Some, None, IfOk, IfErr, OnOk, OnErr, Err};
+ghost use Rattle.iol_core.specs.State as state;
+ghost use Rattle.iol_core.specs.State.{is_live, domain, text, may_read};
 ghost use Rattle.iol_core.specs.Meaning.{Step, WantOfRoom, first};
-ghost use Rattle.iol_core.specs.Text.{bytes_of, labelled};
+ghost use Rattle.iol_core.specs.Text.{barred, bytes_of, labelled};
 ghost use Rattle.iol_core.specs.Calls.Aggregates as calls;
 ghost use Rattle.iol_core.specs.Calls.Aggregates.{default_pool, lacks_agg, too_many_aggs};
-ghost use Rattle.iol_core.specs.State.{domain};
-ghost use Rattle.iol_core.specs.State as state;
-ghost use Rattle.iol_pool.specs.Pools.{pool_in};
-ghost use Rattle.iol_hold.specs.Room.{has_room};
-ghost use Rattle.iol_desc.specs.Tables.{domains_of, domain_in};
+ghost use Rattle.iol_hold.specs.Layout.{read, KeepsPools};
 ghost use Rattle.iol_hold.specs.Moves.{Stays};
-ghost use Rattle.iol_kernel.specs.KernelState.{machine_of, joined, IsSound, AddsText};
+ghost use Rattle.iol_hold.specs.Room.{has_room};
+ghost use Rattle.iol_hold.specs.Texts.{AllReadable};
+ghost use Rattle.iol_kernel.specs.Adding.{replaced};
+ghost use Rattle.iol_kernel.specs.KernelState.{Reading, machine_of, joined, IsSound};
 
 use crate::kernel::Kernel;
+use crate::tables::{add_bytes, add_part, add_replaced, first_hidden, join_aggs, move_agg, split_agg};
 use iol_agg::{Agg, Parts};
 use iol_core::limits::MAX_AGGREGATE_BYTES;
 use iol_core::lists::Bytes;
 use iol_core::numbers::{AggId, DomainId, PoolId};
 use iol_core::refusals::Refusal;
-use iol_desc::table::Table;
-use iol_hold::Store;
-use std::alloc::{AllocError, Global};
-
-/// Places bytes, and adds them to a domain as its next aggregate.
-fn add_bytes(
-    alloc: Global,
-    store: &mut Store,
-    domains: &mut Table<Agg>,
-    d: DomainId,
-    pool: PoolId,
-    bytes: &[u8],
-) -> Result<AggId, Refusal>
-    requires live { (domain_in (domains_of domains.old) d).live ≡ true }
-    requires few { (domain_in (domains_of domains.old) d).next_agg < 2 ^ 64 - 1 }
-    requires small { length bytes.now ≤ 2 ^ 24 }
-    requires open { (pool_in store.old.pools pool).closed ≡ false }
-    ensures number { IfOk result (λ n. n ≡ (domain_in (domains_of domains.old) d).next_agg) }
-    ensures added { OnOk result (AddsText store.old store.new (domains_of domains.old) (domains_of domains.new) d (labelled pool bytes.now)) }
-    ensures room { OnOk result (has_room store.old pool (length bytes.now) ≡ true) }
-    ensures no_room { (p : ℕ) → result ≡ Err (Refusal.NoRoom p) → has_room store.old pool (length bytes.now) ≡ false }
-    ensures late { IfErr result (WantOfRoom pool) }
-    ensures err { OnErr result ((domains_of domains.new) ≡ (domains_of domains.old)) }
-    ensures err_store { OnErr result (store.new ≡ store.old) }
-{
-    if domains.reserve_aggs(d, 1).is_err() {
-        return Err(Refusal::Memory);
-    }
-    match Agg::fill(alloc, store, pool, bytes) {
-        Ok(agg) => Ok(domains.add_agg(d, agg)),
-        Err(refusal) => Err(refusal),
-    }
-}
+use std::alloc::AllocError;
 
 impl Kernel {
-    ghost use Rattle.iol_kernel.specs.Kernel.{state_of};
+    ghost use Rattle.iol_kernel.specs.Kernel.{state_of, as_read, AddsAgg, CarriesOut, KeepsPlaces, Answers, Leaves};
 
     /// Places bytes in the caller's default pool, as its next aggregate.
     #[tactic(auto, using(crate::proofs::Stay::stay_rules))]
     pub fn agg_make(&mut self, by: DomainId, bytes: &Bytes) -> Result<AggId, Refusal>
         requires { IsSound (state_of self.old) }
         ensures step { Step (calls.agg_make (machine_of (state_of self.old)) by bytes.now) (machine_of (state_of self.old)) result (machine_of (state_of self.new)) }
+        ensures others { OnOk result (AddsAgg by self.old self.new) }
+        ensures refused { OnErr result (state_of self.new ≡ state_of self.old) }
         ensures sound { IsSound (state_of self.new) }
-        ensures stays { Stays (state_of self.old).store (state_of self.new).store }
-        ensures room { OnOk result (has_room (state_of self.old).store (default_pool (machine_of (state_of self.old)) by) (length bytes.now) ≡ true) }
-        ensures no_room { (p : ℕ) → result ≡ Err (Refusal.NoRoom p) → has_room (state_of self.old).store (default_pool (machine_of (state_of self.old)) by) (length bytes.now) ≡ false }
+        ensures stays { Stays self.old.store self.new.store }
+        ensures room { OnOk result (has_room self.old.store (default_pool (machine_of (state_of self.old)) by) (length bytes.now) ≡ true) }
+        ensures no_room { (p : ℕ) → result ≡ Err (Refusal.NoRoom p) → has_room self.old.store (default_pool (machine_of (state_of self.old)) by) (length bytes.now) ≡ false }
     {
         if !self.is_live(by) {
             return Err(Refusal::NoDomain);
@@ -84,66 +55,282 @@ impl Kernel {
         self.place(by, pool, bytes.as_slice())
     }
 
+    /// The pool that the domain places in.
+    #[tactic(auto, using(crate::proofs::Views::domain_rules), unfolding(crate::specs::KernelState::read_of))]
+    fn default_of(&self, d: DomainId) -> Option<PoolId>
+        requires { is_live (machine_of (state_of self.now)) d ≡ true }
+        ensures { (f : Reading) → result ≡ (domain (as_read f self.now) d).default }
+    {
+        self.domains.default_of(d)
+    }
+
     /// Places bytes in a pool, as the domain's next aggregate.
     #[tactic(auto, using(crate::proofs::Stay::stay_rules))]
     fn place(&mut self, by: DomainId, pool: PoolId, bytes: &[u8]) -> Result<AggId, Refusal>
         requires sound { IsSound (state_of self.old) }
         requires live { is_live (machine_of (state_of self.old)) by ≡ true }
         requires few { too_many_aggs (machine_of (state_of self.old)) by 1 0 ≡ false }
-        requires small { length bytes.now ≤ 2 ^ 24 }
+        requires small { length bytes.now ≤ MAX_AGGREGATE_BYTES }
         requires open { (state.pool (machine_of (state_of self.old)) pool).closed ≡ false }
         ensures number { IfOk result (λ n. n ≡ calls.next_agg (machine_of (state_of self.old)) by) }
         ensures placed { OnOk result (machine_of (state_of self.new) ≡ calls.with_agg (machine_of (state_of self.old)) by (labelled pool bytes.now)) }
+        ensures others { OnOk result (AddsAgg by self.old self.new) }
         ensures sound { IsSound (state_of self.new) }
-        ensures stays { Stays (state_of self.old).store (state_of self.new).store }
-        ensures room { OnOk result (has_room (state_of self.old).store pool (length bytes.now) ≡ true) }
-        ensures no_room { (p : ℕ) → result ≡ Err (Refusal.NoRoom p) → (p ≡ pool) × (has_room (state_of self.old).store pool (length bytes.now) ≡ false) }
+        ensures stays { Stays self.old.store self.new.store }
+        ensures room { OnOk result (has_room self.old.store pool (length bytes.now) ≡ true) }
+        ensures no_room { (p : ℕ) → result ≡ Err (Refusal.NoRoom p) → has_room self.old.store pool (length bytes.now) ≡ false }
         ensures late { IfErr result (WantOfRoom pool) }
-        ensures err { OnErr result (machine_of (state_of self.new) ≡ machine_of (state_of self.old)) }
+        ensures err { OnErr result (state_of self.new ≡ state_of self.old) }
     {
-        match add_bytes(
-            self.alloc,
-            &mut self.store,
-            &mut self.domains,
-            by,
-            pool,
-            bytes,
-        ) {
-            Ok(number) => Ok(number),
-            Err(refusal) => Err(refusal),
-        }
+        Ok(add_bytes(self.alloc, &mut self.store, &mut self.domains, by, pool, bytes)?)
     }
 
-    /// Gives an aggregate up.
+    /// Makes an aggregate of the same bytes once more.
     #[tactic(auto, using(crate::proofs::Stay::stay_rules))]
-    pub fn agg_drop(&mut self, by: DomainId, agg: AggId) -> Result<(), Refusal>
+    pub fn agg_dup(&mut self, by: DomainId, agg: AggId) -> Result<AggId, Refusal>
         requires { IsSound (state_of self.old) }
-        ensures step { Step (calls.agg_drop (machine_of (state_of self.old)) by agg) (machine_of (state_of self.old)) result (machine_of (state_of self.new)) }
-        ensures sound { IsSound (state_of self.new) }
-        ensures stays { Stays (state_of self.old).store (state_of self.new).store }
+        ensures { CarriesOut (λ s. calls.agg_dup s by agg) self.old result self.new }
     {
-        if !self.is_live(by) {
-            return Err(Refusal::NoDomain);
+        let len = self.find_len(by, agg)?;
+        if self.is_too_many(by, 1, 0) {
+            return Err(Refusal::TooMany);
         }
-        if self.lacks_agg(by, agg) {
-            return Err(Refusal::BadAgg);
-        }
-        self.give_up(by, agg);
-        Ok(())
+        Ok(self.add_dup(by, agg, len)?)
     }
 
-    /// Takes an aggregate from its domain, and gives its holds up.
+    /// Adds the same bytes once more.
     #[tactic(auto, using(crate::proofs::Stay::stay_rules))]
-    fn give_up(&mut self, by: DomainId, agg: AggId)
+    fn add_dup(&mut self, by: DomainId, agg: AggId, len: u32) -> Result<AggId, AllocError>
         requires sound { IsSound (state_of self.old) }
         requires live { is_live (machine_of (state_of self.old)) by ≡ true }
         requires there { lacks_agg (machine_of (state_of self.old)) by agg ≡ false }
-        ensures given { machine_of (state_of self.new) ≡ calls.without_agg (machine_of (state_of self.old)) by agg }
-        ensures sound { IsSound (state_of self.new) }
-        ensures stays { Stays (state_of self.old).store (state_of self.new).store }
+        requires whole { len ≡ length (text (machine_of (state_of self.old)) by agg) }
+        requires few { too_many_aggs (machine_of (state_of self.old)) by 1 0 ≡ false }
+        ensures done { IfOk result (λ n. Answers (λ s. calls.agg_dup s by agg) self.old n self.new) }
+        ensures err { OnErr result (state_of self.new ≡ state_of self.old) }
+    {
+        Ok(add_part(self.alloc, &mut self.store, &mut self.domains, by, agg, 0, len)?)
+    }
+
+    /// Makes an aggregate of the bytes `from..to` of another, which stays.
+    #[tactic(auto, using(crate::proofs::Stay::stay_rules))]
+    pub fn agg_cut(
+        &mut self,
+        by: DomainId,
+        agg: AggId,
+        from: u32,
+        to: u32,
+    ) -> Result<AggId, Refusal>
+        requires { IsSound (state_of self.old) }
+        ensures { CarriesOut (λ s. calls.agg_cut s by agg from to) self.old result self.new }
+    {
+        let len = self.find_len(by, agg)?;
+        if from > to || to > len {
+            return Err(Refusal::BadRange);
+        }
+        if self.is_too_many(by, 1, 0) {
+            return Err(Refusal::TooMany);
+        }
+        Ok(self.add_cut(by, agg, from, to)?)
+    }
+
+    /// Adds the bytes of a range once more.
+    #[tactic(auto, using(crate::proofs::Stay::stay_rules))]
+    fn add_cut(&mut self, by: DomainId, agg: AggId, from: u32, to: u32) -> Result<AggId, AllocError>
+        requires sound { IsSound (state_of self.old) }
+        requires live { is_live (machine_of (state_of self.old)) by ≡ true }
+        requires there { lacks_agg (machine_of (state_of self.old)) by agg ≡ false }
+        requires ordered { from ≤ to }
+        requires within { to ≤ length (text (machine_of (state_of self.old)) by agg) }
+        requires few { too_many_aggs (machine_of (state_of self.old)) by 1 0 ≡ false }
+        ensures done { IfOk result (λ n. Answers (λ s. calls.agg_cut s by agg from to) self.old n self.new) }
+        ensures err { OnErr result (state_of self.new ≡ state_of self.old) }
+    {
+        Ok(add_part(self.alloc, &mut self.store, &mut self.domains, by, agg, from, to)?)
+    }
+
+    /// Splits an aggregate into the bytes before a place and those from it on.
+    #[tactic(auto, using(crate::proofs::Stay::stay_rules))]
+    pub fn agg_split(
+        &mut self,
+        by: DomainId,
+        agg: AggId,
+        at: u32,
+    ) -> Result<(AggId, AggId), Refusal>
+        requires { IsSound (state_of self.old) }
+        ensures { CarriesOut (λ s. calls.agg_split s by agg at) self.old result self.new }
+    {
+        let len = self.find_len(by, agg)?;
+        if len < at {
+            return Err(Refusal::BadRange);
+        }
+        if self.is_too_many(by, 2, 1) {
+            return Err(Refusal::TooMany);
+        }
+        Ok(self.split(by, agg, at)?)
+    }
+
+    /// Splits an aggregate into the domain's next two.
+    #[tactic(auto, using(crate::proofs::Stay::stay_rules))]
+    fn split(&mut self, by: DomainId, agg: AggId, at: u32) -> Result<(AggId, AggId), AllocError>
+        requires sound { IsSound (state_of self.old) }
+        requires live { is_live (machine_of (state_of self.old)) by ≡ true }
+        requires there { lacks_agg (machine_of (state_of self.old)) by agg ≡ false }
+        requires within { at ≤ length (text (machine_of (state_of self.old)) by agg) }
+        requires few { too_many_aggs (machine_of (state_of self.old)) by 2 1 ≡ false }
+        ensures done { IfOk result (λ r. Answers (λ s. calls.agg_split s by agg at) self.old r self.new) }
+        ensures err { OnErr result (state_of self.new ≡ state_of self.old) }
+    {
+        Ok(split_agg(self.alloc, &mut self.store, &mut self.domains, by, agg, at)?)
+    }
+
+    /// Joins two aggregates, the first and then the second.
+    #[tactic(auto, using(crate::proofs::Stay::stay_rules))]
+    pub fn agg_join(&mut self, by: DomainId, first: AggId, second: AggId) -> Result<AggId, Refusal>
+        requires { IsSound (state_of self.old) }
+        ensures { CarriesOut (λ s. calls.agg_join s by first second) self.old result self.new }
+    {
+        let len = self.find_len(by, first)?;
+        let more = self.find_len(by, second)?;
+        if first.number() == second.number() {
+            return Err(Refusal::BadAgg);
+        }
+        if len as u64 + more as u64 > MAX_AGGREGATE_BYTES as u64 {
+            return Err(Refusal::TooLong);
+        }
+        if self.is_too_many(by, 1, 2) {
+            return Err(Refusal::TooMany);
+        }
+        Ok(self.join(by, first, second)?)
+    }
+
+    /// Joins two aggregates to the domain's next one.
+    #[tactic(auto, using(crate::proofs::Stay::stay_rules))]
+    fn join(&mut self, by: DomainId, first: AggId, second: AggId) -> Result<AggId, AllocError>
+        requires sound { IsSound (state_of self.old) }
+        requires live { is_live (machine_of (state_of self.old)) by ≡ true }
+        requires first { lacks_agg (machine_of (state_of self.old)) by first ≡ false }
+        requires second { lacks_agg (machine_of (state_of self.old)) by second ≡ false }
+        requires differ { first ≢ second }
+        requires short { length (text (machine_of (state_of self.old)) by first) + length (text (machine_of (state_of self.old)) by second) ≤ MAX_AGGREGATE_BYTES }
+        requires few { too_many_aggs (machine_of (state_of self.old)) by 1 2 ≡ false }
+        ensures done { IfOk result (λ n. Answers (λ s. calls.agg_join s by first second) self.old n self.new) }
+        ensures err { OnErr result (state_of self.new ≡ state_of self.old) }
+    {
+        Ok(join_aggs(self.alloc, &mut self.domains, by, first, second)?)
+    }
+
+    /// Makes an aggregate of the bytes of one, with those of another in place of `from..to`. Both stay.
+    #[tactic(auto, using(crate::proofs::Stay::stay_rules))]
+    pub fn agg_replace(
+        &mut self,
+        by: DomainId,
+        agg: AggId,
+        from: u32,
+        to: u32,
+        other: AggId,
+    ) -> Result<AggId, Refusal>
+        requires { IsSound (state_of self.old) }
+        ensures { CarriesOut (λ s. calls.agg_replace s by agg from to other) self.old result self.new }
+    {
+        let len = self.find_len(by, agg)?;
+        let inserted = self.find_len(by, other)?;
+        if from > to || to > len {
+            return Err(Refusal::BadRange);
+        }
+        if from as u64 + inserted as u64 + (len - to) as u64 > MAX_AGGREGATE_BYTES as u64 {
+            return Err(Refusal::TooLong);
+        }
+        if self.is_too_many(by, 1, 0) {
+            return Err(Refusal::TooMany);
+        }
+        Ok(self.replace(by, agg, from, to, other)?)
+    }
+
+    /// Adds the bytes with those of another in place of a range.
+    #[tactic(auto, using(crate::proofs::Stay::stay_rules))]
+    fn replace(
+        &mut self,
+        by: DomainId,
+        agg: AggId,
+        from: u32,
+        to: u32,
+        other: AggId,
+    ) -> Result<AggId, AllocError>
+        requires sound { IsSound (state_of self.old) }
+        requires live { is_live (machine_of (state_of self.old)) by ≡ true }
+        requires there { lacks_agg (machine_of (state_of self.old)) by agg ≡ false }
+        requires ordered { from ≤ to }
+        requires within { to ≤ length (text (machine_of (state_of self.old)) by agg) }
+        requires other_there { lacks_agg (machine_of (state_of self.old)) by other ≡ false }
+        requires small { length (replaced (text (machine_of (state_of self.old)) by agg) from to (text (machine_of (state_of self.old)) by other)) ≤ MAX_AGGREGATE_BYTES }
+        requires few { too_many_aggs (machine_of (state_of self.old)) by 1 0 ≡ false }
+        ensures done { IfOk result (λ n. Answers (λ s. calls.agg_replace s by agg from to other) self.old n self.new) }
+        ensures err { OnErr result (state_of self.new ≡ state_of self.old) }
+    {
+        Ok(add_replaced(self.alloc, &mut self.store, &mut self.domains, by, agg, from, to, other)?)
+    }
+
+    /// Drops an aggregate.
+    #[tactic(auto, using(crate::proofs::Stay::stay_rules))]
+    pub fn agg_drop(&mut self, by: DomainId, agg: AggId) -> Result<(), Refusal>
+        requires { IsSound (state_of self.old) }
+        ensures { KeepsPlaces (λ s. calls.agg_drop s by agg) self.old result self.new }
+    {
+        self.find_len(by, agg)?;
+        self.release(by, agg);
+        Ok(())
+    }
+
+    /// Takes an aggregate from its domain, and releases its holds.
+    fn release(&mut self, by: DomainId, agg: AggId)
+        requires sound { IsSound (state_of self.old) }
+        requires live { is_live (machine_of (state_of self.old)) by ≡ true }
+        requires there { lacks_agg (machine_of (state_of self.old)) by agg ≡ false }
+        ensures { Leaves (λ s. calls.without_agg s by agg) self.old self.new }
     {
         let given = self.domains.take_agg(by, agg);
         given.release(&mut self.store);
+    }
+
+    /// Moves an aggregate to a domain that may read all its bytes.
+    #[tactic(auto, using(crate::proofs::Stay::stay_rules))]
+    pub fn agg_give(&mut self, by: DomainId, agg: AggId, to: DomainId) -> Result<AggId, Refusal>
+        requires { IsSound (state_of self.old) }
+        ensures { CarriesOut (λ s. calls.agg_give s by agg to) self.old result self.new }
+    {
+        if !self.is_live(by) || !self.is_live(to) {
+            return Err(Refusal::NoDomain);
+        }
+        let found = self.find(by, agg)?;
+        if self.is_too_many(to, 1, 1) {
+            return Err(Refusal::TooMany);
+        }
+        if let Some(pool) = self.first_denied(found, to) {
+            return Err(Refusal::Denied { pool });
+        }
+        Ok(self.give(by, agg, to)?)
+    }
+
+    /// The pool of the first byte of an aggregate that the receiver may not read.
+    fn first_denied(&self, found: &Agg, to: DomainId) -> Option<PoolId>
+        ensures { (f : Reading) → KeepsPools f → result ≡ barred (may_read (as_read f self.now) to) (read f found.now) }
+    {
+        first_hidden(found.slices(), self.store.pools(), to)
+    }
+
+    /// Moves an aggregate.
+    #[tactic(auto, using(crate::proofs::Stay::stay_rules))]
+    fn give(&mut self, by: DomainId, agg: AggId, to: DomainId) -> Result<AggId, AllocError>
+        requires sound { IsSound (state_of self.old) }
+        requires from { is_live (machine_of (state_of self.old)) by ≡ true }
+        requires to { is_live (machine_of (state_of self.old)) to ≡ true }
+        requires there { lacks_agg (machine_of (state_of self.old)) by agg ≡ false }
+        requires few { too_many_aggs (machine_of (state_of self.old)) to 1 1 ≡ false }
+        ensures done { IfOk result (λ n. Answers (λ s. calls.agg_give s by agg to) self.old n self.new) }
+        ensures err { OnErr result (state_of self.new ≡ state_of self.old) }
+    {
+        Ok(move_agg(&mut self.domains, by, agg, to)?)
     }
 
     /// A copy of an aggregate's bytes.
@@ -151,16 +338,8 @@ impl Kernel {
         requires { IsSound (state_of self.now) }
         ensures { Step (calls.show (machine_of (state_of self.now)) by agg) (machine_of (state_of self.now)) result (machine_of (state_of self.now)) }
     {
-        if !self.is_live(by) {
-            return Err(Refusal::NoDomain);
-        }
-        if self.lacks_agg(by, agg) {
-            return Err(Refusal::BadAgg);
-        }
-        match self.copy_of(by, agg) {
-            Ok(bytes) => Ok(Bytes::from_vec(bytes)),
-            Err(_) => Err(Refusal::Memory),
-        }
+        let found = self.find(by, agg)?;
+        Ok(Bytes::from_vec(found.to_vec(self.alloc, &self.store)?))
     }
 
     /// An aggregate's bytes, where they lie.
@@ -169,41 +348,7 @@ impl Kernel {
         ensures ok { IfOk result (λ parts. (first (calls.show (machine_of (state_of self.now)) by agg).refusals ≡ None) × (joined parts ≡ (calls.show (machine_of (state_of self.now)) by agg).answer)) }
         ensures err { IfErr result (λ x. first (calls.show (machine_of (state_of self.now)) by agg).refusals ≡ Some x) }
     {
-        if !self.is_live(by) {
-            return Err(Refusal::NoDomain);
-        }
-        if self.lacks_agg(by, agg) {
-            return Err(Refusal::BadAgg);
-        }
-        Ok(self.parts_of(by, agg))
-    }
-
-    /// The bytes of an aggregate that is there, where they lie.
-    fn parts_of(&self, by: DomainId, agg: AggId) -> Parts<'_>
-        requires sound { IsSound (state_of self.now) }
-        requires live { is_live (machine_of (state_of self.now)) by ≡ true }
-        requires there { lacks_agg (machine_of (state_of self.now)) by agg ≡ false }
-        ensures { joined result ≡ bytes_of (state.text (machine_of (state_of self.now)) by agg) }
-    {
-        let Some(found) = self.domains.agg(by, agg) else {
-            unreachable!()
-        };
-        found.parts(&self.store)
-    }
-
-    /// A copy of an aggregate's bytes.
-    fn copy_of(&self, by: DomainId, agg: AggId) -> Result<Vec<u8>, AllocError>
-        requires sound { IsSound (state_of self.now) }
-        requires live { is_live (machine_of (state_of self.now)) by ≡ true }
-        requires there { lacks_agg (machine_of (state_of self.now)) by agg ≡ false }
-        ensures { IfOk result (λ bytes. bytes.items ≡ bytes_of (state.text (machine_of (state_of self.now)) by agg)) }
-    {
-        let Some(found) = self.domains.agg(by, agg) else {
-            unreachable!()
-        };
-        match found.to_vec(self.alloc, &self.store) {
-            Ok(bytes) => Ok(bytes),
-            Err(error) => Err(error),
-        }
+        let found = self.find(by, agg)?;
+        Ok(found.parts(&self.store))
     }
 }

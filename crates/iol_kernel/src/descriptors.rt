@@ -1,65 +1,28 @@
-//! Pipes and their ends.
-ghost use Rattle.std.specs.Prelude.{◌≡◌, ◌≢◌, ℕ, ◌+◌, ◌-◌, ◌<◌, ◌≤◌, ◌^◌, length, true, false, not, ◌&&◌, ◌==◌, min, take, drop, slice_set, Option, Some, None, List, [], ◌∷◌, ◌++◌, IfOk, IfErr, OnOk, OnErr, Ok, Err, if◌then◌else◌};
-ghost use Rattle.iol_core.specs.State.{is_live, domain, descriptor};
-ghost use Rattle.iol_core.specs.Meaning.{Step};
-ghost use Rattle.iol_hold.specs.Moves.{Stays};
-ghost use Rattle.iol_kernel.specs.KernelState.{machine_of, IsSound};
-ghost use Rattle.iol_core.specs.Numbered.{lowest, placed, taken, in_place};
+//! Pipes are made, and descriptors of their ends are given and closed.
+ghost use Rattle.std.specs.Prelude.{◌≡◌, ℕ, ◌<◌, true, false, not, ◌&&◌, ◌==◌, if◌then◌else◌, Option, Some, None, IfOk, OnOk, OnErr, Err};
+ghost use Rattle.iol_core.specs.State.{is_live, descriptor};
+ghost use Rattle.iol_core.specs.Numbered.{lowest, taken};
 ghost use Rattle.iol_core.specs.Calls.Descriptors as calls;
-ghost use Rattle.iol_core.specs.Calls.Descriptors.{with_read_end, too_many_open};
-ghost use Rattle.iol_desc.specs.Tables.{domains_of, domain_in, with_fds_in, with_ends};
+ghost use Rattle.iol_core.specs.Calls.Descriptors.{closed_on, freed, too_many_open, with_fds};
+ghost use Rattle.iol_kernel.specs.Ends.{all_ends_on};
+ghost use Rattle.iol_kernel.specs.ClosedEnds.{KeepsEnds};
+ghost use Rattle.iol_kernel.specs.KernelState.{Reading, machine_of, IsOpenEnd, IsSound};
 
-use crate::kernel::{Kernel, Pipe};
-use iol_agg::Agg;
+use crate::kernel::Kernel;
 use iol_core::descriptors::Descriptor;
 use iol_core::limits::MAX_PIPES;
-use iol_core::numbers::{DomainId, Fd, PipeId};
+use iol_core::numbers::{DomainId, Fd};
 use iol_core::refusals::Refusal;
-use iol_desc::places::{lowest_place, put};
-use iol_desc::table::Table;
-use std::alloc::{AllocError, Global};
-
-/// Adds an empty pipe, and opens its ends in a domain.
-fn add_pipe(
-    alloc: Global,
-    domains: &mut Table<Agg>,
-    pipes: &mut Vec<Option<Pipe>>,
-    d: DomainId,
-) -> Result<(Fd, Fd), AllocError>
-    requires live { (domain_in (domains_of domains.old) d).live ≡ true }
-    requires few { taken (domain_in (domains_of domains.old) d).fds ≤ 1024 }
-    requires few_pipes { taken pipes.old.items < MAX_PIPES }
-    ensures numbers { IfOk result (λ ends. ends ≡ (lowest (domain_in (domains_of domains.old) d).fds, lowest (with_read_end (domain_in (domains_of domains.old) d).fds (lowest pipes.old.items)))) }
-    ensures opened { OnOk result ((domains_of domains.new) ≡ with_fds_in (domains_of domains.old) d (with_ends (domain_in (domains_of domains.old) d).fds (lowest pipes.old.items))) }
-    ensures added { OnOk result (pipes.new.items ≡ placed pipes.old.items (lowest pipes.old.items) (record { queue = []; reading = true; writing = true })) }
-    ensures err { OnErr result ((domains_of domains.new) ≡ (domains_of domains.old)) }
-    ensures err_pipes { OnErr result (pipes.new.items ≡ pipes.old.items) }
-{
-    pipes.reserve(1)?;
-    let place = lowest_place(pipes);
-    let ends = domains.add_ends(d, PipeId::new(place as u32))?;
-    put(
-        pipes,
-        place,
-        Pipe {
-            queue: iol_pipe::Pipe::new(alloc),
-            reading: true,
-            writing: true,
-        },
-    );
-    Ok(ends)
-}
+use std::alloc::AllocError;
 
 impl Kernel {
-    ghost use Rattle.iol_kernel.specs.Kernel.{state_of};
+    ghost use Rattle.iol_kernel.specs.Kernel.{state_of, as_read, CarriesOut, KeepsPlaces, Answers, Leaves};
 
     /// Makes a pipe, and opens its read end and its write end.
     #[tactic(auto, using(crate::proofs::Stay::stay_rules))]
     pub fn pipe(&mut self, by: DomainId) -> Result<(Fd, Fd), Refusal>
         requires { IsSound (state_of self.old) }
-        ensures step { Step (calls.pipe (machine_of (state_of self.old)) by) (machine_of (state_of self.old)) result (machine_of (state_of self.new)) }
-        ensures sound { IsSound (state_of self.new) }
-        ensures stays { Stays (state_of self.old).store (state_of self.new).store }
+        ensures { CarriesOut (λ s. calls.pipe s by) self.old result self.new }
     {
         if !self.is_live(by) {
             return Err(Refusal::NoDomain);
@@ -67,10 +30,15 @@ impl Kernel {
         if self.is_open_beyond(by, 2) || self.pipe_count() >= MAX_PIPES {
             return Err(Refusal::TooMany);
         }
-        match self.new_pipe(by) {
-            Ok(ends) => Ok(ends),
-            Err(_) => Err(Refusal::Memory),
-        }
+        Ok(self.new_pipe(by)?)
+    }
+
+    /// How many pipes are live.
+    #[tactic(auto, using(crate::proofs::Views::count_rules), unfolding(crate::specs::KernelState::read_of))]
+    fn pipe_count(&self) -> usize
+        ensures { (f : Reading) → result ≡ taken (as_read f self.now).pipes }
+    {
+        self.pipes.count()
     }
 
     /// Adds a pipe with both ends in a domain.
@@ -80,25 +48,20 @@ impl Kernel {
         requires live { is_live (machine_of (state_of self.old)) by ≡ true }
         requires few { too_many_open (machine_of (state_of self.old)) by 2 ≡ false }
         requires few_pipes { taken (machine_of (state_of self.old)).pipes < MAX_PIPES }
-        ensures numbers { IfOk result (λ ends. ends ≡ (calls.pipe (machine_of (state_of self.old)) by).answer) }
-        ensures opened { OnOk result (machine_of (state_of self.new) ≡ (calls.pipe (machine_of (state_of self.old)) by).after) }
-        ensures err { OnErr result (machine_of (state_of self.new) ≡ machine_of (state_of self.old)) }
-        ensures sound { IsSound (state_of self.new) }
-        ensures stays { Stays (state_of self.old).store (state_of self.new).store }
+        ensures done { IfOk result (λ ends. Answers (λ s. calls.pipe s by) self.old ends self.new) }
+        ensures err { OnErr result (state_of self.new ≡ state_of self.old) }
     {
-        match add_pipe(self.alloc, &mut self.domains, &mut self.pipes, by) {
-            Ok(ends) => Ok(ends),
-            Err(error) => Err(error),
-        }
+        self.pipes.reserve()?;
+        let ends = self.domains.add_ends(by, self.pipes.next())?;
+        self.pipes.add(self.alloc);
+        Ok(ends)
     }
 
     /// Moves a descriptor to a domain's lowest free number.
     #[tactic(auto, using(crate::proofs::Stay::stay_rules))]
     pub fn give_fd(&mut self, by: DomainId, fd: Fd, to: DomainId) -> Result<Fd, Refusal>
         requires { IsSound (state_of self.old) }
-        ensures step { Step (calls.give_fd (machine_of (state_of self.old)) by fd to) (machine_of (state_of self.old)) result (machine_of (state_of self.new)) }
-        ensures sound { IsSound (state_of self.new) }
-        ensures stays { Stays (state_of self.old).store (state_of self.new).store }
+        ensures { CarriesOut (λ s. calls.give_fd s by fd to) self.old result self.new }
     {
         if !self.is_live(by) || !self.is_live(to) {
             return Err(Refusal::NoDomain);
@@ -109,10 +72,7 @@ impl Kernel {
         if by.number() != to.number() && self.is_open_beyond(to, 1) {
             return Err(Refusal::TooMany);
         }
-        match self.move_fd(by, fd, to, given) {
-            Ok(number) => Ok(number),
-            Err(_) => Err(Refusal::Memory),
-        }
+        Ok(self.move_fd(by, fd, to, given)?)
     }
 
     /// Moves a descriptor of a pipe's end, which every domain may hold.
@@ -129,12 +89,9 @@ impl Kernel {
         requires to { is_live (machine_of (state_of self.old)) to ≡ true }
         requires given { descriptor (machine_of (state_of self.old)) by fd ≡ Some given }
         requires few { (not (by == to) && too_many_open (machine_of (state_of self.old)) to 1) ≡ false }
-        ensures any { calls.denied_by (machine_of (state_of self.old)) to (calls.needed_pool (machine_of (state_of self.old)) (Some given)) ≡ None }
-        ensures number { IfOk result (λ n. n ≡ (if by == to then lowest (calls.freed (machine_of (state_of self.old)) by fd) else calls.next_fd (machine_of (state_of self.old)) to)) }
-        ensures moved { OnOk result (machine_of (state_of self.new) ≡ calls.given_to (machine_of (state_of self.old)) by fd to given) }
-        ensures err { OnErr result (machine_of (state_of self.new) ≡ machine_of (state_of self.old)) }
-        ensures sound { IsSound (state_of self.new) }
-        ensures stays { Stays (state_of self.old).store (state_of self.new).store }
+        ensures any { (f : Reading) → calls.denied_by (as_read f self.old) to (calls.needed_pool (as_read f self.old) (Some given)) ≡ None }
+        ensures done { IfOk result (λ n. Answers (λ s. calls.give_fd s by fd to) self.old n self.new) }
+        ensures err { OnErr result (state_of self.new ≡ state_of self.old) }
     {
         if by.number() == to.number() {
             return Ok(self.domains.move_fd(by, fd, given));
@@ -142,5 +99,49 @@ impl Kernel {
         let number = self.domains.add_fd(to, given)?;
         self.domains.take_fd(by, fd);
         Ok(number)
+    }
+
+    /// Closes a descriptor.
+    #[tactic(auto, using(crate::proofs::Stay::stay_rules))]
+    pub fn close(&mut self, by: DomainId, fd: Fd) -> Result<(), Refusal>
+        requires { IsSound (state_of self.old) }
+        ensures close { KeepsPlaces (λ s. calls.close s by fd) self.old result self.new }
+        ensures roomy { (p : ℕ) → result ≡ Err (Refusal.NoRoom p) → ⊥ }
+    {
+        if !self.is_live(by) {
+            return Err(Refusal::NoDomain);
+        }
+        let Some(end) = self.descriptor(by, fd) else {
+            return Err(Refusal::BadFd);
+        };
+        self.close_fd(by, fd, end);
+        Ok(())
+    }
+
+    /// Closes an open descriptor, and the end that it is open on.
+    fn close_fd(&mut self, by: DomainId, fd: Fd, end: Descriptor)
+        requires sound { IsSound (state_of self.old) }
+        requires live { is_live (machine_of (state_of self.old)) by ≡ true }
+        requires open { descriptor (machine_of (state_of self.old)) by fd ≡ Some end }
+        ensures { Leaves (λ s. with_fds (closed_on s (Some end)) by (freed s by fd)) self.old self.new }
+    {
+        self.domains.take_fd(by, fd);
+        self.close_end(end);
+    }
+
+    /// Closes an end of a pipe, on which no descriptor is open any more. No file or connection is open yet.
+    pub(crate) fn close_end(&mut self, end: Descriptor)
+        requires sound { IsSound (state_of self.old) }
+        requires open { IsOpenEnd (state_of self.old).pipes (Some end) }
+        requires free { all_ends_on end (state_of self.old).domains ≡ 0 }
+        ensures closed { Leaves (λ s. closed_on s (Some end)) self.old self.new }
+        ensures domains { (state_of self.new).domains ≡ (state_of self.old).domains }
+        ensures others { KeepsEnds end (state_of self.old).pipes (state_of self.new).pipes }
+    {
+        match end {
+            Descriptor::ReadEnd { pipe } => self.pipes.close_reader(&mut self.store, pipe),
+            Descriptor::WriteEnd { pipe } => self.pipes.close_writer(&mut self.store, pipe),
+            Descriptor::File { .. } | Descriptor::Connection { .. } => {}
+        }
     }
 }

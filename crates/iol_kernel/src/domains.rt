@@ -1,27 +1,28 @@
-//! New domains.
-ghost use Rattle.std.specs.Prelude.{◌≡◌, ◌≢◌, ℕ, ◌+◌, ◌-◌, ◌<◌, ◌≤◌, ◌^◌, length, true, false, not, ◌&&◌, ◌==◌, min, take, drop, slice_set, Option, Some, None, List, [], ◌∷◌, ◌++◌, IfOk, IfErr, OnOk, OnErr, Ok, Err};
-ghost use Rattle.iol_core.specs.State.{is_live, new_domain};
-ghost use Rattle.iol_core.specs.Meaning.{Step};
+//! Domains come and go.
+ghost use Rattle.std.specs.Prelude.{◌≡◌, ℕ, ◌++◌, ◌∷◌, [], length, true, fold, Option, Err, IfOk, OnErr};
+ghost use Rattle.iol_core.specs.State.{is_live, domain, with_domain};
 ghost use Rattle.iol_core.specs.Calls.Domains as calls;
-ghost use Rattle.iol_hold.specs.Moves.{Stays};
-ghost use Rattle.iol_kernel.specs.KernelState.{machine_of, IsSound};
+ghost use Rattle.iol_core.specs.Calls.Descriptors.{closed_on, with_fds};
+ghost use Rattle.iol_desc.specs.Tables.{with_aggs_in, with_fds_in};
+ghost use Rattle.iol_kernel.specs.ClosedEnds.{AreTaken};
+ghost use Rattle.iol_kernel.specs.KernelState.{Reading, machine_of, IsSound};
 
 use crate::kernel::Kernel;
+use crate::tables::release_all;
+use iol_core::descriptors::Descriptor;
 use iol_core::limits::MAX_DOMAINS;
 use iol_core::numbers::DomainId;
 use iol_core::refusals::Refusal;
 use std::alloc::AllocError;
 
 impl Kernel {
-    ghost use Rattle.iol_kernel.specs.Kernel.{state_of};
+    ghost use Rattle.iol_kernel.specs.Kernel.{state_of, as_read, CarriesOut, KeepsPlaces, Answers, Leaves};
 
     /// Makes a domain.
     #[tactic(auto, using(crate::proofs::Stay::stay_rules))]
     pub fn domain_new(&mut self, by: DomainId) -> Result<DomainId, Refusal>
         requires { IsSound (state_of self.old) }
-        ensures step { Step (calls.domain_new (machine_of (state_of self.old)) by) (machine_of (state_of self.old)) result (machine_of (state_of self.new)) }
-        ensures sound { IsSound (state_of self.new) }
-        ensures stays { Stays (state_of self.old).store (state_of self.new).store }
+        ensures { CarriesOut (λ s. calls.domain_new s by) self.old result self.new }
     {
         if !self.is_live(by) {
             return Err(Refusal::NoDomain);
@@ -30,21 +31,78 @@ impl Kernel {
         if count >= MAX_DOMAINS {
             return Err(Refusal::TooMany);
         }
-        match self.grow() {
-            Ok(()) => Ok(DomainId::new(count as u32 + 1)),
-            Err(_) => Err(Refusal::Memory),
-        }
+        self.domains.add_domain()?;
+        Ok(DomainId::new(count as u32 + 1))
     }
 
-    /// Adds a domain.
-    #[tactic(auto, using(crate::proofs::Stay::stay_rules))]
-    fn grow(&mut self) -> Result<(), AllocError>
-        requires { IsSound (state_of self.old) }
-        ensures ok { OnOk result (machine_of (state_of self.new) ≡ record (machine_of (state_of self.old)) { domains = (machine_of (state_of self.old)).domains ++ new_domain ∷ [] }) }
-        ensures err { OnErr result (machine_of (state_of self.new) ≡ machine_of (state_of self.old)) }
-        ensures sound { IsSound (state_of self.new) }
-        ensures stays { Stays (state_of self.old).store (state_of self.new).store }
+    /// How many domains were ever made.
+    #[tactic(auto, using(crate::proofs::Views::count_rules), unfolding(crate::specs::KernelState::read_of))]
+    fn domain_count(&self) -> usize
+        ensures { (f : Reading) → result ≡ length (as_read f self.now).domains }
     {
-        self.domains.add_domain()
+        self.domains.len()
+    }
+
+    /// Ends the caller: its descriptors are closed by rising number, and its aggregates dropped.
+    #[tactic(auto, using(crate::proofs::Stay::stay_rules))]
+    pub fn exit(&mut self, by: DomainId) -> Result<(), Refusal>
+        requires { IsSound (state_of self.old) }
+        ensures exit { KeepsPlaces (λ s. calls.exit s by) self.old result self.new }
+        ensures roomy { (p : ℕ) → result ≡ Err (Refusal.NoRoom p) → ⊥ }
+    {
+        if !self.is_live(by) {
+            return Err(Refusal::NoDomain);
+        }
+        self.end(by);
+        Ok(())
+    }
+
+    /// Ends a domain: all that it has is released.
+    fn end(&mut self, by: DomainId)
+        requires sound { IsSound (state_of self.old) }
+        requires live { is_live (machine_of (state_of self.old)) by ≡ true }
+        ensures { Leaves (λ s. (calls.exit s by).after) self.old self.new }
+    {
+        self.drop_aggs(by);
+        self.close_fds(by);
+        self.domains.end_domain(by);
+    }
+
+    /// Drops all aggregates of a domain.
+    fn drop_aggs(&mut self, by: DomainId)
+        requires sound { IsSound (state_of self.old) }
+        requires live { is_live (machine_of (state_of self.old)) by ≡ true }
+        ensures dropped { Leaves (λ s. with_domain s by (record (domain s by) { aggs = [] })) self.old self.new }
+        ensures domains { (state_of self.new).domains ≡ with_aggs_in (state_of self.old).domains by [] }
+    {
+        let aggs = self.domains.take_aggs(by);
+        release_all(&mut self.store, aggs);
+    }
+
+    /// Closes all descriptors of a domain, by rising number.
+    fn close_fds(&mut self, by: DomainId)
+        requires sound { IsSound (state_of self.old) }
+        requires live { is_live (machine_of (state_of self.old)) by ≡ true }
+        ensures closed { Leaves (λ s. fold closed_on (with_fds s by []) (domain s by).fds) self.old self.new }
+        ensures domains { (state_of self.new).domains ≡ with_fds_in (state_of self.old).domains by [] }
+    {
+        let ends = self.domains.take_fds(by);
+        self.close_ends(&ends);
+    }
+
+    /// Closes ends that were taken from a domain, one after another.
+    #[tactic(auto, using(crate::proofs::Stay::stay_rules))]
+    fn close_ends(&mut self, ends: &[Option<Descriptor>])
+        requires sound { IsSound (state_of self.old) }
+        requires taken { AreTaken (state_of self.old).domains (state_of self.old).pipes ends.now }
+        ensures closed { Leaves (λ s. fold closed_on s ends.now) self.old self.new }
+        ensures domains { (state_of self.new).domains ≡ (state_of self.old).domains }
+    {
+        for place in ends {
+            let Some(end) = *place else {
+                continue;
+            };
+            self.close_end(end);
+        }
     }
 }

@@ -1,19 +1,16 @@
 //! Pools.
-ghost use Rattle.std.specs.Prelude.{◌≡◌, ◌≢◌, ℕ, ◌+◌, ◌-◌, ◌<◌, ◌≤◌, ◌^◌, length, true, false, not, ◌&&◌, ◌==◌, min, take, drop, slice_set, Option, Some, None, List, [], ◌∷◌, ◌++◌, IfOk, IfErr, OnOk, OnErr, Ok, Err, if◌then◌else◌};
-ghost use Rattle.iol_core.specs.State.{is_live, domain, descriptor};
-ghost use Rattle.iol_core.specs.Meaning.{Step};
-ghost use Rattle.iol_hold.specs.Moves.{Stays};
-ghost use Rattle.iol_kernel.specs.KernelState.{machine_of, IsSound};
-ghost use Rattle.std.specs.List.{list_any, list_all};
-ghost use Rattle.iol_core.specs.State.{with_domain};
-ghost use Rattle.iol_core.specs.Calls.Pools as calls;
-ghost use Rattle.iol_core.specs.Meaning.{WantOfRoom};
-ghost use Rattle.iol_arena.specs.Chunks.{free_chunks};
+ghost use Rattle.std.specs.Prelude.{◌≡◌, ◌&&◌, ℕ, ◌+◌, ◌<◌, ◌≤◌, length, true, false, ◌∷◌, ◌++◌, [], Some, None, IfOk, IfErr, OnOk, OnErr, Err};
+ghost use Rattle.std.specs.List.{list_all};
 ghost use Rattle.iol_core.specs.State as state;
-ghost use Rattle.iol_core.specs.State.{is_pool};
+ghost use Rattle.iol_core.specs.State.{is_live, is_pool, domain, with_domain};
 ghost use Rattle.iol_core.specs.Numbered.{with_numbered};
+ghost use Rattle.iol_core.specs.Meaning.{WantOfRoom, first};
+ghost use Rattle.iol_core.specs.Calls.Pools as calls;
+ghost use Rattle.iol_arena.specs.Chunks.{free_chunks};
+ghost use Rattle.iol_kernel.specs.KernelState.{Reading, machine_of, IsSound};
 
 use crate::kernel::Kernel;
+use crate::tables::are_live;
 use iol_core::limits::{MAX_CHUNKS, MAX_POOLS};
 use iol_core::lists::Domains;
 use iol_core::numbers::{DomainId, PoolId};
@@ -21,15 +18,13 @@ use iol_core::refusals::Refusal;
 use iol_pool::names::Names;
 
 impl Kernel {
-    ghost use Rattle.iol_kernel.specs.Kernel.{state_of};
+    ghost use Rattle.iol_kernel.specs.Kernel.{state_of, as_read, CarriesOut, KeepsPlaces, Answers, Leaves};
 
-    /// Has the caller place in the pool from now on.
+    /// Sets the caller's default pool, in which it places new bytes.
     #[tactic(auto, using(crate::proofs::Stay::stay_rules))]
     pub fn set_pool(&mut self, by: DomainId, pool: PoolId) -> Result<(), Refusal>
         requires { IsSound (state_of self.old) }
-        ensures step { Step (calls.set_pool (machine_of (state_of self.old)) by pool) (machine_of (state_of self.old)) result (machine_of (state_of self.new)) }
-        ensures sound { IsSound (state_of self.new) }
-        ensures stays { Stays (state_of self.old).store (state_of self.new).store }
+        ensures { CarriesOut (λ s. calls.set_pool s by pool) self.old result self.new }
     {
         if !self.is_live(by) {
             return Err(Refusal::NoDomain);
@@ -47,23 +42,29 @@ impl Kernel {
         Ok(())
     }
 
-    /// Has the domain place in the pool.
-    #[tactic(auto, using(crate::proofs::Stay::stay_rules))]
-    fn set_default(&mut self, d: DomainId, pool: PoolId)
+    /// Sets a domain's default pool.
+    fn set_default(&mut self, by: DomainId, pool: PoolId)
         requires sound { IsSound (state_of self.old) }
-        requires live { is_live (machine_of (state_of self.old)) d ≡ true }
-        ensures set { machine_of (state_of self.new) ≡ with_domain (machine_of (state_of self.old)) d (record (domain (machine_of (state_of self.old)) d) { default = Some pool }) }
-        ensures sound { IsSound (state_of self.new) }
-        ensures stays { Stays (state_of self.old).store (state_of self.new).store }
+        requires live { is_live (machine_of (state_of self.old)) by ≡ true }
+        ensures { Answers (λ s. calls.set_pool s by pool) self.old tt self.new }
     {
-        self.domains.set_default(d, pool);
+        self.domains.set_default(by, pool);
     }
 
-    /// Whether each domain of a list is live.
-    fn are_live(&self, list: &[DomainId]) -> bool
-        ensures { result ≡ list_all (λ d. is_live (machine_of (state_of self.now)) d) list.now }
+    /// Whether there is a pool of this number.
+    #[tactic(auto, using(crate::proofs::Views::pool_rules), unfolding(crate::specs::KernelState::read_of))]
+    fn is_pool(&self, p: PoolId) -> bool
+        ensures { (f : Reading) → result ≡ is_pool (as_read f self.now) p }
     {
-        list.iter().all(|d| self.is_live(*d))
+        self.store.pools().is_pool(p)
+    }
+
+    /// Whether nothing more is placed in the pool.
+    #[tactic(auto, using(crate::proofs::Views::pool_rules), unfolding(crate::specs::KernelState::read_of))]
+    pub(crate) fn is_closed(&self, p: PoolId) -> bool
+        ensures { (f : Reading) → result ≡ (state.pool (as_read f self.now) p).closed }
+    {
+        self.store.pools().is_closed(p)
     }
 
     /// Makes a pool of so many chunks, which the domains of a list may read.
@@ -75,14 +76,23 @@ impl Kernel {
         list: &Domains,
     ) -> Result<PoolId, Refusal>
         requires { IsSound (state_of self.old) }
-        ensures step { Step (calls.pool_create (machine_of (state_of self.old)) by chunks list.now) (machine_of (state_of self.old)) result (machine_of (state_of self.new)) }
-        ensures sound { IsSound (state_of self.new) }
-        ensures stays { Stays (state_of self.old).store (state_of self.new).store }
-        ensures room { OnOk result (chunks ≤ length (free_chunks (state_of self.old).store.arena)) }
-        ensures no_room { (p : ℕ) → result ≡ Err (Refusal.NoRoom p) → length (free_chunks (state_of self.old).store.arena) < chunks }
+        ensures create { KeepsPlaces (λ s. calls.pool_create s by chunks list.now) self.old result self.new }
+        ensures room { OnOk result (chunks ≤ length (free_chunks self.old.store.arena)) }
+        ensures no_room { (p : ℕ) → result ≡ Err (Refusal.NoRoom p) → length (free_chunks self.old.store.arena) < chunks }
     {
-        let list = list.as_slice();
-        if !self.is_live(by) || !self.are_live(list) {
+        let names = self.names_for(by, chunks, list.as_slice())?;
+        Ok(self.add_pool(chunks, names)?)
+    }
+
+    /// The domains that a new pool's list names, each once, or why the pool is refused.
+    fn names_for(&self, by: DomainId, chunks: u32, list: &[DomainId]) -> Result<Names, Refusal>
+        ensures few { OnOk result ((f : Reading) → length (as_read f self.now).pools < MAX_POOLS) }
+        ensures names { IfOk result (λ names. names ≡ calls.distinct list.now) }
+        ensures ok { OnOk result ((f : Reading) → first (calls.pool_create (as_read f self.now) by chunks list.now).refusals ≡ None) }
+        ensures roomy { (p : ℕ) → result ≡ Err (Refusal.NoRoom p) → ⊥ }
+        ensures err { IfErr result (λ x. (f : Reading) → first (calls.pool_create (as_read f self.now) by chunks list.now).refusals ≡ Some x) }
+    {
+        if !self.are_live(by, list) {
             return Err(Refusal::NoDomain);
         }
         if list.is_empty() || chunks == 0 || chunks > MAX_CHUNKS {
@@ -94,7 +104,22 @@ impl Kernel {
         if self.pool_count() >= MAX_POOLS {
             return Err(Refusal::TooMany);
         }
-        self.add_pool(chunks, names)
+        Ok(names)
+    }
+
+    /// Whether a domain and each of a list are live.
+    fn are_live(&self, by: DomainId, list: &[DomainId]) -> bool
+        ensures { (f : Reading) → result ≡ (is_live (as_read f self.now) by && list_all (λ d. is_live (as_read f self.now) d) list.now) }
+    {
+        self.is_live(by) && are_live(&self.domains, list)
+    }
+
+    /// How many pools were ever made.
+    #[tactic(auto, using(crate::proofs::Views::count_rules), unfolding(crate::specs::KernelState::read_of))]
+    fn pool_count(&self) -> usize
+        ensures { (f : Reading) → result ≡ length (as_read f self.now).pools }
+    {
+        self.store.pools().len()
     }
 
     /// Adds a pool of so many chunks for these domains.
@@ -102,28 +127,21 @@ impl Kernel {
     fn add_pool(&mut self, chunks: u32, names: Names) -> Result<PoolId, Refusal>
         requires sound { IsSound (state_of self.old) }
         requires few { length (machine_of (state_of self.old)).pools < MAX_POOLS }
-        ensures number { IfOk result (λ n. n ≡ length (machine_of (state_of self.old)).pools + 1) }
-        ensures added { OnOk result (machine_of (state_of self.new) ≡ record (machine_of (state_of self.old)) { pools = (machine_of (state_of self.old)).pools ++ record { domains = names; closed = false } ∷ [] }) }
-        ensures sound { IsSound (state_of self.new) }
-        ensures stays { Stays (state_of self.old).store (state_of self.new).store }
-        ensures room { OnOk result (chunks ≤ length (free_chunks (state_of self.old).store.arena)) }
-        ensures no_room { (p : ℕ) → result ≡ Err (Refusal.NoRoom p) → length (free_chunks (state_of self.old).store.arena) < chunks }
-        ensures late { IfErr result (WantOfRoom (length (machine_of (state_of self.old)).pools + 1)) }
-        ensures err { OnErr result (machine_of (state_of self.new) ≡ machine_of (state_of self.old)) }
+        ensures number { IfOk result (λ n. (f : Reading) → n ≡ length (as_read f self.old).pools + 1) }
+        ensures added { OnOk result (Leaves (λ s. record s { pools = s.pools ++ record { domains = names; closed = false } ∷ [] }) self.old self.new) }
+        ensures room { OnOk result (chunks ≤ length (free_chunks self.old.store.arena)) }
+        ensures no_room { (p : ℕ) → result ≡ Err (Refusal.NoRoom p) → length (free_chunks self.old.store.arena) < chunks }
+        ensures late { IfErr result (λ x. (f : Reading) → WantOfRoom (length (as_read f self.old).pools + 1) x) }
+        ensures err { OnErr result (state_of self.new ≡ state_of self.old) }
     {
-        match self.store.create_pool(self.alloc, chunks, names) {
-            Ok(number) => Ok(number),
-            Err(refusal) => Err(refusal),
-        }
+        Ok(self.store.create_pool(self.alloc, chunks, names)?)
     }
 
     /// Closes a pool: nothing more is placed in it, and its bytes stay readable.
     #[tactic(auto, using(crate::proofs::Stay::stay_rules))]
     pub fn pool_close(&mut self, by: DomainId, pool: PoolId) -> Result<(), Refusal>
         requires { IsSound (state_of self.old) }
-        ensures step { Step (calls.pool_close (machine_of (state_of self.old)) by pool) (machine_of (state_of self.old)) result (machine_of (state_of self.new)) }
-        ensures sound { IsSound (state_of self.new) }
-        ensures stays { Stays (state_of self.old).store (state_of self.new).store }
+        ensures { KeepsPlaces (λ s. calls.pool_close s by pool) self.old result self.new }
     {
         if !self.is_live(by) {
             return Err(Refusal::NoDomain);
@@ -142,14 +160,11 @@ impl Kernel {
     }
 
     /// Closes a pool. No file and no connection can name it yet.
-    #[tactic(auto, using(crate::proofs::Stay::stay_rules))]
     fn end_pool(&mut self, p: PoolId)
         requires sound { IsSound (state_of self.old) }
         requires there { is_pool (machine_of (state_of self.old)) p ≡ true }
-        ensures idle { calls.is_busy (machine_of (state_of self.old)) p ≡ false }
-        ensures closed { machine_of (state_of self.new) ≡ record (machine_of (state_of self.old)) { pools = with_numbered (machine_of (state_of self.old)).pools p (record (state.pool (machine_of (state_of self.old)) p) { closed = true }) } }
-        ensures sound { IsSound (state_of self.new) }
-        ensures stays { Stays (state_of self.old).store (state_of self.new).store }
+        ensures idle { (f : Reading) → calls.is_busy (as_read f self.old) p ≡ false }
+        ensures closed { Leaves (λ s. record s { pools = with_numbered s.pools p (record (state.pool s p) { closed = true }) }) self.old self.new }
     {
         self.store.close_pool(p);
     }

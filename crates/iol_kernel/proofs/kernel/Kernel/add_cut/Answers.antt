@@ -1,48 +1,32 @@
-use Rattle.std.proofs.Common.{◌∙◌, sym, arith}
+use Rattle.std.proofs.Common.{◌∙◌, sym, ap, arith, refl}
+use Rattle.iol_hold.specs.Texts.{byte_at}
 use Rattle.iol_desc.specs.Tables.{domains_of}
 use Rattle.iol_kernel.specs.Kernel.{state_of}
-use Rattle.iol_kernel.proofs.Effects.{live_held, next_agg-machine_of, few_numbers, few_aggs}
-use Rattle.iol_kernel.proofs.Sharing.{changes_machine, changes_layout}
-use Rattle.iol_kernel.proofs.Additions.{cut-changes, cut-sound}
-use Rattle.iol_kernel.proofs.ReadOf.{next_agg-layout_of, length_text-machine_of}
+use Rattle.iol_kernel.proofs.Additions.{cut_answers}
+use Rattle.iol_kernel.proofs.Effects.{few_aggs, few_numbers}
+use Rattle.iol_kernel.proofs.ReadOf.{live_held, length_text-read_of}
 use Rattle.iol_kernel.proofs.Slices.{there_held, slices_covered, slices_countable}
 use Rattle.iol_kernel.proofs.kernel.Kernel.add_cut.Goals as goal
 
 pub add_part-requires-clause-live : goal.add_part-requires-clause-live
-add_part-requires-clause-live c = live_held (state_of c.args.self.now) c.args.by c.requires.live
+add_part-requires-clause-live c = live_held _ (state_of c.args.self.now) c.args.by c.requires.live
 
 pub add_part-requires-clause-few : goal.add_part-requires-clause-few
-add_part-requires-clause-few c = omega (arith, few_numbers (state_of c.args.self.now) c.args.by 1 0 c.requires.few)
+add_part-requires-clause-few c = omega (arith, few_numbers (byte_at c.args.self.now.store) (state_of c.args.self.now) c.args.by 1 0 c.requires.few)
 
 pub add_part-requires-clause-there : goal.add_part-requires-clause-there
-add_part-requires-clause-there c = there_held (state_of c.args.self.now) c.args.by c.args.agg c.requires.there
+add_part-requires-clause-there c = there_held _ (state_of c.args.self.now) c.args.by c.args.agg c.requires.there
 
 pub add_part-requires-clause-within : goal.add_part-requires-clause-within
-add_part-requires-clause-within c = omega (arith, c.requires.within, length_text-machine_of (state_of c.args.self.now) c.args.by c.args.agg)
+add_part-requires-clause-within c = omega (arith, c.requires.within, length_text-read_of (byte_at c.args.self.now.store) (state_of c.args.self.now) c.args.by c.args.agg)
 
 pub add_part-requires-clause-covered : goal.add_part-requires-clause-covered
-add_part-requires-clause-covered c = slices_covered (state_of c.args.self.now) c.args.by c.args.agg c.requires.sound (live_held (state_of c.args.self.now) c.args.by c.requires.live)
+add_part-requires-clause-covered c = slices_covered (state_of c.args.self.now) c.args.by c.args.agg c.requires.sound (live_held _ (state_of c.args.self.now) c.args.by c.requires.live)
 
 pub add_part-requires-clause-countable : goal.add_part-requires-clause-countable
 add_part-requires-clause-countable c = slices_countable (state_of c.args.self.now) c.args.by c.args.agg c.requires.sound
 
-pub returns-in-Ok-clause-number : goal.returns-in-Ok-clause-number
-returns-in-Ok-clause-number c = c.in-Ok.ensures.number ∙ sym (next_agg-machine_of (state_of c.args.self.now) c.args.by)
-
-pub returns-in-Ok-clause-laid_number : goal.returns-in-Ok-clause-laid_number
-returns-in-Ok-clause-laid_number c = c.in-Ok.ensures.number ∙ sym (next_agg-layout_of (state_of c.args.self.now) c.args.by)
-
-pub returns-in-Ok-clause-added : goal.returns-in-Ok-clause-added
-returns-in-Ok-clause-added c =
+pub returns-clause-done : goal.returns-clause-done
+returns-clause-done c =
     let h = state_of c.args.self.now in
-    changes_machine _ h _ (cut-changes h c.add_part.new.store (domains_of c.add_part.new.domains) c.args.by c.args.agg c.args.from c.args.to c.in-Ok.ensures.added)
-
-pub returns-in-Ok-clause-laid : goal.returns-in-Ok-clause-laid
-returns-in-Ok-clause-laid c =
-    let h = state_of c.args.self.now in
-    changes_layout _ h _ (cut-changes h c.add_part.new.store (domains_of c.add_part.new.domains) c.args.by c.args.agg c.args.from c.args.to c.in-Ok.ensures.added)
-
-pub returns-in-Ok-clause-sound : goal.returns-in-Ok-clause-sound
-returns-in-Ok-clause-sound c =
-    let h = state_of c.args.self.now in
-    cut-sound h c.add_part.new.store (domains_of c.add_part.new.domains) c.args.by c.args.agg c.args.from c.args.to c.in-Ok.ensures.added c.requires.sound (live_held h c.args.by c.requires.live) (omega (arith, few_aggs h c.args.by 1 0 c.requires.few))
+    cut_answers h c.add_part.new.store (domains_of c.add_part.new.domains) c.args.by c.args.agg c.args.from c.args.to c.in_ok-add_part.field-0 c.in_ok-add_part.ensures.added c.requires.sound (live_held _ h c.args.by c.requires.live) (omega (arith, few_aggs (byte_at h.store) h c.args.by 1 0 c.requires.few)) c.in_ok-add_part.ensures.number

@@ -1,20 +1,19 @@
-use Rattle.std.proofs.Common.{◌∙◌, ◌+◌, ◌<◌, sym, ap, subst}
+use Rattle.std.proofs.Common.{◌∙◌, ◌+◌, ◌<◌, ap, sym, subst, length, rules}
 use Rattle.iol_core.specs.Meaning.{WantOfRoom}
 use Rattle.iol_kernel.specs.Kernel.{state_of}
-use Rattle.iol_kernel.proofs.Effects.{pooled-machine, unmoved-sound, one_more_pool, length_pools-machine_of}
+use Rattle.iol_kernel.proofs.Effects.{pooled}
+use Rattle.iol_kernel.proofs.ReadOf.{length_pools-read_of}
 use Rattle.iol_kernel.proofs.kernel.Kernel.add_pool.Goals as goal
 
 pub create_pool-requires : goal.create_pool-requires
-create_pool-requires c = subst (λ n. n < 1024) (length_pools-machine_of (state_of c.args.self.now)) c.requires.few
+create_pool-requires c = subst (λ n. n < 1024) (length_pools-read_of _ (state_of c.args.self.now)) c.requires.few
 
-pub returns-in-Ok-clause-number : goal.returns-in-Ok-clause-number
-returns-in-Ok-clause-number c = c.in-Ok.ensures.number ∙ ap (λ n. n + 1) (sym (length_pools-machine_of (state_of c.args.self.now)))
+pub returns-clause-number : goal.returns-clause-number
+returns-clause-number c = λ f. c.in_ok-create_pool.ensures.number ∙ ap (λ n. n + 1) (sym (length_pools-read_of f (state_of c.args.self.now)))
 
-pub returns-in-Ok-clause-added : goal.returns-in-Ok-clause-added
-returns-in-Ok-clause-added c = pooled-machine (state_of c.args.self.now) c.create_pool.new.self c.requires.sound c.in-Ok.ensures.moves c.args.names c.in-Ok.ensures.added
+pub returns-clause-added : goal.returns-clause-added
+returns-clause-added c = pooled (state_of c.args.self.now) c.create_pool.new.self c.requires.sound c.in_ok-create_pool.ensures.moves c.args.names c.in_ok-create_pool.ensures.added
+    (subst (λ n. n < 1024) (length_pools-read_of _ (state_of c.args.self.now)) c.requires.few)
 
-pub returns-in-Ok-clause-sound : goal.returns-in-Ok-clause-sound
-returns-in-Ok-clause-sound c = unmoved-sound (state_of c.args.self.now) c.create_pool.new.self c.requires.sound c.in-Ok.ensures.moves (one_more_pool c.args.self.now.store c.create_pool.new.self _ c.in-Ok.ensures.added (subst (λ n. n < 1024) (length_pools-machine_of (state_of c.args.self.now)) c.requires.few))
-
-pub returns-in-Err-clause-late : goal.returns-in-Err-clause-late
-returns-in-Err-clause-late c = subst (λ n. WantOfRoom (n + 1) c.in-Err.refusal) (sym (length_pools-machine_of (state_of c.args.self.now))) c.in-Err.ensures.late
+pub returns-in_err-create_pool-clause-late : goal.returns-in_err-create_pool-clause-late
+returns-in_err-create_pool-clause-late c = search (rules, length_pools-read_of)

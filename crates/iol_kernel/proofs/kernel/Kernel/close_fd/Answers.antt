@@ -1,40 +1,44 @@
-use Rattle.std.proofs.Common.{◌∙◌, sym, ap}
+use Rattle.std.proofs.Common.{◌∙◌, ap, sym, refl, List, Option, None}
+use Rattle.std.specs.Prelude.{Some, slice_set}
 use Rattle.iol_core.specs.State.{State}
-use Rattle.iol_core.specs.Calls.Descriptors.{closed_on, with_fds}
-use Rattle.std.proofs.Common.{List, Option, Some}
+use Rattle.iol_core.specs.Calls.Descriptors.{closed_on, with_fds, freed}
 use Rattle.iol_core.specs.declared.descriptors.Descriptor.{Descriptor}
-use Rattle.iol_desc.specs.Tables.{domains_of}
-use Rattle.iol_kernel.specs.KernelState.{machine_of}
+use Rattle.iol_desc.specs.Tables.{domains_of, domain_in}
 use Rattle.iol_kernel.specs.Kernel.{state_of}
-use Rattle.iol_kernel.proofs.Effects.{live_held, fds-machine}
-use Rattle.iol_kernel.proofs.Pipes.{not_none, descriptor-machine_of, end_held, freed-machine_of, freed-sound, freed-alone}
+use Rattle.iol_kernel.specs.KernelState.{read_of}
 use Rattle.iol_kernel.proofs.CloseAll.{closed_on-with_fds}
+use Rattle.iol_kernel.proofs.Effects.{fds-changed, leaves_here, leaves_then, leaves_as}
+use Rattle.iol_kernel.proofs.Opening.{end_held, not_none, freed-alone, freed-read_of, freed-sound}
+use Rattle.iol_kernel.proofs.ReadOf.{live_held, descriptor-read_of}
 use Rattle.iol_kernel.proofs.kernel.Kernel.close_fd.Goals as goal
 
 pub take_fd-requires-clause-live : goal.take_fd-requires-clause-live
-take_fd-requires-clause-live c = live_held (state_of c.args.self.now) c.args.by c.requires.live
+take_fd-requires-clause-live c = live_held _ (state_of c.args.self.now) c.args.by c.requires.live
 
 pub take_fd-requires-clause-there : goal.take_fd-requires-clause-there
-take_fd-requires-clause-there c = not_none _ _ c.args.end c.requires.open (sym (descriptor-machine_of (state_of c.args.self.now) c.args.by c.args.fd))
+take_fd-requires-clause-there c = not_none _ _ c.args.end c.requires.open (sym (descriptor-read_of _ (state_of c.args.self.now) c.args.by c.args.fd))
 
 pub close_end-requires-clause-sound : goal.close_end-requires-clause-sound
 close_end-requires-clause-sound c =
     let h = state_of c.args.self.now in
-    freed-sound h (domains_of c.take_fd.new.self) c.args.by c.args.fd c.args.end c.requires.sound (live_held h c.args.by c.requires.live) (sym (descriptor-machine_of h c.args.by c.args.fd) ∙ c.requires.open) c.take_fd.ensures
+    freed-sound h (domains_of c.take_fd.new.self) c.args.by c.args.fd c.args.end c.requires.sound (live_held _ h c.args.by c.requires.live) (sym (descriptor-read_of _ h c.args.by c.args.fd) ∙ c.requires.open) c.take_fd.ensures
 
 pub close_end-requires-clause-open : goal.close_end-requires-clause-open
-close_end-requires-clause-open c = end_held (state_of c.args.self.now) c.args.by c.args.fd c.args.end c.requires.sound c.requires.open
+close_end-requires-clause-open c = end_held _ (state_of c.args.self.now) c.args.by c.args.fd c.args.end c.requires.sound c.requires.open
 
 pub close_end-requires-clause-free : goal.close_end-requires-clause-free
 close_end-requires-clause-free c =
     let h = state_of c.args.self.now in
-    freed-alone h (domains_of c.take_fd.new.self) c.args.by c.args.fd c.args.end c.requires.sound (live_held h c.args.by c.requires.live) (sym (descriptor-machine_of h c.args.by c.args.fd) ∙ c.requires.open)
-    (end_held h c.args.by c.args.fd c.args.end c.requires.sound c.requires.open) c.take_fd.ensures
+    freed-alone h (domains_of c.take_fd.new.self) c.args.by c.args.fd c.args.end c.requires.sound (live_held _ h c.args.by c.requires.live) (sym (descriptor-read_of _ h c.args.by c.args.fd) ∙ c.requires.open)
+    (end_held _ h c.args.by c.args.fd c.args.end c.requires.sound c.requires.open) c.take_fd.ensures
 
-pub returns-clause-closed : goal.returns-clause-closed
-returns-clause-closed c =
+pub returns : goal.returns
+returns c =
     let h = state_of c.args.self.now in
-    c.close_end.ensures.closed
-    ∙ ap (λ (s : State). closed_on s (Some c.args.end)) (fds-machine h (domains_of c.take_fd.new.self) c.args.by _ c.take_fd.ensures)
-    ∙ closed_on-with_fds (machine_of h) c.args.by _ (Some c.args.end)
-    ∙ ap (λ (xs : List (Option Descriptor)). with_fds (closed_on (machine_of h) (Some c.args.end)) c.args.by xs) (sym (freed-machine_of h c.args.by c.args.fd))
+    let d = c.args.by in
+    let xs = slice_set (domain_in h.domains d).fds c.args.fd None in
+    let one = leaves_here (λ s. with_fds s d xs) h (domains_of c.take_fd.new.self) (λ f. fds-changed f h (domains_of c.take_fd.new.self) d xs c.take_fd.ensures)
+    (freed-sound h (domains_of c.take_fd.new.self) d c.args.fd c.args.end c.requires.sound (live_held _ h d c.requires.live) (sym (descriptor-read_of _ h d c.args.fd) ∙ c.requires.open) c.take_fd.ensures) in
+    leaves_as (λ s. closed_on (with_fds s d xs) (Some c.args.end)) (λ s. with_fds (closed_on s (Some c.args.end)) d (freed s d c.args.fd)) h (state_of c.close_end.new.self)
+    (λ f. closed_on-with_fds (read_of f h) d xs (Some c.args.end) ∙ ap (λ (ys : List (Option Descriptor)). with_fds (closed_on (read_of f h) (Some c.args.end)) d ys) (sym (freed-read_of f h d c.args.fd)))
+    (leaves_then (λ s. with_fds s d xs) (λ s. closed_on s (Some c.args.end)) h _ (state_of c.close_end.new.self) one c.close_end.ensures.closed)

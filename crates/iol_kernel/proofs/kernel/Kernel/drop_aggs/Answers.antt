@@ -1,19 +1,15 @@
 use Rattle.iol_desc.specs.Tables.{domains_of}
 use Rattle.iol_kernel.specs.Kernel.{state_of}
-use Rattle.iol_kernel.proofs.Effects.{live_held}
-use Rattle.iol_kernel.proofs.GivenUp.{all_covered, emptied-machine, emptied-sound}
+use Rattle.iol_kernel.proofs.GivenUp.{all_covered, aggs_dropped}
+use Rattle.iol_kernel.proofs.ReadOf.{live_held}
 use Rattle.iol_kernel.proofs.kernel.Kernel.drop_aggs.Goals as goal
 
 pub take_aggs-aggs-requires : goal.take_aggs-aggs-requires
-take_aggs-aggs-requires c = live_held (state_of c.args.self.now) c.args.by c.requires.live
+take_aggs-aggs-requires c = live_held _ (state_of c.args.self.now) c.args.by c.requires.live
 
 pub release_all-requires : goal.release_all-requires
-release_all-requires c = all_covered (state_of c.args.self.now) c.args.by c.take_aggs-aggs.result c.requires.sound (live_held (state_of c.args.self.now) c.args.by c.requires.live) c.take_aggs-aggs.ensures.given
+release_all-requires c = all_covered (state_of c.args.self.now) c.args.by c.take_aggs-aggs.result c.requires.sound (live_held _ (state_of c.args.self.now) c.args.by c.requires.live) c.take_aggs-aggs.ensures.given
 
 pub returns-clause-dropped : goal.returns-clause-dropped
-returns-clause-dropped c = emptied-machine (state_of c.args.self.now) c.release_all.new.store (domains_of c.take_aggs-aggs.new.self) c.args.by c.take_aggs-aggs.result c.requires.sound
-    (live_held (state_of c.args.self.now) c.args.by c.requires.live) c.take_aggs-aggs.ensures.given c.take_aggs-aggs.ensures.rest c.release_all.ensures.moves c.release_all.ensures.lists
-
-pub returns-clause-sound : goal.returns-clause-sound
-returns-clause-sound c = emptied-sound (state_of c.args.self.now) c.release_all.new.store (domains_of c.take_aggs-aggs.new.self) c.args.by c.take_aggs-aggs.result c.requires.sound
-    (live_held (state_of c.args.self.now) c.args.by c.requires.live) c.take_aggs-aggs.ensures.given c.take_aggs-aggs.ensures.rest c.release_all.ensures.moves c.release_all.ensures.lists
+returns-clause-dropped c = aggs_dropped (state_of c.args.self.now) c.release_all.new.store (domains_of c.take_aggs-aggs.new.self) c.args.by c.take_aggs-aggs.result c.requires.sound
+    (live_held _ (state_of c.args.self.now) c.args.by c.requires.live) c.take_aggs-aggs.ensures.given c.take_aggs-aggs.ensures.rest c.release_all.ensures.moves c.release_all.ensures.lists

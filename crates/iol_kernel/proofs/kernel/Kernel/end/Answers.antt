@@ -7,11 +7,12 @@ use Rattle.iol_core.specs.Calls.Descriptors.{closed_on, with_fds}
 use Rattle.iol_core.specs.declared.descriptors.Descriptor.{Descriptor}
 use Rattle.iol_hold.specs.declared.slices.Slice.{Slice}
 use Rattle.iol_desc.specs.Tables.{domains_of, domain_in, with_aggs_in, with_fds_in}
-use Rattle.iol_kernel.specs.KernelState.{KernelState, machine_of}
+use Rattle.iol_kernel.specs.KernelState.{KernelState, read_of}
 use Rattle.iol_kernel.specs.Kernel.{state_of}
-use Rattle.iol_kernel.proofs.Effects.{live_held, fds-machine_of}
-use Rattle.iol_kernel.proofs.CloseAll.{ended_after}
-use Rattle.iol_kernel.proofs.GivenUp.{live_meant, ended-machine, ended-sound}
+use Rattle.iol_kernel.proofs.Effects.{leaves_as, leaves_then, dropped}
+use Rattle.iol_kernel.proofs.ReadOf.{live_held, is_live-read_of}
+use Rattle.iol_kernel.proofs.CloseAll.{ended_all}
+use Rattle.iol_kernel.proofs.GivenUp.{domain_ended}
 use Rattle.iol_kernel.proofs.Rows.{domain_in-changed}
 use Rattle.iol_kernel.proofs.kernel.Kernel.end.Goals as goal
 
@@ -19,8 +20,8 @@ pub close_fds-requires-clause-live : goal.close_fds-requires-clause-live
 close_fds-requires-clause-live c =
     let h : KernelState = state_of c.args.self.now in
     let k : KernelState = state_of c.drop_aggs.new.self in
-    let live = live_held h c.args.by c.requires.live in
-    live_meant k c.args.by (ap (λ (x : Domain (List Slice)). x.live) (domain_in-changed h.domains k.domains c.args.by _ live c.drop_aggs.ensures.domains) ∙ live)
+    let live = live_held _ h c.args.by c.requires.live in
+    is_live-read_of _ k c.args.by ∙ ap (λ (x : Domain (List Slice)). x.live) (domain_in-changed h.domains k.domains c.args.by _ live c.drop_aggs.ensures.domains) ∙ live
 
 -- what is left of it before it ends
 left_of : (h k l : KernelState) (d : ℕ) → (domain_in h.domains d).live ≡ true → k.domains ≡ with_aggs_in h.domains d [] → l.domains ≡ with_fds_in k.domains d [] → domain_in l.domains d ≡ record (domain_in h.domains d) { aggs = []; fds = [] }
@@ -32,37 +33,31 @@ left_of h k l d live dropped closed =
 pub end_domain-requires-clause-live : goal.end_domain-requires-clause-live
 end_domain-requires-clause-live c =
     let h : KernelState = state_of c.args.self.now in
-    let live = live_held h c.args.by c.requires.live in
+    let live = live_held _ h c.args.by c.requires.live in
     ap (λ (y : Domain (List Slice)). y.live) (left_of h (state_of c.drop_aggs.new.self) (state_of c.close_fds.new.self) c.args.by live c.drop_aggs.ensures.domains c.close_fds.ensures.domains) ∙ live
 
 pub end_domain-requires-clause-no_aggs : goal.end_domain-requires-clause-no_aggs
 end_domain-requires-clause-no_aggs c =
     let h : KernelState = state_of c.args.self.now in
-    ap (λ (y : Domain (List Slice)). y.aggs) (left_of h (state_of c.drop_aggs.new.self) (state_of c.close_fds.new.self) c.args.by (live_held h c.args.by c.requires.live) c.drop_aggs.ensures.domains c.close_fds.ensures.domains)
+    ap (λ (y : Domain (List Slice)). y.aggs) (left_of h (state_of c.drop_aggs.new.self) (state_of c.close_fds.new.self) c.args.by (live_held _ h c.args.by c.requires.live) c.drop_aggs.ensures.domains c.close_fds.ensures.domains)
 
 pub end_domain-requires-clause-no_fds : goal.end_domain-requires-clause-no_fds
 end_domain-requires-clause-no_fds c =
     let h : KernelState = state_of c.args.self.now in
-    ap (λ (y : Domain (List Slice)). taken y.fds) (left_of h (state_of c.drop_aggs.new.self) (state_of c.close_fds.new.self) c.args.by (live_held h c.args.by c.requires.live) c.drop_aggs.ensures.domains c.close_fds.ensures.domains)
+    ap (λ (y : Domain (List Slice)). taken y.fds) (left_of h (state_of c.drop_aggs.new.self) (state_of c.close_fds.new.self) c.args.by (live_held _ h c.args.by c.requires.live) c.drop_aggs.ensures.domains c.close_fds.ensures.domains)
 
-pub returns-clause-ended : goal.returns-clause-ended
-returns-clause-ended c =
+pub returns : goal.returns
+returns c =
     let h : KernelState = state_of c.args.self.now in
     let k : KernelState = state_of c.drop_aggs.new.self in
     let l : KernelState = state_of c.close_fds.new.self in
     let d = c.args.by in
-    let live = live_held h d c.requires.live in
-    let same : (machine.domain (machine_of k) d).fds ≡ (machine.domain (machine_of h) d).fds =
-    fds-machine_of k d ∙ ap (λ (y : Domain (List Slice)). y.fds) (domain_in-changed h.domains k.domains d (record (domain_in h.domains d) { aggs = [] }) live c.drop_aggs.ensures.domains) ∙ sym (fds-machine_of h d) in
-    ended-machine l (domains_of c.end_domain.new.self) d c.end_domain.ensures
-    ∙ ap (λ (s : State). machine.with_domain s d no_domain) c.close_fds.ensures.closed
-    ∙ ap (λ (xs : List (Option Descriptor)). machine.with_domain (fold closed_on (with_fds (machine_of k) d []) xs) d no_domain) same
-    ∙ ended_after (machine_of h) (machine_of k) d (record (machine.domain (machine_of h) d) { aggs = [] }) (machine.domain (machine_of h) d).fds c.drop_aggs.ensures.dropped
-
-pub returns-clause-sound : goal.returns-clause-sound
-returns-clause-sound c =
-    let h : KernelState = state_of c.args.self.now in
-    let l : KernelState = state_of c.close_fds.new.self in
-    let live = live_held h c.args.by c.requires.live in
-    let left = left_of h (state_of c.drop_aggs.new.self) l c.args.by live c.drop_aggs.ensures.domains c.close_fds.ensures.domains in
-    ended-sound l (domains_of c.end_domain.new.self) c.args.by c.close_fds.ensures.sound (ap (λ (y : Domain (List Slice)). y.live) left ∙ live) (ap (λ (y : Domain (List Slice)). y.aggs) left) c.end_domain.ensures
+    let live = live_held _ h d c.requires.live in
+    let left = left_of h k l d live c.drop_aggs.ensures.domains c.close_fds.ensures.domains in
+    let drop' = λ (s : State). machine.with_domain s d (record (machine.domain s d) { aggs = [] }) in
+    let close' = λ (s : State). fold closed_on (with_fds s d []) (machine.domain s d).fds in
+    let end' = λ (s : State). machine.with_domain s d no_domain in
+    let last = domain_ended l (domains_of c.end_domain.new.self) d c.close_fds.ensures.closed.sound (ap (λ (y : Domain (List Slice)). y.live) left ∙ live) (ap (λ (y : Domain (List Slice)). y.aggs) left) c.end_domain.ensures in
+    leaves_as (λ s. end' (close' (drop' s))) (λ s. machine.with_domain (fold closed_on s (machine.domain s d).fds) d no_domain) h _
+    (λ f. ended_all (read_of f h) d (is_live-read_of f h d ∙ live))
+    (leaves_then (λ s. close' (drop' s)) end' h l _ (leaves_then drop' close' h k l c.drop_aggs.ensures.dropped c.close_fds.ensures.closed) last)

@@ -1,20 +1,13 @@
-use Rattle.std.proofs.Common.{◌∙◌}
+use Rattle.std.proofs.Common.{◌∙◌, ap, List}
+use Rattle.iol_hold.specs.declared.slices.Slice.{Slice}
+use Rattle.iol_pool.specs.Pools.{Pool}
 use Rattle.iol_kernel.specs.Kernel.{state_of}
-use Rattle.iol_kernel.proofs.Effects.{live_held}
-use Rattle.iol_kernel.proofs.Barring.{denied_machine, denied_layout, nothing_machine, nothing_layout}
+use Rattle.iol_kernel.proofs.Barring.{hidden, hidden_barred}
 use Rattle.iol_kernel.proofs.kernel.Kernel.first_denied.Goals as goal
 
-pub agg-requires : goal.agg-requires
-agg-requires c = live_held (state_of c.args.self.now) c.args.by c.requires
-
-pub returns-in_default-clause-means : goal.returns-in_default-clause-means
-returns-in_default-clause-means c = nothing_machine (state_of c.args.self.now) c.args.by c.args.agg c.args.to c.in_default.ensures
-
-pub returns-in_default-clause-laid : goal.returns-in_default-clause-laid
-returns-in_default-clause-laid c = nothing_layout (state_of c.args.self.now) c.args.by c.args.agg c.args.to c.in_default.ensures
-
-pub returns-clause-means : goal.returns-clause-means
-returns-clause-means c = c.first_hidden.ensures ∙ denied_machine (state_of c.args.self.now) c.args.by c.args.agg c.args.to c.in-Some.found.now c.slices.result.now c.pools.result.now c.in-Some.ensures c.slices.ensures c.pools.ensures
-
-pub returns-clause-laid : goal.returns-clause-laid
-returns-clause-laid c = c.first_hidden.ensures ∙ denied_layout (state_of c.args.self.now) c.args.by c.args.agg c.args.to c.in-Some.found.now c.slices.result.now c.pools.result.now c.in-Some.ensures c.slices.ensures c.pools.ensures
+pub returns : goal.returns
+returns c = λ f keeps.
+    c.first_hidden.ensures
+    ∙ ap (λ (ps : List Pool). hidden ps c.args.to c.slices.result.now) c.pools.ensures
+    ∙ ap (λ (xs : List Slice). hidden c.args.self.now.store.pools c.args.to xs) c.slices.ensures
+    ∙ hidden_barred f keeps (state_of c.args.self.now) c.args.to c.args.found.now

@@ -1,11 +1,20 @@
-use Rattle.std.proofs.Common.{◌∙◌, sym, ap}
+use Rattle.std.proofs.Common.{◌≡◌, ◌∙◌, ℕ, ap, inl, inr, rules, sym}
 use Rattle.std.specs.Prelude.{Some}
-use Rattle.iol_kernel.proofs.Pipes.{end_held}
+use Rattle.iol_core.specs.declared.descriptors.Descriptor.TheVariants as on
+use Rattle.iol_hold.specs.Texts.{byte_at}
 use Rattle.iol_kernel.specs.Kernel.{state_of}
+use Rattle.iol_kernel.proofs.Opening.{end_held}
+use Rattle.iol_kernel.proofs.Queueing.{not_writable}
+use Rattle.iol_kernel.proofs.Stay.{stays_here}
 use Rattle.iol_kernel.proofs.kernel.Kernel.iol_write.Goals as goal
 
-pub unreachable-requires : goal.unreachable-requires
-unreachable-requires c = end_held (state_of c.args.self.now) c.args.by c.args.fd _ c.requires (sym c.descriptor.ensures.means ∙ c.in-Some.is ∙ ap Some c.in-File.is)
-
-pub unreachable-requires-in-Connection : goal.unreachable-requires-in-Connection
-unreachable-requires-in-Connection c = end_held (state_of c.args.self.now) c.args.by c.args.fd _ c.requires (sym c.descriptor.ensures.means ∙ c.in-Some.is ∙ ap Some c.in-Connection.is)
+pub returns-in-ReadEnd : goal.returns-in-ReadEnd
+returns-in-ReadEnd c =
+    let h = state_of c.args.self.now in
+    let differs : (p : ℕ) → c.in-Some.to ≡ on.WriteEnd p → ⊥ =
+    λ p e. elim c.in-ReadEnd.is [
+      | inl x ↦ (let k = sym x.1 ∙ e in cc)
+      | inr y ↦ elim y [ inl x ↦ (let k = sym x.3 ∙ e in cc) | inr x ↦ (let k = sym x.1 ∙ e in cc) ]
+    ] in
+    let wrong = not_writable h.pipes c.in-Some.to (end_held (byte_at h.store) h c.args.by c.args.fd c.in-Some.to c.requires (sym (c.descriptor.ensures (byte_at h.store)) ∙ c.in-Some.is)) differs in
+    search (rules, stays_here, wrong)

@@ -1,24 +1,34 @@
-use Rattle.iol_desc.specs.Tables.{domains_of}
-use Rattle.std.proofs.Common.{◌∙◌, sym, arith, subst, ◌<◌}
-use Rattle.iol_kernel.proofs.Effects.{live_held}
-use Rattle.iol_kernel.proofs.Pipes.{ends-machine, piped-machine, piped-sound, few_open_held, taken_pipes-machine_of}
+use Rattle.std.proofs.Common.{◌≡◌, ◌∙◌, ◌<◌, sym, ap, arith, ℕ, List, subst}
+use Rattle.std.specs.Prelude.{Option}
+use Rattle.iol_core.specs.Numbered.{lowest, placed, taken}
+use Rattle.iol_core.specs.declared.limits.TheConstants.{MAX_PIPES}
+use Rattle.iol_desc.specs.Tables.{domains_of, domain_in, with_fds_in, with_ends}
+use Rattle.iol_hold.specs.Texts.{byte_at}
+use Rattle.iol_hold.specs.declared.slices.Slice.{Slice}
+use Rattle.iol_kernel.specs.Views.{Pipe}
 use Rattle.iol_kernel.specs.Kernel.{state_of}
+use Rattle.iol_kernel.proofs.Opening.{empty, ends_of, few_open_held, piped_answers}
+use Rattle.iol_kernel.proofs.ReadOf.{live_held, taken_pipes-read_of}
 use Rattle.iol_kernel.proofs.kernel.Kernel.new_pipe.Goals as goal
 
-pub add_pipe-requires-clause-live : goal.add_pipe-requires-clause-live
-add_pipe-requires-clause-live c = live_held (state_of c.args.self.now) c.args.by c.requires.live
+pub next-requires : goal.next-requires
+next-requires c =
+    let h = state_of c.args.self.now in
+    omega (arith, c.requires.few_pipes, taken_pipes-read_of (byte_at h.store) h, ap (λ (qs : List (Option (Pipe (List Slice)))). taken qs) c.in_ok-reserve.ensures.same)
 
-pub add_pipe-requires-clause-few : goal.add_pipe-requires-clause-few
-add_pipe-requires-clause-few c = let few = few_open_held (state_of c.args.self.now) c.args.by 2 c.requires.few in omega (arith, few)
+pub add_ends-requires-clause-live : goal.add_ends-requires-clause-live
+add_ends-requires-clause-live c = live_held _ (state_of c.args.self.now) c.args.by c.requires.live
 
-pub add_pipe-requires-clause-few_pipes : goal.add_pipe-requires-clause-few_pipes
-add_pipe-requires-clause-few_pipes c = subst (λ n. n < 1024) (taken_pipes-machine_of (state_of c.args.self.now)) c.requires.few_pipes
+pub add_ends-requires-clause-few : goal.add_ends-requires-clause-few
+add_ends-requires-clause-few c = omega (arith, few_open_held (byte_at c.args.self.now.store) (state_of c.args.self.now) c.args.by 2 c.requires.few)
 
-pub returns-in-Ok-clause-numbers : goal.returns-in-Ok-clause-numbers
-returns-in-Ok-clause-numbers c = c.in-Ok.ensures.numbers ∙ sym (ends-machine (state_of c.args.self.now) c.args.by)
-
-pub returns-in-Ok-clause-opened : goal.returns-in-Ok-clause-opened
-returns-in-Ok-clause-opened c = piped-machine (state_of c.args.self.now) (domains_of c.add_pipe.new.domains) c.add_pipe.new.pipes.items c.args.by c.in-Ok.ensures.opened c.in-Ok.ensures.added
-
-pub returns-in-Ok-clause-sound : goal.returns-in-Ok-clause-sound
-returns-in-Ok-clause-sound c = piped-sound (state_of c.args.self.now) (domains_of c.add_pipe.new.domains) c.add_pipe.new.pipes.items c.args.by c.requires.sound (live_held (state_of c.args.self.now) c.args.by c.requires.live) (subst (λ n. n < 1024) (taken_pipes-machine_of (state_of c.args.self.now)) c.requires.few_pipes) c.in-Ok.ensures.opened c.in-Ok.ensures.added
+pub returns-clause-done : goal.returns-clause-done
+returns-clause-done c =
+    let h = state_of c.args.self.now in
+    let d = c.args.by in
+    let xs = (domain_in h.domains d).fds in
+    let next : c.next.result ≡ lowest h.pipes = c.next.ensures ∙ ap (λ (qs : List (Option (Pipe (List Slice)))). lowest qs) c.in_ok-reserve.ensures.same in
+    piped_answers h (domains_of c.add_ends.new.self) c.add.new.self.places d c.in_ok-ends.ends c.requires.sound (live_held _ h d c.requires.live) (subst (λ n. n < MAX_PIPES) (taken_pipes-read_of _ h) c.requires.few_pipes)
+    (c.in_ok-ends.ensures.numbers ∙ ap (ends_of xs) next)
+    (c.in_ok-ends.ensures.opened ∙ ap (λ n. with_fds_in h.domains d (with_ends xs n)) next)
+    (c.add.ensures ∙ ap (λ (qs : List (Option (Pipe (List Slice)))). placed qs (lowest qs) empty) c.in_ok-reserve.ensures.same)

@@ -1,74 +1,49 @@
-use Rattle.std.proofs.Common.{◌≡◌, ℕ, ◌+◌, ◌≤◌, ◌∙◌, sym, ap, arith, take, length-append}
-use Rattle.iol_hold.specs.Places.{byte_len}
-use Rattle.iol_desc.specs.Tables.{domains_of}
-use Rattle.iol_kernel.specs.KernelState.{queue_at}
-use Rattle.iol_kernel.proofs.Effects.{live_held}
-use Rattle.iol_hold.specs.Places.{places}
+use Rattle.std.proofs.Common.{◌≡◌, ◌∙◌, ◌≤◌, ◌+◌, ◌-◌, sym, ap, length, length-append, take, arith, ℕ}
+use Rattle.std.specs.Prelude.{min}
 use Rattle.std.proofs.lemmas.List.{length-take}
+use Rattle.iol_core.specs.declared.limits.TheConstants.{MAX_QUEUE_BYTES}
+use Rattle.iol_hold.specs.Places.{places, byte_len}
+use Rattle.iol_hold.specs.Texts.{byte_at}
+use Rattle.iol_kernel.specs.Kernel.{state_of}
+use Rattle.iol_kernel.specs.KernelState.{queue_at}
+use Rattle.iol_kernel.proofs.Queueing.{writing_held, queue_short, pushed_answers}
+use Rattle.iol_kernel.proofs.ReadOf.{live_held}
+use Rattle.iol_kernel.proofs.Slices.{there_held}
 use Rattle.iol_kernel.proofs.Sound.{agg_small}
 use Rattle.iol_kernel.proofs.Uses.{agg_covered, countable}
-use Rattle.iol_kernel.proofs.Queueing.{queue_short, pushed-sound}
-use Rattle.std.specs.Prelude.{min, ◌-◌}
-use Rattle.iol_kernel.specs.KernelState.{machine_of}
-use Rattle.std.proofs.Common.{length}
-use Rattle.iol_kernel.specs.Kernel.{state_of}
-use Rattle.iol_hold.specs.Layout.{number_at}
-use Rattle.iol_hold.specs.Texts.{byte_at}
-use Rattle.iol_kernel.specs.KernelState.{layout_of}
-use Rattle.iol_kernel.specs.Sharing.{read_of}
-use Rattle.iol_kernel.proofs.Sharing.{changes_machine, changes_layout}
-use Rattle.iol_kernel.proofs.Flowing.{after_push, pushed-changes, fits}
-use Rattle.iol_kernel.proofs.Slices.{none_held}
 use Rattle.iol_kernel.proofs.kernel.Kernel.push.Goals as goal
 
 pub agg-requires : goal.agg-requires
-agg-requires c = live_held (state_of c.args.self.now) c.args.by c.requires.live
+agg-requires c = live_held _ (state_of c.args.self.now) c.args.by c.requires.live
 
 pub unreachable-requires : goal.unreachable-requires
-unreachable-requires c =
-    let none = none_held (state_of c.args.self.now) c.args.by c.args.agg (c.in_default.ensures) in
-    let no = sym none ∙ c.requires.there in
-    cc
+unreachable-requires c = there_held _ (state_of c.args.self.now) c.args.by c.args.agg c.requires.there (sym c.in_default.ensures)
 
-pub returns-in-Ok-clause-taken : goal.returns-in-Ok-clause-taken
-unfolding machine_of read_of
-returns-in-Ok-clause-taken c = fits (byte_at c.args.self.now.store) (state_of c.args.self.now) c.args.p c.args.by c.args.agg c.in-Some.found.now c.in-Ok.taken c.in-Some.ensures c.in-Ok.ensures.taken
+pub push-requires-clause-writing : goal.push-requires-clause-writing
+push-requires-clause-writing c = let h = state_of c.args.self.now in writing_held _ h c.args.by c.args.fd c.args.p c.requires.sound (c.requires.to (byte_at h.store))
 
-pub returns-in-Ok-clause-laid_taken : goal.returns-in-Ok-clause-laid_taken
-unfolding layout_of read_of
-returns-in-Ok-clause-laid_taken c = fits number_at (state_of c.args.self.now) c.args.p c.args.by c.args.agg c.in-Some.found.now c.in-Ok.taken c.in-Some.ensures c.in-Ok.ensures.taken
+pub push-requires-clause-covered : goal.push-requires-clause-covered
+push-requires-clause-covered c =
+    let h = state_of c.args.self.now in
+    agg_covered h.store h.domains h.pipes c.args.by c.args.agg c.in-Some.found.now c.requires.sound.counted (live_held _ h c.args.by c.requires.live) c.in-Some.ensures
 
-pub push_to-requires-clause-covered : goal.push_to-requires-clause-covered
-push_to-requires-clause-covered c =
-    let found = c.in-Some.ensures in
-    agg_covered c.args.self.now.store (domains_of c.args.self.now.domains) c.args.self.now.pipes.items c.args.by c.args.agg c.in-Some.found.now c.requires.sound.counted (live_held (state_of c.args.self.now) c.args.by c.requires.live) found
-
-pub push_to-requires-clause-countable : goal.push_to-requires-clause-countable
-push_to-requires-clause-countable c =
-    let found = c.in-Some.ensures in
-    countable c.args.self.now.store (domains_of c.args.self.now.domains) c.args.self.now.pipes.items c.in-Some.found.now c.requires.sound.counted c.requires.sound.limits (agg_small (state_of c.args.self.now) c.args.by c.args.agg c.in-Some.found.now c.requires.sound found)
+pub push-requires-clause-countable : goal.push-requires-clause-countable
+push-requires-clause-countable c =
+    let h = state_of c.args.self.now in
+    countable h.store h.domains h.pipes c.in-Some.found.now c.requires.sound.counted c.requires.sound.limits (agg_small h c.args.by c.args.agg c.in-Some.found.now c.requires.sound c.in-Some.ensures)
 
 -- what fits keeps the queue within its bound
-short : (old new given n : ℕ) → old ≤ 65536 → n ≡ min given (65536 - old) → new ≤ old + n → new ≤ 65536
+short : (old new given n : ℕ) → old ≤ MAX_QUEUE_BYTES → n ≡ min given (MAX_QUEUE_BYTES - old) → new ≤ old + n → new ≤ MAX_QUEUE_BYTES
 short old new given n h is le = omega (arith, h, is, le)
 
-pub returns-in-Ok-clause-pushed : goal.returns-in-Ok-clause-pushed
-returns-in-Ok-clause-pushed c =
-    changes_machine (after_push c.args.p c.in-Ok.taken c.args.by c.args.agg) (state_of c.args.self.now) _
-    (pushed-changes (state_of c.args.self.now) c.push_to.new.store c.push_to.new.pipes.items c.args.p c.in-Ok.taken c.args.by c.args.agg c.in-Some.found.now c.requires.writing c.in-Some.ensures c.in-Ok.ensures.places c.in-Ok.ensures.pipes c.in-Ok.ensures.shares)
-
-pub returns-in-Ok-clause-laid : goal.returns-in-Ok-clause-laid
-returns-in-Ok-clause-laid c =
-    changes_layout (after_push c.args.p c.in-Ok.taken c.args.by c.args.agg) (state_of c.args.self.now) _
-    (pushed-changes (state_of c.args.self.now) c.push_to.new.store c.push_to.new.pipes.items c.args.p c.in-Ok.taken c.args.by c.args.agg c.in-Some.found.now c.requires.writing c.in-Some.ensures c.in-Ok.ensures.places c.in-Ok.ensures.pipes c.in-Ok.ensures.shares)
-
-pub returns-in-Ok-clause-sound : goal.returns-in-Ok-clause-sound
-returns-in-Ok-clause-sound c =
+pub returns-clause-done : goal.returns-clause-done
+returns-clause-done c =
     let h = state_of c.args.self.now in
-    let qs = c.push_to.new.pipes.items in
+    let qs = c.push.new.self.places in
     let p = c.args.p in
+    let n = c.in_ok-push.field-0 in
     let from = c.in-Some.found.now in
-    let found = c.in-Some.ensures in
-    let bound = short (byte_len (queue_at h.pipes p).queue) (byte_len (queue_at qs p).queue) (byte_len from) c.in-Ok.taken (queue_short h p c.requires.sound) c.in-Ok.ensures.taken
-    (omega (arith, ap length c.in-Ok.ensures.places, length-append (places (queue_at h.pipes p).queue) (take c.in-Ok.taken (places from)), length-take c.in-Ok.taken (places from))) in
-    pushed-sound h c.push_to.new.store qs p c.in-Ok.taken c.args.by c.args.agg from c.requires.sound c.requires.writing found bound c.in-Ok.ensures.places c.in-Ok.ensures.pipes c.in-Ok.ensures.shares
+    let e = c.in_ok-push.ensures in
+    let bound = short (byte_len (queue_at h.pipes p).queue) (byte_len (queue_at qs p).queue) (byte_len from) n (queue_short h p c.requires.sound) e.taken
+    (omega (arith, ap length e.places, length-append (places (queue_at h.pipes p).queue) (take n (places from)), length-take n (places from))) in
+    pushed_answers h c.push.new.store qs c.args.fd p n c.args.by c.args.agg from c.requires.sound c.requires.to c.in-Some.ensures bound e.taken e.places e.pipes e.shares

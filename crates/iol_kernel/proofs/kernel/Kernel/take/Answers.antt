@@ -1,49 +1,52 @@
-use Rattle.iol_desc.specs.Tables.{domains_of}
-use Rattle.std.proofs.Common.{◌∙◌, sym, inl, arith}
-use Rattle.iol_kernel.proofs.Effects.{live_held, next_agg-machine_of, few_numbers, few_aggs}
-use Rattle.iol_kernel.proofs.Ends.{there_if_open}
-use Rattle.iol_kernel.proofs.Uses.{queue_covered, countable}
-use Rattle.iol_hold.specs.Layout.{number_at}
-use Rattle.iol_kernel.specs.KernelState.{layout_of}
-use Rattle.iol_kernel.specs.Sharing.{read_of}
-use Rattle.iol_kernel.proofs.Sharing.{changes_machine, changes_layout}
-use Rattle.iol_kernel.proofs.Flowing.{after_take, taken-changes}
-use Rattle.iol_kernel.proofs.Queueing.{taken-sound, queue_short}
+use Rattle.std.proofs.Common.{◌∙◌, ap, inl, arith, List}
+use Rattle.iol_core.specs.State.{Domain}
+use Rattle.iol_hold.specs.declared.slices.Slice.{Slice}
+use Rattle.iol_desc.specs.Tables.{domains_of, domain_in, with_agg_in}
+use Rattle.iol_hold.specs.Texts.{byte_at}
 use Rattle.iol_kernel.specs.Kernel.{state_of}
-use Rattle.iol_kernel.proofs.ReadOf.{next_agg-read_of}
+use Rattle.iol_kernel.proofs.Effects.{few_aggs, few_numbers}
+use Rattle.iol_kernel.proofs.Ends.{there_if_open}
+use Rattle.iol_kernel.proofs.Queueing.{reading_held, queue_short, taken_answers}
+use Rattle.iol_kernel.proofs.ReadOf.{live_held}
+use Rattle.iol_kernel.proofs.Uses.{queue_covered, countable}
 use Rattle.iol_kernel.proofs.kernel.Kernel.take.Goals as goal
 
-pub take_from-requires-clause-covered : goal.take_from-requires-clause-covered
-take_from-requires-clause-covered c = queue_covered c.args.self.now.store (domains_of c.args.self.now.domains) c.args.self.now.pipes.items c.args.p c.requires.sound.counted (there_if_open c.args.self.now.pipes.items c.args.p (inl c.requires.reading))
+pub reserve_aggs-requires : goal.reserve_aggs-requires
+reserve_aggs-requires c = live_held _ (state_of c.args.self.now) c.args.by c.requires.live
 
-pub take_from-requires-clause-countable : goal.take_from-requires-clause-countable
-take_from-requires-clause-countable c = let short = queue_short (state_of c.args.self.now) c.args.p c.requires.sound in countable c.args.self.now.store (domains_of c.args.self.now.domains) c.args.self.now.pipes.items _ c.requires.sound.counted c.requires.sound.limits (omega (arith, short))
+pub front-requires-clause-reading : goal.front-requires-clause-reading
+front-requires-clause-reading c = let h = state_of c.args.self.now in reading_held _ h c.args.by c.args.fd c.args.p c.requires.sound (c.requires.from (byte_at h.store))
 
-pub take_from-requires-clause-live : goal.take_from-requires-clause-live
-take_from-requires-clause-live c = live_held (state_of c.args.self.now) c.args.by c.requires.live
-
-pub take_from-requires-clause-few : goal.take_from-requires-clause-few
-take_from-requires-clause-few c = omega (arith, few_numbers (state_of c.args.self.now) c.args.by 1 0 c.requires.few)
-
-pub returns-in-Ok-clause-number : goal.returns-in-Ok-clause-number
-returns-in-Ok-clause-number c = c.in-Ok.ensures.number ∙ sym (next_agg-machine_of (state_of c.args.self.now) c.args.by)
-
-pub returns-in-Ok-clause-laid_number : goal.returns-in-Ok-clause-laid_number
-unfolding layout_of read_of
-returns-in-Ok-clause-laid_number c = c.in-Ok.ensures.number ∙ sym (next_agg-read_of number_at (state_of c.args.self.now) c.args.by)
-
-pub returns-in-Ok-clause-taken : goal.returns-in-Ok-clause-taken
-returns-in-Ok-clause-taken c =
-    changes_machine (after_take c.args.p c.args.by c.args.n) (state_of c.args.self.now) _
-    (taken-changes (state_of c.args.self.now) c.take_from.new.store (domains_of c.take_from.new.domains) c.take_from.new.pipes.items c.args.p c.args.by c.args.n c.requires.reading c.in-Ok.ensures.taken c.in-Ok.ensures.pipes)
-
-pub returns-in-Ok-clause-laid : goal.returns-in-Ok-clause-laid
-returns-in-Ok-clause-laid c =
-    changes_layout (after_take c.args.p c.args.by c.args.n) (state_of c.args.self.now) _
-    (taken-changes (state_of c.args.self.now) c.take_from.new.store (domains_of c.take_from.new.domains) c.take_from.new.pipes.items c.args.p c.args.by c.args.n c.requires.reading c.in-Ok.ensures.taken c.in-Ok.ensures.pipes)
-
-pub returns-in-Ok-clause-sound : goal.returns-in-Ok-clause-sound
-returns-in-Ok-clause-sound c =
+pub front-requires-clause-covered : goal.front-requires-clause-covered
+front-requires-clause-covered c =
     let h = state_of c.args.self.now in
-    taken-sound h c.take_from.new.store (domains_of c.take_from.new.domains) c.take_from.new.pipes.items c.args.p c.args.by c.args.n c.requires.sound c.requires.reading c.in-Ok.ensures.taken c.in-Ok.ensures.pipes
-    (live_held h c.args.by c.requires.live) (omega (arith, few_aggs h c.args.by 1 0 c.requires.few))
+    queue_covered h.store h.domains h.pipes c.args.p c.requires.sound.counted (there_if_open h.pipes c.args.p (inl (reading_held _ h c.args.by c.args.fd c.args.p c.requires.sound (c.requires.from (byte_at h.store)))))
+
+pub front-requires-clause-countable : goal.front-requires-clause-countable
+front-requires-clause-countable c =
+    let h = state_of c.args.self.now in
+    let short = queue_short h c.args.p c.requires.sound in
+    countable h.store h.domains h.pipes _ c.requires.sound.counted c.requires.sound.limits (omega (arith, short))
+
+pub add_agg-requires-clause-live : goal.add_agg-requires-clause-live
+add_agg-requires-clause-live c = ap (λ (ds : List (Domain (List Slice))). (domain_in ds c.args.by).live) c.in_ok-reserve_aggs.ensures.same ∙ live_held _ (state_of c.args.self.now) c.args.by c.requires.live
+
+pub add_agg-requires-clause-few : goal.add_agg-requires-clause-few
+add_agg-requires-clause-few c =
+    let h = state_of c.args.self.now in
+    omega (arith, few_numbers (byte_at h.store) h c.args.by 1 0 c.requires.few, ap (λ (ds : List (Domain (List Slice))). (domain_in ds c.args.by).next_agg) c.in_ok-reserve_aggs.ensures.same)
+
+pub returns-clause-done : goal.returns-clause-done
+returns-clause-done c =
+    let h = state_of c.args.self.now in
+    let d = c.args.by in
+    let e = c.in_ok-agg.ensures in
+    taken_answers h c.front.new.store (domains_of c.add_agg.new.self) c.front.new.self.places c.args.fd c.args.p d c.args.n c.add_agg.result c.requires.sound c.requires.from
+    (record {
+      slices = c.in_ok-agg.agg;
+      given = e.given;
+      left = e.rest;
+      shares = e.shares;
+      added = c.add_agg.ensures.added ∙ ap (λ (ds : List (Domain (List Slice))). with_agg_in ds d c.in_ok-agg.agg) c.in_ok-reserve_aggs.ensures.same;
+    }) e.pipes (live_held _ h d c.requires.live) (omega (arith, few_aggs (byte_at h.store) h d 1 0 c.requires.few))
+    (c.add_agg.ensures.number ∙ ap (λ (ds : List (Domain (List Slice))). (domain_in ds d).next_agg) c.in_ok-reserve_aggs.ensures.same)

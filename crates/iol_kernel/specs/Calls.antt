@@ -1,0 +1,67 @@
+-- What a call does to what a system holds, said of the copying machine whatever is read at the places of bytes.
+use Rattle.std.specs.Prelude.{◌≡◌, ℕ, ◌⊎◌, true, false, List, Some, Result, Err, OnErr}
+use Rattle.iol_core.specs.State.{State, is_live, text}
+use Rattle.iol_core.specs.Meaning.{Meaning, Step}
+use Rattle.iol_core.specs.Calls.Aggregates.{lacks_agg, with_agg}
+use Rattle.iol_core.specs.declared.refusals.Refusal.{Refusal}
+use Rattle.iol_core.specs.declared.refusals.Refusal.TheVariants.{NoDomain, BadAgg, NoRoom}
+use Rattle.iol_hold.specs.Layout.{read, KeepsPools}
+use Rattle.iol_hold.specs.Moves.{Stays}
+use Rattle.iol_hold.specs.declared.slices.Slice.{Slice}
+use Rattle.iol_desc.specs.Tables.{agg_in}
+use Rattle.iol_kernel.specs.KernelState.{KernelState, Reading, read_of, machine_of, IsSound}
+
+-- The machine's step whatever is read: of bytes it is the step that the call means; of places it says that the bytes
+-- of its result lie where its meaning says, so that none was copied, and that nothing else moved.
+-- The pages and the pools are as they were.
+pub record CarriesOut {A : Type 0} (m : State → Meaning A) (old : KernelState) (r : Result A Refusal) (new : KernelState) : Type 0 where
+  pub step : (f : Reading) → KeepsPools f → Step (m (read_of f old)) (read_of f old) r (read_of f new)
+  pub arena : new.store.arena ≡ old.store.arena
+  pub pools : new.store.pools ≡ old.store.pools
+  pub roomy : (p : ℕ) → r ≡ Err (NoRoom p) → ⊥
+  pub refused : OnErr r (new ≡ old)
+  pub sound : IsSound new
+  pub stays : Stays old.store new.store
+
+-- The machine's step, of bytes and of places: what the call leaves lies where it lay.
+-- Pages and chunks may be freed or taken, and none is published.
+pub record KeepsPlaces {A : Type 0} (m : State → Meaning A) (old : KernelState) (r : Result A Refusal) (new : KernelState) : Type 0 where
+  pub step : Step (m (machine_of old)) (machine_of old) r (machine_of new)
+  pub places : (f : Reading) → KeepsPools f → Step (m (read_of f old)) (read_of f old) r (read_of f new)
+  pub refused : OnErr r (new ≡ old)
+  pub sound : IsSound new
+  pub stays : Stays old.store new.store
+
+-- The effect of a call that carries out: its answer, and the state after it.
+pub record Answers {A : Type 0} (m : State → Meaning A) (old : KernelState) (a : A) (new : KernelState) : Type 0 where
+  pub answer : (f : Reading) → KeepsPools f → a ≡ (m (read_of f old)).answer
+  pub after : (f : Reading) → KeepsPools f → read_of f new ≡ (m (read_of f old)).after
+  pub arena : new.store.arena ≡ old.store.arena
+  pub pools : new.store.pools ≡ old.store.pools
+  pub sound : IsSound new
+  pub stays : Stays old.store new.store
+
+-- An effect that may free pages or take chunks: the state after it, of bytes and of places.
+pub record Leaves (after : State → State) (old new : KernelState) : Type 0 where
+  pub bytes : machine_of new ≡ after (machine_of old)
+  pub places : (f : Reading) → KeepsPools f → read_of f new ≡ after (read_of f old)
+  pub sound : IsSound new
+  pub stays : Stays old.store new.store
+
+-- One aggregate more of a domain, of these slices, and nothing else: whatever is read, the rest lies where it lay.
+pub record AddsAgg (d : ℕ) (old new : KernelState) : Type 0 where
+  pub slices : List Slice
+  pub each : (f : Reading) → read_of f new ≡ with_agg (read_of f old) d (read f slices)
+
+-- the domain is live, and its aggregate is these slices
+pub record IsFound (h : KernelState) (d a : ℕ) (xs : List Slice) : Type 0 where
+  pub found : Some xs ≡ agg_in h.domains d a
+  pub live : (f : Reading) → is_live (read_of f h) d ≡ true
+  pub there : (f : Reading) → lacks_agg (read_of f h) d a ≡ false
+  pub text : (f : Reading) → text (read_of f h) d a ≡ read f xs
+
+-- the refusal where there is no such domain, or no such aggregate of it
+abbrev pub IsMissing : KernelState → (d a : ℕ) → Refusal → Type 0
+IsMissing h d a x =
+    ((x ≡ NoDomain) × ((f : Reading) → is_live (read_of f h) d ≡ false))
+    ⊎ ((x ≡ BadAgg) × ((f : Reading) → (is_live (read_of f h) d ≡ true) × (lacks_agg (read_of f h) d a ≡ true)))

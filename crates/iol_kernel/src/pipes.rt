@@ -1,0 +1,243 @@
+//! Pipes: bounded queues, each in a place of its own, with a read end and a write end.
+ghost use Rattle.std.specs.Prelude.{◌≡◌, ℕ, ◌+◌, ◌-◌, ◌<◌, ◌≤◌, ◌^◌, min, take, take_while, drop, slice_set, true, [], ◌++◌, Some, IfOk, OnOk, OnErr};
+ghost use Rattle.iol_core.specs.Numbered.{lowest, placed, taken};
+ghost use Rattle.iol_hold.specs.Moves.{Covers, IsCountable, Moves, SameLists, Shares};
+ghost use Rattle.iol_hold.specs.Places.{byte_len, places};
+ghost use Rattle.iol_hold.specs.Texts.{bufs_of};
+ghost use Rattle.iol_pipe.specs.Queue.{first_pool, may_see};
+ghost use Rattle.iol_kernel.specs.ClosedEnds.{without_reader, without_writer, ClosesEnd};
+ghost use Rattle.iol_kernel.specs.KernelState.{queue_at};
+ghost use Rattle.iol_kernel.specs.Queues.{with_queue_of};
+
+use iol_agg::Agg;
+use iol_core::limits::MAX_QUEUE_BYTES;
+use iol_core::numbers::{DomainId, PipeId, PoolId};
+use iol_desc::places::Places;
+use iol_hold::Store;
+use std::alloc::{AllocError, Global};
+use std::marker::Model;
+
+/// A pipe and which of its ends are open.
+#[derive(Drop)]
+pub(crate) struct Pipe {
+    queue: iol_pipe::Pipe,
+    reading: bool,
+    writing: bool,
+}
+
+impl Model for Pipe {
+    ghost use Rattle.std.specs.Prelude.{List};
+    ghost use Rattle.iol_hold.specs.declared.slices.Slice.{Slice};
+    ghost use Rattle.iol_kernel.specs.Views as views;
+
+    ghost Value = { views.Pipe (List Slice) };
+
+    ghost view = { λ p. record { queue = p.queue; reading = p.reading; writing = p.writing } };
+}
+
+impl Pipe {
+    /// Closes the read end and releases what waits. Returns whether the write end is open.
+    fn close_reader(&mut self, store: &mut Store) -> bool
+        requires { Covers store.old (bufs_of self.old.queue) }
+        ensures stays { result ≡ self.old.writing }
+        ensures pipe { self.new ≡ without_reader self.old }
+        ensures moves { Moves store.old store.new (bufs_of self.old.queue) (bufs_of self.new.queue) }
+        ensures lists { SameLists store.old store.new }
+    {
+        self.queue.clear(store);
+        self.reading = false;
+        self.writing
+    }
+
+    /// Closes the write end, and releases what waits where nobody reads. Returns whether the read end is open.
+    #[tactic(auto, using(crate::proofs::ClosedEnds::moves_same))]
+    fn close_writer(&mut self, store: &mut Store) -> bool
+        requires { Covers store.old (bufs_of self.old.queue) }
+        ensures stays { result ≡ self.old.reading }
+        ensures pipe { self.new ≡ without_writer self.old }
+        ensures moves { Moves store.old store.new (bufs_of self.old.queue) (bufs_of self.new.queue) }
+        ensures lists { SameLists store.old store.new }
+    {
+        self.writing = false;
+        if self.reading {
+            return true;
+        }
+        self.queue.clear(store);
+        false
+    }
+}
+
+/// The live pipes. A new one is in the lowest free place.
+#[derive(Drop)]
+pub(crate) struct Pipes {
+    places: Places<Pipe>,
+}
+
+impl Model for Pipes {
+    ghost use Rattle.std.specs.Prelude.{List};
+    ghost use Rattle.iol_hold.specs.declared.slices.Slice.{Slice};
+    ghost use Rattle.iol_desc.specs.Tables as tables;
+    ghost use Rattle.iol_kernel.specs.Views as views;
+
+    ghost Value = { tables.Slots (views.Pipe (List Slice)) };
+
+    ghost view = { λ p. p.places };
+}
+
+impl Pipes {
+    /// No pipes.
+    pub(crate) fn new(alloc: Global) -> Pipes
+        ensures { result.places ≡ [] }
+    {
+        Pipes {
+            places: Places::new(alloc),
+        }
+    }
+
+    /// How many pipes are live.
+    pub(crate) fn count(&self) -> usize
+        ensures { result ≡ taken self.now.places }
+    {
+        self.places.taken()
+    }
+
+    /// The number of the next new pipe.
+    pub(crate) fn next(&self) -> PipeId
+        requires { taken self.now.places < 2 ^ 32 }
+        ensures { result ≡ lowest self.now.places }
+    {
+        PipeId::new(self.places.lowest() as u32)
+    }
+
+    /// Reserves room for a pipe more.
+    pub(crate) fn reserve(&mut self) -> Result<(), AllocError>
+        ensures same { self.new.places ≡ self.old.places }
+        ensures room { OnOk result (0 < self.new.room) }
+    {
+        self.places.reserve(1)
+    }
+
+    /// Adds an empty pipe whose ends are open, in room that is reserved.
+    pub(crate) fn add(&mut self, alloc: Global)
+        requires { 0 < self.old.room }
+        ensures { self.new.places ≡ placed self.old.places (lowest self.old.places) (record { queue = []; reading = true; writing = true }) }
+    {
+        self.places.put(Pipe {
+            queue: iol_pipe::Pipe::new(alloc),
+            reading: true,
+            writing: true,
+        });
+    }
+
+    /// How many bytes wait in a pipe.
+    pub(crate) fn len(&self, p: PipeId) -> u32
+        ensures len { result ≡ byte_len (queue_at self.now.places p).queue }
+        ensures most { result ≤ MAX_QUEUE_BYTES }
+    {
+        match self.places.get(p.number() as usize) {
+            Some(pipe) => pipe.queue.len(),
+            None => 0,
+        }
+    }
+
+    /// The pool of the first byte that waits in a pipe.
+    pub(crate) fn first_pool(&self, p: PipeId) -> Option<PoolId>
+        ensures { result ≡ first_pool (queue_at self.now.places p).queue }
+    {
+        self.places.get(p.number() as usize)?.queue.first_pool()
+    }
+
+    /// Whether a pipe's read end is open.
+    pub(crate) fn is_reading(&self, p: PipeId) -> bool
+        ensures { result ≡ (queue_at self.now.places p).reading }
+    {
+        match self.places.get(p.number() as usize) {
+            Some(pipe) => pipe.reading,
+            None => false,
+        }
+    }
+
+    /// Whether a pipe's write end is open.
+    pub(crate) fn is_writing(&self, p: PipeId) -> bool
+        ensures { result ≡ (queue_at self.now.places p).writing }
+    {
+        match self.places.get(p.number() as usize) {
+            Some(pipe) => pipe.writing,
+            None => false,
+        }
+    }
+
+    /// Adds the longest prefix that fits to a pipe's queue. Returns how many bytes that is.
+    #[tactic(auto, using(crate::proofs::Ends::there_rules))]
+    pub(crate) fn push(
+        &mut self,
+        store: &mut Store,
+        p: PipeId,
+        from: &Agg,
+    ) -> Result<u32, AllocError>
+        requires covered { Covers store.old (bufs_of from.now) }
+        requires countable { IsCountable store.old (bufs_of from.now) }
+        requires writing { (queue_at self.old.places p).writing ≡ true }
+        ensures taken { IfOk result (λ n. n ≡ min (byte_len from.now) (MAX_QUEUE_BYTES - byte_len (queue_at self.old.places p).queue)) }
+        ensures places { IfOk result (λ n. places (queue_at self.new.places p).queue ≡ places (queue_at self.old.places p).queue ++ take n (places from.now)) }
+        ensures pipes { OnOk result (self.new.places ≡ with_queue_of self.old.places p self.new.places) }
+        ensures shares { OnOk result (Shares store.old store.new (bufs_of (queue_at self.old.places p).queue) (bufs_of (queue_at self.new.places p).queue)) }
+        ensures err { OnErr result (self.new.places ≡ self.old.places) }
+        ensures err_store { OnErr result (store.new ≡ store.old) }
+    {
+        let pipe = self.places.value_mut(p.number() as usize);
+        pipe.queue.push(store, from)
+    }
+
+    /// Takes off the longest prefix of a pipe's first `n` bytes whose pools all name the domain.
+    #[tactic(auto, using(crate::proofs::Ends::there_rules))]
+    pub(crate) fn front(
+        &mut self,
+        alloc: Global,
+        store: &mut Store,
+        p: PipeId,
+        n: u32,
+        d: DomainId,
+    ) -> Result<Agg, AllocError>
+        requires covered { Covers store.old (bufs_of (queue_at self.old.places p).queue) }
+        requires countable { IsCountable store.old (bufs_of (queue_at self.old.places p).queue) }
+        requires reading { (queue_at self.old.places p).reading ≡ true }
+        ensures given { IfOk result (λ a. places a ≡ take_while (may_see store.old.pools d) (take n (places (queue_at self.old.places p).queue))) }
+        ensures rest { IfOk result (λ a. places (queue_at self.new.places p).queue ≡ drop (byte_len a) (places (queue_at self.old.places p).queue)) }
+        ensures pipes { OnOk result (self.new.places ≡ with_queue_of self.old.places p self.new.places) }
+        ensures shares { IfOk result (λ a. Shares store.old store.new (bufs_of (queue_at self.old.places p).queue) (bufs_of a ++ bufs_of (queue_at self.new.places p).queue)) }
+        ensures err { OnErr result (self.new.places ≡ self.old.places) }
+        ensures err_store { OnErr result (store.new ≡ store.old) }
+    {
+        let pipe = self.places.value_mut(p.number() as usize);
+        pipe.queue.front(alloc, store, n, d)
+    }
+
+    /// Closes the read end of a pipe, which goes where its write end is closed.
+    #[tactic(auto, using(crate::proofs::Ends::there_rules))]
+    pub(crate) fn close_reader(&mut self, store: &mut Store, p: PipeId)
+        requires covered { Covers store.old (bufs_of (queue_at self.old.places p).queue) }
+        requires reading { (queue_at self.old.places p).reading ≡ true }
+        ensures { ClosesEnd store.old store.new self.old.places self.new.places p (without_reader (queue_at self.old.places p)) }
+    {
+        let place = p.number() as usize;
+        let stays = self.places.value_mut(place).close_reader(store);
+        if !stays {
+            self.places.free(place);
+        }
+    }
+
+    /// Closes the write end of a pipe, which goes where its read end is closed.
+    #[tactic(auto, using(crate::proofs::Ends::there_rules))]
+    pub(crate) fn close_writer(&mut self, store: &mut Store, p: PipeId)
+        requires covered { Covers store.old (bufs_of (queue_at self.old.places p).queue) }
+        requires writing { (queue_at self.old.places p).writing ≡ true }
+        ensures { ClosesEnd store.old store.new self.old.places self.new.places p (without_writer (queue_at self.old.places p)) }
+    {
+        let place = p.number() as usize;
+        let stays = self.places.value_mut(place).close_writer(store);
+        if !stays {
+            self.places.free(place);
+        }
+    }
+}
