@@ -22,3 +22,5 @@ carried_machine m old new r c =
 
 pub carried_layout : {A : Type 0} (m : State → Meaning A) (old new : KernelState) (r : Result A Refusal) → CarriesOut m old r new → Step (m (layout_of old)) (layout_of old) r (layout_of new)
 carried_layout m old new r c = c.step number_at keeps_numbers
+
+pub ruleset carried_rules = (carried_machine, carried_layout)
