@@ -7,7 +7,7 @@ ghost use Rattle.iol_core.specs.Sharing.{is_sharing, LaysOut};
 ghost use Rattle.iol_kernel.specs.Kernel.{state_of};
 ghost use Rattle.iol_system.specs.Promises.{Promises, Chain};
 ghost use Rattle.iol_system.specs.Replies.{reply_of};
-ghost use Rattle.iol_system.specs.Room.{fits, IsDone, IsNoRoom};
+ghost use Rattle.iol_system.specs.Room.{fits, IsDone, IsNoRoom, IsRefused};
 ghost use Rattle.iol_system.specs.Safe.{IsSafe};
 
 use iol_core::events::{Call, Event, Reply};
@@ -31,6 +31,8 @@ fn answer_to(kernel: &mut Kernel, by: DomainId, call: &Call) -> Result<Reply, Re
         (layout_of (state_of kernel.new)) }
     ensures pages { is_sharing (Event.Call by call.now) ≡ true →
         (state_of kernel.new).store.arena ≡ (state_of kernel.old).store.arena }
+    ensures refused { IsRefused (reply_of result) →
+        state_of kernel.new ≡ state_of kernel.old }
     ensures sound { IsSound (state_of kernel.new) }
     ensures stays { Stays (state_of kernel.old).store (state_of kernel.new).store }
 {
