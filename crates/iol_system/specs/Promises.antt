@@ -10,16 +10,17 @@ use Rattle.iol_core.specs.declared.events.Event.{Event}
 use Rattle.iol_core.specs.declared.events.Reply.{Reply}
 use Rattle.iol_hold.specs.Moves.{Stays}
 use Rattle.iol_kernel.specs.KernelState.{KernelState, machine_of, layout_of}
-use Rattle.iol_system.specs.Room.{fits, IsDone, IsNoRoom}
+use Rattle.iol_system.specs.Room.{fits, IsDone, IsNoRoom, IsRefused}
 use Rattle.iol_system.specs.Safe.{IsSafe}
 
 -- From old to new, by this event with this reply: the copying machine's step; NoRoom exactly where there is no room;
--- what a sharing call hands on lies where it lay, and no page is published or freed; new is safe again; live buffers
+-- a refusal changes nothing at all; what a sharing call hands on lies where it lay, and no page is published or freed; new is safe again; live buffers
 -- keep their bytes, and aggregates their values.
 pub record Promises (old : KernelState) (e : Event) (r : Reply) (new : KernelState) : Type 0 where
   pub step : StepsTo (machine_of old) e r (machine_of new)
   pub room : IsDone r → fits old e ≡ true
   pub no_room : IsNoRoom r → fits old e ≡ false
+  pub refused : IsRefused r → new ≡ old
   pub shares : is_sharing e ≡ true → LaysOut (layout_of old) e r (layout_of new)
   pub pages : is_sharing e ≡ true → new.store.arena ≡ old.store.arena
   pub safe : IsSafe new

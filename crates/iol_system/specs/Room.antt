@@ -25,6 +25,10 @@ abbrev pub IsDone : Reply → Type 0
 IsDone (reply.Refused x) = ⊥
 IsDone r = Unit {0}
 
+abbrev pub IsRefused : Reply → Type 0
+IsRefused (reply.Refused x) = Unit {0}
+IsRefused r = ⊥
+
 abbrev pub IsNoRoom : Reply → Type 0
 IsNoRoom (reply.Refused (NoRoom p)) = Unit {0}
 IsNoRoom r = ⊥

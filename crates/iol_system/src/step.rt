@@ -7,7 +7,7 @@ ghost use Rattle.iol_core.specs.Sharing.{is_sharing, LaysOut};
 ghost use Rattle.iol_kernel.specs.Kernel.{state_of};
 ghost use Rattle.iol_system.specs.Promises.{Promises, Chain};
 ghost use Rattle.iol_system.specs.Replies.{reply_of};
-ghost use Rattle.iol_system.specs.Room.{fits, IsDone, IsNoRoom};
+ghost use Rattle.iol_system.specs.Room.{fits, IsDone, IsNoRoom, IsRefused};
 ghost use Rattle.iol_system.specs.Safe.{IsSafe};
 
 use iol_core::events::{Call, Event, Reply};
@@ -17,6 +17,7 @@ use iol_kernel::kernel::Kernel;
 use std::alloc::{AllocError, Global};
 
 // Carries out one call of a domain: its answer, or its refusal. Each clause comes from that call of the kernel.
+#[tactic(auto, using(iol_kernel::proofs::Carried::carried_rules))]
 fn answer_to(kernel: &mut Kernel, by: DomainId, call: &Call) -> Result<Reply, Refusal>
     requires { IsSound (state_of kernel.old) }
     ensures step { StepsTo (machine_of (state_of kernel.old)) (Event.Call by call.now)
@@ -25,6 +26,7 @@ fn answer_to(kernel: &mut Kernel, by: DomainId, call: &Call) -> Result<Reply, Re
         fits (state_of kernel.old) (Event.Call by call.now) ≡ true }
     ensures no_room { IsNoRoom (reply_of result) →
         fits (state_of kernel.old) (Event.Call by call.now) ≡ false }
+    ensures refused { IsRefused (reply_of result) → state_of kernel.new ≡ state_of kernel.old }
     ensures shares { is_sharing (Event.Call by call.now) ≡ true →
         LaysOut (layout_of (state_of kernel.old)) (Event.Call by call.now) (reply_of result)
         (layout_of (state_of kernel.new)) }

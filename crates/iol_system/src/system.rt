@@ -16,7 +16,7 @@ ghost use Rattle.iol_core.specs.Calls.Aggregates.{show};
 ghost use Rattle.iol_kernel.specs.Report.{reports_of};
 ghost use Rattle.iol_arena.specs.State.{no_entry};
 ghost use Rattle.iol_arena.specs.Buffers.{SharesNoPage, live_pages};
-ghost use Rattle.iol_system.specs.Room.{fits, IsDone, IsNoRoom};
+ghost use Rattle.iol_system.specs.Room.{fits, IsDone, IsNoRoom, IsRefused};
 
 use crate::step::{carry_out, run_all};
 use iol_agg::Parts;
@@ -96,6 +96,9 @@ impl System {
         ensures step { StepsTo (machine_of self.old) event result (machine_of self.new) }
         ensures room { IsDone result → fits self.old event ≡ true }
         ensures no_room { IsNoRoom result → fits self.old event ≡ false }
+
+        // A refused event changes nothing at all of what the system holds.
+        ensures refused { IsRefused result → self.new ≡ self.old }
 
         // What a sharing call hands on lies where it lay, and no page is published or freed.
         ensures shares { is_sharing event ≡ true →
