@@ -14,7 +14,7 @@ use Rattle.iol_system.specs.Room.{fits, IsDone, IsNoRoom, IsRefused}
 use Rattle.iol_system.specs.Safe.{IsSafe}
 
 -- From old to new, by this event with this reply: the copying machine's step; NoRoom exactly where there is no room;
--- a refused event changes nothing of what the system holds; what a sharing call hands on lies where it lay, and no page is published or freed; new is safe again; live buffers
+-- a refusal changes nothing at all; what a sharing call hands on lies where it lay, and no page is published or freed; new is safe again; live buffers
 -- keep their bytes, and aggregates their values.
 pub record Promises (old : KernelState) (e : Event) (r : Reply) (new : KernelState) : Type 0 where
   pub step : StepsTo (machine_of old) e r (machine_of new)

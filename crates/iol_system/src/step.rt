@@ -26,6 +26,7 @@ fn answer_to(kernel: &mut Kernel, by: DomainId, call: &Call) -> Result<Reply, Re
         fits (state_of kernel.old) (Event.Call by call.now) ≡ true }
     ensures no_room { IsNoRoom (reply_of result) →
         fits (state_of kernel.old) (Event.Call by call.now) ≡ false }
+    ensures refused { IsRefused (reply_of result) → state_of kernel.new ≡ state_of kernel.old }
     ensures shares { is_sharing (Event.Call by call.now) ≡ true →
         LaysOut (layout_of (state_of kernel.old)) (Event.Call by call.now) (reply_of result)
         (layout_of (state_of kernel.new)) }

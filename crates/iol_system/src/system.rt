@@ -97,7 +97,7 @@ impl System {
         ensures room { IsDone result → fits self.old event ≡ true }
         ensures no_room { IsNoRoom result → fits self.old event ≡ false }
 
-        // A refused event changes nothing: no page, generation, count, chunk, slice or table.
+        // A refused event changes nothing at all of what the system holds.
         ensures refused { IsRefused result → self.new ≡ self.old }
 
         // What a sharing call hands on lies where it lay, and no page is published or freed.
