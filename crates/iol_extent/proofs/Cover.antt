@@ -58,9 +58,9 @@ cover_insert (x ∷ xs) (suc k) e i h =
     put_test (is_over x i) (is_over e i) (Some (cell_at x i)) (Some (cell_at e i)) (cover xs i) (cover (insert xs k e) i) h (λ _ n. cc)
     (cover_insert xs k e i (λ y. none_after (is_over x i) (Some (cell_at x i)) (cover xs i) (λ n. cc) (h y)))
   where
-  none_after : (x : Bool) (c r : Option Cell) → (c ≡ None → ⊥) → cond x c r ≡ None → r ≡ None
-  none_after true c r f h = absurd (f h)
-  none_after false c r f h = h
+    none_after : (x : Bool) (c r : Option Cell) → (c ≡ None → ⊥) → cond x c r ≡ None → r ≡ None
+    none_after true c r f h = absurd (f h)
+    none_after false c r f h = h
 
 -- the order is kept
 pub insert_apart : (low : ℕ) (es : List Extent) (k : ℕ) (e d : Extent) → IsApart low es → low ≤ e.at → 0 < byte_len e.parts → k ≤ length es → ((j : ℕ) → j < k → end_of (get_or es j d) ≤ e.at) → (k < length es → end_of e ≤ (get_or es k d).at) → IsApart low (insert es k e)
@@ -84,17 +84,19 @@ gap_after es k from to d a h b f t g =
     let at = (get_or es k d).at in
     let some = some_at 0 es k d a h in
     elim (cases_lt at to) [
-      inl l ↦ elim (cases_lt from at) [
-          inl m ↦ let found = cover_found 0 es k at d a h (λ j i. let n = b j i in omega arith) (omega arith) some in
+      | inl l ↦ elim (cases_lt from at) [
+        | inl m ↦ let found = cover_found 0 es k at d a h (λ j i. let n = b j i in omega arith) (omega arith) some in
             let none = g.each at (omega arith) l in
             absurd (some_none found none)
         | inr m ↦ let found = cover_found 0 es k from d a h b m f in
             let none = g.each from (omega arith) t in
-            absurd (some_none found none) ]
-    | inr l ↦ l ]
+            absurd (some_none found none)
+      ]
+      | inr l ↦ l
+    ]
   where
-  some_none : {o : Option Cell} {c : Cell} → o ≡ Some c → o ≡ None → ⊥
-  some_none p q = cc
+    some_none : {o : Option Cell} {c : Cell} → o ≡ Some c → o ≡ None → ⊥
+    some_none p q = cc
 
 -- what lies over a place, by the number of extents that end at it or before it
 pub over_past : (es : List Extent) (k i : ℕ) → IsApart 0 es → k ≡ length es → ((j : ℕ) (d : Extent) → j < k → end_of (get_or es j d) ≤ i) → cover es i ≡ None
@@ -146,9 +148,9 @@ pub remove_apart : (low : ℕ) (es : List Extent) (k : ℕ) → IsApart low es �
 remove_apart low [] k a h = absurd (omega arith)
 remove_apart low (e ∷ es) zero a h = lower low (end_of e) es (omega (arith, a.0)) a.2
   where
-  lower : (low high : ℕ) (es : List Extent) → low ≤ high → IsApart high es → IsApart low es
-  lower low high [] l a = tt
-  lower low high (e ∷ es) l a = (omega (arith, a.0), a.1, a.2)
+    lower : (low high : ℕ) (es : List Extent) → low ≤ high → IsApart high es → IsApart low es
+    lower low high [] l a = tt
+    lower low high (e ∷ es) l a = (omega (arith, a.0), a.1, a.2)
 remove_apart low (e ∷ es) (suc k) a h = (a.0, a.1, remove_apart (end_of e) es k a.2 (omega arith))
 
 pub last_end_remove : (es : List Extent) (k : ℕ) (d : Extent) → k < length es → last_end es ≡ max (end_of (get_or es k d)) (last_end (remove es k))
@@ -222,23 +224,25 @@ cover_split e x y k rest i xa ya h xd yd xp yp =
     let xl : byte_len x.parts ≡ k = ap length xp ∙ length-take-le k ps h in
     let yl : byte_len y.parts ≡ byte_len e.parts - k = ap length yp ∙ length-drop k ps in
     elim (cases_lt i e.at) [
-      inl l ↦ cover_no x (y ∷ rest) i (inl (omega arith)) ∙ cover_no y rest i (inl (omega arith)) ∙ sym (cover_no e rest i (inl l))
-    | inr l ↦ elim (cases_lt i (e.at + k)) [
-        inl m ↦ cover_yes x (y ∷ rest) i (omega arith) (omega arith)
-          ∙ same_cell x e i xd (ap (λ (t : List Place). get_or t (i - x.at) no_place) xp ∙ get_or-take k ps (i - x.at) no_place (omega arith) ∙ ap (λ n. get_or ps (i - n) no_place) xa)
-          ∙ sym (cover_yes e rest i l (omega arith))
-      | inr m ↦ elim (cases_lt i (end_of e)) [
-          inl n ↦ cover_no x (y ∷ rest) i (inr (omega arith)) ∙ cover_yes y rest i (omega arith) (omega arith)
-            ∙ same_cell y e i yd (ap (λ (t : List Place). get_or t (i - y.at) no_place) yp ∙ get_or-drop k ps (i - y.at) no_place ∙ ap (λ n. get_or ps n no_place) (let q : k + (i - y.at) ≡ i - e.at = omega arith in q))
-            ∙ sym (cover_yes e rest i l n)
-        | inr n ↦ cover_no x (y ∷ rest) i (inr (omega arith)) ∙ cover_no y rest i (inr (omega arith)) ∙ sym (cover_no e rest i (inr n)) ] ] ]
+      | inl l ↦ cover_no x (y ∷ rest) i (inl (omega arith)) ∙ cover_no y rest i (inl (omega arith)) ∙ sym (cover_no e rest i (inl l))
+      | inr l ↦ elim (cases_lt i (e.at + k)) [
+        | inl m ↦ cover_yes x (y ∷ rest) i (omega arith) (omega arith)
+            ∙ same_cell x e i xd (ap (λ (t : List Place). get_or t (i - x.at) no_place) xp ∙ get_or-take k ps (i - x.at) no_place (omega arith) ∙ ap (λ n. get_or ps (i - n) no_place) xa)
+            ∙ sym (cover_yes e rest i l (omega arith))
+        | inr m ↦ elim (cases_lt i (end_of e)) [
+          | inl n ↦ cover_no x (y ∷ rest) i (inr (omega arith)) ∙ cover_yes y rest i (omega arith) (omega arith)
+              ∙ same_cell y e i yd (ap (λ (t : List Place). get_or t (i - y.at) no_place) yp ∙ get_or-drop k ps (i - y.at) no_place ∙ ap (λ n. get_or ps n no_place) (let q : k + (i - y.at) ≡ i - e.at = omega arith in q))
+              ∙ sym (cover_yes e rest i l n)
+          | inr n ↦ cover_no x (y ∷ rest) i (inr (omega arith)) ∙ cover_no y rest i (inr (omega arith)) ∙ sym (cover_no e rest i (inr n))
+        ]
+      ]
+    ]
   where
-  same_cell : (x e : Extent) (i : ℕ) → x.dirty ≡ e.dirty → get_or (places x.parts) (i - x.at) no_place ≡ get_or (places e.parts) (i - e.at) no_place → Some (cell_at x i) ≡ Some (cell_at e i)
-  same_cell x e i d p = cc
+    same_cell : (x e : Extent) (i : ℕ) → x.dirty ≡ e.dirty → get_or (places x.parts) (i - x.at) no_place ≡ get_or (places e.parts) (i - e.at) no_place → Some (cell_at x i) ≡ Some (cell_at e i)
+    same_cell x e i d p = cc
 
 pub some_is : {o : Option Cell} {c : Cell} → o ≡ Some c → IsSome o
 some_is {o} {c} h = subst IsSome (sym h) refl
-
 
 -- the ends rise
 pub ends_rise : (low : ℕ) (es : List Extent) (j k : ℕ) (d : Extent) → IsApart low es → j ≤ k → k < length es → end_of (get_or es j d) ≤ end_of (get_or es k d)

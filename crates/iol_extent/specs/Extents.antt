@@ -1,5 +1,6 @@
 -- The extents of a file: in memory, between gaps that only the store has.
 use Rattle.std.specs.Prelude.{◌≡◌, ℕ, ◌+◌, ◌-◌, ◌<◌, ◌≤◌, ◌&&◌, nat_lt, nat_le, max, Bool, true, if◌then◌else◌, List, [], ◌∷◌, Option, Some, None, slice_index_or, ◌==◌}
+use Rattle.std.specs.Borrow.{Bor}
 use Rattle.iol_hold.specs.declared.slices.Slice.{Slice}
 use Rattle.iol_hold.specs.Places.{Place, places, byte_len}
 
@@ -13,10 +14,18 @@ pub record Extent : Type 0 where
   pub parts : List Slice
   pub dirty : Bool
 
+-- the extents of a file in the order of offsets, and how many more may come in without memory
+pub record ExtentMap : Type 0 where
+  pub extents : List Extent
+  pub room : ℕ
+
 -- what lies over a byte of a file: a place in a buffer, and whether it is dirty
 pub record Cell : Type 0 where
   pub place : Place
   pub dirty : Bool
+
+abbrev pub extent_of : (at : ℕ) → (parts : List Slice) → (dirty : Bool) → Extent
+extent_of at parts dirty = record { at = at; parts = parts; dirty = dirty }
 
 abbrev pub end_of : Extent → ℕ
 end_of e = e.at + byte_len e.parts
@@ -25,7 +34,12 @@ abbrev pub is_over : Extent → ℕ → Bool
 is_over e i = nat_le e.at i && nat_lt i (end_of e)
 
 abbrev pub cell_at : Extent → ℕ → Cell
-cell_at e i = record { place = slice_index_or (places e.parts) (i - e.at) no_place; dirty = e.dirty }
+cell_at e i =
+    record { place = slice_index_or (places e.parts) (i - e.at) no_place; dirty = e.dirty }
+
+-- the same of an extent as `over` gives it
+abbrev pub cell_in : ℕ × Bor (List Slice) × Bool → ℕ → Cell
+cell_in found i = cell_at (extent_of found.0 found.1.now found.2) i
 
 -- what lies over byte i
 abbrev pub cover : List Extent → ℕ → Option Cell

@@ -1,5 +1,5 @@
 //! One extent.
-ghost use Rattle.std.specs.Prelude.{◌≡◌, ℕ, ◌+◌, ◌-◌, ◌/◌, ◌<◌, ◌≤◌, length, slice_index_or};
+ghost use Rattle.std.specs.Prelude.{◌≡◌, ℕ, ◌+◌, ◌-◌, ◌/◌, ◌<◌, ◌≤◌, length, slice_index_or, insert, vec_len, vec_capacity};
 ghost use Rattle.iol_extent.specs.Extents.{Extent, end_of, IsApart};
 
 use iol_agg::Agg;
@@ -37,8 +37,10 @@ impl Piece {
 pub(crate) fn count_before(pieces: &[Piece], at: u32) -> usize
     requires { IsApart 0 pieces.now }
     ensures within { result ≤ length pieces.now }
-    ensures before { (k : ℕ) (d : Extent) → k < result → end_of (slice_index_or pieces.now k d) ≤ at }
-    ensures after { (d : Extent) → result < length pieces.now → at < end_of (slice_index_or pieces.now result d) }
+    ensures before { (k : ℕ) (d : Extent) → k < result →
+        end_of (slice_index_or pieces.now k d) ≤ at }
+    ensures after { (d : Extent) → result < length pieces.now →
+        at < end_of (slice_index_or pieces.now result d) }
 {
     let mut low = 0;
     let mut high = pieces.len();
@@ -52,4 +54,15 @@ pub(crate) fn count_before(pieces: &[Piece], at: u32) -> usize
         }
     }
     low
+}
+
+/// Puts a piece in, in room that is there.
+pub(crate) fn insert_piece(pieces: &mut Vec<Piece>, place: usize, piece: Piece)
+    requires place { place ≤ vec_len pieces.old }
+    requires room { vec_len pieces.old < vec_capacity pieces.old }
+    ensures items { pieces.new.items ≡ insert pieces.old.items place piece }
+    ensures len { vec_len pieces.new ≡ vec_len pieces.old + 1 }
+    ensures capacity { vec_capacity pieces.new ≡ vec_capacity pieces.old }
+{
+    let _inserted = pieces.insert(place, piece);
 }

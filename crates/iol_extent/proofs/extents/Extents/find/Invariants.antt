@@ -8,8 +8,8 @@ invariant-loop-at l = record {
   within : l.at ≤ l.to;
   hits : AreInOrder l.fn.from l.at l.hits.items;
   gaps : AreInOrder l.fn.from l.at l.gaps.items;
-  covered : All (IsHit l.self l.to) l.hits.items;
-  empty : All (IsGapSpan l.self) l.gaps.items;
+  covered : All (IsHit l.self.extents l.to) l.hits.items;
+  empty : All (IsGapSpan l.self.extents) l.gaps.items;
   each : (i : ℕ) → l.fn.from ≤ i → i < l.at → LiesIn i l.hits.items ⊎ LiesIn i l.gaps.items;
 }
 
