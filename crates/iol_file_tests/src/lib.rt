@@ -4,4 +4,6 @@
 #[cfg(test)]
 mod backing;
 #[cfg(test)]
+mod extents;
+#[cfg(test)]
 mod order;

@@ -32,8 +32,6 @@ fn answer_to(kernel: &mut Kernel, by: DomainId, call: &Call) -> Result<Reply, Re
         (layout_of (state_of kernel.new)) }
     ensures pages { is_sharing (Event.Call by call.now) ≡ true →
         (state_of kernel.new).store.arena ≡ (state_of kernel.old).store.arena }
-    ensures refused { IsRefused (reply_of result) →
-        state_of kernel.new ≡ state_of kernel.old }
     ensures sound { IsSound (state_of kernel.new) }
     ensures stays { Stays (state_of kernel.old).store (state_of kernel.new).store }
 {

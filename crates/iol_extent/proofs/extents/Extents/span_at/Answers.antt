@@ -1,0 +1,32 @@
+use Rattle.std.proofs.Common.{◌≡◌, ◌∙◌, List, get_or, ap, sym, subst, arith}
+use Rattle.iol_extent.specs.declared.spans.Span.{Span}
+use Rattle.iol_extent.specs.Extents.{ExtentMap, Extent}
+use Rattle.iol_extent.specs.Spans.{IsHit}
+use Rattle.iol_extent.proofs.Cover.{gap_past, gap_before}
+use Rattle.iol_extent.proofs.extents.Extents.span_at.Goals as goal
+
+pub returns-then-found-len-clause-gap : goal.returns-then-found-len-clause-gap
+returns-then-found-len-clause-gap c =
+    let e = c.deref.ensures.value in
+    λ _. rw (← (ap (λ (m : ExtentMap). m.extents) c.self.view_is), ← e) (gap_past c.deref.result.now c.count_before-found.result c.args.at c.args.to (rw e c.self.invariant.apart) (omega arith) c.count_before-found.ensures.before)
+
+pub returns-then-piece-at-clause-gap : goal.returns-then-piece-at-clause-gap
+returns-then-piece-at-clause-gap c =
+    let e = c.deref.ensures.value in
+    let at : c.index-piece.result.now ≡ get_or c.deref.result.now c.count_before-found.result c.index-piece.result.now = rw e c.index-piece.ensures in
+    λ _. rw (← (ap (λ (m : ExtentMap). m.extents) c.self.view_is), ← e) (gap_before c.deref.result.now c.count_before-found.result c.args.at _ c.index-piece.result.now (rw e c.self.invariant.apart) (omega arith) c.count_before-found.ensures.before at (omega (arith, ap (λ (x : Extent). x.at) c.piece.view_is)))
+
+pub returns-clause-hit : goal.returns-clause-hit
+returns-clause-hit c =
+    let e = c.deref.ensures.value in
+    let at : c.index-piece.result.now ≡ get_or c.deref.result.now c.count_before-found.result c.index-piece.result.now = rw e c.index-piece.ensures in
+    let s : Span = record { from = c.args.at; to = c.min-2.result } in
+    let hit : IsHit c.deref.result.now c.args.to s = record {
+      index = c.count_before-found.result;
+      extent = c.index-piece.result.now;
+      within = omega arith;
+      is = sym at;
+      begins = omega (arith, ap (λ (x : Extent). x.at) c.piece.view_is);
+      ends = omega (arith, c.min-2.ensures, c.end.ensures);
+    } in
+    λ _. subst (λ (es : List Extent). IsHit es c.args.to s) (e ∙ (ap (λ (m : ExtentMap). m.extents) c.self.view_is)) hit

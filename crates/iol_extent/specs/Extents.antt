@@ -1,0 +1,86 @@
+-- The extents of a file: in memory, between gaps that only the store has.
+use Rattle.std.specs.Prelude.{◌≡◌, ℕ, ◌+◌, ◌-◌, ◌<◌, ◌≤◌, ◌&&◌, nat_lt, nat_le, max, Bool, true, if◌then◌else◌, List, [], ◌∷◌, Option, Some, None, slice_index_or, ◌==◌}
+use Rattle.std.specs.Borrow.{Bor}
+use Rattle.iol_hold.specs.declared.slices.Slice.{Slice}
+use Rattle.iol_hold.specs.Places.{Place, places, byte_len}
+
+-- where nothing lies
+abbrev pub no_place : Place
+no_place = record { pool = 0; buf = record { page = 0; generation = 0 }; at = 0 }
+
+-- an extent: where it begins in the file, its slices, whether it is dirty
+pub record Extent : Type 0 where
+  pub at : ℕ
+  pub parts : List Slice
+  pub dirty : Bool
+
+-- the extents of a file in the order of offsets, and how many more may come in without memory
+pub record ExtentMap : Type 0 where
+  pub extents : List Extent
+  pub room : ℕ
+
+-- what lies over a byte of a file: a place in a buffer, and whether it is dirty
+pub record Cell : Type 0 where
+  pub place : Place
+  pub dirty : Bool
+
+abbrev pub extent_of : (at : ℕ) → (parts : List Slice) → (dirty : Bool) → Extent
+extent_of at parts dirty = record { at = at; parts = parts; dirty = dirty }
+
+abbrev pub end_of : Extent → ℕ
+end_of e = e.at + byte_len e.parts
+
+abbrev pub is_over : Extent → ℕ → Bool
+is_over e i = nat_le e.at i && nat_lt i (end_of e)
+
+abbrev pub cell_at : Extent → ℕ → Cell
+cell_at e i =
+    record { place = slice_index_or (places e.parts) (i - e.at) no_place; dirty = e.dirty }
+
+-- the same of an extent as `over` gives it
+abbrev pub cell_in : ℕ × Bor (List Slice) × Bool → ℕ → Cell
+cell_in found i = cell_at (extent_of found.0 found.1.now found.2) i
+
+-- what lies over byte i
+abbrev pub cover : List Extent → ℕ → Option Cell
+cover [] i = None
+cover (e ∷ es) i = if is_over e i then Some (cell_at e i) else cover es i
+
+-- the extents stand in order from low on, none of them empty
+abbrev pub IsApart : ℕ → List Extent → Type 0
+IsApart low [] = Unit {0}
+IsApart low (e ∷ es) = (low ≤ e.at) × (0 < byte_len e.parts) × IsApart (end_of e) es
+
+-- the end of the last one
+abbrev pub last_end : List Extent → ℕ
+last_end [] = 0
+last_end (e ∷ es) = max (end_of e) (last_end es)
+
+-- nothing lies over the bytes from..to
+pub record IsGap (es : List Extent) (from to : ℕ) : Type 0 where
+  pub each : (i : ℕ) → from ≤ i → i < to → cover es i ≡ None
+
+-- es' has the extent beside what es has
+pub record Adds (es : List Extent) (e : Extent) (es' : List Extent) : Type 0 where
+  pub each : (i : ℕ) → cover es' i ≡ (if is_over e i then Some (cell_at e i) else cover es i)
+
+-- es' lacks the extent of es
+pub record Lacks (es : List Extent) (e : Extent) (es' : List Extent) : Type 0 where
+  pub some : 0 < byte_len e.parts
+  pub adds : Adds es' e es
+  pub gap : (i : ℕ) → is_over e i ≡ true → cover es' i ≡ None
+
+-- the extent that begins at a place
+abbrev pub begins_at : List Extent → ℕ → Option Extent
+begins_at [] at = None
+begins_at (e ∷ es) at = if e.at == at then Some e else begins_at es at
+
+-- with an extent more, in the order of places
+abbrev pub put_in : List Extent → Extent → List Extent
+put_in [] e = e ∷ []
+put_in (x ∷ xs) e = if nat_lt e.at x.at then e ∷ x ∷ xs else x ∷ put_in xs e
+
+-- without the extent that begins at a place
+abbrev pub without_at : List Extent → (at : ℕ) → List Extent
+without_at [] at = []
+without_at (x ∷ xs) at = if x.at == at then xs else x ∷ without_at xs at

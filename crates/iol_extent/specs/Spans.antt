@@ -1,0 +1,34 @@
+-- Hits and gaps of a range.
+use Rattle.std.specs.Prelude.{◌≡◌, ℕ, ◌<◌, ◌≤◌, ◌⊎◌, min, List, [], ◌∷◌, length, slice_index_or, All}
+use Rattle.iol_extent.specs.declared.spans.Span.{Span}
+use Rattle.iol_extent.specs.Extents.{Extent, end_of, IsGap}
+
+-- spans one after another, none of them empty, between two places
+abbrev pub AreInOrder : (from to : ℕ) → List Span → Type 0
+AreInOrder from to [] = from ≤ to
+AreInOrder from to (s ∷ ss) = (from ≤ s.from) × (s.from < s.to) × AreInOrder s.to to ss
+
+-- a byte lies in one of these spans
+abbrev pub LiesIn : (i : ℕ) → List Span → Type 0
+LiesIn i [] = ⊥
+LiesIn i (s ∷ ss) = ((s.from ≤ i) × (i < s.to)) ⊎ LiesIn i ss
+
+-- a span under one extent, which goes on to the end of the extent or of the range
+pub record IsHit (es : List Extent) (to : ℕ) (s : Span) : Type 0 where
+  pub index : ℕ
+  pub extent : Extent
+  pub within : index < length es
+  pub is : slice_index_or es index extent ≡ extent
+  pub begins : extent.at ≤ s.from
+  pub ends : s.to ≡ min to (end_of extent)
+
+abbrev pub IsGapSpan : List Extent → Span → Type 0
+IsGapSpan es s = IsGap es s.from s.to
+
+-- Hits and gaps of a range, each in order. Each byte of the range lies in one of them.
+pub record Tile (es : List Extent) (from to : ℕ) (found missed : List Span) : Type 0 where
+  pub hits : AreInOrder from to found
+  pub gaps : AreInOrder from to missed
+  pub covered : All (IsHit es to) found
+  pub empty : All (IsGapSpan es) missed
+  pub each : (i : ℕ) → from ≤ i → i < to → LiesIn i found ⊎ LiesIn i missed

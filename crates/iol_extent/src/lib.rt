@@ -1,0 +1,14 @@
+//! The extents of a file: which of its bytes are in memory.
+//!
+//! [`Extents`](extents::Extents) are aggregates by offset, no two over the same byte; a contract sees them as a list in
+//! the order of offsets (`specs/Extents`). All else is gaps, which only the store has. An extent is clean where the
+//! store has the same bytes, else dirty.
+//!
+//!     let found = extents.find(alloc, 0, 4096)?;      // hits and gaps
+//!     extents.put(0, agg, false)?;                    // into a gap
+//!     let agg = extents.remove(0);
+#![tactic(auto)]
+
+pub mod extents;
+mod piece;
+pub mod spans;

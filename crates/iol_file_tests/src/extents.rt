@@ -1,0 +1,63 @@
+//! Extents: what a range has, once two are put in and one is taken away.
+ghost use Rattle.std.specs.Prelude.{◌≡◌, ◌<◌, ◌+◌, ◌^◌, []};
+ghost use Rattle.iol_hold.specs.Places.{byte_len};
+ghost use Rattle.iol_extent.specs.Extents.{IsGap};
+
+use iol_agg::Agg;
+use iol_core::configuration::Config;
+use iol_core::limits::MAX_AGGREGATE_BYTES;
+use iol_core::numbers::{DomainId, PoolId};
+use iol_extent::extents::Extents;
+use iol_extent::spans::Span;
+use iol_hold::Store;
+use iol_pool::names::Names;
+use std::alloc::Global;
+use std::process::Abort;
+use std::test::Fail;
+
+// A store of one chunk, and a pool that has it.
+fn start<R: Abort>(rt: &R, alloc: Global) -> (Store, PoolId) {
+    let config = Config {
+        chunks: 1,
+        gen_limit: u32::MAX,
+        sums: 1,
+    };
+    let mut store = Store::new(alloc, config).expect(rt, "memory");
+    let names = Names::of(&[DomainId::new(1)]).expect(rt, "a domain");
+    let pool = store.create_pool(alloc, 1, names).expect(rt, "room");
+    (store, pool)
+}
+
+// Five bytes.
+fn fill_five<R: Abort>(rt: &R, alloc: Global, store: &mut Store, pool: PoolId) -> Agg
+    ensures { byte_len result ≡ 5 }
+{
+    let text = b"hello";
+    assert!(rt; text.len() <= MAX_AGGREGATE_BYTES);
+    assert!(rt; !store.pools().is_closed(pool));
+    let agg = Agg::fill(alloc, store, pool, text).expect(rt, "room");
+    assert_eq!(rt; agg.len(), 5);
+    agg
+}
+
+#[test]
+fn ample(rt: HostRuntime) -> Result<(), Fail> {
+    let alloc = rt.alloc();
+    let (mut store, pool) = start(&rt, alloc);
+    let mut extents = Extents::new(alloc);
+    extents.reserve(1)?;
+    let agg = fill_five(&rt, alloc, &mut store, pool);
+    extents.put(4, agg, true);
+    let found = extents.find(alloc, 0, 16)?;
+    assert!(rt; found.hits.as_slice() == [Span { from: 4, to: 9 }].as_slice());
+    assert!(rt;
+        found.gaps.as_slice() == [Span { from: 0, to: 4 }, Span { from: 9, to: 16 }].as_slice()
+    );
+    assert!(rt; extents.over(3).is_none());
+    let (at, agg, dirty) = extents.over(8).expect(&rt, "an extent");
+    assert_eq!(rt; (at, agg.len(), dirty), (4, 5, true));
+    let agg = extents.remove(4);
+    assert_eq!(rt; agg.len(), 5);
+    assert!(rt; extents.over(4).is_none());
+    Ok(())
+}
