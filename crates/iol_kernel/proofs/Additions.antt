@@ -13,6 +13,7 @@ use Rattle.iol_hold.specs.Layout.{read}
 use Rattle.iol_hold.specs.Texts.{text_of, AllReadable, IsThere, byte_at}
 use Rattle.iol_hold.specs.declared.slices.Slice.{Slice}
 use Rattle.iol_hold.proofs.AtPlaces.{read_same, read_cut, read_replaced}
+use Rattle.iol_hold.proofs.Emptied.{all_settled_same}
 use Rattle.iol_hold.proofs.Moving.{shares_move, covers_given}
 use Rattle.iol_hold.proofs.Reading.{readable_stays, length-text_of}
 use Rattle.iol_desc.specs.Tables.{domain_in, live_aggs_in}
@@ -20,7 +21,7 @@ use Rattle.iol_kernel.specs.Views.{state_view}
 use Rattle.iol_kernel.specs.Adding.{replaced, AddsShared}
 use Rattle.iol_kernel.specs.KernelState.{KernelState, machine_of, IsSound, slices_in, read_of}
 use Rattle.iol_kernel.proofs.Views.{with_agg-view}
-use Rattle.iol_kernel.proofs.Effects.{placed-sound}
+use Rattle.iol_kernel.proofs.Effects.{gained-sound}
 use Rattle.iol_kernel.proofs.ReadOf.{text-read_of, length_text-read_of, next_agg-read_of}
 use Rattle.iol_kernel.proofs.Slices.{slices_readable, slices_small}
 use Rattle.iol_core.specs.declared.limits.TheConstants.{MAX_AGGREGATES, MAX_AGGREGATE_BYTES}
@@ -38,14 +39,8 @@ module _ (h : KernelState) (t : Stored) (ds : List (Domain (List Slice))) (d : �
 
   added-sound : IsSound h → (domain_in h.domains d).live ≡ true → live_aggs_in h.domains < MAX_AGGREGATES → AllReadable h.store adds.slices → byte_len adds.slices ≤ MAX_AGGREGATE_BYTES → IsSound (record h { store = t; domains = ds })
   added-sound sound live few readable small =
-      placed-sound h t ds d (text_of t adds.slices) sound live few (omega (arith, small, length-text_of t adds.slices)) (record {
-        slices = adds.slices;
-        is_text = refl;
-        readable = readable_stays adds.slices (shares_move adds.shares).stays (covers_given adds.shares.counts) readable;
-        moves = shares_move adds.shares;
-        pools = adds.shares.pools;
-        added = adds.added;
-      })
+      gained-sound h t ds d adds.slices sound live few small (readable_stays adds.slices (shares_move adds.shares).stays (covers_given adds.shares.counts) readable) (shares_move adds.shares)
+      (all_settled_same h.store t adds.shares.arena adds.shares.pools sound.settled) adds.shares.pools adds.added
 
 -- Part of an aggregate, or all of it.
 

@@ -6,7 +6,7 @@ use Rattle.iol_core.specs.State.{new_state, no_slots, new_domain, Domain}
 use Rattle.iol_arena.specs.State.{no_entry}
 use Rattle.iol_arena.specs.declared.pages.Entry.{Entry}
 use Rattle.iol_pool.specs.Pools.{Pool}
-use Rattle.iol_hold.specs.Stored.{Stored, count_in, count_of, IsTidy}
+use Rattle.iol_hold.specs.Stored.{Stored, count_in, count_of, IsTidy, AllSettled}
 use Rattle.iol_hold.specs.Texts.{text_of}
 use Rattle.iol_hold.specs.declared.slices.Slice.{Slice}
 use Rattle.iol_kernel.specs.Views.{Pipe, state_view}
@@ -30,8 +30,8 @@ none_held : (s : Stored) (n : ℕ) → s.arena.entries ≡ replicate n no_entry 
 unfolding count_of
 none_held s n e b = ap (λ (x : Entry). count_in x (get_or s.counts b.page 0) b.generation) (ap (λ (es : List Entry). get_or es b.page no_entry) e ∙ every n b.page no_entry)
 
-pub new-sound : (h : KernelState) (n : ℕ) → h.domains ≡ new_domain ∷ [] → h.store.arena.entries ≡ replicate n no_entry → IsTidy h.store → h.pipes ≡ [] → h.store.pools ≡ [] → IsSound h
-new-sound h n domains' entries' tidy pipes' pools' =
+pub new-sound : (h : KernelState) (n : ℕ) → h.domains ≡ new_domain ∷ [] → h.store.arena.entries ≡ replicate n no_entry → IsTidy h.store → AllSettled h.store → h.pipes ≡ [] → h.store.pools ≡ [] → IsSound h
+new-sound h n domains' entries' tidy settled pipes' pools' =
     subst (λ (ds : List (Domain (List Slice))). IsSound (record h { domains = ds })) (sym domains') (subst (λ (qs : List (Option (Pipe (List Slice)))). IsSound (record h { domains = new_domain ∷ []; pipes = qs })) (sym pipes') (record {
       domains = (tt, tt);
       pipes = tt;
@@ -40,6 +40,7 @@ new-sound h n domains' entries' tidy pipes' pools' =
       counted = record { each = none_held h.store n entries' };
       tidy = tidy;
       still = record { each = λ q waits. (let free = ap (λ (x : Entry). x.kind) (ap (λ (es : List Entry). get_or es q no_entry) entries' ∙ every n q no_entry) in cc (free, waits)) };
+      settled = settled;
       limits = record { aggs = (tt, tt); few = omega arith; queues = tt; few_pipes = omega arith };
       few_pools = omega (arith, ap length pools');
     }))

@@ -9,6 +9,26 @@ use Rattle.iol_core.specs.declared.descriptors.Descriptor.{Descriptor}
 use Rattle.iol_core.specs.declared.descriptors.Descriptor.TheVariants as on
 use Rattle.iol_kernel.proofs.Rows.{with_domain-twice, domain-with_same}
 
+-- pools stay
+
+pub pools-with_domain : (s : State) (d : ℕ) (x : Domain Text) → (machine.with_domain s d x).pools ≡ s.pools
+unfolding machine.with_domain
+pools-with_domain s d x = refl
+
+pools-closed_on : (s : State) (o : Option Descriptor) → (fds.closed_on s o).pools ≡ s.pools
+unfolding machine.with_pipe machine.with_conn
+pools-closed_on s None = refl
+pools-closed_on s (Some (on.File f at mode)) = refl
+pools-closed_on s (Some (on.ReadEnd p)) = refl
+pools-closed_on s (Some (on.WriteEnd p)) = refl
+pools-closed_on s (Some (on.Connection c)) = refl
+
+pub pools-fold : (s : State) (os : List (Option Descriptor)) → (fold fds.closed_on s os).pools ≡ s.pools
+pools-fold s [] = refl
+pools-fold s (o ∷ os) = pools-fold (fds.closed_on s o) os ∙ pools-closed_on s o
+
+-- and domains
+
 pub closed_on-with_domain : (s : State) (d : ℕ) (x : Domain Text) (o : Option Descriptor) → fds.closed_on (machine.with_domain s d x) o ≡ machine.with_domain (fds.closed_on s o) d x
 unfolding machine.with_domain machine.with_pipe machine.with_conn machine.pipe_at machine.conn_at
 closed_on-with_domain s d x None = refl

@@ -12,12 +12,15 @@ use Rattle.iol_core.specs.Calls.Descriptors as fds
 use Rattle.iol_core.specs.declared.descriptors.Descriptor.{Descriptor}
 use Rattle.iol_core.specs.declared.descriptors.Descriptor.TheVariants as on
 use Rattle.iol_core.specs.declared.numbers.BufId.{BufId}
-use Rattle.iol_hold.specs.Stored.{Stored}
+use Rattle.iol_hold.specs.Stored.{Stored, AllSettled}
 use Rattle.iol_hold.specs.Moves.{Moves, SameLists}
 use Rattle.iol_hold.specs.Places.{byte_len}
 use Rattle.iol_hold.specs.Texts.{text_of, bufs_of, AllReadable}
 use Rattle.iol_hold.specs.declared.slices.Slice.{Slice}
 use Rattle.iol_hold.proofs.Counting.{tally_none}
+use Rattle.iol_hold.specs.Releases.{FreesOnly}
+use Rattle.iol_hold.proofs.Paging.{keeps_pages_frees}
+use Rattle.iol_hold.proofs.Releasing.{frees_none}
 use Rattle.iol_hold.proofs.Moving.{moves_none}
 use Rattle.iol_hold.proofs.Reading.{readable_none}
 use Rattle.iol_kernel.specs.Views.{Pipe, pipe_view, state_view}
@@ -38,15 +41,20 @@ use Rattle.iol_kernel.specs.Calls.{Leaves}
 pub moves_same : (s : Stored) (xs : List BufId) → Moves s s xs xs
 moves_same s xs = let m = moves_none s in record { counts = record { each = λ b. refl }; stays = m.stays; still = m.still; tidy = m.tidy }
 
+pub frees_same : (s : Stored) → FreesOnly s s
+frees_same s = frees_none s s refl refl (λ p open'. refl)
+
+pub ruleset same_rules = (moves_same, frees_same)
+
 -- a pipe goes, in two steps
 
 -- a place that is read where there is one
 pub found_there : (old : Pipes) (n : ℕ) (z : Option (Pipe (List Slice))) (x : Pipe (List Slice)) → n < length old → z ≡ Some x → z ≡ get_or old n z → Some x ≡ in_place old n
 found_there old n z x there is read = sym is ∙ read ∙ get_or_default old n z None there
 
-pub closes_gone : (s t : Stored) (old : Pipes) (n p : ℕ) (x y : Pipe (List Slice)) (after : Pipe (List Slice) → Pipe (List Slice)) → n ≡ p → Some x ≡ in_place old n → y ≡ after x → ((after x).reading || (after x).writing) ≡ false → Moves s t (bufs_of x.queue) (bufs_of y.queue) → SameLists s t
+pub closes_gone : (s t : Stored) (old : Pipes) (n p : ℕ) (x y : Pipe (List Slice)) (after : Pipe (List Slice) → Pipe (List Slice)) → n ≡ p → Some x ≡ in_place old n → y ≡ after x → ((after x).reading || (after x).writing) ≡ false → Moves s t (bufs_of x.queue) (bufs_of y.queue) → SameLists s t → FreesOnly s t → (AllReadable s x.queue → AllSettled s → AllSettled t)
     → ClosesEnd s t old (slice_set (slice_set old n (Some y)) n None) p (after (queue_at old p))
-closes_gone s t old n p x y after same there is gone moves lists =
+closes_gone s t old n p x y after same there is gone moves lists frees settles =
     let found : queue_at old p ≡ x = ap (queue_at old) (sym same) ∙ ap (λ (o : Option (Pipe (List Slice))). unwrap_or o (record { queue = []; reading = false; writing = false })) (sym there) in
     let become : after (queue_at old p) ≡ y = ap after found ∙ sym is in
     record {
@@ -54,6 +62,8 @@ closes_gone s t old n p x y after same there is gone moves lists =
           ∙ sym (ap (λ (z : Pipe (List Slice)). slice_set old p (if z.reading || z.writing then Some z else None)) (ap after found) ∙ rw gone refl);
       moves = subst (λ (z : Pipe (List Slice)). Moves s t (bufs_of z.queue) (bufs_of (after (queue_at old p)).queue)) (sym found) (subst (λ (z : Pipe (List Slice)). Moves s t (bufs_of x.queue) (bufs_of z.queue)) (sym become) moves);
       lists = lists;
+      frees = frees;
+      settles = subst (λ (z : Pipe (List Slice)). AllReadable s z.queue → AllSettled s → AllSettled t) (sym found) settles;
     }
 
 pub neither : (r : Bool) → r ≡ false → (r || false) ≡ false
@@ -191,7 +201,7 @@ module _ (h : KernelState) (t : Stored) (qs : Pipes) (p : ℕ) (x : Pipe (List S
 
   closed_pipe-sound : (end : Descriptor) → KeepsEnds end h.pipes less → all_ends_on end h.domains ≡ 0 → IsSound (record h { store = t; pipes = qs })
   closed_pipe-sound end keeps free = subst (λ (ys : Pipes). IsSound (record h { store = t; pipes = ys })) (sym closes.pipes)
-      (moved-sound h.store t h.domains less closes.moves.stays less_counted (closes.moves.tidy sound.tidy) (closes.moves.still sound.still) sound.domains less_good
+      (moved-sound h.store t h.domains less closes.moves.stays less_counted (closes.moves.tidy sound.tidy) (closes.moves.still sound.still) (closes.settles (queue_readable h p sound) sound.settled) sound.domains less_good
       (all_ends_kept end h.pipes less keeps h.domains sound.fds free) sound.once less_limits (same_length h.store t closes.lists sound.few_pools))
 
 -- a read end
@@ -205,7 +215,7 @@ module _ (h : KernelState) (t : Stored) (qs : Pipes) (p : ℕ) (sound : IsSound 
       let x : Pipe (List Slice) = without_reader (queue_at h.pipes p) in
       leaves (λ s. fds.closed_on s (Some (on.ReadEnd p))) h t h.domains qs
       (λ f. closed_pipe-read h t qs p x sound reader_there closes (inl refl) (λ e. refl) f ∙ reader-read f h p)
-      closes.moves.stays sound.domains (qs_good h t qs p x sound reader_there closes (inl refl) (λ e. refl))
+      closes.moves.stays (keeps_pages_frees closes.frees) sound.domains (qs_good h t qs p x sound reader_there closes (inl refl) (λ e. refl))
       (closed_pipe-sound h t qs p x sound reader_there closes (inl refl) (λ e. refl) (on.ReadEnd p) (reader_keeps h.pipes p reader_there) free)
 
 -- a write end
@@ -231,5 +241,5 @@ module _ (h : KernelState) (t : Stored) (qs : Pipes) (p : ℕ) (sound : IsSound 
       let none = none_of (queue_at h.pipes p).queue (queue_at h.pipes p).reading in
       leaves (λ s. fds.closed_on s (Some (on.WriteEnd p))) h t h.domains qs
       (λ f. closed_pipe-read h t qs p x sound writer_there closes writer_part none f ∙ writer-read f h p)
-      closes.moves.stays sound.domains (qs_good h t qs p x sound writer_there closes writer_part none)
+      closes.moves.stays (keeps_pages_frees closes.frees) sound.domains (qs_good h t qs p x sound writer_there closes writer_part none)
       (closed_pipe-sound h t qs p x sound writer_there closes writer_part none (on.WriteEnd p) (writer_keeps h.pipes p writer_there) free)

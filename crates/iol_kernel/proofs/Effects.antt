@@ -15,14 +15,18 @@ use Rattle.iol_core.specs.Calls.Descriptors as fds
 use Rattle.iol_core.specs.Calls.Pools as pools
 use Rattle.iol_pool.specs.Pools.{Pool, pool_in, with_closed}
 use Rattle.iol_pool.proofs.Owning.{length-closed}
-use Rattle.iol_hold.specs.Stored.{Stored, IsTidy, IsStill}
+use Rattle.iol_hold.specs.Stored.{Stored, IsTidy, IsStill, AllSettled}
 use Rattle.iol_hold.specs.Moves.{Stays, Moves, SameLists, pool_meant}
-use Rattle.iol_hold.specs.Texts.{text_of, bufs_of, byte_at}
+use Rattle.iol_hold.specs.Texts.{text_of, bufs_of, byte_at, AllReadable}
 use Rattle.iol_hold.specs.declared.slices.Slice.{Slice}
+use Rattle.iol_hold.specs.Pages.{KeepsPages}
+use Rattle.iol_hold.specs.Releases.{FreesOnly}
+use Rattle.iol_hold.specs.Room.{lowest_of}
+use Rattle.iol_hold.proofs.Paging.{keeps_pages_frees, keeps_pages_trans}
 use Rattle.iol_hold.proofs.Counting.{tally_none}
 use Rattle.iol_hold.specs.Places.{byte_len}
 use Rattle.iol_hold.proofs.Reading.{length-text_of}
-use Rattle.iol_desc.specs.Tables.{domain_in, with_domain_in, agg_in, without_agg_in, live_aggs_in, with_fds_in}
+use Rattle.iol_desc.specs.Tables.{domain_in, with_domain_in, with_next, agg_in, with_agg_in, without_agg_in, live_aggs_in, with_fds_in}
 use Rattle.iol_kernel.specs.Views.{Pipe, state_view}
 use Rattle.iol_kernel.specs.Counted.{IsCounted, domain_uses}
 use Rattle.iol_kernel.specs.Ends.{IsOpenOnce, ends_on}
@@ -30,14 +34,14 @@ use Rattle.iol_kernel.specs.KernelState.{KernelState, machine_of, Each, IsDomain
 use Rattle.iol_kernel.proofs.Views.{pools-view, closed-view, added_pool-view, add_domain-view, with_agg-view, without_agg-view, with_fds-view, with_domain-view, domain-view, live_aggs-view, length-map'}
 use Rattle.iol_kernel.proofs.Uses.{uses-with_agg, uses-without_agg}
 use Rattle.iol_kernel.proofs.Once.{once_same}
-use Rattle.iol_kernel.proofs.Sound.{AreHeld, counted_held, domains_stay, pipes_stay, view-stays, sound_with, sound_fds, ends_open, limits_agg, limits_drop, drop_readable, add_readable, fds_stay, each-push}
+use Rattle.iol_kernel.proofs.Sound.{AreHeld, counted_held, domains_stay, pipes_stay, view-stays, sound_with, sound_fds, ends_open, limits_agg, limits_drop, drop_readable, add_readable, fds_stay, each-push, agg_readable}
 use Rattle.iol_core.specs.declared.limits.TheConstants.{MAX_AGGREGATES, MAX_AGGREGATE_BYTES, MAX_POOLS}
 use Rattle.iol_hold.proofs.Moving.{stays_trans}
 use Rattle.iol_hold.specs.Layout.{read}
 use Rattle.iol_kernel.proofs.ReadOf.{next_agg-read_of}
-use Rattle.iol_kernel.proofs.Stay.{stays_here}
+use Rattle.iol_kernel.proofs.Stay.{stays_here, pages_here}
 use Rattle.iol_kernel.specs.Adding.{AddsText}
-use Rattle.iol_kernel.specs.Calls.{AddsAgg, Answers, Leaves, KeepsPlaces}
+use Rattle.iol_kernel.specs.Calls.{MakesAgg, Answers, Leaves, KeepsPlaces}
 use Rattle.std.proofs.lemmas.List.Sums.{sum_by_push}
 
 -- a new domain
@@ -55,6 +59,7 @@ grown-sound h ds sound is = subst (λ (ys : List (Domain (List Slice))). IsSound
   counted = record { each = λ b. omega (arith, sound.counted.each b, sum_by_push (domain_uses b) h.domains new_domain) };
   tidy = sound.tidy;
   still = sound.still;
+  settled = sound.settled;
   limits = record {
     aggs = each-push (λ (x : Domain (List Slice)). Each (λ e. byte_len e.1 ≤ MAX_AGGREGATE_BYTES) x.aggs) h.domains new_domain sound.limits.aggs tt;
     few = omega (arith, sound.limits.few, sum_by_push (λ (x : Domain (List Slice)). length x.aggs) h.domains new_domain);
@@ -89,17 +94,18 @@ moved-read s t ds qs stays held e k = view-stays s t stays ds qs held t.pools e 
 
 -- a change of the tables that is the same whatever is read, while the store goes on
 pub leaves : (after : State → State) (h : KernelState) (t : Stored) (ds : List (Domain (List Slice))) (qs : List (Option (Pipe (List Slice)))) → ((f : Reading) → read_of f (record { store = t; domains = ds; pipes = qs }) ≡ after (read_of f h))
-    → Stays h.store t → Each (IsDomainReadable h.store) ds → Each (IsPipeReadable h.store) qs → IsSound (record { store = t; domains = ds; pipes = qs }) → Leaves after h (record { store = t; domains = ds; pipes = qs })
-leaves after h t ds qs reads stays e k sound = record {
+    → Stays h.store t → KeepsPages h.store t [] → Each (IsDomainReadable h.store) ds → Each (IsPipeReadable h.store) qs → IsSound (record { store = t; domains = ds; pipes = qs }) → Leaves after h (record { store = t; domains = ds; pipes = qs })
+leaves after h t ds qs reads stays pages e k sound = record {
   bytes = moved-read h.store t ds qs stays (counted_held sound.counted) e k ∙ reads (byte_at h.store);
   places = λ f keeps. reads f;
+  pages = pages;
   sound = sound;
   stays = stays;
 }
 
-pub moved-sound : (s t : Stored) (ds : List (Domain (List Slice))) (qs : List (Option (Pipe (List Slice)))) → Stays s t → IsCounted t ds qs → IsTidy t → IsStill t.arena → Each (IsDomainReadable s) ds → Each (IsPipeReadable s) qs
-    → Each (λ (d : Domain (List Slice)). Each (IsOpenEnd qs) d.fds) ds → IsOpenOnce ds → IsLimited ds qs → length t.pools ≤ 1024 → IsSound (record { store = t; domains = ds; pipes = qs })
-moved-sound s t ds qs stays counted tidy still e k fds once limits few = record {
+pub moved-sound : (s t : Stored) (ds : List (Domain (List Slice))) (qs : List (Option (Pipe (List Slice)))) → Stays s t → IsCounted t ds qs → IsTidy t → IsStill t.arena → AllSettled t → Each (IsDomainReadable s) ds → Each (IsPipeReadable s) qs
+    → Each (λ (d : Domain (List Slice)). Each (IsOpenEnd qs) d.fds) ds → IsOpenOnce ds → IsLimited ds qs → length t.pools ≤ MAX_POOLS → IsSound (record { store = t; domains = ds; pipes = qs })
+moved-sound s t ds qs stays counted tidy still settled e k fds once limits few = record {
   domains = domains_stay s t stays ds qs (counted_held counted) e;
   pipes = pipes_stay s t stays ds qs (counted_held counted) k;
   fds = fds;
@@ -107,19 +113,21 @@ moved-sound s t ds qs stays counted tidy still e k fds once limits few = record 
   counted = counted;
   tidy = tidy;
   still = still;
+  settled = settled;
   limits = limits;
   few_pools = few;
 }
 
 -- the tables change, and the store stays
 pub leaves_here : (after : State → State) (h : KernelState) (ds : List (Domain (List Slice))) → ((f : Reading) → read_of f (record h { domains = ds }) ≡ after (read_of f h)) → IsSound (record h { domains = ds }) → Leaves after h (record h { domains = ds })
-leaves_here after h ds reads sound = record { bytes = reads (byte_at h.store); places = λ f keeps. reads f; sound = sound; stays = stays_here h.store }
+leaves_here after h ds reads sound = record { bytes = reads (byte_at h.store); places = λ f keeps. reads f; pages = pages_here h.store; sound = sound; stays = stays_here h.store }
 
 -- a late refusal
 pub keeps_late : {A : Type 0} (m : State → Meaning A) (h k : KernelState) (x : Refusal) → k ≡ h → IsSound h → ((f : Reading) → first (m (read_of f h)).refusals ≡ None) → ((f : Reading) → (m (read_of f h)).Late x) → KeepsPlaces m h (Err x) k
 keeps_late {A} m h k x same sound none late = subst (λ (l : KernelState). KeepsPlaces m h (Err x) l) (sym same) (record {
   step = (of (m (machine_of h)) (none (byte_at h.store)) (late (byte_at h.store)), refl);
   places = λ f keeps. (of (m (read_of f h)) (none f) (late f), refl);
+  pages = pages_here h.store;
   refused = refl;
   sound = sound;
   stays = stays_here h.store;
@@ -128,25 +136,30 @@ keeps_late {A} m h k x same sound none late = subst (λ (l : KernelState). Keeps
     of : (n : Meaning A) → first n.refusals ≡ None → n.Late x → MatchOption (first n.refusals) (n.Late x) (λ y. x ≡ y)
     of n none late = rw none late
 
--- one change after another
-pub leaves_then : (m n : State → State) (h k l : KernelState) → Leaves m h k → Leaves n k l → Leaves (λ s. n (m s)) h l
-leaves_then m n h k l one two = record {
+same_lists : (h k : KernelState) → (machine_of k).pools ≡ (machine_of h).pools → SameLists h.store k.store
+unfolding read_of state_view
+same_lists h k same = same
+
+-- one change after another: the first leaves the pools as the machine sees them
+pub leaves_then : (m n : State → State) (h k l : KernelState) → ((s : State) → (m s).pools ≡ s.pools) → Leaves m h k → Leaves n k l → Leaves (λ s. n (m s)) h l
+leaves_then m n h k l pools one two = record {
   bytes = two.bytes ∙ ap n one.bytes;
   places = λ f keeps. two.places f keeps ∙ ap n (one.places f keeps);
+  pages = keeps_pages_trans (same_lists h k (ap (λ (s : State). s.pools) one.bytes ∙ pools (machine_of h))) one.pages two.pages;
   sound = two.sound;
   stays = stays_trans one.stays two.stays;
 }
 
 -- the same change, said in other words
 pub leaves_as : (m n : State → State) (h k : KernelState) → ((f : Reading) → m (read_of f h) ≡ n (read_of f h)) → Leaves m h k → Leaves n h k
-leaves_as m n h k same one = record { bytes = one.bytes ∙ same (byte_at h.store); places = λ f keeps. one.places f keeps ∙ same f; sound = one.sound; stays = one.stays }
+leaves_as m n h k same one = record { bytes = one.bytes ∙ same (byte_at h.store); places = λ f keeps. one.places f keeps ∙ same f; pages = one.pages; sound = one.sound; stays = one.stays }
 
 -- a domain gets an aggregate of new bytes
 
 adds_held : (s t : Stored) (ds : List (Domain (List Slice))) (qs : List (Option (Pipe (List Slice)))) (xs : List Slice) → IsCounted s ds qs → Moves s t [] (bufs_of xs) → AreHeld t ds qs
 adds_held s t ds qs xs counted m = record { each = λ b. omega (arith, counted.each b, m.counts.each b, tally_none b) }
 
-module _ (h : KernelState) (t : Stored) (ds : List (Domain (List Slice))) (d : ℕ) (text : Text) (sound : IsSound h) (adds : AddsText h.store t h.domains ds d text) where
+module _ (h : KernelState) (t : Stored) (ds : List (Domain (List Slice))) (d : ℕ) (text : Text) (placed : List ℕ) (sound : IsSound h) (adds : AddsText h.store t h.domains ds d text placed) where
   placed-read : (f : Reading) → read_of f (record h { store = t; domains = ds }) ≡ aggs.with_agg (read_of f h) d (read f adds.slices)
   unfolding read_of
   placed-read f =
@@ -164,25 +177,37 @@ module _ (h : KernelState) (t : Stored) (ds : List (Domain (List Slice))) (d : �
       ∙ ap (λ (x : State). aggs.with_agg x d (text_of t adds.slices)) held-read
       ∙ ap (aggs.with_agg (machine_of h) d) adds.is_text
 
-  -- nothing else changes, whatever is read
-  pub placed_alone : AddsAgg d h (record h { store = t; domains = ds })
-  placed_alone = record { slices = adds.slices; each = placed-read }
-
-pub placed-sound : (h : KernelState) (t : Stored) (ds : List (Domain (List Slice))) (d : ℕ) (text : Text) → IsSound h → (domain_in h.domains d).live ≡ true → live_aggs_in h.domains < MAX_AGGREGATES → length text ≤ MAX_AGGREGATE_BYTES → AddsText h.store t h.domains ds d text → IsSound (record h { store = t; domains = ds })
-placed-sound h t ds d text sound live few small adds =
-    let held = adds_held h.store t h.domains h.pipes adds.slices sound.counted adds.moves in
+-- a domain gets an aggregate of these slices
+pub gained-sound : (h : KernelState) (t : Stored) (ds : List (Domain (List Slice))) (d : ℕ) (xs : List Slice) → IsSound h → (domain_in h.domains d).live ≡ true → live_aggs_in h.domains < MAX_AGGREGATES → byte_len xs ≤ MAX_AGGREGATE_BYTES → AllReadable t xs → Moves h.store t [] (bufs_of xs) → AllSettled t → t.pools ≡ h.store.pools
+    → ds ≡ with_agg_in h.domains d xs → IsSound (record h { store = t; domains = ds })
+gained-sound h t ds d xs sound live few small readable moves settled pools added =
+    let held = adds_held h.store t h.domains h.pipes xs sound.counted moves in
     let x : Domain (List Slice) = domain_in h.domains d in
-    subst (λ (xs : List (Domain (List Slice))). IsSound (record h { store = t; domains = xs })) (sym adds.added) (record {
-      domains = add_readable t h.domains d adds.slices (domains_stay h.store t adds.moves.stays h.domains h.pipes held sound.domains) adds.readable;
-      pipes = pipes_stay h.store t adds.moves.stays h.domains h.pipes held sound.pipes;
-      fds = fds_stay h.pipes h.domains d (record x { aggs = x.aggs ++ (x.next_agg, adds.slices) ∷ []; next_agg = x.next_agg + 1 }) sound.fds refl;
-      once = once_same h.domains d (record x { aggs = x.aggs ++ (x.next_agg, adds.slices) ∷ []; next_agg = x.next_agg + 1 }) live refl sound.once;
-      counted = record { each = λ b. omega (arith, sound.counted.each b, adds.moves.counts.each b, tally_none b, uses-with_agg b h.domains d adds.slices live) };
-      tidy = adds.moves.tidy sound.tidy;
-      still = adds.moves.still sound.still;
-      limits = limits_agg h.domains h.pipes d adds.slices sound.limits live (omega (arith, small, ap length adds.is_text, length-text_of t adds.slices)) few;
-      few_pools = omega (arith, sound.few_pools, ap length adds.pools);
+    subst (λ (ys : List (Domain (List Slice))). IsSound (record h { store = t; domains = ys })) (sym added) (record {
+      domains = add_readable t h.domains d xs (domains_stay h.store t moves.stays h.domains h.pipes held sound.domains) readable;
+      pipes = pipes_stay h.store t moves.stays h.domains h.pipes held sound.pipes;
+      fds = fds_stay h.pipes h.domains d (with_next x xs) sound.fds refl;
+      once = once_same h.domains d (with_next x xs) live refl sound.once;
+      counted = record { each = λ b. omega (arith, sound.counted.each b, moves.counts.each b, tally_none b, uses-with_agg b h.domains d xs live) };
+      tidy = moves.tidy sound.tidy;
+      still = moves.still sound.still;
+      settled = settled;
+      limits = limits_agg h.domains h.pipes d xs sound.limits live small few;
+      few_pools = omega (arith, sound.few_pools, ap length pools);
     })
+
+pub placed-sound : (h : KernelState) (t : Stored) (ds : List (Domain (List Slice))) (d : ℕ) (text : Text) (placed : List ℕ) → IsSound h → (domain_in h.domains d).live ≡ true → live_aggs_in h.domains < MAX_AGGREGATES → length text ≤ MAX_AGGREGATE_BYTES → AddsText h.store t h.domains ds d text placed → IsSound (record h { store = t; domains = ds })
+placed-sound h t ds d text placed sound live few small adds =
+    gained-sound h t ds d adds.slices sound live few (omega (arith, small, ap length adds.is_text, length-text_of t adds.slices)) adds.readable adds.moves (adds.settles sound.settled) adds.pools adds.added
+
+-- nothing else changes, whatever is read
+pub placed_alone : (h : KernelState) (t : Stored) (ds : List (Domain (List Slice))) (d pool n : ℕ) (text : Text) → IsSound h → AddsText h.store t h.domains ds d text (lowest_of h.store pool n) → MakesAgg d pool n h (record h { store = t; domains = ds })
+placed_alone h t ds d pool n text sound adds = record {
+  slices = adds.slices;
+  each = placed-read h t ds d text (lowest_of h.store pool n) sound adds;
+  made_on = adds.made_on;
+  pages = adds.pages;
+}
 
 -- lists that the machine cannot tell apart are as long
 pub same_length : (s t : Stored) → SameLists s t → length s.pools ≤ 1024 → length t.pools ≤ 1024
@@ -191,7 +216,7 @@ same_length s t lists few = omega (arith, few, ap length lists, length-map' pool
 -- a domain gives an aggregate up
 
 module _ (h : KernelState) (t : Stored) (ds : List (Domain (List Slice))) (d a : ℕ) (xs : List Slice) (sound : IsSound h) (live : (domain_in h.domains d).live ≡ true) (found : Some xs ≡ agg_in h.domains d a)
-    (rest : ds ≡ without_agg_in h.domains d a) (moves : Moves h.store t (bufs_of xs) []) (lists : SameLists h.store t) where
+    (rest : ds ≡ without_agg_in h.domains d a) (moves : Moves h.store t (bufs_of xs) []) (lists : SameLists h.store t) (frees : FreesOnly h.store t) (settles : AllReadable h.store xs → AllSettled h.store → AllSettled t) where
   dropped_counted : IsCounted t (without_agg_in h.domains d a) h.pipes
   dropped_counted = record { each = λ b. omega (arith, sound.counted.each b, moves.counts.each b, tally_none b, uses-without_agg b h.domains d a xs live found) }
 
@@ -204,11 +229,11 @@ module _ (h : KernelState) (t : Stored) (ds : List (Domain (List Slice))) (d a :
 
   dropped-sound : IsSound (record h { store = t; domains = ds })
   dropped-sound = subst (λ (ys : List (Domain (List Slice))). IsSound (record h { store = t; domains = ys })) (sym rest)
-      (moved-sound h.store t (without_agg_in h.domains d a) h.pipes moves.stays dropped_counted (moves.tidy sound.tidy) (moves.still sound.still) (drop_readable h d a sound) sound.pipes
+      (moved-sound h.store t (without_agg_in h.domains d a) h.pipes moves.stays dropped_counted (moves.tidy sound.tidy) (moves.still sound.still) (settles (agg_readable h d a xs sound found) sound.settled) (drop_readable h d a sound) sound.pipes
       (fds_stay h.pipes h.domains d _ sound.fds refl) (once_same h.domains d _ live refl sound.once) (limits_drop h.domains h.pipes d a xs sound.limits live found) (same_length h.store t lists sound.few_pools))
 
   pub dropped : Leaves (λ s. aggs.without_agg s d a) h (record h { store = t; domains = ds })
-  dropped = leaves (λ s. aggs.without_agg s d a) h t ds h.pipes dropped-read moves.stays (subst (λ (ys : List (Domain (List Slice))). Each (IsDomainReadable h.store) ys) (sym rest) (drop_readable h d a sound)) sound.pipes dropped-sound
+  dropped = leaves (λ s. aggs.without_agg s d a) h t ds h.pipes dropped-read moves.stays (keeps_pages_frees frees) (subst (λ (ys : List (Domain (List Slice))). Each (IsDomainReadable h.store) ys) (sym rest) (drop_readable h d a sound)) sound.pipes dropped-sound
 
 -- one pool more, or as many
 pub one_more_pool : (s t : Stored) (x : machine.Pool) → map pool_meant t.pools ≡ map pool_meant s.pools ++ x ∷ [] → length s.pools < 1024 → length t.pools ≤ 1024
@@ -219,12 +244,12 @@ as_many_pools s t p closed few = omega (arith, few, ap length closed, length-map
 
 -- pools come and go; nothing is placed and nothing given up
 
-module _ (h : KernelState) (t : Stored) (sound : IsSound h) (moves : Moves h.store t [] []) where
+module _ (h : KernelState) (t : Stored) (sound : IsSound h) (moves : Moves h.store t [] []) (settles : AllSettled h.store → AllSettled t) (pages : KeepsPages h.store t []) where
   unmoved_counted : IsCounted t h.domains h.pipes
   unmoved_counted = record { each = λ b. omega (arith, sound.counted.each b, moves.counts.each b, tally_none b) }
 
   unmoved-sound : length t.pools ≤ MAX_POOLS → IsSound (record h { store = t })
-  unmoved-sound few = moved-sound h.store t h.domains h.pipes moves.stays unmoved_counted (moves.tidy sound.tidy) (moves.still sound.still) sound.domains sound.pipes sound.fds sound.once sound.limits few
+  unmoved-sound few = moved-sound h.store t h.domains h.pipes moves.stays unmoved_counted (moves.tidy sound.tidy) (moves.still sound.still) (settles sound.settled) sound.domains sound.pipes sound.fds sound.once sound.limits few
 
   pooled-read : (list : List ℕ) → map pool_meant t.pools ≡ map pool_meant h.store.pools ++ record { domains = list; closed = false } ∷ [] → (f : Reading) → read_of f (record h { store = t }) ≡ record (read_of f h) { pools = (read_of f h).pools ++ record { domains = list; closed = false } ∷ [] }
   unfolding read_of
@@ -235,10 +260,10 @@ module _ (h : KernelState) (t : Stored) (sound : IsSound h) (moves : Moves h.sto
   pool_closed-read p closed f = closed-view (read f) h.domains h.store.pools t.pools h.pipes p closed
 
   pub pooled : (list : List ℕ) → map pool_meant t.pools ≡ map pool_meant h.store.pools ++ record { domains = list; closed = false } ∷ [] → length h.store.pools < MAX_POOLS → Leaves (λ s. record s { pools = s.pools ++ record { domains = list; closed = false } ∷ [] }) h (record h { store = t })
-  pooled list added few = leaves (λ s. record s { pools = s.pools ++ record { domains = list; closed = false } ∷ [] }) h t h.domains h.pipes (pooled-read list added) moves.stays sound.domains sound.pipes (unmoved-sound (one_more_pool h.store t _ added few))
+  pooled list added few = leaves (λ s. record s { pools = s.pools ++ record { domains = list; closed = false } ∷ [] }) h t h.domains h.pipes (pooled-read list added) moves.stays pages sound.domains sound.pipes (unmoved-sound (one_more_pool h.store t _ added few))
 
   pub pool_closed : (p : ℕ) → map pool_meant t.pools ≡ map pool_meant (with_closed h.store.pools p) → Leaves (λ s. record s { pools = with_numbered s.pools p (record (machine.pool s p) { closed = true }) }) h (record h { store = t })
-  pool_closed p closed = leaves (λ s. record s { pools = with_numbered s.pools p (record (machine.pool s p) { closed = true }) }) h t h.domains h.pipes (pool_closed-read p closed) moves.stays sound.domains sound.pipes (unmoved-sound (as_many_pools h.store t p closed sound.few_pools))
+  pool_closed p closed = leaves (λ s. record s { pools = with_numbered s.pools p (record (machine.pool s p) { closed = true }) }) h t h.domains h.pipes (pool_closed-read p closed) moves.stays pages sound.domains sound.pipes (unmoved-sound (as_many_pools h.store t p closed sound.few_pools))
 
 -- a domain's descriptors change
 

@@ -1,5 +1,5 @@
 -- Ends of pipes stay open where a pipe is added or its queue changes.
-use Rattle.std.proofs.Common.{◌≡◌, ◌≢◌, ℕ, ◌<◌, ◌≤◌, List, [], ◌∷◌, length, ap, ◌∙◌, sym, arith, Option, Some, None, true, false, inl, inr, ◌⊎◌}
+use Rattle.std.proofs.Common.{◌≡◌, ◌≢◌, ℕ, zero, suc, ◌<◌, ◌≤◌, List, [], ◌∷◌, length, ap, ◌∙◌, sym, arith, Option, Some, None, true, false, inl, inr, ◌⊎◌}
 use Rattle.std.specs.Prelude.{slice_set, unwrap_or}
 use Rattle.std.proofs.lemmas.Bool.{cases_lt, cases_eq}
 use Rattle.std.proofs.lemmas.Bool.Decides.{nat_tests}
@@ -131,4 +131,9 @@ there_if_reading qs p r = λ none. some_end qs p none (inl r)
 pub there_if_writing : (qs : Pipes) (p : ℕ) → (queue_at qs p).writing ≡ true → in_place qs p ≢ None
 there_if_writing qs p w = λ none. some_end qs p none (inr w)
 
-pub ruleset there_rules = (there_if_reading, there_if_writing)
+pub there_still : {A : Type 0} (xs : List (Option A)) (n : ℕ) (x : A) → in_place xs n ≢ None → in_place (slice_set xs n (Some x)) n ≢ None
+there_still [] n x there = there
+there_still (y ∷ xs) zero x there = λ none. cc
+there_still (y ∷ xs) (suc n) x there = there_still xs n x there
+
+pub ruleset there_rules = (there_if_reading, there_if_writing, there_still)

@@ -93,7 +93,7 @@ module _ (h : KernelState) (ds : List (Domain (List Slice))) (d a e : ℕ) (live
       subst (λ (ys : List (Domain (List Slice))). IsSound (record h { domains = ys })) (sym moved)
       (moved-sound h.store h.store (with_agg_in rest e xs) h.pipes (stays_here h.store)
       (record { each = λ b. omega (arith, sound.counted.each b, uses-without_agg b h.domains d a xs live found, uses-with_agg b rest e xs live') })
-      sound.tidy sound.still (add_readable h.store rest e xs (drop_readable h d a sound) (agg_readable h d a xs sound found)) sound.pipes
+      sound.tidy sound.still sound.settled (add_readable h.store rest e xs (drop_readable h d a sound) (agg_readable h d a xs sound found)) sound.pipes
       (fds_stay h.pipes rest e y (fds_stay h.pipes h.domains d x sound.fds refl) refl) (once_same rest e y live' refl (once_same h.domains d x live refl sound.once))
       (limits_agg rest h.pipes e xs (limits_drop h.domains h.pipes d a xs sound.limits live found) live' (agg_small h d a xs sound found) few) sound.few_pools)
 

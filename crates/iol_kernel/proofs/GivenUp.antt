@@ -7,13 +7,16 @@ use Rattle.iol_core.specs.Text.{Text}
 use Rattle.iol_core.specs.State as machine
 use Rattle.iol_core.specs.State.{Domain, no_domain}
 use Rattle.iol_core.specs.declared.numbers.BufId.{BufId}
-use Rattle.iol_hold.specs.Stored.{Stored}
-use Rattle.iol_hold.specs.Moves.{tally, Moves, Covers, SameLists}
+use Rattle.iol_hold.specs.Stored.{Stored, AllSettled}
+use Rattle.iol_hold.specs.Moves.{tally, Moves, Covers, SameLists, Stays}
 use Rattle.iol_hold.specs.Places.{byte_len}
-use Rattle.iol_hold.specs.Texts.{text_of, bufs_of}
+use Rattle.iol_hold.specs.Texts.{bufs_of, AllReadable}
 use Rattle.iol_hold.specs.declared.slices.Slice.{Slice}
 use Rattle.iol_hold.proofs.Counting.{tally-append, tally_none}
+use Rattle.iol_hold.specs.Releases.{FreesOnly}
 use Rattle.iol_hold.proofs.Moving.{stays_trans}
+use Rattle.iol_hold.proofs.Paging.{keeps_pages_frees}
+use Rattle.iol_hold.proofs.Reading.{readable_stays}
 use Rattle.iol_desc.specs.Tables.{domain_in, with_domain_in, with_aggs_in}
 use Rattle.iol_kernel.specs.Views.{state_view}
 use Rattle.iol_kernel.specs.Counted.{uses, domain_uses, bufs_in, IsCounted}
@@ -21,7 +24,7 @@ use Rattle.iol_kernel.specs.KernelState.{KernelState, Each, IsDomainReadable, Is
 use Rattle.iol_kernel.proofs.Views.{domain-view, with_domain-view, pools-view}
 use Rattle.iol_kernel.proofs.Uses.{sum-with_domain, domain_le, Domains}
 use Rattle.iol_kernel.proofs.Once.{once_same, once_fewer}
-use Rattle.iol_kernel.proofs.Sound.{each-with_domain_in, sound_with, fds_stay}
+use Rattle.iol_kernel.proofs.Sound.{aggs_readable, each-with_domain_in, sound_with, fds_stay}
 use Rattle.iol_kernel.proofs.Effects.{moved-sound, same_length, leaves, leaves_here}
 use Rattle.iol_core.specs.declared.limits.TheConstants.{MAX_AGGREGATE_BYTES}
 use Rattle.iol_hold.specs.Layout.{read}
@@ -52,6 +55,24 @@ last_released s t u all es rest n x is m k = record {
   tidy = λ h. k.tidy (m.tidy h);
 }
 
+each-front : {A : Type 0} (P : A → Type 0) (xs : List A) (x : A) → Each P (xs ++ x ∷ []) → Each P xs
+each-front P [] x e = tt
+each-front P (y ∷ xs) x e = (e.0, each-front P xs x e.1)
+
+each-last : {A : Type 0} (P : A → Type 0) (xs : List A) (x : A) → Each P (xs ++ x ∷ []) → P x
+each-last P [] x e = e.0
+each-last P (y ∷ xs) x e = each-last P xs x e.1
+
+-- what can be read of each aggregate
+abbrev pub AreReadable : Stored → List (ℕ × List Slice) → Type 0
+AreReadable s es = Each (λ e. AllReadable s e.1) es
+
+pub front_readable : (s : Stored) (es rest : List (ℕ × List Slice)) (n : ℕ) (x : List Slice) → es ≡ rest ++ (n, x) ∷ [] → AreReadable s es → AreReadable s rest
+front_readable s es rest n x is e = each-front (λ (e : ℕ × List Slice). AllReadable s e.1) rest (n, x) (subst (AreReadable s) is e)
+
+pub last_readable : (s t : Stored) (es rest : List (ℕ × List Slice)) (n : ℕ) (x : List Slice) → es ≡ rest ++ (n, x) ∷ [] → Stays s t → Covers t (bufs_of x) → AreReadable s es → AllReadable t x
+last_readable s t es rest n x is stays covers e = readable_stays x stays covers (each-last (λ (e : ℕ × List Slice). AllReadable s e.1) rest (n, x) (subst (AreReadable s) is e))
+
 -- all of a domain
 
 pub all_covered : (h : KernelState) (d : ℕ) (es : List (ℕ × List Slice)) → IsSound h → (domain_in h.domains d).live ≡ true → es ≡ (domain_in h.domains d).aggs → Covers h.store (bufs_in es)
@@ -60,7 +81,7 @@ all_covered h d es sound live is = record {
 }
 
 module _ (h : KernelState) (t : Stored) (ds : Domains) (d : ℕ) (es : List (ℕ × List Slice)) (sound : IsSound h) (live : (domain_in h.domains d).live ≡ true) (all : es ≡ (domain_in h.domains d).aggs)
-    (rest : ds ≡ with_aggs_in h.domains d []) (moves : Moves h.store t (bufs_in es) []) (lists : SameLists h.store t) where
+    (rest : ds ≡ with_aggs_in h.domains d []) (moves : Moves h.store t (bufs_in es) []) (lists : SameLists h.store t) (frees : FreesOnly h.store t) (settles : Each (λ (e : ℕ × List Slice). AllReadable h.store e.1) es → AllSettled h.store → AllSettled t) where
   abbrev emptied : Domain (List Slice)
   emptied = record (domain_in h.domains d) { aggs = [] }
 
@@ -98,11 +119,11 @@ module _ (h : KernelState) (t : Stored) (ds : Domains) (d : ℕ) (es : List (ℕ
 
   emptied-sound : IsSound (record h { store = t; domains = ds })
   emptied-sound = subst (λ (ys : Domains). IsSound (record h { store = t; domains = ys })) (sym rest)
-      (moved-sound h.store t (with_domain_in h.domains d emptied) h.pipes moves.stays emptied_counted (moves.tidy sound.tidy) (moves.still sound.still) emptied_good sound.pipes
+      (moved-sound h.store t (with_domain_in h.domains d emptied) h.pipes moves.stays emptied_counted (moves.tidy sound.tidy) (moves.still sound.still) (settles (subst (λ (l : List (ℕ × List Slice)). Each (λ e. AllReadable h.store e.1) l) (sym all) (aggs_readable h d sound)) sound.settled) emptied_good sound.pipes
       (fds_stay h.pipes h.domains d emptied sound.fds refl) (once_same h.domains d emptied live refl sound.once) emptied_limits (same_length h.store t lists sound.few_pools))
 
   pub aggs_dropped : Leaves (λ s. machine.with_domain s d (record (machine.domain s d) { aggs = [] })) h (record h { store = t; domains = ds })
-  aggs_dropped = leaves (λ s. machine.with_domain s d (record (machine.domain s d) { aggs = [] })) h t ds h.pipes emptied-read moves.stays (subst (λ (ys : Domains). Each (IsDomainReadable h.store) ys) (sym rest) emptied_good) sound.pipes emptied-sound
+  aggs_dropped = leaves (λ s. machine.with_domain s d (record (machine.domain s d) { aggs = [] })) h t ds h.pipes emptied-read moves.stays (keeps_pages_frees frees) (subst (λ (ys : Domains). Each (IsDomainReadable h.store) ys) (sym rest) emptied_good) sound.pipes emptied-sound
 
 -- and the domain itself
 

@@ -93,6 +93,7 @@ piped-sound h ds qs d sound live few domains' pipes' =
       counted = record { each = λ b. omega (arith, sound.counted.each b, uses-placed b h.pipes empty, tally_none b) };
       tidy = sound.tidy;
       still = sound.still;
+      settled = sound.settled;
       few_pools = sound.few_pools;
       limits = record {
         aggs = sound.limits.aggs;

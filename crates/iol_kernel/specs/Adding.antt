@@ -2,7 +2,9 @@
 use Rattle.std.specs.Prelude.{◌≡◌, ℕ, ◌++◌, List, [], take, drop, take_while}
 use Rattle.iol_core.specs.Text.{Text}
 use Rattle.iol_core.specs.State.{Domain}
-use Rattle.iol_hold.specs.Stored.{Stored}
+use Rattle.iol_arena.specs.Pages.{MadeOn}
+use Rattle.iol_hold.specs.Pages.{KeepsPages}
+use Rattle.iol_hold.specs.Stored.{Stored, AllSettled}
 use Rattle.iol_hold.specs.Moves.{Moves, Shares}
 use Rattle.iol_hold.specs.Places.{Place, places, byte_len}
 use Rattle.iol_hold.specs.Texts.{text_of, bufs_of, AllReadable}
@@ -21,12 +23,15 @@ pub record AddsShared (s t : Stored) (old new : List (Domain (List Slice))) (d :
   pub shares : Shares s t [] (bufs_of slices)
   pub added : new ≡ with_agg_in old d slices
 
--- a domain got an aggregate of this text, in new buffers
-pub record AddsText (s t : Stored) (old new : List (Domain (List Slice))) (d : ℕ) (text : Text) : Type 0 where
+-- a domain got an aggregate of this text, in new buffers that were made on these pages
+pub record AddsText (s t : Stored) (old new : List (Domain (List Slice))) (d : ℕ) (text : Text) (placed : List ℕ) : Type 0 where
   pub slices : List Slice
   pub is_text : text_of t slices ≡ text
   pub readable : AllReadable t slices
   pub moves : Moves s t [] (bufs_of slices)
+  pub made_on : MadeOn s.arena t.arena (bufs_of slices) placed
+  pub pages : KeepsPages s t placed
+  pub settles : AllSettled s → AllSettled t
   pub pools : t.pools ≡ s.pools
   pub added : new ≡ with_agg_in old d slices
 

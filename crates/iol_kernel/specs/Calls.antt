@@ -1,12 +1,16 @@
 -- What a call does to what a system holds, said of the copying machine whatever is read at the places of bytes.
-use Rattle.std.specs.Prelude.{◌≡◌, ℕ, ◌⊎◌, true, false, List, Some, Result, Err, OnErr}
+use Rattle.std.specs.Prelude.{◌≡◌, ℕ, ◌⊎◌, true, false, List, [], Some, Result, Err, OnErr}
 use Rattle.iol_core.specs.State.{State, is_live, text}
 use Rattle.iol_core.specs.Meaning.{Meaning, Step}
 use Rattle.iol_core.specs.Calls.Aggregates.{lacks_agg, with_agg}
 use Rattle.iol_core.specs.declared.refusals.Refusal.{Refusal}
 use Rattle.iol_core.specs.declared.refusals.Refusal.TheVariants.{NoDomain, BadAgg, NoRoom}
 use Rattle.iol_hold.specs.Layout.{read, KeepsPools}
+use Rattle.iol_arena.specs.Pages.{MadeOn}
 use Rattle.iol_hold.specs.Moves.{Stays}
+use Rattle.iol_hold.specs.Pages.{KeepsPages}
+use Rattle.iol_hold.specs.Room.{lowest_of}
+use Rattle.iol_hold.specs.Texts.{bufs_of}
 use Rattle.iol_hold.specs.declared.slices.Slice.{Slice}
 use Rattle.iol_desc.specs.Tables.{agg_in}
 use Rattle.iol_kernel.specs.KernelState.{KernelState, Reading, read_of, machine_of, IsSound}
@@ -24,10 +28,11 @@ pub record CarriesOut {A : Type 0} (m : State → Meaning A) (old : KernelState)
   pub stays : Stays old.store new.store
 
 -- The machine's step, of bytes and of places: what the call leaves lies where it lay.
--- Pages and chunks may be freed or taken, and none is published.
+-- Pages and chunks may be freed or taken; no page is raised, and an open pool keeps its chunks.
 pub record KeepsPlaces {A : Type 0} (m : State → Meaning A) (old : KernelState) (r : Result A Refusal) (new : KernelState) : Type 0 where
   pub step : Step (m (machine_of old)) (machine_of old) r (machine_of new)
   pub places : (f : Reading) → KeepsPools f → Step (m (read_of f old)) (read_of f old) r (read_of f new)
+  pub pages : KeepsPages old.store new.store []
   pub refused : OnErr r (new ≡ old)
   pub sound : IsSound new
   pub stays : Stays old.store new.store
@@ -45,13 +50,17 @@ pub record Answers {A : Type 0} (m : State → Meaning A) (old : KernelState) (a
 pub record Leaves (after : State → State) (old new : KernelState) : Type 0 where
   pub bytes : machine_of new ≡ after (machine_of old)
   pub places : (f : Reading) → KeepsPools f → read_of f new ≡ after (read_of f old)
+  pub pages : KeepsPages old.store new.store []
   pub sound : IsSound new
   pub stays : Stays old.store new.store
 
--- One aggregate more of a domain, of these slices, and nothing else: whatever is read, the rest lies where it lay.
-pub record AddsAgg (d : ℕ) (old new : KernelState) : Type 0 where
+-- A domain gets an aggregate of n new bytes in a pool, and nothing else changes: whatever is read, the rest lies where it
+-- lay. Its buffers are made on the lowest free pages of the pool, each of which is raised by one.
+pub record MakesAgg (d pool n : ℕ) (old new : KernelState) : Type 0 where
   pub slices : List Slice
   pub each : (f : Reading) → read_of f new ≡ with_agg (read_of f old) d (read f slices)
+  pub made_on : MadeOn old.store.arena new.store.arena (bufs_of slices) (lowest_of old.store pool n)
+  pub pages : KeepsPages old.store new.store (lowest_of old.store pool n)
 
 -- the domain is live, and its aggregate is these slices
 pub record IsFound (h : KernelState) (d a : ℕ) (xs : List Slice) : Type 0 where

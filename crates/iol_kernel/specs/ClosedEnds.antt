@@ -2,9 +2,10 @@
 use Rattle.std.specs.Prelude.{◌≡◌, ℕ, ◌+◌, ◌≤◌, false, ◌||◌, if◌then◌else◌, List, [], Option, Some, None, slice_set}
 use Rattle.iol_core.specs.State.{Domain}
 use Rattle.iol_core.specs.declared.descriptors.Descriptor.{Descriptor}
-use Rattle.iol_hold.specs.Stored.{Stored}
+use Rattle.iol_hold.specs.Releases.{FreesOnly}
+use Rattle.iol_hold.specs.Stored.{Stored, AllSettled}
 use Rattle.iol_hold.specs.Moves.{Moves, SameLists}
-use Rattle.iol_hold.specs.Texts.{bufs_of}
+use Rattle.iol_hold.specs.Texts.{bufs_of, AllReadable}
 use Rattle.iol_hold.specs.declared.slices.Slice.{Slice}
 use Rattle.iol_kernel.specs.Views.{Pipe}
 use Rattle.iol_kernel.specs.Ends.{same_end, ends_on, all_ends_on}
@@ -27,6 +28,8 @@ pub record ClosesEnd (s t : Stored) (old new : List (Option (Pipe (List Slice)))
   pub pipes : new ≡ with_pipe_in old p x
   pub moves : Moves s t (bufs_of (queue_at old p).queue) (bufs_of x.queue)
   pub lists : SameLists s t
+  pub frees : FreesOnly s t
+  pub settles : AllReadable s (queue_at old p).queue → AllSettled s → AllSettled t
 
 -- what a domain's numbers were open on: each end is open, and in no other descriptor
 pub record AreTaken (domains : List (Domain (List Slice))) (pipes : List (Option (Pipe (List Slice)))) (ends : List (Option Descriptor)) : Type 0 where

@@ -28,8 +28,8 @@ Answers m old a new = calls.Answers m (state_of old) a (state_of new)
 abbrev pub Leaves : (State → State) → Kernel → Kernel → Type 0
 Leaves after old new = calls.Leaves after (state_of old) (state_of new)
 
-abbrev pub AddsAgg : (d : ℕ) → (old new : Kernel) → Type 0
-AddsAgg d old new = calls.AddsAgg d (state_of old) (state_of new)
+abbrev pub MakesAgg : (d pool n : ℕ) → (old new : Kernel) → Type 0
+MakesAgg d pool n old new = calls.MakesAgg d pool n (state_of old) (state_of new)
 
 abbrev pub IsFound : Kernel → (d a : ℕ) → List Slice → Type 0
 IsFound k d a xs = calls.IsFound (state_of k) d a xs

@@ -4,7 +4,7 @@ use Rattle.iol_core.specs.State as machine
 use Rattle.iol_core.specs.declared.descriptors.Descriptor.{Descriptor}
 use Rattle.iol_core.specs.declared.descriptors.Descriptor.TheVariants as on
 use Rattle.iol_core.specs.declared.limits.TheConstants.{MAX_AGGREGATE_BYTES, MAX_AGGREGATES, MAX_QUEUE_BYTES, MAX_PIPES, MAX_POOLS}
-use Rattle.iol_hold.specs.Stored.{Stored, IsTidy, IsStill}
+use Rattle.iol_hold.specs.Stored.{Stored, IsTidy, IsStill, AllSettled}
 use Rattle.iol_hold.specs.Places.{Place, byte_len}
 use Rattle.iol_hold.specs.Layout.{read, number_at}
 use Rattle.iol_hold.specs.Texts.{byte_at, AllReadable}
@@ -83,7 +83,8 @@ pub record IsLimited (domains : List (machine.Domain (List Slice))) (pipes : Lis
   pub few_pipes : length pipes ≤ MAX_PIPES
 
 -- Between any two events: what aggregates and queues name lies in live buffers of their pools, each buffer is counted
--- for each of its slices and no page is lost, and descriptors are open on open ends of pipes, each on one of its own.
+-- for each of its slices, no page is lost and no closed pool keeps chunks in which nothing lies, and descriptors are
+-- open on open ends of pipes, each on one of its own.
 pub record IsSound (h : KernelState) : Type 0 where
   pub domains : Each (IsDomainReadable h.store) h.domains
   pub pipes : Each (IsPipeReadable h.store) h.pipes
@@ -92,5 +93,6 @@ pub record IsSound (h : KernelState) : Type 0 where
   pub counted : IsCounted h.store h.domains h.pipes
   pub tidy : IsTidy h.store
   pub still : IsStill h.store.arena
+  pub settled : AllSettled h.store
   pub limits : IsLimited h.domains h.pipes
   pub few_pools : length h.store.pools ≤ MAX_POOLS

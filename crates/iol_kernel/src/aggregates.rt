@@ -23,14 +23,14 @@ use iol_core::refusals::Refusal;
 use std::alloc::AllocError;
 
 impl Kernel {
-    ghost use Rattle.iol_kernel.specs.Kernel.{state_of, as_read, AddsAgg, CarriesOut, KeepsPlaces, Answers, Leaves};
+    ghost use Rattle.iol_kernel.specs.Kernel.{state_of, as_read, MakesAgg, CarriesOut, KeepsPlaces, Answers, Leaves};
 
     /// Places bytes in the caller's default pool, as its next aggregate.
     #[tactic(auto, using(crate::proofs::Stay::stay_rules))]
     pub fn agg_make(&mut self, by: DomainId, bytes: &Bytes) -> Result<AggId, Refusal>
         requires { IsSound (state_of self.old) }
         ensures step { Step (calls.agg_make (machine_of (state_of self.old)) by bytes.now) (machine_of (state_of self.old)) result (machine_of (state_of self.new)) }
-        ensures others { OnOk result (AddsAgg by self.old self.new) }
+        ensures made { OnOk result (MakesAgg by (default_pool (machine_of (state_of self.old)) by) (length bytes.now) self.old self.new) }
         ensures refused { OnErr result (state_of self.new ≡ state_of self.old) }
         ensures sound { IsSound (state_of self.new) }
         ensures stays { Stays self.old.store self.new.store }
@@ -74,7 +74,7 @@ impl Kernel {
         requires open { (state.pool (machine_of (state_of self.old)) pool).closed ≡ false }
         ensures number { IfOk result (λ n. n ≡ calls.next_agg (machine_of (state_of self.old)) by) }
         ensures placed { OnOk result (machine_of (state_of self.new) ≡ calls.with_agg (machine_of (state_of self.old)) by (labelled pool bytes.now)) }
-        ensures others { OnOk result (AddsAgg by self.old self.new) }
+        ensures made { OnOk result (MakesAgg by pool (length bytes.now) self.old self.new) }
         ensures sound { IsSound (state_of self.new) }
         ensures stays { Stays self.old.store self.new.store }
         ensures room { OnOk result (has_room self.old.store pool (length bytes.now) ≡ true) }

@@ -3,7 +3,9 @@ ghost use Rattle.std.specs.Prelude.{◌≡◌, ℕ, ◌+◌, ◌-◌, ◌<◌, �
 ghost use Rattle.iol_core.specs.Numbered.{lowest, placed, taken};
 ghost use Rattle.iol_hold.specs.Moves.{Covers, IsCountable, Moves, SameLists, Shares};
 ghost use Rattle.iol_hold.specs.Places.{byte_len, places};
-ghost use Rattle.iol_hold.specs.Texts.{bufs_of};
+ghost use Rattle.iol_hold.specs.Releases.{FreesOnly};
+ghost use Rattle.iol_hold.specs.Stored.{AllSettled};
+ghost use Rattle.iol_hold.specs.Texts.{bufs_of, AllReadable};
 ghost use Rattle.iol_pipe.specs.Queue.{first_pool, may_see};
 ghost use Rattle.iol_kernel.specs.ClosedEnds.{without_reader, without_writer, ClosesEnd};
 ghost use Rattle.iol_kernel.specs.KernelState.{queue_at};
@@ -43,6 +45,8 @@ impl Pipe {
         ensures pipe { self.new ≡ without_reader self.old }
         ensures moves { Moves store.old store.new (bufs_of self.old.queue) (bufs_of self.new.queue) }
         ensures lists { SameLists store.old store.new }
+        ensures frees { FreesOnly store.old store.new }
+        ensures settles { AllReadable store.old self.old.queue → AllSettled store.old → AllSettled store.new }
     {
         self.queue.clear(store);
         self.reading = false;
@@ -50,13 +54,15 @@ impl Pipe {
     }
 
     /// Closes the write end, and releases what waits where nobody reads. Returns whether the read end is open.
-    #[tactic(auto, using(crate::proofs::ClosedEnds::moves_same))]
+    #[tactic(auto, using(crate::proofs::ClosedEnds::same_rules))]
     fn close_writer(&mut self, store: &mut Store) -> bool
         requires { Covers store.old (bufs_of self.old.queue) }
         ensures stays { result ≡ self.old.reading }
         ensures pipe { self.new ≡ without_writer self.old }
         ensures moves { Moves store.old store.new (bufs_of self.old.queue) (bufs_of self.new.queue) }
         ensures lists { SameLists store.old store.new }
+        ensures frees { FreesOnly store.old store.new }
+        ensures settles { AllReadable store.old self.old.queue → AllSettled store.old → AllSettled store.new }
     {
         self.writing = false;
         if self.reading {

@@ -7,6 +7,7 @@ ghost use Rattle.iol_core.specs.Numbered.{with_numbered};
 ghost use Rattle.iol_core.specs.Meaning.{WantOfRoom, first};
 ghost use Rattle.iol_core.specs.Calls.Pools as calls;
 ghost use Rattle.iol_arena.specs.Chunks.{free_chunks};
+ghost use Rattle.iol_pool.specs.Pools.{AddsPool};
 ghost use Rattle.iol_kernel.specs.KernelState.{Reading, machine_of, IsSound};
 
 use crate::kernel::Kernel;
@@ -77,6 +78,7 @@ impl Kernel {
     ) -> Result<PoolId, Refusal>
         requires { IsSound (state_of self.old) }
         ensures create { KeepsPlaces (λ s. calls.pool_create s by chunks list.now) self.old result self.new }
+        ensures chunks { OnOk result (AddsPool self.old.store.arena self.new.store.arena self.old.store.pools self.new.store.pools chunks (calls.distinct list.now)) }
         ensures room { OnOk result (chunks ≤ length (free_chunks self.old.store.arena)) }
         ensures no_room { (p : ℕ) → result ≡ Err (Refusal.NoRoom p) → length (free_chunks self.old.store.arena) < chunks }
     {
@@ -129,6 +131,7 @@ impl Kernel {
         requires few { length (machine_of (state_of self.old)).pools < MAX_POOLS }
         ensures number { IfOk result (λ n. (f : Reading) → n ≡ length (as_read f self.old).pools + 1) }
         ensures added { OnOk result (Leaves (λ s. record s { pools = s.pools ++ record { domains = names; closed = false } ∷ [] }) self.old self.new) }
+        ensures chunks { OnOk result (AddsPool self.old.store.arena self.new.store.arena self.old.store.pools self.new.store.pools chunks names) }
         ensures room { OnOk result (chunks ≤ length (free_chunks self.old.store.arena)) }
         ensures no_room { (p : ℕ) → result ≡ Err (Refusal.NoRoom p) → length (free_chunks self.old.store.arena) < chunks }
         ensures late { IfErr result (λ x. (f : Reading) → WantOfRoom (length (as_read f self.old).pools + 1) x) }

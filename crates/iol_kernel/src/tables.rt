@@ -7,12 +7,14 @@ ghost use Rattle.iol_core.specs.Meaning.{WantOfRoom};
 ghost use Rattle.iol_pool.specs.Pools.{names_in, pool_in};
 ghost use Rattle.iol_hold.specs.Moves.{Covers, IsCountable, Moves, SameLists};
 ghost use Rattle.iol_hold.specs.Places.{places, byte_len};
-ghost use Rattle.iol_hold.specs.Room.{has_room};
-ghost use Rattle.iol_hold.specs.Texts.{bufs_of};
+ghost use Rattle.iol_hold.specs.Releases.{FreesOnly};
+ghost use Rattle.iol_hold.specs.Room.{has_room, lowest_of};
+ghost use Rattle.iol_hold.specs.Stored.{AllSettled};
+ghost use Rattle.iol_hold.specs.Texts.{bufs_of, AllReadable};
 ghost use Rattle.iol_desc.specs.Tables.{domains_of, domain_in, agg_in, with_agg_in, without_agg_in};
 ghost use Rattle.iol_kernel.specs.Adding.{replaced, AddsShared, AddsText};
 ghost use Rattle.iol_kernel.specs.Counted.{bufs_in};
-ghost use Rattle.iol_kernel.specs.KernelState.{slices_in};
+ghost use Rattle.iol_kernel.specs.KernelState.{slices_in, Each};
 ghost use Rattle.iol_kernel.specs.Regrouped.{joined_in, SplitsAgg};
 
 use iol_agg::Agg;
@@ -46,7 +48,7 @@ pub(crate) fn add_bytes(
     requires small { length bytes.now ≤ MAX_AGGREGATE_BYTES }
     requires open { (pool_in store.old.pools pool).closed ≡ false }
     ensures number { IfOk result (λ n. n ≡ (domain_in (domains_of domains.old) d).next_agg) }
-    ensures added { OnOk result (AddsText store.old store.new (domains_of domains.old) (domains_of domains.new) d (labelled pool bytes.now)) }
+    ensures added { OnOk result (AddsText store.old store.new (domains_of domains.old) (domains_of domains.new) d (labelled pool bytes.now) (lowest_of store.old pool (length bytes.now))) }
     ensures room { OnOk result (has_room store.old pool (length bytes.now) ≡ true) }
     ensures no_room { (p : ℕ) → result ≡ Err (Refusal.NoRoom p) → has_room store.old pool (length bytes.now) ≡ false }
     ensures late { IfErr result (WantOfRoom pool) }
@@ -230,10 +232,13 @@ pub(crate) fn move_agg(
 }
 
 /// Releases all holds of aggregates.
+#[tactic(auto, using(crate::proofs::ClosedEnds::same_rules))]
 pub(crate) fn release_all(store: &mut Store, aggs: Taken<Agg>)
     requires { Covers store.old (bufs_in aggs) }
     ensures moves { Moves store.old store.new (bufs_in aggs) [] }
     ensures lists { SameLists store.old store.new }
+    ensures frees { FreesOnly store.old store.new }
+    ensures settles { Each (λ e. AllReadable store.old e.1) aggs → AllSettled store.old → AllSettled store.new }
 {
     let mut left = aggs;
     while let Some((_, agg)) = left.pop() {

@@ -1,13 +1,28 @@
 use Rattle.std.proofs.Common.{◌∙◌}
+use Rattle.iol_hold.proofs.Releasing.{frees_trans}
 use Rattle.iol_kernel.specs.Counted.{bufs_in}
-use Rattle.iol_kernel.proofs.GivenUp.{last_covered, last_released}
+use Rattle.iol_kernel.proofs.GivenUp.{front_readable, last_covered, last_readable, last_released}
 use Rattle.iol_kernel.proofs.tables.release_all.Goals as goal
 
 pub release-requires : goal.release-requires
 release-requires c = last_covered c.args.store.now c.loop-agg.store (bufs_in c.args.aggs) c.loop-agg.left c.pop.new.self c.in-Some.field-0-0 c.in-Some.agg c.in-Some.ensures.given c.requires c.loop-agg.invariant.moves
 
 pub loop-agg-preserved : goal.loop-agg-preserved
-loop-agg-preserved c = record {
-  moves = last_released c.args.store.now c.loop-agg.store c.release.new.store (bufs_in c.args.aggs) c.loop-agg.left c.pop.new.self c.in-Some.field-0-0 c.in-Some.agg c.in-Some.ensures.given c.loop-agg.invariant.moves c.release.ensures.moves;
-  lists = c.release.ensures.lists ∙ c.loop-agg.invariant.lists;
-}
+loop-agg-preserved c =
+    let s = c.args.store.now in
+    let t = c.loop-agg.store in
+    let es = c.loop-agg.left in
+    let rest = c.pop.new.self in
+    let n = c.in-Some.field-0-0 in
+    let x = c.in-Some.agg in
+    let is = c.in-Some.ensures.given in
+    let so_far = c.loop-agg.invariant in
+    let released = c.release.ensures in
+    let covers = last_covered s t (bufs_in c.args.aggs) es rest n x is c.requires so_far.moves in
+    record {
+      moves = last_released s t c.release.new.store (bufs_in c.args.aggs) es rest n x is so_far.moves released.moves;
+      lists = released.lists ∙ so_far.lists;
+      frees = frees_trans so_far.frees released.frees released.moves.counts;
+      readable = λ all. front_readable s es rest n x is (so_far.readable all);
+      settles = λ all settled. released.settles (last_readable s t es rest n x is so_far.moves.stays covers (so_far.readable all)) (so_far.settles all settled);
+    }

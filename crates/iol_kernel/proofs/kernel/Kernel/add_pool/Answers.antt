@@ -12,7 +12,7 @@ pub returns-clause-number : goal.returns-clause-number
 returns-clause-number c = λ f. c.in_ok-create_pool.ensures.number ∙ ap (λ n. n + 1) (sym (length_pools-read_of f (state_of c.args.self.now)))
 
 pub returns-clause-added : goal.returns-clause-added
-returns-clause-added c = pooled (state_of c.args.self.now) c.create_pool.new.self c.requires.sound c.in_ok-create_pool.ensures.moves c.args.names c.in_ok-create_pool.ensures.added
+returns-clause-added c = pooled (state_of c.args.self.now) c.create_pool.new.self c.requires.sound c.in_ok-create_pool.ensures.moves c.in_ok-create_pool.ensures.settles c.in_ok-create_pool.ensures.pages c.args.names c.in_ok-create_pool.ensures.added
     (subst (λ n. n < 1024) (length_pools-read_of _ (state_of c.args.self.now)) c.requires.few)
 
 pub returns-in_err-create_pool-clause-late : goal.returns-in_err-create_pool-clause-late

@@ -1,12 +1,12 @@
 use Rattle.std.proofs.Common.{◌∙◌, ap, sym, refl, List, Option, None}
 use Rattle.std.specs.Prelude.{Some, slice_set}
-use Rattle.iol_core.specs.State.{State}
+use Rattle.iol_core.specs.State.{State, domain}
 use Rattle.iol_core.specs.Calls.Descriptors.{closed_on, with_fds, freed}
 use Rattle.iol_core.specs.declared.descriptors.Descriptor.{Descriptor}
 use Rattle.iol_desc.specs.Tables.{domains_of, domain_in}
 use Rattle.iol_kernel.specs.Kernel.{state_of}
 use Rattle.iol_kernel.specs.KernelState.{read_of}
-use Rattle.iol_kernel.proofs.CloseAll.{closed_on-with_fds}
+use Rattle.iol_kernel.proofs.CloseAll.{closed_on-with_fds, pools-with_domain}
 use Rattle.iol_kernel.proofs.Effects.{fds-changed, leaves_here, leaves_then, leaves_as}
 use Rattle.iol_kernel.proofs.Opening.{end_held, not_none, freed-alone, freed-read_of, freed-sound}
 use Rattle.iol_kernel.proofs.ReadOf.{live_held, descriptor-read_of}
@@ -41,4 +41,4 @@ returns c =
     (freed-sound h (domains_of c.take_fd.new.self) d c.args.fd c.args.end c.requires.sound (live_held _ h d c.requires.live) (sym (descriptor-read_of _ h d c.args.fd) ∙ c.requires.open) c.take_fd.ensures) in
     leaves_as (λ s. closed_on (with_fds s d xs) (Some c.args.end)) (λ s. with_fds (closed_on s (Some c.args.end)) d (freed s d c.args.fd)) h (state_of c.close_end.new.self)
     (λ f. closed_on-with_fds (read_of f h) d xs (Some c.args.end) ∙ ap (λ (ys : List (Option Descriptor)). with_fds (closed_on (read_of f h) (Some c.args.end)) d ys) (sym (freed-read_of f h d c.args.fd)))
-    (leaves_then (λ s. with_fds s d xs) (λ s. closed_on s (Some c.args.end)) h _ (state_of c.close_end.new.self) one c.close_end.ensures.closed)
+    (leaves_then (λ s. with_fds s d xs) (λ s. closed_on s (Some c.args.end)) h _ (state_of c.close_end.new.self) (λ s. pools-with_domain s d (record (domain s d) { fds = xs })) one c.close_end.ensures.closed)

@@ -6,6 +6,7 @@ use Rattle.iol_core.specs.declared.descriptors.Descriptor.{Descriptor}
 use Rattle.iol_desc.specs.Tables.{domains_of}
 use Rattle.iol_kernel.specs.KernelState.{read_of}
 use Rattle.iol_kernel.specs.Kernel.{state_of}
+use Rattle.iol_kernel.proofs.CloseAll.{pools-with_domain}
 use Rattle.iol_kernel.proofs.Effects.{fds-changed, leaves_here, leaves_then, leaves_as}
 use Rattle.iol_kernel.proofs.ReadOf.{live_held, fds-read_of}
 use Rattle.iol_kernel.proofs.TakenEnds.{taken_ends}
@@ -31,4 +32,4 @@ returns-clause-closed c =
     (taken-sound h (domains_of c.take_fds-ends.new.self) d c.requires.sound (live_held _ h d c.requires.live) c.take_fds-ends.ensures.rest) in
     leaves_as (λ s. fold closed_on (with_fds s d []) ends) (λ s. fold closed_on (with_fds s d []) (domain s d).fds) h (state_of c.close_ends.new.self)
     (λ f. ap (λ (xs : List (Option Descriptor)). fold closed_on (with_fds (read_of f h) d []) xs) (c.deref.ensures.value ∙ c.take_fds-ends.ensures.given ∙ sym (fds-read_of f h d)))
-    (leaves_then (λ s. with_fds s d []) (λ s. fold closed_on s ends) h _ (state_of c.close_ends.new.self) one c.close_ends.ensures.closed)
+    (leaves_then (λ s. with_fds s d []) (λ s. fold closed_on s ends) h _ (state_of c.close_ends.new.self) (λ s. pools-with_domain s d (record (domain s d) { fds = [] })) one c.close_ends.ensures.closed)

@@ -11,7 +11,7 @@ use Rattle.iol_kernel.specs.KernelState.{KernelState, read_of}
 use Rattle.iol_kernel.specs.Kernel.{state_of}
 use Rattle.iol_kernel.proofs.Effects.{leaves_as, leaves_then, dropped}
 use Rattle.iol_kernel.proofs.ReadOf.{live_held, is_live-read_of}
-use Rattle.iol_kernel.proofs.CloseAll.{ended_all}
+use Rattle.iol_kernel.proofs.CloseAll.{ended_all, pools-fold, pools-with_domain}
 use Rattle.iol_kernel.proofs.GivenUp.{domain_ended}
 use Rattle.iol_kernel.proofs.Rows.{domain_in-changed}
 use Rattle.iol_kernel.proofs.kernel.Kernel.end.Goals as goal
@@ -60,4 +60,5 @@ returns c =
     let last = domain_ended l (domains_of c.end_domain.new.self) d c.close_fds.ensures.closed.sound (ap (λ (y : Domain (List Slice)). y.live) left ∙ live) (ap (λ (y : Domain (List Slice)). y.aggs) left) c.end_domain.ensures in
     leaves_as (λ s. end' (close' (drop' s))) (λ s. machine.with_domain (fold closed_on s (machine.domain s d).fds) d no_domain) h _
     (λ f. ended_all (read_of f h) d (is_live-read_of f h d ∙ live))
-    (leaves_then (λ s. close' (drop' s)) end' h l _ (leaves_then drop' close' h k l c.drop_aggs.ensures.dropped c.close_fds.ensures.closed) last)
+    (leaves_then (λ s. close' (drop' s)) end' h l _ (λ s. pools-fold (with_fds (drop' s) d []) (machine.domain (drop' s) d).fds ∙ pools-with_domain (drop' s) d _ ∙ pools-with_domain s d _)
+    (leaves_then drop' close' h k l (λ s. pools-with_domain s d _) c.drop_aggs.ensures.dropped c.close_fds.ensures.closed) last)

@@ -11,4 +11,4 @@ pub returns-clause-idle : goal.returns-clause-idle
 returns-clause-idle c = λ f. idle f (state_of c.args.self.now) c.args.p
 
 pub returns-clause-closed : goal.returns-clause-closed
-returns-clause-closed c = pool_closed (state_of c.args.self.now) c.close_pool.new.self c.requires.sound c.close_pool.ensures.moves c.args.p c.close_pool.ensures.closed
+returns-clause-closed c = pool_closed (state_of c.args.self.now) c.close_pool.new.self c.requires.sound c.close_pool.ensures.moves c.close_pool.ensures.settles c.close_pool.ensures.pages c.args.p c.close_pool.ensures.closed

@@ -14,4 +14,4 @@ pub returns-clause-sound : goal.returns-clause-sound
 returns-clause-sound c =
     new-sound (record { store = c.in_ok-store.store; domains = domains_of c.add_domain.new.self; pipes = c.new-2.result.places }) (c.args.config.chunks * 16)
     (c.in_ok-add_domain.ensures.ok ∙ ap (λ (rows : List (Row (List Slice))). domains_of rows ++ new_domain ∷ []) c.new-domains.ensures)
-    c.in_ok-store.ensures.entries c.in_ok-store.ensures.tidy c.new-2.ensures c.in_ok-store.ensures.pools
+    c.in_ok-store.ensures.entries c.in_ok-store.ensures.tidy c.in_ok-store.ensures.settled c.new-2.ensures c.in_ok-store.ensures.pools

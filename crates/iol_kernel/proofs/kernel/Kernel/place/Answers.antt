@@ -1,4 +1,4 @@
-use Rattle.std.proofs.Common.{◌∙◌, sym, arith, ℕ}
+use Rattle.std.proofs.Common.{◌∙◌, sym, arith, length, ℕ}
 use Rattle.std.proofs.lemmas.List.{length-map}
 use Rattle.iol_desc.specs.Tables.{domains_of}
 use Rattle.iol_hold.specs.Texts.{byte_at}
@@ -20,13 +20,13 @@ pub returns-clause-number : goal.returns-clause-number
 returns-clause-number c = c.in_ok-add_bytes.ensures.number ∙ sym (next_agg-read_of _ (state_of c.args.self.now) c.args.by)
 
 pub returns-clause-placed : goal.returns-clause-placed
-returns-clause-placed c = placed-machine (state_of c.args.self.now) c.add_bytes.new.store (domains_of c.add_bytes.new.domains) c.args.by _ c.requires.sound c.in_ok-add_bytes.ensures.added
+returns-clause-placed c = placed-machine (state_of c.args.self.now) c.add_bytes.new.store (domains_of c.add_bytes.new.domains) c.args.by _ _ c.requires.sound c.in_ok-add_bytes.ensures.added
 
-pub returns-clause-others : goal.returns-clause-others
-returns-clause-others c = placed_alone (state_of c.args.self.now) c.add_bytes.new.store (domains_of c.add_bytes.new.domains) c.args.by _ c.requires.sound c.in_ok-add_bytes.ensures.added
+pub returns-clause-made : goal.returns-clause-made
+returns-clause-made c = placed_alone (state_of c.args.self.now) c.add_bytes.new.store (domains_of c.add_bytes.new.domains) c.args.by c.args.pool (length c.args.bytes.now) _ c.requires.sound c.in_ok-add_bytes.ensures.added
 
 pub returns-clause-sound : goal.returns-clause-sound
 returns-clause-sound c =
     let h = state_of c.args.self.now in
-    placed-sound h c.add_bytes.new.store (domains_of c.add_bytes.new.domains) c.args.by _ c.requires.sound (live_held _ h c.args.by c.requires.live) (omega (arith, few_aggs (byte_at h.store) h c.args.by 1 0 c.requires.few))
+    placed-sound h c.add_bytes.new.store (domains_of c.add_bytes.new.domains) c.args.by _ _ c.requires.sound (live_held _ h c.args.by c.requires.live) (omega (arith, few_aggs (byte_at h.store) h c.args.by 1 0 c.requires.few))
     (omega (arith, length-map {B = ℕ × ℕ} c.args.bytes.now (λ b. (b, c.args.pool)), c.requires.small)) c.in_ok-add_bytes.ensures.added

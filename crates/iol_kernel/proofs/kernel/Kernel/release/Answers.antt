@@ -17,4 +17,4 @@ release-requires c = agg_covered c.args.self.now.store (domains_of c.args.self.n
 
 pub returns : goal.returns
 returns c = dropped (state_of c.args.self.now) c.release.new.store (domains_of c.take_agg-given.new.self) c.args.by c.args.agg c.take_agg-given.result c.requires.sound
-    (live_held _ (state_of c.args.self.now) c.args.by c.requires.live) c.take_agg-given.ensures.given c.take_agg-given.ensures.rest c.release.ensures.moves c.release.ensures.lists
+    (live_held _ (state_of c.args.self.now) c.args.by c.requires.live) c.take_agg-given.ensures.given c.take_agg-given.ensures.rest c.release.ensures.moves c.release.ensures.lists c.release.ensures.frees c.release.ensures.settles
