@@ -1,14 +1,17 @@
 -- Laws of runs: what follows from a chain of steps that keep their promises. Each is the contract of a function of `laws`.
-use Rattle.std.specs.Prelude.{◌≡◌, true, List, ◌∷◌, ◌++◌}
+use Rattle.std.specs.Prelude.{◌≡◌, ◌<◌, ℕ, true, List, ◌∷◌, ◌++◌}
 use Rattle.std.specs.List.{list_all}
 use Rattle.iol_core.specs.Run.{Run}
 use Rattle.iol_core.specs.Sharing.{is_sharing}
 use Rattle.iol_core.specs.declared.events.Event.{Event}
 use Rattle.iol_core.specs.declared.events.Reply.{Reply}
+use Rattle.iol_arena.specs.Chunks.{is_taken}
+use Rattle.iol_arena.specs.State.{chunk_count}
 use Rattle.iol_hold.specs.Moves.{Stays}
 use Rattle.iol_kernel.specs.KernelState.{KernelState, machine_of, layout_of}
 use Rattle.iol_system.specs.Promises.{Promises, Chain}
 use Rattle.iol_system.specs.Safe.{IsSafe}
+use Rattle.iol_system.specs.Uses.{HasOneUse, HasOnePool}
 use Rattle.iol_system.specs.Values.{ValuesStayOver}
 
 -- the replies of a run, and the state after it, are those of the copying machine
@@ -63,3 +66,11 @@ pub record SharesOver (old : KernelState) (es : List Event) (rs : List Reply) (n
 
 abbrev pub RunsShare : Type 0
 RunsShare = (old new : KernelState) (es : List Event) (rs : List Reply) → Chain old es rs new → list_all is_sharing es ≡ true → SharesOver old es rs new
+
+-- Between any two events each page is unused, or is part of just one live buffer.
+abbrev pub EachPageHasOneUse : Type 0
+EachPageHasOneUse = (h : KernelState) → IsSafe h → (q : ℕ) → HasOneUse h.store.arena q
+
+-- Between any two events each chunk that is taken is of just one pool.
+abbrev pub EachChunkHasOnePool : Type 0
+EachChunkHasOnePool = (h : KernelState) → IsSafe h → (c : ℕ) → c < chunk_count h.store.arena → is_taken h.store.arena c ≡ true → HasOnePool h.store c

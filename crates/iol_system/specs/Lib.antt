@@ -1,6 +1,7 @@
 pub mod Laws
 pub mod Promises
-pub mod Safe
 pub mod Replies
 pub mod Room
+pub mod Safe
+pub mod Uses
 pub mod Values

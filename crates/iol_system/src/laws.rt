@@ -1,6 +1,7 @@
-//! Laws of runs: what follows from a run's clause `chain`, whatever the events. The functions do nothing; their
-//! contracts are the laws.
+//! Laws of runs: what follows from a run's clause `chain`, whatever the events; and of what lies in a system between any
+//! two of them. The functions do nothing; their contracts are the laws.
 ghost use Rattle.iol_system.specs.Laws.{RunsAsTheMachine, RunsInParts, EachEventIsAStep};
+ghost use Rattle.iol_system.specs.Laws.{EachPageHasOneUse, EachChunkHasOnePool};
 ghost use Rattle.iol_system.specs.Laws.{RunsStaySafe, RunsKeepBuffers, RunsKeepValues, RunsShare};
 
 /// The replies of a run, and the state after it, are those of the machine that copies at every call.
@@ -36,4 +37,14 @@ pub fn runs_keep_values()
 /// A run of sharing calls copies nothing: what they hand on lies where it lay, and no page is published or freed.
 pub fn runs_share()
     ensures { RunsShare }
+{}
+
+/// Between any two events each page is unused, or is part of just one live buffer.
+pub fn each_page_has_one_use()
+    ensures { EachPageHasOneUse }
+{}
+
+/// Between any two events each chunk that is taken is of just one pool.
+pub fn each_chunk_has_one_pool()
+    ensures { EachChunkHasOnePool }
 {}
