@@ -25,7 +25,6 @@ use Rattle.iol_kernel.proofs.Effects.{gained-sound}
 use Rattle.iol_kernel.proofs.ReadOf.{text-read_of, length_text-read_of, next_agg-read_of}
 use Rattle.iol_kernel.proofs.Slices.{slices_readable, slices_small}
 use Rattle.iol_core.specs.declared.limits.TheConstants.{MAX_AGGREGATES, MAX_AGGREGATE_BYTES}
-
 use Rattle.iol_kernel.specs.Calls.{Answers}
 
 module _ (h : KernelState) (t : Stored) (ds : List (Domain (List Slice))) (d : ℕ) (bytes : List Place) (adds : AddsShared h.store t h.domains ds d bytes) where
@@ -35,7 +34,6 @@ module _ (h : KernelState) (t : Stored) (ds : List (Domain (List Slice))) (d : �
       ap (λ (xs : List (Domain (List Slice))). state_view (read f) xs t.pools h.pipes) adds.added
       ∙ with_agg-view (read f) h.domains t.pools h.pipes d adds.slices
       ∙ ap (λ (ps : List Pool). aggs.with_agg (state_view (read f) h.domains ps h.pipes) d (read f adds.slices)) adds.shares.pools
-
 
   added-sound : IsSound h → (domain_in h.domains d).live ≡ true → live_aggs_in h.domains < MAX_AGGREGATES → AllReadable h.store adds.slices → byte_len adds.slices ≤ MAX_AGGREGATE_BYTES → IsSound (record h { store = t; domains = ds })
   added-sound sound live few readable small =

@@ -14,7 +14,9 @@ ghost use Rattle.iol_kernel.specs.Adding.{replaced};
 ghost use Rattle.iol_kernel.specs.KernelState.{Reading, machine_of, joined, IsSound};
 
 use crate::kernel::Kernel;
-use crate::tables::{add_bytes, add_part, add_replaced, first_hidden, join_aggs, move_agg, split_agg};
+use crate::tables::{
+    add_bytes, add_part, add_replaced, first_hidden, join_aggs, move_agg, split_agg,
+};
 use iol_agg::{Agg, Parts};
 use iol_core::limits::MAX_AGGREGATE_BYTES;
 use iol_core::lists::Bytes;
@@ -82,7 +84,14 @@ impl Kernel {
         ensures late { IfErr result (WantOfRoom pool) }
         ensures err { OnErr result (state_of self.new ≡ state_of self.old) }
     {
-        Ok(add_bytes(self.alloc, &mut self.store, &mut self.domains, by, pool, bytes)?)
+        Ok(add_bytes(
+            self.alloc,
+            &mut self.store,
+            &mut self.domains,
+            by,
+            pool,
+            bytes,
+        )?)
     }
 
     /// Makes an aggregate of the same bytes once more.
@@ -109,7 +118,15 @@ impl Kernel {
         ensures done { IfOk result (λ n. Answers (λ s. calls.agg_dup s by agg) self.old n self.new) }
         ensures err { OnErr result (state_of self.new ≡ state_of self.old) }
     {
-        Ok(add_part(self.alloc, &mut self.store, &mut self.domains, by, agg, 0, len)?)
+        Ok(add_part(
+            self.alloc,
+            &mut self.store,
+            &mut self.domains,
+            by,
+            agg,
+            0,
+            len,
+        )?)
     }
 
     /// Makes an aggregate of the bytes `from..to` of another, which stays.
@@ -146,7 +163,15 @@ impl Kernel {
         ensures done { IfOk result (λ n. Answers (λ s. calls.agg_cut s by agg from to) self.old n self.new) }
         ensures err { OnErr result (state_of self.new ≡ state_of self.old) }
     {
-        Ok(add_part(self.alloc, &mut self.store, &mut self.domains, by, agg, from, to)?)
+        Ok(add_part(
+            self.alloc,
+            &mut self.store,
+            &mut self.domains,
+            by,
+            agg,
+            from,
+            to,
+        )?)
     }
 
     /// Splits an aggregate into the bytes before a place and those from it on.
@@ -268,7 +293,16 @@ impl Kernel {
         ensures done { IfOk result (λ n. Answers (λ s. calls.agg_replace s by agg from to other) self.old n self.new) }
         ensures err { OnErr result (state_of self.new ≡ state_of self.old) }
     {
-        Ok(add_replaced(self.alloc, &mut self.store, &mut self.domains, by, agg, from, to, other)?)
+        Ok(add_replaced(
+            self.alloc,
+            &mut self.store,
+            &mut self.domains,
+            by,
+            agg,
+            from,
+            to,
+            other,
+        )?)
     }
 
     /// Drops an aggregate.

@@ -28,4 +28,3 @@ pub record HasOnePool (s : Stored) (c : ℕ) : Type 0 where
   pub pool : ℕ
   pub has : Contains (pool_in s.pools pool).chunks c
   pub only : (p : ℕ) → Contains (pool_in s.pools p).chunks c → p ≡ pool
-
