@@ -1,3 +1,4 @@
 pub mod Chains
 pub mod Safe
 pub mod Used
+pub mod Paged

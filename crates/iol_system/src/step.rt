@@ -2,9 +2,11 @@
 ghost use Rattle.std.specs.Prelude.{◌≡◌, true, false, IfOk, OnErr};
 ghost use Rattle.iol_core.specs.Run.{StepsTo};
 ghost use Rattle.iol_hold.specs.Moves.{Stays};
+ghost use Rattle.iol_hold.specs.Pages.{KeepsPages};
 ghost use Rattle.iol_kernel.specs.KernelState.{machine_of, layout_of, IsSound};
 ghost use Rattle.iol_core.specs.Sharing.{is_sharing, LaysOut};
 ghost use Rattle.iol_kernel.specs.Kernel.{state_of};
+ghost use Rattle.iol_system.specs.Placed.{placed_by, Creates};
 ghost use Rattle.iol_system.specs.Promises.{Promises, Chain};
 ghost use Rattle.iol_system.specs.Replies.{reply_of};
 ghost use Rattle.iol_system.specs.Room.{fits, IsDone, IsNoRoom, IsRefused};
@@ -17,7 +19,7 @@ use iol_kernel::kernel::Kernel;
 use std::alloc::{AllocError, Global};
 
 // Carries out one call of a domain: its answer, or its refusal. Each clause comes from that call of the kernel.
-#[tactic(auto, using(iol_kernel::proofs::Carried::carried_rules))]
+#[tactic(auto, using(iol_kernel::proofs::Carried::carried_rules, crate::proofs::Paged::paged_rules))]
 fn answer_to(kernel: &mut Kernel, by: DomainId, call: &Call) -> Result<Reply, Refusal>
     requires { IsSound (state_of kernel.old) }
     ensures step { StepsTo (machine_of (state_of kernel.old)) (Event.Call by call.now)
@@ -32,6 +34,11 @@ fn answer_to(kernel: &mut Kernel, by: DomainId, call: &Call) -> Result<Reply, Re
         (layout_of (state_of kernel.new)) }
     ensures pages { is_sharing (Event.Call by call.now) ≡ true →
         (state_of kernel.new).store.arena ≡ (state_of kernel.old).store.arena }
+    ensures publishes { IsDone (reply_of result) →
+        KeepsPages (state_of kernel.old).store (state_of kernel.new).store
+        (placed_by (state_of kernel.old) (Event.Call by call.now)) }
+    ensures creates { Creates (state_of kernel.old) (Event.Call by call.now) (reply_of result)
+        (state_of kernel.new) }
     ensures sound { IsSound (state_of kernel.new) }
     ensures stays { Stays (state_of kernel.old).store (state_of kernel.new).store }
 {

@@ -8,6 +8,7 @@ ghost use Rattle.iol_core.specs.Values.{ValuesStay};
 ghost use Rattle.iol_system.specs.Promises.{Promises, Chain};
 ghost use Rattle.iol_system.specs.Values.{ValuesStayOver};
 ghost use Rattle.iol_hold.specs.Moves.{Stays};
+ghost use Rattle.iol_hold.specs.Pages.{KeepsPages};
 ghost use Rattle.iol_kernel.specs.KernelState.{machine_of, layout_of, joined};
 ghost use Rattle.iol_system.specs.Safe.{IsSafe};
 ghost use Rattle.iol_core.specs.Sharing.{is_sharing, LaysOut};
@@ -16,6 +17,7 @@ ghost use Rattle.iol_core.specs.Calls.Aggregates.{show};
 ghost use Rattle.iol_kernel.specs.Report.{reports_of};
 ghost use Rattle.iol_arena.specs.State.{no_entry};
 ghost use Rattle.iol_arena.specs.Buffers.{SharesNoPage, live_pages};
+ghost use Rattle.iol_system.specs.Placed.{placed_by, Creates};
 ghost use Rattle.iol_system.specs.Room.{fits, IsDone, IsNoRoom, IsRefused};
 
 use crate::step::{carry_out, run_all};
@@ -104,6 +106,11 @@ impl System {
         ensures shares { is_sharing event ≡ true →
             LaysOut (layout_of self.old) event result (layout_of self.new) }
         ensures pages { is_sharing event ≡ true → self.new.store.arena ≡ self.old.store.arena }
+
+        // Of all others `agg_make` alone publishes, on the lowest free pages of the caller's default pool, each of which is
+        // raised by one; an open pool keeps its chunks, and a new one has the lowest free chunks, as many as asked for.
+        ensures publishes { IsDone result → KeepsPages self.old.store self.new.store (placed_by self.old event) }
+        ensures creates { Creates self.old event result self.new }
 
         // Counts are those of the slices, no page is lost, and what a domain has it may read.
         ensures safe { IsSafe self.new }

@@ -4,9 +4,9 @@ use Rattle.iol_system.proofs.step.make_call.Goals as goal
 pub returns-in-Ok : goal.returns-in-Ok
 returns-in-Ok c =
     let kept = c.in-Ok.ensures in
-    promises_kept _ _ _ _ c.requires kept.step kept.room kept.no_room kept.refused kept.shares kept.pages kept.sound kept.stays
+    promises_kept _ _ _ _ c.requires kept.step kept.room kept.no_room kept.refused kept.shares kept.pages kept.publishes kept.creates kept.sound kept.stays
 
 pub returns-in-Err : goal.returns-in-Err
 returns-in-Err c =
     let kept = c.in-Err.ensures in
-    promises_kept _ _ _ _ c.requires kept.step kept.room kept.no_room kept.refused kept.shares kept.pages kept.sound kept.stays
+    promises_kept _ _ _ _ c.requires kept.step kept.room kept.no_room kept.refused kept.shares kept.pages kept.publishes kept.creates kept.sound kept.stays
