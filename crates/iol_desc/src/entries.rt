@@ -5,6 +5,7 @@ ghost use Rattle.iol_core.specs.Numbered.{lookup, without};
 ghost use Rattle.iol_desc.specs.Tables.{place_in, exchanged};
 ghost use Rattle.iol_desc.specs.Listed.{there, DropsHole, IsRising};
 
+use iol_core::limits::LAST_AGGREGATE;
 use iol_core::numbers::AggId;
 use std::alloc::{AllocError, Global};
 use std::marker::Model;
@@ -175,7 +176,7 @@ impl<A: Drop> Entries<A> {
     /// Adds an aggregate under the next number, in room that is reserved.
     #[tactic(auto, using(crate::proofs::Holes::method_rules))]
     pub(crate) fn push(&mut self, agg: A) -> AggId
-        requires few { self.old.next < 2 ^ 64 - 1 }
+        requires few { self.old.next ≤ LAST_AGGREGATE }
         requires room { 0 < self.old.room }
         ensures number { result ≡ self.old.next }
         ensures entries { self.new.entries ≡ self.old.entries ++ (self.old.next, agg) ∷ [] }

@@ -9,7 +9,7 @@ ghost use Rattle.iol_desc.specs.Tables.{with_next, exchanged, place_in, with_nex
 use crate::entries::{Entries, Taken};
 use crate::places::Places;
 use iol_core::descriptors::Descriptor;
-use iol_core::limits::MAX_OPEN;
+use iol_core::limits::{LAST_AGGREGATE, MAX_OPEN};
 use iol_core::numbers::{AggId, Fd, PipeId, PoolId};
 use std::alloc::{AllocError, Global};
 use std::marker::Model;
@@ -101,7 +101,7 @@ impl<A: Drop> Domain<A> {
 
     /// Adds an aggregate under the next number.
     pub(crate) fn add_agg(&mut self, agg: A) -> AggId
-        requires few { self.old.domain.next_agg < 2 ^ 64 - 1 }
+        requires few { self.old.domain.next_agg ≤ LAST_AGGREGATE }
         requires room { 0 < self.old.room }
         ensures number { result ≡ self.old.domain.next_agg }
         ensures added { self.new.domain ≡ with_next self.old.domain agg }

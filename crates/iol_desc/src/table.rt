@@ -138,7 +138,7 @@ impl<A: Drop> Table<A> {
     #[tactic(auto, using(crate::proofs::Rows::row_rules, crate::proofs::Counted::counted_rules), unfolding(crate::specs::Tables::domain_in, crate::specs::Tables::with_domain_in, crate::specs::Tables::row_in))]
     pub fn add_agg(&mut self, d: DomainId, agg: A) -> AggId
         requires live { (domain_in (domains_of self.old) d).live ≡ true }
-        requires few { (domain_in (domains_of self.old) d).next_agg < 2 ^ 64 - 1 }
+        requires few { (domain_in (domains_of self.old) d).next_agg ≤ LAST_AGGREGATE }
         requires room { 0 < room_in self.old d }
         ensures number { result ≡ (domain_in (domains_of self.old) d).next_agg }
         ensures added { domains_of self.new ≡ with_agg_in (domains_of self.old) d agg }

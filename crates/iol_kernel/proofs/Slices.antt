@@ -18,7 +18,7 @@ use Rattle.iol_kernel.proofs.Sound.{agg_readable, agg_small}
 use Rattle.iol_kernel.proofs.Uses.{agg_covered, all_few, uses_few, countable}
 use Rattle.iol_core.specs.declared.limits.TheConstants.{MAX_AGGREGATE_BYTES}
 use Rattle.iol_hold.specs.Layout.{read}
-use Rattle.iol_kernel.proofs.ReadOf.{is_live-read_of, text-read_of}
+use Rattle.iol_kernel.proofs.ReadOf.{is_live-read_of, text-read_of, live_held}
 use Rattle.iol_kernel.specs.Calls.{IsFound, IsMissing}
 
 -- an aggregate that is looked up
@@ -104,3 +104,5 @@ thrice_countable h d a b sound =
         tally-append n (bufs_of xs ++ bufs_of xs) (bufs_of ys),
       );
     }
+
+pub ruleset held_rules = (live_held, there_held)

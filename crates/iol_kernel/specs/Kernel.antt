@@ -6,13 +6,17 @@ use Rattle.iol_core.specs.declared.refusals.Refusal.{Refusal}
 use Rattle.iol_hold.specs.declared.slices.Slice.{Slice}
 use Rattle.iol_desc.specs.Tables.{domains_of}
 use Rattle.iol_kernel.specs.Calls as calls
-use Rattle.iol_kernel.specs.KernelState.{KernelState, Reading, read_of}
+use Rattle.iol_kernel.specs.KernelState.{KernelState, Reading, read_of, machine_of}
 use Rattle.iol_kernel.specs.declared.kernel.Kernel.{Kernel}
 
 abbrev pub state_of : Kernel → KernelState
 state_of k = record { store = k.store; domains = domains_of k.domains; pipes = k.pipes.places }
 
--- the copying machine's state, with what f reads at each place
+-- the copying machine's state, with the bytes that lie there
+abbrev pub machine : Kernel → State
+machine k = machine_of (state_of k)
+
+-- and with what f reads at each place
 abbrev pub as_read : Reading → Kernel → State
 as_read f k = read_of f (state_of k)
 

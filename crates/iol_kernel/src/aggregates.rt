@@ -11,7 +11,7 @@ ghost use Rattle.iol_hold.specs.Moves.{Stays};
 ghost use Rattle.iol_hold.specs.Room.{has_room};
 ghost use Rattle.iol_hold.specs.Texts.{AllReadable};
 ghost use Rattle.iol_kernel.specs.Adding.{replaced};
-ghost use Rattle.iol_kernel.specs.KernelState.{Reading, machine_of, joined, IsSound};
+ghost use Rattle.iol_kernel.specs.KernelState.{Reading, joined, IsSound};
 
 use crate::kernel::Kernel;
 use crate::tables::{
@@ -25,19 +25,23 @@ use iol_core::refusals::Refusal;
 use std::alloc::AllocError;
 
 impl Kernel {
-    ghost use Rattle.iol_kernel.specs.Kernel.{state_of, as_read, MakesAgg, CarriesOut, KeepsPlaces, Answers, Leaves};
+    ghost use Rattle.iol_kernel.specs.Kernel.{state_of, machine, as_read, MakesAgg, CarriesOut, KeepsPlaces, Answers, Leaves};
 
     /// Places bytes in the caller's default pool, as its next aggregate.
     #[tactic(auto, using(crate::proofs::Stay::stay_rules))]
     pub fn agg_make(&mut self, by: DomainId, bytes: &Bytes) -> Result<AggId, Refusal>
         requires { IsSound (state_of self.old) }
-        ensures step { Step (calls.agg_make (machine_of (state_of self.old)) by bytes.now) (machine_of (state_of self.old)) result (machine_of (state_of self.new)) }
-        ensures made { OnOk result (MakesAgg by (default_pool (machine_of (state_of self.old)) by) (length bytes.now) self.old self.new) }
+        ensures step { Step (calls.agg_make (machine self.old) by bytes.now) (machine self.old)
+            result (machine self.new) }
+        ensures made { OnOk result (MakesAgg by (default_pool (machine self.old) by) (length
+            bytes.now) self.old self.new) }
         ensures refused { OnErr result (state_of self.new ≡ state_of self.old) }
         ensures sound { IsSound (state_of self.new) }
         ensures stays { Stays self.old.store self.new.store }
-        ensures room { OnOk result (has_room self.old.store (default_pool (machine_of (state_of self.old)) by) (length bytes.now) ≡ true) }
-        ensures no_room { (p : ℕ) → result ≡ Err (Refusal.NoRoom p) → has_room self.old.store (default_pool (machine_of (state_of self.old)) by) (length bytes.now) ≡ false }
+        ensures room { OnOk result (has_room self.old.store (default_pool (machine self.old) by)
+            (length bytes.now) ≡ true) }
+        ensures no_room { (p : ℕ) → result ≡ Err (Refusal.NoRoom p) → has_room self.old.store
+            (default_pool (machine self.old) by) (length bytes.now) ≡ false }
     {
         if !self.is_live(by) {
             return Err(Refusal::NoDomain);
@@ -60,27 +64,29 @@ impl Kernel {
     /// The pool that the domain places in.
     #[tactic(auto, using(crate::proofs::Views::domain_rules), unfolding(crate::specs::KernelState::read_of))]
     fn default_of(&self, d: DomainId) -> Option<PoolId>
-        requires { is_live (machine_of (state_of self.now)) d ≡ true }
+        requires { is_live (machine self.now) d ≡ true }
         ensures { (f : Reading) → result ≡ (domain (as_read f self.now) d).default }
     {
         self.domains.default_of(d)
     }
 
     /// Places bytes in a pool, as the domain's next aggregate.
-    #[tactic(auto, using(crate::proofs::Stay::stay_rules))]
+    #[tactic(auto, using(crate::proofs::Stay::stay_rules, crate::proofs::Slices::held_rules))]
     fn place(&mut self, by: DomainId, pool: PoolId, bytes: &[u8]) -> Result<AggId, Refusal>
         requires sound { IsSound (state_of self.old) }
-        requires live { is_live (machine_of (state_of self.old)) by ≡ true }
-        requires few { too_many_aggs (machine_of (state_of self.old)) by 1 0 ≡ false }
+        requires live { is_live (machine self.old) by ≡ true }
+        requires few { too_many_aggs (machine self.old) by 1 0 ≡ false }
         requires small { length bytes.now ≤ MAX_AGGREGATE_BYTES }
-        requires open { (state.pool (machine_of (state_of self.old)) pool).closed ≡ false }
-        ensures number { IfOk result (λ n. n ≡ calls.next_agg (machine_of (state_of self.old)) by) }
-        ensures placed { OnOk result (machine_of (state_of self.new) ≡ calls.with_agg (machine_of (state_of self.old)) by (labelled pool bytes.now)) }
+        requires open { (state.pool (machine self.old) pool).closed ≡ false }
+        ensures number { IfOk result (λ n. n ≡ calls.next_agg (machine self.old) by) }
+        ensures placed { OnOk result (machine self.new ≡ calls.with_agg (machine self.old) by
+            (labelled pool bytes.now)) }
         ensures made { OnOk result (MakesAgg by pool (length bytes.now) self.old self.new) }
         ensures sound { IsSound (state_of self.new) }
         ensures stays { Stays self.old.store self.new.store }
         ensures room { OnOk result (has_room self.old.store pool (length bytes.now) ≡ true) }
-        ensures no_room { (p : ℕ) → result ≡ Err (Refusal.NoRoom p) → has_room self.old.store pool (length bytes.now) ≡ false }
+        ensures no_room { (p : ℕ) → result ≡ Err (Refusal.NoRoom p) → has_room self.old.store pool
+            (length bytes.now) ≡ false }
         ensures late { IfErr result (WantOfRoom pool) }
         ensures err { OnErr result (state_of self.new ≡ state_of self.old) }
     {
@@ -108,14 +114,15 @@ impl Kernel {
     }
 
     /// Adds the same bytes once more.
-    #[tactic(auto, using(crate::proofs::Stay::stay_rules))]
+    #[tactic(auto, using(crate::proofs::Stay::stay_rules, crate::proofs::Slices::held_rules))]
     fn add_dup(&mut self, by: DomainId, agg: AggId, len: u32) -> Result<AggId, AllocError>
         requires sound { IsSound (state_of self.old) }
-        requires live { is_live (machine_of (state_of self.old)) by ≡ true }
-        requires there { lacks_agg (machine_of (state_of self.old)) by agg ≡ false }
-        requires whole { len ≡ length (text (machine_of (state_of self.old)) by agg) }
-        requires few { too_many_aggs (machine_of (state_of self.old)) by 1 0 ≡ false }
-        ensures done { IfOk result (λ n. Answers (λ s. calls.agg_dup s by agg) self.old n self.new) }
+        requires live { is_live (machine self.old) by ≡ true }
+        requires there { lacks_agg (machine self.old) by agg ≡ false }
+        requires whole { len ≡ length (text (machine self.old) by agg) }
+        requires few { too_many_aggs (machine self.old) by 1 0 ≡ false }
+        ensures done { IfOk result (λ n. Answers (λ s. calls.agg_dup s by agg) self.old
+            n self.new) }
         ensures err { OnErr result (state_of self.new ≡ state_of self.old) }
     {
         Ok(add_part(
@@ -152,15 +159,16 @@ impl Kernel {
     }
 
     /// Adds the bytes of a range once more.
-    #[tactic(auto, using(crate::proofs::Stay::stay_rules))]
+    #[tactic(auto, using(crate::proofs::Stay::stay_rules, crate::proofs::Slices::held_rules))]
     fn add_cut(&mut self, by: DomainId, agg: AggId, from: u32, to: u32) -> Result<AggId, AllocError>
         requires sound { IsSound (state_of self.old) }
-        requires live { is_live (machine_of (state_of self.old)) by ≡ true }
-        requires there { lacks_agg (machine_of (state_of self.old)) by agg ≡ false }
+        requires live { is_live (machine self.old) by ≡ true }
+        requires there { lacks_agg (machine self.old) by agg ≡ false }
         requires ordered { from ≤ to }
-        requires within { to ≤ length (text (machine_of (state_of self.old)) by agg) }
-        requires few { too_many_aggs (machine_of (state_of self.old)) by 1 0 ≡ false }
-        ensures done { IfOk result (λ n. Answers (λ s. calls.agg_cut s by agg from to) self.old n self.new) }
+        requires within { to ≤ length (text (machine self.old) by agg) }
+        requires few { too_many_aggs (machine self.old) by 1 0 ≡ false }
+        ensures done { IfOk result (λ n. Answers (λ s. calls.agg_cut s by agg from to) self.old n
+            self.new) }
         ensures err { OnErr result (state_of self.new ≡ state_of self.old) }
     {
         Ok(add_part(
@@ -196,14 +204,15 @@ impl Kernel {
     }
 
     /// Splits an aggregate into the domain's next two.
-    #[tactic(auto, using(crate::proofs::Stay::stay_rules))]
+    #[tactic(auto, using(crate::proofs::Stay::stay_rules, crate::proofs::Slices::held_rules))]
     fn split(&mut self, by: DomainId, agg: AggId, at: u32) -> Result<(AggId, AggId), AllocError>
         requires sound { IsSound (state_of self.old) }
-        requires live { is_live (machine_of (state_of self.old)) by ≡ true }
-        requires there { lacks_agg (machine_of (state_of self.old)) by agg ≡ false }
-        requires within { at ≤ length (text (machine_of (state_of self.old)) by agg) }
-        requires few { too_many_aggs (machine_of (state_of self.old)) by 2 1 ≡ false }
-        ensures done { IfOk result (λ r. Answers (λ s. calls.agg_split s by agg at) self.old r self.new) }
+        requires live { is_live (machine self.old) by ≡ true }
+        requires there { lacks_agg (machine self.old) by agg ≡ false }
+        requires within { at ≤ length (text (machine self.old) by agg) }
+        requires few { too_many_aggs (machine self.old) by 2 1 ≡ false }
+        ensures done { IfOk result (λ r. Answers (λ s. calls.agg_split s by agg at) self.old r
+            self.new) }
         ensures err { OnErr result (state_of self.new ≡ state_of self.old) }
     {
         Ok(split_agg(self.alloc, &mut self.store, &mut self.domains, by, agg, at)?)
@@ -230,22 +239,25 @@ impl Kernel {
     }
 
     /// Joins two aggregates to the domain's next one.
-    #[tactic(auto, using(crate::proofs::Stay::stay_rules))]
+    #[tactic(auto, using(crate::proofs::Stay::stay_rules, crate::proofs::Slices::held_rules))]
     fn join(&mut self, by: DomainId, first: AggId, second: AggId) -> Result<AggId, AllocError>
         requires sound { IsSound (state_of self.old) }
-        requires live { is_live (machine_of (state_of self.old)) by ≡ true }
-        requires first { lacks_agg (machine_of (state_of self.old)) by first ≡ false }
-        requires second { lacks_agg (machine_of (state_of self.old)) by second ≡ false }
+        requires live { is_live (machine self.old) by ≡ true }
+        requires first { lacks_agg (machine self.old) by first ≡ false }
+        requires second { lacks_agg (machine self.old) by second ≡ false }
         requires differ { first ≢ second }
-        requires short { length (text (machine_of (state_of self.old)) by first) + length (text (machine_of (state_of self.old)) by second) ≤ MAX_AGGREGATE_BYTES }
-        requires few { too_many_aggs (machine_of (state_of self.old)) by 1 2 ≡ false }
-        ensures done { IfOk result (λ n. Answers (λ s. calls.agg_join s by first second) self.old n self.new) }
+        requires short { length (text (machine self.old) by first) + length (text (machine self.old)
+            by second) ≤ MAX_AGGREGATE_BYTES }
+        requires few { too_many_aggs (machine self.old) by 1 2 ≡ false }
+        ensures done { IfOk result (λ n. Answers (λ s. calls.agg_join s by first second) self.old n
+            self.new) }
         ensures err { OnErr result (state_of self.new ≡ state_of self.old) }
     {
         Ok(join_aggs(self.alloc, &mut self.domains, by, first, second)?)
     }
 
-    /// Makes an aggregate of the bytes of one, with those of another in place of `from..to`. Both stay.
+    /// Makes an aggregate of the bytes of one, with those of another in place of `from..to`. Both
+    /// stay.
     #[tactic(auto, using(crate::proofs::Stay::stay_rules))]
     pub fn agg_replace(
         &mut self,
@@ -256,7 +268,8 @@ impl Kernel {
         other: AggId,
     ) -> Result<AggId, Refusal>
         requires { IsSound (state_of self.old) }
-        ensures { CarriesOut (λ s. calls.agg_replace s by agg from to other) self.old result self.new }
+        ensures { CarriesOut (λ s. calls.agg_replace s by agg from to other) self.old result
+            self.new }
     {
         let len = self.find_len(by, agg)?;
         let inserted = self.find_len(by, other)?;
@@ -273,7 +286,7 @@ impl Kernel {
     }
 
     /// Adds the bytes with those of another in place of a range.
-    #[tactic(auto, using(crate::proofs::Stay::stay_rules))]
+    #[tactic(auto, using(crate::proofs::Stay::stay_rules, crate::proofs::Slices::held_rules))]
     fn replace(
         &mut self,
         by: DomainId,
@@ -283,14 +296,16 @@ impl Kernel {
         other: AggId,
     ) -> Result<AggId, AllocError>
         requires sound { IsSound (state_of self.old) }
-        requires live { is_live (machine_of (state_of self.old)) by ≡ true }
-        requires there { lacks_agg (machine_of (state_of self.old)) by agg ≡ false }
+        requires live { is_live (machine self.old) by ≡ true }
+        requires there { lacks_agg (machine self.old) by agg ≡ false }
         requires ordered { from ≤ to }
-        requires within { to ≤ length (text (machine_of (state_of self.old)) by agg) }
-        requires other_there { lacks_agg (machine_of (state_of self.old)) by other ≡ false }
-        requires small { length (replaced (text (machine_of (state_of self.old)) by agg) from to (text (machine_of (state_of self.old)) by other)) ≤ MAX_AGGREGATE_BYTES }
-        requires few { too_many_aggs (machine_of (state_of self.old)) by 1 0 ≡ false }
-        ensures done { IfOk result (λ n. Answers (λ s. calls.agg_replace s by agg from to other) self.old n self.new) }
+        requires within { to ≤ length (text (machine self.old) by agg) }
+        requires other_there { lacks_agg (machine self.old) by other ≡ false }
+        requires small { length (replaced (text (machine self.old) by agg) from to (text (machine
+            self.old) by other)) ≤ MAX_AGGREGATE_BYTES }
+        requires few { too_many_aggs (machine self.old) by 1 0 ≡ false }
+        ensures done { IfOk result (λ n. Answers (λ s. calls.agg_replace s by agg from to other)
+            self.old n self.new) }
         ensures err { OnErr result (state_of self.new ≡ state_of self.old) }
     {
         Ok(add_replaced(
@@ -317,10 +332,11 @@ impl Kernel {
     }
 
     /// Takes an aggregate from its domain, and releases its holds.
+    #[tactic(auto, using(crate::proofs::Slices::held_rules))]
     fn release(&mut self, by: DomainId, agg: AggId)
         requires sound { IsSound (state_of self.old) }
-        requires live { is_live (machine_of (state_of self.old)) by ≡ true }
-        requires there { lacks_agg (machine_of (state_of self.old)) by agg ≡ false }
+        requires live { is_live (machine self.old) by ≡ true }
+        requires there { lacks_agg (machine self.old) by agg ≡ false }
         ensures { Leaves (λ s. calls.without_agg s by agg) self.old self.new }
     {
         let given = self.domains.take_agg(by, agg);
@@ -348,20 +364,22 @@ impl Kernel {
 
     /// The pool of the first byte of an aggregate that the receiver may not read.
     fn first_denied(&self, found: &Agg, to: DomainId) -> Option<PoolId>
-        ensures { (f : Reading) → KeepsPools f → result ≡ barred (may_read (as_read f self.now) to) (read f found.now) }
+        ensures { (f : Reading) → KeepsPools f → result ≡ barred (may_read (as_read f self.now) to)
+            (read f found.now) }
     {
         first_hidden(found.slices(), self.store.pools(), to)
     }
 
     /// Moves an aggregate.
-    #[tactic(auto, using(crate::proofs::Stay::stay_rules))]
+    #[tactic(auto, using(crate::proofs::Stay::stay_rules, crate::proofs::Slices::held_rules))]
     fn give(&mut self, by: DomainId, agg: AggId, to: DomainId) -> Result<AggId, AllocError>
         requires sound { IsSound (state_of self.old) }
-        requires from { is_live (machine_of (state_of self.old)) by ≡ true }
-        requires to { is_live (machine_of (state_of self.old)) to ≡ true }
-        requires there { lacks_agg (machine_of (state_of self.old)) by agg ≡ false }
-        requires few { too_many_aggs (machine_of (state_of self.old)) to 1 1 ≡ false }
-        ensures done { IfOk result (λ n. Answers (λ s. calls.agg_give s by agg to) self.old n self.new) }
+        requires from { is_live (machine self.old) by ≡ true }
+        requires to { is_live (machine self.old) to ≡ true }
+        requires there { lacks_agg (machine self.old) by agg ≡ false }
+        requires few { too_many_aggs (machine self.old) to 1 1 ≡ false }
+        ensures done { IfOk result (λ n. Answers (λ s. calls.agg_give s by agg to) self.old n
+            self.new) }
         ensures err { OnErr result (state_of self.new ≡ state_of self.old) }
     {
         Ok(move_agg(&mut self.domains, by, agg, to)?)
@@ -370,7 +388,8 @@ impl Kernel {
     /// A copy of an aggregate's bytes.
     pub fn show(&self, by: DomainId, agg: AggId) -> Result<Bytes, Refusal>
         requires { IsSound (state_of self.now) }
-        ensures { Step (calls.show (machine_of (state_of self.now)) by agg) (machine_of (state_of self.now)) result (machine_of (state_of self.now)) }
+        ensures { Step (calls.show (machine self.now) by agg) (machine self.now) result (machine
+            self.now) }
     {
         let found = self.find(by, agg)?;
         Ok(Bytes::from_vec(found.to_vec(self.alloc, &self.store)?))
@@ -379,8 +398,10 @@ impl Kernel {
     /// An aggregate's bytes, where they lie.
     pub fn parts(&self, by: DomainId, agg: AggId) -> Result<Parts<'_>, Refusal>
         requires { IsSound (state_of self.now) }
-        ensures ok { IfOk result (λ parts. (first (calls.show (machine_of (state_of self.now)) by agg).refusals ≡ None) × (joined parts ≡ (calls.show (machine_of (state_of self.now)) by agg).answer)) }
-        ensures err { IfErr result (λ x. first (calls.show (machine_of (state_of self.now)) by agg).refusals ≡ Some x) }
+        ensures ok { IfOk result (λ parts. (first (calls.show (machine self.now) by agg).refusals ≡
+            None) × (joined parts ≡ (calls.show (machine self.now) by agg).answer)) }
+        ensures err { IfErr result (λ x. first (calls.show (machine self.now) by agg).refusals ≡
+            Some x) }
     {
         let found = self.find(by, agg)?;
         Ok(found.parts(&self.store))

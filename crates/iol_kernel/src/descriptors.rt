@@ -6,7 +6,7 @@ ghost use Rattle.iol_core.specs.Calls.Descriptors as calls;
 ghost use Rattle.iol_core.specs.Calls.Descriptors.{closed_on, freed, too_many_open, with_fds};
 ghost use Rattle.iol_kernel.specs.Ends.{all_ends_on};
 ghost use Rattle.iol_kernel.specs.ClosedEnds.{KeepsEnds};
-ghost use Rattle.iol_kernel.specs.KernelState.{Reading, machine_of, IsOpenEnd, IsSound};
+ghost use Rattle.iol_kernel.specs.KernelState.{Reading, IsOpenEnd, IsSound};
 
 use crate::kernel::Kernel;
 use iol_core::descriptors::Descriptor;
@@ -16,7 +16,7 @@ use iol_core::refusals::Refusal;
 use std::alloc::AllocError;
 
 impl Kernel {
-    ghost use Rattle.iol_kernel.specs.Kernel.{state_of, as_read, CarriesOut, KeepsPlaces, Answers, Leaves};
+    ghost use Rattle.iol_kernel.specs.Kernel.{state_of, machine, as_read, CarriesOut, KeepsPlaces, Answers, Leaves};
 
     /// Makes a pipe, and opens its read end and its write end.
     #[tactic(auto, using(crate::proofs::Stay::stay_rules))]
@@ -42,12 +42,12 @@ impl Kernel {
     }
 
     /// Adds a pipe with both ends in a domain.
-    #[tactic(auto, using(crate::proofs::Stay::stay_rules))]
+    #[tactic(auto, using(crate::proofs::Stay::stay_rules, crate::proofs::Slices::held_rules))]
     fn new_pipe(&mut self, by: DomainId) -> Result<(Fd, Fd), AllocError>
         requires sound { IsSound (state_of self.old) }
-        requires live { is_live (machine_of (state_of self.old)) by ≡ true }
-        requires few { too_many_open (machine_of (state_of self.old)) by 2 ≡ false }
-        requires few_pipes { taken (machine_of (state_of self.old)).pipes < MAX_PIPES }
+        requires live { is_live (machine self.old) by ≡ true }
+        requires few { too_many_open (machine self.old) by 2 ≡ false }
+        requires few_pipes { taken (machine self.old).pipes < MAX_PIPES }
         ensures done { IfOk result (λ ends. Answers (λ s. calls.pipe s by) self.old ends self.new) }
         ensures err { OnErr result (state_of self.new ≡ state_of self.old) }
     {
@@ -76,7 +76,7 @@ impl Kernel {
     }
 
     /// Moves a descriptor of a pipe's end, which every domain may hold.
-    #[tactic(auto, using(crate::proofs::Stay::stay_rules))]
+    #[tactic(auto, using(crate::proofs::Stay::stay_rules, crate::proofs::Slices::held_rules))]
     fn move_fd(
         &mut self,
         by: DomainId,
@@ -85,12 +85,14 @@ impl Kernel {
         given: Descriptor,
     ) -> Result<Fd, AllocError>
         requires sound { IsSound (state_of self.old) }
-        requires from { is_live (machine_of (state_of self.old)) by ≡ true }
-        requires to { is_live (machine_of (state_of self.old)) to ≡ true }
-        requires given { descriptor (machine_of (state_of self.old)) by fd ≡ Some given }
-        requires few { (not (by == to) && too_many_open (machine_of (state_of self.old)) to 1) ≡ false }
-        ensures any { (f : Reading) → calls.denied_by (as_read f self.old) to (calls.needed_pool (as_read f self.old) (Some given)) ≡ None }
-        ensures done { IfOk result (λ n. Answers (λ s. calls.give_fd s by fd to) self.old n self.new) }
+        requires from { is_live (machine self.old) by ≡ true }
+        requires to { is_live (machine self.old) to ≡ true }
+        requires given { descriptor (machine self.old) by fd ≡ Some given }
+        requires few { (not (by == to) && too_many_open (machine self.old) to 1) ≡ false }
+        ensures any { (f : Reading) → calls.denied_by (as_read f self.old) to (calls.needed_pool
+            (as_read f self.old) (Some given)) ≡ None }
+        ensures done { IfOk result (λ n. Answers (λ s. calls.give_fd s by fd to) self.old n
+            self.new) }
         ensures err { OnErr result (state_of self.new ≡ state_of self.old) }
     {
         if by.number() == to.number() {
@@ -119,17 +121,20 @@ impl Kernel {
     }
 
     /// Closes an open descriptor, and the end that it is open on.
+    #[tactic(auto, using(crate::proofs::Slices::held_rules))]
     fn close_fd(&mut self, by: DomainId, fd: Fd, end: Descriptor)
         requires sound { IsSound (state_of self.old) }
-        requires live { is_live (machine_of (state_of self.old)) by ≡ true }
-        requires open { descriptor (machine_of (state_of self.old)) by fd ≡ Some end }
-        ensures { Leaves (λ s. with_fds (closed_on s (Some end)) by (freed s by fd)) self.old self.new }
+        requires live { is_live (machine self.old) by ≡ true }
+        requires open { descriptor (machine self.old) by fd ≡ Some end }
+        ensures { Leaves (λ s. with_fds (closed_on s (Some end)) by (freed s by fd)) self.old
+            self.new }
     {
         self.domains.take_fd(by, fd);
         self.close_end(end);
     }
 
-    /// Closes an end of a pipe, on which no descriptor is open any more. No file or connection is open yet.
+    /// Closes an end of a pipe, on which no descriptor is open any more. No file or connection is
+    /// open yet.
     pub(crate) fn close_end(&mut self, end: Descriptor)
         requires sound { IsSound (state_of self.old) }
         requires open { IsOpenEnd (state_of self.old).pipes (Some end) }

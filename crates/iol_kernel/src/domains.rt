@@ -5,7 +5,7 @@ ghost use Rattle.iol_core.specs.Calls.Domains as calls;
 ghost use Rattle.iol_core.specs.Calls.Descriptors.{closed_on, with_fds};
 ghost use Rattle.iol_desc.specs.Tables.{with_aggs_in, with_fds_in};
 ghost use Rattle.iol_kernel.specs.ClosedEnds.{AreTaken};
-ghost use Rattle.iol_kernel.specs.KernelState.{Reading, machine_of, IsSound};
+ghost use Rattle.iol_kernel.specs.KernelState.{Reading, IsSound};
 
 use crate::kernel::Kernel;
 use crate::tables::release_all;
@@ -16,7 +16,7 @@ use iol_core::refusals::Refusal;
 use std::alloc::AllocError;
 
 impl Kernel {
-    ghost use Rattle.iol_kernel.specs.Kernel.{state_of, as_read, CarriesOut, KeepsPlaces, Answers, Leaves};
+    ghost use Rattle.iol_kernel.specs.Kernel.{state_of, machine, as_read, CarriesOut, KeepsPlaces, Answers, Leaves};
 
     /// Makes a domain.
     #[tactic(auto, using(crate::proofs::Stay::stay_rules))]
@@ -60,7 +60,7 @@ impl Kernel {
     /// Ends a domain: all that it has is released.
     fn end(&mut self, by: DomainId)
         requires sound { IsSound (state_of self.old) }
-        requires live { is_live (machine_of (state_of self.old)) by ≡ true }
+        requires live { is_live (machine self.old) by ≡ true }
         ensures { Leaves (λ s. (calls.exit s by).after) self.old self.new }
     {
         self.drop_aggs(by);
@@ -69,22 +69,28 @@ impl Kernel {
     }
 
     /// Drops all aggregates of a domain.
+    #[tactic(auto, using(crate::proofs::Slices::held_rules))]
     fn drop_aggs(&mut self, by: DomainId)
         requires sound { IsSound (state_of self.old) }
-        requires live { is_live (machine_of (state_of self.old)) by ≡ true }
-        ensures dropped { Leaves (λ s. with_domain s by (record (domain s by) { aggs = [] })) self.old self.new }
-        ensures domains { (state_of self.new).domains ≡ with_aggs_in (state_of self.old).domains by [] }
+        requires live { is_live (machine self.old) by ≡ true }
+        ensures dropped { Leaves (λ s. with_domain s by (record (domain s by) { aggs = [] }))
+            self.old self.new }
+        ensures domains { (state_of self.new).domains ≡ with_aggs_in (state_of self.old).domains by
+            [] }
     {
         let aggs = self.domains.take_aggs(by);
         release_all(&mut self.store, aggs);
     }
 
     /// Closes all descriptors of a domain, by rising number.
+    #[tactic(auto, using(crate::proofs::Slices::held_rules))]
     fn close_fds(&mut self, by: DomainId)
         requires sound { IsSound (state_of self.old) }
-        requires live { is_live (machine_of (state_of self.old)) by ≡ true }
-        ensures closed { Leaves (λ s. fold closed_on (with_fds s by []) (domain s by).fds) self.old self.new }
-        ensures domains { (state_of self.new).domains ≡ with_fds_in (state_of self.old).domains by [] }
+        requires live { is_live (machine self.old) by ≡ true }
+        ensures closed { Leaves (λ s. fold closed_on (with_fds s by []) (domain s by).fds) self.old
+            self.new }
+        ensures domains { (state_of self.new).domains ≡ with_fds_in (state_of self.old).domains by
+            [] }
     {
         let ends = self.domains.take_fds(by);
         self.close_ends(&ends);

@@ -7,7 +7,7 @@ ghost use Rattle.iol_core.specs.Calls.Descriptors.{too_many_open};
 ghost use Rattle.iol_arena.specs.State.{no_entry};
 ghost use Rattle.iol_arena.specs.Buffers.{SharesNoPage, live_pages};
 ghost use Rattle.iol_kernel.specs.Report.{reports_of};
-ghost use Rattle.iol_kernel.specs.KernelState.{Reading, machine_of, IsSound};
+ghost use Rattle.iol_kernel.specs.KernelState.{Reading, IsSound};
 
 use crate::pipes::Pipes;
 use crate::report::{Report, report_pools};
@@ -21,7 +21,7 @@ use iol_desc::table::Table;
 use iol_hold::Store;
 use std::alloc::{AllocError, Global};
 
-/// What a system holds: pages and pools, the domains with their aggregates and descriptors, and pipes.
+/// What a system holds: pages and pools, domains with their aggregates and descriptors, and pipes.
 #[derive(Drop)]
 pub struct Kernel {
     pub(crate) alloc: Global,
@@ -31,14 +31,15 @@ pub struct Kernel {
 }
 
 impl Kernel {
-    ghost use Rattle.iol_kernel.specs.Kernel.{state_of, as_read, IsFound, IsMissing};
+    ghost use Rattle.iol_kernel.specs.Kernel.{state_of, machine, as_read, IsFound, IsMissing};
 
     /// A kernel with domain 1 and nothing else. A size out of its range is `BadRange`.
     pub fn new(alloc: Global, config: Config) -> Result<Kernel, Refusal>
         ensures range { (result ≡ Err Refusal.BadRange) ↔ (IsInRange config → ⊥) }
         ensures errors { IfErr result (λ e. (e ≡ Refusal.BadRange) ⊎ (e ≡ Refusal.Memory)) }
-        ensures new { IfOk result (λ k. machine_of (state_of k) ≡ new_state no_slots) }
-        ensures entries { IfOk result (λ k. k.store.arena.entries ≡ replicate (config.chunks * CHUNK_PAGES) no_entry) }
+        ensures new { IfOk result (λ k. machine k ≡ new_state no_slots) }
+        ensures entries { IfOk result (λ k. k.store.arena.entries ≡ replicate (config.chunks *
+            CHUNK_PAGES) no_entry) }
         ensures taken { IfOk result (λ k. k.store.arena.taken ≡ replicate config.chunks false) }
         ensures limit { IfOk result (λ k. k.store.arena.limit ≡ config.gen_limit) }
         ensures sound { IfOk result (λ k. IsSound (state_of k)) }
@@ -62,7 +63,8 @@ impl Kernel {
         self.domains.live(d)
     }
 
-    /// A domain's aggregate. `NoDomain` where the domain is not live, `BadAgg` where it has no such aggregate.
+    /// A domain's aggregate. `NoDomain` where the domain is not live, `BadAgg` where it has no such
+    /// aggregate.
     pub(crate) fn find(&self, d: DomainId, agg: AggId) -> Result<&Agg, Refusal>
         ensures ok { IfOk result (λ x. IsFound self.now d agg x.now) }
         ensures err { IfErr result (IsMissing self.now d agg) }
@@ -80,8 +82,10 @@ impl Kernel {
     #[tactic(auto, using(crate::proofs::ReadOf::length_rules))]
     pub(crate) fn find_len(&self, d: DomainId, agg: AggId) -> Result<u32, Refusal>
         ensures live { IfOk result (λ n. (f : Reading) → is_live (as_read f self.now) d ≡ true) }
-        ensures there { IfOk result (λ n. (f : Reading) → lacks_agg (as_read f self.now) d agg ≡ false) }
-        ensures len { IfOk result (λ n. (f : Reading) → n ≡ length (text (as_read f self.now) d agg)) }
+        ensures there { IfOk result (λ n. (f : Reading) → lacks_agg (as_read f self.now) d agg ≡
+            false) }
+        ensures len { IfOk result (λ n. (f : Reading) → n ≡ length (text (as_read f self.now) d
+            agg)) }
         ensures err { IfErr result (IsMissing self.now d agg) }
     {
         let found = self.find(d, agg)?;
@@ -91,7 +95,7 @@ impl Kernel {
     /// Whether so many new aggregates, with so many given up, are too many.
     #[tactic(auto, using(crate::proofs::Views::domain_rules), unfolding(crate::specs::KernelState::read_of))]
     pub(crate) fn is_too_many(&self, d: DomainId, made: u64, given: u64) -> bool
-        requires live { is_live (machine_of (state_of self.now)) d ≡ true }
+        requires live { is_live (machine self.now) d ≡ true }
         requires made { made ≤ 2 }
         requires given { given ≤ 2 }
         ensures { (f : Reading) → result ≡ too_many_aggs (as_read f self.now) d made given }
@@ -102,7 +106,7 @@ impl Kernel {
     /// What the domain's descriptor is open on.
     #[tactic(auto, using(crate::proofs::Views::domain_rules), unfolding(crate::specs::KernelState::read_of))]
     pub(crate) fn descriptor(&self, d: DomainId, fd: Fd) -> Option<Descriptor>
-        requires { is_live (machine_of (state_of self.now)) d ≡ true }
+        requires { is_live (machine self.now) d ≡ true }
         ensures { (f : Reading) → result ≡ descriptor (as_read f self.now) d fd }
     {
         self.domains.descriptor(d, fd)
@@ -111,7 +115,7 @@ impl Kernel {
     /// Whether so many more descriptors are too many.
     #[tactic(auto, using(crate::proofs::Views::domain_rules), unfolding(crate::specs::KernelState::read_of))]
     pub(crate) fn is_open_beyond(&self, d: DomainId, made: usize) -> bool
-        requires live { is_live (machine_of (state_of self.now)) d ≡ true }
+        requires live { is_live (machine self.now) d ≡ true }
         requires made { made ≤ 2 }
         ensures { (f : Reading) → result ≡ too_many_open (as_read f self.now) d made }
     {
@@ -129,7 +133,8 @@ impl Kernel {
     /// What lies there, counted.
     pub fn report(&self) -> Result<Report, AllocError>
         requires { IsSound (state_of self.now) }
-        ensures pools { IfOk result (λ r. r.pools.items ≡ reports_of self.now.store (length self.now.store.pools)) }
+        ensures pools { IfOk result (λ r. r.pools.items ≡ reports_of self.now.store (length
+            self.now.store.pools)) }
         ensures buffers { IfOk result (λ r. r.buffers ≡ length (live_pages self.now.store.arena)) }
         ensures extents { IfOk result (λ r. r.extents ≡ 0) }
         ensures dirty { IfOk result (λ r. r.dirty ≡ 0) }

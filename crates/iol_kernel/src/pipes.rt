@@ -43,26 +43,31 @@ impl Pipe {
         requires { Covers store.old (bufs_of self.old.queue) }
         ensures stays { result ≡ self.old.writing }
         ensures pipe { self.new ≡ without_reader self.old }
-        ensures moves { Moves store.old store.new (bufs_of self.old.queue) (bufs_of self.new.queue) }
+        ensures moves { Moves store.old store.new (bufs_of self.old.queue) (bufs_of
+            self.new.queue) }
         ensures lists { SameLists store.old store.new }
         ensures frees { FreesOnly store.old store.new }
-        ensures settles { AllReadable store.old self.old.queue → AllSettled store.old → AllSettled store.new }
+        ensures settles { AllReadable store.old self.old.queue → AllSettled store.old → AllSettled
+            store.new }
     {
         self.queue.clear(store);
         self.reading = false;
         self.writing
     }
 
-    /// Closes the write end, and releases what waits where nobody reads. Returns whether the read end is open.
+    /// Closes the write end, and releases what waits where nobody reads. Returns whether the read
+    /// end is open.
     #[tactic(auto, using(crate::proofs::ClosedEnds::same_rules))]
     fn close_writer(&mut self, store: &mut Store) -> bool
         requires { Covers store.old (bufs_of self.old.queue) }
         ensures stays { result ≡ self.old.reading }
         ensures pipe { self.new ≡ without_writer self.old }
-        ensures moves { Moves store.old store.new (bufs_of self.old.queue) (bufs_of self.new.queue) }
+        ensures moves { Moves store.old store.new (bufs_of self.old.queue) (bufs_of
+            self.new.queue) }
         ensures lists { SameLists store.old store.new }
         ensures frees { FreesOnly store.old store.new }
-        ensures settles { AllReadable store.old self.old.queue → AllSettled store.old → AllSettled store.new }
+        ensures settles { AllReadable store.old self.old.queue → AllSettled store.old → AllSettled
+            store.new }
     {
         self.writing = false;
         if self.reading {
@@ -126,7 +131,8 @@ impl Pipes {
     /// Adds an empty pipe whose ends are open, in room that is reserved.
     pub(crate) fn add(&mut self, alloc: Global)
         requires { 0 < self.old.room }
-        ensures { self.new.places ≡ placed self.old.places (lowest self.old.places) (record { queue = []; reading = true; writing = true }) }
+        ensures { self.new.places ≡ placed self.old.places (lowest self.old.places) (record { queue
+            = []; reading = true; writing = true }) }
     {
         self.places.put(Pipe {
             queue: iol_pipe::Pipe::new(alloc),
@@ -184,10 +190,14 @@ impl Pipes {
         requires covered { Covers store.old (bufs_of from.now) }
         requires countable { IsCountable store.old (bufs_of from.now) }
         requires writing { (queue_at self.old.places p).writing ≡ true }
-        ensures taken { IfOk result (λ n. n ≡ min (byte_len from.now) (MAX_QUEUE_BYTES - byte_len (queue_at self.old.places p).queue)) }
-        ensures places { IfOk result (λ n. places (queue_at self.new.places p).queue ≡ places (queue_at self.old.places p).queue ++ take n (places from.now)) }
-        ensures pipes { OnOk result (self.new.places ≡ with_queue_of self.old.places p self.new.places) }
-        ensures shares { OnOk result (Shares store.old store.new (bufs_of (queue_at self.old.places p).queue) (bufs_of (queue_at self.new.places p).queue)) }
+        ensures taken { IfOk result (λ n. n ≡ min (byte_len from.now) (MAX_QUEUE_BYTES - byte_len
+            (queue_at self.old.places p).queue)) }
+        ensures places { IfOk result (λ n. places (queue_at self.new.places p).queue ≡ places
+            (queue_at self.old.places p).queue ++ take n (places from.now)) }
+        ensures pipes { OnOk result (self.new.places ≡ with_queue_of self.old.places p
+            self.new.places) }
+        ensures shares { OnOk result (Shares store.old store.new (bufs_of (queue_at self.old.places
+            p).queue) (bufs_of (queue_at self.new.places p).queue)) }
         ensures err { OnErr result (self.new.places ≡ self.old.places) }
         ensures err_store { OnErr result (store.new ≡ store.old) }
     {
@@ -208,10 +218,14 @@ impl Pipes {
         requires covered { Covers store.old (bufs_of (queue_at self.old.places p).queue) }
         requires countable { IsCountable store.old (bufs_of (queue_at self.old.places p).queue) }
         requires reading { (queue_at self.old.places p).reading ≡ true }
-        ensures given { IfOk result (λ a. places a ≡ take_while (may_see store.old.pools d) (take n (places (queue_at self.old.places p).queue))) }
-        ensures rest { IfOk result (λ a. places (queue_at self.new.places p).queue ≡ drop (byte_len a) (places (queue_at self.old.places p).queue)) }
-        ensures pipes { OnOk result (self.new.places ≡ with_queue_of self.old.places p self.new.places) }
-        ensures shares { IfOk result (λ a. Shares store.old store.new (bufs_of (queue_at self.old.places p).queue) (bufs_of a ++ bufs_of (queue_at self.new.places p).queue)) }
+        ensures given { IfOk result (λ a. places a ≡ take_while (may_see store.old.pools d) (take n
+            (places (queue_at self.old.places p).queue))) }
+        ensures rest { IfOk result (λ a. places (queue_at self.new.places p).queue ≡ drop (byte_len
+            a) (places (queue_at self.old.places p).queue)) }
+        ensures pipes { OnOk result (self.new.places ≡ with_queue_of self.old.places p
+            self.new.places) }
+        ensures shares { IfOk result (λ a. Shares store.old store.new (bufs_of (queue_at
+            self.old.places p).queue) (bufs_of a ++ bufs_of (queue_at self.new.places p).queue)) }
         ensures err { OnErr result (self.new.places ≡ self.old.places) }
         ensures err_store { OnErr result (store.new ≡ store.old) }
     {
@@ -224,7 +238,8 @@ impl Pipes {
     pub(crate) fn close_reader(&mut self, store: &mut Store, p: PipeId)
         requires covered { Covers store.old (bufs_of (queue_at self.old.places p).queue) }
         requires reading { (queue_at self.old.places p).reading ≡ true }
-        ensures { ClosesEnd store.old store.new self.old.places self.new.places p (without_reader (queue_at self.old.places p)) }
+        ensures { ClosesEnd store.old store.new self.old.places self.new.places p (without_reader
+            (queue_at self.old.places p)) }
     {
         let place = p.number() as usize;
         let stays = self.places.value_mut(place).close_reader(store);
@@ -238,7 +253,8 @@ impl Pipes {
     pub(crate) fn close_writer(&mut self, store: &mut Store, p: PipeId)
         requires covered { Covers store.old (bufs_of (queue_at self.old.places p).queue) }
         requires writing { (queue_at self.old.places p).writing ≡ true }
-        ensures { ClosesEnd store.old store.new self.old.places self.new.places p (without_writer (queue_at self.old.places p)) }
+        ensures { ClosesEnd store.old store.new self.old.places self.new.places p (without_writer
+            (queue_at self.old.places p)) }
     {
         let place = p.number() as usize;
         let stays = self.places.value_mut(place).close_writer(store);

@@ -8,7 +8,7 @@ ghost use Rattle.iol_core.specs.Meaning.{WantOfRoom, first};
 ghost use Rattle.iol_core.specs.Calls.Pools as calls;
 ghost use Rattle.iol_arena.specs.Chunks.{free_chunks};
 ghost use Rattle.iol_pool.specs.Pools.{AddsPool};
-ghost use Rattle.iol_kernel.specs.KernelState.{Reading, machine_of, IsSound};
+ghost use Rattle.iol_kernel.specs.KernelState.{Reading, IsSound};
 
 use crate::kernel::Kernel;
 use crate::tables::are_live;
@@ -19,7 +19,7 @@ use iol_core::refusals::Refusal;
 use iol_pool::names::Names;
 
 impl Kernel {
-    ghost use Rattle.iol_kernel.specs.Kernel.{state_of, as_read, CarriesOut, KeepsPlaces, Answers, Leaves};
+    ghost use Rattle.iol_kernel.specs.Kernel.{state_of, machine, as_read, CarriesOut, KeepsPlaces, Answers, Leaves};
 
     /// Sets the caller's default pool, in which it places new bytes.
     #[tactic(auto, using(crate::proofs::Stay::stay_rules))]
@@ -44,9 +44,10 @@ impl Kernel {
     }
 
     /// Sets a domain's default pool.
+    #[tactic(auto, using(crate::proofs::Slices::held_rules))]
     fn set_default(&mut self, by: DomainId, pool: PoolId)
         requires sound { IsSound (state_of self.old) }
-        requires live { is_live (machine_of (state_of self.old)) by ≡ true }
+        requires live { is_live (machine self.old) by ≡ true }
         ensures { Answers (λ s. calls.set_pool s by pool) self.old tt self.new }
     {
         self.domains.set_default(by, pool);
@@ -77,10 +78,13 @@ impl Kernel {
         list: &Domains,
     ) -> Result<PoolId, Refusal>
         requires { IsSound (state_of self.old) }
-        ensures create { KeepsPlaces (λ s. calls.pool_create s by chunks list.now) self.old result self.new }
-        ensures chunks { OnOk result (AddsPool self.old.store.arena self.new.store.arena self.old.store.pools self.new.store.pools chunks (calls.distinct list.now)) }
+        ensures create { KeepsPlaces (λ s. calls.pool_create s by chunks list.now) self.old result
+            self.new }
+        ensures chunks { OnOk result (AddsPool self.old.store.arena self.new.store.arena
+            self.old.store.pools self.new.store.pools chunks (calls.distinct list.now)) }
         ensures room { OnOk result (chunks ≤ length (free_chunks self.old.store.arena)) }
-        ensures no_room { (p : ℕ) → result ≡ Err (Refusal.NoRoom p) → length (free_chunks self.old.store.arena) < chunks }
+        ensures no_room { (p : ℕ) → result ≡ Err (Refusal.NoRoom p) → length (free_chunks
+            self.old.store.arena) < chunks }
     {
         let names = self.names_for(by, chunks, list.as_slice())?;
         Ok(self.add_pool(chunks, names)?)
@@ -90,9 +94,11 @@ impl Kernel {
     fn names_for(&self, by: DomainId, chunks: u32, list: &[DomainId]) -> Result<Names, Refusal>
         ensures few { OnOk result ((f : Reading) → length (as_read f self.now).pools < MAX_POOLS) }
         ensures names { IfOk result (λ names. names ≡ calls.distinct list.now) }
-        ensures ok { OnOk result ((f : Reading) → first (calls.pool_create (as_read f self.now) by chunks list.now).refusals ≡ None) }
+        ensures ok { OnOk result ((f : Reading) → first (calls.pool_create (as_read f self.now) by
+            chunks list.now).refusals ≡ None) }
         ensures roomy { (p : ℕ) → result ≡ Err (Refusal.NoRoom p) → ⊥ }
-        ensures err { IfErr result (λ x. (f : Reading) → first (calls.pool_create (as_read f self.now) by chunks list.now).refusals ≡ Some x) }
+        ensures err { IfErr result (λ x. (f : Reading) → first (calls.pool_create (as_read f
+            self.now) by chunks list.now).refusals ≡ Some x) }
     {
         if !self.are_live(by, list) {
             return Err(Refusal::NoDomain);
@@ -111,7 +117,8 @@ impl Kernel {
 
     /// Whether a domain and each of a list are live.
     fn are_live(&self, by: DomainId, list: &[DomainId]) -> bool
-        ensures { (f : Reading) → result ≡ (is_live (as_read f self.now) by && list_all (λ d. is_live (as_read f self.now) d) list.now) }
+        ensures { (f : Reading) → result ≡ (is_live (as_read f self.now) by && list_all (λ d.
+            is_live (as_read f self.now) d) list.now) }
     {
         self.is_live(by) && are_live(&self.domains, list)
     }
@@ -128,13 +135,18 @@ impl Kernel {
     #[tactic(auto, using(crate::proofs::Stay::stay_rules))]
     fn add_pool(&mut self, chunks: u32, names: Names) -> Result<PoolId, Refusal>
         requires sound { IsSound (state_of self.old) }
-        requires few { length (machine_of (state_of self.old)).pools < MAX_POOLS }
-        ensures number { IfOk result (λ n. (f : Reading) → n ≡ length (as_read f self.old).pools + 1) }
-        ensures added { OnOk result (Leaves (λ s. record s { pools = s.pools ++ record { domains = names; closed = false } ∷ [] }) self.old self.new) }
-        ensures chunks { OnOk result (AddsPool self.old.store.arena self.new.store.arena self.old.store.pools self.new.store.pools chunks names) }
+        requires few { length (machine self.old).pools < MAX_POOLS }
+        ensures number { IfOk result (λ n. (f : Reading) → n ≡ length (as_read f self.old).pools +
+            1) }
+        ensures added { OnOk result (Leaves (λ s. record s { pools = s.pools ++ record { domains =
+            names; closed = false } ∷ [] }) self.old self.new) }
+        ensures chunks { OnOk result (AddsPool self.old.store.arena self.new.store.arena
+            self.old.store.pools self.new.store.pools chunks names) }
         ensures room { OnOk result (chunks ≤ length (free_chunks self.old.store.arena)) }
-        ensures no_room { (p : ℕ) → result ≡ Err (Refusal.NoRoom p) → length (free_chunks self.old.store.arena) < chunks }
-        ensures late { IfErr result (λ x. (f : Reading) → WantOfRoom (length (as_read f self.old).pools + 1) x) }
+        ensures no_room { (p : ℕ) → result ≡ Err (Refusal.NoRoom p) → length (free_chunks
+            self.old.store.arena) < chunks }
+        ensures late { IfErr result (λ x. (f : Reading) → WantOfRoom (length (as_read f
+            self.old).pools + 1) x) }
         ensures err { OnErr result (state_of self.new ≡ state_of self.old) }
     {
         Ok(self.store.create_pool(self.alloc, chunks, names)?)
@@ -165,9 +177,10 @@ impl Kernel {
     /// Closes a pool. No file and no connection can name it yet.
     fn end_pool(&mut self, p: PoolId)
         requires sound { IsSound (state_of self.old) }
-        requires there { is_pool (machine_of (state_of self.old)) p ≡ true }
+        requires there { is_pool (machine self.old) p ≡ true }
         ensures idle { (f : Reading) → calls.is_busy (as_read f self.old) p ≡ false }
-        ensures closed { Leaves (λ s. record s { pools = with_numbered s.pools p (record (state.pool s p) { closed = true }) }) self.old self.new }
+        ensures closed { Leaves (λ s. record s { pools = with_numbered s.pools p (record (state.pool
+            s p) { closed = true }) }) self.old self.new }
     {
         self.store.close_pool(p);
     }

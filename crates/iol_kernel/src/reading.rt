@@ -5,7 +5,7 @@ ghost use Rattle.iol_core.specs.Text.{barred};
 ghost use Rattle.iol_core.specs.Calls.Aggregates.{too_many_aggs};
 ghost use Rattle.iol_core.specs.Calls.Reading as calls;
 ghost use Rattle.iol_hold.specs.Layout.{KeepsPools};
-ghost use Rattle.iol_kernel.specs.KernelState.{Reading, machine_of, queue_at, IsSound};
+ghost use Rattle.iol_kernel.specs.KernelState.{Reading, queue_at, IsSound};
 
 use crate::kernel::Kernel;
 use iol_core::descriptors::Descriptor;
@@ -14,7 +14,7 @@ use iol_core::refusals::Refusal;
 use std::alloc::AllocError;
 
 impl Kernel {
-    ghost use Rattle.iol_kernel.specs.Kernel.{state_of, as_read, CarriesOut, Answers};
+    ghost use Rattle.iol_kernel.specs.Kernel.{state_of, machine, as_read, CarriesOut, Answers};
 
     /// Reads up to `count` bytes, as the caller's next aggregate.
     #[tactic(auto, using(crate::proofs::Stay::stay_rules))]
@@ -46,7 +46,8 @@ impl Kernel {
     ) -> Result<AggId, Refusal>
         requires sound { IsSound (state_of self.old) }
         requires live { (f : Reading) → is_live (as_read f self.old) by ≡ true }
-        requires from { (f : Reading) → descriptor (as_read f self.old) by fd ≡ Some (Descriptor.ReadEnd pipe) }
+        requires from { (f : Reading) → descriptor (as_read f self.old) by fd ≡ Some
+            (Descriptor.ReadEnd pipe) }
         ensures { CarriesOut (λ s. calls.iol_read s by fd count) self.old result self.new }
     {
         if self.is_too_many(by, 1, 0) {
@@ -63,7 +64,8 @@ impl Kernel {
 
     /// The pool of the first byte asked for, where the reader may not read it.
     fn first_barred(&self, by: DomainId, p: PipeId, count: u32) -> Option<PoolId>
-        ensures { (f : Reading) → KeepsPools f → result ≡ barred (may_read (as_read f self.now) by) (take (min count 1) (pipe_at (as_read f self.now) p).queue) }
+        ensures { (f : Reading) → KeepsPools f → result ≡ barred (may_read (as_read f self.now) by)
+            (take (min count 1) (pipe_at (as_read f self.now) p).queue) }
     {
         if count == 0 {
             return None;
@@ -78,19 +80,22 @@ impl Kernel {
     /// Whether bytes are asked for, none wait, and some may come.
     #[tactic(auto, using(crate::proofs::ReadOf::pipe_rules))]
     fn must_wait(&self, p: PipeId, count: u32) -> bool
-        ensures { (f : Reading) → result ≡ calls.must_wait (as_read f self.now) (Some (Descriptor.ReadEnd p)) count }
+        ensures { (f : Reading) → result ≡ calls.must_wait (as_read f self.now) (Some
+            (Descriptor.ReadEnd p)) count }
     {
         count > 0 && self.pipes.len(p) == 0 && self.pipes.is_writing(p)
     }
 
     /// Takes what the reader may see of the first bytes of a pipe's queue, as its next aggregate.
-    #[tactic(auto, using(crate::proofs::Stay::stay_rules))]
+    #[tactic(auto, using(crate::proofs::Stay::stay_rules, crate::proofs::Slices::held_rules))]
     fn take(&mut self, by: DomainId, fd: Fd, p: PipeId, n: u32) -> Result<AggId, AllocError>
         requires sound { IsSound (state_of self.old) }
-        requires live { is_live (machine_of (state_of self.old)) by ≡ true }
-        requires few { too_many_aggs (machine_of (state_of self.old)) by 1 0 ≡ false }
-        requires from { (f : Reading) → descriptor (as_read f self.old) by fd ≡ Some (Descriptor.ReadEnd p) }
-        ensures done { IfOk result (λ a. Answers (λ s. calls.iol_read s by fd n) self.old a self.new) }
+        requires live { is_live (machine self.old) by ≡ true }
+        requires few { too_many_aggs (machine self.old) by 1 0 ≡ false }
+        requires from { (f : Reading) → descriptor (as_read f self.old) by fd ≡ Some
+            (Descriptor.ReadEnd p) }
+        ensures done { IfOk result (λ a. Answers (λ s. calls.iol_read s by fd n) self.old a
+            self.new) }
         ensures err { OnErr result (state_of self.new ≡ state_of self.old) }
     {
         self.domains.reserve_aggs(by, 1)?;

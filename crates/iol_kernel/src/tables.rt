@@ -1,5 +1,5 @@
-//! Effects on the table of domains, whose aggregates are slices of a store. Room is reserved first, so that a refusal
-//! has changed nothing.
+//! Effects on the table of domains, whose aggregates are slices of a store. Room is reserved
+//! first, so that a refusal has changed nothing.
 ghost use Rattle.std.specs.Prelude.{◌≡◌, ◌≢◌, ℕ, ◌+◌, ◌<◌, ◌≤◌, ◌^◌, length, slice_range, true, false, not, None, [], ◌++◌, IfOk, IfErr, OnOk, OnErr, Err, option_map, find};
 ghost use Rattle.std.specs.List.{list_all};
 ghost use Rattle.iol_core.specs.Text.{labelled};
@@ -48,9 +48,11 @@ pub(crate) fn add_bytes(
     requires small { length bytes.now ≤ MAX_AGGREGATE_BYTES }
     requires open { (pool_in store.old.pools pool).closed ≡ false }
     ensures number { IfOk result (λ n. n ≡ (domain_in (domains_of domains.old) d).next_agg) }
-    ensures added { OnOk result (AddsText store.old store.new (domains_of domains.old) (domains_of domains.new) d (labelled pool bytes.now) (lowest_of store.old pool (length bytes.now))) }
+    ensures added { OnOk result (AddsText store.old store.new (domains_of domains.old) (domains_of
+        domains.new) d (labelled pool bytes.now) (lowest_of store.old pool (length bytes.now))) }
     ensures room { OnOk result (has_room store.old pool (length bytes.now) ≡ true) }
-    ensures no_room { (p : ℕ) → result ≡ Err (Refusal.NoRoom p) → has_room store.old pool (length bytes.now) ≡ false }
+    ensures no_room { (p : ℕ) → result ≡ Err (Refusal.NoRoom p) → has_room store.old pool (length
+        bytes.now) ≡ false }
     ensures late { IfErr result (WantOfRoom pool) }
     ensures err { OnErr result ((domains_of domains.new) ≡ (domains_of domains.old)) }
     ensures err_store { OnErr result (store.new ≡ store.old) }
@@ -76,9 +78,11 @@ pub(crate) fn add_part(
     requires ordered { from ≤ to }
     requires within { to ≤ byte_len (slices_in (domains_of domains.old) d agg) }
     requires covered { Covers store.old (bufs_of (slices_in (domains_of domains.old) d agg)) }
-    requires countable { IsCountable store.old (bufs_of (slices_in (domains_of domains.old) d agg)) }
+    requires countable { IsCountable store.old (bufs_of (slices_in (domains_of
+        domains.old) d agg)) }
     ensures number { IfOk result (λ n. n ≡ (domain_in (domains_of domains.old) d).next_agg) }
-    ensures added { OnOk result (AddsShared store.old store.new (domains_of domains.old) (domains_of domains.new) d (slice_range (places (slices_in (domains_of domains.old) d agg)) from to)) }
+    ensures added { OnOk result (AddsShared store.old store.new (domains_of domains.old) (domains_of
+        domains.new) d (slice_range (places (slices_in (domains_of domains.old) d agg)) from to)) }
     ensures err { OnErr result (domains_of domains.new ≡ domains_of domains.old) }
     ensures err_store { OnErr result (store.new ≡ store.old) }
 {
@@ -107,12 +111,18 @@ pub(crate) fn add_replaced(
     requires other_there { agg_in (domains_of domains.old) d other ≢ None }
     requires ordered { from ≤ to }
     requires within { to ≤ byte_len (slices_in (domains_of domains.old) d agg) }
-    requires small { byte_len (slices_in (domains_of domains.old) d agg) + byte_len (slices_in (domains_of domains.old) d other) < 2 ^ 32 }
+    requires small { byte_len (slices_in (domains_of domains.old) d agg) + byte_len (slices_in
+        (domains_of domains.old) d other) < 2 ^ 32 }
     requires covered { Covers store.old (bufs_of (slices_in (domains_of domains.old) d agg)) }
-    requires other_covered { Covers store.old (bufs_of (slices_in (domains_of domains.old) d other)) }
-    requires countable { IsCountable store.old (bufs_of (slices_in (domains_of domains.old) d agg) ++ bufs_of (slices_in (domains_of domains.old) d agg) ++ bufs_of (slices_in (domains_of domains.old) d other)) }
+    requires other_covered { Covers store.old (bufs_of (slices_in (domains_of
+        domains.old) d other)) }
+    requires countable { IsCountable store.old (bufs_of (slices_in (domains_of domains.old) d agg)
+        ++ bufs_of (slices_in (domains_of domains.old) d agg) ++ bufs_of (slices_in (domains_of
+        domains.old) d other)) }
     ensures number { IfOk result (λ n. n ≡ (domain_in (domains_of domains.old) d).next_agg) }
-    ensures added { OnOk result (AddsShared store.old store.new (domains_of domains.old) (domains_of domains.new) d (replaced (places (slices_in (domains_of domains.old) d agg)) from to (places (slices_in (domains_of domains.old) d other)))) }
+    ensures added { OnOk result (AddsShared store.old store.new (domains_of domains.old) (domains_of
+        domains.new) d (replaced (places (slices_in (domains_of domains.old) d agg)) from to (places
+        (slices_in (domains_of domains.old) d other)))) }
     ensures err { OnErr result (domains_of domains.new ≡ domains_of domains.old) }
     ensures err_store { OnErr result (store.new ≡ store.old) }
 {
@@ -142,9 +152,12 @@ pub(crate) fn split_agg(
     requires few { (domain_in (domains_of domains.old) d).next_agg + 1 ≤ LAST_AGGREGATE }
     requires within { at ≤ byte_len (slices_in (domains_of domains.old) d agg) }
     requires covered { Covers store.old (bufs_of (slices_in (domains_of domains.old) d agg)) }
-    requires countable { IsCountable store.old (bufs_of (slices_in (domains_of domains.old) d agg)) }
-    ensures numbers { IfOk result (λ r. r ≡ ((domain_in (domains_of domains.old) d).next_agg, (domain_in (domains_of domains.old) d).next_agg + 1)) }
-    ensures split { OnOk result (SplitsAgg store.old store.new (domains_of domains.old) (domains_of domains.new) d agg at) }
+    requires countable { IsCountable store.old (bufs_of (slices_in (domains_of
+        domains.old) d agg)) }
+    ensures numbers { IfOk result (λ r. r ≡ ((domain_in (domains_of domains.old) d).next_agg,
+        (domain_in (domains_of domains.old) d).next_agg + 1)) }
+    ensures split { OnOk result (SplitsAgg store.old store.new (domains_of domains.old) (domains_of
+        domains.new) d agg at) }
     ensures err { OnErr result (domains_of domains.new ≡ domains_of domains.old) }
     ensures err_store { OnErr result (store.new ≡ store.old) }
 {
@@ -178,9 +191,11 @@ pub(crate) fn join_aggs(
     requires second { agg_in (domains_of domains.old) d second ≢ None }
     requires differ { first ≢ second }
     requires few { (domain_in (domains_of domains.old) d).next_agg ≤ LAST_AGGREGATE }
-    requires small { byte_len (slices_in (domains_of domains.old) d first) + byte_len (slices_in (domains_of domains.old) d second) < 2 ^ 32 }
+    requires small { byte_len (slices_in (domains_of domains.old) d first) + byte_len (slices_in
+        (domains_of domains.old) d second) < 2 ^ 32 }
     ensures number { IfOk result (λ n. n ≡ (domain_in (domains_of domains.old) d).next_agg) }
-    ensures joined { OnOk result (domains_of domains.new ≡ joined_in (domains_of domains.old) d first second) }
+    ensures joined { OnOk result (domains_of domains.new ≡ joined_in (domains_of domains.old) d
+        first second) }
     ensures err { OnErr result (domains_of domains.new ≡ domains_of domains.old) }
 {
     domains.reserve_aggs(d, 1)?;
@@ -203,7 +218,8 @@ pub(crate) fn join_aggs(
 
 /// The pool of the first slice that the domain may not read.
 pub(crate) fn first_hidden(slices: &[Slice], pools: &Pools, d: DomainId) -> Option<PoolId>
-    ensures { result ≡ option_map (λ x. x.hold.pool) (find (λ x. not (names_in pools.now x.hold.pool d)) slices.now) }
+    ensures { result ≡ option_map (λ x. x.hold.pool) (find (λ x. not (names_in pools.now x.hold.pool
+        d)) slices.now) }
 {
     let hidden = slices
         .iter()
@@ -223,7 +239,8 @@ pub(crate) fn move_agg(
     requires there { agg_in (domains_of domains.old) from agg ≢ None }
     requires few { (domain_in (domains_of domains.old) to).next_agg ≤ LAST_AGGREGATE }
     ensures number { IfOk result (λ n. n ≡ (domain_in (domains_of domains.old) to).next_agg) }
-    ensures moved { OnOk result (domains_of domains.new ≡ with_agg_in (without_agg_in (domains_of domains.old) from agg) to (slices_in (domains_of domains.old) from agg)) }
+    ensures moved { OnOk result (domains_of domains.new ≡ with_agg_in (without_agg_in (domains_of
+        domains.old) from agg) to (slices_in (domains_of domains.old) from agg)) }
     ensures err { OnErr result (domains_of domains.new ≡ domains_of domains.old) }
 {
     domains.reserve_aggs(to, 1)?;
@@ -238,7 +255,8 @@ pub(crate) fn release_all(store: &mut Store, aggs: Taken<Agg>)
     ensures moves { Moves store.old store.new (bufs_in aggs) [] }
     ensures lists { SameLists store.old store.new }
     ensures frees { FreesOnly store.old store.new }
-    ensures settles { Each (λ e. AllReadable store.old e.1) aggs → AllSettled store.old → AllSettled store.new }
+    ensures settles { Each (λ e. AllReadable store.old e.1) aggs → AllSettled store.old → AllSettled
+        store.new }
 {
     let mut left = aggs;
     while let Some((_, agg)) = left.pop() {

@@ -3,7 +3,7 @@ ghost use Rattle.std.specs.Prelude.{◌≡◌, ℕ, ◌-◌, length, true, false
 ghost use Rattle.iol_core.specs.State.{is_live, descriptor, pipe_at, text};
 ghost use Rattle.iol_core.specs.Calls.Aggregates.{lacks_agg};
 ghost use Rattle.iol_core.specs.Calls.Writing as calls;
-ghost use Rattle.iol_kernel.specs.KernelState.{Reading, machine_of, queue_at, IsSound};
+ghost use Rattle.iol_kernel.specs.KernelState.{Reading, queue_at, IsSound};
 
 use crate::kernel::Kernel;
 use iol_core::descriptors::Descriptor;
@@ -13,7 +13,7 @@ use iol_core::refusals::Refusal;
 use std::alloc::AllocError;
 
 impl Kernel {
-    ghost use Rattle.iol_kernel.specs.Kernel.{state_of, as_read, CarriesOut, Answers};
+    ghost use Rattle.iol_kernel.specs.Kernel.{state_of, machine, as_read, CarriesOut, Answers};
 
     /// Writes an aggregate, which stays. Returns how many of its bytes were taken.
     #[tactic(auto, using(crate::proofs::Stay::stay_rules))]
@@ -49,7 +49,8 @@ impl Kernel {
         requires live { (f : Reading) → is_live (as_read f self.old) by ≡ true }
         requires there { (f : Reading) → lacks_agg (as_read f self.old) by agg ≡ false }
         requires len { (f : Reading) → len ≡ length (text (as_read f self.old) by agg) }
-        requires to { (f : Reading) → descriptor (as_read f self.old) by fd ≡ Some (Descriptor.WriteEnd pipe) }
+        requires to { (f : Reading) → descriptor (as_read f self.old) by fd ≡ Some
+            (Descriptor.WriteEnd pipe) }
         ensures { CarriesOut (λ s. calls.iol_write s by fd agg) self.old result self.new }
     {
         if !self.is_read(pipe) {
@@ -72,19 +73,22 @@ impl Kernel {
     /// How many bytes more fit into a pipe.
     #[tactic(auto, using(crate::proofs::ReadOf::pipe_rules))]
     fn room_in(&self, p: PipeId) -> u32
-        ensures { (f : Reading) → result ≡ MAX_QUEUE_BYTES - length (pipe_at (as_read f self.now) p).queue }
+        ensures { (f : Reading) → result ≡ MAX_QUEUE_BYTES - length (pipe_at (as_read f self.now)
+            p).queue }
     {
         MAX_QUEUE_BYTES as u32 - self.pipes.len(p)
     }
 
     /// Adds the longest prefix of an aggregate that fits to a pipe's queue.
-    #[tactic(auto, using(crate::proofs::Stay::stay_rules))]
+    #[tactic(auto, using(crate::proofs::Stay::stay_rules, crate::proofs::Slices::held_rules))]
     fn push(&mut self, by: DomainId, fd: Fd, agg: AggId, p: PipeId) -> Result<u32, AllocError>
         requires sound { IsSound (state_of self.old) }
-        requires live { is_live (machine_of (state_of self.old)) by ≡ true }
-        requires there { lacks_agg (machine_of (state_of self.old)) by agg ≡ false }
-        requires to { (f : Reading) → descriptor (as_read f self.old) by fd ≡ Some (Descriptor.WriteEnd p) }
-        ensures done { IfOk result (λ n. Answers (λ s. calls.iol_write s by fd agg) self.old n self.new) }
+        requires live { is_live (machine self.old) by ≡ true }
+        requires there { lacks_agg (machine self.old) by agg ≡ false }
+        requires to { (f : Reading) → descriptor (as_read f self.old) by fd ≡ Some
+            (Descriptor.WriteEnd p) }
+        ensures done { IfOk result (λ n. Answers (λ s. calls.iol_write s by fd agg) self.old n
+            self.new) }
         ensures err { OnErr result (state_of self.new ≡ state_of self.old) }
     {
         let Some(found) = self.domains.agg(by, agg) else {

@@ -5,17 +5,11 @@ use Rattle.iol_kernel.specs.Kernel.{state_of}
 use Rattle.iol_kernel.proofs.Additions.{dup_answers}
 use Rattle.iol_kernel.proofs.Effects.{few_aggs, few_numbers}
 use Rattle.iol_kernel.proofs.ReadOf.{live_held, length_text-read_of}
-use Rattle.iol_kernel.proofs.Slices.{there_held, slices_covered, slices_countable}
+use Rattle.iol_kernel.proofs.Slices.{slices_covered, slices_countable}
 use Rattle.iol_kernel.proofs.kernel.Kernel.add_dup.Goals as goal
-
-pub add_part-requires-clause-live : goal.add_part-requires-clause-live
-add_part-requires-clause-live c = live_held _ (state_of c.args.self.now) c.args.by c.requires.live
 
 pub add_part-requires-clause-few : goal.add_part-requires-clause-few
 add_part-requires-clause-few c = omega (arith, few_numbers (byte_at c.args.self.now.store) (state_of c.args.self.now) c.args.by 1 0 c.requires.few)
-
-pub add_part-requires-clause-there : goal.add_part-requires-clause-there
-add_part-requires-clause-there c = there_held _ (state_of c.args.self.now) c.args.by c.args.agg c.requires.there
 
 pub add_part-requires-clause-within : goal.add_part-requires-clause-within
 add_part-requires-clause-within c = omega (arith, c.requires.whole, length_text-read_of (byte_at c.args.self.now.store) (state_of c.args.self.now) c.args.by c.args.agg)

@@ -12,9 +12,6 @@ use Rattle.iol_kernel.proofs.Opening.{end_held, not_none, freed-alone, freed-rea
 use Rattle.iol_kernel.proofs.ReadOf.{live_held, descriptor-read_of}
 use Rattle.iol_kernel.proofs.kernel.Kernel.close_fd.Goals as goal
 
-pub take_fd-requires-clause-live : goal.take_fd-requires-clause-live
-take_fd-requires-clause-live c = live_held _ (state_of c.args.self.now) c.args.by c.requires.live
-
 pub take_fd-requires-clause-there : goal.take_fd-requires-clause-there
 take_fd-requires-clause-there c = not_none _ _ c.args.end c.requires.open (sym (descriptor-read_of _ (state_of c.args.self.now) c.args.by c.args.fd))
 

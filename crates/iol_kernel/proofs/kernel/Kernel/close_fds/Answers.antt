@@ -9,12 +9,8 @@ use Rattle.iol_kernel.specs.Kernel.{state_of}
 use Rattle.iol_kernel.proofs.CloseAll.{pools-with_domain}
 use Rattle.iol_kernel.proofs.Effects.{fds-changed, leaves_here, leaves_then, leaves_as}
 use Rattle.iol_kernel.proofs.ReadOf.{live_held, fds-read_of}
-use Rattle.iol_kernel.proofs.TakenEnds.{taken_ends}
+use Rattle.iol_kernel.proofs.TakenEnds.{taken-sound, taken_ends}
 use Rattle.iol_kernel.proofs.kernel.Kernel.close_fds.Goals as goal
-use Rattle.iol_kernel.proofs.TakenEnds.{taken-sound}
-
-pub take_fds-ends-requires : goal.take_fds-ends-requires
-take_fds-ends-requires c = live_held _ (state_of c.args.self.now) c.args.by c.requires.live
 
 pub close_ends-requires-clause-sound : goal.close_ends-requires-clause-sound
 close_ends-requires-clause-sound c = taken-sound (state_of c.args.self.now) (domains_of c.take_fds-ends.new.self) c.args.by c.requires.sound (live_held _ (state_of c.args.self.now) c.args.by c.requires.live) c.take_fds-ends.ensures.rest

@@ -4,9 +4,6 @@ use Rattle.iol_kernel.proofs.GivenUp.{all_covered, aggs_dropped}
 use Rattle.iol_kernel.proofs.ReadOf.{live_held}
 use Rattle.iol_kernel.proofs.kernel.Kernel.drop_aggs.Goals as goal
 
-pub take_aggs-aggs-requires : goal.take_aggs-aggs-requires
-take_aggs-aggs-requires c = live_held _ (state_of c.args.self.now) c.args.by c.requires.live
-
 pub release_all-requires : goal.release_all-requires
 release_all-requires c = all_covered (state_of c.args.self.now) c.args.by c.take_aggs-aggs.result c.requires.sound (live_held _ (state_of c.args.self.now) c.args.by c.requires.live) c.take_aggs-aggs.ensures.given
 

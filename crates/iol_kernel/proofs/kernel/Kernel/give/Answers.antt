@@ -8,15 +8,6 @@ use Rattle.iol_kernel.proofs.ReadOf.{live_held}
 use Rattle.iol_kernel.proofs.Slices.{there_held}
 use Rattle.iol_kernel.proofs.kernel.Kernel.give.Goals as goal
 
-pub move_agg-requires-clause-from : goal.move_agg-requires-clause-from
-move_agg-requires-clause-from c = live_held _ (state_of c.args.self.now) c.args.by c.requires.from
-
-pub move_agg-requires-clause-to : goal.move_agg-requires-clause-to
-move_agg-requires-clause-to c = live_held _ (state_of c.args.self.now) c.args.to c.requires.to
-
-pub move_agg-requires-clause-there : goal.move_agg-requires-clause-there
-move_agg-requires-clause-there c = there_held _ (state_of c.args.self.now) c.args.by c.args.agg c.requires.there
-
 pub move_agg-requires-clause-few : goal.move_agg-requires-clause-few
 move_agg-requires-clause-few c = omega (arith, few_numbers (byte_at c.args.self.now.store) (state_of c.args.self.now) c.args.to 1 1 c.requires.few)
 

@@ -9,15 +9,6 @@ use Rattle.iol_kernel.proofs.Slices.{there_held}
 use Rattle.iol_kernel.proofs.kernel.Kernel.join.Goals as goal
 use Rattle.iol_kernel.specs.KernelState.{joined}
 
-pub join_aggs-requires-clause-live : goal.join_aggs-requires-clause-live
-join_aggs-requires-clause-live c = live_held _ (state_of c.args.self.now) c.args.by c.requires.live
-
-pub join_aggs-requires-clause-first : goal.join_aggs-requires-clause-first
-join_aggs-requires-clause-first c = there_held _ (state_of c.args.self.now) c.args.by c.args.first c.requires.first
-
-pub join_aggs-requires-clause-second : goal.join_aggs-requires-clause-second
-join_aggs-requires-clause-second c = there_held _ (state_of c.args.self.now) c.args.by c.args.second c.requires.second
-
 pub join_aggs-requires-clause-few : goal.join_aggs-requires-clause-few
 join_aggs-requires-clause-few c = omega (arith, few_numbers (byte_at c.args.self.now.store) (state_of c.args.self.now) c.args.by 1 2 c.requires.few)
 

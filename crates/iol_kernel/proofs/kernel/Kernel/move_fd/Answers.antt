@@ -8,14 +8,8 @@ use Rattle.iol_kernel.proofs.Opening.{any_end, end_held, not_none, few_to, other
 use Rattle.iol_kernel.proofs.ReadOf.{live_held, descriptor-read_of}
 use Rattle.iol_kernel.proofs.kernel.Kernel.move_fd.Goals as goal
 
-pub move_fd-requires-clause-live : goal.move_fd-requires-clause-live
-move_fd-requires-clause-live c = live_held _ (state_of c.args.self.now) c.args.by c.requires.from
-
 pub move_fd-requires-clause-there : goal.move_fd-requires-clause-there
 move_fd-requires-clause-there c = not_none _ _ c.args.given c.requires.given (sym (descriptor-read_of _ (state_of c.args.self.now) c.args.by c.args.fd))
-
-pub add_fd-requires-clause-live : goal.add_fd-requires-clause-live
-add_fd-requires-clause-live c = live_held _ (state_of c.args.self.now) c.args.to c.requires.to
 
 pub add_fd-requires-clause-few : goal.add_fd-requires-clause-few
 add_fd-requires-clause-few c =

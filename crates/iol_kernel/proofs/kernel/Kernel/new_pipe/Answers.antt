@@ -16,9 +16,6 @@ next-requires c =
     let h = state_of c.args.self.now in
     omega (arith, c.requires.few_pipes, taken_pipes-read_of (byte_at h.store) h, ap (λ (qs : List (Option (Pipe (List Slice)))). taken qs) c.in_ok-reserve.ensures.same)
 
-pub add_ends-requires-clause-live : goal.add_ends-requires-clause-live
-add_ends-requires-clause-live c = live_held _ (state_of c.args.self.now) c.args.by c.requires.live
-
 pub add_ends-requires-clause-few : goal.add_ends-requires-clause-few
 add_ends-requires-clause-few c = omega (arith, few_open_held (byte_at c.args.self.now.store) (state_of c.args.self.now) c.args.by 2 c.requires.few)
 

@@ -7,9 +7,6 @@ use Rattle.iol_kernel.proofs.Effects.{few_aggs, few_numbers, placed-machine, pla
 use Rattle.iol_kernel.proofs.ReadOf.{live_held, next_agg-read_of, closed-read_of}
 use Rattle.iol_kernel.proofs.kernel.Kernel.place.Goals as goal
 
-pub add_bytes-requires-clause-live : goal.add_bytes-requires-clause-live
-add_bytes-requires-clause-live c = live_held _ (state_of c.args.self.now) c.args.by c.requires.live
-
 pub add_bytes-requires-clause-few : goal.add_bytes-requires-clause-few
 add_bytes-requires-clause-few c = omega (arith, few_numbers (byte_at c.args.self.now.store) (state_of c.args.self.now) c.args.by 1 0 c.requires.few)
 

@@ -13,9 +13,6 @@ use Rattle.iol_kernel.proofs.Sound.{agg_small}
 use Rattle.iol_kernel.proofs.Uses.{agg_covered, countable}
 use Rattle.iol_kernel.proofs.kernel.Kernel.push.Goals as goal
 
-pub agg-requires : goal.agg-requires
-agg-requires c = live_held _ (state_of c.args.self.now) c.args.by c.requires.live
-
 pub unreachable-requires : goal.unreachable-requires
 unreachable-requires c = there_held _ (state_of c.args.self.now) c.args.by c.args.agg c.requires.there (sym c.in_default.ensures)
 

@@ -2,15 +2,8 @@ use Rattle.iol_desc.specs.Tables.{domains_of}
 use Rattle.iol_kernel.specs.Kernel.{state_of}
 use Rattle.iol_kernel.proofs.Effects.{dropped}
 use Rattle.iol_kernel.proofs.ReadOf.{live_held}
-use Rattle.iol_kernel.proofs.Slices.{there_held}
 use Rattle.iol_kernel.proofs.Uses.{agg_covered}
 use Rattle.iol_kernel.proofs.kernel.Kernel.release.Goals as goal
-
-pub take_agg-given-requires-clause-live : goal.take_agg-given-requires-clause-live
-take_agg-given-requires-clause-live c = live_held _ (state_of c.args.self.now) c.args.by c.requires.live
-
-pub take_agg-given-requires-clause-there : goal.take_agg-given-requires-clause-there
-take_agg-given-requires-clause-there c = there_held _ (state_of c.args.self.now) c.args.by c.args.agg c.requires.there
 
 pub release-requires : goal.release-requires
 release-requires c = agg_covered c.args.self.now.store (domains_of c.args.self.now.domains) c.args.self.now.pipes.places c.args.by c.args.agg c.take_agg-given.result c.requires.sound.counted (live_held _ (state_of c.args.self.now) c.args.by c.requires.live) c.take_agg-given.ensures.given

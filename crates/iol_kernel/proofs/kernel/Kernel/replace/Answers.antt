@@ -5,20 +5,11 @@ use Rattle.iol_kernel.specs.Kernel.{state_of}
 use Rattle.iol_kernel.proofs.Additions.{replaced_answers}
 use Rattle.iol_kernel.proofs.Effects.{few_aggs, few_numbers}
 use Rattle.iol_kernel.proofs.ReadOf.{live_held, length_text-read_of}
-use Rattle.iol_kernel.proofs.Slices.{there_held, slices_small, slices_covered, thrice_countable}
+use Rattle.iol_kernel.proofs.Slices.{slices_small, slices_covered, thrice_countable}
 use Rattle.iol_kernel.proofs.kernel.Kernel.replace.Goals as goal
-
-pub add_replaced-requires-clause-live : goal.add_replaced-requires-clause-live
-add_replaced-requires-clause-live c = live_held _ (state_of c.args.self.now) c.args.by c.requires.live
 
 pub add_replaced-requires-clause-few : goal.add_replaced-requires-clause-few
 add_replaced-requires-clause-few c = omega (arith, few_numbers (byte_at c.args.self.now.store) (state_of c.args.self.now) c.args.by 1 0 c.requires.few)
-
-pub add_replaced-requires-clause-there : goal.add_replaced-requires-clause-there
-add_replaced-requires-clause-there c = there_held _ (state_of c.args.self.now) c.args.by c.args.agg c.requires.there
-
-pub add_replaced-requires-clause-other_there : goal.add_replaced-requires-clause-other_there
-add_replaced-requires-clause-other_there c = there_held _ (state_of c.args.self.now) c.args.by c.args.other c.requires.other_there
 
 pub add_replaced-requires-clause-small : goal.add_replaced-requires-clause-small
 add_replaced-requires-clause-small c = omega (arith, slices_small (state_of c.args.self.now) c.args.by c.args.agg c.requires.sound, slices_small (state_of c.args.self.now) c.args.by c.args.other c.requires.sound)

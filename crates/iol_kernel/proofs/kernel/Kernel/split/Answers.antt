@@ -8,12 +8,6 @@ use Rattle.iol_kernel.proofs.Regrouping.{split_answers}
 use Rattle.iol_kernel.proofs.Slices.{there_held, slices_covered, slices_countable}
 use Rattle.iol_kernel.proofs.kernel.Kernel.split.Goals as goal
 
-pub split_agg-requires-clause-live : goal.split_agg-requires-clause-live
-split_agg-requires-clause-live c = live_held _ (state_of c.args.self.now) c.args.by c.requires.live
-
-pub split_agg-requires-clause-there : goal.split_agg-requires-clause-there
-split_agg-requires-clause-there c = there_held _ (state_of c.args.self.now) c.args.by c.args.agg c.requires.there
-
 pub split_agg-requires-clause-few : goal.split_agg-requires-clause-few
 split_agg-requires-clause-few c = omega (arith, few_numbers (byte_at c.args.self.now.store) (state_of c.args.self.now) c.args.by 2 1 c.requires.few)
 

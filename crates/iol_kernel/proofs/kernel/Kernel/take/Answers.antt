@@ -11,9 +11,6 @@ use Rattle.iol_kernel.proofs.ReadOf.{live_held}
 use Rattle.iol_kernel.proofs.Uses.{queue_covered, countable}
 use Rattle.iol_kernel.proofs.kernel.Kernel.take.Goals as goal
 
-pub reserve_aggs-requires : goal.reserve_aggs-requires
-reserve_aggs-requires c = live_held _ (state_of c.args.self.now) c.args.by c.requires.live
-
 pub front-requires-clause-reading : goal.front-requires-clause-reading
 front-requires-clause-reading c = let h = state_of c.args.self.now in reading_held _ h c.args.by c.args.fd c.args.p c.requires.sound (c.requires.from (byte_at h.store))
 
