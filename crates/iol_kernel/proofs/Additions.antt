@@ -1,8 +1,8 @@
 -- A domain gets an aggregate of bytes that lie there already: for the machine, for the layout, and that all stays sound.
-use Rattle.std.proofs.Common.{◌≡◌, ℕ, ◌-◌, ◌<◌, ◌≤◌, List, ◌++◌, length, length-append, take, drop, slice_range, ap, ◌∙◌, refl, sym, arith, true}
+use Rattle.std.proofs.Common.{◌≡◌, ℕ, ◌-◌, ◌<◌, ◌≤◌, List, ◌++◌, length, length-append, take, drop, slice_range, ap, ◌∙◌, sym, arith, true}
 use Rattle.std.proofs.lemmas.List.Elements.{All-append, All-take, All-drop, All-same}
 use Rattle.std.proofs.lemmas.List.{take_all, length-take, length-drop}
-use Rattle.iol_core.specs.Text.{Text, part}
+use Rattle.iol_core.specs.Text.{Text}
 use Rattle.iol_core.specs.State as machine
 use Rattle.iol_core.specs.State.{State, Domain}
 use Rattle.iol_core.specs.Calls.Aggregates as aggs
@@ -10,12 +10,12 @@ use Rattle.iol_pool.specs.Pools.{Pool}
 use Rattle.iol_hold.specs.Stored.{Stored}
 use Rattle.iol_hold.specs.Places.{Place, places, byte_len}
 use Rattle.iol_hold.specs.Layout.{read}
-use Rattle.iol_hold.specs.Texts.{text_of, AllReadable, IsThere, byte_at}
+use Rattle.iol_hold.specs.Texts.{AllReadable, IsThere, byte_at}
 use Rattle.iol_hold.specs.declared.slices.Slice.{Slice}
 use Rattle.iol_hold.proofs.AtPlaces.{read_same, read_cut, read_replaced}
 use Rattle.iol_hold.proofs.Emptied.{all_settled_same}
 use Rattle.iol_hold.proofs.Moving.{shares_move, covers_given}
-use Rattle.iol_hold.proofs.Reading.{readable_stays, length-text_of}
+use Rattle.iol_hold.proofs.Reading.{readable_stays}
 use Rattle.iol_desc.specs.Tables.{domain_in, live_aggs_in}
 use Rattle.iol_kernel.specs.Views.{state_view}
 use Rattle.iol_kernel.specs.Adding.{replaced, AddsShared}
