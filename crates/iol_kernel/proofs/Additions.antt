@@ -1,8 +1,8 @@
 -- A domain gets an aggregate of bytes that lie there already: for the machine, for the layout, and that all stays sound.
-use Rattle.std.proofs.Common.{◌≡◌, ℕ, ◌-◌, ◌<◌, ◌≤◌, List, ◌++◌, length, length-append, take, drop, slice_range, ap, ◌∙◌, refl, sym, arith, true}
+use Rattle.std.proofs.Common.{◌≡◌, ℕ, ◌-◌, ◌<◌, ◌≤◌, List, ◌++◌, length, length-append, take, drop, slice_range, ap, ◌∙◌, sym, arith, true}
 use Rattle.std.proofs.lemmas.List.Elements.{All-append, All-take, All-drop, All-same}
 use Rattle.std.proofs.lemmas.List.{take_all, length-take, length-drop}
-use Rattle.iol_core.specs.Text.{Text, part}
+use Rattle.iol_core.specs.Text.{Text}
 use Rattle.iol_core.specs.State as machine
 use Rattle.iol_core.specs.State.{State, Domain}
 use Rattle.iol_core.specs.Calls.Aggregates as aggs
@@ -10,12 +10,12 @@ use Rattle.iol_pool.specs.Pools.{Pool}
 use Rattle.iol_hold.specs.Stored.{Stored}
 use Rattle.iol_hold.specs.Places.{Place, places, byte_len}
 use Rattle.iol_hold.specs.Layout.{read}
-use Rattle.iol_hold.specs.Texts.{text_of, AllReadable, IsThere, byte_at}
+use Rattle.iol_hold.specs.Texts.{AllReadable, IsThere, byte_at}
 use Rattle.iol_hold.specs.declared.slices.Slice.{Slice}
 use Rattle.iol_hold.proofs.AtPlaces.{read_same, read_cut, read_replaced}
 use Rattle.iol_hold.proofs.Emptied.{all_settled_same}
 use Rattle.iol_hold.proofs.Moving.{shares_move, covers_given}
-use Rattle.iol_hold.proofs.Reading.{readable_stays, length-text_of}
+use Rattle.iol_hold.proofs.Reading.{readable_stays}
 use Rattle.iol_desc.specs.Tables.{domain_in, live_aggs_in}
 use Rattle.iol_kernel.specs.Views.{state_view}
 use Rattle.iol_kernel.specs.Adding.{replaced, AddsShared}
@@ -25,7 +25,6 @@ use Rattle.iol_kernel.proofs.Effects.{gained-sound}
 use Rattle.iol_kernel.proofs.ReadOf.{text-read_of, length_text-read_of, next_agg-read_of}
 use Rattle.iol_kernel.proofs.Slices.{slices_readable, slices_small}
 use Rattle.iol_core.specs.declared.limits.TheConstants.{MAX_AGGREGATES, MAX_AGGREGATE_BYTES}
-
 use Rattle.iol_kernel.specs.Calls.{Answers}
 
 module _ (h : KernelState) (t : Stored) (ds : List (Domain (List Slice))) (d : ℕ) (bytes : List Place) (adds : AddsShared h.store t h.domains ds d bytes) where
@@ -35,7 +34,6 @@ module _ (h : KernelState) (t : Stored) (ds : List (Domain (List Slice))) (d : �
       ap (λ (xs : List (Domain (List Slice))). state_view (read f) xs t.pools h.pipes) adds.added
       ∙ with_agg-view (read f) h.domains t.pools h.pipes d adds.slices
       ∙ ap (λ (ps : List Pool). aggs.with_agg (state_view (read f) h.domains ps h.pipes) d (read f adds.slices)) adds.shares.pools
-
 
   added-sound : IsSound h → (domain_in h.domains d).live ≡ true → live_aggs_in h.domains < MAX_AGGREGATES → AllReadable h.store adds.slices → byte_len adds.slices ≤ MAX_AGGREGATE_BYTES → IsSound (record h { store = t; domains = ds })
   added-sound sound live few readable small =

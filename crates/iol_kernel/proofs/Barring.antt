@@ -1,18 +1,15 @@
 -- The first byte that a domain may not read, found by slices: each has a byte, and all its bytes are of one pool.
-use Rattle.std.proofs.Common.{◌≡◌, ℕ, zero, suc, ◌+◌, ◌-◌, Bool, not, cond, true, false, Option, Some, None, List, [], ◌∷◌, ◌++◌, map, refl, sym, ap, ◌∙◌, arith}
+use Rattle.std.proofs.Common.{◌≡◌, ℕ, zero, suc, ◌+◌, ◌-◌, Bool, not, cond, true, false, Option, Some, List, [], ◌∷◌, ◌++◌, map, refl, sym, ap, ◌∙◌, arith}
 use Rattle.std.specs.List.{find, range_with_len}
-use Rattle.std.specs.Option.{option_map, unwrap_or}
+use Rattle.std.specs.Option.{option_map}
 use Rattle.std.proofs.lemmas.List.{map-append}
 use Rattle.iol_core.specs.Text.{Text, barred}
 use Rattle.iol_core.specs.State as machine
 use Rattle.iol_core.specs.State.{State}
 use Rattle.iol_pool.specs.Pools.{Pool, names_in}
 use Rattle.iol_hold.specs.Places.{Place, place_in, slice_places, places}
-use Rattle.iol_hold.specs.Layout.{read, number_at, KeepsPools}
-use Rattle.iol_hold.specs.Texts.{byte_at}
-use Rattle.iol_hold.proofs.AtPlaces.{keeps_bytes, keeps_numbers}
+use Rattle.iol_hold.specs.Layout.{read, KeepsPools}
 use Rattle.iol_hold.specs.declared.slices.Slice.{Slice}
-use Rattle.iol_desc.specs.Tables.{agg_in}
 use Rattle.iol_kernel.specs.KernelState.{KernelState, Reading, read_of}
 use Rattle.iol_kernel.proofs.ReadOf.{may_read-read_of}
 

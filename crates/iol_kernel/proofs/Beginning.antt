@@ -12,7 +12,6 @@ use Rattle.iol_hold.specs.declared.slices.Slice.{Slice}
 use Rattle.iol_kernel.specs.Views.{Pipe, state_view}
 use Rattle.iol_kernel.specs.KernelState.{KernelState, machine_of, IsSound, read_of}
 
-
 pub new-machine : (h : KernelState) → h.domains ≡ new_domain ∷ [] → h.store.pools ≡ [] → h.pipes ≡ [] → machine_of h ≡ new_state no_slots
 unfolding read_of state_view
 new-machine h domains' pools' pipes' =

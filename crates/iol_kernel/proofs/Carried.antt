@@ -1,5 +1,5 @@
 -- A call that carries out takes the machine's step, and the layout's.
-use Rattle.std.proofs.Common.{◌≡◌, ℕ, ap, sym, subst}
+use Rattle.std.proofs.Common.{◌≡◌, ap, sym, subst}
 use Rattle.std.specs.Prelude.{Result}
 use Rattle.iol_arena.specs.State as arena
 use Rattle.iol_core.specs.State.{State}

@@ -1,19 +1,19 @@
 -- What the effects of the calls are made of: a change of what is held, as the machine sees it, and that it stays sound.
 use Rattle.std.proofs.Common.{◌≡◌, ℕ, ◌+◌, ◌<◌, ◌≤◌, List, [], ◌∷◌, ◌++◌, length, map, ap, ◌∙◌, refl, sym, subst, arith, Option, Some, true, false}
-use Rattle.std.specs.Prelude.{MatchOption, None, Result, Ok, Err, OnOk, nat_lt, ◌||◌}
+use Rattle.std.specs.Prelude.{MatchOption, None, Err, nat_lt, ◌||◌}
 use Rattle.std.proofs.Common.{length-append}
 use Rattle.std.proofs.lemmas.Bool.Decides.{nat_tests}
 use Rattle.iol_core.specs.declared.descriptors.Descriptor.{Descriptor}
 use Rattle.iol_core.specs.Meaning.{Meaning, first}
 use Rattle.iol_core.specs.declared.refusals.Refusal.{Refusal}
 use Rattle.iol_core.specs.Text.{Text}
-use Rattle.iol_core.specs.Numbered.{with_numbered, is_numbered}
+use Rattle.iol_core.specs.Numbered.{with_numbered}
 use Rattle.iol_core.specs.State as machine
 use Rattle.iol_core.specs.State.{State, Domain, new_domain, no_domain}
 use Rattle.iol_core.specs.Calls.Aggregates as aggs
 use Rattle.iol_core.specs.Calls.Descriptors as fds
 use Rattle.iol_core.specs.Calls.Pools as pools
-use Rattle.iol_pool.specs.Pools.{Pool, pool_in, with_closed}
+use Rattle.iol_pool.specs.Pools.{Pool, with_closed}
 use Rattle.iol_pool.proofs.Owning.{length-closed}
 use Rattle.iol_hold.specs.Stored.{Stored, IsTidy, IsStill, AllSettled}
 use Rattle.iol_hold.specs.Moves.{Stays, Moves, SameLists, pool_meant}

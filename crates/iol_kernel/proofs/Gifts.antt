@@ -9,7 +9,6 @@ use Rattle.iol_core.specs.State as machine
 use Rattle.iol_core.specs.State.{State, Domain, no_domain}
 use Rattle.iol_core.specs.Calls.Aggregates as aggs
 use Rattle.iol_core.proofs.Lookups.{numbered_or-with}
-use Rattle.iol_hold.specs.Places.{Place}
 use Rattle.iol_hold.specs.Layout.{read}
 use Rattle.iol_hold.specs.declared.slices.Slice.{Slice}
 use Rattle.iol_desc.specs.Tables.{domain_in, with_domain_in, agg_in, with_agg_in, without_agg_in, live_aggs_in, with_next}

@@ -15,7 +15,6 @@ use Rattle.iol_kernel.specs.Ends.{same_end, on_end, ends_on, all_ends_on, IsOpen
 use Rattle.iol_kernel.specs.KernelState.{Each, IsOpenEnd}
 use Rattle.iol_kernel.proofs.Uses.{sum-with_domain, Domains, Pipes}
 
-
 -- a domain's descriptors change
 
 pub ends-with_domain : (e : Descriptor) (ds : Domains) (d : ℕ) (x : Domain (List Slice)) → (domain_in ds d).live ≡ true → all_ends_on e (with_domain_in ds d x) + ends_on e (domain_in ds d).fds ≡ all_ends_on e ds + ends_on e x.fds

@@ -14,7 +14,6 @@ use Rattle.iol_core.specs.Calls.Descriptors.{with_read_end}
 use Rattle.iol_core.specs.declared.descriptors.Descriptor.{Descriptor}
 use Rattle.iol_core.specs.declared.descriptors.Descriptor.TheVariants as on
 use Rattle.iol_hold.specs.declared.slices.Slice.{Slice}
-use Rattle.iol_hold.specs.Texts.{text_of}
 use Rattle.iol_hold.proofs.Reading.{readable_none}
 use Rattle.iol_desc.specs.Tables.{domain_in, with_domain_in, with_fds_in, with_next_fd, with_ends}
 use Rattle.iol_kernel.specs.Views.{Pipe, state_view}

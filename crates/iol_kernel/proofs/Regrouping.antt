@@ -13,7 +13,7 @@ use Rattle.iol_pool.specs.Pools.{Pool}
 use Rattle.iol_hold.specs.Stored.{Stored}
 use Rattle.iol_hold.specs.Layout.{read}
 use Rattle.iol_hold.specs.Moves.{Shares, tally}
-use Rattle.iol_hold.specs.Places.{Place, places, byte_len}
+use Rattle.iol_hold.specs.Places.{places, byte_len}
 use Rattle.iol_hold.specs.Texts.{bufs_of, AllReadable}
 use Rattle.iol_hold.specs.declared.slices.Slice.{Slice}
 use Rattle.iol_hold.proofs.AtPlaces.{read_taken, read_rest, read-append}
@@ -25,7 +25,7 @@ use Rattle.iol_hold.proofs.Slicing.{byte_len-append}
 use Rattle.iol_desc.specs.Tables.{domain_in, with_domain_in, agg_in, live_aggs_in}
 use Rattle.iol_kernel.specs.Views.{Pipe, domain_view, state_view}
 use Rattle.iol_kernel.specs.Counted.{uses, domain_uses}
-use Rattle.iol_kernel.specs.KernelState.{KernelState, Each, IsDomainReadable, IsSound, slices_in, Reading, joined, read_of}
+use Rattle.iol_kernel.specs.KernelState.{KernelState, Each, IsDomainReadable, IsSound, slices_in, Reading, read_of}
 use Rattle.iol_kernel.specs.Regrouped.{with_two, with_one, joined_in, SplitsAgg}
 use Rattle.iol_kernel.proofs.Effects.{moved-sound}
 use Rattle.iol_kernel.proofs.Views.{domain-view, with_domain-view, without-map}

@@ -7,7 +7,7 @@ use Rattle.iol_core.specs.Calls.Aggregates as aggs
 use Rattle.iol_core.specs.declared.refusals.Refusal.TheVariants.{NoDomain, BadAgg}
 use Rattle.iol_hold.specs.Moves.{Covers, IsCountable}
 use Rattle.iol_hold.specs.Places.{byte_len}
-use Rattle.iol_hold.specs.Texts.{text_of, bufs_of, AllReadable}
+use Rattle.iol_hold.specs.Texts.{bufs_of, AllReadable}
 use Rattle.iol_hold.specs.declared.slices.Slice.{Slice}
 use Rattle.iol_hold.proofs.Counting.{tally-append, tally_none}
 use Rattle.iol_hold.proofs.Reading.{readable_none}

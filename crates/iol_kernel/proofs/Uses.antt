@@ -21,7 +21,6 @@ use Rattle.iol_kernel.specs.KernelState.{Each, IsLimited, IsShort, queue_at}
 use Rattle.iol_kernel.proofs.Rows.{live_numbered}
 use Rattle.iol_core.specs.declared.limits.TheConstants.{MAX_AGGREGATE_BYTES, MAX_QUEUE_BYTES}
 
-
 abbrev pub Domains : Type 0
 Domains = List (Domain (List Slice))
 

@@ -14,7 +14,9 @@ ghost use Rattle.iol_kernel.specs.Adding.{replaced};
 ghost use Rattle.iol_kernel.specs.KernelState.{Reading, joined, IsSound};
 
 use crate::kernel::Kernel;
-use crate::tables::{add_bytes, add_part, add_replaced, first_hidden, join_aggs, move_agg, split_agg};
+use crate::tables::{
+    add_bytes, add_part, add_replaced, first_hidden, join_aggs, move_agg, split_agg,
+};
 use iol_agg::{Agg, Parts};
 use iol_core::limits::MAX_AGGREGATE_BYTES;
 use iol_core::lists::Bytes;
@@ -88,7 +90,14 @@ impl Kernel {
         ensures late { IfErr result (WantOfRoom pool) }
         ensures err { OnErr result (state_of self.new ≡ state_of self.old) }
     {
-        Ok(add_bytes(self.alloc, &mut self.store, &mut self.domains, by, pool, bytes)?)
+        Ok(add_bytes(
+            self.alloc,
+            &mut self.store,
+            &mut self.domains,
+            by,
+            pool,
+            bytes,
+        )?)
     }
 
     /// Makes an aggregate of the same bytes once more.
@@ -116,7 +125,15 @@ impl Kernel {
             n self.new) }
         ensures err { OnErr result (state_of self.new ≡ state_of self.old) }
     {
-        Ok(add_part(self.alloc, &mut self.store, &mut self.domains, by, agg, 0, len)?)
+        Ok(add_part(
+            self.alloc,
+            &mut self.store,
+            &mut self.domains,
+            by,
+            agg,
+            0,
+            len,
+        )?)
     }
 
     /// Makes an aggregate of the bytes `from..to` of another, which stays.
@@ -154,7 +171,15 @@ impl Kernel {
             self.new) }
         ensures err { OnErr result (state_of self.new ≡ state_of self.old) }
     {
-        Ok(add_part(self.alloc, &mut self.store, &mut self.domains, by, agg, from, to)?)
+        Ok(add_part(
+            self.alloc,
+            &mut self.store,
+            &mut self.domains,
+            by,
+            agg,
+            from,
+            to,
+        )?)
     }
 
     /// Splits an aggregate into the bytes before a place and those from it on.
@@ -283,7 +308,16 @@ impl Kernel {
             self.old n self.new) }
         ensures err { OnErr result (state_of self.new ≡ state_of self.old) }
     {
-        Ok(add_replaced(self.alloc, &mut self.store, &mut self.domains, by, agg, from, to, other)?)
+        Ok(add_replaced(
+            self.alloc,
+            &mut self.store,
+            &mut self.domains,
+            by,
+            agg,
+            from,
+            to,
+            other,
+        )?)
     }
 
     /// Drops an aggregate.

@@ -131,8 +131,12 @@ impl Pipes {
     /// Adds an empty pipe whose ends are open, in room that is reserved.
     pub(crate) fn add(&mut self, alloc: Global)
         requires { 0 < self.old.room }
-        ensures { self.new.places ≡ placed self.old.places (lowest self.old.places) (record { queue
-            = []; reading = true; writing = true }) }
+        ensures { self.new.places ≡ placed self.old.places (lowest self.old.places) (record {
+          queue
+              = [];
+          reading = true;
+          writing = true;
+        }) }
     {
         self.places.put(Pipe {
             queue: iol_pipe::Pipe::new(alloc),

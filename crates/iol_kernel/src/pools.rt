@@ -138,8 +138,13 @@ impl Kernel {
         requires few { length (machine self.old).pools < MAX_POOLS }
         ensures number { IfOk result (λ n. (f : Reading) → n ≡ length (as_read f self.old).pools +
             1) }
-        ensures added { OnOk result (Leaves (λ s. record s { pools = s.pools ++ record { domains =
-            names; closed = false } ∷ [] }) self.old self.new) }
+        ensures added { OnOk result (Leaves (λ s. record s {
+          pools = s.pools ++ record {
+            domains =
+                names;
+            closed = false;
+          } ∷ [];
+        }) self.old self.new) }
         ensures chunks { OnOk result (AddsPool self.old.store.arena self.new.store.arena
             self.old.store.pools self.new.store.pools chunks names) }
         ensures room { OnOk result (chunks ≤ length (free_chunks self.old.store.arena)) }
@@ -179,8 +184,10 @@ impl Kernel {
         requires sound { IsSound (state_of self.old) }
         requires there { is_pool (machine self.old) p ≡ true }
         ensures idle { (f : Reading) → calls.is_busy (as_read f self.old) p ≡ false }
-        ensures closed { Leaves (λ s. record s { pools = with_numbered s.pools p (record (state.pool
-            s p) { closed = true }) }) self.old self.new }
+        ensures closed { Leaves (λ s. record s {
+          pools = with_numbered s.pools p (record (state.pool
+              s p) { closed = true });
+        }) self.old self.new }
     {
         self.store.close_pool(p);
     }

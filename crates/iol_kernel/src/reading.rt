@@ -30,9 +30,8 @@ impl Kernel {
         };
         match from {
             Descriptor::ReadEnd { pipe } => self.read_pipe(by, fd, pipe, count),
-            Descriptor::WriteEnd { .. }
-            | Descriptor::File { .. }
-            | Descriptor::Connection { .. } => Err(Refusal::WrongMode),
+            Descriptor::WriteEnd { .. } | Descriptor::File { .. } | Descriptor::Connection { .. } =>
+                Err(Refusal::WrongMode),
         }
     }
 

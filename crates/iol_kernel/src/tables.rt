@@ -154,8 +154,10 @@ pub(crate) fn split_agg(
     requires covered { Covers store.old (bufs_of (slices_in (domains_of domains.old) d agg)) }
     requires countable { IsCountable store.old (bufs_of (slices_in (domains_of
         domains.old) d agg)) }
-    ensures numbers { IfOk result (λ r. r ≡ ((domain_in (domains_of domains.old) d).next_agg,
-        (domain_in (domains_of domains.old) d).next_agg + 1)) }
+    ensures numbers { IfOk result (λ r. r ≡ (
+      (domain_in (domains_of domains.old) d).next_agg,
+      (domain_in (domains_of domains.old) d).next_agg + 1,
+    )) }
     ensures split { OnOk result (SplitsAgg store.old store.new (domains_of domains.old) (domains_of
         domains.new) d agg at) }
     ensures err { OnErr result (domains_of domains.new ≡ domains_of domains.old) }

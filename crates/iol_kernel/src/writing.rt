@@ -30,9 +30,8 @@ impl Kernel {
         let len = self.find_len(by, agg)?;
         match to {
             Descriptor::WriteEnd { pipe } => self.write_pipe(by, fd, agg, pipe, len),
-            Descriptor::ReadEnd { .. }
-            | Descriptor::File { .. }
-            | Descriptor::Connection { .. } => Err(Refusal::WrongMode),
+            Descriptor::ReadEnd { .. } | Descriptor::File { .. } | Descriptor::Connection { .. } =>
+                Err(Refusal::WrongMode),
         }
     }
 

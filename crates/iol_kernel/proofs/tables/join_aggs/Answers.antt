@@ -2,7 +2,7 @@ use Rattle.std.proofs.Common.{◌≡◌, ◌∙◌, List, ◌++◌, ap, Some}
 use Rattle.iol_core.specs.State.{Domain}
 use Rattle.iol_hold.specs.declared.slices.Slice.{Slice}
 use Rattle.iol_desc.specs.Tables.{domains_of, domain_in, with_domain_in}
-use Rattle.iol_kernel.specs.KernelState.{slices_in, joined}
+use Rattle.iol_kernel.specs.KernelState.{slices_in}
 use Rattle.iol_kernel.specs.Regrouped.{joined_in, with_one}
 use Rattle.iol_kernel.proofs.Exchanging.{other_found, join_table, both_back}
 use Rattle.iol_kernel.proofs.Slices.{slices_found}

@@ -1,5 +1,4 @@
-use Rattle.std.proofs.Common.{◌∙◌, ◌+◌, ◌<◌, ap, sym, subst, length, rules}
-use Rattle.iol_core.specs.Meaning.{WantOfRoom}
+use Rattle.std.proofs.Common.{◌∙◌, ◌+◌, ◌<◌, ap, sym, subst, rules}
 use Rattle.iol_kernel.specs.Kernel.{state_of}
 use Rattle.iol_kernel.proofs.Effects.{pooled}
 use Rattle.iol_kernel.proofs.ReadOf.{length_pools-read_of}

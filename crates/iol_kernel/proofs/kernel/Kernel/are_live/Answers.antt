@@ -1,4 +1,4 @@
-use Rattle.std.proofs.Common.{◌≡◌, ◌∙◌, Bool, ap, sym, true}
+use Rattle.std.proofs.Common.{◌∙◌, Bool, ap, sym}
 use Rattle.std.specs.Prelude.{◌&&◌}
 use Rattle.iol_core.specs.State.{is_live}
 use Rattle.std.specs.List.{list_all}

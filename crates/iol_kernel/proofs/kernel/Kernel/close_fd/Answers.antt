@@ -1,6 +1,6 @@
-use Rattle.std.proofs.Common.{◌∙◌, ap, sym, refl, List, Option, None}
+use Rattle.std.proofs.Common.{◌∙◌, ap, sym, List, Option, None}
 use Rattle.std.specs.Prelude.{Some, slice_set}
-use Rattle.iol_core.specs.State.{State, domain}
+use Rattle.iol_core.specs.State.{domain}
 use Rattle.iol_core.specs.Calls.Descriptors.{closed_on, with_fds, freed}
 use Rattle.iol_core.specs.declared.descriptors.Descriptor.{Descriptor}
 use Rattle.iol_desc.specs.Tables.{domains_of, domain_in}

@@ -1,10 +1,9 @@
-use Rattle.std.proofs.Common.{◌≡◌, ℕ, ◌∙◌, sym, ap, List, Option, []}
+use Rattle.std.proofs.Common.{◌≡◌, ℕ, ◌∙◌, ap, List, []}
 use Rattle.std.specs.Prelude.{fold, true}
 use Rattle.iol_core.specs.Numbered.{taken}
 use Rattle.iol_core.specs.State as machine
 use Rattle.iol_core.specs.State.{State, Domain, no_domain}
 use Rattle.iol_core.specs.Calls.Descriptors.{closed_on, with_fds}
-use Rattle.iol_core.specs.declared.descriptors.Descriptor.{Descriptor}
 use Rattle.iol_hold.specs.declared.slices.Slice.{Slice}
 use Rattle.iol_desc.specs.Tables.{domains_of, domain_in, with_aggs_in, with_fds_in}
 use Rattle.iol_kernel.specs.KernelState.{KernelState, read_of}

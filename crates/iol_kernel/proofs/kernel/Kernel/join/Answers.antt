@@ -7,7 +7,6 @@ use Rattle.iol_kernel.proofs.ReadOf.{live_held, length_text-read_of}
 use Rattle.iol_kernel.proofs.Regrouping.{join_answers}
 use Rattle.iol_kernel.proofs.Slices.{there_held}
 use Rattle.iol_kernel.proofs.kernel.Kernel.join.Goals as goal
-use Rattle.iol_kernel.specs.KernelState.{joined}
 
 pub join_aggs-requires-clause-few : goal.join_aggs-requires-clause-few
 join_aggs-requires-clause-few c = omega (arith, few_numbers (byte_at c.args.self.now.store) (state_of c.args.self.now) c.args.by 1 2 c.requires.few)

@@ -1,4 +1,4 @@
-use Rattle.std.proofs.Common.{◌≡◌, ◌∙◌, ◌<◌, sym, ap, arith, ℕ, List, subst}
+use Rattle.std.proofs.Common.{◌≡◌, ◌∙◌, ◌<◌, ap, arith, List, subst}
 use Rattle.std.specs.Prelude.{Option}
 use Rattle.iol_core.specs.Numbered.{lowest, placed, taken}
 use Rattle.iol_core.specs.declared.limits.TheConstants.{MAX_PIPES}

@@ -1,4 +1,4 @@
-use Rattle.std.proofs.Common.{◌≡◌, ◌∙◌, ◌≤◌, ◌+◌, ◌-◌, sym, ap, length, length-append, take, arith, ℕ}
+use Rattle.std.proofs.Common.{◌≡◌, ◌≤◌, ◌+◌, ◌-◌, sym, ap, length, length-append, take, arith, ℕ}
 use Rattle.std.specs.Prelude.{min}
 use Rattle.std.proofs.lemmas.List.{length-take}
 use Rattle.iol_core.specs.declared.limits.TheConstants.{MAX_QUEUE_BYTES}
