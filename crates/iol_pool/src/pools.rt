@@ -238,10 +238,7 @@ impl Pools {
         if self.list.reserve(1).is_err() {
             return Err(Unfilled::Memory);
         }
-        let chunks = match arena.take_chunks(alloc, chunks) {
-            Ok(chunks) => chunks,
-            Err(error) => return Err(error),
-        };
+        let chunks = arena.take_chunks(alloc, chunks)?;
         self.list.push_reserved(Pool {
             names,
             closed: false,

@@ -6,6 +6,6 @@ use Rattle.iol_pool.proofs.pools.Pools.create.Goals as goal
 
 pub returns-clause-owned : goal.returns-clause-owned
 returns-clause-owned c =
-    let x : Pool = record { domains = c.args.names; closed = false; chunks = c.in-Ok.chunks } in
+    let x : Pool = record { domains = c.args.names; closed = false; chunks = c.in_ok-chunks.chunks } in
     let is = c.push_reserved.ensures.items ∙ ap (λ (l : List Pool). l ++ x ∷ []) (c.reserve.ensures.items ∙ c.self.view_is) in
-    subst (λ (l : List Pool). AreOwned c.take_chunks.new.self l) (sym is) (owned_added c.args.arena.now c.take_chunks.new.self c.args.self.now x c.in-Ok.ensures.taken c.requires.owned)
+    subst (λ (l : List Pool). AreOwned c.take_chunks.new.self l) (sym is) (owned_added c.args.arena.now c.take_chunks.new.self c.args.self.now x c.in_ok-chunks.ensures.taken c.requires.owned)
