@@ -1,5 +1,5 @@
 //! Rounds of calls keep no memory: each kind of round gives up what it made, is made 1,000 times and then on to 100,000
-//! times, and what the process has in memory grows by a tenth at most between the two.
+//! times, and the process, in all and in memory, grows by a tenth at most between the two.
 use iol_core::configuration::Config;
 use iol_core::events::{Call, Event, Reply};
 use iol_core::lists::{Bytes, Domains};
@@ -161,12 +161,42 @@ fn make(system: &mut System, call: Call) -> Result<AggId, Failure> {
     }
 }
 
-/// The pages of the process that are in memory, as Linux tells them: the second number of `/proc/self/statm`.
-fn resident_pages(rt: &HostRuntime) -> Result<u64, Failure> {
-    let Ok(text) = fs::read_to_string(rt, "/proc/self/statm") else {
-        return Err(Failure::Unmeasured);
-    };
-    let Some(word) = text.split(' ').nth(1) else {
+/// How large the process is, in pages.
+#[derive(Clone, Copy, Debug)]
+struct Size {
+    /// All that it has asked for.
+    total: u64,
+
+    /// What of that is in memory.
+    resident: u64,
+}
+
+impl Size {
+    /// As Linux tells it: the first two numbers of `/proc/self/statm`.
+    fn read(rt: &HostRuntime) -> Result<Size, Failure> {
+        let Ok(text) = fs::read_to_string(rt, "/proc/self/statm") else {
+            return Err(Failure::Unmeasured);
+        };
+        let mut words = text.split(' ');
+        let total = pages(words.next())?;
+        let resident = pages(words.next())?;
+        Ok(Size { total, resident })
+    }
+
+    /// Whether it is at most a tenth larger than before.
+    fn is_kept(self, before: Size) -> bool {
+        is_tenth_more(before.total, self.total) && is_tenth_more(before.resident, self.resident)
+    }
+}
+
+/// Whether a number is at most a tenth more than one before.
+fn is_tenth_more(before: u64, after: u64) -> bool {
+    u128::from(after) * 10 <= u128::from(before) * 11
+}
+
+/// A number of pages.
+fn pages(word: Option<&str>) -> Result<u64, Failure> {
+    let Some(word) = word else {
         return Err(Failure::Unmeasured);
     };
     match word.parse::<u64>() {
@@ -184,11 +214,13 @@ fn rounds_keep_no_memory(rt: HostRuntime) -> Result<(), Fail> {
     ] {
         let mut rounds = Rounds::new(rt.alloc(), round)?;
         rounds.repeat(FIRST)?;
-        let first = resident_pages(&rt)?;
+        let first = Size::read(&rt)?;
         rounds.repeat(ALL - FIRST)?;
-        let all = resident_pages(&rt)?;
-        let is_kept = u128::from(all) * 10 <= u128::from(first) * 11;
-        assert!(rt; is_kept, "{round:?}: from {first} to {all} pages");
+        let all = Size::read(&rt)?;
+        assert!(rt;
+            all.is_kept(first),
+            "{round:?}: from {first:?} to {all:?} pages"
+        );
     }
     Ok(())
 }
