@@ -24,6 +24,9 @@ ghost use Rattle.iol_hold.specs.Stored.{AllSettled};
 ghost use Rattle.iol_hold.specs.Texts.{bufs_of, AllReadable};
 ghost use Rattle.iol_pipe.specs.Queue.{first_pool, may_see};
 
+mod filling;
+mod taking;
+
 use iol_agg::Agg;
 use iol_core::limits::MAX_QUEUE_BYTES;
 use iol_core::numbers::{DomainId, PoolId};
