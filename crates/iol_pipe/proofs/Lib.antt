@@ -1,5 +1,7 @@
 pub mod Given
 pub mod Holding
+pub mod Parts
 pub mod Prefixes
 pub mod Shared
 pub mod Texts
+pub mod Wholes

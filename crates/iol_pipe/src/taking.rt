@@ -14,12 +14,7 @@ use std::collections::VecDeque;
 
 impl Pipe {
     /// Takes off the first `n` bytes, or all where fewer wait. The slice in which the last of them lies is cut there.
-    pub fn take(
-        &mut self,
-        alloc: Global,
-        store: &mut Store,
-        n: u32,
-    ) -> Result<Agg, AllocError>
+    pub fn take(&mut self, alloc: Global, store: &mut Store, n: u32) -> Result<Agg, AllocError>
         requires covered { Covers store.old (bufs_of self.old) }
         requires countable { IsCountable store.old (bufs_of self.old) }
         ensures given { IfOk result (λ a. places a ≡ take n (places self.old)) }
