@@ -6,13 +6,16 @@ use Rattle.std.proofs.lemmas.List.Elements.{All-head}
 use Rattle.iol_core.specs.Text as text
 use Rattle.iol_arena.specs.Buffers.{Grows, bytes_of, bytes_in}
 use Rattle.iol_arena.specs.Pages.{IsSameBut, MadeOn}
+use Rattle.iol_arena.proofs.Grows.{grows_none}
+use Rattle.iol_arena.proofs.Made.{made_none, same_but_none}
 use Rattle.iol_hold.specs.Moves.{Moves}
 use Rattle.iol_hold.specs.Places.{byte_len}
-use Rattle.iol_hold.specs.Room.{lowest_of}
+use Rattle.iol_hold.specs.Room.{free_of, lowest_of}
 use Rattle.iol_hold.specs.Stored.{Stored, Buffer, AllSettled, held_bufs}
 use Rattle.iol_hold.specs.Texts.{text_of, bufs_of, AllReadable, IsFilled}
 use Rattle.iol_hold.specs.declared.slices.Slice.{Slice}
 use Rattle.iol_hold.proofs.Counting.{bufs-push}
+use Rattle.iol_hold.proofs.Moving.{moves_none}
 use Rattle.iol_hold.proofs.Paging.{keeps_pages_made}
 use Rattle.iol_hold.proofs.Reading.{readable_none, readable_push, length-text_of}
 use Rattle.iol_hold.proofs.Slicing.{byte_len-append}
@@ -87,3 +90,17 @@ module _ (s t : Stored) (old new : List Slice) (pool : ℕ) (bytes : List ℕ) (
     settles = settles;
     pools = pools;
   }
+
+-- no bytes make no buffer
+pub none_added : (s : Stored) (old : List Slice) (pool : ℕ) → AddsBytes s s old old pool []
+none_added s old pool = record {
+  slices = [];
+  added = sym (append-nil old);
+  is_text = refl;
+  readable = readable_none s;
+  moves = moves_none s;
+  made_on = made_none s.arena (free_of s pool);
+  pages = keeps_pages_made (made_none s.arena (free_of s pool)) (same_but_none s.arena (lowest_of s pool 0)) (grows_none s.arena) refl;
+  settles = λ h. h;
+  pools = refl;
+}

@@ -1,5 +1,5 @@
 //! New bytes at the end of a queue, in buffers of their own.
-ghost use Rattle.std.specs.Prelude.{◌≡◌, ℕ, ◌+◌, ◌≤◌, ◌++◌, [], length, take, true, false, Err, IfOk, IfErr, OnOk, OnErr};
+ghost use Rattle.std.specs.Prelude.{◌≡◌, ℕ, ◌+◌, ◌≤◌, ◌++◌, [], length, take, true, false, Err, IsOk, IfOk, IfErr, OnOk, OnErr};
 ghost use Rattle.std.specs.List.{All};
 ghost use Rattle.std.specs.VecDeque.{deque_len, deque_capacity};
 ghost use Rattle.iol_core.specs.Meaning.{WantOfRoom};
@@ -38,11 +38,15 @@ impl Pipe {
         ensures no_room { (p : ℕ) → result ≡ Err (Refusal.NoRoom p) → has_room store.old pool
             (fitting self.old (length bytes.now)) ≡ false }
         ensures late { IfErr result (WantOfRoom pool) }
+        ensures none { fitting self.old (length bytes.now) ≡ 0 → IsOk result }
         ensures err { OnErr result (self.new ≡ self.old) }
         ensures err_store { OnErr result (store.new ≡ store.old) }
     {
         let room = MAX_QUEUE_BYTES - self.len as usize;
         let taken = bytes.len().min(room);
+        if taken == 0 {
+            return Ok(0);
+        }
         self.queue.reserve(taken.div_ceil(PAGE_BYTES))?;
         let holds = store.fill(alloc, pool, &bytes[..taken])?;
         add_whole(&mut self.queue, store, holds);
