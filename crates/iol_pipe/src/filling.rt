@@ -1,13 +1,11 @@
 //! New bytes at the end of a queue, in buffers of their own.
-ghost use Rattle.std.specs.Prelude.{◌≡◌, ℕ, ◌+◌, ◌≤◌, ◌++◌, [], length, take, true, false, Err, IsOk, IfOk, IfErr, OnOk, OnErr};
+ghost use Rattle.std.specs.Prelude.{◌≡◌, ℕ, ◌+◌, ◌≤◌, length, take, true, false, Err, IsOk, IfOk, IfErr, OnOk, OnErr};
 ghost use Rattle.std.specs.List.{All};
 ghost use Rattle.std.specs.VecDeque.{deque_len, deque_capacity};
 ghost use Rattle.iol_core.specs.Meaning.{WantOfRoom};
 ghost use Rattle.iol_pool.specs.Pools.{pool_in};
 ghost use Rattle.iol_hold.specs.Room.{has_room};
-ghost use Rattle.iol_hold.specs.Stored.{held_bufs};
-ghost use Rattle.iol_hold.specs.Texts.{text_of, bufs_of, AllReadable, IsFilled};
-ghost use Rattle.iol_agg.specs.Parts.{whole_texts};
+ghost use Rattle.iol_hold.specs.Texts.{IsFilled};
 ghost use Rattle.iol_pipe.specs.Adding.{AddsBytes, AddsWhole};
 ghost use Rattle.iol_pipe.specs.Queue.{fitting};
 

@@ -2,7 +2,7 @@
 ghost use Rattle.std.specs.Prelude.{◌≡◌, ◌≤◌, [], ◌++◌, length, map, take, drop, min, IfOk, OnOk, OnErr};
 ghost use Rattle.std.specs.Vec.{vec_capacity};
 ghost use Rattle.iol_hold.specs.Moves.{Shares, Covers, IsCountable};
-ghost use Rattle.iol_hold.specs.Places.{slice_places, places, byte_len};
+ghost use Rattle.iol_hold.specs.Places.{slice_places, places};
 ghost use Rattle.iol_hold.specs.Texts.{bufs_of};
 ghost use Rattle.iol_pipe.specs.Queue.{first_parts};
 

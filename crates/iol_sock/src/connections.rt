@@ -36,12 +36,12 @@ impl Model for Connection {
     ghost Value = { Conn (List Slice) };
 
     ghost view = { λ c. record {
-        pool = c.pool;
-        incoming = c.incoming;
-        outgoing = c.outgoing;
-        accepted = c.accepted;
-        closed = c.closed;
-        peer = c.peer;
+      pool = c.pool;
+      incoming = c.incoming;
+      outgoing = c.outgoing;
+      accepted = c.accepted;
+      closed = c.closed;
+      peer = c.peer;
     } };
 }
 

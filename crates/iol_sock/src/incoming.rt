@@ -23,12 +23,7 @@ impl Connection {
     ///
     /// `BrokenPipe` where nothing more may arrive, `WouldBlock` where bytes are offered and none fits, then `NoRoom` and
     /// `Memory`. No bytes want neither room nor memory.
-    pub fn arrive(
-        &mut self,
-        alloc: Global,
-        store: &mut Store,
-        bytes: &[u8],
-    ) -> Result<u32, Refusal>
+    pub fn arrive(&mut self, alloc: Global, store: &mut Store, bytes: &[u8]) -> Result<u32, Refusal>
         requires { (pool_in store.old.pools self.old.pool).closed ≡ false }
         ensures passed { OnOk result (IsPassed (arrive_refusals self.old (length bytes.now))) }
         ensures refused { IfErr result (IsRefused

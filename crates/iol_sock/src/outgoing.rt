@@ -1,5 +1,5 @@
 //! What is to be sent, and what is sent of it.
-ghost use Rattle.std.specs.Prelude.{◌≡◌, ◌+◌, ◌≤◌, ◌++◌, length, take, drop, IfOk, IfErr, OnOk, OnErr};
+ghost use Rattle.std.specs.Prelude.{◌≡◌, ◌+◌, ◌≤◌, ◌++◌, take, drop, IfOk, IfErr, OnOk, OnErr};
 ghost use Rattle.std.specs.Vec.{vec_len, vec_capacity};
 ghost use Rattle.iol_core.specs.Checksum.{checksum as checksum_of};
 ghost use Rattle.iol_core.specs.Meaning.{WantOfMemory};
@@ -20,8 +20,9 @@ use iol_core::limits::MAX_QUEUE_BYTES;
 use iol_core::lists::Bytes;
 use iol_core::refusals::Refusal;
 use iol_hold::Store;
+use iol_pipe::Pipe;
 use iol_sum::{SumCache, checksum};
-use std::alloc::Global;
+use std::alloc::{AllocError, Global};
 
 /// Bytes that are sent at once, with the Internet checksum of these alone.
 #[derive(Debug, Drop)]
@@ -95,20 +96,49 @@ impl Connection {
         if max == 0 {
             return Err(Refusal::BadRange);
         }
-        let len = self.unsent().min(max);
-        if len == 0 {
+        if self.unsent() == 0 {
             return Err(Refusal::WouldBlock);
         }
-        let mut bytes = Vec::with_capacity(alloc, len as usize)?;
-        let sent = self.outgoing.take(alloc, store, len)?;
-        copy_all(&mut bytes, store, &sent);
-        let sum = sums.sum_all(store, sent.slices());
-        sent.release(store);
-        Ok(Segment {
-            bytes: Bytes::from_vec(bytes),
-            checksum: checksum(sum),
-        })
+        Ok(send(&mut self.outgoing, alloc, store, sums, max)?)
     }
+}
+
+// Takes the first bytes off a queue, `max` or all, and gives them with the checksum of these alone.
+fn send(
+    queue: &mut Pipe,
+    alloc: Global,
+    store: &mut Store,
+    sums: &mut SumCache,
+    max: u32,
+) -> Result<Segment, AllocError>
+    requires covered { Covers store.old (bufs_of queue.old) }
+    requires countable { IsCountable store.old (bufs_of queue.old) }
+    requires readable { AllReadable store.old queue.old }
+    requires right { IsRight store.old.arena sums.old }
+    ensures bytes { IfOk result (λ g. g.bytes ≡ bytes_of (take max (text_of store.old queue.old))) }
+    ensures checksum { IfOk result (λ g. g.checksum ≡ checksum_of g.bytes) }
+    ensures rest { OnOk result (places queue.new ≡ drop max (places queue.old)) }
+    ensures moves { OnOk result (Moves store.old store.new (bufs_of queue.old)
+        (bufs_of queue.new)) }
+    ensures lists { SameLists store.old store.new }
+    ensures frees { OnOk result (FreesOnly store.old store.new) }
+    ensures settles { AllSettled store.old → AllSettled store.new }
+    ensures uses { OnOk result (UsesSent store.old queue.old max sums.old sums.new) }
+    ensures right { IsRight store.new.arena sums.new }
+    ensures err { OnErr result (queue.new ≡ queue.old) }
+    ensures err_store { OnErr result (store.new ≡ store.old) }
+    ensures err_sums { OnErr result (sums.new ≡ sums.old) }
+{
+    let len = queue.len().min(max);
+    let mut bytes = Vec::with_capacity(alloc, len as usize)?;
+    let sent = queue.take(alloc, store, max)?;
+    copy_all(&mut bytes, store, &sent);
+    let sum = sums.sum_all(store, sent.slices());
+    sent.release(store);
+    Ok(Segment {
+        bytes: Bytes::from_vec(bytes),
+        checksum: checksum(sum),
+    })
 }
 
 // Adds the bytes of an aggregate to a list that has room for them.
