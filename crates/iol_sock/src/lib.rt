@@ -21,6 +21,7 @@
 
 mod connections;
 mod incoming;
+pub mod laws;
 mod outgoing;
 
 pub use connections::Connection;
