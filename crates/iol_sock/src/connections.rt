@@ -126,7 +126,7 @@ impl Connection {
     pub fn is_over(&self) -> bool
         ensures { result ≡ is_over self.now }
     {
-        self.outgoing.len() == 0 && (self.closed || (!self.accepted && self.is_gone()))
+        self.unsent() == 0 && (self.closed || (!self.accepted && self.is_gone()))
     }
 
     /// A domain accepts it.
