@@ -3,5 +3,6 @@ pub mod Holding
 pub mod Parts
 pub mod Prefixes
 pub mod Shared
+pub mod Skipping
 pub mod Texts
 pub mod Wholes

@@ -6,8 +6,8 @@
 //! The contract. In: `push` (`taken`: the longest prefix that fits; `places`, `shares`, `err`), `fill` (`added`: new bytes
 //! on the lowest free pages of a pool; `room`, `no_room`, `late`, `err`). Off: `front` (`given`: the longest prefix of at
 //! most n bytes whose pools all name the domain; `rest`, `shares`, `err`), `take` (`cut`: the first n bytes, slice by
-//! slice), `clear` (`moves`, `frees`, `settles`). And `len`, `is_empty`, `first_pool`. The words are in `specs/Queue`,
-//! `specs/Adding` and iol_hold's.
+//! slice), `skip` and `clear` (`rest`, `moves`, `frees`, `settles`). And `len`, `is_empty`, `first_pool`, `slice`. The
+//! words are in `specs/Queue`, `specs/Adding` and iol_hold's.
 //!
 //! ```
 //! let taken = pipe.push(&mut store, &agg)?;
