@@ -1,12 +1,10 @@
 -- Connections of the copying machine, as they are read.
-use Rattle.std.proofs.Common.{◌≡◌, ℕ, ◌-◌, ◌==◌, ◌&&◌, ◌||◌, Bool, false, not, nat_lt, min, List, [], ◌∷◌, length, Option, Some, refl, sym, ap, subst, ◌∙◌}
+use Rattle.std.proofs.Common.{◌≡◌, ℕ, ◌-◌, ◌==◌, ◌&&◌, ◌||◌, Bool, false, not, nat_lt, min, List, [], ◌∷◌, length, Option, refl, sym, ap, subst, ◌∙◌}
 use Rattle.std.specs.Prelude.{unwrap_or, is_some, is_none}
-use Rattle.iol_core.specs.Numbered.{lookup}
 use Rattle.iol_core.specs.State as machine
 use Rattle.iol_core.specs.State.{State, conn_at, is_gone, no_conn}
-use Rattle.iol_core.specs.Meaning.{◌when◌, first, WantOfRoom, Never}
+use Rattle.iol_core.specs.Meaning.{◌when◌, first, WantOfRoom}
 use Rattle.iol_core.specs.Calls.Outside as outside
-use Rattle.iol_core.specs.declared.descriptors.How.{How}
 use Rattle.iol_core.specs.declared.descriptors.How.TheVariants.{Done, Gone}
 use Rattle.iol_core.specs.declared.limits.TheConstants.{MAX_QUEUE_BYTES}
 use Rattle.iol_core.specs.declared.refusals.Refusal.{Refusal}
@@ -15,7 +13,6 @@ use Rattle.iol_hold.specs.Layout.{read}
 use Rattle.iol_hold.specs.declared.slices.Slice.{Slice}
 use Rattle.iol_hold.proofs.AtPlaces.{length-read}
 use Rattle.iol_sock.specs.Connections.{Conn, conn_view}
-use Rattle.iol_sock.specs.Refused.{arrive_refusals, queue_refusals, segment_refusals}
 use Rattle.iol_sock.specs.Meant.{Reading, IsConn, IsOverAsMeant, ClosesAsMeant, ArrivesAsMeant, TakesAsMeant, WantsAsMeant, SendsAsMeant, QueuesAsMeant, FitsAsMeant}
 
 pub conn_at-is : (f : Reading) (s : State) (c : ℕ) (x : Conn (List Slice)) → IsConn f s c x → conn_at s c ≡ conn_view (read f) x
@@ -32,10 +29,10 @@ closes_meant f x Gone = refl
 -- what bytes that arrive meet at a connection, after the test that it is there
 met : (lacks : Bool) → machine.Connection → (n : ℕ) → Option Refusal
 met lacks y n = first (
-  (BadFd when lacks) ∷
-  (BrokenPipe when (is_some y.peer || y.closed)) ∷
-  (WouldBlock when (nat_lt 0 n && (min n (MAX_QUEUE_BYTES - length y.incoming) == 0))) ∷ []
-)
+    (BadFd when lacks) ∷
+    (BrokenPipe when (is_some y.peer || y.closed)) ∷
+    (WouldBlock when (nat_lt 0 n && (min n (MAX_QUEUE_BYTES - length y.incoming) == 0))) ∷ []
+    )
 
 pub there : (f : Reading) (s : State) (c : ℕ) (x : Conn (List Slice)) → IsConn f s c x → outside.lacks_conn s c ≡ false
 there f s c x e = ap is_none e

@@ -5,7 +5,6 @@ use Rattle.iol_core.specs.State as machine
 use Rattle.iol_core.specs.State.{State}
 use Rattle.iol_core.specs.Meaning.{◌when◌, first}
 use Rattle.iol_core.specs.Calls.Outside as outside
-use Rattle.iol_core.specs.Calls.Reading as reading
 use Rattle.iol_core.specs.Calls.Writing as writing
 use Rattle.iol_core.specs.declared.descriptors.Descriptor.{Descriptor}
 use Rattle.iol_core.specs.declared.descriptors.Descriptor.TheVariants as on
@@ -13,7 +12,7 @@ use Rattle.iol_core.specs.declared.descriptors.How.{How}
 use Rattle.iol_core.specs.declared.refusals.Refusal.{Refusal}
 use Rattle.iol_core.specs.declared.refusals.Refusal.TheVariants.{BrokenPipe, WouldBlock}
 use Rattle.iol_hold.specs.Layout.{read}
-use Rattle.iol_hold.specs.Places.{Place, byte_len}
+use Rattle.iol_hold.specs.Places.{Place}
 use Rattle.iol_hold.specs.declared.slices.Slice.{Slice}
 use Rattle.iol_pipe.specs.Queue.{fitting}
 use Rattle.iol_sock.specs.Connections.{Conn, conn_view, closed_by, is_over}

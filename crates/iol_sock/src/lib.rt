@@ -20,9 +20,11 @@
 #![tactic(auto)]
 
 mod connections;
+mod draining;
 mod incoming;
 pub mod laws;
 mod outgoing;
 
 pub use connections::Connection;
+pub use draining::Drained;
 pub use outgoing::Segment;
