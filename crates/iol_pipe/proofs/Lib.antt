@@ -2,6 +2,7 @@ pub mod Given
 pub mod Holding
 pub mod Parts
 pub mod Prefixes
+pub mod ReadIn
 pub mod Shared
 pub mod Skipping
 pub mod Texts

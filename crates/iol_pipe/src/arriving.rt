@@ -1,6 +1,6 @@
 //! The bytes of one read, straight into a new buffer.
 ghost use Rattle.std.specs.Prelude.{◌≡◌, ℕ, ◌<◌, ◌≤◌, ◌-◌, length, take, true, false, Err, IfOk, IfErr, OnOk, OnErr};
-ghost use Rattle.std.specs.Io.KnownBytes.{IsAtEnd};
+ghost use Rattle.std.specs.Io.KnownBytes.{Consumes, IsAtEnd, Keeps};
 ghost use Rattle.iol_core.specs.Meaning.{WantOfRoom};
 ghost use Rattle.iol_pool.specs.Pools.{pool_in};
 ghost use Rattle.iol_hold.specs.Room.{has_room};
@@ -11,6 +11,7 @@ use iol_core::numbers::PoolId;
 use iol_core::refusals::Refusal;
 use iol_hold::{Holds, Store};
 use std::alloc::Global;
+use std::io;
 use std::io::Read;
 
 /// What one read gave.
@@ -53,21 +54,53 @@ fn read_in<R: Read>(
     ensures err_reader { OnErr result (reader.new ≡ reader.old) }
 {
     let mut filling = store.begin(alloc, pool, n)?;
-    let part = filling.part_mut(0);
-    let read = reader.read(&mut part[..n as usize]);
-    match read {
-        Ok(len) if len > 0 => {
+    match read_some(reader, filling.part_mut(0), n as usize) {
+        Ok(len) => {
             let taken = len as u32;
+            if taken == 0 {
+                filling.abandon();
+                return Ok((
+                    None,
+                    Arrived {
+                        taken,
+                        end: true,
+                        failed: false,
+                    },
+                ));
+            }
             let holds = filling.publish(taken);
-            Ok((Some(holds), Arrived { taken, end: false, failed: false }))
-        }
-        Ok(_) => {
-            filling.abandon();
-            Ok((None, Arrived { taken: 0, end: true, failed: false }))
+            Ok((
+                Some(holds),
+                Arrived {
+                    taken,
+                    end: false,
+                    failed: false,
+                },
+            ))
         }
         Err(_) => {
             filling.abandon();
-            Ok((None, Arrived { taken: 0, end: false, failed: true }))
+            Ok((
+                None,
+                Arrived {
+                    taken: 0,
+                    end: false,
+                    failed: true,
+                },
+            ))
         }
     }
+}
+
+// Reads at most n bytes at once, to the front of the memory.
+fn read_some<R: Read>(reader: &mut R, memory: &mut [u8], n: usize) -> io::Result<usize>
+    requires { n ≤ length memory.old }
+    ensures most { IfOk result (λ k. k ≤ n) }
+    ensures inside { IfOk result (λ k. k ≤ length memory.new) }
+    ensures given { IfOk result (λ k.
+        Consumes (R.remaining reader.old) (R.remaining reader.new) (take k memory.new)) }
+    ensures end { IfOk result (λ k. k ≡ 0 → 0 < n → IsAtEnd (R.remaining reader.new)) }
+    ensures err { OnErr result (Keeps (R.remaining reader.old) (R.remaining reader.new)) }
+{
+    reader.read(&mut memory[..n])
 }
