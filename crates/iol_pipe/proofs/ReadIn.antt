@@ -17,6 +17,7 @@ use Rattle.iol_arena.proofs.Members.{in_or_out, in_contains, contains_in}
 use Rattle.iol_arena.proofs.Over.{over_from-there}
 use Rattle.iol_pool.specs.Pools.{Pool, pool_in}
 use Rattle.iol_hold.specs.Stored.{Stored, Buffer, IsTidy, held_bufs, with_arena}
+use Rattle.iol_hold.specs.Moves.{Moves}
 use Rattle.iol_hold.specs.Pages.{KeepsPages}
 use Rattle.iol_hold.specs.Room.{has_room, free_of, lowest_of, pages_of, pinned}
 use Rattle.iol_hold.specs.Texts.{IsFilled}
@@ -26,7 +27,14 @@ use Rattle.iol_hold.proofs.Moving.{counts_trans}
 use Rattle.iol_hold.proofs.Paging.{keeps_pages_made}
 use Rattle.iol_hold.proofs.Reserving.{fill_publish, same_fills}
 use Rattle.iol_hold.proofs.Rooms.{no_pages}
-use Rattle.iol_pipe.specs.Arriving.{MakesRead}
+use Rattle.iol_hold.specs.Places.{byte_len}
+use Rattle.iol_hold.specs.declared.slices.Slice.{Slice}
+use Rattle.iol_hold.proofs.Reading.{readable_none}
+use Rattle.iol_core.specs.Text as text
+use Rattle.iol_agg.proofs.Wholes.{whole_texts-one}
+use Rattle.iol_pipe.specs.Adding.{AddsWhole}
+use Rattle.iol_pipe.specs.Arriving.{MakesRead, ReadsIn}
+use Rattle.iol_pipe.proofs.Wholes.{length_added}
 
 -- some bytes, at most a page of them
 pub one_page : (n : ℕ) → 0 < n → n ≤ 4096 → pages_for n ≡ 1
@@ -171,12 +179,34 @@ module _ (s u t : Stored) (parts : List Part) (pool n : ℕ) (w : List ℕ)
 pub read_as : {left after : Option (List ℕ)} {s : Stored} {holds : List Buffer} {pool n : ℕ} (t r : Stored) → MakesRead left after s t holds pool n → t ≡ r → MakesRead left after s r holds pool n
 read_as {left} {after} {s} {holds} {pool} {n} t r made e = subst (λ x. MakesRead left after s x holds pool n) e made
 
--- where nothing was read, whatever is said of so many bytes is said of none
-pub read_none : {left after : Option (List ℕ)} {s t : Stored} {pool n : ℕ} → n ≡ 0 → MakesRead left after s t [] pool 0 → MakesRead left after s t [] pool n
-read_none {left} {after} {s} {t} {pool} e made = subst (λ k. MakesRead left after s t [] pool k) (sym e) made
-
 pub consumes_none : (a b : Option (List ℕ)) (n : ℕ) (w : List ℕ) → n ≡ 0 → Consumes a b (take n w) → Consumes a b []
 consumes_none a b n w e h = subst (λ k. Consumes a b (take k w)) e h
 
 pub home_as : (holds : List Buffer) (p q : ℕ) → p ≡ q → All (λ (h : Buffer). h.pool ≡ p) holds → All (λ (h : Buffer). h.pool ≡ q) holds
 home_as holds p q e h = subst (λ k. All (λ (h : Buffer). h.pool ≡ k) holds) e h
+
+-- and the queue has them
+module _ (left after : Option (List ℕ)) (s t : Stored) (old new : List Slice) (holds : List Buffer) (pool n : ℕ) (whole : AddsWhole t old new holds) (made : MakesRead left after s t holds pool n) where
+  pub length_read : byte_len new ≡ byte_len old + n
+  length_read = omega (arith, length_added s t old new pool made.bytes holds whole made.home made.value, made.count)
+
+  pub read_added : ReadsIn left after s t old new pool n
+  read_added = record {
+    bytes = made.bytes;
+    count = made.count;
+    given = made.given;
+    added = record {
+      slices = whole.slices;
+      added = whole.added;
+      is_text = whole.is_text ∙ whole_texts-one t pool holds made.home ∙ ap (text.labelled pool) made.value;
+      readable = whole.readable;
+      moves = subst (λ bs. Moves s t [] bs) (sym whole.bufs) made.moves;
+      made_on = subst (λ bs. MadeOn s.arena t.arena bs (lowest_of s pool (length made.bytes))) (sym whole.bufs) made.made_on;
+      pages = made.pages;
+      settles = made.settles;
+      pools = made.pools;
+    };
+  }
+
+pub nothing_added : (left after : Option (List ℕ)) (s t : Stored) (old : List Slice) (pool n : ℕ) → MakesRead left after s t [] pool n → ReadsIn left after s t old old pool n
+nothing_added left after s t old pool n made = read_added left after s t old old [] pool n (record { slices = []; added = sym (append-nil old); is_text = refl; readable = readable_none t; bufs = refl }) made

@@ -1,12 +1,15 @@
 //! The bytes of one read, straight into a new buffer.
-ghost use Rattle.std.specs.Prelude.{◌≡◌, ℕ, ◌<◌, ◌≤◌, ◌-◌, length, take, true, false, Err, IfOk, IfErr, OnOk, OnErr};
+ghost use Rattle.std.specs.Prelude.{◌≡◌, ℕ, ◌+◌, ◌<◌, ◌≤◌, length, take, true, false, Err, IfOk, IfErr, OnOk, OnErr};
 ghost use Rattle.std.specs.Io.KnownBytes.{Consumes, IsAtEnd, Keeps};
 ghost use Rattle.iol_core.specs.Meaning.{WantOfRoom};
 ghost use Rattle.iol_pool.specs.Pools.{pool_in};
+ghost use Rattle.iol_hold.specs.Places.{byte_len};
 ghost use Rattle.iol_hold.specs.Room.{has_room};
-ghost use Rattle.iol_pipe.specs.Arriving.{listed, MakesRead};
+ghost use Rattle.iol_pipe.specs.Arriving.{listed, MakesRead, ReadsIn};
 
-use iol_core::limits::PAGE_BYTES;
+use crate::Pipe;
+use crate::filling::add_whole;
+use iol_core::limits::{MAX_QUEUE_BYTES, PAGE_BYTES};
 use iol_core::numbers::PoolId;
 use iol_core::refusals::Refusal;
 use iol_hold::{Holds, Store};
@@ -25,6 +28,63 @@ pub struct Arrived {
 
     /// Whether it failed.
     pub failed: bool,
+}
+
+impl Arrived {
+    const END: Arrived = Arrived {
+        taken: 0,
+        end: true,
+        failed: false,
+    };
+
+    const FAILURE: Arrived = Arrived {
+        taken: 0,
+        end: false,
+        failed: true,
+    };
+}
+
+impl Pipe {
+    /// Takes in the bytes of one read, at most `n` and straight into a new buffer on the lowest free page of an open pool.
+    ///
+    /// Room and memory are had before it reads. Where the reader gives no byte, the queue is as it was, and the page is
+    /// free again.
+    pub fn fill_from<R: Read>(
+        &mut self,
+        alloc: Global,
+        store: &mut Store,
+        pool: PoolId,
+        reader: &mut R,
+        n: u32,
+    ) -> Result<Arrived, Refusal>
+        requires open { (pool_in store.old.pools pool).closed ≡ false }
+        requires some { 0 < n }
+        requires page { n ≤ PAGE_BYTES }
+        requires fits { byte_len self.old + n ≤ MAX_QUEUE_BYTES }
+        ensures read { IfOk result (λ a. ReadsIn (R.remaining reader.old) (R.remaining reader.new)
+            store.old store.new self.old self.new pool a.taken) }
+        ensures most { IfOk result (λ a. a.taken ≤ n) }
+        ensures some { IfOk result (λ a. a.end ≡ false → a.failed ≡ false → 0 < a.taken) }
+        ensures ended { IfOk result (λ a. a.end ≡ true →
+            (a.taken ≡ 0) × IsAtEnd (R.remaining reader.new)) }
+        ensures failed { IfOk result (λ a. a.failed ≡ true → a.taken ≡ 0) }
+        ensures room { OnOk result (has_room store.old pool 1 ≡ true) }
+        ensures no_room { (p : ℕ) → result ≡ Err (Refusal.NoRoom p) → has_room store.old pool 1 ≡
+            false }
+        ensures late { IfErr result (WantOfRoom pool) }
+        ensures err { OnErr result (self.new ≡ self.old) }
+        ensures err_store { OnErr result (store.new ≡ store.old) }
+        ensures err_reader { OnErr result (reader.new ≡ reader.old) }
+    {
+        self.queue.reserve(1)?;
+        let (made, arrived) = read_in(alloc, store, pool, reader, n)?;
+        let Some(holds) = made else {
+            return Ok(arrived);
+        };
+        add_whole(&mut self.queue, store, holds);
+        self.len += arrived.taken;
+        Ok(arrived)
+    }
 }
 
 // Reads at most n bytes at once, into a new buffer of the pool. Where the reader gives none, there is no buffer, and its
@@ -59,35 +119,19 @@ fn read_in<R: Read>(
             let taken = len as u32;
             if taken == 0 {
                 filling.abandon();
-                return Ok((
-                    None,
-                    Arrived {
-                        taken,
-                        end: true,
-                        failed: false,
-                    },
-                ));
+                return Ok((None, Arrived::END));
             }
             let holds = filling.publish(taken);
-            Ok((
-                Some(holds),
-                Arrived {
-                    taken,
-                    end: false,
-                    failed: false,
-                },
-            ))
+            let arrived = Arrived {
+                taken,
+                end: false,
+                failed: false,
+            };
+            Ok((Some(holds), arrived))
         }
         Err(_) => {
             filling.abandon();
-            Ok((
-                None,
-                Arrived {
-                    taken: 0,
-                    end: false,
-                    failed: true,
-                },
-            ))
+            Ok((None, Arrived::FAILURE))
         }
     }
 }

@@ -4,10 +4,11 @@
 //! byte is copied.
 //!
 //! The contract. In: `push` (`taken`: the longest prefix that fits; `places`, `shares`, `err`), `fill` (`added`: new bytes
-//! on the lowest free pages of a pool; `room`, `no_room`, `late`, `err`). Off: `front` (`given`: the longest prefix of at
-//! most n bytes whose pools all name the domain; `rest`, `shares`, `err`), `take` (`cut`: the first n bytes, slice by
-//! slice), `skip` and `clear` (`rest`, `moves`, `frees`, `settles`). And `len`, `is_empty`, `first_pool`, `slice`. The
-//! words are in `specs/Queue`, `specs/Adding` and iol_hold's.
+//! on the lowest free pages of a pool; `room`, `no_room`, `late`, `err`), `fill_from` (`read`: those of one read, in
+//! place). Off: `front` (`given`: the longest prefix of at most n bytes whose pools all name the domain; `rest`,
+//! `shares`, `err`), `take` (`cut`: the first n bytes, slice by slice), `skip` and `clear` (`rest`, `moves`, `frees`,
+//! `settles`). And `len`, `is_empty`, `first_pool`, `slice`. The words are in `specs/Queue`, `specs/Adding`,
+//! `specs/Arriving` and iol_hold's.
 //!
 //! ```
 //! let taken = pipe.push(&mut store, &agg)?;
@@ -30,6 +31,7 @@ mod arriving;
 mod filling;
 mod taking;
 
+pub use arriving::Arrived;
 use iol_agg::Agg;
 use iol_core::limits::MAX_QUEUE_BYTES;
 use iol_core::numbers::{DomainId, PoolId};

@@ -39,3 +39,7 @@ abbrev pub segment_refusals : Conn (List Slice) → (max : ℕ) → List (Option
 segment_refusals c max =
     (BadRange when (max == 0)) ∷
     (WouldBlock when (byte_len c.outgoing == 0)) ∷ []
+
+-- at most max bytes are read, as they come: refused as one byte that arrives
+abbrev pub read_refusals : Conn (List Slice) → (max : ℕ) → List (Option Refusal)
+read_refusals c max = (BadRange when (max == 0)) ∷ arrive_refusals c 1

@@ -6,10 +6,11 @@
 //!
 //! The contract. A call is refused as the copying machine's is, and a refused one changes nothing (`refused`, `passed`,
 //! `err`). In: `arrive` (`count`, `added`: new bytes of the connection's pool on its lowest free pages; `room`,
-//! `no_room`), `front` (`given`: the longest prefix whose pools name the reader). Out: `queue` (`places`: shared),
-//! `segment` (`bytes`, `checksum` of these alone, for every cutting into slices; `uses`: which sums are remembered).
-//! Ended: `peer_closed`, `close`, `release` (`moves`, `frees`, `settles`). The words are in `specs/Connections`,
-//! `specs/Refused`, `specs/Sent`, iol_pipe's and iol_sum's.
+//! `no_room`), `arrive_from` (`read`: those of one read, in place), `front` (`given`: the longest prefix whose pools name
+//! the reader). Out: `queue` (`places`: shared), `segment` (`bytes`, `checksum` of these alone, for every cutting into
+//! slices; `uses`: which sums are remembered), `drain_to` (`written`: what a writer took; `rest`). Ended: `peer_closed`,
+//! `close`, `release` (`moves`, `frees`, `settles`). That its words are the machine's: [`laws`]. The words are in
+//! `specs/Connections`, `specs/Refused`, `specs/Sent`, iol_pipe's and iol_sum's.
 //!
 //! ```text
 //! let taken = conn.arrive(alloc, &mut store, b"GET /")?;
@@ -19,6 +20,7 @@
 //! ```
 #![tactic(auto)]
 
+mod arriving;
 mod connections;
 mod draining;
 mod incoming;
@@ -27,4 +29,5 @@ mod outgoing;
 
 pub use connections::Connection;
 pub use draining::Drained;
+pub use iol_pipe::Arrived;
 pub use outgoing::Segment;

@@ -1,5 +1,5 @@
 use Rattle.std.proofs.Common.{sym, ap, ◌∙◌, arith, length, rules}
-use Rattle.iol_pipe.proofs.ReadIn.{room_for_one, kept_consumes, consumes_none, home_as, read_made, none_made, read_as, read_none}
+use Rattle.iol_pipe.proofs.ReadIn.{room_for_one, kept_consumes, consumes_none, home_as, read_made, none_made, read_as}
 use Rattle.iol_pipe.proofs.arriving.read_in.Goals as goal
 
 pub returns-in_err-filling-clause-no_room : goal.returns-in_err-filling-clause-no_room
@@ -26,11 +26,10 @@ returns-then-taken-eq0-clause-made g c =
     let after = g.R.Read.remaining c.read_some.new.reader in
     let size = c.read_some.auto.memory in
     read_as c.abandon.new.self.0 _
-    (read_none c.if-taken-eq0.true
     (none_made c.args.store.now f.store.now c.abandon.new.self.0 f.reserved.reservation.parts.items c.args.pool c.args.n memory
     begun.fills begun.pages begun.others begun.filling.pages.apart begun.some c.requires.some c.requires.page
     (size ∙ lent.len) (omega (arith, size, lent.some)) lent.keeps
-    left after (consumes_none left after c.in-Ok.len memory c.if-taken-eq0.true c.in-Ok.ensures.given) there.publishes there.tidy there.unraised there.others there.returned))
+    left after (consumes_none left after c.in-Ok.len memory c.if-taken-eq0.true c.in-Ok.ensures.given) there.publishes there.tidy there.unraised there.others there.returned)
     (search rules)
 
 pub returns-else-taken-eq0-clause-made : goal.returns-else-taken-eq0-clause-made
