@@ -33,7 +33,7 @@ first_pool-is (y ∷ ys) x h e =
 
 -- Of the first n places of a list and others.
 
-take-append : {A : Type 0} (a r : List A) (n : ℕ) → take n (a ++ r) ≡ take n a ++ take (n - length a) r
+pub take-append : {A : Type 0} (a r : List A) (n : ℕ) → take n (a ++ r) ≡ take n a ++ take (n - length a) r
 take-append {A} [] r n =
     let e : n ≡ n - 0 = omega arith in
     let none : List A = [] in

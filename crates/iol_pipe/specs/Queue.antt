@@ -1,5 +1,5 @@
 -- A queue of slices.
-use Rattle.std.specs.Prelude.{◌≡◌, ℕ, ◌≤◌, Bool, List, Option, option_map}
+use Rattle.std.specs.Prelude.{◌≡◌, ℕ, zero, suc, ◌-◌, ◌≤◌, Bool, List, [], ◌∷◌, length, take, min, Option, option_map}
 use Rattle.std.specs.List.{slice_get}
 use Rattle.iol_core.specs.declared.limits.TheConstants.{MAX_QUEUE_BYTES}
 use Rattle.iol_pool.specs.Pools.{Pool, names_in}
@@ -10,6 +10,16 @@ use Rattle.iol_hold.specs.Places.{Place, places, byte_len}
 pub record IsBounded (xs : List Slice) (n : ℕ) : Type 0 where
   pub len : n ≡ byte_len xs
   pub most : byte_len xs ≤ MAX_QUEUE_BYTES
+
+-- how many of n bytes more it takes
+abbrev pub fitting : List Slice → (n : ℕ) → ℕ
+fitting xs n = min n (MAX_QUEUE_BYTES - byte_len xs)
+
+-- The first of these lists, with n elements in all: whole ones, and of the one in which the n-th is, what comes up to it.
+abbrev pub first_parts : {A : Type 0} → (n : ℕ) → List (List A) → List (List A)
+first_parts n [] = []
+first_parts zero (p ∷ ps) = []
+first_parts (suc n) (p ∷ ps) = take (suc n) p ∷ first_parts (suc n - length p) ps
 
 -- the pool of the first byte
 abbrev pub first_pool : List Slice → Option ℕ

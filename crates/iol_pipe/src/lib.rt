@@ -3,9 +3,12 @@
 //! A pipe holds the buffer of each slice that waits in it. What is pushed is shared, and what is taken off moves: no
 //! byte is copied.
 //!
-//! The contract. `push` (`taken`: the longest prefix that fits; `places`, `shares`, `err`), `front` (`given`: the longest
-//! prefix of at most n bytes whose pools all name the domain; `rest`, `shares`, `err`), `clear` (`moves`, `frees`,
-//! `settles`), `len`, `is_empty`, `first_pool`. The words are in `specs/Queue` and iol_hold's.
+//! The contract. In: `push` (`taken`: the longest prefix that fits; `places`, `shares`, `err`), `fill` (`added`: new bytes
+//! on the lowest free pages of a pool; `room`, `no_room`, `late`, `err`), `fill_from` (`read`: those of one read, in
+//! place). Off: `front` (`given`: the longest prefix of at most n bytes whose pools all name the domain; `rest`,
+//! `shares`, `err`), `take` (`cut`: the first n bytes, slice by slice), `skip` and `clear` (`rest`, `moves`, `frees`,
+//! `settles`). And `len`, `is_empty`, `first_pool`, `slice`. The words are in `specs/Queue`, `specs/Adding`,
+//! `specs/Arriving` and iol_hold's.
 //!
 //! ```
 //! let taken = pipe.push(&mut store, &agg)?;
@@ -13,7 +16,7 @@
 //! ```
 #![tactic(auto)]
 
-ghost use Rattle.std.specs.Prelude.{◌≡◌, ◌+◌, ◌-◌, ◌<◌, ◌≤◌, ◌↔◌, min, [], ◌∷◌, ◌++◌, length, take, drop, take_while, slice_index_or, IsTrue, IfOk, OnOk, OnErr};
+ghost use Rattle.std.specs.Prelude.{◌≡◌, ◌+◌, ◌-◌, ◌<◌, ◌≤◌, ◌↔◌, min, [], ◌∷◌, ◌++◌, length, map, take, drop, take_while, slice_index_or, IsTrue, IfOk, OnOk, OnErr};
 ghost use Rattle.std.specs.VecDeque.{deque_len, deque_capacity};
 ghost use Rattle.std.specs.Vec.{vec_capacity};
 ghost use Rattle.iol_core.specs.declared.numbers.BufId.{BufId};
@@ -22,8 +25,13 @@ ghost use Rattle.iol_hold.specs.Places.{slice_places, places, byte_len};
 ghost use Rattle.iol_hold.specs.Releases.{FreesOnly};
 ghost use Rattle.iol_hold.specs.Stored.{AllSettled};
 ghost use Rattle.iol_hold.specs.Texts.{bufs_of, AllReadable};
-ghost use Rattle.iol_pipe.specs.Queue.{first_pool, may_see};
+ghost use Rattle.iol_pipe.specs.Queue.{first_parts, first_pool, may_see};
 
+mod arriving;
+mod filling;
+mod taking;
+
+pub use arriving::Arrived;
 use iol_agg::Agg;
 use iol_core::limits::MAX_QUEUE_BYTES;
 use iol_core::numbers::{DomainId, PoolId};
@@ -222,6 +230,9 @@ fn take_first(queue: &mut VecDeque<Slice>, store: &mut Store, most: u32) -> Slic
     requires covered { Covers store.old (bufs_of queue.old.items) }
     requires countable { IsCountable store.old (bufs_of queue.old.items) }
     ensures places { slice_places result ++ places queue.new.items ≡ places queue.old.items }
+    ensures cut { first_parts most (map slice_places queue.old.items) ≡
+        slice_places result ∷
+        first_parts (most - result.len) (map slice_places queue.new.items) }
     ensures pool { (x : Slice) → result.hold.pool ≡ (slice_index_or queue.old.items 0 x).hold.pool }
     ensures len { result.len ≤ most }
     ensures fewer { min (length queue.new.items) (most - result.len) + 1 ≤ min

@@ -1,5 +1,7 @@
-use Rattle.std.proofs.Common.{arith, refl, ap, sym, ◌∙◌, ◌++◌}
+use Rattle.std.proofs.Common.{arith, refl, ap, sym, ◌∙◌, ◌++◌, map}
 use Rattle.iol_hold.specs.Places.{slice_places, places}
+use Rattle.iol_pipe.specs.Queue.{first_parts}
+use Rattle.iol_pipe.proofs.Parts.{first_parts-whole, first_parts-cut}
 use Rattle.iol_pipe.proofs.Prefixes.{split_first, cut_first, cut_rest}
 use Rattle.iol_pipe.proofs.Shared.{first_tally, first_held, shares_split}
 use Rattle.iol_pipe.proofs.take_first.Goals as goal
@@ -23,3 +25,15 @@ pub returns-clause-shares : goal.returns-clause-shares
 returns-clause-shares c =
     shares_split c.in-Some.first c.cut-2.result c.cut.result c.args.queue.now.items c.push_front_reserved.new.self.items c.pop_front.new.self.items
     c.in-Some.ensures.items c.push_front_reserved.ensures.items c.cut-2.ensures.hold (c.cut.ensures.hold ∙ c.share.ensures.hold) c.share.ensures.shares
+
+pub returns-then-first-most-clause-cut : goal.returns-then-first-most-clause-cut
+returns-then-first-most-clause-cut c =
+    ap (λ xs. first_parts c.args.most (map slice_places xs)) c.in-Some.ensures.items
+    ∙ first_parts-whole c.in-Some.first c.pop_front.new.self.items c.args.most c.if-first-most.true
+
+pub returns-clause-cut : goal.returns-clause-cut
+returns-clause-cut c =
+    let first = c.in-Some.first in
+    let small = cut_first first first c.cut-2.result c.args.most c.args.most refl (omega (arith, c.if-first-most.false)) c.cut-2.ensures.places in
+    ap (λ xs. first_parts c.args.most (map slice_places xs)) c.in-Some.ensures.items
+    ∙ first_parts-cut first c.cut-2.result c.pop_front.new.self.items c.push_front_reserved.new.self.items c.args.most (omega (arith, c.if-first-most.false)) c.requires.some small (omega (arith, c.cut-2.ensures.len))

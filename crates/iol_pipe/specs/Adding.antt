@@ -1,0 +1,32 @@
+-- New bytes at the end of a queue.
+use Rattle.std.specs.Prelude.{◌≡◌, ℕ, List, [], ◌++◌, length}
+use Rattle.iol_core.specs.Text.{labelled}
+use Rattle.iol_arena.specs.Pages.{MadeOn}
+use Rattle.iol_hold.specs.Stored.{Stored, Buffer, AllSettled, held_bufs}
+use Rattle.iol_hold.specs.Moves.{Moves}
+use Rattle.iol_hold.specs.Pages.{KeepsPages}
+use Rattle.iol_hold.specs.Room.{lowest_of}
+use Rattle.iol_hold.specs.Texts.{text_of, bufs_of, AllReadable}
+use Rattle.iol_hold.specs.declared.slices.Slice.{Slice}
+use Rattle.iol_agg.specs.Parts.{whole_texts}
+
+-- The queue got slices of these bytes at its end, in new buffers of the pool. They were made on the lowest free pages
+-- of the pool, each of which was raised by one.
+pub record AddsBytes (s t : Stored) (old new : List Slice) (pool : ℕ) (bytes : List ℕ) : Type 0 where
+  pub slices : List Slice
+  pub added : new ≡ old ++ slices
+  pub is_text : text_of t slices ≡ labelled pool bytes
+  pub readable : AllReadable t slices
+  pub moves : Moves s t [] (bufs_of slices)
+  pub made_on : MadeOn s.arena t.arena (bufs_of slices) (lowest_of s pool (length bytes))
+  pub pages : KeepsPages s t (lowest_of s pool (length bytes))
+  pub settles : AllSettled s → AllSettled t
+  pub pools : t.pools ≡ s.pools
+
+-- The queue got a slice of each of these buffers at its end, whole.
+pub record AddsWhole (s : Stored) (old new : List Slice) (holds : List Buffer) : Type 0 where
+  pub slices : List Slice
+  pub added : new ≡ old ++ slices
+  pub is_text : text_of s slices ≡ whole_texts s holds
+  pub readable : AllReadable s slices
+  pub bufs : bufs_of slices ≡ held_bufs holds

@@ -1,0 +1,66 @@
+//! New bytes at the end of a queue, in buffers of their own.
+ghost use Rattle.std.specs.Prelude.{◌≡◌, ℕ, ◌+◌, ◌≤◌, length, take, true, false, Err, IsOk, IfOk, IfErr, OnOk, OnErr};
+ghost use Rattle.std.specs.List.{All};
+ghost use Rattle.std.specs.VecDeque.{deque_len, deque_capacity};
+ghost use Rattle.iol_core.specs.Meaning.{WantOfRoom};
+ghost use Rattle.iol_pool.specs.Pools.{pool_in};
+ghost use Rattle.iol_hold.specs.Room.{has_room};
+ghost use Rattle.iol_hold.specs.Texts.{IsFilled};
+ghost use Rattle.iol_pipe.specs.Adding.{AddsBytes, AddsWhole};
+ghost use Rattle.iol_pipe.specs.Queue.{fitting};
+
+use crate::Pipe;
+use iol_core::limits::{MAX_QUEUE_BYTES, PAGE_BYTES};
+use iol_core::numbers::PoolId;
+use iol_core::refusals::Refusal;
+use iol_hold::{Holds, Slice, Store};
+use std::alloc::Global;
+use std::collections::VecDeque;
+
+impl Pipe {
+    /// Takes in new bytes of an open pool, as many as fit, and tells how many that was. They lie in new buffers on the
+    /// lowest free pages of the pool. No bytes take no page.
+    pub fn fill(
+        &mut self,
+        alloc: Global,
+        store: &mut Store,
+        pool: PoolId,
+        bytes: &[u8],
+    ) -> Result<u32, Refusal>
+        requires { (pool_in store.old.pools pool).closed ≡ false }
+        ensures taken { IfOk result (λ n. n ≡ fitting self.old (length bytes.now)) }
+        ensures added { IfOk result (λ n.
+            AddsBytes store.old store.new self.old self.new pool (take n bytes.now)) }
+        ensures room { OnOk result (has_room store.old pool
+            (fitting self.old (length bytes.now)) ≡ true) }
+        ensures no_room { (p : ℕ) → result ≡ Err (Refusal.NoRoom p) → has_room store.old pool
+            (fitting self.old (length bytes.now)) ≡ false }
+        ensures late { IfErr result (WantOfRoom pool) }
+        ensures none { fitting self.old (length bytes.now) ≡ 0 → IsOk result }
+        ensures err { OnErr result (self.new ≡ self.old) }
+        ensures err_store { OnErr result (store.new ≡ store.old) }
+    {
+        let room = MAX_QUEUE_BYTES - self.len as usize;
+        let taken = bytes.len().min(room);
+        if taken == 0 {
+            return Ok(0);
+        }
+        self.queue.reserve(taken.div_ceil(PAGE_BYTES))?;
+        let holds = store.fill(alloc, pool, &bytes[..taken])?;
+        add_whole(&mut self.queue, store, holds);
+        self.len += taken as u32;
+        Ok(taken as u32)
+    }
+}
+
+// Adds a slice for each of the buffers, whole.
+pub(crate) fn add_whole(queue: &mut VecDeque<Slice>, store: &Store, holds: Holds)
+    requires filled { All (IsFilled store.now) holds }
+    requires room { deque_len queue.old + length holds ≤ deque_capacity queue.old }
+    ensures { AddsWhole store.now queue.old.items queue.new.items holds }
+{
+    let mut left = holds;
+    while let Some(hold) = left.take_first() {
+        queue.push_back_reserved(Slice::whole(store, hold));
+    }
+}

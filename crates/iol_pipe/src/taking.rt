@@ -1,0 +1,107 @@
+//! The first bytes of a queue, whoever may read them.
+ghost use Rattle.std.specs.Prelude.{◌≡◌, ◌≤◌, [], ◌++◌, length, map, take, drop, min, slice_index_or, ◌↔◌, ◌<◌, IsSome, IfSome, IfOk, OnOk, OnErr};
+ghost use Rattle.std.specs.Vec.{vec_capacity};
+ghost use Rattle.iol_hold.specs.Moves.{Covers, IsCountable, Moves, SameLists, Shares};
+ghost use Rattle.iol_hold.specs.Places.{slice_places, places};
+ghost use Rattle.iol_hold.specs.Releases.{FreesOnly};
+ghost use Rattle.iol_hold.specs.Stored.{AllSettled};
+ghost use Rattle.iol_hold.specs.Texts.{bufs_of, AllReadable};
+ghost use Rattle.iol_pipe.specs.Queue.{first_parts};
+
+use crate::{Pipe, take_first};
+use iol_agg::Agg;
+use iol_hold::{Slice, Store};
+use std::alloc::{AllocError, Global};
+use std::collections::VecDeque;
+
+impl Pipe {
+    /// Takes off the first `n` bytes, or all where fewer wait. The slice in which the last of them lies is cut there.
+    pub fn take(&mut self, alloc: Global, store: &mut Store, n: u32) -> Result<Agg, AllocError>
+        requires covered { Covers store.old (bufs_of self.old) }
+        requires countable { IsCountable store.old (bufs_of self.old) }
+        ensures given { IfOk result (λ a. places a ≡ take n (places self.old)) }
+        ensures cut { IfOk result (λ a. map slice_places a ≡
+            first_parts n (map slice_places self.old)) }
+        ensures rest { OnOk result (places self.new ≡ drop n (places self.old)) }
+        ensures shares { IfOk result (λ a.
+            Shares store.old store.new (bufs_of self.old) (bufs_of a ++ bufs_of self.new)) }
+        ensures err { OnErr result (self.new ≡ self.old) }
+        ensures err_store { OnErr result (store.new ≡ store.old) }
+    {
+        let room = self.queue.len().min(n as usize);
+        let mut slices = Vec::with_capacity(alloc, room)?;
+        take_bytes(&mut self.queue, store, &mut slices, n);
+        let given = Agg::from_slices(slices);
+        self.len -= given.len();
+        Ok(given)
+    }
+
+    /// The slice in a place, counted from 0 in the order of the bytes, if there are so many.
+    pub fn slice(&self, i: usize) -> Option<&Slice>
+        ensures there { IsSome result ↔ (i < length self.now) }
+        ensures item { IfSome result (λ x. x.now ≡ slice_index_or self.now i x.now) }
+    {
+        self.queue.get(i)
+    }
+
+    /// Releases the first `n` bytes, or all where fewer wait. It takes no memory.
+    pub fn skip(&mut self, store: &mut Store, n: u32)
+        requires { Covers store.old (bufs_of self.old) }
+        ensures rest { places self.new ≡ drop n (places self.old) }
+        ensures moves { Moves store.old store.new (bufs_of self.old) (bufs_of self.new) }
+        ensures lists { SameLists store.old store.new }
+        ensures frees { FreesOnly store.old store.new }
+        ensures settles { AllReadable store.old self.old → AllSettled store.old →
+            AllSettled store.new }
+    {
+        let skipped = self.len.min(n);
+        skip_bytes(&mut self.queue, store, n);
+        self.len -= skipped;
+    }
+}
+
+// Moves the first n bytes, or all.
+fn take_bytes(queue: &mut VecDeque<Slice>, store: &mut Store, out: &mut Vec<Slice>, n: u32)
+    requires none { out.old.items ≡ [] }
+    requires room { min (length queue.old.items) n ≤ vec_capacity out.old }
+    requires covered { Covers store.old (bufs_of queue.old.items) }
+    requires countable { IsCountable store.old (bufs_of queue.old.items) }
+    ensures given { places out.new.items ≡ take n (places queue.old.items) }
+    ensures cut { map slice_places out.new.items ≡
+        first_parts n (map slice_places queue.old.items) }
+    ensures whole { places out.new.items ++ places queue.new.items ≡ places queue.old.items }
+    ensures shares { Shares store.old store.new (bufs_of queue.old.items)
+        (bufs_of out.new.items ++ bufs_of queue.new.items) }
+{
+    let mut left = n;
+    while left > 0 && !queue.is_empty() {
+        let slice = take_first(queue, store, left);
+        left -= slice.len;
+        out.push_reserved(slice);
+    }
+}
+
+// Releases the first n bytes, or all. The slice in which the last of them lies is cut there.
+fn skip_bytes(queue: &mut VecDeque<Slice>, store: &mut Store, n: u32)
+    requires { Covers store.old (bufs_of queue.old.items) }
+    ensures rest { places queue.new.items ≡ drop n (places queue.old.items) }
+    ensures moves { Moves store.old store.new (bufs_of queue.old.items) (bufs_of queue.new.items) }
+    ensures lists { SameLists store.old store.new }
+    ensures frees { FreesOnly store.old store.new }
+    ensures settles { AllReadable store.old queue.old.items → AllSettled store.old →
+        AllSettled store.new }
+{
+    let mut left = n;
+    while left > 0 {
+        let Some(first) = queue.pop_front() else {
+            return;
+        };
+        let len = first.len;
+        if len > left {
+            queue.push_front_reserved(first.cut(left, len));
+            return;
+        }
+        left -= len;
+        first.release(store);
+    }
+}

@@ -1,0 +1,4 @@
+pub mod Ending
+pub mod Meaning
+pub mod Sending
+pub mod Writing

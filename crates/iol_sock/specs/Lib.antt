@@ -1,0 +1,4 @@
+pub mod Connections
+pub mod Meant
+pub mod Refused
+pub mod Sent

@@ -1,0 +1,97 @@
+//! What a writer takes of what is to be sent, straight from where it lies.
+ghost use Rattle.std.specs.Prelude.{◌≡◌, ◌<◌, ◌≤◌, length, min, take, drop, false, true};
+ghost use Rattle.std.specs.Io.KnownBytes.{Appends};
+ghost use Rattle.iol_core.specs.Text.{bytes_of};
+ghost use Rattle.iol_hold.specs.Moves.{Covers, Moves, SameLists};
+ghost use Rattle.iol_hold.specs.Places.{byte_len, places};
+ghost use Rattle.iol_hold.specs.Releases.{FreesOnly};
+ghost use Rattle.iol_hold.specs.Stored.{AllSettled};
+ghost use Rattle.iol_hold.specs.Texts.{text_of, bufs_of, AllReadable};
+
+use crate::connections::Connection;
+use iol_hold::Store;
+use iol_pipe::Pipe;
+use std::io::Write;
+
+/// What a writer took.
+#[derive(Clone, Copy, Debug, PartialEq, Eq)]
+pub struct Drained {
+    /// The number of bytes.
+    pub taken: u32,
+
+    /// Whether it failed, or was offered bytes and took none.
+    pub failed: bool,
+}
+
+impl Connection {
+    /// Lends the first bytes to be sent to a writer, slice by slice and at most `max` in all, until it fails or takes
+    /// none. What it took is sent, and leaves the queue. No memory is taken.
+    pub fn drain_to<W: Write>(&mut self, store: &mut Store, writer: &mut W, max: u32) -> Drained
+        requires covered { Covers store.old (bufs_of self.old.outgoing) }
+        requires readable { AllReadable store.old self.old.outgoing }
+        ensures most { result.taken ≤ min max (byte_len self.old.outgoing) }
+        ensures all { result.failed ≡ false → result.taken ≡ min max (byte_len self.old.outgoing) }
+        ensures fewer { result.failed ≡ true → result.taken < min max (byte_len self.old.outgoing) }
+        ensures written { Appends (W.contents writer.old) (W.contents writer.new)
+            (take result.taken (bytes_of (text_of store.old self.old.outgoing))) }
+        ensures rest { places self.new.outgoing ≡ drop result.taken (places self.old.outgoing) }
+        ensures others { self.new ≡ record self.old { outgoing = self.new.outgoing } }
+        ensures moves { Moves store.old store.new (bufs_of self.old.outgoing)
+            (bufs_of self.new.outgoing) }
+        ensures lists { SameLists store.old store.new }
+        ensures frees { FreesOnly store.old store.new }
+        ensures settles { AllSettled store.old → AllSettled store.new }
+    {
+        let drained = write_first(&self.outgoing, store, writer, max);
+        self.outgoing.skip(store, drained.taken);
+        drained
+    }
+}
+
+// Writes the first bytes of a queue, at most `max`, until the writer fails or takes none.
+fn write_first<W: Write>(queue: &Pipe, store: &Store, writer: &mut W, max: u32) -> Drained
+    requires { AllReadable store.now queue.now }
+    ensures most { result.taken ≤ min max (byte_len queue.now) }
+    ensures all { result.failed ≡ false → result.taken ≡ min max (byte_len queue.now) }
+    ensures fewer { result.failed ≡ true → result.taken < min max (byte_len queue.now) }
+    ensures written { Appends (W.contents writer.old) (W.contents writer.new)
+        (take result.taken (bytes_of (text_of store.now queue.now))) }
+{
+    let mut taken = 0;
+    let mut i = 0;
+    while taken < max {
+        let Some(slice) = queue.slice(i) else {
+            break;
+        };
+        let len = slice.len.min(max - taken);
+        let written = write_some(writer, &slice.bytes(store)[..len as usize]);
+        taken += written as u32;
+        if written < len as usize {
+            return Drained {
+                taken,
+                failed: true,
+            };
+        }
+        i += 1;
+    }
+    Drained {
+        taken,
+        failed: false,
+    }
+}
+
+// Writes bytes until the writer fails or takes none. Tells how many it took.
+fn write_some<W: Write>(writer: &mut W, bytes: &[u8]) -> usize
+    ensures most { result ≤ length bytes.now }
+    ensures written { Appends (W.contents writer.old) (W.contents writer.new)
+        (take result bytes.now) }
+{
+    let mut at = 0;
+    while at < bytes.len() {
+        match writer.write(&bytes[at..]) {
+            Ok(n) if n > 0 => at += n,
+            Ok(_) | Err(_) => break,
+        }
+    }
+    at
+}

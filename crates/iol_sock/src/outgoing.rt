@@ -1,0 +1,155 @@
+//! What is to be sent, and what is sent of it.
+ghost use Rattle.std.specs.Prelude.{◌≡◌, ◌+◌, ◌≤◌, ◌++◌, take, drop, IfOk, IfErr, OnOk, OnErr};
+ghost use Rattle.std.specs.Vec.{vec_len, vec_capacity};
+ghost use Rattle.iol_core.specs.Checksum.{checksum as checksum_of};
+ghost use Rattle.iol_core.specs.Meaning.{WantOfMemory};
+ghost use Rattle.iol_core.specs.Text.{bytes_of};
+ghost use Rattle.iol_hold.specs.Moves.{Covers, IsCountable, Moves, SameLists, Shares};
+ghost use Rattle.iol_hold.specs.Places.{byte_len, places};
+ghost use Rattle.iol_hold.specs.Releases.{FreesOnly};
+ghost use Rattle.iol_hold.specs.Stored.{AllSettled};
+ghost use Rattle.iol_hold.specs.Texts.{text_of, bufs_of, AllReadable};
+ghost use Rattle.iol_pipe.specs.Queue.{fitting};
+ghost use Rattle.iol_sum.specs.Sums.{IsRight};
+ghost use Rattle.iol_sock.specs.Refused.{queue_refusals, segment_refusals, IsPassed, IsRefused};
+ghost use Rattle.iol_sock.specs.Sent.{UsesSent};
+
+use crate::connections::Connection;
+use iol_agg::Agg;
+use iol_core::limits::MAX_QUEUE_BYTES;
+use iol_core::lists::Bytes;
+use iol_core::refusals::Refusal;
+use iol_hold::Store;
+use iol_pipe::Pipe;
+use iol_sum::{SumCache, checksum};
+use std::alloc::{AllocError, Global};
+
+/// Bytes that are sent at once, with the Internet checksum of these alone.
+#[derive(Debug, Drop)]
+pub struct Segment {
+    pub bytes: Bytes,
+    pub checksum: u16,
+}
+
+impl Connection {
+    /// Bytes are to be sent, as many as fit: how many is the answer. They are shared, and the aggregate stays.
+    ///
+    /// `BrokenPipe` where the peer is gone, `WouldBlock` where bytes are offered and none fits, then `Memory`.
+    pub fn queue(&mut self, store: &mut Store, from: &Agg) -> Result<u32, Refusal>
+        requires covered { Covers store.old (bufs_of from.now) }
+        requires countable { IsCountable store.old (bufs_of from.now) }
+        ensures passed { OnOk result (IsPassed (queue_refusals self.old (byte_len from.now))) }
+        ensures refused { IfErr result (IsRefused
+            (queue_refusals self.old (byte_len from.now)) WantOfMemory) }
+        ensures count { IfOk result (λ n. n ≡ fitting self.old.outgoing (byte_len from.now)) }
+        ensures places { IfOk result (λ n. places self.new.outgoing ≡
+            places self.old.outgoing ++ take n (places from.now)) }
+        ensures others { self.new ≡ record self.old { outgoing = self.new.outgoing } }
+        ensures shares { OnOk result (Shares store.old store.new
+            (bufs_of self.old.outgoing) (bufs_of self.new.outgoing)) }
+        ensures err { OnErr result (self.new ≡ self.old) }
+        ensures err_store { OnErr result (store.new ≡ store.old) }
+    {
+        if self.is_gone() {
+            return Err(Refusal::BrokenPipe);
+        }
+        if !from.is_empty() && self.unsent() as usize == MAX_QUEUE_BYTES {
+            return Err(Refusal::WouldBlock);
+        }
+        Ok(self.outgoing.push(store, from)?)
+    }
+
+    /// Sends the first `max` bytes, or all where fewer wait. Their checksum is put together from the sums of the slices
+    /// in which they lie, each of which is used as by [`SumCache::sum`].
+    ///
+    /// `BadRange` where `max` is 0, `WouldBlock` where nothing is to be sent, then `Memory`.
+    pub fn segment(
+        &mut self,
+        alloc: Global,
+        store: &mut Store,
+        sums: &mut SumCache,
+        max: u32,
+    ) -> Result<Segment, Refusal>
+        requires covered { Covers store.old (bufs_of self.old.outgoing) }
+        requires countable { IsCountable store.old (bufs_of self.old.outgoing) }
+        requires readable { AllReadable store.old self.old.outgoing }
+        requires right { IsRight store.old.arena sums.old }
+        ensures passed { OnOk result (IsPassed (segment_refusals self.old max)) }
+        ensures refused { IfErr result (IsRefused (segment_refusals self.old max) WantOfMemory) }
+        ensures bytes { IfOk result (λ g. g.bytes ≡
+            bytes_of (take max (text_of store.old self.old.outgoing))) }
+        ensures checksum { IfOk result (λ g. g.checksum ≡ checksum_of g.bytes) }
+        ensures rest { OnOk result (places self.new.outgoing ≡
+            drop max (places self.old.outgoing)) }
+        ensures others { self.new ≡ record self.old { outgoing = self.new.outgoing } }
+        ensures moves { OnOk result (Moves store.old store.new
+            (bufs_of self.old.outgoing) (bufs_of self.new.outgoing)) }
+        ensures lists { SameLists store.old store.new }
+        ensures frees { OnOk result (FreesOnly store.old store.new) }
+        ensures settles { AllSettled store.old → AllSettled store.new }
+        ensures uses { OnOk result (UsesSent store.old self.old.outgoing max sums.old sums.new) }
+        ensures right { IsRight store.new.arena sums.new }
+        ensures err { OnErr result (self.new ≡ self.old) }
+        ensures err_store { OnErr result (store.new ≡ store.old) }
+        ensures err_sums { OnErr result (sums.new ≡ sums.old) }
+    {
+        if max == 0 {
+            return Err(Refusal::BadRange);
+        }
+        if self.unsent() == 0 {
+            return Err(Refusal::WouldBlock);
+        }
+        Ok(send(&mut self.outgoing, alloc, store, sums, max)?)
+    }
+}
+
+// Takes the first bytes off a queue, `max` or all, and gives them with the checksum of these alone.
+fn send(
+    queue: &mut Pipe,
+    alloc: Global,
+    store: &mut Store,
+    sums: &mut SumCache,
+    max: u32,
+) -> Result<Segment, AllocError>
+    requires covered { Covers store.old (bufs_of queue.old) }
+    requires countable { IsCountable store.old (bufs_of queue.old) }
+    requires readable { AllReadable store.old queue.old }
+    requires right { IsRight store.old.arena sums.old }
+    ensures bytes { IfOk result (λ g. g.bytes ≡ bytes_of (take max (text_of store.old queue.old))) }
+    ensures checksum { IfOk result (λ g. g.checksum ≡ checksum_of g.bytes) }
+    ensures rest { OnOk result (places queue.new ≡ drop max (places queue.old)) }
+    ensures moves { OnOk result (Moves store.old store.new (bufs_of queue.old)
+        (bufs_of queue.new)) }
+    ensures lists { SameLists store.old store.new }
+    ensures frees { OnOk result (FreesOnly store.old store.new) }
+    ensures settles { AllSettled store.old → AllSettled store.new }
+    ensures uses { OnOk result (UsesSent store.old queue.old max sums.old sums.new) }
+    ensures right { IsRight store.new.arena sums.new }
+    ensures err { OnErr result (queue.new ≡ queue.old) }
+    ensures err_store { OnErr result (store.new ≡ store.old) }
+    ensures err_sums { OnErr result (sums.new ≡ sums.old) }
+{
+    let len = queue.len().min(max);
+    let mut bytes = Vec::with_capacity(alloc, len as usize)?;
+    let sent = queue.take(alloc, store, max)?;
+    copy_all(&mut bytes, store, &sent);
+    let sum = sums.sum_all(store, sent.slices());
+    sent.release(store);
+    Ok(Segment {
+        bytes: Bytes::from_vec(bytes),
+        checksum: checksum(sum),
+    })
+}
+
+// Adds the bytes of an aggregate to a list that has room for them.
+fn copy_all(bytes: &mut Vec<u8>, store: &Store, from: &Agg)
+    requires room { vec_len bytes.old + byte_len from.now ≤ vec_capacity bytes.old }
+    requires readable { AllReadable store.now from.now }
+    ensures { bytes.new.items ≡ bytes.old.items ++ bytes_of (text_of store.now from.now) }
+{
+    for part in from.parts(store) {
+        let Ok(()) = bytes.extend_from_slice(part) else {
+            unreachable!();
+        };
+    }
+}
