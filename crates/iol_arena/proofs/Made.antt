@@ -5,7 +5,7 @@ use Rattle.std.proofs.lemmas.Bool.{cases_lt, lt-ltb}
 use Rattle.iol_arena.specs.State.{State, entry_at, entry_in, generation_at, pages_for, marked, each_from, with_marked, is_free}
 use Rattle.iol_arena.specs.Buffers.{len_of, kind_len}
 use Rattle.iol_arena.specs.Chunks.{IsRisingFrom, usable}
-use Rattle.iol_arena.specs.Parts.{IsAll, AreAll, AreApart, published, published_part, published_entries, new_bufs, part_pages, abandoned}
+use Rattle.iol_arena.specs.Parts.{IsAll, AreAll, AreApart, published, published_part, published_entries, new_bufs, part_pages}
 use Rattle.iol_arena.specs.Pages.{IsSameBut, AreUsable, MadeOn, begun_on}
 use Rattle.iol_arena.specs.declared.pages.PageKind.TheVariants.{Free, Pending, Head, Tail}
 use Rattle.iol_arena.specs.declared.pages.Entry.{Entry}
@@ -13,6 +13,7 @@ use Rattle.iol_arena.specs.declared.pages.Part.{Part}
 use Rattle.iol_core.specs.declared.numbers.BufId.{BufId}
 use Rattle.iol_arena.proofs.Each.{order, length-each_from, each_before, each_after, each_there, generation-each_from}
 use Rattle.iol_arena.proofs.Marks.{pages_some, pages_fit, published_before, published_after}
+use Rattle.iol_arena.proofs.Marked.{usable_left}
 use Rattle.iol_arena.proofs.Steps.{all_after_mark, all_after_publish, publish_step}
 use Rattle.std.proofs.lemmas.List.{take_all}
 use Rattle.iol_arena.proofs.Keeps.{published_first}
@@ -190,10 +191,6 @@ module _ (s : State) (p : Part) (n : ℕ) (all : IsAll Pending s.limit s.entries
 
   part_whole : kind_len (entry_at t p.first).kind ≡ n
   part_whole = ap (λ e. kind_len e.kind) (published_first s.entries p n some (omega (arith, all.within, some, fit)))
-
--- a page that goes back may be used again
-usable_left : (limit : ℕ) (e : Entry) → e.generation < limit → is_free limit (marked Free 0 e) ≡ true
-usable_left limit e h = lt-ltb (e.generation + 0) limit (omega (arith, h))
 
 -- All parts published, one after another.
 
@@ -399,22 +396,6 @@ entries-published s t (p ∷ ps) zero e = entries-published (with_marked s p.fir
 entries-published s t (p ∷ ps) (suc n) e =
     let here : ℕ = min (suc n) (p.count * 4096) in
     entries-published (published_part s p here) (published_part t p here) ps (suc n - p.count * 4096) (ap (λ es. published_entries es p here) e)
-
-pub abandoned-is : (s : State) (ps : List Part) → abandoned s ps ≡ published s ps 0
-unfolding abandoned published
-abandoned-is s [] = refl
-abandoned-is s (p ∷ ps) = abandoned-is (with_marked s p.first p.count Free 0) ps
-
--- parts that are given back: no page was raised, and all may be used
-module _ (s : State) (ps : List Part) (apart : AreApart 0 ps) (all : AreAll Pending s.limit s.entries ps) where
-  pub others-abandoned : IsSameBut (part_pages ps) s (abandoned s ps)
-  others-abandoned = subst (λ t. IsSameBut (part_pages ps) s t) (sym (abandoned-is s ps)) (others-published s ps 0 apart all)
-
-  pub returned-abandoned : AreUsable (abandoned s ps) (part_pages ps)
-  returned-abandoned = subst (λ t. AreUsable t (part_pages ps)) (sym (abandoned-is s ps)) (subst (λ k. AreUsable (published s ps 0) (drop k (part_pages ps))) pages_none (returned-published s ps 0 apart all))
-
-  pub unraised-abandoned : (q : ℕ) → generation_at (abandoned s ps) q ≡ generation_at s q
-  unraised-abandoned q = ap (λ t. generation_at t q) (abandoned-is s ps) ∙ (became s 0 ps 0 q apart all).kept (λ h. subst (λ l. In (part_pages l) q) (needed-none ps) h)
 
 -- Buffers on parts whose pages are all needed, made one after another by something that writes bytes besides.
 
