@@ -5,9 +5,9 @@ use Rattle.std.proofs.lemmas.Bool.{cases_lt, lt-ltb}
 use Rattle.iol_arena.specs.State.{State, entry_at, entry_in, generation_at, pages_for, marked, each_from, with_marked, is_free}
 use Rattle.iol_arena.specs.Buffers.{len_of, kind_len}
 use Rattle.iol_arena.specs.Chunks.{IsRisingFrom, usable}
-use Rattle.iol_arena.specs.Parts.{IsAll, AreAll, AreApart, no_part, published_part, published_entries, part_pages}
+use Rattle.iol_arena.specs.Parts.{IsAll, AreAll, AreApart, IsSameAround, no_part, published_part, published_entries, part_pages}
 use Rattle.iol_arena.specs.Adds.{IsNew}
-use Rattle.iol_arena.specs.Pages.{IsSameBut, AreUsable, MadeOn, begun_on}
+use Rattle.iol_arena.specs.Pages.{IsSameBut, AreUsable, Raises, MadeOn, begun_on}
 use Rattle.iol_arena.specs.declared.pages.PageKind.TheVariants.{Free, Pending, Head, Tail}
 use Rattle.iol_arena.specs.declared.pages.Entry.{Entry}
 use Rattle.iol_arena.specs.declared.pages.Part.{Part}
@@ -233,10 +233,10 @@ pub record OnPart (t u : State) (p : Part) (runs : List Part) : Type 0 where
   pub kept : (q : ℕ) → (In (part_pages runs) q → ⊥) → generation_at u q ≡ generation_at t q
   pub back : (q : ℕ) → In (range_with_len p.first p.count) q → (In (part_pages runs) q → ⊥) → usable u q ≡ true
 
-one_run : (r : Part) (q : ℕ) → In (part_pages (r ∷ [])) q → In (range_with_len r.first r.count) q
+pub one_run : (r : Part) (q : ℕ) → In (part_pages (r ∷ [])) q → In (range_with_len r.first r.count) q
 one_run r q h = subst (λ l. In l q) (append-nil (range_with_len r.first r.count)) h
 
-run_one : (r : Part) (q : ℕ) → In (range_with_len r.first r.count) q → In (part_pages (r ∷ [])) q
+pub run_one : (r : Part) (q : ℕ) → In (range_with_len r.first r.count) q → In (part_pages (r ∷ [])) q
 run_one r q h = subst (λ l. In l q) (sym (append-nil (range_with_len r.first r.count))) h
 
 -- a part that gets bytes
@@ -261,6 +261,19 @@ part_published s p n all some fit =
       ];
       back = λ q a off. (let k = range_in p.first p.count q a in ap (λ e. is_free s.limit e) (left q k.0 k.1 off) ∙ usable_left s.limit (entry_at s q) (all.below q k.0 k.1));
     }
+
+-- a part that is filled whole
+pub part_filled : (t u : State) (p : Part) → IsSameAround p t u → Raises t u (part_pages (p ∷ [])) → OnPart t u p (p ∷ [])
+part_filled t u p around raises = record {
+  inside = one_run p;
+  out = λ q off. around.each q (elim (order p.first p.count q) [
+    | inl h ↦ inl h
+    | inr r ↦ elim r [ inl h ↦ absurd (off (in_range p.first p.count q h.0 h.1)) | inr h ↦ inr h ]
+  ]);
+  raised = λ q h. raises.raised q (contains_in (part_pages (p ∷ [])) q h);
+  kept = λ q off. raises.kept q (λ h. off (in_contains (part_pages (p ∷ [])) q h));
+  back = λ q a off. absurd (off (run_one p q a));
+}
 
 -- a part that gets none
 pub part_dropped : (s : State) (p : Part) → IsAll Pending s.limit s.entries p → OnPart s (with_marked s p.first p.count Free 0) p []
