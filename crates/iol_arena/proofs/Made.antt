@@ -1,7 +1,7 @@
 -- Buffers made on parts that waited: which pages they lie on, and which go back.
 use Rattle.std.proofs.Common.{◌≡◌, true, ℕ, zero, suc, ◌+◌, ◌-◌, ◌*◌, ◌<◌, ◌≤◌, ◌⊎◌, inl, inr, List, [], ◌∷◌, ◌++◌, length, get_or, map, take, drop, min, refl, sym, ap, ◌∙◌, arith, subst}
 use Rattle.std.specs.List.{All, Contains, range_with_len}
-use Rattle.std.proofs.lemmas.Bool.{cases_lt, lt-ltb}
+use Rattle.std.proofs.lemmas.Bool.{cases_lt}
 use Rattle.iol_arena.specs.State.{State, entry_at, entry_in, generation_at, pages_for, marked, each_from, with_marked, is_free}
 use Rattle.iol_arena.specs.Buffers.{len_of, kind_len}
 use Rattle.iol_arena.specs.Chunks.{IsRisingFrom, usable}
@@ -157,9 +157,6 @@ needed_in (p ∷ ps) (suc n) q h =
 pub pages_rising : (low : ℕ) (ps : List Part) → AreApart low ps → IsRisingFrom low (part_pages ps)
 pages_rising low [] apart = tt
 pages_rising low (p ∷ ps) apart = rising_from low p.first (part_pages (p ∷ ps)) apart.0.rising (rising_range p.first p.count (part_pages ps) (pages_rising (p.first + p.count) ps apart.1))
-
-pub low_in : (low : ℕ) (ps : List Part) (q : ℕ) → AreApart low ps → In (part_pages ps) q → low ≤ q
-low_in low ps q apart h = in_rising low (part_pages ps) q (pages_rising low ps apart) h
 
 in_drop : (k : ℕ) (xs : List ℕ) (q : ℕ) → In (drop k xs) q → In xs q
 in_drop zero xs q h = h
@@ -437,6 +434,3 @@ made_none s pages =
       whole = refl;
       raises = record { raised = λ q h. absurd (in_contains [] q (subst (λ l. Contains l q) none h)); kept = λ q out. refl };
     }
-
-pub same_but_none : (s : State) (pages : List ℕ) → IsSameBut pages s s
-same_but_none s pages = record { each = λ q out. refl }

@@ -6,14 +6,14 @@ use Rattle.std.proofs.lemmas.Grind.{flat_map-append}
 use Rattle.std.proofs.lemmas.Bool.{lt-ltb}
 use Rattle.iol_arena.specs.State.{State, entry_in, entry_at, is_free, marked, with_marked}
 use Rattle.iol_arena.specs.Buffers.{IsUnraised}
-use Rattle.iol_arena.specs.Pages.{IsSameBut, AreUsable}
+use Rattle.iol_arena.specs.Pages.{IsSameBut}
 use Rattle.iol_arena.specs.Parts.{IsAll, AreAll, AreApart, no_part, part_pages}
 use Rattle.iol_arena.specs.declared.pages.PageKind as kind
 use Rattle.iol_arena.specs.declared.pages.PageKind.TheVariants.{Free}
 use Rattle.iol_arena.specs.declared.pages.Entry.{Entry}
 use Rattle.iol_arena.specs.declared.pages.Part.{Part}
 use Rattle.iol_arena.proofs.Each.{order, each_before, each_after, each_there}
-use Rattle.iol_arena.proofs.Members.{In, in_left, in_right, in_either, in_or_out, in_range, range_in, in_contains, contains_in}
+use Rattle.iol_arena.proofs.Members.{In, in_left, in_right, in_either, in_or_out, in_range, range_in, contains_in}
 use Rattle.iol_arena.proofs.Steps.{all_at, first_at}
 
 -- Of the parts so far, and one more.
