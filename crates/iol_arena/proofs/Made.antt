@@ -5,7 +5,8 @@ use Rattle.std.proofs.lemmas.Bool.{cases_lt}
 use Rattle.iol_arena.specs.State.{State, entry_at, entry_in, generation_at, pages_for, marked, each_from, with_marked, is_free}
 use Rattle.iol_arena.specs.Buffers.{len_of, kind_len}
 use Rattle.iol_arena.specs.Chunks.{IsRisingFrom, usable}
-use Rattle.iol_arena.specs.Parts.{IsAll, AreAll, AreApart, IsSameAround, no_part, published_part, published_entries, part_pages}
+use Rattle.iol_arena.specs.Parts.{IsAll, AreAll, AreApart, IsSameAround, no_part, part_pages}
+use Rattle.iol_arena.specs.Written.{published_part, published_entries}
 use Rattle.iol_arena.specs.Adds.{IsNew}
 use Rattle.iol_arena.specs.Pages.{IsSameBut, AreUsable, Raises, MadeOn, begun_on}
 use Rattle.iol_arena.specs.declared.pages.PageKind.TheVariants.{Free, Pending, Head, Tail}
