@@ -1,7 +1,6 @@
 -- What one step of the arena writes. No public clause has these words.
-use Rattle.std.specs.Prelude.{ℕ, ◌+◌, ◌-◌, List, ◌++◌, length, drop}
-use Rattle.iol_arena.specs.State.{State, each_from, marked, pages_for, with_bytes, with_entries}
-use Rattle.iol_arena.specs.Parts.{part_bytes}
+use Rattle.std.specs.Prelude.{ℕ, ◌+◌, ◌-◌, List}
+use Rattle.iol_arena.specs.State.{State, each_from, marked, pages_for, with_entries}
 use Rattle.iol_arena.specs.declared.pages.PageKind.TheVariants.{Free, Head, Tail}
 use Rattle.iol_arena.specs.declared.pages.Entry.{Entry}
 use Rattle.iol_arena.specs.declared.pages.Part.{Part}
@@ -14,7 +13,3 @@ published_entries es p n =
 
 abbrev pub published_part : State → Part → ℕ → State
 published_part s p n = with_entries s (published_entries s.entries p n)
-
--- s with these bytes at the start of the part
-abbrev pub filled : State → Part → List ℕ → State
-filled s p w = with_bytes s p.first (w ++ drop (length w) (part_bytes s p))
