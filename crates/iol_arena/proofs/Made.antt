@@ -1,22 +1,26 @@
 -- Buffers made on parts that waited: which pages they lie on, and which go back.
-use Rattle.std.proofs.Common.{◌≡◌, true, ℕ, zero, suc, ◌+◌, ◌-◌, ◌*◌, ◌<◌, ◌≤◌, ◌⊎◌, inl, inr, List, [], ◌∷◌, ◌++◌, length, map, take, drop, min, refl, sym, ap, ◌∙◌, arith, subst}
-use Rattle.std.specs.List.{Contains, range_with_len}
-use Rattle.std.proofs.lemmas.Bool.{cases_lt, lt-ltb}
+use Rattle.std.proofs.Common.{◌≡◌, true, ℕ, zero, suc, ◌+◌, ◌-◌, ◌*◌, ◌<◌, ◌≤◌, ◌⊎◌, inl, inr, List, [], ◌∷◌, ◌++◌, length, get_or, map, take, drop, min, refl, sym, ap, ◌∙◌, arith, subst}
+use Rattle.std.specs.List.{All, Contains, range_with_len}
+use Rattle.std.proofs.lemmas.Bool.{cases_lt}
 use Rattle.iol_arena.specs.State.{State, entry_at, entry_in, generation_at, pages_for, marked, each_from, with_marked, is_free}
 use Rattle.iol_arena.specs.Buffers.{len_of, kind_len}
 use Rattle.iol_arena.specs.Chunks.{IsRisingFrom, usable}
-use Rattle.iol_arena.specs.Parts.{IsAll, AreAll, AreApart, published, published_part, published_entries, new_bufs, part_pages, abandoned}
-use Rattle.iol_arena.specs.Pages.{IsSameBut, AreUsable, MadeOn, begun_on}
+use Rattle.iol_arena.specs.Parts.{IsAll, AreAll, AreApart, IsSameAround, no_part, part_pages}
+use Rattle.iol_arena.specs.Written.{published_part, published_entries}
+use Rattle.iol_arena.specs.Adds.{IsNew}
+use Rattle.iol_arena.specs.Pages.{IsSameBut, AreUsable, Raises, MadeOn, begun_on}
 use Rattle.iol_arena.specs.declared.pages.PageKind.TheVariants.{Free, Pending, Head, Tail}
 use Rattle.iol_arena.specs.declared.pages.Entry.{Entry}
 use Rattle.iol_arena.specs.declared.pages.Part.{Part}
 use Rattle.iol_core.specs.declared.numbers.BufId.{BufId}
 use Rattle.iol_arena.proofs.Each.{order, length-each_from, each_before, each_after, each_there, generation-each_from}
 use Rattle.iol_arena.proofs.Marks.{pages_some, pages_fit, published_before, published_after}
-use Rattle.iol_arena.proofs.Steps.{all_after_mark, all_after_publish, publish_step}
-use Rattle.std.proofs.lemmas.List.{take_all}
+use Rattle.iol_arena.proofs.Marked.{usable_left, pages-more, before_part, all_same}
+use Rattle.iol_arena.proofs.Steps.{all_at}
+use Rattle.std.proofs.lemmas.List.{append-nil, map-append, take_more}
+use Rattle.std.proofs.lemmas.Grind.{flat_map-append}
 use Rattle.iol_arena.proofs.Keeps.{published_first}
-use Rattle.iol_arena.proofs.Members.{In, in_left, in_right, in_either, in_range, range_in, in_rising, rising_range, rising_from, contains_in, in_contains}
+use Rattle.iol_arena.proofs.Members.{In, in_left, in_right, in_either, in_or_out, in_range, range_in, in_rising, rising_range, rising_from, contains_in, in_contains}
 
 -- Pages for numbers of bytes.
 
@@ -42,6 +46,41 @@ needed-none : (ps : List Part) → needed ps 0 ≡ []
 needed-none [] = refl
 needed-none (p ∷ ps) = refl
 
+-- how many of n bytes have no room on the parts
+abbrev pub left_after : List Part → ℕ → ℕ
+left_after [] n = n
+left_after (p ∷ ps) n = left_after ps (n - p.count * 4096)
+
+left_none : (ps : List Part) → left_after ps 0 ≡ 0
+left_none [] = refl
+left_none (p ∷ ps) = let e : 0 - p.count * 4096 ≡ 0 = omega arith in ap (left_after ps) e ∙ left_none ps
+
+left-snoc : (ps : List Part) (p : Part) (n : ℕ) → left_after (ps ++ p ∷ []) n ≡ left_after ps n - p.count * 4096
+left-snoc [] p n = refl
+left-snoc (r ∷ ps) p n = left-snoc ps p (n - r.count * 4096)
+
+needed-snoc : (ps : List Part) (p : Part) (n : ℕ) → needed (ps ++ p ∷ []) n ≡ needed ps n ++ needed (p ∷ []) (left_after ps n)
+needed-snoc [] p n = refl
+needed-snoc (r ∷ ps) p zero = sym (ap (needed (p ∷ [])) (left_none (r ∷ ps)))
+needed-snoc (r ∷ ps) p (suc n) = ap (λ t. (let x : Part = record { first = r.first; count = pages_for (min (suc n) (r.count * 4096)) } in x) ∷ t) (needed-snoc ps p (suc n - r.count * 4096))
+
+pub left-more : (ps : List Part) (i n : ℕ) → i < length ps → left_after (take (i + 1) ps) n ≡ left_after (take i ps) n - (get_or ps i no_part).count * 4096
+left-more ps i n h = ap (λ l. left_after l n) (take_more ps i no_part h) ∙ left-snoc (take i ps) (get_or ps i no_part) n
+
+needed-more : (ps : List Part) (i n : ℕ) → i < length ps → needed (take (i + 1) ps) n ≡ needed (take i ps) n ++ needed (get_or ps i no_part ∷ []) (left_after (take i ps) n)
+needed-more ps i n h = ap (λ l. needed l n) (take_more ps i no_part h) ∙ needed-snoc (take i ps) (get_or ps i no_part) n
+
+-- of one more part, some pages are needed, or none
+pub needed_some : (ps : List Part) (i n left here : ℕ) → i < length ps → left ≡ left_after (take i ps) n → 0 < left → here ≡ min left ((get_or ps i no_part).count * 4096)
+    → needed (take (i + 1) ps) n ≡ needed (take i ps) n ++ (let r : Part = record { first = (get_or ps i no_part).first; count = pages_for here } in r) ∷ []
+needed_some ps i n zero here h e some is = absurd (omega arith)
+needed_some ps i n (suc left) here h e some is =
+    let p = get_or ps i no_part in
+    needed-more ps i n h ∙ ap (λ k. needed (take i ps) n ++ needed (p ∷ []) k) (sym e) ∙ ap (λ k. needed (take i ps) n ++ (let r : Part = record { first = p.first; count = pages_for k } in r) ∷ []) (sym is)
+
+pub needed_past : (ps : List Part) (i n : ℕ) → i < length ps → left_after (take i ps) n ≡ 0 → needed (take (i + 1) ps) n ≡ needed (take i ps) n ++ []
+needed_past ps i n h e = needed-more ps i n h ∙ ap (λ k. needed (take i ps) n ++ needed (get_or ps i no_part ∷ []) k) e
+
 -- of the first part: all bytes lie there, or it is full
 first_case : (n c : ℕ) → ((suc n < c * 4096) × (min (suc n) (c * 4096) ≡ suc n) × (suc n - c * 4096 ≡ 0)) ⊎ ((c * 4096 ≤ suc n) × (min (suc n) (c * 4096) ≡ c * 4096))
 first_case n c = elim (cases_lt (suc n) (c * 4096)) [
@@ -64,10 +103,6 @@ take-nil : (m : ℕ) → take m (let l : List ℕ = [] in l) ≡ []
 take-nil zero = refl
 take-nil (suc m) = refl
 
-append-none : (xs : List ℕ) → xs ++ [] ≡ xs
-append-none [] = refl
-append-none (x ∷ xs) = ap (λ t. x ∷ t) (append-none xs)
-
 -- the runs cover the first pages of the parts
 pub cover : (ps : List Part) (n : ℕ) → part_pages (needed ps n) ≡ take (pages_for n) (part_pages ps)
 cover [] n = sym (take-nil (pages_for n))
@@ -81,7 +116,7 @@ cover (p ∷ ps) (suc n) =
           let fit = pages_fit (suc n) p.count (omega (arith, few.0)) in
           ap (λ m. range_with_len p.first (pages_for here) ++ part_pages (needed ps m)) few.2
           ∙ ap (λ l. range_with_len p.first (pages_for here) ++ part_pages l) (needed-none ps)
-          ∙ append-none (range_with_len p.first (pages_for here))
+          ∙ append-nil (range_with_len p.first (pages_for here))
           ∙ ap (range_with_len p.first) k
           ∙ sym (take-range_less (pages_for (suc n)) p.first p.count (part_pages ps) fit))
       | inr many ↦ (
@@ -123,9 +158,6 @@ needed_in (p ∷ ps) (suc n) q h =
 pub pages_rising : (low : ℕ) (ps : List Part) → AreApart low ps → IsRisingFrom low (part_pages ps)
 pages_rising low [] apart = tt
 pages_rising low (p ∷ ps) apart = rising_from low p.first (part_pages (p ∷ ps)) apart.0.rising (rising_range p.first p.count (part_pages ps) (pages_rising (p.first + p.count) ps apart.1))
-
-pub low_in : (low : ℕ) (ps : List Part) (q : ℕ) → AreApart low ps → In (part_pages ps) q → low ≤ q
-low_in low ps q apart h = in_rising low (part_pages ps) q (pages_rising low ps apart) h
 
 in_drop : (k : ℕ) (xs : List ℕ) (q : ℕ) → In (drop k xs) q → In xs q
 in_drop zero xs q h = h
@@ -188,181 +220,181 @@ module _ (s : State) (p : Part) (n : ℕ) (all : IsAll Pending s.limit s.entries
     ]
   ]
 
-  part_whole : kind_len (entry_at t p.first).kind ≡ n
+  pub part_whole : kind_len (entry_at t p.first).kind ≡ n
   part_whole = ap (λ e. kind_len e.kind) (published_first s.entries p n some (omega (arith, all.within, some, fit)))
 
--- a page that goes back may be used again
-usable_left : (limit : ℕ) (e : Entry) → e.generation < limit → is_free limit (marked Free 0 e) ≡ true
-usable_left limit e h = lt-ltb (e.generation + 0) limit (omega (arith, h))
+-- What one part became: t is before and u after, and the runs are what was filled of it.
+pub record OnPart (t u : State) (p : Part) (runs : List Part) : Type 0 where
+  pub inside : (q : ℕ) → In (part_pages runs) q → In (range_with_len p.first p.count) q
+  pub out : (q : ℕ) → (In (range_with_len p.first p.count) q → ⊥) → entry_at u q ≡ entry_at t q
+  pub raised : (q : ℕ) → In (part_pages runs) q → generation_at u q ≡ generation_at t q + 1
+  pub kept : (q : ℕ) → (In (part_pages runs) q → ⊥) → generation_at u q ≡ generation_at t q
+  pub back : (q : ℕ) → In (range_with_len p.first p.count) q → (In (part_pages runs) q → ⊥) → usable u q ≡ true
 
--- All parts published, one after another.
+pub one_run : (r : Part) (q : ℕ) → In (part_pages (r ∷ [])) q → In (range_with_len r.first r.count) q
+one_run r q h = subst (λ l. In l q) (append-nil (range_with_len r.first r.count)) h
 
--- what becomes of one page: t is the state after the parts were published
-record Became (s t : State) (ps : List Part) (n : ℕ) (q : ℕ) : Type 0 where
-  raised : In (part_pages (needed ps n)) q → generation_at t q ≡ generation_at s q + 1
-  kept : (In (part_pages (needed ps n)) q → ⊥) → generation_at t q ≡ generation_at s q
-  out : (In (part_pages ps) q → ⊥) → entry_at t q ≡ entry_at s q
-  back : In (part_pages ps) q → (In (part_pages (needed ps n)) q → ⊥) → usable t q ≡ true
-
--- a part that gets no byte
-became_dropped : (s : State) (p : Part) (ps : List Part) (low q : ℕ) (t : State) → AreApart low (p ∷ ps) → AreAll Pending s.limit s.entries (p ∷ ps)
-    → t.limit ≡ s.limit → Became (with_marked s p.first p.count Free 0) t ps 0 q → Became s t (p ∷ ps) 0 q
-became_dropped s p ps low q t apart all limit rest =
-    let m = with_marked s p.first p.count Free 0 in
-    let none : In (part_pages (needed ps 0)) q → ⊥ = λ h. subst (λ l. In (part_pages l) q) (needed-none ps) h in
-    let near : In (range_with_len p.first p.count) q → In (part_pages ps) q → ⊥ = λ h k. (let r = range_in p.first p.count q h in let l = low_in (p.first + p.count) ps q apart.1 k in omega (arith, r.1, l)) in
-    let here : (p.first ≤ q) → (q < p.first + p.count) → entry_at m q ≡ marked Free 0 (entry_at s q) = λ lo hi. each_there (marked Free 0) p.first p.count q s.entries lo hi (omega (arith, all.0.within, hi)) in
-    let away : (In (range_with_len p.first p.count) q → ⊥) → entry_at m q ≡ entry_at s q = λ off. elim (order p.first p.count q) [
-      | inl h ↦ each_before (marked Free 0) p.first p.count q s.entries h
-      | inr r ↦ elim r [ inl h ↦ absurd (off (in_range p.first p.count q h.0 h.1)) | inr h ↦ each_after (marked Free 0) p.first p.count q s.entries h ]
-    ] in
-    record {
-      raised = λ h. absurd h;
-      kept = λ h. rest.kept none ∙ generation-each_from (marked Free 0) (λ e. omega arith) p.first p.count q s.entries;
-      out = λ h. rest.out (λ k. h (in_right (range_with_len p.first p.count) (part_pages ps) q k)) ∙ away (λ k. h (in_left (range_with_len p.first p.count) (part_pages ps) q k));
-      back = λ h k. elim (in_either (range_with_len p.first p.count) (part_pages ps) q h) [
-        | inl a ↦ (
-            let r = range_in p.first p.count q a in
-            ap (λ (e : Entry). is_free t.limit e) (rest.out (near a) ∙ here r.0 r.1) ∙ ap (λ l. is_free l (marked Free 0 (entry_at s q))) limit ∙ usable_left s.limit (entry_at s q) (all.0.below q r.0 r.1))
-        | inr a ↦ rest.back a none
-      ];
-    }
+pub run_one : (r : Part) (q : ℕ) → In (range_with_len r.first r.count) q → In (part_pages (r ∷ [])) q
+run_one r q h = subst (λ l. In l q) (sym (append-nil (range_with_len r.first r.count))) h
 
 -- a part that gets bytes
-became_filled : (s : State) (p : Part) (ps : List Part) (low n q : ℕ) (t : State) → AreApart low (p ∷ ps) → AreAll Pending s.limit s.entries (p ∷ ps)
-    → t.limit ≡ s.limit → Became (published_part s p (min (suc n) (p.count * 4096))) t ps (suc n - p.count * 4096) q → Became s t (p ∷ ps) (suc n) q
-became_filled s p ps low n q t apart all limit rest =
-    let here : ℕ = min (suc n) (p.count * 4096) in
-    let left : ℕ = suc n - p.count * 4096 in
-    let m = published_part s p here in
-    let k = pages_for here in
-    let some : 0 < here = omega (arith, apart.0.some) in
-    let fit : here ≤ p.count * 4096 = omega arith in
-    let k2 = pages_fit here p.count fit in
-    let run = range_with_len p.first k in
-    let pages = range_with_len p.first p.count in
-    let others = part_pages (needed ps left) in
-    let near : In pages q → In (part_pages ps) q → ⊥ = λ h j. (let r = range_in p.first p.count q h in let l = low_in (p.first + p.count) ps q apart.1 j in omega (arith, r.1, l)) in
-    let wide : In run q → In pages q = λ h. (let r = range_in p.first k q h in in_range p.first p.count q r.0 (omega (arith, r.1, k2))) in
+pub part_published : (s : State) (p : Part) (n : ℕ) → IsAll Pending s.limit s.entries p → 0 < n → n ≤ p.count * 4096
+    → OnPart s (published_part s p n) p ((let r : Part = record { first = p.first; count = pages_for n } in r) ∷ [])
+part_published s p n all some fit =
+    let r : Part = record { first = p.first; count = pages_for n } in
+    let few = pages_fit n p.count fit in
+    let out = part_out s p n all some fit in
+    let left : (q : ℕ) → p.first ≤ q → q < p.first + p.count → (In (part_pages (r ∷ [])) q → ⊥) → entry_at (published_part s p n) q ≡ marked Free 0 (entry_at s q) =
+    λ q lo hi off. elim (cases_lt q (p.first + pages_for n)) [
+      | inl on ↦ absurd (off (run_one r q (in_range p.first (pages_for n) q lo on)))
+      | inr past ↦ part_left s p n all some fit q past hi
+    ] in
     record {
-      raised = λ h. elim (in_either run others q h) [
-        | inl a ↦ (let r = range_in p.first k q a in rest.kept (λ j. near (wide a) (needed_in ps left q j)) ∙ part_raised s p here all.0 some fit q r.0 r.1)
-        | inr a ↦ rest.raised a ∙ ap (λ e. e.generation + 1) (part_out s p here all.0 some fit q (λ j. near j (needed_in ps left q a)))
+      inside = λ q h. (let k = range_in p.first (pages_for n) q (one_run r q h) in in_range p.first p.count q k.0 (omega (arith, k.1, few)));
+      out = out;
+      raised = λ q h. (let k = range_in p.first (pages_for n) q (one_run r q h) in part_raised s p n all some fit q k.0 k.1);
+      kept = λ q off. elim (in_or_out (range_with_len p.first p.count) q) [
+        | inl a ↦ (let k = range_in p.first p.count q a in ap (λ e. e.generation) (left q k.0 k.1 off) ∙ omega arith)
+        | inr a ↦ ap (λ e. e.generation) (out q a)
       ];
-      kept = λ h. rest.kept (λ j. h (in_right run others q j)) ∙ elim (order p.first p.count q) [
-        | inl b ↦ ap (λ e. e.generation) (part_out s p here all.0 some fit q (λ j. (let r = range_in p.first p.count q j in omega (arith, b, r.0))))
-        | inr r ↦ elim r [
-          | inl b ↦ elim (cases_lt q (p.first + k)) [
-            | inl c ↦ absurd (h (in_left run others q (in_range p.first k q b.0 c)))
-            | inr c ↦ ap (λ e. e.generation) (part_left s p here all.0 some fit q c b.1) ∙ omega arith
-          ]
-          | inr b ↦ ap (λ e. e.generation) (part_out s p here all.0 some fit q (λ j. (let r = range_in p.first p.count q j in omega (arith, b, r.1))))
-        ]
-      ];
-      out = λ h. rest.out (λ j. h (in_right pages (part_pages ps) q j)) ∙ part_out s p here all.0 some fit q (λ j. h (in_left pages (part_pages ps) q j));
-      back = λ h j. elim (in_either pages (part_pages ps) q h) [
-        | inl a ↦ (
-            let r = range_in p.first p.count q a in
-            elim (cases_lt q (p.first + k)) [
-              | inl c ↦ absurd (j (in_left run others q (in_range p.first k q r.0 c)))
-              | inr c ↦ ap (λ (e : Entry). is_free t.limit e) (rest.out (near a) ∙ part_left s p here all.0 some fit q c r.1) ∙ ap (λ l. is_free l (marked Free 0 (entry_at s q))) limit ∙ usable_left s.limit (entry_at s q) (all.0.below q r.0 r.1)
-            ])
-        | inr a ↦ rest.back a (λ i. j (in_right run others q i))
-      ];
+      back = λ q a off. (let k = range_in p.first p.count q a in ap (λ e. is_free s.limit e) (left q k.0 k.1 off) ∙ usable_left s.limit (entry_at s q) (all.below q k.0 k.1));
     }
 
-pub limit-published : (s : State) (ps : List Part) (n : ℕ) → (published s ps n).limit ≡ s.limit
-unfolding published
-limit-published s [] n = refl
-limit-published s (p ∷ ps) zero = limit-published (with_marked s p.first p.count Free 0) ps 0
-limit-published s (p ∷ ps) (suc n) = limit-published (published_part s p (min (suc n) (p.count * 4096))) ps (suc n - p.count * 4096)
+-- a part that is filled whole
+pub part_filled : (t u : State) (p : Part) → IsSameAround p t u → Raises t u (part_pages (p ∷ [])) → OnPart t u p (p ∷ [])
+part_filled t u p around raises = record {
+  inside = one_run p;
+  out = λ q off. around.each q (elim (order p.first p.count q) [
+    | inl h ↦ inl h
+    | inr r ↦ elim r [ inl h ↦ absurd (off (in_range p.first p.count q h.0 h.1)) | inr h ↦ inr h ]
+  ]);
+  raised = λ q h. raises.raised q (contains_in (part_pages (p ∷ [])) q h);
+  kept = λ q off. raises.kept q (λ h. off (in_contains (part_pages (p ∷ [])) q h));
+  back = λ q a off. absurd (off (run_one p q a));
+}
 
-became : (s : State) (low : ℕ) (ps : List Part) (n q : ℕ) → AreApart low ps → AreAll Pending s.limit s.entries ps → Became s (published s ps n) ps n q
-unfolding published
-became s low [] n q apart all = record { raised = λ h. absurd h; kept = λ h. refl; out = λ h. refl; back = λ h k. absurd h }
-became s low (p ∷ ps) zero q apart all =
-    let m = with_marked s p.first p.count Free 0 in
-    became_dropped s p ps low q (published m ps 0) apart all (limit-published m ps 0) (became m (p.first + p.count) ps 0 q apart.1 (all_after_mark s p ps low Pending Free 0 apart all))
-became s low (p ∷ ps) (suc n) q apart all =
-    let here : ℕ = min (suc n) (p.count * 4096) in
-    let left : ℕ = suc n - p.count * 4096 in
-    let m = published_part s p here in
-    became_filled s p ps low n q (published m ps left) apart all (limit-published m ps left) (became m (p.first + p.count) ps left q apart.1 (all_after_publish s p ps low here apart all (omega (arith, apart.0.some)) (omega arith)))
+-- a part that gets none
+pub part_dropped : (s : State) (p : Part) → IsAll Pending s.limit s.entries p → OnPart s (with_marked s p.first p.count Free 0) p []
+part_dropped s p all = record {
+  inside = λ q h. elim h [ ];
+  out = λ q off. elim (order p.first p.count q) [
+    | inl h ↦ each_before (marked Free 0) p.first p.count q s.entries h
+    | inr r ↦ elim r [ inl h ↦ absurd (off (in_range p.first p.count q h.0 h.1)) | inr h ↦ each_after (marked Free 0) p.first p.count q s.entries h ]
+  ];
+  raised = λ q h. elim h [ ];
+  kept = λ q off. generation-each_from (marked Free 0) (λ e. omega arith) p.first p.count q s.entries;
+  back = λ q a off. (
+      let k = range_in p.first p.count q a in
+      ap (λ e. is_free s.limit e) (each_there (marked Free 0) p.first p.count q s.entries k.0 k.1 (omega (arith, k.1, all.within))) ∙ usable_left s.limit (entry_at s q) (all.below q k.0 k.1));
+}
 
--- each run is filled by the buffer that begins there
-wholes : (s : State) (low : ℕ) (ps : List Part) (n : ℕ) → AreApart low ps → AreAll Pending s.limit s.entries ps
-    → map (λ (r : Part). pages_for (kind_len (entry_at (published s ps n) r.first).kind)) (needed ps n) ≡ map (λ (r : Part). r.count) (needed ps n)
-unfolding published
-wholes s low [] n apart all = refl
-wholes s low (p ∷ ps) zero apart all = refl
-wholes s low (p ∷ ps) (suc n) apart all =
-    let here : ℕ = min (suc n) (p.count * 4096) in
-    let left : ℕ = suc n - p.count * 4096 in
-    let m = published_part s p here in
-    let some : 0 < here = omega (arith, apart.0.some) in
-    let fit : here ≤ p.count * 4096 = omega arith in
-    let later = all_after_publish s p ps low here apart all some fit in
-    let first = (became m (p.first + p.count) ps left p.first apart.1 later).out (λ h. (let l = low_in (p.first + p.count) ps p.first apart.1 h in omega (arith, l, apart.0.some))) in
-    let one : pages_for (kind_len (entry_at (published m ps left) p.first).kind) ≡ pages_for here = ap (λ e. pages_for (kind_len e.kind)) first ∙ ap pages_for (part_whole s p here all.0 some fit) in
-    let rest = wholes m (p.first + p.count) ps left apart.1 later in
-    λ i. one i ∷ rest i
+-- Parts on which the first n bytes were placed, one after another.
 
--- the new buffers begin on the runs
-begun : (s : State) (ps : List Part) (n : ℕ) → new_bufs s.entries ps n ≡ map (begun_on s) (needed ps n)
-unfolding new_bufs
-begun s [] n = refl
-begun s (p ∷ ps) zero = refl
-begun s (p ∷ ps) (suc n) = ap (λ t. (let b : BufId = record { page = p.first; generation = generation_at s p.first + 1 } in b) ∷ t) (begun s ps (suc n - p.count * 4096))
+-- the runs that the bytes need were filled, each by the buffer that begins there; the rest of the parts is free, and no other page changed
+pub record Placed (s t : State) (bufs : List BufId) (ps : List Part) (n : ℕ) : Type 0 where
+  pub begun : bufs ≡ map (begun_on s) (needed ps n)
+  pub whole : map (λ b. pages_for (len_of t b)) bufs ≡ map (λ p. p.count) (needed ps n)
+  pub raised : (q : ℕ) → In (part_pages (needed ps n)) q → generation_at t q ≡ generation_at s q + 1
+  pub kept : (q : ℕ) → (In (part_pages (needed ps n)) q → ⊥) → generation_at t q ≡ generation_at s q
+  pub others : (q : ℕ) → (In (part_pages ps) q → ⊥) → entry_at t q ≡ entry_at s q
+  pub back : (q : ℕ) → In (part_pages ps) q → (In (part_pages (needed ps n)) q → ⊥) → usable t q ≡ true
 
-whole_bufs : (s t : State) (rs : List Part) → map (λ (b : BufId). pages_for (len_of t b)) (map (begun_on s) rs) ≡ map (λ (r : Part). pages_for (kind_len (entry_at t r.first).kind)) rs
-whole_bufs s t [] = refl
-whole_bufs s t (r ∷ rs) = ap (λ l. pages_for (kind_len (entry_at t r.first).kind) ∷ l) (whole_bufs s t rs)
+pub placed_none : (s : State) (n : ℕ) → Placed s s [] [] n
+placed_none s n = record { begun = refl; whole = refl; raised = λ q h. elim h [ ]; kept = λ q h. refl; others = λ q h. refl; back = λ q h. elim h [ ] }
 
-module _ (s : State) (ps : List Part) (n : ℕ) (apart : AreApart 0 ps) (all : AreAll Pending s.limit s.entries ps) where
-  abbrev after : State
-  after = published s ps n
+-- new buffers begin on pages that changed
+pub new_places : {s t : State} (pages : List ℕ) (bufs : List BufId) → ((q : ℕ) → (In pages q → ⊥) → entry_at t q ≡ entry_at s q) → All (IsNew s t) bufs → All (λ b. In pages b.page) bufs
+new_places {s = s} pages bufs others new = λ k d h.
+    let b = get_or bufs k d in
+    let x = new k d h in
+    elim (in_or_out pages b.page) [
+      | inl there ↦ there
+      | inr out ↦ absurd (omega (arith, x.live.generation, x.next, ap (λ e. e.generation) (others b.page out)))
+    ]
 
-  placed : (q : ℕ) → Contains (take (pages_for n) (part_pages ps)) q → In (part_pages (needed ps n)) q
-  placed q h = subst (λ l. In l q) (sym (cover ps n)) (in_contains (take (pages_for n) (part_pages ps)) q h)
+map_same : (f g : BufId → ℕ) (xs : List BufId) → All (λ x. f x ≡ g x) xs → map f xs ≡ map g xs
+map_same f g [] same = refl
+map_same f g (x ∷ xs) same =
+    let first = same 0 x (omega arith) in
+    let rest = map_same f g xs (λ k d h. same (suc k) d (omega arith)) in
+    λ i. first i ∷ rest i
 
-  unplaced : (q : ℕ) → (Contains (take (pages_for n) (part_pages ps)) q → ⊥) → In (part_pages (needed ps n)) q → ⊥
-  unplaced q out h = out (contains_in (take (pages_for n) (part_pages ps)) q (subst (λ l. In l q) (cover ps n) h))
+-- one part more
+module _ (s t : State) (ps : List Part) (i n : ℕ) (bufs : List BufId) (apart : AreApart 0 ps) (h : i < length ps) (m : Placed s t bufs (take i ps) n) where
+  abbrev p : Part
+  p = get_or ps i no_part
 
-  pub made-published : MadeOn s (published s ps n) (new_bufs s.entries ps n) (take (pages_for n) (part_pages ps))
-  made-published = record {
-    runs = needed ps n;
-    apart = needed_apart 0 ps n apart;
-    cover = cover ps n;
-    begun = begun s ps n;
-    whole = ap (map (λ (b : BufId). pages_for (len_of after b))) (begun s ps n) ∙ whole_bufs s after (needed ps n) ∙ wholes s 0 ps n apart all;
-    raises = record { raised = λ q h. (became s 0 ps n q apart all).raised (placed q h); kept = λ q h. (became s 0 ps n q apart all).kept (unplaced q h) };
-  }
+  abbrev so_far : List ℕ
+  so_far = part_pages (take i ps)
 
-  pub others-published : IsSameBut (part_pages ps) s (published s ps n)
-  others-published = record { each = λ q out. (became s 0 ps n q apart all).out (λ h. out (contains_in (part_pages ps) q h)) }
+  abbrev here : List ℕ
+  here = range_with_len p.first p.count
 
-  pub returned-published : AreUsable (published s ps n) (drop (pages_for n) (part_pages ps))
-  returned-published = record {
+  -- the part at hand is as it was
+  pub still_same : (q : ℕ) → (get_or ps i no_part).first ≤ q → entry_at t q ≡ entry_at s q
+  still_same q lo = m.others q (λ a. (let r = before_part 0 ps i q apart h a in omega (arith, r, lo)))
+
+  pub still_waits : AreAll Pending s.limit s.entries ps → t.limit ≡ s.limit → length t.entries ≡ length s.entries → IsAll Pending t.limit t.entries (get_or ps i no_part)
+  still_waits all limit long = all_same Pending s t p limit long still_same (all_at Pending s.limit s.entries ps i all h)
+
+  away : (q : ℕ) → In so_far q → In here q → ⊥
+  away q a b = (let k = range_in p.first p.count q b in omega (arith, before_part 0 ps i q apart h a, k.0))
+
+  pub placed_more : (u : State) (more : List BufId) (rs : List Part) → All (IsNew s t) bufs → u.limit ≡ t.limit → OnPart t u (get_or ps i no_part) rs → needed (take (i + 1) ps) n ≡ needed (take i ps) n ++ rs
+      → more ≡ map (begun_on s) rs → map (λ b. pages_for (len_of u b)) more ≡ map (λ r. r.count) rs → Placed s u (bufs ++ more) (take (i + 1) ps) n
+  placed_more u more rs new limit o needs begins fill =
+      let was = needed (take i ps) n in
+      let old = part_pages was in
+      let add = part_pages rs in
+      let all = ap part_pages needs ∙ flat_map-append (λ (r : Part). range_with_len r.first r.count) was rs in
+      let pages = pages-more ps i h in
+      let left : (q : ℕ) → In old q → In (part_pages (needed (take (i + 1) ps) n)) q = λ q a. subst (λ l. In l q) (sym all) (in_left old add q a) in
+      let right : (q : ℕ) → In add q → In (part_pages (needed (take (i + 1) ps) n)) q = λ q a. subst (λ l. In l q) (sym all) (in_right old add q a) in
+      let lens : List BufId → List ℕ = map (λ b. pages_for (len_of u b)) in
+      record {
+        begun = ap (λ l. bufs ++ l) begins ∙ ap (λ l. l ++ map (begun_on s) rs) m.begun ∙ sym (map-append (begun_on s) was rs) ∙ ap (map (begun_on s)) (sym needs);
+        whole = map-append (λ b. pages_for (len_of u b)) bufs more ∙ ap (λ l. l ++ lens more)
+            (map_same (λ b. pages_for (len_of u b)) (λ b. pages_for (len_of t b)) bufs (λ k d lt. ap (λ e. pages_for (kind_len e.kind)) (o.out (get_or bufs k d).page (away (get_or bufs k d).page (new_places so_far bufs m.others new k d lt)))))
+            ∙ ap (λ l. l ++ lens more) m.whole ∙ ap (λ l. map (λ (r : Part). r.count) was ++ l) fill ∙ sym (map-append (λ (r : Part). r.count) was rs) ∙ ap (map (λ (r : Part). r.count)) (sym needs);
+        raised = λ q a. elim (in_either old add q (subst (λ l. In l q) all a)) [
+          | inl b ↦ o.kept q (λ r. away q (needed_in (take i ps) n q b) (o.inside q r)) ∙ m.raised q b
+          | inr b ↦ o.raised q b ∙ ap (λ g. g + 1) (m.kept q (λ r. away q (needed_in (take i ps) n q r) (o.inside q b)))
+        ];
+        kept = λ q off. o.kept q (λ b. off (right q b)) ∙ m.kept q (λ b. off (left q b));
+        others = λ q off. o.out q (λ b. off (subst (λ l. In l q) (sym pages) (in_right so_far here q b))) ∙ m.others q (λ b. off (subst (λ l. In l q) (sym pages) (in_left so_far here q b)));
+        back = λ q a off. elim (in_either so_far here q (subst (λ l. In l q) pages a)) [
+          | inl b ↦ ap (λ e. is_free u.limit e) (o.out q (away q b)) ∙ ap (λ l. is_free l (entry_at t q)) limit ∙ m.back q b (λ r. off (left q r))
+          | inr b ↦ o.back q b (λ r. off (right q r))
+        ];
+      }
+
+-- All parts.
+
+module _ (s t : State) (bufs : List BufId) (ps : List Part) (n : ℕ) (apart : AreApart 0 ps) (m : Placed s t bufs ps n) where
+  pub made-placed : MadeOn s t bufs (take (pages_for n) (part_pages ps))
+  made-placed =
+      let pages = take (pages_for n) (part_pages ps) in
+      record {
+        runs = needed ps n;
+        apart = needed_apart 0 ps n apart;
+        cover = cover ps n;
+        begun = m.begun;
+        whole = m.whole;
+        raises = record {
+          raised = λ q h. m.raised q (subst (λ l. In l q) (sym (cover ps n)) (in_contains pages q h));
+          kept = λ q out. m.kept q (λ h. out (contains_in pages q (subst (λ l. In l q) (cover ps n) h)));
+        };
+      }
+
+  pub others-placed : IsSameBut (part_pages ps) s t
+  others-placed = record { each = λ q out. m.others q (λ h. out (contains_in (part_pages ps) q h)) }
+
+  pub returned-placed : AreUsable t (drop (pages_for n) (part_pages ps))
+  returned-placed = record {
     each = λ q h.
         let there = in_contains (drop (pages_for n) (part_pages ps)) q h in
-        (became s 0 ps n q apart all).back (in_drop (pages_for n) (part_pages ps) q there)
-        (λ j. drop_out 0 (pages_for n) (part_pages ps) q (pages_rising 0 ps apart) there (subst (λ l. In l q) (cover ps n) j));
+        m.back q (in_drop (pages_for n) (part_pages ps) q there) (λ j. drop_out 0 (pages_for n) (part_pages ps) q (pages_rising 0 ps apart) there (subst (λ l. In l q) (cover ps n) j));
   }
-
--- Only the entries of pages matter.
-
-pub made_same : {s t u : State} {bufs : List BufId} {placed : List ℕ} → u.entries ≡ t.entries → MadeOn s t bufs placed → MadeOn s u bufs placed
-made_same {s = s} {t = t} {u = u} {bufs = bufs} e m = record {
-  runs = m.runs;
-  apart = m.apart;
-  cover = m.cover;
-  begun = m.begun;
-  whole = ap (λ (es : List Entry). map (λ (b : BufId). pages_for (kind_len (entry_in es b.page).kind)) bufs) e ∙ m.whole;
-  raises = record {
-    raised = λ q h. ap (λ (es : List Entry). (entry_in es q).generation) e ∙ m.raises.raised q h;
-    kept = λ q h. ap (λ (es : List Entry). (entry_in es q).generation) e ∙ m.raises.kept q h;
-  };
-}
 
 begun_since : (s t : State) (rs : List Part) → ((q : ℕ) → generation_at t q ≡ generation_at s q) → map (begun_on t) rs ≡ map (begun_on s) rs
 begun_since s t [] same = refl
@@ -391,49 +423,6 @@ same_but_trans m n = record { each = λ q out. n.each q out ∙ m.each q out }
 pub same_but_entries : {a b : State} (pages : List ℕ) → b.entries ≡ a.entries → IsSameBut pages a b
 same_but_entries pages e = record { each = λ q out. ap (λ (es : List Entry). entry_in es q) e }
 
--- what is published depends on entries alone
-pub entries-published : (s t : State) (ps : List Part) (n : ℕ) → s.entries ≡ t.entries → (published s ps n).entries ≡ (published t ps n).entries
-unfolding published
-entries-published s t [] n e = e
-entries-published s t (p ∷ ps) zero e = entries-published (with_marked s p.first p.count Free 0) (with_marked t p.first p.count Free 0) ps 0 (ap (each_from p.first p.count (marked Free 0)) e)
-entries-published s t (p ∷ ps) (suc n) e =
-    let here : ℕ = min (suc n) (p.count * 4096) in
-    entries-published (published_part s p here) (published_part t p here) ps (suc n - p.count * 4096) (ap (λ es. published_entries es p here) e)
-
-pub abandoned-is : (s : State) (ps : List Part) → abandoned s ps ≡ published s ps 0
-unfolding abandoned published
-abandoned-is s [] = refl
-abandoned-is s (p ∷ ps) = abandoned-is (with_marked s p.first p.count Free 0) ps
-
--- parts that are given back: no page was raised, and all may be used
-module _ (s : State) (ps : List Part) (apart : AreApart 0 ps) (all : AreAll Pending s.limit s.entries ps) where
-  pub others-abandoned : IsSameBut (part_pages ps) s (abandoned s ps)
-  others-abandoned = subst (λ t. IsSameBut (part_pages ps) s t) (sym (abandoned-is s ps)) (others-published s ps 0 apart all)
-
-  pub returned-abandoned : AreUsable (abandoned s ps) (part_pages ps)
-  returned-abandoned = subst (λ t. AreUsable t (part_pages ps)) (sym (abandoned-is s ps)) (subst (λ k. AreUsable (published s ps 0) (drop k (part_pages ps))) pages_none (returned-published s ps 0 apart all))
-
-  pub unraised-abandoned : (q : ℕ) → generation_at (abandoned s ps) q ≡ generation_at s q
-  unraised-abandoned q = ap (λ t. generation_at t q) (abandoned-is s ps) ∙ (became s 0 ps 0 q apart all).kept (λ h. subst (λ l. In (part_pages l) q) (needed-none ps) h)
-
--- Buffers on parts whose pages are all needed, made one after another by something that writes bytes besides.
-
-pub entries_step : (s t : State) (p : Part) (ps : List Part) (n here m : ℕ) → 0 < n → here ≡ min n (p.count * 4096) → t.entries ≡ published_entries s.entries p here → m ≡ n - here
-    → (published t ps m).entries ≡ (published s (p ∷ ps) n).entries
-entries_step s t p ps n here m some is e left =
-    let one = published_part s p here in
-    entries-published t one ps m e ∙ ap (λ (x : State). x.entries) (publish_step s one p ps n here m some is refl left)
-
-module _ (s t : State) (ps : List Part) (n : ℕ) (bufs : List BufId) (apart : AreApart 0 ps) (all : AreAll Pending s.limit s.entries ps)
-    (is : t.entries ≡ (published s ps n).entries) (new : bufs ≡ new_bufs s.entries ps n) (long : length (part_pages ps) ≡ pages_for n) where
-  pub made_all : MadeOn s t bufs (part_pages ps)
-  made_all =
-      let whole : take (pages_for n) (part_pages ps) ≡ part_pages ps = take_all (pages_for n) (part_pages ps) (omega (arith, long)) in
-      subst (λ l. MadeOn s t bufs l) whole (subst (λ bs. MadeOn s t bs (take (pages_for n) (part_pages ps))) (sym new) (made_same is (made-published s ps n apart all)))
-
-  pub others_all : IsSameBut (part_pages ps) s t
-  others_all = same_but_trans (others-published s ps n apart all) (same_but_entries (part_pages ps) is)
-
 -- no bytes make no buffer
 pub made_none : (s : State) (pages : List ℕ) → MadeOn s s [] (take (pages_for 0) pages)
 made_none s pages =
@@ -446,6 +435,3 @@ made_none s pages =
       whole = refl;
       raises = record { raised = λ q h. absurd (in_contains [] q (subst (λ l. Contains l q) none h)); kept = λ q out. refl };
     }
-
-pub same_but_none : (s : State) (pages : List ℕ) → IsSameBut pages s s
-same_but_none s pages = record { each = λ q out. refl }

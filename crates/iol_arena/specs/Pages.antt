@@ -1,8 +1,9 @@
 -- What becomes of pages: which were raised, which stayed, and which buffers were made on them.
 use Rattle.std.specs.Prelude.{◌≡◌, ℕ, ◌+◌, true, List, map}
 use Rattle.std.specs.List.{Contains}
+use Rattle.iol_core.specs.declared.limits.TheConstants.{PAGE_BYTES}
 use Rattle.iol_core.specs.declared.numbers.BufId.{BufId}
-use Rattle.iol_arena.specs.State.{State, entry_at, generation_at, pages_for}
+use Rattle.iol_arena.specs.State.{State, entry_at, generation_at, memory_at, pages_for}
 use Rattle.iol_arena.specs.Buffers.{len_of}
 use Rattle.iol_arena.specs.Chunks.{usable}
 use Rattle.iol_arena.specs.Parts.{AreApart, part_pages}
@@ -16,6 +17,10 @@ pub record Raises (old new : State) (placed : List ℕ) : Type 0 where
 -- all pages but those of the list are as they were
 pub record IsSameBut (pages : List ℕ) (old new : State) : Type 0 where
   pub each : (q : ℕ) → (Contains pages q → ⊥) → entry_at new q ≡ entry_at old q
+
+-- what lies on all pages but those of the list lies there still
+pub record KeepsMemory (pages : List ℕ) (old new : State) : Type 0 where
+  pub each : (q : ℕ) → (Contains pages q → ⊥) → memory_at new q PAGE_BYTES ≡ memory_at old q PAGE_BYTES
 
 -- each page of the list may be used for new bytes
 pub record AreUsable (s : State) (pages : List ℕ) : Type 0 where

@@ -11,10 +11,8 @@ pub mod Rooms
 pub mod Leftovers
 pub mod Publishing
 pub mod Reserving
-pub mod PublishingAll
 pub mod Numbering
 pub mod AtPlaces
-pub mod Leaving
 pub mod Releasing
 pub mod Paging
 pub mod Emptied

@@ -11,9 +11,8 @@ use Rattle.iol_core.specs.Numbered.{is_numbered, with_numbered}
 use Rattle.iol_core.specs.declared.numbers.BufId.{BufId}
 use Rattle.iol_arena.specs.State.{State, chunk_count, generation_at}
 use Rattle.iol_arena.specs.Buffers.{IsLive, Keeps, bytes_of}
-use Rattle.iol_arena.specs.Chunks.{TakesChunks, all_taken, free_chunks, is_taken, is_untaken}
+use Rattle.iol_arena.specs.Chunks.{TakesChunks, free_chunks, is_taken, is_untaken}
 use Rattle.iol_arena.proofs.Good.{bool_cases}
-use Rattle.iol_arena.proofs.Taking.{taken_in, taken_out, taken_stays}
 use Rattle.iol_arena.proofs.Members.{In, in_contains, contains_in, in_or_out, in_passes, in_take}
 use Rattle.iol_pool.specs.Pools.{Pool, no_pool, pool_in, with_closed, with_emptied, all_returned, with_returned, goes_back, settled, settled_arena}
 use Rattle.iol_pool.specs.Owned.{AreOwned}
@@ -329,9 +328,6 @@ nowhere ps c h =
     omega (arith, k.1)
 
 module _ (s t : State) (ps : List Pool) (x : Pool) (takes : TakesChunks s t x.chunks) (o : AreOwned s ps) where
-  taken_is : t.taken ≡ all_taken s.taken x.chunks
-  taken_is = ap (λ (a : State). a.taken) takes.same
-
   whose : (q c : ℕ) → Contains (pool_in (ps ++ x ∷ []) q).chunks c → ((q ≡ length ps + 1) × Contains x.chunks c) ⊎ Contains (pool_in ps q).chunks c
   whose q c h = elim (cases_eq q (length ps + 1)) [
     | inl e ↦ inl (e, subst (λ (y : Pool). Contains y.chunks c) (pool_in-pushed ps x) (subst (λ q. Contains (pool_in (ps ++ x ∷ []) q).chunks c) e h))
@@ -352,8 +348,8 @@ module _ (s t : State) (ps : List Pool) (x : Pool) (takes : TakesChunks s t x.ch
 
   given : (q c : ℕ) → Contains (pool_in (ps ++ x ∷ []) q).chunks c → is_taken t c ≡ true
   given q c h = elim (whose q c h) [
-    | inl k ↦ subst (λ (l : List Bool). get_or l c true ≡ true) (sym taken_is) (taken_in s.taken x.chunks c (in_contains x.chunks c k.1))
-    | inr k ↦ subst (λ (l : List Bool). get_or l c true ≡ true) (sym taken_is) (taken_stays s.taken x.chunks c (o.taken q c k))
+    | inl k ↦ takes.taken.there c k.1
+    | inr k ↦ elim (in_or_out x.chunks c) [ inl new ↦ takes.taken.there c (contains_in x.chunks c new) | inr old ↦ takes.taken.others c (λ a. old (in_contains x.chunks c a)) ∙ o.taken q c k ]
   ]
 
   one : (p q c : ℕ) → Contains (pool_in (ps ++ x ∷ []) p).chunks c → Contains (pool_in (ps ++ x ∷ []) q).chunks c → p ≡ q
@@ -369,7 +365,7 @@ module _ (s t : State) (ps : List Pool) (x : Pool) (takes : TakesChunks s t x.ch
       owner c h is = elim (in_or_out x.chunks c) [
         | inl new ↦ (length ps + 1, subst (λ (y : Pool). Contains y.chunks c) (sym (pool_in-pushed ps x)) (contains_in x.chunks c new))
         | inr old ↦ (
-            let was : is_taken s c ≡ true = sym (taken_out s.taken x.chunks c old) ∙ ap (λ (l : List Bool). get_or l c true) (sym taken_is) ∙ is in
+            let was : is_taken s c ≡ true = sym (takes.taken.others c (λ a. old (in_contains x.chunks c a))) ∙ is in
             let w = o.owner c (omega (arith, h, takes.count)) was in
             let before : w.0 ≡ length ps + 1 → ⊥ = λ e. nowhere ps c (subst (λ q. Contains (pool_in ps q).chunks c) e w.1) in
             (w.0, subst (λ (y : Pool). Contains y.chunks c) (sym (pool_in-before ps x w.0 before)) w.1))

@@ -1,4 +1,4 @@
-use Rattle.std.proofs.Common.{◌≡◌, ◌∙◌, ap, sym, subst, refl, length, get_or, map, take, List, flat_map, arith}
+use Rattle.std.proofs.Common.{◌≡◌, ◌∙◌, ap, sym, subst, refl, length, get_or, map, take, drop, inl, inr, List, flat_map, arith}
 use Rattle.std.specs.List.{All}
 use Rattle.std.proofs.lemmas.List.Elements.{All-map}
 use Rattle.iol_core.specs.declared.numbers.BufId.{BufId}
@@ -6,60 +6,76 @@ use Rattle.iol_arena.specs.Adds.{IsNew}
 use Rattle.iol_arena.specs.Buffers.{bytes_in}
 use Rattle.iol_arena.specs.State.{pages_for}
 use Rattle.iol_arena.specs.Pages.{MadeOn}
-use Rattle.iol_arena.specs.Parts.{new_bufs, part_bytes, part_pages}
-use Rattle.iol_arena.proofs.Members.{In, contains_in}
+use Rattle.iol_arena.specs.Parts.{needed_pages, part_bytes, part_pages}
+use Rattle.iol_arena.specs.declared.pages.PageKind.TheVariants.{Pending}
+use Rattle.iol_arena.proofs.Marked.{page_all}
+use Rattle.iol_arena.proofs.Made.{new_places}
+use Rattle.iol_arena.proofs.Members.{In, in_either, in_contains, contains_in}
 use Rattle.iol_hold.specs.Filling.{IsHeld}
-use Rattle.iol_hold.specs.Stored.{Stored, Buffer}
+use Rattle.iol_hold.specs.Stored.{Stored, Buffer, held_bufs}
 use Rattle.iol_hold.specs.Texts.{IsFilled}
 use Rattle.iol_hold.specs.View.{stored}
 use Rattle.iol_hold.specs.Waiting.{Publishes, FreesNone, all_held}
 use Rattle.iol_hold.proofs.Counting.{bufs-held_in}
 use Rattle.iol_pool.proofs.Owning.{owned_stays}
-use Rattle.iol_hold.proofs.Placing.{HoldsAll, holds_all, tidy_of}
-use Rattle.iol_hold.proofs.PublishingAll.{AllPublished, after, publish_all, published_publishes, new_bufs_in, length-all_held}
-use Rattle.std.proofs.lemmas.List.{length-map}
-use Rattle.iol_arena.specs.State.{State}
-use Rattle.iol_arena.specs.Chunks.{usable}
-use Rattle.iol_hold.proofs.Leaving.{length-new_bufs, usable-published}
+use Rattle.iol_hold.proofs.Placing.{holds_all, tidy_of}
+use Rattle.iol_hold.proofs.Publishing.{Makes, made_holds, made_publishes, made_usable, length-all_held}
+use Rattle.std.proofs.lemmas.List.{length-map, take-append-drop, take_all}
 use Rattle.iol_hold.proofs.store.Store.publish_reserved.Goals as goal
+
+abbrev after : goal.After-new → Stored
+after c = record { arena = c.publish_reserved-bufs.new.self; pools = c.self.inside.pools; counts = c.hold_once.new.counts.items }
+
+-- buffers were made on the first pages, and the others go back
+makes : (c : goal.After-new) → Makes (stored c.self.inside) (after c) (part_pages c.args.reserved.reservation.parts.items) (needed_pages c.args.reserved.reservation.parts.items c.args.len) c.publish_reserved-bufs.result.items
+makes c =
+    let s : Stored = stored c.self.inside in
+    let ps = c.args.reserved.reservation.parts.items in
+    let k = pages_for c.args.len in
+    let held = subst (λ (x : Stored). IsHeld x c.args.reserved) (sym c.self.view_is) c.requires in
+    let e = c.publish_reserved-bufs.ensures in
+    record {
+      waited = λ q h. (page_all Pending s.arena.limit s.arena.entries ps q held.pages.pending h).0;
+      others = e.others;
+      back = λ q h off. elim (in_either (take k (part_pages ps)) (drop k (part_pages ps)) q (subst (λ l. In l q) (sym (take-append-drop k (part_pages ps))) h)) [
+        | inl on ↦ absurd (off on)
+        | inr past ↦ e.returned.each q (contains_in (drop k (part_pages ps)) q past)
+      ];
+      on = e.made_on;
+      new = e.adds.made;
+      runs = e.runs;
+      long = c.self.invariant.counts;
+      counts = c.hold_once.ensures ∙ ap (all_held s.counts) c.as_slice.ensures;
+    }
+
+-- the names of the holds are those of the new buffers
+named : (c : goal.After-new) → held_bufs c.new.result ≡ c.publish_reserved-bufs.result.items
+named c = ap (map (λ (h : Buffer). h.buf)) c.new.ensures ∙ bufs-held_in c.args.reserved.pool c.publish_reserved-bufs.result.items
 
 pub returns-clause-tidy : goal.returns-clause-tidy
 returns-clause-tidy c =
     let s : Stored = stored c.self.inside in
     let ps = c.args.reserved.reservation.parts.items in
-    let new = new_bufs s.arena.entries ps c.args.len in
-    let held = subst (λ (x : Stored). IsHeld x c.args.reserved) (sym c.self.view_is) c.requires in
-    let counts = c.hold_once.ensures ∙ ap (all_held s.counts) (c.as_slice.ensures ∙ c.publish_reserved-bufs.ensures.bufs) in
-    let t : Stored = record { arena = c.publish_reserved-bufs.new.self; pools = s.pools; counts = c.hold_once.new.counts.items } in
-    let same : t ≡ after s ps c.args.len new = λ i. record { arena = c.publish_reserved-bufs.ensures.arena i; pools = s.pools; counts = counts i } in
-    let all = (publish_all s s.arena.entries 0 ps c.args.len held.pages.apart held.pages.pending c.self.invariant.counts (λ q lo. refl) (holds_all c.self.invariant.tidy)).held in
-    tidy_of (subst HoldsAll (sym same) all) c.publish_reserved-bufs.ensures.runs (owned_stays s.arena c.publish_reserved-bufs.new.self s.pools c.publish_reserved-bufs.ensures.adds.grows.taken c.self.invariant.tidy.owned)
+    let e = c.publish_reserved-bufs.ensures in
+    tidy_of (made_holds s (after c) (part_pages ps) (needed_pages ps c.args.len) c.publish_reserved-bufs.result.items (makes c) (holds_all c.self.invariant.tidy)) e.runs (owned_stays s.arena c.publish_reserved-bufs.new.self s.pools e.adds.grows.taken c.self.invariant.tidy.owned)
 
 pub returns-clause-publishes : goal.returns-clause-publishes
 returns-clause-publishes c =
     let s : Stored = stored c.self.inside in
     let ps = c.args.reserved.reservation.parts.items in
-    let new = new_bufs s.arena.entries ps c.args.len in
-    let bufs = c.publish_reserved-bufs.ensures.bufs in
-    let held = subst (λ (x : Stored). IsHeld x c.args.reserved) (sym c.self.view_is) c.requires in
-    let counts = c.hold_once.ensures ∙ ap (all_held s.counts) (c.as_slice.ensures ∙ bufs) in
-    let t : Stored = record { arena = c.publish_reserved-bufs.new.self; pools = s.pools; counts = c.hold_once.new.counts.items } in
-    let same : t ≡ after s ps c.args.len new = λ i. record { arena = c.publish_reserved-bufs.ensures.arena i; pools = s.pools; counts = counts i } in
-    let all : AllPublished s t ps new = subst (λ x. AllPublished s x ps new) (sym same) (publish_all s s.arena.entries 0 ps c.args.len held.pages.apart held.pages.pending c.self.invariant.counts (λ q lo. refl) (holds_all c.self.invariant.tidy)) in
-    let is = ap (map (λ (h : Buffer). h.buf)) c.new.ensures ∙ bufs-held_in c.args.reserved.pool c.publish_reserved-bufs.result.items ∙ bufs in
-    subst (λ bs. Publishes c.args.self.now t ps bs) (sym is) (subst (λ (x : Stored). Publishes x t ps new) c.self.view_is (published_publishes s t ps new all c.publish_reserved-bufs.ensures.adds.grows refl))
+    let bufs = c.publish_reserved-bufs.result.items in
+    subst (λ bs. Publishes c.args.self.now (after c) ps bs) (sym (named c)) (subst (λ (x : Stored). Publishes x (after c) ps bufs) c.self.view_is
+    (made_publishes s (after c) ps (needed_pages ps c.args.len) bufs (makes c) c.publish_reserved-bufs.ensures.adds.grows refl))
 
 pub returns-clause-made : goal.returns-clause-made
 returns-clause-made c =
-    let is = ap (map (λ (h : Buffer). h.buf)) c.new.ensures ∙ bufs-held_in c.args.reserved.pool c.publish_reserved-bufs.result.items in
     let a = c.publish_reserved-bufs.new.self in
-    subst (λ bs. All (IsNew c.args.self.now.arena a) bs) (sym is) (subst (λ (x : Stored). All (IsNew x.arena a) c.publish_reserved-bufs.result.items) c.self.view_is c.publish_reserved-bufs.ensures.adds.made)
+    subst (λ bs. All (IsNew c.args.self.now.arena a) bs) (sym (named c)) (subst (λ (x : Stored). All (IsNew x.arena a) c.publish_reserved-bufs.result.items) c.self.view_is c.publish_reserved-bufs.ensures.adds.made)
 
 pub returns-clause-value : goal.returns-clause-value
 returns-clause-value c =
-    let is = ap (map (λ (h : Buffer). h.buf)) c.new.ensures ∙ bufs-held_in c.args.reserved.pool c.publish_reserved-bufs.result.items in
     let ps = c.args.reserved.reservation.parts.items in
-    ap (bytes_in c.publish_reserved-bufs.new.self) is ∙ c.publish_reserved-bufs.ensures.adds.value ∙ ap (λ (x : Stored). take c.args.len (flat_map (part_bytes x.arena) ps)) c.self.view_is
+    ap (bytes_in c.publish_reserved-bufs.new.self) (named c) ∙ c.publish_reserved-bufs.ensures.adds.value ∙ ap (λ (x : Stored). take c.args.len (flat_map (part_bytes x.arena) ps)) c.self.view_is
 
 pub returns-clause-filled : goal.returns-clause-filled
 returns-clause-filled c =
@@ -67,13 +83,12 @@ returns-clause-filled c =
     let ps = c.args.reserved.reservation.parts.items in
     let bufs : List BufId = c.publish_reserved-bufs.result.items in
     let held = subst (λ (x : Stored). IsHeld x c.args.reserved) (sym c.self.view_is) c.requires in
-    let t : Stored = record { arena = c.publish_reserved-bufs.new.self; pools = s.pools; counts = c.hold_once.new.counts.items } in
-    let P : BufId → Type 0 = λ b. In (part_pages ps) b.page in
-    let places : All P bufs = subst (All P) (sym c.publish_reserved-bufs.ensures.bufs) (new_bufs_in s.arena.entries 0 ps c.args.len held.pages.apart) in
+    let e = c.publish_reserved-bufs.ensures in
+    let places = new_places (part_pages ps) bufs (λ q out. e.others.each q (λ h. out (in_contains (part_pages ps) q h))) e.adds.made in
     let one : BufId → Buffer = λ b. record { pool = c.args.reserved.pool; buf = b } in
-    subst (All (IsFilled t)) (sym c.new.ensures) (All-map (IsFilled t) one bufs (λ k d h.
+    subst (All (IsFilled (after c))) (sym c.new.ensures) (All-map (IsFilled (after c)) one bufs (λ k d h.
     let b = get_or bufs k d in
-    let new = c.publish_reserved-bufs.ensures.adds.made k d h in
+    let new = e.adds.made k d h in
     record { live = new.live; home = held.inside b.page (contains_in (part_pages ps) b.page (places k d h)); some = new.some }))
 
 pub returns-clause-pool : goal.returns-clause-pool
@@ -93,23 +108,23 @@ invariant_of-self c =
 
 pub returns-clause-few : goal.returns-clause-few
 returns-clause-few c =
-    let s : Stored = stored c.self.inside in
-    let ps = c.args.reserved.reservation.parts.items in
-    let n = ap length c.new.ensures ∙ length-map c.publish_reserved-bufs.result.items (λ b. let x : Buffer = record { pool = c.args.reserved.pool; buf = b } in x) ∙ ap length c.publish_reserved-bufs.ensures.bufs in
-    omega (arith, n, length-new_bufs s.arena.entries ps c.args.len)
+    let one : BufId → Buffer = λ b. record { pool = c.args.reserved.pool; buf = b } in
+    omega (arith, ap length c.new.ensures, length-map c.publish_reserved-bufs.result.items one, c.publish_reserved-bufs.ensures.few)
 
 pub returns-clause-free : goal.returns-clause-free
 returns-clause-free c =
     let s : Stored = stored c.self.inside in
     let ps = c.args.reserved.reservation.parts.items in
-    let held = subst (λ (x : Stored). IsHeld x c.args.reserved) (sym c.self.view_is) c.requires in
     let a = c.publish_reserved-bufs.new.self in
-    let free : FreesNone s.arena a ps c.args.len = record { each = λ long q. ap (λ (x : State). usable x q) c.publish_reserved-bufs.ensures.arena ∙ usable-published s.arena 0 ps c.args.len held.pages.apart held.pages.pending long q } in
+    let placed = needed_pages ps c.args.len in
+    let free : FreesNone s.arena a ps c.args.len = record {
+      each = λ long. made_usable s (after c) (part_pages ps) placed c.publish_reserved-bufs.result.items (makes c) c.publish_reserved-bufs.ensures.adds.grows.limit
+          (λ q h. subst (λ l. In l q) (sym (take_all (pages_for c.args.len) (part_pages ps) (omega (arith, long)))) h);
+    } in
     subst (λ (x : Stored). FreesNone x.arena a ps c.args.len) c.self.view_is free
 
 pub returns-clause-made_on : goal.returns-clause-made_on
 returns-clause-made_on c =
-    let is = ap (map (λ (h : Buffer). h.buf)) c.new.ensures ∙ bufs-held_in c.args.reserved.pool c.publish_reserved-bufs.result.items in
-    let placed = take (pages_for c.args.len) (part_pages c.args.reserved.reservation.parts.items) in
+    let placed = needed_pages c.args.reserved.reservation.parts.items c.args.len in
     let a = c.publish_reserved-bufs.new.self in
-    subst (λ bs. MadeOn c.args.self.now.arena a bs placed) (sym is) (subst (λ (x : Stored). MadeOn x.arena a c.publish_reserved-bufs.result.items placed) c.self.view_is c.publish_reserved-bufs.ensures.made_on)
+    subst (λ bs. MadeOn c.args.self.now.arena a bs placed) (sym (named c)) (subst (λ (x : Stored). MadeOn x.arena a c.publish_reserved-bufs.result.items placed) c.self.view_is c.publish_reserved-bufs.ensures.made_on)
