@@ -1,5 +1,5 @@
 //! The order in which parts of files are evicted.
-ghost use Rattle.std.specs.Prelude.{◌≡◌, ◌≢◌, ℕ, ◌+◌, ◌-◌, ◌*◌, ◌/◌, ◌^◌, ◌<◌, ◌≤◌, [], All, true, false, None, MatchOption, OnOk, OnErr};
+ghost use Rattle.std.specs.Prelude.{◌≡◌, ◌≢◌, ℕ, ◌+◌, ◌-◌, ◌*◌, ◌/◌, ◌^◌, ◌<◌, ◌≤◌, [], All, true, false, None, MatchOption, OnOk, OnErr, IsOk};
 ghost use Rattle.iol_evict.specs.Ranking.{Ranking, worth, entry_at, entry_or, entered, hit_at, left_at, evicted_at};
 ghost use Rattle.iol_evict.specs.Victims.{IsVictim};
 
@@ -54,12 +54,14 @@ impl Order {
         }
     }
 
-    /// Makes room for so many entries more. Refused, it leaves the room that there was.
+    /// Makes room for so many entries more. Where there is as much already, it wants no memory. Refused, it leaves the
+    /// room that there was.
     pub fn reserve(&mut self, count: usize) -> Result<(), AllocError>
         ensures room { OnOk result (count ≤ self.new.room) }
         ensures same { self.new ≡ record self.old { room = self.new.room } }
         ensures no_less { self.old.room ≤ self.new.room }
         ensures err { OnErr result (self.new.room ≡ self.old.room) }
+        ensures succeeds { count ≤ self.old.room → IsOk result }
     {
         self.entries.reserve(count)?;
         Ok(())
