@@ -22,15 +22,15 @@ pub record IsServedUri (target : List ℕ) (uri : Uri) : Type 0 where
 
 -- ---- the path (RFC 3986, sections 2.1 and 3.3)
 
-abbrev pub begins_with_digits : List ℕ → Bool
-begins_with_digits [] = false
-begins_with_digits (high ∷ []) = false
-begins_with_digits (high ∷ low ∷ bytes) = is_ascii_hexdigit high && is_ascii_hexdigit low
+abbrev pub begins_with_hex_digits : List ℕ → Bool
+begins_with_hex_digits [] = false
+begins_with_hex_digits (high ∷ []) = false
+begins_with_hex_digits (high ∷ low ∷ bytes) = is_ascii_hexdigit high && is_ascii_hexdigit low
 
 -- each `%` stands before two hexadecimal digits
 abbrev pub is_escaped : List ℕ → Bool
 is_escaped [] = true
-is_escaped (b ∷ bytes) = (not (b == 37) || begins_with_digits bytes) && is_escaped bytes
+is_escaped (b ∷ bytes) = (not (b == 37) || begins_with_hex_digits bytes) && is_escaped bytes
 
 -- the text between the slashes of a path
 abbrev pub segments : List ℕ → List (List ℕ)
@@ -78,7 +78,7 @@ abbrev pub TargetIs : (target : List ℕ) → Option (List ℕ × List ℕ) → 
 TargetIs target None = (name query : List ℕ) → Names target name query → ⊥
 TargetIs target (Some file) = Names target file.0 file.1
 
--- ---- the same of its steps
+-- ---- the same in two steps: the URI of the target, and the name of its path
 
 abbrev pub UriIs : (target : List ℕ) → Option Uri → Type 0
 UriIs target None = (uri : Uri) → IsServedUri target uri → ⊥

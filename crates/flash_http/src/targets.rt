@@ -47,8 +47,8 @@ fn uri_of(alloc: Global, target: &[u8]) -> Result<Option<Uri>, AllocError>
     }
 }
 
-fn begins_with_digits(bytes: &[u8]) -> bool
-    ensures { result ≡ spec.begins_with_digits bytes.now }
+fn begins_with_hex_digits(bytes: &[u8]) -> bool
+    ensures { result ≡ spec.begins_with_hex_digits bytes.now }
 {
     match bytes {
         [high, low, ..] => high.is_ascii_hexdigit() && low.is_ascii_hexdigit(),
@@ -61,7 +61,7 @@ fn is_escaped(mut bytes: &[u8]) -> bool
     ensures { result ≡ spec.is_escaped bytes.now }
 {
     while let [first, rest @ ..] = bytes {
-        if *first == b'%' && !begins_with_digits(rest) {
+        if *first == b'%' && !begins_with_hex_digits(rest) {
             return false;
         }
         bytes = rest;
