@@ -95,7 +95,8 @@ impl Order {
         self.entries.set_height(file, at, height);
     }
 
-    /// Takes an entry out. Where it was evicted, L becomes the height that it had, and past 2^62 all heights are lowered.
+    /// Takes an entry out. Where it was evicted, L becomes the height that it had; past 2^62, L is taken from every height
+    /// and from itself.
     pub fn leave(&mut self, file: FileId, at: u32, evicted: bool)
         requires { entry_at self.old.entries file at ≢ None }
         ensures left { evicted ≡ false → self.new ≡ left_at self.old file at }
