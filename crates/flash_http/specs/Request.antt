@@ -9,7 +9,7 @@ use Rattle.flash_http.specs.declared.requests.Asked.{Asked}
 use Rattle.flash_http.specs.declared.requests.Asked.TheVariants as asked
 use Rattle.flash_http.specs.declared.heads.TheConstants.{MAX_FIELDS}
 use Rattle.flash_http.specs.Fields.{Field, one_range, has_one_host, has_content, asks_to_close, is_served_method, is_known_method}
-use Rattle.flash_http.specs.Target.{TargetIs, segments, is_dot_segment}
+use Rattle.flash_http.specs.Target.{TargetIs, has_fragment, segments, is_dot_segment}
 use Rattle.flash_http.specs.Range.{part_of_value}
 use Rattle.flash_http.specs.MediaType.{is_script}
 
@@ -115,9 +115,10 @@ Asks (Some r) a =
 abbrev pub IsAnswerTo : List ℕ → Answer → Type 0
 IsAnswerTo bytes a = (reading : Option Reading) × Reads bytes reading × Asks reading a
 
--- a head whose target is looked at, since its fields and its method refuse nothing
+-- a head whose target is to be read: its fields and its method refuse nothing, and the target has no fragment
 abbrev pub LooksAtTarget : List ℕ → Type 0
-LooksAtTarget bytes = (reading : Reading) × Reads bytes (Some reading) × (refusal reading ≡ None)
+LooksAtTarget bytes =
+    (reading : Reading) × Reads bytes (Some reading) × (refusal reading ≡ None) × (has_fragment reading.target ≡ false)
 
 -- a head has one answer
 abbrev pub OneAnswer : Type 0

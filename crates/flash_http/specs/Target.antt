@@ -14,9 +14,13 @@ is_served_form target None None = not (bytes_eq target (codes "*"))
 is_served_form target None (Some authority) = false
 is_served_form target (Some scheme) authority = bytes_eq scheme (codes "http") || bytes_eq scheme (codes "https")
 
+-- the target has a `#`, which no request target may have (RFC 9112, section 3.2)
+abbrev pub has_fragment : (target : List ℕ) → Bool
+has_fragment target = list_any (λ b. b == 35) target
+
 -- the target spells this URI, which is of such a form and has no fragment
 pub record IsServedUri (target : List ℕ) (uri : Uri) : Type 0 where
-  pub no_fragment : list_any (λ b. b == 35) target ≡ false
+  pub no_fragment : has_fragment target ≡ false
   pub spells : Spells target uri
   pub form : is_served_form target (uri_scheme uri) (uri_authority uri) ≡ true
 

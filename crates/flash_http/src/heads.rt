@@ -1,7 +1,8 @@
 //! What a head asks for.
-ghost use Rattle.std.specs.Prelude.{◌≡◌, ◌≤◌, true, Some, None, IfOk, OnErr, length, option_map};
+ghost use Rattle.std.specs.Prelude.{◌≡◌, ◌≤◌, true, false, Some, None, IfOk, OnErr, length, option_map};
 ghost use Rattle.httparse.specs.Spans.{IsRequestWithin, IsRequestOf};
 ghost use Rattle.flash_http.specs.Request as spec;
+ghost use Rattle.flash_http.specs.Target.{has_fragment};
 ghost use Rattle.flash_http.specs.Views.{reading};
 
 use crate::fields::Fields;
@@ -87,6 +88,7 @@ impl Parsed<'_> {
         ensures answer { IfOk result
             (λ asked. spec.Asks (Some (reading self.now)) (spec.answer asked)) }
         ensures memory { OnErr result (spec.refusal (reading self.now) ≡ None) }
+        ensures fragment { OnErr result (has_fragment self.now.target.now ≡ false) }
     {
         if let Some(refusal) = self.refusal() {
             return Ok(refusal);
@@ -126,7 +128,8 @@ fn parts_of<'a>(head: &'a [u8], found: RequestSpans, spans: &'a [HeaderSpan]) ->
 /// Says what a head asks for: `head` is the whole head, from its first line to the empty line at its end.
 ///
 /// It follows RFC 9110, RFC 9112 and RFC 3986 by the profile of docs/HTTP.md. Memory is wanted for the target alone, and
-/// only where the fields and the method refuse nothing. Where it is refused, the same call may be made again.
+/// only where the fields and the method refuse nothing and the target has no `#`. Where it is refused, the same call may
+/// be made again.
 pub fn read_head(alloc: Global, head: &[u8]) -> Result<Asked, AllocError>
     ensures answer { IfOk result (λ asked. spec.IsAnswerTo head.now (spec.answer asked)) }
     ensures memory { OnErr result (spec.LooksAtTarget head.now) }
