@@ -5,6 +5,7 @@ pub mod FieldLemmas
 pub mod TargetLemmas
 pub mod HeadLemmas
 pub mod OneAnswer
+pub mod ServedRequests
 pub mod StatusTexts
 pub mod ChunkLines
 pub mod Examples

@@ -1,5 +1,6 @@
 -- What a head asks for, as a relation between its bytes and an answer.
-use Rattle.std.specs.Prelude.{◌≡◌, ℕ, ◌≤◌, ◌||◌, ◌==◌, not, string_bytes, Bool, true, false, List, [], length, map, codes, bytes_eq, Option, Some, None, MatchOption, option_and_then, if◌then◌else◌}
+use Rattle.std.specs.Prelude.{◌≡◌, ◌≢◌, ℕ, ◌≤◌, ◌||◌, ◌==◌, not, string_bytes, Bool, true, false, List, [], length, map, codes, bytes_eq, Option, Some, None, MatchOption, option_and_then, if◌then◌else◌}
+use Rattle.std.specs.List.{list_any}
 use Rattle.httparse.specs.Grammar.{RequestHead, ReadsRequest}
 use Rattle.httparse.specs.Spans.{name_and_value}
 use Rattle.flash_http.specs.declared.requests.Part.{Part}
@@ -8,7 +9,7 @@ use Rattle.flash_http.specs.declared.requests.Asked.{Asked}
 use Rattle.flash_http.specs.declared.requests.Asked.TheVariants as asked
 use Rattle.flash_http.specs.declared.heads.TheConstants.{MAX_FIELDS}
 use Rattle.flash_http.specs.Fields.{Field, one_range, has_one_host, has_content, asks_to_close, is_served_method, is_known_method}
-use Rattle.flash_http.specs.Target.{TargetIs}
+use Rattle.flash_http.specs.Target.{TargetIs, has_fragment, segments, is_dot_segment}
 use Rattle.flash_http.specs.Range.{part_of_value}
 use Rattle.flash_http.specs.MediaType.{is_script}
 
@@ -70,18 +71,18 @@ is_head_only r = bytes_eq r.method (codes "HEAD")
 abbrev pub closes : Reading → Bool
 closes r = r.minor == 0 || asks_to_close r.fields
 
--- HTTP/1.0 knows no Host (RFC 9112, section 3.2)
+-- HTTP/1.1 wants exactly one (RFC 9112, section 3.2); with HTTP/1.0 the field is not looked at
 abbrev pub is_host_fine : Reading → Bool
 is_host_fine r = r.minor == 0 || has_one_host r.fields
 
 -- 400 Bad Request, after which the connection closes
-abbrev pub bad : Reading → Answer
-bad r = refuse 400 (is_head_only r) true
+abbrev pub bad_request : Reading → Answer
+bad_request r = refuse 400 (is_head_only r) true
 
 -- what the fields and the method refuse: 400, 405 Method Not Allowed or 501 Not Implemented
 abbrev pub refusal : Reading → Option Answer
 refusal r =
-    if not (is_host_fine r) || has_content r.fields then Some (bad r)
+    if not (is_host_fine r) || has_content r.fields then Some (bad_request r)
     else (if is_served_method r.method then None
     else Some (refuse (if is_known_method r.method then 405 else 501) (is_head_only r) (closes r)))
 
@@ -93,7 +94,7 @@ range_of r name =
 -- ---- all of it
 
 abbrev pub served : Reading → Option (List ℕ × List ℕ) → Answer
-served r None = bad r
+served r None = bad_request r
 served r (Some file) = serve (record {
   head_only = is_head_only r;
   name = file.0;
@@ -114,10 +115,25 @@ Asks (Some r) a =
 abbrev pub IsAnswerTo : List ℕ → Answer → Type 0
 IsAnswerTo bytes a = (reading : Option Reading) × Reads bytes reading × Asks reading a
 
--- a head whose target is looked at, since its fields and its method refuse nothing
+-- a head whose target is to be read: its fields and its method refuse nothing, and the target has no fragment
 abbrev pub LooksAtTarget : List ℕ → Type 0
-LooksAtTarget bytes = (reading : Reading) × Reads bytes (Some reading) × (refusal reading ≡ None)
+LooksAtTarget bytes =
+    (reading : Reading) × Reads bytes (Some reading) × (refusal reading ≡ None) × (has_fragment reading.target ≡ false)
 
 -- a head has one answer
 abbrev pub OneAnswer : Type 0
 OneAnswer = (head : List ℕ) (a b : Answer) → IsAnswerTo head a → IsAnswerTo head b → a ≡ b
+
+-- a name is not empty, has no NUL, and none of its parts between slashes is `.` or `..`
+pub record IsPlainName (name : List ℕ) : Type 0 where
+  pub some : name ≢ []
+  pub no_nul : list_any (λ b. b == 0) name ≡ false
+  pub no_dots : list_any is_dot_segment (segments name) ≡ false
+
+-- whatever the head, a file that is served has a plain name
+abbrev pub NamesArePlain : Type 0
+NamesArePlain = (head : List ℕ) (w : Wanted) → IsAnswerTo head (serve w) → IsPlainName w.name
+
+-- whatever the head, a connection on which no chunks may be sent closes
+abbrev pub ClosesWithoutChunks : Type 0
+ClosesWithoutChunks = (head : List ℕ) (w : Wanted) → IsAnswerTo head (serve w) → w.chunked ≡ false → w.keep ≡ false

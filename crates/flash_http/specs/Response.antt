@@ -1,5 +1,5 @@
 -- The head of an answer, and the body of a refusal (RFC 9110; RFC 9112, sections 4 to 6: a line ends with CR LF).
-use Rattle.std.specs.Prelude.{ℕ, ◌+◌, ◌-◌, ◌==◌, Bool, List, [], ◌++◌, length, codes, decimal, Option, Some, None, if◌then◌else◌}
+use Rattle.std.specs.Prelude.{ℕ, ◌+◌, ◌-◌, ◌==◌, ◌||◌, not, Bool, List, [], ◌++◌, length, codes, decimal, Option, Some, None, if◌then◌else◌}
 use Rattle.http.specs.StatusCode.{status_text}
 use Rattle.flash_http.specs.declared.names.MediaType.{MediaType}
 use Rattle.flash_http.specs.declared.names.MediaType.TheVariants.{PlainText}
@@ -76,12 +76,13 @@ file_head media (select.Bytes first last) len close = record {
 }
 file_head media select.Unsatisfiable len close = record (refusal_head 416 close) { range = Some (Unsatisfied len) }
 
--- of a script, whose output is text of unknown length: in chunks, or up to the close of the connection
+-- of a script, whose output is text of unknown length: in chunks, or up to the close of the connection, which it then
+-- tells (RFC 9112, section 6.3)
 abbrev pub script_head : (chunked close : Bool) → ResponseHead
 script_head chunked close = record {
   status = 200;
   media_type = PlainText;
   framing = (if chunked then Chunked else UntilClose);
   range = None;
-  close = close;
+  close = close || not chunked;
 }

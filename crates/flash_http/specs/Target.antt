@@ -14,23 +14,27 @@ is_served_form target None None = not (bytes_eq target (codes "*"))
 is_served_form target None (Some authority) = false
 is_served_form target (Some scheme) authority = bytes_eq scheme (codes "http") || bytes_eq scheme (codes "https")
 
+-- the target has a `#`, which no request target may have (RFC 9112, section 3.2)
+abbrev pub has_fragment : (target : List ℕ) → Bool
+has_fragment target = list_any (λ b. b == 35) target
+
 -- the target spells this URI, which is of such a form and has no fragment
 pub record IsServedUri (target : List ℕ) (uri : Uri) : Type 0 where
-  pub no_fragment : list_any (λ b. b == 35) target ≡ false
+  pub no_fragment : has_fragment target ≡ false
   pub spells : Spells target uri
   pub form : is_served_form target (uri_scheme uri) (uri_authority uri) ≡ true
 
 -- ---- the path (RFC 3986, sections 2.1 and 3.3)
 
-abbrev pub begins_with_digits : List ℕ → Bool
-begins_with_digits [] = false
-begins_with_digits (high ∷ []) = false
-begins_with_digits (high ∷ low ∷ bytes) = is_ascii_hexdigit high && is_ascii_hexdigit low
+abbrev pub begins_with_hex_digits : List ℕ → Bool
+begins_with_hex_digits [] = false
+begins_with_hex_digits (high ∷ []) = false
+begins_with_hex_digits (high ∷ low ∷ bytes) = is_ascii_hexdigit high && is_ascii_hexdigit low
 
 -- each `%` stands before two hexadecimal digits
 abbrev pub is_escaped : List ℕ → Bool
 is_escaped [] = true
-is_escaped (b ∷ bytes) = (not (b == 37) || begins_with_digits bytes) && is_escaped bytes
+is_escaped (b ∷ bytes) = (not (b == 37) || begins_with_hex_digits bytes) && is_escaped bytes
 
 -- the text between the slashes of a path
 abbrev pub segments : List ℕ → List (List ℕ)
@@ -78,7 +82,7 @@ abbrev pub TargetIs : (target : List ℕ) → Option (List ℕ × List ℕ) → 
 TargetIs target None = (name query : List ℕ) → Names target name query → ⊥
 TargetIs target (Some file) = Names target file.0 file.1
 
--- ---- the same of its steps
+-- ---- the same in two steps: the URI of the target, and the name of its path
 
 abbrev pub UriIs : (target : List ℕ) → Option Uri → Type 0
 UriIs target None = (uri : Uri) → IsServedUri target uri → ⊥

@@ -6,7 +6,7 @@ use Rattle.flash_http.specs.declared.windows.TheConstants.{MAX_HEAD_BYTES}
 
 -- ---- lines (RFC 9112, section 2.2: a line feed ends a line, with or without a carriage return before it)
 
--- the whole lines of the bytes, each without its line feed; begun is what has come of the first
+-- the whole lines of the bytes, each without its line feed; `begun` is the part of the first that came before
 abbrev pub lines_from : (begun : List ℕ) → List ℕ → List (List ℕ)
 lines_from begun [] = []
 lines_from begun (b ∷ bytes) = if b == 10 then begun ∷ lines_from [] bytes else lines_from (begun ++ b ∷ []) bytes

@@ -1,7 +1,8 @@
 //! What a head asks for.
-ghost use Rattle.std.specs.Prelude.{◌≡◌, ◌≤◌, true, Some, None, IfOk, OnErr, length, option_map};
+ghost use Rattle.std.specs.Prelude.{◌≡◌, ◌≤◌, true, false, Some, None, IfOk, OnErr, length, option_map};
 ghost use Rattle.httparse.specs.Spans.{IsRequestWithin, IsRequestOf};
 ghost use Rattle.flash_http.specs.Request as spec;
+ghost use Rattle.flash_http.specs.Target.{has_fragment};
 ghost use Rattle.flash_http.specs.Views.{reading};
 
 use crate::fields::Fields;
@@ -27,7 +28,7 @@ pub(crate) struct Parsed<'a> {
     pub(crate) fields: Fields<'a>,
 }
 
-fn bad(head_only: bool) -> Asked
+fn bad_request(head_only: bool) -> Asked
     ensures { spec.answer result ≡ spec.refuse 400 head_only true }
 {
     Asked::Refuse {
@@ -56,7 +57,7 @@ impl Parsed<'_> {
     {
         let head_only = is_head_only(self.method);
         if !self.is_host_fine() || self.fields.has_content() {
-            return Some(bad(head_only));
+            return Some(bad_request(head_only));
         }
         if is_served_method(self.method) {
             return None;
@@ -87,13 +88,14 @@ impl Parsed<'_> {
         ensures answer { IfOk result
             (λ asked. spec.Asks (Some (reading self.now)) (spec.answer asked)) }
         ensures memory { OnErr result (spec.refusal (reading self.now) ≡ None) }
+        ensures fragment { OnErr result (has_fragment self.now.target.now ≡ false) }
     {
         if let Some(refusal) = self.refusal() {
             return Ok(refusal);
         }
         let head_only = is_head_only(self.method);
         let Some(file) = file_of(alloc, self.target)? else {
-            return Ok(bad(head_only));
+            return Ok(bad_request(head_only));
         };
         let range = self.range_of(&file.name);
         Ok(Asked::Serve(Request {
@@ -126,7 +128,8 @@ fn parts_of<'a>(head: &'a [u8], found: RequestSpans, spans: &'a [HeaderSpan]) ->
 /// Says what a head asks for: `head` is the whole head, from its first line to the empty line at its end.
 ///
 /// It follows RFC 9110, RFC 9112 and RFC 3986 by the profile of docs/HTTP.md. Memory is wanted for the target alone, and
-/// only where the fields and the method refuse nothing. Where it is refused, the same call again gives the answer.
+/// only where the fields and the method refuse nothing and the target has no `#`. Where it is refused, the same call may
+/// be made again.
 pub fn read_head(alloc: Global, head: &[u8]) -> Result<Asked, AllocError>
     ensures answer { IfOk result (λ asked. spec.IsAnswerTo head.now (spec.answer asked)) }
     ensures memory { OnErr result (spec.LooksAtTarget head.now) }
@@ -136,11 +139,18 @@ pub fn read_head(alloc: Global, head: &[u8]) -> Result<Asked, AllocError>
         Ok(Status::Complete(found)) if found.len == head.len() => {
             parts_of(head, found, &spans).ask(alloc)
         }
-        _ => Ok(bad(false)),
+        _ => Ok(bad_request(false)),
     }
 }
 
 /// A head has one answer. A law: the call does nothing.
 pub fn one_answer()
     ensures { spec.OneAnswer }
+{}
+
+/// What is served, whatever the head: its name is plain, and where no chunks may be sent the connection closes. A law:
+/// the call does nothing.
+pub fn served_requests()
+    ensures names { spec.NamesArePlain }
+    ensures closes { spec.ClosesWithoutChunks }
 {}

@@ -2,9 +2,10 @@
 //!
 //! `window` and `window_of` find the next head, whatever pieces the stream comes in; a window that was found stays
 //! (`window_stays`). `read_head` says what a head asks for, by RFC 9110, RFC 9112 and the profile of docs/HTTP.md; a head
-//! has one answer (`one_answer`). `select` says what is sent of a file, `ResponseHead` writes the head of an answer,
-//! `error_body` the body of a refusal, `chunk_head` the line before a chunk. Bytes in, text out: nothing here waits,
-//! reads or writes, and where memory is refused the same call again gives the answer.
+//! has one answer (`one_answer`), and a name that is served has no dot segment (`served_requests`). `select` says what is
+//! sent of a file, `ResponseHead` writes the head of an answer, `error_body` the body of a refusal, `chunk_head` the line
+//! before a chunk. Bytes in, text out: nothing here waits, reads or writes, and where memory is refused the same call
+//! may be made again.
 //!
 //! `let Window::Head { skip, len } = window_of(stream) else { .. }; read_head(alloc, &stream[skip..skip + len])?`
 #![tactic(auto)]
@@ -22,7 +23,7 @@ mod targets;
 mod windows;
 
 pub use chunks::{CHUNK_END, LAST_CHUNK, chunk_head};
-pub use heads::{MAX_FIELDS, one_answer, read_head};
+pub use heads::{MAX_FIELDS, one_answer, read_head, served_requests};
 pub use names::MediaType;
 pub use ranges::{Selection, select};
 pub use requests::{Asked, Part, Request};

@@ -16,7 +16,7 @@ pub struct Request {
     /// Whether the answer has no body: the method is HEAD.
     pub head_only: bool,
     /// The file's name: the decoded path without its first slash, or `index.html`. It has no NUL, and none of its parts
-    /// between slashes is `.` or `..`.
+    /// between slashes is `.` or `..` (`served_requests`). It begins with a slash where the path has two.
     pub name: String,
     /// The text after the question mark as it came, or no text.
     pub query: String,

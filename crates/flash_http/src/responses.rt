@@ -172,7 +172,8 @@ impl ResponseHead {
         }
     }
 
-    /// The head for a script's output, which comes in chunks or up to the close of the connection.
+    /// The head for a script's output, which comes in chunks, or up to the close of the connection: the head then says
+    /// that it closes.
     pub fn of_script(chunked: bool, close: bool) -> ResponseHead
         ensures { result ≡ spec.script_head chunked close }
     {
@@ -185,11 +186,11 @@ impl ResponseHead {
                 Framing::UntilClose
             },
             range: None,
-            close,
+            close: close || !chunked,
         }
     }
 
-    /// The text of the head, the empty line at its end among it. For want of memory the same call again gives it.
+    /// The text of the head, the empty line at its end among it. Where memory is refused, the same call may be made again.
     pub fn to_text(&self, alloc: Global) -> Result<String, AllocError>
         ensures { IfOk result (λ text. string_bytes text ≡ spec.head_text self.now) }
     {

@@ -1,5 +1,5 @@
 //! Which file a request target names.
-ghost use Rattle.std.specs.Prelude.{◌≡◌, ◌==◌, IfOk, option_map, string_bytes};
+ghost use Rattle.std.specs.Prelude.{◌≡◌, ◌==◌, false, IfOk, OnErr, option_map, string_bytes};
 ghost use Rattle.std.specs.List.{list_any};
 ghost use Rattle.http_uri.specs.Uri.{uri_scheme, uri_authority};
 ghost use Rattle.flash_http.specs.Target as spec;
@@ -34,7 +34,8 @@ fn is_served_form(target: &[u8], uri: &Uri) -> bool
 }
 
 fn uri_of(alloc: Global, target: &[u8]) -> Result<Option<Uri>, AllocError>
-    ensures { IfOk result (spec.UriIs target.now) }
+    ensures uri { IfOk result (spec.UriIs target.now) }
+    ensures memory { OnErr result (spec.has_fragment target.now ≡ false) }
 {
     if has_byte(target, b'#') {
         return Ok(None);
@@ -47,8 +48,8 @@ fn uri_of(alloc: Global, target: &[u8]) -> Result<Option<Uri>, AllocError>
     }
 }
 
-fn begins_with_digits(bytes: &[u8]) -> bool
-    ensures { result ≡ spec.begins_with_digits bytes.now }
+fn begins_with_hex_digits(bytes: &[u8]) -> bool
+    ensures { result ≡ spec.begins_with_hex_digits bytes.now }
 {
     match bytes {
         [high, low, ..] => high.is_ascii_hexdigit() && low.is_ascii_hexdigit(),
@@ -61,7 +62,7 @@ fn is_escaped(mut bytes: &[u8]) -> bool
     ensures { result ≡ spec.is_escaped bytes.now }
 {
     while let [first, rest @ ..] = bytes {
-        if *first == b'%' && !begins_with_digits(rest) {
+        if *first == b'%' && !begins_with_hex_digits(rest) {
             return false;
         }
         bytes = rest;
@@ -129,7 +130,8 @@ fn query_of(uri: &Uri) -> &str
 
 // The file that a target names, if it names one.
 pub(crate) fn file_of(alloc: Global, target: &[u8]) -> Result<Option<File>, AllocError>
-    ensures { IfOk result (λ file. spec.TargetIs target.now (option_map texts file)) }
+    ensures file { IfOk result (λ file. spec.TargetIs target.now (option_map texts file)) }
+    ensures memory { OnErr result (spec.has_fragment target.now ≡ false) }
 {
     let Some(uri) = uri_of(alloc, target)? else {
         return Ok(None);

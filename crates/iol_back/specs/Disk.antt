@@ -27,7 +27,7 @@ last_failure = 2 ^ 64 - 1
 abbrev pub raised : ℕ → ℕ
 raised n = min (n + 1) last_failure
 
--- a call that counted no failure; the store still answers
+-- a call that did not fail: the count stays, and had not reached its last
 abbrev pub Succeeds : (old new : Disk) → Type 0
 Succeeds old new = (new.failures ≡ old.failures) × (old.failures < last_failure)
 

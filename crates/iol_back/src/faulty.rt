@@ -72,13 +72,17 @@ impl<B: Backing> Backing for FaultyBacking<B> {
         ensures read { let old = disk_over B.disk self.old in
             IfHonest old (OnOk result (Reads at (content old.slots file) into.old into.new)) }
 
-        // The call that is due fails and reads nothing; any other fails where the store below does.
+        // The call that is due fails and reads nothing; any other fails where the store below does. That one is not
+        // asked any more once this store failed too often.
         ensures calls { calls_to_fault self.new ≡ calls_to_fault self.old - 1 }
         ensures due { calls_to_fault self.old ≡ 1 → IsErr result }
         ensures unread { calls_to_fault self.old ≡ 1 → inner_of self.new ≡ inner_of self.old }
         ensures passed { let old = self.old in
             calls_to_fault old ≢ 1 → (disk_over B.disk old).failures < last_failure →
             Counts (B.disk (inner_of old)) (B.disk (inner_of self.new)) result }
+        ensures worn { let old = self.old in
+            calls_to_fault old ≢ 1 → (disk_over B.disk old).failures ≡ last_failure →
+            inner_of self.new ≡ inner_of old }
     {
         let due = self.count_call();
         if due || self.failed == u64::MAX || self.inner.read_at(file, at, into).is_err() {
@@ -101,7 +105,7 @@ impl<B: Backing> Backing for FaultyBacking<B> {
             IfHonest old (OnErr result (Tears at n (content old.slots file) (content new.slots file))) }
 
         // The call that is due fails after the store below took half of the bytes; any other fails
-        // where that does.
+        // where that does. That one is not asked any more once this store failed too often.
         ensures calls { calls_to_fault self.new ≡ calls_to_fault self.old - 1 }
         ensures due { calls_to_fault self.old ≡ 1 → IsErr result }
         ensures half { let old = B.disk (inner_of self.old) in
@@ -112,6 +116,9 @@ impl<B: Backing> Backing for FaultyBacking<B> {
         ensures passed { let old = self.old in
             calls_to_fault old ≢ 1 → (disk_over B.disk old).failures < last_failure →
             Counts (B.disk (inner_of old)) (B.disk (inner_of self.new)) result }
+        ensures worn { let old = self.old in
+            calls_to_fault old ≢ 1 → (disk_over B.disk old).failures ≡ last_failure →
+            inner_of self.new ≡ inner_of old }
     {
         let due = self.count_call();
         if due {

@@ -109,13 +109,14 @@ impl Slots {
         self.lists[number - 1].as_slice()
     }
 
-    /// Puts bytes at the end of a file. Refused, it changes nothing.
+    /// Puts bytes at the end of a file. Refused, it changes nothing; no bytes want no memory.
     pub fn append(&mut self, file: FileId, bytes: &[u8]) -> Result<(), AllocError>
         requires { IsSlot file }
         ensures appended { let old = content self.old file in
             OnOk result (content self.new file ≡ old ++ bytes.now) }
         ensures others { OthersStay file self.old self.new }
         ensures err { OnErr result (content self.new file ≡ content self.old file) }
+        ensures nothing { length bytes.now ≡ 0 → IsOk result }
     {
         let end = self.bytes(file).len();
         self.overwrite(file, end, bytes)

@@ -15,7 +15,7 @@ pub record Ranking : Type 0 where
   pub entries : List Entry
   pub room : ℕ
 
--- how far above L an entry begins: its cost by its size, in units of 2^-24
+-- how far above L an entry begins: its cost divided by its size in bytes, in units of 2^-24
 abbrev pub worth : (size cost : ℕ) → ℕ
 worth size cost = cost * 2 ^ 24 / size
 
@@ -52,7 +52,7 @@ set_at file at height e = if is_at e file at then record e { height = height } e
 abbrev pub with_height : List Entry → (file at height : ℕ) → List Entry
 with_height es file at height = map (set_at file at height) es
 
--- an entry comes in, its cost by its size above L
+-- an entry comes in, its worth above L
 abbrev pub entered : Ranking → (file at size cost : ℕ) → Ranking
 entered r file at size cost =
     let e : Entry = record { file = file; at = at; size = size; cost = cost; height = r.low + worth size cost } in

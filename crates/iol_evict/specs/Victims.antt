@@ -10,7 +10,7 @@ pub record KeyLe (a b : Entry) : Type 0 where
   pub file : a.height ≡ b.height → a.file ≤ b.file
   pub at : a.height ≡ b.height → a.file ≡ b.file → a.at ≤ b.at
 
--- those that are not in use before those that are, and then by the key
+-- those that are not in use before those that are, and then by height, file and place
 abbrev pub Precedes : (in_use : ℕ → ℕ → Bool) → (a b : Entry) → Type 0
 Precedes in_use a b =
     ((in_use a.file a.at ≡ false) × (in_use b.file b.at ≡ true))

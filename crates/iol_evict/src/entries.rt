@@ -1,5 +1,5 @@
 //! Entries, found by place and by height.
-ghost use Rattle.std.specs.Prelude.{◌≡◌, ◌≢◌, ℕ, ◌+◌, ◌-◌, ◌<◌, ◌≤◌, [], All, Some, None, MatchOption, OnOk, OnErr, length, map, vec_len, vec_capacity};
+ghost use Rattle.std.specs.Prelude.{◌≡◌, ◌≢◌, ℕ, ◌+◌, ◌-◌, ◌<◌, ◌≤◌, [], All, Some, None, MatchOption, OnOk, OnErr, IsOk, length, map, vec_len, vec_capacity};
 ghost use Rattle.slab.specs.Slab.{get, ContainsKey, Updates, HasRoomFor, slab_len, SameValues};
 ghost use Rattle.iol_evict.specs.Indexes.{entry_of, AreLive, IsRising, IsIndexed, Lowers};
 ghost use Rattle.iol_evict.specs.Ranking.{Table, entry_at, entry_or, put_in, without, with_height, lowered_by};
@@ -101,6 +101,7 @@ impl Entries {
         ensures entries { self.new.entries ≡ self.old.entries }
         ensures no_less { self.old.room ≤ self.new.room }
         ensures err { OnErr result (self.new.room ≡ self.old.room) }
+        ensures succeeds { count ≤ self.old.room → IsOk result }
     {
         if count <= self.room {
             return Ok(());

@@ -1,5 +1,5 @@
 //! The order in which parts of files are evicted.
-ghost use Rattle.std.specs.Prelude.{◌≡◌, ◌≢◌, ℕ, ◌+◌, ◌-◌, ◌*◌, ◌/◌, ◌^◌, ◌<◌, ◌≤◌, [], All, true, false, None, MatchOption, OnOk, OnErr};
+ghost use Rattle.std.specs.Prelude.{◌≡◌, ◌≢◌, ℕ, ◌+◌, ◌-◌, ◌*◌, ◌/◌, ◌^◌, ◌<◌, ◌≤◌, [], All, true, false, None, MatchOption, OnOk, OnErr, IsOk};
 ghost use Rattle.iol_evict.specs.Ranking.{Ranking, worth, entry_at, entry_or, entered, hit_at, left_at, evicted_at};
 ghost use Rattle.iol_evict.specs.Victims.{IsVictim};
 
@@ -54,12 +54,14 @@ impl Order {
         }
     }
 
-    /// Makes room for so many entries more. Refused, it leaves the room that there was.
+    /// Makes room for so many entries more. Where there is as much already, it wants no memory. Refused, it leaves the
+    /// room that there was.
     pub fn reserve(&mut self, count: usize) -> Result<(), AllocError>
         ensures room { OnOk result (count ≤ self.new.room) }
         ensures same { self.new ≡ record self.old { room = self.new.room } }
         ensures no_less { self.old.room ≤ self.new.room }
         ensures err { OnErr result (self.new.room ≡ self.old.room) }
+        ensures succeeds { count ≤ self.old.room → IsOk result }
     {
         self.entries.reserve(count)?;
         Ok(())
@@ -93,7 +95,8 @@ impl Order {
         self.entries.set_height(file, at, height);
     }
 
-    /// Takes an entry out. Where it was evicted, L becomes the height that it had, and past 2^62 all heights are lowered.
+    /// Takes an entry out. Where it was evicted, L becomes the height that it had; past 2^62, L is taken from every height
+    /// and from itself.
     pub fn leave(&mut self, file: FileId, at: u32, evicted: bool)
         requires { entry_at self.old.entries file at ≢ None }
         ensures left { evicted ≡ false → self.new ≡ left_at self.old file at }

@@ -1,4 +1,4 @@
--- Sums that are remembered, the one that was used last first.
+-- Sums that are remembered, the most recently used first.
 use Rattle.std.specs.Prelude.{◌≡◌, ℕ, ◌+◌, ◌-◌, ◌<◌, ◌≤◌, ◌⊎◌, Bool, nat_eq, ◌&&◌, if◌then◌else◌, Option, None, is_some, List, [], ◌∷◌, length, take, slice_range}
 use Rattle.std.specs.List.{All, IsDistinct}
 use Rattle.std.specs.Map.{keys_of, lookup, remove_entry}
@@ -47,7 +47,7 @@ pub record IsRight (s : State) (c : Sums) : Type 0 where
   pub fits : length c.entries ≤ c.limit
   pub some : 0 < c.limit
 
--- the entries that stay behind the one that is used: the others, or for a new key all but the last of a full list
+-- the entries after the one that is used: the others, or for a new key all but the last of a full list
 abbrev pub others : Sums → Key → List (Key × ℕ)
 others c k = if is_some (sum_kept c k) then remove_entry (same k) c.entries else take (c.limit - 1) c.entries
 
@@ -55,7 +55,7 @@ others c k = if is_some (sum_kept c k) then remove_entry (same k) c.entries else
 abbrev pub used : Sums → Key → (sum : ℕ) → Sums
 used c k n = record { entries = (k, n) ∷ others c k; limit = c.limit }
 
--- the sum was used, or its key is new and memory was refused
+-- The sum was used, or its key is new and nothing changed, for want of memory. That it is for nothing else is not said.
 abbrev pub Uses : (old : Sums) → Key → (sum : ℕ) → (new : Sums) → Type 0
 Uses old k n new = (new ≡ used old k n) ⊎ ((new ≡ old) × (sum_kept old k ≡ None))
 

@@ -15,7 +15,7 @@ use std::alloc::{AllocError, Global};
 use std::marker::Model;
 use std::num::NonZeroUsize;
 
-/// The folded sums of the slices that were used last, by their keys.
+/// The folded sums of the most recently used slices, by their keys.
 #[derive(Drop)]
 pub struct SumCache {
     sums: LruCache<Key, u16>,

@@ -39,3 +39,7 @@ script_until_close : head_text (script_head false true)
     ≡ codes "HTTP/1.1 200 OK\r\nContent-Type: text/plain\r\nConnection: close\r\n\r\n"
 unfolding digits allow_line connection_line
 script_until_close = refl
+
+-- a body that ends with the connection is never sent without a close
+script_closes : script_head false false ≡ script_head false true
+script_closes = refl

@@ -30,3 +30,8 @@ name_in_a_folder = refl
 decoded_once : file_name (codes "/%252e") ≡ codes "%2e"
 unfolding percent_decode
 decoded_once = refl
+
+-- one slash is taken away, and no more
+two_slashes : file_name (codes "//a") ≡ codes "/a"
+unfolding percent_decode
+two_slashes = refl
