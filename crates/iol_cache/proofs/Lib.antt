@@ -1,0 +1,5 @@
+pub mod Marking
+pub mod Pinning
+pub mod Rooming
+pub mod Filing
+pub mod Using

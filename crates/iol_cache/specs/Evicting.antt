@@ -1,0 +1,59 @@
+-- Clean extents that go, one after another.
+use Rattle.std.specs.Prelude.{◌≡◌, ℕ, ◌<◌, Bool, false, List, [], ◌∷◌, length, Option, Some, None}
+use Rattle.std.specs.List.{list_any}
+use Rattle.iol_hold.specs.Stored.{Stored, AllSettled}
+use Rattle.iol_hold.specs.Moves.{Moves, SameLists}
+use Rattle.iol_hold.specs.Releases.{FreesOnly}
+use Rattle.iol_hold.specs.Room.{free_of}
+use Rattle.iol_hold.specs.Texts.{bufs_of}
+use Rattle.iol_extent.specs.Extents.{Extent, begins_at}
+use Rattle.iol_evict.specs.Victims.{IsVictim}
+use Rattle.iol_cache.specs.declared.files.CachedFile.{CachedFile}
+use Rattle.iol_cache.specs.Marks.{is_held_beside}
+use Rattle.iol_cache.specs.Cached.{Cached, file_in, extents_in, order_in, parts_at, clean_held, without_extent, with_evicted}
+
+-- a store, and a cache over it
+pub record Holding : Type 0 where
+  pub store : Stored
+  pub cache : Cached
+
+-- whether a buffer of the extent that begins there is held by anything but clean extents
+unfoldable pub in_use : Stored → List CachedFile → (f at : ℕ) → Bool
+in_use s fs f at = list_any (λ x. is_held_beside s (clean_held fs) x.hold.buf) (parts_at fs f at)
+
+-- the clean extent that begins at a place of a file
+pub record IsCleanAt (fs : List CachedFile) (f at : ℕ) : Type 0 where
+  pub extent : Extent
+  pub begins : begins_at (extents_in fs f) at ≡ Some extent
+  pub clean : extent.dirty ≡ false
+
+-- a clean extent is evicted: its slices are released, and nothing else changes
+pub record Evicts (f at : ℕ) (old new : Holding) : Type 0 where
+  pub there : IsCleanAt old.cache.files f at
+  pub files : new.cache.files ≡ without_extent old.cache.files f at
+  pub orders : new.cache.orders ≡ with_evicted old.cache.orders (file_in old.cache.files f).pool f at
+  pub moves : Moves old.store new.store (bufs_of (parts_at old.cache.files f at)) []
+  pub frees : FreesOnly old.store new.store
+  pub lists : SameLists old.store new.store
+  pub settles : AllSettled old.store → AllSettled new.store
+
+-- fewer pages of the pool are free than wanted, if a number of them is wanted
+abbrev pub IsWanted : (pool : ℕ) → (wanted : Option ℕ) → Stored → Type 0
+IsWanted p None s = Unit {0}
+IsWanted p (Some n) s = length (free_of s p) < n
+
+-- the extent that goes first of those of the pool's files
+pub record EvictsNext (p : ℕ) (wanted : Option ℕ) (place : ℕ × ℕ) (old new : Holding) : Type 0 where
+  pub wants : IsWanted p wanted old.store
+  pub pool : (file_in old.cache.files place.0).pool ≡ p
+  pub first : IsVictim (in_use old.store old.cache.files) (order_in old.cache.orders p).entries place
+  pub evicts : Evicts place.0 place.1 old new
+
+-- extents of the pool's files that were evicted, the last first, each as long as pages are wanted
+abbrev pub AreEvicted : (p : ℕ) → (wanted : Option ℕ) → List (ℕ × ℕ) → (old new : Holding) → Type 0
+AreEvicted p wanted [] old new = new ≡ old
+AreEvicted p wanted (v ∷ earlier) old new = (mid : Holding) × AreEvicted p wanted earlier old mid × EvictsNext p wanted v mid new
+
+pub record EvictsAll (p : ℕ) (wanted : Option ℕ) (old new : Holding) : Type 0 where
+  pub places : List (ℕ × ℕ)
+  pub each : AreEvicted p wanted places old new

@@ -1,0 +1,10 @@
+//! Files over a backing store, and the unified cache of their bytes.
+#![tactic(auto)]
+
+mod cache;
+mod evicting;
+mod files;
+mod marks;
+mod users;
+
+pub use cache::Cache;
