@@ -61,6 +61,9 @@ pub file_at : (fs : List CachedFile) (f : ℕ) (x : CachedFile) → 0 < f → f 
 unfolding file_in
 file_at fs f x h k is = numbered_at fs f x no_file h k is
 
+pub file_at_number : (fs : List CachedFile) (f n : ℕ) (x : CachedFile) → n ≡ f → (0 < f) × (f ≤ length fs) → x ≡ get_or fs (n - 1) x → x ≡ file_in fs f
+file_at_number fs f n x is bounds at = file_at fs f x bounds.0 bounds.1 (at ∙ ap (λ m. get_or fs (m - 1) x) is)
+
 pub file_set : (fs : List CachedFile) (f : ℕ) (x : CachedFile) → 0 < f → set fs (f - 1) x ≡ with_file fs f x
 unfolding with_file
 file_set fs f x h = set_numbered fs f x h
@@ -93,6 +96,9 @@ order_other os p q x ne = numbered_other os p q x no_order ne
 pub order_at : (os : List ranking.Ranking) (p : ℕ) (x : ranking.Ranking) → 0 < p → p ≤ length os → x ≡ get_or os (p - 1) x → x ≡ order_in os p
 unfolding order_in
 order_at os p x h k is = numbered_at os p x no_order h k is
+
+pub order_at_number : (os : List ranking.Ranking) (p n : ℕ) (x : ranking.Ranking) → n ≡ p → (0 < p) × (p ≤ length os) → x ≡ get_or os (n - 1) x → x ≡ order_in os p
+order_at_number os p n x is bounds at = order_at os p x bounds.0 bounds.1 (at ∙ ap (λ m. get_or os (m - 1) x) is)
 
 pub order_set : (os : List ranking.Ranking) (p : ℕ) (x : ranking.Ranking) → 0 < p → set os (p - 1) x ≡ with_order os p x
 unfolding with_order

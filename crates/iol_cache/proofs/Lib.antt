@@ -3,3 +3,7 @@ pub mod Pinning
 pub mod Rooming
 pub mod Filing
 pub mod Using
+pub mod Extending
+pub mod Ranked
+pub mod Evicted
+pub mod GivenUp

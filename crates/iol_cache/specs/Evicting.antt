@@ -2,7 +2,7 @@
 use Rattle.std.specs.Prelude.{◌≡◌, ℕ, ◌<◌, Bool, false, List, [], ◌∷◌, length, Option, Some, None}
 use Rattle.std.specs.List.{list_any}
 use Rattle.iol_hold.specs.Stored.{Stored, AllSettled}
-use Rattle.iol_hold.specs.Moves.{Moves, SameLists}
+use Rattle.iol_hold.specs.Moves.{Moves, Counts, SameLists}
 use Rattle.iol_hold.specs.Releases.{FreesOnly}
 use Rattle.iol_hold.specs.Room.{free_of}
 use Rattle.iol_hold.specs.Texts.{bufs_of}
@@ -10,7 +10,8 @@ use Rattle.iol_extent.specs.Extents.{Extent, begins_at}
 use Rattle.iol_evict.specs.Victims.{IsVictim}
 use Rattle.iol_cache.specs.declared.files.CachedFile.{CachedFile}
 use Rattle.iol_cache.specs.Marks.{is_held_beside}
-use Rattle.iol_cache.specs.Cached.{Cached, file_in, extents_in, order_in, parts_at, clean_held, without_extent, with_evicted}
+use Rattle.iol_cache.specs.Contents.{Mirrors, SameFiles}
+use Rattle.iol_cache.specs.Cached.{Cached, file_in, extents_in, order_in, parts_at, held, clean_held, without_extent, with_evicted}
 
 -- a store, and a cache over it
 pub record Holding : Type 0 where
@@ -57,3 +58,13 @@ AreEvicted p wanted (v ∷ earlier) old new = (mid : Holding) × AreEvicted p wa
 pub record EvictsAll (p : ℕ) (wanted : Option ℕ) (old new : Holding) : Type 0 where
   pub places : List (ℕ × ℕ)
   pub each : AreEvicted p wanted places old new
+
+-- What evictions leave, whichever they were: slices of clean extents were released, and every file has its bytes.
+pub record GivesUp (old new : Holding) : Type 0 where
+  pub moves : Moves old.store new.store (held old.cache.files) (held new.cache.files)
+  pub clean : Counts old.store new.store (clean_held old.cache.files) (clean_held new.cache.files)
+  pub frees : FreesOnly old.store new.store
+  pub lists : SameLists old.store new.store
+  pub settles : AllSettled old.store → AllSettled new.store
+  pub mirrors : (slots : List (List ℕ)) → Mirrors old.store slots old.cache.files → Mirrors new.store slots new.cache.files
+  pub files : (slots : List (List ℕ)) → Mirrors old.store slots old.cache.files → SameFiles old.store old.cache.files new.store new.cache.files slots

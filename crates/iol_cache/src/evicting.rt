@@ -1,1 +1,55 @@
 //! Eviction of clean extents.
+ghost use Rattle.std.specs.Prelude.{◌≡◌, ◌↔◌, ℕ, ◌+◌, ◌-◌, ◌<◌, ◌≤◌, [], length, true, false, Some, None, MatchOption, IsTrue};
+ghost use Rattle.iol_core.specs.Numbered.{is_numbered};
+ghost use Rattle.iol_pool.specs.Pools.{pool_in};
+ghost use Rattle.iol_hold.specs.Room.{pages_of, free_of};
+ghost use Rattle.iol_evict.specs.Victims.{IsVictim};
+ghost use Rattle.iol_cache.specs.Cached.{order_in, clean_held};
+ghost use Rattle.iol_cache.specs.Cache.{cached_of, holding};
+ghost use Rattle.iol_cache.specs.Evicting.{in_use, IsCleanAt, Evicts, EvictsAll, GivesUp};
+ghost use Rattle.iol_cache.specs.Pinned.{pinned_beside};
+ghost use Rattle.iol_cache.specs.Sound.{IsSound};
+
+use crate::cache::Cache;
+use crate::users::Users;
+use iol_core::numbers::{FileId, PoolId};
+use iol_hold::Store;
+
+impl Cache {
+    // The clean extent that goes first of those of the pool's files.
+    fn victim(&self, store: &Store, pool: PoolId) -> Option<(FileId, u32)>
+        requires { IsSound store.now (cached_of self.now) }
+        ensures { let entries = (order_in self.now.orders.items pool).entries in
+            MatchOption result (entries ≡ [])
+            (IsVictim (in_use store.now self.now.files.items) entries) }
+    {
+        let number = pool.number() as usize;
+        if number == 0 {
+            return None;
+        }
+        if number > self.orders.len() {
+            return None;
+        }
+        let users = Users {
+            store,
+            files: self.files.as_slice(),
+            marks: &self.marks,
+        };
+        self.orders[number - 1].least(&users)
+    }
+
+    // Evicts the clean extent of a file that begins at a place.
+    fn evict(&mut self, store: &mut Store, file: FileId, at: u32)
+        requires sound { IsSound store.old (cached_of self.old) }
+        requires clean { IsCleanAt self.old.files.items file at }
+        ensures evicts { Evicts file at (holding store.old self.old) (holding store.new self.new) }
+        ensures sound { IsSound store.new (cached_of self.new) }
+    {
+        let place = file.number() as usize - 1;
+        let pool = self.files[place].pool;
+        let agg = self.files[place].extents.remove(at);
+        self.marks.unmark(agg.slices());
+        self.orders[pool.number() as usize - 1].leave(file, at, true);
+        agg.release(store);
+    }
+}

@@ -8,6 +8,7 @@ use iol_evict::users::InUse;
 use iol_hold::Store;
 
 /// Tells whether a buffer of an extent is held by anything but clean extents.
+#[derive(Drop)]
 pub(crate) struct Users<'a> {
     pub(crate) store: &'a Store,
     pub(crate) files: &'a [CachedFile],
