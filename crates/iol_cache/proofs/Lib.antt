@@ -7,3 +7,5 @@ pub mod Extending
 pub mod Ranked
 pub mod Evicted
 pub mod GivenUp
+pub mod NoneLeft
+pub mod Choosing

@@ -52,4 +52,27 @@ impl Cache {
         self.orders[pool.number() as usize - 1].leave(file, at, true);
         agg.release(store);
     }
+
+    /// Evicts clean extents of the pool's files, those that go first, until so many pages of the pool are free. False:
+    /// there is no room for so many.
+    pub fn make_room(&mut self, store: &mut Store, pool: PoolId, pages: u32) -> bool
+        requires sound { IsSound store.old (cached_of self.old) }
+        requires open { (pool_in store.old.pools pool).closed ≡ false }
+        ensures room { let clean = clean_held (cached_of self.old).files in
+            IsTrue result ↔
+            (pinned_beside store.old clean pool + pages ≤ length (pages_of store.old pool)) }
+        ensures free { IsTrue result → pages ≤ length (free_of store.new pool) }
+        ensures victims { EvictsAll pool (Some pages) (holding store.old self.old)
+            (holding store.new self.new) }
+        ensures gives_up { GivesUp (holding store.old self.old) (holding store.new self.new) }
+        ensures sound { IsSound store.new (cached_of self.new) }
+    {
+        while store.report_pool(pool).free < pages {
+            let Some(place) = self.victim(store, pool) else {
+                return false;
+            };
+            self.evict(store, place.0, place.1);
+        }
+        true
+    }
 }
