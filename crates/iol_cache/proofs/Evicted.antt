@@ -132,6 +132,7 @@ sound_evicted old new f at sound gone unmarks =
         omega (arith, marks.each p, sound.marked.each p, less, ap (λ gs. at_page p (clean_held gs)) gone.files)) };
       pages = marks.long ∙ sound.pages ∙ sym gone.frees.count;
       ranked = subst (λ os. AreRanked new.cache.files os) (sym gone.orders) (subst (λ gs. AreRanked gs (with_evicted old.cache.orders (file_in fs f).pool f at)) (sym gone.files) (ranked_evicted fs old.cache.orders f at numbered ordered sound.ranked (sound.files f) there));
+      few_orders = omega (arith, orders, sound.few_orders);
       tidy = moves.tidy sound.tidy;
       still = moves.still sound.still;
     }

@@ -6,7 +6,11 @@ use Rattle.std.proofs.lemmas.Bool.{cases_eq}
 use Rattle.iol_core.specs.declared.numbers.BufId.{BufId}
 use Rattle.iol_back.specs.Disk.{content}
 use Rattle.iol_hold.specs.Places.{Place, byte_len}
-use Rattle.iol_hold.specs.Stored.{Stored}
+use Rattle.iol_arena.specs.State.{entry_at}
+use Rattle.iol_arena.specs.declared.pages.PageKind as kind
+use Rattle.iol_pool.specs.Pools.{Pool, pool_in}
+use Rattle.iol_hold.specs.Releases.{FreesOnly, first_page, buf_at}
+use Rattle.iol_hold.specs.Stored.{Stored, count_of}
 use Rattle.iol_hold.specs.Moves.{tally, Moves, Counts, Covers, Stays}
 use Rattle.iol_hold.specs.Texts.{bufs_of}
 use Rattle.iol_hold.specs.declared.slices.Slice.{Slice}
@@ -110,12 +114,51 @@ slot_evicted {s = s} {t = t} c f at g slots sound there stays covers all =
         subst (StaysFile s t stored (extents_in fs g)) (sym is) (file_stays (file_in fs g).pool stored (extents_in fs g) stays (subst (λ es. Covers t (bufs_of (slices_in es))) is cov) filed.laid all))
     ]
 
+-- Two steps, the second of which makes no hold.
+frees_then : {a b c : Stored} → FreesOnly a b → FreesOnly b c → ((x : BufId) → count_of c x ≤ count_of b x) → FreesOnly a c
+frees_then {a = a} {b = b} {c = c} m n fewer = record {
+  runs = λ h. n.runs (m.runs h);
+  pools = λ p is. n.pools p (ap (λ (x : Pool). x.closed) (m.pools p is) ∙ is) ∙ m.pools p is;
+  count = n.count ∙ m.count;
+  limit = n.limit ∙ m.limit;
+  raised = λ q. n.raised q ∙ m.raised q;
+  each = λ q. elim (n.each q) [
+    | inl same ↦ elim (m.each q) [ inl was ↦ inl (same ∙ was) | inr free ↦ inr (same ∙ free) ]
+    | inr free ↦ inr free
+  ];
+  freed = λ q p free some. elim (m.each q) [
+    | inl was ↦ (
+        let there = ap (λ (k : kind.PageKind). first_page k q) was ∙ some in
+        let buf : buf_at b.arena p ≡ buf_at a.arena p = λ i. (let x : BufId = record { page = p; generation = m.raised p i } in x) in
+        ap (count_of c) (sym buf) ∙ n.freed q p free there)
+    | inr gone ↦ (let z = m.freed q p gone some in omega (arith, z, fewer (buf_at a.arena p)))
+  ];
+}
+
+pub gives_up_trans : (a b c : Holding) → GivesUp a b → GivesUp b c → GivesUp a c
+gives_up_trans a b c m n = record {
+  moves = record {
+    counts = record { each = λ x. omega (arith, m.moves.counts.each x, n.moves.counts.each x) };
+    stays = stays_trans m.moves.stays n.moves.stays;
+    still = λ h. n.moves.still (m.moves.still h);
+    tidy = λ h. n.moves.tidy (m.moves.tidy h);
+  };
+  clean = record { each = λ x. omega (arith, m.clean.each x, n.clean.each x) };
+  fewer = λ x. omega (arith, m.fewer x, n.fewer x);
+  frees = frees_then m.frees n.frees n.fewer;
+  lists = n.lists ∙ m.lists;
+  settles = λ h. n.settles (m.settles h);
+  mirrors = λ slots h. n.mirrors slots (m.mirrors slots h);
+  files = λ slots h. record { each = λ f. (n.files slots (m.mirrors slots h)).each f ∙ (m.files slots h).each f };
+}
+
 -- Evictions one after another.
 
 pub gives_up_none : (h : Holding) → GivesUp h h
 gives_up_none h = record {
   moves = record { counts = record { each = λ b. refl }; stays = (moves_none h.store).stays; still = λ x. x; tidy = λ x. x };
   clean = record { each = λ b. refl };
+  fewer = λ b. omega arith;
   frees = frees_none h.store h.store refl refl (λ p o. refl);
   lists = refl;
   settles = λ x. x;
@@ -140,6 +183,7 @@ gives_up_more a b c f at m sound gone =
         tidy = λ h. moves.tidy (m.moves.tidy h);
       };
       clean = record { each = λ x. omega (arith, m.clean.each x, moves.counts.each x, tally_none x, clean_less (tally x) (additive_tally x) fs f at there.extent numbered there.begins there.clean, ap (λ gs. tally x (clean_held gs)) gone.files) };
+      fewer = λ x. omega (arith, m.fewer x, moves.counts.each x, tally_none x);
       frees = frees_trans m.frees gone.frees moves.counts;
       lists = gone.lists ∙ m.lists;
       settles = λ h. gone.settles (m.settles h);

@@ -1,7 +1,8 @@
 -- Clean extents that go, one after another.
-use Rattle.std.specs.Prelude.{◌≡◌, ℕ, ◌<◌, Bool, false, List, [], ◌∷◌, length, Option, Some, None}
+use Rattle.std.specs.Prelude.{◌≡◌, ℕ, zero, suc, ◌<◌, ◌≤◌, Bool, true, false, List, [], ◌∷◌, length, Option, Some, None}
 use Rattle.std.specs.List.{list_any}
-use Rattle.iol_hold.specs.Stored.{Stored, AllSettled}
+use Rattle.iol_core.specs.declared.numbers.BufId.{BufId}
+use Rattle.iol_hold.specs.Stored.{Stored, AllSettled, count_of}
 use Rattle.iol_hold.specs.Moves.{Moves, Counts, SameLists}
 use Rattle.iol_hold.specs.Releases.{FreesOnly}
 use Rattle.iol_hold.specs.Room.{free_of}
@@ -59,10 +60,21 @@ pub record EvictsAll (p : ℕ) (wanted : Option ℕ) (old new : Holding) : Type 
   pub places : List (ℕ × ℕ)
   pub each : AreEvicted p wanted places old new
 
+-- all clean extents of the files of the pools 1 to n, pool by pool
+abbrev pub EvictsPools : (n : ℕ) → (old new : Holding) → Type 0
+EvictsPools zero old new = new ≡ old
+EvictsPools (suc n) old new = (mid : Holding) × EvictsPools n old mid × EvictsAll (suc n) None mid new
+
+-- each extent is dirty
+abbrev pub AllDirty : List Extent → Type 0
+AllDirty [] = Unit {0}
+AllDirty (e ∷ es) = (e.dirty ≡ true) × AllDirty es
+
 -- What evictions leave, whichever they were: slices of clean extents were released, and every file has its bytes.
 pub record GivesUp (old new : Holding) : Type 0 where
   pub moves : Moves old.store new.store (held old.cache.files) (held new.cache.files)
   pub clean : Counts old.store new.store (clean_held old.cache.files) (clean_held new.cache.files)
+  pub fewer : (b : BufId) → count_of new.store b ≤ count_of old.store b
   pub frees : FreesOnly old.store new.store
   pub lists : SameLists old.store new.store
   pub settles : AllSettled old.store → AllSettled new.store

@@ -44,6 +44,7 @@ pub record IsSound (s : Stored) (c : Cached) : Type 0 where
   pub marked : Counted c.marks (clean_held c.files)
   pub pages : length c.marks ≡ page_count s.arena
   pub ranked : AreRanked c.files c.orders
+  pub few_orders : length c.orders < 2 ^ 32
   pub tidy : IsTidy s
   pub still : IsStill s.arena
 

@@ -1,12 +1,12 @@
 //! Eviction of clean extents.
-ghost use Rattle.std.specs.Prelude.{◌≡◌, ◌↔◌, ℕ, ◌+◌, ◌-◌, ◌<◌, ◌≤◌, [], length, true, false, Some, None, MatchOption, IsTrue};
+ghost use Rattle.std.specs.Prelude.{◌≡◌, ◌≢◌, ◌↔◌, ℕ, ◌+◌, ◌-◌, ◌<◌, ◌≤◌, [], length, zero, suc, true, false, Some, None, MatchOption, IsTrue};
 ghost use Rattle.iol_core.specs.Numbered.{is_numbered};
 ghost use Rattle.iol_pool.specs.Pools.{pool_in};
 ghost use Rattle.iol_hold.specs.Room.{pages_of, free_of};
 ghost use Rattle.iol_evict.specs.Victims.{IsVictim};
-ghost use Rattle.iol_cache.specs.Cached.{order_in, clean_held};
+ghost use Rattle.iol_cache.specs.Cached.{extents_in, order_in, clean_held};
 ghost use Rattle.iol_cache.specs.Cache.{cached_of, holding};
-ghost use Rattle.iol_cache.specs.Evicting.{in_use, IsCleanAt, Evicts, EvictsAll, GivesUp};
+ghost use Rattle.iol_cache.specs.Evicting.{in_use, IsCleanAt, AllDirty, Evicts, EvictsAll, EvictsPools, GivesUp};
 ghost use Rattle.iol_cache.specs.Pinned.{pinned_beside};
 ghost use Rattle.iol_cache.specs.Sound.{IsSound};
 
@@ -74,5 +74,35 @@ impl Cache {
             self.evict(store, place.0, place.1);
         }
         true
+    }
+
+    // Evicts all clean extents of the pool's files, those that go first before the others.
+    fn drop_clean_of(&mut self, store: &mut Store, pool: PoolId)
+        requires { IsSound store.old (cached_of self.old) }
+        ensures none { (order_in self.new.orders.items pool).entries ≡ [] }
+        ensures others { (q : ℕ) → q ≢ pool →
+            order_in self.new.orders.items q ≡ order_in self.old.orders.items q }
+        ensures len { length self.new.orders.items ≡ length self.old.orders.items }
+        ensures victims { EvictsAll pool None (holding store.old self.old) (holding store.new self.new) }
+        ensures gives_up { GivesUp (holding store.old self.old) (holding store.new self.new) }
+        ensures sound { IsSound store.new (cached_of self.new) }
+    {
+        while let Some(place) = self.victim(store, pool) {
+            self.evict(store, place.0, place.1);
+        }
+    }
+
+    /// Evicts all clean extents, pool by pool, those that go first before the others.
+    pub fn drop_clean(&mut self, store: &mut Store)
+        requires { IsSound store.old (cached_of self.old) }
+        ensures none { (f : ℕ) → AllDirty (extents_in (cached_of self.new).files f) }
+        ensures victims { EvictsPools (length (cached_of self.old).orders)
+            (holding store.old self.old) (holding store.new self.new) }
+        ensures gives_up { GivesUp (holding store.old self.old) (holding store.new self.new) }
+        ensures sound { IsSound store.new (cached_of self.new) }
+    {
+        for i in 0..self.orders.len() {
+            self.drop_clean_of(store, PoolId::new(i as u32 + 1));
+        }
     }
 }
