@@ -1,0 +1,49 @@
+-- Bytes of the store read into new buffers.
+use Rattle.std.specs.Prelude.{◌≡◌, ℕ, ◌<◌, ◌≤◌, true, List, [], length, take, drop, Result, Ok, Err, IfOk}
+use Rattle.iol_core.specs.declared.refusals.Refusal.{Refusal}
+use Rattle.iol_core.specs.declared.refusals.Refusal.TheVariants.{Fault}
+use Rattle.iol_arena.specs.State.{with_bytes}
+use Rattle.iol_arena.specs.Parts.{part_bytes, part_room}
+use Rattle.iol_arena.specs.declared.pages.Part.{Part}
+use Rattle.iol_back.specs.Disk.{Disk, IfHonest, Succeeds, raised}
+use Rattle.iol_hold.specs.Pages.{KeepsPages}
+use Rattle.iol_hold.specs.Room.{free_of}
+use Rattle.iol_hold.specs.Stored.{Stored, with_arena}
+
+-- reads were made, and the first that failed ended them
+abbrev pub ReadCounts : {A E : Type 0} → (old new : Disk) → Result A E → Type 0
+ReadCounts old new (Ok x) = Succeeds old new
+ReadCounts old new (Err e) = new.failures ≡ raised old.failures
+
+-- the store was read: its bytes stay
+pub record IsRead {A E : Type 0} (old new : Disk) (r : Result A E) : Type 0 where
+  pub honest : new.honest ≡ old.honest
+  pub slots : IfHonest old (new.slots ≡ old.slots)
+  pub counts : ReadCounts old new r
+
+-- A part that waits was written. Where an honest store did not fail, the first bytes are those that were read.
+pub record ReadsPart {E : Type 0} (s t : Stored) (p : Part) (disk : Disk) (bytes : List ℕ) (r : Result ℕ E) : Type 0 where
+  pub written : List ℕ
+  pub len : length written ≡ part_room p
+  pub there : t ≡ with_arena s (with_bytes s.arena p.first written)
+  pub was : length (part_bytes s.arena p) ≡ part_room p
+  pub read : IfHonest disk (IfOk r (λ n. take n written ≡ take n bytes))
+
+-- A call fails by the store's failure, which it counts once, or before it asks. Where it had to ask and did not fail, the
+-- store still answers.
+abbrev pub AskCounts : {A : Type 0} → (must_ask : Type 0) → (old new : Disk) → Result A Refusal → Type 0
+AskCounts must old new (Ok x) = (new.failures ≡ old.failures) × (must → Succeeds old new)
+AskCounts must old new (Err (Fault f)) = new.failures ≡ raised old.failures
+AskCounts must old new (Err x) = new.failures ≡ old.failures
+
+pub record Asks {A : Type 0} (must_ask : Type 0) (old new : Disk) (r : Result A Refusal) : Type 0 where
+  pub honest : new.honest ≡ old.honest
+  pub slots : IfHonest old (new.slots ≡ old.slots)
+  pub counts : AskCounts must_ask old new r
+
+-- the lowest k free pages of a pool were filled
+pub record PlacesPages (old new : Stored) (pool k : ℕ) : Type 0 where
+  pub enough : k ≤ length (free_of old pool)
+  pub pages : KeepsPages old new (take k (free_of old pool))
+  pub free : free_of new pool ≡ drop k (free_of old pool)
+  pub pools : new.pools ≡ old.pools

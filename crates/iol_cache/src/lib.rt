@@ -1,0 +1,4 @@
+//! Files and their cache.
+#![tactic(auto)]
+
+mod loading;
