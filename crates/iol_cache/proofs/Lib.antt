@@ -1,2 +1,4 @@
 pub mod Loaded
 pub mod Paged
+pub mod Pooled
+pub mod Undone

@@ -1,4 +1,5 @@
 //! Files and their cache.
 #![tactic(auto)]
 
+mod gaps;
 mod loading;

@@ -147,7 +147,7 @@ pub(crate) fn load<B: Backing>(
     ensures settles { AllSettled store.old → AllSettled store.new }
     ensures no_room { (p : ℕ) → result ≡ Err (Refusal.NoRoom p) →
         length (free_of store.old pool) < pages_for n }
-    ensures disk { Asks (0 < n) (B.disk backing.old) (B.disk backing.new) result }
+    ensures disk { Asks 1 (B.disk backing.old) (B.disk backing.new) result }
     ensures late { IfErr result (WantOfRoomOrFault pool file) }
 {
     let mut filling = match store.begin(alloc, pool, n) {

@@ -50,27 +50,27 @@ returns-in-Err-clause-no_room g c = λ p e. few_free c.args.store.now c.args.poo
 pub returns-in-Ok-fill_parts-clause-moves : goal.returns-in-Ok-fill_parts-clause-moves
 returns-in-Ok-fill_parts-clause-moves g c =
     let ps = filling_parts c.in-Ok.filling in
-    let made = placed_all ps (filling_parts c.fill_parts.new.filling) c.args.pool c.args.n (parts_are _ _ c.fill_parts.ensures.reserved) c.in-Ok.ensures.pages c.in-Ok.ensures.enough c.in-Ok.ensures.fills c.in-Ok.ensures.others c.in-Ok.ensures.free c.fill_parts.ensures.fills c.fill_parts.ensures.entries c.publish.ensures.publishes c.publish.ensures.made_on c.publish.ensures.others c.publish.ensures.free c.publish.ensures.tidy in
+    let made = placed_all ps (filling_parts c.fill_parts.new.filling) c.args.pool c.args.n (parts_are _ _ c.fill_parts.ensures.reserved) c.in-Ok.ensures.pages c.in-Ok.ensures.enough c.in-Ok.ensures.fills c.in-Ok.ensures.others c.in-Ok.ensures.free c.fill_parts.ensures.fills c.fill_parts.ensures.entries c.publish.ensures.publishes c.publish.ensures.made c.publish.ensures.made_on c.publish.ensures.others c.publish.ensures.free c.publish.ensures.tidy in
     let P : Stored → Type 0 = λ s. Moves c.args.store.now s [] (held_bufs c.publish.result) in
     subst P (search rules) made.moves
 
 pub returns-in-Ok-fill_parts-clause-made_on : goal.returns-in-Ok-fill_parts-clause-made_on
 returns-in-Ok-fill_parts-clause-made_on g c =
     let ps = filling_parts c.in-Ok.filling in
-    let made = placed_all ps (filling_parts c.fill_parts.new.filling) c.args.pool c.args.n (parts_are _ _ c.fill_parts.ensures.reserved) c.in-Ok.ensures.pages c.in-Ok.ensures.enough c.in-Ok.ensures.fills c.in-Ok.ensures.others c.in-Ok.ensures.free c.fill_parts.ensures.fills c.fill_parts.ensures.entries c.publish.ensures.publishes c.publish.ensures.made_on c.publish.ensures.others c.publish.ensures.free c.publish.ensures.tidy in
+    let made = placed_all ps (filling_parts c.fill_parts.new.filling) c.args.pool c.args.n (parts_are _ _ c.fill_parts.ensures.reserved) c.in-Ok.ensures.pages c.in-Ok.ensures.enough c.in-Ok.ensures.fills c.in-Ok.ensures.others c.in-Ok.ensures.free c.fill_parts.ensures.fills c.fill_parts.ensures.entries c.publish.ensures.publishes c.publish.ensures.made c.publish.ensures.made_on c.publish.ensures.others c.publish.ensures.free c.publish.ensures.tidy in
     search (rules, made.made_on)
 
 pub returns-in-Ok-fill_parts-clause-pages : goal.returns-in-Ok-fill_parts-clause-pages
 returns-in-Ok-fill_parts-clause-pages g c =
     let ps = filling_parts c.in-Ok.filling in
-    let made = placed_all ps (filling_parts c.fill_parts.new.filling) c.args.pool c.args.n (parts_are _ _ c.fill_parts.ensures.reserved) c.in-Ok.ensures.pages c.in-Ok.ensures.enough c.in-Ok.ensures.fills c.in-Ok.ensures.others c.in-Ok.ensures.free c.fill_parts.ensures.fills c.fill_parts.ensures.entries c.publish.ensures.publishes c.publish.ensures.made_on c.publish.ensures.others c.publish.ensures.free c.publish.ensures.tidy in
+    let made = placed_all ps (filling_parts c.fill_parts.new.filling) c.args.pool c.args.n (parts_are _ _ c.fill_parts.ensures.reserved) c.in-Ok.ensures.pages c.in-Ok.ensures.enough c.in-Ok.ensures.fills c.in-Ok.ensures.others c.in-Ok.ensures.free c.fill_parts.ensures.fills c.fill_parts.ensures.entries c.publish.ensures.publishes c.publish.ensures.made c.publish.ensures.made_on c.publish.ensures.others c.publish.ensures.free c.publish.ensures.tidy in
     let P : Stored → Type 0 = λ s. PlacesPages c.args.store.now s c.args.pool (pages_for c.args.n) in
     subst P (search rules) made.pages
 
 pub returns-in-Ok-fill_parts-clause-settles : goal.returns-in-Ok-fill_parts-clause-settles
 returns-in-Ok-fill_parts-clause-settles g c =
     let ps = filling_parts c.in-Ok.filling in
-    let made = placed_all ps (filling_parts c.fill_parts.new.filling) c.args.pool c.args.n (parts_are _ _ c.fill_parts.ensures.reserved) c.in-Ok.ensures.pages c.in-Ok.ensures.enough c.in-Ok.ensures.fills c.in-Ok.ensures.others c.in-Ok.ensures.free c.fill_parts.ensures.fills c.fill_parts.ensures.entries c.publish.ensures.publishes c.publish.ensures.made_on c.publish.ensures.others c.publish.ensures.free c.publish.ensures.tidy in
+    let made = placed_all ps (filling_parts c.fill_parts.new.filling) c.args.pool c.args.n (parts_are _ _ c.fill_parts.ensures.reserved) c.in-Ok.ensures.pages c.in-Ok.ensures.enough c.in-Ok.ensures.fills c.in-Ok.ensures.others c.in-Ok.ensures.free c.fill_parts.ensures.fills c.fill_parts.ensures.entries c.publish.ensures.publishes c.publish.ensures.made c.publish.ensures.made_on c.publish.ensures.others c.publish.ensures.free c.publish.ensures.tidy in
     let P : Stored → Type 0 = λ s. AllSettled c.args.store.now → AllSettled s in
     let f = λ (d : Stored) (m : Places c.args.store.now d c.args.pool c.args.n (held_bufs c.publish.result)) (all : AllSettled c.args.store.now). all_settled_placed c.args.store.now d (pool_in c.args.store.now.pools c.args.pool).chunks (pages_for c.args.n) m.pages.pools m.others all in
     subst P (search rules) (f _ made)
