@@ -1,22 +1,25 @@
 -- Extents put in and taken away again.
-use Rattle.std.proofs.Common.{inl, inr, ◌≡◌, ℕ, zero, suc, ◌+◌, ◌<◌, ◌≤◌, ◌==◌, nat_lt, Bool, true, false, cond, All, List, [], ◌∷◌, ◌++◌, length, take, drop, get_or, Option, Some, None, IsSome, refl, sym, ap, ◌∙◌, arith, subst}
+use Rattle.std.proofs.Common.{inl, inr, ◌≡◌, ℕ, zero, suc, ◌+◌, ◌-◌, ◌<◌, ◌≤◌, ◌==◌, nat_lt, Bool, true, false, cond, All, List, [], ◌∷◌, ◌++◌, length, take, drop, get_or, Option, Some, None, IsSome, refl, sym, ap, ◌∙◌, arith, subst}
 use Rattle.std.specs.List.{AllZip}
 use Rattle.std.proofs.lemmas.Bool.{cases_lt, cases_eq}
 use Rattle.std.proofs.lemmas.Bool.Decides.{nat_tests}
-use Rattle.std.proofs.lemmas.List.{append_assoc}
+use Rattle.std.proofs.lemmas.List.{take_at, drop_at}
+use Rattle.std.proofs.Math.Seq.{drop-cons}
 use Rattle.std.proofs.lemmas.List.Elements.{All-cons}
 use Rattle.iol_core.specs.declared.numbers.BufId.{BufId}
 use Rattle.iol_extent.specs.Extents.{Adds, Cell, Extent, IsApart, IsGap, begins_at, cell_at, cover, end_of, is_over, put_in, without_at}
 use Rattle.iol_extent.specs.Spans.{AreInOrder, IsGapSpan}
 use Rattle.iol_extent.specs.declared.spans.Span.{Span}
-use Rattle.iol_extent.proofs.Cover.{cover_yes}
+use Rattle.iol_extent.proofs.Cover.{cover_yes, some_begins}
 use Rattle.iol_extent.proofs.Words.{without_at-put_in}
 use Rattle.iol_hold.specs.Moves.{Covers, Moves, tally}
 use Rattle.iol_hold.specs.Stored.{Stored}
 use Rattle.iol_hold.specs.Texts.{AllReadable, bufs_of}
 use Rattle.iol_hold.specs.declared.slices.Slice.{Slice}
 use Rattle.iol_hold.proofs.Counting.{bufs-append, tally-append, tally_none}
-use Rattle.iol_hold.proofs.Reading.{readable_none, readable_joined}
+use Rattle.iol_hold.proofs.Reading.{readable_none, readable_joined, readable_taken, readable_rest}
+use Rattle.iol_hold.proofs.Slicing.{places-append}
+use Rattle.iol_hold.specs.Places.{places}
 use Rattle.iol_cache.specs.Gaps.{AllBegin, IsMade, all_parts, all_put, parts_back, parts_in, without_spans}
 
 same_at : (n : ℕ) → (n == n) ≡ true
@@ -163,3 +166,57 @@ back_readable s es low (g ∷ gs) (e ∷ made) none zip all =
     let is : begins_at (without_spans (all_put (put_in es e) made) gs) g.from ≡ Some e = ap (λ (xs : List Extent). begins_at xs g.from) rest ∙ ap (begins_at (put_in es e)) (sym zip.0) ∙ begins_at-put_in es e at in
     readable_joined (back_readable s (put_in es e) (g.from + 1) gs made beside zip.1 (λ k d h. all (suc k) d (omega arith)))
     (subst (λ (o : Option Extent). AllReadable s (parts_in o)) (sym is) (all 0 e (omega arith)))
+
+-- Taken away one after another, from the last.
+
+pub begin_drop : (es : List Extent) (gs : List Span) (k : ℕ) → AllBegin es gs → AllBegin es (drop k gs)
+begin_drop es gs zero h = h
+begin_drop es [] (suc k) h = tt
+begin_drop es (g ∷ gs) (suc k) h = begin_drop es gs k h.0
+
+pub back_fewer : (es : List Extent) (gs : List Span) (k : ℕ) (b : BufId) → tally b (bufs_of (parts_back es (drop k gs))) ≤ tally b (bufs_of (parts_back es gs))
+back_fewer es gs zero b = omega arith
+back_fewer es [] (suc k) b = omega arith
+back_fewer es (g ∷ gs) (suc k) b =
+    let rest = parts_back es gs in
+    let here = parts_in (begins_at (without_spans es gs) g.from) in
+    omega (arith, back_fewer es gs k b, ap (tally b) (bufs-append rest here), tally-append b (bufs_of rest) (bufs_of here))
+
+readable_parts : {s : Stored} (xs ys : List Slice) → AllReadable s (xs ++ ys) → AllReadable s xs × AllReadable s ys
+readable_parts xs ys h =
+    let e = places-append xs ys in
+    let n = length (places xs) in
+    (readable_taken xs (xs ++ ys) n (sym (ap (take n) e ∙ take_at (places xs) (places ys) n refl)) h,
+      readable_rest ys (xs ++ ys) n (sym (ap (drop n) e ∙ drop_at (places xs) (places ys) n refl)) h)
+
+pub readable_back : {s : Stored} (es : List Extent) (gs : List Span) (k : ℕ) → AllReadable s (parts_back es gs) → AllReadable s (parts_back es (drop k gs))
+readable_back es gs zero h = h
+readable_back es [] (suc k) h = h
+readable_back es (g ∷ gs) (suc k) h = readable_back es gs k (readable_parts (parts_back es gs) (parts_in (begins_at (without_spans es gs) g.from)) h).0
+
+pub readable_here : {s : Stored} (es : List Extent) (g : Span) (gs : List Span) → AllReadable s (parts_back es (g ∷ gs)) → AllReadable s (parts_in (begins_at (without_spans es gs) g.from))
+readable_here es g gs h = (readable_parts (parts_back es gs) (parts_in (begins_at (without_spans es gs) g.from)) h).1
+
+-- the extent that is taken away next
+pub record IsNext (es xs : List Extent) (gs : List Span) (left : ℕ) (g : Span) : Type 0 where
+  pub extent : Extent
+  pub begins : begins_at xs g.from ≡ Some extent
+  pub left_is : drop (left - 1) gs ≡ g ∷ drop left gs
+  pub extents : without_at xs g.from ≡ without_spans es (drop (left - 1) gs)
+  pub parts : bufs_of (parts_back es (drop (left - 1) gs)) ≡ bufs_of (parts_back es (drop left gs)) ++ bufs_of extent.parts
+
+pub next_back : (es xs : List Extent) (gs : List Span) (left : ℕ) (g d : Span) → 0 < left → left ≤ length gs → g ≡ get_or gs (left - 1) d → AllBegin es gs → xs ≡ without_spans es (drop left gs) → IsNext es xs gs left g
+next_back es xs gs left g d some few at begin is =
+    let n : suc (left - 1) ≡ left = omega arith in
+    let front : drop (left - 1) gs ≡ g ∷ drop left gs = drop-cons gs (left - 1) d (omega arith) ∙ ap (λ x. x ∷ drop (suc (left - 1)) gs) (sym at) ∙ ap (λ k. g ∷ drop k gs) n in
+    let there = subst (AllBegin es) front (begin_drop es gs (left - 1) begin) in
+    let e = some_begins (begins_at xs g.from) (subst (λ (ys : List Extent). IsSome (begins_at ys g.from)) (sym is) there.1) in
+    let back = parts_back es (drop left gs) in
+    record {
+      extent = e.0;
+      begins = e.1;
+      left_is = front;
+      extents = ap (λ (ys : List Extent). without_at ys g.from) is ∙ ap (without_spans es) (sym front);
+      parts = ap (λ ys. bufs_of (parts_back es ys)) front ∙ bufs-append back (parts_in (begins_at (without_spans es (drop left gs)) g.from))
+          ∙ ap (λ o. bufs_of back ++ bufs_of (parts_in o)) (ap (λ (ys : List Extent). begins_at ys g.from) (sym is) ∙ e.1);
+    }

@@ -98,3 +98,63 @@ fn fill_gap<B: Backing>(
     extents.put(gap.from, agg, false);
     Ok(())
 }
+
+/// Takes the extents away that begin where these spans do, the last first, and releases them.
+pub(crate) fn take_back(extents: &mut Extents, store: &mut Store, spans: &[Span])
+    requires begin { AllBegin extents.old.extents spans.now }
+    requires covered { Covers store.old (bufs_of (parts_back extents.old.extents spans.now)) }
+    ensures extents { extents.new.extents ≡ without_spans extents.old.extents spans.now }
+    ensures room { extents.new.room ≡ extents.old.room + length spans.now }
+    ensures moves { Moves store.old store.new
+        (bufs_of (parts_back extents.old.extents spans.now)) [] }
+    ensures lists { SameLists store.old store.new }
+    ensures frees { FreesOnly store.old store.new }
+    ensures settles { AllReadable store.old (parts_back extents.old.extents spans.now) →
+        AllSettled store.old → AllSettled store.new }
+{
+    let mut left = spans.len();
+    while left > 0 {
+        left -= 1;
+        let agg = extents.remove(spans[left].from);
+        agg.release(store);
+    }
+}
+
+/// Reads the gaps of a file into new buffers of its pool, in order: each becomes a clean extent, all of them or none.
+pub(crate) fn fill_gaps<B: Backing>(
+    alloc: Global,
+    store: &mut Store,
+    backing: &mut B,
+    extents: &mut Extents,
+    file: FileId,
+    pool: PoolId,
+    gaps: &[Span],
+) -> Result<(), Refusal>
+    requires apart { IsApart 0 extents.old.extents }
+    requires order { AreInOrder 0 u32.MAX gaps.now }
+    requires gaps { All (IsGapSpan extents.old.extents) gaps.now }
+    requires room { length gaps.now ≤ extents.old.room }
+    requires open { (pool_in store.old.pools pool).closed ≡ false }
+    ensures fills { OnOk result (FillsGaps store.old store.new extents.old extents.new pool
+        gaps.now (B.disk backing.old) file) }
+    ensures places { OnOk result (PlacesPages store.old store.new pool (gap_pages gaps.now)) }
+    ensures apart { IsApart 0 extents.new.extents }
+    ensures same { OnErr result (extents.new ≡ extents.old) }
+    ensures none { OnErr result (Moves store.old store.new [] []) }
+    ensures given_back { OnErr result (PlacesSome store.old store.new pool) }
+    ensures lists { SameLists store.old store.new }
+    ensures settles { AllSettled store.old → AllSettled store.new }
+    ensures no_room { (p : ℕ) → result ≡ Err (Refusal.NoRoom p) →
+        length (free_of store.old pool) < gap_pages gaps.now }
+    ensures disk { Asks (length gaps.now) (B.disk backing.old) (B.disk backing.new) result }
+    ensures late { IfErr result (WantOfRoomOrFault pool file) }
+{
+    for i in 0..gaps.len() {
+        let gap = gaps[i];
+        if let Err(refusal) = fill_gap(alloc, store, backing, extents, file, pool, gap) {
+            take_back(extents, store, &gaps[..i]);
+            return Err(refusal);
+        }
+    }
+    Ok(())
+}
