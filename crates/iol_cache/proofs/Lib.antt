@@ -2,3 +2,4 @@ pub mod Loaded
 pub mod Paged
 pub mod Pooled
 pub mod Undone
+pub mod Filled
