@@ -9,3 +9,8 @@ pub mod Evicted
 pub mod GivenUp
 pub mod NoneLeft
 pub mod Choosing
+pub mod Loaded
+pub mod Paged
+pub mod Pooled
+pub mod Undone
+pub mod Filled

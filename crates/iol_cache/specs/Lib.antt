@@ -6,3 +6,5 @@ pub mod Sound
 pub mod Evicting
 pub mod Cache
 pub mod Users
+pub mod Loading
+pub mod Gaps

@@ -4,6 +4,8 @@
 mod cache;
 mod evicting;
 mod files;
+mod gaps;
+mod loading;
 mod marks;
 mod users;
 
