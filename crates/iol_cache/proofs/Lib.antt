@@ -14,3 +14,4 @@ pub mod Paged
 pub mod Pooled
 pub mod Undone
 pub mod Filled
+pub mod Entering

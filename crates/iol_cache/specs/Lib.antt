@@ -8,3 +8,4 @@ pub mod Cache
 pub mod Users
 pub mod Loading
 pub mod Gaps
+pub mod Reading

@@ -7,6 +7,7 @@ mod files;
 mod gaps;
 mod loading;
 mod marks;
+mod ranking;
 mod users;
 
 pub use cache::Cache;
