@@ -15,3 +15,4 @@ pub mod Pooled
 pub mod Undone
 pub mod Filled
 pub mod Entering
+pub mod Adding
