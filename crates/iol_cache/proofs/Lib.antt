@@ -3,3 +3,4 @@ pub mod Paged
 pub mod Pooled
 pub mod Undone
 pub mod Filled
+pub mod Shared

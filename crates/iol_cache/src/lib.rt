@@ -3,3 +3,4 @@
 
 mod gaps;
 mod loading;
+mod sharing;
