@@ -1,6 +1,14 @@
-//! Files and their cache.
+//! Files over a backing store, and the unified cache of their bytes.
 #![tactic(auto)]
 
+mod cache;
+mod evicting;
+mod files;
 mod gaps;
 mod loading;
+mod marks;
+mod ranking;
 mod sharing;
+mod users;
+
+pub use cache::Cache;

@@ -296,3 +296,14 @@ extent_begins low (x ∷ xs) at e a h = here (x.at == at) (eq_from x.at at) h (e
     | inl l ↦ absurd (none_begins (begins_low (end_of x) xs at a.2 l) h)
     | inr l ↦ (extent_no x xs at (inr l) ∙ (ih h).0, (ih h).1)
   ]
+
+-- the last extent ends last
+pub last_end-last : (low : ℕ) (es : List Extent) (d : Extent) → IsApart low es → 0 < length es → last_end es ≡ end_of (get_or es (length es - 1) d)
+last_end-last low [] d a h = absurd (omega (arith, h))
+last_end-last low (x ∷ []) d a h = omega (arith, a.1)
+last_end-last low (x ∷ y ∷ ys) d a h =
+    let ih = last_end-last (end_of x) (y ∷ ys) d a.2 (omega arith) in
+    let back : length (x ∷ y ∷ ys) - 1 ≡ suc (length (y ∷ ys) - 1) = omega arith in
+    let is : get_or (x ∷ y ∷ ys) (length (x ∷ y ∷ ys) - 1) d ≡ get_or (y ∷ ys) (length (y ∷ ys) - 1) d = ap (λ n. get_or (x ∷ y ∷ ys) n d) back in
+    let later : end_of x ≤ last_end (y ∷ ys) = omega (arith, a.2.0, a.2.1) in
+    omega (arith, ih, ap end_of is, later)

@@ -79,6 +79,18 @@ impl Extents {
         Some((piece.at, &piece.agg, piece.dirty))
     }
 
+    /// The end of the last extent, or 0.
+    pub fn end(&self) -> u32
+        ensures { result ≡ last_end self.now.extents }
+    {
+        let count = self.pieces.len();
+        if count == 0 {
+            return 0;
+        }
+        let piece = &self.pieces[count - 1];
+        piece.end()
+    }
+
     /// Where the first dirty extent begins, and its bytes.
     pub fn first_dirty(&self) -> Option<(u32, &Agg)>
         ensures { let es = self.now.extents in
