@@ -14,5 +14,6 @@ pub mod Paged
 pub mod Pooled
 pub mod Undone
 pub mod Filled
+pub mod Shared
 pub mod Entering
 pub mod Adding

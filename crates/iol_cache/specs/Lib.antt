@@ -8,4 +8,5 @@ pub mod Cache
 pub mod Users
 pub mod Loading
 pub mod Gaps
+pub mod Sharing
 pub mod Reading

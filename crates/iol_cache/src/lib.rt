@@ -8,6 +8,7 @@ mod gaps;
 mod loading;
 mod marks;
 mod ranking;
+mod sharing;
 mod users;
 
 pub use cache::Cache;
