@@ -17,3 +17,5 @@ pub mod Filled
 pub mod Shared
 pub mod Entering
 pub mod Adding
+pub mod Putting
+pub mod Ranged

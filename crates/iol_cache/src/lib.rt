@@ -4,6 +4,7 @@
 mod cache;
 mod evicting;
 mod files;
+mod filling;
 mod gaps;
 mod loading;
 mod marks;
