@@ -3,7 +3,7 @@ use Rattle.std.proofs.lemmas.Bool.{cases_lt}
 use Rattle.std.proofs.lemmas.List.{get_or-take, get_or-drop, length-take-le, length-drop}
 use Rattle.std.proofs.lemmas.Bool.Decides.{nat_tests}
 use Rattle.iol_hold.specs.Places.{Place, places, byte_len}
-use Rattle.iol_extent.specs.Extents.{Extent, Cell, cover, is_over, cell_at, end_of, IsApart, IsGap, no_place, Adds, Lacks, last_end, begins_at}
+use Rattle.iol_extent.specs.Extents.{Extent, Cell, extent_over, cover, is_over, cell_at, end_of, IsApart, IsGap, no_place, Adds, Lacks, last_end, begins_at}
 
 none_there : Extent
 none_there = record { at = 0; parts = []; dirty = false }
@@ -251,3 +251,59 @@ ends_rise low (e ∷ es) zero zero d a le h = omega arith
 ends_rise low (e ∷ es) zero (suc k) d a le h = let s = starts_above (end_of e) es k d a.2 (omega (arith, h)) in omega (arith, s)
 ends_rise low (e ∷ es) (suc j) zero d a le h = absurd (omega (arith, le))
 ends_rise low (e ∷ es) (suc j) (suc k) d a le h = ends_rise (end_of e) es j k d a.2 (omega (arith, le)) (omega (arith, h))
+
+-- The extent over a byte, found as what lies over it is.
+
+pub extent_yes : (e : Extent) (es : List Extent) (i : ℕ) → e.at ≤ i → i < end_of e → extent_over (e ∷ es) i ≡ Some e
+extent_yes e es i h k = ap (λ b. cond b (Some e) (extent_over es i)) (over_yes e i h k)
+
+pub extent_no : (e : Extent) (es : List Extent) (i : ℕ) → (i < e.at) ⊎ (end_of e ≤ i) → extent_over (e ∷ es) i ≡ extent_over es i
+extent_no e es i h = ap (λ b. cond b (Some e) (extent_over es i)) (over_no e i h)
+
+-- what lies over a byte is of the extent over it
+pub cover-extent : (es : List Extent) (i : ℕ) (e : Extent) → extent_over es i ≡ Some e → cover es i ≡ Some (cell_at e i)
+cover-extent [] i e h = cc
+cover-extent (x ∷ xs) i e h = here (is_over x i) h (cover-extent xs i e) where
+  here : (b : Bool) → cond b (Some x) (extent_over xs i) ≡ Some e → (extent_over xs i ≡ Some e → cover xs i ≡ Some (cell_at e i)) → cond b (Some (cell_at x i)) (cover xs i) ≡ Some (cell_at e i)
+  here true h ih = let same : x ≡ e = cc in ap (λ (y : Extent). Some (cell_at y i)) same
+  here false h ih = ih h
+
+pub extent_none : (es : List Extent) (i : ℕ) → cover es i ≡ None → extent_over es i ≡ None
+extent_none [] i h = refl
+extent_none (x ∷ xs) i h = here (is_over x i) h (extent_none xs i) where
+  here : (b : Bool) → cond b (Some (cell_at x i)) (cover xs i) ≡ None → (cover xs i ≡ None → extent_over xs i ≡ None) → cond b (Some x) (extent_over xs i) ≡ None
+  here true h ih = cc
+  here false h ih = ih h
+
+extent_found : (low : ℕ) (es : List Extent) (k i : ℕ) (d : Extent) → IsApart low es → k < length es → ((j : ℕ) → j < k → end_of (get_or es j d) ≤ i) → (get_or es k d).at ≤ i → i < end_of (get_or es k d) → extent_over es i ≡ Some (get_or es k d)
+extent_found low [] k i d a h b f t = absurd (omega arith)
+extent_found low (e ∷ es) zero i d a h b f t = extent_yes e es i f t
+extent_found low (e ∷ es) (suc k) i d a h b f t = extent_no e es i (inr (b 0 (omega arith))) ∙ extent_found (end_of e) es k i d a.2 (omega arith) (λ j l. b (suc j) (omega arith)) f t
+
+pub extent_at : (es : List Extent) (k i : ℕ) (e : Extent) → IsApart 0 es → k < length es → ((j : ℕ) (d : Extent) → j < k → end_of (get_or es j d) ≤ i) → e ≡ get_or es k e → e.at ≤ i → i < end_of (get_or es k e) → extent_over es i ≡ Some e
+extent_at es k i e a h b r f t = extent_found 0 es k i e a h (λ j m. b j e m) (omega (arith, ap (λ (x : Extent). x.at) r)) t ∙ ap (λ (x : Extent). Some x) (sym r)
+
+none_begins : {o : Option Extent} {e : Extent} → o ≡ None → o ≡ Some e → ⊥
+none_begins p q = cc
+
+-- the extent that begins at a place is over it
+pub extent_begins : (low : ℕ) (es : List Extent) (at : ℕ) (e : Extent) → IsApart low es → begins_at es at ≡ Some e → (extent_over es at ≡ Some e) × (e.at ≡ at)
+extent_begins low [] at e a h = cc
+extent_begins low (x ∷ xs) at e a h = here (x.at == at) (eq_from x.at at) h (extent_begins (end_of x) xs at e a.2) where
+  here : (c : Bool) → (c ≡ true → x.at ≡ at) → cond c (Some x) (begins_at xs at) ≡ Some e → (begins_at xs at ≡ Some e → (extent_over xs at ≡ Some e) × (e.at ≡ at)) → (extent_over (x ∷ xs) at ≡ Some e) × (e.at ≡ at)
+  here true g h ih = let same : x ≡ e = cc in (extent_yes x xs at (omega (arith, g refl)) (omega (arith, g refl, a.1)) ∙ ap (λ (y : Extent). Some y) same, ap (λ (y : Extent). y.at) (sym same) ∙ g refl)
+  here false g h ih = elim (cases_lt at (end_of x)) [
+    | inl l ↦ absurd (none_begins (begins_low (end_of x) xs at a.2 l) h)
+    | inr l ↦ (extent_no x xs at (inr l) ∙ (ih h).0, (ih h).1)
+  ]
+
+-- the last extent ends last
+pub last_end-last : (low : ℕ) (es : List Extent) (d : Extent) → IsApart low es → 0 < length es → last_end es ≡ end_of (get_or es (length es - 1) d)
+last_end-last low [] d a h = absurd (omega (arith, h))
+last_end-last low (x ∷ []) d a h = omega (arith, a.1)
+last_end-last low (x ∷ y ∷ ys) d a h =
+    let ih = last_end-last (end_of x) (y ∷ ys) d a.2 (omega arith) in
+    let back : length (x ∷ y ∷ ys) - 1 ≡ suc (length (y ∷ ys) - 1) = omega arith in
+    let is : get_or (x ∷ y ∷ ys) (length (x ∷ y ∷ ys) - 1) d ≡ get_or (y ∷ ys) (length (y ∷ ys) - 1) d = ap (λ n. get_or (x ∷ y ∷ ys) n d) back in
+    let later : end_of x ≤ last_end (y ∷ ys) = omega (arith, a.2.0, a.2.1) in
+    omega (arith, ih, ap end_of is, later)

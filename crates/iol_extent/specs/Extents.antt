@@ -37,14 +37,22 @@ abbrev pub cell_at : Extent → ℕ → Cell
 cell_at e i =
     record { place = slice_index_or (places e.parts) (i - e.at) no_place; dirty = e.dirty }
 
--- the same of an extent as `over` gives it
+-- an extent as `over` gives it, and what it has at byte i
+abbrev pub extent_in : ℕ × Bor (List Slice) × Bool → Extent
+extent_in found = extent_of found.0 found.1.now found.2
+
 abbrev pub cell_in : ℕ × Bor (List Slice) × Bool → ℕ → Cell
-cell_in found i = cell_at (extent_of found.0 found.1.now found.2) i
+cell_in found i = cell_at (extent_in found) i
 
 -- what lies over byte i
 abbrev pub cover : List Extent → ℕ → Option Cell
 cover [] i = None
 cover (e ∷ es) i = if is_over e i then Some (cell_at e i) else cover es i
+
+-- the extent over byte i
+abbrev pub extent_over : List Extent → ℕ → Option Extent
+extent_over [] i = None
+extent_over (e ∷ es) i = if is_over e i then Some e else extent_over es i
 
 -- the extents stand in order from low on, none of them empty
 abbrev pub IsApart : ℕ → List Extent → Type 0
@@ -74,6 +82,11 @@ pub record Lacks (es : List Extent) (e : Extent) (es' : List Extent) : Type 0 wh
 abbrev pub begins_at : List Extent → ℕ → Option Extent
 begins_at [] at = None
 begins_at (e ∷ es) at = if e.at == at then Some e else begins_at es at
+
+-- the first extent that is dirty
+abbrev pub dirty_in : List Extent → Option Extent
+dirty_in [] = None
+dirty_in (e ∷ es) = if e.dirty then Some e else dirty_in es
 
 -- with an extent more, in the order of places
 abbrev pub put_in : List Extent → Extent → List Extent

@@ -1,7 +1,7 @@
 //! The extents of a file.
-ghost use Rattle.std.specs.Prelude.{◌≡◌, ℕ, ◌+◌, ◌-◌, ◌<◌, ◌≤◌, ◌^◌, [], length, All, IfOk, IfSome, OnOk, OnErr, MatchOption, Some, None, slice_index_or, insert, remove, max, IsSome, IsTrue, false};
+ghost use Rattle.std.specs.Prelude.{◌≡◌, ℕ, ◌+◌, ◌-◌, ◌<◌, ◌≤◌, ◌^◌, [], length, All, IfOk, IfSome, OnOk, OnErr, MatchOption, Some, None, slice_index_or, insert, remove, max, IsSome, IsTrue, true, false};
 ghost use Rattle.iol_hold.specs.Places.{byte_len};
-ghost use Rattle.iol_extent.specs.Extents.{Extent, extent_of, cover, cell_in, end_of, IsApart, IsGap, Adds, Lacks, last_end, begins_at, put_in, without_at};
+ghost use Rattle.iol_extent.specs.Extents.{Extent, extent_of, extent_over, extent_in, dirty_in, cover, cell_in, end_of, IsApart, IsGap, Adds, Lacks, last_end, begins_at, put_in, without_at};
 ghost use Rattle.iol_extent.specs.Spans.{IsHit, Tile};
 
 use crate::piece::{Piece, count_before, insert_piece};
@@ -62,7 +62,10 @@ impl Extents {
 
     /// The extent over a byte: where it begins, its bytes, and whether it is dirty.
     pub fn over(&self, at: u32) -> Option<(u32, &Agg, bool)>
-        ensures { let es = self.now.extents in
+        ensures extent { let es = self.now.extents in
+            MatchOption result (extent_over es at ≡ None)
+            (λ found. extent_over es at ≡ Some (extent_in found)) }
+        ensures cell { let es = self.now.extents in
             MatchOption result (cover es at ≡ None) (λ found. cover es at ≡ Some (cell_in found at)) }
     {
         let found = count_before(&self.pieces, at);
@@ -74,6 +77,32 @@ impl Extents {
             return None;
         }
         Some((piece.at, &piece.agg, piece.dirty))
+    }
+
+    /// The end of the last extent, or 0.
+    pub fn end(&self) -> u32
+        ensures { result ≡ last_end self.now.extents }
+    {
+        let count = self.pieces.len();
+        if count == 0 {
+            return 0;
+        }
+        let piece = &self.pieces[count - 1];
+        piece.end()
+    }
+
+    /// Where the first dirty extent begins, and its bytes.
+    pub fn first_dirty(&self) -> Option<(u32, &Agg)>
+        ensures { let es = self.now.extents in
+            MatchOption result (dirty_in es ≡ None)
+            (λ found. dirty_in es ≡ Some (extent_of found.0 found.1.now true)) }
+    {
+        for piece in &self.pieces {
+            if piece.dirty {
+                return Some((piece.at, &piece.agg));
+            }
+        }
+        None
     }
 
     // The hit or the gap that begins at a place, and which it is.

@@ -1,0 +1,47 @@
+use Rattle.std.proofs.Common.{◌≡◌, ℕ, ◌<◌, ◌≤◌, ◌-◌, length, ap, sym, ◌∙◌, arith, get_or, List, subst}
+use Rattle.iol_hold.specs.Moves.{Covers}
+use Rattle.iol_hold.specs.Texts.{bufs_of}
+use Rattle.iol_hold.specs.declared.slices.Slice.{Slice}
+use Rattle.iol_extent.specs.Extents.{Extent, extent_over}
+use Rattle.iol_cache.specs.declared.files.CachedFile.{CachedFile}
+use Rattle.iol_cache.specs.Cached.{file_in}
+use Rattle.iol_cache.specs.Evicting.{IsCleanAt}
+use Rattle.iol_cache.proofs.Filing.{file_at_number}
+use Rattle.iol_cache.proofs.Using.{clean_numbered, found_is, not_found, used_is, are_within, covers_at}
+use Rattle.iol_cache.proofs.users.UsersInUse.is_in_use.Goals as goal
+
+pub overflow_sub-number : goal.overflow_sub-number
+overflow_sub-number c = let b = clean_numbered c.requires.1 in omega (arith, b.0, c.number.ensures)
+
+pub bounds-self-number : goal.bounds-self-number
+bounds-self-number c = let b = clean_numbered c.requires.1 in omega (arith, b.0, b.1, c.number.ensures)
+
+pub is_in_use-requires-clause-within : goal.is_in_use-requires-clause-within
+is_in_use-requires-clause-within c =
+    let fs = c.args.self.now.files.now in
+    let x = file_at_number fs c.args.file c.number.result c.index-self-number.result c.number.ensures (clean_numbered c.requires.1) c.index-self-number.is in
+    let y = found_is fs c.args.file c.args.at (get_or fs (c.number.result - 1) c.index-self-number.result) _ (c.requires.0.files c.args.file) c.requires.1 (sym c.index-self-number.is ∙ x) c.in-Some.ensures.extent in
+    let parts = c.slices.ensures ∙ ap (λ (e : Extent). e.parts) y in
+    are_within c.slices.result.now _ c.requires.0.pages (subst (λ xs. Covers c.args.self.now.store.now (bufs_of xs)) (sym parts) (covers_at fs c.args.file c.args.at c.requires.1.extent c.requires.1.begins c.requires.0.covered))
+
+pub is_in_use-requires-clause-covered : goal.is_in_use-requires-clause-covered
+is_in_use-requires-clause-covered c =
+    let fs = c.args.self.now.files.now in
+    let x = file_at_number fs c.args.file c.number.result c.index-self-number.result c.number.ensures (clean_numbered c.requires.1) c.index-self-number.is in
+    let y = found_is fs c.args.file c.args.at (get_or fs (c.number.result - 1) c.index-self-number.result) _ (c.requires.0.files c.args.file) c.requires.1 (sym c.index-self-number.is ∙ x) c.in-Some.ensures.extent in
+    let parts = c.slices.ensures ∙ ap (λ (e : Extent). e.parts) y in
+    subst (λ xs. Covers c.args.self.now.store.now (bufs_of xs)) (sym parts) (covers_at fs c.args.file c.args.at c.requires.1.extent c.requires.1.begins c.requires.0.covered)
+
+pub returns-in-Some : goal.returns-in-Some
+returns-in-Some c =
+    let fs = c.args.self.now.files.now in
+    let x = file_at_number fs c.args.file c.number.result c.index-self-number.result c.number.ensures (clean_numbered c.requires.1) c.index-self-number.is in
+    let y = found_is fs c.args.file c.args.at (get_or fs (c.number.result - 1) c.index-self-number.result) _ (c.requires.0.files c.args.file) c.requires.1 (sym c.index-self-number.is ∙ x) c.in-Some.ensures.extent in
+    let parts = c.slices.ensures ∙ ap (λ (e : Extent). e.parts) y in
+    c.is_in_use.ensures ∙ used_is fs c.args.self.now.marks.now c.args.file c.args.at c.slices.result.now c.requires.0 c.requires.1 parts
+
+pub returns-in-None : goal.returns-in-None
+returns-in-None c =
+    let fs = c.args.self.now.files.now in
+    let x = file_at_number fs c.args.file c.number.result c.index-self-number.result c.number.ensures (clean_numbered c.requires.1) c.index-self-number.is in
+    absurd (not_found fs c.args.file c.args.at (get_or fs (c.number.result - 1) c.index-self-number.result) (c.requires.0.files c.args.file) c.requires.1 (sym c.index-self-number.is ∙ x) c.in-None.ensures.extent)

@@ -1,0 +1,82 @@
+-- Clean extents that go, one after another.
+use Rattle.std.specs.Prelude.{◌≡◌, ℕ, zero, suc, ◌<◌, ◌≤◌, Bool, true, false, List, [], ◌∷◌, length, Option, Some, None}
+use Rattle.std.specs.List.{list_any}
+use Rattle.iol_core.specs.declared.numbers.BufId.{BufId}
+use Rattle.iol_hold.specs.Stored.{Stored, AllSettled, count_of}
+use Rattle.iol_hold.specs.Moves.{Moves, Counts, SameLists}
+use Rattle.iol_hold.specs.Releases.{FreesOnly}
+use Rattle.iol_hold.specs.Room.{free_of}
+use Rattle.iol_hold.specs.Texts.{bufs_of}
+use Rattle.iol_extent.specs.Extents.{Extent, begins_at}
+use Rattle.iol_evict.specs.Victims.{IsVictim}
+use Rattle.iol_cache.specs.declared.files.CachedFile.{CachedFile}
+use Rattle.iol_cache.specs.Marks.{is_held_beside}
+use Rattle.iol_cache.specs.Contents.{Mirrors, SameFiles}
+use Rattle.iol_cache.specs.Cached.{Cached, file_in, extents_in, order_in, parts_at, held, clean_held, without_extent, with_evicted}
+
+-- a store, and a cache over it
+pub record Holding : Type 0 where
+  pub store : Stored
+  pub cache : Cached
+
+-- whether a buffer of the extent that begins there is held by anything but clean extents
+unfoldable pub in_use : Stored → List CachedFile → (f at : ℕ) → Bool
+in_use s fs f at = list_any (λ x. is_held_beside s (clean_held fs) x.hold.buf) (parts_at fs f at)
+
+-- the clean extent that begins at a place of a file
+pub record IsCleanAt (fs : List CachedFile) (f at : ℕ) : Type 0 where
+  pub extent : Extent
+  pub begins : begins_at (extents_in fs f) at ≡ Some extent
+  pub clean : extent.dirty ≡ false
+
+-- a clean extent is evicted: its slices are released, and nothing else changes
+pub record Evicts (f at : ℕ) (old new : Holding) : Type 0 where
+  pub there : IsCleanAt old.cache.files f at
+  pub files : new.cache.files ≡ without_extent old.cache.files f at
+  pub orders : new.cache.orders ≡ with_evicted old.cache.orders (file_in old.cache.files f).pool f at
+  pub moves : Moves old.store new.store (bufs_of (parts_at old.cache.files f at)) []
+  pub frees : FreesOnly old.store new.store
+  pub lists : SameLists old.store new.store
+  pub settles : AllSettled old.store → AllSettled new.store
+
+-- fewer pages of the pool are free than wanted, if a number of them is wanted
+abbrev pub IsWanted : (pool : ℕ) → (wanted : Option ℕ) → Stored → Type 0
+IsWanted p None s = Unit {0}
+IsWanted p (Some n) s = length (free_of s p) < n
+
+-- the extent that goes first of those of the pool's files
+pub record EvictsNext (p : ℕ) (wanted : Option ℕ) (place : ℕ × ℕ) (old new : Holding) : Type 0 where
+  pub wants : IsWanted p wanted old.store
+  pub pool : (file_in old.cache.files place.0).pool ≡ p
+  pub first : IsVictim (in_use old.store old.cache.files) (order_in old.cache.orders p).entries place
+  pub evicts : Evicts place.0 place.1 old new
+
+-- extents of the pool's files that were evicted, the last first, each as long as pages are wanted
+abbrev pub AreEvicted : (p : ℕ) → (wanted : Option ℕ) → List (ℕ × ℕ) → (old new : Holding) → Type 0
+AreEvicted p wanted [] old new = new ≡ old
+AreEvicted p wanted (v ∷ earlier) old new = (mid : Holding) × AreEvicted p wanted earlier old mid × EvictsNext p wanted v mid new
+
+pub record EvictsAll (p : ℕ) (wanted : Option ℕ) (old new : Holding) : Type 0 where
+  pub places : List (ℕ × ℕ)
+  pub each : AreEvicted p wanted places old new
+
+-- all clean extents of the files of the pools 1 to n, pool by pool
+abbrev pub EvictsPools : (n : ℕ) → (old new : Holding) → Type 0
+EvictsPools zero old new = new ≡ old
+EvictsPools (suc n) old new = (mid : Holding) × EvictsPools n old mid × EvictsAll (suc n) None mid new
+
+-- each extent is dirty
+abbrev pub AllDirty : List Extent → Type 0
+AllDirty [] = Unit {0}
+AllDirty (e ∷ es) = (e.dirty ≡ true) × AllDirty es
+
+-- What evictions leave, whichever they were: slices of clean extents were released, and every file has its bytes.
+pub record GivesUp (old new : Holding) : Type 0 where
+  pub moves : Moves old.store new.store (held old.cache.files) (held new.cache.files)
+  pub clean : Counts old.store new.store (clean_held old.cache.files) (clean_held new.cache.files)
+  pub fewer : (b : BufId) → count_of new.store b ≤ count_of old.store b
+  pub frees : FreesOnly old.store new.store
+  pub lists : SameLists old.store new.store
+  pub settles : AllSettled old.store → AllSettled new.store
+  pub mirrors : (slots : List (List ℕ)) → Mirrors old.store slots old.cache.files → Mirrors new.store slots new.cache.files
+  pub files : (slots : List (List ℕ)) → Mirrors old.store slots old.cache.files → SameFiles old.store old.cache.files new.store new.cache.files slots

@@ -1,0 +1,110 @@
+-- Gaps of a file that become clean extents.
+use Rattle.std.specs.Prelude.{◌≡◌, ℕ, ◌+◌, ◌-◌, ◌≤◌, false, List, [], ◌∷◌, ◌++◌, length, flat_map, Option, Some, None, IsSome, slice_range, All}
+use Rattle.std.specs.List.{AllZip}
+use Rattle.iol_core.specs.Text as text
+use Rattle.iol_arena.specs.Adds.{IsNew}
+use Rattle.iol_arena.specs.State.{pages_for}
+use Rattle.iol_arena.specs.Buffers.{Grows}
+use Rattle.iol_back.specs.Disk.{Disk, IfHonest, content}
+use Rattle.iol_cache.specs.Loading.{PlacesPages}
+use Rattle.iol_extent.specs.Extents.{Adds, Extent, ExtentMap, IsApart, begins_at, end_of, put_in, without_at}
+use Rattle.iol_extent.specs.declared.spans.Span.{Span}
+use Rattle.iol_hold.specs.Moves.{Moves}
+use Rattle.iol_hold.specs.Places.{byte_len}
+use Rattle.iol_hold.specs.Stored.{Stored}
+use Rattle.iol_hold.specs.Texts.{text_of, bufs_of, AllReadable}
+use Rattle.iol_hold.specs.declared.slices.Slice.{Slice}
+
+-- how many pages gaps need: each has pages of its own
+abbrev pub gap_pages : List Span → ℕ
+gap_pages [] = 0
+gap_pages (g ∷ gs) = pages_for (g.to - g.from) + gap_pages gs
+
+-- with these extents more, put in one after another
+unfoldable pub all_put : List Extent → List Extent → List Extent
+all_put es [] = es
+all_put es (e ∷ made) = all_put (put_in es e) made
+
+-- all slices of these extents
+abbrev pub all_parts : List Extent → List Slice
+all_parts es = flat_map (λ e. e.parts) es
+
+-- slices of one pool
+pub record AreOf (pool : ℕ) (xs : List Slice) : Type 0 where
+  pub each : All (λ x. x.hold.pool ≡ pool) xs
+
+-- buffers made since
+pub record AreNew (old new : Stored) (xs : List Slice) : Type 0 where
+  pub each : All (IsNew old.arena new.arena) (bufs_of xs)
+
+-- a clean extent over the gap, of bytes of the pool in buffers made since
+pub record IsMade (old new : Stored) (pool : ℕ) (g : Span) (e : Extent) : Type 0 where
+  pub begins : e.at ≡ g.from
+  pub ends : end_of e ≡ g.to
+  pub clean : e.dirty ≡ false
+  pub readable : AllReadable new e.parts
+  pub pooled : AreOf pool e.parts
+  pub fresh : AreNew old new e.parts
+
+-- one for each gap, in order
+pub record AreMade (old new : Stored) (pool : ℕ) (gaps : List Span) (made : List Extent) : Type 0 where
+  pub each : AllZip (IsMade old new pool) gaps made
+
+-- the bytes of the extent are those that the store has there
+pub record Mirrors (s : Stored) (pool : ℕ) (stored : List ℕ) (e : Extent) : Type 0 where
+  pub within : end_of e ≤ length stored
+  pub is : text_of s e.parts ≡ text.labelled pool (slice_range stored e.at (end_of e))
+
+pub record AllMirror (s : Stored) (pool : ℕ) (stored : List ℕ) (es : List Extent) : Type 0 where
+  pub each : All (Mirrors s pool stored) es
+
+-- n bytes were read into new buffers on the lowest free pages of the pool
+pub record LoadsSlices (s t : Stored) (pool n : ℕ) (xs : List Slice) : Type 0 where
+  pub moves : Moves s t [] (bufs_of xs)
+  pub long : byte_len xs ≡ n
+  pub readable : AllReadable t xs
+  pub pooled : AreOf pool xs
+  pub fresh : AreNew s t xs
+  pub grows : Grows s.arena t.arena
+  pub places : PlacesPages s t pool (pages_for n)
+
+-- a gap was read into new buffers of the pool, and stands as a clean extent
+pub record FillsGap (s t : Stored) (old new : ExtentMap) (pool : ℕ) (gap : Span) (disk : Disk) (file : ℕ) : Type 0 where
+  pub made : Extent
+  pub is : IsMade s t pool gap made
+  pub extents : new.extents ≡ put_in old.extents made
+  pub adds : Adds old.extents made new.extents
+  pub apart : IsApart 0 new.extents
+  pub room : new.room + 1 ≡ old.room
+  pub moves : Moves s t [] (bufs_of made.parts)
+  pub grows : Grows s.arena t.arena
+  pub places : PlacesPages s t pool (pages_for (gap.to - gap.from))
+  pub mirrors : IfHonest disk (Mirrors t pool (content disk.slots file) made)
+
+-- each gap was read into new buffers of the pool, and stands as a clean extent
+pub record FillsGaps (s t : Stored) (old new : ExtentMap) (pool : ℕ) (gaps : List Span) (disk : Disk) (file : ℕ) : Type 0 where
+  pub made : List Extent
+  pub each : AreMade s t pool gaps made
+  pub extents : new.extents ≡ all_put old.extents made
+  pub room : new.room + length gaps ≡ old.room
+  pub moves : Moves s t [] (bufs_of (all_parts made))
+  pub mirrors : IfHonest disk (AllMirror t pool (content disk.slots file) made)
+
+-- without the extents that begin where these spans do: the last goes first
+abbrev pub without_spans : List Extent → List Span → List Extent
+without_spans es [] = es
+without_spans es (g ∷ gs) = without_at (without_spans es gs) g.from
+
+abbrev pub parts_in : Option Extent → List Slice
+parts_in None = []
+parts_in (Some e) = e.parts
+
+-- their slices
+abbrev pub parts_back : List Extent → List Span → List Slice
+parts_back es [] = []
+parts_back es (g ∷ gs) = parts_back es gs ++ parts_in (begins_at (without_spans es gs) g.from)
+
+-- an extent begins at each of them
+abbrev pub AllBegin : List Extent → List Span → Type 0
+AllBegin es [] = Unit {0}
+AllBegin es (g ∷ gs) = AllBegin es gs × IsSome (begins_at (without_spans es gs) g.from)

@@ -1,0 +1,12 @@
+pub mod Marks
+pub mod Cached
+pub mod Contents
+pub mod Pinned
+pub mod Sound
+pub mod Evicting
+pub mod Cache
+pub mod Users
+pub mod Loading
+pub mod Gaps
+pub mod Sharing
+pub mod Reading

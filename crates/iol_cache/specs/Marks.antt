@@ -1,0 +1,51 @@
+-- How often clean extents hold each buffer, by the page at which it begins.
+use Rattle.std.specs.Prelude.{◌≡◌, ℕ, ◌+◌, ◌<◌, ◌≤◌, ◌^◌, eqb, cond, Bool, nat_lt, List, [], ◌∷◌, length, slice_index}
+use Rattle.std.specs.List.{All, list_any}
+use Rattle.iol_core.specs.declared.numbers.BufId.{BufId}
+use Rattle.iol_hold.specs.Stored.{Stored, count_of}
+use Rattle.iol_hold.specs.Moves.{tally}
+use Rattle.iol_hold.specs.Texts.{bufs_of}
+use Rattle.iol_hold.specs.declared.slices.Slice.{Slice}
+
+-- 1 where the buffer begins at page p
+abbrev pub one_at : (p : ℕ) → BufId → ℕ
+one_at p b = cond (eqb b.page p) 1 0
+
+-- how many of these buffers begin at page p
+unfoldable pub at_page : (p : ℕ) → List BufId → ℕ
+at_page p [] = 0
+at_page p (b ∷ bs) = one_at p b + at_page p bs
+
+-- the table counts just these buffers
+pub record Counted (marks : List ℕ) (bufs : List BufId) : Type 0 where
+  pub each : (p : ℕ) → slice_index marks p ≡ at_page p bufs
+
+-- the slices were counted
+pub record Marks (old new : List ℕ) (xs : List Slice) : Type 0 where
+  pub each : (p : ℕ) → slice_index new p ≡ slice_index old p + at_page p (bufs_of xs)
+  pub long : length new ≡ length old
+
+-- and are no longer
+pub record Unmarks (old new : List ℕ) (xs : List Slice) : Type 0 where
+  pub each : (p : ℕ) → slice_index new p + at_page p (bufs_of xs) ≡ slice_index old p
+  pub long : length new ≡ length old
+
+pub record AreWithin (pages : ℕ) (xs : List Slice) : Type 0 where
+  pub each : All (λ (b : BufId). b.page < pages) (bufs_of xs)
+
+pub record HaveMarks (marks : List ℕ) (xs : List Slice) : Type 0 where
+  pub each : (p : ℕ) → at_page p (bufs_of xs) ≤ slice_index marks p
+
+pub record HasMarksLeft (marks : List ℕ) (xs : List Slice) : Type 0 where
+  pub each : (p : ℕ) → slice_index marks p + at_page p (bufs_of xs) < 2 ^ 63
+
+-- the buffer is held by more than clean extents
+abbrev pub is_held_more : Stored → List ℕ → BufId → Bool
+is_held_more s marks b = nat_lt (slice_index marks b.page) (count_of s b)
+
+abbrev pub is_in_use : Stored → List ℕ → List Slice → Bool
+is_in_use s marks xs = list_any (λ x. is_held_more s marks x.hold.buf) xs
+
+-- the same by the clean extents' buffers themselves
+abbrev pub is_held_beside : Stored → (clean : List BufId) → BufId → Bool
+is_held_beside s clean b = nat_lt (tally b clean) (count_of s b)

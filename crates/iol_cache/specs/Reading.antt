@@ -1,0 +1,86 @@
+-- Reading a range of a file.
+use Rattle.std.specs.Prelude.{◌≡◌, ◌⊎◌, ℕ, ◌+◌, ◌<◌, ◌≤◌, cond, false, true, if◌then◌else◌, List, [], ◌∷◌, ◌++◌, length, Option, Some, None, IsSome, flat_map, sum_by, eqb}
+use Rattle.std.specs.List.{All}
+use Rattle.iol_back.specs.Disk.{Disk}
+use Rattle.iol_hold.specs.Moves.{Shares}
+use Rattle.iol_hold.specs.Places.{places, byte_len}
+use Rattle.iol_hold.specs.Stored.{Stored}
+use Rattle.iol_hold.specs.Texts.{bufs_of}
+use Rattle.iol_hold.specs.declared.slices.Slice.{Slice}
+use Rattle.iol_extent.specs.Extents.{Extent, ExtentMap, cover, begins_at, extent_over}
+use Rattle.iol_extent.specs.Spans.{LiesIn}
+use Rattle.iol_extent.specs.declared.spans.Span.{Span}
+use Rattle.iol_evict.specs.Ranking.{Ranking, hit_at, entered}
+use Rattle.iol_cache.specs.Gaps.{FillsGaps, gap_pages}
+use Rattle.iol_cache.specs.Loading.{PlacesPages}
+use Rattle.iol_cache.specs.Marks.{AreWithin}
+use Rattle.iol_cache.specs.Sharing.{places_over}
+use Rattle.iol_cache.specs.Cached.{Cached, file_in, extents_in, order_in, parts_in, held, clean_held, clean_at, entries_at}
+
+-- nothing changed but how many more can come in without memory
+pub record SameButRoom (old new : Cached) : Type 0 where
+  pub pools : (f : ℕ) → (file_in new.files f).pool ≡ (file_in old.files f).pool
+  pub extents : (f : ℕ) → extents_in new.files f ≡ extents_in old.files f
+  pub files : length new.files ≡ length old.files
+  pub held : held new.files ≡ held old.files
+  pub clean : clean_held new.files ≡ clean_held old.files
+  pub entries : (p : ℕ) → (order_in new.orders p).entries ≡ (order_in old.orders p).entries
+  pub low : (p : ℕ) → (order_in new.orders p).low ≡ (order_in old.orders p).low
+  pub orders : length new.orders ≡ length old.orders
+  pub marks : new.marks ≡ old.marks
+
+-- Hits.
+
+-- a hit on an extent counts where it is clean
+abbrev pub hit_counted : Ranking → (f : ℕ) → Option Extent → Ranking
+hit_counted r f None = r
+hit_counted r f (Some e) = if e.dirty then r else hit_at r f e.at
+
+-- an order after these spans of a file were hit, one after another
+abbrev pub hits_counted : Ranking → (f : ℕ) → List Extent → List Span → Ranking
+hits_counted r f es [] = r
+hits_counted r f es (s ∷ ss) = hits_counted (hit_counted r f (extent_over es s.from)) f es ss
+
+-- an order has just the file's clean extents, as far as the file goes
+pub record RanksFile (r : Ranking) (f : ℕ) (es : List Extent) : Type 0 where
+  pub each : (at : ℕ) → entries_at f at r.entries ≡ clean_at at es
+
+-- Extents that come in where spans begin.
+
+abbrev pub parts_from : List Extent → Span → List Slice
+parts_from es s = parts_in (begins_at es s.from)
+
+-- the slices of the extents that begin where these spans do
+abbrev pub parts_of_spans : List Extent → List Span → List Slice
+parts_of_spans es ss = flat_map (parts_from es) ss
+
+-- an order after the extents that begin where these spans do came in, one after another
+abbrev pub all_entered : Ranking → (f : ℕ) → List Extent → List Span → Ranking
+all_entered r f es [] = r
+all_entered r f es (s ∷ ss) = all_entered (entered r f s.from (byte_len (parts_from es s)) 1) f es ss
+
+-- an extent begins where each of these spans does
+abbrev pub AllBeginAt : List Extent → List Span → Type 0
+AllBeginAt es [] = Unit {0}
+AllBeginAt es (s ∷ ss) = IsSome (begins_at es s.from) × AllBeginAt es ss
+
+-- the pages of the extents are below n
+pub record AllWithin (n : ℕ) (es : List Extent) : Type 0 where
+  pub each : (at : ℕ) → AreWithin n (parts_in (begins_at es at))
+
+-- the order has no entry where these spans begin
+abbrev pub AreAbsent : Ranking → (f : ℕ) → List Span → Type 0
+AreAbsent r f [] = Unit {0}
+AreAbsent r f (s ∷ ss) = (entries_at f s.from r.entries ≡ 0) × AreAbsent r f ss
+
+-- Gaps of a range that were read, and the range that was shared then.
+pub record FillsRange (s t : Stored) (old new : ExtentMap) (pool : ℕ) (gaps : List Span) (from to : ℕ) (disk : Disk) (file : ℕ) (xs : List Slice) : Type 0 where
+  pub mid : Stored
+  pub fills : FillsGaps s mid old new pool gaps disk file
+  pub filled : PlacesPages s mid pool (gap_pages gaps)
+  pub shares : Shares mid t [] (bufs_of xs)
+  pub lies : places xs ≡ places_over new.extents from to
+
+-- each byte of the range lies under an extent or in one of these gaps
+pub record IsComplete (es : List Extent) (from to : ℕ) (gaps : List Span) : Type 0 where
+  pub each : (i : ℕ) → from ≤ i → i < to → IsSome (cover es i) ⊎ LiesIn i gaps

@@ -1,0 +1,55 @@
+-- What holds between any two calls of a cache.
+use Rattle.std.specs.Prelude.{◌≡◌, ℕ, ◌≤◌, ◌<◌, ◌^◌, true, false, List, [], ◌∷◌, length}
+use Rattle.std.specs.List.{All}
+use Rattle.iol_core.specs.Numbered.{is_numbered}
+use Rattle.iol_core.specs.declared.limits.TheConstants.{MAX_FILE_BYTES}
+use Rattle.iol_arena.specs.State.{page_count}
+use Rattle.iol_pool.specs.Pools.{pool_in}
+use Rattle.iol_hold.specs.Stored.{Stored, IsTidy, IsStill}
+use Rattle.iol_hold.specs.Moves.{Covers}
+use Rattle.iol_hold.specs.Texts.{AllReadable}
+use Rattle.iol_hold.specs.declared.slices.Slice.{Slice}
+use Rattle.iol_extent.specs.Extents.{Extent, IsApart, last_end}
+use Rattle.iol_cache.specs.declared.files.CachedFile.{CachedFile}
+use Rattle.iol_cache.specs.Marks.{Counted}
+use Rattle.iol_cache.specs.Cached.{Cached, file_in, order_in, held, clean_held, AreRanked}
+
+-- P holds of each of a list
+abbrev pub Each : {A : Type 0} → (A → Type 0) → List A → Type 0
+Each P [] = Unit {0}
+Each P (x ∷ xs) = P x × Each P xs
+
+-- an extent's slices lie in live buffers of the pool
+pub record IsLaid (s : Stored) (pool : ℕ) (e : Extent) : Type 0 where
+  pub readable : AllReadable s e.parts
+  pub home : All (λ (x : Slice). x.hold.pool ≡ pool) e.parts
+
+-- a file's extents are apart, lie in its pool, and end within the limit
+pub record IsFiled (s : Stored) (x : CachedFile) : Type 0 where
+  pub apart : IsApart 0 x.extents.extents
+  pub laid : Each (IsLaid s x.pool) x.extents.extents
+  pub short : last_end x.extents.extents ≤ MAX_FILE_BYTES
+
+-- a file that stands is of an open pool, which has an order
+pub record IsOpened (s : Stored) (c : Cached) (f : ℕ) : Type 0 where
+  pub is_open : (pool_in s.pools (file_in c.files f).pool).closed ≡ false
+  pub ordered : is_numbered c.orders (file_in c.files f).pool ≡ true
+
+-- each buffer is held by each slice of an extent, clean extents are marked and stand in the orders
+pub record IsSound (s : Stored) (c : Cached) : Type 0 where
+  pub files : (f : ℕ) → IsFiled s (file_in c.files f)
+  pub opened : (f : ℕ) → is_numbered c.files f ≡ true → IsOpened s c f
+  pub covered : Covers s (held c.files)
+  pub marked : Counted c.marks (clean_held c.files)
+  pub pages : length c.marks ≡ page_count s.arena
+  pub ranked : AreRanked c.files c.orders
+  pub few_orders : length c.orders < 2 ^ 32
+  pub tidy : IsTidy s
+  pub still : IsStill s.arena
+
+-- the marks are those of the clean extents, all of which are held
+pub record IsUsable (s : Stored) (fs : List CachedFile) (marks : List ℕ) : Type 0 where
+  pub files : (f : ℕ) → IsFiled s (file_in fs f)
+  pub covered : Covers s (held fs)
+  pub marked : Counted marks (clean_held fs)
+  pub pages : length marks ≡ page_count s.arena

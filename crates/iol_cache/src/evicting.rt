@@ -1,0 +1,108 @@
+//! Eviction of clean extents.
+ghost use Rattle.std.specs.Prelude.{◌≡◌, ◌≢◌, ◌↔◌, ℕ, ◌+◌, ◌-◌, ◌<◌, ◌≤◌, [], length, zero, suc, true, false, Some, None, MatchOption, IsTrue};
+ghost use Rattle.iol_core.specs.Numbered.{is_numbered};
+ghost use Rattle.iol_pool.specs.Pools.{pool_in};
+ghost use Rattle.iol_hold.specs.Room.{pages_of, free_of};
+ghost use Rattle.iol_evict.specs.Victims.{IsVictim};
+ghost use Rattle.iol_cache.specs.Cached.{extents_in, order_in, clean_held};
+ghost use Rattle.iol_cache.specs.Cache.{cached_of, holding};
+ghost use Rattle.iol_cache.specs.Evicting.{in_use, IsCleanAt, AllDirty, Evicts, EvictsAll, EvictsPools, GivesUp};
+ghost use Rattle.iol_cache.specs.Pinned.{pinned_beside};
+ghost use Rattle.iol_cache.specs.Sound.{IsSound};
+
+use crate::cache::Cache;
+use crate::users::Users;
+use iol_core::numbers::{FileId, PoolId};
+use iol_hold::Store;
+
+impl Cache {
+    // The clean extent that goes first of those of the pool's files.
+    fn victim(&self, store: &Store, pool: PoolId) -> Option<(FileId, u32)>
+        requires { IsSound store.now (cached_of self.now) }
+        ensures { let entries = (order_in self.now.orders.items pool).entries in
+            MatchOption result (entries ≡ [])
+            (IsVictim (in_use store.now self.now.files.items) entries) }
+    {
+        let number = pool.number() as usize;
+        if number == 0 {
+            return None;
+        }
+        if number > self.orders.len() {
+            return None;
+        }
+        let users = Users {
+            store,
+            files: self.files.as_slice(),
+            marks: &self.marks,
+        };
+        self.orders[number - 1].least(&users)
+    }
+
+    // Evicts the clean extent of a file that begins at a place.
+    fn evict(&mut self, store: &mut Store, file: FileId, at: u32)
+        requires sound { IsSound store.old (cached_of self.old) }
+        requires clean { IsCleanAt self.old.files.items file at }
+        ensures evicts { Evicts file at (holding store.old self.old) (holding store.new self.new) }
+        ensures sound { IsSound store.new (cached_of self.new) }
+    {
+        let place = file.number() as usize - 1;
+        let pool = self.files[place].pool;
+        let agg = self.files[place].extents.remove(at);
+        self.marks.unmark(agg.slices());
+        self.orders[pool.number() as usize - 1].leave(file, at, true);
+        agg.release(store);
+    }
+
+    /// Evicts clean extents of the pool's files, those that go first, until so many pages of the pool are free. False:
+    /// there is no room for so many.
+    pub fn make_room(&mut self, store: &mut Store, pool: PoolId, pages: u32) -> bool
+        requires sound { IsSound store.old (cached_of self.old) }
+        requires open { (pool_in store.old.pools pool).closed ≡ false }
+        ensures room { let clean = clean_held (cached_of self.old).files in
+            IsTrue result ↔
+            (pinned_beside store.old clean pool + pages ≤ length (pages_of store.old pool)) }
+        ensures free { IsTrue result → pages ≤ length (free_of store.new pool) }
+        ensures victims { EvictsAll pool (Some pages) (holding store.old self.old)
+            (holding store.new self.new) }
+        ensures gives_up { GivesUp (holding store.old self.old) (holding store.new self.new) }
+        ensures sound { IsSound store.new (cached_of self.new) }
+    {
+        while store.report_pool(pool).free < pages {
+            let Some(place) = self.victim(store, pool) else {
+                return false;
+            };
+            self.evict(store, place.0, place.1);
+        }
+        true
+    }
+
+    // Evicts all clean extents of the pool's files, those that go first before the others.
+    fn drop_clean_of(&mut self, store: &mut Store, pool: PoolId)
+        requires { IsSound store.old (cached_of self.old) }
+        ensures none { (order_in self.new.orders.items pool).entries ≡ [] }
+        ensures others { (q : ℕ) → q ≢ pool →
+            order_in self.new.orders.items q ≡ order_in self.old.orders.items q }
+        ensures len { length self.new.orders.items ≡ length self.old.orders.items }
+        ensures victims { EvictsAll pool None (holding store.old self.old) (holding store.new self.new) }
+        ensures gives_up { GivesUp (holding store.old self.old) (holding store.new self.new) }
+        ensures sound { IsSound store.new (cached_of self.new) }
+    {
+        while let Some(place) = self.victim(store, pool) {
+            self.evict(store, place.0, place.1);
+        }
+    }
+
+    /// Evicts all clean extents, pool by pool, those that go first before the others.
+    pub fn drop_clean(&mut self, store: &mut Store)
+        requires { IsSound store.old (cached_of self.old) }
+        ensures none { (f : ℕ) → AllDirty (extents_in (cached_of self.new).files f) }
+        ensures victims { EvictsPools (length (cached_of self.old).orders)
+            (holding store.old self.old) (holding store.new self.new) }
+        ensures gives_up { GivesUp (holding store.old self.old) (holding store.new self.new) }
+        ensures sound { IsSound store.new (cached_of self.new) }
+    {
+        for i in 0..self.orders.len() {
+            self.drop_clean_of(store, PoolId::new(i as u32 + 1));
+        }
+    }
+}

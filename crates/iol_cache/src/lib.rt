@@ -1,0 +1,15 @@
+//! Files over a backing store, and the unified cache of their bytes.
+#![tactic(auto)]
+
+mod cache;
+mod evicting;
+mod files;
+mod filling;
+mod gaps;
+mod loading;
+mod marks;
+mod ranking;
+mod sharing;
+mod users;
+
+pub use cache::Cache;

@@ -1,0 +1,78 @@
+//! Extents of a file in the order of its pool: hits that count, and extents that come in.
+ghost use Rattle.std.specs.Prelude.{◌≡◌, ℕ, ◌+◌, ◌-◌, ◌<◌, ◌≤◌, ◌^◌, length, IsSome};
+ghost use Rattle.iol_extent.specs.Extents.{IsApart, begins_at};
+ghost use Rattle.iol_evict.specs.Ranking.{entered};
+ghost use Rattle.iol_hold.specs.Places.{byte_len};
+ghost use Rattle.iol_cache.specs.Cached.{entries_at, parts_in};
+ghost use Rattle.iol_extent.specs.Spans.{AreInOrder};
+ghost use Rattle.iol_cache.specs.Marks.{Marks, AreWithin, HasMarksLeft};
+ghost use Rattle.iol_cache.specs.Reading.{RanksFile, hits_counted, parts_of_spans, all_entered, AllBeginAt, AllWithin, AreAbsent};
+
+use crate::marks::CleanHolds;
+use iol_core::numbers::FileId;
+use iol_evict::order::Order;
+use iol_extent::extents::Extents;
+use iol_extent::spans::Span;
+
+/// Counts hits on the clean extents over the beginnings of spans.
+pub(crate) fn count_hits(order: &mut Order, extents: &Extents, file: FileId, hits: &[Span])
+    requires apart { IsApart 0 extents.now.extents }
+    requires ranked { RanksFile order.old file extents.now.extents }
+    ensures { order.new ≡ hits_counted order.old file extents.now.extents hits.now }
+{
+    for hit in hits {
+        if let Some((start, _, dirty)) = extents.over(hit.from) {
+            if !dirty {
+                order.hit(file, start);
+            }
+        }
+    }
+}
+
+// Marks the extent that begins at a place, and lets it into the order.
+fn enter_one(
+    order: &mut Order,
+    marks: &mut CleanHolds,
+    extents: &Extents,
+    file: FileId,
+    at: u32,
+)
+    requires apart { IsApart 0 extents.now.extents }
+    requires begins { IsSome (begins_at extents.now.extents at) }
+    requires absent { entries_at file at order.old.entries ≡ 0 }
+    requires room { 0 < order.old.room }
+    requires within { AreWithin (length marks.old) (parts_in (begins_at extents.now.extents at)) }
+    requires few { HasMarksLeft marks.old (parts_in (begins_at extents.now.extents at)) }
+    ensures order { let xs = parts_in (begins_at extents.now.extents at) in
+        order.new ≡ entered order.old file at (byte_len xs) 1 }
+    ensures marks { Marks marks.old marks.new (parts_in (begins_at extents.now.extents at)) }
+{
+    let Some((_, agg, _)) = extents.over(at) else {
+        return;
+    };
+    marks.mark(agg.slices());
+    order.enter(file, at, agg.len(), 1);
+}
+
+/// Marks the extents that begin where spans do, and lets them into the order.
+pub(crate) fn enter_all(
+    order: &mut Order,
+    marks: &mut CleanHolds,
+    extents: &Extents,
+    file: FileId,
+    spans: &[Span],
+)
+    requires apart { IsApart 0 extents.now.extents }
+    requires begin { AllBeginAt extents.now.extents spans.now }
+    requires in_order { AreInOrder 0 u32.MAX spans.now }
+    requires absent { AreAbsent order.old file spans.now }
+    requires room { length spans.now ≤ order.old.room }
+    requires within { AllWithin (length marks.old) extents.now.extents }
+    requires few { HasMarksLeft marks.old (parts_of_spans extents.now.extents spans.now) }
+    ensures order { order.new ≡ all_entered order.old file extents.now.extents spans.now }
+    ensures marks { Marks marks.old marks.new (parts_of_spans extents.now.extents spans.now) }
+{
+    for span in spans {
+        enter_one(order, marks, extents, file, span.from);
+    }
+}

@@ -1,0 +1,160 @@
+//! Bytes of a file, shared from the extents over them.
+ghost use Rattle.std.specs.Prelude.{◌≡◌, ℕ, ◌+◌, ◌-◌, ◌<◌, ◌≤◌, ◌^◌, ◌++◌, [], All, IsSome, IfOk, OnErr};
+ghost use Rattle.iol_cache.specs.Gaps.{all_parts};
+ghost use Rattle.iol_cache.specs.Sharing.{CountsBelow, IsCovered, IsCoveredSpan, places_of_spans, places_over};
+ghost use Rattle.iol_extent.specs.Extents.{IsApart, extent_over};
+ghost use Rattle.iol_extent.specs.Spans.{AreInOrder};
+ghost use Rattle.iol_core.specs.declared.numbers.BufId.{BufId};
+ghost use Rattle.iol_hold.specs.Moves.{Covers, Moves, SameLists, Shares, tally};
+ghost use Rattle.iol_hold.specs.Places.{byte_len, places};
+ghost use Rattle.iol_hold.specs.Releases.{FreesOnly};
+ghost use Rattle.iol_hold.specs.Stored.{AllSettled, count_of};
+ghost use Rattle.iol_hold.specs.Texts.{AllReadable, bufs_of};
+
+use iol_agg::Agg;
+use iol_extent::extents::Extents;
+use iol_extent::spans::Span;
+use iol_hold::Store;
+use std::alloc::{AllocError, Global};
+
+// Adds what the extent over byte `at` has before `to`, and tells where that ends. Refused, all is released.
+fn share_next(
+    alloc: Global,
+    extents: &Extents,
+    store: &mut Store,
+    so_far: Agg,
+    at: u32,
+    to: u32,
+) -> Result<(Agg, u32), AllocError>
+    requires before { at < to }
+    requires apart { IsApart 0 extents.now.extents }
+    requires covered { IsSome (extent_over extents.now.extents at) }
+    requires held { Covers store.old (bufs_of (all_parts extents.now.extents)) }
+    requires own { Covers store.old (bufs_of so_far) }
+    requires few { CountsBelow store.old (2 ^ 62 + 2 ^ 32) }
+    requires small { byte_len so_far + (to - at) < 2 ^ 32 }
+    ensures further { IfOk result (λ r. at < r.1) }
+    ensures within { IfOk result (λ r. r.1 ≤ to) }
+    ensures places { IfOk result (λ r.
+        places r.0 ≡ places so_far ++ places_over extents.now.extents at r.1) }
+    ensures shares { IfOk result (λ r. Shares store.old store.new (bufs_of so_far) (bufs_of r.0)) }
+    ensures gone { OnErr result (Moves store.old store.new (bufs_of so_far) []) }
+    ensures frees { FreesOnly store.old store.new }
+    ensures lists { SameLists store.old store.new }
+    ensures settles { AllReadable store.old (all_parts extents.now.extents) →
+        AllReadable store.old so_far → AllSettled store.old → AllSettled store.new }
+{
+    let Some((begin, agg, _dirty)) = extents.over(at) else {
+        unreachable!();
+    };
+    let skip = at - begin;
+    let count = (to - at).min(agg.len() - skip);
+    let piece = match agg.cut(alloc, store, skip, skip + count) {
+        Ok(piece) => piece,
+        Err(refused) => {
+            so_far.release(store);
+            return Err(refused);
+        }
+    };
+    match so_far.join(piece) {
+        Ok(joined) => Ok((joined, at + count)),
+        Err(failed) => {
+            let (so_far, piece) = failed.value;
+            so_far.release(store);
+            piece.release(store);
+            Err(AllocError)
+        }
+    }
+}
+
+// Adds the bytes of a range that lies under extents. Refused, all is released.
+fn share_over(
+    alloc: Global,
+    extents: &Extents,
+    store: &mut Store,
+    so_far: Agg,
+    from: u32,
+    to: u32,
+) -> Result<Agg, AllocError>
+    requires ordered { from ≤ to }
+    requires apart { IsApart 0 extents.now.extents }
+    requires covered { IsCovered extents.now.extents from to }
+    requires held { Covers store.old
+        (bufs_of so_far ++ bufs_of (all_parts extents.now.extents)) }
+    requires few { (b : BufId) → count_of store.old b < 2 ^ 62 + tally b (bufs_of so_far) }
+    requires small { byte_len so_far + (to - from) < 2 ^ 32 }
+    ensures places { IfOk result (λ a.
+        places a ≡ places so_far ++ places_over extents.now.extents from to) }
+    ensures shares { IfOk result (λ a. Shares store.old store.new (bufs_of so_far) (bufs_of a)) }
+    ensures gone { OnErr result (Moves store.old store.new (bufs_of so_far) []) }
+    ensures frees { FreesOnly store.old store.new }
+    ensures lists { SameLists store.old store.new }
+    ensures settles { AllReadable store.old (all_parts extents.now.extents) →
+        AllReadable store.old so_far → AllSettled store.old → AllSettled store.new }
+{
+    let mut shared = so_far;
+    let mut at = from;
+    while at < to {
+        let (more, end) = match share_next(alloc, extents, store, shared, at, to) {
+            Ok(next) => next,
+            Err(refused) => return Err(refused),
+        };
+        shared = more;
+        at = end;
+    }
+    Ok(shared)
+}
+
+/// Shares the bytes of a range of a file that lies under extents.
+pub(crate) fn share_range(
+    alloc: Global,
+    extents: &Extents,
+    store: &mut Store,
+    from: u32,
+    to: u32,
+) -> Result<Agg, AllocError>
+    requires ordered { from ≤ to }
+    requires apart { IsApart 0 extents.now.extents }
+    requires covered { IsCovered extents.now.extents from to }
+    requires held { Covers store.old (bufs_of (all_parts extents.now.extents)) }
+    requires few { CountsBelow store.old (2 ^ 62) }
+    ensures places { IfOk result (λ a. places a ≡ places_over extents.now.extents from to) }
+    ensures shares { IfOk result (λ a. Shares store.old store.new [] (bufs_of a)) }
+    ensures none { OnErr result (Moves store.old store.new [] []) }
+    ensures frees { FreesOnly store.old store.new }
+    ensures lists { SameLists store.old store.new }
+    ensures settles { AllReadable store.old (all_parts extents.now.extents) →
+        AllSettled store.old → AllSettled store.new }
+{
+    share_over(alloc, extents, store, Agg::new(alloc), from, to)
+}
+
+/// Shares the bytes of ranges of a file that lie under extents, one after another.
+pub(crate) fn share_spans(
+    alloc: Global,
+    extents: &Extents,
+    store: &mut Store,
+    spans: &[Span],
+) -> Result<Agg, AllocError>
+    requires order { AreInOrder 0 u32.MAX spans.now }
+    requires apart { IsApart 0 extents.now.extents }
+    requires covered { All (IsCoveredSpan extents.now.extents) spans.now }
+    requires held { Covers store.old (bufs_of (all_parts extents.now.extents)) }
+    requires few { CountsBelow store.old (2 ^ 62) }
+    ensures places { IfOk result (λ a. places a ≡ places_of_spans extents.now.extents spans.now) }
+    ensures shares { IfOk result (λ a. Shares store.old store.new [] (bufs_of a)) }
+    ensures none { OnErr result (Moves store.old store.new [] []) }
+    ensures frees { FreesOnly store.old store.new }
+    ensures lists { SameLists store.old store.new }
+    ensures settles { AllReadable store.old (all_parts extents.now.extents) →
+        AllSettled store.old → AllSettled store.new }
+{
+    let mut shared = Agg::new(alloc);
+    for span in spans {
+        shared = match share_over(alloc, extents, store, shared, span.from, span.to) {
+            Ok(more) => more,
+            Err(refused) => return Err(refused),
+        };
+    }
+    Ok(shared)
+}
