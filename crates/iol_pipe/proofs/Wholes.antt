@@ -7,7 +7,7 @@ use Rattle.iol_core.specs.Text as text
 use Rattle.iol_arena.specs.Buffers.{Grows, bytes_of, bytes_in}
 use Rattle.iol_arena.specs.Pages.{IsSameBut, MadeOn}
 use Rattle.iol_arena.proofs.Grows.{grows_none}
-use Rattle.iol_arena.proofs.Made.{made_none, same_but_none}
+use Rattle.iol_arena.proofs.Made.{made_none, same_but_entries}
 use Rattle.iol_hold.specs.Moves.{Moves}
 use Rattle.iol_hold.specs.Places.{byte_len}
 use Rattle.iol_hold.specs.Room.{free_of, lowest_of}
@@ -100,7 +100,7 @@ none_added s old pool = record {
   readable = readable_none s;
   moves = moves_none s;
   made_on = made_none s.arena (free_of s pool);
-  pages = keeps_pages_made (made_none s.arena (free_of s pool)) (same_but_none s.arena (lowest_of s pool 0)) (grows_none s.arena) refl;
+  pages = keeps_pages_made (made_none s.arena (free_of s pool)) (same_but_entries (lowest_of s pool 0) refl) (grows_none s.arena) refl;
   settles = λ h. h;
   pools = refl;
 }
