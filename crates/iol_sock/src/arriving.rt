@@ -52,13 +52,8 @@ impl Connection {
         if max == 0 {
             return Err(Refusal::BadRange);
         }
-        if self.is_ended() {
-            return Err(Refusal::BrokenPipe);
-        }
+        self.may_arrive(1)?;
         let room = MAX_QUEUE_BYTES as u32 - self.unread();
-        if room == 0 {
-            return Err(Refusal::WouldBlock);
-        }
         let most = max.min(PAGE_BYTES as u32).min(room);
         self.incoming
             .fill_from(alloc, store, self.pool, reader, most)

@@ -1,5 +1,6 @@
 //! What arrives, and what is read of it.
-ghost use Rattle.std.specs.Prelude.{◌≡◌, ℕ, ◌++◌, length, take, drop, take_while, true, false, Err, IfOk, IfErr, OnOk, OnErr};
+ghost use Rattle.std.specs.Prelude.{◌≡◌, ℕ, ◌++◌, length, take, drop, take_while, true, false, Some, Err, IfOk, IfErr, OnOk, OnErr};
+ghost use Rattle.iol_core.specs.Meaning.{first};
 ghost use Rattle.iol_pool.specs.Pools.{pool_in};
 ghost use Rattle.iol_hold.specs.Moves.{Covers, IsCountable, Shares};
 ghost use Rattle.iol_hold.specs.Places.{byte_len, places};
@@ -18,6 +19,21 @@ use iol_hold::Store;
 use std::alloc::{AllocError, Global};
 
 impl Connection {
+    /// Whether `n` bytes may arrive, or which refusal comes first: `BrokenPipe` where nothing more may arrive, `WouldBlock`
+    /// where there is a byte and none fits.
+    pub fn may_arrive(&self, n: usize) -> Result<(), Refusal>
+        ensures passed { OnOk result (IsPassed (arrive_refusals self.now n)) }
+        ensures refused { IfErr result (λ x. first (arrive_refusals self.now n) ≡ Some x) }
+    {
+        if self.is_ended() {
+            return Err(Refusal::BrokenPipe);
+        }
+        if n > 0 && self.unread() as usize == MAX_QUEUE_BYTES {
+            return Err(Refusal::WouldBlock);
+        }
+        Ok(())
+    }
+
     /// Bytes come in from the peer, as many as fit: how many is the answer. They lie in new buffers on the lowest free
     /// pages of the connection's pool, which is open.
     ///
@@ -41,12 +57,7 @@ impl Connection {
         ensures err { OnErr result (self.new ≡ self.old) }
         ensures err_store { OnErr result (store.new ≡ store.old) }
     {
-        if self.is_ended() {
-            return Err(Refusal::BrokenPipe);
-        }
-        if !bytes.is_empty() && self.unread() as usize == MAX_QUEUE_BYTES {
-            return Err(Refusal::WouldBlock);
-        }
+        self.may_arrive(bytes.len())?;
         self.incoming.fill(alloc, store, self.pool, bytes)
     }
 

@@ -1,14 +1,17 @@
 //! What is to be sent, and what is sent of it.
-ghost use Rattle.std.specs.Prelude.{◌≡◌, ◌+◌, ◌≤◌, ◌++◌, take, drop, IfOk, IfErr, OnOk, OnErr};
+ghost use Rattle.std.specs.Prelude.{◌≡◌, ℕ, ◌+◌, ◌≤◌, ◌++◌, length, take, drop, true, false, Some, Err, IfOk, IfErr, OnOk, OnErr};
 ghost use Rattle.std.specs.Vec.{vec_len, vec_capacity};
 ghost use Rattle.iol_core.specs.Checksum.{checksum as checksum_of};
-ghost use Rattle.iol_core.specs.Meaning.{WantOfMemory};
+ghost use Rattle.iol_core.specs.Meaning.{first, WantOfMemory, WantOfRoom};
 ghost use Rattle.iol_core.specs.Text.{bytes_of};
 ghost use Rattle.iol_hold.specs.Moves.{Covers, IsCountable, Moves, SameLists, Shares};
 ghost use Rattle.iol_hold.specs.Places.{byte_len, places};
+ghost use Rattle.iol_pool.specs.Pools.{pool_in};
 ghost use Rattle.iol_hold.specs.Releases.{FreesOnly};
+ghost use Rattle.iol_hold.specs.Room.{has_room};
 ghost use Rattle.iol_hold.specs.Stored.{AllSettled};
 ghost use Rattle.iol_hold.specs.Texts.{text_of, bufs_of, AllReadable};
+ghost use Rattle.iol_pipe.specs.Adding.{AddsBytes};
 ghost use Rattle.iol_pipe.specs.Queue.{fitting};
 ghost use Rattle.iol_sum.specs.Sums.{IsRight};
 ghost use Rattle.iol_sock.specs.Refused.{queue_refusals, segment_refusals, IsPassed, IsRefused};
@@ -18,6 +21,7 @@ use crate::connections::Connection;
 use iol_agg::Agg;
 use iol_core::limits::MAX_QUEUE_BYTES;
 use iol_core::lists::Bytes;
+use iol_core::numbers::PoolId;
 use iol_core::refusals::Refusal;
 use iol_hold::Store;
 use iol_pipe::Pipe;
@@ -32,6 +36,21 @@ pub struct Segment {
 }
 
 impl Connection {
+    /// Whether `n` bytes may be queued, or which refusal comes first: `BrokenPipe` where the peer is gone, `WouldBlock`
+    /// where there is a byte and none fits.
+    pub fn may_queue(&self, n: usize) -> Result<(), Refusal>
+        ensures passed { OnOk result (IsPassed (queue_refusals self.now n)) }
+        ensures refused { IfErr result (λ x. first (queue_refusals self.now n) ≡ Some x) }
+    {
+        if self.is_gone() {
+            return Err(Refusal::BrokenPipe);
+        }
+        if n > 0 && self.unsent() as usize == MAX_QUEUE_BYTES {
+            return Err(Refusal::WouldBlock);
+        }
+        Ok(())
+    }
+
     /// Bytes are to be sent, as many as fit: how many is the answer. They are shared, and the aggregate stays.
     ///
     /// `BrokenPipe` where the peer is gone, `WouldBlock` where bytes are offered and none fits, then `Memory`.
@@ -50,13 +69,39 @@ impl Connection {
         ensures err { OnErr result (self.new ≡ self.old) }
         ensures err_store { OnErr result (store.new ≡ store.old) }
     {
-        if self.is_gone() {
-            return Err(Refusal::BrokenPipe);
-        }
-        if !from.is_empty() && self.unsent() as usize == MAX_QUEUE_BYTES {
-            return Err(Refusal::WouldBlock);
-        }
+        self.may_queue(from.len() as usize)?;
         Ok(self.outgoing.push(store, from)?)
+    }
+
+    /// New bytes of an open pool are to be sent, as many as fit: how many is the answer. They lie in new buffers on the
+    /// lowest free pages of the pool.
+    ///
+    /// It is refused as [`queue`](Connection::queue) is, and then `NoRoom` and `Memory`.
+    pub fn write(
+        &mut self,
+        alloc: Global,
+        store: &mut Store,
+        pool: PoolId,
+        bytes: &[u8],
+    ) -> Result<u32, Refusal>
+        requires { (pool_in store.old.pools pool).closed ≡ false }
+        ensures passed { OnOk result (IsPassed (queue_refusals self.old (length bytes.now))) }
+        ensures refused { IfErr result (IsRefused (queue_refusals self.old (length bytes.now))
+            (WantOfRoom pool)) }
+        ensures count { IfOk result (λ n. n ≡ fitting self.old.outgoing (length bytes.now)) }
+        ensures added { IfOk result (λ n.
+            AddsBytes store.old store.new self.old.outgoing self.new.outgoing pool
+            (take n bytes.now)) }
+        ensures others { self.new ≡ record self.old { outgoing = self.new.outgoing } }
+        ensures room { OnOk result (has_room store.old pool
+            (fitting self.old.outgoing (length bytes.now)) ≡ true) }
+        ensures no_room { (p : ℕ) → result ≡ Err (Refusal.NoRoom p) → has_room store.old pool
+            (fitting self.old.outgoing (length bytes.now)) ≡ false }
+        ensures err { OnErr result (self.new ≡ self.old) }
+        ensures err_store { OnErr result (store.new ≡ store.old) }
+    {
+        self.may_queue(bytes.len())?;
+        self.outgoing.fill(alloc, store, pool, bytes)
     }
 
     /// Sends the first `max` bytes, or all where fewer wait. Their checksum is put together from the sums of the slices
