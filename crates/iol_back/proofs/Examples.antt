@@ -1,5 +1,5 @@
 -- The definitions, computed.
-use Rattle.std.proofs.Common.{◌≡◌, ℕ, ◌-◌, ◌^◌, [], ◌∷◌, List, refl, codes}
+use Rattle.std.proofs.Common.{◌≡◌, [], ◌∷◌, refl, codes}
 use Rattle.iol_back.specs.Disk.{content, overwritten, raised, last_failure}
 
 -- files are numbered from 1, and those that are not there are empty

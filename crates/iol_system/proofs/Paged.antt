@@ -1,5 +1,5 @@
 -- What a call does to pages, by what the kernel says of it.
-use Rattle.std.proofs.Common.{◌≡◌, refl, []}
+use Rattle.std.proofs.Common.{refl, []}
 use Rattle.std.specs.Prelude.{Result}
 use Rattle.iol_core.specs.State.{State}
 use Rattle.iol_core.specs.Meaning.{Meaning}

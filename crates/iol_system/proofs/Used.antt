@@ -8,7 +8,7 @@ use Rattle.iol_arena.specs.Buffers.{IsLive, LiesOn, kind_len}
 use Rattle.iol_arena.specs.declared.pages.PageKind.TheVariants.{Free, Head, Tail}
 use Rattle.iol_pool.specs.Pools.{pool_in}
 use Rattle.iol_hold.specs.Stored.{Stored, IsTidy, IsStill, IsPlaced}
-use Rattle.iol_system.specs.Uses.{IsUnused, IsInOneBuffer, HasOneUse, HasOnePool}
+use Rattle.iol_system.specs.Uses.{HasOneUse}
 use Rattle.iol_system.specs.Laws.{EachPageHasOneUse, EachChunkHasOnePool}
 
 -- a page of a live buffer is not free
