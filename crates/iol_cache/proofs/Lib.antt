@@ -19,3 +19,4 @@ pub mod Entering
 pub mod Adding
 pub mod Putting
 pub mod Ranged
+pub mod Roomy
