@@ -20,3 +20,4 @@ pub mod Adding
 pub mod Putting
 pub mod Ranged
 pub mod Roomy
+pub mod Completed

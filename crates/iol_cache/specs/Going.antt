@@ -9,7 +9,7 @@ use Rattle.iol_hold.specs.Room.{pages_of}
 use Rattle.iol_hold.specs.Stored.{Stored, AllSettled}
 use Rattle.iol_hold.specs.Texts.{bufs_of}
 use Rattle.iol_hold.specs.declared.slices.Slice.{Slice}
-use Rattle.iol_extent.specs.Extents.{ExtentMap}
+use Rattle.iol_extent.specs.Extents.{ExtentMap, IsApart}
 use Rattle.iol_extent.specs.Spans.{Tile}
 use Rattle.iol_extent.specs.declared.spans.Span.{Span}
 use Rattle.iol_cache.specs.Cached.{Cached, file_in, with_file, order_in, with_order, extents_in, held, clean_held}
@@ -17,7 +17,8 @@ use Rattle.iol_cache.specs.Contents.{Mirrors, SameFiles}
 use Rattle.iol_cache.specs.Evicting.{Holding}
 use Rattle.iol_cache.specs.Gaps.{gap_pages}
 use Rattle.iol_cache.specs.Pinned.{pinned_beside}
-use Rattle.iol_cache.specs.Reading.{FillsRange, hits_counted, all_entered}
+use Rattle.iol_cache.specs.Marks.{Marks}
+use Rattle.iol_cache.specs.Reading.{FillsRange, hits_counted, all_entered, parts_of_spans}
 use Rattle.iol_cache.specs.Sharing.{places_of_spans}
 
 -- The holds `taken`, beside those of the extents, became the holds `given` beside theirs. With an honest store every
@@ -60,3 +61,13 @@ pub record HasRoom (s : Stored) (c : Cached) (f from to : ℕ) : Type 0 where
 pub record LacksRoom (s : Stored) (c : Cached) (f from to : ℕ) : Type 0 where
   pub pinned : Pins s c f from to
   pub lacks : length (pages_of s (file_in c.files f).pool) < wanted_pages pinned
+
+-- The gaps of a range of a file were read, and stand as clean extents, which are marked and in the order; the range was
+-- shared.
+pub record FillsFile (f from to : ℕ) (gaps : List Span) (disk : Disk) (old new : Holding) (xs : List Slice) : Type 0 where
+  pub extents : ExtentMap
+  pub range : FillsRange old.store new.store (file_in old.cache.files f).extents extents (file_in old.cache.files f).pool gaps from to disk f xs
+  pub apart : IsApart 0 extents.extents
+  pub files : new.cache.files ≡ with_file old.cache.files f (record { pool = (file_in old.cache.files f).pool; extents = extents })
+  pub orders : let p = (file_in old.cache.files f).pool in new.cache.orders ≡ with_order old.cache.orders p (all_entered (order_in old.cache.orders p) f extents.extents gaps)
+  pub marks : Marks old.cache.marks new.cache.marks (parts_of_spans extents.extents gaps)
