@@ -19,3 +19,5 @@ pub mod Entering
 pub mod Adding
 pub mod Putting
 pub mod Ranged
+pub mod Roomy
+pub mod Completed
