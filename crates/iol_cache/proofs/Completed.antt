@@ -13,6 +13,7 @@ use Rattle.iol_arena.specs.State.{page_count}
 use Rattle.iol_back.specs.Disk.{Disk, IfHonest, content}
 use Rattle.iol_pool.specs.Pools.{Pool, pool_in}
 use Rattle.iol_hold.specs.Moves.{tally, Moves, Shares, Covers, Stays, SameLists, pool_meant}
+use Rattle.iol_hold.specs.Places.{Place}
 use Rattle.iol_hold.specs.Stored.{Stored, AllSettled}
 use Rattle.iol_hold.specs.Texts.{bufs_of}
 use Rattle.iol_hold.specs.declared.slices.Slice.{Slice}
@@ -83,7 +84,7 @@ ends_below s t p low high (g ∷ gs) (e ∷ made) order zip = All-cons (λ (x : 
 
 -- What holds after.
 
-module _ (old new : Holding) (f from to : ℕ) (gs : List Span) (disk : Disk) (xs : List Slice) (sound : IsSound old.store old.cache) (there : is_numbered old.cache.files f ≡ true) (order : AreInOrder from to gs) (are_gaps : All (IsGapSpan (extents_in old.cache.files f)) gs) (filled : FillsFile f from to gs disk old new xs) where
+module _ (old new : Holding) (f from to : ℕ) (beside : List Place) (gs : List Span) (disk : Disk) (xs : List Slice) (sound : IsSound old.store old.cache) (there : is_numbered old.cache.files f ≡ true) (order : AreInOrder from to gs) (are_gaps : All (IsGapSpan (extents_in old.cache.files f)) gs) (filled : FillsFile f from to beside gs disk old new xs) where
   abbrev fs : List CachedFile
   fs = old.cache.files
 

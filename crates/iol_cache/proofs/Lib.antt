@@ -21,3 +21,5 @@ pub mod Putting
 pub mod Ranged
 pub mod Roomy
 pub mod Completed
+pub mod Stepping
+pub mod Woven

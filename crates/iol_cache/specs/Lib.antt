@@ -9,5 +9,6 @@ pub mod Users
 pub mod Loading
 pub mod Gaps
 pub mod Sharing
+pub mod Weaving
 pub mod Reading
 pub mod Going

@@ -12,5 +12,6 @@ mod ranking;
 mod reading;
 mod sharing;
 mod users;
+mod weaving;
 
 pub use cache::Cache;
