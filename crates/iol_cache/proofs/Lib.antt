@@ -16,3 +16,4 @@ pub mod Undone
 pub mod Filled
 pub mod Shared
 pub mod Entering
+pub mod Composed

@@ -10,3 +10,4 @@ pub mod Loading
 pub mod Gaps
 pub mod Sharing
 pub mod Reading
+pub mod Composing

@@ -2,6 +2,7 @@
 #![tactic(auto)]
 
 mod cache;
+mod composing;
 mod evicting;
 mod files;
 mod gaps;
