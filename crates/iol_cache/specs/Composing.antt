@@ -1,5 +1,5 @@
 -- The bytes of a write, as an aggregate of the file's pool: its own are shared, and each run of others is copied.
-use Rattle.std.specs.Prelude.{◌≡◌, ℕ, ◌+◌, ◌-◌, ◌==◌, ◌<◌, take, drop, if◌then◌else◌, List, [], ◌∷◌, length, slice_index_or}
+use Rattle.std.specs.Prelude.{◌≡◌, ℕ, ◌+◌, ◌==◌, ◌<◌, ◌++◌, if◌then◌else◌, List, [], ◌∷◌, length, slice_index_or}
 use Rattle.iol_core.specs.Text as text
 use Rattle.iol_arena.specs.State.{pages_for}
 use Rattle.iol_extent.specs.Extents.{no_place}
@@ -35,8 +35,10 @@ pub record Composes (s t : Stored) (pool k : ℕ) (source out : List Slice) : Ty
   pub pages : PlacesPages s t pool k
   pub settles : AllSettled s → AllSettled t
 
--- The slices of the source from the i-th on were composed as far as those before the next one of another kind.
-pub record ComposesRun (s t : Stored) (pool : ℕ) (source : List Slice) (i next : ℕ) (out : List Slice) : Type 0 where
+-- of the slices of the source the first ones were composed so, and others are left
+pub record ComposesRun (s t : Stored) (pool : ℕ) (source left out : List Slice) : Type 0 where
+  pub run : List Slice
+  pub splits : source ≡ run ++ left
   pub count : ℕ
-  pub pages : count + copied_pages pool (drop next source) ≡ copied_pages pool (drop i source)
-  pub composes : Composes s t pool count (take (next - i) (drop i source)) out
+  pub pages : count + copied_pages pool left ≡ copied_pages pool source
+  pub composes : Composes s t pool count run out

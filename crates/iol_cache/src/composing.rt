@@ -6,7 +6,7 @@ ghost use Rattle.iol_cache.specs.Loading.{PlacesSome};
 ghost use Rattle.iol_cache.specs.Sharing.{CountsBelow};
 ghost use Rattle.iol_core.specs.Meaning.{WantOfRoom};
 ghost use Rattle.iol_core.specs.Text as text;
-ghost use Rattle.iol_hold.specs.Moves.{Covers, Moves, SameLists};
+ghost use Rattle.iol_hold.specs.Moves.{Covers, IsCountable, Moves, SameLists};
 ghost use Rattle.iol_hold.specs.Places.{byte_len};
 ghost use Rattle.iol_hold.specs.Room.{free_of};
 ghost use Rattle.iol_hold.specs.Stored.{AllSettled, IsTidy};
@@ -98,4 +98,99 @@ fn copy_run(
         Err(refusal) => return Err(refusal),
     };
     Ok(copy)
+}
+
+// Composes the run of slices from the i-th on, whose first byte is at place `at`, and tells which slice is next.
+fn compose_run(
+    alloc: Global,
+    store: &mut Store,
+    pool: PoolId,
+    source: &Agg,
+    i: usize,
+    at: u32,
+) -> Result<(usize, u32, Agg), Refusal>
+    requires there { i < length source.now }
+    requires at { at ≡ byte_len (take i source.now) }
+    requires small { byte_len source.now ≤ MAX_AGGREGATE_BYTES }
+    requires open { (pool_in store.old.pools pool).closed ≡ false }
+    requires covered { Covers store.old (bufs_of source.now) }
+    requires countable { IsCountable store.old (bufs_of source.now) }
+    requires readable { AllReadable store.old source.now }
+    requires tidy { IsTidy store.old }
+    ensures further { IfOk result (λ r. i < r.0) }
+    ensures within { IfOk result (λ r. r.0 ≤ length source.now) }
+    ensures ends { IfOk result (λ r. r.1 ≡ byte_len (take r.0 source.now)) }
+    ensures composes { IfOk result (λ r. ComposesRun store.old store.new pool
+        (drop i source.now) (drop r.0 source.now) r.2) }
+    ensures no_room { (p : ℕ) → result ≡ Err (Refusal.NoRoom p) →
+        length (free_of store.old pool) < copied_pages pool (drop i source.now) }
+    ensures late { IfErr result (WantOfRoom pool) }
+    ensures err { OnErr result (store.new ≡ store.old) }
+{
+    let slices = source.slices();
+    let own = slices[i].hold.pool().number() == pool.number();
+    let (count, bytes) = run_of(&slices[i..], pool, own);
+    let next = i + count;
+    let end = at + bytes;
+    if own {
+        let Ok(shared) = source.cut(alloc, store, at, end) else {
+            return Err(Refusal::Memory);
+        };
+        return Ok((next, end, shared));
+    }
+    let copy = match copy_run(alloc, store, pool, &slices[i..next]) {
+        Ok(copy) => copy,
+        Err(refusal) => return Err(refusal),
+    };
+    Ok((next, end, copy))
+}
+
+/// The bytes of an aggregate in an open pool: those that lie there already are shared, and each maximal run of others is
+/// copied to its lowest free pages.
+pub(crate) fn compose(
+    alloc: Global,
+    store: &mut Store,
+    pool: PoolId,
+    source: &Agg,
+) -> Result<Agg, Refusal>
+    requires small { byte_len source.now ≤ MAX_AGGREGATE_BYTES }
+    requires open { (pool_in store.old.pools pool).closed ≡ false }
+    requires covered { Covers store.old (bufs_of source.now) }
+    requires few { CountsBelow store.old (2 ^ 62) }
+    requires readable { AllReadable store.old source.now }
+    requires tidy { IsTidy store.old }
+    ensures composes { IfOk result
+        (Composes store.old store.new pool (copied_pages pool source.now) source.now) }
+    ensures none { OnErr result (Moves store.old store.new [] []) }
+    ensures given_back { OnErr result (PlacesSome store.old store.new pool) }
+    ensures lists { SameLists store.old store.new }
+    ensures settles { AllSettled store.old → AllSettled store.new }
+    ensures no_room { (p : ℕ) → result ≡ Err (Refusal.NoRoom p) →
+        length (free_of store.old pool) < copied_pages pool source.now }
+    ensures late { IfErr result (WantOfRoom pool) }
+{
+    let mut so_far = Agg::new(alloc);
+    let mut i = 0;
+    let mut at = 0;
+    while i < source.slices().len() {
+        let (next, end, more) = match compose_run(alloc, store, pool, source, i, at) {
+            Ok(composed) => composed,
+            Err(refusal) => {
+                so_far.release(store);
+                return Err(refusal);
+            }
+        };
+        so_far = match so_far.join(more) {
+            Ok(joined) => joined,
+            Err(failed) => {
+                let (so_far, more) = failed.value;
+                so_far.release(store);
+                more.release(store);
+                return Err(Refusal::Memory);
+            }
+        };
+        i = next;
+        at = end;
+    }
+    Ok(so_far)
 }
