@@ -17,3 +17,6 @@ pub mod Filled
 pub mod Shared
 pub mod Entering
 pub mod Composed
+pub mod Adding
+pub mod Putting
+pub mod Ranged

@@ -96,7 +96,7 @@ abbrev pub NoneBegins : List Extent → (low : ℕ) → List Span → Type 0
 NoneBegins es low [] = Unit {0}
 NoneBegins es low (g ∷ gs) = (low ≤ g.from) × (begins_at es g.from ≡ None) × NoneBegins es (g.from + 1) gs
 
-none_beside : (es : List Extent) (e : Extent) (low : ℕ) (gs : List Span) → e.at < low → NoneBegins es low gs → NoneBegins (put_in es e) low gs
+pub none_beside : (es : List Extent) (e : Extent) (low : ℕ) (gs : List Span) → e.at < low → NoneBegins es low gs → NoneBegins (put_in es e) low gs
 none_beside es e low [] past h = tt
 none_beside es e low (g ∷ gs) past h = (h.0, begins_at-beside es e g.from (λ same. absurd (omega (arith, same, past, h.0))) ∙ h.1, none_beside es e (g.from + 1) gs (omega (arith, past, h.0)) h.2)
 

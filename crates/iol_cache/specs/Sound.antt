@@ -2,11 +2,10 @@
 use Rattle.std.specs.Prelude.{◌≡◌, ℕ, ◌≤◌, ◌<◌, ◌^◌, true, false, List, [], ◌∷◌, length}
 use Rattle.std.specs.List.{All}
 use Rattle.iol_core.specs.Numbered.{is_numbered}
-use Rattle.iol_core.specs.declared.numbers.BufId.{BufId}
 use Rattle.iol_core.specs.declared.limits.TheConstants.{MAX_FILE_BYTES}
 use Rattle.iol_arena.specs.State.{page_count}
 use Rattle.iol_pool.specs.Pools.{pool_in}
-use Rattle.iol_hold.specs.Stored.{Stored, count_of, IsTidy, IsStill}
+use Rattle.iol_hold.specs.Stored.{Stored, IsTidy, IsStill}
 use Rattle.iol_hold.specs.Moves.{Covers}
 use Rattle.iol_hold.specs.Texts.{AllReadable}
 use Rattle.iol_hold.specs.declared.slices.Slice.{Slice}
@@ -54,7 +53,3 @@ pub record IsUsable (s : Stored) (fs : List CachedFile) (marks : List ℕ) : Typ
   pub covered : Covers s (held fs)
   pub marked : Counted marks (clean_held fs)
   pub pages : length marks ≡ page_count s.arena
-
--- each buffer is held fewer than n times
-pub record CountsBelow (s : Stored) (n : ℕ) : Type 0 where
-  pub each : (b : BufId) → count_of s b < n

@@ -1,7 +1,18 @@
 //! The cache of files.
+ghost use Rattle.std.specs.Prelude.{◌≡◌, ℕ, ◌+◌, ◌-◌, ◌<◌, ◌≤◌, ◌^◌, max, [], ◌∷◌, ◌++◌, length, false, OnOk, OnErr, IfOk};
+ghost use Rattle.iol_arena.specs.State.{page_count};
+ghost use Rattle.iol_pool.specs.Pools.{pool_in};
+ghost use Rattle.iol_hold.specs.Stored.{Stored, IsTidy, IsStill};
+ghost use Rattle.iol_cache.specs.Cached.{new_file, order_in};
+ghost use Rattle.iol_cache.specs.Sound.{IsSound};
+
 use crate::files::CachedFile;
 use crate::marks::CleanHolds;
+use iol_core::limits::MAX_FILES;
+use iol_core::numbers::{FileId, PoolId};
 use iol_evict::order::Order;
+use iol_extent::extents::Extents;
+use std::alloc::{AllocError, Global};
 
 /// The extents of files, and for each pool of files the order in which clean extents are evicted.
 #[derive(Drop)]
@@ -11,4 +22,52 @@ pub struct Cache {
     // By pool, from 1.
     pub(crate) orders: Vec<Order>,
     pub(crate) marks: CleanHolds,
+}
+
+// Empty orders, until there are so many.
+fn add_orders(orders: &mut Vec<Order>, alloc: Global, count: usize) -> Result<(), AllocError>
+    ensures same { (p : ℕ) → order_in orders.new.items p ≡ order_in orders.old.items p }
+    ensures enough { OnOk result (count ≤ length orders.new.items) }
+    ensures no_fewer { length orders.old.items ≤ length orders.new.items }
+    ensures no_more { length orders.new.items ≤ max count (length orders.old.items) }
+{
+    while orders.len() < count {
+        orders.push(Order::new(alloc))?;
+    }
+    Ok(())
+}
+
+impl Cache {
+    ghost use Rattle.iol_cache.specs.Cache.{cached_of};
+
+    /// A cache of no files, over a store of so many pages.
+    pub fn new(alloc: Global, pages: usize) -> Result<Cache, AllocError>
+        ensures files { IfOk result (λ c. (cached_of c).files ≡ []) }
+        ensures sound { IfOk result (λ c. (s : Stored) → page_count s.arena ≡ pages → IsTidy s →
+            IsStill s.arena → IsSound s (cached_of c)) }
+    {
+        Ok(Cache {
+            files: Vec::new(alloc),
+            orders: Vec::new(alloc),
+            marks: CleanHolds::new(alloc, pages)?,
+        })
+    }
+
+    /// Adds a file of an open pool, in the next slot. Nothing of it is in memory.
+    pub fn add_file(&mut self, alloc: Global, pool: PoolId) -> Result<FileId, AllocError>
+        requires { length (cached_of self.old).files < MAX_FILES }
+        ensures number { IfOk result (λ f. f ≡ length (cached_of self.old).files + 1) }
+        ensures added { let old = (cached_of self.old).files in
+            OnOk result ((cached_of self.new).files ≡ old ++ new_file pool ∷ []) }
+        ensures err { OnErr result ((cached_of self.new).files ≡ (cached_of self.old).files) }
+        ensures sound { (s : Stored) → IsSound s (cached_of self.old) →
+            (pool_in s.pools pool).closed ≡ false → IsSound s (cached_of self.new) }
+    {
+        add_orders(&mut self.orders, alloc, pool.number() as usize)?;
+        self.files.push(CachedFile {
+            pool,
+            extents: Extents::new(alloc),
+        })?;
+        Ok(FileId::new(self.files.len() as u32))
+    }
 }

@@ -5,6 +5,7 @@ mod cache;
 mod composing;
 mod evicting;
 mod files;
+mod filling;
 mod gaps;
 mod loading;
 mod marks;
