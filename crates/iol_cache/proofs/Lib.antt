@@ -20,3 +20,4 @@ pub mod Composed
 pub mod Adding
 pub mod Putting
 pub mod Ranged
+pub mod CutOut

@@ -49,7 +49,7 @@ over_at (x ∷ xs) i e h = here (is_over x i) (over_from x i) h (over_at xs i e)
   here true f h ih = let same : x ≡ e = cc in subst (λ (y : Extent). (y.at ≤ i) × (i < end_of y)) same (f refl)
   here false f h ih = ih h
 
-over_low : (low : ℕ) (es : List Extent) (i : ℕ) (e : Extent) → IsApart low es → extent_over es i ≡ Some e → low ≤ e.at
+pub over_low : (low : ℕ) (es : List Extent) (i : ℕ) (e : Extent) → IsApart low es → extent_over es i ≡ Some e → low ≤ e.at
 over_low low [] i e a h = cc
 over_low low (x ∷ xs) i e a h = here (is_over x i) h (over_low (end_of x) xs i e a.2) where
   here : (b : Bool) → cond b (Some x) (extent_over xs i) ≡ Some e → (extent_over xs i ≡ Some e → end_of x ≤ e.at) → low ≤ e.at

@@ -11,3 +11,4 @@ pub mod Gaps
 pub mod Sharing
 pub mod Reading
 pub mod Composing
+pub mod Cutting

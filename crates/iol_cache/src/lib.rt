@@ -3,6 +3,7 @@
 
 mod cache;
 mod composing;
+mod cutting;
 mod evicting;
 mod files;
 mod filling;
