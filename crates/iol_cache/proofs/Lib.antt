@@ -21,3 +21,5 @@ pub mod Adding
 pub mod Putting
 pub mod Ranged
 pub mod CutOut
+pub mod Roomy
+pub mod Completed

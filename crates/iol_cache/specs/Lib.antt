@@ -12,3 +12,4 @@ pub mod Sharing
 pub mod Reading
 pub mod Composing
 pub mod Cutting
+pub mod Going

@@ -11,6 +11,7 @@ mod gaps;
 mod loading;
 mod marks;
 mod ranking;
+mod reading;
 mod sharing;
 mod users;
 
