@@ -23,3 +23,4 @@ pub mod Ranged
 pub mod CutOut
 pub mod Roomy
 pub mod Completed
+pub mod Replaced

@@ -74,7 +74,7 @@ over_tally (x ∷ xs) i e h b = here (is_over x i) h (λ t. over_tally xs i e t 
   here true h ih = let same : x ≡ e = cc in omega (arith, both, ap (λ (y : Extent). tally b (bufs_of y.parts)) same)
   here false h ih = omega (arith, both, ih h)
 
-readable_parts : {s : Stored} (xs ys : List Slice) → AllReadable s (xs ++ ys) → AllReadable s xs × AllReadable s ys
+pub readable_parts : {s : Stored} (xs ys : List Slice) → AllReadable s (xs ++ ys) → AllReadable s xs × AllReadable s ys
 readable_parts xs ys h =
     let e = places-append xs ys in
     let n = length (places xs) in

@@ -13,3 +13,4 @@ pub mod Reading
 pub mod Composing
 pub mod Cutting
 pub mod Going
+pub mod Replacing

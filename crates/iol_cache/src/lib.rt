@@ -12,6 +12,7 @@ mod loading;
 mod marks;
 mod ranking;
 mod reading;
+mod replacing;
 mod sharing;
 mod users;
 
