@@ -4,14 +4,16 @@ use Rattle.std.specs.Prelude.{not, sum_by, slice_index}
 use Rattle.std.proofs.lemmas.Bool.{cases_eq}
 use Rattle.std.proofs.lemmas.Bool.Decides.{nat_tests}
 use Rattle.iol_core.specs.declared.numbers.BufId.{BufId}
-use Rattle.iol_hold.specs.Moves.{Covers, Moves, tally}
+use Rattle.iol_hold.specs.Moves.{Counts, Covers, Moves, tally}
 use Rattle.iol_hold.specs.Stored.{Stored}
 use Rattle.iol_hold.specs.Texts.{AllReadable, bufs_of}
 use Rattle.iol_hold.proofs.Reading.{readable_joined}
 use Rattle.iol_cache.proofs.Shared.{over_readable, readable_parts}
 use Rattle.iol_hold.specs.declared.slices.Slice.{Slice}
 use Rattle.iol_hold.proofs.Counting.{tally_none}
-use Rattle.iol_extent.specs.Extents.{Extent, IsApart, begins_at, extent_over, put_in, without_at}
+use Rattle.iol_extent.specs.Extents.{Extent, IsApart, IsFirstMet, IsGap, begins_at, extent_over, put_in, unmet, without_at}
+use Rattle.iol_extent.proofs.Meeting.{met_begins, unmet_less}
+use Rattle.iol_hold.proofs.Moving.{stays_trans}
 use Rattle.iol_extent.proofs.Cover.{extent_begins, some_begins}
 use Rattle.iol_evict.specs.Ranking.{Ranking, entered, entry_at, left_at}
 use Rattle.iol_evict.specs.declared.entry.Entry.{Entry}
@@ -19,11 +21,14 @@ use Rattle.iol_cache.specs.Cached.{begins_clean, clean_at, clean_in, clean_parts
 use Rattle.iol_cache.specs.Gaps.{all_parts}
 use Rattle.iol_cache.specs.Marks.{HaveMarks, Marks, Unmarks, at_page}
 use Rattle.iol_cache.specs.Reading.{RanksFile}
-use Rattle.iol_cache.specs.Replacing.{Follows, HaveClean}
+use Rattle.iol_cache.specs.Replacing.{Follows, HaveClean, put_some}
 use Rattle.iol_cache.proofs.Entering.{entered_entries}
 use Rattle.iol_cache.proofs.Extending.{begins_above}
 use Rattle.iol_cache.proofs.Filing.{IsAdditive, additive_bufs, additive_page, additive_tally, sum-flat, sum-put_in, sum-without, sum-without_at}
-use Rattle.iol_cache.proofs.Ranked.{clean_one, entry_found, found_at}
+use Rattle.iol_cache.proofs.Ranked.{clean_one, entry_absent, entry_found, found_at}
+use Rattle.iol_cache.proofs.Undone.{begins_gap}
+use Rattle.iol_hold.specs.Places.{byte_len}
+use Rattle.std.proofs.lemmas.List.Sums.{sum_by-cons}
 
 pub follows_none : (f : ℕ) (es : List Extent) (r : Ranking) (marks : List ℕ) → Follows f es es r r marks marks
 follows_none f es r marks = record { ranked = λ h. h; others = λ g b ne. refl; low = refl; each = λ p. refl; long = refl }
@@ -193,3 +198,40 @@ fewer (x ∷ xs) at e h = here (x.at == at) h (fewer xs at e) where
   here : (b : Bool) → cond b (Some x) (begins_at xs at) ≡ Some e → (begins_at xs at ≡ Some e → length (without_at xs at) < length xs) → length (cond b xs (x ∷ without_at xs at)) < length (x ∷ xs)
   here true h ih = omega arith
   here false h ih = omega (arith, ih h)
+
+pub moves_on : {a b c : Stored} {xs ys zs : List BufId} → Moves a b xs ys → Moves b c ys zs → Moves a c xs zs
+moves_on m n = record {
+  counts = record { each = λ b. omega (arith, m.counts.each b, n.counts.each b) };
+  stays = stays_trans m.stays n.stays;
+  still = λ h. n.still (m.still h);
+  tidy = λ h. n.tidy (m.tidy h);
+}
+
+-- The extent that is met first.
+pub met_begins_at : (es : List Extent) (from to at : ℕ) → IsApart 0 es → (m : IsFirstMet es from to at) → begins_at es at ≡ Some m.extent
+met_begins_at es from to at apart m = ap (begins_at es) (sym m.begins) ∙ met_begins 0 es from to m.extent apart m.is
+
+pub met_less : (es : List Extent) (from to at : ℕ) → IsApart 0 es → (m : IsFirstMet es from to at) → unmet (without_at es at) from to ≡ unmet es from to
+met_less es from to at apart m = ap (λ n. unmet (without_at es n) from to) (sym m.begins) ∙ unmet_less 0 es from to m.extent apart m.is
+
+
+pub counts_part : {s t : Stored} (es : List Extent) (at : ℕ) (e : Extent) → begins_at es at ≡ Some e → Counts s t (bufs_of (all_parts es)) (bufs_of (all_parts (without_at es at))) → Counts s t (bufs_of e.parts) []
+counts_part es at e begins c = record { each = λ b. omega (arith, c.each b, tally_none b, parts-less (tally b) (additive_tally b) es at e begins) }
+
+-- none begins where one is put
+clean_none : (es : List Extent) (at : ℕ) → begins_at es at ≡ None → clean_at at es ≡ 0
+clean_none [] at h = refl
+clean_none (x ∷ xs) at h = sum_by-cons (begins_clean at) x xs ∙ here (eqb x.at at) x.dirty h (clean_none xs at)
+  where
+  here : (b d : Bool) → cond b (Some x) (begins_at xs at) ≡ None → (begins_at xs at ≡ None → clean_at at xs ≡ 0) → cond {A = ℕ} (b && not d) 1 0 + clean_at at xs ≡ 0
+  here true d h ih = cc
+  here false d h ih = omega (arith, ih h)
+
+pub absent_gap : (f : ℕ) (es : List Extent) (at to : ℕ) (r : Ranking) → IsApart 0 es → IsGap es at to → at < to → RanksFile r f es → entry_at r.entries f at ≡ None
+absent_gap f es at to r apart gap some ranked = entry_absent r.entries f at (ranked.each at ∙ clean_none es at (begins_gap 0 es at to apart gap some))
+
+pub put_one : (es : List Extent) (e : Extent) → 0 < byte_len e.parts → put_some es e ≡ put_in es e
+put_one es e some = ap (λ b. cond b es (put_in es e)) (off (byte_len e.parts) some)
+  where
+  off : (n : ℕ) → 0 < n → (n == 0) ≡ false
+  off n h = grind (arith, nat_tests)

@@ -1,7 +1,8 @@
 //! A range of a file that is replaced: what it meets goes, and its parts and the new bytes come in. No memory is taken.
-ghost use Rattle.std.specs.Prelude.{◌≡◌, ℕ, ◌+◌, ◌-◌, ◌<◌, ◌≤◌, ◌^◌, [], length, max, IsSome};
+ghost use Rattle.std.specs.Prelude.{◌≡◌, ℕ, ◌+◌, ◌-◌, ◌<◌, ◌≤◌, ◌^◌, ◌++◌, [], length, max, IsSome};
 ghost use Rattle.iol_arena.specs.State.{page_count};
 ghost use Rattle.iol_cache.specs.Cached.{parts_in};
+ghost use Rattle.iol_cache.specs.Cutting.{CutsLeft, CutsRight};
 ghost use Rattle.iol_cache.specs.Gaps.{all_parts};
 ghost use Rattle.iol_cache.specs.Marks.{AreWithin, HasMarksLeft};
 ghost use Rattle.iol_cache.specs.Reading.{RanksFile};
@@ -18,6 +19,7 @@ use crate::marks::CleanHolds;
 use iol_core::numbers::FileId;
 use iol_evict::order::Order;
 use iol_extent::extents::Extents;
+use iol_extent::spans::Span;
 use iol_hold::Store;
 
 // The extent that begins at a place is to go: where it is clean, it leaves the order, and its marks are taken away.
@@ -121,7 +123,7 @@ fn put_edge(
     file: FileId,
     edge: Edge,
 )
-    requires fits { end_of edge < 2 ^ 32 }
+    requires fits { 0 < byte_len edge.parts → end_of edge < 2 ^ 32 }
     requires gap { 0 < byte_len edge.parts → IsGap extents.old.extents edge.at (end_of edge) }
     requires apart { IsApart 0 extents.old.extents }
     requires ranked { RanksFile order.old file extents.old.extents }
@@ -133,7 +135,7 @@ fn put_edge(
     ensures adds { Adds extents.old.extents edge extents.new.extents }
     ensures apart { IsApart 0 extents.new.extents }
     ensures ends { let old = last_end extents.old.extents in
-        last_end extents.new.extents ≤ max (end_of edge) old }
+        0 < byte_len edge.parts → last_end extents.new.extents ≡ max (end_of edge) old }
     ensures room { extents.old.room ≤ extents.new.room + 1 }
     ensures order_room { order.old.room ≤ order.new.room + 1 }
     ensures follows { Follows file extents.old.extents extents.new.extents order.old order.new
@@ -143,9 +145,58 @@ fn put_edge(
     if agg.is_empty() {
         return;
     }
-    if !dirty {
-        marks.mark(agg.slices());
-        order.enter(file, at, agg.len(), 1);
+    if dirty {
+        extents.put(at, agg, true);
+        return;
     }
-    extents.put(at, agg, dirty);
+    marks.mark(agg.slices());
+    order.enter(file, at, agg.len(), 1);
+    extents.put(at, agg, false);
+}
+
+/// Replaces the bytes of a range of a file. What it meets goes, and in its place come the parts on both sides and the new
+/// extent, in room that was made for them.
+pub(crate) fn replace_range(
+    order: &mut Order,
+    marks: &mut CleanHolds,
+    extents: &mut Extents,
+    store: &mut Store,
+    file: FileId,
+    range: Span,
+    left: Edge,
+    right: Edge,
+    new: Edge,
+)
+    requires some { range.from < range.to }
+    requires left { CutsLeft extents.old.extents range.from left }
+    requires right { CutsRight extents.old.extents range.to right }
+    requires begins { new.at ≡ range.from }
+    requires ends { end_of new ≡ range.to }
+    requires fits { end_of right < 2 ^ 32 }
+    requires apart { IsApart 0 extents.old.extents }
+    requires ranked { RanksFile order.old file extents.old.extents }
+    requires pages { length marks.old ≡ page_count store.old.arena }
+    requires marked { HaveClean marks.old extents.old.extents }
+    requires few { HasMarksLeft marks.old (left.parts ++ (right.parts ++ new.parts)) }
+    requires held { Covers store.old (bufs_of (all_parts extents.old.extents ++
+        (left.parts ++ (right.parts ++ new.parts)))) }
+    requires readable { AllReadable store.old (all_parts extents.old.extents) }
+    requires room { 3 ≤ extents.old.room }
+    requires order_room { 3 ≤ order.old.room }
+    ensures extents { let others = unmet extents.old.extents range.from range.to in
+        extents.new.extents ≡ put_some (put_some (put_some others left) right) new }
+    ensures adds { Adds extents.old.extents new extents.new.extents }
+    ensures apart { IsApart 0 extents.new.extents }
+    ensures follows { Follows file extents.old.extents extents.new.extents order.old order.new
+        marks.old marks.new }
+    ensures moves { Moves store.old store.new (bufs_of (all_parts extents.old.extents ++
+        (left.parts ++ (right.parts ++ new.parts)))) (bufs_of (all_parts extents.new.extents)) }
+    ensures frees { FreesOnly store.old store.new }
+    ensures lists { SameLists store.old store.new }
+    ensures settles { AllSettled store.old → AllSettled store.new }
+{
+    clear_range(order, marks, extents, store, file, range.from, range.to);
+    put_edge(order, marks, extents, file, left);
+    put_edge(order, marks, extents, file, right);
+    put_edge(order, marks, extents, file, new);
 }
