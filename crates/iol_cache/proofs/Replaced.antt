@@ -10,8 +10,10 @@ use Rattle.iol_hold.specs.Texts.{AllReadable, bufs_of}
 use Rattle.iol_hold.proofs.Reading.{readable_joined}
 use Rattle.iol_cache.proofs.Shared.{over_readable, readable_parts}
 use Rattle.iol_hold.specs.declared.slices.Slice.{Slice}
-use Rattle.iol_hold.proofs.Counting.{tally_none}
-use Rattle.iol_extent.specs.Extents.{Extent, IsApart, IsFirstMet, IsGap, begins_at, extent_over, put_in, unmet, without_at}
+use Rattle.iol_agg.proofs.Holding.{tally-few}
+use Rattle.iol_cache.proofs.Marking.{at_page-append}
+use Rattle.iol_hold.proofs.Counting.{bufs-append, tally-append, tally_none}
+use Rattle.iol_extent.specs.Extents.{Extent, IsApart, IsFirstMet, IsGap, begins_at, extent_over, meets, put_in, unmet, without_at}
 use Rattle.iol_extent.proofs.Meeting.{met_begins, unmet_less}
 use Rattle.iol_hold.proofs.Moving.{stays_trans}
 use Rattle.iol_extent.proofs.Cover.{extent_begins, some_begins}
@@ -235,3 +237,54 @@ put_one es e some = ap (λ b. cond b es (put_in es e)) (off (byte_len e.parts) s
   where
   off : (n : ℕ) → 0 < n → (n == 0) ≡ false
   off n h = grind (arith, nat_tests)
+
+-- Sums over what is left, and over what comes in.
+
+pub unmet-clean : (h : List BufId → ℕ) → IsAdditive h → (es : List Extent) (from to : ℕ) → h (bufs_of (clean_in (unmet es from to))) ≤ h (bufs_of (clean_in es))
+unmet-clean h a es from to =
+    omega (arith, sum-flat (additive_bufs a) clean_parts es, sum-flat (additive_bufs a) clean_parts (unmet es from to), fewer_sum (λ (y : Extent). h (bufs_of (clean_parts y))) es)
+  where
+  fewer_sum : (w : Extent → ℕ) (es : List Extent) → sum_by w (unmet es from to) ≤ sum_by w es
+  fewer_sum w [] = omega arith
+  fewer_sum w (x ∷ xs) = here (meets from to x) (fewer_sum w xs)
+    where
+    here : (b : Bool) → sum_by w (unmet xs from to) ≤ sum_by w xs → sum_by w (cond b (unmet xs from to) (x ∷ unmet xs from to)) ≤ sum_by w (x ∷ xs)
+    here true ih = omega (arith, ih, sum_by-cons w x xs)
+    here false ih = omega (arith, ih, sum_by-cons w x xs, sum_by-cons w x (unmet xs from to))
+
+clean_few : (h : List BufId → ℕ) → IsAdditive h → (e : Extent) → h (bufs_of (clean_parts e)) ≤ h (bufs_of e.parts)
+clean_few h a e = here e.dirty
+  where
+  here : (b : Bool) → h (bufs_of (cond b [] e.parts)) ≤ h (bufs_of e.parts)
+  here true = omega (arith, a.none)
+  here false = omega arith
+
+pub some-clean : (h : List BufId → ℕ) → IsAdditive h → (es : List Extent) (e : Extent) → h (bufs_of (clean_in (put_some es e))) ≤ h (bufs_of e.parts) + h (bufs_of (clean_in es))
+some-clean h a es e = here (byte_len e.parts == 0)
+  where
+  here : (b : Bool) → h (bufs_of (clean_in (cond b es (put_in es e)))) ≤ h (bufs_of e.parts) + h (bufs_of (clean_in es))
+  here true = omega arith
+  here false = omega (arith, clean-more h a es e, clean_few h a e)
+
+pub some-parts : (b : BufId) (es : List Extent) (e : Extent) → tally b (bufs_of (all_parts (put_some es e))) ≡ tally b (bufs_of e.parts) + tally b (bufs_of (all_parts es))
+some-parts b es e = here (byte_len e.parts == 0) (none_of (byte_len e.parts))
+  where
+  none_of : (n : ℕ) → (n == 0) ≡ true → n ≡ 0
+  none_of n h = grind (arith, nat_tests)
+  here : (c : Bool) → (c ≡ true → byte_len e.parts ≡ 0) → tally b (bufs_of (all_parts (cond c es (put_in es e)))) ≡ tally b (bufs_of e.parts) + tally b (bufs_of (all_parts es))
+  here true none = omega (arith, none refl, tally-few b e.parts)
+  here false none = parts-more (tally b) (additive_tally b) es e
+
+-- the four lists of slices together
+pub tally-four : (b : BufId) (as' ls rs ns : List Slice) → tally b (bufs_of (as' ++ (ls ++ (rs ++ ns)))) ≡ tally b (bufs_of as') + tally b (bufs_of ls) + tally b (bufs_of rs) + tally b (bufs_of ns)
+tally-four b as' ls rs ns =
+    let x = ap (tally b) (bufs-append as' (ls ++ (rs ++ ns))) ∙ tally-append b (bufs_of as') (bufs_of (ls ++ (rs ++ ns))) in
+    let y = ap (tally b) (bufs-append ls (rs ++ ns)) ∙ tally-append b (bufs_of ls) (bufs_of (rs ++ ns)) in
+    let z = ap (tally b) (bufs-append rs ns) ∙ tally-append b (bufs_of rs) (bufs_of ns) in
+    omega (arith, x, y, z)
+
+pub page-three : (p : ℕ) (ls rs ns : List Slice) → at_page p (bufs_of (ls ++ (rs ++ ns))) ≡ at_page p (bufs_of ls) + at_page p (bufs_of rs) + at_page p (bufs_of ns)
+page-three p ls rs ns =
+    let y = ap (at_page p) (bufs-append ls (rs ++ ns)) ∙ at_page-append p (bufs_of ls) (bufs_of (rs ++ ns)) in
+    let z = ap (at_page p) (bufs-append rs ns) ∙ at_page-append p (bufs_of rs) (bufs_of ns) in
+    omega (arith, y, z)
