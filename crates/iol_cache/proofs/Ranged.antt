@@ -1,27 +1,27 @@
 -- A range whose gaps were read.
-use Rattle.std.proofs.Common.{inl, inr, ◌≡◌, ◌⊎◌, ℕ, zero, suc, ◌+◌, ◌-◌, ◌<◌, ◌≤◌, ◌^◌, ◌++◌, List, [], ◌∷◌, length, IsSome, refl, sym, ap, ◌∙◌, arith, subst, length-append}
-use Rattle.std.specs.Prelude.{sum_by, flat_map, take, drop}
+use Rattle.std.proofs.Common.{inl, inr, ◌≡◌, ℕ, ◌+◌, ◌<◌, ◌≤◌, ◌^◌, ◌++◌, List, [], ◌∷◌, length, IsSome, refl, sym, ap, ◌∙◌, arith, subst, length-append}
+use Rattle.std.specs.Prelude.{take, drop}
 use Rattle.std.specs.List.{All, AllZip}
 use Rattle.iol_core.specs.declared.numbers.BufId.{BufId}
 use Rattle.iol_back.specs.Disk.{Disk}
-use Rattle.iol_hold.specs.Moves.{tally, same, Covers, Moves, Shares}
+use Rattle.iol_hold.specs.Moves.{tally, Covers}
 use Rattle.iol_hold.specs.Places.{byte_len, places}
 use Rattle.iol_hold.specs.Stored.{Stored}
 use Rattle.iol_hold.specs.Texts.{bufs_of, AllReadable}
 use Rattle.iol_hold.specs.declared.slices.Slice.{Slice}
-use Rattle.iol_hold.proofs.Counting.{tally_none, same_few, tally-append, bufs-append}
+use Rattle.iol_hold.proofs.Counting.{tally_none, same_few}
 use Rattle.std.proofs.lemmas.List.{take_at, drop_at}
 use Rattle.std.proofs.lemmas.List.Elements.{All-nil, All-cons}
 use Rattle.iol_hold.proofs.Reading.{readable_none, readable_joined, readable_stays, readable_taken, readable_rest}
 use Rattle.iol_hold.proofs.Slicing.{byte_len-cons, places-append}
-use Rattle.iol_extent.specs.Extents.{Extent, ExtentMap, IsApart, cover, end_of}
+use Rattle.iol_extent.specs.Extents.{Extent, ExtentMap, cover}
 use Rattle.iol_extent.specs.Spans.{AreInOrder, IsGapSpan, LiesIn}
 use Rattle.iol_extent.specs.declared.spans.Span.{Span}
 use Rattle.iol_cache.specs.Gaps.{all_put, all_parts, IsMade, FillsGaps}
 use Rattle.iol_cache.specs.Sound.{Each, IsLaid}
 use Rattle.iol_cache.specs.Sharing.{IsCoveredSpan, CountsBelow}
 use Rattle.iol_cache.proofs.Filing.{additive_tally, additive_bufs, sum-flat}
-use Rattle.iol_cache.proofs.Putting.{Fits, made_fits, covered-stays, covered-made, sum-all_put, each-all_put}
+use Rattle.iol_cache.proofs.Putting.{made_fits, covered-made, sum-all_put, each-all_put}
 
 pub tally_len : (b : BufId) (xs : List Slice) → tally b (bufs_of xs) ≤ byte_len xs
 unfolding tally
@@ -66,9 +66,10 @@ module _ (s t : Stored) (old new : ExtentMap) (p file low high : ℕ) (gs : List
 
 parts_split : {s : Stored} (xs ys : List Slice) → AllReadable s (xs ++ ys) → AllReadable s xs × AllReadable s ys
 parts_split xs ys h =
-    let e = places-append xs ys in
-    (readable_taken xs (xs ++ ys) (length (places xs)) (sym (ap (take (length (places xs))) e ∙ take_at (places xs) (places ys) (length (places xs)) refl)) h,
-     readable_rest ys (xs ++ ys) (length (places xs)) (sym (ap (drop (length (places xs))) e ∙ drop_at (places xs) (places ys) (length (places xs)) refl)) h)
+    let e = places-append xs ys in (
+      readable_taken xs (xs ++ ys) (length (places xs)) (sym (ap (take (length (places xs))) e ∙ take_at (places xs) (places ys) (length (places xs)) refl)) h,
+      readable_rest ys (xs ++ ys) (length (places xs)) (sym (ap (drop (length (places xs))) e ∙ drop_at (places xs) (places ys) (length (places xs)) refl)) h,
+    )
 
 abbrev pub CanBeRead : Stored → Extent → Type 0
 CanBeRead s e = AllReadable s e.parts

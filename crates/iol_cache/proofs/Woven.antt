@@ -1,8 +1,8 @@
 -- Parts of a range, put together.
-use Rattle.std.proofs.Common.{◌≡◌, ℕ, ◌+◌, ◌-◌, ◌<◌, ◌≤◌, ◌++◌, ◌^◌, List, [], ◌∷◌, length, take, drop, refl, sym, ap, ◌∙◌, arith, subst, append_assoc, length-append}
+use Rattle.std.proofs.Common.{◌≡◌, ℕ, ◌+◌, ◌-◌, ◌<◌, ◌≤◌, ◌++◌, ◌^◌, List, [], ◌∷◌, length, take, drop, sym, ap, ◌∙◌, arith, length-append}
 use Rattle.std.proofs.lemmas.List.{take_at, drop_at, append-nil}
 use Rattle.iol_core.specs.declared.numbers.BufId.{BufId}
-use Rattle.iol_hold.specs.Moves.{Shares, Moves, Covers, tally}
+use Rattle.iol_hold.specs.Moves.{Shares, Covers}
 use Rattle.iol_hold.specs.Places.{Place, places, byte_len}
 use Rattle.iol_hold.specs.Stored.{Stored}
 use Rattle.iol_hold.specs.Texts.{bufs_of, AllReadable, IsThere}
@@ -39,8 +39,8 @@ length-places_beside es at to (g ∷ gs) = omega (arith, length-append (places_o
 pub woven-beside : (old new : List Extent) (at to : ℕ) (gs : List Span) → woven (places_beside old at to gs) new at to gs ≡ places_read old new at to gs
 woven-beside old new at to [] = take_all (places_over old at to) (to - at) (length-places_over old at to)
   where
-  take_all : (xs : List Place) (n : ℕ) → length xs ≡ n → take n xs ≡ xs
-  take_all xs n is = ap (take n) (sym (append-nil xs)) ∙ take_at xs [] n is
+    take_all : (xs : List Place) (n : ℕ) → length xs ≡ n → take n xs ≡ xs
+    take_all xs n is = ap (take n) (sym (append-nil xs)) ∙ take_at xs [] n is
 woven-beside old new at to (g ∷ gs) =
     let here = places_over old at g.from in
     let rest = places_beside old g.to to gs in

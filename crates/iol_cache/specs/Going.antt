@@ -1,8 +1,8 @@
 -- What a read does to a store and a cache over it, at each of its steps.
-use Rattle.std.specs.Prelude.{◌≡◌, ℕ, ◌+◌, ◌<◌, ◌≤◌, false, true, List, [], ◌++◌, length, take, drop}
+use Rattle.std.specs.Prelude.{◌≡◌, ℕ, ◌+◌, ◌<◌, ◌≤◌, List, [], ◌++◌, length}
 use Rattle.iol_core.specs.declared.numbers.BufId.{BufId}
 use Rattle.iol_arena.specs.State.{page_count}
-use Rattle.iol_back.specs.Disk.{Disk, IfHonest, content}
+use Rattle.iol_back.specs.Disk.{Disk, IfHonest}
 use Rattle.iol_hold.specs.Moves.{Moves, Shares, SameLists}
 use Rattle.iol_hold.specs.Places.{Place, places}
 use Rattle.iol_hold.specs.Room.{pages_of}

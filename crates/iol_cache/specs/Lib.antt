@@ -11,4 +11,7 @@ pub mod Gaps
 pub mod Sharing
 pub mod Weaving
 pub mod Reading
+pub mod Composing
+pub mod Cutting
 pub mod Going
+pub mod Replacing

@@ -1,7 +1,6 @@
-use Rattle.std.proofs.Common.{◌≡◌, ◌∙◌, ◌<◌, ◌^◌, List, [], ℕ, refl, sym, ap, subst, arith}
-use Rattle.iol_hold.specs.Moves.{Covers, Moves}
+use Rattle.std.proofs.Common.{◌∙◌, List, ℕ, refl, sym, subst, arith}
 use Rattle.iol_hold.specs.Stored.{Stored}
-use Rattle.iol_hold.specs.Texts.{bufs_of, AllReadable}
+use Rattle.iol_hold.specs.Texts.{bufs_of}
 use Rattle.iol_hold.proofs.Paging.{keeps_pages_same}
 use Rattle.iol_hold.proofs.Reading.{readable_stays}
 use Rattle.iol_hold.proofs.Releasing.{frees_trans}
@@ -10,7 +9,7 @@ use Rattle.iol_extent.specs.declared.spans.Span.{Span}
 use Rattle.iol_extent.specs.Spans.{AreInOrder, IsGapSpan}
 use Rattle.iol_back.specs.Disk.{Disk}
 use Rattle.std.specs.List.{All}
-use Rattle.iol_cache.specs.Gaps.{FillsGaps, all_parts, parts_back, without_spans}
+use Rattle.iol_cache.specs.Gaps.{FillsGaps, all_parts, parts_back}
 use Rattle.iol_cache.proofs.Filled.{CanTakeBack, can_take_back, covers_back, moved_back, placed_some, same_map, order_wide}
 use Rattle.iol_cache.proofs.Ranged.{range_held, range_few, range_covered, range_readable, range_still}
 use Rattle.iol_cache.proofs.filling.fill_range.Goals as goal

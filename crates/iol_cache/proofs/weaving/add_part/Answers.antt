@@ -1,4 +1,4 @@
-use Rattle.std.proofs.Common.{◌≡◌, ◌∙◌, ◌+◌, ◌<◌, ◌≤◌, ◌++◌, [], ap, sym, subst, List, arith}
+use Rattle.std.proofs.Common.{◌∙◌, [], ap, sym, subst, List, arith}
 use Rattle.iol_hold.specs.Moves.{Covers, Moves, Shares}
 use Rattle.iol_hold.specs.Texts.{AllReadable, bufs_of}
 use Rattle.iol_hold.specs.declared.slices.Slice.{Slice}

@@ -1,17 +1,11 @@
-use Rattle.std.proofs.Common.{◌≡◌, ◌∙◌, ◌+◌, ◌-◌, ◌<◌, ◌≤◌, ◌++◌, ◌∷◌, [], ap, sym, subst, refl, get_or, length, drop, List, ℕ, arith, append_assoc, length-append}
-use Rattle.std.proofs.lemmas.List.{drop_more, append-nil}
-use Rattle.std.proofs.Math.Seq.{drop-length}
+use Rattle.std.proofs.Common.{◌∙◌, ◌+◌, ◌++◌, ap, sym, subst, get_or, length, drop, arith, append_assoc, length-append}
+use Rattle.std.proofs.lemmas.List.{drop_more}
 use Rattle.iol_agg.proofs.Poured.{shares_then}
-use Rattle.iol_extent.specs.Extents.{Extent}
 use Rattle.iol_extent.specs.Spans.{AreInOrder}
 use Rattle.iol_extent.specs.declared.spans.Span.{Span}
-use Rattle.iol_hold.specs.Moves.{Moves, Shares}
-use Rattle.iol_hold.specs.Places.{byte_len, places}
-use Rattle.iol_hold.specs.Stored.{Stored}
-use Rattle.iol_hold.specs.Texts.{AllReadable, bufs_of}
-use Rattle.iol_hold.specs.declared.slices.Slice.{Slice}
+use Rattle.iol_hold.specs.Places.{places}
 use Rattle.iol_cache.specs.Gaps.{all_parts}
-use Rattle.iol_cache.specs.Sharing.{IsCovered, places_over}
+use Rattle.iol_cache.specs.Sharing.{places_over}
 use Rattle.iol_cache.specs.Weaving.{IsCoveredBeside, places_beside}
 use Rattle.iol_cache.proofs.Shared.{held_beside, length-places_over, over_there, readable_places, readable_same, settles_shares, shared_gone}
 use Rattle.iol_cache.proofs.weaving.share_beside.Goals as goal

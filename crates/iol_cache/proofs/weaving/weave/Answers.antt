@@ -1,19 +1,15 @@
-use Rattle.std.proofs.Common.{◌≡◌, ◌∙◌, ◌+◌, ◌-◌, ◌<◌, ◌≤◌, ◌++◌, ◌∷◌, [], All, ap, sym, subst, refl, get_or, length, take, drop, List, ℕ, arith, append_assoc, length-append, slice_range}
+use Rattle.std.proofs.Common.{◌≡◌, ◌∙◌, ◌+◌, ◌-◌, ◌<◌, ◌≤◌, ◌++◌, ◌∷◌, [], All, ap, sym, subst, get_or, length, take, drop, List, ℕ, arith, append_assoc, length-append, slice_range}
 use Rattle.std.proofs.lemmas.List.{drop_more, drop-drop, length-take}
 use Rattle.std.proofs.Math.Seq.{drop-length}
 use Rattle.std.proofs.lemmas.List.Elements.{All-head, All-tail}
 use Rattle.iol_agg.proofs.Poured.{shares_then}
-use Rattle.iol_extent.specs.Extents.{Extent}
 use Rattle.iol_extent.specs.Spans.{AreInOrder}
 use Rattle.iol_extent.specs.declared.spans.Span.{Span}
-use Rattle.iol_hold.specs.Moves.{Moves, Shares}
 use Rattle.iol_hold.specs.Places.{Place, byte_len, places}
-use Rattle.iol_hold.specs.Texts.{AllReadable, bufs_of}
-use Rattle.iol_hold.specs.declared.slices.Slice.{Slice}
 use Rattle.iol_cache.specs.Gaps.{all_parts}
 use Rattle.iol_cache.specs.Sharing.{IsCoveredSpan, places_over}
 use Rattle.iol_cache.specs.Weaving.{len_beside, woven}
-use Rattle.iol_cache.proofs.Shared.{held_beside, length-places_over, over_there, readable_places, readable_range, readable_same, settles_shares, shared_gone}
+use Rattle.iol_cache.proofs.Shared.{held_beside, length-places_over, over_there, readable_places, readable_same, settles_shares, shared_gone}
 use Rattle.iol_cache.proofs.Woven.{beside_few, shared_covers, still_covers, shared_few, readable_more}
 use Rattle.iol_cache.proofs.weaving.weave.Goals as goal
 
@@ -97,8 +93,8 @@ loop-gap-preserved c =
       readable = readable_places c.in-Ok-share_over.more c.in-Ok.more (places_over es g.from g.to) two read (over_there es g.from g.to (All-head (IsCoveredSpan es) g rest covered) c.requires.readable);
     }
   where
-  regroup : (a b d e : List Place) → ((a ++ b) ++ d) ++ e ≡ a ++ (b ++ d ++ e)
-  regroup a b d e = simp append_assoc
+    regroup : (a b d e : List Place) → ((a ++ b) ++ d) ++ e ≡ a ++ (b ++ d ++ e)
+    regroup a b d e = simp append_assoc
 
 pub overflow_add-end : goal.overflow_add-end
 overflow_add-end c =

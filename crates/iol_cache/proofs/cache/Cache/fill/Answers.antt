@@ -1,12 +1,9 @@
-use Rattle.std.proofs.Common.{◌≡◌, ◌∙◌, ℕ, ◌+◌, ◌-◌, ◌<◌, ◌≤◌, ◌^◌, List, [], length, get_or, set, refl, sym, ap, arith, subst}
+use Rattle.std.proofs.Common.{◌≡◌, ◌∙◌, ℕ, ◌-◌, ◌<◌, ◌≤◌, ◌^◌, List, length, get_or, set, refl, sym, ap, arith, subst}
 use Rattle.std.specs.List.{All}
 use Rattle.std.proofs.lemmas.List.{get_or-set_same}
-use Rattle.iol_arena.specs.State.{page_count}
 use Rattle.iol_core.specs.Meaning.{WantOfRoomOrFault}
-use Rattle.iol_core.specs.Numbered.{is_numbered}
-use Rattle.iol_core.specs.declared.refusals.Refusal.{Refusal}
 use Rattle.iol_pool.specs.Pools.{pool_in}
-use Rattle.iol_hold.specs.Moves.{Covers, Shares}
+use Rattle.iol_hold.specs.Moves.{Covers}
 use Rattle.iol_hold.specs.Room.{free_of}
 use Rattle.iol_hold.specs.Places.{Place, places}
 use Rattle.iol_hold.specs.Stored.{Stored}
@@ -19,10 +16,9 @@ use Rattle.iol_evict.specs.Ranking.{Ranking}
 use Rattle.iol_hold.specs.declared.slices.Slice.{Slice}
 use Rattle.iol_cache.specs.declared.files.CachedFile.{CachedFile}
 use Rattle.iol_cache.specs.Marks.{HasMarksLeft, Marks, at_page}
-use Rattle.iol_cache.specs.Cached.{Cached, file_in, with_file, extents_in, order_in, with_order, slices_in, held}
+use Rattle.iol_cache.specs.Cached.{Cached, file_in, extents_in, order_in}
 use Rattle.iol_cache.specs.Cache.{cached_of, holding}
-use Rattle.iol_cache.specs.Gaps.{all_parts, all_put, gap_pages}
-use Rattle.iol_cache.specs.Going.{FillsFile}
+use Rattle.iol_cache.specs.Gaps.{all_parts}
 use Rattle.iol_cache.specs.Loading.{PlacesSome}
 use Rattle.iol_cache.specs.Reading.{SameButRoom, FillsRange, AllBeginAt, AllWithin, AreAbsent, all_entered, parts_of_spans}
 use Rattle.iol_cache.specs.Sharing.{CountsBelow}

@@ -1,18 +1,12 @@
-use Rattle.std.proofs.Common.{◌≡◌, ◌∙◌, ℕ, ◌+◌, ◌-◌, ◌<◌, ◌≤◌, List, length, get_or, set, refl, sym, ap, arith, subst}
-use Rattle.std.specs.List.{All}
-use Rattle.iol_core.specs.Numbered.{is_numbered}
+use Rattle.std.proofs.Common.{◌≡◌, ◌∙◌, ◌-◌, set, refl, sym, ap, arith, subst}
 use Rattle.iol_hold.specs.Moves.{Covers}
-use Rattle.iol_hold.specs.Places.{places}
-use Rattle.iol_hold.specs.Stored.{AllSettled}
 use Rattle.iol_hold.specs.Texts.{bufs_of, AllReadable}
-use Rattle.iol_extent.specs.Extents.{Extent, IsApart}
-use Rattle.iol_extent.specs.declared.spans.Span.{Span}
+use Rattle.iol_extent.specs.Extents.{IsApart}
 use Rattle.iol_evict.specs.Ranking.{Ranking}
 use Rattle.iol_cache.specs.declared.files.CachedFile.{CachedFile}
-use Rattle.iol_cache.specs.Cached.{Cached, file_in, extents_in, order_in, with_order}
+use Rattle.iol_cache.specs.Cached.{file_in, extents_in, order_in}
 use Rattle.iol_cache.specs.Cache.{cached_of}
 use Rattle.iol_cache.specs.Gaps.{all_parts}
-use Rattle.iol_cache.specs.Going.{CountsHits}
 use Rattle.iol_cache.specs.Reading.{RanksFile, hits_counted}
 use Rattle.iol_cache.specs.Weaving.{IsCoveredBeside, places_beside}
 use Rattle.iol_cache.proofs.Filing.{file_at_number, order_at_number, order_set, numbered_bounds}
