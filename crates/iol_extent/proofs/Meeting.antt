@@ -1,10 +1,8 @@
 -- Extents that have bytes of a range.
-use Rattle.std.proofs.Common.{inl, inr, ◌≡◌, ◌⊎◌, ℕ, zero, suc, ◌+◌, ◌-◌, ◌<◌, ◌≤◌, ◌==◌, ◌&&◌, nat_lt, Bool, true, false, cond, List, [], ◌∷◌, length, get_or, Option, Some, None, IsSome, refl, sym, ap, ◌∙◌, arith, subst}
-use Rattle.std.proofs.lemmas.Bool.{cases_lt}
+use Rattle.std.proofs.Common.{inl, inr, ◌≡◌, ◌⊎◌, ℕ, zero, suc, ◌<◌, ◌≤◌, ◌==◌, Bool, true, false, cond, List, [], ◌∷◌, length, get_or, Some, None, refl, sym, ap, ◌∙◌, arith, subst}
 use Rattle.std.proofs.lemmas.Bool.Decides.{nat_tests}
-use Rattle.iol_hold.specs.Places.{byte_len}
-use Rattle.iol_extent.specs.Extents.{Cell, Extent, IsApart, IsFirstMet, IsGap, begins_at, cell_at, cover, end_of, extent_over, is_over, meets, met_in, unmet, without_at}
-use Rattle.iol_extent.proofs.Cover.{cover_low, cover_no, cover_yes, extent_no, extent_yes}
+use Rattle.iol_extent.specs.Extents.{Extent, IsApart, begins_at, cell_at, cover, end_of, extent_over, is_over, meets, met_in, unmet, without_at}
+use Rattle.iol_extent.proofs.Cover.{cover_low}
 
 met_yes : (e : Extent) (from to : ℕ) → e.at < to → from < end_of e → meets from to e ≡ true
 met_yes e from to h k = grind (arith, nat_tests)
@@ -90,6 +88,7 @@ unmet_apart low (x ∷ xs) from to a = here (meets from to x) (unmet_apart (end_
   lower : (a b : ℕ) (es : List Extent) → a ≤ b → IsApart b es → IsApart a es
   lower a b [] l h = tt
   lower a b (e ∷ es) l h = (omega (arith, l, h.0), h.1, h.2)
+
   here : (b : Bool) → IsApart (end_of x) (unmet xs from to) → IsApart low (cond b (unmet xs from to) (x ∷ unmet xs from to))
   here true h = lower low (end_of x) (unmet xs from to) (omega (arith, a.0)) h
   here false h = (a.0, a.1, h)
@@ -137,5 +136,5 @@ unmet_free (x ∷ xs) from to i h = here (is_over x i) (meets from to x) refl re
 pub met_past : (es : List Extent) (k from to : ℕ) → IsApart 0 es → k ≡ length es → ((j : ℕ) (d : Extent) → j < k → end_of (get_or es j d) ≤ from) → met_in es from to ≡ None
 met_past es k from to a h b = met_missed 0 es k from to none_there a (omega arith) (λ j l. b j none_there l) (λ l. absurd (omega arith))
   where
-  none_there : Extent
-  none_there = record { at = 0; parts = []; dirty = false }
+    none_there : Extent
+    none_there = record { at = 0; parts = []; dirty = false }

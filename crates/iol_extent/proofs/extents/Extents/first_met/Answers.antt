@@ -1,5 +1,5 @@
-use Rattle.std.proofs.Common.{Some, ◌≡◌, ◌<◌, ◌≤◌, get_or, List, ap, sym, ◌∙◌, subst, arith, length}
-use Rattle.iol_extent.specs.Extents.{ExtentMap, Extent, IsFirstMet, end_of, met_in}
+use Rattle.std.proofs.Common.{Some, ◌≡◌, get_or, ap, sym, ◌∙◌, arith}
+use Rattle.iol_extent.specs.Extents.{ExtentMap, Extent}
 use Rattle.iol_extent.proofs.Meeting.{met_found, met_missed, met_past}
 use Rattle.iol_extent.proofs.extents.Extents.first_met.Goals as goal
 
