@@ -1,21 +1,18 @@
 -- Victims, and evictions one after another.
-use Rattle.std.proofs.Common.{◌≡◌, ◌≢◌, ℕ, ◌+◌, ◌<◌, ◌≤◌, true, false, cond, eqb, List, [], ◌∷◌, length, Option, Some, None, refl, sym, ap, ◌∙◌, arith, subst, add-one}
-use Rattle.iol_hold.specs.Room.{free_of}
+use Rattle.std.proofs.Common.{◌≡◌, ◌≢◌, ℕ, ◌+◌, ◌<◌, true, false, cond, eqb, List, [], ◌∷◌, length, Option, None, refl, sym, ap, ◌∙◌, arith, subst, add-one}
 use Rattle.iol_hold.specs.Stored.{Stored}
 use Rattle.iol_evict.specs.Ranking.{Ranking, evicted_at}
 use Rattle.iol_evict.specs.Victims.{IsVictim}
-use Rattle.iol_evict.specs.declared.entry.Entry.{Entry}
-use Rattle.std.specs.Prelude.{Bool, sum_by, not, ◌&&◌}
+use Rattle.std.specs.Prelude.{Bool, not, ◌&&◌}
 use Rattle.std.proofs.lemmas.Bool.Decides.{nat_tests}
 use Rattle.std.proofs.lemmas.List.Sums.{sum_by-cons}
 use Rattle.iol_extent.specs.Extents.{Extent}
-use Rattle.iol_cache.specs.Cached.{Cached, file_in, extents_in, order_in, with_evicted, begins_clean, clean_at, entries_at}
+use Rattle.iol_cache.specs.Cached.{Cached, file_in, extents_in, order_in, begins_clean, clean_at, entries_at}
 use Rattle.iol_cache.specs.Sound.{IsSound}
-use Rattle.iol_cache.specs.Evicting.{Holding, in_use, IsCleanAt, IsWanted, AllDirty, Evicts, EvictsNext, EvictsAll, EvictsPools, GivesUp}
+use Rattle.iol_cache.specs.Evicting.{Holding, in_use, IsCleanAt, IsWanted, AllDirty, Evicts, EvictsAll, EvictsPools}
 use Rattle.iol_cache.proofs.Filing.{order_same, order_other, length-with_order, numbered_bounds, numbered_yes}
 use Rattle.iol_cache.proofs.Ranked.{member_counts, ranked_clean, clean_ranked, entry_found, evicted_fewer}
 use Rattle.iol_cache.proofs.Using.{clean_numbered}
-use Rattle.iol_cache.proofs.GivenUp.{gives_up_none, gives_up_more}
 
 -- what goes first is a clean extent of the pool's files
 pub victim_clean : (u : ℕ → ℕ → Bool) (s : Stored) (c : Cached) (p : ℕ) (place : ℕ × ℕ) → IsSound s c → IsVictim u (order_in c.orders p).entries place → ((file_in c.files place.0).pool ≡ p) × IsCleanAt c.files place.0 place.1
@@ -68,15 +65,16 @@ dirty_all : (es : List Extent) → ((at : ℕ) → clean_at at es ≡ 0) → All
 dirty_all [] none = tt
 dirty_all (x ∷ xs) none = (pick x.dirty refl, dirty_all xs (λ at. omega (arith, none at, sum_by-cons (begins_clean at) x xs)))
   where
-  one : (n : ℕ) → eqb n n ≡ true
-  one n = grind (arith, nat_tests)
-  pick : (d : Bool) → x.dirty ≡ d → d ≡ true
-  pick true is = refl
-  pick false is = absurd (omega (arith, none x.at, sum_by-cons (begins_clean x.at) x xs, ap (λ e. cond {A = ℕ} (e && not x.dirty) 1 0) (one x.at), ap (λ d. cond {A = ℕ} (not d) 1 0) is))
+    one : (n : ℕ) → eqb n n ≡ true
+    one n = grind (arith, nat_tests)
+
+    pick : (d : Bool) → x.dirty ≡ d → d ≡ true
+    pick true is = refl
+    pick false is = absurd (omega (arith, none x.at, sum_by-cons (begins_clean x.at) x xs, ap (λ e. cond {A = ℕ} (e && not x.dirty) 1 0) (one x.at), ap (λ d. cond {A = ℕ} (not d) 1 0) is))
 
 -- where all orders are empty, no extent is clean
 pub all_dirty : (s : Stored) (c : Cached) → IsSound s c → ((p : ℕ) → (order_in c.orders p).entries ≡ []) → (f : ℕ) → AllDirty (extents_in c.files f)
 all_dirty s c sound none f = dirty_all (extents_in c.files f) (λ at. sym (self (file_in c.files f).pool (clean_at at (extents_in c.files f))) ∙ sym (sound.ranked.each (file_in c.files f).pool f at) ∙ ap (entries_at f at) (none (file_in c.files f).pool))
   where
-  self : (m k : ℕ) → cond {A = ℕ} (eqb m m) k 0 ≡ k
-  self m k = grind (arith, nat_tests)
+    self : (m k : ℕ) → cond {A = ℕ} (eqb m m) k 0 ≡ k
+    self m k = grind (arith, nat_tests)

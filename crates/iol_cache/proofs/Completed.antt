@@ -1,44 +1,45 @@
 -- A file whose gaps were read.
-use Rattle.std.proofs.Common.{inl, inr, ◌≡◌, ◌⊎◌, ℕ, zero, suc, ◌+◌, ◌-◌, ◌<◌, ◌≤◌, ◌^◌, Bool, true, false, cond, eqb, List, [], ◌∷◌, ◌++◌, length, get_or, refl, sym, ap, ◌∙◌, arith, subst}
-use Rattle.std.specs.Prelude.{sum_by, flat_map, slice_index}
+use Rattle.std.proofs.Common.{inl, inr, ◌≡◌, ℕ, ◌+◌, ◌<◌, ◌≤◌, Bool, true, cond, eqb, List, [], ◌∷◌, ◌++◌, length, get_or, refl, sym, ap, ◌∙◌, arith, subst}
+use Rattle.std.specs.Prelude.{sum_by}
 use Rattle.std.specs.List.{All, AllZip}
 use Rattle.std.proofs.lemmas.Bool.{cases_eq}
 use Rattle.std.proofs.lemmas.Bool.Decides.{nat_tests}
-use Rattle.std.proofs.lemmas.List.Elements.{All-nil, All-cons, All-head, All-tail}
+use Rattle.std.proofs.lemmas.List.Elements.{All-nil, All-cons}
 use Rattle.std.proofs.lemmas.List.Sums.{sum_by-cons}
 use Rattle.iol_core.specs.Numbered.{is_numbered}
 use Rattle.iol_core.specs.declared.limits.TheConstants.{MAX_FILE_BYTES}
 use Rattle.iol_core.specs.declared.numbers.BufId.{BufId}
 use Rattle.iol_arena.specs.State.{page_count}
-use Rattle.iol_back.specs.Disk.{Disk, IfHonest, content}
-use Rattle.iol_pool.specs.Pools.{Pool, pool_in}
-use Rattle.iol_hold.specs.Moves.{tally, Moves, Shares, Covers, Stays, SameLists, pool_meant}
+use Rattle.iol_back.specs.Disk.{Disk, content}
+use Rattle.iol_pool.specs.Pools.{pool_in}
+use Rattle.iol_hold.specs.Moves.{tally, Covers, Stays, SameLists}
+use Rattle.iol_hold.specs.Places.{Place}
 use Rattle.iol_hold.specs.Stored.{Stored, AllSettled}
 use Rattle.iol_hold.specs.Texts.{bufs_of}
 use Rattle.iol_hold.specs.declared.slices.Slice.{Slice}
 use Rattle.iol_hold.proofs.Counting.{tally_none, tally-append}
 use Rattle.iol_hold.proofs.Moving.{stays_trans, shares_move}
-use Rattle.iol_extent.specs.Extents.{Extent, ExtentMap, IsApart, end_of, last_end}
+use Rattle.iol_extent.specs.Extents.{Extent, ExtentMap, end_of, last_end}
 use Rattle.iol_extent.specs.Spans.{AreInOrder, IsGapSpan}
 use Rattle.iol_extent.specs.declared.spans.Span.{Span}
 use Rattle.iol_evict.specs.Ranking.{Ranking}
 use Rattle.iol_cache.specs.declared.files.CachedFile.{CachedFile}
-use Rattle.iol_cache.specs.Marks.{at_page, Counted, Marks}
-use Rattle.iol_cache.specs.Cached.{Cached, file_in, with_file, order_in, with_order, extents_in, slices_in, clean_in, clean_parts, held, clean_held, clean_of, clean_at, begins_clean, entries_at, AreRanked}
-use Rattle.iol_cache.specs.Contents.{byte_in, file_bytes, AreStored, Mirrors, SameFiles}
+use Rattle.iol_cache.specs.Marks.{at_page}
+use Rattle.iol_cache.specs.Cached.{file_in, with_file, order_in, with_order, extents_in, slices_in, clean_in, clean_parts, held, clean_held, clean_of, clean_at, begins_clean, entries_at}
+use Rattle.iol_cache.specs.Contents.{byte_in, AreStored}
 use Rattle.iol_cache.specs.Evicting.{Holding}
 use Rattle.iol_cache.specs.Gaps as gaps
 use Rattle.iol_cache.specs.Gaps.{all_put, all_parts, IsMade, FillsGaps, AllMirror}
 use Rattle.iol_cache.specs.Going.{FillsFile, Goes}
 use Rattle.iol_cache.specs.Reading.{all_entered, parts_of_spans}
-use Rattle.iol_cache.specs.Sound.{Each, IsLaid, IsFiled, IsOpened, IsSound}
+use Rattle.iol_cache.specs.Sound.{Each, IsLaid, IsFiled, IsSound}
 use Rattle.iol_cache.proofs.Filing.{file_same, file_other, order_same, order_other, length-with_file, length-with_order, numbered_bounds, numbered_yes, IsAdditive, additive_tally, additive_page, additive_bufs, sum-flat, sum-with_file}
 use Rattle.iol_cache.proofs.Extending.{laid_stays}
 use Rattle.iol_cache.proofs.GivenUp.{StaysFile, file_stays, bytes_same}
 use Rattle.iol_cache.proofs.Using.{covers_file}
 use Rattle.iol_cache.proofs.Undone.{none_gaps}
 use Rattle.iol_cache.proofs.Putting.{Fits, IsMirrored, made_fits, mirrored_is, all_byte, all_stored, all_len, last_end-all_put, sum-all_put, each-all_put, begins_made, zip_begins, made_clean, all_entries, all_entries-other}
-use Rattle.iol_cache.proofs.Ranged.{tally-all_put, made_laid, range_held}
+use Rattle.iol_cache.proofs.Ranged.{tally-all_put, made_laid}
 
 -- Sums over the file with what was put in.
 
@@ -50,8 +51,17 @@ held_more h a fs f p m made numbered is =
     let g : CachedFile → List BufId = λ y. bufs_of (slices_in y.extents.extents) in
     let parts : Extent → List Slice = λ e. e.parts in
     let es = extents_in fs f in
-    omega (arith, sum-flat a g fs, sum-flat a g (with_file fs f x), sum-with_file w fs f x numbered.0 numbered.1, ap (λ l. h (bufs_of (slices_in l))) is,
-      sum-flat (additive_bufs a) parts es, sum-flat (additive_bufs a) parts made, sum-flat (additive_bufs a) parts (all_put es made), sum-all_put (λ (e : Extent). h (bufs_of e.parts)) es made)
+    omega (
+      arith,
+      sum-flat a g fs,
+      sum-flat a g (with_file fs f x),
+      sum-with_file w fs f x numbered.0 numbered.1,
+      ap (λ l. h (bufs_of (slices_in l))) is,
+      sum-flat (additive_bufs a) parts es,
+      sum-flat (additive_bufs a) parts made,
+      sum-flat (additive_bufs a) parts (all_put es made),
+      sum-all_put (λ (e : Extent). h (bufs_of e.parts)) es made,
+    )
 
 clean_sums : (h : List BufId → ℕ) (s t : Stored) (p : ℕ) (gs : List Span) (made : List Extent) → AllZip (IsMade s t p) gs made → sum_by (λ (e : Extent). h (bufs_of (clean_parts e))) made ≡ sum_by (λ (e : Extent). h (bufs_of e.parts)) made
 clean_sums h s t p [] [] zip = refl
@@ -68,8 +78,18 @@ clean_more h a s t q gs fs f p m made numbered is zip =
     let g : CachedFile → List BufId = λ y. bufs_of (clean_in y.extents.extents) in
     let parts : Extent → List Slice = λ e. e.parts in
     let es = extents_in fs f in
-    omega (arith, sum-flat a g fs, sum-flat a g (with_file fs f x), sum-with_file w fs f x numbered.0 numbered.1, ap (λ l. h (bufs_of (clean_in l))) is,
-      sum-flat (additive_bufs a) clean_parts es, sum-flat (additive_bufs a) parts made, sum-flat (additive_bufs a) clean_parts (all_put es made), sum-all_put (λ (e : Extent). h (bufs_of (clean_parts e))) es made, clean_sums h s t q gs made zip)
+    omega (
+      arith,
+      sum-flat a g fs,
+      sum-flat a g (with_file fs f x),
+      sum-with_file w fs f x numbered.0 numbered.1,
+      ap (λ l. h (bufs_of (clean_in l))) is,
+      sum-flat (additive_bufs a) clean_parts es,
+      sum-flat (additive_bufs a) parts made,
+      sum-flat (additive_bufs a) clean_parts (all_put es made),
+      sum-all_put (λ (e : Extent). h (bufs_of (clean_parts e))) es made,
+      clean_sums h s t q gs made zip,
+    )
 
 ends_below : (s t : Stored) (p low high : ℕ) (gs : List Span) (made : List Extent) → AreInOrder low high gs → AllZip (IsMade s t p) gs made → All (λ (e : Extent). end_of e ≤ high) made
 ends_below s t p low high [] [] order zip = All-nil (λ (e : Extent). end_of e ≤ high)
@@ -77,13 +97,13 @@ ends_below s t p low high [] (e ∷ made) order zip = absurd zip
 ends_below s t p low high (g ∷ gs) [] order zip = absurd zip
 ends_below s t p low high (g ∷ gs) (e ∷ made) order zip = All-cons (λ (x : Extent). end_of x ≤ high) e made (omega (arith, zip.0.ends, last high g.to gs order.2)) (ends_below s t p g.to high gs made order.2 zip.1)
   where
-  last : (high low : ℕ) (ss : List Span) → AreInOrder low high ss → low ≤ high
-  last high low [] h = h
-  last high low (s ∷ ss) h = omega (arith, last high s.to ss h.2, h.0, h.1)
+    last : (high low : ℕ) (ss : List Span) → AreInOrder low high ss → low ≤ high
+    last high low [] h = h
+    last high low (s ∷ ss) h = omega (arith, last high s.to ss h.2, h.0, h.1)
 
 -- What holds after.
 
-module _ (old new : Holding) (f from to : ℕ) (gs : List Span) (disk : Disk) (xs : List Slice) (sound : IsSound old.store old.cache) (there : is_numbered old.cache.files f ≡ true) (order : AreInOrder from to gs) (are_gaps : All (IsGapSpan (extents_in old.cache.files f)) gs) (filled : FillsFile f from to gs disk old new xs) where
+module _ (old new : Holding) (f from to : ℕ) (beside : List Place) (gs : List Span) (disk : Disk) (xs : List Slice) (sound : IsSound old.store old.cache) (there : is_numbered old.cache.files f ≡ true) (order : AreInOrder from to gs) (are_gaps : All (IsGapSpan (extents_in old.cache.files f)) gs) (filled : FillsFile f from to beside gs disk old new xs) where
   abbrev fs : List CachedFile
   fs = old.cache.files
 
@@ -159,18 +179,18 @@ module _ (old new : Holding) (f from to : ℕ) (gs : List Span) (disk : Disk) (x
   filed : to ≤ MAX_FILE_BYTES → (g : ℕ) → IsFiled new.store (file_in new.cache.files g)
   filed small g = elim (cases_eq g f) [
     | inl same ↦ subst (λ n. IsFiled new.store (file_in new.cache.files n)) (sym same) (subst (IsFiled new.store) (sym file_is) (record {
-        apart = filled.apart;
-        laid = subst (λ (l : List Extent). Each (IsLaid new.store pool) l) (sym filled.range.fills.extents) (laid_stays pool (all_put es made) stays_new (subst (λ l. Covers new.store (bufs_of (slices_in l))) extents_are (covers_of f covers_new)) laid_put);
-        short = omega (arith, ap last_end filled.range.fills.extents, last_end-all_put es made MAX_FILE_BYTES (sound.files f).short (below made (ends_below old.store mid pool from to gs made order zip) small));
-      }))
+      apart = filled.apart;
+      laid = subst (λ (l : List Extent). Each (IsLaid new.store pool) l) (sym filled.range.fills.extents) (laid_stays pool (all_put es made) stays_new (subst (λ l. Covers new.store (bufs_of (slices_in l))) extents_are (covers_of f covers_new)) laid_put);
+      short = omega (arith, ap last_end filled.range.fills.extents, last_end-all_put es made MAX_FILE_BYTES (sound.files f).short (below made (ends_below old.store mid pool from to gs made order zip) small));
+    }))
     | inr ne ↦ (
-      let was = sound.files g in
-      let c = subst (λ (y : CachedFile). Covers new.store (bufs_of (slices_in y.extents.extents))) (other_is g ne) (covers_of g covers_new) in
-      subst (IsFiled new.store) (sym (other_is g ne)) (record { apart = was.apart; laid = laid_stays (file_in fs g).pool (extents_in fs g) (stays_trans stays_mid stays_new) c was.laid; short = was.short }))
+        let was = sound.files g in
+        let c = subst (λ (y : CachedFile). Covers new.store (bufs_of (slices_in y.extents.extents))) (other_is g ne) (covers_of g covers_new) in
+        subst (IsFiled new.store) (sym (other_is g ne)) (record { apart = was.apart; laid = laid_stays (file_in fs g).pool (extents_in fs g) (stays_trans stays_mid stays_new) c was.laid; short = was.short }))
   ]
     where
-    below : (l : List Extent) → All (λ (e : Extent). end_of e ≤ to) l → to ≤ MAX_FILE_BYTES → All (λ (e : Extent). end_of e ≤ MAX_FILE_BYTES) l
-    below l all small = λ k d h. omega (arith, all k d h, small)
+      below : (l : List Extent) → All (λ (e : Extent). end_of e ≤ to) l → to ≤ MAX_FILE_BYTES → All (λ (e : Extent). end_of e ≤ MAX_FILE_BYTES) l
+      below l all small = λ k d h. omega (arith, all k d h, small)
 
   pool_same : (g : ℕ) → (file_in new.cache.files g).pool ≡ (file_in fs g).pool
   pool_same g = elim (cases_eq g f) [
@@ -227,10 +247,10 @@ module _ (old new : Holding) (f from to : ℕ) (gs : List Span) (disk : Disk) (x
   sound_filled small = record {
     files = filed small;
     opened = λ g is. (
-      let b = numbered_bounds new.cache.files g is in
-      let o = sound.opened g (numbered_yes fs g b.0 (omega (arith, b.1, count_same))) in
-      let ob = numbered_bounds old.cache.orders (file_in fs g).pool o.ordered in
-      record { is_open = ap (λ p. (pool_in new.store.pools p).closed) (pool_same g) ∙ ap (λ ps. (pool_in ps (file_in fs g).pool).closed) pools_are ∙ o.is_open; ordered = ap (is_numbered new.cache.orders) (pool_same g) ∙ numbered_yes new.cache.orders (file_in fs g).pool ob.0 (omega (arith, ob.1, orders_same)) });
+        let b = numbered_bounds new.cache.files g is in
+        let o = sound.opened g (numbered_yes fs g b.0 (omega (arith, b.1, count_same))) in
+        let ob = numbered_bounds old.cache.orders (file_in fs g).pool o.ordered in
+        record { is_open = ap (λ p. (pool_in new.store.pools p).closed) (pool_same g) ∙ ap (λ ps. (pool_in ps (file_in fs g).pool).closed) pools_are ∙ o.is_open; ordered = ap (is_numbered new.cache.orders) (pool_same g) ∙ numbered_yes new.cache.orders (file_in fs g).pool ob.0 (omega (arith, ob.1, orders_same)) });
     covered = covers_new;
     marked = record { each = λ q. omega (arith, filled.marks.each q, sound.marked.each q, ap (λ l. at_page q (bufs_of l)) parts_are, ap (λ l. at_page q (clean_held l)) filled.files, clean_more (at_page q) (additive_page q) old.store mid pool gs fs f pool filled.extents made numbered filled.range.fills.extents zip) };
     pages = filled.marks.long ∙ sound.pages ∙ sym pages_are;
@@ -244,22 +264,23 @@ module _ (old new : Holding) (f from to : ℕ) (gs : List Span) (disk : Disk) (x
   slot_filled g honest all = elim (cases_eq g f) [
     | inl same ↦ subst (λ n. StaysFile old.store new.store (content disk.slots n) (extents_in fs n) (extents_in new.cache.files n)) (sym same) (here (subst (λ n. AreStored old.store (content disk.slots n) (extents_in fs n)) same all))
     | inr ne ↦ (
-      let is : extents_in new.cache.files g ≡ extents_in fs g = ap (λ (y : CachedFile). y.extents.extents) (other_is g ne) in
-      let c = subst (λ l. Covers new.store (bufs_of (slices_in l))) is (covers_of g covers_new) in
-      subst (StaysFile old.store new.store (content disk.slots g) (extents_in fs g)) (sym is) (file_stays (file_in fs g).pool (content disk.slots g) (extents_in fs g) (stays_trans stays_mid stays_new) c (sound.files g).laid all))
+        let is : extents_in new.cache.files g ≡ extents_in fs g = ap (λ (y : CachedFile). y.extents.extents) (other_is g ne) in
+        let c = subst (λ l. Covers new.store (bufs_of (slices_in l))) is (covers_of g covers_new) in
+        subst (StaysFile old.store new.store (content disk.slots g) (extents_in fs g)) (sym is) (file_stays (file_in fs g).pool (content disk.slots g) (extents_in fs g) (stays_trans stays_mid stays_new) c (sound.files g).laid all))
   ]
     where
-    mirrored : (l : List Extent) → All (gaps.Mirrors mid pool (content disk.slots f)) l → All (IsMirrored mid (content disk.slots f)) l
-    mirrored l h = λ k d i. mirrored_is mid pool (content disk.slots f) (get_or l k d) (h k d i)
-    here : AreStored old.store (content disk.slots f) es → StaysFile old.store new.store (content disk.slots f) es (extents_in new.cache.files f)
-    here was =
-        let stored = content disk.slots f in
-        let first = file_stays pool stored es stays_mid covers_old (sound.files f).laid was in
-        let m = mirrored made (filled.range.fills.mirrors honest).each in
-        let put = all_stored stored es made fits m first.mirrors in
-        let bytes = bytes_same (byte_in mid) (byte_in mid) stored (all_put es made) es (λ i. all_byte stored es made i fits m) (all_len stored es made m) in
-        let last = file_stays pool stored (all_put es made) stays_new (subst (λ l. Covers new.store (bufs_of (slices_in l))) extents_are (covers_of f covers_new)) laid_put put in
-        subst (StaysFile old.store new.store stored es) (sym extents_are) (record { mirrors = last.mirrors; bytes = last.bytes ∙ bytes ∙ first.bytes })
+      mirrored : (l : List Extent) → All (gaps.Mirrors mid pool (content disk.slots f)) l → All (IsMirrored mid (content disk.slots f)) l
+      mirrored l h = λ k d i. mirrored_is mid pool (content disk.slots f) (get_or l k d) (h k d i)
+
+      here : AreStored old.store (content disk.slots f) es → StaysFile old.store new.store (content disk.slots f) es (extents_in new.cache.files f)
+      here was =
+          let stored = content disk.slots f in
+          let first = file_stays pool stored es stays_mid covers_old (sound.files f).laid was in
+          let m = mirrored made (filled.range.fills.mirrors honest).each in
+          let put = all_stored stored es made fits m first.mirrors in
+          let bytes = bytes_same (byte_in mid) (byte_in mid) stored (all_put es made) es (λ i. all_byte stored es made i fits m) (all_len stored es made m) in
+          let last = file_stays pool stored (all_put es made) stays_new (subst (λ l. Covers new.store (bufs_of (slices_in l))) extents_are (covers_of f covers_new)) laid_put put in
+          subst (StaysFile old.store new.store stored es) (sym extents_are) (record { mirrors = last.mirrors; bytes = last.bytes ∙ bytes ∙ first.bytes })
 
   pub goes_filled : (own : List BufId) → SameLists old.store new.store → (AllSettled old.store → AllSettled new.store) → Goes disk own (own ++ bufs_of xs) old new
   goes_filled own lists settles = record {

@@ -1,11 +1,9 @@
 -- Extents that come into an order, and hits that count.
-use Rattle.std.proofs.Common.{inl, inr, ◌≡◌, ◌≢◌, ◌⊎◌, ℕ, zero, suc, ◌+◌, ◌-◌, ◌<◌, ◌≤◌, ◌==◌, ◌^◌, Bool, true, false, cond, eqb, List, [], ◌∷◌, ◌++◌, length, get_or, take, drop, Option, Some, None, IsSome, refl, sym, ap, ◌∙◌, arith, subst}
-use Rattle.std.specs.Prelude.{sum_by, map, not, ◌&&◌, flat_map}
-use Rattle.std.proofs.lemmas.Bool.{cases_eq, cases_lt}
+use Rattle.std.proofs.Common.{◌≡◌, ◌≢◌, ℕ, zero, suc, ◌+◌, ◌<◌, ◌≤◌, ◌==◌, Bool, true, false, cond, eqb, List, [], ◌∷◌, ◌++◌, length, get_or, take, drop, Some, None, IsSome, refl, sym, ap, ◌∙◌, arith, subst}
+use Rattle.std.specs.Prelude.{◌&&◌}
 use Rattle.std.proofs.lemmas.Bool.Decides.{nat_tests}
-use Rattle.std.proofs.lemmas.List.{take_more, drop_more, append-nil}
+use Rattle.std.proofs.lemmas.List.{take_more, append-nil}
 use Rattle.std.proofs.lemmas.Grind.{flat_map-append}
-use Rattle.std.proofs.lemmas.List.Sums.{sum_by-cons}
 use Rattle.iol_hold.specs.Places.{byte_len}
 use Rattle.iol_hold.specs.Texts.{bufs_of}
 use Rattle.iol_hold.specs.declared.slices.Slice.{Slice}
@@ -14,14 +12,14 @@ use Rattle.iol_extent.specs.Extents.{Extent, extent_over, begins_at, IsApart, en
 use Rattle.iol_extent.specs.Spans.{AreInOrder}
 use Rattle.iol_extent.specs.declared.spans.Span.{Span}
 use Rattle.iol_extent.proofs.Cover.{extent_begins, some_begins}
-use Rattle.iol_evict.specs.Ranking.{Ranking, entered, entry_or, hit_at, is_at, set_at, with_height, worth, entry_at}
+use Rattle.iol_evict.specs.Ranking.{Ranking, entered, entry_or, hit_at, is_at, set_at, worth, entry_at}
 use Rattle.iol_evict.specs.declared.entry.Entry.{Entry}
-use Rattle.iol_cache.specs.Cached.{parts_in, begins_clean, clean_at, entries_at, entry_one}
-use Rattle.iol_cache.specs.Marks.{Marks, at_page, AreWithin, HasMarksLeft}
-use Rattle.iol_cache.specs.Reading.{RanksFile, hit_counted, hits_counted, parts_from, parts_of_spans, all_entered, AllBeginAt, AllWithin, AreAbsent}
+use Rattle.iol_cache.specs.Cached.{parts_in, begins_clean, entries_at, entry_one}
+use Rattle.iol_cache.specs.Marks.{Marks, at_page, HasMarksLeft}
+use Rattle.iol_cache.specs.Reading.{RanksFile, parts_from, parts_of_spans, AreAbsent}
 use Rattle.iol_cache.proofs.Marking.{at_page-append, at_page-none}
 use Rattle.iol_cache.proofs.Filing.{sum-put_in-entry, sum-map_entry, sum-without_at}
-use Rattle.iol_cache.proofs.Extending.{eq_of, over_of, begins_above}
+use Rattle.iol_cache.proofs.Extending.{begins_above}
 use Rattle.iol_cache.proofs.Ranked.{clean_one, entry_there}
 
 -- the extent over a byte begins where it does
@@ -30,8 +28,10 @@ over_begins low [] i e a h = absurd cc
 over_begins low (x ∷ xs) i e a h = here (is_over x i) h (over_begins (end_of x) xs i e a.2) where
   self : (n : ℕ) → (n == n) ≡ true
   self n = grind (arith, nat_tests)
+
   other : (m n : ℕ) → m < n → (m == n) ≡ false
   other m n l = grind (arith, nat_tests)
+
   here : (b : Bool) → cond b (Some x) (extent_over xs i) ≡ Some e → (extent_over xs i ≡ Some e → (begins_at xs e.at ≡ Some e) × (end_of x ≤ e.at)) → (begins_at (x ∷ xs) e.at ≡ Some e) × (low ≤ e.at)
   here true h ih = let same : x ≡ e = cc in let P : Extent → Type 0 = λ y. (begins_at (x ∷ xs) y.at ≡ Some y) × (low ≤ y.at) in
       subst P same (ap (λ b. cond b (Some x) (begins_at xs x.at)) (self x.at), a.0)
@@ -48,11 +48,12 @@ hit_there r f es i e apart ranked found clean =
 pub hit_entries : (r : Ranking) (f at g b : ℕ) → entries_at g b (hit_at r f at).entries ≡ entries_at g b r.entries
 hit_entries r f at g b = sum-map_entry (entry_one g b) (set_at f at h) r.entries (λ e. pick e (is_at e f at))
   where
-  h : ℕ
-  h = r.low + worth (entry_or r.entries f at).size (entry_or r.entries f at).cost
-  pick : (e : Entry) (c : Bool) → entry_one g b (cond c (let y : Entry = record e { height = h } in y) e) ≡ entry_one g b e
-  pick e true = refl
-  pick e false = refl
+    h : ℕ
+    h = r.low + worth (entry_or r.entries f at).size (entry_or r.entries f at).cost
+
+    pick : (e : Entry) (c : Bool) → entry_one g b (cond c (let y : Entry = record e { height = h } in y) e) ≡ entry_one g b e
+    pick e true = refl
+    pick e false = refl
 
 -- Extents that come in.
 
@@ -92,15 +93,15 @@ parts-split : (es : List Extent) (ss : List Span) (i : ℕ) (d : Span) (p : ℕ)
 parts-split es [] i d p h = absurd (omega (arith, h))
 parts-split es (s ∷ ss) zero d p h = joined p (parts_from es s) (parts_of_spans es ss) ∙ omega (arith, at_page-none p)
   where
-  joined : (p : ℕ) (xs ys : List Slice) → at_page p (bufs_of (xs ++ ys)) ≡ at_page p (bufs_of xs) + at_page p (bufs_of ys)
-  joined p xs ys = ap (at_page p) (bufs-append xs ys) ∙ at_page-append p (bufs_of xs) (bufs_of ys)
+    joined : (p : ℕ) (xs ys : List Slice) → at_page p (bufs_of (xs ++ ys)) ≡ at_page p (bufs_of xs) + at_page p (bufs_of ys)
+    joined p xs ys = ap (at_page p) (bufs-append xs ys) ∙ at_page-append p (bufs_of xs) (bufs_of ys)
 parts-split es (s ∷ ss) (suc i) d p h =
     let ih = parts-split es ss i d p (omega (arith, h)) in
     let on : drop (suc i + 1) (s ∷ ss) ≡ drop (i + 1) ss = (let n : suc i + 1 ≡ suc (i + 1) = omega arith in ap (λ k. drop k (s ∷ ss)) n) in
     omega (arith, ih, ap (λ (l : List Span). at_page p (bufs_of (parts_of_spans es l))) on, joined p (parts_from es s) (parts_of_spans es ss), joined p (parts_from es s) (parts_of_spans es (take i ss)))
   where
-  joined : (p : ℕ) (xs ys : List Slice) → at_page p (bufs_of (xs ++ ys)) ≡ at_page p (bufs_of xs) + at_page p (bufs_of ys)
-  joined p xs ys = ap (at_page p) (bufs-append xs ys) ∙ at_page-append p (bufs_of xs) (bufs_of ys)
+    joined : (p : ℕ) (xs ys : List Slice) → at_page p (bufs_of (xs ++ ys)) ≡ at_page p (bufs_of xs) + at_page p (bufs_of ys)
+    joined p xs ys = ap (at_page p) (bufs-append xs ys) ∙ at_page-append p (bufs_of xs) (bufs_of ys)
 
 pub few_left : (old now : List ℕ) (es : List Extent) (ss : List Span) (i : ℕ) (d : Span) → i < length ss → Marks old now (parts_of_spans es (take i ss)) → HasMarksLeft old (parts_of_spans es ss) → HasMarksLeft now (parts_from es (get_or ss i d))
 few_left old now es ss i d h marks few = record { each = λ p. omega (arith, marks.each p, few.each p, parts-split es ss i d p h) }
@@ -117,5 +118,5 @@ absent_after r f at size cost low to [] h order absent = tt
 absent_after r f at size cost low to (s ∷ ss) h order absent =
     (omega (arith, entered_entries r f at size cost f s.from, none f at s.from (omega (arith, order.0, h)), absent.0), absent_after r f at size cost s.to to ss (omega (arith, order.0, order.1, h)) order.2 absent.1)
   where
-  none : (f m n : ℕ) → m < n → cond {A = ℕ} (eqb f f && eqb m n) 1 0 ≡ 0
-  none f m n l = grind (arith, nat_tests, l)
+    none : (f m n : ℕ) → m < n → cond {A = ℕ} (eqb f f && eqb m n) 1 0 ≡ 0
+    none f m n l = grind (arith, nat_tests, l)

@@ -1,34 +1,25 @@
 -- What an eviction leaves.
-use Rattle.std.proofs.Common.{inl, inr, ◌≡◌, ◌⊎◌, ℕ, zero, suc, ◌+◌, ◌-◌, ◌<◌, ◌≤◌, Bool, true, false, cond, List, [], ◌∷◌, ◌++◌, length, get_or, set, max, map, Option, Some, None, IfSome, refl, sym, ap, ◌∙◌, arith, subst}
-use Rattle.std.specs.Prelude.{sum_by, slice_index}
-use Rattle.std.specs.List.{range_with_len}
+use Rattle.std.proofs.Common.{inl, inr, ◌≡◌, ℕ, ◌+◌, ◌-◌, ◌<◌, ◌≤◌, Bool, false, cond, List, [], length, set, Option, Some, IfSome, sym, ap, ◌∙◌, arith, subst}
 use Rattle.std.proofs.lemmas.Bool.{cases_eq}
 use Rattle.iol_core.specs.Numbered.{is_numbered}
 use Rattle.iol_core.specs.declared.numbers.BufId.{BufId}
-use Rattle.iol_arena.specs.State.{page_count}
-use Rattle.iol_back.specs.Disk.{content}
 use Rattle.iol_pool.specs.Pools.{Pool, pool_in}
-use Rattle.iol_hold.specs.Places.{byte_len}
-use Rattle.iol_hold.specs.Stored.{Stored, count_of, AllSettled}
-use Rattle.iol_hold.specs.Moves.{tally, Moves, Counts, Covers, Stays, SameLists}
-use Rattle.iol_hold.specs.Releases.{FreesOnly}
+use Rattle.iol_hold.specs.Stored.{Stored}
+use Rattle.iol_hold.specs.Moves.{tally, Moves, Covers, Stays}
 use Rattle.iol_hold.specs.Texts.{bufs_of}
 use Rattle.iol_hold.proofs.Counting.{tally_none}
-use Rattle.iol_hold.proofs.Moving.{stays_trans}
-use Rattle.iol_hold.proofs.Releasing.{frees_trans, frees_none}
 use Rattle.iol_hold.specs.declared.slices.Slice.{Slice}
-use Rattle.iol_extent.specs.Extents.{Extent, ExtentMap, Cell, cover, cell_at, is_over, end_of, IsApart, last_end, begins_at, without_at}
+use Rattle.iol_extent.specs.Extents.{Extent, ExtentMap, begins_at, without_at}
 use Rattle.iol_evict.specs.Ranking.{Ranking, evicted_at}
 use Rattle.iol_cache.specs.declared.files.CachedFile.{CachedFile}
-use Rattle.iol_cache.specs.Marks.{at_page, Counted, Unmarks}
-use Rattle.iol_cache.specs.Cached.{Cached, file_in, with_file, order_in, extents_in, parts_in, parts_at, slices_in, clean_in, clean_parts, held, clean_held, lacking, without_extent, with_evicted, AreRanked}
-use Rattle.iol_cache.specs.Contents.{file_byte, file_bytes, file_len, byte_in, read_or, IsStored, AreStored, Mirrors, SameFiles, bytes_in_slot}
-use Rattle.iol_cache.specs.Sound.{Each, IsLaid, IsFiled, IsOpened, IsSound, IsUsable}
-use Rattle.iol_cache.specs.Evicting.{Holding, IsCleanAt, Evicts, GivesUp}
+use Rattle.iol_cache.specs.Marks.{at_page, Unmarks}
+use Rattle.iol_cache.specs.Cached.{Cached, file_in, order_in, extents_in, parts_in, parts_at, slices_in, clean_in, clean_parts, held, clean_held, lacking, without_extent, with_evicted, AreRanked}
+use Rattle.iol_cache.specs.Sound.{IsLaid, IsFiled, IsSound, IsUsable}
+use Rattle.iol_cache.specs.Evicting.{Holding, IsCleanAt, Evicts}
 use Rattle.iol_cache.proofs.Filing.{file_same, file_other, file_set, order_set, length-with_file, length-with_order, numbered_bounds, numbered_yes, IsAdditive, additive_tally, additive_page, additive_bufs, sum-flat, sum-with_file, sum-without_at, each-without_at}
-use Rattle.iol_cache.proofs.Extending.{over_of, apart-without_at, begins_above, cover-without_at, cover-begins, last_end-without_at, laid_stays, byte_stays, over_yes}
+use Rattle.iol_cache.proofs.Extending.{apart-without_at, last_end-without_at, laid_stays}
 use Rattle.iol_cache.proofs.Ranked.{ranked_evicted}
-use Rattle.iol_cache.proofs.Using.{clean_numbered, covers_file, begins_numbered}
+use Rattle.iol_cache.proofs.Using.{clean_numbered, covers_file}
 
 pub usable_of : {s : Stored} {c : Cached} → IsSound s c → IsUsable s c.files c.marks
 usable_of sound = record { files = sound.files; covered = sound.covered; marked = sound.marked; pages = sound.pages }
@@ -85,11 +76,11 @@ files_evicted {s = s} {t = t} fs f at e numbered begins covers stays filed g =
     let c = covers_file (without_extent fs f at) g covers in
     elim (cases_eq g f) [
       | inl same ↦ (
-        let is : file_in (without_extent fs f at) g ≡ x = ap (file_in (without_extent fs f at)) same ∙ file_same fs f x numbered.0 numbered.1 in
-        subst (IsFiled t) (sym is) (filed_lacking (file_in fs f) at (filed f) stays (subst (λ (y : CachedFile). Covers t (bufs_of (slices_in y.extents.extents))) is c) e begins))
+          let is : file_in (without_extent fs f at) g ≡ x = ap (file_in (without_extent fs f at)) same ∙ file_same fs f x numbered.0 numbered.1 in
+          subst (IsFiled t) (sym is) (filed_lacking (file_in fs f) at (filed f) stays (subst (λ (y : CachedFile). Covers t (bufs_of (slices_in y.extents.extents))) is c) e begins))
       | inr ne ↦ (
-        let is : file_in (without_extent fs f at) g ≡ file_in fs g = file_other fs f g x ne in
-        subst (IsFiled t) (sym is) (filed_stays (file_in fs g) (filed g) stays (subst (λ (y : CachedFile). Covers t (bufs_of (slices_in y.extents.extents))) is c)))
+          let is : file_in (without_extent fs f at) g ≡ file_in fs g = file_other fs f g x ne in
+          subst (IsFiled t) (sym is) (filed_stays (file_in fs g) (filed g) stays (subst (λ (y : CachedFile). Covers t (bufs_of (slices_in y.extents.extents))) is c)))
     ]
 
 -- the pool of each file
@@ -119,17 +110,19 @@ sound_evicted old new f at sound gone unmarks =
     record {
       files = λ g. subst (λ gs. IsFiled new.store (file_in gs g)) (sym gone.files) (files_evicted fs f at there.extent numbered there.begins covers moves.stays sound.files g);
       opened = λ g is. (
-        let bounds = numbered_bounds new.cache.files g is in
-        let o = sound.opened g (numbered_yes fs g bounds.0 (omega (arith, bounds.1, numbers))) in
-        let pool : (file_in new.cache.files g).pool ≡ (file_in fs g).pool = ap (λ gs. (file_in gs g).pool) gone.files ∙ pool_evicted fs f at g numbered in
-        let ob = numbered_bounds old.cache.orders (file_in fs g).pool o.ordered in
-        record {
-          is_open = ap (λ p. (pool_in new.store.pools p).closed) pool ∙ ap (λ (x : Pool). x.closed) (gone.frees.pools (file_in fs g).pool o.is_open) ∙ o.is_open;
-          ordered = ap (is_numbered new.cache.orders) pool ∙ numbered_yes new.cache.orders (file_in fs g).pool ob.0 (omega (arith, ob.1, orders));
-        });
+          let bounds = numbered_bounds new.cache.files g is in
+          let o = sound.opened g (numbered_yes fs g bounds.0 (omega (arith, bounds.1, numbers))) in
+          let pool : (file_in new.cache.files g).pool ≡ (file_in fs g).pool = ap (λ gs. (file_in gs g).pool) gone.files ∙ pool_evicted fs f at g numbered in
+          let ob = numbered_bounds old.cache.orders (file_in fs g).pool o.ordered in
+          record {
+            is_open = ap (λ p. (pool_in new.store.pools p).closed) pool ∙ ap (λ (x : Pool). x.closed) (gone.frees.pools (file_in fs g).pool o.is_open) ∙ o.is_open;
+            ordered = ap (is_numbered new.cache.orders) pool ∙ numbered_yes new.cache.orders (file_in fs g).pool ob.0 (omega (arith, ob.1, orders));
+          });
       covered = subst (λ gs. Covers new.store (held gs)) (sym gone.files) covers;
-      marked = record { each = λ p. (let less = clean_less (at_page p) (additive_page p) fs f at there.extent numbered there.begins there.clean in
-        omega (arith, marks.each p, sound.marked.each p, less, ap (λ gs. at_page p (clean_held gs)) gone.files)) };
+      marked = record {
+        each = λ p. (let less = clean_less (at_page p) (additive_page p) fs f at there.extent numbered there.begins there.clean in
+            omega (arith, marks.each p, sound.marked.each p, less, ap (λ gs. at_page p (clean_held gs)) gone.files));
+      };
       pages = marks.long ∙ sound.pages ∙ sym gone.frees.count;
       ranked = subst (λ os. AreRanked new.cache.files os) (sym gone.orders) (subst (λ gs. AreRanked gs (with_evicted old.cache.orders (file_in fs f).pool f at)) (sym gone.files) (ranked_evicted fs old.cache.orders f at numbered ordered sound.ranked (sound.files f) there));
       few_orders = omega (arith, orders, sound.few_orders);

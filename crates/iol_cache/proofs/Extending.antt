@@ -1,17 +1,14 @@
 -- Extents of a file, with one fewer.
-use Rattle.std.proofs.Common.{inl, inr, ◌≡◌, ◌⊎◌, ℕ, zero, suc, ◌+◌, ◌-◌, ◌<◌, ◌≤◌, ◌==◌, Bool, true, false, cond, eqb, List, [], ◌∷◌, ◌++◌, length, get_or, max, Option, Some, None, IsSome, refl, sym, ap, ◌∙◌, arith, subst}
-use Rattle.std.specs.Prelude.{not, ◌&&◌, sum_by, map}
-use Rattle.std.specs.List.{All}
-use Rattle.std.proofs.lemmas.Bool.{cases_lt, cases_eq}
+use Rattle.std.proofs.Common.{inl, inr, ◌≡◌, ◌⊎◌, ℕ, ◌-◌, ◌<◌, ◌≤◌, ◌==◌, Bool, true, false, cond, eqb, List, [], ◌∷◌, length, get_or, max, Some, None, refl, sym, ap, ◌∙◌, arith, subst}
+use Rattle.std.specs.Prelude.{not, ◌&&◌}
 use Rattle.std.proofs.lemmas.Bool.Decides.{nat_tests}
-use Rattle.std.proofs.lemmas.List.{get_or-map, length-map}
-use Rattle.std.proofs.lemmas.List.Elements.{All-get_or}
+use Rattle.std.proofs.lemmas.List.{get_or-map}
 use Rattle.std.proofs.lemmas.List.Sums.{sum_by-cons}
 use Rattle.iol_core.specs.declared.numbers.BufId.{BufId}
 use Rattle.iol_hold.specs.Stored.{Stored}
 use Rattle.iol_hold.specs.Moves.{Stays, Covers, tally}
-use Rattle.iol_hold.specs.Places.{Place, places, byte_len}
-use Rattle.iol_hold.specs.Texts.{byte_at, text_of, bufs_of, AllReadable}
+use Rattle.iol_hold.specs.Places.{places, byte_len}
+use Rattle.iol_hold.specs.Texts.{byte_at, bufs_of}
 use Rattle.iol_hold.proofs.Counting.{tally-append, bufs-append}
 use Rattle.iol_hold.proofs.Reading.{readable_stays, text_stays}
 use Rattle.iol_extent.specs.Extents.{Extent, Cell, no_place, cover, cell_at, is_over, end_of, IsApart, last_end, begins_at, without_at}
@@ -62,9 +59,11 @@ cover-without_at low (x ∷ xs) at e i a h = here (x.at == at) h (λ k. cover-wi
   first : (b : Bool) → is_over x i ≡ b → cover xs i ≡ cond b None (cond b (Some (cell_at x i)) (cover xs i))
   first true is = cover_low (end_of x) xs i a.2 (over_of x i is).1
   first false is = refl
+
   rest : (b : Bool) → is_over x i ≡ b → end_of x ≤ e.at → cover (without_at xs at) i ≡ cond (is_over e i) None (cover xs i) → cond b (Some (cell_at x i)) (cover (without_at xs at) i) ≡ cond (is_over e i) None (cond b (Some (cell_at x i)) (cover xs i))
   rest true is past ih = ap (λ c. cond c None (Some (cell_at x i))) (sym (over_not e i (inl (omega (arith, (over_of x i is).1, past)))))
   rest false is past ih = ih
+
   here : (c : Bool) → cond c (Some x) (begins_at xs at) ≡ Some e → (begins_at xs at ≡ Some e → cover (without_at xs at) i ≡ cond (is_over e i) None (cover xs i)) → (begins_at xs at ≡ Some e → end_of x ≤ e.at) → cover (cond c xs (x ∷ without_at xs at)) i ≡ cond (is_over e i) None (cover (x ∷ xs) i)
   here true h ih past = let same : x ≡ e = cc in first (is_over x i) refl ∙ ap (λ (y : Extent). cond (is_over y i) None (cover (x ∷ xs) i)) same
   here false h ih past = rest (is_over x i) refl (past h) (ih h)
@@ -93,12 +92,14 @@ clean_begins low (x ∷ xs) at a h = here (eqb x.at at) refl (clean_begins (end_
   none_low low [] a l = refl
   none_low low (y ∷ ys) a l = sum_by-cons (begins_clean at) y ys ∙ omega (arith, ap (λ b. cond {A = ℕ} (b && not y.dirty) 1 0) (ne_of y.at at (omega (arith, a.0, l))), none_low (end_of y) ys a.2 (omega (arith, a.0, a.1, l)))
     where
-    ne_of : (m n : ℕ) → n < m → eqb m n ≡ false
-    ne_of m n h = grind (arith, nat_tests)
+      ne_of : (m n : ℕ) → n < m → eqb m n ≡ false
+      ne_of m n h = grind (arith, nat_tests)
+
   one : (b d : Bool) → x.dirty ≡ d → eqb x.at at ≡ b → 0 < cond {A = ℕ} (b && not d) 1 0 → d ≡ false
   one true false is at_is h = refl
   one true true is at_is h = absurd (omega (arith, h))
   one false d is at_is h = absurd (omega (arith, h))
+
   here : (c : Bool) → eqb x.at at ≡ c → (0 < clean_at at xs → (e : Extent) × (begins_at xs at ≡ Some e) × (e.dirty ≡ false)) → (e : Extent) × (cond (x.at == at) (Some x) (begins_at xs at) ≡ Some e) × (e.dirty ≡ false)
   here true is ih =
       let at_is : x.at ≡ at = eq_of x.at at is in
@@ -135,6 +136,7 @@ byte_stays {s = s} {t = t} p (x ∷ xs) i c stays cov all h = here (is_over x i)
       let same = text_stays x.parts stays (covers_parts x xs cov).0 all.0.readable in
       let q : ℕ × ℕ = (0, 0) in
       ap (λ (y : ℕ × ℕ). y.0) (sym (get_or-map (byte_at t) (places x.parts) k no_place q small) ∙ ap (λ (l : List (ℕ × ℕ)). get_or l k q) same ∙ get_or-map (byte_at s) (places x.parts) k no_place q small)
+
   here : (b : Bool) → is_over x i ≡ b → cond b (Some (cell_at x i)) (cover xs i) ≡ Some c → (cover xs i ≡ Some c → byte_in t c.place ≡ byte_in s c.place) → byte_in t c.place ≡ byte_in s c.place
   here true is h ih = let same : cell_at x i ≡ c = cc in subst (λ (y : Cell). byte_in t y.place ≡ byte_in s y.place) same (one is)
   here false is h ih = ih h

@@ -1,9 +1,9 @@
 -- Files, extents and entries by number and place, and sums over them.
-use Rattle.std.proofs.Common.{inl, inr, ◌≡◌, ◌≢◌, ◌⊎◌, ℕ, zero, suc, ◌+◌, ◌-◌, ◌<◌, ◌≤◌, ◌==◌, Bool, true, false, cond, eqb, List, [], ◌∷◌, ◌++◌, length, get_or, set, Option, Some, None, refl, sym, ap, ◌∙◌, arith, subst}
-use Rattle.std.specs.Prelude.{nat_lt, nat_le, ◌&&◌, ◌||◌, not, flat_map, sum_by, find, map}
+use Rattle.std.proofs.Common.{inl, inr, ◌≡◌, ℕ, ◌+◌, ◌-◌, ◌<◌, ◌≤◌, ◌==◌, Bool, true, false, cond, List, [], ◌∷◌, ◌++◌, length, get_or, set, Some, refl, sym, ap, ◌∙◌, arith, subst}
+use Rattle.std.specs.Prelude.{nat_lt, flat_map, sum_by, map}
 use Rattle.std.proofs.lemmas.Bool.{cases_eq, cases_lt}
 use Rattle.std.proofs.lemmas.Bool.Decides.{nat_tests}
-use Rattle.std.proofs.lemmas.List.{get_or-set_same, get_or-set_other, get_or_default}
+use Rattle.std.proofs.lemmas.List.{get_or_default}
 use Rattle.std.proofs.lemmas.List.Sums.{sum_by-cons, sum_by-set, get_or-le-sum_by}
 use Rattle.std.proofs.lemmas.List.Concat.{flat_map-cons}
 use Rattle.std.proofs.lemmas.Grind.{common_steps}
@@ -18,7 +18,7 @@ use Rattle.iol_evict.specs.Ranking as ranking
 use Rattle.iol_evict.specs.declared.entry.Entry.{Entry}
 use Rattle.iol_cache.specs.declared.files.CachedFile.{CachedFile}
 use Rattle.iol_cache.specs.Marks.{at_page}
-use Rattle.iol_cache.specs.Cached.{file_in, with_file, no_file, order_in, with_order, no_order, extents_in}
+use Rattle.iol_cache.specs.Cached.{file_in, with_file, no_file, order_in, with_order, no_order}
 use Rattle.iol_cache.specs.Sound.{Each}
 use Rattle.iol_cache.proofs.Marking.{at_page-append, at_page-none}
 
@@ -75,15 +75,15 @@ file_nowhere fs f h = elim (cases_eq f 0) [
   | inr k ↦ (let past : length fs ≤ f - 1 = past_of k in grind (arith, nat_tests, common_steps, k, past))
 ]
   where
-  past_of : (f ≡ 0 → ⊥) → length fs ≤ f - 1
-  past_of k = elim (cases_lt (f - 1) (length fs)) [
-    | inl l ↦ absurd (let y : ◌≡◌ {A = Bool} true false = sym (numbered_yes fs f (omega (arith, k)) (omega (arith, l, k))) ∙ h in cc)
-    | inr l ↦ l
-  ]
+    past_of : (f ≡ 0 → ⊥) → length fs ≤ f - 1
+    past_of k = elim (cases_lt (f - 1) (length fs)) [
+      | inl l ↦ absurd (let y : ◌≡◌ {A = Bool} true false = sym (numbered_yes fs f (omega (arith, k)) (omega (arith, l, k))) ∙ h in cc)
+      | inr l ↦ l
+    ]
 
 pub length-with_file : (fs : List CachedFile) (f : ℕ) (x : CachedFile) → length (with_file fs f x) ≡ length fs
 unfolding with_file
-length-with_file fs f x = elim (cases_eq f 0) [ | inl k ↦ grind (arith, nat_tests, common_steps, k) | inr k ↦ grind (arith, nat_tests, common_steps, k) ]
+length-with_file fs f x = elim (cases_eq f 0) [ inl k ↦ grind (arith, nat_tests, common_steps, k) | inr k ↦ grind (arith, nat_tests, common_steps, k) ]
 
 pub order_same : (os : List ranking.Ranking) (p : ℕ) (x : ranking.Ranking) → 0 < p → p ≤ length os → order_in (with_order os p x) p ≡ x
 unfolding order_in with_order
@@ -106,7 +106,7 @@ order_set os p x h = set_numbered os p x h
 
 pub length-with_order : (os : List ranking.Ranking) (p : ℕ) (x : ranking.Ranking) → length (with_order os p x) ≡ length os
 unfolding with_order
-length-with_order os p x = elim (cases_eq p 0) [ | inl k ↦ grind (arith, nat_tests, common_steps, k) | inr k ↦ grind (arith, nat_tests, common_steps, k) ]
+length-with_order os p x = elim (cases_eq p 0) [ inl k ↦ grind (arith, nat_tests, common_steps, k) | inr k ↦ grind (arith, nat_tests, common_steps, k) ]
 
 pub order_nowhere : (os : List ranking.Ranking) (p : ℕ) → (0 < p → length os < p) → order_in os p ≡ no_order
 unfolding order_in
@@ -149,10 +149,10 @@ unfolding file_in
 sum-file_in w fs f none = elim (cases_eq f 0) [
   | inl k ↦ (let y : numbered_or fs f no_file ≡ no_file = grind (arith, nat_tests, k) in omega (arith, ap w y, none))
   | inr k ↦ (let y : numbered_or fs f no_file ≡ get_or fs (f - 1) no_file = grind (arith, nat_tests, k) in
-    elim (cases_lt (f - 1) (length fs)) [
-      | inl l ↦ omega (arith, ap w y, get_or-le-sum_by w fs (f - 1) no_file l)
-      | inr l ↦ (let z : numbered_or fs f no_file ≡ no_file = y ∙ grind (arith, nat_tests, common_steps, l) in omega (arith, ap w z, none))
-    ])
+      elim (cases_lt (f - 1) (length fs)) [
+        | inl l ↦ omega (arith, ap w y, get_or-le-sum_by w fs (f - 1) no_file l)
+        | inr l ↦ (let z : numbered_or fs f no_file ≡ no_file = y ∙ grind (arith, nat_tests, common_steps, l) in omega (arith, ap w z, none))
+      ])
 ]
 
 -- Extents of a file.

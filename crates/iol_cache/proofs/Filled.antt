@@ -1,20 +1,17 @@
 -- Gaps filled one after another.
-use Rattle.std.proofs.Common.{add-one, inl, inr, ◌≡◌, ◌⊎◌, true, false, ℕ, zero, suc, ◌+◌, ◌-◌, ◌<◌, ◌≤◌, ◌++◌, All, List, [], ◌∷◌, length, take, drop, get_or, Result, Ok, Err, refl, sym, ap, ◌∙◌, arith, subst}
+use Rattle.std.proofs.Common.{add-one, inl, inr, ◌≡◌, ◌⊎◌, false, ℕ, zero, suc, ◌+◌, ◌-◌, ◌<◌, ◌≤◌, ◌++◌, All, List, [], ◌∷◌, length, take, drop, get_or, refl, sym, ap, ◌∙◌, arith, subst}
 use Rattle.std.specs.List.{AllZip, Contains}
-use Rattle.std.proofs.lemmas.List.{append-nil, append_assoc, length-append, length-drop, drop-drop}
+use Rattle.std.proofs.lemmas.List.{append-nil, length-append, length-drop, drop-drop}
 use Rattle.std.proofs.lemmas.List.Elements.{All-append, All-cons, All-nil, All-weaker}
 use Rattle.std.proofs.Math.Seq.{drop-cons}
 use Rattle.std.proofs.lemmas.Grind.{flat_map-append}
 use Rattle.iol_core.specs.declared.numbers.BufId.{BufId}
-use Rattle.iol_core.specs.declared.refusals.Refusal.{Refusal}
-use Rattle.iol_core.specs.declared.refusals.Refusal.TheVariants.{Fault}
 use Rattle.iol_arena.specs.Adds.{IsNew}
-use Rattle.iol_arena.specs.Buffers.{Grows, IsLive, bytes_of}
-use Rattle.iol_arena.specs.Chunks.{usable, chunk_pages}
-use Rattle.iol_arena.specs.Pages.{IsSameBut, Raises}
-use Rattle.iol_arena.specs.State.{State, entry_at, generation_at, kind_free, pages_for}
+use Rattle.iol_arena.specs.Buffers.{Grows}
+use Rattle.iol_arena.specs.Chunks.{usable}
+use Rattle.iol_arena.specs.State.{State, kind_free, pages_for}
 use Rattle.iol_arena.specs.declared.pages.Entry.{Entry}
-use Rattle.iol_arena.proofs.Members.{In, in_or_out, in_contains, contains_in, in_left, in_right, in_either, in_take, in_passes}
+use Rattle.iol_arena.proofs.Members.{In, in_contains, contains_in, in_left, in_right, in_either, in_take, in_passes}
 use Rattle.iol_back.specs.Disk.{Disk, IfHonest, content}
 use Rattle.iol_extent.specs.Extents.{Adds, Extent, ExtentMap, IsApart, end_of, put_in}
 use Rattle.iol_extent.specs.Spans.{AreInOrder, IsGapSpan}
@@ -24,7 +21,7 @@ use Rattle.iol_hold.specs.Pages.{KeepsPages}
 use Rattle.iol_hold.specs.Releases.{FreesOnly}
 use Rattle.iol_hold.specs.Room.{free_of}
 use Rattle.iol_hold.specs.Stored.{Stored}
-use Rattle.iol_hold.specs.Texts.{AllReadable, bufs_of, text_of}
+use Rattle.iol_hold.specs.Texts.{AllReadable, bufs_of}
 use Rattle.iol_hold.specs.declared.slices.Slice.{Slice}
 use Rattle.iol_hold.proofs.Counting.{bufs-append, tally-append, tally_none}
 use Rattle.iol_hold.proofs.Moving.{moves_none, moves_trans, stays_trans}
@@ -175,15 +172,17 @@ made_stay s t u p [] (e ∷ made) stays grows c all = absurd all
 made_stay s t u p (g ∷ gs) [] stays grows c all = absurd all
 made_stay s t u p (g ∷ gs) (e ∷ made) stays grows c all =
     let both = covers_parts e made c in
-    let is = all.0 in
-    (record {
-      begins = is.begins;
-      ends = is.ends;
-      clean = is.clean;
-      readable = readable_stays e.parts stays both.0 is.readable;
-      pooled = is.pooled;
-      fresh = record { each = λ k d h. new_stays s.arena t.arena u.arena (get_or (bufs_of e.parts) k d) grows (is.fresh.each k d h) };
-    }, made_stay s t u p gs made stays grows both.1 all.1)
+    let is = all.0 in (
+      record {
+        begins = is.begins;
+        ends = is.ends;
+        clean = is.clean;
+        readable = readable_stays e.parts stays both.0 is.readable;
+        pooled = is.pooled;
+        fresh = record { each = λ k d h. new_stays s.arena t.arena u.arena (get_or (bufs_of e.parts) k d) grows (is.fresh.each k d h) };
+      },
+      made_stay s t u p gs made stays grows both.1 all.1,
+    )
 
 mirror_stay : (t u : Stored) (p : ℕ) (stored : List ℕ) (gs : List Span) (made : List Extent) (s : Stored) → Stays t u → Covers u (bufs_of (all_parts made)) → AllZip (IsMade s t p) gs made → All (Mirrors t p stored) made → All (Mirrors u p stored) made
 mirror_stay t u p stored [] [] s stays c zip all = All-nil (Mirrors u p stored)
@@ -199,8 +198,8 @@ mirror_stay t u p stored (g ∷ gs) (e ∷ made) s stays c zip all =
 new_since : (s t u : Stored) (p k n : ℕ) (b : BufId) → PlacesPages s t p k → PlacesPages t u p n → IsNew t.arena u.arena b → IsNew s.arena u.arena b
 new_since s t u p k n b first then new =
     let out : Contains (take k (free_of s p)) b.page → ⊥ = λ h.
-        let same = ap (λ (e : Entry). e.generation) (then.others.each b.page (λ j. filled_once n first b.page h j)) in
-        absurd (omega (arith, same, new.live.generation, new.next)) in
+    let same = ap (λ (e : Entry). e.generation) (then.others.each b.page (λ j. filled_once n first b.page h j)) in
+    absurd (omega (arith, same, new.live.generation, new.next)) in
     record { live = new.live; some = new.some; next = new.next ∙ ap (λ g. g + 1) (first.pages.raises.kept b.page out) }
 
 pub fills_none : (s : Stored) (m : ExtentMap) (p : ℕ) (disk : Disk) (file : ℕ) → FillsGaps s s m m p [] disk file

@@ -1,27 +1,26 @@
 -- Files after evictions.
-use Rattle.std.proofs.Common.{inl, inr, ◌≡◌, ◌⊎◌, ℕ, zero, suc, ◌+◌, ◌-◌, ◌<◌, ◌≤◌, Bool, true, false, cond, List, [], ◌∷◌, ◌++◌, length, get_or, max, map, Option, Some, None, refl, sym, ap, ◌∙◌, arith, subst}
+use Rattle.std.proofs.Common.{inl, inr, ◌≡◌, ℕ, ◌-◌, ◌<◌, ◌≤◌, Bool, true, false, cond, List, [], length, map, Option, Some, None, refl, sym, ap, ◌∙◌, arith, subst}
 use Rattle.std.specs.Prelude.{slice_index}
 use Rattle.std.specs.List.{range_with_len}
 use Rattle.std.proofs.lemmas.Bool.{cases_eq}
 use Rattle.iol_core.specs.declared.numbers.BufId.{BufId}
 use Rattle.iol_back.specs.Disk.{content}
-use Rattle.iol_hold.specs.Places.{Place, byte_len}
-use Rattle.iol_arena.specs.State.{entry_at}
+use Rattle.iol_hold.specs.Places.{Place}
 use Rattle.iol_arena.specs.declared.pages.PageKind as kind
-use Rattle.iol_pool.specs.Pools.{Pool, pool_in}
+use Rattle.iol_pool.specs.Pools.{Pool}
 use Rattle.iol_hold.specs.Releases.{FreesOnly, first_page, buf_at}
 use Rattle.iol_hold.specs.Stored.{Stored, count_of}
-use Rattle.iol_hold.specs.Moves.{tally, Moves, Counts, Covers, Stays}
+use Rattle.iol_hold.specs.Moves.{tally, Moves, Covers, Stays}
 use Rattle.iol_hold.specs.Texts.{bufs_of}
 use Rattle.iol_hold.specs.declared.slices.Slice.{Slice}
 use Rattle.iol_hold.proofs.Counting.{tally_none}
 use Rattle.iol_hold.proofs.Moving.{stays_trans, moves_none}
 use Rattle.iol_hold.proofs.Releasing.{frees_trans, frees_none}
-use Rattle.iol_extent.specs.Extents.{Extent, Cell, cover, cell_at, is_over, end_of, IsApart, last_end, begins_at, without_at}
+use Rattle.iol_extent.specs.Extents.{Extent, Cell, cover, cell_at, is_over, end_of, IsApart, begins_at, without_at}
 use Rattle.iol_cache.specs.declared.files.CachedFile.{CachedFile}
-use Rattle.iol_cache.specs.Cached.{Cached, file_in, with_file, extents_in, parts_in, parts_at, slices_in, held, clean_held, lacking, without_extent}
-use Rattle.iol_cache.specs.Contents.{file_byte, file_bytes, file_len, byte_in, read_or, IsStored, AreStored, Mirrors, SameFiles, bytes_in_slot}
-use Rattle.iol_cache.specs.Sound.{Each, IsLaid, IsFiled, IsSound}
+use Rattle.iol_cache.specs.Cached.{Cached, file_in, extents_in, parts_in, parts_at, slices_in, held, clean_held, lacking, without_extent}
+use Rattle.iol_cache.specs.Contents.{file_byte, file_bytes, file_len, byte_in, read_or, IsStored, AreStored, Mirrors}
+use Rattle.iol_cache.specs.Sound.{Each, IsLaid, IsSound}
 use Rattle.iol_cache.specs.Evicting.{Holding, IsCleanAt, Evicts, GivesUp}
 use Rattle.iol_cache.proofs.Filing.{file_same, file_other, additive_tally, each-without_at}
 use Rattle.iol_cache.proofs.Extending.{over_yes, begins_above, cover-without_at, cover-begins, last_end-without_at, byte_stays}
@@ -106,12 +105,12 @@ slot_evicted {s = s} {t = t} c f at g slots sound there stays covers all =
     let filed = sound.files g in
     elim (cases_eq g f) [
       | inl same ↦ (
-        let is : extents_in (without_extent fs f at) g ≡ without_at (extents_in fs g) at = ap (extents_in (without_extent fs f at)) same ∙ ap (λ (y : CachedFile). y.extents.extents) (file_same fs f x numbered.0 numbered.1) ∙ ap (λ n. without_at (extents_in fs n) at) (sym same) in
-        let begins = ap (λ n. begins_at (extents_in fs n) at) same ∙ there.begins in
-        subst (StaysFile s t stored (extents_in fs g)) (sym is) (file_evicted (file_in fs g).pool stored (extents_in fs g) at there.extent stays (subst (λ es. Covers t (bufs_of (slices_in es))) is cov) filed.apart filed.laid all begins there.clean))
+          let is : extents_in (without_extent fs f at) g ≡ without_at (extents_in fs g) at = ap (extents_in (without_extent fs f at)) same ∙ ap (λ (y : CachedFile). y.extents.extents) (file_same fs f x numbered.0 numbered.1) ∙ ap (λ n. without_at (extents_in fs n) at) (sym same) in
+          let begins = ap (λ n. begins_at (extents_in fs n) at) same ∙ there.begins in
+          subst (StaysFile s t stored (extents_in fs g)) (sym is) (file_evicted (file_in fs g).pool stored (extents_in fs g) at there.extent stays (subst (λ es. Covers t (bufs_of (slices_in es))) is cov) filed.apart filed.laid all begins there.clean))
       | inr ne ↦ (
-        let is : extents_in (without_extent fs f at) g ≡ extents_in fs g = ap (λ (y : CachedFile). y.extents.extents) (file_other fs f g x ne) in
-        subst (StaysFile s t stored (extents_in fs g)) (sym is) (file_stays (file_in fs g).pool stored (extents_in fs g) stays (subst (λ es. Covers t (bufs_of (slices_in es))) is cov) filed.laid all))
+          let is : extents_in (without_extent fs f at) g ≡ extents_in fs g = ap (λ (y : CachedFile). y.extents.extents) (file_other fs f g x ne) in
+          subst (StaysFile s t stored (extents_in fs g)) (sym is) (file_stays (file_in fs g).pool stored (extents_in fs g) stays (subst (λ es. Covers t (bufs_of (slices_in es))) is cov) filed.laid all))
     ]
 
 -- Two steps, the second of which makes no hold.

@@ -16,8 +16,13 @@ pub mod Undone
 pub mod Filled
 pub mod Shared
 pub mod Entering
+pub mod Composed
 pub mod Adding
 pub mod Putting
 pub mod Ranged
+pub mod CutOut
 pub mod Roomy
 pub mod Completed
+pub mod Stepping
+pub mod Woven
+pub mod Replaced

@@ -70,14 +70,14 @@ at_page-live s b (x ∷ xs) live all =
     let here = All-head (IsLive s.arena) x xs all in
     elim (cases_eq b.page x.page) [
       | inl e ↦ (
-        let g : b.generation ≡ x.generation = sym live.generation ∙ ap (λ p. generation_at s.arena p) e ∙ here.generation in
-        let one = ap (λ c. cond {A = ℕ} c 1 0) (eq-eqb x.page b.page (sym e)) in
-        let two = ap (λ y. same b y) (sym (equal_bufs b x e g)) ∙ same_self b in
-        omega (arith, rest, one, two))
+          let g : b.generation ≡ x.generation = sym live.generation ∙ ap (λ p. generation_at s.arena p) e ∙ here.generation in
+          let one = ap (λ c. cond {A = ℕ} c 1 0) (eq-eqb x.page b.page (sym e)) in
+          let two = ap (λ y. same b y) (sym (equal_bufs b x e g)) ∙ same_self b in
+          omega (arith, rest, one, two))
       | inr ne ↦ (
-        let one = ap (λ c. cond {A = ℕ} c 1 0) (ne_eqb x.page b.page (λ k. ne (sym k))) in
-        let two = other_page b x ne in
-        omega (arith, rest, one, two))
+          let one = ap (λ c. cond {A = ℕ} c 1 0) (ne_eqb x.page b.page (λ k. ne (sym k))) in
+          let two = other_page b x ne in
+          omega (arith, rest, one, two))
     ]
 
 -- a slice of covered ones is of a live buffer

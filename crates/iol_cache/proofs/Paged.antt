@@ -1,6 +1,6 @@
 -- What becomes of pages: where bytes were placed, where a placing was given up, and one step after another.
-use Rattle.std.proofs.Common.{inl, inr, ◌≡◌, ◌⊎◌, zero, suc, ◌∷◌, get_or, All, true, false, Bool, ℕ, ◌+◌, ◌<◌, ◌≤◌, List, [], ◌++◌, length, take, drop, map, refl, sym, ap, ◌∙◌, arith, subst}
-use Rattle.std.specs.List.{Contains, filter, flat_map, range_with_len}
+use Rattle.std.proofs.Common.{inl, inr, ◌≡◌, zero, suc, ◌∷◌, get_or, All, true, false, ℕ, ◌+◌, ◌<◌, ◌≤◌, List, [], length, take, map, refl, sym, ap, ◌∙◌, arith, subst}
+use Rattle.std.specs.List.{Contains, flat_map, range_with_len}
 use Rattle.std.proofs.lemmas.Bool.{cases_eq, cases_lt}
 use Rattle.std.proofs.lemmas.List.{length-map, take-take, length-take-le}
 use Rattle.iol_core.specs.declared.numbers.BufId.{BufId}
@@ -57,17 +57,20 @@ keeps_abandoned {a = a} {b = b} {c = c} {d = d} ps qs placed parts is one but tw
     let grows = grows_trans one.grows (grows_trans two.grows three.grows) in
     let pages : part_pages qs ≡ placed = ap part_pages parts ∙ is in
     let rest : IsSameBut placed a.arena d.arena = same_but_trans (subst (λ (l : List ℕ). IsSameBut l a.arena b.arena) is but) (same_but_trans (same_but_entries placed same) (subst (λ (l : List ℕ). IsSameBut l c.arena d.arena) pages left)) in
-    let pools = three.pools ∙ two.pools ∙ one.pools in
-    (record {
-      count = grows.count;
-      limit = grows.limit;
-      raises = record { raised = λ q h. absurd (no_member q h); kept = λ q out. unraised q ∙ two.unraised q ∙ one.unraised q };
-      others = λ q out. elim (in_or_out placed q) [
-        | inl i ↦ inr (usable_free d.arena q (back.each q (subst (λ l. Contains l q) (sym pages) (contains_in placed q i))))
-        | inr o ↦ inl (ap (λ (e : Entry). e.kind) (rest.each q (λ h. o (in_contains placed q h))))
-      ];
-      chunks = λ p was now. ap (λ (ps : List Pool). (pool_in ps p).chunks) pools;
-    }, rest, pools)
+    let pools = three.pools ∙ two.pools ∙ one.pools in (
+      record {
+        count = grows.count;
+        limit = grows.limit;
+        raises = record { raised = λ q h. absurd (no_member q h); kept = λ q out. unraised q ∙ two.unraised q ∙ one.unraised q };
+        others = λ q out. elim (in_or_out placed q) [
+          | inl i ↦ inr (usable_free d.arena q (back.each q (subst (λ l. Contains l q) (sym pages) (contains_in placed q i))))
+          | inr o ↦ inl (ap (λ (e : Entry). e.kind) (rest.each q (λ h. o (in_contains placed q h))))
+        ];
+        chunks = λ p was now. ap (λ (ps : List Pool). (pool_in ps p).chunks) pools;
+      },
+      rest,
+      pools,
+    )
 
 begun_at : (s : State) (rs : List Part) (q : ℕ) → In (part_pages rs) q → (r : Part) × (r.first ≤ q) × (q < r.first + r.count) × ((i : ℕ) × (i < length rs) × ((d : Part) → get_or rs i d ≡ r))
 begun_at s [] q h = elim h [ ]
@@ -99,7 +102,7 @@ made_stands {s = s} {t = t} {bufs = bufs} {placed = placed} m live runs q h =
     let alive : IsLive t b = subst (IsLive t) is (live i b (omega (arith, long, x.3.1))) in
     let f : BufId → ℕ = λ c. pages_for (len_of t c) in
     let pages : pages_for (len_of t b) ≡ r.count =
-        ap f (sym is) ∙ sym (get_map f bufs i b 0 (omega (arith, long, x.3.1))) ∙ ap (λ l. get_or l i 0) m.whole ∙ get_map (λ (p : Part). p.count) m.runs i r 0 x.3.1 ∙ ap (λ (p : Part). p.count) (x.3.2 r) in
+    ap f (sym is) ∙ sym (get_map f bufs i b 0 (omega (arith, long, x.3.1))) ∙ ap (λ l. get_or l i 0) m.whole ∙ get_map (λ (p : Part). p.count) m.runs i r 0 x.3.1 ∙ ap (λ (p : Part). p.count) (x.3.2 r) in
     run_stands t r.first (len_of t b) q runs alive.head x.1 (omega (arith, x.2, pages))
 
 -- pages that were reserved, written and published, all of them

@@ -36,8 +36,8 @@ none_begun {s = s} {t = t} {clean = clean} {left = left} (Some p) g zero_of =
     let b = buf_at s.arena p in
     sym (beside_same b g) ∙ lt_none (tally b left) (count_of t b) (zero_of p refl)
   where
-  lt_none : (m n : ℕ) → n ≡ 0 → nat_lt m n ≡ false
-  lt_none m n z = grind (arith, nat_tests, z)
+    lt_none : (m n : ℕ) → n ≡ 0 → nat_lt m n ≡ false
+    lt_none m n z = grind (arith, nat_tests, z)
 
 -- no page is pinned or unpinned
 pub pinned_same : {s t : Stored} {clean left : List BufId} (q : ℕ) → FreesOnly s t → Counts s t clean left → is_pinned t left q ≡ is_pinned s clean q
@@ -57,6 +57,6 @@ pinned_kept {s = s} {t = t} {clean = clean} {left = left} (q ∷ qs) f g =
     ap (λ b. length (cond b (q ∷ filter (is_pinned t left) qs) (filter (is_pinned t left) qs))) (pinned_same q f g)
     ∙ one (is_pinned s clean q) (pinned_kept qs f g)
   where
-  one : (b : Bool) → length (filter (is_pinned t left) qs) ≡ length (filter (is_pinned s clean) qs) → length (cond b (q ∷ filter (is_pinned t left) qs) (filter (is_pinned t left) qs)) ≡ length (cond b (q ∷ filter (is_pinned s clean) qs) (filter (is_pinned s clean) qs))
-  one true e = omega (arith, e)
-  one false e = e
+    one : (b : Bool) → length (filter (is_pinned t left) qs) ≡ length (filter (is_pinned s clean) qs) → length (cond b (q ∷ filter (is_pinned t left) qs) (filter (is_pinned t left) qs)) ≡ length (cond b (q ∷ filter (is_pinned s clean) qs) (filter (is_pinned s clean) qs))
+    one true e = omega (arith, e)
+    one false e = e

@@ -1,7 +1,7 @@
 -- Slices of one pool.
-use Rattle.std.proofs.Common.{suc, ◌≡◌, ℕ, ◌<◌, All, List, [], ◌∷◌, ◌++◌, length, map, take, drop, get_or, refl, sym, ap, ◌∙◌, arith, subst}
-use Rattle.std.proofs.lemmas.List.{take_at, drop_at, length-map}
-use Rattle.std.proofs.lemmas.List.Elements.{All-nil, All-cons, All-take, All-drop, All-same, All-append}
+use Rattle.std.proofs.Common.{suc, ◌≡◌, ℕ, All, List, [], ◌∷◌, length, map, take, drop, refl, sym, ap, ◌∙◌, arith}
+use Rattle.std.proofs.lemmas.List.{take_at, drop_at}
+use Rattle.std.proofs.lemmas.List.Elements.{All-nil, All-cons, All-take, All-drop, All-same}
 use Rattle.std.proofs.lemmas.List.FromFn.{get_or-map-range_with_len}
 use Rattle.iol_core.specs.Text as text
 use Rattle.iol_hold.specs.Stored.{Stored}

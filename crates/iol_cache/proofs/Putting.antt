@@ -1,18 +1,16 @@
 -- Extents put in one after another.
-use Rattle.std.proofs.Common.{inl, inr, ◌≡◌, ◌⊎◌, ℕ, zero, suc, ◌+◌, ◌-◌, ◌<◌, ◌≤◌, ◌==◌, Bool, true, false, cond, eqb, List, [], ◌∷◌, ◌++◌, length, get_or, max, map, Option, Some, None, IsSome, refl, sym, ap, ◌∙◌, arith, subst}
-use Rattle.std.specs.Prelude.{sum_by, nat_lt, nat_le, not, ◌&&◌, flat_map, slice_index, slice_range, take, drop}
+use Rattle.std.proofs.Common.{inl, inr, ◌≡◌, ℕ, ◌+◌, ◌-◌, ◌<◌, ◌≤◌, Bool, true, false, cond, eqb, List, [], ◌∷◌, ◌++◌, length, get_or, max, Option, Some, None, IsSome, refl, sym, ap, ◌∙◌, arith, subst}
+use Rattle.std.specs.Prelude.{sum_by, nat_lt, not, ◌&&◌, slice_index, slice_range, drop}
 use Rattle.std.specs.List.{All, AllZip}
-use Rattle.std.proofs.lemmas.Bool.{cases_lt, cases_eq}
 use Rattle.std.proofs.lemmas.Bool.Decides.{nat_tests}
-use Rattle.std.proofs.lemmas.List.{get_or-map, get_or-take, get_or-drop, get_or_default, length-take-le, length-drop}
+use Rattle.std.proofs.lemmas.List.{get_or-map, get_or-take, get_or-drop, length-take-le, length-drop}
 use Rattle.std.proofs.lemmas.List.Elements.{All-head, All-tail}
 use Rattle.std.proofs.lemmas.List.Sums.{sum_by-cons}
-use Rattle.iol_core.specs.Text as text
-use Rattle.iol_hold.specs.Places.{Place, places, byte_len}
+use Rattle.iol_hold.specs.Places.{places, byte_len}
 use Rattle.iol_hold.specs.Stored.{Stored}
-use Rattle.iol_hold.specs.Texts.{byte_at, text_of}
+use Rattle.iol_hold.specs.Texts.{byte_at}
 use Rattle.iol_hold.specs.declared.slices.Slice.{Slice}
-use Rattle.iol_extent.specs.Extents.{Extent, Cell, no_place, cover, cell_at, is_over, end_of, IsApart, IsGap, Adds, last_end, begins_at, put_in}
+use Rattle.iol_extent.specs.Extents.{Extent, Cell, no_place, cover, cell_at, is_over, end_of, IsGap, Adds, last_end, begins_at, put_in}
 use Rattle.iol_extent.specs.Spans.{AreInOrder, IsGapSpan, LiesIn}
 use Rattle.iol_extent.specs.declared.spans.Span.{Span}
 use Rattle.iol_evict.specs.Ranking.{Ranking, entered}
@@ -23,7 +21,7 @@ use Rattle.iol_cache.specs.Gaps.{all_put, all_parts, IsMade}
 use Rattle.iol_cache.specs.Reading.{parts_from, parts_of_spans, all_entered, AllBeginAt, AreAbsent}
 use Rattle.iol_cache.specs.Sound.{Each}
 use Rattle.iol_cache.proofs.Filing.{sum-put_in, each-put_in}
-use Rattle.iol_cache.proofs.Extending.{eq_of, over_of, over_yes, over_not}
+use Rattle.iol_cache.proofs.Extending.{over_of, over_yes}
 use Rattle.iol_cache.proofs.Entering.{entered_entries}
 use Rattle.iol_cache.proofs.Filled.{gaps_left, order_wide}
 use Rattle.iol_cache.proofs.Undone.{NoneBegins, Begin, none_beside, begins_at-beside, begins_at-put_in}
@@ -37,19 +35,21 @@ pub cover-put_in : (es : List Extent) (e : Extent) (i : ℕ) → (is_over e i �
 cover-put_in [] e i none = refl
 cover-put_in (x ∷ xs) e i none = here (nat_lt e.at x.at) (cover-put_in xs e i (λ o. later (is_over x i) (none o)))
   where
-  later : (b : Bool) → cond b (Some (cell_at x i)) (cover xs i) ≡ None → cover xs i ≡ None
-  later true h = cc
-  later false h = h
-  rest : (b c : Bool) → (c ≡ true → cond b (Some (cell_at x i)) (cover xs i) ≡ None) → cond b (Some (cell_at x i)) (cond c (Some (cell_at e i)) (cover xs i)) ≡ cond c (Some (cell_at e i)) (cond b (Some (cell_at x i)) (cover xs i))
-  rest true true h = absurd (some_none (h refl))
-    where
-    some_none : {c : Cell} → Some c ≡ None → ⊥
-    some_none p = cc
-  rest true false h = refl
-  rest false c h = refl
-  here : (b : Bool) → cover (put_in xs e) i ≡ cond (is_over e i) (Some (cell_at e i)) (cover xs i) → cover (cond b (e ∷ x ∷ xs) (x ∷ put_in xs e)) i ≡ cond (is_over e i) (Some (cell_at e i)) (cover (x ∷ xs) i)
-  here true ih = refl
-  here false ih = ap (cond (is_over x i) (Some (cell_at x i))) ih ∙ rest (is_over x i) (is_over e i) none
+    later : (b : Bool) → cond b (Some (cell_at x i)) (cover xs i) ≡ None → cover xs i ≡ None
+    later true h = cc
+    later false h = h
+
+    rest : (b c : Bool) → (c ≡ true → cond b (Some (cell_at x i)) (cover xs i) ≡ None) → cond b (Some (cell_at x i)) (cond c (Some (cell_at e i)) (cover xs i)) ≡ cond c (Some (cell_at e i)) (cond b (Some (cell_at x i)) (cover xs i))
+    rest true true h = absurd (some_none (h refl))
+      where
+        some_none : {c : Cell} → Some c ≡ None → ⊥
+        some_none p = cc
+    rest true false h = refl
+    rest false c h = refl
+
+    here : (b : Bool) → cover (put_in xs e) i ≡ cond (is_over e i) (Some (cell_at e i)) (cover xs i) → cover (cond b (e ∷ x ∷ xs) (x ∷ put_in xs e)) i ≡ cond (is_over e i) (Some (cell_at e i)) (cover (x ∷ xs) i)
+    here true ih = refl
+    here false ih = ap (cond (is_over x i) (Some (cell_at x i))) ih ∙ rest (is_over x i) (is_over e i) none
 
 gap_over : (es : List Extent) (e : Extent) (i : ℕ) → IsGap es e.at (end_of e) → is_over e i ≡ true → cover es i ≡ None
 gap_over es e i g o = (let b = over_of e i o in g.each i b.0 b.1)
@@ -78,8 +78,8 @@ made_fits s t p low high es (g ∷ gs) (e ∷ made) order all zip =
 some_over : (b : Bool) (c d : Cell) (o : Option Cell) → (b ≡ true → o ≡ None) → o ≡ Some d → cond b (Some c) o ≡ Some d
 some_over true c d o none h = absurd (no_both (none refl) h)
   where
-  no_both : {o : Option Cell} {d : Cell} → o ≡ None → o ≡ Some d → ⊥
-  no_both p q = cc
+    no_both : {o : Option Cell} {d : Cell} → o ≡ None → o ≡ Some d → ⊥
+    no_both p q = cc
 some_over false c d o none h = h
 
 pub cover-stays : (es made : List Extent) (i : ℕ) (c : Cell) → Fits es made → cover es i ≡ Some c → cover (all_put es made) i ≡ Some c
@@ -116,35 +116,36 @@ pub record IsMirrored (s : Stored) (stored : List ℕ) (e : Extent) : Type 0 whe
 pub mirrored_is : (s : Stored) (p : ℕ) (stored : List ℕ) (e : Extent) → gaps.Mirrors s p stored e → IsMirrored s stored e
 mirrored_is s p stored e m = record { within = m.within; each = λ i over. one i over }
   where
-  long : length (slice_range stored e.at (end_of e)) ≡ byte_len e.parts
-  long = omega (arith, length-take-le (end_of e - e.at) (drop e.at stored) (omega (arith, length-drop e.at stored, m.within)))
-  one : (i : ℕ) → is_over e i ≡ true → byte_in s (cell_at e i).place ≡ slice_index stored i
-  one i over =
-      let b = over_of e i over in
-      let k = i - e.at in
-      let small : k < length (places e.parts) = omega (arith, b.0, b.1) in
-      let q : ℕ × ℕ = (0, 0) in
-      let read = get_or-map (byte_at s) (places e.parts) k no_place q small in
-      let part = slice_range stored e.at (end_of e) in
-      let lab = get_or-map (λ (x : ℕ). (x, p)) part k 0 q (omega (arith, long, small)) in
-      let at : k + e.at ≡ i = omega (arith, b.0) in
-      let size : k < end_of e - e.at = omega (arith, b.0, b.1) in
-      let bytes : get_or part k 0 ≡ slice_index stored i = get_or-take (end_of e - e.at) (drop e.at stored) k 0 size ∙ get_or-drop e.at stored k 0 ∙ ap (λ n. get_or stored n 0) (let sum : e.at + k ≡ i = omega (arith, at) in sum) in
-      ap (λ (y : ℕ × ℕ). y.0) (sym read ∙ ap (λ (l : List (ℕ × ℕ)). get_or l k q) m.is ∙ lab) ∙ bytes
+    long : length (slice_range stored e.at (end_of e)) ≡ byte_len e.parts
+    long = omega (arith, length-take-le (end_of e - e.at) (drop e.at stored) (omega (arith, length-drop e.at stored, m.within)))
+
+    one : (i : ℕ) → is_over e i ≡ true → byte_in s (cell_at e i).place ≡ slice_index stored i
+    one i over =
+        let b = over_of e i over in
+        let k = i - e.at in
+        let small : k < length (places e.parts) = omega (arith, b.0, b.1) in
+        let q : ℕ × ℕ = (0, 0) in
+        let read = get_or-map (byte_at s) (places e.parts) k no_place q small in
+        let part = slice_range stored e.at (end_of e) in
+        let lab = get_or-map (λ (x : ℕ). (x, p)) part k 0 q (omega (arith, long, small)) in
+        let at : k + e.at ≡ i = omega (arith, b.0) in
+        let size : k < end_of e - e.at = omega (arith, b.0, b.1) in
+        let bytes : get_or part k 0 ≡ slice_index stored i = get_or-take (end_of e - e.at) (drop e.at stored) k 0 size ∙ get_or-drop e.at stored k 0 ∙ ap (λ n. get_or stored n 0) (let sum : e.at + k ≡ i = omega (arith, at) in sum) in
+        ap (λ (y : ℕ × ℕ). y.0) (sym read ∙ ap (λ (l : List (ℕ × ℕ)). get_or l k q) m.is ∙ lab) ∙ bytes
 
 put_byte : {s : Stored} (stored : List ℕ) (es : List Extent) (e : Extent) (i : ℕ) → IsGap es e.at (end_of e) → IsMirrored s stored e → file_byte (byte_in s) stored (put_in es e) i ≡ file_byte (byte_in s) stored es i
 put_byte {s = s} stored es e i g m = ap (read_or (byte_in s) (slice_index stored i)) (cover-put es e i g) ∙ pick (is_over e i) refl
   where
-  pick : (b : Bool) → is_over e i ≡ b → read_or (byte_in s) (slice_index stored i) (cond b (Some (cell_at e i)) (cover es i)) ≡ read_or (byte_in s) (slice_index stored i) (cover es i)
-  pick true over = m.each i over ∙ sym (ap (read_or (byte_in s) (slice_index stored i)) (gap_over es e i g over))
-  pick false beside = refl
+    pick : (b : Bool) → is_over e i ≡ b → read_or (byte_in s) (slice_index stored i) (cond b (Some (cell_at e i)) (cover es i)) ≡ read_or (byte_in s) (slice_index stored i) (cover es i)
+    pick true over = m.each i over ∙ sym (ap (read_or (byte_in s) (slice_index stored i)) (gap_over es e i g over))
+    pick false beside = refl
 
 put_stored : (s : Stored) (stored : List ℕ) (es : List Extent) (e : Extent) (i : ℕ) → IsGap es e.at (end_of e) → IsMirrored s stored e → IsStored s stored i (cover es i) → IsStored s stored i (cover (put_in es e) i)
 put_stored s stored es e i g m h = subst (IsStored s stored i) (sym (cover-put es e i g)) (pick (is_over e i) refl)
   where
-  pick : (b : Bool) → is_over e i ≡ b → IsStored s stored i (cond b (Some (cell_at e i)) (cover es i))
-  pick true over = λ clean. (omega (arith, m.within, (over_of e i over).1), m.each i over)
-  pick false beside = h
+    pick : (b : Bool) → is_over e i ≡ b → IsStored s stored i (cond b (Some (cell_at e i)) (cover es i))
+    pick true over = λ clean. (omega (arith, m.within, (over_of e i over).1), m.each i over)
+    pick false beside = h
 
 pub last_end-put_in : (es : List Extent) (e : Extent) → last_end (put_in es e) ≡ max (end_of e) (last_end es)
 last_end-put_in [] e = refl
@@ -233,12 +234,19 @@ made_clean s t p [] [] at zip = refl
 made_clean s t p [] (e ∷ made) at zip = absurd zip
 made_clean s t p (g ∷ gs) [] at zip = absurd zip
 made_clean s t p (g ∷ gs) (e ∷ made) at zip =
-    omega (arith, sum_by-cons (begins_clean at) e made, sum_by-cons (one_from at) g gs, made_clean s t p gs made at zip.1,
-      ap (λ d. cond {A = ℕ} (eqb e.at at && not d) 1 0) zip.0.clean, both (eqb e.at at), ap (λ n. cond {A = ℕ} (eqb n at) 1 0) zip.0.begins)
+    omega (
+      arith,
+      sum_by-cons (begins_clean at) e made,
+      sum_by-cons (one_from at) g gs,
+      made_clean s t p gs made at zip.1,
+      ap (λ d. cond {A = ℕ} (eqb e.at at && not d) 1 0) zip.0.clean,
+      both (eqb e.at at),
+      ap (λ n. cond {A = ℕ} (eqb n at) 1 0) zip.0.begins,
+    )
   where
-  both : (b : Bool) → cond {A = ℕ} (b && not false) 1 0 ≡ cond {A = ℕ} b 1 0
-  both true = refl
-  both false = refl
+    both : (b : Bool) → cond {A = ℕ} (b && not false) 1 0 ≡ cond {A = ℕ} b 1 0
+    both true = refl
+    both false = refl
 
 pub all_entries : (r : Ranking) (f : ℕ) (es : List Extent) (gs : List Span) (b : ℕ) → entries_at f b (all_entered r f es gs).entries ≡ spans_at b gs + entries_at f b r.entries
 all_entries r f es [] b = omega arith
@@ -246,27 +254,28 @@ all_entries r f es (g ∷ gs) b =
     let next = entered r f g.from (byte_len (parts_from es g)) 1 in
     omega (arith, all_entries next f es gs b, entered_entries r f g.from (byte_len (parts_from es g)) 1 f b, self f (eqb g.from b), sum_by-cons (one_from b) g gs)
   where
-  self : (n : ℕ) (c : Bool) → cond {A = ℕ} (eqb n n && c) 1 0 ≡ cond {A = ℕ} c 1 0
-  self n c = grind (arith, nat_tests)
+    self : (n : ℕ) (c : Bool) → cond {A = ℕ} (eqb n n && c) 1 0 ≡ cond {A = ℕ} c 1 0
+    self n c = grind (arith, nat_tests)
 
 pub all_entries-other : (r : Ranking) (f g : ℕ) (es : List Extent) (gs : List Span) (b : ℕ) → (f ≡ g → ⊥) → entries_at g b (all_entered r f es gs).entries ≡ entries_at g b r.entries
 all_entries-other r f g es [] b ne = refl
 all_entries-other r f g es (x ∷ gs) b ne =
     all_entries-other (entered r f x.from (byte_len (parts_from es x)) 1) f g es gs b ne ∙ entered_entries r f x.from (byte_len (parts_from es x)) 1 g b ∙ none (eqb x.from b)
   where
-  none : (c : Bool) → cond {A = ℕ} (eqb f g && c) 1 0 + entries_at g b r.entries ≡ entries_at g b r.entries
-  none c = grind (arith, nat_tests, ne)
+    none : (c : Bool) → cond {A = ℕ} (eqb f g && c) 1 0 + entries_at g b r.entries ≡ entries_at g b r.entries
+    none c = grind (arith, nat_tests, ne)
 
 -- nothing of the order is where gaps are
 pub absent_gaps : (r : Ranking) (f : ℕ) (es : List Extent) (low high : ℕ) (gs : List Span) → ((at : ℕ) → entries_at f at r.entries ≡ clean_at at es) → NoneBegins es low gs → AreAbsent r f gs
 absent_gaps r f es low high [] ranked none = tt
 absent_gaps r f es low high (g ∷ gs) ranked none = (ranked g.from ∙ none_clean es g.from none.1, absent_gaps r f es (g.from + 1) high gs ranked none.2)
   where
-  none_clean : (xs : List Extent) (at : ℕ) → begins_at xs at ≡ None → clean_at at xs ≡ 0
-  none_clean [] at h = refl
-  none_clean (x ∷ xs) at h = pick (eqb x.at at) refl h (none_clean xs at) where
-    no_some : {x : Extent} → Some x ≡ None → ⊥
-    no_some p = cc
-    pick : (b : Bool) → eqb x.at at ≡ b → cond b (Some x) (begins_at xs at) ≡ None → (begins_at xs at ≡ None → clean_at at xs ≡ 0) → clean_at at (x ∷ xs) ≡ 0
-    pick true is h ih = absurd (no_some h)
-    pick false is h ih = omega (arith, sum_by-cons (begins_clean at) x xs, ap (λ c. cond {A = ℕ} (c && not x.dirty) 1 0) is, ih h)
+    none_clean : (xs : List Extent) (at : ℕ) → begins_at xs at ≡ None → clean_at at xs ≡ 0
+    none_clean [] at h = refl
+    none_clean (x ∷ xs) at h = pick (eqb x.at at) refl h (none_clean xs at) where
+      no_some : {x : Extent} → Some x ≡ None → ⊥
+      no_some p = cc
+
+      pick : (b : Bool) → eqb x.at at ≡ b → cond b (Some x) (begins_at xs at) ≡ None → (begins_at xs at ≡ None → clean_at at xs ≡ 0) → clean_at at (x ∷ xs) ≡ 0
+      pick true is h ih = absurd (no_some h)
+      pick false is h ih = omega (arith, sum_by-cons (begins_clean at) x xs, ap (λ c. cond {A = ℕ} (c && not x.dirty) 1 0) is, ih h)

@@ -1,27 +1,27 @@
 -- A range whose gaps were read.
-use Rattle.std.proofs.Common.{inl, inr, ◌≡◌, ◌⊎◌, ℕ, zero, suc, ◌+◌, ◌-◌, ◌<◌, ◌≤◌, ◌^◌, ◌++◌, List, [], ◌∷◌, length, IsSome, refl, sym, ap, ◌∙◌, arith, subst, length-append}
-use Rattle.std.specs.Prelude.{sum_by, flat_map, take, drop}
+use Rattle.std.proofs.Common.{inl, inr, ◌≡◌, ℕ, ◌+◌, ◌<◌, ◌≤◌, ◌^◌, ◌++◌, List, [], ◌∷◌, length, IsSome, refl, sym, ap, ◌∙◌, arith, subst, length-append}
+use Rattle.std.specs.Prelude.{take, drop}
 use Rattle.std.specs.List.{All, AllZip}
 use Rattle.iol_core.specs.declared.numbers.BufId.{BufId}
 use Rattle.iol_back.specs.Disk.{Disk}
-use Rattle.iol_hold.specs.Moves.{tally, same, Covers, Moves, Shares}
+use Rattle.iol_hold.specs.Moves.{tally, Covers}
 use Rattle.iol_hold.specs.Places.{byte_len, places}
 use Rattle.iol_hold.specs.Stored.{Stored}
 use Rattle.iol_hold.specs.Texts.{bufs_of, AllReadable}
 use Rattle.iol_hold.specs.declared.slices.Slice.{Slice}
-use Rattle.iol_hold.proofs.Counting.{tally_none, same_few, tally-append, bufs-append}
+use Rattle.iol_hold.proofs.Counting.{tally_none, same_few}
 use Rattle.std.proofs.lemmas.List.{take_at, drop_at}
+use Rattle.std.proofs.lemmas.List.Elements.{All-nil, All-cons}
 use Rattle.iol_hold.proofs.Reading.{readable_none, readable_joined, readable_stays, readable_taken, readable_rest}
 use Rattle.iol_hold.proofs.Slicing.{byte_len-cons, places-append}
-use Rattle.iol_extent.specs.Extents.{Extent, ExtentMap, IsApart, cover, end_of}
-use Rattle.iol_extent.specs.Spans.{AreInOrder, IsGapSpan}
+use Rattle.iol_extent.specs.Extents.{Extent, ExtentMap, cover}
+use Rattle.iol_extent.specs.Spans.{AreInOrder, IsGapSpan, LiesIn}
 use Rattle.iol_extent.specs.declared.spans.Span.{Span}
 use Rattle.iol_cache.specs.Gaps.{all_put, all_parts, IsMade, FillsGaps}
-use Rattle.iol_cache.specs.Reading.{IsComplete}
 use Rattle.iol_cache.specs.Sound.{Each, IsLaid}
-use Rattle.iol_cache.specs.Sharing.{IsCovered, CountsBelow}
+use Rattle.iol_cache.specs.Sharing.{IsCoveredSpan, CountsBelow}
 use Rattle.iol_cache.proofs.Filing.{additive_tally, additive_bufs, sum-flat}
-use Rattle.iol_cache.proofs.Putting.{Fits, made_fits, covered-stays, covered-made, sum-all_put, each-all_put}
+use Rattle.iol_cache.proofs.Putting.{made_fits, covered-made, sum-all_put, each-all_put}
 
 pub tally_len : (b : BufId) (xs : List Slice) → tally b (bufs_of xs) ≤ byte_len xs
 unfolding tally
@@ -35,6 +35,11 @@ made_len s t p low high (g ∷ gs) [] order zip = absurd zip
 made_len s t p low high (g ∷ gs) (e ∷ made) order zip =
     omega (arith, ap length (places-append e.parts (all_parts made)), length-append (places e.parts) (places (all_parts made)), made_len s t p g.to high gs made order.2 zip.1, zip.0.begins, zip.0.ends, order.0, order.1)
 
+-- each of the spans is covered, where each byte in them is
+each_covered : (es : List Extent) (gs : List Span) → ((i : ℕ) → LiesIn i gs → IsSome (cover es i)) → All (IsCoveredSpan es) gs
+each_covered es [] h = All-nil (IsCoveredSpan es)
+each_covered es (g ∷ gs) h = All-cons (IsCoveredSpan es) g gs (record { each = λ i l u. h i (inl (l, u)) }) (each_covered es gs (λ i lies. h i (inr lies)))
+
 -- what was put in is held beside what was there
 pub tally-all_put : (b : BufId) (es made : List Extent) → tally b (bufs_of (all_parts (all_put es made))) ≡ tally b (bufs_of (all_parts es)) + tally b (bufs_of (all_parts made))
 tally-all_put b es made =
@@ -46,24 +51,25 @@ module _ (s t : Stored) (old new : ExtentMap) (p file low high : ℕ) (gs : List
   pub range_held : Covers s (bufs_of (all_parts old.extents)) → Covers t (bufs_of (all_parts new.extents))
   range_held c = record { each = λ b. omega (arith, c.each b, f.moves.counts.each b, tally_none b, tally-all_put b old.extents f.made, ap (λ es. tally b (bufs_of (all_parts es))) f.extents) }
 
-  pub range_few : (high < 2 ^ 32) → AreInOrder low high gs → CountsBelow s (2 ^ 61) → CountsBelow t (2 ^ 62)
+  pub range_few : (high < 2 ^ 32) → AreInOrder low high gs → CountsBelow s (2 ^ 60) → CountsBelow t (2 ^ 61)
   range_few h order few = record { each = λ b. omega (arith, few.each b, f.moves.counts.each b, tally_none b, tally_len b (all_parts f.made), made_len s t p low high gs f.made order f.each.each, h) }
 
-  pub range_covered : (from to : ℕ) → AreInOrder low high gs → All (IsGapSpan old.extents) gs → IsComplete old.extents from to gs → IsCovered new.extents from to
-  range_covered from to order gaps complete =
+  pub range_covered : AreInOrder low high gs → All (IsGapSpan old.extents) gs → All (IsCoveredSpan new.extents) gs
+  range_covered order gaps =
       let fits = made_fits s t p low high old.extents gs f.made order gaps f.each.each in
-      record { each = λ i l u. subst (λ es. IsSome (cover es i)) (sym f.extents) (elim (complete.each i l u) [
-        | inl there ↦ covered-stays old.extents f.made i fits there
-        | inr gap ↦ covered-made s t p old.extents gs f.made i fits f.each.each gap
-      ]) }
+      each_covered new.extents gs (λ i lies. subst (λ es. IsSome (cover es i)) (sym f.extents) (covered-made s t p old.extents gs f.made i fits f.each.each lies))
+
+  pub range_still : (xs : List BufId) → Covers s xs → Covers t xs
+  range_still xs c = record { each = λ b. omega (arith, c.each b, f.moves.counts.each b, tally_none b) }
 
 -- Extents that can be read, and all their slices.
 
 parts_split : {s : Stored} (xs ys : List Slice) → AllReadable s (xs ++ ys) → AllReadable s xs × AllReadable s ys
 parts_split xs ys h =
-    let e = places-append xs ys in
-    (readable_taken xs (xs ++ ys) (length (places xs)) (sym (ap (take (length (places xs))) e ∙ take_at (places xs) (places ys) (length (places xs)) refl)) h,
-     readable_rest ys (xs ++ ys) (length (places xs)) (sym (ap (drop (length (places xs))) e ∙ drop_at (places xs) (places ys) (length (places xs)) refl)) h)
+    let e = places-append xs ys in (
+      readable_taken xs (xs ++ ys) (length (places xs)) (sym (ap (take (length (places xs))) e ∙ take_at (places xs) (places ys) (length (places xs)) refl)) h,
+      readable_rest ys (xs ++ ys) (length (places xs)) (sym (ap (drop (length (places xs))) e ∙ drop_at (places xs) (places ys) (length (places xs)) refl)) h,
+    )
 
 abbrev pub CanBeRead : Stored → Extent → Type 0
 CanBeRead s e = AllReadable s e.parts

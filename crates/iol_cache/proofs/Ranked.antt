@@ -1,18 +1,16 @@
 -- The entries of orders and the clean extents that they are of.
-use Rattle.std.proofs.Common.{inl, inr, ◌≡◌, ◌≢◌, ◌⊎◌, ℕ, zero, suc, ◌+◌, ◌-◌, ◌<◌, ◌≤◌, ◌==◌, Bool, true, false, cond, eqb, List, [], ◌∷◌, ◌++◌, length, get_or, Option, Some, None, refl, sym, ap, ◌∙◌, arith, subst}
-use Rattle.std.specs.Prelude.{nat_lt, ◌&&◌, ◌||◌, not, sum_by, map}
-use Rattle.std.specs.List.{All, Contains}
+use Rattle.std.proofs.Common.{inl, inr, ◌≡◌, ◌≢◌, ℕ, ◌+◌, ◌<◌, ◌≤◌, Bool, true, false, cond, eqb, List, [], ◌∷◌, length, get_or, Option, Some, None, refl, sym, ap, ◌∙◌, arith, subst}
+use Rattle.std.specs.Prelude.{◌&&◌, not, map}
+use Rattle.std.specs.List.{Contains}
 use Rattle.std.proofs.lemmas.Bool.{cases_eq}
 use Rattle.std.proofs.lemmas.Bool.Decides.{nat_tests}
 use Rattle.std.proofs.lemmas.List.Sums.{sum_by-cons, get_or-le-sum_by}
 use Rattle.std.proofs.lemmas.List.{length-map}
-use Rattle.iol_core.specs.Numbered.{is_numbered}
-use Rattle.iol_extent.specs.Extents.{Extent, begins_at, without_at}
+use Rattle.iol_extent.specs.Extents.{Extent, without_at}
 use Rattle.iol_evict.specs.Ranking.{Ranking, is_at, entry_at, without, lowered_by, lowered, evicted_at, left_at, entry_or}
-use Rattle.iol_evict.specs.Victims.{IsVictim}
 use Rattle.iol_evict.specs.declared.entry.Entry.{Entry}
 use Rattle.iol_cache.specs.declared.files.CachedFile.{CachedFile}
-use Rattle.iol_cache.specs.Cached.{file_in, with_file, order_in, with_order, extents_in, begins_clean, clean_at, entry_one, entries_at, clean_of, AreRanked, lacking, without_extent, with_evicted}
+use Rattle.iol_cache.specs.Cached.{file_in, with_file, order_in, extents_in, begins_clean, clean_at, entry_one, entries_at, clean_of, AreRanked, lacking, without_extent, with_evicted}
 use Rattle.iol_cache.specs.Evicting.{IsCleanAt}
 use Rattle.iol_cache.specs.Sound.{IsFiled}
 use Rattle.iol_hold.specs.Stored.{Stored}
@@ -84,8 +82,8 @@ clean_ranked fs os f at ranked filed c =
     let same : clean_of fs p f at ≡ clean_at at es = ap (λ b. cond {A = ℕ} b (clean_at at es) 0) (self p) in
     omega (arith, one, some, same, ranked.each p f at)
   where
-  self : (n : ℕ) → eqb n n ≡ true
-  self n = grind (arith, nat_tests)
+    self : (n : ℕ) → eqb n n ≡ true
+    self n = grind (arith, nat_tests)
 
 -- An entry is evicted.
 
@@ -143,34 +141,36 @@ ranked_evicted fs os f at numbered ordered ranked filed c =
     let some = entry_found r.entries f at (clean_ranked fs os f at ranked filed c) in
     let lies = found_at r.entries f at some.0 some.1 in
     let begins = (begins_above 0 es at c.extent filed.apart c.begins).1 in
-    record { each = λ q g b. elim (cases_eq q p) [
-      | inl same ↦ (
-        let now = ap (λ (y : Ranking). entries_at g b y.entries) (ap (order_in (with_evicted os p f at)) same ∙ order_same os p (evicted_at r f at) ordered.0 ordered.1) in
-        let gone = evicted_entries r f at g b some.0 some.1 in
-        elim (cases_eq g f) [
-          | inl here ↦ (
-            let was = ranked.each p f b ∙ if_pool p p (clean_at b es) refl in
-            let less = sum-without_at (begins_clean b) es at c.extent c.begins in
-            let one = same_one f at b c.extent some.0 begins c.clean lies.0 lies.1 in
-            let is = of_same fs f x p b numbered ∙ if_pool p p (clean_at b (without_at es at)) refl in
-            let moved = ap (λ n. entries_at n b r.entries) here in
-            let other = ap (λ n. entry_one n b some.0) here in
-            let files = ap (λ n. clean_of (without_extent fs f at) n g b) same ∙ ap (λ n. clean_of (without_extent fs f at) p n b) here in
-            omega (arith, now, gone, was, less, one, is, moved, other, files))
-          | inr ne ↦ (
-            let none = other_one f g b some.0 lies.0 ne in
-            let files = ap (λ n. clean_of (without_extent fs f at) n g b) same ∙ of_other fs f g x p b ne in
-            omega (arith, now, gone, none, files, ranked.each p g b))
-        ])
-      | inr apart ↦ (
-        let now = ap (λ (y : Ranking). entries_at g b y.entries) (order_other os p q (evicted_at r f at) apart) in
-        elim (cases_eq g f) [
-          | inl here ↦ (
-            let was = ranked.each q f b ∙ not_pool p q (clean_at b es) (λ e. apart (sym e)) in
-            let is = of_same fs f x q b numbered ∙ not_pool p q (clean_at b (without_at es at)) (λ e. apart (sym e)) in
-            let moved = ap (λ n. entries_at n b (order_in os q).entries) here in
-            let files = ap (λ n. clean_of (without_extent fs f at) q n b) here in
-            omega (arith, now, was, is, moved, files))
-          | inr ne ↦ omega (arith, now, of_other fs f g x q b ne, ranked.each q g b)
-        ])
-    ] }
+    record {
+      each = λ q g b. elim (cases_eq q p) [
+        | inl same ↦ (
+            let now = ap (λ (y : Ranking). entries_at g b y.entries) (ap (order_in (with_evicted os p f at)) same ∙ order_same os p (evicted_at r f at) ordered.0 ordered.1) in
+            let gone = evicted_entries r f at g b some.0 some.1 in
+            elim (cases_eq g f) [
+              | inl here ↦ (
+                  let was = ranked.each p f b ∙ if_pool p p (clean_at b es) refl in
+                  let less = sum-without_at (begins_clean b) es at c.extent c.begins in
+                  let one = same_one f at b c.extent some.0 begins c.clean lies.0 lies.1 in
+                  let is = of_same fs f x p b numbered ∙ if_pool p p (clean_at b (without_at es at)) refl in
+                  let moved = ap (λ n. entries_at n b r.entries) here in
+                  let other = ap (λ n. entry_one n b some.0) here in
+                  let files = ap (λ n. clean_of (without_extent fs f at) n g b) same ∙ ap (λ n. clean_of (without_extent fs f at) p n b) here in
+                  omega (arith, now, gone, was, less, one, is, moved, other, files))
+              | inr ne ↦ (
+                  let none = other_one f g b some.0 lies.0 ne in
+                  let files = ap (λ n. clean_of (without_extent fs f at) n g b) same ∙ of_other fs f g x p b ne in
+                  omega (arith, now, gone, none, files, ranked.each p g b))
+            ])
+        | inr apart ↦ (
+            let now = ap (λ (y : Ranking). entries_at g b y.entries) (order_other os p q (evicted_at r f at) apart) in
+            elim (cases_eq g f) [
+              | inl here ↦ (
+                  let was = ranked.each q f b ∙ not_pool p q (clean_at b es) (λ e. apart (sym e)) in
+                  let is = of_same fs f x q b numbered ∙ not_pool p q (clean_at b (without_at es at)) (λ e. apart (sym e)) in
+                  let moved = ap (λ n. entries_at n b (order_in os q).entries) here in
+                  let files = ap (λ n. clean_of (without_extent fs f at) q n b) here in
+                  omega (arith, now, was, is, moved, files))
+              | inr ne ↦ omega (arith, now, of_other fs f g x q b ne, ranked.each q g b)
+            ])
+      ];
+    }

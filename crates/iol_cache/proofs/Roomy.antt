@@ -1,6 +1,6 @@
 -- Room that is made, hits that are counted: what a cache stands for stays.
-use Rattle.std.proofs.Common.{inl, inr, ◌≡◌, ◌⊎◌, ℕ, zero, suc, ◌+◌, ◌-◌, ◌<◌, ◌≤◌, ◌^◌, Bool, true, false, cond, eqb, List, [], ◌∷◌, ◌++◌, length, get_or, set, Option, Some, None, refl, sym, ap, ◌∙◌, arith, subst}
-use Rattle.std.specs.Prelude.{flat_map, sum_by}
+use Rattle.std.proofs.Common.{inl, inr, ◌≡◌, ℕ, zero, suc, ◌+◌, ◌-◌, ◌<◌, ◌≤◌, Bool, true, false, cond, eqb, List, [], ◌∷◌, ◌++◌, length, get_or, set, Option, Some, None, refl, sym, ap, ◌∙◌, arith, subst}
+use Rattle.std.specs.Prelude.{flat_map}
 use Rattle.std.proofs.lemmas.Bool.{cases_eq}
 use Rattle.std.proofs.lemmas.Bool.Decides.{nat_tests}
 use Rattle.std.proofs.lemmas.List.Concat.{flat_map-cons}
@@ -11,17 +11,17 @@ use Rattle.iol_pool.specs.Pools.{pool_in}
 use Rattle.iol_hold.specs.Moves.{Covers}
 use Rattle.iol_hold.specs.Stored.{Stored}
 use Rattle.iol_hold.specs.Texts.{bufs_of}
-use Rattle.iol_extent.specs.Extents.{Extent, ExtentMap, IsApart, last_end, extent_over}
+use Rattle.iol_extent.specs.Extents.{Extent, IsApart, last_end, extent_over}
 use Rattle.iol_extent.specs.Spans.{AreInOrder}
 use Rattle.iol_extent.specs.declared.spans.Span.{Span}
 use Rattle.iol_evict.specs.Ranking.{Ranking, hit_at}
 use Rattle.iol_cache.specs.declared.files.CachedFile.{CachedFile}
-use Rattle.iol_cache.specs.Cached.{Cached, file_in, with_file, no_file, order_in, with_order, extents_in, slices_in, clean_in, held, clean_held, clean_of, clean_at, entries_at, AreRanked}
+use Rattle.iol_cache.specs.Cached.{Cached, file_in, with_file, no_file, order_in, with_order, extents_in, slices_in, clean_in, held, clean_held, clean_of, clean_at, entries_at}
 use Rattle.iol_cache.specs.Gaps.{gap_pages}
 use Rattle.iol_cache.specs.Going.{CountsHits}
 use Rattle.iol_cache.specs.Marks.{Counted}
 use Rattle.iol_cache.specs.Reading.{SameButRoom, RanksFile, hit_counted, hits_counted}
-use Rattle.iol_cache.specs.Sound.{Each, IsLaid, IsFiled, IsOpened, IsSound}
+use Rattle.iol_cache.specs.Sound.{Each, IsLaid, IsFiled, IsSound}
 use Rattle.iol_cache.proofs.Filing.{file_same, file_other, order_same, order_other, length-with_file, length-with_order, numbered_bounds, numbered_yes}
 use Rattle.iol_cache.proofs.Entering.{hit_entries}
 
@@ -43,9 +43,9 @@ unfolding file_in with_file
 flat-with g fs f x e = elim (cases_eq f 0) [
   | inl k ↦ grind (arith, nat_tests, k)
   | inr k ↦ (
-    let is : numbered_or fs f no_file ≡ get_or fs (f - 1) no_file = grind (arith, nat_tests, k) in
-    let there : with_numbered fs f x ≡ set fs (f - 1) x = grind (arith, nat_tests, k) in
-    ap (flat_map g) there ∙ flat-set g fs (f - 1) x no_file (e ∙ ap g is))
+      let is : numbered_or fs f no_file ≡ get_or fs (f - 1) no_file = grind (arith, nat_tests, k) in
+      let there : with_numbered fs f x ≡ set fs (f - 1) x = grind (arith, nat_tests, k) in
+      ap (flat_map g) there ∙ flat-set g fs (f - 1) x no_file (e ∙ ap g is))
 ]
 
 pub held-same : (fs : List CachedFile) (f : ℕ) (x : CachedFile) → x.extents.extents ≡ extents_in fs f → held (with_file fs f x) ≡ held fs
@@ -101,10 +101,10 @@ pub sound_same : (s : Stored) (c d : Cached) → IsSound s c → SameButRoom c d
 sound_same s c d sound same = record {
   files = λ f. filed_same s (file_in c.files f) (file_in d.files f) (same.pools f) (same.extents f) (sound.files f);
   opened = λ f is. (
-    let b = numbered_bounds d.files f is in
-    let o = sound.opened f (numbered_yes c.files f b.0 (omega (arith, b.1, same.files))) in
-    let ob = numbered_bounds c.orders (file_in c.files f).pool o.ordered in
-    record { is_open = ap (λ p. (pool_in s.pools p).closed) (same.pools f) ∙ o.is_open; ordered = ap (is_numbered d.orders) (same.pools f) ∙ numbered_yes d.orders (file_in c.files f).pool ob.0 (omega (arith, ob.1, same.orders)) });
+      let b = numbered_bounds d.files f is in
+      let o = sound.opened f (numbered_yes c.files f b.0 (omega (arith, b.1, same.files))) in
+      let ob = numbered_bounds c.orders (file_in c.files f).pool o.ordered in
+      record { is_open = ap (λ p. (pool_in s.pools p).closed) (same.pools f) ∙ o.is_open; ordered = ap (is_numbered d.orders) (same.pools f) ∙ numbered_yes d.orders (file_in c.files f).pool ob.0 (omega (arith, ob.1, same.orders)) });
   covered = subst (Covers s) (sym same.held) sound.covered;
   marked = subst (λ bs. Counted d.marks bs) (sym same.clean) (subst (λ ms. Counted ms (clean_held c.files)) (sym same.marks) sound.marked);
   pages = ap length same.marks ∙ sound.pages;
@@ -120,18 +120,19 @@ pub hits_entries : (r : Ranking) (f : ℕ) (es : List Extent) (ss : List Span) (
 hits_entries r f es [] g b = refl
 hits_entries r f es (s ∷ ss) g b = hits_entries (hit_counted r f (extent_over es s.from)) f es ss g b ∙ one (extent_over es s.from)
   where
-  dirty : (d : Bool) (at : ℕ) → entries_at g b (cond d r (hit_at r f at)).entries ≡ entries_at g b r.entries
-  dirty true at = refl
-  dirty false at = hit_entries r f at g b
-  one : (o : Option Extent) → entries_at g b (hit_counted r f o).entries ≡ entries_at g b r.entries
-  one None = refl
-  one (Some e) = dirty e.dirty e.at
+    dirty : (d : Bool) (at : ℕ) → entries_at g b (cond d r (hit_at r f at)).entries ≡ entries_at g b r.entries
+    dirty true at = refl
+    dirty false at = hit_entries r f at g b
+
+    one : (o : Option Extent) → entries_at g b (hit_counted r f o).entries ≡ entries_at g b r.entries
+    one None = refl
+    one (Some e) = dirty e.dirty e.at
 
 pub ranks_file : (s : Stored) (c : Cached) (f : ℕ) → IsSound s c → RanksFile (order_in c.orders (file_in c.files f).pool) f (extents_in c.files f)
 ranks_file s c f sound = record { each = λ at. sound.ranked.each (file_in c.files f).pool f at ∙ self (file_in c.files f).pool (clean_at at (extents_in c.files f)) }
   where
-  self : (n k : ℕ) → cond {A = ℕ} (eqb n n) k 0 ≡ k
-  self n k = grind (arith, nat_tests)
+    self : (n k : ℕ) → cond {A = ℕ} (eqb n n) k 0 ≡ k
+    self n k = grind (arith, nat_tests)
 
 pub sound_hits : (s : Stored) (c d : Cached) (f : ℕ) (ss : List Span) → IsSound s c → is_numbered c.files f ≡ true → CountsHits f ss c d → IsSound s d
 sound_hits s c d f ss sound numbered hits =
@@ -142,17 +143,19 @@ sound_hits s c d f ss sound numbered hits =
     record {
       files = λ g. subst (λ fs. IsFiled s (file_in fs g)) (sym hits.files) (sound.files g);
       opened = λ g is. (
-        let o = sound.opened g (ap (λ fs. is_numbered fs g) (sym hits.files) ∙ is) in
-        let pool = ap (λ fs. (file_in fs g).pool) hits.files in
-        let b = numbered_bounds c.orders (file_in c.files g).pool o.ordered in
-        record { is_open = ap (λ k. (pool_in s.pools k).closed) pool ∙ o.is_open; ordered = ap (is_numbered d.orders) pool ∙ numbered_yes d.orders (file_in c.files g).pool b.0 (omega (arith, b.1, long)) });
+          let o = sound.opened g (ap (λ fs. is_numbered fs g) (sym hits.files) ∙ is) in
+          let pool = ap (λ fs. (file_in fs g).pool) hits.files in
+          let b = numbered_bounds c.orders (file_in c.files g).pool o.ordered in
+          record { is_open = ap (λ k. (pool_in s.pools k).closed) pool ∙ o.is_open; ordered = ap (is_numbered d.orders) pool ∙ numbered_yes d.orders (file_in c.files g).pool b.0 (omega (arith, b.1, long)) });
       covered = subst (λ fs. Covers s (held fs)) (sym hits.files) sound.covered;
       marked = subst (λ fs. Counted d.marks (clean_held fs)) (sym hits.files) (subst (λ ms. Counted ms (clean_held c.files)) (sym hits.marks) sound.marked);
       pages = ap length hits.marks ∙ sound.pages;
-      ranked = record { each = λ q g b. ap (λ os. entries_at g b (order_in os q).entries) hits.orders ∙ elim (cases_eq q p) [
-        | inl same ↦ ap (λ n. entries_at g b (order_in (with_order c.orders p r) n).entries) same ∙ ap (λ (x : Ranking). entries_at g b x.entries) (order_same c.orders p r ob.0 ob.1) ∙ hits_entries (order_in c.orders p) f (extents_in c.files f) ss g b ∙ ap (λ n. entries_at g b (order_in c.orders n).entries) (sym same)
-        | inr ne ↦ ap (λ (x : Ranking). entries_at g b x.entries) (order_other c.orders p q r ne)
-      ] ∙ sound.ranked.each q g b ∙ ap (λ fs. clean_of fs q g b) (sym hits.files) };
+      ranked = record {
+        each = λ q g b. ap (λ os. entries_at g b (order_in os q).entries) hits.orders ∙ elim (cases_eq q p) [
+          | inl same ↦ ap (λ n. entries_at g b (order_in (with_order c.orders p r) n).entries) same ∙ ap (λ (x : Ranking). entries_at g b x.entries) (order_same c.orders p r ob.0 ob.1) ∙ hits_entries (order_in c.orders p) f (extents_in c.files f) ss g b ∙ ap (λ n. entries_at g b (order_in c.orders n).entries) (sym same)
+          | inr ne ↦ ap (λ (x : Ranking). entries_at g b x.entries) (order_other c.orders p q r ne)
+        ] ∙ sound.ranked.each q g b ∙ ap (λ fs. clean_of fs q g b) (sym hits.files);
+      };
       few_orders = omega (arith, long, sound.few_orders);
       tidy = sound.tidy;
       still = sound.still;

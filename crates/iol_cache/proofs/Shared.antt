@@ -1,5 +1,5 @@
 -- Bytes of a file, shared from the extents over them.
-use Rattle.std.proofs.Common.{◌≡◌, ℕ, zero, suc, ◌+◌, ◌-◌, ◌/◌, ◌<◌, ◌≤◌, ◌^◌, inl, inr, Bool, true, false, cond, All, List, [], ◌∷◌, ◌++◌, length, map, take, drop, get_or, Option, Some, None, IsSome, slice_range, min, refl, sym, ap, ◌∙◌, arith, subst, add-one}
+use Rattle.std.proofs.Common.{◌≡◌, ℕ, zero, suc, ◌+◌, ◌-◌, ◌/◌, ◌<◌, ◌≤◌, inr, Bool, true, false, cond, All, List, [], ◌∷◌, ◌++◌, length, map, take, drop, get_or, Option, Some, None, IsSome, slice_range, refl, sym, ap, ◌∙◌, arith, subst}
 use Rattle.std.specs.List.{Contains, range_with_len}
 use Rattle.std.proofs.lemmas.List.Elements.{All-nil, All-append, All-drop, All-same, All-take}
 use Rattle.std.proofs.lemmas.List.FromFn.{get_or-map-range_with_len, length-map-range_with_len}
@@ -8,21 +8,20 @@ use Rattle.std.proofs.lemmas.List.{append-nil, length-append, take_at, drop_at, 
 use Rattle.std.proofs.lemmas.Grind.{flat_map-append}
 use Rattle.std.proofs.Math.Seq.{drop-cons}
 use Rattle.iol_core.specs.declared.numbers.BufId.{BufId}
-use Rattle.iol_agg.proofs.Holding.{tally-few}
 use Rattle.iol_extent.specs.Extents.{Cell, Extent, IsApart, cell_at, cover, end_of, extent_over, is_over, no_place}
 use Rattle.iol_extent.specs.Spans.{AreInOrder}
 use Rattle.iol_extent.specs.declared.spans.Span.{Span}
 use Rattle.iol_extent.proofs.Cover.{cover_no, cover_yes}
-use Rattle.iol_hold.specs.Moves.{Counts, Covers, IsCountable, Moves, Shares, tally}
-use Rattle.iol_hold.specs.Places.{Place, byte_len, places}
+use Rattle.iol_hold.specs.Moves.{Covers, Moves, Shares, tally}
+use Rattle.iol_hold.specs.Places.{Place, places}
 use Rattle.iol_hold.specs.Releases.{FreesOnly}
-use Rattle.iol_hold.specs.Stored.{Stored, AllSettled, count_of}
+use Rattle.iol_hold.specs.Stored.{Stored, AllSettled}
 use Rattle.iol_hold.specs.Texts.{AllReadable, IsThere, bufs_of}
 use Rattle.iol_hold.specs.declared.slices.Slice.{Slice}
 use Rattle.iol_hold.proofs.Counting.{bufs-append, tally-append, tally_none}
 use Rattle.iol_hold.proofs.Emptied.{all_settled_same}
 use Rattle.iol_hold.proofs.Moving.{stays_trans, shares_move}
-use Rattle.iol_hold.proofs.Reading.{readable_taken, readable_rest, readable_stays}
+use Rattle.iol_hold.proofs.Reading.{readable_taken, readable_rest}
 use Rattle.iol_hold.proofs.Releasing.{frees_none, frees_trans}
 use Rattle.iol_hold.proofs.Slicing.{places-append, range_with_len_split}
 use Rattle.iol_arena.specs.Buffers.{IsLive, bytes_of}
@@ -49,7 +48,7 @@ over_at (x ∷ xs) i e h = here (is_over x i) (over_from x i) h (over_at xs i e)
   here true f h ih = let same : x ≡ e = cc in subst (λ (y : Extent). (y.at ≤ i) × (i < end_of y)) same (f refl)
   here false f h ih = ih h
 
-over_low : (low : ℕ) (es : List Extent) (i : ℕ) (e : Extent) → IsApart low es → extent_over es i ≡ Some e → low ≤ e.at
+pub over_low : (low : ℕ) (es : List Extent) (i : ℕ) (e : Extent) → IsApart low es → extent_over es i ≡ Some e → low ≤ e.at
 over_low low [] i e a h = cc
 over_low low (x ∷ xs) i e a h = here (is_over x i) h (over_low (end_of x) xs i e a.2) where
   here : (b : Bool) → cond b (Some x) (extent_over xs i) ≡ Some e → (extent_over xs i ≡ Some e → end_of x ≤ e.at) → low ≤ e.at
@@ -70,16 +69,18 @@ over_tally [] i e h b = cc
 over_tally (x ∷ xs) i e h b = here (is_over x i) h (λ t. over_tally xs i e t b) where
   both : tally b (bufs_of (all_parts (x ∷ xs))) ≡ tally b (bufs_of x.parts) + tally b (bufs_of (all_parts xs))
   both = ap (tally b) (bufs-append x.parts (all_parts xs)) ∙ tally-append b (bufs_of x.parts) (bufs_of (all_parts xs))
+
   here : (c : Bool) → cond c (Some x) (extent_over xs i) ≡ Some e → (extent_over xs i ≡ Some e → tally b (bufs_of e.parts) ≤ tally b (bufs_of (all_parts xs))) → tally b (bufs_of e.parts) ≤ tally b (bufs_of (all_parts (x ∷ xs)))
   here true h ih = let same : x ≡ e = cc in omega (arith, both, ap (λ (y : Extent). tally b (bufs_of y.parts)) same)
   here false h ih = omega (arith, both, ih h)
 
-readable_parts : {s : Stored} (xs ys : List Slice) → AllReadable s (xs ++ ys) → AllReadable s xs × AllReadable s ys
+pub readable_parts : {s : Stored} (xs ys : List Slice) → AllReadable s (xs ++ ys) → AllReadable s xs × AllReadable s ys
 readable_parts xs ys h =
     let e = places-append xs ys in
-    let n = length (places xs) in
-    (readable_taken xs (xs ++ ys) n (sym (ap (take n) e ∙ take_at (places xs) (places ys) n refl)) h,
-      readable_rest ys (xs ++ ys) n (sym (ap (drop n) e ∙ drop_at (places xs) (places ys) n refl)) h)
+    let n = length (places xs) in (
+      readable_taken xs (xs ++ ys) n (sym (ap (take n) e ∙ take_at (places xs) (places ys) n refl)) h,
+      readable_rest ys (xs ++ ys) n (sym (ap (drop n) e ∙ drop_at (places xs) (places ys) n refl)) h,
+    )
 
 pub over_readable : {s : Stored} (es : List Extent) (i : ℕ) (e : Extent) → extent_over es i ≡ Some e → AllReadable s (all_parts es) → AllReadable s e.parts
 over_readable {s} [] i e h all = cc
@@ -107,21 +108,21 @@ run_over es at n e apart over fits =
     ∙ run_of (places e.parts) no_place f e.at at n has.0 (omega (arith, fits, has.0)) (λ i lo hi. ap place_of (over_all 0 es at e apart over i (omega (arith, lo, has.0)) (omega (arith, hi, fits))))
     ∙ ap (λ k. take k (drop (at - e.at) (places e.parts))) (sym b)
   where
-  place_of : Option Cell → Place
-  place_of None = no_place
-  place_of (Some c) = c.place
+    place_of : Option Cell → Place
+    place_of None = no_place
+    place_of (Some c) = c.place
 
 -- Stores whose pages are the same.
 
 pub readable_same : (s t : Stored) (xs : List Slice) → t.arena ≡ s.arena → t.pools ≡ s.pools → AllReadable s xs → AllReadable t xs
 readable_same s t xs arena pools h = record {
   each = λ k d within. (let there = h.each k d within in
-  let p = get_or (places xs) k d in
-  record {
-    live = subst (λ (a : State). IsLive a p.buf) (sym arena) there.live;
-    home = subst (λ (ps : List Pool). Contains (pool_in ps p.pool).chunks (p.buf.page / 16)) (sym pools) there.home;
-    within = subst (λ (a : State). p.at < length (bytes_of a p.buf)) (sym arena) there.within;
-  });
+      let p = get_or (places xs) k d in
+      record {
+        live = subst (λ (a : State). IsLive a p.buf) (sym arena) there.live;
+        home = subst (λ (ps : List Pool). Contains (pool_in ps p.pool).chunks (p.buf.page / 16)) (sym pools) there.home;
+        within = subst (λ (a : State). p.at < length (bytes_of a p.buf)) (sym arena) there.within;
+      });
 }
 
 pub frees_shares : {s t : Stored} {xs ys : List BufId} → Shares s t xs ys → FreesOnly s t
@@ -169,9 +170,9 @@ cover_there {s} [] i h all = cc
 cover_there {s} (x ∷ xs) i h all =
     let both = readable_parts {s = s} x.parts (all_parts xs) all in
     here (is_over x i) (over_from x i) h (λ lo hi. cell_there {s = s} x i lo hi both.0) (λ k. cover_there {s = s} xs i k both.1) where
-  here : (b : Bool) → (b ≡ true → (x.at ≤ i) × (i < end_of x)) → IsSome (cond b (Some (cell_at x i)) (cover xs i)) → (x.at ≤ i → i < end_of x → IsThere s (cell_at x i).place) → (IsSome (cover xs i) → IsThere s (place_over xs i)) → IsThere s (place_in (cond b (Some (cell_at x i)) (cover xs i)))
-  here true f h first ih = first (f refl).0 (f refl).1
-  here false f h first ih = ih h
+      here : (b : Bool) → (b ≡ true → (x.at ≤ i) × (i < end_of x)) → IsSome (cond b (Some (cell_at x i)) (cover xs i)) → (x.at ≤ i → i < end_of x → IsThere s (cell_at x i).place) → (IsSome (cover xs i) → IsThere s (place_over xs i)) → IsThere s (place_in (cond b (Some (cell_at x i)) (cover xs i)))
+      here true f h first ih = first (f refl).0 (f refl).1
+      here false f h first ih = ih h
 
 pub over_there : {s : Stored} (es : List Extent) (from to : ℕ) → IsCovered es from to → AllReadable s (all_parts es) → All (IsThere s) (places_over es from to)
 over_there {s} es from to covered all = λ k d h.

@@ -1,26 +1,24 @@
 -- Extents put in and taken away again.
-use Rattle.std.proofs.Common.{inl, inr, ◌≡◌, ℕ, zero, suc, ◌+◌, ◌-◌, ◌<◌, ◌≤◌, ◌==◌, nat_lt, Bool, true, false, cond, All, List, [], ◌∷◌, ◌++◌, length, take, drop, get_or, Option, Some, None, IsSome, refl, sym, ap, ◌∙◌, arith, subst}
+use Rattle.std.proofs.Common.{◌≡◌, ℕ, zero, suc, ◌+◌, ◌-◌, ◌<◌, ◌≤◌, ◌==◌, nat_lt, Bool, true, false, cond, All, List, [], ◌∷◌, ◌++◌, length, take, drop, get_or, Option, Some, None, IsSome, refl, sym, ap, ◌∙◌, arith, subst}
 use Rattle.std.specs.List.{AllZip}
-use Rattle.std.proofs.lemmas.Bool.{cases_lt, cases_eq}
 use Rattle.std.proofs.lemmas.Bool.Decides.{nat_tests}
 use Rattle.std.proofs.lemmas.List.{take_at, drop_at}
 use Rattle.std.proofs.Math.Seq.{drop-cons}
-use Rattle.std.proofs.lemmas.List.Elements.{All-cons}
 use Rattle.iol_core.specs.declared.numbers.BufId.{BufId}
 use Rattle.iol_extent.specs.Extents.{Adds, Cell, Extent, IsApart, IsGap, begins_at, cell_at, cover, end_of, is_over, put_in, without_at}
 use Rattle.iol_extent.specs.Spans.{AreInOrder, IsGapSpan}
 use Rattle.iol_extent.specs.declared.spans.Span.{Span}
 use Rattle.iol_extent.proofs.Cover.{cover_yes, some_begins}
 use Rattle.iol_extent.proofs.Words.{without_at-put_in}
-use Rattle.iol_hold.specs.Moves.{Covers, Moves, tally}
+use Rattle.iol_hold.specs.Moves.{tally}
 use Rattle.iol_hold.specs.Stored.{Stored}
 use Rattle.iol_hold.specs.Texts.{AllReadable, bufs_of}
 use Rattle.iol_hold.specs.declared.slices.Slice.{Slice}
-use Rattle.iol_hold.proofs.Counting.{bufs-append, tally-append, tally_none}
+use Rattle.iol_hold.proofs.Counting.{bufs-append, tally-append}
 use Rattle.iol_hold.proofs.Reading.{readable_none, readable_joined, readable_taken, readable_rest}
 use Rattle.iol_hold.proofs.Slicing.{places-append}
 use Rattle.iol_hold.specs.Places.{places}
-use Rattle.iol_cache.specs.Gaps.{AllBegin, IsMade, all_parts, all_put, parts_back, parts_in, without_spans}
+use Rattle.iol_cache.specs.Gaps.{AllBegin, all_parts, all_put, parts_back, parts_in, without_spans}
 
 same_at : (n : ℕ) → (n == n) ≡ true
 same_at n = grind (arith, nat_tests)
@@ -36,19 +34,19 @@ pub begins_at-put_in : (es : List Extent) (e : Extent) → begins_at es e.at ≡
 begins_at-put_in [] e none = ap (λ t. cond t (Some e) None) (same_at e.at)
 begins_at-put_in (x ∷ xs) e none = here (nat_lt e.at x.at) (x.at == e.at) refl none (λ n. begins_at-put_in xs e n)
   where
-  here : (b c : Bool) → (x.at == e.at) ≡ c → cond c (Some x) (begins_at xs e.at) ≡ None → (begins_at xs e.at ≡ None → begins_at (put_in xs e) e.at ≡ Some e) → begins_at (cond b (e ∷ x ∷ xs) (x ∷ put_in xs e)) e.at ≡ Some e
-  here b true is none ih = cc
-  here true false is none ih = ap (λ t. cond t (Some e) (begins_at (x ∷ xs) e.at)) (same_at e.at)
-  here false false is none ih = ap (λ t. cond t (Some x) (begins_at (put_in xs e) e.at)) is ∙ ih none
+    here : (b c : Bool) → (x.at == e.at) ≡ c → cond c (Some x) (begins_at xs e.at) ≡ None → (begins_at xs e.at ≡ None → begins_at (put_in xs e) e.at ≡ Some e) → begins_at (cond b (e ∷ x ∷ xs) (x ∷ put_in xs e)) e.at ≡ Some e
+    here b true is none ih = cc
+    here true false is none ih = ap (λ t. cond t (Some e) (begins_at (x ∷ xs) e.at)) (same_at e.at)
+    here false false is none ih = ap (λ t. cond t (Some x) (begins_at (put_in xs e) e.at)) is ∙ ih none
 
 -- and nothing else begins since
 pub begins_at-beside : (es : List Extent) (e : Extent) (at : ℕ) → (e.at ≡ at → ⊥) → begins_at (put_in es e) at ≡ begins_at es at
 begins_at-beside [] e at ne = ap (λ t. cond t (Some e) None) (ne_at e.at at ne)
 begins_at-beside (x ∷ xs) e at ne = here (nat_lt e.at x.at) (begins_at-beside xs e at ne)
   where
-  here : (b : Bool) → begins_at (put_in xs e) at ≡ begins_at xs at → begins_at (cond b (e ∷ x ∷ xs) (x ∷ put_in xs e)) at ≡ begins_at (x ∷ xs) at
-  here true ih = ap (λ t. cond t (Some e) (begins_at (x ∷ xs) at)) (ne_at e.at at ne)
-  here false ih = ap (λ o. cond (x.at == at) (Some x) o) ih
+    here : (b : Bool) → begins_at (put_in xs e) at ≡ begins_at xs at → begins_at (cond b (e ∷ x ∷ xs) (x ∷ put_in xs e)) at ≡ begins_at (x ∷ xs) at
+    here true ih = ap (λ t. cond t (Some e) (begins_at (x ∷ xs) at)) (ne_at e.at at ne)
+    here false ih = ap (λ o. cond (x.at == at) (Some x) o) ih
 
 some_none : {o : Option Cell} {c : Cell} → o ≡ Some c → o ≡ None → ⊥
 some_none p q = cc
@@ -56,25 +54,25 @@ some_none p q = cc
 none_after : (x : Extent) (xs : List Extent) (i : ℕ) → cover (x ∷ xs) i ≡ None → cover xs i ≡ None
 none_after x xs i n = rest (is_over x i) n
   where
-  rest : (b : Bool) → cond b (Some (cell_at x i)) (cover xs i) ≡ None → cover xs i ≡ None
-  rest true n = cc
-  rest false n = n
+    rest : (b : Bool) → cond b (Some (cell_at x i)) (cover xs i) ≡ None → cover xs i ≡ None
+    rest true n = cc
+    rest false n = n
 
 -- none begins in a gap
 pub begins_gap : (low : ℕ) (es : List Extent) (from to : ℕ) → IsApart low es → IsGap es from to → from < to → begins_at es from ≡ None
 begins_gap low [] from to a g h = refl
 begins_gap low (x ∷ xs) from to a g h = here (x.at == from) refl (begins_gap (end_of x) xs from to a.2 (record { each = λ i l m. none_after x xs i (g.each i l m) }) h)
   where
-  here : (c : Bool) → (x.at == from) ≡ c → begins_at xs from ≡ None → cond c (Some x) (begins_at xs from) ≡ None
-  here true is ih = absurd (some_none (cover_yes x xs from (omega (arith, eq_of x.at from is)) (omega (arith, eq_of x.at from is, a.1))) (g.each from (omega arith) h))
-  here false is ih = ih
+    here : (c : Bool) → (x.at == from) ≡ c → begins_at xs from ≡ None → cond c (Some x) (begins_at xs from) ≡ None
+    here true is ih = absurd (some_none (cover_yes x xs from (omega (arith, eq_of x.at from is)) (omega (arith, eq_of x.at from is, a.1))) (g.each from (omega arith) h))
+    here false is ih = ih
 
 -- a gap beside what was added
 pub gap_left : (es es' : List Extent) (e : Extent) (from to : ℕ) → IsGap es from to → Adds es e es' → end_of e ≤ from → IsGap es' from to
 gap_left es es' e from to g adds past = record { each = λ i l m. adds.each i ∙ ap (λ b. cond b (Some (cell_at e i)) (cover es i)) (above e i (omega arith)) ∙ g.each i l m }
   where
-  above : (e : Extent) (i : ℕ) → end_of e ≤ i → is_over e i ≡ false
-  above e i h = grind (arith, nat_tests)
+    above : (e : Extent) (i : ℕ) → end_of e ≤ i → is_over e i ≡ false
+    above e i h = grind (arith, nat_tests)
 
 -- Extents put in one after another.
 
@@ -105,9 +103,9 @@ none_gaps es low high [] apart order gaps = tt
 none_gaps es low high (g ∷ gs) apart order gaps =
     (order.0, begins_gap 0 es g.from g.to apart (gaps 0 g (omega arith)) order.1, lower (g.from + 1) g.to gs (omega (arith, order.1)) (none_gaps es g.to high gs apart order.2 (λ k d h. gaps (suc k) d (omega arith))))
   where
-  lower : (a b : ℕ) (gs : List Span) → a ≤ b → NoneBegins es b gs → NoneBegins es a gs
-  lower a b [] le h = tt
-  lower a b (g ∷ gs) le h = (omega (arith, le, h.0), h.1, h.2)
+    lower : (a b : ℕ) (gs : List Span) → a ≤ b → NoneBegins es b gs → NoneBegins es a gs
+    lower a b [] le h = tt
+    lower a b (g ∷ gs) le h = (omega (arith, le, h.0), h.1, h.2)
 
 abbrev pub Begin : Span → Extent → Type 0
 Begin g e = e.at ≡ g.from
@@ -185,9 +183,10 @@ back_fewer es (g ∷ gs) (suc k) b =
 readable_parts : {s : Stored} (xs ys : List Slice) → AllReadable s (xs ++ ys) → AllReadable s xs × AllReadable s ys
 readable_parts xs ys h =
     let e = places-append xs ys in
-    let n = length (places xs) in
-    (readable_taken xs (xs ++ ys) n (sym (ap (take n) e ∙ take_at (places xs) (places ys) n refl)) h,
-      readable_rest ys (xs ++ ys) n (sym (ap (drop n) e ∙ drop_at (places xs) (places ys) n refl)) h)
+    let n = length (places xs) in (
+      readable_taken xs (xs ++ ys) n (sym (ap (take n) e ∙ take_at (places xs) (places ys) n refl)) h,
+      readable_rest ys (xs ++ ys) n (sym (ap (drop n) e ∙ drop_at (places xs) (places ys) n refl)) h,
+    )
 
 pub readable_back : {s : Stored} (es : List Extent) (gs : List Span) (k : ℕ) → AllReadable s (parts_back es gs) → AllReadable s (parts_back es (drop k gs))
 readable_back es gs zero h = h

@@ -1,9 +1,8 @@
 -- Slices of extents are held, and who else holds their buffers.
-use Rattle.std.proofs.Common.{inl, inr, ◌≡◌, ℕ, suc, ◌+◌, ◌<◌, ◌≤◌, Bool, true, false, cond, List, [], ◌∷◌, length, get_or, Option, Some, None, refl, sym, ap, ◌∙◌, arith, subst}
-use Rattle.std.specs.Prelude.{flat_map, nat_lt, ◌||◌, sum_by, not}
+use Rattle.std.proofs.Common.{inl, inr, ◌≡◌, ℕ, ◌<◌, ◌≤◌, Bool, true, false, cond, List, [], ◌∷◌, length, get_or, Some, None, refl, sym, ap, ◌∙◌, arith}
+use Rattle.std.specs.Prelude.{nat_lt, ◌||◌}
 use Rattle.std.specs.List.{All, list_any}
 use Rattle.std.proofs.lemmas.Bool.{cases_lt}
-use Rattle.std.proofs.lemmas.Bool.Decides.{nat_tests}
 use Rattle.std.proofs.lemmas.Grind.{common_steps}
 use Rattle.std.proofs.lemmas.List.Elements.{All-nil, All-cons}
 use Rattle.std.proofs.lemmas.List.Sums.{sum_by-le-sum_by}
@@ -15,17 +14,17 @@ use Rattle.iol_hold.specs.Stored.{Stored, count_of}
 use Rattle.iol_hold.specs.Moves.{tally, Covers}
 use Rattle.iol_hold.specs.Texts.{bufs_of}
 use Rattle.iol_hold.specs.declared.slices.Slice.{Slice}
-use Rattle.iol_hold.proofs.Counting.{tally_none, live_of}
+use Rattle.iol_hold.proofs.Counting.{live_of}
 use Rattle.iol_hold.proofs.Moving.{covers_first, covers_later}
-use Rattle.iol_extent.specs.Extents.{Extent, begins_at, extent_over, IsApart}
+use Rattle.iol_extent.specs.Extents.{Extent, begins_at, extent_over}
 use Rattle.iol_extent.proofs.Cover.{extent_begins}
 use Rattle.iol_cache.specs.declared.files.CachedFile.{CachedFile}
-use Rattle.iol_cache.specs.Marks.{at_page, Counted, AreWithin, HaveMarks, is_held_more, is_held_beside, is_in_use}
+use Rattle.iol_cache.specs.Marks.{Counted, AreWithin, is_held_beside, is_in_use}
 use Rattle.iol_cache.specs.Cached.{file_in, no_file, extents_in, parts_in, parts_at, slices_in, clean_in, clean_parts, held, clean_held}
 use Rattle.iol_cache.specs.Sound.{IsFiled, IsUsable}
 use Rattle.iol_cache.specs.Evicting.{in_use, IsCleanAt}
 use Rattle.iol_cache.proofs.Marking.{at_page-live}
-use Rattle.iol_cache.proofs.Filing.{file_nowhere, file_at, IsAdditive, additive_tally, additive_page, additive_bufs, sum-flat, sum-file_in, sum-without_at, numbered_bounds}
+use Rattle.iol_cache.proofs.Filing.{file_nowhere, IsAdditive, additive_tally, additive_bufs, sum-flat, sum-file_in, sum-without_at, numbered_bounds}
 
 bool_of : (b : Bool) → (b ≡ true → ⊥) → b ≡ false
 bool_of true h = absurd (h refl)
@@ -67,11 +66,11 @@ sum-clean h a es =
     let less = sum_by-le-sum_by (λ (x : Extent). h (bufs_of (clean_parts x))) (λ (x : Extent). h (bufs_of x.parts)) es each in
     omega (arith, s, t, less)
   where
-  each : (x : Extent) → h (bufs_of (clean_parts x)) ≤ h (bufs_of x.parts)
-  each x = pick x.dirty where
-    pick : (b : Bool) → h (bufs_of (cond b [] x.parts)) ≤ h (bufs_of x.parts)
-    pick true = omega (arith, a.none)
-    pick false = omega arith
+    each : (x : Extent) → h (bufs_of (clean_parts x)) ≤ h (bufs_of x.parts)
+    each x = pick x.dirty where
+      pick : (b : Bool) → h (bufs_of (cond b [] x.parts)) ≤ h (bufs_of x.parts)
+      pick true = omega (arith, a.none)
+      pick false = omega arith
 
 pub sum-clean_held : (h : List BufId → ℕ) → IsAdditive h → (fs : List CachedFile) → h (clean_held fs) ≤ h (held fs)
 unfolding held clean_held

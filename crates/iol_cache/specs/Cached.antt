@@ -1,11 +1,11 @@
 -- What a cache of files holds.
-use Rattle.std.specs.Prelude.{◌≡◌, ℕ, ◌+◌, ◌==◌, ◌&&◌, not, Bool, true, false, if◌then◌else◌, cond, eqb, List, [], ◌∷◌, flat_map, sum_by, Option, Some, None}
+use Rattle.std.specs.Prelude.{◌≡◌, ℕ, ◌+◌, ◌&&◌, not, if◌then◌else◌, cond, eqb, List, [], flat_map, sum_by, Option, Some, None}
 use Rattle.iol_core.specs.Numbered.{numbered_or, with_numbered}
 use Rattle.iol_core.specs.declared.numbers.BufId.{BufId}
 use Rattle.iol_hold.specs.Texts.{bufs_of}
 use Rattle.iol_hold.specs.declared.slices.Slice.{Slice}
-use Rattle.iol_extent.specs.Extents.{Extent, ExtentMap, begins_at, without_at}
-use Rattle.iol_evict.specs.Ranking.{Ranking, entry_at, evicted_at, is_at}
+use Rattle.iol_extent.specs.Extents.{Extent, begins_at, without_at}
+use Rattle.iol_evict.specs.Ranking.{Ranking, evicted_at, is_at}
 use Rattle.iol_evict.specs.declared.entry.Entry.{Entry}
 use Rattle.iol_cache.specs.declared.files.CachedFile.{CachedFile}
 

@@ -1,10 +1,10 @@
 -- What a read does to a store and a cache over it, at each of its steps.
-use Rattle.std.specs.Prelude.{◌≡◌, ℕ, ◌+◌, ◌<◌, ◌≤◌, false, true, List, [], ◌++◌, length, take, drop}
+use Rattle.std.specs.Prelude.{◌≡◌, ℕ, ◌+◌, ◌<◌, ◌≤◌, List, [], ◌++◌, length}
 use Rattle.iol_core.specs.declared.numbers.BufId.{BufId}
 use Rattle.iol_arena.specs.State.{page_count}
-use Rattle.iol_back.specs.Disk.{Disk, IfHonest, content}
+use Rattle.iol_back.specs.Disk.{Disk, IfHonest}
 use Rattle.iol_hold.specs.Moves.{Moves, Shares, SameLists}
-use Rattle.iol_hold.specs.Places.{places}
+use Rattle.iol_hold.specs.Places.{Place, places}
 use Rattle.iol_hold.specs.Room.{pages_of}
 use Rattle.iol_hold.specs.Stored.{Stored, AllSettled}
 use Rattle.iol_hold.specs.Texts.{bufs_of}
@@ -19,7 +19,7 @@ use Rattle.iol_cache.specs.Gaps.{gap_pages}
 use Rattle.iol_cache.specs.Pinned.{pinned_beside}
 use Rattle.iol_cache.specs.Marks.{Marks}
 use Rattle.iol_cache.specs.Reading.{FillsRange, hits_counted, all_entered, parts_of_spans}
-use Rattle.iol_cache.specs.Sharing.{places_of_spans}
+use Rattle.iol_cache.specs.Weaving.{places_beside}
 
 -- The holds `taken`, beside those of the extents, became the holds `given` beside theirs. With an honest store every
 -- file has its bytes, and clean extents are as stored.
@@ -46,7 +46,7 @@ pub record Pins (s : Stored) (c : Cached) (f from to : ℕ) : Type 0 where
   pub tile : Tile (extents_in c.files f) from to hits gaps
   pub mid : Stored
   pub pins : List Slice
-  pub lies : places pins ≡ places_of_spans (extents_in c.files f) hits
+  pub lies : places pins ≡ places_beside (extents_in c.files f) from to gaps
   pub shares : Shares s mid [] (bufs_of pins)
 
 -- the pages of the file's pool that are pinned while the range is read, and those that its gaps want
@@ -63,10 +63,10 @@ pub record LacksRoom (s : Stored) (c : Cached) (f from to : ℕ) : Type 0 where
   pub lacks : length (pages_of s (file_in c.files f).pool) < wanted_pages pinned
 
 -- The gaps of a range of a file were read, and stand as clean extents, which are marked and in the order; the range was
--- shared.
-pub record FillsFile (f from to : ℕ) (gaps : List Span) (disk : Disk) (old new : Holding) (xs : List Slice) : Type 0 where
+-- put together.
+pub record FillsFile (f from to : ℕ) (beside : List Place) (gaps : List Span) (disk : Disk) (old new : Holding) (xs : List Slice) : Type 0 where
   pub extents : ExtentMap
-  pub range : FillsRange old.store new.store (file_in old.cache.files f).extents extents (file_in old.cache.files f).pool gaps from to disk f xs
+  pub range : FillsRange old.store new.store (file_in old.cache.files f).extents extents (file_in old.cache.files f).pool beside gaps from to disk f xs
   pub apart : IsApart 0 extents.extents
   pub files : new.cache.files ≡ with_file old.cache.files f (record { pool = (file_in old.cache.files f).pool; extents = extents })
   pub orders : let p = (file_in old.cache.files f).pool in new.cache.orders ≡ with_order old.cache.orders p (all_entered (order_in old.cache.orders p) f extents.extents gaps)

@@ -9,5 +9,9 @@ pub mod Users
 pub mod Loading
 pub mod Gaps
 pub mod Sharing
+pub mod Weaving
 pub mod Reading
+pub mod Composing
+pub mod Cutting
 pub mod Going
+pub mod Replacing

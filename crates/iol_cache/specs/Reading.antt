@@ -1,20 +1,18 @@
 -- Reading a range of a file.
-use Rattle.std.specs.Prelude.{◌≡◌, ◌⊎◌, ℕ, ◌+◌, ◌<◌, ◌≤◌, cond, false, true, if◌then◌else◌, List, [], ◌∷◌, ◌++◌, length, Option, Some, None, IsSome, flat_map, sum_by, eqb}
-use Rattle.std.specs.List.{All}
+use Rattle.std.specs.Prelude.{◌≡◌, ℕ, if◌then◌else◌, List, [], ◌∷◌, length, Option, Some, None, IsSome, flat_map}
 use Rattle.iol_back.specs.Disk.{Disk}
 use Rattle.iol_hold.specs.Moves.{Shares}
-use Rattle.iol_hold.specs.Places.{places, byte_len}
+use Rattle.iol_hold.specs.Places.{Place, places, byte_len}
 use Rattle.iol_hold.specs.Stored.{Stored}
 use Rattle.iol_hold.specs.Texts.{bufs_of}
 use Rattle.iol_hold.specs.declared.slices.Slice.{Slice}
-use Rattle.iol_extent.specs.Extents.{Extent, ExtentMap, cover, begins_at, extent_over}
-use Rattle.iol_extent.specs.Spans.{LiesIn}
+use Rattle.iol_extent.specs.Extents.{Extent, ExtentMap, begins_at, extent_over}
 use Rattle.iol_extent.specs.declared.spans.Span.{Span}
 use Rattle.iol_evict.specs.Ranking.{Ranking, hit_at, entered}
 use Rattle.iol_cache.specs.Gaps.{FillsGaps, gap_pages}
 use Rattle.iol_cache.specs.Loading.{PlacesPages}
 use Rattle.iol_cache.specs.Marks.{AreWithin}
-use Rattle.iol_cache.specs.Sharing.{places_over}
+use Rattle.iol_cache.specs.Weaving.{woven}
 use Rattle.iol_cache.specs.Cached.{Cached, file_in, extents_in, order_in, parts_in, held, clean_held, clean_at, entries_at}
 
 -- nothing changed but how many more can come in without memory
@@ -73,14 +71,10 @@ abbrev pub AreAbsent : Ranking → (f : ℕ) → List Span → Type 0
 AreAbsent r f [] = Unit {0}
 AreAbsent r f (s ∷ ss) = (entries_at f s.from r.entries ≡ 0) × AreAbsent r f ss
 
--- Gaps of a range that were read, and the range that was shared then.
-pub record FillsRange (s t : Stored) (old new : ExtentMap) (pool : ℕ) (gaps : List Span) (from to : ℕ) (disk : Disk) (file : ℕ) (xs : List Slice) : Type 0 where
+-- Gaps of a range that were read, and the range put together from what was shared beside them, and from them.
+pub record FillsRange (s t : Stored) (old new : ExtentMap) (pool : ℕ) (beside : List Place) (gaps : List Span) (from to : ℕ) (disk : Disk) (file : ℕ) (xs : List Slice) : Type 0 where
   pub mid : Stored
   pub fills : FillsGaps s mid old new pool gaps disk file
   pub filled : PlacesPages s mid pool (gap_pages gaps)
   pub shares : Shares mid t [] (bufs_of xs)
-  pub lies : places xs ≡ places_over new.extents from to
-
--- each byte of the range lies under an extent or in one of these gaps
-pub record IsComplete (es : List Extent) (from to : ℕ) (gaps : List Span) : Type 0 where
-  pub each : (i : ℕ) → from ≤ i → i < to → IsSome (cover es i) ⊎ LiesIn i gaps
+  pub lies : places xs ≡ woven beside new.extents from to gaps

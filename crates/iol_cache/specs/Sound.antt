@@ -12,7 +12,7 @@ use Rattle.iol_hold.specs.declared.slices.Slice.{Slice}
 use Rattle.iol_extent.specs.Extents.{Extent, IsApart, last_end}
 use Rattle.iol_cache.specs.declared.files.CachedFile.{CachedFile}
 use Rattle.iol_cache.specs.Marks.{Counted}
-use Rattle.iol_cache.specs.Cached.{Cached, file_in, order_in, held, clean_held, AreRanked}
+use Rattle.iol_cache.specs.Cached.{Cached, file_in, held, clean_held, AreRanked}
 
 -- P holds of each of a list
 abbrev pub Each : {A : Type 0} → (A → Type 0) → List A → Type 0

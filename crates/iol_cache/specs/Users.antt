@@ -1,7 +1,6 @@
 -- What is asked of the users of extents.
 use Rattle.std.specs.Prelude.{ℕ, Bool}
 use Rattle.iol_cache.specs.declared.users.Users.{Users}
-use Rattle.iol_cache.specs.Cached.{Cached}
 use Rattle.iol_cache.specs.Evicting.{in_use, IsCleanAt}
 use Rattle.iol_cache.specs.Sound.{IsUsable}
 

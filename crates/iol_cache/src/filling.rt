@@ -3,6 +3,7 @@ ghost use Rattle.std.specs.Prelude.{◌≡◌, ℕ, ◌+◌, ◌<◌, ◌≤◌,
 ghost use Rattle.iol_core.specs.Meaning.{WantOfRoomOrFault};
 ghost use Rattle.iol_pool.specs.Pools.{pool_in};
 ghost use Rattle.iol_hold.specs.Moves.{Moves, Covers, SameLists};
+ghost use Rattle.iol_hold.specs.Places.{places, byte_len};
 ghost use Rattle.iol_hold.specs.Room.{free_of};
 ghost use Rattle.iol_hold.specs.Stored.{AllSettled};
 ghost use Rattle.iol_hold.specs.Texts.{bufs_of, AllReadable};
@@ -10,11 +11,12 @@ ghost use Rattle.iol_extent.specs.Extents.{IsApart};
 ghost use Rattle.iol_extent.specs.Spans.{AreInOrder, IsGapSpan};
 ghost use Rattle.iol_cache.specs.Gaps.{all_parts, gap_pages};
 ghost use Rattle.iol_cache.specs.Loading.{Asks, PlacesSome};
-ghost use Rattle.iol_cache.specs.Reading.{FillsRange, IsComplete};
+ghost use Rattle.iol_cache.specs.Reading.{FillsRange};
 ghost use Rattle.iol_cache.specs.Sharing.{CountsBelow};
+ghost use Rattle.iol_cache.specs.Weaving.{len_beside};
 
 use crate::gaps::{fill_gaps, take_back};
-use crate::sharing::share_range;
+use crate::weaving::weave;
 use iol_agg::Agg;
 use iol_back::backing::Backing;
 use iol_core::numbers::{FileId, PoolId};
@@ -24,7 +26,8 @@ use iol_extent::spans::Span;
 use iol_hold::Store;
 use std::alloc::Global;
 
-/// Reads the gaps of a range into clean extents, all or none, and shares the range.
+/// Reads the gaps of a range into clean extents, all or none, and puts the range together from them and from what was
+/// shared beside them.
 pub(crate) fn fill_range<B: Backing>(
     alloc: Global,
     store: &mut Store,
@@ -34,20 +37,23 @@ pub(crate) fn fill_range<B: Backing>(
     pool: PoolId,
     from: u32,
     to: u32,
+    beside: &Agg,
     gaps: &[Span],
 ) -> Result<Agg, Refusal>
     requires ordered { from ≤ to }
     requires apart { IsApart 0 extents.old.extents }
     requires order { AreInOrder from to gaps.now }
     requires gaps { All (IsGapSpan extents.old.extents) gaps.now }
-    requires complete { IsComplete extents.old.extents from to gaps.now }
     requires room { length gaps.now ≤ extents.old.room }
     requires open { (pool_in store.old.pools pool).closed ≡ false }
     requires held { Covers store.old (bufs_of (all_parts extents.old.extents)) }
     requires readable { AllReadable store.old (all_parts extents.old.extents) }
-    requires few { CountsBelow store.old (2 ^ 61) }
+    requires beside_len { byte_len beside.now ≡ len_beside from to gaps.now }
+    requires beside_held { Covers store.old (bufs_of beside.now) }
+    requires beside_readable { AllReadable store.old beside.now }
+    requires few { CountsBelow store.old (2 ^ 60) }
     ensures fills { IfOk result (λ a. FillsRange store.old store.new extents.old extents.new pool
-        gaps.now from to (B.disk backing.old) file a) }
+        (places beside.now) gaps.now from to (B.disk backing.old) file a) }
     ensures apart { IsApart 0 extents.new.extents }
     ensures same { OnErr result (extents.new ≡ extents.old) }
     ensures none { OnErr result (Moves store.old store.new [] []) }
@@ -62,7 +68,7 @@ pub(crate) fn fill_range<B: Backing>(
     if let Err(refusal) = fill_gaps(alloc, store, backing, extents, file, pool, gaps) {
         return Err(refusal);
     }
-    let Ok(agg) = share_range(alloc, extents, store, from, to) else {
+    let Ok(agg) = weave(alloc, extents, store, beside, gaps, from, to) else {
         take_back(extents, store, gaps);
         return Err(Refusal::Memory);
     };

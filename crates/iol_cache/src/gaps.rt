@@ -91,7 +91,15 @@ fn fill_gap<B: Backing>(
     ensures disk { Asks 1 (B.disk backing.old) (B.disk backing.new) result }
     ensures late { IfErr result (WantOfRoomOrFault pool file) }
 {
-    let agg = match gap_agg(alloc, store, backing, file, pool, gap.from, gap.to - gap.from) {
+    let agg = match gap_agg(
+        alloc,
+        store,
+        backing,
+        file,
+        pool,
+        gap.from,
+        gap.to - gap.from,
+    ) {
         Ok(agg) => agg,
         Err(refusal) => return Err(refusal),
     };

@@ -2,6 +2,8 @@
 #![tactic(auto)]
 
 mod cache;
+mod composing;
+mod cutting;
 mod evicting;
 mod files;
 mod filling;
@@ -10,7 +12,9 @@ mod loading;
 mod marks;
 mod ranking;
 mod reading;
+mod replacing;
 mod sharing;
 mod users;
+mod weaving;
 
 pub use cache::Cache;

@@ -2,26 +2,32 @@
 ghost use Rattle.std.specs.Prelude.{◌≡◌, ℕ, ◌+◌, ◌-◌, ◌/◌, ◌<◌, ◌≤◌, ◌^◌, [], All, length, true, false, Err, OnOk, OnErr, IfOk, IfErr, min, take, drop};
 ghost use Rattle.iol_core.specs.Meaning.{WantOfRoomOrFault};
 ghost use Rattle.iol_core.specs.Numbered.{is_numbered};
-ghost use Rattle.iol_hold.specs.Moves.{Moves, Shares, SameLists};
-ghost use Rattle.iol_hold.specs.Places.{places};
+ghost use Rattle.iol_hold.specs.Moves.{Moves, Covers, Shares, SameLists};
+ghost use Rattle.iol_hold.specs.Places.{places, byte_len};
+ghost use Rattle.iol_hold.specs.Room.{free_of};
 ghost use Rattle.iol_hold.specs.Releases.{FreesOnly};
 ghost use Rattle.iol_hold.specs.Stored.{AllSettled};
-ghost use Rattle.iol_hold.specs.Texts.{bufs_of};
-ghost use Rattle.iol_extent.specs.Spans.{AreInOrder, IsHit};
+ghost use Rattle.iol_hold.specs.Texts.{bufs_of, AllReadable};
+ghost use Rattle.iol_extent.specs.Spans.{AreInOrder, IsGapSpan};
 ghost use Rattle.iol_cache.specs.Cached.{file_in, extents_in, order_in};
 ghost use Rattle.iol_cache.specs.Cache.{cached_of, holding};
 ghost use Rattle.iol_cache.specs.Gaps.{gap_pages};
-ghost use Rattle.iol_cache.specs.Going.{CountsHits};
+ghost use Rattle.iol_cache.specs.Going.{CountsHits, FillsFile};
+ghost use Rattle.iol_cache.specs.Loading.{Asks, PlacesSome};
 ghost use Rattle.iol_cache.specs.Reading.{SameButRoom};
-ghost use Rattle.iol_cache.specs.Sharing.{CountsBelow, IsCoveredSpan, places_of_spans};
+ghost use Rattle.iol_cache.specs.Sharing.{CountsBelow};
 ghost use Rattle.iol_cache.specs.Sound.{IsSound};
+ghost use Rattle.iol_cache.specs.Weaving.{IsCoveredBeside, len_beside, places_beside};
 
 use crate::cache::Cache;
-use crate::ranking::count_hits;
-use crate::sharing::share_spans;
+use crate::filling::fill_range;
+use crate::ranking::{count_hits, enter_all};
+use crate::weaving::share_beside;
 use iol_agg::Agg;
-use iol_core::limits::PAGE_BYTES;
+use iol_back::backing::Backing;
+use iol_core::limits::{MAX_FILE_BYTES, PAGE_BYTES};
 use iol_core::numbers::FileId;
+use iol_core::refusals::Refusal;
 use iol_extent::spans::Span;
 use iol_hold::Store;
 use std::alloc::{AllocError, Global};
@@ -56,21 +62,25 @@ impl Cache {
         Ok(())
     }
 
-    // Shares the hits of a range, and counts them.
+    // Shares the bytes of a range that lie beside its gaps, and counts the hits.
     fn share_hits(
         &mut self,
         alloc: Global,
         store: &mut Store,
         file: FileId,
+        from: u32,
+        to: u32,
         hits: &[Span],
+        gaps: &[Span],
     ) -> Result<Agg, AllocError>
         requires sound { IsSound store.old (cached_of self.old) }
         requires file { is_numbered self.old.files.items file ≡ true }
-        requires few { CountsBelow store.old (2 ^ 60) }
-        requires in_order { AreInOrder 0 u32.MAX hits.now }
-        requires covered { All (IsCoveredSpan (extents_in self.old.files.items file)) hits.now }
+        requires few { CountsBelow store.old (2 ^ 59) }
+        requires in_order { AreInOrder from to gaps.now }
+        requires covered { let es = extents_in self.old.files.items file in
+            IsCoveredBeside es from to gaps.now }
         ensures places { let es = extents_in self.old.files.items file in
-            IfOk result (λ a. places a ≡ places_of_spans es hits.now) }
+            IfOk result (λ a. places a ≡ places_beside es from to gaps.now) }
         ensures shares { IfOk result (λ a. Shares store.old store.new [] (bufs_of a)) }
         ensures counted { OnOk result
             (CountsHits file hits.now (cached_of self.old) (cached_of self.new)) }
@@ -82,7 +92,7 @@ impl Cache {
     {
         let place = file.number() as usize - 1;
         let pool = self.files[place].pool;
-        let pins = share_spans(alloc, &self.files[place].extents, store, hits)?;
+        let pins = share_beside(alloc, &self.files[place].extents, store, gaps, from, to)?;
         count_hits(
             &mut self.orders[pool.number() as usize - 1],
             &self.files[place].extents,
@@ -90,5 +100,73 @@ impl Cache {
             hits,
         );
         Ok(pins)
+    }
+
+    // Reads the gaps of a range, and puts the range together: all or nothing.
+    fn fill<B: Backing>(
+        &mut self,
+        alloc: Global,
+        store: &mut Store,
+        backing: &mut B,
+        file: FileId,
+        from: u32,
+        to: u32,
+        beside: &Agg,
+        gaps: &[Span],
+    ) -> Result<Agg, Refusal>
+        requires sound { IsSound store.old (cached_of self.old) }
+        requires file { is_numbered self.old.files.items file ≡ true }
+        requires ordered { from ≤ to }
+        requires end { to ≤ MAX_FILE_BYTES }
+        requires in_order { AreInOrder from to gaps.now }
+        requires gaps { All (IsGapSpan (extents_in self.old.files.items file)) gaps.now }
+        requires beside_len { byte_len beside.now ≡ len_beside from to gaps.now }
+        requires beside_held { Covers store.old (bufs_of beside.now) }
+        requires beside_readable { AllReadable store.old beside.now }
+        requires room { length gaps.now ≤ (file_in self.old.files.items file).extents.room }
+        requires entries { let p = (file_in self.old.files.items file).pool in
+            length gaps.now ≤ (order_in self.old.orders.items p).room }
+        requires few { CountsBelow store.old (2 ^ 60) }
+        ensures filled { IfOk result (FillsFile file from to (places beside.now) gaps.now
+            (B.disk backing.old) (holding store.old self.old) (holding store.new self.new)) }
+        ensures sound { IsSound store.new (cached_of self.new) }
+        ensures same { OnErr result (SameButRoom (cached_of self.old) (cached_of self.new)) }
+        ensures none { OnErr result (Moves store.old store.new [] []) }
+        ensures given_back { OnErr result
+            (PlacesSome store.old store.new (file_in self.old.files.items file).pool) }
+        ensures lists { SameLists store.old store.new }
+        ensures settles { AllSettled store.old → AllSettled store.new }
+        ensures no_room { (p : ℕ) → result ≡ Err (Refusal.NoRoom p) →
+            length (free_of store.old (file_in self.old.files.items file).pool) <
+            gap_pages gaps.now }
+        ensures disk { Asks (length gaps.now) (B.disk backing.old) (B.disk backing.new) result }
+        ensures late { IfErr result
+            (WantOfRoomOrFault (file_in self.old.files.items file).pool file) }
+    {
+        let place = file.number() as usize - 1;
+        let pool = self.files[place].pool;
+        let agg = match fill_range(
+            alloc,
+            store,
+            backing,
+            &mut self.files[place].extents,
+            file,
+            pool,
+            from,
+            to,
+            beside,
+            gaps,
+        ) {
+            Ok(agg) => agg,
+            Err(refusal) => return Err(refusal),
+        };
+        enter_all(
+            &mut self.orders[pool.number() as usize - 1],
+            &mut self.marks,
+            &self.files[place].extents,
+            file,
+            gaps,
+        );
+        Ok(agg)
     }
 }

@@ -67,8 +67,8 @@ fn share_next(
     }
 }
 
-// Adds the bytes of a range that lies under extents. Refused, all is released.
-fn share_over(
+/// Adds the bytes of a range that lies under extents. Refused, all is released.
+pub(crate) fn share_over(
     alloc: Global,
     extents: &Extents,
     store: &mut Store,

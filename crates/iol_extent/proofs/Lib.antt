@@ -1,3 +1,4 @@
 pub mod Cover
 pub mod Words
 pub mod Tiling
+pub mod Meeting

@@ -97,3 +97,23 @@ put_in (x ∷ xs) e = if nat_lt e.at x.at then e ∷ x ∷ xs else x ∷ put_in 
 abbrev pub without_at : List Extent → (at : ℕ) → List Extent
 without_at [] at = []
 without_at (x ∷ xs) at = if x.at == at then xs else x ∷ without_at xs at
+
+-- whether the extent has a byte of from..to
+abbrev pub meets : (from to : ℕ) → Extent → Bool
+meets from to e = nat_lt e.at to && nat_lt from (end_of e)
+
+-- the first extent that has one
+abbrev pub met_in : List Extent → (from to : ℕ) → Option Extent
+met_in [] from to = None
+met_in (e ∷ es) from to = if meets from to e then Some e else met_in es from to
+
+-- the extents that have none
+abbrev pub unmet : List Extent → (from to : ℕ) → List Extent
+unmet [] from to = []
+unmet (e ∷ es) from to = if meets from to e then unmet es from to else e ∷ unmet es from to
+
+-- the first extent that has one begins there
+pub record IsFirstMet (es : List Extent) (from to at : ℕ) : Type 0 where
+  pub extent : Extent
+  pub is : met_in es from to ≡ Some extent
+  pub begins : extent.at ≡ at

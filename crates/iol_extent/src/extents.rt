@@ -1,7 +1,7 @@
 //! The extents of a file.
 ghost use Rattle.std.specs.Prelude.{◌≡◌, ℕ, ◌+◌, ◌-◌, ◌<◌, ◌≤◌, ◌^◌, [], length, All, IfOk, IfSome, OnOk, OnErr, MatchOption, Some, None, slice_index_or, insert, remove, max, IsSome, IsTrue, true, false};
 ghost use Rattle.iol_hold.specs.Places.{byte_len};
-ghost use Rattle.iol_extent.specs.Extents.{Extent, extent_of, extent_over, extent_in, dirty_in, cover, cell_in, end_of, IsApart, IsGap, Adds, Lacks, last_end, begins_at, put_in, without_at};
+ghost use Rattle.iol_extent.specs.Extents.{Extent, IsFirstMet, met_in, extent_of, extent_over, extent_in, dirty_in, cover, cell_in, end_of, IsApart, IsGap, Adds, Lacks, last_end, begins_at, put_in, without_at};
 ghost use Rattle.iol_extent.specs.Spans.{IsHit, Tile};
 
 use crate::piece::{Piece, count_before, insert_piece};
@@ -103,6 +103,22 @@ impl Extents {
             }
         }
         None
+    }
+
+    /// Where the first extent begins that has a byte of a range.
+    pub fn first_met(&self, from: u32, to: u32) -> Option<u32>
+        ensures { let es = self.now.extents in
+            MatchOption result (met_in es from to ≡ None) (IsFirstMet es from to) }
+    {
+        let found = count_before(&self.pieces, from);
+        if found == self.pieces.len() {
+            return None;
+        }
+        let piece = &self.pieces[found];
+        if piece.at >= to {
+            return None;
+        }
+        Some(piece.at)
     }
 
     // The hit or the gap that begins at a place, and which it is.

@@ -1,4 +1,4 @@
-use Rattle.std.proofs.Common.{◌≡◌, ◌∙◌, ◌+◌, ◌≤◌, ◌<◌, ap, arith, length, length-append, [], ◌∷◌, ◌++◌}
+use Rattle.std.proofs.Common.{◌∙◌, ap, arith, length, length-append, [], ◌∷◌, ◌++◌}
 use Rattle.iol_cache.specs.Cached.{order_in, no_order}
 use Rattle.iol_cache.proofs.Adding.{order_push}
 use Rattle.iol_cache.proofs.cache.add_orders.Goals as goal

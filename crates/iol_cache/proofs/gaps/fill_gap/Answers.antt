@@ -1,4 +1,4 @@
-use Rattle.std.proofs.Common.{false, refl, take, drop, ◌≡◌, ◌∙◌, ◌+◌, ◌-◌, ap, sym, subst, arith, List, ℕ}
+use Rattle.std.proofs.Common.{false, refl, take, drop, ◌≡◌, ◌∙◌, ◌+◌, ◌-◌, ap, sym, subst, arith}
 use Rattle.iol_core.specs.Text as text
 use Rattle.iol_back.specs.Disk.{content}
 use Rattle.iol_extent.specs.Extents.{Extent, IsGap, end_of, extent_of}

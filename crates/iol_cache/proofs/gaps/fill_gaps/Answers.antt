@@ -1,20 +1,19 @@
-use Rattle.std.proofs.Common.{Err, refl, ◌≡◌, ◌∙◌, ◌+◌, ◌-◌, ◌<◌, ◌≤◌, ◌++◌, ◌∷◌, [], All, Result, ap, sym, subst, get_or, length, take, drop, List, ℕ, arith}
+use Rattle.std.proofs.Common.{Err, refl, ◌≡◌, ◌∙◌, ◌+◌, ◌-◌, ◌<◌, [], All, ap, sym, subst, get_or, length, take, drop, List, ℕ, arith}
 use Rattle.std.proofs.lemmas.List.{take_more, length-drop}
 use Rattle.std.proofs.lemmas.List.Elements.{All-take, All-tail, All-head}
 use Rattle.iol_arena.specs.State.{pages_for}
 use Rattle.iol_back.specs.Disk.{Disk}
-use Rattle.iol_core.specs.declared.refusals.Refusal.{Refusal}
 use Rattle.iol_core.specs.declared.refusals.Refusal.TheVariants.{NoRoom}
 use Rattle.iol_hold.specs.Moves.{Covers, Moves}
 use Rattle.iol_hold.specs.Room.{free_of}
-use Rattle.iol_hold.specs.Stored.{Stored, AllSettled}
+use Rattle.iol_hold.specs.Stored.{Stored}
 use Rattle.iol_hold.specs.Texts.{AllReadable, bufs_of}
 use Rattle.iol_hold.proofs.Reading.{readable_stays}
-use Rattle.iol_extent.specs.Extents.{Extent, ExtentMap, IsApart, IsGap, end_of}
+use Rattle.iol_extent.specs.Extents.{ExtentMap, IsApart}
 use Rattle.iol_extent.specs.Spans.{AreInOrder, IsGapSpan}
 use Rattle.iol_extent.specs.declared.spans.Span.{Span}
-use Rattle.iol_cache.specs.Gaps.{AllBegin, FillsGap, FillsGaps, all_parts, gap_pages, parts_back, without_spans}
-use Rattle.iol_cache.specs.Loading.{PlacesPages, PlacesSome}
+use Rattle.iol_cache.specs.Gaps.{AllBegin, FillsGaps, all_parts, gap_pages, parts_back, without_spans}
+use Rattle.iol_cache.specs.Loading.{PlacesPages}
 use Rattle.iol_cache.proofs.Filled.{CanTakeBack, can_take_back, covers_back, fills_more, fills_none, gap_pages-push, gap_pages-take, gaps_left, moved_back, order_drop, order_take, placed_some, places_none, places_then, same_map, span_next}
 use Rattle.iol_cache.proofs.gaps.fill_gaps.Goals as goal
 

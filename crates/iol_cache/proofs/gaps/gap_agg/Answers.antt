@@ -1,11 +1,9 @@
-use Rattle.std.proofs.Common.{◌≡◌, ◌∙◌, ◌<◌, ◌^◌, ap, sym, subst, length, map, take, drop, List, [], ℕ, arith, All}
+use Rattle.std.proofs.Common.{◌≡◌, ◌∙◌, ap, sym, subst, length, List, [], ℕ, arith, All}
 use Rattle.iol_core.specs.Text as text
-use Rattle.iol_core.specs.declared.numbers.BufId.{BufId}
 use Rattle.iol_arena.specs.State.{pages_for}
 use Rattle.iol_arena.specs.Buffers.{bytes_in}
 use Rattle.iol_hold.specs.Stored.{Stored, Buffer, held_bufs}
-use Rattle.iol_hold.specs.Places.{byte_len}
-use Rattle.iol_hold.specs.Texts.{text_of, bufs_of, AllReadable}
+use Rattle.iol_hold.specs.Texts.{text_of}
 use Rattle.iol_hold.specs.declared.slices.Slice.{Slice}
 use Rattle.iol_hold.specs.Moves.{Moves}
 use Rattle.iol_hold.proofs.Reading.{length-text_of}
@@ -13,7 +11,6 @@ use Rattle.iol_agg.specs.Parts.{whole_texts}
 use Rattle.iol_agg.proofs.Wholes.{whole_texts-one}
 use Rattle.iol_arena.specs.Adds.{IsNew}
 use Rattle.iol_cache.proofs.Pooled.{length-labelled, pooled_text}
-use Rattle.iol_cache.specs.Gaps.{LoadsSlices}
 use Rattle.iol_cache.proofs.gaps.gap_agg.Goals as goal
 
 texts : (t : Stored) (xs : List Slice) (hs : List Buffer) (p : ℕ) → text_of t xs ≡ whole_texts t hs → All (λ (h : Buffer). h.pool ≡ p) hs → text_of t xs ≡ text.labelled p (bytes_in t.arena (held_bufs hs))

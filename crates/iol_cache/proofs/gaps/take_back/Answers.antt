@@ -1,17 +1,16 @@
-use Rattle.std.proofs.Common.{◌≡◌, ◌∙◌, ◌+◌, ◌-◌, ◌<◌, ◌≤◌, ◌++◌, ◌∷◌, [], Some, IsSome, IfSome, ap, sym, subst, refl, get_or, length, drop, List, Option, ℕ, arith}
-use Rattle.iol_core.specs.declared.numbers.BufId.{BufId}
+use Rattle.std.proofs.Common.{◌≡◌, ◌∙◌, ◌-◌, ◌++◌, [], Some, IsSome, IfSome, ap, sym, subst, refl, get_or, drop, List, Option, ℕ, arith}
 use Rattle.iol_hold.specs.Moves.{Covers, Moves, tally}
-use Rattle.iol_hold.specs.Stored.{Stored, AllSettled}
+use Rattle.iol_hold.specs.Stored.{Stored}
 use Rattle.iol_hold.specs.Texts.{AllReadable, bufs_of}
 use Rattle.iol_hold.specs.declared.slices.Slice.{Slice}
 use Rattle.iol_hold.proofs.Counting.{tally-append, tally_none}
 use Rattle.iol_hold.proofs.Moving.{moves_trans}
 use Rattle.iol_hold.proofs.Reading.{readable_stays}
 use Rattle.iol_hold.proofs.Releasing.{frees_trans}
-use Rattle.iol_extent.specs.Extents.{Extent, begins_at, without_at}
+use Rattle.iol_extent.specs.Extents.{Extent, begins_at}
 use Rattle.iol_extent.specs.declared.spans.Span.{Span}
-use Rattle.iol_cache.specs.Gaps.{parts_back, parts_in, without_spans}
-use Rattle.iol_cache.proofs.Undone.{IsNext, next_back, back_fewer, readable_back, readable_here}
+use Rattle.iol_cache.specs.Gaps.{parts_back, parts_in}
+use Rattle.iol_cache.proofs.Undone.{next_back, back_fewer, readable_back, readable_here}
 use Rattle.iol_cache.proofs.gaps.take_back.Goals as goal
 
 abbrev no_span : Span

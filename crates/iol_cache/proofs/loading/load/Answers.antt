@@ -16,7 +16,7 @@ use Rattle.iol_hold.specs.Moves.{Moves}
 use Rattle.iol_hold.specs.Pages.{KeepsPages}
 use Rattle.iol_hold.specs.Room.{lowest_of}
 use Rattle.iol_hold.proofs.Emptied.{all_settled_placed}
-use Rattle.iol_arena.specs.Pages.{IsSameBut, MadeOn}
+use Rattle.iol_arena.specs.Pages.{IsSameBut}
 use Rattle.iol_core.specs.declared.refusals.Refusal.TheVariants.{NoRoom}
 use Rattle.iol_cache.specs.Loading.{PlacesPages}
 use Rattle.iol_cache.proofs.Paged.{few_free, Places, placed_all, keeps_abandoned}
@@ -92,4 +92,3 @@ returns-in-Err-fill_parts-clause-settles g c =
     let P : Stored → Type 0 = λ s. AllSettled c.args.store.now → AllSettled s in
     let f = λ (d : Stored) (m : KeepsPages c.args.store.now d [] × IsSameBut placed c.args.store.now.arena d.arena × (d.pools ≡ c.args.store.now.pools)) (all : AllSettled c.args.store.now). all_settled_placed c.args.store.now d (pool_in c.args.store.now.pools c.args.pool).chunks (pages_for c.args.n) m.2 m.1 all in
     subst P (search rules) (f _ gone)
-

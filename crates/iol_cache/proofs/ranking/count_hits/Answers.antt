@@ -1,4 +1,3 @@
-use Rattle.std.proofs.Common.{◌≡◌}
 use Rattle.iol_cache.proofs.Entering.{hit_there}
 use Rattle.iol_cache.proofs.ranking.count_hits.Goals as goal
 

@@ -1,4 +1,4 @@
-use Rattle.std.proofs.Common.{◌≡◌, ◌≤◌, ◌-◌, ◌+◌, drop, take, length}
+use Rattle.std.proofs.Common.{◌≡◌, ◌≤◌, drop, take, length}
 use Rattle.iol_extent.specs.Spans.{AreInOrder}
 use Rattle.iol_cache.specs.Marks.{Marks}
 use Rattle.iol_cache.specs.Reading.{parts_of_spans, all_entered, AllBeginAt, AreAbsent}

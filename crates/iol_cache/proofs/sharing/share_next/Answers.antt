@@ -1,17 +1,13 @@
-use Rattle.std.proofs.Common.{◌≡◌, ◌∙◌, ◌+◌, ◌-◌, ◌<◌, ◌≤◌, ◌++◌, [], Some, ap, sym, subst, refl, List, ℕ, arith, slice_range}
-use Rattle.iol_core.specs.declared.numbers.BufId.{BufId}
+use Rattle.std.proofs.Common.{◌∙◌, ◌+◌, ◌-◌, ◌++◌, [], ap, sym, subst, List, arith}
 use Rattle.iol_agg.proofs.Holding.{tally-few}
-use Rattle.iol_agg.proofs.Poured.{shares_then}
-use Rattle.iol_extent.specs.Extents.{Extent, end_of, extent_of, extent_over}
-use Rattle.iol_hold.specs.Moves.{Covers, IsCountable, Moves, Shares, tally}
+use Rattle.iol_extent.specs.Extents.{Extent, extent_of}
+use Rattle.iol_hold.specs.Moves.{Covers, Moves, Shares}
 use Rattle.iol_hold.specs.Places.{places}
-use Rattle.iol_hold.specs.Stored.{AllSettled}
 use Rattle.iol_hold.specs.Texts.{AllReadable, bufs_of}
 use Rattle.iol_hold.specs.declared.slices.Slice.{Slice}
 use Rattle.iol_hold.proofs.Counting.{bufs-append, tally-append, tally_none}
 use Rattle.iol_hold.proofs.Reading.{readable_stays}
 use Rattle.iol_hold.proofs.Slicing.{places-append}
-use Rattle.iol_cache.specs.Sharing.{places_over}
 use Rattle.iol_cache.proofs.Shared.{covers_part, covers_shared, given_frees, given_up, over_at, over_readable, over_tally, readable_range, readable_same, run_over, settles_shares}
 use Rattle.iol_cache.proofs.sharing.share_next.Goals as goal
 

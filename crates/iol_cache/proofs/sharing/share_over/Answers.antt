@@ -1,20 +1,18 @@
 use Rattle.std.proofs.lemmas.List.{append-nil}
-use Rattle.std.proofs.Common.{◌≡◌, ◌∙◌, ◌+◌, ◌-◌, ◌<◌, ◌≤◌, ◌++◌, [], IsSome, ap, sym, subst, refl, length, List, ℕ, arith, append_assoc, length-append}
+use Rattle.std.proofs.Common.{◌≡◌, ◌∙◌, ◌+◌, ◌-◌, ◌++◌, ap, sym, refl, length, List, ℕ, arith, append_assoc, length-append}
 use Rattle.iol_core.specs.declared.numbers.BufId.{BufId}
 use Rattle.iol_agg.proofs.Holding.{tally-few}
 use Rattle.iol_agg.proofs.Poured.{shares_then}
 use Rattle.iol_extent.specs.Extents.{Extent}
-use Rattle.iol_hold.specs.Moves.{Covers, Shares, tally}
+use Rattle.iol_hold.specs.Moves.{Shares}
 use Rattle.iol_hold.specs.Places.{byte_len, places}
 use Rattle.iol_hold.specs.Stored.{Stored}
-use Rattle.iol_hold.specs.Texts.{AllReadable, bufs_of}
+use Rattle.iol_hold.specs.Texts.{bufs_of}
 use Rattle.iol_hold.specs.declared.slices.Slice.{Slice}
 use Rattle.iol_hold.proofs.Counting.{tally-append}
-use Rattle.iol_hold.proofs.Moving.{shares_none}
 use Rattle.iol_cache.specs.Gaps.{all_parts}
 use Rattle.iol_cache.specs.Sharing.{IsCovered, places_over}
-use Rattle.iol_cache.proofs.Shared.{covered_over, frees_shares, length-places_over, over_join, over_none, over_there, readable_places, readable_same, settles_shares}
-use Rattle.iol_hold.proofs.Releasing.{frees_trans}
+use Rattle.iol_cache.proofs.Shared.{covered_over, length-places_over, over_join, over_none, over_there, readable_places, readable_same, settles_shares}
 use Rattle.iol_cache.proofs.sharing.share_over.Goals as goal
 
 -- so many bytes so far
@@ -29,8 +27,8 @@ loop-at-init c = record {
   shares = same c.args.store.now (bufs_of c.args.so_far);
 }
   where
-  same : (s : Stored) (xs : List BufId) → Shares s s xs xs
-  same s xs = record { counts = record { each = λ b. refl }; arena = refl; pools = refl; tidy = λ h. h }
+    same : (s : Stored) (xs : List BufId) → Shares s s xs xs
+    same s xs = record { counts = record { each = λ b. refl }; arena = refl; pools = refl; tidy = λ h. h }
 
 pub share_next-requires-clause-covered : goal.share_next-requires-clause-covered
 share_next-requires-clause-covered c = covered_over c.args.extents.now.extents c.loop-at.at (c.requires.covered.each c.loop-at.at c.loop-at.invariant.begun c.loop-at-test.true)

@@ -1,9 +1,9 @@
-use Rattle.std.proofs.Common.{inl, inr, ◌≡◌, ◌∙◌, ◌+◌, ◌<◌, ◌≤◌, ℕ, [], None, length, refl, sym, ap, arith, subst}
+use Rattle.std.proofs.Common.{inl, inr, ◌∙◌, refl, ap, arith, subst}
 use Rattle.std.proofs.lemmas.Bool.{cases_eq, cases_lt}
 use Rattle.iol_evict.specs.Ranking.{Ranking}
 use Rattle.iol_cache.specs.Cached.{order_in}
 use Rattle.iol_cache.specs.Cache.{cached_of, holding}
-use Rattle.iol_cache.specs.Evicting.{EvictsAll, EvictsPools}
+use Rattle.iol_cache.specs.Evicting.{EvictsPools}
 use Rattle.iol_cache.proofs.Filing.{order_nowhere}
 use Rattle.iol_cache.proofs.GivenUp.{gives_up_none, gives_up_trans}
 use Rattle.iol_cache.proofs.Choosing.{pools_more, all_dirty}

@@ -1,4 +1,4 @@
-use Rattle.std.proofs.Common.{◌≡◌, ◌<◌, ◌≤◌, [], ℕ, None, length}
+use Rattle.std.proofs.Common.{◌≡◌, ◌<◌, ◌≤◌, [], ℕ, length}
 use Rattle.iol_cache.specs.Cached.{order_in}
 use Rattle.iol_cache.specs.Cache.{cached_of, holding}
 use Rattle.iol_cache.specs.Evicting.{EvictsPools, GivesUp}

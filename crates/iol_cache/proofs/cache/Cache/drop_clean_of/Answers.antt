@@ -1,4 +1,4 @@
-use Rattle.std.proofs.Common.{◌≡◌, ◌∙◌, ℕ, None, refl}
+use Rattle.std.proofs.Common.{◌∙◌, None, refl}
 use Rattle.iol_cache.specs.Cache.{cached_of, holding}
 use Rattle.iol_cache.specs.Evicting.{in_use}
 use Rattle.iol_cache.proofs.GivenUp.{gives_up_none, gives_up_more}

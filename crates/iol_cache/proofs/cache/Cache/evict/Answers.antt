@@ -1,4 +1,4 @@
-use Rattle.std.proofs.Common.{◌≡◌, ℕ, ◌+◌, ◌-◌, ◌<◌, ◌≤◌, ◌∙◌, List, [], length, get_or, Some, IsSome, refl, sym, ap, arith, subst}
+use Rattle.std.proofs.Common.{◌≡◌, ℕ, ◌<◌, ◌≤◌, ◌∙◌, List, [], length, Some, IsSome, refl, sym, ap, arith, subst}
 use Rattle.iol_hold.specs.Moves.{Covers, Moves}
 use Rattle.iol_hold.specs.Stored.{Stored}
 use Rattle.iol_hold.specs.Texts.{bufs_of, AllReadable}
@@ -6,11 +6,11 @@ use Rattle.iol_hold.specs.declared.slices.Slice.{Slice}
 use Rattle.iol_extent.specs.Extents.{Extent, begins_at}
 use Rattle.iol_evict.specs.Ranking.{Ranking, entry_at}
 use Rattle.iol_cache.specs.declared.files.CachedFile.{CachedFile}
-use Rattle.iol_cache.specs.Marks.{AreWithin, HaveMarks, Unmarks}
-use Rattle.iol_cache.specs.Cached.{Cached, file_in, order_in, extents_in, parts_at, parts_in, held, clean_held}
+use Rattle.iol_cache.specs.Marks.{HaveMarks, Unmarks}
+use Rattle.iol_cache.specs.Cached.{Cached, file_in, order_in, extents_in, parts_at, parts_in}
 use Rattle.iol_cache.specs.Cache.{cached_of, holding}
 use Rattle.iol_cache.specs.Sound.{IsSound, IsLaid}
-use Rattle.iol_cache.specs.Evicting.{IsCleanAt, Evicts}
+use Rattle.iol_cache.specs.Evicting.{IsCleanAt}
 use Rattle.iol_cache.proofs.Filing.{file_at_number, order_at_number, numbered_bounds, numbered_yes, additive_page, each-begins}
 use Rattle.iol_cache.proofs.Using.{clean_numbered, are_within, covers_at, sum-clean_at}
 use Rattle.iol_cache.proofs.Ranked.{clean_ranked, entry_there}

@@ -1,5 +1,5 @@
 use Rattle.std.proofs.Common.{◌≡◌, ◌∙◌, ◌<◌, ◌≤◌, Bool, true, false, Some, length, refl, ap, arith}
-use Rattle.iol_pool.specs.Pools.{Pool, pool_in}
+use Rattle.iol_pool.specs.Pools.{Pool}
 use Rattle.iol_hold.specs.Room.{free_of}
 use Rattle.iol_hold.proofs.Rooms.{open_numbered}
 use Rattle.iol_cache.specs.Cached.{clean_held}
@@ -55,6 +55,8 @@ returns-in_default-clause-room c =
     let t = c.loop-pool.store in
     let m = c.loop-pool.invariant.gives_up in
     let sound = c.loop-pool.invariant.sound in
-    let few : length (free_of t c.args.pool) < c.args.pages = omega (arith, c.report_pool.ensures.free, c.loop-pool-test.true) in
-    ((λ y. absurd (let f : ◌≡◌ {A = Bool} false true = y in cc)), (λ room. absurd (no_room_left s t c.args.pool c.args.pages (clean_held c.args.self.now.files.items) (clean_held c.loop-pool.self.files.items) (same_pages s t c.args.pool m.frees c.requires.open) m.frees m.clean sound.tidy sound.still
-      (λ q there. none_beside t (cached_of c.loop-pool.self) c.args.pool q sound c.in_default.ensures there) few room)))
+    let few : length (free_of t c.args.pool) < c.args.pages = omega (arith, c.report_pool.ensures.free, c.loop-pool-test.true) in (
+      (λ y. absurd (let f : ◌≡◌ {A = Bool} false true = y in cc)),
+      (λ room. absurd (no_room_left s t c.args.pool c.args.pages (clean_held c.args.self.now.files.items) (clean_held c.loop-pool.self.files.items) (same_pages s t c.args.pool m.frees c.requires.open) m.frees m.clean sound.tidy sound.still
+          (λ q there. none_beside t (cached_of c.loop-pool.self) c.args.pool q sound c.in_default.ensures there) few room)),
+    )

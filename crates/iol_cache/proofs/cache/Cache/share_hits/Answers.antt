@@ -1,57 +1,43 @@
-use Rattle.std.proofs.Common.{◌≡◌, ◌∙◌, ℕ, ◌+◌, ◌-◌, ◌<◌, ◌≤◌, List, length, get_or, set, refl, sym, ap, arith, subst}
-use Rattle.std.specs.List.{All}
-use Rattle.iol_core.specs.Numbered.{is_numbered}
+use Rattle.std.proofs.Common.{◌≡◌, ◌∙◌, ◌-◌, set, refl, sym, ap, arith, subst}
 use Rattle.iol_hold.specs.Moves.{Covers}
-use Rattle.iol_hold.specs.Places.{places}
-use Rattle.iol_hold.specs.Stored.{AllSettled}
 use Rattle.iol_hold.specs.Texts.{bufs_of, AllReadable}
-use Rattle.iol_extent.specs.Extents.{Extent, IsApart}
-use Rattle.iol_extent.specs.declared.spans.Span.{Span}
+use Rattle.iol_extent.specs.Extents.{IsApart}
 use Rattle.iol_evict.specs.Ranking.{Ranking}
 use Rattle.iol_cache.specs.declared.files.CachedFile.{CachedFile}
-use Rattle.iol_cache.specs.Cached.{Cached, file_in, extents_in, order_in, with_order}
+use Rattle.iol_cache.specs.Cached.{file_in, extents_in, order_in}
 use Rattle.iol_cache.specs.Cache.{cached_of}
 use Rattle.iol_cache.specs.Gaps.{all_parts}
-use Rattle.iol_cache.specs.Going.{CountsHits}
 use Rattle.iol_cache.specs.Reading.{RanksFile, hits_counted}
-use Rattle.iol_cache.specs.Sharing.{IsCoveredSpan, places_of_spans}
+use Rattle.iol_cache.specs.Weaving.{IsCoveredBeside, places_beside}
 use Rattle.iol_cache.proofs.Filing.{file_at_number, order_at_number, order_set, numbered_bounds}
 use Rattle.iol_cache.proofs.Using.{covers_file}
 use Rattle.iol_cache.proofs.Ranged.{laid_readable}
 use Rattle.iol_cache.proofs.Roomy.{ranks_file}
 use Rattle.iol_cache.proofs.cache.Cache.share_hits.Goals as goal
 
-pub share_spans-requires-clause-apart : goal.share_spans-requires-clause-apart
-share_spans-requires-clause-apart c =
+pub share_beside-requires-clause-apart : goal.share_beside-requires-clause-apart
+share_beside-requires-clause-apart c =
     let fs = c.args.self.now.files.items in
     let x = file_at_number fs c.args.file c.number.result c.index-2.result.now c.number.ensures (numbered_bounds fs c.args.file c.requires.file) c.index-2.ensures in
     subst (λ (y : CachedFile). IsApart 0 y.extents.extents) (sym x) (c.requires.sound.files c.args.file).apart
 
-pub share_spans-requires-clause-covered : goal.share_spans-requires-clause-covered
-share_spans-requires-clause-covered c =
+pub share_beside-requires-clause-covered : goal.share_beside-requires-clause-covered
+share_beside-requires-clause-covered c =
     let fs = c.args.self.now.files.items in
     let x = file_at_number fs c.args.file c.number.result c.index-2.result.now c.number.ensures (numbered_bounds fs c.args.file c.requires.file) c.index-2.ensures in
-    subst (λ (y : CachedFile). All (IsCoveredSpan y.extents.extents) c.args.hits.now) (sym x) c.requires.covered
+    subst (λ (y : CachedFile). IsCoveredBeside y.extents.extents c.args.from c.args.to c.args.gaps.now) (sym x) c.requires.covered
 
-pub share_spans-requires-clause-held : goal.share_spans-requires-clause-held
-share_spans-requires-clause-held c =
+pub share_beside-requires-clause-held : goal.share_beside-requires-clause-held
+share_beside-requires-clause-held c =
     let fs = c.args.self.now.files.items in
     let x = file_at_number fs c.args.file c.number.result c.index-2.result.now c.number.ensures (numbered_bounds fs c.args.file c.requires.file) c.index-2.ensures in
     subst (λ (y : CachedFile). Covers c.args.store.now (bufs_of (all_parts y.extents.extents))) (sym x) (covers_file fs c.args.file c.requires.sound.covered)
 
-pub returns-in_err-pins-clause-settles : goal.returns-in_err-pins-clause-settles
-returns-in_err-pins-clause-settles c = λ all.
+pub share_beside-requires-clause-readable : goal.share_beside-requires-clause-readable
+share_beside-requires-clause-readable c =
     let fs = c.args.self.now.files.items in
-    let f = c.requires.sound.files c.args.file in
     let x = file_at_number fs c.args.file c.number.result c.index-2.result.now c.number.ensures (numbered_bounds fs c.args.file c.requires.file) c.index-2.ensures in
-    c.share_spans.ensures.settles (subst (λ (y : CachedFile). AllReadable c.args.store.now (all_parts y.extents.extents)) (sym x) (laid_readable (file_in fs c.args.file).pool (extents_in fs c.args.file) f.laid)) all
-
-pub returns-clause-settles : goal.returns-clause-settles
-returns-clause-settles c = λ all.
-    let fs = c.args.self.now.files.items in
-    let f = c.requires.sound.files c.args.file in
-    let x = file_at_number fs c.args.file c.number.result c.index-2.result.now c.number.ensures (numbered_bounds fs c.args.file c.requires.file) c.index-2.ensures in
-    c.share_spans.ensures.settles (subst (λ (y : CachedFile). AllReadable c.args.store.now (all_parts y.extents.extents)) (sym x) (laid_readable (file_in fs c.args.file).pool (extents_in fs c.args.file) f.laid)) all
+    subst (λ (y : CachedFile). AllReadable c.args.store.now (all_parts y.extents.extents)) (sym x) (laid_readable (file_in fs c.args.file).pool (extents_in fs c.args.file) (c.requires.sound.files c.args.file).laid)
 
 pub overflow_sub-number : goal.overflow_sub-number
 overflow_sub-number c =
@@ -89,7 +75,7 @@ pub returns-clause-places : goal.returns-clause-places
 returns-clause-places c =
     let fs = c.args.self.now.files.items in
     let x = file_at_number fs c.args.file c.number.result c.index-2.result.now c.number.ensures (numbered_bounds fs c.args.file c.requires.file) c.index-2.ensures in
-    c.in_ok-pins.ensures.places ∙ ap (λ (y : CachedFile). places_of_spans y.extents.extents c.args.hits.now) x
+    c.in_ok-pins.ensures.places ∙ ap (λ (y : CachedFile). places_beside y.extents.extents c.args.from c.args.to c.args.gaps.now) x
 
 pub returns-clause-counted : goal.returns-clause-counted
 returns-clause-counted c =

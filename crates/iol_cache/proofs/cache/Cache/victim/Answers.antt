@@ -1,4 +1,4 @@
-use Rattle.std.proofs.Common.{◌≡◌, ℕ, ◌+◌, ◌-◌, ◌<◌, ◌≤◌, ◌∙◌, List, [], length, get_or, MatchOption, Option, sym, ap, arith, subst}
+use Rattle.std.proofs.Common.{◌≡◌, ℕ, ◌<◌, ◌≤◌, List, [], length, get_or, MatchOption, Option, sym, ap, arith, subst}
 use Rattle.iol_hold.specs.Stored.{Stored}
 use Rattle.iol_evict.specs.Ranking.{Ranking}
 use Rattle.iol_evict.specs.Victims.{IsVictim}

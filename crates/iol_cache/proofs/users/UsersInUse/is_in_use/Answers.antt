@@ -1,11 +1,7 @@
-use Rattle.std.proofs.Common.{◌≡◌, ℕ, ◌<◌, ◌≤◌, ◌-◌, length, ap, sym, ◌∙◌, arith, get_or, List, subst}
+use Rattle.std.proofs.Common.{◌-◌, ap, sym, ◌∙◌, arith, get_or, subst}
 use Rattle.iol_hold.specs.Moves.{Covers}
 use Rattle.iol_hold.specs.Texts.{bufs_of}
-use Rattle.iol_hold.specs.declared.slices.Slice.{Slice}
-use Rattle.iol_extent.specs.Extents.{Extent, extent_over}
-use Rattle.iol_cache.specs.declared.files.CachedFile.{CachedFile}
-use Rattle.iol_cache.specs.Cached.{file_in}
-use Rattle.iol_cache.specs.Evicting.{IsCleanAt}
+use Rattle.iol_extent.specs.Extents.{Extent}
 use Rattle.iol_cache.proofs.Filing.{file_at_number}
 use Rattle.iol_cache.proofs.Using.{clean_numbered, found_is, not_found, used_is, are_within, covers_at}
 use Rattle.iol_cache.proofs.users.UsersInUse.is_in_use.Goals as goal

@@ -1,0 +1,48 @@
+use Rattle.std.proofs.Common.{◌∙◌, sym, ap, subst, refl, length, List}
+use Rattle.iol_hold.specs.declared.slices.Slice.{Slice}
+use Rattle.iol_evict.specs.Ranking.{Ranking}
+use Rattle.iol_extent.specs.Extents.{extent_of, without_at}
+use Rattle.iol_cache.specs.Cached.{parts_in}
+use Rattle.iol_cache.specs.Marks.{AreWithin, HaveMarks, Unmarks}
+use Rattle.iol_cache.specs.Replacing.{Follows}
+use Rattle.iol_cache.proofs.Replaced.{begins_over, clean_goes, dirty_goes, entry_some, marks_of, nothing_begins}
+use Rattle.iol_cache.proofs.replacing.forget.Goals as goal
+
+pub returns-in_default-clause-follows : goal.returns-in_default-clause-follows
+returns-in_default-clause-follows c = absurd (nothing_begins c.args.extents.now.extents c.args.at c.requires.apart c.requires.begins c.in_default.ensures.extent)
+
+pub returns-then-dirty-clause-follows : goal.returns-then-dirty-clause-follows
+returns-then-dirty-clause-follows c =
+    let es = c.args.extents.now.extents in
+    let x = extent_of c.in-Some._begin c.in-Some.agg.now c.in-Some.dirty in
+    dirty_goes c.args.file es c.args.at x c.args.order.now c.args.marks.now (begins_over es c.args.at x c.requires.apart c.requires.begins c.in-Some.ensures.extent) c.if-dirty.true
+
+pub unmark-requires-clause-within : goal.unmark-requires-clause-within
+unmark-requires-clause-within c =
+    let es = c.args.extents.now.extents in
+    let x = extent_of c.in-Some._begin c.in-Some.agg.now c.in-Some.dirty in
+    let begins = begins_over es c.args.at x c.requires.apart c.requires.begins c.in-Some.ensures.extent in
+    subst (λ (xs : List Slice). AreWithin (length c.args.marks.now) xs) (ap parts_in begins ∙ sym c.slices.ensures) c.requires.within
+
+pub unmark-requires-clause-marked : goal.unmark-requires-clause-marked
+unmark-requires-clause-marked c =
+    let es = c.args.extents.now.extents in
+    let x = extent_of c.in-Some._begin c.in-Some.agg.now c.in-Some.dirty in
+    let begins = begins_over es c.args.at x c.requires.apart c.requires.begins c.in-Some.ensures.extent in
+    subst (HaveMarks c.args.marks.now) (sym c.slices.ensures) (marks_of c.args.marks.now es c.args.at x begins c.if-dirty.false c.requires.marked)
+
+pub leave-requires : goal.leave-requires
+leave-requires c =
+    let es = c.args.extents.now.extents in
+    let x = extent_of c.in-Some._begin c.in-Some.agg.now c.in-Some.dirty in
+    let begins = begins_over es c.args.at x c.requires.apart c.requires.begins c.in-Some.ensures.extent in
+    entry_some c.args.file es c.args.at x c.args.order.now c.requires.apart begins c.if-dirty.false c.requires.ranked
+
+pub returns-clause-follows : goal.returns-clause-follows
+returns-clause-follows c =
+    let es = c.args.extents.now.extents in
+    let x = extent_of c.in-Some._begin c.in-Some.agg.now c.in-Some.dirty in
+    let begins = begins_over es c.args.at x c.requires.apart c.requires.begins c.in-Some.ensures.extent in
+    let unmarks = subst (Unmarks c.args.marks.now c.unmark.new.self) c.slices.ensures c.unmark.ensures.unmarks in
+    subst (λ (r : Ranking). Follows c.args.file es (without_at es c.args.at) c.args.order.now r c.args.marks.now c.unmark.new.self) (sym (c.leave.ensures.left refl))
+    (clean_goes c.args.file es c.args.at x c.args.order.now c.args.marks.now c.unmark.new.self c.requires.apart begins c.if-dirty.false c.requires.ranked unmarks)

@@ -1,0 +1,31 @@
+-- A range of a file: the bytes beside its gaps, which were shared first, and those of its gaps.
+use Rattle.std.specs.Prelude.{ℕ, ◌+◌, ◌-◌, List, [], ◌∷◌, ◌++◌, take, drop}
+use Rattle.iol_extent.specs.Extents.{Extent}
+use Rattle.iol_extent.specs.declared.spans.Span.{Span}
+use Rattle.iol_hold.specs.Places.{Place}
+use Rattle.iol_cache.specs.Sharing.{IsCovered, places_over}
+
+-- how many bytes of at..to lie beside these gaps
+abbrev pub len_beside : (at to : ℕ) → List Span → ℕ
+len_beside at to [] = to - at
+len_beside at to (g ∷ gs) = (g.from - at) + len_beside g.to to gs
+
+-- where the bytes of at..to lie that are beside these gaps
+abbrev pub places_beside : List Extent → (at to : ℕ) → List Span → List Place
+places_beside es at to [] = places_over es at to
+places_beside es at to (g ∷ gs) = places_over es at g.from ++ places_beside es g.to to gs
+
+-- the places of at..to, with those of the gaps among these
+abbrev pub woven : List Place → List Extent → (at to : ℕ) → List Span → List Place
+woven ps es at to [] = take (to - at) ps
+woven ps es at to (g ∷ gs) = take (g.from - at) ps ++ places_over es g.from g.to ++ woven (drop (g.from - at) ps) es g.to to gs
+
+-- where a read finds the bytes of at..to: the gaps in the new extents, all others where they lay
+abbrev pub places_read : (old new : List Extent) → (at to : ℕ) → List Span → List Place
+places_read old new at to [] = places_over old at to
+places_read old new at to (g ∷ gs) = places_over old at g.from ++ places_over new g.from g.to ++ places_read old new g.to to gs
+
+-- the bytes of at..to that are beside these gaps lie under extents
+abbrev pub IsCoveredBeside : List Extent → (at to : ℕ) → List Span → Type 0
+IsCoveredBeside es at to [] = IsCovered es at to
+IsCoveredBeside es at to (g ∷ gs) = IsCovered es at g.from × IsCoveredBeside es g.to to gs

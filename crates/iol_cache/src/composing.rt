@@ -1,0 +1,191 @@
+//! The bytes of a write, as an aggregate of the file's pool: its own are shared, and each run of others is copied.
+ghost use Rattle.std.specs.Prelude.{◌≡◌, ℕ, ◌+◌, ◌-◌, ◌==◌, ◌<◌, ◌≤◌, ◌^◌, [], All, Bool, not, true, false, length, take, drop, slice_index_or, Err, IfOk, IfErr, OnOk, OnErr};
+ghost use Rattle.iol_arena.specs.State.{pages_for};
+ghost use Rattle.iol_cache.specs.Composing.{Composes, ComposesRun, copied_pages, pages_after};
+ghost use Rattle.iol_cache.specs.Loading.{PlacesSome};
+ghost use Rattle.iol_cache.specs.Sharing.{CountsBelow};
+ghost use Rattle.iol_core.specs.Meaning.{WantOfRoom};
+ghost use Rattle.iol_core.specs.Text as text;
+ghost use Rattle.iol_hold.specs.Moves.{Covers, IsCountable, Moves, SameLists};
+ghost use Rattle.iol_hold.specs.Places.{byte_len};
+ghost use Rattle.iol_hold.specs.Room.{free_of};
+ghost use Rattle.iol_hold.specs.Stored.{AllSettled, IsTidy};
+ghost use Rattle.iol_hold.specs.Texts.{AllReadable, bufs_of, text_of};
+ghost use Rattle.iol_hold.specs.declared.slices.Slice.{Slice};
+ghost use Rattle.iol_pool.specs.Pools.{pool_in};
+
+use iol_agg::Agg;
+use iol_core::limits::{MAX_AGGREGATE_BYTES, PAGE_BYTES};
+use iol_core::numbers::PoolId;
+use iol_core::refusals::Refusal;
+use iol_hold::{Slice, Store};
+use std::alloc::{AllocError, Global};
+
+// How many slices, from the first on, are of the pool, or are of others, and how many bytes they have.
+fn run_of(slices: &[Slice], pool: PoolId, own: bool) -> (usize, u32)
+    requires { byte_len slices.now < 2 ^ 32 }
+    ensures within { result.0 ≤ length slices.now }
+    ensures bytes { result.1 ≡ byte_len (take result.0 slices.now) }
+    ensures all { All (λ x. (x.hold.pool == pool) ≡ own) (take result.0 slices.now) }
+    ensures ends { (d : Slice) → result.0 < length slices.now →
+        ((slice_index_or slices.now result.0 d).hold.pool == pool) ≡ not own }
+{
+    let mut count = 0;
+    let mut bytes = 0;
+    for slice in slices {
+        let is_own = slice.hold.pool().number() == pool.number();
+        if is_own != own {
+            return (count, bytes);
+        }
+        count += 1;
+        bytes += slice.len;
+    }
+    (count, bytes)
+}
+
+/// How many pages of a pool the bytes of an aggregate need there, where those of other pools are copied.
+pub(crate) fn foreign_pages(source: &Agg, pool: PoolId) -> u32
+    requires { byte_len source.now ≤ MAX_AGGREGATE_BYTES }
+    ensures { result ≡ copied_pages pool source.now }
+{
+    let mut pages = 0;
+    let mut run: u32 = 0;
+    for slice in source.slices() {
+        if slice.hold.pool().number() == pool.number() {
+            pages += run.div_ceil(PAGE_BYTES as u32);
+            run = 0;
+        } else {
+            run += slice.len;
+        }
+    }
+    pages + run.div_ceil(PAGE_BYTES as u32)
+}
+
+// A copy of the bytes of slices.
+fn bytes_of(alloc: Global, store: &Store, slices: &[Slice]) -> Result<Vec<u8>, AllocError>
+    requires { AllReadable store.now slices.now }
+    ensures { IfOk result (λ bytes. bytes.items ≡ text.bytes_of (text_of store.now slices.now)) }
+{
+    let mut bytes = Vec::new(alloc);
+    for slice in slices {
+        bytes.extend_from_slice(slice.bytes(store))?;
+    }
+    Ok(bytes)
+}
+
+// The bytes of slices of other pools, copied into new buffers of the pool.
+fn copy_run(alloc: Global, store: &mut Store, pool: PoolId, run: &[Slice]) -> Result<Agg, Refusal>
+    requires open { (pool_in store.old.pools pool).closed ≡ false }
+    requires small { byte_len run.now ≤ MAX_AGGREGATE_BYTES }
+    requires readable { AllReadable store.old run.now }
+    requires tidy { IsTidy store.old }
+    requires others { All (λ x. (x.hold.pool == pool) ≡ false) run.now }
+    ensures composes { IfOk result
+        (Composes store.old store.new pool (pages_for (byte_len run.now)) run.now) }
+    ensures no_room { (p : ℕ) → result ≡ Err (Refusal.NoRoom p) →
+        length (free_of store.old pool) < pages_for (byte_len run.now) }
+    ensures late { IfErr result (WantOfRoom pool) }
+    ensures err { OnErr result (store.new ≡ store.old) }
+{
+    let bytes = bytes_of(alloc, store, run)?;
+    let copy = match Agg::fill(alloc, store, pool, &bytes) {
+        Ok(copy) => copy,
+        Err(refusal) => return Err(refusal),
+    };
+    Ok(copy)
+}
+
+// Composes the run of slices from the i-th on, whose first byte is at place `at`, and tells which slice is next.
+fn compose_run(
+    alloc: Global,
+    store: &mut Store,
+    pool: PoolId,
+    source: &Agg,
+    i: usize,
+    at: u32,
+) -> Result<(usize, u32, Agg), Refusal>
+    requires there { i < length source.now }
+    requires at { at ≡ byte_len (take i source.now) }
+    requires small { byte_len source.now ≤ MAX_AGGREGATE_BYTES }
+    requires open { (pool_in store.old.pools pool).closed ≡ false }
+    requires covered { Covers store.old (bufs_of source.now) }
+    requires countable { IsCountable store.old (bufs_of source.now) }
+    requires readable { AllReadable store.old source.now }
+    requires tidy { IsTidy store.old }
+    ensures further { IfOk result (λ r. i < r.0) }
+    ensures within { IfOk result (λ r. r.0 ≤ length source.now) }
+    ensures ends { IfOk result (λ r. r.1 ≡ byte_len (take r.0 source.now)) }
+    ensures composes { IfOk result (λ r. ComposesRun store.old store.new pool
+        (drop i source.now) (drop r.0 source.now) r.2) }
+    ensures no_room { (p : ℕ) → result ≡ Err (Refusal.NoRoom p) →
+        length (free_of store.old pool) < copied_pages pool (drop i source.now) }
+    ensures late { IfErr result (WantOfRoom pool) }
+    ensures err { OnErr result (store.new ≡ store.old) }
+{
+    let slices = source.slices();
+    let own = slices[i].hold.pool().number() == pool.number();
+    let (count, bytes) = run_of(&slices[i..], pool, own);
+    let next = i + count;
+    let end = at + bytes;
+    if own {
+        let Ok(shared) = source.cut(alloc, store, at, end) else {
+            return Err(Refusal::Memory);
+        };
+        return Ok((next, end, shared));
+    }
+    let copy = match copy_run(alloc, store, pool, &slices[i..next]) {
+        Ok(copy) => copy,
+        Err(refusal) => return Err(refusal),
+    };
+    Ok((next, end, copy))
+}
+
+/// The bytes of an aggregate in an open pool: those that lie there already are shared, and each maximal run of others is
+/// copied to its lowest free pages.
+pub(crate) fn compose(
+    alloc: Global,
+    store: &mut Store,
+    pool: PoolId,
+    source: &Agg,
+) -> Result<Agg, Refusal>
+    requires small { byte_len source.now ≤ MAX_AGGREGATE_BYTES }
+    requires open { (pool_in store.old.pools pool).closed ≡ false }
+    requires covered { Covers store.old (bufs_of source.now) }
+    requires few { CountsBelow store.old (2 ^ 62) }
+    requires readable { AllReadable store.old source.now }
+    requires tidy { IsTidy store.old }
+    ensures composes { IfOk result
+        (Composes store.old store.new pool (copied_pages pool source.now) source.now) }
+    ensures none { OnErr result (Moves store.old store.new [] []) }
+    ensures given_back { OnErr result (PlacesSome store.old store.new pool) }
+    ensures lists { SameLists store.old store.new }
+    ensures settles { AllSettled store.old → AllSettled store.new }
+    ensures no_room { (p : ℕ) → result ≡ Err (Refusal.NoRoom p) →
+        length (free_of store.old pool) < copied_pages pool source.now }
+    ensures late { IfErr result (WantOfRoom pool) }
+{
+    let mut so_far = Agg::new(alloc);
+    let mut i = 0;
+    let mut at = 0;
+    while i < source.slices().len() {
+        let (next, end, more) = match compose_run(alloc, store, pool, source, i, at) {
+            Ok(composed) => composed,
+            Err(refusal) => {
+                so_far.release(store);
+                return Err(refusal);
+            }
+        };
+        so_far = match so_far.join(more) {
+            Ok(joined) => joined,
+            Err(failed) => {
+                let (so_far, more) = failed.value;
+                so_far.release(store);
+                more.release(store);
+                return Err(Refusal::Memory);
+            }
+        };
+        i = next;
+        at = end;
+    }
+    Ok(so_far)
+}
