@@ -16,5 +16,6 @@ mod replacing;
 mod sharing;
 mod users;
 mod weaving;
+mod writing;
 
 pub use cache::Cache;
