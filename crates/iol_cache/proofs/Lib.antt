@@ -26,3 +26,4 @@ pub mod Completed
 pub mod Stepping
 pub mod Woven
 pub mod Replaced
+pub mod Written

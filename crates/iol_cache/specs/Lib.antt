@@ -15,3 +15,4 @@ pub mod Composing
 pub mod Cutting
 pub mod Going
 pub mod Replacing
+pub mod Writing

@@ -33,5 +33,6 @@ mod replacing;
 mod sharing;
 mod users;
 mod weaving;
+mod writing;
 
 pub use cache::Cache;

@@ -1,0 +1,32 @@
+-- What a write does to a store and a cache over it.
+use Rattle.std.specs.Prelude.{◌≡◌, ℕ, List, ◌++◌}
+use Rattle.iol_hold.specs.Moves.{Moves, SameLists}
+use Rattle.iol_hold.specs.Releases.{FreesOnly}
+use Rattle.iol_hold.specs.Stored.{AllSettled}
+use Rattle.iol_hold.specs.Texts.{bufs_of}
+use Rattle.iol_hold.specs.declared.slices.Slice.{Slice}
+use Rattle.iol_evict.specs.Ranking.{Ranking}
+use Rattle.iol_extent.specs.Extents.{Adds, Extent, ExtentMap, IsApart, unmet}
+use Rattle.iol_cache.specs.Cached.{extents_in, file_in, order_in, with_file, with_order}
+use Rattle.iol_cache.specs.Evicting.{Holding}
+use Rattle.iol_cache.specs.Gaps.{all_parts}
+use Rattle.iol_cache.specs.Replacing.{Follows, put_some}
+
+-- the slices of the parts on both sides of a range, and of the new bytes
+abbrev pub parts_put : (left right e : Extent) → List Slice
+parts_put left right e = left.parts ++ (right.parts ++ e.parts)
+
+-- In place of what a file's range met came the parts on both sides of it, and an extent of new bytes.
+pub record PutsOver (f from to : ℕ) (left right e : Extent) (old new : Holding) : Type 0 where
+  pub extents : ExtentMap
+  pub order : Ranking
+  pub is : extents.extents ≡ put_some (put_some (put_some (unmet (extents_in old.cache.files f) from to) left) right) e
+  pub adds : Adds (extents_in old.cache.files f) e extents.extents
+  pub apart : IsApart 0 extents.extents
+  pub files : new.cache.files ≡ with_file old.cache.files f (record { pool = (file_in old.cache.files f).pool; extents = extents })
+  pub orders : new.cache.orders ≡ with_order old.cache.orders (file_in old.cache.files f).pool order
+  pub follows : Follows f (extents_in old.cache.files f) extents.extents (order_in old.cache.orders (file_in old.cache.files f).pool) order old.cache.marks new.cache.marks
+  pub moves : Moves old.store new.store (bufs_of (all_parts (extents_in old.cache.files f) ++ parts_put left right e)) (bufs_of (all_parts extents.extents))
+  pub frees : FreesOnly old.store new.store
+  pub lists : SameLists old.store new.store
+  pub settles : AllSettled old.store → AllSettled new.store
