@@ -1,6 +1,8 @@
-//! Tests of `iol_sum`, in a crate of their own: a crate with tests is proved twice.
+//! Tests of `iol_sum` and `iol_sock`, in a crate of their own: a crate with tests is proved twice.
 #![tactic(auto)]
 
+#[cfg(test)]
+mod connections;
 #[cfg(test)]
 mod remembered;
 #[cfg(test)]
