@@ -1,16 +1,16 @@
-use Rattle.std.proofs.Common.{◌≡◌, ◌∙◌, ℕ, ◌+◌, ◌-◌, ◌<◌, ◌≤◌, ◌++◌, List, length, set, refl, sym, ap, arith, subst}
+use Rattle.std.proofs.Common.{◌∙◌, ◌-◌, ◌++◌, set, sym, ap, arith, subst}
 use Rattle.iol_hold.specs.Moves.{Covers, Moves}
 use Rattle.iol_hold.specs.Texts.{bufs_of, AllReadable}
-use Rattle.iol_extent.specs.Extents.{Adds, Extent, ExtentMap, IsApart, end_of, last_end, unmet}
+use Rattle.iol_extent.specs.Extents.{Adds, IsApart, unmet}
 use Rattle.iol_evict.specs.Ranking.{Ranking}
 use Rattle.iol_cache.specs.declared.files.CachedFile.{CachedFile}
-use Rattle.iol_cache.specs.Cached.{file_in, extents_in, order_in}
+use Rattle.iol_cache.specs.Cached.{file_in, extents_in}
 use Rattle.iol_cache.specs.Cache.{cached_of, holding}
 use Rattle.iol_cache.specs.Cutting.{CutsLeft, CutsRight}
 use Rattle.iol_cache.specs.Gaps.{all_parts}
 use Rattle.iol_cache.specs.Reading.{RanksFile}
 use Rattle.iol_cache.specs.Replacing.{Follows, HaveClean, put_some}
-use Rattle.iol_cache.specs.Writing.{PutsOver, parts_put}
+use Rattle.iol_cache.specs.Writing.{parts_put}
 use Rattle.iol_cache.proofs.Filing.{file_at_number, file_set, order_at_number, order_set, numbered_bounds}
 use Rattle.iol_cache.proofs.Ranged.{laid_readable}
 use Rattle.iol_cache.proofs.Roomy.{ranks_file}
