@@ -25,4 +25,6 @@ pub mod Roomy
 pub mod Completed
 pub mod Stepping
 pub mod Woven
+pub mod Steps
+pub mod Tiled
 pub mod Replaced

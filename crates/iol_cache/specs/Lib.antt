@@ -14,4 +14,5 @@ pub mod Reading
 pub mod Composing
 pub mod Cutting
 pub mod Going
+pub mod Ranges
 pub mod Replacing
