@@ -18,11 +18,14 @@ use Rattle.iol_hold.proofs.Moving.{stays_trans, moves_none}
 use Rattle.iol_hold.proofs.Releasing.{frees_trans, frees_none}
 use Rattle.iol_extent.specs.Extents.{Extent, Cell, cover, cell_at, is_over, end_of, IsApart, begins_at, without_at}
 use Rattle.iol_cache.specs.declared.files.CachedFile.{CachedFile}
-use Rattle.iol_cache.specs.Cached.{Cached, file_in, extents_in, parts_in, parts_at, slices_in, held, clean_held, lacking, without_extent}
+use Rattle.iol_cache.specs.Cached.{Cached, file_in, with_file, order_in, with_order, extents_in, parts_in, parts_at, slices_in, held, clean_held, lacking, without_extent, with_evicted}
 use Rattle.iol_cache.specs.Contents.{file_byte, file_bytes, file_len, byte_in, read_or, IsStored, AreStored, Mirrors}
 use Rattle.iol_cache.specs.Sound.{Each, IsLaid, IsSound}
-use Rattle.iol_cache.specs.Evicting.{Holding, IsCleanAt, Evicts, GivesUp}
-use Rattle.iol_cache.proofs.Filing.{file_same, file_other, additive_tally, each-without_at}
+use Rattle.iol_cache.specs.Evicting.{Holding, IsCleanAt, Evicts, KeepsPlaces, GivesUp}
+use Rattle.iol_cache.proofs.Filing.{file_same, file_other, order_same, order_other, length-with_file, numbered_bounds, numbered_yes, additive_tally, each-without_at}
+use Rattle.iol_evict.specs.Ranking.{Ranking, evicted_at, left_at, entry_or, lowered, lowered_by}
+use Rattle.iol_evict.specs.declared.entry.TheConstants.{MAX_LOW}
+use Rattle.std.specs.Prelude.{nat_lt}
 use Rattle.iol_cache.proofs.Extending.{over_yes, begins_above, cover-without_at, cover-begins, last_end-without_at, byte_stays}
 use Rattle.iol_cache.proofs.Using.{clean_numbered, covers_file}
 use Rattle.iol_cache.proofs.Evicted.{held_less, clean_less, covers_evicted}
@@ -134,6 +137,61 @@ frees_then {a = a} {b = b} {c = c} m n fewer = record {
   ];
 }
 
+keeps_none : (c : Cached) → KeepsPlaces c c
+keeps_none c = record { count = refl; pools = λ f. refl; gaps = λ f i h. h; rooms = λ f. omega arith; entries = λ p. omega arith }
+
+keeps_trans : (a b c : Cached) → KeepsPlaces a b → KeepsPlaces b c → KeepsPlaces a c
+keeps_trans a b c m n = record {
+  count = n.count ∙ m.count;
+  pools = λ f. n.pools f ∙ m.pools f;
+  gaps = λ f i h. n.gaps f i (m.gaps f i h);
+  rooms = λ f. omega (arith, m.rooms f, n.rooms f);
+  entries = λ p. omega (arith, m.entries p, n.entries p);
+}
+
+lowered_room : (r : Ranking) → (lowered r).room ≡ r.room
+lowered_room r = pick (nat_lt MAX_LOW r.low) where
+  pick : (b : Bool) → (cond b (let x : Ranking = record { low = 0; entries = map (lowered_by r.low) r.entries; room = r.room } in x) r).room ≡ r.room
+  pick true = refl
+  pick false = refl
+
+evicted_room : (r : Ranking) (f at : ℕ) → r.room ≤ (evicted_at r f at).room
+evicted_room r f at = omega (arith, lowered_room (record (left_at r f at) { low = (entry_or r.entries f at).height }))
+
+keeps_evicted : (a b : Holding) (f at : ℕ) → IsSound a.store a.cache → Evicts f at a b → KeepsPlaces a.cache b.cache
+keeps_evicted a b f at sound gone =
+    let fs = a.cache.files in
+    let x = lacking (file_in fs f) at in
+    let numbered = clean_numbered gone.there in
+    let p = (file_in fs f).pool in
+    let r = evicted_at (order_in a.cache.orders p) f at in
+    let ob = numbered_bounds a.cache.orders p (sound.opened f (numbered_yes fs f numbered.0 numbered.1)).ordered in
+    record {
+      count = ap length gone.files ∙ length-with_file fs f x;
+      pools = λ g. ap (λ gs. (file_in gs g).pool) gone.files ∙ elim (cases_eq g f) [
+        | inl same ↦ ap (λ n. (file_in (with_file fs f x) n).pool) same ∙ ap (λ (y : CachedFile). y.pool) (file_same fs f x numbered.0 numbered.1) ∙ ap (λ n. (file_in fs n).pool) (sym same)
+        | inr ne ↦ ap (λ (y : CachedFile). y.pool) (file_other fs f g x ne)
+      ];
+      gaps = λ g i h. ap (λ gs. cover (extents_in gs g) i) gone.files ∙ elim (cases_eq g f) [
+        | inl same ↦ (
+            let is : extents_in (with_file fs f x) g ≡ without_at (extents_in fs f) at = ap (extents_in (with_file fs f x)) same ∙ ap (λ (y : CachedFile). y.extents.extents) (file_same fs f x numbered.0 numbered.1) in
+            ap (λ es. cover es i) is ∙ cover-without_at 0 (extents_in fs f) at gone.there.extent i (sound.files f).apart gone.there.begins ∙ still (is_over gone.there.extent i) (cover (extents_in fs f) i) (ap (λ n. cover (extents_in fs n) i) (sym same) ∙ h))
+        | inr ne ↦ ap (λ (y : CachedFile). cover y.extents.extents i) (file_other fs f g x ne) ∙ h
+      ];
+      rooms = λ g. elim (cases_eq g f) [
+        | inl same ↦ omega (arith, ap (λ gs. (file_in gs g).extents.room) gone.files, ap (λ n. (file_in (with_file fs f x) n).extents.room) same, ap (λ (y : CachedFile). y.extents.room) (file_same fs f x numbered.0 numbered.1), ap (λ n. (file_in fs n).extents.room) same)
+        | inr ne ↦ omega (arith, ap (λ gs. (file_in gs g).extents.room) gone.files, ap (λ (y : CachedFile). y.extents.room) (file_other fs f g x ne))
+      ];
+      entries = λ q. elim (cases_eq q p) [
+        | inl same ↦ omega (arith, ap (λ os. (order_in os q).room) gone.orders, ap (λ n. (order_in (with_order a.cache.orders p r) n).room) same, ap (λ (y : Ranking). y.room) (order_same a.cache.orders p r ob.0 ob.1), ap (λ n. (order_in a.cache.orders n).room) same, evicted_room (order_in a.cache.orders p) f at)
+        | inr ne ↦ omega (arith, ap (λ os. (order_in os q).room) gone.orders, ap (λ (y : Ranking). y.room) (order_other a.cache.orders p q r ne))
+      ];
+    }
+  where
+    still : (b : Bool) (o : Option Cell) → o ≡ None → cond b None o ≡ None
+    still true o is = refl
+    still false o is = is
+
 pub gives_up_trans : (a b c : Holding) → GivesUp a b → GivesUp b c → GivesUp a c
 gives_up_trans a b c m n = record {
   moves = record {
@@ -149,6 +207,7 @@ gives_up_trans a b c m n = record {
   settles = λ h. n.settles (m.settles h);
   mirrors = λ slots h. n.mirrors slots (m.mirrors slots h);
   files = λ slots h. record { each = λ f. (n.files slots (m.mirrors slots h)).each f ∙ (m.files slots h).each f };
+  keeps = keeps_trans a.cache b.cache c.cache m.keeps n.keeps;
 }
 
 -- Evictions one after another.
@@ -163,6 +222,7 @@ gives_up_none h = record {
   settles = λ x. x;
   mirrors = λ slots m. m;
   files = λ slots m. record { each = λ f. refl };
+  keeps = keeps_none h.cache;
 }
 
 pub gives_up_more : (a b c : Holding) (f at : ℕ) → GivesUp a b → IsSound b.store b.cache → Evicts f at b c → GivesUp a c
@@ -188,4 +248,5 @@ gives_up_more a b c f at m sound gone =
       settles = λ h. gone.settles (m.settles h);
       mirrors = λ slots h. record { each = λ g. (slot slots h g).mirrors };
       files = λ slots h. record { each = λ g. (slot slots h g).bytes ∙ (m.files slots h).each g };
+      keeps = keeps_trans a.cache b.cache c.cache m.keeps (keeps_evicted b c f at sound gone);
     }

@@ -25,5 +25,7 @@ pub mod Roomy
 pub mod Completed
 pub mod Stepping
 pub mod Woven
+pub mod Steps
+pub mod Tiled
 pub mod Replaced
 pub mod Written

@@ -7,7 +7,7 @@ use Rattle.iol_hold.specs.Moves.{Moves, Counts, SameLists}
 use Rattle.iol_hold.specs.Releases.{FreesOnly}
 use Rattle.iol_hold.specs.Room.{free_of}
 use Rattle.iol_hold.specs.Texts.{bufs_of}
-use Rattle.iol_extent.specs.Extents.{Extent, begins_at}
+use Rattle.iol_extent.specs.Extents.{Extent, begins_at, cover}
 use Rattle.iol_evict.specs.Victims.{IsVictim}
 use Rattle.iol_cache.specs.declared.files.CachedFile.{CachedFile}
 use Rattle.iol_cache.specs.Marks.{is_held_beside}
@@ -70,6 +70,14 @@ abbrev pub AllDirty : List Extent → Type 0
 AllDirty [] = Unit {0}
 AllDirty (e ∷ es) = (e.dirty ≡ true) × AllDirty es
 
+-- no file came or went, nothing lies where nothing lay, and there is no less room for extents and entries
+pub record KeepsPlaces (old new : Cached) : Type 0 where
+  pub count : length new.files ≡ length old.files
+  pub pools : (f : ℕ) → (file_in new.files f).pool ≡ (file_in old.files f).pool
+  pub gaps : (f i : ℕ) → cover (extents_in old.files f) i ≡ None → cover (extents_in new.files f) i ≡ None
+  pub rooms : (f : ℕ) → (file_in old.files f).extents.room ≤ (file_in new.files f).extents.room
+  pub entries : (p : ℕ) → (order_in old.orders p).room ≤ (order_in new.orders p).room
+
 -- What evictions leave, whichever they were: slices of clean extents were released, and every file has its bytes.
 pub record GivesUp (old new : Holding) : Type 0 where
   pub moves : Moves old.store new.store (held old.cache.files) (held new.cache.files)
@@ -80,3 +88,4 @@ pub record GivesUp (old new : Holding) : Type 0 where
   pub settles : AllSettled old.store → AllSettled new.store
   pub mirrors : (slots : List (List ℕ)) → Mirrors old.store slots old.cache.files → Mirrors new.store slots new.cache.files
   pub files : (slots : List (List ℕ)) → Mirrors old.store slots old.cache.files → SameFiles old.store old.cache.files new.store new.cache.files slots
+  pub keeps : KeepsPlaces old.cache new.cache

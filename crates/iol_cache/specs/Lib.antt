@@ -14,5 +14,6 @@ pub mod Reading
 pub mod Composing
 pub mod Cutting
 pub mod Going
+pub mod Ranges
 pub mod Replacing
 pub mod Writing

@@ -1,5 +1,5 @@
 //! Reading of files.
-ghost use Rattle.std.specs.Prelude.{◌≡◌, ℕ, ◌+◌, ◌-◌, ◌/◌, ◌<◌, ◌≤◌, ◌^◌, [], All, length, true, false, Err, OnOk, OnErr, IfOk, IfErr, min, take, drop};
+ghost use Rattle.std.specs.Prelude.{◌≡◌, ℕ, ◌<◌, ◌≤◌, ◌^◌, [], All, length, true, Err, OnOk, OnErr, IfOk, IfErr};
 ghost use Rattle.iol_core.specs.Meaning.{WantOfRoomOrFault};
 ghost use Rattle.iol_core.specs.Numbered.{is_numbered};
 ghost use Rattle.iol_hold.specs.Moves.{Moves, Covers, Shares, SameLists};
@@ -14,6 +14,7 @@ ghost use Rattle.iol_cache.specs.Cache.{cached_of, holding};
 ghost use Rattle.iol_cache.specs.Gaps.{gap_pages};
 ghost use Rattle.iol_cache.specs.Going.{CountsHits, FillsFile};
 ghost use Rattle.iol_cache.specs.Loading.{Asks, PlacesSome};
+ghost use Rattle.iol_cache.specs.Ranges.{PinsRange};
 ghost use Rattle.iol_cache.specs.Reading.{SameButRoom};
 ghost use Rattle.iol_cache.specs.Sharing.{CountsBelow};
 ghost use Rattle.iol_cache.specs.Sound.{IsSound};
@@ -168,5 +169,35 @@ impl Cache {
             gaps,
         );
         Ok(agg)
+    }
+
+    // The gaps of a range, for which there is room in the file and in the order, and the bytes beside them, shared. The
+    // hits are counted.
+    fn pin(
+        &mut self,
+        alloc: Global,
+        store: &mut Store,
+        file: FileId,
+        from: u32,
+        to: u32,
+    ) -> Result<(Agg, Vec<Span>), AllocError>
+        requires sound { IsSound store.old (cached_of self.old) }
+        requires file { is_numbered self.old.files.items file ≡ true }
+        requires ordered { from ≤ to }
+        requires few { CountsBelow store.old (2 ^ 59) }
+        ensures pinned { IfOk result (λ x. PinsRange file from to
+            (holding store.old self.old) (holding store.new self.new) x.0 x.1.items) }
+        ensures sound { IsSound store.new (cached_of self.new) }
+        ensures same { OnErr result (SameButRoom (cached_of self.old) (cached_of self.new)) }
+        ensures none { OnErr result (Moves store.old store.new [] []) }
+        ensures frees { FreesOnly store.old store.new }
+        ensures lists { SameLists store.old store.new }
+        ensures settles { AllSettled store.old → AllSettled store.new }
+    {
+        let place = file.number() as usize - 1;
+        let found = self.files[place].extents.find(alloc, from, to)?;
+        self.reserve(file, found.gaps.len())?;
+        let pins = self.share_hits(alloc, store, file, from, to, &found.hits, &found.gaps)?;
+        Ok((pins, found.gaps))
     }
 }

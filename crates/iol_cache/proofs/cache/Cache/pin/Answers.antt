@@ -1,0 +1,75 @@
+use Rattle.std.proofs.Common.{◌≡◌, ◌∙◌, List, length, refl, sym, ap, arith, subst}
+use Rattle.iol_core.specs.Numbered.{is_numbered}
+use Rattle.iol_hold.specs.Stored.{Stored}
+use Rattle.iol_hold.specs.Moves.{Shares}
+use Rattle.iol_hold.specs.Texts.{bufs_of}
+use Rattle.iol_hold.proofs.Moving.{shares_move}
+use Rattle.iol_extent.specs.Extents.{Extent}
+use Rattle.iol_extent.specs.Spans.{Tile}
+use Rattle.iol_extent.specs.declared.spans.Span.{Span}
+use Rattle.iol_cache.specs.declared.cache.Cache.{Cache}
+use Rattle.iol_cache.specs.declared.files.CachedFile.{CachedFile}
+use Rattle.iol_cache.specs.Cached.{Cached, file_in, extents_in, order_in}
+use Rattle.iol_cache.specs.Cache.{cached_of}
+use Rattle.iol_cache.specs.Going.{CountsHits}
+use Rattle.iol_cache.specs.Sound.{IsSound}
+use Rattle.iol_cache.specs.Weaving.{IsCoveredBeside, places_beside}
+use Rattle.iol_cache.proofs.Filing.{file_at_number, numbered_bounds}
+use Rattle.iol_cache.proofs.Roomy.{sound_same, sound_hits}
+use Rattle.iol_cache.proofs.Stepping.{sound_on, sound_to}
+use Rattle.iol_cache.proofs.Steps.{hits_entries_left, numbered_same}
+use Rattle.iol_cache.proofs.Tiled.{tile_beside}
+use Rattle.iol_cache.proofs.Woven.{still_covers}
+use Rattle.iol_cache.proofs.cache.Cache.pin.Goals as goal
+
+pub share_hits-requires-clause-covered : goal.share_hits-requires-clause-covered
+share_hits-requires-clause-covered c =
+    let fs = c.args.self.now.files.items in
+    let x = file_at_number fs c.args.file c.number.result c.index.result.now c.number.ensures (numbered_bounds fs c.args.file c.requires.file) c.index.ensures in
+    let tile = subst (λ (y : CachedFile). Tile y.extents.extents c.args.from c.args.to c.in_ok-found.found.hits.items c.in_ok-found.found.gaps.items) x c.in_ok-found.ensures in
+    let beside = tile_beside (extents_in fs c.args.file) c.args.from c.args.to c.in_ok-found.found.hits.items c.in_ok-found.found.gaps.items tile in
+    let here = subst (λ (es : List Extent). IsCoveredBeside es c.args.from c.args.to c.in_ok-found.found.gaps.items) (sym (c.reserve.ensures.same.extents c.args.file)) beside in
+    subst (λ (gs : List Span). IsCoveredBeside (extents_in c.reserve.new.self.files.items c.args.file) c.args.from c.args.to gs) (sym c.deref-2.ensures.value) here
+
+pub returns-in_err-pins-clause-sound : goal.returns-in_err-pins-clause-sound
+returns-in_err-pins-clause-sound c =
+    let s = c.args.store.now in
+    let t = c.share_hits.new.store in
+    let now = cached_of c.reserve.new.self in
+    let sound = sound_same s (cached_of c.args.self.now) now c.requires.sound c.reserve.ensures.same in
+    subst (λ (x : Cache). IsSound t (cached_of x)) (sym c.in_err-pins.ensures.err) (sound_to s t now sound c.in_err-pins.ensures.none c.share_hits.ensures.lists c.share_hits.ensures.frees.count)
+
+pub returns-clause-pinned : goal.returns-clause-pinned
+returns-clause-pinned c =
+    let fs = c.args.self.now.files.items in
+    let s = c.args.store.now in
+    let now = cached_of c.reserve.new.self in
+    let next = cached_of c.share_hits.new.self in
+    let found = c.in_ok-found.found in
+    let x = file_at_number fs c.args.file c.number.result c.index.result.now c.number.ensures (numbered_bounds fs c.args.file c.requires.file) c.index.ensures in
+    let same = c.reserve.ensures.same in
+    let sound = sound_same s (cached_of c.args.self.now) now c.requires.sound same in
+    let counted = subst (λ (hs : List Span). CountsHits c.args.file hs now next) c.deref.ensures.value c.in_ok-pins.ensures.counted in
+    record {
+      hits = found.hits.items;
+      tile = subst (λ (y : CachedFile). Tile y.extents.extents c.args.from c.args.to found.hits.items found.gaps.items) x c.in_ok-found.ensures;
+      lies = c.in_ok-pins.ensures.places ∙ ap (places_beside (extents_in now.files c.args.file) c.args.from c.args.to) c.deref-2.ensures.value ∙ ap (λ (es : List Extent). places_beside es c.args.from c.args.to found.gaps.items) (same.extents c.args.file);
+      shares = c.in_ok-pins.ensures.shares;
+      reserved = now;
+      rooms = same;
+      counted = counted;
+      space = omega (arith, c.len.ensures, c.in_ok-reserve.ensures.extents, ap (λ gs. (file_in gs c.args.file).extents.room) counted.files);
+      entries = hits_entries_left s now next c.args.file (length found.gaps.items) found.hits.items sound (numbered_same (cached_of c.args.self.now) now c.args.file same c.requires.file) counted (omega (arith, c.len.ensures, c.in_ok-reserve.ensures.entries, ap (λ p. (order_in now.orders p).room) (same.pools c.args.file)));
+    }
+
+pub returns-clause-sound : goal.returns-clause-sound
+returns-clause-sound c =
+    let s = c.args.store.now in
+    let t = c.share_hits.new.store in
+    let now = cached_of c.reserve.new.self in
+    let next = cached_of c.share_hits.new.self in
+    let same = c.reserve.ensures.same in
+    let sound = sound_same s (cached_of c.args.self.now) now c.requires.sound same in
+    let shares = c.in_ok-pins.ensures.shares in
+    let sound-t = sound_on s t now sound (shares_move shares) (still_covers sound.covered shares) c.share_hits.ensures.lists c.share_hits.ensures.frees.count in
+    sound_hits t now next c.args.file c.deref.result.now sound-t (numbered_same (cached_of c.args.self.now) now c.args.file same c.requires.file) c.in_ok-pins.ensures.counted

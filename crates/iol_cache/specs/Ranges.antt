@@ -1,0 +1,41 @@
+-- A range of a file that is read, step by step.
+use Rattle.std.specs.Prelude.{◌≡◌, ℕ, ◌≤◌, List, [], length, Some}
+use Rattle.iol_back.specs.Disk.{Disk}
+use Rattle.iol_extent.specs.Spans.{Tile}
+use Rattle.iol_extent.specs.declared.spans.Span.{Span}
+use Rattle.iol_hold.specs.Moves.{Moves, Shares}
+use Rattle.iol_hold.specs.Places.{places}
+use Rattle.iol_hold.specs.Releases.{FreesOnly}
+use Rattle.iol_hold.specs.Texts.{bufs_of}
+use Rattle.iol_hold.specs.declared.slices.Slice.{Slice}
+use Rattle.iol_cache.specs.Cached.{Cached, file_in, extents_in, order_in}
+use Rattle.iol_cache.specs.Evicting.{Holding, EvictsAll, GivesUp}
+use Rattle.iol_cache.specs.Gaps.{gap_pages}
+use Rattle.iol_cache.specs.Going.{CountsHits, FillsFile}
+use Rattle.iol_cache.specs.Reading.{SameButRoom}
+use Rattle.iol_cache.specs.Weaving.{places_beside}
+
+-- A range has these gaps. The bytes beside them were shared, the hits were counted, and the gaps have room in the file and
+-- in the order.
+pub record PinsRange (f from to : ℕ) (old new : Holding) (pins : List Slice) (gaps : List Span) : Type 0 where
+  pub hits : List Span
+  pub tile : Tile (extents_in old.cache.files f) from to hits gaps
+  pub lies : places pins ≡ places_beside (extents_in old.cache.files f) from to gaps
+  pub shares : Shares old.store new.store [] (bufs_of pins)
+  pub reserved : Cached
+  pub rooms : SameButRoom old.cache reserved
+  pub counted : CountsHits f hits reserved new.cache
+  pub space : length gaps ≤ (file_in new.cache.files f).extents.room
+  pub entries : length gaps ≤ (order_in new.cache.orders (file_in new.cache.files f).pool).room
+
+-- Room was made for the gaps, they were read, the range was put together from them and what was shared beside them, and
+-- that was released.
+pub record FillsAfter (f from to : ℕ) (pins : List Slice) (gaps : List Span) (disk : Disk) (old new : Holding) (xs : List Slice) : Type 0 where
+  pub mid : Holding
+  pub victims : EvictsAll (file_in old.cache.files f).pool (Some (gap_pages gaps)) old mid
+  pub less : GivesUp old mid
+  pub full : Holding
+  pub fills : FillsFile f from to (places pins) gaps disk mid full xs
+  pub cache : new.cache ≡ full.cache
+  pub released : Moves full.store new.store (bufs_of pins) []
+  pub frees : FreesOnly full.store new.store
