@@ -46,7 +46,8 @@ pub trait Backing {
             IfHonest old (OnOk result (Writes at bytes.now (content old.slots file) new)) }
         ensures torn { let old = disk self.old in
             let new = disk self.new in let n = length bytes.now in
-            IfHonest old (OnErr result (Tears at n (content old.slots file) (content new.slots file))) };
+            IfHonest old (OnErr result
+            (Tears at n (content old.slots file) (content new.slots file))) };
 
     /// How often the store has failed, up to `u64::MAX`.
     fn failures(&self) -> u64

@@ -102,7 +102,8 @@ impl<B: Backing> Backing for FaultyBacking<B> {
             IfHonest old (OnOk result (Writes at bytes.now (content old.slots file) new)) }
         ensures torn { let old = disk_over B.disk self.old in
             let new = disk_over B.disk self.new in let n = length bytes.now in
-            IfHonest old (OnErr result (Tears at n (content old.slots file) (content new.slots file))) }
+            IfHonest old (OnErr result
+            (Tears at n (content old.slots file) (content new.slots file))) }
 
         // The call that is due fails after the store below took half of the bytes; any other fails
         // where that does. That one is not asked any more once this store failed too often.

@@ -1,5 +1,5 @@
 -- The table of domains, whatever an aggregate is.
-use Rattle.std.specs.Prelude.{◌≡◌, ◌<◌, ◌^◌, ℕ, ◌+◌, ◌==◌, ◌||◌, Bool, nat_lt, List, [], ◌∷◌, ◌++◌, length, Option, map, sum_by, slice_set}
+use Rattle.std.specs.Prelude.{◌≡◌, ◌<◌, ◌^◌, ℕ, ◌+◌, ◌==◌, ◌||◌, Bool, nat_lt, List, [], ◌∷◌, ◌++◌, length, Option, Some, map, sum_by, slice_set}
 use Rattle.std.specs.List.{AllByRecursion, position_or_len}
 use Rattle.iol_core.specs.State.{Domain, no_domain}
 use Rattle.iol_core.specs.Numbered.{numbered_or, with_numbered, lookup, without, lowest, placed}
@@ -36,7 +36,13 @@ domain_in ds d = numbered_or ds d no_domain
 unfoldable pub with_domain_in : {A : Type 0} → List (Domain A) → (d : ℕ) → Domain A → List (Domain A)
 with_domain_in ds d x = with_numbered ds d x
 
+abbrev pub with_default_in : {A : Type 0} → List (Domain A) → (d pool : ℕ) → List (Domain A)
+with_default_in ds d pool = with_domain_in ds d (record (domain_in ds d) { default = Some pool })
+
 -- Aggregates, under rising numbers.
+
+abbrev pub aggs_in : {A : Type 0} → List (Domain A) → (d : ℕ) → List (ℕ × A)
+aggs_in ds d = (domain_in ds d).aggs
 
 abbrev pub agg_in : {A : Type 0} → List (Domain A) → (d a : ℕ) → Option A
 agg_in ds d a = lookup (domain_in ds d).aggs a
@@ -79,12 +85,19 @@ too_many_in ds d made given =
 
 -- Descriptors, in places.
 
+abbrev pub fds_in : {A : Type 0} → List (Domain A) → (d : ℕ) → List (Option Descriptor)
+fds_in ds d = (domain_in ds d).fds
+
 abbrev pub with_fds_in : {A : Type 0} → List (Domain A) → (d : ℕ) → List (Option Descriptor) → List (Domain A)
 with_fds_in ds d fds = with_domain_in ds d (record (domain_in ds d) { fds = fds })
 
 -- with x open under the lowest free number
 abbrev pub with_next_fd : List (Option Descriptor) → Descriptor → List (Option Descriptor)
 with_next_fd fds x = placed fds (lowest fds) x
+
+-- the numbers that the ends of a pipe get, the read end first
+abbrev pub next_ends : List (Option Descriptor) → (pipe : ℕ) → ℕ × ℕ
+next_ends fds p = (lowest fds, lowest (with_read_end fds p))
 
 -- with both ends of a pipe open, the read end first
 abbrev pub with_ends : List (Option Descriptor) → (pipe : ℕ) → List (Option Descriptor)

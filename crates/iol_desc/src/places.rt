@@ -36,7 +36,8 @@ pub fn lowest_place<T>(places: &[Option<T>]) -> usize
 pub fn put<T: Drop>(places: &mut Vec<Option<T>>, place: usize, value: T)
     requires place { place ≤ length places.old.items }
     requires room { vec_len places.old < vec_capacity places.old }
-    ensures taken { place ≡ lowest places.old.items → taken places.new.items ≡ taken places.old.items + 1 }
+    ensures taken { place ≡ lowest places.old.items →
+        taken places.new.items ≡ taken places.old.items + 1 }
     ensures items { places.new.items ≡ placed places.old.items place value }
     ensures len { vec_len places.new ≤ vec_len places.old + 1 }
     ensures capacity { vec_capacity places.old ≤ vec_capacity places.new }
@@ -64,7 +65,8 @@ fn lowest_from<T>(places: &[Option<T>], from: usize) -> usize
 fn set_free<T: Drop>(places: &mut Vec<Option<T>>, place: usize)
     requires { place < length places.old.items }
     ensures items { places.new.items ≡ slice_set places.old.items place None }
-    ensures room { vec_capacity places.old - vec_len places.old ≤ vec_capacity places.new - vec_len places.new }
+    ensures room { vec_capacity places.old - vec_len places.old ≤
+        vec_capacity places.new - vec_len places.new }
 {
     places[place] = None;
 }
@@ -73,7 +75,8 @@ fn set_free<T: Drop>(places: &mut Vec<Option<T>>, place: usize)
 fn set_taken<T: Drop>(places: &mut Vec<Option<T>>, place: usize, value: T)
     requires { place < length places.old.items }
     ensures items { places.new.items ≡ slice_set places.old.items place (Some value) }
-    ensures room { vec_capacity places.old - vec_len places.old ≤ vec_capacity places.new - vec_len places.new }
+    ensures room { vec_capacity places.old - vec_len places.old ≤
+        vec_capacity places.new - vec_len places.new }
 {
     places[place] = Some(value);
 }
@@ -86,8 +89,10 @@ fn set_lower<T: Drop>(places: &mut Vec<Option<T>>, place: usize, from: usize, va
     requires below { from ≤ place }
     ensures lowest { result ≡ lowest (slice_set places.old.items place None) }
     ensures lower { result ≤ place }
-    ensures items { places.new.items ≡ placed (slice_set places.old.items place None) (lowest (slice_set places.old.items place None)) value }
-    ensures room { vec_capacity places.old - vec_len places.old ≤ vec_capacity places.new - vec_len places.new }
+    ensures items { places.new.items ≡ placed (slice_set places.old.items place None)
+        (lowest (slice_set places.old.items place None)) value }
+    ensures room { vec_capacity places.old - vec_len places.old ≤
+        vec_capacity places.new - vec_len places.new }
 {
     set_free(places, place);
     let lower = lowest_from(places, from);
@@ -123,7 +128,10 @@ impl<T> Model for Places<T> {
 
     ghost Value = { tables.Slots T };
 
-    ghost view = { λ p. record { places = p.list.items; room = vec_capacity p.list - vec_len p.list } };
+    ghost view = { λ p. record {
+      places = p.list.items;
+      room = vec_capacity p.list - vec_len p.list;
+    } };
 
     ghost invariant = { λ p. (p.count ≡ taken p.list.items) × (p.low ≤ lowest p.list.items) };
 }
@@ -217,7 +225,8 @@ impl<T: Drop> Places<T> {
         requires { in_place self.old.places place ≢ None }
         ensures place { result ≡ lowest (slice_set self.old.places place None) }
         ensures lower { result ≤ place }
-        ensures put { self.new.places ≡ placed (slice_set self.old.places place None) (lowest (slice_set self.old.places place None)) value }
+        ensures put { self.new.places ≡ placed (slice_set self.old.places place None)
+            (lowest (slice_set self.old.places place None)) value }
         ensures room { self.old.room ≤ self.new.room }
     {
         let from = self.low.min(place);

@@ -3,8 +3,7 @@ ghost use Rattle.std.specs.Prelude.{◌≡◌, ◌≢◌, ℕ, ◌+◌, ◌-◌,
 ghost use Rattle.std.specs.Option.{option_copied};
 ghost use Rattle.iol_core.specs.State.{new_domain, no_domain};
 ghost use Rattle.iol_core.specs.Numbered.{in_place, lookup, without, lowest, placed, taken};
-ghost use Rattle.iol_core.specs.Calls.Descriptors.{with_read_end};
-ghost use Rattle.iol_desc.specs.Tables.{with_next, exchanged, place_in, with_next_fd, with_ends};
+ghost use Rattle.iol_desc.specs.Tables.{with_next, exchanged, place_in, with_next_fd, next_ends, with_ends};
 
 use crate::entries::{Entries, Taken};
 use crate::places::Places;
@@ -28,13 +27,22 @@ impl<A> Model for Domain<A> {
 
     ghost Value = { tables.Row A };
 
-    ghost view = { λ d. record { domain = record { live = d.live; aggs = d.aggs.entries; next_agg = d.aggs.next; fds = d.fds.places; default = d.default }; room = d.aggs.room } };
+    ghost view = { λ d. record {
+      domain = record {
+        live = d.live;
+        aggs = d.aggs.entries;
+        next_agg = d.aggs.next;
+        fds = d.fds.places;
+        default = d.default;
+      };
+      room = d.aggs.room;
+    } };
 }
 
 /// Opens both ends of a pipe.
 fn open_ends(fds: &mut Places<Descriptor>, pipe: PipeId) -> Result<(Fd, Fd), AllocError>
     requires { taken fds.old.places ≤ MAX_OPEN }
-    ensures numbers { IfOk result (λ ends. ends ≡ (lowest fds.old.places, lowest (with_read_end fds.old.places pipe))) }
+    ensures numbers { IfOk result (λ ends. ends ≡ next_ends fds.old.places pipe) }
     ensures opened { OnOk result (fds.new.places ≡ with_ends fds.old.places pipe) }
     ensures err { OnErr result (fds.new.places ≡ fds.old.places) }
 {
@@ -117,7 +125,8 @@ impl<A: Drop> Domain<A> {
     pub(crate) fn take_agg(&mut self, agg: AggId) -> A
         requires { lookup self.old.domain.aggs agg ≢ None }
         ensures given { Some result ≡ lookup self.old.domain.aggs agg }
-        ensures rest { self.new.domain ≡ record self.old.domain { aggs = without self.old.domain.aggs agg } }
+        ensures rest { self.new.domain ≡ record self.old.domain
+            { aggs = without self.old.domain.aggs agg } }
         ensures room { self.old.room ≤ self.new.room }
         ensures count { length self.new.domain.aggs + 1 ≡ length self.old.domain.aggs }
     {
@@ -128,7 +137,8 @@ impl<A: Drop> Domain<A> {
     pub(crate) fn swap_agg(&mut self, agg: AggId, other: A) -> A
         requires { lookup self.old.domain.aggs agg ≢ None }
         ensures given { Some result ≡ lookup self.old.domain.aggs agg }
-        ensures swapped { self.new.domain ≡ record self.old.domain { aggs = exchanged self.old.domain.aggs agg other } }
+        ensures swapped { self.new.domain ≡ record self.old.domain
+            { aggs = exchanged self.old.domain.aggs agg other } }
         ensures room { self.old.room ≤ self.new.room }
         ensures count { length self.new.domain.aggs ≡ length self.old.domain.aggs }
     {
@@ -179,8 +189,9 @@ impl<A: Drop> Domain<A> {
     /// Opens both ends of a pipe.
     pub(crate) fn add_ends(&mut self, pipe: PipeId) -> Result<(Fd, Fd), AllocError>
         requires { taken self.old.domain.fds ≤ MAX_OPEN }
-        ensures numbers { IfOk result (λ ends. ends ≡ (lowest self.old.domain.fds, lowest (with_read_end self.old.domain.fds pipe))) }
-        ensures opened { OnOk result (self.new.domain ≡ record self.old.domain { fds = with_ends self.old.domain.fds pipe }) }
+        ensures numbers { IfOk result (λ ends. ends ≡ next_ends self.old.domain.fds pipe) }
+        ensures opened { OnOk result (self.new.domain ≡ record self.old.domain
+            { fds = with_ends self.old.domain.fds pipe }) }
         ensures err { OnErr result (self.new.domain ≡ self.old.domain) }
         ensures room { self.old.room ≤ self.new.room }
         ensures count { length self.new.domain.aggs ≡ length self.old.domain.aggs }
@@ -192,7 +203,8 @@ impl<A: Drop> Domain<A> {
     pub(crate) fn add_fd(&mut self, on: Descriptor) -> Result<Fd, AllocError>
         requires { taken self.old.domain.fds < MAX_OPEN }
         ensures number { IfOk result (λ n. n ≡ lowest self.old.domain.fds) }
-        ensures opened { OnOk result (self.new.domain ≡ record self.old.domain { fds = with_next_fd self.old.domain.fds on }) }
+        ensures opened { OnOk result (self.new.domain ≡ record self.old.domain
+            { fds = with_next_fd self.old.domain.fds on }) }
         ensures err { OnErr result (self.new.domain ≡ self.old.domain) }
         ensures room { self.old.room ≤ self.new.room }
         ensures count { length self.new.domain.aggs ≡ length self.old.domain.aggs }
@@ -203,7 +215,8 @@ impl<A: Drop> Domain<A> {
     /// Closes an open number.
     pub(crate) fn take_fd(&mut self, fd: Fd)
         requires { in_place self.old.domain.fds fd ≢ None }
-        ensures closed { self.new.domain ≡ record self.old.domain { fds = slice_set self.old.domain.fds fd None } }
+        ensures closed { self.new.domain ≡ record self.old.domain
+            { fds = slice_set self.old.domain.fds fd None } }
         ensures room { self.old.room ≤ self.new.room }
         ensures count { length self.new.domain.aggs ≡ length self.old.domain.aggs }
     {
@@ -214,7 +227,8 @@ impl<A: Drop> Domain<A> {
     pub(crate) fn move_fd(&mut self, fd: Fd, on: Descriptor) -> Fd
         requires { in_place self.old.domain.fds fd ≢ None }
         ensures number { result ≡ lowest (slice_set self.old.domain.fds fd None) }
-        ensures moved { self.new.domain ≡ record self.old.domain { fds = with_next_fd (slice_set self.old.domain.fds fd None) on } }
+        ensures moved { self.new.domain ≡ record self.old.domain
+            { fds = with_next_fd (slice_set self.old.domain.fds fd None) on } }
         ensures room { self.old.room ≤ self.new.room }
         ensures count { length self.new.domain.aggs ≡ length self.old.domain.aggs }
     {

@@ -1,10 +1,11 @@
 //! The table of domains.
+#![tactic(auto, using(crate::proofs::Rows::row_rules, crate::proofs::Counted::counted_rules), unfolding(crate::specs::Tables::domain_in, crate::specs::Tables::with_domain_in, crate::specs::Tables::row_in))]
+
 ghost use Rattle.std.specs.Prelude.{◌≡◌, ◌≢◌, ℕ, ◌+◌, ◌-◌, ◌<◌, ◌≤◌, ◌^◌, length, true, false, min, sum_by, Option, Some, None, List, [], ◌∷◌, ◌++◌, IfOk, IfErr, IfSome, OnOk, OnErr, slice_set, nat_lt};
 ghost use Rattle.std.specs.Option.{option_copied};
 ghost use Rattle.iol_core.specs.State.{new_domain, no_domain};
 ghost use Rattle.iol_core.specs.Numbered.{in_place, lookup, without, lowest, placed, taken};
-ghost use Rattle.iol_core.specs.Calls.Descriptors.{with_read_end};
-ghost use Rattle.iol_desc.specs.Tables.{domains_of, row_in, room_in, domain_in, with_domain_in, agg_in, with_aggs_in, with_agg_in, without_agg_in, exchanged, live_aggs_in, too_many_in, with_fds_in, with_next_fd, with_ends};
+ghost use Rattle.iol_desc.specs.Tables.{domains_of, row_in, room_in, domain_in, with_domain_in, with_default_in, agg_in, aggs_in, with_aggs_in, with_agg_in, without_agg_in, exchanged, live_aggs_in, too_many_in, fds_in, with_fds_in, with_next_fd, next_ends, with_ends};
 
 use crate::entries::Taken;
 use crate::row::Domain;
@@ -63,7 +64,6 @@ impl<A: Drop> Table<A> {
     }
 
     /// The place of a live domain.
-    #[tactic(auto, using(crate::proofs::Rows::row_rules, crate::proofs::Counted::counted_rules), unfolding(crate::specs::Tables::domain_in))]
     fn place_of(&self, d: DomainId) -> usize
         requires live { (domain_in (domains_of self.now) d).live ≡ true }
         ensures place { result + 1 ≡ d }
@@ -73,7 +73,6 @@ impl<A: Drop> Table<A> {
     }
 
     /// Whether the domain is live.
-    #[tactic(auto, using(crate::proofs::Rows::row_rules, crate::proofs::Counted::counted_rules), unfolding(crate::specs::Tables::domain_in))]
     pub fn live(&self, d: DomainId) -> bool
         ensures { result ≡ (domain_in (domains_of self.now) d).live }
     {
@@ -86,11 +85,10 @@ impl<A: Drop> Table<A> {
     }
 
     /// Ends a domain that has no aggregate and no open descriptor: nothing is left of it.
-    #[tactic(auto, using(crate::proofs::Rows::row_rules, crate::proofs::Counted::counted_rules), unfolding(crate::specs::Tables::domain_in, crate::specs::Tables::with_domain_in))]
     pub fn end_domain(&mut self, d: DomainId)
         requires live { (domain_in (domains_of self.old) d).live ≡ true }
-        requires no_aggs { (domain_in (domains_of self.old) d).aggs ≡ [] }
-        requires no_fds { taken (domain_in (domains_of self.old) d).fds ≡ 0 }
+        requires no_aggs { aggs_in (domains_of self.old) d ≡ [] }
+        requires no_fds { taken (fds_in (domains_of self.old) d) ≡ 0 }
         ensures { domains_of self.new ≡ with_domain_in (domains_of self.old) d no_domain }
     {
         let at = self.place_of(d);
@@ -99,7 +97,6 @@ impl<A: Drop> Table<A> {
     }
 
     /// A domain's aggregate.
-    #[tactic(auto, using(crate::proofs::Rows::row_rules, crate::proofs::Counted::counted_rules), unfolding(crate::specs::Tables::domain_in))]
     pub fn agg(&self, d: DomainId, agg: AggId) -> Option<&A>
         requires { (domain_in (domains_of self.now) d).live ≡ true }
         ensures { option_copied result ≡ agg_in (domains_of self.now) d agg }
@@ -109,7 +106,6 @@ impl<A: Drop> Table<A> {
     }
 
     /// Whether so many new aggregates, with so many given up, are too many.
-    #[tactic(auto, using(crate::proofs::Rows::row_rules, crate::proofs::Counted::counted_rules), unfolding(crate::specs::Tables::domain_in))]
     pub fn is_too_many(&self, d: DomainId, made: u64, given: u64) -> bool
         requires live { (domain_in (domains_of self.now) d).live ≡ true }
         requires made { made ≤ 2 }
@@ -123,7 +119,6 @@ impl<A: Drop> Table<A> {
     }
 
     /// Reserves room for so many aggregates more of a domain.
-    #[tactic(auto, using(crate::proofs::Rows::row_rules, crate::proofs::Counted::counted_rules), unfolding(crate::specs::Tables::domain_in, crate::specs::Tables::row_in))]
     pub fn reserve_aggs(&mut self, d: DomainId, count: usize) -> Result<(), AllocError>
         requires { (domain_in (domains_of self.old) d).live ≡ true }
         ensures same { domains_of self.new ≡ domains_of self.old }
@@ -135,7 +130,6 @@ impl<A: Drop> Table<A> {
     }
 
     /// Adds an aggregate under the domain's next number, in room that is reserved.
-    #[tactic(auto, using(crate::proofs::Rows::row_rules, crate::proofs::Counted::counted_rules), unfolding(crate::specs::Tables::domain_in, crate::specs::Tables::with_domain_in, crate::specs::Tables::row_in))]
     pub fn add_agg(&mut self, d: DomainId, agg: A) -> AggId
         requires live { (domain_in (domains_of self.old) d).live ≡ true }
         requires few { (domain_in (domains_of self.old) d).next_agg ≤ LAST_AGGREGATE }
@@ -152,7 +146,6 @@ impl<A: Drop> Table<A> {
     }
 
     /// Takes an aggregate from its domain.
-    #[tactic(auto, using(crate::proofs::Rows::row_rules, crate::proofs::Counted::counted_rules), unfolding(crate::specs::Tables::domain_in, crate::specs::Tables::with_domain_in, crate::specs::Tables::row_in))]
     pub fn take_agg(&mut self, d: DomainId, agg: AggId) -> A
         requires live { (domain_in (domains_of self.old) d).live ≡ true }
         requires there { agg_in (domains_of self.old) d agg ≢ None }
@@ -169,12 +162,12 @@ impl<A: Drop> Table<A> {
     }
 
     /// Puts another aggregate under the number of one, and gives that.
-    #[tactic(auto, using(crate::proofs::Rows::row_rules, crate::proofs::Counted::counted_rules), unfolding(crate::specs::Tables::domain_in, crate::specs::Tables::with_domain_in, crate::specs::Tables::row_in))]
     pub fn swap_agg(&mut self, d: DomainId, agg: AggId, other: A) -> A
         requires live { (domain_in (domains_of self.old) d).live ≡ true }
         requires there { agg_in (domains_of self.old) d agg ≢ None }
         ensures given { Some result ≡ agg_in (domains_of self.old) d agg }
-        ensures swapped { domains_of self.new ≡ with_aggs_in (domains_of self.old) d (exchanged (domain_in (domains_of self.old) d).aggs agg other) }
+        ensures swapped { domains_of self.new ≡ with_aggs_in (domains_of self.old) d
+            (exchanged (aggs_in (domains_of self.old) d) agg other) }
         ensures room { room_in self.old d ≤ room_in self.new d }
     {
         let at = self.place_of(d);
@@ -183,10 +176,9 @@ impl<A: Drop> Table<A> {
     }
 
     /// Takes all aggregates of a domain, by rising number.
-    #[tactic(auto, using(crate::proofs::Rows::row_rules, crate::proofs::Counted::counted_rules), unfolding(crate::specs::Tables::domain_in, crate::specs::Tables::with_domain_in))]
     pub fn take_aggs(&mut self, d: DomainId) -> Taken<A>
         requires { (domain_in (domains_of self.old) d).live ≡ true }
-        ensures given { result ≡ (domain_in (domains_of self.old) d).aggs }
+        ensures given { result ≡ aggs_in (domains_of self.old) d }
         ensures rest { domains_of self.new ≡ with_aggs_in (domains_of self.old) d [] }
     {
         let at = self.place_of(d);
@@ -199,7 +191,6 @@ impl<A: Drop> Table<A> {
     }
 
     /// The pool that a domain places bytes in.
-    #[tactic(auto, using(crate::proofs::Rows::row_rules, crate::proofs::Counted::counted_rules), unfolding(crate::specs::Tables::domain_in))]
     pub fn default_of(&self, d: DomainId) -> Option<PoolId>
         requires { (domain_in (domains_of self.now) d).live ≡ true }
         ensures { result ≡ (domain_in (domains_of self.now) d).default }
@@ -209,10 +200,9 @@ impl<A: Drop> Table<A> {
     }
 
     /// Has a domain place bytes in a pool.
-    #[tactic(auto, using(crate::proofs::Rows::row_rules, crate::proofs::Counted::counted_rules), unfolding(crate::specs::Tables::domain_in, crate::specs::Tables::with_domain_in))]
     pub fn set_default(&mut self, d: DomainId, pool: PoolId)
         requires { (domain_in (domains_of self.old) d).live ≡ true }
-        ensures { domains_of self.new ≡ with_domain_in (domains_of self.old) d (record (domain_in (domains_of self.old) d) { default = Some pool }) }
+        ensures { domains_of self.new ≡ with_default_in (domains_of self.old) d pool }
     {
         let at = self.place_of(d);
         let domain = &mut self.rows[at];
@@ -220,33 +210,31 @@ impl<A: Drop> Table<A> {
     }
 
     /// What a domain's descriptor is open on.
-    #[tactic(auto, using(crate::proofs::Rows::row_rules, crate::proofs::Counted::counted_rules), unfolding(crate::specs::Tables::domain_in))]
     pub fn descriptor(&self, d: DomainId, fd: Fd) -> Option<Descriptor>
         requires { (domain_in (domains_of self.now) d).live ≡ true }
-        ensures { result ≡ in_place (domain_in (domains_of self.now) d).fds fd }
+        ensures { result ≡ in_place (fds_in (domains_of self.now) d) fd }
     {
         let domain = &self.rows[self.place_of(d)];
         domain.descriptor(fd)
     }
 
     /// Whether so many more open descriptors are too many.
-    #[tactic(auto, using(crate::proofs::Rows::row_rules, crate::proofs::Counted::counted_rules), unfolding(crate::specs::Tables::domain_in))]
     pub fn is_open_beyond(&self, d: DomainId, made: usize) -> bool
         requires live { (domain_in (domains_of self.now) d).live ≡ true }
         requires made { made ≤ 2 }
-        ensures { result ≡ nat_lt MAX_OPEN (taken (domain_in (domains_of self.now) d).fds + made) }
+        ensures { result ≡ nat_lt MAX_OPEN (taken (fds_in (domains_of self.now) d) + made) }
     {
         let domain = &self.rows[self.place_of(d)];
         domain.is_open_beyond(made)
     }
 
     /// Opens a domain's lowest free number.
-    #[tactic(auto, using(crate::proofs::Rows::row_rules, crate::proofs::Counted::counted_rules), unfolding(crate::specs::Tables::domain_in, crate::specs::Tables::with_domain_in))]
     pub fn add_fd(&mut self, d: DomainId, on: Descriptor) -> Result<Fd, AllocError>
         requires live { (domain_in (domains_of self.old) d).live ≡ true }
-        requires few { taken (domain_in (domains_of self.old) d).fds < MAX_OPEN }
-        ensures number { IfOk result (λ n. n ≡ lowest (domain_in (domains_of self.old) d).fds) }
-        ensures opened { OnOk result (domains_of self.new ≡ with_fds_in (domains_of self.old) d (with_next_fd (domain_in (domains_of self.old) d).fds on)) }
+        requires few { taken (fds_in (domains_of self.old) d) < MAX_OPEN }
+        ensures number { IfOk result (λ n. n ≡ lowest (fds_in (domains_of self.old) d)) }
+        ensures opened { OnOk result (domains_of self.new ≡ with_fds_in (domains_of self.old) d
+            (with_next_fd (fds_in (domains_of self.old) d) on)) }
         ensures err { OnErr result (domains_of self.new ≡ domains_of self.old) }
     {
         let at = self.place_of(d);
@@ -255,12 +243,13 @@ impl<A: Drop> Table<A> {
     }
 
     /// Opens both ends of a pipe in a domain, the read end under the lowest free number, then the write end.
-    #[tactic(auto, using(crate::proofs::Rows::row_rules, crate::proofs::Counted::counted_rules), unfolding(crate::specs::Tables::domain_in, crate::specs::Tables::with_domain_in))]
     pub fn add_ends(&mut self, d: DomainId, pipe: PipeId) -> Result<(Fd, Fd), AllocError>
         requires live { (domain_in (domains_of self.old) d).live ≡ true }
-        requires few { taken (domain_in (domains_of self.old) d).fds ≤ MAX_OPEN }
-        ensures numbers { IfOk result (λ ends. ends ≡ (lowest (domain_in (domains_of self.old) d).fds, lowest (with_read_end (domain_in (domains_of self.old) d).fds pipe))) }
-        ensures opened { OnOk result (domains_of self.new ≡ with_fds_in (domains_of self.old) d (with_ends (domain_in (domains_of self.old) d).fds pipe)) }
+        requires few { taken (fds_in (domains_of self.old) d) ≤ MAX_OPEN }
+        ensures numbers { IfOk result
+            (λ ends. ends ≡ next_ends (fds_in (domains_of self.old) d) pipe) }
+        ensures opened { OnOk result (domains_of self.new ≡ with_fds_in (domains_of self.old) d
+            (with_ends (fds_in (domains_of self.old) d) pipe)) }
         ensures err { OnErr result (domains_of self.new ≡ domains_of self.old) }
     {
         let at = self.place_of(d);
@@ -269,11 +258,11 @@ impl<A: Drop> Table<A> {
     }
 
     /// Closes a domain's descriptor.
-    #[tactic(auto, using(crate::proofs::Rows::row_rules, crate::proofs::Counted::counted_rules), unfolding(crate::specs::Tables::domain_in, crate::specs::Tables::with_domain_in))]
     pub fn take_fd(&mut self, d: DomainId, fd: Fd)
         requires live { (domain_in (domains_of self.old) d).live ≡ true }
-        requires there { in_place (domain_in (domains_of self.old) d).fds fd ≢ None }
-        ensures { domains_of self.new ≡ with_fds_in (domains_of self.old) d (slice_set (domain_in (domains_of self.old) d).fds fd None) }
+        requires there { in_place (fds_in (domains_of self.old) d) fd ≢ None }
+        ensures { domains_of self.new ≡ with_fds_in (domains_of self.old) d
+            (slice_set (fds_in (domains_of self.old) d) fd None) }
     {
         let at = self.place_of(d);
         let domain = &mut self.rows[at];
@@ -281,10 +270,9 @@ impl<A: Drop> Table<A> {
     }
 
     /// Takes what a domain's numbers are open on, by rising number: none is open any more.
-    #[tactic(auto, using(crate::proofs::Rows::row_rules, crate::proofs::Counted::counted_rules), unfolding(crate::specs::Tables::domain_in, crate::specs::Tables::with_domain_in))]
     pub fn take_fds(&mut self, d: DomainId) -> Vec<Option<Descriptor>>
         requires { (domain_in (domains_of self.old) d).live ≡ true }
-        ensures given { result.items ≡ (domain_in (domains_of self.old) d).fds }
+        ensures given { result.items ≡ fds_in (domains_of self.old) d }
         ensures rest { domains_of self.new ≡ with_fds_in (domains_of self.old) d [] }
     {
         let at = self.place_of(d);
@@ -294,12 +282,12 @@ impl<A: Drop> Table<A> {
     }
 
     /// Moves a domain's descriptor to its lowest number that is free when its own is.
-    #[tactic(auto, using(crate::proofs::Rows::row_rules, crate::proofs::Counted::counted_rules), unfolding(crate::specs::Tables::domain_in, crate::specs::Tables::with_domain_in))]
     pub fn move_fd(&mut self, d: DomainId, fd: Fd, on: Descriptor) -> Fd
         requires live { (domain_in (domains_of self.old) d).live ≡ true }
-        requires there { in_place (domain_in (domains_of self.old) d).fds fd ≢ None }
-        ensures number { result ≡ lowest (slice_set (domain_in (domains_of self.old) d).fds fd None) }
-        ensures moved { domains_of self.new ≡ with_fds_in (domains_of self.old) d (with_next_fd (slice_set (domain_in (domains_of self.old) d).fds fd None) on) }
+        requires there { in_place (fds_in (domains_of self.old) d) fd ≢ None }
+        ensures number { result ≡ lowest (slice_set (fds_in (domains_of self.old) d) fd None) }
+        ensures moved { domains_of self.new ≡ with_fds_in (domains_of self.old) d
+            (with_next_fd (slice_set (fds_in (domains_of self.old) d) fd None) on) }
     {
         let at = self.place_of(d);
         let domain = &mut self.rows[at];

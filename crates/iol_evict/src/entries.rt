@@ -206,7 +206,8 @@ impl Entries {
     /// The place of the entry that goes first.
     pub(crate) fn least<U: InUse>(&self, users: &U) -> Option<(FileId, u32)>
         requires { All (λ e. U.can_ask users.now e.file e.at) self.now.entries }
-        ensures { MatchOption result (self.now.entries ≡ []) (IsVictim (U.in_use users.now) self.now.entries) }
+        ensures { MatchOption result (self.now.entries ≡ [])
+            (IsVictim (U.in_use users.now) self.now.entries) }
     {
         first_idle(&self.slab, self.by_height.as_slice(), users)
     }

@@ -118,7 +118,8 @@ impl Order {
     /// and place.
     pub fn least<U: InUse>(&self, users: &U) -> Option<(FileId, u32)>
         requires { All (λ e. U.can_ask users.now e.file e.at) self.now.entries }
-        ensures { MatchOption result (self.now.entries ≡ []) (IsVictim (U.in_use users.now) self.now.entries) }
+        ensures { MatchOption result (self.now.entries ≡ [])
+            (IsVictim (U.in_use users.now) self.now.entries) }
     {
         self.entries.least(users)
     }

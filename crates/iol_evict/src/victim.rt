@@ -18,7 +18,8 @@ pub(crate) fn first_idle<U: InUse>(
 ) -> Option<(FileId, u32)>
     requires live { AreLive slab.now keys.now }
     requires ask { CanAskOf (U.can_ask users.now) slab.now keys.now }
-    ensures { MatchOption result (length keys.now ≡ 0) (GoesFirst (U.in_use users.now) slab.now keys.now) }
+    ensures { MatchOption result (length keys.now ≡ 0)
+        (GoesFirst (U.in_use users.now) slab.now keys.now) }
 {
     for key in keys {
         let entry = read_entry(slab, *key);

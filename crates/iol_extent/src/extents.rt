@@ -66,7 +66,8 @@ impl Extents {
             MatchOption result (extent_over es at ≡ None)
             (λ found. extent_over es at ≡ Some (extent_in found)) }
         ensures cell { let es = self.now.extents in
-            MatchOption result (cover es at ≡ None) (λ found. cover es at ≡ Some (cell_in found at)) }
+            MatchOption result (cover es at ≡ None)
+            (λ found. cover es at ≡ Some (cell_in found at)) }
     {
         let found = count_before(&self.pieces, at);
         if found == self.pieces.len() {
@@ -202,7 +203,8 @@ impl Extents {
         ensures lacks { let old = self.old.extents in
             IfSome (begins_at old at) (λ e. Lacks old e self.new.extents) }
         ensures ends { let old = self.old.extents in
-            IfSome (begins_at old at) (λ e. last_end old ≡ max (end_of e) (last_end self.new.extents)) }
+            IfSome (begins_at old at)
+            (λ e. last_end old ≡ max (end_of e) (last_end self.new.extents)) }
     {
         let found = count_before(&self.pieces, at);
         let Piece {

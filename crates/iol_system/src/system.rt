@@ -109,7 +109,8 @@ impl System {
 
         // Of all others `agg_make` alone publishes, on the lowest free pages of the caller's default pool, each of which is
         // raised by one; an open pool keeps its chunks, and a new one has the lowest free chunks, as many as asked for.
-        ensures publishes { IsDone result → KeepsPages self.old.store self.new.store (placed_by self.old event) }
+        ensures publishes { IsDone result →
+            KeepsPages self.old.store self.new.store (placed_by self.old event) }
         ensures creates { Creates self.old event result self.new }
 
         // Counts are those of the slices, no page is lost, and what a domain has it may read.
