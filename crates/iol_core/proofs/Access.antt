@@ -4,16 +4,17 @@ use Rattle.std.specs.Prelude.{fold, slice_set, if◌then◌else◌, unwrap_or, i
 use Rattle.std.specs.Option.{option_map_or}
 use Rattle.iol_core.specs.Text.{Text, labelled, bytes_of, part}
 use Rattle.iol_core.specs.Numbered.{without, lowest, placed}
-use Rattle.iol_core.specs.State.{State, Domain, domain, may_read, descriptor, file, content, pipe_at, conn_at, new_domain, no_domain, with_domain, with_pipe, with_conn, with_content, text, new_state}
+use Rattle.iol_core.specs.State.{State, Domain, Connection, domain, may_read, descriptor, file, content, pipe_at, conn_at, new_domain, no_domain, with_domain, with_pipe, with_conn, with_content, text, new_state}
 use Rattle.iol_core.specs.Meaning.{Meaning, Step, first}
 use Rattle.iol_core.specs.Access.{may_see, MaySeeAll, HasAccess}
 use Rattle.iol_core.specs.Calls.Domains.{domain_new, exit}
 use Rattle.iol_core.specs.Calls.Pools.{pool_create, pool_close, set_pool, distinct}
 use Rattle.iol_core.specs.Calls.Aggregates as aggs
 use Rattle.iol_core.specs.Calls.Descriptors as fds
+use Rattle.iol_core.specs.Calls.Outside.{conn_new, closed_by}
 use Rattle.iol_core.specs.Calls.Reading as reading
 use Rattle.iol_core.specs.Calls.Writing as writing
-use Rattle.iol_core.specs.Run.{called, StepsTo, Run, outcome}
+use Rattle.iol_core.specs.Run.{called, meaning, StepsTo, Run, outcome}
 use Rattle.iol_core.specs.declared.refusals.Refusal.{Refusal}
 use Rattle.iol_core.specs.declared.refusals.Refusal.TheVariants.{Denied, NoPool}
 use Rattle.iol_core.specs.declared.descriptors.Descriptor.{Descriptor}
@@ -148,6 +149,13 @@ access_close : (s : State) (by fd : ℕ) → KeepsAccess s (fds.close s by fd)
 access_close s by fd h unrefused =
     access_fds (fds.closed_on s (descriptor s by fd)) by (fds.freed s by fd) (access_closed_on s (descriptor s by fd) h)
 
+access_accept : (s : State) (by : ℕ) → KeepsAccess s (fds.accept s by)
+access_accept s by h unrefused =
+    let c : ℕ = unwrap_or (fds.waiting s by) 0 in
+    let x : Connection = record (conn_at s c) { accepted = true } in
+    let taken : State = with_conn s c x in
+    access_fds taken by (placed (domain taken by).fds (fds.next_fd taken by) (on.Connection c)) (access_conn s c x h)
+
 access_exit : (s : State) (by : ℕ) → KeepsAccess s (exit s by)
 access_exit s by h unrefused =
     let closed : State = fold fds.closed_on s (domain s by).fds in
@@ -225,13 +233,23 @@ access_called s by (call.GiveFd fd to) = access_give_fd s by fd to
 access_called s by (call.Close fd) = access_close s by fd
 access_called s by (call.IolRead fd n) = access_iol_read s by fd n
 access_called s by (call.IolWrite fd a) = access_iol_write s by fd a
+access_called s by call.Accept = access_accept s by
+
+-- What happens outside changes no domain and no list.
+
+access_meaning : (s : State) (e : Event) → KeepsAccess s (meaning s e)
+access_meaning s (event.Call by c) = access_called s by c
+access_meaning s (event.ConnNew p) = λ h unrefused. access_same s (conn_new s p).after h refl refl
+access_meaning s (event.Arrive c bytes) = λ h unrefused. access_conn s c _ h
+access_meaning s (event.PeerClosed c how) = λ h unrefused. access_conn s c (closed_by (conn_at s c) how) h
+access_meaning s (event.Transmit c max) = λ h unrefused. access_conn s c (record (conn_at s c) { outgoing = drop max (conn_at s c).outgoing }) h
 
 access_outcome : {A : Type 0} (m : Meaning A) (old new : State) (r : Result A Refusal) → KeepsAccess old m → HasAccess old → Step m old r new → HasAccess new
 access_outcome m old new (Ok a) keeps h step = subst HasAccess (sym step.2) (keeps h step.0)
 access_outcome m old new (Err x) keeps h step = subst HasAccess (sym step.1) h
 
 pub access_step : (old new : State) (e : Event) (r : Reply) → HasAccess old → StepsTo old e r new → HasAccess new
-access_step old new (event.Call by c) r h step = access_outcome (called old by c) old new (outcome r) (access_called old by c) h step
+access_step old new e r h step = access_outcome (meaning old e) old new (outcome r) (access_meaning old e) h step
 
 pub access_new : (slots : List (List ℕ)) → HasAccess (new_state slots)
 access_new slots = record { aggs = λ d. (each d).aggs; default = λ d p is. (each d).default p is }

@@ -1,6 +1,6 @@
 -- Every call leaves the values of aggregates as they are, but of those that it gives up.
 use Rattle.std.proofs.Common.{inl, inr, ◌≡◌, ◌≢◌, ℕ, ◌+◌, ◌==◌, List, [], ◌∷◌, ◌++◌, length, take, drop, ap, ◌∙◌, refl, sym, subst, arith, Option, Some, None, true, false, Bool}
-use Rattle.std.specs.Prelude.{fold, ◌&&◌, ◌||◌, slice_set, if◌then◌else◌, Result, Ok, Err}
+use Rattle.std.specs.Prelude.{fold, ◌&&◌, ◌||◌, slice_set, unwrap_or, if◌then◌else◌, Result, Ok, Err}
 use Rattle.std.specs.List.{list_any}
 use Rattle.std.specs.Option.{option_map_or}
 use Rattle.std.proofs.lemmas.Bool.Decides.{nat_tests}
@@ -14,9 +14,10 @@ use Rattle.iol_core.specs.Calls.Domains.{domain_new, exit}
 use Rattle.iol_core.specs.Calls.Pools.{pool_create, pool_close}
 use Rattle.iol_core.specs.Calls.Aggregates as aggs
 use Rattle.iol_core.specs.Calls.Descriptors as fds
+use Rattle.iol_core.specs.Calls.Outside.{conn_new, closed_by}
 use Rattle.iol_core.specs.Calls.Reading as reading
 use Rattle.iol_core.specs.Calls.Writing as writing
-use Rattle.iol_core.specs.Run.{called, StepsTo, Run, outcome}
+use Rattle.iol_core.specs.Run.{called, meaning, StepsTo, Run, outcome}
 use Rattle.iol_core.specs.declared.refusals.Refusal.{Refusal}
 use Rattle.iol_core.specs.declared.descriptors.Descriptor.{Descriptor}
 use Rattle.iol_core.specs.declared.descriptors.Descriptor.TheVariants as on
@@ -217,6 +218,13 @@ values_exit s by =
     itself : (by == by) ≡ false → ⊥
     itself stays = grind (arith, nat_tests, common_steps, stays)
 
+values_accept : (s : State) (by : ℕ) → KeepsValues s (fds.accept s by).after nothing
+values_accept s by =
+    let c : ℕ = unwrap_or (fds.waiting s by) 0 in
+    let x : Connection = record (conn_at s c) { accepted = true } in
+    let taken : State = with_conn s c x in
+    values_then s taken (fds.accept s by).after nothing (values_conn s c x) (values_fds taken by (placed (domain taken by).fds (fds.next_fd taken by) (on.Connection c)))
+
 -- After every call.
 
 values_called : (s : State) (by : ℕ) (c : Call) → KeepsValues s (called s by c).after (gives_up (event.Call by c))
@@ -241,6 +249,7 @@ values_called s by (call.IolRead fd n) = values_iol_read s by fd n
 values_called s by (call.IolWrite fd a) =
     let to : Option Descriptor = descriptor s by fd in
     values_written s by fd to (take (writing.fitting s to (length (text s by a))) (text s by a))
+values_called s by call.Accept = values_accept s by
 
 -- After each step, and after a run in which nobody gives it up.
 
@@ -250,6 +259,10 @@ values_outcome m old new (Err x) given keeps step = subst (λ s. KeepsValues old
 
 pub values_step : (old new : State) (e : Event) (r : Reply) → StepsTo old e r new → ValuesStay old e new
 values_step old new (event.Call by c) r step = record { each = values_outcome (called old by c) old new (outcome r) (gives_up (event.Call by c)) (values_called old by c) step }
+values_step old new (event.ConnNew p) r step = record { each = values_outcome (meaning old (event.ConnNew p)) old new (outcome r) nothing (values_same old (conn_new old p).after refl) step }
+values_step old new (event.Arrive c bytes) r step = record { each = values_outcome (meaning old (event.Arrive c bytes)) old new (outcome r) nothing (values_conn old c _) step }
+values_step old new (event.PeerClosed c how) r step = record { each = values_outcome (meaning old (event.PeerClosed c how)) old new (outcome r) nothing (values_conn old c (closed_by (conn_at old c) how)) step }
+values_step old new (event.Transmit c max) r step = record { each = values_outcome (meaning old (event.Transmit c max)) old new (outcome r) nothing (values_conn old c (record (conn_at old c) { outgoing = drop max (conn_at old c).outgoing })) step }
 
 pub values_run : (old new : State) (es : List Event) (rs : List Reply) (d a : ℕ) (t : Text) → aggregate old d a ≡ Some t → list_any (λ e. gives_up e d a) es ≡ false → Run old es rs new → aggregate new d a ≡ Some t
 values_run old new [] [] d a t is kept run = subst (λ s. aggregate s d a ≡ Some t) (sym run) is

@@ -5,7 +5,8 @@ use Rattle.iol_core.specs.Meaning.{Meaning, Step}
 use Rattle.iol_core.specs.Calls.Domains.{domain_new, exit}
 use Rattle.iol_core.specs.Calls.Pools.{pool_create, pool_close, set_pool}
 use Rattle.iol_core.specs.Calls.Aggregates.{agg_make, agg_dup, agg_cut, agg_split, agg_join, agg_replace, agg_drop, agg_give, show}
-use Rattle.iol_core.specs.Calls.Descriptors.{pipe, give_fd, close}
+use Rattle.iol_core.specs.Calls.Descriptors.{pipe, give_fd, close, accept}
+use Rattle.iol_core.specs.Calls.Outside.{conn_new, arrive, peer_closed, transmit}
 use Rattle.iol_core.specs.Calls.Reading.{iol_read}
 use Rattle.iol_core.specs.Calls.Writing.{iol_write}
 use Rattle.iol_core.specs.declared.refusals.Refusal.{Refusal}
@@ -44,10 +45,15 @@ called s by (call.GiveFd fd to) = replied reply.Fd (give_fd s by fd to)
 called s by (call.Close fd) = replied done (close s by fd)
 called s by (call.IolRead fd n) = replied reply.Agg (iol_read s by fd n)
 called s by (call.IolWrite fd a) = replied reply.Count (iol_write s by fd a)
+called s by call.Accept = replied reply.Fd (accept s by)
 
 -- what an event means
 abbrev pub meaning : State → Event → Meaning Reply
 meaning s (event.Call by c) = called s by c
+meaning s (event.ConnNew p) = replied reply.Conn (conn_new s p)
+meaning s (event.Arrive c bytes) = replied reply.Count (arrive s c bytes)
+meaning s (event.PeerClosed c how) = replied done (peer_closed s c how)
+meaning s (event.Transmit c max) = replied (λ x. reply.Segment x.0 x.1) (transmit s c max)
 
 -- a reply as an answer or a refusal
 abbrev pub outcome : Reply → Result Reply Refusal

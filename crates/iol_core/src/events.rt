@@ -1,4 +1,5 @@
 //! Calls, events and replies.
+use crate::descriptors::How;
 use crate::lists::{Bytes, Domains};
 use crate::numbers::{AggId, ConnId, DomainId, Fd, FileId, PoolId};
 use crate::refusals::Refusal;
@@ -69,12 +70,25 @@ pub enum Call {
         fd: Fd,
         agg: AggId,
     },
+    Accept,
 }
 
 /// What happens to a system: one atomic step.
 #[derive(Debug, Drop)]
 pub enum Event {
     Call { by: DomainId, call: Call },
+
+    /// A connection comes up. What arrives on it will lie in the pool.
+    ConnNew { pool: PoolId },
+
+    /// Bytes come in on a connection, as many as fit.
+    Arrive { conn: ConnId, bytes: Bytes },
+
+    /// The peer of a connection sends no more, or also takes no more.
+    PeerClosed { conn: ConnId, how: How },
+
+    /// A connection sends its first bytes, `max` or all where fewer wait.
+    Transmit { conn: ConnId, max: u32 },
 }
 
 /// What an event is answered.
