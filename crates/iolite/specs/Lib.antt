@@ -1,5 +1,7 @@
 pub mod Answers
 pub mod Failure
+pub mod Outside
 pub mod Printed
 pub mod Script
 pub mod Sizes
+pub mod Words

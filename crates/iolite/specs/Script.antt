@@ -1,13 +1,14 @@
 -- Scripts: what is read as one, what its lines ask for, and what they are answered.
 use Rattle.std.specs.Prelude.{◌≡◌, ◌⊎◌, ◌<◌, ◌≤◌, ◌==◌, ℕ, Bool, true, not, List, [], ◌∷◌, ◌++◌, Option, Some, None, length, codes, IsUtf8, ⊤}
-use Rattle.std.specs.List.{before_first, after_first, filter, slice_split}
-use Rattle.std.specs.Str.Parse.{IsNumeral, digits_value}
+use Rattle.std.specs.List.{filter, slice_split}
+use Rattle.std.specs.Str.Parse.{digits_value}
 use Rattle.iol_core.specs.Configuration.{IsInRange}
 use Rattle.iol_core.specs.declared.configuration.Config.{Config}
-use Rattle.iol_core.specs.declared.events.Event.TheVariants as event
 use Rattle.iolite.specs.declared.replay.TheConstants.{MAX_SCRIPT_BYTES}
 use Rattle.iolite.specs.declared.script.Line.{Line}
 use Rattle.iolite.specs.declared.script.Line.TheVariants as line
+use Rattle.iolite.specs.Outside.{IsEvent}
+use Rattle.iolite.specs.Words.{word, rest_of}
 
 -- at most as long as a script may be, and UTF-8
 abbrev pub IsScriptText : List ℕ → Type 0
@@ -30,13 +31,6 @@ without_blank ls = filter (λ l. not (is_blank l)) ls
 abbrev pub commands : List ℕ → List (List ℕ)
 commands text = without_blank (slice_split (λ b. b == 10) text)
 
--- the first word of a line, and what comes after the space behind it
-abbrev pub word : List ℕ → List ℕ
-word l = before_first (λ b. b == 32) l
-
-abbrev pub rest_of : List ℕ → List ℕ
-rest_of l = after_first (λ b. b == 32) l
-
 -- the sizes of a system: `CHUNKS GENERATIONS SUMS`, each in its range
 pub record AreSizes (words : List ℕ) (config : Config) : Type 0 where
   pub chunks : config.chunks ≡ digits_value 10 (word words)
@@ -49,10 +43,11 @@ pub record GivesSizes (l : List ℕ) (config : Config) : Type 0 where
   pub name : word l ≡ codes "config"
   pub sizes : AreSizes (rest_of l) config
 
--- a line that asks for a report, or for a call of the domain that it begins with; which call it is, is left open here
+-- a line that asks for a report, for a call of the domain that it begins with, or for what happens outside; which call it
+-- is, is left open here
 abbrev pub Asks : List ℕ → Line → Type 0
 Asks l line.Report = l ≡ codes "report"
-Asks l (line.Event (event.Call by c)) = IsNumeral 10 (word l) × (by ≡ digits_value 10 (word l))
+Asks l (line.Event e) = IsEvent (word l) (rest_of l) e
 
 abbrev pub AskInOrder : List (List ℕ) → List Line → Type 0
 AskInOrder [] [] = ⊤

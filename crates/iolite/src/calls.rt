@@ -31,6 +31,7 @@ fn parse_bare_call(alloc: Global, name: &str) -> Result<Call, LineError> {
         "domain_new" => Ok(Call::DomainNew),
         "exit" => Ok(Call::Exit),
         "pipe" => Ok(Call::Pipe),
+        "accept" => Ok(Call::Accept),
         "agg_make" => {
             let bytes = decode_text(alloc, "")?;
             Ok(Call::AggMake { bytes })

@@ -5,6 +5,7 @@
 
 mod calls;
 mod failure;
+mod outside;
 mod printed;
 mod replay;
 mod script;

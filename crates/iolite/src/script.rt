@@ -3,12 +3,14 @@ ghost use Rattle.std.specs.Option.{ForSome};
 ghost use Rattle.std.specs.Prelude.{◌≡◌, IsOk, IfOk, IfErr, OnOk};
 ghost use Rattle.std.specs.Str.Parse.{digits_value};
 ghost use Rattle.iolite.specs.Failure.{IsOfLines};
+ghost use Rattle.iolite.specs.Outside.{IsEvent};
 ghost use Rattle.iolite.specs.Script.{AddsLine, AreSizes, Says, SetsSizes, commands, is_blank};
 ghost use Rattle.iolite.specs.Sizes.{WriteSizes};
 ghost use Rattle.iol_core.specs.Configuration.{IsInRange};
 
 use crate::calls::parse_call;
 use crate::failure::Failure;
+use crate::outside::parse_outside;
 use crate::words::{LineError, parse_u32, split_word};
 use iol_core::configuration::Config;
 use iol_core::events::Event;
@@ -75,9 +77,8 @@ impl Script {
         if first == "config" {
             return self.set_sizes(rest);
         }
-        let by = DomainId::new(parse_u32(first)?);
-        let call = parse_call(alloc, rest)?;
-        self.lines.push(Line::Event(Event::Call { by, call }))?;
+        let event = parse_event(alloc, first, rest)?;
+        self.lines.push(Line::Event(event))?;
         Ok(())
     }
 
@@ -92,6 +93,20 @@ impl Script {
         self.config = Some(parse_sizes(words)?);
         Ok(())
     }
+}
+
+// Reads a call of the domain of that number, or what happens outside under that name.
+fn parse_event(alloc: Global, first: &str, rest: &str) -> Result<Event, LineError>
+    ensures { IfOk result (IsEvent first.now rest.now) }
+{
+    let Ok(by) = parse_u32(first) else {
+        return parse_outside(alloc, first, rest);
+    };
+    let call = parse_call(alloc, rest)?;
+    Ok(Event::Call {
+        by: DomainId::new(by),
+        call,
+    })
 }
 
 // Whether a line says nothing: an empty one, or a comment.

@@ -225,6 +225,51 @@ fn lines_that_are_skipped(rt: HostRuntime) {
 }
 
 #[test]
+fn connections(rt: HostRuntime) {
+    let table = [
+        // A domain is done with a connection before its peer is, and what it wrote is still sent.
+        (
+            "1 pool_create 1 1\n1 set_pool 1\nconn_new 1\n1 accept\n1 iol_read 0 4\narrive 1 abc\n\
+                1 iol_read 0 2\n1 show 1\npeer_closed 1 done\narrive 1 d\n1 iol_read 0 9\n\
+                1 show 2\n1 iol_read 0 9\n1 show 3\n1 agg_make xyz\n1 iol_write 0 4\n1 close 0\n\
+                transmit 1 2\ntransmit 1 2\ntransmit 1 2\n",
+            "pool 1\ndone\nconn 1\nfd 0\nrefused WouldBlock\ncount 3\nagg 1\nbytes ab\ndone\n\
+                refused BrokenPipe\nagg 2\nbytes c\nagg 3\nbytes\nagg 4\ncount 3\ndone\n\
+                segment 8786 xy\nsegment 85ff z\nrefused BadFd\n",
+        ),
+        // A page that is written anew has another sum, where one sum is remembered.
+        (
+            "config 256 4294967295 1\n1 pool_create 1 1\n1 set_pool 1\nconn_new 1\n1 accept\n\
+                1 agg_make abc\n1 iol_write 0 1\ntransmit 1 1460\n1 agg_drop 1\n1 agg_make abd\n\
+                1 iol_write 0 2\ntransmit 1 1460\n",
+            "pool 1\ndone\nconn 1\nfd 0\nagg 1\ncount 3\nsegment 3b9d abc\ndone\nagg 2\ncount 3\n\
+                segment 3a9d abd\n",
+        ),
+        // A domain accepts the first connection whose pool names it. One that nobody accepted goes with its peer.
+        (
+            "1 domain_new\n1 pool_create 1 1\n1 pool_create 1 2\nconn_new 2\nconn_new 1\nconn_new 3\n\
+                arrive 1\narrive 1 ab\narrive 3 ab\n1 accept\n1 accept\n1 give_fd 0 2\n\
+                peer_closed 1 gone\n2 accept\narrive 1\ntransmit 2 1\n1 exit\ntransmit 2 1\nreport\n",
+            "domain 2\npool 1\npool 2\nconn 1\nconn 2\nrefused NoPool\ncount 0\ncount 2\n\
+                refused BadFd\nfd 0\nrefused WouldBlock\nrefused Denied pool 1\ndone\n\
+                refused WouldBlock\nrefused BadFd\nrefused WouldBlock\ndone\nrefused BadFd\n\
+                pool 1 pages 16 free 16 retired 0\npool 2 pages 16 free 16 retired 0\n\
+                extents 0 dirty 0 buffers 0\n",
+        ),
+        // Bytes that arrive want pages of the connection's pool, as many as are taken.
+        (
+            "1 pool_create 1 1\n1 set_pool 1\nconn_new 1\n1 agg_fill 65536 x\narrive 1 a\narrive 1\n\
+                1 agg_drop 1\narrive 1 a\nreport\n",
+            "pool 1\ndone\nconn 1\nagg 1\nrefused NoRoom pool 1\ncount 0\ndone\ncount 1\n\
+                pool 1 pages 16 free 15 retired 0\nextents 0 dirty 0 buffers 1\n",
+        ),
+    ];
+    for (script, replies) in table {
+        assert_replies(&rt, script, replies);
+    }
+}
+
+#[test]
 fn texts_both_ways(rt: HostRuntime) -> Result<(), Fail> {
     let table = [
         ("", "bytes"),
@@ -282,6 +327,19 @@ fn lines_that_are_bad(rt: HostRuntime) -> Result<(), Fail> {
         "1 pool_close 1 1",
         "1 agg_drop x",
         "agg_drop 1",
+        "1 accept 0",
+        "1 conn_new 1",
+        "accept",
+        "conn_new",
+        "conn_new 1 1",
+        "arrive",
+        "arrive x a",
+        "peer_closed 1",
+        "peer_closed 1 Done",
+        "peer_closed 1 done ",
+        "transmit 1",
+        "transmit 1 -1",
+        "transmit 1 1 1",
         "1 exit 1",
         "1 close",
         "1 close x",
