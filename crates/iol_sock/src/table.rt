@@ -1,8 +1,9 @@
 //! The table of live connections.
-ghost use Rattle.std.specs.Prelude.{◌≡◌, []};
+ghost use Rattle.std.specs.Prelude.{◌≡◌, ◌==◌, []};
+ghost use Rattle.std.specs.List.{list_any};
 
 use crate::connections::Connection;
-use iol_core::numbers::ConnId;
+use iol_core::numbers::{ConnId, PoolId};
 use std::alloc::Global;
 use std::marker::Model;
 
@@ -33,5 +34,14 @@ impl Connections {
             list: Vec::new(alloc),
             next: 1,
         }
+    }
+
+    /// Whether a live connection is of the pool.
+    pub fn is_busy(&self, pool: PoolId) -> bool
+        ensures { result ≡ list_any (λ e. e.1.pool == pool) self.now.conns }
+    {
+        self.list
+            .iter()
+            .any(|entry| entry.1.pool().number() == pool.number())
     }
 }
