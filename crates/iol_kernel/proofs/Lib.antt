@@ -4,6 +4,7 @@ pub mod Uses
 pub mod Once
 pub mod Sound
 pub mod Ends
+pub mod Pooling
 pub mod Effects
 pub mod Opening
 pub mod Flowing

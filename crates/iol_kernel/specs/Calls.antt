@@ -17,23 +17,25 @@ use Rattle.iol_kernel.specs.KernelState.{KernelState, Reading, read_of, machine_
 
 -- The machine's step whatever is read: of bytes it is the step that the call means; of places it says that the bytes
 -- of its result lie where its meaning says, so that none was copied, and that nothing else moved.
--- The pages and the pools are as they were.
+-- The pages, the pools and the remembered sums are as they were.
 pub record CarriesOut {A : Type 0} (m : State → Meaning A) (old : KernelState) (r : Result A Refusal) (new : KernelState) : Type 0 where
   pub step : (f : Reading) → KeepsPools f → Step (m (read_of f old)) (read_of f old) r (read_of f new)
   pub arena : new.store.arena ≡ old.store.arena
   pub pools : new.store.pools ≡ old.store.pools
   pub roomy : (p : ℕ) → r ≡ Err (NoRoom p) → ⊥
   pub refused : OnErr r (new ≡ old)
+  pub sums : new.sums ≡ old.sums
   pub sound : IsSound new
   pub stays : Stays old.store new.store
 
 -- The machine's step, of bytes and of places: what the call leaves lies where it lay.
--- Pages and chunks may be freed or taken; no page is raised, and an open pool keeps its chunks.
+-- Pages and chunks may be freed or taken; no page is raised, an open pool keeps its chunks, and remembered sums stay.
 pub record KeepsPlaces {A : Type 0} (m : State → Meaning A) (old : KernelState) (r : Result A Refusal) (new : KernelState) : Type 0 where
   pub step : Step (m (machine_of old)) (machine_of old) r (machine_of new)
   pub places : (f : Reading) → KeepsPools f → Step (m (read_of f old)) (read_of f old) r (read_of f new)
   pub pages : KeepsPages old.store new.store []
   pub refused : OnErr r (new ≡ old)
+  pub sums : new.sums ≡ old.sums
   pub sound : IsSound new
   pub stays : Stays old.store new.store
 
@@ -43,6 +45,7 @@ pub record Answers {A : Type 0} (m : State → Meaning A) (old : KernelState) (a
   pub after : (f : Reading) → KeepsPools f → read_of f new ≡ (m (read_of f old)).after
   pub arena : new.store.arena ≡ old.store.arena
   pub pools : new.store.pools ≡ old.store.pools
+  pub sums : new.sums ≡ old.sums
   pub sound : IsSound new
   pub stays : Stays old.store new.store
 
@@ -51,6 +54,7 @@ pub record Leaves (after : State → State) (old new : KernelState) : Type 0 whe
   pub bytes : machine_of new ≡ after (machine_of old)
   pub places : (f : Reading) → KeepsPools f → read_of f new ≡ after (read_of f old)
   pub pages : KeepsPages old.store new.store []
+  pub sums : new.sums ≡ old.sums
   pub sound : IsSound new
   pub stays : Stays old.store new.store
 
@@ -59,6 +63,7 @@ pub record Leaves (after : State → State) (old new : KernelState) : Type 0 whe
 pub record MakesAgg (d pool n : ℕ) (old new : KernelState) : Type 0 where
   pub slices : List Slice
   pub each : (f : Reading) → read_of f new ≡ with_agg (read_of f old) d (read f slices)
+  pub sums : new.sums ≡ old.sums
   pub made_on : MadeOn old.store.arena new.store.arena (bufs_of slices) (lowest_of old.store pool n)
   pub pages : KeepsPages old.store new.store (lowest_of old.store pool n)
 

@@ -10,7 +10,7 @@ use Rattle.iol_kernel.specs.KernelState.{KernelState, Reading, read_of, machine_
 use Rattle.iol_kernel.specs.declared.kernel.Kernel.{Kernel}
 
 abbrev pub state_of : Kernel → KernelState
-state_of k = record { store = k.store; domains = domains_of k.domains; pipes = k.pipes.places }
+state_of k = record { store = k.store; domains = domains_of k.domains; pipes = k.pipes.places; conns = k.conns.conns; next_conn = k.conns.next; sums = k.sums }
 
 -- the copying machine's state, with the bytes that lie there
 abbrev pub machine : Kernel → State

@@ -26,8 +26,10 @@ mod draining;
 mod incoming;
 pub mod laws;
 mod outgoing;
+mod table;
 
 pub use connections::Connection;
 pub use draining::Drained;
 pub use iol_pipe::Arrived;
 pub use outgoing::Segment;
+pub use table::Connections;
