@@ -15,6 +15,7 @@ use Rattle.iol_kernel.specs.KernelState.{KernelState, machine_of, layout_of, IsS
 use Rattle.iol_kernel.proofs.Stay.{stays_here}
 use Rattle.iol_system.specs.Placed.{placed_by, Creates}
 use Rattle.iol_system.specs.Promises.{Promises, Chain}
+use Rattle.iol_system.specs.Remembered.{Remembers}
 use Rattle.iol_system.specs.Room.{fits, IsDone, IsNoRoom, IsRefused}
 use Rattle.iol_system.specs.Safe.{IsSafe}
 use Rattle.iol_system.specs.Values.{ValuesStayOver}
@@ -25,8 +26,8 @@ new_safe h sound new = record { sound = sound; access = subst HasAccess (sym new
 
 -- what the kernel says of an event, and what the copying machine says alone
 module _ (old new : KernelState) (e : Event) (r : Reply) where
-  pub promises_kept : IsSafe old → StepsTo (machine_of old) e r (machine_of new) → (IsDone r → fits old e ≡ true) → (IsNoRoom r → fits old e ≡ false) → (IsRefused r → new ≡ old) → (is_sharing e ≡ true → LaysOut (layout_of old) e r (layout_of new)) → (is_sharing e ≡ true → new.store.arena ≡ old.store.arena) → (IsDone r → KeepsPages old.store new.store (placed_by old e)) → Creates old e r new → IsSound new → Stays old.store new.store → Promises old e r new
-  promises_kept safe step room no_room refused shares pages publishes creates sound stays = record {
+  pub promises_kept : IsSafe old → StepsTo (machine_of old) e r (machine_of new) → (IsDone r → fits old e ≡ true) → (IsNoRoom r → fits old e ≡ false) → (IsRefused r → new ≡ old) → (is_sharing e ≡ true → LaysOut (layout_of old) e r (layout_of new)) → (is_sharing e ≡ true → new.store.arena ≡ old.store.arena) → (IsDone r → KeepsPages old.store new.store (placed_by old e)) → Creates old e r new → Remembers old e r new → IsSound new → Stays old.store new.store → Promises old e r new
+  promises_kept safe step room no_room refused shares pages publishes creates sums sound stays = record {
     step = step;
     room = room;
     no_room = no_room;
@@ -35,6 +36,7 @@ module _ (old new : KernelState) (e : Event) (r : Reply) where
     pages = pages;
     publishes = publishes;
     creates = creates;
+    sums = sums;
     safe = record { sound = sound; access = access_step (machine_of old) (machine_of new) e r safe.access step };
     stays = stays;
     values = values_step (machine_of old) (machine_of new) e r step;

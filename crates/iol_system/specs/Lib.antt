@@ -1,6 +1,7 @@
 pub mod Laws
 pub mod Placed
 pub mod Promises
+pub mod Remembered
 pub mod Replies
 pub mod Room
 pub mod Safe

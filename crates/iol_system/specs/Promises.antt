@@ -12,14 +12,15 @@ use Rattle.iol_hold.specs.Moves.{Stays}
 use Rattle.iol_hold.specs.Pages.{KeepsPages}
 use Rattle.iol_kernel.specs.KernelState.{KernelState, machine_of, layout_of}
 use Rattle.iol_system.specs.Placed.{placed_by, Creates}
+use Rattle.iol_system.specs.Remembered.{Remembers}
 use Rattle.iol_system.specs.Room.{fits, IsDone, IsNoRoom, IsRefused}
 use Rattle.iol_system.specs.Safe.{IsSafe}
 
 -- From old to new, by this event with this reply: the copying machine's step; NoRoom exactly where there is no room;
 -- a refusal changes nothing at all; what a sharing call hands on lies where it lay, and no page is published or freed;
--- of the others `agg_make` alone makes buffers, on the lowest free pages, each of which is raised by one; an open pool keeps
--- its chunks, and a new one has the lowest free; new is safe again; live buffers keep their bytes, and aggregates their
--- values.
+-- of the others `agg_make` and `arrive` alone make buffers, on the lowest free pages, each of which is raised by one; an open
+-- pool keeps its chunks, and a new one has the lowest free; sending remembers the sums of what is sent; new is safe again;
+-- live buffers keep their bytes, and aggregates their values.
 pub record Promises (old : KernelState) (e : Event) (r : Reply) (new : KernelState) : Type 0 where
   pub step : StepsTo (machine_of old) e r (machine_of new)
   pub room : IsDone r → fits old e ≡ true
@@ -29,6 +30,7 @@ pub record Promises (old : KernelState) (e : Event) (r : Reply) (new : KernelSta
   pub pages : is_sharing e ≡ true → new.store.arena ≡ old.store.arena
   pub publishes : IsDone r → KeepsPages old.store new.store (placed_by old e)
   pub creates : Creates old e r new
+  pub sums : Remembers old e r new
   pub safe : IsSafe new
   pub stays : Stays old.store new.store
   pub values : ValuesStay (machine_of old) e (machine_of new)

@@ -1,6 +1,8 @@
 -- When there is room, exactly.
 use Rattle.std.specs.Prelude.{ℕ, Bool, true, nat_le, length}
+use Rattle.iol_core.specs.State.{conn_at}
 use Rattle.iol_core.specs.Calls.Aggregates.{default_pool}
+use Rattle.iol_core.specs.Calls.Outside.{arrive}
 use Rattle.iol_core.specs.declared.events.Call.{Call}
 use Rattle.iol_core.specs.declared.events.Call.TheVariants as call
 use Rattle.iol_core.specs.declared.events.Event.{Event}
@@ -18,8 +20,11 @@ call_fits h by (call.AggMake bytes) = has_room h.store (default_pool (machine_of
 call_fits h by (call.PoolCreate chunks list) = nat_le chunks (length (free_chunks h.store.arena))
 call_fits h by c = true
 
+-- bytes that arrive lie in the connection's pool, as many as are taken
 abbrev pub fits : KernelState → Event → Bool
 fits h (event.Call by c) = call_fits h by c
+fits h (event.Arrive c bytes) = has_room h.store (conn_at (machine_of h) c).pool (arrive (machine_of h) c bytes).answer
+fits h e = true
 
 abbrev pub IsDone : Reply → Type 0
 IsDone (reply.Refused x) = ⊥

@@ -8,6 +8,7 @@ ghost use Rattle.iol_core.specs.Sharing.{is_sharing, LaysOut};
 ghost use Rattle.iol_kernel.specs.Kernel.{state_of};
 ghost use Rattle.iol_system.specs.Placed.{placed_by, Creates};
 ghost use Rattle.iol_system.specs.Promises.{Promises, Chain};
+ghost use Rattle.iol_system.specs.Remembered.{Remembers};
 ghost use Rattle.iol_system.specs.Replies.{reply_of};
 ghost use Rattle.iol_system.specs.Room.{fits, IsDone, IsNoRoom, IsRefused};
 ghost use Rattle.iol_system.specs.Safe.{IsSafe};
@@ -16,11 +17,12 @@ use iol_core::events::{Call, Event, Reply};
 use iol_core::numbers::DomainId;
 use iol_core::refusals::Refusal;
 use iol_kernel::kernel::Kernel;
+use iol_sock::Segment;
 use std::alloc::{AllocError, Global};
 
 // Carries out one call of a domain: its answer, or its refusal. Each clause comes from that call of the kernel.
 #[tactic(auto, using(iol_kernel::proofs::Carried::carried_rules, crate::proofs::Paged::paged_rules))]
-fn answer_to(kernel: &mut Kernel, by: DomainId, call: &Call) -> Result<Reply, Refusal>
+fn answer_call(kernel: &mut Kernel, by: DomainId, call: &Call) -> Result<Reply, Refusal>
     requires { IsSound (state_of kernel.old) }
     ensures step { StepsTo (machine_of (state_of kernel.old)) (Event.Call by call.now)
         (reply_of result) (machine_of (state_of kernel.new)) }
@@ -38,6 +40,8 @@ fn answer_to(kernel: &mut Kernel, by: DomainId, call: &Call) -> Result<Reply, Re
         KeepsPages (state_of kernel.old).store (state_of kernel.new).store
         (placed_by (state_of kernel.old) (Event.Call by call.now)) }
     ensures creates { Creates (state_of kernel.old) (Event.Call by call.now) (reply_of result)
+        (state_of kernel.new) }
+    ensures sums { Remembers (state_of kernel.old) (Event.Call by call.now) (reply_of result)
         (state_of kernel.new) }
     ensures sound { IsSound (state_of kernel.new) }
     ensures stays { Stays (state_of kernel.old).store (state_of kernel.new).store }
@@ -90,27 +94,57 @@ fn answer_to(kernel: &mut Kernel, by: DomainId, call: &Call) -> Result<Reply, Re
         }
         Call::IolRead { fd, count } => Ok(Reply::Agg(kernel.iol_read(by, *fd, *count)?)),
         Call::IolWrite { fd, agg } => Ok(Reply::Count(kernel.iol_write(by, *fd, *agg)?)),
+        Call::Accept => Ok(Reply::Fd(kernel.accept(by)?)),
     }
 }
 
-// Carries out one call of a domain, and replies.
-fn make_call(kernel: &mut Kernel, by: DomainId, call: &Call) -> Reply
-    requires { IsSafe (state_of kernel.old) }
-    ensures { Promises (state_of kernel.old) (Event.Call by call.now) result (state_of kernel.new) }
+// Carries out a call, or what happens outside: its answer, or its refusal.
+#[tactic(auto, using(iol_kernel::proofs::Carried::carried_rules, crate::proofs::Paged::paged_rules))]
+fn answer_to(kernel: &mut Kernel, event: &Event) -> Result<Reply, Refusal>
+    requires { IsSound (state_of kernel.old) }
+    ensures step { StepsTo (machine_of (state_of kernel.old)) event.now
+        (reply_of result) (machine_of (state_of kernel.new)) }
+    ensures room { IsDone (reply_of result) → fits (state_of kernel.old) event.now ≡ true }
+    ensures no_room { IsNoRoom (reply_of result) → fits (state_of kernel.old) event.now ≡ false }
+    ensures refused { IsRefused (reply_of result) → state_of kernel.new ≡ state_of kernel.old }
+    ensures shares { is_sharing event.now ≡ true →
+        LaysOut (layout_of (state_of kernel.old)) event.now (reply_of result)
+        (layout_of (state_of kernel.new)) }
+    ensures pages { is_sharing event.now ≡ true →
+        (state_of kernel.new).store.arena ≡ (state_of kernel.old).store.arena }
+    ensures publishes { IsDone (reply_of result) →
+        KeepsPages (state_of kernel.old).store (state_of kernel.new).store
+        (placed_by (state_of kernel.old) event.now) }
+    ensures creates { Creates (state_of kernel.old) event.now (reply_of result)
+        (state_of kernel.new) }
+    ensures sums { Remembers (state_of kernel.old) event.now (reply_of result)
+        (state_of kernel.new) }
+    ensures sound { IsSound (state_of kernel.new) }
+    ensures stays { Stays (state_of kernel.old).store (state_of kernel.new).store }
 {
-    match answer_to(kernel, by, call) {
-        Ok(reply) => reply,
-        Err(refusal) => Reply::Refused(refusal),
+    match event {
+        Event::Call { by, call } => answer_call(kernel, *by, call),
+        Event::ConnNew { pool } => Ok(Reply::Conn(kernel.conn_new(*pool)?)),
+        Event::Arrive { conn, bytes } => Ok(Reply::Count(kernel.arrive(*conn, bytes)?)),
+        Event::PeerClosed { conn, how } => {
+            kernel.peer_closed(*conn, *how)?;
+            Ok(Reply::Done)
+        }
+        Event::Transmit { conn, max } => {
+            let Segment { bytes, checksum } = kernel.transmit(*conn, *max)?;
+            Ok(Reply::Segment { bytes, checksum })
+        }
     }
 }
 
-/// Carries out one event.
+/// Carries out one event, and replies.
 pub(crate) fn carry_out(kernel: &mut Kernel, event: &Event) -> Reply
     requires { IsSafe (state_of kernel.old) }
     ensures { Promises (state_of kernel.old) event.now result (state_of kernel.new) }
 {
-    match event {
-        Event::Call { by, call } => make_call(kernel, *by, call),
+    match answer_to(kernel, event) {
+        Ok(reply) => reply,
+        Err(refusal) => Reply::Refused(refusal),
     }
 }
 

@@ -18,6 +18,7 @@ ghost use Rattle.iol_kernel.specs.Report.{reports_of};
 ghost use Rattle.iol_arena.specs.State.{no_entry};
 ghost use Rattle.iol_arena.specs.Buffers.{SharesNoPage, live_pages};
 ghost use Rattle.iol_system.specs.Placed.{placed_by, Creates};
+ghost use Rattle.iol_system.specs.Remembered.{Remembers};
 ghost use Rattle.iol_system.specs.Room.{fits, IsDone, IsNoRoom, IsRefused};
 
 use crate::step::{carry_out, run_all};
@@ -107,11 +108,14 @@ impl System {
             LaysOut (layout_of self.old) event result (layout_of self.new) }
         ensures pages { is_sharing event ≡ true → self.new.store.arena ≡ self.old.store.arena }
 
-        // Of all others `agg_make` alone publishes, on the lowest free pages of the caller's default pool, each of which is
-        // raised by one; an open pool keeps its chunks, and a new one has the lowest free chunks, as many as asked for.
+        // Of all others `agg_make` and `arrive` alone publish, on the lowest free pages of the pool, each of which is raised
+        // by one; an open pool keeps its chunks, and a new one has the lowest free chunks, as many as asked for.
         ensures publishes { IsDone result →
             KeepsPages self.old.store self.new.store (placed_by self.old event) }
         ensures creates { Creates self.old event result self.new }
+
+        // Sending uses the sum of each slice that is sent; nothing else touches the remembered sums.
+        ensures sums { Remembers self.old event result self.new }
 
         // Counts are those of the slices, no page is lost, and what a domain has it may read.
         ensures safe { IsSafe self.new }
