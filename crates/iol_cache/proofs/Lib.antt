@@ -28,4 +28,5 @@ pub mod Woven
 pub mod Steps
 pub mod Tiled
 pub mod Replaced
+pub mod Served
 pub mod Written

@@ -12,6 +12,7 @@ use Rattle.iol_cache.specs.Cached.{Cached, file_in, extents_in, order_in}
 use Rattle.iol_cache.specs.Evicting.{Holding, EvictsAll, GivesUp}
 use Rattle.iol_cache.specs.Gaps.{gap_pages}
 use Rattle.iol_cache.specs.Going.{CountsHits, FillsFile}
+use Rattle.iol_cache.specs.Loading.{PlacesSome}
 use Rattle.iol_cache.specs.Reading.{SameButRoom}
 use Rattle.iol_cache.specs.Weaving.{places_beside}
 
@@ -36,6 +37,20 @@ pub record FillsAfter (f from to : ℕ) (pins : List Slice) (gaps : List Span) (
   pub less : GivesUp old mid
   pub full : Holding
   pub fills : FillsFile f from to (places pins) gaps disk mid full xs
+  pub cache : new.cache ≡ full.cache
+  pub released : Moves full.store new.store (bufs_of pins) []
+  pub frees : FreesOnly full.store new.store
+
+-- Room was made for the gaps, or as far as there is room; nothing is left of what was made of them, and what was shared
+-- beside them was released.
+pub record UndoesAfter (f : ℕ) (pins : List Slice) (gaps : List Span) (old new : Holding) : Type 0 where
+  pub mid : Holding
+  pub victims : EvictsAll (file_in old.cache.files f).pool (Some (gap_pages gaps)) old mid
+  pub less : GivesUp old mid
+  pub full : Holding
+  pub same : SameButRoom mid.cache full.cache
+  pub moves : Moves mid.store full.store [] []
+  pub placed : PlacesSome mid.store full.store (file_in old.cache.files f).pool
   pub cache : new.cache ≡ full.cache
   pub released : Moves full.store new.store (bufs_of pins) []
   pub frees : FreesOnly full.store new.store

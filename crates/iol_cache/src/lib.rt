@@ -30,6 +30,7 @@ mod marks;
 mod ranking;
 mod reading;
 mod replacing;
+mod serving;
 mod sharing;
 mod users;
 mod weaving;

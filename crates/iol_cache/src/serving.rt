@@ -1,0 +1,87 @@
+//! Reads of files: what is in memory is shared, room is made for the gaps, and these are read.
+ghost use Rattle.std.specs.Prelude.{◌≡◌, ℕ, ◌+◌, ◌<◌, ◌≤◌, ◌^◌, ◌++◌, [], All, length, true, OnErr, IfOk, IfErr};
+ghost use Rattle.iol_core.specs.Meaning.{WantOfRoomOrFault};
+ghost use Rattle.iol_core.specs.Numbered.{is_numbered};
+ghost use Rattle.iol_hold.specs.Moves.{Covers};
+ghost use Rattle.iol_hold.specs.Places.{byte_len};
+ghost use Rattle.iol_hold.specs.Room.{pages_of};
+ghost use Rattle.iol_hold.specs.Texts.{bufs_of, AllReadable};
+ghost use Rattle.iol_extent.specs.Spans.{AreInOrder, IsGapSpan};
+ghost use Rattle.iol_cache.specs.Cached.{clean_held, extents_in, file_in, held, order_in};
+ghost use Rattle.iol_cache.specs.Cache.{cached_of, holding};
+ghost use Rattle.iol_cache.specs.Gaps.{gap_pages};
+ghost use Rattle.iol_cache.specs.Going.{Goes};
+ghost use Rattle.iol_cache.specs.Loading.{Asks};
+ghost use Rattle.iol_cache.specs.Pinned.{pinned_beside};
+ghost use Rattle.iol_cache.specs.Ranges.{FillsAfter, UndoesAfter};
+ghost use Rattle.iol_cache.specs.Serving.{TellsRoom};
+ghost use Rattle.iol_cache.specs.Sharing.{CountsBelow};
+ghost use Rattle.iol_cache.specs.Sound.{IsSound};
+ghost use Rattle.iol_cache.specs.Weaving.{len_beside};
+
+use crate::cache::Cache;
+use crate::reading::count_pages;
+use iol_agg::Agg;
+use iol_back::backing::Backing;
+use iol_core::limits::MAX_FILE_BYTES;
+use iol_core::numbers::FileId;
+use iol_core::refusals::Refusal;
+use iol_extent::spans::Span;
+use iol_hold::Store;
+use std::alloc::Global;
+
+impl Cache {
+    // Makes room for the gaps of a range, reads them, and puts the range together from them and from what was shared
+    // beside them, which is released.
+    fn fill_pinned<B: Backing>(
+        &mut self,
+        alloc: Global,
+        store: &mut Store,
+        backing: &mut B,
+        file: FileId,
+        from: u32,
+        to: u32,
+        pins: Agg,
+        gaps: &[Span],
+    ) -> Result<Agg, Refusal>
+        requires sound { IsSound store.old (cached_of self.old) }
+        requires file { is_numbered self.old.files.items file ≡ true }
+        requires ordered { from ≤ to }
+        requires end { to ≤ MAX_FILE_BYTES }
+        requires in_order { AreInOrder from to gaps.now }
+        requires gaps { All (IsGapSpan (extents_in self.old.files.items file)) gaps.now }
+        requires pins_len { byte_len pins ≡ len_beside from to gaps.now }
+        requires held { Covers store.old (held self.old.files.items ++ bufs_of pins) }
+        requires readable { AllReadable store.old pins }
+        requires room { length gaps.now ≤ (file_in self.old.files.items file).extents.room }
+        requires entries { let p = (file_in self.old.files.items file).pool in
+            length gaps.now ≤ (order_in self.old.orders.items p).room }
+        requires few { CountsBelow store.old (2 ^ 60) }
+        ensures filled { IfOk result (FillsAfter file from to pins gaps.now (B.disk backing.old)
+            (holding store.old self.old) (holding store.new self.new)) }
+        ensures undone { OnErr result (UndoesAfter file pins gaps.now
+            (holding store.old self.old) (holding store.new self.new)) }
+        ensures goes { IfOk result (λ a. Goes (B.disk backing.old) (bufs_of pins) (bufs_of a)
+            (holding store.old self.old) (holding store.new self.new)) }
+        ensures gone { OnErr result (Goes (B.disk backing.old) (bufs_of pins) []
+            (holding store.old self.old) (holding store.new self.new)) }
+        ensures sound { IsSound store.new (cached_of self.new) }
+        ensures room { let p = (file_in self.old.files.items file).pool in
+            let wanted = pinned_beside store.old (clean_held self.old.files.items) p +
+            gap_pages gaps.now in let all = length (pages_of store.old p) in
+            TellsRoom (wanted ≤ all) (all < wanted) result }
+        ensures disk { Asks (length gaps.now) (B.disk backing.old) (B.disk backing.new) result }
+        ensures late { IfErr result
+            (WantOfRoomOrFault (file_in self.old.files.items file).pool file) }
+    {
+        let place = file.number() as usize - 1;
+        let pool = self.files[place].pool;
+        if !self.make_room(store, pool, count_pages(gaps)) {
+            pins.release(store);
+            return Err(Refusal::NoRoom { pool });
+        }
+        let filled = self.fill(alloc, store, backing, file, from, to, &pins, gaps);
+        pins.release(store);
+        filled
+    }
+}
