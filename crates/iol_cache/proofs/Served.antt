@@ -1,34 +1,47 @@
 -- A range that is read after its hits were shared: how its holds go.
-use Rattle.std.proofs.Common.{◌≡◌, ℕ, ◌+◌, ◌<◌, ◌≤◌, true, List, [], ◌++◌, length, Result, Ok, Err, IfOk, OnErr, refl, sym, ap, ◌∙◌, arith, subst}
-use Rattle.std.specs.List.{All}
-use Rattle.std.proofs.lemmas.List.Elements.{All-weaker}
+use Rattle.std.proofs.Common.{◌≡◌, ℕ, ◌+◌, ◌-◌, ◌<◌, ◌≤◌, true, List, [], ◌∷◌, ◌++◌, length, IsSome, None, Some, Result, Ok, Err, IfOk, OnErr, refl, sym, ap, ◌∙◌, arith, subst}
+use Rattle.std.specs.Prelude.{take, drop}
+use Rattle.std.specs.List.{All, AllZip}
+use Rattle.std.proofs.lemmas.List.Elements.{All-append, All-cons, All-drop, All-head, All-nil, All-tail, All-take, All-weaker}
 use Rattle.iol_core.specs.Numbered.{is_numbered}
 use Rattle.iol_core.specs.declared.numbers.BufId.{BufId}
 use Rattle.iol_core.specs.declared.refusals.Refusal.{Refusal}
 use Rattle.iol_core.specs.declared.refusals.Refusal.TheVariants as refusal
 use Rattle.iol_arena.specs.State.{page_count}
 use Rattle.iol_back.specs.Disk.{Disk}
+use Rattle.iol_extent.specs.Extents.{Extent, IsApart, begins_at, cover, put_in}
 use Rattle.iol_extent.specs.Spans.{AreInOrder, IsGapSpan}
 use Rattle.iol_extent.specs.declared.spans.Span.{Span}
 use Rattle.iol_hold.specs.Moves.{tally, Moves, Covers, SameLists}
-use Rattle.iol_hold.specs.Places.{places}
+use Rattle.iol_hold.specs.Places.{Place, places}
 use Rattle.iol_hold.specs.Stored.{Stored, AllSettled}
-use Rattle.iol_hold.specs.Texts.{AllReadable, bufs_of}
+use Rattle.iol_hold.specs.Texts.{AllReadable, IsThere, bufs_of}
 use Rattle.iol_hold.specs.declared.slices.Slice.{Slice}
 use Rattle.iol_hold.proofs.Counting.{tally-append, tally_none}
 use Rattle.iol_hold.proofs.Moving.{moves_none}
 use Rattle.iol_hold.proofs.Paging.{keeps_pages_same}
 use Rattle.iol_hold.proofs.Reading.{readable_stays}
-use Rattle.iol_cache.specs.Cached.{Cached, extents_in, held}
+use Rattle.iol_cache.specs.declared.files.CachedFile.{CachedFile}
+use Rattle.iol_cache.specs.Cached.{Cached, extents_in, file_in, held}
 use Rattle.iol_cache.specs.Evicting.{GivesUp, Holding, KeepsPlaces}
+use Rattle.iol_cache.specs.Gaps.{IsMade, all_parts, all_put}
 use Rattle.iol_cache.specs.Going.{FillsFile, Goes}
 use Rattle.iol_cache.specs.Loading.{PlacesSome}
+use Rattle.iol_cache.specs.Ranges.{IsCleanSpan}
 use Rattle.iol_cache.specs.Reading.{SameButRoom}
 use Rattle.iol_cache.specs.Serving.{TellsRoom}
+use Rattle.iol_cache.specs.Sharing.{IsCoveredSpan, places_over}
 use Rattle.iol_cache.specs.Sound.{IsSound}
+use Rattle.iol_cache.specs.Weaving.{woven}
 use Rattle.iol_cache.proofs.Completed.{goes_filled}
-use Rattle.iol_cache.proofs.Filing.{numbered_bounds, numbered_yes}
+use Rattle.iol_cache.proofs.Extending.{begins_above, cover-begins, over_yes}
+use Rattle.iol_cache.proofs.Filing.{file_same, numbered_bounds, numbered_yes}
+use Rattle.iol_cache.proofs.Filled.{order_wide}
+use Rattle.iol_cache.proofs.Putting.{kept_begins, zip_begins}
+use Rattle.iol_cache.proofs.Ranged.{laid_readable}
+use Rattle.iol_cache.proofs.Shared.{over_there, readable_of}
 use Rattle.iol_cache.proofs.Stepping.{sound_on}
+use Rattle.iol_cache.proofs.Undone.{NoneBegins, begins_at-put_in, none_beside, none_gaps}
 use Rattle.iol_cache.proofs.Steps.{covers_right, goes_cache, goes_covers, goes_less, goes_store, goes_trans}
 
 -- what holds of both results
@@ -91,14 +104,52 @@ pub places_none : (s : Stored) (p : ℕ) → PlacesSome s s p
 places_none s p = record { count = 0; pages = keeps_pages_same s s refl refl }
 
 -- evictions leave gaps
-pub gaps_left : (a b : Holding) (f : ℕ) (gs : List Span) → KeepsPlaces a.cache b.cache → All (IsGapSpan (extents_in a.cache.files f)) gs → All (IsGapSpan (extents_in b.cache.files f)) gs
-gaps_left a b f gs keeps all = All-weaker (IsGapSpan (extents_in a.cache.files f)) (IsGapSpan (extents_in b.cache.files f)) (λ g h. record { each = λ i l u. keeps.gaps f i (h.each i l u) }) gs all
+pub gaps_kept : (a b : Holding) (f : ℕ) (gs : List Span) → KeepsPlaces a.cache b.cache → All (IsGapSpan (extents_in a.cache.files f)) gs → All (IsGapSpan (extents_in b.cache.files f)) gs
+gaps_kept a b f gs keeps all = All-weaker (IsGapSpan (extents_in a.cache.files f)) (IsGapSpan (extents_in b.cache.files f)) (λ g h. record { each = λ i l u. keeps.gaps f i (h.each i l u) }) gs all
 
 -- what a refused filling leaves
 pub record Undone (b c : Holding) (p : ℕ) : Type 0 where
   pub same : SameButRoom b.cache c.cache
   pub none : Moves b.store c.store [] []
   pub back : PlacesSome b.store c.store p
+
+-- Gaps that stand as clean extents.
+
+pub stand_made : (s t : Stored) (p : ℕ) (es : List Extent) (low high : ℕ) (gs : List Span) (made : List Extent) → AreInOrder low high gs → NoneBegins es low gs → AllZip (IsMade s t p) gs made → All (IsCleanSpan (all_put es made)) gs
+unfolding all_put
+stand_made s t p es low high [] [] order none zip = All-nil (IsCleanSpan es)
+stand_made s t p es low high [] (e ∷ made) order none zip = absurd zip
+stand_made s t p es low high (g ∷ gs) [] order none zip = absurd zip
+stand_made s t p es low high (g ∷ gs) (e ∷ made) order none zip =
+    let beside = none_beside es e (g.from + 1) gs (omega (arith, zip.0.begins)) none.2 in
+    let lower = order_wide g.to high (g.from + 1) high gs (omega (arith, order.1)) (omega arith) order.2 in
+    let rest = stand_made s t p (put_in es e) (g.from + 1) high gs made lower beside zip.1 in
+    let at : begins_at es e.at ≡ None = ap (begins_at es) zip.0.begins ∙ none.1 in
+    let here : begins_at (all_put (put_in es e) made) g.from ≡ Some e = kept_begins (put_in es e) (g.from + 1) high g.from gs made (omega arith) lower (zip_begins s t p gs made zip.1) ∙ ap (begins_at (put_in es e)) (sym zip.0.begins) ∙ begins_at-put_in es e at in
+    All-cons (IsCleanSpan (all_put (put_in es e) made)) g gs (record { extent = e; begins = here; ends = zip.0.ends; clean = zip.0.clean }) rest
+
+pub span_cover : (es : List Extent) (g : Span) (i : ℕ) → IsApart 0 es → IsCleanSpan es g → g.from ≤ i → i < g.to → IsSome (cover es i)
+span_cover es g i apart stands low high =
+    let above = begins_above 0 es g.from stands.extent apart stands.begins in
+    let over = over_yes stands.extent i (omega (arith, above.1, low)) (omega (arith, stands.ends, high)) in
+    subst IsSome (sym (cover-begins 0 es g.from stands.extent i apart stands.begins over)) refl
+
+pub covered_span : (es : List Extent) (g : Span) → IsApart 0 es → IsCleanSpan es g → IsCoveredSpan es g
+covered_span es g apart stands = record { each = λ i low high. span_cover es g i apart stands low high }
+
+pub woven_there : {s : Stored} (ps : List Place) (es : List Extent) (at to : ℕ) (gs : List Span) → All (IsThere s) ps → All (IsCoveredSpan es) gs → AllReadable s (all_parts es) → All (IsThere s) (woven ps es at to gs)
+woven_there {s = s} ps es at to [] all covered readable = All-take (IsThere s) (to - at) ps all
+woven_there {s = s} ps es at to (g ∷ gs) all covered readable =
+    let n = g.from - at in
+    let rest = woven_there {s = s} (drop n ps) es g.to to gs (All-drop (IsThere s) n ps all) (All-tail (IsCoveredSpan es) g gs covered) readable in
+    let gap = over_there {s = s} es g.from g.to (All-head (IsCoveredSpan es) g gs covered) readable in
+    All-append (IsThere s) (take n ps ++ places_over es g.from g.to) (woven (drop n ps) es g.to to gs) (All-append (IsThere s) (take n ps) (places_over es g.from g.to) (All-take (IsThere s) n ps all) gap) rest
+
+pub extents_filled : (f from to : ℕ) (b c : Holding) (beside : List Place) (gs : List Span) (d : Disk) (xs : List Slice) → is_numbered b.cache.files f ≡ true → (filled : FillsFile f from to beside gs d b c xs) → extents_in c.cache.files f ≡ filled.extents.extents
+extents_filled f from to b c beside gs d xs there filled =
+    let n = numbered_bounds b.cache.files f there in
+    let x : CachedFile = record { pool = (file_in b.cache.files f).pool; extents = filled.extents } in
+    ap (λ (l : List CachedFile). extents_in l f) filled.files ∙ ap (λ (y : CachedFile). y.extents.extents) (file_same b.cache.files f x n.0 n.1)
 
 -- Some holds are released, and others stay.
 pub goes_released : (d : Disk) (own gone more : List BufId) (s t : Stored) (c : Cached) → ((x : BufId) → tally x own ≡ tally x gone + tally x more) → IsSound s c → Covers s (held c.files ++ own) → Moves s t gone [] → SameLists s t → (AllSettled s → AllSettled t) → page_count t.arena ≡ page_count s.arena → Goes d own more (record { store = s; cache = c }) (record { store = t; cache = c })
@@ -149,7 +200,7 @@ module _ (d : Disk) (f from to : ℕ) (a b c : Holding) (pins : List Slice) (gs 
     own = bufs_of pins ++ bufs_of xs;
     split = λ x. tally-append x (bufs_of pins) (bufs_of xs);
     goes = goes_trans d (bufs_of pins) (bufs_of pins) (bufs_of pins ++ bufs_of xs) a b c (goes_less d (bufs_of pins) a b less)
-        (goes_filled b c f from to (places pins) gs d xs sound there_b order (gaps_left a b f gs less.keeps are_gaps) filled (bufs_of pins) lists settles);
+        (goes_filled b c f from to (places pins) gs d xs sound there_b order (gaps_kept a b f gs less.keeps are_gaps) filled (bufs_of pins) lists settles);
   }
 
   pub went_undone : SameButRoom b.cache c.cache → Moves b.store c.store [] [] → SameLists b.store c.store → (AllSettled b.store → AllSettled c.store) → page_count c.store.arena ≡ page_count b.store.arena → Went d a c (bufs_of pins) []
@@ -160,6 +211,22 @@ module _ (d : Disk) (f from to : ℕ) (a b c : Holding) (pins : List Slice) (gs 
       let last = goes_cache d own c.store b.cache c.cache same.files same.pools same.extents same.held in
       record { own = own; split = λ x. omega (arith, tally_none x); goes = goes_trans d own own own a b c (goes_less d own a b less) (goes_trans d own own own b mid c first last) }
 
+  pub stand_filled : (xs : List Slice) → AreInOrder from to gs → All (IsGapSpan (extents_in a.cache.files f)) gs → FillsFile f from to (places pins) gs d b c xs → All (IsCleanSpan (extents_in c.cache.files f)) gs
+  stand_filled xs order are_gaps filled =
+      let es = extents_in b.cache.files f in
+      let fills = filled.range.fills in
+      let none = none_gaps es from to gs (sound.files f).apart order (gaps_kept a b f gs less.keeps are_gaps) in
+      let stand = stand_made b.store filled.range.mid (file_in b.cache.files f).pool es from to gs fills.made order none fills.each.each in
+      subst (λ (l : List Extent). All (IsCleanSpan l) gs) (sym (extents_filled f from to b c (places pins) gs d xs there_b filled ∙ fills.extents)) stand
+
+  pub readable_filled : (xs : List Slice) → AreInOrder from to gs → All (IsGapSpan (extents_in a.cache.files f)) gs → FillsFile f from to (places pins) gs d b c xs → IsSound c.store c.cache → AllReadable c.store pins → AllReadable c.store xs
+  readable_filled xs order are_gaps filled sound_c held_pins =
+      let es = extents_in c.cache.files f in
+      let is = extents_filled f from to b c (places pins) gs d xs there_b filled in
+      let laid = sound_c.files f in
+      readable_of xs (woven (places pins) es from to gs) (filled.range.lies ∙ ap (λ (l : List Extent). woven (places pins) l from to gs) (sym is))
+      (woven_there (places pins) es from to gs held_pins.each (All-weaker (IsCleanSpan es) (IsCoveredSpan es) (λ g h. covered_span es g laid.apart h) gs (stand_filled xs order are_gaps filled)) (laid_readable (file_in c.cache.files f).pool es laid.laid))
+
 -- After what was shared was released.
 module _ (d : Disk) (a c : Holding) (pins : List Slice) (more : List BufId) (went : Went d a c (bufs_of pins) more) (covers : Covers a.store (held a.cache.files ++ bufs_of pins)) (readable : AllReadable a.store pins) where
   covers_c : Covers c.store (held c.cache.files ++ went.own)
@@ -168,7 +235,7 @@ module _ (d : Disk) (a c : Holding) (pins : List Slice) (more : List BufId) (wen
   pub pins_held : Covers c.store (bufs_of pins)
   pins_held = record { each = λ x. omega (arith, covers_c.each x, tally-append x (held c.cache.files) went.own, went.split x) }
 
-  readable_c : AllReadable c.store pins
+  pub readable_c : AllReadable c.store pins
   readable_c = readable_stays pins went.goes.moves.stays pins_held readable
 
   pub goes_out : (t : Stored) → IsSound c.store c.cache → Moves c.store t (bufs_of pins) [] → SameLists c.store t → (AllReadable c.store pins → AllSettled c.store → AllSettled t) → page_count t.arena ≡ page_count c.store.arena → Goes d (bufs_of pins) more a (record { store = t; cache = c.cache })
@@ -180,3 +247,8 @@ module _ (d : Disk) (a c : Holding) (pins : List Slice) (more : List BufId) (wen
   sound_out t sound m lists pages =
       let left : Covers t (held c.cache.files) = record { each = λ x. omega (arith, covers_c.each x, m.counts.each x, tally_none x, tally-append x (held c.cache.files) went.own, went.split x) } in
       sound_on c.store t c.cache sound m left lists pages
+
+  pub readable_out : (t : Stored) (xs : List Slice) → more ≡ bufs_of xs → AllReadable c.store xs → Moves c.store t (bufs_of pins) [] → AllReadable t xs
+  readable_out t xs is all m =
+      let left : Covers t (bufs_of xs) = record { each = λ x. omega (arith, covers_c.each x, m.counts.each x, tally_none x, tally-append x (held c.cache.files) went.own, went.split x, ap (tally x) is) } in
+      readable_stays xs m.stays left all

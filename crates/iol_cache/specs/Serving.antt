@@ -1,11 +1,11 @@
 -- What a read of a file does to a store and a cache over it.
-use Rattle.std.specs.Prelude.{◌≡◌, ◌⊎◌, ℕ, ◌+◌, ◌<◌, ◌≤◌, min, max, true, false, List, [], length, take, drop, All, Some, Result, Ok, Err}
+use Rattle.std.specs.Prelude.{◌≡◌, ◌⊎◌, ℕ, ◌+◌, ◌<◌, ◌≤◌, min, max, true, List, [], length, take, drop, Result, Ok, Err}
 use Rattle.iol_core.specs.Numbered.{is_numbered}
 use Rattle.iol_core.specs.declared.limits.TheConstants.{MAX_FILE_BYTES}
 use Rattle.iol_core.specs.declared.refusals.Refusal.{Refusal}
 use Rattle.iol_core.specs.declared.refusals.Refusal.TheVariants.{NoRoom, Fault}
 use Rattle.iol_back.specs.Disk.{Disk, IfHonest, content, last_failure}
-use Rattle.iol_extent.specs.Extents.{Extent, begins_at, end_of, last_end}
+use Rattle.iol_extent.specs.Extents.{last_end}
 use Rattle.iol_extent.specs.declared.spans.Span.{Span}
 use Rattle.iol_hold.specs.Moves.{Moves}
 use Rattle.iol_hold.specs.Places.{places}
@@ -48,22 +48,14 @@ pub record Range (disk : Disk) (c : Cached) (f at n : ℕ) : Type 0 where
   pub to : ℕ
   pub stops : to ≡ min (at + n) end
 
--- a clean extent lies over just this span
-pub record IsCleanSpan (es : List Extent) (s : Span) : Type 0 where
-  pub extent : Extent
-  pub begins : begins_at es s.from ≡ Some extent
-  pub ends : end_of extent ≡ s.to
-  pub clean : extent.dirty ≡ false
-
--- The hits of a range were shared and counted, extents went to make room for its gaps, and these stand as clean extents. Its
--- bytes lie over hits where they lay, over gaps in the new extents.
+-- The hits of a range were shared and counted, extents went to make room for its gaps, and these stand as clean extents
+-- now. Its bytes lie over hits where they lay, over gaps in the new extents.
 pub record ReadsRange (f from to : ℕ) (disk : Disk) (old new : Holding) (xs : List Slice) : Type 0 where
   pub pins : List Slice
   pub gaps : List Span
   pub hit : Holding
   pub pinned : PinsRange f from to old hit pins gaps
   pub filled : FillsAfter f from to pins gaps disk hit new xs
-  pub stand : All (IsCleanSpan (extents_in new.cache.files f)) gaps
   pub lies : places xs ≡ places_read (extents_in old.cache.files f) (extents_in new.cache.files f) from to gaps
   pub answers : 0 < length gaps → disk.failures < last_failure
 

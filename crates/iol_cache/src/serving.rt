@@ -61,6 +61,7 @@ impl Cache {
             (holding store.old self.old) (holding store.new self.new)) }
         ensures undone { OnErr result (UndoesAfter file pins gaps.now
             (holding store.old self.old) (holding store.new self.new)) }
+        ensures readable { IfOk result (AllReadable store.new) }
         ensures goes { IfOk result (λ a. Goes (B.disk backing.old) (bufs_of pins) (bufs_of a)
             (holding store.old self.old) (holding store.new self.new)) }
         ensures gone { OnErr result (Goes (B.disk backing.old) (bufs_of pins) []

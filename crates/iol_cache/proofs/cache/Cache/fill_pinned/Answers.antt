@@ -5,7 +5,7 @@ use Rattle.iol_pool.specs.Pools.{pool_in}
 use Rattle.iol_hold.specs.Moves.{Covers}
 use Rattle.iol_hold.specs.Places.{places}
 use Rattle.iol_hold.specs.Room.{free_of, pages_of}
-use Rattle.iol_hold.specs.Texts.{bufs_of}
+use Rattle.iol_hold.specs.Texts.{AllReadable, bufs_of}
 use Rattle.iol_hold.proofs.Moving.{moves_none}
 use Rattle.iol_cache.specs.declared.files.CachedFile.{CachedFile}
 use Rattle.iol_cache.specs.Cached.{clean_held, file_in}
@@ -20,7 +20,7 @@ use Rattle.iol_cache.specs.Reading.{SameButRoom}
 use Rattle.iol_cache.specs.Sound.{IsSound}
 use Rattle.iol_cache.proofs.Filing.{file_at_number, numbered_bounds}
 use Rattle.iol_cache.proofs.Filled.{order_wide}
-use Rattle.iol_cache.proofs.Served.{Undone, either_way, goes_out, pins_held, pins_left, on_errs, places_none, readable_left, same_none, sound_out, tells_has, went_filled, went_none, went_undone}
+use Rattle.iol_cache.proofs.Served.{Undone, either_way, goes_out, pins_held, pins_left, on_errs, places_none, readable_c, readable_filled, readable_left, readable_out, same_none, sound_out, stand_filled, tells_has, went_filled, went_none, went_undone}
 use Rattle.iol_cache.proofs.cache.Cache.fill_pinned.Goals as goal
 
 pub count_pages-requires : goal.count_pages-requires
@@ -139,6 +139,7 @@ returns-clause-filled g c =
       less = c.make_room.ensures.gives_up;
       full = full;
       fills = h;
+      stand = stand_filled d c.args.file c.args.from c.args.to old mid full c.args.pins gaps c.requires.file c.requires.held c.requires.readable c.make_room.ensures.gives_up c.make_room.ensures.sound xs c.requires.in_order c.requires.gaps h;
       cache = refl;
       released = c.release-2.ensures.moves;
       frees = c.release-2.ensures.frees;
@@ -165,6 +166,20 @@ returns-clause-undone g c =
       released = c.release-2.ensures.moves;
       frees = c.release-2.ensures.frees;
     })
+
+pub returns-clause-readable : goal.returns-clause-readable
+returns-clause-readable g c =
+    let d = g.B.Backing.disk c.args.backing.now in
+    let old = holding c.args.store.now c.args.self.now in
+    let mid = holding c.make_room.new.store c.make_room.new.self in
+    let full = holding c.fill-filled.new.store c.fill-filled.new.self in
+    let e = c.fill-filled.ensures in
+    let b = c.make_room.ensures in
+    IfOk-weaker c.fill-filled.result (FillsFile c.args.file c.args.from c.args.to (places c.args.pins) c.args.gaps.now d mid full) (AllReadable c.release-2.new.store) (λ xs h.
+        let went = went_filled d c.args.file c.args.from c.args.to old mid full c.args.pins c.args.gaps.now c.requires.file c.requires.held c.requires.readable b.gives_up b.sound xs c.requires.in_order c.requires.gaps h e.lists e.settles in
+        let pins = readable_c d old full c.args.pins (bufs_of xs) went c.requires.held c.requires.readable in
+        let here = readable_filled d c.args.file c.args.from c.args.to old mid full c.args.pins c.args.gaps.now c.requires.file c.requires.held c.requires.readable b.gives_up b.sound xs c.requires.in_order c.requires.gaps h e.sound pins in
+        readable_out d old full c.args.pins (bufs_of xs) went c.requires.held c.requires.readable c.release-2.new.store xs refl here c.release-2.ensures.moves) e.filled
 
 pub returns-clause-goes : goal.returns-clause-goes
 returns-clause-goes g c =
