@@ -28,5 +28,6 @@ pub mod Woven
 pub mod Steps
 pub mod Tiled
 pub mod Replaced
+pub mod Hits
 pub mod Served
 pub mod Written

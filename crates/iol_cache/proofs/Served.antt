@@ -8,7 +8,7 @@ use Rattle.iol_core.specs.declared.numbers.BufId.{BufId}
 use Rattle.iol_core.specs.declared.refusals.Refusal.{Refusal}
 use Rattle.iol_core.specs.declared.refusals.Refusal.TheVariants as refusal
 use Rattle.iol_arena.specs.State.{page_count}
-use Rattle.iol_back.specs.Disk.{Disk}
+use Rattle.iol_back.specs.Disk.{Disk, last_failure}
 use Rattle.iol_extent.specs.Extents.{Extent, IsApart, begins_at, cover, put_in}
 use Rattle.iol_extent.specs.Spans.{AreInOrder, IsGapSpan}
 use Rattle.iol_extent.specs.declared.spans.Span.{Span}
@@ -26,7 +26,7 @@ use Rattle.iol_cache.specs.Cached.{Cached, extents_in, file_in, held}
 use Rattle.iol_cache.specs.Evicting.{GivesUp, Holding, KeepsPlaces}
 use Rattle.iol_cache.specs.Gaps.{IsMade, all_parts, all_put}
 use Rattle.iol_cache.specs.Going.{FillsFile, Goes}
-use Rattle.iol_cache.specs.Loading.{PlacesSome}
+use Rattle.iol_cache.specs.Loading.{AskCounts, PlacesSome}
 use Rattle.iol_cache.specs.Ranges.{IsCleanSpan}
 use Rattle.iol_cache.specs.Reading.{SameButRoom}
 use Rattle.iol_cache.specs.Serving.{TellsRoom}
@@ -52,6 +52,18 @@ either_way P Q F (Err y) f e g h = h e
 pub on_errs : {A E P Q R S : Type 0} (r : Result A E) → OnErr r P → OnErr r Q → OnErr r R → (P → Q → R → S) → OnErr r S
 on_errs (Ok x) p q s f = tt
 on_errs (Err y) p q s f = f p q s
+
+pub always_err : {A E Q : Type 0} (r : Result A E) → Q → OnErr r Q
+always_err (Ok x) q = tt
+always_err (Err y) q = q
+
+pub ok_both : {A E : Type 0} (P Q : A → Type 0) (r : Result A E) → IfOk r P → IfOk r Q → IfOk r (λ x. P x × Q x)
+ok_both P Q (Ok x) p q = (p, q)
+ok_both P Q (Err y) p q = tt
+
+pub asks_ok : {A : Type 0} (n : ℕ) (old new : Disk) (r : Result A Refusal) → AskCounts n old new r → IfOk r (λ (x : A). 0 < n → old.failures < last_failure)
+asks_ok n old new (Ok x) h = h.1
+asks_ok n old new (Err y) h = tt
 
 -- Room.
 
@@ -171,6 +183,13 @@ goes_released d own gone more s t c split sound covers m lists settles pages =
       mirrors = g.mirrors;
       files = g.files;
     }
+
+-- only room changed
+pub goes_reserved : (d : Disk) (a b : Holding) → IsSound a.store a.cache → SameButRoom a.cache b.cache → Moves a.store b.store [] [] → SameLists a.store b.store → (AllSettled a.store → AllSettled b.store) → page_count b.store.arena ≡ page_count a.store.arena → Goes d [] [] a b
+goes_reserved d a b sound same moves lists settles pages =
+    let mid : Holding = record { store = b.store; cache = a.cache } in
+    let covers : Covers a.store (held a.cache.files ++ []) = record { each = λ x. omega (arith, sound.covered.each x, tally-append x (held a.cache.files) [], tally_none x) } in
+    goes_trans d [] [] [] a mid b (goes_released d [] [] [] a.store b.store a.cache (λ x. omega (arith, tally_none x)) sound covers moves lists settles pages) (goes_cache d [] b.store a.cache b.cache same.files same.pools same.extents same.held)
 
 -- The holds of what was shared are held still, beside others that came.
 pub record Went (d : Disk) (a c : Holding) (pins more : List BufId) : Type 0 where

@@ -74,15 +74,19 @@ pub record ReservesOnly (old new : Holding) : Type 0 where
   pub moves : Moves old.store new.store [] []
   pub frees : FreesOnly old.store new.store
 
+-- a read of a range was refused, before its hits were shared or after
+abbrev pub LeavesRange : (f from to : ℕ) → (old new : Holding) → Type 0
+LeavesRange f from to old new = ReservesOnly old new ⊎ GivesBack f from to old new
+
 -- A file was read: n bytes from `at` on, as far as it goes.
 pub record ReadsFile (f at n : ℕ) (disk : Disk) (old new : Holding) (xs : List Slice) : Type 0 where
   pub range : Range disk old.cache f at n
   pub reads : ReadsRange f range.from range.to disk old new xs
 
--- Such a read was refused: before its hits were shared, or after.
+-- Such a read was refused.
 pub record RefusesRead (f at n : ℕ) (disk : Disk) (old new : Holding) : Type 0 where
   pub range : Range disk old.cache f at n
-  pub leaves : ReservesOnly old new ⊎ GivesBack f range.from range.to old new
+  pub leaves : LeavesRange f range.from range.to old new
 
 -- The pages that such a read pins and wants fit the pool, or they do not.
 pub record RoomToRead (disk : Disk) (s : Stored) (c : Cached) (f at n : ℕ) : Type 0 where

@@ -10,11 +10,11 @@ ghost use Rattle.iol_extent.specs.Spans.{AreInOrder, IsGapSpan};
 ghost use Rattle.iol_cache.specs.Cached.{clean_held, extents_in, file_in, held, order_in};
 ghost use Rattle.iol_cache.specs.Cache.{cached_of, holding};
 ghost use Rattle.iol_cache.specs.Gaps.{gap_pages};
-ghost use Rattle.iol_cache.specs.Going.{Goes};
+ghost use Rattle.iol_cache.specs.Going.{Goes, HasRoom, LacksRoom};
 ghost use Rattle.iol_cache.specs.Loading.{Asks};
 ghost use Rattle.iol_cache.specs.Pinned.{pinned_beside};
 ghost use Rattle.iol_cache.specs.Ranges.{FillsAfter, UndoesAfter};
-ghost use Rattle.iol_cache.specs.Serving.{TellsRoom};
+ghost use Rattle.iol_cache.specs.Serving.{LeavesRange, ReadsRange, TellsRoom};
 ghost use Rattle.iol_cache.specs.Sharing.{CountsBelow};
 ghost use Rattle.iol_cache.specs.Sound.{IsSound};
 ghost use Rattle.iol_cache.specs.Weaving.{len_beside};
@@ -84,5 +84,40 @@ impl Cache {
         let filled = self.fill(alloc, store, backing, file, from, to, &pins, gaps);
         pins.release(store);
         filled
+    }
+
+    // Reads a range that lies within a file.
+    fn read_range<B: Backing>(
+        &mut self,
+        alloc: Global,
+        store: &mut Store,
+        backing: &mut B,
+        file: FileId,
+        from: u32,
+        to: u32,
+    ) -> Result<Agg, Refusal>
+        requires sound { IsSound store.old (cached_of self.old) }
+        requires file { is_numbered self.old.files.items file ≡ true }
+        requires ordered { from ≤ to }
+        requires end { to ≤ MAX_FILE_BYTES }
+        requires few { CountsBelow store.old (2 ^ 59) }
+        ensures reads { IfOk result (ReadsRange file from to (B.disk backing.old)
+            (holding store.old self.old) (holding store.new self.new)) }
+        ensures refused { OnErr result (LeavesRange file from to
+            (holding store.old self.old) (holding store.new self.new)) }
+        ensures readable { IfOk result (AllReadable store.new) }
+        ensures goes { IfOk result (λ a. Goes (B.disk backing.old) [] (bufs_of a)
+            (holding store.old self.old) (holding store.new self.new)) }
+        ensures gone { OnErr result (Goes (B.disk backing.old) [] []
+            (holding store.old self.old) (holding store.new self.new)) }
+        ensures sound { IsSound store.new (cached_of self.new) }
+        ensures room { let old = cached_of self.old in TellsRoom
+            (HasRoom store.old old file from to) (LacksRoom store.old old file from to) result }
+        ensures disk { Asks 0 (B.disk backing.old) (B.disk backing.new) result }
+        ensures late { IfErr result
+            (WantOfRoomOrFault (file_in self.old.files.items file).pool file) }
+    {
+        let (pins, gaps) = self.pin(alloc, store, file, from, to)?;
+        self.fill_pinned(alloc, store, backing, file, from, to, pins, &gaps)
     }
 }

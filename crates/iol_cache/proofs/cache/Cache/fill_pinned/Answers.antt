@@ -176,10 +176,10 @@ returns-clause-readable g c =
     let e = c.fill-filled.ensures in
     let b = c.make_room.ensures in
     IfOk-weaker c.fill-filled.result (FillsFile c.args.file c.args.from c.args.to (places c.args.pins) c.args.gaps.now d mid full) (AllReadable c.release-2.new.store) (λ xs h.
-        let went = went_filled d c.args.file c.args.from c.args.to old mid full c.args.pins c.args.gaps.now c.requires.file c.requires.held c.requires.readable b.gives_up b.sound xs c.requires.in_order c.requires.gaps h e.lists e.settles in
-        let pins = readable_c d old full c.args.pins (bufs_of xs) went c.requires.held c.requires.readable in
-        let here = readable_filled d c.args.file c.args.from c.args.to old mid full c.args.pins c.args.gaps.now c.requires.file c.requires.held c.requires.readable b.gives_up b.sound xs c.requires.in_order c.requires.gaps h e.sound pins in
-        readable_out d old full c.args.pins (bufs_of xs) went c.requires.held c.requires.readable c.release-2.new.store xs refl here c.release-2.ensures.moves) e.filled
+    let went = went_filled d c.args.file c.args.from c.args.to old mid full c.args.pins c.args.gaps.now c.requires.file c.requires.held c.requires.readable b.gives_up b.sound xs c.requires.in_order c.requires.gaps h e.lists e.settles in
+    let pins = readable_c d old full c.args.pins (bufs_of xs) went c.requires.held c.requires.readable in
+    let here = readable_filled d c.args.file c.args.from c.args.to old mid full c.args.pins c.args.gaps.now c.requires.file c.requires.held c.requires.readable b.gives_up b.sound xs c.requires.in_order c.requires.gaps h e.sound pins in
+    readable_out d old full c.args.pins (bufs_of xs) went c.requires.held c.requires.readable c.release-2.new.store xs refl here c.release-2.ensures.moves) e.filled
 
 pub returns-clause-goes : goal.returns-clause-goes
 returns-clause-goes g c =
