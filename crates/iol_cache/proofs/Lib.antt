@@ -29,5 +29,6 @@ pub mod Steps
 pub mod Tiled
 pub mod Replaced
 pub mod Hits
+pub mod Texts
 pub mod Served
 pub mod Written

@@ -89,13 +89,13 @@ pub record RefusesRead (f at n : ℕ) (disk : Disk) (old new : Holding) : Type 0
   pub leaves : LeavesRange f range.from range.to old new
 
 -- The pages that such a read pins and wants fit the pool, or they do not.
-pub record RoomToRead (disk : Disk) (s : Stored) (c : Cached) (f at n : ℕ) : Type 0 where
-  pub range : Range disk c f at n
-  pub room : HasRoom s c f range.from range.to
+pub record RoomToRead (f at n : ℕ) (disk : Disk) (old : Holding) : Type 0 where
+  pub range : Range disk old.cache f at n
+  pub room : HasRoom old.store old.cache f range.from range.to
 
-pub record NoRoomToRead (disk : Disk) (s : Stored) (c : Cached) (f at n : ℕ) : Type 0 where
-  pub range : Range disk c f at n
-  pub lacks : LacksRoom s c f range.from range.to
+pub record NoRoomToRead (f at n : ℕ) (disk : Disk) (old : Holding) : Type 0 where
+  pub range : Range disk old.cache f at n
+  pub lacks : LacksRoom old.store old.cache f range.from range.to
 
 -- the bytes of a file from `at` on, at most n of them
 abbrev pub bytes_read : Stored → (slots : List (List ℕ)) → Cached → (f at n : ℕ) → List ℕ

@@ -2,10 +2,12 @@
 ghost use Rattle.std.specs.Prelude.{◌≡◌, ℕ, ◌+◌, ◌<◌, ◌≤◌, ◌^◌, ◌++◌, [], All, length, true, OnErr, IfOk, IfErr};
 ghost use Rattle.iol_core.specs.Meaning.{WantOfRoomOrFault};
 ghost use Rattle.iol_core.specs.Numbered.{is_numbered};
+ghost use Rattle.iol_core.specs.Text as text;
 ghost use Rattle.iol_hold.specs.Moves.{Covers};
 ghost use Rattle.iol_hold.specs.Places.{byte_len};
 ghost use Rattle.iol_hold.specs.Room.{pages_of};
-ghost use Rattle.iol_hold.specs.Texts.{bufs_of, AllReadable};
+ghost use Rattle.iol_hold.specs.Texts.{bufs_of, text_of, AllReadable};
+ghost use Rattle.iol_extent.specs.Extents.{last_end};
 ghost use Rattle.iol_extent.specs.Spans.{AreInOrder, IsGapSpan};
 ghost use Rattle.iol_cache.specs.Cached.{clean_held, extents_in, file_in, held, order_in};
 ghost use Rattle.iol_cache.specs.Cache.{cached_of, holding};
@@ -14,7 +16,7 @@ ghost use Rattle.iol_cache.specs.Going.{Goes, HasRoom, LacksRoom};
 ghost use Rattle.iol_cache.specs.Loading.{Asks};
 ghost use Rattle.iol_cache.specs.Pinned.{pinned_beside};
 ghost use Rattle.iol_cache.specs.Ranges.{FillsAfter, UndoesAfter};
-ghost use Rattle.iol_cache.specs.Serving.{LeavesRange, ReadsRange, TellsRoom};
+ghost use Rattle.iol_cache.specs.Serving.{IsBacked, IsEnd, LeavesRange, NoRoomToRead, ReadsFile, ReadsRange, RefusesRead, RoomToRead, TellsRoom, bytes_read};
 ghost use Rattle.iol_cache.specs.Sharing.{CountsBelow};
 ghost use Rattle.iol_cache.specs.Sound.{IsSound};
 ghost use Rattle.iol_cache.specs.Weaving.{len_beside};
@@ -119,5 +121,67 @@ impl Cache {
     {
         let (pins, gaps) = self.pin(alloc, store, file, from, to)?;
         self.fill_pinned(alloc, store, backing, file, from, to, pins, &gaps)
+    }
+
+    // The end of a file: that of what is stored, or of the last extent.
+    fn file_end<B: Backing>(&self, backing: &B, file: FileId) -> u32
+        requires file { is_numbered self.now.files.items file ≡ true }
+        requires short { last_end (extents_in self.now.files.items file) ≤ MAX_FILE_BYTES }
+        ensures { IsEnd (B.disk backing.now) (cached_of self.now) file result }
+    {
+        let stored = backing.length(file).min(MAX_FILE_BYTES as u32);
+        let place = file.number() as usize - 1;
+        stored.max(self.files[place].extents.end())
+    }
+
+    /// Reads at most `count` bytes of a file from place `at` on, as far as the file goes.
+    ///
+    /// The bytes that are in memory are shared. Room is made for the others, which are read into clean extents: all of
+    /// them, or none. A refusal leaves no extent, and nothing but evictions and the hits that were counted.
+    pub fn read<B: Backing>(
+        &mut self,
+        alloc: Global,
+        store: &mut Store,
+        backing: &mut B,
+        file: FileId,
+        at: u32,
+        count: u32,
+    ) -> Result<Agg, Refusal>
+        requires sound { IsSound store.old (cached_of self.old) }
+        requires file { is_numbered (cached_of self.old).files file ≡ true }
+        requires few { CountsBelow store.old (2 ^ 59) }
+
+        // What is read.
+        ensures text { let old = cached_of self.old in let disk = B.disk backing.old in
+            IsBacked disk (holding store.old self.old) →
+            IfOk result (λ a. text_of store.new a ≡ text.labelled (file_in old.files file).pool
+            (bytes_read store.old disk.slots old file at count)) }
+        ensures readable { IfOk result (AllReadable store.new) }
+        ensures reads { IfOk result (ReadsFile file at count (B.disk backing.old)
+            (holding store.old self.old) (holding store.new self.new)) }
+
+        // What stays.
+        ensures backed { IsBacked (B.disk backing.old) (holding store.old self.old) →
+            IsBacked (B.disk backing.new) (holding store.new self.new) }
+        ensures goes { IfOk result (λ a. Goes (B.disk backing.old) [] (bufs_of a)
+            (holding store.old self.old) (holding store.new self.new)) }
+        ensures gone { OnErr result (Goes (B.disk backing.old) [] []
+            (holding store.old self.old) (holding store.new self.new)) }
+        ensures sound { IsSound store.new (cached_of self.new) }
+
+        // Refusals.
+        ensures refused { OnErr result (RefusesRead file at count (B.disk backing.old)
+            (holding store.old self.old) (holding store.new self.new)) }
+        ensures room { let old = holding store.old self.old in let disk = B.disk backing.old in
+            TellsRoom (RoomToRead file at count disk old) (NoRoomToRead file at count disk old)
+            result }
+        ensures disk { Asks 0 (B.disk backing.old) (B.disk backing.new) result }
+        ensures late { IfErr result
+            (WantOfRoomOrFault (file_in (cached_of self.old).files file).pool file) }
+    {
+        let end = self.file_end(backing, file);
+        let from = at.min(end);
+        let to = from + count.min(end - from);
+        self.read_range(alloc, store, backing, file, from, to)
     }
 }

@@ -1,6 +1,6 @@
-use Rattle.std.proofs.Common.{inl, inr, ◌≡◌, ◌∙◌, ℕ, ◌+◌, ◌<◌, ◌≤◌, true, false, [], length, Some, Err, refl, sym, ap, arith, subst}
+use Rattle.std.proofs.Common.{inl, inr, ◌≡◌, ◌∙◌, ◌+◌, ◌<◌, true, false, [], length, Some, refl, ap, arith, subst}
 use Rattle.std.proofs.lemmas.Bool.{cases_lt}
-use Rattle.std.proofs.lemmas.Result.{IfOk-weaker, on_err_weaker}
+use Rattle.std.proofs.lemmas.Result.{IfOk-weaker}
 use Rattle.iol_pool.specs.Pools.{pool_in}
 use Rattle.iol_hold.specs.Moves.{Covers}
 use Rattle.iol_hold.specs.Places.{places}
@@ -9,14 +9,13 @@ use Rattle.iol_hold.specs.Texts.{AllReadable, bufs_of}
 use Rattle.iol_hold.proofs.Moving.{moves_none}
 use Rattle.iol_cache.specs.declared.files.CachedFile.{CachedFile}
 use Rattle.iol_cache.specs.Cached.{clean_held, file_in}
-use Rattle.iol_cache.specs.Cache.{cached_of, holding}
+use Rattle.iol_cache.specs.Cache.{holding}
 use Rattle.iol_cache.specs.Evicting.{EvictsAll}
 use Rattle.iol_cache.specs.Gaps.{gap_pages}
 use Rattle.iol_cache.specs.Going.{FillsFile, Goes}
 use Rattle.iol_cache.specs.Loading.{PlacesSome}
 use Rattle.iol_cache.specs.Pinned.{pinned_beside}
-use Rattle.iol_cache.specs.Ranges.{FillsAfter, UndoesAfter}
-use Rattle.iol_cache.specs.Reading.{SameButRoom}
+use Rattle.iol_cache.specs.Ranges.{FillsAfter}
 use Rattle.iol_cache.specs.Sound.{IsSound}
 use Rattle.iol_cache.proofs.Filing.{file_at_number, numbered_bounds}
 use Rattle.iol_cache.proofs.Filled.{order_wide}

@@ -1,4 +1,4 @@
-use Rattle.std.proofs.Common.{inr, ◌≡◌, ℕ, ◌+◌, ◌<◌, ◌≤◌, List, [], ◌++◌, length, sym, ap, ◌∙◌, arith, subst}
+use Rattle.std.proofs.Common.{inr, ◌+◌, ◌<◌, ◌≤◌, List, [], length, sym, ap, ◌∙◌, arith, subst}
 use Rattle.std.proofs.lemmas.Result.{IfOk-weaker, on_err_weaker}
 use Rattle.iol_back.specs.Disk.{last_failure}
 use Rattle.iol_extent.specs.declared.spans.Span.{Span}
@@ -6,7 +6,7 @@ use Rattle.iol_hold.specs.Room.{pages_of}
 use Rattle.iol_hold.specs.Texts.{bufs_of}
 use Rattle.iol_hold.specs.declared.slices.Slice.{Slice}
 use Rattle.iol_cache.specs.Cached.{clean_held, file_in}
-use Rattle.iol_cache.specs.Cache.{cached_of, holding}
+use Rattle.iol_cache.specs.Cache.{holding}
 use Rattle.iol_cache.specs.Gaps.{gap_pages}
 use Rattle.iol_cache.specs.Going.{Goes}
 use Rattle.iol_cache.specs.Pinned.{pinned_beside}
