@@ -1,10 +1,10 @@
 -- What is read of a file is its bytes.
-use Rattle.std.proofs.Common.{inl, inr, ◌≡◌, ℕ, zero, suc, ◌+◌, ◌-◌, ◌<◌, ◌≤◌, Bool, true, false, cond, List, [], ◌∷◌, ◌++◌, length, map, get_or, min, Option, Some, None, IsSome, refl, sym, ap, ◌∙◌, arith, subst}
+use Rattle.std.proofs.Common.{inl, inr, ◌≡◌, ℕ, zero, suc, ◌+◌, ◌-◌, ◌<◌, ◌≤◌, Bool, true, false, cond, List, [], ◌∷◌, ◌++◌, length, map, get_or, min, Option, Some, None, IsSome, refl, sym, ap, ◌∙◌, arith, subst, length-append}
 use Rattle.std.specs.Prelude.{slice_index, take, drop}
 use Rattle.std.specs.List.{All, range_with_len}
 use Rattle.std.proofs.lemmas.Bool.{cases_lt}
 use Rattle.std.proofs.lemmas.List.{drop_at, map-append, take_at}
-use Rattle.std.proofs.lemmas.List.Elements.{All-append, All-drop, All-head, All-nil, All-same, All-tail, All-take}
+use Rattle.std.proofs.lemmas.List.Elements.{All-append, All-drop, All-head, All-nil, All-same, All-tail, All-take, All-weaker}
 use Rattle.std.proofs.lemmas.List.FromFn.{get_or-map-range_with_len, length-map-range_with_len}
 use Rattle.iol_core.specs.Numbered.{is_numbered}
 use Rattle.iol_core.specs.Text as text
@@ -13,7 +13,7 @@ use Rattle.iol_extent.specs.Extents.{Cell, Extent, cell_at, cover, is_over, no_p
 use Rattle.iol_extent.specs.Spans.{AreInOrder}
 use Rattle.iol_extent.specs.declared.spans.Span.{Span}
 use Rattle.iol_hold.specs.Moves.{Stays}
-use Rattle.iol_hold.specs.Places.{Place, place_in, places, slice_places}
+use Rattle.iol_hold.specs.Places.{Place, byte_len, place_in, places, slice_places}
 use Rattle.iol_hold.specs.Stored.{Stored}
 use Rattle.iol_hold.specs.Texts.{AllReadable, IsThere, bufs_of, byte_at, text_of}
 use Rattle.iol_hold.specs.declared.slices.Slice.{Slice}
@@ -22,16 +22,18 @@ use Rattle.iol_hold.proofs.Slicing.{length-slice_places, range_with_len_split}
 use Rattle.iol_cache.specs.Cached.{extents_in, file_in}
 use Rattle.iol_cache.specs.Contents.{byte_in, file_byte, file_bytes, file_len, read_or}
 use Rattle.iol_cache.specs.Evicting.{Holding}
+use Rattle.iol_cache.specs.Gaps.{AreOf}
 use Rattle.iol_cache.specs.Going.{Goes}
 use Rattle.iol_cache.specs.Ranges.{IsCleanSpan}
 use Rattle.iol_cache.specs.Serving.{IsBacked, ReadsFile, bytes_read}
-use Rattle.iol_cache.specs.Sharing.{IsCovered, place_over, places_over}
+use Rattle.iol_cache.specs.Sharing.{IsCovered, IsCoveredSpan, place_over, places_over}
 use Rattle.iol_cache.specs.Sharing as sharing
 use Rattle.iol_cache.specs.Sound.{Each, IsLaid, IsSound}
 use Rattle.iol_cache.specs.Weaving.{IsCoveredBeside, places_read}
 use Rattle.iol_cache.proofs.Extending.{over_of}
+use Rattle.iol_cache.proofs.Pooled.{pooled_places}
 use Rattle.iol_cache.proofs.Ranged.{laid_readable}
-use Rattle.iol_cache.proofs.Served.{span_cover}
+use Rattle.iol_cache.proofs.Served.{covered_span, span_cover}
 use Rattle.iol_cache.proofs.Shared.{length-places_over, over_there}
 use Rattle.iol_cache.proofs.Tiled.{tile_beside}
 
@@ -130,6 +132,51 @@ module _ (s t : Stored) (p : ℕ) (old new : List Extent) (stored : List ℕ) (s
       ends : (low : ℕ) (ss : List Span) → AreInOrder low to ss → low ≤ to
       ends low [] h = h
       ends low (x ∷ ss) h = omega (arith, ends x.to ss h.2, h.0, h.1)
+
+-- Pools and lengths, over every store.
+
+place_pool : (s : Stored) (p : ℕ) (es : List Extent) (i : ℕ) → Each (IsLaid s p) es → IsSome (cover es i) → (place_over es i).pool ≡ p
+place_pool s p es i all some = pick (cover es i) refl some where
+  pick : (o : Option Cell) → cover es i ≡ o → IsSome o → (sharing.place_in o).pool ≡ p
+  pick None is h = cc
+  pick (Some c) is h = cover_of s p es i c all is
+
+over_pool : (s : Stored) (p : ℕ) (es : List Extent) (from to : ℕ) → Each (IsLaid s p) es → IsCovered es from to → All (IsOf p) (places_over es from to)
+over_pool s p es from to all c = λ k d h.
+    let n = length-places_over es from to in
+    subst (IsOf p) (sym (get_or-map-range_with_len (place_over es) from (to - from) k (from + k) d (omega (arith, h, n)) refl))
+    (place_pool s p es (from + k) all (c.each (from + k) (omega arith) (omega (arith, h, n))))
+
+read_pool : (s t : Stored) (p : ℕ) (old new : List Extent) (at to : ℕ) (gs : List Span) → Each (IsLaid s p) old → Each (IsLaid t p) new → IsCoveredBeside old at to gs → All (IsCoveredSpan new) gs → All (IsOf p) (places_read old new at to gs)
+read_pool s t p old new at to [] laid laid_new c stand = over_pool s p old at to laid c
+read_pool s t p old new at to (g ∷ gs) laid laid_new c stand =
+    let A = places_over old at g.from in
+    let B = places_over new g.from g.to in
+    let here = All-append (IsOf p) A B (over_pool s p old at g.from laid c.0) (over_pool t p new g.from g.to laid_new (All-head (IsCoveredSpan new) g gs stand)) in
+    All-append (IsOf p) (A ++ B) (places_read old new g.to to gs) here (read_pool s t p old new g.to to gs laid laid_new c.1 (All-tail (IsCoveredSpan new) g gs stand))
+
+length-places_read : (old new : List Extent) (at to : ℕ) (gs : List Span) → AreInOrder at to gs → length (places_read old new at to gs) + at ≡ to
+length-places_read old new at to [] order = omega (arith, length-places_over old at to, order)
+length-places_read old new at to (g ∷ gs) order =
+    let A = places_over old at g.from in
+    let B = places_over new g.from g.to in
+    omega (arith, length-append (A ++ B) (places_read old new g.to to gs), length-append A B, length-places_over old at g.from, length-places_over new g.from g.to, length-places_read old new g.to to gs order.2, order.0, order.1)
+
+pub pooled_read : (f at n : ℕ) (disk : Disk) (a c : Holding) (xs : List Slice) → IsSound a.store a.cache → IsSound c.store c.cache → Goes disk [] (bufs_of xs) a c → ReadsFile f at n disk a c xs → AreOf (file_in a.cache.files f).pool xs
+pooled_read f at n disk a c xs sound after goes reads =
+    let p = (file_in a.cache.files f).pool in
+    let old = extents_in a.cache.files f in
+    let new = extents_in c.cache.files f in
+    let r = reads.reads in
+    let laid_new = subst (λ q. Each (IsLaid c.store q) new) (goes.pools f) (after.files f).laid in
+    let beside = tile_beside old reads.range.from reads.range.to r.pinned.hits r.gaps r.pinned.tile in
+    let stand = All-weaker (IsCleanSpan new) (IsCoveredSpan new) (λ g h. covered_span new g (after.files f).apart h) r.gaps r.filled.stand in
+    record { each = pooled_places p xs (All-same (IsOf p) _ _ r.lies (read_pool a.store c.store p old new reads.range.from reads.range.to r.gaps (sound.files f).laid laid_new beside stand)) }
+
+pub long_read : (f at n : ℕ) (disk : Disk) (a c : Holding) (xs : List Slice) → ReadsFile f at n disk a c xs → byte_len xs ≤ n
+long_read f at n disk a c xs reads =
+    let r = reads.reads in
+    omega (arith, ap length r.lies, length-places_read (extents_in a.cache.files f) (extents_in c.cache.files f) reads.range.from reads.range.to r.gaps r.pinned.tile.gaps, reads.range.begins, reads.range.stops)
 
 -- A part of a list of bytes.
 

@@ -11,7 +11,7 @@ ghost use Rattle.iol_extent.specs.Extents.{last_end};
 ghost use Rattle.iol_extent.specs.Spans.{AreInOrder, IsGapSpan};
 ghost use Rattle.iol_cache.specs.Cached.{clean_held, extents_in, file_in, held, order_in};
 ghost use Rattle.iol_cache.specs.Cache.{cached_of, holding};
-ghost use Rattle.iol_cache.specs.Gaps.{gap_pages};
+ghost use Rattle.iol_cache.specs.Gaps.{AreOf, gap_pages};
 ghost use Rattle.iol_cache.specs.Going.{Goes, HasRoom, LacksRoom};
 ghost use Rattle.iol_cache.specs.Loading.{Asks};
 ghost use Rattle.iol_cache.specs.Pinned.{pinned_beside};
@@ -157,6 +157,8 @@ impl Cache {
             IfOk result (λ a. text_of store.new a ≡ text.labelled (file_in old.files file).pool
             (bytes_read store.old disk.slots old file at count)) }
         ensures readable { IfOk result (AllReadable store.new) }
+        ensures pool { IfOk result (AreOf (file_in (cached_of self.old).files file).pool) }
+        ensures short { IfOk result (λ a. byte_len a ≤ count) }
         ensures reads { IfOk result (ReadsFile file at count (B.disk backing.old)
             (holding store.old self.old) (holding store.new self.new)) }
 
