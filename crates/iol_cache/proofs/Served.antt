@@ -25,10 +25,10 @@ use Rattle.iol_cache.specs.Cached.{Cached, extents_in, file_in, held}
 use Rattle.iol_cache.specs.Evicting.{GivesUp, Holding, KeepsPlaces}
 use Rattle.iol_cache.specs.Gaps.{IsMade, all_parts, all_put}
 use Rattle.iol_cache.specs.Going.{FillsFile, Goes}
-use Rattle.iol_cache.specs.Loading.{AskCounts, PlacesSome}
+use Rattle.iol_cache.specs.Loading.{AskCounts, Asks, PlacesSome}
 use Rattle.iol_cache.specs.Ranges.{IsCleanSpan}
 use Rattle.iol_cache.specs.Reading.{SameButRoom}
-use Rattle.iol_cache.specs.Serving.{TellsRoom}
+use Rattle.iol_cache.specs.Serving.{FaultCounts, TellsFault, TellsRoom}
 use Rattle.iol_cache.specs.Sharing.{IsCoveredSpan, places_over}
 use Rattle.iol_cache.specs.Sound.{IsSound}
 use Rattle.iol_cache.specs.Weaving.{woven}
@@ -63,6 +63,29 @@ ok_both P Q (Err y) p q = tt
 pub asks_ok : {A : Type 0} (n : ℕ) (old new : Disk) (r : Result A Refusal) → AskCounts n old new r → IfOk r (λ (x : A). 0 < n → old.failures < last_failure)
 asks_ok n old new (Ok x) h = h.1
 asks_ok n old new (Err y) h = tt
+
+faults_counted : {A : Type 0} (n : ℕ) (old new : Disk) (r : Result A Refusal) → AskCounts n old new r → FaultCounts old new r
+faults_counted n old new (Ok x) h = h.0
+faults_counted n old new (Err refusal.NoDomain) h = h
+faults_counted n old new (Err refusal.BadFd) h = h
+faults_counted n old new (Err refusal.BadAgg) h = h
+faults_counted n old new (Err refusal.NoPool) h = h
+faults_counted n old new (Err refusal.NoFile) h = h
+faults_counted n old new (Err refusal.WrongMode) h = h
+faults_counted n old new (Err refusal.BadRange) h = h
+faults_counted n old new (Err refusal.TooLong) h = h
+faults_counted n old new (Err refusal.TooMany) h = h
+faults_counted n old new (Err (refusal.Denied p)) h = h
+faults_counted n old new (Err (refusal.PoolClosed p)) h = h
+faults_counted n old new (Err (refusal.PoolBusy p)) h = h
+faults_counted n old new (Err refusal.BrokenPipe) h = h
+faults_counted n old new (Err refusal.WouldBlock) h = h
+faults_counted n old new (Err (refusal.NoRoom p)) h = h
+faults_counted n old new (Err (refusal.Fault f)) h = h
+faults_counted n old new (Err refusal.Memory) h = h
+
+pub tells_fault : {A : Type 0} (n : ℕ) (old new : Disk) (r : Result A Refusal) → Asks n old new r → TellsFault old new r
+tells_fault n old new r h = record { honest = h.honest; slots = h.slots; counts = faults_counted n old new r h.counts }
 
 -- Room.
 

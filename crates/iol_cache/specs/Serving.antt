@@ -4,7 +4,7 @@ use Rattle.iol_core.specs.Numbered.{is_numbered}
 use Rattle.iol_core.specs.declared.limits.TheConstants.{MAX_FILE_BYTES}
 use Rattle.iol_core.specs.declared.refusals.Refusal.{Refusal}
 use Rattle.iol_core.specs.declared.refusals.Refusal.TheVariants.{NoRoom, Fault}
-use Rattle.iol_back.specs.Disk.{Disk, IfHonest, content, last_failure}
+use Rattle.iol_back.specs.Disk.{Disk, IfHonest, content, last_failure, raised}
 use Rattle.iol_extent.specs.Extents.{last_end}
 use Rattle.iol_extent.specs.declared.spans.Span.{Span}
 use Rattle.iol_hold.specs.Moves.{Moves}
@@ -20,13 +20,25 @@ use Rattle.iol_cache.specs.Ranges.{FillsAfter, PinsRange, UndoesAfter}
 use Rattle.iol_cache.specs.Reading.{SameButRoom}
 use Rattle.iol_cache.specs.Weaving.{places_read}
 
--- A call that wants pages is refused for want of room only where it lacks room; it succeeds, or meets a fault, only where
--- it has room.
+-- A call that wants pages is refused for want of room only where it lacks room. It succeeds, or meets a fault, only where it
+-- has room.
 abbrev pub TellsRoom : {A : Type 0} → (has lacks : Type 0) → Result A Refusal → Type 0
 TellsRoom has lacks (Ok x) = has
 TellsRoom has lacks (Err (Fault f)) = has
 TellsRoom has lacks (Err (NoRoom p)) = lacks
 TellsRoom has lacks (Err x) = Unit {0}
+
+-- a failure was counted just where a fault is answered
+abbrev pub FaultCounts : {A : Type 0} → (old new : Disk) → Result A Refusal → Type 0
+FaultCounts old new (Ok x) = new.failures ≡ old.failures
+FaultCounts old new (Err (Fault f)) = new.failures ≡ raised old.failures
+FaultCounts old new (Err x) = new.failures ≡ old.failures
+
+-- The store was read, so an honest one keeps its bytes. A fault is answered just where one failure more was counted.
+pub record TellsFault {A : Type 0} (old new : Disk) (r : Result A Refusal) : Type 0 where
+  pub honest : new.honest ≡ old.honest
+  pub slots : IfHonest old (new.slots ≡ old.slots)
+  pub counts : FaultCounts old new r
 
 -- The store is honest, no file of it is too long, and under clean extents it has the same bytes.
 pub record IsBacked (disk : Disk) (h : Holding) : Type 0 where
@@ -34,7 +46,7 @@ pub record IsBacked (disk : Disk) (h : Holding) : Type 0 where
   pub short : (f : ℕ) → is_numbered h.cache.files f ≡ true → length (content disk.slots f) ≤ MAX_FILE_BYTES
   pub mirrors : Mirrors h.store disk.slots h.cache.files
 
--- The end of a file for a read: that of the last extent, or that of what is stored, as far as a file goes.
+-- The end of a file for a read: that of what is stored, as far as a file may go, or of the last extent.
 pub record IsEnd (disk : Disk) (c : Cached) (f end : ℕ) : Type 0 where
   pub short : end ≤ MAX_FILE_BYTES
   pub is : IfHonest disk (end ≡ max (min (length (content disk.slots f)) MAX_FILE_BYTES) (last_end (extents_in c.files f)))
@@ -88,11 +100,12 @@ pub record RefusesRead (f at n : ℕ) (disk : Disk) (old new : Holding) : Type 0
   pub range : Range disk old.cache f at n
   pub leaves : LeavesRange f range.from range.to old new
 
--- The pages that such a read pins and wants fit the pool, or they do not.
+-- The pages that are pinned while such a read holds its hits, and those that its gaps want, fit the pool.
 pub record RoomToRead (f at n : ℕ) (disk : Disk) (old : Holding) : Type 0 where
   pub range : Range disk old.cache f at n
   pub room : HasRoom old.store old.cache f range.from range.to
 
+-- They do not.
 pub record NoRoomToRead (f at n : ℕ) (disk : Disk) (old : Holding) : Type 0 where
   pub range : Range disk old.cache f at n
   pub lacks : LacksRoom old.store old.cache f range.from range.to

@@ -16,7 +16,7 @@ ghost use Rattle.iol_cache.specs.Going.{Goes, HasRoom, LacksRoom};
 ghost use Rattle.iol_cache.specs.Loading.{Asks};
 ghost use Rattle.iol_cache.specs.Pinned.{pinned_beside};
 ghost use Rattle.iol_cache.specs.Ranges.{FillsAfter, UndoesAfter};
-ghost use Rattle.iol_cache.specs.Serving.{IsBacked, IsEnd, LeavesRange, NoRoomToRead, ReadsFile, ReadsRange, RefusesRead, RoomToRead, TellsRoom, bytes_read};
+ghost use Rattle.iol_cache.specs.Serving.{IsBacked, IsEnd, LeavesRange, NoRoomToRead, ReadsFile, ReadsRange, RefusesRead, RoomToRead, TellsFault, TellsRoom, bytes_read};
 ghost use Rattle.iol_cache.specs.Sharing.{CountsBelow};
 ghost use Rattle.iol_cache.specs.Sound.{IsSound};
 ghost use Rattle.iol_cache.specs.Weaving.{len_beside};
@@ -115,7 +115,7 @@ impl Cache {
         ensures sound { IsSound store.new (cached_of self.new) }
         ensures room { let old = cached_of self.old in TellsRoom
             (HasRoom store.old old file from to) (LacksRoom store.old old file from to) result }
-        ensures disk { Asks 0 (B.disk backing.old) (B.disk backing.new) result }
+        ensures fault { TellsFault (B.disk backing.old) (B.disk backing.new) result }
         ensures late { IfErr result
             (WantOfRoomOrFault (file_in self.old.files.items file).pool file) }
     {
@@ -137,7 +137,8 @@ impl Cache {
     /// Reads at most `count` bytes of a file from place `at` on, as far as the file goes.
     ///
     /// The bytes that are in memory are shared. Room is made for the others, which are read into clean extents: all of
-    /// them, or none. A refusal leaves no extent, and nothing but evictions and the hits that were counted.
+    /// them, or none. It is refused where the pages that are pinned and wanted do not fit the file's pool (`NoRoom`), where
+    /// the store fails (`Fault`), and for want of memory. A refusal leaves no extent, only evictions and hits that count.
     pub fn read<B: Backing>(
         &mut self,
         alloc: Global,
@@ -177,7 +178,7 @@ impl Cache {
         ensures room { let old = holding store.old self.old in let disk = B.disk backing.old in
             TellsRoom (RoomToRead file at count disk old) (NoRoomToRead file at count disk old)
             result }
-        ensures disk { Asks 0 (B.disk backing.old) (B.disk backing.new) result }
+        ensures fault { TellsFault (B.disk backing.old) (B.disk backing.new) result }
         ensures late { IfErr result
             (WantOfRoomOrFault (file_in (cached_of self.old).files file).pool file) }
     {

@@ -14,7 +14,7 @@ use Rattle.iol_cache.specs.Ranges.{FillsAfter, UndoesAfter}
 use Rattle.iol_cache.specs.Serving.{ReadsRange, TellsRoom}
 use Rattle.iol_cache.specs.Weaving.{len_beside}
 use Rattle.iol_cache.proofs.Hits.{covers_hit, few_hit, goes_hit, len_hit, lies_read, readable_hit, room_hit}
-use Rattle.iol_cache.proofs.Served.{always_err, asks_ok, goes_reserved, ok_both}
+use Rattle.iol_cache.proofs.Served.{always_err, asks_ok, goes_reserved, ok_both, tells_fault}
 use Rattle.iol_cache.proofs.Steps.{goes_trans}
 use Rattle.iol_cache.proofs.cache.Cache.read_range.Goals as goal
 
@@ -114,3 +114,6 @@ returns-clause-room g c =
     let all = length (pages_of hit.store p) in
     room_hit c.args.file c.args.from c.args.to old hit c.in_ok-pins.pins c.in_ok-pins.gaps.items c.requires.sound c.requires.file c.in_ok-pins.ensures.pinned c.fill_pinned.result
     (subst (λ (l : List Span). TellsRoom (pinned + gap_pages l ≤ all) (all < pinned + gap_pages l) c.fill_pinned.result) c.deref.ensures.value c.fill_pinned.ensures.room)
+
+pub returns-clause-fault : goal.returns-clause-fault
+returns-clause-fault g c = tells_fault (length c.deref.result.now) (g.B.Backing.disk c.args.backing.now) (g.B.Backing.disk c.fill_pinned.new.backing) c.fill_pinned.result c.fill_pinned.ensures.disk
