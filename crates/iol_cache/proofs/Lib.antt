@@ -28,4 +28,7 @@ pub mod Woven
 pub mod Steps
 pub mod Tiled
 pub mod Replaced
+pub mod Hits
+pub mod Texts
+pub mod Served
 pub mod Written

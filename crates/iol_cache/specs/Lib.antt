@@ -8,6 +8,7 @@ pub mod Cache
 pub mod Users
 pub mod Loading
 pub mod Gaps
+pub mod Serving
 pub mod Sharing
 pub mod Weaving
 pub mod Reading

@@ -7,15 +7,24 @@
 //! page how often clean extents hold the buffer there, so that it is known which buffers anything else holds.
 //! What holds between any two calls is `IsSound`.
 //!
-//! Finished are `new`, `add_file`, `make_room` and `drop_clean`:
+//! Finished are `new`, `add_file`, `read`, `make_room` and `drop_clean`:
 //!
+//! - `read` shares the bytes of a range that are in memory, makes room for its gaps, and reads these into clean extents.
+//!   With an honest store it gives the file's bytes (`text`), and every file has its bytes after it (`goes`, `gone`). Over
+//!   every store, bytes over hits lie where they lay, those over gaps in the new extents (`reads`). NoRoom comes just where
+//!   the pages that something else holds, the hits among them, and those that the gaps want are more than the pool has
+//!   (`room`), Fault just where the store failed (`fault`). A refused read leaves no extent (`refused`).
 //! - `make_room` evicts, those that go first before the others, until so many pages of the pool are free. It fails just
 //!   where the pages that something else holds, and those wanted, are more than the pool has (`room`). Which extents
 //!   went is `EvictsAll`, and what they leave is `GivesUp`: with an honest store every file has its bytes.
 //! - `drop_clean` evicts all clean extents, pool by pool.
 //!
-//! The parts of a read and of a write are there for the crate: `fill_gaps`, `share_range`, `weave`, `fill_range`,
-//! `compose` and `replace_range`.
+//! ```text
+//! let file = cache.add_file(alloc, pool)?;
+//! let agg = cache.read(alloc, &mut store, &mut backing, file, 0, 4096)?; // the first page of the file, or less
+//! ```
+//!
+//! The parts of a write are there for the crate: `compose` and `replace_range`.
 #![tactic(auto)]
 
 mod cache;
@@ -30,6 +39,7 @@ mod marks;
 mod ranking;
 mod reading;
 mod replacing;
+mod serving;
 mod sharing;
 mod users;
 mod weaving;

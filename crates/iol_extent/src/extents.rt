@@ -2,7 +2,7 @@
 ghost use Rattle.std.specs.Prelude.{◌≡◌, ℕ, ◌+◌, ◌-◌, ◌<◌, ◌≤◌, ◌^◌, [], length, All, IfOk, IfSome, OnOk, OnErr, MatchOption, Some, None, slice_index_or, insert, remove, max, IsSome, IsTrue, true, false};
 ghost use Rattle.iol_hold.specs.Places.{byte_len};
 ghost use Rattle.iol_extent.specs.Extents.{Extent, IsFirstMet, met_in, extent_of, extent_over, extent_in, dirty_in, cover, cell_in, end_of, IsApart, IsGap, Adds, Lacks, last_end, begins_at, put_in, without_at};
-ghost use Rattle.iol_extent.specs.Spans.{IsHit, Tile};
+ghost use Rattle.iol_extent.specs.Spans.{IsHit, IsWhole, Tile};
 
 use crate::piece::{Piece, count_before, insert_piece};
 use crate::spans::{Found, Span};
@@ -130,6 +130,7 @@ impl Extents {
         ensures within { result.0.to ≤ to }
         ensures hit { IsTrue result.1 → IsHit self.now.extents to result.0 }
         ensures gap { result.1 ≡ false → IsGap self.now.extents at result.0.to }
+        ensures whole { result.1 ≡ false → IsWhole self.now.extents to result.0 }
     {
         let found = count_before(&self.pieces, at);
         if found == self.pieces.len() {

@@ -10,5 +10,6 @@
 #![tactic(auto)]
 
 pub mod extents;
+pub mod laws;
 mod piece;
 pub mod spans;
