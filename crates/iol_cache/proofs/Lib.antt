@@ -28,4 +28,10 @@ pub mod Woven
 pub mod Steps
 pub mod Tiled
 pub mod Replaced
+pub mod Changed
 pub mod Written
+pub mod Overlaid
+pub mod Prepared
+pub mod Overwritten
+pub mod Placed
+pub mod Storing
