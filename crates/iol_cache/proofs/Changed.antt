@@ -1,44 +1,28 @@
 -- A cache of which the extents of a file changed.
-use Rattle.std.proofs.Common.{inl, inr, ◌≡◌, ◌∙◌, ℕ, ◌+◌, ◌-◌, ◌<◌, ◌≤◌, ◌^◌, ◌==◌, Bool, true, false, cond, eqb, List, [], ◌∷◌, ◌++◌, length, Some, refl, sym, ap, arith, subst}
-use Rattle.std.specs.Prelude.{take, drop}
-use Rattle.std.specs.List.{All}
-use Rattle.std.proofs.lemmas.Bool.{cases_eq, cases_lt}
+use Rattle.std.proofs.Common.{inl, inr, ◌≡◌, ◌∙◌, ℕ, ◌+◌, ◌<◌, ◌≤◌, true, cond, eqb, List, ◌++◌, length, refl, sym, ap, arith, subst}
+use Rattle.std.proofs.lemmas.Bool.{cases_eq}
 use Rattle.std.proofs.lemmas.Bool.Decides.{nat_tests}
-use Rattle.std.proofs.lemmas.List.Elements.{All-nil, All-cons, All-same, All-take, All-drop}
 use Rattle.iol_core.specs.Numbered.{is_numbered}
 use Rattle.iol_core.specs.declared.limits.TheConstants.{MAX_FILE_BYTES}
 use Rattle.iol_core.specs.declared.numbers.BufId.{BufId}
 use Rattle.iol_pool.specs.Pools.{Pool, pool_in}
 use Rattle.iol_hold.specs.Moves.{tally, Covers}
-use Rattle.iol_hold.specs.Places.{Place, byte_len, place_in, places, slice_places}
-use Rattle.iol_hold.specs.Stored.{Stored}
-use Rattle.iol_hold.specs.Texts.{bufs_of, IsThere}
+use Rattle.iol_hold.specs.Texts.{bufs_of}
 use Rattle.iol_hold.specs.declared.slices.Slice.{Slice}
 use Rattle.iol_hold.proofs.Counting.{bufs-append, tally-append}
-use Rattle.iol_hold.proofs.Slicing.{length-slice_places}
-use Rattle.std.proofs.lemmas.List.{take_at, drop_at}
-use Rattle.std.proofs.lemmas.List.FromFn.{get_or-map-range_with_len}
-use Rattle.iol_extent.specs.Extents.{Extent, end_of, extent_over, is_over, last_end, meets, put_in, unmet}
+use Rattle.iol_extent.specs.Extents.{Extent, last_end}
 use Rattle.iol_evict.specs.Ranking.{Ranking}
 use Rattle.iol_cache.specs.declared.files.CachedFile.{CachedFile}
-use Rattle.iol_cache.specs.Marks.{at_page, Counted, HasMarksLeft}
-use Rattle.iol_cache.specs.Sharing.{CountsBelow}
-use Rattle.iol_cache.specs.Cached.{Cached, file_in, with_file, order_in, with_order, extents_in, slices_in, clean_in, held, clean_held, clean_of, clean_at, entries_at}
-use Rattle.iol_cache.specs.Cutting.{CutsLeft, CutsRight}
+use Rattle.iol_cache.specs.Marks.{at_page}
+use Rattle.iol_cache.specs.Cached.{file_in, with_file, order_in, with_order, extents_in, slices_in, clean_in, held, clean_held, clean_of, clean_at, entries_at}
 use Rattle.iol_cache.specs.Evicting.{Holding}
-use Rattle.iol_cache.specs.Gaps.{all_parts, all_put}
-use Rattle.iol_cache.specs.Replacing.{HaveClean, put_some}
+use Rattle.iol_cache.specs.Gaps.{all_parts}
 use Rattle.iol_cache.specs.Sound.{Each, IsLaid, IsFiled, IsSound}
 use Rattle.iol_cache.specs.Writing.{Changes}
-use Rattle.iol_cache.proofs.Composed.{pools_of}
-use Rattle.iol_cache.proofs.CutOut.{left_of, right_of}
 use Rattle.iol_cache.proofs.Extending.{laid_stays}
-use Rattle.iol_cache.proofs.Filing.{file_same, file_other, order_same, order_other, length-with_file, length-with_order, numbered_bounds, numbered_yes, IsAdditive, additive_tally, additive_page, sum-flat, sum-with_file, sum-file_in, each-put_in}
-use Rattle.iol_cache.proofs.Putting.{last_end-all_put}
+use Rattle.iol_cache.proofs.Filing.{file_same, file_other, order_same, order_other, length-with_file, length-with_order, numbered_bounds, numbered_yes, IsAdditive, additive_tally, additive_page, sum-flat, sum-with_file}
 use Rattle.iol_cache.proofs.Roomy.{ranks_file}
-use Rattle.iol_cache.proofs.Using.{covers_file, sum-file}
-use Rattle.iol_cache.proofs.Replaced.{page-three}
-use Rattle.iol_cache.proofs.Stepping.{mark_few, page_len}
+use Rattle.iol_cache.proofs.Using.{covers_file}
 
 -- Sums over the file that changed.
 

@@ -35,3 +35,5 @@ pub mod Prepared
 pub mod Overwritten
 pub mod Placed
 pub mod Storing
+pub mod Cleaned
+pub mod Synced

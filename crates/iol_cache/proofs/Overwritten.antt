@@ -1,39 +1,36 @@
 -- A file in which a range was overwritten, and the others.
-use Rattle.std.proofs.Common.{inl, inr, ◌≡◌, ◌≢◌, ◌∙◌, ℕ, ◌+◌, ◌-◌, ◌<◌, ◌≤◌, ◌⊎◌, Bool, true, false, cond, List, [], ◌++◌, length, map, get_or, max, Option, Some, None, refl, sym, ap, arith, subst}
-use Rattle.std.specs.Prelude.{slice_index, slice_index_or}
-use Rattle.std.specs.List.{range_with_len}
+use Rattle.std.proofs.Common.{inl, inr, ◌≡◌, ◌∙◌, ℕ, ◌+◌, ◌-◌, ◌<◌, ◌≤◌, ◌⊎◌, true, false, List, ◌++◌, length, map, get_or, max, Some, refl, sym, ap, arith, subst}
+use Rattle.std.specs.Prelude.{slice_index}
 use Rattle.std.proofs.lemmas.Bool.{cases_eq, cases_lt}
 use Rattle.std.proofs.lemmas.List.{ext_get_or, get_or-map, length-map}
 use Rattle.std.proofs.lemmas.List.FromFn.{get_or-map-range_with_len, length-map-range_with_len}
 use Rattle.iol_back.specs.Disk.{content, overwritten}
 use Rattle.iol_core.specs.Numbered.{is_numbered}
 use Rattle.iol_core.specs.Text as text
-use Rattle.iol_core.specs.declared.numbers.BufId.{BufId}
 use Rattle.iol_hold.specs.Moves.{Covers, Moves, SameLists, Stays, tally}
-use Rattle.iol_hold.specs.Places.{Place, byte_len, places}
-use Rattle.iol_hold.specs.Stored.{AllSettled, Stored}
-use Rattle.iol_hold.specs.Texts.{AllReadable, bufs_of, byte_at, text_of}
+use Rattle.iol_hold.specs.Places.{byte_len, places}
+use Rattle.iol_hold.specs.Stored.{AllSettled}
+use Rattle.iol_hold.specs.Texts.{bufs_of, byte_at, text_of}
 use Rattle.iol_hold.specs.declared.slices.Slice.{Slice}
 use Rattle.iol_hold.proofs.Counting.{bufs-append, tally-append, tally_none}
 use Rattle.iol_hold.proofs.Moving.{shares_move, stays_trans}
 use Rattle.iol_hold.proofs.Reading.{bytes_of-labelled, length-text_of, text_stays}
-use Rattle.iol_extent.specs.Extents.{Cell, Extent, IsApart, cell_at, cover, end_of, last_end, no_place, unmet}
+use Rattle.iol_extent.specs.Extents.{Extent, IsApart, cell_at, cover, end_of, no_place, unmet}
 use Rattle.iol_cache.specs.declared.files.CachedFile.{CachedFile}
-use Rattle.iol_cache.specs.Cached.{Cached, extents_in, file_in, held, slices_in}
+use Rattle.iol_cache.specs.Cached.{extents_in, file_in, held, slices_in}
 use Rattle.iol_cache.specs.Composing.{KeepsOwn}
 use Rattle.iol_cache.specs.Contents.{AreStored, IsStored, byte_in, file_byte, file_bytes, file_len, read_or}
 use Rattle.iol_cache.specs.Evicting.{Holding}
 use Rattle.iol_cache.specs.Gaps.{all_parts}
-use Rattle.iol_cache.specs.Overwriting.{IsWritten, KeepsMirrors, KeepsOthers, LiesDirty, MirrorsIn, Overwrites, bytes_in, is_dirty}
+use Rattle.iol_cache.specs.Overwriting.{IsWritten, KeepsMirrors, KeepsOthers, LiesDirty, Overwrites, is_dirty}
 use Rattle.iol_cache.specs.Replacing.{put_some}
 use Rattle.iol_cache.specs.Sharing.{place_in, place_over, places_over}
 use Rattle.iol_cache.specs.Sound.{Each, IsLaid, IsSound}
 use Rattle.iol_cache.specs.Writing.{Changes, parts_put}
 use Rattle.iol_cache.proofs.Changed as changed
-use Rattle.iol_cache.proofs.Filing.{numbered_bounds}
 use Rattle.iol_cache.proofs.GivenUp.{file_stays, read_stays, stored_stays}
 use Rattle.iol_cache.proofs.Overlaid.{beside_is, last_end-over, map_over, over_is}
-use Rattle.iol_cache.proofs.Prepared.{prepared_covers, prepared_ends, prepared_held, prepared_laid, prepared_lists, prepared_long, prepared_moves, prepared_settles, prepared_sound}
+use Rattle.iol_cache.proofs.Prepared.{prepared_covers, prepared_ends, prepared_laid, prepared_lists, prepared_long, prepared_moves, prepared_settles, prepared_sound}
 use Rattle.iol_cache.proofs.Replaced.{some-parts}
 use Rattle.iol_cache.proofs.Shared.{length-places_over}
 use Rattle.iol_cache.proofs.Using.{covers_file}

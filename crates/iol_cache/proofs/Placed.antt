@@ -1,5 +1,5 @@
 -- A write, from the room that is made for it on.
-use Rattle.std.proofs.Common.{◌≡◌, ◌≢◌, ◌∙◌, ℕ, ◌+◌, ◌<◌, ◌≤◌, ◌++◌, true, List, [], length, refl, sym, ap, arith, subst}
+use Rattle.std.proofs.Common.{◌≡◌, ◌∙◌, ℕ, ◌<◌, ◌≤◌, ◌++◌, true, List, [], length, refl, sym, ap, arith, subst}
 use Rattle.iol_back.specs.Disk.{Disk, overwritten}
 use Rattle.iol_core.specs.Numbered.{is_numbered}
 use Rattle.iol_core.specs.Text as text
@@ -13,11 +13,10 @@ use Rattle.iol_hold.proofs.Counting.{tally-append, tally_none}
 use Rattle.iol_hold.proofs.Moving.{stays_trans}
 use Rattle.iol_hold.proofs.Reading.{readable_stays, text_stays}
 use Rattle.iol_arena.specs.State.{page_count}
-use Rattle.iol_cache.specs.Cached.{Cached, file_in, held}
-use Rattle.iol_cache.specs.Contents.{SameFiles}
+use Rattle.iol_cache.specs.Cached.{file_in, held}
 use Rattle.iol_cache.specs.Evicting.{Holding}
 use Rattle.iol_cache.specs.Going.{Goes}
-use Rattle.iol_cache.specs.Overwriting.{IsWritten, KeepsFiles, KeepsMirrors, KeepsOthers, MakesRoom, MirrorsIn, OnlyMakesRoom, Overwrites, bytes_in}
+use Rattle.iol_cache.specs.Overwriting.{IsWritten, KeepsFiles, KeepsMirrors, KeepsOthers, MakesRoom, Overwrites, bytes_in}
 use Rattle.iol_cache.specs.Sharing.{CountsBelow}
 use Rattle.iol_cache.specs.Sound.{IsSound}
 use Rattle.iol_cache.proofs.Filing.{numbered_bounds, numbered_yes}

@@ -1,12 +1,11 @@
 -- What a write puts in place of a range, and the store over which it lies.
-use Rattle.std.proofs.Common.{inl, inr, ◌≡◌, ◌∙◌, ℕ, ◌+◌, ◌-◌, ◌<◌, ◌≤◌, ◌^◌, List, [], ◌++◌, length, map, Option, Some, None, refl, sym, ap, arith, subst}
+use Rattle.std.proofs.Common.{inl, inr, ◌≡◌, ◌∙◌, ℕ, ◌+◌, ◌-◌, ◌<◌, ◌≤◌, ◌^◌, List, [], ◌++◌, map, Option, Some, None, refl, sym, ap, arith, subst}
 use Rattle.std.specs.Prelude.{MatchOption}
 use Rattle.std.proofs.lemmas.Bool.{cases_lt}
-use Rattle.iol_arena.specs.State.{State, page_count}
+use Rattle.iol_arena.specs.State.{page_count}
 use Rattle.iol_core.specs.Text as text
 use Rattle.iol_core.specs.declared.limits.TheConstants.{MAX_FILE_BYTES}
 use Rattle.iol_core.specs.declared.numbers.BufId.{BufId}
-use Rattle.iol_pool.specs.Pools.{Pool}
 use Rattle.iol_hold.specs.Moves.{Covers, Moves, SameLists, Shares, pool_meant, tally}
 use Rattle.iol_hold.specs.Places.{byte_len}
 use Rattle.iol_hold.specs.Stored.{AllSettled, Stored}
@@ -14,10 +13,10 @@ use Rattle.iol_hold.specs.Texts.{AllReadable, bufs_of, text_of}
 use Rattle.iol_hold.specs.declared.slices.Slice.{Slice}
 use Rattle.iol_hold.proofs.Counting.{bufs-append, tally-append, tally_none}
 use Rattle.iol_hold.proofs.Moving.{shares_move, stays_trans}
-use Rattle.iol_hold.proofs.Reading.{readable_none, readable_rest, readable_taken}
+use Rattle.iol_hold.proofs.Reading.{readable_none, readable_taken}
 use Rattle.iol_extent.specs.Extents.{Extent, end_of, extent_over, last_end}
 use Rattle.iol_cache.specs.Cached.{Cached, held}
-use Rattle.iol_cache.specs.Cutting.{CutsLeft, CutsRight, IsAfter, IsBefore}
+use Rattle.iol_cache.specs.Cutting.{CutsLeft, CutsRight, IsBefore}
 use Rattle.iol_cache.specs.Gaps.{all_parts}
 use Rattle.iol_cache.specs.Preparing.{Prepares}
 use Rattle.iol_cache.specs.Sharing.{CountsBelow}

@@ -33,6 +33,7 @@ mod reading;
 mod replacing;
 mod reserving;
 mod sharing;
+mod syncing;
 mod users;
 mod weaving;
 mod writing;
