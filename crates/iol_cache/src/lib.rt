@@ -7,15 +7,17 @@
 //! page how often clean extents hold the buffer there, so that it is known which buffers anything else holds.
 //! What holds between any two calls is `IsSound`.
 //!
-//! Finished are `new`, `add_file`, `make_room` and `drop_clean`:
+//! Finished are `new`, `add_file`, `make_room`, `drop_clean` and `write`:
 //!
 //! - `make_room` evicts, those that go first before the others, until so many pages of the pool are free. It fails just
 //!   where the pages that something else holds, and those wanted, are more than the pool has (`room`). Which extents
 //!   went is `EvictsAll`, and what they leave is `GivesUp`: with an honest store every file has its bytes.
 //! - `drop_clean` evicts all clean extents, pool by pool.
+//! - `write` puts bytes over those of a file, as one dirty extent: those of the file's pool are shared, all others copied
+//!   there. The file then has the bytes that the machine gives it (`written`), and every other file its own (`others`).
 //!
 //! The parts of a read and of a write are there for the crate: `fill_gaps`, `share_range`, `weave`, `fill_range`,
-//! `compose` and `replace_range`.
+//! `compose` and `replace_range`; so are `sync` and `flush_one`, which write dirty extents back.
 #![tactic(auto)]
 
 mod cache;
