@@ -31,4 +31,12 @@ pub mod Replaced
 pub mod Hits
 pub mod Texts
 pub mod Served
+pub mod Changed
 pub mod Written
+pub mod Overlaid
+pub mod Prepared
+pub mod Overwritten
+pub mod Placed
+pub mod Storing
+pub mod Cleaned
+pub mod Synced

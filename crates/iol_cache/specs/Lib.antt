@@ -16,5 +16,8 @@ pub mod Composing
 pub mod Cutting
 pub mod Going
 pub mod Ranges
+pub mod Preparing
 pub mod Replacing
 pub mod Writing
+pub mod Overwriting
+pub mod Syncing
