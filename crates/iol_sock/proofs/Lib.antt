@@ -1,4 +1,5 @@
 pub mod Ending
 pub mod Meaning
 pub mod Sending
+pub mod Waiting
 pub mod Writing

@@ -26,6 +26,7 @@ mod draining;
 mod incoming;
 pub mod laws;
 mod outgoing;
+mod passing;
 mod table;
 
 pub use connections::Connection;
