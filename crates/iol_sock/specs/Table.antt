@@ -1,5 +1,5 @@
 -- The table of live connections.
-use Rattle.std.specs.Prelude.{ℕ, Bool, true, not, List, [], map, filter, Option, Some, unwrap_or}
+use Rattle.std.specs.Prelude.{ℕ, true, not, List, [], map, filter, Some, unwrap_or}
 use Rattle.iol_core.specs.Numbered.{lookup, changed}
 use Rattle.iol_core.specs.declared.descriptors.How.TheVariants.{Gone}
 use Rattle.iol_hold.specs.declared.slices.Slice.{Slice}

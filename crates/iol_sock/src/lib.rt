@@ -11,8 +11,8 @@
 //! slices; `uses`: which sums are remembered), `drain_to` (`written`: what a writer took; `rest`). Ended: `peer_closed`,
 //! `close`, `release` (`moves`, `frees`, `settles`). Many: [`Connections`] has the live ones under numbers that rise
 //! (`numbers_rise`); `add`, `get`, `accept`, `forget` are words on that list, `first_waiting` the first that a domain may
-//! accept, and each call above is there by number (`with_conn`, `conn_in`; `specs/Table`). That its words are the machine's: [`laws`]. The words are in
-//! `specs/Connections`, `specs/Refused`, `specs/Sent`, iol_pipe's and iol_sum's.
+//! accept, and each call above is there by number (`with_conn`, `conn_in`). That its words are the machine's: [`laws`].
+//! The words are in `specs/Connections`, `specs/Table`, `specs/Refused`, `specs/Sent`, iol_pipe's and iol_sum's.
 //!
 //! ```text
 //! let taken = conn.arrive(alloc, &mut store, b"GET /")?;

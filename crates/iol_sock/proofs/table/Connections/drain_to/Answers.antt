@@ -1,8 +1,8 @@
-use Rattle.std.proofs.Common.{◌≡◌, List, ap, subst}
+use Rattle.std.proofs.Common.{List, ap, subst}
 use Rattle.iol_hold.specs.Texts.{AllReadable}
 use Rattle.iol_hold.specs.declared.slices.Slice.{Slice}
 use Rattle.iol_sock.specs.Connections.{Conn}
-use Rattle.iol_sock.specs.Table.{ConnTable, conn_in}
+use Rattle.iol_sock.specs.Table.{ConnTable}
 use Rattle.iol_sock.proofs.Waiting.{old_is, new_is, others_are}
 use Rattle.iol_sock.proofs.table.Connections.drain_to.Goals as goal
 

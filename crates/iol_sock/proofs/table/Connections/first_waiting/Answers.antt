@@ -1,4 +1,4 @@
-use Rattle.std.proofs.Common.{◌≡◌, ◌&&◌, ◌∙◌, ℕ, List, not, find, option_map, Some, sym, ap, subst, arith}
+use Rattle.std.proofs.Common.{◌≡◌, ◌&&◌, ◌∙◌, ℕ, not, find, option_map, Some, sym, ap, subst, arith}
 use Rattle.iol_pool.specs.Pools.{names_in}
 use Rattle.iol_sock.specs.Table.{ConnTable}
 use Rattle.iol_sock.proofs.Waiting.{first_as, first-below}

@@ -1,5 +1,4 @@
-use Rattle.std.proofs.Common.{◌≡◌, ◌≤◌, false, true, ◌∙◌, sym, ap, subst}
-use Rattle.iol_core.specs.declared.limits.TheConstants.{LAST_CONNECTION}
+use Rattle.std.proofs.Common.{◌≡◌, false, true, ◌∙◌, sym, ap}
 use Rattle.iol_sock.specs.Table.{waiting_in}
 use Rattle.iol_sock.proofs.Waiting.{Conns, forgets, waiting-gone, waiting-rising}
 use Rattle.iol_sock.proofs.table.Connections.forget.Goals as goal

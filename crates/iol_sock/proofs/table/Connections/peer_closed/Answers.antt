@@ -1,5 +1,5 @@
-use Rattle.std.proofs.Common.{◌≡◌, ap}
-use Rattle.iol_sock.specs.Table.{ConnTable, conn_in}
+use Rattle.std.proofs.Common.{ap}
+use Rattle.iol_sock.specs.Table.{ConnTable}
 use Rattle.iol_sock.proofs.Waiting.{old_is, new_is}
 use Rattle.iol_sock.proofs.table.Connections.peer_closed.Goals as goal
 

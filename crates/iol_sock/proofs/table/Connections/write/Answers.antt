@@ -1,6 +1,6 @@
-use Rattle.std.proofs.Common.{◌≡◌, ap}
+use Rattle.std.proofs.Common.{ap}
 use Rattle.std.proofs.lemmas.Result.{on_err_weaker}
-use Rattle.iol_sock.specs.Table.{ConnTable, conn_in}
+use Rattle.iol_sock.specs.Table.{ConnTable}
 use Rattle.iol_sock.proofs.Waiting.{old_is, new_is, same_is, others_are}
 use Rattle.iol_sock.proofs.table.Connections.write.Goals as goal
 
