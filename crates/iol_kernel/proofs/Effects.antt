@@ -164,7 +164,7 @@ leaves_as m n h k same one = record { bytes = one.bytes ∙ same (byte_at h.stor
 
 -- a domain gets an aggregate of new bytes
 
-adds_held : (s t : Stored) (ds : List (Domain (List Slice))) (qs : Objects (List Slice)) (xs : List Slice) → IsCounted s ds qs → Moves s t [] (bufs_of xs) → AreHeld t ds qs
+pub adds_held : (s t : Stored) (ds : List (Domain (List Slice))) (qs : Objects (List Slice)) (xs : List Slice) → IsCounted s ds qs → Moves s t [] (bufs_of xs) → AreHeld t ds qs
 adds_held s t ds qs xs counted m = record { each = λ b. omega (arith, counted.each b, m.counts.each b, tally_none b) }
 
 module _ (h : KernelState) (t : Stored) (ds : List (Domain (List Slice))) (d : ℕ) (text : Text) (placed : List ℕ) (sound : IsSound h) (adds : AddsText h.store t h.domains ds d text placed) where
