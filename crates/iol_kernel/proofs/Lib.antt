@@ -27,4 +27,5 @@ pub mod Gifts
 pub mod Numbering
 pub mod Connecting
 pub mod Arriving
+pub mod Transmitting
 pub mod PeerClosed

@@ -1,5 +1,5 @@
 -- What a call does to what a system holds, said of the copying machine whatever is read at the places of bytes.
-use Rattle.std.specs.Prelude.{◌≡◌, ℕ, ◌⊎◌, ◌++◌, true, false, List, [], Some, Result, Ok, Err, OnErr}
+use Rattle.std.specs.Prelude.{◌≡◌, ℕ, ◌⊎◌, ◌++◌, true, false, List, [], Some, Result, Ok, Err, OnOk, OnErr}
 use Rattle.iol_core.specs.Text.{Text}
 use Rattle.iol_core.specs.State.{State, is_live, text, conn_at, with_conn}
 use Rattle.iol_core.specs.Meaning.{Meaning, Step}
@@ -15,6 +15,9 @@ use Rattle.iol_hold.specs.Texts.{bufs_of}
 use Rattle.iol_hold.specs.declared.slices.Slice.{Slice}
 use Rattle.iol_desc.specs.Tables.{agg_in}
 use Rattle.iol_sock.specs.declared.outgoing.Segment.{Segment}
+use Rattle.iol_sock.specs.Sent.{UsesSent}
+use Rattle.iol_sock.specs.Table.{conn_in}
+use Rattle.iol_core.specs.Calls.Outside.{transmit}
 use Rattle.iol_kernel.specs.KernelState.{KernelState, Reading, read_of, machine_of, IsSound}
 
 -- The machine's step whatever is read: of bytes it is the step that the call means; of places it says that the bytes
@@ -98,3 +101,15 @@ IsMissing h d a x =
 abbrev pub told : Result Segment Refusal → Result (List ℕ × ℕ) Refusal
 told (Ok g) = Ok (g.bytes, g.checksum)
 told (Err x) = Err x
+
+-- The machine's `transmit`: what is left lies where it lay, and of the pages some may be freed. The sum of each slice that
+-- was sent is used, in order; a refusal changes nothing.
+pub record Transmits (c max : ℕ) (old : KernelState) (r : Result (List ℕ × ℕ) Refusal) (new : KernelState) : Type 0 where
+  pub step : Step (transmit (machine_of old) c max) (machine_of old) r (machine_of new)
+  pub places : OnOk r ((f : Reading) → KeepsPools f → read_of f new ≡ (transmit (read_of f old) c max).after)
+  pub roomy : (p : ℕ) → r ≡ Err (NoRoom p) → ⊥
+  pub pages : KeepsPages old.store new.store []
+  pub uses : OnOk r (UsesSent old.store (conn_in old.conns c).outgoing max old.sums new.sums)
+  pub refused : OnErr r (new ≡ old)
+  pub sound : IsSound new
+  pub stays : Stays old.store new.store

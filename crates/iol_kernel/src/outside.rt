@@ -24,7 +24,7 @@ use iol_sock::Segment;
 use std::alloc::AllocError;
 
 impl Kernel {
-    ghost use Rattle.iol_kernel.specs.Kernel.{state_of, machine, as_read, CarriesOut, KeepsPlaces, Answers, Arrives, Leaves};
+    ghost use Rattle.iol_kernel.specs.Kernel.{state_of, machine, as_read, CarriesOut, KeepsPlaces, Answers, Arrives, Transmits, Leaves};
 
     /// Makes a connection that waits to be accepted. What arrives on it will lie in the pool.
     #[tactic(auto, using(crate::proofs::Stay::stay_rules))]
@@ -167,5 +167,31 @@ impl Kernel {
             bytes.now).answer ≡ false }
     {
         Ok(self.conns.arrive(self.alloc, &mut self.store, conn, bytes)?)
+    }
+
+    /// Sends the first `max` bytes to be sent of a connection, or all where fewer wait, with the checksum of these
+    /// alone. The sum of each slice that is sent is used, in order.
+    #[tactic(auto, using(crate::proofs::Stay::stay_rules))]
+    pub fn transmit(&mut self, conn: ConnId, max: u32) -> Result<Segment, Refusal>
+        requires { IsSound (state_of self.old) }
+        ensures { Transmits conn max self.old (told result) self.new }
+    {
+        if self.lacks_conn(conn) {
+            return Err(Refusal::BadFd);
+        }
+        self.send(conn, max)
+    }
+
+    /// Sends the first bytes of a connection that is there, and forgets it where it is over.
+    fn send(&mut self, conn: ConnId, max: u32) -> Result<Segment, Refusal>
+        requires sound { IsSound (state_of self.old) }
+        requires there { lacks_conn (machine self.old) conn ≡ false }
+        ensures { Transmits conn max self.old (told result) self.new }
+    {
+        let segment = self
+            .conns
+            .segment(self.alloc, &mut self.store, conn, &mut self.sums, max)?;
+        self.settle(conn);
+        Ok(segment)
     }
 }
