@@ -1,9 +1,9 @@
 -- Lists with holes: what is there, found, taken, added and exchanged.
-use Rattle.std.proofs.Common.{◌≡◌, ◌≢◌, ℕ, suc, ◌+◌, ◌-◌, ◌<◌, ◌≤◌, List, [], ◌∷◌, ◌++◌, length, get_or, Option, Some, None, inl, inr, arith, refl, sym, subst, true, ap, ◌∙◌, filter, length-append, length-set}
+use Rattle.std.proofs.Common.{◌≡◌, ◌≢◌, ℕ, zero, suc, ◌+◌, ◌-◌, ◌<◌, ◌≤◌, List, [], ◌∷◌, ◌++◌, length, get_or, Option, Some, None, inl, inr, arith, refl, sym, subst, true, ap, ◌∙◌, filter, length-append, length-set}
 use Rattle.std.specs.Prelude.{slice_set, is_some}
 use Rattle.std.proofs.lemmas.Bool.{cases_eq}
 use Rattle.std.proofs.lemmas.Bool.Decides.{nat_tests}
-use Rattle.iol_core.specs.Numbered.{lookup, without}
+use Rattle.iol_core.specs.Numbered.{lookup, without, changed}
 use Rattle.iol_desc.specs.Tables.{place_in, exchanged}
 use Rattle.iol_desc.specs.Listed.{there, DropsHole, Rises, IsRising, IsListed}
 use Rattle.iol_desc.proofs.Rising.{rises-lower, rises-set, rises-push}
@@ -84,6 +84,29 @@ place_there ((m, None) ∷ es) from to n r found = elim (cases_eq m n) [
 place_there ((m, Some x) ∷ es) from to n r found = elim (cases_eq m n) [
   | inl k ↦ grind (arith, nat_tests, k)
   | inr k ↦ (let rest = place_there es (m + 1) to n r.1 (λ none. found (grind (arith, nat_tests, k, none))) in grind (arith, nat_tests, k, rest))
+]
+
+-- another value of a number
+
+changed-absent : {A : Type 0} (es : List (ℕ × A)) (from to n : ℕ) (y : A) → Rises from es to → n < from → changed es n y ≡ es
+changed-absent [] from to n y r lt = refl
+changed-absent {A} (e ∷ es) from to n y r lt =
+    let above : n < e.0 = omega (arith, r.0) in
+    let head : changed (e ∷ es) n y ≡ e ∷ changed es n y = grind (arith, nat_tests, above) in
+    head ∙ ap (λ (es : List (ℕ × A)). e ∷ es) (changed-absent es (e.0 + 1) to n y r.1 (omega (arith, r.0)))
+
+pub exchanged-changed : {A : Type 0} (es : List (ℕ × A)) (from to n : ℕ) (y : A) → Rises from es to → exchanged es n y ≡ changed es n y
+exchanged-changed [] from to n y r = refl
+exchanged-changed {A} (e ∷ es) from to n y r = elim (cases_eq e.0 n) [
+  | inl k ↦ (let rest = changed-absent es (e.0 + 1) to n y r.1 (omega (arith, k)) in
+      let head : changed (e ∷ es) n y ≡ (n, y) ∷ changed es n y = grind (arith, nat_tests, k) in
+      let first : exchanged (e ∷ es) n y ≡ (n, y) ∷ es = grind (arith, nat_tests, k) in
+      first ∙ sym (head ∙ ap (λ (es : List (ℕ × A)). (n, y) ∷ es) rest))
+  | inr k ↦ (let rest = exchanged-changed es (e.0 + 1) to n y r.1 in
+      let head : changed (e ∷ es) n y ≡ e ∷ changed es n y = grind (arith, nat_tests, k) in
+      let p : place_in (e ∷ es) n ≡ suc (place_in es n) = grind (arith, nat_tests, k) in
+      let first : exchanged (e ∷ es) n y ≡ e ∷ exchanged es n y = rw p refl in
+      first ∙ ap (λ (es : List (ℕ × A)). e ∷ es) rest ∙ sym head)
 ]
 
 -- adding at the end, and closing the holes
@@ -191,6 +214,37 @@ listed_without_hole {A} holes next old new listed drops =
       sym same,
     )
 
+any-default : {X : Type 0} (es : List X) (i : ℕ) (a b : X) → i < length es → get_or es i a ≡ get_or es i b
+any-default [] i a b lt = absurd (omega arith)
+any-default (e ∷ es) zero a b lt = refl
+any-default (e ∷ es) (suc i) a b lt = any-default es i a b (omega arith)
+
+pub lookup_entry : {A : Type 0} (holes next n i : ℕ) (es : List (ℕ × Option A)) (e : ℕ × Option A) → IsListed holes next es → lookup (there es) n ≢ None → i ≡ place_in es n → e ≡ get_or es i e → lookup (there es) n ≡ e.1
+lookup_entry {A} holes next n i es e listed found at is =
+    let none : Option A = None in
+    lookup_there es 0 next n listed.rises
+    ∙ ap (λ (x : ℕ × Option A). x.1) (any-default es (place_in es n) (0, none) e (place_there es 0 next n listed.rises found)
+    ∙ ap (λ (k : ℕ). get_or es k e) (sym at) ∙ sym is)
+
+-- the numbers of what is there rise, too
+
+rises-there : {A : Type 0} (es : List (ℕ × Option A)) (from to : ℕ) → Rises from es to → Rises from (there es) to
+rises-there [] from to r = r
+rises-there ((m, None) ∷ es) from to r = rises-lower (there es) (m + 1) from to (rises-there es (m + 1) to r.1) (omega (arith, r.0))
+rises-there ((m, Some y) ∷ es) from to r = (r.0, rises-there es (m + 1) to r.1)
+
+pub there_rises : {A : Type 0} (holes next : ℕ) (es : List (ℕ × Option A)) → IsListed holes next es → Rises 0 (there es) next
+there_rises holes next es listed = rises-there es 0 next listed.rises
+
+-- the entry of a number, lent
+pub lent_entry : {A : Type 0} (holes next n i : ℕ) (es : List (ℕ × Option A)) (e : ℕ × Option A) (w : A) → IsListed holes next es → lookup (there es) n ≢ None → i ≡ place_in es n → e ≡ get_or es i e → IsListed holes next (slice_set es i (e.0, Some w)) × (there (slice_set es i (e.0, Some w)) ≡ changed (there es) n w)
+lent_entry {A} holes next n i es e w listed found at is =
+    let number : n ≡ e.0 = number_at es n e (place_there es 0 next n listed.rises found) ∙ ap (λ (k : ℕ). (get_or es k e).0) (sym at) ∙ ap (λ (x : ℕ × Option A). x.0) (sym is) in
+    rw (at, sym number) (
+      listed-exchanged holes next n es w listed found,
+      there-exchanged es 0 next n w listed.rises found ∙ exchanged-changed (there es) 0 next n w (rises-there es 0 next listed.rises),
+    )
+
 -- the same, of a list whose numbers rise
 
 pub lookup_held : {A : Type 0} (es : List (ℕ × Option A)) (n : ℕ) → IsRising es → lookup (there es) n ≡ held_at es (place_in es n)
@@ -213,6 +267,8 @@ pub ruleset found_rules = (lookup_held, place_held)
 pub ruleset end_rules = (there-push, there-hole)
 
 pub ruleset method_rules = (rising_listed, listed-taken, listed-exchanged, listed-push, listed-held, taken_held, exchanged_held, there-push, there-held)
+
+pub ruleset lent_rules = (rising_listed, lookup_held, place_held)
 
 pub ruleset hole_rules = (listed_without_hole)
 

@@ -1,5 +1,5 @@
 -- Lists under rising numbers, and what is found in them.
-use Rattle.std.proofs.Common.{◌≡◌, ◌≢◌, ℕ, zero, suc, ◌+◌, ◌<◌, ◌≤◌, ◌==◌, List, [], ◌∷◌, ◌++◌, length, get_or, Result, Ok, Err, inl, inr, arith, sym, ap}
+use Rattle.std.proofs.Common.{◌≡◌, ◌≢◌, ℕ, zero, suc, ◌+◌, ◌<◌, ◌≤◌, ◌==◌, List, [], ◌∷◌, ◌++◌, length, get_or, Result, Ok, Err, inl, inr, arith, sym, ap, refl}
 use Rattle.std.specs.Prelude.{slice_set}
 use Rattle.std.specs.List.Sorted.{IsSearchInRange, IsBinarySearchResult, IsNonDecreasingBy}
 use Rattle.std.specs.Ordering.{nat_cmp, ordering_index}
@@ -53,7 +53,7 @@ absent_place {X} es n d none = sym (position_or_len_is (λ (e : ℕ × X). e.0 =
     (λ k below. grind (arith, nat_tests, none k below))
     (λ within. absurd (omega arith)))
 
-pub searched : {X : Type 0} (es : List (ℕ × X)) (n : ℕ) (d : ℕ × X) → IsRising es → (r : Result ℕ ℕ) → IsSearchInRange r (length es) → IsBinarySearchResult (λ (e : ℕ × X). nat_cmp e.0 n) es r → MatchResult r (λ i. i ≡ place_in es n) (λ i. length es ≡ place_in es n)
+searched : {X : Type 0} (es : List (ℕ × X)) (n : ℕ) (d : ℕ × X) → IsRising es → (r : Result ℕ ℕ) → IsSearchInRange r (length es) → IsBinarySearchResult (λ (e : ℕ × X). nat_cmp e.0 n) es r → MatchResult r (λ i. i ≡ place_in es n) (λ i. length es ≡ place_in es n)
 searched es n d rising (Ok i) within equal = found_place es n i d rising within (ranked _ n _ (sym (equal d)))
 searched es n d rising (Err i) within parted =
     let parts = parted (numbers-rise es rising.told.0 n d rising.told.1) in
@@ -61,3 +61,9 @@ searched es n d rising (Err i) within parted =
       | inl below ↦ (let less : (get_or es k d).0 < n = ranked _ n _ (sym (parts.0 k d (omega arith) below)) in omega (arith, less, same))
       | inr above ↦ (let more : n < (get_or es k d).0 = ranked _ n _ (sym (parts.1 k d above lt)) in omega (arith, more, same))
     ])
+
+-- an empty list has no element to compare with
+pub searched_any : {X : Type 0} (es : List (ℕ × X)) (n : ℕ) → IsRising es → (r : Result ℕ ℕ) → IsSearchInRange r (length es) → IsBinarySearchResult (λ (e : ℕ × X). nat_cmp e.0 n) es r → MatchResult r (λ i. i ≡ place_in es n) (λ i. length es ≡ place_in es n)
+searched_any [] n rising (Ok i) within equal = absurd (omega (arith, within))
+searched_any [] n rising (Err i) within parted = refl
+searched_any (e ∷ es) n rising r within found = searched (e ∷ es) n e rising r within found

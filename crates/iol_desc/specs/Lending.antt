@@ -1,8 +1,11 @@
--- What places become where a value in one of them is lent.
+-- What places and entries become where a value of them is lent.
 use Rattle.std.specs.Prelude.{ℕ, Option, Some, slice_set}
 use Rattle.std.specs.contracts.option.Option as option
 use Rattle.std.specs.Borrow.{Lends, Fml, MutBor, RattleType}
+use Rattle.iol_core.specs.Numbered.{changed}
 use Rattle.iol_desc.specs.Tables.{Slots}
+use Rattle.iol_desc.specs.Listed.{Listed}
+use Rattle.iol_desc.specs.contracts.entries.Entries as entries
 use Rattle.iol_desc.specs.contracts.places.Places.{the_row}
 
 -- with x in a place
@@ -16,3 +19,11 @@ LendsPlace T s n r = Lends (the_row T) T s r (with_place s.now n)
 -- once the borrow r ends, there is the last value written through r
 abbrev pub LendsValue : (T : RattleType) → MutBor (Option T.Denot) → MutBor T.Denot → Fml
 LendsValue T s r = Lends (option.the_row T) T s r Some
+
+-- with x as the value of a number
+abbrev pub with_entry : {A : Type 0} → Listed A → (n : ℕ) → A → Listed A
+with_entry s n x = record s { entries = changed s.entries n x }
+
+-- once the borrow r ends, the number has the last value written through r
+abbrev pub LendsEntry : (T : RattleType) → MutBor (Listed T.Denot) → (n : ℕ) → MutBor T.Denot → Fml
+LendsEntry T s n r = Lends (entries.the_row T) T s r (with_entry s.now n)

@@ -1,22 +1,27 @@
-//! Aggregates under rising numbers, found by a binary search.
+//! Values under rising numbers, found by a binary search.
 ghost use Rattle.std.specs.Prelude.{◌≡◌, ◌≢◌, ◌+◌, ◌-◌, ◌<◌, ◌≤◌, ◌^◌, length, [], ◌∷◌, ◌++◌, Some, None, IsSome, OnOk, ◌↔◌, filter, is_some, slice_set, vec_len, vec_capacity};
 ghost use Rattle.std.specs.Option.{option_copied, option_to_list};
+ghost use Rattle.std.specs.Borrow.{sem};
 ghost use Rattle.iol_core.specs.Numbered.{lookup, without};
 ghost use Rattle.iol_desc.specs.Tables.{place_in, exchanged};
-ghost use Rattle.iol_desc.specs.Listed.{there, DropsHole, IsRising};
+ghost use Rattle.iol_desc.specs.Lending.{LendsEntry, LendsValue};
+ghost use Rattle.iol_desc.specs.Listed.{there, DropsHole, IsRising, Rises};
 
-use iol_core::limits::LAST_AGGREGATE;
+use crate::places::occupant;
 use iol_core::numbers::AggId;
 use std::alloc::{AllocError, Global};
 use std::marker::Model;
 use std::mem;
 
+/// The last number of an entry.
+pub const LAST_ENTRY: u64 = u64::MAX - 1;
+
 /// The place of the entry of this number, or the length where there is none.
-fn place_of<A>(list: &[(AggId, Option<A>)], agg: AggId) -> usize
+pub fn place_of<X>(list: &[(u64, X)], number: u64) -> usize
     requires { IsRising list.now }
-    ensures { result ≡ place_in list.now agg }
+    ensures { result ≡ place_in list.now number }
 {
-    let found = list.binary_search_by_key(&agg.number(), |entry| entry.0.number());
+    let found = list.binary_search_by_key(&number, |entry| entry.0);
     if let Ok(at) = found {
         return at;
     }
@@ -25,31 +30,31 @@ fn place_of<A>(list: &[(AggId, Option<A>)], agg: AggId) -> usize
 
 /// What the entry of this number holds.
 #[tactic(auto, using(crate::proofs::Holes::found_rules))]
-fn entry<A>(list: &[(AggId, Option<A>)], agg: AggId) -> Option<&A>
+fn entry<A>(list: &[(u64, Option<A>)], number: u64) -> Option<&A>
     requires { IsRising list.now }
-    ensures { option_copied result ≡ lookup (there list.now) agg }
+    ensures { option_copied result ≡ lookup (there list.now) number }
 {
-    let found = list.get(place_of(list, agg))?;
+    let found = list.get(place_of(list, number))?;
     found.1.as_ref()
 }
 
 /// Puts something else in the entry of this number.
 #[tactic(auto, using(crate::proofs::Holes::found_rules))]
-fn replace<A: Drop>(list: &mut Vec<(AggId, Option<A>)>, agg: AggId, other: Option<A>) -> A
+fn replace<A: Drop>(list: &mut Vec<(u64, Option<A>)>, number: u64, other: Option<A>) -> A
     requires rising { IsRising list.old.items }
-    requires there { lookup (there list.old.items) agg ≢ None }
-    ensures given { Some result ≡ lookup (there list.old.items) agg }
-    ensures items { list.new.items ≡ slice_set list.old.items (place_in list.old.items agg) (agg, other) }
+    requires there { lookup (there list.old.items) number ≢ None }
+    ensures given { Some result ≡ lookup (there list.old.items) number }
+    ensures items { list.new.items ≡ slice_set list.old.items (place_in list.old.items number) (number, other) }
     ensures room { vec_capacity list.old - vec_len list.old ≤ vec_capacity list.new - vec_len list.new }
 {
-    let at = place_of(list, agg);
+    let at = place_of(list, number);
     let entry = &mut list[at];
-    let (_, given) = mem::replace(entry, (agg, other));
+    let (_, given) = mem::replace(entry, (number, other));
     given.unwrap()
 }
 
 /// Closes the holes.
-fn close_holes<A: Drop>(list: &mut Vec<(AggId, Option<A>)>)
+fn close_holes<A: Drop>(list: &mut Vec<(u64, Option<A>)>)
     ensures items { list.new.items ≡ filter (λ e. is_some e.1) list.old.items }
     ensures capacity { vec_capacity list.new ≡ vec_capacity list.old }
 {
@@ -57,7 +62,7 @@ fn close_holes<A: Drop>(list: &mut Vec<(AggId, Option<A>)>)
 }
 
 /// Drops the last entry where it is a hole.
-fn drop_hole<A: Drop>(list: &mut Vec<(AggId, Option<A>)>) -> bool
+fn drop_hole<A: Drop>(list: &mut Vec<(u64, Option<A>)>) -> bool
     ensures hole { DropsHole result list.old.items list.new.items }
     ensures room { vec_capacity list.old - vec_len list.old ≤ vec_capacity list.new - vec_len list.new }
 {
@@ -73,23 +78,23 @@ fn drop_hole<A: Drop>(list: &mut Vec<(AggId, Option<A>)>) -> bool
 
 /// Takes the last entry that is no hole, and the holes after it.
 #[tactic(auto, using(crate::proofs::Holes::end_rules, crate::proofs::Holes::pop_rules))]
-fn pop_held<A: Drop>(list: &mut Vec<(AggId, Option<A>)>) -> Option<(AggId, A)>
+fn pop_held<A: Drop>(list: &mut Vec<(u64, Option<A>)>) -> Option<(u64, A)>
     ensures given { there list.old.items ≡ there list.new.items ++ option_to_list result }
     ensures none { result ≡ None → there list.new.items ≡ [] }
 {
     while let Some((number, held)) = list.pop() {
-        if let Some(agg) = held {
-            return Some((number, agg));
+        if let Some(value) = held {
+            return Some((number, value));
         }
     }
     None
 }
 
-/// Aggregates by number, the newest last. One that is taken leaves a hole.
+/// Values by number, the newest last. One that is taken leaves a hole.
 #[derive(Drop)]
-pub(crate) struct Entries<A> {
+pub struct Entries<A> {
     // By rising number; None is a hole.
-    list: Vec<(AggId, Option<A>)>,
+    list: Vec<(u64, Option<A>)>,
     holes: usize,
     next: u64,
 }
@@ -107,7 +112,7 @@ impl<A> Model for Entries<A> {
 
 impl<A: Drop> Entries<A> {
     /// None yet, the first to be number 1.
-    pub(crate) fn new(alloc: Global) -> Entries<A>
+    pub fn new(alloc: Global) -> Entries<A>
         ensures entries { result.entries ≡ [] }
         ensures next { result.next ≡ 1 }
     {
@@ -119,7 +124,7 @@ impl<A: Drop> Entries<A> {
     }
 
     /// None any more, the first to be number 1.
-    pub(crate) fn clear(&mut self)
+    pub fn clear(&mut self)
         ensures entries { self.new.entries ≡ [] }
         ensures next { self.new.next ≡ 1 }
     {
@@ -129,24 +134,31 @@ impl<A: Drop> Entries<A> {
     }
 
     /// How many there are.
-    pub(crate) fn len(&self) -> usize
+    pub fn len(&self) -> usize
         ensures { result ≡ length self.now.entries }
     {
         self.list.len() - self.holes
     }
 
     /// The number of the next.
-    pub(crate) fn next(&self) -> u64
+    pub fn next(&self) -> u64
         ensures { result ≡ self.now.next }
     {
         self.next
     }
 
-    /// The aggregate of this number.
-    pub(crate) fn get(&self, agg: AggId) -> Option<&A>
-        ensures { option_copied result ≡ lookup self.now.entries agg }
+    /// The value of this number.
+    pub fn get(&self, number: u64) -> Option<&A>
+        ensures { option_copied result ≡ lookup self.now.entries number }
     {
-        entry(&self.list, agg)
+        entry(&self.list, number)
+    }
+
+    /// The entries, the holes among them.
+    pub fn list(&self) -> &[(u64, Option<A>)]
+        ensures { there result.now ≡ self.now.entries }
+    {
+        &self.list
     }
 
     /// Closes the holes.
@@ -160,7 +172,7 @@ impl<A: Drop> Entries<A> {
     }
 
     /// Reserves room for so many more. Where half of the list is holes, it need not grow.
-    pub(crate) fn reserve(&mut self, count: usize) -> Result<(), AllocError>
+    pub fn reserve(&mut self, count: usize) -> Result<(), AllocError>
         ensures entries { self.new.entries ≡ self.old.entries }
         ensures next { self.new.next ≡ self.old.next }
         ensures room { OnOk result (count ≤ self.new.room) }
@@ -173,19 +185,19 @@ impl<A: Drop> Entries<A> {
         Ok(())
     }
 
-    /// Adds an aggregate under the next number, in room that is reserved.
+    /// Adds a value under the next number, in room that is reserved.
     #[tactic(auto, using(crate::proofs::Holes::method_rules))]
-    pub(crate) fn push(&mut self, agg: A) -> AggId
-        requires few { self.old.next ≤ LAST_AGGREGATE }
+    pub fn push(&mut self, value: A) -> u64
+        requires few { self.old.next ≤ LAST_ENTRY }
         requires room { 0 < self.old.room }
         ensures number { result ≡ self.old.next }
-        ensures entries { self.new.entries ≡ self.old.entries ++ (self.old.next, agg) ∷ [] }
+        ensures entries { self.new.entries ≡ self.old.entries ++ (self.old.next, value) ∷ [] }
         ensures next { self.new.next ≡ self.old.next + 1 }
         ensures short { length self.new.entries < 2 ^ 64 }
         ensures room { self.old.room ≤ self.new.room + 1 }
     {
-        let number = AggId::new(self.next);
-        self.list.push_reserved((number, Some(agg)));
+        let number = self.next;
+        self.list.push_reserved((number, Some(value)));
         self.next += 1;
         number
     }
@@ -217,35 +229,54 @@ impl<A: Drop> Entries<A> {
         }
     }
 
-    /// Takes the aggregate of this number.
+    /// Takes the value of this number.
     #[tactic(auto, using(crate::proofs::Holes::method_rules))]
-    pub(crate) fn take(&mut self, agg: AggId) -> A
-        requires { lookup self.old.entries agg ≢ None }
-        ensures given { Some result ≡ lookup self.old.entries agg }
-        ensures entries { self.new.entries ≡ without self.old.entries agg }
+    pub fn take(&mut self, number: u64) -> A
+        requires { lookup self.old.entries number ≢ None }
+        ensures given { Some result ≡ lookup self.old.entries number }
+        ensures entries { self.new.entries ≡ without self.old.entries number }
         ensures next { self.new.next ≡ self.old.next }
         ensures room { self.old.room ≤ self.new.room }
     {
-        let given = replace(&mut self.list, agg, None);
+        let given = replace(&mut self.list, number, None);
         self.holes += 1;
         self.trim();
         given
     }
 
-    /// Puts another aggregate under this number.
+    /// Puts another value under this number.
     #[tactic(auto, using(crate::proofs::Holes::method_rules))]
-    pub(crate) fn swap(&mut self, agg: AggId, other: A) -> A
-        requires { lookup self.old.entries agg ≢ None }
-        ensures given { Some result ≡ lookup self.old.entries agg }
-        ensures entries { self.new.entries ≡ exchanged self.old.entries agg other }
+    pub fn swap(&mut self, number: u64, other: A) -> A
+        requires { lookup self.old.entries number ≢ None }
+        ensures given { Some result ≡ lookup self.old.entries number }
+        ensures entries { self.new.entries ≡ exchanged self.old.entries number other }
         ensures next { self.new.next ≡ self.old.next }
         ensures room { self.old.room ≤ self.new.room }
     {
-        replace(&mut self.list, agg, Some(other))
+        replace(&mut self.list, number, Some(other))
+    }
+
+    /// The value of this number, for writing.
+    #[tactic(auto, using(crate::proofs::Holes::lent_rules))]
+    pub fn value_mut(&mut self, number: u64) -> &mut A
+        requires { lookup self.old.entries number ≢ None }
+        ensures* writes_back { sem 𝓛 (LendsEntry A.row self.entry number result) }
+        ensures value { lookup self.old.entries number ≡ Some result.now }
+    {
+        let at = place_of(&self.list, number);
+        occupant(&mut self.list[at].1)
+    }
+
+    /// Does nothing: its contract says that the numbers rise, each below the next.
+    #[tactic(auto, using(crate::proofs::Holes::there_rises))]
+    pub fn numbers_rise(&self)
+        ensures { Rises 0 self.now.entries self.now.next }
+    {
+        let _next = &self.next;
     }
 
     /// Takes all.
-    pub(crate) fn take_all(&mut self, alloc: Global) -> Taken<A>
+    pub fn take_all(&mut self, alloc: Global) -> Taken<A>
         ensures given { result ≡ self.old.entries }
         ensures entries { self.new.entries ≡ [] }
         ensures next { self.new.next ≡ self.old.next }
@@ -260,7 +291,7 @@ impl<A: Drop> Entries<A> {
 /// Aggregates that were taken from a domain, by rising number.
 #[derive(Drop)]
 pub struct Taken<A> {
-    list: Vec<(AggId, Option<A>)>,
+    list: Vec<(u64, Option<A>)>,
 }
 
 impl<A> Model for Taken<A> {
@@ -279,6 +310,7 @@ impl<A: Drop> Taken<A> {
         ensures given { self.old ≡ self.new ++ option_to_list result }
         ensures none { result ≡ None → self.new ≡ [] }
     {
-        pop_held(&mut self.list)
+        let (number, agg) = pop_held(&mut self.list)?;
+        Some((AggId::new(number), agg))
     }
 }

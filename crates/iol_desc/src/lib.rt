@@ -4,8 +4,11 @@
 //! rows (`specs/Tables`): a domain as the copying machine has it, and how many aggregates more it can take without
 //! asking for memory. Room is reserved first ([`reserve_aggs`](table::Table::reserve_aggs)), so that adding cannot fail.
 //!
+//! The lists it is made of serve others too: [`Entries`](entries::Entries), values under rising numbers that are never
+//! used again, and [`Places`](places::Places), values in the lowest free places.
+//!
 //! No call walks the domains, nor a domain's aggregates or descriptors: the aggregates of all are counted, those of one
-//! are found by a binary search ([`Entries`](entries)), and its descriptors are counted, with a hint below which no
+//! are found by a binary search ([`Entries`](entries::Entries)), and its descriptors are counted, with a hint below which no
 //! number is free ([`Places`](places::Places)). The invariants carry this, and no public clause mentions it.
 #![tactic(auto)]
 

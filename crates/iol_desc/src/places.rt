@@ -101,7 +101,7 @@ fn set_lower<T: Drop>(places: &mut Vec<Option<T>>, place: usize, from: usize, va
 }
 
 /// The value of a place that is taken, for writing.
-fn occupant<T>(place: &mut Option<T>) -> &mut T
+pub(crate) fn occupant<T>(place: &mut Option<T>) -> &mut T
     requires { place.old ≢ None }
     ensures* writes_back { sem 𝓛 (LendsValue T.row place.entry result) }
     ensures value { place.old ≡ Some result.now }

@@ -94,7 +94,7 @@ impl<A: Drop> Domain<A> {
     pub(crate) fn agg(&self, agg: AggId) -> Option<&A>
         ensures { option_copied result ≡ lookup self.now.domain.aggs agg }
     {
-        self.aggs.get(agg)
+        self.aggs.get(agg.number())
     }
 
     /// Reserves room for so many aggregates more.
@@ -117,7 +117,7 @@ impl<A: Drop> Domain<A> {
         ensures room { self.old.room ≤ self.new.room + 1 }
         ensures count { length self.new.domain.aggs ≡ length self.old.domain.aggs + 1 }
     {
-        self.aggs.push(agg)
+        AggId::new(self.aggs.push(agg))
     }
 
     /// Takes the aggregate of this number.
@@ -130,7 +130,7 @@ impl<A: Drop> Domain<A> {
         ensures room { self.old.room ≤ self.new.room }
         ensures count { length self.new.domain.aggs + 1 ≡ length self.old.domain.aggs }
     {
-        self.aggs.take(agg)
+        self.aggs.take(agg.number())
     }
 
     /// Puts another aggregate under this number.
@@ -142,7 +142,7 @@ impl<A: Drop> Domain<A> {
         ensures room { self.old.room ≤ self.new.room }
         ensures count { length self.new.domain.aggs ≡ length self.old.domain.aggs }
     {
-        self.aggs.swap(agg, other)
+        self.aggs.swap(agg.number(), other)
     }
 
     /// How many aggregates there are.

@@ -1,5 +1,5 @@
 -- A domain gets an aggregate of bytes that lie there already: for the machine, for the layout, and that all stays sound.
-use Rattle.std.proofs.Common.{◌≡◌, ℕ, ◌-◌, ◌<◌, ◌≤◌, List, ◌++◌, length, length-append, take, drop, slice_range, ap, ◌∙◌, sym, arith, true}
+use Rattle.std.proofs.Common.{refl, ◌≡◌, ℕ, ◌-◌, ◌<◌, ◌≤◌, List, ◌++◌, length, length-append, take, drop, slice_range, ap, ◌∙◌, sym, arith, true}
 use Rattle.std.proofs.lemmas.List.Elements.{All-append, All-take, All-drop, All-same}
 use Rattle.std.proofs.lemmas.List.{take_all, length-take, length-drop}
 use Rattle.iol_core.specs.Text.{Text}
@@ -19,7 +19,7 @@ use Rattle.iol_hold.proofs.Reading.{readable_stays}
 use Rattle.iol_desc.specs.Tables.{domain_in, live_aggs_in}
 use Rattle.iol_kernel.specs.Views.{state_view}
 use Rattle.iol_kernel.specs.Adding.{replaced, AddsShared}
-use Rattle.iol_kernel.specs.KernelState.{KernelState, machine_of, IsSound, slices_in, read_of}
+use Rattle.iol_kernel.specs.KernelState.{KernelState, objects_of, machine_of, IsSound, slices_in, read_of}
 use Rattle.iol_kernel.proofs.Views.{with_agg-view}
 use Rattle.iol_kernel.proofs.Effects.{gained-sound}
 use Rattle.iol_kernel.proofs.ReadOf.{text-read_of, length_text-read_of, next_agg-read_of}
@@ -31,9 +31,9 @@ module _ (h : KernelState) (t : Stored) (ds : List (Domain (List Slice))) (d : �
   added-read : (f : Place → ℕ × ℕ) → read_of f (record h { store = t; domains = ds }) ≡ aggs.with_agg (read_of f h) d (read f adds.slices)
   unfolding read_of
   added-read f =
-      ap (λ (xs : List (Domain (List Slice))). state_view (read f) xs t.pools h.pipes) adds.added
-      ∙ with_agg-view (read f) h.domains t.pools h.pipes d adds.slices
-      ∙ ap (λ (ps : List Pool). aggs.with_agg (state_view (read f) h.domains ps h.pipes) d (read f adds.slices)) adds.shares.pools
+      ap (λ (xs : List (Domain (List Slice))). state_view (read f) xs t.pools (objects_of h)) adds.added
+      ∙ with_agg-view (read f) h.domains t.pools (objects_of h) d adds.slices
+      ∙ ap (λ (ps : List Pool). aggs.with_agg (state_view (read f) h.domains ps (objects_of h)) d (read f adds.slices)) adds.shares.pools
 
   added-sound : IsSound h → (domain_in h.domains d).live ≡ true → live_aggs_in h.domains < MAX_AGGREGATES → AllReadable h.store adds.slices → byte_len adds.slices ≤ MAX_AGGREGATE_BYTES → IsSound (record h { store = t; domains = ds })
   added-sound sound live few readable small =
@@ -58,6 +58,7 @@ module _ (h : KernelState) (t : Stored) (ds : List (Domain (List Slice))) (d a f
         ∙ ap (aggs.with_agg (read_of f h) d) (read_cut f adds.slices (slices_in h.domains d a) from to adds.is_there ∙ ap (λ (u : Text). slice_range u from to) (sym (text-read_of f h d a)));
     arena = adds.shares.arena;
     pools = adds.shares.pools;
+    sums = refl;
     sound = cut-sound;
     stays = (shares_move adds.shares).stays;
   }
@@ -69,6 +70,7 @@ module _ (h : KernelState) (t : Stored) (ds : List (Domain (List Slice))) (d a f
         ∙ ap (aggs.with_agg (read_of f h) d) (read_same f adds.slices (slices_in h.domains d a) (adds.is_there ∙ whole (places (slices_in h.domains d a)) from to none all) ∙ sym (text-read_of f h d a));
     arena = adds.shares.arena;
     pools = adds.shares.pools;
+    sums = refl;
     sound = cut-sound;
     stays = (shares_move adds.shares).stays;
   }
@@ -124,6 +126,7 @@ module _ (h : KernelState) (t : Stored) (ds : List (Domain (List Slice))) (d a f
         ∙ ap (λ (u : Text). replaced (machine.text (read_of f h) d a) from to u) (sym (text-read_of f h d b)));
     arena = adds.shares.arena;
     pools = adds.shares.pools;
+    sums = refl;
     sound = replaced-sound;
     stays = (shares_move adds.shares).stays;
   }

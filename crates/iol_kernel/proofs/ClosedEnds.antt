@@ -23,15 +23,16 @@ use Rattle.iol_hold.proofs.Paging.{keeps_pages_frees}
 use Rattle.iol_hold.proofs.Releasing.{frees_none}
 use Rattle.iol_hold.proofs.Moving.{moves_none}
 use Rattle.iol_hold.proofs.Reading.{readable_none}
-use Rattle.iol_kernel.specs.Views.{Pipe, pipe_view, state_view}
+use Rattle.iol_kernel.specs.Views.{Pipe, Objects, pipe_view, state_view}
 use Rattle.iol_kernel.specs.Counted.{uses, pipe_uses, IsCounted}
 use Rattle.iol_kernel.specs.Ends.{same_end, on_end, ends_on, all_ends_on}
-use Rattle.iol_kernel.specs.KernelState.{KernelState, Each, IsOpenEnd, IsPipeReadable, IsShort, IsLimited, IsSound, queue_at, Reading, read_of}
+use Rattle.iol_kernel.specs.KernelState.{KernelState, objects_of, Each, IsOpenEnd, IsPipeReadable, AreReadable, IsShort, IsLimited, IsSound, queue_at, Reading, read_of}
 use Rattle.iol_kernel.specs.ClosedEnds.{without_reader, without_writer, with_pipe_in, ClosesEnd, KeepsEnds}
 use Rattle.iol_kernel.proofs.Uses.{uses-set_pipe, uses_at, Pipes}
-use Rattle.iol_kernel.proofs.Sound.{each-set}
+use Rattle.iol_kernel.proofs.Sound.{each-set, with_pipes}
 use Rattle.iol_kernel.proofs.Ends.{there_if_open, closed_pipe}
-use Rattle.iol_kernel.proofs.Effects.{moved-sound, same_length, leaves}
+use Rattle.iol_kernel.proofs.Pooling.{same_pooled}
+use Rattle.iol_kernel.proofs.Effects.{moved-sound, leaves}
 use Rattle.iol_kernel.proofs.Queueing.{queue_readable, queue_short}
 use Rattle.iol_kernel.proofs.ReadOf.{pipe_at-read_of}
 use Rattle.iol_kernel.proofs.Views.{with_pipe_in-view, pools-view}
@@ -115,13 +116,13 @@ reader_stays : (q : List Slice) (r : Bool) → r ≡ true → (unwrap_or (if r |
 reader_stays q true e = refl
 reader_stays q false e = e
 
-pub reader_keeps : (qs : Pipes) (p : ℕ) → p < length qs → KeepsEnds (on.ReadEnd p) qs (with_pipe_in qs p (without_reader (queue_at qs p)))
-reader_keeps qs p there = record { each = each }
+pub reader_keeps : (o : Objects (List Slice)) (p : ℕ) → p < length o.pipes → KeepsEnds (on.ReadEnd p) o (record o { pipes = with_pipe_in o.pipes p (without_reader (queue_at o.pipes p)) })
+reader_keeps o p there = record { each = each }
   where
-    x : Pipe (List Slice)
-    x = without_reader (queue_at qs p)
+    qs : Pipes
+    qs = o.pipes
 
-    each : (e : Descriptor) → same_end (on.ReadEnd p) e ≡ 0 → IsOpenEnd qs (Some e) → IsOpenEnd (with_pipe_in qs p (without_reader (queue_at qs p))) (Some e)
+    each : (e : Descriptor) → same_end (on.ReadEnd p) e ≡ 0 → IsOpenEnd o (Some e) → IsOpenEnd (record o { pipes = with_pipe_in o.pipes p (without_reader (queue_at o.pipes p)) }) (Some e)
     each (on.ReadEnd n) differ h = ap (λ (y : Pipe (List Slice)). y.reading) (queue-elsewhere qs p n _ (not_same p n differ)) ∙ h
     each (on.WriteEnd n) differ h = elim (cases_eq n p) [
       | inl k ↦ subst (λ i. (queue_at (with_pipe_in qs p (without_reader (queue_at qs p))) i).writing ≡ true) (sym k)
@@ -131,10 +132,13 @@ reader_keeps qs p there = record { each = each }
     each (on.File f at mode) differ h = h
     each (on.Connection c) differ h = h
 
-pub writer_keeps : (qs : Pipes) (p : ℕ) → p < length qs → KeepsEnds (on.WriteEnd p) qs (with_pipe_in qs p (without_writer (queue_at qs p)))
-writer_keeps qs p there = record { each = each }
+pub writer_keeps : (o : Objects (List Slice)) (p : ℕ) → p < length o.pipes → KeepsEnds (on.WriteEnd p) o (record o { pipes = with_pipe_in o.pipes p (without_writer (queue_at o.pipes p)) })
+writer_keeps o p there = record { each = each }
   where
-    each : (e : Descriptor) → same_end (on.WriteEnd p) e ≡ 0 → IsOpenEnd qs (Some e) → IsOpenEnd (with_pipe_in qs p (without_writer (queue_at qs p))) (Some e)
+    qs : Pipes
+    qs = o.pipes
+
+    each : (e : Descriptor) → same_end (on.WriteEnd p) e ≡ 0 → IsOpenEnd o (Some e) → IsOpenEnd (record o { pipes = with_pipe_in o.pipes p (without_writer (queue_at o.pipes p)) }) (Some e)
     each (on.WriteEnd n) differ h = ap (λ (y : Pipe (List Slice)). y.writing) (queue-elsewhere qs p n _ (not_same p n differ)) ∙ h
     each (on.ReadEnd n) differ h = elim (cases_eq n p) [
       | inl k ↦ subst (λ i. (queue_at (with_pipe_in qs p (without_writer (queue_at qs p))) i).reading ≡ true) (sym k)
@@ -145,14 +149,14 @@ writer_keeps qs p there = record { each = each }
     each (on.Connection c) differ h = h
 
 -- what is not open on the closed end stays open
-pub ends_kept : (end : Descriptor) (old new : Pipes) → KeepsEnds end old new → (fds : List (Option Descriptor)) → Each (IsOpenEnd old) fds → ends_on end fds ≡ 0 → Each (IsOpenEnd new) fds
+pub ends_kept : (end : Descriptor) (old new : Objects (List Slice)) → KeepsEnds end old new → (fds : List (Option Descriptor)) → Each (IsOpenEnd old) fds → ends_on end fds ≡ 0 → Each (IsOpenEnd new) fds
 ends_kept end old new keeps [] e none = tt
 ends_kept end old new keeps (None ∷ fds) e none = let nothing : Option Descriptor = None in let c = sum_by-cons (on_end end) nothing fds in (tt, ends_kept end old new keeps fds e.1 (omega (arith, c, none)))
 ends_kept end old new keeps (Some y ∷ fds) e none =
     let c = sum_by-cons (on_end end) (Some y) fds in
     (keeps.each y (omega (arith, c, none)) e.0, ends_kept end old new keeps fds e.1 (omega (arith, c, none)))
 
-all_ends_kept : (end : Descriptor) (old new : Pipes) → KeepsEnds end old new → (ds : List (Domain (List Slice))) → Each (λ d. Each (IsOpenEnd old) d.fds) ds → all_ends_on end ds ≡ 0 → Each (λ d. Each (IsOpenEnd new) d.fds) ds
+all_ends_kept : (end : Descriptor) (old new : Objects (List Slice)) → KeepsEnds end old new → (ds : List (Domain (List Slice))) → Each (λ d. Each (IsOpenEnd old) d.fds) ds → all_ends_on end ds ≡ 0 → Each (λ d. Each (IsOpenEnd new) d.fds) ds
 all_ends_kept end old new keeps [] e none = tt
 all_ends_kept end old new keeps (d ∷ ds) e none =
     let c = sum_by-cons (λ (y : Domain (List Slice)). ends_on end y.fds) d ds in
@@ -169,7 +173,7 @@ module _ (h : KernelState) (t : Stored) (qs : Pipes) (p : ℕ) (x : Pipe (List S
   abbrev less : Pipes
   less = with_pipe_in h.pipes p x
 
-  less_counted : IsCounted t h.domains less
+  less_counted : IsCounted t h.domains (record (objects_of h) { pipes = less })
   less_counted = record { each = λ b. omega (arith, sound.counted.each b, closes.moves.counts.each b, uses-with_pipe b h.pipes p x there empty) }
 
   queue_good : AllReadable h.store x.queue
@@ -178,31 +182,34 @@ module _ (h : KernelState) (t : Stored) (qs : Pipes) (p : ℕ) (x : Pipe (List S
   queue_small : byte_len x.queue ≤ 65536
   queue_small = elim part [ inl e ↦ (let n = ap byte_len e in omega (arith, n)) | inr e ↦ (let n = ap byte_len e in let s = queue_short h p sound in omega (arith, n, s)) ]
 
-  less_good : Each (IsPipeReadable h.store) less
-  less_good = each-set (IsPipeReadable h.store) h.pipes p (if x.reading || x.writing then Some x else None) sound.pipes (if_kept (IsPipeReadable h.store) (x.reading || x.writing) x tt queue_good)
+  less_good : AreReadable h.store (record (objects_of h) { pipes = less })
+  less_good = record {
+    pipes = each-set (IsPipeReadable h.store) h.pipes p (if x.reading || x.writing then Some x else None) sound.objects.pipes (if_kept (IsPipeReadable h.store) (x.reading || x.writing) x tt queue_good);
+    conns = sound.objects.conns;
+  }
 
-  less_limits : IsLimited h.domains less
+  less_limits : IsLimited h.domains (record (objects_of h) { pipes = less })
   less_limits = record {
     aggs = sound.limits.aggs;
     few = sound.limits.few;
-    queues = each-set IsShort h.pipes p (if x.reading || x.writing then Some x else None) sound.limits.queues (if_kept IsShort (x.reading || x.writing) x tt queue_small);
-    few_pipes = omega (arith, sound.limits.few_pipes, length-set h.pipes p (if x.reading || x.writing then Some x else None));
+    objects = with_pipes sound.limits.objects (each-set IsShort h.pipes p (if x.reading || x.writing then Some x else None) sound.limits.objects.queues (if_kept IsShort (x.reading || x.writing) x tt queue_small))
+        (omega (arith, sound.limits.objects.few_pipes, length-set h.pipes p (if x.reading || x.writing then Some x else None)));
   }
 
   closed_pipe-read : (f : Reading) → read_of f (record h { store = t; pipes = qs }) ≡ machine.with_pipe (read_of f h) p (pipe_view (read f) x)
   unfolding read_of
   closed_pipe-read f =
-      ap (λ (ys : Pipes). state_view (read f) h.domains t.pools ys) closes.pipes
-      ∙ pools-view (read f) h.domains h.store.pools t.pools less closes.lists
-      ∙ with_pipe_in-view (read f) h.domains h.store.pools h.pipes p x
+      ap (λ (ys : Pipes). state_view (read f) h.domains t.pools (record (objects_of h) { pipes = ys })) closes.pipes
+      ∙ pools-view (read f) h.domains h.store.pools t.pools (record (objects_of h) { pipes = less }) closes.lists
+      ∙ with_pipe_in-view (read f) h.domains h.store.pools (objects_of h) p x
 
-  qs_good : Each (IsPipeReadable h.store) qs
-  qs_good = subst (λ (ys : Pipes). Each (IsPipeReadable h.store) ys) (sym closes.pipes) less_good
+  qs_good : AreReadable h.store (record (objects_of h) { pipes = qs })
+  qs_good = subst (λ (ys : Pipes). AreReadable h.store (record (objects_of h) { pipes = ys })) (sym closes.pipes) less_good
 
-  closed_pipe-sound : (end : Descriptor) → KeepsEnds end h.pipes less → all_ends_on end h.domains ≡ 0 → IsSound (record h { store = t; pipes = qs })
+  closed_pipe-sound : (end : Descriptor) → KeepsEnds end (objects_of h) (record (objects_of h) { pipes = less }) → all_ends_on end h.domains ≡ 0 → IsSound (record h { store = t; pipes = qs })
   closed_pipe-sound end keeps free = subst (λ (ys : Pipes). IsSound (record h { store = t; pipes = ys })) (sym closes.pipes)
-      (moved-sound h.store t h.domains less closes.moves.stays less_counted (closes.moves.tidy sound.tidy) (closes.moves.still sound.still) (closes.settles (queue_readable h p sound) sound.settled) sound.domains less_good
-      (all_ends_kept end h.pipes less keeps h.domains sound.fds free) sound.once less_limits (same_length h.store t closes.lists sound.few_pools))
+      (moved-sound h.store (record h { store = t; pipes = less }) closes.moves.stays less_counted (closes.moves.tidy sound.tidy) (closes.moves.still sound.still) (closes.settles (queue_readable h p sound) sound.settled) sound.domains less_good
+      (all_ends_kept end (objects_of h) (record (objects_of h) { pipes = less }) keeps h.domains sound.fds free) sound.once less_limits (same_pooled h.store t h.conns closes.lists sound.pooled) sound.sums)
 
 -- a read end
 
@@ -213,10 +220,10 @@ module _ (h : KernelState) (t : Stored) (qs : Pipes) (p : ℕ) (sound : IsSound 
   pub reader_closed : all_ends_on (on.ReadEnd p) h.domains ≡ 0 → Leaves (λ s. fds.closed_on s (Some (on.ReadEnd p))) h (record h { store = t; pipes = qs })
   reader_closed free =
       let x : Pipe (List Slice) = without_reader (queue_at h.pipes p) in
-      leaves (λ s. fds.closed_on s (Some (on.ReadEnd p))) h t h.domains qs
+      leaves (λ s. fds.closed_on s (Some (on.ReadEnd p))) h (record h { store = t; pipes = qs })
       (λ f. closed_pipe-read h t qs p x sound reader_there closes (inl refl) (λ e. refl) f ∙ reader-read f h p)
-      closes.moves.stays (keeps_pages_frees closes.frees) sound.domains (qs_good h t qs p x sound reader_there closes (inl refl) (λ e. refl))
-      (closed_pipe-sound h t qs p x sound reader_there closes (inl refl) (λ e. refl) (on.ReadEnd p) (reader_keeps h.pipes p reader_there) free)
+      refl closes.moves.stays (keeps_pages_frees closes.frees) sound.domains (qs_good h t qs p x sound reader_there closes (inl refl) (λ e. refl))
+      (closed_pipe-sound h t qs p x sound reader_there closes (inl refl) (λ e. refl) (on.ReadEnd p) (reader_keeps (objects_of h) p reader_there) free)
 
 -- a write end
 
@@ -239,7 +246,7 @@ module _ (h : KernelState) (t : Stored) (qs : Pipes) (p : ℕ) (sound : IsSound 
   writer_closed free =
       let x : Pipe (List Slice) = without_writer (queue_at h.pipes p) in
       let none = none_of (queue_at h.pipes p).queue (queue_at h.pipes p).reading in
-      leaves (λ s. fds.closed_on s (Some (on.WriteEnd p))) h t h.domains qs
+      leaves (λ s. fds.closed_on s (Some (on.WriteEnd p))) h (record h { store = t; pipes = qs })
       (λ f. closed_pipe-read h t qs p x sound writer_there closes writer_part none f ∙ writer-read f h p)
-      closes.moves.stays (keeps_pages_frees closes.frees) sound.domains (qs_good h t qs p x sound writer_there closes writer_part none)
-      (closed_pipe-sound h t qs p x sound writer_there closes writer_part none (on.WriteEnd p) (writer_keeps h.pipes p writer_there) free)
+      refl closes.moves.stays (keeps_pages_frees closes.frees) sound.domains (qs_good h t qs p x sound writer_there closes writer_part none)
+      (closed_pipe-sound h t qs p x sound writer_there closes writer_part none (on.WriteEnd p) (writer_keeps (objects_of h) p writer_there) free)

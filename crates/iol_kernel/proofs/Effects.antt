@@ -14,7 +14,6 @@ use Rattle.iol_core.specs.Calls.Aggregates as aggs
 use Rattle.iol_core.specs.Calls.Descriptors as fds
 use Rattle.iol_core.specs.Calls.Pools as pools
 use Rattle.iol_pool.specs.Pools.{Pool, with_closed}
-use Rattle.iol_pool.proofs.Owning.{length-closed}
 use Rattle.iol_hold.specs.Stored.{Stored, IsTidy, IsStill, AllSettled}
 use Rattle.iol_hold.specs.Moves.{Stays, Moves, SameLists, pool_meant}
 use Rattle.iol_hold.specs.Texts.{text_of, bufs_of, byte_at, AllReadable}
@@ -27,19 +26,25 @@ use Rattle.iol_hold.proofs.Counting.{tally_none}
 use Rattle.iol_hold.specs.Places.{byte_len}
 use Rattle.iol_hold.proofs.Reading.{length-text_of}
 use Rattle.iol_desc.specs.Tables.{domain_in, with_domain_in, with_next, agg_in, with_agg_in, without_agg_in, live_aggs_in, with_fds_in}
-use Rattle.iol_kernel.specs.Views.{Pipe, state_view}
+use Rattle.iol_kernel.specs.Views.{Objects, state_view}
 use Rattle.iol_kernel.specs.Counted.{IsCounted, domain_uses}
 use Rattle.iol_kernel.specs.Ends.{IsOpenOnce, ends_on}
-use Rattle.iol_kernel.specs.KernelState.{KernelState, machine_of, Each, IsDomainReadable, IsPipeReadable, IsOpenEnd, IsSound, IsLimited, Reading, read_of}
+use Rattle.iol_kernel.specs.KernelState.{KernelState, objects_of, machine_of, Each, IsDomainReadable, AreReadable, IsOpenEnd, ArePooled, IsSound, IsLimited, Reading, read_of}
 use Rattle.iol_kernel.proofs.Views.{pools-view, closed-view, added_pool-view, add_domain-view, with_agg-view, without_agg-view, with_fds-view, with_domain-view, domain-view, live_aggs-view, length-map'}
 use Rattle.iol_kernel.proofs.Uses.{uses-with_agg, uses-without_agg}
 use Rattle.iol_kernel.proofs.Once.{once_same}
-use Rattle.iol_kernel.proofs.Sound.{AreHeld, counted_held, domains_stay, pipes_stay, view-stays, sound_with, sound_fds, ends_open, limits_agg, limits_drop, drop_readable, add_readable, fds_stay, each-push, agg_readable}
+use Rattle.iol_kernel.proofs.Sound.{AreHeld, counted_held, domains_stay, objects_stay, view-stays, sound_with, sound_fds, ends_open, limits_agg, limits_drop, drop_readable, add_readable, fds_stay, each-push, agg_readable}
 use Rattle.iol_core.specs.declared.limits.TheConstants.{MAX_AGGREGATES, MAX_AGGREGATE_BYTES, MAX_POOLS}
 use Rattle.iol_hold.proofs.Moving.{stays_trans}
 use Rattle.iol_hold.specs.Layout.{read}
 use Rattle.iol_kernel.proofs.ReadOf.{next_agg-read_of}
 use Rattle.iol_kernel.proofs.Stay.{stays_here, pages_here}
+use Rattle.iol_kernel.proofs.Pooling.{same_pooled, pools_pooled, one_more_pool, one_closed}
+use Rattle.iol_sum.specs.Sums.{IsRight}
+use Rattle.iol_sum.proofs.Keeping.{IsRight-keeps}
+use Rattle.iol_sock.specs.Connections.{Conn}
+use Rattle.std.specs.Prelude.{◌==◌}
+use Rattle.std.specs.List.{list_any}
 use Rattle.iol_kernel.specs.Adding.{AddsText}
 use Rattle.iol_kernel.specs.Calls.{MakesAgg, Answers, Leaves, KeepsPlaces}
 use Rattle.std.proofs.lemmas.List.Sums.{sum_by_push}
@@ -48,13 +53,13 @@ use Rattle.std.proofs.lemmas.List.Sums.{sum_by_push}
 
 pub grown-read : (f : Reading) (h : KernelState) (ds : List (Domain (List Slice))) → ds ≡ h.domains ++ new_domain ∷ [] → read_of f (record h { domains = ds }) ≡ record (read_of f h) { domains = (read_of f h).domains ++ new_domain ∷ [] }
 unfolding read_of
-grown-read f h ds is = ap (λ (xs : List (Domain (List Slice))). state_view (read f) xs h.store.pools h.pipes) is ∙ add_domain-view (read f) h.domains h.store.pools h.pipes
+grown-read f h ds is = ap (λ (xs : List (Domain (List Slice))). state_view (read f) xs h.store.pools (objects_of h)) is ∙ add_domain-view (read f) h.domains h.store.pools (objects_of h)
 
 pub grown-sound : (h : KernelState) (ds : List (Domain (List Slice))) → IsSound h → ds ≡ h.domains ++ new_domain ∷ [] → IsSound (record h { domains = ds })
 grown-sound h ds sound is = subst (λ (ys : List (Domain (List Slice))). IsSound (record h { domains = ys })) (sym is) (record {
   domains = each-push (IsDomainReadable h.store) h.domains new_domain sound.domains tt;
-  pipes = sound.pipes;
-  fds = each-push (λ (x : Domain (List Slice)). Each (IsOpenEnd h.pipes) x.fds) h.domains new_domain sound.fds tt;
+  objects = sound.objects;
+  fds = each-push (λ (x : Domain (List Slice)). Each (IsOpenEnd (objects_of h)) x.fds) h.domains new_domain sound.fds tt;
   once = record { each = λ e. omega (arith, sound.once.each e, sum_by_push (λ (x : Domain (List Slice)). ends_on e x.fds) h.domains new_domain) };
   counted = record { each = λ b. omega (arith, sound.counted.each b, sum_by_push (domain_uses b) h.domains new_domain) };
   tidy = sound.tidy;
@@ -63,10 +68,10 @@ grown-sound h ds sound is = subst (λ (ys : List (Domain (List Slice))). IsSound
   limits = record {
     aggs = each-push (λ (x : Domain (List Slice)). Each (λ e. byte_len e.1 ≤ MAX_AGGREGATE_BYTES) x.aggs) h.domains new_domain sound.limits.aggs tt;
     few = omega (arith, sound.limits.few, sum_by_push (λ (x : Domain (List Slice)). length x.aggs) h.domains new_domain);
-    queues = sound.limits.queues;
-    few_pipes = sound.limits.few_pipes;
+    objects = sound.limits.objects;
   };
-  few_pools = sound.few_pools;
+  pooled = sound.pooled;
+  sums = sound.sums;
 })
 
 -- no more aggregates, and no more numbers, than there may be
@@ -79,7 +84,7 @@ few_numbers f h d made given few = omega (arith, next_agg-read_of f h d, within 
 
 pub few_aggs : (f : Reading) (h : KernelState) (d made given : ℕ) → aggs.too_many_aggs (read_of f h) d made given ≡ false → live_aggs_in h.domains + made ≤ 65536 + given
 unfolding read_of
-few_aggs f h d made given few = omega (arith, live_aggs-view (read f) h.domains h.store.pools h.pipes, within (machine.live_aggs (read_of f h)) (machine.domain (read_of f h) d).next_agg few)
+few_aggs f h d made given few = omega (arith, live_aggs-view (read f) h.domains h.store.pools (objects_of h), within (machine.live_aggs (read_of f h)) (machine.domain (read_of f h) d).next_agg few)
   where
     within : (n m : ℕ) → (nat_lt (65536 + given) (n + made) || nat_lt (18446744073709551614 + 1) (m + made)) ≡ false → n + made ≤ 65536 + given
     within n m few = grind (arith, nat_tests, few)
@@ -87,27 +92,27 @@ few_aggs f h d made given few = omega (arith, live_aggs-view (read f) h.domains 
 -- the store goes on
 
 -- what is held is read as it was
-pub moved-read : (s t : Stored) (ds : List (Domain (List Slice))) (qs : List (Option (Pipe (List Slice)))) → Stays s t → AreHeld t ds qs → Each (IsDomainReadable s) ds → Each (IsPipeReadable s) qs
-    → machine_of (record { store = t; domains = ds; pipes = qs }) ≡ read_of (byte_at s) (record { store = t; domains = ds; pipes = qs })
+pub moved-read : (s : Stored) (k : KernelState) → Stays s k.store → AreHeld k.store k.domains (objects_of k) → Each (IsDomainReadable s) k.domains → AreReadable s (objects_of k) → machine_of k ≡ read_of (byte_at s) k
 unfolding read_of
-moved-read s t ds qs stays held e k = view-stays s t stays ds qs held t.pools e k
+moved-read s k stays held e o = view-stays s k.store stays k.domains (objects_of k) held k.store.pools e o
 
 -- a change of the tables that is the same whatever is read, while the store goes on
-pub leaves : (after : State → State) (h : KernelState) (t : Stored) (ds : List (Domain (List Slice))) (qs : List (Option (Pipe (List Slice)))) → ((f : Reading) → read_of f (record { store = t; domains = ds; pipes = qs }) ≡ after (read_of f h))
-    → Stays h.store t → KeepsPages h.store t [] → Each (IsDomainReadable h.store) ds → Each (IsPipeReadable h.store) qs → IsSound (record { store = t; domains = ds; pipes = qs }) → Leaves after h (record { store = t; domains = ds; pipes = qs })
-leaves after h t ds qs reads stays pages e k sound = record {
-  bytes = moved-read h.store t ds qs stays (counted_held sound.counted) e k ∙ reads (byte_at h.store);
+pub leaves : (after : State → State) (h k : KernelState) → ((f : Reading) → read_of f k ≡ after (read_of f h)) → k.sums ≡ h.sums
+    → Stays h.store k.store → KeepsPages h.store k.store [] → Each (IsDomainReadable h.store) k.domains → AreReadable h.store (objects_of k) → IsSound k → Leaves after h k
+leaves after h k reads sums stays pages e o sound = record {
+  bytes = moved-read h.store k stays (counted_held sound.counted) e o ∙ reads (byte_at h.store);
   places = λ f keeps. reads f;
   pages = pages;
+  sums = sums;
   sound = sound;
   stays = stays;
 }
 
-pub moved-sound : (s t : Stored) (ds : List (Domain (List Slice))) (qs : List (Option (Pipe (List Slice)))) → Stays s t → IsCounted t ds qs → IsTidy t → IsStill t.arena → AllSettled t → Each (IsDomainReadable s) ds → Each (IsPipeReadable s) qs
-    → Each (λ (d : Domain (List Slice)). Each (IsOpenEnd qs) d.fds) ds → IsOpenOnce ds → IsLimited ds qs → length t.pools ≤ MAX_POOLS → IsSound (record { store = t; domains = ds; pipes = qs })
-moved-sound s t ds qs stays counted tidy still settled e k fds once limits few = record {
-  domains = domains_stay s t stays ds qs (counted_held counted) e;
-  pipes = pipes_stay s t stays ds qs (counted_held counted) k;
+pub moved-sound : (s : Stored) (k : KernelState) → Stays s k.store → IsCounted k.store k.domains (objects_of k) → IsTidy k.store → IsStill k.store.arena → AllSettled k.store → Each (IsDomainReadable s) k.domains → AreReadable s (objects_of k)
+    → Each (λ (d : Domain (List Slice)). Each (IsOpenEnd (objects_of k)) d.fds) k.domains → IsOpenOnce k.domains → IsLimited k.domains (objects_of k) → ArePooled k.store.pools k.conns → IsRight s.arena k.sums → IsSound k
+moved-sound s k stays counted tidy still settled e o fds once limits pooled sums = record {
+  domains = domains_stay s k.store stays k.domains (objects_of k) (counted_held counted) e;
+  objects = objects_stay s k.store stays k.domains (objects_of k) (counted_held counted) o;
   fds = fds;
   once = once;
   counted = counted;
@@ -115,12 +120,13 @@ moved-sound s t ds qs stays counted tidy still settled e k fds once limits few =
   still = still;
   settled = settled;
   limits = limits;
-  few_pools = few;
+  pooled = pooled;
+  sums = IsRight-keeps s.arena k.store.arena k.sums stays.keeps sums;
 }
 
 -- the tables change, and the store stays
 pub leaves_here : (after : State → State) (h : KernelState) (ds : List (Domain (List Slice))) → ((f : Reading) → read_of f (record h { domains = ds }) ≡ after (read_of f h)) → IsSound (record h { domains = ds }) → Leaves after h (record h { domains = ds })
-leaves_here after h ds reads sound = record { bytes = reads (byte_at h.store); places = λ f keeps. reads f; pages = pages_here h.store; sound = sound; stays = stays_here h.store }
+leaves_here after h ds reads sound = record { bytes = reads (byte_at h.store); places = λ f keeps. reads f; pages = pages_here h.store; sums = refl; sound = sound; stays = stays_here h.store }
 
 -- a late refusal
 pub keeps_late : {A : Type 0} (m : State → Meaning A) (h k : KernelState) (x : Refusal) → k ≡ h → IsSound h → ((f : Reading) → first (m (read_of f h)).refusals ≡ None) → ((f : Reading) → (m (read_of f h)).Late x) → KeepsPlaces m h (Err x) k
@@ -128,6 +134,7 @@ keeps_late {A} m h k x same sound none late = subst (λ (l : KernelState). Keeps
   step = (of (m (machine_of h)) (none (byte_at h.store)) (late (byte_at h.store)), refl);
   places = λ f keeps. (of (m (read_of f h)) (none f) (late f), refl);
   pages = pages_here h.store;
+  sums = refl;
   refused = refl;
   sound = sound;
   stays = stays_here h.store;
@@ -146,30 +153,31 @@ leaves_then m n h k l pools one two = record {
   bytes = two.bytes ∙ ap n one.bytes;
   places = λ f keeps. two.places f keeps ∙ ap n (one.places f keeps);
   pages = keeps_pages_trans (same_lists h k (ap (λ (s : State). s.pools) one.bytes ∙ pools (machine_of h))) one.pages two.pages;
+  sums = two.sums ∙ one.sums;
   sound = two.sound;
   stays = stays_trans one.stays two.stays;
 }
 
 -- the same change, said in other words
 pub leaves_as : (m n : State → State) (h k : KernelState) → ((f : Reading) → m (read_of f h) ≡ n (read_of f h)) → Leaves m h k → Leaves n h k
-leaves_as m n h k same one = record { bytes = one.bytes ∙ same (byte_at h.store); places = λ f keeps. one.places f keeps ∙ same f; pages = one.pages; sound = one.sound; stays = one.stays }
+leaves_as m n h k same one = record { bytes = one.bytes ∙ same (byte_at h.store); places = λ f keeps. one.places f keeps ∙ same f; pages = one.pages; sums = one.sums; sound = one.sound; stays = one.stays }
 
 -- a domain gets an aggregate of new bytes
 
-adds_held : (s t : Stored) (ds : List (Domain (List Slice))) (qs : List (Option (Pipe (List Slice)))) (xs : List Slice) → IsCounted s ds qs → Moves s t [] (bufs_of xs) → AreHeld t ds qs
+pub adds_held : (s t : Stored) (ds : List (Domain (List Slice))) (qs : Objects (List Slice)) (xs : List Slice) → IsCounted s ds qs → Moves s t [] (bufs_of xs) → AreHeld t ds qs
 adds_held s t ds qs xs counted m = record { each = λ b. omega (arith, counted.each b, m.counts.each b, tally_none b) }
 
 module _ (h : KernelState) (t : Stored) (ds : List (Domain (List Slice))) (d : ℕ) (text : Text) (placed : List ℕ) (sound : IsSound h) (adds : AddsText h.store t h.domains ds d text placed) where
   placed-read : (f : Reading) → read_of f (record h { store = t; domains = ds }) ≡ aggs.with_agg (read_of f h) d (read f adds.slices)
   unfolding read_of
   placed-read f =
-      ap (λ (xs : List (Domain (List Slice))). state_view (read f) xs t.pools h.pipes) adds.added
-      ∙ with_agg-view (read f) h.domains t.pools h.pipes d adds.slices
-      ∙ ap (λ (ps : List Pool). aggs.with_agg (state_view (read f) h.domains ps h.pipes) d (read f adds.slices)) adds.pools
+      ap (λ (xs : List (Domain (List Slice))). state_view (read f) xs t.pools (objects_of h)) adds.added
+      ∙ with_agg-view (read f) h.domains t.pools (objects_of h) d adds.slices
+      ∙ ap (λ (ps : List Pool). aggs.with_agg (state_view (read f) h.domains ps (objects_of h)) d (read f adds.slices)) adds.pools
 
   held-read : read_of (byte_at t) h ≡ machine_of h
   unfolding read_of
-  held-read = view-stays h.store t adds.moves.stays h.domains h.pipes (adds_held h.store t h.domains h.pipes adds.slices sound.counted adds.moves) h.store.pools sound.domains sound.pipes
+  held-read = view-stays h.store t adds.moves.stays h.domains (objects_of h) (adds_held h.store t h.domains (objects_of h) adds.slices sound.counted adds.moves) h.store.pools sound.domains sound.objects
 
   pub placed-machine : machine_of (record h { store = t; domains = ds }) ≡ aggs.with_agg (machine_of h) d text
   placed-machine =
@@ -181,19 +189,20 @@ module _ (h : KernelState) (t : Stored) (ds : List (Domain (List Slice))) (d : �
 pub gained-sound : (h : KernelState) (t : Stored) (ds : List (Domain (List Slice))) (d : ℕ) (xs : List Slice) → IsSound h → (domain_in h.domains d).live ≡ true → live_aggs_in h.domains < MAX_AGGREGATES → byte_len xs ≤ MAX_AGGREGATE_BYTES → AllReadable t xs → Moves h.store t [] (bufs_of xs) → AllSettled t → t.pools ≡ h.store.pools
     → ds ≡ with_agg_in h.domains d xs → IsSound (record h { store = t; domains = ds })
 gained-sound h t ds d xs sound live few small readable moves settled pools added =
-    let held = adds_held h.store t h.domains h.pipes xs sound.counted moves in
+    let held = adds_held h.store t h.domains (objects_of h) xs sound.counted moves in
     let x : Domain (List Slice) = domain_in h.domains d in
     subst (λ (ys : List (Domain (List Slice))). IsSound (record h { store = t; domains = ys })) (sym added) (record {
-      domains = add_readable t h.domains d xs (domains_stay h.store t moves.stays h.domains h.pipes held sound.domains) readable;
-      pipes = pipes_stay h.store t moves.stays h.domains h.pipes held sound.pipes;
-      fds = fds_stay h.pipes h.domains d (with_next x xs) sound.fds refl;
+      domains = add_readable t h.domains d xs (domains_stay h.store t moves.stays h.domains (objects_of h) held sound.domains) readable;
+      objects = objects_stay h.store t moves.stays h.domains (objects_of h) held sound.objects;
+      fds = fds_stay (objects_of h) h.domains d (with_next x xs) sound.fds refl;
       once = once_same h.domains d (with_next x xs) live refl sound.once;
       counted = record { each = λ b. omega (arith, sound.counted.each b, moves.counts.each b, tally_none b, uses-with_agg b h.domains d xs live) };
       tidy = moves.tidy sound.tidy;
       still = moves.still sound.still;
       settled = settled;
-      limits = limits_agg h.domains h.pipes d xs sound.limits live small few;
-      few_pools = omega (arith, sound.few_pools, ap length pools);
+      limits = limits_agg h.domains (objects_of h) d xs sound.limits live small few;
+      pooled = pools_pooled h.store t h.conns pools sound.pooled;
+      sums = IsRight-keeps h.store.arena t.arena h.sums moves.stays.keeps sound.sums;
     })
 
 pub placed-sound : (h : KernelState) (t : Stored) (ds : List (Domain (List Slice))) (d : ℕ) (text : Text) (placed : List ℕ) → IsSound h → (domain_in h.domains d).live ≡ true → live_aggs_in h.domains < MAX_AGGREGATES → length text ≤ MAX_AGGREGATE_BYTES → AddsText h.store t h.domains ds d text placed → IsSound (record h { store = t; domains = ds })
@@ -205,73 +214,63 @@ pub placed_alone : (h : KernelState) (t : Stored) (ds : List (Domain (List Slice
 placed_alone h t ds d pool n text sound adds = record {
   slices = adds.slices;
   each = placed-read h t ds d text (lowest_of h.store pool n) sound adds;
+  sums = refl;
   made_on = adds.made_on;
   pages = adds.pages;
 }
-
--- lists that the machine cannot tell apart are as long
-pub same_length : (s t : Stored) → SameLists s t → length s.pools ≤ 1024 → length t.pools ≤ 1024
-same_length s t lists few = omega (arith, few, ap length lists, length-map' pool_meant s.pools, length-map' pool_meant t.pools)
 
 -- a domain gives an aggregate up
 
 module _ (h : KernelState) (t : Stored) (ds : List (Domain (List Slice))) (d a : ℕ) (xs : List Slice) (sound : IsSound h) (live : (domain_in h.domains d).live ≡ true) (found : Some xs ≡ agg_in h.domains d a)
     (rest : ds ≡ without_agg_in h.domains d a) (moves : Moves h.store t (bufs_of xs) []) (lists : SameLists h.store t) (frees : FreesOnly h.store t) (settles : AllReadable h.store xs → AllSettled h.store → AllSettled t) where
-  dropped_counted : IsCounted t (without_agg_in h.domains d a) h.pipes
+  dropped_counted : IsCounted t (without_agg_in h.domains d a) (objects_of h)
   dropped_counted = record { each = λ b. omega (arith, sound.counted.each b, moves.counts.each b, tally_none b, uses-without_agg b h.domains d a xs live found) }
 
   dropped-read : (f : Reading) → read_of f (record h { store = t; domains = ds }) ≡ aggs.without_agg (read_of f h) d a
   unfolding read_of
   dropped-read f =
-      ap (λ (ys : List (Domain (List Slice))). state_view (read f) ys t.pools h.pipes) rest
-      ∙ pools-view (read f) (without_agg_in h.domains d a) h.store.pools t.pools h.pipes lists
-      ∙ without_agg-view (read f) h.domains h.store.pools h.pipes d a
+      ap (λ (ys : List (Domain (List Slice))). state_view (read f) ys t.pools (objects_of h)) rest
+      ∙ pools-view (read f) (without_agg_in h.domains d a) h.store.pools t.pools (objects_of h) lists
+      ∙ without_agg-view (read f) h.domains h.store.pools (objects_of h) d a
 
   dropped-sound : IsSound (record h { store = t; domains = ds })
   dropped-sound = subst (λ (ys : List (Domain (List Slice))). IsSound (record h { store = t; domains = ys })) (sym rest)
-      (moved-sound h.store t (without_agg_in h.domains d a) h.pipes moves.stays dropped_counted (moves.tidy sound.tidy) (moves.still sound.still) (settles (agg_readable h d a xs sound found) sound.settled) (drop_readable h d a sound) sound.pipes
-      (fds_stay h.pipes h.domains d _ sound.fds refl) (once_same h.domains d _ live refl sound.once) (limits_drop h.domains h.pipes d a xs sound.limits live found) (same_length h.store t lists sound.few_pools))
+      (moved-sound h.store (record h { store = t; domains = without_agg_in h.domains d a }) moves.stays dropped_counted (moves.tidy sound.tidy) (moves.still sound.still) (settles (agg_readable h d a xs sound found) sound.settled) (drop_readable h d a sound) sound.objects
+      (fds_stay (objects_of h) h.domains d _ sound.fds refl) (once_same h.domains d _ live refl sound.once) (limits_drop h.domains (objects_of h) d a xs sound.limits live found) (same_pooled h.store t h.conns lists sound.pooled) sound.sums)
 
   pub dropped : Leaves (λ s. aggs.without_agg s d a) h (record h { store = t; domains = ds })
-  dropped = leaves (λ s. aggs.without_agg s d a) h t ds h.pipes dropped-read moves.stays (keeps_pages_frees frees) (subst (λ (ys : List (Domain (List Slice))). Each (IsDomainReadable h.store) ys) (sym rest) (drop_readable h d a sound)) sound.pipes dropped-sound
-
--- one pool more, or as many
-pub one_more_pool : (s t : Stored) (x : machine.Pool) → map pool_meant t.pools ≡ map pool_meant s.pools ++ x ∷ [] → length s.pools < 1024 → length t.pools ≤ 1024
-one_more_pool s t x added few = omega (arith, few, ap length added, length-append (map pool_meant s.pools) (x ∷ []), length-map' pool_meant s.pools, length-map' pool_meant t.pools)
-
-pub as_many_pools : (s t : Stored) (p : ℕ) → map pool_meant t.pools ≡ map pool_meant (with_closed s.pools p) → length s.pools ≤ 1024 → length t.pools ≤ 1024
-as_many_pools s t p closed few = omega (arith, few, ap length closed, length-map' pool_meant (with_closed s.pools p), length-map' pool_meant t.pools, length-closed s.pools p)
+  dropped = leaves (λ s. aggs.without_agg s d a) h (record h { store = t; domains = ds }) dropped-read refl moves.stays (keeps_pages_frees frees) (subst (λ (ys : List (Domain (List Slice))). Each (IsDomainReadable h.store) ys) (sym rest) (drop_readable h d a sound)) sound.objects dropped-sound
 
 -- pools come and go; nothing is placed and nothing given up
 
 module _ (h : KernelState) (t : Stored) (sound : IsSound h) (moves : Moves h.store t [] []) (settles : AllSettled h.store → AllSettled t) (pages : KeepsPages h.store t []) where
-  unmoved_counted : IsCounted t h.domains h.pipes
+  unmoved_counted : IsCounted t h.domains (objects_of h)
   unmoved_counted = record { each = λ b. omega (arith, sound.counted.each b, moves.counts.each b, tally_none b) }
 
-  unmoved-sound : length t.pools ≤ MAX_POOLS → IsSound (record h { store = t })
-  unmoved-sound few = moved-sound h.store t h.domains h.pipes moves.stays unmoved_counted (moves.tidy sound.tidy) (moves.still sound.still) (settles sound.settled) sound.domains sound.pipes sound.fds sound.once sound.limits few
+  unmoved-sound : ArePooled t.pools h.conns → IsSound (record h { store = t })
+  unmoved-sound pooled = moved-sound h.store (record h { store = t }) moves.stays unmoved_counted (moves.tidy sound.tidy) (moves.still sound.still) (settles sound.settled) sound.domains sound.objects sound.fds sound.once sound.limits pooled sound.sums
 
   pooled-read : (list : List ℕ) → map pool_meant t.pools ≡ map pool_meant h.store.pools ++ record { domains = list; closed = false } ∷ [] → (f : Reading) → read_of f (record h { store = t }) ≡ record (read_of f h) { pools = (read_of f h).pools ++ record { domains = list; closed = false } ∷ [] }
   unfolding read_of
-  pooled-read list added f = added_pool-view (read f) h.domains h.store.pools t.pools h.pipes (record { domains = list; closed = false }) added
+  pooled-read list added f = added_pool-view (read f) h.domains h.store.pools t.pools (objects_of h) (record { domains = list; closed = false }) added
 
   pool_closed-read : (p : ℕ) → map pool_meant t.pools ≡ map pool_meant (with_closed h.store.pools p) → (f : Reading) → read_of f (record h { store = t }) ≡ record (read_of f h) { pools = with_numbered (read_of f h).pools p (record (machine.pool (read_of f h) p) { closed = true }) }
   unfolding read_of
-  pool_closed-read p closed f = closed-view (read f) h.domains h.store.pools t.pools h.pipes p closed
+  pool_closed-read p closed f = closed-view (read f) h.domains h.store.pools t.pools (objects_of h) p closed
 
   pub pooled : (list : List ℕ) → map pool_meant t.pools ≡ map pool_meant h.store.pools ++ record { domains = list; closed = false } ∷ [] → length h.store.pools < MAX_POOLS → Leaves (λ s. record s { pools = s.pools ++ record { domains = list; closed = false } ∷ [] }) h (record h { store = t })
-  pooled list added few = leaves (λ s. record s { pools = s.pools ++ record { domains = list; closed = false } ∷ [] }) h t h.domains h.pipes (pooled-read list added) moves.stays pages sound.domains sound.pipes (unmoved-sound (one_more_pool h.store t _ added few))
+  pooled list added few = leaves (λ s. record s { pools = s.pools ++ record { domains = list; closed = false } ∷ [] }) h (record h { store = t }) (pooled-read list added) refl moves.stays pages sound.domains sound.objects (unmoved-sound (one_more_pool h.store t h.conns (record { domains = list; closed = false }) added few sound.pooled))
 
-  pub pool_closed : (p : ℕ) → map pool_meant t.pools ≡ map pool_meant (with_closed h.store.pools p) → Leaves (λ s. record s { pools = with_numbered s.pools p (record (machine.pool s p) { closed = true }) }) h (record h { store = t })
-  pool_closed p closed = leaves (λ s. record s { pools = with_numbered s.pools p (record (machine.pool s p) { closed = true }) }) h t h.domains h.pipes (pool_closed-read p closed) moves.stays pages sound.domains sound.pipes (unmoved-sound (as_many_pools h.store t p closed sound.few_pools))
+  pub pool_closed : (p : ℕ) → list_any (λ e. e.1.pool == p) h.conns ≡ false → map pool_meant t.pools ≡ map pool_meant (with_closed h.store.pools p) → Leaves (λ s. record s { pools = with_numbered s.pools p (record (machine.pool s p) { closed = true }) }) h (record h { store = t })
+  pool_closed p idle closed = leaves (λ s. record s { pools = with_numbered s.pools p (record (machine.pool s p) { closed = true }) }) h (record h { store = t }) (pool_closed-read p closed) refl moves.stays pages sound.domains sound.objects (unmoved-sound (one_closed h.store t h.conns p idle closed sound.pooled))
 
 -- a domain's descriptors change
 
 pub fds-changed : (f : Reading) (h : KernelState) (ds : List (Domain (List Slice))) (d : ℕ) (xs : List (Option Descriptor)) → ds ≡ with_fds_in h.domains d xs → read_of f (record h { domains = ds }) ≡ fds.with_fds (read_of f h) d xs
 unfolding read_of
-fds-changed f h ds d xs is = ap (λ (ys : List (Domain (List Slice))). state_view (read f) ys h.store.pools h.pipes) is ∙ with_fds-view (read f) h.domains h.store.pools h.pipes d xs
+fds-changed f h ds d xs is = ap (λ (ys : List (Domain (List Slice))). state_view (read f) ys h.store.pools (objects_of h)) is ∙ with_fds-view (read f) h.domains h.store.pools (objects_of h) d xs
 
-pub fds-sound : (h : KernelState) (ds : List (Domain (List Slice))) (d : ℕ) (xs : List (Option Descriptor)) → IsSound h → (domain_in h.domains d).live ≡ true → ds ≡ with_fds_in h.domains d xs → Each (IsOpenEnd h.pipes) xs → IsOpenOnce (with_fds_in h.domains d xs) → IsSound (record h { domains = ds })
+pub fds-sound : (h : KernelState) (ds : List (Domain (List Slice))) (d : ℕ) (xs : List (Option Descriptor)) → IsSound h → (domain_in h.domains d).live ≡ true → ds ≡ with_fds_in h.domains d xs → Each (IsOpenEnd (objects_of h)) xs → IsOpenOnce (with_fds_in h.domains d xs) → IsSound (record h { domains = ds })
 fds-sound h ds d xs sound live is ends once = subst (λ (ys : List (Domain (List Slice))). IsSound (record h { domains = ys })) (sym is) (sound_fds h d xs sound live ends once)
 
 -- a domain's default pool
@@ -279,9 +278,9 @@ fds-sound h ds d xs sound live is ends once = subst (λ (ys : List (Domain (List
 default-read : (f : Reading) (h : KernelState) (ds : List (Domain (List Slice))) (d p : ℕ) → ds ≡ with_domain_in h.domains d (record (domain_in h.domains d) { default = Some p }) → read_of f (record h { domains = ds }) ≡ machine.with_domain (read_of f h) d (record (machine.domain (read_of f h) d) { default = Some p })
 unfolding read_of
 default-read f h ds d p is =
-    ap (λ (ys : List (Domain (List Slice))). state_view (read f) ys h.store.pools h.pipes) is
-    ∙ with_domain-view (read f) h.domains h.store.pools h.pipes d (record (domain_in h.domains d) { default = Some p })
-    ∙ ap (λ (x : Domain Text). machine.with_domain (read_of f h) d (record x { default = Some p })) (sym (domain-view (read f) h.domains h.store.pools h.pipes d))
+    ap (λ (ys : List (Domain (List Slice))). state_view (read f) ys h.store.pools (objects_of h)) is
+    ∙ with_domain-view (read f) h.domains h.store.pools (objects_of h) d (record (domain_in h.domains d) { default = Some p })
+    ∙ ap (λ (x : Domain Text). machine.with_domain (read_of f h) d (record x { default = Some p })) (sym (domain-view (read f) h.domains h.store.pools (objects_of h) d))
 
 default-sound : (h : KernelState) (ds : List (Domain (List Slice))) (d p : ℕ) → IsSound h → (domain_in h.domains d).live ≡ true → ds ≡ with_domain_in h.domains d (record (domain_in h.domains d) { default = Some p }) → IsSound (record h { domains = ds })
 default-sound h ds d p sound live is = subst (λ (ys : List (Domain (List Slice))). IsSound (record h { domains = ys })) (sym is)
@@ -293,6 +292,7 @@ default_set h ds d p sound live is = record {
   after = λ f keeps. default-read f h ds d p is;
   arena = refl;
   pools = refl;
+  sums = refl;
   sound = default-sound h ds d p sound live is;
   stays = stays_here h.store;
 }

@@ -8,7 +8,7 @@ use Rattle.iol_core.specs.Numbered.{in_place, placed, lowest}
 use Rattle.iol_core.specs.declared.descriptors.Descriptor.{Descriptor}
 use Rattle.iol_core.specs.declared.descriptors.Descriptor.TheVariants as on
 use Rattle.iol_hold.specs.declared.slices.Slice.{Slice}
-use Rattle.iol_kernel.specs.Views.{Pipe}
+use Rattle.iol_kernel.specs.Views.{Pipe, Objects}
 use Rattle.iol_kernel.specs.KernelState.{Each, IsOpenEnd, queue_at}
 use Rattle.iol_kernel.proofs.Once.{in_place-lowest}
 use Rattle.iol_kernel.proofs.Sound.{each-weaker}
@@ -48,15 +48,15 @@ writing_placed qs p x h = elim (cases_eq p (lowest qs)) [
     no : false ≡ true → ⊥
     no e = cc
 
-end_placed : (qs : Pipes) (x : Pipe (List Slice)) (e : Option Descriptor) → IsOpenEnd qs e → IsOpenEnd (placed qs (lowest qs) x) e
-end_placed qs x None h = tt
-end_placed qs x (Some (on.ReadEnd p)) h = reading_placed qs p x h
-end_placed qs x (Some (on.WriteEnd p)) h = writing_placed qs p x h
-end_placed qs x (Some (on.File f at mode)) h = h
-end_placed qs x (Some (on.Connection c)) h = h
+end_placed : (o : Objects (List Slice)) (x : Pipe (List Slice)) (e : Option Descriptor) → IsOpenEnd o e → IsOpenEnd (record o { pipes = placed o.pipes (lowest o.pipes) x }) e
+end_placed o x None h = tt
+end_placed o x (Some (on.ReadEnd p)) h = reading_placed o.pipes p x h
+end_placed o x (Some (on.WriteEnd p)) h = writing_placed o.pipes p x h
+end_placed o x (Some (on.File f at mode)) h = h
+end_placed o x (Some (on.Connection c)) h = h
 
-pub ends_placed : (qs : Pipes) (x : Pipe (List Slice)) (fds : List (Option Descriptor)) → Each (IsOpenEnd qs) fds → Each (IsOpenEnd (placed qs (lowest qs) x)) fds
-ends_placed qs x fds e = each-weaker (IsOpenEnd qs) (IsOpenEnd (placed qs (lowest qs) x)) fds (end_placed qs x) e
+pub ends_placed : (o : Objects (List Slice)) (x : Pipe (List Slice)) (fds : List (Option Descriptor)) → Each (IsOpenEnd o) fds → Each (IsOpenEnd (record o { pipes = placed o.pipes (lowest o.pipes) x })) fds
+ends_placed o x fds e = each-weaker (IsOpenEnd o) (IsOpenEnd (record o { pipes = placed o.pipes (lowest o.pipes) x })) fds (end_placed o x) e
 
 -- the place of a new pipe has no open end before
 pub lowest_closed : (qs : Pipes) → ((queue_at qs (lowest qs)).reading ≡ true → ⊥) × ((queue_at qs (lowest qs)).writing ≡ true → ⊥)
@@ -98,21 +98,21 @@ in_place-set xs n p x lt = elim (cases_eq p n) [
   | inr k ↦ inr (grind (arith, nat_tests, common_steps, lt, k))
 ]
 
-end_queued : (qs : Pipes) (p : ℕ) (q : List Slice) → p < length qs → (e : Option Descriptor) → IsOpenEnd qs e → IsOpenEnd (slice_set qs p (Some (record (queue_at qs p) { queue = q }))) e
-end_queued qs p q lt None h = tt
-end_queued qs p q lt (Some (on.ReadEnd n)) h = elim (in_place-set qs p n (record (queue_at qs p) { queue = q }) lt) [
-  | inl k ↦ ap (λ (o : Option (Pipe (List Slice))). (unwrap_or o closed_pipe).reading) k.1 ∙ ap (λ i. (queue_at qs i).reading) (sym k.0) ∙ h
+end_queued : (o : Objects (List Slice)) (p : ℕ) (q : List Slice) → p < length o.pipes → (e : Option Descriptor) → IsOpenEnd o e → IsOpenEnd (record o { pipes = slice_set o.pipes p (Some (record (queue_at o.pipes p) { queue = q })) }) e
+end_queued o p q lt None h = tt
+end_queued o p q lt (Some (on.ReadEnd n)) h = elim (in_place-set o.pipes p n (record (queue_at o.pipes p) { queue = q }) lt) [
+  | inl k ↦ ap (λ (o : Option (Pipe (List Slice))). (unwrap_or o closed_pipe).reading) k.1 ∙ ap (λ i. (queue_at o.pipes i).reading) (sym k.0) ∙ h
   | inr k ↦ ap (λ (o : Option (Pipe (List Slice))). (unwrap_or o closed_pipe).reading) k ∙ h
 ]
-end_queued qs p q lt (Some (on.WriteEnd n)) h = elim (in_place-set qs p n (record (queue_at qs p) { queue = q }) lt) [
-  | inl k ↦ ap (λ (o : Option (Pipe (List Slice))). (unwrap_or o closed_pipe).writing) k.1 ∙ ap (λ i. (queue_at qs i).writing) (sym k.0) ∙ h
+end_queued o p q lt (Some (on.WriteEnd n)) h = elim (in_place-set o.pipes p n (record (queue_at o.pipes p) { queue = q }) lt) [
+  | inl k ↦ ap (λ (o : Option (Pipe (List Slice))). (unwrap_or o closed_pipe).writing) k.1 ∙ ap (λ i. (queue_at o.pipes i).writing) (sym k.0) ∙ h
   | inr k ↦ ap (λ (o : Option (Pipe (List Slice))). (unwrap_or o closed_pipe).writing) k ∙ h
 ]
-end_queued qs p q lt (Some (on.File f at mode)) h = h
-end_queued qs p q lt (Some (on.Connection c)) h = h
+end_queued o p q lt (Some (on.File f at mode)) h = h
+end_queued o p q lt (Some (on.Connection c)) h = h
 
-pub ends_queued : (qs : Pipes) (p : ℕ) (q : List Slice) → p < length qs → (fds : List (Option Descriptor)) → Each (IsOpenEnd qs) fds → Each (IsOpenEnd (slice_set qs p (Some (record (queue_at qs p) { queue = q })))) fds
-ends_queued qs p q lt fds e = each-weaker (IsOpenEnd qs) (IsOpenEnd (slice_set qs p (Some (record (queue_at qs p) { queue = q })))) fds (end_queued qs p q lt) e
+pub ends_queued : (o : Objects (List Slice)) (p : ℕ) (q : List Slice) → p < length o.pipes → (fds : List (Option Descriptor)) → Each (IsOpenEnd o) fds → Each (IsOpenEnd (record o { pipes = slice_set o.pipes p (Some (record (queue_at o.pipes p) { queue = q })) })) fds
+ends_queued o p q lt fds e = each-weaker (IsOpenEnd o) (IsOpenEnd (record o { pipes = slice_set o.pipes p (Some (record (queue_at o.pipes p) { queue = q })) })) fds (end_queued o p q lt) e
 
 -- a pipe with an open end is there
 

@@ -21,7 +21,7 @@ use Rattle.iol_pipe.proofs.Given.{read_given, read_left, first_pool-read}
 use Rattle.iol_pipe.specs.Queue.{first_pool}
 use Rattle.iol_desc.specs.Tables.{agg_in}
 use Rattle.iol_kernel.specs.Views.{Pipe, pipe_view, state_view}
-use Rattle.iol_kernel.specs.KernelState.{KernelState, queue_at, Reading, read_of}
+use Rattle.iol_kernel.specs.KernelState.{KernelState, objects_of, queue_at, Reading, read_of}
 use Rattle.iol_kernel.proofs.Views.{with_pipe-view, with_agg-view}
 use Rattle.iol_kernel.proofs.ReadOf.{may_read-read_of, text-read_of, length_text-read_of, pipe_at-read_of, queue-read_of, length_queue-read_of}
 use Rattle.iol_kernel.proofs.Slices.{slices_found}
@@ -50,9 +50,9 @@ module _ (h : KernelState) (t : Stored) (qs : List (Option (Pipe (List Slice))))
       read_pushed f (queue_at qs p).queue (queue_at h.pipes p).queue from n places'
       ∙ ap (λ (t : Text). t ++ take n (read f from)) (sym (queue-read_of f h p))
       ∙ ap (λ (t : Text). (machine.pipe_at m p).queue ++ take n t) (ap (read f) (slices_found h.domains d a from found) ∙ sym (text-read_of f h d a)) in
-      ap (λ (ps : List Pool). state_view (read f) h.domains ps qs) shares.pools
-      ∙ ap (λ (ys : List (Option (Pipe (List Slice)))). state_view (read f) h.domains h.store.pools ys) pipes'
-      ∙ with_pipe-view (read f) h.domains h.store.pools h.pipes p x (right_true x.reading x.writing writing)
+      ap (λ (ps : List Pool). state_view (read f) h.domains ps (record (objects_of h) { pipes = qs })) shares.pools
+      ∙ ap (λ (ys : List (Option (Pipe (List Slice)))). state_view (read f) h.domains h.store.pools (record (objects_of h) { pipes = ys })) pipes'
+      ∙ with_pipe-view (read f) h.domains h.store.pools (objects_of h) p x (right_true x.reading x.writing writing)
       ∙ ap (λ (t : Text). machine.with_pipe m p (record (pipe_view (read f) (queue_at h.pipes p)) { queue = t })) q
       ∙ ap (λ (y : machine.Pipe). machine.with_pipe m p (record y { queue = (machine.pipe_at m p).queue ++ take n (machine.text m d a) })) (sym (pipe_at-read_of f h p))
 
@@ -86,11 +86,11 @@ module _ (h : KernelState) (t : Stored) (ds : List (Domain (List Slice))) (qs : 
       read_left f keeps takes.slices (queue_at qs p).queue (queue_at h.pipes p).queue h.store.pools d n takes.given takes.left
       ∙ ap (λ (v : Text). drop (length v) (read f (queue_at h.pipes p).queue)) (sym (read_given f keeps takes.slices (queue_at h.pipes p).queue h.store.pools d n takes.given) ∙ first)
       ∙ ap (λ (q : Text). drop (length u) q) (sym (queue-read_of f h p)) in
-      ap (λ (ps : List Pool). state_view (read f) ds ps qs) takes.shares.pools
-      ∙ ap (λ (ys : List (Option (Pipe (List Slice)))). state_view (read f) ds h.store.pools ys) pipes'
-      ∙ ap (λ (ys : List (Domain (List Slice))). state_view (read f) ys h.store.pools less) takes.added
-      ∙ with_agg-view (read f) h.domains h.store.pools less d takes.slices
-      ∙ ap (λ (s : State). aggs.with_agg s d (read f takes.slices)) (with_pipe-view (read f) h.domains h.store.pools h.pipes p x (left_true x.reading x.writing reading'))
+      ap (λ (ps : List Pool). state_view (read f) ds ps (record (objects_of h) { pipes = qs })) takes.shares.pools
+      ∙ ap (λ (ys : List (Option (Pipe (List Slice)))). state_view (read f) ds h.store.pools (record (objects_of h) { pipes = ys })) pipes'
+      ∙ ap (λ (ys : List (Domain (List Slice))). state_view (read f) ys h.store.pools (record (objects_of h) { pipes = less })) takes.added
+      ∙ with_agg-view (read f) h.domains h.store.pools (record (objects_of h) { pipes = less }) d takes.slices
+      ∙ ap (λ (s : State). aggs.with_agg s d (read f takes.slices)) (with_pipe-view (read f) h.domains h.store.pools (objects_of h) p x (left_true x.reading x.writing reading'))
       ∙ ap (λ (v : Text). aggs.with_agg (machine.with_pipe m p (pipe_view (read f) x)) d v) first
       ∙ ap (λ (v : Text). aggs.with_agg (machine.with_pipe m p (record (pipe_view (read f) (queue_at h.pipes p)) { queue = v })) d u) left
       ∙ ap (λ (y : machine.Pipe). aggs.with_agg (machine.with_pipe m p (record y { queue = drop (length u) (machine.pipe_at m p).queue })) d u) (sym (pipe_at-read_of f h p))

@@ -20,12 +20,13 @@ use Rattle.iol_hold.proofs.Reading.{readable_stays}
 use Rattle.iol_desc.specs.Tables.{domain_in, with_domain_in, with_aggs_in}
 use Rattle.iol_kernel.specs.Views.{state_view}
 use Rattle.iol_kernel.specs.Counted.{uses, domain_uses, bufs_in, IsCounted}
-use Rattle.iol_kernel.specs.KernelState.{KernelState, Each, IsDomainReadable, IsLimited, IsSound, Reading, read_of}
+use Rattle.iol_kernel.specs.KernelState.{KernelState, objects_of, Each, IsDomainReadable, IsLimited, IsSound, Reading, read_of}
 use Rattle.iol_kernel.proofs.Views.{domain-view, with_domain-view, pools-view}
 use Rattle.iol_kernel.proofs.Uses.{sum-with_domain, domain_le, Domains}
 use Rattle.iol_kernel.proofs.Once.{once_same, once_fewer}
 use Rattle.iol_kernel.proofs.Sound.{aggs_readable, each-with_domain_in, sound_with, fds_stay}
-use Rattle.iol_kernel.proofs.Effects.{moved-sound, same_length, leaves, leaves_here}
+use Rattle.iol_kernel.proofs.Pooling.{same_pooled}
+use Rattle.iol_kernel.proofs.Effects.{moved-sound, leaves, leaves_here}
 use Rattle.iol_core.specs.declared.limits.TheConstants.{MAX_AGGREGATE_BYTES}
 use Rattle.iol_hold.specs.Layout.{read}
 use Rattle.iol_kernel.specs.Calls.{Leaves}
@@ -85,7 +86,7 @@ module _ (h : KernelState) (t : Stored) (ds : Domains) (d : ℕ) (es : List (ℕ
   abbrev emptied : Domain (List Slice)
   emptied = record (domain_in h.domains d) { aggs = [] }
 
-  emptied_counted : IsCounted t (with_domain_in h.domains d emptied) h.pipes
+  emptied_counted : IsCounted t (with_domain_in h.domains d emptied) (objects_of h)
   emptied_counted = record {
     each = λ b. omega (
       arith,
@@ -101,35 +102,34 @@ module _ (h : KernelState) (t : Stored) (ds : Domains) (d : ℕ) (es : List (ℕ
   emptied_good : Each (IsDomainReadable h.store) (with_domain_in h.domains d emptied)
   emptied_good = each-with_domain_in (IsDomainReadable h.store) h.domains d emptied sound.domains tt
 
-  emptied_limits : IsLimited (with_domain_in h.domains d emptied) h.pipes
+  emptied_limits : IsLimited (with_domain_in h.domains d emptied) (objects_of h)
   emptied_limits = record {
     aggs = each-with_domain_in (λ (y : Domain (List Slice)). Each (λ e. byte_len e.1 ≤ MAX_AGGREGATE_BYTES) y.aggs) h.domains d emptied sound.limits.aggs tt;
     few = omega (arith, sound.limits.few, sum-with_domain (λ (y : Domain (List Slice)). length y.aggs) h.domains d emptied live);
-    queues = sound.limits.queues;
-    few_pipes = sound.limits.few_pipes;
+    objects = sound.limits.objects;
   }
 
   emptied-read : (f : Reading) → read_of f (record h { store = t; domains = ds }) ≡ machine.with_domain (read_of f h) d (record (machine.domain (read_of f h) d) { aggs = [] })
   unfolding read_of
   emptied-read f =
-      ap (λ (ys : Domains). state_view (read f) ys t.pools h.pipes) rest
-      ∙ pools-view (read f) (with_domain_in h.domains d emptied) h.store.pools t.pools h.pipes lists
-      ∙ with_domain-view (read f) h.domains h.store.pools h.pipes d emptied
-      ∙ ap (λ (y : Domain Text). machine.with_domain (read_of f h) d (record y { aggs = [] })) (sym (domain-view (read f) h.domains h.store.pools h.pipes d))
+      ap (λ (ys : Domains). state_view (read f) ys t.pools (objects_of h)) rest
+      ∙ pools-view (read f) (with_domain_in h.domains d emptied) h.store.pools t.pools (objects_of h) lists
+      ∙ with_domain-view (read f) h.domains h.store.pools (objects_of h) d emptied
+      ∙ ap (λ (y : Domain Text). machine.with_domain (read_of f h) d (record y { aggs = [] })) (sym (domain-view (read f) h.domains h.store.pools (objects_of h) d))
 
   emptied-sound : IsSound (record h { store = t; domains = ds })
   emptied-sound = subst (λ (ys : Domains). IsSound (record h { store = t; domains = ys })) (sym rest)
-      (moved-sound h.store t (with_domain_in h.domains d emptied) h.pipes moves.stays emptied_counted (moves.tidy sound.tidy) (moves.still sound.still) (settles (subst (λ (l : List (ℕ × List Slice)). Each (λ e. AllReadable h.store e.1) l) (sym all) (aggs_readable h d sound)) sound.settled) emptied_good sound.pipes
-      (fds_stay h.pipes h.domains d emptied sound.fds refl) (once_same h.domains d emptied live refl sound.once) emptied_limits (same_length h.store t lists sound.few_pools))
+      (moved-sound h.store (record h { store = t; domains = with_domain_in h.domains d emptied }) moves.stays emptied_counted (moves.tidy sound.tidy) (moves.still sound.still) (settles (subst (λ (l : List (ℕ × List Slice)). Each (λ e. AllReadable h.store e.1) l) (sym all) (aggs_readable h d sound)) sound.settled) emptied_good sound.objects
+      (fds_stay (objects_of h) h.domains d emptied sound.fds refl) (once_same h.domains d emptied live refl sound.once) emptied_limits (same_pooled h.store t h.conns lists sound.pooled) sound.sums)
 
   pub aggs_dropped : Leaves (λ s. machine.with_domain s d (record (machine.domain s d) { aggs = [] })) h (record h { store = t; domains = ds })
-  aggs_dropped = leaves (λ s. machine.with_domain s d (record (machine.domain s d) { aggs = [] })) h t ds h.pipes emptied-read moves.stays (keeps_pages_frees frees) (subst (λ (ys : Domains). Each (IsDomainReadable h.store) ys) (sym rest) emptied_good) sound.pipes emptied-sound
+  aggs_dropped = leaves (λ s. machine.with_domain s d (record (machine.domain s d) { aggs = [] })) h (record h { store = t; domains = ds }) emptied-read refl moves.stays (keeps_pages_frees frees) (subst (λ (ys : Domains). Each (IsDomainReadable h.store) ys) (sym rest) emptied_good) sound.objects emptied-sound
 
 -- and the domain itself
 
 ended-read : (f : Reading) (h : KernelState) (ds : Domains) (d : ℕ) → ds ≡ with_domain_in h.domains d no_domain → read_of f (record h { domains = ds }) ≡ machine.with_domain (read_of f h) d no_domain
 unfolding read_of
-ended-read f h ds d is = ap (λ (ys : Domains). state_view (read f) ys h.store.pools h.pipes) is ∙ with_domain-view (read f) h.domains h.store.pools h.pipes d no_domain
+ended-read f h ds d is = ap (λ (ys : Domains). state_view (read f) ys h.store.pools (objects_of h)) is ∙ with_domain-view (read f) h.domains h.store.pools (objects_of h) d no_domain
 
 ended-sound : (h : KernelState) (ds : Domains) (d : ℕ) → IsSound h → (domain_in h.domains d).live ≡ true → (domain_in h.domains d).aggs ≡ [] → ds ≡ with_domain_in h.domains d no_domain → IsSound (record h { domains = ds })
 ended-sound h ds d sound live none is = subst (λ (ys : Domains). IsSound (record h { domains = ys })) (sym is)

@@ -4,6 +4,7 @@ pub mod Uses
 pub mod Once
 pub mod Sound
 pub mod Ends
+pub mod Pooling
 pub mod Effects
 pub mod Opening
 pub mod Flowing
@@ -23,3 +24,8 @@ pub mod Exchanging
 pub mod Regrouping
 pub mod Barring
 pub mod Gifts
+pub mod Numbering
+pub mod Connecting
+pub mod Arriving
+pub mod Transmitting
+pub mod PeerClosed

@@ -13,7 +13,8 @@ use Rattle.iol_hold.specs.declared.slices.Slice.{Slice}
 use Rattle.iol_desc.specs.Tables.{domain_in, with_domain_in, with_fds_in}
 use Rattle.iol_kernel.specs.Ends.{same_end, on_end, ends_on, all_ends_on, IsOpenOnce}
 use Rattle.iol_kernel.specs.KernelState.{Each, IsOpenEnd}
-use Rattle.iol_kernel.proofs.Uses.{sum-with_domain, Domains, Pipes}
+use Rattle.iol_kernel.specs.Views.{Objects}
+use Rattle.iol_kernel.proofs.Uses.{sum-with_domain, Domains}
 
 -- a domain's descriptors change
 
@@ -81,7 +82,7 @@ same_end-differs (on.WriteEnd p) (on.Connection c) differ = refl
 same_end-differs (on.File f at mode) y differ = refl
 same_end-differs (on.Connection c) y differ = refl
 
-pub same_end-itself : (qs : Pipes) (x : Descriptor) → IsOpenEnd qs (Some x) → same_end x x ≡ 1
+pub same_end-itself : (qs : Objects (List Slice)) (x : Descriptor) → IsOpenEnd qs (Some x) → same_end x x ≡ 1
 same_end-itself qs (on.ReadEnd p) h = grind (arith, nat_tests)
 same_end-itself qs (on.WriteEnd p) h = grind (arith, nat_tests)
 same_end-itself qs (on.File f at mode) h = absurd h
@@ -110,7 +111,7 @@ both_once (on.WriteEnd p) n k le reading writing = elim (cases_eq p n) [
 both_once (on.File f at mode) n k le reading writing = omega (arith, le)
 both_once (on.Connection c) n k le reading writing = omega (arith, le)
 
-ends_closed : (qs : Pipes) (x : Descriptor) → (IsOpenEnd qs (Some x) → ⊥) → (fds : List (Option Descriptor)) → Each (IsOpenEnd qs) fds → ends_on x fds ≡ 0
+ends_closed : (qs : Objects (List Slice)) (x : Descriptor) → (IsOpenEnd qs (Some x) → ⊥) → (fds : List (Option Descriptor)) → Each (IsOpenEnd qs) fds → ends_on x fds ≡ 0
 ends_closed qs x closed [] e = refl
 ends_closed qs x closed (None ∷ fds) e = let none : Option Descriptor = None in let c = sum_by-cons (on_end x) none fds in omega (arith, c, ends_closed qs x closed fds e.1)
 ends_closed qs x closed (Some y ∷ fds) e =
@@ -118,7 +119,7 @@ ends_closed qs x closed (Some y ∷ fds) e =
     let z = same_end-differs x y (λ is. closed (subst (λ (w : Descriptor). IsOpenEnd qs (Some w)) (sym is) e.0)) in
     omega (arith, c, z, ends_closed qs x closed fds e.1)
 
-pub all_ends_closed : (qs : Pipes) (x : Descriptor) → (IsOpenEnd qs (Some x) → ⊥) → (ds : Domains) → Each (λ d. Each (IsOpenEnd qs) d.fds) ds → all_ends_on x ds ≡ 0
+pub all_ends_closed : (qs : Objects (List Slice)) (x : Descriptor) → (IsOpenEnd qs (Some x) → ⊥) → (ds : Domains) → Each (λ d. Each (IsOpenEnd qs) d.fds) ds → all_ends_on x ds ≡ 0
 all_ends_closed qs x closed [] e = refl
 all_ends_closed qs x closed (d ∷ ds) e =
     let c = sum_by-cons (λ (y : Domain (List Slice)). ends_on x y.fds) d ds in

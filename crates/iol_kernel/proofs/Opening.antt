@@ -16,11 +16,11 @@ use Rattle.iol_core.specs.declared.descriptors.Descriptor.TheVariants as on
 use Rattle.iol_hold.specs.declared.slices.Slice.{Slice}
 use Rattle.iol_hold.proofs.Reading.{readable_none}
 use Rattle.iol_desc.specs.Tables.{domain_in, with_domain_in, with_fds_in, with_next_fd, with_ends}
-use Rattle.iol_kernel.specs.Views.{Pipe, state_view}
+use Rattle.iol_kernel.specs.Views.{Pipe, Objects, state_view}
 use Rattle.iol_kernel.specs.Ends.{all_ends_on, IsOpenOnce}
-use Rattle.iol_kernel.specs.KernelState.{KernelState, Each, IsOpenEnd, IsPipeReadable, IsSound, IsShort, Reading, read_of}
+use Rattle.iol_kernel.specs.KernelState.{KernelState, objects_of, Each, IsOpenEnd, IsPipeReadable, IsSound, IsShort, Reading, read_of}
 use Rattle.iol_kernel.proofs.Views.{add_pipe-view, lowest-view}
-use Rattle.iol_kernel.proofs.Sound.{each-set, each-get, each-weaker, each-placed, ends_open}
+use Rattle.iol_kernel.proofs.Sound.{with_pipes, each-set, each-get, each-weaker, each-placed, ends_open}
 use Rattle.iol_kernel.proofs.Once.{same_end-itself, ends-with_domain, ends-placed, ends-freed, once_fewer, once_freed, both_once, all_ends_closed}
 use Rattle.iol_kernel.proofs.Ends.{ends_placed, lowest_closed, new_reading, new_writing}
 use Rattle.iol_kernel.proofs.Effects.{fds-sound, fds-changed}
@@ -50,11 +50,11 @@ piped m d xs n = record (fds.with_fds m d (with_ends xs n)) { pipes = placed m.p
 piped-read : (f : Reading) (h : KernelState) (ds : List (Domain (List Slice))) (qs : List (Option (Pipe (List Slice)))) (d : ℕ) → ds ≡ with_fds_in h.domains d (with_ends (domain_in h.domains d).fds (lowest h.pipes)) → qs ≡ placed h.pipes (lowest h.pipes) empty → read_of f (record h { domains = ds; pipes = qs }) ≡ (fds.pipe (read_of f h) d).after
 unfolding read_of machine.with_domain
 piped-read f h ds qs d domains' pipes' =
-    ap (λ (ys : List (Option (Pipe (List Slice)))). state_view (read f) ds h.store.pools ys) pipes'
-    ∙ add_pipe-view (read f) ds h.store.pools h.pipes (lowest h.pipes) empty
+    ap (λ (ys : List (Option (Pipe (List Slice)))). state_view (read f) ds h.store.pools (record (objects_of h) { pipes = ys })) pipes'
+    ∙ add_pipe-view (read f) ds h.store.pools (objects_of h) (lowest h.pipes) empty
     ∙ ap (λ (x : State). record x { pipes = placed x.pipes (lowest h.pipes) new_pipe }) (fds-changed f h ds d (with_ends (domain_in h.domains d).fds (lowest h.pipes)) domains')
     ∙ ap (λ (xs : List (Option Descriptor)). piped (read_of f h) d xs (lowest h.pipes)) (sym (fds-read_of f h d))
-    ∙ ap (λ n. piped (read_of f h) d (machine.domain (read_of f h) d).fds n) (sym (lowest-view (read f) h.domains h.store.pools h.pipes))
+    ∙ ap (λ n. piped (read_of f h) d (machine.domain (read_of f h) d).fds n) (sym (lowest-view (read f) h.domains h.store.pools (objects_of h)))
 
 lowest_few : {A : Type 0} (xs : List (Option A)) → lowest xs ≤ taken xs
 lowest_few [] = omega arith
@@ -76,8 +76,8 @@ once_piped h d sound live =
     record {
       each = λ e. (let total = ends-with_domain e h.domains d (record (domain_in h.domains d) { fds = with_ends xs n }) live in
           let once = both_once e n (all_ends_on e h.domains) (sound.once.each e)
-          (λ is. ap (λ (x : Descriptor). all_ends_on x h.domains) is ∙ all_ends_closed h.pipes (on.ReadEnd n) closed.0 h.domains sound.fds)
-          (λ is. ap (λ (x : Descriptor). all_ends_on x h.domains) is ∙ all_ends_closed h.pipes (on.WriteEnd n) closed.1 h.domains sound.fds) in
+          (λ is. ap (λ (x : Descriptor). all_ends_on x h.domains) is ∙ all_ends_closed (objects_of h) (on.ReadEnd n) closed.0 h.domains sound.fds)
+          (λ is. ap (λ (x : Descriptor). all_ends_on x h.domains) is ∙ all_ends_closed (objects_of h) (on.WriteEnd n) closed.1 h.domains sound.fds) in
           omega (arith, total, once, ends-placed e (on.ReadEnd n) xs, ends-placed e (on.WriteEnd n) (with_read_end xs n)));
     }
 
@@ -85,26 +85,27 @@ piped-sound : (h : KernelState) (ds : List (Domain (List Slice))) (qs : List (Op
 piped-sound h ds qs d sound live few domains' pipes' =
     let more : List (Option (Pipe (List Slice))) = placed h.pipes (lowest h.pipes) empty in
     let k : KernelState = record h { pipes = more } in
+    let o : Objects (List Slice) = objects_of k in
     let sound' : IsSound k = record {
       domains = sound.domains;
-      pipes = each-placed (IsPipeReadable h.store) h.pipes (lowest h.pipes) empty sound.pipes (readable_none h.store);
+      objects = record { pipes = each-placed (IsPipeReadable h.store) h.pipes (lowest h.pipes) empty sound.objects.pipes (readable_none h.store); conns = sound.objects.conns };
       once = sound.once;
       counted = record { each = λ b. omega (arith, sound.counted.each b, uses-placed b h.pipes empty, tally_none b) };
       tidy = sound.tidy;
       still = sound.still;
       settled = sound.settled;
-      few_pools = sound.few_pools;
+      pooled = sound.pooled;
+      sums = sound.sums;
       limits = record {
         aggs = sound.limits.aggs;
         few = sound.limits.few;
-        queues = each-placed IsShort h.pipes (lowest h.pipes) empty sound.limits.queues (omega arith);
-        few_pipes = length-placed h.pipes empty sound.limits.few_pipes few;
+        objects = with_pipes sound.limits.objects (each-placed IsShort h.pipes (lowest h.pipes) empty sound.limits.objects.queues (omega arith)) (length-placed h.pipes empty sound.limits.objects.few_pipes few);
       };
-      fds = each-weaker (λ (x : Domain (List Slice)). Each (IsOpenEnd h.pipes) x.fds) (λ (x : Domain (List Slice)). Each (IsOpenEnd more) x.fds) h.domains (λ x e. ends_placed h.pipes empty x.fds e) sound.fds;
+      fds = each-weaker (λ (x : Domain (List Slice)). Each (IsOpenEnd (objects_of h)) x.fds) (λ (x : Domain (List Slice)). Each (IsOpenEnd o) x.fds) h.domains (λ x e. ends_placed (objects_of h) empty x.fds e) sound.fds;
     } in
     let xs : List (Option Descriptor) = (domain_in h.domains d).fds in
-    let first : Each (IsOpenEnd more) (with_read_end xs (lowest h.pipes)) = each-placed (IsOpenEnd more) xs (lowest xs) (on.ReadEnd (lowest h.pipes)) (ends_open k d sound') (new_reading h.pipes empty) in
-    let second : Each (IsOpenEnd more) (with_ends xs (lowest h.pipes)) = each-placed (IsOpenEnd more) (with_read_end xs (lowest h.pipes)) (lowest (with_read_end xs (lowest h.pipes))) (on.WriteEnd (lowest h.pipes)) first (new_writing h.pipes empty) in
+    let first : Each (IsOpenEnd o) (with_read_end xs (lowest h.pipes)) = each-placed (IsOpenEnd o) xs (lowest xs) (on.ReadEnd (lowest h.pipes)) (ends_open k d sound') (new_reading h.pipes empty) in
+    let second : Each (IsOpenEnd o) (with_ends xs (lowest h.pipes)) = each-placed (IsOpenEnd o) (with_read_end xs (lowest h.pipes)) (lowest (with_read_end xs (lowest h.pipes))) (on.WriteEnd (lowest h.pipes)) first (new_writing h.pipes empty) in
     subst (λ (ys : List (Option (Pipe (List Slice)))). IsSound (record h { domains = ds; pipes = ys })) (sym pipes') (fds-sound k ds d (with_ends xs (lowest h.pipes)) sound' live domains' second (once_piped h d sound live))
 
 pub piped_answers : (h : KernelState) (ds : List (Domain (List Slice))) (qs : List (Option (Pipe (List Slice)))) (d : ℕ) (r : ℕ × ℕ) → IsSound h → (domain_in h.domains d).live ≡ true → taken h.pipes < MAX_PIPES → r ≡ ends_of (domain_in h.domains d).fds (lowest h.pipes) → ds ≡ with_fds_in h.domains d (with_ends (domain_in h.domains d).fds (lowest h.pipes)) → qs ≡ placed h.pipes (lowest h.pipes) empty → Answers (λ s. fds.pipe s d) h r (record h { domains = ds; pipes = qs })
@@ -113,6 +114,7 @@ piped_answers h ds qs d r sound live few numbers domains' pipes' = record {
   after = λ f keeps. piped-read f h ds qs d domains' pipes';
   arena = refl;
   pools = refl;
+  sums = refl;
   sound = piped-sound h ds qs d sound live few domains' pipes';
   stays = stays_here h.store;
 }
@@ -126,25 +128,25 @@ few_open_held f h d k few = subst (λ (xs : List (Option Descriptor)). taken xs 
 -- a descriptor is closed
 pub freed-sound : (h : KernelState) (ds : List (Domain (List Slice))) (d fd : ℕ) (x : Descriptor) → IsSound h → (domain_in h.domains d).live ≡ true → in_place (domain_in h.domains d).fds fd ≡ Some x → ds ≡ with_fds_in h.domains d (slice_set (domain_in h.domains d).fds fd None) → IsSound (record h { domains = ds })
 freed-sound h ds d fd x sound live there is =
-    fds-sound h ds d (slice_set (domain_in h.domains d).fds fd None) sound live is (each-set (IsOpenEnd h.pipes) (domain_in h.domains d).fds fd None (ends_open h d sound) tt) (once_freed h.domains d fd x live there sound.once)
+    fds-sound h ds d (slice_set (domain_in h.domains d).fds fd None) sound live is (each-set (IsOpenEnd (objects_of h)) (domain_in h.domains d).fds fd None (ends_open h d sound) tt) (once_freed h.domains d fd x live there sound.once)
 
 -- then no other is open on its end
-pub freed-alone : (h : KernelState) (ds : List (Domain (List Slice))) (d fd : ℕ) (x : Descriptor) → IsSound h → (domain_in h.domains d).live ≡ true → in_place (domain_in h.domains d).fds fd ≡ Some x → IsOpenEnd h.pipes (Some x) → ds ≡ with_fds_in h.domains d (slice_set (domain_in h.domains d).fds fd None) → all_ends_on x ds ≡ 0
+pub freed-alone : (h : KernelState) (ds : List (Domain (List Slice))) (d fd : ℕ) (x : Descriptor) → IsSound h → (domain_in h.domains d).live ≡ true → in_place (domain_in h.domains d).fds fd ≡ Some x → IsOpenEnd (objects_of h) (Some x) → ds ≡ with_fds_in h.domains d (slice_set (domain_in h.domains d).fds fd None) → all_ends_on x ds ≡ 0
 freed-alone h ds d fd x sound live there open' is = omega (
   arith,
   ap (all_ends_on x) is,
   sound.once.each x,
   ends-with_domain x h.domains d (record (domain_in h.domains d) { fds = slice_set (domain_in h.domains d).fds fd None }) live,
   ends-freed x x (domain_in h.domains d).fds fd there,
-  same_end-itself h.pipes x open',
+  same_end-itself (objects_of h) x open',
 )
 
 -- a descriptor moves
 
-pub end_held : (f : Reading) (h : KernelState) (d fd : ℕ) (x : Descriptor) → IsSound h → machine.descriptor (read_of f h) d fd ≡ Some x → IsOpenEnd h.pipes (Some x)
-end_held f h d fd x sound is = subst (IsOpenEnd h.pipes) (sym (descriptor-read_of f h d fd) ∙ is) (each-get (IsOpenEnd h.pipes) (domain_in h.domains d).fds fd None (ends_open h d sound) tt)
+pub end_held : (f : Reading) (h : KernelState) (d fd : ℕ) (x : Descriptor) → IsSound h → machine.descriptor (read_of f h) d fd ≡ Some x → IsOpenEnd (objects_of h) (Some x)
+end_held f h d fd x sound is = subst (IsOpenEnd (objects_of h)) (sym (descriptor-read_of f h d fd) ∙ is) (each-get (IsOpenEnd (objects_of h)) (domain_in h.domains d).fds fd None (ends_open h d sound) tt)
 
-pub any_end : (h : KernelState) (m : State) (to : ℕ) (x : Descriptor) → IsOpenEnd h.pipes (Some x) → fds.denied_by m to (fds.needed_pool m (Some x)) ≡ None
+pub any_end : (h : KernelState) (m : State) (to : ℕ) (x : Descriptor) → IsOpenEnd (objects_of h) (Some x) → fds.denied_by m to (fds.needed_pool m (Some x)) ≡ None
 any_end h m to (on.File f at mode) open' = absurd open'
 any_end h m to (on.ReadEnd p) open' = refl
 any_end h m to (on.WriteEnd p) open' = refl
@@ -171,20 +173,21 @@ within-read f h ds d fd to x same is =
     pick : fds.with_fds (read_of f h) d (placed (fds.freed (read_of f h) d fd) (lowest (fds.freed (read_of f h) d fd)) x) ≡ fds.given_to (read_of f h) d fd to x
     pick = grind (arith, nat_tests, same)
 
-within-sound : (h : KernelState) (ds : List (Domain (List Slice))) (d fd : ℕ) (x : Descriptor) → IsSound h → (domain_in h.domains d).live ≡ true → in_place (domain_in h.domains d).fds fd ≡ Some x → IsOpenEnd h.pipes (Some x) → ds ≡ with_fds_in h.domains d (placed (slice_set (domain_in h.domains d).fds fd None) (lowest (slice_set (domain_in h.domains d).fds fd None)) x) → IsSound (record h { domains = ds })
+within-sound : (h : KernelState) (ds : List (Domain (List Slice))) (d fd : ℕ) (x : Descriptor) → IsSound h → (domain_in h.domains d).live ≡ true → in_place (domain_in h.domains d).fds fd ≡ Some x → IsOpenEnd (objects_of h) (Some x) → ds ≡ with_fds_in h.domains d (placed (slice_set (domain_in h.domains d).fds fd None) (lowest (slice_set (domain_in h.domains d).fds fd None)) x) → IsSound (record h { domains = ds })
 within-sound h ds d fd x sound live there open' is =
     let xs : List (Option Descriptor) = slice_set (domain_in h.domains d).fds fd None in
     fds-sound h ds d (placed xs (lowest xs) x) sound live is
-    (each-placed (IsOpenEnd h.pipes) xs (lowest xs) x (each-set (IsOpenEnd h.pipes) (domain_in h.domains d).fds fd None (ends_open h d sound) tt) open')
+    (each-placed (IsOpenEnd (objects_of h)) xs (lowest xs) x (each-set (IsOpenEnd (objects_of h)) (domain_in h.domains d).fds fd None (ends_open h d sound) tt) open')
     (once_fewer h.domains d (record (domain_in h.domains d) { fds = placed xs (lowest xs) x }) live (λ e. omega (arith, ends-placed e x xs, ends-freed e x (domain_in h.domains d).fds fd there)) sound.once)
 
-pub moved_within : (h : KernelState) (ds : List (Domain (List Slice))) (d fd to n : ℕ) (x : Descriptor) → IsSound h → (domain_in h.domains d).live ≡ true → d ≡ to → in_place (domain_in h.domains d).fds fd ≡ Some x → IsOpenEnd h.pipes (Some x) → n ≡ lowest (slice_set (domain_in h.domains d).fds fd None)
+pub moved_within : (h : KernelState) (ds : List (Domain (List Slice))) (d fd to n : ℕ) (x : Descriptor) → IsSound h → (domain_in h.domains d).live ≡ true → d ≡ to → in_place (domain_in h.domains d).fds fd ≡ Some x → IsOpenEnd (objects_of h) (Some x) → n ≡ lowest (slice_set (domain_in h.domains d).fds fd None)
     → ds ≡ with_fds_in h.domains d (placed (slice_set (domain_in h.domains d).fds fd None) (lowest (slice_set (domain_in h.domains d).fds fd None)) x) → Answers (λ s. fds.give_fd s d fd to) h n (record h { domains = ds })
 moved_within h ds d fd to n x sound live same there open' number is = record {
   answer = λ f keeps. within-number f h d fd to n same number;
   after = λ f keeps. within-read f h ds d fd to x same is ∙ sym (gift f h d fd to x there);
   arena = refl;
   pools = refl;
+  sums = refl;
   sound = within-sound h ds d fd x sound live there open' is;
   stays = stays_here h.store;
 }
@@ -228,7 +231,7 @@ across-turned ds ms d fd to x differ is =
     ∙ with_domain_in-comm ds to d got less (λ e. differ (sym e))
     ∙ ap (λ (y : Domain (List Slice)). with_domain_in (with_domain_in ds d less) to (opened y)) (sym (domain_in-with_other ds d to less differ))
 
-across-sound : (h : KernelState) (ms ds : List (Domain (List Slice))) (d fd to : ℕ) (x : Descriptor) → IsSound h → d ≢ to → (domain_in h.domains to).live ≡ true → (domain_in h.domains d).live ≡ true → in_place (domain_in h.domains d).fds fd ≡ Some x → IsOpenEnd h.pipes (Some x) → ms ≡ opened_in h.domains to x → ds ≡ with_fds_in ms d (slice_set (domain_in ms d).fds fd None) → IsSound (record h { domains = ds })
+across-sound : (h : KernelState) (ms ds : List (Domain (List Slice))) (d fd to : ℕ) (x : Descriptor) → IsSound h → d ≢ to → (domain_in h.domains to).live ≡ true → (domain_in h.domains d).live ≡ true → in_place (domain_in h.domains d).fds fd ≡ Some x → IsOpenEnd (objects_of h) (Some x) → ms ≡ opened_in h.domains to x → ds ≡ with_fds_in ms d (slice_set (domain_in ms d).fds fd None) → IsSound (record h { domains = ds })
 across-sound h ms ds d fd to x sound differ to_live live there open' opened' closed' =
     let less : List (Domain (List Slice)) = with_fds_in h.domains d (slice_set (domain_in h.domains d).fds fd None) in
     let k : KernelState = record h { domains = less } in
@@ -247,15 +250,16 @@ across-sound h ms ds d fd to x sound differ to_live live there open' opened' clo
         ends-placed e x y.fds,
       );
     } in
-    fds-sound k ds to last mid live' (closed' ∙ across-turned h.domains ms d fd to x differ opened') (each-placed (IsOpenEnd h.pipes) y.fds (lowest y.fds) x (ends_open k to mid) open') once
+    fds-sound k ds to last mid live' (closed' ∙ across-turned h.domains ms d fd to x differ opened') (each-placed (IsOpenEnd (objects_of h)) y.fds (lowest y.fds) x (ends_open k to mid) open') once
 
-pub moved_across : (h : KernelState) (ms ds : List (Domain (List Slice))) (d fd to n : ℕ) (x : Descriptor) → IsSound h → d ≢ to → (domain_in h.domains to).live ≡ true → (domain_in h.domains d).live ≡ true → in_place (domain_in h.domains d).fds fd ≡ Some x → IsOpenEnd h.pipes (Some x) → n ≡ lowest (domain_in h.domains to).fds → ms ≡ opened_in h.domains to x
+pub moved_across : (h : KernelState) (ms ds : List (Domain (List Slice))) (d fd to n : ℕ) (x : Descriptor) → IsSound h → d ≢ to → (domain_in h.domains to).live ≡ true → (domain_in h.domains d).live ≡ true → in_place (domain_in h.domains d).fds fd ≡ Some x → IsOpenEnd (objects_of h) (Some x) → n ≡ lowest (domain_in h.domains to).fds → ms ≡ opened_in h.domains to x
     → ds ≡ with_fds_in ms d (slice_set (domain_in ms d).fds fd None) → Answers (λ s. fds.give_fd s d fd to) h n (record h { domains = ds })
 moved_across h ms ds d fd to n x sound differ to_live live there open' number opened' closed' = record {
   answer = λ f keeps. across-number f h d fd to n differ number;
   after = λ f keeps. across-read f h ms ds d fd to x differ opened' closed' ∙ sym (gift f h d fd to x there);
   arena = refl;
   pools = refl;
+  sums = refl;
   sound = across-sound h ms ds d fd to x sound differ to_live live there open' opened' closed';
   stays = stays_here h.store;
 }

@@ -23,13 +23,14 @@ use Rattle.iol_hold.proofs.Reading.{readable_none, readable_rest}
 use Rattle.iol_pipe.specs.Queue.{may_see}
 use Rattle.iol_pipe.proofs.Texts.{readable_pushed, readable_given}
 use Rattle.iol_desc.specs.Tables.{agg_in, domain_in, with_agg_in, live_aggs_in}
-use Rattle.iol_kernel.specs.Views.{Pipe}
+use Rattle.iol_kernel.specs.Views.{Pipe, Objects}
 use Rattle.iol_kernel.specs.Counted.{IsCounted}
-use Rattle.iol_kernel.specs.KernelState.{KernelState, Each, IsOpenEnd, IsPipeReadable, IsDomainReadable, IsShort, IsLimited, IsSound, queue_at, Reading, read_of}
+use Rattle.iol_kernel.specs.KernelState.{KernelState, objects_of, Each, IsOpenEnd, IsPipeReadable, AreReadable, IsDomainReadable, IsShort, IsLimited, IsSound, queue_at, Reading, read_of}
 use Rattle.iol_kernel.proofs.Uses.{uses-set_pipe, uses-with_agg}
 use Rattle.iol_kernel.proofs.Once.{once_same}
-use Rattle.iol_kernel.proofs.Sound.{each-get, each-set, each-weaker, agg_readable, add_readable, fds_stay, limits_agg}
+use Rattle.iol_kernel.proofs.Sound.{with_pipes, each-get, each-set, each-weaker, agg_readable, add_readable, fds_stay, limits_agg}
 use Rattle.iol_kernel.proofs.Ends.{ends_queued, there_if_open}
+use Rattle.iol_kernel.proofs.Pooling.{pools_pooled}
 use Rattle.iol_kernel.proofs.Effects.{moved-sound}
 use Rattle.iol_kernel.proofs.Opening.{end_held}
 use Rattle.iol_core.specs.declared.limits.TheConstants.{MAX_AGGREGATES, MAX_QUEUE_BYTES}
@@ -40,23 +41,24 @@ use Rattle.iol_kernel.specs.Calls.{Answers}
 use Rattle.iol_kernel.specs.Queues.{with_queue_of}
 
 pub queue_readable : (h : KernelState) (p : ℕ) → IsSound h → AllReadable h.store (queue_at h.pipes p).queue
-queue_readable h p sound = pick (in_place h.pipes p) (each-get (IsPipeReadable h.store) h.pipes p None sound.pipes tt)
+queue_readable h p sound = pick (in_place h.pipes p) (each-get (IsPipeReadable h.store) h.pipes p None sound.objects.pipes tt)
   where
     pick : (o : Option (Pipe (List Slice))) → IsPipeReadable h.store o → AllReadable h.store (unwrap_or o (record { queue = []; reading = false; writing = false })).queue
     pick None r = readable_none h.store
     pick (Some x) r = r
 
 -- within the limits
-queue_limits : (h : KernelState) (p : ℕ) (q : List Slice) → IsSound h → byte_len q ≤ 65536 → IsLimited h.domains (slice_set h.pipes p (Some (record (queue_at h.pipes p) { queue = q })))
-queue_limits h p q sound short = record {
-  aggs = sound.limits.aggs;
-  few = sound.limits.few;
-  queues = each-set IsShort h.pipes p (Some (record (queue_at h.pipes p) { queue = q })) sound.limits.queues short;
-  few_pipes = omega (arith, sound.limits.few_pipes, length-set h.pipes p (Some (record (queue_at h.pipes p) { queue = q })));
-}
+queue_limits : (h : KernelState) (p : ℕ) (q : List Slice) → IsSound h → byte_len q ≤ 65536 → IsLimited h.domains (record (objects_of h) { pipes = slice_set h.pipes p (Some (record (queue_at h.pipes p) { queue = q })) })
+queue_limits h p q sound short =
+    let limits = sound.limits.objects in
+    record {
+      aggs = sound.limits.aggs;
+      few = sound.limits.few;
+      objects = with_pipes limits (each-set IsShort h.pipes p (Some (record (queue_at h.pipes p) { queue = q })) limits.queues short) (omega (arith, limits.few_pipes, length-set h.pipes p (Some (record (queue_at h.pipes p) { queue = q }))));
+    }
 
 pub queue_short : (h : KernelState) (p : ℕ) → IsSound h → byte_len (queue_at h.pipes p).queue ≤ 65536
-queue_short h p sound = pick (in_place h.pipes p) (each-get IsShort h.pipes p None sound.limits.queues tt)
+queue_short h p sound = pick (in_place h.pipes p) (each-get IsShort h.pipes p None sound.limits.objects.queues tt)
   where
     pick : (o : Option (Pipe (List Slice))) → IsShort o → byte_len (unwrap_or o (record { queue = []; reading = false; writing = false })).queue ≤ 65536
     pick None r = omega arith
@@ -73,20 +75,20 @@ module _ (h : KernelState) (t : Stored) (qs : List (Option (Pipe (List Slice))))
   there : p < length h.pipes
   there = there_if_open h.pipes p (inr writing)
 
-  more_counted : IsCounted t h.domains more
+  more_counted : IsCounted t h.domains (record (objects_of h) { pipes = more })
   more_counted = record { each = λ b. omega (arith, sound.counted.each b, shares.counts.each b, uses-set_pipe b h.pipes p (record (queue_at h.pipes p) { queue = (queue_at qs p).queue }) there) }
 
   queue_good : AllReadable h.store (queue_at qs p).queue
   queue_good = readable_pushed (queue_at qs p).queue (queue_at h.pipes p).queue from n places' (queue_readable h p sound) (agg_readable h d a from sound found)
 
-  more_good : Each (IsPipeReadable h.store) more
-  more_good = each-set (IsPipeReadable h.store) h.pipes p (Some (record (queue_at h.pipes p) { queue = (queue_at qs p).queue })) sound.pipes queue_good
+  more_good : AreReadable h.store (record (objects_of h) { pipes = more })
+  more_good = record { pipes = each-set (IsPipeReadable h.store) h.pipes p (Some (record (queue_at h.pipes p) { queue = (queue_at qs p).queue })) sound.objects.pipes queue_good; conns = sound.objects.conns }
 
   pub pushed-sound : IsSound (record h { store = t; pipes = qs })
   pushed-sound = subst (λ (ys : List (Option (Pipe (List Slice)))). IsSound (record h { store = t; pipes = ys })) (sym pipes')
-      (moved-sound h.store t h.domains more (shares_move shares).stays more_counted (shares.tidy sound.tidy) ((shares_move shares).still sound.still) (all_settled_same h.store t shares.arena shares.pools sound.settled) sound.domains more_good
-      (each-weaker (λ (x : Domain (List Slice)). Each (IsOpenEnd h.pipes) x.fds) (λ (x : Domain (List Slice)). Each (IsOpenEnd more) x.fds) h.domains (λ x e. ends_queued h.pipes p (queue_at qs p).queue there x.fds e) sound.fds) sound.once
-      (queue_limits h p (queue_at qs p).queue sound short) (omega (arith, sound.few_pools, ap length shares.pools)))
+      (moved-sound h.store (record h { store = t; pipes = more }) (shares_move shares).stays more_counted (shares.tidy sound.tidy) ((shares_move shares).still sound.still) (all_settled_same h.store t shares.arena shares.pools sound.settled) sound.domains more_good
+      (each-weaker (λ (x : Domain (List Slice)). Each (IsOpenEnd (objects_of h)) x.fds) (λ (x : Domain (List Slice)). Each (IsOpenEnd (record (objects_of h) { pipes = more })) x.fds) h.domains (λ x e. ends_queued (objects_of h) p (queue_at qs p).queue there x.fds e) sound.fds) sound.once
+      (queue_limits h p (queue_at qs p).queue sound short) (pools_pooled h.store t h.conns shares.pools sound.pooled) sound.sums)
 
 pub writing_held : (f : Reading) (h : KernelState) (d fd p : ℕ) → IsSound h → machine.descriptor (read_of f h) d fd ≡ Some (on.WriteEnd p) → (queue_at h.pipes p).writing ≡ true
 writing_held f h d fd p sound is = end_held f h d fd (on.WriteEnd p) sound is
@@ -110,15 +112,18 @@ module _ (h : KernelState) (t : Stored) (ds : List (Domain (List Slice))) (qs : 
   slices_good : AllReadable h.store takes.slices
   slices_good = readable_given takes.slices (queue_at h.pipes p).queue h.store.pools d n takes.given (queue_readable h p sound)
 
-  less_good : Each (IsPipeReadable h.store) less
-  less_good = each-set (IsPipeReadable h.store) h.pipes p (Some (record (queue_at h.pipes p) { queue = (queue_at qs p).queue })) sound.pipes
-      (readable_rest (queue_at qs p).queue (queue_at h.pipes p).queue (byte_len takes.slices) takes.left (queue_readable h p sound))
+  less_good : AreReadable h.store (record (objects_of h) { pipes = less })
+  less_good = record {
+    pipes = each-set (IsPipeReadable h.store) h.pipes p (Some (record (queue_at h.pipes p) { queue = (queue_at qs p).queue })) sound.objects.pipes
+        (readable_rest (queue_at qs p).queue (queue_at h.pipes p).queue (byte_len takes.slices) takes.left (queue_readable h p sound));
+    conns = sound.objects.conns;
+  }
 
   given_good : Each (IsDomainReadable h.store) given
   given_good = add_readable h.store h.domains d takes.slices sound.domains slices_good
 
   module _ (live : (domain_in h.domains d).live ≡ true) (few : live_aggs_in h.domains < MAX_AGGREGATES) where
-    pub taken_counted : IsCounted t given less
+    pub taken_counted : IsCounted t given (record (objects_of h) { pipes = less })
     taken_counted = record {
       each = λ b. omega (
         arith,
@@ -142,21 +147,21 @@ module _ (h : KernelState) (t : Stored) (ds : List (Domain (List Slice))) (qs : 
         let x : Domain (List Slice) = domain_in h.domains d in
         subst (λ (ys : List (Option (Pipe (List Slice)))). IsSound (record h { store = t; domains = ds; pipes = ys })) (sym pipes')
         (subst (λ (ys : List (Domain (List Slice))). IsSound (record h { store = t; domains = ys; pipes = less })) (sym takes.added)
-        (moved-sound h.store t given less (shares_move takes.shares).stays taken_counted (takes.shares.tidy sound.tidy) ((shares_move takes.shares).still sound.still) (all_settled_same h.store t takes.shares.arena takes.shares.pools sound.settled) given_good less_good
-        (fds_stay less h.domains d (record x { aggs = x.aggs ++ (x.next_agg, takes.slices) ∷ []; next_agg = x.next_agg + 1 })
-        (each-weaker (λ (x : Domain (List Slice)). Each (IsOpenEnd h.pipes) x.fds) (λ (x : Domain (List Slice)). Each (IsOpenEnd less) x.fds) h.domains (λ x e. ends_queued h.pipes p (queue_at qs p).queue there' x.fds e) sound.fds) refl)
+        (moved-sound h.store (record h { store = t; domains = given; pipes = less }) (shares_move takes.shares).stays taken_counted (takes.shares.tidy sound.tidy) ((shares_move takes.shares).still sound.still) (all_settled_same h.store t takes.shares.arena takes.shares.pools sound.settled) given_good less_good
+        (fds_stay (record (objects_of h) { pipes = less }) h.domains d (record x { aggs = x.aggs ++ (x.next_agg, takes.slices) ∷ []; next_agg = x.next_agg + 1 })
+        (each-weaker (λ (x : Domain (List Slice)). Each (IsOpenEnd (objects_of h)) x.fds) (λ (x : Domain (List Slice)). Each (IsOpenEnd (record (objects_of h) { pipes = less })) x.fds) h.domains (λ x e. ends_queued (objects_of h) p (queue_at qs p).queue there' x.fds e) sound.fds) refl)
         (once_same h.domains d (record x { aggs = x.aggs ++ (x.next_agg, takes.slices) ∷ []; next_agg = x.next_agg + 1 }) live refl sound.once)
-        (limits_agg h.domains less d takes.slices (queue_limits h p (queue_at qs p).queue sound parts_short.1) live (omega (arith, parts_short.0)) few) (omega (arith, sound.few_pools, ap length takes.shares.pools))))
+        (limits_agg h.domains (record (objects_of h) { pipes = less }) d takes.slices (queue_limits h p (queue_at qs p).queue sound parts_short.1) live (omega (arith, parts_short.0)) few) (pools_pooled h.store t h.conns takes.shares.pools sound.pooled) sound.sums))
 
 -- An open descriptor that is not a pipe's end for writing, or for reading, is not open for it.
 
-pub not_writable : (qs : List (Option (Pipe (List Slice)))) (x : Descriptor) → IsOpenEnd qs (Some x) → ((p : ℕ) → x ≡ on.WriteEnd p → ⊥) → writing.can_write (Some x) ≡ false
+pub not_writable : (qs : Objects (List Slice)) (x : Descriptor) → IsOpenEnd qs (Some x) → ((p : ℕ) → x ≡ on.WriteEnd p → ⊥) → writing.can_write (Some x) ≡ false
 not_writable qs (on.ReadEnd p) open' other = refl
 not_writable qs (on.WriteEnd p) open' other = absurd (other p refl)
 not_writable qs (on.File f at mode) open' other = absurd open'
 not_writable qs (on.Connection c) open' other = absurd open'
 
-pub not_readable : (qs : List (Option (Pipe (List Slice)))) (x : Descriptor) → IsOpenEnd qs (Some x) → ((p : ℕ) → x ≡ on.ReadEnd p → ⊥) → reading.can_read (Some x) ≡ false
+pub not_readable : (qs : Objects (List Slice)) (x : Descriptor) → IsOpenEnd qs (Some x) → ((p : ℕ) → x ≡ on.ReadEnd p → ⊥) → reading.can_read (Some x) ≡ false
 not_readable qs (on.ReadEnd p) open' other = absurd (other p refl)
 not_readable qs (on.WriteEnd p) open' other = refl
 not_readable qs (on.File f at mode) open' other = absurd open'
@@ -174,6 +179,7 @@ taken_answers h t ds qs fd p d n a sound from takes pipes' live few number =
       after = λ f keeps. taken-read h t ds qs p d n reading' takes pipes' f keeps ∙ ap (λ (o : Option Descriptor). aggs.with_agg (reading.read_on (read_of f h) d fd o (length (reading.read_text (read_of f h) d o n))) d (reading.read_text (read_of f h) d o n)) (sym (from f));
       arena = takes.shares.arena;
       pools = takes.shares.pools;
+      sums = refl;
       sound = taken-sound h t ds qs p d n sound reading' takes pipes' live few;
       stays = (shares_move takes.shares).stays;
     }
@@ -190,6 +196,7 @@ pushed_answers h t qs fd p n d a from sound to found short is places' pipes' sha
           ∙ ap (λ (o : Option Descriptor). writing.written (read_of f h) d fd o (take (writing.fitting (read_of f h) o (length (machine.text (read_of f h) d a))) (machine.text (read_of f h) d a))) (sym (to f));
       arena = shares.arena;
       pools = shares.pools;
+      sums = refl;
       sound = pushed-sound h t qs p n d a from sound writing' found short places' pipes' shares;
       stays = (shares_move shares).stays;
     }

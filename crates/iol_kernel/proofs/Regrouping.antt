@@ -23,10 +23,11 @@ use Rattle.iol_hold.proofs.Moving.{shares_move, shares_none}
 use Rattle.iol_hold.proofs.Reading.{readable_taken, readable_rest, readable_joined}
 use Rattle.iol_hold.proofs.Slicing.{byte_len-append}
 use Rattle.iol_desc.specs.Tables.{domain_in, with_domain_in, agg_in, live_aggs_in}
-use Rattle.iol_kernel.specs.Views.{Pipe, domain_view, state_view}
+use Rattle.iol_kernel.specs.Views.{Objects, domain_view, state_view}
 use Rattle.iol_kernel.specs.Counted.{uses, domain_uses}
-use Rattle.iol_kernel.specs.KernelState.{KernelState, Each, IsDomainReadable, IsSound, slices_in, Reading, read_of}
+use Rattle.iol_kernel.specs.KernelState.{KernelState, objects_of, Each, IsDomainReadable, IsSound, slices_in, Reading, read_of}
 use Rattle.iol_kernel.specs.Regrouped.{with_two, with_one, joined_in, SplitsAgg}
+use Rattle.iol_kernel.proofs.Pooling.{pools_pooled}
 use Rattle.iol_kernel.proofs.Effects.{moved-sound}
 use Rattle.iol_kernel.proofs.Views.{domain-view, with_domain-view, without-map}
 use Rattle.iol_kernel.proofs.Once.{once_same}
@@ -44,21 +45,20 @@ regrouped-sound : (h : KernelState) (t : Stored) (d : ℕ) (x : Domain (List Sli
     → Each (λ (e : ℕ × List Slice). byte_len e.1 ≤ MAX_AGGREGATE_BYTES) x.aggs → length x.aggs + live_aggs_in h.domains ≤ 65536 + length (domain_in h.domains d).aggs
     → IsSound (record h { store = t; domains = with_domain_in h.domains d x })
 regrouped-sound h t d x given taken sound live same shares readable counts small few =
-    moved-sound h.store t (with_domain_in h.domains d x) h.pipes (shares_move shares).stays
+    moved-sound h.store (record h { store = t; domains = with_domain_in h.domains d x }) (shares_move shares).stays
     (record { each = λ b. (let s = sum-with_domain (domain_uses b) h.domains d x live in omega (arith, sound.counted.each b, shares.counts.each b, counts b, s)) })
     (shares.tidy sound.tidy) ((shares_move shares).still sound.still) (all_settled_same h.store t shares.arena shares.pools sound.settled)
-    (each-with_domain_in (IsDomainReadable h.store) h.domains d x sound.domains readable) sound.pipes (fds_stay h.pipes h.domains d x sound.fds same) (once_same h.domains d x live same sound.once)
+    (each-with_domain_in (IsDomainReadable h.store) h.domains d x sound.domains readable) sound.objects (fds_stay (objects_of h) h.domains d x sound.fds same) (once_same h.domains d x live same sound.once)
     (record {
       aggs = each-with_domain_in (λ (y : Domain (List Slice)). Each (λ e. byte_len e.1 ≤ MAX_AGGREGATE_BYTES) y.aggs) h.domains d x sound.limits.aggs small;
       few = (let s = sum-with_domain (λ (y : Domain (List Slice)). length y.aggs) h.domains d x live in omega (arith, few, s));
-      queues = sound.limits.queues;
-      few_pipes = sound.limits.few_pipes;
+      objects = sound.limits.objects;
     })
-    (omega (arith, sound.few_pools, ap length shares.pools))
+    (pools_pooled h.store t h.conns shares.pools sound.pooled) sound.sums
 
 -- An aggregate is split.
 
-split-view : (f : Reading) (ds : List (Domain (List Slice))) (ps : List Pool) (qs : List (Option (Pipe (List Slice)))) (d a at : ℕ) (first second : List Slice) → places first ≡ take at (places (slices_in ds d a)) → places second ≡ drop at (places (slices_in ds d a))
+split-view : (f : Reading) (ds : List (Domain (List Slice))) (ps : List Pool) (qs : Objects (List Slice)) (d a at : ℕ) (first second : List Slice) → places first ≡ take at (places (slices_in ds d a)) → places second ≡ drop at (places (slices_in ds d a))
     → state_view (read f) (with_domain_in ds d (with_two (domain_in ds d) a first second)) ps qs ≡ (aggs.agg_split (state_view (read f) ds ps qs) d a at).after
 split-view f ds ps qs d a at first second before after =
     let s : State = state_view (read f) ds ps qs in
@@ -79,9 +79,9 @@ module _ (h : KernelState) (t : Stored) (ds : List (Domain (List Slice))) (d a a
   split-each : (f : Reading) → read_of f (record h { store = t; domains = ds }) ≡ (aggs.agg_split (read_of f h) d a at).after
   unfolding read_of
   split-each f =
-      ap (λ (ps : List Pool). state_view (read f) ds ps h.pipes) splits.shares.pools
-      ∙ ap (λ (ys : List (Domain (List Slice))). state_view (read f) ys h.store.pools h.pipes) splits.split
-      ∙ split-view f h.domains h.store.pools h.pipes d a at splits.first splits.second splits.before splits.after
+      ap (λ (ps : List Pool). state_view (read f) ds ps (objects_of h)) splits.shares.pools
+      ∙ ap (λ (ys : List (Domain (List Slice))). state_view (read f) ys h.store.pools (objects_of h)) splits.split
+      ∙ split-view f h.domains h.store.pools (objects_of h) d a at splits.first splits.second splits.before splits.after
 
   split-sound : IsSound h → (domain_in h.domains d).live ≡ true → agg_in h.domains d a ≢ None → live_aggs_in h.domains < MAX_AGGREGATES → IsSound (record h { store = t; domains = ds })
   split-sound sound live there few =
@@ -113,13 +113,14 @@ module _ (h : KernelState) (t : Stored) (ds : List (Domain (List Slice))) (d a a
     after = λ f keeps. split-each f;
     arena = splits.shares.arena;
     pools = splits.shares.pools;
+    sums = refl;
     sound = split-sound sound live there few;
     stays = (shares_move splits.shares).stays;
   }
 
 -- Two aggregates are joined; the store stays as it was.
 
-join-view : (f : Reading) (ds : List (Domain (List Slice))) (ps : List Pool) (qs : List (Option (Pipe (List Slice)))) (d a b : ℕ) → state_view (read f) (joined_in ds d a b) ps qs ≡ (aggs.agg_join (state_view (read f) ds ps qs) d a b).after
+join-view : (f : Reading) (ds : List (Domain (List Slice))) (ps : List Pool) (qs : Objects (List Slice)) (d a b : ℕ) → state_view (read f) (joined_in ds d a b) ps qs ≡ (aggs.agg_join (state_view (read f) ds ps qs) d a b).after
 join-view f ds ps qs d a b =
     let s : State = state_view (read f) ds ps qs in
     let x : Domain (List Slice) = domain_in ds d in
@@ -140,7 +141,7 @@ join-view f ds ps qs d a b =
 module _ (h : KernelState) (ds : List (Domain (List Slice))) (d a b : ℕ) (joined : ds ≡ joined_in h.domains d a b) where
   join-each : (f : Reading) → read_of f (record h { domains = ds }) ≡ (aggs.agg_join (read_of f h) d a b).after
   unfolding read_of
-  join-each f = ap (λ (ys : List (Domain (List Slice))). state_view (read f) ys h.store.pools h.pipes) joined ∙ join-view f h.domains h.store.pools h.pipes d a b
+  join-each f = ap (λ (ys : List (Domain (List Slice))). state_view (read f) ys h.store.pools (objects_of h)) joined ∙ join-view f h.domains h.store.pools (objects_of h) d a b
 
   join-sound : IsSound h → (domain_in h.domains d).live ≡ true → agg_in h.domains d a ≢ None → agg_in h.domains d b ≢ None → a ≢ b → byte_len (slices_in h.domains d a) + byte_len (slices_in h.domains d b) ≤ MAX_AGGREGATE_BYTES → IsSound (record h { domains = ds })
   join-sound sound live first second differ short =
@@ -170,6 +171,7 @@ module _ (h : KernelState) (ds : List (Domain (List Slice))) (d a b : ℕ) (join
     after = λ f keeps. join-each f;
     arena = refl;
     pools = refl;
+    sums = refl;
     sound = join-sound sound live first second differ short;
     stays = stays_here h.store;
   }

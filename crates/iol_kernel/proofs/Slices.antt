@@ -12,7 +12,7 @@ use Rattle.iol_hold.specs.declared.slices.Slice.{Slice}
 use Rattle.iol_hold.proofs.Counting.{tally-append, tally_none}
 use Rattle.iol_hold.proofs.Reading.{readable_none}
 use Rattle.iol_desc.specs.Tables.{domain_in, agg_in}
-use Rattle.iol_kernel.specs.KernelState.{KernelState, IsSound, slices_in, Reading, read_of}
+use Rattle.iol_kernel.specs.KernelState.{KernelState, objects_of, IsSound, slices_in, Reading, read_of}
 use Rattle.iol_kernel.proofs.Views.{aggregate-view}
 use Rattle.iol_kernel.proofs.Sound.{agg_readable, agg_small}
 use Rattle.iol_kernel.proofs.Uses.{agg_covered, all_few, uses_few, countable}
@@ -35,11 +35,11 @@ found_slices ds d a there = of (agg_in ds d a) there
 
 pub none_held : (f : Reading) (h : KernelState) (d a : ℕ) → None ≡ agg_in h.domains d a → aggs.lacks_agg (read_of f h) d a ≡ true
 unfolding read_of
-none_held f h d a none = ap (λ (o : Option Text). is_none o) (aggregate-view (read f) h.domains h.store.pools h.pipes d a ∙ ap (option_map (read f)) (sym none))
+none_held f h d a none = ap (λ (o : Option Text). is_none o) (aggregate-view (read f) h.domains h.store.pools (objects_of h) d a ∙ ap (option_map (read f)) (sym none))
 
 pub some_held : (f : Reading) (h : KernelState) (d a : ℕ) (xs : List Slice) → Some xs ≡ agg_in h.domains d a → aggs.lacks_agg (read_of f h) d a ≡ false
 unfolding read_of
-some_held f h d a xs found = ap (λ (o : Option Text). is_none o) (aggregate-view (read f) h.domains h.store.pools h.pipes d a ∙ ap (option_map (read f)) (sym found))
+some_held f h d a xs found = ap (λ (o : Option Text). is_none o) (aggregate-view (read f) h.domains h.store.pools (objects_of h) d a ∙ ap (option_map (read f)) (sym found))
 
 pub there_held : (f : Reading) (h : KernelState) (d a : ℕ) → aggs.lacks_agg (read_of f h) d a ≡ false → agg_in h.domains d a ≢ None
 there_held f h d a there = λ none. (let lacks = none_held f h d a (sym none) in cc (lacks, there))
@@ -77,14 +77,14 @@ slices_small h d a sound = found (agg_in h.domains d a) (λ xs is. agg_small h d
     found (Some xs) r = r xs refl
 
 pub slices_covered : (h : KernelState) (d a : ℕ) → IsSound h → (domain_in h.domains d).live ≡ true → Covers h.store (bufs_of (slices_in h.domains d a))
-slices_covered h d a sound live = found (agg_in h.domains d a) (λ xs is. agg_covered h.store h.domains h.pipes d a xs sound.counted live is)
+slices_covered h d a sound live = found (agg_in h.domains d a) (λ xs is. agg_covered h.store h.domains (objects_of h) d a xs sound.counted live is)
   where
     found : (o : Option (List Slice)) → ((xs : List Slice) → Some xs ≡ o → Covers h.store (bufs_of xs)) → Covers h.store (bufs_of (unwrap_or o []))
     found None r = record { each = λ b. omega (arith, tally_none b) }
     found (Some xs) r = r xs refl
 
 pub slices_countable : (h : KernelState) (d a : ℕ) → IsSound h → IsCountable h.store (bufs_of (slices_in h.domains d a))
-slices_countable h d a sound = countable h.store h.domains h.pipes (slices_in h.domains d a) sound.counted sound.limits (slices_small h d a sound)
+slices_countable h d a sound = countable h.store h.domains (objects_of h) (slices_in h.domains d a) sound.counted sound.limits (slices_small h d a sound)
 
 -- of two aggregates, the first twice
 pub thrice_countable : (h : KernelState) (d a b : ℕ) → IsSound h → IsCountable h.store (bufs_of (slices_in h.domains d a) ++ bufs_of (slices_in h.domains d a) ++ bufs_of (slices_in h.domains d b))
@@ -94,7 +94,7 @@ thrice_countable h d a b sound =
     record {
       each = λ n. omega (
         arith,
-        all_few n h.domains h.pipes sound.limits,
+        all_few n h.domains (objects_of h) sound.limits,
         sound.counted.each n,
         uses_few n xs,
         uses_few n ys,

@@ -18,12 +18,13 @@ use Rattle.iol_hold.specs.Texts.{text_of, bufs_of, AllReadable}
 use Rattle.iol_hold.specs.declared.slices.Slice.{Slice}
 use Rattle.iol_hold.proofs.Reading.{readable_stays, text_stays}
 use Rattle.iol_desc.specs.Tables.{domain_in, with_domain_in, agg_in, with_agg_in, without_agg_in, live_aggs_in, with_fds_in}
-use Rattle.iol_kernel.specs.Views.{domain_view, Pipe, pipe_view, state_view}
-use Rattle.iol_kernel.specs.Counted.{uses, domain_uses, pipe_uses, all_uses, IsCounted}
+use Rattle.iol_sock.specs.Connections.{Conn, conn_view}
+use Rattle.iol_kernel.specs.Views.{domain_view, Pipe, Objects, pipe_view, state_view}
+use Rattle.iol_kernel.specs.Counted.{uses, domain_uses, pipe_uses, conn_uses, all_uses, IsCounted}
 use Rattle.iol_kernel.specs.Ends.{IsOpenOnce}
-use Rattle.iol_kernel.specs.KernelState.{KernelState, Each, IsDomainReadable, IsPipeReadable, IsOpenEnd, IsSound, IsLimited}
+use Rattle.iol_kernel.specs.KernelState.{KernelState, objects_of, Each, IsDomainReadable, IsPipeReadable, IsConnReadable, AreReadable, IsOpenEnd, IsSound, IsShort, AreLimited, IsLimited}
 use Rattle.iol_kernel.proofs.Uses.{uses-same, sum-with_domain, length-without}
-use Rattle.iol_core.specs.declared.limits.TheConstants.{MAX_AGGREGATES, MAX_AGGREGATE_BYTES}
+use Rattle.iol_core.specs.declared.limits.TheConstants.{MAX_AGGREGATES, MAX_AGGREGATE_BYTES, MAX_PIPES}
 
 pub each-push : {A : Type 0} (P : A → Type 0) (xs : List A) (x : A) → Each P xs → P x → Each P (xs ++ x ∷ [])
 each-push P [] x e p = (p, tt)
@@ -95,20 +96,36 @@ pipes_covered s (Some x ∷ qs) h = (
   pipes_covered s qs (λ b. (let c = sum_by-cons (pipe_uses b) (Some x) qs in omega (arith, c, h b))),
 )
 
+abbrev IsConnCovered : Stored → ℕ × Conn (List Slice) → Type 0
+IsConnCovered s e = Covers s (bufs_of e.1.incoming) × Covers s (bufs_of e.1.outgoing)
+
+conns_covered : (s : Stored) (cs : List (ℕ × Conn (List Slice))) → ((b : BufId) → sum_by (conn_uses b) cs ≤ count_of s b) → Each (IsConnCovered s) cs
+conns_covered s [] h = tt
+conns_covered s (x ∷ cs) h = (
+  (
+    record { each = λ b. (let c = sum_by-cons (conn_uses b) x cs in omega (arith, c, h b)) },
+    record { each = λ b. (let c = sum_by-cons (conn_uses b) x cs in omega (arith, c, h b)) },
+  ),
+  conns_covered s cs (λ b. (let c = sum_by-cons (conn_uses b) x cs in omega (arith, c, h b))),
+)
+
 -- The store goes on, and all these are still held.
 
-pub record AreHeld (s : Stored) (ds : List (Domain (List Slice))) (qs : List (Option (Pipe (List Slice)))) : Type 0 where
+pub record AreHeld (s : Stored) (ds : List (Domain (List Slice))) (qs : Objects (List Slice)) : Type 0 where
   pub each : (b : BufId) → all_uses ds qs b ≤ count_of s b
 
-pub counted_held : {s : Stored} {ds : List (Domain (List Slice))} {qs : List (Option (Pipe (List Slice)))} → IsCounted s ds qs → AreHeld s ds qs
+pub counted_held : {s : Stored} {ds : List (Domain (List Slice))} {qs : Objects (List Slice)} → IsCounted s ds qs → AreHeld s ds qs
 counted_held c = record { each = λ b. omega (arith, c.each b) }
 
-module _ (old new : Stored) (m : Stays old new) (ds : List (Domain (List Slice))) (qs : List (Option (Pipe (List Slice)))) (held : AreHeld new ds qs) where
+module _ (old new : Stored) (m : Stays old new) (ds : List (Domain (List Slice))) (qs : Objects (List Slice)) (held : AreHeld new ds qs) where
   domains_held : Each (IsDomainCovered new) ds
   domains_held = domains_covered new ds (λ b. omega (arith, held.each b))
 
-  pipes_held : Each (IsPipeCovered new) qs
-  pipes_held = pipes_covered new qs (λ b. omega (arith, held.each b))
+  pipes_held : Each (IsPipeCovered new) qs.pipes
+  pipes_held = pipes_covered new qs.pipes (λ b. omega (arith, held.each b))
+
+  conns_held : Each (IsConnCovered new) qs.conns
+  conns_held = conns_covered new qs.conns (λ b. omega (arith, held.each b))
 
   domain_stays : (d : Domain (List Slice)) → IsDomainReadable old d → IsDomainCovered new d → IsDomainReadable new d
   domain_stays d e k = each-both (λ (e : ℕ × List Slice). AllReadable old e.1) (IsAggCovered new) (λ e. AllReadable new e.1) d.aggs (λ x r c. readable_stays x.1 m c r) e k
@@ -120,8 +137,14 @@ module _ (old new : Stored) (m : Stays old new) (ds : List (Domain (List Slice))
   pipe_stays None e k = tt
   pipe_stays (Some p) e k = readable_stays p.queue m k e
 
-  pub pipes_stay : Each (IsPipeReadable old) qs → Each (IsPipeReadable new) qs
-  pipes_stay e = each-both (IsPipeReadable old) (IsPipeCovered new) (IsPipeReadable new) qs pipe_stays e pipes_held
+  conn_stays : (x : ℕ × Conn (List Slice)) → IsConnReadable old x → IsConnCovered new x → IsConnReadable new x
+  conn_stays x e k = (readable_stays x.1.incoming m k.0 e.0, readable_stays x.1.outgoing m k.1 e.1)
+
+  pub objects_stay : AreReadable old qs → AreReadable new qs
+  objects_stay e = record {
+    pipes = each-both (IsPipeReadable old) (IsPipeCovered new) (IsPipeReadable new) qs.pipes pipe_stays e.pipes pipes_held;
+    conns = each-both (IsConnReadable old) (IsConnCovered new) (IsConnReadable new) qs.conns conn_stays e.conns conns_held;
+  }
 
   domain_same : (d : Domain (List Slice)) → IsDomainReadable old d → IsDomainCovered new d → domain_view (text_of new) d ≡ domain_view (text_of old) d
   domain_same d e k =
@@ -133,12 +156,23 @@ module _ (old new : Stored) (m : Stays old new) (ds : List (Domain (List Slice))
   pipe_same None e k = refl
   pipe_same (Some p) e k = ap (λ (t : Text). Some (record (pipe_view (text_of old) p) { queue = t })) (text_stays p.queue m k e)
 
+  abbrev seen_conn : Stored → ℕ × Conn (List Slice) → ℕ × machine.Connection
+  seen_conn s x = (x.0, conn_view (text_of s) x.1)
+
+  conn_same : (x : ℕ × Conn (List Slice)) → IsConnReadable old x → IsConnCovered new x → seen_conn new x ≡ seen_conn old x
+  conn_same x e k =
+      ap {B = ℕ × machine.Connection} (λ (t : Text). (x.0, record (conn_view (text_of new) x.1) { incoming = t })) (text_stays x.1.incoming m k.0 e.0)
+      ∙ ap {B = ℕ × machine.Connection} (λ (t : Text). (x.0, record (conn_view (text_of old) x.1) { outgoing = t })) (text_stays x.1.outgoing m k.1 e.1)
+
   -- so the machine has what it had
-  pub view-stays : (ps : List Pool) → Each (IsDomainReadable old) ds → Each (IsPipeReadable old) qs → state_view (text_of new) ds ps qs ≡ state_view (text_of old) ds ps qs
+  pub view-stays : (ps : List Pool) → Each (IsDomainReadable old) ds → AreReadable old qs → state_view (text_of new) ds ps qs ≡ state_view (text_of old) ds ps qs
   unfolding state_view
   view-stays ps e k =
       ap (λ (xs : List (Domain Text)). record (state_view (text_of new) ds ps qs) { domains = xs }) (map-kept (IsDomainReadable old) (IsDomainCovered new) (domain_view (text_of new)) (domain_view (text_of old)) ds domain_same e domains_held)
-      ∙ ap (λ (xs : List (Option machine.Pipe)). record (state_view (text_of old) ds ps qs) { pipes = xs }) (map-kept (IsPipeReadable old) (IsPipeCovered new) (option_map (pipe_view (text_of new))) (option_map (pipe_view (text_of old))) qs pipe_same k pipes_held)
+      ∙ ap (λ (xs : List (Option machine.Pipe)). record (state_view (text_of new) ds ps qs) { domains = map (domain_view (text_of old)) ds; pipes = xs })
+      (map-kept (IsPipeReadable old) (IsPipeCovered new) (option_map (pipe_view (text_of new))) (option_map (pipe_view (text_of old))) qs.pipes pipe_same k.pipes pipes_held)
+      ∙ ap (λ (xs : List (ℕ × machine.Connection)). record (state_view (text_of old) ds ps qs) { conns = xs })
+      (map-kept {B = ℕ × machine.Connection} (IsConnReadable old) (IsConnCovered new) (seen_conn new) (seen_conn old) qs.conns conn_same k.conns conns_held)
 
 pub each-numbered : {A : Type 0} (P : A → Type 0) (xs : List A) (n : ℕ) (z : A) → Each P xs → P z → P (numbered_or xs n z)
 each-numbered P xs n z e p = elim (cases_eq n 0) [
@@ -171,8 +205,8 @@ each-with_domain_in P ds d x e p = each-with_numbered P ds d x e p
 pub aggs_readable : (h : KernelState) (d : ℕ) → IsSound h → IsDomainReadable h.store (domain_in h.domains d)
 aggs_readable h d sound = each-domain_in (IsDomainReadable h.store) h.domains d sound.domains tt
 
-pub ends_open : (h : KernelState) (d : ℕ) → IsSound h → Each (IsOpenEnd h.pipes) (domain_in h.domains d).fds
-ends_open h d sound = each-domain_in (λ (x : Domain (List Slice)). Each (IsOpenEnd h.pipes) x.fds) h.domains d sound.fds tt
+pub ends_open : (h : KernelState) (d : ℕ) → IsSound h → Each (IsOpenEnd (objects_of h)) (domain_in h.domains d).fds
+ends_open h d sound = each-domain_in (λ (x : Domain (List Slice)). Each (IsOpenEnd (objects_of h)) x.fds) h.domains d sound.fds tt
 
 pub aggs_small : (h : KernelState) (d : ℕ) → IsSound h → Each (λ (e : ℕ × List Slice). byte_len e.1 ≤ MAX_AGGREGATE_BYTES) (domain_in h.domains d).aggs
 aggs_small h d sound = each-domain_in (λ (y : Domain (List Slice)). Each (λ e. byte_len e.1 ≤ MAX_AGGREGATE_BYTES) y.aggs) h.domains d sound.limits.aggs tt
@@ -184,11 +218,11 @@ pub agg_readable : (h : KernelState) (d a : ℕ) (xs : List Slice) → IsSound h
 agg_readable h d a xs sound is = each-lookup (AllReadable h.store) (domain_in h.domains d).aggs a xs (aggs_readable h d sound) is
 
 -- one domain changes, its aggregates do not
-pub sound_with : (h : KernelState) (d : ℕ) (x : Domain (List Slice)) → IsSound h → (domain_in h.domains d).live ≡ true → x.aggs ≡ (domain_in h.domains d).aggs → Each (IsOpenEnd h.pipes) x.fds → IsOpenOnce (with_domain_in h.domains d x) → IsSound (record h { domains = with_domain_in h.domains d x })
+pub sound_with : (h : KernelState) (d : ℕ) (x : Domain (List Slice)) → IsSound h → (domain_in h.domains d).live ≡ true → x.aggs ≡ (domain_in h.domains d).aggs → Each (IsOpenEnd (objects_of h)) x.fds → IsOpenOnce (with_domain_in h.domains d x) → IsSound (record h { domains = with_domain_in h.domains d x })
 sound_with h d x sound live same fds once = record {
   domains = each-with_domain_in (IsDomainReadable h.store) h.domains d x sound.domains (subst (λ (es : List (ℕ × List Slice)). Each (λ e. AllReadable h.store e.1) es) (sym same) (aggs_readable h d sound));
-  pipes = sound.pipes;
-  fds = each-with_domain_in (λ (y : Domain (List Slice)). Each (IsOpenEnd h.pipes) y.fds) h.domains d x sound.fds fds;
+  objects = sound.objects;
+  fds = each-with_domain_in (λ (y : Domain (List Slice)). Each (IsOpenEnd (objects_of h)) y.fds) h.domains d x sound.fds fds;
   once = once;
   counted = record { each = λ b. omega (arith, sound.counted.each b, uses-same b h.domains d x live same) };
   tidy = sound.tidy;
@@ -197,18 +231,18 @@ sound_with h d x sound live same fds once = record {
   limits = record {
     aggs = each-with_domain_in (λ (y : Domain (List Slice)). Each (λ e. byte_len e.1 ≤ MAX_AGGREGATE_BYTES) y.aggs) h.domains d x sound.limits.aggs (subst (λ (es : List (ℕ × List Slice)). Each (λ e. byte_len e.1 ≤ MAX_AGGREGATE_BYTES) es) (sym same) (aggs_small h d sound));
     few = omega (arith, sound.limits.few, sum-with_domain (λ (y : Domain (List Slice)). length y.aggs) h.domains d x live, ap length same);
-    queues = sound.limits.queues;
-    few_pipes = sound.limits.few_pipes;
+    objects = sound.limits.objects;
   };
-  few_pools = sound.few_pools;
+  pooled = sound.pooled;
+  sums = sound.sums;
 }
 
-pub sound_fds : (h : KernelState) (d : ℕ) (xs : List (Option Descriptor)) → IsSound h → (domain_in h.domains d).live ≡ true → Each (IsOpenEnd h.pipes) xs → IsOpenOnce (with_fds_in h.domains d xs) → IsSound (record h { domains = with_fds_in h.domains d xs })
+pub sound_fds : (h : KernelState) (d : ℕ) (xs : List (Option Descriptor)) → IsSound h → (domain_in h.domains d).live ≡ true → Each (IsOpenEnd (objects_of h)) xs → IsOpenOnce (with_fds_in h.domains d xs) → IsSound (record h { domains = with_fds_in h.domains d xs })
 sound_fds h d xs sound live fds once = sound_with h d (record (domain_in h.domains d) { fds = xs }) sound live refl fds once
 
 -- limits, when a domain gets an aggregate, or gives one up
 
-pub limits_agg : (ds : List (Domain (List Slice))) (qs : List (Option (Pipe (List Slice)))) (d : ℕ) (xs : List Slice) → IsLimited ds qs → (domain_in ds d).live ≡ true → byte_len xs ≤ MAX_AGGREGATE_BYTES → live_aggs_in ds < MAX_AGGREGATES → IsLimited (with_agg_in ds d xs) qs
+pub limits_agg : (ds : List (Domain (List Slice))) (qs : Objects (List Slice)) (d : ℕ) (xs : List Slice) → IsLimited ds qs → (domain_in ds d).live ≡ true → byte_len xs ≤ MAX_AGGREGATE_BYTES → live_aggs_in ds < MAX_AGGREGATES → IsLimited (with_agg_in ds d xs) qs
 limits_agg ds qs d xs limits live small few =
     let x : Domain (List Slice) = domain_in ds d in
     let y : Domain (List Slice) = record x { aggs = x.aggs ++ (x.next_agg, xs) ∷ []; next_agg = x.next_agg + 1 } in
@@ -216,8 +250,7 @@ limits_agg ds qs d xs limits live small few =
     record {
       aggs = each-with_domain_in (λ (y : Domain (List Slice)). Each (λ e. byte_len e.1 ≤ MAX_AGGREGATE_BYTES) y.aggs) ds d y limits.aggs (each-push (λ (e : ℕ × List Slice). byte_len e.1 ≤ MAX_AGGREGATE_BYTES) x.aggs (x.next_agg, xs) was small);
       few = omega (arith, few, sum-with_domain (λ (y : Domain (List Slice)). length y.aggs) ds d y live, length-append x.aggs ((x.next_agg, xs) ∷ []));
-      queues = limits.queues;
-      few_pipes = limits.few_pipes;
+      objects = limits.objects;
     }
 
 pub each-without : (P : ℕ × List Slice → Type 0) (es : List (ℕ × List Slice)) (a : ℕ) → Each P es → Each P (without es a)
@@ -229,15 +262,14 @@ each-without P (e ∷ es) a h = elim (cases_eq e.0 a) [
       subst (λ (l : List (ℕ × List Slice)). Each P l) w r)
 ]
 
-pub limits_drop : (ds : List (Domain (List Slice))) (qs : List (Option (Pipe (List Slice)))) (d a : ℕ) (xs : List Slice) → IsLimited ds qs → (domain_in ds d).live ≡ true → Some xs ≡ agg_in ds d a → IsLimited (without_agg_in ds d a) qs
+pub limits_drop : (ds : List (Domain (List Slice))) (qs : Objects (List Slice)) (d a : ℕ) (xs : List Slice) → IsLimited ds qs → (domain_in ds d).live ≡ true → Some xs ≡ agg_in ds d a → IsLimited (without_agg_in ds d a) qs
 limits_drop ds qs d a xs limits live is =
     let x : Domain (List Slice) = domain_in ds d in
     let was : Each (λ (e : ℕ × List Slice). byte_len e.1 ≤ MAX_AGGREGATE_BYTES) x.aggs = each-domain_in (λ (y : Domain (List Slice)). Each (λ e. byte_len e.1 ≤ MAX_AGGREGATE_BYTES) y.aggs) ds d limits.aggs tt in
     record {
       aggs = each-with_domain_in (λ (y : Domain (List Slice)). Each (λ e. byte_len e.1 ≤ MAX_AGGREGATE_BYTES) y.aggs) ds d (record x { aggs = without x.aggs a }) limits.aggs (each-without (λ (e : ℕ × List Slice). byte_len e.1 ≤ MAX_AGGREGATE_BYTES) x.aggs a was);
       few = omega (arith, limits.few, sum-with_domain (λ (y : Domain (List Slice)). length y.aggs) ds d (record x { aggs = without x.aggs a }) live, length-without x.aggs a xs is);
-      queues = limits.queues;
-      few_pipes = limits.few_pipes;
+      objects = limits.objects;
     }
 
 -- the other aggregates can still be read
@@ -253,7 +285,11 @@ add_readable s ds d xs e readable =
     each-with_domain_in (IsDomainReadable s) ds d (record x { aggs = x.aggs ++ (x.next_agg, xs) ∷ []; next_agg = x.next_agg + 1 }) e (each-push (λ (e : ℕ × List Slice). AllReadable s e.1) x.aggs (x.next_agg, xs) was readable)
 
 -- descriptors, when a domain's aggregates change
-pub fds_stay : (qs : List (Option (Pipe (List Slice)))) (ds : List (Domain (List Slice))) (d : ℕ) (x : Domain (List Slice)) → Each (λ (y : Domain (List Slice)). Each (IsOpenEnd qs) y.fds) ds → x.fds ≡ (domain_in ds d).fds → Each (λ (y : Domain (List Slice)). Each (IsOpenEnd qs) y.fds) (with_domain_in ds d x)
+pub fds_stay : (qs : Objects (List Slice)) (ds : List (Domain (List Slice))) (d : ℕ) (x : Domain (List Slice)) → Each (λ (y : Domain (List Slice)). Each (IsOpenEnd qs) y.fds) ds → x.fds ≡ (domain_in ds d).fds → Each (λ (y : Domain (List Slice)). Each (IsOpenEnd qs) y.fds) (with_domain_in ds d x)
 fds_stay qs ds d x e same =
     let was : Each (IsOpenEnd qs) (domain_in ds d).fds = each-domain_in (λ (y : Domain (List Slice)). Each (IsOpenEnd qs) y.fds) ds d e tt in
     each-with_domain_in (λ (y : Domain (List Slice)). Each (IsOpenEnd qs) y.fds) ds d x e (subst (λ (l : List (Option Descriptor)). Each (IsOpenEnd qs) l) (sym same) was)
+
+-- limits, when pipes change
+pub with_pipes : {o : Objects (List Slice)} {qs : List (Option (Pipe (List Slice)))} → AreLimited o → Each IsShort qs → length qs ≤ MAX_PIPES → AreLimited (record o { pipes = qs })
+with_pipes limits short few = record { queues = short; few_pipes = few; conns = limits.conns; few_conns = limits.few_conns; rising = limits.rising; last = limits.last }

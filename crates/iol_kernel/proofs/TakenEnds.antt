@@ -5,22 +5,24 @@ use Rattle.std.proofs.lemmas.List.Sums.{sum_by-cons}
 use Rattle.iol_core.specs.declared.descriptors.Descriptor.{Descriptor}
 use Rattle.iol_desc.specs.Tables.{domain_in, with_fds_in}
 use Rattle.iol_kernel.specs.Ends.{on_end, ends_on, all_ends_on}
-use Rattle.iol_kernel.specs.KernelState.{KernelState, Each, IsOpenEnd, IsSound}
+use Rattle.iol_kernel.specs.KernelState.{KernelState, objects_of, Each, IsOpenEnd, IsSound}
 use Rattle.iol_kernel.specs.ClosedEnds.{AreTaken, KeepsEnds}
 use Rattle.iol_kernel.proofs.Once.{same_end-itself, ends-with_domain, once_fewer}
 use Rattle.iol_kernel.proofs.Sound.{ends_open}
 use Rattle.iol_kernel.proofs.Effects.{fds-sound}
 use Rattle.iol_kernel.proofs.ClosedEnds.{ends_kept}
-use Rattle.iol_kernel.proofs.Uses.{Domains, Pipes}
+use Rattle.iol_kernel.specs.Views.{Objects}
+use Rattle.iol_kernel.proofs.Uses.{Domains}
+use Rattle.iol_hold.specs.declared.slices.Slice.{Slice}
 
 -- all numbers of a domain are taken
 
 pub taken-sound : (h : KernelState) (ds : Domains) (d : ℕ) → IsSound h → (domain_in h.domains d).live ≡ true → ds ≡ with_fds_in h.domains d [] → IsSound (record h { domains = ds })
 taken-sound h ds d sound live is = fds-sound h ds d [] sound live is tt (once_fewer h.domains d (record (domain_in h.domains d) { fds = [] }) live (λ e. omega arith) sound.once)
 
-pub taken_ends : (h : KernelState) (ds : Domains) (d : ℕ) (ends : List (Option Descriptor)) → IsSound h → (domain_in h.domains d).live ≡ true → ends ≡ (domain_in h.domains d).fds → ds ≡ with_fds_in h.domains d [] → AreTaken ds h.pipes ends
+pub taken_ends : (h : KernelState) (ds : Domains) (d : ℕ) (ends : List (Option Descriptor)) → IsSound h → (domain_in h.domains d).live ≡ true → ends ≡ (domain_in h.domains d).fds → ds ≡ with_fds_in h.domains d [] → AreTaken ds (objects_of h) ends
 taken_ends h ds d ends sound live is rest = record {
-  opened = subst (λ (xs : List (Option Descriptor)). Each (IsOpenEnd h.pipes) xs) (sym is) (ends_open h d sound);
+  opened = subst (λ (xs : List (Option Descriptor)). Each (IsOpenEnd (objects_of h)) xs) (sym is) (ends_open h d sound);
   once = λ x. omega (arith, ap (ends_on x) is, ap (all_ends_on x) rest, sound.once.each x, ends-with_domain x h.domains d (record (domain_in h.domains d) { fds = [] }) live);
 }
 
@@ -32,7 +34,7 @@ drop_one xs i z lt = drop-cons xs i z lt ∙ ap (λ n. get_or xs i z ∷ drop n 
     one : suc i ≡ i + 1
     one = omega arith
 
-module _ (ds : Domains) (qs : Pipes) (xs : List (Option Descriptor)) (i : ℕ) (z : Option Descriptor) (there : i < length xs) (is : z ≡ get_or xs i z) (taken : AreTaken ds qs (drop i xs)) where
+module _ (ds : Domains) (qs : Objects (List Slice)) (xs : List (Option Descriptor)) (i : ℕ) (z : Option Descriptor) (there : i < length xs) (is : z ≡ get_or xs i z) (taken : AreTaken ds qs (drop i xs)) where
   firstly : AreTaken ds qs (z ∷ drop (i + 1) xs)
   firstly = subst (λ (ys : List (Option Descriptor)). AreTaken ds qs ys) (drop_one xs i z there ∙ ap (λ (y : Option Descriptor). y ∷ drop (i + 1) xs) (sym is)) taken
 
@@ -50,7 +52,7 @@ module _ (ds : Domains) (qs : Pipes) (xs : List (Option Descriptor)) (i : ℕ) (
         let c = sum_by-cons (on_end x) z (drop (i + 1) xs) in
         omega (arith, c, ap (on_end x) some, firstly.once x, same_end-itself qs x (subst (IsOpenEnd qs) some first_open))
 
-    pub later_taken : (new : Pipes) → KeepsEnds x qs new → AreTaken ds new (drop (i + 1) xs)
+    pub later_taken : (new : Objects (List Slice)) → KeepsEnds x qs new → AreTaken ds new (drop (i + 1) xs)
     later_taken new keeps = record {
       opened = ends_kept x qs new keeps (drop (i + 1) xs) firstly.opened.1 later_alone;
       once = λ y. (let c = sum_by-cons (on_end y) z (drop (i + 1) xs) in omega (arith, c, firstly.once y));

@@ -15,9 +15,10 @@ use Rattle.iol_hold.specs.declared.slices.Slice.{Slice}
 use Rattle.iol_hold.proofs.Slicing.{byte_len-cons}
 use Rattle.iol_hold.proofs.Counting.{same_few}
 use Rattle.iol_desc.specs.Tables.{domain_in, with_domain_in, agg_in, with_agg_in, without_agg_in, live_aggs_in}
-use Rattle.iol_kernel.specs.Views.{Pipe}
-use Rattle.iol_kernel.specs.Counted.{uses, domain_uses, pipe_uses, all_uses, IsCounted}
-use Rattle.iol_kernel.specs.KernelState.{Each, IsLimited, IsShort, queue_at}
+use Rattle.iol_sock.specs.Connections.{Conn}
+use Rattle.iol_kernel.specs.Views.{Pipe, Objects}
+use Rattle.iol_kernel.specs.Counted.{uses, domain_uses, pipe_uses, conn_uses, all_uses, IsCounted}
+use Rattle.iol_kernel.specs.KernelState.{Each, IsLimited, IsShort, IsConn, queue_at}
 use Rattle.iol_kernel.proofs.Rows.{live_numbered}
 use Rattle.iol_core.specs.declared.limits.TheConstants.{MAX_AGGREGATE_BYTES, MAX_QUEUE_BYTES}
 
@@ -138,14 +139,14 @@ uses-set_pipe b qs p x there =
 
 -- Of those that are counted.
 
-pub agg_covered : (s : Stored) (ds : Domains) (qs : Pipes) (d a : ℕ) (xs : List Slice) → IsCounted s ds qs → (domain_in ds d).live ≡ true → Some xs ≡ agg_in ds d a → Covers s (bufs_of xs)
+pub agg_covered : (s : Stored) (ds : Domains) (qs : Objects (List Slice)) (d a : ℕ) (xs : List Slice) → IsCounted s ds qs → (domain_in ds d).live ≡ true → Some xs ≡ agg_in ds d a → Covers s (bufs_of xs)
 agg_covered s ds qs d a xs counted live is = record {
   each = λ b. (let e = uses-without_agg b ds d a xs live is in omega (arith, e, counted.each b));
 }
 
-pub queue_covered : (s : Stored) (ds : Domains) (qs : Pipes) (p : ℕ) → IsCounted s ds qs → p < length qs → Covers s (bufs_of (queue_at qs p).queue)
+pub queue_covered : (s : Stored) (ds : Domains) (qs : Objects (List Slice)) (p : ℕ) → IsCounted s ds qs → p < length qs.pipes → Covers s (bufs_of (queue_at qs.pipes p).queue)
 queue_covered s ds qs p counted there = record {
-  each = λ b. (let none : Option (Pipe (List Slice)) = None in let e = get_or-le-sum_by (pipe_uses b) qs p none there in omega (arith, e, uses_at b qs p, counted.each b));
+  each = λ b. (let none : Option (Pipe (List Slice)) = None in let e = get_or-le-sum_by (pipe_uses b) qs.pipes p none there in omega (arith, e, uses_at b qs.pipes p, counted.each b));
 }
 
 -- How many there can be.
@@ -177,9 +178,15 @@ pipes_few b [] h = omega arith
 pipes_few b (None ∷ qs) h = let r = pipes_few b qs h.1 in let c = sum_by-cons (pipe_uses b) None qs in omega (arith, r, c)
 pipes_few b (Some x ∷ qs) h = let r = pipes_few b qs h.1 in let c = sum_by-cons (pipe_uses b) (Some x) qs in let u = uses_few b x.queue in omega (arith, r, c, u, h.0)
 
-pub all_few : (b : BufId) (ds : Domains) (qs : Pipes) → IsLimited ds qs → all_uses ds qs b < 2 ^ 41
-all_few b ds qs limits = let x = domains_few b ds limits.aggs in let y = pipes_few b qs limits.queues in omega (arith, x, y, limits.few, limits.few_pipes)
+conns_few : (b : BufId) (cs : List (ℕ × Conn (List Slice))) → Each IsConn cs → sum_by (conn_uses b) cs ≤ 2 * MAX_QUEUE_BYTES * length cs
+conns_few b [] h = omega arith
+conns_few b (x ∷ cs) h = let r = conns_few b cs h.1 in let c = sum_by-cons (conn_uses b) x cs in omega (arith, r, c, uses_few b x.1.incoming, uses_few b x.1.outgoing, h.0.incoming, h.0.outgoing)
+
+pub all_few : (b : BufId) (ds : Domains) (qs : Objects (List Slice)) → IsLimited ds qs → all_uses ds qs b < 2 ^ 41
+all_few b ds qs limits =
+    let o = limits.objects in
+    omega (arith, domains_few b ds limits.aggs, pipes_few b qs.pipes o.queues, conns_few b qs.conns o.conns, limits.few, o.few_pipes, o.few_conns)
 
 -- holds more on an aggregate or queue within the limits
-pub countable : (s : Stored) (ds : Domains) (qs : Pipes) (xs : List Slice) → IsCounted s ds qs → IsLimited ds qs → byte_len xs ≤ MAX_AGGREGATE_BYTES → IsCountable s (bufs_of xs)
+pub countable : (s : Stored) (ds : Domains) (qs : Objects (List Slice)) (xs : List Slice) → IsCounted s ds qs → IsLimited ds qs → byte_len xs ≤ MAX_AGGREGATE_BYTES → IsCountable s (bufs_of xs)
 countable s ds qs xs counted limits small = record { each = λ b. (let x = all_few b ds qs limits in let y = uses_few b xs in omega (arith, x, y, counted.each b, small)) }

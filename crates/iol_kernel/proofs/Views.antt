@@ -1,6 +1,7 @@
 -- What the tables stand for, word by word.
 use Rattle.std.proofs.Common.{inl, inr, ◌≡◌, ℕ, suc, ◌+◌, ◌-◌, List, [], ◌∷◌, ◌++◌, length, map, ap, ◌∙◌, refl, sym, arith, Option, Some, None, true, false}
-use Rattle.std.specs.Prelude.{slice_set, unwrap_or, if◌then◌else◌, option_map, ◌||◌, nat_lt, Bool}
+use Rattle.std.specs.List.{list_any}
+use Rattle.std.specs.Prelude.{◌==◌, slice_set, unwrap_or, if◌then◌else◌, option_map, ◌||◌, nat_lt, Bool}
 use Rattle.std.specs.List.{sum_by}
 use Rattle.std.proofs.Math.ListN.{get_or-map}
 use Rattle.std.proofs.lemmas.List.{map-set, map-append}
@@ -13,21 +14,23 @@ use Rattle.iol_core.specs.State as machine
 use Rattle.iol_core.specs.State.{State, Domain, new_domain, no_domain}
 use Rattle.iol_core.specs.Calls.Aggregates as aggs
 use Rattle.iol_core.specs.Calls.Descriptors as fds
+use Rattle.iol_core.specs.Calls.Pools as pools
 use Rattle.iol_core.specs.declared.descriptors.Descriptor.{Descriptor}
 use Rattle.iol_core.specs.declared.limits.TheConstants.{MAX_AGGREGATES, LAST_AGGREGATE}
 use Rattle.iol_desc.specs.Tables.{domain_in, with_domain_in, agg_in, with_agg_in, without_agg_in, live_aggs_in, too_many_in, with_fds_in}
 use Rattle.iol_pool.specs.Pools.{Pool, no_pool, pool_in, with_closed}
 use Rattle.iol_hold.specs.Moves.{pool_meant}
 use Rattle.iol_desc.proofs.Rows.{length-domains}
-use Rattle.iol_kernel.specs.Views.{domain_view, Pipe, pipe_in, pipe_view, state_view}
+use Rattle.iol_sock.specs.Connections.{Conn, conn_view}
+use Rattle.iol_kernel.specs.Views.{domain_view, Pipe, Objects, pipe_in, pipe_view, state_view}
 
-numbered_or-map : {A B : Type 0} (f : A → B) (xs : List A) (n : ℕ) (z : A) → numbered_or (map f xs) n (f z) ≡ f (numbered_or xs n z)
+pub numbered_or-map : {A B : Type 0} (f : A → B) (xs : List A) (n : ℕ) (z : A) → numbered_or (map f xs) n (f z) ≡ f (numbered_or xs n z)
 numbered_or-map f xs n z = let e = get_or-map f xs (n - 1) z in grind (arith, nat_tests, e)
 
 with_numbered-map : {A B : Type 0} (f : A → B) (xs : List A) (n : ℕ) (x : A) → with_numbered (map f xs) n (f x) ≡ map f (with_numbered xs n x)
 with_numbered-map f xs n x = let e = map-set f xs (n - 1) x in grind (arith, nat_tests, e)
 
-lookup-map : {A B : Type 0} (g : A → B) (es : List (ℕ × A)) (n : ℕ) → lookup (map (λ e. (e.0, g e.1)) es) n ≡ option_map g (lookup es n)
+pub lookup-map : {A B : Type 0} (g : A → B) (es : List (ℕ × A)) (n : ℕ) → lookup (map (λ e. (e.0, g e.1)) es) n ≡ option_map g (lookup es n)
 lookup-map g [] n = refl
 lookup-map g (e ∷ es) n = let r = lookup-map g es n in elim (cases_eq e.0 n) [ inl k ↦ grind (arith, nat_tests, k) | inr k ↦ grind (arith, nat_tests, k, r) ]
 
@@ -44,40 +47,40 @@ live_aggs-map {A} g (d ∷ ds) =
     let l = length-map' {B = ℕ × Text} (λ (e : ℕ × A). (e.0, g e.1)) d.aggs in
     omega (arith, r, s, t, l)
 
-pub domain-view : {A : Type 0} (g : A → Text) (ds : List (Domain A)) (ps : List Pool) (qs : List (Option (Pipe A))) (d : ℕ) → machine.domain (state_view g ds ps qs) d ≡ domain_view g (domain_in ds d)
+pub domain-view : {A : Type 0} (g : A → Text) (ds : List (Domain A)) (ps : List Pool) (qs : Objects A) (d : ℕ) → machine.domain (state_view g ds ps qs) d ≡ domain_view g (domain_in ds d)
 unfolding state_view machine.domain domain_in
 domain-view {A} g ds ps qs d = numbered_or-map (domain_view g) ds d (no_domain {A = A})
 
-pub pool-view : {A : Type 0} (g : A → Text) (ds : List (Domain A)) (ps : List Pool) (qs : List (Option (Pipe A))) (p : ℕ) → machine.pool (state_view g ds ps qs) p ≡ pool_meant (pool_in ps p)
+pub pool-view : {A : Type 0} (g : A → Text) (ds : List (Domain A)) (ps : List Pool) (qs : Objects A) (p : ℕ) → machine.pool (state_view g ds ps qs) p ≡ pool_meant (pool_in ps p)
 unfolding state_view machine.pool pool_in
 pool-view g ds ps qs p = numbered_or-map pool_meant ps p no_pool
 
-pub is_pool-view : {A : Type 0} (g : A → Text) (ds : List (Domain A)) (ps : List Pool) (qs : List (Option (Pipe A))) (p : ℕ) → machine.is_pool (state_view g ds ps qs) p ≡ is_numbered ps p
+pub is_pool-view : {A : Type 0} (g : A → Text) (ds : List (Domain A)) (ps : List Pool) (qs : Objects A) (p : ℕ) → machine.is_pool (state_view g ds ps qs) p ≡ is_numbered ps p
 unfolding state_view
 is_pool-view g ds ps qs p = rw (length-map' pool_meant ps) refl
 
-pub aggregate-view : {A : Type 0} (g : A → Text) (ds : List (Domain A)) (ps : List Pool) (qs : List (Option (Pipe A))) (d a : ℕ) → machine.aggregate (state_view g ds ps qs) d a ≡ option_map g (agg_in ds d a)
+pub aggregate-view : {A : Type 0} (g : A → Text) (ds : List (Domain A)) (ps : List Pool) (qs : Objects A) (d a : ℕ) → machine.aggregate (state_view g ds ps qs) d a ≡ option_map g (agg_in ds d a)
 aggregate-view g ds ps qs d a = ap (λ (x : Domain Text). lookup x.aggs a) (domain-view g ds ps qs d) ∙ lookup-map g (domain_in ds d).aggs a
 
-pub live_aggs-view : {A : Type 0} (g : A → Text) (ds : List (Domain A)) (ps : List Pool) (qs : List (Option (Pipe A))) → machine.live_aggs (state_view g ds ps qs) ≡ live_aggs_in ds
+pub live_aggs-view : {A : Type 0} (g : A → Text) (ds : List (Domain A)) (ps : List Pool) (qs : Objects A) → machine.live_aggs (state_view g ds ps qs) ≡ live_aggs_in ds
 unfolding state_view
 live_aggs-view g ds ps qs = live_aggs-map g ds
 
-pub too_many-view : {A : Type 0} (g : A → Text) (ds : List (Domain A)) (ps : List Pool) (qs : List (Option (Pipe A))) (d made given : ℕ) → aggs.too_many_aggs (state_view g ds ps qs) d made given ≡ too_many_in ds d made given
+pub too_many-view : {A : Type 0} (g : A → Text) (ds : List (Domain A)) (ps : List Pool) (qs : Objects A) (d made given : ℕ) → aggs.too_many_aggs (state_view g ds ps qs) d made given ≡ too_many_in ds d made given
 too_many-view g ds ps qs d made given =
     ap (λ n. nat_lt (MAX_AGGREGATES + given) (n + made) || nat_lt (LAST_AGGREGATE + 1) ((machine.domain (state_view g ds ps qs) d).next_agg + made)) (live_aggs-view g ds ps qs)
     ∙ ap (λ (x : Domain Text). nat_lt (MAX_AGGREGATES + given) (live_aggs_in ds + made) || nat_lt (LAST_AGGREGATE + 1) (x.next_agg + made)) (domain-view g ds ps qs d)
 
-pub text-view : {A : Type 0} (g : A → Text) (ds : List (Domain A)) (ps : List Pool) (qs : List (Option (Pipe A))) (d a : ℕ) (x : A) → Some x ≡ agg_in ds d a → machine.text (state_view g ds ps qs) d a ≡ g x
+pub text-view : {A : Type 0} (g : A → Text) (ds : List (Domain A)) (ps : List Pool) (qs : Objects A) (d a : ℕ) (x : A) → Some x ≡ agg_in ds d a → machine.text (state_view g ds ps qs) d a ≡ g x
 text-view g ds ps qs d a x found = ap (λ (o : Option Text). unwrap_or o []) (aggregate-view g ds ps qs d a ∙ ap (option_map g) (sym found))
 
 -- a table changes
 
-pub with_domain-view : {A : Type 0} (g : A → Text) (ds : List (Domain A)) (ps : List Pool) (qs : List (Option (Pipe A))) (d : ℕ) (x : Domain A) → state_view g (with_domain_in ds d x) ps qs ≡ machine.with_domain (state_view g ds ps qs) d (domain_view g x)
+pub with_domain-view : {A : Type 0} (g : A → Text) (ds : List (Domain A)) (ps : List Pool) (qs : Objects A) (d : ℕ) (x : Domain A) → state_view g (with_domain_in ds d x) ps qs ≡ machine.with_domain (state_view g ds ps qs) d (domain_view g x)
 unfolding state_view machine.with_domain with_domain_in
 with_domain-view g ds ps qs d x = ap (λ (xs : List (Domain Text)). record (state_view g ds ps qs) { domains = xs }) (sym (with_numbered-map (domain_view g) ds d x))
 
-pub with_agg-view : {A : Type 0} (g : A → Text) (ds : List (Domain A)) (ps : List Pool) (qs : List (Option (Pipe A))) (d : ℕ) (a : A) → state_view g (with_agg_in ds d a) ps qs ≡ aggs.with_agg (state_view g ds ps qs) d (g a)
+pub with_agg-view : {A : Type 0} (g : A → Text) (ds : List (Domain A)) (ps : List Pool) (qs : Objects A) (d : ℕ) (a : A) → state_view g (with_agg_in ds d a) ps qs ≡ aggs.with_agg (state_view g ds ps qs) d (g a)
 with_agg-view {A} g ds ps qs d a =
     let x : Domain A = domain_in ds d in
     let added : Domain A = record x { aggs = x.aggs ++ (x.next_agg, a) ∷ []; next_agg = x.next_agg + 1 } in
@@ -90,7 +93,7 @@ pub without-map : {A B : Type 0} (g : A → B) (es : List (ℕ × A)) (n : ℕ) 
 without-map g [] n = refl
 without-map {A} {B} g (e ∷ es) n = let r = without-map g es n in elim (cases_eq e.0 n) [ inl k ↦ grind (arith, nat_tests, k) | inr k ↦ grind (arith, nat_tests, k, r) ]
 
-pub without_agg-view : {A : Type 0} (g : A → Text) (ds : List (Domain A)) (ps : List Pool) (qs : List (Option (Pipe A))) (d a : ℕ) → state_view g (without_agg_in ds d a) ps qs ≡ aggs.without_agg (state_view g ds ps qs) d a
+pub without_agg-view : {A : Type 0} (g : A → Text) (ds : List (Domain A)) (ps : List Pool) (qs : Objects A) (d a : ℕ) → state_view g (without_agg_in ds d a) ps qs ≡ aggs.without_agg (state_view g ds ps qs) d a
 without_agg-view {A} g ds ps qs d a =
     let x : Domain A = domain_in ds d in
     with_domain-view g ds ps qs d (record x { aggs = without x.aggs a })
@@ -98,27 +101,27 @@ without_agg-view {A} g ds ps qs d a =
     ∙ ap (λ (y : Domain Text). machine.with_domain (state_view g ds ps qs) d (record y { aggs = without y.aggs a })) (sym (domain-view g ds ps qs d))
 
 -- pools that the machine cannot tell from others
-pub pools-view : {A : Type 0} (g : A → Text) (ds : List (Domain A)) (ps rs : List Pool) (qs : List (Option (Pipe A))) → map pool_meant rs ≡ map pool_meant ps → state_view g ds rs qs ≡ state_view g ds ps qs
+pub pools-view : {A : Type 0} (g : A → Text) (ds : List (Domain A)) (ps rs : List Pool) (qs : Objects A) → map pool_meant rs ≡ map pool_meant ps → state_view g ds rs qs ≡ state_view g ds ps qs
 unfolding state_view
 pools-view g ds ps rs qs e = ap (λ (xs : List machine.Pool). record (state_view g ds ps qs) { pools = xs }) e
 
 -- one pool more, or one that is closed, as the machine sees it
-pub added_pool-view : {A : Type 0} (g : A → Text) (ds : List (Domain A)) (ps rs : List Pool) (qs : List (Option (Pipe A))) (x : machine.Pool) → map pool_meant rs ≡ map pool_meant ps ++ x ∷ [] → state_view g ds rs qs ≡ record (state_view g ds ps qs) { pools = (state_view g ds ps qs).pools ++ x ∷ [] }
+pub added_pool-view : {A : Type 0} (g : A → Text) (ds : List (Domain A)) (ps rs : List Pool) (qs : Objects A) (x : machine.Pool) → map pool_meant rs ≡ map pool_meant ps ++ x ∷ [] → state_view g ds rs qs ≡ record (state_view g ds ps qs) { pools = (state_view g ds ps qs).pools ++ x ∷ [] }
 unfolding state_view
 added_pool-view g ds ps rs qs x e = ap (λ (xs : List machine.Pool). record (state_view g ds ps qs) { pools = xs }) e
 
-pub closed-view : {A : Type 0} (g : A → Text) (ds : List (Domain A)) (ps rs : List Pool) (qs : List (Option (Pipe A))) (p : ℕ) → map pool_meant rs ≡ map pool_meant (with_closed ps p) → state_view g ds rs qs ≡ record (state_view g ds ps qs) { pools = with_numbered (state_view g ds ps qs).pools p (record (machine.pool (state_view g ds ps qs) p) { closed = true }) }
+pub closed-view : {A : Type 0} (g : A → Text) (ds : List (Domain A)) (ps rs : List Pool) (qs : Objects A) (p : ℕ) → map pool_meant rs ≡ map pool_meant (with_closed ps p) → state_view g ds rs qs ≡ record (state_view g ds ps qs) { pools = with_numbered (state_view g ds ps qs).pools p (record (machine.pool (state_view g ds ps qs) p) { closed = true }) }
 unfolding state_view with_closed
 closed-view g ds ps rs qs p e =
     ap (λ (xs : List machine.Pool). record (state_view g ds ps qs) { pools = xs }) (e ∙ sym (with_numbered-map pool_meant ps p (record (pool_in ps p) { closed = true })))
     ∙ ap (λ (x : machine.Pool). record (state_view g ds ps qs) { pools = with_numbered (map pool_meant ps) p (record x { closed = true }) }) (sym (pool-view g ds ps qs p))
 
-pub with_fds-view : {A : Type 0} (g : A → Text) (ds : List (Domain A)) (ps : List Pool) (qs : List (Option (Pipe A))) (d : ℕ) (xs : List (Option Descriptor)) → state_view g (with_fds_in ds d xs) ps qs ≡ fds.with_fds (state_view g ds ps qs) d xs
+pub with_fds-view : {A : Type 0} (g : A → Text) (ds : List (Domain A)) (ps : List Pool) (qs : Objects A) (d : ℕ) (xs : List (Option Descriptor)) → state_view g (with_fds_in ds d xs) ps qs ≡ fds.with_fds (state_view g ds ps qs) d xs
 with_fds-view g ds ps qs d xs =
     with_domain-view g ds ps qs d (record (domain_in ds d) { fds = xs })
     ∙ ap (λ (y : Domain Text). machine.with_domain (state_view g ds ps qs) d (record y { fds = xs })) (sym (domain-view g ds ps qs d))
 
-pub add_domain-view : {A : Type 0} (g : A → Text) (ds : List (Domain A)) (ps : List Pool) (qs : List (Option (Pipe A))) → state_view g (ds ++ new_domain ∷ []) ps qs ≡ record (state_view g ds ps qs) { domains = (state_view g ds ps qs).domains ++ new_domain ∷ [] }
+pub add_domain-view : {A : Type 0} (g : A → Text) (ds : List (Domain A)) (ps : List Pool) (qs : Objects A) → state_view g (ds ++ new_domain ∷ []) ps qs ≡ record (state_view g ds ps qs) { domains = (state_view g ds ps qs).domains ++ new_domain ∷ [] }
 unfolding state_view
 add_domain-view {A} g ds ps qs = ap (λ (xs : List (Domain Text)). record (state_view g ds ps qs) { domains = xs }) (map-append (domain_view g) ds (new_domain {A = A} ∷ []))
 
@@ -150,53 +153,65 @@ placed-map {A} f xs n x =
       | inr k ↦ grind (arith, nat_tests, p, l, k)
     ]
 
-pub lowest-view : {A : Type 0} (g : A → Text) (ds : List (Domain A)) (ps : List Pool) (qs : List (Option (Pipe A))) → lowest (state_view g ds ps qs).pipes ≡ lowest qs
+pub lowest-view : {A : Type 0} (g : A → Text) (ds : List (Domain A)) (ps : List Pool) (qs : Objects A) → lowest (state_view g ds ps qs).pipes ≡ lowest qs.pipes
 unfolding state_view
-lowest-view g ds ps qs = lowest-map (pipe_view g) qs
+lowest-view g ds ps qs = lowest-map (pipe_view g) qs.pipes
 
-pub taken-view : {A : Type 0} (g : A → Text) (ds : List (Domain A)) (ps : List Pool) (qs : List (Option (Pipe A))) → taken (state_view g ds ps qs).pipes ≡ taken qs
+pub taken-view : {A : Type 0} (g : A → Text) (ds : List (Domain A)) (ps : List Pool) (qs : Objects A) → taken (state_view g ds ps qs).pipes ≡ taken qs.pipes
 unfolding state_view
-taken-view g ds ps qs = taken-map (pipe_view g) qs
+taken-view g ds ps qs = taken-map (pipe_view g) qs.pipes
 
-pub add_pipe-view : {A : Type 0} (g : A → Text) (ds : List (Domain A)) (ps : List Pool) (qs : List (Option (Pipe A))) (n : ℕ) (p : Pipe A) → state_view g ds ps (placed qs n p) ≡ record (state_view g ds ps qs) { pipes = placed (state_view g ds ps qs).pipes n (pipe_view g p) }
+pub add_pipe-view : {A : Type 0} (g : A → Text) (ds : List (Domain A)) (ps : List Pool) (qs : Objects A) (n : ℕ) (p : Pipe A) → state_view g ds ps (record qs { pipes = placed qs.pipes n p }) ≡ record (state_view g ds ps qs) { pipes = placed (state_view g ds ps qs).pipes n (pipe_view g p) }
 unfolding state_view
-add_pipe-view g ds ps qs n p = ap (λ (xs : List (Option machine.Pipe)). record (state_view g ds ps qs) { pipes = xs }) (sym (placed-map (pipe_view g) qs n p))
+add_pipe-view g ds ps qs n p = ap (λ (xs : List (Option machine.Pipe)). record (state_view g ds ps qs) { pipes = xs }) (sym (placed-map (pipe_view g) qs.pipes n p))
 
-pub length_domains-view : {A : Type 0} (g : A → Text) (ds : List (Domain A)) (ps : List Pool) (qs : List (Option (Pipe A))) → length (state_view g ds ps qs).domains ≡ length ds
+pub length_domains-view : {A : Type 0} (g : A → Text) (ds : List (Domain A)) (ps : List Pool) (qs : Objects A) → length (state_view g ds ps qs).domains ≡ length ds
 unfolding state_view
 length_domains-view g ds ps qs = length-map' (domain_view g) ds
 
-pub length_pools-view : {A : Type 0} (g : A → Text) (ds : List (Domain A)) (ps : List Pool) (qs : List (Option (Pipe A))) → length (state_view g ds ps qs).pools ≡ length ps
+pub length_pools-view : {A : Type 0} (g : A → Text) (ds : List (Domain A)) (ps : List Pool) (qs : Objects A) → length (state_view g ds ps qs).pools ≡ length ps
 unfolding state_view
 length_pools-view g ds ps qs = length-map' pool_meant ps
 
-pub pipe_at-view : {A : Type 0} (g : A → Text) (ds : List (Domain A)) (ps : List Pool) (qs : List (Option (Pipe A))) (z : A) (p : ℕ) → g z ≡ [] → machine.pipe_at (state_view g ds ps qs) p ≡ pipe_view g (pipe_in z qs p)
+pub pipe_at-view : {A : Type 0} (g : A → Text) (ds : List (Domain A)) (ps : List Pool) (qs : Objects A) (z : A) (p : ℕ) → g z ≡ [] → machine.pipe_at (state_view g ds ps qs) p ≡ pipe_view g (pipe_in z qs.pipes p)
 unfolding state_view machine.pipe_at
 pipe_at-view {A} g ds ps qs z p none =
-    ap (λ o. unwrap_or o machine.no_pipe) (in_place-map (pipe_view g) qs p) ∙ found (in_place qs p)
+    ap (λ o. unwrap_or o machine.no_pipe) (in_place-map (pipe_view g) qs.pipes p) ∙ found (in_place qs.pipes p)
   where
     found : (o : Option (Pipe A)) → unwrap_or (option_map (pipe_view g) o) machine.no_pipe ≡ pipe_view g (unwrap_or o (no_pipe z))
     found None = ap (λ (t : Text). record machine.no_pipe { queue = t }) (sym none)
     found (Some x) = refl
+
+-- connections
+
+any-map : {A : Type 0} (g : A → Text) (cs : List (ℕ × Conn A)) (p : ℕ) → list_any (λ e. e.1.pool == p) cs ≡ list_any (λ e. e.1.pool == p) (map {B = ℕ × machine.Connection} (λ e. (e.0, conn_view g e.1)) cs)
+any-map g [] p = refl
+any-map g (c ∷ cs) p = ap (λ b. (c.1.pool == p) || b) (any-map g cs p)
+
+pub busy-view : {A : Type 0} (g : A → Text) (ds : List (Domain A)) (ps : List Pool) (qs : Objects A) (p : ℕ) → list_any (λ e. e.1.pool == p) qs.conns ≡ pools.is_busy (state_view g ds ps qs) p
+unfolding state_view
+busy-view g ds ps qs p = any-map g qs.conns p
 
 -- a pipe stays where an end is open
 kept_or_gone : {A : Type 0} (g : A → Text) (x : Pipe A) (k : Bool) → option_map (pipe_view g) (if k then Some x else None) ≡ (if k then Some (pipe_view g x) else None)
 kept_or_gone g x true = refl
 kept_or_gone g x false = refl
 
-pub with_pipe_in-view : {A : Type 0} (g : A → Text) (ds : List (Domain A)) (ps : List Pool) (qs : List (Option (Pipe A))) (p : ℕ) (x : Pipe A)
-    → state_view g ds ps (slice_set qs p (if x.reading || x.writing then Some x else None)) ≡ machine.with_pipe (state_view g ds ps qs) p (pipe_view g x)
+pub with_pipe_in-view : {A : Type 0} (g : A → Text) (ds : List (Domain A)) (ps : List Pool) (qs : Objects A) (p : ℕ) (x : Pipe A)
+    → state_view g ds ps (record qs { pipes = slice_set qs.pipes p (if x.reading || x.writing then Some x else None) }) ≡ machine.with_pipe (state_view g ds ps qs) p (pipe_view g x)
 unfolding state_view machine.with_pipe
 with_pipe_in-view g ds ps qs p x =
     ap (λ (xs : List (Option machine.Pipe)). record (state_view g ds ps qs) { pipes = xs })
-    (map-set (option_map (pipe_view g)) qs p (if x.reading || x.writing then Some x else None) ∙ ap (λ o. slice_set (map (option_map (pipe_view g)) qs) p o) (kept_or_gone g x (x.reading || x.writing)))
+    (map-set (option_map (pipe_view g)) qs.pipes p (if x.reading || x.writing then Some x else None) ∙ ap (λ o. slice_set (map (option_map (pipe_view g)) qs.pipes) p o) (kept_or_gone g x (x.reading || x.writing)))
 
-pub with_pipe-view : {A : Type 0} (g : A → Text) (ds : List (Domain A)) (ps : List Pool) (qs : List (Option (Pipe A))) (p : ℕ) (x : Pipe A) → (x.reading || x.writing) ≡ true → state_view g ds ps (slice_set qs p (Some x)) ≡ machine.with_pipe (state_view g ds ps qs) p (pipe_view g x)
+pub with_pipe-view : {A : Type 0} (g : A → Text) (ds : List (Domain A)) (ps : List Pool) (qs : Objects A) (p : ℕ) (x : Pipe A) → (x.reading || x.writing) ≡ true → state_view g ds ps (record qs { pipes = slice_set qs.pipes p (Some x) }) ≡ machine.with_pipe (state_view g ds ps qs) p (pipe_view g x)
 with_pipe-view {A} g ds ps qs p x any =
-    ap (λ b. state_view g ds ps (slice_set qs p (if b then Some x else None))) (sym any) ∙ with_pipe_in-view g ds ps qs p x
+    ap (λ b. state_view g ds ps (record qs { pipes = slice_set qs.pipes p (if b then Some x else None) })) (sym any) ∙ with_pipe_in-view g ds ps qs p x
 
 pub ruleset domain_rules = (domain-view, aggregate-view, too_many-view, text-view)
 
 pub ruleset pool_rules = (pool-view, is_pool-view)
+
+pub ruleset busy_rules = (busy-view)
 
 pub ruleset count_rules = (length_domains-view, length-domains, length_pools-view, taken-view)

@@ -7,7 +7,7 @@ use Rattle.iol_hold.specs.Stored.{Stored, AllSettled}
 use Rattle.iol_hold.specs.Moves.{Moves, SameLists}
 use Rattle.iol_hold.specs.Texts.{bufs_of, AllReadable}
 use Rattle.iol_hold.specs.declared.slices.Slice.{Slice}
-use Rattle.iol_kernel.specs.Views.{Pipe}
+use Rattle.iol_kernel.specs.Views.{Pipe, Objects}
 use Rattle.iol_kernel.specs.Ends.{same_end, ends_on, all_ends_on}
 use Rattle.iol_kernel.specs.KernelState.{queue_at, Each, IsOpenEnd}
 
@@ -32,10 +32,10 @@ pub record ClosesEnd (s t : Stored) (old new : List (Option (Pipe (List Slice)))
   pub settles : AllReadable s (queue_at old p).queue → AllSettled s → AllSettled t
 
 -- what a domain's numbers were open on: each end is open, and in no other descriptor
-pub record AreTaken (domains : List (Domain (List Slice))) (pipes : List (Option (Pipe (List Slice)))) (ends : List (Option Descriptor)) : Type 0 where
-  pub opened : Each (IsOpenEnd pipes) ends
+pub record AreTaken (domains : List (Domain (List Slice))) (objects : Objects (List Slice)) (ends : List (Option Descriptor)) : Type 0 where
+  pub opened : Each (IsOpenEnd objects) ends
   pub once : (x : Descriptor) → all_ends_on x domains + ends_on x ends ≤ 1
 
 -- all ends but one stay open
-pub record KeepsEnds (end : Descriptor) (old new : List (Option (Pipe (List Slice)))) : Type 0 where
+pub record KeepsEnds (end : Descriptor) (old new : Objects (List Slice)) : Type 0 where
   pub each : (e : Descriptor) → same_end end e ≡ 0 → IsOpenEnd old (Some e) → IsOpenEnd new (Some e)

@@ -6,7 +6,8 @@ use Rattle.iol_hold.specs.Stored.{Stored, count_of}
 use Rattle.iol_hold.specs.Moves.{tally}
 use Rattle.iol_hold.specs.Texts.{bufs_of}
 use Rattle.iol_hold.specs.declared.slices.Slice.{Slice}
-use Rattle.iol_kernel.specs.Views.{Pipe}
+use Rattle.iol_sock.specs.Connections.{Conn}
+use Rattle.iol_kernel.specs.Views.{Pipe, Objects}
 
 -- how many of the slices are of b
 abbrev pub uses : BufId → List Slice → ℕ
@@ -25,10 +26,14 @@ abbrev pub pipe_uses : BufId → Option (Pipe (List Slice)) → ℕ
 pipe_uses b None = 0
 pipe_uses b (Some p) = uses b p.queue
 
+-- those in a connection's queues
+abbrev pub conn_uses : BufId → ℕ × Conn (List Slice) → ℕ
+conn_uses b e = uses b e.1.incoming + uses b e.1.outgoing
+
 -- those in all aggregates and queues
-abbrev pub all_uses : List (Domain (List Slice)) → List (Option (Pipe (List Slice))) → BufId → ℕ
-all_uses domains pipes b = sum_by (domain_uses b) domains + sum_by (pipe_uses b) pipes
+abbrev pub all_uses : List (Domain (List Slice)) → Objects (List Slice) → BufId → ℕ
+all_uses domains objects b = sum_by (domain_uses b) domains + sum_by (pipe_uses b) objects.pipes + sum_by (conn_uses b) objects.conns
 
 -- the count of each buffer is the number of its slices, wherever they lie
-pub record IsCounted (s : Stored) (domains : List (Domain (List Slice))) (pipes : List (Option (Pipe (List Slice)))) : Type 0 where
-  pub each : (b : BufId) → count_of s b ≡ all_uses domains pipes b
+pub record IsCounted (s : Stored) (domains : List (Domain (List Slice))) (objects : Objects (List Slice)) : Type 0 where
+  pub each : (b : BufId) → count_of s b ≡ all_uses domains objects b

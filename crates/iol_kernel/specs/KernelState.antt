@@ -1,24 +1,35 @@
 -- What a system holds, and the state of the copying machine that it stands for.
-use Rattle.std.specs.Prelude.{◌≡◌, ℕ, ◌≤◌, true, length, List, [], ◌∷◌, flat_map, Option, Some, None, unwrap_or}
+use Rattle.std.specs.Prelude.{◌≡◌, ℕ, ◌+◌, ◌≤◌, true, false, length, List, [], ◌∷◌, flat_map, Option, Some, None, unwrap_or}
 use Rattle.iol_core.specs.State as machine
 use Rattle.iol_core.specs.declared.descriptors.Descriptor.{Descriptor}
 use Rattle.iol_core.specs.declared.descriptors.Descriptor.TheVariants as on
-use Rattle.iol_core.specs.declared.limits.TheConstants.{MAX_AGGREGATE_BYTES, MAX_AGGREGATES, MAX_QUEUE_BYTES, MAX_PIPES, MAX_POOLS}
+use Rattle.iol_core.specs.declared.limits.TheConstants.{MAX_AGGREGATE_BYTES, MAX_AGGREGATES, MAX_QUEUE_BYTES, MAX_PIPES, MAX_POOLS, MAX_CONNECTIONS, LAST_CONNECTION}
 use Rattle.iol_hold.specs.Stored.{Stored, IsTidy, IsStill, AllSettled}
 use Rattle.iol_hold.specs.Places.{Place, byte_len}
 use Rattle.iol_hold.specs.Layout.{read, number_at}
 use Rattle.iol_hold.specs.Texts.{byte_at, AllReadable}
 use Rattle.iol_hold.specs.declared.slices.Slice.{Slice}
+use Rattle.iol_pool.specs.Pools.{Pool, pool_in}
+use Rattle.iol_desc.specs.Listed.{Rises}
 use Rattle.iol_desc.specs.Tables.{agg_in, live_aggs_in}
-use Rattle.iol_kernel.specs.Views.{Pipe, pipe_in, state_view}
+use Rattle.iol_sum.specs.Sums.{Sums, IsRight}
+use Rattle.iol_sock.specs.Connections.{Conn}
+use Rattle.iol_kernel.specs.Views.{Pipe, Objects, pipe_in, state_view}
 use Rattle.iol_kernel.specs.Counted.{IsCounted}
 use Rattle.iol_kernel.specs.Ends.{IsOpenOnce}
 
--- the layers' values: an aggregate and a queue are lists of slices of the store's buffers
+-- the layers' values: an aggregate and a queue are lists of slices of the store's buffers, and sums are remembered
 pub record KernelState : Type 0 where
   pub store : Stored
   pub domains : List (machine.Domain (List Slice))
   pub pipes : List (Option (Pipe (List Slice)))
+  pub conns : List (ℕ × Conn (List Slice))
+  pub next_conn : ℕ
+  pub sums : Sums
+
+-- its pipes and connections
+abbrev pub objects_of : KernelState → Objects (List Slice)
+objects_of h = record { pipes = h.pipes; conns = h.conns; next_conn = h.next_conn }
 
 -- what is read at each place: a number, and whose it is
 abbrev pub Reading : Type 0
@@ -26,7 +37,7 @@ Reading = Place → ℕ × ℕ
 
 -- the copying machine's state, with what f reads at each place
 unfoldable pub read_of : Reading → KernelState → machine.State
-read_of f h = state_view (read f) h.domains h.store.pools h.pipes
+read_of f h = state_view (read f) h.domains h.store.pools (objects_of h)
 
 -- with the bytes that lie there: what the system stands for
 abbrev pub machine_of : KernelState → machine.State
@@ -54,6 +65,15 @@ abbrev pub IsPipeReadable : Stored → Option (Pipe (List Slice)) → Type 0
 IsPipeReadable s None = Unit {0}
 IsPipeReadable s (Some p) = AllReadable s p.queue
 
+-- what a connection's queues name lies in live buffers of their pools
+abbrev pub IsConnReadable : Stored → ℕ × Conn (List Slice) → Type 0
+IsConnReadable s e = AllReadable s e.1.incoming × AllReadable s e.1.outgoing
+
+-- what all queues name lies there
+pub record AreReadable (s : Stored) (objects : Objects (List Slice)) : Type 0 where
+  pub pipes : Each (IsPipeReadable s) objects.pipes
+  pub conns : Each (IsConnReadable s) objects.conns
+
 -- the slices of a domain's aggregate: none where there is no such aggregate
 abbrev pub slices_in : List (machine.Domain (List Slice)) → (d a : ℕ) → List Slice
 slices_in ds d a = unwrap_or (agg_in ds d a) []
@@ -62,37 +82,57 @@ slices_in ds d a = unwrap_or (agg_in ds d a) []
 abbrev pub queue_at : List (Option (Pipe (List Slice))) → (p : ℕ) → Pipe (List Slice)
 queue_at pipes p = pipe_in [] pipes p
 
--- an open descriptor is an end of a pipe, which is open there: there are no files and connections yet
-abbrev pub IsOpenEnd : List (Option (Pipe (List Slice))) → Option Descriptor → Type 0
-IsOpenEnd pipes None = Unit {0}
-IsOpenEnd pipes (Some (on.ReadEnd p)) = (queue_at pipes p).reading ≡ true
-IsOpenEnd pipes (Some (on.WriteEnd p)) = (queue_at pipes p).writing ≡ true
-IsOpenEnd pipes (Some (on.File f at mode)) = ⊥
-IsOpenEnd pipes (Some (on.Connection c)) = ⊥
+-- an open descriptor is an end of a pipe, which is open there: no domain has files or connections yet
+abbrev pub IsOpenEnd : Objects (List Slice) → Option Descriptor → Type 0
+IsOpenEnd objects None = Unit {0}
+IsOpenEnd objects (Some (on.ReadEnd p)) = (queue_at objects.pipes p).reading ≡ true
+IsOpenEnd objects (Some (on.WriteEnd p)) = (queue_at objects.pipes p).writing ≡ true
+IsOpenEnd objects (Some (on.File f at mode)) = ⊥
+IsOpenEnd objects (Some (on.Connection c)) = ⊥
 
 -- its queue is within the limit
 abbrev pub IsShort : Option (Pipe (List Slice)) → Type 0
 IsShort None = Unit {0}
 IsShort (Some p) = byte_len p.queue ≤ MAX_QUEUE_BYTES
 
+-- so are its queues, and only an accepted one was closed
+pub record IsConn (e : ℕ × Conn (List Slice)) : Type 0 where
+  pub incoming : byte_len e.1.incoming ≤ MAX_QUEUE_BYTES
+  pub outgoing : byte_len e.1.outgoing ≤ MAX_QUEUE_BYTES
+  pub waits : e.1.accepted ≡ false → e.1.closed ≡ false
+
+-- pipes and connections within the limits; the numbers of connections rise, and are below the next
+pub record AreLimited (objects : Objects (List Slice)) : Type 0 where
+  pub queues : Each IsShort objects.pipes
+  pub few_pipes : length objects.pipes ≤ MAX_PIPES
+  pub conns : Each IsConn objects.conns
+  pub few_conns : length objects.conns ≤ MAX_CONNECTIONS
+  pub rising : Rises 0 objects.conns objects.next_conn
+  pub last : objects.next_conn ≤ LAST_CONNECTION + 1
+
 -- aggregates and queues within the limits, which keep every count far below 2^63
-pub record IsLimited (domains : List (machine.Domain (List Slice))) (pipes : List (Option (Pipe (List Slice)))) : Type 0 where
+pub record IsLimited (domains : List (machine.Domain (List Slice))) (all : Objects (List Slice)) : Type 0 where
   pub aggs : Each (λ d. Each (λ e. byte_len e.1 ≤ MAX_AGGREGATE_BYTES) d.aggs) domains
   pub few : live_aggs_in domains ≤ MAX_AGGREGATES
-  pub queues : Each IsShort pipes
-  pub few_pipes : length pipes ≤ MAX_PIPES
+  pub objects : AreLimited all
+
+-- there are no more pools than there may be, and that of each connection is open
+pub record ArePooled (pools : List Pool) (conns : List (ℕ × Conn (List Slice))) : Type 0 where
+  pub few : length pools ≤ MAX_POOLS
+  pub opened : Each (λ e. (pool_in pools e.1.pool).closed ≡ false) conns
 
 -- Between any two events: what aggregates and queues name lies in live buffers of their pools, each buffer is counted
--- for each of its slices, no page is lost and no closed pool keeps chunks in which nothing lies, and descriptors are
--- open on open ends of pipes, each on one of its own.
+-- for each of its slices, no page is lost and no closed pool keeps chunks in which nothing lies, descriptors are
+-- open on open ends of pipes, each on one of its own, and remembered sums are right.
 pub record IsSound (h : KernelState) : Type 0 where
   pub domains : Each (IsDomainReadable h.store) h.domains
-  pub pipes : Each (IsPipeReadable h.store) h.pipes
-  pub fds : Each (λ d. Each (IsOpenEnd h.pipes) d.fds) h.domains
+  pub objects : AreReadable h.store (objects_of h)
+  pub fds : Each (λ d. Each (IsOpenEnd (objects_of h)) d.fds) h.domains
   pub once : IsOpenOnce h.domains
-  pub counted : IsCounted h.store h.domains h.pipes
+  pub counted : IsCounted h.store h.domains (objects_of h)
   pub tidy : IsTidy h.store
   pub still : IsStill h.store.arena
   pub settled : AllSettled h.store
-  pub limits : IsLimited h.domains h.pipes
-  pub few_pools : length h.store.pools ≤ MAX_POOLS
+  pub limits : IsLimited h.domains (objects_of h)
+  pub pooled : ArePooled h.store.pools h.conns
+  pub sums : IsRight h.store.arena h.sums

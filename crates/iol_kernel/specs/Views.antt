@@ -6,6 +6,7 @@ use Rattle.iol_core.specs.State as machine
 use Rattle.iol_core.specs.State.{State, Domain, no_slots}
 use Rattle.iol_pool.specs.Pools.{Pool}
 use Rattle.iol_hold.specs.Moves.{pool_meant}
+use Rattle.iol_sock.specs.Connections.{Conn, conn_view}
 
 -- a domain with each aggregate as what it means
 abbrev pub domain_view : {A B : Type 0} → (A → B) → Domain A → Domain B
@@ -21,16 +22,22 @@ pub record Pipe (A : Type 0) : Type 0 where
 abbrev pub pipe_view : {A : Type 0} → (A → Text) → Pipe A → machine.Pipe
 pipe_view g p = record { queue = g p.queue; reading = p.reading; writing = p.writing }
 
+-- what descriptors are open on: pipes in places, and connections under rising numbers; A is what a queue is
+pub record Objects (A : Type 0) : Type 0 where
+  pub pipes : List (Option (Pipe A))
+  pub conns : List (ℕ × Conn A)
+  pub next_conn : ℕ
+
 -- with each aggregate and queue as the text that g gives
-unfoldable pub state_view : {A : Type 0} → (A → Text) → List (Domain A) → List Pool → List (Option (Pipe A)) → State
-state_view g domains pools pipes = record {
+unfoldable pub state_view : {A : Type 0} → (A → Text) → List (Domain A) → List Pool → Objects A → State
+state_view g domains pools objects = record {
   domains = map (domain_view g) domains;
   pools = map pool_meant pools;
   files = [];
   slots = no_slots;
-  pipes = map (option_map (pipe_view g)) pipes;
-  conns = [];
-  next_conn = 1;
+  pipes = map (option_map (pipe_view g)) objects.pipes;
+  conns = map (λ e. (e.0, conn_view g e.1)) objects.conns;
+  next_conn = objects.next_conn;
 }
 
 -- the pipe in a place; where there is none, a pipe of that queue whose ends are closed

@@ -6,7 +6,7 @@ ghost use Rattle.iol_core.specs.Calls.Descriptors as calls;
 ghost use Rattle.iol_core.specs.Calls.Descriptors.{closed_on, freed, too_many_open, with_fds};
 ghost use Rattle.iol_kernel.specs.Ends.{all_ends_on};
 ghost use Rattle.iol_kernel.specs.ClosedEnds.{KeepsEnds};
-ghost use Rattle.iol_kernel.specs.KernelState.{Reading, IsOpenEnd, IsSound};
+ghost use Rattle.iol_kernel.specs.KernelState.{objects_of, Reading, IsOpenEnd, IsSound};
 
 use crate::kernel::Kernel;
 use iol_core::descriptors::Descriptor;
@@ -137,11 +137,11 @@ impl Kernel {
     /// open yet.
     pub(crate) fn close_end(&mut self, end: Descriptor)
         requires sound { IsSound (state_of self.old) }
-        requires open { IsOpenEnd (state_of self.old).pipes (Some end) }
+        requires open { IsOpenEnd (objects_of (state_of self.old)) (Some end) }
         requires free { all_ends_on end (state_of self.old).domains ≡ 0 }
         ensures closed { Leaves (λ s. closed_on s (Some end)) self.old self.new }
         ensures domains { (state_of self.new).domains ≡ (state_of self.old).domains }
-        ensures others { KeepsEnds end (state_of self.old).pipes (state_of self.new).pipes }
+        ensures others { KeepsEnds end (objects_of (state_of self.old)) (objects_of (state_of self.new)) }
     {
         match end {
             Descriptor::ReadEnd { pipe } => self.pipes.close_reader(&mut self.store, pipe),

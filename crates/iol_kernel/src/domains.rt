@@ -5,7 +5,7 @@ ghost use Rattle.iol_core.specs.Calls.Domains as calls;
 ghost use Rattle.iol_core.specs.Calls.Descriptors.{closed_on, with_fds};
 ghost use Rattle.iol_desc.specs.Tables.{with_aggs_in, with_fds_in};
 ghost use Rattle.iol_kernel.specs.ClosedEnds.{AreTaken};
-ghost use Rattle.iol_kernel.specs.KernelState.{Reading, IsSound};
+ghost use Rattle.iol_kernel.specs.KernelState.{objects_of, Reading, IsSound};
 
 use crate::kernel::Kernel;
 use crate::tables::release_all;
@@ -100,7 +100,7 @@ impl Kernel {
     #[tactic(auto, using(crate::proofs::Stay::stay_rules))]
     fn close_ends(&mut self, ends: &[Option<Descriptor>])
         requires sound { IsSound (state_of self.old) }
-        requires taken { AreTaken (state_of self.old).domains (state_of self.old).pipes ends.now }
+        requires taken { AreTaken (state_of self.old).domains (objects_of (state_of self.old)) ends.now }
         ensures closed { Leaves (λ s. fold closed_on s ends.now) self.old self.new }
         ensures domains { (state_of self.new).domains ≡ (state_of self.old).domains }
     {

@@ -19,15 +19,20 @@ use iol_core::numbers::{AggId, DomainId, Fd, PoolId};
 use iol_core::refusals::Refusal;
 use iol_desc::table::Table;
 use iol_hold::Store;
+use iol_sock::Connections;
+use iol_sum::SumCache;
 use std::alloc::{AllocError, Global};
 
-/// What a system holds: pages and pools, domains with their aggregates and descriptors, and pipes.
+/// What a system holds: pages and pools, domains with their aggregates and descriptors, pipes, connections, and the
+/// sums that are remembered.
 #[derive(Drop)]
 pub struct Kernel {
     pub(crate) alloc: Global,
     pub(crate) store: Store,
     pub(crate) domains: Table<Agg>,
     pub(crate) pipes: Pipes,
+    pub(crate) conns: Connections,
+    pub(crate) sums: SumCache,
 }
 
 impl Kernel {
@@ -47,11 +52,16 @@ impl Kernel {
         let store = Store::new(alloc, config)?;
         let mut domains = Table::new(alloc);
         domains.add_domain()?;
+        let sums = SumCache::new(alloc, config.sums)?;
+        let pipes = Pipes::new(alloc);
+        let conns = Connections::new(alloc);
         Ok(Kernel {
             alloc,
             store,
             domains,
-            pipes: Pipes::new(alloc),
+            pipes,
+            conns,
+            sums,
         })
     }
 

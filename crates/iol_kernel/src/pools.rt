@@ -55,7 +55,7 @@ impl Kernel {
 
     /// Whether there is a pool of this number.
     #[tactic(auto, using(crate::proofs::Views::pool_rules), unfolding(crate::specs::KernelState::read_of))]
-    fn is_pool(&self, p: PoolId) -> bool
+    pub(crate) fn is_pool(&self, p: PoolId) -> bool
         ensures { (f : Reading) → result ≡ is_pool (as_read f self.now) p }
     {
         self.store.pools().is_pool(p)
@@ -175,16 +175,27 @@ impl Kernel {
         if self.is_closed(pool) {
             return Err(Refusal::PoolClosed { pool });
         }
+        if self.is_busy(pool) {
+            return Err(Refusal::PoolBusy { pool });
+        }
         self.end_pool(pool);
         Ok(())
     }
 
-    /// Closes a pool. No file and no connection can name it yet.
+    /// Whether a connection is of the pool. There are no files yet.
+    #[tactic(auto, using(crate::proofs::Views::busy_rules), unfolding(crate::specs::KernelState::read_of))]
+    fn is_busy(&self, p: PoolId) -> bool
+        ensures { (f : Reading) → result ≡ calls.is_busy (as_read f self.now) p }
+    {
+        self.conns.is_busy(p)
+    }
+
+    /// Closes a pool, which no connection is of.
     fn end_pool(&mut self, p: PoolId)
         requires sound { IsSound (state_of self.old) }
         requires there { is_pool (machine self.old) p ≡ true }
-        ensures idle { (f : Reading) → calls.is_busy (as_read f self.old) p ≡ false }
-        ensures closed { Leaves (λ s. record s {
+        requires idle { (f : Reading) → calls.is_busy (as_read f self.old) p ≡ false }
+        ensures { Leaves (λ s. record s {
           pools = with_numbered s.pools p (record (state.pool
               s p) { closed = true });
         }) self.old self.new }

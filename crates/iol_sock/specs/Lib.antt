@@ -2,3 +2,4 @@ pub mod Connections
 pub mod Meant
 pub mod Refused
 pub mod Sent
+pub mod Table

@@ -6,9 +6,9 @@ use Rattle.iol_desc.proofs.Holes.{listed-exchanged, exchanged_held}
 use Rattle.iol_desc.proofs.entries.Entries.swap.Goals as goal
 
 pub invariant_of-self : goal.invariant_of-self
-invariant_of-self g c = rw c.replace.ensures.items (listed-exchanged _ _ _ _ _ c.self.invariant (subst (λ (l : Listed g.row.A.Denot). lookup l.entries c.args.agg ≢ None) (sym c.self.view_is) c.requires))
+invariant_of-self g c = rw c.replace.ensures.items (listed-exchanged _ _ _ _ _ c.self.invariant (subst (λ (l : Listed g.row.A.Denot). lookup l.entries c.args.number ≢ None) (sym c.self.view_is) c.requires))
 
 pub returns-clause-entries : goal.returns-clause-entries
 returns-clause-entries g c =
-    let found = subst (λ (l : Listed g.row.A.Denot). lookup l.entries c.args.agg ≢ None) (sym c.self.view_is) c.requires in
-    ap (λ (es : List (ℕ × Option g.row.A.Denot)). there es) c.replace.ensures.items ∙ exchanged_held _ _ c.args.agg _ c.args.other c.self.invariant found ∙ ap (λ (l : Listed g.row.A.Denot). exchanged l.entries c.args.agg c.args.other) c.self.view_is
+    let found = subst (λ (l : Listed g.row.A.Denot). lookup l.entries c.args.number ≢ None) (sym c.self.view_is) c.requires in
+    ap (λ (es : List (ℕ × Option g.row.A.Denot)). there es) c.replace.ensures.items ∙ exchanged_held _ _ c.args.number _ c.args.other c.self.invariant found ∙ ap (λ (l : Listed g.row.A.Denot). exchanged l.entries c.args.number c.args.other) c.self.view_is

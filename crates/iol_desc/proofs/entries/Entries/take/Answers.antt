@@ -5,8 +5,8 @@ use Rattle.iol_desc.proofs.Holes.{listed-taken, taken_held}
 use Rattle.iol_desc.proofs.entries.Entries.take.Goals as goal
 
 pub invariant_of-self : goal.invariant_of-self
-invariant_of-self g c = rw c.replace-given.ensures.items (listed-taken _ _ _ _ c.self.invariant (subst (λ (l : Listed g.row.A.Denot). lookup l.entries c.args.agg ≢ None) (sym c.self.view_is) c.requires))
+invariant_of-self g c = rw c.replace-given.ensures.items (listed-taken _ _ _ _ c.self.invariant (subst (λ (l : Listed g.row.A.Denot). lookup l.entries c.args.number ≢ None) (sym c.self.view_is) c.requires))
 
 pub returns-clause-entries : goal.returns-clause-entries
 returns-clause-entries g c =
-    c.trim.ensures.entries ∙ ap (λ (es : List (ℕ × Option g.row.A.Denot)). there es) c.replace-given.ensures.items ∙ taken_held _ _ c.args.agg _ c.self.invariant ∙ ap (λ (l : Listed g.row.A.Denot). without l.entries c.args.agg) c.self.view_is
+    c.trim.ensures.entries ∙ ap (λ (es : List (ℕ × Option g.row.A.Denot)). there es) c.replace-given.ensures.items ∙ taken_held _ _ c.args.number _ c.self.invariant ∙ ap (λ (l : Listed g.row.A.Denot). without l.entries c.args.number) c.self.view_is

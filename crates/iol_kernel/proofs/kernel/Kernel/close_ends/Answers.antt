@@ -4,7 +4,7 @@ use Rattle.std.proofs.lemmas.List.Sums.{fold_more}
 use Rattle.iol_core.specs.Calls.Descriptors.{closed_on}
 use Rattle.iol_core.specs.declared.descriptors.Descriptor.{Descriptor}
 use Rattle.iol_kernel.specs.Kernel.{state_of}
-use Rattle.iol_kernel.specs.KernelState.{read_of}
+use Rattle.iol_kernel.specs.KernelState.{objects_of, read_of}
 use Rattle.iol_kernel.proofs.CloseAll.{pools-fold}
 use Rattle.iol_kernel.proofs.Effects.{leaves_as, leaves_then}
 use Rattle.iol_kernel.proofs.TakenEnds.{later_taken}
@@ -22,5 +22,5 @@ loop-place-preserved c =
           (λ f. ap (λ (o : Option Descriptor). closed_on (fold closed_on (read_of f h) (take i ends)) o) (sym c.in-Some.is ∙ c.place-item.is) ∙ sym (fold_more closed_on (read_of f h) ends i c.place-item.result c.loop-place-test.true))
           (leaves_then (λ s. fold closed_on s (take i ends)) (λ s. closed_on s (Some c.in-Some.end)) h k l (λ s. pools-fold s (take i ends)) c.loop-place.invariant.closed c.close_end.ensures.closed);
       domains = c.close_end.ensures.domains ∙ c.loop-place.invariant.domains;
-      left = later_taken h.domains k.pipes ends i c.place-item.result c.loop-place-test.true c.place-item.is c.loop-place.invariant.left c.in-Some.end c.in-Some.is l.pipes c.close_end.ensures.others;
+      left = later_taken h.domains (objects_of k) ends i c.place-item.result c.loop-place-test.true c.place-item.is c.loop-place.invariant.left c.in-Some.end c.in-Some.is (objects_of l) c.close_end.ensures.others;
     }

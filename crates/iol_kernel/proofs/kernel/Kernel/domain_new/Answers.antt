@@ -12,6 +12,7 @@ returns c =
       step = λ f keeps. (search (rules), search (rules), grown-read f h (domains_of c.add_domain.new.self) c.in_ok-add_domain.ensures.ok);
       arena = refl;
       pools = refl;
+      sums = refl;
       roomy = search (rules);
       refused = tt;
       sound = grown-sound h (domains_of c.add_domain.new.self) c.requires c.in_ok-add_domain.ensures.ok;

@@ -1,17 +1,23 @@
-use Rattle.std.proofs.Common.{◌∙◌, ap, List, [], ◌∷◌, ◌++◌, ◌*◌}
+use Rattle.std.proofs.Common.{rules, ◌≡◌, ◌∙◌, ap, refl, List, [], ◌∷◌, ◌++◌, ◌*◌, ℕ}
 use Rattle.iol_core.specs.State.{new_domain}
 use Rattle.iol_hold.specs.declared.slices.Slice.{Slice}
 use Rattle.iol_desc.specs.Tables.{Row, domains_of}
-use Rattle.iol_kernel.proofs.Beginning.{new-machine, new-sound}
+use Rattle.iol_sock.specs.Connections.{Conn}
+use Rattle.iol_kernel.specs.Views.{Objects, Pipe}
+use Rattle.iol_kernel.specs.KernelState.{KernelState, objects_of}
+use Rattle.iol_kernel.proofs.Beginning.{new-machine, new-sound, none_of, some_sums}
 use Rattle.iol_kernel.proofs.kernel.Kernel.new.Goals as goal
+
+pub new-requires-2 : goal.new-requires-2
+new-requires-2 c = some_sums c.args.config c.new.result c.in_ok-store.store c.new.ensures.range (search (rules))
 
 pub returns-clause-new : goal.returns-clause-new
 returns-clause-new c =
-    new-machine (record { store = c.in_ok-store.store; domains = domains_of c.add_domain.new.self; pipes = c.new-2.result.places })
-    (c.in_ok-add_domain.ensures.ok ∙ ap (λ (rows : List (Row (List Slice))). domains_of rows ++ new_domain ∷ []) c.new-domains.ensures) c.in_ok-store.ensures.pools c.new-2.ensures
+    new-machine (record { store = c.in_ok-store.store; domains = domains_of c.add_domain.new.self; pipes = c.new-pipes.result.places; conns = c.new-conns.result.conns; next_conn = c.new-conns.result.next; sums = c.in_ok-sums.sums })
+    (c.in_ok-add_domain.ensures.ok ∙ ap (λ (rows : List (Row (List Slice))). domains_of rows ++ new_domain ∷ []) c.new-domains.ensures) c.in_ok-store.ensures.pools (none_of c.new-pipes.ensures c.new-conns.ensures.none c.new-conns.ensures.next)
 
 pub returns-clause-sound : goal.returns-clause-sound
 returns-clause-sound c =
-    new-sound (record { store = c.in_ok-store.store; domains = domains_of c.add_domain.new.self; pipes = c.new-2.result.places }) (c.args.config.chunks * 16)
+    new-sound (record { store = c.in_ok-store.store; domains = domains_of c.add_domain.new.self; pipes = c.new-pipes.result.places; conns = c.new-conns.result.conns; next_conn = c.new-conns.result.next; sums = c.in_ok-sums.sums }) (c.args.config.chunks * 16)
     (c.in_ok-add_domain.ensures.ok ∙ ap (λ (rows : List (Row (List Slice))). domains_of rows ++ new_domain ∷ []) c.new-domains.ensures)
-    c.in_ok-store.ensures.entries c.in_ok-store.ensures.tidy c.in_ok-store.ensures.settled c.new-2.ensures c.in_ok-store.ensures.pools
+    c.in_ok-store.ensures.entries c.in_ok-store.ensures.tidy c.in_ok-store.ensures.settled (none_of c.new-pipes.ensures c.new-conns.ensures.none c.new-conns.ensures.next) c.in_ok-store.ensures.pools (c.in_ok-sums.ensures.right c.in_ok-store.store.arena)

@@ -5,6 +5,7 @@ use Rattle.iol_core.specs.declared.limits.TheConstants.{MAX_QUEUE_BYTES}
 use Rattle.iol_hold.specs.Places.{places, byte_len}
 use Rattle.iol_hold.specs.Texts.{byte_at}
 use Rattle.iol_kernel.specs.Kernel.{state_of}
+use Rattle.iol_kernel.specs.KernelState.{objects_of}
 use Rattle.iol_kernel.specs.KernelState.{queue_at}
 use Rattle.iol_kernel.proofs.Queueing.{writing_held, queue_short, pushed_answers}
 use Rattle.iol_kernel.proofs.ReadOf.{live_held}
@@ -22,12 +23,12 @@ push-requires-clause-writing c = let h = state_of c.args.self.now in writing_hel
 pub push-requires-clause-covered : goal.push-requires-clause-covered
 push-requires-clause-covered c =
     let h = state_of c.args.self.now in
-    agg_covered h.store h.domains h.pipes c.args.by c.args.agg c.in-Some.found.now c.requires.sound.counted (live_held _ h c.args.by c.requires.live) c.in-Some.ensures
+    agg_covered h.store h.domains (objects_of h) c.args.by c.args.agg c.in-Some.found.now c.requires.sound.counted (live_held _ h c.args.by c.requires.live) c.in-Some.ensures
 
 pub push-requires-clause-countable : goal.push-requires-clause-countable
 push-requires-clause-countable c =
     let h = state_of c.args.self.now in
-    countable h.store h.domains h.pipes c.in-Some.found.now c.requires.sound.counted c.requires.sound.limits (agg_small h c.args.by c.args.agg c.in-Some.found.now c.requires.sound c.in-Some.ensures)
+    countable h.store h.domains (objects_of h) c.in-Some.found.now c.requires.sound.counted c.requires.sound.limits (agg_small h c.args.by c.args.agg c.in-Some.found.now c.requires.sound c.in-Some.ensures)
 
 -- what fits keeps the queue within its bound
 short : (old new given n : ℕ) → old ≤ MAX_QUEUE_BYTES → n ≡ min given (MAX_QUEUE_BYTES - old) → new ≤ old + n → new ≤ MAX_QUEUE_BYTES

@@ -4,6 +4,7 @@ use Rattle.iol_hold.specs.declared.slices.Slice.{Slice}
 use Rattle.iol_desc.specs.Tables.{domains_of, domain_in, with_agg_in}
 use Rattle.iol_hold.specs.Texts.{byte_at}
 use Rattle.iol_kernel.specs.Kernel.{state_of}
+use Rattle.iol_kernel.specs.KernelState.{objects_of}
 use Rattle.iol_kernel.proofs.Effects.{few_aggs, few_numbers}
 use Rattle.iol_kernel.proofs.Ends.{there_if_open}
 use Rattle.iol_kernel.proofs.Queueing.{reading_held, queue_short, taken_answers}
@@ -17,13 +18,13 @@ front-requires-clause-reading c = let h = state_of c.args.self.now in reading_he
 pub front-requires-clause-covered : goal.front-requires-clause-covered
 front-requires-clause-covered c =
     let h = state_of c.args.self.now in
-    queue_covered h.store h.domains h.pipes c.args.p c.requires.sound.counted (there_if_open h.pipes c.args.p (inl (reading_held _ h c.args.by c.args.fd c.args.p c.requires.sound (c.requires.from (byte_at h.store)))))
+    queue_covered h.store h.domains (objects_of h) c.args.p c.requires.sound.counted (there_if_open h.pipes c.args.p (inl (reading_held _ h c.args.by c.args.fd c.args.p c.requires.sound (c.requires.from (byte_at h.store)))))
 
 pub front-requires-clause-countable : goal.front-requires-clause-countable
 front-requires-clause-countable c =
     let h = state_of c.args.self.now in
     let short = queue_short h c.args.p c.requires.sound in
-    countable h.store h.domains h.pipes _ c.requires.sound.counted c.requires.sound.limits (omega (arith, short))
+    countable h.store h.domains (objects_of h) _ c.requires.sound.counted c.requires.sound.limits (omega (arith, short))
 
 pub add_agg-requires-clause-live : goal.add_agg-requires-clause-live
 add_agg-requires-clause-live c = ap (λ (ds : List (Domain (List Slice))). (domain_in ds c.args.by).live) c.in_ok-reserve_aggs.ensures.same ∙ live_held _ (state_of c.args.self.now) c.args.by c.requires.live
