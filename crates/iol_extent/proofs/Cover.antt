@@ -1,4 +1,4 @@
-use Rattle.std.proofs.Common.{inl, inr, ◌≡◌, ◌⊎◌, ℕ, zero, suc, ◌+◌, ◌-◌, ◌<◌, ◌≤◌, ◌==◌, Bool, true, false, cond, List, [], ◌∷◌, length, get_or, take, drop, Option, Some, None, IsSome, ap, ◌∙◌, refl, sym, arith, subst, insert, remove, max}
+use Rattle.std.proofs.Common.{inl, inr, ◌≡◌, ◌⊎◌, ℕ, zero, suc, ◌+◌, ◌-◌, ◌<◌, ◌≤◌, ◌==◌, Bool, true, false, cond, List, [], ◌∷◌, length, get_or, take, drop, Option, Some, None, IsSome, ap, ◌∙◌, refl, sym, arith, subst, insert, remove, max, min}
 use Rattle.std.proofs.lemmas.Bool.{cases_lt}
 use Rattle.std.proofs.lemmas.List.{get_or-take, get_or-drop, length-take-le, length-drop}
 use Rattle.std.proofs.lemmas.Bool.Decides.{nat_tests}
@@ -213,6 +213,21 @@ gap_past es k at to a h b = record { each = λ i l m. over_past es k i a h (λ j
 pub gap_before : (es : List Extent) (k at to : ℕ) (e : Extent) → IsApart 0 es → k ≤ length es → ((j : ℕ) (d : Extent) → j < k → end_of (get_or es j d) ≤ at) → e ≡ get_or es k e → to ≤ e.at → IsGap es at to
 gap_before es k at to e a h b r t = record { each = λ i l m. over_before es k i e a h (λ j d n. let u = b j d n in omega arith) r (omega arith) }
 
+pub some_is : {o : Option Cell} {c : Cell} → o ≡ Some c → IsSome o
+some_is {o} {c} h = subst IsSome (sym h) refl
+
+-- a gap before it ends where it begins, or with the range
+pub gap_ends : (es : List Extent) (k at to end : ℕ) (e : Extent) → IsApart 0 es → k < length es → ((j : ℕ) (d : Extent) → j < k → end_of (get_or es j d) ≤ at) → e ≡ get_or es k e → at < e.at → end ≡ min e.at to → (end ≡ to) ⊎ IsSome (cover es end)
+gap_ends es k at to end e a h b r l m =
+    let some = some_at 0 es k e a h in
+    let begins : e.at ≡ (get_or es k e).at = ap (λ (x : Extent). x.at) r in
+    elim (cases_lt e.at to) [
+      | inl lt ↦ (let is : end ≡ e.at = omega (arith, m, lt) in
+          let found = over_at es k e.at e a h (λ j d n. let u = b j d n in omega (arith, u, l)) r (omega arith) (omega (arith, some, begins)) in
+          inr (some_is (ap (λ i. cover es i) is ∙ found)))
+      | inr le ↦ inl (omega (arith, m, le))
+    ]
+
 -- bytes of the extent at k
 pub hit_at : (es : List Extent) (k at i : ℕ) (e : Extent) → IsApart 0 es → k < length es → ((j : ℕ) (d : Extent) → j < k → end_of (get_or es j d) ≤ at) → e ≡ get_or es k e → e.at ≤ at → at ≤ i → i < end_of e → cover es i ≡ Some (cell_at e i)
 hit_at es k at i e a h b r f l t = over_at es k i e a h (λ j d n. let u = b j d n in omega arith) r (omega arith) (omega (arith, ap end_of r))
@@ -240,9 +255,6 @@ cover_split e x y k rest i xa ya h xd yd xp yp =
   where
     same_cell : (x e : Extent) (i : ℕ) → x.dirty ≡ e.dirty → get_or (places x.parts) (i - x.at) no_place ≡ get_or (places e.parts) (i - e.at) no_place → Some (cell_at x i) ≡ Some (cell_at e i)
     same_cell x e i d p = cc
-
-pub some_is : {o : Option Cell} {c : Cell} → o ≡ Some c → IsSome o
-some_is {o} {c} h = subst IsSome (sym h) refl
 
 -- the ends rise
 pub ends_rise : (low : ℕ) (es : List Extent) (j k : ℕ) (d : Extent) → IsApart low es → j ≤ k → k < length es → end_of (get_or es j d) ≤ end_of (get_or es k d)

@@ -2,7 +2,7 @@ use Rattle.std.proofs.Common.{◌≡◌, ◌∙◌, List, get_or, ap, sym, subst
 use Rattle.iol_extent.specs.declared.spans.Span.{Span}
 use Rattle.iol_extent.specs.Extents.{ExtentMap, Extent}
 use Rattle.iol_extent.specs.Spans.{IsHit}
-use Rattle.iol_extent.proofs.Cover.{gap_past, gap_before}
+use Rattle.iol_extent.proofs.Cover.{gap_past, gap_before, gap_ends}
 use Rattle.iol_extent.proofs.extents.Extents.span_at.Goals as goal
 
 pub returns-then-found-len-clause-gap : goal.returns-then-found-len-clause-gap
@@ -30,3 +30,10 @@ returns-clause-hit c =
       ends = omega (arith, c.min-2.ensures, c.end.ensures);
     } in
     λ _. subst (λ (es : List Extent). IsHit es c.args.to s) (e ∙ (ap (λ (m : ExtentMap). m.extents) c.self.view_is)) hit
+
+pub returns-then-piece-at-clause-ends : goal.returns-then-piece-at-clause-ends
+returns-then-piece-at-clause-ends c =
+    let e = c.deref.ensures.value in
+    let at : c.index-piece.result.now ≡ get_or c.deref.result.now c.count_before-found.result c.index-piece.result.now = rw e c.index-piece.ensures in
+    let begins = ap (λ (x : Extent). x.at) c.piece.view_is in
+    λ _. rw (← (ap (λ (m : ExtentMap). m.extents) c.self.view_is), ← e) (gap_ends c.deref.result.now c.count_before-found.result c.args.at c.args.to c.min.result c.index-piece.result.now (rw e c.self.invariant.apart) (omega arith) c.count_before-found.ensures.before at (omega (arith, begins)) (omega (arith, begins, c.min.ensures)))
