@@ -5,7 +5,8 @@
 //! store has the same bytes, else dirty.
 //!
 //!     let found = extents.find(alloc, 0, 4096)?;      // hits and gaps
-//!     extents.put(0, agg, false)?;                    // into a gap
+//!     extents.reserve(1)?;
+//!     extents.put(0, agg, false);                     // into a gap
 //!     let agg = extents.remove(0);
 #![tactic(auto)]
 

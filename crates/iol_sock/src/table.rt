@@ -113,6 +113,7 @@ impl Connections {
         ensures number { result ≡ self.old.next }
         ensures conns { self.new.conns ≡ self.old.conns ++ (self.old.next, new_conn pool) ∷ [] }
         ensures next { self.new.next ≡ self.old.next + 1 }
+        ensures room { self.old.room ≤ self.new.room + 1 }
     {
         let number = self.live.push(Connection::new(alloc, pool));
         self.waiting.push_reserved((number, pool));
