@@ -1,6 +1,6 @@
 -- What arrives at a connection, and what is sent of it.
-use Rattle.std.proofs.Common.{◌≡◌, ◌≢◌, ℕ, ◌+◌, ◌≤◌, ◌==◌, ◌&&◌, ◌||◌, Bool, not, List, [], ◌∷◌, ◌++◌, length, map, take, drop, ap, ◌∙◌, refl, sym, subst, arith, Option, Some, None, true, false}
-use Rattle.std.specs.Prelude.{if◌then◌else◌, is_some, unwrap_or, MatchOption, Result, Ok, Err}
+use Rattle.std.proofs.Common.{◌≡◌, ◌≢◌, ℕ, ◌+◌, ◌≤◌, ◌==◌, ◌&&◌, ◌||◌, Bool, not, List, ◌∷◌, ◌++◌, length, map, take, ap, ◌∙◌, refl, sym, subst, arith, Option, Some, None, true, false}
+use Rattle.std.specs.Prelude.{if◌then◌else◌, is_some, MatchOption, Ok, Err}
 use Rattle.iol_core.specs.Text.{Text, labelled}
 use Rattle.iol_core.specs.Numbered.{lookup, without, changed}
 use Rattle.iol_core.specs.State as machine
@@ -13,7 +13,7 @@ use Rattle.iol_hold.specs.Layout.{read}
 use Rattle.iol_hold.specs.Stored.{Stored, count_of}
 use Rattle.iol_hold.specs.Moves.{pool_meant, tally}
 use Rattle.iol_hold.specs.Places.{byte_len}
-use Rattle.iol_hold.specs.Room.{lowest_of, has_room}
+use Rattle.iol_hold.specs.Room.{has_room}
 use Rattle.iol_hold.specs.Texts.{text_of, bufs_of, byte_at, AllReadable}
 use Rattle.iol_hold.specs.declared.slices.Slice.{Slice}
 use Rattle.iol_hold.proofs.AtPlaces.{read-append}
@@ -23,7 +23,7 @@ use Rattle.iol_hold.proofs.Slicing.{byte_len-append}
 use Rattle.std.proofs.lemmas.List.{length-take, length-map}
 use Rattle.iol_pipe.specs.Adding.{AddsBytes}
 use Rattle.iol_sum.proofs.Keeping.{IsRight-keeps}
-use Rattle.iol_sock.specs.Connections.{Conn, conn_view, is_over}
+use Rattle.iol_sock.specs.Connections.{Conn, conn_view}
 use Rattle.iol_sock.specs.Table.{conn_in}
 use Rattle.iol_sock.proofs.Meaning.{conn_at-is, arrives_meant, takes_meant, wants_meant}
 use Rattle.iol_sock.specs.Refused.{arrive_refusals, arrive_late, IsRefused}
@@ -31,7 +31,6 @@ use Rattle.iol_pipe.specs.Queue.{fitting}
 use Rattle.iol_core.specs.Meaning.{Meaning, Step, first, ◌when◌}
 use Rattle.iol_core.specs.declared.refusals.Refusal.{Refusal}
 use Rattle.iol_core.specs.declared.refusals.Refusal.TheVariants.{BrokenPipe}
-use Rattle.iol_sum.specs.Sums.{Sums, IsRight}
 use Rattle.iol_kernel.specs.Counted.{uses, conn_uses}
 use Rattle.iol_kernel.specs.KernelState as held
 use Rattle.iol_kernel.specs.KernelState.{KernelState, objects_of, Each, IsConnReadable, AreReadable, IsOpenEnd, IsSound, Reading, read_of, machine_of}

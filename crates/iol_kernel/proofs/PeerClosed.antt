@@ -1,5 +1,5 @@
 -- The peer of a connection closes.
-use Rattle.std.proofs.Common.{◌≢◌, None, ◌≡◌, ℕ, ◌+◌, ◌≤◌, List, [], ap, ◌∙◌, refl, sym, subst, arith, Some}
+use Rattle.std.proofs.Common.{◌≢◌, None, ◌≡◌, ℕ, ◌+◌, List, ap, ◌∙◌, refl, sym, subst, arith, Some}
 use Rattle.iol_core.specs.Numbered.{lookup, changed}
 use Rattle.iol_core.specs.State as machine
 use Rattle.iol_core.specs.State.{State, Connection}

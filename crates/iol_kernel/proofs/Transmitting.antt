@@ -1,5 +1,5 @@
 -- What is sent of a connection. The machine does not see the remembered sums, which change.
-use Rattle.std.proofs.Common.{◌≡◌, ◌≢◌, ℕ, ◌+◌, ◌≤◌, List, [], ◌∷◌, ◌++◌, length, map, take, drop, ap, ◌∙◌, refl, sym, subst, arith, Option, Some, None, true, false}
+use Rattle.std.proofs.Common.{◌≡◌, ◌≢◌, ℕ, ◌+◌, List, [], ◌∷◌, length, take, drop, ap, ◌∙◌, refl, sym, subst, arith, Option, Some, None, true, false}
 use Rattle.std.specs.Prelude.{Result, Ok, Err, MatchOption, Bool, ◌==◌}
 use Rattle.iol_core.specs.Meaning.{◌when◌}
 use Rattle.iol_core.specs.declared.refusals.Refusal.TheVariants.{NoRoom, BadRange, WouldBlock}
@@ -14,7 +14,6 @@ use Rattle.iol_core.specs.Meaning.{Step, first, WantOfMemory}
 use Rattle.iol_core.specs.State as machine
 use Rattle.iol_core.specs.State.{State, Connection}
 use Rattle.iol_core.specs.Calls.Outside as outside
-use Rattle.iol_core.specs.declared.limits.TheConstants.{MAX_QUEUE_BYTES}
 use Rattle.iol_core.specs.declared.numbers.BufId.{BufId}
 use Rattle.iol_core.specs.declared.refusals.Refusal.{Refusal}
 use Rattle.iol_hold.specs.Layout.{read}
@@ -22,10 +21,9 @@ use Rattle.iol_hold.specs.Stored.{Stored, count_of, AllSettled}
 use Rattle.iol_hold.specs.Moves.{Moves, SameLists}
 use Rattle.iol_hold.specs.Places.{places, byte_len}
 use Rattle.iol_hold.specs.Releases.{FreesOnly}
-use Rattle.iol_hold.specs.Texts.{text_of, bufs_of, byte_at, AllReadable}
+use Rattle.iol_hold.specs.Texts.{text_of, bufs_of, byte_at}
 use Rattle.iol_hold.specs.declared.slices.Slice.{Slice}
 use Rattle.iol_hold.proofs.AtPlaces.{read_rest}
-use Rattle.iol_hold.proofs.Moving.{stays_trans}
 use Rattle.iol_hold.proofs.Paging.{keeps_pages_frees}
 use Rattle.iol_hold.proofs.Reading.{readable_rest}
 use Rattle.iol_sum.specs.Sums.{Sums, IsRight}

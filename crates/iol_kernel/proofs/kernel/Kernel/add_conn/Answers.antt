@@ -1,4 +1,4 @@
-use Rattle.std.proofs.Common.{◌≡◌, ◌∙◌, ◌<◌, ◌≤◌, ◌+◌, ◌++◌, ◌∷◌, [], ap, sym, subst, ℕ}
+use Rattle.std.proofs.Common.{◌∙◌, ◌<◌, ◌≤◌, ◌+◌, ◌++◌, ◌∷◌, [], ap, sym, subst}
 use Rattle.iol_hold.specs.Texts.{byte_at}
 use Rattle.iol_sock.specs.Connections.{new_conn}
 use Rattle.iol_kernel.specs.Kernel.{state_of}

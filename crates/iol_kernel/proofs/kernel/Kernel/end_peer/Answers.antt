@@ -1,10 +1,7 @@
-use Rattle.std.proofs.Common.{◌≡◌, ◌∙◌, ap, ℕ, List}
-use Rattle.iol_core.specs.Numbered.{changed}
+use Rattle.std.proofs.Common.{ap}
 use Rattle.iol_hold.specs.Texts.{byte_at}
-use Rattle.iol_sock.specs.Connections.{closed_by}
 use Rattle.iol_sock.specs.Table.{ConnTable, conn_in}
 use Rattle.iol_kernel.specs.Kernel.{state_of}
-use Rattle.iol_kernel.specs.KernelState.{KernelState}
 use Rattle.iol_kernel.proofs.Connecting.{conn_held, conn_in-found, outgoing_covered}
 use Rattle.iol_kernel.proofs.PeerClosed.{peer_sound, peer_there, peer_left}
 use Rattle.iol_kernel.proofs.kernel.Kernel.end_peer.Goals as goal
