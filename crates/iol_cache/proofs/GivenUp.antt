@@ -18,7 +18,7 @@ use Rattle.iol_hold.proofs.Moving.{stays_trans, moves_none}
 use Rattle.iol_hold.proofs.Releasing.{frees_trans, frees_none}
 use Rattle.iol_extent.specs.Extents.{Extent, Cell, cover, cell_at, is_over, end_of, IsApart, begins_at, without_at}
 use Rattle.iol_cache.specs.declared.files.CachedFile.{CachedFile}
-use Rattle.iol_cache.specs.Cached.{Cached, file_in, with_file, order_in, with_order, extents_in, parts_in, parts_at, slices_in, held, clean_held, lacking, without_extent, with_evicted}
+use Rattle.iol_cache.specs.Cached.{Cached, file_in, with_file, order_in, with_order, extents_in, parts_in, parts_at, slices_in, held, clean_held, lacking, without_extent}
 use Rattle.iol_cache.specs.Contents.{file_byte, file_bytes, file_len, byte_in, read_or, IsStored, AreStored, Mirrors}
 use Rattle.iol_cache.specs.Sound.{Each, IsLaid, IsSound}
 use Rattle.iol_cache.specs.Evicting.{Holding, IsCleanAt, Evicts, KeepsPlaces, GivesUp}

@@ -28,4 +28,15 @@ pub mod Woven
 pub mod Steps
 pub mod Tiled
 pub mod Replaced
+pub mod Hits
+pub mod Texts
+pub mod Served
+pub mod Changed
 pub mod Written
+pub mod Overlaid
+pub mod Prepared
+pub mod Overwritten
+pub mod Placed
+pub mod Storing
+pub mod Cleaned
+pub mod Synced

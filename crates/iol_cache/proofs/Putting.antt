@@ -192,7 +192,7 @@ each-all_put P es (e ∷ made) all more = each-all_put P (put_in es e) made (eac
 
 -- What begins at a place.
 
-kept_begins : (es : List Extent) (low high at : ℕ) (gs : List Span) (made : List Extent) → at < low → AreInOrder low high gs → AllZip Begin gs made → begins_at (all_put es made) at ≡ begins_at es at
+pub kept_begins : (es : List Extent) (low high at : ℕ) (gs : List Span) (made : List Extent) → at < low → AreInOrder low high gs → AllZip Begin gs made → begins_at (all_put es made) at ≡ begins_at es at
 unfolding all_put
 kept_begins es low high at [] [] h order zip = refl
 kept_begins es low high at [] (e ∷ made) h order zip = absurd zip

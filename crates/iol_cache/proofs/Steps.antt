@@ -8,7 +8,7 @@ use Rattle.iol_hold.specs.Stored.{Stored, AllSettled}
 use Rattle.iol_hold.proofs.Counting.{tally-append}
 use Rattle.iol_hold.proofs.Moving.{stays_trans, moves_none}
 use Rattle.iol_cache.specs.Cached.{Cached, file_in, extents_in, order_in, held}
-use Rattle.iol_cache.specs.Contents.{AreStored, Mirrors, file_bytes, byte_in}
+use Rattle.iol_cache.specs.Contents.{AreStored, file_bytes, byte_in}
 use Rattle.iol_cache.specs.Evicting.{Holding, GivesUp}
 use Rattle.iol_cache.specs.Going.{Goes, CountsHits}
 use Rattle.iol_core.specs.Numbered.{is_numbered}

@@ -1,12 +1,11 @@
 -- The bytes of a range that lie beside its gaps lie under extents.
-use Rattle.std.proofs.Common.{inl, inr, ◌≡◌, ◌⊎◌, ℕ, zero, suc, ◌<◌, ◌≤◌, Bool, true, false, cond, List, [], ◌∷◌, length, get_or, Option, Some, None, IsSome, refl, sym, ap, ◌∙◌, arith, subst}
+use Rattle.std.proofs.Common.{inl, inr, ◌≡◌, ◌⊎◌, ℕ, zero, suc, ◌<◌, ◌≤◌, Bool, true, false, cond, List, [], ◌∷◌, length, get_or, Option, Some, IsSome, refl, sym, ap, arith, subst}
 use Rattle.std.specs.List.{All}
 use Rattle.std.proofs.lemmas.List.Elements.{All-head, All-tail}
 use Rattle.iol_extent.specs.Extents.{Extent, Cell, cover, cell_at, is_over, end_of}
 use Rattle.iol_extent.specs.Spans.{AreInOrder, LiesIn, IsHit, Tile}
 use Rattle.iol_extent.specs.declared.spans.Span.{Span}
 use Rattle.iol_extent.proofs.Cover.{cover_yes}
-use Rattle.iol_cache.specs.Sharing.{IsCovered}
 use Rattle.iol_cache.specs.Weaving.{IsCoveredBeside}
 
 some_over : (es : List Extent) (k i : ℕ) (e : Extent) → k < length es → get_or es k e ≡ e → e.at ≤ i → i < end_of e → IsSome (cover es i)

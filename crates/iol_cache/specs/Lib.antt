@@ -8,6 +8,7 @@ pub mod Cache
 pub mod Users
 pub mod Loading
 pub mod Gaps
+pub mod Serving
 pub mod Sharing
 pub mod Weaving
 pub mod Reading
@@ -15,5 +16,8 @@ pub mod Composing
 pub mod Cutting
 pub mod Going
 pub mod Ranges
+pub mod Preparing
 pub mod Replacing
 pub mod Writing
+pub mod Overwriting
+pub mod Syncing

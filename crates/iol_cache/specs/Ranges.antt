@@ -1,6 +1,7 @@
 -- A range of a file that is read, step by step.
-use Rattle.std.specs.Prelude.{◌≡◌, ℕ, ◌≤◌, List, [], length, Some}
+use Rattle.std.specs.Prelude.{◌≡◌, ℕ, ◌≤◌, false, List, [], length, All, Some}
 use Rattle.iol_back.specs.Disk.{Disk}
+use Rattle.iol_extent.specs.Extents.{Extent, begins_at, end_of}
 use Rattle.iol_extent.specs.Spans.{Tile}
 use Rattle.iol_extent.specs.declared.spans.Span.{Span}
 use Rattle.iol_hold.specs.Moves.{Moves, Shares}
@@ -12,6 +13,7 @@ use Rattle.iol_cache.specs.Cached.{Cached, file_in, extents_in, order_in}
 use Rattle.iol_cache.specs.Evicting.{Holding, EvictsAll, GivesUp}
 use Rattle.iol_cache.specs.Gaps.{gap_pages}
 use Rattle.iol_cache.specs.Going.{CountsHits, FillsFile}
+use Rattle.iol_cache.specs.Loading.{PlacesSome}
 use Rattle.iol_cache.specs.Reading.{SameButRoom}
 use Rattle.iol_cache.specs.Weaving.{places_beside}
 
@@ -28,14 +30,36 @@ pub record PinsRange (f from to : ℕ) (old new : Holding) (pins : List Slice) (
   pub space : length gaps ≤ (file_in new.cache.files f).extents.room
   pub entries : length gaps ≤ (order_in new.cache.orders (file_in new.cache.files f).pool).room
 
--- Room was made for the gaps, they were read, the range was put together from them and what was shared beside them, and
--- that was released.
+-- a clean extent lies over just this span
+pub record IsCleanSpan (es : List Extent) (s : Span) : Type 0 where
+  pub extent : Extent
+  pub begins : begins_at es s.from ≡ Some extent
+  pub ends : end_of extent ≡ s.to
+  pub clean : extent.dirty ≡ false
+
+-- Room was made for the gaps, they were read and stand as clean extents, the range was put together from them and what was
+-- shared beside them, and that was released.
 pub record FillsAfter (f from to : ℕ) (pins : List Slice) (gaps : List Span) (disk : Disk) (old new : Holding) (xs : List Slice) : Type 0 where
   pub mid : Holding
   pub victims : EvictsAll (file_in old.cache.files f).pool (Some (gap_pages gaps)) old mid
   pub less : GivesUp old mid
   pub full : Holding
   pub fills : FillsFile f from to (places pins) gaps disk mid full xs
+  pub stand : All (IsCleanSpan (extents_in new.cache.files f)) gaps
+  pub cache : new.cache ≡ full.cache
+  pub released : Moves full.store new.store (bufs_of pins) []
+  pub frees : FreesOnly full.store new.store
+
+-- Room was made for the gaps, or as far as there is room; nothing is left of what was made of them, and what was shared
+-- beside them was released.
+pub record UndoesAfter (f : ℕ) (pins : List Slice) (gaps : List Span) (old new : Holding) : Type 0 where
+  pub mid : Holding
+  pub victims : EvictsAll (file_in old.cache.files f).pool (Some (gap_pages gaps)) old mid
+  pub less : GivesUp old mid
+  pub full : Holding
+  pub same : SameButRoom mid.cache full.cache
+  pub moves : Moves mid.store full.store [] []
+  pub placed : PlacesSome mid.store full.store (file_in old.cache.files f).pool
   pub cache : new.cache ≡ full.cache
   pub released : Moves full.store new.store (bufs_of pins) []
   pub frees : FreesOnly full.store new.store

@@ -30,3 +30,14 @@ pub record PutsOver (f from to : ℕ) (left right e : Extent) (old new : Holding
   pub frees : FreesOnly old.store new.store
   pub lists : SameLists old.store new.store
   pub settles : AllSettled old.store → AllSettled new.store
+
+-- The extents of a file changed, and with them its order and the marks; slices that somebody held became parts of extents.
+pub record Changes (f : ℕ) (own : List Slice) (old new : Holding) : Type 0 where
+  pub extents : ExtentMap
+  pub order : Ranking
+  pub apart : IsApart 0 extents.extents
+  pub files : new.cache.files ≡ with_file old.cache.files f (record { pool = (file_in old.cache.files f).pool; extents = extents })
+  pub orders : new.cache.orders ≡ with_order old.cache.orders (file_in old.cache.files f).pool order
+  pub follows : Follows f (extents_in old.cache.files f) extents.extents (order_in old.cache.orders (file_in old.cache.files f).pool) order old.cache.marks new.cache.marks
+  pub moves : Moves old.store new.store (bufs_of (all_parts (extents_in old.cache.files f) ++ own)) (bufs_of (all_parts extents.extents))
+  pub frees : FreesOnly old.store new.store

@@ -71,6 +71,7 @@ pub(crate) fn cut_right(
     requires held { Covers store.old (bufs_of (all_parts extents.now.extents)) }
     requires few { CountsBelow store.old (2 ^ 62) }
     ensures cut { IfOk result (CutsRight extents.now.extents to) }
+    ensures begins { IfOk result (λ x. x.at ≡ to) }
     ensures shares { IfOk result (λ x. Shares store.old store.new [] (bufs_of x.parts)) }
     ensures err { OnErr result (store.new ≡ store.old) }
 {

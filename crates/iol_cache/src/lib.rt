@@ -7,15 +7,26 @@
 //! page how often clean extents hold the buffer there, so that it is known which buffers anything else holds.
 //! What holds between any two calls is `IsSound`.
 //!
-//! Finished are `new`, `add_file`, `make_room` and `drop_clean`:
+//! Finished are `new`, `add_file`, `read`, `write`, `make_room` and `drop_clean`:
 //!
+//! - `read` shares the bytes of a range that are in memory, makes room for its gaps, and reads these into clean extents.
+//!   With an honest store it gives the file's bytes (`text`), and every file has its bytes after it (`goes`, `gone`). Over
+//!   every store, bytes over hits lie where they lay, those over gaps in the new extents (`reads`). NoRoom comes just where
+//!   the pages that something else holds, the hits among them, and those that the gaps want are more than the pool has
+//!   (`room`), Fault just where the store failed (`fault`). A refused read leaves no extent (`refused`).
 //! - `make_room` evicts, those that go first before the others, until so many pages of the pool are free. It fails just
 //!   where the pages that something else holds, and those wanted, are more than the pool has (`room`). Which extents
 //!   went is `EvictsAll`, and what they leave is `GivesUp`: with an honest store every file has its bytes.
 //! - `drop_clean` evicts all clean extents, pool by pool.
+//! - `write` puts bytes over those of a file, as one dirty extent: those of the file's pool are shared, all others copied
+//!   there. The file then has the bytes that the machine gives it (`written`), and every other file its own (`others`).
 //!
-//! The parts of a read and of a write are there for the crate: `fill_gaps`, `share_range`, `weave`, `fill_range`,
-//! `compose` and `replace_range`.
+//! ```text
+//! let file = cache.add_file(alloc, pool)?;
+//! let agg = cache.read(alloc, &mut store, &mut backing, file, 0, 4096)?; // the first page of the file, or less
+//! ```
+//!
+//! The parts of these are there for the crate; so are `sync` and `flush_one`, which write dirty extents back.
 #![tactic(auto)]
 
 mod cache;
@@ -27,10 +38,14 @@ mod filling;
 mod gaps;
 mod loading;
 mod marks;
+mod preparing;
 mod ranking;
 mod reading;
 mod replacing;
+mod reserving;
+mod serving;
 mod sharing;
+mod syncing;
 mod users;
 mod weaving;
 mod writing;

@@ -33,8 +33,8 @@ use iol_extent::spans::Span;
 use iol_hold::Store;
 use std::alloc::{AllocError, Global};
 
-// How many pages gaps need.
-fn count_pages(gaps: &[Span]) -> u32
+/// How many pages gaps need.
+pub(crate) fn count_pages(gaps: &[Span]) -> u32
     requires { AreInOrder 0 u32.MAX gaps.now }
     ensures { result ≡ gap_pages gaps.now }
 {
@@ -104,7 +104,7 @@ impl Cache {
     }
 
     // Reads the gaps of a range, and puts the range together: all or nothing.
-    fn fill<B: Backing>(
+    pub(crate) fn fill<B: Backing>(
         &mut self,
         alloc: Global,
         store: &mut Store,
@@ -173,7 +173,7 @@ impl Cache {
 
     // The gaps of a range, for which there is room in the file and in the order, and the bytes beside them, shared. The
     // hits are counted.
-    fn pin(
+    pub(crate) fn pin(
         &mut self,
         alloc: Global,
         store: &mut Store,

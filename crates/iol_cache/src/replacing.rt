@@ -109,8 +109,8 @@ fn clear_range(
     }
 }
 
-// Puts a part of a file in, if it has a byte.
-fn put_edge(
+/// Puts a part of a file in, if it has a byte.
+pub(crate) fn put_edge(
     order: &mut Order,
     marks: &mut CleanHolds,
     extents: &mut Extents,

@@ -154,6 +154,13 @@ impl<A: Drop> Entries<A> {
         entry(&self.list, number)
     }
 
+    /// The entries, the holes among them.
+    pub fn list(&self) -> &[(u64, Option<A>)]
+        ensures { there result.now ≡ self.now.entries }
+    {
+        &self.list
+    }
+
     /// Closes the holes.
     #[tactic(auto, using(crate::proofs::Holes::method_rules))]
     fn compact(&mut self)

@@ -307,3 +307,7 @@ last_end-last low (x ∷ y ∷ ys) d a h =
     let is : get_or (x ∷ y ∷ ys) (length (x ∷ y ∷ ys) - 1) d ≡ get_or (y ∷ ys) (length (y ∷ ys) - 1) d = ap (λ n. get_or (x ∷ y ∷ ys) n d) back in
     let later : end_of x ≤ last_end (y ∷ ys) = omega (arith, a.2.0, a.2.1) in
     omega (arith, ih, ap end_of is, later)
+
+-- where a gap ends before the range does, an extent begins
+pub gap_ends : (es : List Extent) (k from : ℕ) (d : Extent) → IsApart 0 es → k < length es → ((j : ℕ) → j < k → end_of (get_or es j d) ≤ from) → from < (get_or es k d).at → IsSome (cover es (get_or es k d).at)
+gap_ends es k from d a h b f = some_is (cover_found 0 es k (get_or es k d).at d a h (λ j l. omega (arith, b j l, f)) (omega arith) (some_at 0 es k d a h))

@@ -2,3 +2,4 @@ pub mod Cover
 pub mod Words
 pub mod Tiling
 pub mod Meeting
+pub mod Alone

@@ -98,7 +98,7 @@ abbrev pub without_at : List Extent → (at : ℕ) → List Extent
 without_at [] at = []
 without_at (x ∷ xs) at = if x.at == at then xs else x ∷ without_at xs at
 
--- whether the extent has a byte of from..to
+-- whether the extent has a byte of from..to; where these are one place, a byte before it and one from there on
 abbrev pub meets : (from to : ℕ) → Extent → Bool
 meets from to e = nat_lt e.at to && nat_lt from (end_of e)
 

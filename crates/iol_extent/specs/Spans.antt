@@ -1,7 +1,7 @@
 -- Hits and gaps of a range.
-use Rattle.std.specs.Prelude.{◌≡◌, ℕ, ◌<◌, ◌≤◌, ◌⊎◌, min, List, [], ◌∷◌, length, slice_index_or, All}
+use Rattle.std.specs.Prelude.{◌≡◌, ℕ, ◌<◌, ◌≤◌, ◌⊎◌, min, List, [], ◌∷◌, length, slice_index_or, All, IsSome}
 use Rattle.iol_extent.specs.declared.spans.Span.{Span}
-use Rattle.iol_extent.specs.Extents.{Extent, end_of, IsGap}
+use Rattle.iol_extent.specs.Extents.{Extent, cover, end_of, IsGap}
 
 -- spans one after another, none of them empty, between two places
 abbrev pub AreInOrder : (from to : ℕ) → List Span → Type 0
@@ -25,10 +25,15 @@ pub record IsHit (es : List Extent) (to : ℕ) (s : Span) : Type 0 where
 abbrev pub IsGapSpan : List Extent → Span → Type 0
 IsGapSpan es s = IsGap es s.from s.to
 
+-- a gap goes on to the next extent, or to the end of the range
+pub record IsWhole (es : List Extent) (to : ℕ) (s : Span) : Type 0 where
+  pub ends : s.to < to → IsSome (cover es s.to)
+
 -- Hits and gaps of a range, each in order. Each byte of the range lies in one of them.
 pub record Tile (es : List Extent) (from to : ℕ) (found missed : List Span) : Type 0 where
   pub hits : AreInOrder from to found
   pub gaps : AreInOrder from to missed
   pub covered : All (IsHit es to) found
   pub empty : All (IsGapSpan es) missed
+  pub whole : All (IsWhole es to) missed
   pub each : (i : ℕ) → from ≤ i → i < to → LiesIn i found ⊎ LiesIn i missed

@@ -2,7 +2,7 @@
 ghost use Rattle.std.specs.Prelude.{◌≡◌, ℕ, ◌+◌, ◌-◌, ◌<◌, ◌≤◌, ◌^◌, [], length, All, IfOk, IfSome, OnOk, OnErr, MatchOption, Some, None, slice_index_or, insert, remove, max, IsSome, IsTrue, true, false};
 ghost use Rattle.iol_hold.specs.Places.{byte_len};
 ghost use Rattle.iol_extent.specs.Extents.{Extent, IsFirstMet, met_in, extent_of, extent_over, extent_in, dirty_in, cover, cell_in, end_of, IsApart, IsGap, Adds, Lacks, last_end, begins_at, put_in, without_at};
-ghost use Rattle.iol_extent.specs.Spans.{IsHit, Tile};
+ghost use Rattle.iol_extent.specs.Spans.{IsHit, IsWhole, Tile};
 
 use crate::piece::{Piece, count_before, insert_piece};
 use crate::spans::{Found, Span};
@@ -45,11 +45,13 @@ impl Extents {
         }
     }
 
-    /// Makes room for so many extents more. Refused, it leaves the room that there was.
+    /// Makes room for so many extents more. Where there is so much room, it is not refused; refused, it leaves the room
+    /// that there was.
     pub fn reserve(&mut self, count: usize) -> Result<(), AllocError>
         ensures room { OnOk result (count ≤ self.new.room) }
         ensures same { self.new ≡ record self.old { room = self.new.room } }
         ensures no_less { self.old.room ≤ self.new.room }
+        ensures needed { OnErr result (self.old.room < count) }
         ensures err { OnErr result (self.new.room ≡ self.old.room) }
     {
         if count <= self.room {
@@ -106,7 +108,7 @@ impl Extents {
         None
     }
 
-    /// Where the first extent begins that has a byte of a range.
+    /// Where the first extent begins that has a byte of a range. Where the range is empty, one that goes on across it.
     pub fn first_met(&self, from: u32, to: u32) -> Option<u32>
         ensures { let es = self.now.extents in
             MatchOption result (met_in es from to ≡ None) (IsFirstMet es from to) }
@@ -130,6 +132,7 @@ impl Extents {
         ensures within { result.0.to ≤ to }
         ensures hit { IsTrue result.1 → IsHit self.now.extents to result.0 }
         ensures gap { result.1 ≡ false → IsGap self.now.extents at result.0.to }
+        ensures whole { result.1 ≡ false → IsWhole self.now.extents to result.0 }
     {
         let found = count_before(&self.pieces, at);
         if found == self.pieces.len() {
@@ -150,7 +153,7 @@ impl Extents {
         (span, true)
     }
 
-    /// The hits and the gaps of a range: one hit for each extent that it meets.
+    /// The hits and the gaps of a range: one hit for each extent that it meets, and each gap as long as it can be.
     pub fn find(&self, alloc: Global, from: u32, to: u32) -> Result<Found, AllocError>
         requires { from ≤ to }
         ensures { let es = self.now.extents in

@@ -5,10 +5,12 @@
 //! store has the same bytes, else dirty.
 //!
 //!     let found = extents.find(alloc, 0, 4096)?;      // hits and gaps
-//!     extents.put(0, agg, false)?;                    // into a gap
+//!     extents.reserve(1)?;
+//!     extents.put(0, agg, false);                     // into a gap
 //!     let agg = extents.remove(0);
 #![tactic(auto)]
 
 pub mod extents;
+pub mod laws;
 mod piece;
 pub mod spans;

@@ -1,7 +1,6 @@
 -- What the effects of the calls are made of: a change of what is held, as the machine sees it, and that it stays sound.
 use Rattle.std.proofs.Common.{◌≡◌, ℕ, ◌+◌, ◌<◌, ◌≤◌, List, [], ◌∷◌, ◌++◌, length, map, ap, ◌∙◌, refl, sym, subst, arith, Option, Some, true, false}
 use Rattle.std.specs.Prelude.{MatchOption, None, Err, nat_lt, ◌||◌}
-use Rattle.std.proofs.Common.{length-append}
 use Rattle.std.proofs.lemmas.Bool.Decides.{nat_tests}
 use Rattle.iol_core.specs.declared.descriptors.Descriptor.{Descriptor}
 use Rattle.iol_core.specs.Meaning.{Meaning, first}
@@ -30,7 +29,7 @@ use Rattle.iol_kernel.specs.Views.{Objects, state_view}
 use Rattle.iol_kernel.specs.Counted.{IsCounted, domain_uses}
 use Rattle.iol_kernel.specs.Ends.{IsOpenOnce, ends_on}
 use Rattle.iol_kernel.specs.KernelState.{KernelState, objects_of, machine_of, Each, IsDomainReadable, AreReadable, IsOpenEnd, ArePooled, IsSound, IsLimited, Reading, read_of}
-use Rattle.iol_kernel.proofs.Views.{pools-view, closed-view, added_pool-view, add_domain-view, with_agg-view, without_agg-view, with_fds-view, with_domain-view, domain-view, live_aggs-view, length-map'}
+use Rattle.iol_kernel.proofs.Views.{pools-view, closed-view, added_pool-view, add_domain-view, with_agg-view, without_agg-view, with_fds-view, with_domain-view, domain-view, live_aggs-view}
 use Rattle.iol_kernel.proofs.Uses.{uses-with_agg, uses-without_agg}
 use Rattle.iol_kernel.proofs.Once.{once_same}
 use Rattle.iol_kernel.proofs.Sound.{AreHeld, counted_held, domains_stay, objects_stay, view-stays, sound_with, sound_fds, ends_open, limits_agg, limits_drop, drop_readable, add_readable, fds_stay, each-push, agg_readable}
@@ -42,7 +41,6 @@ use Rattle.iol_kernel.proofs.Stay.{stays_here, pages_here}
 use Rattle.iol_kernel.proofs.Pooling.{same_pooled, pools_pooled, one_more_pool, one_closed}
 use Rattle.iol_sum.specs.Sums.{IsRight}
 use Rattle.iol_sum.proofs.Keeping.{IsRight-keeps}
-use Rattle.iol_sock.specs.Connections.{Conn}
 use Rattle.std.specs.Prelude.{◌==◌}
 use Rattle.std.specs.List.{list_any}
 use Rattle.iol_kernel.specs.Adding.{AddsText}
@@ -164,7 +162,7 @@ leaves_as m n h k same one = record { bytes = one.bytes ∙ same (byte_at h.stor
 
 -- a domain gets an aggregate of new bytes
 
-adds_held : (s t : Stored) (ds : List (Domain (List Slice))) (qs : Objects (List Slice)) (xs : List Slice) → IsCounted s ds qs → Moves s t [] (bufs_of xs) → AreHeld t ds qs
+pub adds_held : (s t : Stored) (ds : List (Domain (List Slice))) (qs : Objects (List Slice)) (xs : List Slice) → IsCounted s ds qs → Moves s t [] (bufs_of xs) → AreHeld t ds qs
 adds_held s t ds qs xs counted m = record { each = λ b. omega (arith, counted.each b, m.counts.each b, tally_none b) }
 
 module _ (h : KernelState) (t : Stored) (ds : List (Domain (List Slice))) (d : ℕ) (text : Text) (placed : List ℕ) (sound : IsSound h) (adds : AddsText h.store t h.domains ds d text placed) where

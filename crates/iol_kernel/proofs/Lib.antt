@@ -24,3 +24,8 @@ pub mod Exchanging
 pub mod Regrouping
 pub mod Barring
 pub mod Gifts
+pub mod Numbering
+pub mod Connecting
+pub mod Arriving
+pub mod Transmitting
+pub mod PeerClosed

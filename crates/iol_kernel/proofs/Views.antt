@@ -30,7 +30,7 @@ numbered_or-map f xs n z = let e = get_or-map f xs (n - 1) z in grind (arith, na
 with_numbered-map : {A B : Type 0} (f : A → B) (xs : List A) (n : ℕ) (x : A) → with_numbered (map f xs) n (f x) ≡ map f (with_numbered xs n x)
 with_numbered-map f xs n x = let e = map-set f xs (n - 1) x in grind (arith, nat_tests, e)
 
-lookup-map : {A B : Type 0} (g : A → B) (es : List (ℕ × A)) (n : ℕ) → lookup (map (λ e. (e.0, g e.1)) es) n ≡ option_map g (lookup es n)
+pub lookup-map : {A B : Type 0} (g : A → B) (es : List (ℕ × A)) (n : ℕ) → lookup (map (λ e. (e.0, g e.1)) es) n ≡ option_map g (lookup es n)
 lookup-map g [] n = refl
 lookup-map g (e ∷ es) n = let r = lookup-map g es n in elim (cases_eq e.0 n) [ inl k ↦ grind (arith, nat_tests, k) | inr k ↦ grind (arith, nat_tests, k, r) ]
 

@@ -1,6 +1,7 @@
 -- What a call does to what a system holds, said of the copying machine whatever is read at the places of bytes.
-use Rattle.std.specs.Prelude.{◌≡◌, ℕ, ◌⊎◌, true, false, List, [], Some, Result, Err, OnErr}
-use Rattle.iol_core.specs.State.{State, is_live, text}
+use Rattle.std.specs.Prelude.{◌≡◌, ℕ, ◌⊎◌, ◌++◌, true, false, List, [], Some, Result, Ok, Err, OnOk, OnErr}
+use Rattle.iol_core.specs.Text.{Text}
+use Rattle.iol_core.specs.State.{State, is_live, text, conn_at, with_conn}
 use Rattle.iol_core.specs.Meaning.{Meaning, Step}
 use Rattle.iol_core.specs.Calls.Aggregates.{lacks_agg, with_agg}
 use Rattle.iol_core.specs.declared.refusals.Refusal.{Refusal}
@@ -13,6 +14,10 @@ use Rattle.iol_hold.specs.Room.{lowest_of}
 use Rattle.iol_hold.specs.Texts.{bufs_of}
 use Rattle.iol_hold.specs.declared.slices.Slice.{Slice}
 use Rattle.iol_desc.specs.Tables.{agg_in}
+use Rattle.iol_sock.specs.declared.outgoing.Segment.{Segment}
+use Rattle.iol_sock.specs.Sent.{UsesSent}
+use Rattle.iol_sock.specs.Table.{conn_in}
+use Rattle.iol_core.specs.Calls.Outside.{transmit}
 use Rattle.iol_kernel.specs.KernelState.{KernelState, Reading, read_of, machine_of, IsSound}
 
 -- The machine's step whatever is read: of bytes it is the step that the call means; of places it says that the bytes
@@ -58,14 +63,26 @@ pub record Leaves (after : State → State) (old new : KernelState) : Type 0 whe
   pub sound : IsSound new
   pub stays : Stays old.store new.store
 
--- A domain gets an aggregate of n new bytes in a pool, and nothing else changes: whatever is read, the rest lies where it
--- lay. Its buffers are made on the lowest free pages of the pool, each of which is raised by one.
-pub record MakesAgg (d pool n : ℕ) (old new : KernelState) : Type 0 where
+-- with bytes at the end of what came in on a connection
+abbrev pub with_incoming : (c : ℕ) → State → Text → State
+with_incoming c s t = with_conn s c (record (conn_at s c) { incoming = (conn_at s c).incoming ++ t })
+
+-- n new bytes come into a pool, put where `put` says, and nothing else changes: whatever is read, the rest lies where it
+-- lay. Their buffers are made on the lowest free pages of the pool, each of which is raised by one.
+pub record MakesBytes (put : State → Text → State) (pool n : ℕ) (old new : KernelState) : Type 0 where
   pub slices : List Slice
-  pub each : (f : Reading) → read_of f new ≡ with_agg (read_of f old) d (read f slices)
+  pub each : (f : Reading) → read_of f new ≡ put (read_of f old) (read f slices)
   pub sums : new.sums ≡ old.sums
   pub made_on : MadeOn old.store.arena new.store.arena (bufs_of slices) (lowest_of old.store pool n)
   pub pages : KeepsPages old.store new.store (lowest_of old.store pool n)
+
+-- a domain gets them as its next aggregate
+abbrev pub MakesAgg : (d pool n : ℕ) → (old new : KernelState) → Type 0
+MakesAgg d pool n old new = MakesBytes (λ s t. with_agg s d t) pool n old new
+
+-- a connection gets them at the end of what came in
+abbrev pub Arrives : (c n : ℕ) → (old new : KernelState) → Type 0
+Arrives c n old new = MakesBytes (with_incoming c) (conn_at (machine_of old) c).pool n old new
 
 -- the domain is live, and its aggregate is these slices
 pub record IsFound (h : KernelState) (d a : ℕ) (xs : List Slice) : Type 0 where
@@ -79,3 +96,20 @@ abbrev pub IsMissing : KernelState → (d a : ℕ) → Refusal → Type 0
 IsMissing h d a x =
     ((x ≡ NoDomain) × ((f : Reading) → is_live (read_of f h) d ≡ false))
     ⊎ ((x ≡ BadAgg) × ((f : Reading) → (is_live (read_of f h) d ≡ true) × (lacks_agg (read_of f h) d a ≡ true)))
+
+-- what was sent, as the bytes and their checksum
+abbrev pub told : Result Segment Refusal → Result (List ℕ × ℕ) Refusal
+told (Ok g) = Ok (g.bytes, g.checksum)
+told (Err x) = Err x
+
+-- The machine's `transmit`: what is left lies where it lay, and of the pages some may be freed. The sum of each slice that
+-- was sent is used, in order; a refusal changes nothing.
+pub record Transmits (c max : ℕ) (old : KernelState) (r : Result (List ℕ × ℕ) Refusal) (new : KernelState) : Type 0 where
+  pub step : Step (transmit (machine_of old) c max) (machine_of old) r (machine_of new)
+  pub places : OnOk r ((f : Reading) → KeepsPools f → read_of f new ≡ (transmit (read_of f old) c max).after)
+  pub roomy : (p : ℕ) → r ≡ Err (NoRoom p) → ⊥
+  pub pages : KeepsPages old.store new.store []
+  pub uses : OnOk r (UsesSent old.store (conn_in old.conns c).outgoing max old.sums new.sums)
+  pub refused : OnErr r (new ≡ old)
+  pub sound : IsSound new
+  pub stays : Stays old.store new.store

@@ -35,6 +35,12 @@ Leaves after old new = calls.Leaves after (state_of old) (state_of new)
 abbrev pub MakesAgg : (d pool n : ℕ) → (old new : Kernel) → Type 0
 MakesAgg d pool n old new = calls.MakesAgg d pool n (state_of old) (state_of new)
 
+abbrev pub Arrives : (c n : ℕ) → (old new : Kernel) → Type 0
+Arrives c n old new = calls.Arrives c n (state_of old) (state_of new)
+
+abbrev pub Transmits : (c max : ℕ) → Kernel → Result (List ℕ × ℕ) Refusal → Kernel → Type 0
+Transmits c max old r new = calls.Transmits c max (state_of old) r (state_of new)
+
 abbrev pub IsFound : Kernel → (d a : ℕ) → List Slice → Type 0
 IsFound k d a xs = calls.IsFound (state_of k) d a xs
 

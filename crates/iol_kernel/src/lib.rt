@@ -17,6 +17,7 @@ pub mod aggregates;
 pub mod descriptors;
 pub mod domains;
 pub mod kernel;
+pub mod outside;
 mod pipes;
 pub mod pools;
 pub mod reading;

@@ -55,7 +55,7 @@ impl Kernel {
 
     /// Whether there is a pool of this number.
     #[tactic(auto, using(crate::proofs::Views::pool_rules), unfolding(crate::specs::KernelState::read_of))]
-    fn is_pool(&self, p: PoolId) -> bool
+    pub(crate) fn is_pool(&self, p: PoolId) -> bool
         ensures { (f : Reading) → result ≡ is_pool (as_read f self.now) p }
     {
         self.store.pools().is_pool(p)

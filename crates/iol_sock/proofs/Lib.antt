@@ -1,4 +1,6 @@
 pub mod Ending
 pub mod Meaning
 pub mod Sending
+pub mod Waiting
 pub mod Writing
+pub mod OfPools

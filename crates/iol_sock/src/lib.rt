@@ -9,8 +9,10 @@
 //! `no_room`), `arrive_from` (`read`: those of one read, in place), `front` (`given`: the longest prefix whose pools name
 //! the reader). Out: `queue` (`places`: shared), `segment` (`bytes`, `checksum` of these alone, for every cutting into
 //! slices; `uses`: which sums are remembered), `drain_to` (`written`: what a writer took; `rest`). Ended: `peer_closed`,
-//! `close`, `release` (`moves`, `frees`, `settles`). That its words are the machine's: [`laws`]. The words are in
-//! `specs/Connections`, `specs/Refused`, `specs/Sent`, iol_pipe's and iol_sum's.
+//! `close`, `release` (`moves`, `frees`, `settles`). Many: [`Connections`] has the live ones under numbers that rise
+//! (`numbers_rise`); `add`, `get`, `accept`, `forget` are words on that list, `first_waiting` the first that a domain may
+//! accept, and each call above is there by number (`with_conn`, `conn_in`). That its words are the machine's: [`laws`].
+//! The words are in `specs/Connections`, `specs/Table`, `specs/Refused`, `specs/Sent`, iol_pipe's and iol_sum's.
 //!
 //! ```text
 //! let taken = conn.arrive(alloc, &mut store, b"GET /")?;
@@ -21,11 +23,14 @@
 #![tactic(auto)]
 
 mod arriving;
+mod busy;
 mod connections;
 mod draining;
 mod incoming;
 pub mod laws;
 mod outgoing;
+mod passing_in;
+mod passing_out;
 mod table;
 
 pub use connections::Connection;

@@ -1,27 +1,63 @@
 //! The table of live connections.
-ghost use Rattle.std.specs.Prelude.{◌≡◌, ◌==◌, []};
-ghost use Rattle.std.specs.List.{list_any};
+ghost use Rattle.std.specs.Prelude.{◌≡◌, ◌≢◌, ℕ, ◌+◌, ◌-◌, ◌<◌, ◌≤◌, ◌&&◌, [], ◌∷◌, ◌++◌, length, find, not, false, true, None, Some, option_map, OnOk, vec_len, vec_capacity};
+ghost use Rattle.std.specs.Option.{option_copied};
+ghost use Rattle.iol_core.specs.Numbered.{lookup, without, changed};
+ghost use Rattle.iol_desc.specs.Listed.{IsRising, Rises};
+ghost use Rattle.iol_pool.specs.Pools.{names_in};
+ghost use Rattle.iol_sock.specs.Connections.{new_conn};
+ghost use Rattle.iol_sock.specs.Table.{conn_in, with_conn};
 
 use crate::connections::Connection;
-use iol_core::numbers::{ConnId, PoolId};
-use std::alloc::Global;
+use iol_core::limits::LAST_CONNECTION;
+use iol_core::numbers::{ConnId, DomainId, PoolId};
+use iol_desc::entries::{Entries, place_of};
+use iol_hold::Store;
+use iol_pool::pools::Pools;
+use std::alloc::{AllocError, Global};
 use std::marker::Model;
 
 /// The live connections, under numbers that rise from 1 and are never used again.
+///
+/// One is found by a binary search. Those that no domain accepted are listed beside, so that the first that a domain may
+/// accept is found without a look at the others.
 #[derive(Drop)]
 pub struct Connections {
-    // By rising number.
-    list: Vec<(ConnId, Connection)>,
-    next: u32,
+    pub(crate) live: Entries<Connection>,
+    // Those that no domain accepted, by rising number, each with its pool.
+    waiting: Vec<(u64, PoolId)>,
 }
 
 impl Model for Connections {
-    ghost use Rattle.std.specs.Prelude.{◌-◌, vec_len, vec_capacity};
+    ghost use Rattle.std.specs.Prelude.{◌≡◌, ◌+◌, ◌-◌, ◌≤◌, min, vec_len, vec_capacity};
+    ghost use Rattle.iol_core.specs.declared.limits.TheConstants.{LAST_CONNECTION};
     ghost use Rattle.iol_sock.specs.Table as table;
 
     ghost Value = { table.ConnTable };
 
-    ghost view = { λ t. record { conns = t.list.items; next = t.next; room = vec_capacity t.list - vec_len t.list } };
+    ghost view = { λ t. record { conns = t.live.entries; next = t.live.next; room = min t.live.room (vec_capacity t.waiting - vec_len t.waiting) } };
+
+    ghost invariant = { λ t. (t.waiting.items ≡ table.waiting_in t.live.entries) × (t.live.next ≤ LAST_CONNECTION + 1) };
+}
+
+/// Takes the connection of this number off the list of those that wait.
+#[tactic(auto, using(crate::proofs::Waiting::list_rules))]
+fn unlist(waiting: &mut Vec<(u64, PoolId)>, number: u64)
+    requires rising { IsRising waiting.old.items }
+    requires there { lookup waiting.old.items number ≢ None }
+    ensures items { waiting.new.items ≡ without waiting.old.items number }
+    ensures room { vec_capacity waiting.old - vec_len waiting.old ≤
+        vec_capacity waiting.new - vec_len waiting.new }
+{
+    let at = place_of(waiting, number);
+    waiting.remove(at);
+}
+
+/// The first that waits and whose pool names the domain.
+fn first_named(waiting: &[(u64, PoolId)], pools: &Pools, d: DomainId) -> Option<u64>
+    ensures { result ≡ option_map (λ w. w.0) (find (λ w. names_in pools.now w.1 d) waiting.now) }
+{
+    let first = waiting.iter().find(|w| pools.names(w.1, d))?;
+    Some(first.0)
 }
 
 impl Connections {
@@ -31,17 +67,108 @@ impl Connections {
         ensures next { result.next ≡ 1 }
     {
         Connections {
-            list: Vec::new(alloc),
-            next: 1,
+            live: Entries::new(alloc),
+            waiting: Vec::new(alloc),
         }
     }
 
-    /// Whether a live connection is of the pool.
-    pub fn is_busy(&self, pool: PoolId) -> bool
-        ensures { result ≡ list_any (λ e. e.1.pool == pool) self.now.conns }
+    /// How many are live.
+    pub fn count(&self) -> usize
+        ensures { result ≡ length self.now.conns }
     {
-        self.list
-            .iter()
-            .any(|entry| entry.1.pool().number() == pool.number())
+        self.live.len()
+    }
+
+    /// The number of the next, which may be the first past the last.
+    pub fn next(&self) -> ConnId
+        ensures number { result ≡ self.now.next }
+        ensures last { result ≤ LAST_CONNECTION + 1 }
+    {
+        ConnId::new(self.live.next() as u32)
+    }
+
+    /// Does nothing: its contract says that the numbers rise, each below the next.
+    pub fn numbers_rise(&self)
+        ensures { Rises 0 self.now.conns self.now.next }
+    {
+        self.live.numbers_rise();
+    }
+
+    /// Reserves room for a connection more.
+    pub fn reserve(&mut self) -> Result<(), AllocError>
+        ensures conns { self.new.conns ≡ self.old.conns }
+        ensures next { self.new.next ≡ self.old.next }
+        ensures room { OnOk result (0 < self.new.room) }
+    {
+        self.live.reserve(1)?;
+        self.waiting.reserve(1)?;
+        Ok(())
+    }
+
+    /// Adds a connection that waits to be accepted, in room that is reserved. What arrives on it will lie in the pool.
+    #[tactic(auto, using(crate::proofs::Waiting::table_rules))]
+    pub fn add(&mut self, alloc: Global, pool: PoolId) -> ConnId
+        requires few { self.old.next ≤ LAST_CONNECTION }
+        requires room { 0 < self.old.room }
+        ensures number { result ≡ self.old.next }
+        ensures conns { self.new.conns ≡ self.old.conns ++ (self.old.next, new_conn pool) ∷ [] }
+        ensures next { self.new.next ≡ self.old.next + 1 }
+        ensures room { self.old.room ≤ self.new.room + 1 }
+    {
+        let number = self.live.push(Connection::new(alloc, pool));
+        self.waiting.push_reserved((number, pool));
+        ConnId::new(number as u32)
+    }
+
+    /// The connection of this number.
+    pub fn get(&self, c: ConnId) -> Option<&Connection>
+        ensures { option_copied result ≡ lookup self.now.conns c }
+    {
+        self.live.get(c.number() as u64)
+    }
+
+    /// The first that no domain accepted and whose pool names this one.
+    #[tactic(auto, using(crate::proofs::Waiting::table_rules))]
+    pub fn first_waiting(&self, store: &Store, d: DomainId) -> Option<ConnId>
+        ensures { result ≡ option_map (λ e. e.0) (find
+            (λ e. not e.1.accepted && names_in store.now.pools e.1.pool d) self.now.conns) }
+    {
+        self.live.numbers_rise();
+        let number = first_named(&self.waiting, store.pools(), d)?;
+        Some(ConnId::new(number as u32))
+    }
+
+    /// A domain accepts a connection that waits.
+    #[tactic(auto, using(crate::proofs::Waiting::table_rules))]
+    pub fn accept(&mut self, c: ConnId)
+        requires there { lookup self.old.conns c ≢ None }
+        requires waits { (conn_in self.old.conns c).accepted ≡ false }
+        ensures accepted { self.new.conns ≡ changed self.old.conns c
+            (record (conn_in self.old.conns c) { accepted = true }) }
+        ensures next { self.new.next ≡ self.old.next }
+        ensures room { self.old.room ≤ self.new.room }
+    {
+        let number = c.number() as u64;
+        self.live.numbers_rise();
+        unlist(&mut self.waiting, number);
+        self.live.value_mut(number).accept();
+    }
+
+    /// Forgets a connection, and gives it out for its caller to release.
+    #[tactic(auto, using(crate::proofs::Waiting::table_rules))]
+    pub fn forget(&mut self, c: ConnId) -> Connection
+        requires { lookup self.old.conns c ≢ None }
+        ensures given { Some result ≡ lookup self.old.conns c }
+        ensures rest { self.new.conns ≡ without self.old.conns c }
+        ensures next { self.new.next ≡ self.old.next }
+        ensures room { self.old.room ≤ self.new.room }
+    {
+        let number = c.number() as u64;
+        self.live.numbers_rise();
+        let conn = self.live.take(number);
+        if !conn.is_accepted() {
+            unlist(&mut self.waiting, number);
+        }
+        conn
     }
 }

@@ -1,15 +1,11 @@
-use Rattle.std.proofs.Common.{◌≡◌, ◌∙◌, List, length, refl, sym, ap, arith, subst}
-use Rattle.iol_core.specs.Numbered.{is_numbered}
-use Rattle.iol_hold.specs.Stored.{Stored}
-use Rattle.iol_hold.specs.Moves.{Shares}
-use Rattle.iol_hold.specs.Texts.{bufs_of}
+use Rattle.std.proofs.Common.{◌∙◌, List, length, sym, ap, arith, subst}
 use Rattle.iol_hold.proofs.Moving.{shares_move}
 use Rattle.iol_extent.specs.Extents.{Extent}
 use Rattle.iol_extent.specs.Spans.{Tile}
 use Rattle.iol_extent.specs.declared.spans.Span.{Span}
 use Rattle.iol_cache.specs.declared.cache.Cache.{Cache}
 use Rattle.iol_cache.specs.declared.files.CachedFile.{CachedFile}
-use Rattle.iol_cache.specs.Cached.{Cached, file_in, extents_in, order_in}
+use Rattle.iol_cache.specs.Cached.{file_in, extents_in, order_in}
 use Rattle.iol_cache.specs.Cache.{cached_of}
 use Rattle.iol_cache.specs.Going.{CountsHits}
 use Rattle.iol_cache.specs.Sound.{IsSound}

@@ -1,5 +1,4 @@
 use Rattle.std.proofs.Common.{◌≡◌, ◌≢◌, ◌-◌, ℕ, List, Option, None, ap, ◌∙◌, sym, subst, refl, vec_len, vec_capacity}
-use Rattle.std.specs.Vec.{with_item}
 use Rattle.iol_core.specs.Numbered.{lookup}
 use Rattle.iol_desc.specs.Tables.{place_in}
 use Rattle.iol_desc.specs.Listed.{Listed}

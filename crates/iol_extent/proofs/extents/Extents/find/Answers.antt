@@ -3,7 +3,7 @@ use Rattle.std.proofs.lemmas.Bool.{cases_lt}
 use Rattle.std.proofs.lemmas.List.Elements.{All-push}
 use Rattle.iol_extent.specs.declared.spans.Span.{Span}
 use Rattle.iol_extent.specs.Extents.{IsGap}
-use Rattle.iol_extent.specs.Spans.{AreInOrder, LiesIn, IsHit, IsGapSpan}
+use Rattle.iol_extent.specs.Spans.{AreInOrder, LiesIn, IsHit, IsGapSpan, IsWhole}
 use Rattle.iol_extent.proofs.Tiling.{order_more, order_push, lies_old, lies_new}
 use Rattle.iol_extent.proofs.extents.Extents.find.Goals as goal
 
@@ -20,6 +20,7 @@ loop-at-preserved-then-hit c =
       gaps = order_more c.args.from c.loop-at.at s.to c.loop-at.gaps.items c.loop-at.invariant.gaps (omega (arith, further));
       covered = subst (λ (ss : List Span). All (IsHit c.args.self.now.extents c.args.to) ss) items (All-push (IsHit c.args.self.now.extents c.args.to) c.loop-at.hits.items s c.loop-at.invariant.covered (c.span_at-hit.ensures.hit c.if-hit.true));
       empty = c.loop-at.invariant.empty;
+      whole = c.loop-at.invariant.whole;
       each = λ i begun upto. subst (λ (ss : List Span). LiesIn i ss ⊎ LiesIn i c.loop-at.gaps.items) items (elim (cases_lt i c.loop-at.at) [
         | inl old ↦ elim (c.loop-at.invariant.each i begun old) [ inl h ↦ inl (lies_old i c.loop-at.hits.items s h) | inr g ↦ inr g ]
         | inr new ↦ inl (lies_new i c.loop-at.hits.items s (omega (arith, from, new)) upto)
@@ -40,6 +41,7 @@ loop-at-preserved c =
       gaps = subst (λ (ss : List Span). AreInOrder c.args.from s.to ss) items (order_push c.args.from c.loop-at.at c.loop-at.gaps.items s c.loop-at.invariant.gaps (omega (arith, from)) (omega (arith, from, further)));
       covered = c.loop-at.invariant.covered;
       empty = subst (λ (ss : List Span). All (IsGapSpan c.args.self.now.extents) ss) items (All-push (IsGapSpan c.args.self.now.extents) c.loop-at.gaps.items s c.loop-at.invariant.empty gap);
+      whole = subst (λ (ss : List Span). All (IsWhole c.args.self.now.extents c.args.to) ss) items (All-push (IsWhole c.args.self.now.extents c.args.to) c.loop-at.gaps.items s c.loop-at.invariant.whole (c.span_at-hit.ensures.whole c.if-hit.false));
       each = λ i begun upto. subst (λ (ss : List Span). LiesIn i c.loop-at.hits.items ⊎ LiesIn i ss) items (elim (cases_lt i c.loop-at.at) [
         | inl old ↦ elim (c.loop-at.invariant.each i begun old) [ inl h ↦ inl h | inr g ↦ inr (lies_old i c.loop-at.gaps.items s g) ]
         | inr new ↦ inr (lies_new i c.loop-at.gaps.items s (omega (arith, from, new)) upto)
@@ -52,5 +54,6 @@ returns c = record {
   gaps = order_more c.args.from c.loop-at.at c.args.to c.loop-at.gaps.items c.loop-at.invariant.gaps c.loop-at.invariant.within;
   covered = c.loop-at.invariant.covered;
   empty = c.loop-at.invariant.empty;
+  whole = c.loop-at.invariant.whole;
   each = λ i begun upto. c.loop-at.invariant.each i begun (omega (arith, upto, c.loop-at-test.false));
 }

@@ -1,5 +1,5 @@
 use Rattle.std.proofs.Common.{ℕ, ◌-◌, ◌<◌, ◌≤◌, ◌⊎◌, All}
-use Rattle.iol_extent.specs.Spans.{AreInOrder, LiesIn, IsHit, IsGapSpan}
+use Rattle.iol_extent.specs.Spans.{AreInOrder, LiesIn, IsHit, IsGapSpan, IsWhole}
 use Rattle.iol_extent.proofs.extents.Extents.find.Given as goal
 
 abbrev pub invariant-loop-at : goal.invariant-loop-at
@@ -10,6 +10,7 @@ invariant-loop-at l = record {
   gaps : AreInOrder l.fn.from l.at l.gaps.items;
   covered : All (IsHit l.self.extents l.to) l.hits.items;
   empty : All (IsGapSpan l.self.extents) l.gaps.items;
+  whole : All (IsWhole l.self.extents l.to) l.gaps.items;
   each : (i : ℕ) → l.fn.from ≤ i → i < l.at → LiesIn i l.hits.items ⊎ LiesIn i l.gaps.items;
 }
 

@@ -1,10 +1,7 @@
-use Rattle.std.proofs.Common.{rules, ◌≡◌, ◌∙◌, ap, refl, List, [], ◌∷◌, ◌++◌, ◌*◌, ℕ}
+use Rattle.std.proofs.Common.{rules, ◌∙◌, ap, List, [], ◌∷◌, ◌++◌, ◌*◌}
 use Rattle.iol_core.specs.State.{new_domain}
 use Rattle.iol_hold.specs.declared.slices.Slice.{Slice}
 use Rattle.iol_desc.specs.Tables.{Row, domains_of}
-use Rattle.iol_sock.specs.Connections.{Conn}
-use Rattle.iol_kernel.specs.Views.{Objects, Pipe}
-use Rattle.iol_kernel.specs.KernelState.{KernelState, objects_of}
 use Rattle.iol_kernel.proofs.Beginning.{new-machine, new-sound, none_of, some_sums}
 use Rattle.iol_kernel.proofs.kernel.Kernel.new.Goals as goal
 

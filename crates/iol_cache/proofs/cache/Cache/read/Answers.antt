@@ -1,0 +1,79 @@
+use Rattle.std.proofs.Common.{◌≡◌, ℕ, ◌+◌, ◌-◌, ◌≤◌, min, List, [], Result, IfOk, arith}
+use Rattle.std.proofs.lemmas.Result.{IfOk-weaker, on_err_weaker}
+use Rattle.iol_core.specs.Text as text
+use Rattle.iol_back.specs.Disk.{Disk}
+use Rattle.iol_hold.specs.Places.{byte_len}
+use Rattle.iol_hold.specs.Texts.{AllReadable, bufs_of, text_of}
+use Rattle.iol_hold.specs.declared.slices.Slice.{Slice}
+use Rattle.iol_cache.specs.Cached.{Cached, file_in}
+use Rattle.iol_cache.specs.Cache.{holding}
+use Rattle.iol_cache.specs.Evicting.{Holding}
+use Rattle.iol_cache.specs.Gaps.{AreOf}
+use Rattle.iol_cache.specs.Going.{Goes, HasRoom, LacksRoom}
+use Rattle.iol_cache.specs.Serving.{IsEnd, NoRoomToRead, Range, ReadsFile, ReadsRange, RoomToRead, bytes_read}
+use Rattle.iol_cache.proofs.Served.{ok_both, tells_more}
+use Rattle.iol_cache.proofs.Texts.{long_read, pooled_read, text_read}
+use Rattle.iol_cache.proofs.cache.Cache.read.Goals as goal
+
+-- the range that the code computes
+abbrev range_of : (disk : Disk) (c : Cached) (f at n end from count : ℕ) → IsEnd disk c f end → from ≡ min at end → count ≡ min n (end - from) → Range disk c f at n
+range_of disk c f at n end from count ends begins counts = record { end = end; ends = ends; from = from; begins = begins; to = from + count; stops = omega (arith, begins, counts) }
+
+pub returns-clause-reads : goal.returns-clause-reads
+returns-clause-reads g c =
+    let d = g.B.Backing.disk c.args.backing.now in
+    let old = holding c.args.store.now c.args.self.now in
+    let new = holding c.read_range.new.store c.read_range.new.self in
+    let range = range_of d old.cache c.args.file c.args.at c.args.count c.file_end-end.result c.min-from.result c.min.result c.file_end-end.ensures c.min-from.ensures c.min.ensures in
+    IfOk-weaker c.read_range.result (ReadsRange c.args.file range.from range.to d old new) (ReadsFile c.args.file c.args.at c.args.count d old new) (λ xs h. record { range = range; reads = h }) c.read_range.ensures.reads
+
+-- all that is known of what was read
+abbrev Told : (old new : Holding) (disk : Disk) (f at n : ℕ) → List Slice → Type 0
+Told old new disk f at n xs = (ReadsFile f at n disk old new xs × AllReadable new.store xs) × Goes disk [] (bufs_of xs) old new
+
+told : {A : Type 0} (old new : Holding) (disk : Disk) (f at n : ℕ) (r : Result (List Slice) A) → IfOk r (ReadsFile f at n disk old new) → IfOk r (AllReadable new.store) → IfOk r (λ xs. Goes disk [] (bufs_of xs) old new) → IfOk r (Told old new disk f at n)
+told old new disk f at n r reads readable goes =
+    ok_both (λ xs. ReadsFile f at n disk old new xs × AllReadable new.store xs) (λ xs. Goes disk [] (bufs_of xs) old new) r (ok_both (ReadsFile f at n disk old new) (AllReadable new.store) r reads readable) goes
+
+pub returns-clause-text : goal.returns-clause-text
+returns-clause-text g c = λ backed.
+    let d = g.B.Backing.disk c.args.backing.now in
+    let old = holding c.args.store.now c.args.self.now in
+    let new = holding c.read_range.new.store c.read_range.new.self in
+    let r = c.read_range.result in
+    let e = c.read_range.ensures in
+    let all = told old new d c.args.file c.args.at c.args.count r (returns-clause-reads g c) e.readable e.goes in
+    IfOk-weaker r (Told old new d c.args.file c.args.at c.args.count) (λ xs. text_of new.store xs ≡ text.labelled (file_in old.cache.files c.args.file).pool (bytes_read old.store d.slots old.cache c.args.file c.args.at c.args.count))
+    (λ xs h. text_read c.args.file c.args.at c.args.count d old new xs c.requires.sound e.sound c.requires.file h.1 h.0.1 h.0.0 backed) all
+
+pub returns-clause-pool : goal.returns-clause-pool
+returns-clause-pool g c =
+    let d = g.B.Backing.disk c.args.backing.now in
+    let old = holding c.args.store.now c.args.self.now in
+    let new = holding c.read_range.new.store c.read_range.new.self in
+    let r = c.read_range.result in
+    let e = c.read_range.ensures in
+    let all = told old new d c.args.file c.args.at c.args.count r (returns-clause-reads g c) e.readable e.goes in
+    IfOk-weaker r (Told old new d c.args.file c.args.at c.args.count) (AreOf (file_in old.cache.files c.args.file).pool) (λ xs h. pooled_read c.args.file c.args.at c.args.count d old new xs c.requires.sound e.sound h.1 h.0.0) all
+
+pub returns-clause-short : goal.returns-clause-short
+returns-clause-short g c =
+    let d = g.B.Backing.disk c.args.backing.now in
+    let old = holding c.args.store.now c.args.self.now in
+    let new = holding c.read_range.new.store c.read_range.new.self in
+    IfOk-weaker c.read_range.result (ReadsFile c.args.file c.args.at c.args.count d old new) (λ xs. byte_len xs ≤ c.args.count) (λ xs h. long_read c.args.file c.args.at c.args.count d old new xs h) (returns-clause-reads g c)
+
+pub returns-clause-refused : goal.returns-clause-refused
+returns-clause-refused g c =
+    let d = g.B.Backing.disk c.args.backing.now in
+    let old = holding c.args.store.now c.args.self.now in
+    let range = range_of d old.cache c.args.file c.args.at c.args.count c.file_end-end.result c.min-from.result c.min.result c.file_end-end.ensures c.min-from.ensures c.min.ensures in
+    on_err_weaker c.read_range.result (λ h. record { range = range; leaves = h }) c.read_range.ensures.refused
+
+pub returns-clause-room : goal.returns-clause-room
+returns-clause-room g c =
+    let d = g.B.Backing.disk c.args.backing.now in
+    let old = holding c.args.store.now c.args.self.now in
+    let range = range_of d old.cache c.args.file c.args.at c.args.count c.file_end-end.result c.min-from.result c.min.result c.file_end-end.ensures c.min-from.ensures c.min.ensures in
+    tells_more (HasRoom old.store old.cache c.args.file range.from range.to) (LacksRoom old.store old.cache c.args.file range.from range.to) (RoomToRead c.args.file c.args.at c.args.count d old) (NoRoomToRead c.args.file c.args.at c.args.count d old) c.read_range.result
+    (λ h. record { range = range; room = h }) (λ h. record { range = range; lacks = h }) c.read_range.ensures.room

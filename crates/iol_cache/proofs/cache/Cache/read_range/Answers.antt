@@ -1,0 +1,119 @@
+use Rattle.std.proofs.Common.{inr, ◌+◌, ◌<◌, ◌≤◌, List, [], length, sym, ap, ◌∙◌, arith, subst}
+use Rattle.std.proofs.lemmas.Result.{IfOk-weaker, on_err_weaker}
+use Rattle.iol_back.specs.Disk.{last_failure}
+use Rattle.iol_extent.specs.declared.spans.Span.{Span}
+use Rattle.iol_hold.specs.Room.{pages_of}
+use Rattle.iol_hold.specs.Texts.{bufs_of}
+use Rattle.iol_hold.specs.declared.slices.Slice.{Slice}
+use Rattle.iol_cache.specs.Cached.{clean_held, file_in}
+use Rattle.iol_cache.specs.Cache.{holding}
+use Rattle.iol_cache.specs.Gaps.{gap_pages}
+use Rattle.iol_cache.specs.Going.{Goes}
+use Rattle.iol_cache.specs.Pinned.{pinned_beside}
+use Rattle.iol_cache.specs.Ranges.{FillsAfter, UndoesAfter}
+use Rattle.iol_cache.specs.Serving.{ReadsRange, TellsRoom}
+use Rattle.iol_cache.specs.Weaving.{len_beside}
+use Rattle.iol_cache.proofs.Hits.{covers_hit, few_hit, goes_hit, len_hit, lies_read, readable_hit, room_hit}
+use Rattle.iol_cache.proofs.Served.{always_err, asks_ok, goes_reserved, ok_both, tells_fault}
+use Rattle.iol_cache.proofs.Steps.{goes_trans}
+use Rattle.iol_cache.proofs.cache.Cache.read_range.Goals as goal
+
+pub returns-in_err-pins-clause-gone : goal.returns-in_err-pins-clause-gone
+returns-in_err-pins-clause-gone g c =
+    let e = c.in_err-pins.ensures in
+    always_err c.from_residual.result (goes_reserved (g.B.Backing.disk c.args.backing.now) (holding c.args.store.now c.args.self.now) (holding c.pin.new.store c.pin.new.self) c.requires.sound e.same e.none e.lists e.settles e.frees.count)
+
+pub fill_pinned-requires-clause-pins_len : goal.fill_pinned-requires-clause-pins_len
+fill_pinned-requires-clause-pins_len g c =
+    let old = holding c.args.store.now c.args.self.now in
+    let hit = holding c.pin.new.store c.pin.new.self in
+    len_hit c.args.file c.args.from c.args.to old hit c.in_ok-pins.pins c.in_ok-pins.gaps.items c.requires.sound c.requires.file c.in_ok-pins.ensures.pinned ∙ ap (len_beside c.args.from c.args.to) (sym c.deref.ensures.value)
+
+pub fill_pinned-requires-clause-held : goal.fill_pinned-requires-clause-held
+fill_pinned-requires-clause-held g c =
+    let old = holding c.args.store.now c.args.self.now in
+    let hit = holding c.pin.new.store c.pin.new.self in
+    covers_hit c.args.file c.args.from c.args.to old hit c.in_ok-pins.pins c.in_ok-pins.gaps.items c.requires.sound c.requires.file c.in_ok-pins.ensures.pinned
+
+pub fill_pinned-requires-clause-readable : goal.fill_pinned-requires-clause-readable
+fill_pinned-requires-clause-readable g c =
+    let old = holding c.args.store.now c.args.self.now in
+    let hit = holding c.pin.new.store c.pin.new.self in
+    readable_hit c.args.file c.args.from c.args.to old hit c.in_ok-pins.pins c.in_ok-pins.gaps.items c.requires.sound c.requires.file c.in_ok-pins.ensures.pinned
+
+pub fill_pinned-requires-clause-few : goal.fill_pinned-requires-clause-few
+fill_pinned-requires-clause-few g c =
+    let old = holding c.args.store.now c.args.self.now in
+    let hit = holding c.pin.new.store c.pin.new.self in
+    few_hit c.args.file c.args.from c.args.to old hit c.in_ok-pins.pins c.in_ok-pins.gaps.items c.requires.sound c.requires.file c.in_ok-pins.ensures.pinned (let f = c.ranges.to.fits in omega (arith, f)) c.requires.few
+
+pub returns-clause-reads : goal.returns-clause-reads
+returns-clause-reads g c =
+    let d = g.B.Backing.disk c.args.backing.now in
+    let old = holding c.args.store.now c.args.self.now in
+    let hit = holding c.pin.new.store c.pin.new.self in
+    let new = holding c.fill_pinned.new.store c.fill_pinned.new.self in
+    let pins = c.in_ok-pins.pins in
+    let gaps = c.deref.result.now in
+    let items = c.in_ok-pins.gaps.items in
+    let r = c.fill_pinned.result in
+    let filled : List Slice → Type 0 = λ xs. FillsAfter c.args.file c.args.from c.args.to pins gaps d hit new xs in
+    let answers : List Slice → Type 0 = λ xs. 0 < length gaps → d.failures < last_failure in
+    let asked = c.fill_pinned.ensures.disk in
+    let both = ok_both filled answers r c.fill_pinned.ensures.filled (asks_ok (length gaps) d (g.B.Backing.disk c.fill_pinned.new.backing) r asked.counts) in
+    IfOk-weaker r (λ xs. filled xs × answers xs) (ReadsRange c.args.file c.args.from c.args.to d old new) (λ xs h.
+    let here = subst (λ (l : List Span). FillsAfter c.args.file c.args.from c.args.to pins l d hit new xs) c.deref.ensures.value h.0 in
+    record {
+      pins = pins;
+      gaps = items;
+      hit = hit;
+      pinned = c.in_ok-pins.ensures.pinned;
+      filled = here;
+      lies = lies_read c.args.file c.args.from c.args.to old hit pins items c.requires.sound c.requires.file c.in_ok-pins.ensures.pinned d new xs here;
+      answers = λ some. h.1 (omega (arith, some, ap length c.deref.ensures.value));
+    }) both
+
+pub returns-clause-refused : goal.returns-clause-refused
+returns-clause-refused g c =
+    let hit = holding c.pin.new.store c.pin.new.self in
+    let new = holding c.fill_pinned.new.store c.fill_pinned.new.self in
+    on_err_weaker c.fill_pinned.result (λ u. inr (record {
+      pins = c.in_ok-pins.pins;
+      gaps = c.in_ok-pins.gaps.items;
+      hit = hit;
+      pinned = c.in_ok-pins.ensures.pinned;
+      undone = subst (λ (l : List Span). UndoesAfter c.args.file c.in_ok-pins.pins l hit new) c.deref.ensures.value u;
+    })) c.fill_pinned.ensures.undone
+
+pub returns-clause-goes : goal.returns-clause-goes
+returns-clause-goes g c =
+    let d = g.B.Backing.disk c.args.backing.now in
+    let old = holding c.args.store.now c.args.self.now in
+    let hit = holding c.pin.new.store c.pin.new.self in
+    let new = holding c.fill_pinned.new.store c.fill_pinned.new.self in
+    let pins = c.in_ok-pins.pins in
+    let first = goes_hit c.args.file c.args.from c.args.to old hit pins c.in_ok-pins.gaps.items c.requires.sound c.requires.file c.in_ok-pins.ensures.pinned d in
+    IfOk-weaker c.fill_pinned.result (λ a. Goes d (bufs_of pins) (bufs_of a) hit new) (λ a. Goes d [] (bufs_of a) old new) (λ xs h. goes_trans d [] (bufs_of pins) (bufs_of xs) old hit new first h) c.fill_pinned.ensures.goes
+
+pub returns-clause-gone : goal.returns-clause-gone
+returns-clause-gone g c =
+    let d = g.B.Backing.disk c.args.backing.now in
+    let old = holding c.args.store.now c.args.self.now in
+    let hit = holding c.pin.new.store c.pin.new.self in
+    let new = holding c.fill_pinned.new.store c.fill_pinned.new.self in
+    let pins = c.in_ok-pins.pins in
+    let first = goes_hit c.args.file c.args.from c.args.to old hit pins c.in_ok-pins.gaps.items c.requires.sound c.requires.file c.in_ok-pins.ensures.pinned d in
+    on_err_weaker c.fill_pinned.result (λ h. goes_trans d [] (bufs_of pins) [] old hit new first h) c.fill_pinned.ensures.gone
+
+pub returns-clause-room : goal.returns-clause-room
+returns-clause-room g c =
+    let old = holding c.args.store.now c.args.self.now in
+    let hit = holding c.pin.new.store c.pin.new.self in
+    let p = (file_in hit.cache.files c.args.file).pool in
+    let pinned = pinned_beside hit.store (clean_held hit.cache.files) p in
+    let all = length (pages_of hit.store p) in
+    room_hit c.args.file c.args.from c.args.to old hit c.in_ok-pins.pins c.in_ok-pins.gaps.items c.requires.sound c.requires.file c.in_ok-pins.ensures.pinned c.fill_pinned.result
+    (subst (λ (l : List Span). TellsRoom (pinned + gap_pages l ≤ all) (all < pinned + gap_pages l) c.fill_pinned.result) c.deref.ensures.value c.fill_pinned.ensures.room)
+
+pub returns-clause-fault : goal.returns-clause-fault
+returns-clause-fault g c = tells_fault (length c.deref.result.now) (g.B.Backing.disk c.args.backing.now) (g.B.Backing.disk c.fill_pinned.new.backing) c.fill_pinned.result c.fill_pinned.ensures.disk

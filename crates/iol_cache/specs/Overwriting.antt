@@ -1,0 +1,79 @@
+-- What a write leaves of files and of extents.
+use Rattle.std.specs.Prelude.{◌≡◌, ◌≢◌, ℕ, ◌+◌, ◌<◌, ◌≤◌, true, List, length, Option, Some, None}
+use Rattle.iol_back.specs.Disk.{overwritten}
+use Rattle.iol_core.specs.Text as text
+use Rattle.iol_extent.specs.Extents.{Cell, Extent, cover}
+use Rattle.iol_hold.specs.Places.{byte_len, places}
+use Rattle.iol_hold.specs.Stored.{Stored}
+use Rattle.iol_hold.specs.Texts.{text_of}
+use Rattle.iol_hold.specs.declared.slices.Slice.{Slice}
+use Rattle.iol_cache.specs.Cached.{Cached, extents_in, file_in}
+use Rattle.iol_cache.specs.Composing.{KeepsOwn, copied_pages}
+use Rattle.iol_cache.specs.Contents.{Mirrors, SameFiles, bytes_in_slot}
+use Rattle.iol_cache.specs.Evicting.{EvictsAll, GivesUp, Holding}
+use Rattle.iol_cache.specs.Preparing.{Prepares}
+use Rattle.iol_cache.specs.Reading.{SameButRoom}
+use Rattle.iol_cache.specs.Sharing.{places_over}
+use Rattle.iol_cache.specs.Writing.{PutsOver}
+
+-- the bytes of a file
+abbrev pub bytes_in : Holding → (slots : List (List ℕ)) → (f : ℕ) → List ℕ
+bytes_in h slots f = bytes_in_slot h.store slots h.cache.files f
+
+-- under clean extents the store has the same bytes
+abbrev pub MirrorsIn : Holding → (slots : List (List ℕ)) → Type 0
+MirrorsIn h slots = Mirrors h.store slots h.cache.files
+
+-- the bytes of the source stand in the file from a place on, which is at most its end
+pub record IsWritten (f at : ℕ) (source : List Slice) (old new : Holding) : Type 0 where
+  pub each : (slots : List (List ℕ)) → MirrorsIn old slots → at ≤ length (bytes_in old slots f) → bytes_in new slots f ≡ overwritten at (text.bytes_of (text_of old.store source)) (bytes_in old slots f)
+
+-- every other file has the bytes that it had
+pub record KeepsOthers (f : ℕ) (old new : Holding) : Type 0 where
+  pub each : (slots : List (List ℕ)) → MirrorsIn old slots → (g : ℕ) → g ≢ f → bytes_in new slots g ≡ bytes_in old slots g
+
+-- every file has the bytes that it had
+pub record KeepsFiles (old new : Holding) : Type 0 where
+  pub each : (slots : List (List ℕ)) → MirrorsIn old slots → SameFiles old.store old.cache.files new.store new.cache.files slots
+
+-- what lies under clean extents is what the store has, if it was before
+pub record KeepsMirrors (old new : Holding) : Type 0 where
+  pub each : (slots : List (List ℕ)) → MirrorsIn old slots → MirrorsIn new slots
+
+abbrev pub is_dirty : Option Cell → Type 0
+is_dirty None = ⊥
+is_dirty (Some c) = c.dirty ≡ true
+
+-- The bytes of a range lie under dirty extents; those of the source that lay in the file's pool lie where they lay.
+pub record LiesDirty (f at : ℕ) (source : List Slice) (cache : Cached) : Type 0 where
+  pub dirty : (i : ℕ) → at ≤ i → i < at + byte_len source → is_dirty (cover (extents_in cache.files f) i)
+  pub own : KeepsOwn (file_in cache.files f).pool (places source) (places_over (extents_in cache.files f) at (at + byte_len source))
+
+-- Room for extents and entries was reserved, and clean extents of the pool's files were evicted, if need be until n pages
+-- were free.
+pub record MakesRoom (pool n : ℕ) (old new : Holding) : Type 0 where
+  pub reserved : Cached
+  pub rooms : SameButRoom old.cache reserved
+  pub victims : EvictsAll pool (Some n) (record { store = old.store; cache = reserved }) new
+  pub gives_up : GivesUp (record { store = old.store; cache = reserved }) new
+
+-- and nothing else became of the cache
+pub record OnlyMakesRoom (pool n : ℕ) (old new : Holding) : Type 0 where
+  pub mid : Holding
+  pub room : MakesRoom pool n old mid
+  pub cache : new.cache ≡ mid.cache
+
+-- The bytes of the source and the parts beside them were prepared, and came in the place of what the range met.
+pub record Overwrites (f at : ℕ) (source : List Slice) (old new : Holding) : Type 0 where
+  pub left : Extent
+  pub right : Extent
+  pub bytes : Extent
+  pub ready : Stored
+  pub prepares : Prepares old.store ready (file_in old.cache.files f).pool (extents_in old.cache.files f) at source left right bytes
+  pub puts : PutsOver f at (at + byte_len source) left right bytes (record { store = ready; cache = old.cache }) new
+
+-- room was made, and then the range was overwritten
+pub record WritesFile (f at : ℕ) (source : List Slice) (old new : Holding) : Type 0 where
+  pub mid : Holding
+  pub room : let p = (file_in old.cache.files f).pool in MakesRoom p (copied_pages p source) old mid
+  pub over : Overwrites f at source mid new

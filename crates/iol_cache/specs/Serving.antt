@@ -1,0 +1,115 @@
+-- What a read of a file does to a store and a cache over it.
+use Rattle.std.specs.Prelude.{◌≡◌, ◌⊎◌, ℕ, ◌+◌, ◌<◌, ◌≤◌, min, max, true, List, [], length, take, drop, Result, Ok, Err}
+use Rattle.iol_core.specs.Numbered.{is_numbered}
+use Rattle.iol_core.specs.declared.limits.TheConstants.{MAX_FILE_BYTES}
+use Rattle.iol_core.specs.declared.refusals.Refusal.{Refusal}
+use Rattle.iol_core.specs.declared.refusals.Refusal.TheVariants.{NoRoom, Fault}
+use Rattle.iol_back.specs.Disk.{Disk, IfHonest, content, last_failure, raised}
+use Rattle.iol_extent.specs.Extents.{last_end}
+use Rattle.iol_extent.specs.declared.spans.Span.{Span}
+use Rattle.iol_hold.specs.Moves.{Moves}
+use Rattle.iol_hold.specs.Places.{places}
+use Rattle.iol_hold.specs.Releases.{FreesOnly}
+use Rattle.iol_hold.specs.Stored.{Stored}
+use Rattle.iol_hold.specs.declared.slices.Slice.{Slice}
+use Rattle.iol_cache.specs.Cached.{Cached, extents_in}
+use Rattle.iol_cache.specs.Contents.{Mirrors, bytes_in_slot}
+use Rattle.iol_cache.specs.Evicting.{Holding}
+use Rattle.iol_cache.specs.Going.{HasRoom, LacksRoom}
+use Rattle.iol_cache.specs.Ranges.{FillsAfter, PinsRange, UndoesAfter}
+use Rattle.iol_cache.specs.Reading.{SameButRoom}
+use Rattle.iol_cache.specs.Weaving.{places_read}
+
+-- A call that wants pages is refused for want of room only where it lacks room. It succeeds, or meets a fault, only where it
+-- has room.
+abbrev pub TellsRoom : {A : Type 0} → (has lacks : Type 0) → Result A Refusal → Type 0
+TellsRoom has lacks (Ok x) = has
+TellsRoom has lacks (Err (Fault f)) = has
+TellsRoom has lacks (Err (NoRoom p)) = lacks
+TellsRoom has lacks (Err x) = Unit {0}
+
+-- a failure was counted just where a fault is answered
+abbrev pub FaultCounts : {A : Type 0} → (old new : Disk) → Result A Refusal → Type 0
+FaultCounts old new (Ok x) = new.failures ≡ old.failures
+FaultCounts old new (Err (Fault f)) = new.failures ≡ raised old.failures
+FaultCounts old new (Err x) = new.failures ≡ old.failures
+
+-- The store was read, so an honest one keeps its bytes. A fault is answered just where one failure more was counted.
+pub record TellsFault {A : Type 0} (old new : Disk) (r : Result A Refusal) : Type 0 where
+  pub honest : new.honest ≡ old.honest
+  pub slots : IfHonest old (new.slots ≡ old.slots)
+  pub counts : FaultCounts old new r
+
+-- The store is honest, no file of it is too long, and under clean extents it has the same bytes.
+pub record IsBacked (disk : Disk) (h : Holding) : Type 0 where
+  pub honest : disk.honest ≡ true
+  pub short : (f : ℕ) → is_numbered h.cache.files f ≡ true → length (content disk.slots f) ≤ MAX_FILE_BYTES
+  pub mirrors : Mirrors h.store disk.slots h.cache.files
+
+-- The end of a file for a read: that of what is stored, as far as a file may go, or of the last extent.
+pub record IsEnd (disk : Disk) (c : Cached) (f end : ℕ) : Type 0 where
+  pub short : end ≤ MAX_FILE_BYTES
+  pub is : IfHonest disk (end ≡ max (min (length (content disk.slots f)) MAX_FILE_BYTES) (last_end (extents_in c.files f)))
+
+-- n bytes from `at` on, as far as the file goes
+pub record Range (disk : Disk) (c : Cached) (f at n : ℕ) : Type 0 where
+  pub end : ℕ
+  pub ends : IsEnd disk c f end
+  pub from : ℕ
+  pub begins : from ≡ min at end
+  pub to : ℕ
+  pub stops : to ≡ min (at + n) end
+
+-- The hits of a range were shared and counted, extents went to make room for its gaps, and these stand as clean extents
+-- now. Its bytes lie over hits where they lay, over gaps in the new extents.
+pub record ReadsRange (f from to : ℕ) (disk : Disk) (old new : Holding) (xs : List Slice) : Type 0 where
+  pub pins : List Slice
+  pub gaps : List Span
+  pub hit : Holding
+  pub pinned : PinsRange f from to old hit pins gaps
+  pub filled : FillsAfter f from to pins gaps disk hit new xs
+  pub lies : places xs ≡ places_read (extents_in old.cache.files f) (extents_in new.cache.files f) from to gaps
+  pub answers : 0 < length gaps → disk.failures < last_failure
+
+-- The hits of a range were shared and counted, and extents went to make room for its gaps. What was made of these is gone,
+-- and what was shared was released.
+pub record GivesBack (f from to : ℕ) (old new : Holding) : Type 0 where
+  pub pins : List Slice
+  pub gaps : List Span
+  pub hit : Holding
+  pub pinned : PinsRange f from to old hit pins gaps
+  pub undone : UndoesAfter f pins gaps hit new
+
+-- Nothing changed but room for what may come.
+pub record ReservesOnly (old new : Holding) : Type 0 where
+  pub same : SameButRoom old.cache new.cache
+  pub moves : Moves old.store new.store [] []
+  pub frees : FreesOnly old.store new.store
+
+-- a read of a range was refused, before its hits were shared or after
+abbrev pub LeavesRange : (f from to : ℕ) → (old new : Holding) → Type 0
+LeavesRange f from to old new = ReservesOnly old new ⊎ GivesBack f from to old new
+
+-- A file was read: n bytes from `at` on, as far as it goes.
+pub record ReadsFile (f at n : ℕ) (disk : Disk) (old new : Holding) (xs : List Slice) : Type 0 where
+  pub range : Range disk old.cache f at n
+  pub reads : ReadsRange f range.from range.to disk old new xs
+
+-- Such a read was refused.
+pub record RefusesRead (f at n : ℕ) (disk : Disk) (old new : Holding) : Type 0 where
+  pub range : Range disk old.cache f at n
+  pub leaves : LeavesRange f range.from range.to old new
+
+-- The pages that are pinned while such a read holds its hits, and those that its gaps want, fit the pool.
+pub record RoomToRead (f at n : ℕ) (disk : Disk) (old : Holding) : Type 0 where
+  pub range : Range disk old.cache f at n
+  pub room : HasRoom old.store old.cache f range.from range.to
+
+-- They do not.
+pub record NoRoomToRead (f at n : ℕ) (disk : Disk) (old : Holding) : Type 0 where
+  pub range : Range disk old.cache f at n
+  pub lacks : LacksRoom old.store old.cache f range.from range.to
+
+-- the bytes of a file from `at` on, at most n of them
+abbrev pub bytes_read : Stored → (slots : List (List ℕ)) → Cached → (f at n : ℕ) → List ℕ
+bytes_read s slots c f at n = take n (drop at (bytes_in_slot s slots c.files f))

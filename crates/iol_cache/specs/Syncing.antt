@@ -1,0 +1,139 @@
+-- Dirty extents that are written back.
+use Rattle.std.specs.Prelude.{Bool, ◌≡◌, ℕ, zero, suc, ◌+◌, ◌-◌, ◌<◌, ◌≤◌, ◌⊎◌, ◌==◌, cond, true, false, if◌then◌else◌, List, [], ◌∷◌, map, length, max, slice_index, sum_by, Result, Ok, Err, OnErr, OnOk, Some, None}
+use Rattle.iol_back.specs.Disk.{Disk, IfHonest, OthersStay, Succeeds, Tears, content, raised}
+use Rattle.iol_core.specs.Text as text
+use Rattle.iol_core.specs.declared.refusals.Refusal.{Refusal}
+use Rattle.iol_core.specs.declared.refusals.Refusal.TheVariants.{Fault}
+use Rattle.iol_evict.specs.Ranking.{Ranking}
+use Rattle.iol_extent.specs.Extents.{Extent, ExtentMap, IsApart, dirty_in, extent_of}
+use Rattle.iol_hold.specs.Places.{byte_len}
+use Rattle.iol_hold.specs.Stored.{Stored}
+use Rattle.iol_hold.specs.Texts.{text_of}
+use Rattle.iol_cache.specs.Cached.{Cached, extents_in, file_in, order_in, with_file, with_order}
+use Rattle.iol_cache.specs.Contents.{Mirrors, bytes_in_slot}
+use Rattle.iol_cache.specs.Replacing.{Follows}
+use Rattle.iol_cache.specs.declared.syncing.Flushed.{Flushed}
+use Rattle.iol_cache.specs.declared.syncing.Flushed.TheVariants.{Nothing, Wrote}
+
+-- Bytes of the store.
+
+-- the bytes stand from a place on, and all others are as they were
+pub record Stores (at : ℕ) (bytes old new : List ℕ) : Type 0 where
+  pub beside : (i : ℕ) → (i < at) ⊎ (at + length bytes ≤ i) → slice_index new i ≡ slice_index old i
+  pub inside : (i : ℕ) → i < length bytes → slice_index new (at + i) ≡ slice_index bytes i
+  pub no_shorter : length old ≤ length new
+  pub no_longer : length new ≤ max (length old) (at + length bytes)
+  pub reaches : 0 < length bytes → at + length bytes ≤ length new
+
+-- writes were made, and the first that failed ended them
+abbrev pub WriteCounts : {A E : Type 0} → (old new : Disk) → Result A E → Type 0
+WriteCounts old new (Ok x) = Succeeds old new
+WriteCounts old new (Err e) = new.failures ≡ raised old.failures
+
+-- The bytes of a range of a file were written, slice by slice. Where a write failed, what lies in the range is anything.
+pub record WritesBack {A E : Type 0} (file at : ℕ) (bytes : List ℕ) (old new : Disk) (r : Result A E) : Type 0 where
+  pub honest : new.honest ≡ old.honest
+  pub counts : WriteCounts old new r
+  pub others : IfHonest old (OthersStay file old.slots new.slots)
+  pub stored : IfHonest old (OnOk r (Stores at bytes (content old.slots file) (content new.slots file)))
+  pub torn : IfHonest old (OnErr r (Tears at (length bytes) (content old.slots file) (content new.slots file)))
+
+-- Extents that become clean.
+
+abbrev pub as_clean : Extent → Extent
+as_clean e = extent_of e.at e.parts false
+
+-- the extent that begins at a place is clean
+abbrev pub cleaned_at : List Extent → (at : ℕ) → List Extent
+cleaned_at [] at = []
+cleaned_at (e ∷ es) at = if e.at == at then as_clean e ∷ es else e ∷ cleaned_at es at
+
+-- the first n dirty extents are clean
+abbrev pub first_cleaned : (n : ℕ) → List Extent → List Extent
+first_cleaned zero es = es
+first_cleaned (suc n) [] = []
+first_cleaned (suc n) (e ∷ es) = if e.dirty then as_clean e ∷ first_cleaned n es else e ∷ first_cleaned (suc n) es
+
+abbrev pub all_cleaned : List Extent → List Extent
+all_cleaned es = map as_clean es
+
+abbrev pub one_dirty : Extent → ℕ
+one_dirty e = cond e.dirty 1 0
+
+-- how many extents are dirty
+abbrev pub dirty_count : List Extent → ℕ
+dirty_count es = sum_by one_dirty es
+
+-- the first dirty extent begins there
+pub record IsFirstDirty (es : List Extent) (at : ℕ) : Type 0 where
+  pub extent : Extent
+  pub is : dirty_in es ≡ Some extent
+  pub begins : extent.at ≡ at
+
+-- The first dirty extent of a file is written back.
+
+-- it was written, is clean, and stands in the order
+pub record Cleans (s : Stored) (f : ℕ) (old new : Cached) (d e : Disk) : Type 0 where
+  pub extent : Extent
+  pub first : dirty_in (extents_in old.files f) ≡ Some extent
+  pub extents : ExtentMap
+  pub order : Ranking
+  pub is : extents.extents ≡ cleaned_at (extents_in old.files f) extent.at
+  pub apart : IsApart 0 extents.extents
+  pub files : new.files ≡ with_file old.files f (record { pool = (file_in old.files f).pool; extents = extents })
+  pub orders : new.orders ≡ with_order old.orders (file_in old.files f).pool order
+  pub follows : Follows f (extents_in old.files f) extents.extents (order_in old.orders (file_in old.files f).pool) order old.marks new.marks
+  pub room : (order_in old.orders (file_in old.files f).pool).room ≤ order.room + 1
+  pub honest : e.honest ≡ d.honest
+  pub counts : Succeeds d e
+  pub others : IfHonest d (OthersStay f d.slots e.slots)
+  pub stored : IfHonest d (Stores extent.at (text.bytes_of (text_of s extent.parts)) (content d.slots f) (content e.slots f))
+
+-- the store failed, and the extent is dirty as before
+pub record Fails (f : ℕ) (old new : Cached) (d e : Disk) : Type 0 where
+  pub extent : Extent
+  pub first : dirty_in (extents_in old.files f) ≡ Some extent
+  pub same : new ≡ old
+  pub honest : e.honest ≡ d.honest
+  pub counts : e.failures ≡ raised d.failures
+  pub others : IfHonest d (OthersStay f d.slots e.slots)
+  pub torn : IfHonest d (Tears extent.at (byte_len extent.parts) (content d.slots f) (content e.slots f))
+
+-- or there is none, and nothing was done
+pub record IsClean (f : ℕ) (old new : Cached) (d e : Disk) : Type 0 where
+  pub none : dirty_in (extents_in old.files f) ≡ None
+  pub same : new ≡ old
+  pub disk : e ≡ d
+
+abbrev pub StoresFirst : (s : Stored) (f : ℕ) (old new : Cached) (d e : Disk) → Result Bool Refusal → Type 0
+StoresFirst s f old new d e (Ok true) = Cleans s f old new d e
+StoresFirst s f old new d e (Ok false) = IsClean f old new d e
+StoresFirst s f old new d e (Err x) = Fails f old new d e × (x ≡ Fault f)
+
+-- Dirty extents of a file are written back, in the order of offsets.
+
+-- every file has the bytes that it had, over a store that was written
+pub record SameContents (s : Stored) (old new : Cached) (d e : Disk) : Type 0 where
+  pub each : (f : ℕ) → bytes_in_slot s e.slots new.files f ≡ bytes_in_slot s d.slots old.files f
+
+-- the first ones are clean, and no other file changed
+pub record Syncs (s : Stored) (f : ℕ) (old new : Cached) (d e : Disk) : Type 0 where
+  pub count : ℕ
+  pub extents : extents_in new.files f ≡ first_cleaned count (extents_in old.files f)
+  pub others : (g : ℕ) → (g ≡ f → ⊥) → file_in new.files g ≡ file_in old.files g
+  pub pools : (g : ℕ) → (file_in new.files g).pool ≡ (file_in old.files g).pool
+  pub files : length new.files ≡ length old.files
+  pub honest : e.honest ≡ d.honest
+  pub contents : IfHonest d (SameContents s old new d e)
+  pub mirrors : IfHonest d (Mirrors s d.slots old.files → Mirrors s e.slots new.files)
+
+-- no extent of the files 1 to n is dirty
+pub record AllClean (n : ℕ) (c : Cached) : Type 0 where
+  pub each : (f : ℕ) → 0 < f → f ≤ n → dirty_in (extents_in c.files f) ≡ None
+
+-- The dirty extent of least file and offset was written back, or there is none.
+abbrev pub Flushes : (s : Stored) (old new : Cached) (d e : Disk) → Result Flushed Refusal → Type 0
+Flushes s old new d e (Ok Nothing) = AllClean (length old.files) old × (new ≡ old) × (e ≡ d)
+Flushes s old new d e (Ok (Wrote f)) = AllClean (f - 1) old × Cleans s f old new d e
+Flushes s old new d e (Err (Fault f)) = AllClean (f - 1) old × Fails f old new d e
+Flushes s old new d e (Err x) = ⊥

@@ -1,0 +1,188 @@
+//! Writing back of dirty extents.
+ghost use Rattle.std.specs.Prelude.{◌≡◌, ℕ, ◌+◌, ◌<◌, ◌≤◌, ◌^◌, length, true, None, IfErr, OnErr, OnOk};
+ghost use Rattle.iol_core.specs.Text as text;
+ghost use Rattle.iol_core.specs.Numbered.{is_numbered};
+ghost use Rattle.iol_cache.specs.Cache.{cached_of};
+ghost use Rattle.iol_cache.specs.Cached.{extents_in, file_in, order_in, parts_in};
+ghost use Rattle.iol_cache.specs.Sharing.{CountsBelow};
+ghost use Rattle.iol_cache.specs.Sound.{IsSound};
+ghost use Rattle.iol_cache.specs.Marks.{AreWithin, HasMarksLeft};
+ghost use Rattle.iol_cache.specs.Reading.{RanksFile};
+ghost use Rattle.iol_cache.specs.Replacing.{Follows};
+ghost use Rattle.iol_cache.specs.Syncing.{IsFirstDirty, Flushes, StoresFirst, Syncs, WritesBack, cleaned_at, dirty_count};
+ghost use Rattle.iol_back.specs.Disk.{raised};
+ghost use Rattle.iol_core.specs.Meaning.{FaultOf};
+ghost use Rattle.iol_extent.specs.Extents.{IsApart, begins_at, dirty_in, last_end};
+ghost use Rattle.iol_hold.specs.Places.{byte_len};
+ghost use Rattle.iol_hold.specs.Texts.{AllReadable, text_of};
+
+use crate::cache::Cache;
+use crate::cutting::Edge;
+use crate::marks::CleanHolds;
+use crate::replacing::put_edge;
+use iol_back::backing::{Backing, StoreFault};
+use iol_core::limits::{MAX_FILE_BYTES, MAX_FILES};
+use iol_core::numbers::FileId;
+use iol_core::refusals::Refusal;
+use iol_evict::order::Order;
+use iol_extent::extents::Extents;
+use iol_hold::{Slice, Store};
+
+/// What was written back.
+#[derive(Clone, Copy, Debug, PartialEq, Eq)]
+pub enum Flushed {
+    /// Nothing is dirty.
+    Nothing,
+    /// An extent of this file, the first that was dirty.
+    Wrote { file: FileId },
+}
+
+// Writes slices back to the bytes of a file from place `at` on, one write for each, up to the first that fails.
+fn write_back<B: Backing>(
+    store: &Store,
+    backing: &mut B,
+    file: FileId,
+    at: u32,
+    slices: &[Slice],
+) -> Result<(), StoreFault>
+    requires some { 0 < byte_len slices.now }
+    requires fits { at + byte_len slices.now < 2 ^ 32 }
+    requires readable { AllReadable store.now slices.now }
+    ensures { WritesBack file at (text.bytes_of (text_of store.now slices.now))
+        (B.disk backing.old) (B.disk backing.new) result }
+{
+    let mut to = at;
+    for slice in slices {
+        match backing.write_at(file, to, slice.bytes(store)) {
+            Ok(()) => {}
+            Err(fault) => return Err(fault),
+        }
+        to += slice.len;
+    }
+    Ok(())
+}
+
+// The first dirty extent becomes clean, which begins at a place: it is marked, and enters the order in room that was made
+// for it.
+fn settle(order: &mut Order, marks: &mut CleanHolds, extents: &mut Extents, file: FileId, at: u32)
+    requires apart { IsApart 0 extents.old.extents }
+    requires short { last_end extents.old.extents ≤ MAX_FILE_BYTES }
+    requires dirty { IsFirstDirty extents.old.extents at }
+    requires ranked { RanksFile order.old file extents.old.extents }
+    requires room { 0 < order.old.room }
+    requires within { AreWithin (length marks.old) (parts_in (begins_at extents.old.extents at)) }
+    requires few { HasMarksLeft marks.old (parts_in (begins_at extents.old.extents at)) }
+    ensures extents { extents.new.extents ≡ cleaned_at extents.old.extents at }
+    ensures apart { IsApart 0 extents.new.extents }
+    ensures follows { Follows file extents.old.extents extents.new.extents order.old order.new
+        marks.old marks.new }
+    ensures room { order.old.room ≤ order.new.room + 1 }
+{
+    let agg = extents.remove(at);
+    let edge = Edge {
+        at,
+        agg,
+        dirty: false,
+    };
+    put_edge(order, marks, extents, file, edge);
+}
+
+impl Cache {
+    // Writes the first dirty extent of a file back, which is clean then. False: none is dirty.
+    fn store_first<B: Backing>(
+        &mut self,
+        store: &Store,
+        backing: &mut B,
+        file: FileId,
+    ) -> Result<bool, Refusal>
+        requires sound { IsSound store.now (cached_of self.old) }
+        requires file { is_numbered self.old.files.items file ≡ true }
+        requires few { CountsBelow store.now (2 ^ 61) }
+        requires room { let p = (file_in self.old.files.items file).pool in
+            0 < dirty_count (extents_in self.old.files.items file) →
+            0 < (order_in self.old.orders.items p).room }
+        ensures stores { StoresFirst store.now file (cached_of self.old) (cached_of self.new)
+            (B.disk backing.old) (B.disk backing.new) result }
+        ensures sound { IsSound store.now (cached_of self.new) }
+    {
+        let place = file.number() as usize - 1;
+        let pool = self.files[place].pool;
+        let Some((at, agg)) = self.files[place].extents.first_dirty() else {
+            return Ok(false);
+        };
+        if let Err(_fault) = write_back(store, backing, file, at, agg.slices()) {
+            return Err(Refusal::Fault { file });
+        }
+        settle(
+            &mut self.orders[pool.number() as usize - 1],
+            &mut self.marks,
+            &mut self.files[place].extents,
+            file,
+            at,
+        );
+        Ok(true)
+    }
+
+    /// Writes all dirty extents of a file back, in the order of offsets, up to the first that fails. Those that were written
+    /// are clean then.
+    pub(crate) fn sync<B: Backing>(
+        &mut self,
+        store: &Store,
+        backing: &mut B,
+        file: FileId,
+    ) -> Result<(), Refusal>
+        requires sound { IsSound store.now (cached_of self.old) }
+        requires file { is_numbered self.old.files.items file ≡ true }
+        requires few { CountsBelow store.now (2 ^ 61) }
+        requires room { let p = (file_in self.old.files.items file).pool in
+            dirty_count (extents_in self.old.files.items file) ≤
+            (order_in self.old.orders.items p).room }
+        ensures syncs { Syncs store.now file (cached_of self.old) (cached_of self.new)
+            (B.disk backing.old) (B.disk backing.new) }
+        ensures clean { OnOk result (dirty_in (extents_in self.new.files.items file) ≡ None) }
+        ensures fails { OnErr result
+            ((B.disk backing.new).failures ≡ raised (B.disk backing.old).failures) }
+        ensures succeeds { OnOk result
+            ((B.disk backing.new).failures ≡ (B.disk backing.old).failures) }
+        ensures late { IfErr result (FaultOf file) }
+        ensures sound { IsSound store.now (cached_of self.new) }
+    {
+        let mut more = true;
+        while more {
+            more = match self.store_first(store, backing, file) {
+                Ok(more) => more,
+                Err(refusal) => return Err(refusal),
+            };
+        }
+        Ok(())
+    }
+
+    /// Writes the dirty extent of least file and offset back, which is clean then.
+    pub(crate) fn flush_one<B: Backing>(
+        &mut self,
+        store: &Store,
+        backing: &mut B,
+    ) -> Result<Flushed, Refusal>
+        requires sound { IsSound store.now (cached_of self.old) }
+        requires files { length self.old.files.items ≤ MAX_FILES }
+        requires few { CountsBelow store.now (2 ^ 61) }
+        requires room { (f : ℕ) → let p = (file_in self.old.files.items f).pool in
+            0 < dirty_count (extents_in self.old.files.items f) →
+            0 < (order_in self.old.orders.items p).room }
+        ensures flushes { Flushes store.now (cached_of self.old) (cached_of self.new)
+            (B.disk backing.old) (B.disk backing.new) result }
+        ensures sound { IsSound store.now (cached_of self.new) }
+    {
+        for i in 0..self.files.len() {
+            let file = FileId::new(i as u32 + 1);
+            let wrote = match self.store_first(store, backing, file) {
+                Ok(wrote) => wrote,
+                Err(refusal) => return Err(refusal),
+            };
+            if wrote {
+                return Ok(Flushed::Wrote { file });
+            }
+        }
+        Ok(Flushed::Nothing)
+    }
+}

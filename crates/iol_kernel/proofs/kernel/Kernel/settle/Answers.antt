@@ -1,0 +1,24 @@
+use Rattle.std.proofs.Common.{◌≡◌, ◌∙◌, List, sym, subst, rules, true}
+use Rattle.iol_hold.specs.declared.slices.Slice.{Slice}
+use Rattle.iol_hold.proofs.Reading.{readable_joined}
+use Rattle.iol_sock.specs.Connections.{Conn, is_over}
+use Rattle.iol_kernel.specs.Kernel.{state_of}
+use Rattle.iol_kernel.proofs.Connecting.{some_same, conn_covered, conn_readable, settled_stays, settled_as}
+use Rattle.iol_kernel.proofs.kernel.Kernel.settle.Goals as goal
+
+pub release-requires : goal.release-requires
+release-requires c = conn_covered (state_of c.args.self.now) c.args.conn c.forget-over.result c.requires.sound (sym c.forget-over.ensures.given)
+
+pub returns-then-not-is_over-clause-left : goal.returns-then-not-is_over-clause-left
+returns-then-not-is_over-clause-left c = settled_stays (state_of c.args.self.now) c.args.conn c.in-Some.found.now c.requires.sound (sym c.in-Some.ensures) (search (rules))
+
+pub returns-clause-left : goal.returns-clause-left
+returns-clause-left c =
+    let h = state_of c.args.self.now in
+    let x : Conn (List Slice) = c.forget-over.result in
+    let found = sym c.forget-over.ensures.given in
+    let good = conn_readable h c.args.conn x c.requires.sound found in
+    let same : c.forget-over.result ≡ c.in-Some.found.now = some_same (c.forget-over.ensures.given ∙ sym c.in-Some.ensures) in
+    let over : is_over c.forget-over.result ≡ true = (let e : is_over c.in-Some.found.now ≡ true = search (rules) in subst (λ (y : Conn (List Slice)). is_over y ≡ true) (sym same) e) in
+    settled_as h c.args.conn x c.requires.sound found c.release.new.store over c.release.ensures.moves c.release.ensures.lists c.release.ensures.frees (c.release.ensures.settles (readable_joined good.0 good.1) c.requires.sound.settled)
+    c.forget-over.new.self.conns c.forget-over.new.self.next c.forget-over.ensures.rest c.forget-over.ensures.next

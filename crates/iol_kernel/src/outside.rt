@@ -1,0 +1,197 @@
+//! Acts from outside: connections are made, bytes arrive on them and are sent, and their peers close.
+ghost use Rattle.std.specs.Prelude.{◌≡◌, ◌≢◌, ℕ, ◌<◌, ◌≤◌, length, true, false, None, IfOk, IfErr, OnOk, OnErr, Err};
+ghost use Rattle.iol_core.specs.State as state;
+ghost use Rattle.iol_core.specs.State.{conn_at, with_conn};
+ghost use Rattle.iol_core.specs.Numbered.{lookup};
+ghost use Rattle.iol_core.specs.Meaning.{Step};
+ghost use Rattle.iol_core.specs.Calls.Outside as calls;
+ghost use Rattle.iol_core.specs.Calls.Outside.{lacks_conn};
+ghost use Rattle.iol_hold.specs.Moves.{Stays};
+ghost use Rattle.iol_hold.specs.Pages.{KeepsPages};
+ghost use Rattle.iol_hold.specs.Room.{has_room};
+ghost use Rattle.iol_sock.specs.Sent.{UsesSent};
+ghost use Rattle.iol_sock.specs.Table.{conn_in};
+ghost use Rattle.iol_kernel.specs.Calls.{told};
+ghost use Rattle.iol_kernel.specs.KernelState.{Reading, IsSound};
+
+use crate::kernel::Kernel;
+use iol_core::descriptors::How;
+use iol_core::limits::{LAST_CONNECTION, MAX_CONNECTIONS};
+use iol_core::lists::Bytes;
+use iol_core::numbers::{ConnId, PoolId};
+use iol_core::refusals::Refusal;
+use iol_sock::Segment;
+use std::alloc::AllocError;
+
+impl Kernel {
+    ghost use Rattle.iol_kernel.specs.Kernel.{state_of, machine, as_read, CarriesOut, KeepsPlaces, Answers, Arrives, Transmits, Leaves};
+
+    /// Makes a connection that waits to be accepted. What arrives on it will lie in the pool.
+    #[tactic(auto, using(crate::proofs::Stay::stay_rules))]
+    pub fn conn_new(&mut self, pool: PoolId) -> Result<ConnId, Refusal>
+        requires { IsSound (state_of self.old) }
+        ensures { CarriesOut (λ s. calls.conn_new s pool) self.old result self.new }
+    {
+        if !self.is_pool(pool) {
+            return Err(Refusal::NoPool);
+        }
+        if self.conn_count() >= MAX_CONNECTIONS || self.next_conn().number() > LAST_CONNECTION {
+            return Err(Refusal::TooMany);
+        }
+        if self.is_closed(pool) {
+            return Err(Refusal::PoolClosed { pool });
+        }
+        Ok(self.add_conn(pool)?)
+    }
+
+    /// How many connections are live.
+    #[tactic(auto, using(crate::proofs::Connecting::conn_rules))]
+    fn conn_count(&self) -> usize
+        ensures { (f : Reading) → result ≡ length (as_read f self.now).conns }
+    {
+        self.conns.count()
+    }
+
+    /// The number of the next connection.
+    #[tactic(auto, using(crate::proofs::Connecting::conn_rules))]
+    fn next_conn(&self) -> ConnId
+        ensures { (f : Reading) → result ≡ (as_read f self.now).next_conn }
+    {
+        self.conns.next()
+    }
+
+    /// Adds a connection.
+    fn add_conn(&mut self, pool: PoolId) -> Result<ConnId, AllocError>
+        requires sound { IsSound (state_of self.old) }
+        requires few { length (machine self.old).conns < MAX_CONNECTIONS }
+        requires some { (machine self.old).next_conn ≤ LAST_CONNECTION }
+        requires open { (state.pool (machine self.old) pool).closed ≡ false }
+        ensures done { IfOk result (λ n. Answers (λ s. calls.conn_new s pool) self.old n self.new) }
+        ensures err { OnErr result (state_of self.new ≡ state_of self.old) }
+    {
+        self.conns.reserve()?;
+        Ok(self.conns.add(self.alloc, pool))
+    }
+
+    /// Whether there is no live connection of this number.
+    #[tactic(auto, using(crate::proofs::Connecting::there_rules))]
+    fn lacks_conn(&self, conn: ConnId) -> bool
+        ensures { (f : Reading) → result ≡ lacks_conn (as_read f self.now) conn }
+    {
+        match self.conns.get(conn) {
+            Some(_) => false,
+            None => true,
+        }
+    }
+
+    /// The peer of a connection sends no more, or also takes no more: then what was to be sent is dropped.
+    #[tactic(auto, using(crate::proofs::Stay::stay_rules))]
+    pub fn peer_closed(&mut self, conn: ConnId, how: How) -> Result<(), Refusal>
+        requires { IsSound (state_of self.old) }
+        ensures peer_closed { KeepsPlaces (λ s. calls.peer_closed s conn how) self.old result
+            self.new }
+        ensures roomy { (p : ℕ) → result ≡ Err (Refusal.NoRoom p) → ⊥ }
+    {
+        if self.lacks_conn(conn) {
+            return Err(Refusal::BadFd);
+        }
+        self.end_peer(conn, how);
+        Ok(())
+    }
+
+    /// Ends what the peer of a connection does, and forgets the connection where it is over.
+    fn end_peer(&mut self, conn: ConnId, how: How)
+        requires sound { IsSound (state_of self.old) }
+        requires there { lacks_conn (machine self.old) conn ≡ false }
+        ensures { Leaves (λ s. with_conn s conn (calls.closed_by (conn_at s conn) how)) self.old
+            self.new }
+    {
+        self.conns.peer_closed(&mut self.store, conn, how);
+        self.settle(conn);
+    }
+
+    /// Forgets a connection that is over, and releases what it holds.
+    pub(crate) fn settle(&mut self, conn: ConnId)
+        requires sound { IsSound (state_of self.old) }
+        requires there { lookup (state_of self.old).conns conn ≢ None }
+        ensures left { Leaves (λ s. with_conn s conn (conn_at s conn)) self.old self.new }
+        ensures domains { (state_of self.new).domains ≡ (state_of self.old).domains }
+    {
+        let Some(found) = self.conns.get(conn) else {
+            unreachable!()
+        };
+        if !found.is_over() {
+            return;
+        }
+        let over = self.conns.forget(conn);
+        over.release(&mut self.store);
+    }
+
+    /// Bytes come in from a connection's peer, as many as fit: how many is the answer. They lie in new buffers on the
+    /// lowest free pages of the connection's pool.
+    #[tactic(auto, using(crate::proofs::Stay::stay_rules))]
+    pub fn arrive(&mut self, conn: ConnId, bytes: &Bytes) -> Result<u32, Refusal>
+        requires { IsSound (state_of self.old) }
+        ensures step { Step (calls.arrive (machine self.old) conn bytes.now) (machine self.old)
+            result (machine self.new) }
+        ensures made { IfOk result (λ n. Arrives conn n self.old self.new) }
+        ensures refused { OnErr result (state_of self.new ≡ state_of self.old) }
+        ensures sound { IsSound (state_of self.new) }
+        ensures stays { Stays self.old.store self.new.store }
+        ensures room { OnOk result (has_room self.old.store (conn_at (machine self.old) conn).pool
+            (calls.arrive (machine self.old) conn bytes.now).answer ≡ true) }
+        ensures no_room { (p : ℕ) → result ≡ Err (Refusal.NoRoom p) → has_room self.old.store
+            (conn_at (machine self.old) conn).pool (calls.arrive (machine self.old) conn
+            bytes.now).answer ≡ false }
+    {
+        if self.lacks_conn(conn) {
+            return Err(Refusal::BadFd);
+        }
+        self.take_in(conn, bytes.as_slice())
+    }
+
+    /// Bytes come in on a connection that is there.
+    fn take_in(&mut self, conn: ConnId, bytes: &[u8]) -> Result<u32, Refusal>
+        requires sound { IsSound (state_of self.old) }
+        requires there { lacks_conn (machine self.old) conn ≡ false }
+        ensures step { Step (calls.arrive (machine self.old) conn bytes.now) (machine self.old)
+            result (machine self.new) }
+        ensures made { IfOk result (λ n. Arrives conn n self.old self.new) }
+        ensures refused { OnErr result (state_of self.new ≡ state_of self.old) }
+        ensures sound { IsSound (state_of self.new) }
+        ensures stays { Stays self.old.store self.new.store }
+        ensures room { OnOk result (has_room self.old.store (conn_at (machine self.old) conn).pool
+            (calls.arrive (machine self.old) conn bytes.now).answer ≡ true) }
+        ensures no_room { (p : ℕ) → result ≡ Err (Refusal.NoRoom p) → has_room self.old.store
+            (conn_at (machine self.old) conn).pool (calls.arrive (machine self.old) conn
+            bytes.now).answer ≡ false }
+    {
+        Ok(self.conns.arrive(self.alloc, &mut self.store, conn, bytes)?)
+    }
+
+    /// Sends the first `max` bytes to be sent of a connection, or all where fewer wait, with the checksum of these
+    /// alone. The sum of each slice that is sent is used, in order.
+    #[tactic(auto, using(crate::proofs::Stay::stay_rules))]
+    pub fn transmit(&mut self, conn: ConnId, max: u32) -> Result<Segment, Refusal>
+        requires { IsSound (state_of self.old) }
+        ensures { Transmits conn max self.old (told result) self.new }
+    {
+        if self.lacks_conn(conn) {
+            return Err(Refusal::BadFd);
+        }
+        self.send(conn, max)
+    }
+
+    /// Sends the first bytes of a connection that is there, and forgets it where it is over.
+    fn send(&mut self, conn: ConnId, max: u32) -> Result<Segment, Refusal>
+        requires sound { IsSound (state_of self.old) }
+        requires there { lacks_conn (machine self.old) conn ≡ false }
+        ensures { Transmits conn max self.old (told result) self.new }
+    {
+        let segment = self
+            .conns
+            .segment(self.alloc, &mut self.store, conn, &mut self.sums, max)?;
+        self.settle(conn);
+        Ok(segment)
+    }
+}
