@@ -95,7 +95,7 @@ module _ (h : KernelState) (t : Stored) (c : ℕ) (x : Conn (List Slice)) (q : L
   arrived-sound = record {
     domains = domains_stay h.store t adds.moves.stays h.domains (objects_of h) still_held sound.domains;
     objects = record { pipes = others_good.pipes; conns = each-changed (IsConnReadable t) h.conns c longer others_good.conns longer_good };
-    fds = turned_fds h t c x longer sound found;
+    fds = turned_fds h t c x longer sound found (λ open'. open');
     once = sound.once;
     counted = turned_counted h t c x longer sound found more_counts;
     tidy = adds.moves.tidy sound.tidy;

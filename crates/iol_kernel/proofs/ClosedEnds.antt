@@ -102,7 +102,7 @@ queue-here qs p o there = let none : Option (Pipe (List Slice)) = None in ap (λ
 queue-elsewhere : (qs : Pipes) (p n : ℕ) (o : Option (Pipe (List Slice))) → n ≢ p → queue_at (slice_set qs p o) n ≡ queue_at qs n
 queue-elsewhere qs p n o differ = let none : Option (Pipe (List Slice)) = None in ap (λ (y : Option (Pipe (List Slice))). unwrap_or y closed_pipe) (get_or-set_other qs p n o none differ)
 
-not_same : (p n : ℕ) → ◌≡◌ {A = ℕ} (cond (eqb p n) 1 0) 0 → n ≢ p
+pub not_same : (p n : ℕ) → ◌≡◌ {A = ℕ} (cond (eqb p n) 1 0) 0 → n ≢ p
 not_same p n differ e = absurd (omega (arith, differ, same))
   where
     same : ◌≡◌ {A = ℕ} (cond (eqb p n) 1 0) 1
@@ -156,7 +156,7 @@ ends_kept end old new keeps (Some y ∷ fds) e none =
     let c = sum_by-cons (on_end end) (Some y) fds in
     (keeps.each y (omega (arith, c, none)) e.0, ends_kept end old new keeps fds e.1 (omega (arith, c, none)))
 
-all_ends_kept : (end : Descriptor) (old new : Objects (List Slice)) → KeepsEnds end old new → (ds : List (Domain (List Slice))) → Each (λ d. Each (IsOpenEnd old) d.fds) ds → all_ends_on end ds ≡ 0 → Each (λ d. Each (IsOpenEnd new) d.fds) ds
+pub all_ends_kept : (end : Descriptor) (old new : Objects (List Slice)) → KeepsEnds end old new → (ds : List (Domain (List Slice))) → Each (λ d. Each (IsOpenEnd old) d.fds) ds → all_ends_on end ds ≡ 0 → Each (λ d. Each (IsOpenEnd new) d.fds) ds
 all_ends_kept end old new keeps [] e none = tt
 all_ends_kept end old new keeps (d ∷ ds) e none =
     let c = sum_by-cons (λ (y : Domain (List Slice)). ends_on end y.fds) d ds in

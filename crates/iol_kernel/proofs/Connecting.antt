@@ -1,12 +1,19 @@
 -- One connection changes or goes, as the machine sees it, and all stays sound.
-use Rattle.std.proofs.Common.{◌≡◌, ◌≢◌, ℕ, ◌+◌, ◌<◌, ◌≤◌, ◌==◌, List, [], ◌∷◌, ◌++◌, length, map, ap, ◌∙◌, refl, sym, subst, arith, Option, Some, None, true, false, length-append}
-use Rattle.std.specs.Prelude.{if◌then◌else◌, unwrap_or, option_map, is_none}
+use Rattle.std.proofs.Common.{◌≡◌, ◌≢◌, ℕ, ◌+◌, ◌<◌, ◌≤◌, ◌==◌, ◌&&◌, ◌||◌, Bool, not, List, [], ◌∷◌, ◌++◌, length, map, ap, ◌∙◌, refl, sym, subst, arith, Option, Some, None, true, false, inl, inr, length-append}
+use Rattle.std.specs.Prelude.{if◌then◌else◌, sum_by, unwrap_or, option_map, is_none}
+use Rattle.std.proofs.lemmas.Bool.{cases_eq}
+use Rattle.std.proofs.lemmas.Bool.Decides.{nat_tests}
 use Rattle.std.proofs.lemmas.List.Sums.{sum_by_push}
 use Rattle.std.proofs.lemmas.List.{map-append}
+use Rattle.iol_core.specs.Text.{Text}
 use Rattle.iol_core.specs.Numbered.{lookup, without, changed}
 use Rattle.iol_core.specs.State as machine
 use Rattle.iol_core.specs.State.{State, Domain, Connection, is_gone}
+use Rattle.iol_core.specs.Meaning.{◌when◌}
+use Rattle.iol_core.specs.Calls.Descriptors as fds
 use Rattle.iol_core.specs.Calls.Outside as outside
+use Rattle.iol_core.specs.declared.refusals.Refusal.TheVariants.{Denied}
+use Rattle.iol_core.proofs.Lookups.{lookup-without}
 use Rattle.iol_core.specs.declared.descriptors.Descriptor.{Descriptor}
 use Rattle.iol_core.specs.declared.descriptors.Descriptor.TheVariants as on
 use Rattle.iol_core.specs.declared.limits.TheConstants.{MAX_CONNECTIONS, LAST_CONNECTION}
@@ -14,11 +21,13 @@ use Rattle.iol_core.specs.declared.numbers.BufId.{BufId}
 use Rattle.iol_pool.specs.Pools.{pool_in}
 use Rattle.iol_hold.specs.Layout.{read}
 use Rattle.iol_hold.specs.Stored.{Stored, IsTidy, IsStill, AllSettled, count_of}
-use Rattle.iol_hold.specs.Moves.{Stays, SameLists, Moves, Covers}
+use Rattle.iol_hold.specs.Moves.{Stays, SameLists, Moves, tally, Covers}
 use Rattle.iol_hold.specs.Pages.{KeepsPages}
+use Rattle.iol_hold.specs.Places.{byte_len}
 use Rattle.iol_hold.specs.Releases.{FreesOnly}
-use Rattle.iol_hold.specs.Texts.{bufs_of}
+use Rattle.iol_hold.specs.Texts.{bufs_of, AllReadable}
 use Rattle.iol_hold.specs.declared.slices.Slice.{Slice}
+use Rattle.iol_hold.proofs.AtPlaces.{length-read}
 use Rattle.iol_hold.proofs.Counting.{tally-append, tally_none}
 use Rattle.iol_hold.proofs.Paging.{keeps_pages_frees}
 use Rattle.iol_hold.proofs.Reading.{readable_none}
@@ -28,13 +37,14 @@ use Rattle.iol_sock.specs.Table as table
 use Rattle.iol_sock.specs.Table.{ConnTable, conn_in, no_conn}
 use Rattle.iol_sock.specs.Meant.{IsConn}
 use Rattle.iol_sock.proofs.Meaning.{conn_at-is, over_meant}
-use Rattle.iol_kernel.specs.Views.{state_view}
-use Rattle.iol_kernel.specs.Counted.{conn_uses, IsCounted}
+use Rattle.iol_kernel.specs.Views.{Objects, state_view}
+use Rattle.iol_kernel.specs.Counted.{uses, conn_uses, IsCounted}
 use Rattle.iol_kernel.specs.KernelState as held
 use Rattle.iol_kernel.specs.KernelState.{KernelState, objects_of, Each, IsConnReadable, AreReadable, IsOpenEnd, IsLimited, ArePooled, IsSound, Reading, read_of, machine_of}
+use Rattle.iol_kernel.specs.ClosedEnds.{KeepsEnds}
 use Rattle.iol_kernel.specs.Calls.{Leaves, Answers}
 use Rattle.iol_kernel.proofs.Views.{pools-view, lookup-map, without-map, length-map'}
-use Rattle.iol_kernel.proofs.Numbering.{lookup-changed, changed_same, without_changed, changed-map, rises-map, rises-changed, rises-without, rises-push, each-changed, each-without_any, each_found, sum-changed, sum-without, length-without_any}
+use Rattle.iol_kernel.proofs.Numbering.{lookup-changed, lookup-changed_other, lookup-push, changed_same, without_changed, changed-map, rises-map, rises-changed, rises-without, rises-push, each-changed, each-without_any, each_found, sum-changed, sum-without, length-without_any}
 use Rattle.iol_kernel.proofs.Sound.{each-weaker, each-push}
 use Rattle.iol_kernel.proofs.Pooling.{same_pooled}
 use Rattle.iol_kernel.proofs.Effects.{leaves, leaves_then, leaves_as, moved-sound}
@@ -47,7 +57,7 @@ Conns = List (ℕ × Conn (List Slice))
 abbrev pub seen : Reading → Conns → List (ℕ × Connection)
 seen f cs = map {B = ℕ × Connection} (λ e. (e.0, conn_view (read f) e.1)) cs
 
-conns-read_of : (f : Reading) (h : KernelState) → (read_of f h).conns ≡ seen f h.conns
+pub conns-read_of : (f : Reading) (h : KernelState) → (read_of f h).conns ≡ seen f h.conns
 unfolding read_of state_view
 conns-read_of f h = refl
 
@@ -90,6 +100,69 @@ conn_in-changed cs c x y found = ap (λ (o : Option (Conn (List Slice))). unwrap
 pub there-changed : (cs : Conns) (c : ℕ) (x y : Conn (List Slice)) → lookup cs c ≡ Some x → lookup (changed cs c y) c ≢ None
 there-changed cs c x y found = λ none. (let some = lookup-changed cs c x y found in cc (some, none))
 
+-- whether a domain may read its pool
+pub denied-read_of : (f : Reading) (h : KernelState) (d c p : ℕ) (x : Conn (List Slice)) (may : Bool) → lookup h.conns c ≡ Some x → p ≡ x.pool → may ≡ machine.may_read (read_of f h) d p → (Denied p when not may) ≡ fds.denied_by (read_of f h) d (Some (machine.conn_at (read_of f h) c).pool)
+denied-read_of f h d c p x may found is named =
+    ap (λ b. Denied p when not b) named
+    ∙ ap (λ q. fds.denied_by (read_of f h) d (Some q)) (is ∙ sym (ap (λ (w : Connection). w.pool) (conn_at-is f (read_of f h) c x (conn_found f h c x found))))
+
+-- Connections that descriptors are open on.
+
+abbrev pub IsOpenConn : Conn (List Slice) → Type 0
+IsOpenConn x = (x.accepted ≡ true) × (x.closed ≡ false)
+
+pub open_conn-there : (cs : Conns) (c : ℕ) → IsOpenConn (conn_in cs c) → lookup cs c ≢ None
+unfolding conn_in
+open_conn-there cs c open' = λ none. no (sym (ap (λ (o : Option (Conn (List Slice))). (unwrap_or o no_conn).closed) none) ∙ open'.1)
+  where
+    no : ◌≡◌ {A = Bool} true false → ⊥
+    no e = cc
+
+pub conn_in-is : (cs : Conns) (c : ℕ) (x : Conn (List Slice)) → lookup cs c ≡ Some x → conn_in cs c ≡ x
+unfolding conn_in
+conn_in-is cs c x found = ap (λ (o : Option (Conn (List Slice))). unwrap_or o no_conn) found
+
+conn_in-same : (cs ds : Conns) (n : ℕ) → lookup ds n ≡ lookup cs n → conn_in ds n ≡ conn_in cs n
+unfolding conn_in
+conn_in-same cs ds n same = ap (λ (o : Option (Conn (List Slice))). unwrap_or o no_conn) same
+
+open_as : (cs ds : Conns) (n : ℕ) → lookup ds n ≡ lookup cs n → IsOpenConn (conn_in cs n) → IsOpenConn (conn_in ds n)
+open_as cs ds n same open' = subst IsOpenConn (sym (conn_in-same cs ds n same)) open'
+
+pub open-changed : (cs : Conns) (c n : ℕ) (x y : Conn (List Slice)) → lookup cs c ≡ Some x → (IsOpenConn x → IsOpenConn y) → IsOpenConn (conn_in cs n) → IsOpenConn (conn_in (changed cs c y) n)
+open-changed cs c n x y found keeps open' = elim (cases_eq c n) [
+  | inl k ↦ subst (λ i. IsOpenConn (conn_in (changed cs c y) i)) k (subst IsOpenConn (sym (conn_in-changed cs c x y found)) (keeps (subst IsOpenConn (conn_in-is cs c x found) (subst (λ i. IsOpenConn (conn_in cs i)) (sym k) open'))))
+  | inr k ↦ open_as cs (changed cs c y) n (lookup-changed_other cs c n y k) open'
+]
+
+pub open-changed_other : (cs : Conns) (c n : ℕ) (y : Conn (List Slice)) → c ≢ n → IsOpenConn (conn_in cs n) → IsOpenConn (conn_in (changed cs c y) n)
+open-changed_other cs c n y differ open' = open_as cs (changed cs c y) n (lookup-changed_other cs c n y differ) open'
+
+-- none that is over is open
+open_not_over : (x : Conn (List Slice)) → IsOpenConn x → is_over x ≡ true → ⊥
+open_not_over x open' over = no (sym (of x.accepted x.closed open'.0 open'.1) ∙ over)
+  where
+    no : ◌≡◌ {A = Bool} false true → ⊥
+    no e = cc
+
+    none : (b : Bool) → (b && false) ≡ false
+    none true = refl
+    none false = refl
+
+    of : (accepted closed : Bool) → accepted ≡ true → closed ≡ false → ((byte_len x.outgoing == 0) && (closed || (not accepted && is_gone x.peer))) ≡ false
+    of true false a b = none (byte_len x.outgoing == 0)
+    of true true a b = absurd (no (sym b))
+    of false closed a b = absurd (no a)
+
+pub open-without : (cs : Conns) (c n : ℕ) (x : Conn (List Slice)) → lookup cs c ≡ Some x → is_over x ≡ true → IsOpenConn (conn_in cs n) → IsOpenConn (conn_in (without cs c) n)
+open-without cs c n x found over open' = elim (cases_eq c n) [
+  | inl k ↦ absurd (open_not_over x (subst IsOpenConn (conn_in-is cs c x found) (subst (λ i. IsOpenConn (conn_in cs i)) (sym k) open')) over)
+  | inr k ↦ open_as cs (without cs c) n (lookup-without cs c n k) open'
+]
+
+pub open-push : (cs : Conns) (c n : ℕ) (x : Conn (List Slice)) → IsOpenConn (conn_in cs n) → IsOpenConn (conn_in (cs ++ (c, x) ∷ []) n)
+open-push cs c n x open' = open_as cs (cs ++ (c, x) ∷ []) n (lookup-push cs c n x (open_conn-there cs n open')) open'
+
 -- The connection c, which was x, is y, and the store went on from h's to t.
 
 module _ (h : KernelState) (t : Stored) (c : ℕ) (x y : Conn (List Slice)) (sound : IsSound h) (found : lookup h.conns c ≡ Some x) where
@@ -122,16 +195,17 @@ module _ (h : KernelState) (t : Stored) (c : ℕ) (x y : Conn (List Slice)) (sou
         (ap (λ p. (pool_in t.pools p).closed) same ∙ each_found (λ (e : ℕ × Conn (List Slice)). (pool_in t.pools e.1.pool).closed ≡ false) h.conns c x pooled.opened found);
   }
 
-  turned_end : (e : Option Descriptor) → IsOpenEnd (objects_of h) e → IsOpenEnd (objects_of turned) e
-  turned_end None open' = tt
-  turned_end (Some (on.ReadEnd p)) open' = open'
-  turned_end (Some (on.WriteEnd p)) open' = open'
-  turned_end (Some (on.File f at mode)) open' = open'
-  turned_end (Some (on.Connection n)) open' = open'
+  turned_end : (IsOpenConn x → IsOpenConn y) → (e : Option Descriptor) → IsOpenEnd (objects_of h) e → IsOpenEnd (objects_of turned) e
+  turned_end keeps None open' = tt
+  turned_end keeps (Some (on.ReadEnd p)) open' = open'
+  turned_end keeps (Some (on.WriteEnd p)) open' = open'
+  turned_end keeps (Some (on.File f at mode)) open' = open'
+  turned_end keeps (Some (on.Connection n)) open' = open-changed h.conns c n x y found keeps open'
 
-  pub turned_fds : Each (λ (d : Domain (List Slice)). Each (IsOpenEnd (objects_of turned)) d.fds) h.domains
-  turned_fds = each-weaker (λ (d : Domain (List Slice)). Each (IsOpenEnd (objects_of h)) d.fds) (λ (d : Domain (List Slice)). Each (IsOpenEnd (objects_of turned)) d.fds) h.domains
-      (λ d e. each-weaker (IsOpenEnd (objects_of h)) (IsOpenEnd (objects_of turned)) d.fds turned_end e) sound.fds
+  -- where it is open still, if it was
+  pub turned_fds : (IsOpenConn x → IsOpenConn y) → Each (λ (d : Domain (List Slice)). Each (IsOpenEnd (objects_of turned)) d.fds) h.domains
+  turned_fds keeps = each-weaker (λ (d : Domain (List Slice)). Each (IsOpenEnd (objects_of h)) d.fds) (λ (d : Domain (List Slice)). Each (IsOpenEnd (objects_of turned)) d.fds) h.domains
+      (λ d e. each-weaker (IsOpenEnd (objects_of h)) (IsOpenEnd (objects_of turned)) d.fds (turned_end keeps) e) sound.fds
 
   turned_good : IsConnReadable h.store (c, y) → AreReadable h.store (objects_of turned)
   turned_good readable = record { pipes = sound.objects.pipes; conns = each-changed (IsConnReadable h.store) h.conns c y sound.objects.conns readable }
@@ -144,9 +218,10 @@ module _ (h : KernelState) (t : Stored) (c : ℕ) (x y : Conn (List Slice)) (sou
 
   -- what it holds is part of what it held
   module _ (counts : (b : BufId) → count_of t b + conn_uses b (c, x) ≡ count_of h.store b + conn_uses b (c, y)) (stays : Stays h.store t) (tidy : IsTidy t) (still : IsStill t.arena) (settled : AllSettled t) (lists : SameLists h.store t)
-      (readable : IsConnReadable h.store (c, y)) (limit : held.IsConn (c, y)) (pool' : y.pool ≡ x.pool) where
+      (readable : IsConnReadable h.store (c, y)) (limit : held.IsConn (c, y)) (pool' : y.pool ≡ x.pool)
+      (fds : Each (λ (d : Domain (List Slice)). Each (IsOpenEnd (objects_of turned)) d.fds) h.domains) where
     pub turned-sound : IsSound turned
-    turned-sound = moved-sound h.store turned stays (turned_counted counts) tidy still settled sound.domains (turned_good readable) turned_fds sound.once (turned_limits limit)
+    turned-sound = moved-sound h.store turned stays (turned_counted counts) tidy still settled sound.domains (turned_good readable) fds sound.once (turned_limits limit)
         (turned_pooled pool' (same_pooled h.store t h.conns lists sound.pooled)) sound.sums
 
     pub turned_leaves : (F : Connection → Connection) → ((f : Reading) → F (conn_view (read f) x) ≡ conn_view (read f) y) → KeepsPages h.store t [] → Leaves (λ s. record s { conns = changed s.conns c (F (machine.conn_at s c)) }) h turned
@@ -250,7 +325,17 @@ module _ (h : KernelState) (c : ℕ) (x : Conn (List Slice)) (sound : IsSound h)
     gone_end (Some (on.ReadEnd p)) open' = open'
     gone_end (Some (on.WriteEnd p)) open' = open'
     gone_end (Some (on.File f at mode)) open' = open'
-    gone_end (Some (on.Connection n)) open' = open'
+    gone_end (Some (on.Connection n)) open' = open-without h.conns c n x found over open'
+
+    -- what is open stays so
+    pub gone_keeps : (end : Descriptor) (cs : Conns) (n : ℕ) → cs ≡ without h.conns c → KeepsEnds end (objects_of h) (record (objects_of h) { conns = cs; next_conn = n })
+    gone_keeps end cs n rest = record { each = λ e differ open'. kept e (gone_end (Some e) open') }
+      where
+        kept : (e : Descriptor) → IsOpenEnd (objects_of gone) (Some e) → IsOpenEnd (record (objects_of h) { conns = cs; next_conn = n }) (Some e)
+        kept (on.ReadEnd p) open' = open'
+        kept (on.WriteEnd p) open' = open'
+        kept (on.File f at mode) open' = open'
+        kept (on.Connection m) open' = subst (λ (l : Conns). IsOpenConn (conn_in l m)) (sym rest) open'
 
     gone-sound : IsSound gone
     gone-sound = moved-sound h.store gone moves.stays gone_counted (moves.tidy sound.tidy) (moves.still sound.still) settled sound.domains gone_good
@@ -301,7 +386,7 @@ module _ (h : KernelState) (p : ℕ) (sound : IsSound h) (open' : (pool_in h.sto
   joined_end (Some (on.ReadEnd q)) is = is
   joined_end (Some (on.WriteEnd q)) is = is
   joined_end (Some (on.File f at mode)) is = is
-  joined_end (Some (on.Connection n)) is = is
+  joined_end (Some (on.Connection n)) is = open-push h.conns h.next_conn n (new_conn p) is
 
   joined-sound : IsSound joined
   joined-sound =

@@ -29,3 +29,5 @@ pub mod Connecting
 pub mod Arriving
 pub mod Transmitting
 pub mod PeerClosed
+pub mod Hanging
+pub mod Accepting

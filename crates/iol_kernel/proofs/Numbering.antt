@@ -22,10 +22,10 @@ without_here e es n k = grind (arith, nat_tests, k)
 without_later : {A : Type 0} (e : ℕ × A) (es : List (ℕ × A)) (n : ℕ) → e.0 ≢ n → without (e ∷ es) n ≡ e ∷ without es n
 without_later e es n k = grind (arith, nat_tests, k)
 
-lookup_here : {A : Type 0} (e : ℕ × A) (es : List (ℕ × A)) (n : ℕ) → e.0 ≡ n → lookup (e ∷ es) n ≡ Some e.1
+pub lookup_here : {A : Type 0} (e : ℕ × A) (es : List (ℕ × A)) (n : ℕ) → e.0 ≡ n → lookup (e ∷ es) n ≡ Some e.1
 lookup_here e es n k = grind (arith, nat_tests, k)
 
-lookup_later : {A : Type 0} (e : ℕ × A) (es : List (ℕ × A)) (n : ℕ) → e.0 ≢ n → lookup (e ∷ es) n ≡ lookup es n
+pub lookup_later : {A : Type 0} (e : ℕ × A) (es : List (ℕ × A)) (n : ℕ) → e.0 ≢ n → lookup (e ∷ es) n ≡ lookup es n
 lookup_later e es n k = grind (arith, nat_tests, k)
 
 some_is : {A : Type 0} (x y : A) → Some x ≡ Some y → x ≡ y
@@ -49,6 +49,13 @@ lookup-changed_other {A} (e ∷ es) m n y differ = elim (cases_eq e.0 m) [
     | inl l ↦ lookup_here e (changed es m y) n l ∙ sym (lookup_here e es n l)
     | inr l ↦ lookup_later e (changed es m y) n l ∙ lookup-changed_other es m n y differ ∙ sym (lookup_later e es n l)
   ]
+]
+
+pub lookup-push : {A : Type 0} (es : List (ℕ × A)) (m n : ℕ) (y : A) → lookup es n ≢ None → lookup (es ++ (m, y) ∷ []) n ≡ lookup es n
+lookup-push [] m n y there = absurd (there refl)
+lookup-push {A} (e ∷ es) m n y there = elim (cases_eq e.0 n) [
+  | inl k ↦ lookup_here e (es ++ (m, y) ∷ []) n k ∙ sym (lookup_here e es n k)
+  | inr k ↦ lookup_later e (es ++ (m, y) ∷ []) n k ∙ lookup-push es m n y (λ none. there (lookup_later e es n k ∙ none)) ∙ sym (lookup_later e es n k)
 ]
 
 -- numbers below all of a list

@@ -1,4 +1,4 @@
--- Each end of a pipe is open once, when a domain's descriptors change.
+-- Each end of a pipe and each connection is open once, when a domain's descriptors change.
 use Rattle.std.proofs.Common.{◌≡◌, ℕ, suc, subst, false, Bool, ◌+◌, ◌<◌, ◌≤◌, ◌==◌, List, [], ◌∷◌, ◌++◌, length, ap, ◌∙◌, refl, sym, arith, Option, Some, None, inl, inr, true}
 use Rattle.std.specs.Prelude.{slice_set, cond}
 use Rattle.std.proofs.lemmas.Bool.{cases_lt, cases_eq}
@@ -80,13 +80,16 @@ same_end-differs (on.WriteEnd p) (on.ReadEnd q) differ = refl
 same_end-differs (on.WriteEnd p) (on.File f at mode) differ = refl
 same_end-differs (on.WriteEnd p) (on.Connection c) differ = refl
 same_end-differs (on.File f at mode) y differ = refl
-same_end-differs (on.Connection c) y differ = refl
+same_end-differs (on.Connection c) (on.Connection d) differ = elim (cases_eq c d) [ inl k ↦ absurd (differ (ap on.Connection k)) | inr k ↦ grind (arith, nat_tests, k) ]
+same_end-differs (on.Connection c) (on.ReadEnd q) differ = refl
+same_end-differs (on.Connection c) (on.WriteEnd q) differ = refl
+same_end-differs (on.Connection c) (on.File f at mode) differ = refl
 
 pub same_end-itself : (qs : Objects (List Slice)) (x : Descriptor) → IsOpenEnd qs (Some x) → same_end x x ≡ 1
 same_end-itself qs (on.ReadEnd p) h = grind (arith, nat_tests)
 same_end-itself qs (on.WriteEnd p) h = grind (arith, nat_tests)
 same_end-itself qs (on.File f at mode) h = absurd h
-same_end-itself qs (on.Connection c) h = absurd h
+same_end-itself qs (on.Connection c) h = grind (arith, nat_tests)
 
 one_at_most : (b : Bool) → cond b 1 0 ≤ 1
 one_at_most true = omega arith
@@ -110,6 +113,19 @@ both_once (on.WriteEnd p) n k le reading writing = elim (cases_eq p n) [
     number same = cc
 both_once (on.File f at mode) n k le reading writing = omega (arith, le)
 both_once (on.Connection c) n k le reading writing = omega (arith, le)
+
+-- one connection more, which is not open yet
+pub one_once : (e : Descriptor) (c k : ℕ) → k ≤ 1 → (e ≡ on.Connection c → k ≡ 0) → k + same_end e (on.Connection c) ≤ 1
+one_once (on.ReadEnd p) c k le none = omega (arith, le)
+one_once (on.WriteEnd p) c k le none = omega (arith, le)
+one_once (on.File f at mode) c k le none = omega (arith, le)
+one_once (on.Connection d) c k le none = elim (cases_eq d c) [
+  | inl i ↦ (let z = none (ap on.Connection i) in omega (arith, z, one_at_most (d == c)))
+  | inr i ↦ (let z = same_end-differs (on.Connection d) (on.Connection c) (λ same. i (number same)) in omega (arith, le, z))
+]
+  where
+    number : on.Connection d ≡ on.Connection c → d ≡ c
+    number same = cc
 
 ends_closed : (qs : Objects (List Slice)) (x : Descriptor) → (IsOpenEnd qs (Some x) → ⊥) → (fds : List (Option Descriptor)) → Each (IsOpenEnd qs) fds → ends_on x fds ≡ 0
 ends_closed qs x closed [] e = refl

@@ -146,12 +146,6 @@ freed-alone h ds d fd x sound live there open' is = omega (
 pub end_held : (f : Reading) (h : KernelState) (d fd : ℕ) (x : Descriptor) → IsSound h → machine.descriptor (read_of f h) d fd ≡ Some x → IsOpenEnd (objects_of h) (Some x)
 end_held f h d fd x sound is = subst (IsOpenEnd (objects_of h)) (sym (descriptor-read_of f h d fd) ∙ is) (each-get (IsOpenEnd (objects_of h)) (domain_in h.domains d).fds fd None (ends_open h d sound) tt)
 
-pub any_end : (h : KernelState) (m : State) (to : ℕ) (x : Descriptor) → IsOpenEnd (objects_of h) (Some x) → fds.denied_by m to (fds.needed_pool m (Some x)) ≡ None
-any_end h m to (on.File f at mode) open' = absurd open'
-any_end h m to (on.ReadEnd p) open' = refl
-any_end h m to (on.WriteEnd p) open' = refl
-any_end h m to (on.Connection c) open' = absurd open'
-
 pub freed-read_of : (f : Reading) (h : KernelState) (d fd : ℕ) → fds.freed (read_of f h) d fd ≡ slice_set (domain_in h.domains d).fds fd None
 freed-read_of f h d fd = ap (λ (xs : List (Option Descriptor)). slice_set xs fd None) (fds-read_of f h d)
 

@@ -2,7 +2,7 @@
 use Rattle.std.proofs.Common.{◌≢◌, None, ◌≡◌, ℕ, ◌+◌, List, ap, ◌∙◌, refl, sym, subst, arith, Some}
 use Rattle.iol_core.specs.Numbered.{lookup, changed}
 use Rattle.iol_core.specs.State as machine
-use Rattle.iol_core.specs.State.{State, Connection}
+use Rattle.iol_core.specs.State.{State, Domain, Connection}
 use Rattle.iol_core.specs.Calls.Outside as outside
 use Rattle.iol_core.specs.declared.descriptors.How.{How}
 use Rattle.iol_core.specs.declared.descriptors.How.TheVariants.{Done, Gone}
@@ -19,9 +19,9 @@ use Rattle.iol_sock.specs.Table.{conn_in}
 use Rattle.iol_sock.proofs.Meaning.{closes_meant}
 use Rattle.iol_kernel.specs.Counted.{conn_uses}
 use Rattle.iol_kernel.specs.KernelState as held
-use Rattle.iol_kernel.specs.KernelState.{KernelState, IsConnReadable, IsSound}
+use Rattle.iol_kernel.specs.KernelState.{KernelState, objects_of, Each, IsOpenEnd, IsConnReadable, IsSound}
 use Rattle.iol_kernel.specs.Calls.{Leaves}
-use Rattle.iol_kernel.proofs.Connecting.{conn_in-found, conn_in-changed, there-changed, conn_left, turned, turned-sound, turned_leaves, conn_readable, conn_limit}
+use Rattle.iol_kernel.proofs.Connecting.{conn_in-found, conn_in-changed, there-changed, conn_left, turned, turned_fds, turned-sound, turned_leaves, IsOpenConn, conn_readable, conn_limit}
 
 module _ (h : KernelState) (t : Stored) (c : ℕ) (x : Conn (List Slice)) (sound : IsSound h) (found : lookup h.conns c ≡ Some x) where
   left_good : (how : How) → IsConnReadable h.store (c, closed_by x how)
@@ -36,16 +36,23 @@ module _ (h : KernelState) (t : Stored) (c : ℕ) (x : Conn (List Slice)) (sound
   left_pool Done = refl
   left_pool Gone = refl
 
+  left_open : (how : How) → IsOpenConn x → IsOpenConn (closed_by x how)
+  left_open Done open' = open'
+  left_open Gone open' = open'
+
+  left_fds : (how : How) → Each (λ (d : Domain (List Slice)). Each (IsOpenEnd (objects_of (turned h t c x (closed_by x how) sound found))) d.fds) h.domains
+  left_fds how = turned_fds h t c x (closed_by x how) sound found (left_open how)
+
   left_counts : (how : How) → Moves h.store t (bufs_of x.outgoing) (bufs_of (closed_by x how).outgoing) → (b : BufId) → count_of t b + conn_uses b (c, x) ≡ count_of h.store b + conn_uses b (c, closed_by x how)
   left_counts Done moves b = omega (arith, moves.counts.each b)
   left_counts Gone moves b = omega (arith, moves.counts.each b)
 
   module _ (how : How) (moves : Moves h.store t (bufs_of x.outgoing) (bufs_of (closed_by x how).outgoing)) (lists : SameLists h.store t) (frees : FreesOnly h.store t) (settled : AllSettled t) where
     pub peer_closed-sound : IsSound (turned h t c x (closed_by x how) sound found)
-    peer_closed-sound = turned-sound h t c x (closed_by x how) sound found (left_counts how moves) moves.stays (moves.tidy sound.tidy) (moves.still sound.still) settled lists (left_good how) (left_limit how) (left_pool how)
+    peer_closed-sound = turned-sound h t c x (closed_by x how) sound found (left_counts how moves) moves.stays (moves.tidy sound.tidy) (moves.still sound.still) settled lists (left_good how) (left_limit how) (left_pool how) (left_fds how)
 
     pub peer_closed_leaves : Leaves (λ s. record s { conns = changed s.conns c (outside.closed_by (machine.conn_at s c) how) }) h (turned h t c x (closed_by x how) sound found)
-    peer_closed_leaves = turned_leaves h t c x (closed_by x how) sound found (left_counts how moves) moves.stays (moves.tidy sound.tidy) (moves.still sound.still) settled lists (left_good how) (left_limit how) (left_pool how)
+    peer_closed_leaves = turned_leaves h t c x (closed_by x how) sound found (left_counts how moves) moves.stays (moves.tidy sound.tidy) (moves.still sound.still) settled lists (left_good how) (left_limit how) (left_pool how) (left_fds how)
         (λ w. outside.closed_by w how) (λ f. closes_meant f x how) (keeps_pages_frees frees)
 
 -- All of it, for the state that it leaves.

@@ -153,19 +153,19 @@ module _ (h : KernelState) (t : Stored) (ds : List (Domain (List Slice))) (qs : 
         (once_same h.domains d (record x { aggs = x.aggs ++ (x.next_agg, takes.slices) ∷ []; next_agg = x.next_agg + 1 }) live refl sound.once)
         (limits_agg h.domains (record (objects_of h) { pipes = less }) d takes.slices (queue_limits h p (queue_at qs p).queue sound parts_short.1) live (omega (arith, parts_short.0)) few) (pools_pooled h.store t h.conns takes.shares.pools sound.pooled) sound.sums))
 
--- An open descriptor that is not a pipe's end for writing, or for reading, is not open for it.
+-- An open descriptor that is neither a connection nor a pipe's end for writing, or for reading, is not open for it.
 
-pub not_writable : (qs : Objects (List Slice)) (x : Descriptor) → IsOpenEnd qs (Some x) → ((p : ℕ) → x ≡ on.WriteEnd p → ⊥) → writing.can_write (Some x) ≡ false
-not_writable qs (on.ReadEnd p) open' other = refl
-not_writable qs (on.WriteEnd p) open' other = absurd (other p refl)
-not_writable qs (on.File f at mode) open' other = absurd open'
-not_writable qs (on.Connection c) open' other = absurd open'
+pub not_writable : (qs : Objects (List Slice)) (x : Descriptor) → IsOpenEnd qs (Some x) → ((p : ℕ) → x ≡ on.WriteEnd p → ⊥) → ((c : ℕ) → x ≡ on.Connection c → ⊥) → writing.can_write (Some x) ≡ false
+not_writable qs (on.ReadEnd p) open' other none = refl
+not_writable qs (on.WriteEnd p) open' other none = absurd (other p refl)
+not_writable qs (on.File f at mode) open' other none = absurd open'
+not_writable qs (on.Connection c) open' other none = absurd (none c refl)
 
-pub not_readable : (qs : Objects (List Slice)) (x : Descriptor) → IsOpenEnd qs (Some x) → ((p : ℕ) → x ≡ on.ReadEnd p → ⊥) → reading.can_read (Some x) ≡ false
-not_readable qs (on.ReadEnd p) open' other = absurd (other p refl)
-not_readable qs (on.WriteEnd p) open' other = refl
-not_readable qs (on.File f at mode) open' other = absurd open'
-not_readable qs (on.Connection c) open' other = absurd open'
+pub not_readable : (qs : Objects (List Slice)) (x : Descriptor) → IsOpenEnd qs (Some x) → ((p : ℕ) → x ≡ on.ReadEnd p → ⊥) → ((c : ℕ) → x ≡ on.Connection c → ⊥) → reading.can_read (Some x) ≡ false
+not_readable qs (on.ReadEnd p) open' other none = absurd (other p refl)
+not_readable qs (on.WriteEnd p) open' other none = refl
+not_readable qs (on.File f at mode) open' other none = absurd open'
+not_readable qs (on.Connection c) open' other none = absurd (none c refl)
 
 -- What the calls answer.
 

@@ -37,7 +37,7 @@ use Rattle.iol_kernel.specs.KernelState.{KernelState, Each, IsConnReadable, IsSo
 use Rattle.iol_kernel.specs.Calls.{Leaves, Transmits}
 use Rattle.iol_kernel.proofs.Numbering.{each_found}
 use Rattle.iol_kernel.proofs.Arriving.{refused_as}
-use Rattle.iol_kernel.proofs.Connecting.{conn_found, conn_in-found, there-changed, conn_left, turned, turned-sound, turned_leaves}
+use Rattle.iol_kernel.proofs.Connecting.{conn_found, conn_in-found, there-changed, conn_left, turned, turned_fds, turned-sound, turned_leaves}
 
 -- other sums that are right
 pub summed : (k : KernelState) (sums : Sums) → IsRight k.store.arena sums → IsSound k → IsSound (record k { sums = sums })
@@ -88,10 +88,10 @@ module _ (h : KernelState) (t : Stored) (c max : ℕ) (x : Conn (List Slice)) (q
       record { incoming = was.incoming; outgoing = omega (arith, was.outgoing, ap length rest, length-drop max (places x.outgoing)); waits = was.waits }
 
   pub sent-sound : IsSound (turned h t c x sent sound found)
-  sent-sound = turned-sound h t c x sent sound found sent_counts moves.stays (moves.tidy sound.tidy) (moves.still sound.still) settled lists sent_good sent_limit refl
+  sent-sound = turned-sound h t c x sent sound found sent_counts moves.stays (moves.tidy sound.tidy) (moves.still sound.still) settled lists sent_good sent_limit refl (turned_fds h t c x sent sound found (λ open'. open'))
 
   pub sent_leaves : Leaves (λ s. record s { conns = changed s.conns c (shorter max (machine.conn_at s c)) }) h (turned h t c x sent sound found)
-  sent_leaves = turned_leaves h t c x sent sound found sent_counts moves.stays (moves.tidy sound.tidy) (moves.still sound.still) settled lists sent_good sent_limit refl (shorter max)
+  sent_leaves = turned_leaves h t c x sent sound found sent_counts moves.stays (moves.tidy sound.tidy) (moves.still sound.still) settled lists sent_good sent_limit refl (turned_fds h t c x sent sound found (λ open'. open')) (shorter max)
       (λ f. ap (λ (u : Text). record (conn_view (read f) x) { outgoing = u }) (sym (read_rest f q x.outgoing max rest))) (keeps_pages_frees frees)
 
 -- What the call means.

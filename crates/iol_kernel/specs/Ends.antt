@@ -1,13 +1,14 @@
--- How often each end of a pipe is open, over all domains.
+-- How often each end of a pipe and each connection is open, over all domains.
 use Rattle.std.specs.Prelude.{ℕ, ◌≤◌, cond, eqb, List, Option, Some, None, sum_by}
 use Rattle.iol_core.specs.State.{Domain}
 use Rattle.iol_core.specs.declared.descriptors.Descriptor.{Descriptor}
 use Rattle.iol_core.specs.declared.descriptors.Descriptor.TheVariants as on
 
--- 1 where the two are the same end of one pipe
+-- 1 where the two are the same end of one pipe, or the same connection
 abbrev pub same_end : (x y : Descriptor) → ℕ
 same_end (on.ReadEnd p) (on.ReadEnd q) = cond (eqb p q) 1 0
 same_end (on.WriteEnd p) (on.WriteEnd q) = cond (eqb p q) 1 0
+same_end (on.Connection c) (on.Connection d) = cond (eqb c d) 1 0
 same_end _ _ = 0
 
 -- 1 where a number is open on the end x

@@ -14,6 +14,7 @@ use Rattle.iol_desc.specs.Listed.{Rises}
 use Rattle.iol_desc.specs.Tables.{agg_in, live_aggs_in}
 use Rattle.iol_sum.specs.Sums.{Sums, IsRight}
 use Rattle.iol_sock.specs.Connections.{Conn}
+use Rattle.iol_sock.specs.Table.{conn_in}
 use Rattle.iol_kernel.specs.Views.{Pipe, Objects, pipe_in, state_view}
 use Rattle.iol_kernel.specs.Counted.{IsCounted}
 use Rattle.iol_kernel.specs.Ends.{IsOpenOnce}
@@ -82,13 +83,14 @@ slices_in ds d a = unwrap_or (agg_in ds d a) []
 abbrev pub queue_at : List (Option (Pipe (List Slice))) → (p : ℕ) → Pipe (List Slice)
 queue_at pipes p = pipe_in [] pipes p
 
--- an open descriptor is an end of a pipe, which is open there: no domain has files or connections yet
+-- an open descriptor is an end of a pipe, which is open there, or on a connection that was accepted and not closed:
+-- no domain has files yet
 abbrev pub IsOpenEnd : Objects (List Slice) → Option Descriptor → Type 0
 IsOpenEnd objects None = Unit {0}
 IsOpenEnd objects (Some (on.ReadEnd p)) = (queue_at objects.pipes p).reading ≡ true
 IsOpenEnd objects (Some (on.WriteEnd p)) = (queue_at objects.pipes p).writing ≡ true
 IsOpenEnd objects (Some (on.File f at mode)) = ⊥
-IsOpenEnd objects (Some (on.Connection c)) = ⊥
+IsOpenEnd objects (Some (on.Connection c)) = ((conn_in objects.conns c).accepted ≡ true) × ((conn_in objects.conns c).closed ≡ false)
 
 -- its queue is within the limit
 abbrev pub IsShort : Option (Pipe (List Slice)) → Type 0
@@ -123,7 +125,7 @@ pub record ArePooled (pools : List Pool) (conns : List (ℕ × Conn (List Slice)
 
 -- Between any two events: what aggregates and queues name lies in live buffers of their pools, each buffer is counted
 -- for each of its slices, no page is lost and no closed pool keeps chunks in which nothing lies, descriptors are
--- open on open ends of pipes, each on one of its own, and remembered sums are right.
+-- open on open ends of pipes and on accepted connections, each on one of its own, and remembered sums are right.
 pub record IsSound (h : KernelState) : Type 0 where
   pub domains : Each (IsDomainReadable h.store) h.domains
   pub objects : AreReadable h.store (objects_of h)

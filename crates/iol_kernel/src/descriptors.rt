@@ -1,7 +1,7 @@
-//! Pipes are made, and descriptors of their ends are given and closed.
-ghost use Rattle.std.specs.Prelude.{◌≡◌, ℕ, ◌<◌, true, false, not, ◌&&◌, ◌==◌, if◌then◌else◌, Option, Some, None, IfOk, OnOk, OnErr, Err};
-ghost use Rattle.iol_core.specs.State.{is_live, descriptor};
-ghost use Rattle.iol_core.specs.Numbered.{lowest, taken};
+//! Pipes are made and connections accepted, and descriptors on them are given and closed.
+ghost use Rattle.std.specs.Prelude.{◌≡◌, ◌≢◌, ℕ, ◌<◌, true, false, not, ◌&&◌, ◌==◌, if◌then◌else◌, Option, Some, None, option_map, IfOk, OnOk, OnErr, Err};
+ghost use Rattle.iol_core.specs.State.{is_live, descriptor, conn_at};
+ghost use Rattle.iol_core.specs.Numbered.{lookup, taken};
 ghost use Rattle.iol_core.specs.Calls.Descriptors as calls;
 ghost use Rattle.iol_core.specs.Calls.Descriptors.{closed_on, freed, too_many_open, with_fds};
 ghost use Rattle.iol_kernel.specs.Ends.{all_ends_on};
@@ -11,7 +11,7 @@ ghost use Rattle.iol_kernel.specs.KernelState.{objects_of, Reading, IsOpenEnd, I
 use crate::kernel::Kernel;
 use iol_core::descriptors::Descriptor;
 use iol_core::limits::MAX_PIPES;
-use iol_core::numbers::{DomainId, Fd};
+use iol_core::numbers::{ConnId, DomainId, Fd, PoolId};
 use iol_core::refusals::Refusal;
 use std::alloc::AllocError;
 
@@ -72,10 +72,41 @@ impl Kernel {
         if by.number() != to.number() && self.is_open_beyond(to, 1) {
             return Err(Refusal::TooMany);
         }
+        if let Some(pool) = self.denied_pool(to, given) {
+            return Err(Refusal::Denied { pool });
+        }
         Ok(self.move_fd(by, fd, to, given)?)
     }
 
-    /// Moves a descriptor of a pipe's end, which every domain may hold.
+    /// The pool of what a descriptor is open on, where a domain has to read it to hold the descriptor and may not.
+    fn denied_pool(&self, to: DomainId, given: Descriptor) -> Option<PoolId>
+        requires { IsOpenEnd (objects_of (state_of self.now)) (Some given) }
+        ensures { (f : Reading) → option_map (λ p. Refusal.Denied p) result ≡
+            calls.denied_by (as_read f self.now) to
+            (calls.needed_pool (as_read f self.now) (Some given)) }
+    {
+        match given {
+            Descriptor::Connection { conn } => self.hidden_pool(to, conn),
+            Descriptor::ReadEnd { .. } | Descriptor::WriteEnd { .. } | Descriptor::File { .. } =>
+                None,
+        }
+    }
+
+    /// The pool of a connection, where a domain may not read it.
+    fn hidden_pool(&self, to: DomainId, conn: ConnId) -> Option<PoolId>
+        requires { lookup (state_of self.now).conns conn ≢ None }
+        ensures { (f : Reading) → option_map (λ p. Refusal.Denied p) result ≡
+            calls.denied_by (as_read f self.now) to
+            (Some (conn_at (as_read f self.now) conn).pool) }
+    {
+        let pool = self.conns.get(conn)?.pool();
+        if self.may_read(to, pool) {
+            return None;
+        }
+        Some(pool)
+    }
+
+    /// Moves a descriptor that the receiver may hold.
     #[tactic(auto, using(crate::proofs::Stay::stay_rules, crate::proofs::Slices::held_rules))]
     fn move_fd(
         &mut self,
@@ -89,8 +120,6 @@ impl Kernel {
         requires to { is_live (machine self.old) to ≡ true }
         requires given { descriptor (machine self.old) by fd ≡ Some given }
         requires few { (not (by == to) && too_many_open (machine self.old) to 1) ≡ false }
-        ensures any { (f : Reading) → calls.denied_by (as_read f self.old) to (calls.needed_pool
-            (as_read f self.old) (Some given)) ≡ None }
         ensures done { IfOk result (λ n. Answers (λ s. calls.give_fd s by fd to) self.old n
             self.new) }
         ensures err { OnErr result (state_of self.new ≡ state_of self.old) }
@@ -133,8 +162,7 @@ impl Kernel {
         self.close_end(end);
     }
 
-    /// Closes an end of a pipe, on which no descriptor is open any more. No file or connection is
-    /// open yet.
+    /// Closes an end of a pipe or a connection, on which no descriptor is open any more. No file is open yet.
     pub(crate) fn close_end(&mut self, end: Descriptor)
         requires sound { IsSound (state_of self.old) }
         requires open { IsOpenEnd (objects_of (state_of self.old)) (Some end) }
@@ -146,7 +174,64 @@ impl Kernel {
         match end {
             Descriptor::ReadEnd { pipe } => self.pipes.close_reader(&mut self.store, pipe),
             Descriptor::WriteEnd { pipe } => self.pipes.close_writer(&mut self.store, pipe),
-            Descriptor::File { .. } | Descriptor::Connection { .. } => {}
+            Descriptor::Connection { conn } => self.close_conn(conn),
+            Descriptor::File { .. } => {}
         }
+    }
+
+    /// Closes a connection, on which no descriptor is open any more, and forgets it where nothing is left to send.
+    fn close_conn(&mut self, conn: ConnId)
+        requires sound { IsSound (state_of self.old) }
+        requires open { IsOpenEnd (objects_of (state_of self.old))
+            (Some (Descriptor.Connection conn)) }
+        requires free { all_ends_on (Descriptor.Connection conn) (state_of self.old).domains ≡ 0 }
+        ensures closed { Leaves (λ s. closed_on s (Some (Descriptor.Connection conn))) self.old
+            self.new }
+        ensures domains { (state_of self.new).domains ≡ (state_of self.old).domains }
+        ensures others { KeepsEnds (Descriptor.Connection conn) (objects_of (state_of self.old))
+            (objects_of (state_of self.new)) }
+    {
+        self.conns.close(&mut self.store, conn);
+        self.settle(conn);
+    }
+
+    /// Accepts the first connection that waits and whose pool the domain may read, as its lowest free number.
+    #[tactic(auto, using(crate::proofs::Stay::stay_rules))]
+    pub fn accept(&mut self, by: DomainId) -> Result<Fd, Refusal>
+        requires { IsSound (state_of self.old) }
+        ensures { CarriesOut (λ s. calls.accept s by) self.old result self.new }
+    {
+        if !self.is_live(by) {
+            return Err(Refusal::NoDomain);
+        }
+        if self.is_open_beyond(by, 1) {
+            return Err(Refusal::TooMany);
+        }
+        let Some(conn) = self.first_waiting(by) else {
+            return Err(Refusal::WouldBlock);
+        };
+        Ok(self.open_conn(by, conn)?)
+    }
+
+    /// The first connection that waits and whose pool the domain may read.
+    fn first_waiting(&self, by: DomainId) -> Option<ConnId>
+        ensures { (f : Reading) → result ≡ calls.waiting (as_read f self.now) by }
+    {
+        self.conns.first_waiting(&self.store, by)
+    }
+
+    /// Opens a connection that waits in a domain.
+    #[tactic(auto, using(crate::proofs::Stay::stay_rules, crate::proofs::Slices::held_rules))]
+    fn open_conn(&mut self, by: DomainId, conn: ConnId) -> Result<Fd, AllocError>
+        requires sound { IsSound (state_of self.old) }
+        requires live { is_live (machine self.old) by ≡ true }
+        requires few { too_many_open (machine self.old) by 1 ≡ false }
+        requires waits { calls.waiting (machine self.old) by ≡ Some conn }
+        ensures done { IfOk result (λ n. Answers (λ s. calls.accept s by) self.old n self.new) }
+        ensures err { OnErr result (state_of self.new ≡ state_of self.old) }
+    {
+        let number = self.domains.add_fd(by, Descriptor::Connection { conn })?;
+        self.conns.accept(conn);
+        Ok(number)
     }
 }

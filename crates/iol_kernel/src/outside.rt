@@ -12,10 +12,11 @@ ghost use Rattle.iol_hold.specs.Room.{has_room};
 ghost use Rattle.iol_sock.specs.Sent.{UsesSent};
 ghost use Rattle.iol_sock.specs.Table.{conn_in};
 ghost use Rattle.iol_kernel.specs.Calls.{told};
-ghost use Rattle.iol_kernel.specs.KernelState.{Reading, IsSound};
+ghost use Rattle.iol_kernel.specs.ClosedEnds.{KeepsEnds};
+ghost use Rattle.iol_kernel.specs.KernelState.{objects_of, Reading, IsSound};
 
 use crate::kernel::Kernel;
-use iol_core::descriptors::How;
+use iol_core::descriptors::{Descriptor, How};
 use iol_core::limits::{LAST_CONNECTION, MAX_CONNECTIONS};
 use iol_core::lists::Bytes;
 use iol_core::numbers::{ConnId, PoolId};
@@ -116,6 +117,8 @@ impl Kernel {
         requires there { lookup (state_of self.old).conns conn ≢ None }
         ensures left { Leaves (λ s. with_conn s conn (conn_at s conn)) self.old self.new }
         ensures domains { (state_of self.new).domains ≡ (state_of self.old).domains }
+        ensures others { KeepsEnds (Descriptor.Connection conn) (objects_of (state_of self.old))
+            (objects_of (state_of self.new)) }
     {
         let Some(found) = self.conns.get(conn) else {
             unreachable!()

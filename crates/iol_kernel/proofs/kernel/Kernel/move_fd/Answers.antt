@@ -4,7 +4,7 @@ use Rattle.iol_core.specs.declared.descriptors.Descriptor.{Descriptor}
 use Rattle.iol_desc.specs.Tables.{domains_of}
 use Rattle.iol_hold.specs.Texts.{byte_at}
 use Rattle.iol_kernel.specs.Kernel.{state_of}
-use Rattle.iol_kernel.proofs.Opening.{any_end, end_held, not_none, few_to, other_live, other_fds, moved_within, moved_across}
+use Rattle.iol_kernel.proofs.Opening.{end_held, not_none, few_to, other_live, other_fds, moved_within, moved_across}
 use Rattle.iol_kernel.proofs.ReadOf.{live_held, descriptor-read_of}
 use Rattle.iol_kernel.proofs.kernel.Kernel.move_fd.Goals as goal
 
@@ -26,15 +26,6 @@ take_fd-requires-clause-there c =
     not_none _ _ c.args.given c.requires.given
     (ap (λ (xs : List (Option Descriptor)). slice_index_or xs c.args.fd None) (other_fds (domains_of c.args.self.now.domains) (domains_of c.add_fd.new.self) c.args.by c.args.to c.args.given (λ e. c.if-number.false (c.number.ensures ∙ sym e ∙ sym c.number-2.ensures)) c.in_ok-number.ensures.opened)
     ∙ sym (descriptor-read_of _ (state_of c.args.self.now) c.args.by c.args.fd))
-
-pub returns-then-number-clause-any : goal.returns-then-number-clause-any
-returns-then-number-clause-any c = λ f. any_end (state_of c.args.self.now) _ c.args.to c.args.given (end_held _ (state_of c.args.self.now) c.args.by c.args.fd c.args.given c.requires.sound c.requires.given)
-
-pub returns-in_err-number-clause-any : goal.returns-in_err-number-clause-any
-returns-in_err-number-clause-any c = λ f. any_end (state_of c.args.self.now) _ c.args.to c.args.given (end_held _ (state_of c.args.self.now) c.args.by c.args.fd c.args.given c.requires.sound c.requires.given)
-
-pub returns-clause-any : goal.returns-clause-any
-returns-clause-any c = λ f. any_end (state_of c.args.self.now) _ c.args.to c.args.given (end_held _ (state_of c.args.self.now) c.args.by c.args.fd c.args.given c.requires.sound c.requires.given)
 
 pub returns-then-number-clause-done : goal.returns-then-number-clause-done
 returns-then-number-clause-done c =

@@ -1,9 +1,14 @@
-use Rattle.std.proofs.Common.{◌≡◌, ◌∙◌, List, sym, subst, rules, true}
+use Rattle.std.proofs.Common.{◌≡◌, ◌∙◌, ℕ, List, sym, subst, rules, false, true}
+use Rattle.iol_core.specs.Numbered.{without}
+use Rattle.iol_core.specs.State.{State, with_conn, conn_at}
+use Rattle.iol_core.specs.declared.descriptors.Descriptor.TheVariants as on
 use Rattle.iol_hold.specs.declared.slices.Slice.{Slice}
 use Rattle.iol_hold.proofs.Reading.{readable_joined}
 use Rattle.iol_sock.specs.Connections.{Conn, is_over}
+use Rattle.iol_kernel.specs.Calls.{Leaves}
 use Rattle.iol_kernel.specs.Kernel.{state_of}
-use Rattle.iol_kernel.proofs.Connecting.{some_same, conn_covered, conn_readable, settled_stays, settled_as}
+use Rattle.iol_kernel.specs.KernelState.{KernelState}
+use Rattle.iol_kernel.proofs.Connecting.{Conns, some_same, conn_covered, conn_readable, settled_stays, settled_as, gone_keeps}
 use Rattle.iol_kernel.proofs.kernel.Kernel.settle.Goals as goal
 
 pub release-requires : goal.release-requires
@@ -22,3 +27,17 @@ returns-clause-left c =
     let over : is_over c.forget-over.result ≡ true = (let e : is_over c.in-Some.found.now ≡ true = search (rules) in subst (λ (y : Conn (List Slice)). is_over y ≡ true) (sym same) e) in
     settled_as h c.args.conn x c.requires.sound found c.release.new.store over c.release.ensures.moves c.release.ensures.lists c.release.ensures.frees (c.release.ensures.settles (readable_joined good.0 good.1) c.requires.sound.settled)
     c.forget-over.new.self.conns c.forget-over.new.self.next c.forget-over.ensures.rest c.forget-over.ensures.next
+
+pub returns-then-not-is_over-clause-others : goal.returns-then-not-is_over-clause-others
+returns-then-not-is_over-clause-others c = record { each = λ e differ open'. open' }
+
+pub returns-clause-others : goal.returns-clause-others
+returns-clause-others c =
+    let h = state_of c.args.self.now in
+    let x : Conn (List Slice) = c.forget-over.result in
+    let found = sym c.forget-over.ensures.given in
+    let good = conn_readable h c.args.conn x c.requires.sound found in
+    let same : c.forget-over.result ≡ c.in-Some.found.now = some_same (c.forget-over.ensures.given ∙ sym c.in-Some.ensures) in
+    let over : is_over c.forget-over.result ≡ true = (let e : is_over c.in-Some.found.now ≡ true = search (rules) in subst (λ (y : Conn (List Slice)). is_over y ≡ true) (sym same) e) in
+    gone_keeps h c.args.conn x c.requires.sound found c.release.new.store over c.release.ensures.moves c.release.ensures.lists c.release.ensures.frees (c.release.ensures.settles (readable_joined good.0 good.1) c.requires.sound.settled)
+    (on.Connection c.args.conn) c.forget-over.new.self.conns c.forget-over.new.self.next c.forget-over.ensures.rest
