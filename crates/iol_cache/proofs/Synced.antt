@@ -16,19 +16,18 @@ use Rattle.iol_hold.proofs.Moving.{moves_none}
 use Rattle.iol_hold.proofs.Releasing.{frees_none}
 use Rattle.iol_extent.specs.Extents.{Extent, IsApart, begins_at, cell_at, dirty_in, end_of, is_over, last_end, no_place}
 use Rattle.iol_cache.specs.declared.files.CachedFile.{CachedFile}
-use Rattle.iol_evict.specs.Ranking.{Ranking}
-use Rattle.iol_cache.specs.Cached.{Cached, extents_in, file_in, held, order_in}
+use Rattle.iol_cache.specs.Cached.{Cached, dirty_count, extents_in, file_in, held}
 use Rattle.iol_cache.specs.Contents.{AreStored, Mirrors, byte_in, bytes_in_slot, file_bytes}
 use Rattle.iol_cache.specs.Evicting.{Holding}
 use Rattle.iol_cache.specs.Gaps.{all_parts}
 use Rattle.iol_cache.specs.Sound.{Each, IsLaid, IsSound}
-use Rattle.iol_cache.specs.Syncing.{Cleans, Fails, Syncs, cleaned_at, dirty_count, first_cleaned}
+use Rattle.iol_cache.specs.Syncing.{Cleans, Fails, Syncs, cleaned_at, first_cleaned}
 use Rattle.iol_cache.specs.Writing.{Changes}
 use Rattle.iol_cache.proofs.Changed.{sound_changed}
 use Rattle.iol_cache.proofs.Cleaned.{bytes_alike, cleaned_more, count-cleaned, end-cleaned, first_dirty, laid-cleaned, parts-cleaned, read-cleaned, stored-cleaned, torn_byte, torn_len, torn_stored}
 use Rattle.iol_cache.proofs.Composed.{length-bytes}
 use Rattle.iol_cache.proofs.Extending.{last_end-without_at, over_of}
-use Rattle.iol_cache.proofs.Filing.{file_other, file_same, length-with_file, numbered_bounds, order_same}
+use Rattle.iol_cache.proofs.Filing.{file_other, file_same, length-with_file, numbered_bounds}
 use Rattle.iol_cache.proofs.GivenUp.{bytes_same}
 use Rattle.iol_cache.proofs.Storing.{stores_tears}
 
@@ -163,15 +162,9 @@ module _ (s : Stored) (f : ℕ) (old new : Cached) (d e : Disk) (sound : IsSound
   files_are : length new.files ≡ length old.files
   files_are = ap length w.files ∙ length-with_file old.files f y
 
-  order_is : order_in new.orders p ≡ w.order
-  order_is = (let b = numbered_bounds old.orders p (sound.opened f there).ordered in ap (λ os. order_in os p) w.orders ∙ order_same old.orders p w.order b.0 b.1)
-
-  -- The file has one dirty extent less, and its order at most one place less.
+  -- the file has one dirty extent less
   pub clean_fewer : dirty_count (extents_in new.files f) + 1 ≡ dirty_count xs
   clean_fewer = omega (arith, ap dirty_count extents_is, count-cleaned xs x.at x (sound.files f).apart begins_x (first_dirty 0 xs x (sound.files f).apart w.first).1)
-
-  pub clean_room : (order_in old.orders p).room ≤ (order_in new.orders (file_in new.files f).pool).room + 1
-  clean_room = omega (arith, w.room, ap (λ (r : Ranking). r.room) order_is, ap (λ k. (order_in new.orders k).room) (pool_is f))
 
 -- One after another.
 

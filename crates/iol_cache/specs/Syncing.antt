@@ -1,5 +1,5 @@
 -- Dirty extents that are written back.
-use Rattle.std.specs.Prelude.{Bool, ◌≡◌, ℕ, zero, suc, ◌+◌, ◌-◌, ◌<◌, ◌≤◌, ◌⊎◌, ◌==◌, cond, true, false, if◌then◌else◌, List, [], ◌∷◌, map, length, max, slice_index, sum_by, Result, Ok, Err, OnErr, OnOk, Some, None}
+use Rattle.std.specs.Prelude.{Bool, ◌≡◌, ℕ, zero, suc, ◌+◌, ◌-◌, ◌<◌, ◌≤◌, ◌⊎◌, ◌==◌, true, false, if◌then◌else◌, List, [], ◌∷◌, map, length, max, slice_index, Result, Ok, Err, OnErr, OnOk, Some, None}
 use Rattle.iol_back.specs.Disk.{Disk, IfHonest, OthersStay, Succeeds, Tears, content, raised}
 use Rattle.iol_core.specs.Text as text
 use Rattle.iol_core.specs.declared.refusals.Refusal.{Refusal}
@@ -57,13 +57,6 @@ first_cleaned (suc n) (e ∷ es) = if e.dirty then as_clean e ∷ first_cleaned 
 abbrev pub all_cleaned : List Extent → List Extent
 all_cleaned es = map as_clean es
 
-abbrev pub one_dirty : Extent → ℕ
-one_dirty e = cond e.dirty 1 0
-
--- how many extents are dirty
-abbrev pub dirty_count : List Extent → ℕ
-dirty_count es = sum_by one_dirty es
-
 -- the first dirty extent begins there
 pub record IsFirstDirty (es : List Extent) (at : ℕ) : Type 0 where
   pub extent : Extent
@@ -83,7 +76,6 @@ pub record Cleans (s : Stored) (f : ℕ) (old new : Cached) (d e : Disk) : Type 
   pub files : new.files ≡ with_file old.files f (record { pool = (file_in old.files f).pool; extents = extents })
   pub orders : new.orders ≡ with_order old.orders (file_in old.files f).pool order
   pub follows : Follows f (extents_in old.files f) extents.extents (order_in old.orders (file_in old.files f).pool) order old.marks new.marks
-  pub room : (order_in old.orders (file_in old.files f).pool).room ≤ order.room + 1
   pub honest : e.honest ≡ d.honest
   pub counts : Succeeds d e
   pub others : IfHonest d (OthersStay f d.slots e.slots)
