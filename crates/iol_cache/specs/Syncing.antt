@@ -63,6 +63,19 @@ pub record IsFirstDirty (es : List Extent) (at : ℕ) : Type 0 where
   pub is : dirty_in es ≡ Some extent
   pub begins : extent.at ≡ at
 
+-- What stays, where an honest store is written.
+
+-- every file has the bytes that it had
+pub record SameContents (s : Stored) (old new : Cached) (d e : Disk) : Type 0 where
+  pub each : (f : ℕ) → bytes_in_slot s e.slots new.files f ≡ bytes_in_slot s d.slots old.files f
+
+abbrev pub KeepsBytes : (s : Stored) (old new : Cached) (d e : Disk) → Type 0
+KeepsBytes s old new d e = IfHonest d (SameContents s old new d e)
+
+-- what lies under clean extents is what the store has, if it was before
+abbrev pub KeepsStored : (s : Stored) (old new : Cached) (d e : Disk) → Type 0
+KeepsStored s old new d e = IfHonest d (Mirrors s d.slots old.files → Mirrors s e.slots new.files)
+
 -- The first dirty extent of a file is written back.
 
 -- it was written, is clean, and stands in the order
@@ -104,10 +117,6 @@ StoresFirst s f old new d e (Err x) = Fails f old new d e × (x ≡ Fault f)
 
 -- Dirty extents of a file are written back, in the order of offsets.
 
--- every file has the bytes that it had, over a store that was written
-pub record SameContents (s : Stored) (old new : Cached) (d e : Disk) : Type 0 where
-  pub each : (f : ℕ) → bytes_in_slot s e.slots new.files f ≡ bytes_in_slot s d.slots old.files f
-
 -- the first ones are clean, and no other file changed
 pub record Syncs (s : Stored) (f : ℕ) (old new : Cached) (d e : Disk) : Type 0 where
   pub count : ℕ
@@ -116,8 +125,8 @@ pub record Syncs (s : Stored) (f : ℕ) (old new : Cached) (d e : Disk) : Type 0
   pub pools : (g : ℕ) → (file_in new.files g).pool ≡ (file_in old.files g).pool
   pub files : length new.files ≡ length old.files
   pub honest : e.honest ≡ d.honest
-  pub contents : IfHonest d (SameContents s old new d e)
-  pub mirrors : IfHonest d (Mirrors s d.slots old.files → Mirrors s e.slots new.files)
+  pub contents : KeepsBytes s old new d e
+  pub mirrors : KeepsStored s old new d e
 
 -- no extent of the files 1 to n is dirty
 pub record AllClean (n : ℕ) (c : Cached) : Type 0 where

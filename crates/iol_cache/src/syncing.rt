@@ -3,13 +3,13 @@ ghost use Rattle.std.specs.Prelude.{◌≡◌, ℕ, ◌+◌, ◌<◌, ◌≤◌,
 ghost use Rattle.iol_core.specs.Text as text;
 ghost use Rattle.iol_core.specs.Numbered.{is_numbered};
 ghost use Rattle.iol_cache.specs.Cache.{cached_of};
-ghost use Rattle.iol_cache.specs.Cached.{extents_in, file_in, order_in, parts_in};
+ghost use Rattle.iol_cache.specs.Cached.{extents_in, parts_in};
 ghost use Rattle.iol_cache.specs.Sharing.{CountsBelow};
 ghost use Rattle.iol_cache.specs.Sound.{IsSound};
 ghost use Rattle.iol_cache.specs.Marks.{AreWithin, HasMarksLeft};
 ghost use Rattle.iol_cache.specs.Reading.{RanksFile};
 ghost use Rattle.iol_cache.specs.Replacing.{Follows, IsReady};
-ghost use Rattle.iol_cache.specs.Syncing.{IsFirstDirty, Flushes, StoresFirst, Syncs, WritesBack, cleaned_at};
+ghost use Rattle.iol_cache.specs.Syncing.{IsFirstDirty, Flushes, KeepsBytes, KeepsStored, StoresFirst, Syncs, WritesBack, cleaned_at};
 ghost use Rattle.iol_back.specs.Disk.{raised};
 ghost use Rattle.iol_core.specs.Meaning.{FaultOf};
 ghost use Rattle.iol_extent.specs.Extents.{IsApart, begins_at, dirty_in, last_end};
@@ -21,7 +21,7 @@ use crate::cutting::Edge;
 use crate::marks::CleanHolds;
 use crate::replacing::put_edge;
 use iol_back::backing::{Backing, StoreFault};
-use iol_core::limits::{MAX_FILE_BYTES, MAX_FILES};
+use iol_core::limits::MAX_FILE_BYTES;
 use iol_core::numbers::FileId;
 use iol_core::refusals::Refusal;
 use iol_evict::order::Order;
@@ -100,6 +100,10 @@ impl Cache {
         requires few { CountsBelow store.now (2 ^ 61) }
         ensures stores { StoresFirst store.now file (cached_of self.old) (cached_of self.new)
             (B.disk backing.old) (B.disk backing.new) result }
+        ensures files { KeepsBytes store.now (cached_of self.old) (cached_of self.new)
+            (B.disk backing.old) (B.disk backing.new) }
+        ensures mirrors { KeepsStored store.now (cached_of self.old) (cached_of self.new)
+            (B.disk backing.old) (B.disk backing.new) }
         ensures sound { IsSound store.now (cached_of self.new) }
     {
         let place = file.number() as usize - 1;
@@ -121,7 +125,9 @@ impl Cache {
     }
 
     /// Writes all dirty extents of a file back, in the order of offsets, up to the first that fails. Those that were written
-    /// are clean then.
+    /// are clean then. It wants no memory.
+    ///
+    /// Refused with `Fault` where the store fails: the extent that it failed at, and those after it, are dirty as before.
     pub fn sync<B: Backing>(
         &mut self,
         store: &Store,
@@ -131,16 +137,25 @@ impl Cache {
         requires sound { IsSound store.now (cached_of self.old) }
         requires file { is_numbered (cached_of self.old).files file ≡ true }
         requires few { CountsBelow store.now (2 ^ 61) }
-        ensures syncs { Syncs store.now file (cached_of self.old) (cached_of self.new)
-            (B.disk backing.old) (B.disk backing.new) }
+        // Which extents are clean then.
         ensures clean { let new = (cached_of self.new).files in
             OnOk result (dirty_in (extents_in new file) ≡ None) }
+        ensures syncs { Syncs store.now file (cached_of self.old) (cached_of self.new)
+            (B.disk backing.old) (B.disk backing.new) }
+
+        // What stays.
+        ensures files { KeepsBytes store.now (cached_of self.old) (cached_of self.new)
+            (B.disk backing.old) (B.disk backing.new) }
+        ensures mirrors { KeepsStored store.now (cached_of self.old) (cached_of self.new)
+            (B.disk backing.old) (B.disk backing.new) }
+        ensures sound { IsSound store.now (cached_of self.new) }
+
+        // Refusals.
         ensures fails { OnErr result
             ((B.disk backing.new).failures ≡ raised (B.disk backing.old).failures) }
         ensures succeeds { OnOk result
             ((B.disk backing.new).failures ≡ (B.disk backing.old).failures) }
         ensures late { IfErr result (FaultOf file) }
-        ensures sound { IsSound store.now (cached_of self.new) }
     {
         let mut more = true;
         while more {
@@ -152,7 +167,9 @@ impl Cache {
         Ok(())
     }
 
-    /// Writes the dirty extent of least file and offset back, which is clean then.
+    /// Writes the dirty extent of least file and offset back, which is clean then. It wants no memory.
+    ///
+    /// Refused with `Fault` of the extent's file where the store fails: nothing has become clean.
     pub fn flush_one<B: Backing>(
         &mut self,
         store: &Store,
@@ -162,6 +179,10 @@ impl Cache {
         requires few { CountsBelow store.now (2 ^ 61) }
         ensures flushes { Flushes store.now (cached_of self.old) (cached_of self.new)
             (B.disk backing.old) (B.disk backing.new) result }
+        ensures files { KeepsBytes store.now (cached_of self.old) (cached_of self.new)
+            (B.disk backing.old) (B.disk backing.new) }
+        ensures mirrors { KeepsStored store.now (cached_of self.old) (cached_of self.new)
+            (B.disk backing.old) (B.disk backing.new) }
         ensures sound { IsSound store.now (cached_of self.new) }
     {
         for i in 0..self.files.len() {

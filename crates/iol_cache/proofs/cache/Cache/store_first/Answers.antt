@@ -24,7 +24,7 @@ use Rattle.iol_cache.proofs.Filing.{each-begins, file_at_number, file_set, numbe
 use Rattle.iol_cache.proofs.Ready.{is_ready}
 use Rattle.iol_cache.proofs.Roomy.{ranks_file}
 use Rattle.iol_cache.proofs.Stepping.{mark_few, page_len}
-use Rattle.iol_cache.proofs.Synced.{cleaned_sound}
+use Rattle.iol_cache.proofs.Synced.{clean_bytes, clean_mirrors, cleaned_sound, fail_bytes, fail_stored}
 use Rattle.iol_cache.proofs.Using.{are_within, covers_at}
 use Rattle.iol_cache.proofs.cache.Cache.store_first.Goals as goal
 
@@ -224,3 +224,20 @@ returns-clause-stores g c =
 pub returns-clause-sound : goal.returns-clause-sound
 returns-clause-sound g c =
     cleaned_sound c.args.store.now c.args.file (cached_of c.args.self.now) _ (g.B.Backing.disk c.args.backing.now) (g.B.Backing.disk c.write_back.new.backing) c.requires.sound c.requires.file (returns-clause-stores g c)
+
+pub returns-in-Err-clause-files : goal.returns-in-Err-clause-files
+returns-in-Err-clause-files g c =
+    fail_bytes c.args.store.now c.args.file (cached_of c.args.self.now) (cached_of c.args.self.now) (g.B.Backing.disk c.args.backing.now) (g.B.Backing.disk c.write_back.new.backing) c.requires.sound (returns-in-Err-clause-stores g c).0
+
+pub returns-in-Err-clause-mirrors : goal.returns-in-Err-clause-mirrors
+returns-in-Err-clause-mirrors g c =
+    fail_stored c.args.store.now c.args.file (cached_of c.args.self.now) (cached_of c.args.self.now) (g.B.Backing.disk c.args.backing.now) (g.B.Backing.disk c.write_back.new.backing) c.requires.sound (returns-in-Err-clause-stores g c).0
+
+pub returns-clause-files : goal.returns-clause-files
+returns-clause-files g c = λ h. record {
+  each = clean_bytes c.args.store.now c.args.file (cached_of c.args.self.now) _ (g.B.Backing.disk c.args.backing.now) (g.B.Backing.disk c.write_back.new.backing) c.requires.sound c.requires.file (returns-clause-stores g c) h;
+}
+
+pub returns-clause-mirrors : goal.returns-clause-mirrors
+returns-clause-mirrors g c =
+    clean_mirrors c.args.store.now c.args.file (cached_of c.args.self.now) _ (g.B.Backing.disk c.args.backing.now) (g.B.Backing.disk c.write_back.new.backing) c.requires.sound c.requires.file (returns-clause-stores g c)

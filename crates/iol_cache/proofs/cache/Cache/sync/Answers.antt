@@ -36,6 +36,9 @@ returns-in-Err-clause-syncs g c =
     let v = c.loop-more.invariant in
     syncs_fail c.args.store.now c.args.file (cached_of c.args.self.now) (cached_of c.loop-more.self) (cached_of c.store_first.new.self) (g.B.Backing.disk c.args.backing.now) (g.B.Backing.disk c.loop-more.backing) (g.B.Backing.disk c.store_first.new.backing) v.sound v.syncs c.in-Err.ensures.stores.0
 
+pub returns-in-Err-clause-files : goal.returns-in-Err-clause-files
+returns-in-Err-clause-files g c = (returns-in-Err-clause-syncs g c).contents
+
 pub loop-more-smaller : goal.loop-more-smaller
 loop-more-smaller g c =
     let v = c.loop-more.invariant in
