@@ -1,11 +1,12 @@
 -- A cache of no files, and one file more.
 use Rattle.std.proofs.Common.{inl, inr, ◌≡◌, ◌⊎◌, length-append, ℕ, zero, suc, ◌+◌, ◌-◌, ◌<◌, ◌≤◌, ◌^◌, Bool, true, false, cond, eqb, List, [], ◌∷◌, ◌++◌, length, get_or, refl, sym, ap, ◌∙◌, arith, subst}
-use Rattle.std.specs.Prelude.{replicate, flat_map}
+use Rattle.std.specs.Prelude.{replicate, flat_map, sum_by}
 use Rattle.std.proofs.lemmas.Bool.{cases_lt}
 use Rattle.std.proofs.lemmas.Bool.Decides.{nat_tests}
 use Rattle.std.proofs.lemmas.List.{append-nil}
 use Rattle.std.proofs.lemmas.Grind.{common_steps, flat_map-append}
 use Rattle.iol_core.specs.Numbered.{is_numbered}
+use Rattle.iol_core.specs.declared.limits.TheConstants.{MAX_FILES}
 use Rattle.iol_core.proofs.Lookups.{numbered_or-push}
 use Rattle.iol_arena.specs.State.{page_count}
 use Rattle.iol_pool.specs.Pools.{pool_in}
@@ -17,9 +18,10 @@ use Rattle.iol_hold.proofs.Rooms.{open_numbered}
 use Rattle.iol_evict.specs.Ranking.{Ranking}
 use Rattle.iol_cache.specs.declared.files.CachedFile.{CachedFile}
 use Rattle.iol_cache.specs.Marks.{Counted, at_page}
-use Rattle.iol_cache.specs.Cached.{Cached, file_in, no_file, new_file, order_in, no_order, held, clean_held, slices_in, clean_in, clean_of, clean_at, entries_at}
+use Rattle.iol_cache.specs.Cached.{AreReady, Cached, dirty_of, file_in, no_file, new_file, order_in, no_order, held, clean_held, slices_in, clean_in, clean_of, clean_at, entries_at}
 use Rattle.iol_cache.specs.Sound.{IsFiled, IsSound}
 use Rattle.iol_cache.proofs.Marking.{at_page-none}
+use Rattle.iol_cache.proofs.Ready.{ready_pushed}
 use Rattle.iol_cache.proofs.Filing.{numbered_bounds, numbered_yes, file_nowhere, order_nowhere}
 
 filed_new : (s : Stored) (p : ℕ) → IsFiled s (new_file p)
@@ -47,6 +49,8 @@ sound_new s c n files orders marks pages tidy still = record {
   marked = record { each = λ p. ap (λ ms. get_or ms p 0) marks ∙ zeros n p ∙ sym (ap (λ fs. at_page p (flat_map (λ (x : CachedFile). bufs_of (clean_in x.extents.extents)) fs)) files ∙ at_page-none p) };
   pages = ap length marks ∙ long n ∙ sym pages;
   ranked = record { each = λ p f at. ap (λ os. entries_at f at (order_in os p).entries) orders ∙ ap (λ (r : Ranking). entries_at f at r.entries) (order_nowhere [] p (λ h. h)) ∙ sym (ap (λ fs. clean_of fs p f at) files ∙ ap (λ (x : CachedFile). cond {A = ℕ} (eqb x.pool p) (clean_at at x.extents.extents) 0) (file_nowhere [] f (none f)) ∙ if_none (eqb 0 p)) };
+  ready = subst (λ fs. AreReady fs c.orders) (sym files) (subst (AreReady []) (sym orders) (record { each = λ p. ap (λ (r : Ranking). r.kept) (order_nowhere [] p (λ h. h)) }));
+  few_files = omega (arith, ap length files);
   few_orders = omega (arith, ap length orders);
   tidy = tidy;
   still = still;
@@ -71,9 +75,9 @@ pub order_push : (os : List Ranking) (p : ℕ) → order_in (os ++ no_order ∷ 
 unfolding order_in
 order_push os p = elim (numbered_or-push os p no_order no_order) [ inl e ↦ e | inr e ↦ e.1 ∙ sym e.0 ]
 
-pub sound_added : (s : Stored) (c d : Cached) (p : ℕ) → IsSound s c → (pool_in s.pools p).closed ≡ false → d.files ≡ c.files ++ new_file p ∷ [] → ((q : ℕ) → order_in d.orders q ≡ order_in c.orders q) → p ≤ length d.orders → length c.orders ≤ length d.orders → length d.orders < 2 ^ 32 → d.marks ≡ c.marks → IsSound s d
+pub sound_added : (s : Stored) (c d : Cached) (p : ℕ) → IsSound s c → length c.files < MAX_FILES → (pool_in s.pools p).closed ≡ false → d.files ≡ c.files ++ new_file p ∷ [] → ((q : ℕ) → order_in d.orders q ≡ order_in c.orders q) → p ≤ length d.orders → length c.orders ≤ length d.orders → length d.orders < 2 ^ 32 → d.marks ≡ c.marks → IsSound s d
 unfolding held clean_held
-sound_added s c d p sound is files orders enough no_fewer few marks = record {
+sound_added s c d p sound more is files orders enough no_fewer few marks = record {
   files = λ f. subst (λ fs. IsFiled s (file_in fs f)) (sym files) (elim (file_push c.files (new_file p) f) [
     | inl e ↦ subst (IsFiled s) (sym e) (sound.files f)
     | inr e ↦ subst (IsFiled s) (sym e.1) (filed_new s p)
@@ -98,6 +102,8 @@ sound_added s c d p sound is files orders enough no_fewer few marks = record {
   marked = record { each = λ q. ap (λ ms. get_or ms q 0) marks ∙ sound.marked.each q ∙ sym (ap (at_page q) (ap (flat_map (λ (x : CachedFile). bufs_of (clean_in x.extents.extents))) files ∙ flat_map-append (λ (x : CachedFile). bufs_of (clean_in x.extents.extents)) c.files (new_file p ∷ []) ∙ append-nil (flat_map (λ (x : CachedFile). bufs_of (clean_in x.extents.extents)) c.files))) };
   pages = ap length marks ∙ sound.pages;
   ranked = record { each = λ q f at. ap (λ (r : Ranking). entries_at f at r.entries) (orders q) ∙ sound.ranked.each q f at ∙ sym (ap (λ fs. clean_of fs q f at) files ∙ same q f at) };
+  ready = subst (λ fs. AreReady fs d.orders) (sym files) (ready_pushed c.files c.orders d.orders p orders sound.ready);
+  few_files = omega (arith, ap length files, length-append c.files (new_file p ∷ []), more);
   few_orders = few;
   tidy = sound.tidy;
   still = sound.still;
@@ -122,6 +128,8 @@ sound_orders s c d sound files orders no_fewer few marks = record {
   marked = subst (λ fs. Counted d.marks (clean_held fs)) (sym files) (subst (λ ms. Counted ms (clean_held c.files)) (sym marks) sound.marked);
   pages = ap length marks ∙ sound.pages;
   ranked = record { each = λ p f at. ap (λ (r : Ranking). entries_at f at r.entries) (orders p) ∙ sound.ranked.each p f at ∙ ap (λ fs. clean_of fs p f at) (sym files) };
+  ready = record { each = λ p. ap (λ (r : Ranking). r.kept) (orders p) ∙ sound.ready.each p ∙ ap (sum_by (dirty_of p)) (sym files) };
+  few_files = omega (arith, ap length files, sound.few_files);
   few_orders = few;
   tidy = sound.tidy;
   still = sound.still;

@@ -14,13 +14,14 @@ use Rattle.iol_extent.specs.Extents.{Extent, last_end}
 use Rattle.iol_evict.specs.Ranking.{Ranking}
 use Rattle.iol_cache.specs.declared.files.CachedFile.{CachedFile}
 use Rattle.iol_cache.specs.Marks.{at_page}
-use Rattle.iol_cache.specs.Cached.{file_in, with_file, order_in, with_order, extents_in, slices_in, clean_in, held, clean_held, clean_of, clean_at, entries_at}
+use Rattle.iol_cache.specs.Cached.{AreReady, file_in, with_file, order_in, with_order, extents_in, slices_in, clean_in, held, clean_held, clean_of, clean_at, entries_at}
 use Rattle.iol_cache.specs.Evicting.{Holding}
 use Rattle.iol_cache.specs.Gaps.{all_parts}
 use Rattle.iol_cache.specs.Sound.{Each, IsLaid, IsFiled, IsSound}
 use Rattle.iol_cache.specs.Writing.{Changes}
 use Rattle.iol_cache.proofs.Extending.{laid_stays}
 use Rattle.iol_cache.proofs.Filing.{file_same, file_other, order_same, order_other, length-with_file, length-with_order, numbered_bounds, numbered_yes, IsAdditive, additive_tally, additive_page, sum-flat, sum-with_file}
+use Rattle.iol_cache.proofs.Ready.{ready_changed}
 use Rattle.iol_cache.proofs.Roomy.{ranks_file}
 use Rattle.iol_cache.proofs.Using.{covers_file}
 
@@ -156,6 +157,8 @@ module _ (old new : Holding) (f : ℕ) (own : List Slice) (sound : IsSound old.s
         marked = record { each = λ q. omega (arith, puts.follows.each q, sound.marked.each q, ap (λ l. at_page q (clean_held l)) puts.files, clean_change (at_page q) (additive_page q) fs f x numbered) };
         pages = puts.follows.long ∙ sound.pages ∙ sym puts.frees.count;
         ranked = record { each = ranked };
+        ready = subst (λ l. AreReady l new.cache.orders) (sym puts.files) (subst (AreReady (with_file fs f x)) (sym puts.orders) (ready_changed fs old.cache.orders f x puts.order numbered ordered refl puts.follows.kept sound.ready));
+        few_files = omega (arith, count_same, sound.few_files);
         few_orders = omega (arith, orders_same, sound.few_orders);
         tidy = puts.moves.tidy sound.tidy;
         still = puts.moves.still sound.still;

@@ -25,7 +25,7 @@ use Rattle.iol_extent.specs.declared.spans.Span.{Span}
 use Rattle.iol_evict.specs.Ranking.{Ranking}
 use Rattle.iol_cache.specs.declared.files.CachedFile.{CachedFile}
 use Rattle.iol_cache.specs.Marks.{at_page}
-use Rattle.iol_cache.specs.Cached.{file_in, with_file, order_in, with_order, extents_in, slices_in, clean_in, clean_parts, held, clean_held, clean_of, clean_at, begins_clean, entries_at}
+use Rattle.iol_cache.specs.Cached.{dirty_count, AreReady, file_in, with_file, order_in, with_order, extents_in, slices_in, clean_in, clean_parts, held, clean_held, clean_of, clean_at, begins_clean, entries_at}
 use Rattle.iol_cache.specs.Contents.{byte_in, AreStored}
 use Rattle.iol_cache.specs.Evicting.{Holding}
 use Rattle.iol_cache.specs.Gaps as gaps
@@ -40,6 +40,7 @@ use Rattle.iol_cache.proofs.Using.{covers_file}
 use Rattle.iol_cache.proofs.Undone.{none_gaps}
 use Rattle.iol_cache.proofs.Putting.{Fits, IsMirrored, made_fits, mirrored_is, all_byte, all_stored, all_len, last_end-all_put, sum-all_put, each-all_put, begins_made, zip_begins, made_clean, all_entries, all_entries-other}
 use Rattle.iol_cache.proofs.Ranged.{tally-all_put, made_laid}
+use Rattle.iol_cache.proofs.Ready.{dirty-all_put, entered_kept, ready_changed}
 
 -- Sums over the file with what was put in.
 
@@ -255,6 +256,9 @@ module _ (old new : Holding) (f from to : ℕ) (beside : List Place) (gs : List 
     marked = record { each = λ q. omega (arith, filled.marks.each q, sound.marked.each q, ap (λ l. at_page q (bufs_of l)) parts_are, ap (λ l. at_page q (clean_held l)) filled.files, clean_more (at_page q) (additive_page q) old.store mid pool gs fs f pool filled.extents made numbered filled.range.fills.extents zip) };
     pages = filled.marks.long ∙ sound.pages ∙ sym pages_are;
     ranked = record { each = ranked };
+    ready = subst (λ l. AreReady l new.cache.orders) (sym filled.files) (subst (AreReady (with_file fs f x)) (sym filled.orders) (ready_changed fs old.cache.orders f x (all_entered r f filled.extents.extents gs) numbered ordered refl
+        (omega (arith, entered_kept r f filled.extents.extents gs, ap dirty_count filled.range.fills.extents, dirty-all_put old.store mid pool es gs made zip)) sound.ready));
+    few_files = omega (arith, count_same, sound.few_files);
     few_orders = omega (arith, orders_same, sound.few_orders);
     tidy = filled.range.shares.tidy (filled.range.fills.moves.tidy sound.tidy);
     still = (shares_move filled.range.shares).still (filled.range.fills.moves.still sound.still);

@@ -13,12 +13,13 @@ use Rattle.iol_extent.specs.Extents.{Extent, ExtentMap, begins_at, without_at}
 use Rattle.iol_evict.specs.Ranking.{Ranking, evicted_at}
 use Rattle.iol_cache.specs.declared.files.CachedFile.{CachedFile}
 use Rattle.iol_cache.specs.Marks.{at_page, Unmarks}
-use Rattle.iol_cache.specs.Cached.{Cached, file_in, order_in, extents_in, parts_in, parts_at, slices_in, clean_in, clean_parts, held, clean_held, lacking, without_extent, with_evicted, AreRanked}
+use Rattle.iol_cache.specs.Cached.{Cached, file_in, order_in, extents_in, parts_in, parts_at, slices_in, clean_in, clean_parts, held, clean_held, lacking, without_extent, with_evicted, AreRanked, AreReady}
 use Rattle.iol_cache.specs.Sound.{IsLaid, IsFiled, IsSound, IsUsable}
 use Rattle.iol_cache.specs.Evicting.{Holding, IsCleanAt, Evicts}
 use Rattle.iol_cache.proofs.Filing.{file_same, file_other, file_set, order_set, length-with_file, length-with_order, numbered_bounds, numbered_yes, IsAdditive, additive_tally, additive_page, additive_bufs, sum-flat, sum-with_file, sum-without_at, each-without_at}
 use Rattle.iol_cache.proofs.Extending.{apart-without_at, last_end-without_at, laid_stays}
 use Rattle.iol_cache.proofs.Ranked.{ranked_evicted}
+use Rattle.iol_cache.proofs.Ready.{ready_evicted}
 use Rattle.iol_cache.proofs.Using.{clean_numbered, covers_file}
 
 pub usable_of : {s : Stored} {c : Cached} → IsSound s c → IsUsable s c.files c.marks
@@ -125,6 +126,8 @@ sound_evicted old new f at sound gone unmarks =
       };
       pages = marks.long ∙ sound.pages ∙ sym gone.frees.count;
       ranked = subst (λ os. AreRanked new.cache.files os) (sym gone.orders) (subst (λ gs. AreRanked gs (with_evicted old.cache.orders (file_in fs f).pool f at)) (sym gone.files) (ranked_evicted fs old.cache.orders f at numbered ordered sound.ranked (sound.files f) there));
+      ready = subst (λ os. AreReady new.cache.files os) (sym gone.orders) (subst (λ gs. AreReady gs (with_evicted old.cache.orders (file_in fs f).pool f at)) (sym gone.files) (ready_evicted fs old.cache.orders f at there.extent numbered ordered there.begins there.clean sound.ready));
+      few_files = omega (arith, numbers, sound.few_files);
       few_orders = omega (arith, orders, sound.few_orders);
       tidy = moves.tidy sound.tidy;
       still = moves.still sound.still;

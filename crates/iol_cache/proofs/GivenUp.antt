@@ -151,7 +151,7 @@ keeps_trans a b c m n = record {
 
 lowered_room : (r : Ranking) → (lowered r).room ≡ r.room
 lowered_room r = pick (nat_lt MAX_LOW r.low) where
-  pick : (b : Bool) → (cond b (let x : Ranking = record { low = 0; entries = map (lowered_by r.low) r.entries; room = r.room } in x) r).room ≡ r.room
+  pick : (b : Bool) → (cond b (let x : Ranking = record r { low = 0; entries = map (lowered_by r.low) r.entries } in x) r).room ≡ r.room
   pick true = refl
   pick false = refl
 

@@ -21,6 +21,7 @@ pub mod Adding
 pub mod Putting
 pub mod Ranged
 pub mod CutOut
+pub mod Ready
 pub mod Roomy
 pub mod Completed
 pub mod Stepping

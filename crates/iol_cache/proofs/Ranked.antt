@@ -89,7 +89,7 @@ clean_ranked fs os f at ranked filed c =
 
 lowered_entries : (r : Ranking) (f at : ℕ) → entries_at f at (lowered r).entries ≡ entries_at f at r.entries
 lowered_entries r f at = here _ where
-  here : (b : Bool) → entries_at f at (cond b (let l : Ranking = record { low = 0; entries = map (lowered_by r.low) r.entries; room = r.room } in l) r).entries ≡ entries_at f at r.entries
+  here : (b : Bool) → entries_at f at (cond b (let l : Ranking = record r { low = 0; entries = map (lowered_by r.low) r.entries } in l) r).entries ≡ entries_at f at r.entries
   here true = sum-map_entry (entry_one f at) (lowered_by r.low) r.entries (λ e. refl)
   here false = refl
 
@@ -106,7 +106,7 @@ length_without (x ∷ xs) f at e h = here (is_at x f at) h (length_without xs f 
 
 lowered_length : (r : Ranking) → length (lowered r).entries ≡ length r.entries
 lowered_length r = here _ where
-  here : (b : Bool) → length (cond b (let l : Ranking = record { low = 0; entries = map (lowered_by r.low) r.entries; room = r.room } in l) r).entries ≡ length r.entries
+  here : (b : Bool) → length (cond b (let l : Ranking = record r { low = 0; entries = map (lowered_by r.low) r.entries } in l) r).entries ≡ length r.entries
   here true = length-map r.entries (lowered_by r.low)
   here false = refl
 

@@ -16,9 +16,9 @@ use Rattle.iol_extent.specs.Extents.{Extent, IsApart, IsFirstMet, IsGap, begins_
 use Rattle.iol_extent.proofs.Meeting.{met_begins, unmet_less}
 use Rattle.iol_hold.proofs.Moving.{stays_trans}
 use Rattle.iol_extent.proofs.Cover.{extent_begins, some_begins}
-use Rattle.iol_evict.specs.Ranking.{Ranking, entered, entry_at, left_at}
+use Rattle.iol_evict.specs.Ranking.{Ranking, entered, entry_at, left_at, with_one_given_back, with_one_kept}
 use Rattle.iol_evict.specs.declared.entry.Entry.{Entry}
-use Rattle.iol_cache.specs.Cached.{begins_clean, clean_at, clean_in, clean_parts, entry_one}
+use Rattle.iol_cache.specs.Cached.{begins_clean, clean_at, clean_in, clean_parts, entry_one, one_dirty}
 use Rattle.iol_cache.specs.Gaps.{all_parts}
 use Rattle.iol_cache.specs.Marks.{HaveMarks, Marks, Unmarks, at_page}
 use Rattle.iol_cache.specs.Reading.{RanksFile}
@@ -32,13 +32,14 @@ use Rattle.iol_hold.specs.Places.{byte_len}
 use Rattle.std.proofs.lemmas.List.Sums.{sum_by-cons}
 
 pub follows_none : (f : ℕ) (es : List Extent) (r : Ranking) (marks : List ℕ) → Follows f es es r r marks marks
-follows_none f es r marks = record { ranked = λ h. h; others = λ g b ne. refl; low = refl; each = λ p. refl; long = refl }
+follows_none f es r marks = record { ranked = λ h. h; others = λ g b ne. refl; low = refl; kept = refl; each = λ p. refl; long = refl }
 
 pub follows_then : {f : ℕ} {as' bs cs : List Extent} {r s t : Ranking} {a b c : List ℕ} → Follows f as' bs r s a b → Follows f bs cs s t b c → Follows f as' cs r t a c
 follows_then m n = record {
   ranked = λ h. n.ranked (m.ranked h);
   others = λ g b ne. n.others g b ne ∙ m.others g b ne;
   low = n.low ∙ m.low;
+  kept = omega (arith, m.kept, n.kept);
   each = λ p. omega (arith, m.each p, n.each p);
   long = n.long ∙ m.long;
 }
@@ -78,20 +79,22 @@ none_dirty at e d = ap (λ b. cond {A = ℕ} (eqb e.at at && not b) 1 0) d ∙ o
 
 -- A dirty extent goes, or comes in.
 
-pub dirty_goes : (f : ℕ) (es : List Extent) (at : ℕ) (e : Extent) (r : Ranking) (marks : List ℕ) → begins_at es at ≡ Some e → e.dirty ≡ true → Follows f es (without_at es at) r r marks marks
-dirty_goes f es at e r marks begins dirty = record {
+pub dirty_goes : (f : ℕ) (es : List Extent) (at : ℕ) (e : Extent) (r : Ranking) (marks : List ℕ) → begins_at es at ≡ Some e → e.dirty ≡ true → 0 < r.kept → Follows f es (without_at es at) r (with_one_given_back r) marks marks
+dirty_goes f es at e r marks begins dirty some = record {
   ranked = λ h. record { each = λ b. omega (arith, h.each b, sum-without_at (begins_clean b) es at e begins, none_dirty b e dirty) };
   others = λ g b ne. refl;
   low = refl;
+  kept = omega (arith, some, sum-without_at one_dirty es at e begins, ap (λ b. cond {A = ℕ} b 1 0) dirty);
   each = λ p. omega (arith, clean-less (at_page p) (additive_page p) es at e begins, ap (λ xs. at_page p (bufs_of xs)) (clean_of_dirty e dirty), (additive_page p).none);
   long = refl;
 }
 
-pub dirty_comes : (f : ℕ) (es : List Extent) (e : Extent) (r : Ranking) (marks : List ℕ) → e.dirty ≡ true → Follows f es (put_in es e) r r marks marks
+pub dirty_comes : (f : ℕ) (es : List Extent) (e : Extent) (r : Ranking) (marks : List ℕ) → e.dirty ≡ true → Follows f es (put_in es e) r (with_one_kept r) marks marks
 dirty_comes f es e r marks dirty = record {
   ranked = λ h. record { each = λ b. omega (arith, h.each b, sum-put_in (begins_clean b) es e, none_dirty b e dirty) };
   others = λ g b ne. refl;
   low = refl;
+  kept = omega (arith, sum-put_in one_dirty es e, ap (λ b. cond {A = ℕ} b 1 0) dirty);
   each = λ p. omega (arith, clean-more (at_page p) (additive_page p) es e, ap (λ xs. at_page p (bufs_of xs)) (clean_of_dirty e dirty), (additive_page p).none);
   long = refl;
 }
@@ -118,6 +121,7 @@ clean_goes f es at e r marks new apart begins clean ranked unmarks =
       ranked = λ h. record { each = λ b. omega (arith, h.each b, sum-without_at (begins_clean b) es at e begins, same_one f at b e v.0 at_is clean lies.0 lies.1, sum-without (entry_one f b) r.entries f at v.0 v.1) };
       others = λ g b ne. omega (arith, sum-without (entry_one g b) r.entries f at v.0 v.1, other_one f g b v.0 lies.0 ne);
       low = refl;
+      kept = omega (arith, sum-without_at one_dirty es at e begins, ap (λ b. cond {A = ℕ} b 1 0) clean);
       each = λ p. omega (arith, clean-less (at_page p) (additive_page p) es at e begins, ap (λ xs. at_page p (bufs_of xs)) (clean_of_clean e clean), unmarks.each p);
       long = unmarks.long;
     }
@@ -133,6 +137,7 @@ clean_comes f es e size r marks new clean marked = record {
   ranked = λ h. record { each = λ b. omega (arith, h.each b, sum-put_in (begins_clean b) es e, entry_of f e.at b e refl clean, entered_entries r f e.at size 1 f b) };
   others = λ g b ne. omega (arith, entered_entries r f e.at size 1 g b, no_entry_of f g e.at b ne);
   low = refl;
+  kept = omega (arith, sum-put_in one_dirty es e, ap (λ b. cond {A = ℕ} b 1 0) clean);
   each = λ p. omega (arith, clean-more (at_page p) (additive_page p) es e, ap (λ xs. at_page p (bufs_of xs)) (clean_of_clean e clean), marked.each p);
   long = marked.long;
 }

@@ -16,7 +16,7 @@ use Rattle.iol_extent.specs.Spans.{AreInOrder}
 use Rattle.iol_extent.specs.declared.spans.Span.{Span}
 use Rattle.iol_evict.specs.Ranking.{Ranking, hit_at}
 use Rattle.iol_cache.specs.declared.files.CachedFile.{CachedFile}
-use Rattle.iol_cache.specs.Cached.{Cached, file_in, with_file, no_file, order_in, with_order, extents_in, slices_in, clean_in, held, clean_held, clean_of, clean_at, entries_at}
+use Rattle.iol_cache.specs.Cached.{AreReady, Cached, file_in, with_file, no_file, order_in, with_order, extents_in, slices_in, clean_in, held, clean_held, clean_of, clean_at, entries_at}
 use Rattle.iol_cache.specs.Gaps.{gap_pages}
 use Rattle.iol_cache.specs.Going.{CountsHits}
 use Rattle.iol_cache.specs.Marks.{Counted}
@@ -24,6 +24,7 @@ use Rattle.iol_cache.specs.Reading.{SameButRoom, RanksFile, hit_counted, hits_co
 use Rattle.iol_cache.specs.Sound.{Each, IsLaid, IsFiled, IsSound}
 use Rattle.iol_cache.proofs.Filing.{file_same, file_other, order_same, order_other, length-with_file, length-with_order, numbered_bounds, numbered_yes}
 use Rattle.iol_cache.proofs.Entering.{hit_entries}
+use Rattle.iol_cache.proofs.Ready.{hits_kept, ready_hits, ready_same}
 
 -- gaps want no more pages than they have bytes
 pub gap_few : (low high : ℕ) (gs : List Span) → AreInOrder low high gs → gap_pages gs + low ≤ high
@@ -58,8 +59,8 @@ clean_held-same fs f x e = flat-with (λ (y : CachedFile). bufs_of (clean_in y.e
 
 -- a file has another room, and orders have
 pub same_room : (c d : Cached) (f : ℕ) (x : CachedFile) → (0 < f) × (f ≤ length c.files) → d.files ≡ with_file c.files f x → x.pool ≡ (file_in c.files f).pool → x.extents.extents ≡ extents_in c.files f
-    → ((p : ℕ) → (order_in d.orders p).entries ≡ (order_in c.orders p).entries) → ((p : ℕ) → (order_in d.orders p).low ≡ (order_in c.orders p).low) → length d.orders ≡ length c.orders → d.marks ≡ c.marks → SameButRoom c d
-same_room c d f x numbered files pool extents entries low orders marks = record {
+    → ((p : ℕ) → (order_in d.orders p).entries ≡ (order_in c.orders p).entries) → ((p : ℕ) → (order_in d.orders p).low ≡ (order_in c.orders p).low) → ((p : ℕ) → (order_in d.orders p).kept ≡ (order_in c.orders p).kept) → length d.orders ≡ length c.orders → d.marks ≡ c.marks → SameButRoom c d
+same_room c d f x numbered files pool extents entries low kept orders marks = record {
   pools = λ g. ap (λ fs. (file_in fs g).pool) files ∙ elim (cases_eq g f) [
     | inl same ↦ ap (λ n. (file_in (with_file c.files f x) n).pool) same ∙ ap (λ (y : CachedFile). y.pool) (file_same c.files f x numbered.0 numbered.1) ∙ pool ∙ ap (λ n. (file_in c.files n).pool) (sym same)
     | inr ne ↦ ap (λ (y : CachedFile). y.pool) (file_other c.files f g x ne)
@@ -73,6 +74,7 @@ same_room c d f x numbered files pool extents entries low orders marks = record 
   clean = ap clean_held files ∙ clean_held-same c.files f x extents;
   entries = entries;
   low = low;
+  kept = kept;
   orders = orders;
   marks = marks;
 }
@@ -88,6 +90,12 @@ pub order_low : (os : List Ranking) (p : ℕ) (r : Ranking) (q : ℕ) → (0 < p
 order_low os p r q numbered e = elim (cases_eq q p) [
   | inl same ↦ ap (λ n. (order_in (with_order os p r) n).low) same ∙ ap (λ (x : Ranking). x.low) (order_same os p r numbered.0 numbered.1) ∙ e ∙ ap (λ n. (order_in os n).low) (sym same)
   | inr ne ↦ ap (λ (x : Ranking). x.low) (order_other os p q r ne)
+]
+
+pub order_kept : (os : List Ranking) (p : ℕ) (r : Ranking) (q : ℕ) → (0 < p) × (p ≤ length os) → r.kept ≡ (order_in os p).kept → (order_in (with_order os p r) q).kept ≡ (order_in os q).kept
+order_kept os p r q numbered e = elim (cases_eq q p) [
+  | inl same ↦ ap (λ n. (order_in (with_order os p r) n).kept) same ∙ ap (λ (x : Ranking). x.kept) (order_same os p r numbered.0 numbered.1) ∙ e ∙ ap (λ n. (order_in os n).kept) (sym same)
+  | inr ne ↦ ap (λ (x : Ranking). x.kept) (order_other os p q r ne)
 ]
 
 pub filed_same : (s : Stored) (x y : CachedFile) → y.pool ≡ x.pool → y.extents.extents ≡ x.extents.extents → IsFiled s x → IsFiled s y
@@ -109,6 +117,8 @@ sound_same s c d sound same = record {
   marked = subst (λ bs. Counted d.marks bs) (sym same.clean) (subst (λ ms. Counted ms (clean_held c.files)) (sym same.marks) sound.marked);
   pages = ap length same.marks ∙ sound.pages;
   ranked = record { each = λ p f at. ap (entries_at f at) (same.entries p) ∙ sound.ranked.each p f at ∙ sym (ap (λ n. cond {A = ℕ} (eqb n p) (clean_at at (extents_in d.files f)) 0) (same.pools f) ∙ ap (λ (es : List Extent). cond {A = ℕ} (eqb (file_in c.files f).pool p) (clean_at at es) 0) (same.extents f)) };
+  ready = ready_same c d same sound.ready;
+  few_files = omega (arith, same.files, sound.few_files);
   few_orders = omega (arith, same.orders, sound.few_orders);
   tidy = sound.tidy;
   still = sound.still;
@@ -156,6 +166,8 @@ sound_hits s c d f ss sound numbered hits =
           | inr ne ↦ ap (λ (x : Ranking). entries_at g b x.entries) (order_other c.orders p q r ne)
         ] ∙ sound.ranked.each q g b ∙ ap (λ fs. clean_of fs q g b) (sym hits.files);
       };
+      ready = subst (λ fs. AreReady fs d.orders) (sym hits.files) (subst (AreReady c.files) (sym hits.orders) (ready_hits c.files c.orders p r ob (hits_kept (order_in c.orders p) f (extents_in c.files f) ss) sound.ready));
+      few_files = omega (arith, ap length hits.files, sound.few_files);
       few_orders = omega (arith, long, sound.few_orders);
       tidy = sound.tidy;
       still = sound.still;

@@ -132,7 +132,7 @@ tells_more has lacks more less (Err refusal.Memory) g k h = tt
 -- Nothing changes.
 
 pub same_none : (c : Cached) → SameButRoom c c
-same_none c = record { pools = λ f. refl; extents = λ f. refl; files = refl; held = refl; clean = refl; entries = λ p. refl; low = λ p. refl; orders = refl; marks = refl }
+same_none c = record { pools = λ f. refl; extents = λ f. refl; files = refl; held = refl; clean = refl; entries = λ p. refl; low = λ p. refl; kept = λ p. refl; orders = refl; marks = refl }
 
 pub places_none : (s : Stored) (p : ℕ) → PlacesSome s s p
 places_none s p = record { count = 0; pages = keeps_pages_same s s refl refl }

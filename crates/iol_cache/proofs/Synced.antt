@@ -16,19 +16,18 @@ use Rattle.iol_hold.proofs.Moving.{moves_none}
 use Rattle.iol_hold.proofs.Releasing.{frees_none}
 use Rattle.iol_extent.specs.Extents.{Extent, IsApart, begins_at, cell_at, dirty_in, end_of, is_over, last_end, no_place}
 use Rattle.iol_cache.specs.declared.files.CachedFile.{CachedFile}
-use Rattle.iol_evict.specs.Ranking.{Ranking}
-use Rattle.iol_cache.specs.Cached.{Cached, extents_in, file_in, held, order_in}
+use Rattle.iol_cache.specs.Cached.{Cached, dirty_count, extents_in, file_in, held}
 use Rattle.iol_cache.specs.Contents.{AreStored, Mirrors, byte_in, bytes_in_slot, file_bytes}
 use Rattle.iol_cache.specs.Evicting.{Holding}
 use Rattle.iol_cache.specs.Gaps.{all_parts}
 use Rattle.iol_cache.specs.Sound.{Each, IsLaid, IsSound}
-use Rattle.iol_cache.specs.Syncing.{Cleans, Fails, Syncs, cleaned_at, dirty_count, first_cleaned}
+use Rattle.iol_cache.specs.Syncing.{Cleans, Fails, KeepsBytes, KeepsStored, Syncs, cleaned_at, first_cleaned}
 use Rattle.iol_cache.specs.Writing.{Changes}
 use Rattle.iol_cache.proofs.Changed.{sound_changed}
 use Rattle.iol_cache.proofs.Cleaned.{bytes_alike, cleaned_more, count-cleaned, end-cleaned, first_dirty, laid-cleaned, parts-cleaned, read-cleaned, stored-cleaned, torn_byte, torn_len, torn_stored}
 use Rattle.iol_cache.proofs.Composed.{length-bytes}
 use Rattle.iol_cache.proofs.Extending.{last_end-without_at, over_of}
-use Rattle.iol_cache.proofs.Filing.{file_other, file_same, length-with_file, numbered_bounds, order_same}
+use Rattle.iol_cache.proofs.Filing.{file_other, file_same, length-with_file, numbered_bounds}
 use Rattle.iol_cache.proofs.GivenUp.{bytes_same}
 use Rattle.iol_cache.proofs.Storing.{stores_tears}
 
@@ -124,7 +123,7 @@ module _ (s : Stored) (f : ℕ) (old new : Cached) (d e : Disk) (sound : IsSound
   begins_x : begins_at xs x.at ≡ Some x
   begins_x = (first_dirty 0 xs x (sound.files f).apart w.first).0
 
-  clean_bytes : d.honest ≡ true → (g : ℕ) → bytes_in_slot s e.slots new.files g ≡ bytes_in_slot s d.slots old.files g
+  pub clean_bytes : d.honest ≡ true → (g : ℕ) → bytes_in_slot s e.slots new.files g ≡ bytes_in_slot s d.slots old.files g
   clean_bytes h g = elim (cases_eq g f) [
     | inl same ↦ ap (bytes_in_slot s e.slots new.files) same
         ∙ ap (file_bytes (byte_in s) (content e.slots f)) extents_is
@@ -144,7 +143,7 @@ module _ (s : Stored) (f : ℕ) (old new : Cached) (d e : Disk) (sound : IsSound
         byte_there s x.parts k (omega (arith, b.0, b.1)) ∙ sym (st.inside k (omega (arith, n, b.0, b.1))) ∙ ap (slice_index (content e.slots f)) (let is : x.at + k ≡ i = omega (arith, b.0) in is),
       )
 
-  clean_mirrors : d.honest ≡ true → Mirrors s d.slots old.files → Mirrors s e.slots new.files
+  pub clean_mirrors : d.honest ≡ true → Mirrors s d.slots old.files → Mirrors s e.slots new.files
   clean_mirrors h all = record {
     each = λ g. elim (cases_eq g f) [
       | inl same ↦ subst (λ k. AreStored s (content e.slots k) (extents_in new.files k)) (sym same) (subst (AreStored s (content e.slots f)) (sym extents_is) (record {
@@ -163,15 +162,9 @@ module _ (s : Stored) (f : ℕ) (old new : Cached) (d e : Disk) (sound : IsSound
   files_are : length new.files ≡ length old.files
   files_are = ap length w.files ∙ length-with_file old.files f y
 
-  order_is : order_in new.orders p ≡ w.order
-  order_is = (let b = numbered_bounds old.orders p (sound.opened f there).ordered in ap (λ os. order_in os p) w.orders ∙ order_same old.orders p w.order b.0 b.1)
-
-  -- The file has one dirty extent less, and its order at most one place less.
+  -- the file has one dirty extent less
   pub clean_fewer : dirty_count (extents_in new.files f) + 1 ≡ dirty_count xs
   clean_fewer = omega (arith, ap dirty_count extents_is, count-cleaned xs x.at x (sound.files f).apart begins_x (first_dirty 0 xs x (sound.files f).apart w.first).1)
-
-  pub clean_room : (order_in old.orders p).room ≤ (order_in new.orders (file_in new.files f).pool).room + 1
-  clean_room = omega (arith, w.room, ap (λ (r : Ranking). r.room) order_is, ap (λ k. (order_in new.orders k).room) (pool_is f))
 
 -- One after another.
 
@@ -201,28 +194,34 @@ syncs_more s f old mid new d m e sound now there a w =
       mirrors = λ h all. clean_mirrors s f mid new m e now there w (a.honest ∙ h) (a.mirrors h all);
     }
 
--- and the last one failed
-pub syncs_fail : (s : Stored) (f : ℕ) (old mid new : Cached) (d m e : Disk) → IsSound s mid → Syncs s f old mid d m → Fails f mid new m e → Syncs s f old new d e
-syncs_fail s f old mid new d m e now a w =
-    subst (λ (c : Cached). Syncs s f old c d e) (sym w.same) (record {
-      count = a.count;
-      extents = a.extents;
-      others = a.others;
-      pools = a.pools;
-      files = a.files;
-      honest = w.honest ∙ a.honest;
-      contents = λ h. record { each = λ g. bytes h g ∙ (a.contents h).each g };
-      mirrors = λ h all. record { each = λ g. stored h g ((a.mirrors h all).each g) };
-    })
+-- Nothing becomes clean where the store fails, and all values stay.
+
+pub fail_bytes : (s : Stored) (f : ℕ) (old new : Cached) (d e : Disk) → IsSound s old → Fails f old new d e → KeepsBytes s old new d e
+fail_bytes s f old new d e sound w = λ h. record {
+  each = λ g. ap (λ (c : Cached). bytes_in_slot s e.slots c.files g) w.same ∙ elim (cases_eq g f) [
+    | inl same ↦ ap (bytes_in_slot s e.slots old.files) same ∙ under_bytes s old f w.extent d e sound w.first (w.torn h) ∙ ap (bytes_in_slot s d.slots old.files) (sym same)
+    | inr ne ↦ ap (λ l. file_bytes (byte_in s) l (extents_in old.files g)) ((w.others h).each g ne)
+  ];
+}
+
+pub fail_stored : (s : Stored) (f : ℕ) (old new : Cached) (d e : Disk) → IsSound s old → Fails f old new d e → KeepsStored s old new d e
+fail_stored s f old new d e sound w = λ h all. subst (λ (c : Cached). Mirrors s e.slots c.files) (sym w.same) (record { each = λ g. one h g (all.each g) })
   where
-    bytes : d.honest ≡ true → (g : ℕ) → bytes_in_slot s e.slots mid.files g ≡ bytes_in_slot s m.slots mid.files g
-    bytes h g = elim (cases_eq g f) [
-      | inl same ↦ ap (bytes_in_slot s e.slots mid.files) same ∙ under_bytes s mid f w.extent m e now w.first (w.torn (a.honest ∙ h)) ∙ ap (bytes_in_slot s m.slots mid.files) (sym same)
-      | inr ne ↦ ap (λ l. file_bytes (byte_in s) l (extents_in mid.files g)) ((w.others (a.honest ∙ h)).each g ne)
+    one : d.honest ≡ true → (g : ℕ) → AreStored s (content d.slots g) (extents_in old.files g) → AreStored s (content e.slots g) (extents_in old.files g)
+    one h g all = elim (cases_eq g f) [
+      | inl same ↦ subst (λ k. AreStored s (content e.slots k) (extents_in old.files k)) (sym same) (under_stored s old f w.extent d e sound w.first (w.torn h) (subst (λ k. AreStored s (content d.slots k) (extents_in old.files k)) same all))
+      | inr ne ↦ subst (λ l. AreStored s l (extents_in old.files g)) (sym ((w.others h).each g ne)) all
     ]
 
-    stored : d.honest ≡ true → (g : ℕ) → AreStored s (content m.slots g) (extents_in mid.files g) → AreStored s (content e.slots g) (extents_in mid.files g)
-    stored h g all = elim (cases_eq g f) [
-      | inl same ↦ subst (λ k. AreStored s (content e.slots k) (extents_in mid.files k)) (sym same) (under_stored s mid f w.extent m e now w.first (w.torn (a.honest ∙ h)) (subst (λ k. AreStored s (content m.slots k) (extents_in mid.files k)) same all))
-      | inr ne ↦ subst (λ l. AreStored s l (extents_in mid.files g)) (sym ((w.others (a.honest ∙ h)).each g ne)) all
-    ]
+-- and the last one failed
+pub syncs_fail : (s : Stored) (f : ℕ) (old mid new : Cached) (d m e : Disk) → IsSound s mid → Syncs s f old mid d m → Fails f mid new m e → Syncs s f old new d e
+syncs_fail s f old mid new d m e now a w = record {
+  count = a.count;
+  extents = ap (λ (c : Cached). extents_in c.files f) w.same ∙ a.extents;
+  others = λ g ne. ap (λ (c : Cached). file_in c.files g) w.same ∙ a.others g ne;
+  pools = λ g. ap (λ (c : Cached). (file_in c.files g).pool) w.same ∙ a.pools g;
+  files = ap (λ (c : Cached). length c.files) w.same ∙ a.files;
+  honest = w.honest ∙ a.honest;
+  contents = λ h. record { each = λ g. (fail_bytes s f mid new m e now w (a.honest ∙ h)).each g ∙ (a.contents h).each g };
+  mirrors = λ h all. fail_stored s f mid new m e now w (a.honest ∙ h) (a.mirrors h all);
+}

@@ -20,7 +20,7 @@ abbrev pub no_file : CachedFile
 no_file = record { pool = 0; extents = record { extents = []; room = 0 } }
 
 abbrev pub no_order : Ranking
-no_order = record { low = 0; entries = []; room = 0 }
+no_order = record { low = 0; entries = []; room = 0; kept = 0 }
 
 -- files and pools are numbered from 1
 unfoldable pub file_in : List CachedFile → (f : ℕ) → CachedFile
@@ -88,6 +88,23 @@ clean_of fs p f at = cond (eqb (file_in fs f).pool p) (clean_at at (extents_in f
 -- the entries of a pool's order are of the clean extents of its files
 pub record AreRanked (fs : List CachedFile) (os : List Ranking) : Type 0 where
   pub each : (p f at : ℕ) → entries_at f at (order_in os p).entries ≡ clean_of fs p f at
+
+-- Dirty extents, each of which has a place in the order that is kept for it.
+
+abbrev pub one_dirty : Extent → ℕ
+one_dirty e = cond e.dirty 1 0
+
+-- how many extents are dirty
+abbrev pub dirty_count : List Extent → ℕ
+dirty_count es = sum_by one_dirty es
+
+-- how many extents of a file are dirty, if the file is of the pool
+abbrev pub dirty_of : (p : ℕ) → CachedFile → ℕ
+dirty_of p x = cond (eqb x.pool p) (dirty_count x.extents.extents) 0
+
+-- a pool's order keeps a place for each dirty extent of the pool's files
+pub record AreReady (fs : List CachedFile) (os : List Ranking) : Type 0 where
+  pub each : (p : ℕ) → (order_in os p).kept ≡ sum_by (dirty_of p) fs
 
 -- An extent goes.
 

@@ -24,6 +24,7 @@ pub record SameButRoom (old new : Cached) : Type 0 where
   pub clean : clean_held new.files ≡ clean_held old.files
   pub entries : (p : ℕ) → (order_in new.orders p).entries ≡ (order_in old.orders p).entries
   pub low : (p : ℕ) → (order_in new.orders p).low ≡ (order_in old.orders p).low
+  pub kept : (p : ℕ) → (order_in new.orders p).kept ≡ (order_in old.orders p).kept
   pub orders : length new.orders ≡ length old.orders
   pub marks : new.marks ≡ old.marks
 

@@ -2,7 +2,7 @@
 use Rattle.std.specs.Prelude.{◌≡◌, ℕ, ◌≤◌, ◌<◌, ◌^◌, true, false, List, [], ◌∷◌, length}
 use Rattle.std.specs.List.{All}
 use Rattle.iol_core.specs.Numbered.{is_numbered}
-use Rattle.iol_core.specs.declared.limits.TheConstants.{MAX_FILE_BYTES}
+use Rattle.iol_core.specs.declared.limits.TheConstants.{MAX_FILES, MAX_FILE_BYTES}
 use Rattle.iol_arena.specs.State.{page_count}
 use Rattle.iol_pool.specs.Pools.{pool_in}
 use Rattle.iol_hold.specs.Stored.{Stored, IsTidy, IsStill}
@@ -12,7 +12,7 @@ use Rattle.iol_hold.specs.declared.slices.Slice.{Slice}
 use Rattle.iol_extent.specs.Extents.{Extent, IsApart, last_end}
 use Rattle.iol_cache.specs.declared.files.CachedFile.{CachedFile}
 use Rattle.iol_cache.specs.Marks.{Counted}
-use Rattle.iol_cache.specs.Cached.{Cached, file_in, held, clean_held, AreRanked}
+use Rattle.iol_cache.specs.Cached.{Cached, file_in, held, clean_held, AreRanked, AreReady}
 
 -- P holds of each of a list
 abbrev pub Each : {A : Type 0} → (A → Type 0) → List A → Type 0
@@ -35,7 +35,8 @@ pub record IsOpened (s : Stored) (c : Cached) (f : ℕ) : Type 0 where
   pub is_open : (pool_in s.pools (file_in c.files f).pool).closed ≡ false
   pub ordered : is_numbered c.orders (file_in c.files f).pool ≡ true
 
--- each buffer is held by each slice of an extent, clean extents are marked and stand in the orders
+-- each buffer is held by each slice of an extent, clean extents are marked and stand in the orders, which keep a place for
+-- each dirty one
 pub record IsSound (s : Stored) (c : Cached) : Type 0 where
   pub files : (f : ℕ) → IsFiled s (file_in c.files f)
   pub opened : (f : ℕ) → is_numbered c.files f ≡ true → IsOpened s c f
@@ -43,6 +44,8 @@ pub record IsSound (s : Stored) (c : Cached) : Type 0 where
   pub marked : Counted c.marks (clean_held c.files)
   pub pages : length c.marks ≡ page_count s.arena
   pub ranked : AreRanked c.files c.orders
+  pub ready : AreReady c.files c.orders
+  pub few_files : length c.files ≤ MAX_FILES
   pub few_orders : length c.orders < 2 ^ 32
   pub tidy : IsTidy s
   pub still : IsStill s.arena

@@ -1,5 +1,5 @@
 -- Dirty extents that are written back.
-use Rattle.std.specs.Prelude.{Bool, ◌≡◌, ℕ, zero, suc, ◌+◌, ◌-◌, ◌<◌, ◌≤◌, ◌⊎◌, ◌==◌, cond, true, false, if◌then◌else◌, List, [], ◌∷◌, map, length, max, slice_index, sum_by, Result, Ok, Err, OnErr, OnOk, Some, None}
+use Rattle.std.specs.Prelude.{Bool, ◌≡◌, ℕ, zero, suc, ◌+◌, ◌-◌, ◌<◌, ◌≤◌, ◌⊎◌, ◌==◌, true, false, if◌then◌else◌, List, [], ◌∷◌, map, length, max, slice_index, Result, Ok, Err, OnErr, OnOk, Some, None}
 use Rattle.iol_back.specs.Disk.{Disk, IfHonest, OthersStay, Succeeds, Tears, content, raised}
 use Rattle.iol_core.specs.Text as text
 use Rattle.iol_core.specs.declared.refusals.Refusal.{Refusal}
@@ -57,18 +57,24 @@ first_cleaned (suc n) (e ∷ es) = if e.dirty then as_clean e ∷ first_cleaned 
 abbrev pub all_cleaned : List Extent → List Extent
 all_cleaned es = map as_clean es
 
-abbrev pub one_dirty : Extent → ℕ
-one_dirty e = cond e.dirty 1 0
-
--- how many extents are dirty
-abbrev pub dirty_count : List Extent → ℕ
-dirty_count es = sum_by one_dirty es
-
 -- the first dirty extent begins there
 pub record IsFirstDirty (es : List Extent) (at : ℕ) : Type 0 where
   pub extent : Extent
   pub is : dirty_in es ≡ Some extent
   pub begins : extent.at ≡ at
+
+-- What stays, where an honest store is written.
+
+-- every file has the bytes that it had
+pub record SameContents (s : Stored) (old new : Cached) (d e : Disk) : Type 0 where
+  pub each : (f : ℕ) → bytes_in_slot s e.slots new.files f ≡ bytes_in_slot s d.slots old.files f
+
+abbrev pub KeepsBytes : (s : Stored) (old new : Cached) (d e : Disk) → Type 0
+KeepsBytes s old new d e = IfHonest d (SameContents s old new d e)
+
+-- what lies under clean extents is what the store has, if it was before
+abbrev pub KeepsStored : (s : Stored) (old new : Cached) (d e : Disk) → Type 0
+KeepsStored s old new d e = IfHonest d (Mirrors s d.slots old.files → Mirrors s e.slots new.files)
 
 -- The first dirty extent of a file is written back.
 
@@ -83,7 +89,6 @@ pub record Cleans (s : Stored) (f : ℕ) (old new : Cached) (d e : Disk) : Type 
   pub files : new.files ≡ with_file old.files f (record { pool = (file_in old.files f).pool; extents = extents })
   pub orders : new.orders ≡ with_order old.orders (file_in old.files f).pool order
   pub follows : Follows f (extents_in old.files f) extents.extents (order_in old.orders (file_in old.files f).pool) order old.marks new.marks
-  pub room : (order_in old.orders (file_in old.files f).pool).room ≤ order.room + 1
   pub honest : e.honest ≡ d.honest
   pub counts : Succeeds d e
   pub others : IfHonest d (OthersStay f d.slots e.slots)
@@ -112,10 +117,6 @@ StoresFirst s f old new d e (Err x) = Fails f old new d e × (x ≡ Fault f)
 
 -- Dirty extents of a file are written back, in the order of offsets.
 
--- every file has the bytes that it had, over a store that was written
-pub record SameContents (s : Stored) (old new : Cached) (d e : Disk) : Type 0 where
-  pub each : (f : ℕ) → bytes_in_slot s e.slots new.files f ≡ bytes_in_slot s d.slots old.files f
-
 -- the first ones are clean, and no other file changed
 pub record Syncs (s : Stored) (f : ℕ) (old new : Cached) (d e : Disk) : Type 0 where
   pub count : ℕ
@@ -124,8 +125,8 @@ pub record Syncs (s : Stored) (f : ℕ) (old new : Cached) (d e : Disk) : Type 0
   pub pools : (g : ℕ) → (file_in new.files g).pool ≡ (file_in old.files g).pool
   pub files : length new.files ≡ length old.files
   pub honest : e.honest ≡ d.honest
-  pub contents : IfHonest d (SameContents s old new d e)
-  pub mirrors : IfHonest d (Mirrors s d.slots old.files → Mirrors s e.slots new.files)
+  pub contents : KeepsBytes s old new d e
+  pub mirrors : KeepsStored s old new d e
 
 -- no extent of the files 1 to n is dirty
 pub record AllClean (n : ℕ) (c : Cached) : Type 0 where

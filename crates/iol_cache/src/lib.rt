@@ -51,3 +51,4 @@ mod weaving;
 mod writing;
 
 pub use cache::Cache;
+pub use syncing::Flushed;

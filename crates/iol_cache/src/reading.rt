@@ -46,23 +46,6 @@ pub(crate) fn count_pages(gaps: &[Span]) -> u32
 }
 
 impl Cache {
-    // Room for so many extents more of a file, and for their entries.
-    fn reserve(&mut self, file: FileId, count: usize) -> Result<(), AllocError>
-        requires file { is_numbered self.old.files.items file ≡ true }
-        requires order { let p = (file_in self.old.files.items file).pool in
-            is_numbered self.old.orders.items p ≡ true }
-        ensures same { SameButRoom (cached_of self.old) (cached_of self.new) }
-        ensures extents { OnOk result (count ≤ (file_in self.new.files.items file).extents.room) }
-        ensures entries { let p = (file_in self.old.files.items file).pool in
-            OnOk result (count ≤ (order_in self.new.orders.items p).room) }
-    {
-        let place = file.number() as usize - 1;
-        let pool = self.files[place].pool;
-        self.files[place].extents.reserve(count)?;
-        self.orders[pool.number() as usize - 1].reserve(count)?;
-        Ok(())
-    }
-
     // Shares the bytes of a range that lie beside its gaps, and counts the hits.
     fn share_hits(
         &mut self,
@@ -196,7 +179,7 @@ impl Cache {
     {
         let place = file.number() as usize - 1;
         let found = self.files[place].extents.find(alloc, from, to)?;
-        self.reserve(file, found.gaps.len())?;
+        self.reserve_places(file, found.gaps.len())?;
         let pins = self.share_hits(alloc, store, file, from, to, &found.hits, &found.gaps)?;
         Ok((pins, found.gaps))
     }

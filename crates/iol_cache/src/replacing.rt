@@ -6,7 +6,7 @@ ghost use Rattle.iol_cache.specs.Cutting.{CutsLeft, CutsRight};
 ghost use Rattle.iol_cache.specs.Gaps.{all_parts};
 ghost use Rattle.iol_cache.specs.Marks.{AreWithin, HasMarksLeft};
 ghost use Rattle.iol_cache.specs.Reading.{RanksFile};
-ghost use Rattle.iol_cache.specs.Replacing.{Follows, HaveClean, put_some};
+ghost use Rattle.iol_cache.specs.Replacing.{Follows, HaveClean, IsReady, put_some};
 ghost use Rattle.iol_extent.specs.Extents.{Adds, IsApart, IsGap, begins_at, end_of, last_end, unmet, without_at};
 ghost use Rattle.iol_hold.specs.Moves.{Covers, Moves, SameLists};
 ghost use Rattle.iol_hold.specs.Places.{byte_len};
@@ -22,11 +22,13 @@ use iol_extent::extents::Extents;
 use iol_extent::spans::Span;
 use iol_hold::Store;
 
-// The extent that begins at a place is to go: where it is clean, it leaves the order, and its marks are taken away.
+// The extent that begins at a place is to go: where it is clean, it leaves the order, and its marks are taken away. The
+// place that is kept for a dirty one is given back.
 fn forget(order: &mut Order, marks: &mut CleanHolds, extents: &Extents, file: FileId, at: u32)
     requires apart { IsApart 0 extents.now.extents }
     requires begins { IsSome (begins_at extents.now.extents at) }
     requires ranked { RanksFile order.old file extents.now.extents }
+    requires ready { IsReady order.old extents.now.extents }
     requires within { AreWithin (length marks.old) (parts_in (begins_at extents.now.extents at)) }
     requires marked { HaveClean marks.old extents.now.extents }
     ensures follows { let es = extents.now.extents in
@@ -37,6 +39,7 @@ fn forget(order: &mut Order, marks: &mut CleanHolds, extents: &Extents, file: Fi
         return;
     };
     if dirty {
+        order.give_back();
         return;
     }
     marks.unmark(agg.slices());
@@ -55,6 +58,7 @@ fn take_out(
     requires apart { IsApart 0 extents.old.extents }
     requires begins { IsSome (begins_at extents.old.extents at) }
     requires ranked { RanksFile order.old file extents.old.extents }
+    requires ready { IsReady order.old extents.old.extents }
     requires pages { length marks.old ≡ page_count store.old.arena }
     requires marked { HaveClean marks.old extents.old.extents }
     requires held { Covers store.old (bufs_of (all_parts extents.old.extents)) }
@@ -88,6 +92,7 @@ fn clear_range(
 )
     requires apart { IsApart 0 extents.old.extents }
     requires ranked { RanksFile order.old file extents.old.extents }
+    requires ready { IsReady order.old extents.old.extents }
     requires pages { length marks.old ≡ page_count store.old.arena }
     requires marked { HaveClean marks.old extents.old.extents }
     requires held { Covers store.old (bufs_of (all_parts extents.old.extents)) }
@@ -140,6 +145,7 @@ pub(crate) fn put_edge(
         return;
     }
     if dirty {
+        order.keep();
         extents.put(at, agg, true);
         return;
     }
@@ -169,6 +175,7 @@ pub(crate) fn replace_range(
     requires fits { end_of right < 2 ^ 32 }
     requires apart { IsApart 0 extents.old.extents }
     requires ranked { RanksFile order.old file extents.old.extents }
+    requires ready { IsReady order.old extents.old.extents }
     requires pages { length marks.old ≡ page_count store.old.arena }
     requires marked { HaveClean marks.old extents.old.extents }
     requires few { HasMarksLeft marks.old (left.parts ++ (right.parts ++ new.parts)) }

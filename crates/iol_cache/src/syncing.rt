@@ -3,13 +3,13 @@ ghost use Rattle.std.specs.Prelude.{◌≡◌, ℕ, ◌+◌, ◌<◌, ◌≤◌,
 ghost use Rattle.iol_core.specs.Text as text;
 ghost use Rattle.iol_core.specs.Numbered.{is_numbered};
 ghost use Rattle.iol_cache.specs.Cache.{cached_of};
-ghost use Rattle.iol_cache.specs.Cached.{extents_in, file_in, order_in, parts_in};
+ghost use Rattle.iol_cache.specs.Cached.{extents_in, parts_in};
 ghost use Rattle.iol_cache.specs.Sharing.{CountsBelow};
 ghost use Rattle.iol_cache.specs.Sound.{IsSound};
 ghost use Rattle.iol_cache.specs.Marks.{AreWithin, HasMarksLeft};
 ghost use Rattle.iol_cache.specs.Reading.{RanksFile};
-ghost use Rattle.iol_cache.specs.Replacing.{Follows};
-ghost use Rattle.iol_cache.specs.Syncing.{IsFirstDirty, Flushes, StoresFirst, Syncs, WritesBack, cleaned_at, dirty_count};
+ghost use Rattle.iol_cache.specs.Replacing.{Follows, IsReady};
+ghost use Rattle.iol_cache.specs.Syncing.{IsFirstDirty, Flushes, KeepsBytes, KeepsStored, StoresFirst, Syncs, WritesBack, cleaned_at};
 ghost use Rattle.iol_back.specs.Disk.{raised};
 ghost use Rattle.iol_core.specs.Meaning.{FaultOf};
 ghost use Rattle.iol_extent.specs.Extents.{IsApart, begins_at, dirty_in, last_end};
@@ -21,7 +21,7 @@ use crate::cutting::Edge;
 use crate::marks::CleanHolds;
 use crate::replacing::put_edge;
 use iol_back::backing::{Backing, StoreFault};
-use iol_core::limits::{MAX_FILE_BYTES, MAX_FILES};
+use iol_core::limits::MAX_FILE_BYTES;
 use iol_core::numbers::FileId;
 use iol_core::refusals::Refusal;
 use iol_evict::order::Order;
@@ -62,23 +62,23 @@ fn write_back<B: Backing>(
     Ok(())
 }
 
-// The first dirty extent becomes clean, which begins at a place: it is marked, and enters the order in room that was made
-// for it.
+// The first dirty extent becomes clean, which begins at a place: it is marked, and enters the order in the place that was
+// kept for it.
 fn settle(order: &mut Order, marks: &mut CleanHolds, extents: &mut Extents, file: FileId, at: u32)
     requires apart { IsApart 0 extents.old.extents }
     requires short { last_end extents.old.extents ≤ MAX_FILE_BYTES }
     requires dirty { IsFirstDirty extents.old.extents at }
     requires ranked { RanksFile order.old file extents.old.extents }
-    requires room { 0 < order.old.room }
+    requires ready { IsReady order.old extents.old.extents }
     requires within { AreWithin (length marks.old) (parts_in (begins_at extents.old.extents at)) }
     requires few { HasMarksLeft marks.old (parts_in (begins_at extents.old.extents at)) }
     ensures extents { extents.new.extents ≡ cleaned_at extents.old.extents at }
     ensures apart { IsApart 0 extents.new.extents }
     ensures follows { Follows file extents.old.extents extents.new.extents order.old order.new
         marks.old marks.new }
-    ensures room { order.old.room ≤ order.new.room + 1 }
 {
     let agg = extents.remove(at);
+    order.give_back();
     let edge = Edge {
         at,
         agg,
@@ -98,11 +98,12 @@ impl Cache {
         requires sound { IsSound store.now (cached_of self.old) }
         requires file { is_numbered self.old.files.items file ≡ true }
         requires few { CountsBelow store.now (2 ^ 61) }
-        requires room { let p = (file_in self.old.files.items file).pool in
-            0 < dirty_count (extents_in self.old.files.items file) →
-            0 < (order_in self.old.orders.items p).room }
         ensures stores { StoresFirst store.now file (cached_of self.old) (cached_of self.new)
             (B.disk backing.old) (B.disk backing.new) result }
+        ensures files { KeepsBytes store.now (cached_of self.old) (cached_of self.new)
+            (B.disk backing.old) (B.disk backing.new) }
+        ensures mirrors { KeepsStored store.now (cached_of self.old) (cached_of self.new)
+            (B.disk backing.old) (B.disk backing.new) }
         ensures sound { IsSound store.now (cached_of self.new) }
     {
         let place = file.number() as usize - 1;
@@ -124,28 +125,37 @@ impl Cache {
     }
 
     /// Writes all dirty extents of a file back, in the order of offsets, up to the first that fails. Those that were written
-    /// are clean then.
-    pub(crate) fn sync<B: Backing>(
+    /// are clean then. It wants no memory.
+    ///
+    /// Refused with `Fault` where the store fails: the extent that it failed at, and those after it, are dirty as before.
+    pub fn sync<B: Backing>(
         &mut self,
         store: &Store,
         backing: &mut B,
         file: FileId,
     ) -> Result<(), Refusal>
         requires sound { IsSound store.now (cached_of self.old) }
-        requires file { is_numbered self.old.files.items file ≡ true }
+        requires file { is_numbered (cached_of self.old).files file ≡ true }
         requires few { CountsBelow store.now (2 ^ 61) }
-        requires room { let p = (file_in self.old.files.items file).pool in
-            dirty_count (extents_in self.old.files.items file) ≤
-            (order_in self.old.orders.items p).room }
+        // Which extents are clean then.
+        ensures clean { let new = (cached_of self.new).files in
+            OnOk result (dirty_in (extents_in new file) ≡ None) }
         ensures syncs { Syncs store.now file (cached_of self.old) (cached_of self.new)
             (B.disk backing.old) (B.disk backing.new) }
-        ensures clean { OnOk result (dirty_in (extents_in self.new.files.items file) ≡ None) }
+
+        // What stays.
+        ensures files { KeepsBytes store.now (cached_of self.old) (cached_of self.new)
+            (B.disk backing.old) (B.disk backing.new) }
+        ensures mirrors { KeepsStored store.now (cached_of self.old) (cached_of self.new)
+            (B.disk backing.old) (B.disk backing.new) }
+        ensures sound { IsSound store.now (cached_of self.new) }
+
+        // Refusals.
         ensures fails { OnErr result
             ((B.disk backing.new).failures ≡ raised (B.disk backing.old).failures) }
         ensures succeeds { OnOk result
             ((B.disk backing.new).failures ≡ (B.disk backing.old).failures) }
         ensures late { IfErr result (FaultOf file) }
-        ensures sound { IsSound store.now (cached_of self.new) }
     {
         let mut more = true;
         while more {
@@ -157,20 +167,22 @@ impl Cache {
         Ok(())
     }
 
-    /// Writes the dirty extent of least file and offset back, which is clean then.
-    pub(crate) fn flush_one<B: Backing>(
+    /// Writes the dirty extent of least file and offset back, which is clean then. It wants no memory.
+    ///
+    /// Refused with `Fault` of the extent's file where the store fails: nothing has become clean.
+    pub fn flush_one<B: Backing>(
         &mut self,
         store: &Store,
         backing: &mut B,
     ) -> Result<Flushed, Refusal>
         requires sound { IsSound store.now (cached_of self.old) }
-        requires files { length self.old.files.items ≤ MAX_FILES }
         requires few { CountsBelow store.now (2 ^ 61) }
-        requires room { (f : ℕ) → let p = (file_in self.old.files.items f).pool in
-            0 < dirty_count (extents_in self.old.files.items f) →
-            0 < (order_in self.old.orders.items p).room }
         ensures flushes { Flushes store.now (cached_of self.old) (cached_of self.new)
             (B.disk backing.old) (B.disk backing.new) result }
+        ensures files { KeepsBytes store.now (cached_of self.old) (cached_of self.new)
+            (B.disk backing.old) (B.disk backing.new) }
+        ensures mirrors { KeepsStored store.now (cached_of self.old) (cached_of self.new)
+            (B.disk backing.old) (B.disk backing.new) }
         ensures sound { IsSound store.now (cached_of self.new) }
     {
         for i in 0..self.files.len() {

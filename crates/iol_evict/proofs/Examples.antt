@@ -3,7 +3,7 @@ use Rattle.std.proofs.Common.{◌≡◌, ◌-◌, ◌^◌, [], ◌∷◌, refl}
 use Rattle.iol_evict.specs.Ranking.{Ranking, entry_or, entered, hit_at, left_at, evicted_at}
 
 abbrev three : Ranking
-three = entered (entered (entered (record { low = 0; entries = []; room = 3 }) 1 8192 8192 1) 2 0 4096 3) 1 0 4096 1
+three = entered (entered (entered (record { low = 0; entries = []; room = 3; kept = 0 }) 1 8192 8192 1) 2 0 4096 3) 1 0 4096 1
 
 -- in the order of file and place
 heights : (entry_or three.entries 1 0).height ∷ (entry_or three.entries 1 8192).height ∷ (entry_or three.entries 2 0).height ∷ [] ≡ 4096 ∷ 2048 ∷ 12288 ∷ []
@@ -25,7 +25,7 @@ height-hit = refl
 
 -- past 2^62: L is taken from all heights, and the entry below it has 0
 abbrev high : Ranking
-high = entered (entered (record { low = 2 ^ 62 - 1; entries = []; room = 3 }) 1 0 1 1) 2 0 1 2
+high = entered (entered (record { low = 2 ^ 62 - 1; entries = []; room = 3; kept = 0 }) 1 0 1 1) 2 0 1 2
 
 lowered-low : (evicted_at high 1 0).low ≡ 0
 lowered-low = refl

@@ -9,11 +9,13 @@ pub record Table : Type 0 where
   pub entries : List Entry
   pub room : ℕ
 
--- L, the entries in the order of file and place, and how many more may enter without memory
+-- L, the entries in the order of file and place, how many more may enter without memory, and how many places beside
+-- these are kept for entries to come
 pub record Ranking : Type 0 where
   pub low : ℕ
   pub entries : List Entry
   pub room : ℕ
+  pub kept : ℕ
 
 -- how far above L an entry begins: its cost divided by its size in bytes, in units of 2^-24
 abbrev pub worth : (size cost : ℕ) → ℕ
@@ -56,7 +58,7 @@ with_height es file at height = map (set_at file at height) es
 abbrev pub entered : Ranking → (file at size cost : ℕ) → Ranking
 entered r file at size cost =
     let e : Entry = record { file = file; at = at; size = size; cost = cost; height = r.low + worth size cost } in
-    record { low = r.low; entries = put_in r.entries e; room = r.room - 1 }
+    record r { entries = put_in r.entries e; room = r.room - 1 }
 
 -- an entry is used: it has the height that it would enter with
 abbrev pub hit_at : Ranking → (file at : ℕ) → Ranking
@@ -66,7 +68,7 @@ hit_at r file at =
 
 -- an entry goes, and L stays
 abbrev pub left_at : Ranking → (file at : ℕ) → Ranking
-left_at r file at = record { low = r.low; entries = without r.entries file at; room = r.room + 1 }
+left_at r file at = record r { entries = without r.entries file at; room = r.room + 1 }
 
 abbrev pub lowered_by : (low : ℕ) → Entry → Entry
 lowered_by low e = record e { height = e.height - low }
@@ -75,9 +77,17 @@ lowered_by low e = record e { height = e.height - low }
 abbrev pub lowered : Ranking → Ranking
 lowered r =
     if nat_lt MAX_LOW r.low
-    then record { low = 0; entries = map (lowered_by r.low) r.entries; room = r.room }
+    then record r { low = 0; entries = map (lowered_by r.low) r.entries }
     else r
 
 -- an entry is evicted: L becomes the height that it had
 abbrev pub evicted_at : Ranking → (file at : ℕ) → Ranking
 evicted_at r file at = lowered (record (left_at r file at) { low = (entry_or r.entries file at).height })
+
+-- a place of the room is kept
+abbrev pub with_one_kept : Ranking → Ranking
+with_one_kept r = record r { room = r.room - 1; kept = r.kept + 1 }
+
+-- a place that was kept is room again
+abbrev pub with_one_given_back : Ranking → Ranking
+with_one_given_back r = record r { room = r.room + 1; kept = r.kept - 1 }

@@ -116,6 +116,13 @@ impl Entries {
         Ok(())
     }
 
+    /// How many more may come in without memory.
+    pub(crate) fn room(&self) -> usize
+        ensures { result ≡ self.now.room }
+    {
+        self.room
+    }
+
     /// The entry at a place.
     pub(crate) fn get(&self, file: FileId, at: u32) -> Entry
         requires { entry_at self.now.entries file at ≢ None }

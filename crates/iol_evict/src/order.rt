@@ -1,6 +1,6 @@
 //! The order in which parts of files are evicted.
 ghost use Rattle.std.specs.Prelude.{◌≡◌, ◌≢◌, ℕ, ◌+◌, ◌-◌, ◌*◌, ◌/◌, ◌^◌, ◌<◌, ◌≤◌, [], All, true, false, None, MatchOption, OnOk, OnErr, IsOk};
-ghost use Rattle.iol_evict.specs.Ranking.{Ranking, worth, entry_at, entry_or, entered, hit_at, left_at, evicted_at};
+ghost use Rattle.iol_evict.specs.Ranking.{Ranking, worth, entry_at, entry_or, entered, hit_at, left_at, evicted_at, with_one_kept, with_one_given_back};
 ghost use Rattle.iol_evict.specs.Victims.{IsVictim};
 
 use crate::entries::Entries;
@@ -12,26 +12,35 @@ use std::marker::Model;
 
 /// Parts of files, in the order in which they are evicted.
 ///
-/// A contract sees L, the entries in the order of file and place, and the room: how many more may enter without memory.
-/// No call but `reserve` wants memory, and none walks the entries, but `least` those in use that go first, and `leave`
+/// A contract sees L, the entries in the order of file and place, the room: how many more may enter without memory, and
+/// how many places are kept beside it. No call but `reserve` wants memory, and none walks the entries, but `least` those in use that go first, and `leave`
 /// once L is past 2^62.
 #[derive(Drop)]
 pub struct Order {
     entries: Entries,
     low: u64,
+    // Of the room for entries, so much is kept.
+    kept: usize,
 }
 
 impl Model for Order {
-    ghost use Rattle.std.specs.Prelude.{◌≤◌};
+    ghost use Rattle.std.specs.Prelude.{◌-◌, ◌≤◌};
     ghost use Rattle.iol_evict.specs.Ranking.{Ranking};
     ghost use Rattle.iol_evict.specs.declared.entry.TheConstants.{MAX_LOW};
 
     ghost Value = { Ranking };
 
-    ghost view = { λ o.
-        record { low = o.low; entries = o.entries.entries; room = o.entries.room } };
+    ghost view = { λ o. record {
+      low = o.low;
+      entries = o.entries.entries;
+      room = o.entries.room - o.kept;
+      kept = o.kept;
+    } };
 
-    ghost invariant = { λ o. o.low ≤ MAX_LOW };
+    ghost invariant = { λ o. record {
+      low : o.low ≤ MAX_LOW;
+      kept : o.kept ≤ o.entries.room;
+    } };
 }
 
 // How far above L an entry begins.
@@ -46,16 +55,17 @@ fn worth_of(size: u32, cost: u32) -> u64
 impl Order {
     /// An order without entries and room, and with L at 0.
     pub fn new(alloc: Global) -> Order
-        ensures { result ≡ record { low = 0; entries = []; room = 0 } }
+        ensures { result ≡ record { low = 0; entries = []; room = 0; kept = 0 } }
     {
         Order {
             entries: Entries::new(alloc),
             low: 0,
+            kept: 0,
         }
     }
 
-    /// Makes room for so many entries more. Where there is as much already, it wants no memory. Refused, it leaves the
-    /// room that there was.
+    /// Makes room for so many entries more, beside the places that are kept. Where there is as much already, it wants no
+    /// memory. Refused, it leaves the room that there was.
     pub fn reserve(&mut self, count: usize) -> Result<(), AllocError>
         ensures room { OnOk result (count ≤ self.new.room) }
         ensures same { self.new ≡ record self.old { room = self.new.room } }
@@ -63,8 +73,31 @@ impl Order {
         ensures err { OnErr result (self.new.room ≡ self.old.room) }
         ensures succeeds { count ≤ self.old.room → IsOk result }
     {
-        self.entries.reserve(count)?;
+        if count <= self.entries.room() - self.kept {
+            return Ok(());
+        }
+        let Some(places) = count.checked_add(self.kept) else {
+            return Err(AllocError);
+        };
+        self.entries.reserve(places)?;
         Ok(())
+    }
+
+    /// Keeps a place of the room for an entry to come, until it is given back.
+    pub fn keep(&mut self)
+        requires { 0 < self.old.room }
+        ensures { self.new ≡ with_one_kept self.old }
+    {
+        let _places = self.entries.room();
+        self.kept += 1;
+    }
+
+    /// Gives a place back that was kept.
+    pub fn give_back(&mut self)
+        requires { 0 < self.old.kept }
+        ensures { self.new ≡ with_one_given_back self.old }
+    {
+        self.kept -= 1;
     }
 
     /// Puts the part of a file that begins at `at` in, in room that was made for it.

@@ -7,6 +7,7 @@ use Rattle.iol_hold.proofs.Releasing.{frees_trans}
 use Rattle.iol_hold.proofs.Reading.{readable_stays}
 use Rattle.iol_cache.specs.Gaps.{all_parts}
 use Rattle.iol_cache.proofs.Replaced.{counts_part, covers_moved, fewer, follows_then, met_begins_at, met_less, moves_on, readable_less}
+use Rattle.iol_cache.proofs.Ready.{ready_after}
 use Rattle.iol_cache.proofs.replacing.clear_range.Goals as goal
 
 pub take_out-requires-clause-begins : goal.take_out-requires-clause-begins
@@ -29,6 +30,7 @@ loop-at-preserved c =
       others = ap (λ (xs : List Extent). unmet xs c.args.from c.args.to) c.take_out.ensures.extents ∙ met_less es c.args.from c.args.to c.in-Some.at v.apart c.in-Some.ensures ∙ v.others;
       room = omega (arith, v.room, c.take_out.ensures.room);
       follows = follows_then v.follows c.take_out.ensures.follows;
+      ready = ready_after c.take_out.ensures.follows v.ready;
       order_room = omega (arith, v.order_room, c.take_out.ensures.order_room);
       moves = moves;
       frees = frees_trans v.frees c.take_out.ensures.frees (counts_part es c.in-Some.at c.in-Some.ensures.extent (met_begins_at es c.args.from c.args.to c.in-Some.at v.apart c.in-Some.ensures)

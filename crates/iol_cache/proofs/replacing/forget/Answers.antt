@@ -6,6 +6,7 @@ use Rattle.iol_cache.specs.Cached.{parts_in}
 use Rattle.iol_cache.specs.Marks.{AreWithin, HaveMarks, Unmarks}
 use Rattle.iol_cache.specs.Replacing.{Follows}
 use Rattle.iol_cache.proofs.Replaced.{begins_over, clean_goes, dirty_goes, entry_some, marks_of, nothing_begins}
+use Rattle.iol_cache.proofs.Ready.{some_kept}
 use Rattle.iol_cache.proofs.replacing.forget.Goals as goal
 
 pub returns-in_default-clause-follows : goal.returns-in_default-clause-follows
@@ -15,7 +16,15 @@ pub returns-then-dirty-clause-follows : goal.returns-then-dirty-clause-follows
 returns-then-dirty-clause-follows c =
     let es = c.args.extents.now.extents in
     let x = extent_of c.in-Some._begin c.in-Some.agg.now c.in-Some.dirty in
-    dirty_goes c.args.file es c.args.at x c.args.order.now c.args.marks.now (begins_over es c.args.at x c.requires.apart c.requires.begins c.in-Some.ensures.extent) c.if-dirty.true
+    let begins = begins_over es c.args.at x c.requires.apart c.requires.begins c.in-Some.ensures.extent in
+    subst (λ (r : Ranking). Follows c.args.file es (without_at es c.args.at) c.args.order.now r c.args.marks.now c.args.marks.now) (sym c.give_back.ensures)
+    (dirty_goes c.args.file es c.args.at x c.args.order.now c.args.marks.now begins c.if-dirty.true (some_kept c.args.order.now es c.args.at x begins c.if-dirty.true c.requires.ready))
+
+pub give_back-requires : goal.give_back-requires
+give_back-requires c =
+    let es = c.args.extents.now.extents in
+    let x = extent_of c.in-Some._begin c.in-Some.agg.now c.in-Some.dirty in
+    some_kept c.args.order.now es c.args.at x (begins_over es c.args.at x c.requires.apart c.requires.begins c.in-Some.ensures.extent) c.if-dirty.true c.requires.ready
 
 pub unmark-requires-clause-within : goal.unmark-requires-clause-within
 unmark-requires-clause-within c =

@@ -11,8 +11,9 @@ use Rattle.iol_cache.proofs.replacing.put_edge.Goals as goal
 pub returns-then-dirty-clause-follows : goal.returns-then-dirty-clause-follows
 returns-then-dirty-clause-follows c =
     let es = c.args.extents.now.extents in
-    subst (λ (xs : List Extent). Follows c.args.file es xs c.args.order.now c.args.order.now c.args.marks.now c.args.marks.now) (sym c.put.ensures.extents)
-    (dirty_comes c.args.file es (extent_of c.edge.inside.at c.edge.inside.agg true) c.args.order.now c.args.marks.now refl)
+    subst (λ (xs : List Extent). Follows c.args.file es xs c.args.order.now c.keep.new.self c.args.marks.now c.args.marks.now) (sym c.put.ensures.extents)
+    (subst (λ (r : Ranking). Follows c.args.file es (put_in es (extent_of c.edge.inside.at c.edge.inside.agg true)) c.args.order.now r c.args.marks.now c.args.marks.now) (sym c.keep.ensures)
+    (dirty_comes c.args.file es (extent_of c.edge.inside.at c.edge.inside.agg true) c.args.order.now c.args.marks.now refl))
 
 pub enter-requires-clause-absent : goal.enter-requires-clause-absent
 enter-requires-clause-absent c =

@@ -1,7 +1,8 @@
 use Rattle.std.proofs.Common.{◌≡◌, ◌∙◌, ℕ, ◌+◌, ◌<◌, ◌≤◌, true, false, List, length, Option, Some, IfSome, IsSome, refl, sym, ap, arith, subst}
 use Rattle.iol_hold.specs.Places.{byte_len}
 use Rattle.iol_hold.specs.declared.slices.Slice.{Slice}
-use Rattle.iol_extent.specs.Extents.{Extent, IsApart, IsGap, Lacks, begins_at, extent_of, last_end, put_in}
+use Rattle.iol_evict.specs.Ranking.{Ranking, with_one_given_back}
+use Rattle.iol_extent.specs.Extents.{Extent, IsApart, IsGap, Lacks, begins_at, extent_of, last_end, put_in, without_at}
 use Rattle.iol_cache.specs.Cached.{parts_in}
 use Rattle.iol_cache.specs.Marks.{AreWithin, HasMarksLeft}
 use Rattle.iol_cache.specs.Reading.{RanksFile}
@@ -10,6 +11,7 @@ use Rattle.iol_cache.specs.Syncing.{IsFirstDirty, as_clean}
 use Rattle.iol_cache.proofs.Cleaned.{cleaned_put, dirty_some, first_dirty}
 use Rattle.iol_cache.proofs.Evicted.{given_is}
 use Rattle.iol_cache.proofs.Extending.{last_end-without_at, over_yes}
+use Rattle.iol_cache.proofs.Ready.{some_kept}
 use Rattle.iol_cache.proofs.Replaced.{dirty_goes, follows_then, put_one}
 use Rattle.iol_cache.proofs.syncing.settle.Goals as goal
 
@@ -50,6 +52,14 @@ remove-agg-requires c =
     let d = c.requires.dirty in
     subst IsSome (sym (ap (begins_at es) (sym d.begins) ∙ (first_dirty 0 es d.extent c.requires.apart d.is).0)) refl
 
+pub give_back-requires : goal.give_back-requires
+give_back-requires c =
+    let es = c.args.extents.now.extents in
+    let d = c.requires.dirty in
+    let xs = c.remove-agg.result in
+    let given = c.remove-agg.ensures.given in
+    some_kept c.args.order.now es c.args.at d.extent (begins es c.args.at d c.requires.apart xs given) (dirty es c.args.at d c.requires.apart xs given) c.requires.ready
+
 pub put_edge-requires-clause-fits : goal.put_edge-requires-clause-fits
 put_edge-requires-clause-fits c = λ h. omega (arith, fits c.args.extents.now.extents c.args.at c.requires.dirty c.requires.apart c.remove-agg.result c.remove-agg.ensures.given, c.requires.short)
 
@@ -61,8 +71,12 @@ put_edge-requires-clause-ranked c =
     let es = c.args.extents.now.extents in
     let d = c.requires.dirty in
     let xs = c.remove-agg.result in
-    let goes = dirty_goes c.args.file es c.args.at d.extent c.args.order.now c.args.marks.now (begins es c.args.at d c.requires.apart xs c.remove-agg.ensures.given) (dirty es c.args.at d c.requires.apart xs c.remove-agg.ensures.given) in
-    subst (RanksFile c.args.order.now c.args.file) (sym c.remove-agg.ensures.extents) (goes.ranked c.requires.ranked)
+    let given = c.remove-agg.ensures.given in
+    let there = begins es c.args.at d c.requires.apart xs given in
+    let is_dirty = dirty es c.args.at d c.requires.apart xs given in
+    let goes = dirty_goes c.args.file es c.args.at d.extent c.args.order.now c.args.marks.now there is_dirty (some_kept c.args.order.now es c.args.at d.extent there is_dirty c.requires.ready) in
+    subst (λ (r : Ranking). RanksFile r c.args.file c.remove-agg.new.self.extents) (sym c.give_back.ensures)
+    (subst (RanksFile (with_one_given_back c.args.order.now) c.args.file) (sym c.remove-agg.ensures.extents) (goes.ranked c.requires.ranked))
 
 pub put_edge-requires-clause-within : goal.put_edge-requires-clause-within
 put_edge-requires-clause-within c = subst (AreWithin (length c.args.marks.now)) (parts c.args.extents.now.extents c.args.at c.requires.dirty c.requires.apart c.remove-agg.result c.remove-agg.ensures.given) c.requires.within
@@ -91,5 +105,8 @@ returns-clause-follows c =
     let d = c.requires.dirty in
     let xs = c.remove-agg.result in
     let given = c.remove-agg.ensures.given in
-    let goes = dirty_goes c.args.file es at d.extent c.args.order.now c.args.marks.now (begins es at d c.requires.apart xs given) (dirty es at d c.requires.apart xs given) in
-    follows_then goes (subst (λ (l : List Extent). Follows c.args.file l c.put_edge.new.extents.extents c.args.order.now c.put_edge.new.order c.args.marks.now c.put_edge.new.marks) c.remove-agg.ensures.extents c.put_edge.ensures.follows)
+    let there = begins es at d c.requires.apart xs given in
+    let is_dirty = dirty es at d c.requires.apart xs given in
+    let goes = dirty_goes c.args.file es at d.extent c.args.order.now c.args.marks.now there is_dirty (some_kept c.args.order.now es at d.extent there is_dirty c.requires.ready) in
+    let gone = subst (λ (r : Ranking). Follows c.args.file es (without_at es at) c.args.order.now r c.args.marks.now c.args.marks.now) (sym c.give_back.ensures) goes in
+    follows_then gone (subst (λ (l : List Extent). Follows c.args.file l c.put_edge.new.extents.extents c.give_back.new.self c.put_edge.new.order c.args.marks.now c.put_edge.new.marks) c.remove-agg.ensures.extents c.put_edge.ensures.follows)

@@ -96,7 +96,7 @@ same_files c d f n x m is numbered there same files orders marks =
     let y : CachedFile = record { pool = x.pool; extents = m } in
     same_room c d f y numbered (files ∙ ap (λ k. set c.files (k - 1) y) is ∙ file_set c.files f y numbered.0) (ap (λ (z : CachedFile). z.pool) there)
     (ap (λ (z : ExtentMap). z.extents) same ∙ ap (λ (z : CachedFile). z.extents.extents) there)
-    (λ p. ap (λ os. (order_in os p).entries) orders) (λ p. ap (λ os. (order_in os p).low) orders) (ap length orders) marks
+    (λ p. ap (λ os. (order_in os p).entries) orders) (λ p. ap (λ os. (order_in os p).low) orders) (λ p. ap (λ os. (order_in os p).kept) orders) (ap length orders) marks
 
 pub returns-in-Err-clause-sound : goal.returns-in-Err-clause-sound
 returns-in-Err-clause-sound g c =

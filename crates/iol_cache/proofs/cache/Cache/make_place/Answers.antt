@@ -14,6 +14,7 @@ use Rattle.iol_cache.specs.Overwriting.{MakesRoom}
 use Rattle.iol_cache.specs.Pinned.{pinned_beside}
 use Rattle.iol_cache.specs.Reading.{SameButRoom}
 use Rattle.iol_cache.proofs.Filing.{file_at_number, numbered_bounds}
+use Rattle.iol_cache.proofs.Roomy.{sound_same}
 use Rattle.iol_cache.proofs.cache.Cache.make_place.Goals as goal
 
 module _ (s : Stored) (source : List Slice) (fs : List CachedFile) (f n : ℕ) (x : CachedFile) (is : x ≡ file_in fs f) (pages : n ≡ copied_pages x.pool source) where
@@ -39,6 +40,12 @@ module _ (s : Stored) (source : List Slice) (fs : List CachedFile) (f n : ℕ) (
 
   pages_are : length (pages_of s x.pool) ≡ length (pages_of s p)
   pages_are = ap (λ (y : CachedFile). length (pages_of s y.pool)) is
+
+pub returns-in_default-clause-sound : goal.returns-in_default-clause-sound
+returns-in_default-clause-sound c = sound_same c.args.store.now (cached_of c.args.self.now) (cached_of c.reserve_places.new.self) c.requires.sound c.in_default.ensures.same
+
+pub make_room-requires-clause-sound : goal.make_room-requires-clause-sound
+make_room-requires-clause-sound c = sound_same c.args.store.now (cached_of c.args.self.now) (cached_of c.reserve_places.new.self) c.requires.sound c.in-Ok.ensures.same
 
 pub make_room-requires-clause-open : goal.make_room-requires-clause-open
 make_room-requires-clause-open c =

@@ -24,26 +24,32 @@ share_hits-requires-clause-covered c =
     let x = file_at_number fs c.args.file c.number.result c.index.result.now c.number.ensures (numbered_bounds fs c.args.file c.requires.file) c.index.ensures in
     let tile = subst (λ (y : CachedFile). Tile y.extents.extents c.args.from c.args.to c.in_ok-found.found.hits.items c.in_ok-found.found.gaps.items) x c.in_ok-found.ensures in
     let beside = tile_beside (extents_in fs c.args.file) c.args.from c.args.to c.in_ok-found.found.hits.items c.in_ok-found.found.gaps.items tile in
-    let here = subst (λ (es : List Extent). IsCoveredBeside es c.args.from c.args.to c.in_ok-found.found.gaps.items) (sym (c.reserve.ensures.same.extents c.args.file)) beside in
-    subst (λ (gs : List Span). IsCoveredBeside (extents_in c.reserve.new.self.files.items c.args.file) c.args.from c.args.to gs) (sym c.deref-2.ensures.value) here
+    let here = subst (λ (es : List Extent). IsCoveredBeside es c.args.from c.args.to c.in_ok-found.found.gaps.items) (sym (c.reserve_places.ensures.same.extents c.args.file)) beside in
+    subst (λ (gs : List Span). IsCoveredBeside (extents_in c.reserve_places.new.self.files.items c.args.file) c.args.from c.args.to gs) (sym c.deref-2.ensures.value) here
+
+pub returns-in_err-reserve_places-clause-sound : goal.returns-in_err-reserve_places-clause-sound
+returns-in_err-reserve_places-clause-sound c = sound_same c.args.store.now (cached_of c.args.self.now) (cached_of c.reserve_places.new.self) c.requires.sound c.reserve_places.ensures.same
+
+pub share_hits-requires-clause-sound : goal.share_hits-requires-clause-sound
+share_hits-requires-clause-sound c = sound_same c.args.store.now (cached_of c.args.self.now) (cached_of c.reserve_places.new.self) c.requires.sound c.reserve_places.ensures.same
 
 pub returns-in_err-pins-clause-sound : goal.returns-in_err-pins-clause-sound
 returns-in_err-pins-clause-sound c =
     let s = c.args.store.now in
     let t = c.share_hits.new.store in
-    let now = cached_of c.reserve.new.self in
-    let sound = sound_same s (cached_of c.args.self.now) now c.requires.sound c.reserve.ensures.same in
+    let now = cached_of c.reserve_places.new.self in
+    let sound = sound_same s (cached_of c.args.self.now) now c.requires.sound c.reserve_places.ensures.same in
     subst (λ (x : Cache). IsSound t (cached_of x)) (sym c.in_err-pins.ensures.err) (sound_to s t now sound c.in_err-pins.ensures.none c.share_hits.ensures.lists c.share_hits.ensures.frees.count)
 
 pub returns-clause-pinned : goal.returns-clause-pinned
 returns-clause-pinned c =
     let fs = c.args.self.now.files.items in
     let s = c.args.store.now in
-    let now = cached_of c.reserve.new.self in
+    let now = cached_of c.reserve_places.new.self in
     let next = cached_of c.share_hits.new.self in
     let found = c.in_ok-found.found in
     let x = file_at_number fs c.args.file c.number.result c.index.result.now c.number.ensures (numbered_bounds fs c.args.file c.requires.file) c.index.ensures in
-    let same = c.reserve.ensures.same in
+    let same = c.reserve_places.ensures.same in
     let sound = sound_same s (cached_of c.args.self.now) now c.requires.sound same in
     let counted = subst (λ (hs : List Span). CountsHits c.args.file hs now next) c.deref.ensures.value c.in_ok-pins.ensures.counted in
     record {
@@ -54,17 +60,17 @@ returns-clause-pinned c =
       reserved = now;
       rooms = same;
       counted = counted;
-      space = omega (arith, c.len.ensures, c.in_ok-reserve.ensures.extents, ap (λ gs. (file_in gs c.args.file).extents.room) counted.files);
-      entries = hits_entries_left s now next c.args.file (length found.gaps.items) found.hits.items sound (numbered_same (cached_of c.args.self.now) now c.args.file same c.requires.file) counted (omega (arith, c.len.ensures, c.in_ok-reserve.ensures.entries, ap (λ p. (order_in now.orders p).room) (same.pools c.args.file)));
+      space = omega (arith, c.len.ensures, c.in_ok-reserve_places.ensures.extents, ap (λ gs. (file_in gs c.args.file).extents.room) counted.files);
+      entries = hits_entries_left s now next c.args.file (length found.gaps.items) found.hits.items sound (numbered_same (cached_of c.args.self.now) now c.args.file same c.requires.file) counted (omega (arith, c.len.ensures, c.in_ok-reserve_places.ensures.entries, ap (λ p. (order_in now.orders p).room) (same.pools c.args.file)));
     }
 
 pub returns-clause-sound : goal.returns-clause-sound
 returns-clause-sound c =
     let s = c.args.store.now in
     let t = c.share_hits.new.store in
-    let now = cached_of c.reserve.new.self in
+    let now = cached_of c.reserve_places.new.self in
     let next = cached_of c.share_hits.new.self in
-    let same = c.reserve.ensures.same in
+    let same = c.reserve_places.ensures.same in
     let sound = sound_same s (cached_of c.args.self.now) now c.requires.sound same in
     let shares = c.in_ok-pins.ensures.shares in
     let sound-t = sound_on s t now sound (shares_move shares) (still_covers sound.covered shares) c.share_hits.ensures.lists c.share_hits.ensures.frees.count in

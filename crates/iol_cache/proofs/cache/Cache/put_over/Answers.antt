@@ -9,10 +9,11 @@ use Rattle.iol_cache.specs.Cache.{cached_of, holding}
 use Rattle.iol_cache.specs.Cutting.{CutsLeft, CutsRight}
 use Rattle.iol_cache.specs.Gaps.{all_parts}
 use Rattle.iol_cache.specs.Reading.{RanksFile}
-use Rattle.iol_cache.specs.Replacing.{Follows, HaveClean, put_some}
+use Rattle.iol_cache.specs.Replacing.{Follows, HaveClean, IsReady, put_some}
 use Rattle.iol_cache.specs.Writing.{parts_put}
 use Rattle.iol_cache.proofs.Filing.{file_at_number, file_set, order_at_number, order_set, numbered_bounds}
 use Rattle.iol_cache.proofs.Ranged.{laid_readable}
+use Rattle.iol_cache.proofs.Ready.{is_ready}
 use Rattle.iol_cache.proofs.Roomy.{ranks_file}
 use Rattle.iol_cache.proofs.Written.{left_len, have_clean, covers_put, marks_left, sound_put}
 use Rattle.iol_cache.proofs.cache.Cache.put_over.Goals as goal
@@ -67,6 +68,19 @@ replace_range-requires-clause-ranked c =
     let o = order_at_number c.args.self.now.orders.items (file_in fs c.args.file).pool c.number-2.result c.index_mut.result.now pool ob c.index_mut.ensures.value in
     subst (λ (y : CachedFile). RanksFile c.index_mut.result.now c.args.file y.extents.extents) (sym x)
     (subst (λ (q : Ranking). RanksFile q c.args.file (extents_in fs c.args.file)) (sym o) (ranks_file c.args.store.now (cached_of c.args.self.now) c.args.file c.requires.sound))
+
+pub replace_range-requires-clause-ready : goal.replace_range-requires-clause-ready
+replace_range-requires-clause-ready c =
+    let fs = c.args.self.now.files.items in
+    let os = c.args.self.now.orders.items in
+    let nb = numbered_bounds fs c.args.file c.requires.file in
+    let x = file_at_number fs c.args.file c.number.result c.index_mut-2.result.now c.number.ensures nb c.index_mut-2.ensures.value in
+    let w = file_at_number fs c.args.file c.number.result c.index.result.now c.number.ensures nb c.index.ensures in
+    let ob = numbered_bounds os (file_in fs c.args.file).pool (c.requires.sound.opened c.args.file c.requires.file).ordered in
+    let pool = c.number-2.ensures ∙ ap (λ (y : CachedFile). y.pool) w in
+    let o = order_at_number os (file_in fs c.args.file).pool c.number-2.result c.index_mut.result.now pool ob c.index_mut.ensures.value in
+    subst (λ (y : CachedFile). IsReady c.index_mut.result.now y.extents.extents) (sym x)
+    (subst (λ (q : Ranking). IsReady q (extents_in fs c.args.file)) (sym o) (is_ready fs os c.args.file c.requires.sound.ready))
 
 pub replace_range-requires-clause-marked : goal.replace_range-requires-clause-marked
 replace_range-requires-clause-marked c =

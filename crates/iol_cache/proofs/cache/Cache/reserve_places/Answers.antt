@@ -6,7 +6,7 @@ use Rattle.iol_cache.specs.Reading.{SameButRoom}
 use Rattle.iol_cache.specs.Cached.{Cached, file_in, with_file, order_in, with_order}
 use Rattle.iol_cache.specs.Cache.{cached_of}
 use Rattle.iol_cache.proofs.Filing.{file_at_number, file_set, file_same, order_at_number, order_set, order_same, numbered_bounds, length-with_order}
-use Rattle.iol_cache.proofs.Roomy.{same_room, order_room, order_low}
+use Rattle.iol_cache.proofs.Roomy.{same_room, order_room, order_kept, order_low}
 use Rattle.iol_cache.proofs.cache.Cache.reserve_places.Goals as goal
 
 set_files : (fs : List CachedFile) (f n : ℕ) (x : CachedFile) → n ≡ f → 0 < f → set fs (n - 1) x ≡ with_file fs f x
@@ -30,7 +30,7 @@ index_mut-requires-2 c =
     omega (arith, b.0, b.1, c.number-2.ensures, ap (λ (y : CachedFile). y.pool) x, c.args.self.now.orders.ok.0)
 
 same_reserved : (c d : Cached) (f n k : ℕ) (x : CachedFile) (m : ExtentMap) (r q : Ranking) → n ≡ f → (0 < f) × (f ≤ length c.files) → x ≡ file_in c.files f → m ≡ (let y : ExtentMap = record { extents = x.extents.extents; room = m.room } in y)
-    → k ≡ (file_in c.files f).pool → (0 < (file_in c.files f).pool) × ((file_in c.files f).pool ≤ length c.orders) → r ≡ order_in c.orders (file_in c.files f).pool → q ≡ (let y : Ranking = record { low = r.low; entries = r.entries; room = q.room } in y)
+    → k ≡ (file_in c.files f).pool → (0 < (file_in c.files f).pool) × ((file_in c.files f).pool ≤ length c.orders) → r ≡ order_in c.orders (file_in c.files f).pool → q ≡ (let y : Ranking = record r { room = q.room } in y)
     → d.files ≡ set c.files (n - 1) (record { pool = x.pool; extents = m }) → d.orders ≡ set c.orders (k - 1) q → d.marks ≡ c.marks → SameButRoom c d
 same_reserved c d f n k x m r q is numbered there extents pool ordered order ranking files orders marks =
     let p = (file_in c.files f).pool in
@@ -39,6 +39,7 @@ same_reserved c d f n k x m r q is numbered there extents pool ordered order ran
     (ap (λ (y : ExtentMap). y.extents) extents ∙ ap (λ (y : CachedFile). y.extents.extents) there)
     (λ g. ap (λ os. (order_in os g).entries) now ∙ order_room c.orders p q g ordered (ap (λ (y : Ranking). y.entries) ranking ∙ ap (λ (y : Ranking). y.entries) order))
     (λ g. ap (λ os. (order_in os g).low) now ∙ order_low c.orders p q g ordered (ap (λ (y : Ranking). y.low) ranking ∙ ap (λ (y : Ranking). y.low) order))
+    (λ g. ap (λ os. (order_in os g).kept) now ∙ order_kept c.orders p q g ordered (ap (λ (y : Ranking). y.kept) ranking ∙ ap (λ (y : Ranking). y.kept) order))
     (ap length now ∙ length-with_order c.orders p q) marks
 
 pub returns-in_err-reserve-2-clause-same : goal.returns-in_err-reserve-2-clause-same

@@ -13,17 +13,18 @@ use Rattle.iol_cache.specs.Cache.{cached_of}
 use Rattle.iol_cache.specs.Cached.{Cached, extents_in, file_in, parts_in}
 use Rattle.iol_cache.specs.Marks.{AreWithin, HasMarksLeft}
 use Rattle.iol_cache.specs.Reading.{RanksFile}
-use Rattle.iol_cache.specs.Replacing.{Follows}
+use Rattle.iol_cache.specs.Replacing.{Follows, IsReady}
 use Rattle.iol_cache.specs.Sharing.{CountsBelow}
 use Rattle.iol_cache.specs.Sound.{IsLaid, IsSound}
-use Rattle.iol_cache.specs.Syncing.{IsFirstDirty, Stores, cleaned_at, dirty_count}
-use Rattle.iol_cache.proofs.Cleaned.{count-cleaned, dirty_some, first_dirty}
+use Rattle.iol_cache.specs.Syncing.{IsFirstDirty, Stores, cleaned_at}
+use Rattle.iol_cache.proofs.Cleaned.{dirty_some, first_dirty}
 use Rattle.iol_cache.proofs.Composed.{length-bytes}
 use Rattle.iol_cache.proofs.Extending.{last_end-without_at}
 use Rattle.iol_cache.proofs.Filing.{each-begins, file_at_number, file_set, numbered_bounds, order_at_number, order_set}
+use Rattle.iol_cache.proofs.Ready.{is_ready}
 use Rattle.iol_cache.proofs.Roomy.{ranks_file}
 use Rattle.iol_cache.proofs.Stepping.{mark_few, page_len}
-use Rattle.iol_cache.proofs.Synced.{cleaned_sound}
+use Rattle.iol_cache.proofs.Synced.{clean_bytes, clean_mirrors, cleaned_sound, fail_bytes, fail_stored}
 use Rattle.iol_cache.proofs.Using.{are_within, covers_at}
 use Rattle.iol_cache.proofs.cache.Cache.store_first.Goals as goal
 
@@ -58,9 +59,6 @@ module _ (s : Stored) (c : Cached) (f : ℕ) (sound : IsSound s c) (y : CachedFi
 
   left : CountsBelow s (2 ^ 61) → HasMarksLeft c.marks (parts_in (begins_at es x.at))
   left few = subst (HasMarksLeft c.marks) (sym (ap parts_in begins)) (record { each = λ q. omega (arith, mark_few s c (2 ^ 61) q sound few (omega arith), page_len q x.parts, short) })
-
-  counted : 0 < dirty_count es
-  counted = omega (arith, count-cleaned es x.at x apart begins (first_dirty 0 es x apart here).1)
 
 pub returns-in_default-clause-stores : goal.returns-in_default-clause-stores
 returns-in_default-clause-stores g c =
@@ -156,16 +154,18 @@ settle-requires-clause-ranked g c =
     subst (λ (y : CachedFile). RanksFile c.index_mut.result.now c.args.file y.extents.extents) (sym z)
     (subst (λ (q : Ranking). RanksFile q c.args.file (extents_in fs c.args.file)) (sym o) (ranks_file c.args.store.now (cached_of c.args.self.now) c.args.file c.requires.sound))
 
-pub settle-requires-clause-room : goal.settle-requires-clause-room
-settle-requires-clause-room g c =
+pub settle-requires-clause-ready : goal.settle-requires-clause-ready
+settle-requires-clause-ready g c =
     let fs = c.args.self.now.files.items in
+    let os = c.args.self.now.orders.items in
     let nb = numbered_bounds fs c.args.file c.requires.file in
-    let y = file_at_number fs c.args.file c.number.result c.index-2.result.now c.number.ensures nb c.index-2.ensures in
+    let z = file_at_number fs c.args.file c.number.result c.index_mut-2.result.now c.number.ensures nb c.index_mut-2.ensures.value in
     let w = file_at_number fs c.args.file c.number.result c.index.result.now c.number.ensures nb c.index.ensures in
-    let ob = numbered_bounds c.args.self.now.orders.items (file_in fs c.args.file).pool (c.requires.sound.opened c.args.file c.requires.file).ordered in
+    let ob = numbered_bounds os (file_in fs c.args.file).pool (c.requires.sound.opened c.args.file c.requires.file).ordered in
     let pool = c.number-2.ensures ∙ ap (λ (y : CachedFile). y.pool) w in
-    let o = order_at_number c.args.self.now.orders.items (file_in fs c.args.file).pool c.number-2.result c.index_mut.result.now pool ob c.index_mut.ensures.value in
-    omega (arith, c.requires.room (counted c.args.store.now (cached_of c.args.self.now) c.args.file c.requires.sound c.index-2.result.now y (extent_of c.in-Some.at c.in-Some.agg.now true) c.in-Some.ensures), ap (λ (r : Ranking). r.room) o)
+    let o = order_at_number os (file_in fs c.args.file).pool c.number-2.result c.index_mut.result.now pool ob c.index_mut.ensures.value in
+    subst (λ (y : CachedFile). IsReady c.index_mut.result.now y.extents.extents) (sym z)
+    (subst (λ (q : Ranking). IsReady q (extents_in fs c.args.file)) (sym o) (is_ready fs os c.args.file c.requires.sound.ready))
 
 pub settle-requires-clause-within : goal.settle-requires-clause-within
 settle-requires-clause-within g c =
@@ -215,7 +215,6 @@ returns-clause-stores g c =
       files = ap (λ k. set fs (c.number.result - 1) (let q : CachedFile = record { pool = k; extents = m } in q)) (ap (λ (q : CachedFile). q.pool) z) ∙ ap (λ k. set fs (k - 1) new) c.number.ensures ∙ file_set fs f new nb.0;
       orders = ap (λ k. set os (k - 1) r) pool ∙ order_set os p r ob.0;
       follows = subst (λ (q : Ranking). Follows f (extents_in fs f) m.extents q r c.args.self.now.marks c.settle.new.marks) o (subst (λ (q : CachedFile). Follows f q.extents.extents m.extents c.index_mut.result.now r c.args.self.now.marks c.settle.new.marks) z s.follows);
-      room = omega (arith, s.room, ap (λ (q : Ranking). q.room) o);
       honest = b.honest;
       counts = b.counts;
       others = b.others;
@@ -225,3 +224,20 @@ returns-clause-stores g c =
 pub returns-clause-sound : goal.returns-clause-sound
 returns-clause-sound g c =
     cleaned_sound c.args.store.now c.args.file (cached_of c.args.self.now) _ (g.B.Backing.disk c.args.backing.now) (g.B.Backing.disk c.write_back.new.backing) c.requires.sound c.requires.file (returns-clause-stores g c)
+
+pub returns-in-Err-clause-files : goal.returns-in-Err-clause-files
+returns-in-Err-clause-files g c =
+    fail_bytes c.args.store.now c.args.file (cached_of c.args.self.now) (cached_of c.args.self.now) (g.B.Backing.disk c.args.backing.now) (g.B.Backing.disk c.write_back.new.backing) c.requires.sound (returns-in-Err-clause-stores g c).0
+
+pub returns-in-Err-clause-mirrors : goal.returns-in-Err-clause-mirrors
+returns-in-Err-clause-mirrors g c =
+    fail_stored c.args.store.now c.args.file (cached_of c.args.self.now) (cached_of c.args.self.now) (g.B.Backing.disk c.args.backing.now) (g.B.Backing.disk c.write_back.new.backing) c.requires.sound (returns-in-Err-clause-stores g c).0
+
+pub returns-clause-files : goal.returns-clause-files
+returns-clause-files g c = λ h. record {
+  each = clean_bytes c.args.store.now c.args.file (cached_of c.args.self.now) _ (g.B.Backing.disk c.args.backing.now) (g.B.Backing.disk c.write_back.new.backing) c.requires.sound c.requires.file (returns-clause-stores g c) h;
+}
+
+pub returns-clause-mirrors : goal.returns-clause-mirrors
+returns-clause-mirrors g c =
+    clean_mirrors c.args.store.now c.args.file (cached_of c.args.self.now) _ (g.B.Backing.disk c.args.backing.now) (g.B.Backing.disk c.write_back.new.backing) c.requires.sound c.requires.file (returns-clause-stores g c)

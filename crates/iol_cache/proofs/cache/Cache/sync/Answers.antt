@@ -1,14 +1,14 @@
-use Rattle.std.proofs.Common.{◌≡◌, ◌∙◌, ℕ, ◌+◌, ◌<◌, ◌≤◌, Bool, true, false, cond, None, Ok, sym, ap, arith, subst}
+use Rattle.std.proofs.Common.{◌≡◌, ◌∙◌, ℕ, ◌+◌, ◌<◌, Bool, true, false, cond, None, Ok, sym, ap, arith, subst}
 use Rattle.iol_back.specs.Disk.{Disk}
 use Rattle.iol_core.specs.Numbered.{is_numbered}
 use Rattle.iol_hold.specs.Stored.{Stored}
 use Rattle.iol_extent.specs.Extents.{dirty_in}
 use Rattle.iol_cache.specs.Cache.{cached_of}
-use Rattle.iol_cache.specs.Cached.{Cached, extents_in, file_in, order_in}
+use Rattle.iol_cache.specs.Cached.{Cached, dirty_count, extents_in}
 use Rattle.iol_cache.specs.Sound.{IsSound}
-use Rattle.iol_cache.specs.Syncing.{StoresFirst, Syncs, dirty_count}
+use Rattle.iol_cache.specs.Syncing.{StoresFirst, Syncs}
 use Rattle.iol_cache.proofs.Filing.{numbered_bounds, numbered_yes}
-use Rattle.iol_cache.proofs.Synced.{clean_fewer, clean_room, syncs_fail, syncs_more}
+use Rattle.iol_cache.proofs.Synced.{clean_fewer, syncs_fail, syncs_more}
 use Rattle.iol_cache.proofs.cache.Cache.sync.Goals as goal
 
 still_there : (s : Stored) (f : ℕ) (old new : Cached) (d e : Disk) → Syncs s f old new d e → is_numbered old.files f ≡ true → is_numbered new.files f ≡ true
@@ -18,16 +18,15 @@ true_false : true ≡ false → ⊥
 true_false h = cc
 
 -- what holds after the first dirty extent was written back, or there was none
-after : (s : Stored) (f : ℕ) (old mid new : Cached) (d m e : Disk) → IsSound s old → IsSound s mid → is_numbered mid.files f ≡ true → Syncs s f old mid d m → m.failures ≡ d.failures → dirty_count (extents_in mid.files f) ≤ (order_in mid.orders (file_in mid.files f).pool).room
+after : (s : Stored) (f : ℕ) (old mid new : Cached) (d m e : Disk) → IsSound s old → IsSound s mid → is_numbered mid.files f ≡ true → Syncs s f old mid d m → m.failures ≡ d.failures
     → (b : Bool) → StoresFirst s f mid new m e (Ok b)
-    → Syncs s f old new d e × (e.failures ≡ d.failures) × (dirty_count (extents_in new.files f) ≤ (order_in new.orders (file_in new.files f).pool).room) × (b ≡ false → dirty_in (extents_in new.files f) ≡ None) × (dirty_count (extents_in new.files f) + cond {A = ℕ} b 1 0 < dirty_count (extents_in mid.files f) + 1)
-after s f old mid new d m e sound now there a fails room true w =
-    (syncs_more s f old mid new d m e sound now there a w, w.counts.0 ∙ fails, omega (arith, clean_fewer s f mid new m e now there w, clean_room s f mid new m e now there w, room), λ h. absurd (true_false h), omega (arith, clean_fewer s f mid new m e now there w))
-after s f old mid new d m e sound now there a fails room false w =
+    → Syncs s f old new d e × (e.failures ≡ d.failures) × (b ≡ false → dirty_in (extents_in new.files f) ≡ None) × (dirty_count (extents_in new.files f) + cond {A = ℕ} b 1 0 < dirty_count (extents_in mid.files f) + 1)
+after s f old mid new d m e sound now there a fails true w =
+    (syncs_more s f old mid new d m e sound now there a w, w.counts.0 ∙ fails, λ h. absurd (true_false h), omega (arith, clean_fewer s f mid new m e now there w))
+after s f old mid new d m e sound now there a fails false w =
     let none : dirty_in (extents_in new.files f) ≡ None = ap (λ (c : Cached). dirty_in (extents_in c.files f)) w.same ∙ w.none in (
       subst (λ (c : Cached). Syncs s f old c d e) (sym w.same) (subst (Syncs s f old mid d) (sym w.disk) a),
       ap (λ (k : Disk). k.failures) w.disk ∙ fails,
-      subst (λ (c : Cached). dirty_count (extents_in c.files f) ≤ (order_in c.orders (file_in c.files f).pool).room) (sym w.same) room,
       λ h. none,
       omega (arith, ap (λ (c : Cached). dirty_count (extents_in c.files f)) w.same),
     )
@@ -36,6 +35,9 @@ pub returns-in-Err-clause-syncs : goal.returns-in-Err-clause-syncs
 returns-in-Err-clause-syncs g c =
     let v = c.loop-more.invariant in
     syncs_fail c.args.store.now c.args.file (cached_of c.args.self.now) (cached_of c.loop-more.self) (cached_of c.store_first.new.self) (g.B.Backing.disk c.args.backing.now) (g.B.Backing.disk c.loop-more.backing) (g.B.Backing.disk c.store_first.new.backing) v.sound v.syncs c.in-Err.ensures.stores.0
+
+pub returns-in-Err-clause-files : goal.returns-in-Err-clause-files
+returns-in-Err-clause-files g c = (returns-in-Err-clause-syncs g c).contents
 
 pub loop-more-smaller : goal.loop-more-smaller
 loop-more-smaller g c =
@@ -47,8 +49,8 @@ loop-more-smaller g c =
     let d = g.B.Backing.disk c.args.backing.now in
     let m = g.B.Backing.disk c.loop-more.backing in
     let e = g.B.Backing.disk c.store_first.new.backing in
-    let r = after c.args.store.now f old mid new d m e c.requires.sound v.sound (still_there c.args.store.now f old mid d m v.syncs c.requires.file) v.syncs v.failures v.room c.in-Ok.more c.in-Ok.ensures.stores in
-    subst (λ b. dirty_count (extents_in new.files f) + cond {A = ℕ} c.in-Ok.more 1 0 < dirty_count (extents_in mid.files f) + cond {A = ℕ} b 1 0) (sym c.loop-more-test.true) r.4
+    let r = after c.args.store.now f old mid new d m e c.requires.sound v.sound (still_there c.args.store.now f old mid d m v.syncs c.requires.file) v.syncs v.failures c.in-Ok.more c.in-Ok.ensures.stores in
+    subst (λ b. dirty_count (extents_in new.files f) + cond {A = ℕ} c.in-Ok.more 1 0 < dirty_count (extents_in mid.files f) + cond {A = ℕ} b 1 0) (sym c.loop-more-test.true) r.3
 
 pub loop-more-preserved : goal.loop-more-preserved
 loop-more-preserved g c =
@@ -60,5 +62,5 @@ loop-more-preserved g c =
     let d = g.B.Backing.disk c.args.backing.now in
     let m = g.B.Backing.disk c.loop-more.backing in
     let e = g.B.Backing.disk c.store_first.new.backing in
-    let r = after c.args.store.now f old mid new d m e c.requires.sound v.sound (still_there c.args.store.now f old mid d m v.syncs c.requires.file) v.syncs v.failures v.room c.in-Ok.more c.in-Ok.ensures.stores in
-    record { sound = c.store_first.ensures.sound; syncs = r.0; failures = r.1; room = r.2; done = r.3 }
+    let r = after c.args.store.now f old mid new d m e c.requires.sound v.sound (still_there c.args.store.now f old mid d m v.syncs c.requires.file) v.syncs v.failures c.in-Ok.more c.in-Ok.ensures.stores in
+    record { sound = c.store_first.ensures.sound; syncs = r.0; failures = r.1; done = r.2 }
