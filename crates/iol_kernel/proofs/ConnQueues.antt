@@ -30,11 +30,7 @@ conn_at-read_of f h c = ap (λ (o : Option Connection). unwrap_or o machine.no_c
 pub incoming-read_of : (f : Reading) (h : KernelState) (c : ℕ) → (machine.conn_at (read_of f h) c).incoming ≡ read f (conn_in h.conns c).incoming
 incoming-read_of f h c = ap (λ (x : Connection). x.incoming) (conn_at-read_of f h c)
 
--- one that is looked up
-
-pub conn_in-some : (cs : Conns) (c : ℕ) (x : Conn (List Slice)) → Some x ≡ lookup cs c → conn_in cs c ≡ x
-unfolding conn_in
-conn_in-some cs c x found = ap (λ (o : Option (Conn (List Slice))). unwrap_or o no_conn) (sym found)
+-- one that is not there
 
 pub conn_in-none : (cs : Conns) (c : ℕ) → None ≡ lookup cs c → conn_in cs c ≡ no_conn
 unfolding conn_in

@@ -13,11 +13,10 @@ use Rattle.iol_core.specs.Calls.Reading as reading
 use Rattle.iol_core.specs.declared.descriptors.Descriptor.{Descriptor}
 use Rattle.iol_core.specs.declared.descriptors.Descriptor.TheVariants as on
 use Rattle.iol_core.specs.declared.limits.TheConstants.{MAX_AGGREGATES, MAX_QUEUE_BYTES}
-use Rattle.iol_pool.specs.Pools.{Pool, names_in}
+use Rattle.iol_pool.specs.Pools.{names_in}
 use Rattle.iol_hold.specs.Layout.{read, KeepsPools}
 use Rattle.iol_hold.specs.Moves.{SameLists, pool_meant}
 use Rattle.iol_hold.specs.Places.{places, byte_len}
-use Rattle.iol_hold.specs.Stored.{Stored}
 use Rattle.iol_hold.specs.Texts.{bufs_of, AllReadable}
 use Rattle.iol_hold.specs.declared.slices.Slice.{Slice}
 use Rattle.iol_hold.proofs.AtPlaces.{length-read}
@@ -36,9 +35,8 @@ use Rattle.iol_kernel.specs.Calls.{Answers}
 use Rattle.iol_kernel.specs.Counted.{IsCounted, conn_uses}
 use Rattle.iol_kernel.specs.KernelState as held
 use Rattle.iol_kernel.specs.KernelState.{KernelState, objects_of, Each, AreReadable, IsConnReadable, IsDomainReadable, IsOpenEnd, IsSound, Reading, read_of}
-use Rattle.iol_kernel.specs.Views.{Objects, state_view}
-use Rattle.iol_kernel.proofs.Connecting.{Conns, conn_readable, conn_limit, turned, turned_fds, turned_limits, turned_pooled, turned-read}
-use Rattle.iol_kernel.proofs.ConnQueues.{open_held, found_held, conn_at-read_of, incoming-read_of, conn_in-some, conn_in-none, with_on}
+use Rattle.iol_kernel.proofs.Connecting.{conn_in-is, conn_readable, conn_limit, turned, turned_fds, turned_limits, turned_pooled, turned-read}
+use Rattle.iol_kernel.proofs.ConnQueues.{open_held, found_held, conn_at-read_of, incoming-read_of, conn_in-none, with_on}
 use Rattle.iol_kernel.proofs.Effects.{moved-sound}
 use Rattle.iol_kernel.proofs.Flowing.{admitted-same, barred_of, denied_at}
 use Rattle.iol_kernel.proofs.Numbering.{each-changed, sum-changed}
@@ -66,7 +64,7 @@ module _ (f : Reading) (keeps : KeepsPools f) (h : KernelState) (d c n : ℕ) wh
 
   module _ (x : Conn (List Slice)) (found : Some x ≡ lookup h.conns c) where
     here : conn_in h.conns c ≡ x
-    here = conn_in-some h.conns c x found
+    here = conn_in-is h.conns c x (sym found)
 
     pub none_unread : 0 < n → None ≡ first_pool x.incoming → None ≡ first_barred
     none_unread some is = sym (unread_barred x here some ∙ ap (λ (o : Option ℕ). denied_at (read_of f h) d o) (sym is))
@@ -96,13 +94,13 @@ module _ (f : Reading) (h : KernelState) (c n : ℕ) where
       of false = refl
 
   pub waits_for_peer : (x : Conn (List Slice)) → Some x ≡ lookup h.conns c → 0 < n → byte_len x.incoming ≡ 0 → must_wait f h c n ≡ is_none x.peer
-  waits_for_peer x found some empty = waits_for x (conn_in-some h.conns c x found) ∙ of n (byte_len x.incoming) (is_none x.peer) some empty
+  waits_for_peer x found some empty = waits_for x (conn_in-is h.conns c x (sym found)) ∙ of n (byte_len x.incoming) (is_none x.peer) some empty
     where
       of : (n k : ℕ) (b : Bool) → 0 < n → k ≡ 0 → (nat_lt 0 n && (k == 0) && b) ≡ b
       of n k b some empty = grind (arith, nat_tests, some, empty)
 
   pub needs_no_peer : (x : Conn (List Slice)) → Some x ≡ lookup h.conns c → (n ≡ 0) ⊎ (0 < byte_len x.incoming) → must_wait f h c n ≡ false
-  needs_no_peer x found some = waits_for x (conn_in-some h.conns c x found) ∙ elim some [ inl e ↦ none n (byte_len x.incoming) (is_none x.peer) e | inr l ↦ more n (byte_len x.incoming) (is_none x.peer) l ]
+  needs_no_peer x found some = waits_for x (conn_in-is h.conns c x (sym found)) ∙ elim some [ inl e ↦ none n (byte_len x.incoming) (is_none x.peer) e | inr l ↦ more n (byte_len x.incoming) (is_none x.peer) l ]
     where
       none : (n k : ℕ) (b : Bool) → n ≡ 0 → (nat_lt 0 n && (k == 0) && b) ≡ false
       none n k b e = grind (arith, nat_tests, e)

@@ -1,4 +1,4 @@
-use Rattle.std.proofs.Common.{◌≡◌, ◌∙◌, ap, arith, List}
+use Rattle.std.proofs.Common.{◌∙◌, ap, arith, List}
 use Rattle.iol_core.specs.State.{Domain}
 use Rattle.iol_hold.specs.Texts.{byte_at}
 use Rattle.iol_hold.specs.declared.slices.Slice.{Slice}
