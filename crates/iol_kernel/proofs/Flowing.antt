@@ -58,7 +58,7 @@ module _ (h : KernelState) (t : Stored) (qs : List (Option (Pipe (List Slice))))
 
 -- Reading: a domain gets the front.
 
-admitted-same : (f g : ℕ → Bool) (t : Text) → ((p : ℕ) → f p ≡ g p) → admitted f t ≡ admitted g t
+pub admitted-same : (f g : ℕ → Bool) (t : Text) → ((p : ℕ) → f p ≡ g p) → admitted f t ≡ admitted g t
 admitted-same f g t same = ap (λ n. take n t) (prefix t)
   where
     prefix : (xs : Text) → prefix_len (λ b. f b.1) xs ≡ prefix_len (λ b. g b.1) xs
@@ -104,26 +104,30 @@ fits f h p d a xs n found is =
 
 -- the first byte's pool, where the reader may not read it
 
+abbrev pub denied_at : State → (d : ℕ) → Option ℕ → Option ℕ
+denied_at m d o = option_and_then (λ q. if machine.may_read m d q then None else Some q) o
+
+pub barred_of : (f : Reading) → KeepsPools f → (m : State) (d n : ℕ) (queue : List Slice) → 0 < n → barred (machine.may_read m d) (take (min n 1) (read f queue)) ≡ denied_at m d (first_pool queue)
+barred_of f keeps m d n queue some =
+    ap (λ k. barred (machine.may_read m d) (take k (read f queue))) one
+    ∙ first (read f queue)
+    ∙ ap (λ (o : Option ℕ). denied_at m d o) (sym (first_pool-read f keeps queue))
+  where
+    one : min n 1 ≡ 1
+    one = omega arith
+
+    first : (t : Text) → barred (machine.may_read m d) (take 1 t) ≡ denied_at m d (option_map (λ b. b.1) (slice_get t 0))
+    first [] = refl
+    first (x ∷ t) = elim (machine.may_read m d x.1) as (λ b. option_map (λ (y : ℕ × ℕ). y.1) (cond (not b) (Some x) None) ≡ (if b then None else Some x.1)) [ true ↦ refl | false ↦ refl ]
+
 abbrev first_barred : State → (d p n : ℕ) → Option ℕ
 first_barred m d p n = barred (machine.may_read m d) (take (min n 1) (machine.pipe_at m p).queue)
-
-abbrev denied_at : State → (d : ℕ) → Option ℕ → Option ℕ
-denied_at m d o = option_and_then (λ q. if machine.may_read m d q then None else Some q) o
 
 barred_first : (f : Reading) → KeepsPools f → (h : KernelState) (d p n : ℕ) → 0 < n → first_barred (read_of f h) d p n ≡ denied_at (read_of f h) d (first_pool (queue_at h.pipes p).queue)
 barred_first f keeps h d p n some =
     let m : State = read_of f h in
     ap (λ (t : Text). barred (machine.may_read m d) (take (min n 1) t)) (queue-read_of f h p)
-    ∙ ap (λ k. barred (machine.may_read m d) (take k (read f (queue_at h.pipes p).queue))) one
-    ∙ first m (read f (queue_at h.pipes p).queue)
-    ∙ ap (λ (o : Option ℕ). denied_at m d o) (sym (first_pool-read f keeps (queue_at h.pipes p).queue))
-  where
-    one : min n 1 ≡ 1
-    one = omega arith
-
-    first : (m : State) (t : Text) → barred (machine.may_read m d) (take 1 t) ≡ denied_at m d (option_map (λ b. b.1) (slice_get t 0))
-    first m [] = refl
-    first m (x ∷ t) = elim (machine.may_read m d x.1) as (λ b. option_map (λ (y : ℕ × ℕ). y.1) (cond (not b) (Some x) None) ≡ (if b then None else Some x.1)) [ true ↦ refl | false ↦ refl ]
+    ∙ barred_of f keeps m d n (queue_at h.pipes p).queue some
 
 pub first_admitted : (f : Reading) → KeepsPools f → (h : KernelState) (d p n q : ℕ) → 0 < n → Some q ≡ first_pool (queue_at h.pipes p).queue → machine.may_read (read_of f h) d q ≡ true → None ≡ first_barred (read_of f h) d p n
 first_admitted f keeps h d p n q some is named = sym (barred_first f keeps h d p n some ∙ ap (λ (o : Option ℕ). denied_at (read_of f h) d o) (sym is) ∙ rw named refl)

@@ -31,3 +31,6 @@ pub mod Transmitting
 pub mod PeerClosed
 pub mod Hanging
 pub mod Accepting
+pub mod ConnQueues
+pub mod Incoming
+pub mod Outgoing

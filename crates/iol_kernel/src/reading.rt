@@ -1,6 +1,6 @@
-//! Reading by reference, from pipes.
+//! Reading by reference, from pipes and connections.
 ghost use Rattle.std.specs.Prelude.{◌≡◌, ℕ, length, true, false, min, take, Option, Some, IfOk, OnErr};
-ghost use Rattle.iol_core.specs.State.{is_live, descriptor, may_read, pipe_at};
+ghost use Rattle.iol_core.specs.State.{is_live, descriptor, may_read, pipe_at, conn_at};
 ghost use Rattle.iol_core.specs.Text.{barred};
 ghost use Rattle.iol_core.specs.Calls.Aggregates.{too_many_aggs};
 ghost use Rattle.iol_core.specs.Calls.Reading as calls;
@@ -9,7 +9,7 @@ ghost use Rattle.iol_kernel.specs.KernelState.{Reading, queue_at, IsSound};
 
 use crate::kernel::Kernel;
 use iol_core::descriptors::Descriptor;
-use iol_core::numbers::{AggId, DomainId, Fd, PipeId, PoolId};
+use iol_core::numbers::{AggId, ConnId, DomainId, Fd, PipeId, PoolId};
 use iol_core::refusals::Refusal;
 use std::alloc::AllocError;
 
@@ -30,8 +30,8 @@ impl Kernel {
         };
         match from {
             Descriptor::ReadEnd { pipe } => self.read_pipe(by, fd, pipe, count),
-            Descriptor::WriteEnd { .. } | Descriptor::File { .. } | Descriptor::Connection { .. } =>
-                Err(Refusal::WrongMode),
+            Descriptor::Connection { conn } => self.read_conn(by, fd, conn, count),
+            Descriptor::WriteEnd { .. } | Descriptor::File { .. } => Err(Refusal::WrongMode),
         }
     }
 
@@ -100,6 +100,85 @@ impl Kernel {
     {
         self.domains.reserve_aggs(by, 1)?;
         let agg = self.pipes.front(self.alloc, &mut self.store, p, n, by)?;
+        Ok(self.domains.add_agg(by, agg))
+    }
+
+    /// Reads what came in on a connection.
+    #[tactic(auto, using(crate::proofs::Stay::stay_rules))]
+    fn read_conn(
+        &mut self,
+        by: DomainId,
+        fd: Fd,
+        conn: ConnId,
+        count: u32,
+    ) -> Result<AggId, Refusal>
+        requires sound { IsSound (state_of self.old) }
+        requires live { (f : Reading) → is_live (as_read f self.old) by ≡ true }
+        requires from { (f : Reading) → descriptor (as_read f self.old) by fd ≡ Some
+            (Descriptor.Connection conn) }
+        ensures { CarriesOut (λ s. calls.iol_read s by fd count) self.old result self.new }
+    {
+        if self.is_too_many(by, 1, 0) {
+            return Err(Refusal::TooMany);
+        }
+        if let Some(pool) = self.first_unread_barred(by, conn, count) {
+            return Err(Refusal::Denied { pool });
+        }
+        if self.must_wait_for_peer(conn, count) {
+            return Err(Refusal::WouldBlock);
+        }
+        Ok(self.take_unread(by, fd, conn, count)?)
+    }
+
+    /// The pool of the first byte asked for that came in on a connection, where the reader may not read it.
+    fn first_unread_barred(&self, by: DomainId, conn: ConnId, count: u32) -> Option<PoolId>
+        ensures { (f : Reading) → KeepsPools f → result ≡ barred (may_read (as_read f self.now) by)
+            (take (min count 1) (conn_at (as_read f self.now) conn).incoming) }
+    {
+        if count == 0 {
+            return None;
+        }
+        let pool = self.conns.get(conn)?.first_pool()?;
+        if self.may_read(by, pool) {
+            return None;
+        }
+        Some(pool)
+    }
+
+    /// Whether bytes are asked for, none came in, and the peer may still send.
+    fn must_wait_for_peer(&self, conn: ConnId, count: u32) -> bool
+        ensures { (f : Reading) → result ≡ calls.must_wait (as_read f self.now) (Some
+            (Descriptor.Connection conn)) count }
+    {
+        let Some(found) = self.conns.get(conn) else {
+            return false;
+        };
+        if count == 0 || found.unread() > 0 {
+            return false;
+        }
+        found.may_grow()
+    }
+
+    /// Takes what the reader may see of the first bytes that came in on a connection, as its next aggregate.
+    #[tactic(auto, using(crate::proofs::Stay::stay_rules, crate::proofs::Slices::held_rules))]
+    fn take_unread(
+        &mut self,
+        by: DomainId,
+        fd: Fd,
+        conn: ConnId,
+        n: u32,
+    ) -> Result<AggId, AllocError>
+        requires sound { IsSound (state_of self.old) }
+        requires live { is_live (machine self.old) by ≡ true }
+        requires few { too_many_aggs (machine self.old) by 1 0 ≡ false }
+        requires from { (f : Reading) → descriptor (as_read f self.old) by fd ≡ Some
+            (Descriptor.Connection conn) }
+        ensures done { IfOk result (λ a. Answers (λ s. calls.iol_read s by fd n) self.old a
+            self.new) }
+        ensures err { OnErr result (state_of self.new ≡ state_of self.old) }
+    {
+        self.domains.reserve_aggs(by, 1)?;
+        let agg = self.conns.front(self.alloc, &mut self.store, conn, n, by)?;
         Ok(self.domains.add_agg(by, agg))
     }
 }

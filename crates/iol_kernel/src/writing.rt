@@ -1,4 +1,4 @@
-//! Writing by reference, to pipes.
+//! Writing by reference, to pipes and connections.
 ghost use Rattle.std.specs.Prelude.{◌≡◌, ℕ, ◌-◌, length, true, false, Some, IfOk, OnErr};
 ghost use Rattle.iol_core.specs.State.{is_live, descriptor, pipe_at, text};
 ghost use Rattle.iol_core.specs.Calls.Aggregates.{lacks_agg};
@@ -8,7 +8,7 @@ ghost use Rattle.iol_kernel.specs.KernelState.{Reading, queue_at, IsSound};
 use crate::kernel::Kernel;
 use iol_core::descriptors::Descriptor;
 use iol_core::limits::MAX_QUEUE_BYTES;
-use iol_core::numbers::{AggId, DomainId, Fd, PipeId};
+use iol_core::numbers::{AggId, ConnId, DomainId, Fd, PipeId};
 use iol_core::refusals::Refusal;
 use std::alloc::AllocError;
 
@@ -30,8 +30,8 @@ impl Kernel {
         let len = self.find_len(by, agg)?;
         match to {
             Descriptor::WriteEnd { pipe } => self.write_pipe(by, fd, agg, pipe, len),
-            Descriptor::ReadEnd { .. } | Descriptor::File { .. } | Descriptor::Connection { .. } =>
-                Err(Refusal::WrongMode),
+            Descriptor::Connection { conn } => self.write_conn(by, fd, agg, conn),
+            Descriptor::ReadEnd { .. } | Descriptor::File { .. } => Err(Refusal::WrongMode),
         }
     }
 
@@ -95,5 +95,21 @@ impl Kernel {
             unreachable!()
         };
         Ok(self.pipes.push(&mut self.store, p, found)?)
+    }
+
+    /// Writes an aggregate to a connection.
+    #[tactic(auto, using(crate::proofs::Stay::stay_rules, crate::proofs::Slices::held_rules))]
+    fn write_conn(&mut self, by: DomainId, fd: Fd, agg: AggId, conn: ConnId) -> Result<u32, Refusal>
+        requires sound { IsSound (state_of self.old) }
+        requires live { (f : Reading) → is_live (as_read f self.old) by ≡ true }
+        requires there { (f : Reading) → lacks_agg (as_read f self.old) by agg ≡ false }
+        requires to { (f : Reading) → descriptor (as_read f self.old) by fd ≡ Some
+            (Descriptor.Connection conn) }
+        ensures { CarriesOut (λ s. calls.iol_write s by fd agg) self.old result self.new }
+    {
+        let Some(found) = self.domains.agg(by, agg) else {
+            unreachable!()
+        };
+        Ok(self.conns.queue(&mut self.store, conn, found)?)
     }
 }

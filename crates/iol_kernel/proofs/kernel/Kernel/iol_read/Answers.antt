@@ -12,9 +12,8 @@ pub returns-in-WriteEnd : goal.returns-in-WriteEnd
 returns-in-WriteEnd c =
     let h = state_of c.args.self.now in
     let differs : (p : ℕ) → c.in-Some.from ≡ on.ReadEnd p → ⊥ =
-    λ p e. elim c.in-WriteEnd.is [
-      | inl x ↦ (let k = sym x.1 ∙ e in cc)
-      | inr y ↦ elim y [ inl x ↦ (let k = sym x.3 ∙ e in cc) | inr x ↦ (let k = sym x.1 ∙ e in cc) ]
-    ] in
-    let wrong = not_readable (objects_of h) c.in-Some.from (end_held (byte_at h.store) h c.args.by c.args.fd c.in-Some.from c.requires (sym (c.descriptor.ensures (byte_at h.store)) ∙ c.in-Some.is)) differs in
+    λ p e. elim c.in-WriteEnd.is [ inl x ↦ (let k = sym x.1 ∙ e in cc) | inr x ↦ (let k = sym x.3 ∙ e in cc) ] in
+    let apart : (n : ℕ) → c.in-Some.from ≡ on.Connection n → ⊥ =
+    λ n e. elim c.in-WriteEnd.is [ inl x ↦ (let k = sym x.1 ∙ e in cc) | inr x ↦ (let k = sym x.3 ∙ e in cc) ] in
+    let wrong = not_readable (objects_of h) c.in-Some.from (end_held (byte_at h.store) h c.args.by c.args.fd c.in-Some.from c.requires (sym (c.descriptor.ensures (byte_at h.store)) ∙ c.in-Some.is)) differs apart in
     search (rules, stays_here, wrong)
