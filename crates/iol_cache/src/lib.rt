@@ -7,7 +7,7 @@
 //! page how often clean extents hold the buffer there, so that it is known which buffers anything else holds.
 //! What holds between any two calls is `IsSound`.
 //!
-//! Finished are `new`, `add_file`, `read`, `write`, `make_room` and `drop_clean`:
+//! The calls beside `new` and `add_file`:
 //!
 //! - `read` shares the bytes of a range that are in memory, makes room for its gaps, and reads these into clean extents.
 //!   With an honest store it gives the file's bytes (`text`), and every file has its bytes after it (`goes`, `gone`). Over
@@ -20,13 +20,13 @@
 //! - `drop_clean` evicts all clean extents, pool by pool.
 //! - `write` puts bytes over those of a file, as one dirty extent: those of the file's pool are shared, all others copied
 //!   there. The file then has the bytes that the machine gives it (`written`), and every other file its own (`others`).
+//! - `sync` writes the dirty extents of a file back, `flush_one` the dirty extent of least file and offset. They want no
+//!   memory, change no file's bytes (`files`), and are refused just where the store fails.
 //!
 //! ```text
 //! let file = cache.add_file(alloc, pool)?;
 //! let agg = cache.read(alloc, &mut store, &mut backing, file, 0, 4096)?; // the first page of the file, or less
 //! ```
-//!
-//! The parts of these are there for the crate; so are `sync` and `flush_one`, which write dirty extents back.
 #![tactic(auto)]
 
 mod cache;

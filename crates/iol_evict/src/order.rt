@@ -88,6 +88,7 @@ impl Order {
         requires { 0 < self.old.room }
         ensures { self.new ≡ with_one_kept self.old }
     {
+        // What is kept is a part of the room, which is counted in a usize.
         let _places = self.entries.room();
         self.kept += 1;
     }
