@@ -16,6 +16,7 @@
 pub mod aggregates;
 pub mod descriptors;
 pub mod domains;
+mod files;
 pub mod kernel;
 pub mod outside;
 mod pipes;
