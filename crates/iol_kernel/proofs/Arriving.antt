@@ -1,5 +1,5 @@
 -- What arrives at a connection, and what is sent of it.
-use Rattle.std.proofs.Common.{◌≡◌, ◌≢◌, ℕ, ◌+◌, ◌≤◌, ◌==◌, ◌&&◌, ◌||◌, Bool, not, List, ◌∷◌, ◌++◌, length, map, take, ap, ◌∙◌, refl, sym, subst, arith, Option, Some, None, true, false}
+use Rattle.std.proofs.Common.{◌≡◌, ◌≢◌, ℕ, ◌+◌, ◌≤◌, ◌==◌, ◌&&◌, ◌||◌, Bool, not, List, [], ◌∷◌, ◌++◌, length, map, take, ap, ◌∙◌, refl, sym, subst, arith, Option, Some, None, true, false}
 use Rattle.std.specs.Prelude.{if◌then◌else◌, is_some, MatchOption, Ok, Err}
 use Rattle.iol_core.specs.Text.{Text, labelled}
 use Rattle.iol_core.specs.Numbered.{lookup, without, changed}
@@ -211,8 +211,10 @@ module _ (h k : KernelState) (c n : ℕ) (bytes : List ℕ) (sound : IsSound h) 
   all_made =
       let made = arrived_makes h k.store c (conn_in h.conns c) (conn_in k.conns c).incoming (take n bytes) sound found adds short on' in
       let len : length (take n bytes) ≡ n = omega (arith, length-take n bytes, number) in
-      subst (λ (l : KernelState). MakesBytes (with_incoming c) (conn_in h.conns c).pool n h l) (sym same)
-      (subst (λ m. MakesBytes (with_incoming c) (conn_in h.conns c).pool m h (arrived h k.store c (conn_in h.conns c) (conn_in k.conns c).incoming (take n bytes) sound found adds short)) len made)
+      let pool' : (conn_in h.conns c).pool ≡ (machine.conn_at (machine_of [] h) c).pool = sym (arrive_pool [] h c (conn_in h.conns c) found) in
+      subst (λ (l : KernelState). MakesBytes (with_incoming c) (machine.conn_at (machine_of [] h) c).pool n h l) (sym same)
+      (subst (λ p. MakesBytes (with_incoming c) p n h (arrived h k.store c (conn_in h.conns c) (conn_in k.conns c).incoming (take n bytes) sound found adds short)) pool'
+      (subst (λ m. MakesBytes (with_incoming c) (conn_in h.conns c).pool m h (arrived h k.store c (conn_in h.conns c) (conn_in k.conns c).incoming (take n bytes) sound found adds short)) len made))
 
 -- whether there is room, in the machine's words
 pub has_as_meant : (stored : List (List ℕ)) (h : KernelState) (c : ℕ) (bytes : List ℕ) (b : Bool) → lookup h.conns c ≢ None → has_room h.store (conn_in h.conns c).pool (fitting (conn_in h.conns c).incoming (length bytes)) ≡ b

@@ -94,7 +94,7 @@ MakesAgg d pool n old new = MakesBytes (λ s t. with_agg s d t) pool n old new
 
 -- a connection gets them at the end of what came in
 abbrev pub Arrives : (c n : ℕ) → (old new : KernelState) → Type 0
-Arrives c n old new = MakesBytes (with_incoming c) (conn_in old.conns c).pool n old new
+Arrives c n old new = MakesBytes (with_incoming c) (conn_at (machine_of [] old) c).pool n old new
 
 -- the domain is live, and its aggregate is these slices
 pub record IsFound (h : KernelState) (d a : ℕ) (xs : List Slice) : Type 0 where

@@ -322,7 +322,8 @@ impl Kernel {
     #[tactic(auto, using(crate::proofs::Stay::stay_rules))]
     pub fn agg_drop(&mut self, by: DomainId, agg: AggId) -> Result<(), Refusal>
         requires { IsSound (state_of self.old) }
-        ensures { KeepsPlaces (λ s. calls.agg_drop s by agg) self.old result self.new }
+        ensures agg_drop { KeepsPlaces (λ s. calls.agg_drop s by agg) self.old result self.new }
+        ensures roomy { (p : ℕ) → result ≡ Err (Refusal.NoRoom p) → ⊥ }
     {
         self.find_len(by, agg)?;
         self.release(by, agg);
@@ -386,7 +387,8 @@ impl Kernel {
     /// A copy of an aggregate's bytes.
     pub fn show(&self, by: DomainId, agg: AggId) -> Result<Bytes, Refusal>
         requires { IsSound (state_of self.now) }
-        ensures { Steps (λ s. calls.show s by agg) self.now result self.now }
+        ensures show { Steps (λ s. calls.show s by agg) self.now result self.now }
+        ensures roomy { (p : ℕ) → result ≡ Err (Refusal.NoRoom p) → ⊥ }
     {
         let found = self.find(by, agg)?;
         Ok(Bytes::from_vec(found.to_vec(self.alloc, &self.store)?))

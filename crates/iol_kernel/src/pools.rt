@@ -162,7 +162,8 @@ impl Kernel {
     #[tactic(auto, using(crate::proofs::Stay::stay_rules))]
     pub fn pool_close(&mut self, by: DomainId, pool: PoolId) -> Result<(), Refusal>
         requires { IsSound (state_of self.old) }
-        ensures { KeepsPlaces (λ s. calls.pool_close s by pool) self.old result self.new }
+        ensures pool_close { KeepsPlaces (λ s. calls.pool_close s by pool) self.old result self.new }
+        ensures roomy { (p : ℕ) → result ≡ Err (Refusal.NoRoom p) → ⊥ }
     {
         if !self.is_live(by) {
             return Err(Refusal::NoDomain);
