@@ -65,7 +65,7 @@ filed_lacking {s = s} x at filed stays covers e begins = record {
   short = omega (arith, filed.short, last_end-without_at x.extents.extents at e begins);
 }
 
-filed_stays : {s t : Stored} (x : CachedFile) → IsFiled s x → Stays s t → Covers t (bufs_of (slices_in x.extents.extents)) → IsFiled t x
+pub filed_stays : {s t : Stored} (x : CachedFile) → IsFiled s x → Stays s t → Covers t (bufs_of (slices_in x.extents.extents)) → IsFiled t x
 filed_stays x filed stays covers = record { apart = filed.apart; laid = laid_stays x.pool x.extents.extents stays covers filed.laid; short = filed.short }
 
 pub covers_evicted : {s t : Stored} (fs : List CachedFile) (f at : ℕ) (e : Extent) → (0 < f) × (f ≤ length fs) → begins_at (extents_in fs f) at ≡ Some e → Covers s (held fs) → Moves s t (bufs_of e.parts) [] → Covers t (held (without_extent fs f at))

@@ -24,6 +24,7 @@ pub mod CutOut
 pub mod Ready
 pub mod Roomy
 pub mod Completed
+pub mod Staying
 pub mod Stepping
 pub mod Woven
 pub mod Steps
