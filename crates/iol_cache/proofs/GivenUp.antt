@@ -117,7 +117,7 @@ slot_evicted {s = s} {t = t} c f at g slots sound there stays covers all =
     ]
 
 -- Two steps, the second of which makes no hold.
-frees_then : {a b c : Stored} → FreesOnly a b → FreesOnly b c → ((x : BufId) → count_of c x ≤ count_of b x) → FreesOnly a c
+pub frees_then : {a b c : Stored} → FreesOnly a b → FreesOnly b c → ((x : BufId) → count_of c x ≤ count_of b x) → FreesOnly a c
 frees_then {a = a} {b = b} {c = c} m n fewer = record {
   runs = λ h. n.runs (m.runs h);
   pools = λ p is. n.pools p (ap (λ (x : Pool). x.closed) (m.pools p is) ∙ is) ∙ m.pools p is;

@@ -25,6 +25,7 @@ pub mod Ready
 pub mod Roomy
 pub mod Completed
 pub mod Staying
+pub mod Paging
 pub mod Stepping
 pub mod Woven
 pub mod Steps
