@@ -43,3 +43,4 @@ pub mod Placed
 pub mod Storing
 pub mod Cleaned
 pub mod Synced
+pub mod OneRoom

@@ -22,3 +22,4 @@ pub mod Replacing
 pub mod Writing
 pub mod Overwriting
 pub mod Syncing
+pub mod Laws
