@@ -1,5 +1,5 @@
 -- What reads and writes do to pages.
-use Rattle.std.proofs.Common.{inl, inr, ◌≡◌, ◌∙◌, ℕ, false, List, flat_map, ◌+◌, ap, subst, refl}
+use Rattle.std.proofs.Common.{inl, inr, ◌≡◌, ◌∙◌, ℕ, false, List, [], flat_map, ◌+◌, ap, subst, refl}
 use Rattle.std.specs.List.{Contains}
 use Rattle.iol_core.specs.declared.numbers.BufId.{BufId}
 use Rattle.iol_arena.specs.Chunks.{chunk_pages, usable}

@@ -14,7 +14,7 @@ use Rattle.iol_hold.specs.declared.slices.Slice.{Slice}
 use Rattle.iol_hold.proofs.Slicing.{byte_len-cons}
 use Rattle.iol_extent.specs.Extents.{Extent, begins_at}
 use Rattle.iol_cache.specs.Marks.{at_page, one_at, AreWithin}
-use Rattle.iol_cache.specs.Cached.{Cached, parts_in, slices_in, held, clean_held}
+use Rattle.iol_cache.specs.Cached.{Cached, parts_in, all_parts, held, clean_held}
 use Rattle.iol_cache.specs.Reading.{AllWithin}
 use Rattle.iol_cache.specs.Sharing.{CountsBelow}
 use Rattle.iol_cache.specs.Sound.{IsSound}
@@ -31,7 +31,7 @@ pub sound_to : (s t : Stored) (c : Cached) → IsSound s c → Moves s t [] [] �
 sound_to s t c sound moves lists pages = sound_on s t c sound moves (held_still (held c.files) moves.counts sound.covered) lists pages
 
 -- the pages of extents
-pub all_within : {t : Stored} (es : List Extent) (n : ℕ) → n ≡ page_count t.arena → Covers t (bufs_of (slices_in es)) → AllWithin n es
+pub all_within : {t : Stored} (es : List Extent) (n : ℕ) → n ≡ page_count t.arena → Covers t (bufs_of (all_parts es)) → AllWithin n es
 all_within {t = t} es n is covers = record { each = λ at. pick (begins_at es at) at refl }
   where
     nothing : AreWithin n []

@@ -11,7 +11,7 @@ use Rattle.iol_hold.specs.Stored.{Stored}
 use Rattle.iol_hold.specs.Texts.{text_of}
 use Rattle.iol_cache.specs.Cached.{Cached, extents_in, file_in, order_in, with_file, with_order}
 use Rattle.iol_cache.specs.Contents.{Mirrors, bytes_in_slot}
-use Rattle.iol_cache.specs.Replacing.{Follows}
+use Rattle.iol_cache.specs.Replacing.{Reindexes}
 use Rattle.iol_cache.specs.declared.syncing.Flushed.{Flushed}
 use Rattle.iol_cache.specs.declared.syncing.Flushed.TheVariants.{Nothing, Wrote}
 
@@ -88,7 +88,7 @@ pub record Cleans (s : Stored) (f : ℕ) (old new : Cached) (d e : Disk) : Type 
   pub apart : IsApart 0 extents.extents
   pub files : new.files ≡ with_file old.files f (record { pool = (file_in old.files f).pool; extents = extents })
   pub orders : new.orders ≡ with_order old.orders (file_in old.files f).pool order
-  pub follows : Follows f (extents_in old.files f) extents.extents (order_in old.orders (file_in old.files f).pool) order old.marks new.marks
+  pub follows : Reindexes f (extents_in old.files f) extents.extents (order_in old.orders (file_in old.files f).pool) order old.marks new.marks
   pub honest : e.honest ≡ d.honest
   pub counts : Succeeds d e
   pub others : IfHonest d (OthersStay f d.slots e.slots)

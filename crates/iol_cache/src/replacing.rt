@@ -1,12 +1,11 @@
 //! A range of a file that is replaced: what it meets goes, and its parts and the new bytes come in. No memory is taken.
 ghost use Rattle.std.specs.Prelude.{◌≡◌, ℕ, ◌+◌, ◌-◌, ◌<◌, ◌≤◌, ◌^◌, ◌++◌, [], length, max, IsSome};
 ghost use Rattle.iol_arena.specs.State.{page_count};
-ghost use Rattle.iol_cache.specs.Cached.{parts_in};
+ghost use Rattle.iol_cache.specs.Cached.{parts_in, all_parts};
 ghost use Rattle.iol_cache.specs.Cutting.{CutsLeft, CutsRight};
-ghost use Rattle.iol_cache.specs.Gaps.{all_parts};
 ghost use Rattle.iol_cache.specs.Marks.{AreWithin, HasMarksLeft};
 ghost use Rattle.iol_cache.specs.Reading.{RanksFile};
-ghost use Rattle.iol_cache.specs.Replacing.{Follows, HaveClean, IsReady, put_some};
+ghost use Rattle.iol_cache.specs.Replacing.{Reindexes, HaveClean, IsReady, put_some};
 ghost use Rattle.iol_extent.specs.Extents.{Adds, IsApart, IsGap, begins_at, end_of, last_end, unmet, without_at};
 ghost use Rattle.iol_hold.specs.Moves.{Covers, Moves, SameLists};
 ghost use Rattle.iol_hold.specs.Places.{byte_len};
@@ -32,7 +31,7 @@ fn forget(order: &mut Order, marks: &mut CleanHolds, extents: &Extents, file: Fi
     requires within { AreWithin (length marks.old) (parts_in (begins_at extents.now.extents at)) }
     requires marked { HaveClean marks.old extents.now.extents }
     ensures follows { let es = extents.now.extents in
-        Follows file es (without_at es at) order.old order.new marks.old marks.new }
+        Reindexes file es (without_at es at) order.old order.new marks.old marks.new }
     ensures room { order.old.room ≤ order.new.room }
 {
     let Some((_begin, agg, dirty)) = extents.over(at) else {
@@ -65,7 +64,7 @@ fn take_out(
     ensures extents { extents.new.extents ≡ without_at extents.old.extents at }
     ensures room { extents.old.room ≤ extents.new.room }
     ensures apart { IsApart 0 extents.new.extents }
-    ensures follows { Follows file extents.old.extents extents.new.extents order.old order.new
+    ensures follows { Reindexes file extents.old.extents extents.new.extents order.old order.new
         marks.old marks.new }
     ensures order_room { order.old.room ≤ order.new.room }
     ensures moves { Moves store.old store.new (bufs_of (all_parts extents.old.extents))
@@ -100,7 +99,7 @@ fn clear_range(
     ensures extents { extents.new.extents ≡ unmet extents.old.extents from to }
     ensures room { extents.old.room ≤ extents.new.room }
     ensures apart { IsApart 0 extents.new.extents }
-    ensures follows { Follows file extents.old.extents extents.new.extents order.old order.new
+    ensures follows { Reindexes file extents.old.extents extents.new.extents order.old order.new
         marks.old marks.new }
     ensures order_room { order.old.room ≤ order.new.room }
     ensures moves { Moves store.old store.new (bufs_of (all_parts extents.old.extents))
@@ -137,7 +136,7 @@ pub(crate) fn put_edge(
         0 < byte_len edge.parts → last_end extents.new.extents ≡ max (end_of edge) old }
     ensures room { extents.old.room ≤ extents.new.room + 1 }
     ensures order_room { order.old.room ≤ order.new.room + 1 }
-    ensures follows { Follows file extents.old.extents extents.new.extents order.old order.new
+    ensures follows { Reindexes file extents.old.extents extents.new.extents order.old order.new
         marks.old marks.new }
 {
     let Edge { at, agg, dirty } = edge;
@@ -188,7 +187,7 @@ pub(crate) fn replace_range(
         extents.new.extents ≡ put_some (put_some (put_some others left) right) new }
     ensures adds { Adds extents.old.extents new extents.new.extents }
     ensures apart { IsApart 0 extents.new.extents }
-    ensures follows { Follows file extents.old.extents extents.new.extents order.old order.new
+    ensures follows { Reindexes file extents.old.extents extents.new.extents order.old order.new
         marks.old marks.new }
     ensures moves { Moves store.old store.new (bufs_of (all_parts extents.old.extents ++
         (left.parts ++ (right.parts ++ new.parts)))) (bufs_of (all_parts extents.new.extents)) }

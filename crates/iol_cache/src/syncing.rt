@@ -8,7 +8,7 @@ ghost use Rattle.iol_cache.specs.Sharing.{CountsBelow};
 ghost use Rattle.iol_cache.specs.Sound.{IsSound};
 ghost use Rattle.iol_cache.specs.Marks.{AreWithin, HasMarksLeft};
 ghost use Rattle.iol_cache.specs.Reading.{RanksFile};
-ghost use Rattle.iol_cache.specs.Replacing.{Follows, IsReady};
+ghost use Rattle.iol_cache.specs.Replacing.{Reindexes, IsReady};
 ghost use Rattle.iol_cache.specs.Syncing.{IsFirstDirty, Flushes, KeepsBytes, KeepsStored, StoresFirst, Syncs, WritesBack, cleaned_at};
 ghost use Rattle.iol_back.specs.Disk.{raised};
 ghost use Rattle.iol_core.specs.Meaning.{FaultOf};
@@ -74,7 +74,7 @@ fn settle(order: &mut Order, marks: &mut CleanHolds, extents: &mut Extents, file
     requires few { HasMarksLeft marks.old (parts_in (begins_at extents.old.extents at)) }
     ensures extents { extents.new.extents ≡ cleaned_at extents.old.extents at }
     ensures apart { IsApart 0 extents.new.extents }
-    ensures follows { Follows file extents.old.extents extents.new.extents order.old order.new
+    ensures follows { Reindexes file extents.old.extents extents.new.extents order.old order.new
         marks.old marks.new }
 {
     let agg = extents.remove(at);

@@ -5,7 +5,7 @@ use Rattle.iol_hold.specs.Texts.{AllReadable, bufs_of}
 use Rattle.iol_hold.specs.Moves.{Counts}
 use Rattle.iol_hold.proofs.Releasing.{frees_trans}
 use Rattle.iol_hold.proofs.Reading.{readable_stays}
-use Rattle.iol_cache.specs.Gaps.{all_parts}
+use Rattle.iol_cache.specs.Cached.{all_parts}
 use Rattle.iol_cache.proofs.Replaced.{counts_part, covers_moved, fewer, follows_then, met_begins_at, met_less, moves_on, readable_less}
 use Rattle.iol_cache.proofs.Ready.{ready_after}
 use Rattle.iol_cache.proofs.replacing.clear_range.Goals as goal

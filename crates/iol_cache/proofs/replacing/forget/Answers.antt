@@ -4,7 +4,7 @@ use Rattle.iol_evict.specs.Ranking.{Ranking}
 use Rattle.iol_extent.specs.Extents.{extent_of, without_at}
 use Rattle.iol_cache.specs.Cached.{parts_in}
 use Rattle.iol_cache.specs.Marks.{AreWithin, HaveMarks, Unmarks}
-use Rattle.iol_cache.specs.Replacing.{Follows}
+use Rattle.iol_cache.specs.Replacing.{Reindexes}
 use Rattle.iol_cache.proofs.Replaced.{begins_over, clean_goes, dirty_goes, entry_some, marks_of, nothing_begins}
 use Rattle.iol_cache.proofs.Ready.{some_kept}
 use Rattle.iol_cache.proofs.replacing.forget.Goals as goal
@@ -17,7 +17,7 @@ returns-then-dirty-clause-follows c =
     let es = c.args.extents.now.extents in
     let x = extent_of c.in-Some._begin c.in-Some.agg.now c.in-Some.dirty in
     let begins = begins_over es c.args.at x c.requires.apart c.requires.begins c.in-Some.ensures.extent in
-    subst (λ (r : Ranking). Follows c.args.file es (without_at es c.args.at) c.args.order.now r c.args.marks.now c.args.marks.now) (sym c.give_back.ensures)
+    subst (λ (r : Ranking). Reindexes c.args.file es (without_at es c.args.at) c.args.order.now r c.args.marks.now c.args.marks.now) (sym c.give_back.ensures)
     (dirty_goes c.args.file es c.args.at x c.args.order.now c.args.marks.now begins c.if-dirty.true (some_kept c.args.order.now es c.args.at x begins c.if-dirty.true c.requires.ready))
 
 pub give_back-requires : goal.give_back-requires
@@ -53,5 +53,5 @@ returns-clause-follows c =
     let x = extent_of c.in-Some._begin c.in-Some.agg.now c.in-Some.dirty in
     let begins = begins_over es c.args.at x c.requires.apart c.requires.begins c.in-Some.ensures.extent in
     let unmarks = subst (Unmarks c.args.marks.now c.unmark.new.self) c.slices.ensures c.unmark.ensures.unmarks in
-    subst (λ (r : Ranking). Follows c.args.file es (without_at es c.args.at) c.args.order.now r c.args.marks.now c.unmark.new.self) (sym (c.leave.ensures.left refl))
+    subst (λ (r : Ranking). Reindexes c.args.file es (without_at es c.args.at) c.args.order.now r c.args.marks.now c.unmark.new.self) (sym (c.leave.ensures.left refl))
     (clean_goes c.args.file es c.args.at x c.args.order.now c.args.marks.now c.unmark.new.self c.requires.apart begins c.if-dirty.false c.requires.ranked unmarks)

@@ -4,15 +4,15 @@ use Rattle.iol_hold.specs.Places.{byte_len}
 use Rattle.iol_evict.specs.Ranking.{Ranking, entry_at}
 use Rattle.iol_extent.specs.Extents.{Extent, end_of, extent_of, put_in}
 use Rattle.iol_cache.specs.Marks.{Marks}
-use Rattle.iol_cache.specs.Replacing.{Follows}
+use Rattle.iol_cache.specs.Replacing.{Reindexes}
 use Rattle.iol_cache.proofs.Replaced.{absent_gap, clean_comes, dirty_comes}
 use Rattle.iol_cache.proofs.replacing.put_edge.Goals as goal
 
 pub returns-then-dirty-clause-follows : goal.returns-then-dirty-clause-follows
 returns-then-dirty-clause-follows c =
     let es = c.args.extents.now.extents in
-    subst (λ (xs : List Extent). Follows c.args.file es xs c.args.order.now c.keep.new.self c.args.marks.now c.args.marks.now) (sym c.put.ensures.extents)
-    (subst (λ (r : Ranking). Follows c.args.file es (put_in es (extent_of c.edge.inside.at c.edge.inside.agg true)) c.args.order.now r c.args.marks.now c.args.marks.now) (sym c.keep.ensures)
+    subst (λ (xs : List Extent). Reindexes c.args.file es xs c.args.order.now c.keep.new.self c.args.marks.now c.args.marks.now) (sym c.put.ensures.extents)
+    (subst (λ (r : Ranking). Reindexes c.args.file es (put_in es (extent_of c.edge.inside.at c.edge.inside.agg true)) c.args.order.now r c.args.marks.now c.args.marks.now) (sym c.keep.ensures)
     (dirty_comes c.args.file es (extent_of c.edge.inside.at c.edge.inside.agg true) c.args.order.now c.args.marks.now refl))
 
 pub enter-requires-clause-absent : goal.enter-requires-clause-absent
@@ -30,5 +30,5 @@ returns-clause-follows c =
     let x : Extent = extent_of c.edge.inside.at c.edge.inside.agg false in
     let marks = subst (Marks c.args.marks.now c.mark.new.self) c.slices.ensures c.mark.ensures.marks in
     let done = clean_comes c.args.file es x c.len.result c.args.order.now c.args.marks.now c.mark.new.self refl marks in
-    subst (λ (xs : List Extent). Follows c.args.file es xs c.args.order.now c.enter.new.self c.args.marks.now c.mark.new.self) (sym c.put-2.ensures.extents)
-    (subst (λ (r : Ranking). Follows c.args.file es (put_in es x) c.args.order.now r c.args.marks.now c.mark.new.self) (sym c.enter.ensures) done)
+    subst (λ (xs : List Extent). Reindexes c.args.file es xs c.args.order.now c.enter.new.self c.args.marks.now c.mark.new.self) (sym c.put-2.ensures.extents)
+    (subst (λ (r : Ranking). Reindexes c.args.file es (put_in es x) c.args.order.now r c.args.marks.now c.mark.new.self) (sym c.enter.ensures) done)

@@ -5,8 +5,7 @@ use Rattle.iol_hold.specs.Stored.{Stored}
 use Rattle.iol_hold.specs.Texts.{bufs_of}
 use Rattle.iol_hold.specs.declared.slices.Slice.{Slice}
 use Rattle.iol_extent.specs.Extents.{Adds, Extent, IsGap, unmet}
-use Rattle.iol_cache.specs.Cached.{clean_in}
-use Rattle.iol_cache.specs.Gaps.{all_parts}
+use Rattle.iol_cache.specs.Cached.{clean_in, all_parts}
 use Rattle.iol_cache.specs.Marks.{at_page}
 use Rattle.iol_cache.specs.Replacing.{put_some}
 use Rattle.iol_cache.proofs.CutOut.{left_gap, new_gap, replaced, right_gap}

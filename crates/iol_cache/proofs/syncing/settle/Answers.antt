@@ -6,7 +6,7 @@ use Rattle.iol_extent.specs.Extents.{Extent, IsApart, IsGap, Lacks, begins_at, e
 use Rattle.iol_cache.specs.Cached.{parts_in}
 use Rattle.iol_cache.specs.Marks.{AreWithin, HasMarksLeft}
 use Rattle.iol_cache.specs.Reading.{RanksFile}
-use Rattle.iol_cache.specs.Replacing.{Follows}
+use Rattle.iol_cache.specs.Replacing.{Reindexes}
 use Rattle.iol_cache.specs.Syncing.{IsFirstDirty, as_clean}
 use Rattle.iol_cache.proofs.Cleaned.{cleaned_put, dirty_some, first_dirty}
 use Rattle.iol_cache.proofs.Evicted.{given_is}
@@ -108,5 +108,5 @@ returns-clause-follows c =
     let there = begins es at d c.requires.apart xs given in
     let is_dirty = dirty es at d c.requires.apart xs given in
     let goes = dirty_goes c.args.file es at d.extent c.args.order.now c.args.marks.now there is_dirty (some_kept c.args.order.now es at d.extent there is_dirty c.requires.ready) in
-    let gone = subst (λ (r : Ranking). Follows c.args.file es (without_at es at) c.args.order.now r c.args.marks.now c.args.marks.now) (sym c.give_back.ensures) goes in
-    follows_then gone (subst (λ (l : List Extent). Follows c.args.file l c.put_edge.new.extents.extents c.give_back.new.self c.put_edge.new.order c.args.marks.now c.put_edge.new.marks) c.remove-agg.ensures.extents c.put_edge.ensures.follows)
+    let gone = subst (λ (r : Ranking). Reindexes c.args.file es (without_at es at) c.args.order.now r c.args.marks.now c.args.marks.now) (sym c.give_back.ensures) goes in
+    follows_then gone (subst (λ (l : List Extent). Reindexes c.args.file l c.put_edge.new.extents.extents c.give_back.new.self c.put_edge.new.order c.args.marks.now c.put_edge.new.marks) c.remove-agg.ensures.extents c.put_edge.ensures.follows)

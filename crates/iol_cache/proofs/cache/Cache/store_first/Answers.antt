@@ -13,7 +13,7 @@ use Rattle.iol_cache.specs.Cache.{cached_of}
 use Rattle.iol_cache.specs.Cached.{Cached, extents_in, file_in, parts_in}
 use Rattle.iol_cache.specs.Marks.{AreWithin, HasMarksLeft}
 use Rattle.iol_cache.specs.Reading.{RanksFile}
-use Rattle.iol_cache.specs.Replacing.{Follows, IsReady}
+use Rattle.iol_cache.specs.Replacing.{Reindexes, IsReady}
 use Rattle.iol_cache.specs.Sharing.{CountsBelow}
 use Rattle.iol_cache.specs.Sound.{IsLaid, IsSound}
 use Rattle.iol_cache.specs.Syncing.{IsFirstDirty, Stores, cleaned_at}
@@ -214,7 +214,7 @@ returns-clause-stores g c =
       apart = s.apart;
       files = ap (λ k. set fs (c.number.result - 1) (let q : CachedFile = record { pool = k; extents = m } in q)) (ap (λ (q : CachedFile). q.pool) z) ∙ ap (λ k. set fs (k - 1) new) c.number.ensures ∙ file_set fs f new nb.0;
       orders = ap (λ k. set os (k - 1) r) pool ∙ order_set os p r ob.0;
-      follows = subst (λ (q : Ranking). Follows f (extents_in fs f) m.extents q r c.args.self.now.marks c.settle.new.marks) o (subst (λ (q : CachedFile). Follows f q.extents.extents m.extents c.index_mut.result.now r c.args.self.now.marks c.settle.new.marks) z s.follows);
+      follows = subst (λ (q : Ranking). Reindexes f (extents_in fs f) m.extents q r c.args.self.now.marks c.settle.new.marks) o (subst (λ (q : CachedFile). Reindexes f q.extents.extents m.extents c.index_mut.result.now r c.args.self.now.marks c.settle.new.marks) z s.follows);
       honest = b.honest;
       counts = b.counts;
       others = b.others;
