@@ -31,6 +31,7 @@ pub mod Woven
 pub mod Steps
 pub mod Tiled
 pub mod Replaced
+pub mod Reordered
 pub mod Hits
 pub mod Texts
 pub mod Served
