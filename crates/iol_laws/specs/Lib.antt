@@ -1,0 +1,4 @@
+pub mod Frame
+pub mod Order
+pub mod Caller
+pub mod Others
