@@ -22,3 +22,5 @@ pub mod CallerDescriptors
 pub mod NewNumbers
 pub mod OtherCalls
 pub mod Outside
+pub mod Unread
+pub mod Histories

@@ -2,3 +2,4 @@ pub mod Frame
 pub mod Order
 pub mod Caller
 pub mod Others
+pub mod History

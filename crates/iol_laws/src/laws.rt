@@ -1,6 +1,7 @@
 //! The laws. The functions do nothing; their contracts are the laws.
 ghost use Rattle.iol_laws.specs.Caller.{CallsServeTheirDomain, NumbersAreNew};
 ghost use Rattle.iol_laws.specs.Frame.{EachStepLeavesTheRest};
+ghost use Rattle.iol_laws.specs.History.{HistoriesAddUp};
 ghost use Rattle.iol_laws.specs.Order.{EachStepKeepsOrder};
 ghost use Rattle.iol_laws.specs.Others.{OthersLeaveConnections};
 
@@ -30,4 +31,10 @@ pub fn numbers_are_new()
 /// what happens outside changes what its event names.
 pub fn others_leave_connections()
     ensures { OthersLeaveConnections }
+{}
+
+/// What came in on each connection and what was sent on it, over a run's events and replies: what is unread is the end of
+/// what came, and what was to be sent is sent first.
+pub fn histories_add_up()
+    ensures { HistoriesAddUp }
 {}
