@@ -34,3 +34,4 @@ pub mod Accepting
 pub mod ConnQueues
 pub mod Incoming
 pub mod Outgoing
+pub mod Borrowing

@@ -9,3 +9,4 @@ pub mod Calls
 pub mod Adding
 pub mod Regrouped
 pub mod Queues
+pub mod Borrowed

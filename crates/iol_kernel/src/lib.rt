@@ -14,6 +14,7 @@
 #![tactic(auto)]
 
 pub mod aggregates;
+mod borrowed;
 pub mod descriptors;
 pub mod domains;
 pub mod kernel;

@@ -63,7 +63,7 @@ impl Kernel {
     }
 
     /// The pool of the first byte asked for, where the reader may not read it.
-    fn first_barred(&self, by: DomainId, p: PipeId, count: u32) -> Option<PoolId>
+    pub(crate) fn first_barred(&self, by: DomainId, p: PipeId, count: u32) -> Option<PoolId>
         ensures { (f : Reading) → KeepsPools f → result ≡ barred (may_read (as_read f self.now) by)
             (take (min count 1) (pipe_at (as_read f self.now) p).queue) }
     {
@@ -79,7 +79,7 @@ impl Kernel {
 
     /// Whether bytes are asked for, none wait, and some may come.
     #[tactic(auto, using(crate::proofs::ReadOf::pipe_rules))]
-    fn must_wait(&self, p: PipeId, count: u32) -> bool
+    pub(crate) fn must_wait(&self, p: PipeId, count: u32) -> bool
         ensures { (f : Reading) → result ≡ calls.must_wait (as_read f self.now) (Some
             (Descriptor.ReadEnd p)) count }
     {
@@ -131,7 +131,12 @@ impl Kernel {
     }
 
     /// The pool of the first byte asked for that came in on a connection, where the reader may not read it.
-    fn first_unread_barred(&self, by: DomainId, conn: ConnId, count: u32) -> Option<PoolId>
+    pub(crate) fn first_unread_barred(
+        &self,
+        by: DomainId,
+        conn: ConnId,
+        count: u32,
+    ) -> Option<PoolId>
         ensures { (f : Reading) → KeepsPools f → result ≡ barred (may_read (as_read f self.now) by)
             (take (min count 1) (conn_at (as_read f self.now) conn).incoming) }
     {
@@ -146,7 +151,7 @@ impl Kernel {
     }
 
     /// Whether bytes are asked for, none came in, and the peer may still send.
-    fn must_wait_for_peer(&self, conn: ConnId, count: u32) -> bool
+    pub(crate) fn must_wait_for_peer(&self, conn: ConnId, count: u32) -> bool
         ensures { (f : Reading) → result ≡ calls.must_wait (as_read f self.now) (Some
             (Descriptor.Connection conn)) count }
     {
