@@ -2,3 +2,4 @@ pub mod Chains
 pub mod Safe
 pub mod Used
 pub mod Paged
+pub mod Served
