@@ -35,3 +35,4 @@ pub mod ConnQueues
 pub mod Incoming
 pub mod Outgoing
 pub mod Borrowing
+pub mod Skipped

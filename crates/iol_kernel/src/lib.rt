@@ -24,4 +24,5 @@ pub mod pools;
 pub mod reading;
 pub mod report;
 mod tables;
+mod taking;
 pub mod writing;
