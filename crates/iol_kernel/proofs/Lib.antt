@@ -36,3 +36,5 @@ pub mod Accepting
 pub mod ConnQueues
 pub mod Incoming
 pub mod Outgoing
+pub mod Borrowing
+pub mod Skipped

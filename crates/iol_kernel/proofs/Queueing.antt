@@ -50,7 +50,7 @@ queue_readable h p sound = pick (in_place h.pipes p) (each-get (IsPipeReadable h
     pick (Some x) r = r
 
 -- within the limits
-queue_limits : (h : KernelState) (p : ℕ) (q : List Slice) → IsSound h → byte_len q ≤ 65536 → IsLimited h.domains (record (objects_of h) { pipes = slice_set h.pipes p (Some (record (queue_at h.pipes p) { queue = q })) })
+pub queue_limits : (h : KernelState) (p : ℕ) (q : List Slice) → IsSound h → byte_len q ≤ 65536 → IsLimited h.domains (record (objects_of h) { pipes = slice_set h.pipes p (Some (record (queue_at h.pipes p) { queue = q })) })
 queue_limits h p q sound short =
     let limits = sound.limits.objects in
     record {

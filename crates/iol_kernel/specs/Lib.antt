@@ -11,3 +11,4 @@ pub mod Calls
 pub mod Adding
 pub mod Regrouped
 pub mod Queues
+pub mod Borrowed

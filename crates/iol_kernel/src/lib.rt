@@ -14,6 +14,7 @@
 #![tactic(auto)]
 
 pub mod aggregates;
+mod borrowed;
 pub mod descriptors;
 pub mod domains;
 mod files;
@@ -24,4 +25,5 @@ pub mod pools;
 pub mod reading;
 pub mod report;
 mod tables;
+mod taking;
 pub mod writing;

@@ -76,7 +76,7 @@ impl Kernel {
 
     /// Whether there is no live connection of this number.
     #[tactic(auto, using(crate::proofs::Connecting::there_rules))]
-    fn lacks_conn(&self, conn: ConnId) -> bool
+    pub(crate) fn lacks_conn(&self, conn: ConnId) -> bool
         ensures { (f : Reading) → result ≡ lacks_conn (as_read f self.now) conn }
     {
         match self.conns.get(conn) {

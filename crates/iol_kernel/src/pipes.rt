@@ -1,11 +1,12 @@
 //! Pipes: bounded queues, each in a place of its own, with a read end and a write end.
-ghost use Rattle.std.specs.Prelude.{◌≡◌, ℕ, ◌+◌, ◌-◌, ◌<◌, ◌≤◌, ◌^◌, min, take, take_while, drop, slice_set, true, [], ◌++◌, Some, IfOk, OnOk, OnErr};
+ghost use Rattle.std.specs.Prelude.{◌≡◌, ℕ, ◌+◌, ◌-◌, ◌<◌, ◌≤◌, ◌^◌, length, min, take, take_while, drop, slice_set, true, [], ◌++◌, Some, IfOk, OnOk, OnErr};
 ghost use Rattle.iol_core.specs.Numbered.{lowest, placed, taken};
+ghost use Rattle.iol_core.specs.Text.{bytes_of};
 ghost use Rattle.iol_hold.specs.Moves.{Covers, IsCountable, Moves, SameLists, Shares};
 ghost use Rattle.iol_hold.specs.Places.{byte_len, places};
 ghost use Rattle.iol_hold.specs.Releases.{FreesOnly};
 ghost use Rattle.iol_hold.specs.Stored.{AllSettled};
-ghost use Rattle.iol_hold.specs.Texts.{bufs_of, AllReadable};
+ghost use Rattle.iol_hold.specs.Texts.{text_of, bufs_of, AllReadable};
 ghost use Rattle.iol_pipe.specs.Queue.{first_pool, may_see};
 ghost use Rattle.iol_kernel.specs.ClosedEnds.{without_reader, without_writer, ClosesEnd};
 ghost use Rattle.iol_kernel.specs.KernelState.{queue_at};
@@ -235,6 +236,43 @@ impl Pipes {
     {
         let pipe = self.places.value_mut(p.number() as usize);
         pipe.queue.front(alloc, store, n, d)
+    }
+
+    /// Copies the longest prefix of what waits in a pipe whose pools all name the domain, as much of it as there is room
+    /// for, and tells how many bytes that is. All still wait.
+    pub(crate) fn copy_front(&self, store: &Store, p: PipeId, d: DomainId, into: &mut [u8]) -> u32
+        requires readable { AllReadable store.now (queue_at self.now.places p).queue }
+        requires reading { (queue_at self.now.places p).reading ≡ true }
+        ensures count { result ≡ length (take_while (may_see store.now.pools d) (take
+            (length into.old) (places (queue_at self.now.places p).queue))) }
+        ensures copied { into.new ≡ take result (bytes_of (text_of store.now (queue_at
+            self.now.places p).queue)) ++ drop result into.old }
+    {
+        let Some(pipe) = self.places.get(p.number() as usize) else {
+            unreachable!()
+        };
+        pipe.queue.copy_front(store, d, into)
+    }
+
+    /// Releases the first `n` bytes that wait in a pipe, or all where fewer wait.
+    #[tactic(auto, using(crate::proofs::Ends::there_rules))]
+    pub(crate) fn skip(&mut self, store: &mut Store, p: PipeId, n: u32)
+        requires covered { Covers store.old (bufs_of (queue_at self.old.places p).queue) }
+        requires reading { (queue_at self.old.places p).reading ≡ true }
+        ensures rest { places (queue_at self.new.places p).queue ≡ drop n (places (queue_at
+            self.old.places p).queue) }
+        ensures pipes { self.new.places ≡ with_queue_of self.old.places p self.new.places }
+        ensures moves { Moves store.old store.new (bufs_of (queue_at self.old.places p).queue)
+            (bufs_of (queue_at self.new.places p).queue) }
+        ensures lists { SameLists store.old store.new }
+        ensures frees { FreesOnly store.old store.new }
+        ensures settles { AllReadable store.old (queue_at self.old.places p).queue → AllSettled
+            store.old → AllSettled store.new }
+    {
+        self.places
+            .value_mut(p.number() as usize)
+            .queue
+            .skip(store, n);
     }
 
     /// Closes the read end of a pipe, which goes where its write end is closed.

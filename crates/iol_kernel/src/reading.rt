@@ -53,17 +53,17 @@ impl Kernel {
         if self.is_too_many(by, 1, 0) {
             return Err(Refusal::TooMany);
         }
-        if let Some(pool) = self.first_barred(by, pipe, count) {
+        if let Some(pool) = self.first_barred(by, pipe, count as usize) {
             return Err(Refusal::Denied { pool });
         }
-        if self.must_wait(pipe, count) {
+        if self.must_wait(pipe, count as usize) {
             return Err(Refusal::WouldBlock);
         }
         Ok(self.take(by, fd, pipe, count)?)
     }
 
     /// The pool of the first byte asked for, where the reader may not read it.
-    fn first_barred(&self, by: DomainId, p: PipeId, count: u32) -> Option<PoolId>
+    pub(crate) fn first_barred(&self, by: DomainId, p: PipeId, count: usize) -> Option<PoolId>
         ensures { (f : Reading) → KeepsPools f → result ≡ barred (may_read (as_read f self.now) by)
             (take (min count 1) (pipe_at (as_read f self.now) p).queue) }
     {
@@ -79,7 +79,7 @@ impl Kernel {
 
     /// Whether bytes are asked for, none wait, and some may come.
     #[tactic(auto, using(crate::proofs::ReadOf::pipe_rules))]
-    fn must_wait(&self, p: PipeId, count: u32) -> bool
+    pub(crate) fn must_wait(&self, p: PipeId, count: usize) -> bool
         ensures { (f : Reading) → result ≡ calls.must_wait (as_read f self.now) (Some
             (Descriptor.ReadEnd p)) count }
     {
@@ -121,17 +121,22 @@ impl Kernel {
         if self.is_too_many(by, 1, 0) {
             return Err(Refusal::TooMany);
         }
-        if let Some(pool) = self.first_unread_barred(by, conn, count) {
+        if let Some(pool) = self.first_unread_barred(by, conn, count as usize) {
             return Err(Refusal::Denied { pool });
         }
-        if self.must_wait_for_peer(conn, count) {
+        if self.must_wait_for_peer(conn, count as usize) {
             return Err(Refusal::WouldBlock);
         }
         Ok(self.take_unread(by, fd, conn, count)?)
     }
 
     /// The pool of the first byte asked for that came in on a connection, where the reader may not read it.
-    fn first_unread_barred(&self, by: DomainId, conn: ConnId, count: u32) -> Option<PoolId>
+    pub(crate) fn first_unread_barred(
+        &self,
+        by: DomainId,
+        conn: ConnId,
+        count: usize,
+    ) -> Option<PoolId>
         ensures { (f : Reading) → KeepsPools f → result ≡ barred (may_read (as_read f self.now) by)
             (take (min count 1) (conn_at (as_read f self.now) conn).incoming) }
     {
@@ -146,7 +151,7 @@ impl Kernel {
     }
 
     /// Whether bytes are asked for, none came in, and the peer may still send.
-    fn must_wait_for_peer(&self, conn: ConnId, count: u32) -> bool
+    pub(crate) fn must_wait_for_peer(&self, conn: ConnId, count: usize) -> bool
         ensures { (f : Reading) → result ≡ calls.must_wait (as_read f self.now) (Some
             (Descriptor.Connection conn)) count }
     {

@@ -1,3 +1,4 @@
+pub mod Copied
 pub mod Given
 pub mod Holding
 pub mod Parts

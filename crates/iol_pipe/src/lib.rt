@@ -28,6 +28,7 @@ ghost use Rattle.iol_hold.specs.Texts.{bufs_of, AllReadable};
 ghost use Rattle.iol_pipe.specs.Queue.{first_parts, first_pool, may_see};
 
 mod arriving;
+mod copying;
 mod filling;
 mod taking;
 

@@ -25,6 +25,7 @@
 mod arriving;
 mod busy;
 mod connections;
+mod copying;
 mod draining;
 mod incoming;
 pub mod laws;

@@ -3,3 +3,4 @@ pub mod Safe
 pub mod Used
 pub mod Paged
 pub mod Empty
+pub mod Served

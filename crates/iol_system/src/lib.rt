@@ -5,6 +5,7 @@
 //! the machine's state that it stands for, is `iol_kernel`'s `specs/KernelState`; when there is room, `specs/Room`.
 #![tactic(auto)]
 
+mod borrowed;
 pub mod laws;
 mod step;
 pub mod system;

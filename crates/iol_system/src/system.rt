@@ -37,7 +37,7 @@ use std::marker::Model;
 #[derive(Drop)]
 pub struct System {
     alloc: Global,
-    kernel: Kernel,
+    pub(crate) kernel: Kernel,
 }
 
 impl Model for System {

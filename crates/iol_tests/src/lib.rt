@@ -7,6 +7,8 @@ mod aggregates;
 #[cfg(test)]
 mod arenas;
 #[cfg(test)]
+mod borrowed;
+#[cfg(test)]
 mod holds;
 #[cfg(test)]
 mod pipes;

@@ -1,0 +1,158 @@
+//! Connections that are served from outside in place: what a reader gives comes straight into a page, and a writer takes
+//! bytes from where they lie.
+ghost use Rattle.std.specs.Prelude.{◌≡◌, ℕ, ◌<◌, ◌≤◌, ◌-◌, length, min, take, true, false, Err, IfOk, IfErr, OnOk, OnErr};
+ghost use Rattle.std.specs.Io.KnownBytes.{Appends, IsAtEnd};
+ghost use Rattle.iol_core.specs.Meaning.{WantOfRoom};
+ghost use Rattle.iol_core.specs.State.{conn_at};
+ghost use Rattle.iol_core.specs.Text.{bytes_of};
+ghost use Rattle.iol_core.specs.Calls.Outside.{lacks_conn};
+ghost use Rattle.iol_hold.specs.Moves.{Stays};
+ghost use Rattle.iol_hold.specs.Room.{has_room};
+ghost use Rattle.iol_sock.specs.Refused.{IsPassed, IsRefused};
+ghost use Rattle.iol_kernel.specs.Borrowed.{arrive_from_refusals, ArrivesFrom, sent_on};
+ghost use Rattle.iol_kernel.specs.KernelState.{IsSound};
+
+use crate::kernel::Kernel;
+use iol_core::limits::{MAX_QUEUE_BYTES, PAGE_BYTES};
+use iol_core::numbers::ConnId;
+use iol_core::refusals::Refusal;
+use iol_sock::{Arrived, Drained};
+use std::io::{Read, Write};
+
+impl Kernel {
+    ghost use Rattle.iol_kernel.specs.Kernel.{state_of, machine, Arrives, Leaves};
+
+    /// The bytes of one read come in from a connection's peer, straight into a new buffer on the lowest free page of the
+    /// connection's pool. At most `max` bytes are asked for, a page of them, and what fits.
+    ///
+    /// `BadFd` where there is no such connection, `BadRange` where `max` is 0; else refused as one byte that arrives, all
+    /// before it reads. Where the reader is at its end or fails, nothing came in, and the page is free again.
+    #[tactic(auto, using(crate::proofs::Stay::stay_rules))]
+    pub fn arrive_from<R: Read>(
+        &mut self,
+        conn: ConnId,
+        reader: &mut R,
+        max: u32,
+    ) -> Result<Arrived, Refusal>
+        requires { IsSound (state_of self.old) }
+        ensures passed { OnOk result (IsPassed (arrive_from_refusals (machine self.old) conn max)) }
+        ensures refused { IfErr result (IsRefused (arrive_from_refusals (machine self.old) conn max)
+            (WantOfRoom (conn_at (machine self.old) conn).pool)) }
+        ensures read { IfOk result (λ a. ArrivesFrom (R.remaining reader.old)
+            (R.remaining reader.new) conn a.taken (machine self.old) (machine self.new)) }
+        ensures made { IfOk result (λ a. Arrives conn a.taken self.old self.new) }
+        ensures most { IfOk result (λ a. a.taken ≤ min (min max PAGE_BYTES) (MAX_QUEUE_BYTES -
+            length (conn_at (machine self.old) conn).incoming)) }
+        ensures some { IfOk result (λ a. a.end ≡ false → a.failed ≡ false → 0 < a.taken) }
+        ensures ended { IfOk result (λ a. a.end ≡ true → (a.taken ≡ 0) × IsAtEnd
+            (R.remaining reader.new)) }
+        ensures failed { IfOk result (λ a. a.failed ≡ true → a.taken ≡ 0) }
+        ensures none { IfOk result (λ a. a.taken ≡ 0 → machine self.new ≡ machine self.old) }
+        ensures room { OnOk result (has_room self.old.store (conn_at (machine self.old) conn).pool
+            1 ≡ true) }
+        ensures no_room { (p : ℕ) → result ≡ Err (Refusal.NoRoom p) → has_room self.old.store
+            (conn_at (machine self.old) conn).pool 1 ≡ false }
+        ensures err { OnErr result (state_of self.new ≡ state_of self.old) }
+        ensures err_reader { OnErr result (reader.new ≡ reader.old) }
+        ensures sound { IsSound (state_of self.new) }
+        ensures stays { Stays self.old.store self.new.store }
+    {
+        if self.lacks_conn(conn) {
+            return Err(Refusal::BadFd);
+        }
+        self.read_in(conn, reader, max)
+    }
+
+    /// The bytes of one read come in on a connection that is there.
+    fn read_in<R: Read>(
+        &mut self,
+        conn: ConnId,
+        reader: &mut R,
+        max: u32,
+    ) -> Result<Arrived, Refusal>
+        requires sound { IsSound (state_of self.old) }
+        requires there { lacks_conn (machine self.old) conn ≡ false }
+        ensures passed { OnOk result (IsPassed (arrive_from_refusals (machine self.old) conn max)) }
+        ensures refused { IfErr result (IsRefused (arrive_from_refusals (machine self.old) conn max)
+            (WantOfRoom (conn_at (machine self.old) conn).pool)) }
+        ensures read { IfOk result (λ a. ArrivesFrom (R.remaining reader.old)
+            (R.remaining reader.new) conn a.taken (machine self.old) (machine self.new)) }
+        ensures made { IfOk result (λ a. Arrives conn a.taken self.old self.new) }
+        ensures most { IfOk result (λ a. a.taken ≤ min (min max PAGE_BYTES) (MAX_QUEUE_BYTES -
+            length (conn_at (machine self.old) conn).incoming)) }
+        ensures some { IfOk result (λ a. a.end ≡ false → a.failed ≡ false → 0 < a.taken) }
+        ensures ended { IfOk result (λ a. a.end ≡ true → (a.taken ≡ 0) × IsAtEnd
+            (R.remaining reader.new)) }
+        ensures failed { IfOk result (λ a. a.failed ≡ true → a.taken ≡ 0) }
+        ensures none { IfOk result (λ a. a.taken ≡ 0 → machine self.new ≡ machine self.old) }
+        ensures room { OnOk result (has_room self.old.store (conn_at (machine self.old) conn).pool
+            1 ≡ true) }
+        ensures no_room { (p : ℕ) → result ≡ Err (Refusal.NoRoom p) → has_room self.old.store
+            (conn_at (machine self.old) conn).pool 1 ≡ false }
+        ensures err { OnErr result (state_of self.new ≡ state_of self.old) }
+        ensures err_reader { OnErr result (reader.new ≡ reader.old) }
+        ensures sound { IsSound (state_of self.new) }
+        ensures stays { Stays self.old.store self.new.store }
+    {
+        Ok(
+            self.conns
+                .arrive_from(self.alloc, &mut self.store, conn, reader, max)?,
+        )
+    }
+
+    /// Lends the first bytes to be sent on a connection to a writer, slice by slice and at most `max` in all, until it
+    /// fails or takes none. What it took is sent. No memory is taken.
+    ///
+    /// `BadFd` where there is no such connection.
+    #[tactic(auto, using(crate::proofs::Stay::stay_rules))]
+    pub fn drain_to<W: Write>(
+        &mut self,
+        conn: ConnId,
+        writer: &mut W,
+        max: u32,
+    ) -> Result<Drained, Refusal>
+        requires { IsSound (state_of self.old) }
+        ensures passed { OnOk result (lacks_conn (machine self.old) conn ≡ false) }
+        ensures refused { IfErr result (λ x. (x ≡ Refusal.BadFd) × (lacks_conn (machine self.old)
+            conn ≡ true)) }
+        ensures most { IfOk result (λ d. d.taken ≤ min max (length (conn_at (machine self.old)
+            conn).outgoing)) }
+        ensures all { IfOk result (λ d. d.failed ≡ false → d.taken ≡ min max (length (conn_at
+            (machine self.old) conn).outgoing)) }
+        ensures fewer { IfOk result (λ d. d.failed ≡ true → d.taken < min max (length (conn_at
+            (machine self.old) conn).outgoing)) }
+        ensures written { IfOk result (λ d. Appends (W.contents writer.old) (W.contents writer.new)
+            (take d.taken (bytes_of (conn_at (machine self.old) conn).outgoing))) }
+        ensures left { IfOk result (λ d. Leaves (sent_on conn d.taken) self.old self.new) }
+        ensures err { OnErr result (state_of self.new ≡ state_of self.old) }
+        ensures err_writer { OnErr result (writer.new ≡ writer.old) }
+        ensures sound { IsSound (state_of self.new) }
+        ensures stays { Stays self.old.store self.new.store }
+    {
+        if self.lacks_conn(conn) {
+            return Err(Refusal::BadFd);
+        }
+        Ok(self.lend_out(conn, writer, max))
+    }
+
+    /// Lends the first bytes to be sent on a connection that is there, and forgets it where it is over.
+    fn lend_out<W: Write>(&mut self, conn: ConnId, writer: &mut W, max: u32) -> Drained
+        requires sound { IsSound (state_of self.old) }
+        requires there { lacks_conn (machine self.old) conn ≡ false }
+        ensures most { result.taken ≤ min max (length (conn_at (machine self.old) conn).outgoing) }
+        ensures all { result.failed ≡ false → result.taken ≡ min max (length (conn_at
+            (machine self.old) conn).outgoing) }
+        ensures fewer { result.failed ≡ true → result.taken < min max (length (conn_at
+            (machine self.old) conn).outgoing) }
+        ensures written { Appends (W.contents writer.old) (W.contents writer.new) (take result.taken
+            (bytes_of (conn_at (machine self.old) conn).outgoing)) }
+        ensures left { Leaves (sent_on conn result.taken) self.old self.new }
+    {
+        let drained = self.conns.drain_to(&mut self.store, conn, writer, max);
+        if drained.taken == 0 {
+            return drained;
+        }
+        self.settle(conn);
+        drained
+    }
+}

@@ -1,0 +1,49 @@
+//! Copies of the first bytes of a queue.
+ghost use Rattle.std.specs.Prelude.{◌≡◌, ◌+◌, ◌≤◌, ◌++◌, length, take, drop};
+ghost use Rattle.std.specs.List.{take_while};
+ghost use Rattle.iol_core.specs.Text.{bytes_of};
+ghost use Rattle.iol_hold.specs.Places.{places};
+ghost use Rattle.iol_hold.specs.Texts.{text_of, AllReadable};
+ghost use Rattle.iol_pipe.specs.Queue.{may_see};
+
+use crate::Pipe;
+use iol_core::numbers::DomainId;
+use iol_hold::Store;
+
+impl Pipe {
+    /// Copies the longest prefix of the bytes that wait whose pools all name the domain, as much of it as there is room
+    /// for, and tells how many bytes that is. All still wait, and no memory is taken.
+    pub fn copy_front(&self, store: &Store, d: DomainId, into: &mut [u8]) -> u32
+        requires { AllReadable store.now self.now }
+        ensures count { result ≡ length (take_while (may_see store.now.pools d)
+            (take (length into.old) (places self.now))) }
+        ensures copied { into.new ≡ take result (bytes_of (text_of store.now self.now)) ++
+            drop result into.old }
+    {
+        // That the queue is bounded bounds the answer.
+        let _len = self.len;
+        let mut at = 0;
+        let mut i = 0;
+        while at < into.len() {
+            let Some(slice) = self.slice(i) else {
+                return at as u32;
+            };
+            if !store.pools().names(slice.hold.pool(), d) {
+                return at as u32;
+            }
+            let len = (slice.len as usize).min(into.len() - at);
+            put_at(into, at, &slice.bytes(store)[..len]);
+            at += len;
+            i += 1;
+        }
+        at as u32
+    }
+}
+
+// Puts bytes over those from a place on.
+fn put_at(into: &mut [u8], at: usize, bytes: &[u8])
+    requires { at + length bytes.now ≤ length into.old }
+    ensures { into.new ≡ take at into.old ++ bytes.now ++ drop (at + length bytes.now) into.old }
+{
+    into[at..at + bytes.len()].copy_from_slice(bytes);
+}

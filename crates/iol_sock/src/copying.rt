@@ -1,0 +1,69 @@
+//! What came in is copied out, and then skipped.
+ghost use Rattle.std.specs.Prelude.{◌≡◌, ◌≢◌, ◌≤◌, ◌++◌, None, length, take, drop};
+ghost use Rattle.std.specs.List.{take_while};
+ghost use Rattle.iol_core.specs.Numbered.{lookup};
+ghost use Rattle.iol_core.specs.Text.{bytes_of};
+ghost use Rattle.iol_hold.specs.Moves.{Covers, Moves, SameLists};
+ghost use Rattle.iol_hold.specs.Places.{places};
+ghost use Rattle.iol_hold.specs.Releases.{FreesOnly};
+ghost use Rattle.iol_hold.specs.Stored.{AllSettled};
+ghost use Rattle.iol_hold.specs.Texts.{text_of, bufs_of, AllReadable};
+ghost use Rattle.iol_pipe.specs.Queue.{may_see};
+ghost use Rattle.iol_sock.specs.Table.{conn_in, with_conn};
+
+use crate::connections::Connection;
+use crate::table::Connections;
+use iol_core::numbers::{ConnId, DomainId};
+use iol_hold::Store;
+
+impl Connection {
+    /// Copies the longest prefix of what came in whose pools all name the domain, as much of it as there is room for, and
+    /// tells how many bytes that is. All still wait, and no memory is taken.
+    pub fn copy_front(&self, store: &Store, d: DomainId, into: &mut [u8]) -> u32
+        requires { AllReadable store.now self.now.incoming }
+        ensures count { result ≡ length (take_while (may_see store.now.pools d)
+            (take (length into.old) (places self.now.incoming))) }
+        ensures copied { into.new ≡ take result (bytes_of (text_of store.now self.now.incoming)) ++
+            drop result into.old }
+    {
+        self.incoming.copy_front(store, d, into)
+    }
+
+    /// Releases the first `n` bytes that came in, or all where fewer wait. It takes no memory.
+    pub fn skip(&mut self, store: &mut Store, n: u32)
+        requires { Covers store.old (bufs_of self.old.incoming) }
+        ensures rest { places self.new.incoming ≡ drop n (places self.old.incoming) }
+        ensures others { self.new ≡ record self.old { incoming = self.new.incoming } }
+        ensures moves { Moves store.old store.new (bufs_of self.old.incoming)
+            (bufs_of self.new.incoming) }
+        ensures lists { SameLists store.old store.new }
+        ensures frees { FreesOnly store.old store.new }
+        ensures settles { AllReadable store.old self.old.incoming → AllSettled store.old →
+            AllSettled store.new }
+    {
+        self.incoming.skip(store, n);
+    }
+}
+
+impl Connections {
+    /// Releases the first `n` bytes that came in on a connection, or all where fewer wait. It takes no memory.
+    #[tactic(auto, using(crate::proofs::Waiting::passing_rules))]
+    pub fn skip(&mut self, store: &mut Store, c: ConnId, n: u32)
+        requires there { lookup self.old.conns c ≢ None }
+        requires covered { Covers store.old (bufs_of (conn_in self.old.conns c).incoming) }
+        ensures rest { places (conn_in self.new.conns c).incoming ≡ drop n
+            (places (conn_in self.old.conns c).incoming) }
+        ensures others { self.new ≡ with_conn self.old c (record (conn_in self.old.conns c) {
+          incoming = (conn_in self.new.conns c).incoming;
+        }) }
+        ensures moves { Moves store.old store.new (bufs_of (conn_in self.old.conns c).incoming)
+            (bufs_of (conn_in self.new.conns c).incoming) }
+        ensures lists { SameLists store.old store.new }
+        ensures frees { FreesOnly store.old store.new }
+        ensures settles { AllReadable store.old (conn_in self.old.conns c).incoming → AllSettled
+            store.old → AllSettled store.new }
+    {
+        self.live.numbers_rise();
+        self.live.value_mut(c.number() as u64).skip(store, n);
+    }
+}
