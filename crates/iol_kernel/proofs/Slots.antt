@@ -22,7 +22,7 @@ use Rattle.iol_hold.specs.declared.slices.Slice.{Slice}
 use Rattle.iol_hold.proofs.Counting.{same_few, tally-append, bufs-append}
 use Rattle.iol_hold.proofs.Slicing.{byte_len-cons}
 use Rattle.iol_extent.specs.Extents.{Extent, IsApart, last_end, end_of}
-use Rattle.iol_cache.specs.Cached.{Cached, file_in, no_file, extents_in, slices_in, held}
+use Rattle.iol_cache.specs.Cached.{Cached, file_in, no_file, extents_in, all_parts, held}
 use Rattle.iol_cache.specs.Contents.{byte_in, file_bytes, file_len}
 use Rattle.iol_cache.specs.Sound as cache
 use Rattle.iol_cache.specs.declared.files.CachedFile.{CachedFile}
@@ -107,31 +107,31 @@ unfolding tally
 uses_few b [] = omega arith
 uses_few b (x ∷ xs) = let r = uses_few b xs in omega (arith, r, byte_len-cons x xs, same_few b x.hold.buf, x.some)
 
-extents_few : (b : BufId) (low : ℕ) (es : List Extent) → IsApart low es → tally b (bufs_of (slices_in es)) ≤ last_end es - low
+extents_few : (b : BufId) (low : ℕ) (es : List Extent) → IsApart low es → tally b (bufs_of (all_parts es)) ≤ last_end es - low
 unfolding tally
 extents_few b low [] apart = omega arith
 extents_few b low (e ∷ es) apart =
-    let parts : slices_in (e ∷ es) ≡ e.parts ++ slices_in es = flat_map-cons (λ (x : Extent). x.parts) e es in
+    let parts : all_parts (e ∷ es) ≡ e.parts ++ all_parts es = flat_map-cons (λ (x : Extent). x.parts) e es in
     omega (
       arith,
       extents_few b (end_of e) es apart.2,
       ap (λ (xs : List Slice). tally b (bufs_of xs)) parts,
-      ap (tally b) (bufs-append e.parts (slices_in es)),
-      tally-append b (bufs_of e.parts) (bufs_of (slices_in es)),
+      ap (tally b) (bufs-append e.parts (all_parts es)),
+      tally-append b (bufs_of e.parts) (bufs_of (all_parts es)),
       uses_few b e.parts,
       apart.0,
     )
 
 pub files_few : (b : BufId) (fs : List CachedFile) → Each IsFile fs → tally b (held fs) ≤ MAX_FILE_BYTES * length fs
 unfolding held
-files_few b fs each = omega (arith, sum-flat (additive_tally b) (λ (x : CachedFile). bufs_of (slices_in x.extents.extents)) fs, few fs each)
+files_few b fs each = omega (arith, sum-flat (additive_tally b) (λ (x : CachedFile). bufs_of (all_parts x.extents.extents)) fs, few fs each)
   where
-    few : (gs : List CachedFile) → Each IsFile gs → sum_by (λ (x : CachedFile). tally b (bufs_of (slices_in x.extents.extents))) gs ≤ MAX_FILE_BYTES * length gs
+    few : (gs : List CachedFile) → Each IsFile gs → sum_by (λ (x : CachedFile). tally b (bufs_of (all_parts x.extents.extents))) gs ≤ MAX_FILE_BYTES * length gs
     few [] each = omega arith
     few (x ∷ gs) each = omega (
       arith,
       few gs each.1,
-      sum_by-cons (λ (y : CachedFile). tally b (bufs_of (slices_in y.extents.extents))) x gs,
+      sum_by-cons (λ (y : CachedFile). tally b (bufs_of (all_parts y.extents.extents))) x gs,
       extents_few b 0 x.extents.extents each.0.apart,
       each.0.short,
     )
