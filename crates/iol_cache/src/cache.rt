@@ -24,15 +24,20 @@ pub struct Cache {
     pub(crate) marks: CleanHolds,
 }
 
-// Empty orders, until there are so many.
+// Empty orders, until there are so many. For want of memory, none.
 fn add_orders(orders: &mut Vec<Order>, alloc: Global, count: usize) -> Result<(), AllocError>
     ensures same { (p : ℕ) → order_in orders.new.items p ≡ order_in orders.old.items p }
     ensures enough { OnOk result (count ≤ length orders.new.items) }
     ensures no_fewer { length orders.old.items ≤ length orders.new.items }
     ensures no_more { length orders.new.items ≤ max count (length orders.old.items) }
+    ensures err { OnErr result (orders.new.items ≡ orders.old.items) }
 {
+    if count <= orders.len() {
+        return Ok(());
+    }
+    orders.reserve(count - orders.len())?;
     while orders.len() < count {
-        orders.push(Order::new(alloc))?;
+        orders.push_reserved(Order::new(alloc));
     }
     Ok(())
 }
@@ -60,17 +65,18 @@ impl Cache {
         ensures number { IfOk result (λ f. f ≡ length (cached_of self.old).files + 1) }
         ensures added { let old = (cached_of self.old).files in
             OnOk result ((cached_of self.new).files ≡ old ++ new_file pool ∷ []) }
-        ensures err { OnErr result ((cached_of self.new).files ≡ (cached_of self.old).files) }
+        ensures err { OnErr result (cached_of self.new ≡ cached_of self.old) }
         ensures orders { (p : ℕ) → order_in (cached_of self.new).orders p ≡
             order_in (cached_of self.old).orders p }
         ensures sound { (s : Stored) → IsSound s (cached_of self.old) →
             (pool_in s.pools pool).closed ≡ false → IsSound s (cached_of self.new) }
     {
+        self.files.reserve(1)?;
         add_orders(&mut self.orders, alloc, pool.number() as usize)?;
-        self.files.push(CachedFile {
+        self.files.push_reserved(CachedFile {
             pool,
             extents: Extents::new(alloc),
-        })?;
+        });
         Ok(FileId::new(self.files.len() as u32))
     }
 }

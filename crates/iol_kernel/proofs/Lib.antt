@@ -1,6 +1,7 @@
 pub mod Views
 pub mod Slots
 pub mod Filed
+pub mod Named
 pub mod Rows
 pub mod Uses
 pub mod Once

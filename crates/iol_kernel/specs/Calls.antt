@@ -6,6 +6,7 @@ use Rattle.iol_core.specs.Meaning.{Meaning, Step, first}
 use Rattle.iol_core.specs.Calls.Aggregates.{lacks_agg, with_agg, show}
 use Rattle.iol_core.specs.declared.refusals.Refusal.{Refusal}
 use Rattle.iol_core.specs.declared.refusals.Refusal.TheVariants.{NoDomain, BadAgg, NoRoom}
+use Rattle.iol_back.specs.Disk.{Disk, IfHonest}
 use Rattle.iol_arena.specs.Pages.{MadeOn}
 use Rattle.iol_hold.specs.Moves.{Stays}
 use Rattle.iol_hold.specs.Pages.{KeepsPages}
@@ -55,6 +56,15 @@ pub record KeepsPlaces {A : Type 0} (m : State → Meaning A) (old : KernelState
   pub sums : new.sums ≡ old.sums
   pub sound : IsSound new
   pub stays : Stays old.store new.store
+
+-- The machine's step on files, where the store under them is honest. Pages, pools and remembered sums are as they were.
+pub record Names {A : Type 0} (disk : Disk) (m : State → Meaning A) (old : KernelState) (r : Result A Refusal) (new : KernelState) : Type 0 where
+  pub step : IfHonest disk (Step (m (machine_of disk.slots old)) (machine_of disk.slots old) r (machine_of disk.slots new))
+  pub store : new.store ≡ old.store
+  pub roomy : (p : ℕ) → r ≡ Err (NoRoom p) → ⊥
+  pub refused : OnErr r (new ≡ old)
+  pub sums : new.sums ≡ old.sums
+  pub sound : IsSound new
 
 -- The effect of a call that carries out: its answer, and the state after it.
 pub record Answers {A : Type 0} (m : State → Meaning A) (old : KernelState) (a : A) (new : KernelState) : Type 0 where

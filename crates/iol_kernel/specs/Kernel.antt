@@ -5,6 +5,7 @@ use Rattle.iol_core.specs.Meaning.{Meaning}
 use Rattle.iol_core.specs.declared.refusals.Refusal.{Refusal}
 use Rattle.iol_hold.specs.declared.slices.Slice.{Slice}
 use Rattle.iol_desc.specs.Tables.{domains_of}
+use Rattle.iol_back.specs.Disk.{Disk}
 use Rattle.iol_cache.specs.Cache.{cached_of}
 use Rattle.iol_kernel.specs.Calls as calls
 use Rattle.iol_kernel.specs.Files.{files_of}
@@ -37,6 +38,9 @@ Leaves after old new = calls.Leaves after (state_of old) (state_of new)
 
 abbrev pub Steps : {A : Type 0} → (State → Meaning A) → Kernel → Result A Refusal → Kernel → Type 0
 Steps m old r new = calls.Steps m (state_of old) r (state_of new)
+
+abbrev pub Names : {A : Type 0} → Disk → (State → Meaning A) → Kernel → Result A Refusal → Kernel → Type 0
+Names disk m old r new = calls.Names disk m (state_of old) r (state_of new)
 
 abbrev pub AddsBytes : (d pool : ℕ) → List ℕ → (old new : Kernel) → Type 0
 AddsBytes d pool bytes old new = calls.AddsBytes d pool bytes (state_of old) (state_of new)

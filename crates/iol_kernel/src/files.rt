@@ -1,6 +1,9 @@
 //! The files by slot: their names and pools, and the cache of what is in memory.
-ghost use Rattle.std.specs.Prelude.{◌≡◌, ◌==◌, [], IfOk};
+ghost use Rattle.std.specs.Prelude.{◌≡◌, ◌==◌, ◌+◌, ◌<◌, ◌++◌, ◌∷◌, [], length, false, bytes_eq, IfOk, OnOk, OnErr};
 ghost use Rattle.std.specs.List.{list_any};
+ghost use Rattle.iol_core.specs.State as machine;
+ghost use Rattle.iol_pool.specs.Pools.{pool_in};
+ghost use Rattle.iol_cache.specs.Cached.{new_file};
 ghost use Rattle.iol_arena.specs.State.{page_count};
 ghost use Rattle.iol_hold.specs.Stored.{Stored, IsTidy, IsStill};
 ghost use Rattle.iol_cache.specs.Cache.{cached_of};
@@ -8,8 +11,9 @@ ghost use Rattle.iol_cache.specs.Sound as cache;
 ghost use Rattle.iol_kernel.specs.Files.{files_of};
 
 use iol_cache::Cache;
+use iol_core::limits::MAX_FILES;
 use iol_core::lists::Bytes;
-use iol_core::numbers::PoolId;
+use iol_core::numbers::{FileId, PoolId};
 use std::alloc::{AllocError, Global};
 
 /// A file's name, and the pool of its bytes.
@@ -24,6 +28,13 @@ fn any_of(list: &[File], pool: PoolId) -> bool
     ensures { result ≡ list_any (λ f. f.pool == pool) list.now }
 {
     list.iter().any(|file| file.pool.number() == pool.number())
+}
+
+// Whether one of these has the name.
+fn is_among(list: &[File], name: &[u8]) -> bool
+    ensures { result ≡ list_any (λ f. bytes_eq f.name name.now) list.now }
+{
+    list.iter().any(|file| file.name.as_slice() == name)
 }
 
 /// The files in slots from 1.
@@ -46,6 +57,42 @@ impl Files {
             list: Vec::new(alloc),
             cache,
         })
+    }
+
+    /// Whether a file has this name.
+    pub(crate) fn has(&self, name: &[u8]) -> bool
+        ensures { result ≡ list_any (λ f. bytes_eq f.name name.now) (files_of self.now.list.items) }
+    {
+        is_among(self.list.as_slice(), name)
+    }
+
+    /// Adds a file of an open pool in the next slot.
+    #[tactic(auto, using(crate::proofs::Named::list_rules))]
+    pub(crate) fn add(
+        &mut self,
+        alloc: Global,
+        name: &[u8],
+        pool: PoolId,
+    ) -> Result<FileId, AllocError>
+        requires few { length (cached_of self.old.cache).files < MAX_FILES }
+        ensures number { IfOk result (λ n. n ≡ length (cached_of self.old.cache).files + 1) }
+        ensures list { let file : machine.File = record { name = name.now; pool = pool } in
+            OnOk result (files_of self.new.list.items ≡ files_of self.old.list.items ++ file ∷ []) }
+        ensures cached { OnOk result ((cached_of self.new.cache).files ≡ (cached_of self.old.cache).files ++ new_file pool ∷ []) }
+        ensures sound { (s : Stored) → cache.IsSound s (cached_of self.old.cache) →
+            (pool_in s.pools pool).closed ≡ false → cache.IsSound s (cached_of self.new.cache) }
+        ensures err_list { OnErr result (files_of self.new.list.items ≡ files_of self.old.list.items) }
+        ensures err_cache { OnErr result (cached_of self.new.cache ≡ cached_of self.old.cache) }
+    {
+        let mut copy = Vec::with_capacity(alloc, name.len())?;
+        copy.extend_from_slice(name)?;
+        self.list.reserve(1)?;
+        let file = self.cache.add_file(alloc, pool)?;
+        self.list.push_reserved(File {
+            name: Bytes::from_vec(copy),
+            pool,
+        });
+        Ok(file)
     }
 
     /// Whether a file is of the pool.

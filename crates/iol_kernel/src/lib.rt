@@ -19,6 +19,7 @@ pub mod descriptors;
 pub mod domains;
 mod files;
 pub mod kernel;
+pub mod naming;
 pub mod outside;
 mod pipes;
 pub mod pools;

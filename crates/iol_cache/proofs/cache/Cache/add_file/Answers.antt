@@ -12,4 +12,4 @@ pushed fs gs p m e is = e ∙ ap (λ (y : ExtentMap). fs ++ (let x : CachedFile 
 pub returns-clause-sound : goal.returns-clause-sound
 returns-clause-sound c = λ s sound is.
     let e = c.add_orders.ensures in
-    sound_added s (cached_of c.args.self.now) _ c.args.pool sound c.requires is (pushed c.args.self.now.files.items _ c.args.pool c.new.result c.in_ok-push.ensures.items c.new.ensures) e.same (omega (arith, c.in_ok-add_orders.ensures.enough, c.number.ensures)) e.no_fewer (omega (arith, e.no_more, sound.few_orders, c.number.ensures)) refl
+    sound_added s (cached_of c.args.self.now) _ c.args.pool sound c.requires is (pushed c.args.self.now.files.items _ c.args.pool c.new.result (c.push_reserved.ensures.items ∙ ap (λ (l : List CachedFile). l ++ record { pool = c.args.pool; extents = c.new.result } ∷ []) c.reserve.ensures.items) c.new.ensures) e.same (omega (arith, c.in_ok-add_orders.ensures.enough, c.number.ensures)) e.no_fewer (omega (arith, e.no_more, sound.few_orders, c.number.ensures)) refl

@@ -1,0 +1,271 @@
+-- Files by name, and a new one.
+use Rattle.std.proofs.Common.{◌≡◌, ℕ, zero, suc, ◌+◌, ◌-◌, ◌<◌, ◌≤◌, ◌∙◌, Bool, true, false, cond, List, [], ◌∷◌, ◌++◌, length, get_or, map, Option, Some, None, refl, sym, ap, subst, arith, inl, inr}
+use Rattle.std.specs.Prelude.{MatchOption, Ok, Err, position, option_map, is_some, bytes_eq, flat_map, min, nat_lt, not, sum_by, ◌||◌}
+use Rattle.std.specs.List.{list_any, position_or_len, range_with_len}
+use Rattle.std.proofs.lemmas.Bool.{cases_eq, cases_lt}
+use Rattle.std.proofs.lemmas.Bool.Decides.{nat_tests}
+use Rattle.std.proofs.lemmas.List.{length-map, map-append, get_or_append_left, get_or_past}
+use Rattle.std.proofs.lemmas.List.FromFn.{get_or-map-range_with_len, length-map-range_with_len}
+use Rattle.std.proofs.lemmas.List.Sums.{sum_by_push}
+use Rattle.iol_core.specs.Numbered.{numbered_or}
+use Rattle.iol_core.specs.Meaning.{Meaning, first}
+use Rattle.iol_core.specs.State as machine
+use Rattle.iol_core.specs.State.{State, Domain}
+use Rattle.iol_core.specs.Calls.Files as calls
+use Rattle.iol_core.specs.Calls.Files.{file_called}
+use Rattle.iol_core.specs.declared.descriptors.Descriptor.{Descriptor}
+use Rattle.iol_core.specs.declared.descriptors.Descriptor.TheVariants as on
+use Rattle.iol_core.specs.declared.limits.TheConstants.{MAX_FILES, MAX_FILE_BYTES}
+use Rattle.iol_core.specs.declared.refusals.Refusal.TheVariants.{Memory}
+use Rattle.iol_core.specs.declared.numbers.BufId.{BufId}
+use Rattle.iol_back.specs.Disk.{Disk, IfHonest, content}
+use Rattle.iol_hold.specs.Moves.{tally}
+use Rattle.iol_hold.specs.Stored.{Stored}
+use Rattle.iol_hold.specs.Texts.{bufs_of}
+use Rattle.iol_hold.specs.declared.slices.Slice.{Slice}
+use Rattle.iol_hold.proofs.Counting.{tally_none}
+use Rattle.iol_cache.specs.Cached.{Cached, file_in, no_file, new_file, extents_in, all_parts, held}
+use Rattle.iol_cache.specs.Contents.{file_bytes}
+use Rattle.iol_cache.specs.Sound as cache
+use Rattle.iol_cache.specs.declared.files.CachedFile.{CachedFile}
+use Rattle.iol_cache.proofs.Filing.{additive_tally, file_nowhere, sum-flat}
+use Rattle.iol_kernel.specs.Calls.{Answers, Names}
+use Rattle.iol_kernel.specs.Files.{file_of, files_of}
+use Rattle.iol_kernel.specs.KernelState.{KernelState, objects_of, Each, AreFiled, IsCached, IsFile, IsOpenEnd, IsSound, read_of, machine_of}
+use Rattle.iol_kernel.specs.Readings.{Reading, KeepsPools, bytes_over, slot_read, slots_read}
+use Rattle.iol_kernel.specs.Views.{state_view}
+use Rattle.iol_kernel.specs.declared.files.File.{File}
+use Rattle.iol_kernel.proofs.Slots.{file_bytes-none}
+use Rattle.iol_kernel.proofs.Sound.{each-push, each-weaker}
+use Rattle.iol_kernel.proofs.Stay.{stays_here}
+
+pub files-read_of : (f : Reading) (h : KernelState) → (read_of f h).files ≡ h.files
+unfolding read_of state_view
+files-read_of f h = refl
+
+pub length-files : (xs : List File) → length (files_of xs) ≡ length xs
+length-files xs = length-map xs file_of
+
+pub any_named-files : (name : List ℕ) (xs : List File) → list_any (λ (x : File). bytes_eq x.name name) xs ≡ list_any (λ x. bytes_eq x.name name) (files_of xs)
+any_named-files name [] = refl
+any_named-files name (x ∷ xs) = ap (λ b. bytes_eq x.name name || b) (any_named-files name xs)
+
+-- one of a list passes just where there is a first that does
+any-first : {A : Type 0} (p : A → Bool) (xs : List A) → list_any p xs ≡ nat_lt (position_or_len p xs) (length xs)
+any-first p [] = refl
+any-first p (x ∷ xs) = of (p x) (any-first p xs)
+  where
+    shifted : (n m : ℕ) → nat_lt n m ≡ nat_lt (1 + n) (suc m)
+    shifted n m = elim (cases_lt n m) [ inl k ↦ grind (arith, nat_tests, k) | inr k ↦ grind (arith, nat_tests, k) ]
+
+    of : (b : Bool) → list_any p xs ≡ nat_lt (position_or_len p xs) (length xs) → (b || list_any p xs) ≡ nat_lt (cond (not b) (1 + position_or_len p xs) 0) (suc (length xs))
+    of true same = grind (arith, nat_tests)
+    of false same = same ∙ shifted (position_or_len p xs) (length xs)
+
+pub has-file_called : (f : Reading) (h : KernelState) (name : List ℕ) → list_any (λ x. bytes_eq x.name name) h.files ≡ is_some (file_called (read_of f h) name)
+has-file_called f h name =
+    any-first (λ (x : machine.File). bytes_eq x.name name) h.files
+    ∙ numbered (nat_lt (position_or_len (λ (x : machine.File). bytes_eq x.name name) h.files) (length h.files)) (position_or_len (λ (x : machine.File). bytes_eq x.name name) h.files)
+    ∙ ap (λ (fs : List machine.File). is_some (option_map (λ i. i + 1) (position (λ x. bytes_eq x.name name) fs))) (sym (files-read_of f h))
+  where
+    numbered : (b : Bool) (n : ℕ) → b ≡ is_some (option_map (λ i. i + 1) (cond b (Some n) None))
+    numbered true n = refl
+    numbered false n = refl
+
+pub files-push : (xs : List File) (x : File) → files_of (xs ++ x ∷ []) ≡ files_of xs ++ file_of x ∷ []
+files-push xs x = map-append file_of xs (x ∷ [])
+
+pub ruleset file_rules = (files-read_of, length-files)
+
+pub ruleset list_rules = (files-push)
+
+-- What the next slot has.
+
+abbrev Files : Type 0
+Files = List CachedFile
+
+no_extents : (fs : Files) (n : ℕ) → length fs < n → extents_in fs n ≡ []
+no_extents fs n past = ap (λ (x : CachedFile). x.extents.extents) (file_nowhere fs n (grind (arith, nat_tests, past)))
+
+slot-new : (f : Reading) (fs : Files) (n : ℕ) → length fs < n → slot_read f fs n ≡ content f.stored n
+slot-new f fs n past =
+    ap (file_bytes (λ p. (f.at p).0) (content f.stored n)) (no_extents fs n past) ∙ file_bytes-none (λ p. (f.at p).0) (content f.stored n)
+
+pub as_many : (h : KernelState) → AreFiled h.files h.cache.files → length h.cache.files ≡ length h.files
+as_many h filed = sym (length-map h.cache.files (λ (x : CachedFile). x.pool)) ∙ ap length filed ∙ length-map h.files (λ (x : machine.File). x.pool)
+
+pub next-slot : (f : Reading) (h : KernelState) → AreFiled h.files h.cache.files → length h.files < MAX_FILES → machine.content (read_of f h) (length h.files + 1) ≡ content f.stored (length h.files + 1)
+unfolding read_of state_view machine.content slots_read
+next-slot f h filed few =
+    let n : ℕ = length h.files in
+    let slots : List (List ℕ) = map (slot_read f h.cache.files) (range_with_len 1 MAX_FILES) in
+    let at : numbered_or slots (n + 1) [] ≡ get_or slots n [] = grind (arith, nat_tests) in
+    at
+    ∙ get_or-map-range_with_len (slot_read f h.cache.files) 1 MAX_FILES n (n + 1) [] few (omega arith)
+    ∙ slot-new f h.cache.files (n + 1) (omega (arith, as_many h filed))
+
+pub last-slot : (f : Reading) (h : KernelState) → MAX_FILES ≤ length h.files → machine.content (read_of f h) (length h.files + 1) ≡ []
+unfolding read_of state_view machine.content slots_read
+last-slot f h full =
+    let n : ℕ = length h.files in
+    let slots : List (List ℕ) = map (slot_read f h.cache.files) (range_with_len 1 MAX_FILES) in
+    let at : numbered_or slots (n + 1) [] ≡ get_or slots n [] = grind (arith, nat_tests) in
+    at ∙ get_or_past slots n [] (omega (arith, full, length-map-range_with_len (slot_read f h.cache.files) 1 MAX_FILES))
+
+-- whether an honest store has more there than a file may have
+pub next_too_long : (disk : Disk) (h : KernelState) (len : ℕ) → AreFiled h.files h.cache.files → length h.files < MAX_FILES → IfHonest disk (len ≡ min (length (content disk.slots (length h.files + 1))) 4294967295)
+    → IfHonest disk ((f : Reading) → f.stored ≡ disk.slots → nat_lt MAX_FILE_BYTES len ≡ nat_lt MAX_FILE_BYTES (length (machine.content (read_of f h) (length (read_of f h).files + 1))))
+next_too_long disk h len filed few is honest f stored =
+    more len (length (content disk.slots (length h.files + 1))) (is honest)
+    ∙ ap (λ (slots : List (List ℕ)). nat_lt MAX_FILE_BYTES (length (content slots (length h.files + 1)))) (sym stored)
+    ∙ ap (λ (bytes : List ℕ). nat_lt MAX_FILE_BYTES (length bytes)) (sym (next-slot f h filed few))
+    ∙ ap (λ (fs : List machine.File). nat_lt MAX_FILE_BYTES (length (machine.content (read_of f h) (length fs + 1)))) (sym (files-read_of f h))
+  where
+    more : (n m : ℕ) → n ≡ min m 4294967295 → nat_lt MAX_FILE_BYTES n ≡ nat_lt MAX_FILE_BYTES m
+    more n m is = elim (cases_lt MAX_FILE_BYTES m) [ inl k ↦ grind (arith, nat_tests, k, is) | inr k ↦ grind (arith, nat_tests, k, is) ]
+
+-- past the last slot there is nothing
+pub last_not_too_long : (h : KernelState) (f : Reading) → MAX_FILES ≤ length h.files → false ≡ nat_lt MAX_FILE_BYTES (length (machine.content (read_of f h) (length (read_of f h).files + 1)))
+last_not_too_long h f full =
+    ap (λ (bytes : List ℕ). nat_lt MAX_FILE_BYTES (length bytes)) (sym (last-slot f h full))
+    ∙ ap (λ (fs : List machine.File). nat_lt MAX_FILE_BYTES (length (machine.content (read_of f h) (length fs + 1)))) (sym (files-read_of f h))
+
+-- A new file, of which nothing is in memory.
+
+extents-push : (fs : Files) (p n : ℕ) → extents_in (fs ++ new_file p ∷ []) n ≡ extents_in fs n
+unfolding file_in
+extents-push fs p n = elim (cases_eq n 0) [
+  | inl k ↦ grind (arith, nat_tests, k)
+  | inr k ↦ elim (cases_lt (n - 1) (length fs)) [
+    | inl l ↦ (let same = get_or_append_left fs (new_file p ∷ []) no_file (n - 1) l in
+        let is : numbered_or (fs ++ new_file p ∷ []) n no_file ≡ numbered_or fs n no_file = grind (arith, nat_tests, k, same) in
+        ap (λ (x : CachedFile). x.extents.extents) is)
+    | inr l ↦ (let past = get_or_past fs (n - 1) no_file l in
+        let old : numbered_or fs n no_file ≡ no_file = grind (arith, nat_tests, k, past) in
+        let new : numbered_or (fs ++ new_file p ∷ []) n no_file ≡ get_or (fs ++ new_file p ∷ []) (n - 1) no_file = grind (arith, nat_tests, k) in
+        ap (λ (x : CachedFile). x.extents.extents) new ∙ none_past (n - 1) fs l ∙ ap (λ (x : CachedFile). x.extents.extents) (sym old))
+  ]
+]
+  where
+    none_past : (i : ℕ) (xs : Files) → length xs ≤ i → (get_or (xs ++ new_file p ∷ []) i no_file).extents.extents ≡ []
+    none_past zero [] past = refl
+    none_past (suc i) [] past = refl
+    none_past zero (x ∷ xs) past = absurd (omega (arith, past))
+    none_past (suc i) (x ∷ xs) past = none_past i xs (omega (arith, past))
+
+slots-push : (f : Reading) (fs : Files) (p : ℕ) → slots_read f (fs ++ new_file p ∷ []) ≡ slots_read f fs
+unfolding slots_read
+slots-push f fs p = λ i. map (λ n. file_bytes (λ q. (f.at q).0) (content f.stored n) (extents-push fs p n i)) (range_with_len 1 MAX_FILES)
+
+held-push : (b : BufId) (fs : Files) (p : ℕ) → tally b (held (fs ++ new_file p ∷ [])) ≡ tally b (held fs)
+unfolding held
+held-push b fs p =
+    let w : CachedFile → ℕ = λ x. tally b (bufs_of (all_parts x.extents.extents)) in
+    let one : (gs : Files) → tally b (flat_map (λ (x : CachedFile). bufs_of (all_parts x.extents.extents)) gs) ≡ sum_by w gs = λ gs. sum-flat (additive_tally b) (λ (x : CachedFile). bufs_of (all_parts x.extents.extents)) gs in
+    omega (arith, one (fs ++ new_file p ∷ []), one fs, sum_by_push w fs (new_file p), tally_none b)
+
+module _ (h : KernelState) (name : List ℕ) (p : ℕ) (c : Cached) (sound : IsSound h) (added : c.files ≡ h.cache.files ++ new_file p ∷ []) (kept : cache.IsSound h.store c) where
+  abbrev file : machine.File
+  file = record { name = name; pool = p }
+
+  abbrev pub named : KernelState
+  named = record h { files = h.files ++ file ∷ []; cache = c }
+
+  same_end : (e : Option Descriptor) → IsOpenEnd (objects_of h) e → IsOpenEnd (objects_of named) e
+  same_end None is = tt
+  same_end (Some (on.ReadEnd q)) is = is
+  same_end (Some (on.WriteEnd q)) is = is
+  same_end (Some (on.File f at mode)) is = is
+  same_end (Some (on.Connection n)) is = is
+
+  filed : AreFiled named.files c.files
+  filed =
+      ap (λ (fs : Files). map (λ (x : CachedFile). x.pool) fs) added
+      ∙ map-append (λ (x : CachedFile). x.pool) h.cache.files (new_file p ∷ [])
+      ∙ ap (λ (ps : List ℕ). ps ++ p ∷ []) sound.filed
+      ∙ sym (map-append (λ (x : machine.File). x.pool) h.files (file ∷ []))
+
+  named-sound : IsSound named
+  unfolding IsCached
+  named-sound =
+      let l = sound.limits.objects in
+      record {
+        domains = sound.domains;
+        objects = record { pipes = sound.objects.pipes; conns = sound.objects.conns; files = λ n. record { laid = (kept.files n).laid } };
+        fds = each-weaker (λ (d : Domain (List Slice)). Each (IsOpenEnd (objects_of h)) d.fds) (λ (d : Domain (List Slice)). Each (IsOpenEnd (objects_of named)) d.fds) h.domains
+            (λ d e. each-weaker (IsOpenEnd (objects_of h)) (IsOpenEnd (objects_of named)) d.fds same_end e) sound.fds;
+        once = sound.once;
+        counted = record { each = λ b. omega (arith, sound.counted.each b, ap (λ (fs : Files). tally b (held fs)) added, held-push b h.cache.files p) };
+        tidy = sound.tidy;
+        still = sound.still;
+        settled = sound.settled;
+        limits = record {
+          aggs = sound.limits.aggs;
+          few = sound.limits.few;
+          objects = record {
+            queues = l.queues;
+            few_pipes = l.few_pipes;
+            conns = l.conns;
+            few_conns = l.few_conns;
+            rising = l.rising;
+            last = l.last;
+            cached = subst (λ (fs : Files). Each IsFile fs) (sym added) (each-push IsFile h.cache.files (new_file p) l.cached (record { apart = tt; short = omega arith }));
+            few_files = kept.few_files;
+          };
+        };
+        pooled = record { few = sound.pooled.few; opened = sound.pooled.opened; files_open = λ n there. (kept.opened n there).is_open };
+        sums = sound.sums;
+        filed = filed;
+        cached = kept;
+      }
+
+  named-read : (f : Reading) → read_of f named ≡ record (read_of f h) { files = (read_of f h).files ++ file ∷ [] }
+  unfolding read_of state_view
+  named-read f =
+      ap (λ (xs : List (List ℕ)). record (read_of f h) { files = h.files ++ file ∷ []; slots = xs }) (ap (slots_read f) added ∙ slots-push f h.cache.files p)
+
+  pub named_answers : (d n : ℕ) → n ≡ length h.cache.files + 1 → Answers (λ s. calls.file_new s d name p) h n named
+  named_answers d n number = record {
+    answer = λ f keeps. number ∙ ap (λ k. k + 1) (as_many h sound.filed ∙ ap length (sym (files-read_of f h)));
+    after = λ f keeps. named-read f;
+    arena = refl;
+    pools = refl;
+    sums = refl;
+    sound = named-sound;
+    stays = stays_here h.store;
+  }
+
+-- the tables that have it
+pub named_as : (h : KernelState) (d n p : ℕ) (name : List ℕ) (files : List machine.File) (c : Cached) → IsSound h → n ≡ length h.cache.files + 1 → (let x : machine.File = record { name = name; pool = p } in files ≡ h.files ++ x ∷ [])
+    → c.files ≡ h.cache.files ++ new_file p ∷ [] → cache.IsSound h.store c → Answers (λ s. calls.file_new s d name p) h n (record h { files = files; cache = c })
+named_as h d n p name files c sound number listed added kept =
+    subst (λ (fs : List machine.File). Answers (λ s. calls.file_new s d name p) h n (record h { files = fs; cache = c })) (sym listed) (named_answers h name p c sound added kept d n number)
+
+-- what holds in the cache that the kernel has
+pub cache_sound : (h : KernelState) → IsSound h → cache.IsSound h.store h.cache
+unfolding IsCached
+cache_sound h sound = sound.cached
+
+pub names : (disk : Disk) (m : State → Meaning ℕ) (h : KernelState) (k : KernelState) (n : ℕ) → (IfHonest disk (first (m (machine_of disk.slots h)).refusals ≡ None)) → KeepsPools (bytes_over disk.slots h.store) → k.store ≡ h.store → Answers m h n k → Names disk m h (Ok n) k
+names disk m h k n passed keeps same one = record {
+  step = λ honest. (passed honest, one.answer (bytes_over disk.slots h.store) keeps, ap (λ (s : Stored). read_of (bytes_over disk.slots s) k) same ∙ one.after (bytes_over disk.slots h.store) keeps);
+  store = same;
+  roomy = λ p e. cc e;
+  refused = tt;
+  sums = one.sums;
+  sound = one.sound;
+}
+
+-- for want of memory
+pub unnamed : (disk : Disk) (m : State → Meaning ℕ) (h k : KernelState) → (IfHonest disk (first (m (machine_of disk.slots h)).refusals ≡ None)) → ((s : State) → (m s).Late Memory) → k ≡ h → IsSound h → Names disk m h (Err Memory) k
+unnamed disk m h k passed late same sound = subst (λ (l : KernelState). Names disk m h (Err Memory) l) (sym same) (record {
+  step = λ honest. (of (m (machine_of disk.slots h)) (passed honest) (late (machine_of disk.slots h)), refl);
+  store = refl;
+  roomy = λ p e. cc e;
+  refused = refl;
+  sums = refl;
+  sound = sound;
+})
+  where
+    of : (n : Meaning ℕ) → first n.refusals ≡ None → n.Late Memory → MatchOption (first n.refusals) (n.Late Memory) (λ y. Memory ≡ y)
+    of n none late = rw none late

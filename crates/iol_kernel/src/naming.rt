@@ -1,0 +1,106 @@
+//! Files by name.
+ghost use Rattle.std.specs.Prelude.{◌≡◌, ℕ, ◌+◌, ◌<◌, length, false, is_some, nat_lt, IfOk, OnErr, Err};
+ghost use Rattle.iol_core.specs.State as state;
+ghost use Rattle.iol_core.specs.State.{content};
+ghost use Rattle.iol_core.specs.Calls.Files as calls;
+ghost use Rattle.iol_core.specs.Calls.Files.{file_called};
+ghost use Rattle.iol_back.specs.Disk.{IfHonest};
+ghost use Rattle.iol_kernel.specs.KernelState.{IsSound};
+ghost use Rattle.iol_kernel.specs.Readings.{Reading};
+
+use crate::kernel::Kernel;
+use iol_back::backing::Backing;
+use iol_core::limits::{MAX_FILE_BYTES, MAX_FILES, MAX_NAME_BYTES};
+use iol_core::lists::Bytes;
+use iol_core::numbers::{DomainId, FileId, PoolId};
+use iol_core::refusals::Refusal;
+use std::alloc::AllocError;
+
+impl Kernel {
+    ghost use Rattle.iol_kernel.specs.Kernel.{state_of, machine, as_read, Answers, Names};
+
+    /// Gives the next slot of the store under files a name and a pool. The file begins with the bytes that are stored there.
+    ///
+    /// `TooLong` is answered by what an honest store says of the slot's length.
+    #[tactic(auto, using(crate::proofs::Stay::stay_rules))]
+    pub fn file_new<B: Backing>(
+        &mut self,
+        backing: &B,
+        by: DomainId,
+        name: &Bytes,
+        pool: PoolId,
+    ) -> Result<FileId, Refusal>
+        requires { IsSound (state_of self.old) }
+        ensures { Names (B.disk backing.now) (λ s. calls.file_new s by name.now pool) self.old result
+            self.new }
+    {
+        if !self.is_live(by) {
+            return Err(Refusal::NoDomain);
+        }
+        if !self.is_pool(pool) {
+            return Err(Refusal::NoPool);
+        }
+        if self.is_named(name) {
+            return Err(Refusal::WrongMode);
+        }
+        let len = name.as_slice().len();
+        if len == 0 || len > MAX_NAME_BYTES {
+            return Err(Refusal::BadRange);
+        }
+        if self.is_next_too_long(backing) {
+            return Err(Refusal::TooLong);
+        }
+        if self.file_count() >= MAX_FILES {
+            return Err(Refusal::TooMany);
+        }
+        if !self.may_read(by, pool) {
+            return Err(Refusal::Denied { pool });
+        }
+        if self.is_closed(pool) {
+            return Err(Refusal::PoolClosed { pool });
+        }
+        Ok(self.add_file(by, name, pool)?)
+    }
+
+    /// Whether a file has this name.
+    #[tactic(auto, using(crate::proofs::Named::file_rules))]
+    fn is_named(&self, name: &Bytes) -> bool
+        ensures { (f : Reading) → result ≡ is_some (file_called (as_read f self.now) name.now) }
+    {
+        self.files.has(name.as_slice())
+    }
+
+    /// How many files there are.
+    #[tactic(auto, using(crate::proofs::Named::file_rules))]
+    fn file_count(&self) -> usize
+        ensures { (f : Reading) → result ≡ length (as_read f self.now).files }
+    {
+        self.files.list.len()
+    }
+
+    /// Whether the bytes stored in the next slot are more than a file may have.
+    fn is_next_too_long<B: Backing>(&self, backing: &B) -> bool
+        requires { IsSound (state_of self.now) }
+        ensures { IfHonest (B.disk backing.now) ((f : Reading) → f.stored ≡ (B.disk backing.now).slots → result ≡
+            nat_lt MAX_FILE_BYTES (length (content (as_read f self.now) (length (as_read f self.now).files + 1)))) }
+    {
+        let count = self.files.list.len();
+        if count >= MAX_FILES {
+            return false;
+        }
+        let stored = backing.length(FileId::new(count as u32 + 1));
+        stored as usize > MAX_FILE_BYTES
+    }
+
+    /// Adds a file in the next slot.
+    fn add_file(&mut self, by: DomainId, name: &Bytes, pool: PoolId) -> Result<FileId, AllocError>
+        requires sound { IsSound (state_of self.old) }
+        requires few { length (machine self.old).files < MAX_FILES }
+        requires open { (state.pool (machine self.old) pool).closed ≡ false }
+        ensures done { IfOk result (λ n. Answers (λ s. calls.file_new s by name.now pool) self.old n self.new) }
+        ensures store { (state_of self.new).store ≡ (state_of self.old).store }
+        ensures err { OnErr result (state_of self.new ≡ state_of self.old) }
+    {
+        Ok(self.files.add(self.alloc, name.as_slice(), pool)?)
+    }
+}
