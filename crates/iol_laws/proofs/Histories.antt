@@ -48,6 +48,11 @@ use Rattle.iol_laws.proofs.Leaving.{leaves_step}
 use Rattle.iol_laws.proofs.Outside.{does_arrive, does_transmit}
 use Rattle.iol_laws.proofs.Ordered.{orderly_step}
 use Rattle.iol_laws.proofs.Texts.{bytes-append}
+use Rattle.iol_laws.specs.History.{drops_unsent}
+use Rattle.std.specs.List.{list_any}
+use Rattle.std.proofs.lemmas.Grind.{common_steps}
+use Rattle.iol_laws.proofs.Tests.{left-false, right-false}
+use Rattle.iol_laws.proofs.Unsent.{IsLonger, longer_same, sends, longer_meant}
 use Rattle.iol_laws.proofs.Unread.{IsRest, rest_same, brings_none, rest_meant}
 
 -- In parts.
@@ -118,3 +123,54 @@ unread_run old new (e ∷ es) (r ∷ rs) c order run =
     (end_step old run.0 e r c order run.1) (unread_run run.0 new es rs c (orderly_step old run.0 e r order run.1) run.2)
 unread_run old new [] (r ∷ rs) c order run = absurd run
 unread_run old new (e ∷ es) [] c order run = absurd run
+
+-- What is to be sent.
+
+first_of_longer : (s t : State) (c : ℕ) → IsLonger s t c → GoesFirst (bytes_of (conn_at s c).outgoing) [] (bytes_of (conn_at t c).outgoing)
+first_of_longer s t c longer = record {
+  written = bytes_of longer.more;
+  all = sym (bytes-append (conn_at s c).outgoing longer.more) ∙ ap (λ (l : Text). bytes_of l) (sym longer.is);
+}
+
+longer_outcome : (m : Meaning Reply) (old new : State) (r : Result Reply Refusal) (c : ℕ) → IsLonger old m.after c → Step m old r new → IsLonger old new c
+longer_outcome m old new (Ok a) c longer step = subst (λ (s : State). IsLonger old s c) (sym step.2) longer
+longer_outcome m old new (Err x) c longer step = subst (λ (s : State). IsLonger old s c) (sym step.1) (longer_same old old c refl)
+
+-- a segment is taken from the front
+first_transmit : (s t : State) (e max : ℕ) (r : Reply) (c : ℕ) → IsOrderly s → StepsTo s (event.Transmit e max) r t → GoesFirst (bytes_of (conn_at s c).outgoing) (sent_by c (event.Transmit e max) r) (bytes_of (conn_at t c).outgoing)
+first_transmit s t e max (reply.Segment bytes sum) c order step = by (e == c) refl
+  where
+    went : GoesOut s e bytes t
+    went = does_transmit s t e max (reply.Segment bytes sum) order step
+    by : (b : Bool) → (e == c) ≡ b → GoesFirst (bytes_of (conn_at s c).outgoing) (if b then bytes else []) (bytes_of (conn_at t c).outgoing)
+    by true is =
+        let same : e ≡ c = grind (arith, nat_tests, is) in
+        subst (λ n. GoesFirst (bytes_of (conn_at s n).outgoing) bytes (bytes_of (conn_at t n).outgoing)) same
+        (record { written = []; all = append-nil (bytes_of (conn_at s e).outgoing) ∙ went.bytes_were })
+    by false is = first_of_longer s t c (longer_same s t c (ap (λ (x : Connection). x.outgoing) ((leaves_step s t (event.Transmit e max) (reply.Segment bytes sum) step).conns c is)))
+first_transmit s t e max (reply.Refused x) c order step = first_of_longer s t c (longer_same s t c (ap (λ (u : State). (conn_at u c).outgoing) step.1))
+first_transmit s t e max r c order step = (let e = step.1 in absurd (cc))
+
+first_step : (s t : State) (e : Event) (r : Reply) (c : ℕ) → IsOrderly s → StepsTo s e r t → drops_unsent e c ≡ false → GoesFirst (bytes_of (conn_at s c).outgoing) (sent_by c e r) (bytes_of (conn_at t c).outgoing)
+first_step s t (event.Call d k) r c order step kept = first_of_longer s t c (longer_outcome (called s d k) s t (outcome r) c (longer_meant s (event.Call d k) c order refl kept) step)
+first_step s t (event.ConnNew p) r c order step kept = first_of_longer s t c (longer_outcome (meaning s (event.ConnNew p)) s t (outcome r) c (longer_meant s (event.ConnNew p) c order refl kept) step)
+first_step s t (event.Arrive e bytes) r c order step kept = first_of_longer s t c (longer_outcome (meaning s (event.Arrive e bytes)) s t (outcome r) c (longer_meant s (event.Arrive e bytes) c order refl kept) step)
+first_step s t (event.PeerClosed e how) r c order step kept = first_of_longer s t c (longer_outcome (meaning s (event.PeerClosed e how)) s t (outcome r) c (longer_meant s (event.PeerClosed e how) c order refl kept) step)
+first_step s t (event.Transmit e max) r c order step kept = first_transmit s t e max r c order step
+
+first_then : (a b c one two : List ℕ) → GoesFirst a one b → GoesFirst b two c → GoesFirst a (one ++ two) c
+first_then a b c one two x y = record {
+  written = x.written ++ y.written;
+  all = sym (append_assoc a x.written y.written) ∙ (ap (λ (l : List ℕ). l ++ y.written) x.all ∙ (append_assoc one b y.written ∙ (ap (λ (l : List ℕ). one ++ l) y.all ∙ sym (append_assoc one two c))));
+}
+
+pub unsent_run : (old new : State) (es : List Event) (rs : List Reply) (c : ℕ) → IsOrderly old → Run old es rs new → list_any (λ e. drops_unsent e c) es ≡ false → GoesFirst (bytes_of (conn_at old c).outgoing) (sent_of c es rs) (bytes_of (conn_at new c).outgoing)
+unfolding sent_of
+unsent_run old new [] [] c order run kept = first_of_longer old new c (longer_same old new c (ap (λ (u : State). (conn_at u c).outgoing) run))
+unsent_run old new (e ∷ es) (r ∷ rs) c order run kept =
+    let here : drops_unsent e c ≡ false = grind (arith, nat_tests, common_steps, kept) in
+    let later : list_any (λ x. drops_unsent x c) es ≡ false = grind (arith, nat_tests, common_steps, kept) in
+    first_then (bytes_of (conn_at old c).outgoing) (bytes_of (conn_at run.0 c).outgoing) (bytes_of (conn_at new c).outgoing) (sent_by c e r) (sent_of c es rs)
+    (first_step old run.0 e r c order run.1 here) (unsent_run run.0 new es rs c (orderly_step old run.0 e r order run.1) run.2 later)
+unsent_run old new [] (r ∷ rs) c order run kept = absurd run
+unsent_run old new (e ∷ es) [] c order run kept = absurd run

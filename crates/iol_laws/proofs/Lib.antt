@@ -23,4 +23,5 @@ pub mod NewNumbers
 pub mod OtherCalls
 pub mod Outside
 pub mod Unread
+pub mod Unsent
 pub mod Histories

@@ -81,7 +81,7 @@ rest_closed_on s (Some (on.ReadEnd p)) c once = rest_conns s (fds.closed_on s (S
 rest_closed_on s (Some (on.WriteEnd p)) c once = rest_conns s (fds.closed_on s (Some (on.WriteEnd p))) c refl
 rest_closed_on s (Some (on.Connection e)) c once = rest_with_conn s e (record (conn_at s e) { incoming = []; closed = true }) c (conn_at s e).incoming once (sym (append-nil (conn_at s e).incoming))
 
-once_closed_on : (s : State) (o : Option Descriptor) → Once s.conns → Once (fds.closed_on s o).conns
+pub once_closed_on : (s : State) (o : Option Descriptor) → Once s.conns → Once (fds.closed_on s o).conns
 unfolding with_pipe
 once_closed_on s None once = once
 once_closed_on s (Some (on.File f at mode)) once = once
