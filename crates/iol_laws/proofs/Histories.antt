@@ -1,48 +1,21 @@
 -- Histories of connections add up over runs.
-use Rattle.std.proofs.Common.{inl, inr, zero, suc, ◌≡◌, ◌≢◌, ℕ, ◌+◌, ◌-◌, ◌==◌, ◌<◌, ◌≤◌, ◌⊎◌, List, [], ◌∷◌, ◌++◌, length, take, drop, ap, ◌∙◌, refl, sym, subst, arith, Option, Some, None, true, false, Bool, append_assoc}
-use Rattle.std.specs.Prelude.{option_map, slice_range, slice_set, unwrap_or, not, is_none, is_some, nat_le, nat_lt, min, ◌&&◌, ◌||◌, if◌then◌else◌, Result, Ok, Err, MatchOption, map, find, fold, take_while}
-use Rattle.std.specs.List.{list_any, prefix_len}
-use Rattle.std.specs.Option.{option_map_or}
-use Rattle.std.proofs.lemmas.Bool.{cases_eq, cases_lt}
+use Rattle.std.proofs.Common.{◌≡◌, ℕ, ◌==◌, List, [], ◌∷◌, ◌++◌, take, ap, ◌∙◌, refl, sym, subst, arith, true, false, Bool, append_assoc}
+use Rattle.std.specs.Prelude.{if◌then◌else◌, Result, Ok, Err}
+use Rattle.std.specs.List.{list_any}
 use Rattle.std.proofs.lemmas.Bool.Decides.{nat_tests}
 use Rattle.std.proofs.lemmas.Grind.{common_steps}
-use Rattle.std.proofs.lemmas.List.{append-nil, get_or_past, take-append-drop, set-set}
-use Rattle.iol_core.specs.Text.{Text, bytes_of, labelled, part, admitted}
-use Rattle.iol_core.specs.Numbered.{lookup, without, changed, numbered_or, with_numbered, is_numbered, in_place, lowest, placed}
-use Rattle.iol_core.specs.State.{State, Domain, Pipe, Connection, File, Pool, domain, pool, is_pool, no_pool, aggregate, text, descriptor, content, file, may_read, pipe_at, conn_at, no_conn, no_pipe, new_pipe, new_conn, new_domain, no_domain, new_state, is_live, is_over, is_gone, with_domain, with_pipe, with_conn, with_content}
-use Rattle.iol_core.specs.Meaning.{Meaning, Step, first, ◌when◌, WantOfMemory}
+use Rattle.std.proofs.lemmas.List.{append-nil}
+use Rattle.iol_core.specs.Text.{Text, bytes_of}
+use Rattle.iol_core.specs.State.{State, Connection, conn_at}
+use Rattle.iol_core.specs.Meaning.{Meaning, Step, first}
 use Rattle.iol_core.specs.Run.{called, meaning, StepsTo, Run, outcome}
-use Rattle.iol_core.specs.Calls.Domains.{domain_new, exit}
-use Rattle.iol_core.specs.Calls.Pools.{pool_create, pool_close}
-use Rattle.iol_core.specs.Calls.Aggregates as aggs
-use Rattle.iol_core.specs.Calls.Descriptors as fds
-use Rattle.iol_core.specs.Calls.Files.{file_new, file_length, open_on, file_on, file_called, open_file}
-use Rattle.iol_core.specs.Calls.Outside.{conn_new, closed_by, arrive, transmit, peer_closed}
-use Rattle.iol_core.specs.Calls.Outside as outside
-use Rattle.iol_core.specs.Calls.Reading as reading
-use Rattle.iol_core.specs.Calls.Writing as writing
-use Rattle.iol_core.specs.Calls.Writing.{is_file}
 use Rattle.iol_core.specs.declared.refusals.Refusal.{Refusal}
-use Rattle.iol_core.specs.declared.refusals.Refusal.TheVariants as refuse
-use Rattle.iol_core.specs.declared.descriptors.Mode.{Mode}
-use Rattle.iol_core.specs.declared.descriptors.Mode.TheVariants as modes
-use Rattle.iol_core.specs.declared.descriptors.How.{How}
-use Rattle.iol_core.specs.declared.descriptors.How.TheVariants as ways
-use Rattle.iol_core.specs.declared.descriptors.Descriptor.{Descriptor}
-use Rattle.iol_core.specs.declared.descriptors.Descriptor.TheVariants as on
-use Rattle.iol_core.specs.declared.events.Call.{Call}
-use Rattle.iol_core.specs.declared.events.Call.TheVariants as call
 use Rattle.iol_core.specs.declared.events.Event.{Event}
 use Rattle.iol_core.specs.declared.events.Event.TheVariants as event
 use Rattle.iol_core.specs.declared.events.Reply.{Reply}
 use Rattle.iol_core.specs.declared.events.Reply.TheVariants as reply
-use Rattle.iol_core.proofs.Lookups.{numbered_or-with, domain-with_domain, domain-same, domain-push, domain-new_state, lookup-without}
-use Rattle.iol_core.proofs.Passing.{passed, when-not, when-none}
-use Rattle.iol_core.proofs.Places.{place-set_other}
-use Rattle.iol_laws.specs.Frame.{operands, is_conn, is_end, names_conn, touches_conn, makes_pipe, touches_pipe, touches_fd, changes_files, Leaves}
-use Rattle.iol_laws.specs.Order.{stands, Once, IsOrderly}
-use Rattle.iol_laws.specs.Caller.{lent_at, is_rough, Makes, Takes, ReadsConn, Puts, WritesConn, ReadsFile, DoneOrNot, Closes, ClosesConn, TakesConn, Accepts, is_agg, is_fd, gives_away}
-use Rattle.iol_laws.specs.Others.{ComesIn, Arrives, GoesOut, Transmits, PeerCloses}
+use Rattle.iol_laws.specs.Order.{IsOrderly}
+use Rattle.iol_laws.specs.Others.{ComesIn, GoesOut}
 use Rattle.iol_laws.specs.History.{came_by, sent_by, stream_of, sent_of, IsEndOf, GoesFirst}
 use Rattle.iol_laws.proofs.Leaving.{leaves_step}
 use Rattle.iol_laws.proofs.Outside.{does_arrive, does_transmit}
@@ -51,9 +24,8 @@ use Rattle.iol_laws.proofs.Texts.{bytes-append}
 use Rattle.iol_laws.specs.History.{drops_unsent}
 use Rattle.std.specs.List.{list_any}
 use Rattle.std.proofs.lemmas.Grind.{common_steps}
-use Rattle.iol_laws.proofs.Tests.{left-false, right-false}
-use Rattle.iol_laws.proofs.Unsent.{IsLonger, longer_same, sends, longer_meant}
-use Rattle.iol_laws.proofs.Unread.{IsRest, rest_same, brings_none, rest_meant}
+use Rattle.iol_laws.proofs.Unsent.{IsLonger, longer_same, longer_meant}
+use Rattle.iol_laws.proofs.Unread.{IsRest, rest_same, rest_meant}
 
 -- In parts.
 
@@ -93,6 +65,7 @@ end_arrive s t e bytes (reply.Count k) c order step = by (e == c) refl
   where
     came : ComesIn s e (take k bytes) t
     came = does_arrive s t e bytes (reply.Count k) order step
+
     by : (b : Bool) → (e == c) ≡ b → IsEndOf (bytes_of (conn_at s c).incoming) (if b then take k bytes else []) (bytes_of (conn_at t c).incoming)
     by true is =
         let same : e ≡ c = grind (arith, nat_tests, is) in
@@ -142,6 +115,7 @@ first_transmit s t e max (reply.Segment bytes sum) c order step = by (e == c) re
   where
     went : GoesOut s e bytes t
     went = does_transmit s t e max (reply.Segment bytes sum) order step
+
     by : (b : Bool) → (e == c) ≡ b → GoesFirst (bytes_of (conn_at s c).outgoing) (if b then bytes else []) (bytes_of (conn_at t c).outgoing)
     by true is =
         let same : e ≡ c = grind (arith, nat_tests, is) in

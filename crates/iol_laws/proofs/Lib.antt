@@ -25,3 +25,5 @@ pub mod Outside
 pub mod Unread
 pub mod Unsent
 pub mod Histories
+pub mod NextNumber
+pub mod Pending
