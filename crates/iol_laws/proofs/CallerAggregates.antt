@@ -1,5 +1,5 @@
 -- What the calls on aggregates do for their own domain.
-use Rattle.std.proofs.Common.{◌≡◌, ℕ, ◌-◌, List, ◌++◌, take, drop, ap, ◌∙◌, arith, Option, Some}
+use Rattle.std.proofs.Common.{◌≡◌, ℕ, ◌-◌, List, [], ◌++◌, take, drop, ap, ◌∙◌, arith, Option, Some}
 use Rattle.std.specs.Prelude.{option_map, slice_range}
 use Rattle.iol_core.specs.Text.{Text, bytes_of, labelled, part}
 use Rattle.iol_core.specs.Numbered.{without}
@@ -11,7 +11,7 @@ use Rattle.iol_core.specs.declared.events.Event.TheVariants as event
 use Rattle.iol_core.specs.declared.events.Reply.{Reply}
 use Rattle.iol_core.specs.declared.events.Reply.TheVariants as reply
 use Rattle.iol_laws.specs.Order.{IsOrderly}
-use Rattle.iol_laws.specs.Caller.{lent_at, Makes, DoneOrNot}
+use Rattle.iol_laws.specs.Caller.{lent_at, Makes, DoneOrNot, Shows}
 use Rattle.iol_laws.proofs.Domains.{live-first}
 use Rattle.iol_laws.proofs.Numbers.{lent-made, number, text-of}
 use Rattle.iol_laws.proofs.Places.{lookup-without_none}
@@ -51,6 +51,44 @@ does_join s t d a b xs ys (reply.Agg n) order has_a has_b step =
     )
 does_join s t d a b xs ys (reply.Refused x) order has_a has_b step = step.1
 does_join s t d a b xs ys r order has_a has_b step = (let e = step.1 in absurd (cc))
+
+pub does_dup : (s t : State) (d a : ℕ) (bytes : List ℕ) (r : Reply) → IsOrderly s → lent_at s d a ≡ Some bytes → StepsTo s (event.Call d (call.AggDup a)) r t → Makes s d bytes r t
+does_dup s t d a bytes (reply.Agg n) order has step =
+    let live = live-first s d _ step.0 in
+    let is : n ≡ aggs.next_agg s d = ap number step.1 in
+    let none = order.aggs d (aggs.next_agg s d) (omega arith) in (
+      ap (λ k. lent_at t d k) is ∙ (lent-made s t d (domain s d).aggs (text s d a) live none step.2 ∙ ap (λ (l : List ℕ). Some l) (text-of s d a bytes has)),
+      ap (λ k. lent_at s d k) is ∙ ap (λ (o : Option Text). option_map bytes_of o) none,
+    )
+does_dup s t d a bytes (reply.Refused x) order has step = step.1
+does_dup s t d a bytes r order has step = (let e = step.1 in absurd (cc))
+
+pub does_replace : (s t : State) (d a from to b : ℕ) (xs ys : List ℕ) (r : Reply) → IsOrderly s → lent_at s d a ≡ Some xs → lent_at s d b ≡ Some ys → StepsTo s (event.Call d (call.AggReplace a from to b)) r t → Makes s d (take from xs ++ ys ++ drop to xs) r t
+does_replace s t d a from to b xs ys (reply.Agg n) order has_a has_b step =
+    let live = live-first s d _ step.0 in
+    let is : n ≡ aggs.next_agg s d = ap number step.1 in
+    let none = order.aggs d (aggs.next_agg s d) (omega arith) in
+    let x : Text = text s d a in
+    let y : Text = text s d b in
+    let x_is = text-of s d a xs has_a in
+    let front : bytes_of (take from x ++ y) ≡ take from xs ++ ys = bytes-append (take from x) y ∙ (ap (λ (l : List ℕ). l ++ bytes_of y) (bytes-take from x ∙ ap (λ (l : List ℕ). take from l) x_is) ∙ ap (λ (l : List ℕ). take from xs ++ l) (text-of s d b ys has_b)) in
+    let back : bytes_of (drop to x) ≡ drop to xs = bytes-drop to x ∙ ap (λ (l : List ℕ). drop to l) x_is in
+    let replaced : bytes_of (take from x ++ y ++ drop to x) ≡ take from xs ++ ys ++ drop to xs = bytes-append (take from x ++ y) (drop to x) ∙ (ap (λ (l : List ℕ). l ++ bytes_of (drop to x)) front ∙ ap (λ (l : List ℕ). take from xs ++ ys ++ l) back) in (
+      ap (λ k. lent_at t d k) is ∙ (lent-made s t d (domain s d).aggs (take from x ++ y ++ drop to x) live none step.2 ∙ ap (λ (l : List ℕ). Some l) replaced),
+      ap (λ k. lent_at s d k) is ∙ ap (λ (o : Option Text). option_map bytes_of o) none,
+    )
+does_replace s t d a from to b xs ys (reply.Refused x) order has_a has_b step = step.1
+does_replace s t d a from to b xs ys r order has_a has_b step = (let e = step.1 in absurd (cc))
+
+-- the bytes of a reply
+abbrev pub shown_in : Reply → List ℕ
+shown_in (reply.Bytes bytes) = bytes
+shown_in r = []
+
+pub does_show : (s t : State) (d a : ℕ) (bytes : List ℕ) (r : Reply) → lent_at s d a ≡ Some bytes → StepsTo s (event.Call d (call.Show a)) r t → Shows s bytes r t
+does_show s t d a bytes (reply.Bytes found) has step = (ap shown_in step.1 ∙ text-of s d a bytes has, step.2)
+does_show s t d a bytes (reply.Refused x) has step = step.1
+does_show s t d a bytes r has step = (let e = step.1 in absurd (cc))
 
 pub does_drop : (s t : State) (d a : ℕ) (r : Reply) → StepsTo s (event.Call d (call.AggDrop a)) r t → DoneOrNot s r t
 does_drop s t d a reply.Done step = tt

@@ -1,5 +1,5 @@
 -- What reading, writing, accepting and closing do for their own domain.
-use Rattle.std.proofs.Common.{suc, ◌≡◌, ℕ, ◌+◌, List, [], ◌∷◌, ◌++◌, length, take, drop, ap, ◌∙◌, refl, sym, subst, arith, Option, Some, None, true, false, Bool}
+use Rattle.std.proofs.Common.{◌≡◌, ℕ, ◌+◌, List, [], ◌∷◌, ◌++◌, length, take, drop, ap, ◌∙◌, refl, sym, subst, arith, Option, Some, None, true, false, Bool}
 use Rattle.std.specs.Prelude.{option_map, slice_set, unwrap_or, not, is_none, nat_lt, ◌&&◌, ◌||◌, MatchOption}
 use Rattle.iol_core.specs.Text.{Text, bytes_of, labelled, admitted}
 use Rattle.iol_core.specs.Numbered.{lookup, in_place, lowest, placed}
@@ -28,7 +28,7 @@ use Rattle.iol_laws.proofs.Domains.{domain-with_same, domains-closed_on, domains
 use Rattle.iol_laws.proofs.Numbers.{lent-made, new-fd, number, text-of}
 use Rattle.iol_laws.proofs.Places.{lowest-free, place-set_free, place-set_there}
 use Rattle.iol_laws.proofs.Tests.{is_some-or}
-use Rattle.iol_laws.proofs.Texts.{admitted-rest, bytes-labelled, bytes-take, length-labelled}
+use Rattle.iol_laws.proofs.Texts.{admitted-rest, bytes-labelled, bytes-take, length-bytes, length-labelled}
 use Rattle.iol_laws.proofs.Waiting.{opened-conn, waiting-is}
 
 pub does_write_conn : (s t : State) (d fd c a : ℕ) (bytes : List ℕ) (r : Reply) → IsOrderly s → descriptor s d fd ≡ Some (on.Connection c) → lent_at s d a ≡ Some bytes → StepsTo s (event.Call d (call.IolWrite fd a)) r t → WritesConn s c bytes r t
@@ -47,10 +47,6 @@ does_write_conn s t d fd c a bytes (reply.Count k) order is has step =
       takes = sym (ap (λ o. writing.is_broken s o) is) ∙ broken;
       conn = ap (λ u. conn_at u c) same ∙ (conn-with_same s c _ both.1 (not-over (record (conn_at s c) { outgoing = (conn_at s c).outgoing ++ take fit w }) both.0 both.1) ∙ ap (λ n. record (conn_at s c) { outgoing = (conn_at s c).outgoing ++ take n w }) (sym k_is));
     }
-  where
-    length-bytes : (w : Text) → length (bytes_of w) ≡ length w
-    length-bytes [] = refl
-    length-bytes (x ∷ w) = ap suc (length-bytes w)
 does_write_conn s t d fd c a bytes (reply.Refused x) order is has step = step.1
 does_write_conn s t d fd c a bytes r order is has step = (let e = step.1 in absurd (cc))
 

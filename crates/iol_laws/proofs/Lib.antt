@@ -19,6 +19,7 @@ pub mod Texts
 pub mod Numbers
 pub mod CallerAggregates
 pub mod CallerDescriptors
+pub mod CallerPipes
 pub mod NewNumbers
 pub mod OtherCalls
 pub mod Outside

@@ -4,7 +4,7 @@
 -- other reply that it cannot come.
 use Rattle.std.specs.Prelude.{◌≡◌, ◌≢◌, ℕ, ◌+◌, ◌≤◌, ◌==◌, Bool, true, false, List, ◌++◌, length, take, drop, Option, Some, None, option_map, slice_range}
 use Rattle.iol_core.specs.Text.{Text, bytes_of}
-use Rattle.iol_core.specs.State.{State, aggregate, descriptor, content, file, may_read, conn_at, is_gone, is_live}
+use Rattle.iol_core.specs.State.{State, aggregate, descriptor, content, file, may_read, conn_at, pipe_at, new_pipe, is_gone, is_live}
 use Rattle.iol_core.specs.Run.{StepsTo}
 use Rattle.iol_core.specs.declared.descriptors.Descriptor.TheVariants as on
 use Rattle.iol_core.specs.declared.descriptors.Mode.TheVariants as modes
@@ -61,6 +61,53 @@ WritesConn s c bytes (reply.Count k) t = Puts s c bytes k t
 WritesConn s c bytes (reply.Refused x) t = t ≡ s
 WritesConn s c bytes r t = ⊥
 
+-- the first bytes of a pipe are taken, as aggregate n
+pub record TakesFromPipe (s : State) (d p n : ℕ) (t : State) : Type 0 where
+  pub text : Text
+  pub rest : Text
+  pub lends : lent_at t d n ≡ Some (bytes_of text)
+  pub new : lent_at s d n ≡ None
+  pub was : (pipe_at s p).queue ≡ text ++ rest
+  pub pipe : pipe_at t p ≡ record (pipe_at s p) { queue = rest }
+
+abbrev pub ReadsPipe : State → (d p : ℕ) → Reply → State → Type 0
+ReadsPipe s d p (reply.Agg n) t = TakesFromPipe s d p n t
+ReadsPipe s d p (reply.Refused x) t = t ≡ s
+ReadsPipe s d p r t = ⊥
+
+-- the first k of these bytes stand at the end of a pipe
+pub record PutsInPipe (s : State) (p : ℕ) (bytes : List ℕ) (k : ℕ) (t : State) : Type 0 where
+  pub text : Text
+  pub within : k ≤ length bytes
+  pub text_is : bytes_of text ≡ take k bytes
+  pub takes : (pipe_at s p).reading ≡ true
+  pub pipe : pipe_at t p ≡ record (pipe_at s p) { queue = (pipe_at s p).queue ++ text }
+
+abbrev pub WritesPipe : State → (p : ℕ) → List ℕ → Reply → State → Type 0
+WritesPipe s p bytes (reply.Count k) t = PutsInPipe s p bytes k t
+WritesPipe s p bytes (reply.Refused x) t = t ≡ s
+WritesPipe s p bytes r t = ⊥
+
+-- a new pipe is open for reading as one new descriptor, and for writing as another
+pub record OpensPipe (s : State) (d reads writes : ℕ) (t : State) : Type 0 where
+  pub pipe : ℕ
+  pub empty : pipe_at t pipe ≡ new_pipe
+  pub read_end : descriptor t d reads ≡ Some (on.ReadEnd pipe)
+  pub write_end : descriptor t d writes ≡ Some (on.WriteEnd pipe)
+  pub new_reads : descriptor s d reads ≡ None
+  pub new_writes : descriptor s d writes ≡ None
+
+abbrev pub MakesPipe : State → (d : ℕ) → Reply → State → Type 0
+MakesPipe s d (reply.Fds reads writes) t = OpensPipe s d reads writes t
+MakesPipe s d (reply.Refused x) t = t ≡ s
+MakesPipe s d r t = ⊥
+
+-- the bytes are told, and nothing changes
+abbrev pub Shows : State → List ℕ → Reply → State → Type 0
+Shows s bytes (reply.Bytes found) t = (found ≡ bytes) × (t ≡ s)
+Shows s bytes (reply.Refused x) t = t ≡ s
+Shows s bytes r t = ⊥
+
 -- a file's bytes from a position on are read, and the position moves past them
 abbrev pub ReadsFile : State → (d fd f at : ℕ) → List ℕ → Reply → State → Type 0
 ReadsFile s d fd f at bytes (reply.Agg n) t = (lent_at t d n ≡ Some bytes) × (lent_at s d n ≡ None) × (descriptor t d fd ≡ Some (on.File f (at + length bytes) modes.Read))
@@ -85,6 +132,12 @@ ClosesConn s c reply.Done t = ((conn_at t c).closed ≡ true) × ((conn_at t c).
 ClosesConn s c (reply.Refused x) t = t ≡ s
 ClosesConn s c r t = ⊥
 
+-- a pipe whose write end is closed keeps what is to be read, as long as somebody may read it
+abbrev pub ClosesWriteEnd : State → (p : ℕ) → Reply → State → Type 0
+ClosesWriteEnd s p reply.Done t = ((pipe_at t p).writing ≡ false) × ((pipe_at s p).reading ≡ true → pipe_at t p ≡ record (pipe_at s p) { writing = false })
+ClosesWriteEnd s p (reply.Refused x) t = t ≡ s
+ClosesWriteEnd s p r t = ⊥
+
 -- a connection that waits is accepted, as descriptor fd
 pub record TakesConn (s : State) (d fd : ℕ) (t : State) : Type 0 where
   pub conn : ℕ
@@ -105,10 +158,17 @@ pub record CallsServeTheirDomain : Type 0 where
   pub make : (s t : State) (d : ℕ) (bytes : List ℕ) (r : Reply) → IsOrderly s → StepsTo s (event.Call d (call.AggMake bytes)) r t → Makes s d bytes r t
   pub cut : (s t : State) (d a from to : ℕ) (bytes : List ℕ) (r : Reply) → IsOrderly s → lent_at s d a ≡ Some bytes → StepsTo s (event.Call d (call.AggCut a from to)) r t → Makes s d (slice_range bytes from to) r t
   pub join : (s t : State) (d a b : ℕ) (xs ys : List ℕ) (r : Reply) → IsOrderly s → lent_at s d a ≡ Some xs → lent_at s d b ≡ Some ys → StepsTo s (event.Call d (call.AggJoin a b)) r t → Makes s d (xs ++ ys) r t
+  pub dup : (s t : State) (d a : ℕ) (bytes : List ℕ) (r : Reply) → IsOrderly s → lent_at s d a ≡ Some bytes → StepsTo s (event.Call d (call.AggDup a)) r t → Makes s d bytes r t
+  pub replace : (s t : State) (d a from to b : ℕ) (xs ys : List ℕ) (r : Reply) → IsOrderly s → lent_at s d a ≡ Some xs → lent_at s d b ≡ Some ys → StepsTo s (event.Call d (call.AggReplace a from to b)) r t → Makes s d (take from xs ++ ys ++ drop to xs) r t
+  pub shows : (s t : State) (d a : ℕ) (bytes : List ℕ) (r : Reply) → lent_at s d a ≡ Some bytes → StepsTo s (event.Call d (call.Show a)) r t → Shows s bytes r t
   pub drops : (s t : State) (d a : ℕ) (r : Reply) → StepsTo s (event.Call d (call.AggDrop a)) r t → DoneOrNot s r t
   pub read_file : (s t : State) (d fd f at n : ℕ) (r : Reply) → IsOrderly s → is_live s d ≡ true → may_read s d (file s f).pool ≡ true → descriptor s d fd ≡ Some (on.File f at modes.Read) → StepsTo s (event.Call d (call.IolRead fd n)) r t → ReadsFile s d fd f at (take n (drop at (content s f))) r t
   pub read_conn : (s t : State) (d fd c n : ℕ) (r : Reply) → IsOrderly s → descriptor s d fd ≡ Some (on.Connection c) → StepsTo s (event.Call d (call.IolRead fd n)) r t → ReadsConn s d c r t
   pub write_conn : (s t : State) (d fd c a : ℕ) (bytes : List ℕ) (r : Reply) → IsOrderly s → descriptor s d fd ≡ Some (on.Connection c) → lent_at s d a ≡ Some bytes → StepsTo s (event.Call d (call.IolWrite fd a)) r t → WritesConn s c bytes r t
+  pub makes_pipe : (s t : State) (d : ℕ) (r : Reply) → StepsTo s (event.Call d call.Pipe) r t → MakesPipe s d r t
+  pub read_pipe : (s t : State) (d fd p n : ℕ) (r : Reply) → IsOrderly s → descriptor s d fd ≡ Some (on.ReadEnd p) → StepsTo s (event.Call d (call.IolRead fd n)) r t → ReadsPipe s d p r t
+  pub write_pipe : (s t : State) (d fd p a : ℕ) (bytes : List ℕ) (r : Reply) → IsOrderly s → descriptor s d fd ≡ Some (on.WriteEnd p) → lent_at s d a ≡ Some bytes → StepsTo s (event.Call d (call.IolWrite fd a)) r t → WritesPipe s p bytes r t
+  pub closes_write_end : (s t : State) (d fd p : ℕ) (r : Reply) → IsOrderly s → descriptor s d fd ≡ Some (on.WriteEnd p) → StepsTo s (event.Call d (call.Close fd)) r t → ClosesWriteEnd s p r t
   pub closes : (s t : State) (d fd : ℕ) (r : Reply) → StepsTo s (event.Call d (call.Close fd)) r t → Closes s d fd r t
   pub closes_conn : (s t : State) (d fd c : ℕ) (r : Reply) → IsOrderly s → descriptor s d fd ≡ Some (on.Connection c) → StepsTo s (event.Call d (call.Close fd)) r t → ClosesConn s c r t
   pub accepts : (s t : State) (d : ℕ) (r : Reply) → IsOrderly s → StepsTo s (event.Call d call.Accept) r t → Accepts s d r t
