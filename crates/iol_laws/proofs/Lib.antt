@@ -20,6 +20,7 @@ pub mod Numbers
 pub mod CallerAggregates
 pub mod CallerDescriptors
 pub mod CallerPipes
+pub mod CallerGifts
 pub mod NewNumbers
 pub mod OtherCalls
 pub mod Outside

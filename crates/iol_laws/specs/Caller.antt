@@ -6,6 +6,7 @@ use Rattle.std.specs.Prelude.{◌≡◌, ◌≢◌, ℕ, ◌+◌, ◌≤◌, ◌
 use Rattle.iol_core.specs.Text.{Text, bytes_of}
 use Rattle.iol_core.specs.State.{State, aggregate, descriptor, content, file, may_read, conn_at, pipe_at, new_pipe, is_gone, is_live}
 use Rattle.iol_core.specs.Run.{StepsTo}
+use Rattle.iol_core.specs.declared.descriptors.Descriptor.{Descriptor}
 use Rattle.iol_core.specs.declared.descriptors.Descriptor.TheVariants as on
 use Rattle.iol_core.specs.declared.descriptors.Mode.TheVariants as modes
 use Rattle.iol_core.specs.declared.refusals.Refusal.TheVariants.{TooMany, NoRoom, Fault, Memory}
@@ -126,6 +127,23 @@ Closes s d fd reply.Done t = descriptor t d fd ≡ None
 Closes s d fd (reply.Refused x) t = t ≡ s
 Closes s d fd r t = ⊥
 
+-- what a descriptor is open on is handed to a domain, as descriptor g; one given to another domain is new there, and closed here
+pub record HandsOn (s : State) (d fd to : ℕ) (x : Descriptor) (g : ℕ) (t : State) : Type 0 where
+  pub open_on : descriptor t to g ≡ Some x
+  pub new : d ≢ to → descriptor s to g ≡ None
+  pub left : d ≢ to → descriptor t d fd ≡ None
+
+abbrev pub GivesFd : State → (d fd to : ℕ) → Descriptor → Reply → State → Type 0
+GivesFd s d fd to x (reply.Fd g) t = HandsOn s d fd to x g t
+GivesFd s d fd to x (reply.Refused y) t = t ≡ s
+GivesFd s d fd to x r t = ⊥
+
+-- an aggregate is handed to a domain, under a new number of it
+abbrev pub GivesAgg : State → (to : ℕ) → List ℕ → Reply → State → Type 0
+GivesAgg s to bytes (reply.Agg n) t = (lent_at t to n ≡ Some bytes) × (lent_at s to n ≡ None)
+GivesAgg s to bytes (reply.Refused x) t = t ≡ s
+GivesAgg s to bytes r t = ⊥
+
 -- a closed connection keeps what is still to be sent, unless that is nothing: then it is forgotten
 abbrev pub ClosesConn : State → (c : ℕ) → Reply → State → Type 0
 ClosesConn s c reply.Done t = ((conn_at t c).closed ≡ true) × ((conn_at t c).outgoing ≡ (conn_at s c).outgoing)
@@ -169,6 +187,8 @@ pub record CallsServeTheirDomain : Type 0 where
   pub read_pipe : (s t : State) (d fd p n : ℕ) (r : Reply) → IsOrderly s → descriptor s d fd ≡ Some (on.ReadEnd p) → StepsTo s (event.Call d (call.IolRead fd n)) r t → ReadsPipe s d p r t
   pub write_pipe : (s t : State) (d fd p a : ℕ) (bytes : List ℕ) (r : Reply) → IsOrderly s → descriptor s d fd ≡ Some (on.WriteEnd p) → lent_at s d a ≡ Some bytes → StepsTo s (event.Call d (call.IolWrite fd a)) r t → WritesPipe s p bytes r t
   pub closes_write_end : (s t : State) (d fd p : ℕ) (r : Reply) → IsOrderly s → descriptor s d fd ≡ Some (on.WriteEnd p) → StepsTo s (event.Call d (call.Close fd)) r t → ClosesWriteEnd s p r t
+  pub gives_fd : (s t : State) (d fd to : ℕ) (x : Descriptor) (r : Reply) → descriptor s d fd ≡ Some x → StepsTo s (event.Call d (call.GiveFd fd to)) r t → GivesFd s d fd to x r t
+  pub gives_agg : (s t : State) (d a to : ℕ) (bytes : List ℕ) (r : Reply) → IsOrderly s → lent_at s d a ≡ Some bytes → StepsTo s (event.Call d (call.AggGive a to)) r t → GivesAgg s to bytes r t
   pub closes : (s t : State) (d fd : ℕ) (r : Reply) → StepsTo s (event.Call d (call.Close fd)) r t → Closes s d fd r t
   pub closes_conn : (s t : State) (d fd c : ℕ) (r : Reply) → IsOrderly s → descriptor s d fd ≡ Some (on.Connection c) → StepsTo s (event.Call d (call.Close fd)) r t → ClosesConn s c r t
   pub accepts : (s t : State) (d : ℕ) (r : Reply) → IsOrderly s → StepsTo s (event.Call d call.Accept) r t → Accepts s d r t
