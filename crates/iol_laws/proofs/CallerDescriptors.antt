@@ -25,6 +25,7 @@ use Rattle.iol_laws.specs.Order.{IsOrderly}
 use Rattle.iol_laws.specs.Caller.{lent_at, is_rough, ReadsConn, WritesConn, ReadsFile, Closes, ClosesConn, Accepts}
 use Rattle.iol_laws.proofs.Connections.{conn-over, conn-with_same, conns-with_agg, conns-with_fds, conns_conn, not-over, nothing-left}
 use Rattle.iol_laws.proofs.Domains.{domain-with_same, domains-closed_on, domains-with_conn, live-first}
+use Rattle.iol_laws.proofs.Ended.{none-admitted, none-comes}
 use Rattle.iol_laws.proofs.Numbers.{lent-made, new-fd, number, text-of}
 use Rattle.iol_laws.proofs.Places.{lowest-free, place-set_free, place-set_there}
 use Rattle.iol_laws.proofs.Tests.{is_some-or}
@@ -50,8 +51,10 @@ does_write_conn s t d fd c a bytes (reply.Count k) order is has step =
 does_write_conn s t d fd c a bytes (reply.Refused x) order is has step = step.1
 does_write_conn s t d fd c a bytes r order is has step = (let e = step.1 in absurd (cc))
 
-pub does_read_conn : (s t : State) (d fd c n : ℕ) (r : Reply) → IsOrderly s → descriptor s d fd ≡ Some (on.Connection c) → StepsTo s (event.Call d (call.IolRead fd n)) r t → ReadsConn s d c r t
+pub does_read_conn : (s t : State) (d fd c n : ℕ) (r : Reply) → IsOrderly s → descriptor s d fd ≡ Some (on.Connection c) → StepsTo s (event.Call d (call.IolRead fd n)) r t → ReadsConn s d c n r t
 does_read_conn s t d fd c n (reply.Agg a) order is step =
+    let free = sym (ap (λ o. reading.read_denied s d o n) is) ∙ passed (reading.iol_read s d fd n).refusals 4 step.0 in
+    let still = sym (ap (λ o. reading.must_wait s o n) is) ∙ when-none refuse.WouldBlock (reading.must_wait s (descriptor s d fd) n) (passed (reading.iol_read s d fd n).refusals 5 step.0) in
     let both = opened-conn s d fd c order is in
     let live = live-first s d _ step.0 in
     let inc : Text = (conn_at s c).incoming in
@@ -71,6 +74,7 @@ does_read_conn s t d fd c n (reply.Agg a) order is step =
       new = ap (λ k. lent_at s d k) (a_is ∙ next) ∙ ap (λ (o : Option Text). option_map bytes_of o) none;
       was = admitted-rest (may_read s d) n inc;
       conn = ap (λ u. conn_at u c) same ∙ (conns-with_agg mid d tx c ∙ conn-with_same s c x both.1 (not-over x both.0 both.1));
+      ended = λ some none. (let gone = none-admitted (may_read s d) n inc some free none in (gone, none-comes n inc (is_none (conn_at s c).peer) some gone still));
     }
 does_read_conn s t d fd c n (reply.Refused x) order is step = step.1
 does_read_conn s t d fd c n r order is step = (let e = step.1 in absurd (cc))

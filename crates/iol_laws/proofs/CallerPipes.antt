@@ -25,6 +25,7 @@ use Rattle.iol_laws.proofs.Domains.{domain-with_same, domains-with_pipe, live-fi
 use Rattle.iol_laws.proofs.Ends.{pipe-with_same}
 use Rattle.iol_laws.proofs.EndsOfCalls.{pipe-there, pipe-twice}
 use Rattle.iol_laws.proofs.LeftPipes.{pipes_same}
+use Rattle.iol_laws.proofs.Ended.{none-admitted, none-comes}
 use Rattle.iol_laws.proofs.Numbers.{lent-made, new-fd, number, text-of}
 use Rattle.iol_laws.proofs.Places.{lowest-free, place-placed, place-set_free}
 use Rattle.iol_laws.proofs.Tests.{left-true, right-true}
@@ -38,8 +39,10 @@ pipes-with_fds : (s : State) (d : ℕ) (xs : List (Option Descriptor)) (p : ℕ)
 unfolding with_domain
 pipes-with_fds s d xs p = pipes_same s (fds.with_fds s d xs) (λ k. false) refl p refl
 
-pub does_read_pipe : (s t : State) (d fd p n : ℕ) (r : Reply) → IsOrderly s → descriptor s d fd ≡ Some (on.ReadEnd p) → StepsTo s (event.Call d (call.IolRead fd n)) r t → ReadsPipe s d p r t
+pub does_read_pipe : (s t : State) (d fd p n : ℕ) (r : Reply) → IsOrderly s → descriptor s d fd ≡ Some (on.ReadEnd p) → StepsTo s (event.Call d (call.IolRead fd n)) r t → ReadsPipe s d p n r t
 does_read_pipe s t d fd p n (reply.Agg a) order is step =
+    let free = sym (ap (λ o. reading.read_denied s d o n) is) ∙ passed (reading.iol_read s d fd n).refusals 4 step.0 in
+    let still = sym (ap (λ o. reading.must_wait s o n) is) ∙ when-none refuse.WouldBlock (reading.must_wait s (descriptor s d fd) n) (passed (reading.iol_read s d fd n).refusals 5 step.0) in
     let reads : (pipe_at s p).reading ≡ true = order.all_stand d fd (on.ReadEnd p) is in
     let live = live-first s d _ step.0 in
     let q : Text = (pipe_at s p).queue in
@@ -59,6 +62,7 @@ does_read_pipe s t d fd p n (reply.Agg a) order is step =
       new = ap (λ k. lent_at s d k) (a_is ∙ next) ∙ ap (λ (o : Option Text). option_map bytes_of o) none;
       was = admitted-rest (may_read s d) n q;
       pipe = ap (λ u. pipe_at u p) same ∙ (pipes-with_agg mid d tx p ∙ pipe-with_same s p x (left-true (pipe_at s p).reading (pipe_at s p).writing reads) (left-true (pipe_at s p).reading (pipe_at s p).writing reads));
+      ended = λ some none. (let gone = none-admitted (may_read s d) n q some free none in (gone, none-comes n q (pipe_at s p).writing some gone still));
     }
 does_read_pipe s t d fd p n (reply.Refused x) order is step = step.1
 does_read_pipe s t d fd p n r order is step = (let e = step.1 in absurd (cc))

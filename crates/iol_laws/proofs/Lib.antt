@@ -17,6 +17,7 @@ pub mod NumbersToCome
 pub mod Ordered
 pub mod Texts
 pub mod Numbers
+pub mod Ended
 pub mod CallerAggregates
 pub mod CallerDescriptors
 pub mod CallerPipes

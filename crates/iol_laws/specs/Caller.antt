@@ -2,7 +2,7 @@
 --
 -- Each word says of a reply what is then so: of an answer what it brought, of a refusal that nothing changed, and of any
 -- other reply that it cannot come.
-use Rattle.std.specs.Prelude.{◌≡◌, ◌≢◌, ℕ, ◌+◌, ◌≤◌, ◌==◌, Bool, true, false, List, ◌++◌, length, take, drop, Option, Some, None, option_map, slice_range}
+use Rattle.std.specs.Prelude.{◌≡◌, ◌≢◌, ℕ, ◌+◌, ◌<◌, ◌≤◌, ◌==◌, Bool, true, false, List, [], ◌++◌, is_none, length, take, drop, Option, Some, None, option_map, slice_range}
 use Rattle.iol_core.specs.Text.{Text, bytes_of}
 use Rattle.iol_core.specs.State.{State, aggregate, descriptor, content, file, may_read, conn_at, pipe_at, new_pipe, is_gone, is_live}
 use Rattle.iol_core.specs.Run.{StepsTo}
@@ -35,19 +35,21 @@ Makes s d bytes (reply.Agg n) t = (lent_at t d n ≡ Some bytes) × (lent_at s d
 Makes s d bytes (reply.Refused x) t = t ≡ s
 Makes s d bytes r t = ⊥
 
--- the first bytes that came in on a connection are taken, as aggregate n
-pub record Takes (s : State) (d c n : ℕ) (t : State) : Type 0 where
+-- of a connection the first bytes that came in are taken, at most so many, as aggregate n; where some are asked for and none
+-- is there to be taken, the peer sends no more
+pub record Takes (s : State) (d c count n : ℕ) (t : State) : Type 0 where
   pub text : Text
   pub incoming : Text
   pub lends : lent_at t d n ≡ Some (bytes_of text)
   pub new : lent_at s d n ≡ None
   pub was : (conn_at s c).incoming ≡ text ++ incoming
   pub conn : conn_at t c ≡ record (conn_at s c) { incoming = incoming }
+  pub ended : 0 < count → text ≡ [] → ((conn_at s c).incoming ≡ []) × (is_none (conn_at s c).peer ≡ false)
 
-abbrev pub ReadsConn : State → (d c : ℕ) → Reply → State → Type 0
-ReadsConn s d c (reply.Agg n) t = Takes s d c n t
-ReadsConn s d c (reply.Refused x) t = t ≡ s
-ReadsConn s d c r t = ⊥
+abbrev pub ReadsConn : State → (d c count : ℕ) → Reply → State → Type 0
+ReadsConn s d c count (reply.Agg n) t = Takes s d c count n t
+ReadsConn s d c count (reply.Refused x) t = t ≡ s
+ReadsConn s d c count r t = ⊥
 
 -- the first k of these bytes are to be sent on a connection
 pub record Puts (s : State) (c : ℕ) (bytes : List ℕ) (k : ℕ) (t : State) : Type 0 where
@@ -62,19 +64,21 @@ WritesConn s c bytes (reply.Count k) t = Puts s c bytes k t
 WritesConn s c bytes (reply.Refused x) t = t ≡ s
 WritesConn s c bytes r t = ⊥
 
--- the first bytes of a pipe are taken, as aggregate n
-pub record TakesFromPipe (s : State) (d p n : ℕ) (t : State) : Type 0 where
+-- of a pipe the first bytes are taken, at most so many, as aggregate n; where some are asked for and none is there to be taken,
+-- nobody writes any more
+pub record TakesFromPipe (s : State) (d p count n : ℕ) (t : State) : Type 0 where
   pub text : Text
   pub rest : Text
   pub lends : lent_at t d n ≡ Some (bytes_of text)
   pub new : lent_at s d n ≡ None
   pub was : (pipe_at s p).queue ≡ text ++ rest
   pub pipe : pipe_at t p ≡ record (pipe_at s p) { queue = rest }
+  pub ended : 0 < count → text ≡ [] → ((pipe_at s p).queue ≡ []) × ((pipe_at s p).writing ≡ false)
 
-abbrev pub ReadsPipe : State → (d p : ℕ) → Reply → State → Type 0
-ReadsPipe s d p (reply.Agg n) t = TakesFromPipe s d p n t
-ReadsPipe s d p (reply.Refused x) t = t ≡ s
-ReadsPipe s d p r t = ⊥
+abbrev pub ReadsPipe : State → (d p count : ℕ) → Reply → State → Type 0
+ReadsPipe s d p count (reply.Agg n) t = TakesFromPipe s d p count n t
+ReadsPipe s d p count (reply.Refused x) t = t ≡ s
+ReadsPipe s d p count r t = ⊥
 
 -- the first k of these bytes stand at the end of a pipe
 pub record PutsInPipe (s : State) (p : ℕ) (bytes : List ℕ) (k : ℕ) (t : State) : Type 0 where
@@ -181,10 +185,10 @@ pub record CallsServeTheirDomain : Type 0 where
   pub shows : (s t : State) (d a : ℕ) (bytes : List ℕ) (r : Reply) → lent_at s d a ≡ Some bytes → StepsTo s (event.Call d (call.Show a)) r t → Shows s bytes r t
   pub drops : (s t : State) (d a : ℕ) (r : Reply) → StepsTo s (event.Call d (call.AggDrop a)) r t → DoneOrNot s r t
   pub read_file : (s t : State) (d fd f at n : ℕ) (r : Reply) → IsOrderly s → is_live s d ≡ true → may_read s d (file s f).pool ≡ true → descriptor s d fd ≡ Some (on.File f at modes.Read) → StepsTo s (event.Call d (call.IolRead fd n)) r t → ReadsFile s d fd f at (take n (drop at (content s f))) r t
-  pub read_conn : (s t : State) (d fd c n : ℕ) (r : Reply) → IsOrderly s → descriptor s d fd ≡ Some (on.Connection c) → StepsTo s (event.Call d (call.IolRead fd n)) r t → ReadsConn s d c r t
+  pub read_conn : (s t : State) (d fd c n : ℕ) (r : Reply) → IsOrderly s → descriptor s d fd ≡ Some (on.Connection c) → StepsTo s (event.Call d (call.IolRead fd n)) r t → ReadsConn s d c n r t
   pub write_conn : (s t : State) (d fd c a : ℕ) (bytes : List ℕ) (r : Reply) → IsOrderly s → descriptor s d fd ≡ Some (on.Connection c) → lent_at s d a ≡ Some bytes → StepsTo s (event.Call d (call.IolWrite fd a)) r t → WritesConn s c bytes r t
   pub makes_pipe : (s t : State) (d : ℕ) (r : Reply) → StepsTo s (event.Call d call.Pipe) r t → MakesPipe s d r t
-  pub read_pipe : (s t : State) (d fd p n : ℕ) (r : Reply) → IsOrderly s → descriptor s d fd ≡ Some (on.ReadEnd p) → StepsTo s (event.Call d (call.IolRead fd n)) r t → ReadsPipe s d p r t
+  pub read_pipe : (s t : State) (d fd p n : ℕ) (r : Reply) → IsOrderly s → descriptor s d fd ≡ Some (on.ReadEnd p) → StepsTo s (event.Call d (call.IolRead fd n)) r t → ReadsPipe s d p n r t
   pub write_pipe : (s t : State) (d fd p a : ℕ) (bytes : List ℕ) (r : Reply) → IsOrderly s → descriptor s d fd ≡ Some (on.WriteEnd p) → lent_at s d a ≡ Some bytes → StepsTo s (event.Call d (call.IolWrite fd a)) r t → WritesPipe s p bytes r t
   pub closes_write_end : (s t : State) (d fd p : ℕ) (r : Reply) → IsOrderly s → descriptor s d fd ≡ Some (on.WriteEnd p) → StepsTo s (event.Call d (call.Close fd)) r t → ClosesWriteEnd s p r t
   pub gives_fd : (s t : State) (d fd to : ℕ) (x : Descriptor) (r : Reply) → descriptor s d fd ≡ Some x → StepsTo s (event.Call d (call.GiveFd fd to)) r t → GivesFd s d fd to x r t
