@@ -1,20 +1,21 @@
 -- What the calls on aggregates do for their own domain.
-use Rattle.std.proofs.Common.{◌≡◌, ℕ, ◌-◌, List, [], ◌++◌, take, drop, ap, ◌∙◌, arith, Option, Some}
+use Rattle.std.proofs.Common.{◌≡◌, ℕ, ◌+◌, ◌-◌, ◌≤◌, List, [], ◌∷◌, ◌++◌, take, drop, ap, ◌∙◌, subst, arith, Option, Some, None, append_assoc}
 use Rattle.std.specs.Prelude.{option_map, slice_range}
 use Rattle.iol_core.specs.Text.{Text, bytes_of, labelled, part}
-use Rattle.iol_core.specs.Numbered.{without}
-use Rattle.iol_core.specs.State.{State, domain, text}
+use Rattle.iol_core.specs.Numbered.{lookup, without}
+use Rattle.iol_core.specs.State.{State, Domain, domain, text}
 use Rattle.iol_core.specs.Run.{StepsTo}
 use Rattle.iol_core.specs.Calls.Aggregates as aggs
 use Rattle.iol_core.specs.declared.events.Call.TheVariants as call
 use Rattle.iol_core.specs.declared.events.Event.TheVariants as event
 use Rattle.iol_core.specs.declared.events.Reply.{Reply}
 use Rattle.iol_core.specs.declared.events.Reply.TheVariants as reply
+use Rattle.iol_core.proofs.Lookups.{lookup-append}
 use Rattle.iol_laws.specs.Order.{IsOrderly}
-use Rattle.iol_laws.specs.Caller.{lent_at, Makes, DoneOrNot, Shows}
-use Rattle.iol_laws.proofs.Domains.{live-first}
+use Rattle.iol_laws.specs.Caller.{lent_at, Makes, DoneOrNot, Shows, MakesTwo}
+use Rattle.iol_laws.proofs.Domains.{domain-with_same, live-first}
 use Rattle.iol_laws.proofs.Numbers.{lent-made, number, text-of}
-use Rattle.iol_laws.proofs.Places.{lookup-without_none}
+use Rattle.iol_laws.proofs.Places.{lookup-push, lookup-push_other, lookup-without_none}
 use Rattle.iol_laws.proofs.Texts.{bytes-append, bytes-drop, bytes-labelled, bytes-take}
 
 pub does_make : (s t : State) (d : ℕ) (bytes : List ℕ) (r : Reply) → IsOrderly s → StepsTo s (event.Call d (call.AggMake bytes)) r t → Makes s d bytes r t
@@ -39,6 +40,46 @@ does_cut s t d a from to bytes (reply.Agg n) order has step =
     )
 does_cut s t d a from to bytes (reply.Refused x) order has step = step.1
 does_cut s t d a from to bytes r order has step = (let e = step.1 in absurd (cc))
+
+-- the two numbers of a reply
+abbrev pub first_agg : Reply → ℕ
+first_agg (reply.Aggs n m) = n
+first_agg r = 0
+
+abbrev pub second_agg : Reply → ℕ
+second_agg (reply.Aggs n m) = m
+second_agg r = 0
+
+-- what is found under two numbers one after another
+two-found : (kept : List (ℕ × Text)) (n : ℕ) (x y : Text) → ((a : ℕ) → n ≤ a → lookup kept a ≡ None) → (lookup (kept ++ (n, x) ∷ (n + 1, y) ∷ []) n ≡ Some x) × (lookup (kept ++ (n, x) ∷ (n + 1, y) ∷ []) (n + 1) ≡ Some y)
+two-found kept n x y below =
+    let both = append_assoc kept ((n, x) ∷ []) ((n + 1, y) ∷ []) in
+    let one : lookup (kept ++ (n, x) ∷ []) n ≡ Some x = lookup-push kept n x (below n (omega arith)) in
+    let none : lookup (kept ++ (n, x) ∷ []) (n + 1) ≡ None = lookup-push_other kept n (n + 1) x (λ same. omega (arith, same)) ∙ below (n + 1) (omega arith) in (
+      subst (λ (l : List (ℕ × Text)). lookup l n ≡ Some x) both (lookup-append (kept ++ (n, x) ∷ []) ((n + 1, y) ∷ []) n x one),
+      subst (λ (l : List (ℕ × Text)). lookup l (n + 1) ≡ Some y) both (lookup-push (kept ++ (n, x) ∷ []) (n + 1) y none),
+    )
+
+pub does_split : (s t : State) (d a at : ℕ) (bytes : List ℕ) (r : Reply) → IsOrderly s → lent_at s d a ≡ Some bytes → StepsTo s (event.Call d (call.AggSplit a at)) r t → MakesTwo s d (take at bytes) (drop at bytes) r t
+does_split s t d a at bytes (reply.Aggs n m) order has step =
+    let live = live-first s d _ step.0 in
+    let next : ℕ = aggs.next_agg s d in
+    let kept : List (ℕ × Text) = without (domain s d).aggs a in
+    let front : Text = take at (text s d a) in
+    let back : Text = drop at (text s d a) in
+    let list : List (ℕ × Text) = kept ++ (next, front) ∷ (next + 1, back) ∷ [] in
+    let n_is : n ≡ next = ap first_agg step.1 in
+    let m_is : m ≡ next + 1 = ap second_agg step.1 in
+    let found = two-found kept next front back (λ b more. lookup-without_none (domain s d).aggs a b (order.aggs d b more)) in
+    let text_is = text-of s d a bytes has in
+    let dom : domain t d ≡ record (domain s d) { aggs = list; next_agg = next + 2 } = ap (λ u. domain u d) step.2 ∙ domain-with_same s d (record (domain s d) { aggs = list; next_agg = next + 2 }) live in (
+      ap (λ k. lent_at t d k) n_is ∙ (ap (λ (y : Domain Text). option_map bytes_of (lookup y.aggs next)) dom ∙ (ap (λ (o : Option Text). option_map bytes_of o) found.0 ∙ ap (λ (l : List ℕ). Some l) (bytes-take at (text s d a) ∙ ap (λ (l : List ℕ). take at l) text_is))),
+      ap (λ k. lent_at t d k) m_is ∙ (ap (λ (y : Domain Text). option_map bytes_of (lookup y.aggs (next + 1))) dom ∙ (ap (λ (o : Option Text). option_map bytes_of o) found.1 ∙ ap (λ (l : List ℕ). Some l) (bytes-drop at (text s d a) ∙ ap (λ (l : List ℕ). drop at l) text_is))),
+      ap (λ k. lent_at s d k) n_is ∙ ap (λ (o : Option Text). option_map bytes_of o) (order.aggs d next (omega arith)),
+      ap (λ k. lent_at s d k) m_is ∙ ap (λ (o : Option Text). option_map bytes_of o) (order.aggs d (next + 1) (omega arith)),
+    )
+does_split s t d a at bytes (reply.Refused x) order has step = step.1
+does_split s t d a at bytes r order has step = (let e = step.1 in absurd (cc))
 
 pub does_join : (s t : State) (d a b : ℕ) (xs ys : List ℕ) (r : Reply) → IsOrderly s → lent_at s d a ≡ Some xs → lent_at s d b ≡ Some ys → StepsTo s (event.Call d (call.AggJoin a b)) r t → Makes s d (xs ++ ys) r t
 does_join s t d a b xs ys (reply.Agg n) order has_a has_b step =

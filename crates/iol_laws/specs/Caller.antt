@@ -35,6 +35,12 @@ Makes s d bytes (reply.Agg n) t = (lent_at t d n ≡ Some bytes) × (lent_at s d
 Makes s d bytes (reply.Refused x) t = t ≡ s
 Makes s d bytes r t = ⊥
 
+-- aggregates of these bytes and of those are made, under two new numbers
+abbrev pub MakesTwo : State → (d : ℕ) → (front back : List ℕ) → Reply → State → Type 0
+MakesTwo s d front back (reply.Aggs n m) t = (lent_at t d n ≡ Some front) × (lent_at t d m ≡ Some back) × (lent_at s d n ≡ None) × (lent_at s d m ≡ None)
+MakesTwo s d front back (reply.Refused x) t = t ≡ s
+MakesTwo s d front back r t = ⊥
+
 -- of a connection the first bytes that came in are taken, at most so many, as aggregate n; where some are asked for and none
 -- is there to be taken, the peer sends no more
 pub record Takes (s : State) (d c count n : ℕ) (t : State) : Type 0 where
@@ -179,6 +185,7 @@ Accepts s d r t = ⊥
 pub record CallsServeTheirDomain : Type 0 where
   pub make : (s t : State) (d : ℕ) (bytes : List ℕ) (r : Reply) → IsOrderly s → StepsTo s (event.Call d (call.AggMake bytes)) r t → Makes s d bytes r t
   pub cut : (s t : State) (d a from to : ℕ) (bytes : List ℕ) (r : Reply) → IsOrderly s → lent_at s d a ≡ Some bytes → StepsTo s (event.Call d (call.AggCut a from to)) r t → Makes s d (slice_range bytes from to) r t
+  pub split : (s t : State) (d a at : ℕ) (bytes : List ℕ) (r : Reply) → IsOrderly s → lent_at s d a ≡ Some bytes → StepsTo s (event.Call d (call.AggSplit a at)) r t → MakesTwo s d (take at bytes) (drop at bytes) r t
   pub join : (s t : State) (d a b : ℕ) (xs ys : List ℕ) (r : Reply) → IsOrderly s → lent_at s d a ≡ Some xs → lent_at s d b ≡ Some ys → StepsTo s (event.Call d (call.AggJoin a b)) r t → Makes s d (xs ++ ys) r t
   pub dup : (s t : State) (d a : ℕ) (bytes : List ℕ) (r : Reply) → IsOrderly s → lent_at s d a ≡ Some bytes → StepsTo s (event.Call d (call.AggDup a)) r t → Makes s d bytes r t
   pub replace : (s t : State) (d a from to b : ℕ) (xs ys : List ℕ) (r : Reply) → IsOrderly s → lent_at s d a ≡ Some xs → lent_at s d b ≡ Some ys → StepsTo s (event.Call d (call.AggReplace a from to b)) r t → Makes s d (take from xs ++ ys ++ drop to xs) r t

@@ -1,4 +1,4 @@
-use Rattle.iol_laws.proofs.CallerAggregates.{does_make, does_dup, does_cut, does_join, does_replace, does_show, does_drop}
+use Rattle.iol_laws.proofs.CallerAggregates.{does_make, does_dup, does_cut, does_split, does_join, does_replace, does_show, does_drop}
 use Rattle.iol_laws.proofs.CallerDescriptors.{does_read_file, does_read_conn, does_write_conn, does_close, does_close_conn, does_accept}
 use Rattle.iol_laws.proofs.CallerPipes.{does_make_pipe, does_read_pipe, does_write_pipe, does_close_write_end}
 use Rattle.iol_laws.proofs.CallerGifts.{does_give_fd, does_give_agg}
@@ -8,6 +8,7 @@ pub returns : goal.returns
 returns c = record {
   make = does_make;
   cut = does_cut;
+  split = does_split;
   join = does_join;
   dup = does_dup;
   replace = does_replace;
