@@ -12,7 +12,8 @@ use Rattle.iol_core.specs.declared.events.Reply.{Reply}
 use Rattle.iol_core.specs.declared.events.Reply.TheVariants as reply
 use Rattle.iol_core.proofs.Lookups.{lookup-append}
 use Rattle.iol_laws.specs.Order.{IsOrderly}
-use Rattle.iol_laws.specs.Caller.{lent_at, Makes, DoneOrNot, Shows, MakesTwo}
+use Rattle.iol_laws.specs.Caller.{lent_at, Makes, Drops, Shows, MakesTwo}
+use Rattle.iol_laws.proofs.Connections.{forgotten}
 use Rattle.iol_laws.proofs.Domains.{domain-with_same, live-first}
 use Rattle.iol_laws.proofs.Numbers.{lent-made, number, text-of}
 use Rattle.iol_laws.proofs.Places.{lookup-push, lookup-push_other, lookup-without_none}
@@ -131,7 +132,10 @@ does_show s t d a bytes (reply.Bytes found) has step = (ap shown_in step.1 ∙ t
 does_show s t d a bytes (reply.Refused x) has step = step.1
 does_show s t d a bytes r has step = (let e = step.1 in absurd (cc))
 
-pub does_drop : (s t : State) (d a : ℕ) (r : Reply) → StepsTo s (event.Call d (call.AggDrop a)) r t → DoneOrNot s r t
-does_drop s t d a reply.Done step = tt
-does_drop s t d a (reply.Refused x) step = step.1
-does_drop s t d a r step = (let e = step.1 in absurd (cc))
+pub does_drop : (s t : State) (d a : ℕ) (r : Reply) → IsOrderly s → StepsTo s (event.Call d (call.AggDrop a)) r t → Drops s d a r t
+does_drop s t d a reply.Done order step =
+    let live = live-first s d _ step.0 in
+    let left : Domain Text = record (domain s d) { aggs = without (domain s d).aggs a } in
+    ap (λ u. lent_at u d a) step.2 ∙ (ap (λ (y : Domain Text). option_map bytes_of (lookup y.aggs a)) (domain-with_same s d left live) ∙ ap (λ (o : Option Text). option_map bytes_of o) (forgotten (domain s d).aggs a (order.aggs_once d)))
+does_drop s t d a (reply.Refused x) order step = step.1
+does_drop s t d a r order step = (let e = step.1 in absurd (cc))

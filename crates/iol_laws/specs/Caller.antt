@@ -125,11 +125,11 @@ ReadsFile s d fd f at bytes (reply.Agg n) t = (lent_at t d n ≡ Some bytes) × 
 ReadsFile s d fd f at bytes (reply.Refused x) t = (is_rough (reply.Refused x) ≡ true) × (t ≡ s)
 ReadsFile s d fd f at bytes r t = ⊥
 
--- an aggregate is given up; which others stay is said by the values of aggregates
-abbrev pub DoneOrNot : State → Reply → State → Type 0
-DoneOrNot s reply.Done t = Unit {0}
-DoneOrNot s (reply.Refused x) t = t ≡ s
-DoneOrNot s r t = ⊥
+-- an aggregate is given up
+abbrev pub Drops : State → (d a : ℕ) → Reply → State → Type 0
+Drops s d a reply.Done t = lent_at t d a ≡ None
+Drops s d a (reply.Refused x) t = t ≡ s
+Drops s d a r t = ⊥
 
 -- a descriptor is closed
 abbrev pub Closes : State → (d fd : ℕ) → Reply → State → Type 0
@@ -190,7 +190,7 @@ pub record CallsServeTheirDomain : Type 0 where
   pub dup : (s t : State) (d a : ℕ) (bytes : List ℕ) (r : Reply) → IsOrderly s → lent_at s d a ≡ Some bytes → StepsTo s (event.Call d (call.AggDup a)) r t → Makes s d bytes r t
   pub replace : (s t : State) (d a from to b : ℕ) (xs ys : List ℕ) (r : Reply) → IsOrderly s → lent_at s d a ≡ Some xs → lent_at s d b ≡ Some ys → StepsTo s (event.Call d (call.AggReplace a from to b)) r t → Makes s d (take from xs ++ ys ++ drop to xs) r t
   pub shows : (s t : State) (d a : ℕ) (bytes : List ℕ) (r : Reply) → lent_at s d a ≡ Some bytes → StepsTo s (event.Call d (call.Show a)) r t → Shows s bytes r t
-  pub drops : (s t : State) (d a : ℕ) (r : Reply) → StepsTo s (event.Call d (call.AggDrop a)) r t → DoneOrNot s r t
+  pub drops : (s t : State) (d a : ℕ) (r : Reply) → IsOrderly s → StepsTo s (event.Call d (call.AggDrop a)) r t → Drops s d a r t
   pub read_file : (s t : State) (d fd f at n : ℕ) (r : Reply) → IsOrderly s → is_live s d ≡ true → may_read s d (file s f).pool ≡ true → descriptor s d fd ≡ Some (on.File f at modes.Read) → StepsTo s (event.Call d (call.IolRead fd n)) r t → ReadsFile s d fd f at (take n (drop at (content s f))) r t
   pub read_conn : (s t : State) (d fd c n : ℕ) (r : Reply) → IsOrderly s → descriptor s d fd ≡ Some (on.Connection c) → StepsTo s (event.Call d (call.IolRead fd n)) r t → ReadsConn s d c n r t
   pub write_conn : (s t : State) (d fd c a : ℕ) (bytes : List ℕ) (r : Reply) → IsOrderly s → descriptor s d fd ≡ Some (on.Connection c) → lent_at s d a ≡ Some bytes → StepsTo s (event.Call d (call.IolWrite fd a)) r t → WritesConn s c bytes r t
