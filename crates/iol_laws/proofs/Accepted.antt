@@ -25,7 +25,7 @@ use Rattle.iol_laws.proofs.LeftConnections.{conns_meant}
 abbrev pub IsAccepted : State → ℕ → Type 0
 IsAccepted s c = (conn_at s c).accepted ≡ true
 
-accepted-with_conn : (s : State) (e : ℕ) (x : Connection) (c : ℕ) → Once s.conns → (e ≡ c → x.accepted ≡ true) → IsAccepted s c → IsAccepted (with_conn s e x) c
+pub accepted-with_conn : (s : State) (e : ℕ) (x : Connection) (c : ℕ) → Once s.conns → (e ≡ c → x.accepted ≡ true) → IsAccepted s c → IsAccepted (with_conn s e x) c
 accepted-with_conn s e x c once new was = elim (cases_eq e c) [
   | inr differ ↦ ap (λ (k : Connection). k.accepted) (conns_conn s e x c differ) ∙ was
   | inl same ↦ subst (λ n. IsAccepted (with_conn s e x) n) same (by (is_over x) refl (lookup s.conns e) refl (new same))

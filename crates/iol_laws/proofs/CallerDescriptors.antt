@@ -1,5 +1,5 @@
 -- What reading, writing, accepting and closing do for their own domain.
-use Rattle.std.proofs.Common.{suc, ◌≡◌, ℕ, ◌+◌, List, [], ◌∷◌, ◌++◌, length, take, drop, ap, ◌∙◌, refl, sym, subst, arith, Option, Some, None, true, false, Bool}
+use Rattle.std.proofs.Common.{◌≡◌, ℕ, ◌+◌, List, [], ◌∷◌, ◌++◌, length, take, drop, ap, ◌∙◌, refl, sym, subst, arith, Option, Some, None, true, false, Bool}
 use Rattle.std.specs.Prelude.{option_map, slice_set, unwrap_or, not, is_none, nat_lt, ◌&&◌, ◌||◌, MatchOption}
 use Rattle.iol_core.specs.Text.{Text, bytes_of, labelled, admitted}
 use Rattle.iol_core.specs.Numbered.{lookup, in_place, lowest, placed}
@@ -25,10 +25,11 @@ use Rattle.iol_laws.specs.Order.{IsOrderly}
 use Rattle.iol_laws.specs.Caller.{lent_at, is_rough, ReadsConn, WritesConn, ReadsFile, Closes, ClosesConn, Accepts}
 use Rattle.iol_laws.proofs.Connections.{conn-over, conn-with_same, conns-with_agg, conns-with_fds, conns_conn, not-over, nothing-left}
 use Rattle.iol_laws.proofs.Domains.{domain-with_same, domains-closed_on, domains-with_conn, live-first}
+use Rattle.iol_laws.proofs.Ended.{none-admitted, none-comes}
 use Rattle.iol_laws.proofs.Numbers.{lent-made, new-fd, number, text-of}
 use Rattle.iol_laws.proofs.Places.{lowest-free, place-set_free, place-set_there}
 use Rattle.iol_laws.proofs.Tests.{is_some-or}
-use Rattle.iol_laws.proofs.Texts.{admitted-rest, bytes-labelled, bytes-take, length-labelled}
+use Rattle.iol_laws.proofs.Texts.{admitted-rest, bytes-labelled, bytes-take, length-bytes, length-labelled}
 use Rattle.iol_laws.proofs.Waiting.{opened-conn, waiting-is}
 
 pub does_write_conn : (s t : State) (d fd c a : ℕ) (bytes : List ℕ) (r : Reply) → IsOrderly s → descriptor s d fd ≡ Some (on.Connection c) → lent_at s d a ≡ Some bytes → StepsTo s (event.Call d (call.IolWrite fd a)) r t → WritesConn s c bytes r t
@@ -47,15 +48,13 @@ does_write_conn s t d fd c a bytes (reply.Count k) order is has step =
       takes = sym (ap (λ o. writing.is_broken s o) is) ∙ broken;
       conn = ap (λ u. conn_at u c) same ∙ (conn-with_same s c _ both.1 (not-over (record (conn_at s c) { outgoing = (conn_at s c).outgoing ++ take fit w }) both.0 both.1) ∙ ap (λ n. record (conn_at s c) { outgoing = (conn_at s c).outgoing ++ take n w }) (sym k_is));
     }
-  where
-    length-bytes : (w : Text) → length (bytes_of w) ≡ length w
-    length-bytes [] = refl
-    length-bytes (x ∷ w) = ap suc (length-bytes w)
 does_write_conn s t d fd c a bytes (reply.Refused x) order is has step = step.1
 does_write_conn s t d fd c a bytes r order is has step = (let e = step.1 in absurd (cc))
 
-pub does_read_conn : (s t : State) (d fd c n : ℕ) (r : Reply) → IsOrderly s → descriptor s d fd ≡ Some (on.Connection c) → StepsTo s (event.Call d (call.IolRead fd n)) r t → ReadsConn s d c r t
+pub does_read_conn : (s t : State) (d fd c n : ℕ) (r : Reply) → IsOrderly s → descriptor s d fd ≡ Some (on.Connection c) → StepsTo s (event.Call d (call.IolRead fd n)) r t → ReadsConn s d c n r t
 does_read_conn s t d fd c n (reply.Agg a) order is step =
+    let free = sym (ap (λ o. reading.read_denied s d o n) is) ∙ passed (reading.iol_read s d fd n).refusals 4 step.0 in
+    let still = sym (ap (λ o. reading.must_wait s o n) is) ∙ when-none refuse.WouldBlock (reading.must_wait s (descriptor s d fd) n) (passed (reading.iol_read s d fd n).refusals 5 step.0) in
     let both = opened-conn s d fd c order is in
     let live = live-first s d _ step.0 in
     let inc : Text = (conn_at s c).incoming in
@@ -75,6 +74,7 @@ does_read_conn s t d fd c n (reply.Agg a) order is step =
       new = ap (λ k. lent_at s d k) (a_is ∙ next) ∙ ap (λ (o : Option Text). option_map bytes_of o) none;
       was = admitted-rest (may_read s d) n inc;
       conn = ap (λ u. conn_at u c) same ∙ (conns-with_agg mid d tx c ∙ conn-with_same s c x both.1 (not-over x both.0 both.1));
+      ended = λ some none. (let gone = none-admitted (may_read s d) n inc some free none in (gone, none-comes n inc (is_none (conn_at s c).peer) some gone still));
     }
 does_read_conn s t d fd c n (reply.Refused x) order is step = step.1
 does_read_conn s t d fd c n r order is step = (let e = step.1 in absurd (cc))

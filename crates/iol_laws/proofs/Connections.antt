@@ -85,8 +85,8 @@ nothing-left (x ∷ out) b is = absurd (let e : (length (x ∷ out) == 0) ≡ fa
 
 -- Numbers that stand once.
 
--- a connection that is over is forgotten
-pub forgotten : (es : List (ℕ × Connection)) (c : ℕ) → Once es → lookup (without es c) c ≡ None
+-- what is taken away is not found
+pub forgotten : {A : Type 0} (es : List (ℕ × A)) (c : ℕ) → Once es → lookup (without es c) c ≡ None
 forgotten [] c once = refl
 forgotten (e ∷ es) c once =
     let r = forgotten es c once.1 in
@@ -128,7 +128,7 @@ none-with_conn s c x k none = by (is_over x)
     by true = lookup-without_none s.conns c k none
     by false = changed-none s.conns c k x none
 
-once-without : {A : Type 0} (es : List (ℕ × A)) (n : ℕ) → Once es → Once (without es n)
+pub once-without : {A : Type 0} (es : List (ℕ × A)) (n : ℕ) → Once es → Once (without es n)
 once-without [] n once = tt
 once-without {A = A} (e ∷ es) n once = by (e.0 == n) (once-without es n once.1)
   where
@@ -152,7 +152,7 @@ once-with_conn s c x once = by (is_over x)
     by true = once-without s.conns c once
     by false = once-changed s.conns c x once
 
-pub once-push : (es : List (ℕ × Connection)) (n : ℕ) (x : Connection) → lookup es n ≡ None → Once es → Once (es ++ (n, x) ∷ [])
+pub once-push : {A : Type 0} (es : List (ℕ × A)) (n : ℕ) (x : A) → lookup es n ≡ None → Once es → Once (es ++ (n, x) ∷ [])
 once-push [] n x none once = (refl, tt)
 once-push (e ∷ es) n x none once = elim (cases_eq e.0 n) [
   | inl same ↦ absurd (let z : lookup (e ∷ es) n ≡ Some e.1 = grind (arith, nat_tests, common_steps, same) in cc (z, none))

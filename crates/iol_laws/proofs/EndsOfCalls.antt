@@ -151,7 +151,7 @@ sole_seek s by fd at (Some (on.ReadEnd p)) some sole = absurd (cc)
 sole_seek s by fd at (Some (on.WriteEnd p)) some sole = absurd (cc)
 sole_seek s by fd at (Some (on.Connection c)) some sole = absurd (cc)
 
-pipe-there : (s : State) → pipe_at (record s { pipes = placed s.pipes (lowest s.pipes) new_pipe }) (lowest s.pipes) ≡ new_pipe
+pub pipe-there : (s : State) → pipe_at (record s { pipes = placed s.pipes (lowest s.pipes) new_pipe }) (lowest s.pipes) ≡ new_pipe
 unfolding pipe_at
 pipe-there s = ap (λ o. unwrap_or o no_pipe) (place-new s.pipes new_pipe)
 
@@ -169,7 +169,7 @@ unfolding with_domain
 write_end-stands s by = ap (λ (k : Pipe). k.writing) (pipes_same (record s { pipes = placed s.pipes (lowest s.pipes) new_pipe }) (fds.opened (record s { pipes = placed s.pipes (lowest s.pipes) new_pipe }) by (on.ReadEnd (lowest s.pipes))) (λ k. false) refl (lowest s.pipes) refl) ∙ ap (λ (k : Pipe). k.writing) (pipe-there s)
 
 -- opening the two ends one after another is the call
-pipe-twice : (s : State) (by : ℕ) → is_live s by ≡ true → fds.opened (fds.opened (record s { pipes = placed s.pipes (lowest s.pipes) new_pipe }) by (on.ReadEnd (lowest s.pipes))) by (on.WriteEnd (lowest s.pipes)) ≡ (fds.pipe s by).after
+pub pipe-twice : (s : State) (by : ℕ) → is_live s by ≡ true → fds.opened (fds.opened (record s { pipes = placed s.pipes (lowest s.pipes) new_pipe }) by (on.ReadEnd (lowest s.pipes))) by (on.WriteEnd (lowest s.pipes)) ≡ (fds.pipe s by).after
 unfolding with_domain
 pipe-twice s by live =
     let new : ℕ = lowest s.pipes in

@@ -1,54 +1,31 @@
 -- Histories of connections add up over runs.
-use Rattle.std.proofs.Common.{inl, inr, zero, suc, ◌≡◌, ◌≢◌, ℕ, ◌+◌, ◌-◌, ◌==◌, ◌<◌, ◌≤◌, ◌⊎◌, List, [], ◌∷◌, ◌++◌, length, take, drop, ap, ◌∙◌, refl, sym, subst, arith, Option, Some, None, true, false, Bool, append_assoc}
-use Rattle.std.specs.Prelude.{option_map, slice_range, slice_set, unwrap_or, not, is_none, is_some, nat_le, nat_lt, min, ◌&&◌, ◌||◌, if◌then◌else◌, Result, Ok, Err, MatchOption, map, find, fold, take_while}
-use Rattle.std.specs.List.{list_any, prefix_len}
-use Rattle.std.specs.Option.{option_map_or}
-use Rattle.std.proofs.lemmas.Bool.{cases_eq, cases_lt}
+use Rattle.std.proofs.Common.{◌≡◌, ℕ, ◌==◌, List, [], ◌∷◌, ◌++◌, take, ap, ◌∙◌, refl, sym, subst, arith, true, false, Bool, append_assoc}
+use Rattle.std.specs.Prelude.{if◌then◌else◌, Result, Ok, Err}
+use Rattle.std.specs.List.{list_any}
 use Rattle.std.proofs.lemmas.Bool.Decides.{nat_tests}
 use Rattle.std.proofs.lemmas.Grind.{common_steps}
-use Rattle.std.proofs.lemmas.List.{append-nil, get_or_past, take-append-drop, set-set}
-use Rattle.iol_core.specs.Text.{Text, bytes_of, labelled, part, admitted}
-use Rattle.iol_core.specs.Numbered.{lookup, without, changed, numbered_or, with_numbered, is_numbered, in_place, lowest, placed}
-use Rattle.iol_core.specs.State.{State, Domain, Pipe, Connection, File, Pool, domain, pool, is_pool, no_pool, aggregate, text, descriptor, content, file, may_read, pipe_at, conn_at, no_conn, no_pipe, new_pipe, new_conn, new_domain, no_domain, new_state, is_live, is_over, is_gone, with_domain, with_pipe, with_conn, with_content}
-use Rattle.iol_core.specs.Meaning.{Meaning, Step, first, ◌when◌, WantOfMemory}
+use Rattle.std.proofs.lemmas.List.{append-nil}
+use Rattle.iol_core.specs.Text.{Text, bytes_of}
+use Rattle.iol_core.specs.State.{State, Connection, conn_at}
+use Rattle.iol_core.specs.Meaning.{Meaning, Step, first}
 use Rattle.iol_core.specs.Run.{called, meaning, StepsTo, Run, outcome}
-use Rattle.iol_core.specs.Calls.Domains.{domain_new, exit}
-use Rattle.iol_core.specs.Calls.Pools.{pool_create, pool_close}
-use Rattle.iol_core.specs.Calls.Aggregates as aggs
-use Rattle.iol_core.specs.Calls.Descriptors as fds
-use Rattle.iol_core.specs.Calls.Files.{file_new, file_length, open_on, file_on, file_called, open_file}
-use Rattle.iol_core.specs.Calls.Outside.{conn_new, closed_by, arrive, transmit, peer_closed}
-use Rattle.iol_core.specs.Calls.Outside as outside
-use Rattle.iol_core.specs.Calls.Reading as reading
-use Rattle.iol_core.specs.Calls.Writing as writing
-use Rattle.iol_core.specs.Calls.Writing.{is_file}
 use Rattle.iol_core.specs.declared.refusals.Refusal.{Refusal}
-use Rattle.iol_core.specs.declared.refusals.Refusal.TheVariants as refuse
-use Rattle.iol_core.specs.declared.descriptors.Mode.{Mode}
-use Rattle.iol_core.specs.declared.descriptors.Mode.TheVariants as modes
-use Rattle.iol_core.specs.declared.descriptors.How.{How}
-use Rattle.iol_core.specs.declared.descriptors.How.TheVariants as ways
-use Rattle.iol_core.specs.declared.descriptors.Descriptor.{Descriptor}
-use Rattle.iol_core.specs.declared.descriptors.Descriptor.TheVariants as on
-use Rattle.iol_core.specs.declared.events.Call.{Call}
-use Rattle.iol_core.specs.declared.events.Call.TheVariants as call
 use Rattle.iol_core.specs.declared.events.Event.{Event}
 use Rattle.iol_core.specs.declared.events.Event.TheVariants as event
 use Rattle.iol_core.specs.declared.events.Reply.{Reply}
 use Rattle.iol_core.specs.declared.events.Reply.TheVariants as reply
-use Rattle.iol_core.proofs.Lookups.{numbered_or-with, domain-with_domain, domain-same, domain-push, domain-new_state, lookup-without}
-use Rattle.iol_core.proofs.Passing.{passed, when-not, when-none}
-use Rattle.iol_core.proofs.Places.{place-set_other}
-use Rattle.iol_laws.specs.Frame.{operands, is_conn, is_end, names_conn, touches_conn, makes_pipe, touches_pipe, touches_fd, changes_files, Leaves}
-use Rattle.iol_laws.specs.Order.{stands, Once, IsOrderly}
-use Rattle.iol_laws.specs.Caller.{lent_at, is_rough, Makes, Takes, ReadsConn, Puts, WritesConn, ReadsFile, DoneOrNot, Closes, ClosesConn, TakesConn, Accepts, is_agg, is_fd, gives_away}
-use Rattle.iol_laws.specs.Others.{ComesIn, Arrives, GoesOut, Transmits, PeerCloses}
+use Rattle.iol_laws.specs.Order.{IsOrderly}
+use Rattle.iol_laws.specs.Others.{ComesIn, GoesOut}
 use Rattle.iol_laws.specs.History.{came_by, sent_by, stream_of, sent_of, IsEndOf, GoesFirst}
 use Rattle.iol_laws.proofs.Leaving.{leaves_step}
 use Rattle.iol_laws.proofs.Outside.{does_arrive, does_transmit}
 use Rattle.iol_laws.proofs.Ordered.{orderly_step}
 use Rattle.iol_laws.proofs.Texts.{bytes-append}
-use Rattle.iol_laws.proofs.Unread.{IsRest, rest_same, brings_none, rest_meant}
+use Rattle.iol_laws.specs.History.{drops_unsent}
+use Rattle.std.specs.List.{list_any}
+use Rattle.std.proofs.lemmas.Grind.{common_steps}
+use Rattle.iol_laws.proofs.Unsent.{IsLonger, longer_same, longer_meant}
+use Rattle.iol_laws.proofs.Unread.{IsRest, rest_same, rest_meant}
 
 -- In parts.
 
@@ -88,6 +65,7 @@ end_arrive s t e bytes (reply.Count k) c order step = by (e == c) refl
   where
     came : ComesIn s e (take k bytes) t
     came = does_arrive s t e bytes (reply.Count k) order step
+
     by : (b : Bool) → (e == c) ≡ b → IsEndOf (bytes_of (conn_at s c).incoming) (if b then take k bytes else []) (bytes_of (conn_at t c).incoming)
     by true is =
         let same : e ≡ c = grind (arith, nat_tests, is) in
@@ -118,3 +96,55 @@ unread_run old new (e ∷ es) (r ∷ rs) c order run =
     (end_step old run.0 e r c order run.1) (unread_run run.0 new es rs c (orderly_step old run.0 e r order run.1) run.2)
 unread_run old new [] (r ∷ rs) c order run = absurd run
 unread_run old new (e ∷ es) [] c order run = absurd run
+
+-- What is to be sent.
+
+first_of_longer : (s t : State) (c : ℕ) → IsLonger s t c → GoesFirst (bytes_of (conn_at s c).outgoing) [] (bytes_of (conn_at t c).outgoing)
+first_of_longer s t c longer = record {
+  written = bytes_of longer.more;
+  all = sym (bytes-append (conn_at s c).outgoing longer.more) ∙ ap (λ (l : Text). bytes_of l) (sym longer.is);
+}
+
+longer_outcome : (m : Meaning Reply) (old new : State) (r : Result Reply Refusal) (c : ℕ) → IsLonger old m.after c → Step m old r new → IsLonger old new c
+longer_outcome m old new (Ok a) c longer step = subst (λ (s : State). IsLonger old s c) (sym step.2) longer
+longer_outcome m old new (Err x) c longer step = subst (λ (s : State). IsLonger old s c) (sym step.1) (longer_same old old c refl)
+
+-- a segment is taken from the front
+first_transmit : (s t : State) (e max : ℕ) (r : Reply) (c : ℕ) → IsOrderly s → StepsTo s (event.Transmit e max) r t → GoesFirst (bytes_of (conn_at s c).outgoing) (sent_by c (event.Transmit e max) r) (bytes_of (conn_at t c).outgoing)
+first_transmit s t e max (reply.Segment bytes sum) c order step = by (e == c) refl
+  where
+    went : GoesOut s e bytes t
+    went = does_transmit s t e max (reply.Segment bytes sum) order step
+
+    by : (b : Bool) → (e == c) ≡ b → GoesFirst (bytes_of (conn_at s c).outgoing) (if b then bytes else []) (bytes_of (conn_at t c).outgoing)
+    by true is =
+        let same : e ≡ c = grind (arith, nat_tests, is) in
+        subst (λ n. GoesFirst (bytes_of (conn_at s n).outgoing) bytes (bytes_of (conn_at t n).outgoing)) same
+        (record { written = []; all = append-nil (bytes_of (conn_at s e).outgoing) ∙ went.bytes_were })
+    by false is = first_of_longer s t c (longer_same s t c (ap (λ (x : Connection). x.outgoing) ((leaves_step s t (event.Transmit e max) (reply.Segment bytes sum) step).conns c is)))
+first_transmit s t e max (reply.Refused x) c order step = first_of_longer s t c (longer_same s t c (ap (λ (u : State). (conn_at u c).outgoing) step.1))
+first_transmit s t e max r c order step = (let e = step.1 in absurd (cc))
+
+first_step : (s t : State) (e : Event) (r : Reply) (c : ℕ) → IsOrderly s → StepsTo s e r t → drops_unsent e c ≡ false → GoesFirst (bytes_of (conn_at s c).outgoing) (sent_by c e r) (bytes_of (conn_at t c).outgoing)
+first_step s t (event.Call d k) r c order step kept = first_of_longer s t c (longer_outcome (called s d k) s t (outcome r) c (longer_meant s (event.Call d k) c order refl kept) step)
+first_step s t (event.ConnNew p) r c order step kept = first_of_longer s t c (longer_outcome (meaning s (event.ConnNew p)) s t (outcome r) c (longer_meant s (event.ConnNew p) c order refl kept) step)
+first_step s t (event.Arrive e bytes) r c order step kept = first_of_longer s t c (longer_outcome (meaning s (event.Arrive e bytes)) s t (outcome r) c (longer_meant s (event.Arrive e bytes) c order refl kept) step)
+first_step s t (event.PeerClosed e how) r c order step kept = first_of_longer s t c (longer_outcome (meaning s (event.PeerClosed e how)) s t (outcome r) c (longer_meant s (event.PeerClosed e how) c order refl kept) step)
+first_step s t (event.Transmit e max) r c order step kept = first_transmit s t e max r c order step
+
+first_then : (a b c one two : List ℕ) → GoesFirst a one b → GoesFirst b two c → GoesFirst a (one ++ two) c
+first_then a b c one two x y = record {
+  written = x.written ++ y.written;
+  all = sym (append_assoc a x.written y.written) ∙ (ap (λ (l : List ℕ). l ++ y.written) x.all ∙ (append_assoc one b y.written ∙ (ap (λ (l : List ℕ). one ++ l) y.all ∙ sym (append_assoc one two c))));
+}
+
+pub unsent_run : (old new : State) (es : List Event) (rs : List Reply) (c : ℕ) → IsOrderly old → Run old es rs new → list_any (λ e. drops_unsent e c) es ≡ false → GoesFirst (bytes_of (conn_at old c).outgoing) (sent_of c es rs) (bytes_of (conn_at new c).outgoing)
+unfolding sent_of
+unsent_run old new [] [] c order run kept = first_of_longer old new c (longer_same old new c (ap (λ (u : State). (conn_at u c).outgoing) run))
+unsent_run old new (e ∷ es) (r ∷ rs) c order run kept =
+    let here : drops_unsent e c ≡ false = grind (arith, nat_tests, common_steps, kept) in
+    let later : list_any (λ x. drops_unsent x c) es ≡ false = grind (arith, nat_tests, common_steps, kept) in
+    first_then (bytes_of (conn_at old c).outgoing) (bytes_of (conn_at run.0 c).outgoing) (bytes_of (conn_at new c).outgoing) (sent_by c e r) (sent_of c es rs)
+    (first_step old run.0 e r c order run.1 here) (unsent_run run.0 new es rs c (orderly_step old run.0 e r order run.1) run.2 later)
+unsent_run old new [] (r ∷ rs) c order run kept = absurd run
+unsent_run old new (e ∷ es) [] c order run kept = absurd run

@@ -17,10 +17,16 @@ pub mod NumbersToCome
 pub mod Ordered
 pub mod Texts
 pub mod Numbers
+pub mod Ended
 pub mod CallerAggregates
 pub mod CallerDescriptors
+pub mod CallerPipes
+pub mod CallerGifts
 pub mod NewNumbers
 pub mod OtherCalls
 pub mod Outside
 pub mod Unread
+pub mod Unsent
 pub mod Histories
+pub mod NextNumber
+pub mod Pending

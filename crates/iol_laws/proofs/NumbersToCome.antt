@@ -1,4 +1,4 @@
--- No aggregate has a number that is still to come.
+-- Each aggregate of a domain has a number of its own, below the next.
 use Rattle.std.proofs.Common.{inl, inr, ◌≡◌, ℕ, ◌+◌, ◌==◌, ◌≤◌, List, [], ◌∷◌, ◌++◌, length, take, drop, ◌∙◌, refl, sym, subst, arith, Option, Some, None, true, false, Bool, append_assoc}
 use Rattle.std.specs.Prelude.{unwrap_or, if◌then◌else◌, fold}
 use Rattle.std.specs.Option.{option_map_or}
@@ -19,12 +19,33 @@ use Rattle.iol_core.specs.declared.events.Call.TheVariants as call
 use Rattle.iol_core.specs.declared.events.Event.{Event}
 use Rattle.iol_core.specs.declared.events.Event.TheVariants as event
 use Rattle.iol_core.proofs.Lookups.{domain-with_domain, domain-same, domain-push}
+use Rattle.iol_laws.specs.Order.{Once}
+use Rattle.iol_laws.proofs.Connections.{once-push, once-without}
 use Rattle.iol_laws.proofs.Domains.{domains-all_closed, domains-closed_on, domains-with_conn, domains-with_pipe}
 use Rattle.iol_laws.proofs.Places.{lookup-push_other, lookup-without_none}
 
--- no aggregate has a number that is still to come
+-- each number stands once, and is below the next
+pub record IsNumbered (kept : List (ℕ × Text)) (n : ℕ) : Type 0 where
+  pub below : (a : ℕ) → n ≤ a → lookup kept a ≡ None
+  pub once : Once kept
+
 abbrev pub IsBelow : Domain Text → Type 0
-IsBelow x = (a : ℕ) → x.next_agg ≤ a → lookup x.aggs a ≡ None
+IsBelow x = IsNumbered x.aggs x.next_agg
+
+numbered-without : (kept : List (ℕ × Text)) (n a : ℕ) → IsNumbered kept n → IsNumbered (without kept a) n
+numbered-without kept n a was = record { below = λ b more. lookup-without_none kept a b (was.below b more); once = once-without kept a was.once }
+
+numbered-push : (kept : List (ℕ × Text)) (n : ℕ) (t : Text) → IsNumbered kept n → IsNumbered (kept ++ (n, t) ∷ []) (n + 1)
+numbered-push kept n t was = record {
+  below = λ a more. lookup-push_other kept n a t (λ same. omega (arith, same, more)) ∙ was.below a (omega (arith, more));
+  once = once-push kept n t (was.below n (omega arith)) was.once;
+}
+
+numbered-split : (kept : List (ℕ × Text)) (n : ℕ) (t u : Text) → IsNumbered kept n → IsNumbered (kept ++ (n, t) ∷ (n + 1, u) ∷ []) (n + 2)
+numbered-split kept n t u was =
+    let both = numbered-push (kept ++ (n, t) ∷ []) (n + 1) u (numbered-push kept n t was) in
+    let two : n + 1 + 1 ≡ n + 2 = omega arith in
+    subst (λ m. IsNumbered (kept ++ (n, t) ∷ (n + 1, u) ∷ []) m) two (subst (λ (l : List (ℕ × Text)). IsNumbered l (n + 1 + 1)) (append_assoc kept ((n, t) ∷ []) ((n + 1, u) ∷ [])) both)
 
 pub record AllBelow (s : State) : Type 0 where
   pub each : (d : ℕ) → IsBelow (domain s d)
@@ -40,17 +61,14 @@ below_domain s by y new below = record {
   ];
 }
 
-below-push : (kept : List (ℕ × Text)) (n : ℕ) (t : Text) → ((a : ℕ) → n ≤ a → lookup kept a ≡ None) → (a : ℕ) → n + 1 ≤ a → lookup (kept ++ (n, t) ∷ []) a ≡ None
-below-push kept n t below a more = lookup-push_other kept n a t (λ same. omega (arith, same, more)) ∙ below a (omega (arith, more))
-
-below_with_new : (s : State) (d : ℕ) (kept : List (ℕ × Text)) (t : Text) → ((a : ℕ) → aggs.next_agg s d ≤ a → lookup kept a ≡ None) → AllBelow s → AllBelow (aggs.with_new s d kept t)
-below_with_new s d kept t kept_below below = below_domain s d _ (below-push kept (aggs.next_agg s d) t kept_below) below
+below_with_new : (s : State) (d : ℕ) (kept : List (ℕ × Text)) (t : Text) → IsNumbered kept (aggs.next_agg s d) → AllBelow s → AllBelow (aggs.with_new s d kept t)
+below_with_new s d kept t was below = below_domain s d _ (numbered-push kept (aggs.next_agg s d) t was) below
 
 below_with_agg : (s : State) (d : ℕ) (t : Text) → AllBelow s → AllBelow (aggs.with_agg s d t)
 below_with_agg s d t below = below_with_new s d (domain s d).aggs t (below.each d) below
 
 below_without : (s : State) (d a : ℕ) → AllBelow s → AllBelow (aggs.without_agg s d a)
-below_without s d a below = below_domain s d _ (λ b more. lookup-without_none (domain s d).aggs a b (below.each d b more)) below
+below_without s d a below = below_domain s d _ (numbered-without (domain s d).aggs (aggs.next_agg s d) a (below.each d)) below
 
 below_fds : (s : State) (d : ℕ) (xs : List (Option Descriptor)) → AllBelow s → AllBelow (fds.with_fds s d xs)
 below_fds s d xs below = below_domain s d _ (below.each d) below
@@ -59,7 +77,7 @@ below_agg_give : (s : State) (by a to : ℕ) → AllBelow s → AllBelow (aggs.a
 below_agg_give s by a to below = cases (by == to)
   where
     cases : (b : Bool) → AllBelow (if b then aggs.with_new s by (without (domain s by).aggs a) (text s by a) else aggs.without_agg (aggs.with_agg s to (text s by a)) by a)
-    cases true = below_with_new s by (without (domain s by).aggs a) (text s by a) (λ b more. lookup-without_none (domain s by).aggs a b (below.each by b more)) below
+    cases true = below_with_new s by (without (domain s by).aggs a) (text s by a) (numbered-without (domain s by).aggs (aggs.next_agg s by) a (below.each by)) below
     cases false = below_without (aggs.with_agg s to (text s by a)) by a (below_with_agg s to (text s by a) below)
 
 below_given : (s : State) (by fd to : ℕ) (o : Option Descriptor) → AllBelow s → AllBelow (option_map_or (fds.given_to s by fd to) o s)
@@ -89,27 +107,22 @@ below_domain_new : (s : State) (by : ℕ) → AllBelow s → AllBelow (domain_ne
 below_domain_new s by below = record {
   each = λ d. elim (domain-push s new_domain d) [
     | inl same ↦ subst (λ (x : Domain Text). IsBelow x) (sym same) (below.each d)
-    | inr both ↦ subst (λ (x : Domain Text). IsBelow x) (sym both.1) (λ a more. refl)
+    | inr both ↦ subst (λ (x : Domain Text). IsBelow x) (sym both.1) (record { below = λ a more. refl; once = tt })
   ];
 }
-
-below-split : (kept : List (ℕ × Text)) (n : ℕ) (t u : Text) → ((a : ℕ) → n ≤ a → lookup kept a ≡ None) → (a : ℕ) → n + 2 ≤ a → lookup (kept ++ (n, t) ∷ (n + 1, u) ∷ []) a ≡ None
-below-split kept n t u below a more =
-    subst (λ (l : List (ℕ × Text)). lookup l a ≡ None) (append_assoc kept ((n, t) ∷ []) ((n + 1, u) ∷ []))
-    (lookup-push_other (kept ++ (n, t) ∷ []) (n + 1) a u (λ same. omega (arith, same, more)) ∙ below-push kept n t below a (omega (arith, more)))
 
 below_called : (s : State) (by : ℕ) (k : Call) → AllBelow s → AllBelow (called s by k).after
 unfolding with_domain
 below_called s by call.DomainNew below = below_domain_new s by below
-below_called s by call.Exit below = below_domain (fold fds.closed_on s (domain s by).fds) by no_domain (λ a more. refl) (below_same s (fold fds.closed_on s (domain s by).fds) (domains-all_closed s (domain s by).fds) below)
+below_called s by call.Exit below = below_domain (fold fds.closed_on s (domain s by).fds) by no_domain (record { below = λ a more. refl; once = tt }) (below_same s (fold fds.closed_on s (domain s by).fds) (domains-all_closed s (domain s by).fds) below)
 below_called s by (call.PoolCreate chunks list) below = below_same s (called s by (call.PoolCreate chunks list)).after refl below
 below_called s by (call.PoolClose p) below = below_same s (called s by (call.PoolClose p)).after refl below
 below_called s by (call.SetPool p) below = below_domain s by _ (below.each by) below
 below_called s by (call.AggMake bytes) below = below_with_agg s by _ below
 below_called s by (call.AggDup x) below = below_with_agg s by _ below
 below_called s by (call.AggCut x from to) below = below_with_agg s by _ below
-below_called s by (call.AggSplit x at) below = below_domain s by _ (below-split (without (domain s by).aggs x) (aggs.next_agg s by) (take at (text s by x)) (drop at (text s by x)) (λ a more. lookup-without_none (domain s by).aggs x a (below.each by a more))) below
-below_called s by (call.AggJoin x y) below = below_with_new s by (without (without (domain s by).aggs x) y) _ (λ a more. lookup-without_none (without (domain s by).aggs x) y a (lookup-without_none (domain s by).aggs x a (below.each by a more))) below
+below_called s by (call.AggSplit x at) below = below_domain s by _ (numbered-split (without (domain s by).aggs x) (aggs.next_agg s by) (take at (text s by x)) (drop at (text s by x)) (numbered-without (domain s by).aggs (aggs.next_agg s by) x (below.each by))) below
+below_called s by (call.AggJoin x y) below = below_with_new s by (without (without (domain s by).aggs x) y) _ (numbered-without (without (domain s by).aggs x) (aggs.next_agg s by) y (numbered-without (domain s by).aggs (aggs.next_agg s by) x (below.each by))) below
 below_called s by (call.AggReplace x from to y) below = below_with_agg s by _ below
 below_called s by (call.AggDrop x) below = below_without s by x below
 below_called s by (call.AggGive x to) below = below_agg_give s by x to below

@@ -11,7 +11,7 @@ use Rattle.iol_core.specs.declared.descriptors.Descriptor.{Descriptor}
 use Rattle.iol_core.specs.declared.events.Event.{Event}
 use Rattle.iol_core.specs.declared.events.Reply.{Reply}
 use Rattle.iol_core.proofs.Lookups.{domain-new_state}
-use Rattle.iol_laws.specs.Order.{IsOrderly}
+use Rattle.iol_laws.specs.Order.{IsOrderly, Once}
 use Rattle.iol_laws.proofs.Connections.{conn-unmade}
 use Rattle.iol_laws.proofs.EndsOfCalls.{sole_meant}
 use Rattle.iol_laws.proofs.NumbersToCome.{below_meant}
@@ -21,8 +21,8 @@ orderly_meant : (s : State) (e : Event) → IsOrderly s → first (meaning s e).
 orderly_meant s e order unrefused =
     let sole = sole_meant s e order unrefused in
     let q = quiet_meant s e order in
-    let below = below_meant s e (record { each = order.aggs }) in
-    record { one = sole.one; all_stand = sole.all_stand; waits = q.waits; silent = q.silent; once = q.once; conns = q.conns; aggs = below.each }
+    let below = below_meant s e (record { each = λ d. record { below = order.aggs d; once = order.aggs_once d } }) in
+    record { one = sole.one; all_stand = sole.all_stand; waits = q.waits; silent = q.silent; once = q.once; conns = q.conns; aggs_once = λ d. (below.each d).once; aggs = λ d. (below.each d).below }
 
 orderly_outcome : (s t : State) (e : Event) (r : Result Reply Refusal) → IsOrderly s → Step (meaning s e) s r t → IsOrderly t
 orderly_outcome s t e (Ok a) order step = subst (λ (u : State). IsOrderly u) (sym step.2) (orderly_meant s e order step.0)
@@ -39,6 +39,10 @@ orderly_new slots = record {
   silent = λ c is. absurd (let e = ap (λ (k : Connection). k.accepted) (conn-unmade (new_state slots) c refl) in cc (e, is));
   once = tt;
   conns = λ c more. refl;
+  aggs_once = λ d. elim (domain-new_state slots d) [
+    | inl is ↦ subst (λ (x : Domain Text). Once x.aggs) (sym is) tt
+    | inr is ↦ subst (λ (x : Domain Text). Once x.aggs) (sym is) tt
+  ];
   aggs = λ d a more. elim (domain-new_state slots d) [
     | inl is ↦ ap (λ (x : Domain Text). lookup x.aggs a) is
     | inr is ↦ ap (λ (x : Domain Text). lookup x.aggs a) is

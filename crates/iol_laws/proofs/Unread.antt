@@ -1,32 +1,17 @@
 -- What is unread on a connection after an event is the end of what was unread.
-use Rattle.std.proofs.Common.{inl, inr, zero, suc, ◌≡◌, ◌≢◌, ℕ, ◌+◌, ◌-◌, ◌==◌, ◌<◌, ◌≤◌, ◌⊎◌, List, [], ◌∷◌, ◌++◌, length, take, drop, ap, ◌∙◌, refl, sym, subst, arith, Option, Some, None, true, false, Bool, append_assoc}
-use Rattle.std.specs.Prelude.{option_map, slice_range, slice_set, unwrap_or, not, is_none, is_some, nat_le, nat_lt, min, ◌&&◌, ◌||◌, if◌then◌else◌, Result, Ok, Err, MatchOption, map, find, fold, take_while}
-use Rattle.std.specs.List.{list_any, prefix_len}
-use Rattle.std.specs.Option.{option_map_or}
-use Rattle.std.proofs.lemmas.Bool.{cases_eq, cases_lt}
-use Rattle.std.proofs.lemmas.Bool.Decides.{nat_tests}
-use Rattle.std.proofs.lemmas.Grind.{common_steps}
-use Rattle.std.proofs.lemmas.List.{append-nil, get_or_past, take-append-drop, set-set}
-use Rattle.iol_core.specs.Text.{Text, bytes_of, labelled, part, admitted}
-use Rattle.iol_core.specs.Numbered.{lookup, without, changed, numbered_or, with_numbered, is_numbered, in_place, lowest, placed}
-use Rattle.iol_core.specs.State.{State, Domain, Pipe, Connection, File, Pool, domain, pool, is_pool, no_pool, aggregate, text, descriptor, content, file, may_read, pipe_at, conn_at, no_conn, no_pipe, new_pipe, new_conn, new_domain, no_domain, new_state, is_live, is_over, is_gone, with_domain, with_pipe, with_conn, with_content}
-use Rattle.iol_core.specs.Meaning.{Meaning, Step, first, ◌when◌, WantOfMemory}
-use Rattle.iol_core.specs.Run.{called, meaning, StepsTo, outcome}
-use Rattle.iol_core.specs.Calls.Domains.{domain_new, exit}
-use Rattle.iol_core.specs.Calls.Pools.{pool_create, pool_close}
-use Rattle.iol_core.specs.Calls.Aggregates as aggs
+use Rattle.std.proofs.Common.{inl, inr, ◌≡◌, ℕ, List, [], ◌∷◌, ◌++◌, length, take, drop, ap, ◌∙◌, refl, sym, subst, arith, Option, Some, None, true, false, Bool, append_assoc}
+use Rattle.std.specs.Prelude.{unwrap_or, fold}
+use Rattle.std.proofs.lemmas.Bool.{cases_eq}
+use Rattle.std.proofs.lemmas.List.{append-nil, take-append-drop}
+use Rattle.iol_core.specs.Text.{Text}
+use Rattle.iol_core.specs.Numbered.{lookup}
+use Rattle.iol_core.specs.State.{State, Domain, Connection, domain, descriptor, conn_at, no_domain, with_domain, with_pipe, with_conn, with_content}
+use Rattle.iol_core.specs.Run.{called, meaning}
 use Rattle.iol_core.specs.Calls.Descriptors as fds
-use Rattle.iol_core.specs.Calls.Files.{file_new, file_length, open_on, file_on, file_called, open_file}
-use Rattle.iol_core.specs.Calls.Outside.{conn_new, closed_by, arrive, transmit, peer_closed}
-use Rattle.iol_core.specs.Calls.Outside as outside
+use Rattle.iol_core.specs.Calls.Outside.{conn_new, closed_by}
 use Rattle.iol_core.specs.Calls.Reading as reading
 use Rattle.iol_core.specs.Calls.Writing as writing
 use Rattle.iol_core.specs.Calls.Writing.{is_file}
-use Rattle.iol_core.specs.declared.refusals.Refusal.{Refusal}
-use Rattle.iol_core.specs.declared.refusals.Refusal.TheVariants as refuse
-use Rattle.iol_core.specs.declared.descriptors.Mode.{Mode}
-use Rattle.iol_core.specs.declared.descriptors.Mode.TheVariants as modes
-use Rattle.iol_core.specs.declared.descriptors.How.{How}
 use Rattle.iol_core.specs.declared.descriptors.How.TheVariants as ways
 use Rattle.iol_core.specs.declared.descriptors.Descriptor.{Descriptor}
 use Rattle.iol_core.specs.declared.descriptors.Descriptor.TheVariants as on
@@ -34,15 +19,7 @@ use Rattle.iol_core.specs.declared.events.Call.{Call}
 use Rattle.iol_core.specs.declared.events.Call.TheVariants as call
 use Rattle.iol_core.specs.declared.events.Event.{Event}
 use Rattle.iol_core.specs.declared.events.Event.TheVariants as event
-use Rattle.iol_core.specs.declared.events.Reply.{Reply}
-use Rattle.iol_core.specs.declared.events.Reply.TheVariants as reply
-use Rattle.iol_core.proofs.Lookups.{numbered_or-with, domain-with_domain, domain-same, domain-push, domain-new_state, lookup-without}
-use Rattle.iol_core.proofs.Passing.{passed, when-not, when-none}
-use Rattle.iol_core.proofs.Places.{place-set_other}
-use Rattle.iol_laws.specs.Frame.{operands, is_conn, is_end, names_conn, touches_conn, makes_pipe, touches_pipe, touches_fd, changes_files, Leaves}
-use Rattle.iol_laws.specs.Order.{stands, Once, IsOrderly}
-use Rattle.iol_laws.specs.Caller.{lent_at, is_rough, Makes, Takes, ReadsConn, Puts, WritesConn, ReadsFile, DoneOrNot, Closes, ClosesConn, TakesConn, Accepts, is_agg, is_fd, gives_away}
-use Rattle.iol_laws.specs.Others.{ComesIn, Arrives, GoesOut, Transmits, PeerCloses}
+use Rattle.iol_laws.specs.Order.{Once, IsOrderly}
 use Rattle.iol_laws.proofs.Connections.{conns_same, conns_conn, conn-push, conn-unmade, conn-made, after-with_conn, once-with_conn}
 use Rattle.iol_laws.proofs.LeftConnections.{conns_meant}
 
@@ -81,7 +58,7 @@ rest_closed_on s (Some (on.ReadEnd p)) c once = rest_conns s (fds.closed_on s (S
 rest_closed_on s (Some (on.WriteEnd p)) c once = rest_conns s (fds.closed_on s (Some (on.WriteEnd p))) c refl
 rest_closed_on s (Some (on.Connection e)) c once = rest_with_conn s e (record (conn_at s e) { incoming = []; closed = true }) c (conn_at s e).incoming once (sym (append-nil (conn_at s e).incoming))
 
-once_closed_on : (s : State) (o : Option Descriptor) → Once s.conns → Once (fds.closed_on s o).conns
+pub once_closed_on : (s : State) (o : Option Descriptor) → Once s.conns → Once (fds.closed_on s o).conns
 unfolding with_pipe
 once_closed_on s None once = once
 once_closed_on s (Some (on.File f at mode)) once = once
@@ -129,9 +106,9 @@ rest_conn_new : (s : State) (p c : ℕ) → IsOrderly s → IsRest s (conn_new s
 rest_conn_new s p c order = elim (cases_eq s.next_conn c) [
   | inr differ ↦ rest_same s (conn_new s p).after c (conn-push s p c differ)
   | inl same ↦ subst (λ n. IsRest s (conn_new s p).after n) same (record {
-      front = [];
-      was = ap (λ (k : Connection). k.incoming) (conn-unmade s s.next_conn none) ∙ ap (λ (k : Connection). k.incoming) (sym (conn-made s p none));
-    })
+    front = [];
+    was = ap (λ (k : Connection). k.incoming) (conn-unmade s s.next_conn none) ∙ ap (λ (k : Connection). k.incoming) (sym (conn-made s p none));
+  })
 ]
   where
     none : lookup s.conns s.next_conn ≡ None

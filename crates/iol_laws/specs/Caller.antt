@@ -2,10 +2,11 @@
 --
 -- Each word says of a reply what is then so: of an answer what it brought, of a refusal that nothing changed, and of any
 -- other reply that it cannot come.
-use Rattle.std.specs.Prelude.{◌≡◌, ◌≢◌, ℕ, ◌+◌, ◌≤◌, ◌==◌, Bool, true, false, List, ◌++◌, length, take, drop, Option, Some, None, option_map, slice_range}
+use Rattle.std.specs.Prelude.{◌≡◌, ◌≢◌, ℕ, ◌+◌, ◌<◌, ◌≤◌, ◌==◌, Bool, true, false, List, [], ◌++◌, is_none, length, take, drop, Option, Some, None, option_map, slice_range}
 use Rattle.iol_core.specs.Text.{Text, bytes_of}
-use Rattle.iol_core.specs.State.{State, aggregate, descriptor, content, file, may_read, conn_at, is_gone, is_live}
+use Rattle.iol_core.specs.State.{State, aggregate, descriptor, content, file, may_read, conn_at, pipe_at, new_pipe, is_gone, is_live}
 use Rattle.iol_core.specs.Run.{StepsTo}
+use Rattle.iol_core.specs.declared.descriptors.Descriptor.{Descriptor}
 use Rattle.iol_core.specs.declared.descriptors.Descriptor.TheVariants as on
 use Rattle.iol_core.specs.declared.descriptors.Mode.TheVariants as modes
 use Rattle.iol_core.specs.declared.refusals.Refusal.TheVariants.{TooMany, NoRoom, Fault, Memory}
@@ -34,19 +35,27 @@ Makes s d bytes (reply.Agg n) t = (lent_at t d n ≡ Some bytes) × (lent_at s d
 Makes s d bytes (reply.Refused x) t = t ≡ s
 Makes s d bytes r t = ⊥
 
--- the first bytes that came in on a connection are taken, as aggregate n
-pub record Takes (s : State) (d c n : ℕ) (t : State) : Type 0 where
+-- aggregates of these bytes and of those are made, under two new numbers
+abbrev pub MakesTwo : State → (d : ℕ) → (front back : List ℕ) → Reply → State → Type 0
+MakesTwo s d front back (reply.Aggs n m) t = (lent_at t d n ≡ Some front) × (lent_at t d m ≡ Some back) × (lent_at s d n ≡ None) × (lent_at s d m ≡ None)
+MakesTwo s d front back (reply.Refused x) t = t ≡ s
+MakesTwo s d front back r t = ⊥
+
+-- of a connection the first bytes that came in are taken, at most so many, as aggregate n; where some are asked for and none
+-- is there to be taken, the peer sends no more
+pub record Takes (s : State) (d c count n : ℕ) (t : State) : Type 0 where
   pub text : Text
   pub incoming : Text
   pub lends : lent_at t d n ≡ Some (bytes_of text)
   pub new : lent_at s d n ≡ None
   pub was : (conn_at s c).incoming ≡ text ++ incoming
   pub conn : conn_at t c ≡ record (conn_at s c) { incoming = incoming }
+  pub ended : 0 < count → text ≡ [] → ((conn_at s c).incoming ≡ []) × (is_none (conn_at s c).peer ≡ false)
 
-abbrev pub ReadsConn : State → (d c : ℕ) → Reply → State → Type 0
-ReadsConn s d c (reply.Agg n) t = Takes s d c n t
-ReadsConn s d c (reply.Refused x) t = t ≡ s
-ReadsConn s d c r t = ⊥
+abbrev pub ReadsConn : State → (d c count : ℕ) → Reply → State → Type 0
+ReadsConn s d c count (reply.Agg n) t = Takes s d c count n t
+ReadsConn s d c count (reply.Refused x) t = t ≡ s
+ReadsConn s d c count r t = ⊥
 
 -- the first k of these bytes are to be sent on a connection
 pub record Puts (s : State) (c : ℕ) (bytes : List ℕ) (k : ℕ) (t : State) : Type 0 where
@@ -61,17 +70,66 @@ WritesConn s c bytes (reply.Count k) t = Puts s c bytes k t
 WritesConn s c bytes (reply.Refused x) t = t ≡ s
 WritesConn s c bytes r t = ⊥
 
+-- of a pipe the first bytes are taken, at most so many, as aggregate n; where some are asked for and none is there to be taken,
+-- nobody writes any more
+pub record TakesFromPipe (s : State) (d p count n : ℕ) (t : State) : Type 0 where
+  pub text : Text
+  pub rest : Text
+  pub lends : lent_at t d n ≡ Some (bytes_of text)
+  pub new : lent_at s d n ≡ None
+  pub was : (pipe_at s p).queue ≡ text ++ rest
+  pub pipe : pipe_at t p ≡ record (pipe_at s p) { queue = rest }
+  pub ended : 0 < count → text ≡ [] → ((pipe_at s p).queue ≡ []) × ((pipe_at s p).writing ≡ false)
+
+abbrev pub ReadsPipe : State → (d p count : ℕ) → Reply → State → Type 0
+ReadsPipe s d p count (reply.Agg n) t = TakesFromPipe s d p count n t
+ReadsPipe s d p count (reply.Refused x) t = t ≡ s
+ReadsPipe s d p count r t = ⊥
+
+-- the first k of these bytes stand at the end of a pipe
+pub record PutsInPipe (s : State) (p : ℕ) (bytes : List ℕ) (k : ℕ) (t : State) : Type 0 where
+  pub text : Text
+  pub within : k ≤ length bytes
+  pub text_is : bytes_of text ≡ take k bytes
+  pub takes : (pipe_at s p).reading ≡ true
+  pub pipe : pipe_at t p ≡ record (pipe_at s p) { queue = (pipe_at s p).queue ++ text }
+
+abbrev pub WritesPipe : State → (p : ℕ) → List ℕ → Reply → State → Type 0
+WritesPipe s p bytes (reply.Count k) t = PutsInPipe s p bytes k t
+WritesPipe s p bytes (reply.Refused x) t = t ≡ s
+WritesPipe s p bytes r t = ⊥
+
+-- a new pipe is open for reading as one new descriptor, and for writing as another
+pub record OpensPipe (s : State) (d reads writes : ℕ) (t : State) : Type 0 where
+  pub pipe : ℕ
+  pub empty : pipe_at t pipe ≡ new_pipe
+  pub read_end : descriptor t d reads ≡ Some (on.ReadEnd pipe)
+  pub write_end : descriptor t d writes ≡ Some (on.WriteEnd pipe)
+  pub new_reads : descriptor s d reads ≡ None
+  pub new_writes : descriptor s d writes ≡ None
+
+abbrev pub MakesPipe : State → (d : ℕ) → Reply → State → Type 0
+MakesPipe s d (reply.Fds reads writes) t = OpensPipe s d reads writes t
+MakesPipe s d (reply.Refused x) t = t ≡ s
+MakesPipe s d r t = ⊥
+
+-- the bytes are told, and nothing changes
+abbrev pub Shows : State → List ℕ → Reply → State → Type 0
+Shows s bytes (reply.Bytes found) t = (found ≡ bytes) × (t ≡ s)
+Shows s bytes (reply.Refused x) t = t ≡ s
+Shows s bytes r t = ⊥
+
 -- a file's bytes from a position on are read, and the position moves past them
 abbrev pub ReadsFile : State → (d fd f at : ℕ) → List ℕ → Reply → State → Type 0
 ReadsFile s d fd f at bytes (reply.Agg n) t = (lent_at t d n ≡ Some bytes) × (lent_at s d n ≡ None) × (descriptor t d fd ≡ Some (on.File f (at + length bytes) modes.Read))
 ReadsFile s d fd f at bytes (reply.Refused x) t = (is_rough (reply.Refused x) ≡ true) × (t ≡ s)
 ReadsFile s d fd f at bytes r t = ⊥
 
--- an aggregate is given up; which others stay is said by the values of aggregates
-abbrev pub DoneOrNot : State → Reply → State → Type 0
-DoneOrNot s reply.Done t = Unit {0}
-DoneOrNot s (reply.Refused x) t = t ≡ s
-DoneOrNot s r t = ⊥
+-- an aggregate is given up
+abbrev pub Drops : State → (d a : ℕ) → Reply → State → Type 0
+Drops s d a reply.Done t = lent_at t d a ≡ None
+Drops s d a (reply.Refused x) t = t ≡ s
+Drops s d a r t = ⊥
 
 -- a descriptor is closed
 abbrev pub Closes : State → (d fd : ℕ) → Reply → State → Type 0
@@ -79,11 +137,34 @@ Closes s d fd reply.Done t = descriptor t d fd ≡ None
 Closes s d fd (reply.Refused x) t = t ≡ s
 Closes s d fd r t = ⊥
 
+-- what a descriptor is open on is handed to a domain, as descriptor g; one given to another domain is new there, and closed here
+pub record HandsOn (s : State) (d fd to : ℕ) (x : Descriptor) (g : ℕ) (t : State) : Type 0 where
+  pub open_on : descriptor t to g ≡ Some x
+  pub new : d ≢ to → descriptor s to g ≡ None
+  pub left : d ≢ to → descriptor t d fd ≡ None
+
+abbrev pub GivesFd : State → (d fd to : ℕ) → Descriptor → Reply → State → Type 0
+GivesFd s d fd to x (reply.Fd g) t = HandsOn s d fd to x g t
+GivesFd s d fd to x (reply.Refused y) t = t ≡ s
+GivesFd s d fd to x r t = ⊥
+
+-- an aggregate is handed to a domain, under a new number of it
+abbrev pub GivesAgg : State → (to : ℕ) → List ℕ → Reply → State → Type 0
+GivesAgg s to bytes (reply.Agg n) t = (lent_at t to n ≡ Some bytes) × (lent_at s to n ≡ None)
+GivesAgg s to bytes (reply.Refused x) t = t ≡ s
+GivesAgg s to bytes r t = ⊥
+
 -- a closed connection keeps what is still to be sent, unless that is nothing: then it is forgotten
 abbrev pub ClosesConn : State → (c : ℕ) → Reply → State → Type 0
 ClosesConn s c reply.Done t = ((conn_at t c).closed ≡ true) × ((conn_at t c).outgoing ≡ (conn_at s c).outgoing)
 ClosesConn s c (reply.Refused x) t = t ≡ s
 ClosesConn s c r t = ⊥
+
+-- a pipe whose write end is closed keeps what is to be read, as long as somebody may read it
+abbrev pub ClosesWriteEnd : State → (p : ℕ) → Reply → State → Type 0
+ClosesWriteEnd s p reply.Done t = ((pipe_at t p).writing ≡ false) × ((pipe_at s p).reading ≡ true → pipe_at t p ≡ record (pipe_at s p) { writing = false })
+ClosesWriteEnd s p (reply.Refused x) t = t ≡ s
+ClosesWriteEnd s p r t = ⊥
 
 -- a connection that waits is accepted, as descriptor fd
 pub record TakesConn (s : State) (d fd : ℕ) (t : State) : Type 0 where
@@ -104,11 +185,21 @@ Accepts s d r t = ⊥
 pub record CallsServeTheirDomain : Type 0 where
   pub make : (s t : State) (d : ℕ) (bytes : List ℕ) (r : Reply) → IsOrderly s → StepsTo s (event.Call d (call.AggMake bytes)) r t → Makes s d bytes r t
   pub cut : (s t : State) (d a from to : ℕ) (bytes : List ℕ) (r : Reply) → IsOrderly s → lent_at s d a ≡ Some bytes → StepsTo s (event.Call d (call.AggCut a from to)) r t → Makes s d (slice_range bytes from to) r t
+  pub split : (s t : State) (d a at : ℕ) (bytes : List ℕ) (r : Reply) → IsOrderly s → lent_at s d a ≡ Some bytes → StepsTo s (event.Call d (call.AggSplit a at)) r t → MakesTwo s d (take at bytes) (drop at bytes) r t
   pub join : (s t : State) (d a b : ℕ) (xs ys : List ℕ) (r : Reply) → IsOrderly s → lent_at s d a ≡ Some xs → lent_at s d b ≡ Some ys → StepsTo s (event.Call d (call.AggJoin a b)) r t → Makes s d (xs ++ ys) r t
-  pub drops : (s t : State) (d a : ℕ) (r : Reply) → StepsTo s (event.Call d (call.AggDrop a)) r t → DoneOrNot s r t
+  pub dup : (s t : State) (d a : ℕ) (bytes : List ℕ) (r : Reply) → IsOrderly s → lent_at s d a ≡ Some bytes → StepsTo s (event.Call d (call.AggDup a)) r t → Makes s d bytes r t
+  pub replace : (s t : State) (d a from to b : ℕ) (xs ys : List ℕ) (r : Reply) → IsOrderly s → lent_at s d a ≡ Some xs → lent_at s d b ≡ Some ys → StepsTo s (event.Call d (call.AggReplace a from to b)) r t → Makes s d (take from xs ++ ys ++ drop to xs) r t
+  pub shows : (s t : State) (d a : ℕ) (bytes : List ℕ) (r : Reply) → lent_at s d a ≡ Some bytes → StepsTo s (event.Call d (call.Show a)) r t → Shows s bytes r t
+  pub drops : (s t : State) (d a : ℕ) (r : Reply) → IsOrderly s → StepsTo s (event.Call d (call.AggDrop a)) r t → Drops s d a r t
   pub read_file : (s t : State) (d fd f at n : ℕ) (r : Reply) → IsOrderly s → is_live s d ≡ true → may_read s d (file s f).pool ≡ true → descriptor s d fd ≡ Some (on.File f at modes.Read) → StepsTo s (event.Call d (call.IolRead fd n)) r t → ReadsFile s d fd f at (take n (drop at (content s f))) r t
-  pub read_conn : (s t : State) (d fd c n : ℕ) (r : Reply) → IsOrderly s → descriptor s d fd ≡ Some (on.Connection c) → StepsTo s (event.Call d (call.IolRead fd n)) r t → ReadsConn s d c r t
+  pub read_conn : (s t : State) (d fd c n : ℕ) (r : Reply) → IsOrderly s → descriptor s d fd ≡ Some (on.Connection c) → StepsTo s (event.Call d (call.IolRead fd n)) r t → ReadsConn s d c n r t
   pub write_conn : (s t : State) (d fd c a : ℕ) (bytes : List ℕ) (r : Reply) → IsOrderly s → descriptor s d fd ≡ Some (on.Connection c) → lent_at s d a ≡ Some bytes → StepsTo s (event.Call d (call.IolWrite fd a)) r t → WritesConn s c bytes r t
+  pub makes_pipe : (s t : State) (d : ℕ) (r : Reply) → StepsTo s (event.Call d call.Pipe) r t → MakesPipe s d r t
+  pub read_pipe : (s t : State) (d fd p n : ℕ) (r : Reply) → IsOrderly s → descriptor s d fd ≡ Some (on.ReadEnd p) → StepsTo s (event.Call d (call.IolRead fd n)) r t → ReadsPipe s d p n r t
+  pub write_pipe : (s t : State) (d fd p a : ℕ) (bytes : List ℕ) (r : Reply) → IsOrderly s → descriptor s d fd ≡ Some (on.WriteEnd p) → lent_at s d a ≡ Some bytes → StepsTo s (event.Call d (call.IolWrite fd a)) r t → WritesPipe s p bytes r t
+  pub closes_write_end : (s t : State) (d fd p : ℕ) (r : Reply) → IsOrderly s → descriptor s d fd ≡ Some (on.WriteEnd p) → StepsTo s (event.Call d (call.Close fd)) r t → ClosesWriteEnd s p r t
+  pub gives_fd : (s t : State) (d fd to : ℕ) (x : Descriptor) (r : Reply) → descriptor s d fd ≡ Some x → StepsTo s (event.Call d (call.GiveFd fd to)) r t → GivesFd s d fd to x r t
+  pub gives_agg : (s t : State) (d a to : ℕ) (bytes : List ℕ) (r : Reply) → IsOrderly s → lent_at s d a ≡ Some bytes → StepsTo s (event.Call d (call.AggGive a to)) r t → GivesAgg s to bytes r t
   pub closes : (s t : State) (d fd : ℕ) (r : Reply) → StepsTo s (event.Call d (call.Close fd)) r t → Closes s d fd r t
   pub closes_conn : (s t : State) (d fd c : ℕ) (r : Reply) → IsOrderly s → descriptor s d fd ≡ Some (on.Connection c) → StepsTo s (event.Call d (call.Close fd)) r t → ClosesConn s c r t
   pub accepts : (s t : State) (d : ℕ) (r : Reply) → IsOrderly s → StepsTo s (event.Call d call.Accept) r t → Accepts s d r t

@@ -33,7 +33,8 @@ pub record IsOrderly (s : State) : Type 0 where
   -- each connection has a number of its own, below the next one
   pub once : Once s.conns
   pub conns : (c : ℕ) → s.next_conn ≤ c → lookup s.conns c ≡ None
-  -- and each aggregate of a domain one below the domain's next
+  -- and so has each aggregate of a domain, below the domain's next
+  pub aggs_once : (d : ℕ) → Once (domain s d).aggs
   pub aggs : (d a : ℕ) → (domain s d).next_agg ≤ a → aggregate s d a ≡ None
 
 -- a new state is orderly, and each step keeps it so

@@ -1,5 +1,6 @@
 //! Laws of the copying machine, for the proofs of what runs on it: what its events leave as it was, what holds between
-//! any two of them, and what a call does for the domain that makes it.
+//! any two of them, what a call does for the domain that makes it and others to a connection, and what came in and was
+//! sent over a run.
 //!
 //! There is no code here. A law is the contract of a function that does nothing ([`laws`]), so a proof in a crate above has
 //! it by a call of that function:
