@@ -100,7 +100,7 @@ sums_alike w (x ∷ xs) [] long each = absurd (omega (arith, long))
 sums_alike w (x ∷ xs) (y ∷ ys) long each =
     omega (arith, sum_by-cons w x xs, sum_by-cons w y ys, each 0, sums_alike w xs ys (omega (arith, long)) (λ i. each (suc i)))
 
-at_index : (fs : List CachedFile) (i : ℕ) → file_in fs (i + 1) ≡ get_or fs i no_file
+pub at_index : (fs : List CachedFile) (i : ℕ) → file_in fs (i + 1) ≡ get_or fs i no_file
 unfolding file_in
 at_index fs i = let some : i + 1 ≡ 0 → ⊥ = λ e. absurd (omega (arith, e)) in grind (arith, nat_tests, some)
 
