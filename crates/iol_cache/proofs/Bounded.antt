@@ -1,6 +1,7 @@
 -- How often extents hold a buffer: no more often than files may have bytes.
-use Rattle.std.proofs.Common.{ℕ, suc, ◌+◌, ◌*◌, ◌≤◌, List, [], ◌∷◌, length, get_or, max, arith, subst}
+use Rattle.std.proofs.Common.{◌≡◌, ◌∙◌, ◌<◌, zero, take, sym, ap, ℕ, suc, ◌+◌, ◌*◌, ◌≤◌, List, [], ◌∷◌, length, get_or, max, arith, subst}
 use Rattle.std.specs.Prelude.{sum_by}
+use Rattle.std.proofs.lemmas.List.{get_or_default}
 use Rattle.std.proofs.lemmas.List.Sums.{sum_by-cons}
 use Rattle.iol_core.specs.declared.limits.TheConstants.{MAX_FILES, MAX_FILE_BYTES}
 use Rattle.iol_core.specs.declared.numbers.BufId.{BufId}
@@ -38,3 +39,14 @@ held_few s c b sound =
     let sum = sum-flat (additive_tally b) (λ (x : CachedFile). bufs_of (all_parts x.extents.extents)) c.files in
     let few = all_few (file_holds b) c.files (λ i. subst (λ (x : CachedFile). file_holds b x ≤ 16777216) (at_index c.files i) (file_few s b (file_in c.files (i + 1)) (sound.files (i + 1)))) in
     omega (arith, sum, few, sound.few_files)
+
+-- Sums over the first files.
+
+pub sum_next : (w : CachedFile → ℕ) (fs : List CachedFile) (i : ℕ) (x : CachedFile) → i < length fs → x ≡ get_or fs i x → sum_by w (take (suc i) fs) ≡ sum_by w (take i fs) + w x
+sum_next w [] i x h is = absurd (omega (arith, h))
+sum_next w (y ∷ fs) zero x h is = omega (arith, sum_by-cons w y [], ap w is)
+sum_next w (y ∷ fs) (suc i) x h is = omega (arith, sum_by-cons w y (take (suc i) fs), sum_by-cons w y (take i fs), sum_next w fs i x (omega (arith, h)) is)
+
+-- the file at an index, by its number
+pub file_index : (fs : List CachedFile) (i : ℕ) (x : CachedFile) → i < length fs → x ≡ get_or fs i x → file_in fs (i + 1) ≡ x
+file_index fs i x h is = at_index fs i ∙ get_or_default fs i no_file x h ∙ sym is

@@ -12,13 +12,13 @@ use Rattle.iol_hold.specs.declared.slices.Slice.{Slice}
 use Rattle.iol_agg.proofs.Holding.{tally-few}
 use Rattle.iol_cache.proofs.Marking.{at_page-append}
 use Rattle.iol_hold.proofs.Counting.{bufs-append, tally-append, tally_none}
-use Rattle.iol_extent.specs.Extents.{Extent, IsApart, IsFirstMet, IsGap, begins_at, extent_over, meets, put_in, unmet, without_at}
+use Rattle.iol_extent.specs.Extents.{Extent, IsApart, IsFirstMet, IsGap, begins_at, extent_over, meets, put_in, unmet, without_at, one_dirty}
 use Rattle.iol_extent.proofs.Meeting.{met_begins, unmet_less}
 use Rattle.iol_hold.proofs.Moving.{stays_trans}
 use Rattle.iol_extent.proofs.Cover.{extent_begins, some_begins}
 use Rattle.iol_evict.specs.Ranking.{Ranking, entered, entry_at, left_at, with_one_given_back, with_one_kept}
 use Rattle.iol_evict.specs.declared.entry.Entry.{Entry}
-use Rattle.iol_cache.specs.Cached.{begins_clean, clean_at, clean_in, clean_parts, entry_one, one_dirty, all_parts}
+use Rattle.iol_cache.specs.Cached.{begins_clean, clean_at, clean_in, clean_parts, entry_one, all_parts}
 use Rattle.iol_cache.specs.Marks.{HaveMarks, Marks, Unmarks, at_page}
 use Rattle.iol_cache.specs.Reading.{RanksFile}
 use Rattle.iol_cache.specs.Replacing.{Reindexes, HaveClean, put_some}
