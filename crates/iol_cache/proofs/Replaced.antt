@@ -30,11 +30,11 @@ use Rattle.iol_cache.proofs.Undone.{begins_gap}
 use Rattle.iol_hold.specs.Places.{byte_len}
 use Rattle.std.proofs.lemmas.List.Sums.{sum_by-cons}
 
-pub follows_none : (f : ℕ) (es : List Extent) (r : Ranking) (marks : List ℕ) → Reindexes f es es r r marks marks
-follows_none f es r marks = record { ranked = λ h. h; others = λ g b ne. refl; low = refl; kept = refl; each = λ p. refl; long = refl }
+pub reindexes_none : (f : ℕ) (es : List Extent) (r : Ranking) (marks : List ℕ) → Reindexes f es es r r marks marks
+reindexes_none f es r marks = record { ranked = λ h. h; others = λ g b ne. refl; low = refl; kept = refl; each = λ p. refl; long = refl }
 
-pub follows_then : {f : ℕ} {as' bs cs : List Extent} {r s t : Ranking} {a b c : List ℕ} → Reindexes f as' bs r s a b → Reindexes f bs cs s t b c → Reindexes f as' cs r t a c
-follows_then m n = record {
+pub reindexes_then : {f : ℕ} {as' bs cs : List Extent} {r s t : Ranking} {a b c : List ℕ} → Reindexes f as' bs r s a b → Reindexes f bs cs s t b c → Reindexes f as' cs r t a c
+reindexes_then m n = record {
   ranked = λ h. n.ranked (m.ranked h);
   others = λ g b ne. n.others g b ne ∙ m.others g b ne;
   low = n.low ∙ m.low;

@@ -9,7 +9,7 @@ use Rattle.iol_cache.specs.Cached.{clean_in, entries_at}
 use Rattle.iol_cache.specs.Marks.{at_page}
 use Rattle.iol_cache.specs.Reading.{RanksFile}
 
--- The extents of file f changed; the order and the marks follow, as far as they are of the file. L stays.
+-- The extents of file f changed, and with them the order and the marks, as far as they are of the file. L stays.
 pub record Reindexes (f : ℕ) (es fs : List Extent) (r t : Ranking) (marks new : List ℕ) : Type 0 where
   pub ranked : RanksFile r f es → RanksFile t f fs
   pub others : (g b : ℕ) → (g ≡ f → ⊥) → entries_at g b t.entries ≡ entries_at g b r.entries
