@@ -19,13 +19,13 @@ use Rattle.iol_hold.specs.Texts.{bufs_of}
 use Rattle.iol_hold.specs.declared.slices.Slice.{Slice}
 use Rattle.iol_hold.proofs.Counting.{tally_none, tally-append}
 use Rattle.iol_hold.proofs.Moving.{stays_trans, shares_move}
-use Rattle.iol_extent.specs.Extents.{Extent, ExtentMap, end_of, last_end}
+use Rattle.iol_extent.specs.Extents.{Extent, ExtentMap, end_of, last_end, dirty_count}
 use Rattle.iol_extent.specs.Spans.{AreInOrder, IsGapSpan}
 use Rattle.iol_extent.specs.declared.spans.Span.{Span}
 use Rattle.iol_evict.specs.Ranking.{Ranking}
 use Rattle.iol_cache.specs.declared.files.CachedFile.{CachedFile}
 use Rattle.iol_cache.specs.Marks.{at_page}
-use Rattle.iol_cache.specs.Cached.{dirty_count, AreReady, file_in, with_file, order_in, with_order, extents_in, all_parts, clean_in, clean_parts, held, clean_held, clean_of, clean_at, begins_clean, entries_at}
+use Rattle.iol_cache.specs.Cached.{AreReady, file_in, with_file, order_in, with_order, extents_in, all_parts, clean_in, clean_parts, held, clean_held, clean_of, clean_at, begins_clean, entries_at}
 use Rattle.iol_cache.specs.Contents.{byte_in, AreStored}
 use Rattle.iol_cache.specs.Evicting.{Holding}
 use Rattle.iol_cache.specs.Gaps as gaps

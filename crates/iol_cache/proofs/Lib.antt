@@ -45,3 +45,6 @@ pub mod Storing
 pub mod Cleaned
 pub mod Synced
 pub mod OneRoom
+pub mod Bounded
+pub mod Lengths
+pub mod Keeping

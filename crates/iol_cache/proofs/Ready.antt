@@ -7,12 +7,12 @@ use Rattle.std.proofs.lemmas.Bool.Decides.{nat_tests}
 use Rattle.std.proofs.lemmas.List.Sums.{sum_by-append, sum_by-cons}
 use Rattle.iol_hold.specs.Stored.{Stored}
 use Rattle.iol_hold.specs.Places.{byte_len}
-use Rattle.iol_extent.specs.Extents.{Extent, begins_at, extent_over, without_at}
+use Rattle.iol_extent.specs.Extents.{Extent, begins_at, extent_over, without_at, dirty_count, one_dirty}
 use Rattle.iol_extent.specs.declared.spans.Span.{Span}
 use Rattle.iol_evict.specs.Ranking.{Ranking, entered, entry_or, evicted_at, hit_at, left_at, lowered, lowered_by}
 use Rattle.iol_evict.specs.declared.entry.TheConstants.{MAX_LOW}
 use Rattle.iol_cache.specs.declared.files.CachedFile.{CachedFile}
-use Rattle.iol_cache.specs.Cached.{AreReady, Cached, dirty_count, dirty_of, extents_in, file_in, lacking, new_file, no_file, one_dirty, order_in, with_evicted, with_file, with_order, without_extent}
+use Rattle.iol_cache.specs.Cached.{AreReady, Cached, dirty_of, extents_in, file_in, lacking, new_file, no_file, order_in, with_evicted, with_file, with_order, without_extent}
 use Rattle.iol_cache.specs.Gaps.{IsMade, all_put}
 use Rattle.iol_cache.specs.Reading.{SameButRoom, all_entered, hit_counted, hits_counted, parts_from}
 use Rattle.iol_cache.specs.Replacing.{Reindexes, IsReady}
@@ -100,7 +100,7 @@ sums_alike w (x ∷ xs) [] long each = absurd (omega (arith, long))
 sums_alike w (x ∷ xs) (y ∷ ys) long each =
     omega (arith, sum_by-cons w x xs, sum_by-cons w y ys, each 0, sums_alike w xs ys (omega (arith, long)) (λ i. each (suc i)))
 
-at_index : (fs : List CachedFile) (i : ℕ) → file_in fs (i + 1) ≡ get_or fs i no_file
+pub at_index : (fs : List CachedFile) (i : ℕ) → file_in fs (i + 1) ≡ get_or fs i no_file
 unfolding file_in
 at_index fs i = let some : i + 1 ≡ 0 → ⊥ = λ e. absurd (omega (arith, e)) in grind (arith, nat_tests, some)
 

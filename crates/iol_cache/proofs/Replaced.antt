@@ -12,13 +12,13 @@ use Rattle.iol_hold.specs.declared.slices.Slice.{Slice}
 use Rattle.iol_agg.proofs.Holding.{tally-few}
 use Rattle.iol_cache.proofs.Marking.{at_page-append}
 use Rattle.iol_hold.proofs.Counting.{bufs-append, tally-append, tally_none}
-use Rattle.iol_extent.specs.Extents.{Extent, IsApart, IsFirstMet, IsGap, begins_at, extent_over, meets, put_in, unmet, without_at}
+use Rattle.iol_extent.specs.Extents.{Extent, IsApart, IsFirstMet, IsGap, begins_at, extent_over, meets, put_in, unmet, without_at, one_dirty}
 use Rattle.iol_extent.proofs.Meeting.{met_begins, unmet_less}
 use Rattle.iol_hold.proofs.Moving.{stays_trans}
 use Rattle.iol_extent.proofs.Cover.{extent_begins, some_begins}
 use Rattle.iol_evict.specs.Ranking.{Ranking, entered, entry_at, left_at, with_one_given_back, with_one_kept}
 use Rattle.iol_evict.specs.declared.entry.Entry.{Entry}
-use Rattle.iol_cache.specs.Cached.{begins_clean, clean_at, clean_in, clean_parts, entry_one, one_dirty, all_parts}
+use Rattle.iol_cache.specs.Cached.{begins_clean, clean_at, clean_in, clean_parts, entry_one, all_parts}
 use Rattle.iol_cache.specs.Marks.{HaveMarks, Marks, Unmarks, at_page}
 use Rattle.iol_cache.specs.Reading.{RanksFile}
 use Rattle.iol_cache.specs.Replacing.{Reindexes, HaveClean, put_some}
@@ -30,11 +30,11 @@ use Rattle.iol_cache.proofs.Undone.{begins_gap}
 use Rattle.iol_hold.specs.Places.{byte_len}
 use Rattle.std.proofs.lemmas.List.Sums.{sum_by-cons}
 
-pub follows_none : (f : ℕ) (es : List Extent) (r : Ranking) (marks : List ℕ) → Reindexes f es es r r marks marks
-follows_none f es r marks = record { ranked = λ h. h; others = λ g b ne. refl; low = refl; kept = refl; each = λ p. refl; long = refl }
+pub reindexes_none : (f : ℕ) (es : List Extent) (r : Ranking) (marks : List ℕ) → Reindexes f es es r r marks marks
+reindexes_none f es r marks = record { ranked = λ h. h; others = λ g b ne. refl; low = refl; kept = refl; each = λ p. refl; long = refl }
 
-pub follows_then : {f : ℕ} {as' bs cs : List Extent} {r s t : Ranking} {a b c : List ℕ} → Reindexes f as' bs r s a b → Reindexes f bs cs s t b c → Reindexes f as' cs r t a c
-follows_then m n = record {
+pub reindexes_then : {f : ℕ} {as' bs cs : List Extent} {r s t : Ranking} {a b c : List ℕ} → Reindexes f as' bs r s a b → Reindexes f bs cs s t b c → Reindexes f as' cs r t a c
+reindexes_then m n = record {
   ranked = λ h. n.ranked (m.ranked h);
   others = λ g b ne. n.others g b ne ∙ m.others g b ne;
   low = n.low ∙ m.low;

@@ -14,9 +14,9 @@ use Rattle.iol_hold.specs.declared.slices.Slice.{Slice}
 use Rattle.iol_hold.proofs.Counting.{tally-append, tally_none}
 use Rattle.iol_hold.proofs.Moving.{moves_none}
 use Rattle.iol_hold.proofs.Releasing.{frees_none}
-use Rattle.iol_extent.specs.Extents.{Extent, IsApart, begins_at, cell_at, dirty_in, end_of, is_over, last_end, no_place}
+use Rattle.iol_extent.specs.Extents.{Extent, IsApart, begins_at, cell_at, dirty_in, end_of, is_over, last_end, no_place, dirty_count}
 use Rattle.iol_cache.specs.declared.files.CachedFile.{CachedFile}
-use Rattle.iol_cache.specs.Cached.{Cached, dirty_count, extents_in, file_in, held, all_parts}
+use Rattle.iol_cache.specs.Cached.{Cached, extents_in, file_in, held, all_parts}
 use Rattle.iol_cache.specs.Contents.{AreStored, Mirrors, byte_in, bytes_in_slot, file_bytes}
 use Rattle.iol_cache.specs.Evicting.{Holding}
 use Rattle.iol_cache.specs.Sound.{Each, IsLaid, IsSound}

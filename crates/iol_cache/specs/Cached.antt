@@ -1,10 +1,10 @@
 -- What a cache of files holds.
-use Rattle.std.specs.Prelude.{◌≡◌, ℕ, ◌+◌, ◌&&◌, not, if◌then◌else◌, cond, eqb, List, [], flat_map, sum_by, Option, Some, None}
+use Rattle.std.specs.Prelude.{◌≡◌, ℕ, ◌+◌, ◌&&◌, not, if◌then◌else◌, cond, eqb, List, [], flat_map, length, sum_by, Option, Some, None}
 use Rattle.iol_core.specs.Numbered.{numbered_or, with_numbered}
 use Rattle.iol_core.specs.declared.numbers.BufId.{BufId}
 use Rattle.iol_hold.specs.Texts.{bufs_of}
 use Rattle.iol_hold.specs.declared.slices.Slice.{Slice}
-use Rattle.iol_extent.specs.Extents.{Extent, begins_at, without_at}
+use Rattle.iol_extent.specs.Extents.{Extent, begins_at, dirty_count, without_at}
 use Rattle.iol_evict.specs.Ranking.{Ranking, evicted_at, is_at}
 use Rattle.iol_evict.specs.declared.entry.Entry.{Entry}
 use Rattle.iol_cache.specs.declared.files.CachedFile.{CachedFile}
@@ -92,13 +92,6 @@ pub record AreRanked (fs : List CachedFile) (os : List Ranking) : Type 0 where
 
 -- Dirty extents, each of which has a place in the order that is kept for it.
 
-abbrev pub one_dirty : Extent → ℕ
-one_dirty e = cond e.dirty 1 0
-
--- how many extents are dirty
-abbrev pub dirty_count : List Extent → ℕ
-dirty_count es = sum_by one_dirty es
-
 -- how many extents of a file are dirty, if the file is of the pool
 abbrev pub dirty_of : (p : ℕ) → CachedFile → ℕ
 dirty_of p x = cond (eqb x.pool p) (dirty_count x.extents.extents) 0
@@ -106,6 +99,13 @@ dirty_of p x = cond (eqb x.pool p) (dirty_count x.extents.extents) 0
 -- a pool's order keeps a place for each dirty extent of the pool's files
 pub record AreReady (fs : List CachedFile) (os : List Ranking) : Type 0 where
   pub each : (p : ℕ) → (order_in os p).kept ≡ sum_by (dirty_of p) fs
+
+-- how many extents there are of all files, and how many of them are dirty
+abbrev pub extents_in_all : List CachedFile → ℕ
+extents_in_all fs = sum_by (λ x. length x.extents.extents) fs
+
+abbrev pub dirty_in_all : List CachedFile → ℕ
+dirty_in_all fs = sum_by (λ x. dirty_count x.extents.extents) fs
 
 -- An extent goes.
 

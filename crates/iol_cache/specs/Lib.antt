@@ -22,4 +22,5 @@ pub mod Replacing
 pub mod Writing
 pub mod Overwriting
 pub mod Syncing
+pub mod Keeping
 pub mod Laws

@@ -2,14 +2,14 @@
 use Rattle.std.specs.Prelude.{◌≡◌, ℕ, ◌+◌, ◌≤◌, ◌==◌, if◌then◌else◌, List, [], ◌∷◌, length, slice_index}
 use Rattle.std.specs.List.{filter}
 use Rattle.iol_evict.specs.Ranking.{Ranking, entered, left_at, with_one_given_back, with_one_kept}
-use Rattle.iol_extent.specs.Extents.{Extent, meets, put_in}
+use Rattle.iol_extent.specs.Extents.{Extent, meets, put_in, dirty_count}
 use Rattle.iol_hold.specs.Places.{byte_len}
 use Rattle.iol_hold.specs.Texts.{bufs_of}
-use Rattle.iol_cache.specs.Cached.{clean_in, dirty_count, entries_at}
+use Rattle.iol_cache.specs.Cached.{clean_in, entries_at}
 use Rattle.iol_cache.specs.Marks.{at_page}
 use Rattle.iol_cache.specs.Reading.{RanksFile}
 
--- The extents of file f changed; the order and the marks follow, as far as they are of the file. L stays.
+-- The extents of file f changed, and with them the order and the marks, as far as they are of the file. L stays.
 pub record Reindexes (f : ℕ) (es fs : List Extent) (r t : Ranking) (marks new : List ℕ) : Type 0 where
   pub ranked : RanksFile r f es → RanksFile t f fs
   pub others : (g b : ℕ) → (g ≡ f → ⊥) → entries_at g b t.entries ≡ entries_at g b r.entries

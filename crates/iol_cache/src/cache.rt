@@ -3,12 +3,13 @@ ghost use Rattle.std.specs.Prelude.{◌≡◌, ℕ, ◌+◌, ◌-◌, ◌<◌, �
 ghost use Rattle.iol_arena.specs.State.{page_count};
 ghost use Rattle.iol_pool.specs.Pools.{pool_in};
 ghost use Rattle.iol_hold.specs.Stored.{Stored, IsTidy, IsStill};
-ghost use Rattle.iol_cache.specs.Cached.{new_file, order_in};
+ghost use Rattle.iol_extent.specs.Extents.{last_end};
+ghost use Rattle.iol_cache.specs.Cached.{dirty_in_all, extents_in, extents_in_all, new_file, order_in};
 ghost use Rattle.iol_cache.specs.Sound.{IsSound};
 
 use crate::files::CachedFile;
 use crate::marks::CleanHolds;
-use iol_core::limits::MAX_FILES;
+use iol_core::limits::{MAX_FILE_BYTES, MAX_FILES};
 use iol_core::numbers::{FileId, PoolId};
 use iol_evict::order::Order;
 use iol_extent::extents::Extents;
@@ -22,6 +23,13 @@ pub struct Cache {
     // By pool, from 1.
     pub(crate) orders: Vec<Order>,
     pub(crate) marks: CleanHolds,
+}
+
+/// What is in memory: how many extents, and how many of them are dirty.
+#[derive(Clone, Copy, Debug, PartialEq, Eq)]
+pub struct CacheReport {
+    pub extents: usize,
+    pub dirty: usize,
 }
 
 // Empty orders, until there are so many. For want of memory, none.
@@ -78,5 +86,22 @@ impl Cache {
             extents: Extents::new(alloc),
         });
         Ok(FileId::new(self.files.len() as u32))
+    }
+
+    /// Counts the extents of all files.
+    pub fn report(&self) -> CacheReport
+        requires few { length (cached_of self.now).files ≤ MAX_FILES }
+        requires short { (f : ℕ) →
+            last_end (extents_in (cached_of self.now).files f) ≤ MAX_FILE_BYTES }
+        ensures extents { result.extents ≡ extents_in_all (cached_of self.now).files }
+        ensures dirty { result.dirty ≡ dirty_in_all (cached_of self.now).files }
+    {
+        let mut extents = 0;
+        let mut dirty = 0;
+        for file in &self.files {
+            extents += file.extents.count();
+            dirty += file.extents.count_dirty();
+        }
+        CacheReport { extents, dirty }
     }
 }

@@ -20,6 +20,7 @@
 //! - `drop_clean` evicts all clean extents, pool by pool.
 //! - `write` puts bytes over those of a file, as one dirty extent: those of the file's pool are shared, all others copied
 //!   there. The file then has the bytes that the machine gives it (`written`), and every other file its own (`others`).
+//! - `file_length`: how many bytes a file has. `report`: how many extents there are, and how many of them are dirty.
 //! - `sync` writes the dirty extents of a file back, `flush_one` the dirty extent of least file and offset. They want no
 //!   memory, change no file's bytes (`files`), and are refused just where the store fails.
 //! - `laws`: whether a read has room is one question, in whichever slices its hits are held.
@@ -52,5 +53,5 @@ mod users;
 mod weaving;
 mod writing;
 
-pub use cache::Cache;
+pub use cache::{Cache, CacheReport};
 pub use syncing::Flushed;

@@ -6,11 +6,13 @@ ghost use Rattle.iol_core.specs.Text as text;
 ghost use Rattle.iol_hold.specs.Moves.{Covers};
 ghost use Rattle.iol_hold.specs.Places.{byte_len};
 ghost use Rattle.iol_hold.specs.Room.{pages_of};
+ghost use Rattle.iol_hold.specs.Stored.{Stored};
 ghost use Rattle.iol_hold.specs.Texts.{bufs_of, text_of, AllReadable};
 ghost use Rattle.iol_extent.specs.Extents.{last_end};
 ghost use Rattle.iol_extent.specs.Spans.{AreInOrder, IsGapSpan};
 ghost use Rattle.iol_cache.specs.Cached.{clean_held, extents_in, file_in, held, order_in};
 ghost use Rattle.iol_cache.specs.Cache.{cached_of, holding};
+ghost use Rattle.iol_cache.specs.Contents.{bytes_in_slot};
 ghost use Rattle.iol_cache.specs.Gaps.{AreOf, gap_pages};
 ghost use Rattle.iol_cache.specs.Going.{Goes, HasRoom, LacksRoom};
 ghost use Rattle.iol_cache.specs.Loading.{Asks};
@@ -133,6 +135,18 @@ impl Cache {
         let stored = backing.length(file).min(MAX_FILE_BYTES as u32);
         let place = file.number() as usize - 1;
         stored.max(self.files[place].extents.end())
+    }
+
+    /// How many bytes a file has. Of a store that is not honest, it is where a read of the file would end now.
+    pub fn file_length<B: Backing>(&self, backing: &B, file: FileId) -> u32
+        requires file { is_numbered (cached_of self.now).files file ≡ true }
+        requires short { last_end (extents_in (cached_of self.now).files file) ≤ MAX_FILE_BYTES }
+        ensures length { (s : Stored) → IsBacked (B.disk backing.now) (holding s self.now) →
+            result ≡ length (bytes_in_slot s (B.disk backing.now).slots
+            (cached_of self.now).files file) }
+        ensures end { IsEnd (B.disk backing.now) (cached_of self.now) file result }
+    {
+        self.file_end(backing, file)
     }
 
     /// Reads at most `count` bytes of a file from place `at` on, as far as the file goes.

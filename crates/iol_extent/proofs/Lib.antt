@@ -3,3 +3,4 @@ pub mod Words
 pub mod Tiling
 pub mod Meeting
 pub mod Alone
+pub mod Counts

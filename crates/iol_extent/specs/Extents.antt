@@ -1,5 +1,5 @@
 -- The extents of a file: in memory, between gaps that only the store has.
-use Rattle.std.specs.Prelude.{◌≡◌, ℕ, ◌+◌, ◌-◌, ◌<◌, ◌≤◌, ◌&&◌, nat_lt, nat_le, max, Bool, true, if◌then◌else◌, List, [], ◌∷◌, Option, Some, None, slice_index_or, ◌==◌}
+use Rattle.std.specs.Prelude.{◌≡◌, ℕ, ◌+◌, ◌-◌, ◌<◌, ◌≤◌, ◌&&◌, nat_lt, nat_le, max, Bool, true, if◌then◌else◌, cond, sum_by, List, [], ◌∷◌, Option, Some, None, slice_index_or, ◌==◌}
 use Rattle.std.specs.Borrow.{Bor}
 use Rattle.iol_hold.specs.declared.slices.Slice.{Slice}
 use Rattle.iol_hold.specs.Places.{Place, places, byte_len}
@@ -87,6 +87,13 @@ begins_at (e ∷ es) at = if e.at == at then Some e else begins_at es at
 abbrev pub dirty_in : List Extent → Option Extent
 dirty_in [] = None
 dirty_in (e ∷ es) = if e.dirty then Some e else dirty_in es
+
+abbrev pub one_dirty : Extent → ℕ
+one_dirty e = cond e.dirty 1 0
+
+-- how many extents are dirty
+abbrev pub dirty_count : List Extent → ℕ
+dirty_count es = sum_by one_dirty es
 
 -- with an extent more, in the order of places
 abbrev pub put_in : List Extent → Extent → List Extent

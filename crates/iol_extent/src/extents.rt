@@ -1,7 +1,7 @@
 //! The extents of a file.
 ghost use Rattle.std.specs.Prelude.{◌≡◌, ℕ, ◌+◌, ◌-◌, ◌<◌, ◌≤◌, ◌^◌, [], length, All, IfOk, IfSome, OnOk, OnErr, MatchOption, Some, None, slice_index_or, insert, remove, max, IsSome, IsTrue, true, false};
 ghost use Rattle.iol_hold.specs.Places.{byte_len};
-ghost use Rattle.iol_extent.specs.Extents.{Extent, IsFirstMet, met_in, extent_of, extent_over, extent_in, dirty_in, cover, cell_in, end_of, IsApart, IsGap, Adds, Lacks, last_end, begins_at, put_in, without_at};
+ghost use Rattle.iol_extent.specs.Extents.{Extent, IsFirstMet, met_in, extent_of, extent_over, extent_in, dirty_in, cover, cell_in, dirty_count, end_of, IsApart, IsGap, Adds, Lacks, last_end, begins_at, put_in, without_at};
 ghost use Rattle.iol_extent.specs.Spans.{IsHit, IsWhole, Tile};
 
 use crate::piece::{Piece, count_before, insert_piece};
@@ -80,6 +80,28 @@ impl Extents {
             return None;
         }
         Some((piece.at, &piece.agg, piece.dirty))
+    }
+
+    /// How many extents there are. Each has a byte.
+    pub fn count(&self) -> usize
+        ensures count { result ≡ length self.now.extents }
+        ensures few { result ≤ last_end self.now.extents }
+    {
+        self.pieces.len()
+    }
+
+    /// How many of them are dirty.
+    pub fn count_dirty(&self) -> usize
+        ensures count { result ≡ dirty_count self.now.extents }
+        ensures few { result ≤ length self.now.extents }
+    {
+        let mut count = 0;
+        for piece in &self.pieces {
+            if piece.dirty {
+                count += 1;
+            }
+        }
+        count
     }
 
     /// The end of the last extent, or 0.

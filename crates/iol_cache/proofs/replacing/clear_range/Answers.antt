@@ -7,7 +7,7 @@ use Rattle.iol_hold.specs.Moves.{Counts}
 use Rattle.iol_hold.proofs.Releasing.{frees_trans}
 use Rattle.iol_hold.proofs.Reading.{readable_stays}
 use Rattle.iol_cache.specs.Cached.{all_parts}
-use Rattle.iol_cache.proofs.Replaced.{counts_part, covers_moved, fewer, follows_then, met_begins_at, met_less, moves_on, readable_less}
+use Rattle.iol_cache.proofs.Replaced.{counts_part, covers_moved, fewer, reindexes_then, met_begins_at, met_less, moves_on, readable_less}
 use Rattle.iol_cache.specs.Replacing.{all_forgotten, forgotten}
 use Rattle.iol_cache.proofs.Ready.{ready_after}
 use Rattle.iol_cache.proofs.Reordered.{forgot_first, met_none, some_is}
@@ -32,7 +32,7 @@ loop-at-preserved c =
       apart = c.take_out.ensures.apart;
       others = ap (λ (xs : List Extent). unmet xs c.args.from c.args.to) c.take_out.ensures.extents ∙ met_less es c.args.from c.args.to c.in-Some.at v.apart c.in-Some.ensures ∙ v.others;
       room = omega (arith, v.room, c.take_out.ensures.room);
-      follows = follows_then v.follows c.take_out.ensures.follows;
+      follows = reindexes_then v.follows c.take_out.ensures.follows;
       ready = ready_after c.take_out.ensures.follows v.ready;
       gone = ap (λ (xs : List Extent). all_forgotten c.take_out.new.order c.args.file (filter (meets c.args.from c.args.to) xs)) c.take_out.ensures.extents
           ∙ forgot_first c.loop-at.order c.take_out.new.order c.args.file c.args.from c.args.to c.in-Some.at es v.apart c.in-Some.ensures

@@ -13,7 +13,7 @@ use Rattle.iol_cache.proofs.Evicted.{given_is}
 use Rattle.iol_cache.proofs.Extending.{last_end-without_at, over_yes}
 use Rattle.iol_cache.proofs.Ready.{some_kept}
 use Rattle.iol_cache.proofs.Reordered.{is_some, remembered_clean}
-use Rattle.iol_cache.proofs.Replaced.{dirty_goes, follows_then, put_one}
+use Rattle.iol_cache.proofs.Replaced.{dirty_goes, reindexes_then, put_one}
 use Rattle.iol_cache.proofs.syncing.settle.Goals as goal
 
 -- the extent that is taken out, and put in again
@@ -110,7 +110,7 @@ returns-clause-follows c =
     let is_dirty = dirty es at d c.requires.apart xs given in
     let goes = dirty_goes c.args.file es at d.extent c.args.order.now c.args.marks.now there is_dirty (some_kept c.args.order.now es at d.extent there is_dirty c.requires.ready) in
     let gone = subst (λ (r : Ranking). Reindexes c.args.file es (without_at es at) c.args.order.now r c.args.marks.now c.args.marks.now) (sym c.give_back.ensures) goes in
-    follows_then gone (subst (λ (l : List Extent). Reindexes c.args.file l c.put_edge.new.extents.extents c.give_back.new.self c.put_edge.new.order c.args.marks.now c.put_edge.new.marks) c.remove-agg.ensures.extents c.put_edge.ensures.follows)
+    reindexes_then gone (subst (λ (l : List Extent). Reindexes c.args.file l c.put_edge.new.extents.extents c.give_back.new.self c.put_edge.new.order c.args.marks.now c.put_edge.new.marks) c.remove-agg.ensures.extents c.put_edge.ensures.follows)
 
 pub returns-clause-order : goal.returns-clause-order
 returns-clause-order c =

@@ -2,9 +2,9 @@ use Rattle.std.proofs.Common.{◌≡◌, ◌∙◌, ℕ, suc, refl, ◌+◌, ◌
 use Rattle.iol_back.specs.Disk.{Disk}
 use Rattle.iol_core.specs.Numbered.{is_numbered}
 use Rattle.iol_hold.specs.Stored.{Stored}
-use Rattle.iol_extent.specs.Extents.{dirty_in}
+use Rattle.iol_extent.specs.Extents.{dirty_in, dirty_count}
 use Rattle.iol_cache.specs.Cache.{cached_of}
-use Rattle.iol_cache.specs.Cached.{Cached, dirty_count, extents_in}
+use Rattle.iol_cache.specs.Cached.{Cached, extents_in}
 use Rattle.iol_cache.specs.Sound.{IsSound}
 use Rattle.iol_cache.specs.Syncing.{AreCleaned, StoresFirst, Syncs}
 use Rattle.iol_cache.proofs.Filing.{numbered_bounds, numbered_yes}
