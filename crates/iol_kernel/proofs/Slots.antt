@@ -29,6 +29,7 @@ use Rattle.iol_cache.specs.declared.files.CachedFile.{CachedFile}
 use Rattle.iol_cache.proofs.Extending.{laid_stays}
 use Rattle.iol_cache.proofs.GivenUp.{bytes_same, read_stays}
 use Rattle.iol_cache.proofs.Filing.{numbered_bounds, additive_tally, sum-flat}
+use Rattle.iol_cache.proofs.Staying.{sound_stays}
 use Rattle.iol_cache.proofs.Using.{covers_file}
 use Rattle.iol_kernel.specs.Counted.{uses}
 use Rattle.iol_kernel.specs.KernelState.{Each, IsFile, IsFileReadable, IsCached}
@@ -52,19 +53,7 @@ slots_stay stored s t fs stays covers there = λ i. map (λ n. each n i) (range_
 pub cache_stays : (s t : Stored) (c : Cached) → Stays s t → Covers t (held c.files) → page_count t.arena ≡ page_count s.arena
     → ((n : ℕ) → is_numbered c.files n ≡ true → (pool_in t.pools (file_in c.files n).pool).closed ≡ false) → IsTidy t → IsStill t.arena → IsCached s c → IsCached t c
 unfolding IsCached
-cache_stays s t c stays covers count opened tidy still sound = record {
-  files = λ f. (let x = sound.files f in record { apart = x.apart; laid = laid_stays (file_in c.files f).pool (extents_in c.files f) stays (covers_file c.files f covers) x.laid; short = x.short });
-  opened = λ f there. record { is_open = opened f there; ordered = (sound.opened f there).ordered };
-  covered = covers;
-  marked = sound.marked;
-  pages = sound.pages ∙ sym count;
-  ranked = sound.ranked;
-  ready = sound.ready;
-  few_files = sound.few_files;
-  few_orders = sound.few_orders;
-  tidy = tidy;
-  still = still;
-}
+cache_stays s t c stays covers count opened tidy still sound = sound_stays c sound stays covers (record { each = opened }) count tidy still
 
 -- Where there are no files.
 
