@@ -28,3 +28,23 @@ returns-clause-moves g c =
     let x = old_is c.self.inside.live.entries c.args.self.now c.number.result c.args.c c.value_mut.result.now (ap (λ (t : ConnTable). t.conns) c.self.view_is) c.number.ensures c.value_mut.ensures.value in
     let y = new_is c.self.inside.live.entries c.number.result c.args.c c.value_mut.result.now c.drain_to.new.self c.number.ensures c.value_mut.ensures.value in
     rw (x, y) c.drain_to.ensures.moves
+
+pub returns-clause-most : goal.returns-clause-most
+returns-clause-most g c =
+    let x = old_is c.self.inside.live.entries c.args.self.now c.number.result c.args.c c.value_mut.result.now (ap (λ (t : ConnTable). t.conns) c.self.view_is) c.number.ensures c.value_mut.ensures.value in
+    rw x c.drain_to.ensures.most
+
+pub returns-clause-all : goal.returns-clause-all
+returns-clause-all g c =
+    let x = old_is c.self.inside.live.entries c.args.self.now c.number.result c.args.c c.value_mut.result.now (ap (λ (t : ConnTable). t.conns) c.self.view_is) c.number.ensures c.value_mut.ensures.value in
+    rw x c.drain_to.ensures.all
+
+pub returns-clause-fewer : goal.returns-clause-fewer
+returns-clause-fewer g c =
+    let x = old_is c.self.inside.live.entries c.args.self.now c.number.result c.args.c c.value_mut.result.now (ap (λ (t : ConnTable). t.conns) c.self.view_is) c.number.ensures c.value_mut.ensures.value in
+    rw x c.drain_to.ensures.fewer
+
+pub returns-clause-written : goal.returns-clause-written
+returns-clause-written g c =
+    let x = old_is c.self.inside.live.entries c.args.self.now c.number.result c.args.c c.value_mut.result.now (ap (λ (t : ConnTable). t.conns) c.self.view_is) c.number.ensures c.value_mut.ensures.value in
+    rw x c.drain_to.ensures.written

@@ -25,3 +25,8 @@ returns-clause-shares c =
 pub returns-clause-err : goal.returns-clause-err
 returns-clause-err c =
     on_err_weaker c.front.result (same_is _ c.args.self.now c.self.inside.live.next c.number.result c.value_mut.result.now c.front.new.self c.self.view_is c.numbers_rise.ensures c.value_mut.ensures.value) c.front.ensures.err
+
+pub returns-clause-given : goal.returns-clause-given
+returns-clause-given c =
+    let x = old_is c.self.inside.live.entries c.args.self.now c.number.result c.args.c c.value_mut.result.now (ap (λ (t : ConnTable). t.conns) c.self.view_is) c.number.ensures c.value_mut.ensures.value in
+    rw x c.front.ensures.given

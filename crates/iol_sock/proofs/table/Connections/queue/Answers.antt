@@ -30,3 +30,13 @@ returns-clause-shares c =
 pub returns-clause-err : goal.returns-clause-err
 returns-clause-err c =
     on_err_weaker c.queue.result (same_is _ c.args.self.now c.self.inside.live.next c.number.result c.value_mut.result.now c.queue.new.self c.self.view_is c.numbers_rise.ensures c.value_mut.ensures.value) c.queue.ensures.err
+
+pub returns-clause-passed : goal.returns-clause-passed
+returns-clause-passed c =
+    let x = old_is c.self.inside.live.entries c.args.self.now c.number.result c.args.c c.value_mut.result.now (ap (λ (t : ConnTable). t.conns) c.self.view_is) c.number.ensures c.value_mut.ensures.value in
+    rw x c.queue.ensures.passed
+
+pub returns-clause-count : goal.returns-clause-count
+returns-clause-count c =
+    let x = old_is c.self.inside.live.entries c.args.self.now c.number.result c.args.c c.value_mut.result.now (ap (λ (t : ConnTable). t.conns) c.self.view_is) c.number.ensures c.value_mut.ensures.value in
+    rw x c.queue.ensures.count

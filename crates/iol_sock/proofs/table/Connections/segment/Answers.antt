@@ -33,3 +33,23 @@ returns-clause-moves c =
 pub returns-clause-err : goal.returns-clause-err
 returns-clause-err c =
     on_err_weaker c.segment.result (same_is _ c.args.self.now c.self.inside.live.next c.number.result c.value_mut.result.now c.segment.new.self c.self.view_is c.numbers_rise.ensures c.value_mut.ensures.value) c.segment.ensures.err
+
+pub returns-clause-passed : goal.returns-clause-passed
+returns-clause-passed c =
+    let x = old_is c.self.inside.live.entries c.args.self.now c.number.result c.args.c c.value_mut.result.now (ap (λ (t : ConnTable). t.conns) c.self.view_is) c.number.ensures c.value_mut.ensures.value in
+    rw x c.segment.ensures.passed
+
+pub returns-clause-refused : goal.returns-clause-refused
+returns-clause-refused c =
+    let x = old_is c.self.inside.live.entries c.args.self.now c.number.result c.args.c c.value_mut.result.now (ap (λ (t : ConnTable). t.conns) c.self.view_is) c.number.ensures c.value_mut.ensures.value in
+    rw x c.segment.ensures.refused
+
+pub returns-clause-bytes : goal.returns-clause-bytes
+returns-clause-bytes c =
+    let x = old_is c.self.inside.live.entries c.args.self.now c.number.result c.args.c c.value_mut.result.now (ap (λ (t : ConnTable). t.conns) c.self.view_is) c.number.ensures c.value_mut.ensures.value in
+    rw x c.segment.ensures.bytes
+
+pub returns-clause-uses : goal.returns-clause-uses
+returns-clause-uses c =
+    let x = old_is c.self.inside.live.entries c.args.self.now c.number.result c.args.c c.value_mut.result.now (ap (λ (t : ConnTable). t.conns) c.self.view_is) c.number.ensures c.value_mut.ensures.value in
+    rw x c.segment.ensures.uses

@@ -24,3 +24,23 @@ returns-clause-others c =
 pub returns-clause-err : goal.returns-clause-err
 returns-clause-err c =
     on_err_weaker c.write.result (same_is _ c.args.self.now c.self.inside.live.next c.number.result c.value_mut.result.now c.write.new.self c.self.view_is c.numbers_rise.ensures c.value_mut.ensures.value) c.write.ensures.err
+
+pub returns-clause-passed : goal.returns-clause-passed
+returns-clause-passed c =
+    let x = old_is c.self.inside.live.entries c.args.self.now c.number.result c.args.c c.value_mut.result.now (ap (λ (t : ConnTable). t.conns) c.self.view_is) c.number.ensures c.value_mut.ensures.value in
+    rw x c.write.ensures.passed
+
+pub returns-clause-count : goal.returns-clause-count
+returns-clause-count c =
+    let x = old_is c.self.inside.live.entries c.args.self.now c.number.result c.args.c c.value_mut.result.now (ap (λ (t : ConnTable). t.conns) c.self.view_is) c.number.ensures c.value_mut.ensures.value in
+    rw x c.write.ensures.count
+
+pub returns-clause-room : goal.returns-clause-room
+returns-clause-room c =
+    let x = old_is c.self.inside.live.entries c.args.self.now c.number.result c.args.c c.value_mut.result.now (ap (λ (t : ConnTable). t.conns) c.self.view_is) c.number.ensures c.value_mut.ensures.value in
+    rw x c.write.ensures.room
+
+pub returns-clause-no_room : goal.returns-clause-no_room
+returns-clause-no_room c =
+    let x = old_is c.self.inside.live.entries c.args.self.now c.number.result c.args.c c.value_mut.result.now (ap (λ (t : ConnTable). t.conns) c.self.view_is) c.number.ensures c.value_mut.ensures.value in
+    rw x c.write.ensures.no_room
