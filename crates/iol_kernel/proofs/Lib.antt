@@ -36,3 +36,4 @@ pub mod Incoming
 pub mod Outgoing
 pub mod Borrowing
 pub mod Skipped
+pub mod Written

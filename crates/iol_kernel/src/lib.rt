@@ -20,6 +20,7 @@ pub mod domains;
 pub mod kernel;
 pub mod outside;
 mod pipes;
+mod placing;
 pub mod pools;
 pub mod reading;
 pub mod report;

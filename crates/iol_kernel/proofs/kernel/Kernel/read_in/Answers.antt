@@ -1,4 +1,4 @@
-use Rattle.std.proofs.Common.{◌≡◌, ap, rules, true, false}
+use Rattle.std.proofs.Common.{ap, rules, true, false}
 use Rattle.iol_hold.specs.Texts.{byte_at}
 use Rattle.iol_sock.specs.Table.{ConnTable, conn_in}
 use Rattle.iol_kernel.specs.Kernel.{state_of}
