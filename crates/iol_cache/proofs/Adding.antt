@@ -18,7 +18,7 @@ use Rattle.iol_hold.proofs.Rooms.{open_numbered}
 use Rattle.iol_evict.specs.Ranking.{Ranking}
 use Rattle.iol_cache.specs.declared.files.CachedFile.{CachedFile}
 use Rattle.iol_cache.specs.Marks.{Counted, at_page}
-use Rattle.iol_cache.specs.Cached.{AreReady, Cached, dirty_of, file_in, no_file, new_file, order_in, no_order, held, clean_held, slices_in, clean_in, clean_of, clean_at, entries_at}
+use Rattle.iol_cache.specs.Cached.{AreReady, Cached, dirty_of, file_in, no_file, new_file, order_in, no_order, held, clean_held, all_parts, clean_in, clean_of, clean_at, entries_at}
 use Rattle.iol_cache.specs.Sound.{IsFiled, IsSound}
 use Rattle.iol_cache.proofs.Marking.{at_page-none}
 use Rattle.iol_cache.proofs.Ready.{ready_pushed}
@@ -45,7 +45,7 @@ unfolding held clean_held
 sound_new s c n files orders marks pages tidy still = record {
   files = λ f. subst (λ fs. IsFiled s (file_in fs f)) (sym files) (subst (IsFiled s) (sym (file_nowhere [] f (none f))) (filed_new s 0));
   opened = λ f is. (let b = numbered_bounds c.files f is in absurd (omega (arith, b.0, b.1, ap length files)));
-  covered = record { each = λ b. omega (arith, ap (λ fs. tally b (flat_map (λ (x : CachedFile). bufs_of (slices_in x.extents.extents)) fs)) files, tally_none b) };
+  covered = record { each = λ b. omega (arith, ap (λ fs. tally b (flat_map (λ (x : CachedFile). bufs_of (all_parts x.extents.extents)) fs)) files, tally_none b) };
   marked = record { each = λ p. ap (λ ms. get_or ms p 0) marks ∙ zeros n p ∙ sym (ap (λ fs. at_page p (flat_map (λ (x : CachedFile). bufs_of (clean_in x.extents.extents)) fs)) files ∙ at_page-none p) };
   pages = ap length marks ∙ long n ∙ sym pages;
   ranked = record { each = λ p f at. ap (λ os. entries_at f at (order_in os p).entries) orders ∙ ap (λ (r : Ranking). entries_at f at r.entries) (order_nowhere [] p (λ h. h)) ∙ sym (ap (λ fs. clean_of fs p f at) files ∙ ap (λ (x : CachedFile). cond {A = ℕ} (eqb x.pool p) (clean_at at x.extents.extents) 0) (file_nowhere [] f (none f)) ∙ if_none (eqb 0 p)) };
@@ -98,7 +98,7 @@ sound_added s c d p sound more is files orders enough no_fewer few marks = recor
             let ob = numbered_bounds c.orders (file_in c.files f).pool o.ordered in
             record { is_open = ap (λ k. (pool_in s.pools k).closed) q ∙ o.is_open; ordered = ap (is_numbered d.orders) q ∙ numbered_yes d.orders (file_in c.files f).pool ob.0 (omega (arith, ob.1, no_fewer)) })
       ]);
-  covered = record { each = λ b. omega (arith, sound.covered.each b, ap (tally b) (ap (flat_map (λ (x : CachedFile). bufs_of (slices_in x.extents.extents))) files ∙ flat_map-append (λ (x : CachedFile). bufs_of (slices_in x.extents.extents)) c.files (new_file p ∷ []) ∙ append-nil (flat_map (λ (x : CachedFile). bufs_of (slices_in x.extents.extents)) c.files))) };
+  covered = record { each = λ b. omega (arith, sound.covered.each b, ap (tally b) (ap (flat_map (λ (x : CachedFile). bufs_of (all_parts x.extents.extents))) files ∙ flat_map-append (λ (x : CachedFile). bufs_of (all_parts x.extents.extents)) c.files (new_file p ∷ []) ∙ append-nil (flat_map (λ (x : CachedFile). bufs_of (all_parts x.extents.extents)) c.files))) };
   marked = record { each = λ q. ap (λ ms. get_or ms q 0) marks ∙ sound.marked.each q ∙ sym (ap (at_page q) (ap (flat_map (λ (x : CachedFile). bufs_of (clean_in x.extents.extents))) files ∙ flat_map-append (λ (x : CachedFile). bufs_of (clean_in x.extents.extents)) c.files (new_file p ∷ []) ∙ append-nil (flat_map (λ (x : CachedFile). bufs_of (clean_in x.extents.extents)) c.files))) };
   pages = ap length marks ∙ sound.pages;
   ranked = record { each = λ q f at. ap (λ (r : Ranking). entries_at f at r.entries) (orders q) ∙ sound.ranked.each q f at ∙ sym (ap (λ fs. clean_of fs q f at) files ∙ same q f at) };

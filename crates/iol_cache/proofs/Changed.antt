@@ -14,9 +14,8 @@ use Rattle.iol_extent.specs.Extents.{Extent, last_end}
 use Rattle.iol_evict.specs.Ranking.{Ranking}
 use Rattle.iol_cache.specs.declared.files.CachedFile.{CachedFile}
 use Rattle.iol_cache.specs.Marks.{at_page}
-use Rattle.iol_cache.specs.Cached.{AreReady, file_in, with_file, order_in, with_order, extents_in, slices_in, clean_in, held, clean_held, clean_of, clean_at, entries_at}
+use Rattle.iol_cache.specs.Cached.{AreReady, file_in, with_file, order_in, with_order, extents_in, all_parts, clean_in, held, clean_held, clean_of, clean_at, entries_at}
 use Rattle.iol_cache.specs.Evicting.{Holding}
-use Rattle.iol_cache.specs.Gaps.{all_parts}
 use Rattle.iol_cache.specs.Sound.{Each, IsLaid, IsFiled, IsSound}
 use Rattle.iol_cache.specs.Writing.{Changes}
 use Rattle.iol_cache.proofs.Extending.{laid_stays}
@@ -27,10 +26,10 @@ use Rattle.iol_cache.proofs.Using.{covers_file}
 
 -- Sums over the file that changed.
 
-held_change : (h : List BufId → ℕ) → IsAdditive h → (fs : List CachedFile) (f : ℕ) (x : CachedFile) → (0 < f) × (f ≤ length fs) → h (held (with_file fs f x)) + h (bufs_of (slices_in (extents_in fs f))) ≡ h (held fs) + h (bufs_of (slices_in x.extents.extents))
+held_change : (h : List BufId → ℕ) → IsAdditive h → (fs : List CachedFile) (f : ℕ) (x : CachedFile) → (0 < f) × (f ≤ length fs) → h (held (with_file fs f x)) + h (bufs_of (all_parts (extents_in fs f))) ≡ h (held fs) + h (bufs_of (all_parts x.extents.extents))
 unfolding held
 held_change h a fs f x numbered =
-    let g : CachedFile → List BufId = λ y. bufs_of (slices_in y.extents.extents) in
+    let g : CachedFile → List BufId = λ y. bufs_of (all_parts y.extents.extents) in
     omega (arith, sum-flat a g fs, sum-flat a g (with_file fs f x), sum-with_file (λ y. h (g y)) fs f x numbered.0 numbered.1)
 
 clean_change : (h : List BufId → ℕ) → IsAdditive h → (fs : List CachedFile) (f : ℕ) (x : CachedFile) → (0 < f) × (f ≤ length fs) → h (clean_held (with_file fs f x)) + h (bufs_of (clean_in (extents_in fs f))) ≡ h (clean_held fs) + h (bufs_of (clean_in x.extents.extents))
@@ -79,19 +78,19 @@ module _ (old new : Holding) (f : ℕ) (own : List Slice) (sound : IsSound old.s
   pub other_is : (g : ℕ) → (g ≡ f → ⊥) → file_in new.cache.files g ≡ file_in fs g
   other_is g ne = ap (λ l. file_in l g) puts.files ∙ file_other fs f g x ne
 
-  covers_of : (g : ℕ) → Covers new.store (bufs_of (slices_in (extents_in new.cache.files g)))
+  covers_of : (g : ℕ) → Covers new.store (bufs_of (all_parts (extents_in new.cache.files g)))
   covers_of g = covers_file new.cache.files g covers_new
 
   filed : Each (IsLaid old.store pool) puts.extents.extents → last_end puts.extents.extents ≤ MAX_FILE_BYTES → (g : ℕ) → IsFiled new.store (file_in new.cache.files g)
   filed laid short g = elim (cases_eq g f) [
     | inl same ↦ subst (λ n. IsFiled new.store (file_in new.cache.files n)) (sym same) (subst (IsFiled new.store) (sym file_is) (record {
       apart = puts.apart;
-      laid = laid_stays pool puts.extents.extents puts.moves.stays (subst (λ (y : CachedFile). Covers new.store (bufs_of (slices_in y.extents.extents))) file_is (covers_of f)) laid;
+      laid = laid_stays pool puts.extents.extents puts.moves.stays (subst (λ (y : CachedFile). Covers new.store (bufs_of (all_parts y.extents.extents))) file_is (covers_of f)) laid;
       short = short;
     }))
     | inr ne ↦ (
         let was = sound.files g in
-        let c = subst (λ (y : CachedFile). Covers new.store (bufs_of (slices_in y.extents.extents))) (other_is g ne) (covers_of g) in
+        let c = subst (λ (y : CachedFile). Covers new.store (bufs_of (all_parts y.extents.extents))) (other_is g ne) (covers_of g) in
         subst (IsFiled new.store) (sym (other_is g ne)) (record { apart = was.apart; laid = laid_stays (file_in fs g).pool (extents_in fs g) puts.moves.stays c was.laid; short = was.short }))
   ]
 

@@ -8,9 +8,8 @@ use Rattle.iol_back.specs.Disk.{Tears}
 use Rattle.iol_hold.specs.Places.{Place, byte_len}
 use Rattle.iol_hold.specs.Stored.{Stored}
 use Rattle.iol_extent.specs.Extents.{Cell, Extent, IsApart, begins_at, cell_at, cover, dirty_in, end_of, is_over, last_end, put_in, without_at}
-use Rattle.iol_cache.specs.Cached.{dirty_count, one_dirty}
+use Rattle.iol_cache.specs.Cached.{dirty_count, one_dirty, all_parts}
 use Rattle.iol_cache.specs.Contents.{IsStored, byte_in, file_byte, file_bytes, file_len, read_or}
-use Rattle.iol_cache.specs.Gaps.{all_parts}
 use Rattle.iol_cache.specs.Sound.{Each, IsLaid}
 use Rattle.iol_cache.specs.Syncing.{as_clean, cleaned_at, first_cleaned}
 use Rattle.iol_cache.proofs.Extending.{cover-begins, eq_of, over_yes}

@@ -25,11 +25,11 @@ use Rattle.iol_extent.specs.declared.spans.Span.{Span}
 use Rattle.iol_evict.specs.Ranking.{Ranking}
 use Rattle.iol_cache.specs.declared.files.CachedFile.{CachedFile}
 use Rattle.iol_cache.specs.Marks.{at_page}
-use Rattle.iol_cache.specs.Cached.{dirty_count, AreReady, file_in, with_file, order_in, with_order, extents_in, slices_in, clean_in, clean_parts, held, clean_held, clean_of, clean_at, begins_clean, entries_at}
+use Rattle.iol_cache.specs.Cached.{dirty_count, AreReady, file_in, with_file, order_in, with_order, extents_in, all_parts, clean_in, clean_parts, held, clean_held, clean_of, clean_at, begins_clean, entries_at}
 use Rattle.iol_cache.specs.Contents.{byte_in, AreStored}
 use Rattle.iol_cache.specs.Evicting.{Holding}
 use Rattle.iol_cache.specs.Gaps as gaps
-use Rattle.iol_cache.specs.Gaps.{all_put, all_parts, IsMade, FillsGaps, AllMirror}
+use Rattle.iol_cache.specs.Gaps.{all_put, IsMade, FillsGaps, AllMirror}
 use Rattle.iol_cache.specs.Going.{FillsFile, Goes}
 use Rattle.iol_cache.specs.Reading.{all_entered, parts_of_spans}
 use Rattle.iol_cache.specs.Sound.{Each, IsLaid, IsFiled, IsSound}
@@ -47,9 +47,9 @@ use Rattle.iol_cache.proofs.Ready.{dirty-all_put, entered_kept, ready_changed}
 held_more : (h : List BufId → ℕ) → IsAdditive h → (fs : List CachedFile) (f p : ℕ) (m : ExtentMap) (made : List Extent) → (0 < f) × (f ≤ length fs) → m.extents ≡ all_put (extents_in fs f) made → h (held (with_file fs f (record { pool = p; extents = m }))) ≡ h (bufs_of (all_parts made)) + h (held fs)
 unfolding held
 held_more h a fs f p m made numbered is =
-    let w : CachedFile → ℕ = λ x. h (bufs_of (slices_in x.extents.extents)) in
+    let w : CachedFile → ℕ = λ x. h (bufs_of (all_parts x.extents.extents)) in
     let x : CachedFile = record { pool = p; extents = m } in
-    let g : CachedFile → List BufId = λ y. bufs_of (slices_in y.extents.extents) in
+    let g : CachedFile → List BufId = λ y. bufs_of (all_parts y.extents.extents) in
     let parts : Extent → List Slice = λ e. e.parts in
     let es = extents_in fs f in
     omega (
@@ -57,7 +57,7 @@ held_more h a fs f p m made numbered is =
       sum-flat a g fs,
       sum-flat a g (with_file fs f x),
       sum-with_file w fs f x numbered.0 numbered.1,
-      ap (λ l. h (bufs_of (slices_in l))) is,
+      ap (λ l. h (bufs_of (all_parts l))) is,
       sum-flat (additive_bufs a) parts es,
       sum-flat (additive_bufs a) parts made,
       sum-flat (additive_bufs a) parts (all_put es made),
@@ -156,13 +156,13 @@ module _ (old new : Holding) (f from to : ℕ) (beside : List Place) (gs : List 
   extents_are : extents_in new.cache.files f ≡ all_put es made
   extents_are = ap (λ (y : CachedFile). y.extents.extents) file_is ∙ filled.range.fills.extents
 
-  covers_of : {t : Stored} (g : ℕ) → Covers t (held new.cache.files) → Covers t (bufs_of (slices_in (extents_in new.cache.files g)))
+  covers_of : {t : Stored} (g : ℕ) → Covers t (held new.cache.files) → Covers t (bufs_of (all_parts (extents_in new.cache.files g)))
   covers_of g c = covers_file new.cache.files g c
 
-  covers_put : Covers mid (bufs_of (slices_in (all_put es made)))
-  covers_put = subst (λ l. Covers mid (bufs_of (slices_in l))) extents_are (covers_of f covers_mid)
+  covers_put : Covers mid (bufs_of (all_parts (all_put es made)))
+  covers_put = subst (λ l. Covers mid (bufs_of (all_parts l))) extents_are (covers_of f covers_mid)
 
-  covers_old : Covers mid (bufs_of (slices_in es))
+  covers_old : Covers mid (bufs_of (all_parts es))
   covers_old = record { each = λ b. omega (arith, covers_put.each b, tally-all_put b es made) }
 
   laid_old : Each (IsLaid mid pool) es
@@ -181,12 +181,12 @@ module _ (old new : Holding) (f from to : ℕ) (beside : List Place) (gs : List 
   filed small g = elim (cases_eq g f) [
     | inl same ↦ subst (λ n. IsFiled new.store (file_in new.cache.files n)) (sym same) (subst (IsFiled new.store) (sym file_is) (record {
       apart = filled.apart;
-      laid = subst (λ (l : List Extent). Each (IsLaid new.store pool) l) (sym filled.range.fills.extents) (laid_stays pool (all_put es made) stays_new (subst (λ l. Covers new.store (bufs_of (slices_in l))) extents_are (covers_of f covers_new)) laid_put);
+      laid = subst (λ (l : List Extent). Each (IsLaid new.store pool) l) (sym filled.range.fills.extents) (laid_stays pool (all_put es made) stays_new (subst (λ l. Covers new.store (bufs_of (all_parts l))) extents_are (covers_of f covers_new)) laid_put);
       short = omega (arith, ap last_end filled.range.fills.extents, last_end-all_put es made MAX_FILE_BYTES (sound.files f).short (below made (ends_below old.store mid pool from to gs made order zip) small));
     }))
     | inr ne ↦ (
         let was = sound.files g in
-        let c = subst (λ (y : CachedFile). Covers new.store (bufs_of (slices_in y.extents.extents))) (other_is g ne) (covers_of g covers_new) in
+        let c = subst (λ (y : CachedFile). Covers new.store (bufs_of (all_parts y.extents.extents))) (other_is g ne) (covers_of g covers_new) in
         subst (IsFiled new.store) (sym (other_is g ne)) (record { apart = was.apart; laid = laid_stays (file_in fs g).pool (extents_in fs g) (stays_trans stays_mid stays_new) c was.laid; short = was.short }))
   ]
     where
@@ -269,7 +269,7 @@ module _ (old new : Holding) (f from to : ℕ) (beside : List Place) (gs : List 
     | inl same ↦ subst (λ n. StaysFile old.store new.store (content disk.slots n) (extents_in fs n) (extents_in new.cache.files n)) (sym same) (here (subst (λ n. AreStored old.store (content disk.slots n) (extents_in fs n)) same all))
     | inr ne ↦ (
         let is : extents_in new.cache.files g ≡ extents_in fs g = ap (λ (y : CachedFile). y.extents.extents) (other_is g ne) in
-        let c = subst (λ l. Covers new.store (bufs_of (slices_in l))) is (covers_of g covers_new) in
+        let c = subst (λ l. Covers new.store (bufs_of (all_parts l))) is (covers_of g covers_new) in
         subst (StaysFile old.store new.store (content disk.slots g) (extents_in fs g)) (sym is) (file_stays (file_in fs g).pool (content disk.slots g) (extents_in fs g) (stays_trans stays_mid stays_new) c (sound.files g).laid all))
   ]
     where
@@ -283,7 +283,7 @@ module _ (old new : Holding) (f from to : ℕ) (beside : List Place) (gs : List 
           let m = mirrored made (filled.range.fills.mirrors honest).each in
           let put = all_stored stored es made fits m first.mirrors in
           let bytes = bytes_same (byte_in mid) (byte_in mid) stored (all_put es made) es (λ i. all_byte stored es made i fits m) (all_len stored es made m) in
-          let last = file_stays pool stored (all_put es made) stays_new (subst (λ l. Covers new.store (bufs_of (slices_in l))) extents_are (covers_of f covers_new)) laid_put put in
+          let last = file_stays pool stored (all_put es made) stays_new (subst (λ l. Covers new.store (bufs_of (all_parts l))) extents_are (covers_of f covers_new)) laid_put put in
           subst (StaysFile old.store new.store stored es) (sym extents_are) (record { mirrors = last.mirrors; bytes = last.bytes ∙ bytes ∙ first.bytes })
 
   pub goes_filled : (own : List BufId) → SameLists old.store new.store → (AllSettled old.store → AllSettled new.store) → Goes disk own (own ++ bufs_of xs) old new

@@ -13,7 +13,7 @@ use Rattle.iol_extent.specs.Extents.{Extent, ExtentMap, begins_at, without_at}
 use Rattle.iol_evict.specs.Ranking.{Ranking, evicted_at}
 use Rattle.iol_cache.specs.declared.files.CachedFile.{CachedFile}
 use Rattle.iol_cache.specs.Marks.{at_page, Unmarks}
-use Rattle.iol_cache.specs.Cached.{Cached, file_in, order_in, extents_in, parts_in, parts_at, slices_in, clean_in, clean_parts, held, clean_held, lacking, without_extent, with_evicted, AreRanked, AreReady}
+use Rattle.iol_cache.specs.Cached.{Cached, file_in, order_in, extents_in, parts_in, parts_at, all_parts, clean_in, clean_parts, held, clean_held, lacking, without_extent, with_evicted, AreRanked, AreReady}
 use Rattle.iol_cache.specs.Sound.{IsLaid, IsFiled, IsSound, IsUsable}
 use Rattle.iol_cache.specs.Evicting.{Holding, IsCleanAt, Evicts}
 use Rattle.iol_cache.proofs.Filing.{file_same, file_other, file_set, order_set, length-with_file, length-with_order, numbered_bounds, numbered_yes, IsAdditive, additive_tally, additive_page, additive_bufs, sum-flat, sum-with_file, sum-without_at, each-without_at}
@@ -30,11 +30,11 @@ usable_of sound = record { files = sound.files; covered = sound.covered; marked 
 pub held_less : (h : List BufId → ℕ) → IsAdditive h → (fs : List CachedFile) (f at : ℕ) (e : Extent) → (0 < f) × (f ≤ length fs) → begins_at (extents_in fs f) at ≡ Some e → h (held fs) ≡ h (bufs_of e.parts) + h (held (without_extent fs f at))
 unfolding held
 held_less h a fs f at e numbered begins =
-    let w : CachedFile → ℕ = λ x. h (bufs_of (slices_in x.extents.extents)) in
+    let w : CachedFile → ℕ = λ x. h (bufs_of (all_parts x.extents.extents)) in
     let x = lacking (file_in fs f) at in
     let es = extents_in fs f in
-    let all = sum-flat a (λ (y : CachedFile). bufs_of (slices_in y.extents.extents)) fs in
-    let rest = sum-flat a (λ (y : CachedFile). bufs_of (slices_in y.extents.extents)) (without_extent fs f at) in
+    let all = sum-flat a (λ (y : CachedFile). bufs_of (all_parts y.extents.extents)) fs in
+    let rest = sum-flat a (λ (y : CachedFile). bufs_of (all_parts y.extents.extents)) (without_extent fs f at) in
     let changed = sum-with_file w fs f x numbered.0 numbered.1 in
     let was = sum-flat (additive_bufs a) (λ (y : Extent). y.parts) es in
     let is = sum-flat (additive_bufs a) (λ (y : Extent). y.parts) (without_at es at) in
@@ -58,14 +58,14 @@ clean_less h a fs f at e numbered begins clean =
 
 -- A file without a clean extent, and the others.
 
-filed_lacking : {s t : Stored} (x : CachedFile) (at : ℕ) → IsFiled s x → Stays s t → Covers t (bufs_of (slices_in (without_at x.extents.extents at))) → (e : Extent) → begins_at x.extents.extents at ≡ Some e → IsFiled t (lacking x at)
+filed_lacking : {s t : Stored} (x : CachedFile) (at : ℕ) → IsFiled s x → Stays s t → Covers t (bufs_of (all_parts (without_at x.extents.extents at))) → (e : Extent) → begins_at x.extents.extents at ≡ Some e → IsFiled t (lacking x at)
 filed_lacking {s = s} x at filed stays covers e begins = record {
   apart = apart-without_at 0 x.extents.extents at filed.apart;
   laid = laid_stays x.pool (without_at x.extents.extents at) stays covers (each-without_at (IsLaid s x.pool) x.extents.extents at filed.laid);
   short = omega (arith, filed.short, last_end-without_at x.extents.extents at e begins);
 }
 
-filed_stays : {s t : Stored} (x : CachedFile) → IsFiled s x → Stays s t → Covers t (bufs_of (slices_in x.extents.extents)) → IsFiled t x
+pub filed_stays : {s t : Stored} (x : CachedFile) → IsFiled s x → Stays s t → Covers t (bufs_of (all_parts x.extents.extents)) → IsFiled t x
 filed_stays x filed stays covers = record { apart = filed.apart; laid = laid_stays x.pool x.extents.extents stays covers filed.laid; short = filed.short }
 
 pub covers_evicted : {s t : Stored} (fs : List CachedFile) (f at : ℕ) (e : Extent) → (0 < f) × (f ≤ length fs) → begins_at (extents_in fs f) at ≡ Some e → Covers s (held fs) → Moves s t (bufs_of e.parts) [] → Covers t (held (without_extent fs f at))
@@ -78,10 +78,10 @@ files_evicted {s = s} {t = t} fs f at e numbered begins covers stays filed g =
     elim (cases_eq g f) [
       | inl same ↦ (
           let is : file_in (without_extent fs f at) g ≡ x = ap (file_in (without_extent fs f at)) same ∙ file_same fs f x numbered.0 numbered.1 in
-          subst (IsFiled t) (sym is) (filed_lacking (file_in fs f) at (filed f) stays (subst (λ (y : CachedFile). Covers t (bufs_of (slices_in y.extents.extents))) is c) e begins))
+          subst (IsFiled t) (sym is) (filed_lacking (file_in fs f) at (filed f) stays (subst (λ (y : CachedFile). Covers t (bufs_of (all_parts y.extents.extents))) is c) e begins))
       | inr ne ↦ (
           let is : file_in (without_extent fs f at) g ≡ file_in fs g = file_other fs f g x ne in
-          subst (IsFiled t) (sym is) (filed_stays (file_in fs g) (filed g) stays (subst (λ (y : CachedFile). Covers t (bufs_of (slices_in y.extents.extents))) is c)))
+          subst (IsFiled t) (sym is) (filed_stays (file_in fs g) (filed g) stays (subst (λ (y : CachedFile). Covers t (bufs_of (all_parts y.extents.extents))) is c)))
     ]
 
 -- the pool of each file

@@ -13,7 +13,7 @@ use Rattle.iol_hold.proofs.Counting.{tally-append, bufs-append}
 use Rattle.iol_hold.proofs.Reading.{readable_stays, text_stays}
 use Rattle.iol_extent.specs.Extents.{Extent, Cell, no_place, cover, cell_at, is_over, end_of, IsApart, last_end, begins_at, without_at}
 use Rattle.iol_extent.proofs.Cover.{cover_low, cover_no, cover_yes}
-use Rattle.iol_cache.specs.Cached.{slices_in, begins_clean, clean_at}
+use Rattle.iol_cache.specs.Cached.{all_parts, begins_clean, clean_at}
 use Rattle.iol_cache.specs.Contents.{byte_in}
 use Rattle.iol_cache.specs.Sound.{Each, IsLaid}
 
@@ -113,19 +113,19 @@ clean_begins low (x ∷ xs) at a h = here (eqb x.at at) refl (clean_begins (end_
 
 -- The store goes on.
 
-covers_parts : {t : Stored} (x : Extent) (xs : List Extent) → Covers t (bufs_of (slices_in (x ∷ xs))) → Covers t (bufs_of x.parts) × Covers t (bufs_of (slices_in xs))
+covers_parts : {t : Stored} (x : Extent) (xs : List Extent) → Covers t (bufs_of (all_parts (x ∷ xs))) → Covers t (bufs_of x.parts) × Covers t (bufs_of (all_parts xs))
 covers_parts {t = t} x xs c =
-    let each = λ (b : BufId). ap (tally b) (bufs-append x.parts (slices_in xs)) ∙ tally-append b (bufs_of x.parts) (bufs_of (slices_in xs)) in
+    let each = λ (b : BufId). ap (tally b) (bufs-append x.parts (all_parts xs)) ∙ tally-append b (bufs_of x.parts) (bufs_of (all_parts xs)) in
     (record { each = λ b. omega (arith, c.each b, each b) }, record { each = λ b. omega (arith, c.each b, each b) })
 
-pub laid_stays : {s t : Stored} (p : ℕ) (es : List Extent) → Stays s t → Covers t (bufs_of (slices_in es)) → Each (IsLaid s p) es → Each (IsLaid t p) es
+pub laid_stays : {s t : Stored} (p : ℕ) (es : List Extent) → Stays s t → Covers t (bufs_of (all_parts es)) → Each (IsLaid s p) es → Each (IsLaid t p) es
 laid_stays p [] stays c all = tt
 laid_stays p (x ∷ xs) stays c all =
     let both = covers_parts x xs c in
     (record { readable = readable_stays x.parts stays both.0 all.0.readable; home = all.0.home }, laid_stays p xs stays both.1 all.1)
 
 -- what lies over a byte has the byte that it had
-pub byte_stays : {s t : Stored} (p : ℕ) (es : List Extent) (i : ℕ) (c : Cell) → Stays s t → Covers t (bufs_of (slices_in es)) → Each (IsLaid s p) es → cover es i ≡ Some c → byte_in t c.place ≡ byte_in s c.place
+pub byte_stays : {s t : Stored} (p : ℕ) (es : List Extent) (i : ℕ) (c : Cell) → Stays s t → Covers t (bufs_of (all_parts es)) → Each (IsLaid s p) es → cover es i ≡ Some c → byte_in t c.place ≡ byte_in s c.place
 byte_stays p [] i c stays cov all h = absurd cc
 byte_stays {s = s} {t = t} p (x ∷ xs) i c stays cov all h = here (is_over x i) refl h (byte_stays p xs i c stays (covers_parts x xs cov).1 all.1) where
   one : is_over x i ≡ true → byte_in t (cell_at x i).place ≡ byte_in s (cell_at x i).place

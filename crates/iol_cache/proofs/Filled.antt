@@ -14,6 +14,7 @@ use Rattle.iol_arena.specs.declared.pages.Entry.{Entry}
 use Rattle.iol_arena.proofs.Members.{In, in_contains, contains_in, in_left, in_right, in_either, in_take, in_passes}
 use Rattle.iol_back.specs.Disk.{Disk, IfHonest, content}
 use Rattle.iol_extent.specs.Extents.{Adds, Extent, ExtentMap, IsApart, end_of, put_in}
+use Rattle.iol_extent.proofs.Alone.{ends_high}
 use Rattle.iol_extent.specs.Spans.{AreInOrder, IsGapSpan}
 use Rattle.iol_extent.specs.declared.spans.Span.{Span}
 use Rattle.iol_hold.specs.Moves.{Covers, Moves, Stays, tally}
@@ -28,10 +29,11 @@ use Rattle.iol_hold.proofs.Moving.{moves_none, moves_trans, stays_trans}
 use Rattle.iol_hold.proofs.Paging.{keeps_pages_same}
 use Rattle.iol_hold.proofs.Reading.{readable_stays, text_stays}
 use Rattle.iol_pool.specs.Pools.{Pool, pool_in}
-use Rattle.iol_cache.specs.Gaps.{AllBegin, FillsGap, FillsGaps, IsMade, Mirrors, all_parts, all_put, gap_pages, parts_back, without_spans}
+use Rattle.iol_cache.specs.Gaps.{AllBegin, FillsGap, FillsGaps, IsMade, Mirrors, all_put, gap_pages, parts_back, without_spans}
 use Rattle.iol_cache.specs.Loading.{PlacesPages, PlacesSome}
 use Rattle.iol_cache.proofs.Paged.{usable_free}
 use Rattle.iol_cache.proofs.Undone.{Begin, CanRead, all_put-push, back_put, back_readable, begin_put, gap_left, none_gaps, without_put}
+use Rattle.iol_cache.specs.Cached.{all_parts}
 
 -- Pages, one placing after another.
 
@@ -97,12 +99,8 @@ places_none s p = record {
 
 -- Spans in order.
 
-pub order_le : (low high : ℕ) (gs : List Span) → AreInOrder low high gs → low ≤ high
-order_le low high [] o = o
-order_le low high (g ∷ gs) o = omega (arith, o.0, o.1, order_le g.to high gs o.2)
-
 pub order_take : (low high : ℕ) (gs : List Span) (i : ℕ) → AreInOrder low high gs → AreInOrder low high (take i gs)
-order_take low high gs zero o = order_le low high gs o
+order_take low high gs zero o = ends_high low high gs o
 order_take low high [] (suc i) o = o
 order_take low high (g ∷ gs) (suc i) o = (o.0, o.1, order_take g.to high gs i o.2)
 

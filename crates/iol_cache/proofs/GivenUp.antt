@@ -18,7 +18,7 @@ use Rattle.iol_hold.proofs.Moving.{stays_trans, moves_none}
 use Rattle.iol_hold.proofs.Releasing.{frees_trans, frees_none}
 use Rattle.iol_extent.specs.Extents.{Extent, Cell, cover, cell_at, is_over, end_of, IsApart, begins_at, without_at}
 use Rattle.iol_cache.specs.declared.files.CachedFile.{CachedFile}
-use Rattle.iol_cache.specs.Cached.{Cached, file_in, with_file, order_in, with_order, extents_in, parts_in, parts_at, slices_in, held, clean_held, lacking, without_extent}
+use Rattle.iol_cache.specs.Cached.{Cached, file_in, with_file, order_in, with_order, extents_in, parts_in, parts_at, all_parts, held, clean_held, lacking, without_extent}
 use Rattle.iol_cache.specs.Contents.{file_byte, file_bytes, file_len, byte_in, read_or, IsStored, AreStored, Mirrors}
 use Rattle.iol_cache.specs.Sound.{Each, IsLaid, IsSound}
 use Rattle.iol_cache.specs.Evicting.{Holding, IsCleanAt, Evicts, KeepsPlaces, GivesUp}
@@ -37,13 +37,13 @@ bytes_same g h stored es fs each len = (λ i. map (λ (k : ℕ). each k i) (rang
 
 -- The store goes on: what the extents have stays.
 
-pub read_stays : {s t : Stored} (p : ℕ) (es : List Extent) (n i : ℕ) → Stays s t → Covers t (bufs_of (slices_in es)) → Each (IsLaid s p) es → read_or (byte_in t) n (cover es i) ≡ read_or (byte_in s) n (cover es i)
+pub read_stays : {s t : Stored} (p : ℕ) (es : List Extent) (n i : ℕ) → Stays s t → Covers t (bufs_of (all_parts es)) → Each (IsLaid s p) es → read_or (byte_in t) n (cover es i) ≡ read_or (byte_in s) n (cover es i)
 read_stays {s = s} {t = t} p es n i stays covers laid = pick (cover es i) refl where
   pick : (o : Option Cell) → cover es i ≡ o → read_or (byte_in t) n o ≡ read_or (byte_in s) n o
   pick None is = refl
   pick (Some c) is = byte_stays p es i c stays covers laid is
 
-pub stored_stays : {s t : Stored} (p : ℕ) (es : List Extent) (stored : List ℕ) (i : ℕ) → Stays s t → Covers t (bufs_of (slices_in es)) → Each (IsLaid s p) es → IsStored s stored i (cover es i) → IsStored t stored i (cover es i)
+pub stored_stays : {s t : Stored} (p : ℕ) (es : List Extent) (stored : List ℕ) (i : ℕ) → Stays s t → Covers t (bufs_of (all_parts es)) → Each (IsLaid s p) es → IsStored s stored i (cover es i) → IsStored t stored i (cover es i)
 stored_stays {s = s} {t = t} p es stored i stays covers laid h = pick (cover es i) refl h where
   pick : (o : Option Cell) → cover es i ≡ o → IsStored s stored i o → IsStored t stored i o
   pick None is h = tt
@@ -83,13 +83,13 @@ pub record StaysFile (s t : Stored) (stored : List ℕ) (es fs : List Extent) : 
   pub mirrors : AreStored t stored fs
   pub bytes : file_bytes (byte_in t) stored fs ≡ file_bytes (byte_in s) stored es
 
-pub file_stays : {s t : Stored} (p : ℕ) (stored : List ℕ) (es : List Extent) → Stays s t → Covers t (bufs_of (slices_in es)) → Each (IsLaid s p) es → AreStored s stored es → StaysFile s t stored es es
+pub file_stays : {s t : Stored} (p : ℕ) (stored : List ℕ) (es : List Extent) → Stays s t → Covers t (bufs_of (all_parts es)) → Each (IsLaid s p) es → AreStored s stored es → StaysFile s t stored es es
 file_stays {s = s} {t = t} p stored es stays covers laid all = record {
   mirrors = record { each = λ i. stored_stays p es stored i stays covers laid (all.each i) };
   bytes = bytes_same (byte_in t) (byte_in s) stored es es (λ i. read_stays p es (slice_index stored i) i stays covers laid) refl;
 }
 
-pub file_evicted : {s t : Stored} (p : ℕ) (stored : List ℕ) (es : List Extent) (at : ℕ) (e : Extent) → Stays s t → Covers t (bufs_of (slices_in (without_at es at))) → IsApart 0 es → Each (IsLaid s p) es → AreStored s stored es → begins_at es at ≡ Some e → e.dirty ≡ false → StaysFile s t stored es (without_at es at)
+pub file_evicted : {s t : Stored} (p : ℕ) (stored : List ℕ) (es : List Extent) (at : ℕ) (e : Extent) → Stays s t → Covers t (bufs_of (all_parts (without_at es at))) → IsApart 0 es → Each (IsLaid s p) es → AreStored s stored es → begins_at es at ≡ Some e → e.dirty ≡ false → StaysFile s t stored es (without_at es at)
 file_evicted {s = s} {t = t} p stored es at e stays covers apart laid all begins clean =
     let rest = without_at es at in
     let laid' = each-without_at (IsLaid s p) es at laid in
@@ -110,14 +110,14 @@ slot_evicted {s = s} {t = t} c f at g slots sound there stays covers all =
       | inl same ↦ (
           let is : extents_in (without_extent fs f at) g ≡ without_at (extents_in fs g) at = ap (extents_in (without_extent fs f at)) same ∙ ap (λ (y : CachedFile). y.extents.extents) (file_same fs f x numbered.0 numbered.1) ∙ ap (λ n. without_at (extents_in fs n) at) (sym same) in
           let begins = ap (λ n. begins_at (extents_in fs n) at) same ∙ there.begins in
-          subst (StaysFile s t stored (extents_in fs g)) (sym is) (file_evicted (file_in fs g).pool stored (extents_in fs g) at there.extent stays (subst (λ es. Covers t (bufs_of (slices_in es))) is cov) filed.apart filed.laid all begins there.clean))
+          subst (StaysFile s t stored (extents_in fs g)) (sym is) (file_evicted (file_in fs g).pool stored (extents_in fs g) at there.extent stays (subst (λ es. Covers t (bufs_of (all_parts es))) is cov) filed.apart filed.laid all begins there.clean))
       | inr ne ↦ (
           let is : extents_in (without_extent fs f at) g ≡ extents_in fs g = ap (λ (y : CachedFile). y.extents.extents) (file_other fs f g x ne) in
-          subst (StaysFile s t stored (extents_in fs g)) (sym is) (file_stays (file_in fs g).pool stored (extents_in fs g) stays (subst (λ es. Covers t (bufs_of (slices_in es))) is cov) filed.laid all))
+          subst (StaysFile s t stored (extents_in fs g)) (sym is) (file_stays (file_in fs g).pool stored (extents_in fs g) stays (subst (λ es. Covers t (bufs_of (all_parts es))) is cov) filed.laid all))
     ]
 
 -- Two steps, the second of which makes no hold.
-frees_then : {a b c : Stored} → FreesOnly a b → FreesOnly b c → ((x : BufId) → count_of c x ≤ count_of b x) → FreesOnly a c
+pub frees_then : {a b c : Stored} → FreesOnly a b → FreesOnly b c → ((x : BufId) → count_of c x ≤ count_of b x) → FreesOnly a c
 frees_then {a = a} {b = b} {c = c} m n fewer = record {
   runs = λ h. n.runs (m.runs h);
   pools = λ p is. n.pools p (ap (λ (x : Pool). x.closed) (m.pools p is) ∙ is) ∙ m.pools p is;

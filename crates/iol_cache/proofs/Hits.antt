@@ -21,9 +21,9 @@ use Rattle.iol_hold.specs.declared.slices.Slice.{Slice}
 use Rattle.iol_hold.proofs.Counting.{tally-append, tally_none}
 use Rattle.iol_hold.proofs.Moving.{shares_move}
 use Rattle.iol_cache.specs.declared.files.CachedFile.{CachedFile}
-use Rattle.iol_cache.specs.Cached.{Cached, clean_held, extents_in, file_in, held}
+use Rattle.iol_cache.specs.Cached.{Cached, clean_held, extents_in, file_in, held, all_parts}
 use Rattle.iol_cache.specs.Evicting.{Holding}
-use Rattle.iol_cache.specs.Gaps.{all_parts, gap_pages}
+use Rattle.iol_cache.specs.Gaps.{gap_pages}
 use Rattle.iol_cache.specs.Going.{Goes, HasRoom, LacksRoom, Pins}
 use Rattle.iol_cache.specs.Pinned.{pinned_beside}
 use Rattle.iol_cache.specs.Ranges.{FillsAfter, PinsRange}

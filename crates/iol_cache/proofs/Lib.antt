@@ -24,11 +24,14 @@ pub mod CutOut
 pub mod Ready
 pub mod Roomy
 pub mod Completed
+pub mod Staying
+pub mod Paging
 pub mod Stepping
 pub mod Woven
 pub mod Steps
 pub mod Tiled
 pub mod Replaced
+pub mod Reordered
 pub mod Hits
 pub mod Texts
 pub mod Served
@@ -41,3 +44,4 @@ pub mod Placed
 pub mod Storing
 pub mod Cleaned
 pub mod Synced
+pub mod OneRoom

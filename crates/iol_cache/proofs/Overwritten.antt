@@ -17,11 +17,10 @@ use Rattle.iol_hold.proofs.Moving.{shares_move, stays_trans}
 use Rattle.iol_hold.proofs.Reading.{bytes_of-labelled, length-text_of, text_stays}
 use Rattle.iol_extent.specs.Extents.{Extent, IsApart, cell_at, cover, end_of, no_place, unmet}
 use Rattle.iol_cache.specs.declared.files.CachedFile.{CachedFile}
-use Rattle.iol_cache.specs.Cached.{extents_in, file_in, held, slices_in}
+use Rattle.iol_cache.specs.Cached.{extents_in, file_in, held, all_parts}
 use Rattle.iol_cache.specs.Composing.{KeepsOwn}
 use Rattle.iol_cache.specs.Contents.{AreStored, IsStored, byte_in, file_byte, file_bytes, file_len, read_or}
 use Rattle.iol_cache.specs.Evicting.{Holding}
-use Rattle.iol_cache.specs.Gaps.{all_parts}
 use Rattle.iol_cache.specs.Overwriting.{IsWritten, KeepsMirrors, KeepsOthers, LiesDirty, Overwrites, is_dirty}
 use Rattle.iol_cache.specs.Replacing.{put_some}
 use Rattle.iol_cache.specs.Sharing.{place_in, place_over, places_over}
@@ -85,18 +84,18 @@ module _ (old new : Holding) (f at : ℕ) (source : List Slice) (sound : IsSound
   stays : Stays old.store new.store
   stays = stays_trans ready_stays w.puts.moves.stays
 
-  covers_es : Covers w.ready (bufs_of (slices_in es))
+  covers_es : Covers w.ready (bufs_of (all_parts es))
   covers_es = covers_file old.cache.files f ready_sound.covered
 
-  covers_new : Covers new.store (bufs_of (slices_in w.puts.extents.extents))
-  covers_new = subst (λ (l : List Extent). Covers new.store (bufs_of (slices_in l))) extents_is (covers_file new.cache.files f sound'.covered)
+  covers_new : Covers new.store (bufs_of (all_parts w.puts.extents.extents))
+  covers_new = subst (λ (l : List Extent). Covers new.store (bufs_of (all_parts l))) extents_is (covers_file new.cache.files f sound'.covered)
 
   laid_new : Each (IsLaid w.ready p) w.puts.extents.extents
   laid_new = put.laid_put ready new f at (at + n) w.left w.right e ready_sound there w.puts ready_held (omega (arith, some)) w.prepares.before w.prepares.after (prepared_laid w.prepares)
 
   covers_own : Covers new.store (bufs_of e.parts)
   covers_own = record {
-    each = λ b. omega (arith, covers_new.each b, ap (λ (l : List Extent). tally b (bufs_of (slices_in l))) w.puts.is, some-parts b (put_some (put_some (unmet es at (at + n)) w.left) w.right) e);
+    each = λ b. omega (arith, covers_new.each b, ap (λ (l : List Extent). tally b (bufs_of (all_parts l))) w.puts.is, some-parts b (put_some (put_some (unmet es at (at + n)) w.left) w.right) e);
   }
 
   apart : IsApart 0 es
@@ -176,8 +175,8 @@ module _ (old new : Holding) (f at : ℕ) (source : List Slice) (sound : IsSound
 
   -- The other files.
 
-  covers_other : (g : ℕ) → (g ≡ f → ⊥) → Covers new.store (bufs_of (slices_in (extents_in old.cache.files g)))
-  covers_other g ne = subst (λ (y : CachedFile). Covers new.store (bufs_of (slices_in y.extents.extents))) (other_is g ne) (covers_file new.cache.files g sound'.covered)
+  covers_other : (g : ℕ) → (g ≡ f → ⊥) → Covers new.store (bufs_of (all_parts (extents_in old.cache.files g)))
+  covers_other g ne = subst (λ (y : CachedFile). Covers new.store (bufs_of (all_parts y.extents.extents))) (other_is g ne) (covers_file new.cache.files g sound'.covered)
 
   pub over_written : IsWritten f at source old new
   over_written = record {

@@ -15,9 +15,8 @@ use Rattle.iol_hold.proofs.Counting.{bufs-append, tally-append, tally_none}
 use Rattle.iol_hold.proofs.Moving.{shares_move, stays_trans}
 use Rattle.iol_hold.proofs.Reading.{readable_none, readable_taken}
 use Rattle.iol_extent.specs.Extents.{Extent, end_of, extent_over, last_end}
-use Rattle.iol_cache.specs.Cached.{Cached, held}
+use Rattle.iol_cache.specs.Cached.{Cached, held, all_parts}
 use Rattle.iol_cache.specs.Cutting.{CutsLeft, CutsRight, IsBefore}
-use Rattle.iol_cache.specs.Gaps.{all_parts}
 use Rattle.iol_cache.specs.Preparing.{Prepares}
 use Rattle.iol_cache.specs.Sharing.{CountsBelow}
 use Rattle.iol_cache.specs.Sound.{IsLaid, IsSound}

@@ -14,10 +14,10 @@ use Rattle.iol_extent.specs.Extents.{Extent, Cell, no_place, cover, cell_at, is_
 use Rattle.iol_extent.specs.Spans.{AreInOrder, IsGapSpan, LiesIn}
 use Rattle.iol_extent.specs.declared.spans.Span.{Span}
 use Rattle.iol_evict.specs.Ranking.{Ranking, entered}
-use Rattle.iol_cache.specs.Cached.{clean_at, begins_clean, entries_at, parts_in}
+use Rattle.iol_cache.specs.Cached.{clean_at, begins_clean, entries_at, parts_in, all_parts}
 use Rattle.iol_cache.specs.Contents.{file_byte, file_len, byte_in, read_or, IsStored, AreStored}
 use Rattle.iol_cache.specs.Gaps as gaps
-use Rattle.iol_cache.specs.Gaps.{all_put, all_parts, IsMade}
+use Rattle.iol_cache.specs.Gaps.{all_put, IsMade}
 use Rattle.iol_cache.specs.Reading.{parts_from, parts_of_spans, all_entered, AllBeginAt, AreAbsent}
 use Rattle.iol_cache.specs.Sound.{Each}
 use Rattle.iol_cache.proofs.Filing.{sum-put_in, each-put_in}

@@ -17,11 +17,12 @@ use Rattle.iol_hold.proofs.Slicing.{byte_len-cons, places-append}
 use Rattle.iol_extent.specs.Extents.{Extent, ExtentMap, cover}
 use Rattle.iol_extent.specs.Spans.{AreInOrder, IsGapSpan, LiesIn}
 use Rattle.iol_extent.specs.declared.spans.Span.{Span}
-use Rattle.iol_cache.specs.Gaps.{all_put, all_parts, IsMade, FillsGaps}
+use Rattle.iol_cache.specs.Gaps.{all_put, IsMade, FillsGaps}
 use Rattle.iol_cache.specs.Sound.{Each, IsLaid}
 use Rattle.iol_cache.specs.Sharing.{IsCoveredSpan, CountsBelow}
 use Rattle.iol_cache.proofs.Filing.{additive_tally, additive_bufs, sum-flat}
 use Rattle.iol_cache.proofs.Putting.{made_fits, covered-made, sum-all_put, each-all_put}
+use Rattle.iol_cache.specs.Cached.{all_parts}
 
 pub tally_len : (b : BufId) (xs : List Slice) → tally b (bufs_of xs) ≤ byte_len xs
 unfolding tally

@@ -15,7 +15,7 @@ use Rattle.iol_cache.specs.declared.files.CachedFile.{CachedFile}
 use Rattle.iol_cache.specs.Cached.{AreReady, Cached, dirty_count, dirty_of, extents_in, file_in, lacking, new_file, no_file, one_dirty, order_in, with_evicted, with_file, with_order, without_extent}
 use Rattle.iol_cache.specs.Gaps.{IsMade, all_put}
 use Rattle.iol_cache.specs.Reading.{SameButRoom, all_entered, hit_counted, hits_counted, parts_from}
-use Rattle.iol_cache.specs.Replacing.{Follows, IsReady}
+use Rattle.iol_cache.specs.Replacing.{Reindexes, IsReady}
 use Rattle.iol_cache.proofs.Filing.{order_other, order_same, sum-file_in, sum-with_file, sum-without_at}
 use Rattle.iol_cache.proofs.Putting.{sum-all_put}
 
@@ -165,7 +165,7 @@ is_ready fs os f ready =
     let p = (file_in fs f).pool in
     record { enough = omega (arith, ready.each p, sum-file_in (dirty_of p) fs f (none_of (eqb 0 p)), in_pool p p (dirty_count (extents_in fs f)) refl) }
 
-pub ready_after : {f : ℕ} {es fs : List Extent} {r t : Ranking} {marks new : List ℕ} → Follows f es fs r t marks new → IsReady r es → IsReady t fs
+pub ready_after : {f : ℕ} {es fs : List Extent} {r t : Ranking} {marks new : List ℕ} → Reindexes f es fs r t marks new → IsReady r es → IsReady t fs
 ready_after m h = record { enough = omega (arith, m.kept, h.enough) }
 
 -- a place is kept for a dirty extent

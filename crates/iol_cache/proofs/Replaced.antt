@@ -18,11 +18,10 @@ use Rattle.iol_hold.proofs.Moving.{stays_trans}
 use Rattle.iol_extent.proofs.Cover.{extent_begins, some_begins}
 use Rattle.iol_evict.specs.Ranking.{Ranking, entered, entry_at, left_at, with_one_given_back, with_one_kept}
 use Rattle.iol_evict.specs.declared.entry.Entry.{Entry}
-use Rattle.iol_cache.specs.Cached.{begins_clean, clean_at, clean_in, clean_parts, entry_one, one_dirty}
-use Rattle.iol_cache.specs.Gaps.{all_parts}
+use Rattle.iol_cache.specs.Cached.{begins_clean, clean_at, clean_in, clean_parts, entry_one, one_dirty, all_parts}
 use Rattle.iol_cache.specs.Marks.{HaveMarks, Marks, Unmarks, at_page}
 use Rattle.iol_cache.specs.Reading.{RanksFile}
-use Rattle.iol_cache.specs.Replacing.{Follows, HaveClean, put_some}
+use Rattle.iol_cache.specs.Replacing.{Reindexes, HaveClean, put_some}
 use Rattle.iol_cache.proofs.Entering.{entered_entries}
 use Rattle.iol_cache.proofs.Extending.{begins_above}
 use Rattle.iol_cache.proofs.Filing.{IsAdditive, additive_bufs, additive_page, additive_tally, sum-flat, sum-put_in, sum-without, sum-without_at}
@@ -31,10 +30,10 @@ use Rattle.iol_cache.proofs.Undone.{begins_gap}
 use Rattle.iol_hold.specs.Places.{byte_len}
 use Rattle.std.proofs.lemmas.List.Sums.{sum_by-cons}
 
-pub follows_none : (f : ℕ) (es : List Extent) (r : Ranking) (marks : List ℕ) → Follows f es es r r marks marks
+pub follows_none : (f : ℕ) (es : List Extent) (r : Ranking) (marks : List ℕ) → Reindexes f es es r r marks marks
 follows_none f es r marks = record { ranked = λ h. h; others = λ g b ne. refl; low = refl; kept = refl; each = λ p. refl; long = refl }
 
-pub follows_then : {f : ℕ} {as' bs cs : List Extent} {r s t : Ranking} {a b c : List ℕ} → Follows f as' bs r s a b → Follows f bs cs s t b c → Follows f as' cs r t a c
+pub follows_then : {f : ℕ} {as' bs cs : List Extent} {r s t : Ranking} {a b c : List ℕ} → Reindexes f as' bs r s a b → Reindexes f bs cs s t b c → Reindexes f as' cs r t a c
 follows_then m n = record {
   ranked = λ h. n.ranked (m.ranked h);
   others = λ g b ne. n.others g b ne ∙ m.others g b ne;
@@ -79,7 +78,7 @@ none_dirty at e d = ap (λ b. cond {A = ℕ} (eqb e.at at && not b) 1 0) d ∙ o
 
 -- A dirty extent goes, or comes in.
 
-pub dirty_goes : (f : ℕ) (es : List Extent) (at : ℕ) (e : Extent) (r : Ranking) (marks : List ℕ) → begins_at es at ≡ Some e → e.dirty ≡ true → 0 < r.kept → Follows f es (without_at es at) r (with_one_given_back r) marks marks
+pub dirty_goes : (f : ℕ) (es : List Extent) (at : ℕ) (e : Extent) (r : Ranking) (marks : List ℕ) → begins_at es at ≡ Some e → e.dirty ≡ true → 0 < r.kept → Reindexes f es (without_at es at) r (with_one_given_back r) marks marks
 dirty_goes f es at e r marks begins dirty some = record {
   ranked = λ h. record { each = λ b. omega (arith, h.each b, sum-without_at (begins_clean b) es at e begins, none_dirty b e dirty) };
   others = λ g b ne. refl;
@@ -89,7 +88,7 @@ dirty_goes f es at e r marks begins dirty some = record {
   long = refl;
 }
 
-pub dirty_comes : (f : ℕ) (es : List Extent) (e : Extent) (r : Ranking) (marks : List ℕ) → e.dirty ≡ true → Follows f es (put_in es e) r (with_one_kept r) marks marks
+pub dirty_comes : (f : ℕ) (es : List Extent) (e : Extent) (r : Ranking) (marks : List ℕ) → e.dirty ≡ true → Reindexes f es (put_in es e) r (with_one_kept r) marks marks
 dirty_comes f es e r marks dirty = record {
   ranked = λ h. record { each = λ b. omega (arith, h.each b, sum-put_in (begins_clean b) es e, none_dirty b e dirty) };
   others = λ g b ne. refl;
@@ -112,7 +111,7 @@ clean_entry f es at e r apart begins clean ranked =
     let one = clean_one at e (begins_above 0 es at e apart begins).1 clean in
     entry_found r.entries f at (omega (arith, ranked.each at, sum-without_at (begins_clean at) es at e begins, one))
 
-pub clean_goes : (f : ℕ) (es : List Extent) (at : ℕ) (e : Extent) (r : Ranking) (marks new : List ℕ) → IsApart 0 es → begins_at es at ≡ Some e → e.dirty ≡ false → RanksFile r f es → Unmarks marks new e.parts → Follows f es (without_at es at) r (left_at r f at) marks new
+pub clean_goes : (f : ℕ) (es : List Extent) (at : ℕ) (e : Extent) (r : Ranking) (marks new : List ℕ) → IsApart 0 es → begins_at es at ≡ Some e → e.dirty ≡ false → RanksFile r f es → Unmarks marks new e.parts → Reindexes f es (without_at es at) r (left_at r f at) marks new
 clean_goes f es at e r marks new apart begins clean ranked unmarks =
     let v = clean_entry f es at e r apart begins clean ranked in
     let lies = found_at r.entries f at v.0 v.1 in
@@ -132,7 +131,7 @@ entry_of f at b e ea clean = ap (λ d. cond {A = ℕ} (eqb e.at b && not d) 1 0)
 no_entry_of : (f g at b : ℕ) → (g ≡ f → ⊥) → cond {A = ℕ} (eqb f g && eqb at b) 1 0 ≡ 0
 no_entry_of f g at b ne = grind (arith, nat_tests, ne)
 
-pub clean_comes : (f : ℕ) (es : List Extent) (e : Extent) (size : ℕ) (r : Ranking) (marks new : List ℕ) → e.dirty ≡ false → Marks marks new e.parts → Follows f es (put_in es e) r (entered r f e.at size 1) marks new
+pub clean_comes : (f : ℕ) (es : List Extent) (e : Extent) (size : ℕ) (r : Ranking) (marks new : List ℕ) → e.dirty ≡ false → Marks marks new e.parts → Reindexes f es (put_in es e) r (entered r f e.at size 1) marks new
 clean_comes f es e size r marks new clean marked = record {
   ranked = λ h. record { each = λ b. omega (arith, h.each b, sum-put_in (begins_clean b) es e, entry_of f e.at b e refl clean, entered_entries r f e.at size 1 f b) };
   others = λ g b ne. omega (arith, entered_entries r f e.at size 1 g b, no_entry_of f g e.at b ne);
@@ -144,7 +143,7 @@ clean_comes f es e size r marks new clean marked = record {
 
 -- Held and marked after a step.
 
-pub marked_after : {f : ℕ} {es fs : List Extent} {r t : Ranking} {marks new : List ℕ} → Follows f es fs r t marks new → HaveClean marks es → HaveClean new fs
+pub marked_after : {f : ℕ} {es fs : List Extent} {r t : Ranking} {marks new : List ℕ} → Reindexes f es fs r t marks new → HaveClean marks es → HaveClean new fs
 marked_after m h = record { each = λ p. omega (arith, m.each p, h.each p) }
 
 -- The extent over the byte at which one begins.

@@ -16,7 +16,7 @@ use Rattle.iol_extent.specs.Spans.{AreInOrder}
 use Rattle.iol_extent.specs.declared.spans.Span.{Span}
 use Rattle.iol_evict.specs.Ranking.{Ranking, hit_at}
 use Rattle.iol_cache.specs.declared.files.CachedFile.{CachedFile}
-use Rattle.iol_cache.specs.Cached.{AreReady, Cached, file_in, with_file, no_file, order_in, with_order, extents_in, slices_in, clean_in, held, clean_held, clean_of, clean_at, entries_at}
+use Rattle.iol_cache.specs.Cached.{AreReady, Cached, file_in, with_file, no_file, order_in, with_order, extents_in, all_parts, clean_in, held, clean_held, clean_of, clean_at, entries_at}
 use Rattle.iol_cache.specs.Gaps.{gap_pages}
 use Rattle.iol_cache.specs.Going.{CountsHits}
 use Rattle.iol_cache.specs.Marks.{Counted}
@@ -51,7 +51,7 @@ flat-with g fs f x e = elim (cases_eq f 0) [
 
 pub held-same : (fs : List CachedFile) (f : ℕ) (x : CachedFile) → x.extents.extents ≡ extents_in fs f → held (with_file fs f x) ≡ held fs
 unfolding held
-held-same fs f x e = flat-with (λ (y : CachedFile). bufs_of (slices_in y.extents.extents)) fs f x (ap (λ (es : List Extent). bufs_of (slices_in es)) e)
+held-same fs f x e = flat-with (λ (y : CachedFile). bufs_of (all_parts y.extents.extents)) fs f x (ap (λ (es : List Extent). bufs_of (all_parts es)) e)
 
 pub clean_held-same : (fs : List CachedFile) (f : ℕ) (x : CachedFile) → x.extents.extents ≡ extents_in fs f → clean_held (with_file fs f x) ≡ clean_held fs
 unfolding clean_held

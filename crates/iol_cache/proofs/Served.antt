@@ -21,9 +21,9 @@ use Rattle.iol_hold.proofs.Counting.{tally-append, tally_none}
 use Rattle.iol_hold.proofs.Paging.{keeps_pages_same}
 use Rattle.iol_hold.proofs.Reading.{readable_stays}
 use Rattle.iol_cache.specs.declared.files.CachedFile.{CachedFile}
-use Rattle.iol_cache.specs.Cached.{Cached, extents_in, file_in, held}
+use Rattle.iol_cache.specs.Cached.{Cached, extents_in, file_in, held, all_parts}
 use Rattle.iol_cache.specs.Evicting.{GivesUp, Holding, KeepsPlaces}
-use Rattle.iol_cache.specs.Gaps.{IsMade, all_parts, all_put}
+use Rattle.iol_cache.specs.Gaps.{IsMade, all_put}
 use Rattle.iol_cache.specs.Going.{FillsFile, Goes}
 use Rattle.iol_cache.specs.Loading.{AskCounts, Asks, PlacesSome}
 use Rattle.iol_cache.specs.Ranges.{IsCleanSpan}

@@ -27,7 +27,7 @@ use Rattle.iol_hold.proofs.Slicing.{places-append, range_with_len_split}
 use Rattle.iol_arena.specs.Buffers.{IsLive, bytes_of}
 use Rattle.iol_arena.specs.State.{State}
 use Rattle.iol_pool.specs.Pools.{Pool, pool_in}
-use Rattle.iol_cache.specs.Gaps.{all_parts}
+use Rattle.iol_cache.specs.Cached.{all_parts}
 use Rattle.iol_cache.specs.Sharing.{IsCovered, IsCoveredSpan, place_in, place_over, places_of_spans, places_over}
 
 over_from : (e : Extent) (i : ℕ) → is_over e i ≡ true → (e.at ≤ i) × (i < end_of e)

@@ -1,5 +1,5 @@
 -- A cache over a store that goes on; marks that are few.
-use Rattle.std.proofs.Common.{inl, inr, ◌≡◌, ℕ, ◌<◌, ◌≤◌, Bool, true, false, cond, eqb, List, [], ◌∷◌, get_or, Option, Some, None, refl, sym, ap, ◌∙◌, arith, subst}
+use Rattle.std.proofs.Common.{inl, inr, ◌≡◌, ℕ, ◌<◌, ◌≤◌, Bool, true, false, cond, eqb, List, [], ◌∷◌, get_or, Option, Some, None, refl, sym, ap, arith, subst}
 use Rattle.std.specs.List.{All}
 use Rattle.std.proofs.lemmas.Bool.{cases_lt}
 use Rattle.std.proofs.lemmas.List.Elements.{All-head, All-tail, All-nil}
@@ -11,40 +11,27 @@ use Rattle.iol_hold.specs.Places.{byte_len}
 use Rattle.iol_hold.specs.Stored.{Stored}
 use Rattle.iol_hold.specs.Texts.{bufs_of}
 use Rattle.iol_hold.specs.declared.slices.Slice.{Slice}
-use Rattle.iol_hold.proofs.Counting.{tally_none}
-use Rattle.iol_hold.proofs.Paging.{same_closed}
 use Rattle.iol_hold.proofs.Slicing.{byte_len-cons}
 use Rattle.iol_extent.specs.Extents.{Extent, begins_at}
 use Rattle.iol_cache.specs.Marks.{at_page, one_at, AreWithin}
-use Rattle.iol_cache.specs.Cached.{Cached, file_in, extents_in, parts_in, slices_in, held, clean_held}
+use Rattle.iol_cache.specs.Cached.{Cached, parts_in, all_parts, held, clean_held}
 use Rattle.iol_cache.specs.Reading.{AllWithin}
 use Rattle.iol_cache.specs.Sharing.{CountsBelow}
 use Rattle.iol_cache.specs.Sound.{IsSound}
-use Rattle.iol_cache.proofs.Extending.{eq_of, laid_stays}
-use Rattle.iol_cache.proofs.Using.{covers_file, covers_all, covers_live, covers_extent, are_within, mark_is, sum-clean_held}
+use Rattle.iol_cache.proofs.Extending.{eq_of}
+use Rattle.iol_cache.proofs.Using.{covers_all, covers_live, covers_extent, are_within, mark_is, sum-clean_held}
 use Rattle.iol_cache.proofs.Filing.{additive_tally}
+use Rattle.iol_cache.proofs.Staying.{held_still, open_all, open_same, sound_moved}
 
 -- the store goes on, and all that extents hold is still held
 pub sound_on : (s t : Stored) (c : Cached) {xs ys : List BufId} → IsSound s c → Moves s t xs ys → Covers t (held c.files) → SameLists s t → page_count t.arena ≡ page_count s.arena → IsSound t c
-sound_on s t c sound moves covers lists pages = record {
-  files = λ f. (let was = sound.files f in record { apart = was.apart; laid = laid_stays (file_in c.files f).pool (extents_in c.files f) moves.stays (covers_file c.files f covers) was.laid; short = was.short });
-  opened = λ f is. (let o = sound.opened f is in record { is_open = same_closed s t lists (file_in c.files f).pool ∙ o.is_open; ordered = o.ordered });
-  covered = covers;
-  marked = sound.marked;
-  pages = sound.pages ∙ sym pages;
-  ranked = sound.ranked;
-  ready = sound.ready;
-  few_files = sound.few_files;
-  few_orders = sound.few_orders;
-  tidy = moves.tidy sound.tidy;
-  still = moves.still sound.still;
-}
+sound_on s t c sound moves covers lists pages = sound_moved c sound moves covers (open_same s t c.files lists (open_all sound)) pages
 
 pub sound_to : (s t : Stored) (c : Cached) → IsSound s c → Moves s t [] [] → SameLists s t → page_count t.arena ≡ page_count s.arena → IsSound t c
-sound_to s t c sound moves lists pages = sound_on s t c sound moves (record { each = λ b. omega (arith, sound.covered.each b, moves.counts.each b, tally_none b) }) lists pages
+sound_to s t c sound moves lists pages = sound_on s t c sound moves (held_still (held c.files) moves.counts sound.covered) lists pages
 
 -- the pages of extents
-pub all_within : {t : Stored} (es : List Extent) (n : ℕ) → n ≡ page_count t.arena → Covers t (bufs_of (slices_in es)) → AllWithin n es
+pub all_within : {t : Stored} (es : List Extent) (n : ℕ) → n ≡ page_count t.arena → Covers t (bufs_of (all_parts es)) → AllWithin n es
 all_within {t = t} es n is covers = record { each = λ at. pick (begins_at es at) at refl }
   where
     nothing : AreWithin n []

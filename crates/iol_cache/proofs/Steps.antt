@@ -18,8 +18,7 @@ use Rattle.iol_evict.specs.Ranking.{Ranking, hit_at}
 use Rattle.iol_cache.specs.Reading.{SameButRoom, hit_counted, hits_counted}
 use Rattle.iol_cache.proofs.Filing.{order_same, numbered_bounds, numbered_yes}
 use Rattle.iol_cache.specs.Sound.{IsSound}
-use Rattle.iol_cache.proofs.Using.{covers_file}
-use Rattle.iol_cache.proofs.GivenUp.{file_stays}
+use Rattle.iol_cache.proofs.Staying.{files_stay, mirrors_stay}
 
 pub goes_trans : (d : Disk) (xs ys zs : List BufId) (a b c : Holding) → Goes d xs ys a b → Goes d ys zs b c → Goes d xs zs a c
 goes_trans d xs ys zs a b c m n = record {
@@ -88,8 +87,8 @@ goes_store d xs ys s t c sound m covers lists settles pages = record {
   pages = pages;
   count = refl;
   pools = λ f. refl;
-  mirrors = λ honest h. record { each = λ f. (file_stays (file_in c.files f).pool (content d.slots f) (extents_in c.files f) m.stays (covers_file c.files f covers) (sound.files f).laid (h.each f)).mirrors };
-  files = λ honest h. record { each = λ f. (file_stays (file_in c.files f).pool (content d.slots f) (extents_in c.files f) m.stays (covers_file c.files f covers) (sound.files f).laid (h.each f)).bytes };
+  mirrors = λ honest h. mirrors_stay d.slots c.files sound.files m.stays covers h;
+  files = λ honest h. files_stay d.slots c.files sound.files m.stays covers;
 }
 
 pub goes_covers : (d : Disk) (xs ys : List BufId) (a b : Holding) → Goes d xs ys a b → Covers a.store (held a.cache.files ++ xs) → Covers b.store (held b.cache.files ++ ys)

@@ -16,10 +16,9 @@ use Rattle.iol_hold.proofs.Moving.{moves_none}
 use Rattle.iol_hold.proofs.Releasing.{frees_none}
 use Rattle.iol_extent.specs.Extents.{Extent, IsApart, begins_at, cell_at, dirty_in, end_of, is_over, last_end, no_place}
 use Rattle.iol_cache.specs.declared.files.CachedFile.{CachedFile}
-use Rattle.iol_cache.specs.Cached.{Cached, dirty_count, extents_in, file_in, held}
+use Rattle.iol_cache.specs.Cached.{Cached, dirty_count, extents_in, file_in, held, all_parts}
 use Rattle.iol_cache.specs.Contents.{AreStored, Mirrors, byte_in, bytes_in_slot, file_bytes}
 use Rattle.iol_cache.specs.Evicting.{Holding}
-use Rattle.iol_cache.specs.Gaps.{all_parts}
 use Rattle.iol_cache.specs.Sound.{Each, IsLaid, IsSound}
 use Rattle.iol_cache.specs.Syncing.{Cleans, Fails, KeepsBytes, KeepsStored, Syncs, cleaned_at, first_cleaned}
 use Rattle.iol_cache.specs.Writing.{Changes}

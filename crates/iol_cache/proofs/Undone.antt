@@ -18,7 +18,8 @@ use Rattle.iol_hold.proofs.Counting.{bufs-append, tally-append}
 use Rattle.iol_hold.proofs.Reading.{readable_none, readable_joined, readable_taken, readable_rest}
 use Rattle.iol_hold.proofs.Slicing.{places-append}
 use Rattle.iol_hold.specs.Places.{places}
-use Rattle.iol_cache.specs.Gaps.{AllBegin, all_parts, all_put, parts_back, parts_in, without_spans}
+use Rattle.iol_cache.specs.Gaps.{AllBegin, all_put, parts_back, without_spans}
+use Rattle.iol_cache.specs.Cached.{all_parts, parts_in}
 
 same_at : (n : ℕ) → (n == n) ≡ true
 same_at n = grind (arith, nat_tests)

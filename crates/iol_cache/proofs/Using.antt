@@ -20,7 +20,7 @@ use Rattle.iol_extent.specs.Extents.{Extent, begins_at, extent_over}
 use Rattle.iol_extent.proofs.Cover.{extent_begins}
 use Rattle.iol_cache.specs.declared.files.CachedFile.{CachedFile}
 use Rattle.iol_cache.specs.Marks.{Counted, AreWithin, is_held_beside, is_in_use}
-use Rattle.iol_cache.specs.Cached.{file_in, no_file, extents_in, parts_in, parts_at, slices_in, clean_in, clean_parts, held, clean_held}
+use Rattle.iol_cache.specs.Cached.{file_in, no_file, extents_in, parts_in, parts_at, all_parts, clean_in, clean_parts, held, clean_held}
 use Rattle.iol_cache.specs.Sound.{IsFiled, IsUsable}
 use Rattle.iol_cache.specs.Evicting.{in_use, IsCleanAt}
 use Rattle.iol_cache.proofs.Marking.{at_page-live}
@@ -46,20 +46,20 @@ pub clean_numbered : {fs : List CachedFile} {f at : ℕ} → IsCleanAt fs f at �
 clean_numbered {fs = fs} {f = f} {at = at} c = numbered_bounds fs f (begins_numbered fs f at c.extent c.begins)
 
 -- an extent has no more slices than its file, and a file no more than all
-pub sum-extent : (h : List BufId → ℕ) → IsAdditive h → (es : List Extent) (at : ℕ) (e : Extent) → begins_at es at ≡ Some e → h (bufs_of e.parts) ≤ h (bufs_of (slices_in es))
+pub sum-extent : (h : List BufId → ℕ) → IsAdditive h → (es : List Extent) (at : ℕ) (e : Extent) → begins_at es at ≡ Some e → h (bufs_of e.parts) ≤ h (bufs_of (all_parts es))
 sum-extent h a es at e begins =
     let s = sum-flat (additive_bufs a) (λ (x : Extent). x.parts) es in
     let w = sum-without_at (λ (x : Extent). h (bufs_of x.parts)) es at e begins in
     omega (arith, s, w)
 
-pub sum-file : (h : List BufId → ℕ) → IsAdditive h → (fs : List CachedFile) (f : ℕ) → h (bufs_of (slices_in (extents_in fs f))) ≤ h (held fs)
+pub sum-file : (h : List BufId → ℕ) → IsAdditive h → (fs : List CachedFile) (f : ℕ) → h (bufs_of (all_parts (extents_in fs f))) ≤ h (held fs)
 unfolding held
 sum-file h a fs f =
-    let s = sum-flat a (λ (x : CachedFile). bufs_of (slices_in x.extents.extents)) fs in
-    let w = sum-file_in (λ (x : CachedFile). h (bufs_of (slices_in x.extents.extents))) fs f a.none in
+    let s = sum-flat a (λ (x : CachedFile). bufs_of (all_parts x.extents.extents)) fs in
+    let w = sum-file_in (λ (x : CachedFile). h (bufs_of (all_parts x.extents.extents))) fs f a.none in
     omega (arith, s, w)
 
-pub sum-clean : (h : List BufId → ℕ) → IsAdditive h → (es : List Extent) → h (bufs_of (clean_in es)) ≤ h (bufs_of (slices_in es))
+pub sum-clean : (h : List BufId → ℕ) → IsAdditive h → (es : List Extent) → h (bufs_of (clean_in es)) ≤ h (bufs_of (all_parts es))
 sum-clean h a es =
     let s = sum-flat (additive_bufs a) (λ (x : Extent). x.parts) es in
     let t = sum-flat (additive_bufs a) clean_parts es in
@@ -75,9 +75,9 @@ sum-clean h a es =
 pub sum-clean_held : (h : List BufId → ℕ) → IsAdditive h → (fs : List CachedFile) → h (clean_held fs) ≤ h (held fs)
 unfolding held clean_held
 sum-clean_held h a fs =
-    let s = sum-flat a (λ (x : CachedFile). bufs_of (slices_in x.extents.extents)) fs in
+    let s = sum-flat a (λ (x : CachedFile). bufs_of (all_parts x.extents.extents)) fs in
     let t = sum-flat a (λ (x : CachedFile). bufs_of (clean_in x.extents.extents)) fs in
-    let less = sum_by-le-sum_by (λ (x : CachedFile). h (bufs_of (clean_in x.extents.extents))) (λ (x : CachedFile). h (bufs_of (slices_in x.extents.extents))) fs (λ x. sum-clean h a x.extents.extents) in
+    let less = sum_by-le-sum_by (λ (x : CachedFile). h (bufs_of (clean_in x.extents.extents))) (λ (x : CachedFile). h (bufs_of (all_parts x.extents.extents))) fs (λ x. sum-clean h a x.extents.extents) in
     omega (arith, s, t, less)
 
 -- a clean extent's slices are among those of clean extents
@@ -95,10 +95,10 @@ sum-clean_at h a fs f at e begins clean =
 pub covers_all : {s : Stored} (fs : List CachedFile) → Covers s (held fs) → Covers s (clean_held fs)
 covers_all fs c = record { each = λ b. omega (arith, c.each b, sum-clean_held (tally b) (additive_tally b) fs) }
 
-pub covers_file : {s : Stored} (fs : List CachedFile) (f : ℕ) → Covers s (held fs) → Covers s (bufs_of (slices_in (extents_in fs f)))
+pub covers_file : {s : Stored} (fs : List CachedFile) (f : ℕ) → Covers s (held fs) → Covers s (bufs_of (all_parts (extents_in fs f)))
 covers_file fs f c = record { each = λ b. omega (arith, c.each b, sum-file (tally b) (additive_tally b) fs f) }
 
-pub covers_extent : {s : Stored} (es : List Extent) (at : ℕ) (e : Extent) → begins_at es at ≡ Some e → Covers s (bufs_of (slices_in es)) → Covers s (bufs_of e.parts)
+pub covers_extent : {s : Stored} (es : List Extent) (at : ℕ) (e : Extent) → begins_at es at ≡ Some e → Covers s (bufs_of (all_parts es)) → Covers s (bufs_of e.parts)
 covers_extent es at e begins c = record { each = λ b. omega (arith, c.each b, sum-extent (tally b) (additive_tally b) es at e begins) }
 
 pub covers_at : {s : Stored} (fs : List CachedFile) (f at : ℕ) (e : Extent) → begins_at (extents_in fs f) at ≡ Some e → Covers s (held fs) → Covers s (bufs_of e.parts)

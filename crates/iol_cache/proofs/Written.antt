@@ -21,10 +21,10 @@ use Rattle.iol_extent.specs.Extents.{Extent, end_of, extent_over, is_over, last_
 use Rattle.iol_cache.specs.declared.files.CachedFile.{CachedFile}
 use Rattle.iol_cache.specs.Marks.{at_page, Counted, HasMarksLeft}
 use Rattle.iol_cache.specs.Sharing.{CountsBelow}
-use Rattle.iol_cache.specs.Cached.{Cached, file_in, extents_in, clean_in, held, clean_held}
+use Rattle.iol_cache.specs.Cached.{Cached, file_in, extents_in, clean_in, held, clean_held, all_parts}
 use Rattle.iol_cache.specs.Cutting.{CutsLeft, CutsRight}
 use Rattle.iol_cache.specs.Evicting.{Holding}
-use Rattle.iol_cache.specs.Gaps.{all_parts, all_put}
+use Rattle.iol_cache.specs.Gaps.{all_put}
 use Rattle.iol_cache.specs.Replacing.{HaveClean, put_some}
 use Rattle.iol_cache.specs.Sound.{Each, IsLaid, IsSound}
 use Rattle.iol_cache.specs.Writing.{Changes, PutsOver, parts_put}

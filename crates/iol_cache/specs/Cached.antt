@@ -48,8 +48,9 @@ parts_in (Some e) = e.parts
 abbrev pub parts_at : List CachedFile → (f at : ℕ) → List Slice
 parts_at fs f at = parts_in (begins_at (extents_in fs f) at)
 
-abbrev pub slices_in : List Extent → List Slice
-slices_in es = flat_map (λ e. e.parts) es
+-- the slices of all these extents
+abbrev pub all_parts : List Extent → List Slice
+all_parts es = flat_map (λ e. e.parts) es
 
 abbrev pub clean_parts : Extent → List Slice
 clean_parts e = if e.dirty then [] else e.parts
@@ -59,7 +60,7 @@ clean_in es = flat_map clean_parts es
 
 -- the buffers that extents hold, once for each slice
 unfoldable pub held : List CachedFile → List BufId
-held fs = flat_map (λ f. bufs_of (slices_in f.extents.extents)) fs
+held fs = flat_map (λ f. bufs_of (all_parts f.extents.extents)) fs
 
 -- those that clean extents hold
 unfoldable pub clean_held : List CachedFile → List BufId

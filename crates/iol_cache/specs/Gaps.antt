@@ -1,11 +1,12 @@
 -- Gaps of a file that become clean extents.
-use Rattle.std.specs.Prelude.{◌≡◌, ℕ, ◌+◌, ◌-◌, ◌≤◌, false, List, [], ◌∷◌, ◌++◌, length, flat_map, Option, Some, None, IsSome, slice_range, All}
+use Rattle.std.specs.Prelude.{◌≡◌, ℕ, ◌+◌, ◌-◌, ◌≤◌, false, List, [], ◌∷◌, ◌++◌, length, IsSome, slice_range, All}
 use Rattle.std.specs.List.{AllZip}
 use Rattle.iol_core.specs.Text as text
 use Rattle.iol_arena.specs.Adds.{IsNew}
 use Rattle.iol_arena.specs.State.{pages_for}
 use Rattle.iol_arena.specs.Buffers.{Grows}
 use Rattle.iol_back.specs.Disk.{Disk, IfHonest, content}
+use Rattle.iol_cache.specs.Cached.{all_parts, parts_in}
 use Rattle.iol_cache.specs.Loading.{PlacesPages}
 use Rattle.iol_extent.specs.Extents.{Adds, Extent, ExtentMap, IsApart, begins_at, end_of, put_in, without_at}
 use Rattle.iol_extent.specs.declared.spans.Span.{Span}
@@ -24,10 +25,6 @@ gap_pages (g ∷ gs) = pages_for (g.to - g.from) + gap_pages gs
 unfoldable pub all_put : List Extent → List Extent → List Extent
 all_put es [] = es
 all_put es (e ∷ made) = all_put (put_in es e) made
-
--- all slices of these extents
-abbrev pub all_parts : List Extent → List Slice
-all_parts es = flat_map (λ e. e.parts) es
 
 -- slices of one pool
 pub record AreOf (pool : ℕ) (xs : List Slice) : Type 0 where
@@ -94,10 +91,6 @@ pub record FillsGaps (s t : Stored) (old new : ExtentMap) (pool : ℕ) (gaps : L
 abbrev pub without_spans : List Extent → List Span → List Extent
 without_spans es [] = es
 without_spans es (g ∷ gs) = without_at (without_spans es gs) g.from
-
-abbrev pub parts_in : Option Extent → List Slice
-parts_in None = []
-parts_in (Some e) = e.parts
 
 -- their slices
 abbrev pub parts_back : List Extent → List Span → List Slice

@@ -9,6 +9,7 @@ pub mod Users
 pub mod Loading
 pub mod Gaps
 pub mod Serving
+pub mod Paging
 pub mod Sharing
 pub mod Weaving
 pub mod Reading
@@ -21,3 +22,4 @@ pub mod Replacing
 pub mod Writing
 pub mod Overwriting
 pub mod Syncing
+pub mod Laws

@@ -11,6 +11,7 @@ use Rattle.iol_cache.specs.Cached.{Cached, extents_in, file_in}
 use Rattle.iol_cache.specs.Composing.{KeepsOwn, copied_pages}
 use Rattle.iol_cache.specs.Contents.{Mirrors, SameFiles, bytes_in_slot}
 use Rattle.iol_cache.specs.Evicting.{EvictsAll, GivesUp, Holding}
+use Rattle.iol_cache.specs.Loading.{PlacesSome}
 use Rattle.iol_cache.specs.Preparing.{Prepares}
 use Rattle.iol_cache.specs.Reading.{SameButRoom}
 use Rattle.iol_cache.specs.Sharing.{places_over}
@@ -57,10 +58,11 @@ pub record MakesRoom (pool n : ℕ) (old new : Holding) : Type 0 where
   pub victims : EvictsAll pool (Some n) (record { store = old.store; cache = reserved }) new
   pub gives_up : GivesUp (record { store = old.store; cache = reserved }) new
 
--- and nothing else became of the cache
+-- and nothing else became of the cache: what was placed in the pool is gone
 pub record OnlyMakesRoom (pool n : ℕ) (old new : Holding) : Type 0 where
   pub mid : Holding
   pub room : MakesRoom pool n old mid
+  pub placed : PlacesSome mid.store new.store pool
   pub cache : new.cache ≡ mid.cache
 
 -- The bytes of the source and the parts beside them were prepared, and came in the place of what the range met.

@@ -4,7 +4,7 @@ use Rattle.iol_back.specs.Disk.{Disk}
 use Rattle.iol_extent.specs.Extents.{Extent, begins_at, end_of}
 use Rattle.iol_extent.specs.Spans.{Tile}
 use Rattle.iol_extent.specs.declared.spans.Span.{Span}
-use Rattle.iol_hold.specs.Moves.{Moves, Shares}
+use Rattle.iol_hold.specs.Moves.{Moves, SameLists, Shares}
 use Rattle.iol_hold.specs.Places.{places}
 use Rattle.iol_hold.specs.Releases.{FreesOnly}
 use Rattle.iol_hold.specs.Texts.{bufs_of}
@@ -60,6 +60,7 @@ pub record UndoesAfter (f : ℕ) (pins : List Slice) (gaps : List Span) (old new
   pub same : SameButRoom mid.cache full.cache
   pub moves : Moves mid.store full.store [] []
   pub placed : PlacesSome mid.store full.store (file_in old.cache.files f).pool
+  pub lists : SameLists mid.store full.store
   pub cache : new.cache ≡ full.cache
   pub released : Moves full.store new.store (bufs_of pins) []
   pub frees : FreesOnly full.store new.store

@@ -1,7 +1,8 @@
 -- A range of a file that is replaced: which extents stand, their entries in the order and their marks.
-use Rattle.std.specs.Prelude.{◌≡◌, ℕ, ◌+◌, ◌≤◌, ◌==◌, if◌then◌else◌, List, length, slice_index}
-use Rattle.iol_evict.specs.Ranking.{Ranking}
-use Rattle.iol_extent.specs.Extents.{Extent, put_in}
+use Rattle.std.specs.Prelude.{◌≡◌, ℕ, ◌+◌, ◌≤◌, ◌==◌, if◌then◌else◌, List, [], ◌∷◌, length, slice_index}
+use Rattle.std.specs.List.{filter}
+use Rattle.iol_evict.specs.Ranking.{Ranking, entered, left_at, with_one_given_back, with_one_kept}
+use Rattle.iol_extent.specs.Extents.{Extent, meets, put_in}
 use Rattle.iol_hold.specs.Places.{byte_len}
 use Rattle.iol_hold.specs.Texts.{bufs_of}
 use Rattle.iol_cache.specs.Cached.{clean_in, dirty_count, entries_at}
@@ -9,7 +10,7 @@ use Rattle.iol_cache.specs.Marks.{at_page}
 use Rattle.iol_cache.specs.Reading.{RanksFile}
 
 -- The extents of file f changed; the order and the marks follow, as far as they are of the file. L stays.
-pub record Follows (f : ℕ) (es fs : List Extent) (r t : Ranking) (marks new : List ℕ) : Type 0 where
+pub record Reindexes (f : ℕ) (es fs : List Extent) (r t : Ranking) (marks new : List ℕ) : Type 0 where
   pub ranked : RanksFile r f es → RanksFile t f fs
   pub others : (g b : ℕ) → (g ≡ f → ⊥) → entries_at g b t.entries ≡ entries_at g b r.entries
   pub low : t.low ≡ r.low
@@ -28,3 +29,23 @@ pub record IsReady (r : Ranking) (es : List Extent) : Type 0 where
 -- with one extent more, if it has a byte
 abbrev pub put_some : List Extent → Extent → List Extent
 put_some es e = if byte_len e.parts == 0 then es else put_in es e
+
+-- What becomes of an order as extents of file f go and come.
+
+-- a clean one leaves it; of a dirty one the place that was kept is given back
+abbrev pub forgotten : Ranking → (f : ℕ) → Extent → Ranking
+forgotten r f e = if e.dirty then with_one_given_back r else left_at r f e.at
+
+abbrev pub all_forgotten : Ranking → (f : ℕ) → List Extent → Ranking
+all_forgotten r f [] = r
+all_forgotten r f (e ∷ es) = all_forgotten (forgotten r f e) f es
+
+-- a clean one enters; for a dirty one a place is kept; one without bytes does not come in
+abbrev pub remembered : Ranking → (f : ℕ) → Extent → Ranking
+remembered r f e =
+    if byte_len e.parts == 0 then r else if e.dirty then with_one_kept r else entered r f e.at (byte_len e.parts) 1
+
+-- those that a range meets go, and the parts on both sides of it and the new bytes come in
+abbrev pub reordered : Ranking → (f : ℕ) → List Extent → (from to : ℕ) → (left right e : Extent) → Ranking
+reordered r f es from to left right e =
+    remembered (remembered (remembered (all_forgotten r f (filter (meets from to) es)) f left) f right) f e

@@ -4,14 +4,14 @@ use Rattle.iol_back.specs.Disk.{Disk, IfHonest, OthersStay, Succeeds, Tears, con
 use Rattle.iol_core.specs.Text as text
 use Rattle.iol_core.specs.declared.refusals.Refusal.{Refusal}
 use Rattle.iol_core.specs.declared.refusals.Refusal.TheVariants.{Fault}
-use Rattle.iol_evict.specs.Ranking.{Ranking}
+use Rattle.iol_evict.specs.Ranking.{Ranking, entered, with_one_given_back}
 use Rattle.iol_extent.specs.Extents.{Extent, ExtentMap, IsApart, dirty_in, extent_of}
 use Rattle.iol_hold.specs.Places.{byte_len}
 use Rattle.iol_hold.specs.Stored.{Stored}
 use Rattle.iol_hold.specs.Texts.{text_of}
 use Rattle.iol_cache.specs.Cached.{Cached, extents_in, file_in, order_in, with_file, with_order}
 use Rattle.iol_cache.specs.Contents.{Mirrors, bytes_in_slot}
-use Rattle.iol_cache.specs.Replacing.{Follows}
+use Rattle.iol_cache.specs.Replacing.{Reindexes}
 use Rattle.iol_cache.specs.declared.syncing.Flushed.{Flushed}
 use Rattle.iol_cache.specs.declared.syncing.Flushed.TheVariants.{Nothing, Wrote}
 
@@ -78,7 +78,7 @@ KeepsStored s old new d e = IfHonest d (Mirrors s d.slots old.files → Mirrors 
 
 -- The first dirty extent of a file is written back.
 
--- it was written, is clean, and stands in the order
+-- it was written, is clean, and stands in the order, where it came in with the height of a new entry
 pub record Cleans (s : Stored) (f : ℕ) (old new : Cached) (d e : Disk) : Type 0 where
   pub extent : Extent
   pub first : dirty_in (extents_in old.files f) ≡ Some extent
@@ -88,7 +88,8 @@ pub record Cleans (s : Stored) (f : ℕ) (old new : Cached) (d e : Disk) : Type 
   pub apart : IsApart 0 extents.extents
   pub files : new.files ≡ with_file old.files f (record { pool = (file_in old.files f).pool; extents = extents })
   pub orders : new.orders ≡ with_order old.orders (file_in old.files f).pool order
-  pub follows : Follows f (extents_in old.files f) extents.extents (order_in old.orders (file_in old.files f).pool) order old.marks new.marks
+  pub ranks : order ≡ entered (with_one_given_back (order_in old.orders (file_in old.files f).pool)) f extent.at (byte_len extent.parts) 1
+  pub follows : Reindexes f (extents_in old.files f) extents.extents (order_in old.orders (file_in old.files f).pool) order old.marks new.marks
   pub honest : e.honest ≡ d.honest
   pub counts : Succeeds d e
   pub others : IfHonest d (OthersStay f d.slots e.slots)
@@ -114,6 +115,24 @@ abbrev pub StoresFirst : (s : Stored) (f : ℕ) (old new : Cached) (d e : Disk) 
 StoresFirst s f old new d e (Ok true) = Cleans s f old new d e
 StoresFirst s f old new d e (Ok false) = IsClean f old new d e
 StoresFirst s f old new d e (Err x) = Fails f old new d e × (x ≡ Fault f)
+
+-- n extents of a file were written back, one after another
+abbrev pub AreCleaned : (s : Stored) (f n : ℕ) (old new : Cached) (d e : Disk) → Type 0
+AreCleaned s f zero old new d e = (new ≡ old) × (e ≡ d)
+AreCleaned s f (suc n) old new d e = (mid : Cached) × (m : Disk) × AreCleaned s f n old mid d m × Cleans s f mid new m e
+
+-- none is left, or the store failed
+abbrev pub EndsSync : {A : Type 0} → (f : ℕ) (old new : Cached) (d e : Disk) → Result A Refusal → Type 0
+EndsSync f old new d e (Ok x) = IsClean f old new d e
+EndsSync f old new d e (Err x) = Fails f old new d e × (x ≡ Fault f)
+
+-- The dirty extents of a file were written back, one after another, until none was left or the store failed.
+pub record WritesDirty {A : Type 0} (s : Stored) (f : ℕ) (old new : Cached) (d e : Disk) (r : Result A Refusal) : Type 0 where
+  pub count : ℕ
+  pub mid : Cached
+  pub disk : Disk
+  pub each : AreCleaned s f count old mid d disk
+  pub ends : EndsSync f mid new disk e r
 
 -- Dirty extents of a file are written back, in the order of offsets.
 

@@ -7,10 +7,9 @@ use Rattle.iol_hold.specs.Texts.{bufs_of}
 use Rattle.iol_hold.specs.declared.slices.Slice.{Slice}
 use Rattle.iol_evict.specs.Ranking.{Ranking}
 use Rattle.iol_extent.specs.Extents.{Adds, Extent, ExtentMap, IsApart, unmet}
-use Rattle.iol_cache.specs.Cached.{extents_in, file_in, order_in, with_file, with_order}
+use Rattle.iol_cache.specs.Cached.{extents_in, file_in, order_in, with_file, with_order, all_parts}
 use Rattle.iol_cache.specs.Evicting.{Holding}
-use Rattle.iol_cache.specs.Gaps.{all_parts}
-use Rattle.iol_cache.specs.Replacing.{Follows, put_some}
+use Rattle.iol_cache.specs.Replacing.{Reindexes, put_some, reordered}
 
 -- the slices of the parts on both sides of a range, and of the new bytes
 abbrev pub parts_put : (left right e : Extent) → List Slice
@@ -25,7 +24,8 @@ pub record PutsOver (f from to : ℕ) (left right e : Extent) (old new : Holding
   pub apart : IsApart 0 extents.extents
   pub files : new.cache.files ≡ with_file old.cache.files f (record { pool = (file_in old.cache.files f).pool; extents = extents })
   pub orders : new.cache.orders ≡ with_order old.cache.orders (file_in old.cache.files f).pool order
-  pub follows : Follows f (extents_in old.cache.files f) extents.extents (order_in old.cache.orders (file_in old.cache.files f).pool) order old.cache.marks new.cache.marks
+  pub ranks : order ≡ reordered (order_in old.cache.orders (file_in old.cache.files f).pool) f (extents_in old.cache.files f) from to left right e
+  pub follows : Reindexes f (extents_in old.cache.files f) extents.extents (order_in old.cache.orders (file_in old.cache.files f).pool) order old.cache.marks new.cache.marks
   pub moves : Moves old.store new.store (bufs_of (all_parts (extents_in old.cache.files f) ++ parts_put left right e)) (bufs_of (all_parts extents.extents))
   pub frees : FreesOnly old.store new.store
   pub lists : SameLists old.store new.store
@@ -38,6 +38,6 @@ pub record Changes (f : ℕ) (own : List Slice) (old new : Holding) : Type 0 whe
   pub apart : IsApart 0 extents.extents
   pub files : new.cache.files ≡ with_file old.cache.files f (record { pool = (file_in old.cache.files f).pool; extents = extents })
   pub orders : new.cache.orders ≡ with_order old.cache.orders (file_in old.cache.files f).pool order
-  pub follows : Follows f (extents_in old.cache.files f) extents.extents (order_in old.cache.orders (file_in old.cache.files f).pool) order old.cache.marks new.cache.marks
+  pub follows : Reindexes f (extents_in old.cache.files f) extents.extents (order_in old.cache.orders (file_in old.cache.files f).pool) order old.cache.marks new.cache.marks
   pub moves : Moves old.store new.store (bufs_of (all_parts (extents_in old.cache.files f) ++ own)) (bufs_of (all_parts extents.extents))
   pub frees : FreesOnly old.store new.store

@@ -43,6 +43,7 @@ impl Cache {
     /// A cache of no files, over a store of so many pages.
     pub fn new(alloc: Global, pages: usize) -> Result<Cache, AllocError>
         ensures files { IfOk result (λ c. (cached_of c).files ≡ []) }
+        ensures orders { IfOk result (λ c. (cached_of c).orders ≡ []) }
         ensures sound { IfOk result (λ c. (s : Stored) → page_count s.arena ≡ pages → IsTidy s →
             IsStill s.arena → IsSound s (cached_of c)) }
     {
@@ -60,6 +61,8 @@ impl Cache {
         ensures added { let old = (cached_of self.old).files in
             OnOk result ((cached_of self.new).files ≡ old ++ new_file pool ∷ []) }
         ensures err { OnErr result ((cached_of self.new).files ≡ (cached_of self.old).files) }
+        ensures orders { (p : ℕ) → order_in (cached_of self.new).orders p ≡
+            order_in (cached_of self.old).orders p }
         ensures sound { (s : Stored) → IsSound s (cached_of self.old) →
             (pool_in s.pools pool).closed ≡ false → IsSound s (cached_of self.new) }
     {

@@ -9,11 +9,12 @@ ghost use Rattle.iol_hold.specs.Stored.{AllSettled};
 ghost use Rattle.iol_hold.specs.Texts.{bufs_of, AllReadable};
 ghost use Rattle.iol_extent.specs.Extents.{IsApart};
 ghost use Rattle.iol_extent.specs.Spans.{AreInOrder, IsGapSpan};
-ghost use Rattle.iol_cache.specs.Gaps.{all_parts, gap_pages};
+ghost use Rattle.iol_cache.specs.Gaps.{gap_pages};
 ghost use Rattle.iol_cache.specs.Loading.{Asks, PlacesSome};
 ghost use Rattle.iol_cache.specs.Reading.{FillsRange};
 ghost use Rattle.iol_cache.specs.Sharing.{CountsBelow};
 ghost use Rattle.iol_cache.specs.Weaving.{len_beside};
+ghost use Rattle.iol_cache.specs.Cached.{all_parts};
 
 use crate::gaps::{fill_gaps, take_back};
 use crate::weaving::weave;

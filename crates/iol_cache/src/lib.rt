@@ -22,6 +22,7 @@
 //!   there. The file then has the bytes that the machine gives it (`written`), and every other file its own (`others`).
 //! - `sync` writes the dirty extents of a file back, `flush_one` the dirty extent of least file and offset. They want no
 //!   memory, change no file's bytes (`files`), and are refused just where the store fails.
+//! - `laws`: whether a read has room is one question, in whichever slices its hits are held.
 //!
 //! ```text
 //! let file = cache.add_file(alloc, pool)?;
@@ -36,6 +37,7 @@ mod evicting;
 mod files;
 mod filling;
 mod gaps;
+pub mod laws;
 mod loading;
 mod marks;
 mod preparing;

@@ -1,7 +1,7 @@
 //! What a write puts in place of a range: its bytes in the file's pool, and the parts of extents on both sides.
 ghost use Rattle.std.specs.Prelude.{◌≡◌, ℕ, ◌+◌, ◌<◌, ◌≤◌, ◌^◌, [], false, length, Err, IfOk, IfErr, OnErr};
 ghost use Rattle.iol_cache.specs.Composing.{copied_pages};
-ghost use Rattle.iol_cache.specs.Gaps.{all_parts};
+ghost use Rattle.iol_cache.specs.Cached.{all_parts};
 ghost use Rattle.iol_cache.specs.Loading.{PlacesSome};
 ghost use Rattle.iol_cache.specs.Preparing.{Prepares};
 ghost use Rattle.iol_cache.specs.Sharing.{CountsBelow};

@@ -1,13 +1,13 @@
 //! A range of a file that is replaced: what it meets goes, and its parts and the new bytes come in. No memory is taken.
-ghost use Rattle.std.specs.Prelude.{◌≡◌, ℕ, ◌+◌, ◌-◌, ◌<◌, ◌≤◌, ◌^◌, ◌++◌, [], length, max, IsSome};
+ghost use Rattle.std.specs.Prelude.{◌≡◌, ℕ, ◌+◌, ◌-◌, ◌<◌, ◌≤◌, ◌^◌, ◌++◌, [], length, max, IfSome, IsSome};
+ghost use Rattle.std.specs.List.{filter};
 ghost use Rattle.iol_arena.specs.State.{page_count};
-ghost use Rattle.iol_cache.specs.Cached.{parts_in};
+ghost use Rattle.iol_cache.specs.Cached.{parts_in, all_parts};
 ghost use Rattle.iol_cache.specs.Cutting.{CutsLeft, CutsRight};
-ghost use Rattle.iol_cache.specs.Gaps.{all_parts};
 ghost use Rattle.iol_cache.specs.Marks.{AreWithin, HasMarksLeft};
 ghost use Rattle.iol_cache.specs.Reading.{RanksFile};
-ghost use Rattle.iol_cache.specs.Replacing.{Follows, HaveClean, IsReady, put_some};
-ghost use Rattle.iol_extent.specs.Extents.{Adds, IsApart, IsGap, begins_at, end_of, last_end, unmet, without_at};
+ghost use Rattle.iol_cache.specs.Replacing.{HaveClean, IsReady, Reindexes, all_forgotten, forgotten, put_some, remembered, reordered};
+ghost use Rattle.iol_extent.specs.Extents.{Adds, IsApart, IsGap, begins_at, end_of, last_end, meets, unmet, without_at};
 ghost use Rattle.iol_hold.specs.Moves.{Covers, Moves, SameLists};
 ghost use Rattle.iol_hold.specs.Places.{byte_len};
 ghost use Rattle.iol_hold.specs.Releases.{FreesOnly};
@@ -32,7 +32,9 @@ fn forget(order: &mut Order, marks: &mut CleanHolds, extents: &Extents, file: Fi
     requires within { AreWithin (length marks.old) (parts_in (begins_at extents.now.extents at)) }
     requires marked { HaveClean marks.old extents.now.extents }
     ensures follows { let es = extents.now.extents in
-        Follows file es (without_at es at) order.old order.new marks.old marks.new }
+        Reindexes file es (without_at es at) order.old order.new marks.old marks.new }
+    ensures order { IfSome (begins_at extents.now.extents at)
+        (λ e. order.new ≡ forgotten order.old file e) }
     ensures room { order.old.room ≤ order.new.room }
 {
     let Some((_begin, agg, dirty)) = extents.over(at) else {
@@ -65,8 +67,10 @@ fn take_out(
     ensures extents { extents.new.extents ≡ without_at extents.old.extents at }
     ensures room { extents.old.room ≤ extents.new.room }
     ensures apart { IsApart 0 extents.new.extents }
-    ensures follows { Follows file extents.old.extents extents.new.extents order.old order.new
+    ensures follows { Reindexes file extents.old.extents extents.new.extents order.old order.new
         marks.old marks.new }
+    ensures order { IfSome (begins_at extents.old.extents at)
+        (λ e. order.new ≡ forgotten order.old file e) }
     ensures order_room { order.old.room ≤ order.new.room }
     ensures moves { Moves store.old store.new (bufs_of (all_parts extents.old.extents))
         (bufs_of (all_parts extents.new.extents)) }
@@ -100,8 +104,10 @@ fn clear_range(
     ensures extents { extents.new.extents ≡ unmet extents.old.extents from to }
     ensures room { extents.old.room ≤ extents.new.room }
     ensures apart { IsApart 0 extents.new.extents }
-    ensures follows { Follows file extents.old.extents extents.new.extents order.old order.new
+    ensures follows { Reindexes file extents.old.extents extents.new.extents order.old order.new
         marks.old marks.new }
+    ensures order { order.new ≡
+        all_forgotten order.old file (filter (meets from to) extents.old.extents) }
     ensures order_room { order.old.room ≤ order.new.room }
     ensures moves { Moves store.old store.new (bufs_of (all_parts extents.old.extents))
         (bufs_of (all_parts extents.new.extents)) }
@@ -136,8 +142,9 @@ pub(crate) fn put_edge(
     ensures ends { let old = last_end extents.old.extents in
         0 < byte_len edge.parts → last_end extents.new.extents ≡ max (end_of edge) old }
     ensures room { extents.old.room ≤ extents.new.room + 1 }
+    ensures order { order.new ≡ remembered order.old file edge }
     ensures order_room { order.old.room ≤ order.new.room + 1 }
-    ensures follows { Follows file extents.old.extents extents.new.extents order.old order.new
+    ensures follows { Reindexes file extents.old.extents extents.new.extents order.old order.new
         marks.old marks.new }
 {
     let Edge { at, agg, dirty } = edge;
@@ -188,8 +195,10 @@ pub(crate) fn replace_range(
         extents.new.extents ≡ put_some (put_some (put_some others left) right) new }
     ensures adds { Adds extents.old.extents new extents.new.extents }
     ensures apart { IsApart 0 extents.new.extents }
-    ensures follows { Follows file extents.old.extents extents.new.extents order.old order.new
+    ensures follows { Reindexes file extents.old.extents extents.new.extents order.old order.new
         marks.old marks.new }
+    ensures order { order.new ≡ reordered order.old file extents.old.extents
+        range.from range.to left right new }
     ensures moves { Moves store.old store.new (bufs_of (all_parts extents.old.extents ++
         (left.parts ++ (right.parts ++ new.parts)))) (bufs_of (all_parts extents.new.extents)) }
     ensures frees { FreesOnly store.old store.new }

@@ -14,6 +14,7 @@ ghost use Rattle.iol_cache.specs.Cache.{cached_of, holding};
 ghost use Rattle.iol_cache.specs.Gaps.{AreOf, gap_pages};
 ghost use Rattle.iol_cache.specs.Going.{Goes, HasRoom, LacksRoom};
 ghost use Rattle.iol_cache.specs.Loading.{Asks};
+ghost use Rattle.iol_cache.specs.Paging.{FillsLowest};
 ghost use Rattle.iol_cache.specs.Pinned.{pinned_beside};
 ghost use Rattle.iol_cache.specs.Ranges.{FillsAfter, UndoesAfter};
 ghost use Rattle.iol_cache.specs.Serving.{IsBacked, IsEnd, LeavesRange, NoRoomToRead, ReadsFile, ReadsRange, RefusesRead, RoomToRead, TellsFault, TellsRoom, bytes_read};
@@ -170,6 +171,8 @@ impl Cache {
             (holding store.old self.old) (holding store.new self.new)) }
         ensures gone { OnErr result (Goes (B.disk backing.old) [] []
             (holding store.old self.old) (holding store.new self.new)) }
+        ensures pages { let p = (file_in (cached_of self.old).files file).pool in
+            FillsLowest p store.old store.new }
         ensures sound { IsSound store.new (cached_of self.new) }
 
         // Refusals.

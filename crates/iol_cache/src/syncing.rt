@@ -1,5 +1,5 @@
 //! Writing back of dirty extents.
-ghost use Rattle.std.specs.Prelude.{◌≡◌, ℕ, ◌+◌, ◌<◌, ◌≤◌, ◌^◌, length, true, None, IfErr, OnErr, OnOk};
+ghost use Rattle.std.specs.Prelude.{◌≡◌, ℕ, ◌+◌, ◌<◌, ◌≤◌, ◌^◌, length, true, None, IfErr, IfSome, OnErr, OnOk};
 ghost use Rattle.iol_core.specs.Text as text;
 ghost use Rattle.iol_core.specs.Numbered.{is_numbered};
 ghost use Rattle.iol_cache.specs.Cache.{cached_of};
@@ -8,11 +8,12 @@ ghost use Rattle.iol_cache.specs.Sharing.{CountsBelow};
 ghost use Rattle.iol_cache.specs.Sound.{IsSound};
 ghost use Rattle.iol_cache.specs.Marks.{AreWithin, HasMarksLeft};
 ghost use Rattle.iol_cache.specs.Reading.{RanksFile};
-ghost use Rattle.iol_cache.specs.Replacing.{Follows, IsReady};
-ghost use Rattle.iol_cache.specs.Syncing.{IsFirstDirty, Flushes, KeepsBytes, KeepsStored, StoresFirst, Syncs, WritesBack, cleaned_at};
+ghost use Rattle.iol_cache.specs.Replacing.{Reindexes, IsReady};
+ghost use Rattle.iol_cache.specs.Syncing.{IsFirstDirty, Flushes, KeepsBytes, KeepsStored, StoresFirst, Syncs, WritesBack, WritesDirty, cleaned_at};
 ghost use Rattle.iol_back.specs.Disk.{raised};
 ghost use Rattle.iol_core.specs.Meaning.{FaultOf};
 ghost use Rattle.iol_extent.specs.Extents.{IsApart, begins_at, dirty_in, last_end};
+ghost use Rattle.iol_evict.specs.Ranking.{entered, with_one_given_back};
 ghost use Rattle.iol_hold.specs.Places.{byte_len};
 ghost use Rattle.iol_hold.specs.Texts.{AllReadable, text_of};
 
@@ -74,8 +75,10 @@ fn settle(order: &mut Order, marks: &mut CleanHolds, extents: &mut Extents, file
     requires few { HasMarksLeft marks.old (parts_in (begins_at extents.old.extents at)) }
     ensures extents { extents.new.extents ≡ cleaned_at extents.old.extents at }
     ensures apart { IsApart 0 extents.new.extents }
-    ensures follows { Follows file extents.old.extents extents.new.extents order.old order.new
+    ensures follows { Reindexes file extents.old.extents extents.new.extents order.old order.new
         marks.old marks.new }
+    ensures order { IfSome (dirty_in extents.old.extents) (λ e. order.new ≡
+        entered (with_one_given_back order.old) file e.at (byte_len e.parts) 1) }
 {
     let agg = extents.remove(at);
     order.give_back();
@@ -138,6 +141,8 @@ impl Cache {
         requires file { is_numbered (cached_of self.old).files file ≡ true }
         requires few { CountsBelow store.now (2 ^ 61) }
         // Which extents are clean then.
+        ensures writes { WritesDirty store.now file (cached_of self.old) (cached_of self.new)
+            (B.disk backing.old) (B.disk backing.new) result }
         ensures clean { let new = (cached_of self.new).files in
             OnOk result (dirty_in (extents_in new file) ≡ None) }
         ensures syncs { Syncs store.now file (cached_of self.old) (cached_of self.new)

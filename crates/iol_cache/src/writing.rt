@@ -14,6 +14,7 @@ ghost use Rattle.iol_cache.specs.Composing.{copied_pages};
 ghost use Rattle.iol_cache.specs.Cutting.{CutsLeft, CutsRight};
 ghost use Rattle.iol_cache.specs.Loading.{PlacesSome};
 ghost use Rattle.iol_cache.specs.Overwriting.{IsWritten, KeepsFiles, KeepsMirrors, KeepsOthers, LiesDirty, MakesRoom, OnlyMakesRoom, Overwrites, WritesFile};
+ghost use Rattle.iol_cache.specs.Paging.{FillsLowest};
 ghost use Rattle.iol_cache.specs.Pinned.{pinned_beside};
 ghost use Rattle.iol_cache.specs.Sharing.{CountsBelow};
 ghost use Rattle.iol_cache.specs.Sound.{IsLaid, IsSound};
@@ -216,9 +217,11 @@ impl Cache {
             pinned_beside store.old clean p + copied_pages p source.now }
         ensures late { IfErr result (WantOfRoom (file_in (cached_of self.old).files file).pool) }
 
-        // Holds come and go with the extents alone, and live buffers keep their bytes.
+        // Holds come and go with the extents alone, live buffers keep their bytes, and pages are filled as in a read.
         ensures moves { Moves store.old store.new (held (cached_of self.old).files)
             (held (cached_of self.new).files) }
+        ensures pages { let p = (file_in (cached_of self.old).files file).pool in
+            FillsLowest p store.old store.new }
         ensures lists { SameLists store.old store.new }
         ensures settles { AllSettled store.old → AllSettled store.new }
         ensures sound { IsSound store.new (cached_of self.new) }

@@ -1,5 +1,6 @@
 pub mod Examples
 pub mod Lookups
+pub mod Places
 pub mod Passing
 pub mod Kept
 pub mod Access

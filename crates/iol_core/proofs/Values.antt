@@ -1,6 +1,6 @@
 -- Every call leaves the values of aggregates as they are, but of those that it gives up.
 use Rattle.std.proofs.Common.{inl, inr, ◌≡◌, ◌≢◌, ℕ, ◌+◌, ◌==◌, List, [], ◌∷◌, ◌++◌, length, take, drop, ap, ◌∙◌, refl, sym, subst, arith, Option, Some, None, true, false, Bool}
-use Rattle.std.specs.Prelude.{fold, ◌&&◌, ◌||◌, slice_set, unwrap_or, if◌then◌else◌, Result, Ok, Err}
+use Rattle.std.specs.Prelude.{fold, ◌&&◌, ◌||◌, slice_set, option_map, unwrap_or, if◌then◌else◌, Result, Ok, Err}
 use Rattle.std.specs.List.{list_any}
 use Rattle.std.specs.Option.{option_map_or}
 use Rattle.std.proofs.lemmas.Bool.Decides.{nat_tests}
@@ -14,13 +14,15 @@ use Rattle.iol_core.specs.Calls.Domains.{domain_new, exit}
 use Rattle.iol_core.specs.Calls.Pools.{pool_create, pool_close}
 use Rattle.iol_core.specs.Calls.Aggregates as aggs
 use Rattle.iol_core.specs.Calls.Descriptors as fds
-use Rattle.iol_core.specs.Calls.Outside.{conn_new, closed_by}
+use Rattle.iol_core.specs.Calls.Files as files
+use Rattle.iol_core.specs.Calls.Outside.{conn_new, closed_by, flush, drop_clean}
 use Rattle.iol_core.specs.Calls.Reading as reading
 use Rattle.iol_core.specs.Calls.Writing as writing
 use Rattle.iol_core.specs.Run.{called, meaning, StepsTo, Run, outcome}
 use Rattle.iol_core.specs.declared.refusals.Refusal.{Refusal}
 use Rattle.iol_core.specs.declared.descriptors.Descriptor.{Descriptor}
 use Rattle.iol_core.specs.declared.descriptors.Descriptor.TheVariants as on
+use Rattle.iol_core.specs.declared.descriptors.Mode.{Mode}
 use Rattle.iol_core.specs.declared.events.Call.{Call}
 use Rattle.iol_core.specs.declared.events.Call.TheVariants as call
 use Rattle.iol_core.specs.declared.events.Event.{Event}
@@ -148,6 +150,44 @@ values_written s by fd (Some (on.ReadEnd p)) w = λ d a x is kept. is
 values_written s by fd (Some (on.WriteEnd p)) w = values_pipe s p (record (pipe_at s p) { queue = (pipe_at s p).queue ++ w })
 values_written s by fd (Some (on.Connection c)) w = values_conn s c (record (conn_at s c) { outgoing = (conn_at s c).outgoing ++ w })
 
+values_iol_write : (s : State) (by fd a : ℕ) → KeepsValues s (writing.iol_write s by fd a).after nothing
+values_iol_write s by fd a =
+    let to : Option Descriptor = descriptor s by fd in
+    values_written s by fd to (take (writing.fitting s to (length (text s by a))) (text s by a))
+
+values_read : (s : State) (by fd n : ℕ) → KeepsValues s (reading.read s by fd n).after nothing
+values_read s by fd n = values_read_on s by fd (descriptor s by fd) (length (reading.read_text s by (descriptor s by fd) n))
+
+values_write : (s : State) (by fd : ℕ) (bytes : List ℕ) → KeepsValues s (writing.write s by fd bytes).after nothing
+values_write s by fd bytes =
+    let to : Option Descriptor = descriptor s by fd in
+    values_written s by fd to (labelled (writing.pool_for s by to) (take (writing.fitting s to (length bytes)) bytes))
+
+-- Files.
+
+values_file_new : (s : State) (by : ℕ) (name : List ℕ) (p : ℕ) → KeepsValues s (files.file_new s by name p).after nothing
+values_file_new s by name p = values_same s (files.file_new s by name p).after refl
+
+values_open_file : (s : State) (by : ℕ) (name : List ℕ) (mode : Mode) → KeepsValues s (files.open_file s by name mode).after nothing
+values_open_file s by name mode = values_fds s by (placed (domain s by).fds (fds.next_fd s by) (on.File (unwrap_or (files.file_called s name) 0) 0 mode))
+
+values_seek : (s : State) (by fd at : ℕ) → KeepsValues s (files.seek s by fd at).after nothing
+values_seek s by fd at = values_fds s by (slice_set (domain s by).fds fd (option_map (λ x. on.File x.0 at x.2) (files.open_on (descriptor s by fd))))
+
+values_file_length : (s : State) (by fd : ℕ) → KeepsValues s (files.file_length s by fd).after nothing
+values_file_length s by fd = values_same s s refl
+
+values_fsync : (s : State) (by fd : ℕ) → KeepsValues s (files.fsync s by fd).after nothing
+values_fsync s by fd = values_same s s refl
+
+values_flush : (s : State) → KeepsValues s (flush s).after nothing
+values_flush s = values_same s s refl
+
+values_drop_clean : (s : State) → KeepsValues s (drop_clean s).after nothing
+values_drop_clean s = values_same s s refl
+
+-- Pipes.
+
 values_new_pipe : (s : State) (by : ℕ) → KeepsValues s (fds.pipe s by).after nothing
 values_new_pipe s by =
     let ends = fds.with_read_end (domain s by).fds (lowest s.pipes) in
@@ -246,9 +286,7 @@ values_called s by call.Pipe = values_new_pipe s by
 values_called s by (call.GiveFd fd to) = values_give_fd s by fd to
 values_called s by (call.Close fd) = values_close s by fd
 values_called s by (call.IolRead fd n) = values_iol_read s by fd n
-values_called s by (call.IolWrite fd a) =
-    let to : Option Descriptor = descriptor s by fd in
-    values_written s by fd to (take (writing.fitting s to (length (text s by a))) (text s by a))
+values_called s by (call.IolWrite fd a) = values_iol_write s by fd a
 values_called s by call.Accept = values_accept s by
 
 -- After each step, and after a run in which nobody gives it up.

@@ -1,5 +1,5 @@
 //! Values under rising numbers, found by a binary search.
-ghost use Rattle.std.specs.Prelude.{◌≡◌, ◌≢◌, ◌+◌, ◌-◌, ◌<◌, ◌≤◌, ◌^◌, length, [], ◌∷◌, ◌++◌, Some, None, IsSome, OnOk, ◌↔◌, filter, is_some, slice_set, vec_len, vec_capacity};
+ghost use Rattle.std.specs.Prelude.{◌≡◌, ◌≢◌, ◌+◌, ◌-◌, ◌<◌, ◌≤◌, ◌^◌, length, [], ◌∷◌, ◌++◌, Some, None, IsSome, OnOk, OnErr, ◌↔◌, filter, is_some, slice_set, vec_len, vec_capacity};
 ghost use Rattle.std.specs.Option.{option_copied, option_to_list};
 ghost use Rattle.std.specs.Borrow.{sem};
 ghost use Rattle.iol_core.specs.Numbered.{lookup, without};
@@ -166,19 +166,25 @@ impl<A: Drop> Entries<A> {
     fn compact(&mut self)
         ensures entries { self.new.entries ≡ self.old.entries }
         ensures next { self.new.next ≡ self.old.next }
+        ensures room { self.old.room ≤ self.new.room }
     {
         close_holes(&mut self.list);
         self.holes = 0;
     }
 
-    /// Reserves room for so many more. Where half of the list is holes, it need not grow.
+    /// Reserves room for so many more. Where there is so much room, it is not refused; where half of the list is holes, it
+    /// need not grow.
     pub fn reserve(&mut self, count: usize) -> Result<(), AllocError>
         ensures entries { self.new.entries ≡ self.old.entries }
         ensures next { self.new.next ≡ self.old.next }
         ensures room { OnOk result (count ≤ self.new.room) }
+        ensures no_less { self.old.room ≤ self.new.room }
+        ensures needed { OnErr result (self.old.room < count) }
     {
-        let room = self.list.capacity() - self.list.len();
-        if room < count && self.list.len() - self.holes <= self.holes {
+        if count <= self.list.capacity() - self.list.len() {
+            return Ok(());
+        }
+        if self.list.len() - self.holes <= self.holes {
             self.compact();
         }
         self.list.reserve(count)?;

@@ -12,9 +12,9 @@ use std::marker::Model;
 
 /// Parts of files, in the order in which they are evicted.
 ///
-/// A contract sees L, the entries in the order of file and place, the room: how many more may enter without memory, and
-/// how many places are kept beside it. No call but `reserve` wants memory, and none walks the entries, but `least` those in use that go first, and `leave`
-/// once L is past 2^62.
+/// A contract sees L, the entries in the order of file and place, the room: how many more may enter without memory,
+/// and how many places are kept beside it. No call but `reserve` wants memory, and none walks the entries, but `least`
+/// those in use that go first, and `leave` once L is past 2^62.
 #[derive(Drop)]
 pub struct Order {
     entries: Entries,

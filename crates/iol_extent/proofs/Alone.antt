@@ -17,7 +17,7 @@ some_over (x ∷ es) (suc k) i e h is low high = pick (is_over x i) (some_over e
     pick true s = refl
     pick false s = s
 
-hit_over : (es : List Extent) (to i : ℕ) (ss : List Span) → All (IsHit es to) ss → LiesIn i ss → IsSome (cover es i)
+pub hit_over : (es : List Extent) (to i : ℕ) (ss : List Span) → All (IsHit es to) ss → LiesIn i ss → IsSome (cover es i)
 hit_over es to i [] all lies = absurd lies
 hit_over es to i (s ∷ ss) all lies = elim lies [
   | inl here ↦ (let hit = All-head (IsHit es to) s ss all in some_over es hit.index i hit.extent hit.within hit.is (omega (arith, hit.begins, here.0)) (omega (arith, hit.ends, here.1)))
@@ -28,14 +28,14 @@ none_some : (o : Option Cell) → o ≡ None → IsSome o → ⊥
 none_some None e h = cc
 none_some (Some c) e h = cc
 
-lies_above : (low high i : ℕ) (gs : List Span) → AreInOrder low high gs → LiesIn i gs → low ≤ i
+pub lies_above : (low high i : ℕ) (gs : List Span) → AreInOrder low high gs → LiesIn i gs → low ≤ i
 lies_above low high i [] order lies = absurd lies
 lies_above low high i (g ∷ gs) order lies = elim lies [
   | inl here ↦ omega (arith, here.0, order.0)
   | inr later ↦ omega (arith, lies_above g.to high i gs order.2 later, order.0, order.1)
 ]
 
-ends_high : (low high : ℕ) (gs : List Span) → AreInOrder low high gs → low ≤ high
+pub ends_high : (low high : ℕ) (gs : List Span) → AreInOrder low high gs → low ≤ high
 ends_high low high [] order = order
 ends_high low high (g ∷ gs) order = omega (arith, ends_high g.to high gs order.2, order.0, order.1)
 

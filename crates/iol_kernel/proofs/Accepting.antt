@@ -10,8 +10,6 @@ use Rattle.iol_core.specs.Calls.Descriptors as fds
 use Rattle.iol_core.specs.declared.descriptors.Descriptor.{Descriptor}
 use Rattle.iol_core.specs.declared.descriptors.Descriptor.TheVariants as on
 use Rattle.iol_pool.specs.Pools.{names_in}
-use Rattle.iol_hold.specs.Layout.{read}
-use Rattle.iol_hold.specs.Texts.{byte_at}
 use Rattle.iol_hold.specs.declared.slices.Slice.{Slice}
 use Rattle.iol_desc.specs.Listed.{Rises}
 use Rattle.iol_desc.specs.Tables.{domain_in, with_fds_in, with_next_fd}
@@ -20,7 +18,8 @@ use Rattle.iol_sock.specs.Table.{conn_in}
 use Rattle.iol_sock.proofs.Meaning.{conn_at-is}
 use Rattle.iol_kernel.specs.Ends.{all_ends_on, IsOpenOnce}
 use Rattle.iol_kernel.specs.KernelState as held
-use Rattle.iol_kernel.specs.KernelState.{KernelState, objects_of, IsOpenEnd, IsSound, Reading, read_of, machine_of}
+use Rattle.iol_kernel.specs.KernelState.{KernelState, objects_of, IsOpenEnd, IsSound, read_of, machine_of}
+use Rattle.iol_kernel.specs.Readings.{Reading, read, bytes_over}
 use Rattle.iol_kernel.specs.Calls.{Answers}
 use Rattle.iol_kernel.proofs.Arriving.{changed_on}
 use Rattle.iol_kernel.proofs.Connecting.{Conns, seen, conns-read_of, conn_found, conn_in-changed, conn_in-is, IsOpenConn, conn_readable, conn_limit, turned, turned_fds, turned-sound, turned-read}
@@ -78,9 +77,9 @@ first_waits test (e ∷ cs) from to c rises is = elim (cases_Bool (not e.1.accep
     waited false b is = refl
     waited true b is = sym is
 
-module _ (h : KernelState) (d c : ℕ) (sound : IsSound h) (first' : fds.waiting (machine_of h) d ≡ Some c) where
+module _ (h : KernelState) (d c : ℕ) (sound : IsSound h) (first' : fds.waiting (machine_of [] h) d ≡ Some c) where
   is_first : first_in h d ≡ Some c
-  is_first = sym (waiting-read_of (byte_at h.store) h d) ∙ first'
+  is_first = sym (waiting-read_of (bytes_over [] h.store) h d) ∙ first'
 
   waiter : Waits h.conns c
   waiter = (first_waits (λ p. names_in h.store.pools p d) h.conns 0 h.next_conn c sound.limits.objects.rising is_first).1
@@ -113,7 +112,7 @@ module _ (h : KernelState) (d c : ℕ) (sound : IsSound h) (first' : fds.waiting
   limit = let was = conn_limit h c waiter.conn sound waiter.found in record { incoming = was.incoming; outgoing = was.outgoing; waits = λ i. still_open }
 
   now_sound : IsSound now
-  now_sound = turned-sound h h.store c waiter.conn accepted sound waiter.found (λ b. refl) (stays_here h.store) sound.tidy sound.still sound.settled refl (conn_readable h c waiter.conn sound waiter.found) limit refl
+  now_sound = turned-sound h h.store c waiter.conn accepted sound waiter.found (λ b. refl) (stays_here h.store) sound.tidy sound.still sound.settled refl refl (conn_readable h c waiter.conn sound waiter.found) limit refl
       (turned_fds h h.store c waiter.conn accepted sound waiter.found (λ open'. (refl, open'.1)))
 
   now_open : IsOpenEnd (objects_of now) (Some (on.Connection c))
@@ -160,7 +159,7 @@ module _ (h : KernelState) (d c : ℕ) (sound : IsSound h) (first' : fds.waiting
         let to : ℕ → State = λ n. machine.with_conn m n (record (machine.conn_at m n) { accepted = true }) in
         fds-changed f now ds d more opened'
         ∙ ap (λ (s : State). fds.with_fds s d more) (turned-read h h.store c waiter.conn accepted sound waiter.found refl f ∙ sym (changed_on m c (conn_view (read f) accepted) (going_on f)))
-        ∙ ap (λ (y : Connection). fds.with_fds (machine.with_conn m c (record y { accepted = true })) d more) (sym (conn_at-is f m c waiter.conn (conn_found f h c waiter.conn waiter.found)))
+        ∙ ap (λ (y : Connection). fds.with_fds (machine.with_conn m c (record y { accepted = true })) d more) (sym (conn_at-is f.at m c waiter.conn (conn_found f h c waiter.conn waiter.found)))
         ∙ ap (λ (ys : List (Option Descriptor)). fds.with_fds (to c) d (placed ys (lowest ys) (on.Connection c))) (sym (ap (λ (y : Domain _). y.fds) (same_domain m (record (machine.conn_at m c) { accepted = true })) ∙ fds-read_of f h d))
         ∙ ap (λ (o : Option ℕ). fds.opened (to (unwrap_or o 0)) d (on.Connection (unwrap_or o 0))) (sym (waiting-read_of f h d ∙ is_first))
 

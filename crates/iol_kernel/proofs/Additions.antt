@@ -1,5 +1,5 @@
 -- A domain gets an aggregate of bytes that lie there already: for the machine, for the layout, and that all stays sound.
-use Rattle.std.proofs.Common.{refl, ◌≡◌, ℕ, ◌-◌, ◌<◌, ◌≤◌, List, ◌++◌, length, length-append, take, drop, slice_range, ap, ◌∙◌, sym, arith, true}
+use Rattle.std.proofs.Common.{[], refl, ◌≡◌, ℕ, ◌-◌, ◌<◌, ◌≤◌, List, ◌++◌, length, length-append, take, drop, slice_range, ap, ◌∙◌, sym, arith, true}
 use Rattle.std.proofs.lemmas.List.Elements.{All-append, All-take, All-drop, All-same}
 use Rattle.std.proofs.lemmas.List.{take_all, length-take, length-drop}
 use Rattle.iol_core.specs.Text.{Text}
@@ -7,9 +7,10 @@ use Rattle.iol_core.specs.State as machine
 use Rattle.iol_core.specs.State.{State, Domain}
 use Rattle.iol_core.specs.Calls.Aggregates as aggs
 use Rattle.iol_pool.specs.Pools.{Pool}
+use Rattle.iol_arena.specs.State.{page_count}
 use Rattle.iol_hold.specs.Stored.{Stored}
 use Rattle.iol_hold.specs.Places.{Place, places, byte_len}
-use Rattle.iol_hold.specs.Layout.{read}
+use Rattle.iol_kernel.specs.Readings.{Reading, read, bytes_over}
 use Rattle.iol_hold.specs.Texts.{AllReadable, IsThere, byte_at}
 use Rattle.iol_hold.specs.declared.slices.Slice.{Slice}
 use Rattle.iol_hold.proofs.AtPlaces.{read_same, read_cut, read_replaced}
@@ -28,17 +29,17 @@ use Rattle.iol_core.specs.declared.limits.TheConstants.{MAX_AGGREGATES, MAX_AGGR
 use Rattle.iol_kernel.specs.Calls.{Answers}
 
 module _ (h : KernelState) (t : Stored) (ds : List (Domain (List Slice))) (d : ℕ) (bytes : List Place) (adds : AddsShared h.store t h.domains ds d bytes) where
-  added-read : (f : Place → ℕ × ℕ) → read_of f (record h { store = t; domains = ds }) ≡ aggs.with_agg (read_of f h) d (read f adds.slices)
+  added-read : (f : Reading) → read_of f (record h { store = t; domains = ds }) ≡ aggs.with_agg (read_of f h) d (read f adds.slices)
   unfolding read_of
   added-read f =
-      ap (λ (xs : List (Domain (List Slice))). state_view (read f) xs t.pools (objects_of h)) adds.added
-      ∙ with_agg-view (read f) h.domains t.pools (objects_of h) d adds.slices
-      ∙ ap (λ (ps : List Pool). aggs.with_agg (state_view (read f) h.domains ps (objects_of h)) d (read f adds.slices)) adds.shares.pools
+      ap (λ (xs : List (Domain (List Slice))). state_view f xs t.pools (objects_of h)) adds.added
+      ∙ with_agg-view f h.domains t.pools (objects_of h) d adds.slices
+      ∙ ap (λ (ps : List Pool). aggs.with_agg (state_view f h.domains ps (objects_of h)) d (read f adds.slices)) adds.shares.pools
 
   added-sound : IsSound h → (domain_in h.domains d).live ≡ true → live_aggs_in h.domains < MAX_AGGREGATES → AllReadable h.store adds.slices → byte_len adds.slices ≤ MAX_AGGREGATE_BYTES → IsSound (record h { store = t; domains = ds })
   added-sound sound live few readable small =
       gained-sound h t ds d adds.slices sound live few small (readable_stays adds.slices (shares_move adds.shares).stays (covers_given adds.shares.counts) readable) (shares_move adds.shares)
-      (all_settled_same h.store t adds.shares.arena adds.shares.pools sound.settled) adds.shares.pools adds.added
+      (all_settled_same h.store t adds.shares.arena adds.shares.pools sound.settled) adds.shares.pools (ap page_count adds.shares.arena) adds.added
 
 -- Part of an aggregate, or all of it.
 
@@ -55,7 +56,7 @@ module _ (h : KernelState) (t : Stored) (ds : List (Domain (List Slice))) (d a f
   cut_answers = record {
     answer = λ f keeps. number ∙ sym (next_agg-read_of f h d);
     after = λ f keeps. added-read h t ds d _ adds f
-        ∙ ap (aggs.with_agg (read_of f h) d) (read_cut f adds.slices (slices_in h.domains d a) from to adds.is_there ∙ ap (λ (u : Text). slice_range u from to) (sym (text-read_of f h d a)));
+        ∙ ap (aggs.with_agg (read_of f h) d) (read_cut f.at adds.slices (slices_in h.domains d a) from to adds.is_there ∙ ap (λ (u : Text). slice_range u from to) (sym (text-read_of f h d a)));
     arena = adds.shares.arena;
     pools = adds.shares.pools;
     sums = refl;
@@ -67,7 +68,7 @@ module _ (h : KernelState) (t : Stored) (ds : List (Domain (List Slice))) (d a f
   dup_answers none all = record {
     answer = λ f keeps. number ∙ sym (next_agg-read_of f h d);
     after = λ f keeps. added-read h t ds d _ adds f
-        ∙ ap (aggs.with_agg (read_of f h) d) (read_same f adds.slices (slices_in h.domains d a) (adds.is_there ∙ whole (places (slices_in h.domains d a)) from to none all) ∙ sym (text-read_of f h d a));
+        ∙ ap (aggs.with_agg (read_of f h) d) (read_same f.at adds.slices (slices_in h.domains d a) (adds.is_there ∙ whole (places (slices_in h.domains d a)) from to none all) ∙ sym (text-read_of f h d a));
     arena = adds.shares.arena;
     pools = adds.shares.pools;
     sums = refl;
@@ -82,7 +83,7 @@ module _ (h : KernelState) (t : Stored) (ds : List (Domain (List Slice))) (d a f
 
 module _ (h : KernelState) (t : Stored) (ds : List (Domain (List Slice))) (d a from to b n : ℕ) (adds : AddsShared h.store t h.domains ds d (replaced (places (slices_in h.domains d a)) from to (places (slices_in h.domains d b))))
     (sound : IsSound h) (live : (domain_in h.domains d).live ≡ true) (few : live_aggs_in h.domains < MAX_AGGREGATES) (number : n ≡ (domain_in h.domains d).next_agg)
-    (small : length (replaced (machine.text (machine_of h) d a) from to (machine.text (machine_of h) d b)) ≤ MAX_AGGREGATE_BYTES) where
+    (small : length (replaced (machine.text (machine_of [] h) d a) from to (machine.text (machine_of [] h) d b)) ≤ MAX_AGGREGATE_BYTES) where
   replaced-sound : IsSound (record h { store = t; domains = ds })
   replaced-sound =
       let xs : List Place = places (slices_in h.domains d a) in
@@ -96,16 +97,16 @@ module _ (h : KernelState) (t : Stored) (ds : List (Domain (List Slice))) (d a f
       })
       (omega (arith, small, ap length adds.is_there, as_long))
     where
-      as_long : length (replaced (places (slices_in h.domains d a)) from to (places (slices_in h.domains d b))) ≡ length (replaced (machine.text (machine_of h) d a) from to (machine.text (machine_of h) d b))
+      as_long : length (replaced (places (slices_in h.domains d a)) from to (places (slices_in h.domains d b))) ≡ length (replaced (machine.text (machine_of [] h) d a) from to (machine.text (machine_of [] h) d b))
       as_long =
           let x : List Place = places (slices_in h.domains d a) in
           let y : List Place = places (slices_in h.domains d b) in
-          let u : Text = machine.text (machine_of h) d a in
-          let v : Text = machine.text (machine_of h) d b in
+          let u : Text = machine.text (machine_of [] h) d a in
+          let v : Text = machine.text (machine_of [] h) d b in
           omega (
             arith,
-            length_text-read_of (byte_at h.store) h d a,
-            length_text-read_of (byte_at h.store) h d b,
+            length_text-read_of (bytes_over [] h.store) h d a,
+            length_text-read_of (bytes_over [] h.store) h d b,
             length-append (take from x ++ y) (drop to x),
             length-append (take from x) y,
             length-take from x,
@@ -121,7 +122,7 @@ module _ (h : KernelState) (t : Stored) (ds : List (Domain (List Slice))) (d a f
     answer = λ f keeps. number ∙ sym (next_agg-read_of f h d);
     after = λ f keeps. added-read h t ds d _ adds f
         ∙ ap (aggs.with_agg (read_of f h) d)
-        (read_replaced f adds.slices (slices_in h.domains d a) (slices_in h.domains d b) from to adds.is_there
+        (read_replaced f.at adds.slices (slices_in h.domains d a) (slices_in h.domains d b) from to adds.is_there
         ∙ ap (λ (u : Text). replaced u from to (read f (slices_in h.domains d b))) (sym (text-read_of f h d a))
         ∙ ap (λ (u : Text). replaced (machine.text (read_of f h) d a) from to u) (sym (text-read_of f h d b)));
     arena = adds.shares.arena;

@@ -1,5 +1,5 @@
 -- What arrives at a connection, and what is sent of it.
-use Rattle.std.proofs.Common.{◌≡◌, ◌≢◌, ℕ, ◌+◌, ◌≤◌, ◌==◌, ◌&&◌, ◌||◌, Bool, not, List, ◌∷◌, ◌++◌, length, map, take, ap, ◌∙◌, refl, sym, subst, arith, Option, Some, None, true, false}
+use Rattle.std.proofs.Common.{◌≡◌, ◌≢◌, ℕ, ◌+◌, ◌≤◌, ◌==◌, ◌&&◌, ◌||◌, Bool, not, List, [], ◌∷◌, ◌++◌, length, map, take, ap, ◌∙◌, refl, sym, subst, arith, Option, Some, None, true, false}
 use Rattle.std.specs.Prelude.{if◌then◌else◌, is_some, MatchOption, Ok, Err}
 use Rattle.iol_core.specs.Text.{Text, labelled}
 use Rattle.iol_core.specs.Numbered.{lookup, without, changed}
@@ -9,7 +9,6 @@ use Rattle.iol_core.specs.Calls.Outside as outside
 use Rattle.iol_core.specs.declared.descriptors.How.{How}
 use Rattle.iol_core.specs.declared.limits.TheConstants.{MAX_QUEUE_BYTES}
 use Rattle.iol_core.specs.declared.numbers.BufId.{BufId}
-use Rattle.iol_hold.specs.Layout.{read}
 use Rattle.iol_hold.specs.Stored.{Stored, count_of}
 use Rattle.iol_hold.specs.Moves.{pool_meant, tally}
 use Rattle.iol_hold.specs.Places.{byte_len}
@@ -33,12 +32,14 @@ use Rattle.iol_core.specs.declared.refusals.Refusal.{Refusal}
 use Rattle.iol_core.specs.declared.refusals.Refusal.TheVariants.{BrokenPipe}
 use Rattle.iol_kernel.specs.Counted.{uses, conn_uses}
 use Rattle.iol_kernel.specs.KernelState as held
-use Rattle.iol_kernel.specs.KernelState.{KernelState, objects_of, Each, IsConnReadable, AreReadable, IsOpenEnd, IsSound, Reading, read_of, machine_of}
-use Rattle.iol_kernel.specs.Calls.{MakesBytes, Arrives, with_incoming}
+use Rattle.iol_kernel.specs.KernelState.{KernelState, objects_of, Each, IsConnReadable, AreReadable, IsOpenEnd, ArePooled, IsSound, read_of, machine_of}
+use Rattle.iol_kernel.specs.Readings.{Reading, read, bytes_over}
+use Rattle.iol_kernel.specs.Calls.{Steps, MakesBytes, Arrives, with_incoming}
 use Rattle.iol_kernel.proofs.Effects.{adds_held}
 use Rattle.iol_kernel.proofs.Numbering.{each-changed, each_found}
 use Rattle.iol_kernel.proofs.Pooling.{pools_pooled}
-use Rattle.iol_kernel.proofs.Sound.{AreHeld, domains_stay, objects_stay, view-stays}
+use Rattle.iol_kernel.proofs.Slots.{cache_stays}
+use Rattle.iol_kernel.proofs.Sound.{AreHeld, domains_stay, objects_stay, files_held, view-stays}
 use Rattle.iol_kernel.proofs.Connecting.{conn_found, conn_in-found, turned, turned_counted, turned_limits, turned_pooled, turned_fds, turned-read}
 
 -- a connection to which more may come is not over, whatever it holds
@@ -91,10 +92,13 @@ module _ (h : KernelState) (t : Stored) (c : ℕ) (x : Conn (List Slice)) (q : L
   longer_limit : held.IsConn (c, longer)
   longer_limit = let was : held.IsConn (c, x) = each_found held.IsConn h.conns c x sound.limits.objects.conns found in record { incoming = short; outgoing = was.outgoing; waits = was.waits }
 
+  still_pooled : ArePooled t.pools (changed h.conns c longer) h.cache.files
+  still_pooled = turned_pooled h t c x longer sound found refl (pools_pooled h.store t h.conns h.cache.files adds.pools sound.pooled)
+
   pub arrived-sound : IsSound arrived
   arrived-sound = record {
     domains = domains_stay h.store t adds.moves.stays h.domains (objects_of h) still_held sound.domains;
-    objects = record { pipes = others_good.pipes; conns = each-changed (IsConnReadable t) h.conns c longer others_good.conns longer_good };
+    objects = record { pipes = others_good.pipes; conns = each-changed (IsConnReadable t) h.conns c longer others_good.conns longer_good; files = others_good.files };
     fds = turned_fds h t c x longer sound found (λ open'. open');
     once = sound.once;
     counted = turned_counted h t c x longer sound found more_counts;
@@ -102,33 +106,35 @@ module _ (h : KernelState) (t : Stored) (c : ℕ) (x : Conn (List Slice)) (q : L
     still = adds.moves.still sound.still;
     settled = adds.settles sound.settled;
     limits = turned_limits h t c x longer sound found longer_limit;
-    pooled = turned_pooled h t c x longer sound found refl (pools_pooled h.store t h.conns adds.pools sound.pooled);
+    pooled = still_pooled;
     sums = IsRight-keeps h.store.arena t.arena h.sums adds.moves.stays.keeps sound.sums;
+    filed = sound.filed;
+    cached = cache_stays h.store t h.cache adds.moves.stays (files_held h.store t adds.moves.stays h.domains (objects_of h) still_held) adds.pages.count still_pooled.files_open (adds.moves.tidy sound.tidy) (adds.moves.still sound.still) sound.cached;
   }
 
   -- whatever is read, the rest lies where it lay
   arrived-read : (is_some x.peer || x.closed) ≡ false → (f : Reading) → read_of f arrived ≡ with_incoming c (read_of f h) (read f adds.slices)
   arrived-read on' f =
       let s : State = read_of f h in
-      let is : machine.conn_at s c ≡ conn_view (read f) x = conn_at-is f s c x (conn_found f h c x found) in
+      let is : machine.conn_at s c ≡ conn_view (read f) x = conn_at-is f.at s c x (conn_found f h c x found) in
       let w : Text → Connection = λ u. record (conn_view (read f) x) { incoming = u } in
       turned-read h t c x longer sound found (ap (map pool_meant) adds.pools) f
-      ∙ ap (λ (u : Text). record s { conns = changed s.conns c (w u) }) (ap (read f) adds.added ∙ read-append f x.incoming adds.slices)
+      ∙ ap (λ (u : Text). record s { conns = changed s.conns c (w u) }) (ap (read f) adds.added ∙ read-append f.at x.incoming adds.slices)
       ∙ sym (changed_on s c (w (read f x.incoming ++ read f adds.slices)) (going (w (read f x.incoming ++ read f adds.slices)) on'))
       ∙ ap (λ (y : Connection). machine.with_conn s c (record y { incoming = y.incoming ++ read f adds.slices })) (sym is)
 
   pub arrived_makes : (is_some x.peer || x.closed) ≡ false → MakesBytes (with_incoming c) x.pool (length bytes) h arrived
   arrived_makes on' = record { slices = adds.slices; each = arrived-read on'; sums = refl; made_on = adds.made_on; pages = adds.pages }
 
-  held-read : read_of (byte_at t) h ≡ machine_of h
+  held-read : (stored : List (List ℕ)) → read_of (bytes_over stored t) h ≡ machine_of stored h
   unfolding read_of
-  held-read = view-stays h.store t adds.moves.stays h.domains (objects_of h) still_held h.store.pools sound.domains sound.objects
+  held-read stored = view-stays h.store t adds.moves.stays h.domains (objects_of h) still_held h.store.pools sound.domains sound.objects stored
 
-  pub arrived-machine : (is_some x.peer || x.closed) ≡ false → machine_of arrived ≡ with_incoming c (machine_of h) (labelled x.pool bytes)
-  arrived-machine on' =
-      arrived-read on' (byte_at t)
-      ∙ ap (λ (s : State). with_incoming c s (text_of t adds.slices)) held-read
-      ∙ ap (with_incoming c (machine_of h)) adds.is_text
+  pub arrived-machine : (stored : List (List ℕ)) → (is_some x.peer || x.closed) ≡ false → machine_of stored arrived ≡ with_incoming c (machine_of stored h) (labelled x.pool bytes)
+  arrived-machine stored on' =
+      arrived-read on' (bytes_over stored t)
+      ∙ ap (λ (s : State). with_incoming c s (text_of t adds.slices)) (held-read stored)
+      ∙ ap (with_incoming c (machine_of stored h)) adds.is_text
 
 -- What the call means.
 
@@ -143,27 +149,27 @@ pub refused_as : {A : Type 0} (m : Meaning A) (s : State) (o : Option Refusal) (
 refused_as m s None Late r is late refused = (rw is (late refused), refl)
 refused_as m s (Some y) Late r is late refused = (rw is refused, refl)
 
-pub arrive_refused : (h : KernelState) (c : ℕ) (x : Conn (List Slice)) (bytes : List ℕ) (r : Refusal) → lookup h.conns c ≡ Some x → IsRefused (arrive_refusals x (length bytes)) (arrive_late x bytes) r → Step (outside.arrive (machine_of h) c bytes) (machine_of h) (Err r) (machine_of h)
-arrive_refused h c x bytes r found refused =
-    let there = conn_found (byte_at h.store) h c x found in
-    refused_as (outside.arrive (machine_of h) c bytes) (machine_of h) (first (arrive_refusals x (length bytes))) (arrive_late x bytes) r
-    (arrives_meant (byte_at h.store) (machine_of h) c x bytes there) (wants_meant (byte_at h.store) (machine_of h) c x bytes r there) refused
+pub arrive_refused : (stored : List (List ℕ)) (h : KernelState) (c : ℕ) (x : Conn (List Slice)) (bytes : List ℕ) (r : Refusal) → lookup h.conns c ≡ Some x → IsRefused (arrive_refusals x (length bytes)) (arrive_late x bytes) r → Step (outside.arrive (machine_of stored h) c bytes) (machine_of stored h) (Err r) (machine_of stored h)
+arrive_refused stored h c x bytes r found refused =
+    let there = conn_found (bytes_over stored h.store) h c x found in
+    refused_as (outside.arrive (machine_of stored h) c bytes) (machine_of stored h) (first (arrive_refusals x (length bytes))) (arrive_late x bytes) r
+    (arrives_meant (byte_at h.store) (machine_of stored h) c x bytes there) (wants_meant (byte_at h.store) (machine_of stored h) c x bytes r there) refused
 
-pub arrive_count : (h : KernelState) (c : ℕ) (x : Conn (List Slice)) (bytes : List ℕ) → lookup h.conns c ≡ Some x → (outside.arrive (machine_of h) c bytes).answer ≡ fitting x.incoming (length bytes)
-arrive_count h c x bytes found = takes_meant (byte_at h.store) (machine_of h) c x bytes (conn_found (byte_at h.store) h c x found)
+pub arrive_count : (stored : List (List ℕ)) (h : KernelState) (c : ℕ) (x : Conn (List Slice)) (bytes : List ℕ) → lookup h.conns c ≡ Some x → (outside.arrive (machine_of stored h) c bytes).answer ≡ fitting x.incoming (length bytes)
+arrive_count stored h c x bytes found = takes_meant (byte_at h.store) (machine_of stored h) c x bytes (conn_found (bytes_over stored h.store) h c x found)
 
-pub arrive_pool : (h : KernelState) (c : ℕ) (x : Conn (List Slice)) → lookup h.conns c ≡ Some x → (machine.conn_at (machine_of h) c).pool ≡ x.pool
-arrive_pool h c x found = ap (λ (y : Connection). y.pool) (conn_at-is (byte_at h.store) (machine_of h) c x (conn_found (byte_at h.store) h c x found))
+pub arrive_pool : (stored : List (List ℕ)) (h : KernelState) (c : ℕ) (x : Conn (List Slice)) → lookup h.conns c ≡ Some x → (machine.conn_at (machine_of stored h) c).pool ≡ x.pool
+arrive_pool stored h c x found = ap (λ (y : Connection). y.pool) (conn_at-is (byte_at h.store) (machine_of stored h) c x (conn_found (bytes_over stored h.store) h c x found))
 
-pub arrive_done : (h k : KernelState) (c n : ℕ) (x : Conn (List Slice)) (bytes : List ℕ) → lookup h.conns c ≡ Some x → first (arrive_refusals x (length bytes)) ≡ None → n ≡ fitting x.incoming (length bytes)
-    → machine_of k ≡ with_incoming c (machine_of h) (labelled x.pool (take n bytes)) → Step (outside.arrive (machine_of h) c bytes) (machine_of h) (Ok n) (machine_of k)
-arrive_done h k c n x bytes found passed number is =
-    let count : n ≡ (outside.arrive (machine_of h) c bytes).answer = number ∙ sym (arrive_count h c x bytes found) in (
-      arrives_meant (byte_at h.store) (machine_of h) c x bytes (conn_found (byte_at h.store) h c x found) ∙ passed,
+pub arrive_done : (stored : List (List ℕ)) (h k : KernelState) (c n : ℕ) (x : Conn (List Slice)) (bytes : List ℕ) → lookup h.conns c ≡ Some x → first (arrive_refusals x (length bytes)) ≡ None → n ≡ fitting x.incoming (length bytes)
+    → machine_of stored k ≡ with_incoming c (machine_of stored h) (labelled x.pool (take n bytes)) → Step (outside.arrive (machine_of stored h) c bytes) (machine_of stored h) (Ok n) (machine_of stored k)
+arrive_done stored h k c n x bytes found passed number is =
+    let count : n ≡ (outside.arrive (machine_of stored h) c bytes).answer = number ∙ sym (arrive_count stored h c x bytes found) in (
+      arrives_meant (byte_at h.store) (machine_of stored h) c x bytes (conn_found (bytes_over stored h.store) h c x found) ∙ passed,
       count,
       is
-          ∙ ap (λ p. with_incoming c (machine_of h) (labelled p (take n bytes))) (sym (arrive_pool h c x found))
-          ∙ ap (λ m. with_incoming c (machine_of h) (labelled (machine.conn_at (machine_of h) c).pool (take m bytes))) count,
+          ∙ ap (λ p. with_incoming c (machine_of stored h) (labelled p (take n bytes))) (sym (arrive_pool stored h c x found))
+          ∙ ap (λ m. with_incoming c (machine_of stored h) (labelled (machine.conn_at (machine_of stored h) c).pool (take m bytes))) count,
     )
 
 -- All of it, for the state that it leaves.
@@ -197,29 +203,29 @@ module _ (h k : KernelState) (c n : ℕ) (bytes : List ℕ) (sound : IsSound h) 
   pub all_sound : IsSound k
   all_sound = subst IsSound (sym same) (arrived-sound h k.store c (conn_in h.conns c) (conn_in k.conns c).incoming (take n bytes) sound found adds short)
 
-  pub all_step : Step (outside.arrive (machine_of h) c bytes) (machine_of h) (Ok n) (machine_of k)
-  all_step = arrive_done h k c n (conn_in h.conns c) bytes found passed number
-      (ap machine_of same ∙ arrived-machine h k.store c (conn_in h.conns c) (conn_in k.conns c).incoming (take n bytes) sound found adds short on')
+  pub all_step : Steps (λ s. outside.arrive s c bytes) h (Ok n) k
+  all_step stored = arrive_done stored h k c n (conn_in h.conns c) bytes found passed number
+      (ap (machine_of stored) same ∙ arrived-machine h k.store c (conn_in h.conns c) (conn_in k.conns c).incoming (take n bytes) sound found adds short stored on')
 
   pub all_made : Arrives c n h k
   all_made =
       let made = arrived_makes h k.store c (conn_in h.conns c) (conn_in k.conns c).incoming (take n bytes) sound found adds short on' in
       let len : length (take n bytes) ≡ n = omega (arith, length-take n bytes, number) in
-      let pool' : (conn_in h.conns c).pool ≡ (machine.conn_at (machine_of h) c).pool = sym (arrive_pool h c (conn_in h.conns c) found) in
-      subst (λ (l : KernelState). MakesBytes (with_incoming c) (machine.conn_at (machine_of h) c).pool n h l) (sym same)
+      let pool' : (conn_in h.conns c).pool ≡ (machine.conn_at (machine_of [] h) c).pool = sym (arrive_pool [] h c (conn_in h.conns c) found) in
+      subst (λ (l : KernelState). MakesBytes (with_incoming c) (machine.conn_at (machine_of [] h) c).pool n h l) (sym same)
       (subst (λ p. MakesBytes (with_incoming c) p n h (arrived h k.store c (conn_in h.conns c) (conn_in k.conns c).incoming (take n bytes) sound found adds short)) pool'
       (subst (λ m. MakesBytes (with_incoming c) (conn_in h.conns c).pool m h (arrived h k.store c (conn_in h.conns c) (conn_in k.conns c).incoming (take n bytes) sound found adds short)) len made))
 
 -- whether there is room, in the machine's words
-pub has_as_meant : (h : KernelState) (c : ℕ) (bytes : List ℕ) (b : Bool) → lookup h.conns c ≢ None → has_room h.store (conn_in h.conns c).pool (fitting (conn_in h.conns c).incoming (length bytes)) ≡ b
-    → has_room h.store (machine.conn_at (machine_of h) c).pool (outside.arrive (machine_of h) c bytes).answer ≡ b
-has_as_meant h c bytes b there is =
+pub has_as_meant : (stored : List (List ℕ)) (h : KernelState) (c : ℕ) (bytes : List ℕ) (b : Bool) → lookup h.conns c ≢ None → has_room h.store (conn_in h.conns c).pool (fitting (conn_in h.conns c).incoming (length bytes)) ≡ b
+    → has_room h.store (machine.conn_at (machine_of stored h) c).pool (outside.arrive (machine_of stored h) c bytes).answer ≡ b
+has_as_meant stored h c bytes b there is =
     let x : Conn (List Slice) = conn_in h.conns c in
     let found = conn_in-found h.conns c there in
-    ap (λ p. has_room h.store p (outside.arrive (machine_of h) c bytes).answer) (arrive_pool h c x found) ∙ ap (λ n. has_room h.store x.pool n) (arrive_count h c x bytes found) ∙ is
+    ap (λ p. has_room h.store p (outside.arrive (machine_of stored h) c bytes).answer) (arrive_pool stored h c x found) ∙ ap (λ n. has_room h.store x.pool n) (arrive_count stored h c x bytes found) ∙ is
 
 -- a refused arrival leaves what was there
 pub arrive_kept : (h k : KernelState) (c : ℕ) (bytes : List ℕ) (r : Refusal) → lookup h.conns c ≢ None → IsRefused (arrive_refusals (conn_in h.conns c) (length bytes)) (arrive_late (conn_in h.conns c) bytes) r → k ≡ h
-    → Step (outside.arrive (machine_of h) c bytes) (machine_of h) (Err r) (machine_of k)
-arrive_kept h k c bytes r there refused same =
-    subst (λ (l : KernelState). Step (outside.arrive (machine_of h) c bytes) (machine_of h) (Err r) (machine_of l)) (sym same) (arrive_refused h c (conn_in h.conns c) bytes r (conn_in-found h.conns c there) refused)
+    → Steps (λ s. outside.arrive s c bytes) h (Err r) k
+arrive_kept h k c bytes r there refused same stored =
+    subst (λ (l : KernelState). Step (outside.arrive (machine_of stored h) c bytes) (machine_of stored h) (Err r) (machine_of stored l)) (sym same) (arrive_refused stored h c (conn_in h.conns c) bytes r (conn_in-found h.conns c there) refused)

@@ -7,10 +7,11 @@ use Rattle.iol_core.specs.Text.{Text, barred}
 use Rattle.iol_core.specs.State as machine
 use Rattle.iol_core.specs.State.{State}
 use Rattle.iol_pool.specs.Pools.{Pool, names_in}
+use Rattle.iol_hold.specs.Layout as layout
 use Rattle.iol_hold.specs.Places.{Place, place_in, slice_places, places}
-use Rattle.iol_hold.specs.Layout.{read, KeepsPools}
 use Rattle.iol_hold.specs.declared.slices.Slice.{Slice}
-use Rattle.iol_kernel.specs.KernelState.{KernelState, Reading, read_of}
+use Rattle.iol_kernel.specs.KernelState.{KernelState, read_of}
+use Rattle.iol_kernel.specs.Readings.{Reading, read, KeepsPools}
 use Rattle.iol_kernel.proofs.ReadOf.{may_read-read_of}
 
 barred-cons : (may : ℕ → Bool) (b : ℕ × ℕ) (t : Text) → barred may (b ∷ t) ≡ cond (not (may b.1)) (Some b.1) (barred may t)
@@ -24,7 +25,7 @@ twice : (c : Bool) (x y : Option ℕ) → cond c x (cond c x y) ≡ cond c x y
 twice true x y = refl
 twice false x y = refl
 
-module _ (may : ℕ → Bool) (f : Place → ℕ × ℕ) (keeps : KeepsPools f) where
+module _ (may : ℕ → Bool) (f : Place → ℕ × ℕ) (keeps : layout.KeepsPools f) where
   -- of a slice's bytes, one at least, and others after them
   barred-run : (x : Slice) (from m : ℕ) (rest : Text) → barred may (map f (map (place_in x) (range_with_len from (suc m))) ++ rest) ≡ cond (not (may x.hold.pool)) (Some x.hold.pool) (barred may rest)
   barred-run x from zero rest =
@@ -42,11 +43,11 @@ module _ (may : ℕ → Bool) (f : Place → ℕ × ℕ) (keeps : KeepsPools f) 
       let len : x.len ≡ suc (x.len - 1) = omega (arith, some) in
       ap (λ n. barred may (map f (map (place_in x) (range_with_len x.from n)) ++ rest)) len ∙ barred-run x x.from (x.len - 1) rest
 
-  pub barred-slices : (xs : List Slice) → barred may (read f xs) ≡ option_map (λ x. x.hold.pool) (find (λ x. not (may x.hold.pool)) xs)
+  pub barred-slices : (xs : List Slice) → barred may (layout.read f xs) ≡ option_map (λ x. x.hold.pool) (find (λ x. not (may x.hold.pool)) xs)
   barred-slices [] = refl
   barred-slices (x ∷ xs) =
       ap (barred may) (map-append f (slice_places x) (places xs))
-      ∙ barred-slice x (read f xs)
+      ∙ barred-slice x (layout.read f xs)
       ∙ ap (cond (not (may x.hold.pool)) (Some x.hold.pool)) (barred-slices xs)
       ∙ sym (first (not (may x.hold.pool)))
     where
@@ -61,4 +62,4 @@ hidden ps d xs = option_map (λ x. x.hold.pool) (find (λ x. not (names_in ps x.
 pub hidden_barred : (f : Reading) → KeepsPools f → (h : KernelState) (to : ℕ) (xs : List Slice) → hidden h.store.pools to xs ≡ barred (machine.may_read (read_of f h) to) (read f xs)
 hidden_barred f keeps h to xs =
     let same : machine.may_read (read_of f h) to ≡ (λ q. names_in h.store.pools q to) = λ i. λ q. may_read-read_of f h to q i in
-    sym (ap (λ (may : ℕ → Bool). barred may (read f xs)) same ∙ barred-slices (λ q. names_in h.store.pools q to) f keeps xs)
+    sym (ap (λ (may : ℕ → Bool). barred may (read f xs)) same ∙ barred-slices (λ q. names_in h.store.pools q to) f.at keeps xs)

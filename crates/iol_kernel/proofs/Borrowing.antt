@@ -1,17 +1,18 @@
 -- What comes in from a reader and what goes out to a writer, of a connection.
-use Rattle.std.proofs.Common.{◌≡◌, ◌≢◌, ℕ, zero, suc, ◌-◌, ◌≤◌, ◌==◌, ◌&&◌, ◌||◌, Bool, List, [], ◌∷◌, ◌++◌, length, take, drop, ap, ◌∙◌, refl, sym, subst, arith, Option, Some, None, true, false}
+use Rattle.std.proofs.Common.{◌≡◌, ◌≢◌, ℕ, zero, suc, ◌+◌, ◌-◌, ◌<◌, ◌≤◌, ◌==◌, ◌&&◌, ◌||◌, Bool, List, [], ◌∷◌, ◌++◌, length, take, drop, ap, ◌∙◌, refl, sym, subst, arith, Option, Some, None, true, false}
 use Rattle.std.specs.Prelude.{min, nat_lt, is_some, MatchOption}
+use Rattle.std.specs.Io.KnownBytes.{Appends}
 use Rattle.std.proofs.lemmas.Bool.Decides.{nat_tests}
 use Rattle.std.proofs.lemmas.List.{take_all, append-nil}
-use Rattle.iol_core.specs.Text.{Text, labelled}
+use Rattle.iol_core.specs.Text.{Text, bytes_of, labelled}
 use Rattle.iol_core.specs.Numbered.{lookup, changed}
+use Rattle.iol_core.specs.State as machine
 use Rattle.iol_core.specs.State.{State, Connection, conn_at, with_conn}
 use Rattle.iol_core.specs.Meaning.{◌when◌, first, WantOfRoom}
 use Rattle.iol_core.specs.Calls.Outside as outside
 use Rattle.iol_core.specs.declared.limits.TheConstants.{MAX_QUEUE_BYTES, PAGE_BYTES}
 use Rattle.iol_core.specs.declared.refusals.Refusal.{Refusal}
 use Rattle.iol_core.specs.declared.refusals.Refusal.TheVariants.{BadFd, BadRange, BrokenPipe, WouldBlock}
-use Rattle.iol_hold.specs.Layout.{read}
 use Rattle.iol_hold.specs.Stored.{AllSettled}
 use Rattle.iol_hold.specs.Moves.{Moves, SameLists}
 use Rattle.iol_hold.specs.Places.{places, byte_len}
@@ -32,10 +33,11 @@ use Rattle.iol_kernel.specs.Borrowed.{arrive_from_refusals, ArrivesFrom, sent_on
 use Rattle.iol_kernel.specs.Calls.{Arrives, Leaves}
 use Rattle.iol_kernel.specs.KernelState.{KernelState, IsSound, read_of, machine_of}
 use Rattle.iol_kernel.proofs.Arriving.{going, passed_open, arrive_pool, all_sound, all_step, all_made}
-use Rattle.iol_kernel.proofs.Connecting.{conn_found, conn_in-found, conn_there, there-changed, rising-read_of, not_over, conn_left}
+use Rattle.iol_kernel.proofs.Connecting.{conn_found, conn_in-found, conn_there, there-changed, rising-read_of, not_over, conn_left, turned}
 use Rattle.iol_kernel.proofs.Effects.{leaves_as}
 use Rattle.iol_kernel.proofs.Numbering.{changed_same}
-use Rattle.iol_kernel.proofs.Transmitting.{shorter, sent-sound, sent_leaves}
+use Rattle.iol_kernel.proofs.Transmitting.{shorter, sent, sent-sound, sent_leaves}
+use Rattle.iol_kernel.specs.Readings.{read, bytes_over}
 
 -- What comes in.
 
@@ -75,38 +77,38 @@ module _ (h : KernelState) (c max : ℕ) (there : lookup h.conns c ≢ None) whe
   found : lookup h.conns c ≡ Some x
   found = conn_in-found h.conns c there
 
-  is : conn_at (machine_of h) c ≡ conn_view (read (byte_at h.store)) x
-  is = conn_at-is (byte_at h.store) (machine_of h) c x (conn_found (byte_at h.store) h c x found)
+  is : conn_at (machine_of [] h) c ≡ conn_view (read (bytes_over [] h.store)) x
+  is = conn_at-is (byte_at h.store) (machine_of [] h) c x (conn_found (bytes_over [] h.store) h c x found)
 
-  pub incoming_len : length (conn_at (machine_of h) c).incoming ≡ byte_len x.incoming
+  pub incoming_len : length (conn_at (machine_of [] h) c).incoming ≡ byte_len x.incoming
   incoming_len = ap (λ (y : Connection). length y.incoming) is ∙ length-read (byte_at h.store) x.incoming
 
-  pub outgoing_len : length (conn_at (machine_of h) c).outgoing ≡ byte_len x.outgoing
+  pub outgoing_len : length (conn_at (machine_of [] h) c).outgoing ≡ byte_len x.outgoing
   outgoing_len = ap (λ (y : Connection). length y.outgoing) is ∙ length-read (byte_at h.store) x.outgoing
 
-  pub outgoing_text : (conn_at (machine_of h) c).outgoing ≡ text_of h.store x.outgoing
+  pub outgoing_text : (conn_at (machine_of [] h) c).outgoing ≡ text_of h.store x.outgoing
   outgoing_text = ap (λ (y : Connection). y.outgoing) is
 
   -- refused as the connection is
-  asked : (b : Bool) → first ((BadRange when b) ∷ (outside.arrive (machine_of h) c (0 ∷ [])).refusals) ≡ first ((BadRange when b) ∷ arrive_refusals x 1)
+  asked : (b : Bool) → first ((BadRange when b) ∷ (outside.arrive (machine_of [] h) c (0 ∷ [])).refusals) ≡ first ((BadRange when b) ∷ arrive_refusals x 1)
   asked true = refl
-  asked false = arrives_meant (byte_at h.store) (machine_of h) c x (0 ∷ []) (conn_found (byte_at h.store) h c x found)
+  asked false = arrives_meant (byte_at h.store) (machine_of [] h) c x (0 ∷ []) (conn_found (bytes_over [] h.store) h c x found)
 
-  meant : first (arrive_from_refusals (machine_of h) c max) ≡ first (read_refusals x max)
+  meant : first (arrive_from_refusals (machine_of [] h) c max) ≡ first (read_refusals x max)
   meant =
-      ap (λ b. first ((BadFd when b) ∷ (BadRange when (max == 0)) ∷ (outside.arrive (machine_of h) c (0 ∷ [])).refusals)) (conn_there (byte_at h.store) h c x (sym found))
+      ap (λ b. first ((BadFd when b) ∷ (BadRange when (max == 0)) ∷ (outside.arrive (machine_of [] h) c (0 ∷ [])).refusals)) (conn_there (bytes_over [] h.store) h c x (sym found))
       ∙ asked (max == 0)
 
-  pub read_passed : first (read_refusals x max) ≡ None → first (arrive_from_refusals (machine_of h) c max) ≡ None
+  pub read_passed : first (read_refusals x max) ≡ None → first (arrive_from_refusals (machine_of [] h) c max) ≡ None
   read_passed passed = meant ∙ passed
 
-  pub read_refused : (r : Refusal) → IsRefused (read_refusals x max) (WantOfRoom x.pool) r → IsRefused (arrive_from_refusals (machine_of h) c max) (WantOfRoom (conn_at (machine_of h) c).pool) r
+  pub read_refused : (r : Refusal) → IsRefused (read_refusals x max) (WantOfRoom x.pool) r → IsRefused (arrive_from_refusals (machine_of [] h) c max) (WantOfRoom (conn_at (machine_of [] h) c).pool) r
   read_refused r refused =
-      subst (λ p. MatchOption (first (arrive_from_refusals (machine_of h) c max)) (WantOfRoom p r) (λ y. r ≡ y)) (sym (arrive_pool h c x found))
+      subst (λ p. MatchOption (first (arrive_from_refusals (machine_of [] h) c max)) (WantOfRoom p r) (λ y. r ≡ y)) (sym (arrive_pool [] h c x found))
       (subst (λ (o : Option Refusal). MatchOption o (WantOfRoom x.pool r) (λ y. r ≡ y)) (sym meant) refused)
 
-  pub read_room : (b : Bool) → has_room h.store x.pool 1 ≡ b → has_room h.store (conn_at (machine_of h) c).pool 1 ≡ b
-  read_room b has = ap (λ p. has_room h.store p 1) (arrive_pool h c x found) ∙ has
+  pub read_room : (b : Bool) → has_room h.store x.pool 1 ≡ b → has_room h.store (conn_at (machine_of [] h) c).pool 1 ≡ b
+  read_room b has = ap (λ p. has_room h.store p 1) (arrive_pool [] h c x found) ∙ has
 
 module _ (h k : KernelState) (c max n : ℕ) (left after : Option (List ℕ)) (sound : IsSound h) (there : lookup h.conns c ≢ None) (passed : first (read_refusals (conn_in h.conns c) max) ≡ None)
     (most : n ≤ min (min max PAGE_BYTES) (MAX_QUEUE_BYTES - byte_len (conn_in h.conns c).incoming))
@@ -133,18 +135,18 @@ module _ (h k : KernelState) (c max n : ℕ) (left after : Option (List ℕ)) (s
   pub read_made : Arrives c n h k
   read_made = all_made h k c n reads.bytes sound there open' number adds same
 
-  pub read_arrives : ArrivesFrom left after c n (machine_of h) (machine_of k)
-  read_arrives = record { bytes = reads.bytes; count = reads.count; given = reads.given; step = all_step h k c n reads.bytes sound there open' number adds same }
+  pub read_arrives : ArrivesFrom left after c n (machine_of [] h) (machine_of [] k)
+  read_arrives = record { bytes = reads.bytes; count = reads.count; given = reads.given; step = all_step h k c n reads.bytes sound there open' number adds same [] }
 
-  pub read_none : n ≡ 0 → machine_of k ≡ machine_of h
+  pub read_none : n ≡ 0 → machine_of [] k ≡ machine_of [] h
   read_none none =
-      let f = byte_at h.store in
+      let f = bytes_over [] h.store in
       let w : Connection = conn_view (read f) y in
-      (all_step h k c n reads.bytes sound there open' number adds same).2
-      ∙ none_arrives (machine_of h) c reads.bytes (reads.count ∙ none)
-      ∙ not_over (machine_of h) c h.next_conn w (rising-read_of f h sound) (conn_found f h c y (conn_in-found h.conns c there)) (going w (passed_open y (length reads.bytes) open'))
+      (all_step h k c n reads.bytes sound there open' number adds same []).2
+      ∙ none_arrives (machine_of [] h) c reads.bytes (reads.count ∙ none)
+      ∙ not_over (machine_of [] h) c h.next_conn w (rising-read_of f h sound) (conn_found f h c y (conn_in-found h.conns c there)) (going w (passed_open y (length reads.bytes) open'))
 
-  pub read_most : n ≤ min (min max PAGE_BYTES) (MAX_QUEUE_BYTES - length (conn_at (machine_of h) c).incoming)
+  pub read_most : n ≤ min (min max PAGE_BYTES) (MAX_QUEUE_BYTES - length (conn_at (machine_of [] h) c).incoming)
   read_most = subst (λ l. n ≤ min (min max PAGE_BYTES) (MAX_QUEUE_BYTES - l)) (sym (incoming_len h c max there)) most
 
 -- What goes out.
@@ -178,7 +180,7 @@ module _ (h m : KernelState) (c n : ℕ) (sound : IsSound h) (there : lookup h.c
 
   pub lent_none : n ≡ 0 → Leaves (sent_on c n) h m
   lent_none none = leaves_as (λ s. record s { conns = changed s.conns c (shorter n (conn_at s c)) }) (sent_on c n) h m
-      (λ f. sent_none c n h.next_conn (read_of f h) (conn_view (read f) z) none (rising-read_of f h sound) (conn_found f h c z here) (conn_at-is f (read_of f h) c z (conn_found f h c z here))) lent
+      (λ f. sent_none c n h.next_conn (read_of f h) (conn_view (read f) z) none (rising-read_of f h sound) (conn_found f h c z here) (conn_at-is f.at (read_of f h) c z (conn_found f h c z here))) lent
 
   pub lent_some : (l : KernelState) → (n ≡ 0 → ⊥) → Leaves (λ s. with_conn s c (conn_at s c)) m l → Leaves (sent_on c n) h l
   lent_some l some settled = leaves_as (λ s. with_conn s c (shorter n (conn_at s c))) (sent_on c n) h l (λ f. sent_some c n (read_of f h) some)

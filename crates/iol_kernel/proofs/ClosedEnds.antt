@@ -26,7 +26,8 @@ use Rattle.iol_hold.proofs.Reading.{readable_none}
 use Rattle.iol_kernel.specs.Views.{Pipe, Objects, pipe_view, state_view}
 use Rattle.iol_kernel.specs.Counted.{uses, pipe_uses, IsCounted}
 use Rattle.iol_kernel.specs.Ends.{same_end, on_end, ends_on, all_ends_on}
-use Rattle.iol_kernel.specs.KernelState.{KernelState, objects_of, Each, IsOpenEnd, IsPipeReadable, AreReadable, IsShort, IsLimited, IsSound, queue_at, Reading, read_of}
+use Rattle.iol_kernel.specs.KernelState.{KernelState, objects_of, Each, IsOpenEnd, IsPipeReadable, AreReadable, IsShort, IsLimited, IsSound, queue_at, read_of}
+use Rattle.iol_kernel.specs.Readings.{Reading, read}
 use Rattle.iol_kernel.specs.ClosedEnds.{without_reader, without_writer, with_pipe_in, ClosesEnd, KeepsEnds}
 use Rattle.iol_kernel.proofs.Uses.{uses-set_pipe, uses_at, Pipes}
 use Rattle.iol_kernel.proofs.Sound.{each-set, with_pipes}
@@ -36,7 +37,6 @@ use Rattle.iol_kernel.proofs.Effects.{moved-sound, leaves}
 use Rattle.iol_kernel.proofs.Queueing.{queue_readable, queue_short}
 use Rattle.iol_kernel.proofs.ReadOf.{pipe_at-read_of}
 use Rattle.iol_kernel.proofs.Views.{with_pipe_in-view, pools-view}
-use Rattle.iol_hold.specs.Layout.{read}
 use Rattle.iol_kernel.specs.Calls.{Leaves}
 
 pub moves_same : (s : Stored) (xs : List BufId) → Moves s s xs xs
@@ -186,6 +186,7 @@ module _ (h : KernelState) (t : Stored) (qs : Pipes) (p : ℕ) (x : Pipe (List S
   less_good = record {
     pipes = each-set (IsPipeReadable h.store) h.pipes p (if x.reading || x.writing then Some x else None) sound.objects.pipes (if_kept (IsPipeReadable h.store) (x.reading || x.writing) x tt queue_good);
     conns = sound.objects.conns;
+    files = sound.objects.files;
   }
 
   less_limits : IsLimited h.domains (record (objects_of h) { pipes = less })
@@ -199,9 +200,9 @@ module _ (h : KernelState) (t : Stored) (qs : Pipes) (p : ℕ) (x : Pipe (List S
   closed_pipe-read : (f : Reading) → read_of f (record h { store = t; pipes = qs }) ≡ machine.with_pipe (read_of f h) p (pipe_view (read f) x)
   unfolding read_of
   closed_pipe-read f =
-      ap (λ (ys : Pipes). state_view (read f) h.domains t.pools (record (objects_of h) { pipes = ys })) closes.pipes
-      ∙ pools-view (read f) h.domains h.store.pools t.pools (record (objects_of h) { pipes = less }) closes.lists
-      ∙ with_pipe_in-view (read f) h.domains h.store.pools (objects_of h) p x
+      ap (λ (ys : Pipes). state_view f h.domains t.pools (record (objects_of h) { pipes = ys })) closes.pipes
+      ∙ pools-view f h.domains h.store.pools t.pools (record (objects_of h) { pipes = less }) closes.lists
+      ∙ with_pipe_in-view f h.domains h.store.pools (objects_of h) p x
 
   qs_good : AreReadable h.store (record (objects_of h) { pipes = qs })
   qs_good = subst (λ (ys : Pipes). AreReadable h.store (record (objects_of h) { pipes = ys })) (sym closes.pipes) less_good
@@ -209,7 +210,7 @@ module _ (h : KernelState) (t : Stored) (qs : Pipes) (p : ℕ) (x : Pipe (List S
   closed_pipe-sound : (end : Descriptor) → KeepsEnds end (objects_of h) (record (objects_of h) { pipes = less }) → all_ends_on end h.domains ≡ 0 → IsSound (record h { store = t; pipes = qs })
   closed_pipe-sound end keeps free = subst (λ (ys : Pipes). IsSound (record h { store = t; pipes = ys })) (sym closes.pipes)
       (moved-sound h.store (record h { store = t; pipes = less }) closes.moves.stays less_counted (closes.moves.tidy sound.tidy) (closes.moves.still sound.still) (closes.settles (queue_readable h p sound) sound.settled) sound.domains less_good
-      (all_ends_kept end (objects_of h) (record (objects_of h) { pipes = less }) keeps h.domains sound.fds free) sound.once less_limits (same_pooled h.store t h.conns closes.lists sound.pooled) sound.sums)
+      (all_ends_kept end (objects_of h) (record (objects_of h) { pipes = less }) keeps h.domains sound.fds free) sound.once less_limits (same_pooled h.store t h.conns h.cache.files closes.lists sound.pooled) sound.sums sound.filed sound.cached (keeps_pages_frees closes.frees).count)
 
 -- a read end
 

@@ -1,17 +1,16 @@
 -- A connection on which a descriptor is open, as the machine sees it.
-use Rattle.std.proofs.Common.{◌≡◌, ◌≢◌, ℕ, ◌&&◌, ◌||◌, Bool, not, List, ap, ◌∙◌, refl, sym, Option, Some, None, true, false}
+use Rattle.std.proofs.Common.{[], ◌≡◌, ◌≢◌, ℕ, ◌&&◌, ◌||◌, Bool, not, List, ap, ◌∙◌, refl, sym, Option, Some, None, true, false}
 use Rattle.std.specs.Prelude.{◌==◌, unwrap_or, option_map, length}
 use Rattle.iol_core.specs.Numbered.{lookup, changed}
 use Rattle.iol_core.specs.State as machine
 use Rattle.iol_core.specs.State.{State, Connection}
 use Rattle.iol_core.specs.declared.descriptors.Descriptor.TheVariants as on
-use Rattle.iol_hold.specs.Layout.{read}
-use Rattle.iol_hold.specs.Texts.{byte_at}
 use Rattle.iol_hold.specs.declared.slices.Slice.{Slice}
 use Rattle.iol_sock.specs.Connections.{Conn, conn_view}
 use Rattle.iol_sock.specs.Table.{conn_in, no_conn}
 use Rattle.iol_kernel.specs.Views.{state_view}
-use Rattle.iol_kernel.specs.KernelState.{KernelState, IsSound, Reading, read_of}
+use Rattle.iol_kernel.specs.KernelState.{KernelState, IsSound, read_of}
+use Rattle.iol_kernel.specs.Readings.{Reading, read, bytes_over}
 use Rattle.iol_kernel.proofs.Arriving.{changed_on}
 use Rattle.iol_kernel.proofs.Connecting.{Conns, IsOpenConn, conn_in-found, open_conn-there}
 use Rattle.iol_kernel.proofs.Opening.{end_held}
@@ -40,7 +39,7 @@ conn_in-none cs c none = ap (λ (o : Option (Conn (List Slice))). unwrap_or o no
 
 module _ (h : KernelState) (d fd c : ℕ) (sound : IsSound h) (at : (f : Reading) → machine.descriptor (read_of f h) d fd ≡ Some (on.Connection c)) where
   pub open_held : IsOpenConn (conn_in h.conns c)
-  open_held = end_held (byte_at h.store) h d fd (on.Connection c) sound (at (byte_at h.store))
+  open_held = end_held (bytes_over [] h.store) h d fd (on.Connection c) sound (at (bytes_over [] h.store))
 
   pub conn_there_held : lookup h.conns c ≢ None
   conn_there_held = open_conn-there h.conns c open_held

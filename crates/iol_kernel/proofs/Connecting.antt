@@ -19,8 +19,8 @@ use Rattle.iol_core.specs.declared.descriptors.Descriptor.TheVariants as on
 use Rattle.iol_core.specs.declared.limits.TheConstants.{MAX_CONNECTIONS, LAST_CONNECTION}
 use Rattle.iol_core.specs.declared.numbers.BufId.{BufId}
 use Rattle.iol_pool.specs.Pools.{pool_in}
-use Rattle.iol_hold.specs.Layout.{read}
 use Rattle.iol_hold.specs.Stored.{Stored, IsTidy, IsStill, AllSettled, count_of}
+use Rattle.iol_arena.specs.State.{page_count}
 use Rattle.iol_hold.specs.Moves.{Stays, SameLists, Moves, tally, Covers}
 use Rattle.iol_hold.specs.Pages.{KeepsPages}
 use Rattle.iol_hold.specs.Places.{byte_len}
@@ -40,7 +40,8 @@ use Rattle.iol_sock.proofs.Meaning.{conn_at-is, over_meant}
 use Rattle.iol_kernel.specs.Views.{Objects, state_view}
 use Rattle.iol_kernel.specs.Counted.{uses, conn_uses, IsCounted}
 use Rattle.iol_kernel.specs.KernelState as held
-use Rattle.iol_kernel.specs.KernelState.{KernelState, objects_of, Each, IsConnReadable, AreReadable, IsOpenEnd, IsLimited, ArePooled, IsSound, Reading, read_of, machine_of}
+use Rattle.iol_kernel.specs.KernelState.{KernelState, objects_of, Each, IsConnReadable, AreReadable, IsOpenEnd, IsLimited, ArePooled, IsSound, read_of, machine_of}
+use Rattle.iol_kernel.specs.Readings.{Reading, read}
 use Rattle.iol_kernel.specs.ClosedEnds.{KeepsEnds}
 use Rattle.iol_kernel.specs.Calls.{Leaves, Answers}
 use Rattle.iol_kernel.proofs.Views.{pools-view, lookup-map, without-map, length-map'}
@@ -72,7 +73,7 @@ pub rising-read_of : (f : Reading) (h : KernelState) → IsSound h → Rises 0 (
 rising-read_of f h sound = subst (λ (cs : List (ℕ × Connection)). Rises 0 cs h.next_conn) (sym (conns-read_of f h)) (rises-map (conn_view (read f)) h.conns 0 h.next_conn sound.limits.objects.rising)
 
 -- a connection that is there, and one that is not
-pub conn_found : (f : Reading) (h : KernelState) (c : ℕ) (x : Conn (List Slice)) → lookup h.conns c ≡ Some x → IsConn f (read_of f h) c x
+pub conn_found : (f : Reading) (h : KernelState) (c : ℕ) (x : Conn (List Slice)) → lookup h.conns c ≡ Some x → IsConn f.at (read_of f h) c x
 conn_found f h c x found = ap (λ (cs : List (ℕ × Connection)). lookup cs c) (conns-read_of f h) ∙ lookup-map (conn_view (read f)) h.conns c ∙ ap (option_map (conn_view (read f))) found
 
 pub conn_missing : (f : Reading) (h : KernelState) (c : ℕ) → None ≡ lookup h.conns c → outside.lacks_conn (read_of f h) c ≡ true
@@ -104,7 +105,7 @@ there-changed cs c x y found = λ none. (let some = lookup-changed cs c x y foun
 pub denied-read_of : (f : Reading) (h : KernelState) (d c p : ℕ) (x : Conn (List Slice)) (may : Bool) → lookup h.conns c ≡ Some x → p ≡ x.pool → may ≡ machine.may_read (read_of f h) d p → (Denied p when not may) ≡ fds.denied_by (read_of f h) d (Some (machine.conn_at (read_of f h) c).pool)
 denied-read_of f h d c p x may found is named =
     ap (λ b. Denied p when not b) named
-    ∙ ap (λ q. fds.denied_by (read_of f h) d (Some q)) (is ∙ sym (ap (λ (w : Connection). w.pool) (conn_at-is f (read_of f h) c x (conn_found f h c x found))))
+    ∙ ap (λ q. fds.denied_by (read_of f h) d (Some q)) (is ∙ sym (ap (λ (w : Connection). w.pool) (conn_at-is f.at (read_of f h) c x (conn_found f h c x found))))
 
 -- Connections that descriptors are open on.
 
@@ -185,14 +186,17 @@ module _ (h : KernelState) (t : Stored) (c : ℕ) (x y : Conn (List Slice)) (sou
           few_conns = omega (arith, l.few_conns, length-map' {B = ℕ × Conn (List Slice)} (λ (e : ℕ × Conn (List Slice)). if e.0 == c then (c, y) else e) h.conns);
           rising = rises-changed h.conns 0 h.next_conn c y l.rising;
           last = l.last;
+          cached = l.cached;
+          few_files = l.few_files;
         };
       }
 
-  pub turned_pooled : y.pool ≡ x.pool → ArePooled t.pools h.conns → ArePooled t.pools (changed h.conns c y)
+  pub turned_pooled : y.pool ≡ x.pool → ArePooled t.pools h.conns h.cache.files → ArePooled t.pools (changed h.conns c y) h.cache.files
   turned_pooled same pooled = record {
     few = pooled.few;
     opened = each-changed (λ (e : ℕ × Conn (List Slice)). (pool_in t.pools e.1.pool).closed ≡ false) h.conns c y pooled.opened
         (ap (λ p. (pool_in t.pools p).closed) same ∙ each_found (λ (e : ℕ × Conn (List Slice)). (pool_in t.pools e.1.pool).closed ≡ false) h.conns c x pooled.opened found);
+    files_open = pooled.files_open;
   }
 
   turned_end : (IsOpenConn x → IsOpenConn y) → (e : Option Descriptor) → IsOpenEnd (objects_of h) e → IsOpenEnd (objects_of turned) e
@@ -208,25 +212,25 @@ module _ (h : KernelState) (t : Stored) (c : ℕ) (x y : Conn (List Slice)) (sou
       (λ d e. each-weaker (IsOpenEnd (objects_of h)) (IsOpenEnd (objects_of turned)) d.fds (turned_end keeps) e) sound.fds
 
   turned_good : IsConnReadable h.store (c, y) → AreReadable h.store (objects_of turned)
-  turned_good readable = record { pipes = sound.objects.pipes; conns = each-changed (IsConnReadable h.store) h.conns c y sound.objects.conns readable }
+  turned_good readable = record { pipes = sound.objects.pipes; conns = each-changed (IsConnReadable h.store) h.conns c y sound.objects.conns readable; files = sound.objects.files }
 
   pub turned-read : SameLists h.store t → (f : Reading) → read_of f turned ≡ record (read_of f h) { conns = changed (read_of f h).conns c (conn_view (read f) y) }
   unfolding read_of state_view
   turned-read lists f =
-      pools-view (read f) h.domains h.store.pools t.pools (objects_of turned) lists
+      pools-view f h.domains h.store.pools t.pools (objects_of turned) lists
       ∙ ap (λ (cs : List (ℕ × Connection)). record (read_of f h) { conns = cs }) (changed-map (conn_view (read f)) h.conns c y)
 
   -- what it holds is part of what it held
-  module _ (counts : (b : BufId) → count_of t b + conn_uses b (c, x) ≡ count_of h.store b + conn_uses b (c, y)) (stays : Stays h.store t) (tidy : IsTidy t) (still : IsStill t.arena) (settled : AllSettled t) (lists : SameLists h.store t)
+  module _ (counts : (b : BufId) → count_of t b + conn_uses b (c, x) ≡ count_of h.store b + conn_uses b (c, y)) (stays : Stays h.store t) (tidy : IsTidy t) (still : IsStill t.arena) (settled : AllSettled t) (lists : SameLists h.store t) (count : page_count t.arena ≡ page_count h.store.arena)
       (readable : IsConnReadable h.store (c, y)) (limit : held.IsConn (c, y)) (pool' : y.pool ≡ x.pool)
       (fds : Each (λ (d : Domain (List Slice)). Each (IsOpenEnd (objects_of turned)) d.fds) h.domains) where
     pub turned-sound : IsSound turned
     turned-sound = moved-sound h.store turned stays (turned_counted counts) tidy still settled sound.domains (turned_good readable) fds sound.once (turned_limits limit)
-        (turned_pooled pool' (same_pooled h.store t h.conns lists sound.pooled)) sound.sums
+        (turned_pooled pool' (same_pooled h.store t h.conns h.cache.files lists sound.pooled)) sound.sums sound.filed sound.cached count
 
     pub turned_leaves : (F : Connection → Connection) → ((f : Reading) → F (conn_view (read f) x) ≡ conn_view (read f) y) → KeepsPages h.store t [] → Leaves (λ s. record s { conns = changed s.conns c (F (machine.conn_at s c)) }) h turned
     turned_leaves F as_meant pages = leaves (λ s. record s { conns = changed s.conns c (F (machine.conn_at s c)) }) h turned
-        (λ f. turned-read lists f ∙ ap (λ (w : Connection). record (read_of f h) { conns = changed (read_of f h).conns c w }) (sym (ap F (conn_at-is f (read_of f h) c x (conn_found f h c x found)) ∙ as_meant f)))
+        (λ f. turned-read lists f ∙ ap (λ (w : Connection). record (read_of f h) { conns = changed (read_of f h).conns c w }) (sym (ap F (conn_at-is f.at (read_of f h) c x (conn_found f h c x found)) ∙ as_meant f)))
         refl stays pages sound.domains (turned_good readable) turned-sound
 
 -- the table that has it so
@@ -291,7 +295,7 @@ without-map' f cs c = without-map (conn_view (read f)) cs c
 module _ (h : KernelState) (c : ℕ) (x : Conn (List Slice)) (sound : IsSound h) (found : lookup h.conns c ≡ Some x) where
   pub settled_stays : is_over x ≡ false → Leaves (λ s. machine.with_conn s c (machine.conn_at s c)) h h
   settled_stays on' = leaves (λ s. machine.with_conn s c (machine.conn_at s c)) h h
-      (λ f. sym (not_over (read_of f h) c h.next_conn (conn_view (read f) x) (rising-read_of f h sound) (conn_found f h c x found) (over_meant f x ∙ on')))
+      (λ f. sym (not_over (read_of f h) c h.next_conn (conn_view (read f) x) (rising-read_of f h sound) (conn_found f h c x found) (over_meant f.at x ∙ on')))
       refl (stays_here h.store) (pages_here h.store) sound.domains sound.objects sound
 
   module _ (t : Stored) (over : is_over x ≡ true) (moves : Moves h.store t (held_by x) []) (lists : SameLists h.store t) (frees : FreesOnly h.store t) (settled : AllSettled t) where
@@ -302,7 +306,7 @@ module _ (h : KernelState) (c : ℕ) (x : Conn (List Slice)) (sound : IsSound h)
     gone_counted = record { each = λ b. omega (arith, sound.counted.each b, moves.counts.each b, tally_none b, tally-append b (bufs_of x.incoming) (bufs_of x.outgoing), sum-without (conn_uses b) h.conns c x found) }
 
     gone_good : AreReadable h.store (objects_of gone)
-    gone_good = record { pipes = sound.objects.pipes; conns = each-without_any (IsConnReadable h.store) h.conns c sound.objects.conns }
+    gone_good = record { pipes = sound.objects.pipes; conns = each-without_any (IsConnReadable h.store) h.conns c sound.objects.conns; files = sound.objects.files }
 
     gone_limits : IsLimited h.domains (objects_of gone)
     gone_limits =
@@ -317,6 +321,8 @@ module _ (h : KernelState) (c : ℕ) (x : Conn (List Slice)) (sound : IsSound h)
             few_conns = omega (arith, l.few_conns, length-without_any h.conns c);
             rising = rises-without h.conns 0 h.next_conn c l.rising;
             last = l.last;
+            cached = l.cached;
+            few_files = l.few_files;
           };
         }
 
@@ -341,20 +347,20 @@ module _ (h : KernelState) (c : ℕ) (x : Conn (List Slice)) (sound : IsSound h)
     gone-sound = moved-sound h.store gone moves.stays gone_counted (moves.tidy sound.tidy) (moves.still sound.still) settled sound.domains gone_good
         (each-weaker (λ (d : Domain (List Slice)). Each (IsOpenEnd (objects_of h)) d.fds) (λ (d : Domain (List Slice)). Each (IsOpenEnd (objects_of gone)) d.fds) h.domains
         (λ d e. each-weaker (IsOpenEnd (objects_of h)) (IsOpenEnd (objects_of gone)) d.fds gone_end e) sound.fds)
-        sound.once gone_limits (rest_pooled (same_pooled h.store t h.conns lists sound.pooled)) sound.sums
+        sound.once gone_limits (rest_pooled (same_pooled h.store t h.conns h.cache.files lists sound.pooled)) sound.sums sound.filed sound.cached (keeps_pages_frees frees).count
       where
-        rest_pooled : ArePooled t.pools h.conns → ArePooled t.pools (without h.conns c)
-        rest_pooled pooled = record { few = pooled.few; opened = each-without_any (λ (e : ℕ × Conn (List Slice)). (pool_in t.pools e.1.pool).closed ≡ false) h.conns c pooled.opened }
+        rest_pooled : ArePooled t.pools h.conns h.cache.files → ArePooled t.pools (without h.conns c) h.cache.files
+        rest_pooled pooled = record { few = pooled.few; opened = each-without_any (λ (e : ℕ × Conn (List Slice)). (pool_in t.pools e.1.pool).closed ≡ false) h.conns c pooled.opened; files_open = pooled.files_open }
 
     gone-read : (f : Reading) → read_of f gone ≡ record (read_of f h) { conns = without (read_of f h).conns c }
     unfolding read_of state_view
     gone-read f =
-        pools-view (read f) h.domains h.store.pools t.pools (objects_of gone) lists
+        pools-view f h.domains h.store.pools t.pools (objects_of gone) lists
         ∙ ap (λ (cs : List (ℕ × Connection)). record (read_of f h) { conns = cs }) (without-map' f h.conns c)
 
     pub settled_goes : Leaves (λ s. machine.with_conn s c (machine.conn_at s c)) h gone
     settled_goes = leaves (λ s. machine.with_conn s c (machine.conn_at s c)) h gone
-        (λ f. gone-read f ∙ sym (is_over_gone (read_of f h) c (conn_view (read f) x) (conn_found f h c x found) (over_meant f x ∙ over)))
+        (λ f. gone-read f ∙ sym (is_over_gone (read_of f h) c (conn_view (read f) x) (conn_found f h c x found) (over_meant f.at x ∙ over)))
         refl moves.stays (keeps_pages_frees frees) sound.domains gone_good gone-sound
 
     pub settled_as : (cs : Conns) (n : ℕ) → cs ≡ without h.conns c → n ≡ h.next_conn → Leaves (λ s. machine.with_conn s c (machine.conn_at s c)) h (record h { store = t; conns = cs; next_conn = n })
@@ -393,7 +399,7 @@ module _ (h : KernelState) (p : ℕ) (sound : IsSound h) (open' : (pool_in h.sto
       let l = sound.limits.objects in
       record {
         domains = sound.domains;
-        objects = record { pipes = sound.objects.pipes; conns = each-push (IsConnReadable h.store) h.conns (h.next_conn, new_conn p) sound.objects.conns (readable_none h.store, readable_none h.store) };
+        objects = record { pipes = sound.objects.pipes; conns = each-push (IsConnReadable h.store) h.conns (h.next_conn, new_conn p) sound.objects.conns (readable_none h.store, readable_none h.store); files = sound.objects.files };
         fds = each-weaker (λ (d : Domain (List Slice)). Each (IsOpenEnd (objects_of h)) d.fds) (λ (d : Domain (List Slice)). Each (IsOpenEnd (objects_of joined)) d.fds) h.domains
             (λ d e. each-weaker (IsOpenEnd (objects_of h)) (IsOpenEnd (objects_of joined)) d.fds joined_end e) sound.fds;
         once = sound.once;
@@ -411,10 +417,14 @@ module _ (h : KernelState) (p : ℕ) (sound : IsSound h) (open' : (pool_in h.sto
             few_conns = omega (arith, few, length-append h.conns ((h.next_conn, new_conn p) ∷ []));
             rising = rises-push h.conns 0 h.next_conn (new_conn p) l.rising;
             last = omega (arith, some);
+            cached = l.cached;
+            few_files = l.few_files;
           };
         };
-        pooled = record { few = sound.pooled.few; opened = each-push (λ (e : ℕ × Conn (List Slice)). (pool_in h.store.pools e.1.pool).closed ≡ false) h.conns (h.next_conn, new_conn p) sound.pooled.opened open' };
+        pooled = record { few = sound.pooled.few; opened = each-push (λ (e : ℕ × Conn (List Slice)). (pool_in h.store.pools e.1.pool).closed ≡ false) h.conns (h.next_conn, new_conn p) sound.pooled.opened open'; files_open = sound.pooled.files_open };
         sums = sound.sums;
+        filed = sound.filed;
+        cached = sound.cached;
       }
 
   joined-read : (f : Reading) → read_of f joined ≡ (outside.conn_new (read_of f h) p).after

@@ -13,7 +13,6 @@ use Rattle.iol_pool.specs.Pools.{Pool, names_in}
 use Rattle.iol_hold.specs.Stored.{Stored}
 use Rattle.iol_hold.specs.Moves.{Shares}
 use Rattle.iol_hold.specs.Places.{places, byte_len}
-use Rattle.iol_hold.specs.Layout.{read, KeepsPools}
 use Rattle.iol_hold.specs.Texts.{bufs_of}
 use Rattle.iol_hold.specs.declared.slices.Slice.{Slice}
 use Rattle.iol_hold.proofs.AtPlaces.{read_pushed}
@@ -21,7 +20,8 @@ use Rattle.iol_pipe.proofs.Given.{read_given, read_left, first_pool-read}
 use Rattle.iol_pipe.specs.Queue.{first_pool}
 use Rattle.iol_desc.specs.Tables.{agg_in}
 use Rattle.iol_kernel.specs.Views.{Pipe, pipe_view, state_view}
-use Rattle.iol_kernel.specs.KernelState.{KernelState, objects_of, queue_at, Reading, read_of}
+use Rattle.iol_kernel.specs.KernelState.{KernelState, objects_of, queue_at, read_of}
+use Rattle.iol_kernel.specs.Readings.{Reading, read, KeepsPools}
 use Rattle.iol_kernel.proofs.Views.{with_pipe-view, with_agg-view}
 use Rattle.iol_kernel.proofs.ReadOf.{may_read-read_of, text-read_of, length_text-read_of, pipe_at-read_of, queue-read_of, length_queue-read_of}
 use Rattle.iol_kernel.proofs.Slices.{slices_found}
@@ -47,12 +47,12 @@ module _ (h : KernelState) (t : Stored) (qs : List (Option (Pipe (List Slice))))
       let m : State = read_of f h in
       let x : Pipe (List Slice) = record (queue_at h.pipes p) { queue = (queue_at qs p).queue } in
       let q : read f (queue_at qs p).queue ≡ (machine.pipe_at m p).queue ++ take n (machine.text m d a) =
-      read_pushed f (queue_at qs p).queue (queue_at h.pipes p).queue from n places'
+      read_pushed f.at (queue_at qs p).queue (queue_at h.pipes p).queue from n places'
       ∙ ap (λ (t : Text). t ++ take n (read f from)) (sym (queue-read_of f h p))
       ∙ ap (λ (t : Text). (machine.pipe_at m p).queue ++ take n t) (ap (read f) (slices_found h.domains d a from found) ∙ sym (text-read_of f h d a)) in
-      ap (λ (ps : List Pool). state_view (read f) h.domains ps (record (objects_of h) { pipes = qs })) shares.pools
-      ∙ ap (λ (ys : List (Option (Pipe (List Slice)))). state_view (read f) h.domains h.store.pools (record (objects_of h) { pipes = ys })) pipes'
-      ∙ with_pipe-view (read f) h.domains h.store.pools (objects_of h) p x (right_true x.reading x.writing writing)
+      ap (λ (ps : List Pool). state_view f h.domains ps (record (objects_of h) { pipes = qs })) shares.pools
+      ∙ ap (λ (ys : List (Option (Pipe (List Slice)))). state_view f h.domains h.store.pools (record (objects_of h) { pipes = ys })) pipes'
+      ∙ with_pipe-view f h.domains h.store.pools (objects_of h) p x (right_true x.reading x.writing writing)
       ∙ ap (λ (t : Text). machine.with_pipe m p (record (pipe_view (read f) (queue_at h.pipes p)) { queue = t })) q
       ∙ ap (λ (y : machine.Pipe). machine.with_pipe m p (record y { queue = (machine.pipe_at m p).queue ++ take n (machine.text m d a) })) (sym (pipe_at-read_of f h p))
 
@@ -79,18 +79,18 @@ module _ (h : KernelState) (t : Stored) (ds : List (Domain (List Slice))) (qs : 
       let less : List (Option (Pipe (List Slice))) = slice_set h.pipes p (Some x) in
       let u : Text = admitted (machine.may_read m d) (take n (machine.pipe_at m p).queue) in
       let first : read f takes.slices ≡ u =
-      read_given f keeps takes.slices (queue_at h.pipes p).queue h.store.pools d n takes.given
+      read_given f.at keeps takes.slices (queue_at h.pipes p).queue h.store.pools d n takes.given
       ∙ admitted-same (λ q. names_in h.store.pools q d) (machine.may_read m d) (take n (read f (queue_at h.pipes p).queue)) (λ q. sym (may_read-read_of f h d q))
       ∙ ap (λ (q : Text). admitted (machine.may_read m d) (take n q)) (sym (queue-read_of f h p)) in
       let left : read f (queue_at qs p).queue ≡ drop (length u) (machine.pipe_at m p).queue =
-      read_left f keeps takes.slices (queue_at qs p).queue (queue_at h.pipes p).queue h.store.pools d n takes.given takes.left
-      ∙ ap (λ (v : Text). drop (length v) (read f (queue_at h.pipes p).queue)) (sym (read_given f keeps takes.slices (queue_at h.pipes p).queue h.store.pools d n takes.given) ∙ first)
+      read_left f.at keeps takes.slices (queue_at qs p).queue (queue_at h.pipes p).queue h.store.pools d n takes.given takes.left
+      ∙ ap (λ (v : Text). drop (length v) (read f (queue_at h.pipes p).queue)) (sym (read_given f.at keeps takes.slices (queue_at h.pipes p).queue h.store.pools d n takes.given) ∙ first)
       ∙ ap (λ (q : Text). drop (length u) q) (sym (queue-read_of f h p)) in
-      ap (λ (ps : List Pool). state_view (read f) ds ps (record (objects_of h) { pipes = qs })) takes.shares.pools
-      ∙ ap (λ (ys : List (Option (Pipe (List Slice)))). state_view (read f) ds h.store.pools (record (objects_of h) { pipes = ys })) pipes'
-      ∙ ap (λ (ys : List (Domain (List Slice))). state_view (read f) ys h.store.pools (record (objects_of h) { pipes = less })) takes.added
-      ∙ with_agg-view (read f) h.domains h.store.pools (record (objects_of h) { pipes = less }) d takes.slices
-      ∙ ap (λ (s : State). aggs.with_agg s d (read f takes.slices)) (with_pipe-view (read f) h.domains h.store.pools (objects_of h) p x (left_true x.reading x.writing reading'))
+      ap (λ (ps : List Pool). state_view f ds ps (record (objects_of h) { pipes = qs })) takes.shares.pools
+      ∙ ap (λ (ys : List (Option (Pipe (List Slice)))). state_view f ds h.store.pools (record (objects_of h) { pipes = ys })) pipes'
+      ∙ ap (λ (ys : List (Domain (List Slice))). state_view f ys h.store.pools (record (objects_of h) { pipes = less })) takes.added
+      ∙ with_agg-view f h.domains h.store.pools (record (objects_of h) { pipes = less }) d takes.slices
+      ∙ ap (λ (s : State). aggs.with_agg s d (read f takes.slices)) (with_pipe-view f h.domains h.store.pools (objects_of h) p x (left_true x.reading x.writing reading'))
       ∙ ap (λ (v : Text). aggs.with_agg (machine.with_pipe m p (pipe_view (read f) x)) d v) first
       ∙ ap (λ (v : Text). aggs.with_agg (machine.with_pipe m p (record (pipe_view (read f) (queue_at h.pipes p)) { queue = v })) d u) left
       ∙ ap (λ (y : machine.Pipe). aggs.with_agg (machine.with_pipe m p (record y { queue = drop (length u) (machine.pipe_at m p).queue })) d u) (sym (pipe_at-read_of f h p))
@@ -111,7 +111,7 @@ pub barred_of : (f : Reading) → KeepsPools f → (m : State) (d n : ℕ) (queu
 barred_of f keeps m d n queue some =
     ap (λ k. barred (machine.may_read m d) (take k (read f queue))) one
     ∙ first (read f queue)
-    ∙ ap (λ (o : Option ℕ). denied_at m d o) (sym (first_pool-read f keeps queue))
+    ∙ ap (λ (o : Option ℕ). denied_at m d o) (sym (first_pool-read f.at keeps queue))
   where
     one : min n 1 ≡ 1
     one = omega arith

@@ -9,11 +9,11 @@ use Rattle.iol_core.specs.State as machine
 use Rattle.iol_core.specs.State.{State, Domain, no_domain}
 use Rattle.iol_core.specs.Calls.Aggregates as aggs
 use Rattle.iol_core.proofs.Lookups.{numbered_or-with}
-use Rattle.iol_hold.specs.Layout.{read}
 use Rattle.iol_hold.specs.declared.slices.Slice.{Slice}
 use Rattle.iol_desc.specs.Tables.{domain_in, with_domain_in, agg_in, with_agg_in, without_agg_in, live_aggs_in, with_next}
 use Rattle.iol_kernel.specs.Views.{state_view}
-use Rattle.iol_kernel.specs.KernelState.{KernelState, objects_of, IsSound, slices_in, Reading, read_of}
+use Rattle.iol_kernel.specs.KernelState.{KernelState, objects_of, IsSound, slices_in, read_of}
+use Rattle.iol_kernel.specs.Readings.{Reading, read}
 use Rattle.iol_kernel.proofs.Views.{with_agg-view, without_agg-view}
 use Rattle.iol_kernel.proofs.Uses.{uses-with_agg, uses-without_agg, sum-with_domain, length-without}
 use Rattle.iol_kernel.proofs.Sound.{agg_readable, agg_small, drop_readable, add_readable, fds_stay, limits_agg, limits_drop}
@@ -73,9 +73,9 @@ module _ (h : KernelState) (ds : List (Domain (List Slice))) (d a e : ℕ) (live
   moved-read : (f : Reading) → read_of f (record h { domains = ds }) ≡ aggs.with_agg (aggs.without_agg (read_of f h) d a) e (read f (slices_in h.domains d a))
   unfolding read_of
   moved-read f =
-      ap (λ (xs : List (Domain (List Slice))). state_view (read f) xs h.store.pools (objects_of h)) moved
-      ∙ with_agg-view (read f) (without_agg_in h.domains d a) h.store.pools (objects_of h) e (slices_in h.domains d a)
-      ∙ ap (λ (s : State). aggs.with_agg s e (read f (slices_in h.domains d a))) (without_agg-view (read f) h.domains h.store.pools (objects_of h) d a)
+      ap (λ (xs : List (Domain (List Slice))). state_view f xs h.store.pools (objects_of h)) moved
+      ∙ with_agg-view f (without_agg_in h.domains d a) h.store.pools (objects_of h) e (slices_in h.domains d a)
+      ∙ ap (λ (s : State). aggs.with_agg s e (read f (slices_in h.domains d a))) (without_agg-view f h.domains h.store.pools (objects_of h) d a)
 
   given-each : (f : Reading) → read_of f (record h { domains = ds }) ≡ (aggs.agg_give (read_of f h) d a e).after
   given-each f = moved-read f ∙ ap (aggs.with_agg (aggs.without_agg (read_of f h) d a) e) (sym (text-read_of f h d a)) ∙ given_either (read_of f h) d a e (machine.text (read_of f h) d a) (is_live-read_of f h d ∙ live)
@@ -94,7 +94,7 @@ module _ (h : KernelState) (ds : List (Domain (List Slice))) (d a e : ℕ) (live
       (record { each = λ b. omega (arith, sound.counted.each b, uses-without_agg b h.domains d a xs live found, uses-with_agg b rest e xs live') })
       sound.tidy sound.still sound.settled (add_readable h.store rest e xs (drop_readable h d a sound) (agg_readable h d a xs sound found)) sound.objects
       (fds_stay (objects_of h) rest e y (fds_stay (objects_of h) h.domains d x sound.fds refl) refl) (once_same rest e y live' refl (once_same h.domains d x live refl sound.once))
-      (limits_agg rest (objects_of h) e xs (limits_drop h.domains (objects_of h) d a xs sound.limits live found) live' (agg_small h d a xs sound found) few) sound.pooled sound.sums)
+      (limits_agg rest (objects_of h) e xs (limits_drop h.domains (objects_of h) d a xs sound.limits live found) live' (agg_small h d a xs sound found) few) sound.pooled sound.sums sound.filed sound.cached refl)
 
   pub given_answers : (n : ℕ) → IsSound h → (domain_in h.domains e).live ≡ true → agg_in h.domains d a ≢ None → n ≡ (domain_in h.domains e).next_agg → Answers (λ s. aggs.agg_give s d a e) h n (record h { domains = ds })
   given_answers n sound to_live there number = record {

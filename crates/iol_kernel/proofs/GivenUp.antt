@@ -20,7 +20,8 @@ use Rattle.iol_hold.proofs.Reading.{readable_stays}
 use Rattle.iol_desc.specs.Tables.{domain_in, with_domain_in, with_aggs_in}
 use Rattle.iol_kernel.specs.Views.{state_view}
 use Rattle.iol_kernel.specs.Counted.{uses, domain_uses, bufs_in, IsCounted}
-use Rattle.iol_kernel.specs.KernelState.{KernelState, objects_of, Each, IsDomainReadable, IsLimited, IsSound, Reading, read_of}
+use Rattle.iol_kernel.specs.KernelState.{KernelState, objects_of, Each, IsDomainReadable, IsLimited, IsSound, read_of}
+use Rattle.iol_kernel.specs.Readings.{Reading, read}
 use Rattle.iol_kernel.proofs.Views.{domain-view, with_domain-view, pools-view}
 use Rattle.iol_kernel.proofs.Uses.{sum-with_domain, domain_le, Domains}
 use Rattle.iol_kernel.proofs.Once.{once_same, once_fewer}
@@ -28,7 +29,6 @@ use Rattle.iol_kernel.proofs.Sound.{aggs_readable, each-with_domain_in, sound_wi
 use Rattle.iol_kernel.proofs.Pooling.{same_pooled}
 use Rattle.iol_kernel.proofs.Effects.{moved-sound, leaves, leaves_here}
 use Rattle.iol_core.specs.declared.limits.TheConstants.{MAX_AGGREGATE_BYTES}
-use Rattle.iol_hold.specs.Layout.{read}
 use Rattle.iol_kernel.specs.Calls.{Leaves}
 
 -- aggregates, the last first
@@ -112,15 +112,15 @@ module _ (h : KernelState) (t : Stored) (ds : Domains) (d : ℕ) (es : List (ℕ
   emptied-read : (f : Reading) → read_of f (record h { store = t; domains = ds }) ≡ machine.with_domain (read_of f h) d (record (machine.domain (read_of f h) d) { aggs = [] })
   unfolding read_of
   emptied-read f =
-      ap (λ (ys : Domains). state_view (read f) ys t.pools (objects_of h)) rest
-      ∙ pools-view (read f) (with_domain_in h.domains d emptied) h.store.pools t.pools (objects_of h) lists
-      ∙ with_domain-view (read f) h.domains h.store.pools (objects_of h) d emptied
-      ∙ ap (λ (y : Domain Text). machine.with_domain (read_of f h) d (record y { aggs = [] })) (sym (domain-view (read f) h.domains h.store.pools (objects_of h) d))
+      ap (λ (ys : Domains). state_view f ys t.pools (objects_of h)) rest
+      ∙ pools-view f (with_domain_in h.domains d emptied) h.store.pools t.pools (objects_of h) lists
+      ∙ with_domain-view f h.domains h.store.pools (objects_of h) d emptied
+      ∙ ap (λ (y : Domain Text). machine.with_domain (read_of f h) d (record y { aggs = [] })) (sym (domain-view f h.domains h.store.pools (objects_of h) d))
 
   emptied-sound : IsSound (record h { store = t; domains = ds })
   emptied-sound = subst (λ (ys : Domains). IsSound (record h { store = t; domains = ys })) (sym rest)
       (moved-sound h.store (record h { store = t; domains = with_domain_in h.domains d emptied }) moves.stays emptied_counted (moves.tidy sound.tidy) (moves.still sound.still) (settles (subst (λ (l : List (ℕ × List Slice)). Each (λ e. AllReadable h.store e.1) l) (sym all) (aggs_readable h d sound)) sound.settled) emptied_good sound.objects
-      (fds_stay (objects_of h) h.domains d emptied sound.fds refl) (once_same h.domains d emptied live refl sound.once) emptied_limits (same_pooled h.store t h.conns lists sound.pooled) sound.sums)
+      (fds_stay (objects_of h) h.domains d emptied sound.fds refl) (once_same h.domains d emptied live refl sound.once) emptied_limits (same_pooled h.store t h.conns h.cache.files lists sound.pooled) sound.sums sound.filed sound.cached (keeps_pages_frees frees).count)
 
   pub aggs_dropped : Leaves (λ s. machine.with_domain s d (record (machine.domain s d) { aggs = [] })) h (record h { store = t; domains = ds })
   aggs_dropped = leaves (λ s. machine.with_domain s d (record (machine.domain s d) { aggs = [] })) h (record h { store = t; domains = ds }) emptied-read refl moves.stays (keeps_pages_frees frees) (subst (λ (ys : Domains). Each (IsDomainReadable h.store) ys) (sym rest) emptied_good) sound.objects emptied-sound
@@ -129,7 +129,7 @@ module _ (h : KernelState) (t : Stored) (ds : Domains) (d : ℕ) (es : List (ℕ
 
 ended-read : (f : Reading) (h : KernelState) (ds : Domains) (d : ℕ) → ds ≡ with_domain_in h.domains d no_domain → read_of f (record h { domains = ds }) ≡ machine.with_domain (read_of f h) d no_domain
 unfolding read_of
-ended-read f h ds d is = ap (λ (ys : Domains). state_view (read f) ys h.store.pools (objects_of h)) is ∙ with_domain-view (read f) h.domains h.store.pools (objects_of h) d no_domain
+ended-read f h ds d is = ap (λ (ys : Domains). state_view f ys h.store.pools (objects_of h)) is ∙ with_domain-view f h.domains h.store.pools (objects_of h) d no_domain
 
 ended-sound : (h : KernelState) (ds : Domains) (d : ℕ) → IsSound h → (domain_in h.domains d).live ≡ true → (domain_in h.domains d).aggs ≡ [] → ds ≡ with_domain_in h.domains d no_domain → IsSound (record h { domains = ds })
 ended-sound h ds d sound live none is = subst (λ (ys : Domains). IsSound (record h { domains = ys })) (sym is)

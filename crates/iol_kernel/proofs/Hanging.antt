@@ -79,10 +79,10 @@ module _ (h k : KernelState) (c : ℕ) (sound : IsSound h) (open' : IsOpenConn (
 
   pub hung_sound : IsSound k
   hung_sound = subst IsSound (sym same)
-      (turned-sound h k.store c x (hung x) sound found counts moves.stays (moves.tidy sound.tidy) (moves.still sound.still) all_settled lists (readable_none h.store, good.1) limit refl fds)
+      (turned-sound h k.store c x (hung x) sound found counts moves.stays (moves.tidy sound.tidy) (moves.still sound.still) all_settled lists (keeps_pages_frees frees).count (readable_none h.store, good.1) limit refl fds)
 
   hung_leaves : Leaves (λ s. record s { conns = changed s.conns c (record (machine.conn_at s c) { incoming = []; closed = true }) }) h now
-  hung_leaves = turned_leaves h k.store c x (hung x) sound found counts moves.stays (moves.tidy sound.tidy) (moves.still sound.still) all_settled lists (readable_none h.store, good.1) limit refl fds
+  hung_leaves = turned_leaves h k.store c x (hung x) sound found counts moves.stays (moves.tidy sound.tidy) (moves.still sound.still) all_settled lists (keeps_pages_frees frees).count (readable_none h.store, good.1) limit refl fds
       (λ w. record w { incoming = []; closed = true }) (λ f. refl) (keeps_pages_frees frees)
 
   pub hung_still : lookup k.conns c ≢ None

@@ -14,8 +14,8 @@ use Rattle.iol_core.specs.declared.descriptors.Descriptor.{Descriptor}
 use Rattle.iol_core.specs.declared.descriptors.Descriptor.TheVariants as on
 use Rattle.iol_core.specs.declared.limits.TheConstants.{MAX_AGGREGATES, MAX_QUEUE_BYTES}
 use Rattle.iol_pool.specs.Pools.{names_in}
-use Rattle.iol_hold.specs.Layout.{read, KeepsPools}
 use Rattle.iol_hold.specs.Moves.{SameLists, pool_meant}
+use Rattle.iol_arena.specs.State.{page_count}
 use Rattle.iol_hold.specs.Places.{places, byte_len}
 use Rattle.iol_hold.specs.Texts.{bufs_of, AllReadable}
 use Rattle.iol_hold.specs.declared.slices.Slice.{Slice}
@@ -34,7 +34,8 @@ use Rattle.iol_kernel.specs.Adding.{TakesFront}
 use Rattle.iol_kernel.specs.Calls.{Answers}
 use Rattle.iol_kernel.specs.Counted.{IsCounted, conn_uses}
 use Rattle.iol_kernel.specs.KernelState as held
-use Rattle.iol_kernel.specs.KernelState.{KernelState, objects_of, Each, AreReadable, IsConnReadable, IsDomainReadable, IsOpenEnd, IsSound, Reading, read_of}
+use Rattle.iol_kernel.specs.KernelState.{KernelState, objects_of, Each, AreReadable, IsConnReadable, IsDomainReadable, IsOpenEnd, IsSound, read_of}
+use Rattle.iol_kernel.specs.Readings.{Reading, read, KeepsPools}
 use Rattle.iol_kernel.proofs.Connecting.{conn_in-is, conn_readable, conn_limit, turned, turned_fds, turned_limits, turned_pooled, turned-read}
 use Rattle.iol_kernel.proofs.ConnQueues.{open_held, found_held, conn_at-read_of, incoming-read_of, conn_in-none, with_on}
 use Rattle.iol_kernel.proofs.Effects.{moved-sound}
@@ -84,7 +85,7 @@ module _ (f : Reading) (h : KernelState) (c n : ℕ) where
   waits_for : (x : Conn (List Slice)) → conn_in h.conns c ≡ x → must_wait f h c n ≡ (nat_lt 0 n && (byte_len x.incoming == 0) && is_none x.peer)
   waits_for x is =
       ap (λ (y : Connection). nat_lt 0 n && (length y.incoming == 0) && is_none y.peer) (conn_at-read_of f h c ∙ ap (conn_view (read f)) is)
-      ∙ ap (λ k. nat_lt 0 n && (k == 0) && is_none x.peer) (length-read f x.incoming)
+      ∙ ap (λ k. nat_lt 0 n && (k == 0) && is_none x.peer) (length-read f.at x.incoming)
 
   pub waits_for_none : None ≡ lookup h.conns c → must_wait f h c n ≡ false
   waits_for_none none = waits_for no_conn (conn_in-none h.conns c none) ∙ of (nat_lt 0 n)
@@ -146,7 +147,7 @@ module _ (h k : KernelState) (d fd c n : ℕ) (sound : IsSound h) (from : (f : R
       (omega (arith, was, ap length takes.given, length-take (prefix_len (may_see h.store.pools d) (take n q)) (take n q), length-take n q), omega (arith, was, ap length takes.left, length-drop (byte_len takes.slices) q))
 
   less_good : AreReadable h.store (objects_of less)
-  less_good = record { pipes = sound.objects.pipes; conns = each-changed (IsConnReadable h.store) h.conns c rest sound.objects.conns rest_good }
+  less_good = record { pipes = sound.objects.pipes; conns = each-changed (IsConnReadable h.store) h.conns c rest sound.objects.conns rest_good; files = sound.objects.files }
 
   rest_limit : held.IsConn (c, rest)
   rest_limit = let was = conn_limit h c (conn_in h.conns c) sound there in record { incoming = parts_short.1; outgoing = was.outgoing; waits = was.waits }
@@ -161,7 +162,7 @@ module _ (h k : KernelState) (d fd c n : ℕ) (sound : IsSound h) (from : (f : R
 
   taken-read : (f : Reading) → read_of f taken ≡ aggs.with_agg (read_of f less) d (read f takes.slices)
   unfolding read_of
-  taken-read f = with_agg-view (read f) h.domains k.store.pools (objects_of less) d takes.slices
+  taken-read f = with_agg-view f h.domains k.store.pools (objects_of less) d takes.slices
 
   after : (f : Reading) → KeepsPools f → read_of f k ≡ (reading.iol_read (read_of f h) d fd n).after
   after f keeps =
@@ -169,12 +170,12 @@ module _ (h k : KernelState) (d fd c n : ℕ) (sound : IsSound h) (from : (f : R
       let w : Connection = conn_view (read f) (conn_in h.conns c) in
       let u : Text = reading.read_text s d (Some (on.Connection c)) n in
       let first : read f takes.slices ≡ u =
-      read_given f keeps takes.slices (conn_in h.conns c).incoming h.store.pools d n takes.given
+      read_given f.at keeps takes.slices (conn_in h.conns c).incoming h.store.pools d n takes.given
       ∙ admitted-same (λ q. names_in h.store.pools q d) (machine.may_read s d) (take n (read f (conn_in h.conns c).incoming)) (λ q. sym (may_read-read_of f h d q))
       ∙ ap (λ (q : Text). admitted (machine.may_read s d) (take n q)) (sym (incoming-read_of f h c)) in
       let left : read f (conn_in k.conns c).incoming ≡ drop (length u) w.incoming =
-      read_left f keeps takes.slices (conn_in k.conns c).incoming (conn_in h.conns c).incoming h.store.pools d n takes.given takes.left
-      ∙ ap (λ (v : Text). drop (length v) (read f (conn_in h.conns c).incoming)) (sym (read_given f keeps takes.slices (conn_in h.conns c).incoming h.store.pools d n takes.given) ∙ first) in
+      read_left f.at keeps takes.slices (conn_in k.conns c).incoming (conn_in h.conns c).incoming h.store.pools d n takes.given takes.left
+      ∙ ap (λ (v : Text). drop (length v) (read f (conn_in h.conns c).incoming)) (sym (read_given f.at keeps takes.slices (conn_in h.conns c).incoming h.store.pools d n takes.given) ∙ first) in
       ap (read_of f) is_taken
       ∙ taken-read f
       ∙ ap (λ (x : State). aggs.with_agg x d (read f takes.slices)) (turned-read h k.store c (conn_in h.conns c) rest sound there lists f)
@@ -207,7 +208,7 @@ module _ (h k : KernelState) (d fd c n : ℕ) (sound : IsSound h) (from : (f : R
         (add_readable h.store h.domains d takes.slices sound.domains slices_good) less_good
         (fds_stay (objects_of less) h.domains d y less_fds refl) (once_same h.domains d y live refl sound.once)
         (limits_agg h.domains (objects_of less) d takes.slices (turned_limits h k.store c (conn_in h.conns c) rest sound there rest_limit) live (omega (arith, parts_short.0)) few)
-        (turned_pooled h k.store c (conn_in h.conns c) rest sound there refl (pools_pooled h.store k.store h.conns takes.shares.pools sound.pooled)) sound.sums
+        (turned_pooled h k.store c (conn_in h.conns c) rest sound there refl (pools_pooled h.store k.store h.conns h.cache.files takes.shares.pools sound.pooled)) sound.sums sound.filed sound.cached (ap page_count takes.shares.arena)
 
     pub unread_taken : (a : ℕ) → a ≡ (domain_in h.domains d).next_agg → Answers (λ s. reading.iol_read s d fd n) h a k
     unread_taken a number = record {

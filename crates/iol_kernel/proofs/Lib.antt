@@ -1,4 +1,6 @@
 pub mod Views
+pub mod Slots
+pub mod Filed
 pub mod Rows
 pub mod Uses
 pub mod Once

@@ -18,14 +18,14 @@ use Rattle.iol_hold.proofs.Reading.{readable_none}
 use Rattle.iol_desc.specs.Tables.{domain_in, with_domain_in, with_fds_in, with_next_fd, with_ends}
 use Rattle.iol_kernel.specs.Views.{Pipe, Objects, state_view}
 use Rattle.iol_kernel.specs.Ends.{all_ends_on, IsOpenOnce}
-use Rattle.iol_kernel.specs.KernelState.{KernelState, objects_of, Each, IsOpenEnd, IsPipeReadable, IsSound, IsShort, Reading, read_of}
+use Rattle.iol_kernel.specs.KernelState.{KernelState, objects_of, Each, IsOpenEnd, IsPipeReadable, IsSound, IsShort, read_of}
+use Rattle.iol_kernel.specs.Readings.{Reading, read}
 use Rattle.iol_kernel.proofs.Views.{add_pipe-view, lowest-view}
 use Rattle.iol_kernel.proofs.Sound.{with_pipes, each-set, each-get, each-weaker, each-placed, ends_open}
 use Rattle.iol_kernel.proofs.Once.{same_end-itself, ends-with_domain, ends-placed, ends-freed, once_fewer, once_freed, both_once, all_ends_closed}
 use Rattle.iol_kernel.proofs.Ends.{ends_placed, lowest_closed, new_reading, new_writing}
 use Rattle.iol_kernel.proofs.Effects.{fds-sound, fds-changed}
 use Rattle.iol_kernel.proofs.Rows.{domain_in-with_other, with_domain_in-comm}
-use Rattle.iol_hold.specs.Layout.{read}
 use Rattle.iol_kernel.proofs.ReadOf.{descriptor-read_of, fds-read_of, lowest-read_of}
 use Rattle.iol_kernel.proofs.Stay.{stays_here}
 use Rattle.iol_kernel.specs.Calls.{Answers}
@@ -50,11 +50,11 @@ piped m d xs n = record (fds.with_fds m d (with_ends xs n)) { pipes = placed m.p
 piped-read : (f : Reading) (h : KernelState) (ds : List (Domain (List Slice))) (qs : List (Option (Pipe (List Slice)))) (d : ℕ) → ds ≡ with_fds_in h.domains d (with_ends (domain_in h.domains d).fds (lowest h.pipes)) → qs ≡ placed h.pipes (lowest h.pipes) empty → read_of f (record h { domains = ds; pipes = qs }) ≡ (fds.pipe (read_of f h) d).after
 unfolding read_of machine.with_domain
 piped-read f h ds qs d domains' pipes' =
-    ap (λ (ys : List (Option (Pipe (List Slice)))). state_view (read f) ds h.store.pools (record (objects_of h) { pipes = ys })) pipes'
-    ∙ add_pipe-view (read f) ds h.store.pools (objects_of h) (lowest h.pipes) empty
+    ap (λ (ys : List (Option (Pipe (List Slice)))). state_view f ds h.store.pools (record (objects_of h) { pipes = ys })) pipes'
+    ∙ add_pipe-view f ds h.store.pools (objects_of h) (lowest h.pipes) empty
     ∙ ap (λ (x : State). record x { pipes = placed x.pipes (lowest h.pipes) new_pipe }) (fds-changed f h ds d (with_ends (domain_in h.domains d).fds (lowest h.pipes)) domains')
     ∙ ap (λ (xs : List (Option Descriptor)). piped (read_of f h) d xs (lowest h.pipes)) (sym (fds-read_of f h d))
-    ∙ ap (λ n. piped (read_of f h) d (machine.domain (read_of f h) d).fds n) (sym (lowest-view (read f) h.domains h.store.pools (objects_of h)))
+    ∙ ap (λ n. piped (read_of f h) d (machine.domain (read_of f h) d).fds n) (sym (lowest-view f h.domains h.store.pools (objects_of h)))
 
 lowest_few : {A : Type 0} (xs : List (Option A)) → lowest xs ≤ taken xs
 lowest_few [] = omega arith
@@ -88,7 +88,7 @@ piped-sound h ds qs d sound live few domains' pipes' =
     let o : Objects (List Slice) = objects_of k in
     let sound' : IsSound k = record {
       domains = sound.domains;
-      objects = record { pipes = each-placed (IsPipeReadable h.store) h.pipes (lowest h.pipes) empty sound.objects.pipes (readable_none h.store); conns = sound.objects.conns };
+      objects = record { pipes = each-placed (IsPipeReadable h.store) h.pipes (lowest h.pipes) empty sound.objects.pipes (readable_none h.store); conns = sound.objects.conns; files = sound.objects.files };
       once = sound.once;
       counted = record { each = λ b. omega (arith, sound.counted.each b, uses-placed b h.pipes empty, tally_none b) };
       tidy = sound.tidy;
@@ -96,6 +96,8 @@ piped-sound h ds qs d sound live few domains' pipes' =
       settled = sound.settled;
       pooled = sound.pooled;
       sums = sound.sums;
+      filed = sound.filed;
+      cached = sound.cached;
       limits = record {
         aggs = sound.limits.aggs;
         few = sound.limits.few;

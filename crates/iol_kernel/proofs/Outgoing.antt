@@ -15,8 +15,8 @@ use Rattle.iol_core.specs.declared.limits.TheConstants.{MAX_QUEUE_BYTES}
 use Rattle.iol_core.specs.declared.numbers.BufId.{BufId}
 use Rattle.iol_core.specs.declared.refusals.Refusal.{Refusal}
 use Rattle.iol_core.specs.declared.refusals.Refusal.TheVariants.{NoDomain, BadFd, BadAgg, WrongMode, TooLong, BrokenPipe, WouldBlock, NoRoom}
-use Rattle.iol_hold.specs.Layout.{read, KeepsPools}
 use Rattle.iol_hold.specs.Stored.{Stored, count_of}
+use Rattle.iol_arena.specs.State.{page_count}
 use Rattle.iol_hold.specs.Moves.{Shares, SameLists, pool_meant}
 use Rattle.iol_hold.specs.Places.{places, byte_len}
 use Rattle.iol_hold.specs.Texts.{bufs_of, byte_at, AllReadable}
@@ -36,7 +36,8 @@ use Rattle.iol_sock.proofs.Meaning.{queues_meant, fits_meant}
 use Rattle.iol_kernel.specs.Calls.{CarriesOut}
 use Rattle.iol_kernel.specs.Counted.{conn_uses}
 use Rattle.iol_kernel.specs.KernelState as held
-use Rattle.iol_kernel.specs.KernelState.{KernelState, objects_of, IsConnReadable, IsOpenEnd, IsSound, Reading, read_of}
+use Rattle.iol_kernel.specs.KernelState.{KernelState, objects_of, IsConnReadable, IsOpenEnd, IsSound, read_of}
+use Rattle.iol_kernel.specs.Readings.{Reading, read, KeepsPools}
 use Rattle.iol_kernel.specs.Views.{Objects, state_view}
 use Rattle.iol_kernel.proofs.Arriving.{refused_as}
 use Rattle.iol_kernel.proofs.Connecting.{conn_found, conn_readable, conn_limit, turned, turned_fds, turned-read, turned-sound}
@@ -69,7 +70,7 @@ module _ (h : KernelState) (d fd a c : ℕ) (from : List Slice) (sound : IsSound
       ap (λ b. tests b (aggs.lacks_agg s d a) (machine.descriptor s d fd) s n) (live f)
       ∙ ap (λ b. tests true b (machine.descriptor s d fd) s n) (there f)
       ∙ ap (λ (o : Option Descriptor). tests true false o s n) (to f)
-      ∙ queues_meant f s c n (conn_in h.conns c) (conn_found f h c (conn_in h.conns c) (found_held h d fd c sound to))
+      ∙ queues_meant f.at s c n (conn_in h.conns c) (conn_found f h c (conn_in h.conns c) (found_held h d fd c sound to))
       ∙ ap (λ m. first (queue_refusals (conn_in h.conns c) m)) (length_text-read_of f h d a ∙ ap byte_len (sym (slices_found h.domains d a from found)))
 
   -- A refusal changes nothing.
@@ -133,7 +134,7 @@ module _ (h : KernelState) (d fd a c : ℕ) (from : List Slice) (sound : IsSound
     lists = ap (map pool_meant) shares.pools
 
     fuller-sound : IsSound (turned h k.store c (conn_in h.conns c) fuller sound there')
-    fuller-sound = turned-sound h k.store c (conn_in h.conns c) fuller sound there' counts (shares_move shares).stays (shares.tidy sound.tidy) ((shares_move shares).still sound.still) (all_settled_same h.store k.store shares.arena shares.pools sound.settled) lists good limit refl
+    fuller-sound = turned-sound h k.store c (conn_in h.conns c) fuller sound there' counts (shares_move shares).stays (shares.tidy sound.tidy) ((shares_move shares).still sound.still) (all_settled_same h.store k.store shares.arena shares.pools sound.settled) lists (ap page_count shares.arena) good limit refl
         (turned_fds h k.store c (conn_in h.conns c) fuller sound there' (λ open'. open'))
 
     fits : (f : Reading) → n ≡ (writing.iol_write (read_of f h) d fd a).answer
@@ -141,12 +142,12 @@ module _ (h : KernelState) (d fd a c : ℕ) (from : List Slice) (sound : IsSound
         let s : State = read_of f h in
         count
         ∙ ap (λ m. fitting (conn_in h.conns c).outgoing m) (ap byte_len (slices_found h.domains d a from found) ∙ sym (length_text-read_of f h d a))
-        ∙ sym (fits_meant f s c (length (machine.text s d a)) (conn_in h.conns c) (conn_found f h c (conn_in h.conns c) there'))
+        ∙ sym (fits_meant f.at s c (length (machine.text s d a)) (conn_in h.conns c) (conn_found f h c (conn_in h.conns c) there'))
         ∙ ap (λ (o : Option Descriptor). writing.fitting s o (length (machine.text s d a))) (sym (to f))
 
     queued : (f : Reading) → read f (conn_in k.conns c).outgoing ≡ read f (conn_in h.conns c).outgoing ++ take n (machine.text (read_of f h) d a)
     queued f =
-        read_pushed f (conn_in k.conns c).outgoing (conn_in h.conns c).outgoing from n places'
+        read_pushed f.at (conn_in k.conns c).outgoing (conn_in h.conns c).outgoing from n places'
         ∙ ap (λ (t : Text). read f (conn_in h.conns c).outgoing ++ take n t) (ap (read f) (slices_found h.domains d a from found) ∙ sym (text-read_of f h d a))
 
     after : (f : Reading) → read_of f k ≡ (writing.iol_write (read_of f h) d fd a).after

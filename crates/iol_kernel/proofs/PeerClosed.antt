@@ -49,11 +49,11 @@ module _ (h : KernelState) (t : Stored) (c : ℕ) (x : Conn (List Slice)) (sound
 
   module _ (how : How) (moves : Moves h.store t (bufs_of x.outgoing) (bufs_of (closed_by x how).outgoing)) (lists : SameLists h.store t) (frees : FreesOnly h.store t) (settled : AllSettled t) where
     pub peer_closed-sound : IsSound (turned h t c x (closed_by x how) sound found)
-    peer_closed-sound = turned-sound h t c x (closed_by x how) sound found (left_counts how moves) moves.stays (moves.tidy sound.tidy) (moves.still sound.still) settled lists (left_good how) (left_limit how) (left_pool how) (left_fds how)
+    peer_closed-sound = turned-sound h t c x (closed_by x how) sound found (left_counts how moves) moves.stays (moves.tidy sound.tidy) (moves.still sound.still) settled lists (keeps_pages_frees frees).count (left_good how) (left_limit how) (left_pool how) (left_fds how)
 
     pub peer_closed_leaves : Leaves (λ s. record s { conns = changed s.conns c (outside.closed_by (machine.conn_at s c) how) }) h (turned h t c x (closed_by x how) sound found)
-    peer_closed_leaves = turned_leaves h t c x (closed_by x how) sound found (left_counts how moves) moves.stays (moves.tidy sound.tidy) (moves.still sound.still) settled lists (left_good how) (left_limit how) (left_pool how) (left_fds how)
-        (λ w. outside.closed_by w how) (λ f. closes_meant f x how) (keeps_pages_frees frees)
+    peer_closed_leaves = turned_leaves h t c x (closed_by x how) sound found (left_counts how moves) moves.stays (moves.tidy sound.tidy) (moves.still sound.still) settled lists (keeps_pages_frees frees).count (left_good how) (left_limit how) (left_pool how) (left_fds how)
+        (λ w. outside.closed_by w how) (λ f. closes_meant f.at x how) (keeps_pages_frees frees)
 
 -- All of it, for the state that it leaves.
 

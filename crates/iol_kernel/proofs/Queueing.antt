@@ -12,6 +12,7 @@ use Rattle.iol_core.specs.State as machine
 use Rattle.iol_core.specs.State.{State, Domain}
 use Rattle.iol_core.specs.declared.descriptors.Descriptor.TheVariants as on
 use Rattle.iol_hold.specs.Stored.{Stored}
+use Rattle.iol_arena.specs.State.{page_count}
 use Rattle.iol_hold.specs.Moves.{Shares}
 use Rattle.iol_hold.specs.Places.{places, byte_len}
 use Rattle.iol_hold.specs.Texts.{bufs_of, AllReadable, byte_at}
@@ -25,7 +26,8 @@ use Rattle.iol_pipe.proofs.Texts.{readable_pushed, readable_given}
 use Rattle.iol_desc.specs.Tables.{agg_in, domain_in, with_agg_in, live_aggs_in}
 use Rattle.iol_kernel.specs.Views.{Pipe, Objects}
 use Rattle.iol_kernel.specs.Counted.{IsCounted}
-use Rattle.iol_kernel.specs.KernelState.{KernelState, objects_of, Each, IsOpenEnd, IsPipeReadable, AreReadable, IsDomainReadable, IsShort, IsLimited, IsSound, queue_at, Reading, read_of}
+use Rattle.iol_kernel.specs.KernelState.{KernelState, objects_of, Each, IsOpenEnd, IsPipeReadable, AreReadable, IsDomainReadable, IsShort, IsLimited, IsSound, queue_at, read_of}
+use Rattle.iol_kernel.specs.Readings.{Reading, bytes_over}
 use Rattle.iol_kernel.proofs.Uses.{uses-set_pipe, uses-with_agg}
 use Rattle.iol_kernel.proofs.Once.{once_same}
 use Rattle.iol_kernel.proofs.Sound.{with_pipes, each-get, each-set, each-weaker, agg_readable, add_readable, fds_stay, limits_agg}
@@ -82,13 +84,13 @@ module _ (h : KernelState) (t : Stored) (qs : List (Option (Pipe (List Slice))))
   queue_good = readable_pushed (queue_at qs p).queue (queue_at h.pipes p).queue from n places' (queue_readable h p sound) (agg_readable h d a from sound found)
 
   more_good : AreReadable h.store (record (objects_of h) { pipes = more })
-  more_good = record { pipes = each-set (IsPipeReadable h.store) h.pipes p (Some (record (queue_at h.pipes p) { queue = (queue_at qs p).queue })) sound.objects.pipes queue_good; conns = sound.objects.conns }
+  more_good = record { pipes = each-set (IsPipeReadable h.store) h.pipes p (Some (record (queue_at h.pipes p) { queue = (queue_at qs p).queue })) sound.objects.pipes queue_good; conns = sound.objects.conns; files = sound.objects.files }
 
   pub pushed-sound : IsSound (record h { store = t; pipes = qs })
   pushed-sound = subst (λ (ys : List (Option (Pipe (List Slice)))). IsSound (record h { store = t; pipes = ys })) (sym pipes')
       (moved-sound h.store (record h { store = t; pipes = more }) (shares_move shares).stays more_counted (shares.tidy sound.tidy) ((shares_move shares).still sound.still) (all_settled_same h.store t shares.arena shares.pools sound.settled) sound.domains more_good
       (each-weaker (λ (x : Domain (List Slice)). Each (IsOpenEnd (objects_of h)) x.fds) (λ (x : Domain (List Slice)). Each (IsOpenEnd (record (objects_of h) { pipes = more })) x.fds) h.domains (λ x e. ends_queued (objects_of h) p (queue_at qs p).queue there x.fds e) sound.fds) sound.once
-      (queue_limits h p (queue_at qs p).queue sound short) (pools_pooled h.store t h.conns shares.pools sound.pooled) sound.sums)
+      (queue_limits h p (queue_at qs p).queue sound short) (pools_pooled h.store t h.conns h.cache.files shares.pools sound.pooled) sound.sums sound.filed sound.cached (ap page_count shares.arena))
 
 pub writing_held : (f : Reading) (h : KernelState) (d fd p : ℕ) → IsSound h → machine.descriptor (read_of f h) d fd ≡ Some (on.WriteEnd p) → (queue_at h.pipes p).writing ≡ true
 writing_held f h d fd p sound is = end_held f h d fd (on.WriteEnd p) sound is
@@ -117,6 +119,7 @@ module _ (h : KernelState) (t : Stored) (ds : List (Domain (List Slice))) (qs : 
     pipes = each-set (IsPipeReadable h.store) h.pipes p (Some (record (queue_at h.pipes p) { queue = (queue_at qs p).queue })) sound.objects.pipes
         (readable_rest (queue_at qs p).queue (queue_at h.pipes p).queue (byte_len takes.slices) takes.left (queue_readable h p sound));
     conns = sound.objects.conns;
+    files = sound.objects.files;
   }
 
   given_good : Each (IsDomainReadable h.store) given
@@ -151,7 +154,7 @@ module _ (h : KernelState) (t : Stored) (ds : List (Domain (List Slice))) (qs : 
         (fds_stay (record (objects_of h) { pipes = less }) h.domains d (record x { aggs = x.aggs ++ (x.next_agg, takes.slices) ∷ []; next_agg = x.next_agg + 1 })
         (each-weaker (λ (x : Domain (List Slice)). Each (IsOpenEnd (objects_of h)) x.fds) (λ (x : Domain (List Slice)). Each (IsOpenEnd (record (objects_of h) { pipes = less })) x.fds) h.domains (λ x e. ends_queued (objects_of h) p (queue_at qs p).queue there' x.fds e) sound.fds) refl)
         (once_same h.domains d (record x { aggs = x.aggs ++ (x.next_agg, takes.slices) ∷ []; next_agg = x.next_agg + 1 }) live refl sound.once)
-        (limits_agg h.domains (record (objects_of h) { pipes = less }) d takes.slices (queue_limits h p (queue_at qs p).queue sound parts_short.1) live (omega (arith, parts_short.0)) few) (pools_pooled h.store t h.conns takes.shares.pools sound.pooled) sound.sums))
+        (limits_agg h.domains (record (objects_of h) { pipes = less }) d takes.slices (queue_limits h p (queue_at qs p).queue sound parts_short.1) live (omega (arith, parts_short.0)) few) (pools_pooled h.store t h.conns h.cache.files takes.shares.pools sound.pooled) sound.sums sound.filed sound.cached (ap page_count takes.shares.arena)))
 
 -- An open descriptor that is neither a connection nor a pipe's end for writing, or for reading, is not open for it.
 
@@ -173,7 +176,7 @@ pub taken_answers : (h : KernelState) (t : Stored) (ds : List (Domain (List Slic
     → TakesFront h.store t (queue_at h.pipes p).queue (queue_at qs p).queue h.domains ds d n → qs ≡ with_queue_of h.pipes p qs → (domain_in h.domains d).live ≡ true → live_aggs_in h.domains < MAX_AGGREGATES → a ≡ (domain_in h.domains d).next_agg
     → Answers (λ s. reading.iol_read s d fd n) h a (record h { store = t; domains = ds; pipes = qs })
 taken_answers h t ds qs fd p d n a sound from takes pipes' live few number =
-    let reading' = reading_held (byte_at h.store) h d fd p sound (from (byte_at h.store)) in
+    let reading' = reading_held (bytes_over [] h.store) h d fd p sound (from (bytes_over [] h.store)) in
     record {
       answer = λ f keeps. number ∙ sym (next_agg-read_of f h d);
       after = λ f keeps. taken-read h t ds qs p d n reading' takes pipes' f keeps ∙ ap (λ (o : Option Descriptor). aggs.with_agg (reading.read_on (read_of f h) d fd o (length (reading.read_text (read_of f h) d o n))) d (reading.read_text (read_of f h) d o n)) (sym (from f));
@@ -188,7 +191,7 @@ pub pushed_answers : (h : KernelState) (t : Stored) (qs : List (Option (Pipe (Li
     → n ≡ min (byte_len from) (MAX_QUEUE_BYTES - byte_len (queue_at h.pipes p).queue) → places (queue_at qs p).queue ≡ places (queue_at h.pipes p).queue ++ take n (places from) → qs ≡ with_queue_of h.pipes p qs → Shares h.store t (bufs_of (queue_at h.pipes p).queue) (bufs_of (queue_at qs p).queue)
     → Answers (λ s. writing.iol_write s d fd a) h n (record h { store = t; pipes = qs })
 pushed_answers h t qs fd p n d a from sound to found short is places' pipes' shares =
-    let writing' = writing_held (byte_at h.store) h d fd p sound (to (byte_at h.store)) in
+    let writing' = writing_held (bytes_over [] h.store) h d fd p sound (to (bytes_over [] h.store)) in
     record {
       answer = λ f keeps. fits f h p d a from n found is ∙ ap (λ (o : Option Descriptor). writing.fitting (read_of f h) o (length (machine.text (read_of f h) d a))) (sym (to f));
       after = λ f keeps. pushed-read h t qs p n d a from writing' found places' pipes' shares f

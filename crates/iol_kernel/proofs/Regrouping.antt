@@ -11,7 +11,7 @@ use Rattle.iol_core.specs.declared.numbers.BufId.{BufId}
 use Rattle.iol_core.proofs.Lookups.{lookup-without}
 use Rattle.iol_pool.specs.Pools.{Pool}
 use Rattle.iol_hold.specs.Stored.{Stored}
-use Rattle.iol_hold.specs.Layout.{read}
+use Rattle.iol_arena.specs.State.{page_count}
 use Rattle.iol_hold.specs.Moves.{Shares, tally}
 use Rattle.iol_hold.specs.Places.{places, byte_len}
 use Rattle.iol_hold.specs.Texts.{bufs_of, AllReadable}
@@ -25,7 +25,8 @@ use Rattle.iol_hold.proofs.Slicing.{byte_len-append}
 use Rattle.iol_desc.specs.Tables.{domain_in, with_domain_in, agg_in, live_aggs_in}
 use Rattle.iol_kernel.specs.Views.{Objects, domain_view, state_view}
 use Rattle.iol_kernel.specs.Counted.{uses, domain_uses}
-use Rattle.iol_kernel.specs.KernelState.{KernelState, objects_of, Each, IsDomainReadable, IsSound, slices_in, Reading, read_of}
+use Rattle.iol_kernel.specs.KernelState.{KernelState, objects_of, Each, IsDomainReadable, IsSound, slices_in, read_of}
+use Rattle.iol_kernel.specs.Readings.{Reading, read}
 use Rattle.iol_kernel.specs.Regrouped.{with_two, with_one, joined_in, SplitsAgg}
 use Rattle.iol_kernel.proofs.Pooling.{pools_pooled}
 use Rattle.iol_kernel.proofs.Effects.{moved-sound}
@@ -54,33 +55,33 @@ regrouped-sound h t d x given taken sound live same shares readable counts small
       few = (let s = sum-with_domain (λ (y : Domain (List Slice)). length y.aggs) h.domains d x live in omega (arith, few, s));
       objects = sound.limits.objects;
     })
-    (pools_pooled h.store t h.conns shares.pools sound.pooled) sound.sums
+    (pools_pooled h.store t h.conns h.cache.files shares.pools sound.pooled) sound.sums sound.filed sound.cached (ap page_count shares.arena)
 
 -- An aggregate is split.
 
 split-view : (f : Reading) (ds : List (Domain (List Slice))) (ps : List Pool) (qs : Objects (List Slice)) (d a at : ℕ) (first second : List Slice) → places first ≡ take at (places (slices_in ds d a)) → places second ≡ drop at (places (slices_in ds d a))
-    → state_view (read f) (with_domain_in ds d (with_two (domain_in ds d) a first second)) ps qs ≡ (aggs.agg_split (state_view (read f) ds ps qs) d a at).after
+    → state_view f (with_domain_in ds d (with_two (domain_in ds d) a first second)) ps qs ≡ (aggs.agg_split (state_view f ds ps qs) d a at).after
 split-view f ds ps qs d a at first second before after =
-    let s : State = state_view (read f) ds ps qs in
+    let s : State = state_view f ds ps qs in
     let x : Domain (List Slice) = domain_in ds d in
     let n : ℕ = x.next_agg in
     let xs : List Slice = slices_in ds d a in
     let text : Text = machine.text s d a in
-    let one : read f first ≡ take at text = read_taken f first xs at before ∙ ap (λ (w : Text). take at w) (sym (text-view f ds ps qs d a)) in
-    let two : read f second ≡ drop at text = read_rest f second xs at after ∙ ap (λ (w : Text). drop at w) (sym (text-view f ds ps qs d a)) in
-    with_domain-view (read f) ds ps qs d (with_two x a first second)
+    let one : read f first ≡ take at text = read_taken f.at first xs at before ∙ ap (λ (w : Text). take at w) (sym (text-view f ds ps qs d a)) in
+    let two : read f second ≡ drop at text = read_rest f.at second xs at after ∙ ap (λ (w : Text). drop at w) (sym (text-view f ds ps qs d a)) in
+    with_domain-view f ds ps qs d (with_two x a first second)
     ∙ ap (λ (es : List (ℕ × Text)). machine.with_domain s d (record (domain_view (read f) x) { aggs = es; next_agg = n + 2 })) (map-append (λ (e : ℕ × List Slice). (e.0, read f e.1)) (without x.aggs a) ((n, first) ∷ (n + 1, second) ∷ []))
     ∙ ap (λ (es : List (ℕ × Text)). machine.with_domain s d (record (domain_view (read f) x) { aggs = es ++ (n, read f first) ∷ (n + 1, read f second) ∷ []; next_agg = n + 2 })) (without-map (read f) x.aggs a)
     ∙ ap (λ (w : Text). machine.with_domain s d (record (domain_view (read f) x) { aggs = without (domain_view (read f) x).aggs a ++ (n, w) ∷ (n + 1, read f second) ∷ []; next_agg = n + 2 })) one
     ∙ ap (λ (w : Text). machine.with_domain s d (record (domain_view (read f) x) { aggs = without (domain_view (read f) x).aggs a ++ (n, take at text) ∷ (n + 1, w) ∷ []; next_agg = n + 2 })) two
-    ∙ ap (λ (y : Domain Text). machine.with_domain s d (record y { aggs = without y.aggs a ++ (y.next_agg, take at text) ∷ (y.next_agg + 1, drop at text) ∷ []; next_agg = y.next_agg + 2 })) (sym (domain-view (read f) ds ps qs d))
+    ∙ ap (λ (y : Domain Text). machine.with_domain s d (record y { aggs = without y.aggs a ++ (y.next_agg, take at text) ∷ (y.next_agg + 1, drop at text) ∷ []; next_agg = y.next_agg + 2 })) (sym (domain-view f ds ps qs d))
 
 module _ (h : KernelState) (t : Stored) (ds : List (Domain (List Slice))) (d a at : ℕ) (splits : SplitsAgg h.store t h.domains ds d a at) where
   split-each : (f : Reading) → read_of f (record h { store = t; domains = ds }) ≡ (aggs.agg_split (read_of f h) d a at).after
   unfolding read_of
   split-each f =
-      ap (λ (ps : List Pool). state_view (read f) ds ps (objects_of h)) splits.shares.pools
-      ∙ ap (λ (ys : List (Domain (List Slice))). state_view (read f) ys h.store.pools (objects_of h)) splits.split
+      ap (λ (ps : List Pool). state_view f ds ps (objects_of h)) splits.shares.pools
+      ∙ ap (λ (ys : List (Domain (List Slice))). state_view f ys h.store.pools (objects_of h)) splits.split
       ∙ split-view f h.domains h.store.pools (objects_of h) d a at splits.first splits.second splits.before splits.after
 
   split-sound : IsSound h → (domain_in h.domains d).live ≡ true → agg_in h.domains d a ≢ None → live_aggs_in h.domains < MAX_AGGREGATES → IsSound (record h { store = t; domains = ds })
@@ -120,28 +121,28 @@ module _ (h : KernelState) (t : Stored) (ds : List (Domain (List Slice))) (d a a
 
 -- Two aggregates are joined; the store stays as it was.
 
-join-view : (f : Reading) (ds : List (Domain (List Slice))) (ps : List Pool) (qs : Objects (List Slice)) (d a b : ℕ) → state_view (read f) (joined_in ds d a b) ps qs ≡ (aggs.agg_join (state_view (read f) ds ps qs) d a b).after
+join-view : (f : Reading) (ds : List (Domain (List Slice))) (ps : List Pool) (qs : Objects (List Slice)) (d a b : ℕ) → state_view f (joined_in ds d a b) ps qs ≡ (aggs.agg_join (state_view f ds ps qs) d a b).after
 join-view f ds ps qs d a b =
-    let s : State = state_view (read f) ds ps qs in
+    let s : State = state_view f ds ps qs in
     let x : Domain (List Slice) = domain_in ds d in
     let n : ℕ = x.next_agg in
     let whole : List Slice = slices_in ds d a ++ slices_in ds d b in
     let text : Text = machine.text s d a ++ machine.text s d b in
     let one : read f whole ≡ text =
-    read-append f (slices_in ds d a) (slices_in ds d b)
+    read-append f.at (slices_in ds d a) (slices_in ds d b)
     ∙ ap (λ (w : Text). w ++ read f (slices_in ds d b)) (sym (text-view f ds ps qs d a))
     ∙ ap (λ (w : Text). machine.text s d a ++ w) (sym (text-view f ds ps qs d b)) in
-    with_domain-view (read f) ds ps qs d (with_one x a b whole)
+    with_domain-view f ds ps qs d (with_one x a b whole)
     ∙ ap (λ (es : List (ℕ × Text)). machine.with_domain s d (record (domain_view (read f) x) { aggs = es; next_agg = n + 1 })) (map-append (λ (e : ℕ × List Slice). (e.0, read f e.1)) (without (without x.aggs a) b) ((n, whole) ∷ []))
     ∙ ap (λ (es : List (ℕ × Text)). machine.with_domain s d (record (domain_view (read f) x) { aggs = es ++ (n, read f whole) ∷ []; next_agg = n + 1 })) (without-map (read f) (without x.aggs a) b)
     ∙ ap (λ (es : List (ℕ × Text)). machine.with_domain s d (record (domain_view (read f) x) { aggs = without es b ++ (n, read f whole) ∷ []; next_agg = n + 1 })) (without-map (read f) x.aggs a)
     ∙ ap (λ (w : Text). machine.with_domain s d (record (domain_view (read f) x) { aggs = without (without (domain_view (read f) x).aggs a) b ++ (n, w) ∷ []; next_agg = n + 1 })) one
-    ∙ ap (λ (y : Domain Text). machine.with_domain s d (record y { aggs = without (without y.aggs a) b ++ (y.next_agg, text) ∷ []; next_agg = y.next_agg + 1 })) (sym (domain-view (read f) ds ps qs d))
+    ∙ ap (λ (y : Domain Text). machine.with_domain s d (record y { aggs = without (without y.aggs a) b ++ (y.next_agg, text) ∷ []; next_agg = y.next_agg + 1 })) (sym (domain-view f ds ps qs d))
 
 module _ (h : KernelState) (ds : List (Domain (List Slice))) (d a b : ℕ) (joined : ds ≡ joined_in h.domains d a b) where
   join-each : (f : Reading) → read_of f (record h { domains = ds }) ≡ (aggs.agg_join (read_of f h) d a b).after
   unfolding read_of
-  join-each f = ap (λ (ys : List (Domain (List Slice))). state_view (read f) ys h.store.pools (objects_of h)) joined ∙ join-view f h.domains h.store.pools (objects_of h) d a b
+  join-each f = ap (λ (ys : List (Domain (List Slice))). state_view f ys h.store.pools (objects_of h)) joined ∙ join-view f h.domains h.store.pools (objects_of h) d a b
 
   join-sound : IsSound h → (domain_in h.domains d).live ≡ true → agg_in h.domains d a ≢ None → agg_in h.domains d b ≢ None → a ≢ b → byte_len (slices_in h.domains d a) + byte_len (slices_in h.domains d b) ≤ MAX_AGGREGATE_BYTES → IsSound (record h { domains = ds })
   join-sound sound live first second differ short =

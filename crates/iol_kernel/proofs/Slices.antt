@@ -12,12 +12,13 @@ use Rattle.iol_hold.specs.declared.slices.Slice.{Slice}
 use Rattle.iol_hold.proofs.Counting.{tally-append, tally_none}
 use Rattle.iol_hold.proofs.Reading.{readable_none}
 use Rattle.iol_desc.specs.Tables.{domain_in, agg_in}
-use Rattle.iol_kernel.specs.KernelState.{KernelState, objects_of, IsSound, slices_in, Reading, read_of}
+use Rattle.iol_kernel.specs.KernelState.{KernelState, objects_of, IsSound, slices_in, read_of}
+use Rattle.iol_kernel.specs.Readings.{Reading, read}
 use Rattle.iol_kernel.proofs.Views.{aggregate-view}
 use Rattle.iol_kernel.proofs.Sound.{agg_readable, agg_small}
-use Rattle.iol_kernel.proofs.Uses.{agg_covered, all_few, uses_few, countable}
+use Rattle.iol_kernel.proofs.Uses.{agg_covered, all_few, countable}
+use Rattle.iol_kernel.proofs.Slots.{uses_few}
 use Rattle.iol_core.specs.declared.limits.TheConstants.{MAX_AGGREGATE_BYTES}
-use Rattle.iol_hold.specs.Layout.{read}
 use Rattle.iol_kernel.proofs.ReadOf.{is_live-read_of, text-read_of, live_held}
 use Rattle.iol_kernel.specs.Calls.{IsFound, IsMissing}
 
@@ -35,11 +36,11 @@ found_slices ds d a there = of (agg_in ds d a) there
 
 pub none_held : (f : Reading) (h : KernelState) (d a : ℕ) → None ≡ agg_in h.domains d a → aggs.lacks_agg (read_of f h) d a ≡ true
 unfolding read_of
-none_held f h d a none = ap (λ (o : Option Text). is_none o) (aggregate-view (read f) h.domains h.store.pools (objects_of h) d a ∙ ap (option_map (read f)) (sym none))
+none_held f h d a none = ap (λ (o : Option Text). is_none o) (aggregate-view f h.domains h.store.pools (objects_of h) d a ∙ ap (option_map (read f)) (sym none))
 
 pub some_held : (f : Reading) (h : KernelState) (d a : ℕ) (xs : List Slice) → Some xs ≡ agg_in h.domains d a → aggs.lacks_agg (read_of f h) d a ≡ false
 unfolding read_of
-some_held f h d a xs found = ap (λ (o : Option Text). is_none o) (aggregate-view (read f) h.domains h.store.pools (objects_of h) d a ∙ ap (option_map (read f)) (sym found))
+some_held f h d a xs found = ap (λ (o : Option Text). is_none o) (aggregate-view f h.domains h.store.pools (objects_of h) d a ∙ ap (option_map (read f)) (sym found))
 
 pub there_held : (f : Reading) (h : KernelState) (d a : ℕ) → aggs.lacks_agg (read_of f h) d a ≡ false → agg_in h.domains d a ≢ None
 there_held f h d a there = λ none. (let lacks = none_held f h d a (sym none) in cc (lacks, there))

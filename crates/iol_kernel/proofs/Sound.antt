@@ -22,7 +22,10 @@ use Rattle.iol_sock.specs.Connections.{Conn, conn_view}
 use Rattle.iol_kernel.specs.Views.{domain_view, Pipe, Objects, pipe_view, state_view}
 use Rattle.iol_kernel.specs.Counted.{uses, domain_uses, pipe_uses, conn_uses, all_uses, IsCounted}
 use Rattle.iol_kernel.specs.Ends.{IsOpenOnce}
+use Rattle.iol_cache.specs.Cached as cached
 use Rattle.iol_kernel.specs.KernelState.{KernelState, objects_of, Each, IsDomainReadable, IsPipeReadable, IsConnReadable, AreReadable, IsOpenEnd, IsSound, IsShort, AreLimited, IsLimited}
+use Rattle.iol_kernel.specs.Readings.{bytes_over, slots_read}
+use Rattle.iol_kernel.proofs.Slots.{file_stays, slots_stay}
 use Rattle.iol_kernel.proofs.Uses.{uses-same, sum-with_domain, length-without}
 use Rattle.iol_core.specs.declared.limits.TheConstants.{MAX_AGGREGATES, MAX_AGGREGATE_BYTES, MAX_PIPES}
 
@@ -140,8 +143,12 @@ module _ (old new : Stored) (m : Stays old new) (ds : List (Domain (List Slice))
   conn_stays : (x : ℕ × Conn (List Slice)) → IsConnReadable old x → IsConnCovered new x → IsConnReadable new x
   conn_stays x e k = (readable_stays x.1.incoming m k.0 e.0, readable_stays x.1.outgoing m k.1 e.1)
 
+  pub files_held : Covers new (cached.held qs.cached)
+  files_held = record { each = λ b. omega (arith, held.each b) }
+
   pub objects_stay : AreReadable old qs → AreReadable new qs
   objects_stay e = record {
+    files = λ n. file_stays old new qs.cached n m files_held (e.files n);
     pipes = each-both (IsPipeReadable old) (IsPipeCovered new) (IsPipeReadable new) qs.pipes pipe_stays e.pipes pipes_held;
     conns = each-both (IsConnReadable old) (IsConnCovered new) (IsConnReadable new) qs.conns conn_stays e.conns conns_held;
   }
@@ -165,14 +172,15 @@ module _ (old new : Stored) (m : Stays old new) (ds : List (Domain (List Slice))
       ∙ ap {B = ℕ × machine.Connection} (λ (t : Text). (x.0, record (conn_view (text_of old) x.1) { outgoing = t })) (text_stays x.1.outgoing m k.1 e.1)
 
   -- so the machine has what it had
-  pub view-stays : (ps : List Pool) → Each (IsDomainReadable old) ds → AreReadable old qs → state_view (text_of new) ds ps qs ≡ state_view (text_of old) ds ps qs
+  pub view-stays : (ps : List Pool) → Each (IsDomainReadable old) ds → AreReadable old qs → (stored : List (List ℕ)) → state_view (bytes_over stored new) ds ps qs ≡ state_view (bytes_over stored old) ds ps qs
   unfolding state_view
-  view-stays ps e k =
-      ap (λ (xs : List (Domain Text)). record (state_view (text_of new) ds ps qs) { domains = xs }) (map-kept (IsDomainReadable old) (IsDomainCovered new) (domain_view (text_of new)) (domain_view (text_of old)) ds domain_same e domains_held)
-      ∙ ap (λ (xs : List (Option machine.Pipe)). record (state_view (text_of new) ds ps qs) { domains = map (domain_view (text_of old)) ds; pipes = xs })
+  view-stays ps e k stored =
+      ap (λ (xs : List (Domain Text)). record (state_view (bytes_over stored new) ds ps qs) { domains = xs }) (map-kept (IsDomainReadable old) (IsDomainCovered new) (domain_view (text_of new)) (domain_view (text_of old)) ds domain_same e domains_held)
+      ∙ ap (λ (xs : List (Option machine.Pipe)). record (state_view (bytes_over stored new) ds ps qs) { domains = map (domain_view (text_of old)) ds; pipes = xs })
       (map-kept (IsPipeReadable old) (IsPipeCovered new) (option_map (pipe_view (text_of new))) (option_map (pipe_view (text_of old))) qs.pipes pipe_same k.pipes pipes_held)
-      ∙ ap (λ (xs : List (ℕ × machine.Connection)). record (state_view (text_of old) ds ps qs) { conns = xs })
+      ∙ ap (λ (xs : List (ℕ × machine.Connection)). record (state_view (bytes_over stored old) ds ps qs) { slots = slots_read (bytes_over stored new) qs.cached; conns = xs })
       (map-kept {B = ℕ × machine.Connection} (IsConnReadable old) (IsConnCovered new) (seen_conn new) (seen_conn old) qs.conns conn_same k.conns conns_held)
+      ∙ ap (λ (xs : List (List ℕ)). record (state_view (bytes_over stored old) ds ps qs) { slots = xs }) (slots_stay stored old new qs.cached m files_held k.files)
 
 pub each-numbered : {A : Type 0} (P : A → Type 0) (xs : List A) (n : ℕ) (z : A) → Each P xs → P z → P (numbered_or xs n z)
 each-numbered P xs n z e p = elim (cases_eq n 0) [
@@ -235,6 +243,8 @@ sound_with h d x sound live same fds once = record {
   };
   pooled = sound.pooled;
   sums = sound.sums;
+  filed = sound.filed;
+  cached = sound.cached;
 }
 
 pub sound_fds : (h : KernelState) (d : ℕ) (xs : List (Option Descriptor)) → IsSound h → (domain_in h.domains d).live ≡ true → Each (IsOpenEnd (objects_of h)) xs → IsOpenOnce (with_fds_in h.domains d xs) → IsSound (record h { domains = with_fds_in h.domains d xs })
@@ -292,4 +302,4 @@ fds_stay qs ds d x e same =
 
 -- limits, when pipes change
 pub with_pipes : {o : Objects (List Slice)} {qs : List (Option (Pipe (List Slice)))} → AreLimited o → Each IsShort qs → length qs ≤ MAX_PIPES → AreLimited (record o { pipes = qs })
-with_pipes limits short few = record { queues = short; few_pipes = few; conns = limits.conns; few_conns = limits.few_conns; rising = limits.rising; last = limits.last }
+with_pipes limits short few = record { queues = short; few_pipes = few; conns = limits.conns; few_conns = limits.few_conns; rising = limits.rising; last = limits.last; cached = limits.cached; few_files = limits.few_files }

@@ -16,7 +16,6 @@ use Rattle.iol_core.specs.State.{State, Connection}
 use Rattle.iol_core.specs.Calls.Outside as outside
 use Rattle.iol_core.specs.declared.numbers.BufId.{BufId}
 use Rattle.iol_core.specs.declared.refusals.Refusal.{Refusal}
-use Rattle.iol_hold.specs.Layout.{read}
 use Rattle.iol_hold.specs.Stored.{Stored, count_of, AllSettled}
 use Rattle.iol_hold.specs.Moves.{Moves, SameLists}
 use Rattle.iol_hold.specs.Places.{places, byte_len}
@@ -33,7 +32,8 @@ use Rattle.iol_sock.specs.Refused.{segment_refusals, IsRefused}
 use Rattle.iol_sock.proofs.Meaning.{conn_at-is, sends_meant}
 use Rattle.iol_kernel.specs.Counted.{uses, conn_uses}
 use Rattle.iol_kernel.specs.KernelState as held
-use Rattle.iol_kernel.specs.KernelState.{KernelState, Each, IsConnReadable, IsSound, Reading, read_of, machine_of}
+use Rattle.iol_kernel.specs.KernelState.{KernelState, Each, IsConnReadable, IsSound, read_of, machine_of}
+use Rattle.iol_kernel.specs.Readings.{Reading, read, bytes_over}
 use Rattle.iol_kernel.specs.Calls.{Leaves, Transmits}
 use Rattle.iol_kernel.proofs.Numbering.{each_found}
 use Rattle.iol_kernel.proofs.Arriving.{refused_as}
@@ -53,6 +53,8 @@ summed k sums right sound = record {
   limits = sound.limits;
   pooled = sound.pooled;
   sums = right;
+  filed = sound.filed;
+  cached = sound.cached;
 }
 
 -- a change from a state with other sums is one from it
@@ -88,26 +90,26 @@ module _ (h : KernelState) (t : Stored) (c max : ℕ) (x : Conn (List Slice)) (q
       record { incoming = was.incoming; outgoing = omega (arith, was.outgoing, ap length rest, length-drop max (places x.outgoing)); waits = was.waits }
 
   pub sent-sound : IsSound (turned h t c x sent sound found)
-  sent-sound = turned-sound h t c x sent sound found sent_counts moves.stays (moves.tidy sound.tidy) (moves.still sound.still) settled lists sent_good sent_limit refl (turned_fds h t c x sent sound found (λ open'. open'))
+  sent-sound = turned-sound h t c x sent sound found sent_counts moves.stays (moves.tidy sound.tidy) (moves.still sound.still) settled lists (keeps_pages_frees frees).count sent_good sent_limit refl (turned_fds h t c x sent sound found (λ open'. open'))
 
   pub sent_leaves : Leaves (λ s. record s { conns = changed s.conns c (shorter max (machine.conn_at s c)) }) h (turned h t c x sent sound found)
-  sent_leaves = turned_leaves h t c x sent sound found sent_counts moves.stays (moves.tidy sound.tidy) (moves.still sound.still) settled lists sent_good sent_limit refl (turned_fds h t c x sent sound found (λ open'. open')) (shorter max)
-      (λ f. ap (λ (u : Text). record (conn_view (read f) x) { outgoing = u }) (sym (read_rest f q x.outgoing max rest))) (keeps_pages_frees frees)
+  sent_leaves = turned_leaves h t c x sent sound found sent_counts moves.stays (moves.tidy sound.tidy) (moves.still sound.still) settled lists (keeps_pages_frees frees).count sent_good sent_limit refl (turned_fds h t c x sent sound found (λ open'. open')) (shorter max)
+      (λ f. ap (λ (u : Text). record (conn_view (read f) x) { outgoing = u }) (sym (read_rest f.at q x.outgoing max rest))) (keeps_pages_frees frees)
 
 -- What the call means.
 
-pub send_refused : (h : KernelState) (c max : ℕ) (x : Conn (List Slice)) (r : Refusal) → lookup h.conns c ≡ Some x → IsRefused (segment_refusals x max) WantOfMemory r → Step (outside.transmit (machine_of h) c max) (machine_of h) (Err r) (machine_of h)
-send_refused h c max x r found refused =
-    refused_as (outside.transmit (machine_of h) c max) (machine_of h) (first (segment_refusals x max)) WantOfMemory r
-    (sends_meant (byte_at h.store) (machine_of h) c max x (conn_found (byte_at h.store) h c x found)) (λ late. late) refused
+pub send_refused : (stored : List (List ℕ)) (h : KernelState) (c max : ℕ) (x : Conn (List Slice)) (r : Refusal) → lookup h.conns c ≡ Some x → IsRefused (segment_refusals x max) WantOfMemory r → Step (outside.transmit (machine_of stored h) c max) (machine_of stored h) (Err r) (machine_of stored h)
+send_refused stored h c max x r found refused =
+    refused_as (outside.transmit (machine_of stored h) c max) (machine_of stored h) (first (segment_refusals x max)) WantOfMemory r
+    (sends_meant (byte_at h.store) (machine_of stored h) c max x (conn_found (bytes_over stored h.store) h c x found)) (λ late. late) refused
 
-pub send_done : (h k : KernelState) (c max : ℕ) (x : Conn (List Slice)) (bytes : List ℕ) (sum : ℕ) → lookup h.conns c ≡ Some x → first (segment_refusals x max) ≡ None → bytes ≡ bytes_of (take max (text_of h.store x.outgoing)) → sum ≡ checksum bytes
-    → machine_of k ≡ machine.with_conn (machine_of h) c (shorter max (machine.conn_at (machine_of h) c)) → Step (outside.transmit (machine_of h) c max) (machine_of h) (Ok (bytes, sum)) (machine_of k)
-send_done h k c max x bytes sum found passed first' sum' is =
-    let there = conn_found (byte_at h.store) h c x found in
-    let out : (machine.conn_at (machine_of h) c).outgoing ≡ text_of h.store x.outgoing = ap (λ (y : Connection). y.outgoing) (conn_at-is (byte_at h.store) (machine_of h) c x there) in
-    let same : bytes ≡ bytes_of (take max (machine.conn_at (machine_of h) c).outgoing) = first' ∙ ap (λ (u : Text). bytes_of (take max u)) (sym out) in (
-      sends_meant (byte_at h.store) (machine_of h) c max x there ∙ passed,
+pub send_done : (stored : List (List ℕ)) (h k : KernelState) (c max : ℕ) (x : Conn (List Slice)) (bytes : List ℕ) (sum : ℕ) → lookup h.conns c ≡ Some x → first (segment_refusals x max) ≡ None → bytes ≡ bytes_of (take max (text_of h.store x.outgoing)) → sum ≡ checksum bytes
+    → machine_of stored k ≡ machine.with_conn (machine_of stored h) c (shorter max (machine.conn_at (machine_of stored h) c)) → Step (outside.transmit (machine_of stored h) c max) (machine_of stored h) (Ok (bytes, sum)) (machine_of stored k)
+send_done stored h k c max x bytes sum found passed first' sum' is =
+    let there = conn_found (bytes_over stored h.store) h c x found in
+    let out : (machine.conn_at (machine_of stored h) c).outgoing ≡ text_of h.store x.outgoing = ap (λ (y : Connection). y.outgoing) (conn_at-is (byte_at h.store) (machine_of stored h) c x there) in
+    let same : bytes ≡ bytes_of (take max (machine.conn_at (machine_of stored h) c).outgoing) = first' ∙ ap (λ (u : Text). bytes_of (take max u)) (sym out) in (
+      sends_meant (byte_at h.store) (machine_of stored h) c max x there ∙ passed,
       (ap {B = List ℕ × ℕ} (λ n. (bytes, n)) sum' ∙ ap {B = List ℕ × ℕ} (λ bs. (bs, checksum bs)) same),
       is,
     )
@@ -147,7 +149,7 @@ module _ (h m l : KernelState) (c max : ℕ) (bytes : List ℕ) (sum : ℕ) (sou
 
     pub transmitted : UsesSent h.store (conn_in h.conns c).outgoing max h.sums l.sums → Transmits c max h (Ok (bytes, sum)) l
     transmitted uses = record {
-      step = send_done h l c max (conn_in h.conns c) bytes sum found passed first' sum' (unsummed (byte_at l.store) ∙ both.bytes);
+      step = λ stored. send_done stored h l c max (conn_in h.conns c) bytes sum found passed first' sum' (unsummed (bytes_over stored l.store) ∙ both.bytes stored);
       places = λ f keeps. unsummed f ∙ both.places f keeps;
       roomy = λ p e. never (bytes, sum) p e;
       pages = both.pages;
@@ -168,7 +170,7 @@ two_tests false false q e = cc e
 
 pub send_kept : (h k : KernelState) (c max : ℕ) (r : Refusal) → IsSound h → lookup h.conns c ≢ None → IsRefused (segment_refusals (conn_in h.conns c) max) WantOfMemory r → k ≡ h → Transmits c max h (Err r) k
 send_kept h k c max r sound there refused same = subst (λ (l : KernelState). Transmits c max h (Err r) l) (sym same) (record {
-  step = send_refused h c max (conn_in h.conns c) r (conn_in-found h.conns c there) refused;
+  step = λ stored. send_refused stored h c max (conn_in h.conns c) r (conn_in-found h.conns c there) refused;
   places = tt;
   roomy = λ p e. no_room (first (segment_refusals (conn_in h.conns c) max)) r p (two_tests (max == 0) (byte_len (conn_in h.conns c).outgoing == 0)) refused (error e);
   pages = pages_here h.store;

@@ -20,6 +20,7 @@ use Rattle.iol_kernel.specs.Views.{Pipe, Objects}
 use Rattle.iol_kernel.specs.Counted.{uses, domain_uses, pipe_uses, conn_uses, all_uses, IsCounted}
 use Rattle.iol_kernel.specs.KernelState.{Each, IsLimited, IsShort, IsConn, queue_at}
 use Rattle.iol_kernel.proofs.Rows.{live_numbered}
+use Rattle.iol_kernel.proofs.Slots.{uses_few, files_few}
 use Rattle.iol_core.specs.declared.limits.TheConstants.{MAX_AGGREGATE_BYTES, MAX_QUEUE_BYTES}
 
 abbrev pub Domains : Type 0
@@ -151,11 +152,6 @@ queue_covered s ds qs p counted there = record {
 
 -- How many there can be.
 
-pub uses_few : (b : BufId) (xs : List Slice) → uses b xs ≤ byte_len xs
-unfolding tally
-uses_few b [] = omega arith
-uses_few b (x ∷ xs) = let r = uses_few b xs in omega (arith, r, byte_len-cons x xs, same_few b x.hold.buf, x.some)
-
 aggs_few : (b : BufId) (es : List (ℕ × List Slice)) → Each (λ e. byte_len e.1 ≤ MAX_AGGREGATE_BYTES) es → sum_by (λ e. uses b e.1) es ≤ MAX_AGGREGATE_BYTES * length es
 aggs_few b [] h = omega arith
 aggs_few b (e ∷ es) h =
@@ -185,7 +181,7 @@ conns_few b (x ∷ cs) h = let r = conns_few b cs h.1 in let c = sum_by-cons (co
 pub all_few : (b : BufId) (ds : Domains) (qs : Objects (List Slice)) → IsLimited ds qs → all_uses ds qs b < 2 ^ 41
 all_few b ds qs limits =
     let o = limits.objects in
-    omega (arith, domains_few b ds limits.aggs, pipes_few b qs.pipes o.queues, conns_few b qs.conns o.conns, limits.few, o.few_pipes, o.few_conns)
+    omega (arith, domains_few b ds limits.aggs, pipes_few b qs.pipes o.queues, conns_few b qs.conns o.conns, files_few b qs.cached o.cached, limits.few, o.few_pipes, o.few_conns, o.few_files)
 
 -- holds more on an aggregate or queue within the limits
 pub countable : (s : Stored) (ds : Domains) (qs : Objects (List Slice)) (xs : List Slice) → IsCounted s ds qs → IsLimited ds qs → byte_len xs ≤ MAX_AGGREGATE_BYTES → IsCountable s (bufs_of xs)

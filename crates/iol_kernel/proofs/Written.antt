@@ -16,11 +16,10 @@ use Rattle.iol_core.specs.declared.numbers.BufId.{BufId}
 use Rattle.iol_core.specs.declared.refusals.Refusal.{Refusal}
 use Rattle.iol_core.specs.declared.refusals.Refusal.TheVariants.{NoDomain, BadFd, NoPool, WrongMode, TooLong, PoolClosed, BrokenPipe, WouldBlock}
 use Rattle.iol_pool.specs.Pools.{Pool}
-use Rattle.iol_hold.specs.Layout.{read}
 use Rattle.iol_hold.specs.Stored.{Stored, count_of}
 use Rattle.iol_hold.specs.Moves.{pool_meant, tally}
 use Rattle.iol_hold.specs.Places.{byte_len}
-use Rattle.iol_hold.specs.Texts.{text_of, bufs_of, byte_at, AllReadable}
+use Rattle.iol_hold.specs.Texts.{text_of, bufs_of, AllReadable}
 use Rattle.iol_hold.specs.declared.slices.Slice.{Slice}
 use Rattle.iol_hold.proofs.AtPlaces.{read-append, length-read}
 use Rattle.iol_hold.proofs.Counting.{tally-append, tally_none, bufs-append}
@@ -38,7 +37,8 @@ use Rattle.iol_kernel.specs.Counted.{IsCounted, uses, conn_uses}
 use Rattle.iol_kernel.specs.Queues.{with_queue_of}
 use Rattle.iol_kernel.specs.Views.{Objects, Pipe, pipe_view, state_view}
 use Rattle.iol_kernel.specs.KernelState as held
-use Rattle.iol_kernel.specs.KernelState.{KernelState, objects_of, Each, AreReadable, IsConnReadable, IsPipeReadable, IsOpenEnd, IsSound, Reading, read_of, machine_of, queue_at}
+use Rattle.iol_kernel.specs.KernelState.{KernelState, objects_of, Each, AreReadable, ArePooled, IsConnReadable, IsPipeReadable, IsOpenEnd, IsSound, read_of, machine_of, queue_at}
+use Rattle.iol_kernel.specs.Readings.{Reading, read, bytes_over}
 use Rattle.iol_kernel.proofs.Connecting.{conn_found, turned, turned_counted, turned_limits, turned_pooled, turned_fds, turned-read}
 use Rattle.iol_kernel.proofs.ConnQueues.{open_held, found_held, conn_at-read_of, with_on}
 use Rattle.iol_kernel.proofs.Effects.{adds_held}
@@ -47,7 +47,8 @@ use Rattle.iol_kernel.proofs.Numbering.{each-changed, each_found}
 use Rattle.iol_kernel.proofs.Pooling.{pools_pooled}
 use Rattle.iol_kernel.proofs.Queueing.{queue_limits, queue_short, writing_held}
 use Rattle.iol_kernel.proofs.ReadOf.{pipe_at-read_of, length_queue-read_of}
-use Rattle.iol_kernel.proofs.Sound.{AreHeld, domains_stay, objects_stay, view-stays, each-get, each-set, each-weaker}
+use Rattle.iol_kernel.proofs.Slots.{cache_stays}
+use Rattle.iol_kernel.proofs.Sound.{AreHeld, domains_stay, files_held, objects_stay, view-stays, each-get, each-set, each-weaker}
 use Rattle.iol_kernel.proofs.Uses.{uses-set_pipe}
 use Rattle.iol_kernel.proofs.Views.{with_pipe-view}
 
@@ -92,7 +93,7 @@ lent_set rs qs n p x q same is there =
     ∙ ap (λ (z : Pipe (List Slice)). slice_set rs p (Some (record (queue_at rs p) { queue = z.queue }))) (sym (lent_is qs n p x y is there))
 
 pub outgoing-read_of : (f : Reading) (h : KernelState) (c : ℕ) → length (machine.conn_at (read_of f h) c).outgoing ≡ byte_len (conn_in h.conns c).outgoing
-outgoing-read_of f h c = ap (λ (y : Connection). length y.outgoing) (conn_at-read_of f h c) ∙ length-read f (conn_in h.conns c).outgoing
+outgoing-read_of f h c = ap (λ (y : Connection). length y.outgoing) (conn_at-read_of f h c) ∙ length-read f.at (conn_in h.conns c).outgoing
 
 -- Behind what is to be sent on a connection.
 
@@ -127,10 +128,13 @@ module _ (h : KernelState) (t : Stored) (c pool : ℕ) (x : Conn (List Slice)) (
   longer_limit : held.IsConn (c, longer)
   longer_limit = let was : held.IsConn (c, x) = each_found held.IsConn h.conns c x sound.limits.objects.conns found in record { incoming = was.incoming; outgoing = short; waits = was.waits }
 
+  still_pooled : ArePooled t.pools (changed h.conns c longer) h.cache.files
+  still_pooled = turned_pooled h t c x longer sound found refl (pools_pooled h.store t h.conns h.cache.files adds.pools sound.pooled)
+
   sending-sound : IsSound sending
   sending-sound = record {
     domains = domains_stay h.store t adds.moves.stays h.domains (objects_of h) still_held sound.domains;
-    objects = record { pipes = others_good.pipes; conns = each-changed (IsConnReadable t) h.conns c longer others_good.conns longer_good };
+    objects = record { pipes = others_good.pipes; conns = each-changed (IsConnReadable t) h.conns c longer others_good.conns longer_good; files = others_good.files };
     fds = turned_fds h t c x longer sound found (λ open'. open');
     once = sound.once;
     counted = turned_counted h t c x longer sound found more_counts;
@@ -138,17 +142,19 @@ module _ (h : KernelState) (t : Stored) (c pool : ℕ) (x : Conn (List Slice)) (
     still = adds.moves.still sound.still;
     settled = adds.settles sound.settled;
     limits = turned_limits h t c x longer sound found longer_limit;
-    pooled = turned_pooled h t c x longer sound found refl (pools_pooled h.store t h.conns adds.pools sound.pooled);
+    pooled = still_pooled;
     sums = IsRight-keeps h.store.arena t.arena h.sums adds.moves.stays.keeps sound.sums;
+    filed = sound.filed;
+    cached = cache_stays h.store t h.cache adds.moves.stays (files_held h.store t adds.moves.stays h.domains (objects_of h) still_held) adds.pages.count still_pooled.files_open (adds.moves.tidy sound.tidy) (adds.moves.still sound.still) sound.cached;
   }
 
   sending-read : x.accepted ≡ true → x.closed ≡ false → (d fd : ℕ) (f : Reading) → machine.descriptor (read_of f h) d fd ≡ Some (on.Connection c) → read_of f sending ≡ put d fd (read_of f h) (read f adds.slices)
   sending-read accepted' closed' d fd f to =
       let s : State = read_of f h in
-      let is : machine.conn_at s c ≡ conn_view (read f) x = conn_at-is f s c x (conn_found f h c x found) in
+      let is : machine.conn_at s c ≡ conn_view (read f) x = conn_at-is f.at s c x (conn_found f h c x found) in
       let w : Text → Connection = λ u. record (conn_view (read f) x) { outgoing = u } in
       turned-read h t c x longer sound found (ap (map pool_meant) adds.pools) f
-      ∙ ap (λ (u : Text). record s { conns = changed s.conns c (w u) }) (ap (read f) adds.added ∙ read-append f x.outgoing adds.slices)
+      ∙ ap (λ (u : Text). record s { conns = changed s.conns c (w u) }) (ap (read f) adds.added ∙ read-append f.at x.outgoing adds.slices)
       ∙ sym (with_on s c (w (read f x.outgoing ++ read f adds.slices)) accepted' closed')
       ∙ ap (λ (y : Connection). machine.with_conn s c (record y { outgoing = y.outgoing ++ read f adds.slices })) (sym is)
       ∙ ap (λ (o : Option Descriptor). writing.written s d fd o (read f adds.slices)) (sym to)
@@ -199,10 +205,13 @@ module _ (h : KernelState) (t : Stored) (p pool : ℕ) (q : List Slice) (bytes :
     );
   }
 
+  open_pooled : ArePooled t.pools h.conns h.cache.files
+  open_pooled = pools_pooled h.store t h.conns h.cache.files adds.pools sound.pooled
+
   filling-sound : IsSound filling
   filling-sound = record {
     domains = domains_stay h.store t adds.moves.stays h.domains (objects_of h) still_there sound.domains;
-    objects = record { pipes = each-set (IsPipeReadable t) h.pipes p (Some fuller) rest_good.pipes (subst (AllReadable t) (sym adds.added) (readable_joined queue_good adds.readable)); conns = rest_good.conns };
+    objects = record { pipes = each-set (IsPipeReadable t) h.pipes p (Some fuller) rest_good.pipes (subst (AllReadable t) (sym adds.added) (readable_joined queue_good adds.readable)); conns = rest_good.conns; files = rest_good.files };
     fds = each-weaker (λ (z : Domain (List Slice)). Each (IsOpenEnd (objects_of h)) z.fds) (λ (z : Domain (List Slice)). Each (IsOpenEnd (record (objects_of h) { pipes = more })) z.fds) h.domains (λ z e. ends_queued (objects_of h) p q there z.fds e) sound.fds;
     once = sound.once;
     counted = filling-counted;
@@ -210,49 +219,51 @@ module _ (h : KernelState) (t : Stored) (p pool : ℕ) (q : List Slice) (bytes :
     still = adds.moves.still sound.still;
     settled = adds.settles sound.settled;
     limits = queue_limits h p q sound short;
-    pooled = pools_pooled h.store t h.conns adds.pools sound.pooled;
+    pooled = open_pooled;
     sums = IsRight-keeps h.store.arena t.arena h.sums adds.moves.stays.keeps sound.sums;
+    filed = sound.filed;
+    cached = cache_stays h.store t h.cache adds.moves.stays (files_held h.store t adds.moves.stays h.domains (objects_of h) still_there) adds.pages.count open_pooled.files_open (adds.moves.tidy sound.tidy) (adds.moves.still sound.still) sound.cached;
   }
 
   filling-read : (d fd : ℕ) (f : Reading) → machine.descriptor (read_of f h) d fd ≡ Some (on.WriteEnd p) → read_of f filling ≡ put d fd (read_of f h) (read f adds.slices)
   unfolding read_of
   filling-read d fd f to =
       let m : State = read_of f h in
-      ap (λ (ps : List Pool). state_view (read f) h.domains ps (record (objects_of h) { pipes = more })) adds.pools
-      ∙ with_pipe-view (read f) h.domains h.store.pools (objects_of h) p fuller (right_true fuller.reading fuller.writing writing')
-      ∙ ap (λ (u : Text). machine.with_pipe m p (record (pipe_view (read f) (queue_at h.pipes p)) { queue = u })) (ap (read f) adds.added ∙ read-append f (queue_at h.pipes p).queue adds.slices)
+      ap (λ (ps : List Pool). state_view f h.domains ps (record (objects_of h) { pipes = more })) adds.pools
+      ∙ with_pipe-view f h.domains h.store.pools (objects_of h) p fuller (right_true fuller.reading fuller.writing writing')
+      ∙ ap (λ (u : Text). machine.with_pipe m p (record (pipe_view (read f) (queue_at h.pipes p)) { queue = u })) (ap (read f) adds.added ∙ read-append f.at (queue_at h.pipes p).queue adds.slices)
       ∙ ap (λ (w : machine.Pipe). machine.with_pipe m p (record w { queue = w.queue ++ read f adds.slices })) (sym (pipe_at-read_of f h p))
       ∙ ap (λ (o : Option Descriptor). writing.written m d fd o (read f adds.slices)) (sym to)
 
 -- What the call means, of either.
 
-module _ (h k : KernelState) (d fd pool n : ℕ) (old q : List Slice) (bytes : List ℕ) (sound : IsSound h) (passed : first (writing.write (machine_of h) d fd bytes).refusals ≡ None) (pool' : pool ≡ writing.pool_for (machine_of h) d (machine.descriptor (machine_of h) d fd))
-    (number : n ≡ (writing.write (machine_of h) d fd bytes).answer) (adds : AddsBytes h.store k.store old q pool (take n bytes)) (each : (f : Reading) → read_of f k ≡ put d fd (read_of f h) (read f adds.slices)) (sums : k.sums ≡ h.sums) where
+module _ (h k : KernelState) (d fd pool n : ℕ) (old q : List Slice) (bytes : List ℕ) (sound : IsSound h) (passed : first (writing.write (machine_of [] h) d fd bytes).refusals ≡ None) (pool' : pool ≡ writing.pool_for (machine_of [] h) d (machine.descriptor (machine_of [] h) d fd))
+    (number : n ≡ (writing.write (machine_of [] h) d fd bytes).answer) (adds : AddsBytes h.store k.store old q pool (take n bytes)) (each : (f : Reading) → read_of f k ≡ put d fd (read_of f h) (read f adds.slices)) (sums : k.sums ≡ h.sums) where
   held' : AreHeld k.store h.domains (objects_of h)
   held' = adds_held h.store k.store h.domains (objects_of h) adds.slices sound.counted adds.moves
 
-  held-read : read_of (byte_at k.store) h ≡ machine_of h
+  held-read : read_of (bytes_over [] k.store) h ≡ machine_of [] h
   unfolding read_of
-  held-read = view-stays h.store k.store adds.moves.stays h.domains (objects_of h) held' h.store.pools sound.domains sound.objects
+  held-read = view-stays h.store k.store adds.moves.stays h.domains (objects_of h) held' h.store.pools sound.domains sound.objects []
 
-  pub put_step : Step (writing.write (machine_of h) d fd bytes) (machine_of h) (Ok n) (machine_of k)
+  pub put_step : Step (writing.write (machine_of [] h) d fd bytes) (machine_of [] h) (Ok n) (machine_of [] k)
   put_step = (
     passed,
     number,
-    each (byte_at k.store)
+    each (bytes_over [] k.store)
         ∙ ap (λ (s : State). put d fd s (text_of k.store adds.slices)) held-read
-        ∙ ap (put d fd (machine_of h)) adds.is_text
-        ∙ ap (λ p. put d fd (machine_of h) (labelled p (take n bytes))) pool'
-        ∙ ap (λ m. put d fd (machine_of h) (labelled (writing.pool_for (machine_of h) d (machine.descriptor (machine_of h) d fd)) (take m bytes))) number,
+        ∙ ap (put d fd (machine_of [] h)) adds.is_text
+        ∙ ap (λ p. put d fd (machine_of [] h) (labelled p (take n bytes))) pool'
+        ∙ ap (λ m. put d fd (machine_of [] h) (labelled (writing.pool_for (machine_of [] h) d (machine.descriptor (machine_of [] h) d fd)) (take m bytes))) number,
   )
 
   pub put_made : MakesBytes (put d fd) pool n h k
   put_made =
-      let long : n ≤ length bytes = omega (arith, number, fits_all (machine.descriptor (machine_of h) d fd)) in
+      let long : n ≤ length bytes = omega (arith, number, fits_all (machine.descriptor (machine_of [] h) d fd)) in
       let size : length (take n bytes) ≡ n = omega (arith, length-take n bytes, long) in
       subst (λ m. MakesBytes (put d fd) pool m h k) size (record { slices = adds.slices; each = each; sums = sums; made_on = adds.made_on; pages = adds.pages })
     where
-      fits_all : (o : Option Descriptor) → writing.fitting (machine_of h) o (length bytes) ≤ length bytes
+      fits_all : (o : Option Descriptor) → writing.fitting (machine_of [] h) o (length bytes) ≤ length bytes
       fits_all None = omega arith
       fits_all (Some (on.File f at mode)) = omega arith
       fits_all (Some (on.ReadEnd p)) = omega arith
@@ -261,10 +272,10 @@ module _ (h k : KernelState) (d fd pool n : ℕ) (old q : List Slice) (bytes : L
 
 -- a late refusal, and what there was to refuse before it
 
-pub put_late : (h k : KernelState) (d fd pool : ℕ) (bytes : List ℕ) (r : Refusal) → first (writing.write (machine_of h) d fd bytes).refusals ≡ None → pool ≡ writing.pool_for (machine_of h) d (machine.descriptor (machine_of h) d fd) → WantOfRoom pool r → k ≡ h → Step (writing.write (machine_of h) d fd bytes) (machine_of h) (Err r) (machine_of k)
+pub put_late : (h k : KernelState) (d fd pool : ℕ) (bytes : List ℕ) (r : Refusal) → first (writing.write (machine_of [] h) d fd bytes).refusals ≡ None → pool ≡ writing.pool_for (machine_of [] h) d (machine.descriptor (machine_of [] h) d fd) → WantOfRoom pool r → k ≡ h → Step (writing.write (machine_of [] h) d fd bytes) (machine_of [] h) (Err r) (machine_of [] k)
 put_late h k d fd pool bytes r passed pool' late same = (
-  subst (λ (o : Option Refusal). MatchOption o ((writing.write (machine_of h) d fd bytes).Late r) (λ y. r ≡ y)) (sym passed) (subst (λ p. WantOfRoom p r) pool' late),
-  ap machine_of same,
+  subst (λ (o : Option Refusal). MatchOption o ((writing.write (machine_of [] h) d fd bytes).Late r) (λ y. r ≡ y)) (sym passed) (subst (λ p. WantOfRoom p r) pool' late),
+  ap (machine_of []) same,
 )
 
 later : (o : Option Refusal) (rest : List (Option Refusal)) → first (o ∷ rest) ≡ None → first rest ≡ None
@@ -295,15 +306,15 @@ module _ (h : KernelState) (d fd c : ℕ) (bytes : List ℕ) (sound : IsSound h)
   here : lookup h.conns c ≡ Some y
   here = found_held h d fd c sound to
 
-  pub sends-count : (writing.write (machine_of h) d fd bytes).answer ≡ fitting y.outgoing (length bytes)
+  pub sends-count : (writing.write (machine_of [] h) d fd bytes).answer ≡ fitting y.outgoing (length bytes)
   sends-count =
-      let f = byte_at h.store in
-      ap (λ (o : Option Descriptor). writing.fitting (machine_of h) o (length bytes)) (to f) ∙ fits_meant f (machine_of h) c (length bytes) y (conn_found f h c y here)
+      let f = bytes_over [] h.store in
+      ap (λ (o : Option Descriptor). writing.fitting (machine_of [] h) o (length bytes)) (to f) ∙ fits_meant f.at (machine_of [] h) c (length bytes) y (conn_found f h c y here)
 
-  pub sends_late : (pool : ℕ) (r : Refusal) → first (writing.write (machine_of h) d fd bytes).refusals ≡ None → IsRefused (queue_refusals y (length bytes)) (WantOfRoom pool) r → WantOfRoom pool r
+  pub sends_late : (pool : ℕ) (r : Refusal) → first (writing.write (machine_of [] h) d fd bytes).refusals ≡ None → IsRefused (queue_refusals y (length bytes)) (WantOfRoom pool) r → WantOfRoom pool r
   sends_late pool r passed refused =
-      let f = byte_at h.store in
-      let none = sym (queues_meant f (machine_of h) c (length bytes) y (conn_found f h c y here)) ∙ last_tests (machine_of h) d fd bytes (Some (on.Connection c)) (to f) passed in
+      let f = bytes_over [] h.store in
+      let none = sym (queues_meant f.at (machine_of [] h) c (length bytes) y (conn_found f h c y here)) ∙ last_tests (machine_of [] h) d fd bytes (Some (on.Connection c)) (to f) passed in
       subst (λ (o : Option Refusal). MatchOption o (WantOfRoom pool r) (λ z. r ≡ z)) none refused
 
   module _ (k : KernelState) (pool n : ℕ) (number : n ≡ fitting y.outgoing (length bytes)) (adds : AddsBytes h.store k.store y.outgoing (conn_in k.conns c).outgoing pool (take n bytes))
@@ -320,15 +331,15 @@ module _ (h : KernelState) (d fd c : ℕ) (bytes : List ℕ) (sound : IsSound h)
 -- In a pipe.
 
 module _ (h : KernelState) (d fd p : ℕ) (bytes : List ℕ) (sound : IsSound h) (to : (f : Reading) → machine.descriptor (read_of f h) d fd ≡ Some (on.WriteEnd p)) where
-  pub fills-count : (writing.write (machine_of h) d fd bytes).answer ≡ fitting (queue_at h.pipes p).queue (length bytes)
+  pub fills-count : (writing.write (machine_of [] h) d fd bytes).answer ≡ fitting (queue_at h.pipes p).queue (length bytes)
   fills-count =
-      let f = byte_at h.store in
-      ap (λ (o : Option Descriptor). writing.fitting (machine_of h) o (length bytes)) (to f) ∙ ap (λ k. min (length bytes) (MAX_QUEUE_BYTES - k)) (length_queue-read_of f h p)
+      let f = bytes_over [] h.store in
+      ap (λ (o : Option Descriptor). writing.fitting (machine_of [] h) o (length bytes)) (to f) ∙ ap (λ k. min (length bytes) (MAX_QUEUE_BYTES - k)) (length_queue-read_of f h p)
 
   module _ (t : Stored) (qs : List (Option (Pipe (List Slice)))) (pool n : ℕ) (number : n ≡ fitting (queue_at h.pipes p).queue (length bytes)) (adds : AddsBytes h.store t (queue_at h.pipes p).queue (queue_at qs p).queue pool (take n bytes))
       (pipes' : qs ≡ slice_set h.pipes p (Some (record (queue_at h.pipes p) { queue = (queue_at qs p).queue }))) where
     writes' : (queue_at h.pipes p).writing ≡ true
-    writes' = writing_held (byte_at h.store) h d fd p sound (to (byte_at h.store))
+    writes' = writing_held (bytes_over [] h.store) h d fd p sound (to (bytes_over [] h.store))
 
     small : byte_len (queue_at qs p).queue ≤ MAX_QUEUE_BYTES
     small = fitted_short h.store t (queue_at h.pipes p).queue (queue_at qs p).queue pool n (length bytes) bytes adds (queue_short h p sound) number

@@ -1,12 +1,11 @@
 -- What a call does to what a system holds, said of the copying machine whatever is read at the places of bytes.
-use Rattle.std.specs.Prelude.{◌≡◌, ℕ, ◌⊎◌, ◌++◌, true, false, List, [], Some, Result, Ok, Err, OnOk, OnErr}
-use Rattle.iol_core.specs.Text.{Text}
+use Rattle.std.specs.Prelude.{◌≡◌, ℕ, ◌⊎◌, ◌++◌, true, false, List, [], None, Some, Result, Ok, Err, OnOk, OnErr}
+use Rattle.iol_core.specs.Text.{Text, labelled}
 use Rattle.iol_core.specs.State.{State, is_live, text, conn_at, with_conn}
-use Rattle.iol_core.specs.Meaning.{Meaning, Step}
-use Rattle.iol_core.specs.Calls.Aggregates.{lacks_agg, with_agg}
+use Rattle.iol_core.specs.Meaning.{Meaning, Step, first}
+use Rattle.iol_core.specs.Calls.Aggregates.{lacks_agg, with_agg, show}
 use Rattle.iol_core.specs.declared.refusals.Refusal.{Refusal}
 use Rattle.iol_core.specs.declared.refusals.Refusal.TheVariants.{NoDomain, BadAgg, NoRoom}
-use Rattle.iol_hold.specs.Layout.{read, KeepsPools}
 use Rattle.iol_arena.specs.Pages.{MadeOn}
 use Rattle.iol_hold.specs.Moves.{Stays}
 use Rattle.iol_hold.specs.Pages.{KeepsPages}
@@ -18,7 +17,20 @@ use Rattle.iol_sock.specs.declared.outgoing.Segment.{Segment}
 use Rattle.iol_sock.specs.Sent.{UsesSent}
 use Rattle.iol_sock.specs.Table.{conn_in}
 use Rattle.iol_core.specs.Calls.Outside.{transmit}
-use Rattle.iol_kernel.specs.KernelState.{KernelState, Reading, read_of, machine_of, IsSound}
+use Rattle.iol_kernel.specs.KernelState.{KernelState, read_of, machine_of, IsSound}
+use Rattle.iol_kernel.specs.Readings.{Reading, read, KeepsPools}
+
+-- the machine's step, whatever is stored
+abbrev pub Steps : {A : Type 0} → (State → Meaning A) → KernelState → Result A Refusal → KernelState → Type 0
+Steps m old r new = (stored : List (List ℕ)) → Step (m (machine_of stored old)) (machine_of stored old) r (machine_of stored new)
+
+-- a domain gets these bytes as its next aggregate, whatever is stored
+abbrev pub AddsBytes : (d pool : ℕ) → List ℕ → (old new : KernelState) → Type 0
+AddsBytes d pool bytes old new = (stored : List (List ℕ)) → machine_of stored new ≡ with_agg (machine_of stored old) d (labelled pool bytes)
+
+-- these are the bytes that `show` answers, whatever is stored
+abbrev pub Shows : (d a : ℕ) → List ℕ → KernelState → Type 0
+Shows d a bytes h = (stored : List (List ℕ)) → (first (show (machine_of stored h) d a).refusals ≡ None) × (bytes ≡ (show (machine_of stored h) d a).answer)
 
 -- The machine's step whatever is read: of bytes it is the step that the call means; of places it says that the bytes
 -- of its result lie where its meaning says, so that none was copied, and that nothing else moved.
@@ -36,7 +48,7 @@ pub record CarriesOut {A : Type 0} (m : State → Meaning A) (old : KernelState)
 -- The machine's step, of bytes and of places: what the call leaves lies where it lay.
 -- Pages and chunks may be freed or taken; no page is raised, an open pool keeps its chunks, and remembered sums stay.
 pub record KeepsPlaces {A : Type 0} (m : State → Meaning A) (old : KernelState) (r : Result A Refusal) (new : KernelState) : Type 0 where
-  pub step : Step (m (machine_of old)) (machine_of old) r (machine_of new)
+  pub step : Steps m old r new
   pub places : (f : Reading) → KeepsPools f → Step (m (read_of f old)) (read_of f old) r (read_of f new)
   pub pages : KeepsPages old.store new.store []
   pub refused : OnErr r (new ≡ old)
@@ -56,7 +68,7 @@ pub record Answers {A : Type 0} (m : State → Meaning A) (old : KernelState) (a
 
 -- An effect that may free pages or take chunks: the state after it, of bytes and of places.
 pub record Leaves (after : State → State) (old new : KernelState) : Type 0 where
-  pub bytes : machine_of new ≡ after (machine_of old)
+  pub bytes : (stored : List (List ℕ)) → machine_of stored new ≡ after (machine_of stored old)
   pub places : (f : Reading) → KeepsPools f → read_of f new ≡ after (read_of f old)
   pub pages : KeepsPages old.store new.store []
   pub sums : new.sums ≡ old.sums
@@ -82,7 +94,7 @@ MakesAgg d pool n old new = MakesBytes (λ s t. with_agg s d t) pool n old new
 
 -- a connection gets them at the end of what came in
 abbrev pub Arrives : (c n : ℕ) → (old new : KernelState) → Type 0
-Arrives c n old new = MakesBytes (with_incoming c) (conn_at (machine_of old) c).pool n old new
+Arrives c n old new = MakesBytes (with_incoming c) (conn_at (machine_of [] old) c).pool n old new
 
 -- the domain is live, and its aggregate is these slices
 pub record IsFound (h : KernelState) (d a : ℕ) (xs : List Slice) : Type 0 where
@@ -105,7 +117,7 @@ told (Err x) = Err x
 -- The machine's `transmit`: what is left lies where it lay, and of the pages some may be freed. The sum of each slice that
 -- was sent is used, in order; a refusal changes nothing.
 pub record Transmits (c max : ℕ) (old : KernelState) (r : Result (List ℕ × ℕ) Refusal) (new : KernelState) : Type 0 where
-  pub step : Step (transmit (machine_of old) c max) (machine_of old) r (machine_of new)
+  pub step : Steps (λ s. transmit s c max) old r new
   pub places : OnOk r ((f : Reading) → KeepsPools f → read_of f new ≡ (transmit (read_of f old) c max).after)
   pub roomy : (p : ℕ) → r ≡ Err (NoRoom p) → ⊥
   pub pages : KeepsPages old.store new.store []

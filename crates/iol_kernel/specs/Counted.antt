@@ -7,6 +7,7 @@ use Rattle.iol_hold.specs.Moves.{tally}
 use Rattle.iol_hold.specs.Texts.{bufs_of}
 use Rattle.iol_hold.specs.declared.slices.Slice.{Slice}
 use Rattle.iol_sock.specs.Connections.{Conn}
+use Rattle.iol_cache.specs.Cached.{held}
 use Rattle.iol_kernel.specs.Views.{Pipe, Objects}
 
 -- how many of the slices are of b
@@ -30,9 +31,9 @@ pipe_uses b (Some p) = uses b p.queue
 abbrev pub conn_uses : BufId → ℕ × Conn (List Slice) → ℕ
 conn_uses b e = uses b e.1.incoming + uses b e.1.outgoing
 
--- those in all aggregates and queues
+-- those in all aggregates and queues, and in extents of files
 abbrev pub all_uses : List (Domain (List Slice)) → Objects (List Slice) → BufId → ℕ
-all_uses domains objects b = sum_by (domain_uses b) domains + sum_by (pipe_uses b) objects.pipes + sum_by (conn_uses b) objects.conns
+all_uses domains objects b = sum_by (domain_uses b) domains + sum_by (pipe_uses b) objects.pipes + sum_by (conn_uses b) objects.conns + tally b (held objects.cached)
 
 -- the count of each buffer is the number of its slices, wherever they lie
 pub record IsCounted (s : Stored) (domains : List (Domain (List Slice))) (objects : Objects (List Slice)) : Type 0 where

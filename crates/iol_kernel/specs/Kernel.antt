@@ -1,20 +1,23 @@
 -- The fields of the kernel, as what it holds; and the words of contracts, said of kernels.
-use Rattle.std.specs.Prelude.{ℕ, List, Result}
+use Rattle.std.specs.Prelude.{ℕ, List, [], Result}
 use Rattle.iol_core.specs.State.{State}
 use Rattle.iol_core.specs.Meaning.{Meaning}
 use Rattle.iol_core.specs.declared.refusals.Refusal.{Refusal}
 use Rattle.iol_hold.specs.declared.slices.Slice.{Slice}
 use Rattle.iol_desc.specs.Tables.{domains_of}
+use Rattle.iol_cache.specs.Cache.{cached_of}
 use Rattle.iol_kernel.specs.Calls as calls
-use Rattle.iol_kernel.specs.KernelState.{KernelState, Reading, read_of, machine_of}
+use Rattle.iol_kernel.specs.Files.{files_of}
+use Rattle.iol_kernel.specs.KernelState.{KernelState, read_of, machine_of}
+use Rattle.iol_kernel.specs.Readings.{Reading}
 use Rattle.iol_kernel.specs.declared.kernel.Kernel.{Kernel}
 
 abbrev pub state_of : Kernel → KernelState
-state_of k = record { store = k.store; domains = domains_of k.domains; pipes = k.pipes.places; conns = k.conns.conns; next_conn = k.conns.next; sums = k.sums }
+state_of k = record { store = k.store; domains = domains_of k.domains; pipes = k.pipes.places; conns = k.conns.conns; next_conn = k.conns.next; sums = k.sums; files = files_of k.files.list.items; cache = cached_of k.files.cache }
 
--- the copying machine's state, with the bytes that lie there
+-- the copying machine's state, with the bytes that lie there, over an empty store
 abbrev pub machine : Kernel → State
-machine k = machine_of (state_of k)
+machine k = machine_of [] (state_of k)
 
 -- and with what f reads at each place
 abbrev pub as_read : Reading → Kernel → State
@@ -31,6 +34,15 @@ Answers m old a new = calls.Answers m (state_of old) a (state_of new)
 
 abbrev pub Leaves : (State → State) → Kernel → Kernel → Type 0
 Leaves after old new = calls.Leaves after (state_of old) (state_of new)
+
+abbrev pub Steps : {A : Type 0} → (State → Meaning A) → Kernel → Result A Refusal → Kernel → Type 0
+Steps m old r new = calls.Steps m (state_of old) r (state_of new)
+
+abbrev pub AddsBytes : (d pool : ℕ) → List ℕ → (old new : Kernel) → Type 0
+AddsBytes d pool bytes old new = calls.AddsBytes d pool bytes (state_of old) (state_of new)
+
+abbrev pub Shows : (d a : ℕ) → List ℕ → Kernel → Type 0
+Shows d a bytes k = calls.Shows d a bytes (state_of k)
 
 abbrev pub MakesAgg : (d pool n : ℕ) → (old new : Kernel) → Type 0
 MakesAgg d pool n old new = calls.MakesAgg d pool n (state_of old) (state_of new)

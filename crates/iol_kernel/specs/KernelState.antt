@@ -1,13 +1,14 @@
 -- What a system holds, and the state of the copying machine that it stands for.
-use Rattle.std.specs.Prelude.{◌≡◌, ℕ, ◌+◌, ◌≤◌, true, false, length, List, [], ◌∷◌, flat_map, Option, Some, None, unwrap_or}
+use Rattle.std.specs.Prelude.{◌≡◌, ℕ, ◌+◌, ◌≤◌, true, false, length, List, [], ◌∷◌, flat_map, map, Option, Some, None, unwrap_or}
+use Rattle.iol_core.specs.Numbered.{is_numbered}
 use Rattle.iol_core.specs.State as machine
 use Rattle.iol_core.specs.declared.descriptors.Descriptor.{Descriptor}
 use Rattle.iol_core.specs.declared.descriptors.Descriptor.TheVariants as on
-use Rattle.iol_core.specs.declared.limits.TheConstants.{MAX_AGGREGATE_BYTES, MAX_AGGREGATES, MAX_QUEUE_BYTES, MAX_PIPES, MAX_POOLS, MAX_CONNECTIONS, LAST_CONNECTION}
+use Rattle.iol_core.specs.declared.limits.TheConstants.{MAX_AGGREGATE_BYTES, MAX_AGGREGATES, MAX_QUEUE_BYTES, MAX_FILES, MAX_FILE_BYTES, MAX_PIPES, MAX_POOLS, MAX_CONNECTIONS, LAST_CONNECTION}
 use Rattle.iol_hold.specs.Stored.{Stored, IsTidy, IsStill, AllSettled}
-use Rattle.iol_hold.specs.Places.{Place, byte_len}
-use Rattle.iol_hold.specs.Layout.{read, number_at}
-use Rattle.iol_hold.specs.Texts.{byte_at, AllReadable}
+use Rattle.iol_hold.specs.Places.{byte_len}
+use Rattle.iol_hold.specs.Layout.{number_at}
+use Rattle.iol_hold.specs.Texts.{AllReadable}
 use Rattle.iol_hold.specs.declared.slices.Slice.{Slice}
 use Rattle.iol_pool.specs.Pools.{Pool, pool_in}
 use Rattle.iol_desc.specs.Listed.{Rises}
@@ -15,11 +16,17 @@ use Rattle.iol_desc.specs.Tables.{agg_in, live_aggs_in}
 use Rattle.iol_sum.specs.Sums.{Sums, IsRight}
 use Rattle.iol_sock.specs.Connections.{Conn}
 use Rattle.iol_sock.specs.Table.{conn_in}
+use Rattle.iol_extent.specs.Extents.{IsApart, last_end}
+use Rattle.iol_cache.specs.Cached.{Cached, file_in, extents_in}
+use Rattle.iol_cache.specs.Sound as cache
+use Rattle.iol_cache.specs.declared.files.CachedFile.{CachedFile}
+use Rattle.iol_kernel.specs.Readings.{Reading, bytes_over}
 use Rattle.iol_kernel.specs.Views.{Pipe, Objects, pipe_in, state_view}
 use Rattle.iol_kernel.specs.Counted.{IsCounted}
 use Rattle.iol_kernel.specs.Ends.{IsOpenOnce}
 
--- the layers' values: an aggregate and a queue are lists of slices of the store's buffers, and sums are remembered
+-- the layers' values: an aggregate and a queue are lists of slices of the store's buffers, sums are remembered, and parts of
+-- files are in a cache
 pub record KernelState : Type 0 where
   pub store : Stored
   pub domains : List (machine.Domain (List Slice))
@@ -27,26 +34,24 @@ pub record KernelState : Type 0 where
   pub conns : List (ℕ × Conn (List Slice))
   pub next_conn : ℕ
   pub sums : Sums
+  pub files : List machine.File
+  pub cache : Cached
 
--- its pipes and connections
+-- its pipes, connections and files
 abbrev pub objects_of : KernelState → Objects (List Slice)
-objects_of h = record { pipes = h.pipes; conns = h.conns; next_conn = h.next_conn }
+objects_of h = record { pipes = h.pipes; conns = h.conns; next_conn = h.next_conn; files = h.files; cached = h.cache.files }
 
--- what is read at each place: a number, and whose it is
-abbrev pub Reading : Type 0
-Reading = Place → ℕ × ℕ
-
--- the copying machine's state, with what f reads at each place
+-- the copying machine's state, with what f reads
 unfoldable pub read_of : Reading → KernelState → machine.State
-read_of f h = state_view (read f) h.domains h.store.pools (objects_of h)
+read_of f h = state_view f h.domains h.store.pools (objects_of h)
 
--- with the bytes that lie there: what the system stands for
-abbrev pub machine_of : KernelState → machine.State
-machine_of h = read_of (byte_at h.store) h
+-- with the bytes that lie there, over a store with these slots: what the system stands for
+abbrev pub machine_of : (stored : List (List ℕ)) → KernelState → machine.State
+machine_of stored h = read_of (bytes_over stored h.store) h
 
--- with the number of the place of each byte
+-- with the number of the place of each byte, and nothing where only the store has it
 abbrev pub layout_of : KernelState → machine.State
-layout_of h = read_of number_at h
+layout_of h = read_of (record { at = number_at; stored = [] }) h
 
 -- bytes in parts, one part after another
 abbrev pub joined : List (List ℕ) → List ℕ
@@ -70,10 +75,15 @@ IsPipeReadable s (Some p) = AllReadable s p.queue
 abbrev pub IsConnReadable : Stored → ℕ × Conn (List Slice) → Type 0
 IsConnReadable s e = AllReadable s e.1.incoming × AllReadable s e.1.outgoing
 
--- what all queues name lies there
+-- what the extents of the file in slot n name lies in live buffers of its pool
+pub record IsFileReadable (s : Stored) (cached : List CachedFile) (n : ℕ) : Type 0 where
+  pub laid : cache.Each (cache.IsLaid s (file_in cached n).pool) (extents_in cached n)
+
+-- what all queues and extents name lies there
 pub record AreReadable (s : Stored) (objects : Objects (List Slice)) : Type 0 where
   pub pipes : Each (IsPipeReadable s) objects.pipes
   pub conns : Each (IsConnReadable s) objects.conns
+  pub files : (n : ℕ) → IsFileReadable s objects.cached n
 
 -- the slices of a domain's aggregate: none where there is no such aggregate
 abbrev pub slices_in : List (machine.Domain (List Slice)) → (d a : ℕ) → List Slice
@@ -103,7 +113,12 @@ pub record IsConn (e : ℕ × Conn (List Slice)) : Type 0 where
   pub outgoing : byte_len e.1.outgoing ≤ MAX_QUEUE_BYTES
   pub waits : e.1.accepted ≡ false → e.1.closed ≡ false
 
--- pipes and connections within the limits; the numbers of connections rise, and are below the next
+-- a file's extents lie one after another, and end within the limit
+pub record IsFile (x : CachedFile) : Type 0 where
+  pub apart : IsApart 0 x.extents.extents
+  pub short : last_end x.extents.extents ≤ MAX_FILE_BYTES
+
+-- pipes, connections and files within the limits; the numbers of connections rise, and are below the next
 pub record AreLimited (objects : Objects (List Slice)) : Type 0 where
   pub queues : Each IsShort objects.pipes
   pub few_pipes : length objects.pipes ≤ MAX_PIPES
@@ -111,21 +126,33 @@ pub record AreLimited (objects : Objects (List Slice)) : Type 0 where
   pub few_conns : length objects.conns ≤ MAX_CONNECTIONS
   pub rising : Rises 0 objects.conns objects.next_conn
   pub last : objects.next_conn ≤ LAST_CONNECTION + 1
+  pub cached : Each IsFile objects.cached
+  pub few_files : length objects.cached ≤ MAX_FILES
 
--- aggregates and queues within the limits, which keep every count far below 2^63
+-- aggregates, queues and files within the limits, which keep every count far below 2^63
 pub record IsLimited (domains : List (machine.Domain (List Slice))) (all : Objects (List Slice)) : Type 0 where
   pub aggs : Each (λ d. Each (λ e. byte_len e.1 ≤ MAX_AGGREGATE_BYTES) d.aggs) domains
   pub few : live_aggs_in domains ≤ MAX_AGGREGATES
   pub objects : AreLimited all
 
--- there are no more pools than there may be, and that of each connection is open
-pub record ArePooled (pools : List Pool) (conns : List (ℕ × Conn (List Slice))) : Type 0 where
+-- there are no more pools than there may be, and those of each connection and each file are open
+pub record ArePooled (pools : List Pool) (conns : List (ℕ × Conn (List Slice))) (cached : List CachedFile) : Type 0 where
   pub few : length pools ≤ MAX_POOLS
   pub opened : Each (λ e. (pool_in pools e.1.pool).closed ≡ false) conns
+  pub files_open : (n : ℕ) → is_numbered cached n ≡ true → (pool_in pools (file_in cached n).pool).closed ≡ false
 
--- Between any two events: what aggregates and queues name lies in live buffers of their pools, each buffer is counted
+-- the cache has the files that there are, each in its pool
+abbrev pub AreFiled : List machine.File → List CachedFile → Type 0
+AreFiled files cached = map (λ x. x.pool) cached ≡ map (λ x. x.pool) files
+
+-- the cache of files is in order, over this store
+unfoldable pub IsCached : Stored → Cached → Type 0
+IsCached s c = cache.IsSound s c
+
+-- Between any two events: what aggregates, queues and extents of files name lies in live buffers of their pools, each buffer is counted
 -- for each of its slices, no page is lost and no closed pool keeps chunks in which nothing lies, descriptors are
--- open on open ends of pipes and on accepted connections, each on one of its own, and remembered sums are right.
+-- open on open ends of pipes and on accepted connections, each on one of its own, remembered sums are right, and the cache of
+-- files is in order.
 pub record IsSound (h : KernelState) : Type 0 where
   pub domains : Each (IsDomainReadable h.store) h.domains
   pub objects : AreReadable h.store (objects_of h)
@@ -136,5 +163,7 @@ pub record IsSound (h : KernelState) : Type 0 where
   pub still : IsStill h.store.arena
   pub settled : AllSettled h.store
   pub limits : IsLimited h.domains (objects_of h)
-  pub pooled : ArePooled h.store.pools h.conns
+  pub pooled : ArePooled h.store.pools h.conns h.cache.files
   pub sums : IsRight h.store.arena h.sums
+  pub filed : AreFiled h.files h.cache.files
+  pub cached : IsCached h.store h.cache

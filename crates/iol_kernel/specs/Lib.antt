@@ -1,4 +1,6 @@
+pub mod Readings
 pub mod Views
+pub mod Files
 pub mod Counted
 pub mod Ends
 pub mod KernelState

@@ -3,10 +3,13 @@ use Rattle.std.specs.Prelude.{ℕ, Bool, false, List, [], Option, option_map, ma
 use Rattle.iol_core.specs.Text.{Text}
 use Rattle.iol_core.specs.Numbered.{in_place}
 use Rattle.iol_core.specs.State as machine
-use Rattle.iol_core.specs.State.{State, Domain, no_slots}
+use Rattle.iol_core.specs.State.{State, Domain}
 use Rattle.iol_pool.specs.Pools.{Pool}
 use Rattle.iol_hold.specs.Moves.{pool_meant}
+use Rattle.iol_hold.specs.declared.slices.Slice.{Slice}
 use Rattle.iol_sock.specs.Connections.{Conn, conn_view}
+use Rattle.iol_cache.specs.declared.files.CachedFile.{CachedFile}
+use Rattle.iol_kernel.specs.Readings.{Reading, read, slots_read}
 
 -- a domain with each aggregate as what it means
 abbrev pub domain_view : {A B : Type 0} → (A → B) → Domain A → Domain B
@@ -22,21 +25,24 @@ pub record Pipe (A : Type 0) : Type 0 where
 abbrev pub pipe_view : {A : Type 0} → (A → Text) → Pipe A → machine.Pipe
 pipe_view g p = record { queue = g p.queue; reading = p.reading; writing = p.writing }
 
--- what descriptors are open on: pipes in places, and connections under rising numbers; A is what a queue is
+-- what descriptors are open on: pipes in places, connections under rising numbers, and files by slot, with what of each is in
+-- memory; A is what a queue is
 pub record Objects (A : Type 0) : Type 0 where
   pub pipes : List (Option (Pipe A))
   pub conns : List (ℕ × Conn A)
   pub next_conn : ℕ
+  pub files : List machine.File
+  pub cached : List CachedFile
 
--- with each aggregate and queue as the text that g gives
-unfoldable pub state_view : {A : Type 0} → (A → Text) → List (Domain A) → List Pool → Objects A → State
-state_view g domains pools objects = record {
-  domains = map (domain_view g) domains;
+-- with each aggregate and queue, and each file, as f reads it
+unfoldable pub state_view : Reading → List (Domain (List Slice)) → List Pool → Objects (List Slice) → State
+state_view f domains pools objects = record {
+  domains = map (domain_view (read f)) domains;
   pools = map pool_meant pools;
-  files = [];
-  slots = no_slots;
-  pipes = map (option_map (pipe_view g)) objects.pipes;
-  conns = map (λ e. (e.0, conn_view g e.1)) objects.conns;
+  files = objects.files;
+  slots = slots_read f objects.cached;
+  pipes = map (option_map (pipe_view (read f))) objects.pipes;
+  conns = map (λ e. (e.0, conn_view (read f) e.1)) objects.conns;
   next_conn = objects.next_conn;
 }
 

@@ -6,12 +6,12 @@ ghost use Rattle.iol_core.specs.Meaning.{Step, WantOfRoom, first};
 ghost use Rattle.iol_core.specs.Text.{barred, bytes_of, labelled};
 ghost use Rattle.iol_core.specs.Calls.Aggregates as calls;
 ghost use Rattle.iol_core.specs.Calls.Aggregates.{default_pool, lacks_agg, too_many_aggs};
-ghost use Rattle.iol_hold.specs.Layout.{read, KeepsPools};
 ghost use Rattle.iol_hold.specs.Moves.{Stays};
 ghost use Rattle.iol_hold.specs.Room.{has_room};
 ghost use Rattle.iol_hold.specs.Texts.{AllReadable};
 ghost use Rattle.iol_kernel.specs.Adding.{replaced};
-ghost use Rattle.iol_kernel.specs.KernelState.{Reading, joined, IsSound};
+ghost use Rattle.iol_kernel.specs.KernelState.{joined, IsSound};
+ghost use Rattle.iol_kernel.specs.Readings.{Reading, read, KeepsPools};
 
 use crate::kernel::Kernel;
 use crate::tables::{
@@ -25,14 +25,13 @@ use iol_core::refusals::Refusal;
 use std::alloc::AllocError;
 
 impl Kernel {
-    ghost use Rattle.iol_kernel.specs.Kernel.{state_of, machine, as_read, MakesAgg, CarriesOut, KeepsPlaces, Answers, Leaves};
+    ghost use Rattle.iol_kernel.specs.Kernel.{state_of, machine, as_read, Steps, AddsBytes, Shows, MakesAgg, CarriesOut, KeepsPlaces, Answers, Leaves};
 
     /// Places bytes in the caller's default pool, as its next aggregate.
     #[tactic(auto, using(crate::proofs::Stay::stay_rules))]
     pub fn agg_make(&mut self, by: DomainId, bytes: &Bytes) -> Result<AggId, Refusal>
         requires { IsSound (state_of self.old) }
-        ensures step { Step (calls.agg_make (machine self.old) by bytes.now) (machine self.old)
-            result (machine self.new) }
+        ensures step { Steps (λ s. calls.agg_make s by bytes.now) self.old result self.new }
         ensures made { OnOk result (MakesAgg by (default_pool (machine self.old) by) (length
             bytes.now) self.old self.new) }
         ensures refused { OnErr result (state_of self.new ≡ state_of self.old) }
@@ -78,9 +77,8 @@ impl Kernel {
         requires few { too_many_aggs (machine self.old) by 1 0 ≡ false }
         requires small { length bytes.now ≤ MAX_AGGREGATE_BYTES }
         requires open { (state.pool (machine self.old) pool).closed ≡ false }
-        ensures number { IfOk result (λ n. n ≡ calls.next_agg (machine self.old) by) }
-        ensures placed { OnOk result (machine self.new ≡ calls.with_agg (machine self.old) by
-            (labelled pool bytes.now)) }
+        ensures number { IfOk result (λ n. (f : Reading) → n ≡ calls.next_agg (as_read f self.old) by) }
+        ensures placed { OnOk result (AddsBytes by pool bytes.now self.old self.new) }
         ensures made { OnOk result (MakesAgg by pool (length bytes.now) self.old self.new) }
         ensures sound { IsSound (state_of self.new) }
         ensures stays { Stays self.old.store self.new.store }
@@ -324,7 +322,8 @@ impl Kernel {
     #[tactic(auto, using(crate::proofs::Stay::stay_rules))]
     pub fn agg_drop(&mut self, by: DomainId, agg: AggId) -> Result<(), Refusal>
         requires { IsSound (state_of self.old) }
-        ensures { KeepsPlaces (λ s. calls.agg_drop s by agg) self.old result self.new }
+        ensures agg_drop { KeepsPlaces (λ s. calls.agg_drop s by agg) self.old result self.new }
+        ensures roomy { (p : ℕ) → result ≡ Err (Refusal.NoRoom p) → ⊥ }
     {
         self.find_len(by, agg)?;
         self.release(by, agg);
@@ -388,8 +387,8 @@ impl Kernel {
     /// A copy of an aggregate's bytes.
     pub fn show(&self, by: DomainId, agg: AggId) -> Result<Bytes, Refusal>
         requires { IsSound (state_of self.now) }
-        ensures { Step (calls.show (machine self.now) by agg) (machine self.now) result (machine
-            self.now) }
+        ensures show { Steps (λ s. calls.show s by agg) self.now result self.now }
+        ensures roomy { (p : ℕ) → result ≡ Err (Refusal.NoRoom p) → ⊥ }
     {
         let found = self.find(by, agg)?;
         Ok(Bytes::from_vec(found.to_vec(self.alloc, &self.store)?))
@@ -398,10 +397,9 @@ impl Kernel {
     /// An aggregate's bytes, where they lie.
     pub fn parts(&self, by: DomainId, agg: AggId) -> Result<Parts<'_>, Refusal>
         requires { IsSound (state_of self.now) }
-        ensures ok { IfOk result (λ parts. (first (calls.show (machine self.now) by agg).refusals ≡
-            None) × (joined parts ≡ (calls.show (machine self.now) by agg).answer)) }
-        ensures err { IfErr result (λ x. first (calls.show (machine self.now) by agg).refusals ≡
-            Some x) }
+        ensures ok { IfOk result (λ parts. Shows by agg (joined parts) self.now) }
+        ensures err { IfErr result (λ x. (f : Reading) → first (calls.show (as_read f
+            self.now) by agg).refusals ≡ Some x) }
     {
         let found = self.find(by, agg)?;
         Ok(found.parts(&self.store))

@@ -6,7 +6,8 @@ ghost use Rattle.iol_core.specs.Calls.Descriptors as calls;
 ghost use Rattle.iol_core.specs.Calls.Descriptors.{closed_on, freed, too_many_open, with_fds};
 ghost use Rattle.iol_kernel.specs.Ends.{all_ends_on};
 ghost use Rattle.iol_kernel.specs.ClosedEnds.{KeepsEnds};
-ghost use Rattle.iol_kernel.specs.KernelState.{objects_of, Reading, IsOpenEnd, IsSound};
+ghost use Rattle.iol_kernel.specs.KernelState.{objects_of, IsOpenEnd, IsSound};
+ghost use Rattle.iol_kernel.specs.Readings.{Reading};
 
 use crate::kernel::Kernel;
 use iol_core::descriptors::Descriptor;

@@ -5,7 +5,8 @@ ghost use Rattle.iol_core.specs.Calls.Domains as calls;
 ghost use Rattle.iol_core.specs.Calls.Descriptors.{closed_on, with_fds};
 ghost use Rattle.iol_desc.specs.Tables.{with_aggs_in, with_fds_in};
 ghost use Rattle.iol_kernel.specs.ClosedEnds.{AreTaken};
-ghost use Rattle.iol_kernel.specs.KernelState.{objects_of, Reading, IsSound};
+ghost use Rattle.iol_kernel.specs.KernelState.{objects_of, IsSound};
+ghost use Rattle.iol_kernel.specs.Readings.{Reading};
 
 use crate::kernel::Kernel;
 use crate::tables::release_all;

@@ -1,14 +1,16 @@
 //! What a system holds, and the tests that its calls make.
-ghost use Rattle.std.specs.Prelude.{replicate, ◌*◌, ◌⊎◌, ◌↔◌, Err, IfOk, IfErr, ◌≡◌, ◌≤◌, ℕ, length, true, false, Option};
+ghost use Rattle.std.specs.Prelude.{replicate, ◌*◌, ◌⊎◌, ◌↔◌, Err, IfOk, IfErr, ◌≡◌, ◌≤◌, ℕ, length, true, false, Option, List};
 ghost use Rattle.iol_core.specs.Configuration.{IsInRange};
-ghost use Rattle.iol_core.specs.State.{new_state, no_slots, is_live, may_read, text, descriptor};
+ghost use Rattle.iol_core.specs.State.{new_state, is_live, may_read, text, descriptor};
 ghost use Rattle.iol_core.specs.Calls.Aggregates.{lacks_agg, too_many_aggs};
 ghost use Rattle.iol_core.specs.Calls.Descriptors.{too_many_open};
 ghost use Rattle.iol_arena.specs.State.{no_entry};
 ghost use Rattle.iol_arena.specs.Buffers.{SharesNoPage, live_pages};
 ghost use Rattle.iol_kernel.specs.Report.{reports_of};
-ghost use Rattle.iol_kernel.specs.KernelState.{Reading, IsSound};
+ghost use Rattle.iol_kernel.specs.KernelState.{machine_of, IsSound};
+ghost use Rattle.iol_kernel.specs.Readings.{Reading, slots_of};
 
+use crate::files::Files;
 use crate::pipes::Pipes;
 use crate::report::{Report, report_pools};
 use iol_agg::Agg;
@@ -23,8 +25,8 @@ use iol_sock::Connections;
 use iol_sum::SumCache;
 use std::alloc::{AllocError, Global};
 
-/// What a system holds: pages and pools, domains with their aggregates and descriptors, pipes, connections, and the
-/// sums that are remembered.
+/// What a system holds: pages and pools, domains with their aggregates and descriptors, pipes, connections, the sums that
+/// are remembered, and files.
 #[derive(Drop)]
 pub struct Kernel {
     pub(crate) alloc: Global,
@@ -33,6 +35,7 @@ pub struct Kernel {
     pub(crate) pipes: Pipes,
     pub(crate) conns: Connections,
     pub(crate) sums: SumCache,
+    pub(crate) files: Files,
 }
 
 impl Kernel {
@@ -42,7 +45,8 @@ impl Kernel {
     pub fn new(alloc: Global, config: Config) -> Result<Kernel, Refusal>
         ensures range { (result ≡ Err Refusal.BadRange) ↔ (IsInRange config → ⊥) }
         ensures errors { IfErr result (λ e. (e ≡ Refusal.BadRange) ⊎ (e ≡ Refusal.Memory)) }
-        ensures new { IfOk result (λ k. machine k ≡ new_state no_slots) }
+        ensures new { IfOk result (λ k. (stored : List (List ℕ)) →
+            machine_of stored (state_of k) ≡ new_state (slots_of stored)) }
         ensures entries { IfOk result (λ k. k.store.arena.entries ≡ replicate (config.chunks *
             CHUNK_PAGES) no_entry) }
         ensures taken { IfOk result (λ k. k.store.arena.taken ≡ replicate config.chunks false) }
@@ -55,6 +59,7 @@ impl Kernel {
         let sums = SumCache::new(alloc, config.sums)?;
         let pipes = Pipes::new(alloc);
         let conns = Connections::new(alloc);
+        let files = Files::new(alloc, config.chunks as usize * CHUNK_PAGES)?;
         Ok(Kernel {
             alloc,
             store,
@@ -62,6 +67,7 @@ impl Kernel {
             pipes,
             conns,
             sums,
+            files,
         })
     }
 

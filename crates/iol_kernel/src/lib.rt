@@ -17,6 +17,7 @@ pub mod aggregates;
 mod borrowed;
 pub mod descriptors;
 pub mod domains;
+mod files;
 pub mod kernel;
 pub mod outside;
 mod pipes;

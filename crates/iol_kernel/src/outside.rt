@@ -3,7 +3,6 @@ ghost use Rattle.std.specs.Prelude.{◌≡◌, ◌≢◌, ℕ, ◌<◌, ◌≤�
 ghost use Rattle.iol_core.specs.State as state;
 ghost use Rattle.iol_core.specs.State.{conn_at, with_conn};
 ghost use Rattle.iol_core.specs.Numbered.{lookup};
-ghost use Rattle.iol_core.specs.Meaning.{Step};
 ghost use Rattle.iol_core.specs.Calls.Outside as calls;
 ghost use Rattle.iol_core.specs.Calls.Outside.{lacks_conn};
 ghost use Rattle.iol_hold.specs.Moves.{Stays};
@@ -13,7 +12,8 @@ ghost use Rattle.iol_sock.specs.Sent.{UsesSent};
 ghost use Rattle.iol_sock.specs.Table.{conn_in};
 ghost use Rattle.iol_kernel.specs.Calls.{told};
 ghost use Rattle.iol_kernel.specs.ClosedEnds.{KeepsEnds};
-ghost use Rattle.iol_kernel.specs.KernelState.{objects_of, Reading, IsSound};
+ghost use Rattle.iol_kernel.specs.KernelState.{objects_of, IsSound};
+ghost use Rattle.iol_kernel.specs.Readings.{Reading};
 
 use crate::kernel::Kernel;
 use iol_core::descriptors::{Descriptor, How};
@@ -25,7 +25,7 @@ use iol_sock::Segment;
 use std::alloc::AllocError;
 
 impl Kernel {
-    ghost use Rattle.iol_kernel.specs.Kernel.{state_of, machine, as_read, CarriesOut, KeepsPlaces, Answers, Arrives, Transmits, Leaves};
+    ghost use Rattle.iol_kernel.specs.Kernel.{state_of, machine, as_read, Steps, CarriesOut, KeepsPlaces, Answers, Arrives, Transmits, Leaves};
 
     /// Makes a connection that waits to be accepted. What arrives on it will lie in the pool.
     #[tactic(auto, using(crate::proofs::Stay::stay_rules))]
@@ -135,8 +135,7 @@ impl Kernel {
     #[tactic(auto, using(crate::proofs::Stay::stay_rules))]
     pub fn arrive(&mut self, conn: ConnId, bytes: &Bytes) -> Result<u32, Refusal>
         requires { IsSound (state_of self.old) }
-        ensures step { Step (calls.arrive (machine self.old) conn bytes.now) (machine self.old)
-            result (machine self.new) }
+        ensures step { Steps (λ s. calls.arrive s conn bytes.now) self.old result self.new }
         ensures made { IfOk result (λ n. Arrives conn n self.old self.new) }
         ensures refused { OnErr result (state_of self.new ≡ state_of self.old) }
         ensures sound { IsSound (state_of self.new) }
@@ -157,8 +156,7 @@ impl Kernel {
     fn take_in(&mut self, conn: ConnId, bytes: &[u8]) -> Result<u32, Refusal>
         requires sound { IsSound (state_of self.old) }
         requires there { lacks_conn (machine self.old) conn ≡ false }
-        ensures step { Step (calls.arrive (machine self.old) conn bytes.now) (machine self.old)
-            result (machine self.new) }
+        ensures step { Steps (λ s. calls.arrive s conn bytes.now) self.old result self.new }
         ensures made { IfOk result (λ n. Arrives conn n self.old self.new) }
         ensures refused { OnErr result (state_of self.new ≡ state_of self.old) }
         ensures sound { IsSound (state_of self.new) }

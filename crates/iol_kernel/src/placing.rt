@@ -8,7 +8,8 @@ ghost use Rattle.iol_hold.specs.Moves.{Stays};
 ghost use Rattle.iol_hold.specs.Room.{has_room};
 ghost use Rattle.iol_sock.specs.Refused.{IsPassed, IsRefused};
 ghost use Rattle.iol_kernel.specs.Calls.{MakesBytes};
-ghost use Rattle.iol_kernel.specs.KernelState.{Reading, IsSound};
+ghost use Rattle.iol_kernel.specs.KernelState.{IsSound};
+ghost use Rattle.iol_kernel.specs.Readings.{Reading};
 
 use crate::kernel::Kernel;
 use iol_core::descriptors::Descriptor;

@@ -8,7 +8,8 @@ ghost use Rattle.iol_core.specs.Meaning.{WantOfRoom, first};
 ghost use Rattle.iol_core.specs.Calls.Pools as calls;
 ghost use Rattle.iol_arena.specs.Chunks.{free_chunks};
 ghost use Rattle.iol_pool.specs.Pools.{AddsPool};
-ghost use Rattle.iol_kernel.specs.KernelState.{Reading, IsSound};
+ghost use Rattle.iol_kernel.specs.KernelState.{IsSound};
+ghost use Rattle.iol_kernel.specs.Readings.{Reading};
 
 use crate::kernel::Kernel;
 use crate::tables::are_live;
@@ -161,7 +162,8 @@ impl Kernel {
     #[tactic(auto, using(crate::proofs::Stay::stay_rules))]
     pub fn pool_close(&mut self, by: DomainId, pool: PoolId) -> Result<(), Refusal>
         requires { IsSound (state_of self.old) }
-        ensures { KeepsPlaces (λ s. calls.pool_close s by pool) self.old result self.new }
+        ensures pool_close { KeepsPlaces (λ s. calls.pool_close s by pool) self.old result self.new }
+        ensures roomy { (p : ℕ) → result ≡ Err (Refusal.NoRoom p) → ⊥ }
     {
         if !self.is_live(by) {
             return Err(Refusal::NoDomain);
@@ -182,15 +184,15 @@ impl Kernel {
         Ok(())
     }
 
-    /// Whether a connection is of the pool. There are no files yet.
+    /// Whether a file or a connection is of the pool.
     #[tactic(auto, using(crate::proofs::Views::busy_rules), unfolding(crate::specs::KernelState::read_of))]
     fn is_busy(&self, p: PoolId) -> bool
         ensures { (f : Reading) → result ≡ calls.is_busy (as_read f self.now) p }
     {
-        self.conns.is_busy(p)
+        self.files.is_any_of(p) || self.conns.is_busy(p)
     }
 
-    /// Closes a pool, which no connection is of.
+    /// Closes a pool, which no file and no connection is of.
     fn end_pool(&mut self, p: PoolId)
         requires sound { IsSound (state_of self.old) }
         requires there { is_pool (machine self.old) p ≡ true }

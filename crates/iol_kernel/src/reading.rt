@@ -4,8 +4,8 @@ ghost use Rattle.iol_core.specs.State.{is_live, descriptor, may_read, pipe_at, c
 ghost use Rattle.iol_core.specs.Text.{barred};
 ghost use Rattle.iol_core.specs.Calls.Aggregates.{too_many_aggs};
 ghost use Rattle.iol_core.specs.Calls.Reading as calls;
-ghost use Rattle.iol_hold.specs.Layout.{KeepsPools};
-ghost use Rattle.iol_kernel.specs.KernelState.{Reading, queue_at, IsSound};
+ghost use Rattle.iol_kernel.specs.KernelState.{queue_at, IsSound};
+ghost use Rattle.iol_kernel.specs.Readings.{Reading, KeepsPools};
 
 use crate::kernel::Kernel;
 use iol_core::descriptors::Descriptor;

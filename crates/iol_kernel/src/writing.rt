@@ -3,7 +3,8 @@ ghost use Rattle.std.specs.Prelude.{◌≡◌, ℕ, ◌-◌, length, true, false
 ghost use Rattle.iol_core.specs.State.{is_live, descriptor, pipe_at, text};
 ghost use Rattle.iol_core.specs.Calls.Aggregates.{lacks_agg};
 ghost use Rattle.iol_core.specs.Calls.Writing as calls;
-ghost use Rattle.iol_kernel.specs.KernelState.{Reading, queue_at, IsSound};
+ghost use Rattle.iol_kernel.specs.KernelState.{queue_at, IsSound};
+ghost use Rattle.iol_kernel.specs.Readings.{Reading};
 
 use crate::kernel::Kernel;
 use iol_core::descriptors::Descriptor;

@@ -1,9 +1,10 @@
 -- Pools by number, and whose each chunk is.
-use Rattle.std.proofs.Common.{◌≡◌, ◌⊎◌, inl, inr, ℕ, zero, suc, ◌+◌, ◌-◌, ◌<◌, ◌≤◌, Bool, true, false, not, List, [], ◌∷◌, ◌++◌, length, get_or, set, map, refl, sym, ap, ◌∙◌, subst, arith, length-set, length-append}
-use Rattle.std.specs.Prelude.{nat_lt, nat_le, ◌&&◌}
-use Rattle.std.specs.List.{All, Contains, range_with_len}
+use Rattle.std.proofs.Common.{◌≡◌, ◌⊎◌, inl, inr, ℕ, zero, suc, ◌+◌, ◌-◌, ◌<◌, ◌≤◌, Bool, true, false, not, List, [], ◌∷◌, ◌++◌, drop, length, get_or, set, map, refl, sym, ap, ◌∙◌, subst, arith, length-set, length-append}
+use Rattle.std.specs.Prelude.{nat_lt, nat_le, ◌&&◌, ◌==◌}
+use Rattle.std.specs.List.{All, Contains, list_any, range_with_len}
 use Rattle.std.proofs.Math.Seq.{get_or-append_seam, map-set_same}
-use Rattle.std.proofs.lemmas.List.{get_or-set_other, get_or-set_same, get_or_append_left, get_or_past}
+use Rattle.std.proofs.lemmas.List.{get_or-set_other, drop_all, drop_more, get_or-set_same, get_or_append_left, get_or_default, get_or_past, same_lists}
+use Rattle.std.proofs.lemmas.List.FromFn.{get_or-map-range_with_len, length-map-range_with_len}
 use Rattle.std.proofs.lemmas.List.Elements.{Contains-get_or}
 use Rattle.std.proofs.lemmas.Bool.{cases_eq, cases_lt}
 use Rattle.std.proofs.lemmas.Bool.Decides.{nat_tests}
@@ -16,6 +17,10 @@ use Rattle.iol_arena.proofs.Good.{bool_cases}
 use Rattle.iol_arena.proofs.Members.{In, in_contains, contains_in, in_or_out, in_passes, in_take}
 use Rattle.iol_pool.specs.Pools.{Pool, no_pool, pool_in, with_closed, with_emptied, all_returned, with_returned, goes_back, settled, settled_arena}
 use Rattle.iol_pool.specs.Owned.{AreOwned}
+
+-- whether one of them is q
+abbrev named : List ℕ → ℕ → Bool
+named cs q = list_any (λ d. d == q) cs
 
 -- Pools by number.
 
@@ -89,8 +94,7 @@ emptied ps p q c there h = elim (cases_eq q p) [
 ]
 
 pub length-all_returned : (taken : List Bool) (cs : List ℕ) → length (all_returned taken cs) ≡ length taken
-length-all_returned taken [] = refl
-length-all_returned taken (c ∷ cs) = length-all_returned (set taken c false) cs ∙ length-set taken c false
+length-all_returned taken cs = length-map-range_with_len (λ c. get_or taken c true && not (named cs c)) 0 (length taken)
 
 -- a number of no pool
 set_past : (ps : List Pool) (i : ℕ) (x : Pool) → length ps ≤ i → set ps i x ≡ ps
@@ -110,6 +114,68 @@ pool_in-nowhere ps p out = elim (cases_eq p 0) [
   | inl z ↦ grind (arith, nat_tests, z)
   | inr z ↦ (let far : length ps ≤ p - 1 = grind (arith, nat_tests, z, out) in let e = get_or_past ps (p - 1) no_pool far in grind (arith, nat_tests, z, e))
 ]
+
+-- chunks that are returned
+
+returned_at : (taken : List Bool) (cs : List ℕ) (q : ℕ) (d : Bool) → q < length taken → get_or (all_returned taken cs) q d ≡ (get_or taken q true && not (named cs q))
+returned_at taken cs q d lt = get_or-map-range_with_len (λ c. get_or taken c true && not (named cs c)) 0 (length taken) q q d lt (omega arith)
+
+named_in : (cs : List ℕ) (q : ℕ) → In cs q → named cs q ≡ true
+named_in [] q h = absurd h
+named_in (c ∷ cs) q (inl e) = grind (arith, nat_tests, e)
+named_in (c ∷ cs) q (inr h) = let r = named_in cs q h in elim (bool_cases (c == q)) [ inl e ↦ rw e refl | inr e ↦ rw e r ]
+
+named_out : (cs : List ℕ) (q : ℕ) → (In cs q → ⊥) → named cs q ≡ false
+named_out [] q out = refl
+named_out (c ∷ cs) q out = elim (cases_eq q c) [
+  | inl e ↦ absurd (out (inl e))
+  | inr ne ↦ (let r = named_out cs q (λ h. out (inr h)) in let t : (c == q) ≡ false = grind (arith, nat_tests, ne) in rw t r)
+]
+
+still : (b : Bool) → (b && not false) ≡ b
+still true = refl
+still false = refl
+
+free : (b : Bool) → (b && not true) ≡ false
+free true = refl
+free false = refl
+
+returned_out : (taken : List Bool) (cs : List ℕ) (q : ℕ) → (In cs q → ⊥) → get_or (all_returned taken cs) q true ≡ get_or taken q true
+returned_out taken cs q out = elim (cases_lt q (length taken)) [
+  | inl lt ↦ returned_at taken cs q true lt ∙ ap (λ b. get_or taken q true && not b) (named_out cs q out) ∙ still (get_or taken q true)
+  | inr ge ↦ get_or_past (all_returned taken cs) q true (omega (arith, ge, length-all_returned taken cs)) ∙ sym (get_or_past taken q true ge)
+]
+
+returned_in : (taken : List Bool) (cs : List ℕ) (q : ℕ) → In cs q → q < length taken → get_or (all_returned taken cs) q true ≡ false
+returned_in taken cs q h lt = returned_at taken cs q true lt ∙ ap (λ b. get_or taken q true && not b) (named_in cs q h) ∙ free (get_or taken q true)
+
+-- chunks returned one after another
+pub all_returned-none : (taken : List Bool) → all_returned taken [] ≡ taken
+all_returned-none taken = same_lists (all_returned taken []) taken (length-all_returned taken []) (λ k d h.
+    (let lt : k < length taken = omega (arith, h, length-all_returned taken []) in
+    returned_at taken [] k d lt ∙ still (get_or taken k true) ∙ get_or_default taken k true d lt))
+
+returned_more : (taken : List Bool) (c : ℕ) (cs : List ℕ) (k : ℕ) → k < length taken → (get_or (set taken c false) k true && not (named cs k)) ≡ (get_or taken k true && not (named (c ∷ cs) k))
+returned_more taken c cs k lt = elim (cases_eq k c) [
+  | inl e ↦ (
+      let t : (c == k) ≡ true = grind (arith, nat_tests, e) in
+      let f : get_or (set taken c false) k true ≡ false = ap (λ i. get_or (set taken i false) k true) (sym e) ∙ get_or-set_same taken k false true lt in
+      rw (t, f) (sym (free (get_or taken k true))))
+  | inr ne ↦ (let t : (c == k) ≡ false = grind (arith, nat_tests, ne) in rw (t, get_or-set_other taken c k false true ne) refl)
+]
+
+pub all_returned-more : (taken : List Bool) (c : ℕ) (cs : List ℕ) → all_returned (set taken c false) cs ≡ all_returned taken (c ∷ cs)
+all_returned-more taken c cs = same_lists (all_returned (set taken c false) cs) (all_returned taken (c ∷ cs))
+    (length-all_returned (set taken c false) cs ∙ length-set taken c false ∙ sym (length-all_returned taken (c ∷ cs)))
+    (λ k d h. (
+    let lt : k < length taken = omega (arith, h, length-all_returned (set taken c false) cs, length-set taken c false) in
+    returned_at (set taken c false) cs k d (omega (arith, lt, length-set taken c false)) ∙ returned_more taken c cs k lt ∙ sym (returned_at taken (c ∷ cs) k d lt)))
+
+pub returned_on : (taken : List Bool) (cs : List ℕ) (i c : ℕ) → i < length cs → c ≡ get_or cs i c → all_returned (set taken c false) (drop (i + 1) cs) ≡ all_returned taken (drop i cs)
+returned_on taken cs i c h is = all_returned-more taken c (drop (i + 1) cs) ∙ ap (λ l. all_returned taken l) (sym (drop_more cs i c h ∙ ap (λ x. x ∷ drop (i + 1) cs) (sym is)))
+
+pub returned_last : (taken : List Bool) (cs : List ℕ) (i : ℕ) → length cs ≤ i → all_returned taken (drop i cs) ≡ taken
+returned_last taken cs i h = ap (λ l. all_returned taken l) (drop_all i cs h) ∙ all_returned-none taken
 
 -- what becomes of a pool that is settled
 
@@ -138,7 +204,7 @@ settled-nowhere s ps p out = elim (bool_cases (goes_back s ps p)) [
 
 pub settled_arena-nowhere : (s : State) (ps : List Pool) (p : ℕ) → is_numbered ps p ≡ false → settled_arena s ps p ≡ s
 settled_arena-nowhere s ps p out = elim (bool_cases (goes_back s ps p)) [
-  | inl e ↦ settled_arena-yes s ps p e ∙ ap (λ (x : Pool). with_returned s x.chunks) (pool_in-nowhere ps p out)
+  | inl e ↦ settled_arena-yes s ps p e ∙ ap (λ (x : Pool). with_returned s x.chunks) (pool_in-nowhere ps p out) ∙ ap (λ (l : List Bool). record { memory = s.memory; entries = s.entries; limit = s.limit; taken = l }) (all_returned-none s.taken)
   | inr e ↦ settled_arena-no s ps p e
 ]
 
@@ -273,30 +339,6 @@ owned_closed s ps p there o = owned_same s ps (with_closed ps p) (λ q. chunks-c
 
 pub all_owned : (s : State) (ps : List Pool) (p : ℕ) → AreOwned s ps → All (λ c. c < chunk_count s) (pool_in ps p).chunks
 all_owned s ps p o = λ k d h. o.within p (get_or (pool_in ps p).chunks k d) (Contains-get_or (pool_in ps p).chunks k d h)
-
--- chunks given back
-
-returned_out : (taken : List Bool) (cs : List ℕ) (q : ℕ) → (In cs q → ⊥) → get_or (all_returned taken cs) q true ≡ get_or taken q true
-returned_out taken [] q out = refl
-returned_out taken (c ∷ cs) q out = returned_out (set taken c false) cs q (λ h. out (inr h)) ∙ get_or-set_other taken c q false true (λ e. out (inl e))
-
-returned_stays : (taken : List Bool) (cs : List ℕ) (q : ℕ) → get_or taken q true ≡ false → get_or (all_returned taken cs) q true ≡ false
-returned_stays taken [] q h = h
-returned_stays taken (c ∷ cs) q h = returned_stays (set taken c false) cs q (elim (cases_eq q c) [
-  | inl e ↦ (let there : q < length taken = within taken q h in ap (λ k. get_or (set taken k false) q true) (sym e) ∙ get_or-set_same taken q false true there)
-  | inr ne ↦ get_or-set_other taken c q false true ne ∙ h
-])
-  where
-    within : (taken : List Bool) (q : ℕ) → get_or taken q true ≡ false → q < length taken
-    within taken q h = elim (cases_lt q (length taken)) [
-      | inl lt ↦ lt
-      | inr ge ↦ (let past = get_or_past taken q true ge in let no : true ≡ false = sym past ∙ h in absurd (cc no))
-    ]
-
-returned_in : (taken : List Bool) (cs : List ℕ) (q : ℕ) → In cs q → q < length taken → get_or (all_returned taken cs) q true ≡ false
-returned_in taken [] q h lt = absurd h
-returned_in taken (c ∷ cs) q (inl e) lt = returned_stays (set taken c false) cs q (ap (λ k. get_or (set taken k false) q true) (sym e) ∙ get_or-set_same taken q false true lt)
-returned_in taken (c ∷ cs) q (inr h) lt = returned_in (set taken c false) cs q h (omega (arith, lt, length-set taken c false))
 
 pub owned_settled : (s : State) (ps : List Pool) (p : ℕ) → is_numbered ps p ≡ true → AreOwned s ps → AreOwned (with_returned s (pool_in ps p).chunks) (with_emptied ps p)
 owned_settled s ps p there o = record {

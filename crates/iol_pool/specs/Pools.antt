@@ -1,6 +1,6 @@
 -- Pools: who may read their bytes, and the chunks in which these lie.
-use Rattle.std.specs.Prelude.{◌≡◌, ℕ, ◌==◌, ◌&&◌, Bool, true, false, if◌then◌else◌, List, [], ◌∷◌, ◌++◌, length, slice_set}
-use Rattle.std.specs.List.{list_any, list_all}
+use Rattle.std.specs.Prelude.{◌≡◌, ℕ, ◌==◌, ◌&&◌, Bool, true, false, not, if◌then◌else◌, List, [], ◌∷◌, ◌++◌, length, map, slice_index_or}
+use Rattle.std.specs.List.{list_any, list_all, range_with_len}
 use Rattle.iol_core.specs.Numbered.{numbered_or, with_numbered}
 use Rattle.iol_arena.specs.State.{State}
 use Rattle.iol_arena.specs.Chunks.{is_unused, TakesChunks}
@@ -36,11 +36,13 @@ with_closed ps p = with_numbered ps p (record (pool_in ps p) { closed = true })
 unfoldable pub with_emptied : List Pool → (p : ℕ) → List Pool
 with_emptied ps p = with_numbered ps p (record (pool_in ps p) { chunks = [] })
 
--- with these chunks free again
+-- the chunks that were taken are taken still, but for these
 abbrev pub all_returned : List Bool → List ℕ → List Bool
-all_returned taken [] = taken
-all_returned taken (c ∷ cs) = all_returned (slice_set taken c false) cs
+all_returned taken cs =
+    let still : ℕ → Bool = λ c. slice_index_or taken c true && not (list_any (λ d. d == c) cs) in
+    map still (range_with_len 0 (length taken))
 
+-- with these chunks free again
 abbrev pub with_returned : State → List ℕ → State
 with_returned s cs = record { memory = s.memory; entries = s.entries; limit = s.limit; taken = all_returned s.taken cs }
 

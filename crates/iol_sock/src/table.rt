@@ -1,5 +1,5 @@
 //! The table of live connections.
-ghost use Rattle.std.specs.Prelude.{◌≡◌, ◌≢◌, ℕ, ◌+◌, ◌-◌, ◌<◌, ◌≤◌, ◌&&◌, [], ◌∷◌, ◌++◌, length, find, not, false, true, None, Some, option_map, OnOk, vec_len, vec_capacity};
+ghost use Rattle.std.specs.Prelude.{◌≡◌, ◌≢◌, ℕ, ◌+◌, ◌-◌, ◌<◌, ◌≤◌, ◌&&◌, [], ◌∷◌, ◌++◌, length, find, not, false, true, None, Some, option_map, OnOk, OnErr, vec_len, vec_capacity};
 ghost use Rattle.std.specs.Option.{option_copied};
 ghost use Rattle.iol_core.specs.Numbered.{lookup, without, changed};
 ghost use Rattle.iol_desc.specs.Listed.{IsRising, Rises};
@@ -34,9 +34,15 @@ impl Model for Connections {
 
     ghost Value = { table.ConnTable };
 
-    ghost view = { λ t. record { conns = t.live.entries; next = t.live.next; room = min t.live.room (vec_capacity t.waiting - vec_len t.waiting) } };
+    ghost view = { λ t. record {
+      conns = t.live.entries;
+      next = t.live.next;
+      room = min t.live.room (vec_capacity t.waiting - vec_len t.waiting);
+    } };
 
-    ghost invariant = { λ t. (t.waiting.items ≡ table.waiting_in t.live.entries) × (t.live.next ≤ LAST_CONNECTION + 1) };
+    ghost invariant = { λ t.
+        (t.waiting.items ≡ table.waiting_in t.live.entries)
+        × (t.live.next ≤ LAST_CONNECTION + 1) };
 }
 
 /// Takes the connection of this number off the list of those that wait.
@@ -94,11 +100,13 @@ impl Connections {
         self.live.numbers_rise();
     }
 
-    /// Reserves room for a connection more.
+    /// Reserves room for a connection more. Where there is room already, it is not refused.
     pub fn reserve(&mut self) -> Result<(), AllocError>
         ensures conns { self.new.conns ≡ self.old.conns }
         ensures next { self.new.next ≡ self.old.next }
         ensures room { OnOk result (0 < self.new.room) }
+        ensures no_less { self.old.room ≤ self.new.room }
+        ensures needed { OnErr result (self.old.room ≡ 0) }
     {
         self.live.reserve(1)?;
         self.waiting.reserve(1)?;

@@ -9,7 +9,8 @@ use Rattle.iol_core.specs.declared.events.Reply.{Reply}
 use Rattle.iol_core.proofs.Values.{values_run}
 use Rattle.iol_hold.specs.Moves.{Stays}
 use Rattle.iol_hold.proofs.Moving.{stays_trans}
-use Rattle.iol_kernel.specs.KernelState.{KernelState, machine_of, layout_of}
+use Rattle.iol_kernel.specs.KernelState.{KernelState, layout_of}
+use Rattle.iol_system.specs.Machine.{machine_of}
 use Rattle.iol_kernel.proofs.Stay.{stays_here}
 use Rattle.iol_system.specs.Promises.{Promises, Chain}
 use Rattle.iol_system.specs.Safe.{IsSafe}

@@ -11,7 +11,8 @@ use Rattle.iol_core.proofs.Access.{access_new, access_step}
 use Rattle.iol_core.proofs.Values.{values_step}
 use Rattle.iol_hold.specs.Moves.{Stays}
 use Rattle.iol_hold.specs.Pages.{KeepsPages}
-use Rattle.iol_kernel.specs.KernelState.{KernelState, machine_of, layout_of, IsSound}
+use Rattle.iol_kernel.specs.KernelState.{KernelState, layout_of, IsSound}
+use Rattle.iol_system.specs.Machine.{machine_of}
 use Rattle.iol_kernel.proofs.Stay.{stays_here}
 use Rattle.iol_system.specs.Placed.{placed_by, Creates}
 use Rattle.iol_system.specs.Promises.{Promises, Chain}

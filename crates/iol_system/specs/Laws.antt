@@ -8,7 +8,8 @@ use Rattle.iol_core.specs.declared.events.Reply.{Reply}
 use Rattle.iol_arena.specs.Chunks.{is_taken}
 use Rattle.iol_arena.specs.State.{chunk_count}
 use Rattle.iol_hold.specs.Moves.{Stays}
-use Rattle.iol_kernel.specs.KernelState.{KernelState, machine_of, layout_of}
+use Rattle.iol_kernel.specs.KernelState.{KernelState, layout_of}
+use Rattle.iol_system.specs.Machine.{machine_of}
 use Rattle.iol_system.specs.Promises.{Promises, Chain}
 use Rattle.iol_system.specs.Safe.{IsSafe}
 use Rattle.iol_system.specs.Uses.{HasOneUse, HasOnePool}

@@ -1,4 +1,5 @@
 pub mod Laws
+pub mod Machine
 pub mod Placed
 pub mod Promises
 pub mod Remembered

@@ -12,7 +12,8 @@ use Rattle.iol_core.specs.declared.events.Reply.{Reply}
 use Rattle.iol_core.specs.declared.events.Reply.TheVariants as reply
 use Rattle.iol_hold.specs.Room.{lowest_of}
 use Rattle.iol_pool.specs.Pools.{AddsPool}
-use Rattle.iol_kernel.specs.KernelState.{KernelState, machine_of}
+use Rattle.iol_kernel.specs.KernelState.{KernelState}
+use Rattle.iol_system.specs.Machine.{machine_of}
 
 -- the pages on which a call makes buffers: for `agg_make` the lowest free ones of the caller's default pool
 abbrev pub call_places : KernelState → (by : ℕ) → Call → List ℕ

@@ -10,7 +10,8 @@ use Rattle.iol_core.specs.declared.events.Event.{Event}
 use Rattle.iol_core.specs.declared.events.Reply.{Reply}
 use Rattle.iol_hold.specs.Moves.{Stays}
 use Rattle.iol_hold.specs.Pages.{KeepsPages}
-use Rattle.iol_kernel.specs.KernelState.{KernelState, machine_of, layout_of}
+use Rattle.iol_kernel.specs.KernelState.{KernelState, layout_of}
+use Rattle.iol_system.specs.Machine.{machine_of}
 use Rattle.iol_system.specs.Placed.{placed_by, Creates}
 use Rattle.iol_system.specs.Remembered.{Remembers}
 use Rattle.iol_system.specs.Room.{fits, IsDone, IsNoRoom, IsRefused}

@@ -12,7 +12,8 @@ use Rattle.iol_core.specs.declared.events.Reply.TheVariants as reply
 use Rattle.iol_core.specs.declared.refusals.Refusal.TheVariants.{NoRoom}
 use Rattle.iol_arena.specs.Chunks.{free_chunks}
 use Rattle.iol_hold.specs.Room.{has_room}
-use Rattle.iol_kernel.specs.KernelState.{KernelState, machine_of}
+use Rattle.iol_kernel.specs.KernelState.{KernelState}
+use Rattle.iol_system.specs.Machine.{machine_of}
 
 -- whether a call's pages, or its chunks, are there
 abbrev pub call_fits : KernelState → (by : ℕ) → Call → Bool

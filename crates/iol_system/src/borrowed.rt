@@ -10,7 +10,7 @@ ghost use Rattle.iol_hold.specs.Room.{has_room};
 ghost use Rattle.iol_sock.specs.Refused.{IsPassed, IsRefused};
 ghost use Rattle.iol_kernel.specs.Borrowed.{arrive_from_refusals, ArrivesFrom, sent_on};
 ghost use Rattle.iol_kernel.specs.Calls.{Arrives, Leaves};
-ghost use Rattle.iol_kernel.specs.KernelState.{machine_of};
+ghost use Rattle.iol_system.specs.Machine.{machine_of};
 ghost use Rattle.iol_system.specs.Safe.{IsSafe};
 
 use crate::system::System;

@@ -7,7 +7,8 @@ use Rattle.iol_core.specs.declared.configuration.TheConstants.Config.{DEFAULT}
 use Rattle.iol_core.specs.declared.limits.TheConstants.{CHUNK_PAGES}
 use Rattle.iol_arena.specs.State.{no_entry}
 use Rattle.iol_arena.specs.Buffers.{live_pages}
-use Rattle.iol_kernel.specs.KernelState.{KernelState, machine_of}
+use Rattle.iol_kernel.specs.KernelState.{KernelState}
+use Rattle.iol_system.specs.Machine.{machine_of}
 use Rattle.iol_kernel.specs.Report.{reports_of}
 use Rattle.iol_kernel.specs.declared.report.Report.{Report}
 use Rattle.iol_system.specs.Promises.{Promises}

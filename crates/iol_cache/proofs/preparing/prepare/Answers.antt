@@ -9,7 +9,7 @@ use Rattle.iol_hold.proofs.Reading.{readable_stays}
 use Rattle.iol_hold.proofs.Releasing.{frees_trans}
 use Rattle.iol_extent.specs.Extents.{Extent}
 use Rattle.iol_cache.specs.Cutting.{CutsRight}
-use Rattle.iol_cache.specs.Gaps.{all_parts}
+use Rattle.iol_cache.specs.Cached.{all_parts}
 use Rattle.iol_cache.proofs.Composed.{composed_long, covers_source}
 use Rattle.iol_cache.proofs.Filled.{placed_some}
 use Rattle.iol_cache.proofs.Prepared.{composed_few, cut_few, few_more, gone_after, held_after, left_readable, still_held}

@@ -1,13 +1,16 @@
-use Rattle.std.proofs.Common.{◌∙◌, ◌<◌, IsSome, sym, ap, subst, refl, arith, length, List}
-use Rattle.iol_extent.specs.Extents.{Extent, unmet}
+use Rattle.std.proofs.Common.{◌≡◌, ◌∙◌, ◌<◌, IsSome, sym, ap, subst, refl, arith, length, List}
+use Rattle.std.specs.List.{filter}
+use Rattle.iol_extent.specs.Extents.{Extent, begins_at, meets, unmet}
 use Rattle.iol_extent.proofs.Meeting.{unmet_none}
 use Rattle.iol_hold.specs.Texts.{AllReadable, bufs_of}
 use Rattle.iol_hold.specs.Moves.{Counts}
 use Rattle.iol_hold.proofs.Releasing.{frees_trans}
 use Rattle.iol_hold.proofs.Reading.{readable_stays}
-use Rattle.iol_cache.specs.Gaps.{all_parts}
+use Rattle.iol_cache.specs.Cached.{all_parts}
 use Rattle.iol_cache.proofs.Replaced.{counts_part, covers_moved, fewer, follows_then, met_begins_at, met_less, moves_on, readable_less}
+use Rattle.iol_cache.specs.Replacing.{all_forgotten, forgotten}
 use Rattle.iol_cache.proofs.Ready.{ready_after}
+use Rattle.iol_cache.proofs.Reordered.{forgot_first, met_none, some_is}
 use Rattle.iol_cache.proofs.replacing.clear_range.Goals as goal
 
 pub take_out-requires-clause-begins : goal.take_out-requires-clause-begins
@@ -31,6 +34,10 @@ loop-at-preserved c =
       room = omega (arith, v.room, c.take_out.ensures.room);
       follows = follows_then v.follows c.take_out.ensures.follows;
       ready = ready_after c.take_out.ensures.follows v.ready;
+      gone = ap (λ (xs : List Extent). all_forgotten c.take_out.new.order c.args.file (filter (meets c.args.from c.args.to) xs)) c.take_out.ensures.extents
+          ∙ forgot_first c.loop-at.order c.take_out.new.order c.args.file c.args.from c.args.to c.in-Some.at es v.apart c.in-Some.ensures
+          (some_is (λ e. c.take_out.new.order ≡ forgotten c.loop-at.order c.args.file e) (begins_at es c.in-Some.at) c.in-Some.ensures.extent (met_begins_at es c.args.from c.args.to c.in-Some.at v.apart c.in-Some.ensures) c.take_out.ensures.order)
+          ∙ v.gone;
       order_room = omega (arith, v.order_room, c.take_out.ensures.order_room);
       moves = moves;
       frees = frees_trans v.frees c.take_out.ensures.frees (counts_part es c.in-Some.at c.in-Some.ensures.extent (met_begins_at es c.args.from c.args.to c.in-Some.at v.apart c.in-Some.ensures)
@@ -42,3 +49,6 @@ loop-at-preserved c =
 
 pub returns-clause-extents : goal.returns-clause-extents
 returns-clause-extents c = sym (unmet_none c.loop-at.extents.extents c.args.from c.args.to c.in_default.ensures) ∙ c.loop-at.invariant.others
+
+pub returns-clause-order : goal.returns-clause-order
+returns-clause-order c = sym (ap (all_forgotten c.loop-at.order c.args.file) (met_none c.loop-at.extents.extents c.args.from c.args.to c.in_default.ensures)) ∙ c.loop-at.invariant.gone

@@ -1,12 +1,14 @@
-use Rattle.std.proofs.Common.{◌∙◌, sym, ap, subst, refl, length, List}
+use Rattle.std.proofs.Common.{◌≡◌, ◌∙◌, sym, ap, subst, refl, length, List}
 use Rattle.iol_hold.specs.declared.slices.Slice.{Slice}
 use Rattle.iol_evict.specs.Ranking.{Ranking}
-use Rattle.iol_extent.specs.Extents.{extent_of, without_at}
+use Rattle.iol_extent.specs.Extents.{begins_at, extent_of, without_at}
 use Rattle.iol_cache.specs.Cached.{parts_in}
 use Rattle.iol_cache.specs.Marks.{AreWithin, HaveMarks, Unmarks}
-use Rattle.iol_cache.specs.Replacing.{Follows}
+use Rattle.iol_cache.specs.Replacing.{Reindexes, forgotten}
 use Rattle.iol_cache.proofs.Replaced.{begins_over, clean_goes, dirty_goes, entry_some, marks_of, nothing_begins}
 use Rattle.iol_cache.proofs.Ready.{some_kept}
+use Rattle.iol_cache.proofs.Extending.{begins_above}
+use Rattle.iol_cache.proofs.Reordered.{forgot_clean, forgot_dirty, is_some}
 use Rattle.iol_cache.proofs.replacing.forget.Goals as goal
 
 pub returns-in_default-clause-follows : goal.returns-in_default-clause-follows
@@ -17,7 +19,7 @@ returns-then-dirty-clause-follows c =
     let es = c.args.extents.now.extents in
     let x = extent_of c.in-Some._begin c.in-Some.agg.now c.in-Some.dirty in
     let begins = begins_over es c.args.at x c.requires.apart c.requires.begins c.in-Some.ensures.extent in
-    subst (λ (r : Ranking). Follows c.args.file es (without_at es c.args.at) c.args.order.now r c.args.marks.now c.args.marks.now) (sym c.give_back.ensures)
+    subst (λ (r : Ranking). Reindexes c.args.file es (without_at es c.args.at) c.args.order.now r c.args.marks.now c.args.marks.now) (sym c.give_back.ensures)
     (dirty_goes c.args.file es c.args.at x c.args.order.now c.args.marks.now begins c.if-dirty.true (some_kept c.args.order.now es c.args.at x begins c.if-dirty.true c.requires.ready))
 
 pub give_back-requires : goal.give_back-requires
@@ -53,5 +55,23 @@ returns-clause-follows c =
     let x = extent_of c.in-Some._begin c.in-Some.agg.now c.in-Some.dirty in
     let begins = begins_over es c.args.at x c.requires.apart c.requires.begins c.in-Some.ensures.extent in
     let unmarks = subst (Unmarks c.args.marks.now c.unmark.new.self) c.slices.ensures c.unmark.ensures.unmarks in
-    subst (λ (r : Ranking). Follows c.args.file es (without_at es c.args.at) c.args.order.now r c.args.marks.now c.unmark.new.self) (sym (c.leave.ensures.left refl))
+    subst (λ (r : Ranking). Reindexes c.args.file es (without_at es c.args.at) c.args.order.now r c.args.marks.now c.unmark.new.self) (sym (c.leave.ensures.left refl))
     (clean_goes c.args.file es c.args.at x c.args.order.now c.args.marks.now c.unmark.new.self c.requires.apart begins c.if-dirty.false c.requires.ranked unmarks)
+
+pub returns-in_default-clause-order : goal.returns-in_default-clause-order
+returns-in_default-clause-order c = absurd (nothing_begins c.args.extents.now.extents c.args.at c.requires.apart c.requires.begins c.in_default.ensures.extent)
+
+pub returns-then-dirty-clause-order : goal.returns-then-dirty-clause-order
+returns-then-dirty-clause-order c =
+    let es = c.args.extents.now.extents in
+    let x = extent_of c.in-Some._begin c.in-Some.agg.now c.in-Some.dirty in
+    let begins = begins_over es c.args.at x c.requires.apart c.requires.begins c.in-Some.ensures.extent in
+    is_some (λ e. c.give_back.new.self ≡ forgotten c.args.order.now c.args.file e) (begins_at es c.args.at) x begins (forgot_dirty c.args.order.now c.give_back.new.self c.args.file x c.if-dirty.true c.give_back.ensures)
+
+pub returns-clause-order : goal.returns-clause-order
+returns-clause-order c =
+    let es = c.args.extents.now.extents in
+    let x = extent_of c.in-Some._begin c.in-Some.agg.now c.in-Some.dirty in
+    let begins = begins_over es c.args.at x c.requires.apart c.requires.begins c.in-Some.ensures.extent in
+    is_some (λ e. c.leave.new.self ≡ forgotten c.args.order.now c.args.file e) (begins_at es c.args.at) x begins
+    (forgot_clean c.args.order.now c.leave.new.self c.args.file c.args.at x c.if-dirty.false (begins_above 0 es c.args.at x c.requires.apart begins).1 (c.leave.ensures.left refl))

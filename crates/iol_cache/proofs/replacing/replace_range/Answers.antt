@@ -5,13 +5,13 @@ use Rattle.iol_hold.specs.Stored.{Stored}
 use Rattle.iol_hold.specs.Texts.{bufs_of}
 use Rattle.iol_hold.specs.declared.slices.Slice.{Slice}
 use Rattle.iol_extent.specs.Extents.{Adds, Extent, IsGap, unmet}
-use Rattle.iol_cache.specs.Cached.{clean_in}
-use Rattle.iol_cache.specs.Gaps.{all_parts}
+use Rattle.iol_cache.specs.Cached.{clean_in, all_parts}
 use Rattle.iol_cache.specs.Marks.{at_page}
 use Rattle.iol_cache.specs.Replacing.{put_some}
 use Rattle.iol_cache.proofs.CutOut.{left_gap, new_gap, replaced, right_gap}
 use Rattle.iol_cache.proofs.Filing.{additive_page}
 use Rattle.iol_cache.proofs.Replaced.{page-three, some-clean, some-parts, tally-four, unmet-clean}
+use Rattle.iol_cache.proofs.Reordered.{reordered_is}
 use Rattle.iol_cache.proofs.Using.{are_within}
 use Rattle.iol_cache.proofs.replacing.replace_range.Goals as goal
 
@@ -135,3 +135,8 @@ returns-clause-moves c =
       still = m.still;
       tidy = m.tidy;
     }
+
+pub returns-clause-order : goal.returns-clause-order
+returns-clause-order c =
+    reordered_is c.args.order.now c.clear_range.new.order c.put_edge.new.order c.put_edge-2.new.order c.put_edge-3.new.order c.args.file c.args.extents.now.extents c.args.range.from c.args.range.to c.args.left c.args.right c.args.new
+    c.clear_range.ensures.order c.put_edge.ensures.order c.put_edge-2.ensures.order c.put_edge-3.ensures.order

@@ -4,8 +4,7 @@ use Rattle.iol_extent.proofs.Cover.{some_begins}
 use Rattle.iol_hold.specs.Moves.{Covers, Moves}
 use Rattle.iol_hold.specs.Texts.{AllReadable, bufs_of}
 use Rattle.iol_hold.specs.declared.slices.Slice.{Slice}
-use Rattle.iol_cache.specs.Cached.{parts_in}
-use Rattle.iol_cache.specs.Gaps.{all_parts}
+use Rattle.iol_cache.specs.Cached.{parts_in, all_parts}
 use Rattle.iol_cache.specs.Marks.{AreWithin}
 use Rattle.iol_cache.proofs.Evicted.{given_is}
 use Rattle.iol_cache.proofs.Replaced.{covers_part, moves_part, readable_part}

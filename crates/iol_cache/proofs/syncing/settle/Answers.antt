@@ -1,17 +1,18 @@
 use Rattle.std.proofs.Common.{◌≡◌, ◌∙◌, ℕ, ◌+◌, ◌<◌, ◌≤◌, true, false, List, length, Option, Some, IfSome, IsSome, refl, sym, ap, arith, subst}
 use Rattle.iol_hold.specs.Places.{byte_len}
 use Rattle.iol_hold.specs.declared.slices.Slice.{Slice}
-use Rattle.iol_evict.specs.Ranking.{Ranking, with_one_given_back}
-use Rattle.iol_extent.specs.Extents.{Extent, IsApart, IsGap, Lacks, begins_at, extent_of, last_end, put_in, without_at}
+use Rattle.iol_evict.specs.Ranking.{Ranking, entered, with_one_given_back}
+use Rattle.iol_extent.specs.Extents.{Extent, IsApart, IsGap, Lacks, begins_at, dirty_in, extent_of, last_end, put_in, without_at}
 use Rattle.iol_cache.specs.Cached.{parts_in}
 use Rattle.iol_cache.specs.Marks.{AreWithin, HasMarksLeft}
 use Rattle.iol_cache.specs.Reading.{RanksFile}
-use Rattle.iol_cache.specs.Replacing.{Follows}
+use Rattle.iol_cache.specs.Replacing.{Reindexes, remembered}
 use Rattle.iol_cache.specs.Syncing.{IsFirstDirty, as_clean}
 use Rattle.iol_cache.proofs.Cleaned.{cleaned_put, dirty_some, first_dirty}
 use Rattle.iol_cache.proofs.Evicted.{given_is}
 use Rattle.iol_cache.proofs.Extending.{last_end-without_at, over_yes}
 use Rattle.iol_cache.proofs.Ready.{some_kept}
+use Rattle.iol_cache.proofs.Reordered.{is_some, remembered_clean}
 use Rattle.iol_cache.proofs.Replaced.{dirty_goes, follows_then, put_one}
 use Rattle.iol_cache.proofs.syncing.settle.Goals as goal
 
@@ -108,5 +109,19 @@ returns-clause-follows c =
     let there = begins es at d c.requires.apart xs given in
     let is_dirty = dirty es at d c.requires.apart xs given in
     let goes = dirty_goes c.args.file es at d.extent c.args.order.now c.args.marks.now there is_dirty (some_kept c.args.order.now es at d.extent there is_dirty c.requires.ready) in
-    let gone = subst (λ (r : Ranking). Follows c.args.file es (without_at es at) c.args.order.now r c.args.marks.now c.args.marks.now) (sym c.give_back.ensures) goes in
-    follows_then gone (subst (λ (l : List Extent). Follows c.args.file l c.put_edge.new.extents.extents c.give_back.new.self c.put_edge.new.order c.args.marks.now c.put_edge.new.marks) c.remove-agg.ensures.extents c.put_edge.ensures.follows)
+    let gone = subst (λ (r : Ranking). Reindexes c.args.file es (without_at es at) c.args.order.now r c.args.marks.now c.args.marks.now) (sym c.give_back.ensures) goes in
+    follows_then gone (subst (λ (l : List Extent). Reindexes c.args.file l c.put_edge.new.extents.extents c.give_back.new.self c.put_edge.new.order c.args.marks.now c.put_edge.new.marks) c.remove-agg.ensures.extents c.put_edge.ensures.follows)
+
+pub returns-clause-order : goal.returns-clause-order
+returns-clause-order c =
+    let es = c.args.extents.now.extents in
+    let at = c.args.at in
+    let d = c.requires.dirty in
+    let xs = c.remove-agg.result in
+    let given = c.remove-agg.ensures.given in
+    let r = with_one_given_back c.args.order.now in
+    let f = c.args.file in
+    let e = as_clean d.extent in
+    let more : 0 < byte_len e.parts = dirty_some 0 es d.extent c.requires.apart d.is in
+    is_some (λ y. c.put_edge.new.order ≡ entered r f y.at (byte_len y.parts) 1) (dirty_in es) d.extent d.is
+    (c.put_edge.ensures.order ∙ ap (λ q. remembered q f (extent_of at xs false)) c.give_back.ensures ∙ ap (remembered r f) (put_is es at d c.requires.apart xs given) ∙ remembered_clean r f e refl more)

@@ -6,7 +6,7 @@ use Rattle.iol_agg.proofs.Poured.{shares_then}
 use Rattle.iol_extent.specs.Spans.{AreInOrder}
 use Rattle.iol_extent.specs.declared.spans.Span.{Span}
 use Rattle.iol_hold.specs.Places.{Place, byte_len, places}
-use Rattle.iol_cache.specs.Gaps.{all_parts}
+use Rattle.iol_cache.specs.Cached.{all_parts}
 use Rattle.iol_cache.specs.Sharing.{IsCoveredSpan, places_over}
 use Rattle.iol_cache.specs.Weaving.{len_beside, woven}
 use Rattle.iol_cache.proofs.Shared.{held_beside, length-places_over, over_there, readable_places, readable_same, settles_shares, shared_gone}

@@ -16,9 +16,8 @@ use Rattle.iol_evict.specs.Ranking.{Ranking}
 use Rattle.iol_hold.specs.declared.slices.Slice.{Slice}
 use Rattle.iol_cache.specs.declared.files.CachedFile.{CachedFile}
 use Rattle.iol_cache.specs.Marks.{HasMarksLeft, Marks, at_page}
-use Rattle.iol_cache.specs.Cached.{Cached, file_in, extents_in, order_in}
+use Rattle.iol_cache.specs.Cached.{Cached, file_in, extents_in, order_in, all_parts}
 use Rattle.iol_cache.specs.Cache.{cached_of, holding}
-use Rattle.iol_cache.specs.Gaps.{all_parts}
 use Rattle.iol_cache.specs.Loading.{PlacesSome}
 use Rattle.iol_cache.specs.Reading.{SameButRoom, FillsRange, AllBeginAt, AllWithin, AreAbsent, all_entered, parts_of_spans}
 use Rattle.iol_cache.specs.Sharing.{CountsBelow}

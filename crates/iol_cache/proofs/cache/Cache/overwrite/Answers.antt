@@ -11,10 +11,9 @@ use Rattle.iol_hold.specs.declared.slices.Slice.{Slice}
 use Rattle.iol_extent.specs.Extents.{Extent}
 use Rattle.iol_cache.specs.declared.files.CachedFile.{CachedFile}
 use Rattle.iol_cache.specs.Cache.{cached_of, holding}
-use Rattle.iol_cache.specs.Cached.{extents_in, file_in, held}
+use Rattle.iol_cache.specs.Cached.{extents_in, file_in, held, all_parts}
 use Rattle.iol_cache.specs.Composing.{copied_pages}
 use Rattle.iol_cache.specs.Cutting.{CutsRight}
-use Rattle.iol_cache.specs.Gaps.{all_parts}
 use Rattle.iol_cache.specs.Loading.{PlacesSome}
 use Rattle.iol_cache.specs.Preparing.{Prepares}
 use Rattle.iol_cache.specs.Writing.{PutsOver}

@@ -4,12 +4,11 @@ use Rattle.iol_hold.specs.Texts.{bufs_of, AllReadable}
 use Rattle.iol_extent.specs.Extents.{Adds, IsApart, unmet}
 use Rattle.iol_evict.specs.Ranking.{Ranking}
 use Rattle.iol_cache.specs.declared.files.CachedFile.{CachedFile}
-use Rattle.iol_cache.specs.Cached.{file_in, extents_in}
+use Rattle.iol_cache.specs.Cached.{file_in, extents_in, order_in, all_parts}
 use Rattle.iol_cache.specs.Cache.{cached_of, holding}
 use Rattle.iol_cache.specs.Cutting.{CutsLeft, CutsRight}
-use Rattle.iol_cache.specs.Gaps.{all_parts}
 use Rattle.iol_cache.specs.Reading.{RanksFile}
-use Rattle.iol_cache.specs.Replacing.{Follows, HaveClean, IsReady, put_some}
+use Rattle.iol_cache.specs.Replacing.{Reindexes, HaveClean, IsReady, put_some, reordered}
 use Rattle.iol_cache.specs.Writing.{parts_put}
 use Rattle.iol_cache.proofs.Filing.{file_at_number, file_set, order_at_number, order_set, numbered_bounds}
 use Rattle.iol_cache.proofs.Ranged.{laid_readable}
@@ -156,7 +155,8 @@ returns-clause-puts c =
       apart = e.apart;
       files = ap (λ k. set fs (c.number.result - 1) (let z : CachedFile = record { pool = k; extents = m } in z)) (ap (λ (z : CachedFile). z.pool) x) ∙ ap (λ k. set fs (k - 1) new) c.number.ensures ∙ file_set fs c.args.file new nb.0;
       orders = ap (λ k. set os (k - 1) r) pool ∙ order_set os p r ob.0;
-      follows = subst (λ (q : Ranking). Follows c.args.file (extents_in fs c.args.file) m.extents q r c.args.self.now.marks c.replace_range.new.marks) o (subst (λ (y : CachedFile). Follows c.args.file y.extents.extents m.extents c.index_mut.result.now r c.args.self.now.marks c.replace_range.new.marks) x e.follows);
+      ranks = e.order ∙ ap (λ q. reordered q c.args.file c.index_mut-2.result.now.extents.extents at.from at.to l t n) o ∙ ap (λ (y : CachedFile). reordered (order_in os p) c.args.file y.extents.extents at.from at.to l t n) x;
+      follows = subst (λ (q : Ranking). Reindexes c.args.file (extents_in fs c.args.file) m.extents q r c.args.self.now.marks c.replace_range.new.marks) o (subst (λ (y : CachedFile). Reindexes c.args.file y.extents.extents m.extents c.index_mut.result.now r c.args.self.now.marks c.replace_range.new.marks) x e.follows);
       moves = subst (λ (y : CachedFile). Moves c.args.store.now c.replace_range.new.store (bufs_of (all_parts y.extents.extents ++ parts_put l t n)) (bufs_of (all_parts m.extents))) x e.moves;
       frees = e.frees;
       lists = e.lists;

@@ -10,8 +10,10 @@ use Rattle.iol_cache.specs.Cache.{holding}
 use Rattle.iol_cache.specs.Evicting.{Holding}
 use Rattle.iol_cache.specs.Gaps.{AreOf}
 use Rattle.iol_cache.specs.Going.{Goes, HasRoom, LacksRoom}
-use Rattle.iol_cache.specs.Serving.{IsEnd, NoRoomToRead, Range, ReadsFile, ReadsRange, RoomToRead, bytes_read}
-use Rattle.iol_cache.proofs.Served.{ok_both, tells_more}
+use Rattle.iol_cache.specs.Serving.{IsEnd, NoRoomToRead, Range, ReadsFile, ReadsRange, RefusesRead, RoomToRead, bytes_read}
+use Rattle.iol_cache.specs.Paging.{FillsLowest}
+use Rattle.iol_cache.proofs.Paging.{read_pages, refused_pages}
+use Rattle.iol_cache.proofs.Served.{either_way, ok_both, tells_more}
 use Rattle.iol_cache.proofs.Texts.{long_read, pooled_read, text_read}
 use Rattle.iol_cache.proofs.cache.Cache.read.Goals as goal
 
@@ -77,3 +79,12 @@ returns-clause-room g c =
     let range = range_of d old.cache c.args.file c.args.at c.args.count c.file_end-end.result c.min-from.result c.min.result c.file_end-end.ensures c.min-from.ensures c.min.ensures in
     tells_more (HasRoom old.store old.cache c.args.file range.from range.to) (LacksRoom old.store old.cache c.args.file range.from range.to) (RoomToRead c.args.file c.args.at c.args.count d old) (NoRoomToRead c.args.file c.args.at c.args.count d old) c.read_range.result
     (λ h. record { range = range; room = h }) (λ h. record { range = range; lacks = h }) c.read_range.ensures.room
+
+pub returns-clause-pages : goal.returns-clause-pages
+returns-clause-pages g c =
+    let d = g.B.Backing.disk c.args.backing.now in
+    let old = holding c.args.store.now c.args.self.now in
+    let new = holding c.read_range.new.store c.read_range.new.self in
+    let p = (file_in old.cache.files c.args.file).pool in
+    either_way (FillsLowest p old.store new.store) (RefusesRead c.args.file c.args.at c.args.count d old new) (ReadsFile c.args.file c.args.at c.args.count d old new) c.read_range.result (returns-clause-reads g c) (returns-clause-refused g c)
+    (λ xs h. read_pages c.args.file c.args.at c.args.count d old new xs h) (λ h. refused_pages c.args.file c.args.at c.args.count d old new h)

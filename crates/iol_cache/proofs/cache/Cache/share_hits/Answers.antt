@@ -4,9 +4,8 @@ use Rattle.iol_hold.specs.Texts.{bufs_of, AllReadable}
 use Rattle.iol_extent.specs.Extents.{IsApart}
 use Rattle.iol_evict.specs.Ranking.{Ranking}
 use Rattle.iol_cache.specs.declared.files.CachedFile.{CachedFile}
-use Rattle.iol_cache.specs.Cached.{file_in, extents_in, order_in}
+use Rattle.iol_cache.specs.Cached.{file_in, extents_in, order_in, all_parts}
 use Rattle.iol_cache.specs.Cache.{cached_of}
-use Rattle.iol_cache.specs.Gaps.{all_parts}
 use Rattle.iol_cache.specs.Reading.{RanksFile, hits_counted}
 use Rattle.iol_cache.specs.Weaving.{IsCoveredBeside, places_beside}
 use Rattle.iol_cache.proofs.Filing.{file_at_number, order_at_number, order_set, numbered_bounds}

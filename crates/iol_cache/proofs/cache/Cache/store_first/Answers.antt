@@ -6,14 +6,14 @@ use Rattle.iol_hold.specs.Places.{byte_len}
 use Rattle.iol_hold.specs.Stored.{Stored}
 use Rattle.iol_hold.specs.Texts.{AllReadable, text_of}
 use Rattle.iol_hold.specs.declared.slices.Slice.{Slice}
-use Rattle.iol_evict.specs.Ranking.{Ranking}
+use Rattle.iol_evict.specs.Ranking.{Ranking, entered, with_one_given_back}
 use Rattle.iol_extent.specs.Extents.{Extent, IsApart, begins_at, dirty_in, end_of, extent_of, last_end}
 use Rattle.iol_cache.specs.declared.files.CachedFile.{CachedFile}
 use Rattle.iol_cache.specs.Cache.{cached_of}
 use Rattle.iol_cache.specs.Cached.{Cached, extents_in, file_in, parts_in}
 use Rattle.iol_cache.specs.Marks.{AreWithin, HasMarksLeft}
 use Rattle.iol_cache.specs.Reading.{RanksFile}
-use Rattle.iol_cache.specs.Replacing.{Follows, IsReady}
+use Rattle.iol_cache.specs.Replacing.{Reindexes, IsReady}
 use Rattle.iol_cache.specs.Sharing.{CountsBelow}
 use Rattle.iol_cache.specs.Sound.{IsLaid, IsSound}
 use Rattle.iol_cache.specs.Syncing.{IsFirstDirty, Stores, cleaned_at}
@@ -22,6 +22,7 @@ use Rattle.iol_cache.proofs.Composed.{length-bytes}
 use Rattle.iol_cache.proofs.Extending.{last_end-without_at}
 use Rattle.iol_cache.proofs.Filing.{each-begins, file_at_number, file_set, numbered_bounds, order_at_number, order_set}
 use Rattle.iol_cache.proofs.Ready.{is_ready}
+use Rattle.iol_cache.proofs.Reordered.{some_is}
 use Rattle.iol_cache.proofs.Roomy.{ranks_file}
 use Rattle.iol_cache.proofs.Stepping.{mark_few, page_len}
 use Rattle.iol_cache.proofs.Synced.{clean_bytes, clean_mirrors, cleaned_sound, fail_bytes, fail_stored}
@@ -205,16 +206,19 @@ returns-clause-stores g c =
     let d = g.B.Backing.disk c.args.backing.now in
     let e = g.B.Backing.disk c.write_back.new.backing in
     let new : CachedFile = record { pool = p; extents = m } in
+    let first = here c.args.store.now (cached_of c.args.self.now) f c.requires.sound c.index-2.result.now y x c.in-Some.ensures in
     record {
       extent = x;
-      first = here c.args.store.now (cached_of c.args.self.now) f c.requires.sound c.index-2.result.now y x c.in-Some.ensures;
+      first = first;
       extents = m;
       order = r;
       is = s.extents ∙ ap (λ (q : CachedFile). cleaned_at q.extents.extents at) z;
       apart = s.apart;
       files = ap (λ k. set fs (c.number.result - 1) (let q : CachedFile = record { pool = k; extents = m } in q)) (ap (λ (q : CachedFile). q.pool) z) ∙ ap (λ k. set fs (k - 1) new) c.number.ensures ∙ file_set fs f new nb.0;
       orders = ap (λ k. set os (k - 1) r) pool ∙ order_set os p r ob.0;
-      follows = subst (λ (q : Ranking). Follows f (extents_in fs f) m.extents q r c.args.self.now.marks c.settle.new.marks) o (subst (λ (q : CachedFile). Follows f q.extents.extents m.extents c.index_mut.result.now r c.args.self.now.marks c.settle.new.marks) z s.follows);
+      ranks = some_is (λ q. r ≡ entered (with_one_given_back c.index_mut.result.now) f q.at (byte_len q.parts) 1) (dirty_in c.index_mut-2.result.now.extents.extents) x (ap (λ (q : CachedFile). dirty_in q.extents.extents) z ∙ first) s.order
+          ∙ ap (λ q. entered (with_one_given_back q) f at (byte_len x.parts) 1) o;
+      follows = subst (λ (q : Ranking). Reindexes f (extents_in fs f) m.extents q r c.args.self.now.marks c.settle.new.marks) o (subst (λ (q : CachedFile). Reindexes f q.extents.extents m.extents c.index_mut.result.now r c.args.self.now.marks c.settle.new.marks) z s.follows);
       honest = b.honest;
       counts = b.counts;
       others = b.others;

@@ -1,4 +1,4 @@
-use Rattle.std.proofs.Common.{◌≡◌, ◌∙◌, ℕ, ◌+◌, ◌<◌, Bool, true, false, cond, None, Ok, sym, ap, arith, subst}
+use Rattle.std.proofs.Common.{◌≡◌, ◌∙◌, ℕ, suc, refl, ◌+◌, ◌<◌, Bool, true, false, cond, None, Ok, sym, ap, arith, subst}
 use Rattle.iol_back.specs.Disk.{Disk}
 use Rattle.iol_core.specs.Numbered.{is_numbered}
 use Rattle.iol_hold.specs.Stored.{Stored}
@@ -6,7 +6,7 @@ use Rattle.iol_extent.specs.Extents.{dirty_in}
 use Rattle.iol_cache.specs.Cache.{cached_of}
 use Rattle.iol_cache.specs.Cached.{Cached, dirty_count, extents_in}
 use Rattle.iol_cache.specs.Sound.{IsSound}
-use Rattle.iol_cache.specs.Syncing.{StoresFirst, Syncs}
+use Rattle.iol_cache.specs.Syncing.{AreCleaned, StoresFirst, Syncs}
 use Rattle.iol_cache.proofs.Filing.{numbered_bounds, numbered_yes}
 use Rattle.iol_cache.proofs.Synced.{clean_fewer, syncs_fail, syncs_more}
 use Rattle.iol_cache.proofs.cache.Cache.sync.Goals as goal
@@ -30,6 +30,22 @@ after s f old mid new d m e sound now there a fails false w =
       λ h. none,
       omega (arith, ap (λ (c : Cached). dirty_count (extents_in c.files f)) w.same),
     )
+
+-- extents that were written back, and what the next step did
+one_more : (s : Stored) (f : ℕ) (old mid new : Cached) (d m e : Disk) → (n : ℕ) × AreCleaned s f n old mid d m → (b : Bool) → StoresFirst s f mid new m e (Ok b) → (n : ℕ) × AreCleaned s f n old new d e
+one_more s f old mid new d m e a true w = (suc a.0, (mid, m, a.1, w))
+one_more s f old mid new d m e a false w = (a.0, subst (λ (c : Cached). AreCleaned s f a.0 old c d e) (sym w.same) (subst (AreCleaned s f a.0 old mid d) (sym w.disk) a.1))
+
+pub returns-clause-writes : goal.returns-clause-writes
+returns-clause-writes g c =
+    let v = c.loop-more.invariant in
+    let done = v.done c.loop-more-test.false in
+    record { count = v.cleaned.0; mid = cached_of c.loop-more.self; disk = g.B.Backing.disk c.loop-more.backing; each = v.cleaned.1; ends = record { none = done; same = refl; disk = refl } }
+
+pub returns-in-Err-clause-writes : goal.returns-in-Err-clause-writes
+returns-in-Err-clause-writes g c =
+    let v = c.loop-more.invariant in
+    record { count = v.cleaned.0; mid = cached_of c.loop-more.self; disk = g.B.Backing.disk c.loop-more.backing; each = v.cleaned.1; ends = c.in-Err.ensures.stores }
 
 pub returns-in-Err-clause-syncs : goal.returns-in-Err-clause-syncs
 returns-in-Err-clause-syncs g c =
@@ -63,4 +79,4 @@ loop-more-preserved g c =
     let m = g.B.Backing.disk c.loop-more.backing in
     let e = g.B.Backing.disk c.store_first.new.backing in
     let r = after c.args.store.now f old mid new d m e c.requires.sound v.sound (still_there c.args.store.now f old mid d m v.syncs c.requires.file) v.syncs v.failures c.in-Ok.more c.in-Ok.ensures.stores in
-    record { sound = c.store_first.ensures.sound; syncs = r.0; failures = r.1; done = r.2 }
+    record { sound = c.store_first.ensures.sound; syncs = r.0; cleaned = one_more c.args.store.now f old mid new d m e v.cleaned c.in-Ok.more c.in-Ok.ensures.stores; failures = r.1; done = r.2 }

@@ -18,6 +18,8 @@ use Rattle.iol_cache.specs.Going.{Goes}
 use Rattle.iol_cache.specs.Pinned.{is_pinned, pinned_beside}
 use Rattle.iol_cache.proofs.Composed.{pages_for-zero}
 use Rattle.iol_cache.proofs.Overwritten.{over_lies}
+use Rattle.iol_cache.proofs.Paging.{unwritten_pages, write_pages}
+use Rattle.iol_cache.proofs.Served.{places_none}
 use Rattle.iol_cache.proofs.Placed.{goes_files, goes_mirrors, goes_moves, goes_others, goes_refused, goes_room, room_held, room_numbered, room_readable, wrote, wrote_mirrors, wrote_moves, wrote_others}
 use Rattle.iol_cache.proofs.cache.Cache.write.Goals as goal
 
@@ -54,6 +56,19 @@ returns-in-Err-clause-mirrors c =
     let old = holding c.args.store.now c.args.self.now in
     let new = holding c.make_place.new.store c.make_place.new.self in
     goes_mirrors old new [] [] (λ d. goes_room d [] p (copied_pages p c.args.source.now) old new c.make_place.ensures.room)
+
+pub returns-in-Err-clause-evicts : goal.returns-in-Err-clause-evicts
+returns-in-Err-clause-evicts c =
+    let p = (file_in c.args.self.now.files.items c.args.file).pool in
+    let mid = holding c.make_place.new.store c.make_place.new.self in
+    record { mid = mid; room = c.make_place.ensures.room; placed = places_none mid.store p; cache = refl }
+
+pub returns-in-Err-clause-pages : goal.returns-in-Err-clause-pages
+returns-in-Err-clause-pages c =
+    let p = (file_in c.args.self.now.files.items c.args.file).pool in
+    let old = holding c.args.store.now c.args.self.now in
+    let mid = holding c.make_place.new.store c.make_place.new.self in
+    unwritten_pages p (copied_pages p c.args.source.now) old mid (returns-in-Err-clause-evicts c)
 
 pub overwrite-requires-clause-held : goal.overwrite-requires-clause-held
 overwrite-requires-clause-held c =
@@ -122,6 +137,13 @@ returns-in-Ok-clause-moves c =
     let m = c.make_place.ensures.room in
     let some : 0 < byte_len c.args.source.now = grind (arith, nat_tests, c.if-is_empty.ensures, c.is_empty.ensures) in
     wrote_moves old mid new c.args.file c.args.at p n c.args.source.now m c.make_place.ensures.sound (room_numbered p n c.args.file old mid m c.requires.file) c.overwrite.ensures.sound some c.in-Ok.ensures.overwrites c.requires.held c.requires.readable
+
+pub returns-in-Ok-clause-pages : goal.returns-in-Ok-clause-pages
+returns-in-Ok-clause-pages c =
+    let old = holding c.args.store.now c.args.self.now in
+    let mid = holding c.make_place.new.store c.make_place.new.self in
+    let new = holding c.overwrite.new.store c.overwrite.new.self in
+    write_pages c.args.file c.args.at c.args.source.now old new (record { mid = mid; room = c.make_place.ensures.room; over = c.in-Ok.ensures.overwrites })
 
 -- A write that was refused after room was made: the store went on, and the cache did not.
 refused : (d : Disk) (p n : ℕ) (old : Holding) (s t : Stored) (x y : Cache) → y ≡ x → Goes d [] [] old (holding t x) → Goes d [] [] old (holding t y)

@@ -1,7 +1,7 @@
 use Rattle.std.proofs.Common.{◌∙◌, ◌<◌, ◌≤◌, ◌+◌, ◌++◌, ◌∷◌, [], ap, sym, subst}
-use Rattle.iol_hold.specs.Texts.{byte_at}
 use Rattle.iol_sock.specs.Connections.{new_conn}
 use Rattle.iol_kernel.specs.Kernel.{state_of}
+use Rattle.iol_kernel.specs.Readings.{bytes_over}
 use Rattle.iol_kernel.proofs.Connecting.{Conns, joined_as, length_conns-read_of, next_conn-read_of}
 use Rattle.iol_kernel.proofs.ReadOf.{closed-read_of}
 use Rattle.iol_kernel.proofs.kernel.Kernel.add_conn.Goals as goal
@@ -9,14 +9,14 @@ use Rattle.iol_kernel.proofs.kernel.Kernel.add_conn.Goals as goal
 pub add-requires-clause-few : goal.add-requires-clause-few
 add-requires-clause-few c =
     let h = state_of c.args.self.now in
-    subst (λ n. n ≤ 4294967294) (next_conn-read_of (byte_at h.store) h ∙ sym c.in_ok-reserve.ensures.next) c.requires.some
+    subst (λ n. n ≤ 4294967294) (next_conn-read_of (bytes_over [] h.store) h ∙ sym c.in_ok-reserve.ensures.next) c.requires.some
 
 pub returns-clause-done : goal.returns-clause-done
 returns-clause-done c =
     let h = state_of c.args.self.now in
-    let some = subst (λ n. n ≤ 4294967294) (next_conn-read_of (byte_at h.store) h) c.requires.some in
-    let few = subst (λ n. n < 1024) (length_conns-read_of (byte_at h.store) h) c.requires.few in
-    let open' = sym (closed-read_of (byte_at h.store) h c.args.pool) ∙ c.requires.open in
+    let some = subst (λ n. n ≤ 4294967294) (next_conn-read_of (bytes_over [] h.store) h) c.requires.some in
+    let few = subst (λ n. n < 1024) (length_conns-read_of (bytes_over [] h.store) h) c.requires.few in
+    let open' = sym (closed-read_of (bytes_over [] h.store) h c.args.pool) ∙ c.requires.open in
     let next = c.in_ok-reserve.ensures.next in
     joined_as h c.args.pool c.requires.sound open' few some c.add.result c.add.new.self.next c.add.new.self.conns
     (c.add.ensures.number ∙ next)

@@ -1,6 +1,6 @@
-use Rattle.std.proofs.Common.{◌∙◌, sym}
-use Rattle.iol_hold.specs.Texts.{byte_at}
+use Rattle.std.proofs.Common.{[], ◌∙◌, sym}
 use Rattle.iol_kernel.specs.Kernel.{state_of}
+use Rattle.iol_kernel.specs.Readings.{bytes_over}
 use Rattle.iol_kernel.proofs.Effects.{pool_closed}
 use Rattle.iol_kernel.proofs.ReadOf.{idle_held, is_pool-read_of}
 use Rattle.iol_kernel.proofs.kernel.Kernel.end_pool.Goals as goal
@@ -11,4 +11,4 @@ close_pool-requires c = sym (is_pool-read_of _ (state_of c.args.self.now) c.args
 pub returns : goal.returns
 returns c =
     let h = state_of c.args.self.now in
-    pool_closed h c.close_pool.new.self c.requires.sound c.close_pool.ensures.moves c.close_pool.ensures.settles c.close_pool.ensures.pages c.args.p (idle_held (byte_at h.store) h c.args.p (c.requires.idle (byte_at h.store))) c.close_pool.ensures.closed
+    pool_closed h c.close_pool.new.self c.requires.sound c.close_pool.ensures.moves c.close_pool.ensures.settles c.close_pool.ensures.pages c.args.p (idle_held (bytes_over [] h.store) h c.args.p (c.requires.idle (bytes_over [] h.store))) c.close_pool.ensures.closed

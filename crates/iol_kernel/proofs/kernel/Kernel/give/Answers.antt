@@ -1,7 +1,7 @@
-use Rattle.std.proofs.Common.{arith}
+use Rattle.std.proofs.Common.{[], arith}
 use Rattle.iol_desc.specs.Tables.{domains_of}
-use Rattle.iol_hold.specs.Texts.{byte_at}
 use Rattle.iol_kernel.specs.Kernel.{state_of}
+use Rattle.iol_kernel.specs.Readings.{bytes_over}
 use Rattle.iol_kernel.proofs.Effects.{few_numbers}
 use Rattle.iol_kernel.proofs.Gifts.{given_answers}
 use Rattle.iol_kernel.proofs.ReadOf.{live_held}
@@ -9,7 +9,7 @@ use Rattle.iol_kernel.proofs.Slices.{there_held}
 use Rattle.iol_kernel.proofs.kernel.Kernel.give.Goals as goal
 
 pub move_agg-requires-clause-few : goal.move_agg-requires-clause-few
-move_agg-requires-clause-few c = omega (arith, few_numbers (byte_at c.args.self.now.store) (state_of c.args.self.now) c.args.to 1 1 c.requires.few)
+move_agg-requires-clause-few c = omega (arith, few_numbers (bytes_over [] c.args.self.now.store) (state_of c.args.self.now) c.args.to 1 1 c.requires.few)
 
 pub returns-clause-done : goal.returns-clause-done
 returns-clause-done c =

@@ -1,9 +1,9 @@
-use Rattle.std.proofs.Common.{◌≢◌, ◌∙◌, sym, ap, arith}
+use Rattle.std.proofs.Common.{[], ◌≢◌, ◌∙◌, sym, ap, arith}
 use Rattle.std.specs.Prelude.{slice_index_or, List, Option, None}
 use Rattle.iol_core.specs.declared.descriptors.Descriptor.{Descriptor}
 use Rattle.iol_desc.specs.Tables.{domains_of}
-use Rattle.iol_hold.specs.Texts.{byte_at}
 use Rattle.iol_kernel.specs.Kernel.{state_of}
+use Rattle.iol_kernel.specs.Readings.{bytes_over}
 use Rattle.iol_kernel.proofs.Opening.{end_held, not_none, few_to, other_live, other_fds, moved_within, moved_across}
 use Rattle.iol_kernel.proofs.ReadOf.{live_held, descriptor-read_of}
 use Rattle.iol_kernel.proofs.kernel.Kernel.move_fd.Goals as goal
@@ -14,7 +14,7 @@ move_fd-requires-clause-there c = not_none _ _ c.args.given c.requires.given (sy
 pub add_fd-requires-clause-few : goal.add_fd-requires-clause-few
 add_fd-requires-clause-few c =
     let differ : c.args.by ≢ c.args.to = λ e. c.if-number.false (c.number.ensures ∙ e ∙ sym c.number-2.ensures) in
-    let few = few_to (byte_at c.args.self.now.store) (state_of c.args.self.now) c.args.by c.args.to differ c.requires.few in
+    let few = few_to (bytes_over [] c.args.self.now.store) (state_of c.args.self.now) c.args.by c.args.to differ c.requires.few in
     omega (arith, few)
 
 pub take_fd-requires-clause-live : goal.take_fd-requires-clause-live

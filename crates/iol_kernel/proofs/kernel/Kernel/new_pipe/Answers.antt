@@ -1,12 +1,12 @@
-use Rattle.std.proofs.Common.{◌≡◌, ◌∙◌, ◌<◌, ap, arith, List, subst}
+use Rattle.std.proofs.Common.{[], ◌≡◌, ◌∙◌, ◌<◌, ap, arith, List, subst}
 use Rattle.std.specs.Prelude.{Option}
 use Rattle.iol_core.specs.Numbered.{lowest, placed, taken}
 use Rattle.iol_core.specs.declared.limits.TheConstants.{MAX_PIPES}
 use Rattle.iol_desc.specs.Tables.{domains_of, domain_in, with_fds_in, with_ends}
-use Rattle.iol_hold.specs.Texts.{byte_at}
 use Rattle.iol_hold.specs.declared.slices.Slice.{Slice}
 use Rattle.iol_kernel.specs.Views.{Pipe}
 use Rattle.iol_kernel.specs.Kernel.{state_of}
+use Rattle.iol_kernel.specs.Readings.{bytes_over}
 use Rattle.iol_kernel.proofs.Opening.{empty, ends_of, few_open_held, piped_answers}
 use Rattle.iol_kernel.proofs.ReadOf.{live_held, taken_pipes-read_of}
 use Rattle.iol_kernel.proofs.kernel.Kernel.new_pipe.Goals as goal
@@ -14,10 +14,10 @@ use Rattle.iol_kernel.proofs.kernel.Kernel.new_pipe.Goals as goal
 pub next-requires : goal.next-requires
 next-requires c =
     let h = state_of c.args.self.now in
-    omega (arith, c.requires.few_pipes, taken_pipes-read_of (byte_at h.store) h, ap (λ (qs : List (Option (Pipe (List Slice)))). taken qs) c.in_ok-reserve.ensures.same)
+    omega (arith, c.requires.few_pipes, taken_pipes-read_of (bytes_over [] h.store) h, ap (λ (qs : List (Option (Pipe (List Slice)))). taken qs) c.in_ok-reserve.ensures.same)
 
 pub add_ends-requires-clause-few : goal.add_ends-requires-clause-few
-add_ends-requires-clause-few c = omega (arith, few_open_held (byte_at c.args.self.now.store) (state_of c.args.self.now) c.args.by 2 c.requires.few)
+add_ends-requires-clause-few c = omega (arith, few_open_held (bytes_over [] c.args.self.now.store) (state_of c.args.self.now) c.args.by 2 c.requires.few)
 
 pub returns-clause-done : goal.returns-clause-done
 returns-clause-done c =

@@ -1,14 +1,14 @@
-use Rattle.std.proofs.Common.{arith}
+use Rattle.std.proofs.Common.{[], arith}
 use Rattle.iol_desc.specs.Tables.{domains_of}
-use Rattle.iol_hold.specs.Texts.{byte_at}
 use Rattle.iol_kernel.specs.Kernel.{state_of}
+use Rattle.iol_kernel.specs.Readings.{bytes_over}
 use Rattle.iol_kernel.proofs.Accepting.{waiter_there, waiter_waits, accepted_answers}
 use Rattle.iol_kernel.proofs.Opening.{few_open_held}
 use Rattle.iol_kernel.proofs.ReadOf.{live_held}
 use Rattle.iol_kernel.proofs.kernel.Kernel.open_conn.Goals as goal
 
 pub add_fd-requires-clause-few : goal.add_fd-requires-clause-few
-add_fd-requires-clause-few c = omega (arith, few_open_held (byte_at c.args.self.now.store) (state_of c.args.self.now) c.args.by 1 c.requires.few)
+add_fd-requires-clause-few c = omega (arith, few_open_held (bytes_over [] c.args.self.now.store) (state_of c.args.self.now) c.args.by 1 c.requires.few)
 
 pub accept-requires-clause-there : goal.accept-requires-clause-there
 accept-requires-clause-there c = waiter_there (state_of c.args.self.now) c.args.by c.args.conn c.requires.sound c.requires.waits

@@ -1,10 +1,10 @@
-use Rattle.std.proofs.Common.{◌≡◌, ◌≤◌, ◌+◌, ◌-◌, sym, ap, length, length-append, take, arith, ℕ}
+use Rattle.std.proofs.Common.{[], ◌≡◌, ◌≤◌, ◌+◌, ◌-◌, sym, ap, length, length-append, take, arith, ℕ}
 use Rattle.std.specs.Prelude.{min}
 use Rattle.std.proofs.lemmas.List.{length-take}
 use Rattle.iol_core.specs.declared.limits.TheConstants.{MAX_QUEUE_BYTES}
 use Rattle.iol_hold.specs.Places.{places, byte_len}
-use Rattle.iol_hold.specs.Texts.{byte_at}
 use Rattle.iol_kernel.specs.Kernel.{state_of}
+use Rattle.iol_kernel.specs.Readings.{bytes_over}
 use Rattle.iol_kernel.specs.KernelState.{objects_of}
 use Rattle.iol_kernel.specs.KernelState.{queue_at}
 use Rattle.iol_kernel.proofs.Queueing.{writing_held, queue_short, pushed_answers}
@@ -18,7 +18,7 @@ pub unreachable-requires : goal.unreachable-requires
 unreachable-requires c = there_held _ (state_of c.args.self.now) c.args.by c.args.agg c.requires.there (sym c.in_default.ensures)
 
 pub push-requires-clause-writing : goal.push-requires-clause-writing
-push-requires-clause-writing c = let h = state_of c.args.self.now in writing_held _ h c.args.by c.args.fd c.args.p c.requires.sound (c.requires.to (byte_at h.store))
+push-requires-clause-writing c = let h = state_of c.args.self.now in writing_held _ h c.args.by c.args.fd c.args.p c.requires.sound (c.requires.to (bytes_over [] h.store))
 
 pub push-requires-clause-covered : goal.push-requires-clause-covered
 push-requires-clause-covered c =

@@ -1,8 +1,8 @@
-use Rattle.std.proofs.Common.{◌∙◌, ap, sym, refl, rules}
+use Rattle.std.proofs.Common.{[], ◌∙◌, ap, sym, refl, rules}
 use Rattle.iol_hold.specs.Room.{has_room}
-use Rattle.iol_hold.specs.Texts.{byte_at}
 use Rattle.iol_kernel.specs.Kernel.{state_of}
 use Rattle.iol_kernel.specs.KernelState.{KernelState, queue_at}
+use Rattle.iol_kernel.specs.Readings.{bytes_over}
 use Rattle.iol_kernel.proofs.ReadOf.{closed-read_of}
 use Rattle.iol_kernel.proofs.Queueing.{writing_held}
 use Rattle.iol_kernel.proofs.Written.{put_step, put_made, fills-count, fills_sound, fills_each}
@@ -12,7 +12,7 @@ pub fill-requires-clause-open : goal.fill-requires-clause-open
 fill-requires-clause-open c = sym (closed-read_of _ (state_of c.args.self.now) c.args.pool) ∙ c.requires.open
 
 pub fill-requires-clause-writing : goal.fill-requires-clause-writing
-fill-requires-clause-writing c = let h = state_of c.args.self.now in writing_held _ h c.args.by c.args.fd c.args.pipe c.requires.sound (c.requires.to (byte_at h.store))
+fill-requires-clause-writing c = let h = state_of c.args.self.now in writing_held _ h c.args.by c.args.fd c.args.pipe c.requires.sound (c.requires.to (bytes_over [] h.store))
 
 pub returns-in_err-fill-clause-no_room : goal.returns-in_err-fill-clause-no_room
 returns-in_err-fill-clause-no_room c =

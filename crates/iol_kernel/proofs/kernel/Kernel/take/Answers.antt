@@ -1,9 +1,9 @@
-use Rattle.std.proofs.Common.{◌∙◌, ap, inl, arith, List}
+use Rattle.std.proofs.Common.{[], ◌∙◌, ap, inl, arith, List}
 use Rattle.iol_core.specs.State.{Domain}
 use Rattle.iol_hold.specs.declared.slices.Slice.{Slice}
 use Rattle.iol_desc.specs.Tables.{domains_of, domain_in, with_agg_in}
-use Rattle.iol_hold.specs.Texts.{byte_at}
 use Rattle.iol_kernel.specs.Kernel.{state_of}
+use Rattle.iol_kernel.specs.Readings.{bytes_over}
 use Rattle.iol_kernel.specs.KernelState.{objects_of}
 use Rattle.iol_kernel.proofs.Effects.{few_aggs, few_numbers}
 use Rattle.iol_kernel.proofs.Ends.{there_if_open}
@@ -13,12 +13,12 @@ use Rattle.iol_kernel.proofs.Uses.{queue_covered, countable}
 use Rattle.iol_kernel.proofs.kernel.Kernel.take.Goals as goal
 
 pub front-requires-clause-reading : goal.front-requires-clause-reading
-front-requires-clause-reading c = let h = state_of c.args.self.now in reading_held _ h c.args.by c.args.fd c.args.p c.requires.sound (c.requires.from (byte_at h.store))
+front-requires-clause-reading c = let h = state_of c.args.self.now in reading_held _ h c.args.by c.args.fd c.args.p c.requires.sound (c.requires.from (bytes_over [] h.store))
 
 pub front-requires-clause-covered : goal.front-requires-clause-covered
 front-requires-clause-covered c =
     let h = state_of c.args.self.now in
-    queue_covered h.store h.domains (objects_of h) c.args.p c.requires.sound.counted (there_if_open h.pipes c.args.p (inl (reading_held _ h c.args.by c.args.fd c.args.p c.requires.sound (c.requires.from (byte_at h.store)))))
+    queue_covered h.store h.domains (objects_of h) c.args.p c.requires.sound.counted (there_if_open h.pipes c.args.p (inl (reading_held _ h c.args.by c.args.fd c.args.p c.requires.sound (c.requires.from (bytes_over [] h.store)))))
 
 pub front-requires-clause-countable : goal.front-requires-clause-countable
 front-requires-clause-countable c =
@@ -32,7 +32,7 @@ add_agg-requires-clause-live c = ap (λ (ds : List (Domain (List Slice))). (doma
 pub add_agg-requires-clause-few : goal.add_agg-requires-clause-few
 add_agg-requires-clause-few c =
     let h = state_of c.args.self.now in
-    omega (arith, few_numbers (byte_at h.store) h c.args.by 1 0 c.requires.few, ap (λ (ds : List (Domain (List Slice))). (domain_in ds c.args.by).next_agg) c.in_ok-reserve_aggs.ensures.same)
+    omega (arith, few_numbers (bytes_over [] h.store) h c.args.by 1 0 c.requires.few, ap (λ (ds : List (Domain (List Slice))). (domain_in ds c.args.by).next_agg) c.in_ok-reserve_aggs.ensures.same)
 
 pub returns-clause-done : goal.returns-clause-done
 returns-clause-done c =
@@ -46,5 +46,5 @@ returns-clause-done c =
       left = e.rest;
       shares = e.shares;
       added = c.add_agg.ensures.added ∙ ap (λ (ds : List (Domain (List Slice))). with_agg_in ds d c.in_ok-agg.agg) c.in_ok-reserve_aggs.ensures.same;
-    }) e.pipes (live_held _ h d c.requires.live) (omega (arith, few_aggs (byte_at h.store) h d 1 0 c.requires.few))
+    }) e.pipes (live_held _ h d c.requires.live) (omega (arith, few_aggs (bytes_over [] h.store) h d 1 0 c.requires.few))
     (c.add_agg.ensures.number ∙ ap (λ (ds : List (Domain (List Slice))). (domain_in ds d).next_agg) c.in_ok-reserve_aggs.ensures.same)

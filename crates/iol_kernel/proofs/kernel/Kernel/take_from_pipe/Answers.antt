@@ -1,4 +1,4 @@
-use Rattle.std.proofs.Common.{◌∙◌, ◌++◌, ℕ, List, ap, inl, length, drop}
+use Rattle.std.proofs.Common.{[], ◌∙◌, ◌++◌, ℕ, List, ap, inl, length, drop}
 use Rattle.iol_hold.specs.Texts.{byte_at}
 use Rattle.iol_kernel.specs.Kernel.{state_of}
 use Rattle.iol_kernel.specs.KernelState.{objects_of}
@@ -7,20 +7,21 @@ use Rattle.iol_kernel.proofs.Queueing.{reading_held, queue_readable}
 use Rattle.iol_kernel.proofs.Skipped.{queued_bytes, queued_count, queued_left}
 use Rattle.iol_kernel.proofs.Uses.{queue_covered}
 use Rattle.iol_kernel.proofs.kernel.Kernel.take_from_pipe.Goals as goal
+use Rattle.iol_kernel.specs.Readings.{bytes_over}
 
 pub copy_front-count-requires-clause-readable : goal.copy_front-count-requires-clause-readable
 copy_front-count-requires-clause-readable c = queue_readable (state_of c.args.self.now) c.args.pipe c.requires.sound
 
 pub copy_front-count-requires-clause-reading : goal.copy_front-count-requires-clause-reading
-copy_front-count-requires-clause-reading c = let h = state_of c.args.self.now in reading_held _ h c.args.by c.args.fd c.args.pipe c.requires.sound (c.requires.from (byte_at h.store))
+copy_front-count-requires-clause-reading c = let h = state_of c.args.self.now in reading_held _ h c.args.by c.args.fd c.args.pipe c.requires.sound (c.requires.from (bytes_over [] h.store))
 
 pub skip-requires-clause-reading : goal.skip-requires-clause-reading
-skip-requires-clause-reading c = let h = state_of c.args.self.now in reading_held _ h c.args.by c.args.fd c.args.pipe c.requires.sound (c.requires.from (byte_at h.store))
+skip-requires-clause-reading c = let h = state_of c.args.self.now in reading_held _ h c.args.by c.args.fd c.args.pipe c.requires.sound (c.requires.from (bytes_over [] h.store))
 
 pub skip-requires-clause-covered : goal.skip-requires-clause-covered
 skip-requires-clause-covered c =
     let h = state_of c.args.self.now in
-    queue_covered h.store h.domains (objects_of h) c.args.pipe c.requires.sound.counted (there_if_open h.pipes c.args.pipe (inl (reading_held _ h c.args.by c.args.fd c.args.pipe c.requires.sound (c.requires.from (byte_at h.store)))))
+    queue_covered h.store h.domains (objects_of h) c.args.pipe c.requires.sound.counted (there_if_open h.pipes c.args.pipe (inl (reading_held _ h c.args.by c.args.fd c.args.pipe c.requires.sound (c.requires.from (bytes_over [] h.store)))))
 
 pub returns-clause-copied : goal.returns-clause-copied
 returns-clause-copied c =

@@ -1,10 +1,10 @@
-use Rattle.std.proofs.Common.{◌∙◌, ap, arith, List}
+use Rattle.std.proofs.Common.{[], ◌∙◌, ap, arith, List}
 use Rattle.iol_core.specs.State.{Domain}
-use Rattle.iol_hold.specs.Texts.{byte_at}
 use Rattle.iol_hold.specs.declared.slices.Slice.{Slice}
 use Rattle.iol_desc.specs.Tables.{domains_of, domain_in, with_agg_in}
 use Rattle.iol_sock.specs.Table.{ConnTable, conn_in}
 use Rattle.iol_kernel.specs.Kernel.{state_of}
+use Rattle.iol_kernel.specs.Readings.{bytes_over}
 use Rattle.iol_kernel.specs.KernelState.{KernelState, objects_of}
 use Rattle.iol_kernel.proofs.Connecting.{conn_limit, incoming_covered}
 use Rattle.iol_kernel.proofs.ConnQueues.{conn_there_held, found_held}
@@ -34,7 +34,7 @@ add_agg-requires-clause-live c = ap (λ (ds : List (Domain (List Slice))). (doma
 pub add_agg-requires-clause-few : goal.add_agg-requires-clause-few
 add_agg-requires-clause-few c =
     let h = state_of c.args.self.now in
-    omega (arith, few_numbers (byte_at h.store) h c.args.by 1 0 c.requires.few, ap (λ (ds : List (Domain (List Slice))). (domain_in ds c.args.by).next_agg) c.in_ok-reserve_aggs.ensures.same)
+    omega (arith, few_numbers (bytes_over [] h.store) h c.args.by 1 0 c.requires.few, ap (λ (ds : List (Domain (List Slice))). (domain_in ds c.args.by).next_agg) c.in_ok-reserve_aggs.ensures.same)
 
 pub returns-clause-done : goal.returns-clause-done
 returns-clause-done c =
@@ -51,5 +51,5 @@ returns-clause-done c =
       added = c.add_agg.ensures.added ∙ ap (λ (ds : List (Domain (List Slice))). with_agg_in ds d c.in_ok-agg.agg) c.in_ok-reserve_aggs.ensures.same;
     })
     (ap (λ (w : ConnTable). record h { store = c.front.new.store; domains = domains_of c.add_agg.new.self; conns = w.conns; next_conn = w.next }) c.front.ensures.others)
-    (live_held _ h d c.requires.live) (omega (arith, few_aggs (byte_at h.store) h d 1 0 c.requires.few))
+    (live_held _ h d c.requires.live) (omega (arith, few_aggs (bytes_over [] h.store) h d 1 0 c.requires.few))
     c.add_agg.result (c.add_agg.ensures.number ∙ ap (λ (ds : List (Domain (List Slice))). (domain_in ds d).next_agg) c.in_ok-reserve_aggs.ensures.same)

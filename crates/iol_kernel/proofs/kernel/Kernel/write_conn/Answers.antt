@@ -1,7 +1,7 @@
-use Rattle.std.proofs.Common.{◌≡◌, ap, sym, ℕ, rules}
-use Rattle.iol_hold.specs.Texts.{byte_at}
+use Rattle.std.proofs.Common.{[], ◌≡◌, ap, sym, ℕ, rules}
 use Rattle.iol_sock.specs.Table.{ConnTable}
 use Rattle.iol_kernel.specs.Kernel.{state_of}
+use Rattle.iol_kernel.specs.Readings.{bytes_over}
 use Rattle.iol_kernel.specs.KernelState.{KernelState, objects_of}
 use Rattle.iol_kernel.proofs.ConnQueues.{conn_there_held}
 use Rattle.iol_kernel.proofs.Outgoing.{write_done, write_refused}
@@ -12,12 +12,12 @@ use Rattle.iol_kernel.proofs.Uses.{agg_covered, countable}
 use Rattle.iol_kernel.proofs.kernel.Kernel.write_conn.Goals as goal
 
 pub unreachable-requires : goal.unreachable-requires
-unreachable-requires c = let h = state_of c.args.self.now in there_held _ h c.args.by c.args.agg (c.requires.there (byte_at h.store)) (sym c.in_default.ensures)
+unreachable-requires c = let h = state_of c.args.self.now in there_held _ h c.args.by c.args.agg (c.requires.there (bytes_over [] h.store)) (sym c.in_default.ensures)
 
 pub queue-requires-clause-covered : goal.queue-requires-clause-covered
 queue-requires-clause-covered c =
     let h = state_of c.args.self.now in
-    agg_covered h.store h.domains (objects_of h) c.args.by c.args.agg c.in-Some.found.now c.requires.sound.counted (live_held _ h c.args.by (c.requires.live (byte_at h.store))) c.in-Some.ensures
+    agg_covered h.store h.domains (objects_of h) c.args.by c.args.agg c.in-Some.found.now c.requires.sound.counted (live_held _ h c.args.by (c.requires.live (bytes_over [] h.store))) c.in-Some.ensures
 
 pub queue-requires-clause-countable : goal.queue-requires-clause-countable
 queue-requires-clause-countable c =
@@ -25,7 +25,7 @@ queue-requires-clause-countable c =
     countable h.store h.domains (objects_of h) c.in-Some.found.now c.requires.sound.counted c.requires.sound.limits (agg_small h c.args.by c.args.agg c.in-Some.found.now c.requires.sound c.in-Some.ensures)
 
 pub agg-requires : goal.agg-requires
-agg-requires c = let h = state_of c.args.self.now in live_held _ h c.args.by (c.requires.live (byte_at h.store))
+agg-requires c = let h = state_of c.args.self.now in live_held _ h c.args.by (c.requires.live (bytes_over [] h.store))
 
 pub queue-requires-clause-there : goal.queue-requires-clause-there
 queue-requires-clause-there c = conn_there_held (state_of c.args.self.now) c.args.by c.args.fd c.args.conn c.requires.sound c.requires.to

@@ -1,0 +1,42 @@
+-- Numbers in replies, and what stands under a new one.
+use Rattle.std.proofs.Common.{◌≡◌, ℕ, List, [], ap, ◌∙◌, refl, sym, Option, Some, None, true}
+use Rattle.std.specs.Prelude.{option_map, unwrap_or}
+use Rattle.iol_core.specs.Text.{Text, bytes_of}
+use Rattle.iol_core.specs.Numbered.{lookup, in_place}
+use Rattle.iol_core.specs.State.{State, Domain, domain, aggregate, text, descriptor, is_live}
+use Rattle.iol_core.specs.Calls.Aggregates as aggs
+use Rattle.iol_core.specs.Calls.Descriptors as fds
+use Rattle.iol_core.specs.declared.descriptors.Descriptor.{Descriptor}
+use Rattle.iol_core.specs.declared.events.Reply.{Reply}
+use Rattle.iol_core.specs.declared.events.Reply.TheVariants as reply
+use Rattle.iol_laws.specs.Caller.{lent_at}
+use Rattle.iol_laws.proofs.Domains.{domain-with_same}
+use Rattle.iol_laws.proofs.Places.{lookup-push, place-new}
+
+-- the number in a reply
+abbrev pub number : Reply → ℕ
+number (reply.Agg n) = n
+number (reply.Fd n) = n
+number (reply.Count n) = n
+number r = 0
+
+-- the text under a number whose bytes are known
+pub text-of : (s : State) (d a : ℕ) (bytes : List ℕ) → lent_at s d a ≡ Some bytes → bytes_of (text s d a) ≡ bytes
+text-of s d a bytes is = by (aggregate s d a) refl
+  where
+    by : (o : Option Text) → aggregate s d a ≡ o → bytes_of (text s d a) ≡ bytes
+    by None none = (let e = ap (λ (x : Option Text). option_map bytes_of x) none in absurd (cc (is, e)))
+    by (Some t) some = ap (λ (x : Option Text). bytes_of (unwrap_or x [])) some ∙ ap (λ (x : Option (List ℕ)). unwrap_or x []) (sym (ap (λ (x : Option Text). option_map bytes_of x) some) ∙ is)
+
+-- a new aggregate is found under its number
+pub new_agg : (s : State) (d : ℕ) (kept : List (ℕ × Text)) (t : Text) → is_live s d ≡ true → lookup kept (aggs.next_agg s d) ≡ None → aggregate (aggs.with_new s d kept t) d (aggs.next_agg s d) ≡ Some t
+new_agg s d kept t live none =
+    ap (λ (x : Domain Text). lookup x.aggs (aggs.next_agg s d)) (domain-with_same s d _ live) ∙ lookup-push kept (aggs.next_agg s d) t none
+
+pub lent-made : (s t : State) (d : ℕ) (kept : List (ℕ × Text)) (x : Text) → is_live s d ≡ true → lookup kept (aggs.next_agg s d) ≡ None → t ≡ aggs.with_new s d kept x → lent_at t d (aggs.next_agg s d) ≡ Some (bytes_of x)
+lent-made s t d kept x live none same =
+    ap (λ (u : State). lent_at u d (aggs.next_agg s d)) same ∙ ap (λ (o : Option Text). option_map bytes_of o) (new_agg s d kept x live none)
+
+-- a new descriptor is open under the lowest number
+pub new-fd : (s : State) (d : ℕ) (x : Descriptor) → is_live s d ≡ true → descriptor (fds.opened s d x) d (fds.next_fd s d) ≡ Some x
+new-fd s d x live = ap (λ (y : Domain Text). in_place y.fds (fds.next_fd s d)) (domain-with_same s d _ live) ∙ place-new (domain s d).fds x

@@ -1,0 +1,38 @@
+-- Tests that hold or fail together.
+use Rattle.std.proofs.Common.{◌≡◌, ◌≢◌, ℕ, ◌==◌, refl, arith, Option, Some, None, true, false, Bool}
+use Rattle.std.specs.Prelude.{unwrap_or, not, is_none, ◌&&◌, ◌||◌}
+use Rattle.std.proofs.lemmas.Bool.Decides.{nat_tests}
+
+pub apart : (e c : ℕ) → (e == c) ≡ false → e ≢ c
+apart e c un same = grind (arith, nat_tests, un, same)
+
+-- the first of two tests that fail together, and the second
+pub left-false : (a b : Bool) → (a || b) ≡ false → a ≡ false
+left-false a b un = grind (arith, un)
+
+pub right-false : (a b : Bool) → (a || b) ≡ false → b ≡ false
+right-false a b un = grind (arith, un)
+
+pub left-true : (a b : Bool) → a ≡ true → (a || b) ≡ true
+left-true a b is = grind (arith, is)
+
+pub right-true : (a b : Bool) → b ≡ true → (a || b) ≡ true
+right-true a b is = grind (arith, is)
+
+pub both-true : (a b : Bool) → (a && b) ≡ true → (a ≡ true) × (b ≡ true)
+both-true true b is = (refl, is)
+both-true false b is = absurd (cc)
+
+pub both-false : (a b : Bool) → a ≡ false → b ≡ false → (a || b) ≡ false
+both-false a b x y = grind (arith, x, y)
+
+pub not-true : (a : Bool) → not a ≡ true → a ≡ false
+not-true true is = absurd (cc)
+not-true false is = refl
+
+pub same-number : (a b : ℕ) → (a == b) ≡ true → a ≡ b
+same-number a b is = grind (arith, nat_tests, is)
+
+pub is_some-or : (o : Option ℕ) → is_none o ≡ false → o ≡ Some (unwrap_or o 0)
+is_some-or None some = absurd (cc)
+is_some-or (Some n) some = refl

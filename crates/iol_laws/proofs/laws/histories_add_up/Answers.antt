@@ -1,0 +1,5 @@
+use Rattle.iol_laws.proofs.Histories.{stream-append, sent-append, unread_run}
+use Rattle.iol_laws.proofs.laws.histories_add_up.Goals as goal
+
+pub returns : goal.returns
+returns c = record { stream = stream-append; sent = sent-append; unread = unread_run }

@@ -1,0 +1,13 @@
+use Rattle.iol_laws.proofs.OtherCalls.{other_conn, other_waiting, other_accepted}
+use Rattle.iol_laws.proofs.Outside.{does_arrive, does_transmit, does_peer_closed}
+use Rattle.iol_laws.proofs.laws.others_leave_connections.Goals as goal
+
+pub returns : goal.returns
+returns c = record {
+  conn = other_conn;
+  waiting = other_waiting;
+  accepted = other_accepted;
+  arrive = does_arrive;
+  transmit = does_transmit;
+  peer_closed = does_peer_closed;
+}

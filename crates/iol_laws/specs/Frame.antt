@@ -1,0 +1,78 @@
+-- What a step leaves as it was: connections, pipes, descriptors, files and lists that the event does not touch.
+use Rattle.std.specs.Prelude.{◌≡◌, ℕ, ◌==◌, ◌&&◌, ◌||◌, Bool, true, false, List, [], ◌∷◌, Option, Some, unwrap_or}
+use Rattle.std.specs.List.{list_any}
+use Rattle.iol_core.specs.Numbered.{lowest}
+use Rattle.iol_core.specs.State.{State, domain, pool, is_pool, descriptor, pipe_at, conn_at}
+use Rattle.iol_core.specs.Calls.Descriptors.{waiting}
+use Rattle.iol_core.specs.Calls.Writing.{is_file}
+use Rattle.iol_core.specs.declared.descriptors.Descriptor.{Descriptor}
+use Rattle.iol_core.specs.declared.descriptors.Descriptor.TheVariants as on
+use Rattle.iol_core.specs.declared.events.Call.TheVariants as call
+use Rattle.iol_core.specs.declared.events.Event.{Event}
+use Rattle.iol_core.specs.declared.events.Event.TheVariants as event
+use Rattle.iol_core.specs.declared.events.Reply.{Reply}
+use Rattle.iol_core.specs.Run.{StepsTo}
+use Rattle.iol_core.specs.Values.{ValuesStay}
+
+-- the caller's descriptors that a call uses up, moves, reads or writes
+abbrev pub operands : State → Event → List (Option Descriptor)
+operands s (event.Call by call.Exit) = (domain s by).fds
+operands s (event.Call by (call.Close fd)) = descriptor s by fd ∷ []
+operands s (event.Call by (call.IolRead fd n)) = descriptor s by fd ∷ []
+operands s (event.Call by (call.IolWrite fd a)) = descriptor s by fd ∷ []
+operands s e = []
+
+abbrev pub is_conn : (c : ℕ) → Option Descriptor → Bool
+is_conn c (Some (on.Connection e)) = e == c
+is_conn c o = false
+
+abbrev pub is_end : (p : ℕ) → Option Descriptor → Bool
+is_end p (Some (on.ReadEnd q)) = q == p
+is_end p (Some (on.WriteEnd q)) = q == p
+is_end p o = false
+
+-- the connection that an event names itself, or that it makes or accepts
+abbrev pub names_conn : State → Event → (c : ℕ) → Bool
+names_conn s (event.Call by call.Accept) c = unwrap_or (waiting s by) 0 == c
+names_conn s (event.ConnNew p) c = s.next_conn == c
+names_conn s (event.Arrive e bytes) c = e == c
+names_conn s (event.PeerClosed e how) c = e == c
+names_conn s (event.Transmit e max) c = e == c
+names_conn s e c = false
+
+abbrev pub touches_conn : State → Event → (c : ℕ) → Bool
+touches_conn s e c = list_any (is_conn c) (operands s e) || names_conn s e c
+
+abbrev pub makes_pipe : State → Event → (p : ℕ) → Bool
+makes_pipe s (event.Call by call.Pipe) p = lowest s.pipes == p
+makes_pipe s e p = false
+
+abbrev pub touches_pipe : State → Event → (p : ℕ) → Bool
+touches_pipe s e p = list_any (is_end p) (operands s e) || makes_pipe s e p
+
+-- whether a domain's number is closed or given away, or is open on a file whose position moves
+abbrev pub touches_fd : State → Event → (d fd : ℕ) → Bool
+touches_fd s (event.Call by call.Exit) d fd = by == d
+touches_fd s (event.Call by (call.Close f)) d fd = (by == d) && (f == fd)
+touches_fd s (event.Call by (call.GiveFd f to)) d fd = (by == d) && (f == fd)
+touches_fd s (event.Call by (call.IolRead f n)) d fd = (by == d) && (f == fd) && is_file (descriptor s by f)
+touches_fd s (event.Call by (call.IolWrite f a)) d fd = (by == d) && (f == fd) && is_file (descriptor s by f)
+touches_fd s e d fd = false
+
+-- whether it may make or write a file
+abbrev pub changes_files : State → Event → Bool
+changes_files s (event.Call by (call.IolWrite fd a)) = is_file (descriptor s by fd)
+changes_files s e = false
+
+-- from old to new, by this event
+pub record Leaves (old : State) (e : Event) (new : State) : Type 0 where
+  pub conns : (c : ℕ) → touches_conn old e c ≡ false → conn_at new c ≡ conn_at old c
+  pub pipes : (p : ℕ) → touches_pipe old e p ≡ false → pipe_at new p ≡ pipe_at old p
+  pub fds : (d fd : ℕ) (x : Descriptor) → descriptor old d fd ≡ Some x → touches_fd old e d fd ≡ false → descriptor new d fd ≡ Some x
+  pub files : changes_files old e ≡ false → (new.files ≡ old.files) × (new.slots ≡ old.slots)
+  pub lists : (p : ℕ) → is_pool old p ≡ true → (pool new p).domains ≡ (pool old p).domains
+
+-- every step leaves what its event does not touch, and the values of aggregates
+pub record EachStepLeavesTheRest : Type 0 where
+  pub leaves : (old new : State) (e : Event) (r : Reply) → StepsTo old e r new → Leaves old e new
+  pub values : (old new : State) (e : Event) (r : Reply) → StepsTo old e r new → ValuesStay old e new

@@ -1,0 +1,5 @@
+pub mod Frame
+pub mod Order
+pub mod Caller
+pub mod Others
+pub mod History

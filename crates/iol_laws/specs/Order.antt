@@ -1,0 +1,42 @@
+-- What holds between events: each end and each connection is open in one descriptor at most, what is open stands, and
+-- numbers that are still to come are not used yet.
+use Rattle.std.specs.Prelude.{◌≡◌, ℕ, ◌≤◌, ◌&&◌, Bool, true, false, not, List, [], ◌∷◌, Some, None}
+use Rattle.iol_core.specs.Numbered.{lookup}
+use Rattle.iol_core.specs.State.{State, domain, aggregate, descriptor, conn_at, pipe_at, new_state}
+use Rattle.iol_core.specs.Calls.Writing.{is_file}
+use Rattle.iol_core.specs.Run.{StepsTo}
+use Rattle.iol_core.specs.declared.descriptors.Descriptor.{Descriptor}
+use Rattle.iol_core.specs.declared.descriptors.Descriptor.TheVariants as on
+use Rattle.iol_core.specs.declared.events.Event.{Event}
+use Rattle.iol_core.specs.declared.events.Reply.{Reply}
+
+-- whether what a descriptor is open on stands: the end of the pipe is open, the connection was accepted and is not closed
+abbrev pub stands : State → Descriptor → Bool
+stands s (on.File f at mode) = true
+stands s (on.ReadEnd p) = (pipe_at s p).reading
+stands s (on.WriteEnd p) = (pipe_at s p).writing
+stands s (on.Connection c) = (conn_at s c).accepted && not (conn_at s c).closed
+
+-- each number stands once
+abbrev pub Once : {A : Type 0} → List (ℕ × A) → Type 0
+Once [] = Unit {0}
+Once (e ∷ es) = (lookup es e.0 ≡ None) × Once es
+
+pub record IsOrderly (s : State) : Type 0 where
+  -- two descriptors that are open on the same end or connection are one
+  pub one : (d e f g : ℕ) (x : Descriptor) → is_file (Some x) ≡ false → descriptor s d f ≡ Some x → descriptor s e g ≡ Some x → (d ≡ e) × (f ≡ g)
+  -- what is open stands
+  pub all_stand : (d f : ℕ) (x : Descriptor) → descriptor s d f ≡ Some x → stands s x ≡ true
+  -- a connection that nobody accepted yet is not closed, and nothing is to be sent on it
+  pub waits : (c : ℕ) → (conn_at s c).accepted ≡ false → (conn_at s c).closed ≡ false
+  pub silent : (c : ℕ) → (conn_at s c).accepted ≡ false → (conn_at s c).outgoing ≡ []
+  -- each connection has a number of its own, below the next one
+  pub once : Once s.conns
+  pub conns : (c : ℕ) → s.next_conn ≤ c → lookup s.conns c ≡ None
+  -- and each aggregate of a domain one below the domain's next
+  pub aggs : (d a : ℕ) → (domain s d).next_agg ≤ a → aggregate s d a ≡ None
+
+-- a new state is orderly, and each step keeps it so
+pub record EachStepKeepsOrder : Type 0 where
+  pub new : (slots : List (List ℕ)) → IsOrderly (new_state slots)
+  pub step : (s t : State) (e : Event) (r : Reply) → IsOrderly s → StepsTo s e r t → IsOrderly t

@@ -1,0 +1,58 @@
+-- What others do to a connection: calls of other domains, and what happens outside.
+use Rattle.std.specs.Prelude.{◌≡◌, ℕ, ◌⊎◌, true, false, List, [], ◌++◌, take, Some}
+use Rattle.iol_core.specs.Text.{Text, bytes_of}
+use Rattle.iol_core.specs.State.{State, descriptor, may_read, conn_at}
+use Rattle.iol_core.specs.Calls.Outside.{closed_by}
+use Rattle.iol_core.specs.Run.{StepsTo}
+use Rattle.iol_core.specs.declared.descriptors.How.{How}
+use Rattle.iol_core.specs.declared.descriptors.Descriptor.TheVariants as on
+use Rattle.iol_core.specs.declared.events.Call.{Call}
+use Rattle.iol_core.specs.declared.events.Event.TheVariants as event
+use Rattle.iol_core.specs.declared.events.Reply.{Reply}
+use Rattle.iol_core.specs.declared.events.Reply.TheVariants as reply
+use Rattle.iol_laws.specs.Order.{IsOrderly}
+
+-- bytes came in
+pub record ComesIn (s : State) (c : ℕ) (bytes : List ℕ) (t : State) : Type 0 where
+  pub open_yet : (conn_at s c).closed ≡ false
+  pub incoming : Text
+  pub bytes_are : bytes_of incoming ≡ bytes_of (conn_at s c).incoming ++ bytes
+  pub conn : conn_at t c ≡ record (conn_at s c) { incoming = incoming }
+
+abbrev pub Arrives : State → (c : ℕ) → List ℕ → Reply → State → Type 0
+Arrives s c bytes (reply.Count k) t = ComesIn s c (take k bytes) t
+Arrives s c bytes (reply.Refused x) t = t ≡ s
+Arrives s c bytes r t = ⊥
+
+-- the first bytes that were to be sent went out; a connection that is over then is forgotten
+pub record GoesOut (s : State) (c : ℕ) (bytes : List ℕ) (t : State) : Type 0 where
+  pub bytes_were : bytes_of (conn_at s c).outgoing ≡ bytes ++ bytes_of (conn_at t c).outgoing
+  pub some : ((conn_at s c).outgoing ≡ []) → ⊥
+  pub conn : (conn_at t c ≡ record (conn_at s c) { outgoing = (conn_at t c).outgoing }) ⊎ (((conn_at s c).closed ≡ true) × ((conn_at t c).closed ≡ true))
+
+abbrev pub Transmits : State → (c : ℕ) → Reply → State → Type 0
+Transmits s c (reply.Segment bytes sum) t = GoesOut s c bytes t
+Transmits s c (reply.Refused x) t = t ≡ s
+Transmits s c r t = ⊥
+
+-- the peer closed; a connection that is over then is forgotten: nobody had accepted it, or it was closed
+abbrev pub PeerCloses : State → (c : ℕ) → How → Reply → State → Type 0
+PeerCloses s c how reply.Done t =
+    (conn_at t c ≡ closed_by (conn_at s c) how)
+    ⊎ (((conn_at s c).accepted ≡ false) × ((conn_at t c).closed ≡ true) × ((conn_at t c).outgoing ≡ []) × ((conn_at s c).outgoing ≡ []))
+    ⊎ (((conn_at s c).closed ≡ true) × ((conn_at t c).closed ≡ true) × ((conn_at t c).outgoing ≡ []))
+PeerCloses s c how (reply.Refused x) t = t ≡ s
+PeerCloses s c how r t = ⊥
+
+pub record OthersLeaveConnections : Type 0 where
+  -- a call leaves each connection that its domain neither has nor may accept
+  pub conn : (s t : State) (d : ℕ) (k : Call) (r : Reply) (c : ℕ) → IsOrderly s → StepsTo s (event.Call d k) r t → ((f : ℕ) → descriptor s d f ≡ Some (on.Connection c) → ⊥)
+      → ((conn_at s c).accepted ≡ true) ⊎ (may_read s d (conn_at s c).pool ≡ false) → conn_at t c ≡ conn_at s c
+  -- a connection that waits is left by a call, or accepted
+  pub waiting : (s t : State) (d : ℕ) (k : Call) (r : Reply) (c : ℕ) → IsOrderly s → StepsTo s (event.Call d k) r t → (conn_at s c).accepted ≡ false → (conn_at t c ≡ conn_at s c) ⊎ ((conn_at t c).accepted ≡ true)
+  -- what is accepted stays so
+  pub accepted : (s t : State) (d : ℕ) (k : Call) (r : Reply) (c : ℕ) → IsOrderly s → StepsTo s (event.Call d k) r t → (conn_at s c).accepted ≡ true → (conn_at t c).accepted ≡ true
+  -- what happens outside, to the connection that it names
+  pub arrive : (s t : State) (c : ℕ) (bytes : List ℕ) (r : Reply) → IsOrderly s → StepsTo s (event.Arrive c bytes) r t → Arrives s c bytes r t
+  pub transmit : (s t : State) (c max : ℕ) (r : Reply) → IsOrderly s → StepsTo s (event.Transmit c max) r t → Transmits s c r t
+  pub peer_closed : (s t : State) (c : ℕ) (how : How) (r : Reply) → IsOrderly s → StepsTo s (event.PeerClosed c how) r t → PeerCloses s c how r t

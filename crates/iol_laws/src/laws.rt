@@ -1,0 +1,40 @@
+//! The laws. The functions do nothing; their contracts are the laws.
+ghost use Rattle.iol_laws.specs.Caller.{CallsServeTheirDomain, NumbersAreNew};
+ghost use Rattle.iol_laws.specs.Frame.{EachStepLeavesTheRest};
+ghost use Rattle.iol_laws.specs.History.{HistoriesAddUp};
+ghost use Rattle.iol_laws.specs.Order.{EachStepKeepsOrder};
+ghost use Rattle.iol_laws.specs.Others.{OthersLeaveConnections};
+
+/// Each step leaves what its event does not touch: connections, pipes, descriptors, files, the lists of pools, and the
+/// aggregates that nobody gives up.
+pub fn each_step_leaves_the_rest()
+    ensures { EachStepLeavesTheRest }
+{}
+
+/// A new state is orderly, and each step keeps it so: each end of a pipe and each connection is open in one descriptor
+/// at most, what is open stands, and numbers that are still to come are not used yet.
+pub fn each_step_keeps_order()
+    ensures { EachStepKeepsOrder }
+{}
+
+/// What a call does for the domain that makes it, in the words that the domain sees: replies, and bytes by number.
+pub fn calls_serve_their_domain()
+    ensures { CallsServeTheirDomain }
+{}
+
+/// The numbers that a domain is given by its calls are new ones, and what an aggregate's number names is there.
+pub fn numbers_are_new()
+    ensures { NumbersAreNew }
+{}
+
+/// A connection that a domain neither has nor may accept is left by its calls; one that waits is left or accepted; and
+/// what happens outside changes what its event names.
+pub fn others_leave_connections()
+    ensures { OthersLeaveConnections }
+{}
+
+/// What came in on each connection and what was sent on it, over a run's events and replies: what is unread is the end of
+/// what came, and what was to be sent is sent first.
+pub fn histories_add_up()
+    ensures { HistoriesAddUp }
+{}
