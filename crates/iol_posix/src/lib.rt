@@ -4,8 +4,8 @@
 //! made of what is read or written, and a refused call changes nothing.
 //!
 //! The contract. [`read`] (`reads`: the machine's step, its bytes at the front of the caller's memory; `rest`: the others
-//! stay). [`write`] (`step`; `made`: the bytes taken, on the lowest free pages of the caller's default pool; `room`,
-//! `no_room`). The words are in `specs/Copying` and iol_kernel's.
+//! stay), [`read_bytes`] (the same, as a list of its own). [`write`] (`step`; `made`: the bytes taken, on the lowest free
+//! pages of the caller's default pool; `room`, `no_room`). The words are in `specs/Copying` and iol_kernel's.
 //!
 //! ```text
 //! let taken = write(&mut kernel, by, to, b"hello")?;
@@ -16,5 +16,5 @@
 mod reading;
 mod writing;
 
-pub use reading::read;
+pub use reading::{read, read_bytes};
 pub use writing::write;

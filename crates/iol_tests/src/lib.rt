@@ -9,6 +9,8 @@ mod arenas;
 #[cfg(test)]
 mod borrowed;
 #[cfg(test)]
+mod copying;
+#[cfg(test)]
 mod holds;
 #[cfg(test)]
 mod pipes;
