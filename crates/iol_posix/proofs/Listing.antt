@@ -51,7 +51,7 @@ front_is bytes rest into k is count = ap (take k) is ∙ take_at bytes rest k (s
 pub listed : (h k : KernelState) (d fd n m : ℕ) (items : List ℕ) → IsSound h → first (reading.read (machine_of [] h) d fd n).refusals ≡ None → ((f : Reading) → m ≡ min n (length (reading.unread (read_of f h) (machine.descriptor (read_of f h) d fd)))) → items ≡ (reading.read (machine_of [] h) d fd m).answer
     → Leaves (λ s. (reading.read s d fd m).after) h k → ReadsOut d fd n h (Ok items) k
 listed h k d fd n m items sound passed all bytes left = record {
-  step = (passed, bytes ∙ same_answer (bytes_over [] h.store) h d fd n m sound (all (bytes_over [] h.store)), left.bytes ∙ same_after (bytes_over [] h.store) h d fd n m sound (all (bytes_over [] h.store)));
+  step = (passed, bytes ∙ same_answer (bytes_over [] h.store) h d fd n m sound (all (bytes_over [] h.store)), left.bytes [] ∙ same_after (bytes_over [] h.store) h d fd n m sound (all (bytes_over [] h.store)));
   places = λ f keeps. left.places f keeps ∙ same_after f h d fd n m sound (all f);
   roomy = λ p e. never items p e;
   pages = left.pages;
