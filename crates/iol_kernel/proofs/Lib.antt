@@ -39,3 +39,4 @@ pub mod Incoming
 pub mod Outgoing
 pub mod Borrowing
 pub mod Skipped
+pub mod Written

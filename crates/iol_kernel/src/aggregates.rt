@@ -62,7 +62,7 @@ impl Kernel {
 
     /// The pool that the domain places in.
     #[tactic(auto, using(crate::proofs::Views::domain_rules), unfolding(crate::specs::KernelState::read_of))]
-    fn default_of(&self, d: DomainId) -> Option<PoolId>
+    pub(crate) fn default_of(&self, d: DomainId) -> Option<PoolId>
         requires { is_live (machine self.now) d ≡ true }
         ensures { (f : Reading) → result ≡ (domain (as_read f self.now) d).default }
     {

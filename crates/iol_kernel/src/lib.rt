@@ -22,6 +22,7 @@ pub mod kernel;
 pub mod naming;
 pub mod outside;
 mod pipes;
+mod placing;
 pub mod pools;
 pub mod reading;
 pub mod report;

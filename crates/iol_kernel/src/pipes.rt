@@ -1,13 +1,17 @@
 //! Pipes: bounded queues, each in a place of its own, with a read end and a write end.
-ghost use Rattle.std.specs.Prelude.{◌≡◌, ℕ, ◌+◌, ◌-◌, ◌<◌, ◌≤◌, ◌^◌, length, min, take, take_while, drop, slice_set, true, [], ◌++◌, Some, IfOk, OnOk, OnErr};
+ghost use Rattle.std.specs.Prelude.{◌≡◌, ℕ, ◌+◌, ◌-◌, ◌<◌, ◌≤◌, ◌^◌, length, min, take, take_while, drop, slice_set, true, [], ◌++◌, Some, Err, IfOk, IfErr, OnOk, OnErr, false};
 ghost use Rattle.iol_core.specs.Numbered.{lowest, placed, taken};
+ghost use Rattle.iol_core.specs.Meaning.{WantOfRoom};
 ghost use Rattle.iol_core.specs.Text.{bytes_of};
 ghost use Rattle.iol_hold.specs.Moves.{Covers, IsCountable, Moves, SameLists, Shares};
 ghost use Rattle.iol_hold.specs.Places.{byte_len, places};
 ghost use Rattle.iol_hold.specs.Releases.{FreesOnly};
 ghost use Rattle.iol_hold.specs.Stored.{AllSettled};
 ghost use Rattle.iol_hold.specs.Texts.{text_of, bufs_of, AllReadable};
-ghost use Rattle.iol_pipe.specs.Queue.{first_pool, may_see};
+ghost use Rattle.iol_hold.specs.Room.{has_room};
+ghost use Rattle.iol_pipe.specs.Adding.{AddsBytes};
+ghost use Rattle.iol_pipe.specs.Queue.{first_pool, fitting, may_see};
+ghost use Rattle.iol_pool.specs.Pools.{pool_in};
 ghost use Rattle.iol_kernel.specs.ClosedEnds.{without_reader, without_writer, ClosesEnd};
 ghost use Rattle.iol_kernel.specs.KernelState.{queue_at};
 ghost use Rattle.iol_kernel.specs.Queues.{with_queue_of};
@@ -15,6 +19,7 @@ ghost use Rattle.iol_kernel.specs.Queues.{with_queue_of};
 use iol_agg::Agg;
 use iol_core::limits::MAX_QUEUE_BYTES;
 use iol_core::numbers::{DomainId, PipeId, PoolId};
+use iol_core::refusals::Refusal;
 use iol_desc::places::Places;
 use iol_hold::Store;
 use std::alloc::{AllocError, Global};
@@ -208,6 +213,37 @@ impl Pipes {
     {
         let pipe = self.places.value_mut(p.number() as usize);
         pipe.queue.push(store, from)
+    }
+
+    /// Adds new bytes of an open pool to a pipe's queue, as many as fit, and tells how many that is. They lie in new buffers
+    /// on the lowest free pages of the pool.
+    #[tactic(auto, using(crate::proofs::Ends::there_rules))]
+    pub(crate) fn fill(
+        &mut self,
+        alloc: Global,
+        store: &mut Store,
+        p: PipeId,
+        pool: PoolId,
+        bytes: &[u8],
+    ) -> Result<u32, Refusal>
+        requires open { (pool_in store.old.pools pool).closed ≡ false }
+        requires writing { (queue_at self.old.places p).writing ≡ true }
+        ensures taken { IfOk result (λ n. n ≡ fitting (queue_at self.old.places p).queue (length
+            bytes.now)) }
+        ensures added { IfOk result (λ n. AddsBytes store.old store.new (queue_at self.old.places
+            p).queue (queue_at self.new.places p).queue pool (take n bytes.now)) }
+        ensures pipes { OnOk result (self.new.places ≡ with_queue_of self.old.places p
+            self.new.places) }
+        ensures room { OnOk result (has_room store.old pool (fitting (queue_at self.old.places
+            p).queue (length bytes.now)) ≡ true) }
+        ensures no_room { (q : ℕ) → result ≡ Err (Refusal.NoRoom q) → has_room store.old pool
+            (fitting (queue_at self.old.places p).queue (length bytes.now)) ≡ false }
+        ensures late { IfErr result (WantOfRoom pool) }
+        ensures err { OnErr result (self.new.places ≡ self.old.places) }
+        ensures err_store { OnErr result (store.new ≡ store.old) }
+    {
+        let pipe = self.places.value_mut(p.number() as usize);
+        Ok(pipe.queue.fill(alloc, store, pool, bytes)?)
     }
 
     /// Takes off the longest prefix of a pipe's first `n` bytes whose pools all name the domain.

@@ -65,7 +65,7 @@ impl Kernel {
 
     /// Whether a pipe's read end is open.
     #[tactic(auto, using(crate::proofs::ReadOf::pipe_rules))]
-    fn is_read(&self, p: PipeId) -> bool
+    pub(crate) fn is_read(&self, p: PipeId) -> bool
         ensures { (f : Reading) → result ≡ (pipe_at (as_read f self.now) p).reading }
     {
         self.pipes.is_reading(p)
@@ -73,7 +73,7 @@ impl Kernel {
 
     /// How many bytes more fit into a pipe.
     #[tactic(auto, using(crate::proofs::ReadOf::pipe_rules))]
-    fn room_in(&self, p: PipeId) -> u32
+    pub(crate) fn room_in(&self, p: PipeId) -> u32
         ensures { (f : Reading) → result ≡ MAX_QUEUE_BYTES - length (pipe_at (as_read f self.now)
             p).queue }
     {

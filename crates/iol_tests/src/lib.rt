@@ -7,7 +7,7 @@ mod aggregates;
 #[cfg(test)]
 mod arenas;
 #[cfg(test)]
-mod borrowed;
+mod copying;
 #[cfg(test)]
 mod holds;
 #[cfg(test)]

@@ -1,4 +1,4 @@
-use Rattle.std.proofs.Common.{◌≡◌, ◌∙◌, ◌++◌, ℕ, List, ap, sym, subst, length, drop, take}
+use Rattle.std.proofs.Common.{◌≡◌, ◌∙◌, ◌++◌, ℕ, List, ap, sym, length, drop, take}
 use Rattle.std.specs.List.{take_while}
 use Rattle.iol_core.specs.Text.{bytes_of}
 use Rattle.iol_hold.specs.Places.{places}

@@ -1,0 +1,20 @@
+use Rattle.std.proofs.Common.{◌≡◌, ◌∙◌, List, ap, sym}
+use Rattle.iol_core.specs.State.{Connection, is_gone}
+use Rattle.iol_hold.specs.declared.slices.Slice.{Slice}
+use Rattle.iol_sock.specs.Connections.{Conn}
+use Rattle.iol_sock.specs.Table.{conn_in}
+use Rattle.iol_kernel.specs.Kernel.{state_of}
+use Rattle.iol_kernel.proofs.Connecting.{conn_in-is}
+use Rattle.iol_kernel.proofs.ConnQueues.{conn_at-read_of, conn_in-none}
+use Rattle.iol_kernel.proofs.kernel.Kernel.is_peer_gone.Goals as goal
+
+pub returns-in-Some : goal.returns-in-Some
+returns-in-Some c =
+    let h = state_of c.args.self.now in
+    let is : c.in-Some.found.now ≡ conn_in h.conns c.args.conn = sym (conn_in-is h.conns c.args.conn c.in-Some.found.now (sym c.in-Some.ensures)) in
+    λ f. c.is_gone.ensures ∙ ap (λ (x : Conn (List Slice)). is_gone x.peer) is ∙ sym (ap (λ (y : Connection). is_gone y.peer) (conn_at-read_of f h c.args.conn))
+
+pub returns-in-None : goal.returns-in-None
+returns-in-None c =
+    let h = state_of c.args.self.now in
+    λ f. sym (ap (λ (y : Connection). is_gone y.peer) (conn_at-read_of f h c.args.conn) ∙ ap (λ (x : Conn (List Slice)). is_gone x.peer) (conn_in-none h.conns c.args.conn c.in-None.ensures))

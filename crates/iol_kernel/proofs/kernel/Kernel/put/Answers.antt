@@ -1,0 +1,23 @@
+use Rattle.std.proofs.Common.{[], ◌≡◌, ◌∙◌, ℕ, ap, inl, inr, sym, true}
+use Rattle.std.specs.Prelude.{Some}
+use Rattle.iol_core.specs.Calls.Writing.{can_write}
+use Rattle.iol_core.specs.declared.descriptors.Descriptor.TheVariants as on
+use Rattle.iol_kernel.specs.Kernel.{state_of}
+use Rattle.iol_kernel.specs.KernelState.{objects_of}
+use Rattle.iol_kernel.specs.Readings.{bytes_over}
+use Rattle.iol_kernel.proofs.Opening.{end_held}
+use Rattle.iol_kernel.proofs.Queueing.{not_writable}
+use Rattle.iol_kernel.proofs.kernel.Kernel.put.Goals as goal
+
+pub unreachable-requires-in-ReadEnd : goal.unreachable-requires-in-ReadEnd
+unreachable-requires-in-ReadEnd c =
+    let h = state_of c.args.self.now in
+    let differs : (p : ℕ) → c.in-Some.to ≡ on.WriteEnd p → ⊥ =
+    λ p e. elim c.in-ReadEnd.is [ inl x ↦ (let k = sym x.1 ∙ e in cc) | inr x ↦ (let k = sym x.3 ∙ e in cc) ] in
+    let apart : (n : ℕ) → c.in-Some.to ≡ on.Connection n → ⊥ =
+    λ n e. elim c.in-ReadEnd.is [ inl x ↦ (let k = sym x.1 ∙ e in cc) | inr x ↦ (let k = sym x.3 ∙ e in cc) ] in
+    let at = sym (c.descriptor.ensures (bytes_over [] h.store)) ∙ c.in-Some.is in
+    let open' = end_held (bytes_over [] h.store) h c.args.by c.args.fd c.in-Some.to c.requires.sound at in
+    let wrong = not_writable (objects_of h) c.in-Some.to open' differs apart in
+    let right : can_write (Some c.in-Some.to) ≡ true = sym (ap can_write at) ∙ c.requires.writable in
+    cc (wrong, right)
