@@ -310,6 +310,8 @@ access_called s by (call.Close fd) = access_close s by fd
 access_called s by (call.IolRead fd n) = access_iol_read s by fd n
 access_called s by (call.IolWrite fd a) = access_iol_write s by fd a
 access_called s by call.Accept = access_accept s by
+access_called s by (call.Read fd n) = access_read s by fd n
+access_called s by (call.Write fd bytes) = access_write s by fd bytes
 
 -- What happens outside changes no domain and no list.
 

@@ -288,6 +288,8 @@ values_called s by (call.Close fd) = values_close s by fd
 values_called s by (call.IolRead fd n) = values_iol_read s by fd n
 values_called s by (call.IolWrite fd a) = values_iol_write s by fd a
 values_called s by call.Accept = values_accept s by
+values_called s by (call.Read fd n) = values_read s by fd n
+values_called s by (call.Write fd bytes) = values_write s by fd bytes
 
 -- After each step, and after a run in which nobody gives it up.
 

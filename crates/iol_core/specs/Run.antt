@@ -7,8 +7,8 @@ use Rattle.iol_core.specs.Calls.Pools.{pool_create, pool_close, set_pool}
 use Rattle.iol_core.specs.Calls.Aggregates.{agg_make, agg_dup, agg_cut, agg_split, agg_join, agg_replace, agg_drop, agg_give, show}
 use Rattle.iol_core.specs.Calls.Descriptors.{pipe, give_fd, close, accept}
 use Rattle.iol_core.specs.Calls.Outside.{conn_new, arrive, peer_closed, transmit}
-use Rattle.iol_core.specs.Calls.Reading.{iol_read}
-use Rattle.iol_core.specs.Calls.Writing.{iol_write}
+use Rattle.iol_core.specs.Calls.Reading.{iol_read, read}
+use Rattle.iol_core.specs.Calls.Writing.{iol_write, write}
 use Rattle.iol_core.specs.declared.refusals.Refusal.{Refusal}
 use Rattle.iol_core.specs.declared.events.Call.{Call}
 use Rattle.iol_core.specs.declared.events.Call.TheVariants as call
@@ -46,6 +46,8 @@ called s by (call.Close fd) = replied done (close s by fd)
 called s by (call.IolRead fd n) = replied reply.Agg (iol_read s by fd n)
 called s by (call.IolWrite fd a) = replied reply.Count (iol_write s by fd a)
 called s by call.Accept = replied reply.Fd (accept s by)
+called s by (call.Read fd n) = replied reply.Bytes (read s by fd n)
+called s by (call.Write fd bytes) = replied reply.Count (write s by fd bytes)
 
 -- what an event means
 abbrev pub meaning : State → Event → Meaning Reply

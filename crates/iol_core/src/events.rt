@@ -71,6 +71,14 @@ pub enum Call {
         agg: AggId,
     },
     Accept,
+    Read {
+        fd: Fd,
+        count: u32,
+    },
+    Write {
+        fd: Fd,
+        bytes: Bytes,
+    },
 }
 
 /// What happens to a system: one atomic step.

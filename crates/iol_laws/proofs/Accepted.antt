@@ -79,6 +79,8 @@ accepted_called s d (call.IolWrite f x) c once was = accepted_written s d f (des
 accepted_called s d call.Accept c once was =
     let e : ℕ = unwrap_or (fds.waiting s d) 0 in
     accepted_domain s (with_conn s e (record (conn_at s e) { accepted = true })) d _ c (accepted-with_conn s e (record (conn_at s e) { accepted = true }) c once (λ same. refl) was)
+accepted_called s d (call.Read f n) c once was = accepted_read_on s d f (descriptor s d f) _ c once was
+accepted_called s d (call.Write f bytes) c once was = accepted_written s d f (descriptor s d f) _ c once was
 accepted_called s d k c once was = ap (λ (k : Connection). k.accepted) (conns_meant s (event.Call d k) c refl) ∙ was
 
 pub accepted_outcome : (m : Meaning Reply) (old new : State) (r : Result Reply Refusal) (c : ℕ) → IsAccepted m.after c → IsAccepted old c → Step m old r new → IsAccepted new c

@@ -255,6 +255,8 @@ sole_called s by (call.Close f) order unrefused = sole_closes s by f (descriptor
 sole_called s by (call.IolRead f n) order unrefused = sole_kept (reading.read_on s by f (descriptor s by f) (length (reading.read_text s by (descriptor s by f) n))) by _ refl (sole_read_on s by f (descriptor s by f) _ (sole_of s order))
 sole_called s by (call.IolWrite f x) order unrefused = sole_written s by f (descriptor s by f) _ (sole_of s order)
 sole_called s by call.Accept order unrefused = sole_accept s by order (when-none refuse.WouldBlock (is_none (fds.waiting s by)) (passed (called s by call.Accept).refusals 2 unrefused))
+sole_called s by (call.Read f n) order unrefused = sole_read_on s by f (descriptor s by f) _ (sole_of s order)
+sole_called s by (call.Write f bytes) order unrefused = sole_written s by f (descriptor s by f) _ (sole_of s order)
 sole_called s by k order unrefused = sole_kept s by _ refl (sole_of s order)
 
 sole_conn_new : (s : State) (p : ℕ) → IsOrderly s → IsSole (conn_new s p).after

@@ -4,7 +4,7 @@ use Rattle.std.specs.Prelude.{unwrap_or, ◌||◌, if◌then◌else◌, fold}
 use Rattle.std.specs.List.{list_any}
 use Rattle.std.specs.Option.{option_map_or}
 use Rattle.std.proofs.lemmas.Grind.{common_steps}
-use Rattle.iol_core.specs.Text.{Text}
+use Rattle.iol_core.specs.Text.{Text, labelled}
 use Rattle.iol_core.specs.Numbered.{without, lowest, placed}
 use Rattle.iol_core.specs.State.{State, Connection, domain, text, descriptor, pipe_at, conn_at, no_domain, with_domain, with_pipe, with_conn, with_content}
 use Rattle.iol_core.specs.Run.{called, meaning}
@@ -91,6 +91,12 @@ conns_called s by call.Accept = λ c un.
     let e : ℕ = unwrap_or (fds.waiting s by) 0 in
     let x : Connection = record (conn_at s e) { accepted = true } in
     conns_same (with_conn s e x) (called s by call.Accept).after (λ c. false) refl c refl ∙ conns_conn s e x c (apart e c un)
+conns_called s by (call.Read fd n) = λ c un.
+    let from = descriptor s by fd in
+    conns_read_on s by fd from (length (reading.read_text s by from n)) c (conn-operand c from false un)
+conns_called s by (call.Write fd bytes) = λ c un.
+    let to = descriptor s by fd in
+    conns_written s by fd to (labelled (writing.pool_for s by to) (take (writing.fitting s to (length bytes)) bytes)) c (conn-operand c to false un)
 conns_called s by k = conns_same s (called s by k).after _ refl
 
 pub conns_meant : (s : State) (e : Event) → KeepsConns s (meaning s e).after (touches_conn s e)

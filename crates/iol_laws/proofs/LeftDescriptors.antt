@@ -170,6 +170,8 @@ fds_called s by call.Accept =
     let c : ℕ = unwrap_or (fds.waiting s by) 0 in
     let taken : State = with_conn s c (record (conn_at s c) { accepted = true }) in
     fds_then s taken (fds.accept s by).after no_fd (fds_same s taken no_fd (domains-with_conn s c _)) (fds_opened taken by (on.Connection c) no_fd)
+fds_called s by (call.Read fd n) = fds_read_on s by fd (descriptor s by fd) _
+fds_called s by (call.Write fd bytes) = fds_written s by fd (descriptor s by fd) _
 
 pub fds_meant : (s : State) (e : Event) → KeepsFds s (meaning s e).after (touches_fd s e)
 fds_meant s (event.Call by k) = fds_called s by k

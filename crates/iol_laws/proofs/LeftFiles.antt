@@ -125,6 +125,8 @@ store_called s by (call.IolRead fd n) =
     let count = length (reading.read_text s by from n) in
     store_kept s (reading.iol_read s by fd n).after false (store_then_domain s (reading.read_on s by fd from count) by _ (store_read_on s by fd from count))
 store_called s by (call.IolWrite fd a) = record { files = files_written s by fd (descriptor s by fd) _; lists = λ p is. lists_same s (called s by (call.IolWrite fd a)).after p (pools_written s by fd (descriptor s by fd) _) }
+store_called s by (call.Read fd n) = store_kept s (reading.read s by fd n).after false (store_read_on s by fd (descriptor s by fd) _)
+store_called s by (call.Write fd bytes) = record { files = files_written s by fd (descriptor s by fd) _; lists = λ p is. lists_same s (called s by (call.Write fd bytes)).after p (pools_written s by fd (descriptor s by fd) _) }
 store_called s by k = store_kept s (called s by k).after false (record { files = refl; slots = refl; pools = refl })
 
 pub store_meant : (s : State) (e : Event) → KeepsStore s (changes_files s e) (meaning s e).after

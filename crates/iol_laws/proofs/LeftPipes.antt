@@ -4,7 +4,7 @@ use Rattle.std.specs.Prelude.{unwrap_or, ◌||◌, if◌then◌else◌, fold}
 use Rattle.std.specs.List.{list_any}
 use Rattle.std.specs.Option.{option_map_or}
 use Rattle.std.proofs.lemmas.Grind.{common_steps}
-use Rattle.iol_core.specs.Text.{Text}
+use Rattle.iol_core.specs.Text.{Text, labelled}
 use Rattle.iol_core.specs.Numbered.{without, in_place, lowest, placed}
 use Rattle.iol_core.specs.State.{State, Domain, Pipe, Connection, domain, text, descriptor, pipe_at, conn_at, no_pipe, new_pipe, no_domain, with_domain, with_pipe, with_conn, with_content}
 use Rattle.iol_core.specs.Run.{called, meaning}
@@ -112,6 +112,12 @@ pipes_called s by (call.IolRead fd n) = λ p un.
 pipes_called s by (call.IolWrite fd a) = λ p un.
     let to = descriptor s by fd in
     pipes_written s by fd to (take (writing.fitting s to (length (text s by a))) (text s by a)) p (end-operand p to false un)
+pipes_called s by (call.Read fd n) = λ p un.
+    let from = descriptor s by fd in
+    pipes_read_on s by fd from (length (reading.read_text s by from n)) p (end-operand p from false un)
+pipes_called s by (call.Write fd bytes) = λ p un.
+    let to = descriptor s by fd in
+    pipes_written s by fd to (labelled (writing.pool_for s by to) (take (writing.fitting s to (length bytes)) bytes)) p (end-operand p to false un)
 pipes_called s by k = pipes_same s (called s by k).after _ refl
 
 pub pipes_meant : (s : State) (e : Event) → KeepsPipes s (meaning s e).after (touches_pipe s e)

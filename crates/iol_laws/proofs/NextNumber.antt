@@ -76,6 +76,8 @@ next_called s d (call.GiveFd f to) = next_given s d f to (descriptor s d f)
 next_called s d (call.Close f) = next_closed_on s (descriptor s d f)
 next_called s d (call.IolRead f n) = next_read_on s d f (descriptor s d f) (length (reading.read_text s d (descriptor s d f) n))
 next_called s d (call.IolWrite f a) = next_written s d f (descriptor s d f) _
+next_called s d (call.Read f n) = next_read_on s d f (descriptor s d f) _
+next_called s d (call.Write f bytes) = next_written s d f (descriptor s d f) _
 next_called s d k = refl
 
 -- the next number rises, or stays

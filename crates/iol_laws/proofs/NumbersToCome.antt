@@ -133,6 +133,8 @@ below_called s by (call.Close f) below = below_fds (fds.closed_on s (descriptor 
 below_called s by (call.IolRead f n) below = below_with_agg (reading.read_on s by f (descriptor s by f) (length (reading.read_text s by (descriptor s by f) n))) by _ (below_read_on s by f (descriptor s by f) _ below)
 below_called s by (call.IolWrite f x) below = below_written s by f (descriptor s by f) _ below
 below_called s by call.Accept below = below_fds (with_conn s (unwrap_or (fds.waiting s by) 0) _) by _ (below_same s (with_conn s (unwrap_or (fds.waiting s by) 0) _) (domains-with_conn s (unwrap_or (fds.waiting s by) 0) _) below)
+below_called s by (call.Read f n) below = below_read_on s by f (descriptor s by f) _ below
+below_called s by (call.Write f bytes) below = below_written s by f (descriptor s by f) _ below
 
 pub below_meant : (s : State) (e : Event) → AllBelow s → AllBelow (meaning s e).after
 below_meant s (event.Call by k) below = below_called s by k below

@@ -47,6 +47,8 @@ operands-none s d call.Exit c never = none-of c (domain s d).fds never
 operands-none s d (call.Close f) c never = one-of c (descriptor s d f) (never f)
 operands-none s d (call.IolRead f n) c never = one-of c (descriptor s d f) (never f)
 operands-none s d (call.IolWrite f x) c never = one-of c (descriptor s d f) (never f)
+operands-none s d (call.Read f n) c never = one-of c (descriptor s d f) (never f)
+operands-none s d (call.Write f bytes) c never = one-of c (descriptor s d f) (never f)
 operands-none s d k c never = refl
 
 -- a connection that the domain neither has nor may accept

@@ -128,6 +128,8 @@ quiet_called s by (call.IolWrite f x) order = quiet_written s by f (descriptor s
 quiet_called s by call.Accept order =
     let c : ℕ = unwrap_or (fds.waiting s by) 0 in
     quiet_domain (with_conn s c (record (conn_at s c) { accepted = true })) by _ (quiet_conn s c _ (accepted-fine (record (conn_at s c) { accepted = true }) refl) (quiet_of s order))
+quiet_called s by (call.Read f n) order = quiet_read_on s by f (descriptor s by f) _ (quiet_of s order)
+quiet_called s by (call.Write f bytes) order = quiet_written s by f (descriptor s by f) _ (λ c is. (opened-conn s by f c order is).0) (quiet_of s order)
 quiet_called s by k order = quiet_same s (called s by k).after refl refl (quiet_of s order)
 
 quiet_conn_new : (s : State) (p : ℕ) → AllQuiet s → AllQuiet (conn_new s p).after

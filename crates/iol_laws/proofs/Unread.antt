@@ -100,6 +100,8 @@ rest_called s d (call.IolWrite f x) c once = rest_written s d f (descriptor s d 
 rest_called s d call.Accept c once =
     let e : ℕ = unwrap_or (fds.waiting s d) 0 in
     rest_domain s (with_conn s e (record (conn_at s e) { accepted = true })) d _ c (rest_with_conn s e (record (conn_at s e) { accepted = true }) c [] once refl)
+rest_called s d (call.Read f n) c once = rest_read_on s d f (descriptor s d f) _ c once
+rest_called s d (call.Write f bytes) c once = rest_written s d f (descriptor s d f) _ c once
 rest_called s d k c once = rest_same s (called s d k).after c (conns_meant s (event.Call d k) c refl)
 
 rest_conn_new : (s : State) (p c : ℕ) → IsOrderly s → IsRest s (conn_new s p).after c

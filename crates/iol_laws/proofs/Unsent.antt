@@ -99,6 +99,8 @@ longer_called s d (call.IolWrite f x) c order = longer_written s d f (descriptor
 longer_called s d call.Accept c order =
     let e : ℕ = unwrap_or (fds.waiting s d) 0 in
     longer_same s _ c (out_domain s (with_conn s e (record (conn_at s e) { accepted = true })) d _ c (out_with_conn s e (record (conn_at s e) { accepted = true }) c order.once refl))
+longer_called s d (call.Read f n) c order = longer_same s _ c (out_read_on s d f (descriptor s d f) _ c order.once)
+longer_called s d (call.Write f bytes) c order = longer_written s d f (descriptor s d f) _ c (λ e is. opened-conn s d f e order is)
 longer_called s d k c order = longer_same s (called s d k).after c (ap (λ (x : Connection). x.outgoing) (conns_meant s (event.Call d k) c refl))
 
 out_conn_new : (s : State) (p c : ℕ) → IsOrderly s → SameOut s (conn_new s p).after c

@@ -20,6 +20,8 @@ operands s (event.Call by call.Exit) = (domain s by).fds
 operands s (event.Call by (call.Close fd)) = descriptor s by fd ∷ []
 operands s (event.Call by (call.IolRead fd n)) = descriptor s by fd ∷ []
 operands s (event.Call by (call.IolWrite fd a)) = descriptor s by fd ∷ []
+operands s (event.Call by (call.Read fd n)) = descriptor s by fd ∷ []
+operands s (event.Call by (call.Write fd bytes)) = descriptor s by fd ∷ []
 operands s e = []
 
 abbrev pub is_conn : (c : ℕ) → Option Descriptor → Bool
@@ -57,11 +59,14 @@ touches_fd s (event.Call by (call.Close f)) d fd = (by == d) && (f == fd)
 touches_fd s (event.Call by (call.GiveFd f to)) d fd = (by == d) && (f == fd)
 touches_fd s (event.Call by (call.IolRead f n)) d fd = (by == d) && (f == fd) && is_file (descriptor s by f)
 touches_fd s (event.Call by (call.IolWrite f a)) d fd = (by == d) && (f == fd) && is_file (descriptor s by f)
+touches_fd s (event.Call by (call.Read f n)) d fd = (by == d) && (f == fd) && is_file (descriptor s by f)
+touches_fd s (event.Call by (call.Write f bytes)) d fd = (by == d) && (f == fd) && is_file (descriptor s by f)
 touches_fd s e d fd = false
 
 -- whether it may make or write a file
 abbrev pub changes_files : State → Event → Bool
 changes_files s (event.Call by (call.IolWrite fd a)) = is_file (descriptor s by fd)
+changes_files s (event.Call by (call.Write fd bytes)) = is_file (descriptor s by fd)
 changes_files s e = false
 
 -- from old to new, by this event

@@ -1,8 +1,9 @@
 -- What an event does to pages and chunks: on which pages it makes buffers, and which chunks a new pool gets.
 use Rattle.std.specs.Prelude.{ℕ, List, [], length, ⊤}
-use Rattle.iol_core.specs.State.{conn_at}
+use Rattle.iol_core.specs.State.{conn_at, descriptor}
 use Rattle.iol_core.specs.Calls.Aggregates.{default_pool}
 use Rattle.iol_core.specs.Calls.Outside.{arrive}
+use Rattle.iol_core.specs.Calls.Writing.{pool_for, write}
 use Rattle.iol_core.specs.Calls.Pools.{distinct}
 use Rattle.iol_core.specs.declared.events.Call.{Call}
 use Rattle.iol_core.specs.declared.events.Call.TheVariants as call
@@ -15,9 +16,11 @@ use Rattle.iol_pool.specs.Pools.{AddsPool}
 use Rattle.iol_kernel.specs.KernelState.{KernelState}
 use Rattle.iol_system.specs.Machine.{machine_of}
 
--- the pages on which a call makes buffers: for `agg_make` the lowest free ones of the caller's default pool
+-- the pages on which a call makes buffers: for `agg_make` the lowest free ones of the caller's default pool, for `write` those of
+-- the pool that it writes to, as many as are taken
 abbrev pub call_places : KernelState → (by : ℕ) → Call → List ℕ
 call_places h by (call.AggMake bytes) = lowest_of h.store (default_pool (machine_of h) by) (length bytes)
+call_places h by (call.Write fd bytes) = lowest_of h.store (pool_for (machine_of h) by (descriptor (machine_of h) by fd)) (write (machine_of h) by fd bytes).answer
 call_places h by c = []
 
 -- for bytes that arrive the lowest free ones of the connection's pool

@@ -19,7 +19,7 @@ use Rattle.iol_system.specs.Safe.{IsSafe}
 
 -- From old to new, by this event with this reply: the copying machine's step; NoRoom exactly where there is no room;
 -- a refusal changes nothing at all; what a sharing call hands on lies where it lay, and no page is published or freed;
--- of the others `agg_make` and `arrive` alone make buffers, on the lowest free pages, each of which is raised by one; an open
+-- of the others `agg_make`, `arrive` and `write` alone make buffers, on the lowest free pages, each of which is raised by one; an open
 -- pool keeps its chunks, and a new one has the lowest free; sending remembers the sums of what is sent; new is safe again;
 -- live buffers keep their bytes, and aggregates their values.
 pub record Promises (old : KernelState) (e : Event) (r : Reply) (new : KernelState) : Type 0 where

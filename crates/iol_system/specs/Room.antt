@@ -1,8 +1,9 @@
 -- When there is room, exactly.
 use Rattle.std.specs.Prelude.{ℕ, Bool, true, nat_le, length}
-use Rattle.iol_core.specs.State.{conn_at}
+use Rattle.iol_core.specs.State.{conn_at, descriptor}
 use Rattle.iol_core.specs.Calls.Aggregates.{default_pool}
 use Rattle.iol_core.specs.Calls.Outside.{arrive}
+use Rattle.iol_core.specs.Calls.Writing.{pool_for, write}
 use Rattle.iol_core.specs.declared.events.Call.{Call}
 use Rattle.iol_core.specs.declared.events.Call.TheVariants as call
 use Rattle.iol_core.specs.declared.events.Event.{Event}
@@ -19,6 +20,7 @@ use Rattle.iol_system.specs.Machine.{machine_of}
 abbrev pub call_fits : KernelState → (by : ℕ) → Call → Bool
 call_fits h by (call.AggMake bytes) = has_room h.store (default_pool (machine_of h) by) (length bytes)
 call_fits h by (call.PoolCreate chunks list) = nat_le chunks (length (free_chunks h.store.arena))
+call_fits h by (call.Write fd bytes) = has_room h.store (pool_for (machine_of h) by (descriptor (machine_of h) by fd)) (write (machine_of h) by fd bytes).answer
 call_fits h by c = true
 
 -- bytes that arrive lie in the connection's pool, as many as are taken

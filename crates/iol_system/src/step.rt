@@ -18,12 +18,18 @@ use iol_core::events::{Call, Event, Reply};
 use iol_core::numbers::DomainId;
 use iol_core::refusals::Refusal;
 use iol_kernel::kernel::Kernel;
+use iol_posix::{read_bytes, write};
 use iol_sock::Segment;
 use std::alloc::{AllocError, Global};
 
 // Carries out one call of a domain: its answer, or its refusal. Each clause comes from that call of the kernel.
 #[tactic(auto, using(iol_kernel::proofs::Carried::carried_rules, crate::proofs::Paged::paged_rules))]
-fn answer_call(kernel: &mut Kernel, by: DomainId, call: &Call) -> Result<Reply, Refusal>
+fn answer_call(
+    alloc: Global,
+    kernel: &mut Kernel,
+    by: DomainId,
+    call: &Call,
+) -> Result<Reply, Refusal>
     requires { IsSound (state_of kernel.old) }
     ensures step { StepsTo (machine_of (state_of kernel.old)) (Event.Call by call.now)
         (reply_of result) (machine_of (state_of kernel.new)) }
@@ -96,12 +102,14 @@ fn answer_call(kernel: &mut Kernel, by: DomainId, call: &Call) -> Result<Reply, 
         Call::IolRead { fd, count } => Ok(Reply::Agg(kernel.iol_read(by, *fd, *count)?)),
         Call::IolWrite { fd, agg } => Ok(Reply::Count(kernel.iol_write(by, *fd, *agg)?)),
         Call::Accept => Ok(Reply::Fd(kernel.accept(by)?)),
+        Call::Read { fd, count } => Ok(Reply::Bytes(read_bytes(alloc, kernel, by, *fd, *count)?)),
+        Call::Write { fd, bytes } => Ok(Reply::Count(write(kernel, by, *fd, bytes.as_slice())?)),
     }
 }
 
 // Carries out a call, or what happens outside: its answer, or its refusal.
 #[tactic(auto, using(iol_kernel::proofs::Carried::carried_rules, crate::proofs::Paged::paged_rules))]
-fn answer_to(kernel: &mut Kernel, event: &Event) -> Result<Reply, Refusal>
+fn answer_to(alloc: Global, kernel: &mut Kernel, event: &Event) -> Result<Reply, Refusal>
     requires { IsSound (state_of kernel.old) }
     ensures step { StepsTo (machine_of (state_of kernel.old)) event.now
         (reply_of result) (machine_of (state_of kernel.new)) }
@@ -124,7 +132,7 @@ fn answer_to(kernel: &mut Kernel, event: &Event) -> Result<Reply, Refusal>
     ensures stays { Stays (state_of kernel.old).store (state_of kernel.new).store }
 {
     match event {
-        Event::Call { by, call } => answer_call(kernel, *by, call),
+        Event::Call { by, call } => answer_call(alloc, kernel, *by, call),
         Event::ConnNew { pool } => Ok(Reply::Conn(kernel.conn_new(*pool)?)),
         Event::Arrive { conn, bytes } => Ok(Reply::Count(kernel.arrive(*conn, bytes)?)),
         Event::PeerClosed { conn, how } => {
@@ -139,11 +147,11 @@ fn answer_to(kernel: &mut Kernel, event: &Event) -> Result<Reply, Refusal>
 }
 
 /// Carries out one event, and replies.
-pub(crate) fn carry_out(kernel: &mut Kernel, event: &Event) -> Reply
+pub(crate) fn carry_out(alloc: Global, kernel: &mut Kernel, event: &Event) -> Reply
     requires { IsSafe (state_of kernel.old) }
     ensures { Promises (state_of kernel.old) event.now result (state_of kernel.new) }
 {
-    match answer_to(kernel, event) {
+    match answer_to(alloc, kernel, event) {
         Ok(reply) => reply,
         Err(refusal) => Reply::Refused(refusal),
     }
@@ -163,7 +171,7 @@ pub(crate) fn run_all(
 {
     let mut replies = Vec::with_capacity(alloc, events.len())?;
     for event in events {
-        let reply = carry_out(kernel, event);
+        let reply = carry_out(alloc, kernel, event);
         replies.push_reserved(reply);
     }
     Ok(replies)

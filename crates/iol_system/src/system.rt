@@ -109,7 +109,7 @@ impl System {
             LaysOut (layout_of self.old) event result (layout_of self.new) }
         ensures pages { is_sharing event ≡ true → self.new.store.arena ≡ self.old.store.arena }
 
-        // Of all others `agg_make` and `arrive` alone publish, on the lowest free pages of the pool, each of which is raised
+        // Of all others `agg_make`, `arrive` and `write` alone publish, on the lowest free pages of the pool, each of which is raised
         // by one; an open pool keeps its chunks, and a new one has the lowest free chunks, as many as asked for.
         ensures publishes { IsDone result →
             KeepsPages self.old.store self.new.store (placed_by self.old event) }
@@ -128,7 +128,7 @@ impl System {
         // All of this in one, as each link of a run has it.
         ensures promises { Promises self.old event result self.new }
     {
-        carry_out(&mut self.kernel, &event)
+        carry_out(self.alloc, &mut self.kernel, &event)
     }
 
     /// Carries out events in order. For want of memory for the replies, none.

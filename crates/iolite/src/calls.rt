@@ -13,7 +13,7 @@ pub fn parse_call(alloc: Global, text: &str) -> Result<Call, LineError> {
     };
     match name {
         "pool_create" | "pool_close" | "set_pool" => parse_pool_call(alloc, name, rest),
-        "agg_make" | "agg_fill" => parse_text_call(alloc, name, rest),
+        "agg_make" | "agg_fill" | "write" => parse_text_call(alloc, name, rest),
         "agg_dup" | "agg_drop" | "show" => parse_agg_call(name, rest),
         "agg_split" | "agg_join" | "agg_give" => parse_moving_call(name, rest),
         "agg_cut" | "agg_replace" => parse_range_call(name, rest),
@@ -60,12 +60,18 @@ fn parse_pool_call(alloc: Global, name: &str, rest: &str) -> Result<Call, LineEr
     }
 }
 
-/// Reads a call that makes an aggregate of a text.
+/// Reads a call that makes an aggregate of a text, or writes one.
 fn parse_text_call(alloc: Global, name: &str, rest: &str) -> Result<Call, LineError> {
     match name {
         "agg_make" => {
             let bytes = decode_text(alloc, rest)?;
             Ok(Call::AggMake { bytes })
+        }
+        "write" => {
+            let (fd, text) = rest.split_once(' ').unwrap_or((rest, ""));
+            let fd = Fd::new(parse_u32(fd)?);
+            let bytes = decode_text(alloc, text)?;
+            Ok(Call::Write { fd, bytes })
         }
         _ => {
             let (count, text) = rest.split_once(' ').unwrap_or((rest, ""));
@@ -142,6 +148,10 @@ fn parse_descriptor_call(name: &str, rest: &str) -> Result<Call, LineError> {
         "iol_read" => {
             let count = parse_u32(last)?;
             Ok(Call::IolRead { fd, count })
+        }
+        "read" => {
+            let count = parse_u32(last)?;
+            Ok(Call::Read { fd, count })
         }
         "iol_write" => {
             let agg = AggId::new(parse_u64(last)?);
