@@ -304,14 +304,19 @@ access_called s by (call.AggReplace a from to b) = access_agg_replace s by a fro
 access_called s by (call.AggDrop a) = access_agg_drop s by a
 access_called s by (call.AggGive a to) = access_agg_give s by a to
 access_called s by (call.Show a) = λ h unrefused. h
+access_called s by (call.FileNew name p) = access_file_new s by name p
+access_called s by (call.OpenFile name mode) = access_open_file s by name mode
 access_called s by call.Pipe = access_new_pipe s by
 access_called s by (call.GiveFd fd to) = access_give_fd s by fd to
 access_called s by (call.Close fd) = access_close s by fd
+access_called s by (call.Seek fd at) = access_seek s by fd at
+access_called s by (call.Length fd) = access_file_length s by fd
 access_called s by (call.IolRead fd n) = access_iol_read s by fd n
 access_called s by (call.IolWrite fd a) = access_iol_write s by fd a
-access_called s by call.Accept = access_accept s by
+access_called s by (call.Fsync fd) = access_fsync s by fd
 access_called s by (call.Read fd n) = access_read s by fd n
 access_called s by (call.Write fd bytes) = access_write s by fd bytes
+access_called s by call.Accept = access_accept s by
 
 -- What happens outside changes no domain and no list.
 
@@ -321,6 +326,8 @@ access_meaning s (event.ConnNew p) = λ h unrefused. access_same s (conn_new s p
 access_meaning s (event.Arrive c bytes) = λ h unrefused. access_conn s c _ h
 access_meaning s (event.PeerClosed c how) = λ h unrefused. access_conn s c (closed_by (conn_at s c) how) h
 access_meaning s (event.Transmit c max) = λ h unrefused. access_conn s c (record (conn_at s c) { outgoing = drop max (conn_at s c).outgoing }) h
+access_meaning s event.Flush = access_flush s
+access_meaning s event.DropClean = access_drop_clean s
 
 access_outcome : {A : Type 0} (m : Meaning A) (old new : State) (r : Result A Refusal) → KeepsAccess old m → HasAccess old → Step m old r new → HasAccess new
 access_outcome m old new (Ok a) keeps h step = subst HasAccess (sym step.2) (keeps h step.0)

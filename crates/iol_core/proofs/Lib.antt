@@ -5,3 +5,4 @@ pub mod Passing
 pub mod Kept
 pub mod Access
 pub mod Values
+pub mod Positions

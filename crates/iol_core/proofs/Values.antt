@@ -282,14 +282,19 @@ values_called s by (call.AggReplace a from to b) = values_agg_replace s by a fro
 values_called s by (call.AggDrop a) = values_without_agg s by a
 values_called s by (call.AggGive a to) = values_agg_give s by a to
 values_called s by (call.Show a) = λ d n x is kept. is
+values_called s by (call.FileNew name p) = values_file_new s by name p
+values_called s by (call.OpenFile name mode) = values_open_file s by name mode
 values_called s by call.Pipe = values_new_pipe s by
 values_called s by (call.GiveFd fd to) = values_give_fd s by fd to
 values_called s by (call.Close fd) = values_close s by fd
+values_called s by (call.Seek fd at) = values_seek s by fd at
+values_called s by (call.Length fd) = values_file_length s by fd
 values_called s by (call.IolRead fd n) = values_iol_read s by fd n
 values_called s by (call.IolWrite fd a) = values_iol_write s by fd a
-values_called s by call.Accept = values_accept s by
+values_called s by (call.Fsync fd) = values_fsync s by fd
 values_called s by (call.Read fd n) = values_read s by fd n
 values_called s by (call.Write fd bytes) = values_write s by fd bytes
+values_called s by call.Accept = values_accept s by
 
 -- After each step, and after a run in which nobody gives it up.
 
@@ -303,6 +308,8 @@ values_step old new (event.ConnNew p) r step = record { each = values_outcome (m
 values_step old new (event.Arrive c bytes) r step = record { each = values_outcome (meaning old (event.Arrive c bytes)) old new (outcome r) nothing (values_conn old c _) step }
 values_step old new (event.PeerClosed c how) r step = record { each = values_outcome (meaning old (event.PeerClosed c how)) old new (outcome r) nothing (values_conn old c (closed_by (conn_at old c) how)) step }
 values_step old new (event.Transmit c max) r step = record { each = values_outcome (meaning old (event.Transmit c max)) old new (outcome r) nothing (values_conn old c (record (conn_at old c) { outgoing = drop max (conn_at old c).outgoing })) step }
+values_step old new event.Flush r step = record { each = values_outcome (meaning old event.Flush) old new (outcome r) nothing (values_flush old) step }
+values_step old new event.DropClean r step = record { each = values_outcome (meaning old event.DropClean) old new (outcome r) nothing (values_drop_clean old) step }
 
 pub values_run : (old new : State) (es : List Event) (rs : List Reply) (d a : ℕ) (t : Text) → aggregate old d a ≡ Some t → list_any (λ e. gives_up e d a) es ≡ false → Run old es rs new → aggregate new d a ≡ Some t
 values_run old new [] [] d a t is kept run = subst (λ s. aggregate s d a ≡ Some t) (sym run) is

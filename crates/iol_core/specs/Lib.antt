@@ -8,5 +8,6 @@ pub mod Meaning
 pub mod Calls
 pub mod Run
 pub mod Access
+pub mod Positions
 pub mod Values
 pub mod Sharing

@@ -6,7 +6,8 @@ use Rattle.iol_core.specs.Calls.Domains.{domain_new, exit}
 use Rattle.iol_core.specs.Calls.Pools.{pool_create, pool_close, set_pool}
 use Rattle.iol_core.specs.Calls.Aggregates.{agg_make, agg_dup, agg_cut, agg_split, agg_join, agg_replace, agg_drop, agg_give, show}
 use Rattle.iol_core.specs.Calls.Descriptors.{pipe, give_fd, close, accept}
-use Rattle.iol_core.specs.Calls.Outside.{conn_new, arrive, peer_closed, transmit}
+use Rattle.iol_core.specs.Calls.Files.{file_new, open_file, seek, file_length, fsync}
+use Rattle.iol_core.specs.Calls.Outside.{conn_new, arrive, peer_closed, transmit, flush, drop_clean}
 use Rattle.iol_core.specs.Calls.Reading.{iol_read, read}
 use Rattle.iol_core.specs.Calls.Writing.{iol_write, write}
 use Rattle.iol_core.specs.declared.refusals.Refusal.{Refusal}
@@ -24,7 +25,7 @@ replied f m = record { refusals = m.refusals; Late = m.Late; answer = f m.answer
 abbrev pub done : Unit {0} → Reply
 done u = reply.Done
 
--- what a call of a domain means; a call has a case here once the system has it
+-- what a call of a domain means
 abbrev pub called : State → (by : ℕ) → Call → Meaning Reply
 called s by call.DomainNew = replied reply.Domain (domain_new s by)
 called s by call.Exit = replied done (exit s by)
@@ -40,14 +41,19 @@ called s by (call.AggReplace a from to b) = replied reply.Agg (agg_replace s by 
 called s by (call.AggDrop a) = replied done (agg_drop s by a)
 called s by (call.AggGive a to) = replied reply.Agg (agg_give s by a to)
 called s by (call.Show a) = replied reply.Bytes (show s by a)
+called s by (call.FileNew name p) = replied reply.File (file_new s by name p)
+called s by (call.OpenFile name mode) = replied reply.Fd (open_file s by name mode)
 called s by call.Pipe = replied (λ fds. reply.Fds fds.0 fds.1) (pipe s by)
 called s by (call.GiveFd fd to) = replied reply.Fd (give_fd s by fd to)
 called s by (call.Close fd) = replied done (close s by fd)
+called s by (call.Seek fd at) = replied done (seek s by fd at)
+called s by (call.Length fd) = replied reply.Count (file_length s by fd)
 called s by (call.IolRead fd n) = replied reply.Agg (iol_read s by fd n)
 called s by (call.IolWrite fd a) = replied reply.Count (iol_write s by fd a)
-called s by call.Accept = replied reply.Fd (accept s by)
+called s by (call.Fsync fd) = replied done (fsync s by fd)
 called s by (call.Read fd n) = replied reply.Bytes (read s by fd n)
 called s by (call.Write fd bytes) = replied reply.Count (write s by fd bytes)
+called s by call.Accept = replied reply.Fd (accept s by)
 
 -- what an event means
 abbrev pub meaning : State → Event → Meaning Reply
@@ -56,6 +62,8 @@ meaning s (event.ConnNew p) = replied reply.Conn (conn_new s p)
 meaning s (event.Arrive c bytes) = replied reply.Count (arrive s c bytes)
 meaning s (event.PeerClosed c how) = replied done (peer_closed s c how)
 meaning s (event.Transmit c max) = replied (λ x. reply.Segment x.0 x.1) (transmit s c max)
+meaning s event.Flush = replied done (flush s)
+meaning s event.DropClean = replied done (drop_clean s)
 
 -- a reply as an answer or a refusal
 abbrev pub outcome : Reply → Result Reply Refusal

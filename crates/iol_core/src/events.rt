@@ -1,5 +1,5 @@
 //! Calls, events and replies.
-use crate::descriptors::How;
+use crate::descriptors::{How, Mode};
 use crate::lists::{Bytes, Domains};
 use crate::numbers::{AggId, ConnId, DomainId, Fd, FileId, PoolId};
 use crate::refusals::Refusal;
@@ -54,12 +54,27 @@ pub enum Call {
     Show {
         agg: AggId,
     },
+    FileNew {
+        name: Bytes,
+        pool: PoolId,
+    },
+    OpenFile {
+        name: Bytes,
+        mode: Mode,
+    },
     Pipe,
     GiveFd {
         fd: Fd,
         to: DomainId,
     },
     Close {
+        fd: Fd,
+    },
+    Seek {
+        fd: Fd,
+        at: u32,
+    },
+    Length {
         fd: Fd,
     },
     IolRead {
@@ -70,7 +85,9 @@ pub enum Call {
         fd: Fd,
         agg: AggId,
     },
-    Accept,
+    Fsync {
+        fd: Fd,
+    },
     Read {
         fd: Fd,
         count: u32,
@@ -79,6 +96,7 @@ pub enum Call {
         fd: Fd,
         bytes: Bytes,
     },
+    Accept,
 }
 
 /// What happens to a system: one atomic step.
@@ -97,6 +115,12 @@ pub enum Event {
 
     /// A connection sends its first bytes, `max` or all where fewer wait.
     Transmit { conn: ConnId, max: u32 },
+
+    /// The dirty part of a file of least number and offset is written back to the store, where there is one.
+    Flush,
+
+    /// All that memory has of files and the store has, too, is forgotten.
+    DropClean,
 }
 
 /// What an event is answered.

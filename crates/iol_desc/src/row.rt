@@ -223,6 +223,17 @@ impl<A: Drop> Domain<A> {
         self.fds.free(fd.number() as usize);
     }
 
+    /// Opens an open number on something else.
+    pub(crate) fn set_fd(&mut self, fd: Fd, on: Descriptor)
+        requires { in_place self.old.domain.fds fd ≢ None }
+        ensures set { self.new.domain ≡ record self.old.domain
+            { fds = slice_set self.old.domain.fds fd (Some on) } }
+        ensures room { self.old.room ≤ self.new.room }
+        ensures count { length self.new.domain.aggs ≡ length self.old.domain.aggs }
+    {
+        *self.fds.value_mut(fd.number() as usize) = on;
+    }
+
     /// Closes an open number, and opens the lowest.
     pub(crate) fn move_fd(&mut self, fd: Fd, on: Descriptor) -> Fd
         requires { in_place self.old.domain.fds fd ≢ None }

@@ -269,6 +269,19 @@ impl<A: Drop> Table<A> {
         domain.take_fd(fd);
     }
 
+    /// Opens a domain's descriptor on something else. Room for aggregates stays.
+    pub fn set_fd(&mut self, d: DomainId, fd: Fd, on: Descriptor)
+        requires live { (domain_in (domains_of self.old) d).live ≡ true }
+        requires there { in_place (fds_in (domains_of self.old) d) fd ≢ None }
+        ensures set { domains_of self.new ≡ with_fds_in (domains_of self.old) d
+            (slice_set (fds_in (domains_of self.old) d) fd (Some on)) }
+        ensures room { room_in self.old d ≤ room_in self.new d }
+    {
+        let at = self.place_of(d);
+        let domain = &mut self.rows[at];
+        domain.set_fd(fd, on);
+    }
+
     /// Takes what a domain's numbers are open on, by rising number: none is open any more.
     pub fn take_fds(&mut self, d: DomainId) -> Vec<Option<Descriptor>>
         requires { (domain_in (domains_of self.old) d).live ≡ true }

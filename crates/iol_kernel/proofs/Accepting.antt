@@ -173,6 +173,7 @@ module _ (h : KernelState) (d c : ℕ) (sound : IsSound h) (first' : fds.waiting
           arena = refl;
           pools = refl;
           sums = refl;
+          cache = refl;
           sound = accepted-sound;
           stays = stays_here h.store;
         }))

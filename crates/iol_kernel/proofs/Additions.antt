@@ -60,6 +60,7 @@ module _ (h : KernelState) (t : Stored) (ds : List (Domain (List Slice))) (d a f
     arena = adds.shares.arena;
     pools = adds.shares.pools;
     sums = refl;
+    cache = refl;
     sound = cut-sound;
     stays = (shares_move adds.shares).stays;
   }
@@ -72,6 +73,7 @@ module _ (h : KernelState) (t : Stored) (ds : List (Domain (List Slice))) (d a f
     arena = adds.shares.arena;
     pools = adds.shares.pools;
     sums = refl;
+    cache = refl;
     sound = cut-sound;
     stays = (shares_move adds.shares).stays;
   }
@@ -128,6 +130,7 @@ module _ (h : KernelState) (t : Stored) (ds : List (Domain (List Slice))) (d a f
     arena = adds.shares.arena;
     pools = adds.shares.pools;
     sums = refl;
+    cache = refl;
     sound = replaced-sound;
     stays = (shares_move adds.shares).stays;
   }

@@ -124,7 +124,7 @@ module _ (h : KernelState) (t : Stored) (c : ℕ) (x : Conn (List Slice)) (q : L
       ∙ ap (λ (y : Connection). machine.with_conn s c (record y { incoming = y.incoming ++ read f adds.slices })) (sym is)
 
   pub arrived_makes : (is_some x.peer || x.closed) ≡ false → MakesBytes (with_incoming c) x.pool (length bytes) h arrived
-  arrived_makes on' = record { slices = adds.slices; each = arrived-read on'; sums = refl; made_on = adds.made_on; pages = adds.pages }
+  arrived_makes on' = record { slices = adds.slices; each = arrived-read on'; sums = refl; cache = refl; made_on = adds.made_on; pages = adds.pages }
 
   held-read : (stored : List (List ℕ)) → read_of (bytes_over stored t) h ≡ machine_of stored h
   unfolding read_of

@@ -1,6 +1,6 @@
 -- What comes in from a reader and what goes out to a writer, of a connection.
 use Rattle.std.proofs.Common.{◌≡◌, ◌≢◌, ℕ, zero, suc, ◌+◌, ◌-◌, ◌<◌, ◌≤◌, ◌==◌, ◌&&◌, ◌||◌, Bool, List, [], ◌∷◌, ◌++◌, length, take, drop, ap, ◌∙◌, refl, sym, subst, arith, Option, Some, None, true, false}
-use Rattle.std.specs.Prelude.{min, nat_lt, is_some, MatchOption}
+use Rattle.std.specs.Prelude.{min, nat_lt, is_some, MatchOption, Ok}
 use Rattle.std.specs.Io.KnownBytes.{Appends}
 use Rattle.std.proofs.lemmas.Bool.Decides.{nat_tests}
 use Rattle.std.proofs.lemmas.List.{take_all, append-nil}
@@ -29,8 +29,8 @@ use Rattle.iol_sock.specs.Connections.{Conn, conn_view}
 use Rattle.iol_sock.specs.Refused.{arrive_refusals, read_refusals, IsRefused}
 use Rattle.iol_sock.specs.Table.{conn_in}
 use Rattle.iol_sock.proofs.Meaning.{conn_at-is, arrives_meant}
-use Rattle.iol_kernel.specs.Borrowed.{arrive_from_refusals, ArrivesFrom, sent_on}
-use Rattle.iol_kernel.specs.Calls.{Arrives, Leaves}
+use Rattle.iol_kernel.specs.Borrowed.{arrive_from_refusals, TakesIn, sent_on}
+use Rattle.iol_kernel.specs.Calls.{Arrives, Leaves, Steps}
 use Rattle.iol_kernel.specs.KernelState.{KernelState, IsSound, read_of, machine_of}
 use Rattle.iol_kernel.proofs.Arriving.{going, passed_open, arrive_pool, all_sound, all_step, all_made}
 use Rattle.iol_kernel.proofs.Connecting.{conn_found, conn_in-found, conn_there, there-changed, rising-read_of, not_over, conn_left, turned}
@@ -135,16 +135,16 @@ module _ (h k : KernelState) (c max n : ℕ) (left after : Option (List ℕ)) (s
   pub read_made : Arrives c n h k
   read_made = all_made h k c n reads.bytes sound there open' number adds same
 
-  pub read_arrives : ArrivesFrom left after c n (machine_of [] h) (machine_of [] k)
-  read_arrives = record { bytes = reads.bytes; count = reads.count; given = reads.given; step = all_step h k c n reads.bytes sound there open' number adds same [] }
+  pub read_takes : TakesIn left after n (λ bytes. Steps (λ s. outside.arrive s c bytes) h (Ok n) k)
+  read_takes = record { bytes = reads.bytes; count = reads.count; given = reads.given; arrives = all_step h k c n reads.bytes sound there open' number adds same }
 
-  pub read_none : n ≡ 0 → machine_of [] k ≡ machine_of [] h
-  read_none none =
-      let f = bytes_over [] h.store in
+  pub read_none : n ≡ 0 → (stored : List (List ℕ)) → machine_of stored k ≡ machine_of stored h
+  read_none none stored =
+      let f = bytes_over stored h.store in
       let w : Connection = conn_view (read f) y in
-      (all_step h k c n reads.bytes sound there open' number adds same []).2
-      ∙ none_arrives (machine_of [] h) c reads.bytes (reads.count ∙ none)
-      ∙ not_over (machine_of [] h) c h.next_conn w (rising-read_of f h sound) (conn_found f h c y (conn_in-found h.conns c there)) (going w (passed_open y (length reads.bytes) open'))
+      (all_step h k c n reads.bytes sound there open' number adds same stored).2
+      ∙ none_arrives (machine_of stored h) c reads.bytes (reads.count ∙ none)
+      ∙ not_over (machine_of stored h) c h.next_conn w (rising-read_of f h sound) (conn_found f h c y (conn_in-found h.conns c there)) (going w (passed_open y (length reads.bytes) open'))
 
   pub read_most : n ≤ min (min max PAGE_BYTES) (MAX_QUEUE_BYTES - length (conn_at (machine_of [] h) c).incoming)
   read_most = subst (λ l. n ≤ min (min max PAGE_BYTES) (MAX_QUEUE_BYTES - l)) (sym (incoming_len h c max there)) most

@@ -223,7 +223,7 @@ module _ (h : KernelState) (t : Stored) (qs : Pipes) (p : ℕ) (sound : IsSound 
       let x : Pipe (List Slice) = without_reader (queue_at h.pipes p) in
       leaves (λ s. fds.closed_on s (Some (on.ReadEnd p))) h (record h { store = t; pipes = qs })
       (λ f. closed_pipe-read h t qs p x sound reader_there closes (inl refl) (λ e. refl) f ∙ reader-read f h p)
-      refl closes.moves.stays (keeps_pages_frees closes.frees) sound.domains (qs_good h t qs p x sound reader_there closes (inl refl) (λ e. refl))
+      refl refl closes.moves.stays (keeps_pages_frees closes.frees) sound.domains (qs_good h t qs p x sound reader_there closes (inl refl) (λ e. refl))
       (closed_pipe-sound h t qs p x sound reader_there closes (inl refl) (λ e. refl) (on.ReadEnd p) (reader_keeps (objects_of h) p reader_there) free)
 
 -- a write end
@@ -249,5 +249,5 @@ module _ (h : KernelState) (t : Stored) (qs : Pipes) (p : ℕ) (sound : IsSound 
       let none = none_of (queue_at h.pipes p).queue (queue_at h.pipes p).reading in
       leaves (λ s. fds.closed_on s (Some (on.WriteEnd p))) h (record h { store = t; pipes = qs })
       (λ f. closed_pipe-read h t qs p x sound writer_there closes writer_part none f ∙ writer-read f h p)
-      refl closes.moves.stays (keeps_pages_frees closes.frees) sound.domains (qs_good h t qs p x sound writer_there closes writer_part none)
+      refl refl closes.moves.stays (keeps_pages_frees closes.frees) sound.domains (qs_good h t qs p x sound writer_there closes writer_part none)
       (closed_pipe-sound h t qs p x sound writer_there closes writer_part none (on.WriteEnd p) (writer_keeps (objects_of h) p writer_there) free)

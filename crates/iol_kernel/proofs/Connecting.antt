@@ -231,7 +231,7 @@ module _ (h : KernelState) (t : Stored) (c : ℕ) (x y : Conn (List Slice)) (sou
     pub turned_leaves : (F : Connection → Connection) → ((f : Reading) → F (conn_view (read f) x) ≡ conn_view (read f) y) → KeepsPages h.store t [] → Leaves (λ s. record s { conns = changed s.conns c (F (machine.conn_at s c)) }) h turned
     turned_leaves F as_meant pages = leaves (λ s. record s { conns = changed s.conns c (F (machine.conn_at s c)) }) h turned
         (λ f. turned-read lists f ∙ ap (λ (w : Connection). record (read_of f h) { conns = changed (read_of f h).conns c w }) (sym (ap F (conn_at-is f.at (read_of f h) c x (conn_found f h c x found)) ∙ as_meant f)))
-        refl stays pages sound.domains (turned_good readable) turned-sound
+        refl refl stays pages sound.domains (turned_good readable) turned-sound
 
 -- the table that has it so
 pub turned_table : (h : KernelState) (t : Stored) (c : ℕ) (x y : Conn (List Slice)) (sound : IsSound h) (found : lookup h.conns c ≡ Some x) (old new : ConnTable) → old.conns ≡ h.conns → old.next ≡ h.next_conn → new ≡ table.with_conn old c y
@@ -296,7 +296,7 @@ module _ (h : KernelState) (c : ℕ) (x : Conn (List Slice)) (sound : IsSound h)
   pub settled_stays : is_over x ≡ false → Leaves (λ s. machine.with_conn s c (machine.conn_at s c)) h h
   settled_stays on' = leaves (λ s. machine.with_conn s c (machine.conn_at s c)) h h
       (λ f. sym (not_over (read_of f h) c h.next_conn (conn_view (read f) x) (rising-read_of f h sound) (conn_found f h c x found) (over_meant f.at x ∙ on')))
-      refl (stays_here h.store) (pages_here h.store) sound.domains sound.objects sound
+      refl refl (stays_here h.store) (pages_here h.store) sound.domains sound.objects sound
 
   module _ (t : Stored) (over : is_over x ≡ true) (moves : Moves h.store t (held_by x) []) (lists : SameLists h.store t) (frees : FreesOnly h.store t) (settled : AllSettled t) where
     abbrev gone : KernelState
@@ -361,7 +361,7 @@ module _ (h : KernelState) (c : ℕ) (x : Conn (List Slice)) (sound : IsSound h)
     pub settled_goes : Leaves (λ s. machine.with_conn s c (machine.conn_at s c)) h gone
     settled_goes = leaves (λ s. machine.with_conn s c (machine.conn_at s c)) h gone
         (λ f. gone-read f ∙ sym (is_over_gone (read_of f h) c (conn_view (read f) x) (conn_found f h c x found) (over_meant f.at x ∙ over)))
-        refl moves.stays (keeps_pages_frees frees) sound.domains gone_good gone-sound
+        refl refl moves.stays (keeps_pages_frees frees) sound.domains gone_good gone-sound
 
     pub settled_as : (cs : Conns) (n : ℕ) → cs ≡ without h.conns c → n ≡ h.next_conn → Leaves (λ s. machine.with_conn s c (machine.conn_at s c)) h (record h { store = t; conns = cs; next_conn = n })
     settled_as cs n rest next' =
@@ -438,6 +438,7 @@ module _ (h : KernelState) (p : ℕ) (sound : IsSound h) (open' : (pool_in h.sto
     arena = refl;
     pools = refl;
     sums = refl;
+    cache = refl;
     sound = joined-sound;
     stays = stays_here h.store;
   }

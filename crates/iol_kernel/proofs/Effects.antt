@@ -99,13 +99,14 @@ unfolding read_of
 moved-read s k stays held e o stored = view-stays s k.store stays k.domains (objects_of k) held k.store.pools e o stored
 
 -- a change of the tables that is the same whatever is read, while the store goes on
-pub leaves : (after : State → State) (h k : KernelState) → ((f : Reading) → read_of f k ≡ after (read_of f h)) → k.sums ≡ h.sums
+pub leaves : (after : State → State) (h k : KernelState) → ((f : Reading) → read_of f k ≡ after (read_of f h)) → k.sums ≡ h.sums → k.cache ≡ h.cache
     → Stays h.store k.store → KeepsPages h.store k.store [] → Each (IsDomainReadable h.store) k.domains → AreReadable h.store (objects_of k) → IsSound k → Leaves after h k
-leaves after h k reads sums stays pages e o sound = record {
+leaves after h k reads sums cache stays pages e o sound = record {
   bytes = λ stored. moved-read h.store k stays (counted_held sound.counted) e o stored ∙ reads (bytes_over stored h.store);
   places = λ f keeps. reads f;
   pages = pages;
   sums = sums;
+  cache = cache;
   sound = sound;
   stays = stays;
 }
@@ -130,7 +131,7 @@ moved-sound s k stays counted tidy still settled e o fds once limits pooled sums
 
 -- the tables change, and the store stays
 pub leaves_here : (after : State → State) (h : KernelState) (ds : List (Domain (List Slice))) → ((f : Reading) → read_of f (record h { domains = ds }) ≡ after (read_of f h)) → IsSound (record h { domains = ds }) → Leaves after h (record h { domains = ds })
-leaves_here after h ds reads sound = record { bytes = λ stored. reads (bytes_over stored h.store); places = λ f keeps. reads f; pages = pages_here h.store; sums = refl; sound = sound; stays = stays_here h.store }
+leaves_here after h ds reads sound = record { bytes = λ stored. reads (bytes_over stored h.store); places = λ f keeps. reads f; pages = pages_here h.store; sums = refl; cache = refl; sound = sound; stays = stays_here h.store }
 
 -- a late refusal
 pub keeps_late : {A : Type 0} (m : State → Meaning A) (h k : KernelState) (x : Refusal) → k ≡ h → IsSound h → ((f : Reading) → first (m (read_of f h)).refusals ≡ None) → ((f : Reading) → (m (read_of f h)).Late x) → KeepsPlaces m h (Err x) k
@@ -139,6 +140,7 @@ keeps_late {A} m h k x same sound none late = subst (λ (l : KernelState). Keeps
   places = λ f keeps. (of (m (read_of f h)) (none f) (late f), refl);
   pages = pages_here h.store;
   sums = refl;
+  cache = refl;
   refused = refl;
   sound = sound;
   stays = stays_here h.store;
@@ -158,13 +160,14 @@ leaves_then m n h k l pools one two = record {
   places = λ f keeps. two.places f keeps ∙ ap n (one.places f keeps);
   pages = keeps_pages_trans (same_lists h k (ap (λ (s : State). s.pools) (one.bytes []) ∙ pools (machine_of [] h))) one.pages two.pages;
   sums = two.sums ∙ one.sums;
+  cache = two.cache ∙ one.cache;
   sound = two.sound;
   stays = stays_trans one.stays two.stays;
 }
 
 -- the same change, said in other words
 pub leaves_as : (m n : State → State) (h k : KernelState) → ((f : Reading) → m (read_of f h) ≡ n (read_of f h)) → Leaves m h k → Leaves n h k
-leaves_as m n h k same one = record { bytes = λ stored. one.bytes stored ∙ same (bytes_over stored h.store); places = λ f keeps. one.places f keeps ∙ same f; pages = one.pages; sums = one.sums; sound = one.sound; stays = one.stays }
+leaves_as m n h k same one = record { bytes = λ stored. one.bytes stored ∙ same (bytes_over stored h.store); places = λ f keeps. one.places f keeps ∙ same f; pages = one.pages; sums = one.sums; cache = one.cache; sound = one.sound; stays = one.stays }
 
 -- a domain gets an aggregate of new bytes
 
@@ -222,6 +225,7 @@ placed_alone h t ds d pool n text sound adds = record {
   slices = adds.slices;
   each = placed-read h t ds d text (lowest_of h.store pool n) sound adds;
   sums = refl;
+  cache = refl;
   made_on = adds.made_on;
   pages = adds.pages;
 }
@@ -246,7 +250,7 @@ module _ (h : KernelState) (t : Stored) (ds : List (Domain (List Slice))) (d a :
       (fds_stay (objects_of h) h.domains d _ sound.fds refl) (once_same h.domains d _ live refl sound.once) (limits_drop h.domains (objects_of h) d a xs sound.limits live found) (same_pooled h.store t h.conns h.cache.files lists sound.pooled) sound.sums sound.filed sound.cached (keeps_pages_frees frees).count)
 
   pub dropped : Leaves (λ s. aggs.without_agg s d a) h (record h { store = t; domains = ds })
-  dropped = leaves (λ s. aggs.without_agg s d a) h (record h { store = t; domains = ds }) dropped-read refl moves.stays (keeps_pages_frees frees) (subst (λ (ys : List (Domain (List Slice))). Each (IsDomainReadable h.store) ys) (sym rest) (drop_readable h d a sound)) sound.objects dropped-sound
+  dropped = leaves (λ s. aggs.without_agg s d a) h (record h { store = t; domains = ds }) dropped-read refl refl moves.stays (keeps_pages_frees frees) (subst (λ (ys : List (Domain (List Slice))). Each (IsDomainReadable h.store) ys) (sym rest) (drop_readable h d a sound)) sound.objects dropped-sound
 
 -- pools come and go; nothing is placed and nothing given up
 
@@ -266,10 +270,10 @@ module _ (h : KernelState) (t : Stored) (sound : IsSound h) (moves : Moves h.sto
   pool_closed-read p closed f = closed-view f h.domains h.store.pools t.pools (objects_of h) p closed
 
   pub pooled : (list : List ℕ) → map pool_meant t.pools ≡ map pool_meant h.store.pools ++ record { domains = list; closed = false } ∷ [] → length h.store.pools < MAX_POOLS → Leaves (λ s. record s { pools = s.pools ++ record { domains = list; closed = false } ∷ [] }) h (record h { store = t })
-  pooled list added few = leaves (λ s. record s { pools = s.pools ++ record { domains = list; closed = false } ∷ [] }) h (record h { store = t }) (pooled-read list added) refl moves.stays pages sound.domains sound.objects (unmoved-sound (one_more_pool h.store t h.conns h.cache.files (record { domains = list; closed = false }) added few sound.pooled))
+  pooled list added few = leaves (λ s. record s { pools = s.pools ++ record { domains = list; closed = false } ∷ [] }) h (record h { store = t }) (pooled-read list added) refl refl moves.stays pages sound.domains sound.objects (unmoved-sound (one_more_pool h.store t h.conns h.cache.files (record { domains = list; closed = false }) added few sound.pooled))
 
   pub pool_closed : (p : ℕ) → (list_any (λ x. x.pool == p) h.files || list_any (λ e. e.1.pool == p) h.conns) ≡ false → map pool_meant t.pools ≡ map pool_meant (with_closed h.store.pools p) → Leaves (λ s. record s { pools = with_numbered s.pools p (record (machine.pool s p) { closed = true }) }) h (record h { store = t })
-  pool_closed p idle closed = leaves (λ s. record s { pools = with_numbered s.pools p (record (machine.pool s p) { closed = true }) }) h (record h { store = t }) (pool_closed-read p closed) refl moves.stays pages sound.domains sound.objects (unmoved-sound (one_closed h.store t h.conns h.files h.cache.files p sound.filed idle closed sound.pooled))
+  pool_closed p idle closed = leaves (λ s. record s { pools = with_numbered s.pools p (record (machine.pool s p) { closed = true }) }) h (record h { store = t }) (pool_closed-read p closed) refl refl moves.stays pages sound.domains sound.objects (unmoved-sound (one_closed h.store t h.conns h.files h.cache.files p sound.filed idle closed sound.pooled))
 
 -- a domain's descriptors change
 
@@ -300,6 +304,7 @@ default_set h ds d p sound live is = record {
   arena = refl;
   pools = refl;
   sums = refl;
+  cache = refl;
   sound = default-sound h ds d p sound live is;
   stays = stays_here h.store;
 }

@@ -103,6 +103,7 @@ module _ (h : KernelState) (ds : List (Domain (List Slice))) (d a e : ℕ) (live
     arena = refl;
     pools = refl;
     sums = refl;
+    cache = refl;
     sound = given-sound sound to_live there;
     stays = stays_here h.store;
   }

@@ -123,7 +123,7 @@ module _ (h : KernelState) (t : Stored) (ds : Domains) (d : ℕ) (es : List (ℕ
       (fds_stay (objects_of h) h.domains d emptied sound.fds refl) (once_same h.domains d emptied live refl sound.once) emptied_limits (same_pooled h.store t h.conns h.cache.files lists sound.pooled) sound.sums sound.filed sound.cached (keeps_pages_frees frees).count)
 
   pub aggs_dropped : Leaves (λ s. machine.with_domain s d (record (machine.domain s d) { aggs = [] })) h (record h { store = t; domains = ds })
-  aggs_dropped = leaves (λ s. machine.with_domain s d (record (machine.domain s d) { aggs = [] })) h (record h { store = t; domains = ds }) emptied-read refl moves.stays (keeps_pages_frees frees) (subst (λ (ys : Domains). Each (IsDomainReadable h.store) ys) (sym rest) emptied_good) sound.objects emptied-sound
+  aggs_dropped = leaves (λ s. machine.with_domain s d (record (machine.domain s d) { aggs = [] })) h (record h { store = t; domains = ds }) emptied-read refl refl moves.stays (keeps_pages_frees frees) (subst (λ (ys : Domains). Each (IsDomainReadable h.store) ys) (sym rest) emptied_good) sound.objects emptied-sound
 
 -- and the domain itself
 

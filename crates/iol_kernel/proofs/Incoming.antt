@@ -217,6 +217,7 @@ module _ (h k : KernelState) (d fd c n : ℕ) (sound : IsSound h) (from : (f : R
       arena = takes.shares.arena;
       pools = takes.shares.pools;
       sums = ap (λ (l : KernelState). l.sums) same;
+      cache = ap (λ (l : KernelState). l.cache) same;
       sound = subst IsSound (sym is_taken) taken-sound;
       stays = (shares_move takes.shares).stays;
     }

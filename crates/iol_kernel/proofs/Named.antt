@@ -1,5 +1,5 @@
 -- Files by name, and a new one.
-use Rattle.std.proofs.Common.{◌≡◌, ℕ, zero, suc, ◌+◌, ◌-◌, ◌<◌, ◌≤◌, ◌∙◌, Bool, true, false, cond, List, [], ◌∷◌, ◌++◌, length, get_or, map, Option, Some, None, refl, sym, ap, subst, arith, inl, inr}
+use Rattle.std.proofs.Common.{◌≡◌, ℕ, zero, suc, ◌+◌, ◌-◌, ◌<◌, ◌≤◌, ◌∙◌, Bool, true, false, cond, List, [], ◌∷◌, ◌++◌, length, length-append, get_or, map, Option, Some, None, refl, sym, ap, subst, arith, inl, inr}
 use Rattle.std.specs.Prelude.{MatchOption, Ok, Err, position, option_map, is_some, bytes_eq, flat_map, min, nat_lt, not, sum_by, ◌||◌}
 use Rattle.std.specs.List.{list_any, position_or_len, range_with_len}
 use Rattle.std.proofs.lemmas.Bool.{cases_eq, cases_lt}
@@ -7,7 +7,7 @@ use Rattle.std.proofs.lemmas.Bool.Decides.{nat_tests}
 use Rattle.std.proofs.lemmas.List.{length-map, map-append, get_or_append_left, get_or_past}
 use Rattle.std.proofs.lemmas.List.FromFn.{get_or-map-range_with_len, length-map-range_with_len}
 use Rattle.std.proofs.lemmas.List.Sums.{sum_by_push}
-use Rattle.iol_core.specs.Numbered.{numbered_or}
+use Rattle.iol_core.specs.Numbered.{is_numbered, numbered_or}
 use Rattle.iol_core.specs.Meaning.{Meaning, first}
 use Rattle.iol_core.specs.State as machine
 use Rattle.iol_core.specs.State.{State, Domain}
@@ -25,11 +25,12 @@ use Rattle.iol_hold.specs.Texts.{bufs_of}
 use Rattle.iol_hold.specs.declared.slices.Slice.{Slice}
 use Rattle.iol_hold.proofs.Counting.{tally_none}
 use Rattle.iol_cache.specs.Cached.{Cached, file_in, no_file, new_file, extents_in, all_parts, held}
-use Rattle.iol_cache.specs.Contents.{file_bytes}
+use Rattle.iol_cache.specs.Contents.{AreStored, file_bytes}
+use Rattle.iol_extent.specs.Extents.{Extent}
 use Rattle.iol_cache.specs.Sound as cache
 use Rattle.iol_cache.specs.declared.files.CachedFile.{CachedFile}
-use Rattle.iol_cache.proofs.Filing.{additive_tally, file_nowhere, sum-flat}
-use Rattle.iol_kernel.specs.Calls.{Answers, Names}
+use Rattle.iol_cache.proofs.Filing.{numbered_bounds, numbered_yes, additive_tally, file_nowhere, sum-flat}
+use Rattle.iol_kernel.specs.Calls.{AddsFile, Names}
 use Rattle.iol_kernel.specs.Files.{file_of, files_of}
 use Rattle.iol_kernel.specs.KernelState.{KernelState, objects_of, Each, AreFiled, IsCached, IsFile, IsOpenEnd, IsSound, read_of, machine_of}
 use Rattle.iol_kernel.specs.Readings.{Reading, KeepsPools, bytes_over, slot_read, slots_read}
@@ -37,7 +38,6 @@ use Rattle.iol_kernel.specs.Views.{state_view}
 use Rattle.iol_kernel.specs.declared.files.File.{File}
 use Rattle.iol_kernel.proofs.Slots.{file_bytes-none}
 use Rattle.iol_kernel.proofs.Sound.{each-push, each-weaker}
-use Rattle.iol_kernel.proofs.Stay.{stays_here}
 
 pub files-read_of : (f : Reading) (h : KernelState) → (read_of f h).files ≡ h.files
 unfolding read_of state_view
@@ -90,6 +90,9 @@ no_extents fs n past = ap (λ (x : CachedFile). x.extents.extents) (file_nowhere
 slot-new : (f : Reading) (fs : Files) (n : ℕ) → length fs < n → slot_read f fs n ≡ content f.stored n
 slot-new f fs n past =
     ap (file_bytes (λ p. (f.at p).0) (content f.stored n)) (no_extents fs n past) ∙ file_bytes-none (λ p. (f.at p).0) (content f.stored n)
+
+pub numbered_more : {A : Type 0} (xs ys : List A) (n : ℕ) → is_numbered xs n ≡ true → is_numbered (xs ++ ys) n ≡ true
+numbered_more xs ys n is = let bounds = numbered_bounds xs n is in numbered_yes (xs ++ ys) n bounds.0 (omega (arith, bounds.1, length-append xs ys))
 
 pub as_many : (h : KernelState) → AreFiled h.files h.cache.files → length h.cache.files ≡ length h.files
 as_many h filed = sym (length-map h.cache.files (λ (x : CachedFile). x.pool)) ∙ ap length filed ∙ length-map h.files (λ (x : machine.File). x.pool)
@@ -175,7 +178,7 @@ module _ (h : KernelState) (name : List ℕ) (p : ℕ) (c : Cached) (sound : IsS
   same_end None is = tt
   same_end (Some (on.ReadEnd q)) is = is
   same_end (Some (on.WriteEnd q)) is = is
-  same_end (Some (on.File f at mode)) is = is
+  same_end (Some (on.File f at mode)) is = (numbered_more h.files (file ∷ []) f is.0, is.1)
   same_end (Some (on.Connection n)) is = is
 
   filed : AreFiled named.files c.files
@@ -184,6 +187,9 @@ module _ (h : KernelState) (name : List ℕ) (p : ℕ) (c : Cached) (sound : IsS
       ∙ map-append (λ (x : CachedFile). x.pool) h.cache.files (new_file p ∷ [])
       ∙ ap (λ (ps : List ℕ). ps ++ p ∷ []) sound.filed
       ∙ sym (map-append (λ (x : machine.File). x.pool) h.files (file ∷ []))
+
+  longer : length c.files ≡ length h.cache.files + 1
+  longer = ap length added ∙ length-append h.cache.files (new_file p ∷ [])
 
   named-sound : IsSound named
   unfolding IsCached
@@ -224,48 +230,34 @@ module _ (h : KernelState) (name : List ℕ) (p : ℕ) (c : Cached) (sound : IsS
   named-read f =
       ap (λ (xs : List (List ℕ)). record (read_of f h) { files = h.files ++ file ∷ []; slots = xs }) (ap (slots_read f) added ∙ slots-push f h.cache.files p)
 
-  pub named_answers : (d n : ℕ) → n ≡ length h.cache.files + 1 → Answers (λ s. calls.file_new s d name p) h n named
+  pub named_answers : (d n : ℕ) → n ≡ length h.cache.files + 1 → AddsFile (λ s. calls.file_new s d name p) h n named
   named_answers d n number = record {
     answer = λ f keeps. number ∙ ap (λ k. k + 1) (as_many h sound.filed ∙ ap length (sym (files-read_of f h)));
     after = λ f keeps. named-read f;
-    arena = refl;
-    pools = refl;
+    backed = λ disk short backed. record {
+      honest = backed.honest;
+      short = λ f there. elim (cases_lt f (length c.files)) [
+        | inl l ↦ backed.short f (let bounds = numbered_bounds c.files f there in numbered_yes h.cache.files f bounds.0 (omega (arith, l, longer)))
+        | inr l ↦ (let bounds = numbered_bounds c.files f there in
+            let last : length h.files + 1 ≡ f = omega (arith, l, bounds.1, longer, as_many h sound.filed) in
+            subst (λ k. length (content disk.slots k) ≤ MAX_FILE_BYTES) last short)
+      ];
+      mirrors = record {
+        each = λ f. subst (λ (es : List Extent). AreStored h.store (content disk.slots f) es) (sym (ap (λ (fs : Files). extents_in fs f) added ∙ extents-push h.cache.files p f)) (backed.mirrors.each f);
+      };
+    };
+    store = refl;
     sums = refl;
     sound = named-sound;
-    stays = stays_here h.store;
   }
 
 -- the tables that have it
 pub named_as : (h : KernelState) (d n p : ℕ) (name : List ℕ) (files : List machine.File) (c : Cached) → IsSound h → n ≡ length h.cache.files + 1 → (let x : machine.File = record { name = name; pool = p } in files ≡ h.files ++ x ∷ [])
-    → c.files ≡ h.cache.files ++ new_file p ∷ [] → cache.IsSound h.store c → Answers (λ s. calls.file_new s d name p) h n (record h { files = files; cache = c })
+    → c.files ≡ h.cache.files ++ new_file p ∷ [] → cache.IsSound h.store c → AddsFile (λ s. calls.file_new s d name p) h n (record h { files = files; cache = c })
 named_as h d n p name files c sound number listed added kept =
-    subst (λ (fs : List machine.File). Answers (λ s. calls.file_new s d name p) h n (record h { files = fs; cache = c })) (sym listed) (named_answers h name p c sound added kept d n number)
+    subst (λ (fs : List machine.File). AddsFile (λ s. calls.file_new s d name p) h n (record h { files = fs; cache = c })) (sym listed) (named_answers h name p c sound added kept d n number)
 
 -- what holds in the cache that the kernel has
 pub cache_sound : (h : KernelState) → IsSound h → cache.IsSound h.store h.cache
 unfolding IsCached
 cache_sound h sound = sound.cached
-
-pub names : (disk : Disk) (m : State → Meaning ℕ) (h : KernelState) (k : KernelState) (n : ℕ) → (IfHonest disk (first (m (machine_of disk.slots h)).refusals ≡ None)) → KeepsPools (bytes_over disk.slots h.store) → k.store ≡ h.store → Answers m h n k → Names disk m h (Ok n) k
-names disk m h k n passed keeps same one = record {
-  step = λ honest. (passed honest, one.answer (bytes_over disk.slots h.store) keeps, ap (λ (s : Stored). read_of (bytes_over disk.slots s) k) same ∙ one.after (bytes_over disk.slots h.store) keeps);
-  store = same;
-  roomy = λ p e. cc e;
-  refused = tt;
-  sums = one.sums;
-  sound = one.sound;
-}
-
--- for want of memory
-pub unnamed : (disk : Disk) (m : State → Meaning ℕ) (h k : KernelState) → (IfHonest disk (first (m (machine_of disk.slots h)).refusals ≡ None)) → ((s : State) → (m s).Late Memory) → k ≡ h → IsSound h → Names disk m h (Err Memory) k
-unnamed disk m h k passed late same sound = subst (λ (l : KernelState). Names disk m h (Err Memory) l) (sym same) (record {
-  step = λ honest. (of (m (machine_of disk.slots h)) (passed honest) (late (machine_of disk.slots h)), refl);
-  store = refl;
-  roomy = λ p e. cc e;
-  refused = refl;
-  sums = refl;
-  sound = sound;
-})
-  where
-    of : (n : Meaning ℕ) → first n.refusals ≡ None → n.Late Memory → MatchOption (first n.refusals) (n.Late Memory) (λ y. Memory ≡ y)
-    of n none late = rw none late

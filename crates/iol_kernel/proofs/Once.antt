@@ -7,6 +7,7 @@ use Rattle.std.proofs.lemmas.List.{get_or_past}
 use Rattle.std.proofs.lemmas.List.Sums.{sum_by-set, sum_by_push, sum_by-cons}
 use Rattle.iol_core.specs.Numbered.{in_place, placed, lowest}
 use Rattle.iol_core.specs.State.{Domain}
+use Rattle.iol_core.specs.declared.descriptors.Mode.{Mode}
 use Rattle.iol_core.specs.declared.descriptors.Descriptor.{Descriptor}
 use Rattle.iol_core.specs.declared.descriptors.Descriptor.TheVariants as on
 use Rattle.iol_hold.specs.declared.slices.Slice.{Slice}
@@ -65,6 +66,13 @@ ends-freed e x xs n is =
     let c = sum_by-set (on_end e) xs n none none (taken_within xs n x is) in
     omega (arith, c, ap (on_end e) is)
 
+-- it is open on something else
+pub ends-set : (e : Descriptor) (y : Option Descriptor) (xs : List (Option Descriptor)) (n : ℕ) (x : Descriptor) → in_place xs n ≡ Some x → ends_on e (slice_set xs n y) + same_end e x ≡ ends_on e xs + on_end e y
+ends-set e y xs n x is =
+    let none : Option Descriptor = None in
+    let c = sum_by-set (on_end e) xs n y none (taken_within xs n x is) in
+    omega (arith, c, ap (on_end e) is)
+
 pub once_freed : (ds : Domains) (d fd : ℕ) (x : Descriptor) → (domain_in ds d).live ≡ true → in_place (domain_in ds d).fds fd ≡ Some x → IsOpenOnce ds → IsOpenOnce (with_fds_in ds d (slice_set (domain_in ds d).fds fd None))
 once_freed ds d fd x live is once = once_fewer ds d (record (domain_in ds d) { fds = slice_set (domain_in ds d).fds fd None }) live (λ e. omega (arith, ends-freed e x (domain_in ds d).fds fd is)) once
 
@@ -85,11 +93,26 @@ same_end-differs (on.Connection c) (on.ReadEnd q) differ = refl
 same_end-differs (on.Connection c) (on.WriteEnd q) differ = refl
 same_end-differs (on.Connection c) (on.File f at mode) differ = refl
 
-pub same_end-itself : (qs : Objects (List Slice)) (x : Descriptor) → IsOpenEnd qs (Some x) → same_end x x ≡ 1
-same_end-itself qs (on.ReadEnd p) h = grind (arith, nat_tests)
-same_end-itself qs (on.WriteEnd p) h = grind (arith, nat_tests)
-same_end-itself qs (on.File f at mode) h = absurd h
-same_end-itself qs (on.Connection c) h = grind (arith, nat_tests)
+-- of a file no descriptor is counted
+
+ends_on-file : (f at : ℕ) (mode : Mode) (fds : List (Option Descriptor)) → ends_on (on.File f at mode) fds ≡ 0
+ends_on-file f at mode [] = refl
+ends_on-file f at mode (None ∷ fds) = let none : Option Descriptor = None in omega (arith, sum_by-cons (on_end (on.File f at mode)) none fds, ends_on-file f at mode fds)
+ends_on-file f at mode (Some y ∷ fds) = omega (arith, sum_by-cons (on_end (on.File f at mode)) (Some y) fds, ends_on-file f at mode fds)
+
+all_ends_on-file : (f at : ℕ) (mode : Mode) (ds : Domains) → all_ends_on (on.File f at mode) ds ≡ 0
+all_ends_on-file f at mode [] = refl
+all_ends_on-file f at mode (d ∷ ds) = omega (arith, sum_by-cons (λ (y : Domain (List Slice)). ends_on (on.File f at mode) y.fds) d ds, ends_on-file f at mode d.fds, all_ends_on-file f at mode ds)
+
+alone : (x : Descriptor) (rest : List (Option Descriptor)) (ds : Domains) → same_end x x ≡ 1 → all_ends_on x ds + (same_end x x + ends_on x rest) ≤ 1 → (all_ends_on x ds ≡ 0) × (ends_on x rest ≡ 0)
+alone x rest ds itself once = (omega (arith, itself, once), omega (arith, itself, once))
+
+-- an end that is open once at most is open in no other descriptor; a file may be, and is counted in none
+pub end_alone : (x : Descriptor) (rest : List (Option Descriptor)) (ds : Domains) → all_ends_on x ds + (same_end x x + ends_on x rest) ≤ 1 → (all_ends_on x ds ≡ 0) × (ends_on x rest ≡ 0)
+end_alone (on.ReadEnd p) rest ds once = alone (on.ReadEnd p) rest ds (grind (arith, nat_tests)) once
+end_alone (on.WriteEnd p) rest ds once = alone (on.WriteEnd p) rest ds (grind (arith, nat_tests)) once
+end_alone (on.File f at mode) rest ds once = (all_ends_on-file f at mode ds, ends_on-file f at mode rest)
+end_alone (on.Connection c) rest ds once = alone (on.Connection c) rest ds (grind (arith, nat_tests)) once
 
 one_at_most : (b : Bool) → cond b 1 0 ≤ 1
 one_at_most true = omega arith

@@ -17,12 +17,12 @@ use Rattle.iol_hold.specs.declared.slices.Slice.{Slice}
 use Rattle.iol_hold.proofs.Reading.{readable_none}
 use Rattle.iol_desc.specs.Tables.{domain_in, with_domain_in, with_fds_in, with_next_fd, with_ends}
 use Rattle.iol_kernel.specs.Views.{Pipe, Objects, state_view}
-use Rattle.iol_kernel.specs.Ends.{all_ends_on, IsOpenOnce}
+use Rattle.iol_kernel.specs.Ends.{same_end, ends_on, all_ends_on, IsOpenOnce}
 use Rattle.iol_kernel.specs.KernelState.{KernelState, objects_of, Each, IsOpenEnd, IsPipeReadable, IsSound, IsShort, read_of}
 use Rattle.iol_kernel.specs.Readings.{Reading, read}
 use Rattle.iol_kernel.proofs.Views.{add_pipe-view, lowest-view}
 use Rattle.iol_kernel.proofs.Sound.{with_pipes, each-set, each-get, each-weaker, each-placed, ends_open}
-use Rattle.iol_kernel.proofs.Once.{same_end-itself, ends-with_domain, ends-placed, ends-freed, once_fewer, once_freed, both_once, all_ends_closed}
+use Rattle.iol_kernel.proofs.Once.{end_alone, ends-with_domain, ends-placed, ends-freed, once_fewer, once_freed, both_once, all_ends_closed}
 use Rattle.iol_kernel.proofs.Ends.{ends_placed, lowest_closed, new_reading, new_writing}
 use Rattle.iol_kernel.proofs.Effects.{fds-sound, fds-changed}
 use Rattle.iol_kernel.proofs.Rows.{domain_in-with_other, with_domain_in-comm}
@@ -117,6 +117,7 @@ piped_answers h ds qs d r sound live few numbers domains' pipes' = record {
   arena = refl;
   pools = refl;
   sums = refl;
+  cache = refl;
   sound = piped-sound h ds qs d sound live few domains' pipes';
   stays = stays_here h.store;
 }
@@ -133,15 +134,17 @@ freed-sound h ds d fd x sound live there is =
     fds-sound h ds d (slice_set (domain_in h.domains d).fds fd None) sound live is (each-set (IsOpenEnd (objects_of h)) (domain_in h.domains d).fds fd None (ends_open h d sound) tt) (once_freed h.domains d fd x live there sound.once)
 
 -- then no other is open on its end
-pub freed-alone : (h : KernelState) (ds : List (Domain (List Slice))) (d fd : ℕ) (x : Descriptor) → IsSound h → (domain_in h.domains d).live ≡ true → in_place (domain_in h.domains d).fds fd ≡ Some x → IsOpenEnd (objects_of h) (Some x) → ds ≡ with_fds_in h.domains d (slice_set (domain_in h.domains d).fds fd None) → all_ends_on x ds ≡ 0
-freed-alone h ds d fd x sound live there open' is = omega (
-  arith,
-  ap (all_ends_on x) is,
-  sound.once.each x,
-  ends-with_domain x h.domains d (record (domain_in h.domains d) { fds = slice_set (domain_in h.domains d).fds fd None }) live,
-  ends-freed x x (domain_in h.domains d).fds fd there,
-  same_end-itself (objects_of h) x open',
-)
+pub freed-alone : (h : KernelState) (ds : List (Domain (List Slice))) (d fd : ℕ) (x : Descriptor) → IsSound h → (domain_in h.domains d).live ≡ true → in_place (domain_in h.domains d).fds fd ≡ Some x → ds ≡ with_fds_in h.domains d (slice_set (domain_in h.domains d).fds fd None) → all_ends_on x ds ≡ 0
+freed-alone h ds d fd x sound live there is = (end_alone x [] ds once).0
+  where
+    once : all_ends_on x ds + (same_end x x + ends_on x []) ≤ 1
+    once = omega (
+      arith,
+      ap (all_ends_on x) is,
+      sound.once.each x,
+      ends-with_domain x h.domains d (record (domain_in h.domains d) { fds = slice_set (domain_in h.domains d).fds fd None }) live,
+      ends-freed x x (domain_in h.domains d).fds fd there,
+    )
 
 -- a descriptor moves
 
@@ -184,6 +187,7 @@ moved_within h ds d fd to n x sound live same there open' number is = record {
   arena = refl;
   pools = refl;
   sums = refl;
+  cache = refl;
   sound = within-sound h ds d fd x sound live there open' is;
   stays = stays_here h.store;
 }
@@ -256,6 +260,7 @@ moved_across h ms ds d fd to n x sound differ to_live live there open' number op
   arena = refl;
   pools = refl;
   sums = refl;
+  cache = refl;
   sound = across-sound h ms ds d fd to x sound differ to_live live there open' opened' closed';
   stays = stays_here h.store;
 }

@@ -95,6 +95,7 @@ module _ (h : KernelState) (d fd a c : ℕ) (from : List Slice) (sound : IsSound
     roomy = λ p e. no_room (first (queue_refusals (conn_in h.conns c) (byte_len from))) r p (two_tests _ _) refused (error e);
     refused = refl;
     sums = refl;
+    cache = refl;
     sound = sound;
     stays = stays_here h.store;
   })
@@ -171,6 +172,7 @@ module _ (h : KernelState) (d fd a c : ℕ) (from : List Slice) (sound : IsSound
       roomy = λ p e. never n p e;
       refused = tt;
       sums = ap (λ (l : KernelState). l.sums) same;
+      cache = ap (λ (l : KernelState). l.cache) same;
       sound = subst IsSound (sym same) fuller-sound;
       stays = (shares_move shares).stays;
     }

@@ -156,19 +156,19 @@ module _ (h : KernelState) (t : Stored) (ds : List (Domain (List Slice))) (qs : 
         (once_same h.domains d (record x { aggs = x.aggs ++ (x.next_agg, takes.slices) ∷ []; next_agg = x.next_agg + 1 }) live refl sound.once)
         (limits_agg h.domains (record (objects_of h) { pipes = less }) d takes.slices (queue_limits h p (queue_at qs p).queue sound parts_short.1) live (omega (arith, parts_short.0)) few) (pools_pooled h.store t h.conns h.cache.files takes.shares.pools sound.pooled) sound.sums sound.filed sound.cached (ap page_count takes.shares.arena)))
 
--- An open descriptor that is neither a connection nor a pipe's end for writing, or for reading, is not open for it.
+-- An open descriptor that is neither a connection nor a file nor a pipe's end for writing, or for reading, is not open for it.
 
-pub not_writable : (qs : Objects (List Slice)) (x : Descriptor) → IsOpenEnd qs (Some x) → ((p : ℕ) → x ≡ on.WriteEnd p → ⊥) → ((c : ℕ) → x ≡ on.Connection c → ⊥) → writing.can_write (Some x) ≡ false
-not_writable qs (on.ReadEnd p) open' other none = refl
-not_writable qs (on.WriteEnd p) open' other none = absurd (other p refl)
-not_writable qs (on.File f at mode) open' other none = absurd open'
-not_writable qs (on.Connection c) open' other none = absurd (none c refl)
+pub not_writable : (x : Descriptor) → ((p : ℕ) → x ≡ on.WriteEnd p → ⊥) → ((c : ℕ) → x ≡ on.Connection c → ⊥) → writing.is_file (Some x) ≡ false → writing.can_write (Some x) ≡ false
+not_writable (on.ReadEnd p) other none no_file = refl
+not_writable (on.WriteEnd p) other none no_file = absurd (other p refl)
+not_writable (on.File f at mode) other none no_file = absurd cc
+not_writable (on.Connection c) other none no_file = absurd (none c refl)
 
-pub not_readable : (qs : Objects (List Slice)) (x : Descriptor) → IsOpenEnd qs (Some x) → ((p : ℕ) → x ≡ on.ReadEnd p → ⊥) → ((c : ℕ) → x ≡ on.Connection c → ⊥) → reading.can_read (Some x) ≡ false
-not_readable qs (on.ReadEnd p) open' other none = absurd (other p refl)
-not_readable qs (on.WriteEnd p) open' other none = refl
-not_readable qs (on.File f at mode) open' other none = absurd open'
-not_readable qs (on.Connection c) open' other none = absurd (none c refl)
+pub not_readable : (x : Descriptor) → ((p : ℕ) → x ≡ on.ReadEnd p → ⊥) → ((c : ℕ) → x ≡ on.Connection c → ⊥) → writing.is_file (Some x) ≡ false → reading.can_read (Some x) ≡ false
+not_readable (on.ReadEnd p) other none no_file = absurd (other p refl)
+not_readable (on.WriteEnd p) other none no_file = refl
+not_readable (on.File f at mode) other none no_file = absurd cc
+not_readable (on.Connection c) other none no_file = absurd (none c refl)
 
 -- What the calls answer.
 
@@ -183,6 +183,7 @@ taken_answers h t ds qs fd p d n a sound from takes pipes' live few number =
       arena = takes.shares.arena;
       pools = takes.shares.pools;
       sums = refl;
+      cache = refl;
       sound = taken-sound h t ds qs p d n sound reading' takes pipes' live few;
       stays = (shares_move takes.shares).stays;
     }
@@ -200,6 +201,7 @@ pushed_answers h t qs fd p n d a from sound to found short is places' pipes' sha
       arena = shares.arena;
       pools = shares.pools;
       sums = refl;
+      cache = refl;
       sound = pushed-sound h t qs p n d a from sound writing' found short places' pipes' shares;
       stays = (shares_move shares).stays;
     }

@@ -115,6 +115,7 @@ module _ (h : KernelState) (t : Stored) (ds : List (Domain (List Slice))) (d a a
     arena = splits.shares.arena;
     pools = splits.shares.pools;
     sums = refl;
+    cache = refl;
     sound = split-sound sound live there few;
     stays = (shares_move splits.shares).stays;
   }
@@ -173,6 +174,7 @@ module _ (h : KernelState) (ds : List (Domain (List Slice))) (d a b : ℕ) (join
     arena = refl;
     pools = refl;
     sums = refl;
+    cache = refl;
     sound = join-sound sound live first second differ short;
     stays = stays_here h.store;
   }

@@ -90,6 +90,7 @@ leaves_kept m n h k same one = record {
   places = λ f keeps. one.places f keeps ∙ same f keeps;
   pages = one.pages;
   sums = one.sums;
+  cache = one.cache;
   sound = one.sound;
   stays = one.stays;
 }
@@ -225,7 +226,7 @@ module _ (h : KernelState) (t : Stored) (qs : List (Option (Pipe (List Slice))))
         ∙ ap (λ (w : machine.Pipe). machine.with_pipe m p (record w { queue = drop count w.queue })) (sym (pipe_at-read_of f h p))
 
     drained_leaves : Leaves drained h (record h { store = t; pipes = less })
-    drained_leaves = leaves drained h (record h { store = t; pipes = less }) less-read refl moves.stays (keeps_pages_frees frees) sound.domains less_good less_sound
+    drained_leaves = leaves drained h (record h { store = t; pipes = less }) less-read refl refl moves.stays (keeps_pages_frees frees) sound.domains less_good less_sound
 
     drained_as : (f : Reading) → KeepsPools f → drained (read_of f h) ≡ (reading.read (read_of f h) d fd n).after
     drained_as f keeps =

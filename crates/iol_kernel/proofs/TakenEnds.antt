@@ -1,13 +1,13 @@
 -- Ends that were taken from a domain, and are closed one after another.
-use Rattle.std.proofs.Common.{◌≡◌, ℕ, suc, ◌+◌, ◌<◌, List, [], ◌∷◌, length, drop, ap, ◌∙◌, sym, subst, arith, Option, Some, get_or, true}
+use Rattle.std.proofs.Common.{◌≡◌, ℕ, suc, ◌+◌, ◌<◌, ◌≤◌, List, [], ◌∷◌, length, drop, ap, ◌∙◌, sym, subst, arith, Option, Some, get_or, true}
 use Rattle.std.proofs.Math.Seq.{drop-cons}
 use Rattle.std.proofs.lemmas.List.Sums.{sum_by-cons}
 use Rattle.iol_core.specs.declared.descriptors.Descriptor.{Descriptor}
 use Rattle.iol_desc.specs.Tables.{domain_in, with_fds_in}
-use Rattle.iol_kernel.specs.Ends.{on_end, ends_on, all_ends_on}
+use Rattle.iol_kernel.specs.Ends.{same_end, on_end, ends_on, all_ends_on}
 use Rattle.iol_kernel.specs.KernelState.{KernelState, objects_of, Each, IsOpenEnd, IsSound}
 use Rattle.iol_kernel.specs.ClosedEnds.{AreTaken, KeepsEnds}
-use Rattle.iol_kernel.proofs.Once.{same_end-itself, ends-with_domain, once_fewer}
+use Rattle.iol_kernel.proofs.Once.{end_alone, ends-with_domain, once_fewer}
 use Rattle.iol_kernel.proofs.Sound.{ends_open}
 use Rattle.iol_kernel.proofs.Effects.{fds-sound}
 use Rattle.iol_kernel.proofs.ClosedEnds.{ends_kept}
@@ -42,15 +42,14 @@ module _ (ds : Domains) (qs : Objects (List Slice)) (xs : List (Option Descripto
   first_open = firstly.opened.0
 
   module _ (x : Descriptor) (some : z ≡ Some x) where
+    first_once : all_ends_on x ds + (same_end x x + ends_on x (drop (i + 1) xs)) ≤ 1
+    first_once = let c = sum_by-cons (on_end x) z (drop (i + 1) xs) in omega (arith, c, ap (on_end x) some, firstly.once x)
+
     pub first_alone : all_ends_on x ds ≡ 0
-    first_alone =
-        let c = sum_by-cons (on_end x) z (drop (i + 1) xs) in
-        omega (arith, c, ap (on_end x) some, firstly.once x, same_end-itself qs x (subst (IsOpenEnd qs) some first_open))
+    first_alone = (end_alone x (drop (i + 1) xs) ds first_once).0
 
     later_alone : ends_on x (drop (i + 1) xs) ≡ 0
-    later_alone =
-        let c = sum_by-cons (on_end x) z (drop (i + 1) xs) in
-        omega (arith, c, ap (on_end x) some, firstly.once x, same_end-itself qs x (subst (IsOpenEnd qs) some first_open))
+    later_alone = (end_alone x (drop (i + 1) xs) ds first_once).1
 
     pub later_taken : (new : Objects (List Slice)) → KeepsEnds x qs new → AreTaken ds new (drop (i + 1) xs)
     later_taken new keeps = record {

@@ -65,6 +65,7 @@ sums_back after k l sums sound one = record {
   places = one.places;
   pages = one.pages;
   sums = refl;
+  cache = one.cache;
   sound = summed l k.sums (IsRight-keeps k.store.arena l.store.arena k.sums one.stays.keeps sound.sums) one.sound;
   stays = one.stays;
 }
@@ -154,6 +155,7 @@ module _ (h m l : KernelState) (c max : ℕ) (bytes : List ℕ) (sum : ℕ) (sou
       roomy = λ p e. never (bytes, sum) p e;
       pages = both.pages;
       uses = uses;
+      cache = both.cache;
       refused = tt;
       sound = settled.sound;
       stays = both.stays;
@@ -175,6 +177,7 @@ send_kept h k c max r sound there refused same = subst (λ (l : KernelState). Tr
   roomy = λ p e. no_room (first (segment_refusals (conn_in h.conns c) max)) r p (two_tests (max == 0) (byte_len (conn_in h.conns c).outgoing == 0)) refused (error e);
   pages = pages_here h.store;
   uses = tt;
+  cache = refl;
   refused = refl;
   sound = sound;
   stays = stays_here h.store;

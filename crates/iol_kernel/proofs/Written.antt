@@ -32,7 +32,7 @@ use Rattle.iol_sock.specs.Connections.{Conn, conn_view}
 use Rattle.iol_sock.specs.Refused.{queue_refusals, IsRefused}
 use Rattle.iol_sock.specs.Table.{conn_in}
 use Rattle.iol_sock.proofs.Meaning.{conn_at-is, queues_meant, fits_meant}
-use Rattle.iol_kernel.specs.Calls.{MakesBytes}
+use Rattle.iol_kernel.specs.Calls.{MakesBytes, Steps}
 use Rattle.iol_kernel.specs.Counted.{IsCounted, uses, conn_uses}
 use Rattle.iol_kernel.specs.Queues.{with_queue_of}
 use Rattle.iol_kernel.specs.Views.{Objects, Pipe, pipe_view, state_view}
@@ -59,14 +59,6 @@ put d fd s t = writing.written s d fd (machine.descriptor s d fd) t
 -- no more bytes than fit make no queue too long
 fitted_short : (s t : Stored) (old q : List Slice) (pool n m : ℕ) (bytes : List ℕ) (adds : AddsBytes s t old q pool (take n bytes)) → byte_len old ≤ MAX_QUEUE_BYTES → n ≡ fitting old m → byte_len q ≤ MAX_QUEUE_BYTES
 fitted_short s t old q pool n m bytes adds short number = omega (arith, short, number, ap byte_len adds.added, byte_len-append old adds.slices, ap length adds.is_text, length-text_of t adds.slices, length-map {B = ℕ × ℕ} (take n bytes) (λ b. (b, pool)), length-take n bytes)
-
--- no open end is a file's
-
-pub not_file : (qs : Objects (List Slice)) (x : Descriptor) → IsOpenEnd qs (Some x) → writing.is_file (Some x) ≡ false
-not_file qs (on.ReadEnd p) open' = refl
-not_file qs (on.WriteEnd p) open' = refl
-not_file qs (on.File f at mode) open' = absurd open'
-not_file qs (on.Connection c) open' = refl
 
 -- a pipe that is lent
 
@@ -237,31 +229,31 @@ module _ (h : KernelState) (t : Stored) (p pool : ℕ) (q : List Slice) (bytes :
 
 -- What the call means, of either.
 
-module _ (h k : KernelState) (d fd pool n : ℕ) (old q : List Slice) (bytes : List ℕ) (sound : IsSound h) (passed : first (writing.write (machine_of [] h) d fd bytes).refusals ≡ None) (pool' : pool ≡ writing.pool_for (machine_of [] h) d (machine.descriptor (machine_of [] h) d fd))
-    (number : n ≡ (writing.write (machine_of [] h) d fd bytes).answer) (adds : AddsBytes h.store k.store old q pool (take n bytes)) (each : (f : Reading) → read_of f k ≡ put d fd (read_of f h) (read f adds.slices)) (sums : k.sums ≡ h.sums) where
+module _ (h k : KernelState) (d fd pool n : ℕ) (old q : List Slice) (bytes : List ℕ) (sound : IsSound h) (passed : (f : Reading) → first (writing.write (read_of f h) d fd bytes).refusals ≡ None) (pool' : (f : Reading) → pool ≡ writing.pool_for (read_of f h) d (machine.descriptor (read_of f h) d fd))
+    (number : (f : Reading) → n ≡ (writing.write (read_of f h) d fd bytes).answer) (adds : AddsBytes h.store k.store old q pool (take n bytes)) (each : (f : Reading) → read_of f k ≡ put d fd (read_of f h) (read f adds.slices)) (sums : k.sums ≡ h.sums) (cache : k.cache ≡ h.cache) where
   held' : AreHeld k.store h.domains (objects_of h)
   held' = adds_held h.store k.store h.domains (objects_of h) adds.slices sound.counted adds.moves
 
-  held-read : read_of (bytes_over [] k.store) h ≡ machine_of [] h
+  held-read : (stored : List (List ℕ)) → read_of (bytes_over stored k.store) h ≡ machine_of stored h
   unfolding read_of
-  held-read = view-stays h.store k.store adds.moves.stays h.domains (objects_of h) held' h.store.pools sound.domains sound.objects []
+  held-read stored = view-stays h.store k.store adds.moves.stays h.domains (objects_of h) held' h.store.pools sound.domains sound.objects stored
 
-  pub put_step : Step (writing.write (machine_of [] h) d fd bytes) (machine_of [] h) (Ok n) (machine_of [] k)
-  put_step = (
-    passed,
-    number,
-    each (bytes_over [] k.store)
-        ∙ ap (λ (s : State). put d fd s (text_of k.store adds.slices)) held-read
-        ∙ ap (put d fd (machine_of [] h)) adds.is_text
-        ∙ ap (λ p. put d fd (machine_of [] h) (labelled p (take n bytes))) pool'
-        ∙ ap (λ m. put d fd (machine_of [] h) (labelled (writing.pool_for (machine_of [] h) d (machine.descriptor (machine_of [] h) d fd)) (take m bytes))) number,
+  pub put_step : Steps (λ s. writing.write s d fd bytes) h (Ok n) k
+  put_step stored = let f = bytes_over stored h.store in let s : State = machine_of stored h in (
+    passed f,
+    number f,
+    each (bytes_over stored k.store)
+        ∙ ap (λ (x : State). put d fd x (text_of k.store adds.slices)) (held-read stored)
+        ∙ ap (put d fd s) adds.is_text
+        ∙ ap (λ p. put d fd s (labelled p (take n bytes))) (pool' f)
+        ∙ ap (λ m. put d fd s (labelled (writing.pool_for s d (machine.descriptor s d fd)) (take m bytes))) (number f),
   )
 
   pub put_made : MakesBytes (put d fd) pool n h k
   put_made =
-      let long : n ≤ length bytes = omega (arith, number, fits_all (machine.descriptor (machine_of [] h) d fd)) in
+      let long : n ≤ length bytes = omega (arith, number (bytes_over [] h.store), fits_all (machine.descriptor (machine_of [] h) d fd)) in
       let size : length (take n bytes) ≡ n = omega (arith, length-take n bytes, long) in
-      subst (λ m. MakesBytes (put d fd) pool m h k) size (record { slices = adds.slices; each = each; sums = sums; made_on = adds.made_on; pages = adds.pages })
+      subst (λ m. MakesBytes (put d fd) pool m h k) size (record { slices = adds.slices; each = each; sums = sums; cache = cache; made_on = adds.made_on; pages = adds.pages })
     where
       fits_all : (o : Option Descriptor) → writing.fitting (machine_of [] h) o (length bytes) ≤ length bytes
       fits_all None = omega arith
@@ -272,10 +264,11 @@ module _ (h k : KernelState) (d fd pool n : ℕ) (old q : List Slice) (bytes : L
 
 -- a late refusal, and what there was to refuse before it
 
-pub put_late : (h k : KernelState) (d fd pool : ℕ) (bytes : List ℕ) (r : Refusal) → first (writing.write (machine_of [] h) d fd bytes).refusals ≡ None → pool ≡ writing.pool_for (machine_of [] h) d (machine.descriptor (machine_of [] h) d fd) → WantOfRoom pool r → k ≡ h → Step (writing.write (machine_of [] h) d fd bytes) (machine_of [] h) (Err r) (machine_of [] k)
-put_late h k d fd pool bytes r passed pool' late same = (
-  subst (λ (o : Option Refusal). MatchOption o ((writing.write (machine_of [] h) d fd bytes).Late r) (λ y. r ≡ y)) (sym passed) (subst (λ p. WantOfRoom p r) pool' late),
-  ap (machine_of []) same,
+pub put_late : (h k : KernelState) (d fd pool : ℕ) (bytes : List ℕ) (r : Refusal) → ((f : Reading) → first (writing.write (read_of f h) d fd bytes).refusals ≡ None) → ((f : Reading) → pool ≡ writing.pool_for (read_of f h) d (machine.descriptor (read_of f h) d fd)) → WantOfRoom pool r → k ≡ h
+    → Steps (λ s. writing.write s d fd bytes) h (Err r) k
+put_late h k d fd pool bytes r passed pool' late same stored = let f = bytes_over stored h.store in (
+  subst (λ (o : Option Refusal). MatchOption o ((writing.write (machine_of stored h) d fd bytes).Late r) (λ y. r ≡ y)) (sym (passed f)) (subst (λ p. WantOfRoom p r) (pool' f) late),
+  ap (machine_of stored) same,
 )
 
 later : (o : Option Refusal) (rest : List (Option Refusal)) → first (o ∷ rest) ≡ None → first rest ≡ None
@@ -306,10 +299,8 @@ module _ (h : KernelState) (d fd c : ℕ) (bytes : List ℕ) (sound : IsSound h)
   here : lookup h.conns c ≡ Some y
   here = found_held h d fd c sound to
 
-  pub sends-count : (writing.write (machine_of [] h) d fd bytes).answer ≡ fitting y.outgoing (length bytes)
-  sends-count =
-      let f = bytes_over [] h.store in
-      ap (λ (o : Option Descriptor). writing.fitting (machine_of [] h) o (length bytes)) (to f) ∙ fits_meant f.at (machine_of [] h) c (length bytes) y (conn_found f h c y here)
+  pub sends-count : (f : Reading) → (writing.write (read_of f h) d fd bytes).answer ≡ fitting y.outgoing (length bytes)
+  sends-count f = ap (λ (o : Option Descriptor). writing.fitting (read_of f h) o (length bytes)) (to f) ∙ fits_meant f.at (read_of f h) c (length bytes) y (conn_found f h c y here)
 
   pub sends_late : (pool : ℕ) (r : Refusal) → first (writing.write (machine_of [] h) d fd bytes).refusals ≡ None → IsRefused (queue_refusals y (length bytes)) (WantOfRoom pool) r → WantOfRoom pool r
   sends_late pool r passed refused =
@@ -331,10 +322,8 @@ module _ (h : KernelState) (d fd c : ℕ) (bytes : List ℕ) (sound : IsSound h)
 -- In a pipe.
 
 module _ (h : KernelState) (d fd p : ℕ) (bytes : List ℕ) (sound : IsSound h) (to : (f : Reading) → machine.descriptor (read_of f h) d fd ≡ Some (on.WriteEnd p)) where
-  pub fills-count : (writing.write (machine_of [] h) d fd bytes).answer ≡ fitting (queue_at h.pipes p).queue (length bytes)
-  fills-count =
-      let f = bytes_over [] h.store in
-      ap (λ (o : Option Descriptor). writing.fitting (machine_of [] h) o (length bytes)) (to f) ∙ ap (λ k. min (length bytes) (MAX_QUEUE_BYTES - k)) (length_queue-read_of f h p)
+  pub fills-count : (f : Reading) → (writing.write (read_of f h) d fd bytes).answer ≡ fitting (queue_at h.pipes p).queue (length bytes)
+  fills-count f = ap (λ (o : Option Descriptor). writing.fitting (read_of f h) o (length bytes)) (to f) ∙ ap (λ k. min (length bytes) (MAX_QUEUE_BYTES - k)) (length_queue-read_of f h p)
 
   module _ (t : Stored) (qs : List (Option (Pipe (List Slice)))) (pool n : ℕ) (number : n ≡ fitting (queue_at h.pipes p).queue (length bytes)) (adds : AddsBytes h.store t (queue_at h.pipes p).queue (queue_at qs p).queue pool (take n bytes))
       (pipes' : qs ≡ slice_set h.pipes p (Some (record (queue_at h.pipes p) { queue = (queue_at qs p).queue }))) where

@@ -21,6 +21,13 @@ pub record ArrivesFrom (left after : Option (List ℕ)) (c n : ℕ) (old new : S
   pub given : Consumes left after bytes
   pub step : Step (arrive old c bytes) old (Ok n) new
 
+-- A reader gave n bytes of those that it has left, where these are known, and what arrives of them is P.
+pub record TakesIn (left after : Option (List ℕ)) (n : ℕ) (P : List ℕ → Type 0) : Type 0 where
+  pub bytes : List ℕ
+  pub count : length bytes ≡ n
+  pub given : Consumes left after bytes
+  pub arrives : P bytes
+
 -- n bytes are sent: what `transmit` of as many leaves; of none, what was there
 abbrev pub sent_on : (c n : ℕ) → State → State
 sent_on c zero s = s

@@ -1,12 +1,14 @@
 -- What a call does to what a system holds, said of the copying machine whatever is read at the places of bytes.
-use Rattle.std.specs.Prelude.{◌≡◌, ℕ, ◌⊎◌, ◌++◌, true, false, List, [], None, Some, Result, Ok, Err, OnOk, OnErr}
+use Rattle.std.specs.Prelude.{◌≡◌, ℕ, ◌+◌, ◌≤◌, Bool, nat_lt, length, ◌⊎◌, ◌++◌, true, false, List, [], None, Some, Result, Ok, Err, OnOk, OnErr}
 use Rattle.iol_core.specs.Text.{Text, labelled}
 use Rattle.iol_core.specs.State.{State, is_live, text, conn_at, with_conn}
 use Rattle.iol_core.specs.Meaning.{Meaning, Step, first}
 use Rattle.iol_core.specs.Calls.Aggregates.{lacks_agg, with_agg, show}
 use Rattle.iol_core.specs.declared.refusals.Refusal.{Refusal}
 use Rattle.iol_core.specs.declared.refusals.Refusal.TheVariants.{NoDomain, BadAgg, NoRoom}
-use Rattle.iol_back.specs.Disk.{Disk, IfHonest}
+use Rattle.iol_core.specs.State as machine
+use Rattle.iol_core.specs.declared.limits.TheConstants.{MAX_FILE_BYTES}
+use Rattle.iol_back.specs.Disk.{Disk, IfHonest, content}
 use Rattle.iol_arena.specs.Pages.{MadeOn}
 use Rattle.iol_hold.specs.Moves.{Stays}
 use Rattle.iol_hold.specs.Pages.{KeepsPages}
@@ -18,6 +20,7 @@ use Rattle.iol_sock.specs.declared.outgoing.Segment.{Segment}
 use Rattle.iol_sock.specs.Sent.{UsesSent}
 use Rattle.iol_sock.specs.Table.{conn_in}
 use Rattle.iol_core.specs.Calls.Outside.{transmit}
+use Rattle.iol_kernel.specs.Backed.{IsBackedBy, StepsBeside}
 use Rattle.iol_kernel.specs.KernelState.{KernelState, read_of, machine_of, IsSound}
 use Rattle.iol_kernel.specs.Readings.{Reading, read, KeepsPools}
 
@@ -43,6 +46,7 @@ pub record CarriesOut {A : Type 0} (m : State → Meaning A) (old : KernelState)
   pub roomy : (p : ℕ) → r ≡ Err (NoRoom p) → ⊥
   pub refused : OnErr r (new ≡ old)
   pub sums : new.sums ≡ old.sums
+  pub cache : new.cache ≡ old.cache
   pub sound : IsSound new
   pub stays : Stays old.store new.store
 
@@ -54,15 +58,33 @@ pub record KeepsPlaces {A : Type 0} (m : State → Meaning A) (old : KernelState
   pub pages : KeepsPages old.store new.store []
   pub refused : OnErr r (new ≡ old)
   pub sums : new.sums ≡ old.sums
+  pub cache : new.cache ≡ old.cache
   pub sound : IsSound new
   pub stays : Stays old.store new.store
 
--- The machine's step on files, where the store under them is honest. Pages, pools and remembered sums are as they were.
+-- The machine's step on files, where the store under them is honest, and the bytes of files aside over any store. Pages, pools
+-- and remembered sums are as they were.
 pub record Names {A : Type 0} (disk : Disk) (m : State → Meaning A) (old : KernelState) (r : Result A Refusal) (new : KernelState) : Type 0 where
   pub step : IfHonest disk (Step (m (machine_of disk.slots old)) (machine_of disk.slots old) r (machine_of disk.slots new))
+  pub backed : IsBackedBy disk old → IsBackedBy disk new
+  pub beside : StepsBeside m old r new
   pub store : new.store ≡ old.store
   pub roomy : (p : ℕ) → r ≡ Err (NoRoom p) → ⊥
   pub refused : OnErr r (new ≡ old)
+  pub sums : new.sums ≡ old.sums
+  pub sound : IsSound new
+
+-- with some bytes in the next slot, this tells whether they are more than a file may have
+pub record TellsNext (h : KernelState) (long : Bool) : Type 0 where
+  pub stored : List (List ℕ)
+  pub is : (f : Reading) → f.stored ≡ stored → long ≡ nat_lt MAX_FILE_BYTES (length (machine.content (read_of f h) (length (read_of f h).files + 1)))
+
+-- A file was added: the answer and the state after it. Nothing of it is in memory.
+pub record AddsFile {A : Type 0} (m : State → Meaning A) (old : KernelState) (a : A) (new : KernelState) : Type 0 where
+  pub answer : (f : Reading) → KeepsPools f → a ≡ (m (read_of f old)).answer
+  pub after : (f : Reading) → KeepsPools f → read_of f new ≡ (m (read_of f old)).after
+  pub backed : (disk : Disk) → length (content disk.slots (length old.files + 1)) ≤ MAX_FILE_BYTES → IsBackedBy disk old → IsBackedBy disk new
+  pub store : new.store ≡ old.store
   pub sums : new.sums ≡ old.sums
   pub sound : IsSound new
 
@@ -73,6 +95,7 @@ pub record Answers {A : Type 0} (m : State → Meaning A) (old : KernelState) (a
   pub arena : new.store.arena ≡ old.store.arena
   pub pools : new.store.pools ≡ old.store.pools
   pub sums : new.sums ≡ old.sums
+  pub cache : new.cache ≡ old.cache
   pub sound : IsSound new
   pub stays : Stays old.store new.store
 
@@ -82,6 +105,7 @@ pub record Leaves (after : State → State) (old new : KernelState) : Type 0 whe
   pub places : (f : Reading) → KeepsPools f → read_of f new ≡ after (read_of f old)
   pub pages : KeepsPages old.store new.store []
   pub sums : new.sums ≡ old.sums
+  pub cache : new.cache ≡ old.cache
   pub sound : IsSound new
   pub stays : Stays old.store new.store
 
@@ -95,6 +119,7 @@ pub record MakesBytes (put : State → Text → State) (pool n : ℕ) (old new :
   pub slices : List Slice
   pub each : (f : Reading) → read_of f new ≡ put (read_of f old) (read f slices)
   pub sums : new.sums ≡ old.sums
+  pub cache : new.cache ≡ old.cache
   pub made_on : MadeOn old.store.arena new.store.arena (bufs_of slices) (lowest_of old.store pool n)
   pub pages : KeepsPages old.store new.store (lowest_of old.store pool n)
 
@@ -132,6 +157,7 @@ pub record Transmits (c max : ℕ) (old : KernelState) (r : Result (List ℕ × 
   pub roomy : (p : ℕ) → r ≡ Err (NoRoom p) → ⊥
   pub pages : KeepsPages old.store new.store []
   pub uses : OnOk r (UsesSent old.store (conn_in old.conns c).outgoing max old.sums new.sums)
+  pub cache : new.cache ≡ old.cache
   pub refused : OnErr r (new ≡ old)
   pub sound : IsSound new
   pub stays : Stays old.store new.store

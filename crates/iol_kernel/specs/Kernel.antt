@@ -1,13 +1,18 @@
 -- The fields of the kernel, as what it holds; and the words of contracts, said of kernels.
 use Rattle.std.specs.Prelude.{ℕ, List, [], Result}
 use Rattle.iol_core.specs.State.{State}
+use Rattle.iol_core.specs.Text.{Text}
 use Rattle.iol_core.specs.Meaning.{Meaning}
 use Rattle.iol_core.specs.declared.refusals.Refusal.{Refusal}
 use Rattle.iol_hold.specs.declared.slices.Slice.{Slice}
 use Rattle.iol_desc.specs.Tables.{domains_of}
 use Rattle.iol_back.specs.Disk.{Disk}
 use Rattle.iol_cache.specs.Cache.{cached_of}
+use Rattle.iol_kernel.specs.Backed as backed
 use Rattle.iol_kernel.specs.Calls as calls
+use Rattle.iol_kernel.specs.MakingRoom as making
+use Rattle.iol_kernel.specs.FileReading as files
+use Rattle.iol_kernel.specs.FileReading.{FileRead}
 use Rattle.iol_kernel.specs.Files.{files_of}
 use Rattle.iol_kernel.specs.KernelState.{KernelState, read_of, machine_of}
 use Rattle.iol_kernel.specs.Readings.{Reading}
@@ -33,6 +38,9 @@ KeepsPlaces m old r new = calls.KeepsPlaces m (state_of old) r (state_of new)
 abbrev pub Answers : {A : Type 0} → (State → Meaning A) → Kernel → A → Kernel → Type 0
 Answers m old a new = calls.Answers m (state_of old) a (state_of new)
 
+abbrev pub AddsFile : {A : Type 0} → (State → Meaning A) → Kernel → A → Kernel → Type 0
+AddsFile m old a new = calls.AddsFile m (state_of old) a (state_of new)
+
 abbrev pub Leaves : (State → State) → Kernel → Kernel → Type 0
 Leaves after old new = calls.Leaves after (state_of old) (state_of new)
 
@@ -41,6 +49,24 @@ Steps m old r new = calls.Steps m (state_of old) r (state_of new)
 
 abbrev pub Names : {A : Type 0} → Disk → (State → Meaning A) → Kernel → Result A Refusal → Kernel → Type 0
 Names disk m old r new = calls.Names disk m (state_of old) r (state_of new)
+
+abbrev pub Serves : {A : Type 0} → (State → Meaning A) → (disk : Disk) → Kernel → Result A Refusal → (after : Disk) → Kernel → Type 0
+Serves m disk old r after new = backed.Serves m disk (state_of old) r after (state_of new)
+
+abbrev pub LooksUp : {A : Type 0} → (State → Meaning A) → Disk → Kernel → Result A Refusal → Kernel → Type 0
+LooksUp m disk old r new = backed.LooksUp m disk (state_of old) r (state_of new)
+
+abbrev pub GivesRead : FileRead → Disk → (old new : Kernel) → Type 0
+GivesRead x disk old new = files.GivesRead x disk (state_of old) (state_of new)
+
+abbrev pub ReadsFileAs : {A : Type 0} → FileRead → Disk → Kernel → Result A Refusal → Disk → Kernel → Type 0
+ReadsFileAs x disk old r after new = files.ReadsFileAs x disk (state_of old) r after (state_of new)
+
+abbrev pub CopiesFileAs : {A : Type 0} → FileRead → Disk → Kernel → Result A Refusal → Disk → Kernel → Type 0
+CopiesFileAs x disk old r after new = files.CopiesFileAs x disk (state_of old) r after (state_of new)
+
+abbrev pub Reads : (d fd n : ℕ) → Disk → Kernel → Result ℕ Refusal → Disk → Kernel → Type 0
+Reads d fd n disk old r after new = files.Reads d fd n disk (state_of old) r after (state_of new)
 
 abbrev pub AddsBytes : (d pool : ℕ) → List ℕ → (old new : Kernel) → Type 0
 AddsBytes d pool bytes old new = calls.AddsBytes d pool bytes (state_of old) (state_of new)
@@ -62,3 +88,6 @@ IsFound k d a xs = calls.IsFound (state_of k) d a xs
 
 abbrev pub IsMissing : Kernel → (d a : ℕ) → Refusal → Type 0
 IsMissing k d a x = calls.IsMissing (state_of k) d a x
+
+abbrev pub Places : {A : Type 0} → (State → Meaning A) → (State → Text → State) → (pool n : ℕ) → Kernel → Result A Refusal → Kernel → Type 0
+Places m put pool n old r new = making.Places m put pool n (state_of old) r (state_of new)

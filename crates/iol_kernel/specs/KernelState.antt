@@ -93,13 +93,13 @@ slices_in ds d a = unwrap_or (agg_in ds d a) []
 abbrev pub queue_at : List (Option (Pipe (List Slice))) → (p : ℕ) → Pipe (List Slice)
 queue_at pipes p = pipe_in [] pipes p
 
--- an open descriptor is an end of a pipe, which is open there, or on a connection that was accepted and not closed:
--- no domain has files yet
+-- an open descriptor is an end of a pipe, which is open there, or on a connection that was accepted and not closed, or on a
+-- file, at a position that no file goes beyond
 abbrev pub IsOpenEnd : Objects (List Slice) → Option Descriptor → Type 0
 IsOpenEnd objects None = Unit {0}
 IsOpenEnd objects (Some (on.ReadEnd p)) = (queue_at objects.pipes p).reading ≡ true
 IsOpenEnd objects (Some (on.WriteEnd p)) = (queue_at objects.pipes p).writing ≡ true
-IsOpenEnd objects (Some (on.File f at mode)) = ⊥
+IsOpenEnd objects (Some (on.File f at mode)) = (is_numbered objects.files f ≡ true) × (at ≤ MAX_FILE_BYTES)
 IsOpenEnd objects (Some (on.Connection c)) = ((conn_in objects.conns c).accepted ≡ true) × ((conn_in objects.conns c).closed ≡ false)
 
 -- its queue is within the limit
@@ -151,8 +151,8 @@ IsCached s c = cache.IsSound s c
 
 -- Between any two events: what aggregates, queues and extents of files name lies in live buffers of their pools, each buffer is counted
 -- for each of its slices, no page is lost and no closed pool keeps chunks in which nothing lies, descriptors are
--- open on open ends of pipes and on accepted connections, each on one of its own, remembered sums are right, and the cache of
--- files is in order.
+-- open on open ends of pipes and on accepted connections, each on one of its own, and on files, remembered sums are right, and
+-- the cache of files is in order.
 pub record IsSound (h : KernelState) : Type 0 where
   pub domains : Each (IsDomainReadable h.store) h.domains
   pub objects : AreReadable h.store (objects_of h)

@@ -7,7 +7,13 @@ pub mod KernelState
 pub mod ClosedEnds
 pub mod Kernel
 pub mod Report
+pub mod Backed
+pub mod WritingFiles
+pub mod WritingBack
 pub mod Calls
+pub mod FileReading
+pub mod MakingRoom
+pub mod Copying
 pub mod Adding
 pub mod Regrouped
 pub mod Queues

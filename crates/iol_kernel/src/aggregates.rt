@@ -25,22 +25,31 @@ use iol_core::refusals::Refusal;
 use std::alloc::AllocError;
 
 impl Kernel {
-    ghost use Rattle.iol_kernel.specs.Kernel.{state_of, machine, as_read, Steps, AddsBytes, Shows, MakesAgg, CarriesOut, KeepsPlaces, Answers, Leaves};
+    ghost use Rattle.iol_kernel.specs.Kernel.{state_of, machine, as_read, Steps, AddsBytes, Shows, MakesAgg, Places, CarriesOut, KeepsPlaces, Answers, Leaves};
 
-    /// Places bytes in the caller's default pool, as its next aggregate.
-    #[tactic(auto, using(crate::proofs::Stay::stay_rules))]
+    /// Places bytes in the caller's default pool, as its next aggregate. Clean extents of the pool's files give way.
     pub fn agg_make(&mut self, by: DomainId, bytes: &Bytes) -> Result<AggId, Refusal>
         requires { IsSound (state_of self.old) }
-        ensures step { Steps (λ s. calls.agg_make s by bytes.now) self.old result self.new }
-        ensures made { OnOk result (MakesAgg by (default_pool (machine self.old) by) (length
-            bytes.now) self.old self.new) }
-        ensures refused { OnErr result (state_of self.new ≡ state_of self.old) }
-        ensures sound { IsSound (state_of self.new) }
-        ensures stays { Stays self.old.store self.new.store }
-        ensures room { OnOk result (has_room self.old.store (default_pool (machine self.old) by)
-            (length bytes.now) ≡ true) }
-        ensures no_room { (p : ℕ) → result ≡ Err (Refusal.NoRoom p) → has_room self.old.store
-            (default_pool (machine self.old) by) (length bytes.now) ≡ false }
+        ensures { Places (λ s. calls.agg_make s by bytes.now) (λ s t. calls.with_agg s by t)
+            (default_pool (machine self.old) by) (length bytes.now) self.old result self.new }
+    {
+        let pool = self.pool_to_make(by, bytes.as_slice())?;
+        self.place(by, pool, bytes.as_slice())
+    }
+
+    /// The pool in which the caller's bytes lie once they are an aggregate. It is refused as `agg_make` is, but for want
+    /// of room and of memory.
+    fn pool_to_make(&self, by: DomainId, bytes: &[u8]) -> Result<PoolId, Refusal>
+        ensures passed { OnOk result ((f : Reading) →
+            first (calls.agg_make (as_read f self.now) by bytes.now).refusals ≡ None) }
+        ensures refused { IfErr result (λ x. (f : Reading) →
+            first (calls.agg_make (as_read f self.now) by bytes.now).refusals ≡ Some x) }
+        ensures roomy { (p : ℕ) → result ≡ Err (Refusal.NoRoom p) → ⊥ }
+        ensures pool { IfOk result (λ p. (f : Reading) → default_pool (as_read f self.now) by ≡ p) }
+        ensures live { OnOk result (is_live (machine self.now) by ≡ true) }
+        ensures few { OnOk result (too_many_aggs (machine self.now) by 1 0 ≡ false) }
+        ensures small { OnOk result (length bytes.now ≤ MAX_AGGREGATE_BYTES) }
+        ensures open { IfOk result (λ p. (state.pool (machine self.now) p).closed ≡ false) }
     {
         if !self.is_live(by) {
             return Err(Refusal::NoDomain);
@@ -48,7 +57,7 @@ impl Kernel {
         let Some(pool) = self.default_of(by) else {
             return Err(Refusal::NoPool);
         };
-        if bytes.as_slice().len() > MAX_AGGREGATE_BYTES {
+        if bytes.len() > MAX_AGGREGATE_BYTES {
             return Err(Refusal::TooLong);
         }
         if self.is_too_many(by, 1, 0) {
@@ -57,7 +66,7 @@ impl Kernel {
         if self.is_closed(pool) {
             return Err(Refusal::PoolClosed { pool });
         }
-        self.place(by, pool, bytes.as_slice())
+        Ok(pool)
     }
 
     /// The pool that the domain places in.
@@ -69,9 +78,28 @@ impl Kernel {
         self.domains.default_of(d)
     }
 
-    /// Places bytes in a pool, as the domain's next aggregate.
-    #[tactic(auto, using(crate::proofs::Stay::stay_rules, crate::proofs::Slices::held_rules))]
+    /// Places bytes in a pool, as the domain's next aggregate, once room for them is made.
     fn place(&mut self, by: DomainId, pool: PoolId, bytes: &[u8]) -> Result<AggId, Refusal>
+        requires sound { IsSound (state_of self.old) }
+        requires passed { (f : Reading) →
+            first (calls.agg_make (as_read f self.old) by bytes.now).refusals ≡ None }
+        requires pool { (f : Reading) → default_pool (as_read f self.old) by ≡ pool }
+        requires live { is_live (machine self.old) by ≡ true }
+        requires few { too_many_aggs (machine self.old) by 1 0 ≡ false }
+        requires small { length bytes.now ≤ MAX_AGGREGATE_BYTES }
+        requires open { (state.pool (machine self.old) pool).closed ≡ false }
+        ensures { Places (λ s. calls.agg_make s by bytes.now) (λ s t. calls.with_agg s by t)
+            (default_pool (machine self.old) by) (length bytes.now) self.old result self.new }
+    {
+        if !self.make_room_for(pool, bytes.len() as u32) {
+            return Err(Refusal::NoRoom { pool });
+        }
+        self.fill_agg(by, pool, bytes)
+    }
+
+    /// Places bytes in a pool that has room, as the domain's next aggregate.
+    #[tactic(auto, using(crate::proofs::Stay::stay_rules, crate::proofs::Slices::held_rules))]
+    fn fill_agg(&mut self, by: DomainId, pool: PoolId, bytes: &[u8]) -> Result<AggId, Refusal>
         requires sound { IsSound (state_of self.old) }
         requires live { is_live (machine self.old) by ≡ true }
         requires few { too_many_aggs (machine self.old) by 1 0 ≡ false }
@@ -80,6 +108,7 @@ impl Kernel {
         ensures number { IfOk result (λ n. (f : Reading) → n ≡ calls.next_agg (as_read f self.old) by) }
         ensures placed { OnOk result (AddsBytes by pool bytes.now self.old self.new) }
         ensures made { OnOk result (MakesAgg by pool (length bytes.now) self.old self.new) }
+        ensures cache { (state_of self.new).cache ≡ (state_of self.old).cache }
         ensures sound { IsSound (state_of self.new) }
         ensures stays { Stays self.old.store self.new.store }
         ensures room { OnOk result (has_room self.old.store pool (length bytes.now) ≡ true) }

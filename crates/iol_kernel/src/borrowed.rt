@@ -1,33 +1,39 @@
 //! Connections that are served from outside in place: what a reader gives comes straight into a page, and a writer takes
 //! bytes from where they lie.
-ghost use Rattle.std.specs.Prelude.{◌≡◌, ℕ, ◌<◌, ◌≤◌, ◌-◌, length, min, take, true, false, Err, IfOk, IfErr, OnOk, OnErr};
+ghost use Rattle.std.specs.Prelude.{◌≡◌, ℕ, ◌<◌, ◌≤◌, ◌-◌, length, min, take, true, false, List, Some, Ok, Err, IfOk, IfErr, OnOk, OnErr};
 ghost use Rattle.std.specs.Io.KnownBytes.{Appends, IsAtEnd};
-ghost use Rattle.iol_core.specs.Meaning.{WantOfRoom};
+ghost use Rattle.iol_core.specs.Meaning.{WantOfRoom, first};
 ghost use Rattle.iol_core.specs.State.{conn_at};
 ghost use Rattle.iol_core.specs.Text.{bytes_of};
+ghost use Rattle.iol_core.specs.Calls.Outside as outside;
 ghost use Rattle.iol_core.specs.Calls.Outside.{lacks_conn};
+ghost use Rattle.iol_back.specs.Disk.{Disk};
+ghost use Rattle.iol_pool.specs.Pools.{pool_in};
 ghost use Rattle.iol_hold.specs.Moves.{Stays};
 ghost use Rattle.iol_hold.specs.Room.{has_room};
 ghost use Rattle.iol_sock.specs.Refused.{IsPassed, IsRefused};
-ghost use Rattle.iol_kernel.specs.Borrowed.{arrive_from_refusals, ArrivesFrom, sent_on};
-ghost use Rattle.iol_kernel.specs.KernelState.{IsSound};
+ghost use Rattle.iol_kernel.specs.Borrowed.{arrive_from_refusals, TakesIn, sent_on};
+ghost use Rattle.iol_kernel.specs.Backed.{Serves};
+ghost use Rattle.iol_kernel.specs.Calls as calls;
+ghost use Rattle.iol_kernel.specs.KernelState.{machine_of, IsSound};
+ghost use Rattle.iol_kernel.specs.MakingRoom.{AfterRoom, IsSame, MayHaveEvicted, can_fit};
 
 use crate::kernel::Kernel;
 use iol_core::limits::{MAX_QUEUE_BYTES, PAGE_BYTES};
-use iol_core::numbers::ConnId;
+use iol_core::numbers::{ConnId, PoolId};
 use iol_core::refusals::Refusal;
 use iol_sock::{Arrived, Drained};
 use std::io::{Read, Write};
 
 impl Kernel {
-    ghost use Rattle.iol_kernel.specs.Kernel.{state_of, machine, Arrives, Leaves};
+    ghost use Rattle.iol_kernel.specs.Kernel.{state_of, machine, Arrives, Leaves, Steps};
 
     /// The bytes of one read come in from a connection's peer, straight into a new buffer on the lowest free page of the
-    /// connection's pool. At most `max` bytes are asked for, a page of them, and what fits.
+    /// connection's pool. At most `max` bytes are asked for, a page of them, and what fits. Clean extents of the pool's
+    /// files give way.
     ///
     /// `BadFd` where there is no such connection, `BadRange` where `max` is 0; else refused as one byte that arrives, all
     /// before it reads. Where the reader is at its end or fails, nothing came in, and the page is free again.
-    #[tactic(auto, using(crate::proofs::Stay::stay_rules))]
     pub fn arrive_from<R: Read>(
         &mut self,
         conn: ConnId,
@@ -38,29 +44,56 @@ impl Kernel {
         ensures passed { OnOk result (IsPassed (arrive_from_refusals (machine self.old) conn max)) }
         ensures refused { IfErr result (IsRefused (arrive_from_refusals (machine self.old) conn max)
             (WantOfRoom (conn_at (machine self.old) conn).pool)) }
-        ensures read { IfOk result (λ a. ArrivesFrom (R.remaining reader.old)
-            (R.remaining reader.new) conn a.taken (machine self.old) (machine self.new)) }
-        ensures made { IfOk result (λ a. Arrives conn a.taken self.old self.new) }
+        ensures read { IfOk result (λ a. TakesIn (R.remaining reader.old) (R.remaining reader.new)
+            a.taken (λ bytes. (disk : Disk) → Serves (λ s. outside.arrive s conn bytes) disk
+            (state_of self.old) (Ok a.taken) disk (state_of self.new))) }
+        ensures made { IfOk result (λ a. AfterRoom (conn_at (machine self.old) conn).pool 1
+            (state_of self.old) (λ roomy. calls.Arrives conn a.taken roomy (state_of self.new))) }
         ensures most { IfOk result (λ a. a.taken ≤ min (min max PAGE_BYTES) (MAX_QUEUE_BYTES -
             length (conn_at (machine self.old) conn).incoming)) }
         ensures some { IfOk result (λ a. a.end ≡ false → a.failed ≡ false → 0 < a.taken) }
         ensures ended { IfOk result (λ a. a.end ≡ true → (a.taken ≡ 0) × IsAtEnd
             (R.remaining reader.new)) }
         ensures failed { IfOk result (λ a. a.failed ≡ true → a.taken ≡ 0) }
-        ensures none { IfOk result (λ a. a.taken ≡ 0 → machine self.new ≡ machine self.old) }
-        ensures room { OnOk result (has_room self.old.store (conn_at (machine self.old) conn).pool
-            1 ≡ true) }
-        ensures no_room { (p : ℕ) → result ≡ Err (Refusal.NoRoom p) → has_room self.old.store
+        ensures none { IfOk result (λ a. a.taken ≡ 0 → IsSame (state_of self.old) (state_of
+            self.new)) }
+        ensures room { OnOk result (can_fit (state_of self.old) (conn_at (machine self.old)
+            conn).pool 1 ≡ true) }
+        ensures no_room { (p : ℕ) → result ≡ Err (Refusal.NoRoom p) → can_fit (state_of self.old)
             (conn_at (machine self.old) conn).pool 1 ≡ false }
-        ensures err { OnErr result (state_of self.new ≡ state_of self.old) }
+        ensures err { IfErr result (MayHaveEvicted (conn_at (machine self.old) conn).pool 1
+            (state_of self.old) (state_of self.new)) }
         ensures err_reader { OnErr result (reader.new ≡ reader.old) }
         ensures sound { IsSound (state_of self.new) }
         ensures stays { Stays self.old.store self.new.store }
     {
-        if self.lacks_conn(conn) {
-            return Err(Refusal::BadFd);
+        let pool = self.may_arrive_from(conn, max)?;
+        if !self.make_room_for(pool, 1) {
+            return Err(Refusal::NoRoom { pool });
         }
         self.read_in(conn, reader, max)
+    }
+
+    /// The pool of a connection on which bytes may arrive. It is refused as `arrive_from` is, but for want of room and of
+    /// memory.
+    fn may_arrive_from(&self, conn: ConnId, max: u32) -> Result<PoolId, Refusal>
+        requires { IsSound (state_of self.now) }
+        ensures passed { OnOk result (IsPassed (arrive_from_refusals (machine self.now) conn max)) }
+        ensures refused { IfErr result (λ x. first (arrive_from_refusals (machine self.now) conn
+            max) ≡ Some x) }
+        ensures roomy { (p : ℕ) → result ≡ Err (Refusal.NoRoom p) → ⊥ }
+        ensures pool { IfOk result (λ p. (conn_at (machine self.now) conn).pool ≡ p) }
+        ensures open { IfOk result (λ p. (pool_in self.now.store.pools p).closed ≡ false) }
+        ensures there { OnOk result (lacks_conn (machine self.now) conn ≡ false) }
+    {
+        let Some(found) = self.conns.get(conn) else {
+            return Err(Refusal::BadFd);
+        };
+        if max == 0 {
+            return Err(Refusal::BadRange);
+        }
+        found.may_arrive(1)?;
+        Ok(found.pool())
     }
 
     /// The bytes of one read come in on a connection that is there.
@@ -75,8 +108,9 @@ impl Kernel {
         ensures passed { OnOk result (IsPassed (arrive_from_refusals (machine self.old) conn max)) }
         ensures refused { IfErr result (IsRefused (arrive_from_refusals (machine self.old) conn max)
             (WantOfRoom (conn_at (machine self.old) conn).pool)) }
-        ensures read { IfOk result (λ a. ArrivesFrom (R.remaining reader.old)
-            (R.remaining reader.new) conn a.taken (machine self.old) (machine self.new)) }
+        ensures read { IfOk result (λ a. TakesIn (R.remaining reader.old) (R.remaining reader.new)
+            a.taken (λ bytes. Steps (λ s. outside.arrive s conn bytes) self.old (Ok a.taken)
+            self.new)) }
         ensures made { IfOk result (λ a. Arrives conn a.taken self.old self.new) }
         ensures most { IfOk result (λ a. a.taken ≤ min (min max PAGE_BYTES) (MAX_QUEUE_BYTES -
             length (conn_at (machine self.old) conn).incoming)) }
@@ -84,7 +118,9 @@ impl Kernel {
         ensures ended { IfOk result (λ a. a.end ≡ true → (a.taken ≡ 0) × IsAtEnd
             (R.remaining reader.new)) }
         ensures failed { IfOk result (λ a. a.failed ≡ true → a.taken ≡ 0) }
-        ensures none { IfOk result (λ a. a.taken ≡ 0 → machine self.new ≡ machine self.old) }
+        ensures none { IfOk result (λ a. a.taken ≡ 0 → (stored : List (List ℕ)) →
+            machine_of stored (state_of self.new) ≡ machine_of stored (state_of self.old)) }
+        ensures cache { (state_of self.new).cache ≡ (state_of self.old).cache }
         ensures room { OnOk result (has_room self.old.store (conn_at (machine self.old) conn).pool
             1 ≡ true) }
         ensures no_room { (p : ℕ) → result ≡ Err (Refusal.NoRoom p) → has_room self.old.store

@@ -1,7 +1,8 @@
 //! Pipes are made and connections accepted, and descriptors on them are given and closed.
 ghost use Rattle.std.specs.Prelude.{◌≡◌, ◌≢◌, ℕ, ◌<◌, true, false, not, ◌&&◌, ◌==◌, if◌then◌else◌, Option, Some, None, option_map, IfOk, OnOk, OnErr, Err};
+ghost use Rattle.iol_core.specs.State as state;
 ghost use Rattle.iol_core.specs.State.{is_live, descriptor, conn_at};
-ghost use Rattle.iol_core.specs.Numbered.{lookup, taken};
+ghost use Rattle.iol_core.specs.Numbered.{is_numbered, lookup, taken};
 ghost use Rattle.iol_core.specs.Calls.Descriptors as calls;
 ghost use Rattle.iol_core.specs.Calls.Descriptors.{closed_on, freed, too_many_open, with_fds};
 ghost use Rattle.iol_kernel.specs.Ends.{all_ends_on};
@@ -12,7 +13,7 @@ ghost use Rattle.iol_kernel.specs.Readings.{Reading};
 use crate::kernel::Kernel;
 use iol_core::descriptors::Descriptor;
 use iol_core::limits::MAX_PIPES;
-use iol_core::numbers::{ConnId, DomainId, Fd, PoolId};
+use iol_core::numbers::{ConnId, DomainId, Fd, FileId, PoolId};
 use iol_core::refusals::Refusal;
 use std::alloc::AllocError;
 
@@ -88,8 +89,8 @@ impl Kernel {
     {
         match given {
             Descriptor::Connection { conn } => self.hidden_pool(to, conn),
-            Descriptor::ReadEnd { .. } | Descriptor::WriteEnd { .. } | Descriptor::File { .. } =>
-                None,
+            Descriptor::File { file, .. } => self.hidden_file(to, file),
+            Descriptor::ReadEnd { .. } | Descriptor::WriteEnd { .. } => None,
         }
     }
 
@@ -101,6 +102,20 @@ impl Kernel {
             (Some (conn_at (as_read f self.now) conn).pool) }
     {
         let pool = self.conns.get(conn)?.pool();
+        if self.may_read(to, pool) {
+            return None;
+        }
+        Some(pool)
+    }
+
+    /// The pool of a file, where a domain may not read it.
+    pub(crate) fn hidden_file(&self, to: DomainId, file: FileId) -> Option<PoolId>
+        requires { is_numbered (state_of self.now).files file ≡ true }
+        ensures { (f : Reading) → option_map (λ p. Refusal.Denied p) result ≡
+            calls.denied_by (as_read f self.now) to
+            (Some (state.file (as_read f self.now) file).pool) }
+    {
+        let pool = self.file_pool(file);
         if self.may_read(to, pool) {
             return None;
         }
@@ -163,7 +178,7 @@ impl Kernel {
         self.close_end(end);
     }
 
-    /// Closes an end of a pipe or a connection, on which no descriptor is open any more. No file is open yet.
+    /// Closes an end of a pipe or a connection, on which no descriptor is open any more. Of a file nothing is closed.
     pub(crate) fn close_end(&mut self, end: Descriptor)
         requires sound { IsSound (state_of self.old) }
         requires open { IsOpenEnd (objects_of (state_of self.old)) (Some end) }

@@ -1,6 +1,7 @@
 //! The files by slot: their names and pools, and the cache of what is in memory.
-ghost use Rattle.std.specs.Prelude.{◌≡◌, ◌==◌, ◌+◌, ◌<◌, ◌++◌, ◌∷◌, [], length, false, bytes_eq, IfOk, OnOk, OnErr};
+ghost use Rattle.std.specs.Prelude.{◌≡◌, ◌==◌, ◌+◌, ◌<◌, ◌≤◌, ◌++◌, ◌∷◌, [], length, true, false, bytes_eq, option_map, position, IfOk, OnOk, OnErr};
 ghost use Rattle.std.specs.List.{list_any};
+ghost use Rattle.iol_core.specs.Numbered.{is_numbered, numbered_or};
 ghost use Rattle.iol_core.specs.State as machine;
 ghost use Rattle.iol_pool.specs.Pools.{pool_in};
 ghost use Rattle.iol_cache.specs.Cached.{new_file};
@@ -37,6 +38,13 @@ fn is_among(list: &[File], name: &[u8]) -> bool
     list.iter().any(|file| file.name.as_slice() == name)
 }
 
+// Where the first of these lies that has the name.
+fn place_of(list: &[File], name: &[u8]) -> Option<usize>
+    ensures { result ≡ position (λ f. bytes_eq f.name name.now) list.now }
+{
+    list.iter().position(|file| file.name.as_slice() == name)
+}
+
 /// The files in slots from 1.
 #[derive(Drop)]
 pub(crate) struct Files {
@@ -64,6 +72,24 @@ impl Files {
         ensures { result ≡ list_any (λ f. bytes_eq f.name name.now) (files_of self.now.list.items) }
     {
         is_among(self.list.as_slice(), name)
+    }
+
+    /// The file of this name.
+    pub(crate) fn called(&self, name: &[u8]) -> Option<FileId>
+        requires { length self.now.list.items ≤ MAX_FILES }
+        ensures { result ≡ option_map (λ i. i + 1)
+            (position (λ f. bytes_eq f.name name.now) (files_of self.now.list.items)) }
+    {
+        let place = place_of(self.list.as_slice(), name)?;
+        Some(FileId::new(place as u32 + 1))
+    }
+
+    /// The pool of a file's bytes.
+    pub(crate) fn pool_of(&self, file: FileId) -> PoolId
+        requires { is_numbered (files_of self.now.list.items) file ≡ true }
+        ensures { result ≡ (numbered_or (files_of self.now.list.items) file machine.no_file).pool }
+    {
+        self.list[file.number() as usize - 1].pool
     }
 
     /// Adds a file of an open pool in the next slot.

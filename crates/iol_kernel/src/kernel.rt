@@ -6,6 +6,7 @@ ghost use Rattle.iol_core.specs.Calls.Aggregates.{lacks_agg, too_many_aggs};
 ghost use Rattle.iol_core.specs.Calls.Descriptors.{too_many_open};
 ghost use Rattle.iol_arena.specs.State.{no_entry};
 ghost use Rattle.iol_arena.specs.Buffers.{SharesNoPage, live_pages};
+ghost use Rattle.iol_cache.specs.Cached.{dirty_in_all, extents_in_all};
 ghost use Rattle.iol_kernel.specs.Report.{reports_of};
 ghost use Rattle.iol_kernel.specs.KernelState.{machine_of, IsSound};
 ghost use Rattle.iol_kernel.specs.Readings.{Reading, slots_of};
@@ -152,16 +153,18 @@ impl Kernel {
         ensures pools { IfOk result (λ r. r.pools.items ≡ reports_of self.now.store (length
             self.now.store.pools)) }
         ensures buffers { IfOk result (λ r. r.buffers ≡ length (live_pages self.now.store.arena)) }
-        ensures extents { IfOk result (λ r. r.extents ≡ 0) }
-        ensures dirty { IfOk result (λ r. r.dirty ≡ 0) }
+        ensures extents { IfOk result (λ r. r.extents ≡ extents_in_all
+            (state_of self.now).cache.files) }
+        ensures dirty { IfOk result (λ r. r.dirty ≡ dirty_in_all (state_of self.now).cache.files) }
         ensures alone { SharesNoPage self.now.store.arena }
     {
         let buffers = self.store.buffer_count();
+        let cached = self.files.cache.report();
         let pools = report_pools(self.alloc, &self.store)?;
         Ok(Report {
             pools,
-            extents: 0,
-            dirty: 0,
+            extents: cached.extents,
+            dirty: cached.dirty,
             buffers,
         })
     }

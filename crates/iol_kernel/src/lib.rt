@@ -7,25 +7,37 @@
 //! - `CarriesOut`: the machine's step, whatever is read at the places of bytes. Of bytes it is what
 //!   the call means, of places it says that nothing was copied. No page and no pool changes.
 //! - `KeepsPlaces`: the same of a call that frees pages or takes chunks. No page is raised.
-//! - `agg_make` has clauses of its own: its bytes lie on the lowest free pages of the pool.
+//! - `Names`, `LooksUp` (`specs/Calls`, `specs/Backed`): the step of a call that asks the store under
+//!   the files for a length, where that is honest. Over any store it is the step for some bytes of files.
+//! - `Places` (`specs/MakingRoom`): the step of a call that places new bytes, as `agg_make` and `arrive`.
+//!   Clean extents of files give way to them, and they lie on the lowest free pages of the pool then.
 //!
-//! A refused call changes nothing of what the system holds. Between any two calls it is sound
-//! (`IsSound`).
+//! A refused call changes nothing of what the system means; where it wants pages, clean extents may
+//! have gone. Between any two calls it is sound (`IsSound`).
 #![tactic(auto)]
 
 pub mod aggregates;
 mod borrowed;
+pub mod copying;
+pub mod copying_files;
 pub mod descriptors;
 pub mod domains;
+mod evicting;
 mod files;
+mod filling_files;
+mod flushing;
 pub mod kernel;
 pub mod naming;
 pub mod outside;
 mod pipes;
 mod placing;
 pub mod pools;
+pub mod positions;
+pub mod putting;
 pub mod reading;
+pub mod reading_files;
 pub mod report;
 mod tables;
 mod taking;
 pub mod writing;
+mod writing_files;

@@ -1,23 +1,28 @@
 //! Files by name.
-ghost use Rattle.std.specs.Prelude.{◌≡◌, ℕ, ◌+◌, ◌<◌, length, false, is_some, nat_lt, IfOk, OnErr, Err};
+ghost use Rattle.std.specs.Prelude.{◌≡◌, ℕ, ◌+◌, ◌<◌, length, true, false, is_some, nat_lt, IfOk, IfSome, OnErr, Err};
 ghost use Rattle.iol_core.specs.State as state;
 ghost use Rattle.iol_core.specs.State.{content};
+ghost use Rattle.iol_core.specs.Numbered.{is_numbered};
+ghost use Rattle.iol_core.specs.Calls.Descriptors.{too_many_open};
 ghost use Rattle.iol_core.specs.Calls.Files as calls;
 ghost use Rattle.iol_core.specs.Calls.Files.{file_called};
 ghost use Rattle.iol_back.specs.Disk.{IfHonest};
+ghost use Rattle.iol_kernel.specs.Calls.{TellsNext};
+ghost use Rattle.iol_kernel.specs.Files.{opens};
 ghost use Rattle.iol_kernel.specs.KernelState.{IsSound};
 ghost use Rattle.iol_kernel.specs.Readings.{Reading};
 
 use crate::kernel::Kernel;
 use iol_back::backing::Backing;
+use iol_core::descriptors::{Descriptor, Mode};
 use iol_core::limits::{MAX_FILE_BYTES, MAX_FILES, MAX_NAME_BYTES};
 use iol_core::lists::Bytes;
-use iol_core::numbers::{DomainId, FileId, PoolId};
+use iol_core::numbers::{DomainId, Fd, FileId, PoolId};
 use iol_core::refusals::Refusal;
 use std::alloc::AllocError;
 
 impl Kernel {
-    ghost use Rattle.iol_kernel.specs.Kernel.{state_of, machine, as_read, Answers, Names};
+    ghost use Rattle.iol_kernel.specs.Kernel.{state_of, machine, as_read, AddsFile, Answers, CarriesOut, Names};
 
     /// Gives the next slot of the store under files a name and a pool. The file begins with the bytes that are stored there.
     ///
@@ -70,6 +75,59 @@ impl Kernel {
         self.files.has(name.as_slice())
     }
 
+    /// Opens a file in a mode, as the caller's lowest free number, at position 0.
+    #[tactic(auto, using(crate::proofs::Stay::stay_rules))]
+    pub fn open_file(&mut self, by: DomainId, name: &Bytes, mode: Mode) -> Result<Fd, Refusal>
+        requires { IsSound (state_of self.old) }
+        ensures { CarriesOut (λ s. calls.open_file s by name.now mode) self.old result self.new }
+    {
+        if !self.is_live(by) {
+            return Err(Refusal::NoDomain);
+        }
+        let Some(file) = self.file_called(name) else {
+            return Err(Refusal::NoFile);
+        };
+        if self.is_open_beyond(by, 1) {
+            return Err(Refusal::TooMany);
+        }
+        let pool = self.file_pool(file);
+        if !self.may_read(by, pool) {
+            return Err(Refusal::Denied { pool });
+        }
+        Ok(self.open_at_start(by, file, mode)?)
+    }
+
+    /// The file of this name.
+    fn file_called(&self, name: &Bytes) -> Option<FileId>
+        requires { IsSound (state_of self.now) }
+        ensures called { (f : Reading) → result ≡ file_called (as_read f self.now) name.now }
+        ensures there { IfSome result (λ n. is_numbered (state_of self.now).files n ≡ true) }
+    {
+        self.files.called(name.as_slice())
+    }
+
+    /// The pool of a file's bytes.
+    pub(crate) fn file_pool(&self, file: FileId) -> PoolId
+        requires { is_numbered (state_of self.now).files file ≡ true }
+        ensures { (f : Reading) → result ≡ (state.file (as_read f self.now) file).pool }
+    {
+        self.files.pool_of(file)
+    }
+
+    /// Opens a file that is there, at position 0.
+    fn open_at_start(&mut self, by: DomainId, file: FileId, mode: Mode) -> Result<Fd, AllocError>
+        requires sound { IsSound (state_of self.old) }
+        requires live { state.is_live (machine self.old) by ≡ true }
+        requires few { too_many_open (machine self.old) by 1 ≡ false }
+        requires there { is_numbered (state_of self.old).files file ≡ true }
+        ensures done { IfOk result (λ n. Answers (λ s. opens s by (Descriptor.File file 0 mode))
+            self.old n self.new) }
+        ensures err { OnErr result (state_of self.new ≡ state_of self.old) }
+    {
+        let start = Descriptor::File { file, at: 0, mode };
+        Ok(self.domains.add_fd(by, start)?)
+    }
+
     /// How many files there are.
     #[tactic(auto, using(crate::proofs::Named::file_rules))]
     fn file_count(&self) -> usize
@@ -81,8 +139,9 @@ impl Kernel {
     /// Whether the bytes stored in the next slot are more than a file may have.
     fn is_next_too_long<B: Backing>(&self, backing: &B) -> bool
         requires { IsSound (state_of self.now) }
-        ensures { IfHonest (B.disk backing.now) ((f : Reading) → f.stored ≡ (B.disk backing.now).slots → result ≡
+        ensures honest { IfHonest (B.disk backing.now) ((f : Reading) → f.stored ≡ (B.disk backing.now).slots → result ≡
             nat_lt MAX_FILE_BYTES (length (content (as_read f self.now) (length (as_read f self.now).files + 1)))) }
+        ensures told { TellsNext (state_of self.now) result }
     {
         let count = self.files.list.len();
         if count >= MAX_FILES {
@@ -97,8 +156,8 @@ impl Kernel {
         requires sound { IsSound (state_of self.old) }
         requires few { length (machine self.old).files < MAX_FILES }
         requires open { (state.pool (machine self.old) pool).closed ≡ false }
-        ensures done { IfOk result (λ n. Answers (λ s. calls.file_new s by name.now pool) self.old n self.new) }
-        ensures store { (state_of self.new).store ≡ (state_of self.old).store }
+        ensures done { IfOk result (λ n. AddsFile (λ s. calls.file_new s by name.now pool) self.old n
+            self.new) }
         ensures err { OnErr result (state_of self.new ≡ state_of self.old) }
     {
         Ok(self.files.add(self.alloc, name.as_slice(), pool)?)

@@ -1,23 +1,25 @@
 //! Acts from outside: connections are made, bytes arrive on them and are sent, and their peers close.
-ghost use Rattle.std.specs.Prelude.{◌≡◌, ◌≢◌, ℕ, ◌<◌, ◌≤◌, length, true, false, None, IfOk, IfErr, OnOk, OnErr, Err};
+ghost use Rattle.std.specs.Prelude.{◌≡◌, ◌≢◌, ℕ, ◌<◌, ◌≤◌, length, true, false, Some, None, IfOk, IfErr, OnOk, OnErr, Err};
 ghost use Rattle.iol_core.specs.State as state;
 ghost use Rattle.iol_core.specs.State.{conn_at, with_conn};
+ghost use Rattle.iol_core.specs.Meaning.{first};
 ghost use Rattle.iol_core.specs.Numbered.{lookup};
 ghost use Rattle.iol_core.specs.Calls.Outside as calls;
 ghost use Rattle.iol_core.specs.Calls.Outside.{lacks_conn};
+ghost use Rattle.iol_pool.specs.Pools.{pool_in};
 ghost use Rattle.iol_hold.specs.Moves.{Stays};
 ghost use Rattle.iol_hold.specs.Pages.{KeepsPages};
 ghost use Rattle.iol_hold.specs.Room.{has_room};
 ghost use Rattle.iol_sock.specs.Sent.{UsesSent};
 ghost use Rattle.iol_sock.specs.Table.{conn_in};
-ghost use Rattle.iol_kernel.specs.Calls.{told};
+ghost use Rattle.iol_kernel.specs.Calls.{told, with_incoming};
 ghost use Rattle.iol_kernel.specs.ClosedEnds.{KeepsEnds};
 ghost use Rattle.iol_kernel.specs.KernelState.{objects_of, IsSound};
 ghost use Rattle.iol_kernel.specs.Readings.{Reading};
 
 use crate::kernel::Kernel;
 use iol_core::descriptors::{Descriptor, How};
-use iol_core::limits::{LAST_CONNECTION, MAX_CONNECTIONS};
+use iol_core::limits::{LAST_CONNECTION, MAX_CONNECTIONS, MAX_QUEUE_BYTES};
 use iol_core::lists::Bytes;
 use iol_core::numbers::{ConnId, PoolId};
 use iol_core::refusals::Refusal;
@@ -25,7 +27,7 @@ use iol_sock::Segment;
 use std::alloc::AllocError;
 
 impl Kernel {
-    ghost use Rattle.iol_kernel.specs.Kernel.{state_of, machine, as_read, Steps, CarriesOut, KeepsPlaces, Answers, Arrives, Transmits, Leaves};
+    ghost use Rattle.iol_kernel.specs.Kernel.{state_of, machine, as_read, Steps, CarriesOut, KeepsPlaces, Answers, Arrives, Places, Transmits, Leaves};
 
     /// Makes a connection that waits to be accepted. What arrives on it will lie in the pool.
     #[tactic(auto, using(crate::proofs::Stay::stay_rules))]
@@ -130,35 +132,74 @@ impl Kernel {
         over.release(&mut self.store);
     }
 
-    /// Bytes come in from a connection's peer, as many as fit: how many is the answer. They lie in new buffers on the
-    /// lowest free pages of the connection's pool.
-    #[tactic(auto, using(crate::proofs::Stay::stay_rules))]
+    /// Bytes come in from a connection's peer, as many as fit: how many is the answer. Clean extents of files of the
+    /// connection's pool give way, and the bytes lie in new buffers on its lowest free pages then.
     pub fn arrive(&mut self, conn: ConnId, bytes: &Bytes) -> Result<u32, Refusal>
         requires { IsSound (state_of self.old) }
-        ensures step { Steps (λ s. calls.arrive s conn bytes.now) self.old result self.new }
-        ensures made { IfOk result (λ n. Arrives conn n self.old self.new) }
-        ensures refused { OnErr result (state_of self.new ≡ state_of self.old) }
-        ensures sound { IsSound (state_of self.new) }
-        ensures stays { Stays self.old.store self.new.store }
-        ensures room { OnOk result (has_room self.old.store (conn_at (machine self.old) conn).pool
-            (calls.arrive (machine self.old) conn bytes.now).answer ≡ true) }
-        ensures no_room { (p : ℕ) → result ≡ Err (Refusal.NoRoom p) → has_room self.old.store
-            (conn_at (machine self.old) conn).pool (calls.arrive (machine self.old) conn
-            bytes.now).answer ≡ false }
+        ensures { Places (λ s. calls.arrive s conn bytes.now) (with_incoming conn) (conn_at (machine
+            self.old) conn).pool (calls.arrive (machine self.old) conn bytes.now).answer self.old
+            result self.new }
     {
-        if self.lacks_conn(conn) {
-            return Err(Refusal::BadFd);
-        }
-        self.take_in(conn, bytes.as_slice())
+        let (pool, count) = self.room_to_arrive(conn, bytes.as_slice())?;
+        self.take_in(conn, pool, count, bytes.as_slice())
     }
 
-    /// Bytes come in on a connection that is there.
-    fn take_in(&mut self, conn: ConnId, bytes: &[u8]) -> Result<u32, Refusal>
+    /// The pool of a connection, and how many of these bytes fit. It is refused as their arrival is, but for want of room
+    /// and of memory.
+    fn room_to_arrive(&self, conn: ConnId, bytes: &[u8]) -> Result<(PoolId, u32), Refusal>
+        requires { IsSound (state_of self.now) }
+        ensures passed { OnOk result ((f : Reading) →
+            first (calls.arrive (as_read f self.now) conn bytes.now).refusals ≡ None) }
+        ensures refused { IfErr result (λ x. (f : Reading) →
+            first (calls.arrive (as_read f self.now) conn bytes.now).refusals ≡ Some x) }
+        ensures roomy { (p : ℕ) → result ≡ Err (Refusal.NoRoom p) → ⊥ }
+        ensures pool { IfOk result (λ r. (f : Reading) → (conn_at (as_read f self.now) conn).pool ≡
+            r.0) }
+        ensures count { IfOk result (λ r. (f : Reading) →
+            (calls.arrive (as_read f self.now) conn bytes.now).answer ≡ r.1) }
+        ensures open { IfOk result (λ r. (pool_in self.now.store.pools r.0).closed ≡ false) }
+    {
+        let Some(found) = self.conns.get(conn) else {
+            return Err(Refusal::BadFd);
+        };
+        found.may_arrive(bytes.len())?;
+        let room = MAX_QUEUE_BYTES as u32 - found.unread();
+        Ok((found.pool(), bytes.len().min(room as usize) as u32))
+    }
+
+    /// So many bytes come in on a connection that is there, once room for them is made.
+    fn take_in(
+        &mut self,
+        conn: ConnId,
+        pool: PoolId,
+        count: u32,
+        bytes: &[u8],
+    ) -> Result<u32, Refusal>
+        requires sound { IsSound (state_of self.old) }
+        requires passed { (f : Reading) → first (calls.arrive (as_read f self.old) conn
+            bytes.now).refusals ≡ None }
+        requires pool { (f : Reading) → (conn_at (as_read f self.old) conn).pool ≡ pool }
+        requires count { (f : Reading) → (calls.arrive (as_read f self.old) conn bytes.now).answer ≡
+            count }
+        requires open { (pool_in self.old.store.pools pool).closed ≡ false }
+        ensures { Places (λ s. calls.arrive s conn bytes.now) (with_incoming conn) (conn_at (machine
+            self.old) conn).pool (calls.arrive (machine self.old) conn bytes.now).answer self.old
+            result self.new }
+    {
+        if !self.make_room_for(pool, count) {
+            return Err(Refusal::NoRoom { pool });
+        }
+        self.fill_conn(conn, bytes)
+    }
+
+    /// Bytes come in on a connection that is there, and whose pool has room.
+    fn fill_conn(&mut self, conn: ConnId, bytes: &[u8]) -> Result<u32, Refusal>
         requires sound { IsSound (state_of self.old) }
         requires there { lacks_conn (machine self.old) conn ≡ false }
         ensures step { Steps (λ s. calls.arrive s conn bytes.now) self.old result self.new }
         ensures made { IfOk result (λ n. Arrives conn n self.old self.new) }
         ensures refused { OnErr result (state_of self.new ≡ state_of self.old) }
+        ensures cache { (state_of self.new).cache ≡ (state_of self.old).cache }
         ensures sound { IsSound (state_of self.new) }
         ensures stays { Stays self.old.store self.new.store }
         ensures room { OnOk result (has_room self.old.store (conn_at (machine self.old) conn).pool

@@ -1,25 +1,50 @@
-//! Reading by reference, from pipes and connections.
+//! Reading by reference.
 ghost use Rattle.std.specs.Prelude.{◌≡◌, ℕ, length, true, false, min, take, Option, Some, IfOk, OnErr};
 ghost use Rattle.iol_core.specs.State.{is_live, descriptor, may_read, pipe_at, conn_at};
 ghost use Rattle.iol_core.specs.Text.{barred};
 ghost use Rattle.iol_core.specs.Calls.Aggregates.{too_many_aggs};
+ghost use Rattle.iol_core.specs.Calls.Files.{open_on};
 ghost use Rattle.iol_core.specs.Calls.Reading as calls;
+ghost use Rattle.iol_kernel.specs.FileReading.{held_by};
 ghost use Rattle.iol_kernel.specs.KernelState.{queue_at, IsSound};
 ghost use Rattle.iol_kernel.specs.Readings.{Reading, KeepsPools};
 
 use crate::kernel::Kernel;
+use iol_back::backing::Backing;
 use iol_core::descriptors::Descriptor;
 use iol_core::numbers::{AggId, ConnId, DomainId, Fd, PipeId, PoolId};
 use iol_core::refusals::Refusal;
 use std::alloc::AllocError;
 
 impl Kernel {
-    ghost use Rattle.iol_kernel.specs.Kernel.{state_of, machine, as_read, CarriesOut, Answers};
+    ghost use Rattle.iol_kernel.specs.Kernel.{state_of, machine, as_read, CarriesOut, Answers, Reads, Serves};
 
-    /// Reads up to `count` bytes, as the caller's next aggregate.
-    #[tactic(auto, using(crate::proofs::Stay::stay_rules))]
-    pub fn iol_read(&mut self, by: DomainId, fd: Fd, count: u32) -> Result<AggId, Refusal>
+    /// Reads up to `count` bytes, as the caller's next aggregate. The store under the files is asked for what of a file is not
+    /// in memory.
+    pub fn iol_read<B: Backing>(
+        &mut self,
+        backing: &mut B,
+        by: DomainId,
+        fd: Fd,
+        count: u32,
+    ) -> Result<AggId, Refusal>
         requires { IsSound (state_of self.old) }
+        ensures serves { Serves (λ s. calls.iol_read s by fd count) (B.disk backing.old) self.old
+            result (B.disk backing.new) self.new }
+        ensures reads { Reads by fd count (B.disk backing.old) self.old result
+            (B.disk backing.new) self.new }
+    {
+        match self.file_open(by, fd) {
+            Some(open) => { self.read_file(backing, by, fd, open.file, open.at, open.mode, count) }
+            None => self.read_queue(by, fd, count),
+        }
+    }
+
+    /// Reads from a pipe or a connection.
+    #[tactic(auto, using(crate::proofs::Stay::stay_rules))]
+    fn read_queue(&mut self, by: DomainId, fd: Fd, count: u32) -> Result<AggId, Refusal>
+        requires sound { IsSound (state_of self.old) }
+        requires no_file { (f : Reading) → open_on (held_by (as_read f self.old) by fd) ≡ None }
         ensures { CarriesOut (λ s. calls.iol_read s by fd count) self.old result self.new }
     {
         if !self.is_live(by) {
@@ -31,7 +56,8 @@ impl Kernel {
         match from {
             Descriptor::ReadEnd { pipe } => self.read_pipe(by, fd, pipe, count),
             Descriptor::Connection { conn } => self.read_conn(by, fd, conn, count),
-            Descriptor::WriteEnd { .. } | Descriptor::File { .. } => Err(Refusal::WrongMode),
+            Descriptor::WriteEnd { .. } => Err(Refusal::WrongMode),
+            Descriptor::File { .. } => unreachable!(),
         }
     }
 

@@ -13,10 +13,10 @@ use std::alloc::{AllocError, Global};
 pub struct Report {
     /// The pools by rising number, but for those whose chunks went back.
     pub pools: Vec<PoolReport>,
-    /// The extents of files. There are no files yet.
-    pub extents: u32,
+    /// The extents of files.
+    pub extents: usize,
     /// Those of them that are not written back.
-    pub dirty: u32,
+    pub dirty: usize,
     /// The live buffers.
     pub buffers: u32,
 }

@@ -1,9 +1,11 @@
 //! Bytes are copied out of pipes and connections: no aggregate is made of them, and no memory is taken.
-ghost use Rattle.std.specs.Prelude.{◌≡◌, ◌++◌, ℕ, length, min, drop, true, Some, IfOk, OnOk, IfErr};
+ghost use Rattle.std.specs.Prelude.{◌≡◌, ◌++◌, ℕ, length, min, drop, true, Some, None, IfOk, OnOk, IfErr};
 ghost use Rattle.iol_core.specs.Meaning.{Never};
 ghost use Rattle.iol_core.specs.State.{is_live, descriptor};
+ghost use Rattle.iol_core.specs.Calls.Files.{open_on};
 ghost use Rattle.iol_core.specs.Calls.Reading as calls;
 ghost use Rattle.iol_sock.specs.Refused.{IsPassed, IsRefused};
+ghost use Rattle.iol_kernel.specs.FileReading.{held_by};
 ghost use Rattle.iol_kernel.specs.KernelState.{IsSound};
 ghost use Rattle.iol_kernel.specs.Readings.{Reading, KeepsPools};
 
@@ -15,9 +17,11 @@ use iol_core::refusals::Refusal;
 impl Kernel {
     ghost use Rattle.iol_kernel.specs.Kernel.{state_of, machine, as_read, Leaves};
 
-    /// How many bytes of those that a read of `count` asks for wait on a descriptor. It is refused as that read is.
+    /// How many bytes of those that a read of `count` asks for wait on a descriptor that is not open on a file. It is refused as
+    /// that read is.
     pub fn waiting(&self, by: DomainId, fd: Fd, count: usize) -> Result<usize, Refusal>
-        requires { IsSound (state_of self.now) }
+        requires sound { IsSound (state_of self.now) }
+        requires no_file { (f : Reading) → open_on (held_by (as_read f self.now) by fd) ≡ None }
         ensures passed { OnOk result (IsPassed (calls.read (machine self.now) by fd count).refusals) }
         ensures live { OnOk result (is_live (machine self.now) by ≡ true) }
         ensures readable { OnOk result (calls.can_read (descriptor (machine self.now) by fd) ≡
@@ -36,7 +40,8 @@ impl Kernel {
         match from {
             Descriptor::ReadEnd { pipe } => self.waiting_in(by, fd, pipe, count),
             Descriptor::Connection { conn } => self.waiting_on(by, fd, conn, count),
-            Descriptor::WriteEnd { .. } | Descriptor::File { .. } => Err(Refusal::WrongMode),
+            Descriptor::WriteEnd { .. } => Err(Refusal::WrongMode),
+            Descriptor::File { .. } => unreachable!(),
         }
     }
 
@@ -89,6 +94,7 @@ impl Kernel {
     pub fn take_into(&mut self, by: DomainId, fd: Fd, into: &mut [u8]) -> u32
         requires sound { IsSound (state_of self.old) }
         requires live { is_live (machine self.old) by ≡ true }
+        requires no_file { (f : Reading) → open_on (held_by (as_read f self.old) by fd) ≡ None }
         requires readable { calls.can_read (descriptor (machine self.old) by fd) ≡ true }
         ensures copied { into.new ≡ (calls.read (machine self.old) by fd (length into.old)).answer ++
             drop result into.old }
@@ -103,7 +109,8 @@ impl Kernel {
         match from {
             Descriptor::ReadEnd { pipe } => self.take_from_pipe(by, fd, pipe, into),
             Descriptor::Connection { conn } => self.take_from_conn(by, fd, conn, into),
-            Descriptor::WriteEnd { .. } | Descriptor::File { .. } => unreachable!(),
+            Descriptor::WriteEnd { .. } => unreachable!(),
+            Descriptor::File { .. } => unreachable!(),
         }
     }
 

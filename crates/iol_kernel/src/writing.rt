@@ -1,10 +1,12 @@
-//! Writing by reference, to pipes and connections.
-ghost use Rattle.std.specs.Prelude.{◌≡◌, ℕ, ◌-◌, length, true, false, Some, IfOk, OnErr};
+//! Writing by reference: to pipes and connections here, to files in `writing_files`.
+ghost use Rattle.std.specs.Prelude.{◌≡◌, ℕ, ◌-◌, length, true, false, Some, Err, IfOk, IfErr, OnOk, OnErr};
 ghost use Rattle.iol_core.specs.State.{is_live, descriptor, pipe_at, text};
 ghost use Rattle.iol_core.specs.Calls.Aggregates.{lacks_agg};
 ghost use Rattle.iol_core.specs.Calls.Writing as calls;
+ghost use Rattle.iol_back.specs.Disk.{Disk};
 ghost use Rattle.iol_kernel.specs.KernelState.{queue_at, IsSound};
 ghost use Rattle.iol_kernel.specs.Readings.{Reading};
+ghost use Rattle.iol_kernel.specs.WritingFiles.{WritesOn};
 
 use crate::kernel::Kernel;
 use iol_core::descriptors::Descriptor;
@@ -14,13 +16,38 @@ use iol_core::refusals::Refusal;
 use std::alloc::AllocError;
 
 impl Kernel {
-    ghost use Rattle.iol_kernel.specs.Kernel.{state_of, machine, as_read, CarriesOut, Answers};
+    ghost use Rattle.iol_kernel.specs.Kernel.{state_of, machine, as_read, CarriesOut, Serves, Answers};
 
     /// Writes an aggregate, which stays. Returns how many of its bytes were taken.
-    #[tactic(auto, using(crate::proofs::Stay::stay_rules))]
+    ///
+    /// To a queue no byte is copied, and a refused write changes nothing. Over the bytes of a file those that lie in the
+    /// file's pool are shared; clean extents may go to make room for copies of the others, also where it is refused.
     pub fn iol_write(&mut self, by: DomainId, fd: Fd, agg: AggId) -> Result<u32, Refusal>
         requires { IsSound (state_of self.old) }
-        ensures { CarriesOut (λ s. calls.iol_write s by fd agg) self.old result self.new }
+        ensures serves { (disk : Disk) → Serves (λ s. calls.iol_write s by fd agg) disk self.old
+            result disk self.new }
+        ensures writes { WritesOn by fd agg (descriptor (machine self.old) by fd)
+            (state_of self.old) result (state_of self.new) }
+    {
+        let to = match self.end_to_write(by, fd, agg) {
+            Ok(to) => to,
+            Err(refusal) => return Err(refusal),
+        };
+        if let Descriptor::File { file, at, mode } = to {
+            return self.write_file(by, fd, agg, file, at, mode);
+        }
+        self.write_queue(by, fd, agg, to)
+    }
+
+    /// What the caller's descriptor is open on.
+    #[tactic(auto, using(crate::proofs::Stay::stay_rules))]
+    fn end_to_write(&self, by: DomainId, fd: Fd, agg: AggId) -> Result<Descriptor, Refusal>
+        requires { IsSound (state_of self.now) }
+        ensures live { OnOk result ((f : Reading) → is_live (as_read f self.now) by ≡ true) }
+        ensures open { IfOk result (λ x. (f : Reading) → descriptor (as_read f self.now) by fd ≡
+            Some x) }
+        ensures refused { IfErr result (λ x. CarriesOut (λ s. calls.iol_write s by fd agg) self.now
+            (Err x) self.now) }
     {
         if !self.is_live(by) {
             return Err(Refusal::NoDomain);
@@ -28,6 +55,24 @@ impl Kernel {
         let Some(to) = self.descriptor(by, fd) else {
             return Err(Refusal::BadFd);
         };
+        Ok(to)
+    }
+
+    /// Writes an aggregate to what is no file.
+    #[tactic(auto, using(crate::proofs::Stay::stay_rules))]
+    fn write_queue(
+        &mut self,
+        by: DomainId,
+        fd: Fd,
+        agg: AggId,
+        to: Descriptor,
+    ) -> Result<u32, Refusal>
+        requires sound { IsSound (state_of self.old) }
+        requires live { (f : Reading) → is_live (as_read f self.old) by ≡ true }
+        requires to { (f : Reading) → descriptor (as_read f self.old) by fd ≡ Some to }
+        requires no_file { calls.is_file (Some to) ≡ false }
+        ensures { CarriesOut (λ s. calls.iol_write s by fd agg) self.old result self.new }
+    {
         let len = self.find_len(by, agg)?;
         match to {
             Descriptor::WriteEnd { pipe } => self.write_pipe(by, fd, agg, pipe, len),

@@ -30,7 +30,7 @@ use Rattle.iol_laws.specs.Order.{stands, IsOrderly}
 use Rattle.iol_laws.proofs.Connections.{conn-push, conn-unmade, conn-with_same, conns_conn, conns_same, not-over}
 use Rattle.iol_laws.proofs.Domains.{domain-with_same, domains-with_conn, found-with, live-first, with_domain-twice}
 use Rattle.iol_laws.proofs.Ends.{IsSole, sole_closed, sole_less, sole_opened, sole_same, stands-same}
-use Rattle.iol_laws.proofs.EndsKept.{sole_conn, sole_exit, sole_file, sole_freed, sole_given, sole_kept, sole_pipe}
+use Rattle.iol_laws.proofs.EndsKept.{sole_conn, sole_exit, sole_file, sole_file_opened, sole_freed, sole_given, sole_kept, sole_pipe}
 use Rattle.iol_laws.proofs.LeftPipes.{pipes_same}
 use Rattle.iol_laws.proofs.Places.{lowest-free, place-new, place-old, place-placed_other}
 use Rattle.iol_laws.proofs.Tests.{is_some-or}
@@ -249,12 +249,17 @@ sole_called s by (call.PoolCreate chunks list) order unrefused = sole_rest s (ca
 sole_called s by (call.PoolClose p) order unrefused = sole_rest s (called s by (call.PoolClose p)).after (sole_of s order) refl refl refl
 sole_called s by (call.Show x) order unrefused = sole_of s order
 sole_called s by (call.AggGive x to) order unrefused = sole_agg_give s by x to (sole_of s order)
+sole_called s by (call.FileNew name p) order unrefused = sole_rest s (called s by (call.FileNew name p)).after (sole_of s order) refl refl refl
+sole_called s by (call.OpenFile name mode) order unrefused = sole_file_opened s by _ 0 mode (sole_of s order)
 sole_called s by call.Pipe order unrefused = sole_new_pipe s by order (live-first s by _ unrefused)
 sole_called s by (call.GiveFd f to) order unrefused = sole_gives s by f to (descriptor s by f) refl (sole_of s order)
 sole_called s by (call.Close f) order unrefused = sole_closes s by f (descriptor s by f) refl (sole_of s order)
+sole_called s by (call.Seek f at) order unrefused = sole_seek s by f at (descriptor s by f) (when-none refuse.WrongMode (is_none (open_on (descriptor s by f))) (passed (called s by (call.Seek f at)).refusals 2 unrefused)) (sole_of s order)
+sole_called s by (call.Length f) order unrefused = sole_of s order
 sole_called s by (call.IolRead f n) order unrefused = sole_kept (reading.read_on s by f (descriptor s by f) (length (reading.read_text s by (descriptor s by f) n))) by _ refl (sole_read_on s by f (descriptor s by f) _ (sole_of s order))
 sole_called s by (call.IolWrite f x) order unrefused = sole_written s by f (descriptor s by f) _ (sole_of s order)
 sole_called s by call.Accept order unrefused = sole_accept s by order (when-none refuse.WouldBlock (is_none (fds.waiting s by)) (passed (called s by call.Accept).refusals 2 unrefused))
+sole_called s by (call.Fsync f) order unrefused = sole_of s order
 sole_called s by (call.Read f n) order unrefused = sole_read_on s by f (descriptor s by f) _ (sole_of s order)
 sole_called s by (call.Write f bytes) order unrefused = sole_written s by f (descriptor s by f) _ (sole_of s order)
 sole_called s by k order unrefused = sole_kept s by _ refl (sole_of s order)
@@ -284,3 +289,5 @@ sole_meant s (event.Arrive c bytes) order unrefused = sole_conn s c _ refl refl 
 sole_meant s (event.PeerClosed c ways.Done) order unrefused = sole_conn s c _ refl refl (sole_of s order)
 sole_meant s (event.PeerClosed c ways.Gone) order unrefused = sole_conn s c _ refl refl (sole_of s order)
 sole_meant s (event.Transmit c max) order unrefused = sole_conn s c _ refl refl (sole_of s order)
+sole_meant s event.Flush order unrefused = sole_of s order
+sole_meant s event.DropClean order unrefused = sole_of s order

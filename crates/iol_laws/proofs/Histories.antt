@@ -81,6 +81,8 @@ end_step s t (event.ConnNew p) r c order step = end_of_rest s t c (end_outcome (
 end_step s t (event.Arrive e bytes) r c order step = end_arrive s t e bytes r c order step
 end_step s t (event.PeerClosed e how) r c order step = end_of_rest s t c (end_outcome (meaning s (event.PeerClosed e how)) s t (outcome r) c (rest_meant s (event.PeerClosed e how) c order refl) step)
 end_step s t (event.Transmit e max) r c order step = end_of_rest s t c (end_outcome (meaning s (event.Transmit e max)) s t (outcome r) c (rest_meant s (event.Transmit e max) c order refl) step)
+end_step s t event.Flush r c order step = end_of_rest s t c (end_outcome (meaning s event.Flush) s t (outcome r) c (rest_meant s event.Flush c order refl) step)
+end_step s t event.DropClean r c order step = end_of_rest s t c (end_outcome (meaning s event.DropClean) s t (outcome r) c (rest_meant s event.DropClean c order refl) step)
 
 end_then : (a b one two u : List ℕ) (first : List ℕ) → IsEndOf a one b → IsEndOf b two u → IsEndOf a (one ++ two) u
 end_then a b one two u first x y = record {
@@ -131,6 +133,8 @@ first_step s t (event.ConnNew p) r c order step kept = first_of_longer s t c (lo
 first_step s t (event.Arrive e bytes) r c order step kept = first_of_longer s t c (longer_outcome (meaning s (event.Arrive e bytes)) s t (outcome r) c (longer_meant s (event.Arrive e bytes) c order refl kept) step)
 first_step s t (event.PeerClosed e how) r c order step kept = first_of_longer s t c (longer_outcome (meaning s (event.PeerClosed e how)) s t (outcome r) c (longer_meant s (event.PeerClosed e how) c order refl kept) step)
 first_step s t (event.Transmit e max) r c order step kept = first_transmit s t e max r c order step
+first_step s t event.Flush r c order step kept = first_of_longer s t c (longer_outcome (meaning s event.Flush) s t (outcome r) c (longer_meant s event.Flush c order refl kept) step)
+first_step s t event.DropClean r c order step kept = first_of_longer s t c (longer_outcome (meaning s event.DropClean) s t (outcome r) c (longer_meant s event.DropClean c order refl kept) step)
 
 first_then : (a b c one two : List ℕ) → GoesFirst a one b → GoesFirst b two c → GoesFirst a (one ++ two) c
 first_then a b c one two x y = record {

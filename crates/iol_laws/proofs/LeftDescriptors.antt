@@ -157,9 +157,13 @@ fds_called s by (call.AggReplace a from to b) = fds_kept s by _ no_fd refl
 fds_called s by (call.AggDrop a) = fds_kept s by _ no_fd refl
 fds_called s by (call.AggGive a to) = fds_agg_give s by a to
 fds_called s by (call.Show a) = λ d f x is un. is
+fds_called s by (call.FileNew name p) = fds_same s (called s by (call.FileNew name p)).after no_fd refl
+fds_called s by (call.OpenFile name mode) = fds_opened s by _ no_fd
 fds_called s by call.Pipe = fds_pipe s by
 fds_called s by (call.GiveFd fd to) = fds_give_fd s by fd to (descriptor s by fd)
 fds_called s by (call.Close fd) = fds_close s by fd
+fds_called s by (call.Seek fd at) = fds_set s by fd _
+fds_called s by (call.Length fd) = λ d f x is un. is
 fds_called s by (call.IolRead fd n) = λ d f x is un.
     let from : Option Descriptor = descriptor s by fd in
     let t : Text = reading.read_text s by from n in
@@ -170,6 +174,7 @@ fds_called s by call.Accept =
     let c : ℕ = unwrap_or (fds.waiting s by) 0 in
     let taken : State = with_conn s c (record (conn_at s c) { accepted = true }) in
     fds_then s taken (fds.accept s by).after no_fd (fds_same s taken no_fd (domains-with_conn s c _)) (fds_opened taken by (on.Connection c) no_fd)
+fds_called s by (call.Fsync fd) = λ d f x is un. is
 fds_called s by (call.Read fd n) = fds_read_on s by fd (descriptor s by fd) _
 fds_called s by (call.Write fd bytes) = fds_written s by fd (descriptor s by fd) _
 
@@ -179,3 +184,5 @@ fds_meant s (event.ConnNew p) = fds_same s (meaning s (event.ConnNew p)).after n
 fds_meant s (event.Arrive c bytes) = fds_same s _ no_fd (domains-with_conn s c _)
 fds_meant s (event.PeerClosed c how) = fds_same s _ no_fd (domains-with_conn s c _)
 fds_meant s (event.Transmit c max) = fds_same s _ no_fd (domains-with_conn s c _)
+fds_meant s event.Flush = λ d f x is un. is
+fds_meant s event.DropClean = λ d f x is un. is

@@ -117,6 +117,7 @@ unfolding with_domain with_conn
 store_called s by call.Exit = store_kept s (exit s by).after false (store_then_domain s (fold fds.closed_on s (domain s by).fds) by no_domain (store_all_closed s (domain s by).fds))
 store_called s by (call.PoolCreate chunks list) = record { files = λ un. (refl, refl); lists = list-push s _ }
 store_called s by (call.PoolClose p) = record { files = λ un. (refl, refl); lists = λ q is. list-closed s p q }
+store_called s by (call.FileNew name p) = record { files = λ changed. absurd (cc); lists = λ q is. lists_same s (called s by (call.FileNew name p)).after q refl }
 store_called s by (call.AggGive a to) = store_kept s (aggs.agg_give s by a to).after false (store_agg_give s by a to)
 store_called s by (call.GiveFd fd to) = store_kept s (fds.give_fd s by fd to).after false (store_given s by fd to (descriptor s by fd))
 store_called s by (call.Close fd) = store_kept s (fds.close s by fd).after false (store_then_domain s (fds.closed_on s (descriptor s by fd)) by _ (store_closed_on s (descriptor s by fd)))
@@ -136,3 +137,5 @@ store_meant s (event.ConnNew p) = store_kept s _ false (record { files = refl; s
 store_meant s (event.Arrive c bytes) = store_kept s _ false (record { files = refl; slots = refl; pools = refl })
 store_meant s (event.PeerClosed c how) = store_kept s _ false (record { files = refl; slots = refl; pools = refl })
 store_meant s (event.Transmit c max) = store_kept s _ false (record { files = refl; slots = refl; pools = refl })
+store_meant s event.Flush = store_kept s _ false (record { files = refl; slots = refl; pools = refl })
+store_meant s event.DropClean = store_kept s _ false (record { files = refl; slots = refl; pools = refl })

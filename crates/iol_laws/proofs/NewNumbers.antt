@@ -41,6 +41,7 @@ fresh_agg s t d k r a order step stays is = absurd (cc)
 -- the number of a new descriptor
 pub fresh_fd : (s t : State) (d : ℕ) (k : Call) (r : Reply) (g : ℕ) → IsOrderly s → StepsTo s (event.Call d k) r t → gives_away k ≡ false → is_fd r g ≡ true → descriptor s d g ≡ None
 fresh_fd s t d call.Accept (reply.Fd b) g order step stays is = ap (λ k. descriptor s d k) (sym (same-number b g is) ∙ ap number step.1) ∙ lowest-free (domain s d).fds
+fresh_fd s t d (call.OpenFile name mode) (reply.Fd b) g order step stays is = ap (λ k. descriptor s d k) (sym (same-number b g is) ∙ ap number step.1) ∙ lowest-free (domain s d).fds
 fresh_fd s t d (call.AggGive x to) (reply.Fd b) g order step stays is = absurd (cc)
 fresh_fd s t d (call.GiveFd f to) (reply.Fd b) g order step stays is = absurd (cc)
 fresh_fd s t d k (reply.Fd b) g order step stays is = (let e = step.1 in absurd (cc))

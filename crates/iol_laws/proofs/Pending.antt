@@ -6,7 +6,7 @@ use Rattle.std.proofs.lemmas.Bool.Decides.{nat_tests}
 use Rattle.std.proofs.lemmas.List.{append-nil}
 use Rattle.iol_core.specs.Text.{Text, bytes_of}
 use Rattle.iol_core.specs.State.{State, Connection, conn_at, with_conn}
-use Rattle.iol_core.specs.Meaning.{Step}
+use Rattle.iol_core.specs.Meaning.{Meaning, Step}
 use Rattle.iol_core.specs.Run.{meaning, StepsTo, Run, outcome}
 use Rattle.iol_core.specs.Calls.Outside.{conn_new, closed_by}
 use Rattle.iol_core.specs.declared.refusals.Refusal.{Refusal}
@@ -40,6 +40,8 @@ accepted_meant s (event.Arrive e bytes) c order made was = accepted-with_conn s 
 accepted_meant s (event.PeerClosed e ways.Done) c order made was = accepted-with_conn s e (closed_by (conn_at s e) ways.Done) c order.once (λ same. ap (λ n. (conn_at s n).accepted) same ∙ was) was
 accepted_meant s (event.PeerClosed e ways.Gone) c order made was = accepted-with_conn s e (closed_by (conn_at s e) ways.Gone) c order.once (λ same. ap (λ n. (conn_at s n).accepted) same ∙ was) was
 accepted_meant s (event.Transmit e max) c order made was = accepted-with_conn s e _ c order.once (λ same. ap (λ n. (conn_at s n).accepted) same ∙ was) was
+accepted_meant s event.Flush c order made was = was
+accepted_meant s event.DropClean c order made was = was
 
 accepted_step : (s t : State) (e : Event) (r : Reply) (c : ℕ) → IsOrderly s → StepsTo s e r t → c < s.next_conn → IsAccepted s c → IsAccepted t c
 accepted_step s t e r c order step made was = accepted_outcome (meaning s e) s t (outcome r) c (accepted_meant s e c order made was) was step
@@ -121,6 +123,11 @@ unread_all_peer_closed s t e how (Ok a) c order step waits =
     unread_all_same s t c (ap (λ (u : State). (conn_at u c).incoming) step.2 ∙ unread_all_with_conn s e x c order.once (closed_by-incoming (conn_at s e) how) still)
 unread_all_peer_closed s t e how (Err x) c order step waits = unread_all_same s t c (ap (λ (u : State). (conn_at u c).incoming) step.1)
 
+-- what changes nothing
+unread_all_calm : (s t : State) (m : Meaning Reply) (r : Result Reply Refusal) (c : ℕ) → m.after ≡ s → Step m s r t → IsAllUnread s c [] [] t
+unread_all_calm s t m (Ok a) c same step = unread_all_same s t c (ap (λ (u : State). (conn_at u c).incoming) (step.2 ∙ same))
+unread_all_calm s t m (Err x) c same step = unread_all_same s t c (ap (λ (u : State). (conn_at u c).incoming) step.1)
+
 unread_all_call : (s t : State) (d : ℕ) (k : Call) (r : Reply) (c : ℕ) → IsOrderly s → StepsTo s (event.Call d k) r t → (conn_at s c).accepted ≡ false → (conn_at t c).accepted ≡ false → IsAllUnread s c [] [] t
 unread_all_call s t d k r c order step waits still = elim (other_waiting s t d k r c order step waits) [
   | inl same ↦ unread_all_same s t c (ap (λ (x : Connection). x.incoming) same)
@@ -133,6 +140,8 @@ unread_all_step s t (event.ConnNew p) r c order step waits still = unread_all_co
 unread_all_step s t (event.Arrive e bytes) r c order step waits still = unread_all_arrive s t e bytes r c order step
 unread_all_step s t (event.PeerClosed e how) r c order step waits still = unread_all_peer_closed s t e how (outcome r) c order step still
 unread_all_step s t (event.Transmit e max) r c order step waits still = unread_all_transmit s t e max r c order step waits
+unread_all_step s t event.Flush r c order step waits still = unread_all_calm s t (meaning s event.Flush) (outcome r) c refl step
+unread_all_step s t event.DropClean r c order step waits still = unread_all_calm s t (meaning s event.DropClean) (outcome r) c refl step
 
 -- Over a run.
 

@@ -57,6 +57,7 @@ abbrev pub touches_fd : State → Event → (d fd : ℕ) → Bool
 touches_fd s (event.Call by call.Exit) d fd = by == d
 touches_fd s (event.Call by (call.Close f)) d fd = (by == d) && (f == fd)
 touches_fd s (event.Call by (call.GiveFd f to)) d fd = (by == d) && (f == fd)
+touches_fd s (event.Call by (call.Seek f at)) d fd = (by == d) && (f == fd)
 touches_fd s (event.Call by (call.IolRead f n)) d fd = (by == d) && (f == fd) && is_file (descriptor s by f)
 touches_fd s (event.Call by (call.IolWrite f a)) d fd = (by == d) && (f == fd) && is_file (descriptor s by f)
 touches_fd s (event.Call by (call.Read f n)) d fd = (by == d) && (f == fd) && is_file (descriptor s by f)
@@ -65,6 +66,7 @@ touches_fd s e d fd = false
 
 -- whether it may make or write a file
 abbrev pub changes_files : State → Event → Bool
+changes_files s (event.Call by (call.FileNew name p)) = true
 changes_files s (event.Call by (call.IolWrite fd a)) = is_file (descriptor s by fd)
 changes_files s (event.Call by (call.Write fd bytes)) = is_file (descriptor s by fd)
 changes_files s e = false

@@ -1,15 +1,16 @@
 //! The copying calls of POSIX, over the kernel: for programs that keep bytes in a memory of their own.
 //!
-//! Both mean what they mean to the copying machine (`iol_core`, `specs/Calls`), for pipes and connections. No aggregate is
-//! made of what is read or written, and a refused call changes nothing.
+//! All mean what they mean to the copying machine (`iol_core`, `specs/Calls`). No aggregate is made of what is read or
+//! written. What of a file is not in memory is asked of the store under the files.
 //!
-//! The contract. [`read`] (`reads`: the machine's step, its bytes at the front of the caller's memory; `rest`: the others
-//! stay), [`read_bytes`] (the same, as a list of its own). [`write`] (`step`; `made`: the bytes taken, on the lowest free
-//! pages of the caller's default pool; `room`, `no_room`). The words are in `specs/Copying` and iol_kernel's.
+//! The contract. [`read`] (`serves`: with an honest store the machine's step, its bytes at the front of the caller's memory;
+//! `rest`: the others stay), [`read_bytes`] (`serves`, `copies`: the same, as a list of their own). [`write`] (`serves`;
+//! `queue`: the bytes that a queue takes, on the lowest free pages of the caller's default pool, once clean extents gave way;
+//! `room`, `no_room`). The words are in `specs/Copying` and iol_kernel's.
 //!
 //! ```text
 //! let taken = write(&mut kernel, by, to, b"hello")?;
-//! let count = read(&mut kernel, by, from, &mut memory)?;
+//! let count = read(&mut kernel, &mut backing, by, from, &mut memory)?;
 //! ```
 #![tactic(auto)]
 

@@ -1,19 +1,87 @@
-//! Reading by copying, from pipes and connections.
-ghost use Rattle.std.specs.Prelude.{◌≡◌, length, drop, IfOk, OnErr};
-ghost use Rattle.iol_kernel.specs.Kernel.{state_of};
+//! Reading by copying.
+ghost use Rattle.std.specs.Prelude.{◌≡◌, ◌<◌, ◌≤◌, ◌^◌, ◌++◌, length, drop, true, Some, None, IfOk, OnErr};
+ghost use Rattle.iol_core.specs.State.{is_live, descriptor};
+ghost use Rattle.iol_core.specs.Calls.Files.{open_on};
+ghost use Rattle.iol_core.specs.Calls.Reading as calls;
+ghost use Rattle.iol_kernel.specs.Copying.{Copies, ReadsOut};
+ghost use Rattle.iol_kernel.specs.FileReading.{held_by};
+ghost use Rattle.iol_kernel.specs.Kernel.{state_of, as_read, Serves};
 ghost use Rattle.iol_kernel.specs.KernelState.{IsSound};
-ghost use Rattle.iol_posix.specs.Copying.{ReadsOut, first_of};
+ghost use Rattle.iol_kernel.specs.Readings.{Reading};
+ghost use Rattle.iol_posix.specs.Copying.{first_of};
 
+use iol_back::backing::Backing;
+use iol_core::descriptors::Descriptor;
 use iol_core::lists::Bytes;
 use iol_core::numbers::{DomainId, Fd};
 use iol_core::refusals::Refusal;
 use iol_kernel::kernel::Kernel;
-use std::alloc::Global;
+use iol_kernel::reading_files::OpenFile;
 
-/// Reads into the caller's memory, as much as it has room for, and tells how many bytes that is. Nothing is kept of what
-/// was read, and no memory is taken.
-pub fn read(kernel: &mut Kernel, by: DomainId, fd: Fd, into: &mut [u8]) -> Result<u32, Refusal>
-    requires { IsSound (state_of kernel.old) }
+// Puts bytes over the first ones of a memory.
+fn put_front(into: &mut [u8], bytes: &[u8])
+    requires { length bytes.now ≤ length into.old }
+    ensures { into.new ≡ bytes.now ++ drop (length bytes.now) into.old }
+{
+    into[..bytes.len()].copy_from_slice(bytes);
+}
+
+/// Reads into the caller's memory, as much as it has room for, and tells how many bytes that is. Nothing is kept of what was
+/// read. Of a queue no memory is taken, and of a file as much as is read.
+pub fn read<B: Backing>(
+    kernel: &mut Kernel,
+    backing: &mut B,
+    by: DomainId,
+    fd: Fd,
+    into: &mut [u8],
+) -> Result<u32, Refusal>
+    requires sound { IsSound (state_of kernel.old) }
+    requires short { length into.old < 2 ^ 32 }
+    ensures serves { Serves (λ s. calls.read s by fd (length into.old)) (B.disk backing.old) kernel.old
+        (first_of into.new result) (B.disk backing.new) kernel.new }
+    ensures len { length into.new ≡ length into.old }
+    ensures rest { IfOk result (λ n. drop n into.new ≡ drop n into.old) }
+    ensures err { OnErr result (into.new ≡ into.old) }
+{
+    match kernel.file_open(by, fd) {
+        Some(found) => read_file(kernel, backing, by, fd, found, into),
+        None => read_queue(kernel, by, fd, into),
+    }
+}
+
+// Reads from a file.
+fn read_file<B: Backing>(
+    kernel: &mut Kernel,
+    backing: &mut B,
+    by: DomainId,
+    fd: Fd,
+    found: OpenFile,
+    into: &mut [u8],
+) -> Result<u32, Refusal>
+    requires sound { IsSound (state_of kernel.old) }
+    requires short { length into.old < 2 ^ 32 }
+    requires live { (f : Reading) → is_live (as_read f kernel.old) by ≡ true }
+    requires from { (f : Reading) → descriptor (as_read f kernel.old) by fd ≡ Some
+        (Descriptor.File found.file found.at found.mode) }
+    ensures serves { Serves (λ s. calls.read s by fd (length into.old)) (B.disk backing.old) kernel.old
+        (first_of into.new result) (B.disk backing.new) kernel.new }
+    ensures len { length into.new ≡ length into.old }
+    ensures rest { IfOk result (λ n. drop n into.new ≡ drop n into.old) }
+    ensures err { OnErr result (into.new ≡ into.old) }
+{
+    let outcome = kernel.copy_file(backing, by, fd, found, into.len() as u32);
+    let bytes = match outcome {
+        Ok(bytes) => bytes,
+        Err(refusal) => return Err(refusal),
+    };
+    put_front(into, bytes.as_slice());
+    Ok(bytes.as_slice().len() as u32)
+}
+
+// Reads from a pipe or a connection.
+fn read_queue(kernel: &mut Kernel, by: DomainId, fd: Fd, into: &mut [u8]) -> Result<u32, Refusal>
+    requires sound { IsSound (state_of kernel.old) }
+    requires no_file { (f : Reading) → open_on (held_by (as_read f kernel.old) by fd) ≡ None }
     ensures reads { ReadsOut by fd (length into.old) (state_of kernel.old) (first_of into.new result)
         (state_of kernel.new) }
     ensures len { length into.new ≡ length into.old }
@@ -24,20 +92,20 @@ pub fn read(kernel: &mut Kernel, by: DomainId, fd: Fd, into: &mut [u8]) -> Resul
     Ok(kernel.take_into(by, fd, into))
 }
 
-/// Reads up to `count` bytes, as a list of their own. Of memory it takes as much as waits, and that before it reads.
-pub fn read_bytes(
-    alloc: Global,
+/// Reads up to `count` bytes, as a list of their own: of a queue, or of a file, whose store is asked for what is not in
+/// memory. Of memory it takes as much as it reads.
+pub fn read_bytes<B: Backing>(
     kernel: &mut Kernel,
+    backing: &mut B,
     by: DomainId,
     fd: Fd,
     count: u32,
 ) -> Result<Bytes, Refusal>
     requires { IsSound (state_of kernel.old) }
-    ensures { ReadsOut by fd count (state_of kernel.old) result (state_of kernel.new) }
+    ensures serves { Serves (λ s. calls.read s by fd count) (B.disk backing.old) kernel.old result
+        (B.disk backing.new) kernel.new }
+    ensures copies { Copies by fd count (B.disk backing.old) (state_of kernel.old) result
+        (B.disk backing.new) (state_of kernel.new) }
 {
-    let most = kernel.waiting(by, fd, count as usize)?;
-    let mut list = Vec::from_elem(alloc, 0, most)?;
-    let taken = kernel.take_into(by, fd, list.as_mut_slice());
-    list.truncate(taken as usize);
-    Ok(Bytes::from_vec(list))
+    kernel.read_bytes(backing, by, fd, count)
 }

@@ -1,37 +1,46 @@
 -- Chains: how they grow by a step, come apart, and what they give.
-use Rattle.std.proofs.Common.{◌≡◌, ◌∙◌, true, ℕ, ◌+◌, ◌<◌, List, [], ◌∷◌, ◌++◌, length, take, get_or, refl, sym, ap, subst, arith}
+use Rattle.std.proofs.Common.{◌≡◌, ◌∙◌, true, false, Some, ℕ, ◌+◌, ◌<◌, List, [], ◌∷◌, ◌++◌, length, take, get_or, refl, sym, ap, subst, arith}
 use Rattle.std.proofs.lemmas.List.{take_more}
-use Rattle.std.specs.List.{list_all}
-use Rattle.std.proofs.lemmas.Grind.{common_steps}
-use Rattle.iol_core.specs.Sharing.{is_sharing}
+use Rattle.std.specs.Prelude.{Bool, ◌||◌}
+use Rattle.std.specs.List.{list_any}
+use Rattle.std.proofs.lemmas.Bool.{true≢false}
 use Rattle.iol_core.specs.declared.events.Event.{Event}
 use Rattle.iol_core.specs.declared.events.Reply.{Reply}
-use Rattle.iol_core.proofs.Values.{values_run}
 use Rattle.iol_hold.specs.Moves.{Stays}
 use Rattle.iol_hold.proofs.Moving.{stays_trans}
-use Rattle.iol_kernel.specs.KernelState.{KernelState, layout_of}
-use Rattle.iol_system.specs.Machine.{machine_of}
+use Rattle.iol_core.specs.State.{aggregate}
+use Rattle.iol_core.specs.Text.{Text}
+use Rattle.iol_core.specs.Values.{gives_up}
+use Rattle.iol_back.specs.Disk.{IfHonest}
+use Rattle.iol_kernel.specs.KernelState.{layout_of}
+use Rattle.iol_system.specs.Machine.{SystemState, machine_of}
 use Rattle.iol_kernel.proofs.Stay.{stays_here}
 use Rattle.iol_system.specs.Promises.{Promises, Chain}
 use Rattle.iol_system.specs.Safe.{IsSafe}
-use Rattle.iol_system.specs.Laws.{RunsAsTheMachine, Between, RunsInParts, Moment, EachEventIsAStep, RunsStaySafe, RunsKeepBuffers, RunsKeepValues, SharesOver, RunsShare}
+use Rattle.iol_system.specs.Laws.{RunsAsTheMachine, Between, RunsInParts, Moment, EachEventIsAStep, RunsStaySafe, RunsKeepHonesty, RunsKeepBuffers, RunsKeepValues, SharesOver, RunsShare}
 
 -- one step more
-Chain-push : (old mid new : KernelState) (es : List Event) (rs : List Reply) (e : Event) (r : Reply) → Chain old es rs mid → Promises mid e r new → Chain old (es ++ e ∷ []) (rs ++ r ∷ []) new
-Chain-push old mid new [] [] e r chain step = (new, subst (λ (h : KernelState). Promises h e r new) chain step, refl)
+Chain-push : (old mid new : SystemState) (es : List Event) (rs : List Reply) (e : Event) (r : Reply) → Chain old es rs mid → Promises mid e r new → Chain old (es ++ e ∷ []) (rs ++ r ∷ []) new
+Chain-push old mid new [] [] e r chain step = (new, subst (λ (s : SystemState). Promises s e r new) chain step, refl)
 Chain-push old mid new (a ∷ es) (b ∷ rs) e r chain step = (chain.0, chain.1, Chain-push chain.0 mid new es rs e r chain.2 step)
 Chain-push old mid new [] (b ∷ rs) e r chain step = absurd chain
 Chain-push old mid new (a ∷ es) [] e r chain step = absurd chain
 
-pub chain_more : (old mid new : KernelState) (es : List Event) (rs : List Reply) (i : ℕ) (e : Event) (r : Reply) → i < length es → e ≡ get_or es i e → Chain old (take i es) rs mid → Promises mid e r new → Chain old (take (i + 1) es) (rs ++ r ∷ []) new
+pub chain_more : (old mid new : SystemState) (es : List Event) (rs : List Reply) (i : ℕ) (e : Event) (r : Reply) → i < length es → e ≡ get_or es i e → Chain old (take i es) rs mid → Promises mid e r new → Chain old (take (i + 1) es) (rs ++ r ∷ []) new
 chain_more old mid new es rs i e r lt is chain step =
     rw (take_more es i e lt) (subst (λ (x : Event). Chain old (take i es ++ x ∷ []) (rs ++ r ∷ []) new) is (Chain-push old mid new (take i es) rs e r chain step))
 
 pub chain_run : RunsAsTheMachine
-chain_run old new [] [] chain = ap machine_of chain
-chain_run old new (e ∷ es) (r ∷ rs) chain = (machine_of chain.0, chain.1.step, chain_run chain.0 new es rs chain.2)
-chain_run old new [] (r ∷ rs) chain = absurd chain
-chain_run old new (e ∷ es) [] chain = absurd chain
+chain_run old new [] [] chain honest = ap machine_of chain
+chain_run old new (e ∷ es) (r ∷ rs) chain honest = (machine_of chain.0, chain.1.step honest, chain_run chain.0 new es rs chain.2 (chain.1.honest ∙ honest))
+chain_run old new [] (r ∷ rs) chain honest = absurd chain
+chain_run old new (e ∷ es) [] chain honest = absurd chain
+
+pub chain_honest : RunsKeepHonesty
+chain_honest old new [] [] chain = ap (λ (s : SystemState). s.disk.honest) chain
+chain_honest old new (e ∷ es) (r ∷ rs) chain = chain_honest chain.0 new es rs chain.2 ∙ chain.1.honest
+chain_honest old new [] (r ∷ rs) chain = absurd chain
+chain_honest old new (e ∷ es) [] chain = absurd chain
 
 pub chain_parts : RunsInParts
 chain_parts old new [] future rs chain = record { now = old; past_replies = []; future_replies = rs; replies = refl; before = refl; after = chain }
@@ -47,7 +56,7 @@ chain_parts old new (e ∷ past) future (r ∷ rs) chain =
 chain_parts old new (e ∷ past) future [] chain = absurd chain
 
 -- the first event of a run, and the rest
-chain_first : (old new before : KernelState) (past : List Event) (e : Event) (future : List Event) (rs past_replies future_replies : List Reply) → rs ≡ past_replies ++ future_replies → Chain old past past_replies before → Chain before (e ∷ future) future_replies new → Moment old past e future rs new
+chain_first : (old new before : SystemState) (past : List Event) (e : Event) (future : List Event) (rs past_replies future_replies : List Reply) → rs ≡ past_replies ++ future_replies → Chain old past past_replies before → Chain before (e ∷ future) future_replies new → Moment old past e future rs new
 chain_first old new before past e future rs past_replies (r ∷ future_replies) replies past_runs chain = record {
   before = before;
   after = chain.0;
@@ -73,22 +82,32 @@ chain_safe old new [] (r ∷ rs) chain safe = absurd chain
 chain_safe old new (e ∷ es) [] chain safe = absurd chain
 
 pub chain_stays : RunsKeepBuffers
-chain_stays old new [] [] chain = subst (λ (h : KernelState). Stays old.store h.store) (sym chain) (stays_here old.store)
+chain_stays old new [] [] chain = subst (λ (s : SystemState). Stays old.kernel.store s.kernel.store) (sym chain) (stays_here old.kernel.store)
 chain_stays old new (e ∷ es) (r ∷ rs) chain = stays_trans chain.1.stays (chain_stays chain.0 new es rs chain.2)
 chain_stays old new [] (r ∷ rs) chain = absurd chain
 chain_stays old new (e ∷ es) [] chain = absurd chain
 
+neither : (a b : Bool) → (a || b) ≡ false → (a ≡ false) × (b ≡ false)
+neither false b e = (refl, e)
+neither true b e = absurd (true≢false e)
+
+value_kept : (old new : SystemState) (es : List Event) (rs : List Reply) (d a : ℕ) (t : Text) → aggregate (machine_of old) d a ≡ Some t → list_any (λ e. gives_up e d a) es ≡ false → Chain old es rs new → aggregate (machine_of new) d a ≡ Some t
+value_kept old new [] [] d a t is kept chain = subst (λ (s : SystemState). aggregate (machine_of s) d a ≡ Some t) (sym chain) is
+value_kept old new (e ∷ es) (r ∷ rs) d a t is kept chain =
+    let both = neither (gives_up e d a) (list_any (λ x. gives_up x d a) es) kept in
+    value_kept chain.0 new es rs d a t (chain.1.values.each d a t is both.0) both.1 chain.2
+value_kept old new [] (r ∷ rs) d a t is kept chain = absurd chain
+value_kept old new (e ∷ es) [] d a t is kept chain = absurd chain
+
 pub chain_values : RunsKeepValues
-chain_values old new es rs chain = record { each = λ d a t is kept. values_run (machine_of old) (machine_of new) es rs d a t is kept (chain_run old new es rs chain) }
+chain_values old new es rs chain = record { each = λ d a t is kept. value_kept old new es rs d a t is kept chain }
 
 pub chain_shares : RunsShare
-chain_shares old new [] [] chain all = record { places = ap layout_of chain; arena = ap (λ h. h.store.arena) chain }
+chain_shares old new [] [] chain all = record { places = ap (λ (s : SystemState). layout_of s.kernel) chain; arena = ap (λ (s : SystemState). s.kernel.store.arena) chain }
 chain_shares old new (e ∷ es) (r ∷ rs) chain all =
-    let here : is_sharing e ≡ true = grind (arith, common_steps, all) in
-    let there : list_all is_sharing es ≡ true = grind (arith, common_steps, all) in
-    let rest : SharesOver chain.0 es rs new = chain_shares chain.0 new es rs chain.2 there in record {
-      places = (layout_of chain.0, chain.1.shares here, rest.places);
-      arena = rest.arena ∙ chain.1.pages here;
+    let rest : SharesOver chain.0 es rs new = chain_shares chain.0 new es rs chain.2 all.1 in record {
+      places = (layout_of chain.0.kernel, chain.1.shares all.0, rest.places);
+      arena = rest.arena ∙ chain.1.pages all.0;
     }
 chain_shares old new [] (r ∷ rs) chain all = absurd chain
 chain_shares old new (e ∷ es) [] chain all = absurd chain

@@ -1,6 +1,9 @@
 pub mod Chains
 pub mod Safe
+pub mod Beside
 pub mod Used
 pub mod Paged
 pub mod Empty
 pub mod Served
+pub mod Doing
+pub mod FileDoing

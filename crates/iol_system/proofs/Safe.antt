@@ -1,58 +1,110 @@
 -- A system keeps its promises: by what its kernel does, and by laws of the copying machine.
-use Rattle.std.proofs.Common.{◌≡◌, ◌∙◌, true, false, List, sym, subst}
+use Rattle.std.proofs.Common.{◌≡◌, ◌∙◌, ◌≤◌, true, false, ℕ, List, [], length, refl, ap, sym, subst}
+use Rattle.std.proofs.lemmas.Bool.{true≢false}
 use Rattle.std.specs.Prelude.{Result, Ok, Err, IfOk, OnErr, OnOk}
-use Rattle.iol_core.specs.State.{new_state, no_slots}
+use Rattle.iol_back.specs.Disk.{Disk, IfHonest}
+use Rattle.iol_core.specs.State.{State, new_state}
 use Rattle.iol_core.specs.Access.{HasAccess}
+use Rattle.iol_core.specs.Positions.{ArePlaced}
+use Rattle.iol_core.proofs.Positions.{placed_step, placed_new}
 use Rattle.iol_core.specs.Run.{StepsTo, Run}
-use Rattle.iol_core.specs.Sharing.{is_sharing, LaysOut}
+use Rattle.iol_core.specs.declared.events.Call.{Call}
+use Rattle.iol_core.specs.declared.events.Call.TheVariants as call
 use Rattle.iol_core.specs.declared.events.Event.{Event}
+use Rattle.iol_core.specs.declared.events.Event.TheVariants as event
+use Rattle.iol_core.specs.declared.limits.TheConstants.{MAX_FILES}
 use Rattle.iol_core.specs.declared.events.Reply.{Reply}
-use Rattle.iol_core.proofs.Access.{access_new, access_step}
-use Rattle.iol_core.proofs.Values.{values_step}
+use Rattle.iol_core.proofs.Access.{access_new}
 use Rattle.iol_hold.specs.Moves.{Stays}
-use Rattle.iol_hold.specs.Pages.{KeepsPages}
-use Rattle.iol_kernel.specs.KernelState.{KernelState, layout_of, IsSound}
-use Rattle.iol_system.specs.Machine.{machine_of}
+use Rattle.iol_kernel.specs.Backed.{IsBackedBy}
+use Rattle.iol_kernel.specs.KernelState.{KernelState, IsSound}
 use Rattle.iol_kernel.proofs.Stay.{stays_here}
-use Rattle.iol_system.specs.Placed.{placed_by, Creates}
+use Rattle.iol_system.specs.Machine.{SystemState, machine_of, tables_of, system_of}
+use Rattle.iol_system.specs.Asking.{asks_store, uses_cache}
+use Rattle.iol_system.specs.Doing.{Does}
 use Rattle.iol_system.specs.Promises.{Promises, Chain}
-use Rattle.iol_system.specs.Remembered.{Remembers}
-use Rattle.iol_system.specs.Room.{fits, IsDone, IsNoRoom, IsRefused}
+use Rattle.iol_system.specs.Room.{IsRefused}
 use Rattle.iol_system.specs.Safe.{IsSafe}
 use Rattle.iol_system.specs.Values.{ValuesStayOver}
-use Rattle.iol_system.proofs.Chains.{chain_run, chain_stays, chain_values}
+use Rattle.iol_kernel.specs.Readings.{slots_of}
+use Rattle.iol_kernel.specs.KernelState as held
+use Rattle.iol_system.proofs.Beside.{access_beside, values_beside, files-slots}
+use Rattle.iol_system.proofs.Empty.{slots-enough, new_backed}
+use Rattle.iol_system.proofs.Chains.{chain_run, chain_stays, chain_values, chain_honest}
 
-pub new_safe : (h : KernelState) → IsSound h → machine_of h ≡ new_state no_slots → IsSafe h
-new_safe h sound new = record { sound = sound; access = subst HasAccess (sym new) (access_new no_slots) }
+pub new_safe : (s : SystemState) (slots : List (List ℕ)) → IsSound s.kernel → machine_of s ≡ new_state slots → MAX_FILES ≤ length slots → IfHonest s.disk (IsBackedBy s.disk s.kernel) → IsSafe s
+new_safe s slots sound new enough backed = record {
+  sound = sound;
+  access = subst HasAccess (sym new) (access_new slots);
+  backed = backed;
+  placed = λ honest. subst ArePlaced (sym new) (placed_new slots enough);
+}
 
--- what the kernel says of an event, and what the copying machine says alone
-module _ (old new : KernelState) (e : Event) (r : Reply) where
-  pub promises_kept : IsSafe old → StepsTo (machine_of old) e r (machine_of new) → (IsDone r → fits old e ≡ true) → (IsNoRoom r → fits old e ≡ false) → (IsRefused r → new ≡ old) → (is_sharing e ≡ true → LaysOut (layout_of old) e r (layout_of new)) → (is_sharing e ≡ true → new.store.arena ≡ old.store.arena) → (IsDone r → KeepsPages old.store new.store (placed_by old e)) → Creates old e r new → Remembers old e r new → IsSound new → Stays old.store new.store → Promises old e r new
-  promises_kept safe step room no_room refused shares pages publishes creates sums sound stays = record {
-    step = step;
-    room = room;
-    no_room = no_room;
-    refused = refused;
-    shares = shares;
-    pages = pages;
-    publishes = publishes;
-    creates = creates;
-    sums = sums;
-    safe = record { sound = sound; access = access_step (machine_of old) (machine_of new) e r safe.access step };
-    stays = stays;
-    values = values_step (machine_of old) (machine_of new) e r step;
+-- a kernel with nothing in it, over a store
+pub started_safe : (h : KernelState) (disk : Disk) → IsSound h → ((stored : List (List ℕ)) → held.machine_of stored h ≡ new_state (slots_of stored)) → IsSafe (system_of h disk)
+started_safe h disk sound new =
+    new_safe (system_of h disk) (slots_of disk.slots) sound (new disk.slots) (slots-enough disk.slots)
+    (λ honest. new_backed h disk honest sound (sym (files-slots [] [] h) ∙ (files-slots [] [] h ∙ ap (λ (s : State). s.files) (new []))))
+
+-- an event that does not work on the cache does not ask the store
+asks_call : (s : State) (by : ℕ) (c : Call) → uses_cache s (event.Call by c) ≡ false → asks_store s (event.Call by c) ≡ false
+asks_call s by (call.IolRead fd n) unused = unused
+asks_call s by (call.Read fd n) unused = unused
+asks_call s by (call.Fsync fd) unused = absurd (true≢false unused)
+asks_call s by c unused = refl
+
+asks_uses : (s : State) (e : Event) → uses_cache s e ≡ false → asks_store s e ≡ false
+asks_uses s (event.Call by c) unused = asks_call s by c unused
+asks_uses s event.Flush unused = absurd (true≢false unused)
+asks_uses s e unused = refl
+
+-- what the kernel does for an event, and what the copying machine says alone
+module _ (old new : SystemState) (e : Event) (r : Reply) (safe : IsSafe old) (does : Does old.disk old.kernel e r new.disk new.kernel) where
+  stepped : IfHonest old.disk (StepsTo (machine_of old) e r (machine_of new))
+  stepped honest = does.step (safe.backed honest) (safe.placed honest)
+
+  pub promises_kept : Promises old e r new
+  promises_kept = record {
+    step = stepped;
+    beside = does.beside;
+    honest = does.honest;
+    unasked = does.unasked;
+    faults = does.faults;
+    room = does.room;
+    no_room = does.no_room;
+    refused = λ unused was. ap (λ (d : Disk). system_of new.kernel d) (untouched unused was) ∙ ap (λ (h : KernelState). system_of h old.disk) (does.refused unused was);
+    shares = does.shares;
+    pages = does.pages;
+    publishes = does.publishes;
+    creates = does.creates;
+    sums = does.sums;
+    safe = record {
+      sound = does.sound;
+      access = access_beside old.kernel new.kernel e r old.disk.slots new.disk.slots does.beside safe.access;
+      backed = λ honest. does.backed (safe.backed (sym does.honest ∙ honest));
+      placed = λ honest. (let was : old.disk.honest ≡ true = sym does.honest ∙ honest in placed_step (machine_of old) (machine_of new) e r (safe.placed was) (stepped was));
+    };
+    stays = does.stays;
+    values = values_beside old.kernel new.kernel e r old.disk.slots new.disk.slots does.beside;
   }
+    where
+      untouched : uses_cache (tables_of old.kernel) e ≡ false → IsRefused r → new.disk ≡ old.disk
+      untouched unused was = does.unasked (asks_uses (tables_of old.kernel) e unused)
 
 -- a run that was carried out is a chain; one that was not changed nothing
-module _ {A E : Type 0} (items : A → List Reply) (now old new : KernelState) (es : List Event) where
-  pub run_of_chain : (r : Result A E) → now ≡ old → IfOk r (λ v. Chain now es (items v) new) → IfOk r (λ v. Run (machine_of old) es (items v) (machine_of new))
-  run_of_chain (Ok v) is chain = chain_run old new es (items v) (subst (λ (h : KernelState). Chain h es (items v) new) is chain)
+module _ {A E : Type 0} (items : A → List Reply) (now old new : SystemState) (es : List Event) where
+  pub honest_over_chain : {X : Type 0} (r : Result A E) → now ≡ old → IfOk r (λ v. Chain now es (items v) new) → OnErr r X → (X → new ≡ now) → new.disk.honest ≡ old.disk.honest
+  honest_over_chain (Ok v) is chain err same = chain_honest old new es (items v) (subst (λ (s : SystemState). Chain s es (items v) new) is chain)
+  honest_over_chain (Err e) is chain err same = ap (λ (s : SystemState). s.disk.honest) (same err ∙ is)
+
+  pub run_of_chain : (r : Result A E) → now ≡ old → IfOk r (λ v. Chain now es (items v) new) → IfOk r (λ v. IfHonest old.disk (Run (machine_of old) es (items v) (machine_of new)))
+  run_of_chain (Ok v) is chain = chain_run old new es (items v) (subst (λ (s : SystemState). Chain s es (items v) new) is chain)
   run_of_chain (Err e) is chain = chain
 
-  pub stays_over_chain : {X : Type 0} (r : Result A E) → now ≡ old → IfOk r (λ v. Chain now es (items v) new) → OnErr r X → (X → new ≡ now) → Stays old.store new.store
-  stays_over_chain (Ok v) is chain err same = chain_stays old new es (items v) (subst (λ (h : KernelState). Chain h es (items v) new) is chain)
-  stays_over_chain (Err e) is chain err same = subst (λ (h : KernelState). Stays old.store h.store) (sym (same err ∙ is)) (stays_here old.store)
+  pub stays_over_chain : {X : Type 0} (r : Result A E) → now ≡ old → IfOk r (λ v. Chain now es (items v) new) → OnErr r X → (X → new ≡ now) → Stays old.kernel.store new.kernel.store
+  stays_over_chain (Ok v) is chain err same = chain_stays old new es (items v) (subst (λ (s : SystemState). Chain s es (items v) new) is chain)
+  stays_over_chain (Err e) is chain err same = subst (λ (s : SystemState). Stays old.kernel.store s.kernel.store) (sym (same err ∙ is)) (stays_here old.kernel.store)
 
   pub values_over_chain : (r : Result A E) → now ≡ old → IfOk r (λ v. Chain now es (items v) new) → OnOk r (ValuesStayOver (machine_of old) es (machine_of new))
-  values_over_chain (Ok v) is chain = chain_values old new es (items v) (subst (λ (h : KernelState). Chain h es (items v) new) is chain)
+  values_over_chain (Ok v) is chain = chain_values old new es (items v) (subst (λ (s : SystemState). Chain s es (items v) new) is chain)
   values_over_chain (Err e) is chain = tt

@@ -1,31 +1,92 @@
--- A connection that is served from outside keeps access: nobody gets anything by it.
-use Rattle.std.proofs.Common.{◌≡◌, ℕ, zero, suc, drop, List, [], sym, subst, Option}
-use Rattle.std.specs.Prelude.{Result, Ok, Err, IfOk, OnErr}
+-- A connection that is served from outside keeps a system safe: nobody gets anything by it, and files stay as they are.
+use Rattle.std.proofs.Common.{◌≡◌, ℕ, zero, suc, drop, List, [], refl, sym, ap, subst, Option, inl, inr}
+use Rattle.std.specs.Prelude.{Result, Ok, Err, IfOk, IfErr, OnErr}
+use Rattle.iol_back.specs.Disk.{Disk, IfHonest}
 use Rattle.iol_core.specs.Access.{HasAccess}
-use Rattle.iol_core.specs.State.{State, conn_at, with_conn}
+use Rattle.iol_core.specs.Positions.{ArePlaced}
+use Rattle.iol_core.specs.Calls.Outside as outside
+use Rattle.iol_core.specs.Run.{StepsTo, meaning, outcome}
+use Rattle.iol_core.specs.State.{State, Connection, conn_at, content, domain, with_conn}
 use Rattle.iol_core.proofs.Kept.{access_conn}
+use Rattle.iol_core.proofs.Positions.{placed_step}
+use Rattle.iol_core.specs.declared.events.Event.{Event}
+use Rattle.iol_core.specs.declared.events.Event.TheVariants as event
+use Rattle.iol_core.specs.declared.events.Reply.TheVariants as reply
 use Rattle.iol_core.specs.declared.refusals.Refusal.{Refusal}
 use Rattle.iol_sock.specs.declared.draining.Drained.{Drained}
 use Rattle.iol_pipe.specs.declared.arriving.Arrived.{Arrived}
-use Rattle.iol_kernel.specs.Borrowed.{ArrivesFrom, sent_on}
+use Rattle.iol_kernel.specs.Backed.{Serves, StepsBeside}
+use Rattle.iol_kernel.specs.Borrowed.{TakesIn, sent_on}
 use Rattle.iol_kernel.specs.Calls.{Leaves}
+use Rattle.iol_kernel.specs.KernelState as held
 use Rattle.iol_kernel.specs.KernelState.{KernelState, IsSound}
-use Rattle.iol_system.specs.Machine.{machine_of}
+use Rattle.iol_kernel.specs.MakingRoom.{MayHaveEvicted, MakesRoom}
+use Rattle.iol_kernel.proofs.Serving.{backed_stays}
+use Rattle.iol_system.specs.Machine.{SystemState, machine_of, system_of}
 use Rattle.iol_system.specs.Safe.{IsSafe}
+use Rattle.iol_system.specs.Served.{Comes}
+use Rattle.iol_system.proofs.Beside.{access_beside}
 
-arrived_access : (left after : Option (List ℕ)) (c n : ℕ) (s t : State) → HasAccess s → ArrivesFrom left after c n s t → HasAccess t
-arrived_access left after c n s t access read = subst HasAccess (sym read.step.2) (access_conn s c _ access)
+-- Bytes that came in.
+
+-- what the kernel served, as an event
+served_beside : (h k : KernelState) (c n : ℕ) (bytes : List ℕ) → StepsBeside (λ s. outside.arrive s c bytes) h (Ok n) k → StepsBeside (λ s. meaning s (event.Arrive c bytes)) h (outcome (reply.Count n)) k
+served_beside h k c n bytes x = record { before = x.before; after = x.after; step = (x.step.0, ap reply.Count x.step.1, x.step.2) }
+
+came_safe : (h k : KernelState) (disk : Disk) (c n : ℕ) (bytes : List ℕ) → IsSafe (system_of h disk) → Serves (λ s. outside.arrive s c bytes) disk h (Ok n) disk k → IsSafe (system_of k disk)
+came_safe h k disk c n bytes safe x = record {
+  sound = x.sound;
+  access = access_beside h k (event.Arrive c bytes) (reply.Count n) disk.slots disk.slots (served_beside h k c n bytes x.beside) safe.access;
+  backed = λ honest. x.backed (safe.backed honest);
+  placed = λ honest. (let s = x.step (safe.backed honest) (safe.placed honest) in
+      placed_step (held.machine_of disk.slots h) (held.machine_of disk.slots k) (event.Arrive c bytes) (reply.Count n) (safe.placed honest) (s.0, ap reply.Count s.1, s.2));
+}
+
+-- room was made, and nothing came in
+roomy_safe : (h k : KernelState) (disk : Disk) (pool pages : ℕ) → IsSafe (system_of h disk) → MakesRoom pool pages h k → IsSafe (system_of k disk)
+roomy_safe h k disk pool pages safe room = record {
+  sound = room.sound;
+  access = access_beside h k event.DropClean reply.Done disk.slots disk.slots (record { before = []; after = []; step = (refl, refl, room.same.beside []) }) safe.access;
+  backed = λ honest. room.same.backed disk (safe.backed honest);
+  placed = λ honest. subst ArePlaced (sym (room.same.files disk (safe.backed honest))) (safe.placed honest);
+}
+
+pub arrived_safe : (h k : KernelState) (disk : Disk) (c pool n : ℕ) (left after : Option (List ℕ)) (r : Result Arrived Refusal) → IsSafe (system_of h disk)
+    → IfOk r (λ a. TakesIn left after a.taken (λ bytes. (disk : Disk) → Serves (λ s. outside.arrive s c bytes) disk h (Ok a.taken) disk k)) → IfErr r (MayHaveEvicted pool n h k) → IsSafe (system_of k disk)
+arrived_safe h k disk c pool n left after (Ok a) safe read err = came_safe h k disk c a.taken read.bytes safe (read.arrives disk)
+arrived_safe h k disk c pool n left after (Err x) safe read (inl same) = subst (λ (l : KernelState). IsSafe (system_of l disk)) (sym same) safe
+arrived_safe h k disk c pool n left after (Err x) safe read (inr late) = roomy_safe h k disk pool _ safe late.1
+
+pub arrived_comes : (h k : KernelState) (disk : Disk) (c : ℕ) (left after : Option (List ℕ)) (r : Result Arrived Refusal) → IsSafe (system_of h disk)
+    → IfOk r (λ a. TakesIn left after a.taken (λ bytes. (disk : Disk) → Serves (λ s. outside.arrive s c bytes) disk h (Ok a.taken) disk k)) → IfOk r (λ a. TakesIn left after a.taken (λ bytes. Comes c a.taken bytes (system_of h disk) (system_of k disk)))
+arrived_comes h k disk c left after (Ok a) safe read = record {
+  bytes = read.bytes;
+  count = read.count;
+  given = read.given;
+  arrives = record { step = λ honest. (read.arrives disk).step (safe.backed honest) (safe.placed honest); beside = (read.arrives disk).beside };
+}
+arrived_comes h k disk c left after (Err x) safe read = read
+
+-- Bytes that were sent.
 
 sent_access : (c n : ℕ) (s : State) → HasAccess s → HasAccess (sent_on c n s)
 sent_access c zero s access = access
 sent_access c (suc n) s access = access_conn s c (record (conn_at s c) { outgoing = drop (suc n) (conn_at s c).outgoing }) access
 
-pub arrived_safe : (old new : KernelState) (c : ℕ) (left after : Option (List ℕ)) (r : Result Arrived Refusal) → IsSafe old → IsSound new
-    → IfOk r (λ a. ArrivesFrom left after c a.taken (machine_of old) (machine_of new)) → OnErr r (new ≡ old) → IsSafe new
-arrived_safe old new c left after (Ok a) safe sound read err = record { sound = sound; access = arrived_access left after c a.taken (machine_of old) (machine_of new) safe.access read }
-arrived_safe old new c left after (Err x) safe sound read err = subst IsSafe (sym err) safe
+placed_conn : (s : State) (c : ℕ) (x : Connection) → ArePlaced s → ArePlaced (with_conn s c x)
+unfolding with_conn domain content
+placed_conn s c x placed = record { slots = placed.slots; few = placed.few; each = placed.each }
 
-pub drained_safe : (old new : KernelState) (c : ℕ) (r : Result Drained Refusal) → IsSafe old → IsSound new
-    → IfOk r (λ d. Leaves (sent_on c d.taken) old new) → OnErr r (new ≡ old) → IsSafe new
-drained_safe old new c (Ok d) safe sound left err = record { sound = sound; access = subst HasAccess (sym (left.bytes [])) (sent_access c d.taken (machine_of old) safe.access) }
-drained_safe old new c (Err x) safe sound left err = subst IsSafe (sym err) safe
+sent_placed : (c n : ℕ) (s : State) → ArePlaced s → ArePlaced (sent_on c n s)
+sent_placed c zero s placed = placed
+sent_placed c (suc n) s placed = placed_conn s c (record (conn_at s c) { outgoing = drop (suc n) (conn_at s c).outgoing }) placed
+
+pub drained_safe : (h k : KernelState) (disk : Disk) (c : ℕ) (r : Result Drained Refusal) → IsSafe (system_of h disk) → IsSound k
+    → IfOk r (λ d. Leaves (sent_on c d.taken) h k) → OnErr r (k ≡ h) → IsSafe (system_of k disk)
+drained_safe h k disk c (Ok d) safe sound left err = record {
+  sound = sound;
+  access = subst HasAccess (sym (left.bytes disk.slots)) (sent_access c d.taken (held.machine_of disk.slots h) safe.access);
+  backed = λ honest. backed_stays disk h k safe.sound sound left.cache left.stays (safe.backed honest);
+  placed = λ honest. subst ArePlaced (sym (left.bytes disk.slots)) (sent_placed c d.taken (held.machine_of disk.slots h) (safe.placed honest));
+}
+drained_safe h k disk c (Err x) safe sound left err = subst (λ (l : KernelState). IsSafe (system_of l disk)) (sym err) safe

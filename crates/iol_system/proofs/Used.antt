@@ -25,12 +25,12 @@ page_placed s q tidy still (inr (inl pending)) = absurd (still.each q pending)
 page_placed s q tidy still (inr (inr (buf, live, on))) = inr (record { buf = buf; live = live; on = on; only = λ b other lies. tidy.alone.each b buf q other live lies on })
 
 pub page_use : EachPageHasOneUse
-page_use h safe q = page_placed h.store q safe.sound.tidy safe.sound.still (safe.sound.tidy.placed q)
+page_use s safe q = page_placed s.kernel.store q safe.sound.tidy safe.sound.still (safe.sound.tidy.placed q)
 
 pub chunk_pool : EachChunkHasOnePool
-chunk_pool h safe c within taken =
+chunk_pool s safe c within taken =
     let owned = safe.sound.tidy.owned in
-    let owner : (p : ℕ) × Contains (pool_in h.store.pools p).chunks c = owned.owner c within taken in record {
+    let owner : (p : ℕ) × Contains (pool_in s.kernel.store.pools p).chunks c = owned.owner c within taken in record {
       pool = owner.0;
       has = owner.1;
       only = λ p has. owned.single p owner.0 c has owner.1;

@@ -1,6 +1,5 @@
 -- Laws of runs: what follows from a chain of steps that keep their promises. Each is the contract of a function of `laws`.
-use Rattle.std.specs.Prelude.{◌≡◌, ◌<◌, ℕ, true, List, ◌∷◌, ◌++◌}
-use Rattle.std.specs.List.{list_all}
+use Rattle.std.specs.Prelude.{◌≡◌, ◌<◌, ℕ, true, List, [], ◌∷◌, ◌++◌}
 use Rattle.iol_core.specs.Run.{Run}
 use Rattle.iol_core.specs.Sharing.{is_sharing}
 use Rattle.iol_core.specs.declared.events.Event.{Event}
@@ -8,20 +7,21 @@ use Rattle.iol_core.specs.declared.events.Reply.{Reply}
 use Rattle.iol_arena.specs.Chunks.{is_taken}
 use Rattle.iol_arena.specs.State.{chunk_count}
 use Rattle.iol_hold.specs.Moves.{Stays}
-use Rattle.iol_kernel.specs.KernelState.{KernelState, layout_of}
-use Rattle.iol_system.specs.Machine.{machine_of}
+use Rattle.iol_back.specs.Disk.{IfHonest}
+use Rattle.iol_kernel.specs.KernelState.{layout_of}
+use Rattle.iol_system.specs.Machine.{SystemState, machine_of, tables_of}
 use Rattle.iol_system.specs.Promises.{Promises, Chain}
 use Rattle.iol_system.specs.Safe.{IsSafe}
 use Rattle.iol_system.specs.Uses.{HasOneUse, HasOnePool}
 use Rattle.iol_system.specs.Values.{ValuesStayOver}
 
--- the replies of a run, and the state after it, are those of the copying machine
+-- over an honest store the replies of a run, and the state after it, are those of the copying machine
 abbrev pub RunsAsTheMachine : Type 0
-RunsAsTheMachine = (old new : KernelState) (es : List Event) (rs : List Reply) → Chain old es rs new → Run (machine_of old) es rs (machine_of new)
+RunsAsTheMachine = (old new : SystemState) (es : List Event) (rs : List Reply) → Chain old es rs new → IfHonest old.disk (Run (machine_of old) es rs (machine_of new))
 
 -- What the system held between the first events of a run and the others. Each part is a run of its own.
-pub record Between (old : KernelState) (past future : List Event) (rs : List Reply) (new : KernelState) : Type 0 where
-  pub now : KernelState
+pub record Between (old : SystemState) (past future : List Event) (rs : List Reply) (new : SystemState) : Type 0 where
+  pub now : SystemState
   pub past_replies : List Reply
   pub future_replies : List Reply
   pub replies : rs ≡ past_replies ++ future_replies
@@ -30,12 +30,12 @@ pub record Between (old : KernelState) (past future : List Event) (rs : List Rep
 
 -- a run of some events and then others is a run of the first, and from there one of the others
 abbrev pub RunsInParts : Type 0
-RunsInParts = (old new : KernelState) (past future : List Event) (rs : List Reply) → Chain old (past ++ future) rs new → Between old past future rs new
+RunsInParts = (old new : SystemState) (past future : List Event) (rs : List Reply) → Chain old (past ++ future) rs new → Between old past future rs new
 
 -- an event of a run, and its reply: a step that keeps all promises, between a run of the events before and one of those after it
-pub record Moment (old : KernelState) (past : List Event) (e : Event) (future : List Event) (rs : List Reply) (new : KernelState) : Type 0 where
-  pub before : KernelState
-  pub after : KernelState
+pub record Moment (old : SystemState) (past : List Event) (e : Event) (future : List Event) (rs : List Reply) (new : SystemState) : Type 0 where
+  pub before : SystemState
+  pub after : SystemState
   pub past_replies : List Reply
   pub reply : Reply
   pub future_replies : List Reply
@@ -46,32 +46,42 @@ pub record Moment (old : KernelState) (past : List Event) (e : Event) (future : 
 
 -- Each event of a run keeps all promises of a step: so NoRoom is answered exactly where there is no room, and so on.
 abbrev pub EachEventIsAStep : Type 0
-EachEventIsAStep = (old new : KernelState) (past : List Event) (e : Event) (future : List Event) (rs : List Reply) → Chain old (past ++ e ∷ future) rs new → Moment old past e future rs new
+EachEventIsAStep = (old new : SystemState) (past : List Event) (e : Event) (future : List Event) (rs : List Reply) → Chain old (past ++ e ∷ future) rs new → Moment old past e future rs new
 
 -- a run from a safe system ends in one; by the law on parts the system is safe at each moment
 abbrev pub RunsStaySafe : Type 0
-RunsStaySafe = (old new : KernelState) (es : List Event) (rs : List Reply) → Chain old es rs new → IsSafe old → IsSafe new
+RunsStaySafe = (old new : SystemState) (es : List Event) (rs : List Reply) → Chain old es rs new → IsSafe old → IsSafe new
+
+-- a store is after a run as honest as before
+abbrev pub RunsKeepHonesty : Type 0
+RunsKeepHonesty = (old new : SystemState) (es : List Event) (rs : List Reply) → Chain old es rs new → new.disk.honest ≡ old.disk.honest
 
 -- what is live before and after a run has the same bytes and pool, and no identity is given twice
 abbrev pub RunsKeepBuffers : Type 0
-RunsKeepBuffers = (old new : KernelState) (es : List Event) (rs : List Reply) → Chain old es rs new → Stays old.store new.store
+RunsKeepBuffers = (old new : SystemState) (es : List Event) (rs : List Reply) → Chain old es rs new → Stays old.kernel.store new.kernel.store
 
 -- an aggregate that no event of a run gives up keeps its value
 abbrev pub RunsKeepValues : Type 0
-RunsKeepValues = (old new : KernelState) (es : List Event) (rs : List Reply) → Chain old es rs new → ValuesStayOver (machine_of old) es (machine_of new)
+RunsKeepValues = (old new : SystemState) (es : List Event) (rs : List Reply) → Chain old es rs new → ValuesStayOver (machine_of old) es (machine_of new)
 
 -- after a run of calls that share, each byte lies where the calls' own meaning puts its place, and each page is as it was
-pub record SharesOver (old : KernelState) (es : List Event) (rs : List Reply) (new : KernelState) : Type 0 where
-  pub places : Run (layout_of old) es rs (layout_of new)
-  pub arena : new.store.arena ≡ old.store.arena
+pub record SharesOver (old : SystemState) (es : List Event) (rs : List Reply) (new : SystemState) : Type 0 where
+  pub places : Run (layout_of old.kernel) es rs (layout_of new.kernel)
+  pub arena : new.kernel.store.arena ≡ old.kernel.store.arena
+
+-- each event of a run is a sharing call at its moment
+abbrev pub AllShare : (old : SystemState) (es : List Event) (rs : List Reply) (new : SystemState) → Chain old es rs new → Type 0
+AllShare old [] rs new chain = Unit {0}
+AllShare old (e ∷ es) (r ∷ rs) new chain = (is_sharing (tables_of old.kernel) e ≡ true) × AllShare chain.0 es rs new chain.2
+AllShare old (e ∷ es) [] new chain = Unit {0}
 
 abbrev pub RunsShare : Type 0
-RunsShare = (old new : KernelState) (es : List Event) (rs : List Reply) → Chain old es rs new → list_all is_sharing es ≡ true → SharesOver old es rs new
+RunsShare = (old new : SystemState) (es : List Event) (rs : List Reply) → (chain : Chain old es rs new) → AllShare old es rs new chain → SharesOver old es rs new
 
 -- Between any two events each page is unused, or is part of just one live buffer.
 abbrev pub EachPageHasOneUse : Type 0
-EachPageHasOneUse = (h : KernelState) → IsSafe h → (q : ℕ) → HasOneUse h.store.arena q
+EachPageHasOneUse = (s : SystemState) → IsSafe s → (q : ℕ) → HasOneUse s.kernel.store.arena q
 
 -- Between any two events each chunk that is taken is of just one pool.
 abbrev pub EachChunkHasOnePool : Type 0
-EachChunkHasOnePool = (h : KernelState) → IsSafe h → (c : ℕ) → c < chunk_count h.store.arena → is_taken h.store.arena c ≡ true → HasOnePool h.store c
+EachChunkHasOnePool = (s : SystemState) → IsSafe s → (c : ℕ) → c < chunk_count s.kernel.store.arena → is_taken s.kernel.store.arena c ≡ true → HasOnePool s.kernel.store c

@@ -6,5 +6,8 @@ pub mod Remembered
 pub mod Replies
 pub mod Room
 pub mod Safe
+pub mod Served
 pub mod Uses
 pub mod Values
+pub mod Asking
+pub mod Doing

@@ -1,9 +1,22 @@
--- The copying machine's state that a system stands for.
+-- What a system holds, and the state of the copying machine that it stands for.
 use Rattle.std.specs.Prelude.{[]}
 use Rattle.iol_core.specs.State.{State}
-use Rattle.iol_kernel.specs.KernelState as kernel
+use Rattle.iol_back.specs.Disk.{Disk}
+use Rattle.iol_kernel.specs.KernelState as held
 use Rattle.iol_kernel.specs.KernelState.{KernelState}
 
--- No event makes a file yet: the store under files is empty.
-abbrev pub machine_of : KernelState → State
-machine_of h = kernel.machine_of [] h
+-- what its calls work on, and what a contract sees of the store under its files
+pub record SystemState : Type 0 where
+  pub kernel : KernelState
+  pub disk : Disk
+
+-- with the bytes that the store has of files
+abbrev pub machine_of : SystemState → State
+machine_of s = held.machine_of s.disk.slots s.kernel
+
+-- the same but for the bytes of files: what domains, pools, pipes and connections are, whatever a store has
+abbrev pub tables_of : KernelState → State
+tables_of h = held.machine_of [] h
+
+abbrev pub system_of : KernelState → Disk → SystemState
+system_of h disk = record { kernel = h; disk = disk }

@@ -1,33 +1,57 @@
 -- What an event does to pages and chunks: on which pages it makes buffers, and which chunks a new pool gets.
-use Rattle.std.specs.Prelude.{ℕ, List, [], length, ⊤}
+use Rattle.std.specs.Prelude.{ℕ, List, [], length, Option, Some, ⊤}
 use Rattle.iol_core.specs.State.{conn_at, descriptor}
 use Rattle.iol_core.specs.Calls.Aggregates.{default_pool}
 use Rattle.iol_core.specs.Calls.Outside.{arrive}
 use Rattle.iol_core.specs.Calls.Writing.{pool_for, write}
 use Rattle.iol_core.specs.Calls.Pools.{distinct}
+use Rattle.iol_core.specs.declared.descriptors.Descriptor.{Descriptor}
+use Rattle.iol_core.specs.declared.descriptors.Descriptor.TheVariants as on
 use Rattle.iol_core.specs.declared.events.Call.{Call}
 use Rattle.iol_core.specs.declared.events.Call.TheVariants as call
 use Rattle.iol_core.specs.declared.events.Event.{Event}
 use Rattle.iol_core.specs.declared.events.Event.TheVariants as event
 use Rattle.iol_core.specs.declared.events.Reply.{Reply}
 use Rattle.iol_core.specs.declared.events.Reply.TheVariants as reply
+use Rattle.iol_hold.specs.Pages.{KeepsPages}
 use Rattle.iol_hold.specs.Room.{lowest_of}
+use Rattle.iol_cache.specs.Paging.{FillsLowest}
+use Rattle.iol_kernel.specs.MakingRoom.{AfterRoom}
+use Rattle.iol_kernel.specs.WritingFiles.{pool_of_file}
 use Rattle.iol_pool.specs.Pools.{AddsPool}
+use Rattle.iol_kernel.specs.FileReading.{held_by}
 use Rattle.iol_kernel.specs.KernelState.{KernelState}
-use Rattle.iol_system.specs.Machine.{machine_of}
+use Rattle.iol_system.specs.Machine.{tables_of}
 
--- the pages on which a call makes buffers: for `agg_make` the lowest free ones of the caller's default pool, for `write` those of
--- the pool that it writes to, as many as are taken
-abbrev pub call_places : KernelState → (by : ℕ) → Call → List ℕ
-call_places h by (call.AggMake bytes) = lowest_of h.store (default_pool (machine_of h) by) (length bytes)
-call_places h by (call.Write fd bytes) = lowest_of h.store (pool_for (machine_of h) by (descriptor (machine_of h) by fd)) (write (machine_of h) by fd bytes).answer
-call_places h by c = []
+-- Room was made for n bytes in a pool, and of the pages that were free then the lowest were filled: each was raised by one, and no
+-- others were.
+abbrev pub Fills : (pool n : ℕ) → (old new : KernelState) → Type 0
+Fills pool n old new = AfterRoom pool n old (λ roomy. KeepsPages roomy.store new.store (lowest_of roomy.store pool n))
 
--- for bytes that arrive the lowest free ones of the connection's pool
-abbrev pub placed_by : KernelState → Event → List ℕ
-placed_by h (event.Call by c) = call_places h by c
-placed_by h (event.Arrive c bytes) = lowest_of h.store (conn_at (machine_of h) c).pool (arrive (machine_of h) c bytes).answer
-placed_by h e = []
+-- a call on a file makes buffers on the lowest pages of its pool that are free once room is made; on anything else none
+abbrev pub FillsForFile : KernelState → Option Descriptor → KernelState → Type 0
+FillsForFile old (Some (on.File f at mode)) new = FillsLowest (pool_of_file old f) old.store new.store
+FillsForFile old o new = KeepsPages old.store new.store []
+
+-- So does `write`, which to anything else makes them in the writer's pool. Of a file it is not said here on which pages.
+abbrev pub FillsForWrite : (by fd : ℕ) → (bytes : List ℕ) → KernelState → Option Descriptor → KernelState → Type 0
+FillsForWrite by fd bytes old (Some (on.File f at mode)) new = ⊤
+FillsForWrite by fd bytes old o new = Fills (pool_for (tables_of old) by o) (write (tables_of old) by fd bytes).answer old new
+
+-- `agg_make` makes buffers in the caller's default pool
+abbrev pub CallPublishes : KernelState → (by : ℕ) → Call → KernelState → Type 0
+CallPublishes old by (call.AggMake bytes) new = Fills (default_pool (tables_of old) by) (length bytes) old new
+CallPublishes old by (call.IolRead fd n) new = FillsForFile old (held_by (tables_of old) by fd) new
+CallPublishes old by (call.IolWrite fd a) new = FillsForFile old (descriptor (tables_of old) by fd) new
+CallPublishes old by (call.Read fd n) new = FillsForFile old (held_by (tables_of old) by fd) new
+CallPublishes old by (call.Write fd bytes) new = FillsForWrite by fd bytes old (descriptor (tables_of old) by fd) new
+CallPublishes old by c new = KeepsPages old.store new.store []
+
+-- so do bytes that arrive in the connection's pool, as many as are taken
+abbrev pub Publishes : KernelState → Event → KernelState → Type 0
+Publishes old (event.Call by c) new = CallPublishes old by c new
+Publishes old (event.Arrive c bytes) new = Fills (conn_at (tables_of old) c).pool (arrive (tables_of old) c bytes).answer old new
+Publishes old e new = KeepsPages old.store new.store []
 
 -- a call that made a pool: it has as many chunks as were asked for, the lowest free ones, and the others have theirs
 abbrev pub CallCreates : KernelState → Call → Reply → KernelState → Type 0

@@ -3,42 +3,51 @@
 -- The copying machine's own run (`iol_core`, `Run`) says what is answered, and leaves open when there is room and where
 -- bytes lie. A chain has at each link all that `System::step` promises, so nothing that holds of a step is lost in a run.
 use Rattle.std.specs.Prelude.{◌≡◌, true, false, List, [], ◌∷◌}
-use Rattle.iol_core.specs.Run.{StepsTo}
+use Rattle.iol_back.specs.Disk.{IfHonest}
+use Rattle.iol_cache.specs.Serving.{FaultCounts}
+use Rattle.iol_core.specs.Run.{meaning, outcome, StepsTo}
 use Rattle.iol_core.specs.Sharing.{is_sharing, LaysOut}
 use Rattle.iol_core.specs.Values.{ValuesStay}
 use Rattle.iol_core.specs.declared.events.Event.{Event}
 use Rattle.iol_core.specs.declared.events.Reply.{Reply}
 use Rattle.iol_hold.specs.Moves.{Stays}
-use Rattle.iol_hold.specs.Pages.{KeepsPages}
-use Rattle.iol_kernel.specs.KernelState.{KernelState, layout_of}
-use Rattle.iol_system.specs.Machine.{machine_of}
-use Rattle.iol_system.specs.Placed.{placed_by, Creates}
+use Rattle.iol_kernel.specs.Backed.{StepsBeside}
+use Rattle.iol_kernel.specs.KernelState.{layout_of}
+use Rattle.iol_system.specs.Asking.{asks_store, uses_cache}
+use Rattle.iol_system.specs.Machine.{SystemState, machine_of, tables_of}
+use Rattle.iol_system.specs.Placed.{Creates, Publishes}
 use Rattle.iol_system.specs.Remembered.{Remembers}
-use Rattle.iol_system.specs.Room.{fits, IsDone, IsNoRoom, IsRefused}
+use Rattle.iol_system.specs.Room.{HasRoomFor, LacksRoomFor, IsDone, IsNoRoom, IsRefused}
 use Rattle.iol_system.specs.Safe.{IsSafe}
 
--- From old to new, by this event with this reply: the copying machine's step; NoRoom exactly where there is no room;
--- a refusal changes nothing at all; what a sharing call hands on lies where it lay, and no page is published or freed;
--- of the others `agg_make`, `arrive` and `write` alone make buffers, on the lowest free pages, each of which is raised by one; an open
--- pool keeps its chunks, and a new one has the lowest free; sending remembers the sums of what is sent; new is safe again;
--- live buffers keep their bytes, and aggregates their values.
-pub record Promises (old : KernelState) (e : Event) (r : Reply) (new : KernelState) : Type 0 where
-  pub step : StepsTo (machine_of old) e r (machine_of new)
-  pub room : IsDone r → fits old e ≡ true
-  pub no_room : IsNoRoom r → fits old e ≡ false
-  pub refused : IsRefused r → new ≡ old
-  pub shares : is_sharing e ≡ true → LaysOut (layout_of old) e r (layout_of new)
-  pub pages : is_sharing e ≡ true → new.store.arena ≡ old.store.arena
-  pub publishes : IsDone r → KeepsPages old.store new.store (placed_by old e)
-  pub creates : Creates old e r new
-  pub sums : Remembers old e r new
+-- From old to new, by this event with this reply. Over an honest store it is the copying machine's step; over any store it is
+-- that but for the bytes of files, and a store stays as honest as it was. A store is asked by calls on files alone, and
+-- a fault is answered just where it failed once more. NoRoom is answered exactly where there is no room. A refusal changes nothing
+-- at all, but that clean parts of files may be gone from memory where the event works on these. What a sharing call
+-- hands on lies where it lay, and no page is published or freed; calls that make buffers do so on the lowest free pages, each of
+-- which is raised by one, and no others do; an open pool keeps its chunks, and a new one has the lowest free; sending
+-- remembers the sums of what is sent; new is safe again; live buffers keep their bytes, and aggregates their values.
+pub record Promises (old : SystemState) (e : Event) (r : Reply) (new : SystemState) : Type 0 where
+  pub step : IfHonest old.disk (StepsTo (machine_of old) e r (machine_of new))
+  pub beside : StepsBeside (λ s. meaning s e) old.kernel (outcome r) new.kernel
+  pub honest : new.disk.honest ≡ old.disk.honest
+  pub unasked : asks_store (tables_of old.kernel) e ≡ false → new.disk ≡ old.disk
+  pub faults : asks_store (tables_of old.kernel) e ≡ true → FaultCounts old.disk new.disk (outcome r)
+  pub room : IsDone r → HasRoomFor old e
+  pub no_room : IsNoRoom r → LacksRoomFor old e
+  pub refused : uses_cache (tables_of old.kernel) e ≡ false → IsRefused r → new ≡ old
+  pub shares : is_sharing (tables_of old.kernel) e ≡ true → LaysOut (layout_of old.kernel) e r (layout_of new.kernel)
+  pub pages : is_sharing (tables_of old.kernel) e ≡ true → new.kernel.store.arena ≡ old.kernel.store.arena
+  pub publishes : IsDone r → Publishes old.kernel e new.kernel
+  pub creates : Creates old.kernel e r new.kernel
+  pub sums : Remembers old.kernel e r new.kernel
   pub safe : IsSafe new
-  pub stays : Stays old.store new.store
+  pub stays : Stays old.kernel.store new.kernel.store
   pub values : ValuesStay (machine_of old) e (machine_of new)
 
 -- From old, these events were given these replies, one after another, ending in new.
-abbrev pub Chain : KernelState → List Event → List Reply → KernelState → Type 0
+abbrev pub Chain : SystemState → List Event → List Reply → SystemState → Type 0
 Chain old [] [] new = new ≡ old
-Chain old (e ∷ es) (r ∷ rs) new = (mid : KernelState) × Promises old e r mid × Chain mid es rs new
+Chain old (e ∷ es) (r ∷ rs) new = (mid : SystemState) × Promises old e r mid × Chain mid es rs new
 Chain old [] (r ∷ rs) new = ⊥
 Chain old (e ∷ es) [] new = ⊥

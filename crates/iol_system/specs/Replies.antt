@@ -4,7 +4,7 @@ use Rattle.iol_core.specs.declared.refusals.Refusal.{Refusal}
 use Rattle.iol_core.specs.declared.events.Reply.{Reply}
 use Rattle.iol_core.specs.declared.events.Reply.TheVariants as reply
 
--- its answer, or its refusal, as a reply
-abbrev pub reply_of : Result Reply Refusal → Reply
-reply_of (Ok r) = r
-reply_of (Err x) = reply.Refused x
+-- its answer as a reply, or its refusal
+abbrev pub told : {A : Type 0} → (A → Reply) → Result A Refusal → Reply
+told f (Ok a) = f a
+told f (Err x) = reply.Refused x

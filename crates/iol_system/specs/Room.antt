@@ -1,9 +1,11 @@
 -- When there is room, exactly.
-use Rattle.std.specs.Prelude.{ℕ, Bool, true, nat_le, length}
+use Rattle.std.specs.Prelude.{◌≡◌, ◌≤◌, ◌<◌, ℕ, true, false, List, length, Option, Some, ⊤}
 use Rattle.iol_core.specs.State.{conn_at, descriptor}
 use Rattle.iol_core.specs.Calls.Aggregates.{default_pool}
 use Rattle.iol_core.specs.Calls.Outside.{arrive}
 use Rattle.iol_core.specs.Calls.Writing.{pool_for, write}
+use Rattle.iol_core.specs.declared.descriptors.Descriptor.{Descriptor}
+use Rattle.iol_core.specs.declared.descriptors.Descriptor.TheVariants as on
 use Rattle.iol_core.specs.declared.events.Call.{Call}
 use Rattle.iol_core.specs.declared.events.Call.TheVariants as call
 use Rattle.iol_core.specs.declared.events.Event.{Event}
@@ -12,22 +14,65 @@ use Rattle.iol_core.specs.declared.events.Reply.{Reply}
 use Rattle.iol_core.specs.declared.events.Reply.TheVariants as reply
 use Rattle.iol_core.specs.declared.refusals.Refusal.TheVariants.{NoRoom}
 use Rattle.iol_arena.specs.Chunks.{free_chunks}
-use Rattle.iol_hold.specs.Room.{has_room}
-use Rattle.iol_kernel.specs.KernelState.{KernelState}
-use Rattle.iol_system.specs.Machine.{machine_of}
+use Rattle.iol_cache.specs.Serving.{RoomToRead, NoRoomToRead}
+use Rattle.iol_kernel.specs.Backed.{holding_of}
+use Rattle.iol_hold.specs.Room.{pages_of}
+use Rattle.iol_hold.specs.declared.slices.Slice.{Slice}
+use Rattle.iol_kernel.specs.FileReading.{held_by}
+use Rattle.iol_kernel.specs.KernelState.{KernelState, slices_in}
+use Rattle.iol_kernel.specs.MakingRoom.{can_fit}
+use Rattle.iol_kernel.specs.WritingFiles.{pages_to_write, pool_of_file}
+use Rattle.iol_system.specs.Machine.{SystemState, tables_of}
 
--- whether a call's pages, or its chunks, are there
-abbrev pub call_fits : KernelState → (by : ℕ) → Call → Bool
-call_fits h by (call.AggMake bytes) = has_room h.store (default_pool (machine_of h) by) (length bytes)
-call_fits h by (call.PoolCreate chunks list) = nat_le chunks (length (free_chunks h.store.arena))
-call_fits h by (call.Write fd bytes) = has_room h.store (pool_for (machine_of h) by (descriptor (machine_of h) by fd)) (write (machine_of h) by fd bytes).answer
-call_fits h by c = true
+-- A read of a file has room for the pages that its gaps want. Of anything else it wants none.
+abbrev pub HasRoomToRead : SystemState → Option Descriptor → (n : ℕ) → Type 0
+HasRoomToRead s (Some (on.File f at mode)) n = RoomToRead f at n s.disk (holding_of s.kernel)
+HasRoomToRead s o n = ⊤
+
+abbrev pub LacksRoomToRead : SystemState → Option Descriptor → (n : ℕ) → Type 0
+LacksRoomToRead s (Some (on.File f at mode)) n = NoRoomToRead f at n s.disk (holding_of s.kernel)
+LacksRoomToRead s o n = ⊥
+
+-- An `iol_write` to a file has room for copies of the bytes that lie in other pools than the file's. To anything else it wants none.
+abbrev pub HasRoomToWrite : KernelState → Option Descriptor → List Slice → Type 0
+HasRoomToWrite h (Some (on.File f at mode)) xs = pages_to_write h f xs ≤ length (pages_of h.store (pool_of_file h f))
+HasRoomToWrite h o xs = ⊤
+
+abbrev pub LacksRoomToWrite : KernelState → Option Descriptor → List Slice → Type 0
+LacksRoomToWrite h (Some (on.File f at mode)) xs = length (pages_of h.store (pool_of_file h f)) < pages_to_write h f xs
+LacksRoomToWrite h o xs = ⊥
+
+-- The pages that a call's new bytes want fit their pool, beside those that something else than clean extents holds; or its
+-- chunks are there.
+abbrev pub CallHasRoom : SystemState → (by : ℕ) → Call → Type 0
+CallHasRoom s by (call.AggMake bytes) = can_fit s.kernel (default_pool (tables_of s.kernel) by) (length bytes) ≡ true
+CallHasRoom s by (call.PoolCreate chunks list) = chunks ≤ length (free_chunks s.kernel.store.arena)
+CallHasRoom s by (call.IolRead fd n) = HasRoomToRead s (held_by (tables_of s.kernel) by fd) n
+CallHasRoom s by (call.IolWrite fd a) = HasRoomToWrite s.kernel (descriptor (tables_of s.kernel) by fd) (slices_in s.kernel.domains by a)
+CallHasRoom s by (call.Read fd n) = HasRoomToRead s (held_by (tables_of s.kernel) by fd) n
+CallHasRoom s by (call.Write fd bytes) = can_fit s.kernel (pool_for (tables_of s.kernel) by (descriptor (tables_of s.kernel) by fd)) (write (tables_of s.kernel) by fd bytes).answer ≡ true
+CallHasRoom s by c = ⊤
+
+-- They do not, or are not.
+abbrev pub CallLacksRoom : SystemState → (by : ℕ) → Call → Type 0
+CallLacksRoom s by (call.AggMake bytes) = can_fit s.kernel (default_pool (tables_of s.kernel) by) (length bytes) ≡ false
+CallLacksRoom s by (call.PoolCreate chunks list) = length (free_chunks s.kernel.store.arena) < chunks
+CallLacksRoom s by (call.IolRead fd n) = LacksRoomToRead s (held_by (tables_of s.kernel) by fd) n
+CallLacksRoom s by (call.IolWrite fd a) = LacksRoomToWrite s.kernel (descriptor (tables_of s.kernel) by fd) (slices_in s.kernel.domains by a)
+CallLacksRoom s by (call.Read fd n) = LacksRoomToRead s (held_by (tables_of s.kernel) by fd) n
+CallLacksRoom s by (call.Write fd bytes) = can_fit s.kernel (pool_for (tables_of s.kernel) by (descriptor (tables_of s.kernel) by fd)) (write (tables_of s.kernel) by fd bytes).answer ≡ false
+CallLacksRoom s by c = ⊥
 
 -- bytes that arrive lie in the connection's pool, as many as are taken
-abbrev pub fits : KernelState → Event → Bool
-fits h (event.Call by c) = call_fits h by c
-fits h (event.Arrive c bytes) = has_room h.store (conn_at (machine_of h) c).pool (arrive (machine_of h) c bytes).answer
-fits h e = true
+abbrev pub HasRoomFor : SystemState → Event → Type 0
+HasRoomFor s (event.Call by c) = CallHasRoom s by c
+HasRoomFor s (event.Arrive c bytes) = can_fit s.kernel (conn_at (tables_of s.kernel) c).pool (arrive (tables_of s.kernel) c bytes).answer ≡ true
+HasRoomFor s e = ⊤
+
+abbrev pub LacksRoomFor : SystemState → Event → Type 0
+LacksRoomFor s (event.Call by c) = CallLacksRoom s by c
+LacksRoomFor s (event.Arrive c bytes) = can_fit s.kernel (conn_at (tables_of s.kernel) c).pool (arrive (tables_of s.kernel) c bytes).answer ≡ false
+LacksRoomFor s e = ⊥
 
 abbrev pub IsDone : Reply → Type 0
 IsDone (reply.Refused x) = ⊥

@@ -1,9 +1,15 @@
 -- What holds of a system between any two events.
 use Rattle.iol_core.specs.Access.{HasAccess}
-use Rattle.iol_kernel.specs.KernelState.{KernelState, IsSound}
-use Rattle.iol_system.specs.Machine.{machine_of}
+use Rattle.iol_core.specs.Positions.{ArePlaced}
+use Rattle.iol_back.specs.Disk.{IfHonest}
+use Rattle.iol_kernel.specs.Backed.{IsBackedBy}
+use Rattle.iol_kernel.specs.KernelState.{IsSound}
+use Rattle.iol_system.specs.Machine.{SystemState, machine_of}
 
--- it is sound, and what each domain has it may read, as the copying machine says it
-pub record IsSafe (h : KernelState) : Type 0 where
-  pub sound : IsSound h
-  pub access : HasAccess (machine_of h)
+-- It is sound, and what each domain has it may read, as the copying machine says it. Over an honest store, this has the same
+-- bytes as memory where nothing was written, and positions are within files.
+pub record IsSafe (s : SystemState) : Type 0 where
+  pub sound : IsSound s.kernel
+  pub access : HasAccess (machine_of s)
+  pub backed : IfHonest s.disk (IsBackedBy s.disk s.kernel)
+  pub placed : IfHonest s.disk (ArePlaced (machine_of s))

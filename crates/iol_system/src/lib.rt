@@ -5,8 +5,10 @@
 //! the machine's state that it stands for, is `iol_kernel`'s `specs/KernelState`; when there is room, `specs/Room`.
 #![tactic(auto)]
 
+pub mod aggregates;
 mod borrowed;
 pub mod laws;
+mod replies;
 mod step;
 pub mod system;
 

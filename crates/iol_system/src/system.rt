@@ -2,28 +2,35 @@
 ghost use Rattle.std.specs.Prelude.{replicate, ◌*◌, ◌≡◌, ◌⊎◌, ◌↔◌, length, true, false, Some, None, Err, IfOk, IfErr, OnOk, OnErr};
 ghost use Rattle.iol_core.specs.Configuration.{IsInRange};
 ghost use Rattle.iol_core.specs.declared.limits.TheConstants.{CHUNK_PAGES};
-ghost use Rattle.iol_core.specs.State.{new_state, no_slots};
-ghost use Rattle.iol_core.specs.Run.{StepsTo, Run};
+ghost use Rattle.iol_core.specs.State.{new_state};
+ghost use Rattle.iol_core.specs.Run.{StepsTo, Run, meaning, outcome};
 ghost use Rattle.iol_core.specs.Values.{ValuesStay};
 ghost use Rattle.iol_system.specs.Promises.{Promises, Chain};
 ghost use Rattle.iol_system.specs.Values.{ValuesStayOver};
 ghost use Rattle.iol_hold.specs.Moves.{Stays};
-ghost use Rattle.iol_hold.specs.Pages.{KeepsPages};
+ghost use Rattle.iol_cache.specs.Serving.{FaultCounts};
 ghost use Rattle.iol_kernel.specs.KernelState.{layout_of, joined};
-ghost use Rattle.iol_system.specs.Machine.{machine_of};
+ghost use Rattle.iol_back.specs.Disk.{IfHonest};
+ghost use Rattle.iol_kernel.specs.Backed.{StepsBeside};
+ghost use Rattle.iol_kernel.specs.Readings.{slots_of};
+ghost use Rattle.iol_system.specs.Machine.{machine_of, tables_of};
 ghost use Rattle.iol_system.specs.Safe.{IsSafe};
 ghost use Rattle.iol_core.specs.Sharing.{is_sharing, LaysOut};
 ghost use Rattle.iol_core.specs.Meaning.{first};
 ghost use Rattle.iol_core.specs.Calls.Aggregates.{show};
 ghost use Rattle.iol_kernel.specs.Report.{reports_of};
+ghost use Rattle.iol_cache.specs.Cached.{extents_in_all, dirty_in_all};
 ghost use Rattle.iol_arena.specs.State.{no_entry};
 ghost use Rattle.iol_arena.specs.Buffers.{SharesNoPage, live_pages};
-ghost use Rattle.iol_system.specs.Placed.{placed_by, Creates};
+ghost use Rattle.iol_system.specs.Asking.{asks_store, uses_cache};
+ghost use Rattle.iol_system.specs.Placed.{Creates, Publishes};
 ghost use Rattle.iol_system.specs.Remembered.{Remembers};
-ghost use Rattle.iol_system.specs.Room.{fits, IsDone, IsNoRoom, IsRefused};
+ghost use Rattle.iol_system.specs.Room.{HasRoomFor, LacksRoomFor, IsDone, IsNoRoom, IsRefused};
 
+use crate::aggregates::Aggregates;
 use crate::step::{carry_out, run_all};
 use iol_agg::Parts;
+use iol_back::backing::Backing;
 use iol_core::configuration::Config;
 use iol_core::events::{Event, Reply};
 use iol_core::numbers::{AggId, DomainId};
@@ -33,102 +40,144 @@ use iol_kernel::report::Report;
 use std::alloc::{AllocError, Global};
 use std::marker::Model;
 
-/// A system of domains that share buffers: what it answers is what a machine that copies at every call would.
+/// A system of domains that share buffers, over a store of files: what it answers is what a machine that copies at every call
+/// would.
 #[derive(Drop)]
-pub struct System {
+pub struct System<B: Backing> {
     alloc: Global,
     pub(crate) kernel: Kernel,
+    backing: B,
 }
 
-impl Model for System {
-    ghost use Rattle.iol_kernel.specs.KernelState as held;
+impl<B: Backing> Model for System<B> {
+    ghost use Rattle.iol_system.specs.Machine.{SystemState, system_of};
     ghost use Rattle.iol_system.specs.Safe.{IsSafe};
 
-    ghost Value = { held.KernelState };
+    ghost Value = { SystemState };
 
     ghost use Rattle.iol_kernel.specs.Kernel.{state_of};
 
-    ghost view = { λ s. state_of s.kernel };
+    ghost view = { λ s. system_of (state_of s.kernel) (B.disk s.backing) };
 
-    ghost invariant = { λ s. IsSafe (state_of s.kernel) };
+    ghost invariant = { λ s. IsSafe (system_of (state_of s.kernel) (B.disk s.backing)) };
 }
 
-impl System {
-    /// A system with domain 1 and nothing else. A size out of its range is `BadRange`.
-    pub fn new(alloc: Global, config: Config) -> Result<System, Refusal>
+impl<B: Backing + Drop> System<B> {
+    /// A system with domain 1 and nothing else, over a store: none of its slots has a name yet. A size out of its range is
+    /// `BadRange`.
+    pub fn new(alloc: Global, config: Config, backing: B) -> Result<System<B>, Refusal>
         ensures range { (result ≡ Err Refusal.BadRange) ↔ (IsInRange config → ⊥) }
         ensures errors { IfErr result (λ e. (e ≡ Refusal.BadRange) ⊎ (e ≡ Refusal.Memory)) }
-        ensures new { IfOk result (λ s. machine_of s ≡ new_state no_slots) }
+        ensures new { IfOk result (λ s. machine_of s ≡ new_state (slots_of s.disk.slots)) }
+        ensures disk { IfOk result (λ s. s.disk ≡ B.disk backing) }
 
         // Of as many pages as the sizes say, none used yet, and of their generation limit.
         ensures entries { IfOk result
-            (λ s. s.store.arena.entries ≡ replicate (config.chunks * CHUNK_PAGES) no_entry) }
-        ensures taken { IfOk result (λ s. s.store.arena.taken ≡ replicate config.chunks false) }
-        ensures limit { IfOk result (λ s. s.store.arena.limit ≡ config.gen_limit) }
+            (λ s. s.kernel.store.arena.entries ≡ replicate (config.chunks * CHUNK_PAGES) no_entry) }
+        ensures taken { IfOk result (λ s. s.kernel.store.arena.taken ≡ replicate config.chunks false) }
+        ensures limit { IfOk result (λ s. s.kernel.store.arena.limit ≡ config.gen_limit) }
         ensures safe { IfOk result IsSafe }
     {
         let kernel = Kernel::new(alloc, config)?;
-        Ok(System { alloc, kernel })
+        Ok(System {
+            alloc,
+            kernel,
+            backing,
+        })
     }
+}
 
+impl<B: Backing> System<B> {
     /// The bytes of a domain's aggregate, where they lie. Nothing is copied, and no memory is taken.
     pub fn parts(&self, by: DomainId, agg: AggId) -> Result<Parts<'_>, Refusal>
         ensures ok { IfOk result
-            (λ parts. (first (show (machine_of self.now) by agg).refusals ≡ None)
-            × (joined parts ≡ (show (machine_of self.now) by agg).answer)) }
+            (λ parts. (first (show (tables_of self.now.kernel) by agg).refusals ≡ None)
+            × (joined parts ≡ (show (tables_of self.now.kernel) by agg).answer)) }
         ensures err { IfErr result
-            (λ x. first (show (machine_of self.now) by agg).refusals ≡ Some x) }
+            (λ x. first (show (tables_of self.now.kernel) by agg).refusals ≡ Some x) }
     {
         self.kernel.parts(by, agg)
     }
 
-    /// What lies in the system, counted: the pools that still have their chunks, by number, and the live buffers, no two
-    /// of which share a page. It changes nothing.
+    /// Lends the aggregates of all domains, as [`System::parts`] lends one.
+    pub fn aggregates(&self) -> Aggregates<'_>
+        ensures { result ≡ self.now.kernel }
+    {
+        Aggregates::new(&self.kernel)
+    }
+
+    /// What lies in the system, counted: the pools that still have their chunks, by number, the extents of files and the dirty
+    /// ones among them, and the live buffers, no two of which share a page. It changes nothing.
     pub fn report(&self) -> Result<Report, AllocError>
         ensures pools { IfOk result
-            (λ r. r.pools.items ≡ reports_of self.now.store (length self.now.store.pools)) }
-        ensures buffers { IfOk result (λ r. r.buffers ≡ length (live_pages self.now.store.arena)) }
-        ensures extents { IfOk result (λ r. r.extents ≡ 0) }
-        ensures dirty { IfOk result (λ r. r.dirty ≡ 0) }
-        ensures alone { SharesNoPage self.now.store.arena }
+            (λ r. r.pools.items ≡ reports_of self.now.kernel.store (length self.now.kernel.store.pools)) }
+        ensures buffers { IfOk result (λ r. r.buffers ≡ length (live_pages self.now.kernel.store.arena)) }
+        ensures extents { IfOk result
+            (λ r. r.extents ≡ extents_in_all self.now.kernel.cache.files) }
+        ensures dirty { IfOk result
+            (λ r. r.dirty ≡ dirty_in_all self.now.kernel.cache.files) }
+        ensures alone { SharesNoPage self.now.kernel.store.arena }
     {
         self.kernel.report()
     }
 
     /// Carries out one event, whole.
     pub fn step(&mut self, event: Event) -> Reply
-        ensures step { StepsTo (machine_of self.old) event result (machine_of self.new) }
-        ensures room { IsDone result → fits self.old event ≡ true }
-        ensures no_room { IsNoRoom result → fits self.old event ≡ false }
+        // Over an honest store this is a step of the machine that copies; over any store it is that but for the bytes of files,
+        // and a store stays as honest as it was.
+        ensures step { IfHonest self.old.disk
+            (StepsTo (machine_of self.old) event result (machine_of self.new)) }
+        ensures beside { StepsBeside (λ s. meaning s event) self.old.kernel (outcome result)
+            self.new.kernel }
+        ensures honest { self.new.disk.honest ≡ self.old.disk.honest }
 
-        // A refused event changes nothing at all of what the system holds.
-        ensures refused { IsRefused result → self.new ≡ self.old }
+        // The store is asked by calls on files alone; a fault is answered just where it failed once more.
+        ensures unasked { asks_store (tables_of self.old.kernel) event ≡ false →
+            self.new.disk ≡ self.old.disk }
+        ensures faults { asks_store (tables_of self.old.kernel) event ≡ true →
+            FaultCounts self.old.disk self.new.disk (outcome result) }
+        ensures room { IsDone result → HasRoomFor self.old event }
+        ensures no_room { IsNoRoom result → LacksRoomFor self.old event }
+
+        // A refused event changes nothing at all of what the system holds, but that clean parts of files may be gone from memory
+        // where it works on these.
+        ensures refused { uses_cache (tables_of self.old.kernel) event ≡ false →
+            IsRefused result → self.new ≡ self.old }
 
         // What a sharing call hands on lies where it lay, and no page is published or freed.
-        ensures shares { is_sharing event ≡ true →
-            LaysOut (layout_of self.old) event result (layout_of self.new) }
-        ensures pages { is_sharing event ≡ true → self.new.store.arena ≡ self.old.store.arena }
+        ensures shares { is_sharing (tables_of self.old.kernel) event ≡ true →
+            LaysOut (layout_of self.old.kernel) event result (layout_of self.new.kernel) }
+        ensures pages { is_sharing (tables_of self.old.kernel) event ≡ true →
+            self.new.kernel.store.arena ≡ self.old.kernel.store.arena }
 
-        // Of all others `agg_make`, `arrive` and `write` alone publish, on the lowest free pages of the pool, each of which is raised
-        // by one; an open pool keeps its chunks, and a new one has the lowest free chunks, as many as asked for.
+        // What publishes does so on the lowest free pages of its pool, each of which is raised by one; an open pool keeps its
+        // chunks, and a new one has the lowest free chunks, as many as asked for.
         ensures publishes { IsDone result →
-            KeepsPages self.old.store self.new.store (placed_by self.old event) }
-        ensures creates { Creates self.old event result self.new }
+            Publishes self.old.kernel event self.new.kernel }
+        ensures creates { Creates self.old.kernel event result self.new.kernel }
 
         // Sending uses the sum of each slice that is sent; nothing else touches the remembered sums.
-        ensures sums { Remembers self.old event result self.new }
+        ensures sums { Remembers self.old.kernel event result self.new.kernel }
 
-        // Counts are those of the slices, no page is lost, and what a domain has it may read.
+        // Counts are those of the slices, no page is lost, what a domain has it may read, and an honest store has what memory has
+        // where nothing was written.
         ensures safe { IsSafe self.new }
 
         // A live buffer keeps its bytes, and no identity is given twice; an aggregate keeps its value.
-        ensures stays { Stays self.old.store self.new.store }
+        ensures stays { Stays self.old.kernel.store self.new.kernel.store }
         ensures values { ValuesStay (machine_of self.old) event (machine_of self.new) }
 
         // All of this in one, as each link of a run has it.
         ensures promises { Promises self.old event result self.new }
     {
-        carry_out(self.alloc, &mut self.kernel, &event)
+        carry_out(&mut self.kernel, &mut self.backing, &event)
+    }
+
+    /// Carries out one event that stays with the caller, whole, as [`System::step`] does.
+    pub fn step_ref(&mut self, event: &Event) -> Reply
+        ensures { Promises self.old event.now result self.new }
+    {
+        carry_out(&mut self.kernel, &mut self.backing, event)
     }
 
     /// Carries out events in order. For want of memory for the replies, none.
@@ -137,14 +186,15 @@ impl System {
     /// whole runs is stated in [`laws`](crate::laws).
     pub fn run(&mut self, events: &[Event]) -> Result<Vec<Reply>, AllocError>
         ensures chain { IfOk result (λ replies. Chain self.old events.now replies.items self.new) }
-        ensures run { IfOk result
-            (λ replies. Run (machine_of self.old) events.now replies.items (machine_of self.new)) }
+        ensures run { IfOk result (λ replies. IfHonest self.old.disk
+            (Run (machine_of self.old) events.now replies.items (machine_of self.new))) }
+        ensures honest { self.new.disk.honest ≡ self.old.disk.honest }
         ensures safe { IsSafe self.new }
-        ensures stays { Stays self.old.store self.new.store }
+        ensures stays { Stays self.old.kernel.store self.new.kernel.store }
         ensures values { OnOk result
             (ValuesStayOver (machine_of self.old) events.now (machine_of self.new)) }
         ensures err { OnErr result (self.new ≡ self.old) }
     {
-        run_all(self.alloc, &mut self.kernel, events)
+        run_all(self.alloc, &mut self.kernel, &mut self.backing, events)
     }
 }

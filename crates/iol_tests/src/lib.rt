@@ -7,8 +7,6 @@ mod aggregates;
 #[cfg(test)]
 mod arenas;
 #[cfg(test)]
-mod copying;
-#[cfg(test)]
 mod holds;
 #[cfg(test)]
 mod pipes;

@@ -1,4 +1,6 @@
 //! The example of the README, which `scripts/readme` compares with it.
+use iol_back::memory::MemoryBacking;
+use iol_back::slots::Slots;
 use iol_core::configuration::Config;
 use iol_core::events::{Call, Event, Reply};
 use iol_core::lists::{Bytes, Domains};
@@ -10,7 +12,8 @@ use std::test::Fail;
 fn readme(rt: HostRuntime) -> Result<(), Fail> {
     let alloc = rt.alloc();
     // README: from here
-    let mut system = System::new(alloc, Config::DEFAULT)?;
+    let store = MemoryBacking::new(Slots::new(alloc)); // the bytes of files: none yet
+    let mut system = System::new(alloc, Config::DEFAULT, store)?;
     let (by, to) = (DomainId::new(1), DomainId::new(2));
     let domains = Domains::from_vec([by, to].to_vec(alloc)?);
     let bytes = Bytes::from_vec(b"hello".to_vec(alloc)?);

@@ -1,5 +1,7 @@
 //! Rounds of calls keep no memory: each kind of round gives up what it made, is made 1,000 times and then on to 100,000
 //! times, and the process, in all and in memory, grows by a tenth at most between the two.
+use iol_back::memory::MemoryBacking;
+use iol_back::slots::Slots;
 use iol_core::configuration::Config;
 use iol_core::events::{Call, Event, Reply};
 use iol_core::lists::{Bytes, Domains};
@@ -65,7 +67,7 @@ enum Round {
 #[derive(Drop)]
 struct Rounds {
     alloc: Global,
-    system: System,
+    system: System<MemoryBacking>,
     round: Round,
 
     /// An aggregate that stays.
@@ -78,7 +80,8 @@ struct Rounds {
 impl Rounds {
     /// A system with a pool, a pipe, an aggregate and a copy of it.
     fn new(alloc: Global, round: Round) -> Result<Rounds, Failure> {
-        let Ok(mut system) = System::new(alloc, SIZES) else {
+        let store = MemoryBacking::new(Slots::new(alloc));
+        let Ok(mut system) = System::new(alloc, SIZES, store) else {
             return Err(Failure::Refused);
         };
         let domains = Domains::from_vec([DomainId::new(1)].to_vec(alloc)?);
@@ -145,7 +148,7 @@ fn text(alloc: Global) -> Result<Bytes, AllocError> {
 }
 
 /// Makes a call of domain 1, which has to pass.
-fn carry_out(system: &mut System, call: Call) -> Result<Reply, Failure> {
+fn carry_out(system: &mut System<MemoryBacking>, call: Call) -> Result<Reply, Failure> {
     let by = DomainId::new(1);
     match system.step(Event::Call { by, call }) {
         Reply::Refused(_) => Err(Failure::Refused),
@@ -154,7 +157,7 @@ fn carry_out(system: &mut System, call: Call) -> Result<Reply, Failure> {
 }
 
 /// Makes a call that gives an aggregate.
-fn make(system: &mut System, call: Call) -> Result<AggId, Failure> {
+fn make(system: &mut System<MemoryBacking>, call: Call) -> Result<AggId, Failure> {
     match carry_out(system, call)? {
         Reply::Agg(agg) => Ok(agg),
         _ => Err(Failure::AnotherAnswer),

@@ -1,6 +1,7 @@
 //! The calls of a script's lines.
 use crate::words::{
-    LineError, decode_text, parse_domains, parse_u32, parse_u64, repeat_text, split_word,
+    LineError, decode_text, parse_domains, parse_mode, parse_u32, parse_u64, repeat_text,
+    split_word,
 };
 use iol_core::events::Call;
 use iol_core::numbers::{AggId, DomainId, Fd, PoolId};
@@ -17,10 +18,8 @@ pub fn parse_call(alloc: Global, text: &str) -> Result<Call, LineError> {
         "agg_dup" | "agg_drop" | "show" => parse_agg_call(name, rest),
         "agg_split" | "agg_join" | "agg_give" => parse_moving_call(name, rest),
         "agg_cut" | "agg_replace" => parse_range_call(name, rest),
-        "close" => {
-            let fd = Fd::new(parse_u32(rest)?);
-            Ok(Call::Close { fd })
-        }
+        "file_new" | "open_file" => parse_file_call(alloc, name, rest),
+        "close" | "length" | "fsync" => parse_fd_call(name, rest),
         _ => parse_descriptor_call(name, rest),
     }
 }
@@ -78,6 +77,32 @@ fn parse_text_call(alloc: Global, name: &str, rest: &str) -> Result<Call, LineEr
             let bytes = repeat_text(alloc, parse_u32(count)?, text)?;
             Ok(Call::AggMake { bytes })
         }
+    }
+}
+
+/// Reads a call that names a file.
+fn parse_file_call(alloc: Global, name: &str, rest: &str) -> Result<Call, LineError> {
+    let (file, last) = split_word(rest)?;
+    let file = decode_text(alloc, file)?;
+    match name {
+        "file_new" => {
+            let pool = PoolId::new(parse_u32(last)?);
+            Ok(Call::FileNew { name: file, pool })
+        }
+        _ => {
+            let mode = parse_mode(last)?;
+            Ok(Call::OpenFile { name: file, mode })
+        }
+    }
+}
+
+/// Reads a call on one descriptor alone.
+fn parse_fd_call(name: &str, rest: &str) -> Result<Call, LineError> {
+    let fd = Fd::new(parse_u32(rest)?);
+    match name {
+        "close" => Ok(Call::Close { fd }),
+        "length" => Ok(Call::Length { fd }),
+        _ => Ok(Call::Fsync { fd }),
     }
 }
 
@@ -144,6 +169,10 @@ fn parse_descriptor_call(name: &str, rest: &str) -> Result<Call, LineError> {
         "give_fd" => {
             let to = DomainId::new(parse_u32(last)?);
             Ok(Call::GiveFd { fd, to })
+        }
+        "seek" => {
+            let at = parse_u32(last)?;
+            Ok(Call::Seek { fd, at })
         }
         "iol_read" => {
             let count = parse_u32(last)?;

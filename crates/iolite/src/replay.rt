@@ -2,7 +2,7 @@
 ghost use Rattle.std.specs.Prelude.{◌≡◌, ◌≢◌, ◌⊎◌, ◌++◌, Err, IfOk, IfErr, IfSome, OnOk, OnErr, string_bytes};
 ghost use Rattle.std.specs.Io.KnownBytes.{Appends};
 ghost use Rattle.std.specs.IoError.{error_kind};
-ghost use Rattle.iolite.specs.Answers.{Answered, IsAnswer, Replayed};
+ghost use Rattle.iolite.specs.Answers.{Answered, IsAnswer, IsNew, Replayed};
 ghost use Rattle.iolite.specs.Failure.{status_of, IsOfInput};
 ghost use Rattle.iolite.specs.Printed.{answer_text, lines_of, newline};
 ghost use Rattle.iolite.specs.Script.{IsScriptText, IsWholeOrTooLong};
@@ -10,6 +10,9 @@ ghost use Rattle.iolite.specs.Script.{IsScriptText, IsWholeOrTooLong};
 use crate::failure::Failure;
 use crate::printed::{Printed, PrintedReport};
 use crate::script::{Line, Script};
+use crate::setup::Setup;
+use iol_back::faulty::FaultyBacking;
+use iol_back::memory::MemoryBacking;
 use iol_core::configuration::Config;
 use iol_core::events::Reply;
 use iol_kernel::report::Report;
@@ -34,7 +37,7 @@ pub enum Answer {
 /// Runs the script that the input holds, and prints a reply a line. The answer is the exit status: 0, or 2 for a bad
 /// script or line, or 3 where input, output or memory failed.
 ///
-/// Each line of the script is answered by a system of the script's sizes, and each answer printed, in order. The
+/// Each line of the script is answered by the system that it sets up, and each answer printed, in order. The
 /// script is read whole before the first event, so a bad one prints nothing on `output`. What goes wrong is told on
 /// `errors` in one line, and nothing is told where that cannot be written.
 pub fn replay<R: Read, W: Write, E: Write>(
@@ -117,18 +120,16 @@ fn text_of(bytes: Vec<u8>) -> Result<String, Failure>
     }
 }
 
-// Answers each line of a script, by a new system of the script's sizes.
+/// A system over a store in memory, of which one read or write may fail.
+type ScriptSystem = System<FaultyBacking<MemoryBacking>>;
+
+// Answers each line of a script, by the system that it sets up.
 fn answers_to(alloc: Global, script: Script) -> Result<Vec<Answer>, Failure>
     ensures answered { IfOk result
-        (λ answers. Answered script.config script.lines.items answers.items) }
+        (λ answers. Answered script.setup script.lines.items answers.items) }
     ensures error { IfErr result (λ failure. failure ≡ Failure.Memory) }
 {
-    let config = script.config.unwrap_or(Config::DEFAULT);
-    // The sizes are in their ranges, so only memory can be wanting.
-    let mut system = match System::new(alloc, config) {
-        Ok(system) => system,
-        Err(_) => return Err(Failure::Memory),
-    };
+    let mut system = system_of(alloc, script.setup)?;
     let mut answers = match Vec::with_capacity(alloc, script.lines.len()) {
         Ok(answers) => answers,
         Err(_) => return Err(Failure::Memory),
@@ -140,8 +141,22 @@ fn answers_to(alloc: Global, script: Script) -> Result<Vec<Answer>, Failure>
     Ok(answers)
 }
 
+// The system that a script sets up.
+fn system_of(alloc: Global, setup: Setup) -> Result<ScriptSystem, Failure>
+    ensures new { IfOk result (IsNew setup) }
+    ensures error { IfErr result (λ failure. failure ≡ Failure.Memory) }
+{
+    let config = setup.config.unwrap_or(Config::DEFAULT);
+    let store = FaultyBacking::new(MemoryBacking::new(setup.slots), setup.fault.unwrap_or(0));
+    // The sizes are in their ranges, so only memory can be wanting.
+    match System::new(alloc, config, store) {
+        Ok(system) => Ok(system),
+        Err(_) => Err(Failure::Memory),
+    }
+}
+
 // Carries out an event, or makes a report, which changes nothing.
-fn answer_to(system: &mut System, line: Line) -> Result<Answer, Failure>
+fn answer_to(system: &mut ScriptSystem, line: Line) -> Result<Answer, Failure>
     ensures answer { IfOk result (λ answer. IsAnswer system.old line answer system.new) }
     ensures error { IfErr result (λ failure. failure ≡ Failure.Memory) }
 {

@@ -12,7 +12,7 @@ use std::process::Abort;
 use std::test::Fail;
 
 /// Replays what a reader gives, which has to end with this status and to print these texts.
-fn assert_outcome(
+pub fn assert_outcome(
     rt: &(impl AllocGlobal + Abort),
     input: &mut impl Read,
     status: u8,
@@ -32,7 +32,7 @@ fn assert_outcome(
 }
 
 /// Replays a script, which has to give these replies.
-fn assert_replies(rt: &(impl AllocGlobal + Abort), script: &str, replies: &str) {
+pub fn assert_replies(rt: &(impl AllocGlobal + Abort), script: &str, replies: &str) {
     assert_outcome(rt, &mut script.as_bytes(), 0, replies, "");
 }
 

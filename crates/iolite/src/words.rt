@@ -6,15 +6,16 @@ ghost use Rattle.iolite.specs.declared.words.LineError.TheVariants.{Memory};
 ghost use Rattle.iolite.specs.declared.words.TheConstants.{MAX_REPEATED_BYTES};
 ghost use Rattle.percent_encoding.specs.Percent.{percent_decode as decoded};
 
+use iol_core::descriptors::Mode;
 use iol_core::limits::MAX_AGGREGATE_BYTES;
 use iol_core::lists::{Bytes, Domains};
 use iol_core::numbers::DomainId;
 use percent_encoding::percent_decode;
 use std::alloc::{AllocError, AllocFailed, Global};
 
-/// The bytes that a text may have once it is repeated: one more than an aggregate may have, so that a script can ask
-/// for one that is too long.
-const MAX_REPEATED_BYTES: u64 = MAX_AGGREGATE_BYTES as u64 + 1;
+/// The bytes that a text may have once it is repeated, and a file of the store: one more than an aggregate and a file may
+/// have, so that a script can ask for one that is too long.
+pub const MAX_REPEATED_BYTES: u64 = MAX_AGGREGATE_BYTES as u64 + 1;
 
 /// Why a line has no meaning.
 #[derive(Clone, Copy, Debug, PartialEq, Eq)]
@@ -79,6 +80,16 @@ pub fn split_word(line: &str) -> Result<(&str, &str), LineError>
     match line.split_once(' ') {
         Some((word, rest)) => Ok((word, rest)),
         None => Err(LineError::NotACommand),
+    }
+}
+
+/// Reads how a file is to be open.
+pub fn parse_mode(word: &str) -> Result<Mode, LineError> {
+    match word {
+        "read" => Ok(Mode::Read),
+        "write" => Ok(Mode::Write),
+        "both" => Ok(Mode::Both),
+        _ => Err(LineError::NotACommand),
     }
 }
 

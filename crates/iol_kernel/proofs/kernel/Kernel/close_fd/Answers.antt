@@ -27,7 +27,7 @@ pub close_end-requires-clause-free : goal.close_end-requires-clause-free
 close_end-requires-clause-free c =
     let h = state_of c.args.self.now in
     freed-alone h (domains_of c.take_fd.new.self) c.args.by c.args.fd c.args.end c.requires.sound (live_held _ h c.args.by c.requires.live) (sym (descriptor-read_of _ h c.args.by c.args.fd) ∙ c.requires.open)
-    (end_held _ h c.args.by c.args.fd c.args.end c.requires.sound c.requires.open) c.take_fd.ensures
+    c.take_fd.ensures
 
 pub returns : goal.returns
 returns c =

@@ -13,6 +13,7 @@ returns c =
       arena = refl;
       pools = refl;
       sums = refl;
+      cache = refl;
       roomy = search (rules);
       refused = tt;
       sound = grown-sound h (domains_of c.add_domain.new.self) c.requires c.in_ok-add_domain.ensures.ok;

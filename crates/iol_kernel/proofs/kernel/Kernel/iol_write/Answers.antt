@@ -1,19 +1,31 @@
-use Rattle.std.proofs.Common.{[], ◌≡◌, ◌∙◌, ℕ, inl, inr, rules, sym}
-use Rattle.iol_core.specs.declared.descriptors.Descriptor.TheVariants as on
+use Rattle.std.proofs.Common.{[], Err, Some, sym, subst, Option}
+use Rattle.iol_core.specs.Calls.Writing as calls
+use Rattle.iol_core.specs.declared.descriptors.Descriptor.{Descriptor}
 use Rattle.iol_kernel.specs.Kernel.{state_of}
 use Rattle.iol_kernel.specs.Readings.{bytes_over}
-use Rattle.iol_kernel.specs.KernelState.{objects_of}
-use Rattle.iol_kernel.proofs.Opening.{end_held}
-use Rattle.iol_kernel.proofs.Queueing.{not_writable}
-use Rattle.iol_kernel.proofs.Stay.{stays_here}
+use Rattle.iol_kernel.specs.WritingFiles.{WritesOn}
+use Rattle.iol_core.specs.State.{descriptor}
+use Rattle.iol_kernel.specs.KernelState.{machine_of}
+use Rattle.iol_kernel.proofs.Serving.{carried_serves}
+use Rattle.iol_kernel.proofs.WrittenOver.{queued_on, refused_on}
 use Rattle.iol_kernel.proofs.kernel.Kernel.iol_write.Goals as goal
 
-pub returns-in-ReadEnd : goal.returns-in-ReadEnd
-returns-in-ReadEnd c =
+pub returns-in-Err-clause-serves : goal.returns-in-Err-clause-serves
+returns-in-Err-clause-serves c =
     let h = state_of c.args.self.now in
-    let differs : (p : ℕ) → c.in-Some.to ≡ on.WriteEnd p → ⊥ =
-    λ p e. elim c.in-ReadEnd.is [ inl x ↦ (let k = sym x.1 ∙ e in cc) | inr x ↦ (let k = sym x.3 ∙ e in cc) ] in
-    let apart : (n : ℕ) → c.in-Some.to ≡ on.Connection n → ⊥ =
-    λ n e. elim c.in-ReadEnd.is [ inl x ↦ (let k = sym x.1 ∙ e in cc) | inr x ↦ (let k = sym x.3 ∙ e in cc) ] in
-    let wrong = not_writable (objects_of h) c.in-Some.to (end_held (bytes_over [] h.store) h c.args.by c.args.fd c.in-Some.to c.requires (sym (c.descriptor.ensures (bytes_over [] h.store)) ∙ c.in-Some.is)) differs apart in
-    search (rules, stays_here, wrong)
+    carried_serves (λ s. calls.iol_write s c.args.by c.args.fd c.args.agg) h h (Err c.in-Err.refusal) c.requires c.in-Err.ensures.refused
+
+pub returns-in-Err-clause-writes : goal.returns-in-Err-clause-writes
+returns-in-Err-clause-writes c =
+    let h = state_of c.args.self.now in
+    refused_on c.args.by c.args.fd c.args.agg h c.in-Err.refusal (descriptor (machine_of [] h) c.args.by c.args.fd) c.in-Err.ensures.refused
+
+pub returns : goal.returns
+returns c =
+    let h = state_of c.args.self.now in
+    let k = state_of c.write_queue.new.self in
+    record {
+      serves = carried_serves (λ s. calls.iol_write s c.args.by c.args.fd c.args.agg) h k c.write_queue.result c.requires c.write_queue.ensures;
+      writes = subst (λ (o : Option Descriptor). WritesOn c.args.by c.args.fd c.args.agg o h c.write_queue.result k) (sym (c.in-Ok.ensures.open (bytes_over [] h.store)))
+          (queued_on c.args.by c.args.fd c.args.agg h k c.write_queue.result c.in-Ok.to c.in_default.not-File c.write_queue.ensures);
+    }

@@ -1,45 +1,42 @@
-use Rattle.std.proofs.Common.{[], ◌∙◌, ap, sym, refl, rules}
-use Rattle.iol_hold.specs.Room.{has_room}
+use Rattle.std.proofs.Common.{[], ◌≡◌, ◌∙◌, ℕ, min, length, ap, sym}
+use Rattle.iol_core.specs.Calls.Writing as writing
+use Rattle.iol_core.specs.declared.descriptors.Descriptor.TheVariants as on
 use Rattle.iol_kernel.specs.Kernel.{state_of}
-use Rattle.iol_kernel.specs.KernelState.{KernelState, queue_at}
-use Rattle.iol_kernel.specs.Readings.{bytes_over}
+use Rattle.iol_kernel.specs.KernelState.{read_of}
+use Rattle.iol_kernel.specs.Readings.{Reading, bytes_over}
+use Rattle.iol_kernel.proofs.Queued.{count_in_pipe, passed_still, pool_still, to_still, write_none, write_places}
 use Rattle.iol_kernel.proofs.ReadOf.{closed-read_of}
-use Rattle.iol_kernel.proofs.Queueing.{writing_held}
-use Rattle.iol_kernel.proofs.Written.{put_step, put_made, fills-count, fills_sound, fills_each}
+use Rattle.iol_kernel.proofs.Making.{open_after}
+use Rattle.iol_arena.specs.State.{pages_for}
 use Rattle.iol_kernel.proofs.kernel.Kernel.put_in_pipe.Goals as goal
 
-pub fill-requires-clause-open : goal.fill-requires-clause-open
-fill-requires-clause-open c = sym (closed-read_of _ (state_of c.args.self.now) c.args.pool) ∙ c.requires.open
+pub make_room_for-requires-clause-open : goal.make_room_for-requires-clause-open
+make_room_for-requires-clause-open c = sym (closed-read_of (bytes_over [] c.args.self.now.store) (state_of c.args.self.now) c.args.pool) ∙ c.requires.open
 
-pub fill-requires-clause-writing : goal.fill-requires-clause-writing
-fill-requires-clause-writing c = let h = state_of c.args.self.now in writing_held _ h c.args.by c.args.fd c.args.pipe c.requires.sound (c.requires.to (bytes_over [] h.store))
-
-pub returns-in_err-fill-clause-no_room : goal.returns-in_err-fill-clause-no_room
-returns-in_err-fill-clause-no_room c =
+pub returns-then-not-make_room_for : goal.returns-then-not-make_room_for
+returns-then-not-make_room_for c =
     let h = state_of c.args.self.now in
-    λ p is. ap (has_room h.store c.args.pool) (fills-count h c.args.by c.args.fd c.args.pipe c.args.bytes.now c.requires.sound c.requires.to) ∙ c.fill.ensures.no_room p (search (rules, is))
+    let r = c.make_room_for.ensures in
+    let counted = count_in_pipe h c.args.by c.args.fd c.args.pipe c.args.bytes.now c.min-count.result c.requires.to (λ f. c.min-count.ensures ∙ ap (λ m. min (length c.args.bytes.now) m) (c.room_in.ensures f)) in
+    write_none c.args.by c.args.fd c.args.bytes.now c.args.pool c.min-count.result h (state_of c.make_room_for.new.self) r.made c.requires.passed c.requires.pool counted (r.fits ∙ c.if-not-make_room_for.true)
 
-pub returns-clause-room : goal.returns-clause-room
-returns-clause-room c =
-    let h = state_of c.args.self.now in
-    ap (has_room h.store c.args.pool) (fills-count h c.args.by c.args.fd c.args.pipe c.args.bytes.now c.requires.sound c.requires.to) ∙ c.in_ok-fill.ensures.room
+pub fill_pipe-requires-clause-passed : goal.fill_pipe-requires-clause-passed
+fill_pipe-requires-clause-passed c = passed_still c.args.by c.args.fd c.args.bytes.now c.args.pool c.min-count.result (state_of c.args.self.now) (state_of c.make_room_for.new.self) c.make_room_for.ensures.made c.requires.passed c.requires.pool
 
-pub returns-clause-step : goal.returns-clause-step
-returns-clause-step c =
-    let h = state_of c.args.self.now in
-    let k : KernelState = record h { store = c.fill.new.store; pipes = c.fill.new.self.places } in
-    let e = c.in_ok-fill.ensures in
-    put_step h k c.args.by c.args.fd c.args.pool c.in_ok-fill.field-0 (queue_at h.pipes c.args.pipe).queue (queue_at k.pipes c.args.pipe).queue c.args.bytes.now c.requires.sound c.requires.passed c.requires.pool (e.taken ∙ sym (fills-count h c.args.by c.args.fd c.args.pipe c.args.bytes.now c.requires.sound c.requires.to)) e.added (fills_each h c.args.by c.args.fd c.args.pipe c.args.bytes.now c.requires.sound c.requires.to c.fill.new.store c.fill.new.self.places c.args.pool c.in_ok-fill.field-0 e.taken e.added e.pipes) refl
+pub fill_pipe-requires-clause-to : goal.fill_pipe-requires-clause-to
+fill_pipe-requires-clause-to c = to_still c.args.by c.args.fd c.args.bytes.now c.args.pool c.min-count.result (state_of c.args.self.now) (state_of c.make_room_for.new.self) c.make_room_for.ensures.made c.requires.passed c.requires.pool (on.WriteEnd c.args.pipe) c.requires.to
 
-pub returns-clause-made : goal.returns-clause-made
-returns-clause-made c =
-    let h = state_of c.args.self.now in
-    let k : KernelState = record h { store = c.fill.new.store; pipes = c.fill.new.self.places } in
-    let e = c.in_ok-fill.ensures in
-    put_made h k c.args.by c.args.fd c.args.pool c.in_ok-fill.field-0 (queue_at h.pipes c.args.pipe).queue (queue_at k.pipes c.args.pipe).queue c.args.bytes.now c.requires.sound c.requires.passed c.requires.pool (e.taken ∙ sym (fills-count h c.args.by c.args.fd c.args.pipe c.args.bytes.now c.requires.sound c.requires.to)) e.added (fills_each h c.args.by c.args.fd c.args.pipe c.args.bytes.now c.requires.sound c.requires.to c.fill.new.store c.fill.new.self.places c.args.pool c.in_ok-fill.field-0 e.taken e.added e.pipes) refl
+pub fill_pipe-requires-clause-pool : goal.fill_pipe-requires-clause-pool
+fill_pipe-requires-clause-pool c = pool_still c.args.by c.args.fd c.args.bytes.now c.args.pool c.min-count.result (state_of c.args.self.now) (state_of c.make_room_for.new.self) c.make_room_for.ensures.made c.requires.passed c.requires.pool
 
-pub returns-clause-sound : goal.returns-clause-sound
-returns-clause-sound c =
+pub fill_pipe-requires-clause-open : goal.fill_pipe-requires-clause-open
+fill_pipe-requires-clause-open c = open_after c.args.pool (pages_for c.min-count.result) (state_of c.args.self.now) (state_of c.make_room_for.new.self) c.make_room_for.ensures.made c.args.pool c.requires.open
+
+pub returns : goal.returns
+returns c =
     let h = state_of c.args.self.now in
-    let e = c.in_ok-fill.ensures in
-    fills_sound h c.args.by c.args.fd c.args.pipe c.args.bytes.now c.requires.sound c.requires.to c.fill.new.store c.fill.new.self.places c.args.pool c.in_ok-fill.field-0 e.taken e.added e.pipes
+    let e = c.fill_pipe.ensures in
+    let r = c.make_room_for.ensures in
+    let counted = count_in_pipe h c.args.by c.args.fd c.args.pipe c.args.bytes.now c.min-count.result c.requires.to (λ f. c.min-count.ensures ∙ ap (λ m. min (length c.args.bytes.now) m) (c.room_in.ensures f)) in
+    write_places c.args.by c.args.fd c.args.bytes.now c.args.pool c.min-count.result h (state_of c.make_room_for.new.self) r.made c.requires.passed c.requires.pool counted (state_of c.fill_pipe.new.self) c.fill_pipe.result
+    (r.room c.if-not-make_room_for.false) (r.fits ∙ c.if-not-make_room_for.false) e.step e.made e.refused e.sound e.cache e.stays e.no_room

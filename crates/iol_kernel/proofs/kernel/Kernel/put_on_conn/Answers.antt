@@ -1,56 +1,42 @@
-use Rattle.std.proofs.Common.{◌≡◌, ◌∙◌, ap, sym, refl, rules}
-use Rattle.iol_hold.specs.Room.{has_room}
+use Rattle.std.proofs.Common.{[], ◌≡◌, ◌∙◌, ℕ, min, length, ap, sym}
+use Rattle.iol_core.specs.Calls.Writing as writing
+use Rattle.iol_core.specs.declared.descriptors.Descriptor.TheVariants as on
 use Rattle.iol_kernel.specs.Kernel.{state_of}
-use Rattle.iol_kernel.specs.KernelState.{KernelState}
+use Rattle.iol_kernel.specs.KernelState.{read_of}
+use Rattle.iol_kernel.specs.Readings.{Reading, bytes_over}
+use Rattle.iol_kernel.proofs.Queued.{count_in_conn, passed_still, pool_still, to_still, write_none, write_places}
 use Rattle.iol_kernel.proofs.ReadOf.{closed-read_of}
-use Rattle.iol_sock.specs.Table.{ConnTable, conn_in}
-use Rattle.iol_kernel.proofs.ConnQueues.{conn_there_held}
-use Rattle.iol_kernel.proofs.Written.{put_step, put_made, put_late, sends-count, sends_late, sends_sound, sends_each}
+use Rattle.iol_kernel.proofs.Making.{open_after}
+use Rattle.iol_arena.specs.State.{pages_for}
 use Rattle.iol_kernel.proofs.kernel.Kernel.put_on_conn.Goals as goal
 
-pub write-requires-clause-there : goal.write-requires-clause-there
-write-requires-clause-there c = conn_there_held (state_of c.args.self.now) c.args.by c.args.fd c.args.conn c.requires.sound c.requires.to
+pub make_room_for-requires-clause-open : goal.make_room_for-requires-clause-open
+make_room_for-requires-clause-open c = sym (closed-read_of (bytes_over [] c.args.self.now.store) (state_of c.args.self.now) c.args.pool) ∙ c.requires.open
 
-pub write-requires-clause-pool : goal.write-requires-clause-pool
-write-requires-clause-pool c = sym (closed-read_of _ (state_of c.args.self.now) c.args.pool) ∙ c.requires.open
-
-pub returns-in_err-write-clause-step : goal.returns-in_err-write-clause-step
-returns-in_err-write-clause-step c =
+pub returns-then-not-make_room_for : goal.returns-then-not-make_room_for
+returns-then-not-make_room_for c =
     let h = state_of c.args.self.now in
-    let k : KernelState = record h { store = c.write.new.store; conns = c.write.new.self.conns; next_conn = c.write.new.self.next } in
-    let e = c.in_err-write.ensures in
-    let same : k ≡ h = λ i. record h { store = e.err_store i; conns = (e.err i).conns; next_conn = (e.err i).next } in
-    let late = sends_late h c.args.by c.args.fd c.args.conn c.args.bytes.now c.requires.sound c.requires.to c.args.pool c.in_err-write.field-0.0 c.requires.passed (search (rules)) in
-    let kept = put_late h k c.args.by c.args.fd c.args.pool c.args.bytes.now c.in_err-write.field-0.0 c.requires.passed c.requires.pool late same in
-    search (rules, kept)
+    let r = c.make_room_for.ensures in
+    let counted = count_in_conn h c.args.by c.args.fd c.args.conn c.args.bytes.now c.min-count.result c.requires.to (λ f. c.min-count.ensures ∙ ap (λ m. min (length c.args.bytes.now) m) (c.room_on.ensures f)) in
+    write_none c.args.by c.args.fd c.args.bytes.now c.args.pool c.min-count.result h (state_of c.make_room_for.new.self) r.made c.requires.passed c.requires.pool counted (r.fits ∙ c.if-not-make_room_for.true)
 
-pub returns-in_err-write-clause-no_room : goal.returns-in_err-write-clause-no_room
-returns-in_err-write-clause-no_room c =
-    let h = state_of c.args.self.now in
-    λ p is. ap (has_room h.store c.args.pool) (sends-count h c.args.by c.args.fd c.args.conn c.args.bytes.now c.requires.sound c.requires.to) ∙ c.write.ensures.no_room p (search (rules, is))
+pub fill_outgoing-requires-clause-passed : goal.fill_outgoing-requires-clause-passed
+fill_outgoing-requires-clause-passed c = passed_still c.args.by c.args.fd c.args.bytes.now c.args.pool c.min-count.result (state_of c.args.self.now) (state_of c.make_room_for.new.self) c.make_room_for.ensures.made c.requires.passed c.requires.pool
 
-pub returns-clause-room : goal.returns-clause-room
-returns-clause-room c =
-    let h = state_of c.args.self.now in
-    ap (has_room h.store c.args.pool) (sends-count h c.args.by c.args.fd c.args.conn c.args.bytes.now c.requires.sound c.requires.to) ∙ c.in_ok-write.ensures.room
+pub fill_outgoing-requires-clause-to : goal.fill_outgoing-requires-clause-to
+fill_outgoing-requires-clause-to c = to_still c.args.by c.args.fd c.args.bytes.now c.args.pool c.min-count.result (state_of c.args.self.now) (state_of c.make_room_for.new.self) c.make_room_for.ensures.made c.requires.passed c.requires.pool (on.Connection c.args.conn) c.requires.to
 
-pub returns-clause-step : goal.returns-clause-step
-returns-clause-step c =
-    let h = state_of c.args.self.now in
-    let k : KernelState = record h { store = c.write.new.store; conns = c.write.new.self.conns; next_conn = c.write.new.self.next } in
-    let e = c.in_ok-write.ensures in
-    put_step h k c.args.by c.args.fd c.args.pool c.in_ok-write.field-0 (conn_in h.conns c.args.conn).outgoing (conn_in k.conns c.args.conn).outgoing c.args.bytes.now c.requires.sound c.requires.passed c.requires.pool (e.count ∙ sym (sends-count h c.args.by c.args.fd c.args.conn c.args.bytes.now c.requires.sound c.requires.to)) e.added (sends_each h c.args.by c.args.fd c.args.conn c.args.bytes.now c.requires.sound c.requires.to k c.args.pool c.in_ok-write.field-0 e.count e.added (ap (λ (w : ConnTable). record h { store = c.write.new.store; conns = w.conns; next_conn = w.next }) c.write.ensures.others)) refl
+pub fill_outgoing-requires-clause-pool : goal.fill_outgoing-requires-clause-pool
+fill_outgoing-requires-clause-pool c = pool_still c.args.by c.args.fd c.args.bytes.now c.args.pool c.min-count.result (state_of c.args.self.now) (state_of c.make_room_for.new.self) c.make_room_for.ensures.made c.requires.passed c.requires.pool
 
-pub returns-clause-made : goal.returns-clause-made
-returns-clause-made c =
-    let h = state_of c.args.self.now in
-    let k : KernelState = record h { store = c.write.new.store; conns = c.write.new.self.conns; next_conn = c.write.new.self.next } in
-    let e = c.in_ok-write.ensures in
-    put_made h k c.args.by c.args.fd c.args.pool c.in_ok-write.field-0 (conn_in h.conns c.args.conn).outgoing (conn_in k.conns c.args.conn).outgoing c.args.bytes.now c.requires.sound c.requires.passed c.requires.pool (e.count ∙ sym (sends-count h c.args.by c.args.fd c.args.conn c.args.bytes.now c.requires.sound c.requires.to)) e.added (sends_each h c.args.by c.args.fd c.args.conn c.args.bytes.now c.requires.sound c.requires.to k c.args.pool c.in_ok-write.field-0 e.count e.added (ap (λ (w : ConnTable). record h { store = c.write.new.store; conns = w.conns; next_conn = w.next }) c.write.ensures.others)) refl
+pub fill_outgoing-requires-clause-open : goal.fill_outgoing-requires-clause-open
+fill_outgoing-requires-clause-open c = open_after c.args.pool (pages_for c.min-count.result) (state_of c.args.self.now) (state_of c.make_room_for.new.self) c.make_room_for.ensures.made c.args.pool c.requires.open
 
-pub returns-clause-sound : goal.returns-clause-sound
-returns-clause-sound c =
+pub returns : goal.returns
+returns c =
     let h = state_of c.args.self.now in
-    let k : KernelState = record h { store = c.write.new.store; conns = c.write.new.self.conns; next_conn = c.write.new.self.next } in
-    let e = c.in_ok-write.ensures in
-    sends_sound h c.args.by c.args.fd c.args.conn c.args.bytes.now c.requires.sound c.requires.to k c.args.pool c.in_ok-write.field-0 e.count e.added (ap (λ (w : ConnTable). record h { store = c.write.new.store; conns = w.conns; next_conn = w.next }) c.write.ensures.others)
+    let e = c.fill_outgoing.ensures in
+    let r = c.make_room_for.ensures in
+    let counted = count_in_conn h c.args.by c.args.fd c.args.conn c.args.bytes.now c.min-count.result c.requires.to (λ f. c.min-count.ensures ∙ ap (λ m. min (length c.args.bytes.now) m) (c.room_on.ensures f)) in
+    write_places c.args.by c.args.fd c.args.bytes.now c.args.pool c.min-count.result h (state_of c.make_room_for.new.self) r.made c.requires.passed c.requires.pool counted (state_of c.fill_outgoing.new.self) c.fill_outgoing.result
+    (r.room c.if-not-make_room_for.false) (r.fits ∙ c.if-not-make_room_for.false) e.step e.made e.refused e.sound e.cache e.stays e.no_room

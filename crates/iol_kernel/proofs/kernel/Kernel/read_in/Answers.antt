@@ -2,7 +2,7 @@ use Rattle.std.proofs.Common.{[], ◌≡◌, ap, rules, true, false}
 use Rattle.iol_hold.specs.Texts.{byte_at}
 use Rattle.iol_sock.specs.Table.{ConnTable, conn_in}
 use Rattle.iol_kernel.specs.Kernel.{state_of}
-use Rattle.iol_kernel.proofs.Borrowing.{read_passed, read_refused, read_room, read_sound, read_made, read_arrives, read_none, read_most}
+use Rattle.iol_kernel.proofs.Borrowing.{read_passed, read_refused, read_room, read_sound, read_made, read_takes, read_none, read_most}
 use Rattle.iol_kernel.proofs.Connecting.{conn_held, conn_in-found, conn_open}
 use Rattle.iol_kernel.proofs.kernel.Kernel.read_in.Goals as goal
 use Rattle.iol_kernel.specs.Readings.{bytes_over}
@@ -34,7 +34,7 @@ pub returns-clause-read : goal.returns-clause-read
 returns-clause-read g c =
     let h = state_of c.args.self.now in
     let e = c.in_ok-arrive_from.ensures in
-    read_arrives h (record h { store = c.arrive_from.new.store; conns = c.arrive_from.new.self.conns; next_conn = c.arrive_from.new.self.next }) c.args.conn c.args.max c.in_ok-arrive_from.field-0.taken (g.R.Read.remaining c.args.reader.now) (g.R.Read.remaining c.arrive_from.new.reader) c.requires.sound (conn_held (bytes_over [] h.store) h c.args.conn c.requires.there) e.passed e.most e.read
+    read_takes h (record h { store = c.arrive_from.new.store; conns = c.arrive_from.new.self.conns; next_conn = c.arrive_from.new.self.next }) c.args.conn c.args.max c.in_ok-arrive_from.field-0.taken (g.R.Read.remaining c.args.reader.now) (g.R.Read.remaining c.arrive_from.new.reader) c.requires.sound (conn_held (bytes_over [] h.store) h c.args.conn c.requires.there) e.passed e.most e.read
     (ap (λ (w : ConnTable). record h { store = c.arrive_from.new.store; conns = w.conns; next_conn = w.next }) c.arrive_from.ensures.others)
 
 pub returns-clause-made : goal.returns-clause-made

@@ -1,53 +1,22 @@
-use Rattle.std.proofs.Common.{[], ◌≡◌, ap, rules, true, false}
-use Rattle.iol_sock.specs.Table.{ConnTable, conn_in}
+use Rattle.std.proofs.Common.{◌∙◌, sym}
 use Rattle.iol_kernel.specs.Kernel.{state_of}
 use Rattle.iol_kernel.specs.Readings.{bytes_over}
-use Rattle.iol_kernel.specs.KernelState.{KernelState}
-use Rattle.iol_kernel.proofs.Arriving.{all_sound, all_step, all_made, arrive_kept, has_as_meant}
-use Rattle.iol_kernel.proofs.Connecting.{conn_held, conn_in-found, conn_open}
+use Rattle.iol_kernel.proofs.Arrived.{arrive_none, arrive_places, there_now, there_if_passed}
 use Rattle.iol_kernel.proofs.kernel.Kernel.take_in.Goals as goal
 
-pub arrive-requires-clause-there : goal.arrive-requires-clause-there
-arrive-requires-clause-there c = let h = state_of c.args.self.now in conn_held (bytes_over [] h.store) h c.args.conn c.requires.there
+pub returns-then-not-make_room_for : goal.returns-then-not-make_room_for
+returns-then-not-make_room_for c =
+    let r = c.make_room_for.ensures in
+    arrive_none c.args.conn c.args.bytes.now c.args.pool c.args.count (state_of c.args.self.now) (state_of c.make_room_for.new.self) r.made c.requires.passed c.requires.pool c.requires.count (r.fits ∙ c.if-not-make_room_for.true)
 
-pub arrive-requires-clause-pool : goal.arrive-requires-clause-pool
-arrive-requires-clause-pool c =
+pub fill_conn-requires-clause-there : goal.fill_conn-requires-clause-there
+fill_conn-requires-clause-there c =
     let h = state_of c.args.self.now in
-    conn_open h c.args.conn (conn_in h.conns c.args.conn) c.requires.sound (conn_in-found h.conns c.args.conn (conn_held (bytes_over [] h.store) h c.args.conn c.requires.there))
+    there_now c.args.conn c.args.bytes.now c.args.pool c.args.count h (state_of c.make_room_for.new.self) c.make_room_for.ensures.made c.requires.passed c.requires.pool c.requires.count (there_if_passed c.args.conn c.args.bytes.now h c.requires.passed)
 
-pub returns-clause-step : goal.returns-clause-step
-returns-clause-step c =
-    let h = state_of c.args.self.now in
-    let e = c.in_ok-arrive.ensures in
-    all_step h (record h { store = c.arrive.new.store; conns = c.arrive.new.self.conns; next_conn = c.arrive.new.self.next }) c.args.conn c.in_ok-arrive.field-0 c.args.bytes.now c.requires.sound (conn_held (bytes_over [] h.store) h c.args.conn c.requires.there) e.passed e.count e.added
-    (ap (λ (w : ConnTable). record h { store = c.arrive.new.store; conns = w.conns; next_conn = w.next }) c.arrive.ensures.others)
-
-pub returns-clause-made : goal.returns-clause-made
-returns-clause-made c =
-    let h = state_of c.args.self.now in
-    let e = c.in_ok-arrive.ensures in
-    all_made h (record h { store = c.arrive.new.store; conns = c.arrive.new.self.conns; next_conn = c.arrive.new.self.next }) c.args.conn c.in_ok-arrive.field-0 c.args.bytes.now c.requires.sound (conn_held (bytes_over [] h.store) h c.args.conn c.requires.there) e.passed e.count e.added
-    (ap (λ (w : ConnTable). record h { store = c.arrive.new.store; conns = w.conns; next_conn = w.next }) c.arrive.ensures.others)
-
-pub returns-clause-sound : goal.returns-clause-sound
-returns-clause-sound c =
-    let h = state_of c.args.self.now in
-    let e = c.in_ok-arrive.ensures in
-    all_sound h (record h { store = c.arrive.new.store; conns = c.arrive.new.self.conns; next_conn = c.arrive.new.self.next }) c.args.conn c.in_ok-arrive.field-0 c.args.bytes.now c.requires.sound (conn_held (bytes_over [] h.store) h c.args.conn c.requires.there) e.passed e.count e.added
-    (ap (λ (w : ConnTable). record h { store = c.arrive.new.store; conns = w.conns; next_conn = w.next }) c.arrive.ensures.others)
-
-pub returns-clause-room : goal.returns-clause-room
-returns-clause-room c = has_as_meant [] (state_of c.args.self.now) c.args.conn c.args.bytes.now true (conn_held (bytes_over [] c.args.self.now.store) (state_of c.args.self.now) c.args.conn c.requires.there) c.in_ok-arrive.ensures.room
-
-pub returns-in_err-arrive-clause-no_room : goal.returns-in_err-arrive-clause-no_room
-returns-in_err-arrive-clause-no_room c = λ p is. has_as_meant [] (state_of c.args.self.now) c.args.conn c.args.bytes.now false (conn_held (bytes_over [] c.args.self.now.store) (state_of c.args.self.now) c.args.conn c.requires.there) (c.arrive.ensures.no_room p (search (rules, is)))
-
-pub returns-in_err-arrive-clause-step : goal.returns-in_err-arrive-clause-step
-returns-in_err-arrive-clause-step c =
-    let h = state_of c.args.self.now in
-    let e = c.in_err-arrive.ensures in
-    let k : KernelState = record h { store = c.arrive.new.store; conns = c.arrive.new.self.conns; next_conn = c.arrive.new.self.next } in
-    let same : k ≡ h = λ i. record h { store = e.err_store i; conns = (e.err i).conns; next_conn = (e.err i).next } in
-    let there = conn_held (bytes_over [] h.store) h c.args.conn c.requires.there in
-    let kept = arrive_kept h k c.args.conn c.args.bytes.now c.in_err-arrive.field-0.0 there (search (rules)) same in
-    search (rules, kept)
+pub returns : goal.returns
+returns c =
+    let e = c.fill_conn.ensures in
+    let r = c.make_room_for.ensures in
+    arrive_places c.args.conn c.args.bytes.now c.args.pool c.args.count (state_of c.args.self.now) (state_of c.make_room_for.new.self) r.made c.requires.passed c.requires.pool c.requires.count (state_of c.fill_conn.new.self) c.fill_conn.result
+    (r.room c.if-not-make_room_for.false) (r.fits ∙ c.if-not-make_room_for.false) e.step e.made e.refused e.sound e.cache e.stays e.no_room

@@ -1,13 +1,35 @@
+use Rattle.std.proofs.Common.{subst}
+use Rattle.std.specs.Prelude.{IfOk}
+use Rattle.iol_core.specs.State.{conn_at}
+use Rattle.iol_kernel.specs.Borrowed.{TakesIn}
+use Rattle.iol_kernel.specs.Calls.{Arrives}
 use Rattle.iol_kernel.specs.Kernel.{state_of}
-use Rattle.iol_system.proofs.Served.{arrived_safe}
+use Rattle.iol_kernel.specs.MakingRoom.{AfterRoom}
+use Rattle.iol_system.specs.Machine.{SystemState, system_of, tables_of}
+use Rattle.iol_system.specs.Served.{Comes}
+use Rattle.iol_system.proofs.Served.{arrived_comes, arrived_safe}
 use Rattle.iol_system.proofs.system.System.arrive_from.Goals as goal
 
 pub invariant_of-self : goal.invariant_of-self
 invariant_of-self g c =
     let e = c.arrive_from.ensures in
-    arrived_safe (state_of c.self.inside.kernel) (state_of c.arrive_from.new.self) c.args.conn (g.R.Read.remaining c.args.reader.now) (g.R.Read.remaining c.arrive_from.new.reader) c.arrive_from.result c.self.invariant e.sound e.read e.err
+    arrived_safe (state_of c.self.inside.kernel) (state_of c.arrive_from.new.self) (g.B.Backing.disk c.self.inside.backing) c.args.conn _ _ (g.R.Read.remaining c.args.reader.now) (g.R.Read.remaining c.arrive_from.new.reader) c.arrive_from.result c.self.invariant e.read e.err
 
 pub returns-clause-safe : goal.returns-clause-safe
 returns-clause-safe g c =
     let e = c.arrive_from.ensures in
-    arrived_safe (state_of c.self.inside.kernel) (state_of c.arrive_from.new.self) c.args.conn (g.R.Read.remaining c.args.reader.now) (g.R.Read.remaining c.arrive_from.new.reader) c.arrive_from.result c.self.invariant e.sound e.read e.err
+    arrived_safe (state_of c.self.inside.kernel) (state_of c.arrive_from.new.self) (g.B.Backing.disk c.self.inside.backing) c.args.conn _ _ (g.R.Read.remaining c.args.reader.now) (g.R.Read.remaining c.arrive_from.new.reader) c.arrive_from.result c.self.invariant e.read e.err
+
+pub returns-clause-read : goal.returns-clause-read
+returns-clause-read g c =
+    let e = c.arrive_from.ensures in
+    let left = g.R.Read.remaining c.args.reader.now in
+    let after = g.R.Read.remaining c.arrive_from.new.reader in
+    let new = system_of (state_of c.arrive_from.new.self) (g.B.Backing.disk c.self.inside.backing) in
+    subst (λ (s : SystemState). IfOk c.arrive_from.result (λ a. TakesIn left after a.taken (λ bytes. Comes c.args.conn a.taken bytes s new))) c.self.view_is
+    (arrived_comes (state_of c.self.inside.kernel) (state_of c.arrive_from.new.self) (g.B.Backing.disk c.self.inside.backing) c.args.conn left after c.arrive_from.result c.self.invariant e.read)
+
+pub returns-clause-made : goal.returns-clause-made
+returns-clause-made g c =
+    subst (λ (s : SystemState). IfOk c.arrive_from.result (λ a. AfterRoom (conn_at (tables_of s.kernel) c.args.conn).pool 1 s.kernel (λ roomy. Arrives c.args.conn a.taken roomy (state_of c.arrive_from.new.self)))) c.self.view_is
+    c.arrive_from.ensures.made

@@ -1,0 +1,24 @@
+use Rattle.std.proofs.Common.{Ok, refl}
+use Rattle.iol_core.specs.Calls.Outside as outside
+use Rattle.iol_cache.specs.Cache.{cached_of}
+use Rattle.iol_cache.specs.Evicting.{Holding}
+use Rattle.iol_cache.proofs.Paging.{given_up_pages}
+use Rattle.iol_kernel.specs.Backed.{holding_of}
+use Rattle.iol_kernel.specs.Kernel.{state_of}
+use Rattle.iol_kernel.proofs.Named.{cache_sound}
+use Rattle.iol_kernel.proofs.WrittenBack.{given_serves}
+use Rattle.iol_kernel.proofs.kernel.Kernel.drop_clean.Goals as goal
+
+pub drop_clean-requires : goal.drop_clean-requires
+drop_clean-requires c = cache_sound (state_of c.args.self.now) c.requires
+
+pub returns-clause-serves : goal.returns-clause-serves
+returns-clause-serves c =
+    let h = state_of c.args.self.now in
+    let new : Holding = record { store = c.drop_clean.new.store; cache = cached_of c.drop_clean.new.self } in
+    given_serves outside.drop_clean h _ new (Ok tt) c.requires c.drop_clean.ensures.gives_up c.drop_clean.ensures.sound (λ stored. (refl, refl, refl)) refl
+
+pub returns-clause-pages : goal.returns-clause-pages
+returns-clause-pages c =
+    let new : Holding = record { store = c.drop_clean.new.store; cache = cached_of c.drop_clean.new.self } in
+    given_up_pages (holding_of (state_of c.args.self.now)) new c.drop_clean.ensures.gives_up

@@ -1,0 +1,120 @@
+use Rattle.std.proofs.Common.{[], ◌≡◌, ◌∙◌, ◌+◌, ap, sym, refl, arith, length, Some, ℕ}
+use Rattle.std.specs.Prelude.{slice_set}
+use Rattle.iol_core.specs.declared.descriptors.Descriptor.TheVariants as on
+use Rattle.iol_hold.specs.Stored.{Stored}
+use Rattle.iol_hold.specs.Texts.{bufs_of}
+use Rattle.iol_hold.proofs.Counting.{tally-append}
+use Rattle.iol_desc.specs.Tables.{domain_in, with_fds_in}
+use Rattle.iol_cache.specs.Cache.{cached_of}
+use Rattle.iol_cache.specs.Cached.{held}
+use Rattle.iol_kernel.specs.Kernel.{state_of}
+use Rattle.iol_kernel.specs.KernelState.{KernelState}
+use Rattle.iol_kernel.specs.Readings.{bytes_over}
+use Rattle.iol_kernel.proofs.FilledOver.{filled_covers, filled_few, filled_sound, put_pools, through, through_files, through_mirrors, through_puts, unput_pools}
+use Rattle.iol_kernel.proofs.FilledServes.{filled_len, filled_serves, held_file, held_live, held_short, unfilled_serves, unplaced_serves}
+use Rattle.iol_kernel.proofs.Opening.{end_held}
+use Rattle.iol_kernel.proofs.ReadOf.{closed-read_of}
+use Rattle.iol_kernel.proofs.WrittenOver.{in_cache}
+use Rattle.iol_kernel.proofs.kernel.Kernel.fill_file.Goals as goal
+
+pub fill-requires-clause-open : goal.fill-requires-clause-open
+fill-requires-clause-open c = sym (closed-read_of (bytes_over [] c.args.self.now.store) (state_of c.args.self.now) c.args.pool) ∙ c.requires.open
+
+pub returns-in_default-clause-serves : goal.returns-in_default-clause-serves
+returns-in_default-clause-serves c =
+    let h = state_of c.args.self.now in
+    unplaced_serves h c.args.by c.args.fd c.args.file c.args.at c.args.pool c.args.mode c.args.bytes.now c.requires.sound c.requires.to c.requires.pool c.requires.passed _ (ap (λ (t : Stored). let k : KernelState = record h { store = t } in k) c.in_default.ensures.err)
+
+pub write-requires-clause-sound : goal.write-requires-clause-sound
+write-requires-clause-sound c =
+    let h = state_of c.args.self.now in
+    let e = c.in-Ok.ensures in
+    let s = c.fill.new.store in
+    let xs = c.in-Ok.agg in
+    filled_sound h s xs c.requires.sound e.moves e.pools e.grows.count
+
+pub write-requires-clause-file : goal.write-requires-clause-file
+write-requires-clause-file c =
+    let h = state_of c.args.self.now in
+    let r = bytes_over [] h.store in
+    in_cache h c.args.file c.requires.sound (end_held r h c.args.by c.args.fd (on.File c.args.file c.args.at c.args.mode) c.requires.sound (c.requires.to r)).0
+
+pub write-requires-clause-held : goal.write-requires-clause-held
+write-requires-clause-held c =
+    let h = state_of c.args.self.now in
+    let e = c.in-Ok.ensures in
+    let s = c.fill.new.store in
+    let xs = c.in-Ok.agg in
+    filled_covers h s xs c.requires.sound e.moves e.pools e.grows.count
+
+pub write-requires-clause-few : goal.write-requires-clause-few
+write-requires-clause-few c =
+    let h = state_of c.args.self.now in
+    let e = c.in-Ok.ensures in
+    let s = c.fill.new.store in
+    let xs = c.in-Ok.agg in
+    filled_few h s xs c.requires.sound e.moves e.pools e.grows.count (omega (arith, held_short h c.args.by c.args.fd c.args.file c.args.at c.args.pool c.args.mode c.args.bytes.now c.requires.sound c.requires.to c.requires.pool c.requires.passed, (filled_len s xs c.args.pool c.args.bytes.now e.text)))
+
+pub release-requires : goal.release-requires
+release-requires c =
+    let h = state_of c.args.self.now in
+    let e = c.in-Ok.ensures in
+    let s = c.fill.new.store in
+    let xs = c.in-Ok.agg in
+    let w = c.in-Err.ensures in
+    record { each = λ b. omega (arith, w.moves.counts.each b, (filled_covers h s xs c.requires.sound e.moves e.pools e.grows.count).each b, tally-append b (held h.cache.files) (bufs_of xs)) }
+
+pub release-requires-2 : goal.release-requires-2
+release-requires-2 c =
+    let h = state_of c.args.self.now in
+    let e = c.in-Ok.ensures in
+    let s = c.fill.new.store in
+    let xs = c.in-Ok.agg in
+    let w = c.in_default-write.ensures in
+    record { each = λ b. omega (arith, w.moves.counts.each b, (filled_covers h s xs c.requires.sound e.moves e.pools e.grows.count).each b, tally-append b (held h.cache.files) (bufs_of xs)) }
+
+pub returns-in-Err-clause-serves : goal.returns-in-Err-clause-serves
+returns-in-Err-clause-serves c =
+    let h = state_of c.args.self.now in
+    let e = c.in-Ok.ensures in
+    let s = c.fill.new.store in
+    let xs = c.in-Ok.agg in
+    let w = c.in-Err.ensures in
+    let r = c.release.ensures in
+    let same = unput_pools h s xs c.requires.sound e.moves e.pools e.grows.count c.write.new.store c.release.new.store (cached_of c.write.new.self) c.args.file e.readable w.moves w.lists w.settles w.pages w.sound w.mirrors r.moves r.lists r.frees r.settles w.evicts in
+    unfilled_serves h c.args.by c.args.fd c.args.file c.args.at c.args.pool c.args.mode c.args.bytes.now c.requires.sound c.requires.to c.requires.pool c.requires.passed _ c.release.new.store (cached_of c.write.new.self) (through h s xs c.requires.sound e.moves e.pools e.grows.count c.write.new.store c.release.new.store (cached_of c.write.new.self) c.args.file e.readable w.moves w.lists w.settles w.pages w.sound w.mirrors r.moves r.lists r.frees r.settles same e.settles) (through_files h s xs c.requires.sound e.moves e.pools e.grows.count c.write.new.store c.release.new.store (cached_of c.write.new.self) c.args.file e.readable w.moves w.lists w.settles w.pages w.sound w.mirrors r.moves r.lists r.frees r.settles w.refused) (through_mirrors h s xs c.requires.sound e.moves e.pools e.grows.count c.write.new.store c.release.new.store (cached_of c.write.new.self) c.args.file e.readable w.moves w.lists w.settles w.pages w.sound w.mirrors r.moves r.lists r.frees r.settles) refl
+
+pub overflow_add-to : goal.overflow_add-to
+overflow_add-to c =
+    let h = state_of c.args.self.now in
+    let e = c.in-Ok.ensures in
+    let s = c.fill.new.store in
+    let xs = c.in-Ok.agg in
+    record { fits = omega (arith, held_short h c.args.by c.args.fd c.args.file c.args.at c.args.pool c.args.mode c.args.bytes.now c.requires.sound c.requires.to c.requires.pool c.requires.passed, c.len-len.ensures, (filled_len s xs c.args.pool c.args.bytes.now e.text)) }
+
+pub set_fd-requires-clause-live : goal.set_fd-requires-clause-live
+set_fd-requires-clause-live c =
+    let h = state_of c.args.self.now in
+    held_live h c.args.by c.args.fd c.args.file c.args.at c.args.pool c.args.mode c.args.bytes.now c.requires.sound c.requires.to c.requires.pool c.requires.passed
+
+pub set_fd-requires-clause-there : goal.set_fd-requires-clause-there
+set_fd-requires-clause-there c none =
+    let h = state_of c.args.self.now in
+    let is = held_file h c.args.by c.args.fd c.args.file c.args.at c.args.pool c.args.mode c.args.bytes.now c.requires.sound c.requires.to c.requires.pool c.requires.passed in
+    absurd (cc (none, is))
+
+pub returns-clause-serves : goal.returns-clause-serves
+returns-clause-serves c =
+    let h = state_of c.args.self.now in
+    let e = c.in-Ok.ensures in
+    let s = c.fill.new.store in
+    let xs = c.in-Ok.agg in
+    let w = c.in_default-write.ensures in
+    let r = c.release-2.ensures in
+    let len = c.len-len.ensures ∙ (filled_len s xs c.args.pool c.args.bytes.now e.text) in
+    let at = bytes_over [] h.store in
+    let there = in_cache h c.args.file c.requires.sound (end_held at h c.args.by c.args.fd (on.File c.args.file c.args.at c.args.mode) c.requires.sound (c.requires.to at)).0 in
+    let same = put_pools h s xs c.requires.sound e.moves e.pools e.grows.count c.write.new.store c.release-2.new.store (cached_of c.write.new.self) c.args.file e.readable w.moves w.lists w.settles w.pages w.sound w.mirrors r.moves r.lists r.frees r.settles c.args.at there w.writes w.nothing in
+    let moved = c.set_fd.ensures.set ∙ ap (λ z. with_fds_in h.domains c.args.by (slice_set (domain_in h.domains c.args.by).fds c.args.fd (Some (on.File c.args.file (c.args.at + z) c.args.mode)))) len in
+    filled_serves h c.args.by c.args.fd c.args.file c.args.at c.args.pool c.args.mode c.args.bytes.now c.requires.sound c.requires.to c.requires.pool c.requires.passed _ c.release-2.new.store (cached_of c.write.new.self) c.len-len.result (through h s xs c.requires.sound e.moves e.pools e.grows.count c.write.new.store c.release-2.new.store (cached_of c.write.new.self) c.args.file e.readable w.moves w.lists w.settles w.pages w.sound w.mirrors r.moves r.lists r.frees r.settles same e.settles) (through_puts h s xs c.requires.sound e.moves e.pools e.grows.count c.write.new.store c.release-2.new.store (cached_of c.write.new.self) c.args.file e.readable w.moves w.lists w.settles w.pages w.sound w.mirrors r.moves r.lists r.frees r.settles c.args.at _ w.written w.others e.text) len
+    (ap (λ ds. let k : KernelState = record h { store = c.release-2.new.store; cache = cached_of c.write.new.self; domains = ds } in k) moved)

@@ -1,0 +1,37 @@
+use Rattle.std.proofs.Common.{◌≡◌, ◌∙◌, ℕ, length, rules, Some, None, ap, sym, arith}
+use Rattle.iol_core.specs.Numbered.{lookup}
+use Rattle.iol_pool.specs.Pools.{pool_in}
+use Rattle.iol_pipe.specs.Queue.{fitting}
+use Rattle.iol_sock.specs.Refused.{arrive_refusals}
+use Rattle.iol_core.specs.Meaning.{first}
+use Rattle.iol_kernel.specs.Kernel.{state_of}
+use Rattle.iol_kernel.proofs.Arrived.{arrive_first, arrive_fits, arrive_in, arrive_missing}
+use Rattle.iol_kernel.proofs.Connecting.{conn_open}
+use Rattle.iol_kernel.proofs.kernel.Kernel.room_to_arrive.Goals as goal
+
+pub returns-in_default-clause-refused : goal.returns-in_default-clause-refused
+returns-in_default-clause-refused c = arrive_missing (state_of c.args.self.now) c.args.conn c.args.bytes.now (search (rules))
+
+pub returns-in_err-may_arrive-clause-refused : goal.returns-in_err-may_arrive-clause-refused
+returns-in_err-may_arrive-clause-refused c =
+    let x = c.in-Some.found.now in
+    let is : first (arrive_refusals x (length c.args.bytes.now)) ≡ Some c.in_err-may_arrive.field-0.0 = search (rules) in
+    let refused = arrive_first (state_of c.args.self.now) c.args.conn x c.args.bytes.now (sym c.in-Some.ensures) (Some c.in_err-may_arrive.field-0.0) is in
+    search (rules, refused)
+
+pub returns-clause-passed : goal.returns-clause-passed
+returns-clause-passed c = arrive_first (state_of c.args.self.now) c.args.conn c.in-Some.found.now c.args.bytes.now (sym c.in-Some.ensures) None c.in_ok-may_arrive.ensures.passed
+
+pub returns-clause-pool : goal.returns-clause-pool
+returns-clause-pool c = arrive_in (state_of c.args.self.now) c.args.conn c.in-Some.found.now c.args.bytes.now (sym c.in-Some.ensures) c.pool.result c.pool.ensures
+
+pub returns-clause-count : goal.returns-clause-count
+returns-clause-count c =
+    let x = c.in-Some.found.now in
+    let is : fitting x.incoming (length c.args.bytes.now) ≡ c.min.result = omega (arith, c.min.ensures, c.unread.ensures.len, c.unread.ensures.most) in
+    arrive_fits (state_of c.args.self.now) c.args.conn x c.args.bytes.now (sym c.in-Some.ensures) c.min.result is
+
+pub returns-clause-open : goal.returns-clause-open
+returns-clause-open c =
+    let h = state_of c.args.self.now in
+    ap (λ p. (pool_in h.store.pools p).closed) c.pool.ensures ∙ conn_open h c.args.conn c.in-Some.found.now c.requires (sym c.in-Some.ensures)

@@ -1,0 +1,16 @@
+use Rattle.std.proofs.Common.{[], ◌∙◌, ap}
+use Rattle.iol_pool.specs.Pools.{pool_in}
+use Rattle.iol_kernel.specs.Kernel.{state_of}
+use Rattle.iol_kernel.specs.Readings.{bytes_over}
+use Rattle.iol_kernel.proofs.ReadOf.{closed-read_of}
+use Rattle.iol_kernel.proofs.Seeking.{file_cached}
+use Rattle.iol_kernel.proofs.WrittenOver.{pool-file}
+use Rattle.iol_kernel.proofs.kernel.Kernel.test_file.Goals as goal
+
+pub returns-clause-open : goal.returns-clause-open
+returns-clause-open c =
+    let h = state_of c.args.self.now in
+    let r = bytes_over [] h.store in
+    closed-read_of r h c.file_pool.result
+    ∙ ap (λ q. (pool_in h.store.pools q).closed) (c.file_pool.ensures r ∙ pool-file r h c.args.file c.requires.sound)
+    ∙ c.requires.sound.pooled.files_open c.args.file (file_cached h c.args.file c.requires.sound c.requires.there)

@@ -1,0 +1,16 @@
+use Rattle.iol_core.specs.Calls.Writing as calls
+use Rattle.iol_core.specs.State.{descriptor}
+use Rattle.iol_kernel.specs.Kernel.{state_of}
+use Rattle.iol_kernel.proofs.Put.{put_refused}
+use Rattle.iol_kernel.proofs.kernel.Kernel.write_bytes.Goals as goal
+
+pub returns-in-Err-clause-serves : goal.returns-in-Err-clause-serves
+returns-in-Err-clause-serves c =
+    let h = state_of c.args.self.now in
+    let refused = put_refused (λ s. calls.write s c.args.by c.args.fd c.args.bytes.now) (λ s t. calls.written s c.args.by c.args.fd (descriptor s c.args.by c.args.fd) t) 0 0 h c.in-Err.refusal c.pool_to_write.result c.requires c.in-Err.ensures.refused c.pool_to_write.ensures.roomy c.in-Err.is in
+    refused.serves
+
+pub returns-in-Err-clause-queue : goal.returns-in-Err-clause-queue
+returns-in-Err-clause-queue c = λ no_file.
+    let h = state_of c.args.self.now in
+    put_refused (λ s. calls.write s c.args.by c.args.fd c.args.bytes.now) (λ s t. calls.written s c.args.by c.args.fd (descriptor s c.args.by c.args.fd) t) _ _ h c.in-Err.refusal c.pool_to_write.result c.requires c.in-Err.ensures.refused c.pool_to_write.ensures.roomy c.in-Err.is

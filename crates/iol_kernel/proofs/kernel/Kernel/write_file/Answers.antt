@@ -1,0 +1,17 @@
+use Rattle.std.proofs.Common.{Err}
+use Rattle.iol_core.specs.Calls.Writing as calls
+use Rattle.iol_kernel.specs.Kernel.{state_of}
+use Rattle.iol_kernel.specs.KernelState.{slices_in}
+use Rattle.iol_kernel.proofs.Serving.{carried_serves}
+use Rattle.iol_kernel.proofs.WrittenOver.{refused_leaves}
+use Rattle.iol_kernel.proofs.kernel.Kernel.write_file.Goals as goal
+
+pub returns-in-Err-clause-serves : goal.returns-in-Err-clause-serves
+returns-in-Err-clause-serves c =
+    let h = state_of c.args.self.now in
+    carried_serves (λ s. calls.iol_write s c.args.by c.args.fd c.args.agg) h h (Err c.in-Err.refusal) c.requires.sound c.in-Err.ensures.refused
+
+pub returns-in-Err-clause-over : goal.returns-in-Err-clause-over
+returns-in-Err-clause-over c =
+    let h = state_of c.args.self.now in
+    refused_leaves h c.args.file c.args.at (slices_in h.domains c.args.by c.args.agg) c.in-Err.refusal c.in-Err.ensures.refused.roomy

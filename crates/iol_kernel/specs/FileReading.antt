@@ -1,0 +1,85 @@
+-- What a read of a file does, beside the machine's step: where its bytes lie, and what becomes of pages and of the cache.
+use Rattle.std.specs.Prelude.{◌≡◌, ℕ, ◌+◌, ◌≤◌, List, [], length, slice_set, Option, Some, None, Result, OnErr, OnOk, if◌then◌else◌}
+use Rattle.iol_core.specs.State.{State, Domain, is_live, descriptor}
+use Rattle.iol_core.specs.Calls.Reading as calls
+use Rattle.iol_core.specs.declared.descriptors.Mode.{Mode}
+use Rattle.iol_core.specs.declared.descriptors.Descriptor.{Descriptor}
+use Rattle.iol_core.specs.declared.descriptors.Descriptor.TheVariants as on
+use Rattle.iol_core.specs.declared.refusals.Refusal.{Refusal}
+use Rattle.iol_back.specs.Disk.{Disk}
+use Rattle.iol_hold.specs.Moves.{SameLists}
+use Rattle.iol_hold.specs.Places.{byte_len}
+use Rattle.iol_hold.specs.Releases.{FreesOnly}
+use Rattle.iol_hold.specs.Room.{free_of}
+use Rattle.iol_hold.specs.Stored.{Stored}
+use Rattle.iol_hold.specs.declared.slices.Slice.{Slice}
+use Rattle.iol_desc.specs.Tables.{fds_in, with_agg_in, with_fds_in}
+use Rattle.iol_cache.specs.Cached.{file_in}
+use Rattle.iol_cache.specs.Gaps.{gap_pages}
+use Rattle.iol_cache.specs.Keeping.{KeepsCover, KeepsDirty}
+use Rattle.iol_cache.specs.Paging.{FillsLowest}
+use Rattle.iol_cache.specs.Serving.{NoRoomToRead, ReadsFile, RoomToRead, TellsFault, TellsRoom}
+use Rattle.iol_kernel.specs.Backed.{holding_of}
+use Rattle.iol_kernel.specs.Calls.{CarriesOut}
+use Rattle.iol_kernel.specs.KernelState.{KernelState, machine_of}
+
+-- A domain's descriptor, which is open on a file at a position, and how many bytes are read there.
+pub record FileRead : Type 0 where
+  pub domain : ℕ
+  pub fd : ℕ
+  pub file : ℕ
+  pub at : ℕ
+  pub mode : Mode
+  pub count : ℕ
+
+abbrev pub file_read : (d fd f at : ℕ) → Mode → (n : ℕ) → FileRead
+file_read d fd f at mode n = record { domain = d; fd = fd; file = f; at = at; mode = mode; count = n }
+
+-- the pool of the file's bytes
+abbrev pub pool_read : KernelState → FileRead → ℕ
+pool_read h x = (file_in h.cache.files x.file).pool
+
+-- the position moved on by so many bytes
+abbrev pub moved_on : List (Domain (List Slice)) → FileRead → (len : ℕ) → List (Domain (List Slice))
+moved_on ds x len = with_fds_in ds x.domain (slice_set (fds_in ds x.domain) x.fd (Some (on.File x.file (x.at + len) x.mode)))
+
+-- The bytes became the domain's next aggregate, and the position moved on. They lie over hits where they lay, over gaps in the
+-- new extents. Where the pages that its gaps want were free, every byte of a file that was in memory lies where it lay.
+pub record GivesRead (x : FileRead) (disk : Disk) (old new : KernelState) : Type 0 where
+  pub slices : List Slice
+  pub read : ReadsFile x.file x.at x.count disk (holding_of old) (holding_of new) slices
+  pub domains : new.domains ≡ with_agg_in (moved_on old.domains x (byte_len slices)) x.domain slices
+  pub keeps_all : gap_pages read.reads.gaps ≤ length (free_of read.reads.hit.store (file_in read.reads.hit.cache.files x.file).pool) → KeepsCover old.cache new.cache
+
+-- A read of a file by reference. Dirty extents stay where they lay. The lowest free pages of the file's pool are filled, and no
+-- others. It is refused for want of room only where the pages that are pinned and wanted do not fit the pool, and done only where
+-- they do. A fault is answered just where the store failed once more.
+pub record ReadsFileAs {A : Type 0} (x : FileRead) (disk : Disk) (old : KernelState) (r : Result A Refusal) (after : Disk) (new : KernelState) : Type 0 where
+  pub keeps : KeepsDirty old.cache new.cache
+  pub pages : FillsLowest (pool_read old x) old.store new.store
+  pub lists : SameLists old.store new.store
+  pub room : TellsRoom (RoomToRead x.file x.at x.count disk (holding_of old)) (NoRoomToRead x.file x.at x.count disk (holding_of old)) r
+  pub fault : TellsFault disk after r
+  pub same : new ≡ record old { store = new.store; cache = new.cache; domains = new.domains }
+  pub refused : OnErr r (new.domains ≡ old.domains)
+
+-- A read of a file by copying: what a read by reference does, whose slices were then released.
+pub record CopiesFileAs {A : Type 0} (x : FileRead) (disk : Disk) (old : KernelState) (r : Result A Refusal) (after : Disk) (new : KernelState) : Type 0 where
+  pub mid : Stored
+  pub reads : ReadsFileAs x disk old r after (record new { store = mid })
+  pub frees : FreesOnly mid new.store
+  pub lists : SameLists mid new.store
+
+-- A read by reference, by what the descriptor is open on: of a file it is as above, of anything else nothing is copied and the store
+-- under the files is not asked.
+abbrev pub ReadsOn : (d fd n : ℕ) → Option Descriptor → Disk → KernelState → Result ℕ Refusal → Disk → KernelState → Type 0
+ReadsOn d fd n (Some (on.File f at mode)) disk old r after new =
+    ReadsFileAs (file_read d fd f at mode n) disk old r after new × OnOk r (GivesRead (file_read d fd f at mode n) disk old new)
+ReadsOn d fd n _ disk old r after new = CarriesOut (λ s. calls.iol_read s d fd n) old r new × (after ≡ disk)
+
+-- what a live domain's descriptor is open on
+abbrev pub held_by : State → (d fd : ℕ) → Option Descriptor
+held_by s d fd = if is_live s d then descriptor s d fd else None
+
+abbrev pub Reads : (d fd n : ℕ) → Disk → KernelState → Result ℕ Refusal → Disk → KernelState → Type 0
+Reads d fd n disk old r after new = ReadsOn d fd n (held_by (machine_of [] old) d fd) disk old r after new

@@ -1,0 +1,32 @@
+-- Writing back of what is dirty, and what it leaves beside what it means.
+use Rattle.std.specs.Prelude.{◌≡◌, ℕ, ◌-◌, None, Result, Ok, Err, OnOk}
+use Rattle.iol_core.specs.declared.refusals.Refusal.{Refusal}
+use Rattle.iol_back.specs.Disk.{Disk, content}
+use Rattle.iol_extent.specs.Extents.{dirty_in}
+use Rattle.iol_cache.specs.Cached.{dirty_in_all, extents_in}
+use Rattle.iol_cache.specs.Serving.{FaultCounts}
+use Rattle.iol_cache.specs.Syncing as cache
+use Rattle.iol_cache.specs.declared.syncing.Flushed.{Flushed}
+use Rattle.iol_kernel.specs.KernelState.{KernelState}
+
+-- The first dirty extents of the file in slot f were written back and are clean: all of them, or those before the one at which
+-- the store failed. A fault is answered just where one failure more was counted. Nothing else changed.
+pub record SyncsFile {A : Type 0} (f : ℕ) (disk : Disk) (old : KernelState) (r : Result A Refusal) (after : Disk) (new : KernelState) : Type 0 where
+  pub syncs : cache.Syncs old.store f old.cache new.cache disk after
+  pub clean : OnOk r (dirty_in (extents_in new.cache.files f) ≡ None)
+  pub counts : FaultCounts disk after r
+  pub same : new ≡ record old { cache = new.cache }
+
+-- what was flushed, without its number
+abbrev pub done_of : Result Flushed Refusal → Result (Unit {0}) Refusal
+done_of (Ok x) = Ok tt
+done_of (Err x) = Err x
+
+-- The dirty extent of least file and offset was written back and is clean, unless none was dirty or the store failed. A fault
+-- is answered just where one failure more was counted. Nothing else changed.
+pub record FlushesOne (disk : Disk) (old : KernelState) (r : Result (Unit {0}) Refusal) (after : Disk) (new : KernelState) : Type 0 where
+  pub flushed : Result Flushed Refusal
+  pub told : r ≡ done_of flushed
+  pub flushes : cache.Flushes old.store old.cache new.cache disk after flushed
+  pub counts : FaultCounts disk after r
+  pub same : new ≡ record old { cache = new.cache }

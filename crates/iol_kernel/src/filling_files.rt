@@ -1,0 +1,96 @@
+//! Bytes are written to files by copying: they are placed in the file's pool, and lie there.
+ghost use Rattle.std.specs.Prelude.{◌≡◌, ℕ, length, true, false, Some, Err, OnOk};
+ghost use Rattle.iol_core.specs.State as state;
+ghost use Rattle.iol_core.specs.State.{descriptor};
+ghost use Rattle.iol_core.specs.Calls.Writing as calls;
+ghost use Rattle.iol_back.specs.Disk.{Disk};
+ghost use Rattle.iol_sock.specs.Refused.{IsPassed};
+ghost use Rattle.iol_kernel.specs.KernelState.{IsSound};
+ghost use Rattle.iol_kernel.specs.MakingRoom.{can_fit};
+ghost use Rattle.iol_kernel.specs.Readings.{Reading};
+
+use crate::kernel::Kernel;
+use iol_agg::Agg;
+use iol_core::descriptors::{Descriptor, Mode};
+use iol_core::limits::MAX_FILE_BYTES;
+use iol_core::numbers::{DomainId, Fd, FileId, PoolId};
+use iol_core::refusals::Refusal;
+
+impl Kernel {
+    ghost use Rattle.iol_kernel.specs.Kernel.{state_of, machine, as_read, Serves};
+
+    /// Writes bytes over those of a file, from the descriptor's position on, which moves past them. Clean extents of files of
+    /// the pool give way, and the bytes lie in new buffers of the file's pool.
+    pub fn put_in_file(
+        &mut self,
+        by: DomainId,
+        fd: Fd,
+        pool: PoolId,
+        file: FileId,
+        at: u32,
+        mode: Mode,
+        bytes: &[u8],
+    ) -> Result<u32, Refusal>
+        requires sound { IsSound (state_of self.old) }
+        requires passed { (f : Reading) → IsPassed (calls.write (as_read f self.old) by fd
+            bytes.now).refusals }
+        requires to { (f : Reading) → descriptor (as_read f self.old) by fd ≡ Some
+            (Descriptor.File file at mode) }
+        requires pool { (f : Reading) → pool ≡ calls.pool_for (as_read f self.old) by (descriptor
+            (as_read f self.old) by fd) }
+        requires open { (state.pool (machine self.old) pool).closed ≡ false }
+        ensures serves { (disk : Disk) → Serves (λ s. calls.write s by fd bytes.now) disk self.old
+            result disk self.new }
+        ensures room { OnOk result (can_fit (state_of self.old) pool (length bytes.now) ≡ true) }
+        ensures no_room { (p : ℕ) → result ≡ Err (Refusal.NoRoom p) → can_fit (state_of self.old)
+            pool (length bytes.now) ≡ false }
+    {
+        let count = bytes.len().min(MAX_FILE_BYTES) as u32;
+        if !self.make_room_for(pool, count) {
+            return Err(Refusal::NoRoom { pool });
+        }
+        self.fill_file(by, fd, pool, file, at, mode, bytes)
+    }
+
+    /// Writes bytes over those of a file, where the file's pool has room.
+    fn fill_file(
+        &mut self,
+        by: DomainId,
+        fd: Fd,
+        pool: PoolId,
+        file: FileId,
+        at: u32,
+        mode: Mode,
+        bytes: &[u8],
+    ) -> Result<u32, Refusal>
+        requires sound { IsSound (state_of self.old) }
+        requires passed { (f : Reading) → IsPassed (calls.write (as_read f self.old) by fd
+            bytes.now).refusals }
+        requires to { (f : Reading) → descriptor (as_read f self.old) by fd ≡ Some
+            (Descriptor.File file at mode) }
+        requires pool { (f : Reading) → pool ≡ calls.pool_for (as_read f self.old) by (descriptor
+            (as_read f self.old) by fd) }
+        requires open { (state.pool (machine self.old) pool).closed ≡ false }
+        ensures serves { (disk : Disk) → Serves (λ s. calls.write s by fd bytes.now) disk self.old
+            result disk self.new }
+        ensures roomy { (p : ℕ) → result ≡ Err (Refusal.NoRoom p) → ⊥ }
+    {
+        let Ok(agg) = Agg::fill(self.alloc, &mut self.store, pool, bytes) else {
+            return Err(Refusal::Memory);
+        };
+        let len = agg.len();
+        if let Err(_refused) = self
+            .files
+            .cache
+            .write(self.alloc, &mut self.store, file, at, &agg)
+        {
+            agg.release(&mut self.store);
+            return Err(Refusal::Memory);
+        }
+        agg.release(&mut self.store);
+        let to = at + len;
+        self.domains
+            .set_fd(by, fd, Descriptor::File { file, at: to, mode });
+        Ok(len)
+    }
+}

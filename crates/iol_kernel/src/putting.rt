@@ -1,0 +1,46 @@
+//! Writing by copying: no aggregate is made of what is written.
+ghost use Rattle.std.specs.Prelude.{◌≡◌, ℕ, true, false, Err, OnOk};
+ghost use Rattle.iol_core.specs.State.{descriptor};
+ghost use Rattle.iol_core.specs.Calls.Writing as calls;
+ghost use Rattle.iol_back.specs.Disk.{Disk};
+ghost use Rattle.iol_kernel.specs.KernelState.{IsSound};
+ghost use Rattle.iol_kernel.specs.MakingRoom.{can_fit};
+
+use crate::kernel::Kernel;
+use iol_core::descriptors::Descriptor;
+use iol_core::numbers::{DomainId, Fd};
+use iol_core::refusals::Refusal;
+
+impl Kernel {
+    ghost use Rattle.iol_kernel.specs.Kernel.{state_of, machine, Places, Serves};
+
+    /// Writes the caller's bytes, as many as fit, and tells how many that is. Clean extents of files of the pool in which they
+    /// are to lie give way: of the file's pool, or of the caller's default pool.
+    pub fn write_bytes(&mut self, by: DomainId, fd: Fd, bytes: &[u8]) -> Result<u32, Refusal>
+        requires { IsSound (state_of self.old) }
+        ensures serves { (disk : Disk) → Serves (λ s. calls.write s by fd bytes.now) disk self.old
+            result disk self.new }
+        ensures queue { calls.is_file (descriptor (machine self.old) by fd) ≡ false →
+            Places (λ s. calls.write s by fd bytes.now) (λ s t. calls.written s by fd (descriptor s
+            by fd) t) (calls.pool_for (machine self.old) by (descriptor (machine self.old) by fd))
+            (calls.write (machine self.old) by fd bytes.now).answer self.old result self.new }
+        ensures room { OnOk result (can_fit (state_of self.old) (calls.pool_for (machine self.old)
+            by (descriptor (machine self.old) by fd)) (calls.write (machine self.old) by fd
+            bytes.now).answer ≡ true) }
+        ensures no_room { (p : ℕ) → result ≡ Err (Refusal.NoRoom p) → can_fit (state_of self.old)
+            (calls.pool_for (machine self.old) by (descriptor (machine self.old) by fd))
+            (calls.write (machine self.old) by fd bytes.now).answer ≡ false }
+    {
+        let pool = match self.pool_to_write(by, fd, bytes) {
+            Ok(pool) => pool,
+            Err(refusal) => return Err(refusal),
+        };
+        let Some(to) = self.descriptor(by, fd) else {
+            unreachable!()
+        };
+        if let Descriptor::File { file, at, mode } = to {
+            return self.put_in_file(by, fd, pool, file, at, mode, bytes);
+        }
+        self.put(by, fd, pool, bytes)
+    }
+}

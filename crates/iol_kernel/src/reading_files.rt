@@ -1,0 +1,131 @@
+//! Reading files by reference: what is in memory is shared, and what is not is read into clean extents.
+ghost use Rattle.std.specs.Prelude.{◌≡◌, ℕ, ◌+◌, true, false, Option, Some, None, IfSome, OnOk};
+ghost use Rattle.iol_core.specs.Meaning.{first};
+ghost use Rattle.iol_core.specs.State.{is_live, descriptor};
+ghost use Rattle.iol_core.specs.Calls.Aggregates.{too_many_aggs};
+ghost use Rattle.iol_core.specs.Calls.Files.{open_on};
+ghost use Rattle.iol_core.specs.Calls.Reading as calls;
+ghost use Rattle.iol_kernel.specs.FileReading.{file_read, held_by};
+ghost use Rattle.iol_kernel.specs.KernelState.{IsSound};
+ghost use Rattle.iol_kernel.specs.Readings.{Reading};
+
+use crate::kernel::Kernel;
+use iol_back::backing::Backing;
+use iol_core::descriptors::{Descriptor, Mode};
+use iol_core::numbers::{AggId, DomainId, Fd, FileId};
+use iol_core::refusals::Refusal;
+
+/// The file that a descriptor is open on, with its position and mode.
+#[derive(Clone, Copy)]
+pub struct OpenFile {
+    pub file: FileId,
+    pub at: u32,
+    pub mode: Mode,
+}
+
+/// Whether a file that is open so may be read.
+pub(crate) fn may_be_read(mode: Mode) -> bool
+    ensures { result ≡ calls.reads mode }
+{
+    match mode {
+        Mode::Read | Mode::Both => true,
+        Mode::Write => false,
+    }
+}
+
+impl Kernel {
+    ghost use Rattle.iol_kernel.specs.Kernel.{state_of, machine, as_read, GivesRead, ReadsFileAs, Serves};
+
+    /// The file that a live domain's descriptor is open on, with its position and mode.
+    pub fn file_open(&self, by: DomainId, fd: Fd) -> Option<OpenFile>
+        ensures live { IfSome result (λ x. (f : Reading) → is_live (as_read f self.now) by ≡ true) }
+        ensures from { IfSome result (λ x. (f : Reading) → descriptor (as_read f self.now) by fd ≡ Some
+            (Descriptor.File x.file x.at x.mode)) }
+        ensures none { result ≡ None → (f : Reading) → open_on (held_by (as_read f self.now) by fd) ≡
+            None }
+    {
+        if !self.is_live(by) {
+            return None;
+        }
+        let Descriptor::File { file, at, mode } = self.descriptor(by, fd)? else {
+            return None;
+        };
+        Some(OpenFile { file, at, mode })
+    }
+
+    /// Reads from a file at a descriptor's position, as the caller's next aggregate. The position moves on.
+    pub(crate) fn read_file<B: Backing>(
+        &mut self,
+        backing: &mut B,
+        by: DomainId,
+        fd: Fd,
+        file: FileId,
+        at: u32,
+        mode: Mode,
+        count: u32,
+    ) -> Result<AggId, Refusal>
+        requires sound { IsSound (state_of self.old) }
+        requires live { (f : Reading) → is_live (as_read f self.old) by ≡ true }
+        requires from { (f : Reading) → descriptor (as_read f self.old) by fd ≡ Some
+            (Descriptor.File file at mode) }
+        ensures serves { Serves (λ s. calls.iol_read s by fd count) (B.disk backing.old) self.old
+            result (B.disk backing.new) self.new }
+        ensures reads { ReadsFileAs (file_read by fd file at mode count) (B.disk backing.old)
+            self.old result (B.disk backing.new) self.new }
+        ensures gives { OnOk result (GivesRead (file_read by fd file at mode count)
+            (B.disk backing.old) self.old self.new) }
+    {
+        if !may_be_read(mode) {
+            return Err(Refusal::WrongMode);
+        }
+        if self.is_too_many(by, 1, 0) {
+            return Err(Refusal::TooMany);
+        }
+        if let Some(pool) = self.hidden_file(by, file) {
+            return Err(Refusal::Denied { pool });
+        }
+        self.take_from_file(backing, by, fd, file, at, mode, count)
+    }
+
+    /// Reads from a file that the caller may read, as its next aggregate.
+    fn take_from_file<B: Backing>(
+        &mut self,
+        backing: &mut B,
+        by: DomainId,
+        fd: Fd,
+        file: FileId,
+        at: u32,
+        mode: Mode,
+        count: u32,
+    ) -> Result<AggId, Refusal>
+        requires sound { IsSound (state_of self.old) }
+        requires live { is_live (machine self.old) by ≡ true }
+        requires few { too_many_aggs (machine self.old) by 1 0 ≡ false }
+        requires from { (f : Reading) → descriptor (as_read f self.old) by fd ≡ Some
+            (Descriptor.File file at mode) }
+        requires passed { first (calls.iol_read (machine self.old) by fd count).refusals ≡ None }
+        ensures serves { Serves (λ s. calls.iol_read s by fd count) (B.disk backing.old) self.old
+            result (B.disk backing.new) self.new }
+        ensures reads { ReadsFileAs (file_read by fd file at mode count) (B.disk backing.old)
+            self.old result (B.disk backing.new) self.new }
+        ensures gives { OnOk result (GivesRead (file_read by fd file at mode count)
+            (B.disk backing.old) self.old self.new) }
+    {
+        self.domains.reserve_aggs(by, 1)?;
+        let outcome = self
+            .files
+            .cache
+            .read(self.alloc, &mut self.store, backing, file, at, count);
+        let agg = match outcome {
+            Ok(agg) => agg,
+            Err(refusal) => return Err(refusal),
+        };
+        let moved = Descriptor::File {
+            file,
+            at: at + agg.len(),
+            mode,
+        };
+        self.domains.set_fd(by, fd, moved);
+        Ok(self.domains.add_agg(by, agg))
+    }
+}

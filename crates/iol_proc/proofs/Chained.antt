@@ -1,0 +1,61 @@
+-- What happens in a world is a chain of steps of its system.
+use Rattle.std.proofs.Common.{◌≡◌, inl, inr, ℕ, List, [], ◌∷◌, ◌++◌, Bool, refl, subst, ap}
+use Rattle.std.specs.Prelude.{Result, Ok, Err, IfOk, OnErr}
+use Rattle.iol_core.specs.declared.events.Event.{Event}
+use Rattle.iol_core.specs.declared.events.Event.TheVariants as event
+use Rattle.iol_core.specs.declared.events.Reply.{Reply}
+use Rattle.iol_system.specs.Machine.{SystemState}
+use Rattle.iol_system.specs.Promises.{Chain}
+use Rattle.iol_proc.specs.Laws.{HasEvents}
+use Rattle.iol_proc.specs.Turns.{Account, Comes, SeatTurn}
+use Rattle.iol_proc.specs.World.{Stage, sharing, DomainTurn, OutsideStep, WorldStep, WorldRun}
+use Rattle.iol_proc.specs.declared.choice.Choice.{Choice}
+use Rattle.iol_proc.specs.declared.choice.Choice.TheVariants as choice
+use Rattle.iol_proc.specs.declared.process.Turn.{Turn}
+use Rattle.iol_proc.specs.declared.process.Turn.TheVariants as turn
+use Rattle.iol_proc.specs.declared.seat.Seat.{Seat}
+
+nothing : (old new : SystemState) → new ≡ old → HasEvents old new
+nothing old new same = record { events = []; replies = []; chain = same }
+
+chain_then : (old mid new : SystemState) (es fs : List Event) (rs ss : List Reply) → Chain old es rs mid → Chain mid fs ss new → Chain old (es ++ fs) (rs ++ ss) new
+chain_then old mid new [] fs [] ss first next = subst (λ h. Chain h fs ss new) first next
+chain_then old mid new (e ∷ es) fs (r ∷ rs) ss first next = (first.0, first.1, chain_then first.0 mid new es fs rs ss first.2 next)
+chain_then old mid new [] fs (r ∷ rs) ss first next = absurd first
+chain_then old mid new (e ∷ es) fs [] ss first next = absurd first
+
+both : (old mid new : SystemState) → HasEvents old mid → HasEvents mid new → HasEvents old new
+both old mid new a b = record { events = a.events ++ b.events; replies = a.replies ++ b.replies; chain = chain_then old mid new a.events b.events a.replies b.replies a.chain b.chain }
+
+module _ {P : Type 0} (turns : Account P) where
+  comes_chained : (m : SystemState) (by : ℕ) (t : Turn) (yields : Bool) (r : Reply) (after : SystemState) → Comes sharing turns m by t yields r after → HasEvents m after
+  comes_chained m by turn.Yield yields r after c = nothing m after c.2
+  comes_chained m by (turn.Make call) yields r after c = record { events = event.Call by call ∷ []; replies = r ∷ []; chain = (after, c.1, refl) }
+
+  seat_chained : (m : SystemState) (seat : Seat P) (yields : Bool) (r : Reply) (after : SystemState) (next : Seat P) → SeatTurn sharing turns m seat yields r after next → HasEvents m after
+  seat_chained m seat yields r after next t = elim t [ inl s ↦ nothing m after s.machine_stays | inr v ↦ comes_chained m seat.by v.turn yields r after v.comes ]
+
+  domain_chained : (w : Stage SystemState P) (by : ℕ) (r : Reply) (after : Stage SystemState P) → DomainTurn sharing turns w by r after → HasEvents w.machine after.machine
+  domain_chained w by r after t =
+      elim t [
+        | inl a ↦ nothing w.machine after.machine (ap (λ (v : Stage SystemState P). v.machine) a.stays)
+        | inr p ↦ seat_chained w.machine p.turn.seat p.yields r after.machine p.turn.next p.turn.turn
+      ]
+
+  pub outside_chained : (w : Stage SystemState P) (e : Event) (r : Reply) (after : Stage SystemState P) → OutsideStep sharing turns w e r after → HasEvents w.machine after.machine
+  outside_chained w e r after o = record { events = e ∷ []; replies = r ∷ []; chain = (after.machine, o.step, refl) }
+
+  step_chained : (w : Stage SystemState P) (c : Choice) (r : Reply) (after : Stage SystemState P) → WorldStep sharing turns w c r after → HasEvents w.machine after.machine
+  step_chained w (choice.Turn by) r after step = domain_chained w by r after step
+  step_chained w (choice.Outside e) r after step = outside_chained w e r after step
+
+  pub run_chained : (w : Stage SystemState P) (cs : List Choice) (rs : List Reply) (after : Stage SystemState P) → WorldRun sharing turns w cs rs after → HasEvents w.machine after.machine
+  run_chained w [] [] after ran = nothing w.machine after.machine (ap (λ (v : Stage SystemState P). v.machine) ran)
+  run_chained w (c ∷ cs) (r ∷ rs) after ran = both w.machine ran.0.machine after.machine (step_chained w c r ran.0 ran.1) (run_chained ran.0 cs rs after ran.2)
+  run_chained w [] (r ∷ rs) after ran = absurd ran
+  run_chained w (c ∷ cs) [] after ran = absurd ran
+
+  -- a run that was made, or was not
+  pub chained_of : {A E : Type 0} (items : A → List Reply) (old new : Stage SystemState P) (cs : List Choice) (r : Result A E) → IfOk r (λ v. WorldRun sharing turns old cs (items v) new) → OnErr r (new ≡ old) → HasEvents old.machine new.machine
+  chained_of items old new cs (Ok v) ran same = run_chained old cs (items v) new ran
+  chained_of items old new cs (Err e) ran same = nothing old.machine new.machine (ap (λ (v : Stage SystemState P). v.machine) same)

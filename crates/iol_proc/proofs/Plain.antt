@@ -1,0 +1,26 @@
+-- A call that is not `show` or `read` is not answered by a copy of bytes, by any machine.
+use Rattle.std.proofs.Common.{ℕ, sym, subst}
+use Rattle.iol_core.specs.State.{State}
+use Rattle.iol_core.specs.Run.{StepsTo, called}
+use Rattle.iol_core.specs.declared.events.Call.{Call}
+use Rattle.iol_core.specs.declared.events.Call.TheVariants as call
+use Rattle.iol_core.specs.declared.events.Event.TheVariants as event
+use Rattle.iol_core.specs.declared.events.Reply.{Reply}
+use Rattle.iol_core.specs.declared.events.Reply.TheVariants as reply
+use Rattle.iol_kernel.specs.Backed.{with_slots}
+use Rattle.iol_system.specs.Machine.{SystemState}
+use Rattle.iol_system.specs.Promises.{Promises}
+use Rattle.iol_proc.specs.Quiet.{IsQuietCall, IsPlain}
+
+answer_plain : (s : State) (by : ℕ) (c : Call) → IsQuietCall c → IsPlain (called s by c).answer
+answer_plain s by (call.Show agg) quiet = absurd quiet
+answer_plain s by (call.Read fd count) quiet = absurd quiet
+answer_plain s by c quiet = tt
+
+step_plain : (s t : State) (by : ℕ) (c : Call) (r : Reply) → IsQuietCall c → StepsTo s (event.Call by c) r t → IsPlain r
+step_plain s t by c (reply.Refused x) quiet step = tt
+step_plain s t by c r quiet step = subst IsPlain (sym step.1) (answer_plain s by c quiet)
+
+-- so is a call of a system, over any store
+pub promised_plain : (old new : SystemState) (by : ℕ) (c : Call) (r : Reply) → IsQuietCall c → Promises old (event.Call by c) r new → IsPlain r
+promised_plain old new by c r quiet p = step_plain (with_slots p.beside.before old.kernel) (with_slots p.beside.after new.kernel) by c r quiet p.beside.step

@@ -1,0 +1,103 @@
+-- Processes in turns on a machine, and what happens outside.
+--
+-- The same words are used of two machines: of the one that copies at every call, and of a system with all that it
+-- promises, over any store. A run on the second is one on the first, if its store is honest.
+use Rattle.std.specs.Prelude.{◌≡◌, ◌≢◌, ◌⊎◌, ◌<◌, ◌||◌, ℕ, List, [], ◌∷◌, map, Some, Bool, All, slice_get, slice_set}
+use Rattle.iol_core.specs.State.{State}
+use Rattle.iol_core.specs.Run.{StepsTo}
+use Rattle.iol_core.specs.declared.events.Event.{Event}
+use Rattle.iol_core.specs.declared.events.Reply.{Reply}
+use Rattle.iol_core.specs.declared.events.Reply.TheVariants as reply
+use Rattle.iol_core.specs.declared.refusals.Refusal.TheVariants.{NoDomain}
+use Rattle.iol_system.specs.Machine.{SystemState, machine_of}
+use Rattle.iol_system.specs.Promises.{Promises}
+use Rattle.iol_proc.specs.Lent.{lent_at}
+use Rattle.iol_proc.specs.Turns.{Machine, Account, SeatTurn, is_rough}
+use Rattle.iol_proc.specs.declared.choice.Choice.{Choice}
+use Rattle.iol_proc.specs.declared.choice.Choice.TheVariants as choice
+use Rattle.iol_proc.specs.declared.seat.Seat.{Seat}
+
+-- the machine that copies at every call
+abbrev pub copying : Machine State
+copying = record { Step = StepsTo; lends = lent_at }
+
+-- a system, with all that each step of it promises
+abbrev pub sharing : Machine SystemState
+sharing = record { Step = Promises; lends = λ s by. lent_at (machine_of s) by }
+
+-- a machine, the processes that use it, each with its last reply, and whether a turn was rough
+pub record Stage (M P : Type 0) : Type 0 where
+  pub machine : M
+  pub seats : List (Seat P)
+  pub rough : Bool
+
+-- the same processes over the copying machine
+abbrev pub copied : {P : Type 0} → Stage SystemState P → Stage State P
+copied w = record { machine = machine_of w.machine; seats = w.seats; rough = w.rough }
+
+-- the domains of the processes, in their order
+abbrev pub domains_of : {P : Type 0} → List (Seat P) → List ℕ
+domains_of seats = map (λ s. s.by) seats
+
+-- a process in its domain, before its first turn
+abbrev pub seat_of : {P : Type 0} → ℕ × P → Seat P
+seat_of p = record { by = p.0; process = p.1; last = reply.Done }
+
+-- each number is above the one before
+abbrev pub IsRising : List ℕ → Type 0
+IsRising [] = Unit {0}
+IsRising (x ∷ []) = Unit {0}
+IsRising (x ∷ y ∷ ys) = (x < y) × IsRising (y ∷ ys)
+
+-- the process of a domain
+pub record IsSeated {P : Type 0} (seats : List (Seat P)) (by : ℕ) (p : P) : Type 0 where
+  pub place : ℕ
+  pub seat : Seat P
+  pub sits : slice_get seats place ≡ Some seat
+  pub domain : seat.by ≡ by
+  pub process : seat.process ≡ p
+
+module _ {M P : Type 0} (machine : Machine M) (turns : Account P) where
+  -- the process at this place has its turn: whether it yielded, and what it was answered
+  pub record PlaceTurn (w : Stage M P) (place : ℕ) (yields : Bool) (r : Reply) (after : Stage M P) : Type 0 where
+    pub seat : Seat P
+    pub next : Seat P
+    pub sits : slice_get w.seats place ≡ Some seat
+    pub turn : SeatTurn machine turns w.machine seat yields r after.machine next
+    pub others_stay : after.seats ≡ slice_set w.seats place next
+    pub notes : after.rough ≡ (w.rough || is_rough r)
+
+  -- no process is in this domain
+  pub record Absent (w : Stage M P) (by : ℕ) (r : Reply) (after : Stage M P) : Type 0 where
+    pub nobody : All (λ s. s.by ≢ by) w.seats
+    pub answer : r ≡ reply.Refused NoDomain
+    pub stays : after ≡ w
+
+  -- the process in this domain has its turn
+  pub record Present (w : Stage M P) (by : ℕ) (r : Reply) (after : Stage M P) : Type 0 where
+    pub place : ℕ
+    pub yields : Bool
+    pub turn : PlaceTurn w place yields r after
+    pub domain : turn.seat.by ≡ by
+
+  -- a turn of a domain
+  abbrev pub DomainTurn : Stage M P → (by : ℕ) → Reply → Stage M P → Type 0
+  DomainTurn w by r after = Absent w by r after ⊎ Present w by r after
+
+  -- an event that no process brings about
+  pub record OutsideStep (w : Stage M P) (e : Event) (r : Reply) (after : Stage M P) : Type 0 where
+    pub step : machine.Step w.machine e r after.machine
+    pub seats_stay : after.seats ≡ w.seats
+    pub rough_stays : after.rough ≡ w.rough
+
+  -- one choice
+  abbrev pub WorldStep : Stage M P → Choice → Reply → Stage M P → Type 0
+  WorldStep w (choice.Turn by) r after = DomainTurn w by r after
+  WorldStep w (choice.Outside e) r after = OutsideStep w e r after
+
+  -- From w, these choices were given these replies, one after another, ending in after.
+  abbrev pub WorldRun : Stage M P → List Choice → List Reply → Stage M P → Type 0
+  WorldRun w [] [] after = after ≡ w
+  WorldRun w (c ∷ cs) (r ∷ rs) after = (mid : Stage M P) × WorldStep w c r mid × WorldRun mid cs rs after
+  WorldRun w [] (r ∷ rs) after = ⊥
+  WorldRun w (c ∷ cs) [] after = ⊥

@@ -1,0 +1,20 @@
+//! Processes in turns: programs that use a system by one call at a time.
+//!
+//! A [`Process`](process::Process) says what it does next, from its last reply and the bytes that it is lent. A
+//! [`World`](world::World) is a system and a process in each of some domains; who has a turn when is a list of
+//! [`Choice`](choice::Choice)s. Whatever the list, replies and state are those of the same processes over a machine that
+//! copies at every call, each lent that machine's bytes (`specs/World`).
+//!
+//!     let mut world = World::new(alloc, system, processes)?;
+//!     let replies = world.run(&choices)?;
+//!     let idle = world.until_idle(65536);
+#![tactic(auto)]
+
+pub mod choice;
+pub mod look;
+pub mod process;
+mod replies;
+mod rounds;
+pub mod seat;
+mod turning;
+pub mod world;

@@ -1,0 +1,36 @@
+//! What a process is lent.
+ghost use Rattle.std.specs.Prelude.{◌≡◌, Some, None, MatchOption};
+ghost use Rattle.std.specs.List.{flat_map};
+ghost use Rattle.iol_proc.specs.Looks.{lent};
+
+use iol_agg::Parts;
+use iol_core::numbers::{AggId, DomainId};
+use iol_system::aggregates::Aggregates;
+
+/// The aggregates of one domain, lent until its next call.
+#[derive(Drop)]
+pub struct Look<'a> {
+    aggregates: Aggregates<'a>,
+    by: DomainId,
+}
+
+impl<'a> Look<'a> {
+    pub(crate) fn new(aggregates: Aggregates<'a>, by: DomainId) -> Look<'a>
+        ensures aggregates { result.aggregates ≡ aggregates.entry }
+        ensures by { result.by ≡ by }
+    {
+        Look { aggregates, by }
+    }
+
+    /// The bytes of one of the domain's aggregates, where they lie; none where it has no such aggregate. Nothing is copied,
+    /// and no memory is taken.
+    pub fn bytes(&self, agg: AggId) -> Option<Parts<'a>>
+        ensures { MatchOption result (lent self.now agg ≡ None)
+            (λ parts. lent self.now agg ≡ Some (flat_map (λ w. w) parts)) }
+    {
+        match self.aggregates.parts(self.by, agg) {
+            Ok(parts) => Some(parts),
+            Err(_) => None,
+        }
+    }
+}

@@ -1,0 +1,51 @@
+//! Replies: one again, and what turns look for in them.
+ghost use Rattle.std.specs.Prelude.{◌≡◌};
+ghost use Rattle.iol_proc.specs.Quiet.{IsPlain};
+ghost use Rattle.iol_proc.specs.Turns.{is_rough, is_would_block};
+
+use iol_core::events::Reply;
+use iol_core::refusals::Refusal;
+
+/// The same reply again. It takes no memory, as the reply holds no copy of bytes.
+pub(crate) fn again(reply: &Reply) -> Reply
+    requires { IsPlain reply.now }
+    ensures { result ≡ reply.now }
+{
+    match reply {
+        Reply::Done => Reply::Done,
+        Reply::Domain(domain) => Reply::Domain(*domain),
+        Reply::Pool(pool) => Reply::Pool(*pool),
+        Reply::File(file) => Reply::File(*file),
+        Reply::Conn(conn) => Reply::Conn(*conn),
+        Reply::Fd(fd) => Reply::Fd(*fd),
+        Reply::Fds(read, write) => Reply::Fds(*read, *write),
+        Reply::Agg(agg) => Reply::Agg(*agg),
+        Reply::Aggs(first, second) => Reply::Aggs(*first, *second),
+        Reply::Count(count) => Reply::Count(*count),
+        Reply::Bytes(_) | Reply::Segment { .. } => unreachable!(),
+        Reply::Refused(refusal) => Reply::Refused(*refusal),
+    }
+}
+
+/// Whether numbers, pages, a working store or memory were wanting.
+pub(crate) fn is_rough(reply: &Reply) -> bool
+    ensures { result ≡ is_rough reply.now }
+{
+    match reply {
+        Reply::Refused(refusal) => matches!(
+            refusal,
+            Refusal::TooMany | Refusal::NoRoom { .. } | Refusal::Fault { .. } | Refusal::Memory
+        ),
+        _ => false,
+    }
+}
+
+/// Whether the caller has to wait.
+pub(crate) fn is_would_block(reply: &Reply) -> bool
+    ensures { result ≡ is_would_block reply.now }
+{
+    match reply {
+        Reply::Refused(refusal) => matches!(refusal, Refusal::WouldBlock),
+        _ => false,
+    }
+}

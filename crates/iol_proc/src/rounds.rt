@@ -1,0 +1,63 @@
+//! Turns in rounds, until nothing is left to do.
+ghost use Rattle.std.specs.Prelude.{◌≡◌, ◌<◌, length, false};
+ghost use Rattle.iol_proc.specs.Idle.{Idles, counted, is_idle};
+ghost use Rattle.iol_proc.specs.World.{Stage, sharing, domains_of};
+
+use crate::process::Process;
+use crate::replies::is_would_block;
+use crate::seat::Seat;
+use crate::turning::{Outcome, place_turn};
+use iol_back::backing::Backing;
+use iol_system::system::System;
+
+/// Whether every process has yielded twice.
+fn all_twice(yields: &[u8]) -> bool
+    ensures all { result ≡ is_idle yields.now }
+    ensures some { result ≡ false → 0 < length yields.now }
+{
+    yields.iter().all(|n| 2 <= *n)
+}
+
+/// Counts a turn of the process at a place.
+fn count(yields: &mut Vec<u8>, place: usize, outcome: &Outcome)
+    requires { place < length yields.old.items }
+    ensures length { length yields.new.items ≡ length yields.old.items }
+    ensures counted { yields.new.items ≡ counted yields.old.items place
+        (outcome.now.yields, outcome.now.reply) }
+{
+    if outcome.yields {
+        if yields[place] < 2 {
+            yields[place] += 1;
+        }
+    } else if !is_would_block(&outcome.reply) {
+        yields.fill(0);
+    }
+}
+
+/// Gives turns in rounds, at most so many, until every process has yielded twice since the last turn that was answered by
+/// anything but WouldBlock. Takes the room in which yields are counted, so that it needs no memory.
+pub(crate) fn until_idle<B: Backing + Drop, P: Process>(
+    system: &mut System<B>,
+    seats: &mut Vec<Seat<P>>,
+    rough: &mut bool,
+    yields: &mut Vec<u8>,
+    turns: usize,
+) -> bool
+    requires { length yields.old.items ≡ length seats.old.items }
+    ensures domains { domains_of seats.new.items ≡ domains_of seats.old.items }
+    ensures length { length yields.new.items ≡ length seats.new.items }
+    ensures idles { Idles sharing P.turns
+        (record { machine = system.old; seats = seats.old.items; rough = rough.old }) turns result
+        (record { machine = system.new; seats = seats.new.items; rough = rough.new }) }
+{
+    yields.fill(0);
+    for i in 0..turns {
+        if all_twice(yields) {
+            return true;
+        }
+        let place = i % seats.len();
+        let outcome = place_turn(system, seats, rough, place);
+        count(yields, place, &outcome);
+    }
+    all_twice(yields)
+}

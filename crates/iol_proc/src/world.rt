@@ -1,0 +1,240 @@
+//! A world: a system, and processes in some of its domains.
+ghost use Rattle.std.specs.Prelude.{◌≡◌, ◌≢◌, ◌<◌, length, map, IfOk, OnErr, IfSome, MatchOption, All, slice_get, false, nat_eq};
+ghost use Rattle.std.specs.List.{IsDistinct};
+ghost use Rattle.std.specs.List.Sorted.{IsPermutation};
+ghost use Rattle.iol_back.specs.Disk.{IfHonest};
+ghost use Rattle.iol_proc.specs.Idle.{Idles};
+ghost use Rattle.iol_proc.specs.Laws.{HasEvents};
+ghost use Rattle.iol_proc.specs.Looks.{lent};
+ghost use Rattle.iol_proc.specs.Lent.{lent_at};
+ghost use Rattle.iol_system.specs.Machine.{machine_of};
+ghost use Rattle.iol_proc.specs.World.{Stage, copying, sharing, copied, seat_of, domains_of, IsRising, IsSeated, WorldStep, WorldRun, DomainTurn, OutsideStep};
+
+use crate::choice::Choice;
+use crate::look::Look;
+use crate::process::Process;
+use crate::rounds::until_idle;
+use crate::seat::Seat;
+use crate::turning::place_turn;
+use iol_back::backing::Backing;
+use iol_core::events::{Event, Reply};
+use iol_core::numbers::DomainId;
+use iol_core::refusals::Refusal;
+use iol_system::system::System;
+use std::alloc::{AllocError, Global};
+use std::marker::Model;
+
+/// A system, and a process in each of some domains, by rising domains.
+#[derive(Drop)]
+pub struct World<B: Backing, P: Process> {
+    alloc: Global,
+    system: System<B>,
+    seats: Vec<Seat<P>>,
+    rough: bool,
+
+    // Room in which `until_idle` counts how often each process yielded.
+    yields: Vec<u8>,
+}
+
+impl<B: Backing, P: Process> Model for World<B, P> {
+    ghost use Rattle.std.specs.Prelude.{◌≡◌, length};
+    ghost use Rattle.iol_system.specs.Machine.{SystemState};
+    ghost use Rattle.iol_proc.specs.World.{Stage, IsRising, domains_of};
+
+    ghost Value = { Stage SystemState P };
+
+    ghost view = { λ w. record { machine = w.system; seats = w.seats.items; rough = w.rough } };
+
+    ghost invariant = { λ w. (length w.yields.items ≡ length w.seats.items)
+        × IsRising (domains_of w.seats.items) };
+}
+
+impl<B: Backing + Drop, P: Process> World<B, P> {
+    /// A world of this system and these processes, each in its domain and told Done. For want of memory both are dropped.
+    pub fn new(
+        alloc: Global,
+        system: System<B>,
+        processes: Vec<(DomainId, P)>,
+    ) -> Result<World<B, P>, AllocError>
+        requires { IsDistinct nat_eq (map (λ p. p.0) processes.items) }
+        ensures system { IfOk result (λ w. w.machine ≡ system) }
+        ensures seats { IfOk result (λ w. IsPermutation (map seat_of processes.items) w.seats) }
+        ensures rising { IfOk result (λ w. IsRising (domains_of w.seats)) }
+        ensures smooth { IfOk result (λ w. w.rough ≡ false) }
+    {
+        let seats = seated(alloc, processes)?;
+        let yields = vec![in alloc; 0u8; seats.len()]?;
+        Ok(World {
+            alloc,
+            system,
+            seats,
+            rough: false,
+            yields,
+        })
+    }
+
+    /// Lends the aggregates of a domain, as its process sees them.
+    pub fn look(&self, by: DomainId) -> Look<'_>
+        ensures { lent result ≡ lent_at (machine_of self.now.machine) by }
+    {
+        Look::new(self.system.aggregates(), by)
+    }
+
+    /// Lends the system, which tells what its aggregates and reports are.
+    pub fn system(&self) -> &System<B>
+        ensures { result.now ≡ self.now.machine }
+    {
+        &self.system
+    }
+
+    /// The process of a domain.
+    pub fn process(&self, by: DomainId) -> Option<&P>
+        ensures { MatchOption result (All (λ s. s.by ≢ by) self.now.seats)
+            (λ p. IsSeated self.now.seats by p.now) }
+    {
+        let place = place_of(&self.seats, by)?;
+        Some(&self.seats[place].process)
+    }
+
+    /// Carries out an event that no process brings about.
+    pub fn step_outside(&mut self, event: Event) -> Reply
+        ensures step { OutsideStep sharing P.turns self.old event result self.new }
+        ensures copied { IfHonest self.old.machine.disk
+            (OutsideStep copying P.turns (copied self.old) event result (copied self.new)) }
+        ensures events { HasEvents self.old.machine self.new.machine }
+    {
+        self.outside(&event)
+    }
+
+    /// Carries out an event that no process brings about.
+    fn outside(&mut self, event: &Event) -> Reply
+        ensures { OutsideStep sharing P.turns self.old event.now result self.new }
+    {
+        self.system.step_ref(event)
+    }
+
+    /// The process in a domain has its turn.
+    fn turn(&mut self, by: DomainId) -> Reply
+        ensures { DomainTurn sharing P.turns self.old by result self.new }
+    {
+        match place_of(&self.seats, by) {
+            None => Reply::Refused(Refusal::NoDomain),
+            Some(place) => {
+                let outcome = place_turn(&mut self.system, &mut self.seats, &mut self.rough, place);
+                outcome.reply
+            }
+        }
+    }
+
+    /// Makes one choice come true.
+    fn step(&mut self, choice: &Choice) -> Reply
+        ensures { WorldStep sharing P.turns self.old choice.now result self.new }
+    {
+        match choice {
+            Choice::Turn(by) => self.turn(*by),
+            Choice::Outside(event) => self.outside(event),
+        }
+    }
+
+    /// Makes choices come true, in their order. For want of memory for the replies, none.
+    ///
+    /// A turn is one question to the process and its call. A yield is answered Done; the turn of a process that found no
+    /// memory is answered Memory, and that of a domain without process NoDomain.
+    pub fn run(&mut self, choices: &[Choice]) -> Result<Vec<Reply>, AllocError>
+        ensures shared { IfOk result
+            (λ replies. WorldRun sharing P.turns self.old choices.now replies.items self.new) }
+        ensures run { IfHonest self.old.machine.disk (IfOk result (λ replies. WorldRun copying
+            P.turns (copied self.old) choices.now replies.items (copied self.new))) }
+        ensures events { HasEvents self.old.machine self.new.machine }
+        ensures err { OnErr result (self.new ≡ self.old) }
+    {
+        self.step_all(choices)
+    }
+
+    /// Makes choices come true, in their order. The room for the replies comes first.
+    fn step_all(&mut self, choices: &[Choice]) -> Result<Vec<Reply>, AllocError>
+        ensures shared { IfOk result
+            (λ replies. WorldRun sharing P.turns self.old choices.now replies.items self.new) }
+        ensures err { OnErr result (self.new ≡ self.old) }
+    {
+        let mut replies = Vec::with_capacity(self.alloc, choices.len())?;
+        for choice in choices {
+            let reply = self.step(choice);
+            replies.push_reserved(reply);
+        }
+        Ok(replies)
+    }
+
+    /// Gives turns to the processes, by rising domains, round after round and at most so many. True as soon as every process
+    /// has yielded twice since the last turn that was answered by anything but WouldBlock, yields aside. No memory is taken.
+    pub fn until_idle(&mut self, turns: usize) -> bool
+        ensures shared { Idles sharing P.turns self.old turns result self.new }
+        ensures run { IfHonest self.old.machine.disk
+            (Idles copying P.turns (copied self.old) turns result (copied self.new)) }
+        ensures events { HasEvents self.old.machine self.new.machine }
+    {
+        self.go_round(turns)
+    }
+
+    /// Gives turns in rounds, by fields.
+    fn go_round(&mut self, turns: usize) -> bool
+        ensures { Idles sharing P.turns self.old turns result self.new }
+    {
+        until_idle(
+            &mut self.system,
+            &mut self.seats,
+            &mut self.rough,
+            &mut self.yields,
+            turns,
+        )
+    }
+
+    /// Whether a turn was answered TooMany, NoRoom, Fault or Memory.
+    pub fn rough(&self) -> bool
+        ensures { result ≡ self.now.rough }
+    {
+        self.rough
+    }
+}
+
+/// The processes in their domains, by rising domains.
+fn seated<P: Process>(
+    alloc: Global,
+    processes: Vec<(DomainId, P)>,
+) -> Result<Vec<Seat<P>>, AllocError>
+    requires { IsDistinct nat_eq (map (λ p. p.0) processes.items) }
+    ensures seats { IfOk result (λ seats. IsPermutation (map seat_of processes.items) seats.items) }
+    ensures rising { IfOk result (λ seats. IsRising (domains_of seats.items)) }
+{
+    let mut seats = seats_for(alloc, processes)?;
+    seats.sort_by_key(|seat| seat.by.number())?;
+    Ok(seats)
+}
+
+/// The processes in their domains, as they were given.
+fn seats_for<P: Process>(
+    alloc: Global,
+    processes: Vec<(DomainId, P)>,
+) -> Result<Vec<Seat<P>>, AllocError>
+    ensures { IfOk result (λ seats. seats.items ≡ map seat_of processes.items) }
+{
+    let mut seats = Vec::new(alloc);
+    for (by, process) in processes {
+        seats.push(Seat {
+            by,
+            process,
+            last: Reply::Done,
+        })?;
+    }
+    Ok(seats)
+}
+
+/// Where the process of a domain sits.
+fn place_of<P: Process>(seats: &[Seat<P>], by: DomainId) -> Option<usize>
+    ensures { MatchOption result (All (λ s. s.by ≢ by) seats.now)
+        (λ k. IfSome (slice_get seats.now k) (λ seat. seat.by ≡ by) × (k < length seats.now)) }
+{
+    seats
+        .iter()
+        .position(|seat| seat.by.number() == by.number())
+}

@@ -1,0 +1,49 @@
+//! The aggregates of all domains, lent.
+ghost use Rattle.std.specs.Prelude.{◌≡◌, [], Some, None, IfOk, IfErr};
+ghost use Rattle.iol_core.specs.Meaning.{first};
+ghost use Rattle.iol_core.specs.Calls.Aggregates.{show};
+ghost use Rattle.iol_kernel.specs.Kernel.{state_of};
+ghost use Rattle.iol_kernel.specs.KernelState.{IsSound, joined, machine_of};
+
+use iol_agg::Parts;
+use iol_core::numbers::{AggId, DomainId};
+use iol_core::refusals::Refusal;
+use iol_kernel::kernel::Kernel;
+use std::marker::Model;
+
+/// The aggregates of all domains, lent until the system's next step. What type of store the system has does not show.
+#[derive(Drop)]
+pub struct Aggregates<'a> {
+    kernel: &'a Kernel,
+}
+
+impl<'a> Model for Aggregates<'a> {
+    ghost use Rattle.iol_kernel.specs.KernelState as held;
+    ghost use Rattle.iol_kernel.specs.Kernel.{state_of};
+
+    ghost Value = { held.KernelState };
+
+    ghost view = { λ a. state_of a.kernel.now };
+
+    ghost invariant = { λ a. held.IsSound (state_of a.kernel.now) };
+}
+
+impl<'a> Aggregates<'a> {
+    pub(crate) fn new(kernel: &'a Kernel) -> Aggregates<'a>
+        requires { IsSound (state_of kernel.now) }
+        ensures { result ≡ state_of kernel.now }
+    {
+        Aggregates { kernel }
+    }
+
+    /// The bytes of a domain's aggregate, where they lie. Nothing is copied, and no memory is taken.
+    pub fn parts(&self, by: DomainId, agg: AggId) -> Result<Parts<'a>, Refusal>
+        ensures ok { IfOk result
+            (λ parts. (first (show (machine_of [] self.now) by agg).refusals ≡ None)
+            × (joined parts ≡ (show (machine_of [] self.now) by agg).answer)) }
+        ensures err { IfErr result
+            (λ x. first (show (machine_of [] self.now) by agg).refusals ≡ Some x) }
+    {
+        self.kernel.parts(by, agg)
+    }
+}

@@ -1,0 +1,131 @@
+//! Replies: the answer of a call, or its refusal.
+ghost use Rattle.std.specs.Prelude.{◌≡◌};
+ghost use Rattle.iol_core.specs.declared.events.Reply.TheVariants as reply;
+ghost use Rattle.iol_kernel.specs.Calls as calls;
+ghost use Rattle.iol_system.specs.Replies.{told};
+
+use iol_core::events::Reply;
+use iol_core::lists::Bytes;
+use iol_core::numbers::{AggId, ConnId, DomainId, Fd, FileId, PoolId};
+use iol_core::refusals::Refusal;
+use iol_sock::Segment;
+
+/// A call that answers nothing is done.
+pub(crate) fn done(answer: Result<(), Refusal>) -> Reply
+    ensures { result ≡ told (λ u. reply.Done) answer }
+{
+    match answer {
+        Ok(()) => Reply::Done,
+        Err(refusal) => Reply::Refused(refusal),
+    }
+}
+
+/// A call answers a domain's number.
+pub(crate) fn domain(answer: Result<DomainId, Refusal>) -> Reply
+    ensures { result ≡ told reply.Domain answer }
+{
+    match answer {
+        Ok(domain) => Reply::Domain(domain),
+        Err(refusal) => Reply::Refused(refusal),
+    }
+}
+
+/// A call answers a pool's number.
+pub(crate) fn pool(answer: Result<PoolId, Refusal>) -> Reply
+    ensures { result ≡ told reply.Pool answer }
+{
+    match answer {
+        Ok(pool) => Reply::Pool(pool),
+        Err(refusal) => Reply::Refused(refusal),
+    }
+}
+
+/// A call answers a file's number.
+pub(crate) fn file(answer: Result<FileId, Refusal>) -> Reply
+    ensures { result ≡ told reply.File answer }
+{
+    match answer {
+        Ok(file) => Reply::File(file),
+        Err(refusal) => Reply::Refused(refusal),
+    }
+}
+
+/// A new connection has a number.
+pub(crate) fn conn(answer: Result<ConnId, Refusal>) -> Reply
+    ensures { result ≡ told reply.Conn answer }
+{
+    match answer {
+        Ok(conn) => Reply::Conn(conn),
+        Err(refusal) => Reply::Refused(refusal),
+    }
+}
+
+/// A call answers an aggregate's number.
+pub(crate) fn agg(answer: Result<AggId, Refusal>) -> Reply
+    ensures { result ≡ told reply.Agg answer }
+{
+    match answer {
+        Ok(agg) => Reply::Agg(agg),
+        Err(refusal) => Reply::Refused(refusal),
+    }
+}
+
+/// A call answers a descriptor's number.
+pub(crate) fn fd(answer: Result<Fd, Refusal>) -> Reply
+    ensures { result ≡ told reply.Fd answer }
+{
+    match answer {
+        Ok(fd) => Reply::Fd(fd),
+        Err(refusal) => Reply::Refused(refusal),
+    }
+}
+
+/// A call answers how many bytes.
+pub(crate) fn count(answer: Result<u32, Refusal>) -> Reply
+    ensures { result ≡ told reply.Count answer }
+{
+    match answer {
+        Ok(count) => Reply::Count(count),
+        Err(refusal) => Reply::Refused(refusal),
+    }
+}
+
+/// A call answers bytes.
+pub(crate) fn bytes(answer: Result<Bytes, Refusal>) -> Reply
+    ensures { result ≡ told reply.Bytes answer }
+{
+    match answer {
+        Ok(bytes) => Reply::Bytes(bytes),
+        Err(refusal) => Reply::Refused(refusal),
+    }
+}
+
+/// Two aggregates.
+pub(crate) fn aggs(answer: Result<(AggId, AggId), Refusal>) -> Reply
+    ensures { result ≡ told (λ two. reply.Aggs two.0 two.1) answer }
+{
+    match answer {
+        Ok((first, second)) => Reply::Aggs(first, second),
+        Err(refusal) => Reply::Refused(refusal),
+    }
+}
+
+/// The ends of a pipe.
+pub(crate) fn fds(answer: Result<(Fd, Fd), Refusal>) -> Reply
+    ensures { result ≡ told (λ two. reply.Fds two.0 two.1) answer }
+{
+    match answer {
+        Ok((read, write)) => Reply::Fds(read, write),
+        Err(refusal) => Reply::Refused(refusal),
+    }
+}
+
+/// What was sent.
+pub(crate) fn segment(answer: Result<Segment, Refusal>) -> Reply
+    ensures { result ≡ told (λ x. reply.Segment x.0 x.1) (calls.told answer) }
+{
+    match answer {
+        Ok(Segment { bytes, checksum }) => Reply::Segment { bytes, checksum },
+        Err(refusal) => Reply::Refused(refusal),
+    }
+}
