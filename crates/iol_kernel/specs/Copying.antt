@@ -28,4 +28,3 @@ CopiesOn by fd n _ disk old r after new = ReadsOut by fd n old r new × (after �
 
 abbrev pub Copies : (by fd n : ℕ) → Disk → KernelState → Result (List ℕ) Refusal → Disk → KernelState → Type 0
 Copies by fd n disk old r after new = CopiesOn by fd n (held_by (machine_of [] old) by fd) disk old r after new
-

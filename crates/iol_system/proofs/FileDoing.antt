@@ -279,24 +279,24 @@ module _ (by fd n : ℕ) (disk after : Disk) (old new : KernelState) (r : Result
 
   pub copies_does : Means reply.Bytes (λ s. reading.read s by fd n) copy_event → Serves (λ s. reading.read s by fd n) disk old r after new → Copies by fd n disk old r after new → Does disk old copy_event (told reply.Bytes r) after new
   copies_does means serves copies =
-    let o : Option Descriptor = held_by (tables_of old) by fd in record {
-      step = λ backed placed. means (machine_of disk.slots old) (machine_of after.slots new) r (serves.step backed placed);
-      backed = serves.backed;
-      beside = told_beside reply.Bytes (λ s. reading.read s by fd n) copy_event old new r means serves.beside;
-      honest = serves.honest;
-      unasked = copy_unasked o copies;
-      faults = copy_faults o copies;
-      room = copy_room o copies;
-      no_room = copy_lacks o copies;
-      refused = copy_refused o copies;
-      shares = λ shared. absurd (true≢false (sym shared));
-      pages = λ shared. absurd (true≢false (sym shared));
-      publishes = λ done. copy_fills o copies;
-      creates = tt;
-      sums = serves.sums;
-      sound = serves.sound;
-      stays = serves.stays;
-    }
+      let o : Option Descriptor = held_by (tables_of old) by fd in record {
+        step = λ backed placed. means (machine_of disk.slots old) (machine_of after.slots new) r (serves.step backed placed);
+        backed = serves.backed;
+        beside = told_beside reply.Bytes (λ s. reading.read s by fd n) copy_event old new r means serves.beside;
+        honest = serves.honest;
+        unasked = copy_unasked o copies;
+        faults = copy_faults o copies;
+        room = copy_room o copies;
+        no_room = copy_lacks o copies;
+        refused = copy_refused o copies;
+        shares = λ shared. absurd (true≢false (sym shared));
+        pages = λ shared. absurd (true≢false (sym shared));
+        publishes = λ done. copy_fills o copies;
+        creates = tt;
+        sums = serves.sums;
+        sound = serves.sound;
+        stays = serves.stays;
+      }
 
 -- A write by copying.
 module _ (by fd : ℕ) (bytes : List ℕ) (disk : Disk) (old new : KernelState) (r : Result ℕ Refusal) where

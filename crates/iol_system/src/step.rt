@@ -16,12 +16,7 @@ use iol_posix::{read_bytes, write};
 use std::alloc::{AllocError, Global};
 
 // Carries out one call of a domain, and replies.
-fn answer_call<B: Backing>(
-    kernel: &mut Kernel,
-    backing: &mut B,
-    by: DomainId,
-    call: &Call,
-) -> Reply
+fn answer_call<B: Backing>(kernel: &mut Kernel, backing: &mut B, by: DomainId, call: &Call) -> Reply
     requires { IsSound (state_of kernel.old) }
     ensures { Does (B.disk backing.old) (state_of kernel.old) (Event.Call by call.now) result
         (B.disk backing.new) (state_of kernel.new) }

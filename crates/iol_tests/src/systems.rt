@@ -92,9 +92,7 @@ fn file_calls(alloc: Global) -> Result<Vec<Event>, AllocError> {
     events.push(Event::DropClean)?;
     events.push(by_one(Call::Read { fd, count: 9 }))?;
     events.push(by_one(Call::Close { fd }))?;
-    events.push(by_one(Call::AggDrop {
-        agg: AggId::new(2),
-    }))?;
+    events.push(by_one(Call::AggDrop { agg: AggId::new(2) }))?;
     Ok(events)
 }
 

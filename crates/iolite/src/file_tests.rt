@@ -201,5 +201,9 @@ fn headers_refused(rt: HostRuntime) {
     for (script, number) in table {
         assert_bad_line(&rt, script, number);
     }
-    assert_replies(&rt, "store 1024\nstore 1 a%20b\nreport\n", "extents 0 dirty 0 buffers 0\n");
+    assert_replies(
+        &rt,
+        "store 1024\nstore 1 a%20b\nreport\n",
+        "extents 0 dirty 0 buffers 0\n",
+    );
 }
