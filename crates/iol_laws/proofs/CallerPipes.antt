@@ -1,5 +1,5 @@
 -- What the calls on pipes do for their own domain.
-use Rattle.std.proofs.Common.{◌≡◌, ℕ, List, ◌++◌, length, take, drop, ap, ◌∙◌, refl, sym, arith, Option, Some, None, true, false, Bool}
+use Rattle.std.proofs.Common.{◌≡◌, ℕ, List, [], ◌++◌, length, take, drop, ap, ◌∙◌, refl, sym, arith, Option, Some, None, true, false, Bool}
 use Rattle.std.specs.Prelude.{option_map, slice_set, unwrap_or, not, ◌||◌, if◌then◌else◌}
 use Rattle.iol_core.specs.Text.{Text, bytes_of, admitted}
 use Rattle.iol_core.specs.Numbered.{lookup, in_place, lowest, placed}
@@ -20,7 +20,7 @@ use Rattle.iol_core.specs.declared.events.Reply.TheVariants as reply
 use Rattle.iol_core.proofs.Lookups.{domain-same}
 use Rattle.iol_core.proofs.Passing.{passed, when-none}
 use Rattle.iol_laws.specs.Order.{IsOrderly}
-use Rattle.iol_laws.specs.Caller.{lent_at, ReadsPipe, WritesPipe, MakesPipe, ClosesWriteEnd}
+use Rattle.iol_laws.specs.Caller.{lent_at, ReadsPipe, WritesPipe, MakesPipe, ClosesReadEnd, ClosesWriteEnd}
 use Rattle.iol_laws.proofs.Domains.{domain-with_same, domains-with_pipe, live-first}
 use Rattle.iol_laws.proofs.Ends.{pipe-with_same}
 use Rattle.iol_laws.proofs.EndsOfCalls.{pipe-there, pipe-twice}
@@ -115,6 +115,25 @@ does_close_write_end s t d fd p reply.Done order is step =
         (ap (λ (k : Pipe). k.writing) e, λ yet. absurd (cc (unread, yet)))
 does_close_write_end s t d fd p (reply.Refused x) order is step = step.1
 does_close_write_end s t d fd p r order is step = (let e = step.1 in absurd (cc))
+
+pub does_close_read_end : (s t : State) (d fd p : ℕ) (r : Reply) → IsOrderly s → descriptor s d fd ≡ Some (on.ReadEnd p) → StepsTo s (event.Call d (call.Close fd)) r t → ClosesReadEnd s p r t
+does_close_read_end s t d fd p reply.Done order is step =
+    let x : Pipe = record (pipe_at s p) { queue = []; reading = false } in
+    let same : t ≡ fds.with_fds (with_pipe s p x) d (fds.freed s d fd) = step.2 ∙ ap (λ o. fds.with_fds (fds.closed_on s o) d (fds.freed s d fd)) is in
+    let found : pipe_at t p ≡ pipe_at (with_pipe s p x) p = ap (λ u. pipe_at u p) same ∙ pipes-with_fds (with_pipe s p x) d (fds.freed s d fd) p in
+    let reads : (pipe_at s p).reading ≡ true = order.all_stand d fd (on.ReadEnd p) is in
+    by (pipe_at s p).writing refl found (left-true (pipe_at s p).reading (pipe_at s p).writing reads)
+  where
+    by : (b : Bool) → (pipe_at s p).writing ≡ b → pipe_at t p ≡ pipe_at (with_pipe s p (record (pipe_at s p) { queue = []; reading = false })) p → ((pipe_at s p).reading || (pipe_at s p).writing) ≡ true
+        → ((pipe_at t p).reading ≡ false) × ((pipe_at t p).queue ≡ []) × ((pipe_at t p).writing ≡ (pipe_at s p).writing)
+    by true writes found was =
+        let e = found ∙ pipe-with_same s p (record (pipe_at s p) { queue = []; reading = false }) was writes in
+        (ap (λ (k : Pipe). k.reading) e, ap (λ (k : Pipe). k.queue) e, ap (λ (k : Pipe). k.writing) e)
+    by false unwritten found was =
+        let e = found ∙ pipe-gone s p (record (pipe_at s p) { queue = []; reading = false }) unwritten in
+        (ap (λ (k : Pipe). k.reading) e, ap (λ (k : Pipe). k.queue) e, ap (λ (k : Pipe). k.writing) e ∙ sym unwritten)
+does_close_read_end s t d fd p (reply.Refused x) order is step = step.1
+does_close_read_end s t d fd p r order is step = (let e = step.1 in absurd (cc))
 
 -- the two descriptors of a reply
 abbrev pub first_fd : Reply → ℕ

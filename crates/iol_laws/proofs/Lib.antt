@@ -22,6 +22,9 @@ pub mod CallerAggregates
 pub mod CallerDescriptors
 pub mod CallerPipes
 pub mod CallerGifts
+pub mod Refusing
+pub mod CallerFiles
+pub mod CallerFileBytes
 pub mod NewNumbers
 pub mod OtherCalls
 pub mod Outside

@@ -1,5 +1,6 @@
 pub mod Frame
 pub mod Order
 pub mod Caller
+pub mod CallerFiles
 pub mod Others
 pub mod History

@@ -1,5 +1,6 @@
 //! The laws. The functions do nothing; their contracts are the laws.
 ghost use Rattle.iol_laws.specs.Caller.{CallsServeTheirDomain, NumbersAreNew};
+ghost use Rattle.iol_laws.specs.CallerFiles.{FileCallsServeTheirDomain};
 ghost use Rattle.iol_laws.specs.Frame.{EachStepLeavesTheRest};
 ghost use Rattle.iol_laws.specs.History.{HistoriesAddUp};
 ghost use Rattle.iol_laws.specs.Order.{EachStepKeepsOrder};
@@ -20,6 +21,12 @@ pub fn each_step_keeps_order()
 /// What a call does for the domain that makes it, in the words that the domain sees: replies, and bytes by number.
 pub fn calls_serve_their_domain()
     ensures { CallsServeTheirDomain }
+{}
+
+/// What a call on a file does for the domain that makes it: which file is opened, what is read and written, and at which
+/// position; and which refusals may come.
+pub fn file_calls_serve_their_domain()
+    ensures { FileCallsServeTheirDomain }
 {}
 
 /// The numbers that a domain is given by its calls are new ones, and what an aggregate's number names is there.
