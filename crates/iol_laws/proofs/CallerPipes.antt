@@ -92,7 +92,7 @@ does_write_pipe s t d fd p a bytes (reply.Refused x) order is has step = step.1
 does_write_pipe s t d fd p a bytes r order is has step = (let e = step.1 in absurd (cc))
 
 -- a pipe whose ends are both closed is gone
-pipe-gone : (s : State) (p : ℕ) (x : Pipe) → (x.reading || x.writing) ≡ false → pipe_at (with_pipe s p x) p ≡ no_pipe
+pub pipe-gone : (s : State) (p : ℕ) (x : Pipe) → (x.reading || x.writing) ≡ false → pipe_at (with_pipe s p x) p ≡ no_pipe
 unfolding pipe_at with_pipe
 pipe-gone s p x off = ap (λ b. unwrap_or (in_place (slice_set s.pipes p (if b then Some x else None)) p) no_pipe) off ∙ ap (λ (o : Option Pipe). unwrap_or o no_pipe) (place-set_free s.pipes p)
 

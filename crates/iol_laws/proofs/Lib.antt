@@ -25,6 +25,8 @@ pub mod CallerGifts
 pub mod Refusing
 pub mod CallerFiles
 pub mod CallerFileBytes
+pub mod Ending
+pub mod CallerDomains
 pub mod NewNumbers
 pub mod OtherCalls
 pub mod Outside

@@ -2,5 +2,6 @@ pub mod Frame
 pub mod Order
 pub mod Caller
 pub mod CallerFiles
+pub mod CallerDomains
 pub mod Others
 pub mod History

@@ -1,5 +1,6 @@
 //! The laws. The functions do nothing; their contracts are the laws.
 ghost use Rattle.iol_laws.specs.Caller.{CallsServeTheirDomain, NumbersAreNew};
+ghost use Rattle.iol_laws.specs.CallerDomains.{DomainsAndPoolsComeAndGo};
 ghost use Rattle.iol_laws.specs.CallerFiles.{FileCallsServeTheirDomain};
 ghost use Rattle.iol_laws.specs.Frame.{EachStepLeavesTheRest};
 ghost use Rattle.iol_laws.specs.History.{HistoriesAddUp};
@@ -27,6 +28,12 @@ pub fn calls_serve_their_domain()
 /// position; and which refusals may come.
 pub fn file_calls_serve_their_domain()
     ensures { FileCallsServeTheirDomain }
+{}
+
+/// A new domain has nothing, and one that ends leaves nothing open; a new pool is read by just the domains that were named;
+/// and what is made lies in the pool that was set.
+pub fn domains_and_pools_come_and_go()
+    ensures { DomainsAndPoolsComeAndGo }
 {}
 
 /// The numbers that a domain is given by its calls are new ones, and what an aggregate's number names is there.
