@@ -1,5 +1,5 @@
 -- What reading, writing, accepting and closing do for their own domain.
-use Rattle.std.proofs.Common.{◌≡◌, ℕ, List, [], ◌++◌, length, take, drop, ap, ◌∙◌, refl, sym, arith, Option, Some, None, true, false, Bool}
+use Rattle.std.proofs.Common.{◌≡◌, ℕ, ◌≤◌, List, [], ◌++◌, length, take, drop, ap, ◌∙◌, refl, sym, arith, Option, Some, None, true, false, Bool}
 use Rattle.std.specs.Prelude.{option_map, unwrap_or, not, is_none, ◌&&◌, ◌||◌}
 use Rattle.iol_core.specs.Text.{Text, bytes_of, admitted}
 use Rattle.iol_core.specs.Numbered.{lookup, in_place, lowest, placed}
@@ -19,7 +19,7 @@ use Rattle.iol_core.specs.declared.events.Reply.TheVariants as reply
 use Rattle.iol_core.proofs.Lookups.{domain-same}
 use Rattle.iol_core.proofs.Passing.{passed, when-none}
 use Rattle.iol_laws.specs.Order.{IsOrderly}
-use Rattle.iol_laws.specs.Caller.{lent_at, ReadsConn, WritesConn, Closes, ClosesConn, Accepts}
+use Rattle.iol_laws.specs.Caller.{lent_at, Puts, ReadsConn, WritesConn, Closes, ClosesConn, Accepts}
 use Rattle.iol_laws.proofs.Connections.{conn-over, conn-with_same, conns-with_agg, conns-with_fds, conns_conn, not-over, nothing-left}
 use Rattle.iol_laws.proofs.Domains.{domain-with_same, domains-closed_on, domains-with_conn, live-first}
 use Rattle.iol_laws.proofs.Ended.{none-admitted, none-comes}
@@ -29,22 +29,25 @@ use Rattle.iol_laws.proofs.Tests.{is_some-or}
 use Rattle.iol_laws.proofs.Texts.{admitted-rest, bytes-take, length-bytes}
 use Rattle.iol_laws.proofs.Waiting.{opened-conn, waiting-is}
 
+-- a text goes behind what is to be sent
+pub puts_conn : (s t : State) (d fd c : ℕ) (bytes : List ℕ) (k : ℕ) (x : Text) → IsOrderly s → descriptor s d fd ≡ Some (on.Connection c) → k ≤ length bytes → bytes_of x ≡ take k bytes → is_gone (conn_at s c).peer ≡ false
+    → t ≡ with_conn s c (record (conn_at s c) { outgoing = (conn_at s c).outgoing ++ x }) → Puts s c bytes k t
+puts_conn s t d fd c bytes k x order is within x_is takes same =
+    let both = opened-conn s d fd c order is in
+    let y : Connection = record (conn_at s c) { outgoing = (conn_at s c).outgoing ++ x } in
+    record { text = x; within = within; text_is = x_is; takes = takes; conn = ap (λ u. conn_at u c) same ∙ conn-with_same s c y both.1 (not-over y both.0 both.1) }
+
 pub does_write_conn : (s t : State) (d fd c a : ℕ) (bytes : List ℕ) (r : Reply) → IsOrderly s → descriptor s d fd ≡ Some (on.Connection c) → lent_at s d a ≡ Some bytes → StepsTo s (event.Call d (call.IolWrite fd a)) r t → WritesConn s c bytes r t
 does_write_conn s t d fd c a bytes (reply.Count k) order is has step =
-    let both = opened-conn s d fd c order is in
     let w : Text = text s d a in
     let fit : ℕ = writing.fitting s (Some (on.Connection c)) (length w) in
     let k_is : k ≡ fit = ap number step.1 ∙ ap (λ o. writing.fitting s o (length w)) is in
-    let same : t ≡ with_conn s c (record (conn_at s c) { outgoing = (conn_at s c).outgoing ++ take fit w }) = step.2 ∙ ap (λ o. writing.written s d fd o (take (writing.fitting s o (length w)) w)) is in
+    let to : t ≡ with_conn s c (record (conn_at s c) { outgoing = (conn_at s c).outgoing ++ take fit w }) = step.2 ∙ ap (λ o. writing.written s d fd o (take (writing.fitting s o (length w)) w)) is in
+    let same = to ∙ ap (λ n. with_conn s c (record (conn_at s c) { outgoing = (conn_at s c).outgoing ++ take n w })) (sym k_is) in
     let broken = when-none refuse.BrokenPipe (writing.is_broken s (descriptor s d fd)) (passed (writing.iol_write s d fd a).refusals 5 step.0) in
     let text_is = text-of s d a bytes has in
-    record {
-      text = take k w;
-      within = (let e = ap (λ (l : List ℕ). length l) text_is in let l : length (bytes_of w) ≡ length w = length-bytes w in omega (arith, k_is, e, l));
-      text_is = bytes-take k w ∙ ap (λ (l : List ℕ). take k l) text_is;
-      takes = sym (ap (λ o. writing.is_broken s o) is) ∙ broken;
-      conn = ap (λ u. conn_at u c) same ∙ (conn-with_same s c _ both.1 (not-over (record (conn_at s c) { outgoing = (conn_at s c).outgoing ++ take fit w }) both.0 both.1) ∙ ap (λ n. record (conn_at s c) { outgoing = (conn_at s c).outgoing ++ take n w }) (sym k_is));
-    }
+    let within : k ≤ length bytes = (let e = ap (λ (l : List ℕ). length l) text_is in let l : length (bytes_of w) ≡ length w = length-bytes w in omega (arith, k_is, e, l)) in
+    puts_conn s t d fd c bytes k (take k w) order is within (bytes-take k w ∙ ap (λ (l : List ℕ). take k l) text_is) (sym (ap (λ o. writing.is_broken s o) is) ∙ broken) same
 does_write_conn s t d fd c a bytes (reply.Refused x) order is has step = step.1
 does_write_conn s t d fd c a bytes r order is has step = (let e = step.1 in absurd (cc))
 

@@ -41,32 +41,37 @@ none_waits : (b : Bool) → first ((refuse.WouldBlock when (b && true && false))
 none_waits true = refl
 none_waits false = refl
 
--- the refusals that are left where the file may be read
-abbrev rough_late : State → Option Descriptor → (many : Bool) → Refusal → Type 0
-rough_late s o many x = MatchOption (first ((refuse.TooMany when many) ∷ [])) (reading.read_late s o x) (λ y. x ≡ y)
+-- the refusals that are left where the file may be read: none
+pub file-left : (s : State) (d f at n : ℕ) (mode : Mode) → may_read s d (file s f).pool ≡ true → reading.reads mode ≡ true → let o : Option Descriptor = Some (on.File f at mode) in first ((refuse.WrongMode when not (reading.can_read o)) ∷ reading.read_denied s d o n ∷ (refuse.WouldBlock when reading.must_wait s o n) ∷ []) ≡ None
+file-left s d f at n mode may reads =
+    past (refuse.WrongMode when not (reading.reads mode)) _ (ap (λ b. refuse.WrongMode when not b) reads)
+    ∙ (past (refuse.Denied (file s f).pool when not (may_read s d (file s f).pool)) _ (ap (λ b. refuse.Denied (file s f).pool when not b) may)
+    ∙ none_waits (nat_lt 0 n))
 
 read-left : (s : State) (d fd f at n : ℕ) (mode : Mode) → is_live s d ≡ true → may_read s d (file s f).pool ≡ true → reading.reads mode ≡ true → descriptor s d fd ≡ Some (on.File f at mode)
     → first (reading.iol_read s d fd n).refusals ≡ first ((refuse.TooMany when aggs.too_many_aggs s d 1 0) ∷ [])
 read-left s d fd f at n mode live may reads is =
-    let o : Option Descriptor = descriptor s d fd in
-    let many : Bool = aggs.too_many_aggs s d 1 0 in
-    let x : Option Descriptor = Some (on.File f at mode) in
     past-live s d _ live
     ∙ (ap (λ o. first ((refuse.BadFd when is_none o) ∷ (refuse.WrongMode when not (reading.can_read o)) ∷ (refuse.TooMany when many) ∷ reading.read_denied s d o n ∷ (refuse.WouldBlock when reading.must_wait s o n) ∷ [])) is
-    ∙ (past (refuse.WrongMode when not (reading.reads mode)) ((refuse.TooMany when many) ∷ reading.read_denied s d x n ∷ (refuse.WouldBlock when reading.must_wait s x n) ∷ []) (ap (λ b. refuse.WrongMode when not b) reads)
-    ∙ (ap (λ b. first ((refuse.TooMany when many) ∷ (refuse.Denied (file s f).pool when not b) ∷ (refuse.WouldBlock when reading.must_wait s x n) ∷ [])) may
-    ∙ last many)))
+    ∙ by (refuse.WrongMode when not (reading.reads mode)) many (reading.read_denied s d (Some (on.File f at mode)) n) (refuse.WouldBlock when reading.must_wait s (Some (on.File f at mode)) n) (file-left s d f at n mode may reads))
   where
-    last : (b : Bool) → first ((refuse.TooMany when b) ∷ None ∷ (refuse.WouldBlock when (nat_lt 0 n && true && false)) ∷ []) ≡ first ((refuse.TooMany when b) ∷ [])
-    last true = refl
-    last false = none_waits (nat_lt 0 n)
+    many : Bool
+    many = aggs.too_many_aggs s d 1 0
 
-late-rough : (s : State) (f at : ℕ) (mode : Mode) (x : Refusal) (b : Bool) → rough_late s (Some (on.File f at mode)) b x → is_rough (reply.Refused x) ≡ true
+    by : (x : Option Refusal) (b : Bool) (y z : Option Refusal) → first (x ∷ y ∷ z ∷ []) ≡ None → first (x ∷ (refuse.TooMany when b) ∷ y ∷ z ∷ []) ≡ first ((refuse.TooMany when b) ∷ [])
+    by None true y z none = refl
+    by None false y z none = none
+    by (Some x) b y z none = absurd (cc)
+
+pub rough-late : (s : State) (f at : ℕ) (mode : Mode) (x : Refusal) → reading.read_late s (Some (on.File f at mode)) x → is_rough (reply.Refused x) ≡ true
+rough-late s f at mode (refuse.NoRoom p) is = refl
+rough-late s f at mode (refuse.Fault g) is = refl
+rough-late s f at mode refuse.Memory is = refl
+rough-late s f at mode x is = absurd is
+
+late-rough : (s : State) (f at : ℕ) (mode : Mode) (x : Refusal) (b : Bool) → MatchOption (first ((refuse.TooMany when b) ∷ [])) (reading.read_late s (Some (on.File f at mode)) x) (λ y. x ≡ y) → is_rough (reply.Refused x) ≡ true
 late-rough s f at mode x true is = ap (λ z. is_rough (reply.Refused z)) is
-late-rough s f at mode (refuse.NoRoom p) false is = refl
-late-rough s f at mode (refuse.Fault g) false is = refl
-late-rough s f at mode refuse.Memory false is = refl
-late-rough s f at mode x false is = absurd is
+late-rough s f at mode x false is = rough-late s f at mode x is
 
 pub does_read_file : (s t : State) (d fd f at n : ℕ) (mode : Mode) (r : Reply) → IsOrderly s → is_live s d ≡ true → may_read s d (file s f).pool ≡ true → reading.reads mode ≡ true → descriptor s d fd ≡ Some (on.File f at mode) → StepsTo s (event.Call d (call.IolRead fd n)) r t → ReadsFile s d fd f at mode (take n (drop at (content s f))) r t
 does_read_file s t d fd f at n mode (reply.Agg a) order live may reads is step =
@@ -118,7 +123,7 @@ has-slot s d fd f at mode placed is =
     grind (arith, nat_tests, common_steps, there, few, slots)
 
 -- the file after a write of all of these bytes
-wrote : (s : State) (d fd f at : ℕ) (mode : Mode) (bytes : List ℕ) → ArePlaced s → is_live s d ≡ true → descriptor s d fd ≡ Some (on.File f at mode)
+pub wrote : (s : State) (d fd f at : ℕ) (mode : Mode) (bytes : List ℕ) → ArePlaced s → is_live s d ≡ true → descriptor s d fd ≡ Some (on.File f at mode)
     → let u : State = fds.with_descriptor (with_content s f (laid_over (content s f) at bytes)) d fd (Some (on.File f (at + length bytes) mode)) in (content u f ≡ laid_over (content s f) at bytes) × (descriptor u d fd ≡ Some (on.File f (at + length bytes) mode))
 wrote s d fd f at mode bytes placed live is =
     let filled : State = with_content s f (laid_over (content s f) at bytes) in
@@ -131,7 +136,7 @@ wrote s d fd f at mode bytes placed live is =
     domains-filled = domain-same s (with_content s f (laid_over (content s f) at bytes)) d (same-domains s f (laid_over (content s f) at bytes))
 
 -- the refusals that are left where a file is written
-write-left : (s : State) (f at n : ℕ) (mode : Mode) → writing.writes mode ≡ true
+pub write-left : (s : State) (f at n : ℕ) (mode : Mode) → writing.writes mode ≡ true
     → first ((refuse.WrongMode when not (writing.writes mode)) ∷ (refuse.TooLong when nat_lt MAX_FILE_BYTES (at + n)) ∷ (refuse.BrokenPipe when false) ∷ (refuse.WouldBlock when (nat_lt 0 n && (n == 0))) ∷ []) ≡ first ((refuse.TooLong when nat_lt MAX_FILE_BYTES (at + n)) ∷ [])
 write-left s f at n mode writes = past (refuse.WrongMode when not (writing.writes mode)) _ (ap (λ b. refuse.WrongMode when not b) writes) ∙ by (nat_lt MAX_FILE_BYTES (at + n)) (nat_lt 0 n && (n == 0)) never
   where

@@ -25,6 +25,7 @@ pub mod CallerGifts
 pub mod Refusing
 pub mod CallerFiles
 pub mod CallerFileBytes
+pub mod CallerCopies
 pub mod Ending
 pub mod CallerDomains
 pub mod NewNumbers

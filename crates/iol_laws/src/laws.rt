@@ -1,5 +1,6 @@
 //! The laws. The functions do nothing; their contracts are the laws.
 ghost use Rattle.iol_laws.specs.Caller.{CallsServeTheirDomain, NumbersAreNew};
+ghost use Rattle.iol_laws.specs.CallerCopies.{CopyingCallsServeTheirDomain};
 ghost use Rattle.iol_laws.specs.CallerDomains.{DomainsAndPoolsComeAndGo};
 ghost use Rattle.iol_laws.specs.CallerFiles.{FileCallsServeTheirDomain};
 ghost use Rattle.iol_laws.specs.Frame.{EachStepLeavesTheRest};
@@ -28,6 +29,11 @@ pub fn calls_serve_their_domain()
 /// position; and which refusals may come.
 pub fn file_calls_serve_their_domain()
     ensures { FileCallsServeTheirDomain }
+{}
+
+/// The calls that copy write and read what those on aggregates do, and leave all that their domain has under a number.
+pub fn copying_calls_serve_their_domain()
+    ensures { CopyingCallsServeTheirDomain }
 {}
 
 /// A new domain has nothing, and one that ends leaves nothing open; a new pool is read by just the domains that were named;
