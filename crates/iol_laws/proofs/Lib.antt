@@ -22,6 +22,12 @@ pub mod CallerAggregates
 pub mod CallerDescriptors
 pub mod CallerPipes
 pub mod CallerGifts
+pub mod Refusing
+pub mod CallerFiles
+pub mod CallerFileBytes
+pub mod CallerCopies
+pub mod Ending
+pub mod CallerDomains
 pub mod NewNumbers
 pub mod OtherCalls
 pub mod Outside

@@ -1,5 +1,8 @@
 //! The laws. The functions do nothing; their contracts are the laws.
 ghost use Rattle.iol_laws.specs.Caller.{CallsServeTheirDomain, NumbersAreNew};
+ghost use Rattle.iol_laws.specs.CallerCopies.{CopyingCallsServeTheirDomain};
+ghost use Rattle.iol_laws.specs.CallerDomains.{DomainsAndPoolsComeAndGo};
+ghost use Rattle.iol_laws.specs.CallerFiles.{FileCallsServeTheirDomain};
 ghost use Rattle.iol_laws.specs.Frame.{EachStepLeavesTheRest};
 ghost use Rattle.iol_laws.specs.History.{HistoriesAddUp};
 ghost use Rattle.iol_laws.specs.Order.{EachStepKeepsOrder};
@@ -20,6 +23,23 @@ pub fn each_step_keeps_order()
 /// What a call does for the domain that makes it, in the words that the domain sees: replies, and bytes by number.
 pub fn calls_serve_their_domain()
     ensures { CallsServeTheirDomain }
+{}
+
+/// What a call on a file does for the domain that makes it: which file is opened, what is read and written, and at which
+/// position; and which refusals may come.
+pub fn file_calls_serve_their_domain()
+    ensures { FileCallsServeTheirDomain }
+{}
+
+/// The calls that copy write and read what those on aggregates do, and leave all that their domain has under a number.
+pub fn copying_calls_serve_their_domain()
+    ensures { CopyingCallsServeTheirDomain }
+{}
+
+/// A new domain has nothing, and one that ends leaves nothing open; a new pool is read by just the domains that were named;
+/// and what is made lies in the pool that was set.
+pub fn domains_and_pools_come_and_go()
+    ensures { DomainsAndPoolsComeAndGo }
 {}
 
 /// The numbers that a domain is given by its calls are new ones, and what an aggregate's number names is there.
