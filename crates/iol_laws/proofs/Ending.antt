@@ -104,11 +104,11 @@ is_write_end p (Some (on.WriteEnd q)) = q == p
 is_write_end p o = false
 
 -- a pipe whose ends may have been closed
-record MayShut (k u : Pipe) (reads writes : Bool) : Type 0 where
-  reading : u.reading ≡ (k.reading && not reads)
-  writing : u.writing ≡ (k.writing && not writes)
-  kept : reads ≡ false → k.reading ≡ true → u.queue ≡ k.queue
-  emptied : (reads ≡ true) ⊎ (k.queue ≡ []) → u.queue ≡ []
+pub record MayShut (k u : Pipe) (reads writes : Bool) : Type 0 where
+  pub reading : u.reading ≡ (k.reading && not reads)
+  pub writing : u.writing ≡ (k.writing && not writes)
+  pub kept : reads ≡ false → (u.reading || u.writing) ≡ true → u.queue ≡ k.queue
+  pub emptied : (reads ≡ true) ⊎ (k.queue ≡ []) → u.queue ≡ []
 
 and-true : (b : Bool) → b ≡ (b && true)
 and-true true = refl
@@ -122,7 +122,7 @@ unshut : (k u : Pipe) → u ≡ k → MayShut k u false false
 unshut k u same = record {
   reading = ap (λ (z : Pipe). z.reading) same ∙ and-true k.reading;
   writing = ap (λ (z : Pipe). z.writing) same ∙ and-true k.writing;
-  kept = λ is reads. ap (λ (z : Pipe). z.queue) same;
+  kept = λ is lives. ap (λ (z : Pipe). z.queue) same;
   emptied = λ is. ap (λ (z : Pipe). z.queue) same ∙ empty is;
 }
   where
@@ -142,7 +142,7 @@ shut_reads s p = by (pipe_at s p).writing refl
         record {
           reading = ap (λ (z : Pipe). z.reading) e ∙ and-false (pipe_at s p).reading;
           writing = ap (λ (z : Pipe). z.writing) e ∙ and-true (pipe_at s p).writing;
-          kept = λ is reads. absurd (cc);
+          kept = λ is lives. absurd (cc);
           emptied = λ is. ap (λ (z : Pipe). z.queue) e;
         }
     by false unwritten =
@@ -150,7 +150,7 @@ shut_reads s p = by (pipe_at s p).writing refl
         record {
           reading = ap (λ (z : Pipe). z.reading) e ∙ and-false (pipe_at s p).reading;
           writing = ap (λ (z : Pipe). z.writing) e ∙ (sym unwritten ∙ and-true (pipe_at s p).writing);
-          kept = λ is reads. absurd (cc);
+          kept = λ is lives. absurd (cc);
           emptied = λ is. ap (λ (z : Pipe). z.queue) e;
         }
 
@@ -170,7 +170,7 @@ shut_writes s p = by (pipe_at s p).reading refl
         record {
           reading = ap (λ (z : Pipe). z.reading) e ∙ and-true (pipe_at s p).reading;
           writing = ap (λ (z : Pipe). z.writing) e ∙ and-false (pipe_at s p).writing;
-          kept = λ is on. ap (λ (z : Pipe). z.queue) e;
+          kept = λ is lives. ap (λ (z : Pipe). z.queue) e;
           emptied = λ is. ap (λ (z : Pipe). z.queue) e ∙ empty is;
         }
     by false unread =
@@ -179,11 +179,11 @@ shut_writes s p = by (pipe_at s p).reading refl
         record {
           reading = ap (λ (z : Pipe). z.reading) e ∙ (sym unread ∙ and-true (pipe_at s p).reading);
           writing = ap (λ (z : Pipe). z.writing) e ∙ and-false (pipe_at s p).writing;
-          kept = λ is on. absurd (cc (unread, on));
+          kept = λ is lives. absurd (let gone = ap (λ (z : Pipe). z.reading || z.writing) e in cc (gone, lives));
           emptied = λ is. ap (λ (z : Pipe). z.queue) e;
         }
 
-may_shut : (s : State) (o : Option Descriptor) (p : ℕ) → MayShut (pipe_at s p) (pipe_at (fds.closed_on s o) p) (is_read_end p o) (is_write_end p o)
+pub may_shut : (s : State) (o : Option Descriptor) (p : ℕ) → MayShut (pipe_at s p) (pipe_at (fds.closed_on s o) p) (is_read_end p o) (is_write_end p o)
 may_shut s None p = unshut (pipe_at s p) (pipe_at s p) refl
 may_shut s (Some (on.File f at mode)) p = unshut (pipe_at s p) (pipe_at s p) refl
 may_shut s (Some (on.Connection c)) p = unshut (pipe_at s p) _ (pipes_closed_on s (Some (on.Connection c)) p refl)
@@ -201,7 +201,7 @@ shut_then : (k u v : Pipe) (r w x y : Bool) → MayShut k u r w → MayShut u v 
 shut_then k u v r w x y one two = record {
   reading = two.reading ∙ (ap (λ b. b && not x) one.reading ∙ both k.reading r x);
   writing = two.writing ∙ (ap (λ b. b && not y) one.writing ∙ both k.writing w y);
-  kept = λ is reads. (let parts = split r x is in two.kept parts.1 (one.reading ∙ alive k.reading r reads parts.0) ∙ one.kept parts.0 reads);
+  kept = λ is lives. (let parts = split r x is in two.kept parts.1 lives ∙ one.kept parts.0 (still u.reading u.writing (not x) (not y) (sym (ap (λ b. b || v.writing) two.reading ∙ ap (λ b. (u.reading && not x) || b) two.writing) ∙ lives)));
   emptied = λ is. two.emptied (empties r x refl is);
 }
   where
@@ -212,15 +212,15 @@ shut_then k u v r w x y one two = record {
     split false b is = (refl, is)
     split true b is = absurd (cc)
 
-    alive : (a b : Bool) → a ≡ true → b ≡ false → (a && not b) ≡ true
-    alive a b is un = grind (arith, is, un)
+    still : (a b c d : Bool) → ((a && c) || (b && d)) ≡ true → (a || b) ≡ true
+    still a b c d is = grind (arith, is)
 
     empties : (a b : Bool) → r ≡ a → ((a || b) ≡ true) ⊎ (k.queue ≡ []) → (b ≡ true) ⊎ (u.queue ≡ [])
     empties true b r_is is = inr (one.emptied (inl r_is))
     empties false b r_is (inl is) = inl is
     empties false b r_is (inr is) = inr (one.emptied (inr is))
 
-all_shut : (s : State) (list : List (Option Descriptor)) (p : ℕ) → MayShut (pipe_at s p) (pipe_at (fold fds.closed_on s list) p) (list_any (is_read_end p) list) (list_any (is_write_end p) list)
+pub all_shut : (s : State) (list : List (Option Descriptor)) (p : ℕ) → MayShut (pipe_at s p) (pipe_at (fold fds.closed_on s list) p) (list_any (is_read_end p) list) (list_any (is_write_end p) list)
 all_shut s [] p = unshut (pipe_at s p) (pipe_at s p) refl
 all_shut s (o ∷ list) p =
     let both = shut_then (pipe_at s p) (pipe_at (fds.closed_on s o) p) (pipe_at (fold fds.closed_on s (o ∷ list)) p) (is_read_end p o) (is_write_end p o) (list_any (is_read_end p) list) (list_any (is_write_end p) list) (may_shut s o p) (all_shut (fds.closed_on s o) list p) in
@@ -245,18 +245,31 @@ write_end_ended s list fd p is =
     let one : is_write_end p (Some (on.WriteEnd p)) ≡ true = grind (arith, nat_tests) in
     all.writing ∙ and-not (pipe_at s p).writing (list_any (is_write_end p) list) (some-open (is_write_end p) list fd (on.WriteEnd p) is one)
 
+-- the tests of one that has not this end
+pub not-reading : (p : ℕ) (o : Option Descriptor) → (o ≡ Some (on.ReadEnd p) → ⊥) → is_read_end p o ≡ false
+not-reading p None never = refl
+not-reading p (Some (on.File f at mode)) never = refl
+not-reading p (Some (on.WriteEnd q)) never = refl
+not-reading p (Some (on.Connection c)) never = refl
+not-reading p (Some (on.ReadEnd q)) never = elim (cases_eq q p) [ inl same ↦ absurd (never (ap (λ k. Some (on.ReadEnd k)) same)) | inr differ ↦ grind (arith, nat_tests, differ) ]
+
+pub not-writing : (p : ℕ) (o : Option Descriptor) → (o ≡ Some (on.WriteEnd p) → ⊥) → is_write_end p o ≡ false
+not-writing p None never = refl
+not-writing p (Some (on.File f at mode)) never = refl
+not-writing p (Some (on.ReadEnd q)) never = refl
+not-writing p (Some (on.Connection c)) never = refl
+not-writing p (Some (on.WriteEnd q)) never = elim (cases_eq q p) [ inl same ↦ absurd (never (ap (λ k. Some (on.WriteEnd k)) same)) | inr differ ↦ grind (arith, nat_tests, differ) ]
+
+pub none-reading : (p : ℕ) (list : List (Option Descriptor)) → ((fd : ℕ) → in_place list fd ≡ Some (on.ReadEnd p) → ⊥) → list_any (is_read_end p) list ≡ false
+none-reading p list nobody = none-open (is_read_end p) list refl (λ n x is. sym (ap (is_read_end p) is) ∙ not-reading p (in_place list n) (nobody n))
+
+pub none-writing : (p : ℕ) (list : List (Option Descriptor)) → ((fd : ℕ) → in_place list fd ≡ Some (on.WriteEnd p) → ⊥) → list_any (is_write_end p) list ≡ false
+none-writing p list nobody = none-open (is_write_end p) list refl (λ n x is. sym (ap (is_write_end p) is) ∙ not-writing p (in_place list n) (nobody n))
+
 -- what nobody among them read stays to be read
 pub unread_ended : (s : State) (list : List (Option Descriptor)) (p : ℕ) → ((fd : ℕ) → in_place list fd ≡ Some (on.ReadEnd p) → ⊥) → (pipe_at s p).reading ≡ true → let u : Pipe = pipe_at (fold fds.closed_on s list) p in (u.reading ≡ true) × (u.queue ≡ (pipe_at s p).queue)
 unread_ended s list p nobody reads =
     let all = all_shut s list p in
-    let none = none-open (is_read_end p) list refl (λ n x is. other n x is) in
-    (all.reading ∙ grind (arith, none, reads), all.kept none reads)
-  where
-    other : (n : ℕ) (x : Descriptor) → in_place list n ≡ Some x → is_read_end p (Some x) ≡ false
-    other n (on.File f at mode) is = refl
-    other n (on.WriteEnd q) is = refl
-    other n (on.Connection c) is = refl
-    other n (on.ReadEnd q) is = elim (cases_eq q p) [
-      | inl same ↦ absurd (nobody n (is ∙ ap (λ k. Some (on.ReadEnd k)) same))
-      | inr differ ↦ grind (arith, nat_tests, differ)
-    ]
+    let none = none-reading p list nobody in
+    let on_yet : (pipe_at (fold fds.closed_on s list) p).reading ≡ true = all.reading ∙ grind (arith, none, reads) in
+    (on_yet, all.kept none (left-true _ _ on_yet))

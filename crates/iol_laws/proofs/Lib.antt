@@ -6,6 +6,7 @@ pub mod LeftConnections
 pub mod LeftPipes
 pub mod LeftDescriptors
 pub mod LeftFiles
+pub mod LeftDomains
 pub mod Leaving
 pub mod Accepted
 pub mod Waiting
@@ -30,6 +31,7 @@ pub mod Ending
 pub mod CallerDomains
 pub mod NewNumbers
 pub mod OtherCalls
+pub mod OtherPipes
 pub mod Outside
 pub mod Unread
 pub mod Unsent

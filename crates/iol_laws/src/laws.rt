@@ -6,7 +6,7 @@ ghost use Rattle.iol_laws.specs.CallerFiles.{FileCallsServeTheirDomain};
 ghost use Rattle.iol_laws.specs.Frame.{EachStepLeavesTheRest};
 ghost use Rattle.iol_laws.specs.History.{HistoriesAddUp};
 ghost use Rattle.iol_laws.specs.Order.{EachStepKeepsOrder};
-ghost use Rattle.iol_laws.specs.Others.{OthersLeaveConnections};
+ghost use Rattle.iol_laws.specs.Others.{OthersLeaveConnections, OthersLeavePipes};
 
 /// Each step leaves what its event does not touch: connections, pipes, descriptors, files, the lists of pools, and the
 /// aggregates that nobody gives up.
@@ -15,7 +15,7 @@ pub fn each_step_leaves_the_rest()
 {}
 
 /// A new state is orderly, and each step keeps it so: each end of a pipe and each connection is open in one descriptor
-/// at most, what is open stands, and numbers that are still to come are not used yet.
+/// at most, what is open stands, and numbers that are still to come are not used yet. So are access and positions.
 pub fn each_step_keeps_order()
     ensures { EachStepKeepsOrder }
 {}
@@ -51,6 +51,12 @@ pub fn numbers_are_new()
 /// what happens outside changes what its event names.
 pub fn others_leave_connections()
     ensures { OthersLeaveConnections }
+{}
+
+/// A pipe of which a domain has no end is left by its calls; one that cannot read it takes nothing from it, and one that cannot
+/// write to it adds nothing.
+pub fn others_leave_pipes()
+    ensures { OthersLeavePipes }
 {}
 
 /// What came in on each connection and what was sent on it, over a run's events and replies: what is unread is the end of
