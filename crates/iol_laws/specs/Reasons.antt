@@ -1,0 +1,34 @@
+-- What a refusal tells the domain that is refused: why nothing can be read, written or accepted now.
+use Rattle.std.specs.Prelude.{◌≡◌, ℕ, ◌≤◌, true, false, [], ◌∷◌, length, Some, None}
+use Rattle.iol_core.specs.Text.{Text}
+use Rattle.iol_core.specs.State.{State, descriptor, may_read, conn_at, pipe_at, is_gone}
+use Rattle.iol_core.specs.Run.{StepsTo}
+use Rattle.iol_core.specs.declared.limits.TheConstants.{MAX_QUEUE_BYTES}
+use Rattle.iol_core.specs.declared.descriptors.Descriptor.TheVariants as on
+use Rattle.iol_core.specs.declared.refusals.Refusal.TheVariants.{WouldBlock, BrokenPipe, Denied}
+use Rattle.iol_core.specs.declared.events.Call.TheVariants as call
+use Rattle.iol_core.specs.declared.events.Event.TheVariants as event
+use Rattle.iol_core.specs.declared.events.Reply.TheVariants as reply
+
+-- the first byte is of this pool, which the domain may not read
+pub record IsHidden (s : State) (d p : ℕ) (text : Text) : Type 0 where
+  pub byte : ℕ
+  pub rest : Text
+  pub text_is : text ≡ (byte, p) ∷ rest
+  pub may_not : may_read s d p ≡ false
+
+pub record RefusalsTellWhy : Type 0 where
+  -- nothing is there to be read, and something may come
+  pub conn_is_empty : (s t : State) (d fd c n : ℕ) → descriptor s d fd ≡ Some (on.Connection c) → StepsTo s (event.Call d (call.IolRead fd n)) (reply.Refused WouldBlock) t → ((conn_at s c).incoming ≡ []) × ((conn_at s c).peer ≡ None)
+  pub pipe_is_empty : (s t : State) (d fd p n : ℕ) → descriptor s d fd ≡ Some (on.ReadEnd p) → StepsTo s (event.Call d (call.IolRead fd n)) (reply.Refused WouldBlock) t → ((pipe_at s p).queue ≡ []) × ((pipe_at s p).writing ≡ true)
+  -- what is there the domain may not read
+  pub conn_is_hidden : (s t : State) (d fd c n q : ℕ) → descriptor s d fd ≡ Some (on.Connection c) → StepsTo s (event.Call d (call.IolRead fd n)) (reply.Refused (Denied q)) t → IsHidden s d q (conn_at s c).incoming
+  pub pipe_is_hidden : (s t : State) (d fd p n q : ℕ) → descriptor s d fd ≡ Some (on.ReadEnd p) → StepsTo s (event.Call d (call.IolRead fd n)) (reply.Refused (Denied q)) t → IsHidden s d q (pipe_at s p).queue
+  -- as much waits as may
+  pub conn_is_full : (s t : State) (d fd c a : ℕ) → descriptor s d fd ≡ Some (on.Connection c) → StepsTo s (event.Call d (call.IolWrite fd a)) (reply.Refused WouldBlock) t → MAX_QUEUE_BYTES ≤ length (conn_at s c).outgoing
+  pub pipe_is_full : (s t : State) (d fd p a : ℕ) → descriptor s d fd ≡ Some (on.WriteEnd p) → StepsTo s (event.Call d (call.IolWrite fd a)) (reply.Refused WouldBlock) t → MAX_QUEUE_BYTES ≤ length (pipe_at s p).queue
+  -- nobody takes it any more
+  pub peer_is_gone : (s t : State) (d fd c a : ℕ) → descriptor s d fd ≡ Some (on.Connection c) → StepsTo s (event.Call d (call.IolWrite fd a)) (reply.Refused BrokenPipe) t → is_gone (conn_at s c).peer ≡ true
+  pub nobody_reads : (s t : State) (d fd p a : ℕ) → descriptor s d fd ≡ Some (on.WriteEnd p) → StepsTo s (event.Call d (call.IolWrite fd a)) (reply.Refused BrokenPipe) t → (pipe_at s p).reading ≡ false
+  -- each connection that waits is one that the domain may not accept
+  pub nobody_waits : (s t : State) (d c : ℕ) → StepsTo s (event.Call d call.Accept) (reply.Refused WouldBlock) t → (conn_at s c).accepted ≡ false → may_read s d (conn_at s c).pool ≡ false
