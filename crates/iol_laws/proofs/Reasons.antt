@@ -6,8 +6,8 @@ use Rattle.std.proofs.lemmas.Bool.Decides.{nat_tests}
 use Rattle.std.proofs.lemmas.Grind.{common_steps}
 use Rattle.iol_core.specs.Text.{Text, barred}
 use Rattle.iol_core.specs.Numbered.{lookup}
-use Rattle.iol_core.specs.State.{State, Connection, descriptor, text, may_read, conn_at, pipe_at, is_gone}
-use Rattle.iol_core.specs.Meaning.{first, ◌when◌}
+use Rattle.iol_core.specs.State.{State, Connection, aggregate, is_live, descriptor, text, may_read, conn_at, pipe_at, is_gone}
+use Rattle.iol_core.specs.Meaning.{first, ◌when◌, Never}
 use Rattle.iol_core.specs.Run.{StepsTo}
 use Rattle.iol_core.specs.Calls.Descriptors as fds
 use Rattle.iol_core.specs.Calls.Reading as reading
@@ -19,9 +19,13 @@ use Rattle.iol_core.specs.declared.descriptors.Descriptor.{Descriptor}
 use Rattle.iol_core.specs.declared.descriptors.Descriptor.TheVariants as on
 use Rattle.iol_core.specs.declared.events.Call.TheVariants as call
 use Rattle.iol_core.specs.declared.events.Event.TheVariants as event
+use Rattle.iol_core.specs.declared.events.Reply.{Reply}
 use Rattle.iol_core.specs.declared.events.Reply.TheVariants as reply
+use Rattle.iol_laws.specs.Caller.{lent_at}
 use Rattle.iol_laws.specs.Reasons.{IsHidden}
 use Rattle.iol_laws.proofs.Connections.{conn-found, conn-unmade}
+use Rattle.iol_laws.proofs.Numbers.{agg-there}
+use Rattle.iol_laws.proofs.Refusing.{past, past-live}
 
 -- a refusal that is no late one is the first that holds
 said : (o : Option Refusal) (x : Refusal) → MatchOption o ⊥ (λ y. x ≡ y) → o ≡ Some x
@@ -236,3 +240,15 @@ nobody_waits s t d c step waits = by (lookup s.conns c) refl
         barred_by : (a b : Bool) → a ≡ false → (not a && b) ≡ false → b ≡ false
         barred_by false b yet fails = fails
         barred_by true b yet fails = absurd (cc)
+
+-- What is not refused.
+
+pub close_is_done : (s t : State) (d fd : ℕ) (x : Descriptor) (r : Reply) → is_live s d ≡ true → descriptor s d fd ≡ Some x → StepsTo s (event.Call d (call.Close fd)) r t → r ≡ reply.Done
+close_is_done s t d fd x reply.Done live is step = refl
+close_is_done s t d fd x (reply.Refused y) live is step = absurd (subst (λ o. MatchOption o (Never y) (λ z. y ≡ z)) (past-live s d _ live ∙ past (refuse.BadFd when is_none (descriptor s d fd)) [] (ap (λ o. refuse.BadFd when is_none o) is)) step.0)
+close_is_done s t d fd x r live is step = (let e = step.1 in absurd (cc))
+
+pub drop_is_done : (s t : State) (d a : ℕ) (bytes : List ℕ) (r : Reply) → is_live s d ≡ true → lent_at s d a ≡ Some bytes → StepsTo s (event.Call d (call.AggDrop a)) r t → r ≡ reply.Done
+drop_is_done s t d a bytes reply.Done live has step = refl
+drop_is_done s t d a bytes (reply.Refused y) live has step = absurd (subst (λ o. MatchOption o (Never y) (λ z. y ≡ z)) (past-live s d _ live ∙ past (refuse.BadAgg when is_none (aggregate s d a)) [] (ap (λ b. refuse.BadAgg when b) (agg-there s d a bytes has))) step.0)
+drop_is_done s t d a bytes r live has step = (let e = step.1 in absurd (cc))

@@ -44,7 +44,8 @@ pub fn domains_and_pools_come_and_go()
     ensures { DomainsAndPoolsComeAndGo }
 {}
 
-/// Why a domain's read, write or `accept` of a queue is refused: nothing is there, as much waits as may, or nobody takes it.
+/// Why a domain's read, write or `accept` of a queue is refused: nothing is there, as much waits as may, or nobody takes it. What
+/// is there is closed and dropped with no refusal.
 pub fn refusals_tell_why()
     ensures { RefusalsTellWhy }
 {}
