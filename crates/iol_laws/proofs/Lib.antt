@@ -24,6 +24,7 @@ pub mod CallerDescriptors
 pub mod CallerPipes
 pub mod CallerGifts
 pub mod Refusing
+pub mod Reasons
 pub mod CallerFiles
 pub mod CallerFileBytes
 pub mod CallerCopies

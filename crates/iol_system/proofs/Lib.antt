@@ -1,6 +1,7 @@
 pub mod Chains
 pub mod Safe
 pub mod Beside
+pub mod Orderly
 pub mod Used
 pub mod Paged
 pub mod Empty
