@@ -9,6 +9,7 @@ ghost use Rattle.iol_back.specs.Disk.{Disk};
 ghost use Rattle.iol_hold.specs.Pages.{KeepsPages};
 ghost use Rattle.iol_cache.specs.Cached.{extents_in};
 ghost use Rattle.iol_cache.specs.Evicting.{AllDirty};
+ghost use Rattle.iol_cache.specs.Keeping.{KeepsDirty};
 ghost use Rattle.iol_kernel.specs.KernelState.{IsSound};
 ghost use Rattle.iol_kernel.specs.Readings.{Reading};
 ghost use Rattle.iol_kernel.specs.WritingBack.{FlushesOne, SyncsFile};
@@ -110,6 +111,7 @@ impl Kernel {
         ensures serves { (disk : Disk) → Serves outside.drop_clean disk self.old (Ok tt) disk self.new }
         ensures pages { KeepsPages self.old.store self.new.store [] }
         ensures none { (f : ℕ) → AllDirty (extents_in (state_of self.new).cache.files f) }
+        ensures keeps { KeepsDirty (state_of self.old).cache (state_of self.new).cache }
     {
         self.files.cache.drop_clean(&mut self.store);
     }

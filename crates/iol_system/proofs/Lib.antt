@@ -8,3 +8,5 @@ pub mod Empty
 pub mod Served
 pub mod Doing
 pub mod FileDoing
+pub mod WrittenBack
+pub mod InPlace

@@ -75,9 +75,15 @@ module _ (old new : SystemState) (e : Event) (r : Reply) (safe : IsSafe old) (do
     refused = λ unused was. ap (λ (d : Disk). system_of new.kernel d) (untouched unused was) ∙ ap (λ (h : KernelState). system_of h old.disk) (does.refused unused was);
     shares = does.shares;
     pages = does.pages;
+    in_place = does.in_place;
+    shares_file = does.shares_file;
     publishes = does.publishes;
     creates = does.creates;
     sums = does.sums;
+    synced = does.written_back.synced;
+    kept = λ honest. does.written_back.kept (does.backed (safe.backed honest));
+    flushed = does.written_back.flushed;
+    dropped = does.written_back.dropped;
     safe = record {
       sound = does.sound;
       access = access_beside old.kernel new.kernel e r old.disk.slots new.disk.slots does.beside safe.access;

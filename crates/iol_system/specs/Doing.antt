@@ -11,10 +11,12 @@ use Rattle.iol_hold.specs.Moves.{Stays}
 use Rattle.iol_kernel.specs.Backed.{IsBackedBy, StepsBeside}
 use Rattle.iol_kernel.specs.KernelState.{KernelState, layout_of, machine_of, IsSound}
 use Rattle.iol_system.specs.Asking.{asks_store, uses_cache}
+use Rattle.iol_system.specs.InPlace.{KeepsInPlace, SharesFile}
 use Rattle.iol_system.specs.Machine.{system_of, tables_of}
 use Rattle.iol_system.specs.Placed.{Creates, Publishes}
 use Rattle.iol_system.specs.Remembered.{Remembers}
 use Rattle.iol_system.specs.Room.{HasRoomFor, LacksRoomFor, IsDone, IsNoRoom, IsRefused}
+use Rattle.iol_system.specs.WrittenBack.{WritesBack}
 
 -- With a store that has the same bytes as memory where nothing was written, and positions within files, it is the machine's
 -- step; and then the store has them again. The other clauses hold over any store.
@@ -30,8 +32,11 @@ pub record Does (disk : Disk) (old : KernelState) (e : Event) (r : Reply) (after
   pub refused : uses_cache (tables_of old) e ≡ false → IsRefused r → new ≡ old
   pub shares : is_sharing (tables_of old) e ≡ true → LaysOut (layout_of old) e r (layout_of new)
   pub pages : is_sharing (tables_of old) e ≡ true → new.store.arena ≡ old.store.arena
+  pub in_place : KeepsInPlace (system_of old disk) e new
+  pub shares_file : IsDone r → SharesFile (system_of old disk) e new
   pub publishes : IsDone r → Publishes old e new
   pub creates : Creates old e r new
   pub sums : Remembers old e r new
+  pub written_back : WritesBack old e r after new
   pub sound : IsSound new
   pub stays : Stays old.store new.store

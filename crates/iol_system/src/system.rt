@@ -23,9 +23,11 @@ ghost use Rattle.iol_cache.specs.Cached.{extents_in_all, dirty_in_all};
 ghost use Rattle.iol_arena.specs.State.{no_entry};
 ghost use Rattle.iol_arena.specs.Buffers.{SharesNoPage, live_pages};
 ghost use Rattle.iol_system.specs.Asking.{asks_store, uses_cache};
+ghost use Rattle.iol_system.specs.InPlace.{KeepsInPlace, SharesFile};
 ghost use Rattle.iol_system.specs.Placed.{Creates, Publishes};
 ghost use Rattle.iol_system.specs.Remembered.{Remembers};
 ghost use Rattle.iol_system.specs.Room.{HasRoomFor, LacksRoomFor, IsDone, IsNoRoom, IsRefused};
+ghost use Rattle.iol_system.specs.WrittenBack.{IsDropped, IsFlushed, IsKept, IsSynced};
 
 use crate::aggregates::Aggregates;
 use crate::step::{carry_out, run_all};
@@ -150,6 +152,12 @@ impl<B: Backing> System<B> {
         ensures pages { is_sharing (tables_of self.old.kernel) event ≡ true →
             self.new.kernel.store.arena ≡ self.old.kernel.store.arena }
 
+        // Each byte of a file that is in memory lies where it lay, dirty as it was. Or the event writes it, or writes it back; or it
+        // was clean, and the event is `drop_clean`, or wants more pages of the file's pool than are free. What calls on files
+        // share lies where it lay, or where what was read lies now.
+        ensures in_place { KeepsInPlace self.old event self.new.kernel }
+        ensures shares_file { IsDone result → SharesFile self.old event self.new.kernel }
+
         // What publishes does so on the lowest free pages of its pool, each of which is raised by one; an open pool keeps its
         // chunks, and a new one has the lowest free chunks, as many as asked for.
         ensures publishes { IsDone result →
@@ -158,6 +166,14 @@ impl<B: Backing> System<B> {
 
         // Sending uses the sum of each slice that is sent; nothing else touches the remembered sums.
         ensures sums { Remembers self.old.kernel event result self.new.kernel }
+
+        // After an `fsync` nothing of its file is dirty, and an honest store has just that file; a `flush` leaves one dirty
+        // extent fewer, that of least file and offset, or none was there; `drop_clean` leaves no clean extent.
+        ensures synced { IsDone result → IsSynced self.old.kernel event self.new.kernel }
+        ensures kept { IfHonest self.old.disk
+            (IsDone result → IsKept self.old.kernel event self.new) }
+        ensures flushed { IsDone result → IsFlushed self.old.kernel event self.new.kernel }
+        ensures dropped { IsDropped event self.new.kernel }
 
         // Counts are those of the slices, no page is lost, what a domain has it may read, and an honest store has what memory has
         // where nothing was written.
