@@ -1,5 +1,6 @@
 //! Bytes are written to files by copying: they are placed in the file's pool, and lie there.
-ghost use Rattle.std.specs.Prelude.{◌≡◌, ℕ, length, true, false, Some, Err, OnOk};
+ghost use Rattle.std.specs.Prelude.{◌≡◌, ℕ, length, true, false, Some, Err, IfErr, OnOk};
+ghost use Rattle.iol_core.specs.Meaning.{WantOfRoom};
 ghost use Rattle.iol_core.specs.State as state;
 ghost use Rattle.iol_core.specs.State.{descriptor};
 ghost use Rattle.iol_core.specs.Calls.Writing as calls;
@@ -44,6 +45,7 @@ impl Kernel {
         ensures room { OnOk result (can_fit (state_of self.old) pool (length bytes.now) ≡ true) }
         ensures no_room { (p : ℕ) → result ≡ Err (Refusal.NoRoom p) → can_fit (state_of self.old)
             pool (length bytes.now) ≡ false }
+        ensures late { IfErr result (WantOfRoom pool) }
     {
         let count = bytes.len().min(MAX_FILE_BYTES) as u32;
         if !self.make_room_for(pool, count) {
@@ -74,6 +76,7 @@ impl Kernel {
         ensures serves { (disk : Disk) → Serves (λ s. calls.write s by fd bytes.now) disk self.old
             result disk self.new }
         ensures roomy { (p : ℕ) → result ≡ Err (Refusal.NoRoom p) → ⊥ }
+        ensures late { IfErr result (WantOfRoom pool) }
     {
         let Ok(agg) = Agg::fill(self.alloc, &mut self.store, pool, bytes) else {
             return Err(Refusal::Memory);
