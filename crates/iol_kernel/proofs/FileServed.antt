@@ -22,12 +22,11 @@ use Rattle.iol_hold.proofs.Releasing.{frees_none}
 use Rattle.iol_desc.specs.Tables.{domain_in, with_agg_in}
 use Rattle.iol_cache.specs.Cached.{Cached, extents_in}
 use Rattle.iol_cache.specs.Evicting.{Holding}
-use Rattle.iol_cache.specs.Keeping.{KeepsDirty}
 use Rattle.iol_cache.specs.Paging.{FillsLowest}
 use Rattle.iol_cache.specs.Serving.{FaultCounts, NoRoomToRead, ReadsFile, RefusesRead, RoomToRead, TellsFault, TellsRoom}
 use Rattle.iol_cache.specs.Sharing.{CountsBelow, places_over}
 use Rattle.iol_cache.specs.Weaving.{places_read}
-use Rattle.iol_cache.proofs.Keeping.{apart_of, read_keeps, read_keeps_all, refused_keeps}
+use Rattle.iol_cache.proofs.Keeping.{apart_of}
 use Rattle.iol_cache.proofs.Paging.{fills_none}
 use Rattle.iol_cache.proofs.Shared.{length-places_over}
 use Rattle.iol_kernel.specs.Backed.{Serves, holding_of}
@@ -35,6 +34,8 @@ use Rattle.iol_kernel.specs.Calls.{CarriesOut}
 use Rattle.iol_kernel.specs.FileReading.{FileRead, GivesCopy, GivesRead, ReadsFileAs, moved_on, pool_read}
 use Rattle.iol_kernel.specs.KernelState.{KernelState, objects_of, IsSound}
 use Rattle.iol_kernel.proofs.FileReads.{numbered_here, position_short}
+use Rattle.iol_kernel.specs.Keeping.{LacksPagesToRead}
+use Rattle.iol_kernel.proofs.Kept.{keeps_same, read_unless, refused_unless}
 use Rattle.iol_kernel.proofs.Named.{cache_sound}
 use Rattle.iol_kernel.proofs.Refilled.{over}
 use Rattle.iol_kernel.proofs.Uses.{all_few}
@@ -92,7 +93,7 @@ counts_few h sound = record { each = λ b. omega (arith, sound.counted.each b, a
 -- a refusal that has changed nothing
 pub reads_nothing : {A : Type 0} (x : FileRead) (disk : Disk) (h k : KernelState) (y : Refusal) → k ≡ h → TellsRoom {A = A} (RoomToRead x.file x.at x.count disk (holding_of h)) (NoRoomToRead x.file x.at x.count disk (holding_of h)) (Err y) → FaultCounts {A = A} disk disk (Err y) → ReadsFileAs {A = A} x disk h (Err y) disk k
 reads_nothing {A} x disk h k y same room counts = subst (λ (l : KernelState). ReadsFileAs {A = A} x disk h (Err y) disk l) (sym same) (record {
-  keeps = record { each = λ f i c is. inl is };
+  keeps = keeps_same (pool_read h x) (LacksPagesToRead x.file x.at x.count disk (holding_of h)) h.cache h.cache refl;
   pages = fills_none (pool_read h x) (frees_none h.store h.store refl refl (λ p o. refl));
   lists = refl;
   room = room;
@@ -128,7 +129,7 @@ module _ (x : FileRead) (disk after : Disk) (h : KernelState) (t : Stored) (c : 
 
   pub reads_refused : (A B : Type 0) (y : Refusal) (ds : Domains) → ds ≡ h.domains → RefusesRead x.file x.at x.count disk (holding_of h) (over t c) → TellsRoom {A = A} has lacks (Err y) → TellsFault {A = A} disk after (Err y) → WantOfRoomOrFault (pool_read h x) x.file y → ReadsFileAs {A = B} x disk h (Err y) after (record h { store = t; domains = ds; cache = c })
   reads_refused A B y ds kept refused room fault late = record {
-    keeps = refused_keeps x.file x.at x.count disk (holding_of h) (over t c) (apart_of (cache_sound h sound)) refused;
+    keeps = refused_unless x.file x.at x.count disk (holding_of h) (over t c) (apart_of {h = holding_of h} (cache_sound h sound)) refused;
     pages = pages;
     lists = lists;
     room = room_told A B has lacks y room;
@@ -140,7 +141,7 @@ module _ (x : FileRead) (disk after : Disk) (h : KernelState) (t : Stored) (c : 
 
   pub reads_done : {B : Type 0} (r : B) (xs : List Slice) (m : Stored) (ds : Domains) → ReadsFile x.file x.at x.count disk (holding_of h) (over m c) xs → has → after.failures ≡ disk.failures → after.honest ≡ disk.honest → (disk.honest ≡ true → after.slots ≡ disk.slots) → ReadsFileAs {A = B} x disk h (Ok r) after (record h { store = t; domains = ds; cache = c })
   reads_done r xs m ds reads room counts honest slots = record {
-    keeps = read_keeps x.file x.at x.count disk (holding_of h) (over m c) xs there reads (apart_of (cache_sound h sound));
+    keeps = read_unless x.file x.at x.count disk (holding_of h) (over m c) xs there (apart_of {h = holding_of h} (cache_sound h sound)) reads;
     pages = pages;
     lists = lists;
     room = room;
@@ -153,7 +154,7 @@ module _ (x : FileRead) (disk after : Disk) (h : KernelState) (t : Stored) (c : 
   -- it was read, and then there was no memory for what was to be made of it
   pub reads_lost : (B : Type 0) (xs : List Slice) → ReadsFile x.file x.at x.count disk (holding_of h) (over t c) xs → after.failures ≡ disk.failures → after.honest ≡ disk.honest → (disk.honest ≡ true → after.slots ≡ disk.slots) → ReadsFileAs {A = B} x disk h (Err refusal.Memory) after (record h { store = t; cache = c })
   reads_lost B xs reads counts honest slots = record {
-    keeps = read_keeps x.file x.at x.count disk (holding_of h) (over t c) xs there reads (apart_of (cache_sound h sound));
+    keeps = read_unless x.file x.at x.count disk (holding_of h) (over t c) xs there (apart_of {h = holding_of h} (cache_sound h sound)) reads;
     pages = pages;
     lists = lists;
     room = tt;
@@ -168,7 +169,6 @@ module _ (x : FileRead) (disk after : Disk) (h : KernelState) (t : Stored) (c : 
     slices = xs;
     read = reads;
     domains = added;
-    keeps_all = read_keeps_all x.file x.at x.count disk (holding_of h) (over t c) xs there reads;
   }
 
   pub gives_copy : (xs : List Slice) (s : Stored) (ds : Domains) → ReadsFile x.file x.at x.count disk (holding_of h) (over t c) xs → Moves t s (bufs_of xs) [] → ds ≡ moved_on h.domains x (byte_len xs) → GivesCopy x disk h t (record h { store = s; domains = ds; cache = c })
@@ -177,5 +177,4 @@ module _ (x : FileRead) (disk after : Disk) (h : KernelState) (t : Stored) (c : 
     read = reads;
     released = released;
     domains = moved;
-    keeps_all = read_keeps_all x.file x.at x.count disk (holding_of h) (over t c) xs there reads;
   }

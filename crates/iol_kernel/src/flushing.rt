@@ -9,6 +9,7 @@ ghost use Rattle.iol_back.specs.Disk.{Disk};
 ghost use Rattle.iol_hold.specs.Pages.{KeepsPages};
 ghost use Rattle.iol_cache.specs.Cached.{extents_in};
 ghost use Rattle.iol_cache.specs.Evicting.{AllDirty, EvictsPools};
+ghost use Rattle.iol_cache.specs.Keeping.{KeepsDirty};
 ghost use Rattle.iol_kernel.specs.Backed.{holding_of};
 ghost use Rattle.iol_kernel.specs.KernelState.{IsSound};
 ghost use Rattle.iol_kernel.specs.Readings.{Reading};
@@ -117,6 +118,7 @@ impl Kernel {
           store = (state_of self.new).store;
           cache = (state_of self.new).cache;
         } }
+        ensures keeps { KeepsDirty (state_of self.old).cache (state_of self.new).cache }
     {
         self.files.cache.drop_clean(&mut self.store);
     }

@@ -26,6 +26,7 @@ use Rattle.iol_system.specs.Remembered.{Remembers}
 use Rattle.iol_system.specs.Replies.{told}
 use Rattle.iol_system.specs.Room.{HasRoomFor, LacksRoomFor, IsDone, IsNoRoom, IsRefused}
 use Rattle.iol_system.proofs.Paged.{carried_pages}
+use Rattle.iol_system.proofs.WrittenBack.{none_back, writes_back}
 
 -- a reply that says an answer is no refusal
 pub record Tells {A : Type 0} (f : A → Reply) : Type 0 where
@@ -53,8 +54,9 @@ pub refused_told : {A : Type 0} (f : A → Reply) (r : Result A Refusal) (X : Ty
 refused_told f (Ok a) X tells err is = absurd (tells.unrefused a is)
 refused_told f (Err x) X tells err is = err
 
--- An event that wants no room, makes no buffer and no pool, and sends nothing; and that does not ask the store.
+-- An event that wants no room, makes no buffer and no pool, and sends nothing; and that does not ask the store, nor drop anything.
 pub record IsPlain (e : Event) : Type 0 where
+  pub unwritten : writes_back e ≡ false
   pub asks : (s : State) → asks_store s e ≡ false
   pub has : (s : SystemState) → HasRoomFor s e
   pub publishes : (old new : KernelState) → KeepsPages old.store new.store [] → Publishes old e new
@@ -79,6 +81,7 @@ module _ {A : Type 0} (f : A → Reply) (m : State → Meaning A) (e : Event) (d
     publishes = λ done. plain.publishes old new (carried_pages m old new r c);
     creates = plain.creates old (told f r) new;
     sums = plain.sums old (told f r) new c.sums;
+    written_back = none_back old (told f r) disk new e plain.unwritten;
     sound = c.sound;
     stays = c.stays;
   }
@@ -100,6 +103,7 @@ module _ {A : Type 0} (f : A → Reply) (m : State → Meaning A) (e : Event) (d
     publishes = λ done. plain.publishes old new c.pages;
     creates = plain.creates old (told f r) new;
     sums = plain.sums old (told f r) new c.sums;
+    written_back = none_back old (told f r) disk new e plain.unwritten;
     sound = c.sound;
     stays = c.stays;
   }
@@ -121,6 +125,7 @@ module _ {A : Type 0} (f : A → Reply) (m : State → Meaning A) (e : Event) (d
     publishes = λ done. plain.publishes old new (pages_equal old.store new.store c.store);
     creates = plain.creates old (told f r) new;
     sums = plain.sums old (told f r) new c.serves.sums;
+    written_back = none_back old (told f r) disk new e plain.unwritten;
     sound = c.serves.sound;
     stays = c.serves.stays;
   }
@@ -142,6 +147,7 @@ module _ {A : Type 0} (f : A → Reply) (m : State → Meaning A) (e : Event) (d
     publishes = λ done. plain.publishes old new (pages_equal old.store new.store c.store);
     creates = plain.creates old (told f r) new;
     sums = plain.sums old (told f r) new c.sums;
+    written_back = none_back old (told f r) disk new e plain.unwritten;
     sound = c.sound;
     stays = stays_equal old.store new.store c.store;
   }

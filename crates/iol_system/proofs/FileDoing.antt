@@ -4,6 +4,8 @@ use Rattle.std.proofs.lemmas.Bool.{true≢false}
 use Rattle.std.specs.Prelude.{Result, Ok, Err, IfErr, OnErr, OnOk, MatchOption, not, if◌then◌else◌}
 use Rattle.iol_back.specs.Disk.{Disk}
 use Rattle.iol_arena.specs.Chunks.{free_chunks}
+use Rattle.iol_cache.specs.Cached.{extents_in}
+use Rattle.iol_cache.specs.Evicting.{AllDirty}
 use Rattle.iol_cache.specs.Serving.{FaultCounts, TellsRoom}
 use Rattle.iol_core.specs.State.{State, descriptor, is_live}
 use Rattle.iol_core.specs.Text.{Text}
@@ -45,9 +47,11 @@ use Rattle.iol_system.specs.Machine.{SystemState, system_of, tables_of}
 use Rattle.iol_system.specs.Placed.{Creates, Fills, FillsForFile, FillsForWrite, Publishes}
 use Rattle.iol_system.specs.Remembered.{Remembers}
 use Rattle.iol_system.specs.Replies.{told}
+use Rattle.iol_system.specs.WrittenBack.{WritesBack}
 use Rattle.iol_system.specs.Room.{HasRoomFor, HasRoomToRead, HasRoomToWrite, LacksRoomFor, LacksRoomToRead, LacksRoomToWrite, IsDone, IsNoRoom, IsRefused}
 use Rattle.iol_system.proofs.Doing.{Means, Tells, IsPlain, no_room_told, refused_told, told_beside}
 use Rattle.iol_system.proofs.Paged.{carried_pages, fills_then_frees}
+use Rattle.iol_system.proofs.WrittenBack.{drops_back, flushes_back, none_back, syncs_back, writes_back}
 
 -- what a result tells, the reply tells
 
@@ -92,12 +96,14 @@ module _ {A : Type 0} (f : A → Reply) (m : State → Meaning A) (e : Event) (d
     publishes = λ done. plain.publishes h h (pages_here h.store);
     creates = plain.creates h (told f r) h;
     sums = plain.sums h (told f r) h refl;
+    written_back = none_back h (told f r) disk h e plain.unwritten;
     sound = sound;
     stays = stays_here h.store;
   }
 
 -- An event that places n bytes in a pool once there is room.
 pub record IsPlacing (e : Event) (pool n : ℕ) (old : KernelState) : Type 0 where
+  pub unwritten : writes_back e ≡ false
   pub asks : (s : State) → asks_store s e ≡ false
   pub uses : (s : State) → uses_cache s e ≡ true
   pub unshared : (s : State) → is_sharing s e ≡ false
@@ -129,6 +135,7 @@ module _ {A : Type 0} (f : A → Reply) (m : State → Meaning A) (put : State �
         publishes = λ done. placing.publishes new (fills_of r c.made done);
         creates = placing.creates (told f r) new;
         sums = placing.sums (told f r) new serves.sums;
+        written_back = none_back old (told f r) disk new e placing.unwritten;
         sound = serves.sound;
         stays = serves.stays;
       }
@@ -192,6 +199,7 @@ module _ (by fd n : ℕ) (disk after : Disk) (old new : KernelState) (r : Result
         publishes = λ done. read_fills o reads;
         creates = tt;
         sums = serves.sums;
+        written_back = none_back old (told reply.Agg r) after new read_event refl;
         sound = serves.sound;
         stays = serves.stays;
       }
@@ -241,6 +249,7 @@ module _ (by fd a : ℕ) (disk : Disk) (old new : KernelState) (r : Result ℕ R
         publishes = λ done. write_fills o writes;
         creates = tt;
         sums = serves.sums;
+        written_back = none_back old (told reply.Count r) disk new write_event refl;
         sound = serves.sound;
         stays = serves.stays;
       }
@@ -294,6 +303,7 @@ module _ (by fd n : ℕ) (disk after : Disk) (old new : KernelState) (r : Result
         publishes = λ done. copy_fills o copies;
         creates = tt;
         sums = serves.sums;
+        written_back = none_back old (told reply.Bytes r) after new copy_event refl;
         sound = serves.sound;
         stays = serves.stays;
       }
@@ -342,6 +352,7 @@ module _ (by fd : ℕ) (bytes : List ℕ) (disk : Disk) (old new : KernelState) 
     publishes = λ done. put_fills put (descriptor (tables_of old) by fd) (λ none. (queue none).made) done;
     creates = tt;
     sums = serves.sums;
+    written_back = none_back old (told reply.Count r) disk new put_event refl;
     sound = serves.sound;
     stays = serves.stays;
   }
@@ -351,11 +362,11 @@ done_tells : Tells {A = Unit {0}} (λ u. reply.Done)
 done_tells = record { answers = λ a. refl; roomy = λ a x. x; unrefused = λ a x. x }
 
 module _ (m : State → Meaning (Unit {0})) (e : Event) (disk after : Disk) (old new : KernelState) (r : Result (Unit {0}) Refusal) where
-  pub writes_back : Means (λ u. reply.Done) m e → ((s : State) → uses_cache s e ≡ true) → ((s : State) → is_sharing s e ≡ false)
+  pub stores_does : Means (λ u. reply.Done) m e → ((s : State) → uses_cache s e ≡ true) → ((s : State) → is_sharing s e ≡ false)
       → ((s : SystemState) → HasRoomFor s e) → (KeepsPages old.store new.store [] → Publishes old e new) → ((x : Reply) → Creates old e x new) → ((x : Reply) → new.sums ≡ old.sums → Remembers old e x new)
       → (asks_store (tables_of old) e ≡ false → after ≡ disk) → (asks_store (tables_of old) e ≡ true → FaultCounts disk after r) → ((p : ℕ) → r ≡ Err (NoRoom p) → ⊥)
-      → KeepsPages old.store new.store [] → Serves m disk old r after new → Does disk old e (told (λ u. reply.Done) r) after new
-  writes_back means uses unshared has publishes creates sums unasked faults roomy pages serves = record {
+      → KeepsPages old.store new.store [] → WritesBack old e (told (λ u. reply.Done) r) after new → Serves m disk old r after new → Does disk old e (told (λ u. reply.Done) r) after new
+  stores_does means uses unshared has publishes creates sums unasked faults roomy pages written serves = record {
     step = λ backed placed. means (machine_of disk.slots old) (machine_of after.slots new) r (serves.step backed placed);
     backed = serves.backed;
     beside = told_beside (λ u. reply.Done) m e old new r means serves.beside;
@@ -370,6 +381,7 @@ module _ (m : State → Meaning (Unit {0})) (e : Event) (disk after : Disk) (old
     publishes = λ done. publishes pages;
     creates = creates (told (λ u. reply.Done) r);
     sums = sums (told (λ u. reply.Done) r) serves.sums;
+    written_back = written;
     sound = serves.sound;
     stays = serves.stays;
   }
@@ -387,11 +399,11 @@ module _ (by fd : ℕ) (disk after : Disk) (old new : KernelState) (r : Result (
       let step : Step (files.fsync s by fd) s (Err (NoRoom p)) (with_slots serves.beside.after new) = subst (λ (x : Result (Unit {0}) Refusal). Step (files.fsync s by fd) s x (with_slots serves.beside.after new)) is serves.beside.step in
       no_room_of_three (files.file_on s by fd) p _ _ _ step.0
 
-  pub syncs_does : (f : ℕ) → Means (λ u. reply.Done) (λ s. files.fsync s by fd) (event.Call by (call.Fsync fd)) → Serves (λ s. files.fsync s by fd) disk old r after new → SyncsFile f disk old r after new → Does disk old (event.Call by (call.Fsync fd)) (told (λ u. reply.Done) r) after new
-  syncs_does f means serves syncs =
-      writes_back (λ s. files.fsync s by fd) (event.Call by (call.Fsync fd)) disk after old new r means (λ s. refl) (λ s. refl) (λ s. tt) (λ k. k) (λ x. tt) (λ x k. k)
+  pub syncs_does : IsSound old → Means (λ u. reply.Done) (λ s. files.fsync s by fd) (event.Call by (call.Fsync fd)) → Serves (λ s. files.fsync s by fd) disk old r after new → SyncsFile (files.file_on (tables_of old) by fd) disk old r after new → Does disk old (event.Call by (call.Fsync fd)) (told (λ u. reply.Done) r) after new
+  syncs_does sound means serves syncs =
+      stores_does (λ s. files.fsync s by fd) (event.Call by (call.Fsync fd)) disk after old new r means (λ s. refl) (λ s. refl) (λ s. tt) (λ k. k) (λ x. tt) (λ x k. k)
       (λ none. absurd (true≢false none)) (λ asked. syncs.counts) (sync_roomy serves)
-      (pages_equal old.store new.store (ap (λ (h : KernelState). h.store) syncs.same)) serves
+      (pages_equal old.store new.store (ap (λ (h : KernelState). h.store) syncs.same)) (syncs_back by fd disk after old new r sound serves.sound syncs) serves
 
 module _ (disk after : Disk) (old new : KernelState) (r : Result (Unit {0}) Refusal) where
   flush_roomy : Serves outside.flush disk old r after new → (p : ℕ) → r ≡ Err (NoRoom p) → ⊥
@@ -400,16 +412,16 @@ module _ (disk after : Disk) (old new : KernelState) (r : Result (Unit {0}) Refu
       let step : Step (outside.flush s) s (Err (NoRoom p)) (with_slots serves.beside.after new) = subst (λ (x : Result (Unit {0}) Refusal). Step (outside.flush s) s x (with_slots serves.beside.after new)) is serves.beside.step in
       step.0
 
-  pub flushes_does : Means (λ u. reply.Done) outside.flush event.Flush → Serves outside.flush disk old r after new → FlushesOne disk old r after new → Does disk old event.Flush (told (λ u. reply.Done) r) after new
-  flushes_does means serves flushes =
-      writes_back outside.flush event.Flush disk after old new r means (λ s. refl) (λ s. refl) (λ s. tt) (λ k. k) (λ x. tt) (λ x k. k)
+  pub flushes_does : IsSound old → Means (λ u. reply.Done) outside.flush event.Flush → Serves outside.flush disk old r after new → FlushesOne disk old r after new → Does disk old event.Flush (told (λ u. reply.Done) r) after new
+  flushes_does sound means serves flushes =
+      stores_does outside.flush event.Flush disk after old new r means (λ s. refl) (λ s. refl) (λ s. tt) (λ k. k) (λ x. tt) (λ x k. k)
       (λ none. absurd (true≢false none)) (λ asked. flushes.counts) (flush_roomy serves)
-      (pages_equal old.store new.store (ap (λ (h : KernelState). h.store) flushes.same)) serves
+      (pages_equal old.store new.store (ap (λ (h : KernelState). h.store) flushes.same)) (flushes_back disk after old new r sound flushes) serves
 
-pub drops_does : (disk : Disk) (old new : KernelState) → Means (λ u. reply.Done) outside.drop_clean event.DropClean → Serves outside.drop_clean disk old (Ok tt) disk new → KeepsPages old.store new.store [] → Does disk old event.DropClean reply.Done disk new
-drops_does disk old new means serves pages =
-    writes_back outside.drop_clean event.DropClean disk disk old new (Ok tt) means (λ s. refl) (λ s. refl) (λ s. tt) (λ k. k) (λ x. tt) (λ x k. k)
-    (λ none. refl) (λ asked. absurd (true≢false (sym asked))) (λ p is. cc) pages serves
+pub drops_does : (disk : Disk) (old new : KernelState) → Means (λ u. reply.Done) outside.drop_clean event.DropClean → Serves outside.drop_clean disk old (Ok tt) disk new → KeepsPages old.store new.store [] → ((f : ℕ) → AllDirty (extents_in new.cache.files f)) → Does disk old event.DropClean reply.Done disk new
+drops_does disk old new means serves pages none =
+    stores_does outside.drop_clean event.DropClean disk disk old new (Ok tt) means (λ s. refl) (λ s. refl) (λ s. tt) (λ k. k) (λ x. tt) (λ x k. k)
+    (λ none. refl) (λ asked. absurd (true≢false (sym asked))) (λ p is. cc) pages (drops_back old new disk none) serves
 
 -- A new pool.
 module _ (by chunks : ℕ) (list : List ℕ) (disk : Disk) (old new : KernelState) where
@@ -442,6 +454,7 @@ module _ (by chunks : ℕ) (list : List ℕ) (disk : Disk) (old new : KernelStat
         publishes = λ done. c.pages;
         creates = pool_creates r adds;
         sums = c.sums;
+        written_back = none_back old (told reply.Pool r) disk new pool_event refl;
         sound = c.sound;
         stays = c.stays;
       }
@@ -478,6 +491,7 @@ module _ (conn max : ℕ) (disk : Disk) (old new : KernelState) where
         publishes = λ done. c.pages;
         creates = tt;
         sums = send_sums r c;
+        written_back = none_back old (told sent r) disk new send_event refl;
         sound = c.sound;
         stays = c.stays;
       }

@@ -7,3 +7,4 @@ pub mod Empty
 pub mod Served
 pub mod Doing
 pub mod FileDoing
+pub mod WrittenBack

@@ -78,6 +78,10 @@ module _ (old new : SystemState) (e : Event) (r : Reply) (safe : IsSafe old) (do
     publishes = does.publishes;
     creates = does.creates;
     sums = does.sums;
+    synced = does.written_back.synced;
+    kept = λ honest. does.written_back.kept (does.backed (safe.backed honest));
+    flushed = does.written_back.flushed;
+    dropped = does.written_back.dropped;
     safe = record {
       sound = does.sound;
       access = access_beside old.kernel new.kernel e r old.disk.slots new.disk.slots does.beside safe.access;

@@ -15,6 +15,7 @@ use Rattle.iol_system.specs.Machine.{system_of, tables_of}
 use Rattle.iol_system.specs.Placed.{Creates, Publishes}
 use Rattle.iol_system.specs.Remembered.{Remembers}
 use Rattle.iol_system.specs.Room.{HasRoomFor, LacksRoomFor, IsDone, IsNoRoom, IsRefused}
+use Rattle.iol_system.specs.WrittenBack.{WritesBack}
 
 -- With a store that has the same bytes as memory where nothing was written, and positions within files, it is the machine's
 -- step; and then the store has them again. The other clauses hold over any store.
@@ -33,5 +34,6 @@ pub record Does (disk : Disk) (old : KernelState) (e : Event) (r : Reply) (after
   pub publishes : IsDone r → Publishes old e new
   pub creates : Creates old e r new
   pub sums : Remembers old e r new
+  pub written_back : WritesBack old e r after new
   pub sound : IsSound new
   pub stays : Stays old.store new.store

@@ -19,6 +19,7 @@ use Rattle.iol_system.specs.Placed.{Creates, Publishes}
 use Rattle.iol_system.specs.Remembered.{Remembers}
 use Rattle.iol_system.specs.Room.{HasRoomFor, LacksRoomFor, IsDone, IsNoRoom, IsRefused}
 use Rattle.iol_system.specs.Safe.{IsSafe}
+use Rattle.iol_system.specs.WrittenBack.{IsDropped, IsFlushed, IsKept, IsSynced}
 
 -- From old to new, by this event with this reply. Over an honest store it is the copying machine's step; over any store it is
 -- that but for the bytes of files, and a store stays as honest as it was. A store is asked by calls on files alone, and
@@ -26,7 +27,8 @@ use Rattle.iol_system.specs.Safe.{IsSafe}
 -- at all, but that clean parts of files may be gone from memory where the event works on these. What a sharing call
 -- hands on lies where it lay, and no page is published or freed; calls that make buffers do so on the lowest free pages, each of
 -- which is raised by one, and no others do; an open pool keeps its chunks, and a new one has the lowest free; sending
--- remembers the sums of what is sent; new is safe again; live buffers keep their bytes, and aggregates their values.
+-- remembers the sums of what is sent; after `fsync` an honest store has the file, and nothing of it is dirty, `flush` leaves one
+-- dirty extent fewer, and `drop_clean` no clean one; new is safe again; live buffers keep their bytes, and aggregates their values.
 pub record Promises (old : SystemState) (e : Event) (r : Reply) (new : SystemState) : Type 0 where
   pub step : IfHonest old.disk (StepsTo (machine_of old) e r (machine_of new))
   pub beside : StepsBeside (λ s. meaning s e) old.kernel (outcome r) new.kernel
@@ -41,6 +43,10 @@ pub record Promises (old : SystemState) (e : Event) (r : Reply) (new : SystemSta
   pub publishes : IsDone r → Publishes old.kernel e new.kernel
   pub creates : Creates old.kernel e r new.kernel
   pub sums : Remembers old.kernel e r new.kernel
+  pub synced : IsDone r → IsSynced old.kernel e new.kernel
+  pub kept : IfHonest old.disk (IsDone r → IsKept old.kernel e new)
+  pub flushed : IsDone r → IsFlushed old.kernel e new.kernel
+  pub dropped : IsDropped e new.kernel
   pub safe : IsSafe new
   pub stays : Stays old.kernel.store new.kernel.store
   pub values : ValuesStay (machine_of old) e (machine_of new)

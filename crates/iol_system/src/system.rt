@@ -26,6 +26,7 @@ ghost use Rattle.iol_system.specs.Asking.{asks_store, uses_cache};
 ghost use Rattle.iol_system.specs.Placed.{Creates, Publishes};
 ghost use Rattle.iol_system.specs.Remembered.{Remembers};
 ghost use Rattle.iol_system.specs.Room.{HasRoomFor, LacksRoomFor, IsDone, IsNoRoom, IsRefused};
+ghost use Rattle.iol_system.specs.WrittenBack.{IsDropped, IsFlushed, IsKept, IsSynced};
 
 use crate::aggregates::Aggregates;
 use crate::step::{carry_out, run_all};
@@ -158,6 +159,14 @@ impl<B: Backing> System<B> {
 
         // Sending uses the sum of each slice that is sent; nothing else touches the remembered sums.
         ensures sums { Remembers self.old.kernel event result self.new.kernel }
+
+        // After an `fsync` nothing of its file is dirty, and an honest store has just that file; a `flush` leaves one dirty
+        // extent fewer, that of least file and offset, or none was there; `drop_clean` leaves no clean extent.
+        ensures synced { IsDone result → IsSynced self.old.kernel event self.new.kernel }
+        ensures kept { IfHonest self.old.disk
+            (IsDone result → IsKept self.old.kernel event self.new) }
+        ensures flushed { IsDone result → IsFlushed self.old.kernel event self.new.kernel }
+        ensures dropped { IsDropped event self.new.kernel }
 
         // Counts are those of the slices, no page is lost, what a domain has it may read, and an honest store has what memory has
         // where nothing was written.
