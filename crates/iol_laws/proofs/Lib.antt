@@ -6,6 +6,7 @@ pub mod LeftConnections
 pub mod LeftPipes
 pub mod LeftDescriptors
 pub mod LeftFiles
+pub mod LeftDomains
 pub mod Leaving
 pub mod Accepted
 pub mod Waiting
@@ -22,8 +23,15 @@ pub mod CallerAggregates
 pub mod CallerDescriptors
 pub mod CallerPipes
 pub mod CallerGifts
+pub mod Refusing
+pub mod CallerFiles
+pub mod CallerFileBytes
+pub mod CallerCopies
+pub mod Ending
+pub mod CallerDomains
 pub mod NewNumbers
 pub mod OtherCalls
+pub mod OtherPipes
 pub mod Outside
 pub mod Unread
 pub mod Unsent

@@ -1,9 +1,12 @@
 //! The laws. The functions do nothing; their contracts are the laws.
 ghost use Rattle.iol_laws.specs.Caller.{CallsServeTheirDomain, NumbersAreNew};
+ghost use Rattle.iol_laws.specs.CallerCopies.{CopyingCallsServeTheirDomain};
+ghost use Rattle.iol_laws.specs.CallerDomains.{DomainsAndPoolsComeAndGo};
+ghost use Rattle.iol_laws.specs.CallerFiles.{FileCallsServeTheirDomain};
 ghost use Rattle.iol_laws.specs.Frame.{EachStepLeavesTheRest};
 ghost use Rattle.iol_laws.specs.History.{HistoriesAddUp};
 ghost use Rattle.iol_laws.specs.Order.{EachStepKeepsOrder};
-ghost use Rattle.iol_laws.specs.Others.{OthersLeaveConnections};
+ghost use Rattle.iol_laws.specs.Others.{OthersLeaveConnections, OthersLeavePipes};
 
 /// Each step leaves what its event does not touch: connections, pipes, descriptors, files, the lists of pools, and the
 /// aggregates that nobody gives up.
@@ -12,7 +15,7 @@ pub fn each_step_leaves_the_rest()
 {}
 
 /// A new state is orderly, and each step keeps it so: each end of a pipe and each connection is open in one descriptor
-/// at most, what is open stands, and numbers that are still to come are not used yet.
+/// at most, what is open stands, and numbers that are still to come are not used yet. So are access and positions.
 pub fn each_step_keeps_order()
     ensures { EachStepKeepsOrder }
 {}
@@ -20,6 +23,23 @@ pub fn each_step_keeps_order()
 /// What a call does for the domain that makes it, in the words that the domain sees: replies, and bytes by number.
 pub fn calls_serve_their_domain()
     ensures { CallsServeTheirDomain }
+{}
+
+/// What a call on a file does for the domain that makes it: which file is opened, what is read and written, and at which
+/// position; and which refusals may come.
+pub fn file_calls_serve_their_domain()
+    ensures { FileCallsServeTheirDomain }
+{}
+
+/// The calls that copy write and read what those on aggregates do, and leave all that their domain has under a number.
+pub fn copying_calls_serve_their_domain()
+    ensures { CopyingCallsServeTheirDomain }
+{}
+
+/// A new domain has nothing, and one that ends leaves nothing open; a new pool is read by just the domains that were named;
+/// and what is made lies in the pool that was set.
+pub fn domains_and_pools_come_and_go()
+    ensures { DomainsAndPoolsComeAndGo }
 {}
 
 /// The numbers that a domain is given by its calls are new ones, and what an aggregate's number names is there.
@@ -31,6 +51,12 @@ pub fn numbers_are_new()
 /// what happens outside changes what its event names.
 pub fn others_leave_connections()
     ensures { OthersLeaveConnections }
+{}
+
+/// A pipe of which a domain has no end is left by its calls; one that cannot read it takes nothing from it, and one that cannot
+/// write to it adds nothing.
+pub fn others_leave_pipes()
+    ensures { OthersLeavePipes }
 {}
 
 /// What came in on each connection and what was sent on it, over a run's events and replies: what is unread is the end of

@@ -1,5 +1,5 @@
 //! Tests of the libraries, in a crate of their own since a crate with tests is proved twice.
-//! Each call that wants memory answers when there is enough.
+//! Each call that wants memory answers when there is enough: of the system's calls a script says so, `examples/every_call`.
 #![tactic(auto)]
 
 #[cfg(test)]
@@ -18,7 +18,5 @@ mod readme;
 mod refusals;
 #[cfg(test)]
 mod rounds;
-#[cfg(test)]
-mod systems;
 #[cfg(test)]
 mod tables;

@@ -5,16 +5,12 @@
 
 mod calls;
 mod failure;
-#[cfg(test)]
-mod file_tests;
 mod headers;
 mod outside;
 mod printed;
 mod replay;
 mod script;
 mod setup;
-#[cfg(test)]
-mod tests;
 mod words;
 
 use failure::Failure;
