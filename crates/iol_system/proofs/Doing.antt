@@ -26,6 +26,7 @@ use Rattle.iol_system.specs.Placed.{Creates, Publishes}
 use Rattle.iol_system.specs.Remembered.{Remembers}
 use Rattle.iol_system.specs.Replies.{told}
 use Rattle.iol_system.specs.Room.{HasRoomFor, LacksRoomFor, IsDone, IsEarly, IsNoRoom, IsRefused}
+use Rattle.iol_system.proofs.InPlace.{cache_in_place, cover_in_place, shares_file, shares_none}
 use Rattle.iol_system.proofs.Paged.{carried_pages}
 use Rattle.iol_system.proofs.WrittenBack.{none_back, writes_back}
 
@@ -66,6 +67,7 @@ early_told f r X tells err is = refused_told f r X tells err (early_refused (tol
 -- An event that wants no room, makes no buffer and no pool, and sends nothing; and that does not ask the store, nor drop anything.
 pub record IsPlain (e : Event) : Type 0 where
   pub unwritten : writes_back e ≡ false
+  pub unlent : shares_file e ≡ false
   pub asks : (s : State) → asks_store s e ≡ false
   pub has : (s : SystemState) → HasRoomFor s e
   pub publishes : (old new : KernelState) → KeepsPages old.store new.store [] → Publishes old e new
@@ -91,6 +93,8 @@ module _ {A : Type 0} (f : A → Reply) (m : State → Meaning A) (e : Event) (d
     uncached = λ unused other. c.cache;
     shares = λ shared. means (layout_of old) (layout_of new) r (carried_layout m old new r c);
     pages = λ shared. c.arena;
+    in_place = cache_in_place disk old new e c.cache;
+    shares_file = λ done. shares_none (system_of old disk) new e plain.unlent;
     publishes = λ done. plain.publishes old new (carried_pages m old new r c);
     creates = plain.creates old (told f r) new;
     sums = plain.sums old (told f r) new c.sums;
@@ -117,6 +121,8 @@ module _ {A : Type 0} (f : A → Reply) (m : State → Meaning A) (e : Event) (d
     uncached = λ unused other. c.cache;
     shares = λ shared. absurd (true≢false (sym shared ∙ unshared (tables_of old)));
     pages = λ shared. absurd (true≢false (sym shared ∙ unshared (tables_of old)));
+    in_place = cache_in_place disk old new e c.cache;
+    shares_file = λ done. shares_none (system_of old disk) new e plain.unlent;
     publishes = λ done. plain.publishes old new c.pages;
     creates = plain.creates old (told f r) new;
     sums = plain.sums old (told f r) new c.sums;
@@ -143,6 +149,8 @@ module _ {A : Type 0} (f : A → Reply) (m : State → Meaning A) (e : Event) (d
     uncached = λ unused other. c.cache;
     shares = λ shared. absurd (true≢false (sym shared ∙ unshared (tables_of old)));
     pages = λ shared. absurd (true≢false (sym shared ∙ unshared (tables_of old)));
+    in_place = cache_in_place disk old new e c.cache;
+    shares_file = λ done. shares_none (system_of old disk) new e plain.unlent;
     publishes = λ done. plain.publishes old new (pages_equal old.store new.store c.store);
     creates = plain.creates old (told f r) new;
     sums = plain.sums old (told f r) new c.serves.sums;
@@ -169,6 +177,8 @@ module _ {A : Type 0} (f : A → Reply) (m : State → Meaning A) (e : Event) (d
     uncached = λ unused other. absurd (true≢false (sym made ∙ other));
     shares = λ shared. absurd (true≢false (sym shared ∙ unshared (tables_of old)));
     pages = λ shared. absurd (true≢false (sym shared ∙ unshared (tables_of old)));
+    in_place = cover_in_place disk old new e c.keeps;
+    shares_file = λ done. shares_none (system_of old disk) new e plain.unlent;
     publishes = λ done. plain.publishes old new (pages_equal old.store new.store c.store);
     creates = plain.creates old (told f r) new;
     sums = plain.sums old (told f r) new c.sums;

@@ -6,7 +6,9 @@ use Rattle.iol_back.specs.Disk.{Disk}
 use Rattle.iol_arena.specs.Chunks.{free_chunks}
 use Rattle.iol_arena.specs.State.{pages_for}
 use Rattle.iol_cache.specs.Cached.{extents_in}
+use Rattle.iol_cache.specs.Composing.{copied_pages}
 use Rattle.iol_cache.specs.Evicting.{AllDirty}
+use Rattle.iol_cache.specs.Keeping.{KeepsDirty}
 use Rattle.iol_cache.specs.Serving.{FaultCounts, TellsRoom}
 use Rattle.iol_cache.specs.Syncing.{WritesDirty}
 use Rattle.iol_core.specs.State.{State, descriptor, is_live}
@@ -31,6 +33,8 @@ use Rattle.iol_core.specs.declared.events.Reply.TheVariants as reply
 use Rattle.iol_core.specs.declared.refusals.Refusal.{Refusal}
 use Rattle.iol_core.specs.declared.refusals.Refusal.TheVariants.{NoDomain, BadFd, WrongMode, NoRoom, Fault, Memory}
 use Rattle.iol_hold.specs.Pages.{KeepsPages}
+use Rattle.iol_hold.specs.Places.{byte_len}
+use Rattle.iol_hold.specs.declared.slices.Slice.{Slice}
 use Rattle.iol_pool.specs.Pools.{AddsPool}
 use Rattle.iol_kernel.specs.Backed.{Serves, StepsBeside, holding_of, with_slots}
 use Rattle.iol_kernel.specs.Calls.{CarriesOut, KeepsPlaces, MakesBytes, Steps, Transmits}
@@ -39,19 +43,22 @@ use Rattle.iol_kernel.specs.FileReading.{Reads, ReadsOn, held_by}
 use Rattle.iol_kernel.specs.KernelState.{KernelState, IsSound, layout_of, machine_of, slices_in}
 use Rattle.iol_kernel.specs.MakingRoom.{AfterRoom, MakesRoom, MayHaveEvicted, Places, can_fit}
 use Rattle.iol_kernel.specs.WritingBack.{FlushesOne, SyncsFile}
-use Rattle.iol_kernel.specs.WritingFiles.{WritesOn}
+use Rattle.iol_kernel.specs.WritingFiles.{PutsOn, WritesOn, pool_of_file}
+use Rattle.iol_kernel.specs.Keeping.{LacksPages, LacksPagesToRead}
 use Rattle.iol_kernel.proofs.Carried.{carried_layout}
 use Rattle.iol_kernel.proofs.Serving.{backed_stays, steps_beside}
 use Rattle.iol_kernel.proofs.Stay.{pages_equal, pages_here, stays_here}
 use Rattle.iol_system.specs.Asking.{asks_store, makes_file, uses_cache, writes_store}
 use Rattle.iol_system.specs.Doing.{Does}
 use Rattle.iol_system.specs.Machine.{SystemState, system_of, tables_of}
-use Rattle.iol_system.specs.Placed.{Creates, Fills, FillsForFile, FillsForWrite, Publishes}
+use Rattle.iol_system.specs.InPlace.{IsInRange, IsWritten, KeepsInPlace, MayLetGo, ReadWantsMore, SharesRead, SharesWrite, WantsMore, WriteWantsMore}
+use Rattle.iol_system.specs.Placed.{Creates, Fills, FillsForFile, Publishes}
 use Rattle.iol_system.specs.Remembered.{Remembers}
 use Rattle.iol_system.specs.Replies.{told}
 use Rattle.iol_system.specs.Room.{HasRoomFor, HasRoomToRead, HasRoomToWrite, LacksRoomFor, LacksRoomToRead, LacksRoomToWrite, IsDone, IsEarly, IsFault, IsNoRoom, IsRefused}
 use Rattle.iol_system.proofs.Doing.{Means, Tells, IsPlain, early_told, early_refused, no_room_told, refused_told, told_beside}
 use Rattle.iol_system.specs.WrittenBack.{WritesBack}
+use Rattle.iol_system.proofs.InPlace.{beside_in_place, cache_in_place, drops_in_place, flushes_in_place, places_in_place, shares_file, shares_none, syncs_in_place, unless_in_place}
 use Rattle.iol_system.proofs.Paged.{carried_pages, fills_then_frees}
 use Rattle.iol_system.proofs.WrittenBack.{drops_back, flushes_back, none_back, syncs_back, writes_back}
 
@@ -129,6 +136,8 @@ module _ {A : Type 0} (f : A → Reply) (m : State → Meaning A) (e : Event) (d
     uncached = λ unused other. refl;
     shares = λ shared. absurd (true≢false (sym shared ∙ unshared (tables_of h)));
     pages = λ shared. refl;
+    in_place = cache_in_place disk h h e refl;
+    shares_file = λ done. shares_none (system_of h disk) h e plain.unlent;
     publishes = λ done. plain.publishes h h (pages_here h.store);
     creates = plain.creates h (told f r) h;
     sums = plain.sums h (told f r) h refl;
@@ -140,6 +149,8 @@ module _ {A : Type 0} (f : A → Reply) (m : State → Meaning A) (e : Event) (d
 -- An event that places n bytes in a pool once there is room.
 pub record IsPlacing (e : Event) (pool n : ℕ) (old : KernelState) : Type 0 where
   pub unwritten : writes_back e ≡ false
+  pub unlent : shares_file e ≡ false
+  pub goes : (disk : Disk) (p : ℕ) → WantsMore old pool n p → MayLetGo (system_of old disk) e p
   pub asks : (s : State) → asks_store s e ≡ false
   pub uses : (s : State) → uses_cache s e ≡ true
   pub unshared : (s : State) → is_sharing s e ≡ false
@@ -175,6 +186,8 @@ module _ {A : Type 0} (f : A → Reply) (m : State → Meaning A) (put : State �
         refused = λ unused is. absurd (true≢false (sym (placing.uses (tables_of old)) ∙ unused));
         shares = λ shared. absurd (true≢false (sym shared ∙ placing.unshared (tables_of old)));
         pages = λ shared. absurd (true≢false (sym shared ∙ placing.unshared (tables_of old)));
+        in_place = places_in_place disk old new e m put pool n (λ p same lacks. placing.goes disk p (same, subst (λ q. LacksPages old q (pages_for n)) (sym same) lacks)) r c;
+        shares_file = λ done. shares_none (system_of old disk) new e placing.unlent;
         publishes = λ done. placing.publishes new (fills_of r c.made done);
         creates = placing.creates (told f r) new;
         sums = placing.sums (told f r) new serves.sums;
@@ -240,6 +253,14 @@ module _ (by fd n : ℕ) (disk after : Disk) (old new : KernelState) (r : Result
   read_fills (Some (on.File g at mode)) c = c.0.pages
   read_fills o c = carried_pages (λ s. reading.iol_read s by fd n) old new r c.0
 
+  read_in_place : (o : Option Descriptor) → ReadsOn by fd n o disk old r after new → ((p : ℕ) → ReadWantsMore (system_of old disk) o n p → MayLetGo (system_of old disk) read_event p) → KeepsInPlace (system_of old disk) read_event new
+  read_in_place (Some (on.File g at mode)) c goes = unless_in_place disk old new read_event (pool_of_file old g) (LacksPagesToRead g at n disk (holding_of old)) c.0.keeps (λ p same lacks. goes p (same, lacks))
+  read_in_place o c goes = cache_in_place disk old new read_event c.0.cache
+
+  read_shares : (o : Option Descriptor) → ReadsOn by fd n o disk old r after new → IsDone (told reply.Agg r) → SharesRead by fd n (system_of old disk) o new
+  read_shares (Some (on.File g at mode)) c is = ok_told reply.Agg r _ c.1 is
+  read_shares o c is = tt
+
   pub reads_does : Means reply.Agg (λ s. reading.iol_read s by fd n) read_event → Serves (λ s. reading.iol_read s by fd n) disk old r after new → Reads by fd n disk old r after new → Does disk old read_event (told reply.Agg r) after new
   reads_does means serves reads =
       let o : Option Descriptor = held_by (tables_of old) by fd in
@@ -259,6 +280,8 @@ module _ (by fd n : ℕ) (disk after : Disk) (old new : KernelState) (r : Result
         refused = read_refused o reads;
         shares = λ shared. means (layout_of old) (layout_of new) r (carried_layout (λ s. reading.iol_read s by fd n) old new r (read_carried o reads (queue shared)));
         pages = λ shared. (read_carried o reads (queue shared)).arena;
+        in_place = read_in_place o reads (λ p k. k);
+        shares_file = read_shares o reads;
         publishes = λ done. read_fills o reads;
         creates = tt;
         sums = serves.sums;
@@ -303,6 +326,19 @@ module _ (by fd a : ℕ) (disk : Disk) (old new : KernelState) (r : Result ℕ R
   write_fills (Some (on.File g at mode)) c = c.pages
   write_fills o c = carried_pages (λ s. writing.iol_write s by fd a) old new r c
 
+  write_in_place : (o : Option Descriptor) → WritesOn by fd a o old r new → ((g i : ℕ) → IsInRange o (byte_len (slices_in old.domains by a)) g i → IsWritten old write_event g i)
+      → ((p : ℕ) → WriteWantsMore old o (slices_in old.domains by a) p → MayLetGo (system_of old disk) write_event p) → KeepsInPlace (system_of old disk) write_event new
+  write_in_place (Some (on.File f at mode)) c writes goes =
+      let xs : List Slice = slices_in old.domains by a in
+      let pool : ℕ = pool_of_file old f in
+      beside_in_place disk old new write_event f at (byte_len xs) pool (LacksPages old pool (copied_pages pool xs)) c.beside (λ g i same from to. writes g i (same, from, to))
+      (λ p same lacks. goes p (same, subst (λ q. LacksPages old q (copied_pages q xs)) (sym same) lacks))
+  write_in_place o c writes goes = cache_in_place disk old new write_event c.cache
+
+  write_shares : (o : Option Descriptor) → WritesOn by fd a o old r new → IsDone (told reply.Count r) → SharesWrite o (slices_in old.domains by a) new
+  write_shares (Some (on.File g at mode)) c is = ok_told reply.Count r _ c.lies is
+  write_shares o c is = tt
+
   pub writes_does : Means reply.Count (λ s. writing.iol_write s by fd a) write_event → Serves (λ s. writing.iol_write s by fd a) disk old r disk new → WritesOn by fd a (descriptor (tables_of old) by fd) old r new → Does disk old write_event (told reply.Count r) disk new
   writes_does means serves writes =
       let o : Option Descriptor = descriptor (tables_of old) by fd in record {
@@ -321,6 +357,8 @@ module _ (by fd a : ℕ) (disk : Disk) (old new : KernelState) (r : Result ℕ R
         refused = write_refused o writes;
         shares = λ shared. means (layout_of old) (layout_of new) r (carried_layout (λ s. writing.iol_write s by fd a) old new r (write_carried o writes shared));
         pages = λ shared. (write_carried o writes shared).arena;
+        in_place = write_in_place o writes (λ g i k. k) (λ p k. k);
+        shares_file = write_shares o writes;
         publishes = λ done. write_fills o writes;
         creates = tt;
         sums = serves.sums;
@@ -377,6 +415,10 @@ module _ (by fd n : ℕ) (disk after : Disk) (old new : KernelState) (r : Result
   copy_fills (Some (on.File g at mode)) c = fills_then_frees c.lists c.reads.pages c.frees
   copy_fills o c = c.0.pages
 
+  copy_in_place : (o : Option Descriptor) → CopiesOn by fd n o disk old r after new → ((p : ℕ) → ReadWantsMore (system_of old disk) o n p → MayLetGo (system_of old disk) copy_event p) → KeepsInPlace (system_of old disk) copy_event new
+  copy_in_place (Some (on.File g at mode)) c goes = unless_in_place disk old new copy_event (pool_of_file old g) (LacksPagesToRead g at n disk (holding_of old)) c.reads.keeps (λ p same lacks. goes p (same, lacks))
+  copy_in_place o c goes = cache_in_place disk old new copy_event c.0.cache
+
   pub copies_does : Means reply.Bytes (λ s. reading.read s by fd n) copy_event → Serves (λ s. reading.read s by fd n) disk old r after new → Copies by fd n disk old r after new → Does disk old copy_event (told reply.Bytes r) after new
   copies_does means serves copies =
       let o : Option Descriptor = held_by (tables_of old) by fd in record {
@@ -395,6 +437,8 @@ module _ (by fd n : ℕ) (disk after : Disk) (old new : KernelState) (r : Result
         refused = copy_refused o copies;
         shares = λ shared. absurd (true≢false (sym shared));
         pages = λ shared. absurd (true≢false (sym shared));
+        in_place = copy_in_place o copies (λ p k. k);
+        shares_file = λ done. tt;
         publishes = λ done. copy_fills o copies;
         creates = tt;
         sums = serves.sums;
@@ -414,26 +458,50 @@ module _ (by fd : ℕ) (bytes : List ℕ) (disk : Disk) (old new : KernelState) 
   put_tells : Tells reply.Count
   put_tells = record { answers = λ a. refl; roomy = λ a x. x; unrefused = λ a x. x }
 
+  abbrev pool_of : Option Descriptor → ℕ
+  pool_of o = writing.pool_for (tables_of old) by o
+
+  -- how many bytes are taken
+  abbrev count_of : Option Descriptor → ℕ
+  count_of o = writing.fitting (tables_of old) o (length bytes)
+
   abbrev IsPut : (put : State → Text → State) → Option Descriptor → Type 0
-  IsPut put o = OnOk r (AfterRoom (writing.pool_for (tables_of old) by o) taken_bytes old (λ roomy. MakesBytes put (writing.pool_for (tables_of old) by o) taken_bytes roomy new))
+  IsPut put o = Places (λ s. writing.write s by fd bytes) put (pool_of o) (count_of o) old r new
 
-  fills_put : (put : State → Text → State) (o : Option Descriptor) → IsPut put o → IsDone (told reply.Count r) → Fills (writing.pool_for (tables_of old) by o) taken_bytes old new
-  fills_put put o made is = (let x = ok_told reply.Count r _ made is in record { roomy = x.roomy; room = x.room; then = x.then.pages })
+  fills_put : (put : State → Text → State) (o : Option Descriptor) → IsPut put o → IsDone (told reply.Count r) → Fills (pool_of o) (count_of o) old new
+  fills_put put o placed is = (let x = ok_told reply.Count r _ placed.made is in record { roomy = x.roomy; room = x.room; then = x.then.pages })
 
-  put_fills : (put : State → Text → State) (o : Option Descriptor) → (is_file o ≡ false → IsPut put o) → IsDone (told reply.Count r) → FillsForWrite by fd bytes old o new
-  put_fills put None made is = fills_put put None (made refl) is
-  put_fills put (Some (on.File g at mode)) made is = tt
-  put_fills put (Some (on.ReadEnd p)) made is = fills_put put (Some (on.ReadEnd p)) (made refl) is
-  put_fills put (Some (on.WriteEnd p)) made is = fills_put put (Some (on.WriteEnd p)) (made refl) is
-  put_fills put (Some (on.Connection c)) made is = fills_put put (Some (on.Connection c)) (made refl) is
+  put_fills : (put : State → Text → State) (o : Option Descriptor) → (is_file o ≡ false → IsPut put o) → PutsOn o (pool_of o) (length bytes) old r new → IsDone (told reply.Count r) → Fills (pool_of o) (count_of o) old new
+  put_fills put None placed puts is = fills_put put None (placed refl) is
+  put_fills put (Some (on.File g at mode)) placed puts is = ok_told reply.Count r _ puts.fills is
+  put_fills put (Some (on.ReadEnd p)) placed puts is = fills_put put (Some (on.ReadEnd p)) (placed refl) is
+  put_fills put (Some (on.WriteEnd p)) placed puts is = fills_put put (Some (on.WriteEnd p)) (placed refl) is
+  put_fills put (Some (on.Connection c)) placed puts is = fills_put put (Some (on.Connection c)) (placed refl) is
+
+  abbrev PutGoes : Option Descriptor → Type 0
+  PutGoes o = (p : ℕ) → WantsMore old (pool_of o) (count_of o) p → MayLetGo (system_of old disk) put_event p
+
+  queue_in_place : (put : State → Text → State) (o : Option Descriptor) → IsPut put o → PutGoes o → KeepsInPlace (system_of old disk) put_event new
+  queue_in_place put o placed goes = places_in_place disk old new put_event (λ s. writing.write s by fd bytes) put (pool_of o) (count_of o) (λ p same lacks. goes p (same, subst (λ q. LacksPages old q (pages_for (count_of o))) (sym same) lacks)) r placed
+
+  put_in_place : (put : State → Text → State) (o : Option Descriptor) → (is_file o ≡ false → IsPut put o) → PutsOn o (pool_of o) (length bytes) old r new → ((g i : ℕ) → IsInRange o (length bytes) g i → IsWritten old put_event g i) → PutGoes o → KeepsInPlace (system_of old disk) put_event new
+  put_in_place put None placed puts writes goes = queue_in_place put None (placed refl) goes
+  put_in_place put (Some (on.File f at mode)) placed puts writes goes =
+      let pool : ℕ = pool_of (Some (on.File f at mode)) in
+      beside_in_place disk old new put_event f at (length bytes) pool (LacksPages old pool (pages_for (length bytes))) puts.beside (λ g i same from to. writes g i (same, from, to))
+      (λ p same lacks. goes p (same, subst (λ q. LacksPages old q (pages_for (length bytes))) (sym same) lacks))
+  put_in_place put (Some (on.ReadEnd p)) placed puts writes goes = queue_in_place put (Some (on.ReadEnd p)) (placed refl) goes
+  put_in_place put (Some (on.WriteEnd p)) placed puts writes goes = queue_in_place put (Some (on.WriteEnd p)) (placed refl) goes
+  put_in_place put (Some (on.Connection c)) placed puts writes goes = queue_in_place put (Some (on.Connection c)) (placed refl) goes
 
   pub puts_does : (put : State → Text → State) → Means reply.Count (λ s. writing.write s by fd bytes) put_event → Serves (λ s. writing.write s by fd bytes) disk old r disk new
       → (is_file (descriptor (tables_of old) by fd) ≡ false → Places (λ s. writing.write s by fd bytes) put (writing.pool_for (tables_of old) by (descriptor (tables_of old) by fd)) taken_bytes old r new)
       → OnOk r (can_fit old (writing.pool_for (tables_of old) by (descriptor (tables_of old) by fd)) taken_bytes ≡ true)
       → ((p : ℕ) → r ≡ Err (NoRoom p) → can_fit old (writing.pool_for (tables_of old) by (descriptor (tables_of old) by fd)) taken_bytes ≡ false)
+      → PutsOn (descriptor (tables_of old) by fd) (writing.pool_for (tables_of old) by (descriptor (tables_of old) by fd)) (length bytes) old r new
       → IfErr r (λ x. (new ≡ old) ⊎ WantOfRoom (writing.pool_for (tables_of old) by (descriptor (tables_of old) by fd)) x)
       → Does disk old put_event (told reply.Count r) disk new
-  puts_does put means serves queue room lacks left = record {
+  puts_does put means serves queue room lacks puts left = record {
     step = λ backed placed. means (machine_of disk.slots old) (machine_of disk.slots new) r (serves.step backed placed);
     backed = serves.backed;
     beside = told_beside reply.Count (λ s. writing.write s by fd bytes) put_event old new r means serves.beside;
@@ -449,7 +517,9 @@ module _ (by fd : ℕ) (bytes : List ℕ) (disk : Disk) (old new : KernelState) 
     uncached = λ unused other. absurd (true≢false unused);
     shares = λ shared. absurd (true≢false (sym shared));
     pages = λ shared. absurd (true≢false (sym shared));
-    publishes = λ done. put_fills put (descriptor (tables_of old) by fd) (λ none. (queue none).made) done;
+    in_place = put_in_place put (descriptor (tables_of old) by fd) queue puts (λ g i k. k) (λ p k. k);
+    shares_file = λ done. tt;
+    publishes = λ done. put_fills put (descriptor (tables_of old) by fd) queue puts done;
     creates = tt;
     sums = serves.sums;
     written_back = none_back old (told reply.Count r) disk new put_event refl;
@@ -465,8 +535,8 @@ module _ (m : State → Meaning (Unit {0})) (e : Event) (disk after : Disk) (old
   pub stores_does : Means (λ u. reply.Done) m e → ((s : State) → uses_cache s e ≡ true) → ((s : State) → is_sharing s e ≡ false)
       → ((s : SystemState) → HasRoomFor s e) → (KeepsPages old.store new.store [] → Publishes old e new) → ((x : Reply) → Creates old e x new) → ((x : Reply) → new.sums ≡ old.sums → Remembers old e x new)
       → (asks_store (tables_of old) e ≡ false → after ≡ disk) → (asks_store (tables_of old) e ≡ true → FaultCounts disk after r) → ((p : ℕ) → r ≡ Err (NoRoom p) → ⊥)
-      → KeepsPages old.store new.store [] → WritesBack old e (told (λ u. reply.Done) r) after new → Serves m disk old r after new → (writes_store e ≡ false → after.slots ≡ disk.slots) → (IsEarly (told (λ u. reply.Done) r) → (new ≡ old) × (after ≡ disk)) → Does disk old e (told (λ u. reply.Done) r) after new
-  stores_does means uses unshared has publishes creates sums unasked faults roomy pages written serves slots early = record {
+      → KeepsPages old.store new.store [] → WritesBack old e (told (λ u. reply.Done) r) after new → KeepsInPlace (system_of old disk) e new → shares_file e ≡ false → Serves m disk old r after new → (writes_store e ≡ false → after.slots ≡ disk.slots) → (IsEarly (told (λ u. reply.Done) r) → (new ≡ old) × (after ≡ disk)) → Does disk old e (told (λ u. reply.Done) r) after new
+  stores_does means uses unshared has publishes creates sums unasked faults roomy pages written lies unlent serves slots early = record {
     step = λ backed placed. means (machine_of disk.slots old) (machine_of after.slots new) r (serves.step backed placed);
     backed = serves.backed;
     beside = told_beside (λ u. reply.Done) m e old new r means serves.beside;
@@ -482,6 +552,8 @@ module _ (m : State → Meaning (Unit {0})) (e : Event) (disk after : Disk) (old
     uncached = λ unused other. absurd (true≢false (sym (uses (tables_of old)) ∙ unused));
     shares = λ shared. absurd (true≢false (sym shared ∙ unshared (tables_of old)));
     pages = λ shared. absurd (true≢false (sym shared ∙ unshared (tables_of old)));
+    in_place = lies;
+    shares_file = λ done. shares_none (system_of old disk) new e unlent;
     publishes = λ done. publishes pages;
     creates = creates (told (λ u. reply.Done) r);
     sums = sums (told (λ u. reply.Done) r) serves.sums;
@@ -511,7 +583,7 @@ module _ (by fd : ℕ) (disk after : Disk) (old new : KernelState) (r : Result (
   syncs_does sound means serves syncs =
       stores_does (λ s. files.fsync s by fd) (event.Call by (call.Fsync fd)) disk after old new r means (λ s. refl) (λ s. refl) (λ s. tt) (λ k. k) (λ x. tt) (λ x k. k)
       (λ none. absurd (true≢false none)) (λ asked. syncs.counts) (sync_roomy serves)
-      (pages_equal old.store new.store (ap (λ (h : KernelState). h.store) syncs.same)) (syncs_back by fd disk after old new r sound serves.sound syncs) serves
+      (pages_equal old.store new.store (ap (λ (h : KernelState). h.store) syncs.same)) (syncs_back by fd disk after old new r sound serves.sound syncs) (syncs_in_place by fd (files.file_on (tables_of old) by fd) disk after old new syncs.syncs) refl serves
       (λ none. absurd (true≢false none)) (sync_early (files.file_on (tables_of old) by fd) r syncs.writes)
 
 module _ (disk after : Disk) (old new : KernelState) (r : Result (Unit {0}) Refusal) where
@@ -529,13 +601,13 @@ module _ (disk after : Disk) (old new : KernelState) (r : Result (Unit {0}) Refu
   flushes_does sound means serves flushes =
       stores_does outside.flush event.Flush disk after old new r means (λ s. refl) (λ s. refl) (λ s. tt) (λ k. k) (λ x. tt) (λ x k. k)
       (λ none. absurd (true≢false none)) (λ asked. flushes.counts) (flush_roomy serves)
-      (pages_equal old.store new.store (ap (λ (h : KernelState). h.store) flushes.same)) (flushes_back disk after old new r sound flushes) serves
+      (pages_equal old.store new.store (ap (λ (h : KernelState). h.store) flushes.same)) (flushes_back disk after old new r sound flushes) (flushes_in_place disk after old new r sound flushes) refl serves
       (λ none. absurd (true≢false none)) (flush_early r serves.beside)
 
-pub drops_does : (disk : Disk) (old new : KernelState) → Means (λ u. reply.Done) outside.drop_clean event.DropClean → Serves outside.drop_clean disk old (Ok tt) disk new → KeepsPages old.store new.store [] → ((f : ℕ) → AllDirty (extents_in new.cache.files f)) → Does disk old event.DropClean reply.Done disk new
-drops_does disk old new means serves pages none =
+pub drops_does : (disk : Disk) (old new : KernelState) → Means (λ u. reply.Done) outside.drop_clean event.DropClean → Serves outside.drop_clean disk old (Ok tt) disk new → KeepsPages old.store new.store [] → ((f : ℕ) → AllDirty (extents_in new.cache.files f)) → KeepsDirty old.cache new.cache → Does disk old event.DropClean reply.Done disk new
+drops_does disk old new means serves pages none keeps =
     stores_does outside.drop_clean event.DropClean disk disk old new (Ok tt) means (λ s. refl) (λ s. refl) (λ s. tt) (λ k. k) (λ x. tt) (λ x k. k)
-    (λ none. refl) (λ asked. absurd (true≢false (sym asked))) (λ p is. cc) pages (drops_back old new disk none) serves
+    (λ none. refl) (λ asked. absurd (true≢false (sym asked))) (λ p is. cc) pages (drops_back old new disk none) (drops_in_place disk old new keeps) refl serves
     (λ none. refl) (λ is. absurd is)
 
 -- A new pool.
@@ -570,6 +642,8 @@ module _ (by chunks : ℕ) (list : List ℕ) (disk : Disk) (old new : KernelStat
         refused = λ unused is. refused_told reply.Pool r (new ≡ old) pool_tells c.refused is;
         shares = λ shared. absurd (true≢false (sym shared));
         pages = λ shared. absurd (true≢false (sym shared));
+        in_place = cache_in_place disk old new pool_event c.cache;
+        shares_file = λ done. tt;
         publishes = λ done. c.pages;
         creates = pool_creates r adds;
         sums = c.sums;
@@ -611,6 +685,8 @@ module _ (conn max : ℕ) (disk : Disk) (old new : KernelState) where
         refused = λ unused is. refused_told sent r (new ≡ old) send_tells c.refused is;
         shares = λ shared. absurd (true≢false (sym shared));
         pages = λ shared. absurd (true≢false (sym shared));
+        in_place = cache_in_place disk old new send_event c.cache;
+        shares_file = λ done. tt;
         publishes = λ done. c.pages;
         creates = tt;
         sums = send_sums r c;

@@ -8,3 +8,4 @@ pub mod Served
 pub mod Doing
 pub mod FileDoing
 pub mod WrittenBack
+pub mod InPlace

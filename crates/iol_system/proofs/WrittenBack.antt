@@ -124,7 +124,7 @@ module _ (by fd : ℕ) (disk after : Disk) (old new : KernelState) (r : Result (
 
 -- What `flush` leaves.
 
-cleans_first : (s : Stored) (f : ℕ) (old new : Cached) (d e : Disk) → cache.IsSound s old → AllClean (f - 1) old → Cleans s f old new d e → CleansFirst old new
+pub cleans_first : (s : Stored) (f : ℕ) (old new : Cached) (d e : Disk) → cache.IsSound s old → AllClean (f - 1) old → Cleans s f old new d e → CleansFirst old new
 cleans_first s f old new d e sound least w =
     let b = numbered_bounds old.files f (dirty_there old.files f w.extent w.first) in
     let es = extents_in old.files f in

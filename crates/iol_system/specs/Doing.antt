@@ -11,6 +11,7 @@ use Rattle.iol_hold.specs.Moves.{Stays}
 use Rattle.iol_kernel.specs.Backed.{IsBackedBy, StepsBeside}
 use Rattle.iol_kernel.specs.KernelState.{KernelState, layout_of, machine_of, IsSound}
 use Rattle.iol_system.specs.Asking.{asks_store, makes_file, uses_cache, writes_store}
+use Rattle.iol_system.specs.InPlace.{KeepsInPlace, SharesFile}
 use Rattle.iol_system.specs.Machine.{system_of, tables_of}
 use Rattle.iol_system.specs.Placed.{Creates, Publishes}
 use Rattle.iol_system.specs.Remembered.{Remembers}
@@ -35,6 +36,8 @@ pub record Does (disk : Disk) (old : KernelState) (e : Event) (r : Reply) (after
   pub uncached : uses_cache (tables_of old) e ≡ false → makes_file e ≡ false → new.cache ≡ old.cache
   pub shares : is_sharing (tables_of old) e ≡ true → LaysOut (layout_of old) e r (layout_of new)
   pub pages : is_sharing (tables_of old) e ≡ true → new.store.arena ≡ old.store.arena
+  pub in_place : KeepsInPlace (system_of old disk) e new
+  pub shares_file : IsDone r → SharesFile (system_of old disk) e new
   pub publishes : IsDone r → Publishes old e new
   pub creates : Creates old e r new
   pub sums : Remembers old e r new

@@ -12,3 +12,4 @@ pub mod Values
 pub mod Asking
 pub mod Doing
 pub mod WrittenBack
+pub mod InPlace

@@ -23,6 +23,7 @@ ghost use Rattle.iol_cache.specs.Cached.{extents_in_all, dirty_in_all};
 ghost use Rattle.iol_arena.specs.State.{no_entry};
 ghost use Rattle.iol_arena.specs.Buffers.{SharesNoPage, live_pages};
 ghost use Rattle.iol_system.specs.Asking.{asks_store, makes_file, uses_cache, writes_store};
+ghost use Rattle.iol_system.specs.InPlace.{KeepsInPlace, SharesFile};
 ghost use Rattle.iol_system.specs.Placed.{Creates, Publishes};
 ghost use Rattle.iol_system.specs.Remembered.{Remembers};
 ghost use Rattle.iol_system.specs.Room.{HasRoomFor, LacksRoomFor, IsDone, IsEarly, IsFault, IsNoRoom, IsRefused};
@@ -162,6 +163,12 @@ impl<B: Backing> System<B> {
             LaysOut (layout_of self.old.kernel) event result (layout_of self.new.kernel) }
         ensures pages { is_sharing (tables_of self.old.kernel) event ≡ true →
             self.new.kernel.store.arena ≡ self.old.kernel.store.arena }
+
+        // Each byte of a file that is in memory lies where it lay, dirty as it was. Or the event writes it, or writes it back; or it
+        // was clean, and the event is `drop_clean`, or wants more pages of the file's pool than are free. What calls on files
+        // share lies where it lay, or where what was read lies now.
+        ensures in_place { KeepsInPlace self.old event self.new.kernel }
+        ensures shares_file { IsDone result → SharesFile self.old event self.new.kernel }
 
         // What publishes does so on the lowest free pages of its pool, each of which is raised by one; an open pool keeps its
         // chunks, and a new one has the lowest free chunks, as many as asked for.
