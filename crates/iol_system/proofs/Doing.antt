@@ -98,7 +98,7 @@ module _ {A : Type 0} (f : A → Reply) (m : State → Meaning A) (e : Event) (d
     publishes = λ done. plain.publishes old new (carried_pages m old new r c);
     creates = plain.creates old (told f r) new;
     sums = plain.sums old (told f r) new c.sums;
-    written_back = none_back old (told f r) disk new e plain.unwritten;
+    written_back = none_back disk old (told f r) disk new e plain.unwritten;
     sound = c.sound;
     stays = c.stays;
   }
@@ -126,7 +126,7 @@ module _ {A : Type 0} (f : A → Reply) (m : State → Meaning A) (e : Event) (d
     publishes = λ done. plain.publishes old new c.pages;
     creates = plain.creates old (told f r) new;
     sums = plain.sums old (told f r) new c.sums;
-    written_back = none_back old (told f r) disk new e plain.unwritten;
+    written_back = none_back disk old (told f r) disk new e plain.unwritten;
     sound = c.sound;
     stays = c.stays;
   }
@@ -154,7 +154,7 @@ module _ {A : Type 0} (f : A → Reply) (m : State → Meaning A) (e : Event) (d
     publishes = λ done. plain.publishes old new (pages_equal old.store new.store c.store);
     creates = plain.creates old (told f r) new;
     sums = plain.sums old (told f r) new c.serves.sums;
-    written_back = none_back old (told f r) disk new e plain.unwritten;
+    written_back = none_back disk old (told f r) disk new e plain.unwritten;
     sound = c.serves.sound;
     stays = c.serves.stays;
   }
@@ -182,7 +182,7 @@ module _ {A : Type 0} (f : A → Reply) (m : State → Meaning A) (e : Event) (d
     publishes = λ done. plain.publishes old new (pages_equal old.store new.store c.store);
     creates = plain.creates old (told f r) new;
     sums = plain.sums old (told f r) new c.sums;
-    written_back = none_back old (told f r) disk new e plain.unwritten;
+    written_back = none_back disk old (told f r) disk new e plain.unwritten;
     sound = c.sound;
     stays = stays_equal old.store new.store c.store;
   }

@@ -141,7 +141,7 @@ module _ {A : Type 0} (f : A → Reply) (m : State → Meaning A) (e : Event) (d
     publishes = λ done. plain.publishes h h (pages_here h.store);
     creates = plain.creates h (told f r) h;
     sums = plain.sums h (told f r) h refl;
-    written_back = none_back h (told f r) disk h e plain.unwritten;
+    written_back = none_back disk h (told f r) disk h e plain.unwritten;
     sound = sound;
     stays = stays_here h.store;
   }
@@ -191,7 +191,7 @@ module _ {A : Type 0} (f : A → Reply) (m : State → Meaning A) (put : State �
         publishes = λ done. placing.publishes new (fills_of r c.made done);
         creates = placing.creates (told f r) new;
         sums = placing.sums (told f r) new serves.sums;
-        written_back = none_back old (told f r) disk new e placing.unwritten;
+        written_back = none_back disk old (told f r) disk new e placing.unwritten;
         sound = serves.sound;
         stays = serves.stays;
       }
@@ -285,7 +285,7 @@ module _ (by fd n : ℕ) (disk after : Disk) (old new : KernelState) (r : Result
         publishes = λ done. read_fills o reads;
         creates = tt;
         sums = serves.sums;
-        written_back = none_back old (told reply.Agg r) after new read_event refl;
+        written_back = none_back disk old (told reply.Agg r) after new read_event refl;
         sound = serves.sound;
         stays = serves.stays;
       }
@@ -362,7 +362,7 @@ module _ (by fd a : ℕ) (disk : Disk) (old new : KernelState) (r : Result ℕ R
         publishes = λ done. write_fills o writes;
         creates = tt;
         sums = serves.sums;
-        written_back = none_back old (told reply.Count r) disk new write_event refl;
+        written_back = none_back disk old (told reply.Count r) disk new write_event refl;
         sound = serves.sound;
         stays = serves.stays;
       }
@@ -442,7 +442,7 @@ module _ (by fd n : ℕ) (disk after : Disk) (old new : KernelState) (r : Result
         publishes = λ done. copy_fills o copies;
         creates = tt;
         sums = serves.sums;
-        written_back = none_back old (told reply.Bytes r) after new copy_event refl;
+        written_back = none_back disk old (told reply.Bytes r) after new copy_event refl;
         sound = serves.sound;
         stays = serves.stays;
       }
@@ -522,7 +522,7 @@ module _ (by fd : ℕ) (bytes : List ℕ) (disk : Disk) (old new : KernelState) 
     publishes = λ done. put_fills put (descriptor (tables_of old) by fd) queue puts done;
     creates = tt;
     sums = serves.sums;
-    written_back = none_back old (told reply.Count r) disk new put_event refl;
+    written_back = none_back disk old (told reply.Count r) disk new put_event refl;
     sound = serves.sound;
     stays = serves.stays;
   }
@@ -535,7 +535,7 @@ module _ (m : State → Meaning (Unit {0})) (e : Event) (disk after : Disk) (old
   pub stores_does : Means (λ u. reply.Done) m e → ((s : State) → uses_cache s e ≡ true) → ((s : State) → is_sharing s e ≡ false)
       → ((s : SystemState) → HasRoomFor s e) → (KeepsPages old.store new.store [] → Publishes old e new) → ((x : Reply) → Creates old e x new) → ((x : Reply) → new.sums ≡ old.sums → Remembers old e x new)
       → (asks_store (tables_of old) e ≡ false → after ≡ disk) → (asks_store (tables_of old) e ≡ true → FaultCounts disk after r) → ((p : ℕ) → r ≡ Err (NoRoom p) → ⊥)
-      → KeepsPages old.store new.store [] → WritesBack old e (told (λ u. reply.Done) r) after new → KeepsInPlace (system_of old disk) e new → shares_file e ≡ false → Serves m disk old r after new → (writes_store e ≡ false → after.slots ≡ disk.slots) → (IsEarly (told (λ u. reply.Done) r) → (new ≡ old) × (after ≡ disk)) → Does disk old e (told (λ u. reply.Done) r) after new
+      → KeepsPages old.store new.store [] → WritesBack disk old e (told (λ u. reply.Done) r) after new → KeepsInPlace (system_of old disk) e new → shares_file e ≡ false → Serves m disk old r after new → (writes_store e ≡ false → after.slots ≡ disk.slots) → (IsEarly (told (λ u. reply.Done) r) → (new ≡ old) × (after ≡ disk)) → Does disk old e (told (λ u. reply.Done) r) after new
   stores_does means uses unshared has publishes creates sums unasked faults roomy pages written lies unlent serves slots early = record {
     step = λ backed placed. means (machine_of disk.slots old) (machine_of after.slots new) r (serves.step backed placed);
     backed = serves.backed;
@@ -647,7 +647,7 @@ module _ (by chunks : ℕ) (list : List ℕ) (disk : Disk) (old new : KernelStat
         publishes = λ done. c.pages;
         creates = pool_creates r adds;
         sums = c.sums;
-        written_back = none_back old (told reply.Pool r) disk new pool_event refl;
+        written_back = none_back disk old (told reply.Pool r) disk new pool_event refl;
         sound = c.sound;
         stays = c.stays;
       }
@@ -690,7 +690,7 @@ module _ (conn max : ℕ) (disk : Disk) (old new : KernelState) where
         publishes = λ done. c.pages;
         creates = tt;
         sums = send_sums r c;
-        written_back = none_back old (told sent r) disk new send_event refl;
+        written_back = none_back disk old (told sent r) disk new send_event refl;
         sound = c.sound;
         stays = c.stays;
       }

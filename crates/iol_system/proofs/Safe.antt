@@ -88,6 +88,7 @@ module _ (old new : SystemState) (e : Event) (r : Reply) (safe : IsSafe old) (do
     kept = λ honest. does.written_back.kept (does.backed (safe.backed honest));
     flushed = does.written_back.flushed;
     dropped = does.written_back.dropped;
+    stores_back = does.written_back.stores_back;
     safe = record {
       sound = does.sound;
       access = access_beside old.kernel new.kernel e r old.disk.slots new.disk.slots does.beside safe.access;

@@ -41,6 +41,6 @@ pub record Does (disk : Disk) (old : KernelState) (e : Event) (r : Reply) (after
   pub publishes : IsDone r → Publishes old e new
   pub creates : Creates old e r new
   pub sums : Remembers old e r new
-  pub written_back : WritesBack old e r after new
+  pub written_back : WritesBack disk old e r after new
   pub sound : IsSound new
   pub stays : Stays old.store new.store

@@ -20,7 +20,7 @@ use Rattle.iol_system.specs.Placed.{Creates, Publishes}
 use Rattle.iol_system.specs.Remembered.{Remembers}
 use Rattle.iol_system.specs.Room.{HasRoomFor, LacksRoomFor, IsDone, IsEarly, IsFault, IsNoRoom, IsRefused}
 use Rattle.iol_system.specs.Safe.{IsSafe}
-use Rattle.iol_system.specs.WrittenBack.{IsDropped, IsFlushed, IsKept, IsSynced}
+use Rattle.iol_system.specs.WrittenBack.{IsDropped, IsFlushed, IsKept, IsSynced, StoresBack}
 
 -- From old to new, by this event with this reply. Over an honest store it is the copying machine's step; over any store it is
 -- that but for the bytes of files, and a store stays as honest as it was. A store is asked by calls on files alone, and
@@ -57,6 +57,7 @@ pub record Promises (old : SystemState) (e : Event) (r : Reply) (new : SystemSta
   pub kept : IfHonest old.disk (IsDone r → IsKept old.kernel e new)
   pub flushed : IsDone r → IsFlushed old.kernel e new.kernel
   pub dropped : IsDropped e new.kernel
+  pub stores_back : StoresBack old.disk old.kernel e r new.disk new.kernel
   pub safe : IsSafe new
   pub stays : Stays old.kernel.store new.kernel.store
   pub values : ValuesStay (machine_of old) e (machine_of new)

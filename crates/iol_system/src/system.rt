@@ -27,7 +27,7 @@ ghost use Rattle.iol_system.specs.InPlace.{KeepsInPlace, SharesFile};
 ghost use Rattle.iol_system.specs.Placed.{Creates, Publishes};
 ghost use Rattle.iol_system.specs.Remembered.{Remembers};
 ghost use Rattle.iol_system.specs.Room.{HasRoomFor, LacksRoomFor, IsDone, IsEarly, IsFault, IsNoRoom, IsRefused};
-ghost use Rattle.iol_system.specs.WrittenBack.{IsDropped, IsFlushed, IsKept, IsSynced};
+ghost use Rattle.iol_system.specs.WrittenBack.{IsDropped, IsFlushed, IsKept, IsSynced, StoresBack};
 
 use crate::aggregates::Aggregates;
 use crate::step::{carry_out, run_all};
@@ -186,6 +186,8 @@ impl<B: Backing> System<B> {
             (IsDone result → IsKept self.old.kernel event self.new) }
         ensures flushed { IsDone result → IsFlushed self.old.kernel event self.new.kernel }
         ensures dropped { IsDropped event self.new.kernel }
+        ensures stores_back { StoresBack self.old.disk self.old.kernel event result self.new.disk
+            self.new.kernel }
 
         // Counts are those of the slices, no page is lost, what a domain has it may read, and an honest store has what memory has
         // where nothing was written.
