@@ -1,8 +1,9 @@
 -- What a read of a file leaves of a kernel, from what the cache of files promises of it.
-use Rattle.std.proofs.Common.{◌≡◌, ℕ, ◌+◌, ◌-◌, ◌<◌, ◌≤◌, List, [], ◌∷◌, ◌++◌, length, ap, ◌∙◌, refl, sym, subst, arith, Option, Some, None, true, inl, length-append}
+use Rattle.std.proofs.Common.{◌≡◌, ℕ, ◌+◌, ◌-◌, ◌<◌, ◌≤◌, List, [], ◌∷◌, ◌++◌, length, ap, ◌∙◌, refl, sym, subst, arith, Option, Some, None, true, inl, inr, length-append}
 use Rattle.std.specs.Prelude.{Result, Ok, Err}
 use Rattle.iol_core.specs.Numbered.{in_place, is_numbered}
 use Rattle.iol_core.specs.State.{Domain}
+use Rattle.iol_core.specs.Meaning.{WantOfRoomOrFault}
 use Rattle.iol_core.specs.Calls.Reading as reading
 use Rattle.iol_core.specs.declared.descriptors.Descriptor.TheVariants as on
 use Rattle.iol_core.specs.declared.limits.TheConstants.{MAX_FILE_BYTES}
@@ -12,9 +13,10 @@ use Rattle.iol_back.specs.Disk.{Disk}
 use Rattle.iol_extent.specs.Extents.{Extent}
 use Rattle.iol_extent.specs.Spans.{AreInOrder}
 use Rattle.iol_extent.specs.declared.spans.Span.{Span}
-use Rattle.iol_hold.specs.Moves.{SameLists}
+use Rattle.iol_hold.specs.Moves.{Moves, SameLists}
 use Rattle.iol_hold.specs.Places.{byte_len}
 use Rattle.iol_hold.specs.Stored.{Stored}
+use Rattle.iol_hold.specs.Texts.{bufs_of}
 use Rattle.iol_hold.specs.declared.slices.Slice.{Slice}
 use Rattle.iol_hold.proofs.Releasing.{frees_none}
 use Rattle.iol_desc.specs.Tables.{domain_in, with_agg_in}
@@ -29,7 +31,7 @@ use Rattle.iol_cache.proofs.Paging.{fills_none}
 use Rattle.iol_cache.proofs.Shared.{length-places_over}
 use Rattle.iol_kernel.specs.Backed.{Serves, holding_of}
 use Rattle.iol_kernel.specs.Calls.{CarriesOut}
-use Rattle.iol_kernel.specs.FileReading.{FileRead, GivesRead, ReadsFileAs, moved_on, pool_read}
+use Rattle.iol_kernel.specs.FileReading.{FileRead, GivesCopy, GivesRead, ReadsFileAs, moved_on, pool_read}
 use Rattle.iol_kernel.specs.KernelState.{KernelState, objects_of, IsSound}
 use Rattle.iol_kernel.proofs.FileReads.{numbered_here, position_short}
 use Rattle.iol_kernel.specs.Keeping.{LacksPagesToRead}
@@ -98,6 +100,7 @@ reads_nothing {A} x disk h k y same room counts = subst (λ (l : KernelState). R
   fault = record { honest = refl; slots = λ i. refl; counts = counts };
   same = refl;
   refused = refl;
+  leaves = inl (refl, refl);
 })
 
 length-read : (old new : List Extent) (at to : ℕ) (gs : List Span) → AreInOrder at to gs → length (places_read old new at to gs) + at ≡ to
@@ -124,8 +127,8 @@ module _ (x : FileRead) (disk after : Disk) (h : KernelState) (t : Stored) (c : 
   abbrev lacks : Type 0
   lacks = NoRoomToRead x.file x.at x.count disk (holding_of h)
 
-  pub reads_refused : (A B : Type 0) (y : Refusal) (ds : Domains) → ds ≡ h.domains → RefusesRead x.file x.at x.count disk (holding_of h) (over t c) → TellsRoom {A = A} has lacks (Err y) → TellsFault {A = A} disk after (Err y) → ReadsFileAs {A = B} x disk h (Err y) after (record h { store = t; domains = ds; cache = c })
-  reads_refused A B y ds kept refused room fault = record {
+  pub reads_refused : (A B : Type 0) (y : Refusal) (ds : Domains) → ds ≡ h.domains → RefusesRead x.file x.at x.count disk (holding_of h) (over t c) → TellsRoom {A = A} has lacks (Err y) → TellsFault {A = A} disk after (Err y) → WantOfRoomOrFault (pool_read h x) x.file y → ReadsFileAs {A = B} x disk h (Err y) after (record h { store = t; domains = ds; cache = c })
+  reads_refused A B y ds kept refused room fault late = record {
     keeps = refused_unless x.file x.at x.count disk (holding_of h) (over t c) (apart_of {h = holding_of h} (cache_sound h sound)) refused;
     pages = pages;
     lists = lists;
@@ -133,6 +136,7 @@ module _ (x : FileRead) (disk after : Disk) (h : KernelState) (t : Stored) (c : 
     fault = fault_told A B disk after y fault;
     same = refl;
     refused = kept;
+    leaves = inr (late, inl refused);
   }
 
   pub reads_done : {B : Type 0} (r : B) (xs : List Slice) (m : Stored) (ds : Domains) → ReadsFile x.file x.at x.count disk (holding_of h) (over m c) xs → has → after.failures ≡ disk.failures → after.honest ≡ disk.honest → (disk.honest ≡ true → after.slots ≡ disk.slots) → ReadsFileAs {A = B} x disk h (Ok r) after (record h { store = t; domains = ds; cache = c })
@@ -144,6 +148,7 @@ module _ (x : FileRead) (disk after : Disk) (h : KernelState) (t : Stored) (c : 
     fault = record { honest = honest; slots = slots; counts = counts };
     same = refl;
     refused = tt;
+    leaves = tt;
   }
 
   -- it was read, and then there was no memory for what was to be made of it
@@ -156,6 +161,7 @@ module _ (x : FileRead) (disk after : Disk) (h : KernelState) (t : Stored) (c : 
     fault = record { honest = honest; slots = slots; counts = counts };
     same = refl;
     refused = refl;
+    leaves = inr (tt, inr (record { slices = xs; read = reads; memory = refl }));
   }
 
   pub gives_read : (xs : List Slice) (ds : Domains) → ReadsFile x.file x.at x.count disk (holding_of h) (over t c) xs → ds ≡ with_agg_in (moved_on h.domains x (byte_len xs)) x.domain xs → GivesRead x disk h (record h { store = t; domains = ds; cache = c })
@@ -163,4 +169,12 @@ module _ (x : FileRead) (disk after : Disk) (h : KernelState) (t : Stored) (c : 
     slices = xs;
     read = reads;
     domains = added;
+  }
+
+  pub gives_copy : (xs : List Slice) (s : Stored) (ds : Domains) → ReadsFile x.file x.at x.count disk (holding_of h) (over t c) xs → Moves t s (bufs_of xs) [] → ds ≡ moved_on h.domains x (byte_len xs) → GivesCopy x disk h t (record h { store = s; domains = ds; cache = c })
+  gives_copy xs s ds reads released moved = record {
+    slices = xs;
+    read = reads;
+    released = released;
+    domains = moved;
   }

@@ -91,6 +91,7 @@ refused_leaves h f at xs x roomy = record {
   lists = refl;
   same = refl;
   refused = refl;
+  leaves = inl refl;
 }
 
 -- by what the descriptor is open on
@@ -171,6 +172,7 @@ module _ (h : KernelState) (t : Stored) (d : Cached) (by fd a f at : ℕ) (mode 
       lists = lists;
       same = refl;
       refused = tt;
+      leaves = tt;
     })
 
   -- refused late
@@ -181,8 +183,8 @@ module _ (h : KernelState) (t : Stored) (d : Cached) (by fd a f at : ℕ) (mode 
       (λ stored. subst (λ (o : Option Descriptor). writing.write_late (machine_of stored h) o x) (sym (to stored)) (subst (λ p. WantOfRoom p x) (sym (pool-file (bytes_over stored h.store) h f sound)) late))
       same
 
-  pub unwritten_leaves : (k : KernelState) (x : Refusal) → OnlyMakesRoom (pool_of_file h f) (copied_pages (pool_of_file h f) xs) (holding_of h) new → ((p : ℕ) → x ≡ NoRoom p → length (pages_of h.store (pool_of_file h f)) < pages_to_write h f xs) → k ≡ record h { store = t; cache = d } → WritesOver {A = ℕ} f at xs h (Err x) k
-  unwritten_leaves k x room lacks same = subst (λ (l : KernelState). WritesOver {A = ℕ} f at xs h (Err x) l) (sym same) (record {
+  pub unwritten_leaves : (k : KernelState) (x : Refusal) → OnlyMakesRoom (pool_of_file h f) (copied_pages (pool_of_file h f) xs) (holding_of h) new → ((p : ℕ) → x ≡ NoRoom p → length (pages_of h.store (pool_of_file h f)) < pages_to_write h f xs) → WantOfRoom (pool_of_file h f) x → k ≡ record h { store = t; cache = d } → WritesOver {A = ℕ} f at xs h (Err x) k
+  unwritten_leaves k x room lacks late same = subst (λ (l : KernelState). WritesOver {A = ℕ} f at xs h (Err x) l) (sym same) (record {
     lies = tt;
     over = λ some. tt;
     beside = unwritten_unless h f at xs new (apart_of {h = holding_of h} (cache_sound h sound)) room;
@@ -192,6 +194,7 @@ module _ (h : KernelState) (t : Stored) (d : Cached) (by fd a f at : ℕ) (mode 
     lists = lists;
     same = refl;
     refused = refl;
+    leaves = inr (late, room);
   })
     where
       the_refusal : {p : ℕ} → ◌≡◌ {A = Result ℕ Refusal} (Err x) (Err (NoRoom p)) → x ≡ NoRoom p

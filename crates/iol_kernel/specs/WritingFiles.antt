@@ -1,6 +1,7 @@
 -- What a write to a file leaves, beside what it means.
-use Rattle.std.specs.Prelude.{◌≡◌, ℕ, ◌+◌, ◌<◌, ◌≤◌, List, length, Option, Some, Result, Err, OnErr, OnOk, ⊤}
+use Rattle.std.specs.Prelude.{◌≡◌, ◌⊎◌, ℕ, ◌+◌, ◌<◌, ◌≤◌, List, length, Option, Some, Result, Err, IfErr, OnErr, OnOk, ⊤}
 use Rattle.iol_arena.specs.State.{pages_for}
+use Rattle.iol_core.specs.Meaning.{WantOfRoom}
 use Rattle.iol_core.specs.Calls.Writing.{iol_write}
 use Rattle.iol_core.specs.declared.descriptors.Descriptor.{Descriptor}
 use Rattle.iol_core.specs.declared.descriptors.Descriptor.TheVariants as on
@@ -13,7 +14,7 @@ use Rattle.iol_hold.specs.Room.{lowest_of, pages_of}
 use Rattle.iol_hold.specs.declared.slices.Slice.{Slice}
 use Rattle.iol_cache.specs.Cached.{clean_held, file_in}
 use Rattle.iol_cache.specs.Composing.{copied_pages}
-use Rattle.iol_cache.specs.Overwriting.{LiesDirty, WritesFile}
+use Rattle.iol_cache.specs.Overwriting.{LiesDirty, OnlyMakesRoom, WritesFile}
 use Rattle.iol_cache.specs.Paging.{FillsLowest}
 use Rattle.iol_cache.specs.Pinned.{pinned_beside}
 use Rattle.iol_kernel.specs.Backed.{holding_of}
@@ -30,6 +31,13 @@ pool_of_file h f = (file_in h.cache.files f).pool
 abbrev pub pages_to_write : KernelState → (f : ℕ) → List Slice → ℕ
 pages_to_write h f source = pinned_beside h.store (clean_held h.cache.files) (pool_of_file h f) + copied_pages (pool_of_file h f) source
 
+-- A refused write. One that was refused before it made room changed nothing. A late one made room at most, the first extents
+-- before the others, and what it placed is gone.
+abbrev pub LeavesUnwritten : (f : ℕ) (source : List Slice) (old new : KernelState) → Refusal → Type 0
+LeavesUnwritten f source old new x =
+    (new ≡ old)
+    ⊎ (WantOfRoom (pool_of_file old f) x × OnlyMakesRoom (pool_of_file old f) (copied_pages (pool_of_file old f) source) (holding_of old) (holding_of new))
+
 -- The bytes of the source lie dirty over those of the file from `at` on: those of the file's pool where they lay, copies of
 -- the others on the lowest pages that were free once there was room. Every other byte that was in memory lies where it lay, but that
 -- clean ones of the file's pool may have given way where the copies want more pages than were free. It was refused for want of room just where the pages
@@ -44,6 +52,7 @@ pub record WritesOver {A : Type 0} (f at : ℕ) (source : List Slice) (old : Ker
   pub lists : SameLists old.store new.store
   pub same : new ≡ record old { store = new.store; domains = new.domains; cache = new.cache }
   pub refused : OnErr r (new.domains ≡ old.domains)
+  pub leaves : IfErr r (LeavesUnwritten f source old new)
 
 -- A write of an aggregate, by what the descriptor is open on.
 abbrev pub WritesOn : (d fd a : ℕ) → Option Descriptor → (old : KernelState) → Result ℕ Refusal → (new : KernelState) → Type 0

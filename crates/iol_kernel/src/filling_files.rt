@@ -1,5 +1,6 @@
 //! Bytes are written to files by copying: they are placed in the file's pool, and lie there.
-ghost use Rattle.std.specs.Prelude.{◌≡◌, ℕ, length, true, false, Some, Err, OnOk};
+ghost use Rattle.std.specs.Prelude.{◌≡◌, ℕ, length, true, false, Some, Err, IfErr, OnOk};
+ghost use Rattle.iol_core.specs.Meaning.{WantOfRoom};
 ghost use Rattle.iol_core.specs.State as state;
 ghost use Rattle.iol_core.specs.State.{descriptor};
 ghost use Rattle.iol_core.specs.Calls.Writing as calls;
@@ -48,6 +49,7 @@ impl Kernel {
         ensures room { OnOk result (can_fit (state_of self.old) pool (length bytes.now) ≡ true) }
         ensures no_room { (p : ℕ) → result ≡ Err (Refusal.NoRoom p) → can_fit (state_of self.old)
             pool (length bytes.now) ≡ false }
+        ensures late { IfErr result (WantOfRoom pool) }
         ensures puts { PutsInFile file at pool (length bytes.now) (state_of self.old) result
             (state_of self.new) }
     {
@@ -80,6 +82,7 @@ impl Kernel {
         ensures serves { (disk : Disk) → Serves (λ s. calls.write s by fd bytes.now) disk self.old
             result disk self.new }
         ensures roomy { (p : ℕ) → result ≡ Err (Refusal.NoRoom p) → ⊥ }
+        ensures late { IfErr result (WantOfRoom pool) }
         ensures fills { OnOk result (KeepsPages self.old.store self.new.store
             (lowest_of self.old.store pool (length bytes.now))) }
         ensures beside { KeepsBeside file at (length bytes.now) pool ⊥ (state_of self.old).cache

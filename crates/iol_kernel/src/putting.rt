@@ -1,5 +1,6 @@
 //! Writing by copying: no aggregate is made of what is written.
-ghost use Rattle.std.specs.Prelude.{◌≡◌, ℕ, length, true, false, Err, OnOk};
+ghost use Rattle.std.specs.Prelude.{◌≡◌, ◌⊎◌, ℕ, length, true, false, Err, IfErr, OnOk};
+ghost use Rattle.iol_core.specs.Meaning.{WantOfRoom};
 ghost use Rattle.iol_core.specs.State.{descriptor};
 ghost use Rattle.iol_core.specs.Calls.Writing as calls;
 ghost use Rattle.iol_back.specs.Disk.{Disk};
@@ -31,6 +32,8 @@ impl Kernel {
         ensures no_room { (p : ℕ) → result ≡ Err (Refusal.NoRoom p) → can_fit (state_of self.old)
             (calls.pool_for (machine self.old) by (descriptor (machine self.old) by fd))
             (calls.write (machine self.old) by fd bytes.now).answer ≡ false }
+        ensures refused { IfErr result (λ x. (state_of self.new ≡ state_of self.old) ⊎ WantOfRoom
+            (calls.pool_for (machine self.old) by (descriptor (machine self.old) by fd)) x) }
         ensures puts { PutsOn (descriptor (machine self.old) by fd) (calls.pool_for (machine
             self.old) by (descriptor (machine self.old) by fd)) (length bytes.now) (state_of
             self.old) result (state_of self.new) }

@@ -1,5 +1,6 @@
 //! Writing by copying.
-ghost use Rattle.std.specs.Prelude.{◌≡◌, ℕ, length, true, false, Err, OnOk};
+ghost use Rattle.std.specs.Prelude.{◌≡◌, ◌⊎◌, ℕ, length, true, false, Err, IfErr, OnOk};
+ghost use Rattle.iol_core.specs.Meaning.{WantOfRoom};
 ghost use Rattle.iol_core.specs.State.{descriptor};
 ghost use Rattle.iol_core.specs.Calls.Writing as calls;
 ghost use Rattle.iol_back.specs.Disk.{Disk};
@@ -28,6 +29,8 @@ pub fn write(kernel: &mut Kernel, by: DomainId, fd: Fd, bytes: &[u8]) -> Result<
     ensures no_room { (p : ℕ) → result ≡ Err (Refusal.NoRoom p) → can_fit (state_of kernel.old)
         (calls.pool_for (machine kernel.old) by (descriptor (machine kernel.old) by fd))
         (calls.write (machine kernel.old) by fd bytes.now).answer ≡ false }
+    ensures refused { IfErr result (λ x. (state_of kernel.new ≡ state_of kernel.old) ⊎ WantOfRoom
+        (calls.pool_for (machine kernel.old) by (descriptor (machine kernel.old) by fd)) x) }
     ensures puts { PutsOn (descriptor (machine kernel.old) by fd) (calls.pool_for (machine kernel.old)
         by (descriptor (machine kernel.old) by fd)) (length bytes.now) (state_of kernel.old) result
         (state_of kernel.new) }

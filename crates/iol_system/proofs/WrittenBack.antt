@@ -41,7 +41,7 @@ use Rattle.iol_kernel.proofs.WrittenBack.{dirty_there}
 use Rattle.iol_system.specs.Machine.{SystemState, system_of, tables_of}
 use Rattle.iol_system.specs.Replies.{told}
 use Rattle.iol_system.specs.Room.{IsDone}
-use Rattle.iol_system.specs.WrittenBack.{CleansFirst, HasNoClean, IsDropped, IsCleanFile, IsFlushed, IsKept, IsStoredFile, IsSynced, WritesBack}
+use Rattle.iol_system.specs.WrittenBack.{CleansFirst, HasNoClean, IsDropped, IsCleanFile, IsFlushed, IsKept, IsStoredFile, IsSynced, SyncsOn, WritesBack}
 
 -- A file of which nothing is dirty is what the store has.
 
@@ -113,13 +113,21 @@ module _ (by fd : ℕ) (disk after : Disk) (old new : KernelState) (r : Result (
   sync_clean (Ok u) X ok done = ok
   sync_clean (Err x) X ok done = absurd done
 
-  pub syncs_back : IsSound old → IsSound new → SyncsFile (file_on (tables_of old) by fd) disk old r after new → WritesBack old (event.Call by (call.Fsync fd)) (told (λ u. reply.Done) r) after new
+  whole_file : (o : Option Descriptor) → SyncsFile (on_file o) disk old r after new → SyncsOn o disk old (told (λ u. reply.Done) r) after new
+  whole_file None syncs = tt
+  whole_file (Some (on.File f at mode)) syncs = record { answer = r; is = refl; syncs = syncs }
+  whole_file (Some (on.ReadEnd p)) syncs = tt
+  whole_file (Some (on.WriteEnd p)) syncs = tt
+  whole_file (Some (on.Connection c)) syncs = tt
+
+  pub syncs_back : IsSound old → IsSound new → SyncsFile (file_on (tables_of old) by fd) disk old r after new → WritesBack disk old (event.Call by (call.Fsync fd)) (told (λ u. reply.Done) r) after new
   syncs_back sound now syncs =
       let o : Option Descriptor = descriptor (tables_of old) by fd in record {
         synced = λ done. synced_file o (sync_clean r _ syncs.clean done);
         kept = λ backed done. kept_file o refl (sync_clean r _ syncs.clean done) sound now (ap (λ (h : KernelState). h.files) syncs.same) backed;
         flushed = λ done. tt;
         dropped = tt;
+        stores_back = whole_file o syncs;
       }
 
 -- What `flush` leaves.
@@ -151,21 +159,23 @@ module _ (disk after : Disk) (old new : KernelState) where
   flushed_back (Ok (Wrote f)) sound m same done = inl (cleans_first old.store f old.cache new.cache disk after (cache_sound old sound) m.0 m.1)
   flushed_back (Err x) sound m same done = absurd done
 
-  pub flushes_back : (r : Result (Unit {0}) Refusal) → IsSound old → FlushesOne disk old r after new → WritesBack old event.Flush (told (λ u. reply.Done) r) after new
+  pub flushes_back : (r : Result (Unit {0}) Refusal) → IsSound old → FlushesOne disk old r after new → WritesBack disk old event.Flush (told (λ u. reply.Done) r) after new
   flushes_back r sound m = record {
     synced = λ done. tt;
     kept = λ backed done. tt;
     flushed = λ done. flushed_back m.flushed sound m.flushes m.same (subst (λ (x : Result (Unit {0}) Refusal). IsDone (told (λ u. reply.Done) x)) m.told done);
     dropped = tt;
+    stores_back = record { answer = r; is = refl; flushes = m };
   }
 
 -- What `drop_clean` leaves.
-pub drops_back : (old new : KernelState) (after : Disk) → ((f : ℕ) → AllDirty (extents_in new.cache.files f)) → WritesBack old event.DropClean reply.Done after new
+pub drops_back : (old new : KernelState) (after : Disk) → ((f : ℕ) → AllDirty (extents_in new.cache.files f)) → WritesBack after old event.DropClean reply.Done after new
 drops_back old new after none = record {
   synced = λ done. tt;
   kept = λ backed done. tt;
   flushed = λ done. tt;
   dropped = record { each = none };
+  stores_back = tt;
 }
 
 -- Other events write nothing back.
@@ -176,13 +186,13 @@ writes_back event.Flush = true
 writes_back event.DropClean = true
 writes_back e = false
 
-module _ (old : KernelState) (r : Reply) (after : Disk) (new : KernelState) where
-  call_none_back : (by : ℕ) (c : Call) → writes_back (event.Call by c) ≡ false → WritesBack old (event.Call by c) r after new
+module _ (disk : Disk) (old : KernelState) (r : Reply) (after : Disk) (new : KernelState) where
+  call_none_back : (by : ℕ) (c : Call) → writes_back (event.Call by c) ≡ false → WritesBack disk old (event.Call by c) r after new
   call_none_back by (call.Fsync fd) none = absurd (true≢false none)
-  call_none_back by c none = record { synced = λ done. tt; kept = λ backed done. tt; flushed = λ done. tt; dropped = tt }
+  call_none_back by c none = record { synced = λ done. tt; kept = λ backed done. tt; flushed = λ done. tt; dropped = tt; stores_back = tt }
 
-  pub none_back : (e : Event) → writes_back e ≡ false → WritesBack old e r after new
+  pub none_back : (e : Event) → writes_back e ≡ false → WritesBack disk old e r after new
   none_back (event.Call by c) none = call_none_back by c none
   none_back event.Flush none = absurd (true≢false none)
   none_back event.DropClean none = absurd (true≢false none)
-  none_back e none = record { synced = λ done. tt; kept = λ backed done. tt; flushed = λ done. tt; dropped = tt }
+  none_back e none = record { synced = λ done. tt; kept = λ backed done. tt; flushed = λ done. tt; dropped = tt; stores_back = tt }

@@ -98,7 +98,7 @@ pub returns-in-FileNew : goal.returns-in-FileNew
 returns-in-FileNew g c =
     subst (λ (k : Call). Does (g.B.Backing.disk c.args.backing.now) (state_of c.args.kernel.now) (event.Call c.args.by k) c.file.result (g.B.Backing.disk c.args.backing.now) (state_of c.file_new.new.self)) (sym c.in-FileNew.is)
     (subst (λ (x : Reply). Does (g.B.Backing.disk c.args.backing.now) (state_of c.args.kernel.now) (event.Call c.args.by (call.FileNew c.in-FileNew.name c.in-FileNew.pool)) x (g.B.Backing.disk c.args.backing.now) (state_of c.file_new.new.self)) (sym c.file.ensures)
-    (names_does reply.File (λ s. files.file_new s c.args.by c.in-FileNew.name c.in-FileNew.pool) (event.Call c.args.by (call.FileNew c.in-FileNew.name c.in-FileNew.pool)) (g.B.Backing.disk c.args.backing.now) (state_of c.args.kernel.now) (state_of c.file_new.new.self) c.file_new.result (record { answers = λ a. refl; roomy = λ a x. x; unrefused = λ a x. x }) (record { unwritten = refl; unlent = refl; asks = λ s. refl; has = λ s. tt; publishes = λ o n k. k; creates = λ o x n. tt; sums = λ o x n k. k }) (λ s t r step. told_step reply.File (record { answers = λ a. refl; roomy = λ a x. x; unrefused = λ a x. x }) (files.file_new s c.args.by c.in-FileNew.name c.in-FileNew.pool) s t r step) (λ s. refl) c.file_new.ensures))
+    (names_does reply.File (λ s. files.file_new s c.args.by c.in-FileNew.name c.in-FileNew.pool) (event.Call c.args.by (call.FileNew c.in-FileNew.name c.in-FileNew.pool)) (g.B.Backing.disk c.args.backing.now) (state_of c.args.kernel.now) (state_of c.file_new.new.self) c.file_new.result (record { answers = λ a. refl; roomy = λ a x. x; unrefused = λ a x. x }) (record { unwritten = refl; unlent = refl; asks = λ s. refl; has = λ s. tt; publishes = λ o n k. k; creates = λ o x n. tt; sums = λ o x n k. k }) (λ s t r step. told_step reply.File (record { answers = λ a. refl; roomy = λ a x. x; unrefused = λ a x. x }) (files.file_new s c.args.by c.in-FileNew.name c.in-FileNew.pool) s t r step) (λ s. refl) refl c.file_new.ensures))
 
 pub returns-in-OpenFile : goal.returns-in-OpenFile
 returns-in-OpenFile g c =
@@ -183,4 +183,4 @@ returns-in-Write g c =
     subst (λ (k : Call). Does (g.B.Backing.disk c.args.backing.now) (state_of c.args.kernel.now) (event.Call c.args.by k) c.count-in-Write.result (g.B.Backing.disk c.args.backing.now) (state_of c.write.new.kernel)) (sym c.in-Write.is)
     (subst (λ (l : List ℕ). Does (g.B.Backing.disk c.args.backing.now) (state_of c.args.kernel.now) (event.Call c.args.by (call.Write c.in-Write.fd l)) c.count-in-Write.result (g.B.Backing.disk c.args.backing.now) (state_of c.write.new.kernel)) c.as_slice.ensures
     (subst (λ (x : Reply). Does (g.B.Backing.disk c.args.backing.now) (state_of c.args.kernel.now) (event.Call c.args.by (call.Write c.in-Write.fd c.as_slice.result.now)) x (g.B.Backing.disk c.args.backing.now) (state_of c.write.new.kernel)) (sym c.count-in-Write.ensures)
-    (puts_does c.args.by c.in-Write.fd c.as_slice.result.now (g.B.Backing.disk c.args.backing.now) (state_of c.args.kernel.now) (state_of c.write.new.kernel) c.write.result _ (λ s t r step. told_step reply.Count (record { answers = λ a. refl; roomy = λ a x. x; unrefused = λ a x. x }) (writing.write s c.args.by c.in-Write.fd c.as_slice.result.now) s t r step) (c.write.ensures.serves (g.B.Backing.disk c.args.backing.now)) c.write.ensures.queue c.write.ensures.room c.write.ensures.no_room c.write.ensures.puts)))
+    (puts_does c.args.by c.in-Write.fd c.as_slice.result.now (g.B.Backing.disk c.args.backing.now) (state_of c.args.kernel.now) (state_of c.write.new.kernel) c.write.result _ (λ s t r step. told_step reply.Count (record { answers = λ a. refl; roomy = λ a x. x; unrefused = λ a x. x }) (writing.write s c.args.by c.in-Write.fd c.as_slice.result.now) s t r step) (c.write.ensures.serves (g.B.Backing.disk c.args.backing.now)) c.write.ensures.queue c.write.ensures.room c.write.ensures.no_room c.write.ensures.puts c.write.ensures.refused)))

@@ -53,5 +53,6 @@ returns c =
       serves = λ disk. roomed_serves (λ s. writing.write s c.args.by c.args.fd c.args.bytes.now) c.args.pool (pages_for c.min-count.result) h (state_of c.make_room_for.new.self) (state_of c.fill_file.new.self) c.fill_file.result c.make_room_for.ensures.made disk disk (c.fill_file.ensures.serves disk);
       room = on_ok c.fill_file.result (ap (can_fit h c.args.pool) (sym count) ∙ c.make_room_for.ensures.fits ∙ c.if-not-make_room_for.false);
       no_room = λ p e. absurd (c.fill_file.ensures.roomy p e);
+      late = c.fill_file.ensures.late;
       puts = puts_roomed c.args.file c.args.at c.args.pool c.min-count.result (length c.args.bytes.now) h (state_of c.make_room_for.new.self) count c.make_room_for.ensures.made (state_of c.fill_file.new.self) c.fill_file.result c.fill_file.ensures.fills c.fill_file.ensures.beside;
     }
