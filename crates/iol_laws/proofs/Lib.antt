@@ -2,6 +2,7 @@ pub mod Tests
 pub mod Places
 pub mod Domains
 pub mod Connections
+pub mod Changing
 pub mod LeftConnections
 pub mod LeftPipes
 pub mod LeftDescriptors
