@@ -28,3 +28,18 @@ def instructions(script):
 def a_round(head, rounds, count):
     """The price of one of so many rounds after a head, which drops out."""
     return (instructions(head + rounds) - instructions(head)) / count
+
+
+def beside(few, many, calls, count, limit):
+    """Prints the price of each call after the head `few` and after the head `many`: whether a ratio is above the limit.
+
+    Each call has a name, its rounds after `few` and its rounds after `many`, so many of both.
+    """
+    worst = 0.0
+    print(f"instructions a round, with its lines        few      many   ratio (at most {limit})")
+    for name, beside_few, beside_many in calls:
+        low = a_round(few, beside_few, count)
+        high = a_round(many, beside_many, count)
+        worst = max(worst, high / low)
+        print(f"{name:40} {low:9.0f} {high:9.0f} {high / low:7.2f}", flush=True)
+    return worst > limit

@@ -67,7 +67,7 @@ impl Cache {
         ensures gives_up { GivesUp (holding store.old self.old) (holding store.new self.new) }
         ensures sound { IsSound store.new (cached_of self.new) }
     {
-        while store.report_pool(pool).free < pages {
+        while store.free_count(pool) < pages {
             let Some(place) = self.victim(store, pool) else {
                 return false;
             };

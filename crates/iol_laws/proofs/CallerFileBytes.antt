@@ -30,7 +30,7 @@ use Rattle.iol_laws.specs.Caller.{lent_at, is_rough}
 use Rattle.iol_laws.specs.CallerFiles.{ReadsFile, WritesFile, laid_over}
 use Rattle.iol_laws.proofs.CallerFiles.{moved-fd}
 use Rattle.iol_laws.proofs.Domains.{domain-with_same}
-use Rattle.iol_laws.proofs.Numbers.{lent-made, number, text-of}
+use Rattle.iol_laws.proofs.Numbers.{agg-there, lent-made, number, text-of}
 use Rattle.iol_laws.proofs.Refusing.{past, past-live}
 use Rattle.iol_laws.proofs.Texts.{bytes-labelled, length-bytes, length-labelled}
 
@@ -158,14 +158,6 @@ refused-write s t d fd f at p mode bytes x same is = by (nat_lt MAX_FILE_BYTES (
     by false fits refuse.Memory is = (refl, same)
     by false fits x is = absurd is
 
--- what an aggregate has
-there : (s : State) (d a : ℕ) (bytes : List ℕ) → lent_at s d a ≡ Some bytes → is_none (aggregate s d a) ≡ false
-there s d a bytes has = by (aggregate s d a) refl
-  where
-    by : (o : Option Text) → aggregate s d a ≡ o → is_none o ≡ false
-    by None none = absurd (let e = ap (λ (x : Option Text). option_map bytes_of x) none in cc (e, has))
-    by (Some x) some = refl
-
 pub does_write_file : (s t : State) (d fd f at a : ℕ) (mode : Mode) (bytes : List ℕ) (r : Reply) → ArePlaced s → is_live s d ≡ true → writing.writes mode ≡ true → descriptor s d fd ≡ Some (on.File f at mode) → lent_at s d a ≡ Some bytes → StepsTo s (event.Call d (call.IolWrite fd a)) r t → WritesFile s d fd f at mode bytes r t
 does_write_file s t d fd f at a mode bytes (reply.Count k) placed live writes is has step =
     let w : Text = text s d a in
@@ -197,6 +189,6 @@ does_write_file s t d fd f at a mode bytes (reply.Refused x) placed live writes 
     left : first (writing.iol_write s d fd a).refusals ≡ first ((refuse.TooLong when nat_lt MAX_FILE_BYTES (at + length w)) ∷ [])
     left = past-live s d _ live
         ∙ (ap (λ o. first ((refuse.BadFd when is_none o) ∷ (refuse.BadAgg when is_none (aggregate s d a)) ∷ (refuse.WrongMode when not (writing.can_write o)) ∷ (refuse.TooLong when writing.is_too_long o (length w)) ∷ (refuse.BrokenPipe when writing.is_broken s o) ∷ (refuse.WouldBlock when writing.takes_none s o (length w)) ∷ [])) is
-        ∙ (past (refuse.BadAgg when is_none (aggregate s d a)) _ (ap (λ b. refuse.BadAgg when b) (there s d a bytes has))
+        ∙ (past (refuse.BadAgg when is_none (aggregate s d a)) _ (ap (λ b. refuse.BadAgg when b) (agg-there s d a bytes has))
         ∙ write-left s f at (length w) mode writes))
 does_write_file s t d fd f at a mode bytes r placed live writes is has step = (let e = step.1 in absurd (cc))

@@ -1,7 +1,11 @@
 -- Each step leaves all that its event does not touch.
-use Rattle.std.proofs.Common.{refl, sym, subst}
+use Rattle.std.proofs.Common.{◌≡◌, ◌∙◌, ℕ, ◌==◌, List, ap, refl, sym, subst, arith, Bool, true, false}
 use Rattle.std.specs.Prelude.{Result, Ok, Err}
-use Rattle.iol_core.specs.State.{State}
+use Rattle.std.specs.List.{list_any}
+use Rattle.std.proofs.lemmas.Bool.Decides.{nat_tests}
+use Rattle.std.proofs.lemmas.Grind.{common_steps}
+use Rattle.iol_core.specs.Numbered.{is_numbered, numbered_or}
+use Rattle.iol_core.specs.State.{State, Pool, pool, is_pool, no_pool, may_read}
 use Rattle.iol_core.specs.Meaning.{Meaning, Step}
 use Rattle.iol_core.specs.Run.{meaning, StepsTo, outcome}
 use Rattle.iol_core.specs.declared.refusals.Refusal.{Refusal}
@@ -13,6 +17,21 @@ use Rattle.iol_laws.proofs.LeftDescriptors.{fds_meant}
 use Rattle.iol_laws.proofs.LeftDomains.{domains_meant}
 use Rattle.iol_laws.proofs.LeftFiles.{store_meant}
 use Rattle.iol_laws.proofs.LeftPipes.{pipes_meant}
+
+unnumbered : {A : Type 0} (xs : List A) (n : ℕ) (z : A) → is_numbered xs n ≡ false → numbered_or xs n z ≡ z
+unnumbered xs n z un = grind (arith, nat_tests, common_steps, un)
+
+-- a pool that may be read is there
+readable : (s : State) (d p : ℕ) → may_read s d p ≡ true → is_pool s p ≡ true
+unfolding pool
+readable s d p may = by (is_pool s p) refl
+  where
+    by : (b : Bool) → is_pool s p ≡ b → b ≡ true
+    by true is = refl
+    by false is = absurd (let e = unnumbered s.pools p no_pool is in let f = ap (λ (x : Pool). list_any (λ e. e == d) x.domains) e in cc (f, may))
+
+readers_left : (s t : State) → ((p : ℕ) → is_pool s p ≡ true → (pool t p).domains ≡ (pool s p).domains) → (d p : ℕ) → may_read s d p ≡ true → may_read t d p ≡ true
+readers_left s t lists d p may = ap (λ (l : List ℕ). list_any (λ e. e == d) l) (lists p (readable s d p may)) ∙ may
 
 leaves_meant : (s : State) (e : Event) → Leaves s e (meaning s e).after
 leaves_meant s e =
@@ -27,6 +46,7 @@ leaves_meant s e =
       known = store.known;
       called = store.called;
       lists = store.lists;
+      readers = readers_left s (meaning s e).after store.lists;
       pools = store.pools;
       lives = domains.lives;
       defaults = domains.defaults;
@@ -42,6 +62,7 @@ leaves_nothing s e = record {
   known = λ f is. refl;
   called = λ name f is. is;
   lists = λ p is. refl;
+  readers = λ d p may. may;
   pools = λ p is un. refl;
   lives = λ d live un. live;
   defaults = λ d live un. refl;

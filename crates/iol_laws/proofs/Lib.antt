@@ -2,6 +2,7 @@ pub mod Tests
 pub mod Places
 pub mod Domains
 pub mod Connections
+pub mod Changing
 pub mod LeftConnections
 pub mod LeftPipes
 pub mod LeftDescriptors
@@ -24,6 +25,7 @@ pub mod CallerDescriptors
 pub mod CallerPipes
 pub mod CallerGifts
 pub mod Refusing
+pub mod Reasons
 pub mod CallerFiles
 pub mod CallerFileBytes
 pub mod CallerCopies

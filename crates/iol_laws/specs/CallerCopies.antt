@@ -65,9 +65,19 @@ CopiesPipe s d p count r t = ⊥
 
 -- Each of the two, on a file, a connection and a pipe.
 pub record CopyingCallsServeTheirDomain : Type 0 where
-  pub write_file : (s t : State) (d fd f at : ℕ) (mode : Mode) (bytes : List ℕ) (r : Reply) → ArePlaced s → is_live s d ≡ true → writes mode ≡ true → descriptor s d fd ≡ Some (on.File f at mode) → StepsTo s (event.Call d (call.Write fd bytes)) r t → WritesFile s d fd f at mode bytes r t
-  pub write_conn : (s t : State) (d fd c : ℕ) (bytes : List ℕ) (r : Reply) → IsOrderly s → descriptor s d fd ≡ Some (on.Connection c) → StepsTo s (event.Call d (call.Write fd bytes)) r t → WritesConn s c bytes r t
-  pub write_pipe : (s t : State) (d fd p : ℕ) (bytes : List ℕ) (r : Reply) → IsOrderly s → descriptor s d fd ≡ Some (on.WriteEnd p) → StepsTo s (event.Call d (call.Write fd bytes)) r t → WritesPipe s p bytes r t
-  pub read_file : (s t : State) (d fd f at n : ℕ) (mode : Mode) (r : Reply) → is_live s d ≡ true → may_read s d (file s f).pool ≡ true → reads mode ≡ true → descriptor s d fd ≡ Some (on.File f at mode) → StepsTo s (event.Call d (call.Read fd n)) r t → CopiesFile s d fd f at mode (take n (drop at (content s f))) r t
-  pub read_conn : (s t : State) (d fd c n : ℕ) (r : Reply) → IsOrderly s → descriptor s d fd ≡ Some (on.Connection c) → StepsTo s (event.Call d (call.Read fd n)) r t → CopiesConn s d c n r t
-  pub read_pipe : (s t : State) (d fd p n : ℕ) (r : Reply) → IsOrderly s → descriptor s d fd ≡ Some (on.ReadEnd p) → StepsTo s (event.Call d (call.Read fd n)) r t → CopiesPipe s d p n r t
+  pub write_file : (s t : State) (d fd f at : ℕ) (mode : Mode) (bytes : List ℕ) (r : Reply) → ArePlaced s
+      → is_live s d ≡ true → writes mode ≡ true → descriptor s d fd ≡ Some (on.File f at mode)
+      → StepsTo s (event.Call d (call.Write fd bytes)) r t → WritesFile s d fd f at mode bytes r t
+  pub write_conn : (s t : State) (d fd c : ℕ) (bytes : List ℕ) (r : Reply) → IsOrderly s
+      → descriptor s d fd ≡ Some (on.Connection c) → StepsTo s (event.Call d (call.Write fd bytes)) r t
+      → WritesConn s c bytes r t
+  pub write_pipe : (s t : State) (d fd p : ℕ) (bytes : List ℕ) (r : Reply) → IsOrderly s
+      → descriptor s d fd ≡ Some (on.WriteEnd p) → StepsTo s (event.Call d (call.Write fd bytes)) r t
+      → WritesPipe s p bytes r t
+  pub read_file : (s t : State) (d fd f at n : ℕ) (mode : Mode) (r : Reply) → is_live s d ≡ true
+      → may_read s d (file s f).pool ≡ true → reads mode ≡ true → descriptor s d fd ≡ Some (on.File f at mode)
+      → StepsTo s (event.Call d (call.Read fd n)) r t → CopiesFile s d fd f at mode (take n (drop at (content s f))) r t
+  pub read_conn : (s t : State) (d fd c n : ℕ) (r : Reply) → IsOrderly s → descriptor s d fd ≡ Some (on.Connection c)
+      → StepsTo s (event.Call d (call.Read fd n)) r t → CopiesConn s d c n r t
+  pub read_pipe : (s t : State) (d fd p n : ℕ) (r : Reply) → IsOrderly s → descriptor s d fd ≡ Some (on.ReadEnd p)
+      → StepsTo s (event.Call d (call.Read fd n)) r t → CopiesPipe s d p n r t

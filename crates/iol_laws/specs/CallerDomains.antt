@@ -27,10 +27,13 @@ MakesDomain s r t = ⊥
 pub record EndsDomain (s : State) (d : ℕ) (t : State) : Type 0 where
   pub nothing : domain t d ≡ no_domain
   pub others : (e : ℕ) → d ≢ e → domain t e ≡ domain s e
-  pub conns : (fd c : ℕ) → descriptor s d fd ≡ Some (on.Connection c) → ((conn_at t c).closed ≡ true) × ((conn_at t c).outgoing ≡ (conn_at s c).outgoing)
-  pub read_ends : (fd p : ℕ) → descriptor s d fd ≡ Some (on.ReadEnd p) → ((pipe_at t p).reading ≡ false) × ((pipe_at t p).queue ≡ [])
+  pub conns : (fd c : ℕ) → descriptor s d fd ≡ Some (on.Connection c)
+      → ((conn_at t c).closed ≡ true) × ((conn_at t c).outgoing ≡ (conn_at s c).outgoing)
+  pub read_ends : (fd p : ℕ) → descriptor s d fd ≡ Some (on.ReadEnd p)
+      → ((pipe_at t p).reading ≡ false) × ((pipe_at t p).queue ≡ [])
   pub write_ends : (fd p : ℕ) → descriptor s d fd ≡ Some (on.WriteEnd p) → (pipe_at t p).writing ≡ false
-  pub unread : (p : ℕ) → ((fd : ℕ) → descriptor s d fd ≡ Some (on.ReadEnd p) → ⊥) → (pipe_at s p).reading ≡ true → ((pipe_at t p).reading ≡ true) × ((pipe_at t p).queue ≡ (pipe_at s p).queue)
+  pub unread : (p : ℕ) → ((fd : ℕ) → descriptor s d fd ≡ Some (on.ReadEnd p) → ⊥) → (pipe_at s p).reading ≡ true
+      → ((pipe_at t p).reading ≡ true) × ((pipe_at t p).queue ≡ (pipe_at s p).queue)
 
 -- it is never refused
 abbrev pub Exits : State → (d : ℕ) → Reply → State → Type 0
@@ -75,8 +78,12 @@ SetsPool s d p r t = ⊥
 
 -- Each call on domains and pools.
 pub record DomainsAndPoolsComeAndGo : Type 0 where
-  pub starts : (s t : State) (d : ℕ) (r : Reply) → is_live s d ≡ true → StepsTo s (event.Call d call.DomainNew) r t → MakesDomain s r t
-  pub exits : (s t : State) (d : ℕ) (r : Reply) → IsOrderly s → is_live s d ≡ true → StepsTo s (event.Call d call.Exit) r t → Exits s d r t
-  pub makes_pool : (s t : State) (d chunks : ℕ) (list : List ℕ) (r : Reply) → StepsTo s (event.Call d (call.PoolCreate chunks list)) r t → MakesPool s list r t
-  pub closes_pool : (s t : State) (d p : ℕ) (r : Reply) → StepsTo s (event.Call d (call.PoolClose p)) r t → ClosesPool s d p r t
+  pub starts : (s t : State) (d : ℕ) (r : Reply) → is_live s d ≡ true → StepsTo s (event.Call d call.DomainNew) r t
+      → MakesDomain s r t
+  pub exits : (s t : State) (d : ℕ) (r : Reply) → IsOrderly s → is_live s d ≡ true → StepsTo s (event.Call d call.Exit) r t
+      → Exits s d r t
+  pub makes_pool : (s t : State) (d chunks : ℕ) (list : List ℕ) (r : Reply)
+      → StepsTo s (event.Call d (call.PoolCreate chunks list)) r t → MakesPool s list r t
+  pub closes_pool : (s t : State) (d p : ℕ) (r : Reply) → StepsTo s (event.Call d (call.PoolClose p)) r t
+      → ClosesPool s d p r t
   pub sets_pool : (s t : State) (d p : ℕ) (r : Reply) → StepsTo s (event.Call d (call.SetPool p)) r t → SetsPool s d p r t

@@ -101,10 +101,21 @@ WritesFile s d fd f at mode bytes r t = ⊥
 
 -- Each call on a file. What holds between events of positions is asked for only where bytes are written.
 pub record FileCallsServeTheirDomain : Type 0 where
-  pub makes : (s t : State) (d : ℕ) (name : List ℕ) (p : ℕ) (r : Reply) → StepsTo s (event.Call d (call.FileNew name p)) r t → MakesFile s d name p r t
-  pub opens : (s t : State) (d : ℕ) (name : List ℕ) (mode : Mode) (r : Reply) → is_live s d ≡ true → StepsTo s (event.Call d (call.OpenFile name mode)) r t → Opening s d name mode r t
-  pub seeks : (s t : State) (d fd f was at : ℕ) (mode : Mode) (r : Reply) → is_live s d ≡ true → descriptor s d fd ≡ Some (on.File f was mode) → StepsTo s (event.Call d (call.Seek fd at)) r t → Seeks s d fd f at mode r t
-  pub measures : (s t : State) (d fd f at : ℕ) (mode : Mode) (r : Reply) → is_live s d ≡ true → descriptor s d fd ≡ Some (on.File f at mode) → StepsTo s (event.Call d (call.Length fd)) r t → Tells s (length (content s f)) r t
-  pub syncs : (s t : State) (d fd f at : ℕ) (mode : Mode) (r : Reply) → is_live s d ≡ true → descriptor s d fd ≡ Some (on.File f at mode) → StepsTo s (event.Call d (call.Fsync fd)) r t → Syncs s f r t
-  pub reads_file : (s t : State) (d fd f at n : ℕ) (mode : Mode) (r : Reply) → IsOrderly s → is_live s d ≡ true → may_read s d (file s f).pool ≡ true → reads mode ≡ true → descriptor s d fd ≡ Some (on.File f at mode) → StepsTo s (event.Call d (call.IolRead fd n)) r t → ReadsFile s d fd f at mode (take n (drop at (content s f))) r t
-  pub writes_file : (s t : State) (d fd f at a : ℕ) (mode : Mode) (bytes : List ℕ) (r : Reply) → ArePlaced s → is_live s d ≡ true → writes mode ≡ true → descriptor s d fd ≡ Some (on.File f at mode) → lent_at s d a ≡ Some bytes → StepsTo s (event.Call d (call.IolWrite fd a)) r t → WritesFile s d fd f at mode bytes r t
+  pub makes : (s t : State) (d : ℕ) (name : List ℕ) (p : ℕ) (r : Reply) → StepsTo s (event.Call d (call.FileNew name p)) r t
+      → MakesFile s d name p r t
+  pub opens : (s t : State) (d : ℕ) (name : List ℕ) (mode : Mode) (r : Reply) → is_live s d ≡ true
+      → StepsTo s (event.Call d (call.OpenFile name mode)) r t → Opening s d name mode r t
+  pub seeks : (s t : State) (d fd f was at : ℕ) (mode : Mode) (r : Reply) → is_live s d ≡ true
+      → descriptor s d fd ≡ Some (on.File f was mode) → StepsTo s (event.Call d (call.Seek fd at)) r t
+      → Seeks s d fd f at mode r t
+  pub measures : (s t : State) (d fd f at : ℕ) (mode : Mode) (r : Reply) → is_live s d ≡ true
+      → descriptor s d fd ≡ Some (on.File f at mode) → StepsTo s (event.Call d (call.Length fd)) r t
+      → Tells s (length (content s f)) r t
+  pub syncs : (s t : State) (d fd f at : ℕ) (mode : Mode) (r : Reply) → is_live s d ≡ true
+      → descriptor s d fd ≡ Some (on.File f at mode) → StepsTo s (event.Call d (call.Fsync fd)) r t → Syncs s f r t
+  pub reads_file : (s t : State) (d fd f at n : ℕ) (mode : Mode) (r : Reply) → IsOrderly s → is_live s d ≡ true
+      → may_read s d (file s f).pool ≡ true → reads mode ≡ true → descriptor s d fd ≡ Some (on.File f at mode)
+      → StepsTo s (event.Call d (call.IolRead fd n)) r t → ReadsFile s d fd f at mode (take n (drop at (content s f))) r t
+  pub writes_file : (s t : State) (d fd f at a : ℕ) (mode : Mode) (bytes : List ℕ) (r : Reply) → ArePlaced s
+      → is_live s d ≡ true → writes mode ≡ true → descriptor s d fd ≡ Some (on.File f at mode) → lent_at s d a ≡ Some bytes
+      → StepsTo s (event.Call d (call.IolWrite fd a)) r t → WritesFile s d fd f at mode bytes r t

@@ -2,7 +2,7 @@
 use Rattle.std.specs.Prelude.{◌≡◌, ℕ, ◌==◌, ◌&&◌, ◌||◌, Bool, true, false, List, [], ◌∷◌, Option, Some, unwrap_or}
 use Rattle.std.specs.List.{list_any}
 use Rattle.iol_core.specs.Numbered.{lowest, is_numbered}
-use Rattle.iol_core.specs.State.{State, domain, is_live, pool, is_pool, descriptor, file, content, pipe_at, conn_at}
+use Rattle.iol_core.specs.State.{State, domain, is_live, pool, is_pool, may_read, descriptor, file, content, pipe_at, conn_at}
 use Rattle.iol_core.specs.Calls.Descriptors.{waiting}
 use Rattle.iol_core.specs.Calls.Files.{file_called}
 use Rattle.iol_core.specs.Calls.Writing.{is_file}
@@ -102,13 +102,16 @@ sets_default e d = false
 pub record Leaves (old : State) (e : Event) (new : State) : Type 0 where
   pub conns : (c : ℕ) → touches_conn old e c ≡ false → conn_at new c ≡ conn_at old c
   pub pipes : (p : ℕ) → touches_pipe old e p ≡ false → pipe_at new p ≡ pipe_at old p
-  pub fds : (d fd : ℕ) (x : Descriptor) → descriptor old d fd ≡ Some x → touches_fd old e d fd ≡ false → descriptor new d fd ≡ Some x
+  pub fds : (d fd : ℕ) (x : Descriptor) → descriptor old d fd ≡ Some x → touches_fd old e d fd ≡ false
+      → descriptor new d fd ≡ Some x
   pub files : changes_files old e ≡ false → (new.files ≡ old.files) × (new.slots ≡ old.slots)
   pub contents : (f : ℕ) → writes_file old e f ≡ false → content new f ≡ content old f
   -- a file keeps its name, its number and its pool
   pub known : (f : ℕ) → is_numbered old.files f ≡ true → file new f ≡ file old f
   pub called : (name : List ℕ) (f : ℕ) → file_called old name ≡ Some f → file_called new name ≡ Some f
   pub lists : (p : ℕ) → is_pool old p ≡ true → (pool new p).domains ≡ (pool old p).domains
+  -- who may read a pool may go on to
+  pub readers : (d p : ℕ) → may_read old d p ≡ true → may_read new d p ≡ true
   pub pools : (p : ℕ) → is_pool old p ≡ true → closes_pool e p ≡ false → pool new p ≡ pool old p
   pub lives : (d : ℕ) → is_live old d ≡ true → ends e d ≡ false → is_live new d ≡ true
   pub defaults : (d : ℕ) → is_live old d ≡ true → sets_default e d ≡ false → (domain new d).default ≡ (domain old d).default

@@ -4,5 +4,6 @@ pub mod Caller
 pub mod CallerFiles
 pub mod CallerCopies
 pub mod CallerDomains
+pub mod Reasons
 pub mod Others
 pub mod History

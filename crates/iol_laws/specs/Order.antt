@@ -27,7 +27,8 @@ Once (e ∷ es) = (lookup es e.0 ≡ None) × Once es
 
 pub record IsOrderly (s : State) : Type 0 where
   -- two descriptors that are open on the same end or connection are one
-  pub one : (d e f g : ℕ) (x : Descriptor) → is_file (Some x) ≡ false → descriptor s d f ≡ Some x → descriptor s e g ≡ Some x → (d ≡ e) × (f ≡ g)
+  pub one : (d e f g : ℕ) (x : Descriptor) → is_file (Some x) ≡ false → descriptor s d f ≡ Some x
+      → descriptor s e g ≡ Some x → (d ≡ e) × (f ≡ g)
   -- what is open stands
   pub all_stand : (d f : ℕ) (x : Descriptor) → descriptor s d f ≡ Some x → stands s x ≡ true
   -- a connection that nobody accepted yet is not closed, and nothing is to be sent on it

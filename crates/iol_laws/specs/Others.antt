@@ -58,17 +58,23 @@ PeerCloses s c how r t = ⊥
 
 pub record OthersLeaveConnections : Type 0 where
   -- a call leaves each connection that its domain neither has nor may accept
-  pub conn : (s t : State) (d : ℕ) (k : Call) (r : Reply) (c : ℕ) → IsOrderly s → StepsTo s (event.Call d k) r t → ((f : ℕ) → descriptor s d f ≡ Some (on.Connection c) → ⊥)
+  pub conn : (s t : State) (d : ℕ) (k : Call) (r : Reply) (c : ℕ) → IsOrderly s → StepsTo s (event.Call d k) r t
+      → ((f : ℕ) → descriptor s d f ≡ Some (on.Connection c) → ⊥)
       → ((conn_at s c).accepted ≡ true) ⊎ (may_read s d (conn_at s c).pool ≡ false) → conn_at t c ≡ conn_at s c
   -- a connection that waits is left by a call, or accepted
-  pub waiting : (s t : State) (d : ℕ) (k : Call) (r : Reply) (c : ℕ) → IsOrderly s → StepsTo s (event.Call d k) r t → (conn_at s c).accepted ≡ false → (conn_at t c ≡ conn_at s c) ⊎ ((conn_at t c).accepted ≡ true)
+  pub waiting : (s t : State) (d : ℕ) (k : Call) (r : Reply) (c : ℕ) → IsOrderly s → StepsTo s (event.Call d k) r t
+      → (conn_at s c).accepted ≡ false → (conn_at t c ≡ conn_at s c) ⊎ ((conn_at t c).accepted ≡ true)
   -- what is accepted stays so
-  pub accepted : (s t : State) (d : ℕ) (k : Call) (r : Reply) (c : ℕ) → IsOrderly s → StepsTo s (event.Call d k) r t → (conn_at s c).accepted ≡ true → (conn_at t c).accepted ≡ true
+  pub accepted : (s t : State) (d : ℕ) (k : Call) (r : Reply) (c : ℕ) → IsOrderly s → StepsTo s (event.Call d k) r t
+      → (conn_at s c).accepted ≡ true → (conn_at t c).accepted ≡ true
   -- what happens outside, to the connection that it makes or names
   pub connect : (s t : State) (p : ℕ) (r : Reply) → IsOrderly s → StepsTo s (event.ConnNew p) r t → MakesConn s p r t
-  pub arrive : (s t : State) (c : ℕ) (bytes : List ℕ) (r : Reply) → IsOrderly s → StepsTo s (event.Arrive c bytes) r t → Arrives s c bytes r t
-  pub transmit : (s t : State) (c max : ℕ) (r : Reply) → IsOrderly s → StepsTo s (event.Transmit c max) r t → Transmits s c r t
-  pub peer_closed : (s t : State) (c : ℕ) (how : How) (r : Reply) → IsOrderly s → StepsTo s (event.PeerClosed c how) r t → PeerCloses s c how r t
+  pub arrive : (s t : State) (c : ℕ) (bytes : List ℕ) (r : Reply) → IsOrderly s → StepsTo s (event.Arrive c bytes) r t
+      → Arrives s c bytes r t
+  pub transmit : (s t : State) (c max : ℕ) (r : Reply) → IsOrderly s → StepsTo s (event.Transmit c max) r t
+      → Transmits s c r t
+  pub peer_closed : (s t : State) (c : ℕ) (how : How) (r : Reply) → IsOrderly s → StepsTo s (event.PeerClosed c how) r t
+      → PeerCloses s c how r t
 
 -- what is still to be read of a pipe stays where it is, and more may come behind it
 pub record StaysUnread (s : State) (p : ℕ) (t : State) : Type 0 where
@@ -88,8 +94,12 @@ HasNotEnd s d x = (fd : ℕ) → descriptor s d fd ≡ Some x → ⊥
 -- Calls of a domain that has not both ends of a pipe.
 pub record OthersLeavePipes : Type 0 where
   -- one that has neither leaves it
-  pub pipe : (s t : State) (d : ℕ) (k : Call) (r : Reply) (p : ℕ) → StepsTo s (event.Call d k) r t → HasNotEnd s d (on.ReadEnd p) → HasNotEnd s d (on.WriteEnd p) → ((pipe_at s p).reading || (pipe_at s p).writing) ≡ true → pipe_at t p ≡ pipe_at s p
+  pub pipe : (s t : State) (d : ℕ) (k : Call) (r : Reply) (p : ℕ) → StepsTo s (event.Call d k) r t
+      → HasNotEnd s d (on.ReadEnd p) → HasNotEnd s d (on.WriteEnd p)
+      → ((pipe_at s p).reading || (pipe_at s p).writing) ≡ true → pipe_at t p ≡ pipe_at s p
   -- one that cannot read it takes nothing from it
-  pub unread : (s t : State) (d : ℕ) (k : Call) (r : Reply) (p : ℕ) → StepsTo s (event.Call d k) r t → HasNotEnd s d (on.ReadEnd p) → (pipe_at s p).reading ≡ true → StaysUnread s p t
+  pub unread : (s t : State) (d : ℕ) (k : Call) (r : Reply) (p : ℕ) → StepsTo s (event.Call d k) r t
+      → HasNotEnd s d (on.ReadEnd p) → (pipe_at s p).reading ≡ true → StaysUnread s p t
   -- one that cannot write to it adds nothing
-  pub written : (s t : State) (d : ℕ) (k : Call) (r : Reply) (p : ℕ) → StepsTo s (event.Call d k) r t → HasNotEnd s d (on.WriteEnd p) → (pipe_at s p).writing ≡ true → GoesFromFront s p t
+  pub written : (s t : State) (d : ℕ) (k : Call) (r : Reply) (p : ℕ) → StepsTo s (event.Call d k) r t
+      → HasNotEnd s d (on.WriteEnd p) → (pipe_at s p).writing ≡ true → GoesFromFront s p t

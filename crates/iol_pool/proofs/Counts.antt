@@ -5,7 +5,8 @@ use Rattle.std.proofs.lemmas.List.{take_more, append-nil}
 use Rattle.std.proofs.lemmas.List.Elements.{filter-append}
 use Rattle.std.proofs.lemmas.List.FromFn.{length-range_with_len}
 use Rattle.std.proofs.lemmas.Grind.{flat_map-append}
-use Rattle.iol_arena.specs.Chunks.{IsRisingFrom, chunk_pages}
+use Rattle.iol_arena.specs.State.{State, chunk_count}
+use Rattle.iol_arena.specs.Chunks.{IsRising, IsRisingFrom, chunk_pages}
 use Rattle.iol_arena.proofs.Good.{bool_cases}
 
 -- those of the first chunks, and of one chunk more
@@ -32,3 +33,7 @@ rising_few low n (x ∷ xs) rising below =
     let r = rising_few (x + 1) n xs rising.1 (λ k d h. below (suc k) d (omega arith)) in
     let b : x < n = below 0 0 (omega arith) in
     omega (arith, rising.0, r, b)
+
+-- rising chunks are at most as many as there are
+pub few_chunks : (s : State) (cs : List ℕ) (n : ℕ) → IsRising cs → All (λ k. k < chunk_count s) cs → n ≡ chunk_count s → n ≤ 256 → length cs ≤ 256
+few_chunks s cs n rising all is most = omega (arith, rising_few 0 (chunk_count s) cs rising all, is, most)

@@ -340,6 +340,10 @@ owned_closed s ps p there o = owned_same s ps (with_closed ps p) (λ q. chunks-c
 pub all_owned : (s : State) (ps : List Pool) (p : ℕ) → AreOwned s ps → All (λ c. c < chunk_count s) (pool_in ps p).chunks
 all_owned s ps p o = λ k d h. o.within p (get_or (pool_in ps p).chunks k d) (Contains-get_or (pool_in ps p).chunks k d h)
 
+-- the chunks of a pool, as a list that is told to be theirs
+pub within_chunks : (s : State) (ps : List Pool) (p : ℕ) (cs ds : List ℕ) → AreOwned s ps → cs ≡ ds → ds ≡ (pool_in ps p).chunks → All (λ k. k < chunk_count s) cs
+within_chunks s ps p cs ds o a b = subst (λ (l : List ℕ). All (λ k. k < chunk_count s) l) (sym (a ∙ b)) (all_owned s ps p o)
+
 pub owned_settled : (s : State) (ps : List Pool) (p : ℕ) → is_numbered ps p ≡ true → AreOwned s ps → AreOwned (with_returned s (pool_in ps p).chunks) (with_emptied ps p)
 owned_settled s ps p there o = record {
   within = λ q c h. omega (arith, o.within q c (emptied ps p q c there h).1, length-all_returned s.taken (pool_in ps p).chunks);

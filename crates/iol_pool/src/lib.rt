@@ -8,7 +8,7 @@
 //! `added`: as many chunks as asked, the lowest free; `enough`, `no_room`, `err`), `close` and `settle` (`pools`, `arena`:
 //! chunks are returned exactly when their pool is closed and nothing stands on them), and on each `owned`: a chunk that
 //! is taken has just one pool. Questions: `is_pool`, `is_closed`, `names`, `admits` (`first`: the first pool that does
-//! not name the domain), `chunks`, `report`. The words are in `specs/Pools` and `specs/Owned`.
+//! not name the domain), `chunks`, `free_count`, `report`. The words are in `specs/Pools` and `specs/Owned`.
 //!
 //! ```
 //! let names = Names::of(&[producer, consumer])?;

@@ -285,7 +285,19 @@ impl Pools {
         self.settle(arena, p);
     }
 
-    /// The pages of a pool, counted.
+    /// How many pages of a pool may be used. It costs one look at each of its chunks.
+    pub fn free_count(&self, arena: &Arena, p: PoolId) -> u32
+        requires there { is_numbered self.now p ≡ true }
+        requires owned { AreOwned arena.now self.now }
+        ensures { result ≡ length (free_pages arena.now (pool_in self.now p).chunks) }
+    {
+        let chunks = self.chunks(p).as_slice();
+        // Tells that a pool has few chunks, so that the sum fits.
+        let _few = arena.chunk_count();
+        count_free(arena, chunks)
+    }
+
+    /// The pages of a pool, counted. Those that are retired cost a look at each page.
     pub fn report(&self, arena: &Arena, p: PoolId) -> PoolReport
         requires there { is_numbered self.now p ≡ true }
         requires owned { AreOwned arena.now self.now }

@@ -11,8 +11,8 @@ use Rattle.iol_cache.proofs.GivenUp.{gives_up_none, gives_up_more}
 use Rattle.iol_cache.proofs.Choosing.{victim_clean, evicts_fewer, none_evicted, one_more}
 use Rattle.iol_cache.proofs.cache.Cache.make_room.Goals as goal
 
-pub report_pool-requires : goal.report_pool-requires
-report_pool-requires c = open_numbered c.loop-pool.store.pools c.args.pool (ap (λ (x : Pool). x.closed) (c.loop-pool.invariant.gives_up.frees.pools c.args.pool c.requires.open) ∙ c.requires.open)
+pub free_count-requires : goal.free_count-requires
+free_count-requires c = open_numbered c.loop-pool.store.pools c.args.pool (ap (λ (x : Pool). x.closed) (c.loop-pool.invariant.gives_up.frees.pools c.args.pool c.requires.open) ∙ c.requires.open)
 
 pub loop-pool-init : goal.loop-pool-init
 loop-pool-init c = record {
@@ -34,7 +34,7 @@ loop-pool-preserved c =
     let now = holding c.loop-pool.store c.loop-pool.self in
     let next = holding c.evict.new.store c.evict.new.self in
     let old = holding c.args.store.now c.args.self.now in
-    let few : length (free_of c.loop-pool.store c.args.pool) < c.args.pages = omega (arith, c.report_pool.ensures.free, c.loop-pool-test.true) in
+    let few : length (free_of c.loop-pool.store c.args.pool) < c.args.pages = omega (arith, c.free_count.ensures, c.loop-pool-test.true) in
     record {
       sound = c.evict.ensures.sound;
       victims = one_more c.args.pool (Some c.args.pages) c.in-Some.place old now next c.loop-pool.invariant.victims c.loop-pool.invariant.sound few c.in-Some.ensures c.evict.ensures.evicts;
@@ -46,7 +46,7 @@ returns-clause-room c =
     let s = c.args.store.now in
     let t = c.loop-pool.store in
     let m = c.loop-pool.invariant.gives_up in
-    let enough : c.args.pages ≤ length (free_of t c.args.pool) = omega (arith, c.report_pool.ensures.free, c.loop-pool-test.false) in
+    let enough : c.args.pages ≤ length (free_of t c.args.pool) = omega (arith, c.free_count.ensures, c.loop-pool-test.false) in
     ((λ y. room_at_most s t c.args.pool c.args.pages (clean_held c.args.self.now.files.items) (clean_held c.loop-pool.self.files.items) (same_pages s t c.args.pool m.frees c.requires.open) m.frees m.clean enough), (λ y. refl))
 
 pub returns-in_default-clause-room : goal.returns-in_default-clause-room
@@ -55,7 +55,7 @@ returns-in_default-clause-room c =
     let t = c.loop-pool.store in
     let m = c.loop-pool.invariant.gives_up in
     let sound = c.loop-pool.invariant.sound in
-    let few : length (free_of t c.args.pool) < c.args.pages = omega (arith, c.report_pool.ensures.free, c.loop-pool-test.true) in (
+    let few : length (free_of t c.args.pool) < c.args.pages = omega (arith, c.free_count.ensures, c.loop-pool-test.true) in (
       (λ y. absurd (let f : ◌≡◌ {A = Bool} false true = y in cc)),
       (λ room. absurd (no_room_left s t c.args.pool c.args.pages (clean_held c.args.self.now.files.items) (clean_held c.loop-pool.self.files.items) (same_pages s t c.args.pool m.frees c.requires.open) m.frees m.clean sound.tidy sound.still
           (λ q there. none_beside t (cached_of c.loop-pool.self) c.args.pool q sound c.in_default.ensures there) few room)),
