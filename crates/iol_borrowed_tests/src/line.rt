@@ -21,6 +21,17 @@ pub(crate) const NONE: u32 = 2;
 
 const FD: u32 = 0;
 
+// A system over an empty store.
+fn new_system<R: Abort>(rt: &R, alloc: Global) -> System<MemoryBacking> {
+    let store = MemoryBacking::new(Slots::new(alloc));
+    let config = Config {
+        chunks: 2,
+        gen_limit: u32::MAX,
+        sums: 8,
+    };
+    System::new(alloc, config, store).expect(rt, "memory")
+}
+
 /// A system over an empty store, with pool 1 of 32 pages, the default of domain 1, and connection 1 of it, which
 /// domain 1 accepted as descriptor 0.
 #[derive(Drop)]
@@ -30,24 +41,24 @@ pub(crate) struct Line {
 
 impl Line {
     pub(crate) fn new<R: Abort>(rt: &R, alloc: Global) -> Line {
-        let store = MemoryBacking::new(Slots::new(alloc));
-        let config = Config {
-            chunks: 2,
-            gen_limit: u32::MAX,
-            sums: 8,
+        let mut line = Line {
+            system: new_system(rt, alloc),
         };
-        let system = System::new(alloc, config, store).expect(rt, "memory");
-        let mut line = Line { system };
+        line.begin(rt, alloc);
+        line
+    }
+
+    // Makes the pool and the connection.
+    fn begin<R: Abort>(&mut self, rt: &R, alloc: Global) {
         let pool = PoolId::new(1);
         let list = [DomainId::new(1)].to_vec(alloc).expect(rt, "memory");
         let domains = Domains::from_vec(list);
-        let made = line.call(Call::PoolCreate { chunks: 2, domains });
+        let made = self.call(Call::PoolCreate { chunks: 2, domains });
         assert!(rt; matches!(made, Reply::Pool(_)));
-        assert!(rt; matches!(line.call(Call::SetPool { pool }), Reply::Done));
-        let conn = line.event(Event::ConnNew { pool });
+        assert!(rt; matches!(self.call(Call::SetPool { pool }), Reply::Done));
+        let conn = self.event(Event::ConnNew { pool });
         assert!(rt; matches!(conn, Reply::Conn(_)));
-        assert!(rt; matches!(line.call(Call::Accept), Reply::Fd(_)));
-        line
+        assert!(rt; matches!(self.call(Call::Accept), Reply::Fd(_)));
     }
 
     fn event(&mut self, event: Event) -> Reply {
