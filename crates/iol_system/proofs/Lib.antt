@@ -7,6 +7,8 @@ pub mod Paged
 pub mod Empty
 pub mod Served
 pub mod Doing
+pub mod BackDoing
 pub mod FileDoing
+pub mod ResultTold
 pub mod WrittenBack
 pub mod InPlace

@@ -19,7 +19,8 @@ use Rattle.iol_system.specs.Doing.{Does}
 use Rattle.iol_system.specs.Machine.{tables_of}
 use Rattle.iol_system.specs.Replies.{told}
 use Rattle.iol_system.proofs.Doing.{Means, Tells, told_step, carried_does, kept_does, looks_does, names_does}
-use Rattle.iol_system.proofs.FileDoing.{shows_does, copies_does, puts_does, places_does, reads_does, writes_does, syncs_does, creates_does}
+use Rattle.iol_system.proofs.FileDoing.{shows_does, copies_does, puts_does, places_does, reads_does, writes_does}
+use Rattle.iol_system.proofs.BackDoing.{syncs_does, creates_does}
 use Rattle.iol_system.proofs.step.answer_call.Goals as goal
 
 pub returns-in-DomainNew : goal.returns-in-DomainNew

@@ -11,7 +11,8 @@ use Rattle.iol_kernel.specs.Kernel.{state_of}
 use Rattle.iol_system.specs.Doing.{Does}
 use Rattle.iol_system.specs.Machine.{tables_of}
 use Rattle.iol_system.proofs.Doing.{told_step, carried_does, kept_does}
-use Rattle.iol_system.proofs.FileDoing.{places_does, flushes_does, drops_does, sends_does}
+use Rattle.iol_system.proofs.FileDoing.{places_does}
+use Rattle.iol_system.proofs.BackDoing.{flushes_does, drops_does, sends_does}
 use Rattle.iol_system.proofs.step.answer_to.Goals as goal
 
 pub returns-in-ConnNew : goal.returns-in-ConnNew

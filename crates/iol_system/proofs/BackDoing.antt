@@ -1,0 +1,232 @@
+-- What an event does that writes back, forgets what the store has, makes a pool, or sends.
+use Rattle.std.proofs.Common.{◌≡◌, ◌∙◌, ℕ, ◌<◌, ◌≤◌, Bool, List, [], ◌∷◌, length, true, false, refl, ap, sym, subst, Option, Some, None, inl, inr}
+use Rattle.std.proofs.lemmas.Bool.{true≢false}
+use Rattle.std.specs.Prelude.{◌⊎◌, Result, Ok, Err, IfErr, OnErr, OnOk, MatchOption, not, if◌then◌else◌}
+use Rattle.iol_back.specs.Disk.{Disk}
+use Rattle.iol_arena.specs.Chunks.{free_chunks}
+use Rattle.iol_arena.specs.State.{pages_for}
+use Rattle.iol_cache.specs.Cached.{extents_in}
+use Rattle.iol_cache.specs.Composing.{copied_pages}
+use Rattle.iol_cache.specs.Evicting.{AllDirty}
+use Rattle.iol_cache.specs.Keeping.{KeepsDirty}
+use Rattle.iol_cache.specs.Serving.{FaultCounts, TellsRoom}
+use Rattle.iol_cache.specs.Syncing.{WritesDirty}
+use Rattle.iol_core.specs.State.{State, descriptor, is_live}
+use Rattle.iol_core.specs.Text.{Text}
+use Rattle.iol_core.specs.Meaning.{Meaning, Step, ◌when◌, first, FaultIn, FaultOf, WantOfRoom, WantOfRoomOrFault}
+use Rattle.iol_core.specs.Run.{meaning, outcome, replied}
+use Rattle.iol_core.specs.Sharing.{is_sharing}
+use Rattle.iol_core.specs.Calls.Aggregates.{show}
+use Rattle.iol_core.specs.Calls.Files as files
+use Rattle.iol_core.specs.Calls.Outside as outside
+use Rattle.iol_core.specs.Calls.Pools as pools
+use Rattle.iol_core.specs.Calls.Reading as reading
+use Rattle.iol_core.specs.Calls.Writing as writing
+use Rattle.iol_core.specs.Calls.Writing.{is_file}
+use Rattle.iol_core.specs.declared.descriptors.Descriptor.{Descriptor}
+use Rattle.iol_core.specs.declared.descriptors.Descriptor.TheVariants as on
+use Rattle.iol_core.specs.declared.events.Call.TheVariants as call
+use Rattle.iol_core.specs.declared.events.Event.{Event}
+use Rattle.iol_core.specs.declared.events.Event.TheVariants as event
+use Rattle.iol_core.specs.declared.events.Reply.{Reply}
+use Rattle.iol_core.specs.declared.events.Reply.TheVariants as reply
+use Rattle.iol_core.specs.declared.refusals.Refusal.{Refusal}
+use Rattle.iol_core.specs.declared.refusals.Refusal.TheVariants.{NoDomain, BadFd, WrongMode, NoRoom, Fault, Memory}
+use Rattle.iol_hold.specs.Pages.{KeepsPages}
+use Rattle.iol_hold.specs.Places.{byte_len}
+use Rattle.iol_hold.specs.declared.slices.Slice.{Slice}
+use Rattle.iol_pool.specs.Pools.{AddsPool}
+use Rattle.iol_kernel.specs.Backed.{Serves, StepsBeside, holding_of, with_slots}
+use Rattle.iol_kernel.specs.Calls.{CarriesOut, KeepsPlaces, MakesBytes, Steps, Transmits}
+use Rattle.iol_kernel.specs.Copying.{Copies, CopiesOn}
+use Rattle.iol_kernel.specs.FileReading.{Reads, ReadsOn, held_by}
+use Rattle.iol_kernel.specs.KernelState.{KernelState, IsSound, layout_of, machine_of, slices_in}
+use Rattle.iol_kernel.specs.MakingRoom.{AfterRoom, MakesRoom, MayHaveEvicted, Places, can_fit}
+use Rattle.iol_kernel.specs.WritingBack.{FlushesOne, SyncsFile}
+use Rattle.iol_kernel.specs.WritingFiles.{PutsOn, WritesOn, pool_of_file}
+use Rattle.iol_kernel.specs.Keeping.{LacksPages, LacksPagesToRead}
+use Rattle.iol_kernel.proofs.Carried.{carried_layout}
+use Rattle.iol_kernel.proofs.Serving.{backed_stays, steps_beside}
+use Rattle.iol_kernel.proofs.Stay.{pages_equal, pages_here, stays_here}
+use Rattle.iol_system.specs.Asking.{asks_store, makes_file, uses_cache, writes_store}
+use Rattle.iol_system.specs.Doing.{Does}
+use Rattle.iol_system.specs.Machine.{SystemState, system_of, tables_of}
+use Rattle.iol_system.specs.InPlace.{IsInRange, IsWritten, KeepsInPlace, MayLetGo, ReadWantsMore, SharesRead, SharesWrite, WantsMore, WriteWantsMore}
+use Rattle.iol_system.specs.Placed.{Creates, Fills, FillsForFile, Publishes}
+use Rattle.iol_system.specs.Remembered.{Remembers}
+use Rattle.iol_system.specs.Replies.{told}
+use Rattle.iol_system.specs.Room.{HasRoomFor, HasRoomToRead, HasRoomToWrite, LacksRoomFor, LacksRoomToRead, LacksRoomToWrite, IsDone, IsEarly, IsFault, IsNoRoom, IsRefused}
+use Rattle.iol_system.proofs.Doing.{Means, Tells, IsPlain, early_told, early_refused, no_room_told, refused_told, told_beside}
+use Rattle.iol_system.specs.WrittenBack.{WritesBack}
+use Rattle.iol_system.proofs.InPlace.{beside_in_place, cache_in_place, drops_in_place, flushes_in_place, places_in_place, shares_file, shares_none, syncs_in_place, unless_in_place}
+use Rattle.iol_system.proofs.Paged.{carried_pages, fills_then_frees}
+use Rattle.iol_system.proofs.WrittenBack.{drops_back, flushes_back, none_back, syncs_back, writes_back}
+use Rattle.iol_system.proofs.ResultTold.{ok_told, lacks_told, counts_told, early_fault_in, early_fault}
+
+-- Writing back, and forgetting what the store has.
+done_tells : Tells {A = Unit {0}} (λ u. reply.Done)
+done_tells = record { answers = λ a. refl; roomy = λ a x. x; unrefused = λ a x. x }
+
+module _ (m : State → Meaning (Unit {0})) (e : Event) (disk after : Disk) (old new : KernelState) (r : Result (Unit {0}) Refusal) where
+  pub stores_does : Means (λ u. reply.Done) m e → ((s : State) → uses_cache s e ≡ true) → ((s : State) → is_sharing s e ≡ false)
+      → ((s : SystemState) → HasRoomFor s e) → (KeepsPages old.store new.store [] → Publishes old e new) → ((x : Reply) → Creates old e x new) → ((x : Reply) → new.sums ≡ old.sums → Remembers old e x new)
+      → (asks_store (tables_of old) e ≡ false → after ≡ disk) → (asks_store (tables_of old) e ≡ true → FaultCounts disk after r) → ((p : ℕ) → r ≡ Err (NoRoom p) → ⊥)
+      → KeepsPages old.store new.store [] → WritesBack disk old e (told (λ u. reply.Done) r) after new → KeepsInPlace (system_of old disk) e new → shares_file e ≡ false → Serves m disk old r after new → (writes_store e ≡ false → after.slots ≡ disk.slots) → (IsEarly (told (λ u. reply.Done) r) → (new ≡ old) × (after ≡ disk)) → Does disk old e (told (λ u. reply.Done) r) after new
+  stores_does means uses unshared has publishes creates sums unasked faults roomy pages written lies unlent serves slots early = record {
+    step = λ backed placed. means (machine_of disk.slots old) (machine_of after.slots new) r (serves.step backed placed);
+    backed = serves.backed;
+    beside = told_beside (λ u. reply.Done) m e old new r means serves.beside;
+    honest = serves.honest;
+    unasked = unasked;
+    faults = λ asked. counts_told (λ u. reply.Done) r disk after done_tells (faults asked);
+    slots = λ honest back. slots back;
+    asked = λ asks fault. has (system_of old disk);
+    room = λ done. has (system_of old disk);
+    no_room = λ is. absurd (no_room_told (λ u. reply.Done) r done_tells roomy is);
+    early = early;
+    refused = λ unused is. absurd (true≢false (sym (uses (tables_of old)) ∙ unused));
+    uncached = λ unused other. absurd (true≢false (sym (uses (tables_of old)) ∙ unused));
+    shares = λ shared. absurd (true≢false (sym shared ∙ unshared (tables_of old)));
+    pages = λ shared. absurd (true≢false (sym shared ∙ unshared (tables_of old)));
+    in_place = lies;
+    shares_file = λ done. shares_none (system_of old disk) new e unlent;
+    publishes = λ done. publishes pages;
+    creates = creates (told (λ u. reply.Done) r);
+    sums = sums (told (λ u. reply.Done) r) serves.sums;
+    written_back = written;
+    sound = serves.sound;
+    stays = serves.stays;
+  }
+
+no_room_of_three : (f p : ℕ) (a b c : Bool) → MatchOption (first ((NoDomain when a) ∷ (BadFd when b) ∷ (WrongMode when c) ∷ [])) (FaultOf f (NoRoom p)) (λ y. NoRoom p ≡ y) → ⊥
+no_room_of_three f p true b c is = cc
+no_room_of_three f p false true c is = cc
+no_room_of_three f p false false true is = cc
+no_room_of_three f p false false false is = is
+
+module _ (by fd : ℕ) (disk after : Disk) (old new : KernelState) (r : Result (Unit {0}) Refusal) where
+  sync_roomy : Serves (λ s. files.fsync s by fd) disk old r after new → (p : ℕ) → r ≡ Err (NoRoom p) → ⊥
+  sync_roomy serves p is =
+      let s : State = with_slots serves.beside.before old in
+      let step : Step (files.fsync s by fd) s (Err (NoRoom p)) (with_slots serves.beside.after new) = subst (λ (x : Result (Unit {0}) Refusal). Step (files.fsync s by fd) s x (with_slots serves.beside.after new)) is serves.beside.step in
+      no_room_of_three (files.file_on s by fd) p _ _ _ step.0
+
+  sync_early : (f : ℕ) (x : Result (Unit {0}) Refusal) → WritesDirty old.store f old.cache new.cache disk after x ⊎ ((new ≡ old) × (after ≡ disk)) → IsEarly (told (λ u. reply.Done) x) → (new ≡ old) × (after ≡ disk)
+  sync_early f (Ok u) ends is = absurd is
+  sync_early f (Err y) ends is = elim ends [ inl wrote ↦ absurd (early_fault f y is wrote.ends.1) | inr same ↦ same ]
+
+  pub syncs_does : IsSound old → Means (λ u. reply.Done) (λ s. files.fsync s by fd) (event.Call by (call.Fsync fd)) → Serves (λ s. files.fsync s by fd) disk old r after new → SyncsFile (files.file_on (tables_of old) by fd) disk old r after new → Does disk old (event.Call by (call.Fsync fd)) (told (λ u. reply.Done) r) after new
+  syncs_does sound means serves syncs =
+      stores_does (λ s. files.fsync s by fd) (event.Call by (call.Fsync fd)) disk after old new r means (λ s. refl) (λ s. refl) (λ s. tt) (λ k. k) (λ x. tt) (λ x k. k)
+      (λ none. absurd (true≢false none)) (λ asked. syncs.counts) (sync_roomy serves)
+      (pages_equal old.store new.store (ap (λ (h : KernelState). h.store) syncs.same)) (syncs_back by fd disk after old new r sound serves.sound syncs) (syncs_in_place by fd (files.file_on (tables_of old) by fd) disk after old new syncs.syncs) refl serves
+      (λ none. absurd (true≢false none)) (sync_early (files.file_on (tables_of old) by fd) r syncs.writes)
+
+module _ (disk after : Disk) (old new : KernelState) (r : Result (Unit {0}) Refusal) where
+  flush_roomy : Serves outside.flush disk old r after new → (p : ℕ) → r ≡ Err (NoRoom p) → ⊥
+  flush_roomy serves p is =
+      let s : State = with_slots serves.beside.before old in
+      let step : Step (outside.flush s) s (Err (NoRoom p)) (with_slots serves.beside.after new) = subst (λ (x : Result (Unit {0}) Refusal). Step (outside.flush s) s x (with_slots serves.beside.after new)) is serves.beside.step in
+      step.0
+
+  flush_early : (x : Result (Unit {0}) Refusal) → StepsBeside outside.flush old x new → IsEarly (told (λ u. reply.Done) x) → (new ≡ old) × (after ≡ disk)
+  flush_early (Ok u) beside is = absurd is
+  flush_early (Err y) beside is = absurd (early_fault_in (with_slots beside.before old) y is beside.step.0)
+
+  pub flushes_does : IsSound old → Means (λ u. reply.Done) outside.flush event.Flush → Serves outside.flush disk old r after new → FlushesOne disk old r after new → Does disk old event.Flush (told (λ u. reply.Done) r) after new
+  flushes_does sound means serves flushes =
+      stores_does outside.flush event.Flush disk after old new r means (λ s. refl) (λ s. refl) (λ s. tt) (λ k. k) (λ x. tt) (λ x k. k)
+      (λ none. absurd (true≢false none)) (λ asked. flushes.counts) (flush_roomy serves)
+      (pages_equal old.store new.store (ap (λ (h : KernelState). h.store) flushes.same)) (flushes_back disk after old new r sound flushes) (flushes_in_place disk after old new r sound flushes) refl serves
+      (λ none. absurd (true≢false none)) (flush_early r serves.beside)
+
+pub drops_does : (disk : Disk) (old new : KernelState) → Means (λ u. reply.Done) outside.drop_clean event.DropClean → Serves outside.drop_clean disk old (Ok tt) disk new → KeepsPages old.store new.store [] → ((f : ℕ) → AllDirty (extents_in new.cache.files f)) → KeepsDirty old.cache new.cache → Does disk old event.DropClean reply.Done disk new
+drops_does disk old new means serves pages none keeps =
+    stores_does outside.drop_clean event.DropClean disk disk old new (Ok tt) means (λ s. refl) (λ s. refl) (λ s. tt) (λ k. k) (λ x. tt) (λ x k. k)
+    (λ none. refl) (λ asked. absurd (true≢false (sym asked))) (λ p is. cc) pages (drops_back old new disk none) (drops_in_place disk old new keeps) refl serves
+    (λ none. refl) (λ is. absurd is)
+
+-- A new pool.
+module _ (by chunks : ℕ) (list : List ℕ) (disk : Disk) (old new : KernelState) where
+  abbrev pool_event : Event
+  pool_event = event.Call by (call.PoolCreate chunks list)
+
+  pool_tells : Tells reply.Pool
+  pool_tells = record { answers = λ a. refl; roomy = λ a x. x; unrefused = λ a x. x }
+
+  pool_creates : (r : Result ℕ Refusal) → OnOk r (AddsPool old.store.arena new.store.arena old.store.pools new.store.pools chunks (pools.distinct list)) → Creates old pool_event (told reply.Pool r) new
+  pool_creates (Ok p) adds = adds
+  pool_creates (Err x) adds = tt
+
+  pub creates_does : (r : Result ℕ Refusal) → Means reply.Pool (λ s. pools.pool_create s by chunks list) pool_event → IsSound old → KeepsPlaces (λ s. pools.pool_create s by chunks list) old r new
+      → OnOk r (AddsPool old.store.arena new.store.arena old.store.pools new.store.pools chunks (pools.distinct list)) → OnOk r (chunks ≤ length (free_chunks old.store.arena))
+      → ((p : ℕ) → r ≡ Err (NoRoom p) → length (free_chunks old.store.arena) < chunks) → Does disk old pool_event (told reply.Pool r) disk new
+  creates_does r means sound c adds room no_room =
+      let m = λ (s : State). pools.pool_create s by chunks list in record {
+        step = λ backed placed. means (machine_of disk.slots old) (machine_of disk.slots new) r (c.step disk.slots);
+        backed = backed_stays disk old new sound c.sound c.cache c.stays;
+        beside = told_beside reply.Pool m pool_event old new r means (steps_beside m old new r [] [] (c.step []));
+        honest = refl;
+        unasked = λ not'. refl;
+        faults = λ asked. absurd (true≢false (sym asked));
+        slots = λ honest back. refl;
+        asked = λ asks fault. absurd (true≢false (sym asks));
+        room = ok_told reply.Pool r _ room;
+        no_room = lacks_told reply.Pool r _ pool_tells no_room;
+        early = λ is. (early_told reply.Pool r (new ≡ old) pool_tells c.refused is, refl);
+        uncached = λ unused other. c.cache;
+        refused = λ unused is. refused_told reply.Pool r (new ≡ old) pool_tells c.refused is;
+        shares = λ shared. absurd (true≢false (sym shared));
+        pages = λ shared. absurd (true≢false (sym shared));
+        in_place = cache_in_place disk old new pool_event c.cache;
+        shares_file = λ done. tt;
+        publishes = λ done. c.pages;
+        creates = pool_creates r adds;
+        sums = c.sums;
+        written_back = none_back disk old (told reply.Pool r) disk new pool_event refl;
+        sound = c.sound;
+        stays = c.stays;
+      }
+
+-- What is sent.
+module _ (conn max : ℕ) (disk : Disk) (old new : KernelState) where
+  abbrev send_event : Event
+  send_event = event.Transmit conn max
+
+  abbrev sent : List ℕ × ℕ → Reply
+  sent x = reply.Segment x.0 x.1
+
+  send_tells : Tells sent
+  send_tells = record { answers = λ a. refl; roomy = λ a x. x; unrefused = λ a x. x }
+
+  send_sums : (r : Result (List ℕ × ℕ) Refusal) → Transmits conn max old r new → Remembers old send_event (told sent r) new
+  send_sums (Ok x) c = c.uses
+  send_sums (Err x) c = ap (λ (h : KernelState). h.sums) c.refused
+
+  pub sends_does : (r : Result (List ℕ × ℕ) Refusal) → Means sent (λ s. outside.transmit s conn max) send_event → IsSound old → Transmits conn max old r new → Does disk old send_event (told sent r) disk new
+  sends_does r means sound c =
+      let m = λ (s : State). outside.transmit s conn max in record {
+        step = λ backed placed. means (machine_of disk.slots old) (machine_of disk.slots new) r (c.step disk.slots);
+        backed = backed_stays disk old new sound c.sound c.cache c.stays;
+        beside = told_beside sent m send_event old new r means (steps_beside m old new r [] [] (c.step []));
+        honest = refl;
+        unasked = λ not'. refl;
+        faults = λ asked. absurd (true≢false (sym asked));
+        slots = λ honest back. refl;
+        asked = λ asks fault. tt;
+        room = λ done. tt;
+        no_room = λ is. absurd (no_room_told sent r send_tells c.roomy is);
+        early = λ is. (early_told sent r (new ≡ old) send_tells c.refused is, refl);
+        uncached = λ unused other. c.cache;
+        refused = λ unused is. refused_told sent r (new ≡ old) send_tells c.refused is;
+        shares = λ shared. absurd (true≢false (sym shared));
+        pages = λ shared. absurd (true≢false (sym shared));
+        in_place = cache_in_place disk old new send_event c.cache;
+        shares_file = λ done. tt;
+        publishes = λ done. c.pages;
+        creates = tt;
+        sums = send_sums r c;
+        written_back = none_back disk old (told sent r) disk new send_event refl;
+        sound = c.sound;
+        stays = c.stays;
+      }
