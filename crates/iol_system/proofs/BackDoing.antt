@@ -1,66 +1,47 @@
 -- What an event does that writes back, forgets what the store has, makes a pool, or sends.
-use Rattle.std.proofs.Common.{◌≡◌, ◌∙◌, ℕ, ◌<◌, ◌≤◌, Bool, List, [], ◌∷◌, length, true, false, refl, ap, sym, subst, Option, Some, None, inl, inr}
+use Rattle.std.proofs.Common.{◌≡◌, ◌∙◌, ℕ, ◌<◌, ◌≤◌, Bool, List, [], ◌∷◌, length, true, false, refl, ap, sym, subst, inl, inr}
 use Rattle.std.proofs.lemmas.Bool.{true≢false}
-use Rattle.std.specs.Prelude.{◌⊎◌, Result, Ok, Err, IfErr, OnErr, OnOk, MatchOption, not, if◌then◌else◌}
+use Rattle.std.specs.Prelude.{◌⊎◌, Result, Ok, Err, OnOk, MatchOption}
 use Rattle.iol_back.specs.Disk.{Disk}
 use Rattle.iol_arena.specs.Chunks.{free_chunks}
-use Rattle.iol_arena.specs.State.{pages_for}
 use Rattle.iol_cache.specs.Cached.{extents_in}
-use Rattle.iol_cache.specs.Composing.{copied_pages}
 use Rattle.iol_cache.specs.Evicting.{AllDirty}
 use Rattle.iol_cache.specs.Keeping.{KeepsDirty}
-use Rattle.iol_cache.specs.Serving.{FaultCounts, TellsRoom}
+use Rattle.iol_cache.specs.Serving.{FaultCounts}
 use Rattle.iol_cache.specs.Syncing.{WritesDirty}
-use Rattle.iol_core.specs.State.{State, descriptor, is_live}
-use Rattle.iol_core.specs.Text.{Text}
-use Rattle.iol_core.specs.Meaning.{Meaning, Step, ◌when◌, first, FaultIn, FaultOf, WantOfRoom, WantOfRoomOrFault}
-use Rattle.iol_core.specs.Run.{meaning, outcome, replied}
+use Rattle.iol_core.specs.State.{State}
+use Rattle.iol_core.specs.Meaning.{Meaning, Step, ◌when◌, first, FaultOf}
 use Rattle.iol_core.specs.Sharing.{is_sharing}
-use Rattle.iol_core.specs.Calls.Aggregates.{show}
 use Rattle.iol_core.specs.Calls.Files as files
 use Rattle.iol_core.specs.Calls.Outside as outside
 use Rattle.iol_core.specs.Calls.Pools as pools
-use Rattle.iol_core.specs.Calls.Reading as reading
-use Rattle.iol_core.specs.Calls.Writing as writing
-use Rattle.iol_core.specs.Calls.Writing.{is_file}
-use Rattle.iol_core.specs.declared.descriptors.Descriptor.{Descriptor}
-use Rattle.iol_core.specs.declared.descriptors.Descriptor.TheVariants as on
 use Rattle.iol_core.specs.declared.events.Call.TheVariants as call
 use Rattle.iol_core.specs.declared.events.Event.{Event}
 use Rattle.iol_core.specs.declared.events.Event.TheVariants as event
 use Rattle.iol_core.specs.declared.events.Reply.{Reply}
 use Rattle.iol_core.specs.declared.events.Reply.TheVariants as reply
 use Rattle.iol_core.specs.declared.refusals.Refusal.{Refusal}
-use Rattle.iol_core.specs.declared.refusals.Refusal.TheVariants.{NoDomain, BadFd, WrongMode, NoRoom, Fault, Memory}
+use Rattle.iol_core.specs.declared.refusals.Refusal.TheVariants.{NoDomain, BadFd, WrongMode, NoRoom}
 use Rattle.iol_hold.specs.Pages.{KeepsPages}
-use Rattle.iol_hold.specs.Places.{byte_len}
-use Rattle.iol_hold.specs.declared.slices.Slice.{Slice}
 use Rattle.iol_pool.specs.Pools.{AddsPool}
-use Rattle.iol_kernel.specs.Backed.{Serves, StepsBeside, holding_of, with_slots}
-use Rattle.iol_kernel.specs.Calls.{CarriesOut, KeepsPlaces, MakesBytes, Steps, Transmits}
-use Rattle.iol_kernel.specs.Copying.{Copies, CopiesOn}
-use Rattle.iol_kernel.specs.FileReading.{Reads, ReadsOn, held_by}
-use Rattle.iol_kernel.specs.KernelState.{KernelState, IsSound, layout_of, machine_of, slices_in}
-use Rattle.iol_kernel.specs.MakingRoom.{AfterRoom, MakesRoom, MayHaveEvicted, Places, can_fit}
+use Rattle.iol_kernel.specs.Backed.{Serves, StepsBeside, with_slots}
+use Rattle.iol_kernel.specs.Calls.{KeepsPlaces, Transmits}
+use Rattle.iol_kernel.specs.KernelState.{KernelState, IsSound, machine_of}
 use Rattle.iol_kernel.specs.WritingBack.{FlushesOne, SyncsFile}
-use Rattle.iol_kernel.specs.WritingFiles.{PutsOn, WritesOn, pool_of_file}
-use Rattle.iol_kernel.specs.Keeping.{LacksPages, LacksPagesToRead}
-use Rattle.iol_kernel.proofs.Carried.{carried_layout}
 use Rattle.iol_kernel.proofs.Serving.{backed_stays, steps_beside}
-use Rattle.iol_kernel.proofs.Stay.{pages_equal, pages_here, stays_here}
-use Rattle.iol_system.specs.Asking.{asks_store, makes_file, uses_cache, writes_store}
+use Rattle.iol_kernel.proofs.Stay.{pages_equal}
+use Rattle.iol_system.specs.Asking.{asks_store, uses_cache, writes_store}
 use Rattle.iol_system.specs.Doing.{Does}
 use Rattle.iol_system.specs.Machine.{SystemState, system_of, tables_of}
-use Rattle.iol_system.specs.InPlace.{IsInRange, IsWritten, KeepsInPlace, MayLetGo, ReadWantsMore, SharesRead, SharesWrite, WantsMore, WriteWantsMore}
-use Rattle.iol_system.specs.Placed.{Creates, Fills, FillsForFile, Publishes}
+use Rattle.iol_system.specs.InPlace.{KeepsInPlace}
+use Rattle.iol_system.specs.Placed.{Creates, Publishes}
 use Rattle.iol_system.specs.Remembered.{Remembers}
 use Rattle.iol_system.specs.Replies.{told}
-use Rattle.iol_system.specs.Room.{HasRoomFor, HasRoomToRead, HasRoomToWrite, LacksRoomFor, LacksRoomToRead, LacksRoomToWrite, IsDone, IsEarly, IsFault, IsNoRoom, IsRefused}
-use Rattle.iol_system.proofs.Doing.{Means, Tells, IsPlain, early_told, early_refused, no_room_told, refused_told, told_beside}
+use Rattle.iol_system.specs.Room.{HasRoomFor, IsEarly}
+use Rattle.iol_system.proofs.Doing.{Means, Tells, early_told, no_room_told, refused_told, told_beside}
 use Rattle.iol_system.specs.WrittenBack.{WritesBack}
-use Rattle.iol_system.proofs.InPlace.{beside_in_place, cache_in_place, drops_in_place, flushes_in_place, places_in_place, shares_file, shares_none, syncs_in_place, unless_in_place}
-use Rattle.iol_system.proofs.Paged.{carried_pages, fills_then_frees}
-use Rattle.iol_system.proofs.WrittenBack.{drops_back, flushes_back, none_back, syncs_back, writes_back}
+use Rattle.iol_system.proofs.InPlace.{cache_in_place, drops_in_place, flushes_in_place, shares_file, shares_none, syncs_in_place}
+use Rattle.iol_system.proofs.WrittenBack.{drops_back, flushes_back, none_back, syncs_back}
 use Rattle.iol_system.proofs.ResultTold.{ok_told, lacks_told, counts_told, early_fault_in, early_fault}
 
 -- Writing back, and forgetting what the store has.

@@ -1,8 +1,8 @@
 -- What holds whatever the bytes of files are: access, and the values of aggregates.
-use Rattle.std.proofs.Common.{◌≡◌, ◌∙◌, ℕ, List, [], Some, refl, sym, ap}
+use Rattle.std.proofs.Common.{◌≡◌, ◌∙◌, ℕ, List, [], refl, sym, ap}
 use Rattle.iol_core.specs.Access.{HasAccess}
-use Rattle.iol_core.specs.Run.{meaning, outcome, StepsTo}
-use Rattle.iol_core.specs.State.{State, Domain, Pool, File, aggregate}
+use Rattle.iol_core.specs.Run.{meaning, outcome}
+use Rattle.iol_core.specs.State.{Domain, aggregate}
 use Rattle.iol_core.specs.Numbered.{lookup}
 use Rattle.iol_core.specs.Text.{Text}
 use Rattle.iol_core.specs.Values.{ValuesStay}

@@ -1,5 +1,5 @@
 -- Chains: how they grow by a step, come apart, and what they give.
-use Rattle.std.proofs.Common.{◌≡◌, ◌∙◌, true, false, Some, ℕ, ◌+◌, ◌<◌, List, [], ◌∷◌, ◌++◌, length, take, get_or, refl, sym, ap, subst, arith}
+use Rattle.std.proofs.Common.{◌≡◌, ◌∙◌, true, false, Some, ℕ, ◌+◌, ◌<◌, List, [], ◌∷◌, ◌++◌, length, take, get_or, refl, sym, ap, subst}
 use Rattle.std.proofs.lemmas.List.{take_more}
 use Rattle.std.specs.Prelude.{Bool, ◌||◌}
 use Rattle.std.specs.List.{list_any}
@@ -11,7 +11,6 @@ use Rattle.iol_hold.proofs.Moving.{stays_trans}
 use Rattle.iol_core.specs.State.{aggregate}
 use Rattle.iol_core.specs.Text.{Text}
 use Rattle.iol_core.specs.Values.{gives_up}
-use Rattle.iol_back.specs.Disk.{IfHonest}
 use Rattle.iol_kernel.specs.KernelState.{layout_of}
 use Rattle.iol_system.specs.Machine.{SystemState, machine_of}
 use Rattle.iol_kernel.proofs.Stay.{stays_here}

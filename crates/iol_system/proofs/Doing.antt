@@ -1,11 +1,11 @@
 -- What an event does, by what the kernel says of its call.
-use Rattle.std.proofs.Common.{◌≡◌, ◌∙◌, ℕ, List, [], true, false, refl, ap, sym, subst, rules}
+use Rattle.std.proofs.Common.{◌≡◌, ◌∙◌, ℕ, [], true, false, refl, ap, sym, subst}
 use Rattle.std.proofs.lemmas.Bool.{true≢false}
-use Rattle.std.specs.Prelude.{Result, Ok, Err, OnErr, OnOk}
+use Rattle.std.specs.Prelude.{Result, Ok, Err, OnErr}
 use Rattle.iol_back.specs.Disk.{Disk}
 use Rattle.iol_core.specs.State.{State}
 use Rattle.iol_core.specs.Meaning.{Meaning, Step}
-use Rattle.iol_core.specs.Run.{meaning, outcome, replied, StepsTo}
+use Rattle.iol_core.specs.Run.{meaning, outcome, replied}
 use Rattle.iol_core.specs.Sharing.{is_sharing}
 use Rattle.iol_core.specs.declared.refusals.Refusal.{Refusal}
 use Rattle.iol_core.specs.declared.refusals.Refusal.TheVariants.{NoRoom}
@@ -13,19 +13,19 @@ use Rattle.iol_core.specs.declared.events.Event.{Event}
 use Rattle.iol_core.specs.declared.events.Reply.{Reply}
 use Rattle.iol_core.specs.declared.events.Reply.TheVariants as reply
 use Rattle.iol_hold.specs.Pages.{KeepsPages}
-use Rattle.iol_kernel.specs.Backed.{IsBackedBy, LooksUp, Serves, StepsBeside, with_slots}
+use Rattle.iol_kernel.specs.Backed.{LooksUp, StepsBeside, with_slots}
 use Rattle.iol_kernel.specs.Calls.{CarriesOut, KeepsPlaces, Names}
 use Rattle.iol_kernel.specs.KernelState.{KernelState, IsSound, layout_of, machine_of}
 use Rattle.iol_kernel.proofs.Carried.{carried_machine, carried_layout}
 use Rattle.iol_kernel.proofs.Serving.{backed_stays, steps_beside}
 use Rattle.iol_kernel.proofs.Stay.{pages_equal, stays_equal}
-use Rattle.iol_system.specs.Asking.{asks_store, makes_file, uses_cache}
+use Rattle.iol_system.specs.Asking.{asks_store, makes_file}
 use Rattle.iol_system.specs.Doing.{Does}
 use Rattle.iol_system.specs.Machine.{SystemState, system_of, tables_of}
 use Rattle.iol_system.specs.Placed.{Creates, Publishes}
 use Rattle.iol_system.specs.Remembered.{Remembers}
 use Rattle.iol_system.specs.Replies.{told}
-use Rattle.iol_system.specs.Room.{HasRoomFor, LacksRoomFor, IsDone, IsEarly, IsNoRoom, IsRefused}
+use Rattle.iol_system.specs.Room.{HasRoomFor, IsEarly, IsNoRoom, IsRefused}
 use Rattle.iol_system.proofs.InPlace.{cache_in_place, cover_in_place, shares_file, shares_none}
 use Rattle.iol_system.proofs.Paged.{carried_pages}
 use Rattle.iol_system.proofs.WrittenBack.{none_back, writes_back}

@@ -1,5 +1,5 @@
 -- What a call does to pages, by what the kernel says of it.
-use Rattle.std.proofs.Common.{inl, inr, ◌≡◌, ◌∙◌, ℕ, List, [], ap, refl, sym}
+use Rattle.std.proofs.Common.{inl, inr, ◌∙◌, ℕ, List, [], ap, refl, sym}
 use Rattle.std.specs.Prelude.{Result}
 use Rattle.iol_core.specs.State.{State}
 use Rattle.iol_core.specs.Meaning.{Meaning}
@@ -9,7 +9,7 @@ use Rattle.iol_hold.specs.Stored.{Stored}
 use Rattle.iol_hold.proofs.Paging.{keeps_pages_same, same_closed}
 use Rattle.iol_hold.specs.Moves.{SameLists}
 use Rattle.iol_hold.specs.Releases.{FreesOnly}
-use Rattle.iol_pool.specs.Pools.{Pool, pool_in}
+use Rattle.iol_pool.specs.Pools.{Pool}
 use Rattle.iol_cache.specs.Paging.{FillsLowest}
 use Rattle.iol_kernel.specs.Calls.{CarriesOut}
 use Rattle.iol_kernel.specs.KernelState.{KernelState}

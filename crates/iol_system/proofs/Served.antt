@@ -5,11 +5,10 @@ use Rattle.iol_back.specs.Disk.{Disk, IfHonest}
 use Rattle.iol_core.specs.Access.{HasAccess}
 use Rattle.iol_core.specs.Positions.{ArePlaced}
 use Rattle.iol_core.specs.Calls.Outside as outside
-use Rattle.iol_core.specs.Run.{StepsTo, meaning, outcome}
+use Rattle.iol_core.specs.Run.{meaning, outcome}
 use Rattle.iol_core.specs.State.{State, Connection, conn_at, content, domain, with_conn}
 use Rattle.iol_core.proofs.Kept.{access_conn}
 use Rattle.iol_core.proofs.Positions.{placed_step}
-use Rattle.iol_core.specs.declared.events.Event.{Event}
 use Rattle.iol_core.specs.declared.events.Event.TheVariants as event
 use Rattle.iol_core.specs.declared.events.Reply.TheVariants as reply
 use Rattle.iol_core.specs.declared.refusals.Refusal.{Refusal}
@@ -22,7 +21,7 @@ use Rattle.iol_kernel.specs.KernelState as held
 use Rattle.iol_kernel.specs.KernelState.{KernelState, IsSound}
 use Rattle.iol_kernel.specs.MakingRoom.{MayHaveEvicted, MakesRoom}
 use Rattle.iol_kernel.proofs.Serving.{backed_stays}
-use Rattle.iol_system.specs.Machine.{SystemState, machine_of, system_of}
+use Rattle.iol_system.specs.Machine.{machine_of, system_of}
 use Rattle.iol_system.specs.Safe.{IsSafe}
 use Rattle.iol_system.specs.Served.{Comes}
 use Rattle.iol_system.proofs.Beside.{access_beside}

@@ -1,5 +1,5 @@
 -- What is stored after events that write back, and what is dropped.
-use Rattle.std.proofs.Common.{◌≡◌, ◌∙◌, ℕ, ◌+◌, ◌-◌, ◌<◌, ◌≤◌, Bool, true, false, cond, List, [], ◌∷◌, length, max, Option, Some, None, refl, sym, ap, subst, arith, inl, inr}
+use Rattle.std.proofs.Common.{◌≡◌, ◌∙◌, ℕ, ◌-◌, ◌<◌, ◌≤◌, Bool, true, false, cond, List, [], ◌∷◌, length, max, Option, Some, None, refl, sym, ap, subst, arith, inl, inr}
 use Rattle.std.proofs.lemmas.Bool.{true≢false}
 use Rattle.std.specs.Prelude.{Result, Ok, Err, OnOk, slice_index, option_map, unwrap_or}
 use Rattle.iol_back.specs.Disk.{Disk, content}
@@ -18,7 +18,7 @@ use Rattle.iol_core.specs.declared.refusals.Refusal.{Refusal}
 use Rattle.iol_extent.specs.Extents.{Cell, Extent, IsApart, cell_at, cover, dirty_count, dirty_in, end_of, is_over, last_end}
 use Rattle.iol_hold.specs.Stored.{Stored}
 use Rattle.iol_cache.specs.Cached.{Cached, dirty_in_all, extents_in, file_in}
-use Rattle.iol_cache.specs.Contents.{AreStored, IsStored, byte_in, bytes_in_slot, file_byte, file_bytes, file_len, read_or}
+use Rattle.iol_cache.specs.Contents.{AreStored, IsStored, byte_in, file_bytes, read_or}
 use Rattle.iol_cache.specs.Evicting.{AllDirty}
 use Rattle.iol_cache.specs.Sound as cache
 use Rattle.iol_cache.specs.Syncing.{AllClean, Cleans, Flushes}
@@ -29,7 +29,7 @@ use Rattle.iol_cache.proofs.Cleaned.{bytes_alike, count-cleaned, first_dirty}
 use Rattle.iol_cache.proofs.Extending.{over_yes}
 use Rattle.iol_cache.proofs.Filing.{file_other, file_same, numbered_bounds, sum-with_file}
 use Rattle.iol_kernel.specs.Backed.{IsBackedBy}
-use Rattle.iol_kernel.specs.KernelState.{KernelState, IsSound, machine_of}
+use Rattle.iol_kernel.specs.KernelState.{KernelState, IsSound}
 use Rattle.iol_kernel.specs.Readings.{bytes_over}
 use Rattle.iol_kernel.specs.WritingBack.{FlushesOne, SyncsFile, done_of}
 use Rattle.iol_kernel.proofs.Beside.{content-machine_of}
@@ -38,10 +38,10 @@ use Rattle.iol_kernel.proofs.Named.{cache_sound}
 use Rattle.iol_kernel.proofs.Opening.{end_held}
 use Rattle.iol_kernel.proofs.Slots.{file_bytes-none}
 use Rattle.iol_kernel.proofs.WrittenBack.{dirty_there}
-use Rattle.iol_system.specs.Machine.{SystemState, system_of, tables_of}
+use Rattle.iol_system.specs.Machine.{system_of, tables_of}
 use Rattle.iol_system.specs.Replies.{told}
 use Rattle.iol_system.specs.Room.{IsDone}
-use Rattle.iol_system.specs.WrittenBack.{CleansFirst, HasNoClean, IsDropped, IsCleanFile, IsFlushed, IsKept, IsStoredFile, IsSynced, SyncsOn, WritesBack}
+use Rattle.iol_system.specs.WrittenBack.{CleansFirst, IsCleanFile, IsFlushed, IsStoredFile, SyncsOn, WritesBack}
 
 -- A file of which nothing is dirty is what the store has.
 

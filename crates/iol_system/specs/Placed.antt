@@ -1,5 +1,5 @@
 -- What an event does to pages and chunks: on which pages it makes buffers, and which chunks a new pool gets.
-use Rattle.std.specs.Prelude.{ℕ, List, [], length, Option, Some, ⊤}
+use Rattle.std.specs.Prelude.{ℕ, [], length, Option, Some, ⊤}
 use Rattle.iol_core.specs.State.{conn_at, descriptor}
 use Rattle.iol_core.specs.Calls.Aggregates.{default_pool}
 use Rattle.iol_core.specs.Calls.Outside.{arrive}

@@ -1,6 +1,5 @@
 -- What each call does, by what the kernel says of it.
 use Rattle.std.proofs.Common.{refl, subst, sym, ℕ, List, length}
-use Rattle.iol_core.specs.State.{State, descriptor}
 use Rattle.iol_core.specs.Calls.Domains as domains
 use Rattle.iol_core.specs.Calls.Pools as pools
 use Rattle.iol_core.specs.Calls.Aggregates as aggs
@@ -17,8 +16,7 @@ use Rattle.iol_core.specs.declared.events.Reply.TheVariants as reply
 use Rattle.iol_kernel.specs.Kernel.{state_of}
 use Rattle.iol_system.specs.Doing.{Does}
 use Rattle.iol_system.specs.Machine.{tables_of}
-use Rattle.iol_system.specs.Replies.{told}
-use Rattle.iol_system.proofs.Doing.{Means, Tells, told_step, carried_does, kept_does, looks_does, names_does}
+use Rattle.iol_system.proofs.Doing.{told_step, carried_does, kept_does, looks_does, names_does}
 use Rattle.iol_system.proofs.FileDoing.{shows_does, copies_does, puts_does, places_does, reads_does, writes_does}
 use Rattle.iol_system.proofs.BackDoing.{syncs_does, creates_does}
 use Rattle.iol_system.proofs.step.answer_call.Goals as goal

@@ -1,5 +1,5 @@
-use Rattle.std.proofs.Common.{refl, subst, sym, length}
-use Rattle.iol_core.specs.State.{State, conn_at}
+use Rattle.std.proofs.Common.{refl, subst, sym}
+use Rattle.iol_core.specs.State.{conn_at}
 use Rattle.iol_core.specs.Calls.Outside as outside
 use Rattle.iol_core.specs.declared.events.Event.{Event}
 use Rattle.iol_core.specs.declared.events.Event.TheVariants as event

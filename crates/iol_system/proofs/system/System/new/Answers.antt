@@ -1,6 +1,4 @@
-use Rattle.std.proofs.Common.{refl}
 use Rattle.iol_kernel.specs.Kernel.{state_of}
-use Rattle.iol_system.specs.Machine.{system_of}
 use Rattle.iol_system.proofs.Safe.{started_safe}
 use Rattle.iol_system.proofs.system.System.new.Goals as goal
 

@@ -3,7 +3,7 @@ use Rattle.iol_core.specs.Sharing.{is_sharing, LaysOut}
 use Rattle.iol_kernel.specs.Kernel.{state_of}
 use Rattle.iol_kernel.specs.KernelState.{layout_of}
 use Rattle.iol_system.specs.Asking.{asks_store, makes_file, uses_cache}
-use Rattle.iol_system.specs.Machine.{SystemState, system_of, tables_of}
+use Rattle.iol_system.specs.Machine.{SystemState, tables_of}
 use Rattle.iol_system.specs.WrittenBack.{StoresBack}
 use Rattle.std.proofs.Common.{subst}
 use Rattle.iol_system.proofs.system.System.step.Goals as goal
