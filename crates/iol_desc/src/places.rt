@@ -1,5 +1,5 @@
 //! Lists of places, some of them free.
-ghost use Rattle.std.specs.Prelude.{◌≡◌, ◌≢◌, ◌+◌, ◌-◌, ◌<◌, ◌≤◌, length, [], None, Some, OnOk, slice_set, vec_len, vec_capacity};
+ghost use Rattle.std.specs.Prelude.{◌≡◌, ◌≢◌, ◌+◌, ◌-◌, ◌<◌, ◌≤◌, length, [], None, Some, OnErr, OnOk, slice_set, vec_len, vec_capacity};
 ghost use Rattle.std.specs.Option.{option_copied};
 ghost use Rattle.std.specs.Borrow.{sem};
 ghost use Rattle.iol_desc.specs.Lending.{LendsPlace, LendsValue};
@@ -181,10 +181,12 @@ impl<T: Drop> Places<T> {
         lowest_from(&self.list, self.low)
     }
 
-    /// Reserves room for so many values more.
+    /// Reserves room for so many values more. Where there is so much room, it is not refused.
     pub fn reserve(&mut self, count: usize) -> Result<(), AllocError>
         ensures same { self.new.places ≡ self.old.places }
         ensures room { OnOk result (count ≤ self.new.room) }
+        ensures no_less { self.old.room ≤ self.new.room }
+        ensures needed { OnErr result (self.old.room < count) }
     {
         self.list.reserve(count)?;
         Ok(())

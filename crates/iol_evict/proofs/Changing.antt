@@ -1,21 +1,21 @@
 -- Entries and their indexes after a change.
 use Rattle.std.proofs.Common.{inl, inr, ◌≡◌, ◌≢◌, ℕ, ◌<◌, true, false, List, length, get_or, arith, refl, sym, ap, subst, ◌∙◌, Option, Some, None, IsSome, unwrap_or}
 use Rattle.std.specs.List.{insert, remove}
-use Rattle.std.proofs.lemmas.Bool.{cases_eq}
+use Rattle.std.proofs.lemmas.Bool.{cases_eq, false≢true}
 use Rattle.std.proofs.lemmas.List.{length-map}
 use Rattle.std.proofs.lemmas.List.Sums.{sum_by-insert, sum_by-remove}
 use Rattle.slab.specs.Slab.{Slab, get, ContainsKey, Updates, SameValues}
 use Rattle.iol_evict.specs.declared.entry.Entry.{Entry}
 use Rattle.iol_evict.specs.declared.entry.Rank.{Rank}
 use Rattle.iol_evict.specs.declared.entry.By.TheVariants.{Place, Height}
-use Rattle.iol_evict.specs.Ranking.{Table, no_entry, is_at, entry_at}
+use Rattle.iol_evict.specs.Ranking.{Table, no_entry, is_at, entry_at, with_height}
 use Rattle.iol_evict.specs.Ranks.{rank_by}
 use Rattle.iol_evict.specs.Indexes.{entry_of, one_if, times, AreLive, IsRising, HasRank, HaveSameKeys, Finds, Adds, Takes, IsIndexed}
 use Rattle.iol_evict.proofs.Edits.{each-insert, each-remove, remove-cases}
 use Rattle.iol_evict.proofs.Times.{StandsIn, stands-same, same-sym, same-insert, same-remove, each-same}
 use Rattle.iol_evict.proofs.Rising.{SameAt, same-entry, same-others, live-same, live-other, rising-ranks, rising-same, rising-insert, rising-remove}
 use Rattle.iol_evict.proofs.Listed.{is_at-true, entry_at-none}
-use Rattle.iol_evict.proofs.Indexing.{entries_of, read, taken-key, taken-gone, has-rank, places-apart}
+use Rattle.iol_evict.proofs.Indexing.{rank_of_place, entries-with_height, entries_of, read, taken-key, taken-gone, has-rank, places-apart}
 
 -- the keys of the second index are live, too
 pub live-heights : (s : Slab Entry) (ks js : List ℕ) → IsIndexed s ks js → AreLive s js
@@ -150,6 +150,16 @@ indexed-height s t ks js js' js'' rank key taken height indexed found from_heigh
 -- a table, part by part
 pub table-is : (es es' : List Entry) (n m : ℕ) → es ≡ es' → n ≡ m → ◌≡◌ {A = Table} (record { entries = es; room = n }) (record { entries = es'; room = m })
 table-is es es' n m same rooms = ap (λ (x : List Entry). record { entries = x; room = n }) same ∙ ap (λ (x : ℕ). record { entries = es'; room = x }) rooms
+
+-- an entry that is given the height it has
+some-kept : (o : Option Entry) (height : ℕ) → IsSome o → (unwrap_or o no_entry).height ≡ height → o ≡ Some (record (unwrap_or o no_entry) { height = height })
+some-kept None height is same = absurd (false≢true is)
+some-kept (Some e) height is same = ap (λ (h : ℕ). Some (record e { height = h })) same
+
+pub same-height : (s : Slab Entry) (ks js : List ℕ) (file at height key : ℕ) → IsIndexed s ks js → Finds Place s ks (rank_of_place file at) key → (entry_of s key).height ≡ height → entries_of s ks ≡ with_height (entries_of s ks) file at height
+same-height s ks js file at height key indexed found same =
+    let there : ContainsKey s key = subst (λ (k : ℕ). ContainsKey s k) found.is (indexed.live.each found.index found.within) in
+    entries-with_height s s ks file at height key indexed.places found (record { changed = some-kept (get s key) height there same; others = λ other apart. refl })
 
 -- a key of the first index has its rank in the second
 stands-height : (s : Slab Entry) (ks js : List ℕ) (n key : ℕ) → IsIndexed s ks js → n < length ks → get_or ks n 0 ≡ key → StandsIn js key

@@ -177,7 +177,7 @@ impl Entries {
         entry
     }
 
-    /// Gives the entry at a place another height.
+    /// Gives the entry at a place a height. Where it has that already, no key moves.
     pub(crate) fn set_height(&mut self, file: FileId, at: u32, height: u64)
         requires { entry_at self.old.entries file at ≢ None }
         ensures { let new = with_height self.old.entries file at height in
@@ -190,6 +190,9 @@ impl Entries {
             &place_of(file, at),
         );
         let entry = read_entry(&self.slab, key);
+        if entry.height == height {
+            return;
+        }
         remove_key(
             &self.slab,
             &mut self.by_height,

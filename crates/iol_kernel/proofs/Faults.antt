@@ -1,5 +1,5 @@
 -- What the store's faults mean for calls that write back.
-use Rattle.std.proofs.Common.{◌≡◌, ◌∙◌, ℕ, ◌≤◌, List, [], length, ap, sym, refl, subst, arith, true, Option, Some, None}
+use Rattle.std.proofs.Common.{◌≡◌, ◌∙◌, ℕ, ◌≤◌, List, [], length, ap, sym, refl, subst, arith, true, inr, Option, Some, None}
 use Rattle.std.specs.Prelude.{Result, Ok, Err, OnOk, OnErr, IfErr, MatchOption}
 use Rattle.iol_core.specs.Numbered.{is_numbered}
 use Rattle.iol_core.specs.State as machine
@@ -56,7 +56,7 @@ sync_steps s by fd f (Err x) passed is late = (
 
 -- a refusal before the store was asked
 pub refused_sync : (f : ℕ) (disk : Disk) (h : KernelState) (x : Refusal) → ((g : ℕ) → x ≡ Fault g → ⊥) → SyncsFile {A = Unit {0}} f disk h (Err x) disk h
-refused_sync f disk h x other = record { syncs = syncs_none h.store f h.cache disk; clean = tt; counts = none x other; same = refl }
+refused_sync f disk h x other = record { syncs = syncs_none h.store f h.cache disk; clean = tt; writes = inr (refl, refl); counts = none x other; same = refl }
   where
     none : (y : Refusal) → ((g : ℕ) → y ≡ Fault g → ⊥) → FaultCounts {A = Unit {0}} disk disk (Err y)
     none (Fault g) other = absurd (other g refl)

@@ -1,8 +1,9 @@
 -- What a read of a file leaves of a kernel, from what the cache of files promises of it.
-use Rattle.std.proofs.Common.{◌≡◌, ℕ, ◌+◌, ◌-◌, ◌<◌, ◌≤◌, List, [], ◌∷◌, ◌++◌, length, ap, ◌∙◌, refl, sym, subst, arith, Option, Some, None, true, inl, length-append}
+use Rattle.std.proofs.Common.{◌≡◌, ℕ, ◌+◌, ◌-◌, ◌<◌, ◌≤◌, List, [], ◌∷◌, ◌++◌, length, ap, ◌∙◌, refl, sym, subst, arith, Option, Some, None, true, inl, inr, length-append}
 use Rattle.std.specs.Prelude.{Result, Ok, Err}
 use Rattle.iol_core.specs.Numbered.{in_place, is_numbered}
 use Rattle.iol_core.specs.State.{Domain}
+use Rattle.iol_core.specs.Meaning.{WantOfRoomOrFault}
 use Rattle.iol_core.specs.Calls.Reading as reading
 use Rattle.iol_core.specs.declared.descriptors.Descriptor.TheVariants as on
 use Rattle.iol_core.specs.declared.limits.TheConstants.{MAX_FILE_BYTES}
@@ -12,27 +13,29 @@ use Rattle.iol_back.specs.Disk.{Disk}
 use Rattle.iol_extent.specs.Extents.{Extent}
 use Rattle.iol_extent.specs.Spans.{AreInOrder}
 use Rattle.iol_extent.specs.declared.spans.Span.{Span}
-use Rattle.iol_hold.specs.Moves.{SameLists}
+use Rattle.iol_hold.specs.Moves.{Moves, SameLists}
 use Rattle.iol_hold.specs.Places.{byte_len}
 use Rattle.iol_hold.specs.Stored.{Stored}
+use Rattle.iol_hold.specs.Texts.{bufs_of}
 use Rattle.iol_hold.specs.declared.slices.Slice.{Slice}
 use Rattle.iol_hold.proofs.Releasing.{frees_none}
 use Rattle.iol_desc.specs.Tables.{domain_in, with_agg_in}
 use Rattle.iol_cache.specs.Cached.{Cached, extents_in}
 use Rattle.iol_cache.specs.Evicting.{Holding}
-use Rattle.iol_cache.specs.Keeping.{KeepsDirty}
 use Rattle.iol_cache.specs.Paging.{FillsLowest}
 use Rattle.iol_cache.specs.Serving.{FaultCounts, NoRoomToRead, ReadsFile, RefusesRead, RoomToRead, TellsFault, TellsRoom}
 use Rattle.iol_cache.specs.Sharing.{CountsBelow, places_over}
 use Rattle.iol_cache.specs.Weaving.{places_read}
-use Rattle.iol_cache.proofs.Keeping.{apart_of, read_keeps, read_keeps_all, refused_keeps}
+use Rattle.iol_cache.proofs.Keeping.{apart_of}
 use Rattle.iol_cache.proofs.Paging.{fills_none}
 use Rattle.iol_cache.proofs.Shared.{length-places_over}
 use Rattle.iol_kernel.specs.Backed.{Serves, holding_of}
 use Rattle.iol_kernel.specs.Calls.{CarriesOut}
-use Rattle.iol_kernel.specs.FileReading.{FileRead, GivesRead, ReadsFileAs, moved_on, pool_read}
+use Rattle.iol_kernel.specs.FileReading.{FileRead, GivesCopy, GivesRead, ReadsFileAs, moved_on, pool_read}
 use Rattle.iol_kernel.specs.KernelState.{KernelState, objects_of, IsSound}
 use Rattle.iol_kernel.proofs.FileReads.{numbered_here, position_short}
+use Rattle.iol_kernel.specs.Keeping.{LacksPagesToRead}
+use Rattle.iol_kernel.proofs.Kept.{keeps_same, read_unless, refused_unless}
 use Rattle.iol_kernel.proofs.Named.{cache_sound}
 use Rattle.iol_kernel.proofs.Refilled.{over}
 use Rattle.iol_kernel.proofs.Uses.{all_few}
@@ -90,13 +93,14 @@ counts_few h sound = record { each = λ b. omega (arith, sound.counted.each b, a
 -- a refusal that has changed nothing
 pub reads_nothing : {A : Type 0} (x : FileRead) (disk : Disk) (h k : KernelState) (y : Refusal) → k ≡ h → TellsRoom {A = A} (RoomToRead x.file x.at x.count disk (holding_of h)) (NoRoomToRead x.file x.at x.count disk (holding_of h)) (Err y) → FaultCounts {A = A} disk disk (Err y) → ReadsFileAs {A = A} x disk h (Err y) disk k
 reads_nothing {A} x disk h k y same room counts = subst (λ (l : KernelState). ReadsFileAs {A = A} x disk h (Err y) disk l) (sym same) (record {
-  keeps = record { each = λ f i c is. inl is };
+  keeps = keeps_same (pool_read h x) (LacksPagesToRead x.file x.at x.count disk (holding_of h)) h.cache h.cache refl;
   pages = fills_none (pool_read h x) (frees_none h.store h.store refl refl (λ p o. refl));
   lists = refl;
   room = room;
   fault = record { honest = refl; slots = λ i. refl; counts = counts };
   same = refl;
   refused = refl;
+  leaves = inl (refl, refl);
 })
 
 length-read : (old new : List Extent) (at to : ℕ) (gs : List Span) → AreInOrder at to gs → length (places_read old new at to gs) + at ≡ to
@@ -123,38 +127,41 @@ module _ (x : FileRead) (disk after : Disk) (h : KernelState) (t : Stored) (c : 
   abbrev lacks : Type 0
   lacks = NoRoomToRead x.file x.at x.count disk (holding_of h)
 
-  pub reads_refused : (A B : Type 0) (y : Refusal) (ds : Domains) → ds ≡ h.domains → RefusesRead x.file x.at x.count disk (holding_of h) (over t c) → TellsRoom {A = A} has lacks (Err y) → TellsFault {A = A} disk after (Err y) → ReadsFileAs {A = B} x disk h (Err y) after (record h { store = t; domains = ds; cache = c })
-  reads_refused A B y ds kept refused room fault = record {
-    keeps = refused_keeps x.file x.at x.count disk (holding_of h) (over t c) (apart_of (cache_sound h sound)) refused;
+  pub reads_refused : (A B : Type 0) (y : Refusal) (ds : Domains) → ds ≡ h.domains → RefusesRead x.file x.at x.count disk (holding_of h) (over t c) → TellsRoom {A = A} has lacks (Err y) → TellsFault {A = A} disk after (Err y) → WantOfRoomOrFault (pool_read h x) x.file y → ReadsFileAs {A = B} x disk h (Err y) after (record h { store = t; domains = ds; cache = c })
+  reads_refused A B y ds kept refused room fault late = record {
+    keeps = refused_unless x.file x.at x.count disk (holding_of h) (over t c) (apart_of {h = holding_of h} (cache_sound h sound)) refused;
     pages = pages;
     lists = lists;
     room = room_told A B has lacks y room;
     fault = fault_told A B disk after y fault;
     same = refl;
     refused = kept;
+    leaves = inr (late, inl refused);
   }
 
   pub reads_done : {B : Type 0} (r : B) (xs : List Slice) (m : Stored) (ds : Domains) → ReadsFile x.file x.at x.count disk (holding_of h) (over m c) xs → has → after.failures ≡ disk.failures → after.honest ≡ disk.honest → (disk.honest ≡ true → after.slots ≡ disk.slots) → ReadsFileAs {A = B} x disk h (Ok r) after (record h { store = t; domains = ds; cache = c })
   reads_done r xs m ds reads room counts honest slots = record {
-    keeps = read_keeps x.file x.at x.count disk (holding_of h) (over m c) xs there reads (apart_of (cache_sound h sound));
+    keeps = read_unless x.file x.at x.count disk (holding_of h) (over m c) xs there (apart_of {h = holding_of h} (cache_sound h sound)) reads;
     pages = pages;
     lists = lists;
     room = room;
     fault = record { honest = honest; slots = slots; counts = counts };
     same = refl;
     refused = tt;
+    leaves = tt;
   }
 
   -- it was read, and then there was no memory for what was to be made of it
   pub reads_lost : (B : Type 0) (xs : List Slice) → ReadsFile x.file x.at x.count disk (holding_of h) (over t c) xs → after.failures ≡ disk.failures → after.honest ≡ disk.honest → (disk.honest ≡ true → after.slots ≡ disk.slots) → ReadsFileAs {A = B} x disk h (Err refusal.Memory) after (record h { store = t; cache = c })
   reads_lost B xs reads counts honest slots = record {
-    keeps = read_keeps x.file x.at x.count disk (holding_of h) (over t c) xs there reads (apart_of (cache_sound h sound));
+    keeps = read_unless x.file x.at x.count disk (holding_of h) (over t c) xs there (apart_of {h = holding_of h} (cache_sound h sound)) reads;
     pages = pages;
     lists = lists;
     room = tt;
     fault = record { honest = honest; slots = slots; counts = counts };
     same = refl;
     refused = refl;
+    leaves = inr (tt, inr (record { slices = xs; read = reads; memory = refl }));
   }
 
   pub gives_read : (xs : List Slice) (ds : Domains) → ReadsFile x.file x.at x.count disk (holding_of h) (over t c) xs → ds ≡ with_agg_in (moved_on h.domains x (byte_len xs)) x.domain xs → GivesRead x disk h (record h { store = t; domains = ds; cache = c })
@@ -162,5 +169,12 @@ module _ (x : FileRead) (disk after : Disk) (h : KernelState) (t : Stored) (c : 
     slices = xs;
     read = reads;
     domains = added;
-    keeps_all = read_keeps_all x.file x.at x.count disk (holding_of h) (over t c) xs there reads;
+  }
+
+  pub gives_copy : (xs : List Slice) (s : Stored) (ds : Domains) → ReadsFile x.file x.at x.count disk (holding_of h) (over t c) xs → Moves t s (bufs_of xs) [] → ds ≡ moved_on h.domains x (byte_len xs) → GivesCopy x disk h t (record h { store = s; domains = ds; cache = c })
+  gives_copy xs s ds reads released moved = record {
+    slices = xs;
+    read = reads;
+    released = released;
+    domains = moved;
   }

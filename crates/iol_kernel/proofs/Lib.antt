@@ -67,3 +67,5 @@ pub mod Called
 pub mod Seeking
 pub mod NewFiles
 pub mod Put
+pub mod Kept
+pub mod PutBeside

@@ -63,6 +63,7 @@ taken_out h k d fd n items sound none passed bytes left = record {
   places = left.places;
   roomy = λ p e. never items p e;
   pages = left.pages;
+  cache = left.cache;
   refused = tt;
 }
   where
@@ -108,6 +109,7 @@ read_refused h k d fd n y sound refused same = record {
   places = tt;
   roomy = λ p e. roomy p (error e);
   pages = pages_equal h.store k.store (ap (λ (l : KernelState). l.store) same);
+  cache = ap (λ (l : KernelState). l.cache) same;
   refused = same;
 }
   where
@@ -127,5 +129,6 @@ read_unlisted h k d fd n sound passed same = record {
   places = tt;
   roomy = λ p e. cc e;
   pages = pages_equal h.store k.store (ap (λ (l : KernelState). l.store) same);
+  cache = ap (λ (l : KernelState). l.cache) same;
   refused = same;
 }

@@ -26,7 +26,7 @@ use Rattle.iol_hold.specs.declared.slices.Slice.{Slice}
 use Rattle.iol_hold.proofs.Counting.{tally_none}
 use Rattle.iol_cache.specs.Cached.{Cached, file_in, no_file, new_file, extents_in, all_parts, held}
 use Rattle.iol_cache.specs.Contents.{AreStored, file_bytes}
-use Rattle.iol_extent.specs.Extents.{Extent}
+use Rattle.iol_extent.specs.Extents.{Extent, cover}
 use Rattle.iol_cache.specs.Sound as cache
 use Rattle.iol_cache.specs.declared.files.CachedFile.{CachedFile}
 use Rattle.iol_cache.proofs.Filing.{numbered_bounds, numbered_yes, additive_tally, file_nowhere, sum-flat}
@@ -248,6 +248,7 @@ module _ (h : KernelState) (name : List ℕ) (p : ℕ) (c : Cached) (sound : IsS
     };
     store = refl;
     sums = refl;
+    keeps = record { each = λ f i c' is. ap (λ (es : List Extent). cover es i) (ap (λ (fs : Files). extents_in fs f) added ∙ extents-push h.cache.files p f) ∙ is };
     sound = named-sound;
   }
 

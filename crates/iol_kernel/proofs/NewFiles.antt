@@ -94,6 +94,7 @@ names disk m h k n stored passed aside short one = record {
   roomy = λ p e. cc e;
   refused = tt;
   sums = one.sums;
+  keeps = one.keeps;
   sound = one.sound;
 }
   where
@@ -111,6 +112,7 @@ unnamed disk m h k x stored step aside roomy same sound = subst (λ (l : KernelS
   roomy = λ p e. roomy p (inside x (NoRoom p) e);
   refused = refl;
   sums = refl;
+  keeps = record { each = λ f i c is. is };
   sound = sound;
 })
   where

@@ -36,14 +36,16 @@ use Rattle.iol_cache.specs.Sharing.{CountsBelow}
 use Rattle.iol_cache.specs.Sound as cache
 use Rattle.iol_cache.specs.declared.files.CachedFile.{CachedFile}
 use Rattle.iol_cache.proofs.Filing.{numbered_bounds, numbered_yes}
-use Rattle.iol_cache.proofs.Keeping.{AreApart, apart_of, evictions_keep, write_keeps}
 use Rattle.iol_cache.proofs.Paging.{fills_none, pages_kept}
 use Rattle.iol_kernel.specs.Backed.{Serves, holding_of}
 use Rattle.iol_kernel.specs.Calls.{CarriesOut}
 use Rattle.iol_kernel.specs.KernelState.{KernelState, IsSound, machine_of, objects_of, read_of, slices_in}
 use Rattle.iol_kernel.specs.Readings.{Reading, bytes_over}
 use Rattle.iol_kernel.specs.Views.{state_view}
-use Rattle.iol_kernel.specs.WritingFiles.{KeepsBeside, WritesOn, WritesOver, pages_to_write, pool_of_file}
+use Rattle.iol_kernel.specs.Keeping.{KeepsBeside, LacksPages}
+use Rattle.iol_kernel.specs.WritingFiles.{WritesOn, WritesOver, pages_to_write, pool_of_file}
+use Rattle.iol_cache.proofs.Keeping.{apart_of}
+use Rattle.iol_kernel.proofs.Kept.{beside_same, unwritten_unless, write_unless}
 use Rattle.iol_kernel.proofs.FileWrites.{Puts, SamePools, late_serves, unwritten_pools, write_serves, written_pools}
 use Rattle.iol_kernel.proofs.Moved.{repositioned}
 use Rattle.iol_kernel.proofs.Named.{as_many, cache_sound}
@@ -82,13 +84,14 @@ pub refused_leaves : (h : KernelState) (f at : ℕ) (xs : List Slice) (x : Refus
 refused_leaves h f at xs x roomy = record {
   lies = tt;
   over = λ some. tt;
-  beside = record { each = λ g i c out lay. inl lay };
+  beside = (let p = pool_of_file h f in beside_same f at (byte_len xs) p (LacksPages h p (copied_pages p xs)) h.cache h.cache refl);
   room = tt;
   no_room = λ p e. absurd (roomy p e);
   pages = fills_none (pool_of_file h f) (frees_none h.store h.store refl refl (λ p is. refl));
   lists = refl;
   same = refl;
   refused = refl;
+  leaves = inl refl;
 }
 
 -- by what the descriptor is open on
@@ -152,13 +155,11 @@ module _ (h : KernelState) (t : Stored) (d : Cached) (by fd a f at : ℕ) (mode 
         (write_serves m h k t d by fd f at mode (text_of h.store xs) sound live is (recaches pools) (record { written = written.each; others = others; mirrors = mirrors }) (omega (arith, short, long)) (λ stored. passed (bytes_over stored h.store)) answered left
         (same ∙ ap (λ z. let k : KernelState = record h { store = t; cache = d; domains = with_fds_in h.domains by (repositioned h by fd f (at + z) mode) } in k) (sym long)) disk)
 
-    beside : KeepsBeside f at (byte_len xs) h.cache d
-    beside = record {
-      each = λ g i c out lay. elim (cases_lt 0 (byte_len xs)) [
-        | inl some ↦ write_keeps f at xs (holding_of h) new (in_cache h f sound there) (writes some) (apart_of {h = holding_of h} (cache_sound h sound)) g i c out lay
-        | inr none ↦ inl (ap (λ (x : Holding). cover (extents_in x.cache.files g) i) (nothing (omega (arith, none))) ∙ lay)
-      ];
-    }
+    beside : let p = pool_of_file h f in KeepsBeside f at (byte_len xs) p (LacksPages h p (copied_pages p xs)) h.cache d
+    beside = elim (cases_lt 0 (byte_len xs)) [
+      | inl some ↦ write_unless h f at xs new (apart_of {h = holding_of h} (cache_sound h sound)) (in_cache h f sound there) (writes some)
+      | inr none ↦ (let p = pool_of_file h f in beside_same f at (byte_len xs) p (LacksPages h p (copied_pages p xs)) h.cache d (ap (λ (x : Holding). x.cache) (nothing (omega (arith, none)))))
+    ]
 
     pub over_leaves : (k : KernelState) (n : ℕ) → pages_to_write h f xs ≤ length (pages_of h.store (pool_of_file h f)) → k ≡ record h { store = t; cache = d; domains = k.domains } → WritesOver f at xs h (Ok n) k
     over_leaves k n room same = subst (λ (l : KernelState). WritesOver f at xs h (Ok n) l) (sym same) (record {
@@ -171,6 +172,7 @@ module _ (h : KernelState) (t : Stored) (d : Cached) (by fd a f at : ℕ) (mode 
       lists = lists;
       same = refl;
       refused = tt;
+      leaves = tt;
     })
 
   -- refused late
@@ -181,25 +183,18 @@ module _ (h : KernelState) (t : Stored) (d : Cached) (by fd a f at : ℕ) (mode 
       (λ stored. subst (λ (o : Option Descriptor). writing.write_late (machine_of stored h) o x) (sym (to stored)) (subst (λ p. WantOfRoom p x) (sym (pool-file (bytes_over stored h.store) h f sound)) late))
       same
 
-  pub unwritten_leaves : (k : KernelState) (x : Refusal) → OnlyMakesRoom (pool_of_file h f) (copied_pages (pool_of_file h f) xs) (holding_of h) new → ((p : ℕ) → x ≡ NoRoom p → length (pages_of h.store (pool_of_file h f)) < pages_to_write h f xs) → k ≡ record h { store = t; cache = d } → WritesOver {A = ℕ} f at xs h (Err x) k
-  unwritten_leaves k x room lacks same = subst (λ (l : KernelState). WritesOver {A = ℕ} f at xs h (Err x) l) (sym same) (record {
+  pub unwritten_leaves : (k : KernelState) (x : Refusal) → OnlyMakesRoom (pool_of_file h f) (copied_pages (pool_of_file h f) xs) (holding_of h) new → ((p : ℕ) → x ≡ NoRoom p → length (pages_of h.store (pool_of_file h f)) < pages_to_write h f xs) → WantOfRoom (pool_of_file h f) x → k ≡ record h { store = t; cache = d } → WritesOver {A = ℕ} f at xs h (Err x) k
+  unwritten_leaves k x room lacks late same = subst (λ (l : KernelState). WritesOver {A = ℕ} f at xs h (Err x) l) (sym same) (record {
     lies = tt;
     over = λ some. tt;
-    beside = record {
-      each = λ g i c out lay. (let r = room.room in
-          let start : Holding = record { store = h.store; cache = r.reserved } in
-          let apart : AreApart r.reserved = record { each = λ n. subst (IsApart 0) (sym (r.rooms.extents n)) ((apart_of {h = holding_of h} (cache_sound h sound)).each n) } in
-          elim ((evictions_keep (pool_of_file h f) (Some (copied_pages (pool_of_file h f) xs)) start room.mid r.victims apart).each g i c (ap (λ es. cover es i) (r.rooms.extents g) ∙ lay)) [
-            | inl stays ↦ inl (ap (λ (y : Cached). cover (extents_in y.files g) i) room.cache ∙ stays)
-            | inr clean ↦ inr clean
-          ]);
-    };
+    beside = unwritten_unless h f at xs new (apart_of {h = holding_of h} (cache_sound h sound)) room;
     room = tt;
     no_room = λ p e. lacks p (the_refusal e);
     pages = pages;
     lists = lists;
     same = refl;
     refused = refl;
+    leaves = inr (late, room);
   })
     where
       the_refusal : {p : ℕ} → ◌≡◌ {A = Result ℕ Refusal} (Err x) (Err (NoRoom p)) → x ≡ NoRoom p

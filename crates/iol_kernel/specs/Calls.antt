@@ -15,6 +15,7 @@ use Rattle.iol_hold.specs.Pages.{KeepsPages}
 use Rattle.iol_hold.specs.Room.{lowest_of}
 use Rattle.iol_hold.specs.Texts.{bufs_of}
 use Rattle.iol_hold.specs.declared.slices.Slice.{Slice}
+use Rattle.iol_cache.specs.Keeping.{KeepsCover}
 use Rattle.iol_desc.specs.Tables.{agg_in}
 use Rattle.iol_sock.specs.declared.outgoing.Segment.{Segment}
 use Rattle.iol_sock.specs.Sent.{UsesSent}
@@ -63,7 +64,7 @@ pub record KeepsPlaces {A : Type 0} (m : State → Meaning A) (old : KernelState
   pub stays : Stays old.store new.store
 
 -- The machine's step on files, where the store under them is honest, and the bytes of files aside over any store. Pages, pools
--- and remembered sums are as they were.
+-- and remembered sums are as they were, and what is in memory of files lies where it lay.
 pub record Names {A : Type 0} (disk : Disk) (m : State → Meaning A) (old : KernelState) (r : Result A Refusal) (new : KernelState) : Type 0 where
   pub step : IfHonest disk (Step (m (machine_of disk.slots old)) (machine_of disk.slots old) r (machine_of disk.slots new))
   pub backed : IsBackedBy disk old → IsBackedBy disk new
@@ -72,6 +73,7 @@ pub record Names {A : Type 0} (disk : Disk) (m : State → Meaning A) (old : Ker
   pub roomy : (p : ℕ) → r ≡ Err (NoRoom p) → ⊥
   pub refused : OnErr r (new ≡ old)
   pub sums : new.sums ≡ old.sums
+  pub keeps : KeepsCover old.cache new.cache
   pub sound : IsSound new
 
 -- with some bytes in the next slot, this tells whether they are more than a file may have
@@ -86,6 +88,7 @@ pub record AddsFile {A : Type 0} (m : State → Meaning A) (old : KernelState) (
   pub backed : (disk : Disk) → length (content disk.slots (length old.files + 1)) ≤ MAX_FILE_BYTES → IsBackedBy disk old → IsBackedBy disk new
   pub store : new.store ≡ old.store
   pub sums : new.sums ≡ old.sums
+  pub keeps : KeepsCover old.cache new.cache
   pub sound : IsSound new
 
 -- The effect of a call that carries out: its answer, and the state after it.

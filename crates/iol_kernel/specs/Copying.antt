@@ -12,13 +12,14 @@ use Rattle.iol_kernel.specs.FileReading.{CopiesFileAs, file_read, held_by}
 use Rattle.iol_kernel.specs.KernelState.{KernelState, read_of, machine_of}
 use Rattle.iol_kernel.specs.Readings.{Reading, KeepsPools}
 
--- The machine's `read` of n bytes of a queue, over each store: what is left lies where it lay, and of the pages some may be freed.
--- A refusal changes nothing.
+-- The machine's `read` of n bytes of a queue, over each store: what is left lies where it lay, of the pages some may be freed,
+-- and what memory has of files stays. A refusal changes nothing.
 pub record ReadsOut (by fd n : ℕ) (old : KernelState) (r : Result (List ℕ) Refusal) (new : KernelState) : Type 0 where
   pub serves : (disk : Disk) → Serves (λ s. read s by fd n) disk old r disk new
   pub places : OnOk r ((f : Reading) → KeepsPools f → read_of f new ≡ (read (read_of f old) by fd n).after)
   pub roomy : (p : ℕ) → r ≡ Err (NoRoom p) → ⊥
   pub pages : KeepsPages old.store new.store []
+  pub cache : new.cache ≡ old.cache
   pub refused : OnErr r (new ≡ old)
 
 -- by what the descriptor is open on

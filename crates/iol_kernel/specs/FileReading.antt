@@ -1,26 +1,28 @@
 -- What a read of a file does, beside the machine's step: where its bytes lie, and what becomes of pages and of the cache.
-use Rattle.std.specs.Prelude.{◌≡◌, ℕ, ◌+◌, ◌≤◌, List, [], length, slice_set, Option, Some, None, Result, OnErr, OnOk, if◌then◌else◌}
+use Rattle.std.specs.Prelude.{◌≡◌, ◌⊎◌, ℕ, ◌+◌, List, [], slice_set, Option, Some, None, Result, IfErr, OnErr, OnOk, if◌then◌else◌}
 use Rattle.iol_core.specs.State.{State, Domain, is_live, descriptor}
+use Rattle.iol_core.specs.Meaning.{WantOfRoomOrFault}
 use Rattle.iol_core.specs.Calls.Reading as calls
 use Rattle.iol_core.specs.declared.descriptors.Mode.{Mode}
 use Rattle.iol_core.specs.declared.descriptors.Descriptor.{Descriptor}
 use Rattle.iol_core.specs.declared.descriptors.Descriptor.TheVariants as on
 use Rattle.iol_core.specs.declared.refusals.Refusal.{Refusal}
+use Rattle.iol_core.specs.declared.refusals.Refusal.TheVariants.{Memory}
 use Rattle.iol_back.specs.Disk.{Disk}
-use Rattle.iol_hold.specs.Moves.{SameLists}
+use Rattle.iol_hold.specs.Moves.{Moves, SameLists}
 use Rattle.iol_hold.specs.Places.{byte_len}
 use Rattle.iol_hold.specs.Releases.{FreesOnly}
-use Rattle.iol_hold.specs.Room.{free_of}
 use Rattle.iol_hold.specs.Stored.{Stored}
+use Rattle.iol_hold.specs.Texts.{bufs_of}
 use Rattle.iol_hold.specs.declared.slices.Slice.{Slice}
 use Rattle.iol_desc.specs.Tables.{fds_in, with_agg_in, with_fds_in}
 use Rattle.iol_cache.specs.Cached.{file_in}
-use Rattle.iol_cache.specs.Gaps.{gap_pages}
-use Rattle.iol_cache.specs.Keeping.{KeepsCover, KeepsDirty}
 use Rattle.iol_cache.specs.Paging.{FillsLowest}
-use Rattle.iol_cache.specs.Serving.{NoRoomToRead, ReadsFile, RoomToRead, TellsFault, TellsRoom}
+use Rattle.iol_cache.specs.Evicting.{Holding}
+use Rattle.iol_cache.specs.Serving.{NoRoomToRead, ReadsFile, RefusesRead, RoomToRead, TellsFault, TellsRoom}
 use Rattle.iol_kernel.specs.Backed.{holding_of}
 use Rattle.iol_kernel.specs.Calls.{CarriesOut}
+use Rattle.iol_kernel.specs.Keeping.{KeepsUnless, LacksPagesToRead}
 use Rattle.iol_kernel.specs.KernelState.{KernelState, machine_of}
 
 -- A domain's descriptor, which is open on a file at a position, and how many bytes are read there.
@@ -44,29 +46,57 @@ abbrev pub moved_on : List (Domain (List Slice)) → FileRead → (len : ℕ) �
 moved_on ds x len = with_fds_in ds x.domain (slice_set (fds_in ds x.domain) x.fd (Some (on.File x.file (x.at + len) x.mode)))
 
 -- The bytes became the domain's next aggregate, and the position moved on. They lie over hits where they lay, over gaps in the
--- new extents. Where the pages that its gaps want were free, every byte of a file that was in memory lies where it lay.
+-- new extents.
 pub record GivesRead (x : FileRead) (disk : Disk) (old new : KernelState) : Type 0 where
   pub slices : List Slice
   pub read : ReadsFile x.file x.at x.count disk (holding_of old) (holding_of new) slices
   pub domains : new.domains ≡ with_agg_in (moved_on old.domains x (byte_len slices)) x.domain slices
-  pub keeps_all : gap_pages read.reads.gaps ≤ length (free_of read.reads.hit.store (file_in read.reads.hit.cache.files x.file).pool) → KeepsCover old.cache new.cache
 
--- A read of a file by reference. Dirty extents stay where they lay. The lowest free pages of the file's pool are filled, and no
+-- what of a kernel's files is in memory, over these pages
+abbrev pub holding_over : Stored → KernelState → Holding
+holding_over s h = record { store = s; cache = h.cache }
+
+-- A file was read as far as memory goes, and then there was no memory for what was to be made of it.
+pub record LosesRead (x : FileRead) (disk : Disk) (old new : KernelState) (y : Refusal) : Type 0 where
+  pub slices : List Slice
+  pub read : ReadsFile x.file x.at x.count disk (holding_of old) (holding_of new) slices
+  pub memory : y ≡ Memory
+
+-- A refused read. One that was refused before it asked for room changed nothing. A late one left hits that count, and clean extents
+-- that went to make room, the first ones before the others; or what was read into memory, where memory was wanting afterwards.
+abbrev pub LeavesAtRefusal : (x : FileRead) → Disk → (old : KernelState) → (after : Disk) → (new : KernelState) → Refusal → Type 0
+LeavesAtRefusal x disk old after new y =
+    ((new ≡ old) × (after ≡ disk))
+    ⊎ (WantOfRoomOrFault (pool_read old x) x.file y × (RefusesRead x.file x.at x.count disk (holding_of old) (holding_of new) ⊎ LosesRead x disk old new y))
+
+-- A read of a file by reference. Every byte of a file that was in memory lies where it lay, but that clean ones of the file's pool
+-- may have given way where more pages were wanted than were free. The lowest free pages of the file's pool are filled, and no
 -- others. It is refused for want of room only where the pages that are pinned and wanted do not fit the pool, and done only where
--- they do. A fault is answered just where the store failed once more.
+-- they do. A fault is answered just where the store failed once more. A refusal before that changed nothing.
 pub record ReadsFileAs {A : Type 0} (x : FileRead) (disk : Disk) (old : KernelState) (r : Result A Refusal) (after : Disk) (new : KernelState) : Type 0 where
-  pub keeps : KeepsDirty old.cache new.cache
+  pub keeps : KeepsUnless (pool_read old x) (LacksPagesToRead x.file x.at x.count disk (holding_of old)) old.cache new.cache
   pub pages : FillsLowest (pool_read old x) old.store new.store
   pub lists : SameLists old.store new.store
   pub room : TellsRoom (RoomToRead x.file x.at x.count disk (holding_of old)) (NoRoomToRead x.file x.at x.count disk (holding_of old)) r
   pub fault : TellsFault disk after r
   pub same : new ≡ record old { store = new.store; cache = new.cache; domains = new.domains }
   pub refused : OnErr r (new.domains ≡ old.domains)
+  pub leaves : IfErr r (LeavesAtRefusal x disk old after new)
 
--- A read of a file by copying: what a read by reference does, whose slices were then released.
+-- What was read by reference over these pages was copied and released, and the position moved on. Over gaps there are new clean
+-- extents.
+pub record GivesCopy (x : FileRead) (disk : Disk) (old : KernelState) (mid : Stored) (new : KernelState) : Type 0 where
+  pub slices : List Slice
+  pub read : ReadsFile x.file x.at x.count disk (holding_of old) (holding_over mid new) slices
+  pub released : Moves mid new.store (bufs_of slices) []
+  pub domains : new.domains ≡ moved_on old.domains x (byte_len slices)
+
+-- A read of a file by copying: what a read by reference does, whose slices were then released. A refusal before that changed nothing.
 pub record CopiesFileAs {A : Type 0} (x : FileRead) (disk : Disk) (old : KernelState) (r : Result A Refusal) (after : Disk) (new : KernelState) : Type 0 where
   pub mid : Stored
   pub reads : ReadsFileAs x disk old r after (record new { store = mid })
+  pub gives : OnOk r (GivesCopy x disk old mid new)
+  pub early : IfErr r (λ y. ((new ≡ old) × (after ≡ disk)) ⊎ WantOfRoomOrFault (pool_read old x) x.file y)
   pub frees : FreesOnly mid new.store
   pub lists : SameLists mid new.store
 

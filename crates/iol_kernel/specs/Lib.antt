@@ -18,3 +18,4 @@ pub mod Adding
 pub mod Regrouped
 pub mod Queues
 pub mod Borrowed
+pub mod Keeping

@@ -1,5 +1,5 @@
 -- Writing back of what is dirty, and what it leaves beside what it means.
-use Rattle.std.specs.Prelude.{◌≡◌, ℕ, ◌-◌, None, Result, Ok, Err, OnOk}
+use Rattle.std.specs.Prelude.{◌≡◌, ◌⊎◌, ℕ, ◌-◌, None, Result, Ok, Err, OnOk}
 use Rattle.iol_core.specs.declared.refusals.Refusal.{Refusal}
 use Rattle.iol_back.specs.Disk.{Disk, content}
 use Rattle.iol_extent.specs.Extents.{dirty_in}
@@ -10,10 +10,12 @@ use Rattle.iol_cache.specs.declared.syncing.Flushed.{Flushed}
 use Rattle.iol_kernel.specs.KernelState.{KernelState}
 
 -- The first dirty extents of the file in slot f were written back and are clean: all of them, or those before the one at which
--- the store failed. A fault is answered just where one failure more was counted. Nothing else changed.
+-- the store failed. Each entered the order as a new one. A fault is answered just where one failure more was counted. Nothing else
+-- changed; a refusal before the store was asked changed nothing at all.
 pub record SyncsFile {A : Type 0} (f : ℕ) (disk : Disk) (old : KernelState) (r : Result A Refusal) (after : Disk) (new : KernelState) : Type 0 where
   pub syncs : cache.Syncs old.store f old.cache new.cache disk after
   pub clean : OnOk r (dirty_in (extents_in new.cache.files f) ≡ None)
+  pub writes : cache.WritesDirty old.store f old.cache new.cache disk after r ⊎ ((new ≡ old) × (after ≡ disk))
   pub counts : FaultCounts disk after r
   pub same : new ≡ record old { cache = new.cache }
 

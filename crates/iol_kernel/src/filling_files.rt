@@ -1,13 +1,18 @@
 //! Bytes are written to files by copying: they are placed in the file's pool, and lie there.
-ghost use Rattle.std.specs.Prelude.{◌≡◌, ℕ, length, true, false, Some, Err, OnOk};
+ghost use Rattle.std.specs.Prelude.{◌≡◌, ℕ, length, true, false, Some, Err, IfErr, OnOk};
+ghost use Rattle.iol_core.specs.Meaning.{WantOfRoom};
 ghost use Rattle.iol_core.specs.State as state;
 ghost use Rattle.iol_core.specs.State.{descriptor};
 ghost use Rattle.iol_core.specs.Calls.Writing as calls;
 ghost use Rattle.iol_back.specs.Disk.{Disk};
+ghost use Rattle.iol_hold.specs.Pages.{KeepsPages};
+ghost use Rattle.iol_hold.specs.Room.{lowest_of};
 ghost use Rattle.iol_sock.specs.Refused.{IsPassed};
 ghost use Rattle.iol_kernel.specs.KernelState.{IsSound};
+ghost use Rattle.iol_kernel.specs.Keeping.{KeepsBeside};
 ghost use Rattle.iol_kernel.specs.MakingRoom.{can_fit};
 ghost use Rattle.iol_kernel.specs.Readings.{Reading};
+ghost use Rattle.iol_kernel.specs.WritingFiles.{PutsInFile};
 
 use crate::kernel::Kernel;
 use iol_agg::Agg;
@@ -44,6 +49,9 @@ impl Kernel {
         ensures room { OnOk result (can_fit (state_of self.old) pool (length bytes.now) ≡ true) }
         ensures no_room { (p : ℕ) → result ≡ Err (Refusal.NoRoom p) → can_fit (state_of self.old)
             pool (length bytes.now) ≡ false }
+        ensures late { IfErr result (WantOfRoom pool) }
+        ensures puts { PutsInFile file at pool (length bytes.now) (state_of self.old) result
+            (state_of self.new) }
     {
         let count = bytes.len().min(MAX_FILE_BYTES) as u32;
         if !self.make_room_for(pool, count) {
@@ -74,6 +82,11 @@ impl Kernel {
         ensures serves { (disk : Disk) → Serves (λ s. calls.write s by fd bytes.now) disk self.old
             result disk self.new }
         ensures roomy { (p : ℕ) → result ≡ Err (Refusal.NoRoom p) → ⊥ }
+        ensures late { IfErr result (WantOfRoom pool) }
+        ensures fills { OnOk result (KeepsPages self.old.store self.new.store
+            (lowest_of self.old.store pool (length bytes.now))) }
+        ensures beside { KeepsBeside file at (length bytes.now) pool ⊥ (state_of self.old).cache
+            (state_of self.new).cache }
     {
         let Ok(agg) = Agg::fill(self.alloc, &mut self.store, pool, bytes) else {
             return Err(Refusal::Memory);

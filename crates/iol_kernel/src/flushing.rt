@@ -1,5 +1,5 @@
 //! Writing back of what is dirty, and the going of what is clean.
-ghost use Rattle.std.specs.Prelude.{◌≡◌, ℕ, true, None, Err, IfOk, IfErr, OnOk, Ok, []};
+ghost use Rattle.std.specs.Prelude.{◌≡◌, ℕ, true, None, Err, IfOk, IfErr, OnOk, Ok, [], length};
 ghost use Rattle.iol_core.specs.Meaning.{first};
 ghost use Rattle.iol_core.specs.Numbered.{is_numbered};
 ghost use Rattle.iol_core.specs.Calls.Files as calls;
@@ -8,7 +8,9 @@ ghost use Rattle.iol_core.specs.Calls.Outside as outside;
 ghost use Rattle.iol_back.specs.Disk.{Disk};
 ghost use Rattle.iol_hold.specs.Pages.{KeepsPages};
 ghost use Rattle.iol_cache.specs.Cached.{extents_in};
-ghost use Rattle.iol_cache.specs.Evicting.{AllDirty};
+ghost use Rattle.iol_cache.specs.Evicting.{AllDirty, EvictsPools};
+ghost use Rattle.iol_cache.specs.Keeping.{KeepsDirty};
+ghost use Rattle.iol_kernel.specs.Backed.{holding_of};
 ghost use Rattle.iol_kernel.specs.KernelState.{IsSound};
 ghost use Rattle.iol_kernel.specs.Readings.{Reading};
 ghost use Rattle.iol_kernel.specs.WritingBack.{FlushesOne, SyncsFile};
@@ -110,6 +112,13 @@ impl Kernel {
         ensures serves { (disk : Disk) → Serves outside.drop_clean disk self.old (Ok tt) disk self.new }
         ensures pages { KeepsPages self.old.store self.new.store [] }
         ensures none { (f : ℕ) → AllDirty (extents_in (state_of self.new).cache.files f) }
+        ensures victims { EvictsPools (length (state_of self.old).cache.orders)
+            (holding_of (state_of self.old)) (holding_of (state_of self.new)) }
+        ensures rest { state_of self.new ≡ record (state_of self.old) {
+          store = (state_of self.new).store;
+          cache = (state_of self.new).cache;
+        } }
+        ensures keeps { KeepsDirty (state_of self.old).cache (state_of self.new).cache }
     {
         self.files.cache.drop_clean(&mut self.store);
     }

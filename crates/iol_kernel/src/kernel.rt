@@ -1,5 +1,5 @@
 //! What a system holds, and the tests that its calls make.
-ghost use Rattle.std.specs.Prelude.{replicate, ◌*◌, ◌⊎◌, ◌↔◌, Err, IfOk, IfErr, ◌≡◌, ◌≤◌, ℕ, length, true, false, Option, List};
+ghost use Rattle.std.specs.Prelude.{replicate, ◌*◌, ◌⊎◌, ◌↔◌, Err, IfOk, IfErr, ◌≡◌, ◌≤◌, ℕ, length, true, false, Option, List, []};
 ghost use Rattle.iol_core.specs.Configuration.{IsInRange};
 ghost use Rattle.iol_core.specs.State.{new_state, is_live, may_read, text, descriptor};
 ghost use Rattle.iol_core.specs.Calls.Aggregates.{lacks_agg, too_many_aggs};
@@ -52,6 +52,8 @@ impl Kernel {
             CHUNK_PAGES) no_entry) }
         ensures taken { IfOk result (λ k. k.store.arena.taken ≡ replicate config.chunks false) }
         ensures limit { IfOk result (λ k. k.store.arena.limit ≡ config.gen_limit) }
+        ensures sums { IfOk result (λ k. k.sums.entries ≡ []) }
+        ensures sum_limit { IfOk result (λ k. k.sums.limit ≡ config.sums) }
         ensures sound { IfOk result (λ k. IsSound (state_of k)) }
     {
         let store = Store::new(alloc, config)?;

@@ -1,10 +1,12 @@
 //! Writing by copying: no aggregate is made of what is written.
-ghost use Rattle.std.specs.Prelude.{◌≡◌, ℕ, true, false, Err, OnOk};
+ghost use Rattle.std.specs.Prelude.{◌≡◌, ◌⊎◌, ℕ, length, true, false, Err, IfErr, OnOk};
+ghost use Rattle.iol_core.specs.Meaning.{WantOfRoom};
 ghost use Rattle.iol_core.specs.State.{descriptor};
 ghost use Rattle.iol_core.specs.Calls.Writing as calls;
 ghost use Rattle.iol_back.specs.Disk.{Disk};
 ghost use Rattle.iol_kernel.specs.KernelState.{IsSound};
 ghost use Rattle.iol_kernel.specs.MakingRoom.{can_fit};
+ghost use Rattle.iol_kernel.specs.WritingFiles.{PutsOn};
 
 use crate::kernel::Kernel;
 use iol_core::descriptors::Descriptor;
@@ -30,6 +32,11 @@ impl Kernel {
         ensures no_room { (p : ℕ) → result ≡ Err (Refusal.NoRoom p) → can_fit (state_of self.old)
             (calls.pool_for (machine self.old) by (descriptor (machine self.old) by fd))
             (calls.write (machine self.old) by fd bytes.now).answer ≡ false }
+        ensures refused { IfErr result (λ x. (state_of self.new ≡ state_of self.old) ⊎ WantOfRoom
+            (calls.pool_for (machine self.old) by (descriptor (machine self.old) by fd)) x) }
+        ensures puts { PutsOn (descriptor (machine self.old) by fd) (calls.pool_for (machine
+            self.old) by (descriptor (machine self.old) by fd)) (length bytes.now) (state_of
+            self.old) result (state_of self.new) }
     {
         let pool = match self.pool_to_write(by, fd, bytes) {
             Ok(pool) => pool,

@@ -1,9 +1,9 @@
 -- What the calls on aggregates do for their own domain.
-use Rattle.std.proofs.Common.{◌≡◌, ℕ, ◌+◌, ◌-◌, ◌≤◌, List, [], ◌∷◌, ◌++◌, take, drop, ap, ◌∙◌, subst, arith, Option, Some, None, append_assoc}
+use Rattle.std.proofs.Common.{◌≡◌, ℕ, ◌+◌, ◌-◌, ◌≤◌, List, [], ◌∷◌, ◌++◌, take, drop, ap, ◌∙◌, subst, arith, Option, Some, None, true, append_assoc}
 use Rattle.std.specs.Prelude.{option_map, slice_range}
 use Rattle.iol_core.specs.Text.{Text, bytes_of, labelled, part}
 use Rattle.iol_core.specs.Numbered.{lookup, without}
-use Rattle.iol_core.specs.State.{State, Domain, domain, text}
+use Rattle.iol_core.specs.State.{State, Domain, domain, text, is_live}
 use Rattle.iol_core.specs.Run.{StepsTo}
 use Rattle.iol_core.specs.Calls.Aggregates as aggs
 use Rattle.iol_core.specs.declared.events.Call.TheVariants as call
@@ -19,26 +19,30 @@ use Rattle.iol_laws.proofs.Numbers.{lent-made, number, text-of}
 use Rattle.iol_laws.proofs.Places.{lookup-push, lookup-push_other, lookup-without_none}
 use Rattle.iol_laws.proofs.Texts.{bytes-append, bytes-drop, bytes-labelled, bytes-take}
 
+-- two texts, one after the other
+joins : (x y : Text) (xs ys : List ℕ) → bytes_of x ≡ xs → bytes_of y ≡ ys → bytes_of (x ++ y) ≡ xs ++ ys
+joins x y xs ys x_is y_is = bytes-append x y ∙ (ap (λ (l : List ℕ). l ++ bytes_of y) x_is ∙ ap (λ (l : List ℕ). xs ++ l) y_is)
+
+-- an aggregate more, beside those that are kept
+made : (s t : State) (d n : ℕ) (kept : List (ℕ × Text)) (x : Text) (bytes : List ℕ) → IsOrderly s → is_live s d ≡ true → lookup kept (aggs.next_agg s d) ≡ None → n ≡ aggs.next_agg s d → t ≡ aggs.with_new s d kept x → bytes_of x ≡ bytes → Makes s d bytes (reply.Agg n) t
+made s t d n kept x bytes order live none is same bytes_are = (
+  ap (λ k. lent_at t d k) is ∙ (lent-made s t d kept x live none same ∙ ap (λ (l : List ℕ). Some l) bytes_are),
+  ap (λ k. lent_at s d k) is ∙ ap (λ (o : Option Text). option_map bytes_of o) (order.aggs d (aggs.next_agg s d) (omega arith)),
+)
+
+-- where all are kept
+added : (s t : State) (d n : ℕ) (x : Text) (bytes : List ℕ) → IsOrderly s → is_live s d ≡ true → n ≡ aggs.next_agg s d → t ≡ aggs.with_agg s d x → bytes_of x ≡ bytes → Makes s d bytes (reply.Agg n) t
+added s t d n x bytes order live is same bytes_are = made s t d n (domain s d).aggs x bytes order live (order.aggs d (aggs.next_agg s d) (omega arith)) is same bytes_are
+
 pub does_make : (s t : State) (d : ℕ) (bytes : List ℕ) (r : Reply) → IsOrderly s → StepsTo s (event.Call d (call.AggMake bytes)) r t → Makes s d bytes r t
-does_make s t d bytes (reply.Agg n) order step =
-    let live = live-first s d _ step.0 in
-    let is : n ≡ aggs.next_agg s d = ap number step.1 in
-    let none = order.aggs d (aggs.next_agg s d) (omega arith) in (
-      ap (λ k. lent_at t d k) is ∙ (lent-made s t d (domain s d).aggs (labelled (aggs.default_pool s d) bytes) live none step.2 ∙ ap (λ (l : List ℕ). Some l) (bytes-labelled (aggs.default_pool s d) bytes)),
-      ap (λ k. lent_at s d k) is ∙ ap (λ (o : Option Text). option_map bytes_of o) none,
-    )
+does_make s t d bytes (reply.Agg n) order step = added s t d n (labelled (aggs.default_pool s d) bytes) bytes order (live-first s d _ step.0) (ap number step.1) step.2 (bytes-labelled (aggs.default_pool s d) bytes)
 does_make s t d bytes (reply.Refused x) order step = step.1
 does_make s t d bytes r order step = (let e = step.1 in absurd (cc))
 
 pub does_cut : (s t : State) (d a from to : ℕ) (bytes : List ℕ) (r : Reply) → IsOrderly s → lent_at s d a ≡ Some bytes → StepsTo s (event.Call d (call.AggCut a from to)) r t → Makes s d (slice_range bytes from to) r t
 does_cut s t d a from to bytes (reply.Agg n) order has step =
-    let live = live-first s d _ step.0 in
-    let is : n ≡ aggs.next_agg s d = ap number step.1 in
-    let none = order.aggs d (aggs.next_agg s d) (omega arith) in
-    let cut : bytes_of (part (text s d a) from to) ≡ slice_range bytes from to = bytes-take (to - from) (drop from (text s d a)) ∙ ap (λ (l : List ℕ). take (to - from) l) (bytes-drop from (text s d a) ∙ ap (λ (l : List ℕ). drop from l) (text-of s d a bytes has)) in (
-      ap (λ k. lent_at t d k) is ∙ (lent-made s t d (domain s d).aggs (part (text s d a) from to) live none step.2 ∙ ap (λ (l : List ℕ). Some l) cut),
-      ap (λ k. lent_at s d k) is ∙ ap (λ (o : Option Text). option_map bytes_of o) none,
-    )
+    let front : bytes_of (drop from (text s d a)) ≡ drop from bytes = bytes-drop from (text s d a) ∙ ap (λ (l : List ℕ). drop from l) (text-of s d a bytes has) in
+    added s t d n (part (text s d a) from to) (slice_range bytes from to) order (live-first s d _ step.0) (ap number step.1) step.2 (bytes-take (to - from) (drop from (text s d a)) ∙ ap (λ (l : List ℕ). take (to - from) l) front)
 does_cut s t d a from to bytes (reply.Refused x) order has step = step.1
 does_cut s t d a from to bytes r order has step = (let e = step.1 in absurd (cc))
 
@@ -84,41 +88,27 @@ does_split s t d a at bytes r order has step = (let e = step.1 in absurd (cc))
 
 pub does_join : (s t : State) (d a b : ℕ) (xs ys : List ℕ) (r : Reply) → IsOrderly s → lent_at s d a ≡ Some xs → lent_at s d b ≡ Some ys → StepsTo s (event.Call d (call.AggJoin a b)) r t → Makes s d (xs ++ ys) r t
 does_join s t d a b xs ys (reply.Agg n) order has_a has_b step =
-    let live = live-first s d _ step.0 in
-    let is : n ≡ aggs.next_agg s d = ap number step.1 in
-    let none = order.aggs d (aggs.next_agg s d) (omega arith) in
-    let joined : bytes_of (text s d a ++ text s d b) ≡ xs ++ ys = bytes-append (text s d a) (text s d b) ∙ (ap (λ (l : List ℕ). l ++ bytes_of (text s d b)) (text-of s d a xs has_a) ∙ ap (λ (l : List ℕ). xs ++ l) (text-of s d b ys has_b)) in (
-      ap (λ k. lent_at t d k) is ∙ (lent-made s t d (without (without (domain s d).aggs a) b) (text s d a ++ text s d b) live (lookup-without_none (without (domain s d).aggs a) b (aggs.next_agg s d) (lookup-without_none (domain s d).aggs a (aggs.next_agg s d) none)) step.2 ∙ ap (λ (l : List ℕ). Some l) joined),
-      ap (λ k. lent_at s d k) is ∙ ap (λ (o : Option Text). option_map bytes_of o) none,
-    )
+    let next : ℕ = aggs.next_agg s d in
+    let kept : List (ℕ × Text) = without (domain s d).aggs a in
+    let none : lookup (without kept b) next ≡ None = lookup-without_none kept b next (lookup-without_none (domain s d).aggs a next (order.aggs d next (omega arith))) in
+    let joined : bytes_of (text s d a ++ text s d b) ≡ xs ++ ys = joins (text s d a) (text s d b) xs ys (text-of s d a xs has_a) (text-of s d b ys has_b) in
+    made s t d n (without kept b) (text s d a ++ text s d b) (xs ++ ys) order (live-first s d _ step.0) none (ap number step.1) step.2 joined
 does_join s t d a b xs ys (reply.Refused x) order has_a has_b step = step.1
 does_join s t d a b xs ys r order has_a has_b step = (let e = step.1 in absurd (cc))
 
 pub does_dup : (s t : State) (d a : ℕ) (bytes : List ℕ) (r : Reply) → IsOrderly s → lent_at s d a ≡ Some bytes → StepsTo s (event.Call d (call.AggDup a)) r t → Makes s d bytes r t
-does_dup s t d a bytes (reply.Agg n) order has step =
-    let live = live-first s d _ step.0 in
-    let is : n ≡ aggs.next_agg s d = ap number step.1 in
-    let none = order.aggs d (aggs.next_agg s d) (omega arith) in (
-      ap (λ k. lent_at t d k) is ∙ (lent-made s t d (domain s d).aggs (text s d a) live none step.2 ∙ ap (λ (l : List ℕ). Some l) (text-of s d a bytes has)),
-      ap (λ k. lent_at s d k) is ∙ ap (λ (o : Option Text). option_map bytes_of o) none,
-    )
+does_dup s t d a bytes (reply.Agg n) order has step = added s t d n (text s d a) bytes order (live-first s d _ step.0) (ap number step.1) step.2 (text-of s d a bytes has)
 does_dup s t d a bytes (reply.Refused x) order has step = step.1
 does_dup s t d a bytes r order has step = (let e = step.1 in absurd (cc))
 
 pub does_replace : (s t : State) (d a from to b : ℕ) (xs ys : List ℕ) (r : Reply) → IsOrderly s → lent_at s d a ≡ Some xs → lent_at s d b ≡ Some ys → StepsTo s (event.Call d (call.AggReplace a from to b)) r t → Makes s d (take from xs ++ ys ++ drop to xs) r t
 does_replace s t d a from to b xs ys (reply.Agg n) order has_a has_b step =
-    let live = live-first s d _ step.0 in
-    let is : n ≡ aggs.next_agg s d = ap number step.1 in
-    let none = order.aggs d (aggs.next_agg s d) (omega arith) in
     let x : Text = text s d a in
     let y : Text = text s d b in
     let x_is = text-of s d a xs has_a in
-    let front : bytes_of (take from x ++ y) ≡ take from xs ++ ys = bytes-append (take from x) y ∙ (ap (λ (l : List ℕ). l ++ bytes_of y) (bytes-take from x ∙ ap (λ (l : List ℕ). take from l) x_is) ∙ ap (λ (l : List ℕ). take from xs ++ l) (text-of s d b ys has_b)) in
-    let back : bytes_of (drop to x) ≡ drop to xs = bytes-drop to x ∙ ap (λ (l : List ℕ). drop to l) x_is in
-    let replaced : bytes_of (take from x ++ y ++ drop to x) ≡ take from xs ++ ys ++ drop to xs = bytes-append (take from x ++ y) (drop to x) ∙ (ap (λ (l : List ℕ). l ++ bytes_of (drop to x)) front ∙ ap (λ (l : List ℕ). take from xs ++ ys ++ l) back) in (
-      ap (λ k. lent_at t d k) is ∙ (lent-made s t d (domain s d).aggs (take from x ++ y ++ drop to x) live none step.2 ∙ ap (λ (l : List ℕ). Some l) replaced),
-      ap (λ k. lent_at s d k) is ∙ ap (λ (o : Option Text). option_map bytes_of o) none,
-    )
+    let front = joins (take from x) y (take from xs) ys (bytes-take from x ∙ ap (λ (l : List ℕ). take from l) x_is) (text-of s d b ys has_b) in
+    let replaced = joins (take from x ++ y) (drop to x) (take from xs ++ ys) (drop to xs) front (bytes-drop to x ∙ ap (λ (l : List ℕ). drop to l) x_is) in
+    added s t d n (take from x ++ y ++ drop to x) (take from xs ++ ys ++ drop to xs) order (live-first s d _ step.0) (ap number step.1) step.2 replaced
 does_replace s t d a from to b xs ys (reply.Refused x) order has_a has_b step = step.1
 does_replace s t d a from to b xs ys r order has_a has_b step = (let e = step.1 in absurd (cc))
 

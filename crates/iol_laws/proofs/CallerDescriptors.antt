@@ -1,19 +1,16 @@
 -- What reading, writing, accepting and closing do for their own domain.
-use Rattle.std.proofs.Common.{◌≡◌, ℕ, ◌+◌, List, [], ◌∷◌, ◌++◌, length, take, drop, ap, ◌∙◌, refl, sym, subst, arith, Option, Some, None, true, false, Bool}
-use Rattle.std.specs.Prelude.{option_map, slice_set, unwrap_or, not, is_none, nat_lt, ◌&&◌, ◌||◌, MatchOption}
-use Rattle.iol_core.specs.Text.{Text, bytes_of, labelled, admitted}
+use Rattle.std.proofs.Common.{◌≡◌, ℕ, ◌≤◌, List, [], ◌++◌, length, take, drop, ap, ◌∙◌, refl, sym, arith, Option, Some, None, true, false, Bool}
+use Rattle.std.specs.Prelude.{option_map, unwrap_or, not, is_none, ◌&&◌, ◌||◌}
+use Rattle.iol_core.specs.Text.{Text, bytes_of, admitted}
 use Rattle.iol_core.specs.Numbered.{lookup, in_place, lowest, placed}
-use Rattle.iol_core.specs.State.{State, Domain, Connection, domain, text, descriptor, content, file, may_read, conn_at, is_live, is_over, is_gone, with_conn}
-use Rattle.iol_core.specs.Meaning.{first, ◌when◌}
+use Rattle.iol_core.specs.State.{State, Domain, Connection, domain, text, descriptor, may_read, conn_at, is_live, is_over, is_gone, with_conn}
 use Rattle.iol_core.specs.Run.{StepsTo}
 use Rattle.iol_core.specs.Calls.Aggregates as aggs
 use Rattle.iol_core.specs.Calls.Descriptors as fds
 use Rattle.iol_core.specs.Calls.Reading as reading
 use Rattle.iol_core.specs.Calls.Writing as writing
 use Rattle.iol_core.specs.Calls.Writing.{is_file}
-use Rattle.iol_core.specs.declared.refusals.Refusal.{Refusal}
 use Rattle.iol_core.specs.declared.refusals.Refusal.TheVariants as refuse
-use Rattle.iol_core.specs.declared.descriptors.Mode.TheVariants as modes
 use Rattle.iol_core.specs.declared.descriptors.Descriptor.TheVariants as on
 use Rattle.iol_core.specs.declared.events.Call.TheVariants as call
 use Rattle.iol_core.specs.declared.events.Event.TheVariants as event
@@ -22,32 +19,35 @@ use Rattle.iol_core.specs.declared.events.Reply.TheVariants as reply
 use Rattle.iol_core.proofs.Lookups.{domain-same}
 use Rattle.iol_core.proofs.Passing.{passed, when-none}
 use Rattle.iol_laws.specs.Order.{IsOrderly}
-use Rattle.iol_laws.specs.Caller.{lent_at, is_rough, ReadsConn, WritesConn, ReadsFile, Closes, ClosesConn, Accepts}
+use Rattle.iol_laws.specs.Caller.{lent_at, Puts, ReadsConn, WritesConn, Closes, ClosesConn, Accepts}
 use Rattle.iol_laws.proofs.Connections.{conn-over, conn-with_same, conns-with_agg, conns-with_fds, conns_conn, not-over, nothing-left}
 use Rattle.iol_laws.proofs.Domains.{domain-with_same, domains-closed_on, domains-with_conn, live-first}
 use Rattle.iol_laws.proofs.Ended.{none-admitted, none-comes}
 use Rattle.iol_laws.proofs.Numbers.{lent-made, new-fd, number, text-of}
-use Rattle.iol_laws.proofs.Places.{lowest-free, place-set_free, place-set_there}
+use Rattle.iol_laws.proofs.Places.{lowest-free, place-set_free}
 use Rattle.iol_laws.proofs.Tests.{is_some-or}
-use Rattle.iol_laws.proofs.Texts.{admitted-rest, bytes-labelled, bytes-take, length-bytes, length-labelled}
+use Rattle.iol_laws.proofs.Texts.{admitted-rest, bytes-take, length-bytes}
 use Rattle.iol_laws.proofs.Waiting.{opened-conn, waiting-is}
+
+-- a text goes behind what is to be sent
+pub puts_conn : (s t : State) (d fd c : ℕ) (bytes : List ℕ) (k : ℕ) (x : Text) → IsOrderly s → descriptor s d fd ≡ Some (on.Connection c) → k ≤ length bytes → bytes_of x ≡ take k bytes → is_gone (conn_at s c).peer ≡ false
+    → t ≡ with_conn s c (record (conn_at s c) { outgoing = (conn_at s c).outgoing ++ x }) → Puts s c bytes k t
+puts_conn s t d fd c bytes k x order is within x_is takes same =
+    let both = opened-conn s d fd c order is in
+    let y : Connection = record (conn_at s c) { outgoing = (conn_at s c).outgoing ++ x } in
+    record { text = x; within = within; text_is = x_is; takes = takes; conn = ap (λ u. conn_at u c) same ∙ conn-with_same s c y both.1 (not-over y both.0 both.1) }
 
 pub does_write_conn : (s t : State) (d fd c a : ℕ) (bytes : List ℕ) (r : Reply) → IsOrderly s → descriptor s d fd ≡ Some (on.Connection c) → lent_at s d a ≡ Some bytes → StepsTo s (event.Call d (call.IolWrite fd a)) r t → WritesConn s c bytes r t
 does_write_conn s t d fd c a bytes (reply.Count k) order is has step =
-    let both = opened-conn s d fd c order is in
     let w : Text = text s d a in
     let fit : ℕ = writing.fitting s (Some (on.Connection c)) (length w) in
     let k_is : k ≡ fit = ap number step.1 ∙ ap (λ o. writing.fitting s o (length w)) is in
-    let same : t ≡ with_conn s c (record (conn_at s c) { outgoing = (conn_at s c).outgoing ++ take fit w }) = step.2 ∙ ap (λ o. writing.written s d fd o (take (writing.fitting s o (length w)) w)) is in
+    let to : t ≡ with_conn s c (record (conn_at s c) { outgoing = (conn_at s c).outgoing ++ take fit w }) = step.2 ∙ ap (λ o. writing.written s d fd o (take (writing.fitting s o (length w)) w)) is in
+    let same = to ∙ ap (λ n. with_conn s c (record (conn_at s c) { outgoing = (conn_at s c).outgoing ++ take n w })) (sym k_is) in
     let broken = when-none refuse.BrokenPipe (writing.is_broken s (descriptor s d fd)) (passed (writing.iol_write s d fd a).refusals 5 step.0) in
     let text_is = text-of s d a bytes has in
-    record {
-      text = take k w;
-      within = (let e = ap (λ (l : List ℕ). length l) text_is in let l : length (bytes_of w) ≡ length w = length-bytes w in omega (arith, k_is, e, l));
-      text_is = bytes-take k w ∙ ap (λ (l : List ℕ). take k l) text_is;
-      takes = sym (ap (λ o. writing.is_broken s o) is) ∙ broken;
-      conn = ap (λ u. conn_at u c) same ∙ (conn-with_same s c _ both.1 (not-over (record (conn_at s c) { outgoing = (conn_at s c).outgoing ++ take fit w }) both.0 both.1) ∙ ap (λ n. record (conn_at s c) { outgoing = (conn_at s c).outgoing ++ take n w }) (sym k_is));
-    }
+    let within : k ≤ length bytes = (let e = ap (λ (l : List ℕ). length l) text_is in let l : length (bytes_of w) ≡ length w = length-bytes w in omega (arith, k_is, e, l)) in
+    puts_conn s t d fd c bytes k (take k w) order is within (bytes-take k w ∙ ap (λ (l : List ℕ). take k l) text_is) (sym (ap (λ o. writing.is_broken s o) is) ∙ broken) same
 does_write_conn s t d fd c a bytes (reply.Refused x) order is has step = step.1
 does_write_conn s t d fd c a bytes r order is has step = (let e = step.1 in absurd (cc))
 
@@ -129,42 +129,3 @@ does_accept s t d (reply.Fd fd) order step =
     }
 does_accept s t d (reply.Refused x) order step = step.1
 does_accept s t d r order step = (let e = step.1 in absurd (cc))
-
-none_waits : (b : Bool) → first ((refuse.WouldBlock when (b && true && false)) ∷ []) ≡ None
-none_waits true = refl
-none_waits false = refl
-
-pub does_read_file : (s t : State) (d fd f at n : ℕ) (r : Reply) → IsOrderly s → is_live s d ≡ true → may_read s d (file s f).pool ≡ true → descriptor s d fd ≡ Some (on.File f at modes.Read) → StepsTo s (event.Call d (call.IolRead fd n)) r t → ReadsFile s d fd f at (take n (drop at (content s f))) r t
-does_read_file s t d fd f at n (reply.Agg a) order live may is step =
-    let tx : Text = labelled (file s f).pool (take n (drop at (content s f))) in
-    let mid : State = fds.with_descriptor s d fd (Some (on.File f (at + length tx) modes.Read)) in
-    let same : t ≡ aggs.with_agg mid d tx = step.2 ∙ ap (λ o. aggs.with_agg (reading.read_on s d fd o (length (reading.read_text s d o n))) d (reading.read_text s d o n)) is in
-    let dom : domain mid d ≡ record (domain s d) { fds = slice_set (domain s d).fds fd (Some (on.File f (at + length tx) modes.Read)) } = domain-with_same s d _ live in
-    let next : aggs.next_agg mid d ≡ aggs.next_agg s d = ap (λ (y : Domain Text). y.next_agg) dom in
-    let a_is : a ≡ aggs.next_agg mid d = ap number step.1 ∙ sym next in
-    let none = order.aggs d (aggs.next_agg s d) (omega arith) in
-    let none_mid : lookup (domain mid d).aggs (aggs.next_agg mid d) ≡ None = ap (λ (y : Domain Text). lookup y.aggs y.next_agg) dom ∙ none in
-    let live_mid : is_live mid d ≡ true = ap (λ (y : Domain Text). y.live) dom ∙ live in (
-      ap (λ k. lent_at t d k) a_is ∙ (lent-made mid t d (domain mid d).aggs tx live_mid none_mid same ∙ ap (λ (l : List ℕ). Some l) (bytes-labelled (file s f).pool (take n (drop at (content s f))))),
-      ap (λ k. lent_at s d k) (a_is ∙ next) ∙ ap (λ (o : Option Text). option_map bytes_of o) none,
-      ap (λ u. descriptor u d fd) same ∙ (ap (λ (y : Domain Text). in_place y.fds fd) (domain-with_same mid d (record (domain mid d) { aggs = (domain mid d).aggs ++ ((domain mid d).next_agg, tx) ∷ []; next_agg = (domain mid d).next_agg + 1 }) live_mid) ∙ (ap (λ (y : Domain Text). in_place y.fds fd) dom ∙ (place-set_there (domain s d).fds fd (on.File f at modes.Read) (on.File f (at + length tx) modes.Read) is ∙ ap (λ k. Some (on.File f (at + k) modes.Read)) (length-labelled (file s f).pool (take n (drop at (content s f))))))),
-    )
-does_read_file s t d fd f at n (reply.Refused x) order live may is step =
-    let none : first (reading.iol_read s d fd n).refusals ≡ first ((refuse.TooMany when aggs.too_many_aggs s d 1 0) ∷ []) =
-    ap (λ b. first ((refuse.NoDomain when not b) ∷ (refuse.BadFd when is_none (descriptor s d fd)) ∷ (refuse.WrongMode when not (reading.can_read (descriptor s d fd))) ∷ (refuse.TooMany when aggs.too_many_aggs s d 1 0) ∷ reading.read_denied s d (descriptor s d fd) n ∷ (refuse.WouldBlock when reading.must_wait s (descriptor s d fd) n) ∷ [])) live
-    ∙ (ap (λ o. first ((refuse.BadFd when is_none o) ∷ (refuse.WrongMode when not (reading.can_read o)) ∷ (refuse.TooMany when aggs.too_many_aggs s d 1 0) ∷ reading.read_denied s d o n ∷ (refuse.WouldBlock when reading.must_wait s o n) ∷ [])) is
-    ∙ (ap (λ b. first ((refuse.TooMany when aggs.too_many_aggs s d 1 0) ∷ (refuse.Denied (file s f).pool when not b) ∷ (refuse.WouldBlock when reading.must_wait s (Some (on.File f at modes.Read)) n) ∷ [])) may
-    ∙ last (aggs.too_many_aggs s d 1 0))) in
-    (rough x (aggs.too_many_aggs s d 1 0) (subst (λ o. MatchOption o (reading.read_late s (Some (on.File f at modes.Read)) x) (λ y. x ≡ y)) none (subst (λ o. MatchOption (first (reading.iol_read s d fd n).refusals) (reading.read_late s o x) (λ y. x ≡ y)) is step.0)), step.1)
-  where
-    last : (b : Bool) → first ((refuse.TooMany when b) ∷ None ∷ (refuse.WouldBlock when reading.must_wait s (Some (on.File f at modes.Read)) n) ∷ []) ≡ first ((refuse.TooMany when b) ∷ [])
-    last true = refl
-    last false = none_waits (nat_lt 0 n)
-
-    rough : (x : Refusal) (b : Bool) → MatchOption (first ((refuse.TooMany when b) ∷ [])) (reading.read_late s (Some (on.File f at modes.Read)) x) (λ y. x ≡ y) → is_rough (reply.Refused x) ≡ true
-    rough x true is = ap (λ z. is_rough (reply.Refused z)) is
-    rough (refuse.NoRoom p) false is = refl
-    rough (refuse.Fault g) false is = refl
-    rough refuse.Memory false is = refl
-    rough x false is = absurd is
-does_read_file s t d fd f at n r order live may is step = (let e = step.1 in absurd (cc))

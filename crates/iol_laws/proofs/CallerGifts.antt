@@ -1,11 +1,11 @@
 -- What a domain hands to another one.
-use Rattle.std.proofs.Common.{inl, inr, ◌≡◌, ◌≢◌, ℕ, ◌==◌, List, ◌∷◌, ap, ◌∙◌, refl, sym, subst, arith, Option, Some, None, true, false, Bool}
+use Rattle.std.proofs.Common.{◌≡◌, ◌≢◌, ℕ, ◌==◌, List, ◌∷◌, ap, ◌∙◌, refl, sym, subst, arith, Option, Some, None, true, false, Bool}
 use Rattle.std.specs.Prelude.{option_map, not, ◌||◌, if◌then◌else◌}
 use Rattle.std.specs.Option.{option_map_or}
 use Rattle.std.proofs.lemmas.Bool.Decides.{nat_tests}
 use Rattle.iol_core.specs.Text.{Text, bytes_of}
 use Rattle.iol_core.specs.Numbered.{lookup, without, in_place, lowest, placed}
-use Rattle.iol_core.specs.State.{State, Domain, domain, text, descriptor, is_live, with_domain}
+use Rattle.iol_core.specs.State.{State, Domain, domain, text, descriptor, is_live}
 use Rattle.iol_core.specs.Meaning.{first, ◌when◌}
 use Rattle.iol_core.specs.Run.{StepsTo}
 use Rattle.iol_core.specs.Calls.Aggregates as aggs
@@ -17,16 +17,12 @@ use Rattle.iol_core.specs.declared.events.Call.TheVariants as call
 use Rattle.iol_core.specs.declared.events.Event.TheVariants as event
 use Rattle.iol_core.specs.declared.events.Reply.{Reply}
 use Rattle.iol_core.specs.declared.events.Reply.TheVariants as reply
-use Rattle.iol_core.proofs.Lookups.{domain-with_domain}
 use Rattle.iol_core.proofs.Passing.{passed}
 use Rattle.iol_laws.specs.Order.{IsOrderly}
 use Rattle.iol_laws.specs.Caller.{lent_at, HandsOn, GivesFd, GivesAgg}
-use Rattle.iol_laws.proofs.Domains.{domain-with_same}
+use Rattle.iol_laws.proofs.Domains.{domain-with_other, domain-with_same}
 use Rattle.iol_laws.proofs.Numbers.{lent-made, new-fd, number, text-of}
 use Rattle.iol_laws.proofs.Places.{lookup-without_none, lowest-free, place-new, place-set_free}
-
-domain-with_other : (s : State) (d e : ℕ) (x : Domain Text) → d ≢ e → domain (with_domain s d x) e ≡ domain s e
-domain-with_other s d e x differ = elim (domain-with_domain s d e x) [ inl both ↦ absurd (differ both.0) | inr same ↦ same ]
 
 -- both domains live, since the call was not refused
 both_live : (s : State) (d to : ℕ) (rest : List (Option Refusal)) → first ((refuse.NoDomain when (not (is_live s d) || not (is_live s to))) ∷ rest) ≡ None → (is_live s d ≡ true) × (is_live s to ≡ true)

@@ -1,5 +1,5 @@
 -- What the calls on pipes do for their own domain.
-use Rattle.std.proofs.Common.{◌≡◌, ℕ, List, ◌++◌, length, take, drop, ap, ◌∙◌, refl, sym, arith, Option, Some, None, true, false, Bool}
+use Rattle.std.proofs.Common.{◌≡◌, ℕ, ◌≤◌, List, [], ◌++◌, length, take, drop, ap, ◌∙◌, refl, sym, arith, Option, Some, None, true, false, Bool}
 use Rattle.std.specs.Prelude.{option_map, slice_set, unwrap_or, not, ◌||◌, if◌then◌else◌}
 use Rattle.iol_core.specs.Text.{Text, bytes_of, admitted}
 use Rattle.iol_core.specs.Numbered.{lookup, in_place, lowest, placed}
@@ -20,7 +20,7 @@ use Rattle.iol_core.specs.declared.events.Reply.TheVariants as reply
 use Rattle.iol_core.proofs.Lookups.{domain-same}
 use Rattle.iol_core.proofs.Passing.{passed, when-none}
 use Rattle.iol_laws.specs.Order.{IsOrderly}
-use Rattle.iol_laws.specs.Caller.{lent_at, ReadsPipe, WritesPipe, MakesPipe, ClosesWriteEnd}
+use Rattle.iol_laws.specs.Caller.{lent_at, PutsInPipe, ReadsPipe, WritesPipe, MakesPipe, ClosesReadEnd, ClosesWriteEnd}
 use Rattle.iol_laws.proofs.Domains.{domain-with_same, domains-with_pipe, live-first}
 use Rattle.iol_laws.proofs.Ends.{pipe-with_same}
 use Rattle.iol_laws.proofs.EndsOfCalls.{pipe-there, pipe-twice}
@@ -71,28 +71,30 @@ not-false : (b : Bool) → not b ≡ false → b ≡ true
 not-false true is = refl
 not-false false is = absurd (cc)
 
+-- a text goes behind what is to be read
+pub puts_pipe : (s t : State) (p : ℕ) (bytes : List ℕ) (k : ℕ) (x : Text) → k ≤ length bytes → bytes_of x ≡ take k bytes → not (pipe_at s p).reading ≡ false
+    → t ≡ with_pipe s p (record (pipe_at s p) { queue = (pipe_at s p).queue ++ x }) → PutsInPipe s p bytes k t
+puts_pipe s t p bytes k x within x_is unbroken same =
+    let reads : (pipe_at s p).reading ≡ true = not-false (pipe_at s p).reading unbroken in
+    let on_yet = left-true (pipe_at s p).reading (pipe_at s p).writing reads in
+    record { text = x; within = within; text_is = x_is; takes = reads; pipe = ap (λ u. pipe_at u p) same ∙ pipe-with_same s p (record (pipe_at s p) { queue = (pipe_at s p).queue ++ x }) on_yet on_yet }
+
 pub does_write_pipe : (s t : State) (d fd p a : ℕ) (bytes : List ℕ) (r : Reply) → IsOrderly s → descriptor s d fd ≡ Some (on.WriteEnd p) → lent_at s d a ≡ Some bytes → StepsTo s (event.Call d (call.IolWrite fd a)) r t → WritesPipe s p bytes r t
 does_write_pipe s t d fd p a bytes (reply.Count k) order is has step =
     let w : Text = text s d a in
     let fit : ℕ = writing.fitting s (Some (on.WriteEnd p)) (length w) in
     let k_is : k ≡ fit = ap number step.1 ∙ ap (λ o. writing.fitting s o (length w)) is in
-    let same : t ≡ with_pipe s p (record (pipe_at s p) { queue = (pipe_at s p).queue ++ take fit w }) = step.2 ∙ ap (λ o. writing.written s d fd o (take (writing.fitting s o (length w)) w)) is in
+    let to : t ≡ with_pipe s p (record (pipe_at s p) { queue = (pipe_at s p).queue ++ take fit w }) = step.2 ∙ ap (λ o. writing.written s d fd o (take (writing.fitting s o (length w)) w)) is in
+    let same = to ∙ ap (λ n. with_pipe s p (record (pipe_at s p) { queue = (pipe_at s p).queue ++ take n w })) (sym k_is) in
     let broken = when-none refuse.BrokenPipe (writing.is_broken s (descriptor s d fd)) (passed (writing.iol_write s d fd a).refusals 5 step.0) in
-    let reads : (pipe_at s p).reading ≡ true = not-false (pipe_at s p).reading (sym (ap (λ o. writing.is_broken s o) is) ∙ broken) in
     let text_is = text-of s d a bytes has in
-    record {
-      text = take k w;
-      within = (let e = ap (λ (l : List ℕ). length l) text_is in let l : length (bytes_of w) ≡ length w = length-bytes w in omega (arith, k_is, e, l));
-      text_is = bytes-take k w ∙ ap (λ (l : List ℕ). take k l) text_is;
-      takes = reads;
-      pipe = ap (λ u. pipe_at u p) same ∙ (pipe-with_same s p (record (pipe_at s p) { queue = (pipe_at s p).queue ++ take fit w }) (left-true (pipe_at s p).reading (pipe_at s p).writing reads) (left-true (pipe_at s p).reading (pipe_at s p).writing reads)
-          ∙ ap (λ n. record (pipe_at s p) { queue = (pipe_at s p).queue ++ take n w }) (sym k_is));
-    }
+    let within : k ≤ length bytes = (let e = ap (λ (l : List ℕ). length l) text_is in let l : length (bytes_of w) ≡ length w = length-bytes w in omega (arith, k_is, e, l)) in
+    puts_pipe s t p bytes k (take k w) within (bytes-take k w ∙ ap (λ (l : List ℕ). take k l) text_is) (sym (ap (λ o. writing.is_broken s o) is) ∙ broken) same
 does_write_pipe s t d fd p a bytes (reply.Refused x) order is has step = step.1
 does_write_pipe s t d fd p a bytes r order is has step = (let e = step.1 in absurd (cc))
 
 -- a pipe whose ends are both closed is gone
-pipe-gone : (s : State) (p : ℕ) (x : Pipe) → (x.reading || x.writing) ≡ false → pipe_at (with_pipe s p x) p ≡ no_pipe
+pub pipe-gone : (s : State) (p : ℕ) (x : Pipe) → (x.reading || x.writing) ≡ false → pipe_at (with_pipe s p x) p ≡ no_pipe
 unfolding pipe_at with_pipe
 pipe-gone s p x off = ap (λ b. unwrap_or (in_place (slice_set s.pipes p (if b then Some x else None)) p) no_pipe) off ∙ ap (λ (o : Option Pipe). unwrap_or o no_pipe) (place-set_free s.pipes p)
 
@@ -115,6 +117,25 @@ does_close_write_end s t d fd p reply.Done order is step =
         (ap (λ (k : Pipe). k.writing) e, λ yet. absurd (cc (unread, yet)))
 does_close_write_end s t d fd p (reply.Refused x) order is step = step.1
 does_close_write_end s t d fd p r order is step = (let e = step.1 in absurd (cc))
+
+pub does_close_read_end : (s t : State) (d fd p : ℕ) (r : Reply) → IsOrderly s → descriptor s d fd ≡ Some (on.ReadEnd p) → StepsTo s (event.Call d (call.Close fd)) r t → ClosesReadEnd s p r t
+does_close_read_end s t d fd p reply.Done order is step =
+    let x : Pipe = record (pipe_at s p) { queue = []; reading = false } in
+    let same : t ≡ fds.with_fds (with_pipe s p x) d (fds.freed s d fd) = step.2 ∙ ap (λ o. fds.with_fds (fds.closed_on s o) d (fds.freed s d fd)) is in
+    let found : pipe_at t p ≡ pipe_at (with_pipe s p x) p = ap (λ u. pipe_at u p) same ∙ pipes-with_fds (with_pipe s p x) d (fds.freed s d fd) p in
+    let reads : (pipe_at s p).reading ≡ true = order.all_stand d fd (on.ReadEnd p) is in
+    by (pipe_at s p).writing refl found (left-true (pipe_at s p).reading (pipe_at s p).writing reads)
+  where
+    by : (b : Bool) → (pipe_at s p).writing ≡ b → pipe_at t p ≡ pipe_at (with_pipe s p (record (pipe_at s p) { queue = []; reading = false })) p → ((pipe_at s p).reading || (pipe_at s p).writing) ≡ true
+        → ((pipe_at t p).reading ≡ false) × ((pipe_at t p).queue ≡ []) × ((pipe_at t p).writing ≡ (pipe_at s p).writing)
+    by true writes found was =
+        let e = found ∙ pipe-with_same s p (record (pipe_at s p) { queue = []; reading = false }) was writes in
+        (ap (λ (k : Pipe). k.reading) e, ap (λ (k : Pipe). k.queue) e, ap (λ (k : Pipe). k.writing) e)
+    by false unwritten found was =
+        let e = found ∙ pipe-gone s p (record (pipe_at s p) { queue = []; reading = false }) unwritten in
+        (ap (λ (k : Pipe). k.reading) e, ap (λ (k : Pipe). k.queue) e, ap (λ (k : Pipe). k.writing) e ∙ sym unwritten)
+does_close_read_end s t d fd p (reply.Refused x) order is step = step.1
+does_close_read_end s t d fd p r order is step = (let e = step.1 in absurd (cc))
 
 -- the two descriptors of a reply
 abbrev pub first_fd : Reply → ℕ

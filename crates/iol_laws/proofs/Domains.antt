@@ -54,6 +54,9 @@ domain-numbered s d x lo hi = grind (arith, nat_tests, common_steps, lo, hi)
 pub domain-with_same : (s : State) (d : ℕ) (x : Domain Text) → is_live s d ≡ true → domain (with_domain s d x) d ≡ x
 domain-with_same s d x live = let n = live-numbered s d live in domain-numbered s d x n.0 n.1
 
+pub domain-with_other : (s : State) (d e : ℕ) (x : Domain Text) → d ≢ e → domain (with_domain s d x) e ≡ domain s e
+domain-with_other s d e x differ = elim (domain-with_domain s d e x) [ inl both ↦ absurd (differ both.0) | inr same ↦ same ]
+
 numbered-there : {A : Type 0} (xs : List A) (d : ℕ) (x z : A) → (numbered_or (with_numbered xs d x) d z ≡ x) ⊎ (numbered_or (with_numbered xs d x) d z ≡ z)
 numbered-there xs d x z = elim (cases_eq d 0) [
   | inl k ↦ inr (grind (arith, nat_tests, common_steps, k))

@@ -1,7 +1,11 @@
 -- Each step leaves all that its event does not touch.
-use Rattle.std.proofs.Common.{refl, sym, subst}
+use Rattle.std.proofs.Common.{◌≡◌, ◌∙◌, ℕ, ◌==◌, List, ap, refl, sym, subst, arith, Bool, true, false}
 use Rattle.std.specs.Prelude.{Result, Ok, Err}
-use Rattle.iol_core.specs.State.{State}
+use Rattle.std.specs.List.{list_any}
+use Rattle.std.proofs.lemmas.Bool.Decides.{nat_tests}
+use Rattle.std.proofs.lemmas.Grind.{common_steps}
+use Rattle.iol_core.specs.Numbered.{is_numbered, numbered_or}
+use Rattle.iol_core.specs.State.{State, Pool, pool, is_pool, no_pool, may_read}
 use Rattle.iol_core.specs.Meaning.{Meaning, Step}
 use Rattle.iol_core.specs.Run.{meaning, StepsTo, outcome}
 use Rattle.iol_core.specs.declared.refusals.Refusal.{Refusal}
@@ -10,14 +14,59 @@ use Rattle.iol_core.specs.declared.events.Reply.{Reply}
 use Rattle.iol_laws.specs.Frame.{Leaves}
 use Rattle.iol_laws.proofs.LeftConnections.{conns_meant}
 use Rattle.iol_laws.proofs.LeftDescriptors.{fds_meant}
+use Rattle.iol_laws.proofs.LeftDomains.{domains_meant}
 use Rattle.iol_laws.proofs.LeftFiles.{store_meant}
 use Rattle.iol_laws.proofs.LeftPipes.{pipes_meant}
 
+unnumbered : {A : Type 0} (xs : List A) (n : ℕ) (z : A) → is_numbered xs n ≡ false → numbered_or xs n z ≡ z
+unnumbered xs n z un = grind (arith, nat_tests, common_steps, un)
+
+-- a pool that may be read is there
+readable : (s : State) (d p : ℕ) → may_read s d p ≡ true → is_pool s p ≡ true
+unfolding pool
+readable s d p may = by (is_pool s p) refl
+  where
+    by : (b : Bool) → is_pool s p ≡ b → b ≡ true
+    by true is = refl
+    by false is = absurd (let e = unnumbered s.pools p no_pool is in let f = ap (λ (x : Pool). list_any (λ e. e == d) x.domains) e in cc (f, may))
+
+readers_left : (s t : State) → ((p : ℕ) → is_pool s p ≡ true → (pool t p).domains ≡ (pool s p).domains) → (d p : ℕ) → may_read s d p ≡ true → may_read t d p ≡ true
+readers_left s t lists d p may = ap (λ (l : List ℕ). list_any (λ e. e == d) l) (lists p (readable s d p may)) ∙ may
+
 leaves_meant : (s : State) (e : Event) → Leaves s e (meaning s e).after
-leaves_meant s e = record { conns = conns_meant s e; pipes = pipes_meant s e; fds = fds_meant s e; files = (store_meant s e).files; lists = (store_meant s e).lists }
+leaves_meant s e =
+    let store = store_meant s e in
+    let domains = domains_meant s e in
+    record {
+      conns = conns_meant s e;
+      pipes = pipes_meant s e;
+      fds = fds_meant s e;
+      files = store.files;
+      contents = store.contents;
+      known = store.known;
+      called = store.called;
+      lists = store.lists;
+      readers = readers_left s (meaning s e).after store.lists;
+      pools = store.pools;
+      lives = domains.lives;
+      defaults = domains.defaults;
+    }
 
 leaves_nothing : (s : State) (e : Event) → Leaves s e s
-leaves_nothing s e = record { conns = λ c un. refl; pipes = λ p un. refl; fds = λ d f x is un. is; files = λ un. (refl, refl); lists = λ p is. refl }
+leaves_nothing s e = record {
+  conns = λ c un. refl;
+  pipes = λ p un. refl;
+  fds = λ d f x is un. is;
+  files = λ un. (refl, refl);
+  contents = λ f un. refl;
+  known = λ f is. refl;
+  called = λ name f is. is;
+  lists = λ p is. refl;
+  readers = λ d p may. may;
+  pools = λ p is un. refl;
+  lives = λ d live un. live;
+  defaults = λ d live un. refl;
+}
 
 leaves_outcome : (m : Meaning Reply) (old new : State) (e : Event) (r : Result Reply Refusal) → Leaves old e m.after → Step m old r new → Leaves old e new
 leaves_outcome m old new e (Ok a) leaves step = subst (λ (s : State). Leaves old e s) (sym step.2) leaves

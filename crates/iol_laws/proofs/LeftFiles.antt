@@ -1,16 +1,17 @@
--- What each event leaves of files and of the lists of pools.
-use Rattle.std.proofs.Common.{inl, inr, ◌≡◌, ℕ, ◌==◌, List, [], ◌∷◌, ◌++◌, length, ap, ◌∙◌, refl, arith, Option, Some, None, true, false, Bool}
-use Rattle.std.specs.Prelude.{if◌then◌else◌, fold}
+-- What each event leaves of files and of pools.
+use Rattle.std.proofs.Common.{inl, inr, ◌≡◌, ◌≢◌, ℕ, ◌+◌, ◌==◌, List, [], ◌∷◌, ◌++◌, length, take, drop, ap, ◌∙◌, refl, sym, arith, Option, Some, None, true, false, Bool}
+use Rattle.std.specs.Prelude.{if◌then◌else◌, fold, option_map, position, bytes_eq}
 use Rattle.std.specs.Option.{option_map_or}
 use Rattle.std.proofs.lemmas.Bool.Decides.{nat_tests}
 use Rattle.std.proofs.lemmas.Grind.{common_steps}
-use Rattle.iol_core.specs.Text.{Text}
-use Rattle.iol_core.specs.Numbered.{without, numbered_or, with_numbered, lowest, placed}
-use Rattle.iol_core.specs.State.{State, Domain, Pool, domain, pool, is_pool, no_pool, text, descriptor, no_domain, with_domain, with_pipe, with_conn, with_content}
+use Rattle.iol_core.specs.Text.{Text, bytes_of}
+use Rattle.iol_core.specs.Numbered.{without, is_numbered, numbered_or, with_numbered, lowest, placed}
+use Rattle.iol_core.specs.State.{State, Domain, Pool, File, domain, pool, is_pool, no_pool, file, no_file, content, text, descriptor, no_domain, with_domain, with_pipe, with_conn, with_content}
 use Rattle.iol_core.specs.Run.{called, meaning}
 use Rattle.iol_core.specs.Calls.Domains.{exit}
 use Rattle.iol_core.specs.Calls.Aggregates as aggs
 use Rattle.iol_core.specs.Calls.Descriptors as fds
+use Rattle.iol_core.specs.Calls.Files.{file_called}
 use Rattle.iol_core.specs.Calls.Reading as reading
 use Rattle.iol_core.specs.Calls.Writing as writing
 use Rattle.iol_core.specs.Calls.Writing.{is_file}
@@ -20,8 +21,9 @@ use Rattle.iol_core.specs.declared.events.Call.{Call}
 use Rattle.iol_core.specs.declared.events.Call.TheVariants as call
 use Rattle.iol_core.specs.declared.events.Event.{Event}
 use Rattle.iol_core.specs.declared.events.Event.TheVariants as event
-use Rattle.iol_core.proofs.Lookups.{numbered_or-with}
-use Rattle.iol_laws.specs.Frame.{changes_files}
+use Rattle.iol_core.proofs.Lookups.{file-same, numbered_or-with}
+use Rattle.iol_laws.specs.Frame.{changes_files, closes_pool, is_on_file, writes_file}
+use Rattle.iol_laws.proofs.Tests.{apart}
 
 -- files, their bytes and the pools
 pub record SameStore (s t : State) : Type 0 where
@@ -60,13 +62,33 @@ files_written s by fd (Some (on.ReadEnd q)) w un = (refl, refl)
 files_written s by fd (Some (on.WriteEnd q)) w un = (refl, refl)
 files_written s by fd (Some (on.Connection e)) w un = (refl, refl)
 
-pools_written : (s : State) (by fd : ℕ) (to : Option Descriptor) (w : Text) → (writing.written s by fd to w).pools ≡ s.pools
+-- the files and the pools are those that were, and so are the bytes of the other files
+record Wrote (s : State) (to : Option Descriptor) (t : State) : Type 0 where
+  files : t.files ≡ s.files
+  pools : t.pools ≡ s.pools
+  contents : (f : ℕ) → is_on_file f to ≡ false → content t f ≡ content s f
+
+content-same : (s t : State) (f : ℕ) → t.slots ≡ s.slots → content t f ≡ content s f
+unfolding content
+content-same s t f same = ap (λ (ss : List (List ℕ)). numbered_or ss f []) same
+
+content-other : (s : State) (g : ℕ) (bytes : List ℕ) (f : ℕ) → g ≢ f → content (with_content s g bytes) f ≡ content s f
+unfolding content with_content
+content-other s g bytes f differ = elim (numbered_or-with s.slots g f bytes []) [ inl both ↦ absurd (differ both.0) | inr same ↦ same ]
+
+store_written : (s : State) (by fd : ℕ) (to : Option Descriptor) (w : Text) → Wrote s to (writing.written s by fd to w)
 unfolding with_domain with_pipe with_conn with_content
-pools_written s by fd None w = refl
-pools_written s by fd (Some (on.File f at mode)) w = refl
-pools_written s by fd (Some (on.ReadEnd q)) w = refl
-pools_written s by fd (Some (on.WriteEnd q)) w = refl
-pools_written s by fd (Some (on.Connection e)) w = refl
+store_written s by fd None w = record { files = refl; pools = refl; contents = λ f un. refl }
+store_written s by fd (Some (on.File g at mode)) w = record {
+  files = refl;
+  pools = refl;
+  contents = λ f un.
+      let filled : State = with_content s g (take at (content s g) ++ bytes_of w ++ drop (at + length w) (content s g)) in
+      content-same filled (writing.written s by fd (Some (on.File g at mode)) w) f refl ∙ content-other s g (take at (content s g) ++ bytes_of w ++ drop (at + length w) (content s g)) f (apart g f un);
+}
+store_written s by fd (Some (on.ReadEnd q)) w = record { files = refl; pools = refl; contents = λ f un. refl }
+store_written s by fd (Some (on.WriteEnd q)) w = record { files = refl; pools = refl; contents = λ f un. content-same s (writing.written s by fd (Some (on.WriteEnd q)) w) f refl }
+store_written s by fd (Some (on.Connection e)) w = record { files = refl; pools = refl; contents = λ f un. content-same s (writing.written s by fd (Some (on.Connection e)) w) f refl }
 
 store_then_domain : (s t : State) (d : ℕ) (x : Domain Text) → SameStore s t → SameStore s (with_domain t d x)
 unfolding with_domain
@@ -89,21 +111,80 @@ store_agg_give s by a to = cases (by == to)
     cases true = record { files = refl; slots = refl; pools = refl }
     cases false = record { files = refl; slots = refl; pools = refl }
 
--- the files that were, and the lists of the pools that were
-pub record KeepsStore (s : State) (changes : Bool) (t : State) : Type 0 where
-  pub files : changes ≡ false → (t.files ≡ s.files) × (t.slots ≡ s.slots)
+-- the files that were, and the pools that were
+pub record KeepsStore (s : State) (e : Event) (t : State) : Type 0 where
+  pub files : changes_files s e ≡ false → (t.files ≡ s.files) × (t.slots ≡ s.slots)
+  pub contents : (f : ℕ) → writes_file s e f ≡ false → content t f ≡ content s f
+  pub known : (f : ℕ) → is_numbered s.files f ≡ true → file t f ≡ file s f
+  pub called : (name : List ℕ) (f : ℕ) → file_called s name ≡ Some f → file_called t name ≡ Some f
   pub lists : (p : ℕ) → is_pool s p ≡ true → (pool t p).domains ≡ (pool s p).domains
+  pub pools : (p : ℕ) → is_pool s p ≡ true → closes_pool e p ≡ false → pool t p ≡ pool s p
 
-lists_same : (s t : State) (p : ℕ) → t.pools ≡ s.pools → (pool t p).domains ≡ (pool s p).domains
+pool-same : (s t : State) (p : ℕ) → t.pools ≡ s.pools → pool t p ≡ pool s p
 unfolding pool
-lists_same s t p same = ap (λ (ps : List Pool). (numbered_or ps p no_pool).domains) same
+pool-same s t p same = ap (λ (ps : List Pool). numbered_or ps p no_pool) same
 
-store_kept : (s t : State) (changes : Bool) → SameStore s t → KeepsStore s changes t
-store_kept s t changes same = record { files = λ un. (same.files, same.slots); lists = λ p is. lists_same s t p same.pools }
+called-same : (s t : State) (name : List ℕ) (f : ℕ) → t.files ≡ s.files → file_called s name ≡ Some f → file_called t name ≡ Some f
+called-same s t name f same is = ap (λ (fs : List File). option_map (λ i. i + 1) (position (λ x. bytes_eq x.name name) fs)) same ∙ is
 
-list-push : (s : State) (x : Pool) (p : ℕ) → is_pool s p ≡ true → (pool (record s { pools = s.pools ++ x ∷ [] }) p).domains ≡ (pool s p).domains
+pub store_kept : (s t : State) (e : Event) → SameStore s t → KeepsStore s e t
+store_kept s t e same = record {
+  files = λ un. (same.files, same.slots);
+  contents = λ f un. content-same s t f same.slots;
+  known = λ f is. file-same s t f same.files;
+  called = λ name f is. called-same s t name f same.files is;
+  lists = λ p is. ap (λ (x : Pool). x.domains) (pool-same s t p same.pools);
+  pools = λ p is un. pool-same s t p same.pools;
+}
+
+-- a call that writes what a descriptor is open on
+store_wrote : (s : State) (e : Event) (by fd : ℕ) (to : Option Descriptor) (w : Text) → changes_files s e ≡ writing.is_file to → ((f : ℕ) → writes_file s e f ≡ is_on_file f to) → KeepsStore s e (writing.written s by fd to w)
+store_wrote s e by fd to w changes writes =
+    let t : State = writing.written s by fd to w in
+    let wrote = store_written s by fd to w in
+    record {
+      files = λ un. files_written s by fd to w (sym changes ∙ un);
+      contents = λ f un. wrote.contents f (sym (writes f) ∙ un);
+      known = λ f is. file-same s t f wrote.files;
+      called = λ name f is. called-same s t name f wrote.files is;
+      lists = λ p is. ap (λ (x : Pool). x.domains) (pool-same s t p wrote.pools);
+      pools = λ p is un. pool-same s t p wrote.pools;
+    }
+
+-- one more of a list
+numbered-push : {A : Type 0} (xs : List A) (x z : A) (n : ℕ) → is_numbered xs n ≡ true → numbered_or (xs ++ x ∷ []) n z ≡ numbered_or xs n z
+numbered-push xs x z n is = grind (arith, nat_tests, common_steps, is)
+
+pool-push : (s : State) (x : Pool) (p : ℕ) → is_pool s p ≡ true → pool (record s { pools = s.pools ++ x ∷ [] }) p ≡ pool s p
 unfolding pool
-list-push s x p is = grind (arith, nat_tests, common_steps, is)
+pool-push s x p is = numbered-push s.pools x no_pool p is
+
+file-more : (s : State) (x : File) (f : ℕ) → is_numbered s.files f ≡ true → file (record s { files = s.files ++ x ∷ [] }) f ≡ file s f
+unfolding file
+file-more s x f is = numbered-push s.files x no_file f is
+
+position-more : (p : File → Bool) (xs ys : List File) (i : ℕ) → position p xs ≡ Some i → position p (xs ++ ys) ≡ Some i
+position-more p [] ys i is = absurd (cc)
+position-more p (x ∷ xs) ys i is = by (p x) refl (position-more p xs ys)
+  where
+    by : (b : Bool) → p x ≡ b → ((i : ℕ) → position p xs ≡ Some i → position p (xs ++ ys) ≡ Some i) → position p ((x ∷ xs) ++ ys) ≡ Some i
+    by true here rest = grind (arith, common_steps, here, is)
+    by false there rest = later (position p xs) refl
+      where
+        later : (o : Option ℕ) → position p xs ≡ o → position p ((x ∷ xs) ++ ys) ≡ Some i
+        later None none = absurd (let e : position p (x ∷ xs) ≡ None = grind (arith, common_steps, there, none) in cc (e, is))
+        later (Some j) some = (let r = rest j some in grind (arith, common_steps, there, some, is, r))
+
+called-more : (s : State) (x : File) (name : List ℕ) (f : ℕ) → file_called s name ≡ Some f → file_called (record s { files = s.files ++ x ∷ [] }) name ≡ Some f
+called-more s x name f is = by (position (λ (y : File). bytes_eq y.name name) s.files) refl
+  where
+    by : (o : Option ℕ) → position (λ (y : File). bytes_eq y.name name) s.files ≡ o → file_called (record s { files = s.files ++ x ∷ [] }) name ≡ Some f
+    by None none = absurd (let e = ap (λ (o : Option ℕ). option_map (λ i. i + 1) o) none in cc (e, is))
+    by (Some i) some = ap (λ (o : Option ℕ). option_map (λ i. i + 1) o) (position-more (λ (y : File). bytes_eq y.name name) s.files (x ∷ []) i some ∙ sym some) ∙ is
+
+pool-closed : (s : State) (q p : ℕ) → q ≢ p → pool (record s { pools = with_numbered s.pools q (record (pool s q) { closed = true }) }) p ≡ pool s p
+unfolding pool
+pool-closed s q p differ = elim (numbered_or-with s.pools q p (record (pool s q) { closed = true }) no_pool) [ inl both ↦ absurd (differ both.0) | inr same ↦ same ]
 
 list-closed : (s : State) (q p : ℕ) → (pool (record s { pools = with_numbered s.pools q (record (pool s q) { closed = true }) }) p).domains ≡ (pool s p).domains
 unfolding pool
@@ -112,30 +193,61 @@ list-closed s q p = elim (numbered_or-with s.pools q p (record (pool s q) { clos
   | inr same ↦ ap (λ (x : Pool). x.domains) same
 ]
 
-store_called : (s : State) (by : ℕ) (k : Call) → KeepsStore s (changes_files s (event.Call by k)) (called s by k).after
+store_pooled : (s : State) (by chunks : ℕ) (list : List ℕ) → KeepsStore s (event.Call by (call.PoolCreate chunks list)) (called s by (call.PoolCreate chunks list)).after
+store_pooled s by chunks list =
+    let t : State = (called s by (call.PoolCreate chunks list)).after in
+    record {
+      files = λ un. (refl, refl);
+      contents = λ f un. content-same s t f refl;
+      known = λ f is. file-same s t f refl;
+      called = λ name f is. is;
+      lists = λ p is. ap (λ (x : Pool). x.domains) (pool-push s _ p is);
+      pools = λ p is un. pool-push s _ p is;
+    }
+
+store_unpooled : (s : State) (by q : ℕ) → KeepsStore s (event.Call by (call.PoolClose q)) (called s by (call.PoolClose q)).after
+store_unpooled s by q =
+    let t : State = (called s by (call.PoolClose q)).after in
+    record {
+      files = λ un. (refl, refl);
+      contents = λ f un. content-same s t f refl;
+      known = λ f is. file-same s t f refl;
+      called = λ name f is. is;
+      lists = λ p is. list-closed s q p;
+      pools = λ p is un. pool-closed s q p (apart q p un);
+    }
+
+store_filed : (s : State) (by : ℕ) (name : List ℕ) (p : ℕ) → KeepsStore s (event.Call by (call.FileNew name p)) (called s by (call.FileNew name p)).after
+store_filed s by name p =
+    let t : State = (called s by (call.FileNew name p)).after in
+    record {
+      files = λ changed. absurd (cc);
+      contents = λ f un. content-same s t f refl;
+      known = λ f is. file-more s _ f is;
+      called = λ name f is. called-more s _ name f is;
+      lists = λ q is. ap (λ (x : Pool). x.domains) (pool-same s t q refl);
+      pools = λ q is un. pool-same s t q refl;
+    }
+
+store_called : (s : State) (by : ℕ) (k : Call) → KeepsStore s (event.Call by k) (called s by k).after
 unfolding with_domain with_conn
-store_called s by call.Exit = store_kept s (exit s by).after false (store_then_domain s (fold fds.closed_on s (domain s by).fds) by no_domain (store_all_closed s (domain s by).fds))
-store_called s by (call.PoolCreate chunks list) = record { files = λ un. (refl, refl); lists = list-push s _ }
-store_called s by (call.PoolClose p) = record { files = λ un. (refl, refl); lists = λ q is. list-closed s p q }
-store_called s by (call.FileNew name p) = record { files = λ changed. absurd (cc); lists = λ q is. lists_same s (called s by (call.FileNew name p)).after q refl }
-store_called s by (call.AggGive a to) = store_kept s (aggs.agg_give s by a to).after false (store_agg_give s by a to)
-store_called s by (call.GiveFd fd to) = store_kept s (fds.give_fd s by fd to).after false (store_given s by fd to (descriptor s by fd))
-store_called s by (call.Close fd) = store_kept s (fds.close s by fd).after false (store_then_domain s (fds.closed_on s (descriptor s by fd)) by _ (store_closed_on s (descriptor s by fd)))
+store_called s by call.Exit = store_kept s (exit s by).after _ (store_then_domain s (fold fds.closed_on s (domain s by).fds) by no_domain (store_all_closed s (domain s by).fds))
+store_called s by (call.PoolCreate chunks list) = store_pooled s by chunks list
+store_called s by (call.PoolClose p) = store_unpooled s by p
+store_called s by (call.FileNew name p) = store_filed s by name p
+store_called s by (call.AggGive a to) = store_kept s (aggs.agg_give s by a to).after _ (store_agg_give s by a to)
+store_called s by (call.GiveFd fd to) = store_kept s (fds.give_fd s by fd to).after _ (store_given s by fd to (descriptor s by fd))
+store_called s by (call.Close fd) = store_kept s (fds.close s by fd).after _ (store_then_domain s (fds.closed_on s (descriptor s by fd)) by _ (store_closed_on s (descriptor s by fd)))
 store_called s by (call.IolRead fd n) =
     let from : Option Descriptor = descriptor s by fd in
     let count = length (reading.read_text s by from n) in
-    store_kept s (reading.iol_read s by fd n).after false (store_then_domain s (reading.read_on s by fd from count) by _ (store_read_on s by fd from count))
-store_called s by (call.IolWrite fd a) = record { files = files_written s by fd (descriptor s by fd) _; lists = λ p is. lists_same s (called s by (call.IolWrite fd a)).after p (pools_written s by fd (descriptor s by fd) _) }
-store_called s by (call.Read fd n) = store_kept s (reading.read s by fd n).after false (store_read_on s by fd (descriptor s by fd) _)
-store_called s by (call.Write fd bytes) = record { files = files_written s by fd (descriptor s by fd) _; lists = λ p is. lists_same s (called s by (call.Write fd bytes)).after p (pools_written s by fd (descriptor s by fd) _) }
-store_called s by k = store_kept s (called s by k).after false (record { files = refl; slots = refl; pools = refl })
+    store_kept s (reading.iol_read s by fd n).after _ (store_then_domain s (reading.read_on s by fd from count) by _ (store_read_on s by fd from count))
+store_called s by (call.IolWrite fd a) = store_wrote s (event.Call by (call.IolWrite fd a)) by fd (descriptor s by fd) _ refl (λ f. refl)
+store_called s by (call.Read fd n) = store_kept s (reading.read s by fd n).after _ (store_read_on s by fd (descriptor s by fd) _)
+store_called s by (call.Write fd bytes) = store_wrote s (event.Call by (call.Write fd bytes)) by fd (descriptor s by fd) _ refl (λ f. refl)
+store_called s by k = store_kept s (called s by k).after _ (record { files = refl; slots = refl; pools = refl })
 
-pub store_meant : (s : State) (e : Event) → KeepsStore s (changes_files s e) (meaning s e).after
+pub store_meant : (s : State) (e : Event) → KeepsStore s e (meaning s e).after
 unfolding with_conn
 store_meant s (event.Call by k) = store_called s by k
-store_meant s (event.ConnNew p) = store_kept s _ false (record { files = refl; slots = refl; pools = refl })
-store_meant s (event.Arrive c bytes) = store_kept s _ false (record { files = refl; slots = refl; pools = refl })
-store_meant s (event.PeerClosed c how) = store_kept s _ false (record { files = refl; slots = refl; pools = refl })
-store_meant s (event.Transmit c max) = store_kept s _ false (record { files = refl; slots = refl; pools = refl })
-store_meant s event.Flush = store_kept s _ false (record { files = refl; slots = refl; pools = refl })
-store_meant s event.DropClean = store_kept s _ false (record { files = refl; slots = refl; pools = refl })
+store_meant s e = store_kept s (meaning s e).after e (record { files = refl; slots = refl; pools = refl })

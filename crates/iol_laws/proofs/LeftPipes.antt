@@ -53,7 +53,7 @@ pipes_all_closed s (o ∷ list) p un =
     pipes_all_closed (fds.closed_on s o) list p (right-false (is_end p o) (list_any (is_end p) list) un)
     ∙ pipes_closed_on s o p (left-false (is_end p o) (list_any (is_end p) list) un)
 
-pipes_read_on : (s : State) (by fd : ℕ) (from : Option Descriptor) (count : ℕ) → KeepsPipes s (reading.read_on s by fd from count) (λ p. is_end p from)
+pub pipes_read_on : (s : State) (by fd : ℕ) (from : Option Descriptor) (count : ℕ) → KeepsPipes s (reading.read_on s by fd from count) (λ p. is_end p from)
 unfolding with_domain with_conn
 pipes_read_on s by fd None count p un = refl
 pipes_read_on s by fd (Some (on.File f at mode)) count p un = pipes_same s (reading.read_on s by fd (Some (on.File f at mode)) count) (λ p. false) refl p refl
@@ -61,7 +61,7 @@ pipes_read_on s by fd (Some (on.ReadEnd q)) count p un = pipes_pipe s q (record 
 pipes_read_on s by fd (Some (on.WriteEnd q)) count p un = refl
 pipes_read_on s by fd (Some (on.Connection e)) count p un = pipes_same s (reading.read_on s by fd (Some (on.Connection e)) count) (λ p. false) refl p refl
 
-pipes_written : (s : State) (by fd : ℕ) (to : Option Descriptor) (w : Text) → KeepsPipes s (writing.written s by fd to w) (λ p. is_end p to)
+pub pipes_written : (s : State) (by fd : ℕ) (to : Option Descriptor) (w : Text) → KeepsPipes s (writing.written s by fd to w) (λ p. is_end p to)
 unfolding with_domain with_conn with_content
 pipes_written s by fd None w p un = refl
 pipes_written s by fd (Some (on.File f at mode)) w p un = pipes_same s (writing.written s by fd (Some (on.File f at mode)) w) (λ p. false) refl p refl

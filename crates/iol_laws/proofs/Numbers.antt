@@ -1,6 +1,6 @@
 -- Numbers in replies, and what stands under a new one.
-use Rattle.std.proofs.Common.{◌≡◌, ℕ, List, [], ap, ◌∙◌, refl, sym, Option, Some, None, true}
-use Rattle.std.specs.Prelude.{option_map, unwrap_or}
+use Rattle.std.proofs.Common.{◌≡◌, ℕ, List, [], ap, ◌∙◌, refl, sym, Option, Some, None, true, false}
+use Rattle.std.specs.Prelude.{option_map, unwrap_or, is_none}
 use Rattle.iol_core.specs.Text.{Text, bytes_of}
 use Rattle.iol_core.specs.Numbered.{lookup, in_place}
 use Rattle.iol_core.specs.State.{State, Domain, domain, aggregate, text, descriptor, is_live}
@@ -27,6 +27,14 @@ text-of s d a bytes is = by (aggregate s d a) refl
     by : (o : Option Text) → aggregate s d a ≡ o → bytes_of (text s d a) ≡ bytes
     by None none = (let e = ap (λ (x : Option Text). option_map bytes_of x) none in absurd (cc (is, e)))
     by (Some t) some = ap (λ (x : Option Text). bytes_of (unwrap_or x [])) some ∙ ap (λ (x : Option (List ℕ)). unwrap_or x []) (sym (ap (λ (x : Option Text). option_map bytes_of x) some) ∙ is)
+
+-- so there is one
+pub agg-there : (s : State) (d a : ℕ) (bytes : List ℕ) → lent_at s d a ≡ Some bytes → is_none (aggregate s d a) ≡ false
+agg-there s d a bytes has = by (aggregate s d a) refl
+  where
+    by : (o : Option Text) → aggregate s d a ≡ o → is_none o ≡ false
+    by None none = absurd (let e = ap (λ (x : Option Text). option_map bytes_of x) none in cc (e, has))
+    by (Some x) some = refl
 
 -- a new aggregate is found under its number
 pub new_agg : (s : State) (d : ℕ) (kept : List (ℕ × Text)) (t : Text) → is_live s d ≡ true → lookup kept (aggs.next_agg s d) ≡ None → aggregate (aggs.with_new s d kept t) d (aggs.next_agg s d) ≡ Some t

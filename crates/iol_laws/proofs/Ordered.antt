@@ -1,9 +1,9 @@
 -- A new state is orderly, and each step keeps it so.
-use Rattle.std.proofs.Common.{inl, inr, ◌≡◌, ℕ, List, ap, refl, sym, subst, Some, None}
+use Rattle.std.proofs.Common.{inl, inr, ◌≡◌, ◌∙◌, ℕ, List, ap, refl, sym, subst, Some, None}
 use Rattle.std.specs.Prelude.{Result, Ok, Err}
 use Rattle.iol_core.specs.Text.{Text}
 use Rattle.iol_core.specs.Numbered.{lookup, in_place}
-use Rattle.iol_core.specs.State.{State, Domain, Connection, descriptor, new_state}
+use Rattle.iol_core.specs.State.{State, Domain, Connection, domain, descriptor, pipe_at, conn_at, new_state}
 use Rattle.iol_core.specs.Meaning.{Step, first}
 use Rattle.iol_core.specs.Run.{meaning, StepsTo, outcome}
 use Rattle.iol_core.specs.declared.refusals.Refusal.{Refusal}
@@ -13,6 +13,7 @@ use Rattle.iol_core.specs.declared.events.Reply.{Reply}
 use Rattle.iol_core.proofs.Lookups.{domain-new_state}
 use Rattle.iol_laws.specs.Order.{IsOrderly, Once}
 use Rattle.iol_laws.proofs.Connections.{conn-unmade}
+use Rattle.iol_laws.proofs.Ends.{stands-same}
 use Rattle.iol_laws.proofs.EndsOfCalls.{sole_meant}
 use Rattle.iol_laws.proofs.NumbersToCome.{below_meant}
 use Rattle.iol_laws.proofs.Unaccepted.{quiet_meant}
@@ -54,3 +55,17 @@ orderly_new slots = record {
       | inl new ↦ (let e = ap (λ (y : Domain Text). in_place y.fds f) new in cc (e, is))
       | inr old ↦ (let e = ap (λ (y : Domain Text). in_place y.fds f) old in cc (e, is))
     ]
+
+-- whatever bytes files have
+pub orderly-slots : (s : State) (slots : List (List ℕ)) → IsOrderly s → IsOrderly (record s { slots = slots })
+unfolding domain pipe_at conn_at
+orderly-slots s slots order = record {
+  one = order.one;
+  all_stand = λ d f x is. stands-same s (record s { slots = slots }) x refl refl ∙ order.all_stand d f x is;
+  waits = order.waits;
+  silent = order.silent;
+  once = order.once;
+  conns = order.conns;
+  aggs_once = order.aggs_once;
+  aggs = order.aggs;
+}

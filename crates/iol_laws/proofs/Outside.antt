@@ -4,7 +4,7 @@ use Rattle.std.specs.Prelude.{not, is_none, is_some, ◌&&◌, ◌||◌}
 use Rattle.std.proofs.lemmas.List.{take-append-drop}
 use Rattle.iol_core.specs.Text.{Text, bytes_of, labelled}
 use Rattle.iol_core.specs.Numbered.{lookup}
-use Rattle.iol_core.specs.State.{State, Connection, conn_at, no_conn, is_over, is_gone, with_conn}
+use Rattle.iol_core.specs.State.{State, Connection, pool, conn_at, no_conn, is_over, is_gone, with_conn}
 use Rattle.iol_core.specs.Run.{StepsTo}
 use Rattle.iol_core.specs.Calls.Outside.{conn_new, closed_by, arrive, transmit, peer_closed}
 use Rattle.iol_core.specs.Calls.Outside as outside
@@ -16,8 +16,8 @@ use Rattle.iol_core.specs.declared.events.Reply.{Reply}
 use Rattle.iol_core.specs.declared.events.Reply.TheVariants as reply
 use Rattle.iol_core.proofs.Passing.{passed, when-none}
 use Rattle.iol_laws.specs.Order.{IsOrderly}
-use Rattle.iol_laws.specs.Others.{Arrives, GoesOut, Transmits, PeerCloses}
-use Rattle.iol_laws.proofs.Connections.{conn-over, conn-there, conn-with_same, not-over, nothing-left}
+use Rattle.iol_laws.specs.Others.{MakesConn, Arrives, GoesOut, Transmits, PeerCloses}
+use Rattle.iol_laws.proofs.Connections.{conn-made, conn-over, conn-unmade, conn-there, conn-with_same, not-over, nothing-left}
 use Rattle.iol_laws.proofs.Numbers.{number}
 use Rattle.iol_laws.proofs.Texts.{bytes-append, bytes-labelled}
 
@@ -28,6 +28,23 @@ sent_in r = []
 is-there : {A : Type 0} (o : Option A) → is_none o ≡ false → (y : A) × (o ≡ Some y)
 is-there None some = absurd (cc)
 is-there (Some y) some = (y, refl)
+
+-- the number of a connection in a reply
+abbrev conn_in : Reply → ℕ
+conn_in (reply.Conn c) = c
+conn_in r = 0
+
+pub does_connect : (s t : State) (p : ℕ) (r : Reply) → IsOrderly s → StepsTo s (event.ConnNew p) r t → MakesConn s p r t
+does_connect s t p (reply.Conn c) order step =
+    let c_is : c ≡ s.next_conn = ap conn_in step.1 in
+    let none = order.conns s.next_conn (omega arith) in
+    record {
+      new = ap (λ n. conn_at s n) c_is ∙ conn-unmade s s.next_conn none;
+      conn = ap (λ n. conn_at t n) c_is ∙ (ap (λ u. conn_at u s.next_conn) step.2 ∙ conn-made s p none);
+      open_yet = when-none (refuse.PoolClosed p) (pool s p).closed (passed (conn_new s p).refusals 2 step.0);
+    }
+does_connect s t p (reply.Refused x) order step = step.1
+does_connect s t p r order step = (let e = step.1 in absurd (cc))
 
 pub does_arrive : (s t : State) (c : ℕ) (bytes : List ℕ) (r : Reply) → IsOrderly s → StepsTo s (event.Arrive c bytes) r t → Arrives s c bytes r t
 does_arrive s t c bytes (reply.Count k) order step =

@@ -1,30 +1,20 @@
 -- A connection that nobody accepted is open, and has nothing to send; numbers of connections are new.
-use Rattle.std.proofs.Common.{inl, inr, zero, suc, ◌≡◌, ℕ, ◌==◌, ◌≤◌, List, [], ◌∷◌, ◌++◌, length, drop, ap, ◌∙◌, refl, sym, subst, arith, Option, Some, None, true, false, Bool}
-use Rattle.std.specs.Prelude.{unwrap_or, if◌then◌else◌, fold}
-use Rattle.std.specs.Option.{option_map_or}
+use Rattle.std.proofs.Common.{inl, inr, zero, suc, ◌≡◌, ℕ, ◌≤◌, List, [], ◌∷◌, drop, ap, ◌∙◌, refl, sym, subst, arith, None, true, false}
 use Rattle.std.proofs.lemmas.Bool.{cases_eq}
 use Rattle.iol_core.specs.Text.{Text}
-use Rattle.iol_core.specs.Numbered.{lookup, without, in_place, lowest, placed}
-use Rattle.iol_core.specs.State.{State, Domain, Connection, domain, text, descriptor, conn_at, new_conn, no_domain, with_domain, with_pipe, with_conn, with_content}
+use Rattle.iol_core.specs.Numbered.{lookup}
+use Rattle.iol_core.specs.State.{State, Connection, conn_at, new_conn, with_conn}
 use Rattle.iol_core.specs.Run.{called, meaning}
-use Rattle.iol_core.specs.Calls.Aggregates as aggs
-use Rattle.iol_core.specs.Calls.Descriptors as fds
 use Rattle.iol_core.specs.Calls.Outside.{conn_new}
-use Rattle.iol_core.specs.Calls.Reading as reading
-use Rattle.iol_core.specs.Calls.Writing as writing
-use Rattle.iol_core.specs.Calls.Writing.{is_file}
 use Rattle.iol_core.specs.declared.descriptors.How.TheVariants as ways
-use Rattle.iol_core.specs.declared.descriptors.Descriptor.{Descriptor}
-use Rattle.iol_core.specs.declared.descriptors.Descriptor.TheVariants as on
 use Rattle.iol_core.specs.declared.events.Call.{Call}
-use Rattle.iol_core.specs.declared.events.Call.TheVariants as call
 use Rattle.iol_core.specs.declared.events.Event.{Event}
 use Rattle.iol_core.specs.declared.events.Event.TheVariants as event
 use Rattle.iol_laws.specs.Order.{Once, IsOrderly}
-use Rattle.iol_laws.proofs.Accepted.{accepted_closed_on}
+use Rattle.iol_laws.proofs.Accepted.{allowed_called}
+use Rattle.iol_laws.proofs.Changing.{Change, Reads, Writes, Closes, Takes, changed_by, turned, all_turned, changes, conns_turned, IsAllowed, AllAllowed}
 use Rattle.iol_laws.proofs.Connections.{after-with_conn, conn-made, conn-push, conns_conn, conns_same, next-with_conn, none-with_conn, once-push, once-with_conn}
 use Rattle.iol_laws.proofs.Places.{lookup-push_other}
-use Rattle.iol_laws.proofs.Waiting.{opened-conn}
 
 pub record AllQuiet (s : State) : Type 0 where
   pub waits : (c : ℕ) → (conn_at s c).accepted ≡ false → (conn_at s c).closed ≡ false
@@ -70,67 +60,20 @@ quiet_conn s c x fine q = record {
 accepted-fine : (x : Connection) → x.accepted ≡ true → Fine x
 accepted-fine x is = (λ a. absurd (cc (is, a)), λ a. absurd (cc (is, a)))
 
-quiet_closed_on : (s : State) (o : Option Descriptor) → ((c : ℕ) → o ≡ Some (on.Connection c) → (conn_at s c).accepted ≡ true) → AllQuiet s → AllQuiet (fds.closed_on s o)
-unfolding with_pipe
-quiet_closed_on s None taken q = q
-quiet_closed_on s (Some (on.File f at mode)) taken q = q
-quiet_closed_on s (Some (on.ReadEnd p)) taken q = quiet_same s (fds.closed_on s (Some (on.ReadEnd p))) refl refl q
-quiet_closed_on s (Some (on.WriteEnd p)) taken q = quiet_same s (fds.closed_on s (Some (on.WriteEnd p))) refl refl q
-quiet_closed_on s (Some (on.Connection c)) taken q = quiet_conn s c _ (accepted-fine (record (conn_at s c) { incoming = []; closed = true }) (taken c refl)) q
+quiet_turned : (s : State) (e : ℕ × Change) → IsAllowed s e → AllQuiet s → AllQuiet (turned s e)
+quiet_turned s (c, Reads n) may q = quiet_conn s c _ (q.waits c, q.silent c) q
+quiet_turned s (c, Writes w) may q = quiet_conn s c _ (accepted-fine (changed_by (Writes w) (conn_at s c)) may.0) q
+quiet_turned s (c, Closes) may q = quiet_conn s c _ (accepted-fine (changed_by Closes (conn_at s c)) may) q
+quiet_turned s (c, Takes) may q = quiet_conn s c _ (accepted-fine (changed_by Takes (conn_at s c)) refl) q
 
-quiet_all_closed : (s : State) (list : List (Option Descriptor)) → ((k c : ℕ) → in_place list k ≡ Some (on.Connection c) → (conn_at s c).accepted ≡ true) → AllQuiet s → AllQuiet (fold fds.closed_on s list)
-quiet_all_closed s [] taken q = q
-quiet_all_closed s (o ∷ list) taken q = quiet_all_closed (fds.closed_on s o) list (λ k c is. (accepted_closed_on s o c q.once (taken (suc k) c is)).0) (quiet_closed_on s o (λ c is. taken 0 c is) q)
-
-quiet_read_on : (s : State) (by fd : ℕ) (o : Option Descriptor) (n : ℕ) → AllQuiet s → AllQuiet (reading.read_on s by fd o n)
-unfolding with_domain with_pipe
-quiet_read_on s by fd None n q = q
-quiet_read_on s by fd (Some (on.File f at mode)) n q = quiet_same s (reading.read_on s by fd (Some (on.File f at mode)) n) refl refl q
-quiet_read_on s by fd (Some (on.ReadEnd p)) n q = quiet_same s (reading.read_on s by fd (Some (on.ReadEnd p)) n) refl refl q
-quiet_read_on s by fd (Some (on.WriteEnd p)) n q = q
-quiet_read_on s by fd (Some (on.Connection c)) n q = quiet_conn s c _ (q.waits c, q.silent c) q
-
-quiet_written : (s : State) (by fd : ℕ) (o : Option Descriptor) (w : Text) → ((c : ℕ) → o ≡ Some (on.Connection c) → (conn_at s c).accepted ≡ true) → AllQuiet s → AllQuiet (writing.written s by fd o w)
-unfolding with_domain with_pipe with_content
-quiet_written s by fd None w taken q = q
-quiet_written s by fd (Some (on.File f at mode)) w taken q = quiet_same s (writing.written s by fd (Some (on.File f at mode)) w) refl refl q
-quiet_written s by fd (Some (on.ReadEnd p)) w taken q = q
-quiet_written s by fd (Some (on.WriteEnd p)) w taken q = quiet_same s (writing.written s by fd (Some (on.WriteEnd p)) w) refl refl q
-quiet_written s by fd (Some (on.Connection c)) w taken q = quiet_conn s c _ (accepted-fine (record (conn_at s c) { outgoing = (conn_at s c).outgoing ++ w }) (taken c refl)) q
-
-quiet_domain : (s : State) (d : ℕ) (x : Domain Text) → AllQuiet s → AllQuiet (with_domain s d x)
-unfolding with_domain
-quiet_domain s d x q = quiet_same s (with_domain s d x) refl refl q
-
-quiet_agg_give : (s : State) (by a to : ℕ) → AllQuiet s → AllQuiet (aggs.agg_give s by a to).after
-quiet_agg_give s by a to q = cases (by == to)
-  where
-    cases : (b : Bool) → AllQuiet (if b then aggs.with_new s by (without (domain s by).aggs a) (text s by a) else aggs.without_agg (aggs.with_agg s to (text s by a)) by a)
-    cases true = quiet_domain s by _ q
-    cases false = quiet_domain (aggs.with_agg s to (text s by a)) by _ (quiet_domain s to _ q)
-
-quiet_given : (s : State) (by fd to : ℕ) (o : Option Descriptor) → AllQuiet s → AllQuiet (option_map_or (fds.given_to s by fd to) o s)
-quiet_given s by fd to None q = q
-quiet_given s by fd to (Some x) q = cases (by == to)
-  where
-    cases : (b : Bool) → AllQuiet (if b then fds.with_fds s by (placed (fds.freed s by fd) (lowest (fds.freed s by fd)) x) else fds.with_fds (fds.opened s to x) by (fds.freed s by fd))
-    cases true = quiet_domain s by _ q
-    cases false = quiet_domain (fds.opened s to x) by _ (quiet_domain s to _ q)
+quiet_all : (s : State) (es : List (ℕ × Change)) → AllAllowed s es → AllQuiet s → AllQuiet (all_turned s es)
+quiet_all s [] may q = q
+quiet_all s (e ∷ es) may q = quiet_all (turned s e) es may.1 (quiet_turned s e may.0 q)
 
 quiet_called : (s : State) (by : ℕ) (k : Call) → IsOrderly s → AllQuiet (called s by k).after
-unfolding with_domain
-quiet_called s by call.Exit order = quiet_domain (fold fds.closed_on s (domain s by).fds) by no_domain (quiet_all_closed s (domain s by).fds (λ k c is. (opened-conn s by k c order is).0) (quiet_of s order))
-quiet_called s by (call.AggGive x to) order = quiet_agg_give s by x to (quiet_of s order)
-quiet_called s by (call.GiveFd f to) order = quiet_given s by f to (descriptor s by f) (quiet_of s order)
-quiet_called s by (call.Close f) order = quiet_domain (fds.closed_on s (descriptor s by f)) by _ (quiet_closed_on s (descriptor s by f) (λ c is. (opened-conn s by f c order is).0) (quiet_of s order))
-quiet_called s by (call.IolRead f n) order = quiet_domain (reading.read_on s by f (descriptor s by f) (length (reading.read_text s by (descriptor s by f) n))) by _ (quiet_read_on s by f (descriptor s by f) _ (quiet_of s order))
-quiet_called s by (call.IolWrite f x) order = quiet_written s by f (descriptor s by f) _ (λ c is. (opened-conn s by f c order is).0) (quiet_of s order)
-quiet_called s by call.Accept order =
-    let c : ℕ = unwrap_or (fds.waiting s by) 0 in
-    quiet_domain (with_conn s c (record (conn_at s c) { accepted = true })) by _ (quiet_conn s c _ (accepted-fine (record (conn_at s c) { accepted = true }) refl) (quiet_of s order))
-quiet_called s by (call.Read f n) order = quiet_read_on s by f (descriptor s by f) _ (quiet_of s order)
-quiet_called s by (call.Write f bytes) order = quiet_written s by f (descriptor s by f) _ (λ c is. (opened-conn s by f c order is).0) (quiet_of s order)
-quiet_called s by k order = quiet_same s (called s by k).after refl refl (quiet_of s order)
+quiet_called s by k order =
+    let same = conns_turned s by k in
+    quiet_same (all_turned s (changes s by k)) (called s by k).after same.conns same.next (quiet_all s (changes s by k) (allowed_called s by k order) (quiet_of s order))
 
 quiet_conn_new : (s : State) (p : ℕ) → AllQuiet s → AllQuiet (conn_new s p).after
 quiet_conn_new s p q = record {

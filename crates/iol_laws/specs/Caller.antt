@@ -2,13 +2,12 @@
 --
 -- Each word says of a reply what is then so: of an answer what it brought, of a refusal that nothing changed, and of any
 -- other reply that it cannot come.
-use Rattle.std.specs.Prelude.{◌≡◌, ◌≢◌, ℕ, ◌+◌, ◌<◌, ◌≤◌, ◌==◌, Bool, true, false, List, [], ◌++◌, is_none, length, take, drop, Option, Some, None, option_map, slice_range}
+use Rattle.std.specs.Prelude.{◌≡◌, ◌≢◌, ℕ, ◌<◌, ◌≤◌, ◌==◌, Bool, true, false, List, [], ◌++◌, is_none, length, take, drop, Option, Some, None, option_map, slice_range}
 use Rattle.iol_core.specs.Text.{Text, bytes_of}
-use Rattle.iol_core.specs.State.{State, aggregate, descriptor, content, file, may_read, conn_at, pipe_at, new_pipe, is_gone, is_live}
+use Rattle.iol_core.specs.State.{State, aggregate, descriptor, may_read, conn_at, pipe_at, new_pipe, is_gone}
 use Rattle.iol_core.specs.Run.{StepsTo}
 use Rattle.iol_core.specs.declared.descriptors.Descriptor.{Descriptor}
 use Rattle.iol_core.specs.declared.descriptors.Descriptor.TheVariants as on
-use Rattle.iol_core.specs.declared.descriptors.Mode.TheVariants as modes
 use Rattle.iol_core.specs.declared.refusals.Refusal.TheVariants.{TooMany, NoRoom, Fault, Memory}
 use Rattle.iol_core.specs.declared.events.Call.{Call}
 use Rattle.iol_core.specs.declared.events.Call.TheVariants as call
@@ -119,12 +118,6 @@ Shows s bytes (reply.Bytes found) t = (found ≡ bytes) × (t ≡ s)
 Shows s bytes (reply.Refused x) t = t ≡ s
 Shows s bytes r t = ⊥
 
--- a file's bytes from a position on are read, and the position moves past them
-abbrev pub ReadsFile : State → (d fd f at : ℕ) → List ℕ → Reply → State → Type 0
-ReadsFile s d fd f at bytes (reply.Agg n) t = (lent_at t d n ≡ Some bytes) × (lent_at s d n ≡ None) × (descriptor t d fd ≡ Some (on.File f (at + length bytes) modes.Read))
-ReadsFile s d fd f at bytes (reply.Refused x) t = (is_rough (reply.Refused x) ≡ true) × (t ≡ s)
-ReadsFile s d fd f at bytes r t = ⊥
-
 -- an aggregate is given up
 abbrev pub Drops : State → (d a : ℕ) → Reply → State → Type 0
 Drops s d a reply.Done t = lent_at t d a ≡ None
@@ -166,6 +159,12 @@ ClosesWriteEnd s p reply.Done t = ((pipe_at t p).writing ≡ false) × ((pipe_at
 ClosesWriteEnd s p (reply.Refused x) t = t ≡ s
 ClosesWriteEnd s p r t = ⊥
 
+-- a pipe whose read end is closed loses what is to be read
+abbrev pub ClosesReadEnd : State → (p : ℕ) → Reply → State → Type 0
+ClosesReadEnd s p reply.Done t = ((pipe_at t p).reading ≡ false) × ((pipe_at t p).queue ≡ []) × ((pipe_at t p).writing ≡ (pipe_at s p).writing)
+ClosesReadEnd s p (reply.Refused x) t = t ≡ s
+ClosesReadEnd s p r t = ⊥
+
 -- a connection that waits is accepted, as descriptor fd
 pub record TakesConn (s : State) (d fd : ℕ) (t : State) : Type 0 where
   pub conn : ℕ
@@ -183,25 +182,45 @@ Accepts s d r t = ⊥
 
 -- Each call, from a state between two events.
 pub record CallsServeTheirDomain : Type 0 where
-  pub make : (s t : State) (d : ℕ) (bytes : List ℕ) (r : Reply) → IsOrderly s → StepsTo s (event.Call d (call.AggMake bytes)) r t → Makes s d bytes r t
-  pub cut : (s t : State) (d a from to : ℕ) (bytes : List ℕ) (r : Reply) → IsOrderly s → lent_at s d a ≡ Some bytes → StepsTo s (event.Call d (call.AggCut a from to)) r t → Makes s d (slice_range bytes from to) r t
-  pub split : (s t : State) (d a at : ℕ) (bytes : List ℕ) (r : Reply) → IsOrderly s → lent_at s d a ≡ Some bytes → StepsTo s (event.Call d (call.AggSplit a at)) r t → MakesTwo s d (take at bytes) (drop at bytes) r t
-  pub join : (s t : State) (d a b : ℕ) (xs ys : List ℕ) (r : Reply) → IsOrderly s → lent_at s d a ≡ Some xs → lent_at s d b ≡ Some ys → StepsTo s (event.Call d (call.AggJoin a b)) r t → Makes s d (xs ++ ys) r t
-  pub dup : (s t : State) (d a : ℕ) (bytes : List ℕ) (r : Reply) → IsOrderly s → lent_at s d a ≡ Some bytes → StepsTo s (event.Call d (call.AggDup a)) r t → Makes s d bytes r t
-  pub replace : (s t : State) (d a from to b : ℕ) (xs ys : List ℕ) (r : Reply) → IsOrderly s → lent_at s d a ≡ Some xs → lent_at s d b ≡ Some ys → StepsTo s (event.Call d (call.AggReplace a from to b)) r t → Makes s d (take from xs ++ ys ++ drop to xs) r t
-  pub shows : (s t : State) (d a : ℕ) (bytes : List ℕ) (r : Reply) → lent_at s d a ≡ Some bytes → StepsTo s (event.Call d (call.Show a)) r t → Shows s bytes r t
-  pub drops : (s t : State) (d a : ℕ) (r : Reply) → IsOrderly s → StepsTo s (event.Call d (call.AggDrop a)) r t → Drops s d a r t
-  pub read_file : (s t : State) (d fd f at n : ℕ) (r : Reply) → IsOrderly s → is_live s d ≡ true → may_read s d (file s f).pool ≡ true → descriptor s d fd ≡ Some (on.File f at modes.Read) → StepsTo s (event.Call d (call.IolRead fd n)) r t → ReadsFile s d fd f at (take n (drop at (content s f))) r t
-  pub read_conn : (s t : State) (d fd c n : ℕ) (r : Reply) → IsOrderly s → descriptor s d fd ≡ Some (on.Connection c) → StepsTo s (event.Call d (call.IolRead fd n)) r t → ReadsConn s d c n r t
-  pub write_conn : (s t : State) (d fd c a : ℕ) (bytes : List ℕ) (r : Reply) → IsOrderly s → descriptor s d fd ≡ Some (on.Connection c) → lent_at s d a ≡ Some bytes → StepsTo s (event.Call d (call.IolWrite fd a)) r t → WritesConn s c bytes r t
+  pub make : (s t : State) (d : ℕ) (bytes : List ℕ) (r : Reply) → IsOrderly s
+      → StepsTo s (event.Call d (call.AggMake bytes)) r t → Makes s d bytes r t
+  pub cut : (s t : State) (d a from to : ℕ) (bytes : List ℕ) (r : Reply) → IsOrderly s → lent_at s d a ≡ Some bytes
+      → StepsTo s (event.Call d (call.AggCut a from to)) r t → Makes s d (slice_range bytes from to) r t
+  pub split : (s t : State) (d a at : ℕ) (bytes : List ℕ) (r : Reply) → IsOrderly s → lent_at s d a ≡ Some bytes
+      → StepsTo s (event.Call d (call.AggSplit a at)) r t → MakesTwo s d (take at bytes) (drop at bytes) r t
+  pub join : (s t : State) (d a b : ℕ) (xs ys : List ℕ) (r : Reply) → IsOrderly s → lent_at s d a ≡ Some xs
+      → lent_at s d b ≡ Some ys → StepsTo s (event.Call d (call.AggJoin a b)) r t → Makes s d (xs ++ ys) r t
+  pub dup : (s t : State) (d a : ℕ) (bytes : List ℕ) (r : Reply) → IsOrderly s → lent_at s d a ≡ Some bytes
+      → StepsTo s (event.Call d (call.AggDup a)) r t → Makes s d bytes r t
+  pub replace : (s t : State) (d a from to b : ℕ) (xs ys : List ℕ) (r : Reply) → IsOrderly s → lent_at s d a ≡ Some xs
+      → lent_at s d b ≡ Some ys → StepsTo s (event.Call d (call.AggReplace a from to b)) r t
+      → Makes s d (take from xs ++ ys ++ drop to xs) r t
+  pub shows : (s t : State) (d a : ℕ) (bytes : List ℕ) (r : Reply) → lent_at s d a ≡ Some bytes
+      → StepsTo s (event.Call d (call.Show a)) r t → Shows s bytes r t
+  pub drops : (s t : State) (d a : ℕ) (r : Reply) → IsOrderly s → StepsTo s (event.Call d (call.AggDrop a)) r t
+      → Drops s d a r t
+  pub read_conn : (s t : State) (d fd c n : ℕ) (r : Reply) → IsOrderly s → descriptor s d fd ≡ Some (on.Connection c)
+      → StepsTo s (event.Call d (call.IolRead fd n)) r t → ReadsConn s d c n r t
+  pub write_conn : (s t : State) (d fd c a : ℕ) (bytes : List ℕ) (r : Reply) → IsOrderly s
+      → descriptor s d fd ≡ Some (on.Connection c) → lent_at s d a ≡ Some bytes
+      → StepsTo s (event.Call d (call.IolWrite fd a)) r t → WritesConn s c bytes r t
   pub makes_pipe : (s t : State) (d : ℕ) (r : Reply) → StepsTo s (event.Call d call.Pipe) r t → MakesPipe s d r t
-  pub read_pipe : (s t : State) (d fd p n : ℕ) (r : Reply) → IsOrderly s → descriptor s d fd ≡ Some (on.ReadEnd p) → StepsTo s (event.Call d (call.IolRead fd n)) r t → ReadsPipe s d p n r t
-  pub write_pipe : (s t : State) (d fd p a : ℕ) (bytes : List ℕ) (r : Reply) → IsOrderly s → descriptor s d fd ≡ Some (on.WriteEnd p) → lent_at s d a ≡ Some bytes → StepsTo s (event.Call d (call.IolWrite fd a)) r t → WritesPipe s p bytes r t
-  pub closes_write_end : (s t : State) (d fd p : ℕ) (r : Reply) → IsOrderly s → descriptor s d fd ≡ Some (on.WriteEnd p) → StepsTo s (event.Call d (call.Close fd)) r t → ClosesWriteEnd s p r t
-  pub gives_fd : (s t : State) (d fd to : ℕ) (x : Descriptor) (r : Reply) → descriptor s d fd ≡ Some x → StepsTo s (event.Call d (call.GiveFd fd to)) r t → GivesFd s d fd to x r t
-  pub gives_agg : (s t : State) (d a to : ℕ) (bytes : List ℕ) (r : Reply) → IsOrderly s → lent_at s d a ≡ Some bytes → StepsTo s (event.Call d (call.AggGive a to)) r t → GivesAgg s to bytes r t
+  pub read_pipe : (s t : State) (d fd p n : ℕ) (r : Reply) → IsOrderly s → descriptor s d fd ≡ Some (on.ReadEnd p)
+      → StepsTo s (event.Call d (call.IolRead fd n)) r t → ReadsPipe s d p n r t
+  pub write_pipe : (s t : State) (d fd p a : ℕ) (bytes : List ℕ) (r : Reply) → IsOrderly s
+      → descriptor s d fd ≡ Some (on.WriteEnd p) → lent_at s d a ≡ Some bytes
+      → StepsTo s (event.Call d (call.IolWrite fd a)) r t → WritesPipe s p bytes r t
+  pub closes_write_end : (s t : State) (d fd p : ℕ) (r : Reply) → IsOrderly s → descriptor s d fd ≡ Some (on.WriteEnd p)
+      → StepsTo s (event.Call d (call.Close fd)) r t → ClosesWriteEnd s p r t
+  pub closes_read_end : (s t : State) (d fd p : ℕ) (r : Reply) → IsOrderly s → descriptor s d fd ≡ Some (on.ReadEnd p)
+      → StepsTo s (event.Call d (call.Close fd)) r t → ClosesReadEnd s p r t
+  pub gives_fd : (s t : State) (d fd to : ℕ) (x : Descriptor) (r : Reply) → descriptor s d fd ≡ Some x
+      → StepsTo s (event.Call d (call.GiveFd fd to)) r t → GivesFd s d fd to x r t
+  pub gives_agg : (s t : State) (d a to : ℕ) (bytes : List ℕ) (r : Reply) → IsOrderly s → lent_at s d a ≡ Some bytes
+      → StepsTo s (event.Call d (call.AggGive a to)) r t → GivesAgg s to bytes r t
   pub closes : (s t : State) (d fd : ℕ) (r : Reply) → StepsTo s (event.Call d (call.Close fd)) r t → Closes s d fd r t
-  pub closes_conn : (s t : State) (d fd c : ℕ) (r : Reply) → IsOrderly s → descriptor s d fd ≡ Some (on.Connection c) → StepsTo s (event.Call d (call.Close fd)) r t → ClosesConn s c r t
+  pub closes_conn : (s t : State) (d fd c : ℕ) (r : Reply) → IsOrderly s → descriptor s d fd ≡ Some (on.Connection c)
+      → StepsTo s (event.Call d (call.Close fd)) r t → ClosesConn s c r t
   pub accepts : (s t : State) (d : ℕ) (r : Reply) → IsOrderly s → StepsTo s (event.Call d call.Accept) r t → Accepts s d r t
 
 -- whether the reply gives this number of an aggregate, or of a descriptor
@@ -221,6 +240,9 @@ gives_away k = false
 
 -- The numbers that a domain is given by its calls are new ones, and what an aggregate's number names is there.
 pub record NumbersAreNew : Type 0 where
-  pub agg : (s t : State) (d : ℕ) (k : Call) (r : Reply) (a : ℕ) → IsOrderly s → StepsTo s (event.Call d k) r t → gives_away k ≡ false → is_agg r a ≡ true → lent_at s d a ≡ None
-  pub named : (s t : State) (d : ℕ) (k : Call) (r : Reply) (a : ℕ) → IsOrderly s → StepsTo s (event.Call d k) r t → gives_away k ≡ false → is_agg r a ≡ true → (bytes : List ℕ) × (lent_at t d a ≡ Some bytes)
-  pub fd : (s t : State) (d : ℕ) (k : Call) (r : Reply) (g : ℕ) → IsOrderly s → StepsTo s (event.Call d k) r t → gives_away k ≡ false → is_fd r g ≡ true → descriptor s d g ≡ None
+  pub agg : (s t : State) (d : ℕ) (k : Call) (r : Reply) (a : ℕ) → IsOrderly s → StepsTo s (event.Call d k) r t
+      → gives_away k ≡ false → is_agg r a ≡ true → lent_at s d a ≡ None
+  pub named : (s t : State) (d : ℕ) (k : Call) (r : Reply) (a : ℕ) → IsOrderly s → StepsTo s (event.Call d k) r t
+      → gives_away k ≡ false → is_agg r a ≡ true → (bytes : List ℕ) × (lent_at t d a ≡ Some bytes)
+  pub fd : (s t : State) (d : ℕ) (k : Call) (r : Reply) (g : ℕ) → IsOrderly s → StepsTo s (event.Call d k) r t
+      → gives_away k ≡ false → is_fd r g ≡ true → descriptor s d g ≡ None

@@ -1,9 +1,10 @@
--- What a step leaves as it was: connections, pipes, descriptors, files and lists that the event does not touch.
+-- What a step leaves as it was: connections, pipes, descriptors, files, pools and domains that the event does not touch.
 use Rattle.std.specs.Prelude.{◌≡◌, ℕ, ◌==◌, ◌&&◌, ◌||◌, Bool, true, false, List, [], ◌∷◌, Option, Some, unwrap_or}
 use Rattle.std.specs.List.{list_any}
-use Rattle.iol_core.specs.Numbered.{lowest}
-use Rattle.iol_core.specs.State.{State, domain, pool, is_pool, descriptor, pipe_at, conn_at}
+use Rattle.iol_core.specs.Numbered.{lowest, is_numbered}
+use Rattle.iol_core.specs.State.{State, domain, is_live, pool, is_pool, may_read, descriptor, file, content, pipe_at, conn_at}
 use Rattle.iol_core.specs.Calls.Descriptors.{waiting}
+use Rattle.iol_core.specs.Calls.Files.{file_called}
 use Rattle.iol_core.specs.Calls.Writing.{is_file}
 use Rattle.iol_core.specs.declared.descriptors.Descriptor.{Descriptor}
 use Rattle.iol_core.specs.declared.descriptors.Descriptor.TheVariants as on
@@ -71,13 +72,49 @@ changes_files s (event.Call by (call.IolWrite fd a)) = is_file (descriptor s by 
 changes_files s (event.Call by (call.Write fd bytes)) = is_file (descriptor s by fd)
 changes_files s e = false
 
+abbrev pub is_on_file : (f : ℕ) → Option Descriptor → Bool
+is_on_file f (Some (on.File g at mode)) = g == f
+is_on_file f o = false
+
+-- whether it may write this file
+abbrev pub writes_file : State → Event → (f : ℕ) → Bool
+writes_file s (event.Call by (call.IolWrite fd a)) f = is_on_file f (descriptor s by fd)
+writes_file s (event.Call by (call.Write fd bytes)) f = is_on_file f (descriptor s by fd)
+writes_file s e f = false
+
+-- whether it may close this pool
+abbrev pub closes_pool : Event → (p : ℕ) → Bool
+closes_pool (event.Call by (call.PoolClose q)) p = q == p
+closes_pool e p = false
+
+-- whether the domain may end by it
+abbrev pub ends : Event → (d : ℕ) → Bool
+ends (event.Call by call.Exit) d = by == d
+ends e d = false
+
+-- whether the domain may have another default pool after it
+abbrev pub sets_default : Event → (d : ℕ) → Bool
+sets_default (event.Call by call.Exit) d = by == d
+sets_default (event.Call by (call.SetPool p)) d = by == d
+sets_default e d = false
+
 -- from old to new, by this event
 pub record Leaves (old : State) (e : Event) (new : State) : Type 0 where
   pub conns : (c : ℕ) → touches_conn old e c ≡ false → conn_at new c ≡ conn_at old c
   pub pipes : (p : ℕ) → touches_pipe old e p ≡ false → pipe_at new p ≡ pipe_at old p
-  pub fds : (d fd : ℕ) (x : Descriptor) → descriptor old d fd ≡ Some x → touches_fd old e d fd ≡ false → descriptor new d fd ≡ Some x
+  pub fds : (d fd : ℕ) (x : Descriptor) → descriptor old d fd ≡ Some x → touches_fd old e d fd ≡ false
+      → descriptor new d fd ≡ Some x
   pub files : changes_files old e ≡ false → (new.files ≡ old.files) × (new.slots ≡ old.slots)
+  pub contents : (f : ℕ) → writes_file old e f ≡ false → content new f ≡ content old f
+  -- a file keeps its name, its number and its pool
+  pub known : (f : ℕ) → is_numbered old.files f ≡ true → file new f ≡ file old f
+  pub called : (name : List ℕ) (f : ℕ) → file_called old name ≡ Some f → file_called new name ≡ Some f
   pub lists : (p : ℕ) → is_pool old p ≡ true → (pool new p).domains ≡ (pool old p).domains
+  -- who may read a pool may go on to
+  pub readers : (d p : ℕ) → may_read old d p ≡ true → may_read new d p ≡ true
+  pub pools : (p : ℕ) → is_pool old p ≡ true → closes_pool e p ≡ false → pool new p ≡ pool old p
+  pub lives : (d : ℕ) → is_live old d ≡ true → ends e d ≡ false → is_live new d ≡ true
+  pub defaults : (d : ℕ) → is_live old d ≡ true → sets_default e d ≡ false → (domain new d).default ≡ (domain old d).default
 
 -- every step leaves what its event does not touch, and the values of aggregates
 pub record EachStepLeavesTheRest : Type 0 where

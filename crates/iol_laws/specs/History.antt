@@ -52,11 +52,18 @@ pub record IsAllUnread (s : State) (c : ℕ) (came sent : List ℕ) (t : State) 
 
 pub record HistoriesAddUp : Type 0 where
   -- the history of a run of some events and then others is that of the first, and then that of the others
-  pub stream : (old now : State) (past future : List Event) (rs qs : List Reply) (c : ℕ) → Run old past rs now → stream_of c (past ++ future) (rs ++ qs) ≡ stream_of c past rs ++ stream_of c future qs
-  pub sent : (old now : State) (past future : List Event) (rs qs : List Reply) (c : ℕ) → Run old past rs now → sent_of c (past ++ future) (rs ++ qs) ≡ sent_of c past rs ++ sent_of c future qs
+  pub stream : (old now : State) (past future : List Event) (rs qs : List Reply) (c : ℕ) → Run old past rs now
+      → stream_of c (past ++ future) (rs ++ qs) ≡ stream_of c past rs ++ stream_of c future qs
+  pub sent : (old now : State) (past future : List Event) (rs qs : List Reply) (c : ℕ) → Run old past rs now
+      → sent_of c (past ++ future) (rs ++ qs) ≡ sent_of c past rs ++ sent_of c future qs
   -- what came is read in order, over any run
-  pub unread : (old new : State) (es : List Event) (rs : List Reply) (c : ℕ) → IsOrderly old → Run old es rs new → IsEndOf (bytes_of (conn_at old c).incoming) (stream_of c es rs) (bytes_of (conn_at new c).incoming)
+  pub unread : (old new : State) (es : List Event) (rs : List Reply) (c : ℕ) → IsOrderly old → Run old es rs new
+      → IsEndOf (bytes_of (conn_at old c).incoming) (stream_of c es rs) (bytes_of (conn_at new c).incoming)
   -- what was to be sent is sent in order, over a run in which the peer goes on taking it
-  pub unsent : (old new : State) (es : List Event) (rs : List Reply) (c : ℕ) → IsOrderly old → Run old es rs new → list_any (λ e. drops_unsent e c) es ≡ false → GoesFirst (bytes_of (conn_at old c).outgoing) (sent_of c es rs) (bytes_of (conn_at new c).outgoing)
+  pub unsent : (old new : State) (es : List Event) (rs : List Reply) (c : ℕ) → IsOrderly old → Run old es rs new
+      → list_any (λ e. drops_unsent e c) es ≡ false
+      → GoesFirst (bytes_of (conn_at old c).outgoing) (sent_of c es rs) (bytes_of (conn_at new c).outgoing)
   -- over a run at whose end nobody has accepted it yet
-  pub waiting : (old new : State) (es : List Event) (rs : List Reply) (c : ℕ) → IsOrderly old → Run old es rs new → (conn_at old c).accepted ≡ false → (conn_at new c).accepted ≡ false → IsAllUnread old c (stream_of c es rs) (sent_of c es rs) new
+  pub waiting : (old new : State) (es : List Event) (rs : List Reply) (c : ℕ) → IsOrderly old → Run old es rs new
+      → (conn_at old c).accepted ≡ false → (conn_at new c).accepted ≡ false
+      → IsAllUnread old c (stream_of c es rs) (sent_of c es rs) new

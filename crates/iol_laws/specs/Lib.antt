@@ -1,5 +1,9 @@
 pub mod Frame
 pub mod Order
 pub mod Caller
+pub mod CallerFiles
+pub mod CallerCopies
+pub mod CallerDomains
+pub mod Reasons
 pub mod Others
 pub mod History

@@ -1,8 +1,11 @@
 -- What holds between events: each end and each connection is open in one descriptor at most, what is open stands, and
 -- numbers that are still to come are not used yet.
-use Rattle.std.specs.Prelude.{◌≡◌, ℕ, ◌≤◌, ◌&&◌, Bool, true, false, not, List, [], ◌∷◌, Some, None}
+use Rattle.std.specs.Prelude.{◌≡◌, ℕ, ◌≤◌, ◌&&◌, Bool, true, false, not, List, [], ◌∷◌, length, Some, None}
 use Rattle.iol_core.specs.Numbered.{lookup}
 use Rattle.iol_core.specs.State.{State, domain, aggregate, descriptor, conn_at, pipe_at, new_state}
+use Rattle.iol_core.specs.Access.{HasAccess}
+use Rattle.iol_core.specs.Positions.{ArePlaced}
+use Rattle.iol_core.specs.declared.limits.TheConstants.{MAX_FILES}
 use Rattle.iol_core.specs.Calls.Writing.{is_file}
 use Rattle.iol_core.specs.Run.{StepsTo}
 use Rattle.iol_core.specs.declared.descriptors.Descriptor.{Descriptor}
@@ -24,7 +27,8 @@ Once (e ∷ es) = (lookup es e.0 ≡ None) × Once es
 
 pub record IsOrderly (s : State) : Type 0 where
   -- two descriptors that are open on the same end or connection are one
-  pub one : (d e f g : ℕ) (x : Descriptor) → is_file (Some x) ≡ false → descriptor s d f ≡ Some x → descriptor s e g ≡ Some x → (d ≡ e) × (f ≡ g)
+  pub one : (d e f g : ℕ) (x : Descriptor) → is_file (Some x) ≡ false → descriptor s d f ≡ Some x
+      → descriptor s e g ≡ Some x → (d ≡ e) × (f ≡ g)
   -- what is open stands
   pub all_stand : (d f : ℕ) (x : Descriptor) → descriptor s d f ≡ Some x → stands s x ≡ true
   -- a connection that nobody accepted yet is not closed, and nothing is to be sent on it
@@ -37,7 +41,12 @@ pub record IsOrderly (s : State) : Type 0 where
   pub aggs_once : (d : ℕ) → Once (domain s d).aggs
   pub aggs : (d a : ℕ) → (domain s d).next_agg ≤ a → aggregate s d a ≡ None
 
--- a new state is orderly, and each step keeps it so
+-- A new state is orderly, and each step keeps it so. What domains have they may read, and positions are within files: of a new
+-- state and after each step, too.
 pub record EachStepKeepsOrder : Type 0 where
   pub new : (slots : List (List ℕ)) → IsOrderly (new_state slots)
   pub step : (s t : State) (e : Event) (r : Reply) → IsOrderly s → StepsTo s e r t → IsOrderly t
+  pub new_access : (slots : List (List ℕ)) → HasAccess (new_state slots)
+  pub access : (s t : State) (e : Event) (r : Reply) → HasAccess s → StepsTo s e r t → HasAccess t
+  pub new_places : (slots : List (List ℕ)) → MAX_FILES ≤ length slots → ArePlaced (new_state slots)
+  pub places : (s t : State) (e : Event) (r : Reply) → ArePlaced s → StepsTo s e r t → ArePlaced t

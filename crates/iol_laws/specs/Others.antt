@@ -1,16 +1,28 @@
--- What others do to a connection: calls of other domains, and what happens outside.
-use Rattle.std.specs.Prelude.{◌≡◌, ℕ, ◌⊎◌, true, false, List, [], ◌++◌, take, Some}
+-- What others do to a connection or a pipe: calls of other domains, and what happens outside.
+use Rattle.std.specs.Prelude.{◌≡◌, ℕ, ◌⊎◌, ◌||◌, true, false, List, [], ◌++◌, take, Some}
 use Rattle.iol_core.specs.Text.{Text, bytes_of}
-use Rattle.iol_core.specs.State.{State, descriptor, may_read, conn_at}
+use Rattle.iol_core.specs.State.{State, descriptor, pool, may_read, conn_at, no_conn, new_conn, pipe_at}
 use Rattle.iol_core.specs.Calls.Outside.{closed_by}
 use Rattle.iol_core.specs.Run.{StepsTo}
 use Rattle.iol_core.specs.declared.descriptors.How.{How}
+use Rattle.iol_core.specs.declared.descriptors.Descriptor.{Descriptor}
 use Rattle.iol_core.specs.declared.descriptors.Descriptor.TheVariants as on
 use Rattle.iol_core.specs.declared.events.Call.{Call}
 use Rattle.iol_core.specs.declared.events.Event.TheVariants as event
 use Rattle.iol_core.specs.declared.events.Reply.{Reply}
 use Rattle.iol_core.specs.declared.events.Reply.TheVariants as reply
 use Rattle.iol_laws.specs.Order.{IsOrderly}
+
+-- a new connection waits: nothing came in, and nothing is to be sent
+pub record Connects (s : State) (p c : ℕ) (t : State) : Type 0 where
+  pub new : conn_at s c ≡ no_conn
+  pub conn : conn_at t c ≡ new_conn p
+  pub open_yet : (pool s p).closed ≡ false
+
+abbrev pub MakesConn : State → (p : ℕ) → Reply → State → Type 0
+MakesConn s p (reply.Conn c) t = Connects s p c t
+MakesConn s p (reply.Refused x) t = t ≡ s
+MakesConn s p r t = ⊥
 
 -- bytes came in
 pub record ComesIn (s : State) (c : ℕ) (bytes : List ℕ) (t : State) : Type 0 where
@@ -46,13 +58,48 @@ PeerCloses s c how r t = ⊥
 
 pub record OthersLeaveConnections : Type 0 where
   -- a call leaves each connection that its domain neither has nor may accept
-  pub conn : (s t : State) (d : ℕ) (k : Call) (r : Reply) (c : ℕ) → IsOrderly s → StepsTo s (event.Call d k) r t → ((f : ℕ) → descriptor s d f ≡ Some (on.Connection c) → ⊥)
+  pub conn : (s t : State) (d : ℕ) (k : Call) (r : Reply) (c : ℕ) → IsOrderly s → StepsTo s (event.Call d k) r t
+      → ((f : ℕ) → descriptor s d f ≡ Some (on.Connection c) → ⊥)
       → ((conn_at s c).accepted ≡ true) ⊎ (may_read s d (conn_at s c).pool ≡ false) → conn_at t c ≡ conn_at s c
   -- a connection that waits is left by a call, or accepted
-  pub waiting : (s t : State) (d : ℕ) (k : Call) (r : Reply) (c : ℕ) → IsOrderly s → StepsTo s (event.Call d k) r t → (conn_at s c).accepted ≡ false → (conn_at t c ≡ conn_at s c) ⊎ ((conn_at t c).accepted ≡ true)
+  pub waiting : (s t : State) (d : ℕ) (k : Call) (r : Reply) (c : ℕ) → IsOrderly s → StepsTo s (event.Call d k) r t
+      → (conn_at s c).accepted ≡ false → (conn_at t c ≡ conn_at s c) ⊎ ((conn_at t c).accepted ≡ true)
   -- what is accepted stays so
-  pub accepted : (s t : State) (d : ℕ) (k : Call) (r : Reply) (c : ℕ) → IsOrderly s → StepsTo s (event.Call d k) r t → (conn_at s c).accepted ≡ true → (conn_at t c).accepted ≡ true
-  -- what happens outside, to the connection that it names
-  pub arrive : (s t : State) (c : ℕ) (bytes : List ℕ) (r : Reply) → IsOrderly s → StepsTo s (event.Arrive c bytes) r t → Arrives s c bytes r t
-  pub transmit : (s t : State) (c max : ℕ) (r : Reply) → IsOrderly s → StepsTo s (event.Transmit c max) r t → Transmits s c r t
-  pub peer_closed : (s t : State) (c : ℕ) (how : How) (r : Reply) → IsOrderly s → StepsTo s (event.PeerClosed c how) r t → PeerCloses s c how r t
+  pub accepted : (s t : State) (d : ℕ) (k : Call) (r : Reply) (c : ℕ) → IsOrderly s → StepsTo s (event.Call d k) r t
+      → (conn_at s c).accepted ≡ true → (conn_at t c).accepted ≡ true
+  -- what happens outside, to the connection that it makes or names
+  pub connect : (s t : State) (p : ℕ) (r : Reply) → IsOrderly s → StepsTo s (event.ConnNew p) r t → MakesConn s p r t
+  pub arrive : (s t : State) (c : ℕ) (bytes : List ℕ) (r : Reply) → IsOrderly s → StepsTo s (event.Arrive c bytes) r t
+      → Arrives s c bytes r t
+  pub transmit : (s t : State) (c max : ℕ) (r : Reply) → IsOrderly s → StepsTo s (event.Transmit c max) r t
+      → Transmits s c r t
+  pub peer_closed : (s t : State) (c : ℕ) (how : How) (r : Reply) → IsOrderly s → StepsTo s (event.PeerClosed c how) r t
+      → PeerCloses s c how r t
+
+-- what is still to be read of a pipe stays where it is, and more may come behind it
+pub record StaysUnread (s : State) (p : ℕ) (t : State) : Type 0 where
+  pub more : Text
+  pub queue : (pipe_at t p).queue ≡ (pipe_at s p).queue ++ more
+  pub reading : (pipe_at t p).reading ≡ true
+
+-- what was written to a pipe goes from its front alone
+pub record GoesFromFront (s : State) (p : ℕ) (t : State) : Type 0 where
+  pub gone : Text
+  pub queue : (pipe_at s p).queue ≡ gone ++ (pipe_at t p).queue
+  pub writing : (pipe_at t p).writing ≡ true
+
+abbrev pub HasNotEnd : State → (d : ℕ) → Descriptor → Type 0
+HasNotEnd s d x = (fd : ℕ) → descriptor s d fd ≡ Some x → ⊥
+
+-- Calls of a domain that has not both ends of a pipe.
+pub record OthersLeavePipes : Type 0 where
+  -- one that has neither leaves it
+  pub pipe : (s t : State) (d : ℕ) (k : Call) (r : Reply) (p : ℕ) → StepsTo s (event.Call d k) r t
+      → HasNotEnd s d (on.ReadEnd p) → HasNotEnd s d (on.WriteEnd p)
+      → ((pipe_at s p).reading || (pipe_at s p).writing) ≡ true → pipe_at t p ≡ pipe_at s p
+  -- one that cannot read it takes nothing from it
+  pub unread : (s t : State) (d : ℕ) (k : Call) (r : Reply) (p : ℕ) → StepsTo s (event.Call d k) r t
+      → HasNotEnd s d (on.ReadEnd p) → (pipe_at s p).reading ≡ true → StaysUnread s p t
+  -- one that cannot write to it adds nothing
+  pub written : (s t : State) (d : ℕ) (k : Call) (r : Reply) (p : ℕ) → StepsTo s (event.Call d k) r t
+      → HasNotEnd s d (on.WriteEnd p) → (pipe_at s p).writing ≡ true → GoesFromFront s p t

@@ -1,18 +1,23 @@
 //! The laws. The functions do nothing; their contracts are the laws.
 ghost use Rattle.iol_laws.specs.Caller.{CallsServeTheirDomain, NumbersAreNew};
+ghost use Rattle.iol_laws.specs.CallerCopies.{CopyingCallsServeTheirDomain};
+ghost use Rattle.iol_laws.specs.CallerDomains.{DomainsAndPoolsComeAndGo};
+ghost use Rattle.iol_laws.specs.CallerFiles.{FileCallsServeTheirDomain};
 ghost use Rattle.iol_laws.specs.Frame.{EachStepLeavesTheRest};
 ghost use Rattle.iol_laws.specs.History.{HistoriesAddUp};
 ghost use Rattle.iol_laws.specs.Order.{EachStepKeepsOrder};
-ghost use Rattle.iol_laws.specs.Others.{OthersLeaveConnections};
+ghost use Rattle.iol_laws.specs.Others.{OthersLeaveConnections, OthersLeavePipes};
+ghost use Rattle.iol_laws.specs.Reasons.{RefusalsTellWhy};
 
-/// Each step leaves what its event does not touch: connections, pipes, descriptors, files, the lists of pools, and the
-/// aggregates that nobody gives up.
+/// Each step leaves what its event does not touch: connections, pipes, descriptors, files, pools and their lists, which domains
+/// live and where what they make lies, and the aggregates that nobody gives up.
 pub fn each_step_leaves_the_rest()
     ensures { EachStepLeavesTheRest }
 {}
 
 /// A new state is orderly, and each step keeps it so: each end of a pipe and each connection is open in one descriptor
-/// at most, what is open stands, and numbers that are still to come are not used yet.
+/// at most, what is open stands, and numbers that are still to come are not used yet. What domains have they may read, and
+/// positions are within files, from a new state on, too.
 pub fn each_step_keeps_order()
     ensures { EachStepKeepsOrder }
 {}
@@ -22,15 +27,44 @@ pub fn calls_serve_their_domain()
     ensures { CallsServeTheirDomain }
 {}
 
+/// What a call on a file does for the domain that makes it: which file is opened, what is read and written, and at which
+/// position; and which refusals may come.
+pub fn file_calls_serve_their_domain()
+    ensures { FileCallsServeTheirDomain }
+{}
+
+/// The calls that copy write and read what those on aggregates do, and leave all that their domain has under a number.
+pub fn copying_calls_serve_their_domain()
+    ensures { CopyingCallsServeTheirDomain }
+{}
+
+/// A new domain has nothing, and one that ends leaves nothing open; a new pool is read by just the domains that were named, and
+/// the pool that a domain sets is its default.
+pub fn domains_and_pools_come_and_go()
+    ensures { DomainsAndPoolsComeAndGo }
+{}
+
+/// Why a domain's read, write or `accept` of a queue is refused: nothing is there, as much waits as may, or nobody takes it. What
+/// is there is closed and dropped with no refusal.
+pub fn refusals_tell_why()
+    ensures { RefusalsTellWhy }
+{}
+
 /// The numbers that a domain is given by its calls are new ones, and what an aggregate's number names is there.
 pub fn numbers_are_new()
     ensures { NumbersAreNew }
 {}
 
 /// A connection that a domain neither has nor may accept is left by its calls; one that waits is left or accepted; and
-/// what happens outside changes what its event names.
+/// what happens outside makes or changes what its event names.
 pub fn others_leave_connections()
     ensures { OthersLeaveConnections }
+{}
+
+/// A pipe of which a domain has no end is left by its calls; one that cannot read it takes nothing from it, and one that cannot
+/// write to it adds nothing.
+pub fn others_leave_pipes()
+    ensures { OthersLeavePipes }
 {}
 
 /// What came in on each connection and what was sent on it, over a run's events and replies: what is unread is the end of

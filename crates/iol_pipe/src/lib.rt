@@ -16,7 +16,7 @@
 //! ```
 #![tactic(auto)]
 
-ghost use Rattle.std.specs.Prelude.{◌≡◌, ◌+◌, ◌-◌, ◌<◌, ◌≤◌, ◌↔◌, min, [], ◌∷◌, ◌++◌, length, map, take, drop, take_while, slice_index_or, IsTrue, IfOk, OnOk, OnErr};
+ghost use Rattle.std.specs.Prelude.{◌≡◌, ◌+◌, ◌-◌, ◌<◌, ◌≤◌, ◌↔◌, min, [], ◌∷◌, ◌++◌, length, map, take, drop, take_while, slice_index_or, IsTrue, IsOk, IfOk, OnOk, OnErr};
 ghost use Rattle.std.specs.VecDeque.{deque_len, deque_capacity};
 ghost use Rattle.std.specs.Vec.{vec_capacity};
 ghost use Rattle.iol_core.specs.declared.numbers.BufId.{BufId};
@@ -94,7 +94,7 @@ impl Pipe {
         Some(first.hold.pool())
     }
 
-    /// Takes in the longest prefix that fits, and tells how many bytes that was.
+    /// Takes in the longest prefix that fits, and tells how many bytes that was. No bytes want no memory.
     pub fn push(&mut self, store: &mut Store, from: &Agg) -> Result<u32, AllocError>
         requires covered { Covers store.old (bufs_of from.now) }
         requires countable { IsCountable store.old (bufs_of from.now) }
@@ -104,6 +104,7 @@ impl Pipe {
             take n (places from.now)) }
         ensures shares { OnOk result (Shares store.old store.new (bufs_of self.old)
             (bufs_of self.new)) }
+        ensures none { byte_len from.now ≡ 0 → IsOk result }
         ensures err { OnErr result (self.new ≡ self.old) }
         ensures err_store { OnErr result (store.new ≡ store.old) }
     {

@@ -4,8 +4,8 @@ ghost use Rattle.iol_core.specs.State.{is_live, descriptor};
 ghost use Rattle.iol_core.specs.Calls.Files.{open_on};
 ghost use Rattle.iol_core.specs.Calls.Reading as calls;
 ghost use Rattle.iol_kernel.specs.Copying.{Copies, ReadsOut};
-ghost use Rattle.iol_kernel.specs.FileReading.{held_by};
-ghost use Rattle.iol_kernel.specs.Kernel.{state_of, as_read, Serves};
+ghost use Rattle.iol_kernel.specs.FileReading.{file_read, held_by};
+ghost use Rattle.iol_kernel.specs.Kernel.{state_of, as_read, CopiesFileAs, Serves};
 ghost use Rattle.iol_kernel.specs.KernelState.{IsSound};
 ghost use Rattle.iol_kernel.specs.Readings.{Reading};
 ghost use Rattle.iol_posix.specs.Copying.{first_of};
@@ -39,6 +39,8 @@ pub fn read<B: Backing>(
     requires short { length into.old < 2 ^ 32 }
     ensures serves { Serves (λ s. calls.read s by fd (length into.old)) (B.disk backing.old) kernel.old
         (first_of into.new result) (B.disk backing.new) kernel.new }
+    ensures copies { Copies by fd (length into.old) (B.disk backing.old) (state_of kernel.old)
+        (first_of into.new result) (B.disk backing.new) (state_of kernel.new) }
     ensures len { length into.new ≡ length into.old }
     ensures rest { IfOk result (λ n. drop n into.new ≡ drop n into.old) }
     ensures err { OnErr result (into.new ≡ into.old) }
@@ -65,6 +67,8 @@ fn read_file<B: Backing>(
         (Descriptor.File found.file found.at found.mode) }
     ensures serves { Serves (λ s. calls.read s by fd (length into.old)) (B.disk backing.old) kernel.old
         (first_of into.new result) (B.disk backing.new) kernel.new }
+    ensures copies { CopiesFileAs (file_read by fd found.file found.at found.mode (length into.old))
+        (B.disk backing.old) kernel.old (first_of into.new result) (B.disk backing.new) kernel.new }
     ensures len { length into.new ≡ length into.old }
     ensures rest { IfOk result (λ n. drop n into.new ≡ drop n into.old) }
     ensures err { OnErr result (into.new ≡ into.old) }

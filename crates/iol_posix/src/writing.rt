@@ -1,11 +1,13 @@
 //! Writing by copying.
-ghost use Rattle.std.specs.Prelude.{◌≡◌, ℕ, true, false, Err, OnOk};
+ghost use Rattle.std.specs.Prelude.{◌≡◌, ◌⊎◌, ℕ, length, true, false, Err, IfErr, OnOk};
+ghost use Rattle.iol_core.specs.Meaning.{WantOfRoom};
 ghost use Rattle.iol_core.specs.State.{descriptor};
 ghost use Rattle.iol_core.specs.Calls.Writing as calls;
 ghost use Rattle.iol_back.specs.Disk.{Disk};
 ghost use Rattle.iol_kernel.specs.Kernel.{state_of, machine, Places, Serves};
 ghost use Rattle.iol_kernel.specs.KernelState.{IsSound};
 ghost use Rattle.iol_kernel.specs.MakingRoom.{can_fit};
+ghost use Rattle.iol_kernel.specs.WritingFiles.{PutsOn};
 
 use iol_core::numbers::{DomainId, Fd};
 use iol_core::refusals::Refusal;
@@ -27,6 +29,11 @@ pub fn write(kernel: &mut Kernel, by: DomainId, fd: Fd, bytes: &[u8]) -> Result<
     ensures no_room { (p : ℕ) → result ≡ Err (Refusal.NoRoom p) → can_fit (state_of kernel.old)
         (calls.pool_for (machine kernel.old) by (descriptor (machine kernel.old) by fd))
         (calls.write (machine kernel.old) by fd bytes.now).answer ≡ false }
+    ensures refused { IfErr result (λ x. (state_of kernel.new ≡ state_of kernel.old) ⊎ WantOfRoom
+        (calls.pool_for (machine kernel.old) by (descriptor (machine kernel.old) by fd)) x) }
+    ensures puts { PutsOn (descriptor (machine kernel.old) by fd) (calls.pool_for (machine kernel.old)
+        by (descriptor (machine kernel.old) by fd)) (length bytes.now) (state_of kernel.old) result
+        (state_of kernel.new) }
 {
     kernel.write_bytes(by, fd, bytes)
 }

@@ -1,3 +1,4 @@
+pub mod Borrowing
 pub mod Chained
 pub mod Copied
 pub mod InRounds

@@ -22,7 +22,7 @@ same_length xs ys e = sym (length-map xs (λ s. s.by)) ∙ (ap length e ∙ leng
 
 module _ {M P : Type 0} (machine : Machine M) (turns : Account P) where
   -- one step more
-  run_more : (w : Stage M P) (cs : List Choice) (rs : List Reply) (mid : Stage M P) (c : Choice) (r : Reply) (after : Stage M P) → WorldRun machine turns w cs rs mid → WorldStep machine turns mid c r after → WorldRun machine turns w (cs ++ c ∷ []) (rs ++ r ∷ []) after
+  pub run_more : (w : Stage M P) (cs : List Choice) (rs : List Reply) (mid : Stage M P) (c : Choice) (r : Reply) (after : Stage M P) → WorldRun machine turns w cs rs mid → WorldStep machine turns mid c r after → WorldRun machine turns w (cs ++ c ∷ []) (rs ++ r ∷ []) after
   run_more w [] [] mid c r after ran step = (after, subst (λ (v : Stage M P). WorldStep machine turns v c r after) ran step, refl)
   run_more w (d ∷ ds) (s ∷ ss) mid c r after ran step = (ran.0, ran.1, run_more ran.0 ds ss mid c r after ran.2 step)
   run_more w [] (s ∷ ss) mid c r after ran step = absurd ran

@@ -1,3 +1,4 @@
+pub mod Borrowed
 pub mod Idle
 pub mod Laws
 pub mod Lent

@@ -10,6 +10,7 @@
 //!     let idle = world.until_idle(65536);
 #![tactic(auto)]
 
+mod borrowed;
 pub mod choice;
 pub mod look;
 pub mod process;

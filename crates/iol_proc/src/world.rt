@@ -2,7 +2,10 @@
 ghost use Rattle.std.specs.Prelude.{◌≡◌, ◌≢◌, ◌<◌, length, map, IfOk, OnErr, IfSome, MatchOption, All, slice_get, false, nat_eq};
 ghost use Rattle.std.specs.List.{IsDistinct};
 ghost use Rattle.std.specs.List.Sorted.{IsPermutation};
+ghost use Rattle.iol_arena.specs.Buffers.{SharesNoPage, live_pages};
 ghost use Rattle.iol_back.specs.Disk.{IfHonest};
+ghost use Rattle.iol_cache.specs.Cached.{extents_in_all, dirty_in_all};
+ghost use Rattle.iol_kernel.specs.Report.{reports_of};
 ghost use Rattle.iol_proc.specs.Idle.{Idles};
 ghost use Rattle.iol_proc.specs.Laws.{HasEvents};
 ghost use Rattle.iol_proc.specs.Looks.{lent};
@@ -20,6 +23,7 @@ use iol_back::backing::Backing;
 use iol_core::events::{Event, Reply};
 use iol_core::numbers::DomainId;
 use iol_core::refusals::Refusal;
+use iol_kernel::report::Report;
 use iol_system::system::System;
 use std::alloc::{AllocError, Global};
 use std::marker::Model;
@@ -28,7 +32,7 @@ use std::marker::Model;
 #[derive(Drop)]
 pub struct World<B: Backing, P: Process> {
     alloc: Global,
-    system: System<B>,
+    pub(crate) system: System<B>,
     seats: Vec<Seat<P>>,
     rough: bool,
 
@@ -187,6 +191,21 @@ impl<B: Backing + Drop, P: Process> World<B, P> {
             &mut self.yields,
             turns,
         )
+    }
+
+    /// What lies in the system, counted, as [`System::report`] counts it. It changes nothing.
+    pub fn report(&self) -> Result<Report, AllocError>
+        ensures pools { let store = self.now.machine.kernel.store in IfOk result
+            (λ r. r.pools.items ≡ reports_of store (length store.pools)) }
+        ensures buffers { IfOk result
+            (λ r. r.buffers ≡ length (live_pages self.now.machine.kernel.store.arena)) }
+        ensures extents { IfOk result
+            (λ r. r.extents ≡ extents_in_all self.now.machine.kernel.cache.files) }
+        ensures dirty { IfOk result
+            (λ r. r.dirty ≡ dirty_in_all self.now.machine.kernel.cache.files) }
+        ensures alone { SharesNoPage self.now.machine.kernel.store.arena }
+    {
+        self.system.report()
     }
 
     /// Whether a turn was answered TooMany, NoRoom, Fault or Memory.

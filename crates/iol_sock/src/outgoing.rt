@@ -1,5 +1,5 @@
 //! What is to be sent, and what is sent of it.
-ghost use Rattle.std.specs.Prelude.{◌≡◌, ℕ, ◌+◌, ◌≤◌, ◌++◌, length, take, drop, true, false, Some, Err, IfOk, IfErr, OnOk, OnErr};
+ghost use Rattle.std.specs.Prelude.{◌≡◌, ◌≢◌, ℕ, ◌+◌, ◌≤◌, ◌++◌, length, take, drop, true, false, Some, Err, IfOk, IfErr, OnOk, OnErr};
 ghost use Rattle.std.specs.Vec.{vec_len, vec_capacity};
 ghost use Rattle.iol_core.specs.Checksum.{checksum as checksum_of};
 ghost use Rattle.iol_core.specs.Meaning.{first, WantOfMemory, WantOfRoom};
@@ -53,7 +53,8 @@ impl Connection {
 
     /// Bytes are to be sent, as many as fit: how many is the answer. They are shared, and the aggregate stays.
     ///
-    /// `BrokenPipe` where the peer is gone, `WouldBlock` where bytes are offered and none fits, then `Memory`.
+    /// `BrokenPipe` where the peer is gone, `WouldBlock` where bytes are offered and none fits, then `Memory`. No bytes want
+    /// no memory.
     pub fn queue(&mut self, store: &mut Store, from: &Agg) -> Result<u32, Refusal>
         requires covered { Covers store.old (bufs_of from.now) }
         requires countable { IsCountable store.old (bufs_of from.now) }
@@ -66,6 +67,7 @@ impl Connection {
         ensures others { self.new ≡ record self.old { outgoing = self.new.outgoing } }
         ensures shares { OnOk result (Shares store.old store.new
             (bufs_of self.old.outgoing) (bufs_of self.new.outgoing)) }
+        ensures none { byte_len from.now ≡ 0 → result ≢ Err Refusal.Memory }
         ensures err { OnErr result (self.new ≡ self.old) }
         ensures err_store { OnErr result (store.new ≡ store.old) }
     {

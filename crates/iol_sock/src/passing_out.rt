@@ -57,6 +57,7 @@ impl Connections {
         ensures shares { OnOk result (Shares store.old store.new
             (bufs_of (conn_in self.old.conns c).outgoing)
             (bufs_of (conn_in self.new.conns c).outgoing)) }
+        ensures none { byte_len from.now ≡ 0 → result ≢ Err Refusal.Memory }
         ensures err { OnErr result (self.new ≡ self.old) }
         ensures err_store { OnErr result (store.new ≡ store.old) }
     {

@@ -11,6 +11,7 @@ use Rattle.iol_core.specs.declared.refusals.Refusal.{Refusal}
 use Rattle.iol_core.specs.declared.refusals.Refusal.TheVariants.{NoRoom}
 use Rattle.iol_core.specs.declared.events.Event.{Event}
 use Rattle.iol_core.specs.declared.events.Reply.{Reply}
+use Rattle.iol_core.specs.declared.events.Reply.TheVariants as reply
 use Rattle.iol_hold.specs.Pages.{KeepsPages}
 use Rattle.iol_kernel.specs.Backed.{IsBackedBy, LooksUp, Serves, StepsBeside, with_slots}
 use Rattle.iol_kernel.specs.Calls.{CarriesOut, KeepsPlaces, Names}
@@ -18,14 +19,16 @@ use Rattle.iol_kernel.specs.KernelState.{KernelState, IsSound, layout_of, machin
 use Rattle.iol_kernel.proofs.Carried.{carried_machine, carried_layout}
 use Rattle.iol_kernel.proofs.Serving.{backed_stays, steps_beside}
 use Rattle.iol_kernel.proofs.Stay.{pages_equal, stays_equal}
-use Rattle.iol_system.specs.Asking.{asks_store, uses_cache}
+use Rattle.iol_system.specs.Asking.{asks_store, makes_file, uses_cache}
 use Rattle.iol_system.specs.Doing.{Does}
 use Rattle.iol_system.specs.Machine.{SystemState, system_of, tables_of}
 use Rattle.iol_system.specs.Placed.{Creates, Publishes}
 use Rattle.iol_system.specs.Remembered.{Remembers}
 use Rattle.iol_system.specs.Replies.{told}
-use Rattle.iol_system.specs.Room.{HasRoomFor, LacksRoomFor, IsDone, IsNoRoom, IsRefused}
+use Rattle.iol_system.specs.Room.{HasRoomFor, LacksRoomFor, IsDone, IsEarly, IsNoRoom, IsRefused}
+use Rattle.iol_system.proofs.InPlace.{cache_in_place, cover_in_place, shares_file, shares_none}
 use Rattle.iol_system.proofs.Paged.{carried_pages}
+use Rattle.iol_system.proofs.WrittenBack.{none_back, writes_back}
 
 -- a reply that says an answer is no refusal
 pub record Tells {A : Type 0} (f : A → Reply) : Type 0 where
@@ -53,8 +56,18 @@ pub refused_told : {A : Type 0} (f : A → Reply) (r : Result A Refusal) (X : Ty
 refused_told f (Ok a) X tells err is = absurd (tells.unrefused a is)
 refused_told f (Err x) X tells err is = err
 
--- An event that wants no room, makes no buffer and no pool, and sends nothing; and that does not ask the store.
+-- what is refused early is refused
+pub early_refused : (x : Reply) → IsEarly x → IsRefused x
+early_refused (reply.Refused x) is = tt
+early_refused r is = is
+
+pub early_told : {A : Type 0} (f : A → Reply) (r : Result A Refusal) (X : Type 0) → Tells f → OnErr r X → IsEarly (told f r) → X
+early_told f r X tells err is = refused_told f r X tells err (early_refused (told f r) is)
+
+-- An event that wants no room, makes no buffer and no pool, and sends nothing; and that does not ask the store, nor drop anything.
 pub record IsPlain (e : Event) : Type 0 where
+  pub unwritten : writes_back e ≡ false
+  pub unlent : shares_file e ≡ false
   pub asks : (s : State) → asks_store s e ≡ false
   pub has : (s : SystemState) → HasRoomFor s e
   pub publishes : (old new : KernelState) → KeepsPages old.store new.store [] → Publishes old e new
@@ -71,14 +84,21 @@ module _ {A : Type 0} (f : A → Reply) (m : State → Meaning A) (e : Event) (d
     honest = refl;
     unasked = λ not'. refl;
     faults = λ asked. absurd (true≢false (sym asked ∙ plain.asks (tables_of old)));
+    slots = λ honest back. refl;
+    asked = λ asks fault. plain.has (system_of old disk);
+    early = λ is. (early_told f r (new ≡ old) tells c.refused is, refl);
     room = λ done. plain.has (system_of old disk);
     no_room = λ is. absurd (no_room_told f r tells c.roomy is);
     refused = λ unused is. refused_told f r (new ≡ old) tells c.refused is;
+    uncached = λ unused other. c.cache;
     shares = λ shared. means (layout_of old) (layout_of new) r (carried_layout m old new r c);
     pages = λ shared. c.arena;
+    in_place = cache_in_place disk old new e c.cache;
+    shares_file = λ done. shares_none (system_of old disk) new e plain.unlent;
     publishes = λ done. plain.publishes old new (carried_pages m old new r c);
     creates = plain.creates old (told f r) new;
     sums = plain.sums old (told f r) new c.sums;
+    written_back = none_back disk old (told f r) disk new e plain.unwritten;
     sound = c.sound;
     stays = c.stays;
   }
@@ -92,14 +112,21 @@ module _ {A : Type 0} (f : A → Reply) (m : State → Meaning A) (e : Event) (d
     honest = refl;
     unasked = λ not'. refl;
     faults = λ asked. absurd (true≢false (sym asked ∙ plain.asks (tables_of old)));
+    slots = λ honest back. refl;
+    asked = λ asks fault. plain.has (system_of old disk);
+    early = λ is. (early_told f r (new ≡ old) tells c.refused is, refl);
     room = λ done. plain.has (system_of old disk);
     no_room = λ is. absurd (no_room_told f r tells roomy is);
     refused = λ unused is. refused_told f r (new ≡ old) tells c.refused is;
+    uncached = λ unused other. c.cache;
     shares = λ shared. absurd (true≢false (sym shared ∙ unshared (tables_of old)));
     pages = λ shared. absurd (true≢false (sym shared ∙ unshared (tables_of old)));
+    in_place = cache_in_place disk old new e c.cache;
+    shares_file = λ done. shares_none (system_of old disk) new e plain.unlent;
     publishes = λ done. plain.publishes old new c.pages;
     creates = plain.creates old (told f r) new;
     sums = plain.sums old (told f r) new c.sums;
+    written_back = none_back disk old (told f r) disk new e plain.unwritten;
     sound = c.sound;
     stays = c.stays;
   }
@@ -113,35 +140,49 @@ module _ {A : Type 0} (f : A → Reply) (m : State → Meaning A) (e : Event) (d
     honest = refl;
     unasked = λ not'. refl;
     faults = λ asked. absurd (true≢false (sym asked ∙ plain.asks (tables_of old)));
+    slots = λ honest back. refl;
+    asked = λ asks fault. plain.has (system_of old disk);
+    early = λ is. (early_told f r (new ≡ old) tells c.refused is, refl);
     room = λ done. plain.has (system_of old disk);
     no_room = λ is. absurd (no_room_told f r tells c.roomy is);
     refused = λ unused is. refused_told f r (new ≡ old) tells c.refused is;
+    uncached = λ unused other. c.cache;
     shares = λ shared. absurd (true≢false (sym shared ∙ unshared (tables_of old)));
     pages = λ shared. absurd (true≢false (sym shared ∙ unshared (tables_of old)));
+    in_place = cache_in_place disk old new e c.cache;
+    shares_file = λ done. shares_none (system_of old disk) new e plain.unlent;
     publishes = λ done. plain.publishes old new (pages_equal old.store new.store c.store);
     creates = plain.creates old (told f r) new;
     sums = plain.sums old (told f r) new c.serves.sums;
+    written_back = none_back disk old (told f r) disk new e plain.unwritten;
     sound = c.serves.sound;
     stays = c.serves.stays;
   }
 
   -- one that names a file
-  pub names_does : ((s : State) → is_sharing s e ≡ false) → Names disk m old r new → Does disk old e (told f r) disk new
-  names_does unshared c = record {
+  pub names_does : ((s : State) → is_sharing s e ≡ false) → makes_file e ≡ true → Names disk m old r new → Does disk old e (told f r) disk new
+  names_does unshared made c = record {
     step = λ backed placed. means (machine_of disk.slots old) (machine_of disk.slots new) r (c.step backed.honest);
     backed = c.backed;
     beside = told_beside f m e old new r means c.beside;
     honest = refl;
     unasked = λ not'. refl;
     faults = λ asked. absurd (true≢false (sym asked ∙ plain.asks (tables_of old)));
+    slots = λ honest back. refl;
+    asked = λ asks fault. plain.has (system_of old disk);
+    early = λ is. (early_told f r (new ≡ old) tells c.refused is, refl);
     room = λ done. plain.has (system_of old disk);
     no_room = λ is. absurd (no_room_told f r tells c.roomy is);
     refused = λ unused is. refused_told f r (new ≡ old) tells c.refused is;
+    uncached = λ unused other. absurd (true≢false (sym made ∙ other));
     shares = λ shared. absurd (true≢false (sym shared ∙ unshared (tables_of old)));
     pages = λ shared. absurd (true≢false (sym shared ∙ unshared (tables_of old)));
+    in_place = cover_in_place disk old new e c.keeps;
+    shares_file = λ done. shares_none (system_of old disk) new e plain.unlent;
     publishes = λ done. plain.publishes old new (pages_equal old.store new.store c.store);
     creates = plain.creates old (told f r) new;
     sums = plain.sums old (told f r) new c.sums;
+    written_back = none_back disk old (told f r) disk new e plain.unwritten;
     sound = c.sound;
     stays = stays_equal old.store new.store c.store;
   }

@@ -1,9 +1,12 @@
 pub mod Chains
 pub mod Safe
 pub mod Beside
+pub mod Orderly
 pub mod Used
 pub mod Paged
 pub mod Empty
 pub mod Served
 pub mod Doing
 pub mod FileDoing
+pub mod WrittenBack
+pub mod InPlace

@@ -70,14 +70,25 @@ module _ (old new : SystemState) (e : Event) (r : Reply) (safe : IsSafe old) (do
     honest = does.honest;
     unasked = does.unasked;
     faults = does.faults;
+    slots = does.slots;
+    asked = does.asked;
     room = does.room;
     no_room = does.no_room;
+    early = λ is. (let same = does.early is in ap (λ (d : Disk). system_of new.kernel d) same.1 ∙ ap (λ (h : KernelState). system_of h old.disk) same.0);
+    uncached = does.uncached;
     refused = λ unused was. ap (λ (d : Disk). system_of new.kernel d) (untouched unused was) ∙ ap (λ (h : KernelState). system_of h old.disk) (does.refused unused was);
     shares = does.shares;
     pages = does.pages;
+    in_place = does.in_place;
+    shares_file = does.shares_file;
     publishes = does.publishes;
     creates = does.creates;
     sums = does.sums;
+    synced = does.written_back.synced;
+    kept = λ honest. does.written_back.kept (does.backed (safe.backed honest));
+    flushed = does.written_back.flushed;
+    dropped = does.written_back.dropped;
+    stores_back = does.written_back.stores_back;
     safe = record {
       sound = does.sound;
       access = access_beside old.kernel new.kernel e r old.disk.slots new.disk.slots does.beside safe.access;

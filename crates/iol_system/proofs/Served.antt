@@ -67,6 +67,12 @@ arrived_comes h k disk c left after (Ok a) safe read = record {
 }
 arrived_comes h k disk c left after (Err x) safe read = read
 
+-- nothing came in, and the machine is as it was
+pub refused_stays : (h k : KernelState) (disk : Disk) (pool n : ℕ) (r : Result Arrived Refusal) → IsSafe (system_of h disk) → IfErr r (MayHaveEvicted pool n h k) → IfHonest disk (OnErr r (machine_of (system_of k disk) ≡ machine_of (system_of h disk)))
+refused_stays h k disk pool n (Ok a) safe err = λ honest. tt
+refused_stays h k disk pool n (Err x) safe (inl same) = λ honest. ap (λ (l : KernelState). held.machine_of disk.slots l) same
+refused_stays h k disk pool n (Err x) safe (inr late) = λ honest. late.1.same.files disk (safe.backed honest)
+
 -- Bytes that were sent.
 
 sent_access : (c n : ℕ) (s : State) → HasAccess s → HasAccess (sent_on c n s)

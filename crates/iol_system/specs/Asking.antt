@@ -28,3 +28,14 @@ uses_cache s (event.Arrive c bytes) = true
 uses_cache s event.Flush = true
 uses_cache s event.DropClean = true
 uses_cache s e = false
+
+-- whether the event writes back to the store
+abbrev pub writes_store : Event → Bool
+writes_store (event.Call by (call.Fsync fd)) = true
+writes_store event.Flush = true
+writes_store e = false
+
+-- whether the event makes a file
+abbrev pub makes_file : Event → Bool
+makes_file (event.Call by (call.FileNew name p)) = true
+makes_file e = false

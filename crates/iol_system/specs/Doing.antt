@@ -1,6 +1,6 @@
 -- What an event does to what a system's calls work on, over a store: all that its promises are made of.
 use Rattle.std.specs.Prelude.{◌≡◌, true, false}
-use Rattle.iol_back.specs.Disk.{Disk}
+use Rattle.iol_back.specs.Disk.{Disk, IfHonest}
 use Rattle.iol_cache.specs.Serving.{FaultCounts}
 use Rattle.iol_core.specs.Positions.{ArePlaced}
 use Rattle.iol_core.specs.Run.{meaning, outcome, StepsTo}
@@ -10,11 +10,13 @@ use Rattle.iol_core.specs.declared.events.Reply.{Reply}
 use Rattle.iol_hold.specs.Moves.{Stays}
 use Rattle.iol_kernel.specs.Backed.{IsBackedBy, StepsBeside}
 use Rattle.iol_kernel.specs.KernelState.{KernelState, layout_of, machine_of, IsSound}
-use Rattle.iol_system.specs.Asking.{asks_store, uses_cache}
+use Rattle.iol_system.specs.Asking.{asks_store, makes_file, uses_cache, writes_store}
+use Rattle.iol_system.specs.InPlace.{KeepsInPlace, SharesFile}
 use Rattle.iol_system.specs.Machine.{system_of, tables_of}
 use Rattle.iol_system.specs.Placed.{Creates, Publishes}
 use Rattle.iol_system.specs.Remembered.{Remembers}
-use Rattle.iol_system.specs.Room.{HasRoomFor, LacksRoomFor, IsDone, IsNoRoom, IsRefused}
+use Rattle.iol_system.specs.Room.{HasRoomFor, LacksRoomFor, IsDone, IsEarly, IsFault, IsNoRoom, IsRefused}
+use Rattle.iol_system.specs.WrittenBack.{WritesBack}
 
 -- With a store that has the same bytes as memory where nothing was written, and positions within files, it is the machine's
 -- step; and then the store has them again. The other clauses hold over any store.
@@ -25,13 +27,20 @@ pub record Does (disk : Disk) (old : KernelState) (e : Event) (r : Reply) (after
   pub honest : after.honest ≡ disk.honest
   pub unasked : asks_store (tables_of old) e ≡ false → after ≡ disk
   pub faults : asks_store (tables_of old) e ≡ true → FaultCounts disk after (outcome r)
+  pub slots : IfHonest disk (writes_store e ≡ false → after.slots ≡ disk.slots)
+  pub asked : asks_store (tables_of old) e ≡ true → IsFault r → HasRoomFor (system_of old disk) e
   pub room : IsDone r → HasRoomFor (system_of old disk) e
   pub no_room : IsNoRoom r → LacksRoomFor (system_of old disk) e
+  pub early : IsEarly r → (new ≡ old) × (after ≡ disk)
   pub refused : uses_cache (tables_of old) e ≡ false → IsRefused r → new ≡ old
+  pub uncached : uses_cache (tables_of old) e ≡ false → makes_file e ≡ false → new.cache ≡ old.cache
   pub shares : is_sharing (tables_of old) e ≡ true → LaysOut (layout_of old) e r (layout_of new)
   pub pages : is_sharing (tables_of old) e ≡ true → new.store.arena ≡ old.store.arena
+  pub in_place : KeepsInPlace (system_of old disk) e new
+  pub shares_file : IsDone r → SharesFile (system_of old disk) e new
   pub publishes : IsDone r → Publishes old e new
   pub creates : Creates old e r new
   pub sums : Remembers old e r new
+  pub written_back : WritesBack disk old e r after new
   pub sound : IsSound new
   pub stays : Stays old.store new.store

@@ -9,6 +9,7 @@ use Rattle.iol_arena.specs.State.{chunk_count}
 use Rattle.iol_hold.specs.Moves.{Stays}
 use Rattle.iol_back.specs.Disk.{IfHonest}
 use Rattle.iol_kernel.specs.KernelState.{layout_of}
+use Rattle.iol_laws.specs.Order.{IsOrderly}
 use Rattle.iol_system.specs.Machine.{SystemState, machine_of, tables_of}
 use Rattle.iol_system.specs.Promises.{Promises, Chain}
 use Rattle.iol_system.specs.Safe.{IsSafe}
@@ -51,6 +52,10 @@ EachEventIsAStep = (old new : SystemState) (past : List Event) (e : Event) (futu
 -- a run from a safe system ends in one; by the law on parts the system is safe at each moment
 abbrev pub RunsStaySafe : Type 0
 RunsStaySafe = (old new : SystemState) (es : List Event) (rs : List Reply) → Chain old es rs new → IsSafe old → IsSafe new
+
+-- a run from a machine that is orderly ends in one, over any store; a new one is orderly (`iol_laws`, `each_step_keeps_order`)
+abbrev pub RunsStayOrderly : Type 0
+RunsStayOrderly = (old new : SystemState) (es : List Event) (rs : List Reply) → Chain old es rs new → IsOrderly (machine_of old) → IsOrderly (machine_of new)
 
 -- a store is after a run as honest as before
 abbrev pub RunsKeepHonesty : Type 0

@@ -11,3 +11,5 @@ pub mod Uses
 pub mod Values
 pub mod Asking
 pub mod Doing
+pub mod WrittenBack
+pub mod InPlace

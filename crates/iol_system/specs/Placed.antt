@@ -33,18 +33,13 @@ abbrev pub FillsForFile : KernelState → Option Descriptor → KernelState → 
 FillsForFile old (Some (on.File f at mode)) new = FillsLowest (pool_of_file old f) old.store new.store
 FillsForFile old o new = KeepsPages old.store new.store []
 
--- So does `write`, which to anything else makes them in the writer's pool. Of a file it is not said here on which pages.
-abbrev pub FillsForWrite : (by fd : ℕ) → (bytes : List ℕ) → KernelState → Option Descriptor → KernelState → Type 0
-FillsForWrite by fd bytes old (Some (on.File f at mode)) new = ⊤
-FillsForWrite by fd bytes old o new = Fills (pool_for (tables_of old) by o) (write (tables_of old) by fd bytes).answer old new
-
--- `agg_make` makes buffers in the caller's default pool
+-- `agg_make` makes buffers in the caller's default pool, and `write` in that of a file, or to anything else in the caller's
 abbrev pub CallPublishes : KernelState → (by : ℕ) → Call → KernelState → Type 0
 CallPublishes old by (call.AggMake bytes) new = Fills (default_pool (tables_of old) by) (length bytes) old new
 CallPublishes old by (call.IolRead fd n) new = FillsForFile old (held_by (tables_of old) by fd) new
 CallPublishes old by (call.IolWrite fd a) new = FillsForFile old (descriptor (tables_of old) by fd) new
 CallPublishes old by (call.Read fd n) new = FillsForFile old (held_by (tables_of old) by fd) new
-CallPublishes old by (call.Write fd bytes) new = FillsForWrite by fd bytes old (descriptor (tables_of old) by fd) new
+CallPublishes old by (call.Write fd bytes) new = Fills (pool_for (tables_of old) by (descriptor (tables_of old) by fd)) (write (tables_of old) by fd bytes).answer old new
 CallPublishes old by c new = KeepsPages old.store new.store []
 
 -- so do bytes that arrive in the connection's pool, as many as are taken

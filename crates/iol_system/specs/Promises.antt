@@ -13,34 +13,51 @@ use Rattle.iol_core.specs.declared.events.Reply.{Reply}
 use Rattle.iol_hold.specs.Moves.{Stays}
 use Rattle.iol_kernel.specs.Backed.{StepsBeside}
 use Rattle.iol_kernel.specs.KernelState.{layout_of}
-use Rattle.iol_system.specs.Asking.{asks_store, uses_cache}
+use Rattle.iol_system.specs.Asking.{asks_store, makes_file, uses_cache, writes_store}
+use Rattle.iol_system.specs.InPlace.{KeepsInPlace, SharesFile}
 use Rattle.iol_system.specs.Machine.{SystemState, machine_of, tables_of}
 use Rattle.iol_system.specs.Placed.{Creates, Publishes}
 use Rattle.iol_system.specs.Remembered.{Remembers}
-use Rattle.iol_system.specs.Room.{HasRoomFor, LacksRoomFor, IsDone, IsNoRoom, IsRefused}
+use Rattle.iol_system.specs.Room.{HasRoomFor, LacksRoomFor, IsDone, IsEarly, IsFault, IsNoRoom, IsRefused}
 use Rattle.iol_system.specs.Safe.{IsSafe}
+use Rattle.iol_system.specs.WrittenBack.{IsDropped, IsFlushed, IsKept, IsSynced, StoresBack}
 
 -- From old to new, by this event with this reply. Over an honest store it is the copying machine's step; over any store it is
 -- that but for the bytes of files, and a store stays as honest as it was. A store is asked by calls on files alone, and
--- a fault is answered just where it failed once more. NoRoom is answered exactly where there is no room. A refusal changes nothing
--- at all, but that clean parts of files may be gone from memory where the event works on these. What a sharing call
--- hands on lies where it lay, and no page is published or freed; calls that make buffers do so on the lowest free pages, each of
+-- a fault is answered just where it failed once more, and only where there is room. What an honest store has changes where something
+-- is written back alone. NoRoom is answered exactly where there is no room. A refusal changes nothing at all; but where the event works on
+-- what memory has of files, one for want of room or of memory or by a fault may leave clean parts of these gone. Other events leave what
+-- memory has of files, but that a new file has nothing there. What a sharing call
+-- hands on lies where it lay, and no page is published or freed; bytes of files in memory lie where they lay, but those that are
+-- written and clean ones that give way, and calls on files share them; calls that make buffers do so on the lowest free pages, each of
 -- which is raised by one, and no others do; an open pool keeps its chunks, and a new one has the lowest free; sending
--- remembers the sums of what is sent; new is safe again; live buffers keep their bytes, and aggregates their values.
+-- remembers the sums of what is sent; after `fsync` an honest store has the file, and nothing of it is dirty, `flush` leaves one
+-- dirty extent fewer, and `drop_clean` no clean one; new is safe again; live buffers keep their bytes, and aggregates their values.
 pub record Promises (old : SystemState) (e : Event) (r : Reply) (new : SystemState) : Type 0 where
   pub step : IfHonest old.disk (StepsTo (machine_of old) e r (machine_of new))
   pub beside : StepsBeside (λ s. meaning s e) old.kernel (outcome r) new.kernel
   pub honest : new.disk.honest ≡ old.disk.honest
   pub unasked : asks_store (tables_of old.kernel) e ≡ false → new.disk ≡ old.disk
   pub faults : asks_store (tables_of old.kernel) e ≡ true → FaultCounts old.disk new.disk (outcome r)
+  pub slots : IfHonest old.disk (writes_store e ≡ false → new.disk.slots ≡ old.disk.slots)
+  pub asked : asks_store (tables_of old.kernel) e ≡ true → IsFault r → HasRoomFor old e
   pub room : IsDone r → HasRoomFor old e
   pub no_room : IsNoRoom r → LacksRoomFor old e
+  pub early : IsEarly r → new ≡ old
   pub refused : uses_cache (tables_of old.kernel) e ≡ false → IsRefused r → new ≡ old
+  pub uncached : uses_cache (tables_of old.kernel) e ≡ false → makes_file e ≡ false → new.kernel.cache ≡ old.kernel.cache
   pub shares : is_sharing (tables_of old.kernel) e ≡ true → LaysOut (layout_of old.kernel) e r (layout_of new.kernel)
   pub pages : is_sharing (tables_of old.kernel) e ≡ true → new.kernel.store.arena ≡ old.kernel.store.arena
+  pub in_place : KeepsInPlace old e new.kernel
+  pub shares_file : IsDone r → SharesFile old e new.kernel
   pub publishes : IsDone r → Publishes old.kernel e new.kernel
   pub creates : Creates old.kernel e r new.kernel
   pub sums : Remembers old.kernel e r new.kernel
+  pub synced : IsDone r → IsSynced old.kernel e new.kernel
+  pub kept : IfHonest old.disk (IsDone r → IsKept old.kernel e new)
+  pub flushed : IsDone r → IsFlushed old.kernel e new.kernel
+  pub dropped : IsDropped e new.kernel
+  pub stores_back : StoresBack old.disk old.kernel e r new.disk new.kernel
   pub safe : IsSafe new
   pub stays : Stays old.kernel.store new.kernel.store
   pub values : ValuesStay (machine_of old) e (machine_of new)

@@ -12,7 +12,7 @@ use Rattle.iol_core.specs.declared.events.Event.{Event}
 use Rattle.iol_core.specs.declared.events.Event.TheVariants as event
 use Rattle.iol_core.specs.declared.events.Reply.{Reply}
 use Rattle.iol_core.specs.declared.events.Reply.TheVariants as reply
-use Rattle.iol_core.specs.declared.refusals.Refusal.TheVariants.{NoRoom}
+use Rattle.iol_core.specs.declared.refusals.Refusal.TheVariants.{NoRoom, Fault, Memory}
 use Rattle.iol_arena.specs.Chunks.{free_chunks}
 use Rattle.iol_cache.specs.Serving.{RoomToRead, NoRoomToRead}
 use Rattle.iol_kernel.specs.Backed.{holding_of}
@@ -85,3 +85,15 @@ IsRefused r = ⊥
 abbrev pub IsNoRoom : Reply → Type 0
 IsNoRoom (reply.Refused (NoRoom p)) = Unit {0}
 IsNoRoom r = ⊥
+
+abbrev pub IsFault : Reply → Type 0
+IsFault (reply.Refused (Fault f)) = Unit {0}
+IsFault r = ⊥
+
+-- refused, and neither for want of room or of memory, nor since the store failed
+abbrev pub IsEarly : Reply → Type 0
+IsEarly (reply.Refused (NoRoom p)) = ⊥
+IsEarly (reply.Refused (Fault f)) = ⊥
+IsEarly (reply.Refused Memory) = ⊥
+IsEarly (reply.Refused x) = Unit {0}
+IsEarly r = ⊥

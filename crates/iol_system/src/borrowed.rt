@@ -1,6 +1,7 @@
 //! Connections that are served from outside in place, from readers and to writers.
 ghost use Rattle.std.specs.Prelude.{◌≡◌, ℕ, ◌<◌, ◌≤◌, ◌-◌, length, min, take, true, false, Err, IfOk, IfErr, OnOk, OnErr};
 ghost use Rattle.std.specs.Io.KnownBytes.{Appends, IsAtEnd};
+ghost use Rattle.iol_back.specs.Disk.{IfHonest};
 ghost use Rattle.iol_core.specs.Meaning.{WantOfRoom};
 ghost use Rattle.iol_core.specs.State.{conn_at};
 ghost use Rattle.iol_core.specs.Text.{bytes_of};
@@ -10,7 +11,7 @@ ghost use Rattle.iol_sock.specs.Refused.{IsPassed, IsRefused};
 ghost use Rattle.iol_kernel.specs.Borrowed.{arrive_from_refusals, TakesIn, sent_on};
 ghost use Rattle.iol_kernel.specs.Calls.{Arrives, Leaves};
 ghost use Rattle.iol_kernel.specs.MakingRoom.{AfterRoom, IsSame, MayHaveEvicted, can_fit};
-ghost use Rattle.iol_system.specs.Machine.{tables_of};
+ghost use Rattle.iol_system.specs.Machine.{machine_of, tables_of};
 ghost use Rattle.iol_system.specs.Safe.{IsSafe};
 ghost use Rattle.iol_system.specs.Served.{Comes};
 
@@ -55,6 +56,10 @@ impl<B: Backing> System<B> {
             (conn_at (tables_of self.old.kernel) conn).pool 1 ≡ false }
         ensures err { IfErr result (MayHaveEvicted (conn_at (tables_of self.old.kernel) conn).pool 1
             self.old.kernel self.new.kernel) }
+
+        // Over an honest store a refusal leaves the copying machine as it was.
+        ensures err_machine { IfHonest self.old.disk
+            (OnErr result (machine_of self.new ≡ machine_of self.old)) }
         ensures disk { self.new.disk ≡ self.old.disk }
         ensures err_reader { OnErr result (reader.new ≡ reader.old) }
         ensures safe { IsSafe self.new }

@@ -2,7 +2,7 @@
 //! two of them. The functions do nothing; their contracts are the laws.
 ghost use Rattle.iol_system.specs.Laws.{RunsAsTheMachine, RunsInParts, EachEventIsAStep};
 ghost use Rattle.iol_system.specs.Laws.{EachPageHasOneUse, EachChunkHasOnePool};
-ghost use Rattle.iol_system.specs.Laws.{RunsStaySafe, RunsKeepBuffers, RunsKeepValues, RunsShare};
+ghost use Rattle.iol_system.specs.Laws.{RunsStaySafe, RunsStayOrderly, RunsKeepBuffers, RunsKeepValues, RunsShare};
 
 /// The replies of a run, and the state after it, are those of the machine that copies at every call.
 pub fn runs_as_the_machine()
@@ -22,6 +22,12 @@ pub fn each_event_is_a_step()
 /// A run from a safe system ends in a safe one. With [`runs_in_parts`], counts and access are right at each moment.
 pub fn runs_stay_safe()
     ensures { RunsStaySafe }
+{}
+
+/// A run from a system whose machine is orderly ends in one: each end of a pipe and each connection is open in one descriptor
+/// at most, what is open stands, and numbers that are still to come are not used yet. So the laws of the machine hold of it.
+pub fn runs_stay_orderly()
+    ensures { RunsStayOrderly }
 {}
 
 /// What is live before and after a run has the same bytes and pool, and no identity is given twice.

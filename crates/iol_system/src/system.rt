@@ -1,5 +1,5 @@
 //! A system: events, one step, and a run.
-ghost use Rattle.std.specs.Prelude.{replicate, ◌*◌, ◌≡◌, ◌⊎◌, ◌↔◌, length, true, false, Some, None, Err, IfOk, IfErr, OnOk, OnErr};
+ghost use Rattle.std.specs.Prelude.{[], replicate, ◌*◌, ◌≡◌, ◌⊎◌, ◌↔◌, length, true, false, Some, None, Err, IfOk, IfErr, OnOk, OnErr};
 ghost use Rattle.iol_core.specs.Configuration.{IsInRange};
 ghost use Rattle.iol_core.specs.declared.limits.TheConstants.{CHUNK_PAGES};
 ghost use Rattle.iol_core.specs.State.{new_state};
@@ -22,10 +22,12 @@ ghost use Rattle.iol_kernel.specs.Report.{reports_of};
 ghost use Rattle.iol_cache.specs.Cached.{extents_in_all, dirty_in_all};
 ghost use Rattle.iol_arena.specs.State.{no_entry};
 ghost use Rattle.iol_arena.specs.Buffers.{SharesNoPage, live_pages};
-ghost use Rattle.iol_system.specs.Asking.{asks_store, uses_cache};
+ghost use Rattle.iol_system.specs.Asking.{asks_store, makes_file, uses_cache, writes_store};
+ghost use Rattle.iol_system.specs.InPlace.{KeepsInPlace, SharesFile};
 ghost use Rattle.iol_system.specs.Placed.{Creates, Publishes};
 ghost use Rattle.iol_system.specs.Remembered.{Remembers};
-ghost use Rattle.iol_system.specs.Room.{HasRoomFor, LacksRoomFor, IsDone, IsNoRoom, IsRefused};
+ghost use Rattle.iol_system.specs.Room.{HasRoomFor, LacksRoomFor, IsDone, IsEarly, IsFault, IsNoRoom, IsRefused};
+ghost use Rattle.iol_system.specs.WrittenBack.{IsDropped, IsFlushed, IsKept, IsSynced, StoresBack};
 
 use crate::aggregates::Aggregates;
 use crate::step::{carry_out, run_all};
@@ -76,6 +78,10 @@ impl<B: Backing + Drop> System<B> {
             (λ s. s.kernel.store.arena.entries ≡ replicate (config.chunks * CHUNK_PAGES) no_entry) }
         ensures taken { IfOk result (λ s. s.kernel.store.arena.taken ≡ replicate config.chunks false) }
         ensures limit { IfOk result (λ s. s.kernel.store.arena.limit ≡ config.gen_limit) }
+
+        // No sum is remembered yet, and there is place for as many as the sizes say.
+        ensures sums { IfOk result (λ s. s.kernel.sums.entries ≡ []) }
+        ensures sum_limit { IfOk result (λ s. s.kernel.sums.limit ≡ config.sums) }
         ensures safe { IfOk result IsSafe }
     {
         let kernel = Kernel::new(alloc, config)?;
@@ -131,24 +137,38 @@ impl<B: Backing> System<B> {
             self.new.kernel }
         ensures honest { self.new.disk.honest ≡ self.old.disk.honest }
 
-        // The store is asked by calls on files alone; a fault is answered just where it failed once more.
+        // The store is asked by calls on files alone, and an honest one has something else only where something is written back; a
+        // fault is answered just where it failed once more, and only where there is room.
         ensures unasked { asks_store (tables_of self.old.kernel) event ≡ false →
             self.new.disk ≡ self.old.disk }
         ensures faults { asks_store (tables_of self.old.kernel) event ≡ true →
             FaultCounts self.old.disk self.new.disk (outcome result) }
+        ensures slots { IfHonest self.old.disk (writes_store event ≡ false →
+            self.new.disk.slots ≡ self.old.disk.slots) }
+        ensures asked { asks_store (tables_of self.old.kernel) event ≡ true → IsFault result →
+            HasRoomFor self.old event }
         ensures room { IsDone result → HasRoomFor self.old event }
         ensures no_room { IsNoRoom result → LacksRoomFor self.old event }
 
-        // A refused event changes nothing at all of what the system holds, but that clean parts of files may be gone from memory
-        // where it works on these.
+        // A refused event changes nothing at all of what the system holds; where it works on what memory has of files, clean parts of
+        // these may be gone, but only for want of room or of memory, or by a fault. Other events leave that as it is.
+        ensures early { IsEarly result → self.new ≡ self.old }
         ensures refused { uses_cache (tables_of self.old.kernel) event ≡ false →
             IsRefused result → self.new ≡ self.old }
+        ensures uncached { uses_cache (tables_of self.old.kernel) event ≡ false →
+            makes_file event ≡ false → self.new.kernel.cache ≡ self.old.kernel.cache }
 
         // What a sharing call hands on lies where it lay, and no page is published or freed.
         ensures shares { is_sharing (tables_of self.old.kernel) event ≡ true →
             LaysOut (layout_of self.old.kernel) event result (layout_of self.new.kernel) }
         ensures pages { is_sharing (tables_of self.old.kernel) event ≡ true →
             self.new.kernel.store.arena ≡ self.old.kernel.store.arena }
+
+        // Each byte of a file that is in memory lies where it lay, dirty as it was. Or the event writes it, or writes it back; or it
+        // was clean, and the event is `drop_clean`, or wants more pages of the file's pool than are free. What calls on files
+        // share lies where it lay, or where what was read lies now.
+        ensures in_place { KeepsInPlace self.old event self.new.kernel }
+        ensures shares_file { IsDone result → SharesFile self.old event self.new.kernel }
 
         // What publishes does so on the lowest free pages of its pool, each of which is raised by one; an open pool keeps its
         // chunks, and a new one has the lowest free chunks, as many as asked for.
@@ -158,6 +178,16 @@ impl<B: Backing> System<B> {
 
         // Sending uses the sum of each slice that is sent; nothing else touches the remembered sums.
         ensures sums { Remembers self.old.kernel event result self.new.kernel }
+
+        // After an `fsync` nothing of its file is dirty, and an honest store has just that file; a `flush` leaves one dirty
+        // extent fewer, that of least file and offset, or none was there; `drop_clean` leaves no clean extent.
+        ensures synced { IsDone result → IsSynced self.old.kernel event self.new.kernel }
+        ensures kept { IfHonest self.old.disk
+            (IsDone result → IsKept self.old.kernel event self.new) }
+        ensures flushed { IsDone result → IsFlushed self.old.kernel event self.new.kernel }
+        ensures dropped { IsDropped event self.new.kernel }
+        ensures stores_back { StoresBack self.old.disk self.old.kernel event result self.new.disk
+            self.new.kernel }
 
         // Counts are those of the slices, no page is lost, what a domain has it may read, and an honest store has what memory has
         // where nothing was written.

@@ -5,30 +5,48 @@ use iol_core::configuration::Config;
 use iol_core::events::{Call, Event, Reply};
 use iol_core::lists::{Bytes, Domains};
 use iol_core::numbers::{AggId, DomainId, PoolId};
+use iol_core::refusals::Refusal;
 use iol_system::system::System;
+use std::alloc::{AllocError, Global};
 use std::test::Fail;
 
-#[test]
-fn readme(rt: HostRuntime) -> Result<(), Fail> {
-    let alloc = rt.alloc();
-    // README: from here
-    let store = MemoryBacking::new(Slots::new(alloc)); // the bytes of files: none yet
-    let mut system = System::new(alloc, Config::DEFAULT, store)?;
-    let (by, to) = (DomainId::new(1), DomainId::new(2));
-    let domains = Domains::from_vec([by, to].to_vec(alloc)?);
+// README: from here
+// A system over a store in memory, with no file yet.
+fn start(alloc: Global) -> Result<System<MemoryBacking>, Refusal> {
+    let store = MemoryBacking::new(Slots::new(alloc));
+    System::new(alloc, Config::DEFAULT, store)
+}
+
+// What domain 1 does: it makes domain 2, a pool that both may read, and an aggregate, and gives it away.
+fn calls(alloc: Global) -> Result<Vec<Call>, AllocError> {
+    let domains = Domains::from_vec([DomainId::new(1), DomainId::new(2)].to_vec(alloc)?);
     let bytes = Bytes::from_vec(b"hello".to_vec(alloc)?);
-    let (pool, agg) = (PoolId::new(1), AggId::new(1));
+    let (pool, agg, to) = (PoolId::new(1), AggId::new(1), DomainId::new(2));
     let mut calls = vec![in alloc; Call::DomainNew, Call::PoolCreate { chunks: 1, domains }]?;
     calls.push(Call::SetPool { pool })?;
     calls.push(Call::AggMake { bytes })?;
     calls.push(Call::AggGive { agg, to })?;
+    Ok(calls)
+}
+
+// Whether all of them pass.
+fn pass(system: &mut System<MemoryBacking>, calls: Vec<Call>) -> bool {
+    let mut all = true;
     for call in calls {
+        let by = DomainId::new(1);
         let reply = system.step(Event::Call { by, call });
-        assert!(rt; !matches!(reply, Reply::Refused(_)));
+        all &= !matches!(reply, Reply::Refused(_));
     }
-    for part in system.parts(to, agg)? {
+    all
+}
+
+#[test]
+fn readme(rt: HostRuntime) -> Result<(), Fail> {
+    let mut system = start(rt.alloc())?;
+    assert!(rt; pass(&mut system, calls(rt.alloc())?));
+    for part in system.parts(DomainId::new(2), AggId::new(1))? {
         assert_eq!(rt; part, b"hello".as_slice()); // domain 2 reads the bytes where they lie
     }
-    // README: to here
     Ok(())
 }
+// README: to here

@@ -29,6 +29,8 @@ pub record IsNew (setup : Setup) (s : SystemState) : Type 0 where
   pub entries : s.kernel.store.arena.entries ≡ replicate ((unwrap_or setup.config DEFAULT).chunks * CHUNK_PAGES) no_entry
   pub taken : s.kernel.store.arena.taken ≡ replicate (unwrap_or setup.config DEFAULT).chunks false
   pub limit : s.kernel.store.arena.limit ≡ (unwrap_or setup.config DEFAULT).gen_limit
+  pub sums : s.kernel.sums.entries ≡ []
+  pub sum_limit : s.kernel.sums.limit ≡ (unwrap_or setup.config DEFAULT).sums
 
 -- the report counts what lies in the system
 pub record Counts (h : KernelState) (r : Report) : Type 0 where

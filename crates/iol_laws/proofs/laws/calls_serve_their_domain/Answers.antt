@@ -1,6 +1,6 @@
 use Rattle.iol_laws.proofs.CallerAggregates.{does_make, does_dup, does_cut, does_split, does_join, does_replace, does_show, does_drop}
-use Rattle.iol_laws.proofs.CallerDescriptors.{does_read_file, does_read_conn, does_write_conn, does_close, does_close_conn, does_accept}
-use Rattle.iol_laws.proofs.CallerPipes.{does_make_pipe, does_read_pipe, does_write_pipe, does_close_write_end}
+use Rattle.iol_laws.proofs.CallerDescriptors.{does_read_conn, does_write_conn, does_close, does_close_conn, does_accept}
+use Rattle.iol_laws.proofs.CallerPipes.{does_make_pipe, does_read_pipe, does_write_pipe, does_close_write_end, does_close_read_end}
 use Rattle.iol_laws.proofs.CallerGifts.{does_give_fd, does_give_agg}
 use Rattle.iol_laws.proofs.laws.calls_serve_their_domain.Goals as goal
 
@@ -14,13 +14,13 @@ returns c = record {
   replace = does_replace;
   shows = does_show;
   drops = does_drop;
-  read_file = does_read_file;
   read_conn = does_read_conn;
   write_conn = does_write_conn;
   makes_pipe = does_make_pipe;
   read_pipe = does_read_pipe;
   write_pipe = does_write_pipe;
   closes_write_end = does_close_write_end;
+  closes_read_end = does_close_read_end;
   gives_fd = does_give_fd;
   gives_agg = does_give_agg;
   closes = does_close;

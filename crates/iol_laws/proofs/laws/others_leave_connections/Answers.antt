@@ -1,5 +1,5 @@
 use Rattle.iol_laws.proofs.OtherCalls.{other_conn, other_waiting, other_accepted}
-use Rattle.iol_laws.proofs.Outside.{does_arrive, does_transmit, does_peer_closed}
+use Rattle.iol_laws.proofs.Outside.{does_connect, does_arrive, does_transmit, does_peer_closed}
 use Rattle.iol_laws.proofs.laws.others_leave_connections.Goals as goal
 
 pub returns : goal.returns
@@ -7,6 +7,7 @@ returns c = record {
   conn = other_conn;
   waiting = other_waiting;
   accepted = other_accepted;
+  connect = does_connect;
   arrive = does_arrive;
   transmit = does_transmit;
   peer_closed = does_peer_closed;

@@ -26,4 +26,6 @@ returns-in-Ok-clause-new c =
       entries = e.entries ∙ ap (λ (k : Config). replicate (k.chunks * CHUNK_PAGES) no_entry) c.unwrap_or-config.ensures;
       taken = e.taken ∙ ap (λ (k : Config). replicate k.chunks false) c.unwrap_or-config.ensures;
       limit = e.limit ∙ ap (λ (k : Config). k.gen_limit) c.unwrap_or-config.ensures;
+      sums = e.sums;
+      sum_limit = e.sum_limit ∙ ap (λ (k : Config). k.sums) c.unwrap_or-config.ensures;
     }

@@ -1,4 +1,5 @@
 use Rattle.std.proofs.Common.{◌≢◌, ◌∙◌, ap, sym, subst, arith, List, ℕ, None}
+use Rattle.iol_evict.specs.declared.entry.Entry.{Entry}
 use Rattle.iol_evict.specs.declared.entry.Rank.{Rank}
 use Rattle.iol_evict.specs.declared.entry.By.TheVariants.{Place, Height}
 use Rattle.iol_evict.specs.Ranking.{Table, entry_at, with_height}
@@ -6,7 +7,7 @@ use Rattle.iol_evict.specs.Ranks.{rank_by}
 use Rattle.iol_evict.specs.Indexes.{HasRank, Finds, Takes}
 use Rattle.iol_evict.proofs.Rising.{live-same, rising-same}
 use Rattle.iol_evict.proofs.Indexing.{has-place, entries-with_height}
-use Rattle.iol_evict.proofs.Changing.{live-heights, stands-found, same-left, live-left, rising-left, indexed-height, table-is}
+use Rattle.iol_evict.proofs.Changing.{live-heights, stands-found, same-left, live-left, rising-left, indexed-height, same-height, table-is}
 use Rattle.iol_evict.proofs.entries.Entries.set_height.Goals as goal
 
 pub find_key-key-requires-clause-there : goal.find_key-key-requires-clause-there
@@ -53,3 +54,10 @@ returns c =
     let found = subst (λ (l : List ℕ). Finds Place c.self.inside.slab l c.place_of.result c.find_key-key.result) c.as_slice.ensures.value c.find_key-key.ensures in
     let here = subst (λ (r : Rank). Finds Place c.self.inside.slab c.self.inside.by_place.items r c.find_key-key.result) c.place_of.ensures found in
     table-is _ _ _ _ (entries-with_height _ _ _ c.args.file c.args.at c.args.height _ c.self.invariant.indexed.places here c.write_height.ensures.updates ∙ ap (λ (t : Table). with_height t.entries c.args.file c.args.at c.args.height) c.self.view_is) (ap (λ (t : Table). t.room) c.self.view_is)
+
+pub returns-then-entry-height : goal.returns-then-entry-height
+returns-then-entry-height c =
+    let found = subst (λ (l : List ℕ). Finds Place c.self.inside.slab l c.place_of.result c.find_key-key.result) c.as_slice.ensures.value c.find_key-key.ensures in
+    let here = subst (λ (r : Rank). Finds Place c.self.inside.slab c.self.inside.by_place.items r c.find_key-key.result) c.place_of.ensures found in
+    let same = ap (λ (e : Entry). e.height) (sym c.read_entry-entry.ensures) ∙ c.if-entry-height.true in
+    sym c.self.view_is ∙ table-is _ _ _ _ (same-height _ _ _ c.args.file c.args.at c.args.height _ c.self.invariant.indexed here same ∙ ap (λ (t : Table). with_height t.entries c.args.file c.args.at c.args.height) c.self.view_is) (ap (λ (t : Table). t.room) c.self.view_is)

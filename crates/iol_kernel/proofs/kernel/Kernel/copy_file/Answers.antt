@@ -1,4 +1,4 @@
-use Rattle.std.proofs.Common.{rules, ◌≡◌, List, [], Some, None, refl, sym, true, false, ℕ}
+use Rattle.std.proofs.Common.{rules, ◌≡◌, List, [], Some, None, refl, sym, true, false, inl, ℕ}
 use Rattle.iol_core.specs.Calls.Descriptors as fds
 use Rattle.iol_core.specs.Calls.Reading as calls
 use Rattle.iol_core.specs.State as machine
@@ -28,6 +28,8 @@ returns-then-not-may_be_read-clause-copies g c =
     record {
       mid = h.store;
       reads = reads_nothing {A = List ℕ} (file_read c.args.by c.args.fd c.args.found.file c.args.found.at c.args.found.mode c.args.count) (g.B.Backing.disk c.args.backing.now) h h WrongMode refl tt refl;
+      gives = tt;
+      early = inl (refl, refl);
       frees = frees_here h.store;
       lists = refl;
     }
@@ -54,6 +56,8 @@ returns-in-Some-clause-copies g c =
     record {
       mid = h.store;
       reads = reads_nothing {A = List ℕ} (file_read c.args.by c.args.fd c.args.found.file c.args.found.at c.args.found.mode c.args.count) (g.B.Backing.disk c.args.backing.now) h h (Denied c.in-Some.pool) refl tt refl;
+      gives = tt;
+      early = inl (refl, refl);
       frees = frees_here h.store;
       lists = refl;
     }

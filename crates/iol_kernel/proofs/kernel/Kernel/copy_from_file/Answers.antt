@@ -1,4 +1,4 @@
-use Rattle.std.proofs.Common.{rules, ◌≡◌, ◌∙◌, ℕ, ◌+◌, List, [], None, Some, Option, ap, sym, refl, arith, true}
+use Rattle.std.proofs.Common.{rules, ◌≡◌, ◌∙◌, ℕ, ◌+◌, List, [], None, Some, Option, ap, sym, refl, arith, true, inr}
 use Rattle.std.specs.Prelude.{slice_set, length}
 use Rattle.std.proofs.lemmas.List.{length-map}
 use Rattle.iol_core.specs.Text.{Text}
@@ -16,7 +16,7 @@ use Rattle.iol_kernel.specs.Kernel.{state_of}
 use Rattle.iol_kernel.specs.Readings.{bytes_over}
 use Rattle.iol_kernel.proofs.FileCopies.{backed_released, copied_as, covers_read, frees_here, goes_released, kept_released}
 use Rattle.iol_kernel.proofs.FileReads.{numbered_here, position_short, refused_read}
-use Rattle.iol_kernel.proofs.FileServed.{counts_few, read_fits, reads_done, reads_lost, reads_refused}
+use Rattle.iol_kernel.proofs.FileServed.{counts_few, gives_copy, read_fits, reads_done, reads_lost, reads_refused}
 use Rattle.iol_kernel.proofs.Named.{cache_sound}
 use Rattle.iol_kernel.proofs.ReadOf.{descriptor-read_of, live_held}
 use Rattle.iol_kernel.proofs.kernel.Kernel.copy_from_file.Goals as goal
@@ -61,7 +61,9 @@ returns-in-Err-clause-copies g c =
     let e = c.in-Err.ensures in
     record {
       mid = m;
-      reads = reads_refused x disk after h m k c.requires.sound live from e.pages e.gone.lists (List Slice) (List ℕ) c.in-Err.refusal h.domains refl e.refused e.room e.fault;
+      reads = reads_refused x disk after h m k c.requires.sound live from e.pages e.gone.lists (List Slice) (List ℕ) c.in-Err.refusal h.domains refl e.refused e.room e.fault e.late;
+      gives = tt;
+      early = inr e.late;
       frees = frees_here m;
       lists = refl;
     }
@@ -116,6 +118,8 @@ returns-in-Err-copy-clause-copies g c =
     record {
       mid = m;
       reads = reads_lost x disk after h m k c.requires.sound live from e.pages e.goes.lists (List ℕ) agg e.reads e.fault.counts e.fault.honest e.fault.slots;
+      gives = tt;
+      early = inr tt;
       frees = r.frees;
       lists = r.lists;
     }
@@ -179,9 +183,12 @@ returns-clause-copies g c =
     let agg : List Slice = c.in-Ok.agg in
     let t = c.release.new.store in
     let r = c.release.ensures in
+    let moved : domains_of c.set_fd.new.self ≡ moved_on h.domains x (byte_len agg) = c.set_fd.ensures.set ∙ ap (moved_on h.domains x) c.len-len.ensures in
     record {
       mid = m;
       reads = reads_done x disk after h m k c.requires.sound live from e.pages e.goes.lists {B = List ℕ} c.from_vec.result agg m (domains_of c.set_fd.new.self) e.reads e.room e.fault.counts e.fault.honest e.fault.slots;
+      gives = gives_copy x disk after h m k c.requires.sound live from e.pages e.goes.lists agg t (domains_of c.set_fd.new.self) e.reads r.moves moved;
+      early = tt;
       frees = r.frees;
       lists = r.lists;
     }

@@ -5,7 +5,9 @@ use Rattle.iol_cache.specs.Evicting.{Holding}
 use Rattle.iol_cache.proofs.Paging.{given_up_pages}
 use Rattle.iol_kernel.specs.Backed.{holding_of}
 use Rattle.iol_kernel.specs.Kernel.{state_of}
+use Rattle.iol_kernel.proofs.Kept.{drop_keeps}
 use Rattle.iol_kernel.proofs.Named.{cache_sound}
+use Rattle.iol_kernel.proofs.PutBeside.{files_apart}
 use Rattle.iol_kernel.proofs.WrittenBack.{given_serves}
 use Rattle.iol_kernel.proofs.kernel.Kernel.drop_clean.Goals as goal
 
@@ -22,3 +24,9 @@ pub returns-clause-pages : goal.returns-clause-pages
 returns-clause-pages c =
     let new : Holding = record { store = c.drop_clean.new.store; cache = cached_of c.drop_clean.new.self } in
     given_up_pages (holding_of (state_of c.args.self.now)) new c.drop_clean.ensures.gives_up
+
+pub returns-clause-keeps : goal.returns-clause-keeps
+returns-clause-keeps c =
+    let h = state_of c.args.self.now in
+    let new : Holding = record { store = c.drop_clean.new.store; cache = cached_of c.drop_clean.new.self } in
+    drop_keeps _ (holding_of h) new c.drop_clean.ensures.victims (files_apart h c.requires)

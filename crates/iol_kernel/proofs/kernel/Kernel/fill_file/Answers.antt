@@ -1,9 +1,11 @@
-use Rattle.std.proofs.Common.{[], ◌≡◌, ◌∙◌, ◌+◌, ap, sym, refl, arith, length, Some, ℕ}
+use Rattle.std.proofs.Common.{[], ◌≡◌, ◌∙◌, ◌+◌, ap, sym, refl, arith, length, map, Some, ℕ}
 use Rattle.std.specs.Prelude.{slice_set}
 use Rattle.iol_core.specs.declared.descriptors.Descriptor.TheVariants as on
 use Rattle.iol_hold.specs.Stored.{Stored}
 use Rattle.iol_hold.specs.Texts.{bufs_of}
+use Rattle.iol_hold.specs.Moves.{pool_meant}
 use Rattle.iol_hold.proofs.Counting.{tally-append}
+use Rattle.iol_hold.proofs.Paging.{keeps_pages_frees, keeps_pages_made}
 use Rattle.iol_desc.specs.Tables.{domain_in, with_fds_in}
 use Rattle.iol_cache.specs.Cache.{cached_of}
 use Rattle.iol_cache.specs.Cached.{held}
@@ -13,6 +15,8 @@ use Rattle.iol_kernel.specs.Readings.{bytes_over}
 use Rattle.iol_kernel.proofs.FilledOver.{filled_covers, filled_few, filled_sound, put_pools, through, through_files, through_mirrors, through_puts, unput_pools}
 use Rattle.iol_kernel.proofs.FilledServes.{filled_len, filled_serves, held_file, held_live, held_short, unfilled_serves, unplaced_serves}
 use Rattle.iol_kernel.proofs.Opening.{end_held}
+use Rattle.iol_kernel.proofs.PutBeside.{files_apart, own_pool, put_beside, put_pages, put_released, unput_beside}
+use Rattle.iol_kernel.proofs.Kept.{beside_same}
 use Rattle.iol_kernel.proofs.ReadOf.{closed-read_of}
 use Rattle.iol_kernel.proofs.WrittenOver.{in_cache}
 use Rattle.iol_kernel.proofs.kernel.Kernel.fill_file.Goals as goal
@@ -118,3 +122,39 @@ returns-clause-serves c =
     let moved = c.set_fd.ensures.set ∙ ap (λ z. with_fds_in h.domains c.args.by (slice_set (domain_in h.domains c.args.by).fds c.args.fd (Some (on.File c.args.file (c.args.at + z) c.args.mode)))) len in
     filled_serves h c.args.by c.args.fd c.args.file c.args.at c.args.pool c.args.mode c.args.bytes.now c.requires.sound c.requires.to c.requires.pool c.requires.passed _ c.release-2.new.store (cached_of c.write.new.self) c.len-len.result (through h s xs c.requires.sound e.moves e.pools e.grows.count c.write.new.store c.release-2.new.store (cached_of c.write.new.self) c.args.file e.readable w.moves w.lists w.settles w.pages w.sound w.mirrors r.moves r.lists r.frees r.settles same e.settles) (through_puts h s xs c.requires.sound e.moves e.pools e.grows.count c.write.new.store c.release-2.new.store (cached_of c.write.new.self) c.args.file e.readable w.moves w.lists w.settles w.pages w.sound w.mirrors r.moves r.lists r.frees r.settles c.args.at _ w.written w.others e.text) len
     (ap (λ ds. let k : KernelState = record h { store = c.release-2.new.store; cache = cached_of c.write.new.self; domains = ds } in k) moved)
+
+pub returns-in_default-clause-beside : goal.returns-in_default-clause-beside
+returns-in_default-clause-beside c = let h = state_of c.args.self.now in beside_same c.args.file c.args.at (length c.args.bytes.now) c.args.pool ⊥ h.cache h.cache refl
+
+pub returns-in-Err-clause-beside : goal.returns-in-Err-clause-beside
+returns-in-Err-clause-beside c =
+    let h = state_of c.args.self.now in
+    let e = c.in-Ok.ensures in
+    let s = c.fill.new.store in
+    let xs = c.in-Ok.agg in
+    let own = own_pool h c.args.by c.args.fd c.args.file c.args.at c.args.pool c.args.mode c.requires.sound c.requires.to c.requires.pool in
+    unput_beside h s c.write.new.store (cached_of c.write.new.self) c.args.file c.args.at c.args.pool xs c.args.bytes.now (files_apart h c.requires.sound) own (filled_len s xs c.args.pool c.args.bytes.now e.text) e.text c.in-Err.ensures.evicts
+
+pub returns-clause-beside : goal.returns-clause-beside
+returns-clause-beside c =
+    let h = state_of c.args.self.now in
+    let e = c.in-Ok.ensures in
+    let s = c.fill.new.store in
+    let xs = c.in-Ok.agg in
+    let w = c.in_default-write.ensures in
+    let at = bytes_over [] h.store in
+    let there = in_cache h c.args.file c.requires.sound (end_held at h c.args.by c.args.fd (on.File c.args.file c.args.at c.args.mode) c.requires.sound (c.requires.to at)).0 in
+    let own = own_pool h c.args.by c.args.fd c.args.file c.args.at c.args.pool c.args.mode c.requires.sound c.requires.to c.requires.pool in
+    put_beside h s c.write.new.store (cached_of c.write.new.self) c.args.file c.args.at c.args.pool xs c.args.bytes.now (files_apart h c.requires.sound) own (filled_len s xs c.args.pool c.args.bytes.now e.text) e.text there w.writes w.nothing
+
+pub returns-clause-fills : goal.returns-clause-fills
+returns-clause-fills c =
+    let h = state_of c.args.self.now in
+    let e = c.in-Ok.ensures in
+    let s = c.fill.new.store in
+    let xs = c.in-Ok.agg in
+    let w = c.in_default-write.ensures in
+    let own = own_pool h c.args.by c.args.fd c.args.file c.args.at c.args.pool c.args.mode c.requires.sound c.requires.to c.requires.pool in
+    put_released (ap (map pool_meant) e.pools) w.lists (keeps_pages_made e.made_on e.others e.grows e.pools)
+    (put_pages h s c.write.new.store (cached_of c.write.new.self) c.args.file c.args.at c.args.pool xs c.args.bytes.now (files_apart h c.requires.sound) own (filled_len s xs c.args.pool c.args.bytes.now e.text) e.text w.writes w.nothing)
+    (keeps_pages_frees c.release-2.ensures.frees)

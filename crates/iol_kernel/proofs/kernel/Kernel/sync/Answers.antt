@@ -1,4 +1,4 @@
-use Rattle.std.proofs.Common.{refl, []}
+use Rattle.std.proofs.Common.{refl, inl, []}
 use Rattle.iol_core.specs.Calls.Files as calls
 use Rattle.iol_cache.specs.Cache.{cached_of}
 use Rattle.iol_kernel.specs.Kernel.{state_of}
@@ -29,5 +29,5 @@ returns g c =
       serves = back_serves (λ s. calls.fsync s c.args.by c.args.fd) h _ d x y c.sync.result c.requires.sound (synced_parts h.store c.args.file h.cache d x y w.syncs) w.sound
           (λ stored. sync_steps _ c.args.by c.args.fd c.args.file c.sync.result (c.requires.passed (bytes_over stored h.store)) (c.requires.file (bytes_over stored h.store)) w.late)
           w.syncs.honest w.files w.mirrors (cache_sound h c.requires.sound) refl;
-      syncs = record { syncs = w.syncs; clean = w.clean; counts = fault_counted c.args.file x y c.sync.result w.fails w.succeeds w.late; same = refl };
+      syncs = record { syncs = w.syncs; clean = w.clean; writes = inl w.writes; counts = fault_counted c.args.file x y c.sync.result w.fails w.succeeds w.late; same = refl };
     }

@@ -80,7 +80,7 @@ returns-in-Err-clause-reads g c =
     let disk = g.B.Backing.disk c.args.backing.now in
     let e = c.in-Err.ensures in
     let after = g.B.Backing.disk c.read-outcome.new.backing in
-    let done = reads_refused x disk after h c.read-outcome.new.store (cached_of c.read-outcome.new.self) c.requires.sound live from e.pages e.gone.lists (List Slice) ℕ c.in-Err.refusal (domains_of c.reserve_aggs.new.self) c.in_ok-reserve_aggs.ensures.same e.refused e.room e.fault in
+    let done = reads_refused x disk after h c.read-outcome.new.store (cached_of c.read-outcome.new.self) c.requires.sound live from e.pages e.gone.lists (List Slice) ℕ c.in-Err.refusal (domains_of c.reserve_aggs.new.self) c.in_ok-reserve_aggs.ensures.same e.refused e.room e.fault e.late in
     search (rules, done)
 
 pub overflow_add-moved : goal.overflow_add-moved

@@ -1,7 +1,13 @@
 use Rattle.iol_core.specs.Calls.Writing as calls
+use Rattle.std.proofs.Common.{[], ◌∙◌, length, Option, subst, sym}
+use Rattle.iol_core.specs.declared.descriptors.Descriptor.{Descriptor}
 use Rattle.iol_core.specs.State.{descriptor}
 use Rattle.iol_kernel.specs.Kernel.{state_of}
-use Rattle.iol_kernel.proofs.Put.{put_refused}
+use Rattle.iol_kernel.specs.KernelState.{machine_of}
+use Rattle.iol_kernel.specs.Readings.{bytes_over}
+use Rattle.iol_kernel.specs.WritingFiles.{PutsOn}
+use Rattle.iol_kernel.proofs.Put.{left_placing, put_refused}
+use Rattle.iol_kernel.proofs.PutBeside.{puts_queue, puts_refused}
 use Rattle.iol_kernel.proofs.kernel.Kernel.write_bytes.Goals as goal
 
 pub returns-in-Err-clause-serves : goal.returns-in-Err-clause-serves
@@ -14,3 +20,25 @@ pub returns-in-Err-clause-queue : goal.returns-in-Err-clause-queue
 returns-in-Err-clause-queue c = λ no_file.
     let h = state_of c.args.self.now in
     put_refused (λ s. calls.write s c.args.by c.args.fd c.args.bytes.now) (λ s t. calls.written s c.args.by c.args.fd (descriptor s c.args.by c.args.fd) t) _ _ h c.in-Err.refusal c.pool_to_write.result c.requires c.in-Err.ensures.refused c.pool_to_write.ensures.roomy c.in-Err.is
+
+pub returns-in-Err-clause-puts : goal.returns-in-Err-clause-puts
+returns-in-Err-clause-puts c =
+    let h = state_of c.args.self.now in
+    puts_refused (descriptor (machine_of [] h) c.args.by c.args.fd) (calls.pool_for (machine_of [] h) c.args.by (descriptor (machine_of [] h) c.args.by c.args.fd)) (length c.args.bytes.now) h c.in-Err.refusal
+
+pub returns : goal.returns
+returns c =
+    let h = state_of c.args.self.now in
+    let k = state_of c.put.new.self in
+    let s = machine_of [] h in
+    let open' = sym (c.descriptor.ensures (bytes_over [] h.store)) ∙ c.in-Some.is in
+    let pool = calls.pool_for s c.args.by (descriptor s c.args.by c.args.fd) in
+    let placed = c.put.ensures in
+    record {
+      serves = placed.serves;
+      queue = λ no_file. placed;
+      room = placed.room;
+      no_room = placed.no_room;
+      puts = subst (λ (o : Option Descriptor). PutsOn o pool (length c.args.bytes.now) h c.put.result k) (sym open') (puts_queue c.in-Some.to c.in_default-to.not-File pool (length c.args.bytes.now) h k c.put.result);
+      refused = left_placing pool (calls.write s c.args.by c.args.fd c.args.bytes.now).answer h k c.put.result placed.refused;
+    }

@@ -1,4 +1,4 @@
-use Rattle.std.proofs.Common.{◌≡◌, refl, ap}
+use Rattle.std.proofs.Common.{refl}
 use Rattle.std.proofs.lemmas.Option.{slice_get_read}
 use Rattle.iol_proc.proofs.Runs.{seated_at}
 use Rattle.iol_proc.proofs.world.World.process.Goals as goal

@@ -2,8 +2,9 @@ use Rattle.std.specs.Prelude.{◌≡◌, true, false}
 use Rattle.iol_core.specs.Sharing.{is_sharing, LaysOut}
 use Rattle.iol_kernel.specs.Kernel.{state_of}
 use Rattle.iol_kernel.specs.KernelState.{layout_of}
-use Rattle.iol_system.specs.Asking.{asks_store}
+use Rattle.iol_system.specs.Asking.{asks_store, makes_file, uses_cache}
 use Rattle.iol_system.specs.Machine.{SystemState, system_of, tables_of}
+use Rattle.iol_system.specs.WrittenBack.{StoresBack}
 use Rattle.std.proofs.Common.{subst}
 use Rattle.iol_system.proofs.system.System.step.Goals as goal
 
@@ -12,3 +13,9 @@ returns-clause-unasked g c = subst (λ (s : SystemState). asks_store (tables_of 
 
 pub returns-clause-shares : goal.returns-clause-shares
 returns-clause-shares g c = subst (λ (s : SystemState). is_sharing (tables_of s.kernel) c.args.event ≡ true → LaysOut (layout_of s.kernel) c.args.event c.carry_out.result (layout_of (state_of c.carry_out.new.kernel))) c.self.view_is c.carry_out.ensures.shares
+
+pub returns-clause-uncached : goal.returns-clause-uncached
+returns-clause-uncached g c = subst (λ (s : SystemState). uses_cache (tables_of s.kernel) c.args.event ≡ false → makes_file c.args.event ≡ false → (state_of c.carry_out.new.kernel).cache ≡ s.kernel.cache) c.self.view_is c.carry_out.ensures.uncached
+
+pub returns-clause-stores_back : goal.returns-clause-stores_back
+returns-clause-stores_back g c = subst (λ (s : SystemState). StoresBack s.disk s.kernel c.args.event c.carry_out.result (g.B.Backing.disk c.carry_out.new.backing) (state_of c.carry_out.new.kernel)) c.self.view_is c.carry_out.ensures.stores_back

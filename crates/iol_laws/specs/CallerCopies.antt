@@ -1,0 +1,83 @@
+-- What the calls that copy do for the domain that makes them: `write` of bytes of its own, and `read` without an aggregate.
+-- They write and read what `iol_write` and `iol_read` do.
+use Rattle.std.specs.Prelude.{◌≡◌, ℕ, ◌+◌, ◌<◌, true, false, List, [], ◌++◌, length, take, drop, Some, is_none}
+use Rattle.iol_core.specs.Text.{Text, bytes_of}
+use Rattle.iol_core.specs.State.{State, descriptor, content, file, may_read, conn_at, pipe_at, is_live}
+use Rattle.iol_core.specs.Positions.{ArePlaced}
+use Rattle.iol_core.specs.Calls.Reading.{reads}
+use Rattle.iol_core.specs.Calls.Writing.{writes}
+use Rattle.iol_core.specs.Run.{StepsTo}
+use Rattle.iol_core.specs.declared.descriptors.Mode.{Mode}
+use Rattle.iol_core.specs.declared.descriptors.Descriptor.TheVariants as on
+use Rattle.iol_core.specs.declared.events.Call.TheVariants as call
+use Rattle.iol_core.specs.declared.events.Event.TheVariants as event
+use Rattle.iol_core.specs.declared.events.Reply.{Reply}
+use Rattle.iol_core.specs.declared.events.Reply.TheVariants as reply
+use Rattle.iol_laws.specs.Order.{IsOrderly}
+use Rattle.iol_laws.specs.Caller.{lent_at, is_rough, WritesConn, WritesPipe}
+use Rattle.iol_laws.specs.CallerFiles.{WritesFile}
+
+-- whatever the domain has it keeps
+abbrev pub SameLent : State → (d : ℕ) → State → Type 0
+SameLent s d t = (a : ℕ) → lent_at t d a ≡ lent_at s d a
+
+-- these bytes of a file are told, and the position moves past them
+pub record TellsFile (s : State) (d fd f at : ℕ) (mode : Mode) (bytes found : List ℕ) (t : State) : Type 0 where
+  pub found_is : found ≡ bytes
+  pub goes_on : descriptor t d fd ≡ Some (on.File f (at + length bytes) mode)
+  pub lent : SameLent s d t
+
+abbrev pub CopiesFile : State → (d fd f at : ℕ) → Mode → List ℕ → Reply → State → Type 0
+CopiesFile s d fd f at mode bytes (reply.Bytes found) t = TellsFile s d fd f at mode bytes found t
+CopiesFile s d fd f at mode bytes (reply.Refused x) t = (is_rough (reply.Refused x) ≡ true) × (t ≡ s)
+CopiesFile s d fd f at mode bytes r t = ⊥
+
+-- of a connection the first bytes that came in are told and taken, at most so many; where some are asked for and none is told,
+-- the peer sends no more
+pub record TellsConn (s : State) (d c count : ℕ) (found : List ℕ) (t : State) : Type 0 where
+  pub text : Text
+  pub incoming : Text
+  pub found_is : found ≡ bytes_of text
+  pub was : (conn_at s c).incoming ≡ text ++ incoming
+  pub conn : conn_at t c ≡ record (conn_at s c) { incoming = incoming }
+  pub lent : SameLent s d t
+  pub ended : 0 < count → text ≡ [] → ((conn_at s c).incoming ≡ []) × (is_none (conn_at s c).peer ≡ false)
+
+abbrev pub CopiesConn : State → (d c count : ℕ) → Reply → State → Type 0
+CopiesConn s d c count (reply.Bytes found) t = TellsConn s d c count found t
+CopiesConn s d c count (reply.Refused x) t = t ≡ s
+CopiesConn s d c count r t = ⊥
+
+-- of a pipe the same; where some are asked for and none is told, nobody writes any more
+pub record TellsPipe (s : State) (d p count : ℕ) (found : List ℕ) (t : State) : Type 0 where
+  pub text : Text
+  pub rest : Text
+  pub found_is : found ≡ bytes_of text
+  pub was : (pipe_at s p).queue ≡ text ++ rest
+  pub pipe : pipe_at t p ≡ record (pipe_at s p) { queue = rest }
+  pub lent : SameLent s d t
+  pub ended : 0 < count → text ≡ [] → ((pipe_at s p).queue ≡ []) × ((pipe_at s p).writing ≡ false)
+
+abbrev pub CopiesPipe : State → (d p count : ℕ) → Reply → State → Type 0
+CopiesPipe s d p count (reply.Bytes found) t = TellsPipe s d p count found t
+CopiesPipe s d p count (reply.Refused x) t = t ≡ s
+CopiesPipe s d p count r t = ⊥
+
+-- Each of the two, on a file, a connection and a pipe.
+pub record CopyingCallsServeTheirDomain : Type 0 where
+  pub write_file : (s t : State) (d fd f at : ℕ) (mode : Mode) (bytes : List ℕ) (r : Reply) → ArePlaced s
+      → is_live s d ≡ true → writes mode ≡ true → descriptor s d fd ≡ Some (on.File f at mode)
+      → StepsTo s (event.Call d (call.Write fd bytes)) r t → WritesFile s d fd f at mode bytes r t
+  pub write_conn : (s t : State) (d fd c : ℕ) (bytes : List ℕ) (r : Reply) → IsOrderly s
+      → descriptor s d fd ≡ Some (on.Connection c) → StepsTo s (event.Call d (call.Write fd bytes)) r t
+      → WritesConn s c bytes r t
+  pub write_pipe : (s t : State) (d fd p : ℕ) (bytes : List ℕ) (r : Reply) → IsOrderly s
+      → descriptor s d fd ≡ Some (on.WriteEnd p) → StepsTo s (event.Call d (call.Write fd bytes)) r t
+      → WritesPipe s p bytes r t
+  pub read_file : (s t : State) (d fd f at n : ℕ) (mode : Mode) (r : Reply) → is_live s d ≡ true
+      → may_read s d (file s f).pool ≡ true → reads mode ≡ true → descriptor s d fd ≡ Some (on.File f at mode)
+      → StepsTo s (event.Call d (call.Read fd n)) r t → CopiesFile s d fd f at mode (take n (drop at (content s f))) r t
+  pub read_conn : (s t : State) (d fd c n : ℕ) (r : Reply) → IsOrderly s → descriptor s d fd ≡ Some (on.Connection c)
+      → StepsTo s (event.Call d (call.Read fd n)) r t → CopiesConn s d c n r t
+  pub read_pipe : (s t : State) (d fd p n : ℕ) (r : Reply) → IsOrderly s → descriptor s d fd ≡ Some (on.ReadEnd p)
+      → StepsTo s (event.Call d (call.Read fd n)) r t → CopiesPipe s d p n r t

@@ -1,0 +1,89 @@
+-- What calls that make and end domains, and those on pools, do for the domain that makes them.
+use Rattle.std.specs.Prelude.{◌≡◌, ◌≢◌, ℕ, ◌==◌, true, false, List, [], Some}
+use Rattle.std.specs.List.{list_any}
+use Rattle.iol_core.specs.State.{State, domain, new_domain, no_domain, is_live, pool, is_pool, may_read, descriptor, pipe_at, conn_at}
+use Rattle.iol_core.specs.Run.{StepsTo}
+use Rattle.iol_core.specs.declared.descriptors.Descriptor.TheVariants as on
+use Rattle.iol_core.specs.declared.events.Call.TheVariants as call
+use Rattle.iol_core.specs.declared.events.Event.TheVariants as event
+use Rattle.iol_core.specs.declared.events.Reply.{Reply}
+use Rattle.iol_core.specs.declared.events.Reply.TheVariants as reply
+use Rattle.iol_laws.specs.Order.{IsOrderly}
+use Rattle.iol_laws.specs.Caller.{is_rough}
+
+-- a new domain is live and has nothing, and the others are as they were
+pub record StartsDomain (s : State) (n : ℕ) (t : State) : Type 0 where
+  pub new : is_live s n ≡ false
+  pub empty : domain t n ≡ new_domain
+  pub others : (e : ℕ) → n ≢ e → domain t e ≡ domain s e
+
+abbrev pub MakesDomain : State → Reply → State → Type 0
+MakesDomain s (reply.Domain n) t = StartsDomain s n t
+MakesDomain s (reply.Refused x) t = (is_rough (reply.Refused x) ≡ true) × (t ≡ s)
+MakesDomain s r t = ⊥
+
+-- The domain has nothing any more, and each of its descriptors is closed: of a connection what is still to be sent stays, of
+-- a pipe what is still to be read, unless the read end was its own.
+pub record EndsDomain (s : State) (d : ℕ) (t : State) : Type 0 where
+  pub nothing : domain t d ≡ no_domain
+  pub others : (e : ℕ) → d ≢ e → domain t e ≡ domain s e
+  pub conns : (fd c : ℕ) → descriptor s d fd ≡ Some (on.Connection c)
+      → ((conn_at t c).closed ≡ true) × ((conn_at t c).outgoing ≡ (conn_at s c).outgoing)
+  pub read_ends : (fd p : ℕ) → descriptor s d fd ≡ Some (on.ReadEnd p)
+      → ((pipe_at t p).reading ≡ false) × ((pipe_at t p).queue ≡ [])
+  pub write_ends : (fd p : ℕ) → descriptor s d fd ≡ Some (on.WriteEnd p) → (pipe_at t p).writing ≡ false
+  pub unread : (p : ℕ) → ((fd : ℕ) → descriptor s d fd ≡ Some (on.ReadEnd p) → ⊥) → (pipe_at s p).reading ≡ true
+      → ((pipe_at t p).reading ≡ true) × ((pipe_at t p).queue ≡ (pipe_at s p).queue)
+
+-- it is never refused
+abbrev pub Exits : State → (d : ℕ) → Reply → State → Type 0
+Exits s d reply.Done t = EndsDomain s d t
+Exits s d r t = ⊥
+
+-- a new pool is open, just these domains may read it, and the other pools are as they were
+pub record OpensPool (s : State) (list : List ℕ) (p : ℕ) (t : State) : Type 0 where
+  pub new : is_pool s p ≡ false
+  pub there : is_pool t p ≡ true
+  pub open_yet : (pool t p).closed ≡ false
+  pub may : (e : ℕ) → may_read t e p ≡ list_any (λ d. d == e) list
+  pub others : (q : ℕ) → p ≢ q → pool t q ≡ pool s q
+
+abbrev pub MakesPool : State → List ℕ → Reply → State → Type 0
+MakesPool s list (reply.Pool p) t = OpensPool s list p t
+MakesPool s list (reply.Refused x) t = t ≡ s
+MakesPool s list r t = ⊥
+
+-- a pool that was open is closed, the same domains may read it, and the other pools are as they were
+pub record ShutsPool (s : State) (d p : ℕ) (t : State) : Type 0 where
+  pub was_open : (pool s p).closed ≡ false
+  pub may : may_read s d p ≡ true
+  pub closed : pool t p ≡ record (pool s p) { closed = true }
+  pub others : (q : ℕ) → p ≢ q → pool t q ≡ pool s q
+
+abbrev pub ClosesPool : State → (d p : ℕ) → Reply → State → Type 0
+ClosesPool s d p reply.Done t = ShutsPool s d p t
+ClosesPool s d p (reply.Refused x) t = t ≡ s
+ClosesPool s d p r t = ⊥
+
+-- what the domain makes from now on lies in this pool, which is open and which it may read
+pub record TakesPool (s : State) (d p : ℕ) (t : State) : Type 0 where
+  pub default_is : (domain t d).default ≡ Some p
+  pub may : may_read s d p ≡ true
+  pub open_yet : (pool s p).closed ≡ false
+
+abbrev pub SetsPool : State → (d p : ℕ) → Reply → State → Type 0
+SetsPool s d p reply.Done t = TakesPool s d p t
+SetsPool s d p (reply.Refused x) t = t ≡ s
+SetsPool s d p r t = ⊥
+
+-- Each call on domains and pools.
+pub record DomainsAndPoolsComeAndGo : Type 0 where
+  pub starts : (s t : State) (d : ℕ) (r : Reply) → is_live s d ≡ true → StepsTo s (event.Call d call.DomainNew) r t
+      → MakesDomain s r t
+  pub exits : (s t : State) (d : ℕ) (r : Reply) → IsOrderly s → is_live s d ≡ true → StepsTo s (event.Call d call.Exit) r t
+      → Exits s d r t
+  pub makes_pool : (s t : State) (d chunks : ℕ) (list : List ℕ) (r : Reply)
+      → StepsTo s (event.Call d (call.PoolCreate chunks list)) r t → MakesPool s list r t
+  pub closes_pool : (s t : State) (d p : ℕ) (r : Reply) → StepsTo s (event.Call d (call.PoolClose p)) r t
+      → ClosesPool s d p r t
+  pub sets_pool : (s t : State) (d p : ℕ) (r : Reply) → StepsTo s (event.Call d (call.SetPool p)) r t → SetsPool s d p r t

@@ -1,0 +1,56 @@
+-- What a refusal tells the domain that is refused: why nothing can be read, written or accepted now. And which calls are not
+-- refused.
+use Rattle.std.specs.Prelude.{◌≡◌, ℕ, ◌≤◌, true, false, List, [], ◌∷◌, length, Some, None}
+use Rattle.iol_core.specs.Text.{Text}
+use Rattle.iol_core.specs.State.{State, descriptor, may_read, conn_at, pipe_at, is_gone, is_live}
+use Rattle.iol_core.specs.Run.{StepsTo}
+use Rattle.iol_core.specs.declared.limits.TheConstants.{MAX_QUEUE_BYTES}
+use Rattle.iol_core.specs.declared.descriptors.Descriptor.{Descriptor}
+use Rattle.iol_core.specs.declared.descriptors.Descriptor.TheVariants as on
+use Rattle.iol_core.specs.declared.refusals.Refusal.TheVariants.{WouldBlock, BrokenPipe, Denied}
+use Rattle.iol_core.specs.declared.events.Call.TheVariants as call
+use Rattle.iol_core.specs.declared.events.Event.TheVariants as event
+use Rattle.iol_core.specs.declared.events.Reply.{Reply}
+use Rattle.iol_core.specs.declared.events.Reply.TheVariants as reply
+use Rattle.iol_laws.specs.Caller.{lent_at}
+
+-- the first byte is of this pool, which the domain may not read
+pub record IsHidden (s : State) (d p : ℕ) (text : Text) : Type 0 where
+  pub byte : ℕ
+  pub rest : Text
+  pub text_is : text ≡ (byte, p) ∷ rest
+  pub may_not : may_read s d p ≡ false
+
+pub record RefusalsTellWhy : Type 0 where
+  -- nothing is there to be read, and something may come
+  pub conn_is_empty : (s t : State) (d fd c n : ℕ) → descriptor s d fd ≡ Some (on.Connection c)
+      → StepsTo s (event.Call d (call.IolRead fd n)) (reply.Refused WouldBlock) t
+      → ((conn_at s c).incoming ≡ []) × ((conn_at s c).peer ≡ None)
+  pub pipe_is_empty : (s t : State) (d fd p n : ℕ) → descriptor s d fd ≡ Some (on.ReadEnd p)
+      → StepsTo s (event.Call d (call.IolRead fd n)) (reply.Refused WouldBlock) t
+      → ((pipe_at s p).queue ≡ []) × ((pipe_at s p).writing ≡ true)
+  -- what is there the domain may not read
+  pub conn_is_hidden : (s t : State) (d fd c n q : ℕ) → descriptor s d fd ≡ Some (on.Connection c)
+      → StepsTo s (event.Call d (call.IolRead fd n)) (reply.Refused (Denied q)) t → IsHidden s d q (conn_at s c).incoming
+  pub pipe_is_hidden : (s t : State) (d fd p n q : ℕ) → descriptor s d fd ≡ Some (on.ReadEnd p)
+      → StepsTo s (event.Call d (call.IolRead fd n)) (reply.Refused (Denied q)) t → IsHidden s d q (pipe_at s p).queue
+  -- as much waits as may
+  pub conn_is_full : (s t : State) (d fd c a : ℕ) → descriptor s d fd ≡ Some (on.Connection c)
+      → StepsTo s (event.Call d (call.IolWrite fd a)) (reply.Refused WouldBlock) t
+      → MAX_QUEUE_BYTES ≤ length (conn_at s c).outgoing
+  pub pipe_is_full : (s t : State) (d fd p a : ℕ) → descriptor s d fd ≡ Some (on.WriteEnd p)
+      → StepsTo s (event.Call d (call.IolWrite fd a)) (reply.Refused WouldBlock) t
+      → MAX_QUEUE_BYTES ≤ length (pipe_at s p).queue
+  -- nobody takes it any more
+  pub peer_is_gone : (s t : State) (d fd c a : ℕ) → descriptor s d fd ≡ Some (on.Connection c)
+      → StepsTo s (event.Call d (call.IolWrite fd a)) (reply.Refused BrokenPipe) t → is_gone (conn_at s c).peer ≡ true
+  pub nobody_reads : (s t : State) (d fd p a : ℕ) → descriptor s d fd ≡ Some (on.WriteEnd p)
+      → StepsTo s (event.Call d (call.IolWrite fd a)) (reply.Refused BrokenPipe) t → (pipe_at s p).reading ≡ false
+  -- each connection that waits is one that the domain may not accept
+  pub nobody_waits : (s t : State) (d c : ℕ) → StepsTo s (event.Call d call.Accept) (reply.Refused WouldBlock) t
+      → (conn_at s c).accepted ≡ false → may_read s d (conn_at s c).pool ≡ false
+  -- what is there is closed or dropped, at once
+  pub close_is_done : (s t : State) (d fd : ℕ) (x : Descriptor) (r : Reply) → is_live s d ≡ true
+      → descriptor s d fd ≡ Some x → StepsTo s (event.Call d (call.Close fd)) r t → r ≡ reply.Done
+  pub drop_is_done : (s t : State) (d a : ℕ) (bytes : List ℕ) (r : Reply) → is_live s d ≡ true → lent_at s d a ≡ Some bytes
+      → StepsTo s (event.Call d (call.AggDrop a)) r t → r ≡ reply.Done

@@ -1,0 +1,27 @@
+use Rattle.std.proofs.Common.{refl}
+use Rattle.iol_proc.proofs.Borrowing.{arrived_copied, refused_copied}
+use Rattle.iol_proc.proofs.world.World.arrive_from.Goals as goal
+
+-- the bytes that came in arrive
+pub returns-clause-copied : goal.returns-clause-copied
+returns-clause-copied g c =
+    rw (← c.self.view_is)
+    (arrived_copied g.P.Process.turns c.args.conn _ _ c.arrive_from.result
+    (record { machine = c.self.inside.system; seats = c.self.inside.seats.items; rough = c.self.inside.rough })
+    (record { machine = c.arrive_from.new.self; seats = c.self.inside.seats.items; rough = c.self.inside.rough })
+    refl refl c.arrive_from.ensures.read)
+
+pub returns-clause-err_copied : goal.returns-clause-err_copied
+returns-clause-err_copied g c =
+    rw (← c.self.view_is)
+    (refused_copied c.arrive_from.result
+    (record { machine = c.self.inside.system; seats = c.self.inside.seats.items; rough = c.self.inside.rough })
+    (record { machine = c.arrive_from.new.self; seats = c.self.inside.seats.items; rough = c.self.inside.rough })
+    refl refl c.arrive_from.ensures.err_machine)
+
+-- what it does to the system
+pub returns-clause-made : goal.returns-clause-made
+returns-clause-made g c = rw (← c.self.view_is) c.arrive_from.ensures.made
+
+pub returns-clause-none : goal.returns-clause-none
+returns-clause-none g c = rw (← c.self.view_is) c.arrive_from.ensures.none

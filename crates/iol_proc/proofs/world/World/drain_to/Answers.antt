@@ -1,0 +1,12 @@
+use Rattle.std.proofs.Common.{refl}
+use Rattle.iol_proc.proofs.Borrowing.{drained_copied}
+use Rattle.iol_proc.proofs.world.World.drain_to.Goals as goal
+
+-- the bytes that were taken are sent
+pub returns-clause-copied : goal.returns-clause-copied
+returns-clause-copied g c =
+    rw (← c.self.view_is)
+    (drained_copied g.P.Process.turns c.args.conn c.args.max c.drain_to.result
+    (record { machine = c.self.inside.system; seats = c.self.inside.seats.items; rough = c.self.inside.rough })
+    (record { machine = c.drain_to.new.self; seats = c.self.inside.seats.items; rough = c.self.inside.rough })
+    refl refl c.drain_to.ensures.disk c.drain_to.ensures.passed c.drain_to.ensures.most c.drain_to.ensures.left)

@@ -1,0 +1,90 @@
+-- Which bytes of files lie where they lay after an event, and which bytes calls on files share.
+use Rattle.std.specs.Prelude.{◌≡◌, ◌⊎◌, ℕ, ◌+◌, ◌<◌, ◌≤◌, false, List, length, Option, Some, ⊤}
+use Rattle.iol_core.specs.State.{conn_at, descriptor}
+use Rattle.iol_core.specs.Calls.Aggregates.{default_pool}
+use Rattle.iol_core.specs.Calls.Outside.{arrive}
+use Rattle.iol_core.specs.Calls.Writing.{pool_for, write}
+use Rattle.iol_core.specs.declared.descriptors.Descriptor.{Descriptor}
+use Rattle.iol_core.specs.declared.descriptors.Descriptor.TheVariants as on
+use Rattle.iol_core.specs.declared.events.Call.TheVariants as call
+use Rattle.iol_core.specs.declared.events.Event.{Event}
+use Rattle.iol_core.specs.declared.events.Event.TheVariants as event
+use Rattle.iol_arena.specs.State.{pages_for}
+use Rattle.iol_extent.specs.Extents.{Cell, cover}
+use Rattle.iol_hold.specs.Places.{byte_len}
+use Rattle.iol_hold.specs.declared.slices.Slice.{Slice}
+use Rattle.iol_cache.specs.Cached.{extents_in, file_in}
+use Rattle.iol_cache.specs.Composing.{copied_pages}
+use Rattle.iol_cache.specs.Overwriting.{LiesDirty}
+use Rattle.iol_kernel.specs.Backed.{holding_of}
+use Rattle.iol_kernel.specs.FileReading.{GivesRead, file_read, held_by}
+use Rattle.iol_kernel.specs.Keeping.{LacksPages, LacksPagesToRead}
+use Rattle.iol_kernel.specs.KernelState.{KernelState, slices_in}
+use Rattle.iol_kernel.specs.WritingFiles.{pool_of_file}
+use Rattle.iol_system.specs.Machine.{SystemState, tables_of}
+
+-- byte i of file f is one of n from the position on at which a descriptor is open
+abbrev pub IsInRange : Option Descriptor → (n f i : ℕ) → Type 0
+IsInRange (Some (on.File g at mode)) n f i = (f ≡ g) × (at ≤ i) × (i < at + n)
+IsInRange o n f i = ⊥
+
+-- the event writes byte i of file f
+abbrev pub IsWritten : KernelState → Event → (f i : ℕ) → Type 0
+IsWritten old (event.Call by (call.IolWrite fd a)) f i = IsInRange (descriptor (tables_of old) by fd) (byte_len (slices_in old.domains by a)) f i
+IsWritten old (event.Call by (call.Write fd bytes)) f i = IsInRange (descriptor (tables_of old) by fd) (length bytes) f i
+IsWritten old e f i = ⊥
+
+-- n new bytes in a pool want more pages there than are free
+abbrev pub WantsMore : KernelState → (pool n p : ℕ) → Type 0
+WantsMore h pool n p = (p ≡ pool) × LacksPages h p (pages_for n)
+
+-- so does a read of a file, for what is not in memory
+abbrev pub ReadWantsMore : SystemState → Option Descriptor → (n p : ℕ) → Type 0
+ReadWantsMore s (Some (on.File f at mode)) n p = (p ≡ pool_of_file s.kernel f) × LacksPagesToRead f at n s.disk (holding_of s.kernel)
+ReadWantsMore s o n p = ⊥
+
+-- so does a write of slices to a file, for copies of those that lie in other pools
+abbrev pub WriteWantsMore : KernelState → Option Descriptor → List Slice → (p : ℕ) → Type 0
+WriteWantsMore h (Some (on.File f at mode)) xs p = (p ≡ pool_of_file h f) × LacksPages h p (copied_pages p xs)
+WriteWantsMore h o xs p = ⊥
+
+-- the event may let clean bytes of files of pool p go: it drops all of them, or wants more pages of the pool than are free
+abbrev pub MayLetGo : SystemState → Event → (p : ℕ) → Type 0
+MayLetGo s (event.Call by (call.AggMake bytes)) p = WantsMore s.kernel (default_pool (tables_of s.kernel) by) (length bytes) p
+MayLetGo s (event.Call by (call.IolRead fd n)) p = ReadWantsMore s (held_by (tables_of s.kernel) by fd) n p
+MayLetGo s (event.Call by (call.IolWrite fd a)) p = WriteWantsMore s.kernel (descriptor (tables_of s.kernel) by fd) (slices_in s.kernel.domains by a) p
+MayLetGo s (event.Call by (call.Read fd n)) p = ReadWantsMore s (held_by (tables_of s.kernel) by fd) n p
+MayLetGo s (event.Call by (call.Write fd bytes)) p = WantsMore s.kernel (pool_for (tables_of s.kernel) by (descriptor (tables_of s.kernel) by fd)) (write (tables_of s.kernel) by fd bytes).answer p
+MayLetGo s (event.Arrive c bytes) p = WantsMore s.kernel (conn_at (tables_of s.kernel) c).pool (arrive (tables_of s.kernel) c bytes).answer p
+MayLetGo s event.DropClean p = Unit {0}
+MayLetGo s e p = ⊥
+
+-- what lay over a byte lies there still, or it is clean now
+abbrev pub IsThereOrClean : Cell → Option Cell → Type 0
+IsThereOrClean c o = (o ≡ Some c) ⊎ (o ≡ Some (record { place = c.place; dirty = false }))
+
+-- What lay over a byte lies there still, dirty or clean as it was; where dirty bytes are written back, it may be clean now.
+abbrev pub LiesStill : Event → Cell → Option Cell → Type 0
+LiesStill (event.Call by (call.Fsync fd)) c o = IsThereOrClean c o
+LiesStill event.Flush c o = IsThereOrClean c o
+LiesStill e c o = o ≡ Some c
+
+-- Each byte of a file that is in memory lies where it lay. Or the event writes it; or it was clean, and the event may let it go.
+pub record KeepsInPlace (old : SystemState) (e : Event) (new : KernelState) : Type 0 where
+  pub each : (f i : ℕ) (c : Cell) → cover (extents_in old.kernel.cache.files f) i ≡ Some c
+      → LiesStill e c (cover (extents_in new.cache.files f) i) ⊎ (IsWritten old.kernel e f i ⊎ ((c.dirty ≡ false) × MayLetGo old e (file_in old.kernel.cache.files f).pool))
+
+-- A read of a file by reference gives bytes that were in memory where they lay, and the others where they lie in new extents.
+abbrev pub SharesRead : (by fd n : ℕ) → SystemState → Option Descriptor → KernelState → Type 0
+SharesRead by fd n old (Some (on.File f at mode)) new = GivesRead (file_read by fd f at mode n) old.disk old.kernel new
+SharesRead by fd n old o new = ⊤
+
+-- A write of slices to a file: those of its pool lie under it where they lay.
+abbrev pub SharesWrite : Option Descriptor → List Slice → KernelState → Type 0
+SharesWrite (Some (on.File f at mode)) xs new = LiesDirty f at xs new.cache
+SharesWrite o xs new = ⊤
+
+abbrev pub SharesFile : SystemState → Event → KernelState → Type 0
+SharesFile old (event.Call by (call.IolRead fd n)) new = SharesRead by fd n old (held_by (tables_of old.kernel) by fd) new
+SharesFile old (event.Call by (call.IolWrite fd a)) new = SharesWrite (descriptor (tables_of old.kernel) by fd) (slices_in old.kernel.domains by a) new
+SharesFile old e new = ⊤
