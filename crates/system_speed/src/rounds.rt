@@ -68,13 +68,22 @@ fn pass(system: &mut MemorySystem, event: &Event) -> Result<(), Refusal> {
     }
 }
 
+// What is to be sent is taken by the peer.
+fn take(system: &mut MemorySystem) -> Result<(), Refusal> {
+    let drained = system.drain_to(ConnId::new(1), &mut io::sink(), u32::MAX);
+    match drained {
+        Ok(_) => Ok(()),
+        Err(refusal) => Err(refusal),
+    }
+}
+
 // A round; what is to be sent then is taken, where anything is.
 fn round(system: &mut MemorySystem, events: &[Event], sends: bool) -> Result<(), Refusal> {
     for event in events {
         pass(system, event)?;
     }
     if sends {
-        system.drain_to(ConnId::new(1), &mut io::sink(), u32::MAX)?;
+        take(system)?;
     }
     Ok(())
 }

@@ -7,6 +7,7 @@ use iol_core::descriptors::Mode;
 use iol_core::events::{Call, Event};
 use iol_core::lists::{Bytes, Domains};
 use iol_core::numbers::{AggId, DomainId, Fd, PoolId};
+use iol_core::refusals::Refusal;
 use iol_system::system::System;
 use std::alloc::{AllocError, Global};
 
@@ -73,13 +74,17 @@ fn queues(alloc: Global) -> Result<Vec<Event>, AllocError> {
     ]?)
 }
 
+// A system over a store that has no file yet.
+fn start(alloc: Global) -> Result<MemorySystem, Refusal> {
+    let store = MemoryBacking::new(Slots::new(alloc));
+    System::new(alloc, Config::DEFAULT, store)
+}
+
 /// A system in which domain 1 has an aggregate of so many bytes, a file of the same bytes, a pipe and a connection.
 pub fn system(alloc: Global, len: usize) -> anyhow::Result<MemorySystem> {
-    let (aggregate, file, queues) = (aggregate(alloc, len)?, file(alloc)?, queues(alloc)?);
-    let store = MemoryBacking::new(Slots::new(alloc));
-    let mut system = System::new(alloc, Config::DEFAULT, store)?;
-    for events in [&aggregate, &file, &queues] {
-        carry_out(&mut system, events)?;
-    }
+    let mut system = start(alloc)?;
+    carry_out(&mut system, &aggregate(alloc, len)?)?;
+    carry_out(&mut system, &file(alloc)?)?;
+    carry_out(&mut system, &queues(alloc)?)?;
     Ok(system)
 }
