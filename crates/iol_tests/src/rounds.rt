@@ -80,10 +80,7 @@ struct Rounds {
 impl Rounds {
     /// A system with a pool, a pipe, an aggregate and a copy of it.
     fn new(alloc: Global, round: Round) -> Result<Rounds, Failure> {
-        let store = MemoryBacking::new(Slots::new(alloc));
-        let Ok(mut system) = System::new(alloc, SIZES, store) else {
-            return Err(Failure::Refused);
-        };
+        let mut system = small_system(alloc)?;
         let domains = Domains::from_vec([DomainId::new(1)].to_vec(alloc)?);
         carry_out(&mut system, Call::PoolCreate { chunks: 1, domains })?;
         let pool = PoolId::new(1);
@@ -139,6 +136,15 @@ impl Rounds {
         self.last = made;
         Ok(())
     }
+}
+
+/// A system of these sizes, over an empty store.
+fn small_system(alloc: Global) -> Result<System<MemoryBacking>, Failure> {
+    let store = MemoryBacking::new(Slots::new(alloc));
+    let Ok(system) = System::new(alloc, SIZES, store) else {
+        return Err(Failure::Refused);
+    };
+    Ok(system)
 }
 
 /// A short text to make an aggregate of.
