@@ -1,5 +1,5 @@
 -- A domain accepts a connection that waits.
-use Rattle.std.proofs.Common.{◌≡◌, ◌≢◌, ℕ, ◌+◌, ◌<◌, ◌≤◌, ◌&&◌, Bool, not, true, false, cond, List, [], ◌∷◌, ap, ◌∙◌, refl, sym, subst, arith, Option, Some, None, inl, inr}
+use Rattle.std.proofs.Common.{◌≡◌, ◌≢◌, ℕ, ◌+◌, ◌≤◌, ◌&&◌, Bool, not, true, false, cond, List, [], ◌∷◌, ap, ◌∙◌, refl, sym, subst, arith, Option, Some, None, inl, inr}
 use Rattle.std.specs.Prelude.{option_map, unwrap_or}
 use Rattle.std.specs.List.{find}
 use Rattle.std.proofs.lemmas.Bool.{cases_Bool}

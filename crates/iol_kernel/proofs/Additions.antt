@@ -11,7 +11,7 @@ use Rattle.iol_arena.specs.State.{page_count}
 use Rattle.iol_hold.specs.Stored.{Stored}
 use Rattle.iol_hold.specs.Places.{Place, places, byte_len}
 use Rattle.iol_kernel.specs.Readings.{Reading, read, bytes_over}
-use Rattle.iol_hold.specs.Texts.{AllReadable, IsThere, byte_at}
+use Rattle.iol_hold.specs.Texts.{AllReadable, IsThere}
 use Rattle.iol_hold.specs.declared.slices.Slice.{Slice}
 use Rattle.iol_hold.proofs.AtPlaces.{read_same, read_cut, read_replaced}
 use Rattle.iol_hold.proofs.Emptied.{all_settled_same}

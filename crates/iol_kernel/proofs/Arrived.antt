@@ -1,5 +1,5 @@
 -- Bytes come in on a connection, after clean extents gave way.
-use Rattle.std.proofs.Common.{◌≡◌, ℕ, ◌-◌, ◌∙◌, arith, Bool, Option, List, [], ◌∷◌, length, Some, None, refl, sym, ap, subst, true, false}
+use Rattle.std.proofs.Common.{◌≡◌, ℕ, ◌∙◌, arith, Bool, Option, List, [], ◌∷◌, length, Some, None, refl, sym, ap, true, false}
 use Rattle.std.specs.Prelude.{Result, Err, OnErr, IfOk}
 use Rattle.iol_arena.specs.State.{pages_for}
 use Rattle.iol_core.specs.State as machine

@@ -7,14 +7,13 @@ use Rattle.iol_core.specs.declared.configuration.Config.{Config}
 use Rattle.iol_core.specs.declared.refusals.Refusal.{Refusal}
 use Rattle.iol_core.specs.declared.refusals.Refusal.TheVariants.{BadRange}
 use Rattle.iol_core.specs.declared.numbers.BufId.{BufId}
-use Rattle.iol_core.specs.State.{new_state, no_slots, new_domain, Domain}
+use Rattle.iol_core.specs.State.{new_state, new_domain, Domain}
 use Rattle.iol_arena.specs.State.{no_entry, page_count}
 use Rattle.iol_arena.specs.declared.pages.PageKind.TheVariants.{Free}
 use Rattle.std.proofs.lemmas.List.{length-replicate}
 use Rattle.iol_arena.specs.declared.pages.Entry.{Entry}
 use Rattle.iol_pool.specs.Pools.{Pool}
 use Rattle.iol_hold.specs.Stored.{Stored, count_in, count_of, IsTidy, IsStill, AllSettled}
-use Rattle.iol_hold.specs.Texts.{text_of}
 use Rattle.iol_hold.specs.declared.slices.Slice.{Slice}
 use Rattle.iol_sum.specs.Sums.{IsRight}
 use Rattle.iol_sock.specs.Connections.{Conn}

@@ -1,14 +1,13 @@
 -- What a kernel stands for, its files with any bytes.
-use Rattle.std.proofs.Common.{◌≡◌, ℕ, ◌+◌, ◌-◌, ◌<◌, ◌≤◌, ◌∙◌, List, [], length, get_or, replicate, refl, sym, ap, subst, Option, Some, arith}
+use Rattle.std.proofs.Common.{◌≡◌, ℕ, ◌-◌, ◌<◌, ◌≤◌, ◌∙◌, List, [], length, get_or, replicate, refl, ap, Option, arith}
 use Rattle.std.specs.Prelude.{Err, Result}
 use Rattle.std.proofs.lemmas.Bool.Decides.{nat_tests}
 use Rattle.std.proofs.lemmas.List.{get_or-replicate, length-replicate}
 use Rattle.std.proofs.lemmas.List.FromFn.{get_or-map-range_with_len}
-use Rattle.std.specs.List.{range_with_len}
 use Rattle.iol_core.specs.Numbered.{numbered_or}
 use Rattle.iol_core.specs.State as machine
 use Rattle.iol_core.specs.State.{State, Domain}
-use Rattle.iol_core.specs.Meaning.{Meaning, Step, first}
+use Rattle.iol_core.specs.Meaning.{Meaning, Step}
 use Rattle.iol_core.specs.Calls.Descriptors as fds
 use Rattle.iol_core.specs.declared.descriptors.Descriptor.{Descriptor}
 use Rattle.iol_core.specs.declared.limits.TheConstants.{MAX_FILES}
@@ -18,7 +17,7 @@ use Rattle.iol_hold.specs.declared.slices.Slice.{Slice}
 use Rattle.iol_cache.specs.Contents.{bytes_in_slot}
 use Rattle.iol_kernel.specs.Backed.{IsBackedBy, Serves, with_slots}
 use Rattle.iol_kernel.specs.KernelState.{KernelState, IsSound, machine_of, read_of}
-use Rattle.iol_kernel.specs.Readings.{Reading, bytes_over, slot_read, slots_read}
+use Rattle.iol_kernel.specs.Readings.{bytes_over, slot_read, slots_read}
 use Rattle.iol_kernel.specs.Views.{state_view}
 use Rattle.iol_kernel.proofs.Stay.{stays_here}
 

@@ -1,12 +1,10 @@
 -- What comes in from a reader and what goes out to a writer, of a connection.
-use Rattle.std.proofs.Common.{◌≡◌, ◌≢◌, ℕ, zero, suc, ◌+◌, ◌-◌, ◌<◌, ◌≤◌, ◌==◌, ◌&&◌, ◌||◌, Bool, List, [], ◌∷◌, ◌++◌, length, take, drop, ap, ◌∙◌, refl, sym, subst, arith, Option, Some, None, true, false}
+use Rattle.std.proofs.Common.{◌≡◌, ◌≢◌, ℕ, zero, suc, ◌-◌, ◌≤◌, ◌==◌, ◌&&◌, ◌||◌, Bool, List, [], ◌∷◌, ◌++◌, length, take, drop, ap, ◌∙◌, refl, sym, subst, arith, Option, Some, None, true, false}
 use Rattle.std.specs.Prelude.{min, nat_lt, is_some, MatchOption, Ok}
-use Rattle.std.specs.Io.KnownBytes.{Appends}
 use Rattle.std.proofs.lemmas.Bool.Decides.{nat_tests}
 use Rattle.std.proofs.lemmas.List.{take_all, append-nil}
-use Rattle.iol_core.specs.Text.{Text, bytes_of, labelled}
+use Rattle.iol_core.specs.Text.{Text, labelled}
 use Rattle.iol_core.specs.Numbered.{lookup, changed}
-use Rattle.iol_core.specs.State as machine
 use Rattle.iol_core.specs.State.{State, Connection, conn_at, with_conn}
 use Rattle.iol_core.specs.Meaning.{◌when◌, first, WantOfRoom}
 use Rattle.iol_core.specs.Calls.Outside as outside
@@ -33,10 +31,10 @@ use Rattle.iol_kernel.specs.Borrowed.{arrive_from_refusals, TakesIn, sent_on}
 use Rattle.iol_kernel.specs.Calls.{Arrives, Leaves, Steps}
 use Rattle.iol_kernel.specs.KernelState.{KernelState, IsSound, read_of, machine_of}
 use Rattle.iol_kernel.proofs.Arriving.{going, passed_open, arrive_pool, all_sound, all_step, all_made}
-use Rattle.iol_kernel.proofs.Connecting.{conn_found, conn_in-found, conn_there, there-changed, rising-read_of, not_over, conn_left, turned}
+use Rattle.iol_kernel.proofs.Connecting.{conn_found, conn_in-found, conn_there, there-changed, rising-read_of, not_over, conn_left}
 use Rattle.iol_kernel.proofs.Effects.{leaves_as}
 use Rattle.iol_kernel.proofs.Numbering.{changed_same}
-use Rattle.iol_kernel.proofs.Transmitting.{shorter, sent, sent-sound, sent_leaves}
+use Rattle.iol_kernel.proofs.Transmitting.{shorter, sent-sound, sent_leaves}
 use Rattle.iol_kernel.specs.Readings.{read, bytes_over}
 
 -- What comes in.

@@ -1,13 +1,10 @@
 -- A file is found by its name, and opened.
-use Rattle.std.proofs.Common.{◌≡◌, ℕ, zero, suc, ◌+◌, ◌<◌, ◌≤◌, ◌∙◌, Bool, true, false, List, [], ◌∷◌, length, get_or, map, Option, Some, None, refl, sym, ap, subst, arith, inl, inr}
-use Rattle.std.specs.Prelude.{MatchOption, position, option_map, unwrap_or, bytes_eq, slice_set, nat_lt, cond, not}
+use Rattle.std.proofs.Common.{◌≡◌, ℕ, ◌+◌, ◌<◌, ◌≤◌, ◌∙◌, Bool, true, List, [], ◌∷◌, length, Option, Some, None, refl, sym, ap, arith}
+use Rattle.std.specs.Prelude.{position, option_map, unwrap_or, bytes_eq, nat_lt, cond, not}
 use Rattle.std.specs.List.{position_or_len}
-use Rattle.std.proofs.lemmas.Bool.{cases_eq}
-use Rattle.std.proofs.lemmas.Bool.Decides.{nat_tests}
 use Rattle.std.proofs.lemmas.List.{length-map}
 use Rattle.std.proofs.lemmas.List.Quantifiers.{position-Some}
-use Rattle.std.proofs.lemmas.List.Sums.{sum_by-set}
-use Rattle.iol_core.specs.Numbered.{is_numbered, numbered_or, in_place, lowest, placed}
+use Rattle.iol_core.specs.Numbered.{is_numbered, numbered_or, lowest, placed}
 use Rattle.iol_core.specs.State as machine
 use Rattle.iol_core.specs.State.{State, Domain}
 use Rattle.iol_core.specs.Calls.Descriptors as fds
@@ -15,12 +12,11 @@ use Rattle.iol_core.specs.Calls.Files as calls
 use Rattle.iol_core.specs.declared.descriptors.Descriptor.{Descriptor}
 use Rattle.iol_core.specs.declared.descriptors.Descriptor.TheVariants as on
 use Rattle.iol_core.specs.declared.descriptors.Mode.{Mode}
-use Rattle.iol_core.specs.declared.limits.TheConstants.{MAX_FILES, MAX_FILE_BYTES}
+use Rattle.iol_core.specs.declared.limits.TheConstants.{MAX_FILES}
 use Rattle.iol_cache.proofs.Filing.{numbered_bounds, numbered_yes}
-use Rattle.iol_desc.specs.Tables.{domain_in, with_domain_in, with_fds_in, with_next_fd}
-use Rattle.iol_hold.specs.declared.slices.Slice.{Slice}
+use Rattle.iol_desc.specs.Tables.{domain_in, with_fds_in, with_next_fd}
 use Rattle.iol_kernel.specs.Calls.{Answers}
-use Rattle.iol_kernel.specs.Ends.{same_end, on_end, ends_on, IsOpenOnce}
+use Rattle.iol_kernel.specs.Ends.{same_end, IsOpenOnce}
 use Rattle.iol_kernel.specs.Files.{file_of, files_of, opens}
 use Rattle.iol_kernel.specs.KernelState.{KernelState, objects_of, IsOpenEnd, IsSound, read_of}
 use Rattle.iol_kernel.specs.Readings.{Reading}
@@ -29,7 +25,7 @@ use Rattle.iol_kernel.proofs.Effects.{fds-changed, fds-sound}
 use Rattle.iol_kernel.proofs.Named.{as_many, files-read_of}
 use Rattle.iol_kernel.proofs.Once.{ends-placed, once_fewer}
 use Rattle.iol_kernel.proofs.ReadOf.{fds-read_of}
-use Rattle.iol_kernel.proofs.Sound.{each-placed, each-set, ends_open}
+use Rattle.iol_kernel.proofs.Sound.{each-placed, ends_open}
 use Rattle.iol_kernel.proofs.Stay.{stays_here}
 use Rattle.iol_kernel.proofs.Uses.{Domains}
 

@@ -1,11 +1,9 @@
 -- One connection changes or goes, as the machine sees it, and all stays sound.
 use Rattle.std.proofs.Common.{◌≡◌, ◌≢◌, ℕ, ◌+◌, ◌<◌, ◌≤◌, ◌==◌, ◌&&◌, ◌||◌, Bool, not, List, [], ◌∷◌, ◌++◌, length, map, ap, ◌∙◌, refl, sym, subst, arith, Option, Some, None, true, false, inl, inr, length-append}
-use Rattle.std.specs.Prelude.{if◌then◌else◌, sum_by, unwrap_or, option_map, is_none}
+use Rattle.std.specs.Prelude.{if◌then◌else◌, unwrap_or, option_map, is_none}
 use Rattle.std.proofs.lemmas.Bool.{cases_eq}
-use Rattle.std.proofs.lemmas.Bool.Decides.{nat_tests}
 use Rattle.std.proofs.lemmas.List.Sums.{sum_by_push}
 use Rattle.std.proofs.lemmas.List.{map-append}
-use Rattle.iol_core.specs.Text.{Text}
 use Rattle.iol_core.specs.Numbered.{lookup, without, changed}
 use Rattle.iol_core.specs.State as machine
 use Rattle.iol_core.specs.State.{State, Domain, Connection, is_gone}
@@ -21,13 +19,12 @@ use Rattle.iol_core.specs.declared.numbers.BufId.{BufId}
 use Rattle.iol_pool.specs.Pools.{pool_in}
 use Rattle.iol_hold.specs.Stored.{Stored, IsTidy, IsStill, AllSettled, count_of}
 use Rattle.iol_arena.specs.State.{page_count}
-use Rattle.iol_hold.specs.Moves.{Stays, SameLists, Moves, tally, Covers}
+use Rattle.iol_hold.specs.Moves.{Stays, SameLists, Moves, Covers}
 use Rattle.iol_hold.specs.Pages.{KeepsPages}
 use Rattle.iol_hold.specs.Places.{byte_len}
 use Rattle.iol_hold.specs.Releases.{FreesOnly}
-use Rattle.iol_hold.specs.Texts.{bufs_of, AllReadable}
+use Rattle.iol_hold.specs.Texts.{bufs_of}
 use Rattle.iol_hold.specs.declared.slices.Slice.{Slice}
-use Rattle.iol_hold.proofs.AtPlaces.{length-read}
 use Rattle.iol_hold.proofs.Counting.{tally-append, tally_none}
 use Rattle.iol_hold.proofs.Paging.{keeps_pages_frees}
 use Rattle.iol_hold.proofs.Reading.{readable_none}
@@ -37,8 +34,8 @@ use Rattle.iol_sock.specs.Table as table
 use Rattle.iol_sock.specs.Table.{ConnTable, conn_in, no_conn}
 use Rattle.iol_sock.specs.Meant.{IsConn}
 use Rattle.iol_sock.proofs.Meaning.{conn_at-is, over_meant}
-use Rattle.iol_kernel.specs.Views.{Objects, state_view}
-use Rattle.iol_kernel.specs.Counted.{uses, conn_uses, IsCounted}
+use Rattle.iol_kernel.specs.Views.{state_view}
+use Rattle.iol_kernel.specs.Counted.{conn_uses, IsCounted}
 use Rattle.iol_kernel.specs.KernelState as held
 use Rattle.iol_kernel.specs.KernelState.{KernelState, objects_of, Each, IsConnReadable, AreReadable, IsOpenEnd, IsLimited, ArePooled, IsSound, read_of, machine_of}
 use Rattle.iol_kernel.specs.Readings.{Reading, read}

@@ -15,7 +15,7 @@ use Rattle.iol_core.specs.Calls.Pools as pools
 use Rattle.iol_pool.specs.Pools.{Pool, with_closed}
 use Rattle.iol_hold.specs.Stored.{Stored, IsTidy, IsStill, AllSettled}
 use Rattle.iol_hold.specs.Moves.{Stays, Moves, SameLists, pool_meant}
-use Rattle.iol_hold.specs.Texts.{text_of, bufs_of, byte_at, AllReadable}
+use Rattle.iol_hold.specs.Texts.{text_of, bufs_of, AllReadable}
 use Rattle.iol_hold.specs.declared.slices.Slice.{Slice}
 use Rattle.iol_hold.specs.Pages.{KeepsPages}
 use Rattle.iol_hold.specs.Releases.{FreesOnly}

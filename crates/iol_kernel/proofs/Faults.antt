@@ -1,8 +1,7 @@
 -- What the store's faults mean for calls that write back.
-use Rattle.std.proofs.Common.{◌≡◌, ◌∙◌, ℕ, ◌≤◌, List, [], length, ap, sym, refl, subst, arith, true, inr, Option, Some, None}
+use Rattle.std.proofs.Common.{◌≡◌, ℕ, List, length, ap, sym, refl, subst, arith, true, inr, Option, None}
 use Rattle.std.specs.Prelude.{Result, Ok, Err, OnOk, OnErr, IfErr, MatchOption}
 use Rattle.iol_core.specs.Numbered.{is_numbered}
-use Rattle.iol_core.specs.State as machine
 use Rattle.iol_core.specs.State.{State}
 use Rattle.iol_core.specs.Meaning.{Step, first, FaultOf}
 use Rattle.iol_core.specs.Calls.Files as calls
@@ -14,7 +13,7 @@ use Rattle.iol_back.specs.Disk.{Disk, raised}
 use Rattle.iol_hold.specs.Stored.{Stored}
 use Rattle.iol_cache.specs.Cached.{Cached}
 use Rattle.iol_cache.specs.Serving.{FaultCounts}
-use Rattle.iol_cache.specs.Syncing.{Flushes, Syncs}
+use Rattle.iol_cache.specs.Syncing.{Flushes}
 use Rattle.iol_cache.specs.declared.syncing.Flushed.{Flushed}
 use Rattle.iol_cache.specs.declared.syncing.Flushed.TheVariants.{Nothing, Wrote}
 use Rattle.iol_cache.proofs.Filing.{numbered_bounds, numbered_yes}

@@ -9,9 +9,8 @@ use Rattle.iol_core.specs.Meaning.{first}
 use Rattle.iol_core.specs.Calls.Reading as reading
 use Rattle.iol_core.specs.declared.descriptors.Descriptor.TheVariants as on
 use Rattle.iol_core.specs.declared.limits.TheConstants.{MAX_FILE_BYTES}
-use Rattle.iol_core.specs.declared.numbers.BufId.{BufId}
 use Rattle.iol_back.specs.Disk.{Disk}
-use Rattle.iol_hold.specs.Moves.{Covers, Moves, SameLists, tally}
+use Rattle.iol_hold.specs.Moves.{Covers, Moves, SameLists}
 use Rattle.iol_hold.specs.Releases.{FreesOnly}
 use Rattle.iol_hold.specs.Stored.{Stored, AllSettled}
 use Rattle.iol_hold.specs.Places.{byte_len}

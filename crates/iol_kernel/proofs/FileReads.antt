@@ -1,5 +1,5 @@
 -- Reads of files: with the bytes that an honest store has they are the machine's, and with some bytes over any store.
-use Rattle.std.proofs.Common.{◌≡◌, ℕ, zero, suc, ◌+◌, ◌-◌, ◌<◌, ◌≤◌, ◌==◌, List, [], ◌∷◌, ◌++◌, length, get_or, map, take, drop, replicate, ap, ◌∙◌, refl, sym, subst, arith, Option, Some, None, true, false, inl, inr}
+use Rattle.std.proofs.Common.{◌≡◌, ℕ, zero, suc, ◌+◌, ◌-◌, ◌<◌, ◌≤◌, ◌==◌, List, [], ◌∷◌, ◌++◌, length, get_or, take, drop, replicate, ap, ◌∙◌, refl, sym, subst, arith, Option, Some, None, true, inl, inr}
 use Rattle.std.specs.Prelude.{MatchOption, Result, Ok, Err, slice_set}
 use Rattle.std.proofs.Math.Seq.{drop-append_seam}
 use Rattle.std.proofs.lemmas.Bool.{cases_lt}
@@ -19,17 +19,16 @@ use Rattle.iol_core.specs.Calls.Reading as reading
 use Rattle.iol_core.specs.declared.descriptors.Descriptor.{Descriptor}
 use Rattle.iol_core.specs.declared.descriptors.Descriptor.TheVariants as on
 use Rattle.iol_core.specs.declared.descriptors.Mode.{Mode}
-use Rattle.iol_core.specs.declared.limits.TheConstants.{MAX_AGGREGATES, MAX_AGGREGATE_BYTES, MAX_FILES, MAX_FILE_BYTES}
+use Rattle.iol_core.specs.declared.limits.TheConstants.{MAX_AGGREGATES, MAX_FILES, MAX_FILE_BYTES}
 use Rattle.iol_core.specs.declared.refusals.Refusal.{Refusal}
-use Rattle.iol_core.specs.declared.numbers.BufId.{BufId}
 use Rattle.iol_back.specs.Disk.{Disk}
-use Rattle.iol_hold.specs.Places.{Place, byte_len, places}
+use Rattle.iol_hold.specs.Places.{byte_len, places}
 use Rattle.iol_hold.specs.Stored.{Stored}
-use Rattle.iol_hold.specs.Texts.{AllReadable, bufs_of, byte_at, text_of}
+use Rattle.iol_hold.specs.Texts.{AllReadable, bufs_of, text_of}
 use Rattle.iol_hold.specs.declared.slices.Slice.{Slice}
 use Rattle.iol_hold.specs.Moves.{Stays}
 use Rattle.iol_hold.proofs.Reading.{bytes_of-labelled, length-text_of}
-use Rattle.iol_desc.specs.Tables.{domain_in, live_aggs_in, with_agg_in, with_fds_in}
+use Rattle.iol_desc.specs.Tables.{domain_in, live_aggs_in, with_agg_in}
 use Rattle.iol_cache.specs.Cached as cached
 use Rattle.iol_cache.specs.Cached.{Cached, file_in}
 use Rattle.iol_cache.specs.Contents.{bytes_in_slot}
@@ -40,8 +39,8 @@ use Rattle.iol_cache.specs.Sound as cache
 use Rattle.iol_cache.specs.declared.files.CachedFile.{CachedFile}
 use Rattle.iol_cache.proofs.Composed.{own_places, own_text}
 use Rattle.iol_cache.proofs.Filing.{numbered_bounds, numbered_yes}
-use Rattle.iol_kernel.specs.Backed.{IsBackedBy, Serves, StepsBeside, holding_of, with_slots}
-use Rattle.iol_kernel.specs.Ends.{IsOpenOnce, ends_on, on_end, same_end}
+use Rattle.iol_kernel.specs.Backed.{IsBackedBy, Serves, holding_of, with_slots}
+use Rattle.iol_kernel.specs.Ends.{ends_on, on_end, same_end}
 use Rattle.iol_kernel.specs.FileReading.{FileRead, moved_on, pool_read}
 use Rattle.iol_kernel.specs.KernelState.{KernelState, objects_of, AreFiled, IsOpenEnd, IsSound, machine_of, read_of}
 use Rattle.iol_kernel.specs.Readings.{bytes_over, slot_read, slots_read}

@@ -1,10 +1,9 @@
 -- What a read of a file leaves of a kernel, from what the cache of files promises of it.
-use Rattle.std.proofs.Common.{◌≡◌, ℕ, ◌+◌, ◌-◌, ◌<◌, ◌≤◌, List, [], ◌∷◌, ◌++◌, length, ap, ◌∙◌, refl, sym, subst, arith, Option, Some, None, true, inl, inr, length-append}
-use Rattle.std.specs.Prelude.{Result, Ok, Err}
+use Rattle.std.proofs.Common.{◌≡◌, ℕ, ◌+◌, ◌≤◌, List, [], ◌∷◌, ◌++◌, length, ap, refl, sym, subst, arith, Some, true, inl, inr, length-append}
+use Rattle.std.specs.Prelude.{Ok, Err}
 use Rattle.iol_core.specs.Numbered.{in_place, is_numbered}
 use Rattle.iol_core.specs.State.{Domain}
 use Rattle.iol_core.specs.Meaning.{WantOfRoomOrFault}
-use Rattle.iol_core.specs.Calls.Reading as reading
 use Rattle.iol_core.specs.declared.descriptors.Descriptor.TheVariants as on
 use Rattle.iol_core.specs.declared.limits.TheConstants.{MAX_FILE_BYTES}
 use Rattle.iol_core.specs.declared.refusals.Refusal.{Refusal}
@@ -29,11 +28,10 @@ use Rattle.iol_cache.specs.Weaving.{places_read}
 use Rattle.iol_cache.proofs.Keeping.{apart_of}
 use Rattle.iol_cache.proofs.Paging.{fills_none}
 use Rattle.iol_cache.proofs.Shared.{length-places_over}
-use Rattle.iol_kernel.specs.Backed.{Serves, holding_of}
-use Rattle.iol_kernel.specs.Calls.{CarriesOut}
+use Rattle.iol_kernel.specs.Backed.{holding_of}
 use Rattle.iol_kernel.specs.FileReading.{FileRead, GivesCopy, GivesRead, ReadsFileAs, moved_on, pool_read}
 use Rattle.iol_kernel.specs.KernelState.{KernelState, objects_of, IsSound}
-use Rattle.iol_kernel.proofs.FileReads.{numbered_here, position_short}
+use Rattle.iol_kernel.proofs.FileReads.{numbered_here}
 use Rattle.iol_kernel.specs.Keeping.{LacksPagesToRead}
 use Rattle.iol_kernel.proofs.Kept.{keeps_same, read_unless, refused_unless}
 use Rattle.iol_kernel.proofs.Named.{cache_sound}

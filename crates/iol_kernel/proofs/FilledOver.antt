@@ -1,18 +1,13 @@
 -- New bytes are placed in a file's pool and written over those of the file, and what was placed is released: the steps, one
 -- after another.
-use Rattle.std.proofs.Common.{inl, inr, ◌≡◌, ◌≢◌, ℕ, ◌+◌, ◌<◌, ◌≤◌, ◌++◌, ◌^◌, List, [], length, take, map, refl, sym, ap, ◌∙◌, subst, arith, Option, Some, None, true, false}
-use Rattle.std.specs.Prelude.{Result, Ok, Err, OnErr, OnOk}
+use Rattle.std.proofs.Common.{inl, inr, ◌≡◌, ℕ, ◌<◌, ◌≤◌, ◌++◌, ◌^◌, List, [], length, map, refl, sym, ap, ◌∙◌, subst, arith, true}
 use Rattle.std.proofs.lemmas.Bool.{cases_lt}
-use Rattle.iol_core.specs.Text.{Text, bytes_of, labelled}
+use Rattle.iol_core.specs.Text.{Text, bytes_of}
 use Rattle.iol_core.specs.Numbered.{is_numbered}
-use Rattle.iol_core.specs.State as machine
-use Rattle.iol_core.specs.declared.numbers.BufId.{BufId}
 use Rattle.iol_core.specs.declared.limits.TheConstants.{MAX_AGGREGATE_BYTES}
-use Rattle.iol_arena.specs.Buffers.{Grows}
 use Rattle.iol_arena.specs.State.{page_count}
 use Rattle.iol_back.specs.Disk.{overwritten}
-use Rattle.iol_pool.specs.Pools.{Pool}
-use Rattle.iol_hold.specs.Moves.{Covers, Moves, SameLists, pool_meant, tally}
+use Rattle.iol_hold.specs.Moves.{Covers, Moves, SameLists, pool_meant}
 use Rattle.iol_hold.specs.Places.{byte_len}
 use Rattle.iol_hold.specs.Releases.{FreesOnly}
 use Rattle.iol_hold.specs.Stored.{Stored, AllSettled}
@@ -22,7 +17,7 @@ use Rattle.iol_hold.proofs.Counting.{tally-append, tally_none}
 use Rattle.iol_hold.proofs.Moving.{stays_trans}
 use Rattle.iol_hold.proofs.Paging.{keeps_pages_frees}
 use Rattle.iol_hold.proofs.Reading.{readable_stays}
-use Rattle.iol_cache.specs.Cached.{Cached, file_in, held}
+use Rattle.iol_cache.specs.Cached.{Cached, held}
 use Rattle.iol_cache.specs.Composing.{copied_pages}
 use Rattle.iol_cache.specs.Contents.{Mirrors, bytes_in_slot}
 use Rattle.iol_cache.specs.Evicting.{Holding}

@@ -1,10 +1,10 @@
 -- What a copying write to a file means, once its bytes lie in the file's pool.
-use Rattle.std.proofs.Common.{inl, inr, ◌≡◌, ℕ, ◌+◌, ◌≤◌, Bool, true, false, List, [], ◌∷◌, length, take, map, refl, sym, ap, ◌∙◌, subst, arith, Option, Some, None}
+use Rattle.std.proofs.Common.{inl, inr, ◌≡◌, ℕ, ◌+◌, ◌≤◌, Bool, true, false, List, [], ◌∷◌, length, take, refl, sym, ap, ◌∙◌, subst, arith, Option, Some, None}
 use Rattle.std.specs.Prelude.{◌&&◌, Result, Ok, Err, MatchOption, OnOk, is_none, nat_lt, not}
 use Rattle.std.proofs.lemmas.Bool.{cases_lt}
 use Rattle.std.proofs.lemmas.Bool.Decides.{nat_tests}
 use Rattle.std.proofs.lemmas.List.{length-map, take_all}
-use Rattle.iol_core.specs.Text.{Text, bytes_of, labelled}
+use Rattle.iol_core.specs.Text.{bytes_of, labelled}
 use Rattle.iol_core.specs.Numbered.{in_place}
 use Rattle.iol_core.specs.Meaning.{Meaning, Step, ◌when◌, first}
 use Rattle.iol_core.specs.State as machine

@@ -21,7 +21,7 @@ use Rattle.iol_desc.specs.Tables.{domain_in, with_domain_in, with_aggs_in}
 use Rattle.iol_kernel.specs.Views.{state_view}
 use Rattle.iol_kernel.specs.Counted.{uses, domain_uses, bufs_in, IsCounted}
 use Rattle.iol_kernel.specs.KernelState.{KernelState, objects_of, Each, IsDomainReadable, IsLimited, IsSound, read_of}
-use Rattle.iol_kernel.specs.Readings.{Reading, read}
+use Rattle.iol_kernel.specs.Readings.{Reading}
 use Rattle.iol_kernel.proofs.Views.{domain-view, with_domain-view, pools-view}
 use Rattle.iol_kernel.proofs.Uses.{sum-with_domain, domain_le, Domains}
 use Rattle.iol_kernel.proofs.Once.{once_same, once_fewer}

@@ -1,5 +1,5 @@
 -- A domain closes a connection: what came in is dropped, and it is forgotten where nothing is left to send.
-use Rattle.std.proofs.Common.{◌≡◌, ◌≢◌, ℕ, ◌+◌, ◌≤◌, Bool, true, false, List, [], ap, ◌∙◌, refl, sym, subst, arith, None, Some}
+use Rattle.std.proofs.Common.{◌≡◌, ◌≢◌, ℕ, ◌+◌, Bool, true, false, List, [], ◌∙◌, refl, sym, subst, arith, None, Some}
 use Rattle.iol_core.specs.Numbered.{lookup, changed}
 use Rattle.iol_core.specs.State as machine
 use Rattle.iol_core.specs.State.{State, Domain, Connection}
@@ -7,7 +7,7 @@ use Rattle.iol_core.specs.Calls.Descriptors.{closed_on}
 use Rattle.iol_core.specs.declared.descriptors.Descriptor.{Descriptor}
 use Rattle.iol_core.specs.declared.descriptors.Descriptor.TheVariants as on
 use Rattle.iol_core.specs.declared.numbers.BufId.{BufId}
-use Rattle.iol_hold.specs.Stored.{Stored, count_of, AllSettled}
+use Rattle.iol_hold.specs.Stored.{count_of, AllSettled}
 use Rattle.iol_hold.specs.Moves.{Moves, SameLists}
 use Rattle.iol_hold.specs.Releases.{FreesOnly}
 use Rattle.iol_hold.specs.Texts.{bufs_of, AllReadable}
@@ -15,7 +15,7 @@ use Rattle.iol_hold.specs.declared.slices.Slice.{Slice}
 use Rattle.iol_hold.proofs.Counting.{tally_none}
 use Rattle.iol_hold.proofs.Paging.{keeps_pages_frees}
 use Rattle.iol_hold.proofs.Reading.{readable_none}
-use Rattle.iol_sock.specs.Connections.{Conn, conn_view}
+use Rattle.iol_sock.specs.Connections.{Conn}
 use Rattle.iol_sock.specs.Table.{conn_in}
 use Rattle.iol_kernel.specs.Views.{Objects}
 use Rattle.iol_kernel.specs.Counted.{conn_uses}
@@ -25,7 +25,7 @@ use Rattle.iol_kernel.specs.KernelState.{KernelState, objects_of, Each, IsOpenEn
 use Rattle.iol_kernel.specs.ClosedEnds.{KeepsEnds}
 use Rattle.iol_kernel.specs.Calls.{Leaves}
 use Rattle.iol_kernel.proofs.ClosedEnds.{not_same, all_ends_kept}
-use Rattle.iol_kernel.proofs.Connecting.{Conns, IsOpenConn, conn_in-found, there-changed, open_conn-there, open-changed_other, conn_left, turned, turned-sound, turned_leaves, conn_readable, conn_limit}
+use Rattle.iol_kernel.proofs.Connecting.{IsOpenConn, conn_in-found, there-changed, open_conn-there, open-changed_other, conn_left, turned, turned-sound, turned_leaves, conn_readable, conn_limit}
 
 -- closed by its domain
 abbrev pub hung : Conn (List Slice) → Conn (List Slice)

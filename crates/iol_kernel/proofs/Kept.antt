@@ -7,10 +7,8 @@ use Rattle.iol_back.specs.Disk.{Disk}
 use Rattle.iol_extent.specs.Extents.{Cell, IsApart, cover, without_at}
 use Rattle.iol_pool.specs.Pools.{Pool, pool_in}
 use Rattle.iol_arena.specs.Chunks.{free_pages}
-use Rattle.iol_hold.specs.Moves.{Shares}
 use Rattle.iol_hold.specs.Places.{byte_len}
 use Rattle.iol_hold.specs.Room.{free_of}
-use Rattle.iol_hold.specs.Stored.{Stored}
 use Rattle.iol_hold.specs.declared.slices.Slice.{Slice}
 use Rattle.iol_extent.specs.Spans.{Tile}
 use Rattle.iol_extent.specs.declared.spans.Span.{Span}

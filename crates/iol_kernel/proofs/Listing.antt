@@ -1,12 +1,11 @@
 -- What a read by copying gives of a queue, where no more is asked for than waits.
-use Rattle.std.proofs.Common.{◌≡◌, ℕ, List, [], ◌∷◌, ◌++◌, length, take, ap, ◌∙◌, refl, sym, subst, Option, Some, None, Bool, true, false}
-use Rattle.std.specs.Prelude.{MatchOption, Result, Ok, Err, is_none, min, not, if◌then◌else◌, option_map, ◌==◌}
+use Rattle.std.proofs.Common.{◌≡◌, ℕ, List, [], ◌∷◌, ◌++◌, length, take, ap, ◌∙◌, sym, Option, Some, None, Bool, true, false}
+use Rattle.std.specs.Prelude.{MatchOption, Result, Ok, Err, is_none, min, not, if◌then◌else◌, option_map}
 use Rattle.std.proofs.lemmas.List.{take_at, take_min}
 use Rattle.iol_core.specs.Text.{Text, bytes_of, admitted, barred}
 use Rattle.iol_core.specs.Meaning.{Never, first, ◌when◌}
 use Rattle.iol_core.specs.State as machine
 use Rattle.iol_core.specs.State.{State}
-use Rattle.iol_core.specs.Calls.Descriptors as fds
 use Rattle.iol_core.specs.Calls.Files.{open_on}
 use Rattle.iol_core.specs.Calls.Reading as reading
 use Rattle.iol_core.specs.declared.descriptors.Descriptor.{Descriptor}

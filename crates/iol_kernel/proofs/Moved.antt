@@ -1,8 +1,8 @@
 -- A file is written at a descriptor's position, which moves past what was written.
 use Rattle.std.proofs.Common.{inl, inr, ◌≡◌, ◌≢◌, ℕ, zero, suc, ◌+◌, ◌-◌, ◌<◌, ◌≤◌, List, [], ◌∷◌, ◌++◌, length, take, drop, get_or, map, refl, sym, ap, ◌∙◌, subst, arith, Option, Some, None, true}
-use Rattle.std.specs.Prelude.{slice_set, sum_by}
+use Rattle.std.specs.Prelude.{slice_set}
 use Rattle.std.specs.List.{range_with_len}
-use Rattle.std.proofs.lemmas.Bool.{cases_eq, cases_lt}
+use Rattle.std.proofs.lemmas.Bool.{cases_lt}
 use Rattle.std.proofs.lemmas.Bool.Decides.{nat_tests}
 use Rattle.std.proofs.lemmas.List.{get_or_past, length-map}
 use Rattle.std.proofs.lemmas.List.FromFn.{get_or-map-range_with_len}
@@ -19,13 +19,12 @@ use Rattle.iol_core.specs.declared.descriptors.Descriptor.TheVariants as on
 use Rattle.iol_core.specs.declared.limits.TheConstants.{MAX_FILES, MAX_FILE_BYTES}
 use Rattle.iol_back.specs.Disk.{overwritten}
 use Rattle.iol_hold.specs.Stored.{Stored}
-use Rattle.iol_hold.specs.declared.slices.Slice.{Slice}
 use Rattle.iol_desc.specs.Tables.{domain_in, with_fds_in}
 use Rattle.iol_cache.specs.Cached.{Cached}
 use Rattle.iol_cache.specs.declared.files.CachedFile.{CachedFile}
 use Rattle.iol_kernel.specs.Backed.{with_slots}
-use Rattle.iol_kernel.specs.Ends.{same_end, on_end, ends_on, IsOpenOnce}
-use Rattle.iol_kernel.specs.KernelState.{KernelState, objects_of, machine_of, read_of, Each, IsOpenEnd, IsSound}
+use Rattle.iol_kernel.specs.Ends.{same_end, on_end, ends_on}
+use Rattle.iol_kernel.specs.KernelState.{KernelState, objects_of, read_of, IsOpenEnd, IsSound}
 use Rattle.iol_kernel.specs.Readings.{Reading, bytes_over, slot_read, slots_read}
 use Rattle.iol_kernel.specs.Views.{state_view}
 use Rattle.iol_kernel.proofs.Effects.{fds-changed, fds-sound}

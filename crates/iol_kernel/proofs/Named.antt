@@ -1,6 +1,6 @@
 -- Files by name, and a new one.
 use Rattle.std.proofs.Common.{◌≡◌, ℕ, zero, suc, ◌+◌, ◌-◌, ◌<◌, ◌≤◌, ◌∙◌, Bool, true, false, cond, List, [], ◌∷◌, ◌++◌, length, length-append, get_or, map, Option, Some, None, refl, sym, ap, subst, arith, inl, inr}
-use Rattle.std.specs.Prelude.{MatchOption, Ok, Err, position, option_map, is_some, bytes_eq, flat_map, min, nat_lt, not, sum_by, ◌||◌}
+use Rattle.std.specs.Prelude.{position, option_map, is_some, bytes_eq, flat_map, min, nat_lt, not, sum_by, ◌||◌}
 use Rattle.std.specs.List.{list_any, position_or_len, range_with_len}
 use Rattle.std.proofs.lemmas.Bool.{cases_eq, cases_lt}
 use Rattle.std.proofs.lemmas.Bool.Decides.{nat_tests}
@@ -8,7 +8,6 @@ use Rattle.std.proofs.lemmas.List.{length-map, map-append, get_or_append_left, g
 use Rattle.std.proofs.lemmas.List.FromFn.{get_or-map-range_with_len, length-map-range_with_len}
 use Rattle.std.proofs.lemmas.List.Sums.{sum_by_push}
 use Rattle.iol_core.specs.Numbered.{is_numbered, numbered_or}
-use Rattle.iol_core.specs.Meaning.{Meaning, first}
 use Rattle.iol_core.specs.State as machine
 use Rattle.iol_core.specs.State.{State, Domain}
 use Rattle.iol_core.specs.Calls.Files as calls
@@ -16,11 +15,9 @@ use Rattle.iol_core.specs.Calls.Files.{file_called}
 use Rattle.iol_core.specs.declared.descriptors.Descriptor.{Descriptor}
 use Rattle.iol_core.specs.declared.descriptors.Descriptor.TheVariants as on
 use Rattle.iol_core.specs.declared.limits.TheConstants.{MAX_FILES, MAX_FILE_BYTES}
-use Rattle.iol_core.specs.declared.refusals.Refusal.TheVariants.{Memory}
 use Rattle.iol_core.specs.declared.numbers.BufId.{BufId}
 use Rattle.iol_back.specs.Disk.{Disk, IfHonest, content}
 use Rattle.iol_hold.specs.Moves.{tally}
-use Rattle.iol_hold.specs.Stored.{Stored}
 use Rattle.iol_hold.specs.Texts.{bufs_of}
 use Rattle.iol_hold.specs.declared.slices.Slice.{Slice}
 use Rattle.iol_hold.proofs.Counting.{tally_none}
@@ -30,10 +27,10 @@ use Rattle.iol_extent.specs.Extents.{Extent, cover}
 use Rattle.iol_cache.specs.Sound as cache
 use Rattle.iol_cache.specs.declared.files.CachedFile.{CachedFile}
 use Rattle.iol_cache.proofs.Filing.{numbered_bounds, numbered_yes, additive_tally, file_nowhere, sum-flat}
-use Rattle.iol_kernel.specs.Calls.{AddsFile, Names}
+use Rattle.iol_kernel.specs.Calls.{AddsFile}
 use Rattle.iol_kernel.specs.Files.{file_of, files_of}
-use Rattle.iol_kernel.specs.KernelState.{KernelState, objects_of, Each, AreFiled, IsCached, IsFile, IsOpenEnd, IsSound, read_of, machine_of}
-use Rattle.iol_kernel.specs.Readings.{Reading, KeepsPools, bytes_over, slot_read, slots_read}
+use Rattle.iol_kernel.specs.KernelState.{KernelState, objects_of, Each, AreFiled, IsCached, IsFile, IsOpenEnd, IsSound, read_of}
+use Rattle.iol_kernel.specs.Readings.{Reading, slot_read, slots_read}
 use Rattle.iol_kernel.specs.Views.{state_view}
 use Rattle.iol_kernel.specs.declared.files.File.{File}
 use Rattle.iol_kernel.proofs.Slots.{file_bytes-none}

@@ -1,9 +1,8 @@
 -- The call that names a file: what it does with an honest store, and over any.
-use Rattle.std.proofs.Common.{◌≡◌, ℕ, zero, suc, ◌+◌, ◌-◌, ◌<◌, ◌≤◌, ◌∙◌, Bool, true, false, List, [], ◌∷◌, length, Option, Some, None, refl, sym, ap, subst, arith, inl, inr}
+use Rattle.std.proofs.Common.{◌≡◌, ℕ, ◌+◌, ◌<◌, ◌≤◌, ◌∙◌, Bool, true, false, List, [], ◌∷◌, length, Option, Some, None, refl, sym, ap, subst, arith, inl, inr}
 use Rattle.std.specs.Prelude.{MatchOption, Result, Ok, Err, nat_lt, nat_le, not, ◌||◌, ◌==◌, is_some}
 use Rattle.std.proofs.lemmas.Bool.{cases_eq, cases_lt}
 use Rattle.std.proofs.lemmas.Bool.Decides.{nat_tests}
-use Rattle.iol_core.specs.Numbered.{numbered_or}
 use Rattle.iol_core.specs.Meaning.{Meaning, Step, first, ◌when◌}
 use Rattle.iol_core.specs.State as machine
 use Rattle.iol_core.specs.State.{State}
@@ -14,7 +13,7 @@ use Rattle.iol_core.specs.declared.refusals.Refusal.TheVariants.{NoDomain, NoPoo
 use Rattle.iol_back.specs.Disk.{Disk, IfHonest, content}
 use Rattle.iol_hold.specs.Stored.{Stored}
 use Rattle.iol_hold.proofs.AtPlaces.{keeps_bytes}
-use Rattle.iol_kernel.specs.Backed.{IsBackedBy, Serves, StepsBeside}
+use Rattle.iol_kernel.specs.Backed.{Serves}
 use Rattle.iol_kernel.specs.Calls.{AddsFile, Names, TellsNext}
 use Rattle.iol_kernel.specs.KernelState.{KernelState, AreFiled, IsSound, read_of, machine_of}
 use Rattle.iol_kernel.specs.Readings.{Reading, bytes_over}

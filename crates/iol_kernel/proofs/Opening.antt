@@ -19,7 +19,7 @@ use Rattle.iol_desc.specs.Tables.{domain_in, with_domain_in, with_fds_in, with_n
 use Rattle.iol_kernel.specs.Views.{Pipe, Objects, state_view}
 use Rattle.iol_kernel.specs.Ends.{same_end, ends_on, all_ends_on, IsOpenOnce}
 use Rattle.iol_kernel.specs.KernelState.{KernelState, objects_of, Each, IsOpenEnd, IsPipeReadable, IsSound, IsShort, read_of}
-use Rattle.iol_kernel.specs.Readings.{Reading, read}
+use Rattle.iol_kernel.specs.Readings.{Reading}
 use Rattle.iol_kernel.proofs.Views.{add_pipe-view, lowest-view}
 use Rattle.iol_kernel.proofs.Sound.{with_pipes, each-set, each-get, each-weaker, each-placed, ends_open}
 use Rattle.iol_kernel.proofs.Once.{end_alone, ends-with_domain, ends-placed, ends-freed, once_fewer, once_freed, both_once, all_ends_closed}

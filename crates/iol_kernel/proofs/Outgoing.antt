@@ -1,35 +1,32 @@
 -- Writing to a connection: its queue gets what fits, whatever is read at the places.
-use Rattle.std.proofs.Common.{◌≡◌, ◌≢◌, ℕ, ◌+◌, ◌-◌, ◌≤◌, List, [], ◌∷◌, ◌++◌, length, length-append, take, map, ap, ◌∙◌, refl, sym, subst, arith, Option, Some, None, Bool, true, false}
-use Rattle.std.specs.Prelude.{min, not, is_none, Result, Ok, Err, MatchOption}
+use Rattle.std.proofs.Common.{◌≡◌, ℕ, ◌+◌, List, [], ◌∷◌, ◌++◌, length, length-append, take, map, ap, ◌∙◌, refl, sym, subst, arith, Option, Some, None, Bool, true, false}
+use Rattle.std.specs.Prelude.{not, is_none, Result, Ok, Err, MatchOption}
 use Rattle.std.proofs.lemmas.List.{length-take}
 use Rattle.iol_core.specs.Text.{Text}
 use Rattle.iol_core.specs.Numbered.{lookup, changed}
-use Rattle.iol_core.specs.Meaning.{Meaning, Step, ◌when◌, first, WantOfMemory}
+use Rattle.iol_core.specs.Meaning.{◌when◌, first, WantOfMemory}
 use Rattle.iol_core.specs.State as machine
 use Rattle.iol_core.specs.State.{State, Connection}
 use Rattle.iol_core.specs.Calls.Aggregates as aggs
 use Rattle.iol_core.specs.Calls.Writing as writing
 use Rattle.iol_core.specs.declared.descriptors.Descriptor.{Descriptor}
 use Rattle.iol_core.specs.declared.descriptors.Descriptor.TheVariants as on
-use Rattle.iol_core.specs.declared.limits.TheConstants.{MAX_QUEUE_BYTES}
 use Rattle.iol_core.specs.declared.numbers.BufId.{BufId}
 use Rattle.iol_core.specs.declared.refusals.Refusal.{Refusal}
 use Rattle.iol_core.specs.declared.refusals.Refusal.TheVariants.{NoDomain, BadFd, BadAgg, WrongMode, TooLong, BrokenPipe, WouldBlock, NoRoom}
-use Rattle.iol_hold.specs.Stored.{Stored, count_of}
+use Rattle.iol_hold.specs.Stored.{count_of}
 use Rattle.iol_arena.specs.State.{page_count}
 use Rattle.iol_hold.specs.Moves.{Shares, SameLists, pool_meant}
 use Rattle.iol_hold.specs.Places.{places, byte_len}
-use Rattle.iol_hold.specs.Texts.{bufs_of, byte_at, AllReadable}
+use Rattle.iol_hold.specs.Texts.{bufs_of}
 use Rattle.iol_hold.specs.declared.slices.Slice.{Slice}
 use Rattle.iol_hold.proofs.AtPlaces.{read_pushed}
 use Rattle.iol_hold.proofs.Emptied.{all_settled_same}
 use Rattle.iol_hold.proofs.Moving.{shares_move}
 use Rattle.iol_pipe.specs.Queue.{fitting}
 use Rattle.iol_pipe.proofs.Texts.{readable_pushed}
-use Rattle.iol_pool.specs.Pools.{Pool}
 use Rattle.iol_desc.specs.Tables.{agg_in}
 use Rattle.iol_sock.specs.Connections.{Conn, conn_view}
-use Rattle.iol_sock.specs.Meant.{open_on}
 use Rattle.iol_sock.specs.Refused.{queue_refusals, IsRefused}
 use Rattle.iol_sock.specs.Table.{conn_in}
 use Rattle.iol_sock.proofs.Meaning.{queues_meant, fits_meant}
@@ -37,8 +34,7 @@ use Rattle.iol_kernel.specs.Calls.{CarriesOut}
 use Rattle.iol_kernel.specs.Counted.{conn_uses}
 use Rattle.iol_kernel.specs.KernelState as held
 use Rattle.iol_kernel.specs.KernelState.{KernelState, objects_of, IsConnReadable, IsOpenEnd, IsSound, read_of}
-use Rattle.iol_kernel.specs.Readings.{Reading, read, KeepsPools}
-use Rattle.iol_kernel.specs.Views.{Objects, state_view}
+use Rattle.iol_kernel.specs.Readings.{Reading, read}
 use Rattle.iol_kernel.proofs.Arriving.{refused_as}
 use Rattle.iol_kernel.proofs.Connecting.{conn_found, conn_readable, conn_limit, turned, turned_fds, turned-read, turned-sound}
 use Rattle.iol_kernel.proofs.ConnQueues.{open_held, found_held, conn_at-read_of, with_on}

@@ -1,6 +1,6 @@
 -- A copying write to a file: which pages it fills, and which bytes stay where they lay.
-use Rattle.std.proofs.Common.{inl, inr, ◌≡◌, ◌∙◌, ℕ, zero, suc, ◌+◌, ◌<◌, ◌≤◌, true, false, List, [], ◌∷◌, length, get_or, map, All, Option, Some, None, refl, sym, ap, subst, arith}
-use Rattle.std.specs.List.{Contains, range_with_len}
+use Rattle.std.proofs.Common.{inl, inr, ◌≡◌, ◌∙◌, ℕ, zero, suc, ◌+◌, ◌<◌, true, List, [], ◌∷◌, length, get_or, map, All, Option, Some, None, refl, sym, ap, subst, arith}
+use Rattle.std.specs.List.{Contains}
 use Rattle.std.specs.Prelude.{◌==◌, Result, Ok, Err, OnOk, take}
 use Rattle.std.proofs.lemmas.Bool.{cases_lt}
 use Rattle.std.proofs.lemmas.Bool.Decides.{nat_tests}
@@ -16,7 +16,6 @@ use Rattle.iol_core.specs.declared.descriptors.Mode.{Mode}
 use Rattle.iol_core.specs.declared.refusals.Refusal.{Refusal}
 use Rattle.iol_arena.specs.State.{pages_for}
 use Rattle.iol_arena.proofs.Members.{in_contains}
-use Rattle.iol_pool.specs.Pools.{Pool, pool_in}
 use Rattle.iol_hold.specs.Moves.{SameLists, pool_meant}
 use Rattle.iol_hold.specs.Pages.{KeepsPages}
 use Rattle.iol_hold.specs.Places.{Place, byte_len, place_in, places, slice_places}

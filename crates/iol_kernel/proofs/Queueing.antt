@@ -15,7 +15,7 @@ use Rattle.iol_hold.specs.Stored.{Stored}
 use Rattle.iol_arena.specs.State.{page_count}
 use Rattle.iol_hold.specs.Moves.{Shares}
 use Rattle.iol_hold.specs.Places.{places, byte_len}
-use Rattle.iol_hold.specs.Texts.{bufs_of, AllReadable, byte_at}
+use Rattle.iol_hold.specs.Texts.{bufs_of, AllReadable}
 use Rattle.iol_hold.specs.declared.slices.Slice.{Slice}
 use Rattle.iol_hold.proofs.Counting.{tally-append}
 use Rattle.iol_hold.proofs.Emptied.{all_settled_same}
@@ -24,7 +24,7 @@ use Rattle.iol_hold.proofs.Reading.{readable_none, readable_rest}
 use Rattle.iol_pipe.specs.Queue.{may_see}
 use Rattle.iol_pipe.proofs.Texts.{readable_pushed, readable_given}
 use Rattle.iol_desc.specs.Tables.{agg_in, domain_in, with_agg_in, live_aggs_in}
-use Rattle.iol_kernel.specs.Views.{Pipe, Objects}
+use Rattle.iol_kernel.specs.Views.{Pipe}
 use Rattle.iol_kernel.specs.Counted.{IsCounted}
 use Rattle.iol_kernel.specs.KernelState.{KernelState, objects_of, Each, IsOpenEnd, IsPipeReadable, AreReadable, IsDomainReadable, IsShort, IsLimited, IsSound, queue_at, read_of}
 use Rattle.iol_kernel.specs.Readings.{Reading, bytes_over}

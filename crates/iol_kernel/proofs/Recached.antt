@@ -1,6 +1,5 @@
 -- The extents of files change as the cache goes on: a system stays sound, and all but the bytes of its files stays.
-use Rattle.std.proofs.Common.{◌≡◌, ℕ, zero, suc, ◌+◌, List, [], ◌∷◌, length, get_or, map, refl, sym, ap, ◌∙◌, subst, arith, Option, Some, None}
-use Rattle.iol_core.specs.State as machine
+use Rattle.std.proofs.Common.{◌≡◌, ℕ, suc, ◌+◌, List, [], ◌∷◌, length, get_or, map, refl, sym, ap, ◌∙◌, subst, arith, Option, Some, None}
 use Rattle.iol_core.specs.State.{State, Domain}
 use Rattle.iol_core.specs.declared.descriptors.Descriptor.{Descriptor}
 use Rattle.iol_core.specs.declared.descriptors.Descriptor.TheVariants as on
@@ -15,7 +14,7 @@ use Rattle.iol_cache.specs.declared.files.CachedFile.{CachedFile}
 use Rattle.iol_cache.proofs.Ready.{at_index}
 use Rattle.iol_kernel.specs.Backed.{with_slots}
 use Rattle.iol_kernel.specs.Counted.{IsCounted}
-use Rattle.iol_kernel.specs.KernelState.{KernelState, objects_of, machine_of, read_of, Each, AreFiled, ArePooled, AreReadable, IsCached, IsFile, IsOpenEnd, IsSound}
+use Rattle.iol_kernel.specs.KernelState.{KernelState, objects_of, machine_of, read_of, Each, ArePooled, AreReadable, IsCached, IsFile, IsOpenEnd, IsSound}
 use Rattle.iol_kernel.specs.Readings.{bytes_over, slots_read}
 use Rattle.iol_kernel.specs.Views.{Objects, state_view}
 use Rattle.iol_kernel.proofs.Pooling.{same_pooled}

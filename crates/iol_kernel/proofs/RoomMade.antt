@@ -1,24 +1,18 @@
 -- Clean extents of files give way: what the kernel's state is then.
-use Rattle.std.proofs.Common.{◌≡◌, ℕ, zero, suc, ◌+◌, ◌-◌, ◌<◌, ◌≤◌, ◌∙◌, true, false, List, [], ◌∷◌, length, get_or, map, Option, Some, None, refl, sym, ap, subst, arith, inl, inr}
-use Rattle.std.proofs.lemmas.Bool.{cases_eq, cases_lt}
+use Rattle.std.proofs.Common.{◌≡◌, ℕ, suc, ◌<◌, ◌∙◌, List, [], ◌∷◌, length, get_or, map, Option, Some, None, refl, sym, ap, subst, arith}
 use Rattle.std.proofs.lemmas.Bool.Decides.{nat_tests}
 use Rattle.std.specs.List.{range_with_len}
-use Rattle.iol_core.specs.Text.{Text}
-use Rattle.iol_core.specs.Numbered.{is_numbered, numbered_or}
 use Rattle.iol_core.specs.State as machine
 use Rattle.iol_core.specs.State.{State, Domain}
 use Rattle.iol_core.specs.declared.descriptors.Descriptor.{Descriptor}
 use Rattle.iol_core.specs.declared.descriptors.Descriptor.TheVariants as on
-use Rattle.iol_core.specs.declared.limits.TheConstants.{MAX_FILES, MAX_FILE_BYTES}
-use Rattle.iol_core.specs.declared.numbers.BufId.{BufId}
-use Rattle.iol_back.specs.Disk.{Disk, content}
-use Rattle.iol_hold.specs.Moves.{Stays, pool_meant, tally}
-use Rattle.iol_hold.specs.Room.{free_of}
+use Rattle.iol_core.specs.declared.limits.TheConstants.{MAX_FILES}
+use Rattle.iol_back.specs.Disk.{Disk}
 use Rattle.iol_hold.specs.Stored.{Stored}
 use Rattle.iol_hold.specs.declared.slices.Slice.{Slice}
 use Rattle.iol_sum.proofs.Keeping.{IsRight-keeps}
 use Rattle.iol_extent.specs.Extents.{Extent, begins_at}
-use Rattle.iol_cache.specs.Cached.{Cached, extents_in, file_in, held, no_file}
+use Rattle.iol_cache.specs.Cached.{Cached, extents_in, file_in, no_file}
 use Rattle.iol_cache.specs.Evicting.{AreEvicted, EvictsAll, GivesUp, Holding}
 use Rattle.iol_cache.specs.Sound as cache
 use Rattle.iol_cache.specs.declared.files.CachedFile.{CachedFile}
@@ -27,7 +21,7 @@ use Rattle.iol_cache.proofs.Keeping.{apart_of, evictions_keep, nothing_goes}
 use Rattle.iol_kernel.specs.Backed.{IsBackedBy, holding_of, with_slots}
 use Rattle.iol_kernel.specs.KernelState.{KernelState, objects_of, Each, AreFiled, AreReadable, IsCached, IsFile, IsOpenEnd, IsSound, read_of, machine_of}
 use Rattle.iol_kernel.specs.MakingRoom.{IsSame, MakesRoom}
-use Rattle.iol_kernel.specs.Readings.{Reading, bytes_over, slot_read, slots_read}
+use Rattle.iol_kernel.specs.Readings.{Reading, bytes_over, slots_read}
 use Rattle.iol_kernel.specs.Views.{Objects, state_view}
 use Rattle.iol_kernel.proofs.Pooling.{same_pooled}
 use Rattle.iol_kernel.proofs.Slots.{held-none, none_readable}

@@ -1,9 +1,8 @@
 -- Positions and lengths of files.
-use Rattle.std.proofs.Common.{◌≡◌, ℕ, ◌+◌, ◌<◌, ◌≤◌, ◌∙◌, Bool, true, false, List, [], ◌∷◌, length, Option, Some, None, refl, sym, ap, subst, arith, get_or}
-use Rattle.std.specs.Prelude.{MatchOption, Result, Ok, Err, option_map, unwrap_or, is_none, not, nat_lt, slice_set}
+use Rattle.std.proofs.Common.{◌≡◌, ℕ, ◌<◌, ◌≤◌, ◌∙◌, Bool, true, false, List, [], ◌∷◌, length, Option, Some, None, refl, sym, ap, subst, arith}
+use Rattle.std.specs.Prelude.{MatchOption, Ok, Err, option_map, unwrap_or, is_none, not, nat_lt, slice_set}
 use Rattle.std.proofs.lemmas.Bool.Decides.{nat_tests}
-use Rattle.std.proofs.lemmas.List.Sums.{sum_by-set}
-use Rattle.iol_core.specs.Numbered.{is_numbered, in_place}
+use Rattle.iol_core.specs.Numbered.{is_numbered}
 use Rattle.iol_core.specs.State as machine
 use Rattle.iol_core.specs.State.{State, Domain}
 use Rattle.iol_core.specs.Meaning.{Meaning, Step, first, ◌when◌}
@@ -23,19 +22,17 @@ use Rattle.iol_cache.specs.Cached.{extents_in}
 use Rattle.iol_cache.specs.Contents.{bytes_in_slot}
 use Rattle.iol_desc.specs.Tables.{domain_in, with_fds_in}
 use Rattle.iol_kernel.specs.Backed.{IsBackedBy, Serves, with_slots}
-use Rattle.iol_kernel.specs.Ends.{on_end, IsOpenOnce}
-use Rattle.iol_kernel.specs.KernelState.{KernelState, objects_of, IsOpenEnd, IsSound, machine_of, read_of}
+use Rattle.iol_kernel.specs.Ends.{IsOpenOnce}
+use Rattle.iol_kernel.specs.KernelState.{KernelState, objects_of, IsOpenEnd, IsSound, machine_of}
 use Rattle.iol_kernel.specs.Readings.{bytes_over}
-use Rattle.iol_kernel.specs.Views.{state_view}
 use Rattle.iol_kernel.proofs.Beside.{content-machine_of, descriptor-with_slots, even, fds-with_slots, length_content-even, live-with_slots, open-with_slots, serves_refused, serves_where, with_slots-own}
 use Rattle.iol_kernel.proofs.Called.{file_within, same_end-file}
 use Rattle.iol_kernel.proofs.Effects.{fds-changed, fds-sound}
 use Rattle.iol_kernel.proofs.Named.{as_many, cache_sound}
 use Rattle.iol_kernel.proofs.Once.{ends-set, once_fewer}
 use Rattle.iol_kernel.proofs.Opening.{end_held}
-use Rattle.iol_kernel.proofs.ReadOf.{descriptor-read_of, fds-read_of, is_live-read_of, live_held}
+use Rattle.iol_kernel.proofs.ReadOf.{descriptor-read_of, fds-read_of, live_held}
 use Rattle.iol_kernel.proofs.Sound.{each-set, ends_open}
-use Rattle.iol_kernel.proofs.Stay.{stays_here}
 use Rattle.iol_kernel.proofs.Uses.{Domains}
 
 -- What the two calls refuse, by what they look at.

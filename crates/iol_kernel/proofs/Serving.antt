@@ -6,12 +6,11 @@ use Rattle.iol_core.specs.Meaning.{Meaning, Step}
 use Rattle.iol_core.specs.declared.refusals.Refusal.{Refusal}
 use Rattle.iol_back.specs.Disk.{Disk}
 use Rattle.iol_hold.specs.Moves.{Covers, Stays}
-use Rattle.iol_hold.specs.Stored.{Stored}
 use Rattle.iol_cache.specs.Cached.{Cached, held}
 use Rattle.iol_cache.specs.Contents.{Mirrors}
 use Rattle.iol_cache.specs.Serving.{IsBacked}
 use Rattle.iol_cache.proofs.Staying.{mirrors_stay}
-use Rattle.iol_kernel.specs.Backed.{IsBackedBy, Serves, StepsBeside, holding_of, with_slots}
+use Rattle.iol_kernel.specs.Backed.{IsBackedBy, Serves, StepsBeside, with_slots}
 use Rattle.iol_kernel.specs.Calls.{CarriesOut, KeepsPlaces, Steps}
 use Rattle.iol_kernel.specs.KernelState.{KernelState, IsSound, machine_of, read_of}
 use Rattle.iol_kernel.specs.Views.{state_view}

@@ -1,8 +1,8 @@
 -- Bytes that are copied out of a queue, and taken off it.
-use Rattle.std.proofs.Common.{◌≡◌, ◌≢◌, ℕ, zero, suc, ◌+◌, ◌<◌, ◌≤◌, ◌==◌, ◌&&◌, ◌||◌, Bool, cond, List, [], ◌∷◌, ◌++◌, length, map, take, drop, ap, ◌∙◌, refl, sym, subst, arith, Option, Some, None, true, false, inl, inr}
+use Rattle.std.proofs.Common.{◌≡◌, ℕ, zero, suc, ◌+◌, ◌<◌, ◌≤◌, ◌||◌, Bool, cond, List, [], ◌∷◌, length, map, take, drop, ap, ◌∙◌, refl, sym, subst, arith, Option, Some, true, false, inl}
 use Rattle.std.specs.Prelude.{slice_set, min}
 use Rattle.std.specs.List.{take_while, prefix_len}
-use Rattle.std.proofs.lemmas.List.{length-drop, length-map, length-set, take-map}
+use Rattle.std.proofs.lemmas.List.{length-drop, length-map, take-map}
 use Rattle.iol_core.specs.Text.{Text, bytes_of, admitted}
 use Rattle.iol_core.specs.Numbered.{lookup, changed}
 use Rattle.iol_core.specs.State as machine
@@ -10,14 +10,13 @@ use Rattle.iol_core.specs.State.{State, Domain, Connection}
 use Rattle.iol_core.specs.Calls.Reading as reading
 use Rattle.iol_core.specs.declared.descriptors.Descriptor.{Descriptor}
 use Rattle.iol_core.specs.declared.descriptors.Descriptor.TheVariants as on
-use Rattle.iol_core.specs.declared.numbers.BufId.{BufId}
 use Rattle.iol_pool.specs.Pools.{Pool, names_in}
-use Rattle.iol_hold.specs.Stored.{Stored, count_of, AllSettled}
+use Rattle.iol_hold.specs.Stored.{Stored, AllSettled}
 use Rattle.iol_hold.specs.Layout as layout
 use Rattle.iol_hold.specs.Moves.{Moves, SameLists}
 use Rattle.iol_hold.specs.Places.{Place, places, byte_len}
 use Rattle.iol_hold.specs.Releases.{FreesOnly}
-use Rattle.iol_hold.specs.Texts.{text_of, bufs_of, byte_at, AllReadable}
+use Rattle.iol_hold.specs.Texts.{text_of, bufs_of, AllReadable}
 use Rattle.iol_hold.specs.declared.slices.Slice.{Slice}
 use Rattle.iol_hold.proofs.AtPlaces.{keeps_bytes, length-read, read_rest}
 use Rattle.iol_hold.proofs.Paging.{keeps_pages_frees}
@@ -26,9 +25,8 @@ use Rattle.iol_pipe.specs.Queue.{may_see}
 use Rattle.iol_sock.specs.Connections.{Conn, conn_view}
 use Rattle.iol_sock.specs.Table.{conn_in}
 use Rattle.iol_kernel.specs.Calls.{Leaves}
-use Rattle.iol_kernel.specs.Counted.{IsCounted, conn_uses}
 use Rattle.iol_kernel.specs.Queues.{with_queue_of}
-use Rattle.iol_kernel.specs.Views.{Pipe, pipe_view, state_view}
+use Rattle.iol_kernel.specs.Views.{Pipe, pipe_view}
 use Rattle.iol_kernel.specs.KernelState as held
 use Rattle.iol_kernel.specs.KernelState.{KernelState, objects_of, Each, AreReadable, IsConnReadable, IsPipeReadable, IsOpenEnd, IsSound, read_of, machine_of, queue_at}
 use Rattle.iol_kernel.proofs.Connecting.{conn_limit, conn_readable, turned, turned_fds, turned_leaves}

@@ -1,6 +1,6 @@
 -- What comes in from a reader, after clean extents gave way.
-use Rattle.std.proofs.Common.{◌≡◌, ℕ, ◌-◌, ◌≤◌, ◌==◌, ◌∙◌, Bool, Option, List, [], ◌∷◌, length, Some, None, refl, sym, ap, subst, inl, inr, true, false}
-use Rattle.std.specs.Prelude.{Result, Ok, Err, OnOk, OnErr, IfOk, IfErr, MatchOption, min, nat_lt, is_some, ◌||◌, ◌&&◌}
+use Rattle.std.proofs.Common.{◌≡◌, ℕ, ◌-◌, ◌≤◌, ◌==◌, ◌∙◌, Bool, Option, List, [], ◌∷◌, length, Some, None, refl, sym, ap, subst, inr, true, false}
+use Rattle.std.specs.Prelude.{Result, Ok, Err, OnOk, OnErr, IfOk, IfErr, MatchOption, min}
 use Rattle.iol_arena.specs.State.{pages_for}
 use Rattle.iol_back.specs.Disk.{Disk}
 use Rattle.iol_core.specs.State as machine
@@ -10,20 +10,19 @@ use Rattle.iol_core.specs.Meaning.{◌when◌, WantOfRoom, first}
 use Rattle.iol_core.specs.Calls.Outside as outside
 use Rattle.iol_core.specs.declared.limits.TheConstants.{MAX_QUEUE_BYTES, PAGE_BYTES}
 use Rattle.iol_core.specs.declared.refusals.Refusal.{Refusal}
-use Rattle.iol_core.specs.declared.refusals.Refusal.TheVariants.{BadFd, BadRange, BrokenPipe, WouldBlock, NoRoom}
+use Rattle.iol_core.specs.declared.refusals.Refusal.TheVariants.{BadFd, BadRange, NoRoom}
 use Rattle.iol_hold.specs.Moves.{Stays}
 use Rattle.iol_hold.specs.Room.{has_room}
 use Rattle.iol_hold.specs.Texts.{byte_at}
 use Rattle.iol_hold.specs.declared.slices.Slice.{Slice}
 use Rattle.iol_hold.proofs.Moving.{stays_trans}
-use Rattle.iol_pipe.specs.Queue.{fitting}
 use Rattle.iol_sock.specs.Connections.{Conn}
-use Rattle.iol_sock.specs.Refused.{arrive_refusals, read_refusals, IsPassed, IsRefused}
+use Rattle.iol_sock.specs.Refused.{arrive_refusals, read_refusals, IsRefused}
 use Rattle.iol_sock.proofs.Meaning.{arrives_meant}
-use Rattle.iol_kernel.specs.Backed.{IsBackedBy, Serves, with_slots}
+use Rattle.iol_kernel.specs.Backed.{Serves, with_slots}
 use Rattle.iol_kernel.specs.Borrowed.{TakesIn, arrive_from_refusals}
 use Rattle.iol_kernel.specs.Calls.{Arrives, Steps}
-use Rattle.iol_kernel.specs.KernelState.{KernelState, IsSound, machine_of, read_of}
+use Rattle.iol_kernel.specs.KernelState.{KernelState, IsSound, machine_of}
 use Rattle.iol_kernel.specs.MakingRoom.{AfterRoom, IsSame, MakesRoom, MayHaveEvicted, can_fit}
 use Rattle.iol_kernel.specs.Readings.{bytes_over}
 use Rattle.iol_kernel.proofs.AfterRoom.{kept_machine, serves_after}

@@ -4,7 +4,7 @@ use Rattle.std.specs.Prelude.{Err, MatchOption, Ok}
 use Rattle.iol_core.specs.Text.{bytes_of}
 use Rattle.iol_core.specs.State as machine
 use Rattle.iol_core.specs.State.{State}
-use Rattle.iol_core.specs.Meaning.{Meaning, Never, Step, first}
+use Rattle.iol_core.specs.Meaning.{Meaning, Never, first}
 use Rattle.iol_core.specs.Calls.Files.{open_on}
 use Rattle.iol_core.specs.Calls.Reading as reading
 use Rattle.iol_core.specs.declared.descriptors.Descriptor.{Descriptor}

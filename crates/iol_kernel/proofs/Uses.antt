@@ -12,8 +12,6 @@ use Rattle.iol_hold.specs.Moves.{tally, Covers, IsCountable}
 use Rattle.iol_hold.specs.Places.{byte_len}
 use Rattle.iol_hold.specs.Texts.{bufs_of}
 use Rattle.iol_hold.specs.declared.slices.Slice.{Slice}
-use Rattle.iol_hold.proofs.Slicing.{byte_len-cons}
-use Rattle.iol_hold.proofs.Counting.{same_few}
 use Rattle.iol_desc.specs.Tables.{domain_in, with_domain_in, agg_in, with_agg_in, without_agg_in, live_aggs_in}
 use Rattle.iol_sock.specs.Connections.{Conn}
 use Rattle.iol_kernel.specs.Views.{Pipe, Objects}

@@ -6,7 +6,7 @@ use Rattle.iol_core.specs.Text.{Text, labelled}
 use Rattle.iol_core.specs.Numbered.{lookup, changed, in_place}
 use Rattle.iol_core.specs.State as machine
 use Rattle.iol_core.specs.State.{State, Domain, Connection}
-use Rattle.iol_core.specs.Meaning.{◌when◌, first, Step, WantOfRoom}
+use Rattle.iol_core.specs.Meaning.{◌when◌, first, WantOfRoom}
 use Rattle.iol_core.specs.Calls.Aggregates as aggs
 use Rattle.iol_core.specs.Calls.Writing as writing
 use Rattle.iol_core.specs.declared.descriptors.Descriptor.{Descriptor}
@@ -35,7 +35,7 @@ use Rattle.iol_sock.proofs.Meaning.{conn_at-is, queues_meant, fits_meant}
 use Rattle.iol_kernel.specs.Calls.{MakesBytes, Steps}
 use Rattle.iol_kernel.specs.Counted.{IsCounted, uses, conn_uses}
 use Rattle.iol_kernel.specs.Queues.{with_queue_of}
-use Rattle.iol_kernel.specs.Views.{Objects, Pipe, pipe_view, state_view}
+use Rattle.iol_kernel.specs.Views.{Pipe, pipe_view, state_view}
 use Rattle.iol_kernel.specs.KernelState as held
 use Rattle.iol_kernel.specs.KernelState.{KernelState, objects_of, Each, AreReadable, ArePooled, IsConnReadable, IsPipeReadable, IsOpenEnd, IsSound, read_of, machine_of, queue_at}
 use Rattle.iol_kernel.specs.Readings.{Reading, read, bytes_over}

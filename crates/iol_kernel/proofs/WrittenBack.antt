@@ -1,32 +1,28 @@
 -- What is dirty is written back, and what is clean goes: the machine stays as it is.
-use Rattle.std.proofs.Common.{inl, inr, ◌≡◌, ℕ, zero, suc, ◌+◌, ◌≤◌, ◌++◌, List, [], ◌∷◌, length, get_or, map, max, refl, sym, ap, ◌∙◌, subst, arith, Option, Some, None, true, false, Bool}
+use Rattle.std.proofs.Common.{inl, inr, ◌≡◌, ℕ, zero, suc, ◌+◌, ◌≤◌, ◌++◌, List, [], ◌∷◌, length, get_or, refl, sym, ap, ◌∙◌, subst, arith, Option, Some, None, true, false, Bool}
 use Rattle.std.specs.Prelude.{Result, Ok, Err, cond, flat_map}
-use Rattle.std.specs.List.{range_with_len}
-use Rattle.std.proofs.lemmas.Bool.{cases_eq, cases_lt}
+use Rattle.std.proofs.lemmas.Bool.{cases_eq}
 use Rattle.std.proofs.lemmas.List.Concat.{flat_map-cons}
 use Rattle.std.proofs.lemmas.List.FromFn.{length-map-range_with_len}
 use Rattle.iol_core.specs.Numbered.{is_numbered}
 use Rattle.iol_core.specs.State.{State}
-use Rattle.iol_core.specs.Meaning.{Meaning, Step, first}
+use Rattle.iol_core.specs.Meaning.{Meaning, Step}
 use Rattle.iol_core.specs.declared.numbers.BufId.{BufId}
 use Rattle.iol_core.specs.declared.refusals.Refusal.{Refusal}
 use Rattle.iol_core.specs.declared.limits.TheConstants.{MAX_FILE_BYTES}
 use Rattle.iol_back.specs.Disk.{Disk, content}
-use Rattle.iol_arena.specs.State.{page_count}
-use Rattle.iol_hold.specs.Moves.{Moves, tally}
+use Rattle.iol_hold.specs.Moves.{Moves}
 use Rattle.iol_hold.specs.Stored.{Stored}
 use Rattle.iol_hold.specs.Texts.{bufs_of}
 use Rattle.iol_hold.specs.declared.slices.Slice.{Slice}
-use Rattle.iol_hold.proofs.Counting.{bufs-append}
 use Rattle.iol_hold.proofs.Paging.{keeps_pages_frees}
 use Rattle.iol_extent.specs.Extents.{Extent, dirty_in, last_end}
 use Rattle.iol_cache.specs.Cached.{Cached, all_parts, extents_in, file_in, held, no_file, with_file}
 use Rattle.iol_cache.specs.Contents.{byte_in, bytes_in_slot, file_byte, file_len}
 use Rattle.iol_cache.specs.Evicting.{GivesUp, Holding}
-use Rattle.iol_cache.specs.Overwriting.{KeepsFiles, KeepsMirrors}
 use Rattle.iol_cache.specs.Serving.{IsBacked}
 use Rattle.iol_cache.specs.Sound as cache
-use Rattle.iol_cache.specs.Syncing.{Cleans, Fails, Flushes, KeepsBytes, KeepsStored, Syncs, as_clean, cleaned_at, first_cleaned}
+use Rattle.iol_cache.specs.Syncing.{Cleans, Flushes, KeepsBytes, KeepsStored, Syncs, as_clean, first_cleaned}
 use Rattle.iol_cache.specs.declared.files.CachedFile.{CachedFile}
 use Rattle.iol_cache.specs.declared.syncing.Flushed.{Flushed}
 use Rattle.iol_cache.specs.declared.syncing.Flushed.TheVariants.{Nothing, Wrote}

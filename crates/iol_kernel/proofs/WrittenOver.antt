@@ -1,9 +1,9 @@
 -- An aggregate is written over the bytes of a file: what the call means and leaves, by what the cache promises.
-use Rattle.std.proofs.Common.{inl, inr, ◌≡◌, ◌⊎◌, ℕ, ◌+◌, ◌<◌, ◌≤◌, ◌++◌, ◌^◌, List, [], length, take, map, refl, sym, ap, ◌∙◌, subst, arith, Option, Some, None, true, false}
+use Rattle.std.proofs.Common.{inl, inr, ◌≡◌, ℕ, ◌+◌, ◌<◌, ◌≤◌, ◌++◌, ◌^◌, List, [], length, take, refl, sym, ap, ◌∙◌, subst, arith, Option, Some, None, true}
 use Rattle.std.specs.Prelude.{Result, Ok, Err}
 use Rattle.std.proofs.lemmas.Bool.{cases_lt}
 use Rattle.std.proofs.lemmas.List.{take_all}
-use Rattle.iol_core.specs.Text.{Text, bytes_of}
+use Rattle.iol_core.specs.Text.{Text}
 use Rattle.iol_core.specs.Numbered.{in_place, is_numbered, numbered_or}
 use Rattle.iol_core.specs.Meaning.{Meaning, first, WantOfRoom}
 use Rattle.iol_core.specs.State as machine
@@ -16,7 +16,6 @@ use Rattle.iol_core.specs.declared.descriptors.Descriptor.{Descriptor}
 use Rattle.iol_core.specs.declared.descriptors.Descriptor.TheVariants as on
 use Rattle.iol_core.specs.declared.limits.TheConstants.{MAX_FILE_BYTES}
 use Rattle.iol_back.specs.Disk.{Disk}
-use Rattle.iol_extent.specs.Extents.{Cell, IsApart, cover}
 use Rattle.iol_hold.specs.Moves.{Covers, Moves, SameLists}
 use Rattle.iol_hold.specs.Places.{byte_len}
 use Rattle.iol_hold.specs.Room.{pages_of}
@@ -27,7 +26,7 @@ use Rattle.iol_hold.proofs.AtPlaces.{length-read}
 use Rattle.iol_hold.proofs.Counting.{tally-append}
 use Rattle.iol_hold.proofs.Releasing.{frees_none}
 use Rattle.iol_desc.specs.Tables.{agg_in, domain_in, with_fds_in}
-use Rattle.iol_cache.specs.Cached.{Cached, extents_in, file_in, held, no_file}
+use Rattle.iol_cache.specs.Cached.{Cached, file_in, held, no_file}
 use Rattle.iol_cache.specs.Composing.{copied_pages}
 use Rattle.iol_cache.specs.Evicting.{Holding}
 use Rattle.iol_cache.specs.Overwriting.{IsWritten, KeepsFiles, KeepsMirrors, KeepsOthers, LiesDirty, OnlyMakesRoom, WritesFile}
@@ -46,7 +45,7 @@ use Rattle.iol_kernel.specs.Keeping.{KeepsBeside, LacksPages}
 use Rattle.iol_kernel.specs.WritingFiles.{WritesOn, WritesOver, pages_to_write, pool_of_file}
 use Rattle.iol_cache.proofs.Keeping.{apart_of}
 use Rattle.iol_kernel.proofs.Kept.{beside_same, unwritten_unless, write_unless}
-use Rattle.iol_kernel.proofs.FileWrites.{Puts, SamePools, late_serves, unwritten_pools, write_serves, written_pools}
+use Rattle.iol_kernel.proofs.FileWrites.{SamePools, late_serves, unwritten_pools, write_serves, written_pools}
 use Rattle.iol_kernel.proofs.Moved.{repositioned}
 use Rattle.iol_kernel.proofs.Named.{as_many, cache_sound}
 use Rattle.iol_kernel.proofs.ReadOf.{descriptor-read_of, text-read_of}

@@ -1,9 +1,9 @@
 -- Writing back of what is dirty, and what it leaves beside what it means.
-use Rattle.std.specs.Prelude.{◌≡◌, ◌⊎◌, ℕ, ◌-◌, None, Result, Ok, Err, OnOk}
+use Rattle.std.specs.Prelude.{◌≡◌, ◌⊎◌, ℕ, None, Result, Ok, Err, OnOk}
 use Rattle.iol_core.specs.declared.refusals.Refusal.{Refusal}
-use Rattle.iol_back.specs.Disk.{Disk, content}
+use Rattle.iol_back.specs.Disk.{Disk}
 use Rattle.iol_extent.specs.Extents.{dirty_in}
-use Rattle.iol_cache.specs.Cached.{dirty_in_all, extents_in}
+use Rattle.iol_cache.specs.Cached.{extents_in}
 use Rattle.iol_cache.specs.Serving.{FaultCounts}
 use Rattle.iol_cache.specs.Syncing as cache
 use Rattle.iol_cache.specs.declared.syncing.Flushed.{Flushed}

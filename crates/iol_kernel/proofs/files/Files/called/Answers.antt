@@ -1,7 +1,6 @@
 use Rattle.std.proofs.Common.{◌≡◌, ◌+◌, ◌∙◌, ℕ, List, ap, rules, sym, Option, Some}
 use Rattle.std.specs.Prelude.{bytes_eq, option_map, position}
 use Rattle.iol_kernel.specs.declared.files.File.{File}
-use Rattle.iol_kernel.specs.Files.{files_of}
 use Rattle.iol_kernel.proofs.Called.{position-files}
 use Rattle.iol_kernel.proofs.files.Files.called.Goals as goal
 

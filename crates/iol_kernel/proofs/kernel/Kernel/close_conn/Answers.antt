@@ -1,7 +1,6 @@
-use Rattle.std.proofs.Common.{◌≡◌, ◌∙◌, ap, ℕ, List, []}
+use Rattle.std.proofs.Common.{ap}
 use Rattle.iol_sock.specs.Table.{ConnTable, conn_in}
 use Rattle.iol_kernel.specs.Kernel.{state_of}
-use Rattle.iol_kernel.specs.KernelState.{KernelState}
 use Rattle.iol_kernel.proofs.Connecting.{conn_in-found, incoming_covered, open_conn-there}
 use Rattle.iol_kernel.proofs.Hanging.{hung_sound, hung_still, hung_left, hung_others}
 use Rattle.iol_kernel.proofs.kernel.Kernel.close_conn.Goals as goal

@@ -1,4 +1,4 @@
-use Rattle.std.proofs.Common.{rules, ◌≡◌, List, [], Some, None, refl, sym, true, false, inl, ℕ}
+use Rattle.std.proofs.Common.{rules, ◌≡◌, List, [], Some, refl, true, false, inl, ℕ}
 use Rattle.iol_core.specs.Calls.Descriptors as fds
 use Rattle.iol_core.specs.Calls.Reading as calls
 use Rattle.iol_core.specs.State as machine

@@ -1,15 +1,13 @@
-use Rattle.std.proofs.Common.{rules, ◌≡◌, ◌∙◌, ℕ, ◌+◌, List, [], None, Some, Option, ap, sym, refl, arith, true, inr}
-use Rattle.std.specs.Prelude.{slice_set, length}
+use Rattle.std.proofs.Common.{◌≡◌, ◌∙◌, ℕ, List, [], ap, sym, refl, arith, inr}
+use Rattle.std.specs.Prelude.{length}
 use Rattle.std.proofs.lemmas.List.{length-map}
 use Rattle.iol_core.specs.Text.{Text}
 use Rattle.iol_hold.specs.Texts.{text_of}
 use Rattle.iol_hold.proofs.Reading.{length-text_of}
-use Rattle.iol_core.specs.State.{Domain}
-use Rattle.iol_core.specs.declared.descriptors.Descriptor.TheVariants as on
 use Rattle.iol_core.specs.declared.refusals.Refusal.TheVariants.{Memory}
 use Rattle.iol_hold.specs.Places.{byte_len}
 use Rattle.iol_hold.specs.declared.slices.Slice.{Slice}
-use Rattle.iol_desc.specs.Tables.{domains_of, fds_in, with_fds_in}
+use Rattle.iol_desc.specs.Tables.{domains_of}
 use Rattle.iol_cache.specs.Cache.{cached_of}
 use Rattle.iol_kernel.specs.FileReading.{file_read, moved_on}
 use Rattle.iol_kernel.specs.Kernel.{state_of}

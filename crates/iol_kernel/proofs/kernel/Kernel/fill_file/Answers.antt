@@ -1,4 +1,4 @@
-use Rattle.std.proofs.Common.{[], ◌≡◌, ◌∙◌, ◌+◌, ap, sym, refl, arith, length, map, Some, ℕ}
+use Rattle.std.proofs.Common.{[], ◌∙◌, ◌+◌, ap, sym, refl, arith, length, map, Some}
 use Rattle.std.specs.Prelude.{slice_set}
 use Rattle.iol_core.specs.declared.descriptors.Descriptor.TheVariants as on
 use Rattle.iol_hold.specs.Stored.{Stored}

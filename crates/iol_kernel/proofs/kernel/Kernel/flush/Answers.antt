@@ -1,4 +1,4 @@
-use Rattle.std.proofs.Common.{refl, ap, sym, subst, ◌∙◌, Ok, Err}
+use Rattle.std.proofs.Common.{refl, ap, sym, subst}
 use Rattle.std.specs.Prelude.{Result}
 use Rattle.iol_core.specs.Calls.Outside as outside
 use Rattle.iol_core.specs.declared.refusals.Refusal.{Refusal}

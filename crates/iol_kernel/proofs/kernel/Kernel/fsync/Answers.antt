@@ -1,4 +1,4 @@
-use Rattle.std.proofs.Common.{[], ap, sym, subst, ℕ, Err}
+use Rattle.std.proofs.Common.{[], ap, subst, Err}
 use Rattle.iol_core.specs.Calls.Files as calls
 use Rattle.iol_core.specs.Calls.Files.{file_on}
 use Rattle.iol_kernel.specs.Kernel.{state_of}

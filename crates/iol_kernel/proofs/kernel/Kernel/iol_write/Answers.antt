@@ -1,4 +1,4 @@
-use Rattle.std.proofs.Common.{[], Err, Some, sym, subst, Option}
+use Rattle.std.proofs.Common.{[], Err, sym, subst, Option}
 use Rattle.iol_core.specs.Calls.Writing as calls
 use Rattle.iol_core.specs.declared.descriptors.Descriptor.{Descriptor}
 use Rattle.iol_kernel.specs.Kernel.{state_of}

@@ -2,7 +2,6 @@ use Rattle.std.proofs.Common.{[], ◌≡◌, ap, sym, subst, arith, take, true, 
 use Rattle.std.specs.Prelude.{◌≤◌, ◌<◌, min}
 use Rattle.std.specs.Io.KnownBytes.{Appends}
 use Rattle.iol_core.specs.Text.{Text, bytes_of}
-use Rattle.iol_hold.specs.Texts.{byte_at}
 use Rattle.iol_sock.specs.Table.{ConnTable, conn_in}
 use Rattle.iol_kernel.specs.Kernel.{state_of}
 use Rattle.iol_kernel.proofs.Borrowing.{outgoing_len, outgoing_text, lent_sound, lent_there, lent_none, lent_some}

@@ -1,4 +1,4 @@
-use Rattle.std.proofs.Common.{refl, subst, ◌∙◌, ap, sym}
+use Rattle.std.proofs.Common.{subst}
 use Rattle.iol_kernel.specs.Kernel.{state_of}
 use Rattle.iol_kernel.specs.MakingRoom.{MakesRoom}
 use Rattle.iol_kernel.proofs.AfterRoom.{fits, has}

@@ -1,4 +1,4 @@
-use Rattle.std.proofs.Common.{[], ◌≡◌, ◌∙◌, ◌==◌, Some, None, Bool, rules, ap, sym, true, false, arith}
+use Rattle.std.proofs.Common.{[], ◌≡◌, ◌∙◌, ◌==◌, Some, None, rules, ap, sym, false, arith}
 use Rattle.std.proofs.lemmas.Bool.Decides.{nat_tests}
 use Rattle.iol_core.specs.Meaning.{first}
 use Rattle.iol_pool.specs.Pools.{pool_in}

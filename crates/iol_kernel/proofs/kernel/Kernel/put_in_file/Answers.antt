@@ -1,4 +1,4 @@
-use Rattle.std.proofs.Common.{[], ◌≡◌, ◌∙◌, ap, sym, arith, length, ℕ}
+use Rattle.std.proofs.Common.{[], ◌≡◌, ◌∙◌, ap, sym, arith, length}
 use Rattle.iol_arena.specs.State.{pages_for}
 use Rattle.iol_core.specs.Calls.Writing as writing
 use Rattle.iol_core.specs.declared.descriptors.Descriptor.TheVariants as on

@@ -1,9 +1,7 @@
-use Rattle.std.proofs.Common.{[], ◌≡◌, ◌∙◌, ℕ, min, length, ap, sym}
-use Rattle.iol_core.specs.Calls.Writing as writing
+use Rattle.std.proofs.Common.{[], ◌∙◌, min, length, ap, sym}
 use Rattle.iol_core.specs.declared.descriptors.Descriptor.TheVariants as on
 use Rattle.iol_kernel.specs.Kernel.{state_of}
-use Rattle.iol_kernel.specs.KernelState.{read_of}
-use Rattle.iol_kernel.specs.Readings.{Reading, bytes_over}
+use Rattle.iol_kernel.specs.Readings.{bytes_over}
 use Rattle.iol_kernel.proofs.Queued.{count_in_conn, passed_still, pool_still, to_still, write_none, write_places}
 use Rattle.iol_kernel.proofs.ReadOf.{closed-read_of}
 use Rattle.iol_kernel.proofs.Making.{open_after}

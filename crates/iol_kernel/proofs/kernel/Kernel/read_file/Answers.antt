@@ -1,4 +1,4 @@
-use Rattle.std.proofs.Common.{rules, ◌≡◌, [], Some, None, refl, sym, true, false, ℕ}
+use Rattle.std.proofs.Common.{rules, ◌≡◌, [], Some, refl, true, false, ℕ}
 use Rattle.iol_core.specs.Calls.Aggregates.{too_many_aggs}
 use Rattle.iol_core.specs.Calls.Descriptors as fds
 use Rattle.iol_core.specs.Calls.Reading as calls

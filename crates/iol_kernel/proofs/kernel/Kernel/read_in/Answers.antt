@@ -1,5 +1,4 @@
-use Rattle.std.proofs.Common.{[], ◌≡◌, ap, rules, true, false}
-use Rattle.iol_hold.specs.Texts.{byte_at}
+use Rattle.std.proofs.Common.{[], ap, rules, true, false}
 use Rattle.iol_sock.specs.Table.{ConnTable, conn_in}
 use Rattle.iol_kernel.specs.Kernel.{state_of}
 use Rattle.iol_kernel.proofs.Borrowing.{read_passed, read_refused, read_room, read_sound, read_made, read_takes, read_none, read_most}

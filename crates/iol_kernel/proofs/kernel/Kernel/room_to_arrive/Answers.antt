@@ -1,5 +1,4 @@
-use Rattle.std.proofs.Common.{◌≡◌, ◌∙◌, ℕ, length, rules, Some, None, ap, sym, arith}
-use Rattle.iol_core.specs.Numbered.{lookup}
+use Rattle.std.proofs.Common.{◌≡◌, ◌∙◌, length, rules, Some, None, ap, sym, arith}
 use Rattle.iol_pool.specs.Pools.{pool_in}
 use Rattle.iol_pipe.specs.Queue.{fitting}
 use Rattle.iol_sock.specs.Refused.{arrive_refusals}

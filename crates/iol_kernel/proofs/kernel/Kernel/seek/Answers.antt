@@ -1,4 +1,4 @@
-use Rattle.std.proofs.Common.{[], ◌∙◌, arith, ap, sym, rules, false, true, None, Some, refl, Option}
+use Rattle.std.proofs.Common.{[], ◌∙◌, arith, ap, sym, rules, false, true, None, Some, refl}
 use Rattle.iol_core.specs.declared.descriptors.Descriptor.{Descriptor}
 use Rattle.iol_core.specs.declared.descriptors.Descriptor.TheVariants as on
 use Rattle.iol_core.specs.declared.refusals.Refusal.TheVariants.{NoDomain, BadFd, WrongMode}

@@ -1,14 +1,10 @@
-use Rattle.std.proofs.Common.{◌≡◌, ◌∙◌, ℕ, List, sym, subst, rules, false, true}
-use Rattle.iol_core.specs.Numbered.{without}
-use Rattle.iol_core.specs.State.{State, with_conn, conn_at}
+use Rattle.std.proofs.Common.{◌≡◌, ◌∙◌, List, sym, subst, rules, true}
 use Rattle.iol_core.specs.declared.descriptors.Descriptor.TheVariants as on
 use Rattle.iol_hold.specs.declared.slices.Slice.{Slice}
 use Rattle.iol_hold.proofs.Reading.{readable_joined}
 use Rattle.iol_sock.specs.Connections.{Conn, is_over}
-use Rattle.iol_kernel.specs.Calls.{Leaves}
 use Rattle.iol_kernel.specs.Kernel.{state_of}
-use Rattle.iol_kernel.specs.KernelState.{KernelState}
-use Rattle.iol_kernel.proofs.Connecting.{Conns, some_same, conn_covered, conn_readable, settled_stays, settled_as, gone_keeps}
+use Rattle.iol_kernel.proofs.Connecting.{some_same, conn_covered, conn_readable, settled_stays, settled_as, gone_keeps}
 use Rattle.iol_kernel.proofs.kernel.Kernel.settle.Goals as goal
 
 pub release-requires : goal.release-requires

@@ -1,4 +1,4 @@
-use Rattle.std.proofs.Common.{refl, inl, []}
+use Rattle.std.proofs.Common.{refl, inl}
 use Rattle.iol_core.specs.Calls.Files as calls
 use Rattle.iol_cache.specs.Cache.{cached_of}
 use Rattle.iol_kernel.specs.Kernel.{state_of}

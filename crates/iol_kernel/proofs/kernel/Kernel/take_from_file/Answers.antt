@@ -1,15 +1,14 @@
-use Rattle.std.proofs.Common.{rules, ◌≡◌, ◌∙◌, ℕ, List, [], None, Some, Option, ap, sym, refl, arith, true, ◌+◌}
+use Rattle.std.proofs.Common.{rules, ◌≡◌, ◌∙◌, ℕ, List, [], Some, ap, sym, refl, arith, ◌+◌}
 use Rattle.std.specs.Prelude.{slice_set}
 use Rattle.iol_core.specs.Numbered.{in_place}
 use Rattle.iol_hold.specs.Places.{byte_len}
 use Rattle.iol_core.specs.State.{Domain}
-use Rattle.iol_core.specs.Calls.Reading as calls
 use Rattle.iol_core.specs.declared.descriptors.Descriptor.TheVariants as on
 use Rattle.iol_core.specs.declared.refusals.Refusal.TheVariants.{Memory}
 use Rattle.iol_hold.specs.declared.slices.Slice.{Slice}
 use Rattle.iol_desc.specs.Tables.{domains_of, domain_in, fds_in, with_agg_in, with_fds_in}
 use Rattle.iol_cache.specs.Cache.{cached_of}
-use Rattle.iol_kernel.specs.FileReading.{FileRead, file_read, moved_on}
+use Rattle.iol_kernel.specs.FileReading.{file_read, moved_on}
 use Rattle.iol_kernel.specs.Kernel.{state_of}
 use Rattle.iol_kernel.specs.KernelState.{KernelState}
 use Rattle.iol_kernel.specs.Readings.{bytes_over}

@@ -1,5 +1,4 @@
 use Rattle.std.proofs.Common.{[], ◌∙◌, ◌++◌, ℕ, List, ap, inl, length, drop}
-use Rattle.iol_hold.specs.Texts.{byte_at}
 use Rattle.iol_kernel.specs.Kernel.{state_of}
 use Rattle.iol_kernel.specs.KernelState.{objects_of}
 use Rattle.iol_kernel.proofs.Ends.{there_if_open}

@@ -1,4 +1,4 @@
-use Rattle.std.proofs.Common.{[], ◌≡◌, ap, sym, ℕ, rules}
+use Rattle.std.proofs.Common.{[], ◌≡◌, ap, sym, rules}
 use Rattle.iol_sock.specs.Table.{ConnTable}
 use Rattle.iol_kernel.specs.Kernel.{state_of}
 use Rattle.iol_kernel.specs.Readings.{bytes_over}
