@@ -48,7 +48,10 @@ fn order_of_three(rt: HostRuntime) {
     assert_eq!(rt; order.height(one, 8192), 2048);
     assert_eq!(rt; order.height(two, 0), 12288);
     assert_eq!(rt; order.least(&nobody, &mut Rank::least()), Some((one, 8192)));
-    assert_eq!(rt; order.least(&UsesFile(1), &mut Rank::least()), Some((two, 0)));
+    assert_eq!(rt;
+        order.least(&UsesFile(1), &mut Rank::least()),
+        Some((two, 0))
+    );
     order.evict(one, 8192, &mut Rank::least());
     assert_eq!(rt; order.low(), 2048);
     order.hit(one, 0);
