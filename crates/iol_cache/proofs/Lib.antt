@@ -1,5 +1,6 @@
 pub mod Marking
 pub mod Pinning
+pub mod Passed
 pub mod Rooming
 pub mod Filing
 pub mod Using

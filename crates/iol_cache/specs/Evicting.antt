@@ -8,7 +8,8 @@ use Rattle.iol_hold.specs.Releases.{FreesOnly}
 use Rattle.iol_hold.specs.Room.{free_of}
 use Rattle.iol_hold.specs.Texts.{bufs_of}
 use Rattle.iol_extent.specs.Extents.{Extent, begins_at, cover}
-use Rattle.iol_evict.specs.Victims.{IsVictim}
+use Rattle.iol_evict.specs.declared.entry.Rank.{Rank}
+use Rattle.iol_evict.specs.Victims.{AreUsedBelow, IsVictim}
 use Rattle.iol_cache.specs.declared.files.CachedFile.{CachedFile}
 use Rattle.iol_cache.specs.Marks.{is_held_beside}
 use Rattle.iol_cache.specs.Contents.{Mirrors, SameFiles}
@@ -22,6 +23,10 @@ pub record Holding : Type 0 where
 -- whether a buffer of the extent that begins there is held by anything but clean extents
 unfoldable pub in_use : Stored → List CachedFile → (f at : ℕ) → Bool
 in_use s fs f at = list_any (λ x. is_held_beside s (clean_held fs) x.hold.buf) (parts_at fs f at)
+
+-- the clean extents that lie below this rank in a pool's order are in use
+abbrev pub ArePassed : Rank → (p : ℕ) → Holding → Type 0
+ArePassed rank p h = AreUsedBelow (in_use h.store h.cache.files) rank (order_in h.cache.orders p).entries
 
 -- the clean extent that begins at a place of a file
 pub record IsCleanAt (fs : List CachedFile) (f at : ℕ) : Type 0 where

@@ -4,24 +4,27 @@ ghost use Rattle.iol_core.specs.Numbered.{is_numbered};
 ghost use Rattle.iol_pool.specs.Pools.{pool_in};
 ghost use Rattle.iol_hold.specs.Room.{pages_of, free_of};
 ghost use Rattle.iol_evict.specs.Victims.{IsVictim};
-ghost use Rattle.iol_cache.specs.Cached.{extents_in, order_in, clean_held};
+ghost use Rattle.iol_cache.specs.Cached.{extents_in, file_in, order_in, clean_held};
 ghost use Rattle.iol_cache.specs.Cache.{cached_of, holding};
-ghost use Rattle.iol_cache.specs.Evicting.{in_use, IsCleanAt, AllDirty, Evicts, EvictsAll, EvictsPools, GivesUp};
+ghost use Rattle.iol_cache.specs.Evicting.{in_use, ArePassed, IsCleanAt, AllDirty, Evicts, EvictsAll, EvictsPools, GivesUp};
 ghost use Rattle.iol_cache.specs.Pinned.{pinned_beside};
 ghost use Rattle.iol_cache.specs.Sound.{IsSound};
 
 use crate::cache::Cache;
 use crate::users::Users;
 use iol_core::numbers::{FileId, PoolId};
+use iol_evict::entry::Rank;
 use iol_hold::Store;
 
 impl Cache {
-    // The clean extent that goes first of those of the pool's files.
-    fn victim(&self, store: &Store, pool: PoolId) -> Option<(FileId, u32)>
-        requires { IsSound store.now (cached_of self.now) }
-        ensures { let entries = (order_in self.now.orders.items pool).entries in
+    // The clean extent that goes first of those of the pool's files. Those that lie below `passed` in its order are in use.
+    fn victim(&self, store: &Store, pool: PoolId, passed: &mut Rank) -> Option<(FileId, u32)>
+        requires sound { IsSound store.now (cached_of self.now) }
+        requires below { ArePassed passed.old pool (holding store.now self.now) }
+        ensures first { let entries = (order_in self.now.orders.items pool).entries in
             MatchOption result (entries ≡ [])
             (IsVictim (in_use store.now self.now.files.items) entries) }
+        ensures below { ArePassed passed.new pool (holding store.now self.now) }
     {
         let number = pool.number() as usize;
         if number == 0 {
@@ -35,21 +38,24 @@ impl Cache {
             files: self.files.as_slice(),
             marks: &self.marks,
         };
-        self.orders[number - 1].least(&users)
+        self.orders[number - 1].least(&users, passed)
     }
 
-    // Evicts the clean extent of a file that begins at a place.
-    fn evict(&mut self, store: &mut Store, file: FileId, at: u32)
+    // Evicts the clean extent of a file that begins at a place. Those of its pool's files below `passed` stay in use.
+    fn evict(&mut self, store: &mut Store, file: FileId, at: u32, passed: &mut Rank)
         requires sound { IsSound store.old (cached_of self.old) }
         requires clean { IsCleanAt self.old.files.items file at }
         ensures evicts { Evicts file at (holding store.old self.old) (holding store.new self.new) }
         ensures sound { IsSound store.new (cached_of self.new) }
+        ensures below { let pool = (file_in self.old.files.items file).pool in
+            ArePassed passed.old pool (holding store.old self.old) →
+            ArePassed passed.new pool (holding store.new self.new) }
     {
         let place = file.number() as usize - 1;
         let pool = self.files[place].pool;
         let agg = self.files[place].extents.remove(at);
         self.marks.unmark(agg.slices());
-        self.orders[pool.number() as usize - 1].leave(file, at, true);
+        self.orders[pool.number() as usize - 1].evict(file, at, passed);
         agg.release(store);
     }
 
@@ -67,11 +73,12 @@ impl Cache {
         ensures gives_up { GivesUp (holding store.old self.old) (holding store.new self.new) }
         ensures sound { IsSound store.new (cached_of self.new) }
     {
+        let mut passed = Rank::least();
         while store.free_count(pool) < pages {
-            let Some(place) = self.victim(store, pool) else {
+            let Some(place) = self.victim(store, pool, &mut passed) else {
                 return false;
             };
-            self.evict(store, place.0, place.1);
+            self.evict(store, place.0, place.1, &mut passed);
         }
         true
     }
@@ -87,8 +94,9 @@ impl Cache {
         ensures gives_up { GivesUp (holding store.old self.old) (holding store.new self.new) }
         ensures sound { IsSound store.new (cached_of self.new) }
     {
-        while let Some(place) = self.victim(store, pool) {
-            self.evict(store, place.0, place.1);
+        let mut passed = Rank::least();
+        while let Some(place) = self.victim(store, pool, &mut passed) {
+            self.evict(store, place.0, place.1, &mut passed);
         }
     }
 

@@ -45,7 +45,7 @@ fn forget(order: &mut Order, marks: &mut CleanHolds, extents: &Extents, file: Fi
         return;
     }
     marks.unmark(agg.slices());
-    order.leave(file, at, false);
+    order.leave(file, at);
 }
 
 // Takes the extent away that begins at a place.

@@ -8,4 +8,5 @@ pub mod Indexing
 pub mod Changing
 pub mod Lowered
 pub mod Firsts
+pub mod Below
 mod Examples

@@ -9,6 +9,9 @@ abbrev pub rank_by : By → Entry → Rank
 rank_by Place e = record { height = 0; file = e.file; at = e.at }
 rank_by Height e = record { height = e.height; file = e.file; at = e.at }
 
+abbrev pub least_rank : Rank
+least_rank = record { height = 0; file = 0; at = 0 }
+
 -- by height, then file, then place
 pub record RankLt (a b : Rank) : Type 0 where
   pub height : a.height ≤ b.height

@@ -2,7 +2,10 @@
 use Rattle.std.specs.Prelude.{◌≡◌, ℕ, ◌<◌, ◌≤◌, ◌⊎◌, Bool, true, false, List, length, slice_index, All, Contains}
 use Rattle.slab.specs.Slab.{Slab}
 use Rattle.iol_evict.specs.declared.entry.Entry.{Entry}
-use Rattle.iol_evict.specs.Indexes.{entry_of}
+use Rattle.iol_evict.specs.declared.entry.Rank.{Rank}
+use Rattle.iol_evict.specs.declared.entry.By.TheVariants.{Height}
+use Rattle.iol_evict.specs.Ranks.{rank_by, RankLt}
+use Rattle.iol_evict.specs.Indexes.{entry_of, rank_at}
 
 -- by height, then file, then place
 pub record KeyLe (a b : Entry) : Type 0 where
@@ -23,6 +26,10 @@ pub record IsVictim (in_use : ℕ → ℕ → Bool) (es : List Entry) (place : �
   pub first : All (Precedes in_use victim) es
   pub lies : place ≡ (victim.file, victim.at)
 
+-- all of these entries that lie below a rank are in use
+pub record AreUsedBelow (in_use : ℕ → ℕ → Bool) (rank : Rank) (es : List Entry) : Type 0 where
+  pub each : All (λ e. RankLt (rank_by Height e) rank → in_use e.file e.at ≡ true) es
+
 -- of each of these entries it may be asked whether it is in use
 pub record CanAskOf (can_ask : ℕ → ℕ → Type 0) (s : Slab Entry) (keys : List ℕ) : Type 0 where
   pub each : (i : ℕ) → i < length keys → can_ask (entry_of s (slice_index keys i)).file (entry_of s (slice_index keys i)).at
@@ -37,3 +44,7 @@ pub record GoesFirst (in_use : ℕ → ℕ → Bool) (s : Slab Entry) (keys : Li
   pub lies : place ≡ ((entry_of s (slice_index keys index)).file, (entry_of s (slice_index keys index)).at)
   pub before : (i : ℕ) → i < index → is_used in_use s keys i ≡ true
   pub idle : (is_used in_use s keys index ≡ false) ⊎ ((index ≡ 0) × ((i : ℕ) → i < length keys → is_used in_use s keys i ≡ true))
+
+-- all of these keys whose entries lie below a rank are in use
+pub record KeysUsedBelow (in_use : ℕ → ℕ → Bool) (rank : Rank) (s : Slab Entry) (keys : List ℕ) : Type 0 where
+  pub each : (i : ℕ) → i < length keys → RankLt (rank_at Height s keys i) rank → is_used in_use s keys i ≡ true

@@ -3,7 +3,7 @@ ghost use Rattle.std.specs.Prelude.{◌≡◌, ◌≢◌, ℕ, ◌+◌, ◌-◌,
 ghost use Rattle.slab.specs.Slab.{get, ContainsKey, Updates, HasRoomFor, slab_len, SameValues};
 ghost use Rattle.iol_evict.specs.Indexes.{entry_of, AreLive, IsRising, IsIndexed, Lowers};
 ghost use Rattle.iol_evict.specs.Ranking.{Table, entry_at, entry_or, put_in, without, with_height, lowered_by};
-ghost use Rattle.iol_evict.specs.Victims.{IsVictim};
+ghost use Rattle.iol_evict.specs.Victims.{AreUsedBelow, IsVictim};
 
 use crate::entry::{By, Entry, Rank};
 use crate::index::{find_key, insert_key, read_entry, remove_key, write_height};
@@ -213,12 +213,14 @@ impl Entries {
         insert_all(&self.slab, self.by_place.as_slice(), &mut self.by_height);
     }
 
-    /// The place of the entry that goes first.
-    pub(crate) fn least<U: InUse>(&self, users: &U) -> Option<(FileId, u32)>
-        requires { All (λ e. U.can_ask users.now e.file e.at) self.now.entries }
-        ensures { MatchOption result (self.now.entries ≡ [])
+    /// The place of the entry that goes first. All below `passed` are in use.
+    pub(crate) fn least<U: InUse>(&self, users: &U, passed: &mut Rank) -> Option<(FileId, u32)>
+        requires ask { All (λ e. U.can_ask users.now e.file e.at) self.now.entries }
+        requires below { AreUsedBelow (U.in_use users.now) passed.old self.now.entries }
+        ensures first { MatchOption result (self.now.entries ≡ [])
             (IsVictim (U.in_use users.now) self.now.entries) }
+        ensures below { AreUsedBelow (U.in_use users.now) passed.new self.now.entries }
     {
-        first_idle(&self.slab, self.by_height.as_slice(), users)
+        first_idle(&self.slab, self.by_height.as_slice(), users, passed)
     }
 }

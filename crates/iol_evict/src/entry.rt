@@ -21,9 +21,9 @@ pub(crate) enum By {
     Height,
 }
 
-/// What an index compares. By place all have height 0.
+/// What an index compares: height, file and place. By place all have height 0.
 #[derive(Clone, Copy)]
-pub(crate) struct Rank {
+pub struct Rank {
     pub(crate) height: u64,
     pub(crate) file: FileId,
     pub(crate) at: u32,

@@ -1,10 +1,10 @@
 //! The order in which parts of files are evicted.
-ghost use Rattle.std.specs.Prelude.{◌≡◌, ◌≢◌, ℕ, ◌+◌, ◌-◌, ◌*◌, ◌/◌, ◌^◌, ◌<◌, ◌≤◌, [], All, true, false, None, MatchOption, OnOk, OnErr, IsOk};
+ghost use Rattle.std.specs.Prelude.{◌≡◌, ◌≢◌, ℕ, ◌+◌, ◌-◌, ◌*◌, ◌/◌, ◌^◌, ◌<◌, ◌≤◌, [], All, Bool, None, MatchOption, OnOk, OnErr, IsOk};
 ghost use Rattle.iol_evict.specs.Ranking.{Ranking, worth, entry_at, entry_or, entered, hit_at, left_at, evicted_at, with_one_kept, with_one_given_back};
-ghost use Rattle.iol_evict.specs.Victims.{IsVictim};
+ghost use Rattle.iol_evict.specs.Victims.{AreUsedBelow, IsVictim};
 
 use crate::entries::Entries;
-use crate::entry::{Entry, MAX_LOW};
+use crate::entry::{Entry, MAX_LOW, Rank};
 use crate::users::InUse;
 use iol_core::numbers::FileId;
 use std::alloc::{AllocError, Global};
@@ -14,7 +14,7 @@ use std::marker::Model;
 ///
 /// A contract sees L, the entries in the order of file and place, the room: how many more may enter without memory,
 /// and how many places are kept beside it. No call but `reserve` wants memory, and none walks the entries, but `least`
-/// those in use that go first, and `leave` once L is past 2^62.
+/// those in use that go first, and `evict` once L is past 2^62.
 #[derive(Drop)]
 pub struct Order {
     entries: Entries,
@@ -129,33 +129,44 @@ impl Order {
         self.entries.set_height(file, at, height);
     }
 
-    /// Takes an entry out. Where it was evicted, L becomes the height that it had; past 2^62, L is taken from every height
-    /// and from itself.
-    pub fn leave(&mut self, file: FileId, at: u32, evicted: bool)
+    /// Takes an entry out, and L stays.
+    pub fn leave(&mut self, file: FileId, at: u32)
         requires { entry_at self.old.entries file at ≢ None }
-        ensures left { evicted ≡ false → self.new ≡ left_at self.old file at }
-        ensures evicted { evicted ≡ true → self.new ≡ evicted_at self.old file at }
+        ensures { self.new ≡ left_at self.old file at }
+    {
+        let _entry = self.entries.remove(file, at);
+    }
+
+    /// Evicts an entry: it is taken out, and L becomes the height that it had. Past 2^62, L is taken from every height and
+    /// from itself, and `passed` becomes the least rank. Whoever is in use, all below `passed` are so after where all were
+    /// before.
+    pub fn evict(&mut self, file: FileId, at: u32, passed: &mut Rank)
+        requires { entry_at self.old.entries file at ≢ None }
+        ensures evicted { self.new ≡ evicted_at self.old file at }
+        ensures below { (in_use : ℕ → ℕ → Bool) →
+            AreUsedBelow in_use passed.old self.old.entries →
+            AreUsedBelow in_use passed.new self.new.entries }
     {
         let entry = self.entries.remove(file, at);
-        if !evicted {
-            return;
-        }
         if entry.height <= MAX_LOW {
             self.low = entry.height;
             return;
         }
         self.entries.lower(entry.height);
         self.low = 0;
+        *passed = Rank::least();
     }
 
     /// The file and place of the entry that goes first: of those not in use, or else of all, the least by height, file
-    /// and place.
-    pub fn least<U: InUse>(&self, users: &U) -> Option<(FileId, u32)>
-        requires { All (λ e. U.can_ask users.now e.file e.at) self.now.entries }
-        ensures { MatchOption result (self.now.entries ≡ [])
+    /// and place. All below `passed` are in use: the search begins there, and leaves there where the next may begin.
+    pub fn least<U: InUse>(&self, users: &U, passed: &mut Rank) -> Option<(FileId, u32)>
+        requires ask { All (λ e. U.can_ask users.now e.file e.at) self.now.entries }
+        requires below { AreUsedBelow (U.in_use users.now) passed.old self.now.entries }
+        ensures first { MatchOption result (self.now.entries ≡ [])
             (IsVictim (U.in_use users.now) self.now.entries) }
+        ensures below { AreUsedBelow (U.in_use users.now) passed.new self.now.entries }
     {
-        self.entries.least(users)
+        self.entries.least(users, passed)
     }
 
     /// L: the height of the last entry that was evicted.

@@ -1,8 +1,22 @@
 //! Comparing ranks.
 ghost use Rattle.std.specs.Prelude.{◌≡◌, true, false};
-ghost use Rattle.iol_evict.specs.Ranks.{rank_by, RankLt, RankLe};
+ghost use Rattle.iol_evict.specs.Ranks.{rank_by, least_rank, RankLt, RankLe};
 
 use crate::entry::{By, Entry, Rank};
+use iol_core::numbers::FileId;
+
+impl Rank {
+    /// The least rank, below which no entry lies.
+    pub fn least() -> Rank
+        ensures { result ≡ least_rank }
+    {
+        Rank {
+            height: 0,
+            file: FileId::new(0),
+            at: 0,
+        }
+    }
+}
 
 pub(crate) fn rank_of(by: By, entry: &Entry) -> Rank
     ensures { result ≡ rank_by by entry.now }

@@ -1,28 +1,37 @@
 //! Finding the entry that goes first.
-ghost use Rattle.std.specs.Prelude.{◌≡◌, ℕ, ◌<◌, length, true, MatchOption};
+ghost use Rattle.std.specs.Prelude.{◌≡◌, ℕ, ◌+◌, ◌<◌, length, true, MatchOption};
 ghost use Rattle.slab.specs.Slab.{ContainsKey};
-ghost use Rattle.iol_evict.specs.Indexes.{entry_of, AreLive};
-ghost use Rattle.iol_evict.specs.Victims.{CanAskOf, GoesFirst};
+ghost use Rattle.iol_evict.specs.declared.entry.By.TheVariants.{Height};
+ghost use Rattle.iol_evict.specs.Indexes.{entry_of, AreLive, IsRising};
+ghost use Rattle.iol_evict.specs.Victims.{CanAskOf, GoesFirst, KeysUsedBelow};
 
-use crate::entry::Entry;
-use crate::index::read_entry;
+use crate::entry::{By, Entry, Rank};
+use crate::index::{position, read_entry};
+use crate::rank::rank_of;
 use crate::users::InUse;
 use iol_core::numbers::FileId;
 use slab::Slab;
 
-/// The place of the first entry that is not in use, or else of the first.
+/// The place of the first entry that is not in use, or else of the first. All below `passed` are in use: the search begins
+/// there, and moves it up to where it ends.
 pub(crate) fn first_idle<U: InUse>(
     slab: &Slab<Entry>,
     keys: &[usize],
     users: &U,
+    passed: &mut Rank,
 ) -> Option<(FileId, u32)>
     requires live { AreLive slab.now keys.now }
+    requires rising { IsRising Height slab.now keys.now }
     requires ask { CanAskOf (U.can_ask users.now) slab.now keys.now }
-    ensures { MatchOption result (length keys.now ≡ 0)
+    requires below { KeysUsedBelow (U.in_use users.now) passed.old slab.now keys.now }
+    ensures first { MatchOption result (length keys.now ≡ 0)
         (GoesFirst (U.in_use users.now) slab.now keys.now) }
+    ensures below { KeysUsedBelow (U.in_use users.now) passed.new slab.now keys.now }
 {
-    for key in keys {
+    let from = position(slab, keys, By::Height, passed);
+    for key in &keys[from..] {
         let entry = read_entry(slab, *key);
+        *passed = rank_of(By::Height, &entry);
         if !users.is_in_use(entry.file, entry.at) {
             return Some((entry.file, entry.at));
         }

@@ -3,6 +3,7 @@ ghost use Rattle.std.specs.Prelude.{◌≡◌, ◌≢◌, ℕ, ◌<◌, ◌≤�
 ghost use Rattle.iol_evict.specs.Ranking.{Ranking, entry_at, entered};
 
 use iol_core::numbers::FileId;
+use iol_evict::entry::Rank;
 use iol_evict::order::Order;
 use iol_evict::users::InUse;
 use std::alloc::Global;
@@ -39,20 +40,23 @@ fn order_of_three(rt: HostRuntime) {
     let two = FileId::new(2);
     let nobody = UsesFile(0);
     let mut order = make_order(&rt, rt.alloc(), 3);
-    assert_eq!(rt; order.least(&nobody), None);
+    assert_eq!(rt; order.least(&nobody, &mut Rank::least()), None);
     order.enter(one, 0, 4096, 1);
     order.enter(one, 8192, 8192, 1);
     order.enter(two, 0, 4096, 3);
     assert_eq!(rt; order.height(one, 0), 4096);
     assert_eq!(rt; order.height(one, 8192), 2048);
     assert_eq!(rt; order.height(two, 0), 12288);
-    assert_eq!(rt; order.least(&nobody), Some((one, 8192)));
-    assert_eq!(rt; order.least(&UsesFile(1)), Some((two, 0)));
-    order.leave(one, 8192, true);
+    assert_eq!(rt; order.least(&nobody, &mut Rank::least()), Some((one, 8192)));
+    assert_eq!(rt;
+        order.least(&UsesFile(1), &mut Rank::least()),
+        Some((two, 0))
+    );
+    order.evict(one, 8192, &mut Rank::least());
     assert_eq!(rt; order.low(), 2048);
     order.hit(one, 0);
     assert_eq!(rt; order.height(one, 0), 6144);
-    assert_eq!(rt; order.least(&nobody), Some((one, 0)));
+    assert_eq!(rt; order.least(&nobody, &mut Rank::least()), Some((one, 0)));
 }
 
 // Rounds of a small and costly part: it enters, and is evicted.
@@ -64,7 +68,7 @@ fn evict_rounds(order: &mut Order, rounds: u32)
 {
     for _ in 0..rounds {
         order.enter(FileId::new(1), 0, 1, u32::MAX);
-        order.leave(FileId::new(1), 0, true);
+        order.evict(FileId::new(1), 0, &mut Rank::least());
     }
 }
 

@@ -1,4 +1,4 @@
-use Rattle.std.proofs.Common.{◌≡◌, ◌∙◌, sym, ap, subst, refl, length, List}
+use Rattle.std.proofs.Common.{◌≡◌, ◌∙◌, sym, ap, subst, length, List}
 use Rattle.iol_hold.specs.declared.slices.Slice.{Slice}
 use Rattle.iol_evict.specs.Ranking.{Ranking}
 use Rattle.iol_extent.specs.Extents.{begins_at, extent_of, without_at}
@@ -55,7 +55,7 @@ returns-clause-follows c =
     let x = extent_of c.in-Some._begin c.in-Some.agg.now c.in-Some.dirty in
     let begins = begins_over es c.args.at x c.requires.apart c.requires.begins c.in-Some.ensures.extent in
     let unmarks = subst (Unmarks c.args.marks.now c.unmark.new.self) c.slices.ensures c.unmark.ensures.unmarks in
-    subst (λ (r : Ranking). Reindexes c.args.file es (without_at es c.args.at) c.args.order.now r c.args.marks.now c.unmark.new.self) (sym (c.leave.ensures.left refl))
+    subst (λ (r : Ranking). Reindexes c.args.file es (without_at es c.args.at) c.args.order.now r c.args.marks.now c.unmark.new.self) (sym c.leave.ensures)
     (clean_goes c.args.file es c.args.at x c.args.order.now c.args.marks.now c.unmark.new.self c.requires.apart begins c.if-dirty.false c.requires.ranked unmarks)
 
 pub returns-in_default-clause-order : goal.returns-in_default-clause-order
@@ -74,4 +74,4 @@ returns-clause-order c =
     let x = extent_of c.in-Some._begin c.in-Some.agg.now c.in-Some.dirty in
     let begins = begins_over es c.args.at x c.requires.apart c.requires.begins c.in-Some.ensures.extent in
     is_some (λ e. c.leave.new.self ≡ forgotten c.args.order.now c.args.file e) (begins_at es c.args.at) x begins
-    (forgot_clean c.args.order.now c.leave.new.self c.args.file c.args.at x c.if-dirty.false (begins_above 0 es c.args.at x c.requires.apart begins).1 (c.leave.ensures.left refl))
+    (forgot_clean c.args.order.now c.leave.new.self c.args.file c.args.at x c.if-dirty.false (begins_above 0 es c.args.at x c.requires.apart begins).1 c.leave.ensures)

@@ -15,6 +15,7 @@ use Rattle.iol_cache.proofs.Filing.{file_at_number, order_at_number, numbered_bo
 use Rattle.iol_cache.proofs.Using.{clean_numbered, are_within, covers_at, sum-clean_at}
 use Rattle.iol_cache.proofs.Ranked.{clean_ranked, entry_there}
 use Rattle.iol_cache.proofs.Evicted.{given_is, begins_in, files_are, orders_are, sound_evicted}
+use Rattle.iol_cache.proofs.Passed.{passed_evicted}
 use Rattle.iol_cache.proofs.cache.Cache.evict.Goals as goal
 
 ordered_pool : (s : Stored) (c : Cached) (f at : ℕ) → IsSound s c → IsCleanAt c.files f at → (0 < (file_in c.files f).pool) × ((file_in c.files f).pool ≤ length c.orders)
@@ -67,8 +68,8 @@ index_mut-requires-2 c =
     let b = ordered_pool c.args.store.now (cached_of c.args.self.now) c.args.file c.args.at c.requires.sound c.requires.clean in
     omega (arith, b.0, b.1, c.number-2.ensures, ap (λ (y : CachedFile). y.pool) x, c.args.self.now.orders.ok.0)
 
-pub leave-requires : goal.leave-requires
-leave-requires c =
+pub evict-requires : goal.evict-requires
+evict-requires c =
     let fs = c.args.self.now.files.items in
     let os = c.args.self.now.orders.items in
     let p = (file_in fs c.args.file).pool in
@@ -104,7 +105,7 @@ returns-clause-evicts c =
     record {
       there = there;
       files = files_are fs c.args.file c.args.at c.number.result c.index_mut.result.now c.remove-agg.new.self c.number.ensures numbered.0 x c.remove-agg.ensures.extents c.remove-agg.ensures.room;
-      orders = orders_are os p c.args.file c.args.at c.number-2.result c.index_mut-2.result.now c.leave.new.self pool b.0 o (c.leave.ensures.evicted refl);
+      orders = orders_are os p c.args.file c.args.at c.number-2.result c.index_mut-2.result.now c.evict.new.self pool b.0 o c.evict.ensures.evicted;
       moves = subst (λ (xs : List Slice). Moves c.args.store.now c.release.new.store (bufs_of xs) []) whole c.release.ensures.moves;
       frees = c.release.ensures.frees;
       lists = c.release.ensures.lists;
@@ -119,3 +120,14 @@ returns-clause-sound c =
     let parts = given_is c.index_mut.result.now.extents.extents c.args.at there.extent c.remove-agg.result (begins_in fs c.args.file c.args.at c.index_mut.result.now there.extent x there.begins) c.remove-agg.ensures.given in
     let whole : c.slices.result.now ≡ parts_at fs c.args.file c.args.at = c.slices.ensures ∙ parts ∙ sym (ap parts_in there.begins) in
     sound_evicted (holding c.args.store.now c.args.self.now) _ c.args.file c.args.at c.requires.sound (returns-clause-evicts c) (subst (Unmarks c.args.self.now.marks c.unmark.new.self) whole c.unmark.ensures.unmarks)
+
+pub returns-clause-below : goal.returns-clause-below
+returns-clause-below c = λ passed. (
+    let fs = c.args.self.now.files.items in
+    let os = c.args.self.now.orders.items in
+    let p = (file_in fs c.args.file).pool in
+    let read = file_at_number fs c.args.file c.number.result c.index.result.now c.number.ensures (clean_numbered c.requires.clean) c.index.ensures in
+    let b = ordered_pool c.args.store.now (cached_of c.args.self.now) c.args.file c.args.at c.requires.sound c.requires.clean in
+    let o = order_at_number os p c.number-2.result c.index_mut-2.result.now (c.number-2.ensures ∙ ap (λ (y : CachedFile). y.pool) read) b c.index_mut-2.ensures.value in
+    passed_evicted (holding c.args.store.now c.args.self.now) _ c.args.file c.args.at c.args.passed.now c.evict.new.passed c.index_mut-2.result.now c.evict.new.self
+    c.requires.sound (returns-clause-sound c) (returns-clause-evicts c) o c.evict.ensures.evicted c.evict.ensures.below passed)

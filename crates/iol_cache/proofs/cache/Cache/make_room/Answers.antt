@@ -8,6 +8,7 @@ use Rattle.iol_cache.specs.Evicting.{in_use}
 use Rattle.iol_cache.proofs.Rooming.{room_at_most, no_room_left, same_pages}
 use Rattle.iol_cache.proofs.NoneLeft.{none_beside}
 use Rattle.iol_cache.proofs.GivenUp.{gives_up_none, gives_up_more}
+use Rattle.iol_cache.proofs.Passed.{passed_pool, passed_least}
 use Rattle.iol_cache.proofs.Choosing.{victim_clean, evicts_fewer, none_evicted, one_more}
 use Rattle.iol_cache.proofs.cache.Cache.make_room.Goals as goal
 
@@ -17,16 +18,17 @@ free_count-requires c = open_numbered c.loop-pool.store.pools c.args.pool (ap (�
 pub loop-pool-init : goal.loop-pool-init
 loop-pool-init c = record {
   sound = c.requires.sound;
+  below = passed_least c.args.pool c.least-passed.result (holding c.args.store.now c.args.self.now) c.least-passed.ensures;
   victims = none_evicted c.args.pool (Some c.args.pages) (holding c.args.store.now c.args.self.now);
   gives_up = gives_up_none (holding c.args.store.now c.args.self.now);
 }
 
 pub evict-requires-clause-clean : goal.evict-requires-clause-clean
-evict-requires-clause-clean c = (victim_clean (in_use c.loop-pool.store c.loop-pool.self.files.items) c.loop-pool.store (cached_of c.loop-pool.self) c.args.pool c.in-Some.place c.loop-pool.invariant.sound c.in-Some.ensures).1
+evict-requires-clause-clean c = (victim_clean (in_use c.loop-pool.store c.loop-pool.self.files.items) c.loop-pool.store (cached_of c.loop-pool.self) c.args.pool c.in-Some.place c.loop-pool.invariant.sound c.in-Some.ensures.first).1
 
 pub loop-pool-smaller : goal.loop-pool-smaller
 loop-pool-smaller c =
-    let first = victim_clean (in_use c.loop-pool.store c.loop-pool.self.files.items) c.loop-pool.store (cached_of c.loop-pool.self) c.args.pool c.in-Some.place c.loop-pool.invariant.sound c.in-Some.ensures in
+    let first = victim_clean (in_use c.loop-pool.store c.loop-pool.self.files.items) c.loop-pool.store (cached_of c.loop-pool.self) c.args.pool c.in-Some.place c.loop-pool.invariant.sound c.in-Some.ensures.first in
     evicts_fewer (holding c.loop-pool.store c.loop-pool.self) (holding c.evict.new.store c.evict.new.self) c.in-Some.place.0 c.in-Some.place.1 c.args.pool c.loop-pool.invariant.sound c.evict.ensures.evicts first.0
 
 pub loop-pool-preserved : goal.loop-pool-preserved
@@ -35,9 +37,11 @@ loop-pool-preserved c =
     let next = holding c.evict.new.store c.evict.new.self in
     let old = holding c.args.store.now c.args.self.now in
     let few : length (free_of c.loop-pool.store c.args.pool) < c.args.pages = omega (arith, c.free_count.ensures, c.loop-pool-test.true) in
+    let first = victim_clean (in_use c.loop-pool.store c.loop-pool.self.files.items) c.loop-pool.store (cached_of c.loop-pool.self) c.args.pool c.in-Some.place c.loop-pool.invariant.sound c.in-Some.ensures.first in
     record {
       sound = c.evict.ensures.sound;
-      victims = one_more c.args.pool (Some c.args.pages) c.in-Some.place old now next c.loop-pool.invariant.victims c.loop-pool.invariant.sound few c.in-Some.ensures c.evict.ensures.evicts;
+      below = passed_pool _ c.args.pool c.victim.new.passed c.evict.new.passed now next first.0 c.evict.ensures.below c.victim.ensures.below;
+      victims = one_more c.args.pool (Some c.args.pages) c.in-Some.place old now next c.loop-pool.invariant.victims c.loop-pool.invariant.sound few c.in-Some.ensures.first c.evict.ensures.evicts;
       gives_up = gives_up_more old now next c.in-Some.place.0 c.in-Some.place.1 c.loop-pool.invariant.gives_up c.loop-pool.invariant.sound c.evict.ensures.evicts;
     }
 
@@ -58,5 +62,5 @@ returns-in_default-clause-room c =
     let few : length (free_of t c.args.pool) < c.args.pages = omega (arith, c.free_count.ensures, c.loop-pool-test.true) in (
       (λ y. absurd (let f : ◌≡◌ {A = Bool} false true = y in cc)),
       (λ room. absurd (no_room_left s t c.args.pool c.args.pages (clean_held c.args.self.now.files.items) (clean_held c.loop-pool.self.files.items) (same_pages s t c.args.pool m.frees c.requires.open) m.frees m.clean sound.tidy sound.still
-          (λ q there. none_beside t (cached_of c.loop-pool.self) c.args.pool q sound c.in_default.ensures there) few room)),
+          (λ q there. none_beside t (cached_of c.loop-pool.self) c.args.pool q sound c.in_default.ensures.first there) few room)),
     )

@@ -1,8 +1,9 @@
 use Rattle.std.proofs.Common.{◌≡◌, ℕ, ◌<◌, ◌≤◌, List, [], length, get_or, MatchOption, Option, sym, ap, arith, subst}
 use Rattle.iol_hold.specs.Stored.{Stored}
 use Rattle.iol_evict.specs.Ranking.{Ranking}
-use Rattle.iol_evict.specs.Victims.{IsVictim}
+use Rattle.iol_evict.specs.Victims.{AreUsedBelow, IsVictim}
 use Rattle.iol_evict.specs.declared.entry.Entry.{Entry}
+use Rattle.iol_evict.specs.declared.entry.Rank.{Rank}
 use Rattle.iol_cache.specs.declared.files.CachedFile.{CachedFile}
 use Rattle.iol_cache.specs.Cached.{Cached, order_in, entries_at}
 use Rattle.iol_cache.specs.Cache.{cached_of}
@@ -13,11 +14,11 @@ use Rattle.iol_cache.proofs.Ranked.{entry_counts, ranked_clean}
 use Rattle.iol_cache.proofs.Evicted.{usable_of}
 use Rattle.iol_cache.proofs.cache.Cache.victim.Goals as goal
 
-pub returns-then-number-eq0 : goal.returns-then-number-eq0
-returns-then-number-eq0 c = ap (λ (r : Ranking). r.entries) (order_nowhere c.args.self.now.orders.items c.args.pool (λ some. absurd (omega (arith, some, c.number-number.ensures, c.if-number-eq0.true))))
+pub returns-then-number-eq0-clause-first : goal.returns-then-number-eq0-clause-first
+returns-then-number-eq0-clause-first c = ap (λ (r : Ranking). r.entries) (order_nowhere c.args.self.now.orders.items c.args.pool (λ some. absurd (omega (arith, some, c.number-number.ensures, c.if-number-eq0.true))))
 
-pub returns-then-number-len : goal.returns-then-number-len
-returns-then-number-len c = ap (λ (r : Ranking). r.entries) (order_nowhere c.args.self.now.orders.items c.args.pool (λ some. omega (arith, c.number-number.ensures, c.if-number-len.true, c.len.ensures, c.args.self.now.orders.ok.0)))
+pub returns-then-number-len-clause-first : goal.returns-then-number-len-clause-first
+returns-then-number-len-clause-first c = ap (λ (r : Ranking). r.entries) (order_nowhere c.args.self.now.orders.items c.args.pool (λ some. omega (arith, c.number-number.ensures, c.if-number-len.true, c.len.ensures, c.args.self.now.orders.ok.0)))
 
 may_ask : (s : Stored) (c : Cached) (fs : List CachedFile) (p : ℕ) (r : Ranking) → IsSound s c → fs ≡ c.files → r ≡ order_in c.orders p → (k : ℕ) (d : Entry) → k < length r.entries → IsUsable s fs c.marks × IsCleanAt fs (get_or r.entries k d).file (get_or r.entries k d).at
 may_ask s c fs p r sound files is k d within =
@@ -26,17 +27,33 @@ may_ask s c fs p r sound files is k d within =
     let clean = ranked_clean c.files c.orders p e.file e.at sound.ranked (sound.files e.file) counts in
     subst (λ gs. IsUsable s gs c.marks × IsCleanAt gs e.file e.at) (sym files) (usable_of sound, clean.1)
 
-pub least-requires : goal.least-requires
-least-requires c =
+pub least-requires-clause-ask : goal.least-requires-clause-ask
+least-requires-clause-ask c =
     let b : c.number-number.result ≤ length c.args.self.now.orders.items = omega (arith, c.if-number-len.false, c.len.ensures, c.args.self.now.orders.ok.0) in
     let o = order_at_number c.args.self.now.orders.items c.args.pool c.number-number.result c.index.result.now c.number-number.ensures (omega (arith, c.if-number-eq0.false, c.number-number.ensures), omega (arith, b, c.number-number.ensures)) c.index.ensures in
-    λ k d within. may_ask c.args.store.now (cached_of c.args.self.now) c.as_slice.result.now c.args.pool c.index.result.now c.requires c.as_slice.ensures.value o k d within
+    λ k d within. may_ask c.args.store.now (cached_of c.args.self.now) c.as_slice.result.now c.args.pool c.index.result.now c.requires.sound c.as_slice.ensures.value o k d within
+
+-- the same files, and the same order
+passed_in : (s : Stored) (fs gs : List CachedFile) (r q : Ranking) (rank : Rank) → fs ≡ gs → r ≡ q → AreUsedBelow (in_use s fs) rank r.entries → AreUsedBelow (in_use s gs) rank q.entries
+passed_in s fs gs r q rank files is h = subst (λ (x : Ranking). AreUsedBelow (in_use s gs) rank x.entries) is (subst (λ xs. AreUsedBelow (in_use s xs) rank r.entries) files h)
 
 found : (s : Stored) (fs gs : List CachedFile) (r q : Ranking) (o : Option (ℕ × ℕ)) → fs ≡ gs → r ≡ q → MatchOption o (r.entries ≡ []) (IsVictim (in_use s fs) r.entries) → MatchOption o (q.entries ≡ []) (IsVictim (in_use s gs) q.entries)
 found s fs gs r q o files is h = subst (λ (x : Ranking). MatchOption o (x.entries ≡ []) (IsVictim (in_use s gs) x.entries)) is (subst (λ xs. MatchOption o (r.entries ≡ []) (IsVictim (in_use s xs) r.entries)) files h)
 
-pub returns : goal.returns
-returns c =
+pub returns-clause-first : goal.returns-clause-first
+returns-clause-first c =
     let b : c.number-number.result ≤ length c.args.self.now.orders.items = omega (arith, c.if-number-len.false, c.len.ensures, c.args.self.now.orders.ok.0) in
     let o = order_at_number c.args.self.now.orders.items c.args.pool c.number-number.result c.index.result.now c.number-number.ensures (omega (arith, c.if-number-eq0.false, c.number-number.ensures), omega (arith, b, c.number-number.ensures)) c.index.ensures in
-    found c.args.store.now c.as_slice.result.now c.args.self.now.files.items c.index.result.now (order_in c.args.self.now.orders.items c.args.pool) c.least.result c.as_slice.ensures.value o c.least.ensures
+    found c.args.store.now c.as_slice.result.now c.args.self.now.files.items c.index.result.now (order_in c.args.self.now.orders.items c.args.pool) c.least.result c.as_slice.ensures.value o c.least.ensures.first
+
+pub least-requires-clause-below : goal.least-requires-clause-below
+least-requires-clause-below c =
+    let b : c.number-number.result ≤ length c.args.self.now.orders.items = omega (arith, c.if-number-len.false, c.len.ensures, c.args.self.now.orders.ok.0) in
+    let o = order_at_number c.args.self.now.orders.items c.args.pool c.number-number.result c.index.result.now c.number-number.ensures (omega (arith, c.if-number-eq0.false, c.number-number.ensures), omega (arith, b, c.number-number.ensures)) c.index.ensures in
+    passed_in c.args.store.now c.args.self.now.files.items c.as_slice.result.now (order_in c.args.self.now.orders.items c.args.pool) c.index.result.now c.args.passed.now (sym c.as_slice.ensures.value) (sym o) c.requires.below
+
+pub returns-clause-below : goal.returns-clause-below
+returns-clause-below c =
+    let b : c.number-number.result ≤ length c.args.self.now.orders.items = omega (arith, c.if-number-len.false, c.len.ensures, c.args.self.now.orders.ok.0) in
+    let o = order_at_number c.args.self.now.orders.items c.args.pool c.number-number.result c.index.result.now c.number-number.ensures (omega (arith, c.if-number-eq0.false, c.number-number.ensures), omega (arith, b, c.number-number.ensures)) c.index.ensures in
+    passed_in c.args.store.now c.as_slice.result.now c.args.self.now.files.items c.index.result.now (order_in c.args.self.now.orders.items c.args.pool) c.least.new.passed c.as_slice.ensures.value o c.least.ensures.below
