@@ -39,9 +39,10 @@ impl Machine {
 
     /// Carries out an event. Where it makes an aggregate, that is the answer.
     pub fn step(&mut self, event: &Event) -> Result<Option<AggId>, Refusal> {
-        match self.answer(event) {
-            Reply::Agg(agg) => Ok(Some(agg)),
-            Reply::Refused(refusal) => Err(refusal),
+        let reply = self.answer(event);
+        match &reply {
+            Reply::Agg(agg) => Ok(Some(*agg)),
+            Reply::Refused(refusal) => Err(*refusal),
             _ => Ok(None),
         }
     }
