@@ -1,6 +1,7 @@
 //! The table of live connections.
-ghost use Rattle.std.specs.Prelude.{◌≡◌, ◌≢◌, ℕ, ◌+◌, ◌-◌, ◌<◌, ◌≤◌, ◌&&◌, [], ◌∷◌, ◌++◌, length, find, not, false, true, None, Some, option_map, OnOk, OnErr, vec_len, vec_capacity};
+ghost use Rattle.std.specs.Prelude.{◌≡◌, ◌≢◌, ℕ, ◌+◌, ◌-◌, ◌<◌, ◌≤◌, ◌&&◌, [], ◌∷◌, ◌++◌, length, find, not, false, true, None, Some, option_map, OnOk, OnErr};
 ghost use Rattle.std.specs.Option.{option_copied};
+ghost use Rattle.std.specs.VecDeque.{deque_len, deque_capacity};
 ghost use Rattle.iol_core.specs.Numbered.{lookup, without, changed};
 ghost use Rattle.iol_desc.specs.Listed.{IsRising, Rises};
 ghost use Rattle.iol_pool.specs.Pools.{names_in};
@@ -10,10 +11,11 @@ ghost use Rattle.iol_sock.specs.Table.{conn_in, with_conn};
 use crate::connections::Connection;
 use iol_core::limits::LAST_CONNECTION;
 use iol_core::numbers::{ConnId, DomainId, PoolId};
-use iol_desc::entries::{Entries, place_of};
+use iol_desc::entries::Entries;
 use iol_hold::Store;
 use iol_pool::pools::Pools;
 use std::alloc::{AllocError, Global};
+use std::collections::VecDeque;
 use std::marker::Model;
 
 /// The live connections, under numbers that rise from 1 and are never used again.
@@ -23,12 +25,13 @@ use std::marker::Model;
 #[derive(Drop)]
 pub struct Connections {
     pub(crate) live: Entries<Connection>,
-    // Those that no domain accepted, by rising number, each with its pool.
-    waiting: Vec<(u64, PoolId)>,
+    // Those that no domain accepted, by rising number, each with its pool. Taking one moves those on its shorter side.
+    waiting: VecDeque<(u64, PoolId)>,
 }
 
 impl Model for Connections {
-    ghost use Rattle.std.specs.Prelude.{◌≡◌, ◌+◌, ◌-◌, ◌≤◌, min, vec_len, vec_capacity};
+    ghost use Rattle.std.specs.Prelude.{◌≡◌, ◌+◌, ◌-◌, ◌≤◌, min};
+    ghost use Rattle.std.specs.VecDeque.{deque_len, deque_capacity};
     ghost use Rattle.iol_core.specs.declared.limits.TheConstants.{LAST_CONNECTION};
     ghost use Rattle.iol_sock.specs.Table as table;
 
@@ -37,7 +40,7 @@ impl Model for Connections {
     ghost view = { λ t. record {
       conns = t.live.entries;
       next = t.live.next;
-      room = min t.live.room (vec_capacity t.waiting - vec_len t.waiting);
+      room = min t.live.room (deque_capacity t.waiting - deque_len t.waiting);
     } };
 
     ghost invariant = { λ t.
@@ -47,20 +50,23 @@ impl Model for Connections {
 
 /// Takes the connection of this number off the list of those that wait.
 #[tactic(auto, using(crate::proofs::Waiting::list_rules))]
-fn unlist(waiting: &mut Vec<(u64, PoolId)>, number: u64)
+fn unlist(waiting: &mut VecDeque<(u64, PoolId)>, number: u64)
     requires rising { IsRising waiting.old.items }
     requires there { lookup waiting.old.items number ≢ None }
     ensures items { waiting.new.items ≡ without waiting.old.items number }
-    ensures room { vec_capacity waiting.old - vec_len waiting.old ≤
-        vec_capacity waiting.new - vec_len waiting.new }
+    ensures room { deque_capacity waiting.old - deque_len waiting.old ≤
+        deque_capacity waiting.new - deque_len waiting.new }
 {
-    let at = place_of(waiting, number);
-    waiting.remove(at);
+    let found = waiting.binary_search_by_key(&number, |entry| entry.0);
+    if let Ok(at) = found {
+        let _taken = waiting.remove(at);
+    }
 }
 
 /// The first that waits and whose pool names the domain.
-fn first_named(waiting: &[(u64, PoolId)], pools: &Pools, d: DomainId) -> Option<u64>
-    ensures { result ≡ option_map (λ w. w.0) (find (λ w. names_in pools.now w.1 d) waiting.now) }
+fn first_named(waiting: &VecDeque<(u64, PoolId)>, pools: &Pools, d: DomainId) -> Option<u64>
+    ensures { result ≡ option_map (λ w. w.0)
+        (find (λ w. names_in pools.now w.1 d) waiting.now.items) }
 {
     let first = waiting.iter().find(|w| pools.names(w.1, d))?;
     Some(first.0)
@@ -74,7 +80,7 @@ impl Connections {
     {
         Connections {
             live: Entries::new(alloc),
-            waiting: Vec::new(alloc),
+            waiting: VecDeque::new(alloc),
         }
     }
 
@@ -124,7 +130,7 @@ impl Connections {
         ensures room { self.old.room ≤ self.new.room + 1 }
     {
         let number = self.live.push(Connection::new(alloc, pool));
-        self.waiting.push_reserved((number, pool));
+        self.waiting.push_back_reserved((number, pool));
         ConnId::new(number as u32)
     }
 

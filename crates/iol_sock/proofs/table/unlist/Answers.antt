@@ -1,17 +1,25 @@
-use Rattle.std.proofs.Common.{◌≡◌, ℕ, List, ap, ◌∙◌, arith}
+use Rattle.std.proofs.Common.{◌≡◌, ◌<◌, ◌∙◌, ℕ, List, Option, Ok, Err, OnSome, ap, subst, arith, rules}
 use Rattle.std.specs.List.{remove}
+use Rattle.std.specs.VecDeque.{deque_len}
+use Rattle.std.proofs.lemmas.List.Sorted.{answers_always}
 use Rattle.iol_desc.specs.Tables.{place_in}
+use Rattle.iol_desc.proofs.Rising.{searched_any}
 use Rattle.iol_sock.proofs.Waiting.{remove-place}
 use Rattle.iol_sock.proofs.table.unlist.Goals as goal
 
-pub remove-requires : goal.remove-requires
-remove-requires c =
+pub returns-in-Ok-clause-items : goal.returns-in-Ok-clause-items
+returns-in-Ok-clause-items c =
     let xs : List (ℕ × ℕ) = c.args.waiting.now.items in
-    let at : c.place_of-at.result ≡ place_in xs c.args.number = c.place_of-at.ensures ∙ ap (λ (ws : List (ℕ × ℕ)). place_in ws c.args.number) c.deref.ensures.value in
-    omega (arith, at, (remove-place xs c.args.number c.requires.there).0, c.args.waiting.now.ok.0)
+    let facts = c.in-Ok.ensures in
+    let at : c.in-Ok.at ≡ place_in xs c.args.number = searched_any xs c.args.number c.requires.rising (Ok c.in-Ok.at) (omega (arith, facts.bound, c.args.waiting.now.ok.0)) (facts.position (λ e. e.0) (answers_always _ _ _ (λ f a r h called. search rules))) in
+    let within : c.in-Ok.at < deque_len c.args.waiting.now = omega (arith, at, (remove-place xs c.args.number c.requires.there).0, c.args.waiting.now.ok.0) in
+    let taken = c.remove-taken.ensures.succeeds (0, 0) within in
+    let items : c.remove-taken.new.self.items ≡ remove xs c.in-Ok.at = subst (λ (o : Option (ℕ × ℕ)). OnSome o (c.remove-taken.new.self.items ≡ remove xs c.in-Ok.at)) taken c.remove-taken.ensures.items in
+    items ∙ ap (λ (i : ℕ). remove xs i) at ∙ (remove-place xs c.args.number c.requires.there).1
 
-pub returns-clause-items : goal.returns-clause-items
-returns-clause-items c =
+pub returns-in_default-clause-items : goal.returns-in_default-clause-items
+returns-in_default-clause-items c =
     let xs : List (ℕ × ℕ) = c.args.waiting.now.items in
-    let at : c.place_of-at.result ≡ place_in xs c.args.number = c.place_of-at.ensures ∙ ap (λ (ws : List (ℕ × ℕ)). place_in ws c.args.number) c.deref.ensures.value in
-    c.remove.ensures.items ∙ ap (λ (i : ℕ). remove xs i) at ∙ (remove-place xs c.args.number c.requires.there).1
+    let facts = c.in_default.ensures in
+    let none = searched_any xs c.args.number c.requires.rising (Err c.in_default.field-0) (omega (arith, facts.bound, c.args.waiting.now.ok.0)) (facts.position (λ e. e.0) (answers_always _ _ _ (λ f a r h called. search rules))) in
+    absurd (omega (arith, none, (remove-place xs c.args.number c.requires.there).0))
