@@ -1,0 +1,147 @@
+//! The rounds that are measured.
+use crate::machine::Machine;
+use crate::setup::{FILE, READ_END, SOCKET, WRITE_END, call, text};
+use iol_core::events::{Call, Event};
+use iol_core::numbers::{AggId, ConnId, Fd};
+use iol_core::refusals::Refusal;
+use std::alloc::{AllocError, Global};
+
+/// The way that bytes go.
+#[derive(Clone, Copy, Drop)]
+pub enum Way {
+    /// They are read from a file, which memory has.
+    File,
+
+    /// They are written to a pipe and read from it.
+    Pipe,
+
+    /// They are written to a connection and taken by its peer.
+    Sent,
+
+    /// They arrive on a connection and are read from it.
+    Received,
+}
+
+/// How bytes are passed on.
+#[derive(Clone, Copy, Drop)]
+pub enum Passing {
+    Shared,
+    Copied,
+}
+
+impl Way {
+    /// The way that a word names.
+    pub fn of_word(word: &str) -> Option<Way> {
+        match word {
+            "file" => Some(Way::File),
+            "pipe" => Some(Way::Pipe),
+            "sent" => Some(Way::Sent),
+            "received" => Some(Way::Received),
+            _ => None,
+        }
+    }
+}
+
+impl Passing {
+    /// What a word names.
+    pub fn of_word(word: &str) -> Option<Passing> {
+        match word {
+            "shared" => Some(Passing::Shared),
+            "copied" => Some(Passing::Copied),
+            _ => None,
+        }
+    }
+}
+
+// Bytes are written.
+fn write(alloc: Global, fd: u32, passing: Passing, len: u32) -> Result<Event, AllocError> {
+    let (fd, agg) = (Fd::new(fd), AggId::new(1));
+    Ok(match passing {
+        Passing::Shared => call(Call::IolWrite { fd, agg }),
+        Passing::Copied => call(Call::Write {
+            fd,
+            bytes: text(alloc, len)?,
+        }),
+    })
+}
+
+// Bytes are read.
+fn read(fd: u32, passing: Passing, count: u32) -> Event {
+    let fd = Fd::new(fd);
+    match passing {
+        Passing::Shared => call(Call::IolRead { fd, count }),
+        Passing::Copied => call(Call::Read { fd, count }),
+    }
+}
+
+// The bytes are put where they are read.
+fn first(alloc: Global, way: Way, passing: Passing, len: u32) -> Result<Event, AllocError> {
+    match way {
+        Way::File => Ok(call(Call::Seek {
+            fd: Fd::new(FILE),
+            at: 0,
+        })),
+        Way::Pipe => write(alloc, WRITE_END, passing, len),
+        Way::Sent => write(alloc, SOCKET, passing, len),
+        Way::Received => Ok(Event::Arrive {
+            conn: ConnId::new(1),
+            bytes: text(alloc, len)?,
+        }),
+    }
+}
+
+// The bytes are read, but for those that a peer takes.
+fn second(way: Way, passing: Passing, count: u32) -> Option<Event> {
+    match way {
+        Way::File => Some(read(FILE, passing, count)),
+        Way::Pipe => Some(read(READ_END, passing, count)),
+        Way::Sent => None,
+        Way::Received => Some(read(SOCKET, passing, count)),
+    }
+}
+
+// Carries out an event. An aggregate that it makes is dropped at once.
+fn pass(machine: &mut Machine, event: &Event) -> Result<(), Refusal> {
+    if let Some(agg) = machine.step(event)? {
+        machine.step(&call(Call::AggDrop { agg }))?;
+    }
+    Ok(())
+}
+
+/// Events, after which a peer takes what is to be sent or nothing is.
+#[derive(Drop)]
+pub struct Round {
+    events: Vec<Event>,
+    sends: bool,
+}
+
+impl Round {
+    /// The round in which so many bytes go this way.
+    pub fn new(alloc: Global, way: Way, passing: Passing, len: u32) -> Result<Round, AllocError> {
+        let mut events = vec![in alloc; first(alloc, way, passing, len)?]?;
+        if let Some(event) = second(way, passing, len) {
+            events.push(event)?;
+        }
+        let sends = matches!(way, Way::Sent);
+        Ok(Round { events, sends })
+    }
+
+    // Carries out the round.
+    fn carry_out(&self, machine: &mut Machine) -> Result<(), Refusal> {
+        for event in &self.events {
+            pass(machine, event)?;
+        }
+        if self.sends {
+            machine.send(ConnId::new(1))?;
+        }
+        Ok(())
+    }
+
+    /// Carries out the round so many times.
+    pub fn repeat(&self, machine: &mut Machine, rounds: u64) -> Result<(), Refusal> {
+        for _ in 0..rounds {
+            self.carry_out(machine)?;
+        }
+        Ok(())
+    }
+}

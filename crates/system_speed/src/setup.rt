@@ -1,0 +1,86 @@
+//! What is there before the rounds: one domain, which has an aggregate, a file, a pipe and a connection.
+use crate::machine::Machine;
+use iol_core::configuration::Config;
+use iol_core::descriptors::Mode;
+use iol_core::events::{Call, Event};
+use iol_core::lists::{Bytes, Domains};
+use iol_core::numbers::{AggId, DomainId, Fd, PoolId};
+use iol_core::refusals::Refusal;
+use std::alloc::{AllocError, Global};
+
+/// The descriptors of domain 1.
+pub const FILE: u32 = 0;
+
+pub const READ_END: u32 = 1;
+
+pub const WRITE_END: u32 = 2;
+
+pub const SOCKET: u32 = 3;
+
+/// A call of domain 1.
+pub fn call(call: Call) -> Event {
+    let by = DomainId::new(1);
+    Event::Call { by, call }
+}
+
+/// So many bytes.
+pub fn text(alloc: Global, len: u32) -> Result<Bytes, AllocError> {
+    let mut text = Vec::with_capacity(alloc, len as usize)?;
+    for place in 0..len {
+        text.push((place % 251) as u8)?;
+    }
+    Ok(Bytes::from_vec(text))
+}
+
+// A pool of all chunks, and an aggregate of so many bytes in it.
+fn aggregate(alloc: Global, len: u32) -> Result<Vec<Event>, AllocError> {
+    let (pool, chunks) = (PoolId::new(1), Config::DEFAULT.chunks);
+    let domains = Domains::from_vec([DomainId::new(1)].to_vec(alloc)?);
+    let bytes = text(alloc, len)?;
+    Ok(vec![in alloc;
+        call(Call::PoolCreate { chunks, domains }),
+        call(Call::SetPool { pool }),
+        call(Call::AggMake { bytes }),
+    ]?)
+}
+
+// A file with the bytes of the aggregate, which lie in the store alone.
+fn file(alloc: Global) -> Result<Vec<Event>, AllocError> {
+    let (pool, agg, fd, mode) = (PoolId::new(1), AggId::new(1), Fd::new(FILE), Mode::Both);
+    let name = text(alloc, 1)?;
+    let again = text(alloc, 1)?;
+    Ok(vec![in alloc;
+        call(Call::FileNew { name, pool }),
+        call(Call::OpenFile { name: again, mode }),
+        call(Call::IolWrite { fd, agg }),
+        call(Call::Fsync { fd }),
+        Event::DropClean,
+    ]?)
+}
+
+// A pipe, and a connection that is accepted.
+fn queues(alloc: Global) -> Result<Vec<Event>, AllocError> {
+    let pool = PoolId::new(1);
+    Ok(vec![in alloc;
+        call(Call::Pipe),
+        Event::ConnNew { pool },
+        call(Call::Accept),
+    ]?)
+}
+
+// Carries out events in order, to the first that is refused.
+fn carry_out(machine: &mut Machine, events: &[Event]) -> Result<(), Refusal> {
+    for event in events {
+        machine.step(event)?;
+    }
+    Ok(())
+}
+
+/// A system in which domain 1 has an aggregate of so many bytes, a file of the same bytes, a pipe and a connection.
+pub fn machine(alloc: Global, len: u32) -> anyhow::Result<Machine> {
+    let mut machine = Machine::new(alloc)?;
+    carry_out(&mut machine, &aggregate(alloc, len)?)?;
+    carry_out(&mut machine, &file(alloc)?)?;
+    carry_out(&mut machine, &queues(alloc)?)?;
+    Ok(machine)
+}
