@@ -5,11 +5,12 @@
 //! contract sees L, the entries in the order of file and place, the room for more, and how many places are kept
 //! beside it for entries to come (`specs/Ranking`, `specs/Victims`). Who is in use is told by an
 //! [`InUse`](users::InUse): `least` asks it from the least entry on, up to the first that is not in use. That it asks
-//! no further is not proved.
+//! no further is not proved. Several searches in a row share a rank below which all are in use, and each begins there.
 //!
 //!     order.reserve(1)?;
 //!     order.enter(file, 8192, 4096, 1);
-//!     let victim = order.least(&users);
+//!     let mut passed = Rank::least();
+//!     let victim = order.least(&users, &mut passed);
 #![tactic(auto)]
 
 mod entries;
