@@ -12,7 +12,9 @@ use Rattle.iol_core.specs.declared.refusals.Refusal.TheVariants.{NoRoom}
 use Rattle.iol_core.specs.declared.events.Event.{Event}
 use Rattle.iol_core.specs.declared.events.Reply.{Reply}
 use Rattle.iol_core.specs.declared.events.Reply.TheVariants as reply
+use Rattle.iol_hold.specs.Layout.{number_at}
 use Rattle.iol_hold.specs.Pages.{KeepsPages}
+use Rattle.iol_hold.proofs.AtPlaces.{keeps_numbers}
 use Rattle.iol_kernel.specs.Backed.{LooksUp, StepsBeside, with_slots}
 use Rattle.iol_kernel.specs.Calls.{CarriesOut, KeepsPlaces, Names}
 use Rattle.iol_kernel.specs.KernelState.{KernelState, IsSound, layout_of, machine_of}
@@ -26,6 +28,7 @@ use Rattle.iol_system.specs.Placed.{Creates, Publishes}
 use Rattle.iol_system.specs.Remembered.{Remembers}
 use Rattle.iol_system.specs.Replies.{told}
 use Rattle.iol_system.specs.Room.{HasRoomFor, IsEarly, IsNoRoom, IsRefused}
+use Rattle.iol_system.specs.Still.{is_still}
 use Rattle.iol_system.proofs.InPlace.{cache_in_place, cover_in_place, shares_file, shares_none}
 use Rattle.iol_system.proofs.Paged.{carried_pages}
 use Rattle.iol_system.proofs.WrittenBack.{none_back, writes_back}
@@ -55,6 +58,10 @@ no_room_told f (Err x) tells roomy is = is
 pub refused_told : {A : Type 0} (f : A → Reply) (r : Result A Refusal) (X : Type 0) → Tells f → OnErr r X → IsRefused (told f r) → X
 refused_told f (Ok a) X tells err is = absurd (tells.unrefused a is)
 refused_told f (Err x) X tells err is = err
+
+-- a call that keeps places takes the step of the layout, too
+pub kept_layout : {A : Type 0} (m : State → Meaning A) (old new : KernelState) (r : Result A Refusal) → KeepsPlaces m old r new → Step (m (layout_of old)) (layout_of old) r (layout_of new)
+kept_layout m old new r c = c.places (record { at = number_at; stored = [] }) keeps_numbers
 
 -- what is refused early is refused
 pub early_refused : (x : Reply) → IsEarly x → IsRefused x
@@ -93,6 +100,7 @@ module _ {A : Type 0} (f : A → Reply) (m : State → Meaning A) (e : Event) (d
     uncached = λ unused other. c.cache;
     shares = λ shared. means (layout_of old) (layout_of new) r (carried_layout m old new r c);
     pages = λ shared. c.arena;
+    still = λ still. means (layout_of old) (layout_of new) r (carried_layout m old new r c);
     in_place = cache_in_place disk old new e c.cache;
     shares_file = λ done. shares_none (system_of old disk) new e plain.unlent;
     publishes = λ done. plain.publishes old new (carried_pages m old new r c);
@@ -121,6 +129,7 @@ module _ {A : Type 0} (f : A → Reply) (m : State → Meaning A) (e : Event) (d
     uncached = λ unused other. c.cache;
     shares = λ shared. absurd (true≢false (sym shared ∙ unshared (tables_of old)));
     pages = λ shared. absurd (true≢false (sym shared ∙ unshared (tables_of old)));
+    still = λ still. means (layout_of old) (layout_of new) r (kept_layout m old new r c);
     in_place = cache_in_place disk old new e c.cache;
     shares_file = λ done. shares_none (system_of old disk) new e plain.unlent;
     publishes = λ done. plain.publishes old new c.pages;
@@ -132,8 +141,8 @@ module _ {A : Type 0} (f : A → Reply) (m : State → Meaning A) (e : Event) (d
   }
 
   -- one that asks the store for a length
-  pub looks_does : ((s : State) → is_sharing s e ≡ false) → LooksUp m disk old r new → Does disk old e (told f r) disk new
-  looks_does unshared c = record {
+  pub looks_does : ((s : State) → is_sharing s e ≡ false) → is_still e ≡ false → LooksUp m disk old r new → Does disk old e (told f r) disk new
+  looks_does unshared moving c = record {
     step = λ backed placed. means (machine_of disk.slots old) (machine_of disk.slots new) r (c.serves.step backed placed);
     backed = c.serves.backed;
     beside = told_beside f m e old new r means c.serves.beside;
@@ -149,6 +158,7 @@ module _ {A : Type 0} (f : A → Reply) (m : State → Meaning A) (e : Event) (d
     uncached = λ unused other. c.cache;
     shares = λ shared. absurd (true≢false (sym shared ∙ unshared (tables_of old)));
     pages = λ shared. absurd (true≢false (sym shared ∙ unshared (tables_of old)));
+    still = λ still. absurd (true≢false (sym still ∙ moving));
     in_place = cache_in_place disk old new e c.cache;
     shares_file = λ done. shares_none (system_of old disk) new e plain.unlent;
     publishes = λ done. plain.publishes old new (pages_equal old.store new.store c.store);
@@ -160,8 +170,8 @@ module _ {A : Type 0} (f : A → Reply) (m : State → Meaning A) (e : Event) (d
   }
 
   -- one that names a file
-  pub names_does : ((s : State) → is_sharing s e ≡ false) → makes_file e ≡ true → Names disk m old r new → Does disk old e (told f r) disk new
-  names_does unshared made c = record {
+  pub names_does : ((s : State) → is_sharing s e ≡ false) → is_still e ≡ false → makes_file e ≡ true → Names disk m old r new → Does disk old e (told f r) disk new
+  names_does unshared moving made c = record {
     step = λ backed placed. means (machine_of disk.slots old) (machine_of disk.slots new) r (c.step backed.honest);
     backed = c.backed;
     beside = told_beside f m e old new r means c.beside;
@@ -177,6 +187,7 @@ module _ {A : Type 0} (f : A → Reply) (m : State → Meaning A) (e : Event) (d
     uncached = λ unused other. absurd (true≢false (sym made ∙ other));
     shares = λ shared. absurd (true≢false (sym shared ∙ unshared (tables_of old)));
     pages = λ shared. absurd (true≢false (sym shared ∙ unshared (tables_of old)));
+    still = λ still. absurd (true≢false (sym still ∙ moving));
     in_place = cover_in_place disk old new e c.keeps;
     shares_file = λ done. shares_none (system_of old disk) new e plain.unlent;
     publishes = λ done. plain.publishes old new (pages_equal old.store new.store c.store);

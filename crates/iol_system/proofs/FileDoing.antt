@@ -44,6 +44,7 @@ use Rattle.iol_system.specs.Placed.{Creates, Fills, FillsForFile, Publishes}
 use Rattle.iol_system.specs.Remembered.{Remembers}
 use Rattle.iol_system.specs.Replies.{told}
 use Rattle.iol_system.specs.Room.{HasRoomFor, HasRoomToRead, HasRoomToWrite, LacksRoomFor, LacksRoomToRead, LacksRoomToWrite, IsDone, IsEarly, IsFault, IsNoRoom, IsRefused}
+use Rattle.iol_system.specs.Still.{is_still}
 use Rattle.iol_system.proofs.Doing.{Means, Tells, IsPlain, early_told, no_room_told, refused_told, told_beside}
 use Rattle.iol_system.proofs.InPlace.{beside_in_place, cache_in_place, places_in_place, shares_file, shares_none, unless_in_place}
 use Rattle.iol_system.proofs.Paged.{carried_pages, fills_then_frees}
@@ -52,8 +53,8 @@ use Rattle.iol_system.proofs.ResultTold.{ok_told, lacks_told, counts_told, has_t
 
 -- bytes are shown, and nothing changes
 module _ {A : Type 0} (f : A → Reply) (m : State → Meaning A) (e : Event) (disk : Disk) (h : KernelState) (r : Result A Refusal) (tells : Tells f) (plain : IsPlain e) (means : Means f m e) where
-  pub shows_does : ((s : State) → is_sharing s e ≡ false) → IsSound h → Steps m h r h → ((p : ℕ) → r ≡ Err (NoRoom p) → ⊥) → Does disk h e (told f r) disk h
-  shows_does unshared sound steps roomy = record {
+  pub shows_does : ((s : State) → is_sharing s e ≡ false) → is_still e ≡ false → IsSound h → Steps m h r h → ((p : ℕ) → r ≡ Err (NoRoom p) → ⊥) → Does disk h e (told f r) disk h
+  shows_does unshared moving sound steps roomy = record {
     step = λ backed placed. means (machine_of disk.slots h) (machine_of disk.slots h) r (steps disk.slots);
     backed = λ backed. backed;
     beside = told_beside f m e h h r means (steps_beside m h h r [] [] (steps []));
@@ -69,6 +70,7 @@ module _ {A : Type 0} (f : A → Reply) (m : State → Meaning A) (e : Event) (d
     uncached = λ unused other. refl;
     shares = λ shared. absurd (true≢false (sym shared ∙ unshared (tables_of h)));
     pages = λ shared. refl;
+    still = λ still. absurd (true≢false (sym still ∙ moving));
     in_place = cache_in_place disk h h e refl;
     shares_file = λ done. shares_none (system_of h disk) h e plain.unlent;
     publishes = λ done. plain.publishes h h (pages_here h.store);
@@ -87,6 +89,7 @@ pub record IsPlacing (e : Event) (pool n : ℕ) (old : KernelState) : Type 0 whe
   pub asks : (s : State) → asks_store s e ≡ false
   pub uses : (s : State) → uses_cache s e ≡ true
   pub unshared : (s : State) → is_sharing s e ≡ false
+  pub moving : is_still e ≡ false
   pub has : (disk : Disk) → can_fit old pool n ≡ true → HasRoomFor (system_of old disk) e
   pub lacks : (disk : Disk) → can_fit old pool n ≡ false → LacksRoomFor (system_of old disk) e
   pub publishes : (new : KernelState) → Fills pool n old new → Publishes old e new
@@ -119,6 +122,7 @@ module _ {A : Type 0} (f : A → Reply) (m : State → Meaning A) (put : State �
         refused = λ unused is. absurd (true≢false (sym (placing.uses (tables_of old)) ∙ unused));
         shares = λ shared. absurd (true≢false (sym shared ∙ placing.unshared (tables_of old)));
         pages = λ shared. absurd (true≢false (sym shared ∙ placing.unshared (tables_of old)));
+        still = λ still. absurd (true≢false (sym still ∙ placing.moving));
         in_place = places_in_place disk old new e m put pool n (λ p same lacks. placing.goes disk p (same, subst (λ q. LacksPages old q (pages_for n)) (sym same) lacks)) r c;
         shares_file = λ done. shares_none (system_of old disk) new e placing.unlent;
         publishes = λ done. placing.publishes new (fills_of r c.made done);
@@ -213,6 +217,7 @@ module _ (by fd n : ℕ) (disk after : Disk) (old new : KernelState) (r : Result
         refused = read_refused o reads;
         shares = λ shared. means (layout_of old) (layout_of new) r (carried_layout (λ s. reading.iol_read s by fd n) old new r (read_carried o reads (queue shared)));
         pages = λ shared. (read_carried o reads (queue shared)).arena;
+        still = λ still. absurd (true≢false (sym still));
         in_place = read_in_place o reads (λ p k. k);
         shares_file = read_shares o reads;
         publishes = λ done. read_fills o reads;
@@ -290,6 +295,7 @@ module _ (by fd a : ℕ) (disk : Disk) (old new : KernelState) (r : Result ℕ R
         refused = write_refused o writes;
         shares = λ shared. means (layout_of old) (layout_of new) r (carried_layout (λ s. writing.iol_write s by fd a) old new r (write_carried o writes shared));
         pages = λ shared. (write_carried o writes shared).arena;
+        still = λ still. absurd (true≢false (sym still));
         in_place = write_in_place o writes (λ g i k. k) (λ p k. k);
         shares_file = write_shares o writes;
         publishes = λ done. write_fills o writes;
@@ -370,6 +376,7 @@ module _ (by fd n : ℕ) (disk after : Disk) (old new : KernelState) (r : Result
         refused = copy_refused o copies;
         shares = λ shared. absurd (true≢false (sym shared));
         pages = λ shared. absurd (true≢false (sym shared));
+        still = λ still. absurd (true≢false (sym still));
         in_place = copy_in_place o copies (λ p k. k);
         shares_file = λ done. tt;
         publishes = λ done. copy_fills o copies;
@@ -450,6 +457,7 @@ module _ (by fd : ℕ) (bytes : List ℕ) (disk : Disk) (old new : KernelState) 
     uncached = λ unused other. absurd (true≢false unused);
     shares = λ shared. absurd (true≢false (sym shared));
     pages = λ shared. absurd (true≢false (sym shared));
+    still = λ still. absurd (true≢false (sym still));
     in_place = put_in_place put (descriptor (tables_of old) by fd) queue puts (λ g i k. k) (λ p k. k);
     shares_file = λ done. tt;
     publishes = λ done. put_fills put (descriptor (tables_of old) by fd) queue puts done;

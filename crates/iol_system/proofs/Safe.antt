@@ -79,6 +79,7 @@ module _ (old new : SystemState) (e : Event) (r : Reply) (safe : IsSafe old) (do
     refused = λ unused was. ap (λ (d : Disk). system_of new.kernel d) (untouched unused was) ∙ ap (λ (h : KernelState). system_of h old.disk) (does.refused unused was);
     shares = does.shares;
     pages = does.pages;
+    still = does.still;
     in_place = does.in_place;
     shares_file = does.shares_file;
     publishes = does.publishes;

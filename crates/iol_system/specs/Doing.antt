@@ -15,6 +15,7 @@ use Rattle.iol_system.specs.InPlace.{KeepsInPlace, SharesFile}
 use Rattle.iol_system.specs.Machine.{system_of, tables_of}
 use Rattle.iol_system.specs.Placed.{Creates, Publishes}
 use Rattle.iol_system.specs.Remembered.{Remembers}
+use Rattle.iol_system.specs.Still.{is_still}
 use Rattle.iol_system.specs.Room.{HasRoomFor, LacksRoomFor, IsDone, IsEarly, IsFault, IsNoRoom, IsRefused}
 use Rattle.iol_system.specs.WrittenBack.{WritesBack}
 
@@ -36,6 +37,7 @@ pub record Does (disk : Disk) (old : KernelState) (e : Event) (r : Reply) (after
   pub uncached : uses_cache (tables_of old) e ≡ false → makes_file e ≡ false → new.cache ≡ old.cache
   pub shares : is_sharing (tables_of old) e ≡ true → LaysOut (layout_of old) e r (layout_of new)
   pub pages : is_sharing (tables_of old) e ≡ true → new.store.arena ≡ old.store.arena
+  pub still : is_still e ≡ true → LaysOut (layout_of old) e r (layout_of new)
   pub in_place : KeepsInPlace (system_of old disk) e new
   pub shares_file : IsDone r → SharesFile (system_of old disk) e new
   pub publishes : IsDone r → Publishes old e new

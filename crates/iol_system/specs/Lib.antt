@@ -7,6 +7,7 @@ pub mod Replies
 pub mod Room
 pub mod Safe
 pub mod Served
+pub mod Still
 pub mod Uses
 pub mod Values
 pub mod Asking

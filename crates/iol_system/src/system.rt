@@ -27,6 +27,7 @@ ghost use Rattle.iol_system.specs.InPlace.{KeepsInPlace, SharesFile};
 ghost use Rattle.iol_system.specs.Placed.{Creates, Publishes};
 ghost use Rattle.iol_system.specs.Remembered.{Remembers};
 ghost use Rattle.iol_system.specs.Room.{HasRoomFor, LacksRoomFor, IsDone, IsEarly, IsFault, IsNoRoom, IsRefused};
+ghost use Rattle.iol_system.specs.Still.{is_still};
 ghost use Rattle.iol_system.specs.WrittenBack.{IsDropped, IsFlushed, IsKept, IsSynced, StoresBack};
 
 use crate::aggregates::Aggregates;
@@ -158,11 +159,14 @@ impl<B: Backing> System<B> {
         ensures uncached { uses_cache (tables_of self.old.kernel) event ≡ false →
             makes_file event ≡ false → self.new.kernel.cache ≡ self.old.kernel.cache }
 
-        // What a sharing call hands on lies where it lay, and no page is published or freed.
+        // What a sharing call hands on lies where it lay, and no page is published or freed. So does all that is left by an event
+        // that is not about bytes.
         ensures shares { is_sharing (tables_of self.old.kernel) event ≡ true →
             LaysOut (layout_of self.old.kernel) event result (layout_of self.new.kernel) }
         ensures pages { is_sharing (tables_of self.old.kernel) event ≡ true →
             self.new.kernel.store.arena ≡ self.old.kernel.store.arena }
+        ensures still { is_still event ≡ true →
+            LaysOut (layout_of self.old.kernel) event result (layout_of self.new.kernel) }
 
         // Each byte of a file that is in memory lies where it lay, dirty as it was. Or the event writes it, or writes it back; or it
         // was clean, and the event is `drop_clean`, or wants more pages of the file's pool than are free. What calls on files

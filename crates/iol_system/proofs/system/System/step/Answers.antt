@@ -4,6 +4,7 @@ use Rattle.iol_kernel.specs.Kernel.{state_of}
 use Rattle.iol_kernel.specs.KernelState.{layout_of}
 use Rattle.iol_system.specs.Asking.{asks_store, makes_file, uses_cache}
 use Rattle.iol_system.specs.Machine.{SystemState, tables_of}
+use Rattle.iol_system.specs.Still.{is_still}
 use Rattle.iol_system.specs.WrittenBack.{StoresBack}
 use Rattle.std.proofs.Common.{subst}
 use Rattle.iol_system.proofs.system.System.step.Goals as goal
@@ -19,3 +20,6 @@ returns-clause-uncached g c = subst (λ (s : SystemState). uses_cache (tables_of
 
 pub returns-clause-stores_back : goal.returns-clause-stores_back
 returns-clause-stores_back g c = subst (λ (s : SystemState). StoresBack s.disk s.kernel c.args.event c.carry_out.result (g.B.Backing.disk c.carry_out.new.backing) (state_of c.carry_out.new.kernel)) c.self.view_is c.carry_out.ensures.stores_back
+
+pub returns-clause-still : goal.returns-clause-still
+returns-clause-still g c = subst (λ (s : SystemState). is_still c.args.event ≡ true → LaysOut (layout_of s.kernel) c.args.event c.carry_out.result (layout_of (state_of c.carry_out.new.kernel))) c.self.view_is c.carry_out.ensures.still

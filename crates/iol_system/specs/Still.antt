@@ -1,0 +1,23 @@
+-- Events that neither place bytes nor hand them on.
+use Rattle.std.specs.Prelude.{Bool, true, false}
+use Rattle.iol_core.specs.declared.events.Call.TheVariants as call
+use Rattle.iol_core.specs.declared.events.Event.{Event}
+use Rattle.iol_core.specs.declared.events.Event.TheVariants as event
+
+-- Whether the event is about domains, pools, descriptors or what is given up, and not about bytes: whatever it leaves lies where it
+-- lay. What a file has may lie in the store alone, so calls that ask how long one is are not among these.
+abbrev pub is_still : Event → Bool
+is_still (event.Call by call.DomainNew) = true
+is_still (event.Call by call.Exit) = true
+is_still (event.Call by (call.PoolCreate chunks list)) = true
+is_still (event.Call by (call.PoolClose p)) = true
+is_still (event.Call by (call.SetPool p)) = true
+is_still (event.Call by (call.AggDrop a)) = true
+is_still (event.Call by (call.OpenFile name mode)) = true
+is_still (event.Call by call.Pipe) = true
+is_still (event.Call by (call.GiveFd fd to)) = true
+is_still (event.Call by (call.Close fd)) = true
+is_still (event.Call by call.Accept) = true
+is_still (event.ConnNew p) = true
+is_still (event.PeerClosed c how) = true
+is_still e = false
