@@ -1,5 +1,5 @@
 //! What a turn costs: `turn_speed KIND ROUNDS` gives five processes two turns each, in rounds, so many times. By its kind each
-//! yields (`yield`), asks for a connection (`accept`), or reads an empty pipe (`read`). Prints how often all were idle.
+//! yields (`yield`), asks for a connection (`accept`), or reads an empty pipe (`read`). Prints whether all were idle each time.
 //! `bench/turns` measures it.
 #![tactic(auto)]
 

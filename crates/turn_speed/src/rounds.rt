@@ -26,8 +26,9 @@ fn step(system: &mut System<MemoryBacking>, event: Event) -> Reply {
 // Makes a call, which has to pass.
 fn pass(system: &mut System<MemoryBacking>, by: u32, call: Call) -> Result<(), Refusal> {
     let by = DomainId::new(by);
-    match step(system, Event::Call { by, call }) {
-        Reply::Refused(refusal) => Err(refusal),
+    let reply = step(system, Event::Call { by, call });
+    match &reply {
+        Reply::Refused(refusal) => Err(*refusal),
         _ => Ok(()),
     }
 }
@@ -72,13 +73,11 @@ fn is_idle(world: &mut Measured) -> bool {
     world.until_idle(10)
 }
 
-// Ten turns at a time, and how often all were idle after them.
-pub fn give_rounds(world: &mut Measured, rounds: u64) -> u64 {
-    let mut idle = 0;
+// Ten turns at a time, and whether all were idle after each ten.
+pub fn give_rounds(world: &mut Measured, rounds: u64) -> bool {
+    let mut idle = true;
     for _ in 0..rounds {
-        if is_idle(world) {
-            idle += 1;
-        }
+        idle &= is_idle(world);
     }
     idle
 }
