@@ -1,5 +1,6 @@
 //! Entries, found by place and by height.
-ghost use Rattle.std.specs.Prelude.{◌≡◌, ◌≢◌, ℕ, ◌+◌, ◌-◌, ◌<◌, ◌≤◌, [], All, Some, None, MatchOption, OnOk, OnErr, IsOk, length, map, vec_len, vec_capacity};
+ghost use Rattle.std.specs.Prelude.{◌≡◌, ◌≢◌, ℕ, ◌+◌, ◌-◌, ◌<◌, ◌≤◌, [], All, Some, None, MatchOption, OnOk, OnErr, IsOk, length, map};
+ghost use Rattle.std.specs.VecDeque.{deque_len, deque_capacity};
 ghost use Rattle.slab.specs.Slab.{get, ContainsKey, Updates, HasRoomFor, slab_len, SameValues};
 ghost use Rattle.iol_evict.specs.Indexes.{entry_of, AreLive, IsRising, IsIndexed, Lowers};
 ghost use Rattle.iol_evict.specs.Ranking.{Table, entry_at, entry_or, put_in, without, with_height, lowered_by};
@@ -14,19 +15,21 @@ use crate::victim::first_idle;
 use iol_core::numbers::FileId;
 use slab::Slab;
 use std::alloc::{AllocError, Global};
+use std::collections::VecDeque;
 use std::marker::Model;
 
 /// Entries in a slab, and its keys in the order of file and place, and in that of height, file and place.
 #[derive(Drop)]
 pub(crate) struct Entries {
     slab: Slab<Entry>,
-    by_place: Vec<usize>,
-    by_height: Vec<usize>,
+    by_place: VecDeque<usize>,
+    by_height: VecDeque<usize>,
     room: usize,
 }
 
 impl Model for Entries {
-    ghost use Rattle.std.specs.Prelude.{◌≡◌, ◌+◌, ◌≤◌, map, vec_len, vec_capacity};
+    ghost use Rattle.std.specs.Prelude.{◌≡◌, ◌+◌, ◌≤◌, map};
+    ghost use Rattle.std.specs.VecDeque.{deque_len, deque_capacity};
     ghost use Rattle.slab.specs.Slab.{HasRoomFor};
     ghost use Rattle.iol_evict.specs.Ranking.{Table};
     ghost use Rattle.iol_evict.specs.Indexes.{entry_of, IsIndexed};
@@ -39,9 +42,9 @@ impl Model for Entries {
     ghost invariant = { λ e. record {
       indexed : IsIndexed e.slab e.by_place.items e.by_height.items;
       slab_room : HasRoomFor e.slab e.room;
-      lens : vec_len e.by_place ≡ vec_len e.by_height;
-      place_room : vec_len e.by_place + e.room ≤ vec_capacity e.by_place;
-      height_room : vec_len e.by_height + e.room ≤ vec_capacity e.by_height;
+      lens : deque_len e.by_place ≡ deque_len e.by_height;
+      place_room : deque_len e.by_place + e.room ≤ deque_capacity e.by_place;
+      height_room : deque_len e.by_height + e.room ≤ deque_capacity e.by_height;
     } };
 }
 
@@ -59,22 +62,22 @@ fn place_of(file: FileId, at: u32) -> Rank
 // Makes room for so many more, in each.
 fn reserve_each(
     slab: &mut Slab<Entry>,
-    by_place: &mut Vec<usize>,
-    by_height: &mut Vec<usize>,
+    by_place: &mut VecDeque<usize>,
+    by_height: &mut VecDeque<usize>,
     count: usize,
 ) -> Result<(), AllocError>
     ensures slab_room { OnOk result (HasRoomFor slab.new count) }
-    ensures place_room { OnOk result (vec_len by_place.new + count ≤ vec_capacity by_place.new) }
-    ensures height_room { OnOk result (vec_len by_height.new + count ≤ vec_capacity by_height.new) }
+    ensures place_room { OnOk result (deque_len by_place.new + count ≤ deque_capacity by_place.new) }
+    ensures height_room { OnOk result (deque_len by_height.new + count ≤ deque_capacity by_height.new) }
     ensures values { SameValues slab.old slab.new }
     ensures len { slab_len slab.new ≡ slab_len slab.old }
     ensures places { by_place.new.items ≡ by_place.old.items }
-    ensures place_len { vec_len by_place.new ≡ vec_len by_place.old }
+    ensures place_len { deque_len by_place.new ≡ deque_len by_place.old }
     ensures heights { by_height.new.items ≡ by_height.old.items }
-    ensures height_len { vec_len by_height.new ≡ vec_len by_height.old }
+    ensures height_len { deque_len by_height.new ≡ deque_len by_height.old }
     ensures slab_kept { slab.old.capacity ≤ slab.new.capacity }
-    ensures places_kept { vec_capacity by_place.old ≤ vec_capacity by_place.new }
-    ensures heights_kept { vec_capacity by_height.old ≤ vec_capacity by_height.new }
+    ensures places_kept { deque_capacity by_place.old ≤ deque_capacity by_place.new }
+    ensures heights_kept { deque_capacity by_height.old ≤ deque_capacity by_height.new }
 {
     slab.reserve(count)?;
     by_place.reserve(count)?;
@@ -89,8 +92,8 @@ impl Entries {
     {
         Entries {
             slab: Slab::new(alloc),
-            by_place: Vec::new(alloc),
-            by_height: Vec::new(alloc),
+            by_place: VecDeque::new(alloc),
+            by_height: VecDeque::new(alloc),
             room: 0,
         }
     }
@@ -131,7 +134,7 @@ impl Entries {
     {
         let key = find_key(
             &self.slab,
-            self.by_place.as_slice(),
+            &self.by_place,
             By::Place,
             &place_of(file, at),
         );
@@ -185,7 +188,7 @@ impl Entries {
     {
         let key = find_key(
             &self.slab,
-            self.by_place.as_slice(),
+            &self.by_place,
             By::Place,
             &place_of(file, at),
         );
@@ -208,9 +211,9 @@ impl Entries {
     pub(crate) fn lower(&mut self, low: u64)
         ensures { self.new ≡ record self.old { entries = map (lowered_by low) self.old.entries } }
     {
-        lower_each(&mut self.slab, self.by_place.as_slice(), low);
+        lower_each(&mut self.slab, &self.by_place, low);
         self.by_height.clear();
-        insert_all(&self.slab, self.by_place.as_slice(), &mut self.by_height);
+        insert_all(&self.slab, &self.by_place, &mut self.by_height);
     }
 
     /// The place of the entry that goes first. All below `passed` are in use.
@@ -221,6 +224,6 @@ impl Entries {
             (IsVictim (U.in_use users.now) self.now.entries) }
         ensures below { AreUsedBelow (U.in_use users.now) passed.new self.now.entries }
     {
-        first_idle(&self.slab, self.by_height.as_slice(), users, passed)
+        first_idle(&self.slab, &self.by_height, users, passed)
     }
 }

@@ -1,5 +1,6 @@
 //! Sorted lists of a slab's keys.
-ghost use Rattle.std.specs.Prelude.{◌≡◌, ℕ, ◌+◌, ◌-◌, ◌/◌, ◌<◌, ◌≤◌, length, Some, vec_len, vec_capacity};
+ghost use Rattle.std.specs.Prelude.{◌≡◌, ℕ, ◌+◌, ◌-◌, ◌/◌, ◌<◌, ◌≤◌, length, Some};
+ghost use Rattle.std.specs.VecDeque.{deque_len, deque_capacity};
 ghost use Rattle.slab.specs.Slab.{get, ContainsKey, Updates, slab_len};
 ghost use Rattle.iol_evict.specs.Ranks.{rank_by};
 ghost use Rattle.iol_evict.specs.Indexes.{entry_of, AreLive, IsRising, IsPlace, HasRank, IsApart, Finds, Adds, Takes};
@@ -7,6 +8,7 @@ ghost use Rattle.iol_evict.specs.Indexes.{entry_of, AreLive, IsRising, IsPlace, 
 use crate::entry::{By, Entry, Rank};
 use crate::rank::{comes_before, rank_of};
 use slab::Slab;
+use std::collections::VecDeque;
 
 /// The entry at a key.
 pub(crate) fn read_entry(entries: &Slab<Entry>, key: usize) -> Entry
@@ -28,10 +30,10 @@ pub(crate) fn write_height(slab: &mut Slab<Entry>, key: usize, height: u64)
 }
 
 /// How many keys come before a rank.
-pub(crate) fn position(entries: &Slab<Entry>, keys: &[usize], by: By, rank: &Rank) -> usize
-    requires live { AreLive entries.now keys.now }
-    requires rising { IsRising by entries.now keys.now }
-    ensures { IsPlace by entries.now keys.now rank.now result }
+pub(crate) fn position(entries: &Slab<Entry>, keys: &VecDeque<usize>, by: By, rank: &Rank) -> usize
+    requires live { AreLive entries.now keys.now.items }
+    requires rising { IsRising by entries.now keys.now.items }
+    ensures { IsPlace by entries.now keys.now.items rank.now result }
 {
     let mut low = 0;
     let mut high = keys.len();
@@ -48,39 +50,41 @@ pub(crate) fn position(entries: &Slab<Entry>, keys: &[usize], by: By, rank: &Ran
 }
 
 /// The key whose entry has this rank.
-pub(crate) fn find_key(entries: &Slab<Entry>, keys: &[usize], by: By, rank: &Rank) -> usize
-    requires live { AreLive entries.now keys.now }
-    requires rising { IsRising by entries.now keys.now }
-    requires there { HasRank by entries.now keys.now rank.now }
-    ensures { Finds by entries.now keys.now rank.now result }
+pub(crate) fn find_key(entries: &Slab<Entry>, keys: &VecDeque<usize>, by: By, rank: &Rank) -> usize
+    requires live { AreLive entries.now keys.now.items }
+    requires rising { IsRising by entries.now keys.now.items }
+    requires there { HasRank by entries.now keys.now.items rank.now }
+    ensures { Finds by entries.now keys.now.items rank.now result }
 {
     keys[position(entries, keys, by, rank)]
 }
 
 /// Puts a key in its place, in room that is there.
-pub(crate) fn insert_key(entries: &Slab<Entry>, keys: &mut Vec<usize>, by: By, key: usize)
+pub(crate) fn insert_key(entries: &Slab<Entry>, keys: &mut VecDeque<usize>, by: By, key: usize)
     requires live { AreLive entries.now keys.old.items }
     requires there { ContainsKey entries.now key }
     requires rising { IsRising by entries.now keys.old.items }
-    requires room { vec_len keys.old < vec_capacity keys.old }
+    requires room { deque_len keys.old < deque_capacity keys.old }
     ensures adds { Adds by entries.now key keys.old.items keys.new.items }
-    ensures len { vec_len keys.new ≡ vec_len keys.old + 1 }
-    ensures capacity { vec_capacity keys.new ≡ vec_capacity keys.old }
+    ensures len { deque_len keys.new ≡ deque_len keys.old + 1 }
+    ensures capacity { deque_capacity keys.old ≤ deque_capacity keys.new }
 {
     let entry = read_entry(entries, key);
-    let place = position(entries, keys.as_slice(), by, &rank_of(by, &entry));
+    let place = position(entries, keys, by, &rank_of(by, &entry));
     let _inserted = keys.insert(place, key);
 }
 
 /// Takes away the key whose entry has this rank.
-pub(crate) fn remove_key(entries: &Slab<Entry>, keys: &mut Vec<usize>, by: By, rank: &Rank) -> usize
+pub(crate) fn remove_key(entries: &Slab<Entry>, keys: &mut VecDeque<usize>, by: By, rank: &Rank) -> usize
     requires live { AreLive entries.now keys.old.items }
     requires rising { IsRising by entries.now keys.old.items }
     requires there { HasRank by entries.now keys.old.items rank.now }
     ensures takes { Takes by entries.now rank.now result keys.old.items keys.new.items }
-    ensures len { vec_len keys.new + 1 ≡ vec_len keys.old }
-    ensures capacity { vec_capacity keys.new ≡ vec_capacity keys.old }
+    ensures len { deque_len keys.new + 1 ≡ deque_len keys.old }
+    ensures capacity { deque_capacity keys.new ≡ deque_capacity keys.old }
 {
-    let place = position(entries, keys.as_slice(), by, rank);
-    keys.remove(place)
+    let place = position(entries, keys, by, rank);
+    let key = keys[place];
+    let _taken = keys.remove(place);
+    key
 }

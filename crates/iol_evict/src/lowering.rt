@@ -1,5 +1,6 @@
 //! Taking the same from every height.
-ghost use Rattle.std.specs.Prelude.{◌≡◌, ℕ, ◌+◌, ◌-◌, ◌<◌, ◌≤◌, [], length, vec_len, vec_capacity};
+ghost use Rattle.std.specs.Prelude.{◌≡◌, ℕ, ◌+◌, ◌-◌, ◌<◌, ◌≤◌, [], length};
+ghost use Rattle.std.specs.VecDeque.{deque_len, deque_capacity};
 ghost use Rattle.slab.specs.Slab.{ContainsKey, slab_len};
 ghost use Rattle.iol_evict.specs.declared.entry.By.TheVariants.{Place, Height};
 ghost use Rattle.iol_evict.specs.Indexes.{AreLive, IsRising, HaveSameKeys, Lowers};
@@ -7,34 +8,36 @@ ghost use Rattle.iol_evict.specs.Indexes.{AreLive, IsRising, HaveSameKeys, Lower
 use crate::entry::{By, Entry};
 use crate::index::{insert_key, read_entry, write_height};
 use slab::Slab;
+use std::collections::VecDeque;
 
 /// Takes `low` from the height of each entry; one below it becomes 0.
-pub(crate) fn lower_each(slab: &mut Slab<Entry>, keys: &[usize], low: u64)
-    requires live { AreLive slab.old keys.now }
-    requires rising { IsRising Place slab.old keys.now }
-    ensures lowers { Lowers low keys.now (length keys.now) slab.old slab.new }
+pub(crate) fn lower_each(slab: &mut Slab<Entry>, keys: &VecDeque<usize>, low: u64)
+    requires live { AreLive slab.old keys.now.items }
+    requires rising { IsRising Place slab.old keys.now.items }
+    ensures lowers { Lowers low keys.now.items (length keys.now.items) slab.old slab.new }
     ensures len { slab_len slab.new ≡ slab_len slab.old }
     ensures capacity { slab.new.capacity ≡ slab.old.capacity }
 {
-    for key in keys {
-        let entry = read_entry(slab, *key);
-        write_height(slab, *key, entry.height.saturating_sub(low));
+    for i in 0..keys.len() {
+        let key = keys[i];
+        let entry = read_entry(slab, key);
+        write_height(slab, key, entry.height.saturating_sub(low));
     }
 }
 
 /// Puts all keys into an empty index by height, in room that is there.
-pub(crate) fn insert_all(slab: &Slab<Entry>, keys: &[usize], by_height: &mut Vec<usize>)
-    requires live { AreLive slab.now keys.now }
-    requires rising { IsRising Place slab.now keys.now }
+pub(crate) fn insert_all(slab: &Slab<Entry>, keys: &VecDeque<usize>, by_height: &mut VecDeque<usize>)
+    requires live { AreLive slab.now keys.now.items }
+    requires rising { IsRising Place slab.now keys.now.items }
     requires empty { by_height.old.items ≡ [] }
-    requires none { vec_len by_height.old ≡ 0 }
-    requires room { length keys.now ≤ vec_capacity by_height.old }
+    requires none { deque_len by_height.old ≡ 0 }
+    requires room { length keys.now.items ≤ deque_capacity by_height.old }
     ensures rising { IsRising Height slab.now by_height.new.items }
-    ensures same { HaveSameKeys keys.now by_height.new.items }
-    ensures len { vec_len by_height.new ≡ length keys.now }
-    ensures capacity { vec_capacity by_height.new ≡ vec_capacity by_height.old }
+    ensures same { HaveSameKeys keys.now.items by_height.new.items }
+    ensures len { deque_len by_height.new ≡ length keys.now.items }
+    ensures capacity { deque_capacity by_height.old ≤ deque_capacity by_height.new }
 {
-    for key in keys {
-        insert_key(slab, by_height, By::Height, *key);
+    for i in 0..keys.len() {
+        insert_key(slab, by_height, By::Height, keys[i]);
     }
 }

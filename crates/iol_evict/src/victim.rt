@@ -11,26 +11,27 @@ use crate::rank::rank_of;
 use crate::users::InUse;
 use iol_core::numbers::FileId;
 use slab::Slab;
+use std::collections::VecDeque;
 
 /// The place of the first entry that is not in use, or else of the first. All below `passed` are in use: the search begins
 /// there, and moves it up to where it ends.
 pub(crate) fn first_idle<U: InUse>(
     slab: &Slab<Entry>,
-    keys: &[usize],
+    keys: &VecDeque<usize>,
     users: &U,
     passed: &mut Rank,
 ) -> Option<(FileId, u32)>
-    requires live { AreLive slab.now keys.now }
-    requires rising { IsRising Height slab.now keys.now }
-    requires ask { CanAskOf (U.can_ask users.now) slab.now keys.now }
-    requires below { KeysUsedBelow (U.in_use users.now) passed.old slab.now keys.now }
-    ensures first { MatchOption result (length keys.now ≡ 0)
-        (GoesFirst (U.in_use users.now) slab.now keys.now) }
-    ensures below { KeysUsedBelow (U.in_use users.now) passed.new slab.now keys.now }
+    requires live { AreLive slab.now keys.now.items }
+    requires rising { IsRising Height slab.now keys.now.items }
+    requires ask { CanAskOf (U.can_ask users.now) slab.now keys.now.items }
+    requires below { KeysUsedBelow (U.in_use users.now) passed.old slab.now keys.now.items }
+    ensures first { MatchOption result (length keys.now.items ≡ 0)
+        (GoesFirst (U.in_use users.now) slab.now keys.now.items) }
+    ensures below { KeysUsedBelow (U.in_use users.now) passed.new slab.now keys.now.items }
 {
     let from = position(slab, keys, By::Height, passed);
-    for key in &keys[from..] {
-        let entry = read_entry(slab, *key);
+    for i in from..keys.len() {
+        let entry = read_entry(slab, keys[i]);
         *passed = rank_of(By::Height, &entry);
         if !users.is_in_use(entry.file, entry.at) {
             return Some((entry.file, entry.at));

@@ -1,13 +1,13 @@
-use Rattle.std.proofs.Common.{◌≡◌, take}
-use Rattle.std.specs.Vec.{vec_len, vec_capacity}
+use Rattle.std.proofs.Common.{◌≡◌, ◌≤◌, take}
+use Rattle.std.specs.VecDeque.{deque_len, deque_capacity}
 use Rattle.iol_evict.specs.declared.entry.By.TheVariants.{Height}
 use Rattle.iol_evict.specs.Indexes.{IsRising, HaveSameKeys}
 use Rattle.iol_evict.proofs.lowering.insert_all.Given as goal
 
-abbrev pub invariant-loop-key : goal.invariant-loop-key
-invariant-loop-key l = record {
+abbrev pub invariant-loop-i : goal.invariant-loop-i
+invariant-loop-i l = record {
   rising : IsRising Height l.slab l.by_height.items;
-  same : HaveSameKeys (take l.key-index l.keys) l.by_height.items;
-  len : vec_len l.by_height ≡ l.key-index;
-  capacity : vec_capacity l.by_height ≡ vec_capacity l.fn.by_height;
+  same : HaveSameKeys (take l.i l.keys.items) l.by_height.items;
+  len : deque_len l.by_height ≡ l.i;
+  capacity : deque_capacity l.fn.by_height ≤ deque_capacity l.by_height;
 }
