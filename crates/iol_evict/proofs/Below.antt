@@ -1,5 +1,6 @@
 -- Entries below a rank.
-use Rattle.std.proofs.Common.{◌≡◌, ℕ, ◌<◌, Bool, true, false, List, [], ◌∷◌, cond, length, get_or, arith, sym, subst, ◌∙◌, All}
+use Rattle.std.proofs.Common.{inl, inr, ◌≡◌, ℕ, ◌+◌, ◌<◌, Bool, true, false, List, [], ◌∷◌, cond, length, get_or, arith, sym, subst, ◌∙◌, All}
+use Rattle.std.proofs.lemmas.Bool.{cases_eq, cases_lt}
 use Rattle.std.proofs.lemmas.List.{length-map}
 use Rattle.std.proofs.lemmas.List.Elements.{All-cons, All-head, All-tail, All-get_or, All-from_get_or}
 use Rattle.slab.specs.Slab.{Slab}
@@ -7,9 +8,11 @@ use Rattle.iol_evict.specs.declared.entry.Entry.{Entry}
 use Rattle.iol_evict.specs.declared.entry.Rank.{Rank}
 use Rattle.iol_evict.specs.declared.entry.By.TheVariants.{Height}
 use Rattle.iol_evict.specs.Ranking.{no_entry, is_at, without}
-use Rattle.iol_evict.specs.Ranks.{rank_by, least_rank, RankLt}
-use Rattle.iol_evict.specs.Indexes.{entry_of, IsIndexed}
-use Rattle.iol_evict.specs.Victims.{AreUsedBelow, KeysUsedBelow}
+use Rattle.iol_evict.specs.Ranks.{rank_by, least_rank, RankLt, RankLe}
+use Rattle.iol_evict.specs.Indexes.{entry_of, rank_at, IsRising, IsIndexed}
+use Rattle.iol_evict.specs.Victims.{AreUsedBelow, is_used, KeysUsedBelow}
+use Rattle.iol_evict.proofs.Comparing.{lt_not_le, le_refl}
+use Rattle.iol_evict.proofs.Places.{all_from}
 use Rattle.iol_evict.proofs.Times.{each-same, same-sym}
 use Rattle.iol_evict.proofs.Indexing.{entries_of, read}
 
@@ -38,6 +41,22 @@ below-keys used rank s ks js indexed below = record {
       (λ i upto. let within : i < length ks = subst (λ (n : ℕ). i < n) (length-map ks (entry_of s)) upto in
       subst (UsedBelow used rank) (sym (read s ks i within))
       (each-same (λ k. UsedBelow used rank (entry_of s k)) js ks (same-sym ks js indexed.same) below.each i within));
+}
+
+-- one more of the keys is in use
+pub used-next : (used : ℕ → ℕ → Bool) (s : Slab Entry) (keys : List ℕ) (n : ℕ) (e : Entry) → ((i : ℕ) → i < n → is_used used s keys i ≡ true) → e ≡ entry_of s (get_or keys n 0) → used e.file e.at ≡ true → (i : ℕ) → i < n + 1 → is_used used s keys i ≡ true
+used-next used s keys n e before is busy i upto = elim (cases_eq i n) [
+  | inl same ↦ subst (λ (k : ℕ). is_used used s keys k ≡ true) (sym same) (subst (λ (x : Entry). used x.file x.at ≡ true) is busy)
+  | inr other ↦ before i (omega (arith, other, upto))
+]
+
+-- those below the rank of a key stand before it
+pub below-next : (used : ℕ → ℕ → Bool) (s : Slab Entry) (keys : List ℕ) (n : ℕ) (rank : Rank) → IsRising Height s keys → rank ≡ rank_at Height s keys n → ((i : ℕ) → i < n → is_used used s keys i ≡ true) → KeysUsedBelow used rank s keys
+below-next used s keys n rank rising is before = record {
+  each = λ i within lt. elim (cases_lt i n) [
+    | inl under ↦ before i under
+    | inr from ↦ absurd (lt_not_le (rank_at Height s keys i) rank lt (subst (λ (r : Rank). RankLe r (rank_at Height s keys i)) (sym is) (all_from Height s keys (rank_at Height s keys n) n i rising (le_refl (rank_at Height s keys n)) from within)))
+  ];
 }
 
 -- what holds of all holds without one

@@ -1,5 +1,5 @@
 -- Ranks in a rising list.
-use Rattle.std.proofs.Common.{inl, inr, ◌≡◌, ℕ, ◌+◌, ◌<◌, ◌≤◌, List, length, get_or, arith, refl, sym, subst, ◌∙◌}
+use Rattle.std.proofs.Common.{inl, inr, ◌≡◌, ℕ, ◌+◌, ◌<◌, ◌≤◌, List, length, get_or, arith, sym, subst, ◌∙◌}
 use Rattle.std.specs.List.{remove}
 use Rattle.std.proofs.lemmas.Bool.{cases_eq, cases_lt}
 use Rattle.std.proofs.lemmas.List.{get_or_default}
@@ -35,14 +35,24 @@ place-has by s keys rank n i rising place within has = elim (cases_lt i n) [
   ]
 ]
 
+-- a key that was read
+pub read-key : (keys : List ℕ) (n key : ℕ) → key ≡ get_or keys n key → n < length keys → key ≡ get_or keys n 0
+read-key keys n key read within = read ∙ get_or_default keys n key 0 within
+
+-- the place of a rank that is there
+pub place-within : (by : By) (s : Slab Entry) (keys : List ℕ) (rank : Rank) (n : ℕ) → IsRising by s keys → HasRank by s keys rank → IsPlace by s keys rank n → n < length keys
+place-within by s keys rank n rising there place =
+    subst (λ (k : ℕ). k < length keys) (place-has by s keys rank n there.index rising place there.within there.has) there.within
+
 -- the key in the place of a rank that is there
-pub finds : (by : By) (s : Slab Entry) (keys : List ℕ) (rank : Rank) (n : ℕ) → IsRising by s keys → HasRank by s keys rank → IsPlace by s keys rank n → Finds by s keys rank (get_or keys n 0)
-finds by s keys rank n rising there place =
+pub finds : (by : By) (s : Slab Entry) (keys : List ℕ) (rank : Rank) (n key : ℕ) → IsRising by s keys → HasRank by s keys rank → IsPlace by s keys rank n → key ≡ get_or keys n key → Finds by s keys rank key
+finds by s keys rank n key rising there place read =
     let e = place-has by s keys rank n there.index rising place there.within there.has in
+    let within = subst (λ (k : ℕ). k < length keys) e there.within in
     record {
       index = n;
-      within = subst (λ (k : ℕ). k < length keys) e there.within;
-      is = refl;
+      within = within;
+      is = get_or_default keys n 0 key within ∙ sym read;
       has = subst (λ (k : ℕ). rank_at by s keys k ≡ rank) e there.has;
     }
 
