@@ -19,6 +19,8 @@ use std::collections::VecDeque;
 use std::marker::Model;
 
 /// Entries in a slab, and its keys in the order of file and place, and in that of height, file and place.
+///
+/// A key that goes or comes moves those on its shorter side alone, so that taking one near the front costs little.
 #[derive(Drop)]
 pub(crate) struct Entries {
     slab: Slab<Entry>,
@@ -132,12 +134,7 @@ impl Entries {
         ensures entry { result ≡ entry_or self.now.entries file at }
         ensures sized { 0 < result.size }
     {
-        let key = find_key(
-            &self.slab,
-            &self.by_place,
-            By::Place,
-            &place_of(file, at),
-        );
+        let key = find_key(&self.slab, &self.by_place, By::Place, &place_of(file, at));
         read_entry(&self.slab, key)
     }
 
@@ -186,12 +183,7 @@ impl Entries {
         ensures { let new = with_height self.old.entries file at height in
             self.new ≡ record self.old { entries = new } }
     {
-        let key = find_key(
-            &self.slab,
-            &self.by_place,
-            By::Place,
-            &place_of(file, at),
-        );
+        let key = find_key(&self.slab, &self.by_place, By::Place, &place_of(file, at));
         let entry = read_entry(&self.slab, key);
         if entry.height == height {
             return;

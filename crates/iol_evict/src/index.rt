@@ -75,7 +75,12 @@ pub(crate) fn insert_key(entries: &Slab<Entry>, keys: &mut VecDeque<usize>, by: 
 }
 
 /// Takes away the key whose entry has this rank.
-pub(crate) fn remove_key(entries: &Slab<Entry>, keys: &mut VecDeque<usize>, by: By, rank: &Rank) -> usize
+pub(crate) fn remove_key(
+    entries: &Slab<Entry>,
+    keys: &mut VecDeque<usize>,
+    by: By,
+    rank: &Rank,
+) -> usize
     requires live { AreLive entries.now keys.old.items }
     requires rising { IsRising by entries.now keys.old.items }
     requires there { HasRank by entries.now keys.old.items rank.now }

@@ -26,7 +26,11 @@ pub(crate) fn lower_each(slab: &mut Slab<Entry>, keys: &VecDeque<usize>, low: u6
 }
 
 /// Puts all keys into an empty index by height, in room that is there.
-pub(crate) fn insert_all(slab: &Slab<Entry>, keys: &VecDeque<usize>, by_height: &mut VecDeque<usize>)
+pub(crate) fn insert_all(
+    slab: &Slab<Entry>,
+    keys: &VecDeque<usize>,
+    by_height: &mut VecDeque<usize>,
+)
     requires live { AreLive slab.now keys.now.items }
     requires rising { IsRising Place slab.now keys.now.items }
     requires empty { by_height.old.items ≡ [] }

@@ -1,4 +1,4 @@
-use Rattle.std.proofs.Common.{◌≢◌, ◌∙◌, ap, sym, subst, List, ℕ, None}
+use Rattle.std.proofs.Common.{◌≢◌, ◌∙◌, ap, sym, subst, None}
 use Rattle.iol_evict.specs.declared.entry.Rank.{Rank}
 use Rattle.iol_evict.specs.declared.entry.By.TheVariants.{Place}
 use Rattle.iol_evict.specs.Ranking.{Table, entry_at, entry_or}
@@ -13,6 +13,5 @@ find_key-key-requires-clause-there c =
 
 pub returns-clause-entry : goal.returns-clause-entry
 returns-clause-entry c =
-    let found = c.find_key-key.ensures in
-    let here = subst (λ (r : Rank). Finds Place c.self.inside.slab c.self.inside.by_place.items r c.find_key-key.result) c.place_of.ensures found in
+    let here = subst (λ (r : Rank). Finds Place c.self.inside.slab c.self.inside.by_place.items r c.find_key-key.result) c.place_of.ensures c.find_key-key.ensures in
     c.read_entry.ensures ∙ sym (found-entry _ _ c.args.file c.args.at _ c.self.invariant.indexed.places here) ∙ ap (λ (t : Table). entry_or t.entries c.args.file c.args.at) c.self.view_is

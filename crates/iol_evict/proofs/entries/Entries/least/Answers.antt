@@ -1,7 +1,6 @@
-use Rattle.std.proofs.Common.{◌≡◌, ℕ, List, [], sym, subst, length, All, MatchOption}
+use Rattle.std.proofs.Common.{◌≡◌, [], sym, subst, All, MatchOption}
 use Rattle.iol_evict.specs.Ranking.{Table}
-use Rattle.iol_evict.specs.Indexes.{AreLive}
-use Rattle.iol_evict.specs.Victims.{AreUsedBelow, CanAskOf, GoesFirst, IsVictim, KeysUsedBelow}
+use Rattle.iol_evict.specs.Victims.{AreUsedBelow, IsVictim}
 use Rattle.iol_evict.proofs.Below.{keys-below, below-keys}
 use Rattle.iol_evict.proofs.Changing.{live-heights}
 use Rattle.iol_evict.proofs.Firsts.{victim-first, entries-none, ask-heights, match-map}
@@ -25,13 +24,11 @@ first_idle-requires-clause-below g c =
 pub returns-clause-first : goal.returns-clause-first
 returns-clause-first g c =
     let used = g.U.InUse.in_use c.args.users.now in
-    let found = c.first_idle.ensures.first in
     subst (λ (t : Table). MatchOption c.first_idle.result (t.entries ≡ []) (IsVictim used t.entries)) c.self.view_is
-    (match-map c.first_idle.result (entries-none _ _ _ c.self.invariant.indexed) (λ place. victim-first used _ _ _ place c.self.invariant.indexed) found)
+    (match-map c.first_idle.result (entries-none _ _ _ c.self.invariant.indexed) (λ place. victim-first used _ _ _ place c.self.invariant.indexed) c.first_idle.ensures.first)
 
 pub returns-clause-below : goal.returns-clause-below
 returns-clause-below g c =
     let used = g.U.InUse.in_use c.args.users.now in
-    let found = c.first_idle.ensures.below in
     subst (λ (t : Table). AreUsedBelow used c.first_idle.new.passed t.entries) c.self.view_is
-    (below-keys used c.first_idle.new.passed _ _ _ c.self.invariant.indexed found)
+    (below-keys used c.first_idle.new.passed _ _ _ c.self.invariant.indexed c.first_idle.ensures.below)

@@ -1,4 +1,4 @@
-use Rattle.std.proofs.Common.{◌≢◌, ◌∙◌, ap, sym, subst, arith, List, ℕ, None}
+use Rattle.std.proofs.Common.{◌≢◌, ◌∙◌, ap, sym, subst, arith, None}
 use Rattle.iol_evict.specs.declared.entry.Entry.{Entry}
 use Rattle.iol_evict.specs.declared.entry.Rank.{Rank}
 use Rattle.iol_evict.specs.declared.entry.By.TheVariants.{Place, Height}
@@ -20,28 +20,24 @@ remove_key-requires-clause-live c = live-heights _ _ _ c.self.invariant.indexed
 
 pub remove_key-requires-clause-there : goal.remove_key-requires-clause-there
 remove_key-requires-clause-there c =
-    let found = c.find_key-key.ensures in
     subst (λ (r : Rank). HasRank Height c.self.inside.slab c.self.inside.by_height.items r) (sym (c.rank_of.ensures ∙ ap (rank_by Height) c.read_entry-entry.ensures))
-    (stands-found _ _ _ _ _ c.self.invariant.indexed found)
+    (stands-found _ _ _ _ _ c.self.invariant.indexed c.find_key-key.ensures)
 
 pub insert_key-requires-clause-live : goal.insert_key-requires-clause-live
 insert_key-requires-clause-live c =
-    let found = c.find_key-key.ensures in
     let taken = subst (λ (r : Rank). Takes Height c.self.inside.slab r c.remove_key.result c.self.inside.by_height.items c.remove_key.new.keys.items) (c.rank_of.ensures ∙ ap (rank_by Height) c.read_entry-entry.ensures) c.remove_key.ensures.takes in
-    live-same _ _ _ (same-left _ _ _ _ _ _ _ _ _ c.self.invariant.indexed found taken c.write_height.ensures.updates) (live-left _ _ _ _ _ _ c.self.invariant.indexed taken)
+    live-same _ _ _ (same-left _ _ _ _ _ _ _ _ _ c.self.invariant.indexed c.find_key-key.ensures taken c.write_height.ensures.updates) (live-left _ _ _ _ _ _ c.self.invariant.indexed taken)
 
 pub insert_key-requires-clause-rising : goal.insert_key-requires-clause-rising
 insert_key-requires-clause-rising c =
-    let found = c.find_key-key.ensures in
     let taken = subst (λ (r : Rank). Takes Height c.self.inside.slab r c.remove_key.result c.self.inside.by_height.items c.remove_key.new.keys.items) (c.rank_of.ensures ∙ ap (rank_by Height) c.read_entry-entry.ensures) c.remove_key.ensures.takes in
-    rising-same Height _ _ _ (same-left _ _ _ _ _ _ _ _ _ c.self.invariant.indexed found taken c.write_height.ensures.updates) (rising-left _ _ _ _ _ _ c.self.invariant.indexed taken)
+    rising-same Height _ _ _ (same-left _ _ _ _ _ _ _ _ _ c.self.invariant.indexed c.find_key-key.ensures taken c.write_height.ensures.updates) (rising-left _ _ _ _ _ _ c.self.invariant.indexed taken)
 
 pub invariant_of-self : goal.invariant_of-self
 invariant_of-self c =
-    let found = c.find_key-key.ensures in
     let taken = subst (λ (r : Rank). Takes Height c.self.inside.slab r c.remove_key.result c.self.inside.by_height.items c.remove_key.new.keys.items) (c.rank_of.ensures ∙ ap (rank_by Height) c.read_entry-entry.ensures) c.remove_key.ensures.takes in
     record {
-      indexed = indexed-height _ _ _ _ _ _ _ _ _ _ c.self.invariant.indexed found taken c.write_height.ensures.updates c.insert_key.ensures.adds;
+      indexed = indexed-height _ _ _ _ _ _ _ _ _ _ c.self.invariant.indexed c.find_key-key.ensures taken c.write_height.ensures.updates c.insert_key.ensures.adds;
       slab_room = omega (arith, c.write_height.ensures.len, c.write_height.ensures.capacity, c.self.invariant.slab_room);
       lens = omega (arith, c.remove_key.ensures.len, c.insert_key.ensures.len, c.self.invariant.lens);
       place_room = c.self.invariant.place_room;
@@ -50,13 +46,11 @@ invariant_of-self c =
 
 pub returns : goal.returns
 returns c =
-    let found = c.find_key-key.ensures in
-    let here = subst (λ (r : Rank). Finds Place c.self.inside.slab c.self.inside.by_place.items r c.find_key-key.result) c.place_of.ensures found in
+    let here = subst (λ (r : Rank). Finds Place c.self.inside.slab c.self.inside.by_place.items r c.find_key-key.result) c.place_of.ensures c.find_key-key.ensures in
     table-is _ _ _ _ (entries-with_height _ _ _ c.args.file c.args.at c.args.height _ c.self.invariant.indexed.places here c.write_height.ensures.updates ∙ ap (λ (t : Table). with_height t.entries c.args.file c.args.at c.args.height) c.self.view_is) (ap (λ (t : Table). t.room) c.self.view_is)
 
 pub returns-then-entry-height : goal.returns-then-entry-height
 returns-then-entry-height c =
-    let found = c.find_key-key.ensures in
-    let here = subst (λ (r : Rank). Finds Place c.self.inside.slab c.self.inside.by_place.items r c.find_key-key.result) c.place_of.ensures found in
+    let here = subst (λ (r : Rank). Finds Place c.self.inside.slab c.self.inside.by_place.items r c.find_key-key.result) c.place_of.ensures c.find_key-key.ensures in
     let same = ap (λ (e : Entry). e.height) (sym c.read_entry-entry.ensures) ∙ c.if-entry-height.true in
     sym c.self.view_is ∙ table-is _ _ _ _ (same-height _ _ _ c.args.file c.args.at c.args.height _ c.self.invariant.indexed here same ∙ ap (λ (t : Table). with_height t.entries c.args.file c.args.at c.args.height) c.self.view_is) (ap (λ (t : Table). t.room) c.self.view_is)
