@@ -1,7 +1,7 @@
 //! The bytes of a write, as an aggregate of the file's pool: its own are shared, and each run of others is copied.
-ghost use Rattle.std.specs.Prelude.{◌≡◌, ℕ, ◌+◌, ◌-◌, ◌==◌, ◌<◌, ◌≤◌, ◌^◌, [], All, Bool, not, true, false, length, take, drop, slice_index_or, Err, IfOk, IfErr, OnOk, OnErr};
+ghost use Rattle.std.specs.Prelude.{◌≡◌, ℕ, ◌+◌, ◌-◌, ◌==◌, ◌<◌, ◌≤◌, ◌^◌, [], All, not, false, length, take, drop, slice_index_or, Err, IfOk, IfErr, OnErr};
 ghost use Rattle.iol_arena.specs.State.{pages_for};
-ghost use Rattle.iol_cache.specs.Composing.{Composes, ComposesRun, copied_pages, pages_after};
+ghost use Rattle.iol_cache.specs.Composing.{Composes, ComposesRun, copied_pages};
 ghost use Rattle.iol_cache.specs.Loading.{PlacesSome};
 ghost use Rattle.iol_cache.specs.Sharing.{CountsBelow};
 ghost use Rattle.iol_core.specs.Meaning.{WantOfRoom};

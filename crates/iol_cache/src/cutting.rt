@@ -1,9 +1,8 @@
 //! What a write cuts: the parts of extents on both sides of its range.
-ghost use Rattle.std.specs.Prelude.{◌≡◌, ℕ, ◌+◌, ◌-◌, ◌<◌, ◌≤◌, ◌^◌, [], IfOk, OnErr};
+ghost use Rattle.std.specs.Prelude.{◌≡◌, ◌-◌, ◌<◌, ◌^◌, [], IfOk, OnErr};
 ghost use Rattle.iol_cache.specs.Cutting.{CutsLeft, CutsRight};
 ghost use Rattle.iol_cache.specs.Cached.{all_parts};
 ghost use Rattle.iol_cache.specs.Sharing.{CountsBelow};
-ghost use Rattle.iol_extent.specs.Extents.{IsApart};
 ghost use Rattle.iol_hold.specs.Moves.{Covers, Shares};
 ghost use Rattle.iol_hold.specs.Texts.{bufs_of};
 

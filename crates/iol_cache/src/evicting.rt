@@ -1,6 +1,5 @@
 //! Eviction of clean extents.
-ghost use Rattle.std.specs.Prelude.{◌≡◌, ◌≢◌, ◌↔◌, ℕ, ◌+◌, ◌-◌, ◌<◌, ◌≤◌, [], length, zero, suc, true, false, Some, None, MatchOption, IsTrue};
-ghost use Rattle.iol_core.specs.Numbered.{is_numbered};
+ghost use Rattle.std.specs.Prelude.{◌≡◌, ◌≢◌, ◌↔◌, ℕ, ◌+◌, ◌-◌, ◌<◌, ◌≤◌, [], length, true, false, Some, None, MatchOption, IsTrue};
 ghost use Rattle.iol_pool.specs.Pools.{pool_in};
 ghost use Rattle.iol_hold.specs.Room.{pages_of, free_of};
 ghost use Rattle.iol_evict.specs.Victims.{IsVictim};

@@ -1,5 +1,5 @@
 //! Gaps of a range that are read, and the range that is shared then.
-ghost use Rattle.std.specs.Prelude.{◌≡◌, ℕ, ◌+◌, ◌<◌, ◌≤◌, ◌^◌, [], Err, OnOk, OnErr, IfOk, IfErr, All, length, false};
+ghost use Rattle.std.specs.Prelude.{◌≡◌, ℕ, ◌<◌, ◌≤◌, ◌^◌, [], Err, OnErr, IfOk, IfErr, All, length, false};
 ghost use Rattle.iol_core.specs.Meaning.{WantOfRoomOrFault};
 ghost use Rattle.iol_pool.specs.Pools.{pool_in};
 ghost use Rattle.iol_hold.specs.Moves.{Moves, Covers, SameLists};

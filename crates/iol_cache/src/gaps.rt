@@ -1,9 +1,9 @@
 //! Gaps that become clean extents.
-ghost use Rattle.std.specs.Prelude.{◌≡◌, ℕ, ◌+◌, ◌-◌, ◌<◌, ◌≤◌, ◌^◌, [], true, false, length, take, drop, map, Err, OnOk, OnErr, IfOk, IfErr, All};
+ghost use Rattle.std.specs.Prelude.{◌≡◌, ℕ, ◌+◌, ◌-◌, ◌<◌, ◌≤◌, ◌^◌, [], false, length, take, drop, Err, OnOk, OnErr, IfOk, IfErr, All};
 ghost use Rattle.iol_arena.specs.State.{pages_for};
 ghost use Rattle.iol_core.specs.Meaning.{WantOfRoomOrFault};
 ghost use Rattle.iol_core.specs.Text as text;
-ghost use Rattle.iol_back.specs.Disk.{Disk, IfHonest, content};
+ghost use Rattle.iol_back.specs.Disk.{IfHonest, content};
 ghost use Rattle.iol_cache.specs.Gaps.{AllBegin, FillsGap, FillsGaps, LoadsSlices, gap_pages, parts_back, without_spans};
 ghost use Rattle.iol_cache.specs.Loading.{Asks, PlacesPages, PlacesSome};
 ghost use Rattle.iol_extent.specs.Extents.{IsApart, IsGap};

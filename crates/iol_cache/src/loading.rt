@@ -1,15 +1,15 @@
 //! Bytes of the store, read into new buffers.
-ghost use Rattle.std.specs.Prelude.{◌≡◌, ℕ, ◌+◌, ◌-◌, ◌*◌, ◌<◌, ◌≤◌, ◌^◌, [], true, false, length, take, drop, min, map, Err, OnOk, OnErr, IfOk, IfErr};
+ghost use Rattle.std.specs.Prelude.{◌≡◌, ℕ, ◌+◌, ◌-◌, ◌<◌, ◌≤◌, ◌^◌, [], false, length, take, drop, min, Err, OnOk, OnErr, IfOk, IfErr};
 ghost use Rattle.std.specs.List.{All};
 ghost use Rattle.iol_core.specs.Meaning.{WantOfRoomOrFault};
 ghost use Rattle.iol_arena.specs.Adds.{IsNew};
 ghost use Rattle.iol_arena.specs.Buffers.{Grows, bytes_in};
 ghost use Rattle.iol_arena.specs.Pages.{MadeOn};
-ghost use Rattle.iol_arena.specs.Parts.{part_bytes, part_pages, part_room};
+ghost use Rattle.iol_arena.specs.Parts.{part_pages, part_room};
 ghost use Rattle.iol_arena.specs.State.{pages_for};
-ghost use Rattle.iol_back.specs.Disk.{Disk, IfHonest, content};
+ghost use Rattle.iol_back.specs.Disk.{IfHonest, content};
 ghost use Rattle.iol_cache.specs.Loading.{IsRead, ReadsPart, Asks, PlacesPages};
-ghost use Rattle.iol_hold.specs.Filling.{filling_store, filling_parts, filling_part, filling_pool, filling_lender, filling_bytes, IsFilling};
+ghost use Rattle.iol_hold.specs.Filling.{filling_store, filling_parts, filling_part, filling_lender, filling_bytes, IsFilling};
 ghost use Rattle.iol_hold.specs.Moves.{Moves};
 ghost use Rattle.iol_hold.specs.Pages.{KeepsPages};
 ghost use Rattle.iol_hold.specs.Room.{free_of, lowest_of};

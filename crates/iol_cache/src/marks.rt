@@ -1,6 +1,5 @@
 //! How often clean extents hold each buffer.
-ghost use Rattle.std.specs.Prelude.{◌≡◌, ℕ, ◌+◌, ◌-◌, ◌<◌, ◌≤◌, ◌^◌, nat_lt, length, slice_index, slice_set, replicate, true, IfOk};
-ghost use Rattle.std.specs.List.{All, list_any};
+ghost use Rattle.std.specs.Prelude.{◌≡◌, ℕ, ◌+◌, ◌-◌, ◌<◌, ◌^◌, length, slice_index, slice_set, replicate, true, IfOk};
 ghost use Rattle.iol_hold.specs.Stored.{count_of};
 ghost use Rattle.iol_hold.specs.Moves.{Covers};
 ghost use Rattle.iol_hold.specs.Texts.{bufs_of};

@@ -1,5 +1,5 @@
 //! Extents of a file in the order of its pool: hits that count, and extents that come in.
-ghost use Rattle.std.specs.Prelude.{◌≡◌, ℕ, ◌+◌, ◌-◌, ◌<◌, ◌≤◌, ◌^◌, length, IsSome};
+ghost use Rattle.std.specs.Prelude.{◌≡◌, ◌<◌, ◌≤◌, length, IsSome};
 ghost use Rattle.iol_extent.specs.Extents.{IsApart, begins_at};
 ghost use Rattle.iol_evict.specs.Ranking.{entered};
 ghost use Rattle.iol_hold.specs.Places.{byte_len};

@@ -1,5 +1,5 @@
 //! A range of a file that is replaced: what it meets goes, and its parts and the new bytes come in. No memory is taken.
-ghost use Rattle.std.specs.Prelude.{◌≡◌, ℕ, ◌+◌, ◌-◌, ◌<◌, ◌≤◌, ◌^◌, ◌++◌, [], length, max, IfSome, IsSome};
+ghost use Rattle.std.specs.Prelude.{◌≡◌, ◌+◌, ◌<◌, ◌≤◌, ◌^◌, ◌++◌, length, max, IfSome, IsSome};
 ghost use Rattle.std.specs.List.{filter};
 ghost use Rattle.iol_arena.specs.State.{page_count};
 ghost use Rattle.iol_cache.specs.Cached.{parts_in, all_parts};

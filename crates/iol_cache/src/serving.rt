@@ -1,5 +1,5 @@
 //! Reads of files: what is in memory is shared, room is made for the gaps, and these are read.
-ghost use Rattle.std.specs.Prelude.{◌≡◌, ℕ, ◌+◌, ◌<◌, ◌≤◌, ◌^◌, ◌++◌, [], All, length, true, OnErr, IfOk, IfErr};
+ghost use Rattle.std.specs.Prelude.{◌≡◌, ◌+◌, ◌<◌, ◌≤◌, ◌^◌, ◌++◌, [], All, length, true, OnErr, IfOk, IfErr};
 ghost use Rattle.iol_core.specs.Meaning.{WantOfRoomOrFault};
 ghost use Rattle.iol_core.specs.Numbered.{is_numbered};
 ghost use Rattle.iol_core.specs.Text as text;

@@ -1,5 +1,5 @@
 //! Bytes of a file, shared from the extents over them.
-ghost use Rattle.std.specs.Prelude.{◌≡◌, ℕ, ◌+◌, ◌-◌, ◌<◌, ◌≤◌, ◌^◌, ◌++◌, [], All, IsSome, IfOk, OnErr};
+ghost use Rattle.std.specs.Prelude.{◌≡◌, ◌+◌, ◌-◌, ◌<◌, ◌≤◌, ◌^◌, ◌++◌, [], All, IsSome, IfOk, OnErr};
 ghost use Rattle.iol_cache.specs.Cached.{all_parts};
 ghost use Rattle.iol_cache.specs.Sharing.{CountsBelow, IsCovered, IsCoveredSpan, places_of_spans, places_over};
 ghost use Rattle.iol_extent.specs.Extents.{IsApart, extent_over};

@@ -1,5 +1,5 @@
 //! Writing back of dirty extents.
-ghost use Rattle.std.specs.Prelude.{◌≡◌, ℕ, ◌+◌, ◌<◌, ◌≤◌, ◌^◌, length, true, None, IfErr, IfSome, OnErr, OnOk};
+ghost use Rattle.std.specs.Prelude.{◌≡◌, ◌+◌, ◌<◌, ◌≤◌, ◌^◌, length, true, None, IfErr, IfSome, OnErr, OnOk};
 ghost use Rattle.iol_core.specs.Text as text;
 ghost use Rattle.iol_core.specs.Numbered.{is_numbered};
 ghost use Rattle.iol_cache.specs.Cache.{cached_of};

@@ -1,5 +1,4 @@
 //! Which extents are in use.
-ghost use Rattle.std.specs.Prelude.{◌≡◌, ℕ, Bool};
 
 use crate::files::CachedFile;
 use crate::marks::CleanHolds;

@@ -1,5 +1,5 @@
 //! A range of a file, put together from what was shared before its gaps were read and from the gaps.
-ghost use Rattle.std.specs.Prelude.{◌≡◌, ℕ, ◌+◌, ◌-◌, ◌<◌, ◌≤◌, ◌^◌, ◌++◌, [], All, IfOk, OnErr, slice_range};
+ghost use Rattle.std.specs.Prelude.{◌≡◌, ◌+◌, ◌-◌, ◌<◌, ◌≤◌, ◌^◌, ◌++◌, [], All, IfOk, OnErr, slice_range};
 ghost use Rattle.iol_hold.specs.Moves.{Moves, Shares, Covers, SameLists};
 ghost use Rattle.iol_hold.specs.Places.{places, byte_len};
 ghost use Rattle.iol_hold.specs.Releases.{FreesOnly};
@@ -8,7 +8,7 @@ ghost use Rattle.iol_hold.specs.Texts.{bufs_of, AllReadable};
 ghost use Rattle.iol_extent.specs.Extents.{IsApart};
 ghost use Rattle.iol_extent.specs.Spans.{AreInOrder};
 ghost use Rattle.iol_cache.specs.Cached.{all_parts};
-ghost use Rattle.iol_cache.specs.Sharing.{IsCovered, IsCoveredSpan, CountsBelow, places_over};
+ghost use Rattle.iol_cache.specs.Sharing.{IsCoveredSpan, CountsBelow};
 ghost use Rattle.iol_cache.specs.Weaving.{IsCoveredBeside, len_beside, places_beside, woven};
 
 use crate::sharing::share_over;

@@ -1,8 +1,8 @@
 //! Entries, found by place and by height.
-ghost use Rattle.std.specs.Prelude.{◌≡◌, ◌≢◌, ℕ, ◌+◌, ◌-◌, ◌<◌, ◌≤◌, [], All, Some, None, MatchOption, OnOk, OnErr, IsOk, length, map};
+ghost use Rattle.std.specs.Prelude.{◌≡◌, ◌≢◌, ◌+◌, ◌-◌, ◌<◌, ◌≤◌, [], All, None, MatchOption, OnOk, OnErr, IsOk, map};
 ghost use Rattle.std.specs.VecDeque.{deque_len, deque_capacity};
-ghost use Rattle.slab.specs.Slab.{get, ContainsKey, Updates, HasRoomFor, slab_len, SameValues};
-ghost use Rattle.iol_evict.specs.Indexes.{entry_of, AreLive, IsRising, IsIndexed, Lowers};
+ghost use Rattle.slab.specs.Slab.{get, HasRoomFor, slab_len, SameValues};
+ghost use Rattle.iol_evict.specs.Indexes.{entry_of, IsIndexed};
 ghost use Rattle.iol_evict.specs.Ranking.{Table, entry_at, entry_or, put_in, without, with_height, lowered_by};
 ghost use Rattle.iol_evict.specs.Victims.{AreUsedBelow, IsVictim};
 

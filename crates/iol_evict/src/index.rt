@@ -1,9 +1,8 @@
 //! Sorted lists of a slab's keys.
-ghost use Rattle.std.specs.Prelude.{◌≡◌, ℕ, ◌+◌, ◌-◌, ◌/◌, ◌<◌, ◌≤◌, length, Some};
+ghost use Rattle.std.specs.Prelude.{◌≡◌, ◌+◌, ◌-◌, ◌/◌, ◌<◌, ◌≤◌, Some};
 ghost use Rattle.std.specs.VecDeque.{deque_len, deque_capacity};
-ghost use Rattle.slab.specs.Slab.{get, ContainsKey, Updates, slab_len};
-ghost use Rattle.iol_evict.specs.Ranks.{rank_by};
-ghost use Rattle.iol_evict.specs.Indexes.{entry_of, AreLive, IsRising, IsPlace, HasRank, IsApart, Finds, Adds, Takes};
+ghost use Rattle.slab.specs.Slab.{ContainsKey, Updates, slab_len};
+ghost use Rattle.iol_evict.specs.Indexes.{entry_of, AreLive, IsRising, IsPlace, HasRank, Finds, Adds, Takes};
 
 use crate::entry::{By, Entry, Rank};
 use crate::rank::{comes_before, rank_of};

@@ -1,7 +1,7 @@
 //! Taking the same from every height.
-ghost use Rattle.std.specs.Prelude.{◌≡◌, ℕ, ◌+◌, ◌-◌, ◌<◌, ◌≤◌, [], length};
+ghost use Rattle.std.specs.Prelude.{◌≡◌, ◌<◌, ◌≤◌, [], length};
 ghost use Rattle.std.specs.VecDeque.{deque_len, deque_capacity};
-ghost use Rattle.slab.specs.Slab.{ContainsKey, slab_len};
+ghost use Rattle.slab.specs.Slab.{slab_len};
 ghost use Rattle.iol_evict.specs.declared.entry.By.TheVariants.{Place, Height};
 ghost use Rattle.iol_evict.specs.Indexes.{AreLive, IsRising, HaveSameKeys, Lowers};
 

@@ -1,8 +1,7 @@
 //! Finding the entry that goes first.
-ghost use Rattle.std.specs.Prelude.{◌≡◌, ℕ, ◌+◌, ◌<◌, length, true, MatchOption};
-ghost use Rattle.slab.specs.Slab.{ContainsKey};
+ghost use Rattle.std.specs.Prelude.{◌≡◌, ◌<◌, length, MatchOption};
 ghost use Rattle.iol_evict.specs.declared.entry.By.TheVariants.{Height};
-ghost use Rattle.iol_evict.specs.Indexes.{entry_of, AreLive, IsRising};
+ghost use Rattle.iol_evict.specs.Indexes.{AreLive, IsRising};
 ghost use Rattle.iol_evict.specs.Victims.{CanAskOf, GoesFirst, KeysUsedBelow};
 
 use crate::entry::{By, Entry, Rank};
