@@ -1,0 +1,15 @@
+//! Tests of processes in turns, in a crate of their own since a crate with tests is proved twice.
+#![tactic(auto)]
+
+#[cfg(test)]
+mod calls;
+#[cfg(test)]
+mod consumer;
+#[cfg(test)]
+mod producer;
+#[cfg(test)]
+mod start;
+#[cfg(test)]
+mod worker;
+#[cfg(test)]
+mod worlds;

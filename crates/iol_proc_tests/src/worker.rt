@@ -1,0 +1,36 @@
+//! The processes of the tests.
+ghost use Rattle.std.specs.Prelude.{⊤};
+
+use crate::consumer::Consumer;
+use crate::producer::Producer;
+use iol_core::events::{Call, Reply};
+use iol_proc::look::Look;
+use iol_proc::process::{Process, Turn};
+use std::alloc::AllocError;
+
+/// A process of one kind or another.
+#[derive(Drop)]
+pub enum Worker {
+    Producer(Producer),
+    Consumer(Consumer),
+
+    /// Waits for a connection without a pause.
+    Eager,
+
+    /// Has nothing to do.
+    Idle,
+}
+
+impl Process for Worker {
+    // Any turn: what these do is tested.
+    ghost turns = { λ worker last lent turn next. ⊤ };
+
+    fn next(&mut self, last: &Reply, look: &Look<'_>) -> Result<Turn, AllocError> {
+        match self {
+            Worker::Producer(producer) => producer.turn(last),
+            Worker::Consumer(consumer) => Ok(consumer.turn(last, look)),
+            Worker::Eager => Ok(Turn::Make(Call::Accept)),
+            Worker::Idle => Ok(Turn::Yield),
+        }
+    }
+}

@@ -1,0 +1,101 @@
+//! Worlds of a few processes.
+use crate::calls::{is_rough, run, step_outside, until_idle, worker_of};
+use crate::consumer::{Consumer, summed};
+use crate::producer::{PIECE, Producer};
+use crate::start::{TestWorld, call_of, empty_world, world_of};
+use crate::worker::Worker;
+use iol_core::events::{Call, Reply};
+use iol_core::numbers::{DomainId, Fd};
+use iol_core::refusals::Refusal;
+use iol_proc::choice::Choice;
+use std::alloc::{AllocError, Global};
+use std::test::Fail;
+
+/// How many pieces are a mebibyte.
+const PIECES: u8 = 128;
+
+// How many bytes the consumer of domain 2 got, and their sum.
+fn came(world: &TestWorld) -> Option<(u32, u32)> {
+    match worker_of(world, DomainId::new(2))? {
+        Worker::Consumer(consumer) => Some(consumer.came()),
+        _ => None,
+    }
+}
+
+// A sum with one piece more.
+fn with_piece(sum: u32, byte: u8) -> u32 {
+    let mut sum = sum;
+    for _ in 0..PIECE {
+        sum = summed(sum, byte);
+    }
+    sum
+}
+
+// The sum of all pieces.
+fn sum_of_pieces() -> u32 {
+    let mut sum = 0;
+    for piece in 0..PIECES {
+        sum = with_piece(sum, PIECES - piece);
+    }
+    sum
+}
+
+// A world in which domain 1 sends all pieces to domain 2.
+fn sending_world(alloc: Global) -> Result<TestWorld, Fail> {
+    let producer = Worker::Producer(Producer::new(alloc, Fd::new(1), PIECES));
+    let consumer = Worker::Consumer(Consumer::new(Fd::new(0)));
+    world_of(alloc, producer, consumer)
+}
+
+#[test]
+fn pipe_passes_a_mebibyte(rt: HostRuntime) -> Result<(), Fail> {
+    let mut world = sending_world(rt.alloc())?;
+    assert!(rt; until_idle(&mut world, 65_536));
+    assert_eq!(rt; came(&world), Some((1_048_576, sum_of_pieces())));
+    assert!(rt; !is_rough(&world));
+    Ok(())
+}
+
+#[test]
+fn idle_is_when_all_have_yielded(rt: HostRuntime) -> Result<(), Fail> {
+    let mut world = world_of(rt.alloc(), Worker::Idle, Worker::Idle)?;
+    assert!(rt; !until_idle(&mut world, 0));
+    assert!(rt; !until_idle(&mut world, 3));
+    assert!(rt; until_idle(&mut world, 4));
+    Ok(())
+}
+
+#[test]
+fn waiting_without_a_pause_is_not_idle(rt: HostRuntime) -> Result<(), Fail> {
+    let mut world = world_of(rt.alloc(), Worker::Idle, Worker::Eager)?;
+    assert!(rt; !until_idle(&mut world, 1_000));
+    Ok(())
+}
+
+#[test]
+fn world_without_processes_is_idle(rt: HostRuntime) -> Result<(), Fail> {
+    let mut world = empty_world(rt.alloc())?;
+    assert!(rt; until_idle(&mut world, 0));
+    Ok(())
+}
+
+// How a turn of a domain is refused.
+fn refusal_of(world: &mut TestWorld, by: u32) -> Result<Option<Refusal>, AllocError> {
+    let choices = [Choice::Turn(DomainId::new(by))];
+    let replies = run(world, &choices)?;
+    match replies.first() {
+        Some(Reply::Refused(refusal)) => Ok(Some(*refusal)),
+        _ => Ok(None),
+    }
+}
+
+#[test]
+fn nobody_has_a_turn(rt: HostRuntime) -> Result<(), Fail> {
+    let mut world = world_of(rt.alloc(), Worker::Idle, Worker::Eager)?;
+    assert_eq!(rt; refusal_of(&mut world, 3)?, Some(Refusal::NoDomain));
+    assert_eq!(rt; refusal_of(&mut world, 2)?, Some(Refusal::WouldBlock));
+    let exit = step_outside(&mut world, call_of(2, Call::Exit));
+    assert!(rt; matches!(exit, Reply::Done));
+    assert_eq!(rt; refusal_of(&mut world, 2)?, Some(Refusal::NoDomain));
+    Ok(())
+}
