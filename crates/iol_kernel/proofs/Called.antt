@@ -1,8 +1,6 @@
 -- A file is found by its name, and opened.
-use Rattle.std.proofs.Common.{◌≡◌, ℕ, ◌+◌, ◌<◌, ◌≤◌, ◌∙◌, Bool, true, List, [], ◌∷◌, length, Option, Some, None, refl, sym, ap, arith}
-use Rattle.std.specs.Prelude.{position, option_map, unwrap_or, bytes_eq, nat_lt, cond, not}
-use Rattle.std.specs.List.{position_or_len}
-use Rattle.std.proofs.lemmas.List.{length-map}
+use Rattle.std.proofs.Common.{◌≡◌, ℕ, ◌+◌, ◌<◌, ◌≤◌, ◌∙◌, Bool, true, List, Option, Some, refl, sym, ap, arith}
+use Rattle.std.specs.Prelude.{position, option_map, unwrap_or, bytes_eq}
 use Rattle.std.proofs.lemmas.List.Quantifiers.{position-Some}
 use Rattle.iol_core.specs.Numbered.{is_numbered, numbered_or, lowest, placed}
 use Rattle.iol_core.specs.State as machine
@@ -17,10 +15,9 @@ use Rattle.iol_cache.proofs.Filing.{numbered_bounds, numbered_yes}
 use Rattle.iol_desc.specs.Tables.{domain_in, with_fds_in, with_next_fd}
 use Rattle.iol_kernel.specs.Calls.{Answers}
 use Rattle.iol_kernel.specs.Ends.{same_end, IsOpenOnce}
-use Rattle.iol_kernel.specs.Files.{file_of, files_of, opens}
+use Rattle.iol_kernel.specs.Files.{opens}
 use Rattle.iol_kernel.specs.KernelState.{KernelState, objects_of, IsOpenEnd, IsSound, read_of}
 use Rattle.iol_kernel.specs.Readings.{Reading}
-use Rattle.iol_kernel.specs.declared.files.File.{File}
 use Rattle.iol_kernel.proofs.Effects.{fds-changed, fds-sound}
 use Rattle.iol_kernel.proofs.Named.{as_many, files-read_of}
 use Rattle.iol_kernel.proofs.Once.{ends-placed, once_fewer}
@@ -28,18 +25,6 @@ use Rattle.iol_kernel.proofs.ReadOf.{fds-read_of}
 use Rattle.iol_kernel.proofs.Sound.{each-placed, ends_open}
 use Rattle.iol_kernel.proofs.Stay.{stays_here}
 use Rattle.iol_kernel.proofs.Uses.{Domains}
-
--- The first of a list of the name, as the machine sees it.
-
-pub position-files : (name : List ℕ) (xs : List File) → position (λ (x : File). bytes_eq x.name name) xs ≡ position (λ x. bytes_eq x.name name) (files_of xs)
-position-files name xs = λ i. cond (nat_lt (place xs i) (count i)) (Some (place xs i)) None
-  where
-    count : length xs ≡ length (files_of xs)
-    count = sym (length-map xs file_of)
-
-    place : (ys : List File) → position_or_len (λ (x : File). bytes_eq x.name name) ys ≡ position_or_len (λ (x : machine.File). bytes_eq x.name name) (files_of ys)
-    place [] = refl
-    place (y ∷ ys) = ap (λ n. cond (not (bytes_eq y.name name)) (1 + n) 0) (place ys)
 
 pub file_called-read_of : (f : Reading) (h : KernelState) (name : List ℕ) → option_map (λ i. i + 1) (position (λ x. bytes_eq x.name name) h.files) ≡ calls.file_called (read_of f h) name
 file_called-read_of f h name = ap (λ (fs : List machine.File). option_map (λ i. i + 1) (position (λ x. bytes_eq x.name name) fs)) (sym (files-read_of f h))

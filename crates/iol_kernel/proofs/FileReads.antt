@@ -223,6 +223,9 @@ module _ (x : FileRead) (h : KernelState) (sound : IsSound h) (live : (domain_in
   pub untouched_iol_read : (k : KernelState) (y : Refusal) → first (reading.iol_read (machine_of [] h) x.domain x.fd x.count).refusals ≡ None → WantOfRoomOrFault (pool_read h x) x.file y → k ≡ h → (disk : Disk) → Serves (λ s. reading.iol_read s x.domain x.fd x.count) disk h (Err y) disk k
   untouched_iol_read k y passed late = untouched (λ s. reading.iol_read s x.domain x.fd x.count) k y (λ slots. iol_read-tests slots h x.domain x.fd x.count ∙ passed) (λ slots. late_at slots y late)
 
+  pub untouched_read : (k : KernelState) (y : Refusal) → first (reading.read (machine_of [] h) x.domain x.fd x.count).refusals ≡ None → WantOfRoomOrFault (pool_read h x) x.file y → k ≡ h → (disk : Disk) → Serves (λ s. reading.read s x.domain x.fd x.count) disk h (Err y) disk k
+  untouched_read k y passed late = untouched (λ s. reading.read s x.domain x.fd x.count) k y (λ slots. read-tests slots h x.domain x.fd x.count ∙ passed) (λ slots. late_at slots y late)
+
   -- what stays of the domain's row
   pub row_moved : (len : ℕ) → domain_in (moved_on h.domains x len) x.domain ≡ record (domain_in h.domains x.domain) { fds = moved_fds len }
   row_moved len = domain_in-with_same h.domains x.domain (record (domain_in h.domains x.domain) { fds = moved_fds len }) live

@@ -29,7 +29,7 @@ use Rattle.iol_cache.proofs.Keeping.{apart_of}
 use Rattle.iol_cache.proofs.Paging.{fills_none}
 use Rattle.iol_cache.proofs.Shared.{length-places_over}
 use Rattle.iol_kernel.specs.Backed.{holding_of}
-use Rattle.iol_kernel.specs.FileReading.{FileRead, GivesCopy, GivesRead, ReadsFileAs, moved_on, pool_read}
+use Rattle.iol_kernel.specs.FileReading.{CopiesFileAs, FileRead, GivesCopy, GivesRead, ReadsFileAs, moved_on, pool_read}
 use Rattle.iol_kernel.specs.KernelState.{KernelState, objects_of, IsSound}
 use Rattle.iol_kernel.proofs.FileReads.{numbered_here}
 use Rattle.iol_kernel.specs.Keeping.{LacksPagesToRead}
@@ -101,6 +101,17 @@ reads_nothing {A} x disk h k y same room counts = subst (λ (l : KernelState). R
   leaves = inl (refl, refl);
 })
 
+-- a copying read that has changed nothing
+pub copies_nothing : (x : FileRead) (disk : Disk) (h : KernelState) (y : Refusal) → TellsRoom {A = List ℕ} (RoomToRead x.file x.at x.count disk (holding_of h)) (NoRoomToRead x.file x.at x.count disk (holding_of h)) (Err y) → FaultCounts {A = List ℕ} disk disk (Err y) → CopiesFileAs {A = List ℕ} x disk h (Err y) disk h
+copies_nothing x disk h y room counts = record {
+  mid = h.store;
+  reads = reads_nothing {A = List ℕ} x disk h h y refl room counts;
+  gives = tt;
+  early = inl (refl, refl);
+  frees = frees_none h.store h.store refl refl (λ p o. refl);
+  lists = refl;
+}
+
 length-read : (old new : List Extent) (at to : ℕ) (gs : List Span) → AreInOrder at to gs → length (places_read old new at to gs) + at ≡ to
 length-read old new at to [] order = omega (arith, length-places_over old at to, order)
 length-read old new at to (g ∷ gs) order =
@@ -134,7 +145,7 @@ module _ (x : FileRead) (disk after : Disk) (h : KernelState) (t : Stored) (c : 
     fault = fault_told A B disk after y fault;
     same = refl;
     refused = kept;
-    leaves = inr (late, inl refused);
+    leaves = inr (late, refused);
   }
 
   pub reads_done : {B : Type 0} (r : B) (xs : List Slice) (m : Stored) (ds : Domains) → ReadsFile x.file x.at x.count disk (holding_of h) (over m c) xs → has → after.failures ≡ disk.failures → after.honest ≡ disk.honest → (disk.honest ≡ true → after.slots ≡ disk.slots) → ReadsFileAs {A = B} x disk h (Ok r) after (record h { store = t; domains = ds; cache = c })
@@ -147,19 +158,6 @@ module _ (x : FileRead) (disk after : Disk) (h : KernelState) (t : Stored) (c : 
     same = refl;
     refused = tt;
     leaves = tt;
-  }
-
-  -- it was read, and then there was no memory for what was to be made of it
-  pub reads_lost : (B : Type 0) (xs : List Slice) → ReadsFile x.file x.at x.count disk (holding_of h) (over t c) xs → after.failures ≡ disk.failures → after.honest ≡ disk.honest → (disk.honest ≡ true → after.slots ≡ disk.slots) → ReadsFileAs {A = B} x disk h (Err refusal.Memory) after (record h { store = t; cache = c })
-  reads_lost B xs reads counts honest slots = record {
-    keeps = read_unless x.file x.at x.count disk (holding_of h) (over t c) xs there (apart_of {h = holding_of h} (cache_sound h sound)) reads;
-    pages = pages;
-    lists = lists;
-    room = tt;
-    fault = record { honest = honest; slots = slots; counts = counts };
-    same = refl;
-    refused = refl;
-    leaves = inr (tt, inr (record { slices = xs; read = reads; memory = refl }));
   }
 
   pub gives_read : (xs : List Slice) (ds : Domains) → ReadsFile x.file x.at x.count disk (holding_of h) (over t c) xs → ds ≡ with_agg_in (moved_on h.domains x (byte_len xs)) x.domain xs → GivesRead x disk h (record h { store = t; domains = ds; cache = c })

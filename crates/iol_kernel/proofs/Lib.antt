@@ -13,6 +13,7 @@ pub mod TakenIn
 pub mod FileServed
 pub mod FileTests
 pub mod FileCopies
+pub mod Shortened
 pub mod TakenOut
 pub mod Listing
 pub mod Rows

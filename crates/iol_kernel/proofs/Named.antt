@@ -28,24 +28,15 @@ use Rattle.iol_cache.specs.Sound as cache
 use Rattle.iol_cache.specs.declared.files.CachedFile.{CachedFile}
 use Rattle.iol_cache.proofs.Filing.{numbered_bounds, numbered_yes, additive_tally, file_nowhere, sum-flat}
 use Rattle.iol_kernel.specs.Calls.{AddsFile}
-use Rattle.iol_kernel.specs.Files.{file_of, files_of}
 use Rattle.iol_kernel.specs.KernelState.{KernelState, objects_of, Each, AreFiled, IsCached, IsFile, IsOpenEnd, IsSound, read_of}
 use Rattle.iol_kernel.specs.Readings.{Reading, slot_read, slots_read}
 use Rattle.iol_kernel.specs.Views.{state_view}
-use Rattle.iol_kernel.specs.declared.files.File.{File}
 use Rattle.iol_kernel.proofs.Slots.{file_bytes-none}
 use Rattle.iol_kernel.proofs.Sound.{each-push, each-weaker}
 
 pub files-read_of : (f : Reading) (h : KernelState) → (read_of f h).files ≡ h.files
 unfolding read_of state_view
 files-read_of f h = refl
-
-pub length-files : (xs : List File) → length (files_of xs) ≡ length xs
-length-files xs = length-map xs file_of
-
-pub any_named-files : (name : List ℕ) (xs : List File) → list_any (λ (x : File). bytes_eq x.name name) xs ≡ list_any (λ x. bytes_eq x.name name) (files_of xs)
-any_named-files name [] = refl
-any_named-files name (x ∷ xs) = ap (λ b. bytes_eq x.name name || b) (any_named-files name xs)
 
 -- one of a list passes just where there is a first that does
 any-first : {A : Type 0} (p : A → Bool) (xs : List A) → list_any p xs ≡ nat_lt (position_or_len p xs) (length xs)
@@ -69,12 +60,7 @@ has-file_called f h name =
     numbered true n = refl
     numbered false n = refl
 
-pub files-push : (xs : List File) (x : File) → files_of (xs ++ x ∷ []) ≡ files_of xs ++ file_of x ∷ []
-files-push xs x = map-append file_of xs (x ∷ [])
-
-pub ruleset file_rules = (files-read_of, length-files)
-
-pub ruleset list_rules = (files-push)
+pub ruleset file_rules = (files-read_of)
 
 -- What the next slot has.
 

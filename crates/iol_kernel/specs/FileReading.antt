@@ -1,5 +1,5 @@
 -- What a read of a file does, beside the machine's step: where its bytes lie, and what becomes of pages and of the cache.
-use Rattle.std.specs.Prelude.{◌≡◌, ◌⊎◌, ℕ, ◌+◌, List, [], slice_set, Option, Some, None, Result, IfErr, OnErr, OnOk, if◌then◌else◌}
+use Rattle.std.specs.Prelude.{◌≡◌, ◌⊎◌, ℕ, ◌+◌, ◌-◌, min, List, [], length, slice_set, Option, Some, None, Result, IfErr, OnErr, OnOk, if◌then◌else◌}
 use Rattle.iol_core.specs.State.{State, Domain, is_live, descriptor}
 use Rattle.iol_core.specs.Meaning.{WantOfRoomOrFault}
 use Rattle.iol_core.specs.Calls.Reading as calls
@@ -7,7 +7,6 @@ use Rattle.iol_core.specs.declared.descriptors.Mode.{Mode}
 use Rattle.iol_core.specs.declared.descriptors.Descriptor.{Descriptor}
 use Rattle.iol_core.specs.declared.descriptors.Descriptor.TheVariants as on
 use Rattle.iol_core.specs.declared.refusals.Refusal.{Refusal}
-use Rattle.iol_core.specs.declared.refusals.Refusal.TheVariants.{Memory}
 use Rattle.iol_back.specs.Disk.{Disk}
 use Rattle.iol_hold.specs.Moves.{Moves, SameLists}
 use Rattle.iol_hold.specs.Places.{byte_len}
@@ -16,14 +15,22 @@ use Rattle.iol_hold.specs.Stored.{Stored}
 use Rattle.iol_hold.specs.Texts.{bufs_of}
 use Rattle.iol_hold.specs.declared.slices.Slice.{Slice}
 use Rattle.iol_desc.specs.Tables.{fds_in, with_agg_in, with_fds_in}
-use Rattle.iol_cache.specs.Cached.{file_in}
+use Rattle.iol_cache.specs.Cached.{Cached, file_in}
+use Rattle.iol_cache.specs.Contents.{bytes_in_slot}
 use Rattle.iol_cache.specs.Paging.{FillsLowest}
 use Rattle.iol_cache.specs.Evicting.{Holding}
-use Rattle.iol_cache.specs.Serving.{NoRoomToRead, ReadsFile, RefusesRead, RoomToRead, TellsFault, TellsRoom}
+use Rattle.iol_cache.specs.Serving.{IsBacked, IsEnd, NoRoomToRead, ReadsFile, RefusesRead, RoomToRead, TellsFault, TellsRoom}
 use Rattle.iol_kernel.specs.Backed.{holding_of}
 use Rattle.iol_kernel.specs.Calls.{CarriesOut}
 use Rattle.iol_kernel.specs.Keeping.{KeepsUnless, LacksPagesToRead}
 use Rattle.iol_kernel.specs.KernelState.{KernelState, machine_of}
+
+-- Of n bytes of a file from `at` on, it has so many: as far as the file goes.
+pub record IsReadable (disk : Disk) (c : Cached) (f at n many : ℕ) : Type 0 where
+  pub end : ℕ
+  pub ends : IsEnd disk c f end
+  pub whole : (s : Stored) → IsBacked disk (record { store = s; cache = c }) → end ≡ length (bytes_in_slot s disk.slots c.files f)
+  pub fewer : many ≡ min n (end - at)
 
 -- A domain's descriptor, which is open on a file at a position, and how many bytes are read there.
 pub record FileRead : Type 0 where
@@ -56,18 +63,12 @@ pub record GivesRead (x : FileRead) (disk : Disk) (old new : KernelState) : Type
 abbrev pub holding_over : Stored → KernelState → Holding
 holding_over s h = record { store = s; cache = h.cache }
 
--- A file was read as far as memory goes, and then there was no memory for what was to be made of it.
-pub record LosesRead (x : FileRead) (disk : Disk) (old new : KernelState) (y : Refusal) : Type 0 where
-  pub slices : List Slice
-  pub read : ReadsFile x.file x.at x.count disk (holding_of old) (holding_of new) slices
-  pub memory : y ≡ Memory
-
 -- A refused read. One that was refused before it asked for room changed nothing. A late one left hits that count, and clean extents
--- that went to make room, the first ones before the others; or what was read into memory, where memory was wanting afterwards.
+-- that went to make room, the first ones before the others.
 abbrev pub LeavesAtRefusal : (x : FileRead) → Disk → (old : KernelState) → (after : Disk) → (new : KernelState) → Refusal → Type 0
 LeavesAtRefusal x disk old after new y =
     ((new ≡ old) × (after ≡ disk))
-    ⊎ (WantOfRoomOrFault (pool_read old x) x.file y × (RefusesRead x.file x.at x.count disk (holding_of old) (holding_of new) ⊎ LosesRead x disk old new y))
+    ⊎ (WantOfRoomOrFault (pool_read old x) x.file y × RefusesRead x.file x.at x.count disk (holding_of old) (holding_of new))
 
 -- A read of a file by reference. Every byte of a file that was in memory lies where it lay, but that clean ones of the file's pool
 -- may have given way where more pages were wanted than were free. The lowest free pages of the file's pool are filled, and no

@@ -1,17 +1,28 @@
--- Files as the machine sees them, and what opening one means.
-use Rattle.std.specs.Prelude.{ℕ, List, [], map}
+-- Files by name, and what opening one means.
+use Rattle.std.specs.Prelude.{◌≡◌, ◌==◌, ℕ, List, [], map, nat_eq}
+use Rattle.std.specs.List.{list_any}
+use Rattle.std.specs.Global.{Vec}
 use Rattle.iol_core.specs.Calls.Descriptors.{next_fd, opened}
 use Rattle.iol_core.specs.Meaning.{Meaning, WantOfMemory}
 use Rattle.iol_core.specs.State as machine
 use Rattle.iol_core.specs.State.{State}
 use Rattle.iol_core.specs.declared.descriptors.Descriptor.{Descriptor}
-use Rattle.iol_kernel.specs.declared.files.File.{File}
 
-abbrev pub file_of : File → machine.File
-file_of x = record { name = x.name; pool = x.pool }
+-- the files by slot, and how many more can be added without asking for memory
+pub record NamedFiles : Type 0 where
+  pub files : List machine.File
+  pub room : ℕ
 
-abbrev pub files_of : List File → List machine.File
-files_of xs = map file_of xs
+-- a file by its name and pool
+abbrev pub file_of : Vec ℕ × ℕ → machine.File
+file_of e = record { name = e.0.items; pool = e.1 }
+
+abbrev pub files_of : List (Vec ℕ × ℕ) → List machine.File
+files_of es = map file_of es
+
+-- these are the numbers of the files' pools
+pub record AreUsed (files : List machine.File) (used : List ℕ) : Type 0 where
+  pub each : (p : ℕ) → list_any (nat_eq p) used ≡ list_any (λ f. f.pool == p) files
 
 -- x is open as the domain's next descriptor; refused for want of memory alone
 abbrev pub opens : State → (d : ℕ) → Descriptor → Meaning ℕ

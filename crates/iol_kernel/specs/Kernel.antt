@@ -13,13 +13,12 @@ use Rattle.iol_kernel.specs.Calls as calls
 use Rattle.iol_kernel.specs.MakingRoom as making
 use Rattle.iol_kernel.specs.FileReading as files
 use Rattle.iol_kernel.specs.FileReading.{FileRead}
-use Rattle.iol_kernel.specs.Files.{files_of}
 use Rattle.iol_kernel.specs.KernelState.{KernelState, read_of, machine_of}
 use Rattle.iol_kernel.specs.Readings.{Reading}
 use Rattle.iol_kernel.specs.declared.kernel.Kernel.{Kernel}
 
 abbrev pub state_of : Kernel → KernelState
-state_of k = record { store = k.store; domains = domains_of k.domains; pipes = k.pipes.places; conns = k.conns.conns; next_conn = k.conns.next; sums = k.sums; files = files_of k.files.list.items; cache = cached_of k.files.cache }
+state_of k = record { store = k.store; domains = domains_of k.domains; pipes = k.pipes.places; conns = k.conns.conns; next_conn = k.conns.next; sums = k.sums; files = k.files.table.files; cache = cached_of k.files.cache }
 
 -- the copying machine's state, with the bytes that lie there, over an empty store
 abbrev pub machine : Kernel → State

@@ -1,19 +1,26 @@
 //! Reading files by copying: no aggregate is made of what is read.
-ghost use Rattle.std.specs.Prelude.{◌≡◌, ℕ, ◌+◌, ◌≤◌, length, true, Some, None, IfOk};
+ghost use Rattle.std.specs.Prelude.{◌≡◌, ℕ, ◌+◌, ◌≤◌, ◌++◌, length, true, Some, None, IfOk};
+ghost use Rattle.std.specs.Vec.{vec_len, vec_capacity};
 ghost use Rattle.iol_core.specs.Meaning.{first};
+ghost use Rattle.iol_core.specs.Numbered.{is_numbered};
 ghost use Rattle.iol_core.specs.State.{is_live, descriptor};
+ghost use Rattle.iol_core.specs.Text.{bytes_of};
 ghost use Rattle.iol_core.specs.Calls.Reading as calls;
-ghost use Rattle.iol_kernel.specs.FileReading.{file_read};
+ghost use Rattle.iol_hold.specs.Places.{byte_len};
+ghost use Rattle.iol_hold.specs.Texts.{AllReadable, text_of};
+ghost use Rattle.iol_kernel.specs.FileReading.{IsReadable, file_read};
 ghost use Rattle.iol_kernel.specs.KernelState.{IsSound};
 ghost use Rattle.iol_kernel.specs.Readings.{Reading};
 
 use crate::kernel::Kernel;
 use crate::reading_files::{OpenFile, may_be_read};
+use iol_agg::Agg;
 use iol_back::backing::Backing;
 use iol_core::descriptors::Descriptor;
 use iol_core::lists::Bytes;
-use iol_core::numbers::{DomainId, Fd};
+use iol_core::numbers::{DomainId, Fd, FileId};
 use iol_core::refusals::Refusal;
+use iol_hold::Store;
 
 impl Kernel {
     ghost use Rattle.iol_kernel.specs.Kernel.{state_of, machine, as_read, CopiesFileAs, Serves};
@@ -46,7 +53,8 @@ impl Kernel {
         self.copy_from_file(backing, by, fd, found, count)
     }
 
-    /// Copies bytes of a file that the caller may read.
+    /// Copies bytes of a file that the caller may read. The memory of the list is taken first, so that a read which finds none
+    /// leaves the cache as it was.
     fn copy_from_file<B: Backing>(
         &mut self,
         backing: &mut B,
@@ -67,21 +75,15 @@ impl Kernel {
         ensures short { IfOk result (λ bytes. length bytes ≤ count) }
     {
         let OpenFile { file, at, mode } = found;
-        let outcome = self
+        let most = self.readable(backing, file, at, count);
+        let mut bytes = Vec::with_capacity(self.alloc, most as usize)?;
+        let agg = self
             .files
             .cache
-            .read(self.alloc, &mut self.store, backing, file, at, count);
-        let agg = match outcome {
-            Ok(agg) => agg,
-            Err(refusal) => return Err(refusal),
-        };
+            .read(self.alloc, &mut self.store, backing, file, at, most)?;
         let len = agg.len();
-        let copy = agg.to_vec(self.alloc, &self.store);
+        copy_out(&agg, &self.store, &mut bytes);
         agg.release(&mut self.store);
-        let bytes = match copy {
-            Ok(bytes) => bytes,
-            Err(_) => return Err(Refusal::Memory),
-        };
         let moved = Descriptor::File {
             file,
             at: at + len,
@@ -89,5 +91,29 @@ impl Kernel {
         };
         self.domains.set_fd(by, fd, moved);
         Ok(Bytes::from_vec(bytes))
+    }
+
+    /// How many of `count` bytes a file has from a place on. Of a store that is not honest, it is where a read of the file would
+    /// end now.
+    fn readable<B: Backing>(&self, backing: &B, file: FileId, at: u32, count: u32) -> u32
+        requires sound { IsSound (state_of self.now) }
+        requires there { is_numbered (state_of self.now).cache.files file ≡ true }
+        ensures { IsReadable (B.disk backing.now) (state_of self.now).cache file at count result }
+    {
+        let end = self.files.cache.file_length(backing, file);
+        count.min(end.saturating_sub(at))
+    }
+}
+
+// Adds the bytes of an aggregate to a list that has room for them.
+fn copy_out(agg: &Agg, store: &Store, bytes: &mut Vec<u8>)
+    requires readable { AllReadable store.now agg.now }
+    requires room { vec_len bytes.old + byte_len agg.now ≤ vec_capacity bytes.old }
+    ensures { bytes.new.items ≡ bytes.old.items ++ bytes_of (text_of store.now agg.now) }
+{
+    for part in agg.parts(store) {
+        let Ok(()) = bytes.extend_from_slice(part) else {
+            unreachable!()
+        };
     }
 }

@@ -14,6 +14,13 @@
 //!
 //! A refused call changes nothing of what the system means; where it wants pages, clean extents may
 //! have gone. Between any two calls it is sound (`IsSound`).
+//!
+//! ```text
+//! let mut kernel = Kernel::new(alloc, config)?;
+//! kernel.set_pool(domain, pool)?;
+//! let agg = kernel.agg_make(domain, &bytes)?;
+//! let part = kernel.agg_cut(domain, agg, 0, 5)?; // the first five bytes, where they lie
+//! ```
 #![tactic(auto)]
 
 pub mod aggregates;
@@ -23,6 +30,7 @@ pub mod copying_files;
 pub mod descriptors;
 pub mod domains;
 mod evicting;
+mod file_table;
 mod files;
 mod filling_files;
 mod flushing;

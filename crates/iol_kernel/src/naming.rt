@@ -72,7 +72,7 @@ impl Kernel {
     fn is_named(&self, name: &Bytes) -> bool
         ensures { (f : Reading) → result ≡ is_some (file_called (as_read f self.now) name.now) }
     {
-        self.files.has(name.as_slice())
+        self.files.table.has(name.as_slice())
     }
 
     /// Opens a file in a mode, as the caller's lowest free number, at position 0.
@@ -103,7 +103,7 @@ impl Kernel {
         ensures called { (f : Reading) → result ≡ file_called (as_read f self.now) name.now }
         ensures there { IfSome result (λ n. is_numbered (state_of self.now).files n ≡ true) }
     {
-        self.files.called(name.as_slice())
+        self.files.table.called(name.as_slice())
     }
 
     /// The pool of a file's bytes.
@@ -111,7 +111,7 @@ impl Kernel {
         requires { is_numbered (state_of self.now).files file ≡ true }
         ensures { (f : Reading) → result ≡ (state.file (as_read f self.now) file).pool }
     {
-        self.files.pool_of(file)
+        self.files.table.pool_of(file)
     }
 
     /// Opens a file that is there, at position 0.
@@ -133,7 +133,7 @@ impl Kernel {
     fn file_count(&self) -> usize
         ensures { (f : Reading) → result ≡ length (as_read f self.now).files }
     {
-        self.files.list.len()
+        self.files.table.len()
     }
 
     /// Whether the bytes stored in the next slot are more than a file may have.
@@ -143,7 +143,7 @@ impl Kernel {
             nat_lt MAX_FILE_BYTES (length (content (as_read f self.now) (length (as_read f self.now).files + 1)))) }
         ensures told { TellsNext (state_of self.now) result }
     {
-        let count = self.files.list.len();
+        let count = self.files.table.len();
         if count >= MAX_FILES {
             return false;
         }
@@ -155,6 +155,7 @@ impl Kernel {
     fn add_file(&mut self, by: DomainId, name: &Bytes, pool: PoolId) -> Result<FileId, AllocError>
         requires sound { IsSound (state_of self.old) }
         requires few { length (machine self.old).files < MAX_FILES }
+        requires new { is_some (file_called (machine self.old) name.now) ≡ false }
         requires open { (state.pool (machine self.old) pool).closed ≡ false }
         ensures done { IfOk result (λ n. AddsFile (λ s. calls.file_new s by name.now pool) self.old n
             self.new) }

@@ -189,7 +189,7 @@ impl Kernel {
     fn is_busy(&self, p: PoolId) -> bool
         ensures { (f : Reading) → result ≡ calls.is_busy (as_read f self.now) p }
     {
-        self.files.is_any_of(p) || self.conns.is_busy(p)
+        self.files.table.is_any_of(p) || self.conns.is_busy(p)
     }
 
     /// Closes a pool, which no file and no connection is of.

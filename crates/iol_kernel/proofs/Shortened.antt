@@ -1,0 +1,50 @@
+-- A read of no more bytes than a file has is a read of as many as were asked.
+use Rattle.std.proofs.Common.{◌≡◌, ℕ, ◌+◌, ◌-◌, ◌≤◌, min, max, length, List, take, drop, ap, ◌∙◌, refl, sym, arith}
+use Rattle.std.proofs.lemmas.List.{length-drop, take_min}
+use Rattle.iol_back.specs.Disk.{Disk}
+use Rattle.iol_hold.specs.Stored.{Stored}
+use Rattle.iol_hold.specs.declared.slices.Slice.{Slice}
+use Rattle.iol_cache.specs.Cached.{Cached}
+use Rattle.iol_cache.specs.Contents.{bytes_in_slot}
+use Rattle.iol_cache.specs.Evicting.{Holding}
+use Rattle.iol_cache.specs.Serving.{IsBacked, IsEnd, NoRoomToRead, Range, ReadsFile, RefusesRead, RoomToRead, bytes_read}
+use Rattle.iol_kernel.specs.FileReading.{IsReadable}
+
+module _ (disk : Disk) (f at n many : ℕ) where
+  -- the end that both have seen: an honest store has one
+  pub range_more : (c : Cached) → IsReadable disk c f at n many → Range disk c f at many → Range disk c f at n
+  range_more c told r = record {
+    end = max (min told.end r.end) (min at r.end);
+    ends = record {
+      short = omega (arith, r.ends.short);
+      is = λ honest. omega (arith, told.ends.is honest, r.ends.is honest);
+    };
+    from = r.from;
+    begins = omega (arith, r.begins);
+    to = r.to;
+    stops = omega (arith, r.stops, told.fewer);
+  }
+
+  module _ (old : Holding) (told : IsReadable disk old.cache f at n many) where
+    pub reads_more : (new : Holding) (xs : List Slice) → ReadsFile f at many disk old new xs → ReadsFile f at n disk old new xs
+    unfolding range_more
+    reads_more new xs r = record { range = range_more old.cache told r.range; reads = r.reads }
+
+    pub refuses_more : (new : Holding) → RefusesRead f at many disk old new → RefusesRead f at n disk old new
+    unfolding range_more
+    refuses_more new r = record { range = range_more old.cache told r.range; leaves = r.leaves }
+
+    pub room_more : RoomToRead f at many disk old → RoomToRead f at n disk old
+    unfolding range_more
+    room_more r = record { range = range_more old.cache told r.range; room = r.room }
+
+    pub lacks_more : NoRoomToRead f at many disk old → NoRoomToRead f at n disk old
+    unfolding range_more
+    lacks_more r = record { range = range_more old.cache told r.range; lacks = r.lacks }
+
+    pub bytes_more : IsBacked disk old → bytes_read old.store disk.slots old.cache f at many ≡ bytes_read old.store disk.slots old.cache f at n
+    bytes_more backed =
+        let bytes : List ℕ = bytes_in_slot old.store disk.slots old.cache.files f in
+        let left : List ℕ = drop at bytes in
+        let some : many ≡ min n (length left) = omega (arith, told.fewer, told.whole old.store backed, length-drop at bytes) in
+        ap (λ k. take k left) some ∙ take_min n left
