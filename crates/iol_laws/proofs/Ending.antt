@@ -41,7 +41,7 @@ record MayClose (k u : Connection) (closes : Bool) : Type 0 where
   closed : k.closed ≡ true → u.closed ≡ true
   shuts : closes ≡ true → u.closed ≡ true
 
-shut : (s : State) (c : ℕ) → Once s.conns → let u : Connection = conn_at (fds.closed_on s (Some (on.Connection c))) c in (u.outgoing ≡ (conn_at s c).outgoing) × (u.closed ≡ true)
+pub shut : (s : State) (c : ℕ) → Once s.conns → let u : Connection = conn_at (fds.closed_on s (Some (on.Connection c))) c in (u.outgoing ≡ (conn_at s c).outgoing) × (u.closed ≡ true)
 shut s c once = by (is_over x) refl (lookup s.conns c) refl
   where
     x : Connection
@@ -68,7 +68,7 @@ may_close s (Some (on.Connection e)) c once = elim (cases_eq e c) [
   | inr differ ↦ (let un : (e == c) ≡ false = grind (arith, nat_tests, differ) in subst (λ b. MayClose (conn_at s c) (conn_at (fds.closed_on s (Some (on.Connection e))) c) b) (sym un) (stays (conn_at s c) _ (conns_conn s e _ c differ)))
 ]
 
-once-closed_on : (s : State) (o : Option Descriptor) → Once s.conns → Once (fds.closed_on s o).conns
+pub once-closed_on : (s : State) (o : Option Descriptor) → Once s.conns → Once (fds.closed_on s o).conns
 unfolding with_pipe
 once-closed_on s None once = once
 once-closed_on s (Some (on.File f at mode)) once = once

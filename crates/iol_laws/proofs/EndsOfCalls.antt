@@ -159,7 +159,7 @@ pipe-none : (s : State) → pipe_at s (lowest s.pipes) ≡ no_pipe
 unfolding pipe_at
 pipe-none s = ap (λ o. unwrap_or o no_pipe) (lowest-free s.pipes)
 
-pipe-other : (s : State) (q : ℕ) → lowest s.pipes ≢ q → pipe_at (record s { pipes = placed s.pipes (lowest s.pipes) new_pipe }) q ≡ pipe_at s q
+pub pipe-other : (s : State) (q : ℕ) → lowest s.pipes ≢ q → pipe_at (record s { pipes = placed s.pipes (lowest s.pipes) new_pipe }) q ≡ pipe_at s q
 unfolding pipe_at
 pipe-other s q differ = ap (λ o. unwrap_or o no_pipe) (place-placed_other s.pipes q new_pipe differ)
 

@@ -30,7 +30,7 @@ pub record SameStanding (x y : Domain Text) : Type 0 where
 abbrev pub KeepsStanding : (s t : State) → Type 0
 KeepsStanding s t = (d : ℕ) → SameStanding (domain s d) (domain t d)
 
-standing_same : (s t : State) → t.domains ≡ s.domains → KeepsStanding s t
+pub standing_same : (s t : State) → t.domains ≡ s.domains → KeepsStanding s t
 standing_same s t same d = (let e = domain-same s t d same in record { live = ap (λ (x : Domain Text). x.live) e; default = ap (λ (x : Domain Text). x.default) e })
 
 standing_domain : (s : State) (by : ℕ) (y : Domain Text) → SameStanding (domain s by) y → KeepsStanding s (with_domain s by y)
@@ -45,10 +45,10 @@ standing_domain s by y same d = elim (domain-with_domain s by d y) [
 standing_then : (s t u : State) → KeepsStanding s t → KeepsStanding t u → KeepsStanding s u
 standing_then s t u one two d = record { live = (two d).live ∙ (one d).live; default = (two d).default ∙ (one d).default }
 
-standing_fds : (s : State) (d : ℕ) (xs : List (Option Descriptor)) → KeepsStanding s (fds.with_fds s d xs)
+pub standing_fds : (s : State) (d : ℕ) (xs : List (Option Descriptor)) → KeepsStanding s (fds.with_fds s d xs)
 standing_fds s d xs = standing_domain s d (record (domain s d) { fds = xs }) (record { live = refl; default = refl })
 
-standing_agg : (s : State) (d : ℕ) (kept : List (ℕ × Text)) (x : Text) → KeepsStanding s (aggs.with_new s d kept x)
+pub standing_agg : (s : State) (d : ℕ) (kept : List (ℕ × Text)) (x : Text) → KeepsStanding s (aggs.with_new s d kept x)
 standing_agg s d kept x = standing_domain s d _ (record { live = refl; default = refl })
 
 standing_agg_give : (s : State) (by a to : ℕ) → KeepsStanding s (aggs.agg_give s by a to).after
@@ -66,7 +66,7 @@ standing_given s by fd to (Some x) = cases (by == to)
     cases true = standing_fds s by _
     cases false = standing_then s (fds.opened s to x) _ (standing_fds s to _) (standing_fds (fds.opened s to x) by _)
 
-standing_read_on : (s : State) (by fd : ℕ) (o : Option Descriptor) (n : ℕ) → KeepsStanding s (reading.read_on s by fd o n)
+pub standing_read_on : (s : State) (by fd : ℕ) (o : Option Descriptor) (n : ℕ) → KeepsStanding s (reading.read_on s by fd o n)
 standing_read_on s by fd None n = standing_same s s refl
 standing_read_on s by fd (Some (on.File f at mode)) n = standing_fds s by _
 standing_read_on s by fd (Some (on.ReadEnd p)) n = standing_same s _ (domains-with_pipe s p _)

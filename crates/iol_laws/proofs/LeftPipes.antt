@@ -36,7 +36,7 @@ pub pipes_pipe : (s : State) (q : ℕ) (x : Pipe) (p : ℕ) → q ≢ p → pipe
 unfolding pipe_at with_pipe
 pipes_pipe s q x p differ = ap (λ o. unwrap_or o no_pipe) (place-set_other s.pipes q p (if x.reading || x.writing then Some x else None) differ)
 
-pipes-with_conn : (s : State) (c : ℕ) (x : Connection) → (with_conn s c x).pipes ≡ s.pipes
+pub pipes-with_conn : (s : State) (c : ℕ) (x : Connection) → (with_conn s c x).pipes ≡ s.pipes
 unfolding with_conn
 pipes-with_conn s c x = refl
 

@@ -14,9 +14,13 @@ pub mod Waiting
 pub mod Ends
 pub mod EndsKept
 pub mod EndsOfCalls
+pub mod Gone
+pub mod Held
+pub mod HeldOfCalls
 pub mod Unaccepted
 pub mod NumbersToCome
 pub mod Ordered
+pub mod NoneLive
 pub mod Texts
 pub mod Numbers
 pub mod Ended

@@ -1,8 +1,8 @@
--- What holds between events: each end and each connection is open in one descriptor at most, what is open stands, and
--- numbers that are still to come are not used yet.
-use Rattle.std.specs.Prelude.{◌≡◌, ℕ, ◌≤◌, ◌&&◌, Bool, true, false, not, List, [], ◌∷◌, length, Some, None}
-use Rattle.iol_core.specs.Numbered.{lookup}
-use Rattle.iol_core.specs.State.{State, domain, aggregate, descriptor, conn_at, pipe_at, new_state}
+-- What holds between events: each end and each connection is open in one descriptor at most, what is open stands, and what
+-- stands is open; numbers that are still to come are not used yet, and nothing is left of a domain that ended.
+use Rattle.std.specs.Prelude.{◌≡◌, ℕ, ◌≤◌, ◌&&◌, ◌||◌, Bool, true, false, not, List, [], ◌∷◌, length, Some, None}
+use Rattle.iol_core.specs.Numbered.{lookup, in_place}
+use Rattle.iol_core.specs.State.{State, Pipe, domain, is_live, aggregate, descriptor, conn_at, pipe_at, new_state, no_domain}
 use Rattle.iol_core.specs.Access.{HasAccess}
 use Rattle.iol_core.specs.Positions.{ArePlaced}
 use Rattle.iol_core.specs.declared.limits.TheConstants.{MAX_FILES}
@@ -20,6 +20,13 @@ stands s (on.ReadEnd p) = (pipe_at s p).reading
 stands s (on.WriteEnd p) = (pipe_at s p).writing
 stands s (on.Connection c) = (conn_at s c).accepted && not (conn_at s c).closed
 
+-- a domain that lives has it open
+pub record IsOpen (s : State) (x : Descriptor) : Type 0 where
+  pub by : ℕ
+  pub fd : ℕ
+  pub live : is_live s by ≡ true
+  pub there : descriptor s by fd ≡ Some x
+
 -- each number stands once
 abbrev pub Once : {A : Type 0} → List (ℕ × A) → Type 0
 Once [] = Unit {0}
@@ -31,6 +38,12 @@ pub record IsOrderly (s : State) : Type 0 where
       → descriptor s e g ≡ Some x → (d ≡ e) × (f ≡ g)
   -- what is open stands
   pub all_stand : (d f : ℕ) (x : Descriptor) → descriptor s d f ≡ Some x → stands s x ≡ true
+  -- what stands is open: each open end of a pipe, and each connection that was accepted and is not closed
+  pub held : (x : Descriptor) → is_file (Some x) ≡ false → stands s x ≡ true → IsOpen s x
+  -- a pipe that is there has an open end
+  pub ends : (p : ℕ) (x : Pipe) → in_place s.pipes p ≡ Some x → (x.reading || x.writing) ≡ true
+  -- nothing is left of a domain that ended
+  pub gone : (d : ℕ) → is_live s d ≡ false → domain s d ≡ no_domain
   -- a connection that nobody accepted yet is not closed, and nothing is to be sent on it
   pub waits : (c : ℕ) → (conn_at s c).accepted ≡ false → (conn_at s c).closed ≡ false
   pub silent : (c : ℕ) → (conn_at s c).accepted ≡ false → (conn_at s c).outgoing ≡ []

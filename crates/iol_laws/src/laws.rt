@@ -16,8 +16,9 @@ pub fn each_step_leaves_the_rest()
 {}
 
 /// A new state is orderly, and each step keeps it so: each end of a pipe and each connection is open in one descriptor
-/// at most, what is open stands, and numbers that are still to come are not used yet. What domains have they may read, and
-/// positions are within files, from a new state on, too.
+/// at most, what is open stands, and what stands is open in a domain that lives; a pipe that is there has an open end,
+/// nothing is left of a domain that ended, and numbers that are still to come are not used yet. What domains have they may
+/// read, and positions are within files, from a new state on, too.
 pub fn each_step_keeps_order()
     ensures { EachStepKeepsOrder }
 {}
