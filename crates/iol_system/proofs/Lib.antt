@@ -3,6 +3,7 @@ pub mod Safe
 pub mod Beside
 pub mod Orderly
 pub mod Used
+pub mod Freed
 pub mod Paged
 pub mod Empty
 pub mod Served

@@ -10,6 +10,7 @@ use Rattle.iol_hold.specs.Moves.{Stays}
 use Rattle.iol_back.specs.Disk.{IfHonest}
 use Rattle.iol_kernel.specs.KernelState.{layout_of}
 use Rattle.iol_laws.specs.Order.{IsOrderly}
+use Rattle.iol_system.specs.Freed.{IsAllFree, IsLeft}
 use Rattle.iol_system.specs.Machine.{SystemState, machine_of, tables_of}
 use Rattle.iol_system.specs.Promises.{Promises, Chain}
 use Rattle.iol_system.specs.Safe.{IsSafe}
@@ -90,3 +91,7 @@ EachPageHasOneUse = (s : SystemState) → IsSafe s → (q : ℕ) → HasOneUse s
 -- Between any two events each chunk that is taken is of just one pool.
 abbrev pub EachChunkHasOnePool : Type 0
 EachChunkHasOnePool = (s : SystemState) → IsSafe s → (c : ℕ) → c < chunk_count s.kernel.store.arena → is_taken s.kernel.store.arena c ≡ true → HasOnePool s.kernel.store c
+
+-- Where no domain and no connection is live and no extent is left, every page that is not retired is free.
+abbrev pub AllPagesComeFree : Type 0
+AllPagesComeFree = (s : SystemState) → IsSafe s → IsOrderly (machine_of s) → IsLeft s → IsAllFree s.kernel.store

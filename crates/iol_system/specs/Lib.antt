@@ -14,3 +14,4 @@ pub mod Asking
 pub mod Doing
 pub mod WrittenBack
 pub mod InPlace
+pub mod Freed

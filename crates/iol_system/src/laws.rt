@@ -1,7 +1,7 @@
 //! Laws of runs: what follows from a run's clause `chain`, whatever the events; and of what lies in a system between any
 //! two of them. The functions do nothing; their contracts are the laws.
 ghost use Rattle.iol_system.specs.Laws.{RunsAsTheMachine, RunsInParts, EachEventIsAStep};
-ghost use Rattle.iol_system.specs.Laws.{EachPageHasOneUse, EachChunkHasOnePool};
+ghost use Rattle.iol_system.specs.Laws.{AllPagesComeFree, EachPageHasOneUse, EachChunkHasOnePool};
 ghost use Rattle.iol_system.specs.Laws.{RunsStaySafe, RunsStayOrderly, RunsKeepBuffers, RunsKeepValues, RunsShare};
 
 /// The replies of a run, and the state after it, are those of the machine that copies at every call.
@@ -25,7 +25,8 @@ pub fn runs_stay_safe()
 {}
 
 /// A run from a system whose machine is orderly ends in one: each end of a pipe and each connection is open in one descriptor
-/// at most, what is open stands, and numbers that are still to come are not used yet. So the laws of the machine hold of it.
+/// at most, what is open stands, what stands is open in a domain that lives, and numbers that are still to come are not used
+/// yet. So the laws of the machine hold of it.
 pub fn runs_stay_orderly()
     ensures { RunsStayOrderly }
 {}
@@ -53,4 +54,10 @@ pub fn each_page_has_one_use()
 /// Between any two events each chunk that is taken is of just one pool.
 pub fn each_chunk_has_one_pool()
     ensures { EachChunkHasOnePool }
+{}
+
+/// Where no domain and no connection is live and no extent of a file is left, every page of every pool is free, but for those
+/// that are retired. With [`runs_stay_safe`] and [`runs_stay_orderly`] that holds at each moment of a run.
+pub fn all_pages_come_free()
+    ensures { AllPagesComeFree }
 {}

@@ -3,6 +3,20 @@
 //! [`System::run`](system::System::run) carries the headline: whatever the list of events, the replies and the state
 //! after them are those of a machine that copies at every call (`iol_core`, `specs/Run`). What a system holds, and
 //! the machine's state that it stands for, is `iol_kernel`'s `specs/KernelState`; when there is room, `specs/Room`.
+//!
+//! The contract. `System::run`: the machine's replies and state (`chain`, `run`), what aggregates once read stay (`values`),
+//! and a list that finds no memory for its replies has done nothing (`err`). `step`, and `step_ref` of an event that is lent:
+//! the machine's step (`step`, `beside`), when the store is asked and blamed (`unasked`, `faults`, `asked`, `slots`), refusals
+//! (`room`, `no_room`, `early`, `refused`), sharing (`shares`, `pages`, `still`, `in_place`, `shares_file`), generations
+//! (`publishes`, `creates`), sums (`sums`), writing back (`synced`, `flushed`, `dropped`, `stores_back`), and what always holds
+//! (`safe`, `stays`, `honest`). `arrive_from` and `drain_to` serve a reader and a writer in place; `parts` and `aggregates`
+//! lend bytes; `report` counts. `laws` carries each of these over whole runs, and says that
+//! all pages come free once nobody is left.
+//!
+//! ```text
+//! let mut system = System::new(alloc, config, MemoryBacking::new(Slots::new(alloc)))?;
+//! let reply = system.step(Event::Call { by: DomainId::new(1), call: Call::DomainNew });
+//! ```
 #![tactic(auto)]
 
 pub mod aggregates;
