@@ -5,8 +5,10 @@ use Rattle.iol_core.specs.declared.events.Event.{Event}
 use Rattle.iol_core.specs.declared.events.Event.TheVariants as event
 use Rattle.iol_core.specs.declared.events.Reply.{Reply}
 use Rattle.iol_system.specs.Machine.{SystemState}
-use Rattle.iol_system.specs.Promises.{Chain}
-use Rattle.iol_proc.specs.Laws.{HasEvents}
+use Rattle.iol_system.specs.Promises.{Promises, Chain}
+use Rattle.iol_system.proofs.Chains.{chain_honest}
+use Rattle.iol_proc.specs.Histories.{RunsAs}
+use Rattle.iol_proc.specs.Laws.{HasEvents, KeepsHonesty}
 use Rattle.iol_proc.specs.Turns.{Account, Comes, SeatTurn}
 use Rattle.iol_proc.specs.World.{Stage, sharing, DomainTurn, OutsideStep, WorldStep, WorldRun}
 use Rattle.iol_proc.specs.declared.choice.Choice.{Choice}
@@ -14,6 +16,7 @@ use Rattle.iol_proc.specs.declared.choice.Choice.TheVariants as choice
 use Rattle.iol_proc.specs.declared.process.Turn.{Turn}
 use Rattle.iol_proc.specs.declared.process.Turn.TheVariants as turn
 use Rattle.iol_proc.specs.declared.seat.Seat.{Seat}
+use Rattle.iol_proc.proofs.Streams.{run_as}
 
 nothing : (old new : SystemState) → new ≡ old → HasEvents old new
 nothing old new same = record { events = []; replies = []; chain = same }
@@ -59,3 +62,19 @@ module _ {P : Type 0} (turns : Account P) where
   pub chained_of : {A E : Type 0} (items : A → List Reply) (old new : Stage SystemState P) (cs : List Choice) (r : Result A E) → IfOk r (λ v. WorldRun sharing turns old cs (items v) new) → OnErr r (new ≡ old) → HasEvents old.machine new.machine
   chained_of items old new cs (Ok v) ran same = run_chained old cs (items v) new ran
   chained_of items old new cs (Err e) ran same = nothing old.machine new.machine (ap (λ (v : Stage SystemState P). v.machine) same)
+
+-- a store is as honest after events as before
+pub honesty_kept : (old new : SystemState) → HasEvents old new → KeepsHonesty old new
+honesty_kept old new e = record { same = chain_honest old new e.events e.replies e.chain }
+
+-- The choices of a run are events of the system, with the same histories.
+
+chain_none : (old new : SystemState) → new ≡ old → Chain old [] [] new
+chain_none old new same = same
+
+chain_step : (old mid new : SystemState) (e : Event) (r : Reply) (es : List Event) (rs : List Reply) → Promises old e r mid → Chain mid es rs new → Chain old (e ∷ es) (r ∷ rs) new
+chain_step old mid new e r es rs step rest = (mid, step, rest)
+
+module _ {P : Type 0} (turns : Account P) where
+  pub system_as : (w after : Stage SystemState P) (xs : List Choice) (rs : List Reply) → WorldRun sharing turns w xs rs after → RunsAs Chain w.machine xs rs after.machine
+  system_as w after xs rs ran = run_as sharing turns Chain chain_none chain_step w after xs rs ran

@@ -7,3 +7,4 @@ pub mod Plain
 pub mod Runs
 pub mod Seating
 pub mod Settling
+pub mod Streams

@@ -7,8 +7,8 @@ use Rattle.iol_core.specs.declared.events.Reply.{Reply}
 use Rattle.iol_core.specs.declared.events.Reply.TheVariants.{Refused}
 use Rattle.iol_core.specs.declared.refusals.Refusal.TheVariants.{Memory, WouldBlock}
 use Rattle.iol_proc.specs.Idle.{Went, RoundRun, more_of_two, counted, counted_over, yields_of, is_idle, Idles}
-use Rattle.iol_proc.specs.Lent.{lent_at}
-use Rattle.iol_proc.specs.Settled.{Settling, AreSettled, AllSettled, Settles}
+use Rattle.iol_proc.specs.Lent.{lent_to}
+use Rattle.iol_proc.specs.Settled.{Claim, AreSettled, AllSettled, Settles}
 use Rattle.iol_proc.specs.Turns.{Account, Comes, SeatTurn}
 use Rattle.iol_proc.specs.World.{Stage, PlaceTurn, copying}
 use Rattle.iol_proc.specs.declared.process.Turn.{Turn}
@@ -19,7 +19,7 @@ use Rattle.iol_proc.specs.declared.seat.Seat.{Seat}
 two_at_most : (n : ℕ) → n ≤ 2 → more_of_two n ≤ 2
 two_at_most n most = grind (arith, nat_tests, most)
 
-module _ {P : Type 0} (S : Settling P) (turns : Account P) where
+module _ {P : Type 0} (S : Claim P) (turns : Account P) where
   zeros : Settles S turns → (ns : List ℕ) (ss : List (Seat P)) (m : State) → length ns ≡ length ss → AreSettled S (replicate (length ns) 0) ss m
   zeros f [] [] m e = tt
   zeros f (n ∷ ns) (s ∷ ss) m e = (omega arith, f.first s.by s.process s.last m, zeros f ns ss m (omega (arith, e)))
@@ -56,12 +56,12 @@ module _ {P : Type 0} (S : Settling P) (turns : Account P) where
   even (n ∷ ns) [] m h = absurd h
 
   -- a yield leaves the machine, and moves the process on
-  yield_comes : Settles S turns → (n by : ℕ) (p q : P) (l r : Reply) (m after : State) (t : Turn) → S n by p l m → turns p l (lent_at m by) t q → Comes copying turns m by t true r after → (after ≡ m) × S (more_of_two n) by q r m
+  yield_comes : Settles S turns → (n by : ℕ) (p q : P) (l r : Reply) (m after : State) (t : Turn) → S n by p l m → turns p l (lent_to m by) t q → Comes copying turns m by t true r after → (after ≡ m) × S (more_of_two n) by q r m
   yield_comes f n by p q l r m after turn.Yield s goes comes = (comes.2, subst (λ (x : Reply). S (more_of_two n) by q x m) (sym comes.1) (f.yields n by p q l m s goes))
   yield_comes f n by p q l r m after (turn.Make c) s goes comes = absurd (let no_yield : true ≡ false = comes.0 in cc)
 
   -- a call that is answered WouldBlock leaves the machine, and keeps what holds of the process
-  block_comes : Settles S turns → (n by : ℕ) (p q : P) (l : Reply) (m after : State) (t : Turn) → S n by p l m → turns p l (lent_at m by) t q → Comes copying turns m by t false (Refused WouldBlock) after → (after ≡ m) × S n by q (Refused WouldBlock) m
+  block_comes : Settles S turns → (n by : ℕ) (p q : P) (l : Reply) (m after : State) (t : Turn) → S n by p l m → turns p l (lent_to m by) t q → Comes copying turns m by t false (Refused WouldBlock) after → (after ≡ m) × S n by q (Refused WouldBlock) m
   block_comes f n by p q l m after turn.Yield s goes comes = absurd (let no_call : false ≡ true = comes.0 in cc)
   block_comes f n by p q l m after (turn.Make c) s goes comes = (comes.1.1, f.blocks n by p q l m c s goes (comes.1.0, refl))
 
@@ -125,3 +125,12 @@ module _ {P : Type 0} (S : Settling P) (turns : Account P) where
   settled_idle f w most after i =
       all_settled (yields_of (length w.seats) i.went) after.seats after.machine
       (settled_over f (replicate (length w.seats) 0) w 0 i.went after (first_zeros f w.seats w.machine) i.ran) (sym i.told)
+
+  -- so is the one at each place
+  one_settled : (ss : List (Seat P)) (m : State) (k : ℕ) (seat : Seat P) → AllSettled S ss m → slice_get ss k ≡ Some seat → S 2 seat.by seat.process seat.last m
+  one_settled [] m k seat h e = absurd (cc)
+  one_settled (s ∷ ss) m zero seat h e = let same : s ≡ seat = cc in subst (λ (v : Seat P). S 2 v.by v.process v.last m) same h.0
+  one_settled (s ∷ ss) m (suc k) seat h e = one_settled ss m k seat h.1 e
+
+  pub each_settled : Settles S turns → (w : Stage State P) (most place : ℕ) (after : Stage State P) (seat : Seat P) → Idles copying turns w most true after → slice_get after.seats place ≡ Some seat → S 2 seat.by seat.process seat.last after.machine
+  each_settled f w most place after seat i e = one_settled after.seats after.machine place seat (settled_idle f w most after i) e

@@ -1,5 +1,5 @@
 -- Laws of runs of a world: what follows from a run on a system, whatever its store.
-use Rattle.std.specs.Prelude.{List}
+use Rattle.std.specs.Prelude.{◌≡◌, List}
 use Rattle.iol_core.specs.declared.events.Event.{Event}
 use Rattle.iol_core.specs.declared.events.Reply.{Reply}
 use Rattle.iol_system.specs.Machine.{SystemState}
@@ -11,3 +11,7 @@ pub record HasEvents (old new : SystemState) : Type 0 where
   pub events : List Event
   pub replies : List Reply
   pub chain : Chain old events replies new
+
+-- A store is as honest after it as before: one that is honest stays so.
+pub record KeepsHonesty (old new : SystemState) : Type 0 where
+  pub same : new.disk.honest ≡ old.disk.honest

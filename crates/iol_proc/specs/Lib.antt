@@ -1,4 +1,5 @@
 pub mod Borrowed
+pub mod Histories
 pub mod Idle
 pub mod Laws
 pub mod Lent

@@ -1,9 +1,9 @@
 -- What a look lends.
 use Rattle.std.specs.Prelude.{ℕ, List, Option}
 use Rattle.iol_system.specs.Machine.{tables_of}
-use Rattle.iol_proc.specs.Lent.{lent_at}
+use Rattle.iol_proc.specs.Lent.{lent_to}
 use Rattle.iol_proc.specs.declared.look.Look.{Look}
 
 -- the bytes of each aggregate of its domain
 abbrev pub lent : Look → (agg : ℕ) → Option (List ℕ)
-lent look = lent_at (tables_of look.aggregates) look.by
+lent look = lent_to (tables_of look.aggregates) look.by

@@ -9,21 +9,22 @@ use Rattle.iol_core.specs.declared.events.Event.{Event}
 use Rattle.iol_core.specs.declared.events.Reply.{Reply}
 use Rattle.iol_core.specs.declared.events.Reply.TheVariants as reply
 use Rattle.iol_core.specs.declared.refusals.Refusal.TheVariants.{NoDomain}
+use Rattle.iol_laws.specs.Caller.{is_rough}
 use Rattle.iol_system.specs.Machine.{SystemState, machine_of}
 use Rattle.iol_system.specs.Promises.{Promises}
-use Rattle.iol_proc.specs.Lent.{lent_at}
-use Rattle.iol_proc.specs.Turns.{Machine, Account, SeatTurn, is_rough}
+use Rattle.iol_proc.specs.Lent.{lent_to}
+use Rattle.iol_proc.specs.Turns.{Machine, Account, SeatTurn}
 use Rattle.iol_proc.specs.declared.choice.Choice.{Choice}
 use Rattle.iol_proc.specs.declared.choice.Choice.TheVariants as choice
 use Rattle.iol_proc.specs.declared.seat.Seat.{Seat}
 
 -- the machine that copies at every call
 abbrev pub copying : Machine State
-copying = record { Step = StepsTo; lends = lent_at }
+copying = record { Step = StepsTo; lends = lent_to }
 
 -- a system, with all that each step of it promises
 abbrev pub sharing : Machine SystemState
-sharing = record { Step = Promises; lends = λ s by. lent_at (machine_of s) by }
+sharing = record { Step = Promises; lends = λ s by. lent_to (machine_of s) by }
 
 -- a machine, the processes that use it, each with its last reply, and whether a turn was rough
 pub record Stage (M P : Type 0) : Type 0 where

@@ -12,6 +12,8 @@
 
 mod borrowed;
 pub mod choice;
+pub mod idle;
+pub mod laws;
 pub mod look;
 pub mod process;
 mod replies;

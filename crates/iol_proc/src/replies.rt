@@ -1,7 +1,8 @@
 //! Replies: one again, and what turns look for in them.
 ghost use Rattle.std.specs.Prelude.{◌≡◌};
+ghost use Rattle.iol_laws.specs.Caller.{is_rough};
 ghost use Rattle.iol_proc.specs.Quiet.{IsPlain};
-ghost use Rattle.iol_proc.specs.Turns.{is_rough, is_would_block};
+ghost use Rattle.iol_proc.specs.Turns.{is_would_block};
 
 use iol_core::events::Reply;
 use iol_core::refusals::Refusal;

@@ -7,9 +7,9 @@ ghost use Rattle.iol_back.specs.Disk.{IfHonest};
 ghost use Rattle.iol_cache.specs.Cached.{extents_in_all, dirty_in_all};
 ghost use Rattle.iol_kernel.specs.Report.{reports_of};
 ghost use Rattle.iol_proc.specs.Idle.{Idles};
-ghost use Rattle.iol_proc.specs.Laws.{HasEvents};
+ghost use Rattle.iol_proc.specs.Laws.{HasEvents, KeepsHonesty};
 ghost use Rattle.iol_proc.specs.Looks.{lent};
-ghost use Rattle.iol_proc.specs.Lent.{lent_at};
+ghost use Rattle.iol_proc.specs.Lent.{lent_to};
 ghost use Rattle.iol_system.specs.Machine.{machine_of};
 ghost use Rattle.iol_proc.specs.World.{Stage, copying, sharing, copied, seat_of, domains_of, IsRising, IsSeated, WorldStep, WorldRun, DomainTurn, OutsideStep};
 
@@ -79,7 +79,7 @@ impl<B: Backing + Drop, P: Process> World<B, P> {
 
     /// Lends the aggregates of a domain, as its process sees them.
     pub fn look(&self, by: DomainId) -> Look<'_>
-        ensures { lent result ≡ lent_at (machine_of self.now.machine) by }
+        ensures { lent result ≡ lent_to (machine_of self.now.machine) by }
     {
         Look::new(self.system.aggregates(), by)
     }
@@ -106,6 +106,7 @@ impl<B: Backing + Drop, P: Process> World<B, P> {
         ensures copied { IfHonest self.old.machine.disk
             (OutsideStep copying P.turns (copied self.old) event result (copied self.new)) }
         ensures events { HasEvents self.old.machine self.new.machine }
+        ensures honest { KeepsHonesty self.old.machine self.new.machine }
     {
         self.outside(&event)
     }
@@ -150,6 +151,7 @@ impl<B: Backing + Drop, P: Process> World<B, P> {
         ensures run { IfHonest self.old.machine.disk (IfOk result (λ replies. WorldRun copying
             P.turns (copied self.old) choices.now replies.items (copied self.new))) }
         ensures events { HasEvents self.old.machine self.new.machine }
+        ensures honest { KeepsHonesty self.old.machine self.new.machine }
         ensures err { OnErr result (self.new ≡ self.old) }
     {
         self.step_all(choices)
@@ -176,6 +178,7 @@ impl<B: Backing + Drop, P: Process> World<B, P> {
         ensures run { IfHonest self.old.machine.disk
             (Idles copying P.turns (copied self.old) turns result (copied self.new)) }
         ensures events { HasEvents self.old.machine self.new.machine }
+        ensures honest { KeepsHonesty self.old.machine self.new.machine }
     {
         self.go_round(turns)
     }

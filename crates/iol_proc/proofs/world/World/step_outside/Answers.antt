@@ -1,4 +1,4 @@
-use Rattle.iol_proc.proofs.Chained.{outside_chained}
+use Rattle.iol_proc.proofs.Chained.{outside_chained, honesty_kept}
 use Rattle.iol_proc.proofs.Copied.{outside_copied}
 use Rattle.iol_proc.proofs.world.World.step_outside.Goals as goal
 
@@ -7,3 +7,6 @@ returns-clause-copied g c = λ honest. (outside_copied g.P.Process.turns c.args.
 
 pub returns-clause-events : goal.returns-clause-events
 returns-clause-events g c = outside_chained g.P.Process.turns c.args.self.now c.args.event c.outside.result c.outside.new.self c.outside.ensures
+
+pub returns-clause-honest : goal.returns-clause-honest
+returns-clause-honest g c = honesty_kept _ _ (outside_chained g.P.Process.turns c.args.self.now c.args.event c.outside.result c.outside.new.self c.outside.ensures)

@@ -1,0 +1,89 @@
+-- What came in on each connection and what was sent on it, by number, over choices and their replies.
+--
+-- Of a single event it is what `iol_laws` says (`History`). A turn brings nothing in and sends nothing: a process reads and
+-- writes what waits, and what happens outside fills it and sends it.
+use Rattle.std.specs.Prelude.{◌≡◌, ℕ, Bool, false, List, [], ◌∷◌, ◌++◌}
+use Rattle.std.specs.List.{list_any}
+use Rattle.iol_core.specs.Text.{bytes_of}
+use Rattle.iol_core.specs.State.{State, conn_at}
+use Rattle.iol_core.specs.Run.{Run}
+use Rattle.iol_core.specs.declared.events.Event.{Event}
+use Rattle.iol_core.specs.declared.events.Reply.{Reply}
+use Rattle.iol_laws.specs.History.{came_by, sent_by, stream_of, sent_of, drops_unsent, IsEndOf, GoesFirst, IsAllUnread}
+use Rattle.iol_laws.specs.Order.{IsOrderly}
+use Rattle.iol_system.specs.Machine.{SystemState}
+use Rattle.iol_system.specs.Promises.{Chain}
+use Rattle.iol_proc.specs.Turns.{Account}
+use Rattle.iol_proc.specs.World.{Stage, copying, sharing, WorldRun}
+use Rattle.iol_proc.specs.declared.choice.Choice.{Choice}
+use Rattle.iol_proc.specs.declared.choice.Choice.TheVariants as choice
+
+-- the bytes that a choice brought in on a connection: of those that arrived as many as were taken
+abbrev pub came_with : (c : ℕ) → Choice → Reply → List ℕ
+came_with c (choice.Outside e) r = came_by c e r
+came_with c (choice.Turn by) r = []
+
+-- the bytes that it sent
+abbrev pub sent_with : (c : ℕ) → Choice → Reply → List ℕ
+sent_with c (choice.Outside e) r = sent_by c e r
+sent_with c (choice.Turn by) r = []
+
+-- over choices and their replies, in order
+unfoldable pub stream_over : (c : ℕ) → List Choice → List Reply → List ℕ
+stream_over c (x ∷ xs) (r ∷ rs) = came_with c x r ++ stream_over c xs rs
+stream_over c xs rs = []
+
+unfoldable pub sent_over : (c : ℕ) → List Choice → List Reply → List ℕ
+sent_over c (x ∷ xs) (r ∷ rs) = sent_with c x r ++ sent_over c xs rs
+sent_over c xs rs = []
+
+-- whether it drops what is to be sent: the peer takes no more
+abbrev pub drops_with : Choice → (c : ℕ) → Bool
+drops_with (choice.Outside e) c = drops_unsent e c
+drops_with (choice.Turn by) c = false
+
+-- The choices are events, by processes and outside, in a run of the machine, and each connection has the same history.
+pub record RunsAs {M : Type 0} (Runs : M → List Event → List Reply → M → Type 0) (old : M) (xs : List Choice) (rs : List Reply) (new : M) : Type 0 where
+  pub events : List Event
+  pub replies : List Reply
+  pub runs : Runs old events replies new
+  pub stream : (c : ℕ) → stream_of c events replies ≡ stream_over c xs rs
+  pub sent : (c : ℕ) → sent_of c events replies ≡ sent_over c xs rs
+  pub drops : (c : ℕ) → list_any (λ e. drops_unsent e c) events ≡ list_any (λ x. drops_with x c) xs
+
+-- The machine's run up to here goes on with the choices: each connection's history is what it was, and then what they brought.
+pub record GoesOn (first : State) (past : List Event) (ps : List Reply) (xs : List Choice) (rs : List Reply) (new : State) : Type 0 where
+  pub events : List Event
+  pub replies : List Reply
+  pub run : Run first (past ++ events) (ps ++ replies) new
+  pub stream : (c : ℕ) → stream_of c (past ++ events) (ps ++ replies) ≡ stream_of c past ps ++ stream_over c xs rs
+  pub sent : (c : ℕ) → sent_of c (past ++ events) (ps ++ replies) ≡ sent_of c past ps ++ sent_over c xs rs
+
+pub record HistoriesOfChoices {P : Type 0} (turns : Account P) : Type 0 where
+  -- a run of a world is one of the machine that copies, and over any store it is one of the system
+  pub machine : (w after : Stage State P) (xs : List Choice) (rs : List Reply) → WorldRun copying turns w xs rs after
+      → RunsAs Run w.machine xs rs after.machine
+  pub system : (w after : Stage SystemState P) (xs : List Choice) (rs : List Reply) → WorldRun sharing turns w xs rs after
+      → RunsAs Chain w.machine xs rs after.machine
+  -- histories go on with what the choices brought and sent
+  pub goes_on : (first : State) (past : List Event) (ps : List Reply) (w after : Stage State P) (xs : List Choice) (rs : List Reply)
+      → Run first past ps w.machine → WorldRun copying turns w xs rs after → GoesOn first past ps xs rs after.machine
+  -- a run and then another are one run, whose history is that of the first and then that of the other
+  pub follows : (w mid after : Stage State P) (past future : List Choice) (rs qs : List Reply) → WorldRun copying turns w past rs mid
+      → WorldRun copying turns mid future qs after → WorldRun copying turns w (past ++ future) (rs ++ qs) after
+  pub stream : (w mid : Stage State P) (past future : List Choice) (rs qs : List Reply) (c : ℕ) → WorldRun copying turns w past rs mid
+      → stream_over c (past ++ future) (rs ++ qs) ≡ stream_over c past rs ++ stream_over c future qs
+  pub sent : (w mid : Stage State P) (past future : List Choice) (rs qs : List Reply) (c : ℕ) → WorldRun copying turns w past rs mid
+      → sent_over c (past ++ future) (rs ++ qs) ≡ sent_over c past rs ++ sent_over c future qs
+  -- what came is read in order, over any run
+  pub unread : (w after : Stage State P) (xs : List Choice) (rs : List Reply) (c : ℕ) → IsOrderly w.machine
+      → WorldRun copying turns w xs rs after
+      → IsEndOf (bytes_of (conn_at w.machine c).incoming) (stream_over c xs rs) (bytes_of (conn_at after.machine c).incoming)
+  -- what was to be sent is sent in order, over a run in which the peer goes on taking it
+  pub unsent : (w after : Stage State P) (xs : List Choice) (rs : List Reply) (c : ℕ) → IsOrderly w.machine
+      → WorldRun copying turns w xs rs after → list_any (λ x. drops_with x c) xs ≡ false
+      → GoesFirst (bytes_of (conn_at w.machine c).outgoing) (sent_over c xs rs) (bytes_of (conn_at after.machine c).outgoing)
+  -- over a run at whose end nobody has accepted it yet
+  pub waiting : (w after : Stage State P) (xs : List Choice) (rs : List Reply) (c : ℕ) → IsOrderly w.machine
+      → WorldRun copying turns w xs rs after → (conn_at w.machine c).accepted ≡ false → (conn_at after.machine c).accepted ≡ false
+      → IsAllUnread w.machine c (stream_over c xs rs) (sent_over c xs rs) after.machine

@@ -1,0 +1,19 @@
+//! Laws of worlds, for the proofs of what runs in them. The functions do nothing; their contracts are the laws.
+ghost use Rattle.iol_proc.specs.Histories.{HistoriesOfChoices};
+ghost use Rattle.iol_proc.specs.Settled.{IdleIsSettled};
+
+use crate::idle::Settling;
+use crate::process::Process;
+
+/// What came in on each connection and what was sent on it, over choices and their replies: the choices of a run are events of
+/// the machine with the same histories, what is unread is the end of what came, and what was to be sent is sent first.
+pub fn histories_of_choices<P: Process>()
+    ensures { HistoriesOfChoices P.turns }
+{}
+
+/// Where all is idle each process is settled: what it polled since its last yield was refused in this very state.
+pub fn idle_is_settled<P: Settling>()
+    ensures { IdleIsSettled P.settled P.turns }
+{
+    P::settles();
+}
