@@ -2,8 +2,10 @@
 use crate::start::TestWorld;
 use crate::worker::Worker;
 use iol_core::events::{Event, Reply};
-use iol_core::numbers::DomainId;
+use iol_core::numbers::{ConnId, DomainId};
+use iol_core::refusals::Refusal;
 use iol_proc::choice::Choice;
+use iol_sock::{Arrived, Drained};
 use std::alloc::AllocError;
 
 pub fn until_idle(world: &mut TestWorld, turns: usize) -> bool {
@@ -25,4 +27,22 @@ pub fn is_rough(world: &TestWorld) -> bool {
 /// The process of a domain.
 pub fn worker_of(world: &TestWorld, by: DomainId) -> Option<&Worker> {
     world.process(by)
+}
+
+pub fn arrive_from(
+    world: &mut TestWorld,
+    conn: ConnId,
+    reader: &mut &[u8],
+    max: u32,
+) -> Result<Arrived, Refusal> {
+    world.arrive_from(conn, reader, max)
+}
+
+pub fn drain_to(
+    world: &mut TestWorld,
+    conn: ConnId,
+    writer: &mut Vec<u8>,
+    max: u32,
+) -> Result<Drained, Refusal> {
+    world.drain_to(conn, writer, max)
 }

@@ -6,9 +6,17 @@ mod calls;
 #[cfg(test)]
 mod consumer;
 #[cfg(test)]
+mod echo;
+#[cfg(test)]
 mod producer;
 #[cfg(test)]
+mod served;
+#[cfg(test)]
 mod start;
+#[cfg(test)]
+mod watcher;
+#[cfg(test)]
+mod watching;
 #[cfg(test)]
 mod worker;
 #[cfg(test)]

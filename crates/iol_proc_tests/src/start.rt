@@ -61,8 +61,8 @@ fn pass_all(system: &mut TestSystem, calls: Vec<Call>) -> Result<(), Refusal> {
     Ok(())
 }
 
-// A system with a pipe from domain 1 to domain 2, and a pool of both.
-fn system_with_pipe(alloc: Global) -> Result<TestSystem, Fail> {
+/// A system with a pipe from domain 1 to domain 2, and a pool of both.
+pub fn system_with_pipe(alloc: Global) -> Result<TestSystem, Fail> {
     let calls = beginnings(alloc)?;
     let mut system = new_system(alloc)?;
     pass_all(&mut system, calls)?;

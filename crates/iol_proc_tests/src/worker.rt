@@ -2,6 +2,7 @@
 ghost use Rattle.std.specs.Prelude.{⊤};
 
 use crate::consumer::Consumer;
+use crate::echo::Echo;
 use crate::producer::Producer;
 use iol_core::events::{Call, Reply};
 use iol_proc::look::Look;
@@ -13,6 +14,7 @@ use std::alloc::AllocError;
 pub enum Worker {
     Producer(Producer),
     Consumer(Consumer),
+    Echo(Echo),
 
     /// Waits for a connection without a pause.
     Eager,
@@ -29,6 +31,7 @@ impl Process for Worker {
         match self {
             Worker::Producer(producer) => producer.turn(last),
             Worker::Consumer(consumer) => Ok(consumer.turn(last, look)),
+            Worker::Echo(echo) => Ok(echo.turn(last)),
             Worker::Eager => Ok(Turn::Make(Call::Accept)),
             Worker::Idle => Ok(Turn::Yield),
         }
