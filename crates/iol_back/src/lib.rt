@@ -5,6 +5,10 @@
 //! fails leaves all outside of its range as it was. There are [`MemoryBacking`](memory::MemoryBacking), whose lists lie
 //! in memory, and [`FaultyBacking`](faulty::FaultyBacking), which lets one call to another store fail.
 //!
+//! The contract, of every store: `read_at` gives the bytes of a range that lies in the file (`read`, `slots`), `write_at`
+//! puts bytes there (`written`, `others`, `torn`), both only of the files 1 to 1,024 (`slot`); a failure counts one more
+//! (`counts`), and none makes a store honest or not (`honest`). Of a list in memory: when a call succeeds (`succeeds`).
+//!
 //!     let mut slots = Slots::new(alloc);
 //!     slots.append(FileId::new(1), b"abcdef")?;
 //!     let mut store = FaultyBacking::new(MemoryBacking::new(slots), 2);

@@ -4,6 +4,15 @@
 //! rows (`specs/Tables`): a domain as the copying machine has it, and how many aggregates more it can take without
 //! asking for memory. Room is reserved first ([`reserve_aggs`](table::Table::reserve_aggs)), so that adding cannot fail.
 //!
+//! The contract. Each method changes the rows by the word of its clause (`added`, `given`, `swapped`, `opened`, `moved`,
+//! `set`), a refused one none (`err`); the new number is the next, or the lowest that is free (`number`).
+//!
+//! ```text
+//! table.reserve_aggs(domain, 1)?;
+//! let number = table.add_agg(domain, agg);
+//! let fd = table.add_fd(domain, Descriptor::Connection { conn })?;
+//! ```
+//!
 //! The lists it is made of serve others too: [`Entries`](entries::Entries), values under rising numbers that are never
 //! used again, and [`Places`](places::Places), values in the lowest free places.
 //!

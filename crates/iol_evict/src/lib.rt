@@ -7,6 +7,11 @@
 //! [`InUse`](users::InUse): `least` asks it from the least entry on, up to the first that is not in use. That it asks
 //! no further is not proved. Several searches in a row share a rank below which all are in use, and each begins there.
 //!
+//! The contract. `enter`, `hit`, `leave` and `evict` are the order's own words (`entered`, `hit_at`, `left_at`, `evicted_at`);
+//! `least` is the least entry that is not in use (`first`, `below`); `low` is L, `height` an entry's. Room is reserved first
+//! (`reserve`, clauses `room`, `same`, `err`), and a place kept for an entry to come (`keep`, `give_back`), so that entering
+//! cannot fail.
+//!
 //!     order.reserve(1)?;
 //!     order.enter(file, 8192, 4096, 1);
 //!     let mut passed = Rank::least();
