@@ -13,33 +13,35 @@ def build():
     subprocess.run([f"{ROOT}/scripts/iolite", "replay"], stdin=subprocess.DEVNULL, check=True)
 
 
-def instructions(script):
+def instructions(script, refusals=0):
     with tempfile.NamedTemporaryFile("w") as given:
         given.write(script)
         given.flush()
         with open(given.name, encoding="ascii") as lines:
             words = ["valgrind", "--tool=callgrind", "--callgrind-out-file=/dev/null", PROGRAM, "replay"]
             ran = subprocess.run(words, stdin=lines, capture_output=True, text=True, check=True)
-    if "refused" in ran.stdout:
-        sys.exit("a round was refused")
+    if ran.stdout.count("refused") != refusals:
+        sys.exit("a round was refused, or was not")
     return int(re.search(r"Collected : (\d+)", ran.stderr)[1])
 
 
-def a_round(head, rounds, count):
-    """The price of one of so many rounds after a head, which drops out."""
-    return (instructions(head + rounds) - instructions(head)) / count
+def a_round(head, rounds, count, refusals=0):
+    """The price of one of so many rounds after a head, which drops out. So many lines of the rounds are refused."""
+    return (instructions(head + rounds, refusals) - instructions(head, 0)) / count
 
 
-def beside(few, many, calls, count, limit):
+def beside(few, many, calls, count, limit, refused=()):
     """Prints the price of each call after the head `few` and after the head `many`: whether a ratio is above the limit.
 
-    Each call has a name, its rounds after `few` and its rounds after `many`, so many of both.
+    Each call has a name, its rounds after `few` and its rounds after `many`, so many of both. In the rounds of the names in
+    `refused` one line of each is refused.
     """
     worst = 0.0
     print(f"instructions a round, with its lines        few      many   ratio (at most {limit})")
     for name, beside_few, beside_many in calls:
-        low = a_round(few, beside_few, count)
-        high = a_round(many, beside_many, count)
+        refusals = count if name in refused else 0
+        low = a_round(few, beside_few, count, refusals)
+        high = a_round(many, beside_many, count, refusals)
         worst = max(worst, high / low)
         print(f"{name:40} {low:9.0f} {high:9.0f} {high / low:7.2f}", flush=True)
     return worst > limit
