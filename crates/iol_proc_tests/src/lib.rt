@@ -1,4 +1,6 @@
 //! Tests of processes in turns, in a crate of their own since a crate with tests is proved twice.
+//!
+//! The [`watcher`] is no test: `specs/Watching` speaks of it, and definitions are read without the tests, too.
 #![tactic(auto)]
 
 #[cfg(test)]
@@ -13,8 +15,7 @@ mod producer;
 mod served;
 #[cfg(test)]
 mod start;
-#[cfg(test)]
-mod watcher;
+pub mod watcher;
 #[cfg(test)]
 mod watching;
 #[cfg(test)]
