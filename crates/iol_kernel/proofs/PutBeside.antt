@@ -1,7 +1,7 @@
 -- A copying write to a file: which pages it fills, and which bytes stay where they lay.
 use Rattle.std.proofs.Common.{inl, inr, ◌≡◌, ◌∙◌, ℕ, zero, suc, ◌+◌, ◌<◌, true, List, [], ◌∷◌, length, get_or, map, All, Option, Some, None, refl, sym, ap, subst, arith}
 use Rattle.std.specs.List.{Contains}
-use Rattle.std.specs.Prelude.{◌==◌, Result, Ok, Err, OnOk, take}
+use Rattle.std.specs.Prelude.{◌==◌, ◌⊎◌, Result, Ok, Err, IfErr, OnOk, take}
 use Rattle.std.proofs.lemmas.Bool.{cases_lt}
 use Rattle.std.proofs.lemmas.Bool.Decides.{nat_tests}
 use Rattle.std.proofs.lemmas.List.{append-nil, get_or-append-add, get_or-map, get_or_append_left, length-map}
@@ -9,6 +9,7 @@ use Rattle.std.proofs.lemmas.List.FromFn.{get_or-map-range_with_len, length-map-
 use Rattle.iol_core.specs.Numbered.{is_numbered}
 use Rattle.iol_core.specs.Calls.Writing as writing
 use Rattle.iol_core.specs.State as machine
+use Rattle.iol_core.specs.Meaning.{WantOfRoom}
 use Rattle.iol_core.specs.Text.{labelled}
 use Rattle.iol_core.specs.declared.descriptors.Descriptor.{Descriptor}
 use Rattle.iol_core.specs.declared.descriptors.Descriptor.TheVariants as on
@@ -37,7 +38,7 @@ use Rattle.iol_kernel.specs.Backed.{holding_of}
 use Rattle.iol_kernel.specs.KernelState.{KernelState, IsSound, read_of}
 use Rattle.iol_kernel.specs.Readings.{Reading, bytes_over}
 use Rattle.iol_kernel.specs.MakingRoom.{AfterRoom, MakesRoom}
-use Rattle.iol_kernel.specs.WritingFiles.{PutsInFile, PutsOn, pool_of_file}
+use Rattle.iol_kernel.specs.WritingFiles.{GivesUpNew, LaysInFile, LaysOn, LaysOver, PutsInFile, PutsOn, pool_of_file}
 use Rattle.iol_kernel.proofs.Kept.{beside_none, beside_same, room_keeps, unless_beside, unless_then, unwritten_unless, write_unless}
 use Rattle.iol_kernel.proofs.Named.{cache_sound}
 use Rattle.iol_kernel.proofs.Stay.{pages_equal}
@@ -131,6 +132,9 @@ module _ (h : KernelState) (s t : Stored) (d : Cached) (f at pool : ℕ) (xs : L
   pub unput_beside : OnlyMakesRoom (pool_of_file h f) (copied_pages (pool_of_file h f) xs) mid put → KeepsBeside f at (length bytes) pool ⊥ h.cache d
   unput_beside room = beside_none f at (byte_len xs) (length bytes) (pool_of_file h f) pool (LacksPages filled (pool_of_file h f) (copied_pages (pool_of_file h f) xs)) h.cache d long none_lacks (unwritten_unless filled f at xs put apart room)
 
+  pub room_alone : OnlyMakesRoom (pool_of_file h f) (copied_pages (pool_of_file h f) xs) mid put → OnlyMakesRoom pool 0 mid put
+  room_alone room = subst (λ p. OnlyMakesRoom p 0 mid put) own (subst (λ n. OnlyMakesRoom (pool_of_file h f) n mid put) none_copied room)
+
 pub put_released : {a b c d : Stored} {placed : List ℕ} → SameLists a b → SameLists b c → KeepsPages a b placed → KeepsPages b c [] → KeepsPages c d [] → KeepsPages a d placed
 put_released first second m n o = filled_then first m (keeps_pages_trans second n o)
 
@@ -153,6 +157,19 @@ module _ (f at pool count held : ℕ) (h k : KernelState) (same : count ≡ held
       fills (Ok a) pages = record { roomy = k; room = here; then = pages }
       fills (Err x) pages = tt
 
+-- The same of the steps of the write.
+
+module _ (f at pool count : ℕ) (bytes : List ℕ) (h k : KernelState) (same : count ≡ length bytes) (room : MakesRoom pool (pages_for count) h k) where
+  roomy : MakesRoom pool (pages_for (length bytes)) h k
+  roomy = subst (λ n. MakesRoom pool (pages_for n) h k) same room
+
+  pub laid_none : {A : Type 0} (x : Refusal) → WantOfRoom pool x → LaysInFile {A = A} f at pool bytes h (Err x) k
+  laid_none x late = record { lays = tt; leaves = inr (late, record { roomy = k; room = roomy; then = inl refl }) }
+
+  pub laid_roomed : (l : KernelState) (r : Result ℕ Refusal) → OnOk r (LaysOver f at pool bytes k l) → IfErr r (λ x. (l ≡ k) ⊎ GivesUpNew pool bytes k l) → IfErr r (WantOfRoom pool) → LaysInFile f at pool bytes h r l
+  laid_roomed l (Ok n) lays leaves late = record { lays = record { roomy = k; room = roomy; then = lays }; leaves = tt }
+  laid_roomed l (Err x) lays leaves late = record { lays = tt; leaves = inr (late, record { roomy = k; room = roomy; then = leaves }) }
+
 -- the pool in which the bytes lie is the file's
 pub own_pool : (h : KernelState) (by fd f at pool : ℕ) (mode : Mode) → IsSound h → ((r : Reading) → machine.descriptor (read_of r h) by fd ≡ Some (on.File f at mode)) → ((r : Reading) → pool ≡ writing.pool_for (read_of r h) by (machine.descriptor (read_of r h) by fd)) → pool_of_file h f ≡ pool
 own_pool h by fd f at pool mode sound to in_pool = let r = bytes_over [] h.store in sym (in_pool r ∙ ap (writing.pool_for (read_of r h) by) (to r) ∙ pool-file r h f sound)
@@ -174,3 +191,16 @@ puts_queue (on.File f at mode) other pool count h k r = absurd (other f at mode 
 puts_queue (on.ReadEnd p) other pool count h k r = tt
 puts_queue (on.WriteEnd p) other pool count h k r = tt
 puts_queue (on.Connection c) other pool count h k r = tt
+
+pub laid_refused : (o : Option Descriptor) (pool : ℕ) (bytes : List ℕ) (h : KernelState) (x : Refusal) → LaysOn o pool bytes h (Err x) h
+laid_refused None pool bytes h x = tt
+laid_refused (Some (on.File f at mode)) pool bytes h x = record { lays = tt; leaves = inl refl }
+laid_refused (Some (on.ReadEnd p)) pool bytes h x = tt
+laid_refused (Some (on.WriteEnd p)) pool bytes h x = tt
+laid_refused (Some (on.Connection c)) pool bytes h x = tt
+
+pub laid_queue : (x : Descriptor) → ((f at : ℕ) (mode : Mode) → x ≡ on.File f at mode → ⊥) → (pool : ℕ) (bytes : List ℕ) (h k : KernelState) (r : Result ℕ Refusal) → LaysOn (Some x) pool bytes h r k
+laid_queue (on.File f at mode) other pool bytes h k r = absurd (other f at mode refl)
+laid_queue (on.ReadEnd p) other pool bytes h k r = tt
+laid_queue (on.WriteEnd p) other pool bytes h k r = tt
+laid_queue (on.Connection c) other pool bytes h k r = tt

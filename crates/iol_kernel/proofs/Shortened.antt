@@ -1,13 +1,12 @@
 -- A read of no more bytes than a file has is a read of as many as were asked.
-use Rattle.std.proofs.Common.{◌≡◌, ℕ, ◌+◌, ◌-◌, ◌≤◌, min, max, length, List, take, drop, ap, ◌∙◌, refl, sym, arith}
+use Rattle.std.proofs.Common.{◌≡◌, ℕ, min, max, length, List, take, drop, ap, ◌∙◌, arith}
 use Rattle.std.proofs.lemmas.List.{length-drop, take_min}
 use Rattle.iol_back.specs.Disk.{Disk}
-use Rattle.iol_hold.specs.Stored.{Stored}
 use Rattle.iol_hold.specs.declared.slices.Slice.{Slice}
 use Rattle.iol_cache.specs.Cached.{Cached}
 use Rattle.iol_cache.specs.Contents.{bytes_in_slot}
 use Rattle.iol_cache.specs.Evicting.{Holding}
-use Rattle.iol_cache.specs.Serving.{IsBacked, IsEnd, NoRoomToRead, Range, ReadsFile, RefusesRead, RoomToRead, bytes_read}
+use Rattle.iol_cache.specs.Serving.{IsBacked, NoRoomToRead, Range, ReadsFile, RefusesRead, RoomToRead, bytes_read}
 use Rattle.iol_kernel.specs.FileReading.{IsReadable}
 
 module _ (disk : Disk) (f at n many : ℕ) where

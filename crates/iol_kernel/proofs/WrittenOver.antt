@@ -83,6 +83,8 @@ pub refused_leaves : (h : KernelState) (f at : ℕ) (xs : List Slice) (x : Refus
 refused_leaves h f at xs x roomy = record {
   lies = tt;
   over = λ some. tt;
+  nothing = λ none. tt;
+  moves = tt;
   beside = (let p = pool_of_file h f in beside_same f at (byte_len xs) p (LacksPages h p (copied_pages p xs)) h.cache h.cache refl);
   room = tt;
   no_room = λ p e. absurd (roomy p e);
@@ -160,10 +162,12 @@ module _ (h : KernelState) (t : Stored) (d : Cached) (by fd a f at : ℕ) (mode 
       | inr none ↦ (let p = pool_of_file h f in beside_same f at (byte_len xs) p (LacksPages h p (copied_pages p xs)) h.cache d (ap (λ (x : Holding). x.cache) (nothing (omega (arith, none)))))
     ]
 
-    pub over_leaves : (k : KernelState) (n : ℕ) → pages_to_write h f xs ≤ length (pages_of h.store (pool_of_file h f)) → k ≡ record h { store = t; cache = d; domains = k.domains } → WritesOver f at xs h (Ok n) k
-    over_leaves k n room same = subst (λ (l : KernelState). WritesOver f at xs h (Ok n) l) (sym same) (record {
+    pub over_leaves : (k : KernelState) (n : ℕ) → pages_to_write h f xs ≤ length (pages_of h.store (pool_of_file h f)) → k ≡ record h { store = t; cache = d; domains = k.domains } → k.domains ≡ with_fds_in h.domains by (repositioned h by fd f (at + byte_len xs) mode) → WritesOver f at xs h (Ok n) k
+    over_leaves k n room same moved = subst (λ (l : KernelState). WritesOver f at xs h (Ok n) l) (sym same) (record {
       lies = lies;
       over = writes;
+      nothing = nothing;
+      moves = record { domain = by; fd = fd; mode = mode; is = moved };
       beside = beside;
       room = room;
       no_room = λ p e. absurd (cc e);
@@ -186,6 +190,8 @@ module _ (h : KernelState) (t : Stored) (d : Cached) (by fd a f at : ℕ) (mode 
   unwritten_leaves k x room lacks late same = subst (λ (l : KernelState). WritesOver {A = ℕ} f at xs h (Err x) l) (sym same) (record {
     lies = tt;
     over = λ some. tt;
+    nothing = λ none. tt;
+    moves = tt;
     beside = unwritten_unless h f at xs new (apart_of {h = holding_of h} (cache_sound h sound)) room;
     room = tt;
     no_room = λ p e. lacks p (the_refusal e);

@@ -64,11 +64,12 @@ pub record KeepsPlaces {A : Type 0} (m : State → Meaning A) (old : KernelState
   pub stays : Stays old.store new.store
 
 -- The machine's step on files, where the store under them is honest, and the bytes of files aside over any store. Pages, pools
--- and remembered sums are as they were, and what is in memory of files lies where it lay.
+-- and remembered sums are as they were, what is in memory of files lies where it lay, and all other bytes do, too.
 pub record Names {A : Type 0} (disk : Disk) (m : State → Meaning A) (old : KernelState) (r : Result A Refusal) (new : KernelState) : Type 0 where
   pub step : IfHonest disk (Step (m (machine_of disk.slots old)) (machine_of disk.slots old) r (machine_of disk.slots new))
   pub backed : IsBackedBy disk old → IsBackedBy disk new
   pub beside : StepsBeside m old r new
+  pub places : OnOk r ((f : Reading) → KeepsPools f → read_of f new ≡ (m (read_of f old)).after)
   pub store : new.store ≡ old.store
   pub roomy : (p : ℕ) → r ≡ Err (NoRoom p) → ⊥
   pub refused : OnErr r (new ≡ old)

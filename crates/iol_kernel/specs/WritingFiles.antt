@@ -1,19 +1,28 @@
 -- What a write to a file leaves, beside what it means.
-use Rattle.std.specs.Prelude.{◌≡◌, ◌⊎◌, ℕ, ◌+◌, ◌<◌, ◌≤◌, List, length, Option, Some, Result, Err, IfErr, OnErr, OnOk, ⊤}
+use Rattle.std.specs.Prelude.{◌≡◌, ◌⊎◌, ℕ, ◌+◌, ◌<◌, ◌≤◌, List, [], length, slice_set, Option, Some, Result, Err, IfErr, OnErr, OnOk, ⊤}
 use Rattle.iol_arena.specs.State.{pages_for}
 use Rattle.iol_core.specs.Meaning.{WantOfRoom}
+use Rattle.iol_core.specs.State.{Domain}
+use Rattle.iol_core.specs.Text.{labelled}
 use Rattle.iol_core.specs.Calls.Writing.{iol_write}
+use Rattle.iol_core.specs.declared.descriptors.Mode.{Mode}
 use Rattle.iol_core.specs.declared.descriptors.Descriptor.{Descriptor}
 use Rattle.iol_core.specs.declared.descriptors.Descriptor.TheVariants as on
 use Rattle.iol_core.specs.declared.refusals.Refusal.{Refusal}
 use Rattle.iol_core.specs.declared.refusals.Refusal.TheVariants.{NoRoom}
-use Rattle.iol_hold.specs.Moves.{SameLists}
+use Rattle.iol_arena.specs.Pages.{MadeOn}
+use Rattle.iol_hold.specs.Moves.{Moves, SameLists}
 use Rattle.iol_hold.specs.Places.{byte_len}
 use Rattle.iol_hold.specs.Pages.{KeepsPages}
+use Rattle.iol_hold.specs.Releases.{FreesOnly}
 use Rattle.iol_hold.specs.Room.{lowest_of, pages_of}
+use Rattle.iol_hold.specs.Stored.{Stored}
+use Rattle.iol_hold.specs.Texts.{bufs_of, text_of}
 use Rattle.iol_hold.specs.declared.slices.Slice.{Slice}
 use Rattle.iol_cache.specs.Cached.{clean_held, file_in}
+use Rattle.iol_desc.specs.Tables.{fds_in, with_fds_in}
 use Rattle.iol_cache.specs.Composing.{copied_pages}
+use Rattle.iol_cache.specs.Evicting.{Holding}
 use Rattle.iol_cache.specs.Overwriting.{LiesDirty, OnlyMakesRoom, WritesFile}
 use Rattle.iol_cache.specs.Paging.{FillsLowest}
 use Rattle.iol_cache.specs.Pinned.{pinned_beside}
@@ -38,13 +47,22 @@ LeavesUnwritten f source old new x =
     (new ≡ old)
     ⊎ (WantOfRoom (pool_of_file old f) x × OnlyMakesRoom (pool_of_file old f) (copied_pages (pool_of_file old f) source) (holding_of old) (holding_of new))
 
+-- Of the tables one descriptor changed, which is open on the file: its position is that after so many bytes from `at` on.
+pub record OnlyMoves (f at len : ℕ) (old new : List (Domain (List Slice))) : Type 0 where
+  pub domain : ℕ
+  pub fd : ℕ
+  pub mode : Mode
+  pub is : new ≡ with_fds_in old domain (slice_set (fds_in old domain) fd (Some (on.File f (at + len) mode)))
+
 -- The bytes of the source lie dirty over those of the file from `at` on: those of the file's pool where they lay, copies of
 -- the others on the lowest pages that were free once there was room. Every other byte that was in memory lies where it lay, but that
 -- clean ones of the file's pool may have given way where the copies want more pages than were free. It was refused for want of room just where the pages
--- wanted are more than the pool has. Nothing else changed but the caller's descriptor.
+-- wanted are more than the pool has. No bytes change nothing of pages and files. Nothing else changed but the caller's descriptor.
 pub record WritesOver {A : Type 0} (f at : ℕ) (source : List Slice) (old : KernelState) (r : Result A Refusal) (new : KernelState) : Type 0 where
   pub lies : OnOk r (LiesDirty f at source new.cache)
   pub over : 0 < byte_len source → OnOk r (WritesFile f at source (holding_of old) (holding_of new))
+  pub nothing : byte_len source ≡ 0 → OnOk r (holding_of new ≡ holding_of old)
+  pub moves : OnOk r (OnlyMoves f at (byte_len source) old.domains new.domains)
   pub beside : let p = pool_of_file old f in KeepsBeside f at (byte_len source) p (LacksPages old p (copied_pages p source)) old.cache new.cache
   pub room : OnOk r (pages_to_write old f source ≤ length (pages_of old.store (pool_of_file old f)))
   pub no_room : (p : ℕ) → r ≡ Err (NoRoom p) → length (pages_of old.store (pool_of_file old f)) < pages_to_write old f source
@@ -64,6 +82,59 @@ WritesOn d fd a _ old r new = CarriesOut (λ s. iol_write s d fd a) old r new
 pub record PutsInFile {A : Type 0} (f at pool count : ℕ) (old : KernelState) (r : Result A Refusal) (new : KernelState) : Type 0 where
   pub fills : OnOk r (AfterRoom pool count old (λ roomy. KeepsPages roomy.store new.store (lowest_of roomy.store pool count)))
   pub beside : KeepsBeside f at count pool (LacksPages old pool (pages_for count)) old.cache new.cache
+
+-- New bytes lie on the lowest free pages of a pool, each run of these a buffer, as slices that nobody else holds.
+pub record PlacesNew (pool : ℕ) (bytes : List ℕ) (old placed : Stored) (slices : List Slice) : Type 0 where
+  pub text : text_of placed slices ≡ labelled pool bytes
+  pub made : MadeOn old.arena placed.arena (bufs_of slices) (lowest_of old pool (length bytes))
+  pub moves : Moves old placed [] (bufs_of slices)
+
+-- what is in memory of a kernel's files, over these pages
+abbrev pub over_pages : Stored → KernelState → Holding
+over_pages s h = record { store = s; cache = h.cache }
+
+-- New bytes came over those of a file from `at` on, dirty and as any write of their slices does; the slices were then released.
+-- Of all else one descriptor's position changed.
+pub record LaysOver (f at pool : ℕ) (bytes : List ℕ) (old new : KernelState) : Type 0 where
+  pub slices : List Slice
+  pub placed : Stored
+  pub written : Stored
+  pub places : PlacesNew pool bytes old.store placed slices
+  pub over : 0 < length bytes → WritesFile f at slices (over_pages placed old) (over_pages written new)
+  pub nothing : length bytes ≡ 0 → over_pages written new ≡ over_pages placed old
+  pub lies : LiesDirty f at slices new.cache
+  pub released : Moves written new.store (bufs_of slices) []
+  pub frees : FreesOnly written new.store
+  pub moves : OnlyMoves f at (length bytes) old.domains new.domains
+  pub rest : new ≡ record old { store = new.store; cache = new.cache; domains = new.domains }
+
+-- New bytes were placed and given up again. No extent is gone, and none came.
+pub record GivesUpNew (pool : ℕ) (bytes : List ℕ) (old new : KernelState) : Type 0 where
+  pub slices : List Slice
+  pub placed : Stored
+  pub left : Stored
+  pub places : PlacesNew pool bytes old.store placed slices
+  pub room : OnlyMakesRoom pool 0 (over_pages placed old) (over_pages left new)
+  pub released : Moves left new.store (bufs_of slices) []
+  pub frees : FreesOnly left new.store
+  pub rest : new ≡ record old { store = new.store; cache = new.cache }
+
+-- A refused write. One that was refused before it made room changed nothing. A late one made room at most, the first extents
+-- before the others, and what it placed is gone.
+abbrev pub LeavesUnlaid : (pool : ℕ) (bytes : List ℕ) (old new : KernelState) → Refusal → Type 0
+LeavesUnlaid pool bytes old new x =
+    (new ≡ old)
+    ⊎ (WantOfRoom pool x × AfterRoom pool (length bytes) old (λ roomy. (new ≡ roomy) ⊎ GivesUpNew pool bytes roomy new))
+
+-- Room was made for new bytes, and they came over those of a file; or they did not, and nothing else became of the file.
+pub record LaysInFile {A : Type 0} (f at pool : ℕ) (bytes : List ℕ) (old : KernelState) (r : Result A Refusal) (new : KernelState) : Type 0 where
+  pub lays : OnOk r (AfterRoom pool (length bytes) old (λ roomy. LaysOver f at pool bytes roomy new))
+  pub leaves : IfErr r (LeavesUnlaid pool bytes old new)
+
+-- A write of these bytes by copying, where the descriptor is open on a file.
+abbrev pub LaysOn : Option Descriptor → (pool : ℕ) (bytes : List ℕ) → (old : KernelState) → Result ℕ Refusal → (new : KernelState) → Type 0
+LaysOn (Some (on.File f at mode)) pool bytes old r new = LaysInFile f at pool bytes old r new
+LaysOn _ pool bytes old r new = ⊤
 
 -- A write of so many bytes by copying, where the descriptor is open on a file.
 abbrev pub PutsOn : Option Descriptor → (pool count : ℕ) → (old : KernelState) → Result ℕ Refusal → (new : KernelState) → Type 0

@@ -1,5 +1,5 @@
 //! Bytes are written to files by copying: they are placed in the file's pool, and lie there.
-ghost use Rattle.std.specs.Prelude.{◌≡◌, ℕ, length, true, false, Some, Err, IfErr, OnOk};
+ghost use Rattle.std.specs.Prelude.{◌≡◌, ◌⊎◌, ℕ, length, true, false, Some, Err, IfErr, OnOk};
 ghost use Rattle.iol_core.specs.Meaning.{WantOfRoom};
 ghost use Rattle.iol_core.specs.State as state;
 ghost use Rattle.iol_core.specs.State.{descriptor};
@@ -12,7 +12,7 @@ ghost use Rattle.iol_kernel.specs.KernelState.{IsSound};
 ghost use Rattle.iol_kernel.specs.Keeping.{KeepsBeside};
 ghost use Rattle.iol_kernel.specs.MakingRoom.{can_fit};
 ghost use Rattle.iol_kernel.specs.Readings.{Reading};
-ghost use Rattle.iol_kernel.specs.WritingFiles.{PutsInFile};
+ghost use Rattle.iol_kernel.specs.WritingFiles.{GivesUpNew, LaysInFile, LaysOver, PutsInFile};
 
 use crate::kernel::Kernel;
 use iol_agg::Agg;
@@ -52,6 +52,8 @@ impl Kernel {
         ensures late { IfErr result (WantOfRoom pool) }
         ensures puts { PutsInFile file at pool (length bytes.now) (state_of self.old) result
             (state_of self.new) }
+        ensures lays { LaysInFile file at pool bytes.now (state_of self.old) result
+            (state_of self.new) }
     {
         let count = bytes.len().min(MAX_FILE_BYTES) as u32;
         if !self.make_room_for(pool, count) {
@@ -87,6 +89,10 @@ impl Kernel {
             (lowest_of self.old.store pool (length bytes.now))) }
         ensures beside { KeepsBeside file at (length bytes.now) pool ⊥ (state_of self.old).cache
             (state_of self.new).cache }
+        ensures lays { OnOk result
+            (LaysOver file at pool bytes.now (state_of self.old) (state_of self.new)) }
+        ensures leaves { IfErr result (λ x. (state_of self.new ≡ state_of self.old) ⊎
+            GivesUpNew pool bytes.now (state_of self.old) (state_of self.new)) }
     {
         let Ok(agg) = Agg::fill(self.alloc, &mut self.store, pool, bytes) else {
             return Err(Refusal::Memory);

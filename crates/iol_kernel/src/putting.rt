@@ -6,7 +6,7 @@ ghost use Rattle.iol_core.specs.Calls.Writing as calls;
 ghost use Rattle.iol_back.specs.Disk.{Disk};
 ghost use Rattle.iol_kernel.specs.KernelState.{IsSound};
 ghost use Rattle.iol_kernel.specs.MakingRoom.{can_fit};
-ghost use Rattle.iol_kernel.specs.WritingFiles.{PutsOn};
+ghost use Rattle.iol_kernel.specs.WritingFiles.{LaysOn, PutsOn};
 
 use crate::kernel::Kernel;
 use iol_core::descriptors::Descriptor;
@@ -37,6 +37,9 @@ impl Kernel {
         ensures puts { PutsOn (descriptor (machine self.old) by fd) (calls.pool_for (machine
             self.old) by (descriptor (machine self.old) by fd)) (length bytes.now) (state_of
             self.old) result (state_of self.new) }
+        ensures lays { LaysOn (descriptor (machine self.old) by fd) (calls.pool_for (machine
+            self.old) by (descriptor (machine self.old) by fd)) bytes.now (state_of self.old) result
+            (state_of self.new) }
     {
         let pool = match self.pool_to_write(by, fd, bytes) {
             Ok(pool) => pool,

@@ -41,6 +41,7 @@ pub fn read<B: Backing>(
         (first_of into.new result) (B.disk backing.new) kernel.new }
     ensures copies { Copies by fd (length into.old) (B.disk backing.old) (state_of kernel.old)
         (first_of into.new result) (B.disk backing.new) (state_of kernel.new) }
+    ensures count { IfOk result (λ n. n ≤ length into.old) }
     ensures len { length into.new ≡ length into.old }
     ensures rest { IfOk result (λ n. drop n into.new ≡ drop n into.old) }
     ensures err { OnErr result (into.new ≡ into.old) }
@@ -69,6 +70,7 @@ fn read_file<B: Backing>(
         (first_of into.new result) (B.disk backing.new) kernel.new }
     ensures copies { CopiesFileAs (file_read by fd found.file found.at found.mode (length into.old))
         (B.disk backing.old) kernel.old (first_of into.new result) (B.disk backing.new) kernel.new }
+    ensures count { IfOk result (λ n. n ≤ length into.old) }
     ensures len { length into.new ≡ length into.old }
     ensures rest { IfOk result (λ n. drop n into.new ≡ drop n into.old) }
     ensures err { OnErr result (into.new ≡ into.old) }
@@ -88,6 +90,7 @@ fn read_queue(kernel: &mut Kernel, by: DomainId, fd: Fd, into: &mut [u8]) -> Res
     requires no_file { (f : Reading) → open_on (held_by (as_read f kernel.old) by fd) ≡ None }
     ensures reads { ReadsOut by fd (length into.old) (state_of kernel.old) (first_of into.new result)
         (state_of kernel.new) }
+    ensures count { IfOk result (λ n. n ≤ length into.old) }
     ensures len { length into.new ≡ length into.old }
     ensures rest { IfOk result (λ n. drop n into.new ≡ drop n into.old) }
     ensures err { OnErr result (into.new ≡ into.old) }

@@ -7,7 +7,7 @@ ghost use Rattle.iol_back.specs.Disk.{Disk};
 ghost use Rattle.iol_kernel.specs.Kernel.{state_of, machine, Places, Serves};
 ghost use Rattle.iol_kernel.specs.KernelState.{IsSound};
 ghost use Rattle.iol_kernel.specs.MakingRoom.{can_fit};
-ghost use Rattle.iol_kernel.specs.WritingFiles.{PutsOn};
+ghost use Rattle.iol_kernel.specs.WritingFiles.{LaysOn, PutsOn};
 
 use iol_core::numbers::{DomainId, Fd};
 use iol_core::refusals::Refusal;
@@ -33,6 +33,9 @@ pub fn write(kernel: &mut Kernel, by: DomainId, fd: Fd, bytes: &[u8]) -> Result<
         (calls.pool_for (machine kernel.old) by (descriptor (machine kernel.old) by fd)) x) }
     ensures puts { PutsOn (descriptor (machine kernel.old) by fd) (calls.pool_for (machine kernel.old)
         by (descriptor (machine kernel.old) by fd)) (length bytes.now) (state_of kernel.old) result
+        (state_of kernel.new) }
+    ensures lays { LaysOn (descriptor (machine kernel.old) by fd) (calls.pool_for (machine kernel.old)
+        by (descriptor (machine kernel.old) by fd)) bytes.now (state_of kernel.old) result
         (state_of kernel.new) }
 {
     kernel.write_bytes(by, fd, bytes)

@@ -1,5 +1,5 @@
-use Rattle.std.proofs.Common.{rules, ◌≡◌, ◌∙◌, ℕ, List, [], ◌++◌, ◌≤◌, ap, sym, refl, subst, arith, inl, inr}
-use Rattle.std.specs.Prelude.{length, Result, Ok, Err}
+use Rattle.std.proofs.Common.{rules, ◌≡◌, ◌∙◌, ℕ, List, [], ◌++◌, ◌≤◌, ap, sym, refl, subst, arith, inr}
+use Rattle.std.specs.Prelude.{length, Result, Err}
 use Rattle.std.proofs.lemmas.List.{length-map}
 use Rattle.iol_core.specs.Text.{Text, bytes_of, labelled}
 use Rattle.iol_core.specs.Calls.Reading.{read}
@@ -14,10 +14,10 @@ use Rattle.iol_cache.specs.Cache.{cached_of}
 use Rattle.iol_cache.specs.Serving.{NoRoomToRead, RoomToRead}
 use Rattle.iol_cache.proofs.Served.{tells_more}
 use Rattle.iol_kernel.specs.Backed.{Serves, holding_of}
-use Rattle.iol_kernel.specs.FileReading.{CopiesFileAs, FileRead, file_read, moved_on, pool_read}
+use Rattle.iol_kernel.specs.FileReading.{CopiesFileAs, file_read, moved_on, pool_read}
 use Rattle.iol_kernel.specs.Kernel.{state_of}
 use Rattle.iol_kernel.specs.Readings.{bytes_over}
-use Rattle.iol_kernel.proofs.FileCopies.{backed_released, copied_as, covers_read, frees_here, goes_released, kept_released}
+use Rattle.iol_kernel.proofs.FileCopies.{copied_as, covers_read, frees_here}
 use Rattle.iol_kernel.proofs.FileReads.{numbered_here, position_short, refused_read, untouched_read}
 use Rattle.iol_kernel.proofs.FileServed.{copies_nothing, counts_few, gives_copy, read_fits, reads_done, reads_refused}
 use Rattle.iol_kernel.proofs.Named.{cache_sound}

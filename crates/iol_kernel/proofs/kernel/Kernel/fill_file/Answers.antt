@@ -1,4 +1,4 @@
-use Rattle.std.proofs.Common.{[], ◌∙◌, ◌+◌, ap, sym, refl, arith, length, map, Some}
+use Rattle.std.proofs.Common.{inl, inr, [], ◌∙◌, ◌+◌, ap, sym, refl, arith, length, map, Some}
 use Rattle.std.specs.Prelude.{slice_set}
 use Rattle.iol_core.specs.declared.descriptors.Descriptor.TheVariants as on
 use Rattle.iol_hold.specs.Stored.{Stored}
@@ -15,7 +15,7 @@ use Rattle.iol_kernel.specs.Readings.{bytes_over}
 use Rattle.iol_kernel.proofs.FilledOver.{filled_covers, filled_few, filled_sound, put_pools, through, through_files, through_mirrors, through_puts, unput_pools}
 use Rattle.iol_kernel.proofs.FilledServes.{filled_len, filled_serves, held_file, held_live, held_short, unfilled_serves, unplaced_serves}
 use Rattle.iol_kernel.proofs.Opening.{end_held}
-use Rattle.iol_kernel.proofs.PutBeside.{files_apart, own_pool, put_beside, put_pages, put_released, unput_beside}
+use Rattle.iol_kernel.proofs.PutBeside.{files_apart, own_pool, put_beside, put_pages, put_released, room_alone, unput_beside}
 use Rattle.iol_kernel.proofs.Kept.{beside_same}
 use Rattle.iol_kernel.proofs.ReadOf.{closed-read_of}
 use Rattle.iol_kernel.proofs.WrittenOver.{in_cache}
@@ -158,3 +158,54 @@ returns-clause-fills c =
     put_released (ap (map pool_meant) e.pools) w.lists (keeps_pages_made e.made_on e.others e.grows e.pools)
     (put_pages h s c.write.new.store (cached_of c.write.new.self) c.args.file c.args.at c.args.pool xs c.args.bytes.now (files_apart h c.requires.sound) own (filled_len s xs c.args.pool c.args.bytes.now e.text) e.text w.writes w.nothing)
     (keeps_pages_frees c.release-2.ensures.frees)
+
+pub returns-in_default-clause-leaves : goal.returns-in_default-clause-leaves
+returns-in_default-clause-leaves c =
+    let h = state_of c.args.self.now in
+    inl (ap (λ (t : Stored). let k : KernelState = record h { store = t } in k) c.in_default.ensures.err)
+
+pub returns-in-Err-clause-leaves : goal.returns-in-Err-clause-leaves
+returns-in-Err-clause-leaves c =
+    let h = state_of c.args.self.now in
+    let e = c.in-Ok.ensures in
+    let s = c.fill.new.store in
+    let xs = c.in-Ok.agg in
+    let own = own_pool h c.args.by c.args.fd c.args.file c.args.at c.args.pool c.args.mode c.requires.sound c.requires.to c.requires.pool in
+    inr (record {
+      slices = xs;
+      placed = s;
+      left = c.write.new.store;
+      places = record { text = e.text; made = e.made_on; moves = e.moves };
+      room = room_alone h s c.write.new.store (cached_of c.write.new.self) c.args.file c.args.at c.args.pool xs c.args.bytes.now (files_apart h c.requires.sound) own (filled_len s xs c.args.pool c.args.bytes.now e.text) e.text c.in-Err.ensures.evicts;
+      released = c.release.ensures.moves;
+      frees = c.release.ensures.frees;
+      rest = refl;
+    })
+
+pub returns-clause-lays : goal.returns-clause-lays
+returns-clause-lays c =
+    let h = state_of c.args.self.now in
+    let e = c.in-Ok.ensures in
+    let s = c.fill.new.store in
+    let xs = c.in-Ok.agg in
+    let w = c.in_default-write.ensures in
+    let long = filled_len s xs c.args.pool c.args.bytes.now e.text in
+    let len = c.len-len.ensures ∙ long in
+    record {
+      slices = xs;
+      placed = s;
+      written = c.write.new.store;
+      places = record { text = e.text; made = e.made_on; moves = e.moves };
+      over = λ some. w.writes (omega (arith, some, long));
+      nothing = λ none. w.nothing (omega (arith, none, long));
+      lies = w.lies;
+      released = c.release-2.ensures.moves;
+      frees = c.release-2.ensures.frees;
+      moves = record {
+        domain = c.args.by;
+        fd = c.args.fd;
+        mode = c.args.mode;
+        is = c.set_fd.ensures.set ∙ ap (λ z. with_fds_in h.domains c.args.by (slice_set (domain_in h.domains c.args.by).fds c.args.fd (Some (on.File c.args.file (c.args.at + z) c.args.mode)))) len;
+      };
+      rest = refl;
+    }

@@ -1,4 +1,4 @@
-use Rattle.std.proofs.Common.{◌≡◌, ◌+◌, rules, false, arith, length, subst, sym}
+use Rattle.std.proofs.Common.{◌≡◌, ◌+◌, rules, false, arith, length}
 use Rattle.std.specs.Prelude.{min}
 use Rattle.iol_back.specs.Disk.{IfHonest, content}
 use Rattle.iol_kernel.specs.Kernel.{state_of}

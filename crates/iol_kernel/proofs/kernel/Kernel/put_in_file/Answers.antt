@@ -1,4 +1,4 @@
-use Rattle.std.proofs.Common.{[], ◌≡◌, ◌∙◌, ap, sym, arith, length}
+use Rattle.std.proofs.Common.{[], ◌≡◌, ◌∙◌, ap, sym, refl, arith, length}
 use Rattle.iol_arena.specs.State.{pages_for}
 use Rattle.iol_core.specs.Calls.Writing as writing
 use Rattle.iol_core.specs.declared.descriptors.Descriptor.TheVariants as on
@@ -7,7 +7,7 @@ use Rattle.iol_kernel.specs.MakingRoom.{can_fit}
 use Rattle.iol_kernel.specs.Readings.{bytes_over}
 use Rattle.iol_kernel.proofs.FilledServes.{file_count, held_short, on_ok, roomed_serves}
 use Rattle.iol_kernel.proofs.Making.{open_after}
-use Rattle.iol_kernel.proofs.PutBeside.{puts_none, puts_roomed}
+use Rattle.iol_kernel.proofs.PutBeside.{laid_none, laid_roomed, puts_none, puts_roomed}
 use Rattle.iol_kernel.proofs.Queued.{passed_still, pool_still, to_still, write_none}
 use Rattle.iol_kernel.proofs.ReadOf.{closed-read_of}
 use Rattle.iol_kernel.proofs.kernel.Kernel.put_in_file.Goals as goal
@@ -33,6 +33,12 @@ returns-then-not-make_room_for-clause-puts c =
     let count : c.min-count.result ≡ length c.args.bytes.now = omega (arith, c.min-count.ensures, held_short h c.args.by c.args.fd c.args.file c.args.at c.args.pool c.args.mode c.args.bytes.now c.requires.sound c.requires.to c.requires.pool c.requires.passed) in
     puts_none c.args.file c.args.at c.args.pool c.min-count.result (length c.args.bytes.now) h (state_of c.make_room_for.new.self) count c.make_room_for.ensures.made _
 
+pub returns-then-not-make_room_for-clause-lays : goal.returns-then-not-make_room_for-clause-lays
+returns-then-not-make_room_for-clause-lays c =
+    let h = state_of c.args.self.now in
+    let count : c.min-count.result ≡ length c.args.bytes.now = omega (arith, c.min-count.ensures, held_short h c.args.by c.args.fd c.args.file c.args.at c.args.pool c.args.mode c.args.bytes.now c.requires.sound c.requires.to c.requires.pool c.requires.passed) in
+    laid_none c.args.file c.args.at c.args.pool c.min-count.result c.args.bytes.now h (state_of c.make_room_for.new.self) count c.make_room_for.ensures.made _ refl
+
 pub fill_file-requires-clause-passed : goal.fill_file-requires-clause-passed
 fill_file-requires-clause-passed c = (let h = state_of c.args.self.now in passed_still c.args.by c.args.fd c.args.bytes.now c.args.pool c.min-count.result h (state_of c.make_room_for.new.self) c.make_room_for.ensures.made c.requires.passed c.requires.pool)
 
@@ -55,4 +61,5 @@ returns c =
       no_room = λ p e. absurd (c.fill_file.ensures.roomy p e);
       late = c.fill_file.ensures.late;
       puts = puts_roomed c.args.file c.args.at c.args.pool c.min-count.result (length c.args.bytes.now) h (state_of c.make_room_for.new.self) count c.make_room_for.ensures.made (state_of c.fill_file.new.self) c.fill_file.result c.fill_file.ensures.fills c.fill_file.ensures.beside;
+      lays = laid_roomed c.args.file c.args.at c.args.pool c.min-count.result c.args.bytes.now h (state_of c.make_room_for.new.self) count c.make_room_for.ensures.made (state_of c.fill_file.new.self) c.fill_file.result c.fill_file.ensures.lays c.fill_file.ensures.leaves c.fill_file.ensures.late;
     }

@@ -5,9 +5,9 @@ use Rattle.iol_core.specs.State.{descriptor}
 use Rattle.iol_kernel.specs.Kernel.{state_of}
 use Rattle.iol_kernel.specs.KernelState.{machine_of}
 use Rattle.iol_kernel.specs.Readings.{bytes_over}
-use Rattle.iol_kernel.specs.WritingFiles.{PutsOn}
+use Rattle.iol_kernel.specs.WritingFiles.{LaysOn, PutsOn}
 use Rattle.iol_kernel.proofs.Put.{left_placing, put_refused}
-use Rattle.iol_kernel.proofs.PutBeside.{puts_queue, puts_refused}
+use Rattle.iol_kernel.proofs.PutBeside.{laid_queue, laid_refused, puts_queue, puts_refused}
 use Rattle.iol_kernel.proofs.kernel.Kernel.write_bytes.Goals as goal
 
 pub returns-in-Err-clause-serves : goal.returns-in-Err-clause-serves
@@ -26,6 +26,11 @@ returns-in-Err-clause-puts c =
     let h = state_of c.args.self.now in
     puts_refused (descriptor (machine_of [] h) c.args.by c.args.fd) (calls.pool_for (machine_of [] h) c.args.by (descriptor (machine_of [] h) c.args.by c.args.fd)) (length c.args.bytes.now) h c.in-Err.refusal
 
+pub returns-in-Err-clause-lays : goal.returns-in-Err-clause-lays
+returns-in-Err-clause-lays c =
+    let h = state_of c.args.self.now in
+    laid_refused (descriptor (machine_of [] h) c.args.by c.args.fd) (calls.pool_for (machine_of [] h) c.args.by (descriptor (machine_of [] h) c.args.by c.args.fd)) c.args.bytes.now h c.in-Err.refusal
+
 pub returns : goal.returns
 returns c =
     let h = state_of c.args.self.now in
@@ -40,5 +45,6 @@ returns c =
       room = placed.room;
       no_room = placed.no_room;
       puts = subst (λ (o : Option Descriptor). PutsOn o pool (length c.args.bytes.now) h c.put.result k) (sym open') (puts_queue c.in-Some.to c.in_default-to.not-File pool (length c.args.bytes.now) h k c.put.result);
+      lays = subst (λ (o : Option Descriptor). LaysOn o pool c.args.bytes.now h c.put.result k) (sym open') (laid_queue c.in-Some.to c.in_default-to.not-File pool c.args.bytes.now h k c.put.result);
       refused = left_placing pool (calls.write s c.args.by c.args.fd c.args.bytes.now).answer h k c.put.result placed.refused;
     }

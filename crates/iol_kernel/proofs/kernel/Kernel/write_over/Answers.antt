@@ -89,10 +89,11 @@ returns-clause-over c =
     let there = (end_held r h c.args.by c.args.fd (on.File c.args.file c.args.at c.args.mode) c.requires.sound (c.requires.to r)).0 in
     let found = sym (ap option_copied c.in-Some.is) ∙ c.agg.ensures in
     let w = c.in_default-write.ensures in
+    let same = c.set_fd.ensures.set ∙ ap (λ z. with_fds_in h.domains c.args.by (slice_set (domain_in h.domains c.args.by).fds c.args.fd (Some (on.File c.args.file (c.args.at + z) c.args.mode)))) c.len-len.ensures in
     let k : KernelState = record h { store = c.write.new.store; cache = cached_of c.write.new.self; domains = domains_of c.set_fd.new.self } in
     subst (λ (ys : List Slice). WritesOver c.args.file c.args.at ys h (Ok c.len-len.result) k) (slices_found h.domains c.args.by c.args.agg c.in-Some.found.now found)
     (over_leaves h c.write.new.store (cached_of c.write.new.self) c.args.by c.args.fd c.args.agg c.args.file c.args.at c.args.mode c.in-Some.found.now c.requires.sound live is there found
-    w.moves w.lists w.settles w.pages w.sound w.mirrors c.requires.passed w.lies w.writes w.nothing k c.len-len.result w.room refl)
+    w.moves w.lists w.settles w.pages w.sound w.mirrors c.requires.passed w.lies w.writes w.nothing k c.len-len.result w.room refl same)
 
 pub set_fd-requires-clause-there : goal.set_fd-requires-clause-there
 set_fd-requires-clause-there c none =
