@@ -1,5 +1,4 @@
-use Rattle.std.proofs.Common.{rules, [], ◌≡◌, ◌∙◌, length, drop, refl, sym}
-use Rattle.std.specs.Prelude.{min}
+use Rattle.std.proofs.Common.{rules, [], length, drop, refl}
 use Rattle.iol_core.specs.Calls.Reading.{read}
 use Rattle.iol_kernel.specs.Kernel.{state_of}
 use Rattle.iol_kernel.specs.KernelState.{machine_of}
