@@ -26,11 +26,11 @@ use Rattle.iol_core.specs.declared.refusals.Refusal.TheVariants.{NoRoom}
 use Rattle.iol_hold.specs.Places.{byte_len}
 use Rattle.iol_hold.specs.declared.slices.Slice.{Slice}
 use Rattle.iol_kernel.specs.Backed.{Serves, holding_of}
-use Rattle.iol_kernel.specs.Calls.{CarriesOut, MakesBytes, Steps}
+use Rattle.iol_kernel.specs.Calls.{CarriesOut, Steps}
 use Rattle.iol_kernel.specs.Copying.{Copies, CopiesOn}
 use Rattle.iol_kernel.specs.FileReading.{Reads, ReadsOn, held_by}
 use Rattle.iol_kernel.specs.KernelState.{KernelState, IsSound, layout_of, machine_of, slices_in}
-use Rattle.iol_kernel.specs.MakingRoom.{AfterRoom, MakesRoom, MayHaveEvicted, Places, can_fit}
+use Rattle.iol_kernel.specs.MakingRoom.{MakesRoom, MayHaveEvicted, Places, can_fit}
 use Rattle.iol_kernel.specs.WritingFiles.{PutsOn, WritesOn, pool_of_file}
 use Rattle.iol_kernel.specs.Keeping.{LacksPages, LacksPagesToRead}
 use Rattle.iol_kernel.proofs.Carried.{carried_layout}
@@ -40,7 +40,7 @@ use Rattle.iol_system.specs.Asking.{asks_store, uses_cache}
 use Rattle.iol_system.specs.Doing.{Does}
 use Rattle.iol_system.specs.Machine.{system_of, tables_of}
 use Rattle.iol_system.specs.InPlace.{IsInRange, IsWritten, KeepsInPlace, MayLetGo, ReadWantsMore, SharesRead, SharesWrite, WantsMore, WriteWantsMore}
-use Rattle.iol_system.specs.Placed.{Creates, Fills, FillsForFile, Publishes}
+use Rattle.iol_system.specs.Placed.{Creates, FillsForFile, Makes, Publishes, Puts}
 use Rattle.iol_system.specs.Remembered.{Remembers}
 use Rattle.iol_system.specs.Replies.{told}
 use Rattle.iol_system.specs.Room.{HasRoomFor, HasRoomToRead, HasRoomToWrite, LacksRoomFor, LacksRoomToRead, LacksRoomToWrite, IsDone, IsEarly, IsFault, IsNoRoom, IsRefused}
@@ -82,7 +82,7 @@ module _ {A : Type 0} (f : A → Reply) (m : State → Meaning A) (e : Event) (d
   }
 
 -- An event that places n bytes in a pool once there is room.
-pub record IsPlacing (e : Event) (pool n : ℕ) (old : KernelState) : Type 0 where
+pub record IsPlacing (e : Event) (put : State → Text → State) (pool n : ℕ) (old : KernelState) : Type 0 where
   pub unwritten : writes_back e ≡ false
   pub unlent : shares_file e ≡ false
   pub goes : (disk : Disk) (p : ℕ) → WantsMore old pool n p → MayLetGo (system_of old disk) e p
@@ -92,15 +92,11 @@ pub record IsPlacing (e : Event) (pool n : ℕ) (old : KernelState) : Type 0 whe
   pub moving : is_still e ≡ false
   pub has : (disk : Disk) → can_fit old pool n ≡ true → HasRoomFor (system_of old disk) e
   pub lacks : (disk : Disk) → can_fit old pool n ≡ false → LacksRoomFor (system_of old disk) e
-  pub publishes : (new : KernelState) → Fills pool n old new → Publishes old e new
+  pub publishes : (new : KernelState) → Makes put pool n old new → Publishes old e new
   pub creates : (x : Reply) (new : KernelState) → Creates old e x new
   pub sums : (x : Reply) (new : KernelState) → new.sums ≡ old.sums → Remembers old e x new
 
-module _ {A : Type 0} (f : A → Reply) (m : State → Meaning A) (put : State → Text → State) (pool n : ℕ) (e : Event) (disk : Disk) (old new : KernelState) (r : Result A Refusal) (tells : Tells f) (placing : IsPlacing e pool n old) (means : Means f m e) where
-  fills_of : (r : Result A Refusal) → OnOk r (AfterRoom pool n old (λ roomy. MakesBytes put pool n roomy new)) → IsDone (told f r) → Fills pool n old new
-  fills_of (Ok a) made is = record { roomy = made.roomy; room = made.room; then = made.then.pages }
-  fills_of (Err x) made is = absurd is
-
+module _ {A : Type 0} (f : A → Reply) (m : State → Meaning A) (put : State → Text → State) (pool n : ℕ) (e : Event) (disk : Disk) (old new : KernelState) (r : Result A Refusal) (tells : Tells f) (placing : IsPlacing e put pool n old) (means : Means f m e) where
   placed_early : IfErr r (MayHaveEvicted pool n old new) → IsEarly (told f r) → new ≡ old
   placed_early left is = early_of f r (new ≡ old) (λ x. WantOfRoom pool x × MakesRoom pool (pages_for n) old new) tells (λ x early late. early_room pool x early late.0) left is
 
@@ -125,7 +121,7 @@ module _ {A : Type 0} (f : A → Reply) (m : State → Meaning A) (put : State �
         still = λ still. absurd (true≢false (sym still ∙ placing.moving));
         in_place = places_in_place disk old new e m put pool n (λ p same lacks. placing.goes disk p (same, subst (λ q. LacksPages old q (pages_for n)) (sym same) lacks)) r c;
         shares_file = λ done. shares_none (system_of old disk) new e placing.unlent;
-        publishes = λ done. placing.publishes new (fills_of r c.made done);
+        publishes = λ done. placing.publishes new (ok_told f r (Makes put pool n old new) c.made done);
         creates = placing.creates (told f r) new;
         sums = placing.sums (told f r) new serves.sums;
         written_back = none_back disk old (told f r) disk new e placing.unwritten;
@@ -405,43 +401,47 @@ module _ (by fd : ℕ) (bytes : List ℕ) (disk : Disk) (old new : KernelState) 
   abbrev count_of : Option Descriptor → ℕ
   count_of o = writing.fitting (tables_of old) o (length bytes)
 
-  abbrev IsPut : (put : State → Text → State) → Option Descriptor → Type 0
-  IsPut put o = Places (λ s. writing.write s by fd bytes) put (pool_of o) (count_of o) old r new
+  -- to the end of the queue
+  abbrev put : State → Text → State
+  put s t = writing.written s by fd (descriptor s by fd) t
 
-  fills_put : (put : State → Text → State) (o : Option Descriptor) → IsPut put o → IsDone (told reply.Count r) → Fills (pool_of o) (count_of o) old new
-  fills_put put o placed is = (let x = ok_told reply.Count r _ placed.made is in record { roomy = x.roomy; room = x.room; then = x.then.pages })
+  abbrev IsPut : Option Descriptor → Type 0
+  IsPut o = Places (λ s. writing.write s by fd bytes) put (pool_of o) (count_of o) old r new
 
-  put_fills : (put : State → Text → State) (o : Option Descriptor) → (is_file o ≡ false → IsPut put o) → PutsOn o (pool_of o) (length bytes) old r new → IsDone (told reply.Count r) → Fills (pool_of o) (count_of o) old new
-  put_fills put None placed puts is = fills_put put None (placed refl) is
-  put_fills put (Some (on.File g at mode)) placed puts is = ok_told reply.Count r _ puts.fills is
-  put_fills put (Some (on.ReadEnd p)) placed puts is = fills_put put (Some (on.ReadEnd p)) (placed refl) is
-  put_fills put (Some (on.WriteEnd p)) placed puts is = fills_put put (Some (on.WriteEnd p)) (placed refl) is
-  put_fills put (Some (on.Connection c)) placed puts is = fills_put put (Some (on.Connection c)) (placed refl) is
+  put_made : (o : Option Descriptor) → IsPut o → IsDone (told reply.Count r) → Makes put (pool_of o) (count_of o) old new
+  put_made o placed is = ok_told reply.Count r _ placed.made is
+
+  put_fills : (o : Option Descriptor) → (is_file o ≡ false → IsPut o) → PutsOn o (pool_of o) (length bytes) old r new → IsDone (told reply.Count r) → Puts by fd (pool_of o) (count_of o) o old new
+  put_fills None placed puts is = put_made None (placed refl) is
+  put_fills (Some (on.File g at mode)) placed puts is = ok_told reply.Count r _ puts.fills is
+  put_fills (Some (on.ReadEnd p)) placed puts is = put_made (Some (on.ReadEnd p)) (placed refl) is
+  put_fills (Some (on.WriteEnd p)) placed puts is = put_made (Some (on.WriteEnd p)) (placed refl) is
+  put_fills (Some (on.Connection c)) placed puts is = put_made (Some (on.Connection c)) (placed refl) is
 
   abbrev PutGoes : Option Descriptor → Type 0
   PutGoes o = (p : ℕ) → WantsMore old (pool_of o) (count_of o) p → MayLetGo (system_of old disk) put_event p
 
-  queue_in_place : (put : State → Text → State) (o : Option Descriptor) → IsPut put o → PutGoes o → KeepsInPlace (system_of old disk) put_event new
-  queue_in_place put o placed goes = places_in_place disk old new put_event (λ s. writing.write s by fd bytes) put (pool_of o) (count_of o) (λ p same lacks. goes p (same, subst (λ q. LacksPages old q (pages_for (count_of o))) (sym same) lacks)) r placed
+  queue_in_place : (o : Option Descriptor) → IsPut o → PutGoes o → KeepsInPlace (system_of old disk) put_event new
+  queue_in_place o placed goes = places_in_place disk old new put_event (λ s. writing.write s by fd bytes) put (pool_of o) (count_of o) (λ p same lacks. goes p (same, subst (λ q. LacksPages old q (pages_for (count_of o))) (sym same) lacks)) r placed
 
-  put_in_place : (put : State → Text → State) (o : Option Descriptor) → (is_file o ≡ false → IsPut put o) → PutsOn o (pool_of o) (length bytes) old r new → ((g i : ℕ) → IsInRange o (length bytes) g i → IsWritten old put_event g i) → PutGoes o → KeepsInPlace (system_of old disk) put_event new
-  put_in_place put None placed puts writes goes = queue_in_place put None (placed refl) goes
-  put_in_place put (Some (on.File f at mode)) placed puts writes goes =
+  put_in_place : (o : Option Descriptor) → (is_file o ≡ false → IsPut o) → PutsOn o (pool_of o) (length bytes) old r new → ((g i : ℕ) → IsInRange o (length bytes) g i → IsWritten old put_event g i) → PutGoes o → KeepsInPlace (system_of old disk) put_event new
+  put_in_place None placed puts writes goes = queue_in_place None (placed refl) goes
+  put_in_place (Some (on.File f at mode)) placed puts writes goes =
       let pool : ℕ = pool_of (Some (on.File f at mode)) in
       beside_in_place disk old new put_event f at (length bytes) pool (LacksPages old pool (pages_for (length bytes))) puts.beside (λ g i same from to. writes g i (same, from, to))
       (λ p same lacks. goes p (same, subst (λ q. LacksPages old q (pages_for (length bytes))) (sym same) lacks))
-  put_in_place put (Some (on.ReadEnd p)) placed puts writes goes = queue_in_place put (Some (on.ReadEnd p)) (placed refl) goes
-  put_in_place put (Some (on.WriteEnd p)) placed puts writes goes = queue_in_place put (Some (on.WriteEnd p)) (placed refl) goes
-  put_in_place put (Some (on.Connection c)) placed puts writes goes = queue_in_place put (Some (on.Connection c)) (placed refl) goes
+  put_in_place (Some (on.ReadEnd p)) placed puts writes goes = queue_in_place (Some (on.ReadEnd p)) (placed refl) goes
+  put_in_place (Some (on.WriteEnd p)) placed puts writes goes = queue_in_place (Some (on.WriteEnd p)) (placed refl) goes
+  put_in_place (Some (on.Connection c)) placed puts writes goes = queue_in_place (Some (on.Connection c)) (placed refl) goes
 
-  pub puts_does : (put : State → Text → State) → Means reply.Count (λ s. writing.write s by fd bytes) put_event → Serves (λ s. writing.write s by fd bytes) disk old r disk new
+  pub puts_does : Means reply.Count (λ s. writing.write s by fd bytes) put_event → Serves (λ s. writing.write s by fd bytes) disk old r disk new
       → (is_file (descriptor (tables_of old) by fd) ≡ false → Places (λ s. writing.write s by fd bytes) put (writing.pool_for (tables_of old) by (descriptor (tables_of old) by fd)) taken_bytes old r new)
       → OnOk r (can_fit old (writing.pool_for (tables_of old) by (descriptor (tables_of old) by fd)) taken_bytes ≡ true)
       → ((p : ℕ) → r ≡ Err (NoRoom p) → can_fit old (writing.pool_for (tables_of old) by (descriptor (tables_of old) by fd)) taken_bytes ≡ false)
       → PutsOn (descriptor (tables_of old) by fd) (writing.pool_for (tables_of old) by (descriptor (tables_of old) by fd)) (length bytes) old r new
       → IfErr r (λ x. (new ≡ old) ⊎ WantOfRoom (writing.pool_for (tables_of old) by (descriptor (tables_of old) by fd)) x)
       → Does disk old put_event (told reply.Count r) disk new
-  puts_does put means serves queue room lacks puts left = record {
+  puts_does means serves queue room lacks puts left = record {
     step = λ backed placed. means (machine_of disk.slots old) (machine_of disk.slots new) r (serves.step backed placed);
     backed = serves.backed;
     beside = told_beside reply.Count (λ s. writing.write s by fd bytes) put_event old new r means serves.beside;
@@ -458,9 +458,9 @@ module _ (by fd : ℕ) (bytes : List ℕ) (disk : Disk) (old new : KernelState) 
     shares = λ shared. absurd (true≢false (sym shared));
     pages = λ shared. absurd (true≢false (sym shared));
     still = λ still. absurd (true≢false (sym still));
-    in_place = put_in_place put (descriptor (tables_of old) by fd) queue puts (λ g i k. k) (λ p k. k);
+    in_place = put_in_place (descriptor (tables_of old) by fd) queue puts (λ g i k. k) (λ p k. k);
     shares_file = λ done. tt;
-    publishes = λ done. put_fills put (descriptor (tables_of old) by fd) queue puts done;
+    publishes = λ done. put_fills (descriptor (tables_of old) by fd) queue puts done;
     creates = tt;
     sums = serves.sums;
     written_back = none_back disk old (told reply.Count r) disk new put_event refl;

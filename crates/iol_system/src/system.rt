@@ -174,8 +174,9 @@ impl<B: Backing> System<B> {
         ensures in_place { KeepsInPlace self.old event self.new.kernel }
         ensures shares_file { IsDone result → SharesFile self.old event self.new.kernel }
 
-        // What publishes does so on the lowest free pages of its pool, each of which is raised by one; an open pool keeps its
-        // chunks, and a new one has the lowest free chunks, as many as asked for.
+        // What publishes does so on the lowest free pages of its pool, each of which is raised by one; where new bytes are placed
+        // room is made first, and nothing else changes then, so no more gives way. An open pool keeps its chunks, and a new one
+        // has the lowest free chunks, as many as asked for.
         ensures publishes { IsDone result →
             Publishes self.old.kernel event self.new.kernel }
         ensures creates { Creates self.old.kernel event result self.new.kernel }
