@@ -269,8 +269,8 @@ module _ (by fd a : ℕ) (disk : Disk) (old new : KernelState) (r : Result ℕ R
       (λ p same lacks. goes p (same, subst (λ q. LacksPages old q (copied_pages q xs)) (sym same) lacks))
   write_in_place o c writes goes = cache_in_place disk old new write_event c.cache
 
-  write_shares : (o : Option Descriptor) → WritesOn by fd a o old r new → IsDone (told reply.Count r) → SharesWrite o (slices_in old.domains by a) new
-  write_shares (Some (on.File g at mode)) c is = ok_told reply.Count r _ c.lies is
+  write_shares : (o : Option Descriptor) → WritesOn by fd a o old r new → IsDone (told reply.Count r) → SharesWrite o (slices_in old.domains by a) old new
+  write_shares (Some (on.File g at mode)) c is = record { lies = ok_told reply.Count r _ c.lies is; over = λ some. ok_told reply.Count r _ (c.over some) is }
   write_shares o c is = tt
 
   pub writes_does : Means reply.Count (λ s. writing.iol_write s by fd a) write_event → Serves (λ s. writing.iol_write s by fd a) disk old r disk new → WritesOn by fd a (descriptor (tables_of old) by fd) old r new → Does disk old write_event (told reply.Count r) disk new

@@ -15,7 +15,7 @@ use Rattle.iol_hold.specs.Places.{byte_len}
 use Rattle.iol_hold.specs.declared.slices.Slice.{Slice}
 use Rattle.iol_cache.specs.Cached.{extents_in, file_in}
 use Rattle.iol_cache.specs.Composing.{copied_pages}
-use Rattle.iol_cache.specs.Overwriting.{LiesDirty}
+use Rattle.iol_cache.specs.Overwriting.{LiesDirty, WritesFile}
 use Rattle.iol_kernel.specs.Backed.{holding_of}
 use Rattle.iol_kernel.specs.FileReading.{GivesRead, file_read, held_by}
 use Rattle.iol_kernel.specs.Keeping.{LacksPages, LacksPagesToRead}
@@ -79,12 +79,17 @@ abbrev pub SharesRead : (by fd n : ℕ) → SystemState → Option Descriptor �
 SharesRead by fd n old (Some (on.File f at mode)) new = GivesRead (file_read by fd f at mode n) old.disk old.kernel new
 SharesRead by fd n old o new = ⊤
 
--- A write of slices to a file: those of its pool lie under it where they lay.
-abbrev pub SharesWrite : Option Descriptor → List Slice → KernelState → Type 0
-SharesWrite (Some (on.File f at mode)) xs new = LiesDirty f at xs new.cache
-SharesWrite o xs new = ⊤
+-- A write of slices over a file: those of its pool lie under it where they lay. Where there are bytes, room was made for copies
+-- of the others, and then all of them came in the place of what lay there, and nothing else became of the cache.
+pub record WritesShared (f at : ℕ) (xs : List Slice) (old new : KernelState) : Type 0 where
+  pub lies : LiesDirty f at xs new.cache
+  pub over : 0 < byte_len xs → WritesFile f at xs (holding_of old) (holding_of new)
+
+abbrev pub SharesWrite : Option Descriptor → List Slice → (old new : KernelState) → Type 0
+SharesWrite (Some (on.File f at mode)) xs old new = WritesShared f at xs old new
+SharesWrite o xs old new = ⊤
 
 abbrev pub SharesFile : SystemState → Event → KernelState → Type 0
 SharesFile old (event.Call by (call.IolRead fd n)) new = SharesRead by fd n old (held_by (tables_of old.kernel) by fd) new
-SharesFile old (event.Call by (call.IolWrite fd a)) new = SharesWrite (descriptor (tables_of old.kernel) by fd) (slices_in old.kernel.domains by a) new
+SharesFile old (event.Call by (call.IolWrite fd a)) new = SharesWrite (descriptor (tables_of old.kernel) by fd) (slices_in old.kernel.domains by a) old.kernel new
 SharesFile old e new = ⊤
