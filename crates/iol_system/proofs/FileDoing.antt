@@ -39,7 +39,7 @@ use Rattle.iol_kernel.proofs.Stay.{pages_here, stays_here}
 use Rattle.iol_system.specs.Asking.{asks_store, uses_cache}
 use Rattle.iol_system.specs.Doing.{Does}
 use Rattle.iol_system.specs.Machine.{system_of, tables_of}
-use Rattle.iol_system.specs.InPlace.{IsInRange, IsWritten, KeepsInPlace, MayLetGo, ReadWantsMore, SharesRead, SharesWrite, WantsMore, WriteWantsMore}
+use Rattle.iol_system.specs.InPlace.{IsInRange, IsWritten, KeepsInPlace, MayLetGo, ReadWantsMore, SharesCopy, SharesRead, SharesWrite, WantsMore, WriteWantsMore}
 use Rattle.iol_system.specs.Placed.{Creates, FillsForFile, Makes, Publishes, Puts}
 use Rattle.iol_system.specs.Remembered.{Remembers}
 use Rattle.iol_system.specs.Replies.{told}
@@ -354,6 +354,10 @@ module _ (by fd n : ℕ) (disk after : Disk) (old new : KernelState) (r : Result
   copy_in_place (Some (on.File g at mode)) c goes = unless_in_place disk old new copy_event (pool_of_file old g) (LacksPagesToRead g at n disk (holding_of old)) c.reads.keeps (λ p same lacks. goes p (same, lacks))
   copy_in_place o c goes = cache_in_place disk old new copy_event c.0.cache
 
+  copy_shares : (o : Option Descriptor) → CopiesOn by fd n o disk old r after new → IsDone (told reply.Bytes r) → SharesCopy by fd n (system_of old disk) o new
+  copy_shares (Some (on.File g at mode)) c is = record { mid = c.mid; gives = ok_told reply.Bytes r _ c.gives is }
+  copy_shares o c is = tt
+
   pub copies_does : Means reply.Bytes (λ s. reading.read s by fd n) copy_event → Serves (λ s. reading.read s by fd n) disk old r after new → Copies by fd n disk old r after new → Does disk old copy_event (told reply.Bytes r) after new
   copies_does means serves copies =
       let o : Option Descriptor = held_by (tables_of old) by fd in record {
@@ -374,7 +378,7 @@ module _ (by fd n : ℕ) (disk after : Disk) (old new : KernelState) (r : Result
         pages = λ shared. absurd (true≢false (sym shared));
         still = λ still. absurd (true≢false (sym still));
         in_place = copy_in_place o copies (λ p k. k);
-        shares_file = λ done. tt;
+        shares_file = copy_shares o copies;
         publishes = λ done. copy_fills o copies;
         creates = tt;
         sums = serves.sums;

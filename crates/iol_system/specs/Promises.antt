@@ -30,7 +30,7 @@ use Rattle.iol_system.specs.WrittenBack.{IsDropped, IsFlushed, IsKept, IsSynced,
 -- what memory has of files, one for want of room or of memory or by a fault may leave clean parts of these gone. Other events leave what
 -- memory has of files, but that a new file has nothing there. What a sharing call
 -- hands on lies where it lay, and no page is published or freed; what a call leaves that is not about bytes lies where it lay; bytes of files in memory lie where they lay, but those that are
--- written and clean ones that give way, and calls on files share them; calls that make buffers do so on the lowest free pages, each of
+-- written and clean ones that give way, and calls on files share them, and what is read by copying is in memory then, too; calls that make buffers do so on the lowest free pages, each of
 -- which is raised by one, and no others do, and no more gives way for new bytes than was wanted; an open pool keeps its chunks, and a new one has the lowest free; sending
 -- remembers the sums of what is sent; after `fsync` an honest store has the file, and nothing of it is dirty, `flush` leaves one
 -- dirty extent fewer, and `drop_clean` no clean one; new is safe again; live buffers keep their bytes, and aggregates their values.
