@@ -44,7 +44,7 @@ use Rattle.iol_system.specs.Placed.{Creates, FillsForFile, Makes, Publishes, Put
 use Rattle.iol_system.specs.Remembered.{Remembers}
 use Rattle.iol_system.specs.Replies.{told}
 use Rattle.iol_system.specs.Room.{HasRoomFor, HasRoomToRead, HasRoomToWrite, LacksRoomFor, LacksRoomToRead, LacksRoomToWrite, IsDone, IsEarly, IsFault, IsNoRoom, IsRefused}
-use Rattle.iol_system.specs.Still.{is_still}
+use Rattle.iol_system.specs.Still.{is_still, only_looks}
 use Rattle.iol_system.proofs.Doing.{Means, Tells, IsPlain, early_told, no_room_told, refused_told, told_beside}
 use Rattle.iol_system.proofs.InPlace.{beside_in_place, cache_in_place, places_in_place, shares_file, shares_none, unless_in_place}
 use Rattle.iol_system.proofs.Paged.{carried_pages, fills_then_frees}
@@ -68,6 +68,7 @@ module _ {A : Type 0} (f : A → Reply) (m : State → Meaning A) (e : Event) (d
     early = λ is. (refl, refl);
     refused = λ unused is. refl;
     uncached = λ unused other. refl;
+    looks = λ is. (refl, refl);
     shares = λ shared. absurd (true≢false (sym shared ∙ unshared (tables_of h)));
     pages = λ shared. refl;
     still = λ still. absurd (true≢false (sym still ∙ moving));
@@ -90,6 +91,7 @@ pub record IsPlacing (e : Event) (put : State → Text → State) (pool n : ℕ)
   pub uses : (s : State) → uses_cache s e ≡ true
   pub unshared : (s : State) → is_sharing s e ≡ false
   pub moving : is_still e ≡ false
+  pub unlooking : only_looks e ≡ false
   pub has : (disk : Disk) → can_fit old pool n ≡ true → HasRoomFor (system_of old disk) e
   pub lacks : (disk : Disk) → can_fit old pool n ≡ false → LacksRoomFor (system_of old disk) e
   pub publishes : (new : KernelState) → Makes put pool n old new → Publishes old e new
@@ -116,6 +118,7 @@ module _ {A : Type 0} (f : A → Reply) (m : State → Meaning A) (put : State �
         room = λ done. placing.has disk (ok_told f r (can_fit old pool n ≡ true) c.room done);
         no_room = λ is. placing.lacks disk (lacks_told f r (can_fit old pool n ≡ false) tells c.no_room is);
         refused = λ unused is. absurd (true≢false (sym (placing.uses (tables_of old)) ∙ unused));
+        looks = λ is. absurd (true≢false (sym is ∙ placing.unlooking));
         shares = λ shared. absurd (true≢false (sym shared ∙ placing.unshared (tables_of old)));
         pages = λ shared. absurd (true≢false (sym shared ∙ placing.unshared (tables_of old)));
         still = λ still. absurd (true≢false (sym still ∙ placing.moving));
@@ -211,6 +214,7 @@ module _ (by fd n : ℕ) (disk after : Disk) (old new : KernelState) (r : Result
         early = read_early o reads;
         uncached = λ unused other. read_uncached o reads unused;
         refused = read_refused o reads;
+        looks = λ is. absurd (true≢false (sym is));
         shares = λ shared. means (layout_of old) (layout_of new) r (carried_layout (λ s. reading.iol_read s by fd n) old new r (read_carried o reads (queue shared)));
         pages = λ shared. (read_carried o reads (queue shared)).arena;
         still = λ still. absurd (true≢false (sym still));
@@ -289,6 +293,7 @@ module _ (by fd a : ℕ) (disk : Disk) (old new : KernelState) (r : Result ℕ R
         early = λ is. (write_early o writes is, refl);
         uncached = λ unused other. write_uncached o writes unused;
         refused = write_refused o writes;
+        looks = λ is. absurd (true≢false (sym is));
         shares = λ shared. means (layout_of old) (layout_of new) r (carried_layout (λ s. writing.iol_write s by fd a) old new r (write_carried o writes shared));
         pages = λ shared. (write_carried o writes shared).arena;
         still = λ still. absurd (true≢false (sym still));
@@ -374,6 +379,7 @@ module _ (by fd n : ℕ) (disk after : Disk) (old new : KernelState) (r : Result
         early = copy_early o copies;
         uncached = λ unused other. copy_uncached o copies unused;
         refused = copy_refused o copies;
+        looks = λ is. absurd (true≢false (sym is));
         shares = λ shared. absurd (true≢false (sym shared));
         pages = λ shared. absurd (true≢false (sym shared));
         still = λ still. absurd (true≢false (sym still));
@@ -459,6 +465,7 @@ module _ (by fd : ℕ) (bytes : List ℕ) (disk : Disk) (old new : KernelState) 
     early = λ is. (early_of reply.Count r (new ≡ old) _ put_tells (early_room (writing.pool_for (tables_of old) by (descriptor (tables_of old) by fd))) left is, refl);
     refused = λ unused is. absurd (true≢false unused);
     uncached = λ unused other. absurd (true≢false unused);
+    looks = λ is. absurd (true≢false (sym is));
     shares = λ shared. absurd (true≢false (sym shared));
     pages = λ shared. absurd (true≢false (sym shared));
     still = λ still. absurd (true≢false (sym still));

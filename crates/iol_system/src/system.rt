@@ -27,7 +27,7 @@ ghost use Rattle.iol_system.specs.InPlace.{KeepsInPlace, SharesFile};
 ghost use Rattle.iol_system.specs.Placed.{Creates, Publishes};
 ghost use Rattle.iol_system.specs.Remembered.{Remembers};
 ghost use Rattle.iol_system.specs.Room.{HasRoomFor, LacksRoomFor, IsDone, IsEarly, IsFault, IsNoRoom, IsRefused};
-ghost use Rattle.iol_system.specs.Still.{is_still};
+ghost use Rattle.iol_system.specs.Still.{is_still, only_looks};
 ghost use Rattle.iol_system.specs.WrittenBack.{IsDropped, IsFlushed, IsKept, IsSynced, StoresBack};
 
 use crate::aggregates::Aggregates;
@@ -152,12 +152,14 @@ impl<B: Backing> System<B> {
         ensures no_room { IsNoRoom result → LacksRoomFor self.old event }
 
         // A refused event changes nothing at all of what the system holds; where it works on what memory has of files, clean parts of
-        // these may be gone, but only for want of room or of memory, or by a fault. Other events leave that as it is.
+        // these may be gone, but only for want of room or of memory, or by a fault. Other events leave that as it is, and those
+        // that only look change nothing at all.
         ensures early { IsEarly result → self.new ≡ self.old }
         ensures refused { uses_cache (tables_of self.old.kernel) event ≡ false →
             IsRefused result → self.new ≡ self.old }
         ensures uncached { uses_cache (tables_of self.old.kernel) event ≡ false →
             makes_file event ≡ false → self.new.kernel.cache ≡ self.old.kernel.cache }
+        ensures looks { only_looks event ≡ true → self.new ≡ self.old }
 
         // What a sharing call hands on lies where it lay, and no page is published or freed. So does all that is left by an event
         // that is not about bytes.
