@@ -23,6 +23,7 @@ use Rattle.iol_kernel.proofs.Serving.{backed_stays, steps_beside}
 use Rattle.iol_kernel.proofs.Stay.{pages_equal, stays_equal}
 use Rattle.iol_system.specs.Asking.{asks_store, makes_file}
 use Rattle.iol_system.specs.Doing.{Does}
+use Rattle.iol_system.specs.Late.{LeavesLate}
 use Rattle.iol_system.specs.Machine.{SystemState, system_of, tables_of}
 use Rattle.iol_system.specs.Placed.{Creates, Publishes}
 use Rattle.iol_system.specs.Remembered.{Remembers}
@@ -79,6 +80,7 @@ pub record IsPlain (e : Event) : Type 0 where
   pub has : (s : SystemState) → HasRoomFor s e
   pub publishes : (old new : KernelState) → KeepsPages old.store new.store [] → Publishes old e new
   pub creates : (old : KernelState) (x : Reply) (new : KernelState) → Creates old e x new
+  pub late : (old : SystemState) (x : Reply) (new : SystemState) → LeavesLate old e x new
   pub sums : (old : KernelState) (x : Reply) (new : KernelState) → new.sums ≡ old.sums → Remembers old e x new
 
 module _ {A : Type 0} (f : A → Reply) (m : State → Meaning A) (e : Event) (disk : Disk) (old new : KernelState) (r : Result A Refusal) (tells : Tells f) (plain : IsPlain e) (means : Means f m e) where
@@ -98,6 +100,7 @@ module _ {A : Type 0} (f : A → Reply) (m : State → Meaning A) (e : Event) (d
     no_room = λ is. absurd (no_room_told f r tells c.roomy is);
     refused = λ unused is. refused_told f r (new ≡ old) tells c.refused is;
     uncached = λ unused other. c.cache;
+    late = plain.late (system_of old disk) (told f r) (system_of new disk);
     looks = λ is. absurd (true≢false (sym is ∙ unlooking));
     shares = λ shared. means (layout_of old) (layout_of new) r (carried_layout m old new r c);
     pages = λ shared. c.arena;
@@ -128,6 +131,7 @@ module _ {A : Type 0} (f : A → Reply) (m : State → Meaning A) (e : Event) (d
     no_room = λ is. absurd (no_room_told f r tells roomy is);
     refused = λ unused is. refused_told f r (new ≡ old) tells c.refused is;
     uncached = λ unused other. c.cache;
+    late = plain.late (system_of old disk) (told f r) (system_of new disk);
     looks = λ is. absurd (true≢false (sym is ∙ unlooking));
     shares = λ shared. absurd (true≢false (sym shared ∙ unshared (tables_of old)));
     pages = λ shared. absurd (true≢false (sym shared ∙ unshared (tables_of old)));
@@ -158,6 +162,7 @@ module _ {A : Type 0} (f : A → Reply) (m : State → Meaning A) (e : Event) (d
     no_room = λ is. absurd (no_room_told f r tells c.roomy is);
     refused = λ unused is. refused_told f r (new ≡ old) tells c.refused is;
     uncached = λ unused other. c.cache;
+    late = plain.late (system_of old disk) (told f r) (system_of new disk);
     looks = λ is. (looks is, refl);
     shares = λ shared. absurd (true≢false (sym shared ∙ unshared (tables_of old)));
     pages = λ shared. absurd (true≢false (sym shared ∙ unshared (tables_of old)));
@@ -188,6 +193,7 @@ module _ {A : Type 0} (f : A → Reply) (m : State → Meaning A) (e : Event) (d
     no_room = λ is. absurd (no_room_told f r tells c.roomy is);
     refused = λ unused is. refused_told f r (new ≡ old) tells c.refused is;
     uncached = λ unused other. absurd (true≢false (sym made ∙ other));
+    late = plain.late (system_of old disk) (told f r) (system_of new disk);
     looks = λ is. absurd (true≢false (sym is ∙ unlooking));
     shares = λ shared. absurd (true≢false (sym shared ∙ unshared (tables_of old)));
     pages = λ shared. absurd (true≢false (sym shared ∙ unshared (tables_of old)));

@@ -38,6 +38,7 @@ use Rattle.iol_kernel.proofs.Serving.{steps_beside}
 use Rattle.iol_kernel.proofs.Stay.{pages_here, stays_here}
 use Rattle.iol_system.specs.Asking.{asks_store, uses_cache}
 use Rattle.iol_system.specs.Doing.{Does}
+use Rattle.iol_system.specs.Late.{CopyLeaves, IfRefused, LeavesCopied, LeavesLate, PutLeaves, ReadLeaves, WriteLeaves}
 use Rattle.iol_system.specs.Machine.{system_of, tables_of}
 use Rattle.iol_system.specs.InPlace.{IsInRange, IsWritten, KeepsInPlace, MayLetGo, ReadWantsMore, SharesCopy, SharesRead, SharesWrite, WantsMore, WriteWantsMore}
 use Rattle.iol_system.specs.Placed.{Creates, FillsForFile, Makes, Publishes, Puts}
@@ -49,7 +50,7 @@ use Rattle.iol_system.proofs.Doing.{Means, Tells, IsPlain, early_told, no_room_t
 use Rattle.iol_system.proofs.InPlace.{beside_in_place, cache_in_place, places_in_place, shares_file, shares_none, unless_in_place}
 use Rattle.iol_system.proofs.Paged.{carried_pages, fills_then_frees}
 use Rattle.iol_system.proofs.WrittenBack.{none_back, writes_back}
-use Rattle.iol_system.proofs.ResultTold.{ok_told, lacks_told, counts_told, has_told, room_told, fault_told, early_room, early_room_fault, early_of}
+use Rattle.iol_system.proofs.ResultTold.{ok_told, lacks_told, counts_told, has_told, room_told, fault_told, early_room, early_room_fault, early_of, err_more, late_told}
 
 -- bytes are shown, and nothing changes
 module _ {A : Type 0} (f : A → Reply) (m : State → Meaning A) (e : Event) (disk : Disk) (h : KernelState) (r : Result A Refusal) (tells : Tells f) (plain : IsPlain e) (means : Means f m e) where
@@ -68,6 +69,7 @@ module _ {A : Type 0} (f : A → Reply) (m : State → Meaning A) (e : Event) (d
     early = λ is. (refl, refl);
     refused = λ unused is. refl;
     uncached = λ unused other. refl;
+    late = plain.late (system_of h disk) (told f r) (system_of h disk);
     looks = λ is. (refl, refl);
     shares = λ shared. absurd (true≢false (sym shared ∙ unshared (tables_of h)));
     pages = λ shared. refl;
@@ -96,6 +98,7 @@ pub record IsPlacing (e : Event) (put : State → Text → State) (pool n : ℕ)
   pub lacks : (disk : Disk) → can_fit old pool n ≡ false → LacksRoomFor (system_of old disk) e
   pub publishes : (new : KernelState) → Makes put pool n old new → Publishes old e new
   pub creates : (x : Reply) (new : KernelState) → Creates old e x new
+  pub late : (disk : Disk) (x : Reply) (new : KernelState) → IfRefused x (MayHaveEvicted pool n old new) → LeavesLate (system_of old disk) e x (system_of new disk)
   pub sums : (x : Reply) (new : KernelState) → new.sums ≡ old.sums → Remembers old e x new
 
 module _ {A : Type 0} (f : A → Reply) (m : State → Meaning A) (put : State → Text → State) (pool n : ℕ) (e : Event) (disk : Disk) (old new : KernelState) (r : Result A Refusal) (tells : Tells f) (placing : IsPlacing e put pool n old) (means : Means f m e) where
@@ -118,6 +121,7 @@ module _ {A : Type 0} (f : A → Reply) (m : State → Meaning A) (put : State �
         room = λ done. placing.has disk (ok_told f r (can_fit old pool n ≡ true) c.room done);
         no_room = λ is. placing.lacks disk (lacks_told f r (can_fit old pool n ≡ false) tells c.no_room is);
         refused = λ unused is. absurd (true≢false (sym (placing.uses (tables_of old)) ∙ unused));
+        late = placing.late disk (told f r) new (late_told f r (MayHaveEvicted pool n old new) tells c.refused);
         looks = λ is. absurd (true≢false (sym is ∙ placing.unlooking));
         shares = λ shared. absurd (true≢false (sym shared ∙ placing.unshared (tables_of old)));
         pages = λ shared. absurd (true≢false (sym shared ∙ placing.unshared (tables_of old)));
@@ -197,6 +201,10 @@ module _ (by fd n : ℕ) (disk after : Disk) (old new : KernelState) (r : Result
   read_shares (Some (on.File g at mode)) c is = ok_told reply.Agg r _ c.1 is
   read_shares o c is = tt
 
+  read_late : (o : Option Descriptor) → ReadsOn by fd n o disk old r after new → ReadLeaves by fd n (system_of old disk) o (told reply.Agg r) (system_of new after)
+  read_late (Some (on.File g at mode)) c = late_told reply.Agg r _ read_tells c.0.leaves
+  read_late o c = tt
+
   pub reads_does : Means reply.Agg (λ s. reading.iol_read s by fd n) read_event → Serves (λ s. reading.iol_read s by fd n) disk old r after new → Reads by fd n disk old r after new → Does disk old read_event (told reply.Agg r) after new
   reads_does means serves reads =
       let o : Option Descriptor = held_by (tables_of old) by fd in
@@ -214,6 +222,7 @@ module _ (by fd n : ℕ) (disk after : Disk) (old new : KernelState) (r : Result
         early = read_early o reads;
         uncached = λ unused other. read_uncached o reads unused;
         refused = read_refused o reads;
+        late = read_late o reads;
         looks = λ is. absurd (true≢false (sym is));
         shares = λ shared. means (layout_of old) (layout_of new) r (carried_layout (λ s. reading.iol_read s by fd n) old new r (read_carried o reads (queue shared)));
         pages = λ shared. (read_carried o reads (queue shared)).arena;
@@ -277,6 +286,10 @@ module _ (by fd a : ℕ) (disk : Disk) (old new : KernelState) (r : Result ℕ R
   write_shares (Some (on.File g at mode)) c is = record { lies = ok_told reply.Count r _ c.lies is; over = λ some. ok_told reply.Count r _ (c.over some) is }
   write_shares o c is = tt
 
+  write_late : (o : Option Descriptor) → WritesOn by fd a o old r new → WriteLeaves old o (slices_in old.domains by a) (told reply.Count r) new
+  write_late (Some (on.File g at mode)) c = late_told reply.Count r _ write_tells c.leaves
+  write_late o c = tt
+
   pub writes_does : Means reply.Count (λ s. writing.iol_write s by fd a) write_event → Serves (λ s. writing.iol_write s by fd a) disk old r disk new → WritesOn by fd a (descriptor (tables_of old) by fd) old r new → Does disk old write_event (told reply.Count r) disk new
   writes_does means serves writes =
       let o : Option Descriptor = descriptor (tables_of old) by fd in record {
@@ -293,6 +306,7 @@ module _ (by fd a : ℕ) (disk : Disk) (old new : KernelState) (r : Result ℕ R
         early = λ is. (write_early o writes is, refl);
         uncached = λ unused other. write_uncached o writes unused;
         refused = write_refused o writes;
+        late = write_late o writes;
         looks = λ is. absurd (true≢false (sym is));
         shares = λ shared. means (layout_of old) (layout_of new) r (carried_layout (λ s. writing.iol_write s by fd a) old new r (write_carried o writes shared));
         pages = λ shared. (write_carried o writes shared).arena;
@@ -363,6 +377,12 @@ module _ (by fd n : ℕ) (disk after : Disk) (old new : KernelState) (r : Result
   copy_shares (Some (on.File g at mode)) c is = record { mid = c.mid; gives = ok_told reply.Bytes r _ c.gives is }
   copy_shares o c is = tt
 
+  copy_late : (o : Option Descriptor) → CopiesOn by fd n o disk old r after new → CopyLeaves by fd n (system_of old disk) o (told reply.Bytes r) (system_of new after)
+  copy_late (Some (on.File g at mode)) c =
+      late_told reply.Bytes r (LeavesCopied by fd n g at mode (system_of old disk) (system_of new after)) copy_tells
+      (err_more r _ (LeavesCopied by fd n g at mode (system_of old disk) (system_of new after)) (λ x left. record { mid = c.mid; leaves = left; frees = c.frees; lists = c.lists }) c.reads.leaves)
+  copy_late o c = tt
+
   pub copies_does : Means reply.Bytes (λ s. reading.read s by fd n) copy_event → Serves (λ s. reading.read s by fd n) disk old r after new → Copies by fd n disk old r after new → Does disk old copy_event (told reply.Bytes r) after new
   copies_does means serves copies =
       let o : Option Descriptor = held_by (tables_of old) by fd in record {
@@ -379,6 +399,7 @@ module _ (by fd n : ℕ) (disk after : Disk) (old new : KernelState) (r : Result
         early = copy_early o copies;
         uncached = λ unused other. copy_uncached o copies unused;
         refused = copy_refused o copies;
+        late = copy_late o copies;
         looks = λ is. absurd (true≢false (sym is));
         shares = λ shared. absurd (true≢false (sym shared));
         pages = λ shared. absurd (true≢false (sym shared));
@@ -444,6 +465,13 @@ module _ (by fd : ℕ) (bytes : List ℕ) (disk : Disk) (old new : KernelState) 
   put_in_place (Some (on.WriteEnd p)) placed puts writes goes = queue_in_place (Some (on.WriteEnd p)) (placed refl) goes
   put_in_place (Some (on.Connection c)) placed puts writes goes = queue_in_place (Some (on.Connection c)) (placed refl) goes
 
+  put_late : (o : Option Descriptor) → (is_file o ≡ false → IsPut o) → PutLeaves (pool_of o) (count_of o) old o (told reply.Count r) new
+  put_late (Some (on.File g at mode)) placed = tt
+  put_late None placed = late_told reply.Count r _ put_tells (placed refl).refused
+  put_late (Some (on.ReadEnd p)) placed = late_told reply.Count r _ put_tells (placed refl).refused
+  put_late (Some (on.WriteEnd p)) placed = late_told reply.Count r _ put_tells (placed refl).refused
+  put_late (Some (on.Connection c)) placed = late_told reply.Count r _ put_tells (placed refl).refused
+
   pub puts_does : Means reply.Count (λ s. writing.write s by fd bytes) put_event → Serves (λ s. writing.write s by fd bytes) disk old r disk new
       → (is_file (descriptor (tables_of old) by fd) ≡ false → Places (λ s. writing.write s by fd bytes) put (writing.pool_for (tables_of old) by (descriptor (tables_of old) by fd)) taken_bytes old r new)
       → OnOk r (can_fit old (writing.pool_for (tables_of old) by (descriptor (tables_of old) by fd)) taken_bytes ≡ true)
@@ -465,6 +493,7 @@ module _ (by fd : ℕ) (bytes : List ℕ) (disk : Disk) (old new : KernelState) 
     early = λ is. (early_of reply.Count r (new ≡ old) _ put_tells (early_room (writing.pool_for (tables_of old) by (descriptor (tables_of old) by fd))) left is, refl);
     refused = λ unused is. absurd (true≢false unused);
     uncached = λ unused other. absurd (true≢false unused);
+    late = put_late (descriptor (tables_of old) by fd) queue;
     looks = λ is. absurd (true≢false (sym is));
     shares = λ shared. absurd (true≢false (sym shared));
     pages = λ shared. absurd (true≢false (sym shared));

@@ -24,6 +24,7 @@ ghost use Rattle.iol_arena.specs.State.{no_entry};
 ghost use Rattle.iol_arena.specs.Buffers.{SharesNoPage, live_pages};
 ghost use Rattle.iol_system.specs.Asking.{asks_store, makes_file, uses_cache, writes_store};
 ghost use Rattle.iol_system.specs.InPlace.{KeepsInPlace, SharesFile};
+ghost use Rattle.iol_system.specs.Late.{LeavesLate};
 ghost use Rattle.iol_system.specs.Placed.{Creates, Publishes};
 ghost use Rattle.iol_system.specs.Remembered.{Remembers};
 ghost use Rattle.iol_system.specs.Room.{HasRoomFor, LacksRoomFor, IsDone, IsEarly, IsFault, IsNoRoom, IsRefused};
@@ -151,14 +152,16 @@ impl<B: Backing> System<B> {
         ensures room { IsDone result → HasRoomFor self.old event }
         ensures no_room { IsNoRoom result → LacksRoomFor self.old event }
 
-        // A refused event changes nothing at all of what the system holds; where it works on what memory has of files, clean parts of
-        // these may be gone, but only for want of room or of memory, or by a fault. Other events leave that as it is, and those
-        // that only look change nothing at all.
+        // A refused event changes nothing at all of what the system holds. Only for want of room or of memory, or by a fault, one
+        // that wants pages or works on a file may leave something by then: clean parts of files that gave way, the first ones
+        // before the others, hits that count, pages that were filled and are free again; `fsync` and `flush` what they wrote
+        // back. Other events leave what memory has of files as it is, and those that only look change nothing at all.
         ensures early { IsEarly result → self.new ≡ self.old }
         ensures refused { uses_cache (tables_of self.old.kernel) event ≡ false →
             IsRefused result → self.new ≡ self.old }
         ensures uncached { uses_cache (tables_of self.old.kernel) event ≡ false →
             makes_file event ≡ false → self.new.kernel.cache ≡ self.old.kernel.cache }
+        ensures late { LeavesLate self.old event result self.new }
         ensures looks { only_looks event ≡ true → self.new ≡ self.old }
 
         // What a sharing call hands on lies where it lay, and no page is published or freed. So does all that is left by an event
