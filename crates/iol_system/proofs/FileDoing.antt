@@ -31,7 +31,7 @@ use Rattle.iol_kernel.specs.Copying.{Copies, CopiesOn}
 use Rattle.iol_kernel.specs.FileReading.{Reads, ReadsOn, held_by}
 use Rattle.iol_kernel.specs.KernelState.{KernelState, IsSound, layout_of, machine_of, slices_in}
 use Rattle.iol_kernel.specs.MakingRoom.{MakesRoom, MayHaveEvicted, Places, can_fit}
-use Rattle.iol_kernel.specs.WritingFiles.{PutsOn, WritesOn, pool_of_file}
+use Rattle.iol_kernel.specs.WritingFiles.{LaysOn, PutsOn, WritesOn, pool_of_file}
 use Rattle.iol_kernel.specs.Keeping.{LacksPages, LacksPagesToRead}
 use Rattle.iol_kernel.proofs.Carried.{carried_layout}
 use Rattle.iol_kernel.proofs.Serving.{steps_beside}
@@ -40,7 +40,7 @@ use Rattle.iol_system.specs.Asking.{asks_store, uses_cache}
 use Rattle.iol_system.specs.Doing.{Does}
 use Rattle.iol_system.specs.Late.{CopyLeaves, IfRefused, LeavesCopied, LeavesLate, PutLeaves, ReadLeaves, WriteLeaves}
 use Rattle.iol_system.specs.Machine.{system_of, tables_of}
-use Rattle.iol_system.specs.InPlace.{IsInRange, IsWritten, KeepsInPlace, MayLetGo, ReadWantsMore, SharesCopy, SharesRead, SharesWrite, WantsMore, WriteWantsMore}
+use Rattle.iol_system.specs.InPlace.{IsInRange, IsWritten, KeepsInPlace, MayLetGo, ReadWantsMore, SharesCopy, SharesPut, SharesRead, SharesWrite, WantsMore, WriteWantsMore}
 use Rattle.iol_system.specs.Placed.{Creates, FillsForFile, Makes, Publishes, Puts}
 use Rattle.iol_system.specs.Remembered.{Remembers}
 use Rattle.iol_system.specs.Replies.{told}
@@ -465,21 +465,32 @@ module _ (by fd : ℕ) (bytes : List ℕ) (disk : Disk) (old new : KernelState) 
   put_in_place (Some (on.WriteEnd p)) placed puts writes goes = queue_in_place (Some (on.WriteEnd p)) (placed refl) goes
   put_in_place (Some (on.Connection c)) placed puts writes goes = queue_in_place (Some (on.Connection c)) (placed refl) goes
 
-  put_late : (o : Option Descriptor) → (is_file o ≡ false → IsPut o) → PutLeaves (pool_of o) (count_of o) old o (told reply.Count r) new
-  put_late (Some (on.File g at mode)) placed = tt
-  put_late None placed = late_told reply.Count r _ put_tells (placed refl).refused
-  put_late (Some (on.ReadEnd p)) placed = late_told reply.Count r _ put_tells (placed refl).refused
-  put_late (Some (on.WriteEnd p)) placed = late_told reply.Count r _ put_tells (placed refl).refused
-  put_late (Some (on.Connection c)) placed = late_told reply.Count r _ put_tells (placed refl).refused
+  abbrev IsLaid : Option Descriptor → Type 0
+  IsLaid o = LaysOn o (pool_of o) bytes old r new
+
+  put_late : (o : Option Descriptor) → (is_file o ≡ false → IsPut o) → IsLaid o → PutLeaves (pool_of o) (count_of o) bytes old o (told reply.Count r) new
+  put_late (Some (on.File g at mode)) placed laid = late_told reply.Count r _ put_tells laid.leaves
+  put_late None placed laid = late_told reply.Count r _ put_tells (placed refl).refused
+  put_late (Some (on.ReadEnd p)) placed laid = late_told reply.Count r _ put_tells (placed refl).refused
+  put_late (Some (on.WriteEnd p)) placed laid = late_told reply.Count r _ put_tells (placed refl).refused
+  put_late (Some (on.Connection c)) placed laid = late_told reply.Count r _ put_tells (placed refl).refused
+
+  put_shares : (o : Option Descriptor) → IsLaid o → IsDone (told reply.Count r) → SharesPut o (pool_of o) bytes old new
+  put_shares None laid is = tt
+  put_shares (Some (on.File g at mode)) laid is = ok_told reply.Count r _ laid.lays is
+  put_shares (Some (on.ReadEnd p)) laid is = tt
+  put_shares (Some (on.WriteEnd p)) laid is = tt
+  put_shares (Some (on.Connection c)) laid is = tt
 
   pub puts_does : Means reply.Count (λ s. writing.write s by fd bytes) put_event → Serves (λ s. writing.write s by fd bytes) disk old r disk new
       → (is_file (descriptor (tables_of old) by fd) ≡ false → Places (λ s. writing.write s by fd bytes) put (writing.pool_for (tables_of old) by (descriptor (tables_of old) by fd)) taken_bytes old r new)
       → OnOk r (can_fit old (writing.pool_for (tables_of old) by (descriptor (tables_of old) by fd)) taken_bytes ≡ true)
       → ((p : ℕ) → r ≡ Err (NoRoom p) → can_fit old (writing.pool_for (tables_of old) by (descriptor (tables_of old) by fd)) taken_bytes ≡ false)
       → PutsOn (descriptor (tables_of old) by fd) (writing.pool_for (tables_of old) by (descriptor (tables_of old) by fd)) (length bytes) old r new
+      → LaysOn (descriptor (tables_of old) by fd) (writing.pool_for (tables_of old) by (descriptor (tables_of old) by fd)) bytes old r new
       → IfErr r (λ x. (new ≡ old) ⊎ WantOfRoom (writing.pool_for (tables_of old) by (descriptor (tables_of old) by fd)) x)
       → Does disk old put_event (told reply.Count r) disk new
-  puts_does means serves queue room lacks puts left = record {
+  puts_does means serves queue room lacks puts laid left = record {
     step = λ backed placed. means (machine_of disk.slots old) (machine_of disk.slots new) r (serves.step backed placed);
     backed = serves.backed;
     beside = told_beside reply.Count (λ s. writing.write s by fd bytes) put_event old new r means serves.beside;
@@ -493,13 +504,13 @@ module _ (by fd : ℕ) (bytes : List ℕ) (disk : Disk) (old new : KernelState) 
     early = λ is. (early_of reply.Count r (new ≡ old) _ put_tells (early_room (writing.pool_for (tables_of old) by (descriptor (tables_of old) by fd))) left is, refl);
     refused = λ unused is. absurd (true≢false unused);
     uncached = λ unused other. absurd (true≢false unused);
-    late = put_late (descriptor (tables_of old) by fd) queue;
+    late = put_late (descriptor (tables_of old) by fd) queue laid;
     looks = λ is. absurd (true≢false (sym is));
     shares = λ shared. absurd (true≢false (sym shared));
     pages = λ shared. absurd (true≢false (sym shared));
     still = λ still. absurd (true≢false (sym still));
     in_place = put_in_place (descriptor (tables_of old) by fd) queue puts (λ g i k. k) (λ p k. k);
-    shares_file = λ done. tt;
+    shares_file = put_shares (descriptor (tables_of old) by fd) laid;
     publishes = λ done. put_fills (descriptor (tables_of old) by fd) queue puts done;
     creates = tt;
     sums = serves.sums;

@@ -173,6 +173,7 @@ abbrev pub shares_file : Event → Bool
 shares_file (event.Call by (call.IolRead fd n)) = true
 shares_file (event.Call by (call.IolWrite fd a)) = true
 shares_file (event.Call by (call.Read fd n)) = true
+shares_file (event.Call by (call.Write fd bytes)) = true
 shares_file e = false
 
 module _ (old : SystemState) (new : KernelState) where
@@ -180,6 +181,7 @@ module _ (old : SystemState) (new : KernelState) where
   call_shares_none by (call.IolRead fd n) none = absurd (true≢false none)
   call_shares_none by (call.IolWrite fd a) none = absurd (true≢false none)
   call_shares_none by (call.Read fd n) none = absurd (true≢false none)
+  call_shares_none by (call.Write fd bytes) none = absurd (true≢false none)
   call_shares_none by k none = tt
 
   pub shares_none : (e : Event) → shares_file e ≡ false → SharesFile old e new

@@ -22,7 +22,8 @@ use Rattle.iol_kernel.specs.Backed.{holding_of}
 use Rattle.iol_kernel.specs.FileReading.{GivesCopy, GivesRead, file_read, held_by}
 use Rattle.iol_kernel.specs.Keeping.{LacksPages, LacksPagesToRead}
 use Rattle.iol_kernel.specs.KernelState.{KernelState, slices_in}
-use Rattle.iol_kernel.specs.WritingFiles.{pool_of_file}
+use Rattle.iol_kernel.specs.MakingRoom.{AfterRoom}
+use Rattle.iol_kernel.specs.WritingFiles.{LaysOver, pool_of_file}
 use Rattle.iol_system.specs.Machine.{SystemState, tables_of}
 
 -- byte i of file f is one of n from the position on at which a descriptor is open
@@ -101,8 +102,14 @@ abbrev pub SharesWrite : Option Descriptor → List Slice → (old new : KernelS
 SharesWrite (Some (on.File f at mode)) xs old new = WritesShared f at xs old new
 SharesWrite o xs old new = ⊤
 
+-- New bytes that are written over a file: room was made, and they came as slices of its pool, dirty, as a write of these does.
+abbrev pub SharesPut : Option Descriptor → (pool : ℕ) → List ℕ → (old new : KernelState) → Type 0
+SharesPut (Some (on.File f at mode)) pool bytes old new = AfterRoom pool (length bytes) old (λ roomy. LaysOver f at pool bytes roomy new)
+SharesPut o pool bytes old new = ⊤
+
 abbrev pub SharesFile : SystemState → Event → KernelState → Type 0
 SharesFile old (event.Call by (call.IolRead fd n)) new = SharesRead by fd n old (held_by (tables_of old.kernel) by fd) new
 SharesFile old (event.Call by (call.IolWrite fd a)) new = SharesWrite (descriptor (tables_of old.kernel) by fd) (slices_in old.kernel.domains by a) old.kernel new
 SharesFile old (event.Call by (call.Read fd n)) new = SharesCopy by fd n old (held_by (tables_of old.kernel) by fd) new
+SharesFile old (event.Call by (call.Write fd bytes)) new = let o = descriptor (tables_of old.kernel) by fd in SharesPut o (pool_for (tables_of old.kernel) by o) bytes old.kernel new
 SharesFile old e new = ⊤

@@ -21,7 +21,7 @@ use Rattle.iol_hold.specs.declared.slices.Slice.{Slice}
 use Rattle.iol_kernel.specs.FileReading.{LeavesAtRefusal, file_read, held_by}
 use Rattle.iol_kernel.specs.KernelState.{KernelState, slices_in}
 use Rattle.iol_kernel.specs.MakingRoom.{MayHaveEvicted}
-use Rattle.iol_kernel.specs.WritingFiles.{LeavesUnwritten}
+use Rattle.iol_kernel.specs.WritingFiles.{LeavesUnlaid, LeavesUnwritten}
 use Rattle.iol_system.specs.Machine.{SystemState, tables_of}
 
 -- it holds of the refusal, where there is one
@@ -51,17 +51,17 @@ abbrev pub WriteLeaves : (old : KernelState) → Option Descriptor → List Slic
 WriteLeaves old (Some (on.File f at mode)) xs r new = IfRefused r (LeavesUnwritten f xs old new)
 WriteLeaves old o xs r new = ⊤
 
--- A refused write of n bytes to a queue made room at most. To a file nothing is said here.
-abbrev pub PutLeaves : (pool n : ℕ) → (old : KernelState) → Option Descriptor → Reply → (new : KernelState) → Type 0
-PutLeaves pool n old (Some (on.File f at mode)) r new = ⊤
-PutLeaves pool n old o r new = IfRefused r (MayHaveEvicted pool n old new)
+-- A refused write of bytes, of which n are taken, made room at most, and what it placed in a file's pool is gone.
+abbrev pub PutLeaves : (pool n : ℕ) → List ℕ → (old : KernelState) → Option Descriptor → Reply → (new : KernelState) → Type 0
+PutLeaves pool n bytes old (Some (on.File f at mode)) r new = IfRefused r (LeavesUnlaid pool bytes old new)
+PutLeaves pool n bytes old o r new = IfRefused r (MayHaveEvicted pool n old new)
 
 abbrev pub CallLeaves : (old : SystemState) → (by : ℕ) → Call → Reply → (new : SystemState) → Type 0
 CallLeaves old by (call.AggMake bytes) r new = IfRefused r (MayHaveEvicted (default_pool (tables_of old.kernel) by) (length bytes) old.kernel new.kernel)
 CallLeaves old by (call.IolRead fd n) r new = ReadLeaves by fd n old (held_by (tables_of old.kernel) by fd) r new
 CallLeaves old by (call.IolWrite fd a) r new = WriteLeaves old.kernel (descriptor (tables_of old.kernel) by fd) (slices_in old.kernel.domains by a) r new.kernel
 CallLeaves old by (call.Read fd n) r new = CopyLeaves by fd n old (held_by (tables_of old.kernel) by fd) r new
-CallLeaves old by (call.Write fd bytes) r new = PutLeaves (pool_for (tables_of old.kernel) by (descriptor (tables_of old.kernel) by fd)) (write (tables_of old.kernel) by fd bytes).answer old.kernel (descriptor (tables_of old.kernel) by fd) r new.kernel
+CallLeaves old by (call.Write fd bytes) r new = PutLeaves (pool_for (tables_of old.kernel) by (descriptor (tables_of old.kernel) by fd)) (write (tables_of old.kernel) by fd bytes).answer bytes old.kernel (descriptor (tables_of old.kernel) by fd) r new.kernel
 CallLeaves old by c r new = ⊤
 
 -- A refused event that places bytes, or reads or writes a file, changed nothing; or it came late, and has just made room, as far

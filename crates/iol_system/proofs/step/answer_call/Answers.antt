@@ -183,4 +183,4 @@ returns-in-Write g c =
     subst (λ (k : Call). Does (g.B.Backing.disk c.args.backing.now) (state_of c.args.kernel.now) (event.Call c.args.by k) c.count-in-Write.result (g.B.Backing.disk c.args.backing.now) (state_of c.write.new.kernel)) (sym c.in-Write.is)
     (subst (λ (l : List ℕ). Does (g.B.Backing.disk c.args.backing.now) (state_of c.args.kernel.now) (event.Call c.args.by (call.Write c.in-Write.fd l)) c.count-in-Write.result (g.B.Backing.disk c.args.backing.now) (state_of c.write.new.kernel)) c.as_slice.ensures
     (subst (λ (x : Reply). Does (g.B.Backing.disk c.args.backing.now) (state_of c.args.kernel.now) (event.Call c.args.by (call.Write c.in-Write.fd c.as_slice.result.now)) x (g.B.Backing.disk c.args.backing.now) (state_of c.write.new.kernel)) (sym c.count-in-Write.ensures)
-    (puts_does c.args.by c.in-Write.fd c.as_slice.result.now (g.B.Backing.disk c.args.backing.now) (state_of c.args.kernel.now) (state_of c.write.new.kernel) c.write.result (λ s t r step. told_step reply.Count (record { answers = λ a. refl; roomy = λ a x. x; unrefused = λ a x. x }) (writing.write s c.args.by c.in-Write.fd c.as_slice.result.now) s t r step) (c.write.ensures.serves (g.B.Backing.disk c.args.backing.now)) c.write.ensures.queue c.write.ensures.room c.write.ensures.no_room c.write.ensures.puts c.write.ensures.refused)))
+    (puts_does c.args.by c.in-Write.fd c.as_slice.result.now (g.B.Backing.disk c.args.backing.now) (state_of c.args.kernel.now) (state_of c.write.new.kernel) c.write.result (λ s t r step. told_step reply.Count (record { answers = λ a. refl; roomy = λ a x. x; unrefused = λ a x. x }) (writing.write s c.args.by c.in-Write.fd c.as_slice.result.now) s t r step) (c.write.ensures.serves (g.B.Backing.disk c.args.backing.now)) c.write.ensures.queue c.write.ensures.room c.write.ensures.no_room c.write.ensures.puts c.write.ensures.lays c.write.ensures.refused)))
