@@ -23,12 +23,13 @@ use Rattle.iol_kernel.proofs.Serving.{backed_stays, steps_beside}
 use Rattle.iol_kernel.proofs.Stay.{pages_equal, stays_equal}
 use Rattle.iol_system.specs.Asking.{asks_store, makes_file}
 use Rattle.iol_system.specs.Doing.{Does}
+use Rattle.iol_system.specs.Late.{LeavesLate}
 use Rattle.iol_system.specs.Machine.{SystemState, system_of, tables_of}
 use Rattle.iol_system.specs.Placed.{Creates, Publishes}
 use Rattle.iol_system.specs.Remembered.{Remembers}
 use Rattle.iol_system.specs.Replies.{told}
 use Rattle.iol_system.specs.Room.{HasRoomFor, IsEarly, IsNoRoom, IsRefused}
-use Rattle.iol_system.specs.Still.{is_still}
+use Rattle.iol_system.specs.Still.{is_still, only_looks}
 use Rattle.iol_system.proofs.InPlace.{cache_in_place, cover_in_place, shares_file, shares_none}
 use Rattle.iol_system.proofs.Paged.{carried_pages}
 use Rattle.iol_system.proofs.WrittenBack.{none_back, writes_back}
@@ -79,12 +80,13 @@ pub record IsPlain (e : Event) : Type 0 where
   pub has : (s : SystemState) → HasRoomFor s e
   pub publishes : (old new : KernelState) → KeepsPages old.store new.store [] → Publishes old e new
   pub creates : (old : KernelState) (x : Reply) (new : KernelState) → Creates old e x new
+  pub late : (old : SystemState) (x : Reply) (new : SystemState) → LeavesLate old e x new
   pub sums : (old : KernelState) (x : Reply) (new : KernelState) → new.sums ≡ old.sums → Remembers old e x new
 
 module _ {A : Type 0} (f : A → Reply) (m : State → Meaning A) (e : Event) (disk : Disk) (old new : KernelState) (r : Result A Refusal) (tells : Tells f) (plain : IsPlain e) (means : Means f m e) where
   -- a call that carries out
-  pub carried_does : IsSound old → CarriesOut m old r new → Does disk old e (told f r) disk new
-  carried_does sound c = record {
+  pub carried_does : only_looks e ≡ false → IsSound old → CarriesOut m old r new → Does disk old e (told f r) disk new
+  carried_does unlooking sound c = record {
     step = λ backed placed. means (machine_of disk.slots old) (machine_of disk.slots new) r (carried_machine m old new r disk.slots c);
     backed = backed_stays disk old new sound c.sound c.cache c.stays;
     beside = told_beside f m e old new r means (steps_beside m old new r [] [] (carried_machine m old new r [] c));
@@ -98,6 +100,8 @@ module _ {A : Type 0} (f : A → Reply) (m : State → Meaning A) (e : Event) (d
     no_room = λ is. absurd (no_room_told f r tells c.roomy is);
     refused = λ unused is. refused_told f r (new ≡ old) tells c.refused is;
     uncached = λ unused other. c.cache;
+    late = plain.late (system_of old disk) (told f r) (system_of new disk);
+    looks = λ is. absurd (true≢false (sym is ∙ unlooking));
     shares = λ shared. means (layout_of old) (layout_of new) r (carried_layout m old new r c);
     pages = λ shared. c.arena;
     still = λ still. means (layout_of old) (layout_of new) r (carried_layout m old new r c);
@@ -112,8 +116,8 @@ module _ {A : Type 0} (f : A → Reply) (m : State → Meaning A) (e : Event) (d
   }
 
   -- one that keeps places
-  pub kept_does : ((s : State) → is_sharing s e ≡ false) → IsSound old → KeepsPlaces m old r new → ((p : ℕ) → r ≡ Err (NoRoom p) → ⊥) → Does disk old e (told f r) disk new
-  kept_does unshared sound c roomy = record {
+  pub kept_does : ((s : State) → is_sharing s e ≡ false) → only_looks e ≡ false → IsSound old → KeepsPlaces m old r new → ((p : ℕ) → r ≡ Err (NoRoom p) → ⊥) → Does disk old e (told f r) disk new
+  kept_does unshared unlooking sound c roomy = record {
     step = λ backed placed. means (machine_of disk.slots old) (machine_of disk.slots new) r (c.step disk.slots);
     backed = backed_stays disk old new sound c.sound c.cache c.stays;
     beside = told_beside f m e old new r means (steps_beside m old new r [] [] (c.step []));
@@ -127,6 +131,8 @@ module _ {A : Type 0} (f : A → Reply) (m : State → Meaning A) (e : Event) (d
     no_room = λ is. absurd (no_room_told f r tells roomy is);
     refused = λ unused is. refused_told f r (new ≡ old) tells c.refused is;
     uncached = λ unused other. c.cache;
+    late = plain.late (system_of old disk) (told f r) (system_of new disk);
+    looks = λ is. absurd (true≢false (sym is ∙ unlooking));
     shares = λ shared. absurd (true≢false (sym shared ∙ unshared (tables_of old)));
     pages = λ shared. absurd (true≢false (sym shared ∙ unshared (tables_of old)));
     still = λ still. means (layout_of old) (layout_of new) r (kept_layout m old new r c);
@@ -141,8 +147,8 @@ module _ {A : Type 0} (f : A → Reply) (m : State → Meaning A) (e : Event) (d
   }
 
   -- one that asks the store for a length
-  pub looks_does : ((s : State) → is_sharing s e ≡ false) → is_still e ≡ false → LooksUp m disk old r new → Does disk old e (told f r) disk new
-  looks_does unshared moving c = record {
+  pub looks_does : ((s : State) → is_sharing s e ≡ false) → is_still e ≡ false → (only_looks e ≡ true → new ≡ old) → LooksUp m disk old r new → Does disk old e (told f r) disk new
+  looks_does unshared moving looks c = record {
     step = λ backed placed. means (machine_of disk.slots old) (machine_of disk.slots new) r (c.serves.step backed placed);
     backed = c.serves.backed;
     beside = told_beside f m e old new r means c.serves.beside;
@@ -156,6 +162,8 @@ module _ {A : Type 0} (f : A → Reply) (m : State → Meaning A) (e : Event) (d
     no_room = λ is. absurd (no_room_told f r tells c.roomy is);
     refused = λ unused is. refused_told f r (new ≡ old) tells c.refused is;
     uncached = λ unused other. c.cache;
+    late = plain.late (system_of old disk) (told f r) (system_of new disk);
+    looks = λ is. (looks is, refl);
     shares = λ shared. absurd (true≢false (sym shared ∙ unshared (tables_of old)));
     pages = λ shared. absurd (true≢false (sym shared ∙ unshared (tables_of old)));
     still = λ still. absurd (true≢false (sym still ∙ moving));
@@ -170,8 +178,8 @@ module _ {A : Type 0} (f : A → Reply) (m : State → Meaning A) (e : Event) (d
   }
 
   -- one that names a file
-  pub names_does : ((s : State) → is_sharing s e ≡ false) → is_still e ≡ false → makes_file e ≡ true → Names disk m old r new → Does disk old e (told f r) disk new
-  names_does unshared moving made c = record {
+  pub names_does : ((s : State) → is_sharing s e ≡ false) → is_still e ≡ false → only_looks e ≡ false → makes_file e ≡ true → Names disk m old r new → Does disk old e (told f r) disk new
+  names_does unshared moving unlooking made c = record {
     step = λ backed placed. means (machine_of disk.slots old) (machine_of disk.slots new) r (c.step backed.honest);
     backed = c.backed;
     beside = told_beside f m e old new r means c.beside;
@@ -185,6 +193,8 @@ module _ {A : Type 0} (f : A → Reply) (m : State → Meaning A) (e : Event) (d
     no_room = λ is. absurd (no_room_told f r tells c.roomy is);
     refused = λ unused is. refused_told f r (new ≡ old) tells c.refused is;
     uncached = λ unused other. absurd (true≢false (sym made ∙ other));
+    late = plain.late (system_of old disk) (told f r) (system_of new disk);
+    looks = λ is. absurd (true≢false (sym is ∙ unlooking));
     shares = λ shared. absurd (true≢false (sym shared ∙ unshared (tables_of old)));
     pages = λ shared. absurd (true≢false (sym shared ∙ unshared (tables_of old)));
     still = λ still. absurd (true≢false (sym still ∙ moving));

@@ -26,30 +26,31 @@ use Rattle.iol_core.specs.declared.refusals.Refusal.TheVariants.{NoRoom}
 use Rattle.iol_hold.specs.Places.{byte_len}
 use Rattle.iol_hold.specs.declared.slices.Slice.{Slice}
 use Rattle.iol_kernel.specs.Backed.{Serves, holding_of}
-use Rattle.iol_kernel.specs.Calls.{CarriesOut, MakesBytes, Steps}
+use Rattle.iol_kernel.specs.Calls.{CarriesOut, Steps}
 use Rattle.iol_kernel.specs.Copying.{Copies, CopiesOn}
 use Rattle.iol_kernel.specs.FileReading.{Reads, ReadsOn, held_by}
 use Rattle.iol_kernel.specs.KernelState.{KernelState, IsSound, layout_of, machine_of, slices_in}
-use Rattle.iol_kernel.specs.MakingRoom.{AfterRoom, MakesRoom, MayHaveEvicted, Places, can_fit}
-use Rattle.iol_kernel.specs.WritingFiles.{PutsOn, WritesOn, pool_of_file}
+use Rattle.iol_kernel.specs.MakingRoom.{MakesRoom, MayHaveEvicted, Places, can_fit}
+use Rattle.iol_kernel.specs.WritingFiles.{LaysOn, PutsOn, WritesOn, pool_of_file}
 use Rattle.iol_kernel.specs.Keeping.{LacksPages, LacksPagesToRead}
 use Rattle.iol_kernel.proofs.Carried.{carried_layout}
 use Rattle.iol_kernel.proofs.Serving.{steps_beside}
 use Rattle.iol_kernel.proofs.Stay.{pages_here, stays_here}
 use Rattle.iol_system.specs.Asking.{asks_store, uses_cache}
 use Rattle.iol_system.specs.Doing.{Does}
+use Rattle.iol_system.specs.Late.{CopyLeaves, IfRefused, LeavesCopied, LeavesLate, PutLeaves, ReadLeaves, WriteLeaves}
 use Rattle.iol_system.specs.Machine.{system_of, tables_of}
-use Rattle.iol_system.specs.InPlace.{IsInRange, IsWritten, KeepsInPlace, MayLetGo, ReadWantsMore, SharesRead, SharesWrite, WantsMore, WriteWantsMore}
-use Rattle.iol_system.specs.Placed.{Creates, Fills, FillsForFile, Publishes}
+use Rattle.iol_system.specs.InPlace.{IsInRange, IsWritten, KeepsInPlace, MayLetGo, ReadWantsMore, SharesCopy, SharesPut, SharesRead, SharesWrite, WantsMore, WriteWantsMore}
+use Rattle.iol_system.specs.Placed.{Creates, FillsForFile, Makes, Publishes, Puts}
 use Rattle.iol_system.specs.Remembered.{Remembers}
 use Rattle.iol_system.specs.Replies.{told}
 use Rattle.iol_system.specs.Room.{HasRoomFor, HasRoomToRead, HasRoomToWrite, LacksRoomFor, LacksRoomToRead, LacksRoomToWrite, IsDone, IsEarly, IsFault, IsNoRoom, IsRefused}
-use Rattle.iol_system.specs.Still.{is_still}
+use Rattle.iol_system.specs.Still.{is_still, only_looks}
 use Rattle.iol_system.proofs.Doing.{Means, Tells, IsPlain, early_told, no_room_told, refused_told, told_beside}
 use Rattle.iol_system.proofs.InPlace.{beside_in_place, cache_in_place, places_in_place, shares_file, shares_none, unless_in_place}
 use Rattle.iol_system.proofs.Paged.{carried_pages, fills_then_frees}
 use Rattle.iol_system.proofs.WrittenBack.{none_back, writes_back}
-use Rattle.iol_system.proofs.ResultTold.{ok_told, lacks_told, counts_told, has_told, room_told, fault_told, early_room, early_room_fault, early_of}
+use Rattle.iol_system.proofs.ResultTold.{ok_told, lacks_told, counts_told, has_told, room_told, fault_told, early_room, early_room_fault, early_of, err_more, late_told}
 
 -- bytes are shown, and nothing changes
 module _ {A : Type 0} (f : A → Reply) (m : State → Meaning A) (e : Event) (disk : Disk) (h : KernelState) (r : Result A Refusal) (tells : Tells f) (plain : IsPlain e) (means : Means f m e) where
@@ -68,6 +69,8 @@ module _ {A : Type 0} (f : A → Reply) (m : State → Meaning A) (e : Event) (d
     early = λ is. (refl, refl);
     refused = λ unused is. refl;
     uncached = λ unused other. refl;
+    late = plain.late (system_of h disk) (told f r) (system_of h disk);
+    looks = λ is. (refl, refl);
     shares = λ shared. absurd (true≢false (sym shared ∙ unshared (tables_of h)));
     pages = λ shared. refl;
     still = λ still. absurd (true≢false (sym still ∙ moving));
@@ -82,7 +85,7 @@ module _ {A : Type 0} (f : A → Reply) (m : State → Meaning A) (e : Event) (d
   }
 
 -- An event that places n bytes in a pool once there is room.
-pub record IsPlacing (e : Event) (pool n : ℕ) (old : KernelState) : Type 0 where
+pub record IsPlacing (e : Event) (put : State → Text → State) (pool n : ℕ) (old : KernelState) : Type 0 where
   pub unwritten : writes_back e ≡ false
   pub unlent : shares_file e ≡ false
   pub goes : (disk : Disk) (p : ℕ) → WantsMore old pool n p → MayLetGo (system_of old disk) e p
@@ -90,17 +93,15 @@ pub record IsPlacing (e : Event) (pool n : ℕ) (old : KernelState) : Type 0 whe
   pub uses : (s : State) → uses_cache s e ≡ true
   pub unshared : (s : State) → is_sharing s e ≡ false
   pub moving : is_still e ≡ false
+  pub unlooking : only_looks e ≡ false
   pub has : (disk : Disk) → can_fit old pool n ≡ true → HasRoomFor (system_of old disk) e
   pub lacks : (disk : Disk) → can_fit old pool n ≡ false → LacksRoomFor (system_of old disk) e
-  pub publishes : (new : KernelState) → Fills pool n old new → Publishes old e new
+  pub publishes : (new : KernelState) → Makes put pool n old new → Publishes old e new
   pub creates : (x : Reply) (new : KernelState) → Creates old e x new
+  pub late : (disk : Disk) (x : Reply) (new : KernelState) → IfRefused x (MayHaveEvicted pool n old new) → LeavesLate (system_of old disk) e x (system_of new disk)
   pub sums : (x : Reply) (new : KernelState) → new.sums ≡ old.sums → Remembers old e x new
 
-module _ {A : Type 0} (f : A → Reply) (m : State → Meaning A) (put : State → Text → State) (pool n : ℕ) (e : Event) (disk : Disk) (old new : KernelState) (r : Result A Refusal) (tells : Tells f) (placing : IsPlacing e pool n old) (means : Means f m e) where
-  fills_of : (r : Result A Refusal) → OnOk r (AfterRoom pool n old (λ roomy. MakesBytes put pool n roomy new)) → IsDone (told f r) → Fills pool n old new
-  fills_of (Ok a) made is = record { roomy = made.roomy; room = made.room; then = made.then.pages }
-  fills_of (Err x) made is = absurd is
-
+module _ {A : Type 0} (f : A → Reply) (m : State → Meaning A) (put : State → Text → State) (pool n : ℕ) (e : Event) (disk : Disk) (old new : KernelState) (r : Result A Refusal) (tells : Tells f) (placing : IsPlacing e put pool n old) (means : Means f m e) where
   placed_early : IfErr r (MayHaveEvicted pool n old new) → IsEarly (told f r) → new ≡ old
   placed_early left is = early_of f r (new ≡ old) (λ x. WantOfRoom pool x × MakesRoom pool (pages_for n) old new) tells (λ x early late. early_room pool x early late.0) left is
 
@@ -120,12 +121,14 @@ module _ {A : Type 0} (f : A → Reply) (m : State → Meaning A) (put : State �
         room = λ done. placing.has disk (ok_told f r (can_fit old pool n ≡ true) c.room done);
         no_room = λ is. placing.lacks disk (lacks_told f r (can_fit old pool n ≡ false) tells c.no_room is);
         refused = λ unused is. absurd (true≢false (sym (placing.uses (tables_of old)) ∙ unused));
+        late = placing.late disk (told f r) new (late_told f r (MayHaveEvicted pool n old new) tells c.refused);
+        looks = λ is. absurd (true≢false (sym is ∙ placing.unlooking));
         shares = λ shared. absurd (true≢false (sym shared ∙ placing.unshared (tables_of old)));
         pages = λ shared. absurd (true≢false (sym shared ∙ placing.unshared (tables_of old)));
         still = λ still. absurd (true≢false (sym still ∙ placing.moving));
         in_place = places_in_place disk old new e m put pool n (λ p same lacks. placing.goes disk p (same, subst (λ q. LacksPages old q (pages_for n)) (sym same) lacks)) r c;
         shares_file = λ done. shares_none (system_of old disk) new e placing.unlent;
-        publishes = λ done. placing.publishes new (fills_of r c.made done);
+        publishes = λ done. placing.publishes new (ok_told f r (Makes put pool n old new) c.made done);
         creates = placing.creates (told f r) new;
         sums = placing.sums (told f r) new serves.sums;
         written_back = none_back disk old (told f r) disk new e placing.unwritten;
@@ -198,6 +201,10 @@ module _ (by fd n : ℕ) (disk after : Disk) (old new : KernelState) (r : Result
   read_shares (Some (on.File g at mode)) c is = ok_told reply.Agg r _ c.1 is
   read_shares o c is = tt
 
+  read_late : (o : Option Descriptor) → ReadsOn by fd n o disk old r after new → ReadLeaves by fd n (system_of old disk) o (told reply.Agg r) (system_of new after)
+  read_late (Some (on.File g at mode)) c = late_told reply.Agg r _ read_tells c.0.leaves
+  read_late o c = tt
+
   pub reads_does : Means reply.Agg (λ s. reading.iol_read s by fd n) read_event → Serves (λ s. reading.iol_read s by fd n) disk old r after new → Reads by fd n disk old r after new → Does disk old read_event (told reply.Agg r) after new
   reads_does means serves reads =
       let o : Option Descriptor = held_by (tables_of old) by fd in
@@ -215,6 +222,8 @@ module _ (by fd n : ℕ) (disk after : Disk) (old new : KernelState) (r : Result
         early = read_early o reads;
         uncached = λ unused other. read_uncached o reads unused;
         refused = read_refused o reads;
+        late = read_late o reads;
+        looks = λ is. absurd (true≢false (sym is));
         shares = λ shared. means (layout_of old) (layout_of new) r (carried_layout (λ s. reading.iol_read s by fd n) old new r (read_carried o reads (queue shared)));
         pages = λ shared. (read_carried o reads (queue shared)).arena;
         still = λ still. absurd (true≢false (sym still));
@@ -273,9 +282,13 @@ module _ (by fd a : ℕ) (disk : Disk) (old new : KernelState) (r : Result ℕ R
       (λ p same lacks. goes p (same, subst (λ q. LacksPages old q (copied_pages q xs)) (sym same) lacks))
   write_in_place o c writes goes = cache_in_place disk old new write_event c.cache
 
-  write_shares : (o : Option Descriptor) → WritesOn by fd a o old r new → IsDone (told reply.Count r) → SharesWrite o (slices_in old.domains by a) new
-  write_shares (Some (on.File g at mode)) c is = ok_told reply.Count r _ c.lies is
+  write_shares : (o : Option Descriptor) → WritesOn by fd a o old r new → IsDone (told reply.Count r) → SharesWrite o (slices_in old.domains by a) old new
+  write_shares (Some (on.File g at mode)) c is = record { lies = ok_told reply.Count r _ c.lies is; over = λ some. ok_told reply.Count r _ (c.over some) is }
   write_shares o c is = tt
+
+  write_late : (o : Option Descriptor) → WritesOn by fd a o old r new → WriteLeaves old o (slices_in old.domains by a) (told reply.Count r) new
+  write_late (Some (on.File g at mode)) c = late_told reply.Count r _ write_tells c.leaves
+  write_late o c = tt
 
   pub writes_does : Means reply.Count (λ s. writing.iol_write s by fd a) write_event → Serves (λ s. writing.iol_write s by fd a) disk old r disk new → WritesOn by fd a (descriptor (tables_of old) by fd) old r new → Does disk old write_event (told reply.Count r) disk new
   writes_does means serves writes =
@@ -293,6 +306,8 @@ module _ (by fd a : ℕ) (disk : Disk) (old new : KernelState) (r : Result ℕ R
         early = λ is. (write_early o writes is, refl);
         uncached = λ unused other. write_uncached o writes unused;
         refused = write_refused o writes;
+        late = write_late o writes;
+        looks = λ is. absurd (true≢false (sym is));
         shares = λ shared. means (layout_of old) (layout_of new) r (carried_layout (λ s. writing.iol_write s by fd a) old new r (write_carried o writes shared));
         pages = λ shared. (write_carried o writes shared).arena;
         still = λ still. absurd (true≢false (sym still));
@@ -358,6 +373,16 @@ module _ (by fd n : ℕ) (disk after : Disk) (old new : KernelState) (r : Result
   copy_in_place (Some (on.File g at mode)) c goes = unless_in_place disk old new copy_event (pool_of_file old g) (LacksPagesToRead g at n disk (holding_of old)) c.reads.keeps (λ p same lacks. goes p (same, lacks))
   copy_in_place o c goes = cache_in_place disk old new copy_event c.0.cache
 
+  copy_shares : (o : Option Descriptor) → CopiesOn by fd n o disk old r after new → IsDone (told reply.Bytes r) → SharesCopy by fd n (system_of old disk) o new
+  copy_shares (Some (on.File g at mode)) c is = record { mid = c.mid; gives = ok_told reply.Bytes r _ c.gives is }
+  copy_shares o c is = tt
+
+  copy_late : (o : Option Descriptor) → CopiesOn by fd n o disk old r after new → CopyLeaves by fd n (system_of old disk) o (told reply.Bytes r) (system_of new after)
+  copy_late (Some (on.File g at mode)) c =
+      late_told reply.Bytes r (LeavesCopied by fd n g at mode (system_of old disk) (system_of new after)) copy_tells
+      (err_more r _ (LeavesCopied by fd n g at mode (system_of old disk) (system_of new after)) (λ x left. record { mid = c.mid; leaves = left; frees = c.frees; lists = c.lists }) c.reads.leaves)
+  copy_late o c = tt
+
   pub copies_does : Means reply.Bytes (λ s. reading.read s by fd n) copy_event → Serves (λ s. reading.read s by fd n) disk old r after new → Copies by fd n disk old r after new → Does disk old copy_event (told reply.Bytes r) after new
   copies_does means serves copies =
       let o : Option Descriptor = held_by (tables_of old) by fd in record {
@@ -374,11 +399,13 @@ module _ (by fd n : ℕ) (disk after : Disk) (old new : KernelState) (r : Result
         early = copy_early o copies;
         uncached = λ unused other. copy_uncached o copies unused;
         refused = copy_refused o copies;
+        late = copy_late o copies;
+        looks = λ is. absurd (true≢false (sym is));
         shares = λ shared. absurd (true≢false (sym shared));
         pages = λ shared. absurd (true≢false (sym shared));
         still = λ still. absurd (true≢false (sym still));
         in_place = copy_in_place o copies (λ p k. k);
-        shares_file = λ done. tt;
+        shares_file = copy_shares o copies;
         publishes = λ done. copy_fills o copies;
         creates = tt;
         sums = serves.sums;
@@ -405,43 +432,65 @@ module _ (by fd : ℕ) (bytes : List ℕ) (disk : Disk) (old new : KernelState) 
   abbrev count_of : Option Descriptor → ℕ
   count_of o = writing.fitting (tables_of old) o (length bytes)
 
-  abbrev IsPut : (put : State → Text → State) → Option Descriptor → Type 0
-  IsPut put o = Places (λ s. writing.write s by fd bytes) put (pool_of o) (count_of o) old r new
+  -- to the end of the queue
+  abbrev put : State → Text → State
+  put s t = writing.written s by fd (descriptor s by fd) t
 
-  fills_put : (put : State → Text → State) (o : Option Descriptor) → IsPut put o → IsDone (told reply.Count r) → Fills (pool_of o) (count_of o) old new
-  fills_put put o placed is = (let x = ok_told reply.Count r _ placed.made is in record { roomy = x.roomy; room = x.room; then = x.then.pages })
+  abbrev IsPut : Option Descriptor → Type 0
+  IsPut o = Places (λ s. writing.write s by fd bytes) put (pool_of o) (count_of o) old r new
 
-  put_fills : (put : State → Text → State) (o : Option Descriptor) → (is_file o ≡ false → IsPut put o) → PutsOn o (pool_of o) (length bytes) old r new → IsDone (told reply.Count r) → Fills (pool_of o) (count_of o) old new
-  put_fills put None placed puts is = fills_put put None (placed refl) is
-  put_fills put (Some (on.File g at mode)) placed puts is = ok_told reply.Count r _ puts.fills is
-  put_fills put (Some (on.ReadEnd p)) placed puts is = fills_put put (Some (on.ReadEnd p)) (placed refl) is
-  put_fills put (Some (on.WriteEnd p)) placed puts is = fills_put put (Some (on.WriteEnd p)) (placed refl) is
-  put_fills put (Some (on.Connection c)) placed puts is = fills_put put (Some (on.Connection c)) (placed refl) is
+  put_made : (o : Option Descriptor) → IsPut o → IsDone (told reply.Count r) → Makes put (pool_of o) (count_of o) old new
+  put_made o placed is = ok_told reply.Count r _ placed.made is
+
+  put_fills : (o : Option Descriptor) → (is_file o ≡ false → IsPut o) → PutsOn o (pool_of o) (length bytes) old r new → IsDone (told reply.Count r) → Puts by fd (pool_of o) (count_of o) o old new
+  put_fills None placed puts is = put_made None (placed refl) is
+  put_fills (Some (on.File g at mode)) placed puts is = ok_told reply.Count r _ puts.fills is
+  put_fills (Some (on.ReadEnd p)) placed puts is = put_made (Some (on.ReadEnd p)) (placed refl) is
+  put_fills (Some (on.WriteEnd p)) placed puts is = put_made (Some (on.WriteEnd p)) (placed refl) is
+  put_fills (Some (on.Connection c)) placed puts is = put_made (Some (on.Connection c)) (placed refl) is
 
   abbrev PutGoes : Option Descriptor → Type 0
   PutGoes o = (p : ℕ) → WantsMore old (pool_of o) (count_of o) p → MayLetGo (system_of old disk) put_event p
 
-  queue_in_place : (put : State → Text → State) (o : Option Descriptor) → IsPut put o → PutGoes o → KeepsInPlace (system_of old disk) put_event new
-  queue_in_place put o placed goes = places_in_place disk old new put_event (λ s. writing.write s by fd bytes) put (pool_of o) (count_of o) (λ p same lacks. goes p (same, subst (λ q. LacksPages old q (pages_for (count_of o))) (sym same) lacks)) r placed
+  queue_in_place : (o : Option Descriptor) → IsPut o → PutGoes o → KeepsInPlace (system_of old disk) put_event new
+  queue_in_place o placed goes = places_in_place disk old new put_event (λ s. writing.write s by fd bytes) put (pool_of o) (count_of o) (λ p same lacks. goes p (same, subst (λ q. LacksPages old q (pages_for (count_of o))) (sym same) lacks)) r placed
 
-  put_in_place : (put : State → Text → State) (o : Option Descriptor) → (is_file o ≡ false → IsPut put o) → PutsOn o (pool_of o) (length bytes) old r new → ((g i : ℕ) → IsInRange o (length bytes) g i → IsWritten old put_event g i) → PutGoes o → KeepsInPlace (system_of old disk) put_event new
-  put_in_place put None placed puts writes goes = queue_in_place put None (placed refl) goes
-  put_in_place put (Some (on.File f at mode)) placed puts writes goes =
+  put_in_place : (o : Option Descriptor) → (is_file o ≡ false → IsPut o) → PutsOn o (pool_of o) (length bytes) old r new → ((g i : ℕ) → IsInRange o (length bytes) g i → IsWritten old put_event g i) → PutGoes o → KeepsInPlace (system_of old disk) put_event new
+  put_in_place None placed puts writes goes = queue_in_place None (placed refl) goes
+  put_in_place (Some (on.File f at mode)) placed puts writes goes =
       let pool : ℕ = pool_of (Some (on.File f at mode)) in
       beside_in_place disk old new put_event f at (length bytes) pool (LacksPages old pool (pages_for (length bytes))) puts.beside (λ g i same from to. writes g i (same, from, to))
       (λ p same lacks. goes p (same, subst (λ q. LacksPages old q (pages_for (length bytes))) (sym same) lacks))
-  put_in_place put (Some (on.ReadEnd p)) placed puts writes goes = queue_in_place put (Some (on.ReadEnd p)) (placed refl) goes
-  put_in_place put (Some (on.WriteEnd p)) placed puts writes goes = queue_in_place put (Some (on.WriteEnd p)) (placed refl) goes
-  put_in_place put (Some (on.Connection c)) placed puts writes goes = queue_in_place put (Some (on.Connection c)) (placed refl) goes
+  put_in_place (Some (on.ReadEnd p)) placed puts writes goes = queue_in_place (Some (on.ReadEnd p)) (placed refl) goes
+  put_in_place (Some (on.WriteEnd p)) placed puts writes goes = queue_in_place (Some (on.WriteEnd p)) (placed refl) goes
+  put_in_place (Some (on.Connection c)) placed puts writes goes = queue_in_place (Some (on.Connection c)) (placed refl) goes
 
-  pub puts_does : (put : State → Text → State) → Means reply.Count (λ s. writing.write s by fd bytes) put_event → Serves (λ s. writing.write s by fd bytes) disk old r disk new
+  abbrev IsLaid : Option Descriptor → Type 0
+  IsLaid o = LaysOn o (pool_of o) bytes old r new
+
+  put_late : (o : Option Descriptor) → (is_file o ≡ false → IsPut o) → IsLaid o → PutLeaves (pool_of o) (count_of o) bytes old o (told reply.Count r) new
+  put_late (Some (on.File g at mode)) placed laid = late_told reply.Count r _ put_tells laid.leaves
+  put_late None placed laid = late_told reply.Count r _ put_tells (placed refl).refused
+  put_late (Some (on.ReadEnd p)) placed laid = late_told reply.Count r _ put_tells (placed refl).refused
+  put_late (Some (on.WriteEnd p)) placed laid = late_told reply.Count r _ put_tells (placed refl).refused
+  put_late (Some (on.Connection c)) placed laid = late_told reply.Count r _ put_tells (placed refl).refused
+
+  put_shares : (o : Option Descriptor) → IsLaid o → IsDone (told reply.Count r) → SharesPut o (pool_of o) bytes old new
+  put_shares None laid is = tt
+  put_shares (Some (on.File g at mode)) laid is = ok_told reply.Count r _ laid.lays is
+  put_shares (Some (on.ReadEnd p)) laid is = tt
+  put_shares (Some (on.WriteEnd p)) laid is = tt
+  put_shares (Some (on.Connection c)) laid is = tt
+
+  pub puts_does : Means reply.Count (λ s. writing.write s by fd bytes) put_event → Serves (λ s. writing.write s by fd bytes) disk old r disk new
       → (is_file (descriptor (tables_of old) by fd) ≡ false → Places (λ s. writing.write s by fd bytes) put (writing.pool_for (tables_of old) by (descriptor (tables_of old) by fd)) taken_bytes old r new)
       → OnOk r (can_fit old (writing.pool_for (tables_of old) by (descriptor (tables_of old) by fd)) taken_bytes ≡ true)
       → ((p : ℕ) → r ≡ Err (NoRoom p) → can_fit old (writing.pool_for (tables_of old) by (descriptor (tables_of old) by fd)) taken_bytes ≡ false)
       → PutsOn (descriptor (tables_of old) by fd) (writing.pool_for (tables_of old) by (descriptor (tables_of old) by fd)) (length bytes) old r new
+      → LaysOn (descriptor (tables_of old) by fd) (writing.pool_for (tables_of old) by (descriptor (tables_of old) by fd)) bytes old r new
       → IfErr r (λ x. (new ≡ old) ⊎ WantOfRoom (writing.pool_for (tables_of old) by (descriptor (tables_of old) by fd)) x)
       → Does disk old put_event (told reply.Count r) disk new
-  puts_does put means serves queue room lacks puts left = record {
+  puts_does means serves queue room lacks puts laid left = record {
     step = λ backed placed. means (machine_of disk.slots old) (machine_of disk.slots new) r (serves.step backed placed);
     backed = serves.backed;
     beside = told_beside reply.Count (λ s. writing.write s by fd bytes) put_event old new r means serves.beside;
@@ -455,12 +504,14 @@ module _ (by fd : ℕ) (bytes : List ℕ) (disk : Disk) (old new : KernelState) 
     early = λ is. (early_of reply.Count r (new ≡ old) _ put_tells (early_room (writing.pool_for (tables_of old) by (descriptor (tables_of old) by fd))) left is, refl);
     refused = λ unused is. absurd (true≢false unused);
     uncached = λ unused other. absurd (true≢false unused);
+    late = put_late (descriptor (tables_of old) by fd) queue laid;
+    looks = λ is. absurd (true≢false (sym is));
     shares = λ shared. absurd (true≢false (sym shared));
     pages = λ shared. absurd (true≢false (sym shared));
     still = λ still. absurd (true≢false (sym still));
-    in_place = put_in_place put (descriptor (tables_of old) by fd) queue puts (λ g i k. k) (λ p k. k);
-    shares_file = λ done. tt;
-    publishes = λ done. put_fills put (descriptor (tables_of old) by fd) queue puts done;
+    in_place = put_in_place (descriptor (tables_of old) by fd) queue puts (λ g i k. k) (λ p k. k);
+    shares_file = put_shares (descriptor (tables_of old) by fd) laid;
+    publishes = λ done. put_fills (descriptor (tables_of old) by fd) queue puts done;
     creates = tt;
     sums = serves.sums;
     written_back = none_back disk old (told reply.Count r) disk new put_event refl;

@@ -113,10 +113,16 @@ usable-unspent s q free = ap (λ k. kind_free k && nat_lt (generation_at s q) s.
     by false = refl
 
 pub pages_freed : AllPagesComeFree
-pages_freed s safe order left = record { each = λ p. ap (λ (f : ℕ → Bool). filter f (pages_of s.kernel.store p)) same }
+pages_freed s safe order left = record {
+  every = λ q live. unspent q ∙ ap not live;
+  each = λ p. ap (λ (f : ℕ → Bool). filter f (pages_of s.kernel.store p)) same;
+}
   where
     none : (b : BufId) → count_of s.kernel.store b ≡ 0
     none b = safe.sound.counted.each b ∙ held_by_none _ s.kernel b order left.domains left.conns left.extents
 
+    unspent : (q : ℕ) → usable s.kernel.store.arena q ≡ not (spent s.kernel.store.arena q)
+    unspent q = usable-unspent s.kernel.store.arena q (page_freed s.kernel.store safe.sound.tidy safe.sound.still none q)
+
     same : ◌≡◌ {A = ℕ → Bool} (λ q. usable s.kernel.store.arena q) (λ q. not (spent s.kernel.store.arena q))
-    same = λ i. λ q. usable-unspent s.kernel.store.arena q (page_freed s.kernel.store safe.sound.tidy safe.sound.still none q) i
+    same = λ i. λ q. unspent q i

@@ -167,17 +167,21 @@ flushes_in_place disk after old new r sound m = flushed_in_place disk after old 
 pub drops_in_place : (disk : Disk) (old new : KernelState) → KeepsDirty old.cache new.cache → KeepsInPlace (system_of old disk) event.DropClean new
 drops_in_place disk old new keeps = record { each = λ f i c is. elim (keeps.each f i c is) [ inl stays ↦ inl stays | inr clean ↦ inr (inr (clean, tt)) ] }
 
--- Calls that are not by reference share nothing of files.
+-- Other calls than these share nothing of files.
 
 abbrev pub shares_file : Event → Bool
 shares_file (event.Call by (call.IolRead fd n)) = true
 shares_file (event.Call by (call.IolWrite fd a)) = true
+shares_file (event.Call by (call.Read fd n)) = true
+shares_file (event.Call by (call.Write fd bytes)) = true
 shares_file e = false
 
 module _ (old : SystemState) (new : KernelState) where
   call_shares_none : (by : ℕ) (k : Call) → shares_file (event.Call by k) ≡ false → SharesFile old (event.Call by k) new
   call_shares_none by (call.IolRead fd n) none = absurd (true≢false none)
   call_shares_none by (call.IolWrite fd a) none = absurd (true≢false none)
+  call_shares_none by (call.Read fd n) none = absurd (true≢false none)
+  call_shares_none by (call.Write fd bytes) none = absurd (true≢false none)
   call_shares_none by k none = tt
 
   pub shares_none : (e : Event) → shares_file e ≡ false → SharesFile old e new

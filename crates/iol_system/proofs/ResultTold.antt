@@ -10,8 +10,9 @@ use Rattle.iol_core.specs.declared.events.Reply.{Reply}
 use Rattle.iol_core.specs.declared.events.Reply.TheVariants as reply
 use Rattle.iol_core.specs.declared.refusals.Refusal.{Refusal}
 use Rattle.iol_core.specs.declared.refusals.Refusal.TheVariants.{NoRoom, Fault, Memory}
+use Rattle.iol_system.specs.Late.{IfRefused}
 use Rattle.iol_system.specs.Replies.{told}
-use Rattle.iol_system.specs.Room.{IsDone, IsEarly, IsFault, IsNoRoom}
+use Rattle.iol_system.specs.Room.{IsDone, IsEarly, IsFault, IsNoRoom, IsRefused}
 use Rattle.iol_system.proofs.Doing.{Tells, early_refused}
 
 -- what a result tells, the reply tells
@@ -68,3 +69,17 @@ early_fault f x is fault = subst (λ (y : Refusal). IsEarly (reply.Refused y)) f
 pub early_of : {A : Type 0} (f : A → Reply) (r : Result A Refusal) (X : Type 0) (Late : Refusal → Type 0) → Tells f → ((x : Refusal) → IsEarly (reply.Refused x) → Late x → ⊥) → IfErr r (λ x. X ⊎ Late x) → IsEarly (told f r) → X
 early_of f (Ok a) X Late tells apart left is = absurd (tells.unrefused a (early_refused (f a) is))
 early_of f (Err x) X Late tells apart left is = elim left [ inl here ↦ here | inr late ↦ absurd (apart x is late) ]
+
+-- what is left at a refusal
+
+unless_refused : (x : Reply) (P : Refusal → Type 0) → (IsRefused x → ⊥) → IfRefused x P
+unless_refused (reply.Refused y) P not' = absurd (not' tt)
+unless_refused x P not' = tt
+
+pub late_told : {A : Type 0} (f : A → Reply) (r : Result A Refusal) (P : Refusal → Type 0) → Tells f → IfErr r P → IfRefused (told f r) P
+late_told f (Ok a) P tells left = unless_refused (f a) P (tells.unrefused a)
+late_told f (Err x) P tells left = left
+
+pub err_more : {A : Type 0} (r : Result A Refusal) (P Q : Refusal → Type 0) → ((x : Refusal) → P x → Q x) → IfErr r P → IfErr r Q
+err_more (Ok a) P Q to left = tt
+err_more (Err x) P Q to left = to x left

@@ -77,6 +77,8 @@ module _ (old new : SystemState) (e : Event) (r : Reply) (safe : IsSafe old) (do
     early = λ is. (let same = does.early is in ap (λ (d : Disk). system_of new.kernel d) same.1 ∙ ap (λ (h : KernelState). system_of h old.disk) same.0);
     uncached = does.uncached;
     refused = λ unused was. ap (λ (d : Disk). system_of new.kernel d) (untouched unused was) ∙ ap (λ (h : KernelState). system_of h old.disk) (does.refused unused was);
+    late = does.late;
+    looks = λ is. (let same = does.looks is in ap (λ (d : Disk). system_of new.kernel d) same.1 ∙ ap (λ (h : KernelState). system_of h old.disk) same.0);
     shares = does.shares;
     pages = does.pages;
     still = does.still;

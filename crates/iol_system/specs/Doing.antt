@@ -12,10 +12,11 @@ use Rattle.iol_kernel.specs.Backed.{IsBackedBy, StepsBeside}
 use Rattle.iol_kernel.specs.KernelState.{KernelState, layout_of, machine_of, IsSound}
 use Rattle.iol_system.specs.Asking.{asks_store, makes_file, uses_cache, writes_store}
 use Rattle.iol_system.specs.InPlace.{KeepsInPlace, SharesFile}
+use Rattle.iol_system.specs.Late.{LeavesLate}
 use Rattle.iol_system.specs.Machine.{system_of, tables_of}
 use Rattle.iol_system.specs.Placed.{Creates, Publishes}
 use Rattle.iol_system.specs.Remembered.{Remembers}
-use Rattle.iol_system.specs.Still.{is_still}
+use Rattle.iol_system.specs.Still.{is_still, only_looks}
 use Rattle.iol_system.specs.Room.{HasRoomFor, LacksRoomFor, IsDone, IsEarly, IsFault, IsNoRoom, IsRefused}
 use Rattle.iol_system.specs.WrittenBack.{WritesBack}
 
@@ -35,6 +36,8 @@ pub record Does (disk : Disk) (old : KernelState) (e : Event) (r : Reply) (after
   pub early : IsEarly r → (new ≡ old) × (after ≡ disk)
   pub refused : uses_cache (tables_of old) e ≡ false → IsRefused r → new ≡ old
   pub uncached : uses_cache (tables_of old) e ≡ false → makes_file e ≡ false → new.cache ≡ old.cache
+  pub late : LeavesLate (system_of old disk) e r (system_of new after)
+  pub looks : only_looks e ≡ true → (new ≡ old) × (after ≡ disk)
   pub shares : is_sharing (tables_of old) e ≡ true → LaysOut (layout_of old) e r (layout_of new)
   pub pages : is_sharing (tables_of old) e ≡ true → new.store.arena ≡ old.store.arena
   pub still : is_still e ≡ true → LaysOut (layout_of old) e r (layout_of new)

@@ -1,8 +1,8 @@
 -- When nobody is left, and that all pages are free then.
-use Rattle.std.specs.Prelude.{◌≡◌, ℕ, false, not, []}
+use Rattle.std.specs.Prelude.{◌≡◌, ℕ, true, false, not, []}
 use Rattle.std.specs.List.{filter}
 use Rattle.iol_core.specs.State.{is_live}
-use Rattle.iol_arena.specs.Chunks.{spent}
+use Rattle.iol_arena.specs.Chunks.{spent, usable}
 use Rattle.iol_hold.specs.Room.{free_of, pages_of}
 use Rattle.iol_hold.specs.Stored.{Stored}
 use Rattle.iol_cache.specs.Cached.{extents_in_all}
@@ -14,6 +14,8 @@ pub record IsLeft (s : SystemState) : Type 0 where
   pub conns : (machine_of s).conns ≡ []
   pub extents : extents_in_all s.kernel.cache.files ≡ 0
 
--- every page of every pool is free, but for those that are retired
+-- Every page that is not retired is free, whether its chunk is a pool's or nobody's. So the free pages of each pool are all its
+-- pages, but for those that are retired.
 pub record IsAllFree (s : Stored) : Type 0 where
+  pub every : (q : ℕ) → spent s.arena q ≡ false → usable s.arena q ≡ true
   pub each : (p : ℕ) → free_of s p ≡ filter (λ q. not (spent s.arena q)) (pages_of s p)

@@ -4,6 +4,7 @@ use Rattle.iol_core.specs.State.{conn_at, descriptor}
 use Rattle.iol_core.specs.Calls.Aggregates.{default_pool}
 use Rattle.iol_core.specs.Calls.Outside.{arrive}
 use Rattle.iol_core.specs.Calls.Writing.{pool_for, write}
+use Rattle.iol_core.specs.declared.descriptors.Mode.{Mode}
 use Rattle.iol_core.specs.declared.descriptors.Descriptor.{Descriptor}
 use Rattle.iol_core.specs.declared.descriptors.Descriptor.TheVariants as on
 use Rattle.iol_core.specs.declared.events.Call.TheVariants as call
@@ -12,15 +13,17 @@ use Rattle.iol_core.specs.declared.events.Event.TheVariants as event
 use Rattle.iol_arena.specs.State.{pages_for}
 use Rattle.iol_extent.specs.Extents.{Cell, cover}
 use Rattle.iol_hold.specs.Places.{byte_len}
+use Rattle.iol_hold.specs.Stored.{Stored}
 use Rattle.iol_hold.specs.declared.slices.Slice.{Slice}
 use Rattle.iol_cache.specs.Cached.{extents_in, file_in}
 use Rattle.iol_cache.specs.Composing.{copied_pages}
-use Rattle.iol_cache.specs.Overwriting.{LiesDirty}
+use Rattle.iol_cache.specs.Overwriting.{LiesDirty, WritesFile}
 use Rattle.iol_kernel.specs.Backed.{holding_of}
-use Rattle.iol_kernel.specs.FileReading.{GivesRead, file_read, held_by}
+use Rattle.iol_kernel.specs.FileReading.{GivesCopy, GivesRead, file_read, held_by}
 use Rattle.iol_kernel.specs.Keeping.{LacksPages, LacksPagesToRead}
 use Rattle.iol_kernel.specs.KernelState.{KernelState, slices_in}
-use Rattle.iol_kernel.specs.WritingFiles.{pool_of_file}
+use Rattle.iol_kernel.specs.MakingRoom.{AfterRoom}
+use Rattle.iol_kernel.specs.WritingFiles.{LaysOver, pool_of_file}
 use Rattle.iol_system.specs.Machine.{SystemState, tables_of}
 
 -- byte i of file f is one of n from the position on at which a descriptor is open
@@ -79,12 +82,34 @@ abbrev pub SharesRead : (by fd n : ℕ) → SystemState → Option Descriptor �
 SharesRead by fd n old (Some (on.File f at mode)) new = GivesRead (file_read by fd f at mode n) old.disk old.kernel new
 SharesRead by fd n old o new = ⊤
 
--- A write of slices to a file: those of its pool lie under it where they lay.
-abbrev pub SharesWrite : Option Descriptor → List Slice → KernelState → Type 0
-SharesWrite (Some (on.File f at mode)) xs new = LiesDirty f at xs new.cache
-SharesWrite o xs new = ⊤
+-- A read of a file by copying does what one by reference does, over some pages; then its slices are released. So what it hit counts,
+-- and what was not in memory lies in new clean extents.
+pub record CopiesShared (by fd n f at : ℕ) (mode : Mode) (old : SystemState) (new : KernelState) : Type 0 where
+  pub mid : Stored
+  pub gives : GivesCopy (file_read by fd f at mode n) old.disk old.kernel mid new
+
+abbrev pub SharesCopy : (by fd n : ℕ) → SystemState → Option Descriptor → KernelState → Type 0
+SharesCopy by fd n old (Some (on.File f at mode)) new = CopiesShared by fd n f at mode old new
+SharesCopy by fd n old o new = ⊤
+
+-- A write of slices over a file: those of its pool lie under it where they lay. Where there are bytes, room was made for copies
+-- of the others, and then all of them came in the place of what lay there, and nothing else became of the cache.
+pub record WritesShared (f at : ℕ) (xs : List Slice) (old new : KernelState) : Type 0 where
+  pub lies : LiesDirty f at xs new.cache
+  pub over : 0 < byte_len xs → WritesFile f at xs (holding_of old) (holding_of new)
+
+abbrev pub SharesWrite : Option Descriptor → List Slice → (old new : KernelState) → Type 0
+SharesWrite (Some (on.File f at mode)) xs old new = WritesShared f at xs old new
+SharesWrite o xs old new = ⊤
+
+-- New bytes that are written over a file: room was made, and they came as slices of its pool, dirty, as a write of these does.
+abbrev pub SharesPut : Option Descriptor → (pool : ℕ) → List ℕ → (old new : KernelState) → Type 0
+SharesPut (Some (on.File f at mode)) pool bytes old new = AfterRoom pool (length bytes) old (λ roomy. LaysOver f at pool bytes roomy new)
+SharesPut o pool bytes old new = ⊤
 
 abbrev pub SharesFile : SystemState → Event → KernelState → Type 0
 SharesFile old (event.Call by (call.IolRead fd n)) new = SharesRead by fd n old (held_by (tables_of old.kernel) by fd) new
-SharesFile old (event.Call by (call.IolWrite fd a)) new = SharesWrite (descriptor (tables_of old.kernel) by fd) (slices_in old.kernel.domains by a) new
+SharesFile old (event.Call by (call.IolWrite fd a)) new = SharesWrite (descriptor (tables_of old.kernel) by fd) (slices_in old.kernel.domains by a) old.kernel new
+SharesFile old (event.Call by (call.Read fd n)) new = SharesCopy by fd n old (held_by (tables_of old.kernel) by fd) new
+SharesFile old (event.Call by (call.Write fd bytes)) new = let o = descriptor (tables_of old.kernel) by fd in SharesPut o (pool_for (tables_of old.kernel) by o) bytes old.kernel new
 SharesFile old e new = ⊤

@@ -14,4 +14,5 @@ pub mod Asking
 pub mod Doing
 pub mod WrittenBack
 pub mod InPlace
+pub mod Late
 pub mod Freed

@@ -1,9 +1,10 @@
 -- What an event does to pages and chunks: on which pages it makes buffers, and which chunks a new pool gets.
 use Rattle.std.specs.Prelude.{ℕ, [], length, Option, Some, ⊤}
-use Rattle.iol_core.specs.State.{conn_at, descriptor}
-use Rattle.iol_core.specs.Calls.Aggregates.{default_pool}
+use Rattle.iol_core.specs.State.{State, conn_at, descriptor}
+use Rattle.iol_core.specs.Text.{Text}
+use Rattle.iol_core.specs.Calls.Aggregates.{default_pool, with_agg}
 use Rattle.iol_core.specs.Calls.Outside.{arrive}
-use Rattle.iol_core.specs.Calls.Writing.{pool_for, write}
+use Rattle.iol_core.specs.Calls.Writing.{pool_for, write, written}
 use Rattle.iol_core.specs.Calls.Pools.{distinct}
 use Rattle.iol_core.specs.declared.descriptors.Descriptor.{Descriptor}
 use Rattle.iol_core.specs.declared.descriptors.Descriptor.TheVariants as on
@@ -16,6 +17,7 @@ use Rattle.iol_core.specs.declared.events.Reply.TheVariants as reply
 use Rattle.iol_hold.specs.Pages.{KeepsPages}
 use Rattle.iol_hold.specs.Room.{lowest_of}
 use Rattle.iol_cache.specs.Paging.{FillsLowest}
+use Rattle.iol_kernel.specs.Calls.{MakesBytes, with_incoming}
 use Rattle.iol_kernel.specs.MakingRoom.{AfterRoom}
 use Rattle.iol_kernel.specs.WritingFiles.{pool_of_file}
 use Rattle.iol_pool.specs.Pools.{AddsPool}
@@ -23,10 +25,21 @@ use Rattle.iol_kernel.specs.FileReading.{held_by}
 use Rattle.iol_kernel.specs.KernelState.{KernelState}
 use Rattle.iol_system.specs.Machine.{tables_of}
 
+-- Room was made for n bytes in a pool, and then they came in, put where `put` says. Their buffers lie on the lowest pages that were
+-- free then, each of which was raised by one, and no others were. Nothing else changed: so no more gave way of what memory has
+-- of files.
+abbrev pub Makes : (put : State → Text → State) → (pool n : ℕ) → (old new : KernelState) → Type 0
+Makes put pool n old new = AfterRoom pool n old (λ roomy. MakesBytes put pool n roomy new)
+
 -- Room was made for n bytes in a pool, and of the pages that were free then the lowest were filled: each was raised by one, and no
--- others were.
+-- others were. What else becomes of a file that is written so is said by `SharesPut`.
 abbrev pub Fills : (pool n : ℕ) → (old new : KernelState) → Type 0
 Fills pool n old new = AfterRoom pool n old (λ roomy. KeepsPages roomy.store new.store (lowest_of roomy.store pool n))
+
+-- n bytes are written by copying
+abbrev pub Puts : (by fd pool n : ℕ) → Option Descriptor → (old new : KernelState) → Type 0
+Puts by fd pool n (Some (on.File f at mode)) old new = Fills pool n old new
+Puts by fd pool n o old new = Makes (λ s t. written s by fd (descriptor s by fd) t) pool n old new
 
 -- a call on a file makes buffers on the lowest pages of its pool that are free once room is made; on anything else none
 abbrev pub FillsForFile : KernelState → Option Descriptor → KernelState → Type 0
@@ -35,17 +48,17 @@ FillsForFile old o new = KeepsPages old.store new.store []
 
 -- `agg_make` makes buffers in the caller's default pool, and `write` in that of a file, or to anything else in the caller's
 abbrev pub CallPublishes : KernelState → (by : ℕ) → Call → KernelState → Type 0
-CallPublishes old by (call.AggMake bytes) new = Fills (default_pool (tables_of old) by) (length bytes) old new
+CallPublishes old by (call.AggMake bytes) new = Makes (λ s t. with_agg s by t) (default_pool (tables_of old) by) (length bytes) old new
 CallPublishes old by (call.IolRead fd n) new = FillsForFile old (held_by (tables_of old) by fd) new
 CallPublishes old by (call.IolWrite fd a) new = FillsForFile old (descriptor (tables_of old) by fd) new
 CallPublishes old by (call.Read fd n) new = FillsForFile old (held_by (tables_of old) by fd) new
-CallPublishes old by (call.Write fd bytes) new = Fills (pool_for (tables_of old) by (descriptor (tables_of old) by fd)) (write (tables_of old) by fd bytes).answer old new
+CallPublishes old by (call.Write fd bytes) new = Puts by fd (pool_for (tables_of old) by (descriptor (tables_of old) by fd)) (write (tables_of old) by fd bytes).answer (descriptor (tables_of old) by fd) old new
 CallPublishes old by c new = KeepsPages old.store new.store []
 
 -- so do bytes that arrive in the connection's pool, as many as are taken
 abbrev pub Publishes : KernelState → Event → KernelState → Type 0
 Publishes old (event.Call by c) new = CallPublishes old by c new
-Publishes old (event.Arrive c bytes) new = Fills (conn_at (tables_of old) c).pool (arrive (tables_of old) c bytes).answer old new
+Publishes old (event.Arrive c bytes) new = Makes (with_incoming c) (conn_at (tables_of old) c).pool (arrive (tables_of old) c bytes).answer old new
 Publishes old e new = KeepsPages old.store new.store []
 
 -- a call that made a pool: it has as many chunks as were asked for, the lowest free ones, and the others have theirs

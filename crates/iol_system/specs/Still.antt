@@ -1,4 +1,4 @@
--- Events that neither place bytes nor hand them on.
+-- Events that neither place bytes nor hand them on, and those that change nothing.
 use Rattle.std.specs.Prelude.{Bool, true, false}
 use Rattle.iol_core.specs.declared.events.Call.TheVariants as call
 use Rattle.iol_core.specs.declared.events.Event.{Event}
@@ -21,3 +21,9 @@ is_still (event.Call by call.Accept) = true
 is_still (event.ConnNew p) = true
 is_still (event.PeerClosed c how) = true
 is_still e = false
+
+-- Whether the event looks at something and changes nothing at all, whatever it is answered.
+abbrev pub only_looks : Event → Bool
+only_looks (event.Call by (call.Show a)) = true
+only_looks (event.Call by (call.Length fd)) = true
+only_looks e = false

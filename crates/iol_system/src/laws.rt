@@ -56,8 +56,8 @@ pub fn each_chunk_has_one_pool()
     ensures { EachChunkHasOnePool }
 {}
 
-/// Where no domain and no connection is live and no extent of a file is left, every page of every pool is free, but for those
-/// that are retired. With [`runs_stay_safe`] and [`runs_stay_orderly`] that holds at each moment of a run.
+/// Where no domain and no connection is live and no extent of a file is left, every page that is not retired is free, whether
+/// its chunk is a pool's or nobody's. With [`runs_stay_safe`] and [`runs_stay_orderly`] that holds at each moment of a run.
 pub fn all_pages_come_free()
     ensures { AllPagesComeFree }
 {}

@@ -24,10 +24,11 @@ ghost use Rattle.iol_arena.specs.State.{no_entry};
 ghost use Rattle.iol_arena.specs.Buffers.{SharesNoPage, live_pages};
 ghost use Rattle.iol_system.specs.Asking.{asks_store, makes_file, uses_cache, writes_store};
 ghost use Rattle.iol_system.specs.InPlace.{KeepsInPlace, SharesFile};
+ghost use Rattle.iol_system.specs.Late.{LeavesLate};
 ghost use Rattle.iol_system.specs.Placed.{Creates, Publishes};
 ghost use Rattle.iol_system.specs.Remembered.{Remembers};
 ghost use Rattle.iol_system.specs.Room.{HasRoomFor, LacksRoomFor, IsDone, IsEarly, IsFault, IsNoRoom, IsRefused};
-ghost use Rattle.iol_system.specs.Still.{is_still};
+ghost use Rattle.iol_system.specs.Still.{is_still, only_looks};
 ghost use Rattle.iol_system.specs.WrittenBack.{IsDropped, IsFlushed, IsKept, IsSynced, StoresBack};
 
 use crate::aggregates::Aggregates;
@@ -151,13 +152,17 @@ impl<B: Backing> System<B> {
         ensures room { IsDone result → HasRoomFor self.old event }
         ensures no_room { IsNoRoom result → LacksRoomFor self.old event }
 
-        // A refused event changes nothing at all of what the system holds; where it works on what memory has of files, clean parts of
-        // these may be gone, but only for want of room or of memory, or by a fault. Other events leave that as it is.
+        // A refused event changes nothing at all of what the system holds. Only for want of room or of memory, or by a fault, one
+        // that wants pages or works on a file may leave something by then: clean parts of files that gave way, the first ones
+        // before the others, hits that count, pages that were filled and are free again; `fsync` and `flush` what they wrote
+        // back. Other events leave what memory has of files as it is, and those that only look change nothing at all.
         ensures early { IsEarly result → self.new ≡ self.old }
         ensures refused { uses_cache (tables_of self.old.kernel) event ≡ false →
             IsRefused result → self.new ≡ self.old }
         ensures uncached { uses_cache (tables_of self.old.kernel) event ≡ false →
             makes_file event ≡ false → self.new.kernel.cache ≡ self.old.kernel.cache }
+        ensures late { LeavesLate self.old event result self.new }
+        ensures looks { only_looks event ≡ true → self.new ≡ self.old }
 
         // What a sharing call hands on lies where it lay, and no page is published or freed. So does all that is left by an event
         // that is not about bytes.
@@ -170,12 +175,13 @@ impl<B: Backing> System<B> {
 
         // Each byte of a file that is in memory lies where it lay, dirty as it was. Or the event writes it, or writes it back; or it
         // was clean, and the event is `drop_clean`, or wants more pages of the file's pool than are free. What calls on files
-        // share lies where it lay, or where what was read lies now.
+        // share lies where it lay, or where what was read lies now; what is read by copying is in memory then, too.
         ensures in_place { KeepsInPlace self.old event self.new.kernel }
         ensures shares_file { IsDone result → SharesFile self.old event self.new.kernel }
 
-        // What publishes does so on the lowest free pages of its pool, each of which is raised by one; an open pool keeps its
-        // chunks, and a new one has the lowest free chunks, as many as asked for.
+        // What publishes does so on the lowest free pages of its pool, each of which is raised by one; where new bytes are placed
+        // room is made first, and nothing else changes then, so no more gives way. An open pool keeps its chunks, and a new one
+        // has the lowest free chunks, as many as asked for.
         ensures publishes { IsDone result →
             Publishes self.old.kernel event self.new.kernel }
         ensures creates { Creates self.old.kernel event result self.new.kernel }

@@ -1,0 +1,72 @@
+-- What a refusal leaves that may come late: for want of room or of memory, or by a fault.
+use Rattle.std.specs.Prelude.{ℕ, List, length, Option, Some, ⊤}
+use Rattle.iol_core.specs.State.{conn_at, descriptor}
+use Rattle.iol_core.specs.Calls.Aggregates.{default_pool}
+use Rattle.iol_core.specs.Calls.Outside.{arrive}
+use Rattle.iol_core.specs.Calls.Writing.{pool_for, write}
+use Rattle.iol_core.specs.declared.descriptors.Mode.{Mode}
+use Rattle.iol_core.specs.declared.descriptors.Descriptor.{Descriptor}
+use Rattle.iol_core.specs.declared.descriptors.Descriptor.TheVariants as on
+use Rattle.iol_core.specs.declared.events.Call.{Call}
+use Rattle.iol_core.specs.declared.events.Call.TheVariants as call
+use Rattle.iol_core.specs.declared.events.Event.{Event}
+use Rattle.iol_core.specs.declared.events.Event.TheVariants as event
+use Rattle.iol_core.specs.declared.events.Reply.{Reply}
+use Rattle.iol_core.specs.declared.events.Reply.TheVariants as reply
+use Rattle.iol_core.specs.declared.refusals.Refusal.{Refusal}
+use Rattle.iol_hold.specs.Moves.{SameLists}
+use Rattle.iol_hold.specs.Releases.{FreesOnly}
+use Rattle.iol_hold.specs.Stored.{Stored}
+use Rattle.iol_hold.specs.declared.slices.Slice.{Slice}
+use Rattle.iol_kernel.specs.FileReading.{LeavesAtRefusal, file_read, held_by}
+use Rattle.iol_kernel.specs.KernelState.{KernelState, slices_in}
+use Rattle.iol_kernel.specs.MakingRoom.{MayHaveEvicted}
+use Rattle.iol_kernel.specs.WritingFiles.{LeavesUnlaid, LeavesUnwritten}
+use Rattle.iol_system.specs.Machine.{SystemState, tables_of}
+
+-- it holds of the refusal, where there is one
+abbrev pub IfRefused : Reply → (Refusal → Type 0) → Type 0
+IfRefused (reply.Refused x) P = P x
+IfRefused r P = ⊤
+
+-- A refused read of a file by reference: hits may count, and clean extents may have gone to make room, the first ones before the
+-- others.
+abbrev pub ReadLeaves : (by fd n : ℕ) → (old : SystemState) → Option Descriptor → Reply → (new : SystemState) → Type 0
+ReadLeaves by fd n old (Some (on.File f at mode)) r new = IfRefused r (LeavesAtRefusal (file_read by fd f at mode n) old.disk old.kernel new.disk new.kernel)
+ReadLeaves by fd n old o r new = ⊤
+
+-- A refused read of a file by copying left what one by reference does, over some pages of which some were freed since.
+pub record LeavesCopied (by fd n f at : ℕ) (mode : Mode) (old new : SystemState) (x : Refusal) : Type 0 where
+  pub mid : Stored
+  pub leaves : LeavesAtRefusal (file_read by fd f at mode n) old.disk old.kernel new.disk (record new.kernel { store = mid }) x
+  pub frees : FreesOnly mid new.kernel.store
+  pub lists : SameLists mid new.kernel.store
+
+abbrev pub CopyLeaves : (by fd n : ℕ) → (old : SystemState) → Option Descriptor → Reply → (new : SystemState) → Type 0
+CopyLeaves by fd n old (Some (on.File f at mode)) r new = IfRefused r (LeavesCopied by fd n f at mode old new)
+CopyLeaves by fd n old o r new = ⊤
+
+-- A refused write of slices to a file made room at most, and what it placed is gone.
+abbrev pub WriteLeaves : (old : KernelState) → Option Descriptor → List Slice → Reply → (new : KernelState) → Type 0
+WriteLeaves old (Some (on.File f at mode)) xs r new = IfRefused r (LeavesUnwritten f xs old new)
+WriteLeaves old o xs r new = ⊤
+
+-- A refused write of bytes, of which n are taken, made room at most, and what it placed in a file's pool is gone.
+abbrev pub PutLeaves : (pool n : ℕ) → List ℕ → (old : KernelState) → Option Descriptor → Reply → (new : KernelState) → Type 0
+PutLeaves pool n bytes old (Some (on.File f at mode)) r new = IfRefused r (LeavesUnlaid pool bytes old new)
+PutLeaves pool n bytes old o r new = IfRefused r (MayHaveEvicted pool n old new)
+
+abbrev pub CallLeaves : (old : SystemState) → (by : ℕ) → Call → Reply → (new : SystemState) → Type 0
+CallLeaves old by (call.AggMake bytes) r new = IfRefused r (MayHaveEvicted (default_pool (tables_of old.kernel) by) (length bytes) old.kernel new.kernel)
+CallLeaves old by (call.IolRead fd n) r new = ReadLeaves by fd n old (held_by (tables_of old.kernel) by fd) r new
+CallLeaves old by (call.IolWrite fd a) r new = WriteLeaves old.kernel (descriptor (tables_of old.kernel) by fd) (slices_in old.kernel.domains by a) r new.kernel
+CallLeaves old by (call.Read fd n) r new = CopyLeaves by fd n old (held_by (tables_of old.kernel) by fd) r new
+CallLeaves old by (call.Write fd bytes) r new = PutLeaves (pool_for (tables_of old.kernel) by (descriptor (tables_of old.kernel) by fd)) (write (tables_of old.kernel) by fd bytes).answer bytes old.kernel (descriptor (tables_of old.kernel) by fd) r new.kernel
+CallLeaves old by c r new = ⊤
+
+-- A refused event that places bytes, or reads or writes a file, changed nothing; or it came late, and has just made room, as far
+-- as it got, or counted hits. Those that write back are told of by `StoresBack`, and others change nothing where they are refused.
+abbrev pub LeavesLate : (old : SystemState) → Event → Reply → (new : SystemState) → Type 0
+LeavesLate old (event.Call by c) r new = CallLeaves old by c r new
+LeavesLate old (event.Arrive c bytes) r new = IfRefused r (MayHaveEvicted (conn_at (tables_of old.kernel) c).pool (arrive (tables_of old.kernel) c bytes).answer old.kernel new.kernel)
+LeavesLate old e r new = ⊤
