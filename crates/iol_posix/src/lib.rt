@@ -4,10 +4,11 @@
 //! written. What of a file is not in memory is asked of the store under the files.
 //!
 //! The contract. [`read`] (`serves`: with an honest store the machine's step, its bytes at the front of the caller's memory;
-//! `copies`: when there is room, when a fault is answered, and what becomes of pages and of what memory has of files; `rest`: the
-//! others stay), [`read_bytes`] (`serves`, `copies`: the same, as a list of their own). [`write`] (`serves`;
-//! `queue`: the bytes that a queue takes, on the lowest free pages of the caller's default pool, once clean extents gave way;
-//! `room`, `no_room`; `refused`: where it is refused and neither room nor memory was wanting, nothing has changed). The words are in `specs/Copying` and iol_kernel's.
+//! `copies`: when there is room, when a fault is answered, and what becomes of pages and of what memory has of files; `count`: no
+//! more than there is room for; `rest`: the others stay), [`read_bytes`] (`serves`, `copies`: the same, as a list of their own).
+//! [`write`] (`serves`; `queue`: the bytes that a queue takes, on the lowest free pages of the caller's default pool, once clean
+//! extents gave way; `lays`: what becomes of a file; `room`, `no_room`; `refused`: where it is refused and neither room nor memory
+//! was wanting, nothing has changed). The words are in `specs/Copying` and iol_kernel's.
 //!
 //! ```text
 //! let taken = write(&mut kernel, by, to, b"hello")?;
