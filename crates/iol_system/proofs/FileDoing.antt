@@ -1,7 +1,7 @@
 -- What an event does that places bytes, or reads and writes files.
 use Rattle.std.proofs.Common.{◌≡◌, ◌∙◌, ℕ, Bool, List, [], length, true, false, refl, ap, sym, subst, Option, Some, None}
 use Rattle.std.proofs.lemmas.Bool.{true≢false}
-use Rattle.std.specs.Prelude.{◌⊎◌, Result, Ok, Err, IfErr, OnOk, not, if◌then◌else◌}
+use Rattle.std.specs.Prelude.{◌⊎◌, Result, Err, IfErr, OnOk, not, if◌then◌else◌}
 use Rattle.iol_back.specs.Disk.{Disk}
 use Rattle.iol_arena.specs.State.{pages_for}
 use Rattle.iol_cache.specs.Composing.{copied_pages}
@@ -283,7 +283,7 @@ module _ (by fd a : ℕ) (disk : Disk) (old new : KernelState) (r : Result ℕ R
   write_in_place o c writes goes = cache_in_place disk old new write_event c.cache
 
   write_shares : (o : Option Descriptor) → WritesOn by fd a o old r new → IsDone (told reply.Count r) → SharesWrite o (slices_in old.domains by a) old new
-  write_shares (Some (on.File g at mode)) c is = record { lies = ok_told reply.Count r _ c.lies is; over = λ some. ok_told reply.Count r _ (c.over some) is }
+  write_shares (Some (on.File g at mode)) c is = record { lies = ok_told reply.Count r _ c.lies is; over = λ some. ok_told reply.Count r _ (c.over some) is; nothing = λ none. ok_told reply.Count r _ (c.nothing none) is }
   write_shares o c is = tt
 
   write_late : (o : Option Descriptor) → WritesOn by fd a o old r new → WriteLeaves old o (slices_in old.domains by a) (told reply.Count r) new
@@ -465,22 +465,16 @@ module _ (by fd : ℕ) (bytes : List ℕ) (disk : Disk) (old new : KernelState) 
   put_in_place (Some (on.WriteEnd p)) placed puts writes goes = queue_in_place (Some (on.WriteEnd p)) (placed refl) goes
   put_in_place (Some (on.Connection c)) placed puts writes goes = queue_in_place (Some (on.Connection c)) (placed refl) goes
 
-  abbrev IsLaid : Option Descriptor → Type 0
-  IsLaid o = LaysOn o (pool_of o) bytes old r new
+  put_late : (o : Option Descriptor) → (is_file o ≡ false → IsPut o) → LaysOn o (pool_of o) bytes old r new → PutLeaves (pool_of o) (count_of o) bytes old o (told reply.Count r) new
+  put_late (Some (on.File g at mode)) placed lays = late_told reply.Count r _ put_tells lays.leaves
+  put_late None placed lays = late_told reply.Count r _ put_tells (placed refl).refused
+  put_late (Some (on.ReadEnd p)) placed lays = late_told reply.Count r _ put_tells (placed refl).refused
+  put_late (Some (on.WriteEnd p)) placed lays = late_told reply.Count r _ put_tells (placed refl).refused
+  put_late (Some (on.Connection c)) placed lays = late_told reply.Count r _ put_tells (placed refl).refused
 
-  put_late : (o : Option Descriptor) → (is_file o ≡ false → IsPut o) → IsLaid o → PutLeaves (pool_of o) (count_of o) bytes old o (told reply.Count r) new
-  put_late (Some (on.File g at mode)) placed laid = late_told reply.Count r _ put_tells laid.leaves
-  put_late None placed laid = late_told reply.Count r _ put_tells (placed refl).refused
-  put_late (Some (on.ReadEnd p)) placed laid = late_told reply.Count r _ put_tells (placed refl).refused
-  put_late (Some (on.WriteEnd p)) placed laid = late_told reply.Count r _ put_tells (placed refl).refused
-  put_late (Some (on.Connection c)) placed laid = late_told reply.Count r _ put_tells (placed refl).refused
-
-  put_shares : (o : Option Descriptor) → IsLaid o → IsDone (told reply.Count r) → SharesPut o (pool_of o) bytes old new
-  put_shares None laid is = tt
-  put_shares (Some (on.File g at mode)) laid is = ok_told reply.Count r _ laid.lays is
-  put_shares (Some (on.ReadEnd p)) laid is = tt
-  put_shares (Some (on.WriteEnd p)) laid is = tt
-  put_shares (Some (on.Connection c)) laid is = tt
+  put_shares : (o : Option Descriptor) → LaysOn o (pool_of o) bytes old r new → IsDone (told reply.Count r) → SharesPut (pool_of o) bytes o old new
+  put_shares (Some (on.File g at mode)) lays is = ok_told reply.Count r _ lays.lays is
+  put_shares o lays is = tt
 
   pub puts_does : Means reply.Count (λ s. writing.write s by fd bytes) put_event → Serves (λ s. writing.write s by fd bytes) disk old r disk new
       → (is_file (descriptor (tables_of old) by fd) ≡ false → Places (λ s. writing.write s by fd bytes) put (writing.pool_for (tables_of old) by (descriptor (tables_of old) by fd)) taken_bytes old r new)
@@ -490,7 +484,7 @@ module _ (by fd : ℕ) (bytes : List ℕ) (disk : Disk) (old new : KernelState) 
       → LaysOn (descriptor (tables_of old) by fd) (writing.pool_for (tables_of old) by (descriptor (tables_of old) by fd)) bytes old r new
       → IfErr r (λ x. (new ≡ old) ⊎ WantOfRoom (writing.pool_for (tables_of old) by (descriptor (tables_of old) by fd)) x)
       → Does disk old put_event (told reply.Count r) disk new
-  puts_does means serves queue room lacks puts laid left = record {
+  puts_does means serves queue room lacks puts lays left = record {
     step = λ backed placed. means (machine_of disk.slots old) (machine_of disk.slots new) r (serves.step backed placed);
     backed = serves.backed;
     beside = told_beside reply.Count (λ s. writing.write s by fd bytes) put_event old new r means serves.beside;
@@ -504,13 +498,13 @@ module _ (by fd : ℕ) (bytes : List ℕ) (disk : Disk) (old new : KernelState) 
     early = λ is. (early_of reply.Count r (new ≡ old) _ put_tells (early_room (writing.pool_for (tables_of old) by (descriptor (tables_of old) by fd))) left is, refl);
     refused = λ unused is. absurd (true≢false unused);
     uncached = λ unused other. absurd (true≢false unused);
-    late = put_late (descriptor (tables_of old) by fd) queue laid;
+    late = put_late (descriptor (tables_of old) by fd) queue lays;
     looks = λ is. absurd (true≢false (sym is));
     shares = λ shared. absurd (true≢false (sym shared));
     pages = λ shared. absurd (true≢false (sym shared));
     still = λ still. absurd (true≢false (sym still));
     in_place = put_in_place (descriptor (tables_of old) by fd) queue puts (λ g i k. k) (λ p k. k);
-    shares_file = put_shares (descriptor (tables_of old) by fd) laid;
+    shares_file = put_shares (descriptor (tables_of old) by fd) lays;
     publishes = λ done. put_fills (descriptor (tables_of old) by fd) queue puts done;
     creates = tt;
     sums = serves.sums;

@@ -93,23 +93,26 @@ SharesCopy by fd n old (Some (on.File f at mode)) new = CopiesShared by fd n f a
 SharesCopy by fd n old o new = ⊤
 
 -- A write of slices over a file: those of its pool lie under it where they lay. Where there are bytes, room was made for copies
--- of the others, and then all of them came in the place of what lay there, and nothing else became of the cache.
+-- of the others, and then all of them came in the place of what lay there, and nothing else became of the cache. Where there is
+-- none, nothing became of it at all.
 pub record WritesShared (f at : ℕ) (xs : List Slice) (old new : KernelState) : Type 0 where
   pub lies : LiesDirty f at xs new.cache
   pub over : 0 < byte_len xs → WritesFile f at xs (holding_of old) (holding_of new)
+  pub nothing : byte_len xs ≡ 0 → holding_of new ≡ holding_of old
 
 abbrev pub SharesWrite : Option Descriptor → List Slice → (old new : KernelState) → Type 0
 SharesWrite (Some (on.File f at mode)) xs old new = WritesShared f at xs old new
 SharesWrite o xs old new = ⊤
 
--- New bytes that are written over a file: room was made, and they came as slices of its pool, dirty, as a write of these does.
-abbrev pub SharesPut : Option Descriptor → (pool : ℕ) → List ℕ → (old new : KernelState) → Type 0
-SharesPut (Some (on.File f at mode)) pool bytes old new = AfterRoom pool (length bytes) old (λ roomy. LaysOver f at pool bytes roomy new)
-SharesPut o pool bytes old new = ⊤
+-- A write over a file by copying: room was made for its bytes, and then they came over those of the file, dirty and as any write of
+-- their slices does, which were then released.
+abbrev pub SharesPut : (pool : ℕ) → List ℕ → Option Descriptor → (old new : KernelState) → Type 0
+SharesPut pool bytes (Some (on.File f at mode)) old new = AfterRoom pool (length bytes) old (λ roomy. LaysOver f at pool bytes roomy new)
+SharesPut pool bytes o old new = ⊤
 
 abbrev pub SharesFile : SystemState → Event → KernelState → Type 0
 SharesFile old (event.Call by (call.IolRead fd n)) new = SharesRead by fd n old (held_by (tables_of old.kernel) by fd) new
 SharesFile old (event.Call by (call.IolWrite fd a)) new = SharesWrite (descriptor (tables_of old.kernel) by fd) (slices_in old.kernel.domains by a) old.kernel new
 SharesFile old (event.Call by (call.Read fd n)) new = SharesCopy by fd n old (held_by (tables_of old.kernel) by fd) new
-SharesFile old (event.Call by (call.Write fd bytes)) new = let o = descriptor (tables_of old.kernel) by fd in SharesPut o (pool_for (tables_of old.kernel) by o) bytes old.kernel new
+SharesFile old (event.Call by (call.Write fd bytes)) new = SharesPut (pool_for (tables_of old.kernel) by (descriptor (tables_of old.kernel) by fd)) bytes (descriptor (tables_of old.kernel) by fd) old.kernel new
 SharesFile old e new = ⊤

@@ -51,7 +51,8 @@ abbrev pub WriteLeaves : (old : KernelState) → Option Descriptor → List Slic
 WriteLeaves old (Some (on.File f at mode)) xs r new = IfRefused r (LeavesUnwritten f xs old new)
 WriteLeaves old o xs r new = ⊤
 
--- A refused write of bytes, of which n are taken, made room at most, and what it placed in a file's pool is gone.
+-- A refused write of bytes by copying made room at most, for the n of them that a queue takes; and what it placed for a file is
+-- gone.
 abbrev pub PutLeaves : (pool n : ℕ) → List ℕ → (old : KernelState) → Option Descriptor → Reply → (new : KernelState) → Type 0
 PutLeaves pool n bytes old (Some (on.File f at mode)) r new = IfRefused r (LeavesUnlaid pool bytes old new)
 PutLeaves pool n bytes old o r new = IfRefused r (MayHaveEvicted pool n old new)

@@ -32,7 +32,7 @@ abbrev pub Makes : (put : State → Text → State) → (pool n : ℕ) → (old 
 Makes put pool n old new = AfterRoom pool n old (λ roomy. MakesBytes put pool n roomy new)
 
 -- Room was made for n bytes in a pool, and of the pages that were free then the lowest were filled: each was raised by one, and no
--- others were. What else becomes of a file that is written so is said by `SharesPut`.
+-- others were. So of a `write` to a file, which puts them over the file's then (`SharesPut`).
 abbrev pub Fills : (pool n : ℕ) → (old new : KernelState) → Type 0
 Fills pool n old new = AfterRoom pool n old (λ roomy. KeepsPages roomy.store new.store (lowest_of roomy.store pool n))
 

@@ -33,11 +33,11 @@ use Rattle.iol_system.specs.WrittenBack.{IsDropped, IsFlushed, IsKept, IsSynced,
 -- `flush` what was written back before. Other events leave what memory has of files, but that a new file has nothing there; `show`
 -- and `length` change nothing at all. What a sharing call hands on lies where it lay, and no page is published or freed; what a
 -- call leaves that is not about bytes lies where it lay; bytes of files in memory lie where they lay, but those that are written
--- and clean ones that give way, and calls on files share them, and what is read by copying is in memory then, too; calls that make
--- buffers do so on the lowest free pages, each of which is raised by one, and no others do, and no more gives way for new bytes
--- than was wanted; an open pool keeps its chunks, and a new one has the lowest free; sending remembers the sums of what is sent;
--- after `fsync` an honest store has the file, and nothing of it is dirty, `flush` leaves one dirty extent fewer, and `drop_clean`
--- no clean one; new is safe again; live buffers keep their bytes, and aggregates their values.
+-- and clean ones that give way, and calls on files share them, and what is read or written by copying is in memory then, too;
+-- calls that make buffers do so on the lowest free pages, each of which is raised by one, and no others do, and no more gives way
+-- for new bytes than was wanted; an open pool keeps its chunks, and a new one has the lowest free; sending remembers the sums of
+-- what is sent; after `fsync` an honest store has the file, and nothing of it is dirty, `flush` leaves one dirty extent fewer, and
+-- `drop_clean` no clean one; new is safe again; live buffers keep their bytes, and aggregates their values.
 pub record Promises (old : SystemState) (e : Event) (r : Reply) (new : SystemState) : Type 0 where
   pub step : IfHonest old.disk (StepsTo (machine_of old) e r (machine_of new))
   pub beside : StepsBeside (λ s. meaning s e) old.kernel (outcome r) new.kernel

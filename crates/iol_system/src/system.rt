@@ -175,7 +175,7 @@ impl<B: Backing> System<B> {
 
         // Each byte of a file that is in memory lies where it lay, dirty as it was. Or the event writes it, or writes it back; or it
         // was clean, and the event is `drop_clean`, or wants more pages of the file's pool than are free. What calls on files
-        // share lies where it lay, or where what was read lies now; what is read by copying is in memory then, too.
+        // share lies where it lay, or where what was read lies now; what is read or written by copying is in memory then, too.
         ensures in_place { KeepsInPlace self.old event self.new.kernel }
         ensures shares_file { IsDone result → SharesFile self.old event self.new.kernel }
 
