@@ -1,10 +1,11 @@
 -- Choices are events of the machine, with the same histories of connections.
-use Rattle.std.proofs.Common.{◌≡◌, ◌∙◌, inl, inr, ℕ, List, [], ◌∷◌, ◌++◌, Bool, false, refl, sym, subst, ap, append_assoc}
+use Rattle.std.proofs.Common.{◌≡◌, ◌∙◌, inl, inr, ℕ, List, [], ◌∷◌, ◌++◌, Bool, true, false, refl, sym, subst, ap, append_assoc}
 use Rattle.std.specs.Prelude.{◌||◌}
 use Rattle.std.specs.List.{list_any}
 use Rattle.iol_core.specs.Text.{bytes_of}
 use Rattle.iol_core.specs.State.{State, conn_at}
 use Rattle.iol_core.specs.Run.{Run, StepsTo}
+use Rattle.iol_core.specs.declared.events.Call.{Call}
 use Rattle.iol_core.specs.declared.events.Event.{Event}
 use Rattle.iol_core.specs.declared.events.Event.TheVariants as event
 use Rattle.iol_core.specs.declared.events.Reply.{Reply}
@@ -12,7 +13,7 @@ use Rattle.iol_laws.specs.History.{stream_of, sent_of, drops_unsent, came_by, se
 use Rattle.iol_laws.specs.Order.{IsOrderly}
 use Rattle.iol_laws.proofs.Histories.{stream-append, sent-append, unread_run, unsent_run}
 use Rattle.iol_laws.proofs.Pending.{waiting_run}
-use Rattle.iol_proc.specs.Histories.{came_with, sent_with, stream_over, sent_over, drops_with, RunsAs, GoesOn}
+use Rattle.iol_proc.specs.Histories.{came_with, sent_with, stream_over, sent_over, drops_with, may_be_no_call, RunsAs, GoesOn}
 use Rattle.iol_proc.specs.Turns.{Machine, Account, Comes, SeatTurn}
 use Rattle.iol_proc.specs.World.{Stage, copying, DomainTurn, WorldStep, WorldRun}
 use Rattle.iol_proc.specs.declared.choice.Choice.{Choice}
@@ -24,45 +25,47 @@ use Rattle.iol_proc.specs.declared.seat.Seat.{Seat}
 -- A machine whose runs begin with nothing, and with one step more.
 module _ {M P : Type 0} (machine : Machine M) (turns : Account P) (Runs : M → List Event → List Reply → M → Type 0) (none : (old new : M) → new ≡ old → Runs old [] [] new) (more : (old mid new : M) (e : Event) (r : Reply) (es : List Event) (rs : List Reply) → machine.Step old e r mid → Runs mid es rs new → Runs old (e ∷ es) (r ∷ rs) new) where
   -- a choice at which the machine stays
-  stays_as : (by : ℕ) (r : Reply) (old mid new : M) (xs : List Choice) (rs : List Reply) → mid ≡ old → RunsAs Runs mid xs rs new → RunsAs Runs old (choice.Turn by ∷ xs) (r ∷ rs) new
+  stays_as : (by : ℕ) (r : Reply) (old mid new : M) (xs : List Choice) (rs : List Reply) → may_be_no_call r ≡ true → mid ≡ old → RunsAs Runs mid xs rs new → RunsAs Runs old (choice.Turn by ∷ xs) (r ∷ rs) new
   unfolding stream_over sent_over
-  stays_as by r old mid new xs rs same rest = record {
+  stays_as by r old mid new xs rs quiet same rest = record {
     events = rest.events;
     replies = rest.replies;
     runs = subst (λ (m : M). Runs m rest.events rest.replies new) same rest.runs;
+    brought = inl (quiet, rest.brought);
     stream = rest.stream;
     sent = rest.sent;
     drops = rest.drops;
   }
 
-  -- a call of a process
-  calls_as : (by d : ℕ) (k : Event) (r s : Reply) (old mid new : M) (xs : List Choice) (rs : List Reply) → machine.Step old k s mid → ((c : ℕ) → came_by c k s ≡ []) → ((c : ℕ) → sent_by c k s ≡ []) → ((c : ℕ) → drops_unsent k c ≡ false) → RunsAs Runs mid xs rs new → RunsAs Runs old (choice.Turn by ∷ xs) (r ∷ rs) new
+  -- a call of the domain's process
+  calls_as : (by d : ℕ) (k : Call) (r : Reply) (old mid new : M) (xs : List Choice) (rs : List Reply) → d ≡ by → machine.Step old (event.Call d k) r mid → RunsAs Runs mid xs rs new → RunsAs Runs old (choice.Turn by ∷ xs) (r ∷ rs) new
   unfolding stream_of sent_of stream_over sent_over
-  calls_as by d k r s old mid new xs rs step no_bytes no_segment keeps rest = record {
-    events = k ∷ rest.events;
-    replies = s ∷ rest.replies;
-    runs = more old mid new k s rest.events rest.replies step rest.runs;
-    stream = λ c. ap (λ (l : List ℕ). l ++ stream_of c rest.events rest.replies) (no_bytes c) ∙ rest.stream c;
-    sent = λ c. ap (λ (l : List ℕ). l ++ sent_of c rest.events rest.replies) (no_segment c) ∙ rest.sent c;
-    drops = λ c. ap (λ (b : Bool). b || list_any (λ e. drops_unsent e c) rest.events) (keeps c) ∙ rest.drops c;
+  calls_as by d k r old mid new xs rs its step rest = record {
+    events = event.Call d k ∷ rest.events;
+    replies = r ∷ rest.replies;
+    runs = more old mid new (event.Call d k) r rest.events rest.replies step rest.runs;
+    brought = inr (k, (ap (λ (n : ℕ). event.Call n k) its, refl, rest.brought));
+    stream = rest.stream;
+    sent = rest.sent;
+    drops = rest.drops;
   }
 
-  comes_as : (by d : ℕ) (t : Turn) (yields : Bool) (r : Reply) (old mid new : M) (xs : List Choice) (rs : List Reply) → Comes machine turns old d t yields r mid → RunsAs Runs mid xs rs new → RunsAs Runs old (choice.Turn by ∷ xs) (r ∷ rs) new
-  comes_as by d turn.Yield yields r old mid new xs rs comes rest = stays_as by r old mid new xs rs comes.2 rest
-  comes_as by d (turn.Make k) yields r old mid new xs rs comes rest = calls_as by d (event.Call d k) r r old mid new xs rs comes.1 (λ c. refl) (λ c. refl) (λ c. refl) rest
+  comes_as : (by d : ℕ) (t : Turn) (yields : Bool) (r : Reply) (old mid new : M) (xs : List Choice) (rs : List Reply) → d ≡ by → Comes machine turns old d t yields r mid → RunsAs Runs mid xs rs new → RunsAs Runs old (choice.Turn by ∷ xs) (r ∷ rs) new
+  comes_as by d turn.Yield yields r old mid new xs rs its comes rest = stays_as by r old mid new xs rs (subst (λ (v : Reply). may_be_no_call v ≡ true) (sym comes.1) refl) comes.2 rest
+  comes_as by d (turn.Make k) yields r old mid new xs rs its comes rest = calls_as by d k r old mid new xs rs its comes.1 rest
 
-  seat_as : (by : ℕ) (seat next : Seat P) (yields : Bool) (r : Reply) (old mid new : M) (xs : List Choice) (rs : List Reply) → SeatTurn machine turns old seat yields r mid next → RunsAs Runs mid xs rs new → RunsAs Runs old (choice.Turn by ∷ xs) (r ∷ rs) new
-  seat_as by seat next yields r old mid new xs rs t rest =
+  seat_as : (by : ℕ) (seat next : Seat P) (yields : Bool) (r : Reply) (old mid new : M) (xs : List Choice) (rs : List Reply) → seat.by ≡ by → SeatTurn machine turns old seat yields r mid next → RunsAs Runs mid xs rs new → RunsAs Runs old (choice.Turn by ∷ xs) (r ∷ rs) new
+  seat_as by seat next yields r old mid new xs rs its t rest =
       elim t [
-        | inl starves ↦ stays_as by r old mid new xs rs starves.machine_stays rest
-        | inr moves ↦ comes_as by seat.by moves.turn yields r old mid new xs rs moves.comes rest
+        | inl starves ↦ stays_as by r old mid new xs rs (subst (λ (v : Reply). may_be_no_call v ≡ true) (sym starves.answer) refl) starves.machine_stays rest
+        | inr moves ↦ comes_as by seat.by moves.turn yields r old mid new xs rs its moves.comes rest
       ]
 
   domain_as : (by : ℕ) (r : Reply) (w mid : Stage M P) (new : M) (xs : List Choice) (rs : List Reply) → DomainTurn machine turns w by r mid → RunsAs Runs mid.machine xs rs new → RunsAs Runs w.machine (choice.Turn by ∷ xs) (r ∷ rs) new
   domain_as by r w mid new xs rs t rest =
       elim t [
-        | inl absent ↦ stays_as by r w.machine mid.machine new xs rs (ap (λ (v : Stage M P). v.machine) absent.stays) rest
-        | inr here ↦ seat_as by here.turn.seat here.turn.next here.yields r w.machine mid.machine new xs rs here.turn.turn rest
+        | inl absent ↦ stays_as by r w.machine mid.machine new xs rs (subst (λ (v : Reply). may_be_no_call v ≡ true) (sym absent.answer) refl) (ap (λ (v : Stage M P). v.machine) absent.stays) rest
+        | inr here ↦ seat_as by here.turn.seat here.turn.next here.yields r w.machine mid.machine new xs rs here.domain here.turn.turn rest
       ]
 
   step_as : (x : Choice) (r : Reply) (w mid : Stage M P) (new : M) (xs : List Choice) (rs : List Reply) → WorldStep machine turns w x r mid → RunsAs Runs mid.machine xs rs new → RunsAs Runs w.machine (x ∷ xs) (r ∷ rs) new
@@ -72,6 +75,7 @@ module _ {M P : Type 0} (machine : Machine M) (turns : Account P) (Runs : M → 
     events = e ∷ rest.events;
     replies = r ∷ rest.replies;
     runs = more w.machine mid.machine new e r rest.events rest.replies step.step rest.runs;
+    brought = (refl, refl, rest.brought);
     stream = λ c. ap (λ (l : List ℕ). came_by c e r ++ l) (rest.stream c);
     sent = λ c. ap (λ (l : List ℕ). sent_by c e r ++ l) (rest.sent c);
     drops = λ c. ap (λ (b : Bool). drops_unsent e c || b) (rest.drops c);
@@ -79,7 +83,7 @@ module _ {M P : Type 0} (machine : Machine M) (turns : Account P) (Runs : M → 
 
   pub run_as : (w after : Stage M P) (xs : List Choice) (rs : List Reply) → WorldRun machine turns w xs rs after → RunsAs Runs w.machine xs rs after.machine
   unfolding stream_of sent_of stream_over sent_over
-  run_as w after [] [] ran = record { events = []; replies = []; runs = none w.machine after.machine (ap (λ (v : Stage M P). v.machine) ran); stream = λ c. refl; sent = λ c. refl; drops = λ c. refl }
+  run_as w after [] [] ran = record { events = []; replies = []; runs = none w.machine after.machine (ap (λ (v : Stage M P). v.machine) ran); brought = (refl, refl); stream = λ c. refl; sent = λ c. refl; drops = λ c. refl }
   run_as w after (x ∷ xs) (r ∷ rs) ran = step_as x r w ran.0 after.machine xs rs ran.1 (run_as ran.0 after xs rs ran.2)
   run_as w after [] (r ∷ rs) ran = absurd ran
   run_as w after (x ∷ xs) [] ran = absurd ran
@@ -134,6 +138,7 @@ module _ {P : Type 0} (turns : Account P) where
         events = now.events;
         replies = now.replies;
         run = run_then first w.machine after.machine past now.events ps now.replies was now.runs;
+        brought = now.brought;
         stream = λ c. stream-append first w.machine past now.events ps now.replies c was ∙ ap (λ (l : List ℕ). stream_of c past ps ++ l) (now.stream c);
         sent = λ c. sent-append first w.machine past now.events ps now.replies c was ∙ ap (λ (l : List ℕ). sent_of c past ps ++ l) (now.sent c);
       }

@@ -2,13 +2,17 @@
 --
 -- Of a single event it is what `iol_laws` says (`History`). A turn brings nothing in and sends nothing: a process reads and
 -- writes what waits, and what happens outside fills it and sends it.
-use Rattle.std.specs.Prelude.{◌≡◌, ℕ, Bool, false, List, [], ◌∷◌, ◌++◌}
+use Rattle.std.specs.Prelude.{◌≡◌, ◌⊎◌, ℕ, Bool, true, false, List, [], ◌∷◌, ◌++◌}
 use Rattle.std.specs.List.{list_any}
 use Rattle.iol_core.specs.Text.{bytes_of}
 use Rattle.iol_core.specs.State.{State, conn_at}
 use Rattle.iol_core.specs.Run.{Run}
+use Rattle.iol_core.specs.declared.events.Call.{Call}
 use Rattle.iol_core.specs.declared.events.Event.{Event}
+use Rattle.iol_core.specs.declared.events.Event.TheVariants as event
 use Rattle.iol_core.specs.declared.events.Reply.{Reply}
+use Rattle.iol_core.specs.declared.events.Reply.TheVariants as reply
+use Rattle.iol_core.specs.declared.refusals.Refusal.TheVariants.{Memory, NoDomain}
 use Rattle.iol_laws.specs.History.{came_by, sent_by, stream_of, sent_of, drops_unsent, IsEndOf, GoesFirst, IsAllUnread}
 use Rattle.iol_laws.specs.Order.{IsOrderly}
 use Rattle.iol_system.specs.Machine.{SystemState}
@@ -42,11 +46,33 @@ abbrev pub drops_with : Choice → (c : ℕ) → Bool
 drops_with (choice.Outside e) c = drops_unsent e c
 drops_with (choice.Turn by) c = false
 
+-- whether a turn that makes no call may be answered so: the process yields, finds no memory, or is not there
+abbrev pub may_be_no_call : Reply → Bool
+may_be_no_call reply.Done = true
+may_be_no_call (reply.Refused Memory) = true
+may_be_no_call (reply.Refused NoDomain) = true
+may_be_no_call r = false
+
+-- events of which the first is e, answered r
+abbrev pub Begin : Event → Reply → (List Event → List Reply → Type 0) → List Event → List Reply → Type 0
+Begin e r Rest (f ∷ es) (s ∷ qs) = (f ≡ e) × (s ≡ r) × Rest es qs
+Begin e r Rest es qs = ⊥
+
+-- Choices that are answered so bring about just these events, with these replies: what happens outside is an event itself, and
+-- a turn is one call of that very domain, or none.
+abbrev pub BringAbout : List Choice → List Reply → List Event → List Reply → Type 0
+BringAbout [] [] es qs = (es ≡ []) × (qs ≡ [])
+BringAbout (choice.Outside e ∷ xs) (r ∷ rs) es qs = Begin e r (BringAbout xs rs) es qs
+BringAbout (choice.Turn by ∷ xs) (r ∷ rs) es qs =
+    ((may_be_no_call r ≡ true) × BringAbout xs rs es qs) ⊎ ((c : Call) × Begin (event.Call by c) r (BringAbout xs rs) es qs)
+BringAbout xs rs es qs = ⊥
+
 -- The choices are events, by processes and outside, in a run of the machine, and each connection has the same history.
 pub record RunsAs {M : Type 0} (Runs : M → List Event → List Reply → M → Type 0) (old : M) (xs : List Choice) (rs : List Reply) (new : M) : Type 0 where
   pub events : List Event
   pub replies : List Reply
   pub runs : Runs old events replies new
+  pub brought : BringAbout xs rs events replies
   pub stream : (c : ℕ) → stream_of c events replies ≡ stream_over c xs rs
   pub sent : (c : ℕ) → sent_of c events replies ≡ sent_over c xs rs
   pub drops : (c : ℕ) → list_any (λ e. drops_unsent e c) events ≡ list_any (λ x. drops_with x c) xs
@@ -56,6 +82,7 @@ pub record GoesOn (first : State) (past : List Event) (ps : List Reply) (xs : Li
   pub events : List Event
   pub replies : List Reply
   pub run : Run first (past ++ events) (ps ++ replies) new
+  pub brought : BringAbout xs rs events replies
   pub stream : (c : ℕ) → stream_of c (past ++ events) (ps ++ replies) ≡ stream_of c past ps ++ stream_over c xs rs
   pub sent : (c : ℕ) → sent_of c (past ++ events) (ps ++ replies) ≡ sent_of c past ps ++ sent_over c xs rs
 

@@ -6,7 +6,8 @@ use crate::idle::Settling;
 use crate::process::Process;
 
 /// What came in on each connection and what was sent on it, over choices and their replies: the choices of a run are events of
-/// the machine with the same histories, what is unread is the end of what came, and what was to be sent is sent first.
+/// the machine, a turn is one call of its own domain or none, with the same histories; what is unread is the end of what came,
+/// and what was to be sent is sent first.
 pub fn histories_of_choices<P: Process>()
     ensures { HistoriesOfChoices P.turns }
 {}
