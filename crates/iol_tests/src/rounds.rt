@@ -80,15 +80,10 @@ struct Rounds {
 impl Rounds {
     /// A system with a pool, a pipe, an aggregate and a copy of it.
     fn new(alloc: Global, round: Round) -> Result<Rounds, Failure> {
+        let calls = beginnings(alloc)?;
         let mut system = small_system(alloc)?;
-        let domains = Domains::from_vec([DomainId::new(1)].to_vec(alloc)?);
-        carry_out(&mut system, Call::PoolCreate { chunks: 1, domains })?;
-        let pool = PoolId::new(1);
-        carry_out(&mut system, Call::SetPool { pool })?;
-        carry_out(&mut system, Call::Pipe)?;
-        let bytes = text(alloc)?;
-        let first = make(&mut system, Call::AggMake { bytes })?;
-        let last = make(&mut system, Call::AggDup { agg: first })?;
+        carry_out_all(&mut system, calls)?;
+        let (first, last) = make_two(&mut system, alloc)?;
         Ok(Rounds {
             alloc,
             system,
@@ -147,6 +142,16 @@ fn small_system(alloc: Global) -> Result<System<MemoryBacking>, Failure> {
     Ok(system)
 }
 
+/// The calls that make a pool and a pipe.
+fn beginnings(alloc: Global) -> Result<Vec<Call>, AllocError> {
+    let domains = Domains::from_vec([DomainId::new(1)].to_vec(alloc)?);
+    let pool = PoolId::new(1);
+    let mut calls = vec![in alloc; Call::PoolCreate { chunks: 1, domains }]?;
+    calls.push(Call::SetPool { pool })?;
+    calls.push(Call::Pipe)?;
+    Ok(calls)
+}
+
 /// A short text to make an aggregate of.
 fn text(alloc: Global) -> Result<Bytes, AllocError> {
     let bytes = b"hello".to_vec(alloc)?;
@@ -160,6 +165,22 @@ fn carry_out(system: &mut System<MemoryBacking>, call: Call) -> Result<Reply, Fa
         Reply::Refused(_) => Err(Failure::Refused),
         reply => Ok(reply),
     }
+}
+
+/// Makes calls of domain 1, which have to pass, one after another.
+fn carry_out_all(system: &mut System<MemoryBacking>, calls: Vec<Call>) -> Result<(), Failure> {
+    for call in calls {
+        carry_out(system, call)?;
+    }
+    Ok(())
+}
+
+/// Makes an aggregate, and a copy of it.
+fn make_two(system: &mut System<MemoryBacking>, alloc: Global) -> Result<(AggId, AggId), Failure> {
+    let bytes = text(alloc)?;
+    let first = make(system, Call::AggMake { bytes })?;
+    let last = make(system, Call::AggDup { agg: first })?;
+    Ok((first, last))
 }
 
 /// Makes a call that gives an aggregate.
@@ -214,6 +235,25 @@ fn pages(word: Option<&str>) -> Result<u64, Failure> {
     }
 }
 
+/// Makes so many rounds, and measures the process after them.
+fn measure(rt: &HostRuntime, rounds: &mut Rounds, count: u32) -> Result<Size, Failure> {
+    rounds.repeat(count)?;
+    Size::read(rt)
+}
+
+/// The size after the first rounds, and after all.
+fn measure_both(rt: &HostRuntime, rounds: &mut Rounds) -> Result<(Size, Size), Failure> {
+    let first = measure(rt, rounds, FIRST)?;
+    let all = measure(rt, rounds, ALL - FIRST)?;
+    Ok((first, all))
+}
+
+/// The same of rounds of one kind.
+fn sizes_of(rt: &HostRuntime, round: Round) -> Result<(Size, Size), Failure> {
+    let mut rounds = Rounds::new(rt.alloc(), round)?;
+    measure_both(rt, &mut rounds)
+}
+
 #[test]
 fn rounds_keep_no_memory(rt: HostRuntime) -> Result<(), Fail> {
     for round in [
@@ -221,11 +261,7 @@ fn rounds_keep_no_memory(rt: HostRuntime) -> Result<(), Fail> {
         Round::WriteAndRead,
         Round::DropInTheMiddle,
     ] {
-        let mut rounds = Rounds::new(rt.alloc(), round)?;
-        rounds.repeat(FIRST)?;
-        let first = Size::read(&rt)?;
-        rounds.repeat(ALL - FIRST)?;
-        let all = Size::read(&rt)?;
+        let (first, all) = sizes_of(&rt, round)?;
         assert!(rt;
             all.is_kept(first),
             "{round:?}: from {first:?} to {all:?} pages"
