@@ -11,6 +11,7 @@ use Rattle.iol_hold.specs.Places.{Place, byte_len, places}
 use Rattle.iol_hold.specs.Room.{free_of}
 use Rattle.iol_hold.specs.declared.slices.Slice.{Slice}
 use Rattle.iol_cache.specs.declared.files.CachedFile.{CachedFile}
+use Rattle.iol_core.specs.declared.refusals.Refusal.{Refusal}
 use Rattle.iol_cache.specs.Cached.{Cached, extents_in, file_in, lacking}
 use Rattle.iol_cache.specs.Evicting.{AreEvicted, Evicts, EvictsAll, Holding}
 use Rattle.iol_cache.specs.Composing.{copied_pages}
@@ -174,9 +175,9 @@ module _ (f at n : ℕ) (disk : Disk) (old new : Holding) (xs : List Slice) (the
       let same = nothing_goes (file_in r.hit.cache.files f).pool (gap_pages r.gaps) r.hit r.filled.mid free r.filled.victims in
       cover_then old.cache r.hit.cache new.cache (hit_keeps f x.range.from x.range.to old r.hit r.pins r.gaps pinned) (subst (λ (h : Holding). KeepsCover h.cache new.cache) same after_room)
 
-leaves_keeps : (f from to : ℕ) (old new : Holding) → AreApart old.cache → LeavesRange f from to old new → KeepsDirty old.cache new.cache
-leaves_keeps f from to old new apart (inl x) = dirty_of old.cache new.cache (cover_same old.cache new.cache x.same.extents)
-leaves_keeps f from to old new apart (inr x) =
+leaves_keeps : (f from to : ℕ) (old new : Holding) (y : Refusal) → AreApart old.cache → LeavesRange f from to old new y → KeepsDirty old.cache new.cache
+leaves_keeps f from to old new y apart (inl (is, x)) = dirty_of old.cache new.cache (cover_same old.cache new.cache x.same.extents)
+leaves_keeps f from to old new y apart (inr x) =
     let u = x.undone in
     let hit = x.hit in
     let apart' = hit_apart f from to old hit x.pins x.gaps x.pinned apart in
@@ -184,8 +185,8 @@ leaves_keeps f from to old new apart (inr x) =
     dirty_then old.cache hit.cache new.cache (dirty_of old.cache hit.cache (hit_keeps f from to old hit x.pins x.gaps x.pinned))
     (dirty_cover hit.cache u.mid.cache new.cache (evictions_keep (file_in hit.cache.files f).pool (Some (gap_pages x.gaps)) hit u.mid u.victims apart') last)
 
-pub refused_keeps : (f at n : ℕ) (disk : Disk) (old new : Holding) → AreApart old.cache → RefusesRead f at n disk old new → KeepsDirty old.cache new.cache
-refused_keeps f at n disk old new apart x = leaves_keeps f x.range.from x.range.to old new apart x.leaves
+pub refused_keeps : (f at n : ℕ) (disk : Disk) (old new : Holding) (y : Refusal) → AreApart old.cache → RefusesRead f at n disk old new y → KeepsDirty old.cache new.cache
+refused_keeps f at n disk old new y apart x = leaves_keeps f x.range.from x.range.to old new y apart x.leaves
 
 -- Writes, beside the range that is written.
 

@@ -1,6 +1,7 @@
 -- What reads and writes do to pages.
 use Rattle.std.proofs.Common.{inl, inr, ◌≡◌, ◌∙◌, ℕ, false, List, [], flat_map, ◌+◌, ap, subst, refl}
 use Rattle.std.specs.List.{Contains}
+use Rattle.iol_core.specs.declared.refusals.Refusal.{Refusal}
 use Rattle.iol_core.specs.declared.numbers.BufId.{BufId}
 use Rattle.iol_arena.specs.Chunks.{chunk_pages, usable}
 use Rattle.iol_arena.specs.State.{State}
@@ -97,9 +98,9 @@ read_pages f at n disk old new xs x =
       pages = keeps_freed (λ p is. ap (λ ps. (pool_in ps p).closed) same ∙ is) shared r.filled.frees;
     })
 
-leaves_pages : (f from to : ℕ) (old new : Holding) → LeavesRange f from to old new → FillsLowest (file_in old.cache.files f).pool old.store new.store
-leaves_pages f from to old new (inl x) = fills_none (file_in old.cache.files f).pool x.frees
-leaves_pages f from to old new (inr x) =
+leaves_pages : (f from to : ℕ) (old new : Holding) (y : Refusal) → LeavesRange f from to old new y → FillsLowest (file_in old.cache.files f).pool old.store new.store
+leaves_pages f from to old new y (inl (is, x)) = fills_none (file_in old.cache.files f).pool x.frees
+leaves_pages f from to old new y (inr x) =
     let u = x.undone in
     subst (λ p. FillsLowest p old.store new.store) (hit_pool f from to old x.hit x.pins x.gaps x.pinned) (record {
       roomy = u.mid.store;
@@ -108,8 +109,8 @@ leaves_pages f from to old new (inr x) =
       pages = keeps_freed (λ p is. same_closed u.mid.store u.full.store u.lists p ∙ is) u.placed.pages u.frees;
     })
 
-pub refused_pages : (f at n : ℕ) (disk : Disk) (old new : Holding) → RefusesRead f at n disk old new → FillsLowest (file_in old.cache.files f).pool old.store new.store
-refused_pages f at n disk old new x = leaves_pages f x.range.from x.range.to old new x.leaves
+pub refused_pages : (f at n : ℕ) (disk : Disk) (old new : Holding) (y : Refusal) → RefusesRead f at n disk old new y → FillsLowest (file_in old.cache.files f).pool old.store new.store
+refused_pages f at n disk old new y x = leaves_pages f x.range.from x.range.to old new y x.leaves
 
 -- Writes.
 

@@ -1,5 +1,5 @@
 -- A range that is read after its hits were shared: how its holds go.
-use Rattle.std.proofs.Common.{◌≡◌, ℕ, ◌+◌, ◌-◌, ◌<◌, ◌≤◌, true, List, [], ◌∷◌, ◌++◌, IsSome, None, Some, Result, Ok, Err, IfOk, OnErr, refl, sym, ap, ◌∙◌, arith, subst}
+use Rattle.std.proofs.Common.{◌≡◌, ℕ, ◌+◌, ◌-◌, ◌<◌, ◌≤◌, true, List, [], ◌∷◌, ◌++◌, IsSome, None, Some, Result, Ok, Err, IfOk, IfErr, OnErr, refl, sym, ap, ◌∙◌, arith, subst}
 use Rattle.std.specs.Prelude.{take, drop}
 use Rattle.std.specs.List.{All, AllZip}
 use Rattle.std.proofs.lemmas.List.Elements.{All-append, All-cons, All-drop, All-head, All-nil, All-tail, All-take, All-weaker}
@@ -47,6 +47,16 @@ use Rattle.iol_cache.proofs.Steps.{covers_right, goes_cache, goes_covers, goes_l
 pub either_way : {A E : Type 0} (P Q : Type 0) (F : A → Type 0) (r : Result A E) → IfOk r F → OnErr r Q → ((x : A) → F x → P) → (Q → P) → P
 either_way P Q F (Ok x) f e g h = g x f
 either_way P Q F (Err y) f e g h = h e
+
+-- the same, where what an error leaves depends on it
+pub either_told : {A E P : Type 0} (F : A → Type 0) (Q : E → Type 0) (r : Result A E) → IfOk r F → IfErr r Q → ((x : A) → F x → P) → ((y : E) → Q y → P) → P
+either_told F Q (Ok x) f e g h = g x f
+either_told F Q (Err y) f e g h = h y e
+
+-- what holds where there is an error, said of the error
+pub if_err : {A E P : Type 0} (r : Result A E) (Q : E → Type 0) → ((y : E) → P → Q y) → OnErr r P → IfErr r Q
+if_err (Ok x) Q f e = tt
+if_err (Err y) Q f e = f y e
 
 pub on_errs : {A E P Q R S : Type 0} (r : Result A E) → OnErr r P → OnErr r Q → OnErr r R → (P → Q → R → S) → OnErr r S
 on_errs (Ok x) p q s f = tt

@@ -3,7 +3,7 @@ use Rattle.std.specs.Prelude.{◌≡◌, ◌⊎◌, ℕ, ◌+◌, ◌<◌, ◌�
 use Rattle.iol_core.specs.Numbered.{is_numbered}
 use Rattle.iol_core.specs.declared.limits.TheConstants.{MAX_FILE_BYTES}
 use Rattle.iol_core.specs.declared.refusals.Refusal.{Refusal}
-use Rattle.iol_core.specs.declared.refusals.Refusal.TheVariants.{NoRoom, Fault}
+use Rattle.iol_core.specs.declared.refusals.Refusal.TheVariants.{NoRoom, Fault, Memory}
 use Rattle.iol_back.specs.Disk.{Disk, IfHonest, content, last_failure, raised}
 use Rattle.iol_extent.specs.Extents.{last_end}
 use Rattle.iol_extent.specs.declared.spans.Span.{Span}
@@ -86,19 +86,19 @@ pub record ReservesOnly (old new : Holding) : Type 0 where
   pub moves : Moves old.store new.store [] []
   pub frees : FreesOnly old.store new.store
 
--- a read of a range was refused, before its hits were shared or after
-abbrev pub LeavesRange : (f from to : ℕ) → (old new : Holding) → Type 0
-LeavesRange f from to old new = ReservesOnly old new ⊎ GivesBack f from to old new
+-- A read of a range was refused: for want of memory before its hits were shared, or after that.
+abbrev pub LeavesRange : (f from to : ℕ) → (old new : Holding) → Refusal → Type 0
+LeavesRange f from to old new x = ((x ≡ Memory) × ReservesOnly old new) ⊎ GivesBack f from to old new
 
 -- A file was read: n bytes from `at` on, as far as it goes.
 pub record ReadsFile (f at n : ℕ) (disk : Disk) (old new : Holding) (xs : List Slice) : Type 0 where
   pub range : Range disk old.cache f at n
   pub reads : ReadsRange f range.from range.to disk old new xs
 
--- Such a read was refused.
-pub record RefusesRead (f at n : ℕ) (disk : Disk) (old new : Holding) : Type 0 where
+-- Such a read was refused so.
+pub record RefusesRead (f at n : ℕ) (disk : Disk) (old new : Holding) (x : Refusal) : Type 0 where
   pub range : Range disk old.cache f at n
-  pub leaves : LeavesRange f range.from range.to old new
+  pub leaves : LeavesRange f range.from range.to old new x
 
 -- The pages that are pinned while such a read holds its hits, and those that its gaps want, fit the pool.
 pub record RoomToRead (f at n : ℕ) (disk : Disk) (old : Holding) : Type 0 where

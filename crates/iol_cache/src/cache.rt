@@ -53,7 +53,7 @@ fn add_orders(orders: &mut Vec<Order>, alloc: Global, count: usize) -> Result<()
 impl Cache {
     ghost use Rattle.iol_cache.specs.Cache.{cached_of};
 
-    /// A cache of no files, over a store of so many pages.
+    /// A cache with no file, over an arena of `pages` pages.
     pub fn new(alloc: Global, pages: usize) -> Result<Cache, AllocError>
         ensures files { IfOk result (λ c. (cached_of c).files ≡ []) }
         ensures orders { IfOk result (λ c. (cached_of c).orders ≡ []) }

@@ -108,7 +108,7 @@ impl Cache {
         requires few { CountsBelow store.old (2 ^ 59) }
         ensures reads { IfOk result (ReadsRange file from to (B.disk backing.old)
             (holding store.old self.old) (holding store.new self.new)) }
-        ensures refused { OnErr result (LeavesRange file from to
+        ensures refused { IfErr result (LeavesRange file from to
             (holding store.old self.old) (holding store.new self.new)) }
         ensures readable { IfOk result (AllReadable store.new) }
         ensures goes { IfOk result (λ a. Goes (B.disk backing.old) [] (bufs_of a)
@@ -190,7 +190,7 @@ impl Cache {
         ensures sound { IsSound store.new (cached_of self.new) }
 
         // Refusals.
-        ensures refused { OnErr result (RefusesRead file at count (B.disk backing.old)
+        ensures refused { IfErr result (RefusesRead file at count (B.disk backing.old)
             (holding store.old self.old) (holding store.new self.new)) }
         ensures room { let old = holding store.old self.old in let disk = B.disk backing.old in
             TellsRoom (RoomToRead file at count disk old) (NoRoomToRead file at count disk old)

@@ -29,7 +29,7 @@ use Rattle.iol_cache.proofs.Keeping.{apart_of}
 use Rattle.iol_cache.proofs.Paging.{fills_none}
 use Rattle.iol_cache.proofs.Shared.{length-places_over}
 use Rattle.iol_kernel.specs.Backed.{holding_of}
-use Rattle.iol_kernel.specs.FileReading.{CopiesFileAs, FileRead, GivesCopy, GivesRead, ReadsFileAs, moved_on, pool_read}
+use Rattle.iol_kernel.specs.FileReading.{CopiesFileAs, FileRead, GivesCopy, GivesRead, IsBeforeRoom, ReadsFileAs, moved_on, pool_read}
 use Rattle.iol_kernel.specs.KernelState.{KernelState, objects_of, IsSound}
 use Rattle.iol_kernel.proofs.FileReads.{numbered_here}
 use Rattle.iol_kernel.specs.Keeping.{LacksPagesToRead}
@@ -89,8 +89,8 @@ pub counts_few : (h : KernelState) → IsSound h → CountsBelow h.store 5764607
 counts_few h sound = record { each = λ b. omega (arith, sound.counted.each b, all_few b h.domains (objects_of h) sound.limits) }
 
 -- a refusal that has changed nothing
-pub reads_nothing : {A : Type 0} (x : FileRead) (disk : Disk) (h k : KernelState) (y : Refusal) → k ≡ h → TellsRoom {A = A} (RoomToRead x.file x.at x.count disk (holding_of h)) (NoRoomToRead x.file x.at x.count disk (holding_of h)) (Err y) → FaultCounts {A = A} disk disk (Err y) → ReadsFileAs {A = A} x disk h (Err y) disk k
-reads_nothing {A} x disk h k y same room counts = subst (λ (l : KernelState). ReadsFileAs {A = A} x disk h (Err y) disk l) (sym same) (record {
+pub reads_nothing : {A : Type 0} (x : FileRead) (disk : Disk) (h k : KernelState) (y : Refusal) → k ≡ h → TellsRoom {A = A} (RoomToRead x.file x.at x.count disk (holding_of h)) (NoRoomToRead x.file x.at x.count disk (holding_of h)) (Err y) → FaultCounts {A = A} disk disk (Err y) → IsBeforeRoom y → ReadsFileAs {A = A} x disk h (Err y) disk k
+reads_nothing {A} x disk h k y same room counts before = subst (λ (l : KernelState). ReadsFileAs {A = A} x disk h (Err y) disk l) (sym same) (record {
   keeps = keeps_same (pool_read h x) (LacksPagesToRead x.file x.at x.count disk (holding_of h)) h.cache h.cache refl;
   pages = fills_none (pool_read h x) (frees_none h.store h.store refl refl (λ p o. refl));
   lists = refl;
@@ -98,14 +98,14 @@ reads_nothing {A} x disk h k y same room counts = subst (λ (l : KernelState). R
   fault = record { honest = refl; slots = λ i. refl; counts = counts };
   same = refl;
   refused = refl;
-  leaves = inl (refl, refl);
+  leaves = inl (before, refl, refl);
 })
 
 -- a copying read that has changed nothing
-pub copies_nothing : (x : FileRead) (disk : Disk) (h : KernelState) (y : Refusal) → TellsRoom {A = List ℕ} (RoomToRead x.file x.at x.count disk (holding_of h)) (NoRoomToRead x.file x.at x.count disk (holding_of h)) (Err y) → FaultCounts {A = List ℕ} disk disk (Err y) → CopiesFileAs {A = List ℕ} x disk h (Err y) disk h
-copies_nothing x disk h y room counts = record {
+pub copies_nothing : (x : FileRead) (disk : Disk) (h : KernelState) (y : Refusal) → TellsRoom {A = List ℕ} (RoomToRead x.file x.at x.count disk (holding_of h)) (NoRoomToRead x.file x.at x.count disk (holding_of h)) (Err y) → FaultCounts {A = List ℕ} disk disk (Err y) → IsBeforeRoom y → CopiesFileAs {A = List ℕ} x disk h (Err y) disk h
+copies_nothing x disk h y room counts before = record {
   mid = h.store;
-  reads = reads_nothing {A = List ℕ} x disk h h y refl room counts;
+  reads = reads_nothing {A = List ℕ} x disk h h y refl room counts before;
   gives = tt;
   early = inl (refl, refl);
   frees = frees_none h.store h.store refl refl (λ p o. refl);
@@ -136,9 +136,9 @@ module _ (x : FileRead) (disk after : Disk) (h : KernelState) (t : Stored) (c : 
   abbrev lacks : Type 0
   lacks = NoRoomToRead x.file x.at x.count disk (holding_of h)
 
-  pub reads_refused : (A B : Type 0) (y : Refusal) (ds : Domains) → ds ≡ h.domains → RefusesRead x.file x.at x.count disk (holding_of h) (over t c) → TellsRoom {A = A} has lacks (Err y) → TellsFault {A = A} disk after (Err y) → WantOfRoomOrFault (pool_read h x) x.file y → ReadsFileAs {A = B} x disk h (Err y) after (record h { store = t; domains = ds; cache = c })
+  pub reads_refused : (A B : Type 0) (y : Refusal) (ds : Domains) → ds ≡ h.domains → RefusesRead x.file x.at x.count disk (holding_of h) (over t c) y → TellsRoom {A = A} has lacks (Err y) → TellsFault {A = A} disk after (Err y) → WantOfRoomOrFault (pool_read h x) x.file y → ReadsFileAs {A = B} x disk h (Err y) after (record h { store = t; domains = ds; cache = c })
   reads_refused A B y ds kept refused room fault late = record {
-    keeps = refused_unless x.file x.at x.count disk (holding_of h) (over t c) (apart_of {h = holding_of h} (cache_sound h sound)) refused;
+    keeps = refused_unless x.file x.at x.count disk (holding_of h) (over t c) y (apart_of {h = holding_of h} (cache_sound h sound)) refused;
     pages = pages;
     lists = lists;
     room = room_told A B has lacks y room;

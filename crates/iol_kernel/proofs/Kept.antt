@@ -1,6 +1,7 @@
 -- What lies over the bytes of files, where clean extents of one pool may have given way.
 use Rattle.std.proofs.Common.{inl, inr, ◌≡◌, ◌⊎◌, ◌∙◌, ℕ, zero, suc, ◌+◌, ◌<◌, ◌≤◌, true, false, List, [], ◌∷◌, length, Option, None, Some, refl, sym, ap, subst}
 use Rattle.std.proofs.lemmas.Bool.{cases_eq, cases_lt}
+use Rattle.iol_core.specs.declared.refusals.Refusal.{Refusal}
 use Rattle.iol_arena.specs.State as arena
 use Rattle.iol_core.specs.Numbered.{is_numbered}
 use Rattle.iol_back.specs.Disk.{Disk}
@@ -148,9 +149,9 @@ module _ (f at n : ℕ) (disk : Disk) (old new : Holding) (apart : AreApart old.
   abbrev pool : ℕ
   pool = (file_in old.cache.files f).pool
 
-  leaves_unless : LeavesRange f range.from range.to old new → KeepsDirty old.cache new.cache → KeepsUnless pool (LacksPagesToRead f at n disk old) old.cache new.cache
-  leaves_unless (inl x) dirty = record { each = λ g i c is. inl (ap (λ es. cover es i) (x.same.extents g) ∙ is) }
-  leaves_unless (inr x) dirty =
+  leaves_unless : (y : Refusal) → LeavesRange f range.from range.to old new y → KeepsDirty old.cache new.cache → KeepsUnless pool (LacksPagesToRead f at n disk old) old.cache new.cache
+  leaves_unless y (inl (is, x)) dirty = record { each = λ g i c is. inl (ap (λ es. cover es i) (x.same.extents g) ∙ is) }
+  leaves_unless y (inr x) dirty =
       let u = x.undone in
       let last : (g : ℕ) → extents_in new.cache.files g ≡ extents_in u.mid.cache.files g = λ g. ap (λ (c : Cached). extents_in c.files g) u.cache ∙ u.same.extents g in
       keeps_unless pool (length (free_of old.store pool)) (gap_pages x.gaps) (LacksPagesToRead f at n disk old) old.cache new.cache
@@ -163,8 +164,8 @@ module _ (f at n : ℕ) (disk : Disk) (old new : Holding) (apart : AreApart old.
             ap (λ es. cover es i) (last g ∙ ap (λ (h : Holding). extents_in h.cache.files g) still ∙ hit_extents f range.from range.to old x.hit x.pins x.gaps x.pinned g) ∙ is;
       })
 
-pub refused_unless : (f at n : ℕ) (disk : Disk) (old new : Holding) → AreApart old.cache → RefusesRead f at n disk old new → KeepsUnless (file_in old.cache.files f).pool (LacksPagesToRead f at n disk old) old.cache new.cache
-refused_unless f at n disk old new apart x = leaves_unless f at n disk old new apart x.range x.leaves (refused_keeps f at n disk old new apart x)
+pub refused_unless : (f at n : ℕ) (disk : Disk) (old new : Holding) (y : Refusal) → AreApart old.cache → RefusesRead f at n disk old new y → KeepsUnless (file_in old.cache.files f).pool (LacksPagesToRead f at n disk old) old.cache new.cache
+refused_unless f at n disk old new y apart x = leaves_unless f at n disk old new apart x.range y x.leaves (refused_keeps f at n disk old new y apart x)
 
 -- Writes.
 

@@ -21,7 +21,7 @@ use Rattle.iol_hold.specs.Moves.{tally}
 use Rattle.iol_hold.specs.Texts.{bufs_of}
 use Rattle.iol_hold.specs.declared.slices.Slice.{Slice}
 use Rattle.iol_hold.proofs.Counting.{tally_none}
-use Rattle.iol_cache.specs.Cached.{Cached, file_in, no_file, new_file, extents_in, all_parts, held}
+use Rattle.iol_cache.specs.Cached.{Cached, file_in, no_file, new_file, extents_in, all_parts, held, order_in}
 use Rattle.iol_cache.specs.Contents.{AreStored, file_bytes}
 use Rattle.iol_extent.specs.Extents.{Extent, cover}
 use Rattle.iol_cache.specs.Sound as cache
@@ -213,8 +213,8 @@ module _ (h : KernelState) (name : List ℕ) (p : ℕ) (c : Cached) (sound : IsS
   named-read f =
       ap (λ (xs : List (List ℕ)). record (read_of f h) { files = h.files ++ file ∷ []; slots = xs }) (ap (slots_read f) added ∙ slots-push f h.cache.files p)
 
-  pub named_answers : (d n : ℕ) → n ≡ length h.cache.files + 1 → AddsFile (λ s. calls.file_new s d name p) h n named
-  named_answers d n number = record {
+  pub named_answers : (d n : ℕ) → n ≡ length h.cache.files + 1 → ((q : ℕ) → order_in c.orders q ≡ order_in h.cache.orders q) → AddsFile (λ s. calls.file_new s d name p) h n named
+  named_answers d n number orders = record {
     answer = λ f keeps. number ∙ ap (λ k. k + 1) (as_many h sound.filed ∙ ap length (sym (files-read_of f h)));
     after = λ f keeps. named-read f;
     backed = λ disk short backed. record {
@@ -232,14 +232,16 @@ module _ (h : KernelState) (name : List ℕ) (p : ℕ) (c : Cached) (sound : IsS
     store = refl;
     sums = refl;
     keeps = record { each = λ f i c' is. ap (λ (es : List Extent). cover es i) (ap (λ (fs : Files). extents_in fs f) added ∙ extents-push h.cache.files p f) ∙ is };
+    same = refl;
+    added = record { pool = p; files = added; orders = orders };
     sound = named-sound;
   }
 
 -- the tables that have it
 pub named_as : (h : KernelState) (d n p : ℕ) (name : List ℕ) (files : List machine.File) (c : Cached) → IsSound h → n ≡ length h.cache.files + 1 → (let x : machine.File = record { name = name; pool = p } in files ≡ h.files ++ x ∷ [])
-    → c.files ≡ h.cache.files ++ new_file p ∷ [] → cache.IsSound h.store c → AddsFile (λ s. calls.file_new s d name p) h n (record h { files = files; cache = c })
-named_as h d n p name files c sound number listed added kept =
-    subst (λ (fs : List machine.File). AddsFile (λ s. calls.file_new s d name p) h n (record h { files = fs; cache = c })) (sym listed) (named_answers h name p c sound added kept d n number)
+    → c.files ≡ h.cache.files ++ new_file p ∷ [] → ((q : ℕ) → order_in c.orders q ≡ order_in h.cache.orders q) → cache.IsSound h.store c → AddsFile (λ s. calls.file_new s d name p) h n (record h { files = files; cache = c })
+named_as h d n p name files c sound number listed added orders kept =
+    subst (λ (fs : List machine.File). AddsFile (λ s. calls.file_new s d name p) h n (record h { files = fs; cache = c })) (sym listed) (named_answers h name p c sound added kept d n number orders)
 
 -- what holds in the cache that the kernel has
 pub cache_sound : (h : KernelState) → IsSound h → cache.IsSound h.store h.cache

@@ -95,6 +95,8 @@ names disk m h k n stored passed aside short one = record {
   refused = tt;
   sums = one.sums;
   keeps = one.keeps;
+  same = one.same;
+  added = one.added;
   sound = one.sound;
 }
   where
@@ -114,6 +116,8 @@ unnamed disk m h k x stored step aside roomy same sound = subst (λ (l : KernelS
   refused = refl;
   sums = refl;
   keeps = record { each = λ f i c is. is };
+  same = refl;
+  added = tt;
   sound = sound;
 })
   where

@@ -1,6 +1,7 @@
 -- A read of no more bytes than a file has is a read of as many as were asked.
 use Rattle.std.proofs.Common.{◌≡◌, ℕ, min, max, length, List, take, drop, ap, ◌∙◌, arith}
 use Rattle.std.proofs.lemmas.List.{length-drop, take_min}
+use Rattle.iol_core.specs.declared.refusals.Refusal.{Refusal}
 use Rattle.iol_back.specs.Disk.{Disk}
 use Rattle.iol_hold.specs.declared.slices.Slice.{Slice}
 use Rattle.iol_cache.specs.Cached.{Cached}
@@ -29,9 +30,9 @@ module _ (disk : Disk) (f at n many : ℕ) where
     unfolding range_more
     reads_more new xs r = record { range = range_more old.cache told r.range; reads = r.reads }
 
-    pub refuses_more : (new : Holding) → RefusesRead f at many disk old new → RefusesRead f at n disk old new
+    pub refuses_more : (new : Holding) (y : Refusal) → RefusesRead f at many disk old new y → RefusesRead f at n disk old new y
     unfolding range_more
-    refuses_more new r = record { range = range_more old.cache told r.range; leaves = r.leaves }
+    refuses_more new y r = record { range = range_more old.cache told r.range; leaves = r.leaves }
 
     pub room_more : RoomToRead f at many disk old → RoomToRead f at n disk old
     unfolding range_more

@@ -1,5 +1,5 @@
 -- What a call does to what a system holds, said of the copying machine whatever is read at the places of bytes.
-use Rattle.std.specs.Prelude.{◌≡◌, ℕ, ◌+◌, ◌≤◌, Bool, nat_lt, length, ◌⊎◌, ◌++◌, true, false, List, [], None, Some, Result, Ok, Err, OnOk, OnErr}
+use Rattle.std.specs.Prelude.{◌≡◌, ℕ, ◌+◌, ◌≤◌, Bool, nat_lt, length, ◌⊎◌, ◌++◌, true, false, List, [], ◌∷◌, None, Some, Result, Ok, Err, OnOk, OnErr}
 use Rattle.iol_core.specs.Text.{Text, labelled}
 use Rattle.iol_core.specs.State.{State, is_live, text, conn_at, with_conn}
 use Rattle.iol_core.specs.Meaning.{Meaning, Step, first}
@@ -15,6 +15,7 @@ use Rattle.iol_hold.specs.Pages.{KeepsPages}
 use Rattle.iol_hold.specs.Room.{lowest_of}
 use Rattle.iol_hold.specs.Texts.{bufs_of}
 use Rattle.iol_hold.specs.declared.slices.Slice.{Slice}
+use Rattle.iol_cache.specs.Cached.{Cached, new_file, order_in}
 use Rattle.iol_cache.specs.Keeping.{KeepsCover}
 use Rattle.iol_desc.specs.Tables.{agg_in}
 use Rattle.iol_sock.specs.declared.outgoing.Segment.{Segment}
@@ -63,8 +64,14 @@ pub record KeepsPlaces {A : Type 0} (m : State → Meaning A) (old : KernelState
   pub sound : IsSound new
   pub stays : Stays old.store new.store
 
--- The machine's step on files, where the store under them is honest, and the bytes of files aside over any store. Pages, pools
--- and remembered sums are as they were, what is in memory of files lies where it lay, and all other bytes do, too.
+-- A file came of which nothing is in memory. The others are as they were, and so is each order of eviction.
+pub record AddsEmpty (old new : Cached) : Type 0 where
+  pub pool : ℕ
+  pub files : new.files ≡ old.files ++ new_file pool ∷ []
+  pub orders : (p : ℕ) → order_in new.orders p ≡ order_in old.orders p
+
+-- The machine's step on files, where the store under them is honest, and the bytes of files aside over any store. Nothing changes but
+-- the list of files and what memory has of them: pages, pools and remembered sums are as they were, and all bytes lie where they lay.
 pub record Names {A : Type 0} (disk : Disk) (m : State → Meaning A) (old : KernelState) (r : Result A Refusal) (new : KernelState) : Type 0 where
   pub step : IfHonest disk (Step (m (machine_of disk.slots old)) (machine_of disk.slots old) r (machine_of disk.slots new))
   pub backed : IsBackedBy disk old → IsBackedBy disk new
@@ -75,6 +82,8 @@ pub record Names {A : Type 0} (disk : Disk) (m : State → Meaning A) (old : Ker
   pub refused : OnErr r (new ≡ old)
   pub sums : new.sums ≡ old.sums
   pub keeps : KeepsCover old.cache new.cache
+  pub same : new ≡ record old { files = new.files; cache = new.cache }
+  pub added : OnOk r (AddsEmpty old.cache new.cache)
   pub sound : IsSound new
 
 -- with some bytes in the next slot, this tells whether they are more than a file may have
@@ -90,6 +99,8 @@ pub record AddsFile {A : Type 0} (m : State → Meaning A) (old : KernelState) (
   pub store : new.store ≡ old.store
   pub sums : new.sums ≡ old.sums
   pub keeps : KeepsCover old.cache new.cache
+  pub same : new ≡ record old { files = new.files; cache = new.cache }
+  pub added : AddsEmpty old.cache new.cache
   pub sound : IsSound new
 
 -- The effect of a call that carries out: its answer, and the state after it.

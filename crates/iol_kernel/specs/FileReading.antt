@@ -7,6 +7,7 @@ use Rattle.iol_core.specs.declared.descriptors.Mode.{Mode}
 use Rattle.iol_core.specs.declared.descriptors.Descriptor.{Descriptor}
 use Rattle.iol_core.specs.declared.descriptors.Descriptor.TheVariants as on
 use Rattle.iol_core.specs.declared.refusals.Refusal.{Refusal}
+use Rattle.iol_core.specs.declared.refusals.Refusal.TheVariants.{NoRoom, Fault}
 use Rattle.iol_back.specs.Disk.{Disk}
 use Rattle.iol_hold.specs.Moves.{Moves, SameLists}
 use Rattle.iol_hold.specs.Places.{byte_len}
@@ -63,12 +64,18 @@ pub record GivesRead (x : FileRead) (disk : Disk) (old new : KernelState) : Type
 abbrev pub holding_over : Stored → KernelState → Holding
 holding_over s h = record { store = s; cache = h.cache }
 
+-- neither for want of room nor by a fault
+abbrev pub IsBeforeRoom : Refusal → Type 0
+IsBeforeRoom (NoRoom p) = ⊥
+IsBeforeRoom (Fault f) = ⊥
+IsBeforeRoom y = Unit {0}
+
 -- A refused read. One that was refused before it asked for room changed nothing. A late one left hits that count, and clean extents
--- that went to make room, the first ones before the others.
+-- that went to make room, the first ones before the others; for want of memory it may have come before any hit was shared.
 abbrev pub LeavesAtRefusal : (x : FileRead) → Disk → (old : KernelState) → (after : Disk) → (new : KernelState) → Refusal → Type 0
 LeavesAtRefusal x disk old after new y =
-    ((new ≡ old) × (after ≡ disk))
-    ⊎ (WantOfRoomOrFault (pool_read old x) x.file y × RefusesRead x.file x.at x.count disk (holding_of old) (holding_of new))
+    (IsBeforeRoom y × (new ≡ old) × (after ≡ disk))
+    ⊎ (WantOfRoomOrFault (pool_read old x) x.file y × RefusesRead x.file x.at x.count disk (holding_of old) (holding_of new) y)
 
 -- A read of a file by reference. Every byte of a file that was in memory lies where it lay, but that clean ones of the file's pool
 -- may have given way where more pages were wanted than were free. The lowest free pages of the file's pool are filled, and no

@@ -83,11 +83,14 @@ pub record PutsInFile {A : Type 0} (f at pool count : ℕ) (old : KernelState) (
   pub fills : OnOk r (AfterRoom pool count old (λ roomy. KeepsPages roomy.store new.store (lowest_of roomy.store pool count)))
   pub beside : KeepsBeside f at count pool (LacksPages old pool (pages_for count)) old.cache new.cache
 
--- New bytes lie on the lowest free pages of a pool, each run of these a buffer, as slices that nobody else holds.
+-- New bytes lie on the lowest free pages of a pool, each run of these a buffer, as slices that nobody else holds. These pages were
+-- raised by one, and no other page, pool or list changed.
 pub record PlacesNew (pool : ℕ) (bytes : List ℕ) (old placed : Stored) (slices : List Slice) : Type 0 where
   pub text : text_of placed slices ≡ labelled pool bytes
   pub made : MadeOn old.arena placed.arena (bufs_of slices) (lowest_of old pool (length bytes))
   pub moves : Moves old placed [] (bufs_of slices)
+  pub pages : KeepsPages old placed (lowest_of old pool (length bytes))
+  pub lists : SameLists old placed
 
 -- what is in memory of a kernel's files, over these pages
 abbrev pub over_pages : Stored → KernelState → Holding

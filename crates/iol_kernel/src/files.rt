@@ -1,9 +1,9 @@
 //! The files by slot: their names and pools, and the cache of what is in memory.
-ghost use Rattle.std.specs.Prelude.{◌≡◌, ◌+◌, ◌<◌, ◌++◌, ◌∷◌, [], length, false, bytes_eq, IfOk, OnOk, OnErr};
+ghost use Rattle.std.specs.Prelude.{◌≡◌, ℕ, ◌+◌, ◌<◌, ◌++◌, ◌∷◌, [], length, false, bytes_eq, IfOk, OnOk, OnErr};
 ghost use Rattle.std.specs.List.{list_any};
 ghost use Rattle.iol_core.specs.State as machine;
 ghost use Rattle.iol_pool.specs.Pools.{pool_in};
-ghost use Rattle.iol_cache.specs.Cached.{new_file};
+ghost use Rattle.iol_cache.specs.Cached.{new_file, order_in};
 ghost use Rattle.iol_arena.specs.State.{page_count};
 ghost use Rattle.iol_hold.specs.Stored.{Stored, IsTidy, IsStill};
 ghost use Rattle.iol_cache.specs.Cache.{cached_of};
@@ -50,6 +50,8 @@ impl Files {
         ensures list { let file : machine.File = record { name = name.now; pool = pool } in
             OnOk result (self.new.table.files ≡ self.old.table.files ++ file ∷ []) }
         ensures cached { OnOk result ((cached_of self.new.cache).files ≡ (cached_of self.old.cache).files ++ new_file pool ∷ []) }
+        ensures orders { (p : ℕ) → order_in (cached_of self.new.cache).orders p ≡
+            order_in (cached_of self.old.cache).orders p }
         ensures sound { (s : Stored) → cache.IsSound s (cached_of self.old.cache) →
             (pool_in s.pools pool).closed ≡ false → cache.IsSound s (cached_of self.new.cache) }
         ensures err_list { OnErr result (self.new.table.files ≡ self.old.table.files) }

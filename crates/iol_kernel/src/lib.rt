@@ -1,8 +1,10 @@
 //! The kernel: what a system holds, and each call of a domain, one method a call.
 //!
 //! A call tests its refusals in order and then has one effect: `kernel.agg_cut(by, agg, from, to)?`
-//! is the number of a new aggregate of the caller. What a call means is said by the copying machine
-//! (`iol_core`, `specs/Calls`):
+//! is the number of a new aggregate of the caller. The refusals of a method, in order, stand in
+//! docs/RULES.md under the call's name (`file_length` is `length`, `read_bytes` is `read`, `write_bytes`
+//! is `write`). Positions and ranges are in bytes from 0; a range has `from` and not `to`. What a call
+//! means is said by the copying machine (`iol_core`, `specs/Calls`):
 //!
 //! - `CarriesOut`: the machine's step, whatever is read at the places of bytes. Of bytes it is what
 //!   the call means, of places it says that nothing was copied. No page and no pool changes.

@@ -89,8 +89,8 @@ impl Kernel {
         Ok(count.min(found.unread() as usize))
     }
 
-    /// Copies what the domain may see of the first bytes that wait on a descriptor, as many as there is room for, and takes
-    /// these off. Tells how many they are.
+    /// Reads from a queue by copying: moves the first bytes that wait on a descriptor and that the domain may read, at most
+    /// `into.len()`, to the front of `into`. The answer is how many. Never refused: [`Kernel::waiting`] tests the refusals first.
     pub fn take_into(&mut self, by: DomainId, fd: Fd, into: &mut [u8]) -> u32
         requires sound { IsSound (state_of self.old) }
         requires live { is_live (machine self.old) by ≡ true }

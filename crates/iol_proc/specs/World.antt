@@ -1,7 +1,7 @@
 -- Processes in turns on a machine, and what happens outside.
 --
 -- The same words are used of two machines: of the one that copies at every call, and of a system with all that it
--- promises, over any store. A run on the second is one on the first, if its store is honest.
+-- promises, over any store.
 use Rattle.std.specs.Prelude.{◌≡◌, ◌≢◌, ◌⊎◌, ◌<◌, ◌||◌, ℕ, List, [], ◌∷◌, map, Some, Bool, All, slice_get, slice_set}
 use Rattle.iol_core.specs.State.{State}
 use Rattle.iol_core.specs.Run.{StepsTo}

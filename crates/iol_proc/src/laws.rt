@@ -12,7 +12,8 @@ pub fn histories_of_choices<P: Process>()
     ensures { HistoriesOfChoices P.turns }
 {}
 
-/// Where all is idle each process is settled: what it polled since its last yield was refused in this very state.
+/// Where [`World::until_idle`](crate::world::World::until_idle) says true and the store is honest, each process meets the condition
+/// that it declares for two yields.
 pub fn idle_is_settled<P: Settling>()
     ensures { IdleIsSettled P.settled P.turns }
 {

@@ -2,8 +2,8 @@
 //!
 //! A [`Process`](process::Process) says what it does next, from its last reply and the bytes that it is lent. A
 //! [`World`](world::World) is a system and a process in each of some domains; who has a turn when is a list of
-//! [`Choice`](choice::Choice)s. Whatever the list, replies and state are those of the same processes over a machine that
-//! copies at every call, each lent that machine's bytes (`specs/World`).
+//! [`Choice`](choice::Choice)s. Whatever the list, with an honest store, replies and state are those of processes with the same
+//! accounts over a machine that copies at every call, each lent that machine's bytes (`World::run`, clause `run`; `specs/World`).
 //!
 //!     let mut world = World::new(alloc, system, processes)?;
 //!     let replies = world.run(&choices)?;

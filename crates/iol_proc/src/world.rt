@@ -171,8 +171,9 @@ impl<B: Backing + Drop, P: Process> World<B, P> {
         Ok(replies)
     }
 
-    /// Gives turns to the processes, by rising domains, round after round and at most so many. True as soon as every process
-    /// has yielded twice since the last turn that was answered by anything but WouldBlock, yields aside. No memory is taken.
+    /// Gives turns to the processes, by rising domains, round after round, at most `turns` of them. True at the first moment at which
+    /// every process has yielded twice since the start, or since the last turn that was answered by anything but WouldBlock; false
+    /// after `turns` turns without such a moment.
     pub fn until_idle(&mut self, turns: usize) -> bool
         ensures shared { Idles sharing P.turns self.old turns result self.new }
         ensures run { IfHonest self.old.machine.disk
@@ -211,7 +212,7 @@ impl<B: Backing + Drop, P: Process> World<B, P> {
         self.system.report()
     }
 
-    /// Whether a turn was answered TooMany, NoRoom, Fault or Memory.
+    /// Whether a turn since [`World::new`] was answered TooMany, NoRoom, Fault or Memory. Once true it stays true.
     pub fn rough(&self) -> bool
         ensures { result ≡ self.now.rough }
     {

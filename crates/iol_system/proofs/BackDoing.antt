@@ -5,7 +5,6 @@ use Rattle.std.specs.Prelude.{◌⊎◌, Result, Ok, Err, OnOk, MatchOption}
 use Rattle.iol_back.specs.Disk.{Disk}
 use Rattle.iol_arena.specs.Chunks.{free_chunks}
 use Rattle.iol_cache.specs.Cached.{extents_in}
-use Rattle.iol_cache.specs.Evicting.{AllDirty}
 use Rattle.iol_cache.specs.Keeping.{KeepsDirty}
 use Rattle.iol_cache.specs.Serving.{FaultCounts}
 use Rattle.iol_cache.specs.Syncing.{WritesDirty}
@@ -41,7 +40,7 @@ use Rattle.iol_system.specs.Replies.{told}
 use Rattle.iol_system.specs.Room.{HasRoomFor, IsEarly}
 use Rattle.iol_system.specs.Still.{is_still, only_looks}
 use Rattle.iol_system.proofs.Doing.{Means, Tells, early_told, kept_layout, no_room_told, refused_told, told_beside}
-use Rattle.iol_system.specs.WrittenBack.{WritesBack}
+use Rattle.iol_system.specs.WrittenBack.{DropsClean, WritesBack}
 use Rattle.iol_system.proofs.InPlace.{cache_in_place, drops_in_place, flushes_in_place, shares_file, shares_none, syncs_in_place}
 use Rattle.iol_system.proofs.WrittenBack.{drops_back, flushes_back, none_back, syncs_back}
 use Rattle.iol_system.proofs.ResultTold.{ok_told, lacks_told, counts_told, early_fault_in, early_fault}
@@ -126,10 +125,10 @@ module _ (disk after : Disk) (old new : KernelState) (r : Result (Unit {0}) Refu
       (pages_equal old.store new.store (ap (λ (h : KernelState). h.store) flushes.same)) (flushes_back disk after old new r sound flushes) (flushes_in_place disk after old new r sound flushes) refl serves
       (λ none. absurd (true≢false none)) (flush_early r serves.beside)
 
-pub drops_does : (disk : Disk) (old new : KernelState) → Means (λ u. reply.Done) outside.drop_clean event.DropClean → Serves outside.drop_clean disk old (Ok tt) disk new → KeepsPages old.store new.store [] → ((f : ℕ) → AllDirty (extents_in new.cache.files f)) → KeepsDirty old.cache new.cache → Does disk old event.DropClean reply.Done disk new
-drops_does disk old new means serves pages none keeps =
+pub drops_does : (disk : Disk) (old new : KernelState) → Means (λ u. reply.Done) outside.drop_clean event.DropClean → Serves outside.drop_clean disk old (Ok tt) disk new → KeepsPages old.store new.store [] → DropsClean old new → KeepsDirty old.cache new.cache → Does disk old event.DropClean reply.Done disk new
+drops_does disk old new means serves pages drops keeps =
     stores_does outside.drop_clean event.DropClean disk disk old new (Ok tt) means (λ s. refl) (λ s. refl) refl refl tt (λ s. tt) (λ k. k) (λ x. tt) (λ x k. k)
-    (λ none. refl) (λ asked. absurd (true≢false (sym asked))) (λ p is. cc) pages (drops_back old new disk none) (drops_in_place disk old new keeps) refl serves
+    (λ none. refl) (λ asked. absurd (true≢false (sym asked))) (λ p is. cc) pages (drops_back old new disk drops) (drops_in_place disk old new keeps) refl serves
     (λ none. refl) (λ is. absurd is)
 
 -- A new pool.

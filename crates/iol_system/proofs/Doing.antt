@@ -1,5 +1,5 @@
 -- What an event does, by what the kernel says of its call.
-use Rattle.std.proofs.Common.{◌≡◌, ◌∙◌, ℕ, [], true, false, refl, ap, sym, subst}
+use Rattle.std.proofs.Common.{◌≡◌, ◌∙◌, ℕ, List, [], true, false, refl, ap, sym, subst}
 use Rattle.std.proofs.lemmas.Bool.{true≢false}
 use Rattle.std.specs.Prelude.{Result, Ok, Err, OnErr}
 use Rattle.iol_back.specs.Disk.{Disk}
@@ -9,7 +9,9 @@ use Rattle.iol_core.specs.Run.{meaning, outcome, replied}
 use Rattle.iol_core.specs.Sharing.{is_sharing}
 use Rattle.iol_core.specs.declared.refusals.Refusal.{Refusal}
 use Rattle.iol_core.specs.declared.refusals.Refusal.TheVariants.{NoRoom}
+use Rattle.iol_core.specs.declared.events.Call.TheVariants as call
 use Rattle.iol_core.specs.declared.events.Event.{Event}
+use Rattle.iol_core.specs.declared.events.Event.TheVariants as event
 use Rattle.iol_core.specs.declared.events.Reply.{Reply}
 use Rattle.iol_core.specs.declared.events.Reply.TheVariants as reply
 use Rattle.iol_hold.specs.Layout.{number_at}
@@ -80,6 +82,16 @@ pub record IsPlain (e : Event) : Type 0 where
   pub has : (s : SystemState) → HasRoomFor s e
   pub publishes : (old new : KernelState) → KeepsPages old.store new.store [] → Publishes old e new
   pub creates : (old : KernelState) (x : Reply) (new : KernelState) → Creates old e x new
+  pub late : (old : SystemState) (x : Reply) (new : SystemState) → LeavesLate old e x new
+  pub sums : (old : KernelState) (x : Reply) (new : KernelState) → new.sums ≡ old.sums → Remembers old e x new
+
+-- The same of an event that makes a file.
+pub record IsPlainNaming (e : Event) : Type 0 where
+  pub unwritten : writes_back e ≡ false
+  pub unlent : shares_file e ≡ false
+  pub asks : (s : State) → asks_store s e ≡ false
+  pub has : (s : SystemState) → HasRoomFor s e
+  pub publishes : (old new : KernelState) → KeepsPages old.store new.store [] → Publishes old e new
   pub late : (old : SystemState) (x : Reply) (new : SystemState) → LeavesLate old e x new
   pub sums : (old : KernelState) (x : Reply) (new : KernelState) → new.sums ≡ old.sums → Remembers old e x new
 
@@ -177,9 +189,10 @@ module _ {A : Type 0} (f : A → Reply) (m : State → Meaning A) (e : Event) (d
     stays = c.serves.stays;
   }
 
-  -- one that names a file
-  pub names_does : ((s : State) → is_sharing s e ≡ false) → is_still e ≡ false → only_looks e ≡ false → makes_file e ≡ true → Names disk m old r new → Does disk old e (told f r) disk new
-  names_does unshared moving unlooking made c = record {
+-- one that makes a file
+module _ {A : Type 0} (f : A → Reply) (m : State → Meaning A) (e : Event) (disk : Disk) (old new : KernelState) (r : Result A Refusal) (tells : Tells f) (plain : IsPlainNaming e) (means : Means f m e) where
+  pub names_does : ((s : State) → is_sharing s e ≡ false) → is_still e ≡ false → only_looks e ≡ false → makes_file e ≡ true → Creates old e (told f r) new → Names disk m old r new → Does disk old e (told f r) disk new
+  names_does unshared moving unlooking made creates c = record {
     step = λ backed placed. means (machine_of disk.slots old) (machine_of disk.slots new) r (c.step backed.honest);
     backed = c.backed;
     beside = told_beside f m e old new r means c.beside;
@@ -201,9 +214,14 @@ module _ {A : Type 0} (f : A → Reply) (m : State → Meaning A) (e : Event) (d
     in_place = cover_in_place disk old new e c.keeps;
     shares_file = λ done. shares_none (system_of old disk) new e plain.unlent;
     publishes = λ done. plain.publishes old new (pages_equal old.store new.store c.store);
-    creates = plain.creates old (told f r) new;
+    creates = creates;
     sums = plain.sums old (told f r) new c.sums;
     written_back = none_back disk old (told f r) disk new e plain.unwritten;
     sound = c.sound;
     stays = stays_equal old.store new.store c.store;
   }
+
+-- the file that came
+pub file_created : (disk : Disk) (m : State → Meaning ℕ) (by p : ℕ) (name : List ℕ) (old new : KernelState) (r : Result ℕ Refusal) → Names disk m old r new → Creates old (event.Call by (call.FileNew name p)) (told reply.File r) new
+file_created disk m by p name old new (Ok n) c = record { same = c.same; added = c.added }
+file_created disk m by p name old new (Err x) c = tt

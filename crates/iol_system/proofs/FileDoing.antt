@@ -1,14 +1,14 @@
 -- What an event does that places bytes, or reads and writes files.
 use Rattle.std.proofs.Common.{◌≡◌, ◌∙◌, ℕ, Bool, List, [], length, true, false, refl, ap, sym, subst, Option, Some, None}
 use Rattle.std.proofs.lemmas.Bool.{true≢false}
-use Rattle.std.specs.Prelude.{◌⊎◌, Result, Err, IfErr, OnOk, not, if◌then◌else◌}
+use Rattle.std.specs.Prelude.{◌⊎◌, Result, Err, IfErr, OnErr, OnOk, not, if◌then◌else◌}
 use Rattle.iol_back.specs.Disk.{Disk}
 use Rattle.iol_arena.specs.State.{pages_for}
 use Rattle.iol_cache.specs.Composing.{copied_pages}
-use Rattle.iol_cache.specs.Serving.{FaultCounts}
+use Rattle.iol_cache.specs.Serving.{FaultCounts, RefusesRead}
 use Rattle.iol_core.specs.State.{State, descriptor, is_live}
 use Rattle.iol_core.specs.Text.{Text}
-use Rattle.iol_core.specs.Meaning.{Meaning, WantOfRoom}
+use Rattle.iol_core.specs.Meaning.{Meaning, WantOfRoom, WantOfRoomOrFault}
 use Rattle.iol_core.specs.Run.{outcome}
 use Rattle.iol_core.specs.Sharing.{is_sharing}
 use Rattle.iol_core.specs.Calls.Reading as reading
@@ -28,17 +28,17 @@ use Rattle.iol_hold.specs.declared.slices.Slice.{Slice}
 use Rattle.iol_kernel.specs.Backed.{Serves, holding_of}
 use Rattle.iol_kernel.specs.Calls.{CarriesOut, Steps}
 use Rattle.iol_kernel.specs.Copying.{Copies, CopiesOn}
-use Rattle.iol_kernel.specs.FileReading.{Reads, ReadsOn, held_by}
+use Rattle.iol_kernel.specs.FileReading.{FileRead, LeavesAtRefusal, Reads, ReadsOn, file_read, held_by, pool_read}
 use Rattle.iol_kernel.specs.KernelState.{KernelState, IsSound, layout_of, machine_of, slices_in}
 use Rattle.iol_kernel.specs.MakingRoom.{MakesRoom, MayHaveEvicted, Places, can_fit}
-use Rattle.iol_kernel.specs.WritingFiles.{LaysOn, PutsOn, WritesOn, pool_of_file}
+use Rattle.iol_kernel.specs.WritingFiles.{LaysOn, LeavesUnwritten, PutsOn, WritesOn, pool_of_file}
 use Rattle.iol_kernel.specs.Keeping.{LacksPages, LacksPagesToRead}
 use Rattle.iol_kernel.proofs.Carried.{carried_layout}
 use Rattle.iol_kernel.proofs.Serving.{steps_beside}
 use Rattle.iol_kernel.proofs.Stay.{pages_here, stays_here}
 use Rattle.iol_system.specs.Asking.{asks_store, uses_cache}
 use Rattle.iol_system.specs.Doing.{Does}
-use Rattle.iol_system.specs.Late.{CopyLeaves, IfRefused, LeavesCopied, LeavesLate, PutLeaves, ReadLeaves, WriteLeaves}
+use Rattle.iol_system.specs.Late.{CopyLeaves, IfRefused, LeavesCopied, LeavesLate, PutLeaves, ReadLeaves, SameTables, WriteLeaves}
 use Rattle.iol_system.specs.Machine.{system_of, tables_of}
 use Rattle.iol_system.specs.InPlace.{IsInRange, IsWritten, KeepsInPlace, MayLetGo, ReadWantsMore, SharesCopy, SharesPut, SharesRead, SharesWrite, WantsMore, WriteWantsMore}
 use Rattle.iol_system.specs.Placed.{Creates, FillsForFile, Makes, Publishes, Puts}
@@ -50,7 +50,7 @@ use Rattle.iol_system.proofs.Doing.{Means, Tells, IsPlain, early_told, no_room_t
 use Rattle.iol_system.proofs.InPlace.{beside_in_place, cache_in_place, places_in_place, shares_file, shares_none, unless_in_place}
 use Rattle.iol_system.proofs.Paged.{carried_pages, fills_then_frees}
 use Rattle.iol_system.proofs.WrittenBack.{none_back, writes_back}
-use Rattle.iol_system.proofs.ResultTold.{ok_told, lacks_told, counts_told, has_told, room_told, fault_told, early_room, early_room_fault, early_of, err_more, late_told}
+use Rattle.iol_system.proofs.ResultTold.{ok_told, lacks_told, counts_told, has_told, room_told, fault_told, early_room, early_room_fault, early_of, err_more, late_told, tables_kept, untimed, with_tables}
 
 -- bytes are shown, and nothing changes
 module _ {A : Type 0} (f : A → Reply) (m : State → Meaning A) (e : Event) (disk : Disk) (h : KernelState) (r : Result A Refusal) (tells : Tells f) (plain : IsPlain e) (means : Means f m e) where
@@ -141,6 +141,10 @@ shared_held : (live : Bool) (o : Option Descriptor) → not (is_file o) ≡ true
 shared_held true o none = none
 shared_held false o none = refl
 
+-- what a late refusal of a read leaves
+abbrev LeftLate : FileRead → Disk → (old new : KernelState) → Refusal → Type 0
+LeftLate x disk old new y = WantOfRoomOrFault (pool_read old x) x.file y × RefusesRead x.file x.at x.count disk (holding_of old) (holding_of new) y
+
 -- A read by reference.
 module _ (by fd n : ℕ) (disk after : Disk) (old new : KernelState) (r : Result ℕ Refusal) where
   abbrev read_event : Event
@@ -170,7 +174,7 @@ module _ (by fd n : ℕ) (disk after : Disk) (old new : KernelState) (r : Result
   read_refused o c none is = refused_told reply.Agg r (new ≡ old) read_tells c.0.refused is
 
   read_early : (o : Option Descriptor) → ReadsOn by fd n o disk old r after new → IsEarly (told reply.Agg r) → (new ≡ old) × (after ≡ disk)
-  read_early (Some (on.File g at mode)) c is = early_of reply.Agg r _ _ read_tells (λ x early late. early_room_fault _ g x early late.0) c.0.leaves is
+  read_early (Some (on.File g at mode)) c is = early_of reply.Agg r ((new ≡ old) × (after ≡ disk)) (LeftLate (file_read by fd g at mode n) disk old new) read_tells (λ x early late. early_room_fault _ g x early late.0) (untimed r ((new ≡ old) × (after ≡ disk)) (LeftLate (file_read by fd g at mode n) disk old new) c.0.leaves) is
   read_early o c is = (early_told reply.Agg r (new ≡ old) read_tells c.0.refused is, c.1)
 
   read_asked : (o : Option Descriptor) → ReadsOn by fd n o disk old r after new → is_file o ≡ true → IsFault (told reply.Agg r) → HasRoomToRead (system_of old disk) o n
@@ -202,7 +206,7 @@ module _ (by fd n : ℕ) (disk after : Disk) (old new : KernelState) (r : Result
   read_shares o c is = tt
 
   read_late : (o : Option Descriptor) → ReadsOn by fd n o disk old r after new → ReadLeaves by fd n (system_of old disk) o (told reply.Agg r) (system_of new after)
-  read_late (Some (on.File g at mode)) c = late_told reply.Agg r _ read_tells c.0.leaves
+  read_late (Some (on.File g at mode)) c = late_told reply.Agg r _ read_tells (with_tables r (SameTables old new) (LeavesAtRefusal (file_read by fd g at mode n) disk old after new) (tables_kept r old new c.0.same c.0.refused) c.0.leaves)
   read_late o c = tt
 
   pub reads_does : Means reply.Agg (λ s. reading.iol_read s by fd n) read_event → Serves (λ s. reading.iol_read s by fd n) disk old r after new → Reads by fd n disk old r after new → Does disk old read_event (told reply.Agg r) after new
@@ -287,7 +291,7 @@ module _ (by fd a : ℕ) (disk : Disk) (old new : KernelState) (r : Result ℕ R
   write_shares o c is = tt
 
   write_late : (o : Option Descriptor) → WritesOn by fd a o old r new → WriteLeaves old o (slices_in old.domains by a) (told reply.Count r) new
-  write_late (Some (on.File g at mode)) c = late_told reply.Count r _ write_tells c.leaves
+  write_late (Some (on.File g at mode)) c = late_told reply.Count r _ write_tells (with_tables r (SameTables old new) (LeavesUnwritten g (slices_in old.domains by a) old new) (tables_kept r old new c.same c.refused) c.leaves)
   write_late o c = tt
 
   pub writes_does : Means reply.Count (λ s. writing.iol_write s by fd a) write_event → Serves (λ s. writing.iol_write s by fd a) disk old r disk new → WritesOn by fd a (descriptor (tables_of old) by fd) old r new → Does disk old write_event (told reply.Count r) disk new
@@ -374,13 +378,18 @@ module _ (by fd n : ℕ) (disk after : Disk) (old new : KernelState) (r : Result
   copy_in_place o c goes = cache_in_place disk old new copy_event c.0.cache
 
   copy_shares : (o : Option Descriptor) → CopiesOn by fd n o disk old r after new → IsDone (told reply.Bytes r) → SharesCopy by fd n (system_of old disk) o new
-  copy_shares (Some (on.File g at mode)) c is = record { mid = c.mid; gives = ok_told reply.Bytes r _ c.gives is }
+  copy_shares (Some (on.File g at mode)) c is = record { mid = c.mid; gives = ok_told reply.Bytes r _ c.gives is; frees = c.frees }
   copy_shares o c is = tt
 
   copy_late : (o : Option Descriptor) → CopiesOn by fd n o disk old r after new → CopyLeaves by fd n (system_of old disk) o (told reply.Bytes r) (system_of new after)
   copy_late (Some (on.File g at mode)) c =
+      let over : KernelState = record new { store = c.mid } in
+      let leaves : Refusal → Type 0 = LeavesAtRefusal (file_read by fd g at mode n) disk old after over in
+      let here : OnErr r (SameTables old over) = tables_kept r old over c.reads.same c.reads.refused in
       late_told reply.Bytes r (LeavesCopied by fd n g at mode (system_of old disk) (system_of new after)) copy_tells
-      (err_more r _ (LeavesCopied by fd n g at mode (system_of old disk) (system_of new after)) (λ x left. record { mid = c.mid; leaves = left; frees = c.frees; lists = c.lists }) c.reads.leaves)
+      (err_more r (λ x. SameTables old over × leaves x) (LeavesCopied by fd n g at mode (system_of old disk) (system_of new after))
+      (λ x left. record { mid = c.mid; leaves = left.1; frees = c.frees; lists = c.lists; same = ap (λ (h : KernelState). let k : KernelState = record h { store = new.store } in k) left.0 })
+      (with_tables r (SameTables old over) leaves here c.reads.leaves))
   copy_late o c = tt
 
   pub copies_does : Means reply.Bytes (λ s. reading.read s by fd n) copy_event → Serves (λ s. reading.read s by fd n) disk old r after new → Copies by fd n disk old r after new → Does disk old copy_event (told reply.Bytes r) after new

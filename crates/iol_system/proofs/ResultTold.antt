@@ -1,16 +1,19 @@
 -- What a result says that a reply tells: of room, of faults, and of early refusals.
-use Rattle.std.proofs.Common.{◌≡◌, ℕ, refl, sym, subst, inl, inr}
-use Rattle.std.specs.Prelude.{◌⊎◌, Result, Ok, Err, IfErr, OnOk}
+use Rattle.std.proofs.Common.{◌≡◌, ◌∙◌, ℕ, List, refl, sym, ap, subst, inl, inr}
+use Rattle.std.specs.Prelude.{◌⊎◌, Result, Ok, Err, IfErr, OnErr, OnOk}
 use Rattle.iol_back.specs.Disk.{Disk}
 use Rattle.iol_cache.specs.Serving.{FaultCounts, TellsRoom}
-use Rattle.iol_core.specs.State.{State}
+use Rattle.iol_core.specs.State.{State, Domain}
 use Rattle.iol_core.specs.Meaning.{FaultIn, WantOfRoom, WantOfRoomOrFault}
 use Rattle.iol_core.specs.Run.{outcome}
 use Rattle.iol_core.specs.declared.events.Reply.{Reply}
 use Rattle.iol_core.specs.declared.events.Reply.TheVariants as reply
 use Rattle.iol_core.specs.declared.refusals.Refusal.{Refusal}
 use Rattle.iol_core.specs.declared.refusals.Refusal.TheVariants.{NoRoom, Fault, Memory}
-use Rattle.iol_system.specs.Late.{IfRefused}
+use Rattle.iol_hold.specs.declared.slices.Slice.{Slice}
+use Rattle.iol_kernel.specs.FileReading.{IsBeforeRoom}
+use Rattle.iol_kernel.specs.KernelState.{KernelState}
+use Rattle.iol_system.specs.Late.{IfRefused, SameTables}
 use Rattle.iol_system.specs.Replies.{told}
 use Rattle.iol_system.specs.Room.{IsDone, IsEarly, IsFault, IsNoRoom, IsRefused}
 use Rattle.iol_system.proofs.Doing.{Tells, early_refused}
@@ -83,3 +86,19 @@ late_told f (Err x) P tells left = left
 pub err_more : {A : Type 0} (r : Result A Refusal) (P Q : Refusal → Type 0) → ((x : Refusal) → P x → Q x) → IfErr r P → IfErr r Q
 err_more (Ok a) P Q to left = tt
 err_more (Err x) P Q to left = to x left
+
+-- the same, with what holds at every refusal
+pub with_tables : {A : Type 0} (r : Result A Refusal) (X : Type 0) (P : Refusal → Type 0) → OnErr r X → IfErr r P → IfErr r (λ x. X × P x)
+with_tables (Ok a) X P here left = tt
+with_tables (Err x) X P here left = (here, left)
+
+-- the tables are as they were, where the domains are
+pub tables_kept : {A : Type 0} (r : Result A Refusal) (old new : KernelState) → new ≡ record old { store = new.store; cache = new.cache; domains = new.domains } → OnErr r (new.domains ≡ old.domains) → OnErr r (SameTables old new)
+tables_kept (Ok a) old new same kept = tt
+tables_kept (Err x) old new same kept = same ∙ ap (λ (ds : List (Domain (List Slice))). let h : KernelState = record old { store = new.store; cache = new.cache; domains = ds } in h) kept
+
+-- when a read was refused, whatever by
+pub untimed : {A : Type 0} (r : Result A Refusal) (X : Type 0) (Late : Refusal → Type 0) → IfErr r (λ x. (IsBeforeRoom x × X) ⊎ Late x) → IfErr r (λ x. X ⊎ Late x)
+untimed (Ok a) X Late left = tt
+untimed (Err x) X Late (inl here) = inl here.1
+untimed (Err x) X Late (inr late) = inr late

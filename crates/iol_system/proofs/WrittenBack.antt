@@ -19,7 +19,6 @@ use Rattle.iol_extent.specs.Extents.{Cell, Extent, IsApart, cell_at, cover, dirt
 use Rattle.iol_hold.specs.Stored.{Stored}
 use Rattle.iol_cache.specs.Cached.{Cached, dirty_in_all, extents_in, file_in}
 use Rattle.iol_cache.specs.Contents.{AreStored, IsStored, byte_in, file_bytes, read_or}
-use Rattle.iol_cache.specs.Evicting.{AllDirty}
 use Rattle.iol_cache.specs.Sound as cache
 use Rattle.iol_cache.specs.Syncing.{AllClean, Cleans, Flushes}
 use Rattle.iol_cache.specs.declared.files.CachedFile.{CachedFile}
@@ -41,7 +40,7 @@ use Rattle.iol_kernel.proofs.WrittenBack.{dirty_there}
 use Rattle.iol_system.specs.Machine.{system_of, tables_of}
 use Rattle.iol_system.specs.Replies.{told}
 use Rattle.iol_system.specs.Room.{IsDone}
-use Rattle.iol_system.specs.WrittenBack.{CleansFirst, IsCleanFile, IsFlushed, IsStoredFile, SyncsOn, WritesBack}
+use Rattle.iol_system.specs.WrittenBack.{CleansFirst, DropsClean, IsCleanFile, IsFlushed, IsStoredFile, SyncsOn, WritesBack}
 
 -- A file of which nothing is dirty is what the store has.
 
@@ -169,12 +168,12 @@ module _ (disk after : Disk) (old new : KernelState) where
   }
 
 -- What `drop_clean` leaves.
-pub drops_back : (old new : KernelState) (after : Disk) → ((f : ℕ) → AllDirty (extents_in new.cache.files f)) → WritesBack after old event.DropClean reply.Done after new
-drops_back old new after none = record {
+pub drops_back : (old new : KernelState) (after : Disk) → DropsClean old new → WritesBack after old event.DropClean reply.Done after new
+drops_back old new after drops = record {
   synced = λ done. tt;
   kept = λ backed done. tt;
   flushed = λ done. tt;
-  dropped = record { each = none };
+  dropped = drops;
   stores_back = tt;
 }
 

@@ -13,6 +13,7 @@ use Rattle.iol_core.specs.declared.events.Event.TheVariants as event
 use Rattle.iol_arena.specs.State.{pages_for}
 use Rattle.iol_extent.specs.Extents.{Cell, cover}
 use Rattle.iol_hold.specs.Places.{byte_len}
+use Rattle.iol_hold.specs.Releases.{FreesOnly}
 use Rattle.iol_hold.specs.Stored.{Stored}
 use Rattle.iol_hold.specs.declared.slices.Slice.{Slice}
 use Rattle.iol_cache.specs.Cached.{extents_in, file_in}
@@ -87,6 +88,7 @@ SharesRead by fd n old o new = ⊤
 pub record CopiesShared (by fd n f at : ℕ) (mode : Mode) (old : SystemState) (new : KernelState) : Type 0 where
   pub mid : Stored
   pub gives : GivesCopy (file_read by fd f at mode n) old.disk old.kernel mid new
+  pub frees : FreesOnly mid new.store
 
 abbrev pub SharesCopy : (by fd n : ℕ) → SystemState → Option Descriptor → KernelState → Type 0
 SharesCopy by fd n old (Some (on.File f at mode)) new = CopiesShared by fd n f at mode old new

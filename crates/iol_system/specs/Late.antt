@@ -1,5 +1,5 @@
 -- What a refusal leaves that may come late: for want of room or of memory, or by a fault.
-use Rattle.std.specs.Prelude.{ℕ, List, length, Option, Some, ⊤}
+use Rattle.std.specs.Prelude.{◌≡◌, ℕ, List, length, Option, Some, ⊤}
 use Rattle.iol_core.specs.State.{conn_at, descriptor}
 use Rattle.iol_core.specs.Calls.Aggregates.{default_pool}
 use Rattle.iol_core.specs.Calls.Outside.{arrive}
@@ -29,10 +29,15 @@ abbrev pub IfRefused : Reply → (Refusal → Type 0) → Type 0
 IfRefused (reply.Refused x) P = P x
 IfRefused r P = ⊤
 
+-- nothing changed but pages, and what memory has of files
+abbrev pub SameTables : (old new : KernelState) → Type 0
+SameTables old new = new ≡ record old { store = new.store; cache = new.cache }
+
 -- A refused read of a file by reference: hits may count, and clean extents may have gone to make room, the first ones before the
 -- others.
 abbrev pub ReadLeaves : (by fd n : ℕ) → (old : SystemState) → Option Descriptor → Reply → (new : SystemState) → Type 0
-ReadLeaves by fd n old (Some (on.File f at mode)) r new = IfRefused r (LeavesAtRefusal (file_read by fd f at mode n) old.disk old.kernel new.disk new.kernel)
+ReadLeaves by fd n old (Some (on.File f at mode)) r new =
+    IfRefused r (λ x. SameTables old.kernel new.kernel × LeavesAtRefusal (file_read by fd f at mode n) old.disk old.kernel new.disk new.kernel x)
 ReadLeaves by fd n old o r new = ⊤
 
 -- A refused read of a file by copying left what one by reference does, over some pages of which some were freed since.
@@ -41,6 +46,7 @@ pub record LeavesCopied (by fd n f at : ℕ) (mode : Mode) (old new : SystemStat
   pub leaves : LeavesAtRefusal (file_read by fd f at mode n) old.disk old.kernel new.disk (record new.kernel { store = mid }) x
   pub frees : FreesOnly mid new.kernel.store
   pub lists : SameLists mid new.kernel.store
+  pub same : SameTables old.kernel new.kernel
 
 abbrev pub CopyLeaves : (by fd n : ℕ) → (old : SystemState) → Option Descriptor → Reply → (new : SystemState) → Type 0
 CopyLeaves by fd n old (Some (on.File f at mode)) r new = IfRefused r (LeavesCopied by fd n f at mode old new)
@@ -48,7 +54,7 @@ CopyLeaves by fd n old o r new = ⊤
 
 -- A refused write of slices to a file made room at most, and what it placed is gone.
 abbrev pub WriteLeaves : (old : KernelState) → Option Descriptor → List Slice → Reply → (new : KernelState) → Type 0
-WriteLeaves old (Some (on.File f at mode)) xs r new = IfRefused r (LeavesUnwritten f xs old new)
+WriteLeaves old (Some (on.File f at mode)) xs r new = IfRefused r (λ x. SameTables old new × LeavesUnwritten f xs old new x)
 WriteLeaves old o xs r new = ⊤
 
 -- A refused write of bytes by copying made room at most, for the n of them that a queue takes; and what it placed for a file is

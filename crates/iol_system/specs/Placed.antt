@@ -1,5 +1,5 @@
 -- What an event does to pages and chunks: on which pages it makes buffers, and which chunks a new pool gets.
-use Rattle.std.specs.Prelude.{ℕ, [], length, Option, Some, ⊤}
+use Rattle.std.specs.Prelude.{◌≡◌, ℕ, [], length, Option, Some, ⊤}
 use Rattle.iol_core.specs.State.{State, conn_at, descriptor}
 use Rattle.iol_core.specs.Text.{Text}
 use Rattle.iol_core.specs.Calls.Aggregates.{default_pool, with_agg}
@@ -17,7 +17,7 @@ use Rattle.iol_core.specs.declared.events.Reply.TheVariants as reply
 use Rattle.iol_hold.specs.Pages.{KeepsPages}
 use Rattle.iol_hold.specs.Room.{lowest_of}
 use Rattle.iol_cache.specs.Paging.{FillsLowest}
-use Rattle.iol_kernel.specs.Calls.{MakesBytes, with_incoming}
+use Rattle.iol_kernel.specs.Calls.{AddsEmpty, MakesBytes, with_incoming}
 use Rattle.iol_kernel.specs.MakingRoom.{AfterRoom}
 use Rattle.iol_kernel.specs.WritingFiles.{pool_of_file}
 use Rattle.iol_pool.specs.Pools.{AddsPool}
@@ -61,9 +61,16 @@ Publishes old (event.Call by c) new = CallPublishes old by c new
 Publishes old (event.Arrive c bytes) new = Makes (with_incoming c) (conn_at (tables_of old) c).pool (arrive (tables_of old) c bytes).answer old new
 Publishes old e new = KeepsPages old.store new.store []
 
--- a call that made a pool: it has as many chunks as were asked for, the lowest free ones, and the others have theirs
+-- A file came of which nothing is in memory. Nothing else changed: no page and no other table, and no extent or height of other files.
+pub record CreatesFile (old new : KernelState) : Type 0 where
+  pub same : new ≡ record old { files = new.files; cache = new.cache }
+  pub added : AddsEmpty old.cache new.cache
+
+-- A call that made a pool: it has as many chunks as were asked for, the lowest free ones, and the others have theirs. Or one that
+-- made a file.
 abbrev pub CallCreates : KernelState → Call → Reply → KernelState → Type 0
 CallCreates old (call.PoolCreate chunks list) (reply.Pool p) new = AddsPool old.store.arena new.store.arena old.store.pools new.store.pools chunks (distinct list)
+CallCreates old (call.FileNew name p) (reply.File f) new = CreatesFile old new
 CallCreates old c r new = ⊤
 
 abbrev pub Creates : KernelState → Event → Reply → KernelState → Type 0

@@ -64,7 +64,7 @@ pub record Promises (old : SystemState) (e : Event) (r : Reply) (new : SystemSta
   pub synced : IsDone r → IsSynced old.kernel e new.kernel
   pub kept : IfHonest old.disk (IsDone r → IsKept old.kernel e new)
   pub flushed : IsDone r → IsFlushed old.kernel e new.kernel
-  pub dropped : IsDropped e new.kernel
+  pub dropped : IsDropped old.kernel e new.kernel
   pub stores_back : StoresBack old.disk old.kernel e r new.disk new.kernel
   pub safe : IsSafe new
   pub stays : Stays old.kernel.store new.kernel.store

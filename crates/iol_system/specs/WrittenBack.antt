@@ -13,9 +13,9 @@ use Rattle.iol_core.specs.declared.events.Reply.TheVariants as reply
 use Rattle.iol_core.specs.declared.refusals.Refusal.{Refusal}
 use Rattle.iol_extent.specs.Extents.{Extent, dirty_in}
 use Rattle.iol_cache.specs.Cached.{Cached, dirty_in_all, extents_in}
-use Rattle.iol_cache.specs.Evicting.{AllDirty}
+use Rattle.iol_cache.specs.Evicting.{AllDirty, EvictsPools}
 use Rattle.iol_cache.specs.Syncing.{AllClean, cleaned_at}
-use Rattle.iol_kernel.specs.Backed.{IsBackedBy}
+use Rattle.iol_kernel.specs.Backed.{IsBackedBy, holding_of}
 use Rattle.iol_kernel.specs.KernelState.{KernelState}
 use Rattle.iol_kernel.specs.WritingBack.{FlushesOne, SyncsFile}
 use Rattle.iol_system.specs.Machine.{SystemState, machine_of, system_of, tables_of}
@@ -57,14 +57,16 @@ abbrev pub IsFlushed : KernelState → Event → KernelState → Type 0
 IsFlushed old event.Flush new = CleansFirst old.cache new.cache ⊎ (AllClean (length old.cache.files) old.cache × (new ≡ old))
 IsFlushed old e new = ⊤
 
--- no clean extent is left of any file
-pub record HasNoClean (h : KernelState) : Type 0 where
-  pub each : (f : ℕ) → AllDirty (extents_in h.cache.files f)
+-- The clean extents of all files were evicted, those of each pool in their order, and none is left. Nothing else changed.
+pub record DropsClean (old new : KernelState) : Type 0 where
+  pub none : (f : ℕ) → AllDirty (extents_in new.cache.files f)
+  pub victims : EvictsPools (length old.cache.orders) (holding_of old) (holding_of new)
+  pub same : new ≡ record old { store = new.store; cache = new.cache }
 
--- `drop_clean` leaves none
-abbrev pub IsDropped : Event → KernelState → Type 0
-IsDropped event.DropClean new = HasNoClean new
-IsDropped e new = ⊤
+-- `drop_clean` does that
+abbrev pub IsDropped : KernelState → Event → KernelState → Type 0
+IsDropped old event.DropClean new = DropsClean old new
+IsDropped old e new = ⊤
 
 -- What an `fsync` wrote back, whatever it answered: the first dirty extents of its file, up to the one at which the store failed.
 pub record SyncsAs (f : ℕ) (disk : Disk) (old : KernelState) (r : Reply) (after : Disk) (new : KernelState) : Type 0 where
@@ -93,5 +95,5 @@ pub record WritesBack (disk : Disk) (old : KernelState) (e : Event) (r : Reply) 
   pub synced : IsDone r → IsSynced old e new
   pub kept : IsBackedBy after new → IsDone r → IsKept old e (system_of new after)
   pub flushed : IsDone r → IsFlushed old e new
-  pub dropped : IsDropped e new
+  pub dropped : IsDropped old e new
   pub stores_back : StoresBack disk old e r after new

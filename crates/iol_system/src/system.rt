@@ -181,7 +181,7 @@ impl<B: Backing> System<B> {
 
         // What publishes does so on the lowest free pages of its pool, each of which is raised by one; where new bytes are placed
         // room is made first, and nothing else changes then, so no more gives way. An open pool keeps its chunks, and a new one
-        // has the lowest free chunks, as many as asked for.
+        // has the lowest free chunks, as many as asked for. Of a new file nothing is in memory, and nothing else changes.
         ensures publishes { IsDone result →
             Publishes self.old.kernel event self.new.kernel }
         ensures creates { Creates self.old.kernel event result self.new.kernel }
@@ -190,12 +190,13 @@ impl<B: Backing> System<B> {
         ensures sums { Remembers self.old.kernel event result self.new.kernel }
 
         // After an `fsync` nothing of its file is dirty, and an honest store has just that file; a `flush` leaves one dirty
-        // extent fewer, that of least file and offset, or none was there; `drop_clean` leaves no clean extent.
+        // extent fewer, that of least file and offset, or none was there; `drop_clean` evicts the clean extents, in order, and
+        // leaves none.
         ensures synced { IsDone result → IsSynced self.old.kernel event self.new.kernel }
         ensures kept { IfHonest self.old.disk
             (IsDone result → IsKept self.old.kernel event self.new) }
         ensures flushed { IsDone result → IsFlushed self.old.kernel event self.new.kernel }
-        ensures dropped { IsDropped event self.new.kernel }
+        ensures dropped { IsDropped self.old.kernel event self.new.kernel }
         ensures stores_back { StoresBack self.old.disk self.old.kernel event result self.new.disk
             self.new.kernel }
 

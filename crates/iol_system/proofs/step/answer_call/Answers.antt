@@ -17,7 +17,7 @@ use Rattle.iol_core.specs.declared.events.Reply.TheVariants as reply
 use Rattle.iol_kernel.specs.Kernel.{state_of}
 use Rattle.iol_system.specs.Doing.{Does}
 use Rattle.iol_system.specs.Machine.{tables_of}
-use Rattle.iol_system.proofs.Doing.{told_step, carried_does, kept_does, looks_does, names_does}
+use Rattle.iol_system.proofs.Doing.{told_step, carried_does, kept_does, looks_does, names_does, file_created}
 use Rattle.iol_system.proofs.FileDoing.{shows_does, copies_does, puts_does, places_does, reads_does, writes_does}
 use Rattle.iol_system.proofs.BackDoing.{syncs_does, creates_does}
 use Rattle.iol_system.proofs.step.answer_call.Goals as goal
@@ -98,7 +98,7 @@ pub returns-in-FileNew : goal.returns-in-FileNew
 returns-in-FileNew g c =
     subst (λ (k : Call). Does (g.B.Backing.disk c.args.backing.now) (state_of c.args.kernel.now) (event.Call c.args.by k) c.file.result (g.B.Backing.disk c.args.backing.now) (state_of c.file_new.new.self)) (sym c.in-FileNew.is)
     (subst (λ (x : Reply). Does (g.B.Backing.disk c.args.backing.now) (state_of c.args.kernel.now) (event.Call c.args.by (call.FileNew c.in-FileNew.name c.in-FileNew.pool)) x (g.B.Backing.disk c.args.backing.now) (state_of c.file_new.new.self)) (sym c.file.ensures)
-    (names_does reply.File (λ s. files.file_new s c.args.by c.in-FileNew.name c.in-FileNew.pool) (event.Call c.args.by (call.FileNew c.in-FileNew.name c.in-FileNew.pool)) (g.B.Backing.disk c.args.backing.now) (state_of c.args.kernel.now) (state_of c.file_new.new.self) c.file_new.result (record { answers = λ a. refl; roomy = λ a x. x; unrefused = λ a x. x }) (record { unwritten = refl; unlent = refl; asks = λ s. refl; has = λ s. tt; publishes = λ o n k. k; creates = λ o x n. tt; late = λ o x n. tt; sums = λ o x n k. k }) (λ s t r step. told_step reply.File (record { answers = λ a. refl; roomy = λ a x. x; unrefused = λ a x. x }) (files.file_new s c.args.by c.in-FileNew.name c.in-FileNew.pool) s t r step) (λ s. refl) refl refl refl c.file_new.ensures))
+    (names_does reply.File (λ s. files.file_new s c.args.by c.in-FileNew.name c.in-FileNew.pool) (event.Call c.args.by (call.FileNew c.in-FileNew.name c.in-FileNew.pool)) (g.B.Backing.disk c.args.backing.now) (state_of c.args.kernel.now) (state_of c.file_new.new.self) c.file_new.result (record { answers = λ a. refl; roomy = λ a x. x; unrefused = λ a x. x }) (record { unwritten = refl; unlent = refl; asks = λ s. refl; has = λ s. tt; publishes = λ o n k. k; late = λ o x n. tt; sums = λ o x n k. k }) (λ s t r step. told_step reply.File (record { answers = λ a. refl; roomy = λ a x. x; unrefused = λ a x. x }) (files.file_new s c.args.by c.in-FileNew.name c.in-FileNew.pool) s t r step) (λ s. refl) refl refl refl (file_created (g.B.Backing.disk c.args.backing.now) (λ s. files.file_new s c.args.by c.in-FileNew.name c.in-FileNew.pool) c.args.by c.in-FileNew.pool c.in-FileNew.name (state_of c.args.kernel.now) (state_of c.file_new.new.self) c.file_new.result c.file_new.ensures) c.file_new.ensures))
 
 pub returns-in-OpenFile : goal.returns-in-OpenFile
 returns-in-OpenFile g c =

@@ -46,4 +46,4 @@ returns-in-Flush g c =
     (flushes_does (g.B.Backing.disk c.args.backing.now) (g.B.Backing.disk c.flush.new.backing) (state_of c.args.kernel.now) (state_of c.flush.new.self) c.flush.result c.requires (λ s t r step. told_step (λ u. reply.Done) (record { answers = λ a. refl; roomy = λ a x. x; unrefused = λ a x. x }) (outside.flush s) s t r step) c.flush.ensures.serves c.flush.ensures.flushes))
 
 pub returns-in-DropClean : goal.returns-in-DropClean
-returns-in-DropClean g c = subst (λ (k : Event). Does (g.B.Backing.disk c.args.backing.now) (state_of c.args.kernel.now) k reply.Done (g.B.Backing.disk c.args.backing.now) (state_of c.drop_clean.new.self)) (sym c.in-DropClean.is) (drops_does (g.B.Backing.disk c.args.backing.now) (state_of c.args.kernel.now) (state_of c.drop_clean.new.self) (λ s t r step. told_step (λ u. reply.Done) (record { answers = λ a. refl; roomy = λ a x. x; unrefused = λ a x. x }) (outside.drop_clean s) s t r step) (c.drop_clean.ensures.serves (g.B.Backing.disk c.args.backing.now)) c.drop_clean.ensures.pages c.drop_clean.ensures.none c.drop_clean.ensures.keeps)
+returns-in-DropClean g c = subst (λ (k : Event). Does (g.B.Backing.disk c.args.backing.now) (state_of c.args.kernel.now) k reply.Done (g.B.Backing.disk c.args.backing.now) (state_of c.drop_clean.new.self)) (sym c.in-DropClean.is) (drops_does (g.B.Backing.disk c.args.backing.now) (state_of c.args.kernel.now) (state_of c.drop_clean.new.self) (λ s t r step. told_step (λ u. reply.Done) (record { answers = λ a. refl; roomy = λ a x. x; unrefused = λ a x. x }) (outside.drop_clean s) s t r step) (c.drop_clean.ensures.serves (g.B.Backing.disk c.args.backing.now)) c.drop_clean.ensures.pages (record { none = c.drop_clean.ensures.none; victims = c.drop_clean.ensures.victims; same = c.drop_clean.ensures.rest }) c.drop_clean.ensures.keeps)

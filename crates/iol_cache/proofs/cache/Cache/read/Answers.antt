@@ -1,5 +1,5 @@
 use Rattle.std.proofs.Common.{◌≡◌, ℕ, ◌+◌, ◌-◌, ◌≤◌, min, List, [], Result, IfOk, arith}
-use Rattle.std.proofs.lemmas.Result.{IfOk-weaker, on_err_weaker}
+use Rattle.std.proofs.lemmas.Result.{IfErr-weaker, IfOk-weaker}
 use Rattle.iol_core.specs.Text as text
 use Rattle.iol_back.specs.Disk.{Disk}
 use Rattle.iol_hold.specs.Places.{byte_len}
@@ -10,10 +10,10 @@ use Rattle.iol_cache.specs.Cache.{holding}
 use Rattle.iol_cache.specs.Evicting.{Holding}
 use Rattle.iol_cache.specs.Gaps.{AreOf}
 use Rattle.iol_cache.specs.Going.{Goes, HasRoom, LacksRoom}
-use Rattle.iol_cache.specs.Serving.{IsEnd, NoRoomToRead, Range, ReadsFile, ReadsRange, RefusesRead, RoomToRead, bytes_read}
+use Rattle.iol_cache.specs.Serving.{IsEnd, LeavesRange, NoRoomToRead, Range, ReadsFile, ReadsRange, RefusesRead, RoomToRead, bytes_read}
 use Rattle.iol_cache.specs.Paging.{FillsLowest}
 use Rattle.iol_cache.proofs.Paging.{read_pages, refused_pages}
-use Rattle.iol_cache.proofs.Served.{either_way, ok_both, tells_more}
+use Rattle.iol_cache.proofs.Served.{either_told, ok_both, tells_more}
 use Rattle.iol_cache.proofs.Texts.{long_read, pooled_read, text_read}
 use Rattle.iol_cache.proofs.cache.Cache.read.Goals as goal
 
@@ -70,7 +70,7 @@ returns-clause-refused g c =
     let d = g.B.Backing.disk c.args.backing.now in
     let old = holding c.args.store.now c.args.self.now in
     let range = range_of d old.cache c.args.file c.args.at c.args.count c.file_end-end.result c.min-from.result c.min.result c.file_end-end.ensures c.min-from.ensures c.min.ensures in
-    on_err_weaker c.read_range.result (λ h. record { range = range; leaves = h }) c.read_range.ensures.refused
+    IfErr-weaker c.read_range.result (LeavesRange c.args.file range.from range.to old (holding c.read_range.new.store c.read_range.new.self)) (RefusesRead c.args.file c.args.at c.args.count d old (holding c.read_range.new.store c.read_range.new.self)) (λ x h. record { range = range; leaves = h }) c.read_range.ensures.refused
 
 pub returns-clause-room : goal.returns-clause-room
 returns-clause-room g c =
@@ -86,5 +86,5 @@ returns-clause-pages g c =
     let old = holding c.args.store.now c.args.self.now in
     let new = holding c.read_range.new.store c.read_range.new.self in
     let p = (file_in old.cache.files c.args.file).pool in
-    either_way (FillsLowest p old.store new.store) (RefusesRead c.args.file c.args.at c.args.count d old new) (ReadsFile c.args.file c.args.at c.args.count d old new) c.read_range.result (returns-clause-reads g c) (returns-clause-refused g c)
-    (λ xs h. read_pages c.args.file c.args.at c.args.count d old new xs h) (λ h. refused_pages c.args.file c.args.at c.args.count d old new h)
+    either_told (ReadsFile c.args.file c.args.at c.args.count d old new) (RefusesRead c.args.file c.args.at c.args.count d old new) c.read_range.result (returns-clause-reads g c) (returns-clause-refused g c)
+    (λ xs h. read_pages c.args.file c.args.at c.args.count d old new xs h) (λ y h. refused_pages c.args.file c.args.at c.args.count d old new y h)

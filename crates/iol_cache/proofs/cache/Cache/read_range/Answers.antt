@@ -11,10 +11,10 @@ use Rattle.iol_cache.specs.Gaps.{gap_pages}
 use Rattle.iol_cache.specs.Going.{Goes}
 use Rattle.iol_cache.specs.Pinned.{pinned_beside}
 use Rattle.iol_cache.specs.Ranges.{FillsAfter, UndoesAfter}
-use Rattle.iol_cache.specs.Serving.{ReadsRange, TellsRoom}
+use Rattle.iol_cache.specs.Serving.{LeavesRange, ReadsRange, TellsRoom}
 use Rattle.iol_cache.specs.Weaving.{len_beside}
 use Rattle.iol_cache.proofs.Hits.{covers_hit, few_hit, goes_hit, len_hit, lies_read, readable_hit, room_hit}
-use Rattle.iol_cache.proofs.Served.{always_err, asks_ok, goes_reserved, ok_both, tells_fault}
+use Rattle.iol_cache.proofs.Served.{always_err, asks_ok, goes_reserved, if_err, ok_both, tells_fault}
 use Rattle.iol_cache.proofs.Steps.{goes_trans}
 use Rattle.iol_cache.proofs.cache.Cache.read_range.Goals as goal
 
@@ -77,7 +77,8 @@ pub returns-clause-refused : goal.returns-clause-refused
 returns-clause-refused g c =
     let hit = holding c.pin.new.store c.pin.new.self in
     let new = holding c.fill_pinned.new.store c.fill_pinned.new.self in
-    on_err_weaker c.fill_pinned.result (λ u. inr (record {
+    let old = holding c.args.store.now c.args.self.now in
+    if_err c.fill_pinned.result (LeavesRange c.args.file c.args.from c.args.to old new) (λ y u. inr (record {
       pins = c.in_ok-pins.pins;
       gaps = c.in_ok-pins.gaps.items;
       hit = hit;

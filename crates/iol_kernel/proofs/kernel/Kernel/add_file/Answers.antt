@@ -20,5 +20,5 @@ add-requires-clause-few c = let h = state_of c.args.self.now in omega (arith, c.
 pub returns-clause-done : goal.returns-clause-done
 returns-clause-done c =
     let h = state_of c.args.self.now in
-    named_as h c.args.by c.in_ok-add.field-0 c.args.pool c.args.name.now c.add.new.self.table.files (cached_of c.add.new.self.cache) c.requires.sound c.in_ok-add.ensures.number (c.in_ok-add.ensures.list ∙ ap (λ (w : List ℕ). (let x : machine.File = record { name = w; pool = c.args.pool } in h.files ++ x ∷ [])) c.as_slice.ensures) c.in_ok-add.ensures.cached
+    named_as h c.args.by c.in_ok-add.field-0 c.args.pool c.args.name.now c.add.new.self.table.files (cached_of c.add.new.self.cache) c.requires.sound c.in_ok-add.ensures.number (c.in_ok-add.ensures.list ∙ ap (λ (w : List ℕ). (let x : machine.File = record { name = w; pool = c.args.pool } in h.files ++ x ∷ [])) c.as_slice.ensures) c.in_ok-add.ensures.cached c.add.ensures.orders
     (c.add.ensures.sound h.store (cache_sound h c.requires.sound) (sym (closed-read_of (bytes_over [] h.store) h c.args.pool) ∙ c.requires.open))

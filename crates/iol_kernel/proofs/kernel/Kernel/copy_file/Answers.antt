@@ -27,7 +27,7 @@ returns-then-not-may_be_read-clause-copies g c =
     let h = state_of c.args.self.now in
     record {
       mid = h.store;
-      reads = reads_nothing {A = List ℕ} (file_read c.args.by c.args.fd c.args.found.file c.args.found.at c.args.found.mode c.args.count) (g.B.Backing.disk c.args.backing.now) h h WrongMode refl tt refl;
+      reads = reads_nothing {A = List ℕ} (file_read c.args.by c.args.fd c.args.found.file c.args.found.at c.args.found.mode c.args.count) (g.B.Backing.disk c.args.backing.now) h h WrongMode refl tt refl tt;
       gives = tt;
       early = inl (refl, refl);
       frees = frees_here h.store;
@@ -55,7 +55,7 @@ returns-in-Some-clause-copies g c =
     let h = state_of c.args.self.now in
     record {
       mid = h.store;
-      reads = reads_nothing {A = List ℕ} (file_read c.args.by c.args.fd c.args.found.file c.args.found.at c.args.found.mode c.args.count) (g.B.Backing.disk c.args.backing.now) h h (Denied c.in-Some.pool) refl tt refl;
+      reads = reads_nothing {A = List ℕ} (file_read c.args.by c.args.fd c.args.found.file c.args.found.at c.args.found.mode c.args.count) (g.B.Backing.disk c.args.backing.now) h h (Denied c.in-Some.pool) refl tt refl tt;
       gives = tt;
       early = inl (refl, refl);
       frees = frees_here h.store;

@@ -49,7 +49,7 @@ returns-in_err-bytes-clause-copies g c =
     let h = state_of c.args.self.now in
     let x = file_read c.args.by c.args.fd c.args.found.file c.args.found.at c.args.found.mode c.args.count in
     let disk = g.B.Backing.disk c.args.backing.now in
-    let done = copies_nothing x disk h Memory tt refl in
+    let done = copies_nothing x disk h Memory tt refl tt in
     search (rules, done)
 
 pub read-requires-clause-sound : goal.read-requires-clause-sound
@@ -101,7 +101,7 @@ returns-in_err-agg-clause-copies g c =
     let e = c.in_err-agg.ensures in
     let y = c.in_err-agg.field-0.0 in
     let room = tells_more {A = List Slice} (RoomToRead x.file x.at c.readable-most.result disk old) (NoRoomToRead x.file x.at c.readable-most.result disk old) (RoomToRead x.file x.at x.count disk old) (NoRoomToRead x.file x.at x.count disk old) (Err y) (room_more disk x.file x.at x.count c.readable-most.result old told) (lacks_more disk x.file x.at x.count c.readable-most.result old told) e.room in
-    let refused = refuses_more disk x.file x.at x.count c.readable-most.result old told new e.refused in
+    let refused = refuses_more disk x.file x.at x.count c.readable-most.result old told new y e.refused in
     let done : CopiesFileAs {A = List ℕ} x disk h (Err y) after (record h { store = m; cache = k }) = record {
       mid = m;
       reads = reads_refused x disk after h m k c.requires.sound live from e.pages e.gone.lists (List Slice) (List ℕ) y h.domains refl refused room e.fault e.late;

@@ -175,7 +175,7 @@ returns-in-Err-clause-leaves c =
       slices = xs;
       placed = s;
       left = c.write.new.store;
-      places = record { text = e.text; made = e.made_on; moves = e.moves };
+      places = record { text = e.text; made = e.made_on; moves = e.moves; pages = keeps_pages_made e.made_on e.others e.grows e.pools; lists = ap (map pool_meant) e.pools };
       room = room_alone h s c.write.new.store (cached_of c.write.new.self) c.args.file c.args.at c.args.pool xs c.args.bytes.now (files_apart h c.requires.sound) own (filled_len s xs c.args.pool c.args.bytes.now e.text) e.text c.in-Err.ensures.evicts;
       released = c.release.ensures.moves;
       frees = c.release.ensures.frees;
@@ -195,7 +195,7 @@ returns-clause-lays c =
       slices = xs;
       placed = s;
       written = c.write.new.store;
-      places = record { text = e.text; made = e.made_on; moves = e.moves };
+      places = record { text = e.text; made = e.made_on; moves = e.moves; pages = keeps_pages_made e.made_on e.others e.grows e.pools; lists = ap (map pool_meant) e.pools };
       over = λ some. w.writes (omega (arith, some, long));
       nothing = λ none. w.nothing (omega (arith, none, long));
       lies = w.lies;

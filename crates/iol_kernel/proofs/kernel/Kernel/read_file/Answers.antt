@@ -53,14 +53,14 @@ returns-in-Some-clause-serves g c =
 pub returns-in-Some-clause-reads : goal.returns-in-Some-clause-reads
 returns-in-Some-clause-reads g c =
     let h = state_of c.args.self.now in
-    reads_nothing {A = ℕ} (file_read c.args.by c.args.fd c.args.file c.args.at c.args.mode c.args.count) (g.B.Backing.disk c.args.backing.now) h h (Denied c.in-Some.pool) refl tt refl
+    reads_nothing {A = ℕ} (file_read c.args.by c.args.fd c.args.file c.args.at c.args.mode c.args.count) (g.B.Backing.disk c.args.backing.now) h h (Denied c.in-Some.pool) refl tt refl tt
 
 pub returns-then-not-may_be_read-clause-reads : goal.returns-then-not-may_be_read-clause-reads
 returns-then-not-may_be_read-clause-reads g c =
     let h = state_of c.args.self.now in
-    reads_nothing {A = ℕ} (file_read c.args.by c.args.fd c.args.file c.args.at c.args.mode c.args.count) (g.B.Backing.disk c.args.backing.now) h h WrongMode refl tt refl
+    reads_nothing {A = ℕ} (file_read c.args.by c.args.fd c.args.file c.args.at c.args.mode c.args.count) (g.B.Backing.disk c.args.backing.now) h h WrongMode refl tt refl tt
 
 pub returns-then-is_too_many-clause-reads : goal.returns-then-is_too_many-clause-reads
 returns-then-is_too_many-clause-reads g c =
     let h = state_of c.args.self.now in
-    reads_nothing {A = ℕ} (file_read c.args.by c.args.fd c.args.file c.args.at c.args.mode c.args.count) (g.B.Backing.disk c.args.backing.now) h h TooMany refl tt refl
+    reads_nothing {A = ℕ} (file_read c.args.by c.args.fd c.args.file c.args.at c.args.mode c.args.count) (g.B.Backing.disk c.args.backing.now) h h TooMany refl tt refl tt

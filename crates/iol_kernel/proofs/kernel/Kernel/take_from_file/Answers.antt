@@ -41,7 +41,7 @@ returns-in_err-reserve_aggs-clause-reads g c =
     let disk = g.B.Backing.disk c.args.backing.now in
     let kept : KernelState = record h { domains = domains_of c.reserve_aggs.new.self } in
     let same : kept ≡ h = λ i. record h { domains = c.in_err-reserve_aggs.ensures.same i } in
-    let done = reads_nothing {A = ℕ} x disk h kept Memory same tt refl in
+    let done = reads_nothing {A = ℕ} x disk h kept Memory same tt refl tt in
     search (rules, done)
 
 pub read-outcome-requires-clause-sound : goal.read-outcome-requires-clause-sound
