@@ -174,7 +174,7 @@ module _ (by fd n : ℕ) (disk after : Disk) (old new : KernelState) (r : Result
   read_refused o c none is = refused_told reply.Agg r (new ≡ old) read_tells c.0.refused is
 
   read_early : (o : Option Descriptor) → ReadsOn by fd n o disk old r after new → IsEarly (told reply.Agg r) → (new ≡ old) × (after ≡ disk)
-  read_early (Some (on.File g at mode)) c is = early_of reply.Agg r ((new ≡ old) × (after ≡ disk)) (LeftLate (file_read by fd g at mode n) disk old new) read_tells (λ x early late. early_room_fault _ g x early late.0) (untimed r ((new ≡ old) × (after ≡ disk)) (LeftLate (file_read by fd g at mode n) disk old new) c.0.leaves) is
+  read_early (Some (on.File g at mode)) c is = early_of reply.Agg r ((new ≡ old) × (after ≡ disk)) (LeftLate (file_read by fd g at mode n) disk old new) read_tells (λ x early late. early_room_fault _ g x early late.0) (untimed r (new ≡ old) (after ≡ disk) (LeftLate (file_read by fd g at mode n) disk old new) c.0.leaves) is
   read_early o c is = (early_told reply.Agg r (new ≡ old) read_tells c.0.refused is, c.1)
 
   read_asked : (o : Option Descriptor) → ReadsOn by fd n o disk old r after new → is_file o ≡ true → IsFault (told reply.Agg r) → HasRoomToRead (system_of old disk) o n

@@ -98,7 +98,7 @@ tables_kept (Ok a) old new same kept = tt
 tables_kept (Err x) old new same kept = same ∙ ap (λ (ds : List (Domain (List Slice))). let h : KernelState = record old { store = new.store; cache = new.cache; domains = ds } in h) kept
 
 -- when a read was refused, whatever by
-pub untimed : {A : Type 0} (r : Result A Refusal) (X : Type 0) (Late : Refusal → Type 0) → IfErr r (λ x. (IsBeforeRoom x × X) ⊎ Late x) → IfErr r (λ x. X ⊎ Late x)
-untimed (Ok a) X Late left = tt
-untimed (Err x) X Late (inl here) = inl here.1
-untimed (Err x) X Late (inr late) = inr late
+pub untimed : {A : Type 0} (r : Result A Refusal) (X Y : Type 0) (Late : Refusal → Type 0) → IfErr r (λ x. (IsBeforeRoom x × X × Y) ⊎ Late x) → IfErr r (λ x. (X × Y) ⊎ Late x)
+untimed (Ok a) X Y Late left = tt
+untimed (Err x) X Y Late (inl here) = inl (here.1, here.2)
+untimed (Err x) X Y Late (inr late) = inr late
