@@ -27,7 +27,7 @@ fn all_digits(text: &[u8]) -> bool
     text.iter().all(|b| b.is_ascii_digit())
 }
 
-fn parsed(digits: &str) -> Option<u64>
+fn parse_digits(digits: &str) -> Option<u64>
     requires digits { list_all is_ascii_digit digits.now ≡ true }
     requires short { length digits.now ≤ MAX_DIGITS }
     ensures { result ≡ spec.number digits.now }
@@ -43,7 +43,7 @@ fn number_of(digits: &[u8]) -> Option<u64>
         return None;
     }
     match str::from_utf8(digits) {
-        Ok(text) => parsed(text),
+        Ok(text) => parse_digits(text),
         Err(_) => None,
     }
 }

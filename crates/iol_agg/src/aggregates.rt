@@ -71,7 +71,8 @@ impl Agg {
         Agg { slices, len }
     }
 
-    /// New bytes of an open pool, in new buffers on its lowest free pages. No bytes take no page.
+    /// Makes an aggregate of these bytes by copying them into new buffers on the lowest free pages of an open pool. No bytes take
+    /// no page. Refused `NoRoom` where the pool has too few free pages, and `Memory`.
     pub fn fill(
         alloc: Global,
         store: &mut Store,

@@ -123,7 +123,7 @@ impl<A: Drop> Entries<A> {
         }
     }
 
-    /// None any more, the first to be number 1.
+    /// Removes all entries. The next one has number 1 again.
     pub fn clear(&mut self)
         ensures entries { self.new.entries ≡ [] }
         ensures next { self.new.next ≡ 1 }

@@ -166,7 +166,7 @@ impl<T: Drop> Places<T> {
     }
 
     /// How many places are taken.
-    pub fn taken(&self) -> usize
+    pub fn count(&self) -> usize
         ensures { result ≡ taken self.now.places }
     {
         self.count

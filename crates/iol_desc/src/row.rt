@@ -182,7 +182,7 @@ impl<A: Drop> Domain<A> {
         requires made { made ≤ 2 }
         ensures { result ≡ nat_lt MAX_OPEN (taken self.now.domain.fds + made) }
     {
-        let open = self.fds.taken();
+        let open = self.fds.count();
         open > MAX_OPEN || MAX_OPEN < open + made
     }
 

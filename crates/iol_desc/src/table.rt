@@ -105,7 +105,8 @@ impl<A: Drop> Table<A> {
         domain.agg(agg)
     }
 
-    /// Whether so many new aggregates, with so many given up, are too many.
+    /// Whether a domain is refused `made` new aggregates where `given` are given up: over 65,536 would be live in all, or its numbers
+    /// would pass their last. Both counts are at most 2.
     pub fn is_too_many(&self, d: DomainId, made: u64, given: u64) -> bool
         requires live { (domain_in (domains_of self.now) d).live ≡ true }
         requires made { made ≤ 2 }
@@ -282,7 +283,7 @@ impl<A: Drop> Table<A> {
         domain.set_fd(fd, on);
     }
 
-    /// Takes what a domain's numbers are open on, by rising number: none is open any more.
+    /// Takes all descriptors of a domain, by rising number, with `None` for a number that is free. None is open afterwards.
     pub fn take_fds(&mut self, d: DomainId) -> Vec<Option<Descriptor>>
         requires { (domain_in (domains_of self.old) d).live ≡ true }
         ensures given { result.items ≡ fds_in (domains_of self.old) d }
@@ -294,7 +295,8 @@ impl<A: Drop> Table<A> {
         domain.take_fds(alloc)
     }
 
-    /// Moves a domain's descriptor to its lowest number that is free when its own is.
+    /// Gives a domain's descriptor to the domain itself: number `fd` is freed, and what `on` says is opened under the lowest
+    /// free number, which is the answer.
     pub fn move_fd(&mut self, d: DomainId, fd: Fd, on: Descriptor) -> Fd
         requires live { (domain_in (domains_of self.old) d).live ≡ true }
         requires there { in_place (fds_in (domains_of self.old) d) fd ≢ None }

@@ -1,7 +1,8 @@
 //! A part of a file in an order.
 use iol_core::numbers::FileId;
 
-/// The greatest L: past it, L is taken from every height.
+/// The greatest L, 2^62. L is the height of the last entry that was evicted. Where it would pass this, L is subtracted from
+/// every height and becomes 0, so that no height overflows; the order of the entries stays.
 pub const MAX_LOW: u64 = 0x4000_0000_0000_0000;
 
 /// A part of a file: where it begins, its bytes, what it costs to read it again, and its height in the order.

@@ -129,7 +129,7 @@ impl Order {
         self.entries.set_height(file, at, height);
     }
 
-    /// Takes an entry out, and L stays.
+    /// Takes out an entry that is there, for another reason than eviction: L stays.
     pub fn leave(&mut self, file: FileId, at: u32)
         requires { entry_at self.old.entries file at ≢ None }
         ensures { self.new ≡ left_at self.old file at }
@@ -137,9 +137,9 @@ impl Order {
         let _entry = self.entries.remove(file, at);
     }
 
-    /// Evicts an entry: it is taken out, and L becomes the height that it had. Past 2^62, L is taken from every height and
-    /// from itself, and `passed` becomes the least rank. Whoever is in use, all below `passed` are so after where all were
-    /// before.
+    /// Evicts an entry that is there: it is taken out, and L becomes its height. Where that is above 2^62, it is subtracted from
+    /// every height, and L is 0. `passed` is where `least` may begin its search: it goes back to the least rank where heights
+    /// change.
     pub fn evict(&mut self, file: FileId, at: u32, passed: &mut Rank)
         requires { entry_at self.old.entries file at ≢ None }
         ensures evicted { self.new ≡ evicted_at self.old file at }
@@ -157,8 +157,9 @@ impl Order {
         *passed = Rank::least();
     }
 
-    /// The file and place of the entry that goes first: of those not in use, or else of all, the least by height, file
-    /// and place. All below `passed` are in use: the search begins there, and leaves there where the next may begin.
+    /// The file and place of the entry to evict next: the least by height, file and place of those that are not in use, or of
+    /// all where each is in use. The search begins at `passed`, below which each entry has to be in use, and leaves in `passed`
+    /// where the next search may begin.
     pub fn least<U: InUse>(&self, users: &U, passed: &mut Rank) -> Option<(FileId, u32)>
         requires ask { All (λ e. U.can_ask users.now e.file e.at) self.now.entries }
         requires below { AreUsedBelow (U.in_use users.now) passed.old self.now.entries }

@@ -130,7 +130,8 @@ impl Extents {
         None
     }
 
-    /// Where the first extent begins that has a byte of a range. Where the range is empty, one that goes on across it.
+    /// The place at which the first extent begins that has a byte of the range `from..to`. For an empty range that is the extent
+    /// with bytes on both sides of it.
     pub fn first_met(&self, from: u32, to: u32) -> Option<u32>
         ensures { let es = self.now.extents in
             MatchOption result (met_in es from to ≡ None) (IsFirstMet es from to) }

@@ -58,7 +58,7 @@ impl FileTable {
     }
 
     /// The file of this name.
-    pub(crate) fn called(&self, name: &[u8]) -> Option<FileId>
+    pub(crate) fn find(&self, name: &[u8]) -> Option<FileId>
         requires { length self.now.files ≤ MAX_FILES }
         ensures { result ≡ option_map (λ i. i + 1)
             (position (λ f. bytes_eq f.name name.now) self.now.files) }

@@ -84,7 +84,7 @@ impl Kernel {
         if !self.is_live(by) {
             return Err(Refusal::NoDomain);
         }
-        let Some(file) = self.file_called(name) else {
+        let Some(file) = self.find_file(name) else {
             return Err(Refusal::NoFile);
         };
         if self.is_open_beyond(by, 1) {
@@ -98,12 +98,12 @@ impl Kernel {
     }
 
     /// The file of this name.
-    fn file_called(&self, name: &Bytes) -> Option<FileId>
+    fn find_file(&self, name: &Bytes) -> Option<FileId>
         requires { IsSound (state_of self.now) }
         ensures called { (f : Reading) → result ≡ file_called (as_read f self.now) name.now }
         ensures there { IfSome result (λ n. is_numbered (state_of self.now).files n ≡ true) }
     {
-        self.files.table.called(name.as_slice())
+        self.files.table.find(name.as_slice())
     }
 
     /// The pool of a file's bytes.

@@ -115,7 +115,7 @@ impl Pipes {
     pub(crate) fn count(&self) -> usize
         ensures { result ≡ taken self.now.places }
     {
-        self.places.taken()
+        self.places.count()
     }
 
     /// The number of the next new pipe.

@@ -45,8 +45,10 @@ pub fn domains_and_pools_come_and_go()
     ensures { DomainsAndPoolsComeAndGo }
 {}
 
-/// Why a domain's read, write or `accept` of a queue is refused: nothing is there, as much waits as may, or nobody takes it. What
-/// is there is closed and dropped with no refusal.
+/// What a refusal tells. A read that would block finds an empty queue, and one that is denied a first byte that the domain may
+/// not read. A write that would block finds a full queue, and one of a broken pipe nobody who will read. An `accept` that would
+/// block finds no waiting connection that the domain may have. An open descriptor is closed, and an aggregate that is there is
+/// dropped, without refusal.
 pub fn refusals_tell_why()
     ensures { RefusalsTellWhy }
 {}

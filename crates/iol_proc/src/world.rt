@@ -66,7 +66,7 @@ impl<B: Backing + Drop, P: Process> World<B, P> {
         ensures rising { IfOk result (λ w. IsRising (domains_of w.seats)) }
         ensures smooth { IfOk result (λ w. w.rough ≡ false) }
     {
-        let seats = seated(alloc, processes)?;
+        let seats = seats_by_domain(alloc, processes)?;
         let yields = vec![in alloc; 0u8; seats.len()]?;
         Ok(World {
             alloc,
@@ -221,7 +221,7 @@ impl<B: Backing + Drop, P: Process> World<B, P> {
 }
 
 /// The processes in their domains, by rising domains.
-fn seated<P: Process>(
+fn seats_by_domain<P: Process>(
     alloc: Global,
     processes: Vec<(DomainId, P)>,
 ) -> Result<Vec<Seat<P>>, AllocError>

@@ -3,7 +3,7 @@ use Rattle.std.specs.Prelude.{bytes_eq, option_map, position}
 use Rattle.iol_core.specs.State as machine
 use Rattle.iol_kernel.specs.Files.{NamedFiles}
 use Rattle.iol_kernel.proofs.Filed.{position-named}
-use Rattle.iol_kernel.proofs.file_table.FileTable.called.Goals as goal
+use Rattle.iol_kernel.proofs.file_table.FileTable.find.Goals as goal
 
 pub returns-in_err-place : goal.returns-in_err-place
 returns-in_err-place c =
