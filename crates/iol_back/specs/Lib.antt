@@ -1,3 +1,4 @@
 pub mod Disk
 pub mod Faulty
+pub mod Folder
 pub mod Lists

@@ -3,11 +3,13 @@
 //! A [`Backing`](backing::Backing) holds a list of bytes for each of the files 1 to 1,024, and may fail. Its contracts
 //! (`specs/Disk`) say what it reads and writes where it is honest, that it counts its failures, and that a write that
 //! fails leaves all outside of its range as it was. There are [`MemoryBacking`](memory::MemoryBacking), whose lists lie
-//! in memory, and [`FaultyBacking`](faulty::FaultyBacking), which lets one call to another store fail.
+//! in memory, [`FaultyBacking`](faulty::FaultyBacking), which lets one call to another store fail, and
+//! [`FolderBacking`](folder::FolderBacking), over the files of a folder, which promises nothing of their bytes.
 //!
 //! The contract, of every store: `read_at` gives the bytes of a range that lies in the file (`read`, `slots`), `write_at`
 //! puts bytes there (`written`, `others`, `torn`), both only of the files 1 to 1,024 (`slot`); a failure counts one more
 //! (`counts`), and none makes a store honest or not (`honest`). Of a list in memory: when a call succeeds (`succeeds`).
+//! Of a folder: its names, which rise in byte order, each once (`FolderBacking::count`, `name`).
 //!
 //!     let mut slots = Slots::new(alloc);
 //!     slots.append(FileId::new(1), b"abcdef")?;
@@ -17,5 +19,7 @@
 
 pub mod backing;
 pub mod faulty;
+pub mod folder;
+pub mod listing;
 pub mod memory;
 pub mod slots;

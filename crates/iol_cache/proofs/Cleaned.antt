@@ -11,7 +11,8 @@ use Rattle.iol_extent.specs.Extents.{Cell, Extent, IsApart, begins_at, cell_at, 
 use Rattle.iol_cache.specs.Cached.{all_parts}
 use Rattle.iol_cache.specs.Contents.{IsStored, byte_in, file_byte, file_bytes, file_len, read_or}
 use Rattle.iol_cache.specs.Sound.{Each, IsLaid}
-use Rattle.iol_cache.specs.Syncing.{as_clean, cleaned_at, first_cleaned}
+use Rattle.iol_cache.specs.Syncing.{first_cleaned}
+use Rattle.iol_extent.specs.Extents.{as_clean, cleaned_at}
 use Rattle.iol_cache.proofs.Extending.{cover-begins, eq_of, over_yes}
 use Rattle.iol_cache.proofs.Filing.{sum-put_in, sum-without_at}
 

@@ -285,12 +285,13 @@ moved_back m n o same = record {
 }
 
 -- pages that were filled, then nothing was placed, and some were freed
-pub placed_some : {s t u v : Stored} {p k : ℕ} → PlacesPages s t p k → KeepsPages t u [] → FreesOnly u v → u.pools ≡ t.pools → PlacesSome s v p
-placed_some {s = s} {t = t} {u = u} {v = v} {p = p} {k = k} a b c same =
+pub placed_some : {s t u v : Stored} {p k : ℕ} (n : ℕ) → k ≤ n → PlacesPages s t p k → KeepsPages t u [] → FreesOnly u v → u.pools ≡ t.pools → PlacesSome s v p n
+placed_some {s = s} {t = t} {u = u} {v = v} {p = p} {k = k} n few a b c same =
     let P = take k (free_of s p) in
     let out : (q : ℕ) → Contains (let l : List ℕ = [] in l) q → ⊥ = λ q h. in_contains [] q h in
     record {
       count = k;
+      few = few;
       pages = record {
         count = c.count ∙ b.count ∙ a.pages.count;
         limit = c.limit ∙ b.limit ∙ a.pages.limit;

@@ -49,3 +49,5 @@ pub mod OneRoom
 pub mod Bounded
 pub mod Lengths
 pub mod Keeping
+pub mod Settled
+pub mod Loosened

@@ -1,5 +1,5 @@
 -- A range that is read after its hits were shared: how its holds go.
-use Rattle.std.proofs.Common.{◌≡◌, ℕ, ◌+◌, ◌-◌, ◌<◌, ◌≤◌, true, List, [], ◌∷◌, ◌++◌, IsSome, None, Some, Result, Ok, Err, IfOk, IfErr, OnErr, refl, sym, ap, ◌∙◌, arith, subst}
+use Rattle.std.proofs.Common.{◌≡◌, ℕ, ◌+◌, ◌-◌, ◌<◌, ◌≤◌, true, List, [], ◌∷◌, ◌++◌, length, IsSome, None, Some, Result, Ok, Err, IfOk, IfErr, OnErr, refl, sym, ap, ◌∙◌, arith, subst}
 use Rattle.std.specs.Prelude.{take, drop}
 use Rattle.std.specs.List.{All, AllZip}
 use Rattle.std.proofs.lemmas.List.Elements.{All-append, All-cons, All-drop, All-head, All-nil, All-tail, All-take, All-weaker}
@@ -14,6 +14,7 @@ use Rattle.iol_extent.specs.Spans.{AreInOrder, IsGapSpan}
 use Rattle.iol_extent.specs.declared.spans.Span.{Span}
 use Rattle.iol_hold.specs.Moves.{tally, Moves, Covers, SameLists}
 use Rattle.iol_hold.specs.Places.{Place, places}
+use Rattle.iol_hold.specs.Room.{pages_of}
 use Rattle.iol_hold.specs.Stored.{Stored, AllSettled}
 use Rattle.iol_hold.specs.Texts.{AllReadable, IsThere, bufs_of}
 use Rattle.iol_hold.specs.declared.slices.Slice.{Slice}
@@ -23,9 +24,10 @@ use Rattle.iol_hold.proofs.Reading.{readable_stays}
 use Rattle.iol_cache.specs.declared.files.CachedFile.{CachedFile}
 use Rattle.iol_cache.specs.Cached.{Cached, extents_in, file_in, held, all_parts}
 use Rattle.iol_cache.specs.Evicting.{GivesUp, Holding, KeepsPlaces}
-use Rattle.iol_cache.specs.Gaps.{IsMade, all_put}
+use Rattle.iol_cache.specs.Gaps.{IsMade, all_put, gap_pages}
 use Rattle.iol_cache.specs.Going.{FillsFile, Goes}
 use Rattle.iol_cache.specs.Loading.{AskCounts, Asks, PlacesSome}
+use Rattle.iol_cache.specs.Pinned.{pinned_beside}
 use Rattle.iol_cache.specs.Ranges.{IsCleanSpan}
 use Rattle.iol_cache.specs.Reading.{SameButRoom}
 use Rattle.iol_cache.specs.Serving.{FaultCounts, TellsFault, TellsRoom}
@@ -38,6 +40,7 @@ use Rattle.iol_cache.proofs.Filing.{file_same, numbered_bounds, numbered_yes}
 use Rattle.iol_cache.proofs.Filled.{order_wide}
 use Rattle.iol_cache.proofs.Putting.{kept_begins, zip_begins}
 use Rattle.iol_cache.proofs.Ranged.{laid_readable}
+use Rattle.iol_cache.proofs.Rooming.{at_most}
 use Rattle.iol_cache.proofs.Shared.{over_there, readable_of}
 use Rattle.iol_cache.proofs.Stepping.{sound_on}
 use Rattle.iol_cache.proofs.Undone.{NoneBegins, begins_at-put_in, none_beside, none_gaps}
@@ -61,6 +64,14 @@ if_err (Err y) Q f e = f y e
 pub on_errs : {A E P Q R S : Type 0} (r : Result A E) → OnErr r P → OnErr r Q → OnErr r R → (P → Q → R → S) → OnErr r S
 on_errs (Ok x) p q s f = tt
 on_errs (Err y) p q s f = f p q s
+
+-- each error of a result, with what holds of all
+pub told_errs : {A E P Q R : Type 0} {S : E → Type 0} (r : Result A E) → OnErr r P → OnErr r Q → OnErr r R → ((y : E) → r ≡ Err y → P → Q → R → S y) → IfErr r S
+told_errs (Ok x) p q s f = tt
+told_errs (Err y) p q s f = f y refl p q s
+
+pub told_is : {A E : Type 0} (r : Result A E) (y z : E) → r ≡ Err y → y ≡ z → r ≡ Err z
+told_is r y z told is = told ∙ ap (λ e. Err e) is
 
 pub always_err : {A E Q : Type 0} (r : Result A E) → Q → OnErr r Q
 always_err (Ok x) q = tt
@@ -91,13 +102,24 @@ faults_counted n old new (Err (refusal.PoolBusy p)) h = h
 faults_counted n old new (Err refusal.BrokenPipe) h = h
 faults_counted n old new (Err refusal.WouldBlock) h = h
 faults_counted n old new (Err (refusal.NoRoom p)) h = h
-faults_counted n old new (Err (refusal.Fault f)) h = h
+faults_counted n old new (Err (refusal.Fault f)) h = h.0
 faults_counted n old new (Err refusal.Memory) h = h
+
+-- what an error leaves, that a fault comes of a range that was asked for, and want of room where room is lacking
+pub told_late : {A : Type 0} {U : Refusal → Type 0} (n : ℕ) (old new : Disk) (has lacks : Type 0) (r : Result A Refusal) (P : Refusal → Type 0) → AskCounts n old new r → TellsRoom has lacks r
+    → ((y : Refusal) → ((g : ℕ) → y ≡ refusal.Fault g → 0 < n) → ((p : ℕ) → y ≡ refusal.NoRoom p → lacks) → U y → P y) → IfErr r U → IfErr r P
+told_late n old new has lacks (Ok x) P counts room f u = tt
+told_late {A = A} n old new has lacks (Err y) P counts room f u = f y (λ g is. (subst (λ z. AskCounts {A = A} n old new (Err z)) is counts).1) (λ p is. subst (λ z. TellsRoom {A = A} has lacks (Err z)) is room) u
 
 pub tells_fault : {A : Type 0} (n : ℕ) (old new : Disk) (r : Result A Refusal) → Asks n old new r → TellsFault old new r
 tells_fault n old new r h = record { honest = h.honest; slots = h.slots; counts = faults_counted n old new r h.counts }
 
 -- Room.
+
+-- where room is lacking, a gap wants it
+pub some_lacked : (s : Stored) (clean : List BufId) (p : ℕ) (gaps : List Span) → length (pages_of s p) < pinned_beside s clean p + gap_pages gaps → 0 < length gaps
+some_lacked s clean p [] lacks = absurd (omega (arith, lacks, at_most s clean (pages_of s p)))
+some_lacked s clean p (g ∷ gs) lacks = omega arith
 
 pub tells_has : {A : Type 0} (has lacks : Type 0) (r : Result A Refusal) → has → ((p : ℕ) → r ≡ Err (refusal.NoRoom p) → ⊥) → TellsRoom has lacks r
 tells_has has lacks (Ok x) h none = h
@@ -144,18 +166,18 @@ tells_more has lacks more less (Err refusal.Memory) g k h = tt
 pub same_none : (c : Cached) → SameButRoom c c
 same_none c = record { pools = λ f. refl; extents = λ f. refl; files = refl; held = refl; clean = refl; entries = λ p. refl; low = λ p. refl; kept = λ p. refl; orders = refl; marks = refl }
 
-pub places_none : (s : Stored) (p : ℕ) → PlacesSome s s p
-places_none s p = record { count = 0; pages = keeps_pages_same s s refl refl }
+pub places_none : (s : Stored) (p n : ℕ) → PlacesSome s s p n
+places_none s p n = record { count = 0; few = omega arith; pages = keeps_pages_same s s refl refl }
 
 -- evictions leave gaps
 pub gaps_kept : (a b : Holding) (f : ℕ) (gs : List Span) → KeepsPlaces a.cache b.cache → All (IsGapSpan (extents_in a.cache.files f)) gs → All (IsGapSpan (extents_in b.cache.files f)) gs
 gaps_kept a b f gs keeps all = All-weaker (IsGapSpan (extents_in a.cache.files f)) (IsGapSpan (extents_in b.cache.files f)) (λ g h. record { each = λ i l u. keeps.gaps f i (h.each i l u) }) gs all
 
 -- what a refused filling leaves
-pub record Undone (b c : Holding) (p : ℕ) : Type 0 where
+pub record Undone (b c : Holding) (p n : ℕ) : Type 0 where
   pub same : SameButRoom b.cache c.cache
   pub none : Moves b.store c.store [] []
-  pub back : PlacesSome b.store c.store p
+  pub back : PlacesSome b.store c.store p n
 
 -- Gaps that stand as clean extents.
 

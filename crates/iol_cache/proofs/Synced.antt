@@ -20,7 +20,8 @@ use Rattle.iol_cache.specs.Cached.{Cached, extents_in, file_in, held, all_parts}
 use Rattle.iol_cache.specs.Contents.{AreStored, Mirrors, byte_in, bytes_in_slot, file_bytes}
 use Rattle.iol_cache.specs.Evicting.{Holding}
 use Rattle.iol_cache.specs.Sound.{Each, IsLaid, IsSound}
-use Rattle.iol_cache.specs.Syncing.{Cleans, Fails, KeepsBytes, KeepsStored, Syncs, cleaned_at, first_cleaned}
+use Rattle.iol_cache.specs.Syncing.{Cleans, Fails, KeepsBytes, KeepsStored, Syncs, first_cleaned}
+use Rattle.iol_extent.specs.Extents.{cleaned_at}
 use Rattle.iol_cache.specs.Writing.{Changes}
 use Rattle.iol_cache.proofs.Changed.{sound_changed}
 use Rattle.iol_cache.proofs.Cleaned.{bytes_alike, cleaned_more, count-cleaned, end-cleaned, first_dirty, laid-cleaned, parts-cleaned, read-cleaned, stored-cleaned, torn_byte, torn_len, torn_stored}

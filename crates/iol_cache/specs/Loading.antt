@@ -35,7 +35,7 @@ pub record ReadsPart {E : Type 0} (s t : Stored) (p : Part) (disk : Disk) (bytes
 -- where it had to ask and did not fail, the store still answers.
 abbrev pub AskCounts : {A : Type 0} → (ranges : ℕ) → (old new : Disk) → Result A Refusal → Type 0
 AskCounts ranges old new (Ok x) = (new.failures ≡ old.failures) × (0 < ranges → old.failures < last_failure)
-AskCounts ranges old new (Err (Fault f)) = new.failures ≡ raised old.failures
+AskCounts ranges old new (Err (Fault f)) = (new.failures ≡ raised old.failures) × (0 < ranges)
 AskCounts ranges old new (Err x) = new.failures ≡ old.failures
 
 pub record Asks {A : Type 0} (ranges : ℕ) (old new : Disk) (r : Result A Refusal) : Type 0 where
@@ -52,7 +52,8 @@ pub record PlacesPages (old new : Stored) (pool k : ℕ) : Type 0 where
   pub free : free_of new pool ≡ drop k (free_of old pool)
   pub pools : new.pools ≡ old.pools
 
--- some of the lowest free pages of a pool were filled, and what was made on them is gone
-pub record PlacesSome (old new : Stored) (pool : ℕ) : Type 0 where
+-- some of the lowest free pages of a pool were filled, at most so many, and what was made on them is gone
+pub record PlacesSome (old new : Stored) (pool most : ℕ) : Type 0 where
   pub count : ℕ
+  pub few : count ≤ most
   pub pages : KeepsPages old new (take count (free_of old pool))

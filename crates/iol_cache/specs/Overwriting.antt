@@ -62,8 +62,13 @@ pub record MakesRoom (pool n : ℕ) (old new : Holding) : Type 0 where
 pub record OnlyMakesRoom (pool n : ℕ) (old new : Holding) : Type 0 where
   pub mid : Holding
   pub room : MakesRoom pool n old mid
-  pub placed : PlacesSome mid.store new.store pool
+  pub placed : PlacesSome mid.store new.store pool n
   pub cache : new.cache ≡ mid.cache
+
+-- no page, extent, entry or height changed: at most room for extents and entries was reserved
+pub record LeavesAll (old new : Holding) : Type 0 where
+  pub store : new.store ≡ old.store
+  pub same : SameButRoom old.cache new.cache
 
 -- The bytes of the source and the parts beside them were prepared, and came in the place of what the range met.
 pub record Overwrites (f at : ℕ) (source : List Slice) (old new : Holding) : Type 0 where

@@ -1,5 +1,7 @@
 -- A range of a file that is read, step by step.
 use Rattle.std.specs.Prelude.{◌≡◌, ℕ, ◌≤◌, false, List, [], length, All, Some}
+use Rattle.iol_core.specs.declared.refusals.Refusal.{Refusal}
+use Rattle.iol_core.specs.declared.refusals.Refusal.TheVariants.{NoRoom}
 use Rattle.iol_back.specs.Disk.{Disk}
 use Rattle.iol_extent.specs.Extents.{Extent, begins_at, end_of}
 use Rattle.iol_extent.specs.Spans.{Tile}
@@ -50,16 +52,17 @@ pub record FillsAfter (f from to : ℕ) (pins : List Slice) (gaps : List Span) (
   pub released : Moves full.store new.store (bufs_of pins) []
   pub frees : FreesOnly full.store new.store
 
--- Room was made for the gaps, or as far as there is room; nothing is left of what was made of them, and what was shared
--- beside them was released.
-pub record UndoesAfter (f : ℕ) (pins : List Slice) (gaps : List Span) (old new : Holding) : Type 0 where
+-- Room was made for the gaps; nothing is left of what was made of them, and what was shared beside them was released. Where
+-- there is no room no extent went, and no page was filled.
+pub record UndoesAfter (f : ℕ) (pins : List Slice) (gaps : List Span) (old new : Holding) (x : Refusal) : Type 0 where
   pub mid : Holding
   pub victims : EvictsAll (file_in old.cache.files f).pool (Some (gap_pages gaps)) old mid
   pub less : GivesUp old mid
   pub full : Holding
+  pub kept : (p : ℕ) → x ≡ NoRoom p → full ≡ old
   pub same : SameButRoom mid.cache full.cache
   pub moves : Moves mid.store full.store [] []
-  pub placed : PlacesSome mid.store full.store (file_in old.cache.files f).pool
+  pub placed : PlacesSome mid.store full.store (file_in old.cache.files f).pool (gap_pages gaps)
   pub lists : SameLists mid.store full.store
   pub cache : new.cache ≡ full.cache
   pub released : Moves full.store new.store (bufs_of pins) []

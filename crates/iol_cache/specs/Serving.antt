@@ -72,13 +72,15 @@ pub record ReadsRange (f from to : ℕ) (disk : Disk) (old new : Holding) (xs : 
   pub answers : 0 < length gaps → disk.failures < last_failure
 
 -- The hits of a range were shared and counted, and extents went to make room for its gaps. What was made of these is gone,
--- and what was shared was released.
-pub record GivesBack (f from to : ℕ) (old new : Holding) : Type 0 where
+-- and what was shared was released. Where nothing was missing there is neither a fault nor want of room.
+pub record GivesBack (f from to : ℕ) (old new : Holding) (x : Refusal) : Type 0 where
   pub pins : List Slice
   pub gaps : List Span
+  pub faults : (g : ℕ) → x ≡ Fault g → 0 < length gaps
+  pub roomy : (p : ℕ) → x ≡ NoRoom p → 0 < length gaps
   pub hit : Holding
   pub pinned : PinsRange f from to old hit pins gaps
-  pub undone : UndoesAfter f pins gaps hit new
+  pub undone : UndoesAfter f pins gaps hit new x
 
 -- Nothing changed but room for what may come.
 pub record ReservesOnly (old new : Holding) : Type 0 where
@@ -88,7 +90,7 @@ pub record ReservesOnly (old new : Holding) : Type 0 where
 
 -- A read of a range was refused: for want of memory before its hits were shared, or after that.
 abbrev pub LeavesRange : (f from to : ℕ) → (old new : Holding) → Refusal → Type 0
-LeavesRange f from to old new x = ((x ≡ Memory) × ReservesOnly old new) ⊎ GivesBack f from to old new
+LeavesRange f from to old new x = ((x ≡ Memory) × ReservesOnly old new) ⊎ GivesBack f from to old new x
 
 -- A file was read: n bytes from `at` on, as far as it goes.
 pub record ReadsFile (f at n : ℕ) (disk : Disk) (old new : Holding) (xs : List Slice) : Type 0 where

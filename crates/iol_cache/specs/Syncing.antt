@@ -1,11 +1,11 @@
 -- Dirty extents that are written back.
-use Rattle.std.specs.Prelude.{Bool, ◌≡◌, ℕ, zero, suc, ◌+◌, ◌-◌, ◌<◌, ◌≤◌, ◌⊎◌, ◌==◌, true, false, if◌then◌else◌, List, [], ◌∷◌, map, length, max, slice_index, Result, Ok, Err, OnErr, OnOk, Some, None}
+use Rattle.std.specs.Prelude.{Bool, ◌≡◌, ℕ, zero, suc, ◌+◌, ◌-◌, ◌<◌, ◌≤◌, ◌⊎◌, true, false, if◌then◌else◌, List, [], ◌∷◌, map, length, max, slice_index, Result, Ok, Err, OnErr, OnOk, Some, None}
 use Rattle.iol_back.specs.Disk.{Disk, IfHonest, OthersStay, Succeeds, Tears, content, raised}
 use Rattle.iol_core.specs.Text as text
 use Rattle.iol_core.specs.declared.refusals.Refusal.{Refusal}
 use Rattle.iol_core.specs.declared.refusals.Refusal.TheVariants.{Fault}
 use Rattle.iol_evict.specs.Ranking.{Ranking, entered, with_one_given_back}
-use Rattle.iol_extent.specs.Extents.{Extent, ExtentMap, IsApart, dirty_in, extent_of}
+use Rattle.iol_extent.specs.Extents.{Extent, ExtentMap, IsApart, as_clean, cleaned_at, dirty_in}
 use Rattle.iol_hold.specs.Places.{byte_len}
 use Rattle.iol_hold.specs.Stored.{Stored}
 use Rattle.iol_hold.specs.Texts.{text_of}
@@ -40,14 +40,6 @@ pub record WritesBack {A E : Type 0} (file at : ℕ) (bytes : List ℕ) (old new
 
 -- Extents that become clean.
 
-abbrev pub as_clean : Extent → Extent
-as_clean e = extent_of e.at e.parts false
-
--- the extent that begins at a place is clean
-abbrev pub cleaned_at : List Extent → (at : ℕ) → List Extent
-cleaned_at [] at = []
-cleaned_at (e ∷ es) at = if e.at == at then as_clean e ∷ es else e ∷ cleaned_at es at
-
 -- the first n dirty extents are clean
 abbrev pub first_cleaned : (n : ℕ) → List Extent → List Extent
 first_cleaned zero es = es
@@ -56,12 +48,6 @@ first_cleaned (suc n) (e ∷ es) = if e.dirty then as_clean e ∷ first_cleaned 
 
 abbrev pub all_cleaned : List Extent → List Extent
 all_cleaned es = map as_clean es
-
--- the first dirty extent begins there
-pub record IsFirstDirty (es : List Extent) (at : ℕ) : Type 0 where
-  pub extent : Extent
-  pub is : dirty_in es ≡ Some extent
-  pub begins : extent.at ≡ at
 
 -- What stays, where an honest store is written.
 

@@ -157,7 +157,7 @@ pub(crate) fn compose(
     ensures composes { IfOk result
         (Composes store.old store.new pool (copied_pages pool source.now) source.now) }
     ensures none { OnErr result (Moves store.old store.new [] []) }
-    ensures given_back { OnErr result (PlacesSome store.old store.new pool) }
+    ensures given_back { OnErr result (PlacesSome store.old store.new pool (copied_pages pool source.now)) }
     ensures lists { SameLists store.old store.new }
     ensures settles { AllSettled store.old → AllSettled store.new }
     ensures no_room { (p : ℕ) → result ≡ Err (Refusal.NoRoom p) →

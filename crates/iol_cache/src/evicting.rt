@@ -58,9 +58,9 @@ impl Cache {
         agg.release(store);
     }
 
-    /// Evicts clean extents of the pool's files, those that go first, until so many pages of the pool are free. False:
-    /// there is no room for so many.
-    pub fn make_room(&mut self, store: &mut Store, pool: PoolId, pages: u32) -> bool
+    // Evicts clean extents of the pool's files, those that go first, until so many pages of the pool are free. False:
+    // there is no room for so many.
+    fn evict_for(&mut self, store: &mut Store, pool: PoolId, pages: u32) -> bool
         requires sound { IsSound store.old (cached_of self.old) }
         requires open { (pool_in store.old.pools pool).closed ≡ false }
         ensures room { let clean = clean_held (cached_of self.old).files in
@@ -80,6 +80,45 @@ impl Cache {
             self.evict(store, place.0, place.1, &mut passed);
         }
         true
+    }
+
+    // Whether so many pages of the pool are free, or would be if clean extents were evicted.
+    fn has_room(&self, store: &Store, pool: PoolId, pages: u32) -> bool
+        requires sound { IsSound store.now (cached_of self.now) }
+        requires open { (pool_in store.now.pools pool).closed ≡ false }
+        ensures { let clean = clean_held (cached_of self.now).files in
+            IsTrue result ↔
+            (pinned_beside store.now clean pool + pages ≤ length (pages_of store.now pool)) }
+    {
+        if pages <= store.free_count(pool) {
+            return true;
+        }
+        store.can_free(pool, pages, self.marks.as_slice())
+    }
+
+    /// Evicts clean extents of the pool's files, those that go first, until so many pages of the pool are free. False:
+    /// there is no room for so many, and nothing has changed.
+    pub fn make_room(&mut self, store: &mut Store, pool: PoolId, pages: u32) -> bool
+        requires sound { IsSound store.old (cached_of self.old) }
+        requires open { (pool_in store.old.pools pool).closed ≡ false }
+        ensures room { let clean = clean_held (cached_of self.old).files in
+            IsTrue result ↔
+            (pinned_beside store.old clean pool + pages ≤ length (pages_of store.old pool)) }
+        ensures free { IsTrue result → pages ≤ length (free_of store.new pool) }
+        ensures victims { EvictsAll pool (Some pages) (holding store.old self.old)
+            (holding store.new self.new) }
+        ensures gives_up { GivesUp (holding store.old self.old) (holding store.new self.new) }
+        ensures sound { IsSound store.new (cached_of self.new) }
+        ensures refused { result ≡ false →
+            holding store.new self.new ≡ holding store.old self.old }
+    {
+        if pages == 0 {
+            return true;
+        }
+        if !self.has_room(store, pool, pages) {
+            return false;
+        }
+        self.evict_for(store, pool, pages)
     }
 
     // Evicts all clean extents of the pool's files, those that go first before the others.

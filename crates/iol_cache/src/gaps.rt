@@ -149,7 +149,7 @@ pub(crate) fn fill_gaps<B: Backing>(
     ensures apart { IsApart 0 extents.new.extents }
     ensures same { OnErr result (extents.new ≡ extents.old) }
     ensures none { OnErr result (Moves store.old store.new [] []) }
-    ensures given_back { OnErr result (PlacesSome store.old store.new pool) }
+    ensures given_back { OnErr result (PlacesSome store.old store.new pool (gap_pages gaps.now)) }
     ensures lists { SameLists store.old store.new }
     ensures settles { AllSettled store.old → AllSettled store.new }
     ensures no_room { (p : ℕ) → result ≡ Err (Refusal.NoRoom p) →

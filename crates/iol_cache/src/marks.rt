@@ -62,6 +62,13 @@ impl CleanHolds {
         Ok(CleanHolds { marks })
     }
 
+    /// For each page, how many there are.
+    pub(crate) fn as_slice(&self) -> &[u64]
+        ensures { result.now ≡ self.now }
+    {
+        self.marks.as_slice()
+    }
+
     /// Counts the slices of an extent that becomes clean.
     pub(crate) fn mark(&mut self, slices: &[Slice])
         requires within { AreWithin (length self.old) slices.now }

@@ -46,7 +46,7 @@ pub(crate) fn prepare(
     ensures prepares { IfOk result (λ x. Prepares store.old store.new pool extents.now.extents
         at source.now x.0 x.1 x.2) }
     ensures none { OnErr result (Moves store.old store.new [] []) }
-    ensures given_back { OnErr result (PlacesSome store.old store.new pool) }
+    ensures given_back { OnErr result (PlacesSome store.old store.new pool (copied_pages pool source.now)) }
     ensures lists { SameLists store.old store.new }
     ensures settles { AllSettled store.old → AllSettled store.new }
     ensures no_room { (p : ℕ) → result ≡ Err (Refusal.NoRoom p) →

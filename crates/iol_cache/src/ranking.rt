@@ -29,8 +29,14 @@ pub(crate) fn count_hits(order: &mut Order, extents: &Extents, file: FileId, hit
     }
 }
 
-// Marks the extent that begins at a place, and lets it into the order.
-fn enter_one(order: &mut Order, marks: &mut CleanHolds, extents: &Extents, file: FileId, at: u32)
+/// Marks the extent that begins at a place, and lets it into the order.
+pub(crate) fn enter_one(
+    order: &mut Order,
+    marks: &mut CleanHolds,
+    extents: &Extents,
+    file: FileId,
+    at: u32,
+)
     requires apart { IsApart 0 extents.now.extents }
     requires begins { IsSome (begins_at extents.now.extents at) }
     requires absent { entries_at file at order.old.entries ≡ 0 }

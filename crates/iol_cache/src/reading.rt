@@ -117,7 +117,7 @@ impl Cache {
         ensures same { OnErr result (SameButRoom (cached_of self.old) (cached_of self.new)) }
         ensures none { OnErr result (Moves store.old store.new [] []) }
         ensures given_back { OnErr result
-            (PlacesSome store.old store.new (file_in self.old.files.items file).pool) }
+            (PlacesSome store.old store.new (file_in self.old.files.items file).pool (gap_pages gaps.now)) }
         ensures lists { SameLists store.old store.new }
         ensures settles { AllSettled store.old → AllSettled store.new }
         ensures no_room { (p : ℕ) → result ≡ Err (Refusal.NoRoom p) →

@@ -64,7 +64,7 @@ impl Cache {
         requires few { CountsBelow store.old (2 ^ 60) }
         ensures filled { IfOk result (FillsAfter file from to pins gaps.now (B.disk backing.old)
             (holding store.old self.old) (holding store.new self.new)) }
-        ensures undone { OnErr result (UndoesAfter file pins gaps.now
+        ensures undone { IfErr result (UndoesAfter file pins gaps.now
             (holding store.old self.old) (holding store.new self.new)) }
         ensures readable { IfOk result (AllReadable store.new) }
         ensures goes { IfOk result (λ a. Goes (B.disk backing.old) (bufs_of pins) (bufs_of a)
@@ -153,7 +153,8 @@ impl Cache {
     ///
     /// The bytes that are in memory are shared. Room is made for the others, which are read into clean extents: all of
     /// them, or none. It is refused where the pages that are pinned and wanted do not fit the file's pool (`NoRoom`), where
-    /// the store fails (`Fault`), and for want of memory. A refusal leaves no extent, only evictions and hits that count.
+    /// the store fails (`Fault`), and for want of memory. A refusal leaves no extent, only evictions and hits that count:
+    /// where there is no room, no evictions either. Where nothing is missing neither room nor the store is asked for.
     pub fn read<B: Backing>(
         &mut self,
         alloc: Global,

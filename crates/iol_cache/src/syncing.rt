@@ -9,7 +9,8 @@ ghost use Rattle.iol_cache.specs.Sound.{IsSound};
 ghost use Rattle.iol_cache.specs.Marks.{AreWithin, HasMarksLeft};
 ghost use Rattle.iol_cache.specs.Reading.{RanksFile};
 ghost use Rattle.iol_cache.specs.Replacing.{Reindexes, IsReady};
-ghost use Rattle.iol_cache.specs.Syncing.{IsFirstDirty, Flushes, KeepsBytes, KeepsStored, StoresFirst, Syncs, WritesBack, WritesDirty, cleaned_at};
+ghost use Rattle.iol_cache.specs.Syncing.{Flushes, KeepsBytes, KeepsStored, StoresFirst, Syncs, WritesBack, WritesDirty};
+ghost use Rattle.iol_extent.specs.Extents.{IsFirstDirty, cleaned_at};
 ghost use Rattle.iol_back.specs.Disk.{raised};
 ghost use Rattle.iol_core.specs.Meaning.{FaultOf};
 ghost use Rattle.iol_extent.specs.Extents.{IsApart, begins_at, dirty_in, last_end};
@@ -18,11 +19,9 @@ ghost use Rattle.iol_hold.specs.Places.{byte_len};
 ghost use Rattle.iol_hold.specs.Texts.{AllReadable, text_of};
 
 use crate::cache::Cache;
-use crate::cutting::Edge;
 use crate::marks::CleanHolds;
-use crate::replacing::put_edge;
+use crate::ranking::enter_one;
 use iol_back::backing::{Backing, StoreFault};
-use iol_core::limits::MAX_FILE_BYTES;
 use iol_core::numbers::FileId;
 use iol_core::refusals::Refusal;
 use iol_evict::order::Order;
@@ -63,11 +62,10 @@ fn write_back<B: Backing>(
     Ok(())
 }
 
-// The first dirty extent becomes clean, which begins at a place: it is marked, and enters the order in the place that was
+// The first dirty extent becomes clean where it stands, which begins at a place: it is marked, and enters the order in the place that was
 // kept for it.
 fn settle(order: &mut Order, marks: &mut CleanHolds, extents: &mut Extents, file: FileId, at: u32)
     requires apart { IsApart 0 extents.old.extents }
-    requires short { last_end extents.old.extents ≤ MAX_FILE_BYTES }
     requires dirty { IsFirstDirty extents.old.extents at }
     requires ranked { RanksFile order.old file extents.old.extents }
     requires ready { IsReady order.old extents.old.extents }
@@ -80,14 +78,9 @@ fn settle(order: &mut Order, marks: &mut CleanHolds, extents: &mut Extents, file
     ensures order { IfSome (dirty_in extents.old.extents) (λ e. order.new ≡
         entered (with_one_given_back order.old) file e.at (byte_len e.parts) 1) }
 {
-    let agg = extents.remove(at);
     order.give_back();
-    let edge = Edge {
-        at,
-        agg,
-        dirty: false,
-    };
-    put_edge(order, marks, extents, file, edge);
+    enter_one(order, marks, extents, file, at);
+    extents.clean(at);
 }
 
 impl Cache {

@@ -13,7 +13,7 @@ ghost use Rattle.iol_cache.specs.Cached.{clean_held, extents_in, file_in, held, 
 ghost use Rattle.iol_cache.specs.Composing.{copied_pages};
 ghost use Rattle.iol_cache.specs.Cutting.{CutsLeft, CutsRight};
 ghost use Rattle.iol_cache.specs.Loading.{PlacesSome};
-ghost use Rattle.iol_cache.specs.Overwriting.{IsWritten, KeepsFiles, KeepsMirrors, KeepsOthers, LiesDirty, MakesRoom, OnlyMakesRoom, Overwrites, WritesFile};
+ghost use Rattle.iol_cache.specs.Overwriting.{IsWritten, KeepsFiles, KeepsMirrors, KeepsOthers, LeavesAll, LiesDirty, MakesRoom, OnlyMakesRoom, Overwrites, WritesFile};
 ghost use Rattle.iol_cache.specs.Paging.{FillsLowest};
 ghost use Rattle.iol_cache.specs.Pinned.{pinned_beside};
 ghost use Rattle.iol_cache.specs.Sharing.{CountsBelow};
@@ -97,6 +97,8 @@ impl Cache {
             let clean = clean_held self.old.files.items in
             (q : ℕ) → result ≡ Err (Refusal.NoRoom q) → length (pages_of store.old p) <
             pinned_beside store.old clean p + copied_pages p source.now }
+        ensures kept { (q : ℕ) → result ≡ Err (Refusal.NoRoom q) →
+            LeavesAll (holding store.old self.old) (holding store.new self.new) }
         ensures late { IfErr result (WantOfRoom (file_in self.old.files.items file).pool) }
         ensures extents { OnOk result (3 ≤ (file_in self.new.files.items file).extents.room) }
         ensures entries { let p = (file_in self.old.files.items file).pool in
@@ -138,7 +140,7 @@ impl Cache {
         ensures same { OnErr result (self.new ≡ self.old) }
         ensures none { OnErr result (Moves store.old store.new [] []) }
         ensures given_back { OnErr result
-            (PlacesSome store.old store.new (file_in self.old.files.items file).pool) }
+            (let p = (file_in self.old.files.items file).pool in PlacesSome store.old store.new p (copied_pages p source.now)) }
         ensures lists { SameLists store.old store.new }
         ensures settles { AllSettled store.old → AllSettled store.new }
         ensures no_room { let p = (file_in self.old.files.items file).pool in
@@ -171,8 +173,8 @@ impl Cache {
     /// Writes the bytes of an aggregate over those of a file, from byte `at` on, as one dirty extent. Those that lie in the
     /// file's pool are shared, and the others are copied there.
     ///
-    /// Refused, no file has changed, though clean extents may have gone: `NoRoom` where pinned pages and those for the copies
-    /// are more than the pool has, and `Memory`.
+    /// Refused, no file has changed: `NoRoom` where pinned pages and those for the copies are more than the pool has, which
+    /// leaves each extent and the order, and `Memory`, before which clean extents may have gone.
     pub fn write(
         &mut self,
         alloc: Global,
@@ -215,6 +217,8 @@ impl Cache {
             let clean = clean_held (cached_of self.old).files in
             (q : ℕ) → result ≡ Err (Refusal.NoRoom q) → length (pages_of store.old p) <
             pinned_beside store.old clean p + copied_pages p source.now }
+        ensures kept { (q : ℕ) → result ≡ Err (Refusal.NoRoom q) →
+            LeavesAll (holding store.old self.old) (holding store.new self.new) }
         ensures late { IfErr result (WantOfRoom (file_in (cached_of self.old).files file).pool) }
 
         // Holds come and go with the extents alone, live buffers keep their bytes, and pages are filled as in a read.

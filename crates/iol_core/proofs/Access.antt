@@ -8,7 +8,7 @@ use Rattle.iol_core.specs.State.{State, Domain, Connection, domain, may_read, de
 use Rattle.iol_core.specs.Meaning.{Meaning, Step, first}
 use Rattle.iol_core.specs.Access.{may_see, MaySeeAll, MayReadFiles, HasAccess}
 use Rattle.iol_core.specs.Calls.Domains.{domain_new, exit}
-use Rattle.iol_core.specs.Calls.Pools.{pool_create, pool_close, set_pool, distinct}
+use Rattle.iol_core.specs.Calls.Pools.{pool_create, pool_close, pool_admit, set_pool, distinct}
 use Rattle.iol_core.specs.Calls.Aggregates as aggs
 use Rattle.iol_core.specs.Calls.Descriptors as fds
 use Rattle.iol_core.specs.Calls.Files as files
@@ -26,7 +26,7 @@ use Rattle.iol_core.specs.declared.events.Call.TheVariants as call
 use Rattle.iol_core.specs.declared.events.Event.{Event}
 use Rattle.iol_core.specs.declared.events.Event.TheVariants as event
 use Rattle.iol_core.specs.declared.events.Reply.{Reply}
-use Rattle.iol_core.proofs.Lookups.{domain-same, domain-push, domain-new_state, may_read-push, may_read-closed, may_read-same, file-push}
+use Rattle.iol_core.proofs.Lookups.{domain-same, domain-push, domain-new_state, may_read-push, may_read-closed, may_read-admitted, may_read-same, file-push}
 use Rattle.iol_core.proofs.Passing.{list_all-weaker, list_all-take, list_all-drop, list_all-without, list_all-both, list_all-pair, list_all-barred, list_all-take_while, list_all-labelled, passed, when-none, when-not}
 use Rattle.iol_core.proofs.Kept.{IsAllowed, allowed, KeepsReaders, files_same, access_after, access_same, access_domain, access_pipe, access_conn, access_content, access_fds, access_with_new, access_with_agg, access_without_agg, may_see-text, MayHave, may_read_files-closed_on, may_read_files-opened, may_read-freed, may_read-placed, access_opened, access_moved, may_have-file, may_have-open, access_closed_on, access_all_closed}
 
@@ -57,6 +57,11 @@ access_pool_close : (s : State) (by p : ℕ) → KeepsAccess s (pool_close s by 
 unfolding domain
 access_pool_close s by p h unrefused =
     access_after s (pool_close s by p).after (may_read-closed s p) (files_same s (pool_close s by p).after (may_read-closed s p) refl) (allowed s h)
+
+access_pool_admit : (s : State) (by p d : ℕ) → KeepsAccess s (pool_admit s by p d)
+unfolding domain
+access_pool_admit s by p d h unrefused =
+    access_after s (pool_admit s by p d).after (may_read-admitted s p d) (files_same s (pool_admit s by p d).after (may_read-admitted s p d) refl) (allowed s h)
 
 access_set_pool : (s : State) (by p : ℕ) → KeepsAccess s (set_pool s by p)
 access_set_pool s by p h unrefused =
@@ -294,6 +299,7 @@ access_called s by call.DomainNew = access_domain_new s by
 access_called s by call.Exit = access_exit s by
 access_called s by (call.PoolCreate chunks list) = access_pool_create s by chunks list
 access_called s by (call.PoolClose p) = access_pool_close s by p
+access_called s by (call.PoolAdmit p d) = access_pool_admit s by p d
 access_called s by (call.SetPool p) = access_set_pool s by p
 access_called s by (call.AggMake bytes) = access_agg_make s by bytes
 access_called s by (call.AggDup a) = access_agg_dup s by a

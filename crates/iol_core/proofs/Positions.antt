@@ -12,7 +12,7 @@ use Rattle.iol_core.specs.Meaning.{Meaning, Step, first}
 use Rattle.iol_core.specs.Positions.{ArePlaced, IsPlace}
 use Rattle.iol_core.specs.declared.limits.TheConstants.{MAX_FILES}
 use Rattle.iol_core.specs.Calls.Domains.{domain_new, exit}
-use Rattle.iol_core.specs.Calls.Pools.{pool_create, pool_close}
+use Rattle.iol_core.specs.Calls.Pools.{pool_create, pool_close, pool_admit}
 use Rattle.iol_core.specs.Calls.Aggregates as aggs
 use Rattle.iol_core.specs.Calls.Descriptors as fds
 use Rattle.iol_core.specs.Calls.Files as files
@@ -397,6 +397,7 @@ placed_called s by call.DomainNew h un = placed_domain_new s by h
 placed_called s by call.Exit h un = placed_exit s by h
 placed_called s by (call.PoolCreate chunks list) h un = placed_same s (pool_create s by chunks list).after h refl refl refl
 placed_called s by (call.PoolClose p) h un = placed_same s (pool_close s by p).after h refl refl refl
+placed_called s by (call.PoolAdmit p d) h un = placed_same s (pool_admit s by p d).after h refl refl refl
 placed_called s by (call.SetPool p) h un = placed_kept s by _ refl h
 placed_called s by (call.AggMake bytes) h un = placed_kept s by _ refl h
 placed_called s by (call.AggDup a) h un = placed_kept s by _ refl h

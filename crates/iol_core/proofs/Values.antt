@@ -11,7 +11,7 @@ use Rattle.iol_core.specs.State.{State, Domain, Pipe, Connection, domain, aggreg
 use Rattle.iol_core.specs.Meaning.{Meaning, Step}
 use Rattle.iol_core.specs.Values.{gives_up, ValuesStay}
 use Rattle.iol_core.specs.Calls.Domains.{domain_new, exit}
-use Rattle.iol_core.specs.Calls.Pools.{pool_create, pool_close}
+use Rattle.iol_core.specs.Calls.Pools.{pool_create, pool_close, pool_admit}
 use Rattle.iol_core.specs.Calls.Aggregates as aggs
 use Rattle.iol_core.specs.Calls.Descriptors as fds
 use Rattle.iol_core.specs.Calls.Files as files
@@ -272,6 +272,7 @@ values_called s by call.DomainNew = values_domain_new s by
 values_called s by call.Exit = values_exit s by
 values_called s by (call.PoolCreate chunks list) = values_same s (pool_create s by chunks list).after refl
 values_called s by (call.PoolClose p) = values_same s (pool_close s by p).after refl
+values_called s by (call.PoolAdmit p d) = values_same s (pool_admit s by p d).after refl
 values_called s by (call.SetPool p) = values_domain s by (record (domain s by) { default = Some p }) nothing (λ a x is kept. is)
 values_called s by (call.AggMake bytes) = values_with_agg s by (labelled (aggs.default_pool s by) bytes)
 values_called s by (call.AggDup a) = values_agg_dup s by a

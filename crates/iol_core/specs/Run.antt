@@ -3,7 +3,7 @@ use Rattle.std.specs.Prelude.{◌≡◌, ℕ, List, [], ◌∷◌, Result, Ok, E
 use Rattle.iol_core.specs.State.{State}
 use Rattle.iol_core.specs.Meaning.{Meaning, Step}
 use Rattle.iol_core.specs.Calls.Domains.{domain_new, exit}
-use Rattle.iol_core.specs.Calls.Pools.{pool_create, pool_close, set_pool}
+use Rattle.iol_core.specs.Calls.Pools.{pool_create, pool_close, pool_admit, set_pool}
 use Rattle.iol_core.specs.Calls.Aggregates.{agg_make, agg_dup, agg_cut, agg_split, agg_join, agg_replace, agg_drop, agg_give, show}
 use Rattle.iol_core.specs.Calls.Descriptors.{pipe, give_fd, close, accept}
 use Rattle.iol_core.specs.Calls.Files.{file_new, open_file, seek, file_length, fsync}
@@ -31,6 +31,7 @@ called s by call.DomainNew = replied reply.Domain (domain_new s by)
 called s by call.Exit = replied done (exit s by)
 called s by (call.PoolCreate chunks list) = replied reply.Pool (pool_create s by chunks list)
 called s by (call.PoolClose p) = replied done (pool_close s by p)
+called s by (call.PoolAdmit p d) = replied done (pool_admit s by p d)
 called s by (call.SetPool p) = replied done (set_pool s by p)
 called s by (call.AggMake bytes) = replied reply.Agg (agg_make s by bytes)
 called s by (call.AggDup a) = replied reply.Agg (agg_dup s by a)

@@ -24,6 +24,12 @@ pub enum Call {
         pool: PoolId,
     },
 
+    /// Adds a live domain to the at most 16 that may read a pool, of which the caller is one. Answers `Done`.
+    PoolAdmit {
+        pool: PoolId,
+        domain: DomainId,
+    },
+
     /// Makes a pool the caller's default, where the bytes that it makes are placed. Answers `Done`.
     SetPool {
         pool: PoolId,

@@ -24,3 +24,7 @@ dirty_within [] zero = omega arith
 dirty_within [] (suc i) = omega arith
 dirty_within (x ∷ es) zero = omega arith
 dirty_within (x ∷ es) (suc i) = omega (arith, sum_by-cons one_dirty x (take i es), one_few x, dirty_within es i)
+
+pub dirty_few : (es : List Extent) → dirty_count es ≤ length es
+dirty_few [] = omega arith
+dirty_few (x ∷ es) = omega (arith, sum_by-cons one_dirty x es, one_few x, dirty_few es)

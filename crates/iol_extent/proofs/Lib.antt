@@ -4,3 +4,5 @@ pub mod Tiling
 pub mod Meeting
 pub mod Alone
 pub mod Counts
+pub mod Clearing
+pub mod Keys

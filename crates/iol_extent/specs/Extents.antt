@@ -1,5 +1,5 @@
 -- The extents of a file: in memory, between gaps that only the store has.
-use Rattle.std.specs.Prelude.{◌≡◌, ℕ, ◌+◌, ◌-◌, ◌<◌, ◌≤◌, ◌&&◌, nat_lt, nat_le, max, Bool, true, if◌then◌else◌, cond, sum_by, List, [], ◌∷◌, Option, Some, None, slice_index_or, ◌==◌}
+use Rattle.std.specs.Prelude.{◌≡◌, ℕ, ◌+◌, ◌-◌, ◌<◌, ◌≤◌, ◌&&◌, nat_lt, nat_le, max, Bool, true, false, if◌then◌else◌, cond, sum_by, List, [], ◌∷◌, Option, Some, None, slice_index_or, ◌==◌}
 use Rattle.std.specs.Borrow.{Bor}
 use Rattle.iol_hold.specs.declared.slices.Slice.{Slice}
 use Rattle.iol_hold.specs.Places.{Place, places, byte_len}
@@ -90,6 +90,25 @@ dirty_in (e ∷ es) = if e.dirty then Some e else dirty_in es
 
 abbrev pub one_dirty : Extent → ℕ
 one_dirty e = cond e.dirty 1 0
+
+-- none that begins before the place is dirty
+abbrev pub AreCleanBefore : (place : ℕ) → List Extent → Type 0
+AreCleanBefore place [] = Unit {0}
+AreCleanBefore place (e ∷ es) = (e.at < place → e.dirty ≡ false) × AreCleanBefore place es
+
+-- the first dirty extent begins there
+pub record IsFirstDirty (es : List Extent) (at : ℕ) : Type 0 where
+  pub extent : Extent
+  pub is : dirty_in es ≡ Some extent
+  pub begins : extent.at ≡ at
+
+abbrev pub as_clean : Extent → Extent
+as_clean e = extent_of e.at e.parts false
+
+-- the extent that begins at a place is clean
+abbrev pub cleaned_at : List Extent → (at : ℕ) → List Extent
+cleaned_at [] at = []
+cleaned_at (e ∷ es) at = if e.at == at then as_clean e ∷ es else e ∷ cleaned_at es at
 
 -- how many extents are dirty
 abbrev pub dirty_count : List Extent → ℕ

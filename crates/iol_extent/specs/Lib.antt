@@ -1,3 +1,4 @@
 pub mod Extents
 pub mod Spans
 pub mod Laws
+pub mod Keys

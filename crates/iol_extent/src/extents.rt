@@ -1,10 +1,11 @@
 //! The extents of a file.
-ghost use Rattle.std.specs.Prelude.{◌≡◌, ℕ, ◌+◌, ◌-◌, ◌<◌, ◌≤◌, ◌^◌, [], length, All, IfOk, IfSome, OnOk, OnErr, MatchOption, Some, None, slice_index_or, insert, remove, max, IsSome, IsTrue, true, false};
+ghost use Rattle.std.specs.Prelude.{◌≡◌, ℕ, ◌+◌, ◌-◌, ◌<◌, ◌≤◌, ◌^◌, [], length, All, IfOk, IfSome, OnOk, OnErr, MatchOption, Some, None, slice_index_or, insert, remove, max, cond, IsSome, IsTrue, true, false};
 ghost use Rattle.iol_hold.specs.Places.{byte_len};
-ghost use Rattle.iol_extent.specs.Extents.{Extent, IsFirstMet, met_in, extent_of, extent_over, extent_in, dirty_in, cover, cell_in, dirty_count, end_of, IsApart, IsGap, Adds, Lacks, last_end, begins_at, put_in, without_at};
+ghost use Rattle.iol_extent.specs.Extents.{Extent, IsFirstMet, met_in, extent_of, extent_over, extent_in, dirty_in, cover, cell_in, dirty_count, end_of, IsApart, IsGap, Adds, Lacks, last_end, begins_at, put_in, without_at, cleaned_at, IsFirstDirty};
 ghost use Rattle.iol_extent.specs.Spans.{IsHit, IsWhole, Tile};
 
-use crate::piece::{Piece, count_before, insert_piece};
+use crate::piece::Piece;
+use crate::pieces::{Pieces, count_before};
 use crate::spans::{Found, Span};
 use iol_agg::Agg;
 use std::alloc::{AllocError, Global};
@@ -16,22 +17,44 @@ use std::marker::Model;
 /// `find` wants memory.
 #[derive(Drop)]
 pub struct Extents {
-    pieces: Vec<Piece>,
-    room: usize,
+    pieces: Pieces,
+
+    // How many are dirty, and a place before which none begins that is.
+    dirty: usize,
+    clean_to: u32,
 }
 
 impl Model for Extents {
-    ghost use Rattle.std.specs.Prelude.{◌+◌, ◌≤◌, vec_len, vec_capacity};
-    ghost use Rattle.iol_extent.specs.Extents.{ExtentMap, IsApart};
+    ghost use Rattle.std.specs.Prelude.{◌≡◌};
+    ghost use Rattle.iol_extent.specs.Extents.{AreCleanBefore, ExtentMap, IsApart, dirty_count};
 
     ghost Value = { ExtentMap };
 
-    ghost view = { λ e. record { extents = e.pieces.items; room = e.room } };
+    ghost view = { λ e. e.pieces };
 
     ghost invariant = { λ e. record {
-      apart : IsApart 0 e.pieces.items;
-      room : vec_len e.pieces + e.room ≤ vec_capacity e.pieces;
+      apart : IsApart 0 e.pieces.extents;
+      dirty : e.dirty ≡ dirty_count e.pieces.extents;
+      clean : AreCleanBefore e.clean_to e.pieces.extents;
     } };
+}
+
+// How many dirty extents one is.
+fn count_dirty(dirty: bool) -> usize
+    ensures { result ≡ cond dirty 1 0 }
+{
+    if dirty { 1 } else { 0 }
+}
+
+// A place before which no extent is dirty, with one more.
+fn clean_with(clean_to: u32, at: u32, dirty: bool) -> u32
+    ensures lower { result ≤ clean_to }
+    ensures clean { at < result → dirty ≡ false }
+{
+    if dirty {
+        return clean_to.min(at);
+    }
+    clean_to
 }
 
 impl Extents {
@@ -40,8 +63,9 @@ impl Extents {
         ensures { result ≡ record { extents = []; room = 0 } }
     {
         Extents {
-            pieces: Vec::new(alloc),
-            room: 0,
+            pieces: Pieces::new(alloc),
+            dirty: 0,
+            clean_to: 0,
         }
     }
 
@@ -54,12 +78,7 @@ impl Extents {
         ensures needed { OnErr result (self.old.room < count) }
         ensures err { OnErr result (self.new.room ≡ self.old.room) }
     {
-        if count <= self.room {
-            return Ok(());
-        }
-        self.pieces.reserve(count)?;
-        self.room = count;
-        Ok(())
+        self.pieces.reserve(count)
     }
 
     /// The extent over a byte: where it begins, its bytes, and whether it is dirty.
@@ -95,13 +114,9 @@ impl Extents {
         ensures count { result ≡ dirty_count self.now.extents }
         ensures few { result ≤ length self.now.extents }
     {
-        let mut count = 0;
-        for piece in &self.pieces {
-            if piece.dirty {
-                count += 1;
-            }
-        }
-        count
+        // Tells how few there are.
+        let _count = self.pieces.len();
+        self.dirty
     }
 
     /// The end of the last extent, or 0.
@@ -116,13 +131,18 @@ impl Extents {
         piece.end()
     }
 
-    /// Where the first dirty extent begins, and its bytes.
+    /// Where the first dirty extent begins, and its bytes. The search goes on where the last one became clean.
     pub fn first_dirty(&self) -> Option<(u32, &Agg)>
         ensures { let es = self.now.extents in
             MatchOption result (dirty_in es ≡ None)
             (λ found. dirty_in es ≡ Some (extent_of found.0 found.1.now true)) }
     {
-        for piece in &self.pieces {
+        if self.dirty == 0 {
+            return None;
+        }
+        let from = count_before(&self.pieces, self.clean_to);
+        for i in from..self.pieces.len() {
+            let piece = &self.pieces[i];
             if piece.dirty {
                 return Some((piece.at, &piece.agg));
             }
@@ -213,8 +233,22 @@ impl Extents {
             last_end self.new.extents ≡ max (at + byte_len agg) old }
     {
         let place = count_before(&self.pieces, at);
-        insert_piece(&mut self.pieces, place, Piece { at, agg, dirty });
-        self.room -= 1;
+        self.pieces.insert(place, Piece { at, agg, dirty });
+        self.dirty += count_dirty(dirty);
+        self.clean_to = clean_with(self.clean_to, at, dirty);
+    }
+
+    /// The first dirty extent, which begins at a place, is clean then, where it stands.
+    pub fn clean(&mut self, at: u32)
+        requires { IsFirstDirty self.old.extents at }
+        ensures extents { self.new.extents ≡ cleaned_at self.old.extents at }
+        ensures room { self.new.room ≡ self.old.room }
+        ensures apart { IsApart 0 self.new.extents }
+    {
+        let found = count_before(&self.pieces, at);
+        self.pieces.clean(found);
+        self.dirty -= 1;
+        self.clean_to = at;
     }
 
     /// Takes the extent that begins at a place away.
@@ -233,12 +267,8 @@ impl Extents {
             (λ e. last_end old ≡ max (end_of e) (last_end self.new.extents)) }
     {
         let found = count_before(&self.pieces, at);
-        let Piece {
-            at: _,
-            agg,
-            dirty: _,
-        } = self.pieces.remove(found);
-        self.room += 1;
+        let Piece { at: _, agg, dirty } = self.pieces.remove(found);
+        self.dirty -= count_dirty(dirty);
         agg
     }
 }

@@ -17,4 +17,5 @@
 pub mod extents;
 pub mod laws;
 mod piece;
+mod pieces;
 pub mod spans;

@@ -1,7 +1,7 @@
 //! Stores: what they hold after some calls, and which call fails.
 ghost use Rattle.iol_back.specs.Disk.{IsSlot};
 
-use iol_back::backing::{Backing, StoreFault};
+use iol_back::backing::Backing;
 use iol_back::faulty::FaultyBacking;
 use iol_back::memory::MemoryBacking;
 use iol_back::slots::Slots;
@@ -10,29 +10,42 @@ use std::alloc::Global;
 use std::process::Abort;
 use std::test::Fail;
 
+// Puts bytes at the end of the first file.
+fn append<R: Abort>(rt: &R, slots: &mut Slots, text: &[u8]) {
+    slots.append(FileId::new(1), text).expect(rt, "memory");
+}
+
 // A store whose first file is "abcdef".
 fn make_store<R: Abort>(rt: &R, alloc: Global) -> MemoryBacking {
     let mut slots = Slots::new(alloc);
-    slots.append(FileId::new(1), b"abc").expect(rt, "memory");
-    slots.append(FileId::new(1), b"def").expect(rt, "memory");
+    append(rt, &mut slots, b"abc");
+    append(rt, &mut slots, b"def");
     MemoryBacking::new(slots)
 }
 
+// Whether bytes are read from a place.
+fn reads<B: Backing>(store: &mut B, file: u32, at: u32, into: &mut [u8]) -> bool {
+    store.read_at(FileId::new(file), at, into).is_ok()
+}
+
+// Whether bytes are written to a place.
+fn writes<B: Backing>(store: &mut B, file: u32, at: u32, bytes: &[u8]) -> bool {
+    store.write_at(FileId::new(file), at, bytes).is_ok()
+}
+
 // Whether this is what a file begins with.
-fn begins_with<B: Backing>(store: &mut B, file: FileId, want: &[u8; 6]) -> bool {
+fn begins_with<B: Backing>(store: &mut B, file: u32, want: &[u8; 6]) -> bool {
     let mut bytes = [0; 6];
-    store.read_at(file, 0, &mut bytes).is_ok() && bytes == *want
+    reads(store, file, 0, &mut bytes) && bytes == *want
 }
 
 // Over the end of one file, and a new one.
 fn write_and_read<R: Abort, B: Backing>(rt: &R, store: &mut B) {
-    let first = FileId::new(1);
-    let second = FileId::new(2);
-    assert_eq!(rt; store.write_at(first, 5, b"XYZ"), Ok(()));
-    assert_eq!(rt; store.length(first), 8);
-    assert!(rt; begins_with(store, first, b"abcdeX"));
-    assert_eq!(rt; store.write_at(second, 0, b"uvwxyz"), Ok(()));
-    assert!(rt; begins_with(store, second, b"uvwxyz"));
+    assert!(rt; writes(store, 1, 5, b"XYZ"));
+    assert_eq!(rt; store.length(FileId::new(1)), 8);
+    assert!(rt; begins_with(store, 1, b"abcdeX"));
+    assert!(rt; writes(store, 2, 0, b"uvwxyz"));
+    assert!(rt; begins_with(store, 2, b"uvwxyz"));
     assert_eq!(rt; store.failures(), 0);
 }
 
@@ -47,59 +60,48 @@ fn ample(rt: HostRuntime) {
 fn outside_of_files(rt: HostRuntime) {
     let mut store = make_store(&rt, rt.alloc());
     let mut two = [0; 2];
-    let fault = Err(StoreFault);
-    assert_eq!(rt;
-        store.read_at(FileId::new(1), 5, &mut two),
-        fault,
-        "past the end"
-    );
-    assert_eq!(rt;
-        store.write_at(FileId::new(1), 7, b"x"),
-        fault,
-        "begins past the end"
-    );
+    assert!(rt; !reads(&mut store, 1, 5, &mut two), "past the end");
+    assert!(rt; !writes(&mut store, 1, 7, b"x"), "begins past the end");
     for number in [0, 1025] {
-        let file = FileId::new(number);
-        assert_eq!(rt;
-            store.read_at(file, 0, &mut []),
-            fault,
+        assert!(rt;
+            !reads(&mut store, number, 0, &mut []),
             "no such file: {number}"
         );
-        assert_eq!(rt;
-            store.write_at(file, 0, b""),
-            fault,
+        assert!(rt;
+            !writes(&mut store, number, 0, b""),
             "no such file: {number}"
         );
-        assert_eq!(rt; store.length(file), 0);
+        assert_eq!(rt; store.length(FileId::new(number)), 0);
     }
     assert_eq!(rt; store.failures(), 6);
-    assert_eq!(rt; store.read_at(FileId::new(1), 4, &mut two), Ok(()));
-    assert_eq!(rt; store.write_at(FileId::new(1024), 0, b"z"), Ok(()));
+    assert!(rt; reads(&mut store, 1, 4, &mut two));
+    assert!(rt; writes(&mut store, 1024, 0, b"z"));
+}
+
+// What comes of three calls on a store whose k-th call fails: which passed, how often it failed, and what its first file has.
+fn three_calls<R: Abort>(rt: &R, alloc: Global, k: u64) -> ([bool; 3], u64, [u8; 6]) {
+    let mut store = FaultyBacking::new(make_store(rt, alloc), k);
+    let first = writes(&mut store, 1, 0, b"VW");
+    let second = writes(&mut store, 1, 2, b"XYZ");
+    let third = reads(&mut store, 1, 5, &mut [0; 1]);
+    let failures = store.failures();
+    let mut bytes = [0; 6];
+    assert!(rt; reads(&mut store, 1, 0, &mut bytes));
+    ([first, second, third], failures, bytes)
 }
 
 // The k-th of three calls fails, once; a write leaves half of its bytes.
 #[test]
 fn fault_at_each_call(rt: HostRuntime) {
-    let file = FileId::new(1);
     for (k, want) in [
         (0, b"VWXYZf"),
         (1, b"VbXYZf"),
         (2, b"VWXdef"),
         (3, b"VWXYZf"),
     ] {
-        let mut store = FaultyBacking::new(make_store(&rt, rt.alloc()), k);
-        let mut one = [0; 1];
-        let first = store.write_at(file, 0, b"VW").is_ok();
-        let second = store.write_at(file, 2, b"XYZ").is_ok();
-        let third = store.read_at(file, 5, &mut one).is_ok();
-        assert_eq!(rt;
-            (first, second, third),
-            (k != 1, k != 2, k != 3),
-            "fault at {k}"
-        );
-        assert_eq!(rt; store.failures(), u64::from(k != 0));
-        let mut bytes = [0; 6];
-        assert_eq!(rt; store.read_at(file, 0, &mut bytes), Ok(()));
+        let (passed, failures, bytes) = three_calls(&rt, rt.alloc(), k);
+        assert!(rt; passed == [k != 1, k != 2, k != 3], "fault at {k}");
+        assert_eq!(rt; failures, u64::from(k != 0));
         assert!(rt; bytes == *want, "fault at {k}");
     }
 }

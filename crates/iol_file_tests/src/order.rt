@@ -34,29 +34,29 @@ fn make_order<R: Abort>(rt: &R, alloc: Global, count: usize) -> Order
     order
 }
 
+// What goes first where a file is in use.
+fn first(order: &Order, used: u32) -> Option<(FileId, u32)> {
+    order.least(&UsesFile(used), &mut Rank::least())
+}
+
 #[test]
 fn order_of_three(rt: HostRuntime) {
-    let one = FileId::new(1);
-    let two = FileId::new(2);
-    let nobody = UsesFile(0);
+    let (one, two) = (FileId::new(1), FileId::new(2));
     let mut order = make_order(&rt, rt.alloc(), 3);
-    assert_eq!(rt; order.least(&nobody, &mut Rank::least()), None);
+    assert_eq!(rt; first(&order, 0), None);
     order.enter(one, 0, 4096, 1);
     order.enter(one, 8192, 8192, 1);
     order.enter(two, 0, 4096, 3);
     assert_eq!(rt; order.height(one, 0), 4096);
     assert_eq!(rt; order.height(one, 8192), 2048);
     assert_eq!(rt; order.height(two, 0), 12288);
-    assert_eq!(rt; order.least(&nobody, &mut Rank::least()), Some((one, 8192)));
-    assert_eq!(rt;
-        order.least(&UsesFile(1), &mut Rank::least()),
-        Some((two, 0))
-    );
+    assert_eq!(rt; first(&order, 0), Some((one, 8192)));
+    assert_eq!(rt; first(&order, 1), Some((two, 0)));
     order.evict(one, 8192, &mut Rank::least());
     assert_eq!(rt; order.low(), 2048);
     order.hit(one, 0);
     assert_eq!(rt; order.height(one, 0), 6144);
-    assert_eq!(rt; order.least(&nobody, &mut Rank::least()), Some((one, 0)));
+    assert_eq!(rt; first(&order, 0), Some((one, 0)));
 }
 
 // Rounds of a small and costly part: it enters, and is evicted.

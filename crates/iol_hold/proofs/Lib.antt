@@ -1,5 +1,6 @@
 pub mod Counting
 pub mod Founding
+pub mod Admitting
 pub mod Freeing
 pub mod Making
 pub mod Moving
@@ -16,3 +17,4 @@ pub mod AtPlaces
 pub mod Releasing
 pub mod Paging
 pub mod Emptied
+pub mod Loosening

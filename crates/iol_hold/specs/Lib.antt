@@ -10,3 +10,4 @@ pub mod Filling
 pub mod Layout
 pub mod Releases
 pub mod Pages
+pub mod Loose

@@ -9,7 +9,8 @@ use Rattle.iol_core.specs.Text.{Text}
 use Rattle.iol_core.specs.State.{State}
 use Rattle.iol_core.specs.Meaning.{Meaning, Step, WantOfRoom, first}
 use Rattle.iol_core.specs.declared.refusals.Refusal.{Refusal}
-use Rattle.iol_core.specs.declared.refusals.Refusal.TheVariants.{NoRoom}
+use Rattle.iol_core.specs.declared.refusals.Refusal.TheVariants.{NoRoom, Memory}
+use Rattle.iol_core.specs.declared.refusals.Refusal.TheVariants as refusal
 use Rattle.iol_back.specs.Disk.{Disk}
 use Rattle.iol_hold.specs.Moves.{Stays}
 use Rattle.iol_hold.specs.Room.{free_of, has_room, pages_of}
@@ -68,11 +69,35 @@ places_refused m put pool n h x sound is other = record {
   no_room = λ p e. absurd (other p (err_is x (NoRoom p) e));
 }
 
--- There is no room for the bytes.
+-- A late refusal that does not come for want of room comes for want of memory.
 
-pub places_none : {A : Type 0} (m : State → Meaning A) (put : State → Text → State) (pool n : ℕ) (h k : KernelState) → MakesRoom pool (pages_for n) h k → ((f : Reading) → first (m (read_of f h)).refusals ≡ None) → ((f : Reading) → (m (read_of f h)).Late (NoRoom pool)) → can_fit h pool n ≡ false
+pub memory_left : (pool : ℕ) (x : Refusal) → WantOfRoom pool x → ((p : ℕ) → x ≡ NoRoom p → ⊥) → x ≡ Memory
+memory_left pool refusal.NoDomain late roomy = absurd late
+memory_left pool refusal.BadFd late roomy = absurd late
+memory_left pool refusal.BadAgg late roomy = absurd late
+memory_left pool refusal.NoPool late roomy = absurd late
+memory_left pool refusal.NoFile late roomy = absurd late
+memory_left pool refusal.WrongMode late roomy = absurd late
+memory_left pool refusal.BadRange late roomy = absurd late
+memory_left pool refusal.TooLong late roomy = absurd late
+memory_left pool refusal.TooMany late roomy = absurd late
+memory_left pool (refusal.Denied p) late roomy = absurd late
+memory_left pool (refusal.PoolClosed p) late roomy = absurd late
+memory_left pool (refusal.PoolBusy p) late roomy = absurd late
+memory_left pool refusal.BrokenPipe late roomy = absurd late
+memory_left pool refusal.WouldBlock late roomy = absurd late
+memory_left pool (refusal.NoRoom p) late roomy = absurd (roomy p refl)
+memory_left pool (refusal.Fault f) late roomy = absurd late
+memory_left pool refusal.Memory late roomy = refl
+
+pub memory_wanted : (pool : ℕ) (x : Refusal) → x ≡ Memory → WantOfRoom pool x
+memory_wanted pool x is = subst (WantOfRoom pool) (sym is) tt
+
+-- There is no room for the bytes, and nothing changed.
+
+pub places_none : {A : Type 0} (m : State → Meaning A) (put : State → Text → State) (pool n : ℕ) (h k : KernelState) → MakesRoom pool (pages_for n) h k → k ≡ h → ((f : Reading) → first (m (read_of f h)).refusals ≡ None) → ((f : Reading) → (m (read_of f h)).Late (NoRoom pool)) → can_fit h pool n ≡ false
     → Places m put pool n h (Err (NoRoom pool)) k
-places_none {A} m put pool n h k room passed late lacks = record {
+places_none {A} m put pool n h k room same passed late lacks = record {
   serves = λ disk. record {
     step = λ backed placed. (none disk.slots, room.same.files disk backed);
     backed = room.same.backed disk;
@@ -87,7 +112,7 @@ places_none {A} m put pool n h k room passed late lacks = record {
     stays = room.gives_up.moves.stays;
   };
   made = tt;
-  refused = inr (refl, room);
+  refused = inl same;
   room = tt;
   no_room = λ p e. lacks;
 }
@@ -128,7 +153,7 @@ pub places_late : {A : Type 0} (m : State → Meaning A) (put : State → Text �
 places_late {A} m put pool n h k l x room roomy steps same late lacks = subst (λ (y : KernelState). Places m put pool n h (Err x) y) (sym same) (record {
   serves = serves_after m pool (pages_for n) h k k (Err x) room (subst (λ (y : KernelState). Steps m k (Err x) y) same steps) room.sound refl refl (stays_here k.store);
   made = tt;
-  refused = inr (late, room);
+  refused = inr (memory_left pool x late (λ p is. absurd (cc (sym roomy ∙ lacks p (ap (λ y. Err y) is)))), room);
   room = tt;
   no_room = λ p e. absurd (cc (sym roomy ∙ lacks p e));
 })
@@ -164,8 +189,8 @@ module _ (m : State → Meaning ℕ) (put : State → Text → State) (pool_of :
   queue_places l (Err x) roomy fits' steps made same sound cache stays lacks =
       as_asked (Err x) l (places_late m put pool count h k l x room roomy steps same (late_now x (steps []).0) (λ p e. ap (λ q. has_room k.store q count) (sym pool_now) ∙ ap (has_room k.store (pool_of now)) (sym count_now) ∙ lacks p e))
 
-  pub queue_none : ((f : Reading) → (m (read_of f h)).Late (NoRoom pool)) → can_fit h pool count ≡ false → Places m put (pool_of (machine_of [] h)) (m (machine_of [] h)).answer h (Err (NoRoom pool)) k
-  queue_none wants lacks = as_asked (Err (NoRoom pool)) k (places_none m put pool count h k room passed wants lacks)
+  pub queue_none : k ≡ h → ((f : Reading) → (m (read_of f h)).Late (NoRoom pool)) → can_fit h pool count ≡ false → Places m put (pool_of (machine_of [] h)) (m (machine_of [] h)).answer h (Err (NoRoom pool)) k
+  queue_none same wants lacks = as_asked (Err (NoRoom pool)) k (places_none m put pool count h k room same passed wants lacks)
 
 -- no bytes always fit
 pub none_fit : (h : KernelState) (p n : ℕ) → can_fit h p n ≡ false → n ≡ 0 → ⊥

@@ -58,10 +58,10 @@ module _ (c : ℕ) (bytes : List ℕ) (pool count : ℕ) (h k : KernelState) (ro
       → Places (λ s. outside.arrive s c bytes) (with_incoming c) (conn_at (machine_of [] h) c).pool (outside.arrive (machine_of [] h) c bytes).answer h r l
   arrive_places = queue_places (λ s. outside.arrive s c bytes) (with_incoming c) (λ s. (conn_at s c).pool) pool count h k room (first_same c bytes) (answer_same c bytes) (pool_same c) (late_is c bytes) passed in_pool counted
 
-  pub arrive_none : can_fit h pool count ≡ false → Places (λ s. outside.arrive s c bytes) (with_incoming c) (conn_at (machine_of [] h) c).pool (outside.arrive (machine_of [] h) c bytes).answer h (Err (NoRoom pool)) k
-  arrive_none lacks =
+  pub arrive_none : k ≡ h → can_fit h pool count ≡ false → Places (λ s. outside.arrive s c bytes) (with_incoming c) (conn_at (machine_of [] h) c).pool (outside.arrive (machine_of [] h) c bytes).answer h (Err (NoRoom pool)) k
+  arrive_none same lacks =
       let some : length bytes ≡ 0 → ⊥ = λ none. none_fit h pool count lacks (omega (arith, none, counted (bytes_over [] h.store))) in
-      queue_none (λ s. outside.arrive s c bytes) (with_incoming c) (λ s. (conn_at s c).pool) pool count h k room (first_same c bytes) (answer_same c bytes) (pool_same c) (late_is c bytes) passed in_pool counted (λ f. late_some c bytes (read_of f h) pool some (in_pool f)) lacks
+      queue_none (λ s. outside.arrive s c bytes) (with_incoming c) (λ s. (conn_at s c).pool) pool count h k room (first_same c bytes) (answer_same c bytes) (pool_same c) (late_is c bytes) passed in_pool counted same (λ f. late_some c bytes (read_of f h) pool some (in_pool f)) lacks
 
 pub there_if_passed : (c : ℕ) (bytes : List ℕ) (h : KernelState) → ((f : Reading) → first (outside.arrive (read_of f h) c bytes).refusals ≡ None) → outside.lacks_conn (machine_of [] h) c ≡ false
 there_if_passed c bytes h passed = of (outside.lacks_conn (machine_of [] h) c) _ (passed (bytes_over [] h.store))

@@ -55,7 +55,7 @@ sync_steps s by fd f (Err x) passed is late = (
 
 -- a refusal before the store was asked
 pub refused_sync : (f : ℕ) (disk : Disk) (h : KernelState) (x : Refusal) → ((g : ℕ) → x ≡ Fault g → ⊥) → SyncsFile {A = Unit {0}} f disk h (Err x) disk h
-refused_sync f disk h x other = record { syncs = syncs_none h.store f h.cache disk; clean = tt; writes = inr (refl, refl); counts = none x other; same = refl }
+refused_sync f disk h x other = record { syncs = syncs_none h.store f h.cache disk; clean = tt; writes = inr ((λ g e. other g (let y : x ≡ Fault g = cc in y)), refl, refl); counts = none x other; same = refl }
   where
     none : (y : Refusal) → ((g : ℕ) → y ≡ Fault g → ⊥) → FaultCounts {A = Unit {0}} disk disk (Err y)
     none (Fault g) other = absurd (other g refl)

@@ -3,6 +3,7 @@ use Rattle.std.proofs.Common.{◌≡◌, ℕ, ◌+◌, ◌≤◌, List, [], ◌�
 use Rattle.std.specs.Prelude.{Ok, Err}
 use Rattle.iol_core.specs.Numbered.{in_place, is_numbered}
 use Rattle.iol_core.specs.State.{Domain}
+use Rattle.iol_core.specs.Text.{bytes_of}
 use Rattle.iol_core.specs.Meaning.{WantOfRoomOrFault}
 use Rattle.iol_core.specs.declared.descriptors.Descriptor.TheVariants as on
 use Rattle.iol_core.specs.declared.limits.TheConstants.{MAX_FILE_BYTES}
@@ -15,7 +16,7 @@ use Rattle.iol_extent.specs.declared.spans.Span.{Span}
 use Rattle.iol_hold.specs.Moves.{Moves, SameLists}
 use Rattle.iol_hold.specs.Places.{byte_len}
 use Rattle.iol_hold.specs.Stored.{Stored}
-use Rattle.iol_hold.specs.Texts.{bufs_of}
+use Rattle.iol_hold.specs.Texts.{bufs_of, text_of}
 use Rattle.iol_hold.specs.declared.slices.Slice.{Slice}
 use Rattle.iol_hold.proofs.Releasing.{frees_none}
 use Rattle.iol_desc.specs.Tables.{domain_in, with_agg_in}
@@ -102,7 +103,7 @@ reads_nothing {A} x disk h k y same room counts before = subst (λ (l : KernelSt
 })
 
 -- a copying read that has changed nothing
-pub copies_nothing : (x : FileRead) (disk : Disk) (h : KernelState) (y : Refusal) → TellsRoom {A = List ℕ} (RoomToRead x.file x.at x.count disk (holding_of h)) (NoRoomToRead x.file x.at x.count disk (holding_of h)) (Err y) → FaultCounts {A = List ℕ} disk disk (Err y) → IsBeforeRoom y → CopiesFileAs {A = List ℕ} x disk h (Err y) disk h
+pub copies_nothing : (x : FileRead) (disk : Disk) (h : KernelState) (y : Refusal) → TellsRoom {A = List ℕ} (RoomToRead x.file x.at x.count disk (holding_of h)) (NoRoomToRead x.file x.at x.count disk (holding_of h)) (Err y) → FaultCounts {A = List ℕ} disk disk (Err y) → IsBeforeRoom y → CopiesFileAs x disk h (Err y) disk h
 copies_nothing x disk h y room counts before = record {
   mid = h.store;
   reads = reads_nothing {A = List ℕ} x disk h h y refl room counts before;
@@ -167,9 +168,10 @@ module _ (x : FileRead) (disk after : Disk) (h : KernelState) (t : Stored) (c : 
     domains = added;
   }
 
-  pub gives_copy : (xs : List Slice) (s : Stored) (ds : Domains) → ReadsFile x.file x.at x.count disk (holding_of h) (over t c) xs → Moves t s (bufs_of xs) [] → ds ≡ moved_on h.domains x (byte_len xs) → GivesCopy x disk h t (record h { store = s; domains = ds; cache = c })
-  gives_copy xs s ds reads released moved = record {
+  pub gives_copy : (xs : List Slice) (s : Stored) (ds : Domains) (bytes : List ℕ) → bytes ≡ bytes_of (text_of t xs) → ReadsFile x.file x.at x.count disk (holding_of h) (over t c) xs → Moves t s (bufs_of xs) [] → ds ≡ moved_on h.domains x (byte_len xs) → GivesCopy x disk h t (record h { store = s; domains = ds; cache = c }) bytes
+  gives_copy xs s ds bytes copied reads released moved = record {
     slices = xs;
+    copied = copied;
     read = reads;
     released = released;
     domains = moved;

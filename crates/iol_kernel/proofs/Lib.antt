@@ -6,6 +6,7 @@ pub mod Serving
 pub mod Refilled
 pub mod FileReads
 pub mod AfterRoom
+pub mod Admitting
 pub mod Making
 pub mod Arrived
 pub mod Queued

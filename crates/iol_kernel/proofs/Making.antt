@@ -79,8 +79,8 @@ module _ (pool pages : ℕ) (h k : KernelState) (room : MakesRoom pool pages h k
         (places_late (λ s. aggs.agg_make s d bytes) (λ s t. aggs.with_agg s d t) pool (length bytes) h k l x room' roomy (make_late l x late same) same late lacks)
 
 -- where the bytes have no room
-pub make_none : (pool d : ℕ) (bytes : List ℕ) (h k : KernelState) → MakesRoom pool (pages_for (length bytes)) h k → ((f : Reading) → first (aggs.agg_make (read_of f h) d bytes).refusals ≡ None) → ((f : Reading) → aggs.default_pool (read_of f h) d ≡ pool) → can_fit h pool (length bytes) ≡ false
+pub make_none : (pool d : ℕ) (bytes : List ℕ) (h k : KernelState) → MakesRoom pool (pages_for (length bytes)) h k → k ≡ h → ((f : Reading) → first (aggs.agg_make (read_of f h) d bytes).refusals ≡ None) → ((f : Reading) → aggs.default_pool (read_of f h) d ≡ pool) → can_fit h pool (length bytes) ≡ false
     → Places (λ s. aggs.agg_make s d bytes) (λ s t. aggs.with_agg s d t) (aggs.default_pool (machine_of [] h) d) (length bytes) h (Err (NoRoom pool)) k
-make_none pool d bytes h k room passed default lacks =
+make_none pool d bytes h k room same passed default lacks =
     subst (λ p. Places (λ s. aggs.agg_make s d bytes) (λ s t. aggs.with_agg s d t) p (length bytes) h (Err (NoRoom pool)) k) (sym (default (bytes_over [] h.store)))
-    (places_none (λ s. aggs.agg_make s d bytes) (λ s t. aggs.with_agg s d t) pool (length bytes) h k room passed (λ f. sym (default f)) lacks)
+    (places_none (λ s. aggs.agg_make s d bytes) (λ s t. aggs.with_agg s d t) pool (length bytes) h k room same passed (λ f. sym (default f)) lacks)

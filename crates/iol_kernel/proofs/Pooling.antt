@@ -7,7 +7,8 @@ use Rattle.std.proofs.lemmas.Bool.Decides.{nat_tests}
 use Rattle.std.proofs.lemmas.List.{get_or_append_left, get_or_past}
 use Rattle.iol_core.specs.Numbered.{numbered_or, is_numbered}
 use Rattle.iol_core.specs.State as machine
-use Rattle.iol_pool.specs.Pools.{Pool, no_pool, pool_in, with_closed}
+use Rattle.iol_pool.specs.Pools.{Pool, no_pool, pool_in, with_admitted, with_closed}
+use Rattle.iol_pool.proofs.Admitting.{closed-admitted, length-admitted}
 use Rattle.iol_pool.proofs.Owning.{length-closed, pool_in-closed}
 use Rattle.iol_hold.specs.Stored.{Stored}
 use Rattle.iol_hold.specs.Moves.{SameLists, pool_meant}
@@ -77,6 +78,12 @@ pub one_more_pool : (s t : Stored) (cs : List (ℕ × Conn (List Slice))) (fs : 
 one_more_pool s t cs fs x added few pooled =
     pooled_as s.pools t.pools cs fs (λ p is. subst (λ (ps : List machine.Pool). IsOpen ps p) (sym added) (open_more (map pool_meant s.pools) x p is))
     (omega (arith, few, ap length added, length-append (map pool_meant s.pools) (x ∷ []), length-map' pool_meant s.pools, length-map' pool_meant t.pools)) pooled
+
+-- the list of one names a domain more
+pub one_admitted : (ps : List Pool) (p d : ℕ) (cs : List (ℕ × Conn (List Slice))) (fs : List CachedFile) → is_numbered ps p ≡ true → ArePooled ps cs fs → ArePooled (with_admitted ps p d) cs fs
+one_admitted ps p d cs fs there pooled =
+    pooled_as ps (with_admitted ps p d) cs fs (λ q is. pool_in-meant (with_admitted ps p d) q ∙ closed-admitted ps p d q there ∙ sym (pool_in-meant ps q) ∙ is)
+    (omega (arith, pooled.few, length-admitted ps p d)) pooled
 
 -- one closes, which no connection is of
 

@@ -10,7 +10,7 @@ use Rattle.iol_sock.specs.Refused.{IsRefused}
 use Rattle.iol_kernel.specs.KernelState.{KernelState, IsSound, read_of}
 use Rattle.iol_kernel.specs.MakingRoom.{MayHaveEvicted, Places}
 use Rattle.iol_kernel.specs.Readings.{Reading}
-use Rattle.iol_kernel.proofs.AfterRoom.{places_refused}
+use Rattle.iol_kernel.proofs.AfterRoom.{memory_wanted, places_refused}
 
 -- of a call that is never refused late the refusal is the first that holds
 first_holds : (o : Option Refusal) (x : Refusal) → MatchOption o (Never x) (λ y. x ≡ y) → o ≡ Some x
@@ -31,4 +31,4 @@ left_late p q h k (Err x) same late = inr (subst (λ z. WantOfRoom z x) same lat
 
 pub left_placing : (p n : ℕ) (h k : KernelState) (r : Result ℕ Refusal) → IfErr r (MayHaveEvicted p n h k) → IfErr r (λ x. (k ≡ h) ⊎ WantOfRoom p x)
 left_placing p n h k (Ok m) left = tt
-left_placing p n h k (Err x) left = elim left [ inl same ↦ inl same | inr late ↦ inr late.0 ]
+left_placing p n h k (Err x) left = elim left [ inl same ↦ inl same | inr late ↦ inr (memory_wanted p x late.0) ]

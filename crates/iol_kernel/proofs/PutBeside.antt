@@ -15,6 +15,7 @@ use Rattle.iol_core.specs.declared.descriptors.Descriptor.{Descriptor}
 use Rattle.iol_core.specs.declared.descriptors.Descriptor.TheVariants as on
 use Rattle.iol_core.specs.declared.descriptors.Mode.{Mode}
 use Rattle.iol_core.specs.declared.refusals.Refusal.{Refusal}
+use Rattle.iol_core.specs.declared.refusals.Refusal.TheVariants.{NoRoom}
 use Rattle.iol_arena.specs.State.{pages_for}
 use Rattle.iol_arena.proofs.Members.{in_contains}
 use Rattle.iol_hold.specs.Moves.{SameLists, pool_meant}
@@ -39,6 +40,7 @@ use Rattle.iol_kernel.specs.KernelState.{KernelState, IsSound, read_of}
 use Rattle.iol_kernel.specs.Readings.{Reading, bytes_over}
 use Rattle.iol_kernel.specs.MakingRoom.{AfterRoom, MakesRoom}
 use Rattle.iol_kernel.specs.WritingFiles.{GivesUpNew, LaysInFile, LaysOn, LaysOver, PutsInFile, PutsOn, pool_of_file}
+use Rattle.iol_kernel.proofs.AfterRoom.{memory_left}
 use Rattle.iol_kernel.proofs.Kept.{beside_none, beside_same, room_keeps, unless_beside, unless_then, unwritten_unless, write_unless}
 use Rattle.iol_kernel.proofs.Named.{cache_sound}
 use Rattle.iol_kernel.proofs.Stay.{pages_equal}
@@ -163,12 +165,12 @@ module _ (f at pool count : ℕ) (bytes : List ℕ) (h k : KernelState) (same : 
   roomy : MakesRoom pool (pages_for (length bytes)) h k
   roomy = subst (λ n. MakesRoom pool (pages_for n) h k) same room
 
-  pub laid_none : {A : Type 0} (x : Refusal) → WantOfRoom pool x → LaysInFile {A = A} f at pool bytes h (Err x) k
-  laid_none x late = record { lays = tt; leaves = inr (late, record { roomy = k; room = roomy; then = inl refl }) }
+  pub laid_none : {A : Type 0} (x : Refusal) → k ≡ h → LaysInFile {A = A} f at pool bytes h (Err x) k
+  laid_none x same = record { lays = tt; leaves = inl same }
 
-  pub laid_roomed : (l : KernelState) (r : Result ℕ Refusal) → OnOk r (LaysOver f at pool bytes k l) → IfErr r (λ x. (l ≡ k) ⊎ GivesUpNew pool bytes k l) → IfErr r (WantOfRoom pool) → LaysInFile f at pool bytes h r l
-  laid_roomed l (Ok n) lays leaves late = record { lays = record { roomy = k; room = roomy; then = lays }; leaves = tt }
-  laid_roomed l (Err x) lays leaves late = record { lays = tt; leaves = inr (late, record { roomy = k; room = roomy; then = leaves }) }
+  pub laid_roomed : (l : KernelState) (r : Result ℕ Refusal) → OnOk r (LaysOver f at pool bytes k l) → IfErr r (λ x. (l ≡ k) ⊎ GivesUpNew pool bytes k l) → IfErr r (WantOfRoom pool) → ((p : ℕ) → r ≡ Err (NoRoom p) → ⊥) → LaysInFile f at pool bytes h r l
+  laid_roomed l (Ok n) lays leaves late roomy' = record { lays = record { roomy = k; room = roomy; then = lays }; leaves = tt }
+  laid_roomed l (Err x) lays leaves late roomy' = record { lays = tt; leaves = inr (memory_left pool x late (λ p e. roomy' p (ap (λ y. Err y) e)), record { roomy = k; room = roomy; then = leaves }) }
 
 -- the pool in which the bytes lie is the file's
 pub own_pool : (h : KernelState) (by fd f at pool : ℕ) (mode : Mode) → IsSound h → ((r : Reading) → machine.descriptor (read_of r h) by fd ≡ Some (on.File f at mode)) → ((r : Reading) → pool ≡ writing.pool_for (read_of r h) by (machine.descriptor (read_of r h) by fd)) → pool_of_file h f ≡ pool

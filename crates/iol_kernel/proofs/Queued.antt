@@ -99,9 +99,9 @@ module _ (d fd : ℕ) (bytes : List ℕ) (pool count : ℕ) (h k : KernelState) 
         queue_places (λ s. writing.write s d fd bytes) (put d fd) (λ s. writing.pool_for s d (descriptor s d fd)) pool count h k room (write_first d fd bytes) (write_answer d fd bytes) (write_pool d fd) (λ s x late. late) passed (λ f. sym (in_pool f)) counted
         l r roomy fits' steps (subst (λ p. IfOk r (λ n. MakesBytes (put d fd) p n k l)) is made) same sound cache stays (subst (λ p. (q : ℕ) → r ≡ Err (NoRoom q) → has_room k.store p (writing.write (machine_of [] k) d fd bytes).answer ≡ false) is lacks)
 
-    pub write_none : can_fit h pool count ≡ false → Written (Err (NoRoom pool)) k
-    write_none lacks =
-        queue_none (λ s. writing.write s d fd bytes) (put d fd) (λ s. writing.pool_for s d (descriptor s d fd)) pool count h k room (write_first d fd bytes) (write_answer d fd bytes) (write_pool d fd) (λ s x late. late) passed (λ f. sym (in_pool f)) counted in_pool lacks
+    pub write_none : k ≡ h → can_fit h pool count ≡ false → Written (Err (NoRoom pool)) k
+    write_none same lacks =
+        queue_none (λ s. writing.write s d fd bytes) (put d fd) (λ s. writing.pool_for s d (descriptor s d fd)) pool count h k room (write_first d fd bytes) (write_answer d fd bytes) (write_pool d fd) (λ s x late. late) passed (λ f. sym (in_pool f)) counted same in_pool lacks
 
 -- how many bytes fit
 

@@ -52,6 +52,10 @@ pub closed-read_of : (f : Reading) (h : KernelState) (p : ℕ) → (machine.pool
 unfolding read_of
 closed-read_of f h p = ap (λ (x : machine.Pool). x.closed) (pool-view f h.domains h.store.pools (objects_of h) p)
 
+pub list-read_of : (f : Reading) (h : KernelState) (p : ℕ) → (machine.pool (read_of f h) p).domains ≡ (pool_in h.store.pools p).domains
+unfolding read_of
+list-read_of f h p = ap (λ (x : machine.Pool). x.domains) (pool-view f h.domains h.store.pools (objects_of h) p)
+
 pub is_pool-read_of : (f : Reading) (h : KernelState) (p : ℕ) → machine.is_pool (read_of f h) p ≡ is_numbered h.store.pools p
 unfolding read_of
 is_pool-read_of f h p = is_pool-view f h.domains h.store.pools (objects_of h) p

@@ -23,8 +23,8 @@ use Rattle.iol_cache.specs.Contents.{bytes_in_slot}
 use Rattle.iol_desc.specs.Tables.{domain_in, with_fds_in}
 use Rattle.iol_kernel.specs.Backed.{IsBackedBy, Serves, with_slots}
 use Rattle.iol_kernel.specs.Ends.{IsOpenOnce}
-use Rattle.iol_kernel.specs.KernelState.{KernelState, objects_of, IsOpenEnd, IsSound, machine_of}
-use Rattle.iol_kernel.specs.Readings.{bytes_over}
+use Rattle.iol_kernel.specs.KernelState.{KernelState, objects_of, IsOpenEnd, IsSound, machine_of, read_of}
+use Rattle.iol_kernel.specs.Readings.{Reading, KeepsPools, bytes_over}
 use Rattle.iol_kernel.proofs.Beside.{content-machine_of, descriptor-with_slots, even, fds-with_slots, length_content-even, live-with_slots, open-with_slots, serves_refused, serves_where, with_slots-own}
 use Rattle.iol_kernel.proofs.Called.{file_within, same_end-file}
 use Rattle.iol_kernel.proofs.Effects.{fds-changed, fds-sound}
@@ -147,6 +147,15 @@ module _ (disk : Disk) (h : KernelState) (d fd f was len : ℕ) (mode : Mode) (s
       fds-with_slots slots h (record h { domains = ds }) d (moved at) (fds-changed (bytes_over [] h.store) h ds d (moved at) is)
       ∙ ap (λ (ys : List (Option Descriptor)). fds.with_fds s d (slice_set ys fd (Some (on.File f at mode)))) (sym (open-with_slots slots h d ∙ fds-read_of (bytes_over [] h.store) h d))
       ∙ ap (λ (o : Option Descriptor). fds.with_descriptor s d fd (option_map (λ x. on.File x.0 at x.2) (open_on o))) (sym (descriptor-with_slots slots h d fd ∙ there))
+
+  -- whatever is read at the places of bytes
+  pub moved-places : (at : ℕ) (ds : Domains) → ds ≡ with_fds_in h.domains d (moved at) → (g : Reading) → KeepsPools g → read_of g (record h { domains = ds }) ≡ (calls.seek (read_of g h) d fd at).after
+  moved-places at ds is g keeps =
+      let s : State = read_of g h in
+      let here : machine.descriptor s d fd ≡ Some (on.File f was mode) = descriptor-read_of g h d fd ∙ sym (descriptor-read_of (bytes_over [] h.store) h d fd) ∙ there in
+      fds-changed g h ds d (moved at) is
+      ∙ ap (λ (ys : List (Option Descriptor)). fds.with_fds s d (slice_set ys fd (Some (on.File f at mode)))) (sym (fds-read_of g h d))
+      ∙ ap (λ (o : Option Descriptor). fds.with_descriptor s d fd (option_map (λ x. on.File x.0 at x.2) (open_on o))) (sym here)
 
   pub sought : (at : ℕ) (ds : Domains) → at ≤ len → len ≤ MAX_FILE_BYTES → ds ≡ with_fds_in h.domains d (moved at) → Serves (λ s. calls.seek s d fd at) disk h (Ok tt) disk (record h { domains = ds })
   sought at ds le short is = serves_where HasLength (λ s. calls.seek s d fd at) disk h ds (Ok tt) (even MAX_FILES len)

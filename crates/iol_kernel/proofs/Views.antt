@@ -18,7 +18,8 @@ use Rattle.iol_core.specs.Calls.Pools as pools
 use Rattle.iol_core.specs.declared.descriptors.Descriptor.{Descriptor}
 use Rattle.iol_core.specs.declared.limits.TheConstants.{MAX_AGGREGATES, LAST_AGGREGATE}
 use Rattle.iol_desc.specs.Tables.{domain_in, with_domain_in, agg_in, with_agg_in, without_agg_in, live_aggs_in, too_many_in, with_fds_in}
-use Rattle.iol_pool.specs.Pools.{Pool, no_pool, pool_in, with_closed}
+use Rattle.iol_pool.specs.Pools.{Pool, no_pool, pool_in, with_admitted, with_closed}
+use Rattle.iol_core.specs.Calls.Pools.{admitting, with_name}
 use Rattle.iol_hold.specs.Moves.{pool_meant}
 use Rattle.iol_desc.proofs.Rows.{length-domains}
 use Rattle.iol_sock.specs.Connections.{Conn, conn_view}
@@ -107,7 +108,7 @@ pub pools-view : (f : Reading) (ds : List (Domain (List Slice))) (ps rs : List P
 unfolding state_view
 pools-view f ds ps rs qs e = ap (λ (xs : List machine.Pool). record (state_view f ds ps qs) { pools = xs }) e
 
--- one pool more, or one that is closed, as the machine sees it
+-- one pool more, one that is closed, or one whose list names a domain more, as the machine sees it
 pub added_pool-view : (f : Reading) (ds : List (Domain (List Slice))) (ps rs : List Pool) (qs : Objects (List Slice)) (x : machine.Pool) → map pool_meant rs ≡ map pool_meant ps ++ x ∷ [] → state_view f ds rs qs ≡ record (state_view f ds ps qs) { pools = (state_view f ds ps qs).pools ++ x ∷ [] }
 unfolding state_view
 added_pool-view f ds ps rs qs x e = ap (λ (xs : List machine.Pool). record (state_view f ds ps qs) { pools = xs }) e
@@ -117,6 +118,12 @@ unfolding state_view with_closed
 closed-view f ds ps rs qs p e =
     ap (λ (xs : List machine.Pool). record (state_view f ds ps qs) { pools = xs }) (e ∙ sym (with_numbered-map pool_meant ps p (record (pool_in ps p) { closed = true })))
     ∙ ap (λ (x : machine.Pool). record (state_view f ds ps qs) { pools = with_numbered (map pool_meant ps) p (record x { closed = true }) }) (sym (pool-view f ds ps qs p))
+
+pub admitted-view : (f : Reading) (ds : List (Domain (List Slice))) (ps : List Pool) (qs : Objects (List Slice)) (p d : ℕ) → state_view f ds (with_admitted ps p d) qs ≡ record (state_view f ds ps qs) { pools = with_numbered (state_view f ds ps qs).pools p (admitting (machine.pool (state_view f ds ps qs) p) d) }
+unfolding state_view with_admitted
+admitted-view f ds ps qs p d =
+    ap (λ (xs : List machine.Pool). record (state_view f ds ps qs) { pools = xs }) (sym (with_numbered-map pool_meant ps p (record (pool_in ps p) { domains = with_name (pool_in ps p).domains d })))
+    ∙ ap (λ (x : machine.Pool). record (state_view f ds ps qs) { pools = with_numbered (map pool_meant ps) p (admitting x d) }) (sym (pool-view f ds ps qs p))
 
 pub with_fds-view : (f : Reading) (ds : List (Domain (List Slice))) (ps : List Pool) (qs : Objects (List Slice)) (d : ℕ) (xs : List (Option Descriptor)) → state_view f (with_fds_in ds d xs) ps qs ≡ fds.with_fds (state_view f ds ps qs) d xs
 with_fds-view f ds ps qs d xs =

@@ -22,7 +22,8 @@ use Rattle.iol_cache.specs.Contents.{byte_in, bytes_in_slot, file_byte, file_len
 use Rattle.iol_cache.specs.Evicting.{GivesUp, Holding}
 use Rattle.iol_cache.specs.Serving.{IsBacked}
 use Rattle.iol_cache.specs.Sound as cache
-use Rattle.iol_cache.specs.Syncing.{Cleans, Flushes, KeepsBytes, KeepsStored, Syncs, as_clean, first_cleaned}
+use Rattle.iol_cache.specs.Syncing.{Cleans, Flushes, KeepsBytes, KeepsStored, Syncs, first_cleaned}
+use Rattle.iol_extent.specs.Extents.{as_clean}
 use Rattle.iol_cache.specs.declared.files.CachedFile.{CachedFile}
 use Rattle.iol_cache.specs.declared.syncing.Flushed.{Flushed}
 use Rattle.iol_cache.specs.declared.syncing.Flushed.TheVariants.{Nothing, Wrote}

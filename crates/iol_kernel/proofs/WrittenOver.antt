@@ -29,7 +29,7 @@ use Rattle.iol_desc.specs.Tables.{agg_in, domain_in, with_fds_in}
 use Rattle.iol_cache.specs.Cached.{Cached, file_in, held, no_file}
 use Rattle.iol_cache.specs.Composing.{copied_pages}
 use Rattle.iol_cache.specs.Evicting.{Holding}
-use Rattle.iol_cache.specs.Overwriting.{IsWritten, KeepsFiles, KeepsMirrors, KeepsOthers, LiesDirty, OnlyMakesRoom, WritesFile}
+use Rattle.iol_cache.specs.Overwriting.{IsWritten, KeepsFiles, KeepsMirrors, KeepsOthers, LeavesAll, LiesDirty, OnlyMakesRoom, WritesFile}
 use Rattle.iol_cache.specs.Paging.{FillsLowest}
 use Rattle.iol_cache.specs.Sharing.{CountsBelow}
 use Rattle.iol_cache.specs.Sound as cache
@@ -186,8 +186,8 @@ module _ (h : KernelState) (t : Stored) (d : Cached) (by fd a f at : ℕ) (mode 
       (λ stored. subst (λ (o : Option Descriptor). writing.write_late (machine_of stored h) o x) (sym (to stored)) (subst (λ p. WantOfRoom p x) (sym (pool-file (bytes_over stored h.store) h f sound)) late))
       same
 
-  pub unwritten_leaves : (k : KernelState) (x : Refusal) → OnlyMakesRoom (pool_of_file h f) (copied_pages (pool_of_file h f) xs) (holding_of h) new → ((p : ℕ) → x ≡ NoRoom p → length (pages_of h.store (pool_of_file h f)) < pages_to_write h f xs) → WantOfRoom (pool_of_file h f) x → k ≡ record h { store = t; cache = d } → WritesOver {A = ℕ} f at xs h (Err x) k
-  unwritten_leaves k x room lacks late same = subst (λ (l : KernelState). WritesOver {A = ℕ} f at xs h (Err x) l) (sym same) (record {
+  pub unwritten_leaves : (k : KernelState) (x : Refusal) → OnlyMakesRoom (pool_of_file h f) (copied_pages (pool_of_file h f) xs) (holding_of h) new → ((p : ℕ) → x ≡ NoRoom p → length (pages_of h.store (pool_of_file h f)) < pages_to_write h f xs) → ((p : ℕ) → x ≡ NoRoom p → LeavesAll (holding_of h) new) → WantOfRoom (pool_of_file h f) x → k ≡ record h { store = t; cache = d } → WritesOver {A = ℕ} f at xs h (Err x) k
+  unwritten_leaves k x room lacks kept late same = subst (λ (l : KernelState). WritesOver {A = ℕ} f at xs h (Err x) l) (sym same) (record {
     lies = tt;
     over = λ some. tt;
     nothing = λ none. tt;
@@ -199,7 +199,7 @@ module _ (h : KernelState) (t : Stored) (d : Cached) (by fd a f at : ℕ) (mode 
     lists = lists;
     same = refl;
     refused = refl;
-    leaves = inr (late, room);
+    leaves = inr (late, room, kept);
   })
     where
       the_refusal : {p : ℕ} → ◌≡◌ {A = Result ℕ Refusal} (Err x) (Err (NoRoom p)) → x ≡ NoRoom p

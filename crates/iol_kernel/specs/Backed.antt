@@ -1,5 +1,5 @@
 -- Calls where files are: what they do with an honest store behind the files, and what they do over any store.
-use Rattle.std.specs.Prelude.{◌≡◌, ℕ, List, [], Result, Err, OnErr}
+use Rattle.std.specs.Prelude.{◌≡◌, ℕ, List, [], Result, Err, OnErr, OnOk}
 use Rattle.iol_core.specs.State.{State}
 use Rattle.iol_core.specs.Meaning.{Meaning, Step}
 use Rattle.iol_core.specs.Positions.{ArePlaced}
@@ -9,7 +9,8 @@ use Rattle.iol_back.specs.Disk.{Disk}
 use Rattle.iol_hold.specs.Moves.{Stays}
 use Rattle.iol_cache.specs.Evicting.{Holding}
 use Rattle.iol_cache.specs.Serving.{IsBacked}
-use Rattle.iol_kernel.specs.KernelState.{KernelState, machine_of, IsSound}
+use Rattle.iol_kernel.specs.KernelState.{KernelState, machine_of, read_of, IsSound}
+use Rattle.iol_kernel.specs.Readings.{Reading, KeepsPools}
 
 -- a kernel's pages, and its cache of files over them
 abbrev pub holding_of : KernelState → Holding
@@ -41,10 +42,11 @@ pub record Serves {A : Type 0} (m : State → Meaning A) (disk : Disk) (old : Ke
   pub sound : IsSound new
   pub stays : Stays old.store new.store
 
--- A call that asks the store under the files for a length at most. Pages and what is cached are as they were, and a refused
--- call changes nothing.
+-- A call that asks the store under the files for a length at most. Pages and what is cached are as they were, all bytes lie
+-- where they lay, and a refused call changes nothing.
 pub record LooksUp {A : Type 0} (m : State → Meaning A) (disk : Disk) (old : KernelState) (r : Result A Refusal) (new : KernelState) : Type 0 where
   pub serves : Serves m disk old r disk new
+  pub places : OnOk r ((f : Reading) → KeepsPools f → read_of f new ≡ (m (read_of f old)).after)
   pub store : new.store ≡ old.store
   pub cache : new.cache ≡ old.cache
   pub roomy : (p : ℕ) → r ≡ Err (NoRoom p) → ⊥

@@ -11,6 +11,7 @@ use Rattle.iol_core.specs.declared.limits.TheConstants.{MAX_FILE_BYTES}
 use Rattle.iol_back.specs.Disk.{Disk, IfHonest, content}
 use Rattle.iol_arena.specs.Pages.{MadeOn}
 use Rattle.iol_hold.specs.Moves.{Stays}
+use Rattle.iol_hold.specs.Stored.{with_pools}
 use Rattle.iol_hold.specs.Pages.{KeepsPages}
 use Rattle.iol_hold.specs.Room.{lowest_of}
 use Rattle.iol_hold.specs.Texts.{bufs_of}
@@ -18,6 +19,7 @@ use Rattle.iol_hold.specs.declared.slices.Slice.{Slice}
 use Rattle.iol_cache.specs.Cached.{Cached, new_file, order_in}
 use Rattle.iol_cache.specs.Keeping.{KeepsCover}
 use Rattle.iol_desc.specs.Tables.{agg_in}
+use Rattle.iol_pool.specs.Pools.{with_admitted}
 use Rattle.iol_sock.specs.declared.outgoing.Segment.{Segment}
 use Rattle.iol_sock.specs.Sent.{UsesSent}
 use Rattle.iol_sock.specs.Table.{conn_in}
@@ -38,6 +40,10 @@ AddsBytes d pool bytes old new = (stored : List (List ℕ)) → machine_of store
 abbrev pub Shows : (d a : ℕ) → List ℕ → KernelState → Type 0
 Shows d a bytes h = (stored : List (List ℕ)) → (first (show (machine_of stored h) d a).refusals ≡ None) × (bytes ≡ (show (machine_of stored h) d a).answer)
 
+-- so many bytes `show` answers, whatever is stored
+abbrev pub ShowsSoMany : (d a n : ℕ) → KernelState → Type 0
+ShowsSoMany d a n h = (stored : List (List ℕ)) → (first (show (machine_of stored h) d a).refusals ≡ None) × (n ≡ length (show (machine_of stored h) d a).answer)
+
 -- The machine's step whatever is read: of bytes it is the step that the call means; of places it says that the bytes
 -- of its result lie where its meaning says, so that none was copied, and that nothing else moved.
 -- The pages, the pools and the remembered sums are as they were.
@@ -53,7 +59,8 @@ pub record CarriesOut {A : Type 0} (m : State → Meaning A) (old : KernelState)
   pub stays : Stays old.store new.store
 
 -- The machine's step, of bytes and of places: what the call leaves lies where it lay.
--- Pages and chunks may be freed or taken; no page is raised, an open pool keeps its chunks, and remembered sums stay.
+-- Pages and chunks may be freed or taken, and lists may grow; no page is raised, an open pool keeps its chunks, and remembered
+-- sums stay.
 pub record KeepsPlaces {A : Type 0} (m : State → Meaning A) (old : KernelState) (r : Result A Refusal) (new : KernelState) : Type 0 where
   pub step : Steps m old r new
   pub places : (f : Reading) → KeepsPools f → Step (m (read_of f old)) (read_of f old) r (read_of f new)
@@ -123,6 +130,10 @@ pub record Leaves (after : State → State) (old new : KernelState) : Type 0 whe
   pub cache : new.cache ≡ old.cache
   pub sound : IsSound new
   pub stays : Stays old.store new.store
+
+-- a pool's list names the domain, too, and nothing else is changed
+abbrev pub with_reader : KernelState → (p d : ℕ) → KernelState
+with_reader h p d = record h { store = with_pools h.store (with_admitted h.store.pools p d) }
 
 -- with bytes at the end of what came in on a connection
 abbrev pub with_incoming : (c : ℕ) → State → Text → State

@@ -1,7 +1,8 @@
 -- What a read of a file does, beside the machine's step: where its bytes lie, and what becomes of pages and of the cache.
-use Rattle.std.specs.Prelude.{◌≡◌, ◌⊎◌, ℕ, ◌+◌, ◌-◌, min, List, [], length, slice_set, Option, Some, None, Result, IfErr, OnErr, OnOk, if◌then◌else◌}
+use Rattle.std.specs.Prelude.{◌≡◌, ◌⊎◌, ℕ, ◌+◌, ◌-◌, min, List, [], length, slice_set, Option, Some, None, Result, IfOk, IfErr, OnErr, OnOk, if◌then◌else◌}
 use Rattle.iol_core.specs.State.{State, Domain, is_live, descriptor}
 use Rattle.iol_core.specs.Meaning.{WantOfRoomOrFault}
+use Rattle.iol_core.specs.Text.{bytes_of}
 use Rattle.iol_core.specs.Calls.Reading as calls
 use Rattle.iol_core.specs.declared.descriptors.Mode.{Mode}
 use Rattle.iol_core.specs.declared.descriptors.Descriptor.{Descriptor}
@@ -13,7 +14,7 @@ use Rattle.iol_hold.specs.Moves.{Moves, SameLists}
 use Rattle.iol_hold.specs.Places.{byte_len}
 use Rattle.iol_hold.specs.Releases.{FreesOnly}
 use Rattle.iol_hold.specs.Stored.{Stored}
-use Rattle.iol_hold.specs.Texts.{bufs_of}
+use Rattle.iol_hold.specs.Texts.{bufs_of, text_of}
 use Rattle.iol_hold.specs.declared.slices.Slice.{Slice}
 use Rattle.iol_desc.specs.Tables.{fds_in, with_agg_in, with_fds_in}
 use Rattle.iol_cache.specs.Cached.{Cached, file_in}
@@ -91,19 +92,20 @@ pub record ReadsFileAs {A : Type 0} (x : FileRead) (disk : Disk) (old : KernelSt
   pub refused : OnErr r (new.domains ≡ old.domains)
   pub leaves : IfErr r (LeavesAtRefusal x disk old after new)
 
--- What was read by reference over these pages was copied and released, and the position moved on. Over gaps there are new clean
--- extents.
-pub record GivesCopy (x : FileRead) (disk : Disk) (old : KernelState) (mid : Stored) (new : KernelState) : Type 0 where
+-- What was read by reference over these pages was copied and released, and the position moved on. The bytes that were copied are
+-- those that lay there, whatever the store had given before. Over gaps there are new clean extents.
+pub record GivesCopy (x : FileRead) (disk : Disk) (old : KernelState) (mid : Stored) (new : KernelState) (bytes : List ℕ) : Type 0 where
   pub slices : List Slice
+  pub copied : bytes ≡ bytes_of (text_of mid slices)
   pub read : ReadsFile x.file x.at x.count disk (holding_of old) (holding_over mid new) slices
   pub released : Moves mid new.store (bufs_of slices) []
   pub domains : new.domains ≡ moved_on old.domains x (byte_len slices)
 
 -- A read of a file by copying: what a read by reference does, whose slices were then released. A refusal before that changed nothing.
-pub record CopiesFileAs {A : Type 0} (x : FileRead) (disk : Disk) (old : KernelState) (r : Result A Refusal) (after : Disk) (new : KernelState) : Type 0 where
+pub record CopiesFileAs (x : FileRead) (disk : Disk) (old : KernelState) (r : Result (List ℕ) Refusal) (after : Disk) (new : KernelState) : Type 0 where
   pub mid : Stored
   pub reads : ReadsFileAs x disk old r after (record new { store = mid })
-  pub gives : OnOk r (GivesCopy x disk old mid new)
+  pub gives : IfOk r (GivesCopy x disk old mid new)
   pub early : IfErr r (λ y. ((new ≡ old) × (after ≡ disk)) ⊎ WantOfRoomOrFault (pool_read old x) x.file y)
   pub frees : FreesOnly mid new.store
   pub lists : SameLists mid new.store

@@ -61,7 +61,7 @@ GivesRead x disk old new = files.GivesRead x disk (state_of old) (state_of new)
 abbrev pub ReadsFileAs : {A : Type 0} → FileRead → Disk → Kernel → Result A Refusal → Disk → Kernel → Type 0
 ReadsFileAs x disk old r after new = files.ReadsFileAs x disk (state_of old) r after (state_of new)
 
-abbrev pub CopiesFileAs : {A : Type 0} → FileRead → Disk → Kernel → Result A Refusal → Disk → Kernel → Type 0
+abbrev pub CopiesFileAs : FileRead → Disk → Kernel → Result (List ℕ) Refusal → Disk → Kernel → Type 0
 CopiesFileAs x disk old r after new = files.CopiesFileAs x disk (state_of old) r after (state_of new)
 
 abbrev pub Reads : (d fd n : ℕ) → Disk → Kernel → Result ℕ Refusal → Disk → Kernel → Type 0
@@ -72,6 +72,9 @@ AddsBytes d pool bytes old new = calls.AddsBytes d pool bytes (state_of old) (st
 
 abbrev pub Shows : (d a : ℕ) → List ℕ → Kernel → Type 0
 Shows d a bytes k = calls.Shows d a bytes (state_of k)
+
+abbrev pub ShowsSoMany : (d a n : ℕ) → Kernel → Type 0
+ShowsSoMany d a n k = calls.ShowsSoMany d a n (state_of k)
 
 abbrev pub MakesAgg : (d pool n : ℕ) → (old new : Kernel) → Type 0
 MakesAgg d pool n old new = calls.MakesAgg d pool n (state_of old) (state_of new)

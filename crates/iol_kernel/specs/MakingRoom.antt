@@ -2,9 +2,9 @@
 use Rattle.std.specs.Prelude.{◌≡◌, ◌⊎◌, ℕ, ◌+◌, ◌≤◌, Bool, true, false, nat_le, List, length, Some, Result, Err, OnOk, IfErr}
 use Rattle.iol_core.specs.State.{State}
 use Rattle.iol_core.specs.Text.{Text}
-use Rattle.iol_core.specs.Meaning.{Meaning, WantOfRoom}
+use Rattle.iol_core.specs.Meaning.{Meaning}
 use Rattle.iol_core.specs.declared.refusals.Refusal.{Refusal}
-use Rattle.iol_core.specs.declared.refusals.Refusal.TheVariants.{NoRoom}
+use Rattle.iol_core.specs.declared.refusals.Refusal.TheVariants.{NoRoom, Memory}
 use Rattle.iol_arena.specs.State.{pages_for}
 use Rattle.iol_back.specs.Disk.{Disk}
 use Rattle.iol_hold.specs.Room.{free_of, pages_of}
@@ -45,9 +45,10 @@ pub record AfterRoom (pool n : ℕ) (old : KernelState) (P : KernelState → Typ
   pub room : MakesRoom pool (pages_for n) old roomy
   pub then : P roomy
 
--- A refusal came before anything changed. Or it came for want of room or of memory: then clean extents may have gone.
+-- A refusal, also one for want of room, came before anything changed. Or it came for want of memory: then clean extents may
+-- have gone.
 abbrev pub MayHaveEvicted : (pool n : ℕ) → (old new : KernelState) → Refusal → Type 0
-MayHaveEvicted pool n old new x = (new ≡ old) ⊎ (WantOfRoom pool x × MakesRoom pool (pages_for n) old new)
+MayHaveEvicted pool n old new x = (new ≡ old) ⊎ ((x ≡ Memory) × MakesRoom pool (pages_for n) old new)
 
 -- A call that places n new bytes in a pool, if need be in place of clean extents of files. It is the machine's step, over
 -- any store. Room is made; then the lowest free pages of the pool are filled, and all else lies where it lay. It is refused for want of

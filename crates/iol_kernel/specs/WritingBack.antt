@@ -1,6 +1,7 @@
 -- Writing back of what is dirty, and what it leaves beside what it means.
 use Rattle.std.specs.Prelude.{◌≡◌, ◌⊎◌, ℕ, None, Result, Ok, Err, OnOk}
 use Rattle.iol_core.specs.declared.refusals.Refusal.{Refusal}
+use Rattle.iol_core.specs.declared.refusals.Refusal.TheVariants.{Fault}
 use Rattle.iol_back.specs.Disk.{Disk}
 use Rattle.iol_extent.specs.Extents.{dirty_in}
 use Rattle.iol_cache.specs.Cached.{extents_in}
@@ -15,7 +16,7 @@ use Rattle.iol_kernel.specs.KernelState.{KernelState}
 pub record SyncsFile {A : Type 0} (f : ℕ) (disk : Disk) (old : KernelState) (r : Result A Refusal) (after : Disk) (new : KernelState) : Type 0 where
   pub syncs : cache.Syncs old.store f old.cache new.cache disk after
   pub clean : OnOk r (dirty_in (extents_in new.cache.files f) ≡ None)
-  pub writes : cache.WritesDirty old.store f old.cache new.cache disk after r ⊎ ((new ≡ old) × (after ≡ disk))
+  pub writes : cache.WritesDirty old.store f old.cache new.cache disk after r ⊎ (((g : ℕ) → r ≡ Err (Fault g) → ⊥) × (new ≡ old) × (after ≡ disk))
   pub counts : FaultCounts disk after r
   pub same : new ≡ record old { cache = new.cache }
 

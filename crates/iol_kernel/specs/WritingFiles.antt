@@ -9,7 +9,7 @@ use Rattle.iol_core.specs.declared.descriptors.Mode.{Mode}
 use Rattle.iol_core.specs.declared.descriptors.Descriptor.{Descriptor}
 use Rattle.iol_core.specs.declared.descriptors.Descriptor.TheVariants as on
 use Rattle.iol_core.specs.declared.refusals.Refusal.{Refusal}
-use Rattle.iol_core.specs.declared.refusals.Refusal.TheVariants.{NoRoom}
+use Rattle.iol_core.specs.declared.refusals.Refusal.TheVariants.{Memory, NoRoom}
 use Rattle.iol_arena.specs.Pages.{MadeOn}
 use Rattle.iol_hold.specs.Moves.{Moves, SameLists}
 use Rattle.iol_hold.specs.Places.{byte_len}
@@ -23,7 +23,7 @@ use Rattle.iol_cache.specs.Cached.{clean_held, file_in}
 use Rattle.iol_desc.specs.Tables.{fds_in, with_fds_in}
 use Rattle.iol_cache.specs.Composing.{copied_pages}
 use Rattle.iol_cache.specs.Evicting.{Holding}
-use Rattle.iol_cache.specs.Overwriting.{LiesDirty, OnlyMakesRoom, WritesFile}
+use Rattle.iol_cache.specs.Overwriting.{LeavesAll, LiesDirty, OnlyMakesRoom, WritesFile}
 use Rattle.iol_cache.specs.Paging.{FillsLowest}
 use Rattle.iol_cache.specs.Pinned.{pinned_beside}
 use Rattle.iol_kernel.specs.Backed.{holding_of}
@@ -41,11 +41,12 @@ abbrev pub pages_to_write : KernelState → (f : ℕ) → List Slice → ℕ
 pages_to_write h f source = pinned_beside h.store (clean_held h.cache.files) (pool_of_file h f) + copied_pages (pool_of_file h f) source
 
 -- A refused write. One that was refused before it made room changed nothing. A late one made room at most, the first extents
--- before the others, and what it placed is gone.
+-- before the others, and what it placed is gone; for want of room no extent went, and no page was filled.
 abbrev pub LeavesUnwritten : (f : ℕ) (source : List Slice) (old new : KernelState) → Refusal → Type 0
 LeavesUnwritten f source old new x =
     (new ≡ old)
-    ⊎ (WantOfRoom (pool_of_file old f) x × OnlyMakesRoom (pool_of_file old f) (copied_pages (pool_of_file old f) source) (holding_of old) (holding_of new))
+    ⊎ (WantOfRoom (pool_of_file old f) x × OnlyMakesRoom (pool_of_file old f) (copied_pages (pool_of_file old f) source) (holding_of old) (holding_of new)
+    × ((p : ℕ) → x ≡ NoRoom p → LeavesAll (holding_of old) (holding_of new)))
 
 -- Of the tables one descriptor changed, which is open on the file: its position is that after so many bytes from `at` on.
 pub record OnlyMoves (f at len : ℕ) (old new : List (Domain (List Slice))) : Type 0 where
@@ -122,12 +123,12 @@ pub record GivesUpNew (pool : ℕ) (bytes : List ℕ) (old new : KernelState) : 
   pub frees : FreesOnly left new.store
   pub rest : new ≡ record old { store = new.store; cache = new.cache }
 
--- A refused write. One that was refused before it made room changed nothing. A late one made room at most, the first extents
--- before the others, and what it placed is gone.
+-- A refused write. One that was refused before it made room, or for want of it, changed nothing. One for want of memory made
+-- room at most, the first extents before the others, and what it placed is gone.
 abbrev pub LeavesUnlaid : (pool : ℕ) (bytes : List ℕ) (old new : KernelState) → Refusal → Type 0
 LeavesUnlaid pool bytes old new x =
     (new ≡ old)
-    ⊎ (WantOfRoom pool x × AfterRoom pool (length bytes) old (λ roomy. (new ≡ roomy) ⊎ GivesUpNew pool bytes roomy new))
+    ⊎ ((x ≡ Memory) × AfterRoom pool (length bytes) old (λ roomy. (new ≡ roomy) ⊎ GivesUpNew pool bytes roomy new))
 
 -- Room was made for new bytes, and they came over those of a file; or they did not, and nothing else became of the file.
 pub record LaysInFile {A : Type 0} (f at pool : ℕ) (bytes : List ℕ) (old : KernelState) (r : Result A Refusal) (new : KernelState) : Type 0 where

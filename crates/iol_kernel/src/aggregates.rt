@@ -25,7 +25,7 @@ use iol_core::refusals::Refusal;
 use std::alloc::AllocError;
 
 impl Kernel {
-    ghost use Rattle.iol_kernel.specs.Kernel.{state_of, machine, as_read, Steps, AddsBytes, Shows, MakesAgg, Places, CarriesOut, KeepsPlaces, Answers, Leaves};
+    ghost use Rattle.iol_kernel.specs.Kernel.{state_of, machine, as_read, Steps, AddsBytes, Shows, ShowsSoMany, MakesAgg, Places, CarriesOut, KeepsPlaces, Answers, Leaves};
 
     /// Places bytes in the caller's default pool, as its next aggregate. Clean extents of the pool's files give way.
     pub fn agg_make(&mut self, by: DomainId, bytes: &Bytes) -> Result<AggId, Refusal>
@@ -432,5 +432,15 @@ impl Kernel {
     {
         let found = self.find(by, agg)?;
         Ok(found.parts(&self.store))
+    }
+
+    /// How many bytes an aggregate has. Its slices are not walked.
+    pub fn agg_len(&self, by: DomainId, agg: AggId) -> Result<u32, Refusal>
+        requires { IsSound (state_of self.now) }
+        ensures ok { IfOk result (λ n. ShowsSoMany by agg n self.now) }
+        ensures err { IfErr result (λ x. (f : Reading) → first (calls.show (as_read f
+            self.now) by agg).refusals ≡ Some x) }
+    {
+        self.find_len(by, agg)
     }
 }

@@ -52,6 +52,7 @@ impl Kernel {
         ensures most { IfOk result (λ a. a.taken ≤ min (min max PAGE_BYTES) (MAX_QUEUE_BYTES -
             length (conn_at (machine self.old) conn).incoming)) }
         ensures some { IfOk result (λ a. a.end ≡ false → a.failed ≡ false → 0 < a.taken) }
+        ensures either { IfOk result (λ a. a.end ≡ true → a.failed ≡ false) }
         ensures ended { IfOk result (λ a. a.end ≡ true → (a.taken ≡ 0) × IsAtEnd
             (R.remaining reader.new)) }
         ensures failed { IfOk result (λ a. a.failed ≡ true → a.taken ≡ 0) }
@@ -115,6 +116,7 @@ impl Kernel {
         ensures most { IfOk result (λ a. a.taken ≤ min (min max PAGE_BYTES) (MAX_QUEUE_BYTES -
             length (conn_at (machine self.old) conn).incoming)) }
         ensures some { IfOk result (λ a. a.end ≡ false → a.failed ≡ false → 0 < a.taken) }
+        ensures either { IfOk result (λ a. a.end ≡ true → a.failed ≡ false) }
         ensures ended { IfOk result (λ a. a.end ≡ true → (a.taken ≡ 0) × IsAtEnd
             (R.remaining reader.new)) }
         ensures failed { IfOk result (λ a. a.failed ≡ true → a.taken ≡ 0) }

@@ -34,6 +34,7 @@ impl Kernel {
             (pinned_beside self.old.store clean pool + pages ≤ length (pages_of self.old.store
             pool)) }
         ensures free { IsTrue result → pages ≤ length (free_of self.new.store pool) }
+        ensures refused { result ≡ false → state_of self.new ≡ state_of self.old }
     {
         self.files.cache.make_room(&mut self.store, pool, pages)
     }
@@ -45,6 +46,7 @@ impl Kernel {
         ensures made { MakesRoom pool (pages_for bytes) (state_of self.old) (state_of self.new) }
         ensures fits { can_fit (state_of self.old) pool bytes ≡ result }
         ensures room { IsTrue result → has_room self.new.store pool bytes ≡ true }
+        ensures refused { result ≡ false → state_of self.new ≡ state_of self.old }
     {
         let pages = pages_to_hold(bytes);
         self.make_room(pool, pages)

@@ -27,6 +27,7 @@ impl Files {
     pub(crate) fn new(alloc: Global, pages: usize) -> Result<Files, AllocError>
         ensures none { IfOk result (λ f. f.table.files ≡ []) }
         ensures cached { IfOk result (λ f. (cached_of f.cache).files ≡ []) }
+        ensures orders { IfOk result (λ f. (cached_of f.cache).orders ≡ []) }
         ensures sound { IfOk result (λ f. (s : Stored) → page_count s.arena ≡ pages → IsTidy s →
             IsStill s.arena → cache.IsSound s (cached_of f.cache)) }
     {

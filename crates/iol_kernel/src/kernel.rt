@@ -54,6 +54,7 @@ impl Kernel {
         ensures limit { IfOk result (λ k. k.store.arena.limit ≡ config.gen_limit) }
         ensures sums { IfOk result (λ k. k.sums.entries ≡ []) }
         ensures sum_limit { IfOk result (λ k. k.sums.limit ≡ config.sums) }
+        ensures orders { IfOk result (λ k. (state_of k).cache.orders ≡ []) }
         ensures sound { IfOk result (λ k. IsSound (state_of k)) }
     {
         let store = Store::new(alloc, config)?;

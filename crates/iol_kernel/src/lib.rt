@@ -8,7 +8,7 @@
 //!
 //! - `CarriesOut`: the machine's step, whatever is read at the places of bytes. Of bytes it is what
 //!   the call means, of places it says that nothing was copied. No page and no pool changes.
-//! - `KeepsPlaces`: the same of a call that frees pages or takes chunks. No page is raised.
+//! - `KeepsPlaces`: the same of a call that frees pages or takes chunks, or has a pool's list grow. No page is raised.
 //! - `Names`, `LooksUp` (`specs/Calls`, `specs/Backed`): the step of a call that asks the store under
 //!   the files for a length, where that is honest. Over any store it is the step for some bytes of files.
 //! - `Places` (`specs/MakingRoom`): the step of a call that places new bytes, as `agg_make` and `arrive`.

@@ -8,6 +8,7 @@ ghost use Rattle.iol_core.specs.Meaning.{WantOfRoom, first};
 ghost use Rattle.iol_core.specs.Calls.Pools as calls;
 ghost use Rattle.iol_arena.specs.Chunks.{free_chunks};
 ghost use Rattle.iol_pool.specs.Pools.{AddsPool};
+ghost use Rattle.iol_kernel.specs.Calls.{with_reader};
 ghost use Rattle.iol_kernel.specs.KernelState.{IsSound};
 ghost use Rattle.iol_kernel.specs.Readings.{Reading};
 
@@ -156,6 +157,63 @@ impl Kernel {
         ensures err { OnErr result (state_of self.new ≡ state_of self.old) }
     {
         Ok(self.store.create_pool(self.alloc, chunks, names)?)
+    }
+
+    /// Has a pool that the caller may read name a domain more on its list. It takes no memory; a domain that is named already
+    /// changes nothing.
+    #[tactic(auto, using(crate::proofs::Stay::stay_rules))]
+    pub fn pool_admit(
+        &mut self,
+        by: DomainId,
+        pool: PoolId,
+        domain: DomainId,
+    ) -> Result<(), Refusal>
+        requires { IsSound (state_of self.old) }
+        ensures admit { KeepsPlaces (λ s. calls.pool_admit s by pool domain) self.old result self.new }
+        ensures list { OnOk result (state_of self.new ≡ with_reader (state_of self.old) pool domain) }
+        ensures free { result ≡ Err Refusal.Memory → ⊥ }
+        ensures roomy { (p : ℕ) → result ≡ Err (Refusal.NoRoom p) → ⊥ }
+    {
+        if !self.is_live(by) || !self.is_live(domain) {
+            return Err(Refusal::NoDomain);
+        }
+        if !self.is_pool(pool) {
+            return Err(Refusal::NoPool);
+        }
+        if !self.has_place(pool, domain) {
+            return Err(Refusal::TooMany);
+        }
+        if !self.may_read(by, pool) {
+            return Err(Refusal::Denied { pool });
+        }
+        if self.is_closed(pool) {
+            return Err(Refusal::PoolClosed { pool });
+        }
+        self.add_reader(pool, domain);
+        Ok(())
+    }
+
+    /// Whether the pool's list names the domain, or has a place for its name.
+    #[tactic(auto, using(crate::proofs::Views::pool_rules), unfolding(crate::specs::KernelState::read_of))]
+    fn has_place(&self, p: PoolId, d: DomainId) -> bool
+        ensures { (f : Reading) → result ≡ calls.has_place (state.pool (as_read f self.now)
+            p).domains d }
+    {
+        self.store.pools().has_place(p, d)
+    }
+
+    /// Adds a domain to a pool's list.
+    fn add_reader(&mut self, p: PoolId, d: DomainId)
+        requires sound { IsSound (state_of self.old) }
+        requires there { is_pool (machine self.old) p ≡ true }
+        requires place { calls.has_place (state.pool (machine self.old) p).domains d ≡ true }
+        ensures admits { Leaves (λ s. record s {
+          pools = with_numbered s.pools p (calls.admitting (state.pool
+              s p) d);
+        }) self.old self.new }
+        ensures list { state_of self.new ≡ with_reader (state_of self.old) p d }
+    {
+        self.store.admit(p, d);
     }
 
     /// Closes a pool: nothing more is placed in it, and its bytes stay readable.

@@ -60,7 +60,7 @@ does_copy_to_conn s t d fd c bytes (reply.Count k) order is step =
     let to : t ≡ writing.written s d fd o (labelled p (take (writing.fitting s o (length bytes)) bytes)) = step.2 ∙ ap (λ o. writing.written s d fd o (labelled (writing.pool_for s d o) (take (writing.fitting s o (length bytes)) bytes))) is in
     let same : t ≡ with_conn s c (record (conn_at s c) { outgoing = (conn_at s c).outgoing ++ labelled p (take k bytes) }) = to ∙ ap (λ n. writing.written s d fd o (labelled p (take n bytes))) (sym k_is) in
     let broken = when-none refuse.BrokenPipe (writing.is_broken s (descriptor s d fd)) (passed (writing.write s d fd bytes).refusals 6 step.0) in
-    puts_conn s t d fd c bytes k (labelled p (take k bytes)) order is (within k (length bytes) _ k_is) (bytes-labelled p (take k bytes)) (sym (ap (λ o. writing.is_broken s o) is) ∙ broken) same
+    puts_conn s t d fd c bytes k (labelled p (take k bytes)) order is (within k (length bytes) _ k_is) k_is (bytes-labelled p (take k bytes)) (sym (ap (λ o. writing.is_broken s o) is) ∙ broken) same
 does_copy_to_conn s t d fd c bytes (reply.Refused x) order is step = step.1
 does_copy_to_conn s t d fd c bytes r order is step = (let e = step.1 in absurd (cc))
 
@@ -72,7 +72,7 @@ does_copy_to_pipe s t d fd q bytes (reply.Count k) order is step =
     let to : t ≡ writing.written s d fd o (labelled p (take (writing.fitting s o (length bytes)) bytes)) = step.2 ∙ ap (λ o. writing.written s d fd o (labelled (writing.pool_for s d o) (take (writing.fitting s o (length bytes)) bytes))) is in
     let same : t ≡ with_pipe s q (record (pipe_at s q) { queue = (pipe_at s q).queue ++ labelled p (take k bytes) }) = to ∙ ap (λ n. writing.written s d fd o (labelled p (take n bytes))) (sym k_is) in
     let broken = when-none refuse.BrokenPipe (writing.is_broken s (descriptor s d fd)) (passed (writing.write s d fd bytes).refusals 6 step.0) in
-    puts_pipe s t q bytes k (labelled p (take k bytes)) (within k (length bytes) _ k_is) (bytes-labelled p (take k bytes)) (sym (ap (λ o. writing.is_broken s o) is) ∙ broken) same
+    puts_pipe s t q bytes k (labelled p (take k bytes)) (within k (length bytes) _ k_is) k_is (bytes-labelled p (take k bytes)) (sym (ap (λ o. writing.is_broken s o) is) ∙ broken) same
 does_copy_to_pipe s t d fd q bytes (reply.Refused x) order is step = step.1
 does_copy_to_pipe s t d fd q bytes r order is step = (let e = step.1 in absurd (cc))
 
@@ -150,6 +150,7 @@ does_copy_from_conn s t d fd c n (reply.Bytes found) order is step =
       incoming = drop (length tx) inc;
       found_is = ap told step.1 ∙ ap (λ o. bytes_of (reading.read_text s d o n)) is;
       was = admitted-rest (may_read s d) n inc;
+      most = refl;
       conn = ap (λ u. conn_at u c) same ∙ conn-with_same s c x both.1 (not-over x both.0 both.1);
       lent = same_lent s t d (ap (λ u. (domain u d).aggs) same ∙ ap (λ (z : Domain Text). z.aggs) (domain-same s (with_conn s c x) d (domains-with_conn s c x)));
       ended = λ some none. (let gone = none-admitted (may_read s d) n inc some free none in (gone, none-comes n inc (is_none (conn_at s c).peer) some gone still));
@@ -173,6 +174,7 @@ does_copy_from_pipe s t d fd p n (reply.Bytes found) order is step =
       rest = drop (length tx) q;
       found_is = ap told step.1 ∙ ap (λ o. bytes_of (reading.read_text s d o n)) is;
       was = admitted-rest (may_read s d) n q;
+      most = refl;
       pipe = ap (λ u. pipe_at u p) same ∙ pipe-with_same s p x on_yet on_yet;
       lent = same_lent s t d (ap (λ u. (domain u d).aggs) same ∙ ap (λ (z : Domain Text). z.aggs) (domain-same s (with_pipe s p x) d (domains-with_pipe s p x)));
       ended = λ some none. (let gone = none-admitted (may_read s d) n q some free none in (gone, none-comes n q (pipe_at s p).writing some gone still));

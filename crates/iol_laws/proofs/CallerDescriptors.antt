@@ -1,15 +1,16 @@
 -- What reading, writing, accepting and closing do for their own domain.
-use Rattle.std.proofs.Common.{◌≡◌, ℕ, ◌≤◌, List, [], ◌++◌, length, take, drop, ap, ◌∙◌, refl, sym, arith, Option, Some, None, true, false, Bool}
-use Rattle.std.specs.Prelude.{option_map, unwrap_or, not, is_none, ◌&&◌, ◌||◌}
+use Rattle.std.proofs.Common.{◌⊎◌, inr, inl, ◌≡◌, ℕ, ◌≤◌, List, [], ◌++◌, length, take, drop, ap, ◌∙◌, refl, sym, arith, Option, Some, None, true, false, Bool}
+use Rattle.std.specs.Prelude.{min, ◌-◌, option_map, unwrap_or, not, is_none, ◌&&◌, ◌||◌}
 use Rattle.iol_core.specs.Text.{Text, bytes_of, admitted}
 use Rattle.iol_core.specs.Numbered.{lookup, in_place, lowest, placed}
-use Rattle.iol_core.specs.State.{State, Domain, Connection, domain, text, descriptor, may_read, conn_at, is_live, is_over, is_gone, with_conn}
+use Rattle.iol_core.specs.State.{no_conn, State, Domain, Connection, domain, text, descriptor, may_read, conn_at, is_live, is_over, is_gone, with_conn}
 use Rattle.iol_core.specs.Run.{StepsTo}
 use Rattle.iol_core.specs.Calls.Aggregates as aggs
 use Rattle.iol_core.specs.Calls.Descriptors as fds
 use Rattle.iol_core.specs.Calls.Reading as reading
 use Rattle.iol_core.specs.Calls.Writing as writing
 use Rattle.iol_core.specs.Calls.Writing.{is_file}
+use Rattle.iol_core.specs.declared.limits.TheConstants.{MAX_QUEUE_BYTES}
 use Rattle.iol_core.specs.declared.refusals.Refusal.TheVariants as refuse
 use Rattle.iol_core.specs.declared.descriptors.Descriptor.TheVariants as on
 use Rattle.iol_core.specs.declared.events.Call.TheVariants as call
@@ -30,12 +31,12 @@ use Rattle.iol_laws.proofs.Texts.{admitted-rest, bytes-take, length-bytes}
 use Rattle.iol_laws.proofs.Waiting.{opened-conn, waiting-is}
 
 -- a text goes behind what is to be sent
-pub puts_conn : (s t : State) (d fd c : ℕ) (bytes : List ℕ) (k : ℕ) (x : Text) → IsOrderly s → descriptor s d fd ≡ Some (on.Connection c) → k ≤ length bytes → bytes_of x ≡ take k bytes → is_gone (conn_at s c).peer ≡ false
+pub puts_conn : (s t : State) (d fd c : ℕ) (bytes : List ℕ) (k : ℕ) (x : Text) → IsOrderly s → descriptor s d fd ≡ Some (on.Connection c) → k ≤ length bytes → k ≡ min (length bytes) (MAX_QUEUE_BYTES - length (conn_at s c).outgoing) → bytes_of x ≡ take k bytes → is_gone (conn_at s c).peer ≡ false
     → t ≡ with_conn s c (record (conn_at s c) { outgoing = (conn_at s c).outgoing ++ x }) → Puts s c bytes k t
-puts_conn s t d fd c bytes k x order is within x_is takes same =
+puts_conn s t d fd c bytes k x order is within most x_is takes same =
     let both = opened-conn s d fd c order is in
     let y : Connection = record (conn_at s c) { outgoing = (conn_at s c).outgoing ++ x } in
-    record { text = x; within = within; text_is = x_is; takes = takes; conn = ap (λ u. conn_at u c) same ∙ conn-with_same s c y both.1 (not-over y both.0 both.1) }
+    record { text = x; within = within; text_is = x_is; most = most; takes = takes; conn = ap (λ u. conn_at u c) same ∙ conn-with_same s c y both.1 (not-over y both.0 both.1) }
 
 pub does_write_conn : (s t : State) (d fd c a : ℕ) (bytes : List ℕ) (r : Reply) → IsOrderly s → descriptor s d fd ≡ Some (on.Connection c) → lent_at s d a ≡ Some bytes → StepsTo s (event.Call d (call.IolWrite fd a)) r t → WritesConn s c bytes r t
 does_write_conn s t d fd c a bytes (reply.Count k) order is has step =
@@ -47,7 +48,9 @@ does_write_conn s t d fd c a bytes (reply.Count k) order is has step =
     let broken = when-none refuse.BrokenPipe (writing.is_broken s (descriptor s d fd)) (passed (writing.iol_write s d fd a).refusals 5 step.0) in
     let text_is = text-of s d a bytes has in
     let within : k ≤ length bytes = (let e = ap (λ (l : List ℕ). length l) text_is in let l : length (bytes_of w) ≡ length w = length-bytes w in omega (arith, k_is, e, l)) in
-    puts_conn s t d fd c bytes k (take k w) order is within (bytes-take k w ∙ ap (λ (l : List ℕ). take k l) text_is) (sym (ap (λ o. writing.is_broken s o) is) ∙ broken) same
+    let same_length : length w ≡ length bytes = (let l : length (bytes_of w) ≡ length w = length-bytes w in sym l ∙ ap (λ (l : List ℕ). length l) text_is) in
+    let most = k_is ∙ ap (λ z. min z (MAX_QUEUE_BYTES - length (conn_at s c).outgoing)) same_length in
+    puts_conn s t d fd c bytes k (take k w) order is within most (bytes-take k w ∙ ap (λ (l : List ℕ). take k l) text_is) (sym (ap (λ o. writing.is_broken s o) is) ∙ broken) same
 does_write_conn s t d fd c a bytes (reply.Refused x) order is has step = step.1
 does_write_conn s t d fd c a bytes r order is has step = (let e = step.1 in absurd (cc))
 
@@ -73,6 +76,7 @@ does_read_conn s t d fd c n (reply.Agg a) order is step =
       lends = ap (λ k. lent_at t d k) a_is ∙ lent-made mid t d (domain mid d).aggs tx (ap (λ (y : Domain Text). y.live) dom ∙ live) none_mid same;
       new = ap (λ k. lent_at s d k) (a_is ∙ next) ∙ ap (λ (o : Option Text). option_map bytes_of o) none;
       was = admitted-rest (may_read s d) n inc;
+      most = refl;
       conn = ap (λ u. conn_at u c) same ∙ (conns-with_agg mid d tx c ∙ conn-with_same s c x both.1 (not-over x both.0 both.1));
       ended = λ some none. (let gone = none-admitted (may_read s d) n inc some free none in (gone, none-comes n inc (is_none (conn_at s c).peer) some gone still));
     }
@@ -96,14 +100,14 @@ does_close_conn s t d fd c reply.Done order is step =
     let conn : conn_at t c ≡ conn_at (with_conn s c x) c = ap (λ u. conn_at u c) same ∙ conns-with_fds (with_conn s c x) d (fds.freed s d fd) c in
     by x conn both.1 (is_over x) refl refl
   where
-    by : (x : Connection) → conn_at t c ≡ conn_at (with_conn s c x) c → (conn_at s c).closed ≡ false → (b : Bool) → is_over x ≡ b → x ≡ record (conn_at s c) { incoming = []; closed = true } → ((conn_at t c).closed ≡ true) × ((conn_at t c).outgoing ≡ (conn_at s c).outgoing)
+    by : (x : Connection) → conn_at t c ≡ conn_at (with_conn s c x) c → (conn_at s c).closed ≡ false → (b : Bool) → is_over x ≡ b → x ≡ record (conn_at s c) { incoming = []; closed = true } → ((conn_at t c).closed ≡ true) × ((conn_at t c).outgoing ≡ (conn_at s c).outgoing) × (((conn_at t c).peer ≡ (conn_at s c).peer) ⊎ (conn_at t c ≡ no_conn))
     by x conn open_yet false over x_is =
         let e = conn ∙ (conn-with_same s c x open_yet over ∙ x_is) in
-        (ap (λ (z : Connection). z.closed) e, ap (λ (z : Connection). z.outgoing) e)
+        (ap (λ (z : Connection). z.closed) e, ap (λ (z : Connection). z.outgoing) e, inl (ap (λ (z : Connection). z.peer) e))
     by x conn open_yet true over x_is =
         let e = conn ∙ conn-over s c x order.once over in
         let gone : x.outgoing ≡ [] = nothing-left x.outgoing (x.closed || (not x.accepted && is_gone x.peer)) over in
-        (ap (λ (z : Connection). z.closed) e, ap (λ (z : Connection). z.outgoing) e ∙ (sym gone ∙ ap (λ (z : Connection). z.outgoing) x_is))
+        (ap (λ (z : Connection). z.closed) e, ap (λ (z : Connection). z.outgoing) e ∙ (sym gone ∙ ap (λ (z : Connection). z.outgoing) x_is), inr e)
 does_close_conn s t d fd c (reply.Refused x) order is step = step.1
 does_close_conn s t d fd c r order is step = (let e = step.1 in absurd (cc))
 

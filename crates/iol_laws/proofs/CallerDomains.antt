@@ -1,9 +1,10 @@
 -- What calls that make and end domains, and those on pools, do for the domain that makes them.
-use Rattle.std.proofs.Common.{inl, inr, ◌≡◌, ◌≢◌, ℕ, ◌+◌, ◌==◌, List, [], ◌∷◌, ◌++◌, length, ap, ◌∙◌, refl, subst, arith, Some, true, false, Bool}
-use Rattle.std.specs.Prelude.{fold, nat_le, ◌||◌, if◌then◌else◌, MatchOption}
+use Rattle.std.proofs.Common.{inl, inr, ◌≡◌, ◌≢◌, ℕ, ◌+◌, ◌-◌, ◌==◌, List, [], ◌∷◌, ◌++◌, length, ap, ◌∙◌, refl, sym, subst, arith, Option, Some, None, true, false, Bool}
+use Rattle.std.specs.Prelude.{fold, nat_le, not, ◌&&◌, ◌||◌, if◌then◌else◌, MatchOption}
 use Rattle.std.specs.List.{list_any}
 use Rattle.std.proofs.lemmas.Bool.Decides.{nat_tests}
 use Rattle.std.proofs.lemmas.Grind.{common_steps}
+use Rattle.std.proofs.lemmas.List.{set-get_or}
 use Rattle.std.proofs.lemmas.List.Folds.{list_any-append}
 use Rattle.iol_core.specs.Text.{Text}
 use Rattle.iol_core.specs.Numbered.{numbered_or, with_numbered, is_numbered}
@@ -12,7 +13,7 @@ use Rattle.iol_core.specs.Meaning.{first, ◌when◌, Never, WantOfMemory}
 use Rattle.iol_core.specs.Run.{StepsTo}
 use Rattle.iol_core.specs.Calls.Domains as domains
 use Rattle.iol_core.specs.Calls.Pools as pools
-use Rattle.iol_core.specs.Calls.Pools.{distinct}
+use Rattle.iol_core.specs.Calls.Pools.{admitting, distinct, has_place, with_name}
 use Rattle.iol_core.specs.Calls.Descriptors as fds
 use Rattle.iol_core.specs.declared.limits.TheConstants.{MAX_DOMAINS}
 use Rattle.iol_core.specs.declared.refusals.Refusal.{Refusal}
@@ -25,12 +26,13 @@ use Rattle.iol_core.proofs.Lookups.{domain-same, numbered_or-with}
 use Rattle.iol_core.proofs.Passing.{passed, when-none, when-not}
 use Rattle.iol_laws.specs.Order.{IsOrderly}
 use Rattle.iol_laws.specs.Caller.{is_rough}
-use Rattle.iol_laws.specs.CallerDomains.{MakesDomain, Exits, MakesPool, ClosesPool, SetsPool}
+use Rattle.iol_laws.specs.CallerDomains.{MakesDomain, Exits, MakesPool, ClosesPool, Admits, SetsPool}
 use Rattle.iol_laws.proofs.Connections.{conns_same}
 use Rattle.iol_laws.proofs.Domains.{domain-with_other, domain-with_same, domains-all_closed, live-first}
 use Rattle.iol_laws.proofs.Ending.{conn_ended, read_end_ended, unread_ended, write_end_ended}
 use Rattle.iol_laws.proofs.LeftPipes.{pipes_same}
 use Rattle.iol_laws.proofs.Refusing.{past-live}
+use Rattle.iol_laws.proofs.Tests.{both-true}
 
 -- the number of a domain or a pool in a reply
 abbrev made_in : Reply → ℕ
@@ -104,26 +106,27 @@ does_exit s t d r order live step = (let e = step.1 in absurd (cc))
 
 -- Pools.
 
+-- a list with a name more names that domain, too, and no other
+with_name-names : (list : List ℕ) (d e : ℕ) → list_any (λ x. x == e) (with_name list d) ≡ (list_any (λ x. x == e) list || (d == e))
+with_name-names list d e = one (list_any (λ x. x == d) list) refl
+  where
+    one : (b : Bool) → list_any (λ x. x == d) list ≡ b → list_any (λ x. x == e) (if b then list else list ++ d ∷ []) ≡ (list_any (λ x. x == e) list || (d == e))
+    one false un = list_any-append (λ x. x == e) list (d ∷ []) ∙ grind (arith, common_steps)
+    one true is = by (d == e) refl
+      where
+        by : (b : Bool) → (d == e) ≡ b → list_any (λ x. x == e) list ≡ (list_any (λ x. x == e) list || b)
+        by false differ = grind (arith)
+        by true same = (let k : d ≡ e = grind (arith, nat_tests, same) in let f = subst (λ n. list_any (λ x. x == n) list ≡ true) k is in grind (arith, f))
+
 -- a list in which each stands once names the same
 distinct-names : (list : List ℕ) (e : ℕ) → list_any (λ d. d == e) (distinct list) ≡ list_any (λ d. d == e) list
 distinct-names list e = from [] list
   where
-    more : List ℕ → ℕ → List ℕ
-    more found d = if list_any (λ x. x == d) found then found else found ++ d ∷ []
-
-    one : (found : List ℕ) (d : ℕ) (b : Bool) → list_any (λ x. x == d) found ≡ b → list_any (λ x. x == e) (if b then found else found ++ d ∷ []) ≡ (list_any (λ x. x == e) found || (d == e))
-    one found d false un = list_any-append (λ x. x == e) found (d ∷ []) ∙ grind (arith, common_steps)
-    one found d true is = by (d == e) refl
-      where
-        by : (b : Bool) → (d == e) ≡ b → list_any (λ x. x == e) found ≡ (list_any (λ x. x == e) found || b)
-        by false differ = grind (arith)
-        by true same = (let k : d ≡ e = grind (arith, nat_tests, same) in let f = subst (λ n. list_any (λ x. x == n) found ≡ true) k is in grind (arith, f))
-
-    from : (found list : List ℕ) → list_any (λ d. d == e) (fold (λ found d. if list_any (λ x. x == d) found then found else found ++ d ∷ []) found list) ≡ (list_any (λ d. d == e) found || list_any (λ d. d == e) list)
+    from : (found list : List ℕ) → list_any (λ d. d == e) (fold (λ found d. with_name found d) found list) ≡ (list_any (λ d. d == e) found || list_any (λ d. d == e) list)
     from found [] = grind (arith, common_steps)
     from found (d ∷ list) =
-        let r = from (if list_any (λ x. x == d) found then found else found ++ d ∷ []) list in
-        let o = one found d (list_any (λ x. x == d) found) refl in
+        let r = from (with_name found d) list in
+        let o = with_name-names found d e in
         r ∙ (ap (λ b. b || list_any (λ x. x == e) list) o ∙ grind (arith, common_steps))
 
 pool-next : (s : State) (x : Pool) → pool (record s { pools = s.pools ++ x ∷ [] }) (length s.pools + 1) ≡ x
@@ -176,6 +179,49 @@ does_close_pool s t d p reply.Done step =
     }
 does_close_pool s t d p (reply.Refused x) step = step.1
 does_close_pool s t d p r step = (let e = step.1 in absurd (cc))
+
+numbered-same : {A : Type 0} (xs : List A) (n : ℕ) (z : A) → with_numbered xs n (numbered_or xs n z) ≡ xs
+numbered-same xs n z = let e = set-get_or xs (n - 1) z in grind (arith, nat_tests, common_steps, e)
+
+-- none of its refusals is for want of memory
+never_memory : (a b c d e : Bool) (p : ℕ) → first ((refuse.NoDomain when not a) ∷ (refuse.NoPool when not b) ∷ (refuse.TooMany when not c) ∷ (refuse.Denied p when not d) ∷ (refuse.PoolClosed p when e) ∷ []) ≡ Some refuse.Memory → ⊥
+never_memory false b c d e p is = cc
+never_memory true false c d e p is = cc
+never_memory true true false d e p is = cc
+never_memory true true true false e p is = cc
+never_memory true true true true true p is = cc
+never_memory true true true true false p is = cc
+
+-- a list that is not changed
+admitted-again : (s : State) (p e : ℕ) → may_read s e p ≡ true → record s { pools = with_numbered s.pools p (admitting (pool s p) e) } ≡ s
+unfolding pool
+admitted-again s p e named =
+    let x : Pool = pool s p in
+    ap (λ (b : Bool). record s { pools = with_numbered s.pools p (record x { domains = if b then x.domains else x.domains ++ e ∷ [] }) }) named
+    ∙ ap (λ (ps : List Pool). record s { pools = ps }) (numbered-same s.pools p no_pool)
+
+pub does_admit : (s t : State) (d p e : ℕ) (r : Reply) → StepsTo s (event.Call d (call.PoolAdmit p e)) r t → Admits s d p e r t
+does_admit s t d p e reply.Done step =
+    let refusals = (pools.pool_admit s d p e).refusals in
+    let x : Pool = admitting (pool s p) e in
+    let is : pool t p ≡ x = ap (λ u. pool u p) step.2 ∙ pool-shut s p x (when-not refuse.NoPool (is_pool s p) (passed refusals 1 step.0)) in
+    let open_yet = when-none (refuse.PoolClosed p) (pool s p).closed (passed refusals 4 step.0) in
+    record {
+      may_admit = when-not (refuse.Denied p) (may_read s d p) (passed refusals 3 step.0);
+      open_yet = open_yet;
+      lives = (both-true (is_live s d) (is_live s e) (when-not refuse.NoDomain (is_live s d && is_live s e) (passed refusals 0 step.0))).1;
+      may = λ f. ap (λ (y : Pool). list_any (λ n. n == f) y.domains) is ∙ with_name-names (pool s p).domains e f;
+      closed = ap (λ (y : Pool). y.closed) is ∙ open_yet;
+      others = λ q differ. ap (λ u. pool u q) step.2 ∙ pool-beside s p x q differ;
+      rest = subst (λ (u : State). u ≡ record s { pools = u.pools }) (sym step.2) refl;
+      again = λ named. step.2 ∙ admitted-again s p e named;
+    }
+does_admit s t d p e (reply.Refused x) step = (λ is. wants (first (pools.pool_admit s d p e).refusals) refl (subst (λ (y : Refusal). MatchOption (first (pools.pool_admit s d p e).refusals) (Never y) (λ z. y ≡ z)) is step.0), step.1)
+  where
+    wants : (o : Option Refusal) → first (pools.pool_admit s d p e).refusals ≡ o → MatchOption o (Never refuse.Memory) (λ z. refuse.Memory ≡ z) → ⊥
+    wants None is never = never
+    wants (Some y) is same = never_memory (is_live s d && is_live s e) (is_pool s p) (has_place (pool s p).domains e) (may_read s d p) (pool s p).closed p (is ∙ ap Some (sym same))
+does_admit s t d p e r step = (let e = step.1 in absurd (cc))
 
 pub does_set_pool : (s t : State) (d p : ℕ) (r : Reply) → StepsTo s (event.Call d (call.SetPool p)) r t → SetsPool s d p r t
 does_set_pool s t d p reply.Done step =

@@ -1,6 +1,7 @@
 -- What the calls on pipes do for their own domain.
 use Rattle.std.proofs.Common.{◌≡◌, ℕ, ◌≤◌, List, [], ◌++◌, length, take, drop, ap, ◌∙◌, refl, sym, arith, Option, Some, None, true, false, Bool}
-use Rattle.std.specs.Prelude.{option_map, slice_set, unwrap_or, not, ◌||◌, if◌then◌else◌}
+use Rattle.iol_core.specs.declared.limits.TheConstants.{MAX_QUEUE_BYTES}
+use Rattle.std.specs.Prelude.{min, ◌-◌, option_map, slice_set, unwrap_or, not, ◌||◌, if◌then◌else◌}
 use Rattle.iol_core.specs.Text.{Text, bytes_of, admitted}
 use Rattle.iol_core.specs.Numbered.{lookup, in_place, lowest, placed}
 use Rattle.iol_core.specs.State.{State, Domain, Pipe, domain, text, descriptor, may_read, pipe_at, no_pipe, new_pipe, is_live, with_domain, with_pipe}
@@ -61,6 +62,7 @@ does_read_pipe s t d fd p n (reply.Agg a) order is step =
       lends = ap (λ k. lent_at t d k) a_is ∙ lent-made mid t d (domain mid d).aggs tx (ap (λ (y : Domain Text). y.live) dom ∙ live) none_mid same;
       new = ap (λ k. lent_at s d k) (a_is ∙ next) ∙ ap (λ (o : Option Text). option_map bytes_of o) none;
       was = admitted-rest (may_read s d) n q;
+      most = refl;
       pipe = ap (λ u. pipe_at u p) same ∙ (pipes-with_agg mid d tx p ∙ pipe-with_same s p x (left-true (pipe_at s p).reading (pipe_at s p).writing reads) (left-true (pipe_at s p).reading (pipe_at s p).writing reads));
       ended = λ some none. (let gone = none-admitted (may_read s d) n q some free none in (gone, none-comes n q (pipe_at s p).writing some gone still));
     }
@@ -72,12 +74,12 @@ not-false true is = refl
 not-false false is = absurd (cc)
 
 -- a text goes behind what is to be read
-pub puts_pipe : (s t : State) (p : ℕ) (bytes : List ℕ) (k : ℕ) (x : Text) → k ≤ length bytes → bytes_of x ≡ take k bytes → not (pipe_at s p).reading ≡ false
+pub puts_pipe : (s t : State) (p : ℕ) (bytes : List ℕ) (k : ℕ) (x : Text) → k ≤ length bytes → k ≡ min (length bytes) (MAX_QUEUE_BYTES - length (pipe_at s p).queue) → bytes_of x ≡ take k bytes → not (pipe_at s p).reading ≡ false
     → t ≡ with_pipe s p (record (pipe_at s p) { queue = (pipe_at s p).queue ++ x }) → PutsInPipe s p bytes k t
-puts_pipe s t p bytes k x within x_is unbroken same =
+puts_pipe s t p bytes k x within most x_is unbroken same =
     let reads : (pipe_at s p).reading ≡ true = not-false (pipe_at s p).reading unbroken in
     let on_yet = left-true (pipe_at s p).reading (pipe_at s p).writing reads in
-    record { text = x; within = within; text_is = x_is; takes = reads; pipe = ap (λ u. pipe_at u p) same ∙ pipe-with_same s p (record (pipe_at s p) { queue = (pipe_at s p).queue ++ x }) on_yet on_yet }
+    record { text = x; within = within; text_is = x_is; most = most; takes = reads; pipe = ap (λ u. pipe_at u p) same ∙ pipe-with_same s p (record (pipe_at s p) { queue = (pipe_at s p).queue ++ x }) on_yet on_yet }
 
 pub does_write_pipe : (s t : State) (d fd p a : ℕ) (bytes : List ℕ) (r : Reply) → IsOrderly s → descriptor s d fd ≡ Some (on.WriteEnd p) → lent_at s d a ≡ Some bytes → StepsTo s (event.Call d (call.IolWrite fd a)) r t → WritesPipe s p bytes r t
 does_write_pipe s t d fd p a bytes (reply.Count k) order is has step =
@@ -89,7 +91,9 @@ does_write_pipe s t d fd p a bytes (reply.Count k) order is has step =
     let broken = when-none refuse.BrokenPipe (writing.is_broken s (descriptor s d fd)) (passed (writing.iol_write s d fd a).refusals 5 step.0) in
     let text_is = text-of s d a bytes has in
     let within : k ≤ length bytes = (let e = ap (λ (l : List ℕ). length l) text_is in let l : length (bytes_of w) ≡ length w = length-bytes w in omega (arith, k_is, e, l)) in
-    puts_pipe s t p bytes k (take k w) within (bytes-take k w ∙ ap (λ (l : List ℕ). take k l) text_is) (sym (ap (λ o. writing.is_broken s o) is) ∙ broken) same
+    let same_length : length w ≡ length bytes = (let l : length (bytes_of w) ≡ length w = length-bytes w in sym l ∙ ap (λ (l : List ℕ). length l) text_is) in
+    let most = k_is ∙ ap (λ z. min z (MAX_QUEUE_BYTES - length (pipe_at s p).queue)) same_length in
+    puts_pipe s t p bytes k (take k w) within most (bytes-take k w ∙ ap (λ (l : List ℕ). take k l) text_is) (sym (ap (λ o. writing.is_broken s o) is) ∙ broken) same
 does_write_pipe s t d fd p a bytes (reply.Refused x) order is has step = step.1
 does_write_pipe s t d fd p a bytes r order is has step = (let e = step.1 in absurd (cc))
 

@@ -247,6 +247,7 @@ sole_called s by call.DomainNew order unrefused = sole_domain_new s by (sole_of 
 sole_called s by call.Exit order unrefused = sole_exit s by (sole_of s order)
 sole_called s by (call.PoolCreate chunks list) order unrefused = sole_rest s (called s by (call.PoolCreate chunks list)).after (sole_of s order) refl refl refl
 sole_called s by (call.PoolClose p) order unrefused = sole_rest s (called s by (call.PoolClose p)).after (sole_of s order) refl refl refl
+sole_called s by (call.PoolAdmit p d) order unrefused = sole_rest s (called s by (call.PoolAdmit p d)).after (sole_of s order) refl refl refl
 sole_called s by (call.Show x) order unrefused = sole_of s order
 sole_called s by (call.AggGive x to) order unrefused = sole_agg_give s by x to (sole_of s order)
 sole_called s by (call.FileNew name p) order unrefused = sole_rest s (called s by (call.FileNew name p)).after (sole_of s order) refl refl refl

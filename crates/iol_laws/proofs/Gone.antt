@@ -162,6 +162,7 @@ gone_called : (s : State) (by : ℕ) (k : Call) → AllGone s → first (called 
 gone_called s by call.DomainNew was unrefused = gone_domain_new s by was
 gone_called s by call.Exit was unrefused = gone_domain (fold fds.closed_on s (domain s by).fds) by no_domain (λ dead. refl) (gone_all_closed s (domain s by).fds was)
 gone_called s by (call.PoolCreate chunks list) was unrefused = gone_same s (called s by (call.PoolCreate chunks list)).after refl refl was
+gone_called s by (call.PoolAdmit p d) was unrefused = gone_same s (called s by (call.PoolAdmit p d)).after refl refl was
 gone_called s by (call.PoolClose p) was unrefused = gone_same s (called s by (call.PoolClose p)).after refl refl was
 gone_called s by (call.AggGive a to) was unrefused = (let both = both-live s by to _ unrefused in gone_agg_give s by a to both.0 both.1 was)
 gone_called s by (call.Show a) was unrefused = was

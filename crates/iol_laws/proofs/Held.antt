@@ -107,7 +107,7 @@ held_file s d fd o live file was = record {
 
 -- A pipe or a connection changes, and none of its ends.
 
-pipe-either : (s : State) (p : ℕ) (x : Pipe) → (pipe_at (with_pipe s p x) p ≡ x) ⊎ (pipe_at (with_pipe s p x) p ≡ no_pipe)
+pub pipe-either : (s : State) (p : ℕ) (x : Pipe) → (pipe_at (with_pipe s p x) p ≡ x) ⊎ (pipe_at (with_pipe s p x) p ≡ no_pipe)
 unfolding pipe_at with_pipe
 pipe-either s p x = by (x.reading || x.writing) refl s.pipes p
   where

@@ -161,6 +161,7 @@ held_called s by call.DomainNew order unrefused = held_domain_new s by (held_of 
 held_called s by call.Exit order unrefused = held_exit s by order.once (held_of s order)
 held_called s by (call.PoolCreate chunks list) order unrefused = held_rest s (called s by (call.PoolCreate chunks list)).after refl refl refl (held_of s order)
 held_called s by (call.PoolClose p) order unrefused = held_rest s (called s by (call.PoolClose p)).after refl refl refl (held_of s order)
+held_called s by (call.PoolAdmit p d) order unrefused = held_rest s (called s by (call.PoolAdmit p d)).after refl refl refl (held_of s order)
 held_called s by (call.Show x) order unrefused = held_of s order
 held_called s by (call.AggGive x to) order unrefused = (let both = both-live s by to _ unrefused in held_agg_give s by x to both.0 both.1 (held_of s order))
 held_called s by (call.FileNew name p) order unrefused = held_rest s (called s by (call.FileNew name p)).after refl refl refl (held_of s order)

@@ -1,7 +1,9 @@
 -- Each step leaves all that its event does not touch.
-use Rattle.std.proofs.Common.{◌≡◌, ◌∙◌, ℕ, ◌==◌, List, ap, refl, sym, subst, arith, Bool, true, false}
+use Rattle.std.proofs.Common.{◌≡◌, ◌∙◌, ℕ, ◌==◌, List, [], ap, refl, sym, subst, arith, Bool, true, false}
 use Rattle.std.specs.Prelude.{Result, Ok, Err}
 use Rattle.std.specs.List.{list_any}
+use Rattle.std.proofs.lemmas.List.{append-nil}
+use Rattle.std.proofs.lemmas.List.Folds.{list_any-append}
 use Rattle.std.proofs.lemmas.Bool.Decides.{nat_tests}
 use Rattle.std.proofs.lemmas.Grind.{common_steps}
 use Rattle.iol_core.specs.Numbered.{is_numbered, numbered_or}
@@ -11,12 +13,13 @@ use Rattle.iol_core.specs.Run.{meaning, StepsTo, outcome}
 use Rattle.iol_core.specs.declared.refusals.Refusal.{Refusal}
 use Rattle.iol_core.specs.declared.events.Event.{Event}
 use Rattle.iol_core.specs.declared.events.Reply.{Reply}
-use Rattle.iol_laws.specs.Frame.{Leaves}
+use Rattle.iol_laws.specs.Frame.{Grows, Leaves}
 use Rattle.iol_laws.proofs.LeftConnections.{conns_meant}
 use Rattle.iol_laws.proofs.LeftDescriptors.{fds_meant}
 use Rattle.iol_laws.proofs.LeftDomains.{domains_meant}
 use Rattle.iol_laws.proofs.LeftFiles.{store_meant}
 use Rattle.iol_laws.proofs.LeftPipes.{pipes_meant}
+use Rattle.iol_laws.proofs.Tests.{left-true}
 
 unnumbered : {A : Type 0} (xs : List A) (n : ℕ) (z : A) → is_numbered xs n ≡ false → numbered_or xs n z ≡ z
 unnumbered xs n z un = grind (arith, nat_tests, common_steps, un)
@@ -30,8 +33,12 @@ readable s d p may = by (is_pool s p) refl
     by true is = refl
     by false is = absurd (let e = unnumbered s.pools p no_pool is in let f = ap (λ (x : Pool). list_any (λ e. e == d) x.domains) e in cc (f, may))
 
-readers_left : (s t : State) → ((p : ℕ) → is_pool s p ≡ true → (pool t p).domains ≡ (pool s p).domains) → (d p : ℕ) → may_read s d p ≡ true → may_read t d p ≡ true
-readers_left s t lists d p may = ap (λ (l : List ℕ). list_any (λ e. e == d) l) (lists p (readable s d p may)) ∙ may
+-- whom a list names it goes on to name
+names_left : (old new : List ℕ) (d : ℕ) → Grows old new → list_any (λ e. e == d) old ≡ true → list_any (λ e. e == d) new ≡ true
+names_left old new d grows may = ap (λ (l : List ℕ). list_any (λ e. e == d) l) grows.is ∙ (list_any-append (λ e. e == d) old grows.more ∙ left-true _ _ may)
+
+readers_left : (s t : State) → ((p : ℕ) → is_pool s p ≡ true → Grows (pool s p).domains (pool t p).domains) → (d p : ℕ) → may_read s d p ≡ true → may_read t d p ≡ true
+readers_left s t lists d p may = names_left (pool s p).domains (pool t p).domains d (lists p (readable s d p may)) may
 
 leaves_meant : (s : State) (e : Event) → Leaves s e (meaning s e).after
 leaves_meant s e =
@@ -45,9 +52,11 @@ leaves_meant s e =
       contents = store.contents;
       known = store.known;
       called = store.called;
+      numbered = store.numbered;
       lists = store.lists;
       readers = readers_left s (meaning s e).after store.lists;
       pools = store.pools;
+      listed = store.listed;
       lives = domains.lives;
       defaults = domains.defaults;
     }
@@ -61,9 +70,11 @@ leaves_nothing s e = record {
   contents = λ f un. refl;
   known = λ f is. refl;
   called = λ name f is. is;
-  lists = λ p is. refl;
+  numbered = λ p is. is;
+  lists = λ p is. record { more = []; few = omega arith; is = sym (append-nil (pool s p).domains) };
   readers = λ d p may. may;
-  pools = λ p is un. refl;
+  pools = λ p is un none. refl;
+  listed = λ p is none. refl;
   lives = λ d live un. live;
   defaults = λ d live un. refl;
 }

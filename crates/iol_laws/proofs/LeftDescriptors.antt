@@ -9,7 +9,7 @@ use Rattle.iol_core.specs.Numbered.{without, in_place, lowest, placed}
 use Rattle.iol_core.specs.State.{State, Domain, domain, text, descriptor, content, conn_at, new_domain, no_domain, with_domain, with_conn, with_content}
 use Rattle.iol_core.specs.Run.{called, meaning}
 use Rattle.iol_core.specs.Calls.Domains.{domain_new, exit}
-use Rattle.iol_core.specs.Calls.Pools.{pool_create, pool_close}
+use Rattle.iol_core.specs.Calls.Pools.{pool_create, pool_close, pool_admit}
 use Rattle.iol_core.specs.Calls.Aggregates as aggs
 use Rattle.iol_core.specs.Calls.Descriptors as fds
 use Rattle.iol_core.specs.Calls.Reading as reading
@@ -147,6 +147,7 @@ fds_called s by call.DomainNew = fds_domain_new s by
 fds_called s by call.Exit = fds_exit s by
 fds_called s by (call.PoolCreate chunks list) = fds_same s (pool_create s by chunks list).after no_fd refl
 fds_called s by (call.PoolClose p) = fds_same s (pool_close s by p).after no_fd refl
+fds_called s by (call.PoolAdmit p d) = fds_same s (pool_admit s by p d).after no_fd refl
 fds_called s by (call.SetPool p) = fds_kept s by _ no_fd refl
 fds_called s by (call.AggMake bytes) = fds_kept s by _ no_fd refl
 fds_called s by (call.AggDup a) = fds_kept s by _ no_fd refl

@@ -154,6 +154,7 @@ domains_called s by call.Accept =
     domains_kept s _ _ (standing_then s taken _ (standing_same s taken (domains-with_conn s _ _)) (standing_fds taken by _))
 domains_called s by (call.PoolCreate chunks list) = domains_kept s _ _ (standing_same s (called s by (call.PoolCreate chunks list)).after refl)
 domains_called s by (call.PoolClose p) = domains_kept s _ _ (standing_same s (called s by (call.PoolClose p)).after refl)
+domains_called s by (call.PoolAdmit p d) = domains_kept s _ _ (standing_same s (called s by (call.PoolAdmit p d)).after refl)
 domains_called s by (call.FileNew name p) = domains_kept s _ _ (standing_same s (called s by (call.FileNew name p)).after refl)
 domains_called s by (call.Show a) = domains_kept s _ _ (standing_same s s refl)
 domains_called s by (call.Length fd) = domains_kept s _ _ (standing_same s s refl)

@@ -1,7 +1,10 @@
 -- What each event leaves of files and of pools.
-use Rattle.std.proofs.Common.{inl, inr, ◌≡◌, ◌≢◌, ℕ, ◌+◌, ◌==◌, List, [], ◌∷◌, ◌++◌, length, take, drop, ap, ◌∙◌, refl, sym, arith, Option, Some, None, true, false, Bool}
+use Rattle.std.proofs.Common.{inl, inr, ◌≡◌, ◌≢◌, ℕ, ◌+◌, ◌==◌, List, [], ◌∷◌, ◌++◌, length, take, drop, ap, ◌∙◌, refl, sym, subst, arith, Option, Some, None, true, false, Bool}
 use Rattle.std.specs.Prelude.{if◌then◌else◌, fold, option_map, position, bytes_eq}
+use Rattle.std.specs.List.{list_any}
 use Rattle.std.specs.Option.{option_map_or}
+use Rattle.std.proofs.lemmas.List.{append-nil}
+use Rattle.std.proofs.lemmas.Bool.{cases_eq}
 use Rattle.std.proofs.lemmas.Bool.Decides.{nat_tests}
 use Rattle.std.proofs.lemmas.Grind.{common_steps}
 use Rattle.iol_core.specs.Text.{Text, bytes_of}
@@ -9,6 +12,7 @@ use Rattle.iol_core.specs.Numbered.{without, is_numbered, numbered_or, with_numb
 use Rattle.iol_core.specs.State.{State, Domain, Pool, File, domain, pool, is_pool, no_pool, file, no_file, content, text, descriptor, no_domain, with_domain, with_pipe, with_conn, with_content}
 use Rattle.iol_core.specs.Run.{called, meaning}
 use Rattle.iol_core.specs.Calls.Domains.{exit}
+use Rattle.iol_core.specs.Calls.Pools.{admitting, with_name}
 use Rattle.iol_core.specs.Calls.Aggregates as aggs
 use Rattle.iol_core.specs.Calls.Descriptors as fds
 use Rattle.iol_core.specs.Calls.Files.{file_called}
@@ -22,7 +26,7 @@ use Rattle.iol_core.specs.declared.events.Call.TheVariants as call
 use Rattle.iol_core.specs.declared.events.Event.{Event}
 use Rattle.iol_core.specs.declared.events.Event.TheVariants as event
 use Rattle.iol_core.proofs.Lookups.{file-same, numbered_or-with}
-use Rattle.iol_laws.specs.Frame.{changes_files, closes_pool, is_on_file, writes_file}
+use Rattle.iol_laws.specs.Frame.{Grows, admits_to, changes_files, closes_pool, is_on_file, writes_file}
 use Rattle.iol_laws.proofs.Tests.{apart}
 
 -- files, their bytes and the pools
@@ -54,7 +58,7 @@ store_read_on s by fd (Some (on.ReadEnd q)) count = record { files = refl; slots
 store_read_on s by fd (Some (on.WriteEnd q)) count = record { files = refl; slots = refl; pools = refl }
 store_read_on s by fd (Some (on.Connection e)) count = record { files = refl; slots = refl; pools = refl }
 
-files_written : (s : State) (by fd : ℕ) (to : Option Descriptor) (w : Text) → writing.is_file to ≡ false → ((writing.written s by fd to w).files ≡ s.files) × ((writing.written s by fd to w).slots ≡ s.slots)
+pub files_written : (s : State) (by fd : ℕ) (to : Option Descriptor) (w : Text) → writing.is_file to ≡ false → ((writing.written s by fd to w).files ≡ s.files) × ((writing.written s by fd to w).slots ≡ s.slots)
 unfolding with_pipe with_conn
 files_written s by fd None w un = (refl, refl)
 files_written s by fd (Some (on.File f at mode)) w un = absurd (cc)
@@ -111,14 +115,37 @@ store_agg_give s by a to = cases (by == to)
     cases true = record { files = refl; slots = refl; pools = refl }
     cases false = record { files = refl; slots = refl; pools = refl }
 
+-- whether it makes or changes a pool
+abbrev pub changes_pools : Event → Bool
+changes_pools (event.Call by (call.PoolCreate chunks list)) = true
+changes_pools (event.Call by (call.PoolClose p)) = true
+changes_pools (event.Call by (call.PoolAdmit p d)) = true
+changes_pools e = false
+
+-- a pool of the table that was
+there-same : (s t : State) (p : ℕ) → t.pools ≡ s.pools → is_pool s p ≡ true → is_pool t p ≡ true
+there-same s t p same is = ap (λ (ps : List Pool). is_numbered ps p) same ∙ is
+
+there-push : (xs : List Pool) (x : Pool) (p : ℕ) → is_numbered xs p ≡ true → is_numbered (xs ++ x ∷ []) p ≡ true
+there-push xs x p is = grind (arith, nat_tests, common_steps, is)
+
+there-with : (xs : List Pool) (q : ℕ) (x : Pool) (p : ℕ) → is_numbered xs p ≡ true → is_numbered (with_numbered xs q x) p ≡ true
+there-with xs q x p is = elim (cases_eq q 0) [
+  | inl k ↦ grind (arith, nat_tests, common_steps, k, is)
+  | inr k ↦ grind (arith, nat_tests, common_steps, k, is)
+]
+
 -- the files that were, and the pools that were
 pub record KeepsStore (s : State) (e : Event) (t : State) : Type 0 where
   pub files : changes_files s e ≡ false → (t.files ≡ s.files) × (t.slots ≡ s.slots)
   pub contents : (f : ℕ) → writes_file s e f ≡ false → content t f ≡ content s f
   pub known : (f : ℕ) → is_numbered s.files f ≡ true → file t f ≡ file s f
   pub called : (name : List ℕ) (f : ℕ) → file_called s name ≡ Some f → file_called t name ≡ Some f
-  pub lists : (p : ℕ) → is_pool s p ≡ true → (pool t p).domains ≡ (pool s p).domains
-  pub pools : (p : ℕ) → is_pool s p ≡ true → closes_pool e p ≡ false → pool t p ≡ pool s p
+  pub numbered : (p : ℕ) → is_pool s p ≡ true → is_pool t p ≡ true
+  pub lists : (p : ℕ) → is_pool s p ≡ true → Grows (pool s p).domains (pool t p).domains
+  pub pools : (p : ℕ) → is_pool s p ≡ true → closes_pool e p ≡ false → admits_to e p ≡ false → pool t p ≡ pool s p
+  pub listed : (p : ℕ) → is_pool s p ≡ true → admits_to e p ≡ false → (pool t p).domains ≡ (pool s p).domains
+  pub table : changes_pools e ≡ false → t.pools ≡ s.pools
 
 pool-same : (s t : State) (p : ℕ) → t.pools ≡ s.pools → pool t p ≡ pool s p
 unfolding pool
@@ -127,14 +154,26 @@ pool-same s t p same = ap (λ (ps : List Pool). numbered_or ps p no_pool) same
 called-same : (s t : State) (name : List ℕ) (f : ℕ) → t.files ≡ s.files → file_called s name ≡ Some f → file_called t name ≡ Some f
 called-same s t name f same is = ap (λ (fs : List File). option_map (λ i. i + 1) (position (λ x. bytes_eq x.name name) fs)) same ∙ is
 
+grows_same : (xs ys : List ℕ) → ys ≡ xs → Grows xs ys
+grows_same xs ys same = record { more = []; few = omega arith; is = same ∙ sym (append-nil xs) }
+
+grows_named : (xs : List ℕ) (d : ℕ) → Grows xs (with_name xs d)
+grows_named xs d = elim (list_any (λ e. e == d) xs) as (λ b. Grows xs (if b then xs else xs ++ d ∷ [])) [
+  | true ↦ grows_same xs xs refl
+  | false ↦ record { more = d ∷ []; few = omega arith; is = refl }
+]
+
 pub store_kept : (s t : State) (e : Event) → SameStore s t → KeepsStore s e t
 store_kept s t e same = record {
   files = λ un. (same.files, same.slots);
   contents = λ f un. content-same s t f same.slots;
   known = λ f is. file-same s t f same.files;
   called = λ name f is. called-same s t name f same.files is;
-  lists = λ p is. ap (λ (x : Pool). x.domains) (pool-same s t p same.pools);
-  pools = λ p is un. pool-same s t p same.pools;
+  numbered = λ p is. there-same s t p same.pools is;
+  lists = λ p is. grows_same _ _ (ap (λ (x : Pool). x.domains) (pool-same s t p same.pools));
+  pools = λ p is un none. pool-same s t p same.pools;
+  listed = λ p is none. ap (λ (x : Pool). x.domains) (pool-same s t p same.pools);
+  table = λ un. same.pools;
 }
 
 -- a call that writes what a descriptor is open on
@@ -147,8 +186,11 @@ store_wrote s e by fd to w changes writes =
       contents = λ f un. wrote.contents f (sym (writes f) ∙ un);
       known = λ f is. file-same s t f wrote.files;
       called = λ name f is. called-same s t name f wrote.files is;
-      lists = λ p is. ap (λ (x : Pool). x.domains) (pool-same s t p wrote.pools);
-      pools = λ p is un. pool-same s t p wrote.pools;
+      numbered = λ p is. there-same s t p wrote.pools is;
+      lists = λ p is. grows_same _ _ (ap (λ (x : Pool). x.domains) (pool-same s t p wrote.pools));
+      pools = λ p is un none. pool-same s t p wrote.pools;
+      listed = λ p is none. ap (λ (x : Pool). x.domains) (pool-same s t p wrote.pools);
+      table = λ un. wrote.pools;
     }
 
 -- one more of a list
@@ -182,15 +224,23 @@ called-more s x name f is = by (position (λ (y : File). bytes_eq y.name name) s
     by None none = absurd (let e = ap (λ (o : Option ℕ). option_map (λ i. i + 1) o) none in cc (e, is))
     by (Some i) some = ap (λ (o : Option ℕ). option_map (λ i. i + 1) o) (position-more (λ (y : File). bytes_eq y.name name) s.files (x ∷ []) i some ∙ sym some) ∙ is
 
-pool-closed : (s : State) (q p : ℕ) → q ≢ p → pool (record s { pools = with_numbered s.pools q (record (pool s q) { closed = true }) }) p ≡ pool s p
+pool-other : (s : State) (q p : ℕ) (x : Pool) → q ≢ p → pool (record s { pools = with_numbered s.pools q x }) p ≡ pool s p
 unfolding pool
-pool-closed s q p differ = elim (numbered_or-with s.pools q p (record (pool s q) { closed = true }) no_pool) [ inl both ↦ absurd (differ both.0) | inr same ↦ same ]
+pool-other s q p x differ = elim (numbered_or-with s.pools q p x no_pool) [ inl both ↦ absurd (differ both.0) | inr same ↦ same ]
 
-list-closed : (s : State) (q p : ℕ) → (pool (record s { pools = with_numbered s.pools q (record (pool s q) { closed = true }) }) p).domains ≡ (pool s p).domains
+pub list-closed : (s : State) (q p : ℕ) → (pool (record s { pools = with_numbered s.pools q (record (pool s q) { closed = true }) }) p).domains ≡ (pool s p).domains
 unfolding pool
 list-closed s q p = elim (numbered_or-with s.pools q p (record (pool s q) { closed = true }) no_pool) [
   | inl both ↦ ap (λ (x : Pool). x.domains) both.1 ∙ ap (λ n. (pool s n).domains) both.0
   | inr same ↦ ap (λ (x : Pool). x.domains) same
+]
+
+list-admitted : (s : State) (q d p : ℕ) → Grows (pool s p).domains (pool (record s { pools = with_numbered s.pools q (admitting (pool s q) d) }) p).domains
+unfolding pool
+list-admitted s q d p = elim (numbered_or-with s.pools q p (admitting (pool s q) d) no_pool) [
+  | inl both ↦ subst (λ (x : Pool). Grows (pool s p).domains x.domains) (sym both.1)
+      (subst (λ n. Grows (pool s n).domains (admitting (pool s q) d).domains) both.0 (grows_named (pool s q).domains d))
+  | inr same ↦ grows_same _ _ (ap (λ (x : Pool). x.domains) same)
 ]
 
 store_pooled : (s : State) (by chunks : ℕ) (list : List ℕ) → KeepsStore s (event.Call by (call.PoolCreate chunks list)) (called s by (call.PoolCreate chunks list)).after
@@ -201,8 +251,11 @@ store_pooled s by chunks list =
       contents = λ f un. content-same s t f refl;
       known = λ f is. file-same s t f refl;
       called = λ name f is. is;
-      lists = λ p is. ap (λ (x : Pool). x.domains) (pool-push s _ p is);
-      pools = λ p is un. pool-push s _ p is;
+      numbered = λ p is. there-push s.pools _ p is;
+      lists = λ p is. grows_same _ _ (ap (λ (x : Pool). x.domains) (pool-push s _ p is));
+      pools = λ p is un none. pool-push s _ p is;
+      listed = λ p is none. ap (λ (x : Pool). x.domains) (pool-push s _ p is);
+      table = λ un. absurd (cc);
     }
 
 store_unpooled : (s : State) (by q : ℕ) → KeepsStore s (event.Call by (call.PoolClose q)) (called s by (call.PoolClose q)).after
@@ -213,8 +266,26 @@ store_unpooled s by q =
       contents = λ f un. content-same s t f refl;
       known = λ f is. file-same s t f refl;
       called = λ name f is. is;
-      lists = λ p is. list-closed s q p;
-      pools = λ p is un. pool-closed s q p (apart q p un);
+      numbered = λ p is. there-with s.pools q _ p is;
+      lists = λ p is. grows_same _ _ (list-closed s q p);
+      pools = λ p is un none. pool-other s q p _ (apart q p un);
+      listed = λ p is none. list-closed s q p;
+      table = λ un. absurd (cc);
+    }
+
+store_listed : (s : State) (by q d : ℕ) → KeepsStore s (event.Call by (call.PoolAdmit q d)) (called s by (call.PoolAdmit q d)).after
+store_listed s by q d =
+    let t : State = (called s by (call.PoolAdmit q d)).after in
+    record {
+      files = λ un. (refl, refl);
+      contents = λ f un. content-same s t f refl;
+      known = λ f is. file-same s t f refl;
+      called = λ name f is. is;
+      numbered = λ p is. there-with s.pools q _ p is;
+      lists = λ p is. list-admitted s q d p;
+      pools = λ p is un none. pool-other s q p _ (apart q p none);
+      listed = λ p is none. ap (λ (x : Pool). x.domains) (pool-other s q p _ (apart q p none));
+      table = λ un. absurd (cc);
     }
 
 store_filed : (s : State) (by : ℕ) (name : List ℕ) (p : ℕ) → KeepsStore s (event.Call by (call.FileNew name p)) (called s by (call.FileNew name p)).after
@@ -225,8 +296,11 @@ store_filed s by name p =
       contents = λ f un. content-same s t f refl;
       known = λ f is. file-more s _ f is;
       called = λ name f is. called-more s _ name f is;
-      lists = λ q is. ap (λ (x : Pool). x.domains) (pool-same s t q refl);
-      pools = λ q is un. pool-same s t q refl;
+      numbered = λ q is. there-same s t q refl is;
+      lists = λ q is. grows_same _ _ (ap (λ (x : Pool). x.domains) (pool-same s t q refl));
+      pools = λ q is un none. pool-same s t q refl;
+      listed = λ q is none. ap (λ (x : Pool). x.domains) (pool-same s t q refl);
+      table = λ un. refl;
     }
 
 store_called : (s : State) (by : ℕ) (k : Call) → KeepsStore s (event.Call by k) (called s by k).after
@@ -234,6 +308,7 @@ unfolding with_domain with_conn
 store_called s by call.Exit = store_kept s (exit s by).after _ (store_then_domain s (fold fds.closed_on s (domain s by).fds) by no_domain (store_all_closed s (domain s by).fds))
 store_called s by (call.PoolCreate chunks list) = store_pooled s by chunks list
 store_called s by (call.PoolClose p) = store_unpooled s by p
+store_called s by (call.PoolAdmit p d) = store_listed s by p d
 store_called s by (call.FileNew name p) = store_filed s by name p
 store_called s by (call.AggGive a to) = store_kept s (aggs.agg_give s by a to).after _ (store_agg_give s by a to)
 store_called s by (call.GiveFd fd to) = store_kept s (fds.give_fd s by fd to).after _ (store_given s by fd to (descriptor s by fd))

@@ -93,7 +93,7 @@ pipes_agg_give s by a to touched = pipes_same s (aggs.agg_give s by a to).after 
     cases true = refl
     cases false = refl
 
-pipe-new : (s : State) (by p : ℕ) → lowest s.pipes ≢ p → pipe_at (fds.pipe s by).after p ≡ pipe_at s p
+pub pipe-new : (s : State) (by p : ℕ) → lowest s.pipes ≢ p → pipe_at (fds.pipe s by).after p ≡ pipe_at s p
 unfolding pipe_at
 pipe-new s by p differ = ap (λ o. unwrap_or o no_pipe) (place-placed_other s.pipes p new_pipe differ)
 

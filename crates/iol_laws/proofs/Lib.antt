@@ -19,6 +19,7 @@ pub mod Held
 pub mod HeldOfCalls
 pub mod Unaccepted
 pub mod NumbersToCome
+pub mod Listed
 pub mod Ordered
 pub mod NoneLive
 pub mod Texts
@@ -44,3 +45,11 @@ pub mod Unsent
 pub mod Histories
 pub mod NextNumber
 pub mod Pending
+pub mod RefusalsLeft
+pub mod RefusalsOfFiles
+pub mod RefusalsOfPools
+pub mod ComeAndGo
+pub mod ShortAggregates
+pub mod ShortQueues
+pub mod Lengths
+pub mod Labels

@@ -117,6 +117,7 @@ below_called s by call.DomainNew below = below_domain_new s by below
 below_called s by call.Exit below = below_domain (fold fds.closed_on s (domain s by).fds) by no_domain (record { below = λ a more. refl; once = tt }) (below_same s (fold fds.closed_on s (domain s by).fds) (domains-all_closed s (domain s by).fds) below)
 below_called s by (call.PoolCreate chunks list) below = below_same s (called s by (call.PoolCreate chunks list)).after refl below
 below_called s by (call.PoolClose p) below = below_same s (called s by (call.PoolClose p)).after refl below
+below_called s by (call.PoolAdmit p d) below = below_same s (called s by (call.PoolAdmit p d)).after refl below
 below_called s by (call.SetPool p) below = below_domain s by _ (below.each by) below
 below_called s by (call.AggMake bytes) below = below_with_agg s by _ below
 below_called s by (call.AggDup x) below = below_with_agg s by _ below

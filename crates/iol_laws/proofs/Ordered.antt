@@ -1,11 +1,12 @@
 -- A new state is orderly, and each step keeps it so.
-use Rattle.std.proofs.Common.{inl, inr, ◌≡◌, ◌∙◌, ℕ, List, ap, refl, sym, subst, Option, Some, None, true, false}
+use Rattle.std.proofs.Common.{inl, inr, ◌≡◌, ◌≤◌, ◌∙◌, ℕ, List, length, ap, refl, sym, subst, arith, Option, Some, None, true, false}
 use Rattle.std.specs.Prelude.{Result, Ok, Err, unwrap_or, not}
 use Rattle.iol_core.specs.Text.{Text}
 use Rattle.iol_core.specs.Numbered.{lookup, in_place}
-use Rattle.iol_core.specs.State.{State, Domain, Pipe, Connection, domain, descriptor, pipe_at, conn_at, no_pipe, new_state}
+use Rattle.iol_core.specs.State.{State, Domain, Pool, Pipe, Connection, domain, descriptor, pool, pipe_at, conn_at, no_pipe, new_state}
 use Rattle.iol_core.specs.Meaning.{Step, first}
 use Rattle.iol_core.specs.Run.{meaning, StepsTo, outcome}
+use Rattle.iol_core.specs.declared.limits.TheConstants.{MAX_LISTED}
 use Rattle.iol_core.specs.declared.refusals.Refusal.{Refusal}
 use Rattle.iol_core.specs.Calls.Writing.{is_file}
 use Rattle.iol_core.specs.declared.descriptors.Descriptor.{Descriptor}
@@ -19,6 +20,7 @@ use Rattle.iol_laws.proofs.Ends.{stands-same}
 use Rattle.iol_laws.proofs.EndsOfCalls.{sole_meant}
 use Rattle.iol_laws.proofs.Gone.{gone_meant, gone_of}
 use Rattle.iol_laws.proofs.HeldOfCalls.{held_meant, open-is}
+use Rattle.iol_laws.proofs.Listed.{listed_meant, pool-unmade}
 use Rattle.iol_laws.proofs.NumbersToCome.{below_meant}
 use Rattle.iol_laws.proofs.Tests.{both-true}
 use Rattle.iol_laws.proofs.Unaccepted.{quiet_meant}
@@ -39,6 +41,7 @@ orderly_meant s e order unrefused =
       all_stand = sole.all_stand;
       held = λ x end is. open-is (meaning s e).after x gone (held.each x end is);
       ends = gone.ends;
+      listed = listed_meant s e order.listed unrefused;
       gone = gone.gone;
       waits = q.waits;
       silent = q.silent;
@@ -61,6 +64,7 @@ orderly_new slots = record {
   all_stand = λ d f x is. absurd (none d f x is);
   held = λ x end is. absurd (nothing x end is);
   ends = λ p x is. absurd (cc);
+  listed = λ p. subst (λ (x : Pool). length x.domains ≤ MAX_LISTED) (sym (pool-unmade (new_state slots) p refl)) (omega arith);
   gone = λ d dead. elim (domain-new_state slots d) [
     | inl is ↦ absurd (let e = ap (λ (x : Domain Text). x.live) is in cc (e, dead))
     | inr is ↦ is
@@ -93,12 +97,13 @@ orderly_new slots = record {
 
 -- whatever bytes files have
 pub orderly-slots : (s : State) (slots : List (List ℕ)) → IsOrderly s → IsOrderly (record s { slots = slots })
-unfolding domain pipe_at conn_at
+unfolding domain pool pipe_at conn_at
 orderly-slots s slots order = record {
   one = order.one;
   all_stand = λ d f x is. stands-same s (record s { slots = slots }) x refl refl ∙ order.all_stand d f x is;
   held = λ x end is. (let it = order.held x end (sym (stands-same s (record s { slots = slots }) x refl refl) ∙ is) in record { by = it.by; fd = it.fd; live = it.live; there = it.there });
   ends = order.ends;
+  listed = order.listed;
   gone = order.gone;
   waits = order.waits;
   silent = order.silent;

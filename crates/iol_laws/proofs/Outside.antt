@@ -54,11 +54,16 @@ does_arrive s t c bytes (reply.Count k) order step =
     let same : t ≡ with_conn s c x = step.2 ∙ ap (λ n. with_conn s c (record (conn_at s c) { incoming = (conn_at s c).incoming ++ labelled (conn_at s c).pool (take n bytes) })) (sym (ap number step.1)) in
     record {
       open_yet = yet.1;
+      peer_open = none-there (conn_at s c).peer yet.0;
       incoming = (conn_at s c).incoming ++ labelled (conn_at s c).pool (take k bytes);
       bytes_are = bytes-append (conn_at s c).incoming (labelled (conn_at s c).pool (take k bytes)) ∙ ap (λ (l : List ℕ). bytes_of (conn_at s c).incoming ++ l) (bytes-labelled (conn_at s c).pool (take k bytes));
       conn = ap (λ u. conn_at u c) same ∙ conn-with_same s c x yet.1 (still (length x.outgoing == 0) (conn_at s c).closed (conn_at s c).accepted (conn_at s c).peer yet.1 yet.0);
     }
   where
+    none-there : (o : Option How) → is_some o ≡ false → o ≡ None
+    none-there None is = refl
+    none-there (Some h) is = absurd (cc)
+
     split : (a b : Bool) → (a || b) ≡ false → (a ≡ false) × (b ≡ false)
     split false b is = (refl, is)
     split true b is = absurd (cc)
@@ -93,11 +98,11 @@ does_transmit s t c max (reply.Segment bytes sum) order step = by (is_over x) re
     by : (b : Bool) → is_over x ≡ b → GoesOut s c bytes t
     by false over =
         let e : conn_at t c ≡ x = ap (λ u. conn_at u c) step.2 ∙ conn-there s c x there.0 there.1 over in
-        record { bytes_were = parts ∙ ap (λ (k : Connection). bytes ++ bytes_of k.outgoing) (sym e); some = some; conn = inl (e ∙ ap (λ (k : Connection). record (conn_at s c) { outgoing = k.outgoing }) (sym e)) }
+        record { bytes_were = parts ∙ ap (λ (k : Connection). bytes ++ bytes_of k.outgoing) (sym e); some = some; conn = inl (e ∙ ap (λ (k : Connection). record (conn_at s c) { outgoing = k.outgoing }) (sym e)); left = inl (ap (λ (k : Connection). k.peer) e) }
     by true over =
         let e : conn_at t c ≡ no_conn = ap (λ u. conn_at u c) step.2 ∙ conn-over s c x order.once over in
         let gone : drop max (conn_at s c).outgoing ≡ [] = nothing-left (drop max (conn_at s c).outgoing) ((conn_at s c).closed || (not (conn_at s c).accepted && is_gone (conn_at s c).peer)) over in
-        record { bytes_were = parts ∙ (ap (λ (l : Text). bytes ++ bytes_of l) gone ∙ ap (λ (k : Connection). bytes ++ bytes_of k.outgoing) (sym e)); some = some; conn = inr (was_closed (conn_at s c).closed (conn_at s c).accepted refl refl over, ap (λ (k : Connection). k.closed) e) }
+        record { bytes_were = parts ∙ (ap (λ (l : Text). bytes ++ bytes_of l) gone ∙ ap (λ (k : Connection). bytes ++ bytes_of k.outgoing) (sym e)); some = some; conn = inr (was_closed (conn_at s c).closed (conn_at s c).accepted refl refl over, ap (λ (k : Connection). k.closed) e); left = inr e }
       where
         was_closed : (a b : Bool) → (conn_at s c).closed ≡ a → (conn_at s c).accepted ≡ b → is_over x ≡ true → (conn_at s c).closed ≡ true
         was_closed true b is_a is_b over = is_a
@@ -125,9 +130,9 @@ does_peer_closed s t c how reply.Done order step = by (is_over (closed_by (conn_
         e = ap (λ u. conn_at u c) step.2 ∙ conn-over s c (closed_by (conn_at s c) how) order.once over
 
         cases : (a b : Bool) → (conn_at s c).closed ≡ a → (conn_at s c).accepted ≡ b
-            → (((conn_at s c).accepted ≡ false) × ((conn_at t c).closed ≡ true) × ((conn_at t c).outgoing ≡ []) × ((conn_at s c).outgoing ≡ [])) ⊎ (((conn_at s c).closed ≡ true) × ((conn_at t c).closed ≡ true) × ((conn_at t c).outgoing ≡ []))
-        cases true b is_a is_b = inr (is_a, ap (λ (k : Connection). k.closed) e, ap (λ (k : Connection). k.outgoing) e)
-        cases false false is_a is_b = inl (is_b, ap (λ (k : Connection). k.closed) e, ap (λ (k : Connection). k.outgoing) e, order.silent c is_b)
+            → (((conn_at s c).accepted ≡ false) × ((conn_at t c).closed ≡ true) × ((conn_at t c).outgoing ≡ []) × ((conn_at s c).outgoing ≡ []) × (conn_at t c ≡ no_conn)) ⊎ (((conn_at s c).closed ≡ true) × ((conn_at t c).closed ≡ true) × ((conn_at t c).outgoing ≡ []) × (conn_at t c ≡ no_conn))
+        cases true b is_a is_b = inr (is_a, ap (λ (k : Connection). k.closed) e, ap (λ (k : Connection). k.outgoing) e, e)
+        cases false false is_a is_b = inl (is_b, ap (λ (k : Connection). k.closed) e, ap (λ (k : Connection). k.outgoing) e, order.silent c is_b, e)
         cases false true is_a is_b = absurd (let n = not-over (closed_by (conn_at s c) how) ((kept (conn_at s c) how).0 ∙ is_b) ((kept (conn_at s c) how).1 ∙ is_a) in cc (n, over))
 does_peer_closed s t c how (reply.Refused x) order step = step.1
 does_peer_closed s t c how r order step = (let e = step.1 in absurd (cc))

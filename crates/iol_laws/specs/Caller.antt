@@ -2,10 +2,11 @@
 --
 -- Each word says of a reply what is then so: of an answer what it brought, of a refusal that nothing changed, and of any
 -- other reply that it cannot come.
-use Rattle.std.specs.Prelude.{◌≡◌, ◌≢◌, ℕ, ◌<◌, ◌≤◌, ◌==◌, Bool, true, false, List, [], ◌++◌, is_none, length, take, drop, Option, Some, None, option_map, slice_range}
-use Rattle.iol_core.specs.Text.{Text, bytes_of}
-use Rattle.iol_core.specs.State.{State, aggregate, descriptor, may_read, conn_at, pipe_at, new_pipe, is_gone}
+use Rattle.std.specs.Prelude.{◌≡◌, ◌≢◌, ℕ, ◌-◌, ◌<◌, ◌≤◌, ◌==◌, min, ◌⊎◌, Bool, true, false, List, [], ◌++◌, is_none, length, take, drop, Option, Some, None, option_map, slice_range}
+use Rattle.iol_core.specs.Text.{Text, bytes_of, admitted}
+use Rattle.iol_core.specs.State.{State, aggregate, descriptor, may_read, conn_at, pipe_at, new_pipe, no_conn, is_gone}
 use Rattle.iol_core.specs.Run.{StepsTo}
+use Rattle.iol_core.specs.declared.limits.TheConstants.{MAX_QUEUE_BYTES}
 use Rattle.iol_core.specs.declared.descriptors.Descriptor.{Descriptor}
 use Rattle.iol_core.specs.declared.descriptors.Descriptor.TheVariants as on
 use Rattle.iol_core.specs.declared.refusals.Refusal.TheVariants.{TooMany, NoRoom, Fault, Memory}
@@ -48,6 +49,8 @@ pub record Takes (s : State) (d c count n : ℕ) (t : State) : Type 0 where
   pub lends : lent_at t d n ≡ Some (bytes_of text)
   pub new : lent_at s d n ≡ None
   pub was : (conn_at s c).incoming ≡ text ++ incoming
+  -- as long a beginning as may be: the domain may read each byte of it
+  pub most : text ≡ admitted (may_read s d) (take count (conn_at s c).incoming)
   pub conn : conn_at t c ≡ record (conn_at s c) { incoming = incoming }
   pub ended : 0 < count → text ≡ [] → ((conn_at s c).incoming ≡ []) × (is_none (conn_at s c).peer ≡ false)
 
@@ -61,6 +64,8 @@ pub record Puts (s : State) (c : ℕ) (bytes : List ℕ) (k : ℕ) (t : State) :
   pub text : Text
   pub within : k ≤ length bytes
   pub text_is : bytes_of text ≡ take k bytes
+  -- as many as fit
+  pub most : k ≡ min (length bytes) (MAX_QUEUE_BYTES - length (conn_at s c).outgoing)
   pub takes : is_gone (conn_at s c).peer ≡ false
   pub conn : conn_at t c ≡ record (conn_at s c) { outgoing = (conn_at s c).outgoing ++ text }
 
@@ -77,6 +82,8 @@ pub record TakesFromPipe (s : State) (d p count n : ℕ) (t : State) : Type 0 wh
   pub lends : lent_at t d n ≡ Some (bytes_of text)
   pub new : lent_at s d n ≡ None
   pub was : (pipe_at s p).queue ≡ text ++ rest
+  -- as long a beginning as may be: the domain may read each byte of it
+  pub most : text ≡ admitted (may_read s d) (take count (pipe_at s p).queue)
   pub pipe : pipe_at t p ≡ record (pipe_at s p) { queue = rest }
   pub ended : 0 < count → text ≡ [] → ((pipe_at s p).queue ≡ []) × ((pipe_at s p).writing ≡ false)
 
@@ -90,6 +97,8 @@ pub record PutsInPipe (s : State) (p : ℕ) (bytes : List ℕ) (k : ℕ) (t : St
   pub text : Text
   pub within : k ≤ length bytes
   pub text_is : bytes_of text ≡ take k bytes
+  -- as many as fit
+  pub most : k ≡ min (length bytes) (MAX_QUEUE_BYTES - length (pipe_at s p).queue)
   pub takes : (pipe_at s p).reading ≡ true
   pub pipe : pipe_at t p ≡ record (pipe_at s p) { queue = (pipe_at s p).queue ++ text }
 
@@ -149,7 +158,7 @@ GivesAgg s to bytes r t = ⊥
 
 -- a closed connection keeps what is still to be sent, unless that is nothing: then it is forgotten
 abbrev pub ClosesConn : State → (c : ℕ) → Reply → State → Type 0
-ClosesConn s c reply.Done t = ((conn_at t c).closed ≡ true) × ((conn_at t c).outgoing ≡ (conn_at s c).outgoing)
+ClosesConn s c reply.Done t = ((conn_at t c).closed ≡ true) × ((conn_at t c).outgoing ≡ (conn_at s c).outgoing) × (((conn_at t c).peer ≡ (conn_at s c).peer) ⊎ (conn_at t c ≡ no_conn))
 ClosesConn s c (reply.Refused x) t = t ≡ s
 ClosesConn s c r t = ⊥
 

@@ -1,7 +1,7 @@
 -- What the calls that copy do for the domain that makes them: `write` of bytes of its own, and `read` without an aggregate.
 -- They write and read what `iol_write` and `iol_read` do.
 use Rattle.std.specs.Prelude.{◌≡◌, ℕ, ◌+◌, ◌<◌, true, false, List, [], ◌++◌, length, take, drop, Some, is_none}
-use Rattle.iol_core.specs.Text.{Text, bytes_of}
+use Rattle.iol_core.specs.Text.{Text, bytes_of, admitted}
 use Rattle.iol_core.specs.State.{State, descriptor, content, file, may_read, conn_at, pipe_at, is_live}
 use Rattle.iol_core.specs.Positions.{ArePlaced}
 use Rattle.iol_core.specs.Calls.Reading.{reads}
@@ -39,6 +39,8 @@ pub record TellsConn (s : State) (d c count : ℕ) (found : List ℕ) (t : State
   pub incoming : Text
   pub found_is : found ≡ bytes_of text
   pub was : (conn_at s c).incoming ≡ text ++ incoming
+  -- as long a beginning as may be: the domain may read each byte of it
+  pub most : text ≡ admitted (may_read s d) (take count (conn_at s c).incoming)
   pub conn : conn_at t c ≡ record (conn_at s c) { incoming = incoming }
   pub lent : SameLent s d t
   pub ended : 0 < count → text ≡ [] → ((conn_at s c).incoming ≡ []) × (is_none (conn_at s c).peer ≡ false)
@@ -54,6 +56,8 @@ pub record TellsPipe (s : State) (d p count : ℕ) (found : List ℕ) (t : State
   pub rest : Text
   pub found_is : found ≡ bytes_of text
   pub was : (pipe_at s p).queue ≡ text ++ rest
+  -- as long a beginning as may be: the domain may read each byte of it
+  pub most : text ≡ admitted (may_read s d) (take count (pipe_at s p).queue)
   pub pipe : pipe_at t p ≡ record (pipe_at s p) { queue = rest }
   pub lent : SameLent s d t
   pub ended : 0 < count → text ≡ [] → ((pipe_at s p).queue ≡ []) × ((pipe_at s p).writing ≡ false)

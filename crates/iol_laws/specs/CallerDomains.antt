@@ -1,8 +1,9 @@
 -- What calls that make and end domains, and those on pools, do for the domain that makes them.
-use Rattle.std.specs.Prelude.{◌≡◌, ◌≢◌, ℕ, ◌==◌, true, false, List, [], Some}
+use Rattle.std.specs.Prelude.{◌≡◌, ◌≢◌, ℕ, ◌==◌, ◌||◌, true, false, List, [], Some}
 use Rattle.std.specs.List.{list_any}
 use Rattle.iol_core.specs.State.{State, domain, new_domain, no_domain, is_live, pool, is_pool, may_read, descriptor, pipe_at, conn_at}
 use Rattle.iol_core.specs.Run.{StepsTo}
+use Rattle.iol_core.specs.declared.refusals.Refusal.TheVariants.{Memory}
 use Rattle.iol_core.specs.declared.descriptors.Descriptor.TheVariants as on
 use Rattle.iol_core.specs.declared.events.Call.TheVariants as call
 use Rattle.iol_core.specs.declared.events.Event.TheVariants as event
@@ -65,6 +66,24 @@ ClosesPool s d p reply.Done t = ShutsPool s d p t
 ClosesPool s d p (reply.Refused x) t = t ≡ s
 ClosesPool s d p r t = ⊥
 
+-- The pool, which is open and the caller may read, is read by one domain more, and nothing else changed: nothing at all where
+-- that domain could read it before.
+pub record AdmitsDomain (s : State) (d p e : ℕ) (t : State) : Type 0 where
+  pub may_admit : may_read s d p ≡ true
+  pub open_yet : (pool s p).closed ≡ false
+  pub lives : is_live s e ≡ true
+  pub may : (f : ℕ) → may_read t f p ≡ (may_read s f p || (e == f))
+  pub closed : (pool t p).closed ≡ false
+  pub others : (q : ℕ) → p ≢ q → pool t q ≡ pool s q
+  pub rest : t ≡ record s { pools = t.pools }
+  pub again : may_read s e p ≡ true → t ≡ s
+
+-- it wants no memory
+abbrev pub Admits : State → (d p e : ℕ) → Reply → State → Type 0
+Admits s d p e reply.Done t = AdmitsDomain s d p e t
+Admits s d p e (reply.Refused x) t = (x ≢ Memory) × (t ≡ s)
+Admits s d p e r t = ⊥
+
 -- what the domain makes from now on lies in this pool, which is open and which it may read
 pub record TakesPool (s : State) (d p : ℕ) (t : State) : Type 0 where
   pub default_is : (domain t d).default ≡ Some p
@@ -86,4 +105,6 @@ pub record DomainsAndPoolsComeAndGo : Type 0 where
       → StepsTo s (event.Call d (call.PoolCreate chunks list)) r t → MakesPool s list r t
   pub closes_pool : (s t : State) (d p : ℕ) (r : Reply) → StepsTo s (event.Call d (call.PoolClose p)) r t
       → ClosesPool s d p r t
+  pub admits : (s t : State) (d p e : ℕ) (r : Reply) → StepsTo s (event.Call d (call.PoolAdmit p e)) r t
+      → Admits s d p e r t
   pub sets_pool : (s t : State) (d p : ℕ) (r : Reply) → StepsTo s (event.Call d (call.SetPool p)) r t → SetsPool s d p r t

@@ -1,5 +1,5 @@
 -- What a step leaves as it was: connections, pipes, descriptors, files, pools and domains that the event does not touch.
-use Rattle.std.specs.Prelude.{◌≡◌, ℕ, ◌==◌, ◌&&◌, ◌||◌, Bool, true, false, List, [], ◌∷◌, Option, Some, unwrap_or}
+use Rattle.std.specs.Prelude.{◌≡◌, ℕ, ◌≤◌, ◌==◌, ◌&&◌, ◌||◌, Bool, true, false, List, [], ◌∷◌, ◌++◌, length, Option, Some, unwrap_or}
 use Rattle.std.specs.List.{list_any}
 use Rattle.iol_core.specs.Numbered.{lowest, is_numbered}
 use Rattle.iol_core.specs.State.{State, domain, is_live, pool, is_pool, may_read, descriptor, file, content, pipe_at, conn_at}
@@ -87,6 +87,17 @@ abbrev pub closes_pool : Event → (p : ℕ) → Bool
 closes_pool (event.Call by (call.PoolClose q)) p = q == p
 closes_pool e p = false
 
+-- whether it may have this pool's list name a domain more
+abbrev pub admits_to : Event → (p : ℕ) → Bool
+admits_to (event.Call by (call.PoolAdmit q d)) p = q == p
+admits_to e p = false
+
+-- a list with at most one more behind: nobody is taken off it
+pub record Grows (old new : List ℕ) : Type 0 where
+  pub more : List ℕ
+  pub few : length more ≤ 1
+  pub is : new ≡ old ++ more
+
 -- whether the domain may end by it
 abbrev pub ends : Event → (d : ℕ) → Bool
 ends (event.Call by call.Exit) d = by == d
@@ -109,10 +120,14 @@ pub record Leaves (old : State) (e : Event) (new : State) : Type 0 where
   -- a file keeps its name, its number and its pool
   pub known : (f : ℕ) → is_numbered old.files f ≡ true → file new f ≡ file old f
   pub called : (name : List ℕ) (f : ℕ) → file_called old name ≡ Some f → file_called new name ≡ Some f
-  pub lists : (p : ℕ) → is_pool old p ≡ true → (pool new p).domains ≡ (pool old p).domains
+  -- a pool that is there stays one
+  pub numbered : (p : ℕ) → is_pool old p ≡ true → is_pool new p ≡ true
+  pub lists : (p : ℕ) → is_pool old p ≡ true → Grows (pool old p).domains (pool new p).domains
   -- who may read a pool may go on to
   pub readers : (d p : ℕ) → may_read old d p ≡ true → may_read new d p ≡ true
-  pub pools : (p : ℕ) → is_pool old p ≡ true → closes_pool e p ≡ false → pool new p ≡ pool old p
+  pub pools : (p : ℕ) → is_pool old p ≡ true → closes_pool e p ≡ false → admits_to e p ≡ false → pool new p ≡ pool old p
+  -- a pool that is closed, too, keeps its list, unless a domain is admitted to it
+  pub listed : (p : ℕ) → is_pool old p ≡ true → admits_to e p ≡ false → (pool new p).domains ≡ (pool old p).domains
   pub lives : (d : ℕ) → is_live old d ≡ true → ends e d ≡ false → is_live new d ≡ true
   pub defaults : (d : ℕ) → is_live old d ≡ true → sets_default e d ≡ false → (domain new d).default ≡ (domain old d).default
 

@@ -7,3 +7,8 @@ pub mod CallerDomains
 pub mod Reasons
 pub mod Others
 pub mod History
+pub mod Rising
+pub mod RefusalsLeft
+pub mod Aggregates
+pub mod Lengths
+pub mod Labels

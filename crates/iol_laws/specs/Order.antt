@@ -1,11 +1,12 @@
 -- What holds between events: each end and each connection is open in one descriptor at most, what is open stands, and what
--- stands is open; numbers that are still to come are not used yet, and nothing is left of a domain that ended.
+-- stands is open; numbers that are still to come are not used yet, nothing is left of a domain that ended, and lists of pools are
+-- short.
 use Rattle.std.specs.Prelude.{◌≡◌, ℕ, ◌≤◌, ◌&&◌, ◌||◌, Bool, true, false, not, List, [], ◌∷◌, length, Some, None}
 use Rattle.iol_core.specs.Numbered.{lookup, in_place}
-use Rattle.iol_core.specs.State.{State, Pipe, domain, is_live, aggregate, descriptor, conn_at, pipe_at, new_state, no_domain}
+use Rattle.iol_core.specs.State.{State, Pipe, domain, is_live, pool, aggregate, descriptor, conn_at, pipe_at, new_state, no_domain}
 use Rattle.iol_core.specs.Access.{HasAccess}
 use Rattle.iol_core.specs.Positions.{ArePlaced}
-use Rattle.iol_core.specs.declared.limits.TheConstants.{MAX_FILES}
+use Rattle.iol_core.specs.declared.limits.TheConstants.{MAX_FILES, MAX_LISTED}
 use Rattle.iol_core.specs.Calls.Writing.{is_file}
 use Rattle.iol_core.specs.Run.{StepsTo}
 use Rattle.iol_core.specs.declared.descriptors.Descriptor.{Descriptor}
@@ -42,6 +43,8 @@ pub record IsOrderly (s : State) : Type 0 where
   pub held : (x : Descriptor) → is_file (Some x) ≡ false → stands s x ≡ true → IsOpen s x
   -- a pipe that is there has an open end
   pub ends : (p : ℕ) (x : Pipe) → in_place s.pipes p ≡ Some x → (x.reading || x.writing) ≡ true
+  -- a pool's list names at most sixteen domains
+  pub listed : (p : ℕ) → length (pool s p).domains ≤ MAX_LISTED
   -- nothing is left of a domain that ended
   pub gone : (d : ℕ) → is_live s d ≡ false → domain s d ≡ no_domain
   -- a connection that nobody accepted yet is not closed, and nothing is to be sent on it

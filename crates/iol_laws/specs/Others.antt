@@ -1,5 +1,5 @@
 -- What others do to a connection or a pipe: calls of other domains, and what happens outside.
-use Rattle.std.specs.Prelude.{◌≡◌, ℕ, ◌⊎◌, ◌||◌, true, false, List, [], ◌++◌, take, Some}
+use Rattle.std.specs.Prelude.{◌≡◌, ℕ, ◌⊎◌, ◌||◌, true, false, List, [], ◌++◌, take, Some, None}
 use Rattle.iol_core.specs.Text.{Text, bytes_of}
 use Rattle.iol_core.specs.State.{State, descriptor, pool, may_read, conn_at, no_conn, new_conn, pipe_at}
 use Rattle.iol_core.specs.Calls.Outside.{closed_by}
@@ -27,6 +27,8 @@ MakesConn s p r t = ⊥
 -- bytes came in
 pub record ComesIn (s : State) (c : ℕ) (bytes : List ℕ) (t : State) : Type 0 where
   pub open_yet : (conn_at s c).closed ≡ false
+  -- and the peer did not close
+  pub peer_open : (conn_at s c).peer ≡ None
   pub incoming : Text
   pub bytes_are : bytes_of incoming ≡ bytes_of (conn_at s c).incoming ++ bytes
   pub conn : conn_at t c ≡ record (conn_at s c) { incoming = incoming }
@@ -41,6 +43,7 @@ pub record GoesOut (s : State) (c : ℕ) (bytes : List ℕ) (t : State) : Type 0
   pub bytes_were : bytes_of (conn_at s c).outgoing ≡ bytes ++ bytes_of (conn_at t c).outgoing
   pub some : ((conn_at s c).outgoing ≡ []) → ⊥
   pub conn : (conn_at t c ≡ record (conn_at s c) { outgoing = (conn_at t c).outgoing }) ⊎ (((conn_at s c).closed ≡ true) × ((conn_at t c).closed ≡ true))
+  pub left : ((conn_at t c).peer ≡ (conn_at s c).peer) ⊎ (conn_at t c ≡ no_conn)
 
 abbrev pub Transmits : State → (c : ℕ) → Reply → State → Type 0
 Transmits s c (reply.Segment bytes sum) t = GoesOut s c bytes t
@@ -51,8 +54,8 @@ Transmits s c r t = ⊥
 abbrev pub PeerCloses : State → (c : ℕ) → How → Reply → State → Type 0
 PeerCloses s c how reply.Done t =
     (conn_at t c ≡ closed_by (conn_at s c) how)
-    ⊎ (((conn_at s c).accepted ≡ false) × ((conn_at t c).closed ≡ true) × ((conn_at t c).outgoing ≡ []) × ((conn_at s c).outgoing ≡ []))
-    ⊎ (((conn_at s c).closed ≡ true) × ((conn_at t c).closed ≡ true) × ((conn_at t c).outgoing ≡ []))
+    ⊎ (((conn_at s c).accepted ≡ false) × ((conn_at t c).closed ≡ true) × ((conn_at t c).outgoing ≡ []) × ((conn_at s c).outgoing ≡ []) × (conn_at t c ≡ no_conn))
+    ⊎ (((conn_at s c).closed ≡ true) × ((conn_at t c).closed ≡ true) × ((conn_at t c).outgoing ≡ []) × (conn_at t c ≡ no_conn))
 PeerCloses s c how (reply.Refused x) t = t ≡ s
 PeerCloses s c how r t = ⊥
 

@@ -1,24 +1,29 @@
 //! The laws. The functions do nothing; their contracts are the laws.
+ghost use Rattle.iol_laws.specs.Aggregates.{AggregatesComeAndGo};
 ghost use Rattle.iol_laws.specs.Caller.{CallsServeTheirDomain, NumbersAreNew};
 ghost use Rattle.iol_laws.specs.CallerCopies.{CopyingCallsServeTheirDomain};
 ghost use Rattle.iol_laws.specs.CallerDomains.{DomainsAndPoolsComeAndGo};
 ghost use Rattle.iol_laws.specs.CallerFiles.{FileCallsServeTheirDomain};
 ghost use Rattle.iol_laws.specs.Frame.{EachStepLeavesTheRest};
 ghost use Rattle.iol_laws.specs.History.{HistoriesAddUp};
+ghost use Rattle.iol_laws.specs.Labels.{ArrivalsLieInTheirPool};
+ghost use Rattle.iol_laws.specs.Lengths.{LengthsStayBounded};
 ghost use Rattle.iol_laws.specs.Order.{EachStepKeepsOrder};
 ghost use Rattle.iol_laws.specs.Others.{OthersLeaveConnections, OthersLeavePipes};
 ghost use Rattle.iol_laws.specs.Reasons.{RefusalsTellWhy};
+ghost use Rattle.iol_laws.specs.RefusalsLeft.{RefusalsThatAreLeft};
+ghost use Rattle.iol_laws.specs.Rising.{ConnectionNumbersRise};
 
-/// Each step leaves what its event does not touch: connections, pipes, descriptors, files, pools and their lists, which domains
-/// live and where what they make lies, and the aggregates that nobody gives up.
+/// Each step leaves what its event does not touch: connections, pipes, descriptors, files, pools, which domains live and where
+/// what they make lies, and the aggregates that nobody gives up. A pool's list grows by one name at most, and loses none.
 pub fn each_step_leaves_the_rest()
     ensures { EachStepLeavesTheRest }
 {}
 
 /// A new state is orderly, and each step keeps it so: each end of a pipe and each connection is open in one descriptor
 /// at most, what is open stands, and what stands is open in a domain that lives; a pipe that is there has an open end,
-/// nothing is left of a domain that ended, and numbers that are still to come are not used yet. What domains have they may
-/// read, and positions are within files, from a new state on, too.
+/// nothing is left of a domain that ended, numbers that are still to come are not used yet, and a pool's list has sixteen names at
+/// most. What domains have they may read, and positions are within files, from a new state on, too.
 pub fn each_step_keeps_order()
     ensures { EachStepKeepsOrder }
 {}
@@ -40,7 +45,7 @@ pub fn copying_calls_serve_their_domain()
 {}
 
 /// A new domain has nothing, and one that ends leaves nothing open; a new pool is read by just the domains that were named, and
-/// the pool that a domain sets is its default.
+/// by one more where that is admitted to it; and the pool that a domain sets is its default.
 pub fn domains_and_pools_come_and_go()
     ensures { DomainsAndPoolsComeAndGo }
 {}
@@ -74,4 +79,34 @@ pub fn others_leave_pipes()
 /// what came, and what was to be sent is sent first.
 pub fn histories_add_up()
     ensures { HistoriesAddUp }
+{}
+
+/// Numbers of connections rise, and a new one gets the next: none is used again.
+pub fn connection_numbers_rise()
+    ensures { ConnectionNumbersRise }
+{}
+
+/// Which refusals a call can still get where the domain lives and what the call names is there and fits: each call's own. A fault
+/// is left to reads and `fsync` of a file alone; `set_pool`, `seek`, `length`, `close`, `agg_drop` and `exit` are never refused then.
+/// Only `accept` and the calls that read or write are told to wait.
+pub fn refusals_that_are_left()
+    ensures { RefusalsThatAreLeft }
+{}
+
+/// A domain has an aggregate more only under a number that a reply gives it, its own or that of another's gift; and what it gives
+/// up is gone.
+pub fn aggregates_come_and_go()
+    ensures { AggregatesComeAndGo }
+{}
+
+/// No file, no aggregate and no queue is longer than one may be: of a new state, after each step where positions are within files,
+/// and so in each state that is reached.
+pub fn lengths_stay_bounded()
+    ensures { LengthsStayBounded }
+{}
+
+/// What came in on a connection and is unread lies in the connection's pool, so a domain that may read the pool is never denied
+/// a read of it.
+pub fn arrivals_lie_in_their_pool()
+    ensures { ArrivalsLieInTheirPool }
 {}

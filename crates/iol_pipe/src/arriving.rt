@@ -65,6 +65,7 @@ impl Pipe {
             store.old store.new self.old self.new pool a.taken) }
         ensures most { IfOk result (λ a. a.taken ≤ n) }
         ensures some { IfOk result (λ a. a.end ≡ false → a.failed ≡ false → 0 < a.taken) }
+        ensures either { IfOk result (λ a. a.end ≡ true → a.failed ≡ false) }
         ensures ended { IfOk result (λ a. a.end ≡ true →
             (a.taken ≡ 0) × IsAtEnd (R.remaining reader.new)) }
         ensures failed { IfOk result (λ a. a.failed ≡ true → a.taken ≡ 0) }
@@ -103,6 +104,7 @@ fn read_in<R: Read>(
         store.old store.new (listed r.0) pool r.1.taken) }
     ensures most { IfOk result (λ r. r.1.taken ≤ n) }
     ensures some { IfOk result (λ r. r.1.end ≡ false → r.1.failed ≡ false → 0 < r.1.taken) }
+    ensures either { IfOk result (λ r. r.1.end ≡ true → r.1.failed ≡ false) }
     ensures ended { IfOk result (λ r. r.1.end ≡ true →
         (r.1.taken ≡ 0) × IsAtEnd (R.remaining reader.new)) }
     ensures failed { IfOk result (λ r. r.1.failed ≡ true → r.1.taken ≡ 0) }

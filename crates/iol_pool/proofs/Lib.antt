@@ -1,3 +1,4 @@
 pub mod Distinct
+pub mod Admitting
 pub mod Counts
 pub mod Owning

@@ -44,7 +44,7 @@ pool_in-there ps p x there =
     let e = get_or-set_same ps (p - 1) x no_pool (omega (arith, n.0, n.1)) in
     grind (arith, nat_tests, n.0, e)
 
-length-with_numbered : (ps : List Pool) (p : ℕ) (x : Pool) → length (with_numbered ps p x) ≡ length ps
+pub length-with_numbered : (ps : List Pool) (p : ℕ) (x : Pool) → length (with_numbered ps p x) ≡ length ps
 length-with_numbered ps p x = let e = length-set ps (p - 1) x in grind (arith, nat_tests, e)
 
 pub pool_in-pushed : (ps : List Pool) (x : Pool) → pool_in (ps ++ x ∷ []) (length ps + 1) ≡ x

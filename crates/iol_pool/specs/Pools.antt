@@ -2,6 +2,7 @@
 use Rattle.std.specs.Prelude.{◌≡◌, ℕ, ◌==◌, ◌&&◌, Bool, true, false, not, if◌then◌else◌, List, [], ◌∷◌, ◌++◌, length, map, slice_index_or}
 use Rattle.std.specs.List.{list_any, list_all, range_with_len}
 use Rattle.iol_core.specs.Numbered.{numbered_or, with_numbered}
+use Rattle.iol_core.specs.Calls.Pools.{with_name}
 use Rattle.iol_arena.specs.State.{State}
 use Rattle.iol_arena.specs.Chunks.{is_unused, TakesChunks}
 
@@ -27,6 +28,10 @@ pub record AddsPool (s t : State) (old new : List Pool) (n : ℕ) (list : List �
   pub count : length chunks ≡ n
   pub taken : TakesChunks s t chunks
   pub added : new ≡ old ++ record { domains = list; closed = false; chunks = chunks } ∷ []
+
+-- the pool's list names the domain, too
+unfoldable pub with_admitted : List Pool → (p d : ℕ) → List Pool
+with_admitted ps p d = with_numbered ps p (record (pool_in ps p) { domains = with_name (pool_in ps p).domains d })
 
 -- nothing more is placed in the pool
 unfoldable pub with_closed : List Pool → (p : ℕ) → List Pool

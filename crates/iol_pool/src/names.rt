@@ -1,7 +1,7 @@
 //! The domains that a pool's list names.
-ghost use Rattle.std.specs.Prelude.{◌≡◌, ℕ, ◌+◌, ◌<◌, ◌≤◌, ◌==◌, List, length, take, min, MatchOption};
+ghost use Rattle.std.specs.Prelude.{◌≡◌, ℕ, ◌+◌, ◌<◌, ◌≤◌, ◌==◌, true, List, length, take, min, MatchOption};
 ghost use Rattle.std.specs.List.{list_any};
-ghost use Rattle.iol_core.specs.Calls.Pools.{distinct};
+ghost use Rattle.iol_core.specs.Calls.Pools.{distinct, has_place, with_name};
 
 use iol_core::limits::MAX_LISTED;
 use iol_core::numbers::DomainId;
@@ -78,5 +78,24 @@ impl Names {
         ensures { result ≡ list_any (λ e. e == d) self.now }
     {
         is_named(self.as_slice(), d)
+    }
+
+    /// Whether the domain is one of them, or there is a place for it.
+    pub fn has_place(&self, d: DomainId) -> bool
+        ensures { result ≡ has_place self.now d }
+    {
+        self.has(d) || self.as_slice().len() < MAX_LISTED
+    }
+
+    /// Adds the domain behind the others, unless it is one of them. It takes no memory.
+    pub fn add(&mut self, d: DomainId)
+        requires { has_place self.old d ≡ true }
+        ensures { self.new ≡ with_name self.old d }
+    {
+        if self.has(d) {
+            return;
+        }
+        self.list[self.len] = d;
+        self.len += 1;
     }
 }

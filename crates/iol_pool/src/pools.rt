@@ -3,9 +3,10 @@ ghost use Rattle.std.specs.Prelude.{◌≡◌, ℕ, ◌+◌, ◌*◌, ◌<◌, �
 ghost use Rattle.std.specs.Option.{option_copied};
 ghost use Rattle.std.specs.List.{All, list_all, list_any};
 ghost use Rattle.iol_core.specs.Numbered.{is_numbered};
+ghost use Rattle.iol_core.specs.Calls.Pools.{has_place};
 ghost use Rattle.iol_arena.specs.State.{chunk_count};
 ghost use Rattle.iol_arena.specs.Chunks.{free_chunks, free_pages, is_unused, retired_pages};
-ghost use Rattle.iol_pool.specs.Pools.{AddsPool, goes_back, names_in, no_pool, pool_in, settled, settled_arena, with_closed, with_emptied, with_returned};
+ghost use Rattle.iol_pool.specs.Pools.{AddsPool, goes_back, names_in, no_pool, pool_in, settled, settled_arena, with_admitted, with_closed, with_emptied, with_returned};
 ghost use Rattle.iol_pool.specs.Owned.{AreOwned};
 
 use crate::names::Names;
@@ -73,6 +74,16 @@ fn chunks_of(pools: &[Pool], p: PoolId) -> &ChunkSet
 {
     let pool = &pools[p.number() as usize - 1];
     &pool.chunks
+}
+
+// Adds a domain to a pool's list, unless it is there.
+#[tactic(auto, unfolding(crate::specs::Pools::pool_in, crate::specs::Pools::with_admitted))]
+fn add_name(pools: &mut Vec<Pool>, p: PoolId, d: DomainId)
+    requires there { is_numbered pools.old.items p ≡ true }
+    requires place { has_place (pool_in pools.old.items p).domains d ≡ true }
+    ensures { pools.new.items ≡ with_admitted pools.old.items p d }
+{
+    pools[p.number() as usize - 1].names.add(d);
 }
 
 // Has nothing more be placed in the pool.
@@ -254,6 +265,25 @@ impl Pools {
         ensures { result ≡ goes_back arena.now self.now p }
     {
         self.is_closed(p) && are_unused(arena, self.chunks(p).as_slice())
+    }
+
+    /// Whether the pool's list names the domain, or has a place for its name.
+    pub fn has_place(&self, p: PoolId, d: DomainId) -> bool
+        ensures { result ≡ has_place (pool_in self.now p).domains d }
+    {
+        let Some(pool) = pool_at(&self.list, p) else {
+            return true;
+        };
+        pool.names.has_place(d)
+    }
+
+    /// Has the pool's list name the domain, too. It takes no memory.
+    pub fn admit(&mut self, p: PoolId, d: DomainId)
+        requires there { is_numbered self.old p ≡ true }
+        requires place { has_place (pool_in self.old p).domains d ≡ true }
+        ensures { self.new ≡ with_admitted self.old p d }
+    {
+        add_name(&mut self.list, p, d);
     }
 
     /// Returns the chunks of a pool if it is closed and nothing stands on them.

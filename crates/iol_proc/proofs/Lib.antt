@@ -7,4 +7,5 @@ pub mod Plain
 pub mod Runs
 pub mod Seating
 pub mod Settling
+pub mod Smooth
 pub mod Streams

@@ -1,5 +1,5 @@
 -- Choices are events of the machine, with the same histories of connections.
-use Rattle.std.proofs.Common.{◌≡◌, ◌∙◌, inl, inr, ℕ, List, [], ◌∷◌, ◌++◌, Bool, true, false, refl, sym, subst, ap, append_assoc}
+use Rattle.std.proofs.Common.{◌≡◌, ◌∙◌, inl, inr, ℕ, List, [], ◌∷◌, ◌++◌, Bool, true, false, refl, sym, subst, ap, arith, append_assoc, append-nil, length}
 use Rattle.std.specs.Prelude.{◌||◌}
 use Rattle.std.specs.List.{list_any}
 use Rattle.iol_core.specs.Text.{bytes_of}
@@ -113,6 +113,25 @@ module _ {M P : Type 0} (machine : Machine M) (turns : Account P) where
       ∙ sym (append_assoc (sent_with c x r) (sent_over c past rs) (sent_over c future qs))
   sent_over-append w mid [] future (r ∷ rs) qs c ran = absurd ran
   sent_over-append w mid (x ∷ past) future [] qs c ran = absurd ran
+
+-- One choice more.
+pub stream_over-more : (xs : List Choice) (rs : List Reply) (x : Choice) (r : Reply) (c : ℕ) → length xs ≡ length rs → stream_over c (xs ++ x ∷ []) (rs ++ r ∷ []) ≡ stream_over c xs rs ++ came_with c x r
+unfolding stream_over
+stream_over-more [] [] x r c even = append-nil (came_with c x r)
+stream_over-more (y ∷ xs) (s ∷ rs) x r c even =
+    ap (λ (l : List ℕ). came_with c y s ++ l) (stream_over-more xs rs x r c (omega (arith, even)))
+    ∙ sym (append_assoc (came_with c y s) (stream_over c xs rs) (came_with c x r))
+stream_over-more [] (s ∷ rs) x r c even = absurd (omega (arith, even))
+stream_over-more (y ∷ xs) [] x r c even = absurd (omega (arith, even))
+
+pub sent_over-more : (xs : List Choice) (rs : List Reply) (x : Choice) (r : Reply) (c : ℕ) → length xs ≡ length rs → sent_over c (xs ++ x ∷ []) (rs ++ r ∷ []) ≡ sent_over c xs rs ++ sent_with c x r
+unfolding sent_over
+sent_over-more [] [] x r c even = append-nil (sent_with c x r)
+sent_over-more (y ∷ xs) (s ∷ rs) x r c even =
+    ap (λ (l : List ℕ). sent_with c y s ++ l) (sent_over-more xs rs x r c (omega (arith, even)))
+    ∙ sym (append_assoc (sent_with c y s) (sent_over c xs rs) (sent_with c x r))
+sent_over-more [] (s ∷ rs) x r c even = absurd (omega (arith, even))
+sent_over-more (y ∷ xs) [] x r c even = absurd (omega (arith, even))
 
 -- Over the machine that copies.
 

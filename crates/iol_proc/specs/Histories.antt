@@ -2,7 +2,7 @@
 --
 -- Of a single event it is what `iol_laws` says (`History`). A turn brings nothing in and sends nothing: a process reads and
 -- writes what waits, and what happens outside fills it and sends it.
-use Rattle.std.specs.Prelude.{◌≡◌, ◌⊎◌, ℕ, Bool, true, false, List, [], ◌∷◌, ◌++◌}
+use Rattle.std.specs.Prelude.{◌≡◌, ◌⊎◌, ℕ, Bool, true, false, List, [], ◌∷◌, ◌++◌, length}
 use Rattle.std.specs.List.{list_any}
 use Rattle.iol_core.specs.Text.{bytes_of}
 use Rattle.iol_core.specs.State.{State, conn_at}
@@ -102,6 +102,11 @@ pub record HistoriesOfChoices {P : Type 0} (turns : Account P) : Type 0 where
       → stream_over c (past ++ future) (rs ++ qs) ≡ stream_over c past rs ++ stream_over c future qs
   pub sent : (w mid : Stage State P) (past future : List Choice) (rs qs : List Reply) (c : ℕ) → WorldRun copying turns w past rs mid
       → sent_over c (past ++ future) (rs ++ qs) ≡ sent_over c past rs ++ sent_over c future qs
+  -- one choice more adds what it brought and sent
+  pub stream_more : (xs : List Choice) (rs : List Reply) (x : Choice) (r : Reply) (c : ℕ) → length xs ≡ length rs
+      → stream_over c (xs ++ x ∷ []) (rs ++ r ∷ []) ≡ stream_over c xs rs ++ came_with c x r
+  pub sent_more : (xs : List Choice) (rs : List Reply) (x : Choice) (r : Reply) (c : ℕ) → length xs ≡ length rs
+      → sent_over c (xs ++ x ∷ []) (rs ++ r ∷ []) ≡ sent_over c xs rs ++ sent_with c x r
   -- what came is read in order, over any run
   pub unread : (w after : Stage State P) (xs : List Choice) (rs : List Reply) (c : ℕ) → IsOrderly w.machine
       → WorldRun copying turns w xs rs after

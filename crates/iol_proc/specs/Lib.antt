@@ -6,5 +6,6 @@ pub mod Lent
 pub mod Looks
 pub mod Quiet
 pub mod Settled
+pub mod Smooth
 pub mod Turns
 pub mod World

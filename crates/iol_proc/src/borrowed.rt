@@ -58,6 +58,7 @@ impl<B: Backing + Drop, P: Process> World<B, P> {
         ensures most { IfOk result (λ a. a.taken ≤ min (min max PAGE_BYTES) (MAX_QUEUE_BYTES -
             length (conn_at (tables_of self.old.machine.kernel) conn).incoming)) }
         ensures some { IfOk result (λ a. a.end ≡ false → a.failed ≡ false → 0 < a.taken) }
+        ensures either { IfOk result (λ a. a.end ≡ true → a.failed ≡ false) }
         ensures ended { IfOk result (λ a. a.end ≡ true → (a.taken ≡ 0) × IsAtEnd
             (R.remaining reader.new)) }
         ensures failed { IfOk result (λ a. a.failed ≡ true → a.taken ≡ 0) }

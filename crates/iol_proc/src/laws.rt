@@ -1,6 +1,7 @@
 //! Laws of worlds, for the proofs of what runs in them. The functions do nothing; their contracts are the laws.
 ghost use Rattle.iol_proc.specs.Histories.{HistoriesOfChoices};
 ghost use Rattle.iol_proc.specs.Settled.{IdleIsSettled};
+ghost use Rattle.iol_proc.specs.Smooth.{SmoothRuns};
 
 use crate::idle::Settling;
 use crate::process::Process;
@@ -19,3 +20,9 @@ pub fn idle_is_settled<P: Settling>()
 {
     P::settles();
 }
+
+/// A world is rough after a run just where it was rough before it, or a turn of the run was answered TooMany, NoRoom, Fault or
+/// Memory: so after a run that is not rough no turn of it was.
+pub fn smooth_runs<P: Process>()
+    ensures { SmoothRuns P.turns }
+{}

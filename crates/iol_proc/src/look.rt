@@ -1,5 +1,5 @@
 //! What a process is lent.
-ghost use Rattle.std.specs.Prelude.{◌≡◌, Some, None, MatchOption};
+ghost use Rattle.std.specs.Prelude.{◌≡◌, Some, None, MatchOption, length, option_map};
 ghost use Rattle.std.specs.List.{flat_map};
 ghost use Rattle.iol_proc.specs.Looks.{lent};
 
@@ -32,5 +32,13 @@ impl<'a> Look<'a> {
             Ok(parts) => Some(parts),
             Err(_) => None,
         }
+    }
+
+    /// How many bytes one of the domain's aggregates has; none where it has no such aggregate. Its slices are not walked, and
+    /// no memory is taken.
+    pub fn len(&self, agg: AggId) -> Option<u32>
+        ensures { result ≡ option_map length (lent self.now agg) }
+    {
+        self.aggregates.len(self.by, agg).ok()
     }
 }

@@ -38,6 +38,7 @@ impl Connection {
         ensures most { IfOk result (λ a. a.taken ≤
             min (min max PAGE_BYTES) (MAX_QUEUE_BYTES - byte_len self.old.incoming)) }
         ensures some { IfOk result (λ a. a.end ≡ false → a.failed ≡ false → 0 < a.taken) }
+        ensures either { IfOk result (λ a. a.end ≡ true → a.failed ≡ false) }
         ensures ended { IfOk result (λ a. a.end ≡ true →
             (a.taken ≡ 0) × IsAtEnd (R.remaining reader.new)) }
         ensures failed { IfOk result (λ a. a.failed ≡ true → a.taken ≡ 0) }

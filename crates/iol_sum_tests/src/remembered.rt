@@ -6,7 +6,7 @@ ghost use Rattle.iol_sum.specs.Sums.{IsRight};
 
 use iol_agg::Agg;
 use iol_core::configuration::Config;
-use iol_core::limits::MAX_AGGREGATE_BYTES;
+use iol_core::limits::{MAX_AGGREGATE_BYTES, MAX_POOLS};
 use iol_core::numbers::{DomainId, PoolId};
 use iol_hold::Store;
 use iol_pool::names::Names;
@@ -19,16 +19,30 @@ const ABC: u16 = 0xc462;
 
 const ABD: u16 = 0xc562;
 
-// A store of one chunk, and a pool that has it.
-fn start<R: Abort>(rt: &R, alloc: Global, gen_limit: u32) -> (Store, PoolId) {
+// A store of one chunk.
+fn new_store<R: Abort>(rt: &R, alloc: Global, gen_limit: u32) -> Store {
     let config = Config {
         chunks: 1,
         gen_limit,
         sums: 1,
     };
-    let mut store = Store::new(alloc, config).expect(rt, "memory");
+    match Store::new(alloc, config) {
+        Ok(store) => store,
+        Err(refusal) => panic!(rt; "{refusal}"),
+    }
+}
+
+// A pool that has it.
+fn add_pool<R: Abort>(rt: &R, alloc: Global, store: &mut Store) -> PoolId {
+    assert!(rt; store.pools().len() < MAX_POOLS);
     let names = Names::of(&[DomainId::new(1)]).expect(rt, "a domain");
-    let pool = store.create_pool(alloc, 1, names).expect(rt, "room");
+    store.create_pool(alloc, 1, names).expect(rt, "room")
+}
+
+// Both.
+fn start<R: Abort>(rt: &R, alloc: Global, gen_limit: u32) -> (Store, PoolId) {
+    let mut store = new_store(rt, alloc, gen_limit);
+    let pool = add_pool(rt, alloc, &mut store);
     (store, pool)
 }
 

@@ -1,7 +1,7 @@
 -- What an event does, by what the kernel says of its call.
 use Rattle.std.proofs.Common.{◌≡◌, ◌∙◌, ℕ, List, [], true, false, refl, ap, sym, subst}
 use Rattle.std.proofs.lemmas.Bool.{true≢false}
-use Rattle.std.specs.Prelude.{Result, Ok, Err, OnErr}
+use Rattle.std.specs.Prelude.{Result, Ok, Err, OnErr, OnOk}
 use Rattle.iol_back.specs.Disk.{Disk}
 use Rattle.iol_core.specs.State.{State}
 use Rattle.iol_core.specs.Meaning.{Meaning, Step}
@@ -9,6 +9,7 @@ use Rattle.iol_core.specs.Run.{meaning, outcome, replied}
 use Rattle.iol_core.specs.Sharing.{is_sharing}
 use Rattle.iol_core.specs.declared.refusals.Refusal.{Refusal}
 use Rattle.iol_core.specs.declared.refusals.Refusal.TheVariants.{NoRoom}
+use Rattle.iol_core.specs.declared.events.Call.{Call}
 use Rattle.iol_core.specs.declared.events.Call.TheVariants as call
 use Rattle.iol_core.specs.declared.events.Event.{Event}
 use Rattle.iol_core.specs.declared.events.Event.TheVariants as event
@@ -18,8 +19,9 @@ use Rattle.iol_hold.specs.Layout.{number_at}
 use Rattle.iol_hold.specs.Pages.{KeepsPages}
 use Rattle.iol_hold.proofs.AtPlaces.{keeps_numbers}
 use Rattle.iol_kernel.specs.Backed.{LooksUp, StepsBeside, with_slots}
-use Rattle.iol_kernel.specs.Calls.{CarriesOut, KeepsPlaces, Names}
-use Rattle.iol_kernel.specs.KernelState.{KernelState, IsSound, layout_of, machine_of}
+use Rattle.iol_kernel.specs.Calls.{CarriesOut, KeepsPlaces, Names, with_reader}
+use Rattle.iol_kernel.specs.KernelState.{KernelState, IsSound, layout_of, machine_of, read_of}
+use Rattle.iol_kernel.specs.Readings.{Reading, KeepsPools}
 use Rattle.iol_kernel.proofs.Carried.{carried_machine, carried_layout}
 use Rattle.iol_kernel.proofs.Serving.{backed_stays, steps_beside}
 use Rattle.iol_kernel.proofs.Stay.{pages_equal, stays_equal}
@@ -30,8 +32,8 @@ use Rattle.iol_system.specs.Machine.{SystemState, system_of, tables_of}
 use Rattle.iol_system.specs.Placed.{Creates, Publishes}
 use Rattle.iol_system.specs.Remembered.{Remembers}
 use Rattle.iol_system.specs.Replies.{told}
-use Rattle.iol_system.specs.Room.{HasRoomFor, IsEarly, IsNoRoom, IsRefused}
-use Rattle.iol_system.specs.Still.{is_still, only_looks}
+use Rattle.iol_system.specs.Room.{HasRoomFor, IsDone, IsEarly, IsNoRoom, IsRefused}
+use Rattle.iol_system.specs.Still.{is_still, keeps_store, only_looks, takes_out}
 use Rattle.iol_system.proofs.InPlace.{cache_in_place, cover_in_place, shares_file, shares_none}
 use Rattle.iol_system.proofs.Paged.{carried_pages}
 use Rattle.iol_system.proofs.WrittenBack.{none_back, writes_back}
@@ -74,6 +76,27 @@ early_refused r is = is
 pub early_told : {A : Type 0} (f : A → Reply) (r : Result A Refusal) (X : Type 0) → Tells f → OnErr r X → IsEarly (told f r) → X
 early_told f r X tells err is = refused_told f r X tells err (early_refused (told f r) is)
 
+-- what may change the store does more than look
+call_unlooking : (by : ℕ) (k : Call) → keeps_store (event.Call by k) ≡ false → only_looks (event.Call by k) ≡ false
+call_unlooking by (call.Show a) changes = changes
+call_unlooking by (call.Length fd) changes = changes
+call_unlooking by k changes = refl
+
+pub unlooking_of : (e : Event) → keeps_store e ≡ false → only_looks e ≡ false
+unlooking_of (event.Call by k) changes = call_unlooking by k changes
+unlooking_of e changes = refl
+
+-- a step that is done goes on to the state after it
+done_after : (m : Meaning Reply) (s t : State) (x : Reply) → Step m s (outcome x) t → IsDone x → t ≡ m.after
+done_after m s t (reply.Refused y) step is = absurd is
+done_after m s t x step is = step.2
+
+-- the bytes that an answer leaves lie where they lay
+pub answer_lies : {A : Type 0} (f : A → Reply) (m : State → Meaning A) (e : Event) (old new : KernelState) (r : Result A Refusal) → ((s : State) → (meaning s e).after ≡ (m s).after)
+    → OnOk r ((g : Reading) → KeepsPools g → read_of g new ≡ (m (read_of g old)).after) → IsDone (told f r) → layout_of new ≡ (meaning (layout_of old) e).after
+answer_lies f m e old new (Ok a) same places is = places (record { at = number_at; stored = [] }) keeps_numbers ∙ sym (same (layout_of old))
+answer_lies f m e old new (Err x) same places is = absurd is
+
 -- An event that wants no room, makes no buffer and no pool, and sends nothing; and that does not ask the store, nor drop anything.
 pub record IsPlain (e : Event) : Type 0 where
   pub unwritten : writes_back e ≡ false
@@ -85,7 +108,7 @@ pub record IsPlain (e : Event) : Type 0 where
   pub late : (old : SystemState) (x : Reply) (new : SystemState) → LeavesLate old e x new
   pub sums : (old : KernelState) (x : Reply) (new : KernelState) → new.sums ≡ old.sums → Remembers old e x new
 
--- The same of an event that makes a file.
+-- The same of an event that makes a file, or has a pool's list name a domain more.
 pub record IsPlainNaming (e : Event) : Type 0 where
   pub unwritten : writes_back e ≡ false
   pub unlent : shares_file e ≡ false
@@ -95,41 +118,13 @@ pub record IsPlainNaming (e : Event) : Type 0 where
   pub late : (old : SystemState) (x : Reply) (new : SystemState) → LeavesLate old e x new
   pub sums : (old : KernelState) (x : Reply) (new : KernelState) → new.sums ≡ old.sums → Remembers old e x new
 
-module _ {A : Type 0} (f : A → Reply) (m : State → Meaning A) (e : Event) (disk : Disk) (old new : KernelState) (r : Result A Refusal) (tells : Tells f) (plain : IsPlain e) (means : Means f m e) where
-  -- a call that carries out
-  pub carried_does : only_looks e ≡ false → IsSound old → CarriesOut m old r new → Does disk old e (told f r) disk new
-  carried_does unlooking sound c = record {
-    step = λ backed placed. means (machine_of disk.slots old) (machine_of disk.slots new) r (carried_machine m old new r disk.slots c);
-    backed = backed_stays disk old new sound c.sound c.cache c.stays;
-    beside = told_beside f m e old new r means (steps_beside m old new r [] [] (carried_machine m old new r [] c));
-    honest = refl;
-    unasked = λ not'. refl;
-    faults = λ asked. absurd (true≢false (sym asked ∙ plain.asks (tables_of old)));
-    slots = λ honest back. refl;
-    asked = λ asks fault. plain.has (system_of old disk);
-    early = λ is. (early_told f r (new ≡ old) tells c.refused is, refl);
-    room = λ done. plain.has (system_of old disk);
-    no_room = λ is. absurd (no_room_told f r tells c.roomy is);
-    refused = λ unused is. refused_told f r (new ≡ old) tells c.refused is;
-    uncached = λ unused other. c.cache;
-    late = plain.late (system_of old disk) (told f r) (system_of new disk);
-    looks = λ is. absurd (true≢false (sym is ∙ unlooking));
-    shares = λ shared. means (layout_of old) (layout_of new) r (carried_layout m old new r c);
-    pages = λ shared. c.arena;
-    still = λ still. means (layout_of old) (layout_of new) r (carried_layout m old new r c);
-    in_place = cache_in_place disk old new e c.cache;
-    shares_file = λ done. shares_none (system_of old disk) new e plain.unlent;
-    publishes = λ done. plain.publishes old new (carried_pages m old new r c);
-    creates = plain.creates old (told f r) new;
-    sums = plain.sums old (told f r) new c.sums;
-    written_back = none_back disk old (told f r) disk new e plain.unwritten;
-    sound = c.sound;
-    stays = c.stays;
-  }
+naming_of : (e : Event) → IsPlain e → IsPlainNaming e
+naming_of e plain = record { unwritten = plain.unwritten; unlent = plain.unlent; asks = plain.asks; has = plain.has; publishes = plain.publishes; late = plain.late; sums = plain.sums }
 
-  -- one that keeps places
-  pub kept_does : ((s : State) → is_sharing s e ≡ false) → only_looks e ≡ false → IsSound old → KeepsPlaces m old r new → ((p : ℕ) → r ≡ Err (NoRoom p) → ⊥) → Does disk old e (told f r) disk new
-  kept_does unshared unlooking sound c roomy = record {
+module _ {A : Type 0} (f : A → Reply) (m : State → Meaning A) (e : Event) (disk : Disk) (old new : KernelState) (r : Result A Refusal) (tells : Tells f) (plain : IsPlainNaming e) (means : Means f m e) where
+  -- a call that keeps places, and says more of what it made or changed
+  pub creating_does : ((s : State) → is_sharing s e ≡ false) → keeps_store e ≡ false → Creates old e (told f r) new → IsSound old → KeepsPlaces m old r new → ((p : ℕ) → r ≡ Err (NoRoom p) → ⊥) → Does disk old e (told f r) disk new
+  creating_does unshared changes creates sound c roomy = record {
     step = λ backed placed. means (machine_of disk.slots old) (machine_of disk.slots new) r (c.step disk.slots);
     backed = backed_stays disk old new sound c.sound c.cache c.stays;
     beside = told_beside f m e old new r means (steps_beside m old new r [] [] (c.step []));
@@ -144,13 +139,49 @@ module _ {A : Type 0} (f : A → Reply) (m : State → Meaning A) (e : Event) (d
     refused = λ unused is. refused_told f r (new ≡ old) tells c.refused is;
     uncached = λ unused other. c.cache;
     late = plain.late (system_of old disk) (told f r) (system_of new disk);
-    looks = λ is. absurd (true≢false (sym is ∙ unlooking));
+    looks = λ is. absurd (true≢false (sym is ∙ unlooking_of e changes));
     shares = λ shared. absurd (true≢false (sym shared ∙ unshared (tables_of old)));
     pages = λ shared. absurd (true≢false (sym shared ∙ unshared (tables_of old)));
     still = λ still. means (layout_of old) (layout_of new) r (kept_layout m old new r c);
+    places = λ out done. done_after (meaning (layout_of old) e) (layout_of old) (layout_of new) (told f r) (means (layout_of old) (layout_of new) r (kept_layout m old new r c)) done;
+    store = λ keeps. absurd (true≢false (sym keeps ∙ changes));
     in_place = cache_in_place disk old new e c.cache;
-    shares_file = λ done. shares_none (system_of old disk) new e plain.unlent;
+    shares_file = λ done. shares_none (system_of old disk) (told f r) new e plain.unlent;
     publishes = λ done. plain.publishes old new c.pages;
+    creates = creates;
+    sums = plain.sums old (told f r) new c.sums;
+    written_back = none_back disk old (told f r) disk new e plain.unwritten;
+    sound = c.sound;
+    stays = c.stays;
+  }
+
+module _ {A : Type 0} (f : A → Reply) (m : State → Meaning A) (e : Event) (disk : Disk) (old new : KernelState) (r : Result A Refusal) (tells : Tells f) (plain : IsPlain e) (means : Means f m e) where
+  -- a call that carries out
+  pub carried_does : keeps_store e ≡ false → IsSound old → CarriesOut m old r new → Does disk old e (told f r) disk new
+  carried_does changes sound c = record {
+    step = λ backed placed. means (machine_of disk.slots old) (machine_of disk.slots new) r (carried_machine m old new r disk.slots c);
+    backed = backed_stays disk old new sound c.sound c.cache c.stays;
+    beside = told_beside f m e old new r means (steps_beside m old new r [] [] (carried_machine m old new r [] c));
+    honest = refl;
+    unasked = λ not'. refl;
+    faults = λ asked. absurd (true≢false (sym asked ∙ plain.asks (tables_of old)));
+    slots = λ honest back. refl;
+    asked = λ asks fault. plain.has (system_of old disk);
+    early = λ is. (early_told f r (new ≡ old) tells c.refused is, refl);
+    room = λ done. plain.has (system_of old disk);
+    no_room = λ is. absurd (no_room_told f r tells c.roomy is);
+    refused = λ unused is. refused_told f r (new ≡ old) tells c.refused is;
+    uncached = λ unused other. c.cache;
+    late = plain.late (system_of old disk) (told f r) (system_of new disk);
+    looks = λ is. absurd (true≢false (sym is ∙ unlooking_of e changes));
+    shares = λ shared. means (layout_of old) (layout_of new) r (carried_layout m old new r c);
+    pages = λ shared. c.arena;
+    still = λ still. means (layout_of old) (layout_of new) r (carried_layout m old new r c);
+    places = λ out done. done_after (meaning (layout_of old) e) (layout_of old) (layout_of new) (told f r) (means (layout_of old) (layout_of new) r (carried_layout m old new r c)) done;
+    store = λ keeps. absurd (true≢false (sym keeps ∙ changes));
+    in_place = cache_in_place disk old new e c.cache;
+    shares_file = λ done. shares_none (system_of old disk) (told f r) new e plain.unlent;
+    publishes = λ done. plain.publishes old new (carried_pages m old new r c);
     creates = plain.creates old (told f r) new;
     sums = plain.sums old (told f r) new c.sums;
     written_back = none_back disk old (told f r) disk new e plain.unwritten;
@@ -158,9 +189,13 @@ module _ {A : Type 0} (f : A → Reply) (m : State → Meaning A) (e : Event) (d
     stays = c.stays;
   }
 
+  -- one that keeps places
+  pub kept_does : ((s : State) → is_sharing s e ≡ false) → keeps_store e ≡ false → IsSound old → KeepsPlaces m old r new → ((p : ℕ) → r ≡ Err (NoRoom p) → ⊥) → Does disk old e (told f r) disk new
+  kept_does unshared changes sound c roomy = creating_does f m e disk old new r tells (naming_of e plain) means unshared changes (plain.creates old (told f r) new) sound c roomy
+
   -- one that asks the store for a length
-  pub looks_does : ((s : State) → is_sharing s e ≡ false) → is_still e ≡ false → (only_looks e ≡ true → new ≡ old) → LooksUp m disk old r new → Does disk old e (told f r) disk new
-  looks_does unshared moving looks c = record {
+  pub looks_does : ((s : State) → is_sharing s e ≡ false) → is_still e ≡ false → ((s : State) → (meaning s e).after ≡ (m s).after) → (only_looks e ≡ true → new ≡ old) → LooksUp m disk old r new → Does disk old e (told f r) disk new
+  looks_does unshared moving same looks c = record {
     step = λ backed placed. means (machine_of disk.slots old) (machine_of disk.slots new) r (c.serves.step backed placed);
     backed = c.serves.backed;
     beside = told_beside f m e old new r means c.serves.beside;
@@ -179,8 +214,10 @@ module _ {A : Type 0} (f : A → Reply) (m : State → Meaning A) (e : Event) (d
     shares = λ shared. absurd (true≢false (sym shared ∙ unshared (tables_of old)));
     pages = λ shared. absurd (true≢false (sym shared ∙ unshared (tables_of old)));
     still = λ still. absurd (true≢false (sym still ∙ moving));
+    places = λ out done. answer_lies f m e old new r same c.places done;
+    store = λ keeps. c.store;
     in_place = cache_in_place disk old new e c.cache;
-    shares_file = λ done. shares_none (system_of old disk) new e plain.unlent;
+    shares_file = λ done. shares_none (system_of old disk) (told f r) new e plain.unlent;
     publishes = λ done. plain.publishes old new (pages_equal old.store new.store c.store);
     creates = plain.creates old (told f r) new;
     sums = plain.sums old (told f r) new c.serves.sums;
@@ -191,8 +228,8 @@ module _ {A : Type 0} (f : A → Reply) (m : State → Meaning A) (e : Event) (d
 
 -- one that makes a file
 module _ {A : Type 0} (f : A → Reply) (m : State → Meaning A) (e : Event) (disk : Disk) (old new : KernelState) (r : Result A Refusal) (tells : Tells f) (plain : IsPlainNaming e) (means : Means f m e) where
-  pub names_does : ((s : State) → is_sharing s e ≡ false) → is_still e ≡ false → only_looks e ≡ false → makes_file e ≡ true → Creates old e (told f r) new → Names disk m old r new → Does disk old e (told f r) disk new
-  names_does unshared moving unlooking made creates c = record {
+  pub names_does : ((s : State) → is_sharing s e ≡ false) → ((s : State) → takes_out s e ≡ false) → is_still e ≡ false → only_looks e ≡ false → makes_file e ≡ true → Creates old e (told f r) new → Names disk m old r new → Does disk old e (told f r) disk new
+  names_does unshared inside moving unlooking made creates c = record {
     step = λ backed placed. means (machine_of disk.slots old) (machine_of disk.slots new) r (c.step backed.honest);
     backed = c.backed;
     beside = told_beside f m e old new r means c.beside;
@@ -211,8 +248,10 @@ module _ {A : Type 0} (f : A → Reply) (m : State → Meaning A) (e : Event) (d
     shares = λ shared. absurd (true≢false (sym shared ∙ unshared (tables_of old)));
     pages = λ shared. absurd (true≢false (sym shared ∙ unshared (tables_of old)));
     still = λ still. absurd (true≢false (sym still ∙ moving));
+    places = λ out done. absurd (true≢false (sym out ∙ inside (tables_of old)));
+    store = λ keeps. c.store;
     in_place = cover_in_place disk old new e c.keeps;
-    shares_file = λ done. shares_none (system_of old disk) new e plain.unlent;
+    shares_file = λ done. shares_none (system_of old disk) (told f r) new e plain.unlent;
     publishes = λ done. plain.publishes old new (pages_equal old.store new.store c.store);
     creates = creates;
     sums = plain.sums old (told f r) new c.sums;
@@ -220,6 +259,11 @@ module _ {A : Type 0} (f : A → Reply) (m : State → Meaning A) (e : Event) (d
     sound = c.sound;
     stays = stays_equal old.store new.store c.store;
   }
+
+-- the domain that a pool's list names now
+pub domain_admitted : (by p d : ℕ) (old new : KernelState) (r : Result (Unit {0}) Refusal) → OnOk r (new ≡ with_reader old p d) → Creates old (event.Call by (call.PoolAdmit p d)) (told (λ u. reply.Done) r) new
+domain_admitted by p d old new (Ok u) same = same
+domain_admitted by p d old new (Err x) same = tt
 
 -- the file that came
 pub file_created : (disk : Disk) (m : State → Meaning ℕ) (by p : ℕ) (name : List ℕ) (old new : KernelState) (r : Result ℕ Refusal) → Names disk m old r new → Creates old (event.Call by (call.FileNew name p)) (told reply.File r) new

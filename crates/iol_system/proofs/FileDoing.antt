@@ -1,7 +1,7 @@
 -- What an event does that places bytes, or reads and writes files.
 use Rattle.std.proofs.Common.{◌≡◌, ◌∙◌, ℕ, Bool, List, [], length, true, false, refl, ap, sym, subst, Option, Some, None}
 use Rattle.std.proofs.lemmas.Bool.{true≢false}
-use Rattle.std.specs.Prelude.{◌⊎◌, Result, Err, IfErr, OnErr, OnOk, not, if◌then◌else◌}
+use Rattle.std.specs.Prelude.{◌⊎◌, Result, Ok, Err, IfErr, OnErr, OnOk, not, if◌then◌else◌}
 use Rattle.iol_back.specs.Disk.{Disk}
 use Rattle.iol_arena.specs.State.{pages_for}
 use Rattle.iol_cache.specs.Composing.{copied_pages}
@@ -15,6 +15,7 @@ use Rattle.iol_core.specs.Calls.Reading as reading
 use Rattle.iol_core.specs.Calls.Writing as writing
 use Rattle.iol_core.specs.Calls.Writing.{is_file}
 use Rattle.iol_core.specs.declared.descriptors.Descriptor.{Descriptor}
+use Rattle.iol_core.specs.declared.descriptors.Mode.{Mode}
 use Rattle.iol_core.specs.declared.descriptors.Descriptor.TheVariants as on
 use Rattle.iol_core.specs.declared.events.Call.TheVariants as call
 use Rattle.iol_core.specs.declared.events.Event.{Event}
@@ -22,17 +23,18 @@ use Rattle.iol_core.specs.declared.events.Event.TheVariants as event
 use Rattle.iol_core.specs.declared.events.Reply.{Reply}
 use Rattle.iol_core.specs.declared.events.Reply.TheVariants as reply
 use Rattle.iol_core.specs.declared.refusals.Refusal.{Refusal}
-use Rattle.iol_core.specs.declared.refusals.Refusal.TheVariants.{NoRoom}
+use Rattle.iol_core.specs.declared.refusals.Refusal.TheVariants.{Memory, NoRoom}
 use Rattle.iol_hold.specs.Places.{byte_len}
 use Rattle.iol_hold.specs.declared.slices.Slice.{Slice}
 use Rattle.iol_kernel.specs.Backed.{Serves, holding_of}
 use Rattle.iol_kernel.specs.Calls.{CarriesOut, Steps}
 use Rattle.iol_kernel.specs.Copying.{Copies, CopiesOn}
-use Rattle.iol_kernel.specs.FileReading.{FileRead, LeavesAtRefusal, Reads, ReadsOn, file_read, held_by, pool_read}
+use Rattle.iol_kernel.specs.FileReading.{CopiesFileAs, FileRead, LeavesAtRefusal, Reads, ReadsOn, file_read, held_by, pool_read}
 use Rattle.iol_kernel.specs.KernelState.{KernelState, IsSound, layout_of, machine_of, slices_in}
 use Rattle.iol_kernel.specs.MakingRoom.{MakesRoom, MayHaveEvicted, Places, can_fit}
 use Rattle.iol_kernel.specs.WritingFiles.{LaysOn, LeavesUnwritten, PutsOn, WritesOn, pool_of_file}
 use Rattle.iol_kernel.specs.Keeping.{LacksPages, LacksPagesToRead}
+use Rattle.iol_kernel.proofs.AfterRoom.{memory_wanted}
 use Rattle.iol_kernel.proofs.Carried.{carried_layout}
 use Rattle.iol_kernel.proofs.Serving.{steps_beside}
 use Rattle.iol_kernel.proofs.Stay.{pages_here, stays_here}
@@ -45,8 +47,8 @@ use Rattle.iol_system.specs.Placed.{Creates, FillsForFile, Makes, Publishes, Put
 use Rattle.iol_system.specs.Remembered.{Remembers}
 use Rattle.iol_system.specs.Replies.{told}
 use Rattle.iol_system.specs.Room.{HasRoomFor, HasRoomToRead, HasRoomToWrite, LacksRoomFor, LacksRoomToRead, LacksRoomToWrite, IsDone, IsEarly, IsFault, IsNoRoom, IsRefused}
-use Rattle.iol_system.specs.Still.{is_still, only_looks}
-use Rattle.iol_system.proofs.Doing.{Means, Tells, IsPlain, early_told, no_room_told, refused_told, told_beside}
+use Rattle.iol_system.specs.Still.{is_still, keeps_store, takes_out}
+use Rattle.iol_system.proofs.Doing.{Means, Tells, IsPlain, answer_lies, early_told, no_room_told, refused_told, told_beside, unlooking_of}
 use Rattle.iol_system.proofs.InPlace.{beside_in_place, cache_in_place, places_in_place, shares_file, shares_none, unless_in_place}
 use Rattle.iol_system.proofs.Paged.{carried_pages, fills_then_frees}
 use Rattle.iol_system.proofs.WrittenBack.{none_back, writes_back}
@@ -54,8 +56,8 @@ use Rattle.iol_system.proofs.ResultTold.{ok_told, lacks_told, counts_told, has_t
 
 -- bytes are shown, and nothing changes
 module _ {A : Type 0} (f : A → Reply) (m : State → Meaning A) (e : Event) (disk : Disk) (h : KernelState) (r : Result A Refusal) (tells : Tells f) (plain : IsPlain e) (means : Means f m e) where
-  pub shows_does : ((s : State) → is_sharing s e ≡ false) → is_still e ≡ false → IsSound h → Steps m h r h → ((p : ℕ) → r ≡ Err (NoRoom p) → ⊥) → Does disk h e (told f r) disk h
-  shows_does unshared moving sound steps roomy = record {
+  pub shows_does : ((s : State) → is_sharing s e ≡ false) → ((s : State) → takes_out s e ≡ false) → is_still e ≡ false → IsSound h → Steps m h r h → ((p : ℕ) → r ≡ Err (NoRoom p) → ⊥) → Does disk h e (told f r) disk h
+  shows_does unshared inside moving sound steps roomy = record {
     step = λ backed placed. means (machine_of disk.slots h) (machine_of disk.slots h) r (steps disk.slots);
     backed = λ backed. backed;
     beside = told_beside f m e h h r means (steps_beside m h h r [] [] (steps []));
@@ -74,8 +76,10 @@ module _ {A : Type 0} (f : A → Reply) (m : State → Meaning A) (e : Event) (d
     shares = λ shared. absurd (true≢false (sym shared ∙ unshared (tables_of h)));
     pages = λ shared. refl;
     still = λ still. absurd (true≢false (sym still ∙ moving));
+    places = λ out done. absurd (true≢false (sym out ∙ inside (tables_of h)));
+    store = λ keeps. refl;
     in_place = cache_in_place disk h h e refl;
-    shares_file = λ done. shares_none (system_of h disk) h e plain.unlent;
+    shares_file = λ done. shares_none (system_of h disk) (told f r) h e plain.unlent;
     publishes = λ done. plain.publishes h h (pages_here h.store);
     creates = plain.creates h (told f r) h;
     sums = plain.sums h (told f r) h refl;
@@ -93,7 +97,8 @@ pub record IsPlacing (e : Event) (put : State → Text → State) (pool n : ℕ)
   pub uses : (s : State) → uses_cache s e ≡ true
   pub unshared : (s : State) → is_sharing s e ≡ false
   pub moving : is_still e ≡ false
-  pub unlooking : only_looks e ≡ false
+  pub inside : (s : State) → takes_out s e ≡ false
+  pub changes : keeps_store e ≡ false
   pub has : (disk : Disk) → can_fit old pool n ≡ true → HasRoomFor (system_of old disk) e
   pub lacks : (disk : Disk) → can_fit old pool n ≡ false → LacksRoomFor (system_of old disk) e
   pub publishes : (new : KernelState) → Makes put pool n old new → Publishes old e new
@@ -103,7 +108,7 @@ pub record IsPlacing (e : Event) (put : State → Text → State) (pool n : ℕ)
 
 module _ {A : Type 0} (f : A → Reply) (m : State → Meaning A) (put : State → Text → State) (pool n : ℕ) (e : Event) (disk : Disk) (old new : KernelState) (r : Result A Refusal) (tells : Tells f) (placing : IsPlacing e put pool n old) (means : Means f m e) where
   placed_early : IfErr r (MayHaveEvicted pool n old new) → IsEarly (told f r) → new ≡ old
-  placed_early left is = early_of f r (new ≡ old) (λ x. WantOfRoom pool x × MakesRoom pool (pages_for n) old new) tells (λ x early late. early_room pool x early late.0) left is
+  placed_early left is = early_of f r (new ≡ old) (λ x. (x ≡ Memory) × MakesRoom pool (pages_for n) old new) tells (λ x early late. early_room pool x early (memory_wanted pool x late.0)) left is
 
   pub places_does : Places m put pool n old r new → Does disk old e (told f r) disk new
   places_does c =
@@ -122,12 +127,14 @@ module _ {A : Type 0} (f : A → Reply) (m : State → Meaning A) (put : State �
         no_room = λ is. placing.lacks disk (lacks_told f r (can_fit old pool n ≡ false) tells c.no_room is);
         refused = λ unused is. absurd (true≢false (sym (placing.uses (tables_of old)) ∙ unused));
         late = placing.late disk (told f r) new (late_told f r (MayHaveEvicted pool n old new) tells c.refused);
-        looks = λ is. absurd (true≢false (sym is ∙ placing.unlooking));
+        looks = λ is. absurd (true≢false (sym is ∙ unlooking_of e placing.changes));
         shares = λ shared. absurd (true≢false (sym shared ∙ placing.unshared (tables_of old)));
         pages = λ shared. absurd (true≢false (sym shared ∙ placing.unshared (tables_of old)));
         still = λ still. absurd (true≢false (sym still ∙ placing.moving));
+        places = λ out done. absurd (true≢false (sym out ∙ placing.inside (tables_of old)));
+        store = λ keeps. absurd (true≢false (sym keeps ∙ placing.changes));
         in_place = places_in_place disk old new e m put pool n (λ p same lacks. placing.goes disk p (same, subst (λ q. LacksPages old q (pages_for n)) (sym same) lacks)) r c;
-        shares_file = λ done. shares_none (system_of old disk) new e placing.unlent;
+        shares_file = λ done. shares_none (system_of old disk) (told f r) new e placing.unlent;
         publishes = λ done. placing.publishes new (ok_told f r (Makes put pool n old new) c.made done);
         creates = placing.creates (told f r) new;
         sums = placing.sums (told f r) new serves.sums;
@@ -202,7 +209,7 @@ module _ (by fd n : ℕ) (disk after : Disk) (old new : KernelState) (r : Result
   read_in_place o c goes = cache_in_place disk old new read_event c.0.cache
 
   read_shares : (o : Option Descriptor) → ReadsOn by fd n o disk old r after new → IsDone (told reply.Agg r) → SharesRead by fd n (system_of old disk) o new
-  read_shares (Some (on.File g at mode)) c is = ok_told reply.Agg r _ c.1 is
+  read_shares (Some (on.File g at mode)) c is = record { gives = ok_told reply.Agg r _ c.1 is; rest = c.0.same }
   read_shares o c is = tt
 
   read_late : (o : Option Descriptor) → ReadsOn by fd n o disk old r after new → ReadLeaves by fd n (system_of old disk) o (told reply.Agg r) (system_of new after)
@@ -231,6 +238,8 @@ module _ (by fd n : ℕ) (disk after : Disk) (old new : KernelState) (r : Result
         shares = λ shared. means (layout_of old) (layout_of new) r (carried_layout (λ s. reading.iol_read s by fd n) old new r (read_carried o reads (queue shared)));
         pages = λ shared. (read_carried o reads (queue shared)).arena;
         still = λ still. absurd (true≢false (sym still));
+        places = λ out done. absurd (true≢false (sym out));
+        store = λ keeps. absurd (true≢false (sym keeps));
         in_place = read_in_place o reads (λ p k. k);
         shares_file = read_shares o reads;
         publishes = λ done. read_fills o reads;
@@ -287,7 +296,7 @@ module _ (by fd a : ℕ) (disk : Disk) (old new : KernelState) (r : Result ℕ R
   write_in_place o c writes goes = cache_in_place disk old new write_event c.cache
 
   write_shares : (o : Option Descriptor) → WritesOn by fd a o old r new → IsDone (told reply.Count r) → SharesWrite o (slices_in old.domains by a) old new
-  write_shares (Some (on.File g at mode)) c is = record { lies = ok_told reply.Count r _ c.lies is; over = λ some. ok_told reply.Count r _ (c.over some) is; nothing = λ none. ok_told reply.Count r _ (c.nothing none) is }
+  write_shares (Some (on.File g at mode)) c is = record { lies = ok_told reply.Count r _ c.lies is; over = λ some. ok_told reply.Count r _ (c.over some) is; nothing = λ none. ok_told reply.Count r _ (c.nothing none) is; moves = ok_told reply.Count r _ c.moves is; rest = c.same }
   write_shares o c is = tt
 
   write_late : (o : Option Descriptor) → WritesOn by fd a o old r new → WriteLeaves old o (slices_in old.domains by a) (told reply.Count r) new
@@ -315,6 +324,8 @@ module _ (by fd a : ℕ) (disk : Disk) (old new : KernelState) (r : Result ℕ R
         shares = λ shared. means (layout_of old) (layout_of new) r (carried_layout (λ s. writing.iol_write s by fd a) old new r (write_carried o writes shared));
         pages = λ shared. (write_carried o writes shared).arena;
         still = λ still. absurd (true≢false (sym still));
+        places = λ out done. absurd (true≢false (sym out));
+        store = λ keeps. absurd (true≢false (sym keeps));
         in_place = write_in_place o writes (λ g i k. k) (λ p k. k);
         shares_file = write_shares o writes;
         publishes = λ done. write_fills o writes;
@@ -377,9 +388,18 @@ module _ (by fd n : ℕ) (disk after : Disk) (old new : KernelState) (r : Result
   copy_in_place (Some (on.File g at mode)) c goes = unless_in_place disk old new copy_event (pool_of_file old g) (LacksPagesToRead g at n disk (holding_of old)) c.reads.keeps (λ p same lacks. goes p (same, lacks))
   copy_in_place o c goes = cache_in_place disk old new copy_event c.0.cache
 
-  copy_shares : (o : Option Descriptor) → CopiesOn by fd n o disk old r after new → IsDone (told reply.Bytes r) → SharesCopy by fd n (system_of old disk) o new
-  copy_shares (Some (on.File g at mode)) c is = record { mid = c.mid; gives = ok_told reply.Bytes r _ c.gives is; frees = c.frees }
+  -- the bytes that were answered were copied from where they lie
+  copied_of : (g at : ℕ) (mode : Mode) (x : Result (List ℕ) Refusal) → CopiesFileAs (file_read by fd g at mode n) disk old x after new → IsDone (told reply.Bytes x) → SharesCopy by fd n (system_of old disk) (Some (on.File g at mode)) (told reply.Bytes x) new
+  copied_of g at mode (Ok bytes) c is = record { mid = c.mid; gives = c.gives; frees = c.frees; rest = ap (λ (h : KernelState). let k : KernelState = record h { store = new.store } in k) c.reads.same }
+  copied_of g at mode (Err x) c is = absurd is
+
+  copy_shares : (o : Option Descriptor) → CopiesOn by fd n o disk old r after new → IsDone (told reply.Bytes r) → SharesCopy by fd n (system_of old disk) o (told reply.Bytes r) new
+  copy_shares (Some (on.File g at mode)) c is = copied_of g at mode r c is
   copy_shares o c is = tt
+
+  copy_places : (o : Option Descriptor) → CopiesOn by fd n o disk old r after new → not (is_file o) ≡ true → IsDone (told reply.Bytes r) → layout_of new ≡ (reading.read (layout_of old) by fd n).after
+  copy_places (Some (on.File g at mode)) c none is = absurd (true≢false (sym none))
+  copy_places o c none is = answer_lies reply.Bytes (λ s. reading.read s by fd n) copy_event old new r (λ s. refl) c.0.places is
 
   copy_late : (o : Option Descriptor) → CopiesOn by fd n o disk old r after new → CopyLeaves by fd n (system_of old disk) o (told reply.Bytes r) (system_of new after)
   copy_late (Some (on.File g at mode)) c =
@@ -413,6 +433,8 @@ module _ (by fd n : ℕ) (disk after : Disk) (old new : KernelState) (r : Result
         shares = λ shared. absurd (true≢false (sym shared));
         pages = λ shared. absurd (true≢false (sym shared));
         still = λ still. absurd (true≢false (sym still));
+        places = copy_places o copies;
+        store = λ keeps. absurd (true≢false (sym keeps));
         in_place = copy_in_place o copies (λ p k. k);
         shares_file = copy_shares o copies;
         publishes = λ done. copy_fills o copies;
@@ -512,6 +534,8 @@ module _ (by fd : ℕ) (bytes : List ℕ) (disk : Disk) (old new : KernelState) 
     shares = λ shared. absurd (true≢false (sym shared));
     pages = λ shared. absurd (true≢false (sym shared));
     still = λ still. absurd (true≢false (sym still));
+    places = λ out done. absurd (true≢false (sym out));
+    store = λ keeps. absurd (true≢false (sym keeps));
     in_place = put_in_place (descriptor (tables_of old) by fd) queue puts (λ g i k. k) (λ p k. k);
     shares_file = put_shares (descriptor (tables_of old) by fd) lays;
     publishes = λ done. put_fills (descriptor (tables_of old) by fd) queue puts done;

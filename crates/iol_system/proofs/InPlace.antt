@@ -10,13 +10,15 @@ use Rattle.iol_core.specs.declared.events.Call.{Call}
 use Rattle.iol_core.specs.declared.events.Call.TheVariants as call
 use Rattle.iol_core.specs.declared.events.Event.{Event}
 use Rattle.iol_core.specs.declared.events.Event.TheVariants as event
+use Rattle.iol_core.specs.declared.events.Reply.{Reply}
 use Rattle.iol_core.specs.declared.refusals.Refusal.{Refusal}
 use Rattle.iol_core.specs.declared.refusals.Refusal.TheVariants.{NoDomain, BadFd, BadAgg, NoPool, NoFile, WrongMode, BadRange, TooLong, TooMany, Denied, PoolClosed, PoolBusy, BrokenPipe, WouldBlock, NoRoom, Fault, Memory}
 use Rattle.iol_arena.specs.State.{pages_for}
 use Rattle.iol_extent.specs.Extents.{Cell, Extent, cell_at, cover, is_over}
 use Rattle.iol_cache.specs.Cached.{Cached, extents_in, file_in}
 use Rattle.iol_cache.specs.Keeping.{KeepsCover, KeepsDirty}
-use Rattle.iol_cache.specs.Syncing.{Flushes, Syncs, as_clean, cleaned_at, first_cleaned}
+use Rattle.iol_cache.specs.Syncing.{Flushes, Syncs, first_cleaned}
+use Rattle.iol_extent.specs.Extents.{as_clean, cleaned_at}
 use Rattle.iol_cache.specs.declared.files.CachedFile.{CachedFile}
 use Rattle.iol_cache.specs.declared.syncing.Flushed.{Flushed}
 use Rattle.iol_cache.specs.declared.syncing.Flushed.TheVariants.{Nothing, Wrote}
@@ -176,14 +178,14 @@ shares_file (event.Call by (call.Read fd n)) = true
 shares_file (event.Call by (call.Write fd bytes)) = true
 shares_file e = false
 
-module _ (old : SystemState) (new : KernelState) where
-  call_shares_none : (by : ℕ) (k : Call) → shares_file (event.Call by k) ≡ false → SharesFile old (event.Call by k) new
+module _ (old : SystemState) (r : Reply) (new : KernelState) where
+  call_shares_none : (by : ℕ) (k : Call) → shares_file (event.Call by k) ≡ false → SharesFile old (event.Call by k) r new
   call_shares_none by (call.IolRead fd n) none = absurd (true≢false none)
   call_shares_none by (call.IolWrite fd a) none = absurd (true≢false none)
   call_shares_none by (call.Read fd n) none = absurd (true≢false none)
   call_shares_none by (call.Write fd bytes) none = absurd (true≢false none)
   call_shares_none by k none = tt
 
-  pub shares_none : (e : Event) → shares_file e ≡ false → SharesFile old e new
+  pub shares_none : (e : Event) → shares_file e ≡ false → SharesFile old e r new
   shares_none (event.Call by k) none = call_shares_none by k none
   shares_none e none = tt

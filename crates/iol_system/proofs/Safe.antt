@@ -82,6 +82,8 @@ module _ (old new : SystemState) (e : Event) (r : Reply) (safe : IsSafe old) (do
     shares = does.shares;
     pages = does.pages;
     still = does.still;
+    places = does.places;
+    store = does.store;
     in_place = does.in_place;
     shares_file = does.shares_file;
     publishes = does.publishes;

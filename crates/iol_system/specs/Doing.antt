@@ -16,7 +16,7 @@ use Rattle.iol_system.specs.Late.{LeavesLate}
 use Rattle.iol_system.specs.Machine.{system_of, tables_of}
 use Rattle.iol_system.specs.Placed.{Creates, Publishes}
 use Rattle.iol_system.specs.Remembered.{Remembers}
-use Rattle.iol_system.specs.Still.{is_still, only_looks}
+use Rattle.iol_system.specs.Still.{is_still, keeps_store, only_looks, takes_out}
 use Rattle.iol_system.specs.Room.{HasRoomFor, LacksRoomFor, IsDone, IsEarly, IsFault, IsNoRoom, IsRefused}
 use Rattle.iol_system.specs.WrittenBack.{WritesBack}
 
@@ -42,7 +42,9 @@ pub record Does (disk : Disk) (old : KernelState) (e : Event) (r : Reply) (after
   pub pages : is_sharing (tables_of old) e ≡ true → new.store.arena ≡ old.store.arena
   pub still : is_still e ≡ true → LaysOut (layout_of old) e r (layout_of new)
   pub in_place : KeepsInPlace (system_of old disk) e new
-  pub shares_file : IsDone r → SharesFile (system_of old disk) e new
+  pub places : takes_out (tables_of old) e ≡ true → IsDone r → layout_of new ≡ (meaning (layout_of old) e).after
+  pub store : keeps_store e ≡ true → new.store ≡ old.store
+  pub shares_file : IsDone r → SharesFile (system_of old disk) e r new
   pub publishes : IsDone r → Publishes old e new
   pub creates : Creates old e r new
   pub sums : Remembers old e r new

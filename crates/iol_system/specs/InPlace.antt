@@ -10,6 +10,8 @@ use Rattle.iol_core.specs.declared.descriptors.Descriptor.TheVariants as on
 use Rattle.iol_core.specs.declared.events.Call.TheVariants as call
 use Rattle.iol_core.specs.declared.events.Event.{Event}
 use Rattle.iol_core.specs.declared.events.Event.TheVariants as event
+use Rattle.iol_core.specs.declared.events.Reply.{Reply}
+use Rattle.iol_core.specs.declared.events.Reply.TheVariants as reply
 use Rattle.iol_arena.specs.State.{pages_for}
 use Rattle.iol_extent.specs.Extents.{Cell, cover}
 use Rattle.iol_hold.specs.Places.{byte_len}
@@ -24,7 +26,7 @@ use Rattle.iol_kernel.specs.FileReading.{GivesCopy, GivesRead, file_read, held_b
 use Rattle.iol_kernel.specs.Keeping.{LacksPages, LacksPagesToRead}
 use Rattle.iol_kernel.specs.KernelState.{KernelState, slices_in}
 use Rattle.iol_kernel.specs.MakingRoom.{AfterRoom}
-use Rattle.iol_kernel.specs.WritingFiles.{LaysOver, pool_of_file}
+use Rattle.iol_kernel.specs.WritingFiles.{LaysOver, OnlyMoves, pool_of_file}
 use Rattle.iol_system.specs.Machine.{SystemState, tables_of}
 
 -- byte i of file f is one of n from the position on at which a descriptor is open
@@ -78,29 +80,44 @@ pub record KeepsInPlace (old : SystemState) (e : Event) (new : KernelState) : Ty
   pub each : (f i : ℕ) (c : Cell) → cover (extents_in old.kernel.cache.files f) i ≡ Some c
       → LiesStill e c (cover (extents_in new.cache.files f) i) ⊎ (IsWritten old.kernel e f i ⊎ ((c.dirty ≡ false) × MayLetGo old e (file_in old.kernel.cache.files f).pool))
 
--- A read of a file by reference gives bytes that were in memory where they lay, and the others where they lie in new extents.
+-- Pages, what memory has of files and the domains' tables changed, and nothing else: pipes, connections, the sums that are
+-- remembered and the list of files are as they were.
+abbrev pub SameElsewhere : (old new : KernelState) → Type 0
+SameElsewhere old new = new ≡ record old { store = new.store; cache = new.cache; domains = new.domains }
+
+-- A read of a file by reference gives bytes that were in memory where they lay, and the others where they lie in new extents. Of
+-- the tables its domain has one aggregate more, and the descriptor's position moved.
+pub record ReadsShared (by fd n f at : ℕ) (mode : Mode) (old : SystemState) (new : KernelState) : Type 0 where
+  pub gives : GivesRead (file_read by fd f at mode n) old.disk old.kernel new
+  pub rest : SameElsewhere old.kernel new
+
 abbrev pub SharesRead : (by fd n : ℕ) → SystemState → Option Descriptor → KernelState → Type 0
-SharesRead by fd n old (Some (on.File f at mode)) new = GivesRead (file_read by fd f at mode n) old.disk old.kernel new
+SharesRead by fd n old (Some (on.File f at mode)) new = ReadsShared by fd n f at mode old new
 SharesRead by fd n old o new = ⊤
 
 -- A read of a file by copying does what one by reference does, over some pages; then its slices are released. So what it hit counts,
--- and what was not in memory lies in new clean extents.
-pub record CopiesShared (by fd n f at : ℕ) (mode : Mode) (old : SystemState) (new : KernelState) : Type 0 where
+-- what was not in memory lies in new clean extents, and the bytes that it answers are those that lie there. Of the tables the
+-- descriptor's position moved.
+pub record CopiesShared (by fd n f at : ℕ) (mode : Mode) (old : SystemState) (bytes : List ℕ) (new : KernelState) : Type 0 where
   pub mid : Stored
-  pub gives : GivesCopy (file_read by fd f at mode n) old.disk old.kernel mid new
+  pub gives : GivesCopy (file_read by fd f at mode n) old.disk old.kernel mid new bytes
   pub frees : FreesOnly mid new.store
+  pub rest : SameElsewhere old.kernel new
 
-abbrev pub SharesCopy : (by fd n : ℕ) → SystemState → Option Descriptor → KernelState → Type 0
-SharesCopy by fd n old (Some (on.File f at mode)) new = CopiesShared by fd n f at mode old new
-SharesCopy by fd n old o new = ⊤
+-- where bytes were answered
+abbrev pub SharesCopy : (by fd n : ℕ) → SystemState → Option Descriptor → Reply → KernelState → Type 0
+SharesCopy by fd n old (Some (on.File f at mode)) (reply.Bytes bytes) new = CopiesShared by fd n f at mode old bytes new
+SharesCopy by fd n old o r new = ⊤
 
 -- A write of slices over a file: those of its pool lie under it where they lay. Where there are bytes, room was made for copies
 -- of the others, and then all of them came in the place of what lay there, and nothing else became of the cache. Where there is
--- none, nothing became of it at all.
+-- none, nothing became of it at all. Of the tables the descriptor's position moved.
 pub record WritesShared (f at : ℕ) (xs : List Slice) (old new : KernelState) : Type 0 where
   pub lies : LiesDirty f at xs new.cache
   pub over : 0 < byte_len xs → WritesFile f at xs (holding_of old) (holding_of new)
   pub nothing : byte_len xs ≡ 0 → holding_of new ≡ holding_of old
+  pub moves : OnlyMoves f at (byte_len xs) old.domains new.domains
+  pub rest : SameElsewhere old new
 
 abbrev pub SharesWrite : Option Descriptor → List Slice → (old new : KernelState) → Type 0
 SharesWrite (Some (on.File f at mode)) xs old new = WritesShared f at xs old new
@@ -112,9 +129,9 @@ abbrev pub SharesPut : (pool : ℕ) → List ℕ → Option Descriptor → (old 
 SharesPut pool bytes (Some (on.File f at mode)) old new = AfterRoom pool (length bytes) old (λ roomy. LaysOver f at pool bytes roomy new)
 SharesPut pool bytes o old new = ⊤
 
-abbrev pub SharesFile : SystemState → Event → KernelState → Type 0
-SharesFile old (event.Call by (call.IolRead fd n)) new = SharesRead by fd n old (held_by (tables_of old.kernel) by fd) new
-SharesFile old (event.Call by (call.IolWrite fd a)) new = SharesWrite (descriptor (tables_of old.kernel) by fd) (slices_in old.kernel.domains by a) old.kernel new
-SharesFile old (event.Call by (call.Read fd n)) new = SharesCopy by fd n old (held_by (tables_of old.kernel) by fd) new
-SharesFile old (event.Call by (call.Write fd bytes)) new = SharesPut (pool_for (tables_of old.kernel) by (descriptor (tables_of old.kernel) by fd)) bytes (descriptor (tables_of old.kernel) by fd) old.kernel new
-SharesFile old e new = ⊤
+abbrev pub SharesFile : SystemState → Event → Reply → KernelState → Type 0
+SharesFile old (event.Call by (call.IolRead fd n)) r new = SharesRead by fd n old (held_by (tables_of old.kernel) by fd) new
+SharesFile old (event.Call by (call.IolWrite fd a)) r new = SharesWrite (descriptor (tables_of old.kernel) by fd) (slices_in old.kernel.domains by a) old.kernel new
+SharesFile old (event.Call by (call.Read fd n)) r new = SharesCopy by fd n old (held_by (tables_of old.kernel) by fd) r new
+SharesFile old (event.Call by (call.Write fd bytes)) r new = SharesPut (pool_for (tables_of old.kernel) by (descriptor (tables_of old.kernel) by fd)) bytes (descriptor (tables_of old.kernel) by fd) old.kernel new
+SharesFile old e r new = ⊤

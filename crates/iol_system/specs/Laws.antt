@@ -4,10 +4,13 @@ use Rattle.iol_core.specs.Run.{Run}
 use Rattle.iol_core.specs.Sharing.{is_sharing}
 use Rattle.iol_core.specs.declared.events.Event.{Event}
 use Rattle.iol_core.specs.declared.events.Reply.{Reply}
+use Rattle.iol_core.specs.declared.events.Reply.TheVariants.{Refused}
+use Rattle.iol_core.specs.declared.refusals.Refusal.TheVariants.{NoRoom}
 use Rattle.iol_arena.specs.Chunks.{is_taken}
 use Rattle.iol_arena.specs.State.{chunk_count}
 use Rattle.iol_hold.specs.Moves.{Stays}
 use Rattle.iol_back.specs.Disk.{IfHonest}
+use Rattle.iol_cache.specs.Cached.{Cached, extents_in, order_in}
 use Rattle.iol_kernel.specs.KernelState.{layout_of}
 use Rattle.iol_laws.specs.Order.{IsOrderly}
 use Rattle.iol_system.specs.Freed.{IsAllFree, IsLeft}
@@ -49,6 +52,15 @@ pub record Moment (old : SystemState) (past : List Event) (e : Event) (future : 
 -- Each event of a run keeps all promises of a step: so NoRoom is answered exactly where there is no room, and so on.
 abbrev pub EachEventIsAStep : Type 0
 EachEventIsAStep = (old new : SystemState) (past : List Event) (e : Event) (future : List Event) (rs : List Reply) → Chain old (past ++ e ∷ future) rs new → Moment old past e future rs new
+
+-- What memory has of files lies where it lay, dirty or clean as it was, and L of each pool is as it was.
+pub record EvictsNothing (old new : Cached) : Type 0 where
+  pub extents : (f : ℕ) → extents_in new.files f ≡ extents_in old.files f
+  pub low : (p : ℕ) → (order_in new.orders p).low ≡ (order_in old.orders p).low
+
+-- an event that is refused for want of room evicts nothing
+abbrev pub NoRoomEvictsNothing : Type 0
+NoRoomEvictsNothing = (old new : SystemState) (e : Event) (p : ℕ) → Promises old e (Refused (NoRoom p)) new → EvictsNothing old.kernel.cache new.kernel.cache
 
 -- a run from a safe system ends in one; by the law on parts the system is safe at each moment
 abbrev pub RunsStaySafe : Type 0

@@ -17,7 +17,7 @@ use Rattle.iol_core.specs.declared.events.Reply.TheVariants as reply
 use Rattle.iol_hold.specs.Pages.{KeepsPages}
 use Rattle.iol_hold.specs.Room.{lowest_of}
 use Rattle.iol_cache.specs.Paging.{FillsLowest}
-use Rattle.iol_kernel.specs.Calls.{AddsEmpty, MakesBytes, with_incoming}
+use Rattle.iol_kernel.specs.Calls.{AddsEmpty, MakesBytes, with_incoming, with_reader}
 use Rattle.iol_kernel.specs.MakingRoom.{AfterRoom}
 use Rattle.iol_kernel.specs.WritingFiles.{pool_of_file}
 use Rattle.iol_pool.specs.Pools.{AddsPool}
@@ -66,10 +66,11 @@ pub record CreatesFile (old new : KernelState) : Type 0 where
   pub same : new ≡ record old { files = new.files; cache = new.cache }
   pub added : AddsEmpty old.cache new.cache
 
--- A call that made a pool: it has as many chunks as were asked for, the lowest free ones, and the others have theirs. Or one that
--- made a file.
+-- A call that made a pool: it has as many chunks as were asked for, the lowest free ones, and the others have theirs. One that
+-- admitted a domain to a pool: that list names it, and nothing else changed at all. Or one that made a file.
 abbrev pub CallCreates : KernelState → Call → Reply → KernelState → Type 0
 CallCreates old (call.PoolCreate chunks list) (reply.Pool p) new = AddsPool old.store.arena new.store.arena old.store.pools new.store.pools chunks (distinct list)
+CallCreates old (call.PoolAdmit p d) reply.Done new = new ≡ with_reader old p d
 CallCreates old (call.FileNew name p) (reply.File f) new = CreatesFile old new
 CallCreates old c r new = ⊤
 

@@ -21,7 +21,7 @@ use Rattle.iol_system.specs.Placed.{Creates, Publishes}
 use Rattle.iol_system.specs.Remembered.{Remembers}
 use Rattle.iol_system.specs.Room.{HasRoomFor, LacksRoomFor, IsDone, IsEarly, IsFault, IsNoRoom, IsRefused}
 use Rattle.iol_system.specs.Safe.{IsSafe}
-use Rattle.iol_system.specs.Still.{is_still, only_looks}
+use Rattle.iol_system.specs.Still.{is_still, keeps_store, only_looks, takes_out}
 use Rattle.iol_system.specs.WrittenBack.{IsDropped, IsFlushed, IsKept, IsSynced, StoresBack}
 
 -- From old to new, by this event with this reply. Over an honest store it is the copying machine's step; over any store it is that
@@ -32,11 +32,12 @@ use Rattle.iol_system.specs.WrittenBack.{IsDropped, IsFlushed, IsKept, IsSynced,
 -- gone, those that go first before the others, hits counted, pages raised that were filled and are free again, and by `fsync` and
 -- `flush` what was written back before. Other events leave what memory has of files, but that a new file has nothing there; `show`
 -- and `length` change nothing at all. What a sharing call hands on lies where it lay, and no page is published or freed; what a
--- call leaves that is not about bytes lies where it lay; bytes of files in memory lie where they lay, but those that are written
+-- call leaves that is not about bytes lies where it lay, and so does what is left where bytes are sent, copied out of a queue, or
+-- a position moves, which changes no page; bytes of files in memory lie where they lay, but those that are written
 -- and clean ones that give way, and calls on files share them, and what is read or written by copying is in memory then, too;
 -- calls that make buffers do so on the lowest free pages, each of which is raised by one, and no others do, and no more gives way
--- for new bytes than was wanted; an open pool keeps its chunks, and a new one has the lowest free; sending remembers the sums of
--- what is sent; after `fsync` an honest store has the file, and nothing of it is dirty, `flush` leaves one dirty extent fewer, and
+-- for new bytes than was wanted; an open pool keeps its chunks, and a new one has the lowest free; admitting a domain changes the
+-- pool's list alone; sending remembers the sums of what is sent; after `fsync` an honest store has the file, and nothing of it is dirty, `flush` leaves one dirty extent fewer, and
 -- `drop_clean` no clean one; new is safe again; live buffers keep their bytes, and aggregates their values.
 pub record Promises (old : SystemState) (e : Event) (r : Reply) (new : SystemState) : Type 0 where
   pub step : IfHonest old.disk (StepsTo (machine_of old) e r (machine_of new))
@@ -57,7 +58,9 @@ pub record Promises (old : SystemState) (e : Event) (r : Reply) (new : SystemSta
   pub pages : is_sharing (tables_of old.kernel) e ≡ true → new.kernel.store.arena ≡ old.kernel.store.arena
   pub still : is_still e ≡ true → LaysOut (layout_of old.kernel) e r (layout_of new.kernel)
   pub in_place : KeepsInPlace old e new.kernel
-  pub shares_file : IsDone r → SharesFile old e new.kernel
+  pub places : takes_out (tables_of old.kernel) e ≡ true → IsDone r → layout_of new.kernel ≡ (meaning (layout_of old.kernel) e).after
+  pub store : keeps_store e ≡ true → new.kernel.store ≡ old.kernel.store
+  pub shares_file : IsDone r → SharesFile old e r new.kernel
   pub publishes : IsDone r → Publishes old.kernel e new.kernel
   pub creates : Creates old.kernel e r new.kernel
   pub sums : Remembers old.kernel e r new.kernel

@@ -1,8 +1,11 @@
--- Events that neither place bytes nor hand them on, and those that change nothing.
-use Rattle.std.specs.Prelude.{Bool, true, false}
+-- Events that neither place bytes nor hand them on, those that take bytes out, and those that change nothing.
+use Rattle.std.specs.Prelude.{Bool, true, false, not}
+use Rattle.iol_core.specs.State.{State}
+use Rattle.iol_core.specs.Calls.Writing.{is_file}
 use Rattle.iol_core.specs.declared.events.Call.TheVariants as call
 use Rattle.iol_core.specs.declared.events.Event.{Event}
 use Rattle.iol_core.specs.declared.events.Event.TheVariants as event
+use Rattle.iol_kernel.specs.FileReading.{held_by}
 
 -- Whether the event is about domains, pools, descriptors or what is given up, and not about bytes: whatever it leaves lies where it
 -- lay. What a file has may lie in the store alone, so calls that ask how long one is are not among these.
@@ -11,6 +14,7 @@ is_still (event.Call by call.DomainNew) = true
 is_still (event.Call by call.Exit) = true
 is_still (event.Call by (call.PoolCreate chunks list)) = true
 is_still (event.Call by (call.PoolClose p)) = true
+is_still (event.Call by (call.PoolAdmit p d)) = true
 is_still (event.Call by (call.SetPool p)) = true
 is_still (event.Call by (call.AggDrop a)) = true
 is_still (event.Call by (call.OpenFile name mode)) = true
@@ -27,3 +31,18 @@ abbrev pub only_looks : Event → Bool
 only_looks (event.Call by (call.Show a)) = true
 only_looks (event.Call by (call.Length fd)) = true
 only_looks e = false
+
+-- Whether the event takes bytes out, to a peer or by a copy off a queue, or moves a position. Of the places of bytes it means what
+-- it means of the bytes: all that it leaves lies where it lay.
+abbrev pub takes_out : State → Event → Bool
+takes_out s (event.Call by (call.Seek fd at)) = true
+takes_out s (event.Call by (call.Read fd n)) = not (is_file (held_by s by fd))
+takes_out s (event.Transmit c max) = true
+takes_out s e = false
+
+-- Whether the event looks at something or moves a position: it changes no page, no count and no pool.
+abbrev pub keeps_store : Event → Bool
+keeps_store (event.Call by (call.Show a)) = true
+keeps_store (event.Call by (call.Length fd)) = true
+keeps_store (event.Call by (call.Seek fd at)) = true
+keeps_store e = false

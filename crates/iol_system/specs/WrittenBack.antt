@@ -14,7 +14,8 @@ use Rattle.iol_core.specs.declared.refusals.Refusal.{Refusal}
 use Rattle.iol_extent.specs.Extents.{Extent, dirty_in}
 use Rattle.iol_cache.specs.Cached.{Cached, dirty_in_all, extents_in}
 use Rattle.iol_cache.specs.Evicting.{AllDirty, EvictsPools}
-use Rattle.iol_cache.specs.Syncing.{AllClean, cleaned_at}
+use Rattle.iol_cache.specs.Syncing.{AllClean}
+use Rattle.iol_extent.specs.Extents.{cleaned_at}
 use Rattle.iol_kernel.specs.Backed.{IsBackedBy, holding_of}
 use Rattle.iol_kernel.specs.KernelState.{KernelState}
 use Rattle.iol_kernel.specs.WritingBack.{FlushesOne, SyncsFile}

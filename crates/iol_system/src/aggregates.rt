@@ -1,5 +1,5 @@
 //! The aggregates of all domains, lent.
-ghost use Rattle.std.specs.Prelude.{◌≡◌, [], Some, None, IfOk, IfErr};
+ghost use Rattle.std.specs.Prelude.{◌≡◌, [], length, Some, None, IfOk, IfErr};
 ghost use Rattle.iol_core.specs.Meaning.{first};
 ghost use Rattle.iol_core.specs.Calls.Aggregates.{show};
 ghost use Rattle.iol_kernel.specs.Kernel.{state_of};
@@ -45,5 +45,16 @@ impl<'a> Aggregates<'a> {
             (λ x. first (show (machine_of [] self.now) by agg).refusals ≡ Some x) }
     {
         self.kernel.parts(by, agg)
+    }
+
+    /// How many bytes a domain's aggregate has. Its slices are not walked, and no memory is taken.
+    pub fn len(&self, by: DomainId, agg: AggId) -> Result<u32, Refusal>
+        ensures ok { IfOk result
+            (λ n. (first (show (machine_of [] self.now) by agg).refusals ≡ None)
+            × (n ≡ length (show (machine_of [] self.now) by agg).answer)) }
+        ensures err { IfErr result
+            (λ x. first (show (machine_of [] self.now) by agg).refusals ≡ Some x) }
+    {
+        self.kernel.agg_len(by, agg)
     }
 }

@@ -1,7 +1,7 @@
 //! Laws of runs: what follows from a run's clause `chain`, whatever the events; and of what lies in a system between any
 //! two of them. The functions do nothing; their contracts are the laws.
 ghost use Rattle.iol_system.specs.Laws.{RunsAsTheMachine, RunsInParts, EachEventIsAStep};
-ghost use Rattle.iol_system.specs.Laws.{AllPagesComeFree, EachPageHasOneUse, EachChunkHasOnePool};
+ghost use Rattle.iol_system.specs.Laws.{AllPagesComeFree, EachPageHasOneUse, EachChunkHasOnePool, NoRoomEvictsNothing};
 ghost use Rattle.iol_system.specs.Laws.{RunsStaySafe, RunsStayOrderly, RunsKeepBuffers, RunsKeepValues, RunsShare};
 
 /// The replies of a run, and the state after it, are those of the machine that copies at every call.
@@ -17,6 +17,12 @@ pub fn runs_in_parts()
 /// Each event of a run keeps all promises of a step: NoRoom exactly where there is no room, sharing, and the others.
 pub fn each_event_is_a_step()
     ensures { EachEventIsAStep }
+{}
+
+/// An event that is refused for want of room evicts nothing: each extent lies where it lay, dirty or clean as it was, and L of
+/// each pool stays. A read of a file has counted its hits by then.
+pub fn no_room_evicts_nothing()
+    ensures { NoRoomEvictsNothing }
 {}
 
 /// A run from a safe system ends in a safe one. With [`runs_in_parts`], counts and access are right at each moment.

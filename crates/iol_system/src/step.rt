@@ -28,6 +28,7 @@ fn answer_call<B: Backing>(kernel: &mut Kernel, backing: &mut B, by: DomainId, c
             replies::pool(kernel.pool_create(by, *chunks, domains))
         }
         Call::PoolClose { pool } => replies::done(kernel.pool_close(by, *pool)),
+        Call::PoolAdmit { pool, domain } => replies::done(kernel.pool_admit(by, *pool, *domain)),
         Call::SetPool { pool } => replies::done(kernel.set_pool(by, *pool)),
         Call::AggMake { bytes } => replies::agg(kernel.agg_make(by, bytes)),
         Call::AggDup { agg } => replies::agg(kernel.agg_dup(by, *agg)),

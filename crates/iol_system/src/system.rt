@@ -28,7 +28,7 @@ ghost use Rattle.iol_system.specs.Late.{LeavesLate};
 ghost use Rattle.iol_system.specs.Placed.{Creates, Publishes};
 ghost use Rattle.iol_system.specs.Remembered.{Remembers};
 ghost use Rattle.iol_system.specs.Room.{HasRoomFor, LacksRoomFor, IsDone, IsEarly, IsFault, IsNoRoom, IsRefused};
-ghost use Rattle.iol_system.specs.Still.{is_still, only_looks};
+ghost use Rattle.iol_system.specs.Still.{is_still, keeps_store, only_looks, takes_out};
 ghost use Rattle.iol_system.specs.WrittenBack.{IsDropped, IsFlushed, IsKept, IsSynced, StoresBack};
 
 use crate::aggregates::Aggregates;
@@ -84,6 +84,9 @@ impl<B: Backing + Drop> System<B> {
         // No sum is remembered yet, and there is place for as many as the sizes say.
         ensures sums { IfOk result (λ s. s.kernel.sums.entries ≡ []) }
         ensures sum_limit { IfOk result (λ s. s.kernel.sums.limit ≡ config.sums) }
+
+        // Nothing of a file is in memory, so no pool has an order in which extents go.
+        ensures orders { IfOk result (λ s. s.kernel.cache.orders ≡ []) }
         ensures safe { IfOk result IsSafe }
     {
         let kernel = Kernel::new(alloc, config)?;
@@ -173,15 +176,24 @@ impl<B: Backing> System<B> {
         ensures still { is_still event ≡ true →
             LaysOut (layout_of self.old.kernel) event result (layout_of self.new.kernel) }
 
+        // Nor does anything move that is left where bytes are sent or copied off a queue, or a position moves, which changes no page.
+        ensures places { takes_out (tables_of self.old.kernel) event ≡ true → IsDone result →
+            layout_of self.new.kernel ≡ (meaning (layout_of self.old.kernel) event).after }
+        ensures store { keeps_store event ≡ true →
+            self.new.kernel.store ≡ self.old.kernel.store }
+
         // Each byte of a file that is in memory lies where it lay, dirty as it was. Or the event writes it, or writes it back; or it
         // was clean, and the event is `drop_clean`, or wants more pages of the file's pool than are free. What calls on files
-        // share lies where it lay, or where what was read lies now; what is read or written by copying is in memory then, too.
+        // share lies where it lay, or where what was read lies now; what is read or written by copying is in memory then, too, and
+        // just these bytes are answered. Of all else a done one changes the caller's descriptor and aggregates alone.
         ensures in_place { KeepsInPlace self.old event self.new.kernel }
-        ensures shares_file { IsDone result → SharesFile self.old event self.new.kernel }
+        ensures shares_file { IsDone result →
+            SharesFile self.old event result self.new.kernel }
 
         // What publishes does so on the lowest free pages of its pool, each of which is raised by one; where new bytes are placed
         // room is made first, and nothing else changes then, so no more gives way. An open pool keeps its chunks, and a new one
-        // has the lowest free chunks, as many as asked for. Of a new file nothing is in memory, and nothing else changes.
+        // has the lowest free chunks, as many as asked for. Where a domain is admitted to a pool, that list names it, and nothing
+        // else changes. Of a new file nothing is in memory, and nothing else changes.
         ensures publishes { IsDone result →
             Publishes self.old.kernel event self.new.kernel }
         ensures creates { Creates self.old.kernel event result self.new.kernel }

@@ -6,7 +6,7 @@ use Rattle.iol_core.specs.State.{State, new_domain, domain, pool, file, content,
 use Rattle.iol_core.specs.declared.refusals.Refusal.TheVariants.{NoDomain, NoPool, BadRange, TooMany, Denied, PoolClosed, PoolBusy}
 use Rattle.iol_core.specs.declared.limits.TheConstants.{MAX_POOLS}
 use Rattle.iol_core.proofs.Examples.World.{answered, world}
-use Rattle.iol_core.specs.Calls.Pools.{pool_create, pool_close, set_pool}
+use Rattle.iol_core.specs.Calls.Pools.{pool_create, pool_close, pool_admit, set_pool}
 
 -- no pools yet; many domains; as many pools as there may be; no file and no connection
 abbrev empty : State
@@ -56,6 +56,37 @@ pool_close_refused :
     × (answered (pool_close (record world { files = [] }) 1 1) ≡ Err (PoolBusy 1))
 unfolding domain pool file content pipe_at conn_at with_domain with_pipe with_conn with_content
 pool_close_refused = (refl, refl, refl, refl, refl, refl, refl)
+
+-- pool 2 names as many domains as a pool may, and not the caller; pool 3 names domain 2 alone
+abbrev listed : State
+listed = record many {
+  pools =
+      record { domains = 1 ∷ []; closed = false } ∷
+      record { domains = 2 ∷ 3 ∷ 4 ∷ 5 ∷ 6 ∷ 7 ∷ 8 ∷ 9 ∷ 10 ∷ 11 ∷ 12 ∷ 13 ∷ 14 ∷ 15 ∷ 16 ∷ 17 ∷ []; closed = false } ∷
+      record { domains = 2 ∷ []; closed = true } ∷ [];
+}
+
+pool_admit_names_one_more :
+    (answered (pool_admit world 1 2 2) ≡ Ok tt)
+    × ((pool (pool_admit world 1 2 2).after 2) ≡ record { domains = 1 ∷ 2 ∷ []; closed = false })
+    × ((pool (pool_admit world 1 2 2).after 3).domains ≡ 2 ∷ [])
+    × (answered (pool_admit world 1 1 2) ≡ Ok tt)
+    × ((pool_admit world 1 1 2).after ≡ world)
+    × (answered (pool_admit listed 17 2 16) ≡ Ok tt)
+    × ((pool_admit listed 17 2 16).after ≡ listed)
+unfolding domain pool file content pipe_at conn_at with_domain with_pipe with_conn with_content
+pool_admit_names_one_more = (refl, refl, refl, refl, refl, refl, refl)
+
+pool_admit_refused :
+    (answered (pool_admit world 3 1 1) ≡ Err NoDomain)
+    × (answered (pool_admit world 1 5 3) ≡ Err NoDomain)
+    × (answered (pool_admit world 1 5 2) ≡ Err NoPool)
+    × (answered (pool_admit listed 1 2 1) ≡ Err TooMany)
+    × (answered (pool_admit listed 1 2 2) ≡ Err (Denied 2))
+    × (answered (pool_admit listed 1 3 1) ≡ Err (Denied 3))
+    × (answered (pool_admit world 1 4 2) ≡ Err (PoolClosed 4))
+unfolding domain pool file content pipe_at conn_at with_domain with_pipe with_conn with_content
+pool_admit_refused = (refl, refl, refl, refl, refl, refl, refl)
 
 set_pool_sets_the_default :
     (answered (set_pool world 1 2) ≡ Ok tt)

@@ -1,5 +1,5 @@
 -- Whole runs: "hello" through a pipe, a reader that the pool does not name, a pool that is closed,
--- aggregates taken apart and put together, and pipes whose ends are closed.
+-- aggregates taken apart and put together, pipes whose ends are closed, and lists that grow.
 use Rattle.std.proofs.Common.{◌≡◌, List, [], ◌∷◌, refl}
 use Rattle.std.specs.Prelude.{codes, is_some, unwrap_or, option_map, if◌then◌else◌}
 use Rattle.iol_core.specs.State.{State, new_state, no_slots, domain, pool, file, content, pipe_at, conn_at, with_domain, with_pipe, with_conn, with_content}
@@ -208,3 +208,126 @@ close_breaks_a_pipe :
     reply.Fds 0 1 ∷ [])
 unfolding domain pool file content pipe_at conn_at with_domain with_pipe with_conn with_content
 close_breaks_a_pipe = refl
+
+-- who is admitted may be given what lies in the pool already; who is not on the list admits nobody
+admitted_then_given :
+    replies (new_state no_slots) (
+    event.Call 1 call.DomainNew ∷
+    event.Call 1 (call.PoolCreate 1 (1 ∷ [])) ∷
+    event.Call 1 (call.SetPool 1) ∷
+    event.Call 1 (call.AggMake (codes "a")) ∷
+    event.Call 1 (call.AggGive 1 2) ∷
+    event.Call 2 (call.PoolAdmit 1 2) ∷
+    event.Call 1 (call.PoolAdmit 1 9) ∷
+    event.Call 1 (call.PoolAdmit 9 2) ∷
+    event.Call 1 (call.PoolAdmit 1 2) ∷
+    event.Call 1 (call.PoolAdmit 1 2) ∷
+    event.Call 1 (call.AggGive 1 2) ∷
+    event.Call 2 (call.Show 1) ∷
+    event.Call 1 (call.PoolClose 1) ∷
+    event.Call 1 (call.PoolAdmit 1 2) ∷ [])
+    ≡ (
+    reply.Domain 2 ∷
+    reply.Pool 1 ∷
+    reply.Done ∷
+    reply.Agg 1 ∷
+    reply.Refused (refusal.Denied 1) ∷
+    reply.Refused (refusal.Denied 1) ∷
+    reply.Refused refusal.NoDomain ∷
+    reply.Refused refusal.NoPool ∷
+    reply.Done ∷
+    reply.Done ∷
+    reply.Agg 1 ∷
+    reply.Bytes (codes "a") ∷
+    reply.Done ∷
+    reply.Refused (refusal.PoolClosed 1) ∷ [])
+unfolding domain pool file content pipe_at conn_at with_domain with_pipe with_conn with_content
+admitted_then_given = refl
+
+-- a list of sixteen names takes no more, and one that it has already changes nothing
+list_of_sixteen :
+    replies (new_state no_slots) (
+    event.Call 1 call.DomainNew ∷
+    event.Call 1 call.DomainNew ∷
+    event.Call 1 call.DomainNew ∷
+    event.Call 1 call.DomainNew ∷
+    event.Call 1 call.DomainNew ∷
+    event.Call 1 call.DomainNew ∷
+    event.Call 1 call.DomainNew ∷
+    event.Call 1 call.DomainNew ∷
+    event.Call 1 call.DomainNew ∷
+    event.Call 1 call.DomainNew ∷
+    event.Call 1 call.DomainNew ∷
+    event.Call 1 call.DomainNew ∷
+    event.Call 1 call.DomainNew ∷
+    event.Call 1 call.DomainNew ∷
+    event.Call 1 call.DomainNew ∷
+    event.Call 1 call.DomainNew ∷
+    event.Call 1 (call.PoolCreate 1 (1 ∷ 2 ∷ 3 ∷ 4 ∷ 5 ∷ 6 ∷ 7 ∷ 8 ∷ 9 ∷ 10 ∷ 11 ∷ 12 ∷ 13 ∷ 14 ∷ 15 ∷ 16 ∷ [])) ∷
+    event.Call 1 (call.PoolAdmit 1 17) ∷
+    event.Call 1 (call.PoolAdmit 1 16) ∷ [])
+    ≡ (
+    reply.Domain 2 ∷
+    reply.Domain 3 ∷
+    reply.Domain 4 ∷
+    reply.Domain 5 ∷
+    reply.Domain 6 ∷
+    reply.Domain 7 ∷
+    reply.Domain 8 ∷
+    reply.Domain 9 ∷
+    reply.Domain 10 ∷
+    reply.Domain 11 ∷
+    reply.Domain 12 ∷
+    reply.Domain 13 ∷
+    reply.Domain 14 ∷
+    reply.Domain 15 ∷
+    reply.Domain 16 ∷
+    reply.Domain 17 ∷
+    reply.Pool 1 ∷
+    reply.Refused refusal.TooMany ∷
+    reply.Done ∷ [])
+unfolding domain pool file content pipe_at conn_at with_domain with_pipe with_conn with_content
+list_of_sixteen = refl
+
+-- what waits in a pipe may be read by whom the pool came to name since
+admitted_then_read :
+    replies (new_state no_slots) (
+    event.Call 1 call.DomainNew ∷
+    event.Call 1 call.DomainNew ∷
+    event.Call 1 (call.PoolCreate 1 (1 ∷ 3 ∷ [])) ∷
+    event.Call 1 (call.PoolCreate 1 (1 ∷ [])) ∷
+    event.Call 1 (call.SetPool 1) ∷
+    event.Call 1 (call.AggMake (codes "aa")) ∷
+    event.Call 1 (call.SetPool 2) ∷
+    event.Call 1 (call.AggMake (codes "bb")) ∷
+    event.Call 1 call.Pipe ∷
+    event.Call 1 (call.IolWrite 1 1) ∷
+    event.Call 1 (call.IolWrite 1 2) ∷
+    event.Call 1 (call.GiveFd 0 3) ∷
+    event.Call 3 (call.IolRead 0 4) ∷
+    event.Call 3 (call.Show 1) ∷
+    event.Call 3 (call.IolRead 0 4) ∷
+    event.Call 1 (call.PoolAdmit 2 3) ∷
+    event.Call 3 (call.IolRead 0 4) ∷
+    event.Call 3 (call.Show 2) ∷ [])
+    ≡ (
+    reply.Domain 2 ∷
+    reply.Domain 3 ∷
+    reply.Pool 1 ∷
+    reply.Pool 2 ∷
+    reply.Done ∷
+    reply.Agg 1 ∷
+    reply.Done ∷
+    reply.Agg 2 ∷
+    reply.Fds 0 1 ∷
+    reply.Count 2 ∷
+    reply.Count 2 ∷
+    reply.Fd 0 ∷
+    reply.Agg 1 ∷
+    reply.Bytes (codes "aa") ∷
+    reply.Refused (refusal.Denied 2) ∷
+    reply.Done ∷
+    reply.Agg 2 ∷
+    reply.Bytes (codes "bb") ∷ [])
+unfolding domain pool file content pipe_at conn_at with_domain with_pipe with_conn with_content
+admitted_then_read = refl

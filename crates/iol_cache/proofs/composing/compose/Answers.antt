@@ -1,4 +1,5 @@
 use Rattle.std.proofs.Common.{◌≤◌, [], List, ℕ, length, drop, refl, sym, ap, subst, arith}
+use Rattle.iol_cache.specs.Composing.{copied_pages}
 use Rattle.std.proofs.lemmas.List.{drop_all}
 use Rattle.iol_agg.proofs.Holding.{tally-few}
 use Rattle.iol_hold.specs.Moves.{Covers, Moves}
@@ -52,7 +53,7 @@ returns-in-Err-clause-none c =
 pub returns-in-Err-clause-given_back : goal.returns-in-Err-clause-given_back
 returns-in-Err-clause-given_back c =
     let err = c.in-Err.ensures.err in
-    placed_some c.loop-i.invariant.composes.composes.pages (keeps_pages_same c.loop-i.store c.compose_run.new.store (ap (λ (x : Stored). x.arena) err) (ap (λ (x : Stored). x.pools) err)) c.release.ensures.frees (ap (λ (x : Stored). x.pools) err)
+    placed_some (copied_pages c.args.pool c.args.source.now) (omega (arith, c.loop-i.invariant.composes.pages)) c.loop-i.invariant.composes.composes.pages (keeps_pages_same c.loop-i.store c.compose_run.new.store (ap (λ (x : Stored). x.arena) err) (ap (λ (x : Stored). x.pools) err)) c.release.ensures.frees (ap (λ (x : Stored). x.pools) err)
 
 pub release-requires-in-Err-join : goal.release-requires-in-Err-join
 release-requires-in-Err-join c =
@@ -77,7 +78,7 @@ returns-in-Err-join-clause-none c =
 pub returns-in-Err-join-clause-given_back : goal.returns-in-Err-join-clause-given_back
 returns-in-Err-join-clause-given_back c =
     let u = c.compose_run.new.store in
-    placed_some (places_then c.loop-i.invariant.composes.composes.pages c.in-Ok.ensures.composes.composes.pages) (keeps_pages_same u u refl refl)
+    placed_some (copied_pages c.args.pool c.args.source.now) (omega (arith, c.loop-i.invariant.composes.pages, c.in-Ok.ensures.composes.pages)) (places_then c.loop-i.invariant.composes.composes.pages c.in-Ok.ensures.composes.composes.pages) (keeps_pages_same u u refl refl)
     (frees_trans c.release-in-Err-join.ensures.frees c.release-in-Err-join-2.ensures.frees c.release-in-Err-join-2.ensures.moves.counts) refl
 
 pub returns-in-Err-join-clause-settles : goal.returns-in-Err-join-clause-settles

@@ -1,4 +1,5 @@
 use Rattle.std.proofs.Common.{◌∙◌, List, ℕ, refl, sym, subst, arith}
+use Rattle.iol_cache.specs.Gaps.{gap_pages}
 use Rattle.iol_hold.specs.Stored.{Stored}
 use Rattle.iol_hold.specs.Texts.{bufs_of}
 use Rattle.iol_hold.proofs.Paging.{keeps_pages_same}
@@ -69,7 +70,7 @@ returns-in_default-weave-clause-none g c =
 pub returns-in_default-weave-clause-given_back : goal.returns-in_default-weave-clause-given_back
 returns-in_default-weave-clause-given_back g c =
     let t = c.fill_gaps.new.store in
-    placed_some c.in_default.ensures.places (keeps_pages_same t t refl refl) (frees_trans c.weave.ensures.frees c.take_back.ensures.frees c.take_back.ensures.moves.counts) refl
+    placed_some (gap_pages c.args.gaps.now) (omega arith) c.in_default.ensures.places (keeps_pages_same t t refl refl) (frees_trans c.weave.ensures.frees c.take_back.ensures.frees c.take_back.ensures.moves.counts) refl
 
 pub returns-in_default-weave-clause-settles : goal.returns-in_default-weave-clause-settles
 returns-in_default-weave-clause-settles g c = λ all.

@@ -89,7 +89,7 @@ returns-in-Err-clause-none g c =
     moved_back v.fills.moves c.in-Err.ensures.none (subst (λ (m : ExtentMap). Moves c.fill_gap.new.store c.take_back.new.store (bufs_of (parts_back m.extents (take c.loop-i.i gaps))) []) c.in-Err.ensures.same c.take_back.ensures.moves) back.same
 
 pub returns-in-Err-clause-given_back : goal.returns-in-Err-clause-given_back
-returns-in-Err-clause-given_back g c = placed_some c.loop-i.invariant.places c.in-Err.ensures.kept c.take_back.ensures.frees c.fill_gap.ensures.pools
+returns-in-Err-clause-given_back g c = placed_some (gap_pages c.args.gaps.now) (gap_pages-take c.args.gaps.now c.loop-i.i) c.loop-i.invariant.places c.in-Err.ensures.kept c.take_back.ensures.frees c.fill_gap.ensures.pools
 
 pub returns-in-Err-clause-settles : goal.returns-in-Err-clause-settles
 returns-in-Err-clause-settles g c = λ all.

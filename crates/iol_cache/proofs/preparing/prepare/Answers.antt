@@ -1,4 +1,5 @@
 use Rattle.std.proofs.Common.{List, ◌∙◌, ◌+◌, [], refl, sym, ap, arith, subst}
+use Rattle.iol_cache.specs.Composing.{copied_pages}
 use Rattle.iol_hold.specs.Moves.{Covers, Moves, Shares}
 use Rattle.iol_hold.specs.Stored.{Stored}
 use Rattle.iol_hold.specs.Texts.{AllReadable, bufs_of}
@@ -37,7 +38,7 @@ returns-in_default-clause-none c =
 pub returns-in_default-clause-given_back : goal.returns-in_default-clause-given_back
 returns-in_default-clause-given_back c =
     let t = c.compose.new.store in
-    placed_some c.in-Ok.ensures.composes.pages (keeps_pages_same t c.cut_left.new.store (ap (λ (x : Stored). x.arena) c.in_default.ensures.err) (ap (λ (x : Stored). x.pools) c.in_default.ensures.err)) c.release.ensures.frees (ap (λ (x : Stored). x.pools) c.in_default.ensures.err)
+    placed_some (copied_pages c.args.pool c.args.source.now) (omega arith) c.in-Ok.ensures.composes.pages (keeps_pages_same t c.cut_left.new.store (ap (λ (x : Stored). x.arena) c.in_default.ensures.err) (ap (λ (x : Stored). x.pools) c.in_default.ensures.err)) c.release.ensures.frees (ap (λ (x : Stored). x.pools) c.in_default.ensures.err)
 
 pub cut_right-requires-clause-held : goal.cut_right-requires-clause-held
 cut_right-requires-clause-held c = still_covers (covers_source c.requires.held c.in-Ok.ensures.composes.moves) c.in-Ok-cut_left.ensures.shares
@@ -72,7 +73,7 @@ returns-in_default-cut_right-clause-none c =
 pub returns-in_default-cut_right-clause-given_back : goal.returns-in_default-cut_right-clause-given_back
 returns-in_default-cut_right-clause-given_back c =
     let shares = subst (λ (u : Stored). Shares c.compose.new.store u [] (bufs_of c.in-Ok-cut_left.left.parts)) (sym c.in_default-cut_right.ensures.err) c.in-Ok-cut_left.ensures.shares in
-    placed_some c.in-Ok.ensures.composes.pages (keeps_pages_shares shares) (frees_trans c.release-in_default-cut_right.ensures.frees c.release-in_default-cut_right-2.ensures.frees c.release-in_default-cut_right-2.ensures.moves.counts) shares.pools
+    placed_some (copied_pages c.args.pool c.args.source.now) (omega arith) c.in-Ok.ensures.composes.pages (keeps_pages_shares shares) (frees_trans c.release-in_default-cut_right.ensures.frees c.release-in_default-cut_right-2.ensures.frees c.release-in_default-cut_right-2.ensures.moves.counts) shares.pools
 
 pub returns-in_default-cut_right-clause-settles : goal.returns-in_default-cut_right-clause-settles
 returns-in_default-cut_right-clause-settles c = λ h.

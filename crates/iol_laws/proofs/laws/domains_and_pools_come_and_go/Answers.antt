@@ -1,4 +1,4 @@
-use Rattle.iol_laws.proofs.CallerDomains.{does_start, does_exit, does_make_pool, does_close_pool, does_set_pool}
+use Rattle.iol_laws.proofs.CallerDomains.{does_start, does_exit, does_make_pool, does_close_pool, does_admit, does_set_pool}
 use Rattle.iol_laws.proofs.laws.domains_and_pools_come_and_go.Goals as goal
 
 pub returns : goal.returns
@@ -7,5 +7,6 @@ returns c = record {
   exits = does_exit;
   makes_pool = does_make_pool;
   closes_pool = does_close_pool;
+  admits = does_admit;
   sets_pool = does_set_pool;
 }

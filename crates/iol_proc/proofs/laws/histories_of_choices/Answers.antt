@@ -1,6 +1,6 @@
 use Rattle.iol_proc.specs.World.{copying}
 use Rattle.iol_proc.proofs.Chained.{system_as}
-use Rattle.iol_proc.proofs.Streams.{machine_as, history_goes_on, runs_follow, stream_over-append, sent_over-append, unread_over, unsent_over, waiting_over}
+use Rattle.iol_proc.proofs.Streams.{machine_as, history_goes_on, runs_follow, stream_over-append, sent_over-append, stream_over-more, sent_over-more, unread_over, unsent_over, waiting_over}
 use Rattle.iol_proc.proofs.laws.histories_of_choices.Goals as goal
 
 pub returns : goal.returns
@@ -11,6 +11,8 @@ returns g c = record {
   follows = runs_follow copying g.P.Process.turns;
   stream = stream_over-append copying g.P.Process.turns;
   sent = sent_over-append copying g.P.Process.turns;
+  stream_more = stream_over-more;
+  sent_more = sent_over-more;
   unread = unread_over g.P.Process.turns;
   unsent = unsent_over g.P.Process.turns;
   waiting = waiting_over g.P.Process.turns;

@@ -17,7 +17,7 @@ use Rattle.iol_core.specs.declared.events.Reply.TheVariants as reply
 use Rattle.iol_kernel.specs.Kernel.{state_of}
 use Rattle.iol_system.specs.Doing.{Does}
 use Rattle.iol_system.specs.Machine.{tables_of}
-use Rattle.iol_system.proofs.Doing.{told_step, carried_does, kept_does, looks_does, names_does, file_created}
+use Rattle.iol_system.proofs.Doing.{told_step, carried_does, kept_does, creating_does, domain_admitted, looks_does, names_does, file_created}
 use Rattle.iol_system.proofs.FileDoing.{shows_does, copies_does, puts_does, places_does, reads_does, writes_does}
 use Rattle.iol_system.proofs.BackDoing.{syncs_does, creates_does}
 use Rattle.iol_system.proofs.step.answer_call.Goals as goal
@@ -39,6 +39,12 @@ returns-in-PoolClose g c =
     subst (λ (k : Call). Does (g.B.Backing.disk c.args.backing.now) (state_of c.args.kernel.now) (event.Call c.args.by k) c.done-in-PoolClose.result (g.B.Backing.disk c.args.backing.now) (state_of c.pool_close.new.self)) (sym c.in-PoolClose.is)
     (subst (λ (x : Reply). Does (g.B.Backing.disk c.args.backing.now) (state_of c.args.kernel.now) (event.Call c.args.by (call.PoolClose c.in-PoolClose.pool)) x (g.B.Backing.disk c.args.backing.now) (state_of c.pool_close.new.self)) (sym c.done-in-PoolClose.ensures)
     (kept_does (λ u. reply.Done) (λ s. pools.pool_close s c.args.by c.in-PoolClose.pool) (event.Call c.args.by (call.PoolClose c.in-PoolClose.pool)) (g.B.Backing.disk c.args.backing.now) (state_of c.args.kernel.now) (state_of c.pool_close.new.self) c.pool_close.result (record { answers = λ a. refl; roomy = λ a x. x; unrefused = λ a x. x }) (record { unwritten = refl; unlent = refl; asks = λ s. refl; has = λ s. tt; publishes = λ o n k. k; creates = λ o x n. tt; late = λ o x n. tt; sums = λ o x n k. k }) (λ s t r step. told_step (λ u. reply.Done) (record { answers = λ a. refl; roomy = λ a x. x; unrefused = λ a x. x }) (pools.pool_close s c.args.by c.in-PoolClose.pool) s t r step) (λ s. refl) refl c.requires c.pool_close.ensures.pool_close c.pool_close.ensures.roomy))
+
+pub returns-in-PoolAdmit : goal.returns-in-PoolAdmit
+returns-in-PoolAdmit g c =
+    subst (λ (k : Call). Does (g.B.Backing.disk c.args.backing.now) (state_of c.args.kernel.now) (event.Call c.args.by k) c.done-in-PoolAdmit.result (g.B.Backing.disk c.args.backing.now) (state_of c.pool_admit.new.self)) (sym c.in-PoolAdmit.is)
+    (subst (λ (x : Reply). Does (g.B.Backing.disk c.args.backing.now) (state_of c.args.kernel.now) (event.Call c.args.by (call.PoolAdmit c.in-PoolAdmit.pool c.in-PoolAdmit.domain)) x (g.B.Backing.disk c.args.backing.now) (state_of c.pool_admit.new.self)) (sym c.done-in-PoolAdmit.ensures)
+    (creating_does (λ u. reply.Done) (λ s. pools.pool_admit s c.args.by c.in-PoolAdmit.pool c.in-PoolAdmit.domain) (event.Call c.args.by (call.PoolAdmit c.in-PoolAdmit.pool c.in-PoolAdmit.domain)) (g.B.Backing.disk c.args.backing.now) (state_of c.args.kernel.now) (state_of c.pool_admit.new.self) c.pool_admit.result (record { answers = λ a. refl; roomy = λ a x. x; unrefused = λ a x. x }) (record { unwritten = refl; unlent = refl; asks = λ s. refl; has = λ s. tt; publishes = λ o n k. k; late = λ o x n. tt; sums = λ o x n k. k }) (λ s t r step. told_step (λ u. reply.Done) (record { answers = λ a. refl; roomy = λ a x. x; unrefused = λ a x. x }) (pools.pool_admit s c.args.by c.in-PoolAdmit.pool c.in-PoolAdmit.domain) s t r step) (λ s. refl) refl (domain_admitted c.args.by c.in-PoolAdmit.pool c.in-PoolAdmit.domain (state_of c.args.kernel.now) (state_of c.pool_admit.new.self) c.pool_admit.result c.pool_admit.ensures.list) c.requires c.pool_admit.ensures.admit c.pool_admit.ensures.roomy))
 
 pub returns-in-SetPool : goal.returns-in-SetPool
 returns-in-SetPool g c =
@@ -92,13 +98,13 @@ pub returns-in-Show : goal.returns-in-Show
 returns-in-Show g c =
     subst (λ (k : Call). Does (g.B.Backing.disk c.args.backing.now) (state_of c.args.kernel.now) (event.Call c.args.by k) c.bytes.result (g.B.Backing.disk c.args.backing.now) (state_of c.args.kernel.now)) (sym c.in-Show.is)
     (subst (λ (x : Reply). Does (g.B.Backing.disk c.args.backing.now) (state_of c.args.kernel.now) (event.Call c.args.by (call.Show c.in-Show.agg)) x (g.B.Backing.disk c.args.backing.now) (state_of c.args.kernel.now)) (sym c.bytes.ensures)
-    (shows_does reply.Bytes (λ s. aggs.show s c.args.by c.in-Show.agg) (event.Call c.args.by (call.Show c.in-Show.agg)) (g.B.Backing.disk c.args.backing.now) (state_of c.args.kernel.now) c.show.result (record { answers = λ a. refl; roomy = λ a x. x; unrefused = λ a x. x }) (record { unwritten = refl; unlent = refl; asks = λ s. refl; has = λ s. tt; publishes = λ o n k. k; creates = λ o x n. tt; late = λ o x n. tt; sums = λ o x n k. k }) (λ s t r step. told_step reply.Bytes (record { answers = λ a. refl; roomy = λ a x. x; unrefused = λ a x. x }) (aggs.show s c.args.by c.in-Show.agg) s t r step) (λ s. refl) refl c.requires c.show.ensures.show c.show.ensures.roomy))
+    (shows_does reply.Bytes (λ s. aggs.show s c.args.by c.in-Show.agg) (event.Call c.args.by (call.Show c.in-Show.agg)) (g.B.Backing.disk c.args.backing.now) (state_of c.args.kernel.now) c.show.result (record { answers = λ a. refl; roomy = λ a x. x; unrefused = λ a x. x }) (record { unwritten = refl; unlent = refl; asks = λ s. refl; has = λ s. tt; publishes = λ o n k. k; creates = λ o x n. tt; late = λ o x n. tt; sums = λ o x n k. k }) (λ s t r step. told_step reply.Bytes (record { answers = λ a. refl; roomy = λ a x. x; unrefused = λ a x. x }) (aggs.show s c.args.by c.in-Show.agg) s t r step) (λ s. refl) (λ s. refl) refl c.requires c.show.ensures.show c.show.ensures.roomy))
 
 pub returns-in-FileNew : goal.returns-in-FileNew
 returns-in-FileNew g c =
     subst (λ (k : Call). Does (g.B.Backing.disk c.args.backing.now) (state_of c.args.kernel.now) (event.Call c.args.by k) c.file.result (g.B.Backing.disk c.args.backing.now) (state_of c.file_new.new.self)) (sym c.in-FileNew.is)
     (subst (λ (x : Reply). Does (g.B.Backing.disk c.args.backing.now) (state_of c.args.kernel.now) (event.Call c.args.by (call.FileNew c.in-FileNew.name c.in-FileNew.pool)) x (g.B.Backing.disk c.args.backing.now) (state_of c.file_new.new.self)) (sym c.file.ensures)
-    (names_does reply.File (λ s. files.file_new s c.args.by c.in-FileNew.name c.in-FileNew.pool) (event.Call c.args.by (call.FileNew c.in-FileNew.name c.in-FileNew.pool)) (g.B.Backing.disk c.args.backing.now) (state_of c.args.kernel.now) (state_of c.file_new.new.self) c.file_new.result (record { answers = λ a. refl; roomy = λ a x. x; unrefused = λ a x. x }) (record { unwritten = refl; unlent = refl; asks = λ s. refl; has = λ s. tt; publishes = λ o n k. k; late = λ o x n. tt; sums = λ o x n k. k }) (λ s t r step. told_step reply.File (record { answers = λ a. refl; roomy = λ a x. x; unrefused = λ a x. x }) (files.file_new s c.args.by c.in-FileNew.name c.in-FileNew.pool) s t r step) (λ s. refl) refl refl refl (file_created (g.B.Backing.disk c.args.backing.now) (λ s. files.file_new s c.args.by c.in-FileNew.name c.in-FileNew.pool) c.args.by c.in-FileNew.pool c.in-FileNew.name (state_of c.args.kernel.now) (state_of c.file_new.new.self) c.file_new.result c.file_new.ensures) c.file_new.ensures))
+    (names_does reply.File (λ s. files.file_new s c.args.by c.in-FileNew.name c.in-FileNew.pool) (event.Call c.args.by (call.FileNew c.in-FileNew.name c.in-FileNew.pool)) (g.B.Backing.disk c.args.backing.now) (state_of c.args.kernel.now) (state_of c.file_new.new.self) c.file_new.result (record { answers = λ a. refl; roomy = λ a x. x; unrefused = λ a x. x }) (record { unwritten = refl; unlent = refl; asks = λ s. refl; has = λ s. tt; publishes = λ o n k. k; late = λ o x n. tt; sums = λ o x n k. k }) (λ s t r step. told_step reply.File (record { answers = λ a. refl; roomy = λ a x. x; unrefused = λ a x. x }) (files.file_new s c.args.by c.in-FileNew.name c.in-FileNew.pool) s t r step) (λ s. refl) (λ s. refl) refl refl refl (file_created (g.B.Backing.disk c.args.backing.now) (λ s. files.file_new s c.args.by c.in-FileNew.name c.in-FileNew.pool) c.args.by c.in-FileNew.pool c.in-FileNew.name (state_of c.args.kernel.now) (state_of c.file_new.new.self) c.file_new.result c.file_new.ensures) c.file_new.ensures))
 
 pub returns-in-OpenFile : goal.returns-in-OpenFile
 returns-in-OpenFile g c =
@@ -128,13 +134,13 @@ pub returns-in-Seek : goal.returns-in-Seek
 returns-in-Seek g c =
     subst (λ (k : Call). Does (g.B.Backing.disk c.args.backing.now) (state_of c.args.kernel.now) (event.Call c.args.by k) c.done-in-Seek.result (g.B.Backing.disk c.args.backing.now) (state_of c.seek.new.self)) (sym c.in-Seek.is)
     (subst (λ (x : Reply). Does (g.B.Backing.disk c.args.backing.now) (state_of c.args.kernel.now) (event.Call c.args.by (call.Seek c.in-Seek.fd c.in-Seek.at)) x (g.B.Backing.disk c.args.backing.now) (state_of c.seek.new.self)) (sym c.done-in-Seek.ensures)
-    (looks_does (λ u. reply.Done) (λ s. files.seek s c.args.by c.in-Seek.fd c.in-Seek.at) (event.Call c.args.by (call.Seek c.in-Seek.fd c.in-Seek.at)) (g.B.Backing.disk c.args.backing.now) (state_of c.args.kernel.now) (state_of c.seek.new.self) c.seek.result (record { answers = λ a. refl; roomy = λ a x. x; unrefused = λ a x. x }) (record { unwritten = refl; unlent = refl; asks = λ s. refl; has = λ s. tt; publishes = λ o n k. k; creates = λ o x n. tt; late = λ o x n. tt; sums = λ o x n k. k }) (λ s t r step. told_step (λ u. reply.Done) (record { answers = λ a. refl; roomy = λ a x. x; unrefused = λ a x. x }) (files.seek s c.args.by c.in-Seek.fd c.in-Seek.at) s t r step) (λ s. refl) refl (λ is. absurd (true≢false (sym is))) c.seek.ensures))
+    (looks_does (λ u. reply.Done) (λ s. files.seek s c.args.by c.in-Seek.fd c.in-Seek.at) (event.Call c.args.by (call.Seek c.in-Seek.fd c.in-Seek.at)) (g.B.Backing.disk c.args.backing.now) (state_of c.args.kernel.now) (state_of c.seek.new.self) c.seek.result (record { answers = λ a. refl; roomy = λ a x. x; unrefused = λ a x. x }) (record { unwritten = refl; unlent = refl; asks = λ s. refl; has = λ s. tt; publishes = λ o n k. k; creates = λ o x n. tt; late = λ o x n. tt; sums = λ o x n k. k }) (λ s t r step. told_step (λ u. reply.Done) (record { answers = λ a. refl; roomy = λ a x. x; unrefused = λ a x. x }) (files.seek s c.args.by c.in-Seek.fd c.in-Seek.at) s t r step) (λ s. refl) refl (λ s. refl) (λ is. absurd (true≢false (sym is))) c.seek.ensures))
 
 pub returns-in-Length : goal.returns-in-Length
 returns-in-Length g c =
     subst (λ (k : Call). Does (g.B.Backing.disk c.args.backing.now) (state_of c.args.kernel.now) (event.Call c.args.by k) c.count.result (g.B.Backing.disk c.args.backing.now) (state_of c.args.kernel.now)) (sym c.in-Length.is)
     (subst (λ (x : Reply). Does (g.B.Backing.disk c.args.backing.now) (state_of c.args.kernel.now) (event.Call c.args.by (call.Length c.in-Length.fd)) x (g.B.Backing.disk c.args.backing.now) (state_of c.args.kernel.now)) (sym c.count.ensures)
-    (looks_does reply.Count (λ s. files.file_length s c.args.by c.in-Length.fd) (event.Call c.args.by (call.Length c.in-Length.fd)) (g.B.Backing.disk c.args.backing.now) (state_of c.args.kernel.now) (state_of c.args.kernel.now) c.file_length.result (record { answers = λ a. refl; roomy = λ a x. x; unrefused = λ a x. x }) (record { unwritten = refl; unlent = refl; asks = λ s. refl; has = λ s. tt; publishes = λ o n k. k; creates = λ o x n. tt; late = λ o x n. tt; sums = λ o x n k. k }) (λ s t r step. told_step reply.Count (record { answers = λ a. refl; roomy = λ a x. x; unrefused = λ a x. x }) (files.file_length s c.args.by c.in-Length.fd) s t r step) (λ s. refl) refl (λ is. refl) c.file_length.ensures.told))
+    (looks_does reply.Count (λ s. files.file_length s c.args.by c.in-Length.fd) (event.Call c.args.by (call.Length c.in-Length.fd)) (g.B.Backing.disk c.args.backing.now) (state_of c.args.kernel.now) (state_of c.args.kernel.now) c.file_length.result (record { answers = λ a. refl; roomy = λ a x. x; unrefused = λ a x. x }) (record { unwritten = refl; unlent = refl; asks = λ s. refl; has = λ s. tt; publishes = λ o n k. k; creates = λ o x n. tt; late = λ o x n. tt; sums = λ o x n k. k }) (λ s t r step. told_step reply.Count (record { answers = λ a. refl; roomy = λ a x. x; unrefused = λ a x. x }) (files.file_length s c.args.by c.in-Length.fd) s t r step) (λ s. refl) refl (λ s. refl) (λ is. refl) c.file_length.ensures.told))
 
 pub returns-in-Accept : goal.returns-in-Accept
 returns-in-Accept g c =
@@ -146,7 +152,7 @@ pub returns-in-AggMake : goal.returns-in-AggMake
 returns-in-AggMake g c =
     subst (λ (k : Call). Does (g.B.Backing.disk c.args.backing.now) (state_of c.args.kernel.now) (event.Call c.args.by k) c.agg.result (g.B.Backing.disk c.args.backing.now) (state_of c.agg_make.new.self)) (sym c.in-AggMake.is)
     (subst (λ (x : Reply). Does (g.B.Backing.disk c.args.backing.now) (state_of c.args.kernel.now) (event.Call c.args.by (call.AggMake c.in-AggMake.bytes)) x (g.B.Backing.disk c.args.backing.now) (state_of c.agg_make.new.self)) (sym c.agg.ensures)
-    (places_does reply.Agg (λ s. (aggs.agg_make s c.args.by c.in-AggMake.bytes)) (λ s t. aggs.with_agg s c.args.by t) (default_pool (tables_of (state_of c.args.kernel.now)) c.args.by) (length c.in-AggMake.bytes) (event.Call c.args.by (call.AggMake c.in-AggMake.bytes)) (g.B.Backing.disk c.args.backing.now) (state_of c.args.kernel.now) (state_of c.agg_make.new.self) c.agg_make.result (record { answers = λ a. refl; roomy = λ a x. x; unrefused = λ a x. x }) (record { unwritten = refl; unlent = refl; goes = λ d p k. k; asks = λ s. refl; uses = λ s. refl; unshared = λ s. refl; moving = refl; unlooking = refl; has = λ d k. k; lacks = λ d k. k; publishes = λ n k. k; creates = λ x n. tt; late = λ d x n k. k; sums = λ x n k. k }) (λ s t r step. told_step reply.Agg (record { answers = λ a. refl; roomy = λ a x. x; unrefused = λ a x. x }) (aggs.agg_make s c.args.by c.in-AggMake.bytes) s t r step) c.agg_make.ensures))
+    (places_does reply.Agg (λ s. (aggs.agg_make s c.args.by c.in-AggMake.bytes)) (λ s t. aggs.with_agg s c.args.by t) (default_pool (tables_of (state_of c.args.kernel.now)) c.args.by) (length c.in-AggMake.bytes) (event.Call c.args.by (call.AggMake c.in-AggMake.bytes)) (g.B.Backing.disk c.args.backing.now) (state_of c.args.kernel.now) (state_of c.agg_make.new.self) c.agg_make.result (record { answers = λ a. refl; roomy = λ a x. x; unrefused = λ a x. x }) (record { unwritten = refl; unlent = refl; goes = λ d p k. k; asks = λ s. refl; uses = λ s. refl; unshared = λ s. refl; moving = refl; inside = λ s. refl; changes = refl; has = λ d k. k; lacks = λ d k. k; publishes = λ n k. k; creates = λ x n. tt; late = λ d x n k. k; sums = λ x n k. k }) (λ s t r step. told_step reply.Agg (record { answers = λ a. refl; roomy = λ a x. x; unrefused = λ a x. x }) (aggs.agg_make s c.args.by c.in-AggMake.bytes) s t r step) c.agg_make.ensures))
 
 pub returns-in-PoolCreate : goal.returns-in-PoolCreate
 returns-in-PoolCreate g c =

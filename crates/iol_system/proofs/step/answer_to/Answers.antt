@@ -25,7 +25,7 @@ pub returns-in-Arrive : goal.returns-in-Arrive
 returns-in-Arrive g c =
     subst (λ (k : Event). Does (g.B.Backing.disk c.args.backing.now) (state_of c.args.kernel.now) k c.count.result (g.B.Backing.disk c.args.backing.now) (state_of c.arrive.new.self)) (sym c.in-Arrive.is)
     (subst (λ (x : Reply). Does (g.B.Backing.disk c.args.backing.now) (state_of c.args.kernel.now) (event.Arrive c.in-Arrive.conn c.in-Arrive.bytes) x (g.B.Backing.disk c.args.backing.now) (state_of c.arrive.new.self)) (sym c.count.ensures)
-    (places_does reply.Count (λ s. (outside.arrive s c.in-Arrive.conn c.in-Arrive.bytes)) (with_incoming c.in-Arrive.conn) (conn_at (tables_of (state_of c.args.kernel.now)) c.in-Arrive.conn).pool (outside.arrive (tables_of (state_of c.args.kernel.now)) c.in-Arrive.conn c.in-Arrive.bytes).answer (event.Arrive c.in-Arrive.conn c.in-Arrive.bytes) (g.B.Backing.disk c.args.backing.now) (state_of c.args.kernel.now) (state_of c.arrive.new.self) c.arrive.result (record { answers = λ a. refl; roomy = λ a x. x; unrefused = λ a x. x }) (record { unwritten = refl; unlent = refl; goes = λ d p k. k; asks = λ s. refl; uses = λ s. refl; unshared = λ s. refl; moving = refl; unlooking = refl; has = λ d k. k; lacks = λ d k. k; publishes = λ n k. k; creates = λ x n. tt; late = λ d x n k. k; sums = λ x n k. k }) (λ s t r step. told_step reply.Count (record { answers = λ a. refl; roomy = λ a x. x; unrefused = λ a x. x }) (outside.arrive s c.in-Arrive.conn c.in-Arrive.bytes) s t r step) c.arrive.ensures))
+    (places_does reply.Count (λ s. (outside.arrive s c.in-Arrive.conn c.in-Arrive.bytes)) (with_incoming c.in-Arrive.conn) (conn_at (tables_of (state_of c.args.kernel.now)) c.in-Arrive.conn).pool (outside.arrive (tables_of (state_of c.args.kernel.now)) c.in-Arrive.conn c.in-Arrive.bytes).answer (event.Arrive c.in-Arrive.conn c.in-Arrive.bytes) (g.B.Backing.disk c.args.backing.now) (state_of c.args.kernel.now) (state_of c.arrive.new.self) c.arrive.result (record { answers = λ a. refl; roomy = λ a x. x; unrefused = λ a x. x }) (record { unwritten = refl; unlent = refl; goes = λ d p k. k; asks = λ s. refl; uses = λ s. refl; unshared = λ s. refl; moving = refl; inside = λ s. refl; changes = refl; has = λ d k. k; lacks = λ d k. k; publishes = λ n k. k; creates = λ x n. tt; late = λ d x n k. k; sums = λ x n k. k }) (λ s t r step. told_step reply.Count (record { answers = λ a. refl; roomy = λ a x. x; unrefused = λ a x. x }) (outside.arrive s c.in-Arrive.conn c.in-Arrive.bytes) s t r step) c.arrive.ensures))
 
 pub returns-in-PeerClosed : goal.returns-in-PeerClosed
 returns-in-PeerClosed g c =

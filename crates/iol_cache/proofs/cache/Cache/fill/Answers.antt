@@ -1,4 +1,5 @@
 use Rattle.std.proofs.Common.{◌≡◌, ◌∙◌, ℕ, ◌-◌, ◌<◌, ◌≤◌, ◌^◌, List, length, get_or, set, refl, sym, ap, arith, subst}
+use Rattle.iol_cache.specs.Gaps.{gap_pages}
 use Rattle.std.specs.List.{All}
 use Rattle.std.proofs.lemmas.List.{get_or-set_same}
 use Rattle.iol_core.specs.Meaning.{WantOfRoomOrFault}
@@ -110,7 +111,7 @@ pub returns-in-Err-clause-given_back : goal.returns-in-Err-clause-given_back
 returns-in-Err-clause-given_back g c =
     let fs = c.args.self.now.files.items in
     let x = file_at_number fs c.args.file c.number.result c.index.result.now c.number.ensures (numbered_bounds fs c.args.file c.requires.file) c.index.ensures in
-    subst (λ (y : CachedFile). PlacesSome c.args.store.now c.fill_range.new.store y.pool) x c.in-Err.ensures.given_back
+    subst (λ (y : CachedFile). PlacesSome c.args.store.now c.fill_range.new.store y.pool (gap_pages c.args.gaps.now)) x c.in-Err.ensures.given_back
 
 pub returns-in-Err-clause-no_room : goal.returns-in-Err-clause-no_room
 returns-in-Err-clause-no_room g c = λ p e.

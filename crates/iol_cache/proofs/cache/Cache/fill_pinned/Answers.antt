@@ -1,6 +1,7 @@
 use Rattle.std.proofs.Common.{inl, inr, ◌≡◌, ◌∙◌, ◌+◌, ◌<◌, true, false, [], length, Some, refl, ap, arith, subst}
 use Rattle.std.proofs.lemmas.Bool.{cases_lt}
 use Rattle.std.proofs.lemmas.Result.{IfOk-weaker}
+use Rattle.iol_core.specs.declared.refusals.Refusal.TheVariants.{NoRoom}
 use Rattle.iol_pool.specs.Pools.{pool_in}
 use Rattle.iol_hold.specs.Moves.{Covers}
 use Rattle.iol_hold.specs.Places.{places}
@@ -19,7 +20,7 @@ use Rattle.iol_cache.specs.Ranges.{FillsAfter}
 use Rattle.iol_cache.specs.Sound.{IsSound}
 use Rattle.iol_cache.proofs.Filing.{file_at_number, numbered_bounds}
 use Rattle.iol_cache.proofs.Filled.{order_wide}
-use Rattle.iol_cache.proofs.Served.{Undone, either_way, goes_out, pins_held, pins_left, on_errs, places_none, readable_c, readable_filled, readable_left, readable_out, same_none, sound_out, stand_filled, tells_has, went_filled, went_none, went_undone}
+use Rattle.iol_cache.proofs.Served.{Undone, either_way, goes_out, pins_held, pins_left, on_errs, places_none, readable_c, readable_filled, readable_left, readable_out, same_none, sound_out, stand_filled, tells_has, told_errs, told_is, went_filled, went_none, went_undone}
 use Rattle.iol_cache.proofs.cache.Cache.fill_pinned.Goals as goal
 
 pub count_pages-requires : goal.count_pages-requires
@@ -52,9 +53,10 @@ returns-then-not-make_room-clause-undone g c =
       victims = subst (λ (y : CachedFile). EvictsAll y.pool (Some (gap_pages c.args.gaps.now)) old mid) x pages;
       less = c.make_room.ensures.gives_up;
       full = mid;
+      kept = λ p is. c.make_room.ensures.refused c.if-not-make_room.true;
       same = same_none mid.cache;
       moves = moves_none mid.store;
-      placed = places_none mid.store p;
+      placed = places_none mid.store p (gap_pages c.args.gaps.now);
       lists = refl;
       cache = refl;
       released = c.release.ensures.moves;
@@ -117,7 +119,7 @@ release-requires-2 g c =
     let full = holding c.fill-filled.new.store c.fill-filled.new.self in
     let e = c.fill-filled.ensures in
     let b = c.make_room.ensures in
-    either_way (Covers full.store (bufs_of c.args.pins)) (Undone mid full (file_in mid.cache.files c.args.file).pool) (FillsFile c.args.file c.args.from c.args.to (places c.args.pins) c.args.gaps.now d mid full) c.fill-filled.result e.filled
+    either_way (Covers full.store (bufs_of c.args.pins)) (Undone mid full (file_in mid.cache.files c.args.file).pool (gap_pages c.args.gaps.now)) (FillsFile c.args.file c.args.from c.args.to (places c.args.pins) c.args.gaps.now d mid full) c.fill-filled.result e.filled
     (on_errs c.fill-filled.result e.same e.none e.given_back (λ same none back. record { same = same; none = none; back = back }))
     (λ xs h. pins_held d old full c.args.pins (bufs_of xs) (went_filled d c.args.file c.args.from c.args.to old mid full c.args.pins c.args.gaps.now c.requires.file c.requires.held c.requires.readable b.gives_up b.sound xs c.requires.in_order c.requires.gaps h e.lists e.settles) c.requires.held c.requires.readable)
     (λ h. pins_held d old full c.args.pins [] (went_undone d c.args.file c.args.from c.args.to old mid full c.args.pins c.args.gaps.now c.requires.file c.requires.held c.requires.readable b.gives_up b.sound h.same h.none e.lists e.settles h.back.pages.count) c.requires.held c.requires.readable)
@@ -154,14 +156,17 @@ returns-clause-undone g c =
     let x = file_at_number fs c.args.file c.number.result c.index.result.now c.number.ensures (numbered_bounds fs c.args.file c.requires.file) c.index.ensures in
     let pages = subst (λ n. EvictsAll c.index.result.now.pool (Some n) old mid) c.count_pages.ensures c.make_room.ensures.victims in
     let e = c.fill-filled.ensures in
-    on_errs c.fill-filled.result e.same e.none e.given_back (λ same none back. record {
+    let free = c.make_room.ensures.free c.if-not-make_room.false in
+    let t = c.make_room.new.store in
+    told_errs c.fill-filled.result e.same e.none e.given_back (λ y told same none back. record {
       mid = mid;
       victims = subst (λ (y : CachedFile). EvictsAll y.pool (Some (gap_pages c.args.gaps.now)) old mid) x pages;
       less = c.make_room.ensures.gives_up;
       full = full;
+      kept = λ p is. absurd (omega (arith, free, c.count_pages.ensures, e.no_room p (told_is c.fill-filled.result y (NoRoom p) told is), ap (λ q. length (free_of t q)) (c.make_room.ensures.gives_up.keeps.pools c.args.file), ap (λ (z : CachedFile). length (free_of t z.pool)) x));
       same = same;
       moves = none;
-      placed = subst (PlacesSome mid.store full.store) (c.make_room.ensures.gives_up.keeps.pools c.args.file) back;
+      placed = subst (λ q. PlacesSome mid.store full.store q (gap_pages c.args.gaps.now)) (c.make_room.ensures.gives_up.keeps.pools c.args.file) back;
       lists = e.lists;
       cache = refl;
       released = c.release-2.ensures.moves;
@@ -216,7 +221,7 @@ returns-clause-sound g c =
     let e = c.fill-filled.ensures in
     let b = c.make_room.ensures in
     let r = c.release-2.ensures in
-    either_way (IsSound c.release-2.new.store full.cache) (Undone mid full (file_in mid.cache.files c.args.file).pool) (FillsFile c.args.file c.args.from c.args.to (places c.args.pins) c.args.gaps.now d mid full) c.fill-filled.result e.filled
+    either_way (IsSound c.release-2.new.store full.cache) (Undone mid full (file_in mid.cache.files c.args.file).pool (gap_pages c.args.gaps.now)) (FillsFile c.args.file c.args.from c.args.to (places c.args.pins) c.args.gaps.now d mid full) c.fill-filled.result e.filled
     (on_errs c.fill-filled.result e.same e.none e.given_back (λ same none back. record { same = same; none = none; back = back }))
     (λ xs h. sound_out d old full c.args.pins (bufs_of xs) (went_filled d c.args.file c.args.from c.args.to old mid full c.args.pins c.args.gaps.now c.requires.file c.requires.held c.requires.readable b.gives_up b.sound xs c.requires.in_order c.requires.gaps h e.lists e.settles) c.requires.held c.requires.readable c.release-2.new.store e.sound r.moves r.lists r.frees.count)
     (λ h. sound_out d old full c.args.pins [] (went_undone d c.args.file c.args.from c.args.to old mid full c.args.pins c.args.gaps.now c.requires.file c.requires.held c.requires.readable b.gives_up b.sound h.same h.none e.lists e.settles h.back.pages.count) c.requires.held c.requires.readable c.release-2.new.store e.sound r.moves r.lists r.frees.count)

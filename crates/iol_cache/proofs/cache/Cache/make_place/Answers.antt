@@ -10,7 +10,7 @@ use Rattle.iol_cache.specs.Cache.{cached_of, holding}
 use Rattle.iol_cache.specs.Cached.{Cached, clean_held, file_in}
 use Rattle.iol_cache.specs.Composing.{copied_pages}
 use Rattle.iol_cache.specs.Evicting.{EvictsAll, GivesUp, Holding}
-use Rattle.iol_cache.specs.Overwriting.{MakesRoom}
+use Rattle.iol_cache.specs.Overwriting.{LeavesAll, MakesRoom}
 use Rattle.iol_cache.specs.Pinned.{pinned_beside}
 use Rattle.iol_cache.specs.Reading.{SameButRoom}
 use Rattle.iol_cache.proofs.Filing.{file_at_number, numbered_bounds}
@@ -40,6 +40,10 @@ module _ (s : Stored) (source : List Slice) (fs : List CachedFile) (f n : ℕ) (
 
   pages_are : length (pages_of s x.pool) ≡ length (pages_of s p)
   pages_are = ap (λ (y : CachedFile). length (pages_of s y.pool)) is
+
+-- where there was no room, only what was reserved differs
+refused_room : (s : Stored) (c reserved : Cached) (new : Holding) → SameButRoom c reserved → new ≡ record { store = s; cache = reserved } → LeavesAll (record { store = s; cache = c }) new
+refused_room s c reserved new same is = record { store = ap (λ (h : Holding). h.store) is; same = subst (SameButRoom c) (sym (ap (λ (h : Holding). h.cache) is)) same }
 
 pub returns-in_default-clause-sound : goal.returns-in_default-clause-sound
 returns-in_default-clause-sound c = sound_same c.args.store.now (cached_of c.args.self.now) (cached_of c.reserve_places.new.self) c.requires.sound c.in_default.ensures.same
@@ -99,6 +103,9 @@ returns-clause-lacks c = λ q e.
   where
     true_false : true ≡ false → ⊥
     true_false h = cc
+
+pub returns-clause-kept : goal.returns-clause-kept
+returns-clause-kept c = λ q e. refused_room c.args.store.now (cached_of c.args.self.now) (cached_of c.reserve_places.new.self) (holding c.make_room.new.store c.make_room.new.self) c.in-Ok.ensures.same (c.make_room.ensures.refused c.if-make_room.false)
 
 pub returns-clause-late : goal.returns-clause-late
 returns-clause-late c =

@@ -1,66 +1,15 @@
-use Rattle.std.proofs.Common.{◌≡◌, ◌∙◌, ◌<◌, ◌≤◌, Bool, true, false, Some, length, refl, ap, arith}
-use Rattle.iol_pool.specs.Pools.{Pool}
-use Rattle.iol_hold.specs.Room.{free_of}
-use Rattle.iol_hold.proofs.Rooms.{open_numbered}
-use Rattle.iol_cache.specs.Cached.{clean_held}
+use Rattle.std.proofs.Common.{Some, refl, arith}
 use Rattle.iol_cache.specs.Cache.{cached_of, holding}
-use Rattle.iol_cache.specs.Evicting.{in_use}
-use Rattle.iol_cache.proofs.Rooming.{room_at_most, no_room_left, same_pages}
-use Rattle.iol_cache.proofs.NoneLeft.{none_beside}
-use Rattle.iol_cache.proofs.GivenUp.{gives_up_none, gives_up_more}
-use Rattle.iol_cache.proofs.Passed.{passed_pool, passed_least}
-use Rattle.iol_cache.proofs.Choosing.{victim_clean, evicts_fewer, none_evicted, one_more}
+use Rattle.iol_cache.proofs.Choosing.{none_evicted}
+use Rattle.iol_cache.proofs.GivenUp.{gives_up_none}
+use Rattle.iol_cache.proofs.Loosened.{free_fits}
 use Rattle.iol_cache.proofs.cache.Cache.make_room.Goals as goal
 
-pub free_count-requires : goal.free_count-requires
-free_count-requires c = open_numbered c.loop-pool.store.pools c.args.pool (ap (λ (x : Pool). x.closed) (c.loop-pool.invariant.gives_up.frees.pools c.args.pool c.requires.open) ∙ c.requires.open)
+pub returns-then-pages-eq0-clause-room : goal.returns-then-pages-eq0-clause-room
+returns-then-pages-eq0-clause-room c = ((λ y. omega (arith, free_fits c.args.store.now (cached_of c.args.self.now) c.args.pool, c.if-pages-eq0.true)), (λ y. refl))
 
-pub loop-pool-init : goal.loop-pool-init
-loop-pool-init c = record {
-  sound = c.requires.sound;
-  below = passed_least c.args.pool c.least-passed.result (holding c.args.store.now c.args.self.now) c.least-passed.ensures;
-  victims = none_evicted c.args.pool (Some c.args.pages) (holding c.args.store.now c.args.self.now);
-  gives_up = gives_up_none (holding c.args.store.now c.args.self.now);
-}
+pub returns-then-pages-eq0-clause-victims : goal.returns-then-pages-eq0-clause-victims
+returns-then-pages-eq0-clause-victims c = none_evicted c.args.pool (Some c.args.pages) (holding c.args.store.now c.args.self.now)
 
-pub evict-requires-clause-clean : goal.evict-requires-clause-clean
-evict-requires-clause-clean c = (victim_clean (in_use c.loop-pool.store c.loop-pool.self.files.items) c.loop-pool.store (cached_of c.loop-pool.self) c.args.pool c.in-Some.place c.loop-pool.invariant.sound c.in-Some.ensures.first).1
-
-pub loop-pool-smaller : goal.loop-pool-smaller
-loop-pool-smaller c =
-    let first = victim_clean (in_use c.loop-pool.store c.loop-pool.self.files.items) c.loop-pool.store (cached_of c.loop-pool.self) c.args.pool c.in-Some.place c.loop-pool.invariant.sound c.in-Some.ensures.first in
-    evicts_fewer (holding c.loop-pool.store c.loop-pool.self) (holding c.evict.new.store c.evict.new.self) c.in-Some.place.0 c.in-Some.place.1 c.args.pool c.loop-pool.invariant.sound c.evict.ensures.evicts first.0
-
-pub loop-pool-preserved : goal.loop-pool-preserved
-loop-pool-preserved c =
-    let now = holding c.loop-pool.store c.loop-pool.self in
-    let next = holding c.evict.new.store c.evict.new.self in
-    let old = holding c.args.store.now c.args.self.now in
-    let few : length (free_of c.loop-pool.store c.args.pool) < c.args.pages = omega (arith, c.free_count.ensures, c.loop-pool-test.true) in
-    let first = victim_clean (in_use c.loop-pool.store c.loop-pool.self.files.items) c.loop-pool.store (cached_of c.loop-pool.self) c.args.pool c.in-Some.place c.loop-pool.invariant.sound c.in-Some.ensures.first in
-    record {
-      sound = c.evict.ensures.sound;
-      below = passed_pool _ c.args.pool c.victim.new.passed c.evict.new.passed now next first.0 c.evict.ensures.below c.victim.ensures.below;
-      victims = one_more c.args.pool (Some c.args.pages) c.in-Some.place old now next c.loop-pool.invariant.victims c.loop-pool.invariant.sound few c.in-Some.ensures.first c.evict.ensures.evicts;
-      gives_up = gives_up_more old now next c.in-Some.place.0 c.in-Some.place.1 c.loop-pool.invariant.gives_up c.loop-pool.invariant.sound c.evict.ensures.evicts;
-    }
-
-pub returns-clause-room : goal.returns-clause-room
-returns-clause-room c =
-    let s = c.args.store.now in
-    let t = c.loop-pool.store in
-    let m = c.loop-pool.invariant.gives_up in
-    let enough : c.args.pages ≤ length (free_of t c.args.pool) = omega (arith, c.free_count.ensures, c.loop-pool-test.false) in
-    ((λ y. room_at_most s t c.args.pool c.args.pages (clean_held c.args.self.now.files.items) (clean_held c.loop-pool.self.files.items) (same_pages s t c.args.pool m.frees c.requires.open) m.frees m.clean enough), (λ y. refl))
-
-pub returns-in_default-clause-room : goal.returns-in_default-clause-room
-returns-in_default-clause-room c =
-    let s = c.args.store.now in
-    let t = c.loop-pool.store in
-    let m = c.loop-pool.invariant.gives_up in
-    let sound = c.loop-pool.invariant.sound in
-    let few : length (free_of t c.args.pool) < c.args.pages = omega (arith, c.free_count.ensures, c.loop-pool-test.true) in (
-      (λ y. absurd (let f : ◌≡◌ {A = Bool} false true = y in cc)),
-      (λ room. absurd (no_room_left s t c.args.pool c.args.pages (clean_held c.args.self.now.files.items) (clean_held c.loop-pool.self.files.items) (same_pages s t c.args.pool m.frees c.requires.open) m.frees m.clean sound.tidy sound.still
-          (λ q there. none_beside t (cached_of c.loop-pool.self) c.args.pool q sound c.in_default.ensures.first there) few room)),
-    )
+pub returns-then-pages-eq0-clause-gives_up : goal.returns-then-pages-eq0-clause-gives_up
+returns-then-pages-eq0-clause-gives_up c = gives_up_none (holding c.args.store.now c.args.self.now)

@@ -55,7 +55,7 @@ pub returns-in-Err-clause-given_back : goal.returns-in-Err-clause-given_back
 returns-in-Err-clause-given_back c =
     let fs = c.args.self.now.files.items in
     let x = file_at_number fs c.args.file c.number.result c.index.result.now c.number.ensures (numbered_bounds fs c.args.file c.requires.file) c.index.ensures in
-    subst (λ (y : CachedFile). PlacesSome c.args.store.now c.prepare.new.store y.pool) x c.in-Err.ensures.given_back
+    subst (λ (y : CachedFile). PlacesSome c.args.store.now c.prepare.new.store y.pool (copied_pages y.pool c.args.source.now)) x c.in-Err.ensures.given_back
 
 pub returns-in-Err-clause-no_room : goal.returns-in-Err-clause-no_room
 returns-in-Err-clause-no_room c = λ q e.

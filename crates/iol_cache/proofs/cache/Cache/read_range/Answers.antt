@@ -14,7 +14,7 @@ use Rattle.iol_cache.specs.Ranges.{FillsAfter, UndoesAfter}
 use Rattle.iol_cache.specs.Serving.{LeavesRange, ReadsRange, TellsRoom}
 use Rattle.iol_cache.specs.Weaving.{len_beside}
 use Rattle.iol_cache.proofs.Hits.{covers_hit, few_hit, goes_hit, len_hit, lies_read, readable_hit, room_hit}
-use Rattle.iol_cache.proofs.Served.{always_err, asks_ok, goes_reserved, if_err, ok_both, tells_fault}
+use Rattle.iol_cache.proofs.Served.{always_err, asks_ok, goes_reserved, ok_both, some_lacked, tells_fault, told_late}
 use Rattle.iol_cache.proofs.Steps.{goes_trans}
 use Rattle.iol_cache.proofs.cache.Cache.read_range.Goals as goal
 
@@ -78,12 +78,18 @@ returns-clause-refused g c =
     let hit = holding c.pin.new.store c.pin.new.self in
     let new = holding c.fill_pinned.new.store c.fill_pinned.new.self in
     let old = holding c.args.store.now c.args.self.now in
-    if_err c.fill_pinned.result (LeavesRange c.args.file c.args.from c.args.to old new) (λ y u. inr (record {
+    let gaps = c.deref.result.now in
+    let p = (file_in hit.cache.files c.args.file).pool in
+    let wanted = pinned_beside hit.store (clean_held hit.cache.files) p + gap_pages gaps in
+    let all = length (pages_of hit.store p) in
+    told_late (length gaps) (g.B.Backing.disk c.args.backing.now) (g.B.Backing.disk c.fill_pinned.new.backing) (wanted ≤ all) (all < wanted) c.fill_pinned.result (LeavesRange c.args.file c.args.from c.args.to old new) c.fill_pinned.ensures.disk.counts c.fill_pinned.ensures.room (λ y faults roomy u. inr (record {
       pins = c.in_ok-pins.pins;
       gaps = c.in_ok-pins.gaps.items;
+      faults = λ n is. omega (arith, faults n is, ap length c.deref.ensures.value);
+      roomy = λ q is. omega (arith, some_lacked hit.store (clean_held hit.cache.files) p gaps (roomy q is), ap length c.deref.ensures.value);
       hit = hit;
       pinned = c.in_ok-pins.ensures.pinned;
-      undone = subst (λ (l : List Span). UndoesAfter c.args.file c.in_ok-pins.pins l hit new) c.deref.ensures.value u;
+      undone = subst (λ (l : List Span). UndoesAfter c.args.file c.in_ok-pins.pins l hit new y) c.deref.ensures.value u;
     })) c.fill_pinned.ensures.undone
 
 pub returns-clause-goes : goal.returns-clause-goes

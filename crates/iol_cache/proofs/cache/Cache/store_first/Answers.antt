@@ -7,7 +7,7 @@ use Rattle.iol_hold.specs.Stored.{Stored}
 use Rattle.iol_hold.specs.Texts.{AllReadable, text_of}
 use Rattle.iol_hold.specs.declared.slices.Slice.{Slice}
 use Rattle.iol_evict.specs.Ranking.{Ranking, entered, with_one_given_back}
-use Rattle.iol_extent.specs.Extents.{Extent, IsApart, begins_at, dirty_in, end_of, extent_of, last_end}
+use Rattle.iol_extent.specs.Extents.{Extent, IsApart, begins_at, dirty_in, end_of, extent_of}
 use Rattle.iol_cache.specs.declared.files.CachedFile.{CachedFile}
 use Rattle.iol_cache.specs.Cache.{cached_of}
 use Rattle.iol_cache.specs.Cached.{Cached, extents_in, file_in, parts_in}
@@ -16,7 +16,8 @@ use Rattle.iol_cache.specs.Reading.{RanksFile}
 use Rattle.iol_cache.specs.Replacing.{Reindexes, IsReady}
 use Rattle.iol_cache.specs.Sharing.{CountsBelow}
 use Rattle.iol_cache.specs.Sound.{IsLaid, IsSound}
-use Rattle.iol_cache.specs.Syncing.{IsFirstDirty, Stores, cleaned_at}
+use Rattle.iol_cache.specs.Syncing.{Stores}
+use Rattle.iol_extent.specs.Extents.{IsFirstDirty, cleaned_at}
 use Rattle.iol_cache.proofs.Cleaned.{dirty_some, first_dirty}
 use Rattle.iol_cache.proofs.Composed.{length-bytes}
 use Rattle.iol_cache.proofs.Extending.{last_end-without_at}
@@ -127,12 +128,6 @@ settle-requires-clause-apart g c =
     let fs = c.args.self.now.files.items in
     let z = file_at_number fs c.args.file c.number.result c.index_mut-2.result.now c.number.ensures (numbered_bounds fs c.args.file c.requires.file) c.index_mut-2.ensures.value in
     subst (λ (y : CachedFile). IsApart 0 y.extents.extents) (sym z) (c.requires.sound.files c.args.file).apart
-
-pub settle-requires-clause-short : goal.settle-requires-clause-short
-settle-requires-clause-short g c =
-    let fs = c.args.self.now.files.items in
-    let z = file_at_number fs c.args.file c.number.result c.index_mut-2.result.now c.number.ensures (numbered_bounds fs c.args.file c.requires.file) c.index_mut-2.ensures.value in
-    subst (λ (y : CachedFile). last_end y.extents.extents ≤ MAX_FILE_BYTES) (sym z) (c.requires.sound.files c.args.file).short
 
 pub settle-requires-clause-dirty : goal.settle-requires-clause-dirty
 settle-requires-clause-dirty g c =

@@ -61,7 +61,7 @@ pub returns-in-Err-clause-evicts : goal.returns-in-Err-clause-evicts
 returns-in-Err-clause-evicts c =
     let p = (file_in c.args.self.now.files.items c.args.file).pool in
     let mid = holding c.make_place.new.store c.make_place.new.self in
-    record { mid = mid; room = c.make_place.ensures.room; placed = places_none mid.store p; cache = refl }
+    record { mid = mid; room = c.make_place.ensures.room; placed = places_none mid.store p (copied_pages p c.args.source.now); cache = refl }
 
 pub returns-in-Err-clause-pages : goal.returns-in-Err-clause-pages
 returns-in-Err-clause-pages c =
@@ -83,6 +83,9 @@ overwrite-requires-clause-readable c =
     let old = holding c.args.store.now c.args.self.now in
     let mid = holding c.make_place.new.store c.make_place.new.self in
     room_readable p (copied_pages p c.args.source.now) c.args.source.now old mid c.make_place.ensures.room c.requires.held c.requires.readable
+
+pub overwrite-requires-clause-few : goal.overwrite-requires-clause-few
+overwrite-requires-clause-few c = record { each = λ b. omega (arith, c.requires.few.each b, c.make_place.ensures.room.gives_up.fewer b) }
 
 pub returns-in-Ok-clause-written : goal.returns-in-Ok-clause-written
 returns-in-Ok-clause-written c =

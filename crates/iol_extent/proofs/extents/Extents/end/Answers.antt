@@ -12,11 +12,11 @@ none_is (x ∷ xs) h = absurd (omega (arith, h))
 
 pub returns-then-count-eq0 : goal.returns-then-count-eq0
 returns-then-count-eq0 c =
-    let es = c.self.inside.pieces.items in
-    sym (none_is es (omega (arith, c.len-count.ensures, c.if-count-eq0.true, c.self.inside.pieces.ok.0))) ∙ ap (λ (m : ExtentMap). last_end m.extents) c.self.view_is
+    let es = c.self.inside.pieces.extents in
+    sym (none_is es (omega (arith, c.len-count.ensures, c.if-count-eq0.true))) ∙ ap (λ (m : ExtentMap). last_end m.extents) c.self.view_is
 
 pub returns : goal.returns
 returns c =
-    let es = c.self.inside.pieces.items in
-    let long : c.len-count.result ≡ length es = omega (arith, c.len-count.ensures, c.self.inside.pieces.ok.0) in
+    let es = c.self.inside.pieces.extents in
+    let long : c.len-count.result ≡ length es = omega (arith, c.len-count.ensures) in
     c.end.ensures ∙ sym (last_is es c.len-count.result c.index-piece.result.now c.self.invariant.apart long (omega (arith, c.if-count-eq0.false)) c.index-piece.ensures) ∙ ap (λ (m : ExtentMap). last_end m.extents) c.self.view_is

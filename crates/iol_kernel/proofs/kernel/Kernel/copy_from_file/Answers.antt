@@ -102,7 +102,7 @@ returns-in_err-agg-clause-copies g c =
     let y = c.in_err-agg.field-0.0 in
     let room = tells_more {A = List Slice} (RoomToRead x.file x.at c.readable-most.result disk old) (NoRoomToRead x.file x.at c.readable-most.result disk old) (RoomToRead x.file x.at x.count disk old) (NoRoomToRead x.file x.at x.count disk old) (Err y) (room_more disk x.file x.at x.count c.readable-most.result old told) (lacks_more disk x.file x.at x.count c.readable-most.result old told) e.room in
     let refused = refuses_more disk x.file x.at x.count c.readable-most.result old told new y e.refused in
-    let done : CopiesFileAs {A = List ℕ} x disk h (Err y) after (record h { store = m; cache = k }) = record {
+    let done : CopiesFileAs x disk h (Err y) after (record h { store = m; cache = k }) = record {
       mid = m;
       reads = reads_refused x disk after h m k c.requires.sound live from e.pages e.gone.lists (List Slice) (List ℕ) y h.domains refl refused room e.fault e.late;
       gives = tt;
@@ -110,7 +110,7 @@ returns-in_err-agg-clause-copies g c =
       frees = frees_here m;
       lists = refl;
     } in
-    subst (λ (r : Result (List ℕ) Refusal). CopiesFileAs {A = List ℕ} x disk h r after (record h { store = m; cache = k })) is done
+    subst (λ (r : Result (List ℕ) Refusal). CopiesFileAs x disk h r after (record h { store = m; cache = k })) is done
 
 pub copy_out-requires-clause-room : goal.copy_out-requires-clause-room
 copy_out-requires-clause-room g c =
@@ -202,10 +202,11 @@ returns-clause-copies g c =
     let moved : domains_of c.set_fd.new.self ≡ moved_on h.domains x (byte_len agg) = c.set_fd.ensures.set ∙ ap (moved_on h.domains x) c.len-len.ensures in
     let reads = reads_more disk x.file x.at x.count c.readable-most.result old told new agg e.reads in
     let has = room_more disk x.file x.at x.count c.readable-most.result old told e.room in
+    let is : c.from_vec.result ≡ bytes_of (text_of m agg) = c.from_vec.ensures ∙ c.copy_out.ensures ∙ ap (λ (w : List ℕ). w ++ bytes_of (text_of m agg)) c.in_ok-bytes.ensures.items in
     record {
       mid = m;
       reads = reads_done x disk after h m k c.requires.sound live from e.pages e.goes.lists {B = List ℕ} c.from_vec.result agg m (domains_of c.set_fd.new.self) reads has e.fault.counts e.fault.honest e.fault.slots;
-      gives = gives_copy x disk after h m k c.requires.sound live from e.pages e.goes.lists agg t (domains_of c.set_fd.new.self) reads r.moves moved;
+      gives = gives_copy x disk after h m k c.requires.sound live from e.pages e.goes.lists agg t (domains_of c.set_fd.new.self) c.from_vec.result is reads r.moves moved;
       early = tt;
       frees = r.frees;
       lists = r.lists;

@@ -1,3 +1,5 @@
+use Rattle.std.proofs.Common.{ap}
+use Rattle.iol_cache.specs.Evicting.{Holding}
 use Rattle.iol_cache.specs.Cache.{cached_of}
 use Rattle.iol_kernel.specs.Kernel.{state_of}
 use Rattle.iol_kernel.proofs.Named.{cache_sound}
@@ -11,3 +13,6 @@ pub returns-clause-made : goal.returns-clause-made
 returns-clause-made c =
     let e = c.make_room.ensures in
     room_made (state_of c.args.self.now) c.make_room.new.store (cached_of c.make_room.new.self) c.requires.sound e.sound e.gives_up c.args.pool c.args.pages e.victims
+
+pub returns-clause-refused : goal.returns-clause-refused
+returns-clause-refused c = λ no. ap (λ (x : Holding). record (state_of c.args.self.now) { store = x.store; cache = x.cache }) (c.make_room.ensures.refused no)

@@ -10,7 +10,7 @@ pub make_room_for-requires-clause-open : goal.make_room_for-requires-clause-open
 make_room_for-requires-clause-open c = sym (closed-read_of (bytes_over [] c.args.self.now.store) (state_of c.args.self.now) c.args.pool) ∙ c.requires.open
 
 pub returns-then-not-make_room_for : goal.returns-then-not-make_room_for
-returns-then-not-make_room_for c = make_none c.args.pool c.args.by c.args.bytes.now (state_of c.args.self.now) (state_of c.make_room_for.new.self) c.make_room_for.ensures.made c.requires.passed c.requires.pool (c.make_room_for.ensures.fits ∙ c.if-not-make_room_for.true)
+returns-then-not-make_room_for c = make_none c.args.pool c.args.by c.args.bytes.now (state_of c.args.self.now) (state_of c.make_room_for.new.self) c.make_room_for.ensures.made (c.make_room_for.ensures.refused c.if-not-make_room_for.true) c.requires.passed c.requires.pool (c.make_room_for.ensures.fits ∙ c.if-not-make_room_for.true)
 
 pub fill_agg-requires-clause-live : goal.fill_agg-requires-clause-live
 fill_agg-requires-clause-live c = live_after c.args.pool (pages_for (length c.args.bytes.now)) (state_of c.args.self.now) (state_of c.make_room_for.new.self) c.make_room_for.ensures.made c.args.by c.requires.live

@@ -1,4 +1,4 @@
-use Rattle.std.proofs.Common.{[], ◌≡◌, ◌∙◌, ap, sym, refl, arith, length}
+use Rattle.std.proofs.Common.{[], ◌≡◌, ◌∙◌, ap, sym, arith, length}
 use Rattle.iol_arena.specs.State.{pages_for}
 use Rattle.iol_core.specs.Calls.Writing as writing
 use Rattle.iol_core.specs.declared.descriptors.Descriptor.TheVariants as on
@@ -19,7 +19,7 @@ pub returns-then-not-make_room_for-clause-serves : goal.returns-then-not-make_ro
 returns-then-not-make_room_for-clause-serves c =
     let h = state_of c.args.self.now in
     let count : c.min-count.result ≡ length c.args.bytes.now = omega (arith, c.min-count.ensures, held_short h c.args.by c.args.fd c.args.file c.args.at c.args.pool c.args.mode c.args.bytes.now c.requires.sound c.requires.to c.requires.pool c.requires.passed) in
-    (write_none c.args.by c.args.fd c.args.bytes.now c.args.pool c.min-count.result h (state_of c.make_room_for.new.self) c.make_room_for.ensures.made c.requires.passed c.requires.pool (λ f. file_count h c.args.by c.args.fd c.args.file c.args.at c.args.pool c.args.mode c.args.bytes.now c.requires.sound c.requires.to c.requires.pool c.requires.passed f ∙ sym count) (c.make_room_for.ensures.fits ∙ c.if-not-make_room_for.true)).serves
+    (write_none c.args.by c.args.fd c.args.bytes.now c.args.pool c.min-count.result h (state_of c.make_room_for.new.self) c.make_room_for.ensures.made c.requires.passed c.requires.pool (λ f. file_count h c.args.by c.args.fd c.args.file c.args.at c.args.pool c.args.mode c.args.bytes.now c.requires.sound c.requires.to c.requires.pool c.requires.passed f ∙ sym count) (c.make_room_for.ensures.refused c.if-not-make_room_for.true) (c.make_room_for.ensures.fits ∙ c.if-not-make_room_for.true)).serves
 
 pub returns-then-not-make_room_for-clause-no_room : goal.returns-then-not-make_room_for-clause-no_room
 returns-then-not-make_room_for-clause-no_room c p e =
@@ -37,7 +37,7 @@ pub returns-then-not-make_room_for-clause-lays : goal.returns-then-not-make_room
 returns-then-not-make_room_for-clause-lays c =
     let h = state_of c.args.self.now in
     let count : c.min-count.result ≡ length c.args.bytes.now = omega (arith, c.min-count.ensures, held_short h c.args.by c.args.fd c.args.file c.args.at c.args.pool c.args.mode c.args.bytes.now c.requires.sound c.requires.to c.requires.pool c.requires.passed) in
-    laid_none c.args.file c.args.at c.args.pool c.min-count.result c.args.bytes.now h (state_of c.make_room_for.new.self) count c.make_room_for.ensures.made _ refl
+    laid_none c.args.file c.args.at c.args.pool c.min-count.result c.args.bytes.now h (state_of c.make_room_for.new.self) count c.make_room_for.ensures.made _ (c.make_room_for.ensures.refused c.if-not-make_room_for.true)
 
 pub fill_file-requires-clause-passed : goal.fill_file-requires-clause-passed
 fill_file-requires-clause-passed c = (let h = state_of c.args.self.now in passed_still c.args.by c.args.fd c.args.bytes.now c.args.pool c.min-count.result h (state_of c.make_room_for.new.self) c.make_room_for.ensures.made c.requires.passed c.requires.pool)
@@ -61,5 +61,5 @@ returns c =
       no_room = λ p e. absurd (c.fill_file.ensures.roomy p e);
       late = c.fill_file.ensures.late;
       puts = puts_roomed c.args.file c.args.at c.args.pool c.min-count.result (length c.args.bytes.now) h (state_of c.make_room_for.new.self) count c.make_room_for.ensures.made (state_of c.fill_file.new.self) c.fill_file.result c.fill_file.ensures.fills c.fill_file.ensures.beside;
-      lays = laid_roomed c.args.file c.args.at c.args.pool c.min-count.result c.args.bytes.now h (state_of c.make_room_for.new.self) count c.make_room_for.ensures.made (state_of c.fill_file.new.self) c.fill_file.result c.fill_file.ensures.lays c.fill_file.ensures.leaves c.fill_file.ensures.late;
+      lays = laid_roomed c.args.file c.args.at c.args.pool c.min-count.result c.args.bytes.now h (state_of c.make_room_for.new.self) count c.make_room_for.ensures.made (state_of c.fill_file.new.self) c.fill_file.result c.fill_file.ensures.lays c.fill_file.ensures.leaves c.fill_file.ensures.late c.fill_file.ensures.roomy;
     }

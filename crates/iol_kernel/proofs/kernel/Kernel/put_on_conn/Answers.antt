@@ -16,7 +16,7 @@ returns-then-not-make_room_for c =
     let h = state_of c.args.self.now in
     let r = c.make_room_for.ensures in
     let counted = count_in_conn h c.args.by c.args.fd c.args.conn c.args.bytes.now c.min-count.result c.requires.to (λ f. c.min-count.ensures ∙ ap (λ m. min (length c.args.bytes.now) m) (c.room_on.ensures f)) in
-    write_none c.args.by c.args.fd c.args.bytes.now c.args.pool c.min-count.result h (state_of c.make_room_for.new.self) r.made c.requires.passed c.requires.pool counted (r.fits ∙ c.if-not-make_room_for.true)
+    write_none c.args.by c.args.fd c.args.bytes.now c.args.pool c.min-count.result h (state_of c.make_room_for.new.self) r.made c.requires.passed c.requires.pool counted (r.refused c.if-not-make_room_for.true) (r.fits ∙ c.if-not-make_room_for.true)
 
 pub fill_outgoing-requires-clause-passed : goal.fill_outgoing-requires-clause-passed
 fill_outgoing-requires-clause-passed c = passed_still c.args.by c.args.fd c.args.bytes.now c.args.pool c.min-count.result (state_of c.args.self.now) (state_of c.make_room_for.new.self) c.make_room_for.ensures.made c.requires.passed c.requires.pool

@@ -7,7 +7,7 @@ use Rattle.iol_kernel.specs.Kernel.{state_of}
 use Rattle.iol_kernel.specs.Readings.{bytes_over}
 use Rattle.iol_kernel.proofs.Opening.{end_held, not_none}
 use Rattle.iol_kernel.proofs.ReadOf.{descriptor-read_of, live_held}
-use Rattle.iol_kernel.proofs.Seeking.{no_file, seek_beyond, seek_refused, sought}
+use Rattle.iol_kernel.proofs.Seeking.{moved-places, no_file, seek_beyond, seek_refused, sought}
 use Rattle.iol_kernel.proofs.kernel.Kernel.seek.Goals as goal
 
 pub returns-then-not-is_live : goal.returns-then-not-is_live
@@ -57,4 +57,5 @@ returns g c =
     let h = state_of c.args.self.now in
     let on_file = sym (c.descriptor.ensures (bytes_over [] h.store)) ∙ c.in-Some.is ∙ ap (λ (x : Descriptor). Some x) c.in-File.is in
     let told = sought (g.B.Backing.disk c.args.backing.now) h c.args.by c.args.fd c.in-File.file c.in-File.at c.length_of.result c.in-File.mode c.requires (sym (c.is_live.ensures (bytes_over [] h.store)) ∙ c.if-not-is_live.false) on_file c.length_of.ensures.is c.args.at (domains_of c.set_fd.new.self) (omega (arith, c.if-at-length_of.false)) c.length_of.ensures.short c.set_fd.ensures.set in
-    search (rules, told)
+    let lies = moved-places (g.B.Backing.disk c.args.backing.now) h c.args.by c.args.fd c.in-File.file c.in-File.at c.length_of.result c.in-File.mode c.requires (sym (c.is_live.ensures (bytes_over [] h.store)) ∙ c.if-not-is_live.false) on_file c.length_of.ensures.is c.args.at (domains_of c.set_fd.new.self) c.set_fd.ensures.set in
+    search (rules, told, lies)

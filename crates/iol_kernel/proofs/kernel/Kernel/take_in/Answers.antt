@@ -6,7 +6,7 @@ use Rattle.iol_kernel.proofs.kernel.Kernel.take_in.Goals as goal
 pub returns-then-not-make_room_for : goal.returns-then-not-make_room_for
 returns-then-not-make_room_for c =
     let r = c.make_room_for.ensures in
-    arrive_none c.args.conn c.args.bytes.now c.args.pool c.args.count (state_of c.args.self.now) (state_of c.make_room_for.new.self) r.made c.requires.passed c.requires.pool c.requires.count (r.fits ∙ c.if-not-make_room_for.true)
+    arrive_none c.args.conn c.args.bytes.now c.args.pool c.args.count (state_of c.args.self.now) (state_of c.make_room_for.new.self) r.made c.requires.passed c.requires.pool c.requires.count (r.refused c.if-not-make_room_for.true) (r.fits ∙ c.if-not-make_room_for.true)
 
 pub fill_conn-requires-clause-there : goal.fill_conn-requires-clause-there
 fill_conn-requires-clause-there c =

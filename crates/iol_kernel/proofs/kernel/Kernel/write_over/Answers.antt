@@ -63,7 +63,7 @@ returns-in-Err-clause-over c =
     let k : KernelState = record h { store = c.write.new.store; cache = cached_of c.write.new.self } in
     subst (λ (ys : List Slice). WritesOver {A = ℕ} c.args.file c.args.at ys h (Err c.in-Err.refusal) k) (slices_found h.domains c.args.by c.args.agg c.in-Some.found.now found)
     (unwritten_leaves h c.write.new.store (cached_of c.write.new.self) c.args.by c.args.fd c.args.agg c.args.file c.args.at c.args.mode c.in-Some.found.now c.requires.sound live is there found
-    w.moves w.lists w.settles w.pages w.sound w.mirrors c.requires.passed k c.in-Err.refusal w.evicts (λ p e. w.no_room p (ap Err e)) w.late refl)
+    w.moves w.lists w.settles w.pages w.sound w.mirrors c.requires.passed k c.in-Err.refusal w.evicts (λ p e. w.no_room p (ap Err e)) (λ p e. w.kept p (ap Err e)) w.late refl)
 
 pub returns-clause-serves : goal.returns-clause-serves
 returns-clause-serves c =

@@ -1,10 +1,12 @@
 use Rattle.std.specs.Prelude.{◌≡◌, true, false}
+use Rattle.iol_core.specs.Run.{meaning}
 use Rattle.iol_core.specs.Sharing.{is_sharing, LaysOut}
 use Rattle.iol_kernel.specs.Kernel.{state_of}
 use Rattle.iol_kernel.specs.KernelState.{layout_of}
 use Rattle.iol_system.specs.Asking.{asks_store, makes_file, uses_cache}
 use Rattle.iol_system.specs.Machine.{SystemState, tables_of}
-use Rattle.iol_system.specs.Still.{is_still}
+use Rattle.iol_system.specs.Room.{IsDone}
+use Rattle.iol_system.specs.Still.{is_still, takes_out}
 use Rattle.iol_system.specs.WrittenBack.{StoresBack}
 use Rattle.std.proofs.Common.{subst}
 use Rattle.iol_system.proofs.system.System.step.Goals as goal
@@ -23,3 +25,6 @@ returns-clause-stores_back g c = subst (λ (s : SystemState). StoresBack s.disk 
 
 pub returns-clause-still : goal.returns-clause-still
 returns-clause-still g c = subst (λ (s : SystemState). is_still c.args.event ≡ true → LaysOut (layout_of s.kernel) c.args.event c.carry_out.result (layout_of (state_of c.carry_out.new.kernel))) c.self.view_is c.carry_out.ensures.still
+
+pub returns-clause-places : goal.returns-clause-places
+returns-clause-places g c = subst (λ (s : SystemState). takes_out (tables_of s.kernel) c.args.event ≡ true → IsDone c.carry_out.result → layout_of (state_of c.carry_out.new.kernel) ≡ (meaning (layout_of s.kernel) c.args.event).after) c.self.view_is c.carry_out.ensures.places

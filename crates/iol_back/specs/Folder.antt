@@ -1,0 +1,40 @@
+-- A folder as a store.
+use Rattle.std.specs.Prelude.{◌≡◌, ◌≢◌, ℕ, ◌≤◌, List, [], false, length, All, AllPairs}
+use Rattle.std.specs.Cmp.Lexicographic.{slice_cmp}
+use Rattle.std.specs.Ordering.{nat_cmp}
+use Rattle.std.specs.declared.cmp.Ordering.TheVariants.{Less}
+use Rattle.iol_core.specs.declared.limits.TheConstants.{MAX_FILES, MAX_NAME_BYTES}
+use Rattle.iol_back.specs.Disk.{Disk}
+
+-- a name that a file may have
+abbrev pub IsSized : List ℕ → Type 0
+IsSized name = (1 ≤ length name) × (length name ≤ MAX_NAME_BYTES)
+
+-- In byte order, the first is before the second: at the first byte in which they differ it has the
+-- lesser one, or it is the beginning of the second.
+abbrev pub Precedes : (first second : List ℕ) → Type 0
+Precedes first second = slice_cmp nat_cmp first second ≡ Less
+
+-- each name is before all later ones
+abbrev pub AreRising : List (List ℕ) → Type 0
+AreRising names = AllPairs Precedes names
+
+-- no two names are the same
+abbrev pub AreDistinct : List (List ℕ) → Type 0
+AreDistinct names = AllPairs (λ first second. first ≢ second) names
+
+-- the names of the files of a folder, that of slot 1 first
+pub record AreNames (names : List (List ℕ)) : Type 0 where
+  pub few : length names ≤ MAX_FILES
+  pub sized : All IsSized names
+  pub rising : AreRising names
+
+-- The names of the files, and how often the store failed.
+pub record Folder : Type 0 where
+  pub names : List (List ℕ)
+  pub failures : ℕ
+
+-- As a store: of the files' bytes nothing is told, and it is not honest, since others write the
+-- files too.
+abbrev pub disk_of : Folder → Disk
+disk_of f = record { slots = []; failures = f.failures; honest = false }

@@ -1,0 +1,228 @@
+//! A store of the files of a folder.
+ghost use Rattle.std.specs.Prelude.{◌≡◌, ◌+◌, ◌-◌, ◌<◌, ◌≤◌, ◌↔◌, length, All, Some, IsSome, IfSome, IfOk, OnOk, OnErr, slice_get, min};
+ghost use Rattle.iol_back.specs.Disk.{IsSlot, Counts, raised, content, IfHonest, Reads, Writes, Tears, OthersStay};
+ghost use Rattle.iol_back.specs.Folder.{disk_of, IsSized, AreRising, AreDistinct};
+ghost use Rattle.iol_core.specs.declared.limits.TheConstants.{MAX_FILES, MAX_FILE_BYTES};
+
+use crate::backing::{Backing, StoreFault};
+use crate::listing::{Listing, Stamp, listed, stamp_at};
+use iol_core::limits::MAX_FILE_BYTES;
+use iol_core::numbers::FileId;
+use std::fs::{OpenFile, OpenOptions};
+use std::io;
+use std::io::{ErrorKind, Read, Seek, SeekFrom, Write};
+use std::marker::Model;
+use std::rt::Files;
+
+/// The regular files that lie directly in a folder, as a store: those with a name in UTF-8 and at most 2^24 bytes, by byte
+/// order of names, the first 1,024. It promises nothing of their bytes.
+///
+/// No file is held open. While one is gone, or another file or something else lies in its place, or it has another length
+/// or time of last writing than this store left it, each read and each write of it fails.
+#[derive(Drop)]
+pub struct FolderBacking<R: Files> {
+    files: R,
+    listing: Listing,
+    failures: u64,
+}
+
+impl<R: Files> Model for FolderBacking<R> {
+    ghost use Rattle.iol_back.specs.Folder.{Folder};
+
+    ghost Value = { Folder };
+
+    ghost view = { λ f. record { names = f.listing; failures = f.failures } };
+}
+
+impl<R: Files + AllocGlobal + Clone + Drop> FolderBacking<R> {
+    /// The files of a folder, as they are now. The error is of the kind `OutOfMemory` where memory was wanting.
+    pub fn new(rt: &R, root: &str) -> io::Result<FolderBacking<R>>
+        ensures failures { IfOk result (λ f. f.failures ≡ 0) }
+    {
+        let files = rt.clone()?;
+        let listing = listed(rt, root)?;
+        Ok(FolderBacking {
+            files,
+            listing,
+            failures: 0,
+        })
+    }
+}
+
+impl<R: Files> FolderBacking<R> {
+    /// How many files there are. They have the slots from 1 on.
+    pub fn count(&self) -> usize
+        ensures count { result ≡ length self.now.names }
+        ensures few { length self.now.names ≤ MAX_FILES }
+        ensures sized { All IsSized self.now.names }
+        ensures rising { AreRising self.now.names }
+        ensures distinct { AreDistinct self.now.names }
+    {
+        self.listing.count()
+    }
+
+    /// The name of the file behind a slot.
+    pub fn name(&self, slot: FileId) -> Option<&str>
+        ensures which { IsSome result ↔ ((0 < slot) × (slot ≤ length self.now.names)) }
+        ensures name { IfSome result (λ name. slice_get self.now.names (slot - 1) ≡ Some name.now) }
+        ensures sized { IfSome result (λ name. IsSized name.now) }
+    {
+        let place = self.place(slot)?;
+        Some(self.listing.name(place))
+    }
+
+    // Where a file stands in the list.
+    fn place(&self, slot: FileId) -> Option<usize>
+        ensures which { IsSome result ↔ ((0 < slot) × (slot ≤ length self.now.names)) }
+        ensures slot { IfSome result (λ place. IsSlot slot × (place ≡ slot - 1)) }
+        ensures sized { All IsSized self.now.names }
+    {
+        let number = slot.number() as usize;
+        let listing = &self.listing;
+        let count = listing.count();
+        if number == 0 || number > count {
+            return None;
+        }
+        Some(number - 1)
+    }
+
+    // Counts a failure.
+    fn fail(&mut self) -> StoreFault
+        ensures failures { self.new.failures ≡ raised self.old.failures }
+        ensures names { self.new.names ≡ self.old.names }
+    {
+        self.failures = self.failures.saturating_add(1);
+        StoreFault
+    }
+
+    // Opens a file that is still as it was. It is looked at first: to open a pipe would be to wait for its other end.
+    fn open(&self, place: usize, how: &OpenOptions) -> io::Result<R::File>
+        requires { place < length self.now.names }
+    {
+        let path = self.listing.path(place);
+        if stamp_at(&self.files, path) != Some(self.listing.stamp(place)) {
+            return Err(io::Error::from(ErrorKind::InvalidData));
+        }
+        let file = how.open(&self.files, path)?;
+        self.check(place, &file)?;
+        Ok(file)
+    }
+
+    // Fails if an open file is not as it was.
+    fn check(&self, place: usize, file: &R::File) -> io::Result<()>
+        requires { place < length self.now.names }
+    {
+        if Stamp::of(&file.metadata()?) == Some(self.listing.stamp(place)) {
+            Ok(())
+        } else {
+            Err(io::Error::from(ErrorKind::InvalidData))
+        }
+    }
+
+    // Reads bytes of a file that is as it was, before and after.
+    fn read(&self, place: usize, at: u32, into: &mut [u8]) -> io::Result<()>
+        requires { place < length self.now.names }
+    {
+        let mut file = self.open(place, OpenOptions::new().read(true))?;
+        file.seek(SeekFrom::Start(u64::from(at)))?;
+        file.read_exact(into)?;
+        self.check(place, &file)
+    }
+
+    // Writes bytes to a file that is as it was.
+    fn write(&mut self, place: usize, at: u32, bytes: &[u8]) -> io::Result<()>
+        requires { place < length self.old.names }
+        ensures failures { self.new.failures ≡ self.old.failures }
+        ensures names { self.new.names ≡ self.old.names }
+    {
+        let end = u64::from(at).saturating_add(bytes.len() as u64);
+        if at > self.listing.stamp(place).length() || end > MAX_FILE_BYTES as u64 {
+            return Err(io::Error::from(ErrorKind::InvalidInput));
+        }
+        let mut file = self.open(place, OpenOptions::new().write(true))?;
+        file.seek(SeekFrom::Start(u64::from(at)))?;
+        let written = file.write_all(bytes);
+        // Where a write failed half way, the file may have grown all the same.
+        if let Some(stamp) = Stamp::of(&file.metadata()?) {
+            self.listing.set_stamp(place, stamp);
+        }
+        written
+    }
+}
+
+impl<R: Files> Backing for FolderBacking<R> {
+    ghost use Rattle.iol_back.specs.Folder.{disk_of};
+
+    ghost disk = { disk_of };
+
+    /// The length that the file had when it was found, or was written here last; 0 where there is no file.
+    fn length(&self, file: FileId) -> u32
+        ensures honest { let now = disk_of self.now in
+            IfHonest now (result ≡ min (length (content now.slots file)) u32.MAX) }
+        ensures short { result ≤ MAX_FILE_BYTES }
+    {
+        match self.place(file) {
+            Some(place) => self.listing.stamp(place).length(),
+            None => 0,
+        }
+    }
+
+    fn read_at(&mut self, file: FileId, at: u32, into: &mut [u8]) -> Result<(), StoreFault>
+        ensures honest { (disk_of self.new).honest ≡ (disk_of self.old).honest }
+        ensures counts { Counts (disk_of self.old) (disk_of self.new) result }
+        ensures slot { OnOk result (IsSlot file) }
+        ensures slots { let old = disk_of self.old in
+            IfHonest old ((disk_of self.new).slots ≡ old.slots) }
+        ensures read { let old = disk_of self.old in
+            IfHonest old (OnOk result (Reads at (content old.slots file) into.old into.new)) }
+
+        // Of a file of the folder alone, and the names stay.
+        ensures file { OnOk result (file ≤ length self.old.names) }
+        ensures names { self.new.names ≡ self.old.names }
+    {
+        if self.failures == u64::MAX {
+            return Err(self.fail());
+        }
+        let Some(place) = self.place(file) else {
+            return Err(self.fail());
+        };
+        if self.read(place, at, into).is_err() {
+            return Err(self.fail());
+        }
+        Ok(())
+    }
+
+    fn write_at(&mut self, file: FileId, at: u32, bytes: &[u8]) -> Result<(), StoreFault>
+        ensures honest { (disk_of self.new).honest ≡ (disk_of self.old).honest }
+        ensures counts { Counts (disk_of self.old) (disk_of self.new) result }
+        ensures slot { OnOk result (IsSlot file) }
+        ensures others { let old = disk_of self.old in
+            IfHonest old (OthersStay file old.slots (disk_of self.new).slots) }
+        ensures written { let old = disk_of self.old in
+            let new = content (disk_of self.new).slots file in
+            IfHonest old (OnOk result (Writes at bytes.now (content old.slots file) new)) }
+        ensures torn { let old = disk_of self.old in
+            let new = disk_of self.new in let n = length bytes.now in
+            IfHonest old (OnErr result
+            (Tears at n (content old.slots file) (content new.slots file))) }
+
+        // Of a file of the folder alone, and the names stay.
+        ensures file { OnOk result (file ≤ length self.old.names) }
+        ensures names { self.new.names ≡ self.old.names }
+    {
+        if self.failures == u64::MAX {
+            return Err(self.fail());
+        }
+        let Some(place) = self.place(file) else {
+            return Err(self.fail());
+        };
+        if self.write(place, at, bytes).is_err() {
+            return Err(self.fail());
+        }
+        Ok(())
+    }
+
+    fn failures(&self) -> u64 {
+        self.failures
+    }
+}

@@ -1,0 +1,193 @@
+//! The files that lie in a folder.
+ghost use Rattle.std.specs.Prelude.{◌≡◌, ◌+◌, ◌-◌, ◌<◌, ◌≤◌, ◌↔◌, ◌∷◌, ◌++◌, [], length, All, Some, IfSome, IsSome, IsTrue, OnOk, slice_get, string_bytes, map};
+ghost use Rattle.iol_back.specs.Folder.{IsSized, Precedes, AreNames, AreRising, AreDistinct};
+ghost use Rattle.iol_core.specs.declared.limits.TheConstants.{MAX_FILES, MAX_FILE_BYTES};
+
+use iol_core::limits::{MAX_FILE_BYTES, MAX_FILES, MAX_NAME_BYTES};
+use std::alloc::{AllocError, Global};
+use std::cmp::Ordering;
+use std::fs::Metadata;
+use std::io::ErrorKind;
+use std::marker::Model;
+use std::os::unix::fs::MetadataExt;
+use std::rt::Files;
+use std::{fs, io};
+
+/// By what a file is told from the one that it was: which one it is, how long it is, and when its bytes were written last.
+#[derive(Clone, Copy, Debug, PartialEq, Eq)]
+pub struct Stamp {
+    device: u64,
+    node: u64,
+    length: u32,
+    written: (i64, i64),
+
+    ghost short: { length ≤ MAX_FILE_BYTES },
+}
+
+impl Stamp {
+    /// The stamp of what is found at a path: of a regular file that is not too long alone.
+    pub fn of(found: &Metadata) -> Option<Stamp> {
+        if !found.is_file() || found.len() > MAX_FILE_BYTES as u64 {
+            return None;
+        }
+        Some(Stamp {
+            device: found.dev(),
+            node: found.ino(),
+            length: found.len() as u32,
+            written: (found.mtime(), found.mtime_nsec()),
+        })
+    }
+
+    /// How many bytes the file has.
+    pub fn length(&self) -> u32
+        ensures { result ≤ MAX_FILE_BYTES }
+    {
+        self.length
+    }
+}
+
+/// A file of the folder.
+#[derive(Drop)]
+struct Entry {
+    name: String,
+    path: String,
+}
+
+/// Files of a folder, by byte order of their names, each with the stamp that it had when it was looked at last.
+#[derive(Drop)]
+pub struct Listing {
+    entries: Vec<Entry>,
+    stamps: Vec<Stamp>,
+}
+
+impl Model for Listing {
+    ghost use Rattle.std.specs.Prelude.{◌≡◌, ℕ, List, length, map, string_bytes};
+    ghost use Rattle.iol_back.specs.Folder.{AreNames};
+
+    ghost Value = { List (List ℕ) };
+
+    ghost view = { λ l. map (λ e. string_bytes e.name) l.entries.items };
+
+    ghost invariant = { λ l. AreNames (map (λ e. string_bytes e.name) l.entries.items)
+        × (length l.stamps.items ≡ length l.entries.items) };
+}
+
+impl Listing {
+    fn new(alloc: Global) -> Listing
+        ensures { result ≡ [] }
+    {
+        Listing {
+            entries: Vec::new(alloc),
+            stamps: Vec::new(alloc),
+        }
+    }
+
+    /// How many files there are.
+    pub fn count(&self) -> usize
+        ensures count { result ≡ length self.now }
+        ensures names { AreNames self.now }
+    {
+        self.entries.len()
+    }
+
+    /// The name of a file.
+    pub fn name(&self, place: usize) -> &str
+        requires { place < length self.now }
+        ensures { slice_get self.now place ≡ Some result.now }
+    {
+        self.entries[place].name.as_str()
+    }
+
+    /// Where a file lies.
+    pub fn path(&self, place: usize) -> &str
+        requires { place < length self.now }
+    {
+        self.entries[place].path.as_str()
+    }
+
+    /// What a file was like when it was looked at last.
+    pub fn stamp(&self, place: usize) -> Stamp
+        requires { place < length self.now }
+    {
+        self.stamps[place]
+    }
+
+    /// Notes what a file is like now.
+    pub fn set_stamp(&mut self, place: usize, stamp: Stamp)
+        requires { place < length self.old }
+        ensures { self.new ≡ self.old }
+    {
+        self.stamps[place] = stamp;
+    }
+
+    // Whether a file of this name may stand behind the others.
+    fn takes(&self, name: &str) -> bool
+        ensures room { IsTrue result → length self.now < MAX_FILES }
+        ensures sized { IsTrue result → IsSized name.now }
+        ensures last { IsTrue result → All (λ other. Precedes other name.now) self.now }
+    {
+        let is_sized = 1 <= name.len() && name.len() <= MAX_NAME_BYTES;
+        is_sized && self.entries.len() < MAX_FILES && self.is_last(name)
+    }
+
+    // Whether a name is behind the others in byte order.
+    fn is_last(&self, name: &str) -> bool
+        ensures { IsTrue result → All (λ other. Precedes other name.now) self.now }
+    {
+        let count = self.count();
+        if count == 0 {
+            return true;
+        }
+        matches!(self.name(count - 1).cmp(name), Ordering::Less)
+    }
+
+    // Adds a file behind the others.
+    fn add(&mut self, entry: Entry, stamp: Stamp) -> Result<(), AllocError>
+        requires room { length self.old < MAX_FILES }
+        requires sized { IsSized (string_bytes entry.name) }
+        requires last { All (λ other. Precedes other (string_bytes entry.name)) self.old }
+    {
+        self.entries.reserve(1)?;
+        self.stamps.reserve(1)?;
+        self.entries.push_reserved(entry);
+        self.stamps.push_reserved(stamp);
+        Ok(())
+    }
+}
+
+/// The files that lie directly in a folder, as they are now: the regular ones of at most 2^24 bytes with a name in UTF-8,
+/// by byte order of names, the first 1,024. The error is of the kind `OutOfMemory` where memory was wanting.
+pub fn listed<R: Files + AllocGlobal + Clone + Drop>(rt: &R, root: &str) -> io::Result<Listing> {
+    let mut listing = Listing::new(rt.alloc());
+    for name in names_in(rt, root)? {
+        if !listing.takes(name.as_str()) {
+            continue;
+        }
+        let name_text = name.as_str();
+        let path = format!(in rt.alloc(); "{root}/{name_text}")?;
+        if let Some(stamp) = stamp_at(rt, path.as_str()) {
+            listing.add(Entry { name, path }, stamp)?;
+        }
+    }
+    Ok(listing)
+}
+
+/// What lies at a path, if it is a file that can be served. A link is none, whatever it leads to.
+pub fn stamp_at<R: Files>(rt: &R, path: &str) -> Option<Stamp> {
+    let found = fs::symlink_metadata(rt, path).ok()?;
+    Stamp::of(&found)
+}
+
+// The names in a folder, by byte order. Those that are not UTF-8 are passed over.
+fn names_in<R: Files + AllocGlobal + Clone + Drop>(rt: &R, root: &str) -> io::Result<Vec<String>> {
+    let mut names = Vec::new(rt.alloc());
+    for entry in fs::read_dir(rt, root)? {
+        match entry {
+            Ok(entry) => names.push(String::from_str(rt.alloc(), entry.file_name())?)?,
+            Err(e) if e.kind() == ErrorKind::InvalidFilename => {}
+            Err(e) => return Err(e),
+        }
+    }
+    names.sort_unstable();
+    Ok(names)
+}

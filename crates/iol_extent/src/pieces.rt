@@ -1,0 +1,184 @@
+//! Extents, one after another.
+ghost use Rattle.std.specs.Prelude.{◌≡◌, ℕ, ◌+◌, ◌-◌, ◌/◌, ◌<◌, ◌≤◌, ◌^◌, [], length, slice_index_or, slice_set, insert, remove, Some, OnOk, OnErr};
+ghost use Rattle.std.specs.VecDeque.{deque_len, deque_capacity};
+ghost use Rattle.slab.specs.Slab.{ContainsKey, Updates, slab_len};
+ghost use Rattle.iol_extent.specs.Extents.{Extent, as_clean, end_of, IsApart};
+ghost use Rattle.iol_extent.specs.Keys.{extent_at};
+
+use crate::piece::Piece;
+use slab::Slab;
+use std::alloc::{AllocError, Global};
+use std::collections::VecDeque;
+use std::marker::Model;
+use std::ops::Index;
+
+/// Pieces in a slab, and their keys in order. Where one comes or goes, the keys on its shorter side move.
+#[derive(Drop)]
+pub(crate) struct Pieces {
+    slab: Slab<Piece>,
+    keys: VecDeque<usize>,
+    room: usize,
+}
+
+impl Model for Pieces {
+    ghost use Rattle.std.specs.Prelude.{◌+◌, ◌≤◌, map};
+    ghost use Rattle.std.specs.VecDeque.{deque_len, deque_capacity};
+    ghost use Rattle.slab.specs.Slab.{HasRoomFor};
+    ghost use Rattle.iol_extent.specs.Extents.{ExtentMap};
+    ghost use Rattle.iol_extent.specs.Keys.{AreKeys, extent_at};
+
+    ghost Value = { ExtentMap };
+
+    ghost view = { λ p. record { extents = map (extent_at p.slab) p.keys.items; room = p.room } };
+
+    ghost invariant = { λ p. record {
+      keys : AreKeys p.slab p.keys.items;
+      slab_room : HasRoomFor p.slab p.room;
+      key_room : deque_len p.keys + p.room ≤ deque_capacity p.keys;
+    } };
+}
+
+impl Index<usize> for Pieces {
+    ghost use Rattle.std.specs.Prelude.{◌≡◌, ◌<◌, length, slice_index_or};
+
+    type Output = Piece;
+
+    ghost can_index = { λ p i. i < length p.extents };
+
+    ghost index_gives = { λ p i piece. piece ≡ slice_index_or p.extents i piece };
+
+    fn index(&self, place: usize) -> &Piece {
+        &self.slab[self.keys[place]]
+    }
+}
+
+impl Pieces {
+    /// No pieces.
+    pub(crate) fn new(alloc: Global) -> Pieces
+        ensures { result ≡ record { extents = []; room = 0 } }
+    {
+        Pieces {
+            slab: Slab::new(alloc),
+            keys: VecDeque::new(alloc),
+            room: 0,
+        }
+    }
+
+    /// Makes room for so many more. Where there is so much room, it is not refused; refused, it leaves the room that
+    /// there was.
+    pub(crate) fn reserve(&mut self, count: usize) -> Result<(), AllocError>
+        ensures room { OnOk result (count ≤ self.new.room) }
+        ensures same { self.new ≡ record self.old { room = self.new.room } }
+        ensures no_less { self.old.room ≤ self.new.room }
+        ensures needed { OnErr result (self.old.room < count) }
+        ensures err { OnErr result (self.new.room ≡ self.old.room) }
+    {
+        if count <= self.room {
+            return Ok(());
+        }
+        self.slab.reserve(count)?;
+        self.keys.reserve(count)?;
+        self.room = count;
+        Ok(())
+    }
+
+    pub(crate) fn len(&self) -> usize
+        ensures { result ≡ length self.now.extents }
+    {
+        self.keys.len()
+    }
+
+    /// Puts a piece in, in room that is there.
+    pub(crate) fn insert(&mut self, place: usize, piece: Piece)
+        requires place { place ≤ length self.old.extents }
+        requires room { 0 < self.old.room }
+        ensures extents { self.new.extents ≡ insert self.old.extents place piece }
+        ensures room { self.new.room ≡ self.old.room - 1 }
+        ensures few { length self.old.extents + 1 < 2 ^ 64 }
+    {
+        let key = self.slab.insert_reserved(piece);
+        put_key(&mut self.keys, place, key);
+        self.room -= 1;
+    }
+
+    /// Takes a piece out.
+    pub(crate) fn remove(&mut self, place: usize) -> Piece
+        requires { place < length self.old.extents }
+        ensures piece { result ≡ slice_index_or self.old.extents place result }
+        ensures extents { self.new.extents ≡ remove self.old.extents place }
+        ensures room { self.new.room ≡ self.old.room + 1 }
+    {
+        let key = take_key(&mut self.keys, place);
+        self.room += 1;
+        self.slab.remove(key)
+    }
+
+    /// A piece is clean then.
+    pub(crate) fn clean(&mut self, place: usize)
+        requires { place < length self.old.extents }
+        ensures extents { (d : Extent) → self.new.extents ≡
+            slice_set self.old.extents place (as_clean (slice_index_or self.old.extents place d)) }
+        ensures room { self.new.room ≡ self.old.room }
+    {
+        let key = self.keys[place];
+        clean_at(&mut self.slab, key);
+    }
+}
+
+// Puts a key in, in room that is there. Those on the shorter side of it move.
+fn put_key(keys: &mut VecDeque<usize>, place: usize, key: usize)
+    requires place { place ≤ deque_len keys.old }
+    requires room { deque_len keys.old < deque_capacity keys.old }
+    ensures items { keys.new.items ≡ insert keys.old.items place key }
+    ensures len { deque_len keys.new ≡ deque_len keys.old + 1 }
+    ensures capacity { deque_capacity keys.old ≤ deque_capacity keys.new }
+{
+    let _inserted = keys.insert(place, key);
+}
+
+// Takes a key out. Those on the shorter side of it move.
+fn take_key(keys: &mut VecDeque<usize>, place: usize) -> usize
+    requires { place < deque_len keys.old }
+    ensures key { result ≡ slice_index_or keys.old.items place result }
+    ensures items { keys.new.items ≡ remove keys.old.items place }
+    ensures len { deque_len keys.new + 1 ≡ deque_len keys.old }
+    ensures capacity { deque_capacity keys.new ≡ deque_capacity keys.old }
+{
+    match keys.remove(place) {
+        Some(key) => key,
+        None => unreachable!(),
+    }
+}
+
+// The piece at a key is clean then.
+fn clean_at(slab: &mut Slab<Piece>, key: usize)
+    requires { ContainsKey slab.old key }
+    ensures updates { Updates slab.old slab.new key (Some (as_clean (extent_at slab.old key))) }
+    ensures len { slab_len slab.new ≡ slab_len slab.old }
+    ensures capacity { slab.new.capacity ≡ slab.old.capacity }
+{
+    slab[key].dirty = false;
+}
+
+/// How many end at a place or before it.
+pub(crate) fn count_before(pieces: &Pieces, at: u32) -> usize
+    requires { IsApart 0 pieces.now.extents }
+    ensures within { result ≤ length pieces.now.extents }
+    ensures before { (k : ℕ) (d : Extent) → k < result →
+        end_of (slice_index_or pieces.now.extents k d) ≤ at }
+    ensures after { (d : Extent) → result < length pieces.now.extents →
+        at < end_of (slice_index_or pieces.now.extents result d) }
+{
+    let mut low = 0;
+    let mut high = pieces.len();
+    while low < high {
+        let middle = low + (high - low) / 2;
+        let piece = &pieces[middle];
+        if piece.end() <= at {
+            low = middle + 1;
+        } else {
+            high = middle;
+        }
+    }
+    low
+}

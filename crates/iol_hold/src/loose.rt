@@ -1,0 +1,78 @@
+//! Which pages of a pool can be had.
+ghost use Rattle.std.specs.Prelude.{◌≡◌, ◌↔◌, ◌<◌, ◌≤◌, [], ◌∷◌, length, flat_map, slice_index, true, IsTrue};
+ghost use Rattle.std.specs.List.{filter};
+ghost use Rattle.iol_core.specs.Numbered.{is_numbered};
+ghost use Rattle.iol_arena.specs.State.{chunk_count, page_count, entry_at};
+ghost use Rattle.iol_arena.specs.Chunks.{chunk_pages};
+ghost use Rattle.iol_hold.specs.Loose.{is_loose, is_spared, loose_pages};
+
+use crate::store::Store;
+use iol_core::limits::CHUNK_PAGES;
+use iol_core::numbers::{ChunkNo, PoolId};
+
+const CHUNK: u32 = CHUNK_PAGES as u32;
+
+// What stands at a place of a table, and 0 past its end.
+fn entry_or_none(table: &[u64], place: u32) -> u64
+    ensures { result ≡ slice_index table.now place }
+{
+    let place = place as usize;
+    if place < table.len() {
+        return table[place];
+    }
+    0
+}
+
+impl Store {
+    // Whether the buffer that begins at a page is held by those that are spared alone.
+    fn is_spared(&self, first: Option<u32>, spared: &[u64]) -> bool
+        ensures { result ≡ is_spared self.now spared.now first }
+    {
+        match first {
+            None => true,
+            Some(first) => entry_or_none(&self.counts, first) <= entry_or_none(spared, first),
+        }
+    }
+
+    // Whether a page can be had.
+    fn is_loose(&self, page: u32, spared: &[u64]) -> bool
+        requires { page < page_count self.now.arena }
+        ensures { result ≡ is_loose self.now spared.now page }
+    {
+        !self.arena.is_last(page) && self.is_spared(self.arena.first_on(page), spared)
+    }
+
+    // How many pages of a chunk can be had.
+    fn loose_in(&self, chunk: ChunkNo, spared: &[u64]) -> u32
+        requires { chunk < chunk_count self.now.arena }
+        ensures { result ≡ length (filter (is_loose self.now spared.now) (flat_map chunk_pages (chunk ∷ []))) }
+    {
+        // Tells how many pages there are.
+        let _pages = self.arena.page_count();
+        let mut count = 0;
+        for i in 0..CHUNK {
+            if self.is_loose(chunk.number() * CHUNK + i, spared) {
+                count += 1;
+            }
+        }
+        count
+    }
+
+    /// Whether so many pages of a pool can be had: they may be used, or would come free with the holds that `spared` counts for
+    /// each buffer, by the page at which it begins. It looks at pages one after another, as far as it must.
+    pub fn can_free(&self, p: PoolId, pages: u32, spared: &[u64]) -> bool
+        requires { is_numbered self.now.pools p ≡ true }
+        ensures { IsTrue result ↔ (pages ≤ length (loose_pages self.now spared.now p)) }
+    {
+        let chunks = self.pools.chunks(p).as_slice();
+        let mut left = pages;
+        for chunk in chunks {
+            let here = self.loose_in(*chunk, spared);
+            if left <= here {
+                return true;
+            }
+            left -= here;
+        }
+        left == 0
+    }
+}

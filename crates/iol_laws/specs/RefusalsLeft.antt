@@ -1,0 +1,209 @@
+-- Which refusals a call can still get, where the domain lives and what the call names is there and fits: a word for each set of
+-- them. And which calls may be told to wait.
+use Rattle.std.specs.Prelude.{◌≡◌, ◌≢◌, ℕ, ◌+◌, ◌≤◌, ◌<◌, Bool, true, false, List, ◌++◌, length, take, drop, Some, None, ⊤}
+use Rattle.std.specs.List.{list_all}
+use Rattle.iol_core.specs.State.{State, domain, descriptor, file, content, is_live, may_read, pool}
+use Rattle.iol_core.specs.Run.{StepsTo}
+use Rattle.iol_core.specs.Calls.Files.{file_called}
+use Rattle.iol_core.specs.Calls.Pools.{has_place, is_busy}
+use Rattle.iol_core.specs.Calls.Reading.{can_read, reads}
+use Rattle.iol_core.specs.Calls.Writing.{can_write, is_file, writes}
+use Rattle.iol_core.specs.declared.limits.TheConstants.{MAX_AGGREGATE_BYTES, MAX_CHUNKS, MAX_FILE_BYTES, MAX_NAME_BYTES}
+use Rattle.iol_core.specs.declared.descriptors.Descriptor.{Descriptor}
+use Rattle.iol_core.specs.declared.descriptors.Descriptor.TheVariants as on
+use Rattle.iol_core.specs.declared.descriptors.Mode.{Mode}
+use Rattle.iol_core.specs.declared.refusals.Refusal.{Refusal}
+use Rattle.iol_core.specs.declared.refusals.Refusal.TheVariants.{TooMany, Denied, PoolBusy, BrokenPipe, WouldBlock, NoRoom, Fault, Memory}
+use Rattle.iol_core.specs.declared.events.Call.{Call}
+use Rattle.iol_core.specs.declared.events.Call.TheVariants as call
+use Rattle.iol_core.specs.declared.events.Event.TheVariants as event
+use Rattle.iol_core.specs.declared.events.Reply.TheVariants as reply
+use Rattle.iol_laws.specs.Caller.{lent_at}
+
+-- the calls that may be told to wait
+abbrev pub may_wait : Call → Bool
+may_wait call.Accept = true
+may_wait (call.IolRead fd n) = true
+may_wait (call.IolWrite fd a) = true
+may_wait (call.Read fd n) = true
+may_wait (call.Write fd bytes) = true
+may_wait k = false
+
+-- want of numbers or of memory
+abbrev pub LacksNumbers : Refusal → Type 0
+LacksNumbers TooMany = ⊤
+LacksNumbers Memory = ⊤
+LacksNumbers x = ⊥
+
+-- or of room in this pool
+abbrev pub LacksNumbersOrRoom : (pool : ℕ) → Refusal → Type 0
+LacksNumbersOrRoom pool TooMany = ⊤
+LacksNumbersOrRoom pool (NoRoom p) = p ≡ pool
+LacksNumbersOrRoom pool Memory = ⊤
+LacksNumbersOrRoom pool x = ⊥
+
+-- or the receiver may not read it
+abbrev pub LacksNumbersOrIsDenied : Refusal → Type 0
+LacksNumbersOrIsDenied TooMany = ⊤
+LacksNumbersOrIsDenied (Denied p) = ⊤
+LacksNumbersOrIsDenied Memory = ⊤
+LacksNumbersOrIsDenied x = ⊥
+
+-- or nobody waits
+abbrev pub LacksNumbersOrWaits : Refusal → Type 0
+LacksNumbersOrWaits TooMany = ⊤
+LacksNumbersOrWaits WouldBlock = ⊤
+LacksNumbersOrWaits Memory = ⊤
+LacksNumbersOrWaits x = ⊥
+
+-- nothing is there to be read, or nothing that the domain may read; or want of memory
+abbrev pub HasNothingToRead : Refusal → Type 0
+HasNothingToRead (Denied p) = ⊤
+HasNothingToRead WouldBlock = ⊤
+HasNothingToRead Memory = ⊤
+HasNothingToRead x = ⊥
+
+-- or of a number for what is read
+abbrev pub LacksNumbersOrHasNothingToRead : Refusal → Type 0
+LacksNumbersOrHasNothingToRead TooMany = ⊤
+LacksNumbersOrHasNothingToRead x = HasNothingToRead x
+
+-- nobody takes it, or not now; or want of memory
+abbrev pub CannotPut : Refusal → Type 0
+CannotPut BrokenPipe = ⊤
+CannotPut WouldBlock = ⊤
+CannotPut Memory = ⊤
+CannotPut x = ⊥
+
+-- or of room in this pool
+abbrev pub CannotPutOrLacksRoom : (pool : ℕ) → Refusal → Type 0
+CannotPutOrLacksRoom pool (NoRoom p) = p ≡ pool
+CannotPutOrLacksRoom pool x = CannotPut x
+
+-- a fault at this file, or want of memory or of room in its pool
+abbrev pub CannotLoad : (pool file : ℕ) → Refusal → Type 0
+CannotLoad pool file (NoRoom p) = p ≡ pool
+CannotLoad pool file (Fault f) = f ≡ file
+CannotLoad pool file Memory = ⊤
+CannotLoad pool file x = ⊥
+
+-- or of a number for what is read
+abbrev pub CannotFetch : (pool file : ℕ) → Refusal → Type 0
+CannotFetch pool file TooMany = ⊤
+CannotFetch pool file x = CannotLoad pool file x
+
+-- want of memory or of room in this pool
+abbrev pub LacksRoom : (pool : ℕ) → Refusal → Type 0
+LacksRoom pool (NoRoom p) = p ≡ pool
+LacksRoom pool Memory = ⊤
+LacksRoom pool x = ⊥
+
+-- the pool is that of a file or of a live connection
+abbrev pub IsInUse : State → (p : ℕ) → Refusal → Type 0
+IsInUse s p (PoolBusy q) = (q ≡ p) × (is_busy s p ≡ true)
+IsInUse s p x = ⊥
+
+-- the pool's list is full, and has not the domain's name
+abbrev pub HasNoPlace : State → (p d : ℕ) → Refusal → Type 0
+HasNoPlace s p d TooMany = has_place (pool s p).domains d ≡ false
+HasNoPlace s p d x = ⊥
+
+pub record RefusalsThatAreLeft : Type 0 where
+  pub waits : (s t : State) (d : ℕ) (k : Call) → StepsTo s (event.Call d k) (reply.Refused WouldBlock) t → may_wait k ≡ true
+  pub domain_new : (s t : State) (d : ℕ) (x : Refusal) → is_live s d ≡ true
+      → StepsTo s (event.Call d call.DomainNew) (reply.Refused x) t → LacksNumbers x
+  -- the domain has a default pool, which is open
+  pub make : (s t : State) (d p : ℕ) (bytes : List ℕ) (x : Refusal) → is_live s d ≡ true → (domain s d).default ≡ Some p
+      → (pool s p).closed ≡ false → length bytes ≤ MAX_AGGREGATE_BYTES
+      → StepsTo s (event.Call d (call.AggMake bytes)) (reply.Refused x) t → LacksNumbersOrRoom p x
+  pub dup : (s t : State) (d a : ℕ) (bytes : List ℕ) (x : Refusal) → is_live s d ≡ true → lent_at s d a ≡ Some bytes
+      → StepsTo s (event.Call d (call.AggDup a)) (reply.Refused x) t → LacksNumbers x
+  pub cut : (s t : State) (d a from to : ℕ) (bytes : List ℕ) (x : Refusal) → is_live s d ≡ true → lent_at s d a ≡ Some bytes
+      → from ≤ to → to ≤ length bytes → StepsTo s (event.Call d (call.AggCut a from to)) (reply.Refused x) t → LacksNumbers x
+  pub split : (s t : State) (d a at : ℕ) (bytes : List ℕ) (x : Refusal) → is_live s d ≡ true → lent_at s d a ≡ Some bytes
+      → at ≤ length bytes → StepsTo s (event.Call d (call.AggSplit a at)) (reply.Refused x) t → LacksNumbers x
+  pub join : (s t : State) (d a b : ℕ) (xs ys : List ℕ) (x : Refusal) → is_live s d ≡ true → lent_at s d a ≡ Some xs
+      → lent_at s d b ≡ Some ys → a ≢ b → length xs + length ys ≤ MAX_AGGREGATE_BYTES
+      → StepsTo s (event.Call d (call.AggJoin a b)) (reply.Refused x) t → LacksNumbers x
+  pub shows : (s t : State) (d a : ℕ) (bytes : List ℕ) (x : Refusal) → is_live s d ≡ true → lent_at s d a ≡ Some bytes
+      → StepsTo s (event.Call d (call.Show a)) (reply.Refused x) t → x ≡ Memory
+  pub gives_agg : (s t : State) (d a to : ℕ) (bytes : List ℕ) (x : Refusal) → is_live s d ≡ true → is_live s to ≡ true
+      → lent_at s d a ≡ Some bytes → StepsTo s (event.Call d (call.AggGive a to)) (reply.Refused x) t
+      → LacksNumbersOrIsDenied x
+  pub pipe : (s t : State) (d : ℕ) (x : Refusal) → is_live s d ≡ true
+      → StepsTo s (event.Call d call.Pipe) (reply.Refused x) t → LacksNumbers x
+  pub gives_fd : (s t : State) (d fd to : ℕ) (y : Descriptor) (x : Refusal) → is_live s d ≡ true → is_live s to ≡ true
+      → descriptor s d fd ≡ Some y → StepsTo s (event.Call d (call.GiveFd fd to)) (reply.Refused x) t
+      → LacksNumbersOrIsDenied x
+  pub accepts : (s t : State) (d : ℕ) (x : Refusal) → is_live s d ≡ true
+      → StepsTo s (event.Call d call.Accept) (reply.Refused x) t → LacksNumbersOrWaits x
+  -- of a pipe's read end or a connection
+  pub reads_queue : (s t : State) (d fd n : ℕ) (y : Descriptor) (x : Refusal) → is_live s d ≡ true
+      → descriptor s d fd ≡ Some y → is_file (Some y) ≡ false → can_read (Some y) ≡ true
+      → StepsTo s (event.Call d (call.IolRead fd n)) (reply.Refused x) t → LacksNumbersOrHasNothingToRead x
+  pub copies_queue : (s t : State) (d fd n : ℕ) (y : Descriptor) (x : Refusal) → is_live s d ≡ true
+      → descriptor s d fd ≡ Some y → is_file (Some y) ≡ false → can_read (Some y) ≡ true
+      → StepsTo s (event.Call d (call.Read fd n)) (reply.Refused x) t → HasNothingToRead x
+  -- to a pipe's write end or a connection
+  pub writes_queue : (s t : State) (d fd a : ℕ) (y : Descriptor) (bytes : List ℕ) (x : Refusal) → is_live s d ≡ true
+      → descriptor s d fd ≡ Some y → is_file (Some y) ≡ false → can_write (Some y) ≡ true → lent_at s d a ≡ Some bytes
+      → StepsTo s (event.Call d (call.IolWrite fd a)) (reply.Refused x) t → CannotPut x
+  pub copies_to_queue : (s t : State) (d fd p : ℕ) (y : Descriptor) (bytes : List ℕ) (x : Refusal) → is_live s d ≡ true
+      → descriptor s d fd ≡ Some y → is_file (Some y) ≡ false → can_write (Some y) ≡ true → (domain s d).default ≡ Some p
+      → (pool s p).closed ≡ false → StepsTo s (event.Call d (call.Write fd bytes)) (reply.Refused x) t
+      → CannotPutOrLacksRoom p x
+  -- of a file whose pool the domain may read
+  pub reads_file : (s t : State) (d fd f at n : ℕ) (mode : Mode) (x : Refusal) → is_live s d ≡ true
+      → descriptor s d fd ≡ Some (on.File f at mode) → reads mode ≡ true → may_read s d (file s f).pool ≡ true
+      → StepsTo s (event.Call d (call.IolRead fd n)) (reply.Refused x) t → CannotFetch (file s f).pool f x
+  pub copies_file : (s t : State) (d fd f at n : ℕ) (mode : Mode) (x : Refusal) → is_live s d ≡ true
+      → descriptor s d fd ≡ Some (on.File f at mode) → reads mode ≡ true → may_read s d (file s f).pool ≡ true
+      → StepsTo s (event.Call d (call.Read fd n)) (reply.Refused x) t → CannotLoad (file s f).pool f x
+  -- to a file, which stays within its limit
+  pub writes_file : (s t : State) (d fd f at a : ℕ) (mode : Mode) (bytes : List ℕ) (x : Refusal) → is_live s d ≡ true
+      → descriptor s d fd ≡ Some (on.File f at mode) → writes mode ≡ true → lent_at s d a ≡ Some bytes
+      → at + length bytes ≤ MAX_FILE_BYTES → StepsTo s (event.Call d (call.IolWrite fd a)) (reply.Refused x) t
+      → LacksRoom (file s f).pool x
+  pub copies_to_file : (s t : State) (d fd f at : ℕ) (mode : Mode) (bytes : List ℕ) (x : Refusal) → is_live s d ≡ true
+      → descriptor s d fd ≡ Some (on.File f at mode) → writes mode ≡ true → at + length bytes ≤ MAX_FILE_BYTES
+      → StepsTo s (event.Call d (call.Write fd bytes)) (reply.Refused x) t → LacksRoom (file s f).pool x
+  -- a name that no file has yet, for a slot whose bytes are within the limit
+  pub file_new : (s t : State) (d p : ℕ) (name : List ℕ) (x : Refusal) → is_live s d ≡ true → file_called s name ≡ None
+      → 0 < length name → length name ≤ MAX_NAME_BYTES → length (content s (length s.files + 1)) ≤ MAX_FILE_BYTES
+      → may_read s d p ≡ true → (pool s p).closed ≡ false
+      → StepsTo s (event.Call d (call.FileNew name p)) (reply.Refused x) t → LacksNumbers x
+  pub open_file : (s t : State) (d f : ℕ) (name : List ℕ) (mode : Mode) (x : Refusal) → is_live s d ≡ true
+      → file_called s name ≡ Some f → may_read s d (file s f).pool ≡ true
+      → StepsTo s (event.Call d (call.OpenFile name mode)) (reply.Refused x) t → LacksNumbers x
+  pub syncs : (s t : State) (d fd f at : ℕ) (mode : Mode) (x : Refusal) → is_live s d ≡ true
+      → descriptor s d fd ≡ Some (on.File f at mode) → StepsTo s (event.Call d (call.Fsync fd)) (reply.Refused x) t
+      → x ≡ Fault f
+  pub replace : (s t : State) (d a from to b : ℕ) (xs ys : List ℕ) (x : Refusal) → is_live s d ≡ true
+      → lent_at s d a ≡ Some xs → lent_at s d b ≡ Some ys → from ≤ to → to ≤ length xs
+      → length (take from xs ++ ys ++ drop to xs) ≤ MAX_AGGREGATE_BYTES
+      → StepsTo s (event.Call d (call.AggReplace a from to b)) (reply.Refused x) t → LacksNumbers x
+  -- for domains that live; TooMany also where these are more than a list may name
+  pub pool_create : (s t : State) (d chunks : ℕ) (list : List ℕ) (x : Refusal) → is_live s d ≡ true
+      → list_all (λ e. is_live s e) list ≡ true → 0 < length list → 0 < chunks → chunks ≤ MAX_CHUNKS
+      → StepsTo s (event.Call d (call.PoolCreate chunks list)) (reply.Refused x) t
+      → LacksNumbersOrRoom (length s.pools + 1) x
+  -- an open pool that the domain may read
+  pub pool_close : (s t : State) (d p : ℕ) (x : Refusal) → is_live s d ≡ true → may_read s d p ≡ true
+      → (pool s p).closed ≡ false → StepsTo s (event.Call d (call.PoolClose p)) (reply.Refused x) t → IsInUse s p x
+  pub pool_admit : (s t : State) (d p e : ℕ) (x : Refusal) → is_live s d ≡ true → is_live s e ≡ true
+      → may_read s d p ≡ true → (pool s p).closed ≡ false
+      → StepsTo s (event.Call d (call.PoolAdmit p e)) (reply.Refused x) t → HasNoPlace s p e x
+  -- and these are never refused
+  pub set_pool : (s t : State) (d p : ℕ) (x : Refusal) → is_live s d ≡ true → may_read s d p ≡ true
+      → (pool s p).closed ≡ false → StepsTo s (event.Call d (call.SetPool p)) (reply.Refused x) t → ⊥
+  pub seeks : (s t : State) (d fd f was at : ℕ) (mode : Mode) (x : Refusal) → is_live s d ≡ true
+      → descriptor s d fd ≡ Some (on.File f was mode) → at ≤ length (content s f)
+      → StepsTo s (event.Call d (call.Seek fd at)) (reply.Refused x) t → ⊥
+  pub measures : (s t : State) (d fd f at : ℕ) (mode : Mode) (x : Refusal) → is_live s d ≡ true
+      → descriptor s d fd ≡ Some (on.File f at mode) → StepsTo s (event.Call d (call.Length fd)) (reply.Refused x) t → ⊥
+  pub closes : (s t : State) (d fd : ℕ) (y : Descriptor) (x : Refusal) → is_live s d ≡ true → descriptor s d fd ≡ Some y
+      → StepsTo s (event.Call d (call.Close fd)) (reply.Refused x) t → ⊥
+  pub drops : (s t : State) (d a : ℕ) (bytes : List ℕ) (x : Refusal) → is_live s d ≡ true → lent_at s d a ≡ Some bytes
+      → StepsTo s (event.Call d (call.AggDrop a)) (reply.Refused x) t → ⊥
+  pub exits : (s t : State) (d : ℕ) (x : Refusal) → is_live s d ≡ true
+      → StepsTo s (event.Call d call.Exit) (reply.Refused x) t → ⊥

@@ -1,0 +1,162 @@
+-- An event that is refused for want of room evicts nothing.
+use Rattle.std.proofs.Common.{inl, inr, ◌≡◌, ◌∙◌, ℕ, ◌<◌, ◌≤◌, Bool, true, false, cond, List, [], ◌∷◌, length, Option, Some, None, refl, sym, ap, arith}
+use Rattle.std.proofs.lemmas.Bool.{cases_eq, cases_lt}
+use Rattle.iol_core.specs.declared.descriptors.Descriptor.{Descriptor}
+use Rattle.iol_core.specs.declared.descriptors.Descriptor.TheVariants as on
+use Rattle.iol_core.specs.declared.events.Call.{Call}
+use Rattle.iol_core.specs.declared.events.Call.TheVariants as call
+use Rattle.iol_core.specs.declared.events.Event.{Event}
+use Rattle.iol_core.specs.declared.events.Event.TheVariants as event
+use Rattle.iol_core.specs.declared.events.Reply.TheVariants as reply
+use Rattle.iol_core.specs.declared.refusals.Refusal.{Refusal}
+use Rattle.iol_core.specs.declared.refusals.Refusal.TheVariants.{Memory, NoRoom}
+use Rattle.iol_back.specs.Disk.{Disk}
+use Rattle.iol_evict.specs.Ranking.{Ranking, hit_at}
+use Rattle.iol_extent.specs.Extents.{Extent, extent_over}
+use Rattle.iol_extent.specs.declared.spans.Span.{Span}
+use Rattle.iol_hold.specs.declared.slices.Slice.{Slice}
+use Rattle.iol_cache.specs.Cached.{Cached, extents_in, file_in, order_in, with_order}
+use Rattle.iol_cache.specs.Evicting.{Holding}
+use Rattle.iol_cache.specs.Going.{CountsHits}
+use Rattle.iol_cache.specs.Reading.{SameButRoom, hit_counted, hits_counted}
+use Rattle.iol_cache.specs.Serving.{LeavesRange}
+use Rattle.iol_cache.proofs.Filing.{length-with_order, order_nowhere, order_other}
+use Rattle.iol_cache.proofs.Roomy.{order_low}
+use Rattle.iol_kernel.specs.FileReading.{FileRead, LeavesAtRefusal, file_read}
+use Rattle.iol_kernel.specs.KernelState.{KernelState}
+use Rattle.iol_kernel.specs.MakingRoom.{MayHaveEvicted}
+use Rattle.iol_kernel.specs.WritingFiles.{LeavesUnlaid, LeavesUnwritten}
+use Rattle.iol_system.specs.Asking.{uses_cache}
+use Rattle.iol_system.specs.Late.{CallLeaves, CopyLeaves, LeavesLate, PutLeaves, ReadLeaves, WriteLeaves}
+use Rattle.iol_system.specs.Laws.{EvictsNothing, NoRoomEvictsNothing}
+use Rattle.iol_system.specs.Machine.{SystemState, tables_of}
+use Rattle.iol_system.specs.Room.{CallLacksRoom, LacksRoomFor, LacksRoomToRead, LacksRoomToWrite}
+
+-- Of what memory has of files.
+
+same_cache : (a b : Cached) → b ≡ a → EvictsNothing a b
+same_cache a b is = record { extents = λ f. ap (λ (c : Cached). extents_in c.files f) is; low = λ p. ap (λ (c : Cached). (order_in c.orders p).low) is }
+
+same_kernel : (h k : KernelState) → k ≡ h → EvictsNothing h.cache k.cache
+same_kernel h k is = same_cache h.cache k.cache (ap (λ (x : KernelState). x.cache) is)
+
+only_reserved : (a b : Cached) → SameButRoom a b → EvictsNothing a b
+only_reserved a b x = record { extents = x.extents; low = x.low }
+
+and_then : (a b c : Cached) → EvictsNothing a b → EvictsNothing b c → EvictsNothing a c
+and_then a b c x y = record { extents = λ f. y.extents f ∙ x.extents f; low = λ p. y.low p ∙ x.low p }
+
+-- Hits leave L.
+
+hits_low : (r : Ranking) (f : ℕ) (es : List Extent) (ss : List Span) → (hits_counted r f es ss).low ≡ r.low
+hits_low r f es [] = refl
+hits_low r f es (s ∷ ss) = hits_low (hit_counted r f (extent_over es s.from)) f es ss ∙ one (extent_over es s.from)
+  where
+    dirty : (d : Bool) (at : ℕ) → (cond d r (hit_at r f at)).low ≡ r.low
+    dirty true at = refl
+    dirty false at = refl
+
+    one : (o : Option Extent) → (hit_counted r f o).low ≡ r.low
+    one None = refl
+    one (Some e) = dirty e.dirty e.at
+
+-- also where there is no such pool
+low_stays : (os : List Ranking) (p : ℕ) (r : Ranking) (q : ℕ) → r.low ≡ (order_in os p).low → (order_in (with_order os p r) q).low ≡ (order_in os q).low
+low_stays os p r q e = elim (cases_lt 0 p) [
+  | inl some ↦ elim (cases_lt (length os) p) [
+    | inl past ↦ nowhere (λ k. past)
+    | inr within ↦ order_low os p r q (some, within) e
+  ]
+  | inr none ↦ nowhere (λ k. absurd (omega (arith, k, none)))
+]
+  where
+    nowhere : (0 < p → length os < p) → (order_in (with_order os p r) q).low ≡ (order_in os q).low
+    nowhere out = elim (cases_eq q p) [
+      | inl here ↦ ap (λ n. (order_in (with_order os p r) n).low) here
+          ∙ ap (λ (x : Ranking). x.low) (order_nowhere (with_order os p r) p (λ k. omega (arith, out k, length-with_order os p r)) ∙ sym (order_nowhere os p out))
+          ∙ ap (λ n. (order_in os n).low) (sym here)
+      | inr ne ↦ ap (λ (x : Ranking). x.low) (order_other os p q r ne)
+    ]
+
+only_counted : (f : ℕ) (hits : List Span) (a b : Cached) → CountsHits f hits a b → EvictsNothing a b
+only_counted f hits a b x = record {
+  extents = λ g. ap (λ fs. extents_in fs g) x.files;
+  low = λ q. (let p = (file_in a.files f).pool in
+      ap (λ os. (order_in os q).low) x.orders ∙ low_stays a.orders p (hits_counted (order_in a.orders p) f (extents_in a.files f) hits) q (hits_low (order_in a.orders p) f (extents_in a.files f) hits));
+}
+
+-- Refusals for want of room, by what they left.
+
+range_left : (f from to p : ℕ) (old new : Holding) → LeavesRange f from to old new (NoRoom p) → EvictsNothing old.cache new.cache
+range_left f from to p old new (inl (is, x)) = absurd (let e : ◌≡◌ {A = Refusal} (NoRoom p) Memory = is in cc)
+range_left f from to p old new (inr x) =
+    let a = x.pinned in
+    let last : new.cache ≡ x.hit.cache = x.undone.cache ∙ ap (λ (h : Holding). h.cache) (x.undone.kept p refl) in
+    and_then old.cache a.reserved new.cache (only_reserved old.cache a.reserved a.rooms) (and_then a.reserved x.hit.cache new.cache (only_counted f a.hits a.reserved x.hit.cache a.counted) (same_cache x.hit.cache new.cache last))
+
+read_left : (x : FileRead) (disk after : Disk) (p : ℕ) (h k : KernelState) → LeavesAtRefusal x disk h after k (NoRoom p) → EvictsNothing h.cache k.cache
+read_left x disk after p h k (inl early) = absurd early.0
+read_left x disk after p h k (inr late) = range_left x.file late.1.range.from late.1.range.to p (record { store = h.store; cache = h.cache }) (record { store = k.store; cache = k.cache }) late.1.leaves
+
+room_left : (pool n p : ℕ) (h k : KernelState) → MayHaveEvicted pool n h k (NoRoom p) → EvictsNothing h.cache k.cache
+room_left pool n p h k (inl same) = same_kernel h k same
+room_left pool n p h k (inr late) = absurd (let e : ◌≡◌ {A = Refusal} (NoRoom p) Memory = late.0 in cc)
+
+write_left : (f p : ℕ) (xs : List Slice) (h k : KernelState) → LeavesUnwritten f xs h k (NoRoom p) → EvictsNothing h.cache k.cache
+write_left f p xs h k (inl same) = same_kernel h k same
+write_left f p xs h k (inr late) = only_reserved h.cache k.cache (late.2 p refl).same
+
+put_left : (pool p : ℕ) (bytes : List ℕ) (h k : KernelState) → LeavesUnlaid pool bytes h k (NoRoom p) → EvictsNothing h.cache k.cache
+put_left pool p bytes h k (inl same) = same_kernel h k same
+put_left pool p bytes h k (inr late) = absurd (let e : ◌≡◌ {A = Refusal} (NoRoom p) Memory = late.0 in cc)
+
+-- By what a descriptor is open on.
+
+module _ (old new : SystemState) (p : ℕ) where
+  abbrev Kept : Type 0
+  Kept = EvictsNothing old.kernel.cache new.kernel.cache
+
+  read_on : (by fd n : ℕ) (o : Option Descriptor) → ReadLeaves by fd n old o (reply.Refused (NoRoom p)) new → LacksRoomToRead old o n → Kept
+  read_on by fd n None late lacks = absurd lacks
+  read_on by fd n (Some (on.ReadEnd q)) late lacks = absurd lacks
+  read_on by fd n (Some (on.WriteEnd q)) late lacks = absurd lacks
+  read_on by fd n (Some (on.Connection q)) late lacks = absurd lacks
+  read_on by fd n (Some (on.File f at mode)) late lacks = read_left (file_read by fd f at mode n) old.disk new.disk p old.kernel new.kernel late.1
+
+  copy_on : (by fd n : ℕ) (o : Option Descriptor) → CopyLeaves by fd n old o (reply.Refused (NoRoom p)) new → LacksRoomToRead old o n → Kept
+  copy_on by fd n None late lacks = absurd lacks
+  copy_on by fd n (Some (on.ReadEnd q)) late lacks = absurd lacks
+  copy_on by fd n (Some (on.WriteEnd q)) late lacks = absurd lacks
+  copy_on by fd n (Some (on.Connection q)) late lacks = absurd lacks
+  copy_on by fd n (Some (on.File f at mode)) late lacks = read_left (file_read by fd f at mode n) old.disk new.disk p old.kernel (record new.kernel { store = late.mid }) late.leaves
+
+  write_on : (xs : List Slice) (o : Option Descriptor) → WriteLeaves old.kernel o xs (reply.Refused (NoRoom p)) new.kernel → LacksRoomToWrite old.kernel o xs → Kept
+  write_on xs None late lacks = absurd lacks
+  write_on xs (Some (on.ReadEnd q)) late lacks = absurd lacks
+  write_on xs (Some (on.WriteEnd q)) late lacks = absurd lacks
+  write_on xs (Some (on.Connection q)) late lacks = absurd lacks
+  write_on xs (Some (on.File f at mode)) late lacks = write_left f p xs old.kernel new.kernel late.1
+
+  put_on : (pool n : ℕ) (bytes : List ℕ) (o : Option Descriptor) → PutLeaves pool n bytes old.kernel o (reply.Refused (NoRoom p)) new.kernel → Kept
+  put_on pool n bytes None late = room_left pool n p old.kernel new.kernel late
+  put_on pool n bytes (Some (on.ReadEnd q)) late = room_left pool n p old.kernel new.kernel late
+  put_on pool n bytes (Some (on.WriteEnd q)) late = room_left pool n p old.kernel new.kernel late
+  put_on pool n bytes (Some (on.Connection q)) late = room_left pool n p old.kernel new.kernel late
+  put_on pool n bytes (Some (on.File f at mode)) late = put_left pool p bytes old.kernel new.kernel late
+
+  call_left : (by : ℕ) (c : Call) → CallLeaves old by c (reply.Refused (NoRoom p)) new → CallLacksRoom old by c → (uses_cache (tables_of old.kernel) (event.Call by c) ≡ false → new ≡ old) → Kept
+  call_left by (call.AggMake bytes) late lacks unused = room_left _ _ p old.kernel new.kernel late
+  call_left by (call.PoolCreate chunks list) late lacks unused = same_kernel old.kernel new.kernel (ap (λ (s : SystemState). s.kernel) (unused refl))
+  call_left by (call.IolRead fd n) late lacks unused = read_on by fd n _ late lacks
+  call_left by (call.IolWrite fd a) late lacks unused = write_on _ _ late lacks
+  call_left by (call.Read fd n) late lacks unused = copy_on by fd n _ late lacks
+  call_left by (call.Write fd bytes) late lacks unused = put_on _ _ bytes _ late
+  call_left by c late lacks unused = absurd lacks
+
+  event_left : (e : Event) → LeavesLate old e (reply.Refused (NoRoom p)) new → LacksRoomFor old e → (uses_cache (tables_of old.kernel) e ≡ false → new ≡ old) → Kept
+  event_left (event.Call by c) late lacks unused = call_left by c late lacks unused
+  event_left (event.Arrive c bytes) late lacks unused = room_left _ _ p old.kernel new.kernel late
+  event_left e late lacks unused = absurd lacks
+
+pub no_room_evicts : NoRoomEvictsNothing
+no_room_evicts old new e p x = event_left old new p e x.late (x.no_room tt) (λ unused. x.refused unused tt)
