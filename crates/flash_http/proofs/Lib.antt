@@ -8,4 +8,5 @@ pub mod OneAnswer
 pub mod ServedRequests
 pub mod StatusTexts
 pub mod ChunkLines
+pub mod SelectionLaws
 pub mod Examples

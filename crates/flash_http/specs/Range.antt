@@ -66,3 +66,7 @@ abbrev pub LiesWithin : (len : ℕ) → Selection → Type 0
 LiesWithin len Whole = ⊤
 LiesWithin len (Bytes first last) = (first ≤ last) × (last < len)
 LiesWithin len Unsatisfiable = ⊤
+
+-- whatever part is asked for, and of whatever file
+abbrev pub SelectionsLieWithin : Type 0
+SelectionsLieWithin = (part : Option Part) (len : ℕ) → LiesWithin len (selected part len)

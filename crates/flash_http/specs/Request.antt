@@ -137,3 +137,7 @@ NamesArePlain = (head : List ℕ) (w : Wanted) → IsAnswerTo head (serve w) →
 -- whatever the head, a connection on which no chunks may be sent closes
 abbrev pub ClosesWithoutChunks : Type 0
 ClosesWithoutChunks = (head : List ℕ) (w : Wanted) → IsAnswerTo head (serve w) → w.chunked ≡ false → w.keep ≡ false
+
+-- whatever the head, HEAD asks for all of the file
+abbrev pub HeadsHaveNoRange : Type 0
+HeadsHaveNoRange = (head : List ℕ) (w : Wanted) → IsAnswerTo head (serve w) → w.head_only ≡ true → w.range ≡ None

@@ -70,3 +70,7 @@ FitsIn count (Head skip len) = (0 < len) × (skip + len ≤ count) × (skip + le
 -- what has come settles the window, unless it is to wait for more
 abbrev pub WindowsStay : Type 0
 WindowsStay = (stream more : List ℕ) → window_in stream ≢ Wait → window_in (stream ++ more) ≡ window_in stream
+
+-- a window that is found has bytes, and lies within the stream
+abbrev pub WindowsFit : Type 0
+WindowsFit = (stream : List ℕ) → FitsIn (length stream) (window_in stream)

@@ -148,9 +148,10 @@ pub fn one_answer()
     ensures { spec.OneAnswer }
 {}
 
-/// What is served, whatever the head: its name is plain, and where no chunks may be sent the connection closes. A law:
-/// the call does nothing.
+/// What is served, whatever the head: its name is plain, where no chunks may be sent the connection closes, and HEAD has
+/// no range. A law: the call does nothing.
 pub fn served_requests()
     ensures names { spec.NamesArePlain }
     ensures closes { spec.ClosesWithoutChunks }
+    ensures ranges { spec.HeadsHaveNoRange }
 {}

@@ -141,3 +141,8 @@ pub fn select(part: Option<Part>, len: u64) -> Selection
         },
     }
 }
+
+/// What is sent lies in the file, and there is some. A law: the call does nothing.
+pub fn selections_lie_within()
+    ensures { spec.SelectionsLieWithin }
+{}

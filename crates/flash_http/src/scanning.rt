@@ -1,7 +1,7 @@
 //! Where the next head of a stream lies.
 ghost use Rattle.std.specs.Prelude.{◌≡◌, ◌<◌, ◌+◌, ◌∷◌, [], IfSome, IfNone, length};
 ghost use Rattle.std.specs.List.{concat};
-ghost use Rattle.flash_http.specs.Window.{window_in, FitsIn, WindowsStay};
+ghost use Rattle.flash_http.specs.Window.{window_in, FitsIn, WindowsStay, WindowsFit};
 ghost use Rattle.flash_http.specs.Scan.{next_line, searched, Finds, GoesOn};
 
 use crate::windows::{MAX_HEAD_BYTES, Window};
@@ -134,4 +134,9 @@ pub fn window(parts: Parts<'_>) -> Window
 /// What has come of a stream settles its window, unless it is to wait for more. A law: the call does nothing.
 pub fn window_stays()
     ensures { WindowsStay }
+{}
+
+/// A head lies within the stream and the limit. A law: the call does nothing.
+pub fn window_fits()
+    ensures { WindowsFit }
 {}

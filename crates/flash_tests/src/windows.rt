@@ -2,12 +2,11 @@
 ghost use Rattle.std.specs.Prelude.{[]};
 ghost use Rattle.iol_hold.specs.Moves.{Moves};
 ghost use Rattle.iol_hold.specs.Texts.{bufs_of, AllReadable};
-ghost use Rattle.iol_agg.specs.Held.{IsHeldBy};
 
 use flash_http::{Window, window, window_of};
 use iol_agg::Agg;
 use iol_core::configuration::Config;
-use iol_core::limits::MAX_AGGREGATE_BYTES;
+use iol_core::limits::{MAX_AGGREGATE_BYTES, MAX_POOLS};
 use iol_core::numbers::{DomainId, PoolId};
 use iol_hold::Store;
 use iol_pool::names::Names;
@@ -77,19 +76,21 @@ fn streams(rt: HostRuntime) -> Result<(), Fail> {
     Ok(())
 }
 
-// A store of a chunk, and a pool that has it.
-fn start<R: Abort>(rt: &R, alloc: Global) -> (Store, PoolId)
-    ensures { IsHeldBy result.0 [] }
-{
+// A store of a chunk.
+fn new_store<R: Abort>(rt: &R, alloc: Global) -> Store {
     let config = Config {
         chunks: 1,
         gen_limit: u32::MAX,
         sums: 1,
     };
-    let mut store = Store::new(alloc, config).expect(rt, "memory");
+    Store::new(alloc, config).expect(rt, "memory")
+}
+
+// A pool of a chunk.
+fn add_pool<R: Abort>(rt: &R, alloc: Global, store: &mut Store) -> PoolId {
+    assert!(rt; store.pools().len() < MAX_POOLS);
     let names = Names::of(&[DomainId::new(1)]).expect(rt, "a domain");
-    let pool = store.create_pool(alloc, 1, names).expect(rt, "room");
-    (store, pool)
+    store.create_pool(alloc, 1, names).expect(rt, "room")
 }
 
 // New bytes of the pool.
@@ -126,8 +127,9 @@ fn window_in_store<R: Abort>(
 #[test]
 fn stored_stream(rt: HostRuntime) -> Result<(), Fail> {
     let alloc = rt.alloc();
-    let (mut store, pool) = start(&rt, alloc);
     let text = stream_of(alloc, "\r\n", 8190)?;
+    let mut store = new_store(&rt, alloc);
+    let pool = add_pool(&rt, alloc, &mut store);
     let found = window_in_store(&rt, alloc, &mut store, pool, text.as_bytes());
     assert!(rt; found == Window::Head { skip: 2, len: 8190 });
     Ok(())

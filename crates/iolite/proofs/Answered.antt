@@ -1,27 +1,194 @@
 -- The answers to a script's lines go on by one.
-use Rattle.std.proofs.Common.{◌≡◌, ◌∙◌, ℕ, List, [], ◌∷◌, ◌++◌, refl, sym, ap, subst, append_assoc}
+use Rattle.std.proofs.Common.{◌≡◌, ◌∙◌, inl, inr, true, false, ℕ, List, [], ◌∷◌, ◌++◌, All, Result, Ok, Err, IfErr, OnOk, IfSome, refl, sym, ap, subst, append_assoc, arith}
+use Rattle.std.specs.Io.KnownBytes.{Appends, Keeps}
+use Rattle.std.specs.declared.option.Option.{Option}
+use Rattle.std.proofs.lemmas.List.{append-nil}
+use Rattle.std.proofs.lemmas.List.Concat.{flat_map-append}
+use Rattle.std.proofs.lemmas.List.Elements.{All-head, All-tail}
+use Rattle.std.proofs.lemmas.Option.{IfSome_then}
 use Rattle.iol_system.specs.Machine.{SystemState}
+use Rattle.iolite.specs.declared.failure.Failure.{Failure}
+use Rattle.iolite.specs.declared.failure.Failure.TheVariants.{BadLine, BadScript, Input, Memory, Output}
 use Rattle.iolite.specs.declared.script.Line.{Line}
 use Rattle.iolite.specs.declared.replay.Answer.{Answer}
-use Rattle.iolite.specs.Answers.{IsAnswer, AreAnswers, Answered, Replayed}
-use Rattle.iolite.specs.Printed.{lines_of}
-use Rattle.iolite.specs.Script.{Says, commands}
 use Rattle.iolite.specs.declared.setup.Setup.{Setup}
-use Rattle.std.specs.Io.KnownBytes.{Appends}
-use Rattle.std.specs.Prelude.{Result, Ok, Err, OnOk, IfSome, Option}
-use Rattle.std.proofs.lemmas.Option.{IfSome_then}
+use Rattle.iolite.specs.Answers.{Answering, AnswersLine, AreAnswers, Begun, EndsWithin, IsAnswer, IsNew, Replayed, WritesTo}
+use Rattle.iolite.specs.Failure.{IsBadLine, IsOfAnswers, IsOfInput, IsOfLines, status_of}
+use Rattle.iolite.specs.Printed.{answer_text, lines_of, newline}
+use Rattle.iolite.specs.Script.{AskInOrder, AsksSomething, HasBadLine, IsBadScript, IsJudged, IsScriptText, asking, commands, is_asking, lines, without_blank}
+use Rattle.iolite.proofs.Appending.{Appends-kept, Appends-more, Appends-none}
+use Rattle.iolite.proofs.Said.{AskInOrder-push, commands-append, is_asking-no, is_asking-yes}
 
--- what is taken from the front of the rest has been given
-pub lines_after : {A : Type 0} (given : List A) (x : A) (rest after all : List A) → rest ≡ x ∷ after → given ++ rest ≡ all → (given ++ x ∷ []) ++ after ≡ all
-lines_after given x rest after all front e = append_assoc given (x ∷ []) after ∙ ap (λ xs. given ++ xs) (sym front) ∙ e
-
-pub AreAnswers-push : (old mid new : SystemState) (ls : List Line) (rs : List Answer) (l : Line) (r : Answer) → AreAnswers old ls rs mid → IsAnswer mid l r new → AreAnswers old (ls ++ l ∷ []) (rs ++ r ∷ []) new
+AreAnswers-push : (old mid new : SystemState) (ls : List Line) (rs : List Answer) (l : Line) (r : Answer) → AreAnswers old ls rs mid → IsAnswer mid l r new → AreAnswers old (ls ++ l ∷ []) (rs ++ r ∷ []) new
 AreAnswers-push old mid new [] [] l r answers next = (new, subst (λ (h : SystemState). IsAnswer h l r new) answers next, refl)
 AreAnswers-push old mid new (a ∷ ls) (b ∷ rs) l r answers next = (answers.0, answers.1, AreAnswers-push answers.0 mid new ls rs l r answers.2 next)
 AreAnswers-push old mid new [] (b ∷ rs) l r answers next = absurd answers
 AreAnswers-push old mid new (a ∷ ls) [] l r answers next = absurd answers
 
--- what was printed for a script that was read whole
-pub replayed_by : {A E : Type 0} (r : Result A E) (known old new : Option (List ℕ)) (text : List ℕ) (setup : Setup) (asked : List Line) (answers : List Answer) → IfSome known (λ given. text ≡ given) → Says (commands text) setup asked → Answered setup asked answers → OnOk r (Appends old new (lines_of answers)) → OnOk r (IfSome known (λ given. Replayed given old new))
-replayed_by (Ok u) known old new text setup asked answers whole says answered printed = IfSome_then known whole (λ given e. subst (λ (g : List ℕ). Replayed g old new) e (record { setup = setup; asked = asked; answers = answers; says = says; answered = answered; printed = printed }))
-replayed_by (Err x) known old new text setup asked answers whole says answered printed = printed
+lines_of-push : (answers : List Answer) (a : Answer) → lines_of (answers ++ a ∷ []) ≡ lines_of answers ++ (answer_text a ++ newline)
+lines_of-push answers a =
+    flat_map-append (λ x. answer_text x ++ newline) answers (a ∷ []) ∙ ap (λ ys. lines_of answers ++ ys) (append-nil (answer_text a ++ newline))
+
+-- no line has come
+pub Answering-none : (s : SystemState) (known : Option (List ℕ)) (pending : List ℕ) → pending ≡ [] → Answering [] s s known known pending
+Answering-none s known pending none = record {
+  asked = [];
+  answers = [];
+  asks = tt;
+  each = refl;
+  printed = [];
+  all = sym none;
+  appended = Appends-none known;
+}
+
+module _ (ls : List (List ℕ)) (start mid end : SystemState) (old known : Option (List ℕ)) (pending : List ℕ) (l : List ℕ) where
+  -- a line that asks for nothing
+  pub Answering-pass : Answering ls start mid old known pending → is_asking l ≡ false → Answering (ls ++ l ∷ []) start mid old known pending
+  Answering-pass so passed =
+      let e : asking (without_blank (ls ++ l ∷ [])) ≡ asking (without_blank ls) = commands-append ls (l ∷ []) ∙ (ap (λ ys. asking (without_blank ls) ++ ys) (is_asking-no l passed) ∙ append-nil (asking (without_blank ls))) in record {
+        asked = so.asked;
+        answers = so.answers;
+        asks = subst (λ ys. AskInOrder ys so.asked) (sym e) so.asks;
+        each = so.each;
+        printed = so.printed;
+        all = so.all;
+        appended = so.appended;
+      }
+
+  -- a line that is answered
+  pub Answering-line : (more : List ℕ) → Answering ls start mid old known pending → is_asking l ≡ true → AnswersLine l mid end pending more → Answering (ls ++ l ∷ []) start end old known more
+  Answering-line more so asks next =
+      let e : asking (without_blank (ls ++ l ∷ [])) ≡ asking (without_blank ls) ++ l ∷ [] = commands-append ls (l ∷ []) ∙ ap (λ ys. asking (without_blank ls) ++ ys) (is_asking-yes l asks) in
+      let text = answer_text next.answer ++ newline in record {
+        asked = so.asked ++ next.line ∷ [];
+        answers = so.answers ++ next.answer ∷ [];
+        asks = subst (λ ys. AskInOrder ys (so.asked ++ next.line ∷ [])) (sym e) (AskInOrder-push (asking (without_blank ls)) so.asked l next.line so.asks next.asks);
+        each = AreAnswers-push start mid end so.asked so.answers next.line next.answer so.each next.answered;
+        printed = so.printed;
+        all = lines_of-push so.answers next.answer ∙ (ap (λ ys. ys ++ text) so.all ∙ (append_assoc so.printed pending text ∙ ap (λ ys. so.printed ++ ys) (sym next.text)));
+        appended = so.appended;
+      }
+
+module _ (ls : List (List ℕ)) (start end : SystemState) (old known new : Option (List ℕ)) (pending : List ℕ) where
+  -- what was pending is written, or a beginning of it
+  pub Answering-written : (left : List ℕ) → Answering ls start end old known pending → WritesTo known new pending left → Answering ls start end old new left
+  Answering-written left so writes = record {
+    asked = so.asked;
+    answers = so.answers;
+    asks = so.asks;
+    each = so.each;
+    printed = so.printed ++ writes.front;
+    all = so.all ∙ (ap (λ ys. so.printed ++ ys) writes.all ∙ sym (append_assoc so.printed writes.front left));
+    appended = Appends-more old known new so.printed writes.front so.appended writes.written;
+  }
+
+  -- nothing more is written
+  pub Answering-kept : Answering ls start end old known pending → Keeps known new → Answering ls start end old new pending
+  Answering-kept so keeps = record {
+    asked = so.asked;
+    answers = so.answers;
+    asks = so.asks;
+    each = so.each;
+    printed = so.printed;
+    all = so.all;
+    appended = Appends-kept old known new so.printed so.appended keeps;
+  }
+
+-- all bytes are written
+pub WritesTo-all : (old new : Option (List ℕ)) (bytes : List ℕ) → Appends old new bytes → WritesTo old new bytes []
+WritesTo-all old new bytes written = record { front = bytes; all = sym (append-nil bytes); written = written }
+
+-- lines that came are a beginning
+pub EndsWithin-here : (all front rest : List (List ℕ)) (start end : SystemState) (old new : Option (List ℕ)) (left : List ℕ) → all ≡ front ++ rest → Answering front start end old new left → EndsWithin all start old new
+EndsWithin-here all front rest start end old new left begins so = record { front = front; rest = rest; begins = begins; end = end; left = left; answering = so }
+
+All-middle : (P : List ℕ → Type 0) (xs ys : List (List ℕ)) (y : List ℕ) → All P (xs ++ y ∷ ys) → P y
+All-middle P [] ys y each = All-head P y ys each
+All-middle P (x ∷ xs) ys y each = All-middle P xs ys y (All-tail P x (xs ++ y ∷ ys) each)
+
+-- a line whose turn it is, and which asks, asks for something
+pub asks_at : (all front rest : List (List ℕ)) (l : List ℕ) → all ≡ front ++ l ∷ rest → is_asking l ≡ true → All AsksSomething (asking (without_blank all)) → AsksSomething l
+asks_at all front rest l e asks each =
+    let here : asking (without_blank all) ≡ asking (without_blank front) ++ (l ∷ asking (without_blank rest)) = ap (λ ys. asking (without_blank ys)) e ∙ (commands-append front (l ∷ rest) ∙ ap (λ ys. asking (without_blank front) ++ ys) (commands-append (l ∷ []) rest ∙ ap (λ ys. ys ++ asking (without_blank rest)) (is_asking-yes l asks))) in
+    All-middle AsksSomething (asking (without_blank front)) (asking (without_blank rest)) l (subst (All AsksSomething) here each)
+
+-- ---- What was printed for a script
+
+pub begun_by : (text : List ℕ) (setup : Setup) (start : SystemState) (old new : Option (List ℕ)) → IsJudged (commands text) setup → IsNew setup start → EndsWithin (lines text) start old new → Begun text old new
+begun_by text setup start old new judged is_new ends =
+    let so = ends.answering in record {
+      setup = setup;
+      judged = judged;
+      front = asking (without_blank ends.front);
+      rest = asking (without_blank ends.rest);
+      begins = ap (λ ys. asking (without_blank ys)) ends.begins ∙ commands-append ends.front ends.rest;
+      asked = so.asked;
+      asks = so.asks;
+      answers = so.answers;
+      answered = record { start = start; end = ends.end; new = is_new; each = so.each };
+      printed = so.printed;
+      left = ends.left;
+      all = so.all;
+      appended = so.appended;
+    }
+
+Replayed-from : (text : List ℕ) (setup : Setup) (start end : SystemState) (old new : Option (List ℕ)) → IsJudged (commands text) setup → IsNew setup start → Answering (lines text) start end old new [] → Replayed text old new
+Replayed-from text setup start end old new judged is_new so = record {
+  setup = setup;
+  asked = so.asked;
+  answers = so.answers;
+  says = record { headers = judged.headers; all = judged.all; start = judged.start; default = judged.default; set_up = judged.set_up; asks = so.asks };
+  answered = record { start = start; end = end; new = is_new; each = so.each };
+  printed = subst (Appends old new) (sym (so.all ∙ append-nil so.printed)) so.appended;
+}
+
+pub replayed_by : {A E : Type 0} (r : Result A E) (text : List ℕ) (setup : Setup) (start end : SystemState) (old new : Option (List ℕ)) → IsJudged (commands text) setup → IsNew setup start → OnOk r (Answering (lines text) start end old new []) → OnOk r (Replayed text old new)
+replayed_by (Ok u) text setup start end old new judged is_new so = Replayed-from text setup start end old new judged is_new so
+replayed_by (Err x) text setup start end old new judged is_new so = so
+
+-- what holds of the text holds of what was given
+pub of_given : (P : List ℕ → Type 0) (known : Option (List ℕ)) (text : List ℕ) → IfSome known (λ given. text ≡ given) → P text → IfSome known P
+of_given P known text whole holds = IfSome_then known whole (λ given e. subst P e holds)
+
+pub on_given : {A E : Type 0} (r : Result A E) (P : List ℕ → Type 0) (known : Option (List ℕ)) (text : List ℕ) → IfSome known (λ given. text ≡ given) → OnOk r (P text) → OnOk r (IfSome known P)
+on_given (Ok u) P known text whole holds = of_given P known text whole holds
+on_given (Err x) P known text whole holds = holds
+
+-- where judging ended with status 2, a line is no command
+pub bad_by : (H : Type 0) (failure : Failure) → IsOfLines failure → (IsBadLine failure → H) → status_of failure ≡ 2 → H
+bad_by H (BadLine number) of bad status = bad tt
+bad_by H BadScript of bad status = absurd of
+bad_by H Input of bad status = absurd of
+bad_by H Output of bad status = absurd of
+bad_by H Memory of bad status = absurd (omega (arith, status))
+
+-- the same of what was given
+abbrev pub bad_text : {A : Type 0} → Result A Failure → List ℕ → Type 0
+bad_text r text = IfErr r (λ failure. status_of failure ≡ 2 → HasBadLine (commands text))
+
+pub bad_given : {A : Type 0} (r : Result A Failure) (known : Option (List ℕ)) (text : List ℕ) → IfSome known (λ given. text ≡ given) → bad_text r text → IfErr r (λ failure. status_of failure ≡ 2 → IfSome known IsBadScript)
+bad_given (Ok u) known text whole bad = bad
+bad_given (Err failure) known text whole bad = λ status. of_given IsBadScript known text whole (inr (bad status))
+
+pub bad_input : (A : Type 0) (known : Option (List ℕ)) (failure : Failure) → IsOfInput failure → (◌≡◌ {A = Result A Failure} (Err failure) (Err BadScript) → IfSome known (λ given. ¬ (IsScriptText given))) → status_of failure ≡ 2 → IfSome known IsBadScript
+bad_input A known BadScript of bad status = IfSome_then known (bad refl) (λ given none. inl none)
+bad_input A known (BadLine number) of bad status = absurd of
+bad_input A known Input of bad status = absurd (omega (arith, status))
+bad_input A known Output of bad status = absurd of
+bad_input A known Memory of bad status = absurd (omega (arith, status))
+
+-- what ends the answering is never status 2
+not_bad : (P : Type 0) (failure : Failure) → IsOfAnswers failure → status_of failure ≡ 2 → P
+not_bad P BadScript of status = absurd of
+not_bad P (BadLine number) of status = absurd of
+not_bad P Input of status = absurd of
+not_bad P Output of status = absurd (omega (arith, status))
+not_bad P Memory of status = absurd (omega (arith, status))
+
+pub never_bad : {A : Type 0} (r : Result A Failure) (P : Type 0) → IfErr r IsOfAnswers → IfErr r (λ failure. status_of failure ≡ 2 → P)
+never_bad (Ok u) P of = tt
+never_bad (Err failure) P of = not_bad P failure of
+
+pub on_ok : {A E P : Type 0} (r : Result A E) → P → OnOk r P
+on_ok (Ok u) holds = holds
+on_ok (Err e) holds = tt

@@ -1,31 +1,51 @@
--- Lines that are gathered, and written many at a time.
-use Rattle.std.proofs.Common.{◌≡◌, ◌∙◌, ℕ, ◌+◌, ◌<◌, List, [], ◌∷◌, ◌++◌, Option, length, take, get_or, sym, ap, append_assoc}
+-- What is written goes on.
+use Rattle.std.proofs.Common.{◌≡◌, ◌∙◌, ◌≤◌, ◌+◌, ℕ, List, [], ◌++◌, Option, length, take, drop, refl, sym, ap, subst, append_assoc, arith, length-drop}
 use Rattle.std.specs.declared.option.Option.TheVariants.{Some, None}
-use Rattle.std.proofs.lemmas.List.{append-nil, take_more}
-use Rattle.std.proofs.lemmas.List.Concat.{flat_map-append}
-use Rattle.std.specs.Io.KnownBytes.{Appends, append_known}
-use Rattle.iolite.specs.declared.replay.Answer.{Answer}
-use Rattle.iolite.specs.Printed.{answer_text, newline, lines_of}
+use Rattle.std.proofs.lemmas.List.{append-nil, take-append-drop, take_all}
+use Rattle.std.specs.Io.KnownBytes.{Appends, Keeps}
+use Rattle.iolite.specs.Answers.{WritesTo}
 
-lines_of-more : (answers : List Answer) (i : ℕ) (a : Answer) → i < length answers → a ≡ get_or answers i a → lines_of (take (i + 1) answers) ≡ lines_of (take i answers) ++ (answer_text a ++ newline)
-lines_of-more answers i a lt is =
-    ap lines_of (take_more answers i a lt) ∙ flat_map-append (λ x. answer_text x ++ newline) (take i answers) (get_or answers i a ∷ []) ∙ ap (λ ys. lines_of (take i answers) ++ ys) (rw (← is) (append-nil (answer_text a ++ newline)))
+-- nothing is written
+pub Appends-none : (known : Option (List ℕ)) → Appends known known []
+Appends-none None = tt
+Appends-none (Some xs) = sym (append-nil xs)
 
--- more is pending
-Appends-pending : (old known : Option (List ℕ)) (pending text more next : List ℕ) → next ≡ pending ++ more → Appends old (append_known known pending) text → Appends old (append_known known next) (text ++ more)
-Appends-pending None known pending text more next is wrote = tt
-Appends-pending (Some xs) None pending text more next is wrote = absurd wrote
-Appends-pending (Some xs) (Some ys) pending text more next is wrote =
-    ap (λ ws. ys ++ ws) is ∙ sym (append_assoc ys pending more) ∙ ap (λ ws. ws ++ more) wrote ∙ append_assoc xs text more
+-- more is written
+pub Appends-more : (old mid new : Option (List ℕ)) (front more : List ℕ) → Appends old mid front → Appends mid new more → Appends old new (front ++ more)
+Appends-more None mid new front more wrote writes = tt
+Appends-more (Some xs) None new front more wrote writes = absurd wrote
+Appends-more (Some xs) (Some ys) None front more wrote writes = absurd writes
+Appends-more (Some xs) (Some ys) (Some zs) front more wrote writes = writes ∙ (ap (λ ws. ws ++ more) wrote ∙ append_assoc xs front more)
 
--- what was pending is written
-pub Appends-written : (old known new : Option (List ℕ)) (pending text : List ℕ) → Appends old (append_known known pending) text → Appends known new pending → Appends old (append_known new []) text
-Appends-written None known new pending text wrote writes = tt
-Appends-written (Some xs) None new pending text wrote writes = absurd wrote
-Appends-written (Some xs) (Some ys) None pending text wrote writes = absurd writes
-Appends-written (Some xs) (Some ys) (Some zs) pending text wrote writes = append-nil zs ∙ writes ∙ wrote
+-- nothing more is
+pub Appends-kept : (old mid new : Option (List ℕ)) (front : List ℕ) → Appends old mid front → Keeps mid new → Appends old new front
+Appends-kept None mid new front wrote keeps = tt
+Appends-kept (Some xs) None new front wrote keeps = absurd wrote
+Appends-kept (Some xs) (Some ys) None front wrote keeps = absurd keeps
+Appends-kept (Some xs) (Some ys) (Some zs) front wrote keeps = keeps ∙ wrote
 
--- a line more
-pub Appends-line : (old known : Option (List ℕ)) (pending next : List ℕ) (answers : List Answer) (i : ℕ) (a : Answer) → i < length answers → a ≡ get_or answers i a → next ≡ pending ++ (answer_text a ++ newline) → Appends old (append_known known pending) (lines_of (take i answers)) → Appends old (append_known known next) (lines_of (take (i + 1) answers))
-Appends-line old known pending next answers i a lt is more wrote =
-    rw (lines_of-more answers i a lt is) (Appends-pending old known pending (lines_of (take i answers)) (answer_text a ++ newline) next more wrote)
+-- of bytes to be written nothing is yet
+pub WritesTo-none : (known : Option (List ℕ)) (bytes : List ℕ) → WritesTo known known bytes bytes
+WritesTo-none known bytes = record { front = []; all = refl; written = Appends-none known }
+
+-- n of those left are written
+pub WritesTo-more : (old mid new : Option (List ℕ)) (bytes rest : List ℕ) (n : ℕ) → WritesTo old mid bytes rest → Appends mid new (take n rest) → WritesTo old new bytes (drop n rest)
+WritesTo-more old mid new bytes rest n so writes = record {
+  front = so.front ++ take n rest;
+  all = so.all ∙ (ap (λ ys. so.front ++ ys) (sym (take-append-drop n rest)) ∙ sym (append_assoc so.front (take n rest) (drop n rest)));
+  written = Appends-more old mid new so.front (take n rest) so.written writes;
+}
+
+-- the same, where those that are left are a slice
+pub WritesTo-sliced : (old mid new : Option (List ℕ)) (bytes rest : List ℕ) (n k : ℕ) → length rest ≤ n + k → WritesTo old mid bytes rest → Appends mid new (take n rest) → WritesTo old new bytes (take k (drop n rest))
+WritesTo-sliced old mid new bytes rest n k fits so writes =
+    subst (WritesTo old new bytes) (sym (take_all k (drop n rest) (omega (arith, fits, length-drop n rest)))) (WritesTo-more old mid new bytes rest n so writes)
+
+-- none of them is
+pub WritesTo-kept : (old mid new : Option (List ℕ)) (bytes rest : List ℕ) → WritesTo old mid bytes rest → Keeps mid new → WritesTo old new bytes rest
+WritesTo-kept old mid new bytes rest so keeps = record { front = so.front; all = so.all; written = Appends-kept old mid new so.front so.written keeps }
+
+-- all are written where none is left
+pub Appends-all : (old new : Option (List ℕ)) (bytes rest : List ℕ) → WritesTo old new bytes rest → rest ≡ [] → Appends old new bytes
+Appends-all old new bytes rest so none =
+    subst (Appends old new) (sym (so.all ∙ (ap (λ ys. so.front ++ ys) none ∙ append-nil so.front))) so.written

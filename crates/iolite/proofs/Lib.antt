@@ -1,4 +1,7 @@
 pub mod Answered
 pub mod Appending
+pub mod Asking
+pub mod Named
 pub mod Said
 pub mod ScriptText
+pub mod Worded

@@ -1,5 +1,5 @@
 -- What the lines of a script are answered: events by steps of a system, reports by what lies in it.
-use Rattle.std.specs.Prelude.{◌≡◌, ◌*◌, ℕ, true, false, List, [], ◌∷◌, Option, length, replicate, unwrap_or}
+use Rattle.std.specs.Prelude.{◌≡◌, ◌*◌, ℕ, true, false, List, [], ◌∷◌, Option, ◌++◌, length, replicate, unwrap_or}
 use Rattle.std.specs.Io.KnownBytes.{Appends}
 use Rattle.iol_core.specs.State.{new_state}
 use Rattle.iol_core.specs.declared.configuration.TheConstants.Config.{DEFAULT}
@@ -18,8 +18,8 @@ use Rattle.iolite.specs.declared.replay.Answer.TheVariants as answer
 use Rattle.iolite.specs.declared.setup.Setup.{Setup}
 use Rattle.iolite.specs.declared.script.Line.{Line}
 use Rattle.iolite.specs.declared.script.Line.TheVariants as line
-use Rattle.iolite.specs.Printed.{lines_of}
-use Rattle.iolite.specs.Script.{Says, commands}
+use Rattle.iolite.specs.Printed.{answer_text, lines_of, newline}
+use Rattle.iolite.specs.Script.{Asks, AskInOrder, IsJudged, Says, asking, commands, without_blank}
 
 -- A new system, as a script sets it up: domain 1 and nothing else, over pages that were never used, of the sizes named or of
 -- the default ones, over a store in memory that has what the script stored.
@@ -68,3 +68,57 @@ pub record Replayed (given : List ℕ) (old new : Option (List ℕ)) : Type 0 wh
   pub says : Says (commands given) setup asked
   pub answered : Answered setup asked answers
   pub printed : Appends old new (lines_of answers)
+
+-- The same where it ended early: all lines are commands, a beginning of them was answered, and a beginning of the answers printed.
+pub record Begun (given : List ℕ) (old new : Option (List ℕ)) : Type 0 where
+  pub setup : Setup
+  pub judged : IsJudged (commands given) setup
+  pub front : List (List ℕ)
+  pub rest : List (List ℕ)
+  pub begins : asking (commands given) ≡ front ++ rest
+  pub asked : List Line
+  pub asks : AskInOrder front asked
+  pub answers : List Answer
+  pub answered : Answered setup asked answers
+  pub printed : List ℕ
+  pub left : List ℕ
+  pub all : lines_of answers ≡ printed ++ left
+  pub appended : Appends old new printed
+
+-- Of lines as they stand, those that ask for something were answered from start on, ending in end, and each answer was printed or is
+-- left to be.
+pub record Answering (ls : List (List ℕ)) (start end : SystemState) (old new : Option (List ℕ)) (left : List ℕ) : Type 0 where
+  pub asked : List Line
+  pub answers : List Answer
+  pub asks : AskInOrder (asking (without_blank ls)) asked
+  pub each : AreAnswers start asked answers end
+  pub printed : List ℕ
+  pub all : lines_of answers ≡ printed ++ left
+  pub appended : Appends old new printed
+
+-- So far the lines came, and then an end.
+pub record EndsWithin (ls : List (List ℕ)) (start : SystemState) (old new : Option (List ℕ)) : Type 0 where
+  pub front : List (List ℕ)
+  pub rest : List (List ℕ)
+  pub begins : ls ≡ front ++ rest
+  pub end : SystemState
+  pub left : List ℕ
+  pub answering : Answering front start end old new left
+
+-- one line more was answered, and its answer put behind what is pending
+pub record AnswersLine (l : List ℕ) (old new : SystemState) (pending more : List ℕ) : Type 0 where
+  pub line : Line
+  pub answer : Answer
+  pub asks : Asks l line
+  pub answered : IsAnswer old line answer new
+  pub text : more ≡ pending ++ (answer_text answer ++ newline)
+
+-- a beginning of the bytes was written, and these are left
+pub record WritesTo (old new : Option (List ℕ)) (bytes left : List ℕ) : Type 0 where
+  pub front : List ℕ
+  pub all : bytes ≡ front ++ left
+  pub written : Appends old new front
+
+-- a beginning was written
+abbrev pub WritesSome : (old new : Option (List ℕ)) (bytes : List ℕ) → Type 0
+WritesSome old new bytes = (left : List ℕ) × WritesTo old new bytes left

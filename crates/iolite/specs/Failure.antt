@@ -11,6 +11,14 @@ status_of Input = 3
 status_of Output = 3
 status_of Memory = 3
 
+-- a line that is no command
+abbrev pub IsBadLine : Failure → Type 0
+IsBadLine BadScript = ⊥
+IsBadLine (BadLine number) = ⊤
+IsBadLine Input = ⊥
+IsBadLine Output = ⊥
+IsBadLine Memory = ⊥
+
 -- what can end the reading of the input
 abbrev pub IsOfInput : Failure → Type 0
 IsOfInput BadScript = ⊤
@@ -19,10 +27,18 @@ IsOfInput Input = ⊤
 IsOfInput Output = ⊥
 IsOfInput Memory = ⊤
 
--- what can end the reading of a script's lines, which are counted from 1
+-- what can end the judging of a script's lines, which are counted from 1
 abbrev pub IsOfLines : Failure → Type 0
 IsOfLines BadScript = ⊥
 IsOfLines (BadLine number) = 1 ≤ number
 IsOfLines Input = ⊥
 IsOfLines Output = ⊥
 IsOfLines Memory = ⊤
+
+-- what can end the answering of lines that were judged
+abbrev pub IsOfAnswers : Failure → Type 0
+IsOfAnswers BadScript = ⊥
+IsOfAnswers (BadLine number) = ⊥
+IsOfAnswers Input = ⊥
+IsOfAnswers Output = ⊤
+IsOfAnswers Memory = ⊤

@@ -1,8 +1,9 @@
 pub mod Answers
+pub mod Calls
+pub mod Commands
 pub mod Failure
 pub mod Outside
 pub mod Printed
 pub mod Script
 pub mod Setup
-pub mod Sizes
 pub mod Words

@@ -1,12 +1,15 @@
--- Scripts: what is read as one, what its lines ask for, and what they are answered.
-use Rattle.std.specs.Prelude.{◌≡◌, ◌⊎◌, ◌<◌, ◌≤◌, ◌==◌, ℕ, Bool, true, not, List, [], ◌∷◌, ◌++◌, length, codes, IsUtf8, ⊤}
+-- Scripts: what is read as one, what its lines ask for, and which lines are none.
+use Rattle.std.specs.Prelude.{◌≡◌, ◌≢◌, ◌⊎◌, ◌<◌, ◌≤◌, ◌==◌, ℕ, Bool, true, false, not, ◌&&◌, List, [], ◌∷◌, ◌++◌, All, length, codes, IsUtf8, ⊤}
 use Rattle.std.specs.List.{filter, slice_split}
+use Rattle.iol_core.specs.declared.events.Event.{Event}
 use Rattle.iol_core.specs.declared.events.Event.TheVariants as event
 use Rattle.iolite.specs.declared.replay.TheConstants.{MAX_SCRIPT_BYTES}
+use Rattle.iolite.specs.declared.script.Asked.{Asked}
+use Rattle.iolite.specs.declared.script.Asked.TheVariants as asked
 use Rattle.iolite.specs.declared.script.Line.{Line}
 use Rattle.iolite.specs.declared.script.Line.TheVariants as line
-use Rattle.iolite.specs.Outside.{IsEvent}
-use Rattle.iolite.specs.Setup.{IsDefault, SetsUp, SetUp}
+use Rattle.iolite.specs.Outside.{CanHappen, IsEvent, event_of}
+use Rattle.iolite.specs.Setup.{IsDefault, SetsUp, SetUp, is_header}
 use Rattle.iolite.specs.declared.setup.Setup.{Setup}
 use Rattle.iolite.specs.Words.{word, rest_of}
 
@@ -17,6 +20,10 @@ IsScriptText bytes = (length bytes ≤ MAX_SCRIPT_BYTES) × IsUtf8 bytes
 -- the bytes read are all that were given, or there are more than a script may have
 abbrev pub IsWholeOrTooLong : (read given : List ℕ) → Type 0
 IsWholeOrTooLong read given = (read ≡ given) ⊎ ((MAX_SCRIPT_BYTES < length read) × (MAX_SCRIPT_BYTES < length given))
+
+-- the lines of a text
+abbrev pub lines : List ℕ → List (List ℕ)
+lines text = slice_split (λ b. b == 10) text
 
 -- an empty line or a comment, which is passed over
 abbrev pub is_blank : List ℕ → Bool
@@ -29,15 +36,42 @@ without_blank ls = filter (λ l. not (is_blank l)) ls
 
 -- the lines of a script that say something
 abbrev pub commands : List ℕ → List (List ℕ)
-commands text = without_blank (slice_split (λ b. b == 10) text)
+commands text = without_blank (lines text)
 
--- a line that asks for a report, for what is done to all files, for a call of the domain that it begins with, or for what
--- happens outside; which call it is, is left open here
+-- those of them that set nothing up
+abbrev pub asking : List (List ℕ) → List (List ℕ)
+asking ls = filter (λ l. not (is_header (word l))) ls
+
+-- whether a line of a script is one of these
+abbrev pub is_asking : List ℕ → Bool
+is_asking l = not (is_blank l) && not (is_header (word l))
+
+-- a line of one word: a report, or what is done to all files
+abbrev pub AsksAlone : List ℕ → Line → Type 0
+AsksAlone l x =
+    ((l ≡ codes "report") × (x ≡ line.Report))
+    ⊎ (((l ≡ codes "flush") × (x ≡ line.Event event.Flush))
+    ⊎ ((l ≡ codes "drop_clean") × (x ≡ line.Event event.DropClean)))
+
+-- a line with a call of the domain that it begins with, or with what happens outside
+abbrev pub AsksEvent : List ℕ → Line → Type 0
+AsksEvent l x = (e : Event) × IsEvent (word l) (rest_of l) e × (x ≡ line.Event e)
+
+-- what a line asks for
 abbrev pub Asks : List ℕ → Line → Type 0
-Asks l line.Report = l ≡ codes "report"
-Asks l (line.Event event.Flush) = l ≡ codes "flush"
-Asks l (line.Event event.DropClean) = l ≡ codes "drop_clean"
-Asks l (line.Event e) = IsEvent (word l) (rest_of l) e
+Asks l x = AsksAlone l x ⊎ AsksEvent l x
+
+-- the same of a line whose texts are still to be decoded
+abbrev pub line_of : Asked → Line
+line_of (asked.Event e) = line.Event (event_of e)
+line_of asked.Report = line.Report
+
+abbrev pub CanAsk : Asked → Type 0
+CanAsk (asked.Event e) = CanHappen e
+CanAsk asked.Report = ⊤
+
+abbrev pub AsksSomething : List ℕ → Type 0
+AsksSomething l = (x : Line) × Asks l x
 
 abbrev pub AskInOrder : List (List ℕ) → List Line → Type 0
 AskInOrder [] [] = ⊤
@@ -48,26 +82,44 @@ AskInOrder (l ∷ ls) [] = ⊥
 -- The lines say this: the first of them set up the system, and then each asks for something. No line is left out.
 pub record Says (ls : List (List ℕ)) (setup : Setup) (asked : List Line) : Type 0 where
   pub headers : List (List ℕ)
-  pub rest : List (List ℕ)
-  pub all : ls ≡ headers ++ rest
+  pub all : ls ≡ headers ++ asking ls
   pub start : Setup
   pub default : IsDefault start
   pub set_up : SetUp headers start setup
-  pub asks : AskInOrder rest asked
+  pub asks : AskInOrder (asking ls) asked
 
--- the line asks for something more
-pub record AsksMore (old : Setup) (asked : List Line) (l : List ℕ) (new : Setup) (more : List Line) : Type 0 where
-  pub line : Line
-  pub asks : Asks l line
-  pub kept : new ≡ old
-  pub added : more ≡ asked ++ line ∷ []
+-- The same where what the lines ask for is left open: all of them are commands.
+pub record IsJudged (ls : List (List ℕ)) (setup : Setup) : Type 0 where
+  pub headers : List (List ℕ)
+  pub all : ls ≡ headers ++ asking ls
+  pub start : Setup
+  pub default : IsDefault start
+  pub set_up : SetUp headers start setup
+  pub ask : All AsksSomething (asking ls)
 
--- the line sets up, before anything is asked for
-pub record SetsUpMore (old : Setup) (asked : List Line) (l : List ℕ) (new : Setup) (more : List Line) : Type 0 where
-  pub sets : SetsUp (word l) (rest_of l) old new
-  pub first : asked ≡ []
-  pub kept : more ≡ asked
+-- After lines that set this up a line is no command: it asks for nothing, or it would set up and is late, after one that asked
+-- for something, or it would set up what cannot be.
+abbrev pub IsBadAfter : Setup → (late : Type 0) → List ℕ → Type 0
+IsBadAfter setup late l =
+    ((is_header (word l) ≡ false) × ((x : Line) → ¬ (Asks l x)))
+    ⊎ ((is_header (word l) ≡ true) × (late ⊎ ((new : Setup) → ¬ (SetsUp (word l) (rest_of l) setup new))))
 
--- A line that is no blank one asks for something more, or sets up.
-abbrev pub AddsLine : (old : Setup) (asked : List Line) (l : List ℕ) (new : Setup) (more : List Line) → Type 0
-AddsLine old asked l new more = AsksMore old asked l new more ⊎ SetsUpMore old asked l new more
+-- a line is judged so: it asks for something, or sets up before that
+abbrev pub Judges : (old : Setup) (has_asked : Bool) → List ℕ → (new : Setup) (more : Bool) → Type 0
+Judges old has_asked l new more =
+    ((is_header (word l) ≡ false) × AsksSomething l × (new ≡ old) × (more ≡ true))
+    ⊎ ((is_header (word l) ≡ true) × SetsUp (word l) (rest_of l) old new × (has_asked ≡ false) × (more ≡ false))
+
+-- The lines have one that is no command, after lines that are.
+pub record HasBadLine (ls : List (List ℕ)) : Type 0 where
+  pub before : List (List ℕ)
+  pub line : List ℕ
+  pub after : List (List ℕ)
+  pub all : ls ≡ before ++ line ∷ after
+  pub setup : Setup
+  pub judged : IsJudged before setup
+  pub bad : IsBadAfter setup (asking before ≢ []) line
+
+-- what was given is no script: too long, not UTF-8, or with a line that is no command
+abbrev pub IsBadScript : List ℕ → Type 0
+IsBadScript given = ¬ (IsScriptText given) ⊎ HasBadLine (commands given)

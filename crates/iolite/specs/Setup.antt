@@ -1,65 +1,61 @@
 -- The lines that stand first in a script: the sizes of its system, which call of its store fails, and what the store has.
-use Rattle.std.specs.Prelude.{◌≡◌, ◌⊎◌, ◌<◌, ◌++◌, ◌||◌, ℕ, Bool, List, [], ◌∷◌, Some, None, codes, bytes_eq}
+use Rattle.std.specs.Prelude.{◌≡◌, ◌⊎◌, ◌<◌, ◌≤◌, ◌+◌, ◌*◌, ◌++◌, ◌||◌, ℕ, Bool, List, [], ◌∷◌, Some, None, length, codes, bytes_eq}
 use Rattle.std.specs.List.{repeat}
-use Rattle.std.specs.Str.Parse.{digits_value}
 use Rattle.percent_encoding.specs.Percent.{percent_decode as decoded}
 use Rattle.iol_core.specs.Configuration.{IsInRange}
 use Rattle.iol_core.specs.declared.configuration.Config.{Config}
 use Rattle.iol_back.specs.Disk.{IsSlot, OthersStay, content}
 use Rattle.iolite.specs.declared.setup.Setup.{Setup}
-use Rattle.iolite.specs.Words.{StandsFor, word, rest_of}
+use Rattle.iolite.specs.declared.words.TheConstants.{MAX_REPEATED_BYTES}
+use Rattle.iolite.specs.Words.{IsLong, IsShort, rest_of, value, word}
 
 -- a line that begins with this word is one of them
 abbrev pub is_header : List ℕ → Bool
 is_header w = bytes_eq w (codes "config") || (bytes_eq w (codes "fault") || (bytes_eq w (codes "store") || bytes_eq w (codes "storen")))
 
--- the sizes of a system: `CHUNKS GENERATIONS SUMS`, each in its range
-pub record AreSizes (words : List ℕ) (config : Config) : Type 0 where
-  pub chunks : config.chunks ≡ digits_value 10 (word words)
-  pub gen_limit : config.gen_limit ≡ digits_value 10 (word (rest_of words))
-  pub sums : config.sums ≡ digits_value 10 (rest_of (rest_of words))
-  pub in_range : IsInRange config
+-- the sizes of a system, three words
+abbrev pub sizes_of : List ℕ → Config
+sizes_of words = record { chunks = value (word words); gen_limit = value (word (rest_of words)); sums = value (rest_of (rest_of words)) }
+
+-- `CHUNKS GENERATIONS SUMS`, each in its range
+pub record AreSizes (words : List ℕ) : Type 0 where
+  pub chunks : IsShort (word words)
+  pub gen_limit : IsShort (word (rest_of words))
+  pub sums : IsShort (rest_of (rest_of words))
+  pub in_range : IsInRange (sizes_of words)
 
 -- the sizes are taken, where none were given
 pub record SetsSizes (words : List ℕ) (old new : Setup) : Type 0 where
-  pub config : Config
-  pub sizes : AreSizes words config
+  pub sizes : AreSizes words
   pub none : old.config ≡ None
-  pub set : new.config ≡ Some config
+  pub set : new.config ≡ Some (sizes_of words)
   pub fault : new.fault ≡ old.fault
   pub slots : new.slots ≡ old.slots
 
 -- so is the number of the call of the store that fails, counted from 1
 pub record SetsFault (numeral : List ℕ) (old new : Setup) : Type 0 where
-  pub call : ℕ
-  pub number : StandsFor numeral call
-  pub some : 0 < call
+  pub number : IsLong numeral
+  pub some : 0 < value numeral
   pub none : old.fault ≡ None
-  pub set : new.fault ≡ Some call
+  pub set : new.fault ≡ Some (value numeral)
   pub config : new.config ≡ old.config
   pub slots : new.slots ≡ old.slots
 
--- bytes come to the end of a file of the store
+-- bytes come to the end of a file of the store, which may be one longer than files are
 pub record StoresBytes (slot bytes : List ℕ) (old new : Setup) : Type 0 where
-  pub file : ℕ
-  pub number : StandsFor slot file
-  pub there : IsSlot file
-  pub stored : content new.slots file ≡ content old.slots file ++ bytes
-  pub others : OthersStay file old.slots new.slots
+  pub number : IsShort slot
+  pub there : IsSlot (value slot)
+  pub fits : length (content old.slots (value slot)) + length bytes ≤ MAX_REPEATED_BYTES
+  pub stored : content new.slots (value slot) ≡ content old.slots (value slot) ++ bytes
+  pub others : OthersStay (value slot) old.slots new.slots
   pub config : new.config ≡ old.config
   pub fault : new.fault ≡ old.fault
 
--- a text, as often as a numeral says
-pub record IsRepeated (numeral text bytes : List ℕ) : Type 0 where
-  pub count : ℕ
-  pub number : StandsFor numeral count
-  pub repeated : bytes ≡ repeat count (decoded text)
-
--- such bytes come to the end of a file
+-- a text does so, as often as a numeral says
 pub record StoresRepeated (slot numeral text : List ℕ) (old new : Setup) : Type 0 where
-  pub bytes : List ℕ
-  pub repeated : IsRepeated numeral text bytes
-  pub stores : StoresBytes slot bytes old new
+  pub number : IsShort numeral
+  pub short : value numeral * length (decoded text) ≤ MAX_REPEATED_BYTES
+  pub stores : StoresBytes slot (repeat (value numeral) (decoded text)) old new
 
 -- what a line sets up, by its first word and what stands behind it: `config CHUNKS GENERATIONS SUMS`, `fault CALL`,
 -- `store SLOT TEXT`, `storen SLOT COUNT TEXT`

@@ -1,5 +1,5 @@
--- The words of a line.
-use Rattle.std.specs.Prelude.{◌≡◌, ◌==◌, ℕ, List}
+-- The words of a line, and the numbers that they stand for.
+use Rattle.std.specs.Prelude.{◌<◌, ◌^◌, ◌==◌, ℕ, List}
 use Rattle.std.specs.Str.Parse.{IsNumeral, digits_value}
 use Rattle.std.specs.List.{before_first, after_first}
 
@@ -10,6 +10,16 @@ word l = before_first (λ b. b == 32) l
 abbrev pub rest_of : List ℕ → List ℕ
 rest_of l = after_first (λ b. b == 32) l
 
--- the word stands for the number
-abbrev pub StandsFor : (word : List ℕ) → (n : ℕ) → Type 0
-StandsFor w n = IsNumeral 10 w × (n ≡ digits_value 10 w)
+-- the number that decimal digits write
+abbrev pub value : List ℕ → ℕ
+value w = digits_value 10 w
+
+-- the word is a number of 32 bits, in decimal digits alone
+pub record IsShort (w : List ℕ) : Type 0 where
+  pub numeral : IsNumeral 10 w
+  pub fits : value w < 2 ^ 32
+
+-- the word is a number of 64 bits, as aggregates have
+pub record IsLong (w : List ℕ) : Type 0 where
+  pub numeral : IsNumeral 10 w
+  pub fits : value w < 2 ^ 64

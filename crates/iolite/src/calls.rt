@@ -1,191 +1,243 @@
 //! The calls of a script's lines.
+ghost use Rattle.std.specs.Prelude.{◌≡◌, None, IfOk, IfSome};
+ghost use Rattle.iol_core.specs.declared.events.Call.{Call};
+ghost use Rattle.iolite.specs.declared.names.CallName.TheVariants as name;
+ghost use Rattle.iolite.specs.Calls.{CanBeMade, IsBare, IsCall, IsCalled, IsNamed, call_of};
+
+use crate::names::{CallName, find_name};
 use crate::words::{
-    LineError, decode_text, parse_domains, parse_mode, parse_u32, parse_u64, repeat_text,
-    split_word,
+    are_domains, can_repeat, decode_text, list_domains, parse_mode, parse_u32, parse_u64,
+    repeat_text, split_word,
 };
+use iol_core::descriptors::Mode;
 use iol_core::events::Call;
-use iol_core::numbers::{AggId, DomainId, Fd, PoolId};
-use std::alloc::Global;
+use iol_core::numbers::{AggId, Fd, PoolId};
+use std::alloc::{AllocError, Global};
 
-/// Reads a call: its name, and after one space what it is called with.
-pub fn parse_call(alloc: Global, text: &str) -> Result<Call, LineError> {
-    let Some((name, rest)) = text.split_once(' ') else {
-        return parse_bare_call(alloc, text);
+/// A call as a line has it, its texts as they stand there.
+#[derive(Drop)]
+pub enum CallLine<'a> {
+    /// A call without a text.
+    Whole(Call),
+    PoolCreate { chunks: u32, domains: &'a str },
+    AggMake { text: &'a str },
+    AggFill { count: u32, text: &'a str },
+    Write { fd: Fd, text: &'a str },
+    FileNew { file: &'a str, pool: PoolId },
+    OpenFile { file: &'a str, mode: Mode },
+}
+
+/// Reads a call: its name, and after one space what it is called with. To read one takes no memory.
+pub fn read_call(text: &str) -> Option<CallLine<'_>>
+    ensures call { IfSome result (λ line. IsCall text.now (call_of line)) }
+    ensures can { IfSome result CanBeMade }
+    ensures none { result ≡ None → (c : Call) → ¬ (IsCall text.now c) }
+{
+    match read_bare(text) {
+        Some(call) => Some(CallLine::Whole(call)),
+        None => read_named(text),
+    }
+}
+
+/// Reads a call whose name stands alone.
+fn read_bare(text: &str) -> Option<Call>
+    ensures call { IfSome result (IsBare text.now) }
+    ensures none { result ≡ None → (c : Call) → ¬ (IsBare text.now c) }
+{
+    match text {
+        "domain_new" => Some(Call::DomainNew),
+        "exit" => Some(Call::Exit),
+        "pipe" => Some(Call::Pipe),
+        "accept" => Some(Call::Accept),
+        _ => None,
+    }
+}
+
+/// Reads a name and what stands behind it.
+fn read_named(text: &str) -> Option<CallLine<'_>>
+    ensures call { IfSome result (λ line. IsNamed text.now (call_of line)) }
+    ensures can { IfSome result CanBeMade }
+    ensures none { result ≡ None → (c : Call) → ¬ (IsNamed text.now c) }
+{
+    let (word, rest) = split_word(text);
+    match find_name(word) {
+        Some(name) => read_called(name, rest),
+        None => None,
+    }
+}
+
+/// Reads what stands behind a name.
+fn read_called(name: CallName, rest: &str) -> Option<CallLine<'_>>
+    ensures call { IfSome result (λ line. IsCalled name rest.now (call_of line)) }
+    ensures can { IfSome result CanBeMade }
+    ensures none { result ≡ None → (c : Call) → ¬ (IsCalled name rest.now c) }
+{
+    let call = match name {
+        CallName::Number(call) => call.with(parse_u32(rest)?),
+        CallName::Aggregate(call) => call.on(parse_u64(rest)?),
+        CallName::Pair(call) => {
+            let (first, second) = split_word(rest);
+            call.with(parse_u32(first)?, parse_u32(second)?)
+        }
+        CallName::Part(call) => {
+            let (agg, second) = split_word(rest);
+            call.on(parse_u64(agg)?, parse_u32(second)?)
+        }
+        CallName::AggJoin => read_join(rest)?,
+        CallName::IolWrite => read_iol_write(rest)?,
+        CallName::AggCut => read_cut(rest)?,
+        CallName::AggReplace => read_replace(rest)?,
+        CallName::PoolCreate => return read_pool_create(rest),
+        CallName::AggMake => return Some(CallLine::AggMake { text: rest }),
+        CallName::AggFill => return read_fill(rest),
+        CallName::Write => return read_write(rest),
+        CallName::FileNew => return read_file_new(rest),
+        CallName::OpenFile => return read_open_file(rest),
     };
-    match name {
-        "pool_create" | "pool_close" | "set_pool" => parse_pool_call(alloc, name, rest),
-        "agg_make" | "agg_fill" | "write" => parse_text_call(alloc, name, rest),
-        "agg_dup" | "agg_drop" | "show" => parse_agg_call(name, rest),
-        "agg_split" | "agg_join" | "agg_give" => parse_moving_call(name, rest),
-        "agg_cut" | "agg_replace" => parse_range_call(name, rest),
-        "file_new" | "open_file" => parse_file_call(alloc, name, rest),
-        "close" | "length" | "fsync" => parse_fd_call(name, rest),
-        _ => parse_descriptor_call(name, rest),
-    }
+    Some(CallLine::Whole(call))
 }
 
-/// Reads a call of which the line gives the name alone. A text that is not given is empty.
-fn parse_bare_call(alloc: Global, name: &str) -> Result<Call, LineError> {
-    match name {
-        "domain_new" => Ok(Call::DomainNew),
-        "exit" => Ok(Call::Exit),
-        "pipe" => Ok(Call::Pipe),
-        "accept" => Ok(Call::Accept),
-        "agg_make" => {
-            let bytes = decode_text(alloc, "")?;
-            Ok(Call::AggMake { bytes })
-        }
-        _ => Err(LineError::NotACommand),
-    }
+fn read_join(rest: &str) -> Option<Call>
+    ensures call { IfSome result (IsCalled name.AggJoin rest.now) }
+    ensures none { result ≡ None → (c : Call) → ¬ (IsCalled name.AggJoin rest.now c) }
+{
+    let (first, second) = split_word(rest);
+    let first = AggId::new(parse_u64(first)?);
+    let second = AggId::new(parse_u64(second)?);
+    Some(Call::AggJoin { first, second })
 }
 
-/// Reads a call on pools.
-fn parse_pool_call(alloc: Global, name: &str, rest: &str) -> Result<Call, LineError> {
-    match name {
-        "pool_create" => {
-            let (chunks, list) = split_word(rest)?;
-            let chunks = parse_u32(chunks)?;
-            let domains = parse_domains(alloc, list)?;
-            Ok(Call::PoolCreate { chunks, domains })
-        }
-        "pool_close" => {
-            let pool = PoolId::new(parse_u32(rest)?);
-            Ok(Call::PoolClose { pool })
-        }
-        _ => {
-            let pool = PoolId::new(parse_u32(rest)?);
-            Ok(Call::SetPool { pool })
-        }
-    }
-}
-
-/// Reads a call that makes an aggregate of a text, or writes one.
-fn parse_text_call(alloc: Global, name: &str, rest: &str) -> Result<Call, LineError> {
-    match name {
-        "agg_make" => {
-            let bytes = decode_text(alloc, rest)?;
-            Ok(Call::AggMake { bytes })
-        }
-        "write" => {
-            let (fd, text) = rest.split_once(' ').unwrap_or((rest, ""));
-            let fd = Fd::new(parse_u32(fd)?);
-            let bytes = decode_text(alloc, text)?;
-            Ok(Call::Write { fd, bytes })
-        }
-        _ => {
-            let (count, text) = rest.split_once(' ').unwrap_or((rest, ""));
-            let bytes = repeat_text(alloc, parse_u32(count)?, text)?;
-            Ok(Call::AggMake { bytes })
-        }
-    }
-}
-
-/// Reads a call that names a file.
-fn parse_file_call(alloc: Global, name: &str, rest: &str) -> Result<Call, LineError> {
-    let (file, last) = split_word(rest)?;
-    let file = decode_text(alloc, file)?;
-    match name {
-        "file_new" => {
-            let pool = PoolId::new(parse_u32(last)?);
-            Ok(Call::FileNew { name: file, pool })
-        }
-        _ => {
-            let mode = parse_mode(last)?;
-            Ok(Call::OpenFile { name: file, mode })
-        }
-    }
-}
-
-/// Reads a call on one descriptor alone.
-fn parse_fd_call(name: &str, rest: &str) -> Result<Call, LineError> {
-    let fd = Fd::new(parse_u32(rest)?);
-    match name {
-        "close" => Ok(Call::Close { fd }),
-        "length" => Ok(Call::Length { fd }),
-        _ => Ok(Call::Fsync { fd }),
-    }
-}
-
-/// Reads a call on one aggregate alone.
-fn parse_agg_call(name: &str, rest: &str) -> Result<Call, LineError> {
-    let agg = AggId::new(parse_u64(rest)?);
-    match name {
-        "agg_dup" => Ok(Call::AggDup { agg }),
-        "agg_drop" => Ok(Call::AggDrop { agg }),
-        _ => Ok(Call::Show { agg }),
-    }
-}
-
-/// Reads a call that gives an aggregate up, and has one number more.
-fn parse_moving_call(name: &str, rest: &str) -> Result<Call, LineError> {
-    let (agg, last) = split_word(rest)?;
-    let agg = AggId::new(parse_u64(agg)?);
-    match name {
-        "agg_split" => {
-            let at = parse_u32(last)?;
-            Ok(Call::AggSplit { agg, at })
-        }
-        "agg_join" => {
-            let second = AggId::new(parse_u64(last)?);
-            Ok(Call::AggJoin { first: agg, second })
-        }
-        _ => {
-            let to = DomainId::new(parse_u32(last)?);
-            Ok(Call::AggGive { agg, to })
-        }
-    }
-}
-
-/// Reads a call on a range of an aggregate's bytes.
-fn parse_range_call(name: &str, rest: &str) -> Result<Call, LineError> {
-    let (agg, range) = split_word(rest)?;
-    let agg = AggId::new(parse_u64(agg)?);
-    let (from, last) = split_word(range)?;
-    let from = parse_u32(from)?;
-    match name {
-        "agg_cut" => {
-            let to = parse_u32(last)?;
-            Ok(Call::AggCut { agg, from, to })
-        }
-        _ => {
-            let (to, with) = split_word(last)?;
-            let to = parse_u32(to)?;
-            let with = AggId::new(parse_u64(with)?);
-            Ok(Call::AggReplace {
-                agg,
-                from,
-                to,
-                with,
-            })
-        }
-    }
-}
-
-/// Reads a call on a descriptor, which has one number more.
-fn parse_descriptor_call(name: &str, rest: &str) -> Result<Call, LineError> {
-    let (fd, last) = split_word(rest)?;
+fn read_iol_write(rest: &str) -> Option<Call>
+    ensures call { IfSome result (IsCalled name.IolWrite rest.now) }
+    ensures none { result ≡ None → (c : Call) → ¬ (IsCalled name.IolWrite rest.now c) }
+{
+    let (fd, agg) = split_word(rest);
     let fd = Fd::new(parse_u32(fd)?);
-    match name {
-        "give_fd" => {
-            let to = DomainId::new(parse_u32(last)?);
-            Ok(Call::GiveFd { fd, to })
+    let agg = AggId::new(parse_u64(agg)?);
+    Some(Call::IolWrite { fd, agg })
+}
+
+fn read_cut(rest: &str) -> Option<Call>
+    ensures call { IfSome result (IsCalled name.AggCut rest.now) }
+    ensures none { result ≡ None → (c : Call) → ¬ (IsCalled name.AggCut rest.now c) }
+{
+    let (agg, range) = split_word(rest);
+    let (from, to) = split_word(range);
+    let agg = AggId::new(parse_u64(agg)?);
+    let from = parse_u32(from)?;
+    let to = parse_u32(to)?;
+    Some(Call::AggCut { agg, from, to })
+}
+
+fn read_replace(rest: &str) -> Option<Call>
+    ensures call { IfSome result (IsCalled name.AggReplace rest.now) }
+    ensures none { result ≡ None → (c : Call) → ¬ (IsCalled name.AggReplace rest.now c) }
+{
+    let (agg, range) = split_word(rest);
+    let (from, last) = split_word(range);
+    let (to, with) = split_word(last);
+    let agg = AggId::new(parse_u64(agg)?);
+    let from = parse_u32(from)?;
+    let to = parse_u32(to)?;
+    let with = AggId::new(parse_u64(with)?);
+    Some(Call::AggReplace {
+        agg,
+        from,
+        to,
+        with,
+    })
+}
+
+fn read_pool_create(rest: &str) -> Option<CallLine<'_>>
+    ensures call { IfSome result (λ line. IsCalled name.PoolCreate rest.now (call_of line)) }
+    ensures can { IfSome result CanBeMade }
+    ensures none { result ≡ None → (c : Call) → ¬ (IsCalled name.PoolCreate rest.now c) }
+{
+    let (chunks, domains) = split_word(rest);
+    let chunks = parse_u32(chunks)?;
+    if are_domains(domains) {
+        Some(CallLine::PoolCreate { chunks, domains })
+    } else {
+        None
+    }
+}
+
+fn read_fill(rest: &str) -> Option<CallLine<'_>>
+    ensures call { IfSome result (λ line. IsCalled name.AggFill rest.now (call_of line)) }
+    ensures can { IfSome result CanBeMade }
+    ensures none { result ≡ None → (c : Call) → ¬ (IsCalled name.AggFill rest.now c) }
+{
+    let (count, text) = split_word(rest);
+    let count = parse_u32(count)?;
+    if can_repeat(count, text) {
+        Some(CallLine::AggFill { count, text })
+    } else {
+        None
+    }
+}
+
+fn read_write(rest: &str) -> Option<CallLine<'_>>
+    ensures call { IfSome result (λ line. IsCalled name.Write rest.now (call_of line)) }
+    ensures can { IfSome result CanBeMade }
+    ensures none { result ≡ None → (c : Call) → ¬ (IsCalled name.Write rest.now c) }
+{
+    let (fd, text) = split_word(rest);
+    let fd = Fd::new(parse_u32(fd)?);
+    Some(CallLine::Write { fd, text })
+}
+
+fn read_file_new(rest: &str) -> Option<CallLine<'_>>
+    ensures call { IfSome result (λ line. IsCalled name.FileNew rest.now (call_of line)) }
+    ensures can { IfSome result CanBeMade }
+    ensures none { result ≡ None → (c : Call) → ¬ (IsCalled name.FileNew rest.now c) }
+{
+    let (file, pool) = split_word(rest);
+    let pool = PoolId::new(parse_u32(pool)?);
+    Some(CallLine::FileNew { file, pool })
+}
+
+fn read_open_file(rest: &str) -> Option<CallLine<'_>>
+    ensures call { IfSome result (λ line. IsCalled name.OpenFile rest.now (call_of line)) }
+    ensures can { IfSome result CanBeMade }
+    ensures none { result ≡ None → (c : Call) → ¬ (IsCalled name.OpenFile rest.now c) }
+{
+    let (file, mode) = split_word(rest);
+    let mode = parse_mode(mode)?;
+    Some(CallLine::OpenFile { file, mode })
+}
+
+impl CallLine<'_> {
+    /// Makes the call, its texts decoded.
+    pub fn make(self, alloc: Global) -> Result<Call, AllocError>
+        requires { CanBeMade self }
+        ensures { IfOk result (λ call. call ≡ call_of self.entry) }
+    {
+        match self {
+            CallLine::Whole(call) => Ok(call),
+            CallLine::PoolCreate { chunks, domains } => {
+                let domains = list_domains(alloc, domains)?;
+                Ok(Call::PoolCreate { chunks, domains })
+            }
+            CallLine::AggMake { text } => {
+                let bytes = decode_text(alloc, text)?;
+                Ok(Call::AggMake { bytes })
+            }
+            CallLine::AggFill { count, text } => {
+                let bytes = repeat_text(alloc, count, text)?;
+                Ok(Call::AggMake { bytes })
+            }
+            CallLine::Write { fd, text } => {
+                let bytes = decode_text(alloc, text)?;
+                Ok(Call::Write { fd, bytes })
+            }
+            CallLine::FileNew { file, pool } => {
+                let name = decode_text(alloc, file)?;
+                Ok(Call::FileNew { name, pool })
+            }
+            CallLine::OpenFile { file, mode } => {
+                let name = decode_text(alloc, file)?;
+                Ok(Call::OpenFile { name, mode })
+            }
         }
-        "seek" => {
-            let at = parse_u32(last)?;
-            Ok(Call::Seek { fd, at })
-        }
-        "iol_read" => {
-            let count = parse_u32(last)?;
-            Ok(Call::IolRead { fd, count })
-        }
-        "read" => {
-            let count = parse_u32(last)?;
-            Ok(Call::Read { fd, count })
-        }
-        "iol_write" => {
-            let agg = AggId::new(parse_u64(last)?);
-            Ok(Call::IolWrite { fd, agg })
-        }
-        _ => Err(LineError::NotACommand),
     }
 }

@@ -1,51 +1,132 @@
-//! What the lines of a script have happen outside: on the network.
-ghost use Rattle.std.specs.Prelude.{◌≡◌, IfOk};
-ghost use Rattle.iolite.specs.Outside.{Happens, how_word};
+//! What the lines of a script have happen: a call of a domain, or what happens outside, on the network.
+ghost use Rattle.std.specs.Prelude.{◌≡◌, ◌≢◌, None, IfOk, IfSome};
+ghost use Rattle.iol_core.specs.declared.descriptors.How.{How};
+ghost use Rattle.iol_core.specs.declared.events.Event.{Event};
+ghost use Rattle.iolite.specs.Outside.{CanHappen, Happens, IsArrive, IsCallOf, IsConnNew, IsEvent, IsPeerClosed, IsTransmit, event_of, how_word};
 
-use crate::words::{LineError, decode_text, parse_u32, split_word};
+use crate::calls::{CallLine, read_call};
+use crate::words::{decode_text, parse_u32, split_word};
 use iol_core::descriptors::How;
 use iol_core::events::Event;
-use iol_core::numbers::{ConnId, PoolId};
-use std::alloc::Global;
+use iol_core::numbers::{ConnId, DomainId, PoolId};
+use std::alloc::{AllocError, Global};
 
-/// Reads what happens outside, by its name and what stands behind it. A text that is not given is empty.
-pub fn parse_outside(alloc: Global, name: &str, rest: &str) -> Result<Event, LineError>
-    ensures { IfOk result (Happens name.now rest.now) }
+/// An event as a line has it, its texts as they stand there.
+#[derive(Drop)]
+pub enum EventLine<'a> {
+    /// An event without a text.
+    Whole(Event),
+    Arrive { conn: ConnId, text: &'a str },
+    Call { by: DomainId, call: CallLine<'a> },
+}
+
+/// Reads a call of the domain of that number, or what happens outside under that name. To read one takes no memory.
+pub fn read_event<'a>(first: &str, rest: &'a str) -> Option<EventLine<'a>>
+    ensures event { IfSome result (λ line. IsEvent first.now rest.now (event_of line)) }
+    ensures can { IfSome result CanHappen }
+    ensures none { result ≡ None → (e : Event) → ¬ (IsEvent first.now rest.now e) }
 {
-    match name {
-        "conn_new" => {
-            let pool = PoolId::new(parse_u32(rest)?);
-            Ok(Event::ConnNew { pool })
-        }
-        "arrive" => {
-            let (conn, text) = rest.split_once(' ').unwrap_or((rest, ""));
-            let conn = ConnId::new(parse_u32(conn)?);
-            let bytes = decode_text(alloc, text)?;
-            Ok(Event::Arrive { conn, bytes })
-        }
-        "peer_closed" => {
-            let (conn, how) = split_word(rest)?;
-            let conn = ConnId::new(parse_u32(conn)?);
-            let how = parse_how(how)?;
-            Ok(Event::PeerClosed { conn, how })
-        }
-        "transmit" => {
-            let (conn, max) = split_word(rest)?;
-            let conn = ConnId::new(parse_u32(conn)?);
-            let max = parse_u32(max)?;
-            Ok(Event::Transmit { conn, max })
-        }
-        _ => Err(LineError::NotACommand),
+    match read_call_of(first, rest) {
+        Some(line) => Some(line),
+        None => read_outside(first, rest),
     }
 }
 
+/// Reads a call of the domain of that number.
+fn read_call_of<'a>(first: &str, rest: &'a str) -> Option<EventLine<'a>>
+    ensures event { IfSome result (λ line. IsCallOf first.now rest.now (event_of line)) }
+    ensures can { IfSome result CanHappen }
+    ensures none { result ≡ None → (e : Event) → ¬ (IsCallOf first.now rest.now e) }
+{
+    let by = DomainId::new(parse_u32(first)?);
+    match read_call(rest) {
+        Some(call) => Some(EventLine::Call { by, call }),
+        None => None,
+    }
+}
+
+/// Reads what happens outside, by its name and what stands behind it. A text that is not given is empty.
+fn read_outside<'a>(name: &str, rest: &'a str) -> Option<EventLine<'a>>
+    ensures event { IfSome result (λ line. Happens name.now rest.now (event_of line)) }
+    ensures can { IfSome result CanHappen }
+    ensures none { result ≡ None → (e : Event) → ¬ (Happens name.now rest.now e) }
+{
+    let event = match name {
+        "conn_new" => read_conn_new(rest)?,
+        "arrive" => return read_arrive(rest),
+        "peer_closed" => read_peer_closed(rest)?,
+        "transmit" => read_transmit(rest)?,
+        _ => return None,
+    };
+    Some(EventLine::Whole(event))
+}
+
+fn read_conn_new(rest: &str) -> Option<Event>
+    ensures event { IfSome result (IsConnNew rest.now) }
+    ensures none { result ≡ None → (e : Event) → ¬ (IsConnNew rest.now e) }
+{
+    let pool = PoolId::new(parse_u32(rest)?);
+    Some(Event::ConnNew { pool })
+}
+
+fn read_arrive(rest: &str) -> Option<EventLine<'_>>
+    ensures event { IfSome result (λ line. IsArrive rest.now (event_of line)) }
+    ensures can { IfSome result CanHappen }
+    ensures none { result ≡ None → (e : Event) → ¬ (IsArrive rest.now e) }
+{
+    let (conn, text) = split_word(rest);
+    let conn = ConnId::new(parse_u32(conn)?);
+    Some(EventLine::Arrive { conn, text })
+}
+
+fn read_peer_closed(rest: &str) -> Option<Event>
+    ensures event { IfSome result (IsPeerClosed rest.now) }
+    ensures none { result ≡ None → (e : Event) → ¬ (IsPeerClosed rest.now e) }
+{
+    let (conn, how) = split_word(rest);
+    let conn = ConnId::new(parse_u32(conn)?);
+    let how = parse_how(how)?;
+    Some(Event::PeerClosed { conn, how })
+}
+
+fn read_transmit(rest: &str) -> Option<Event>
+    ensures event { IfSome result (IsTransmit rest.now) }
+    ensures none { result ≡ None → (e : Event) → ¬ (IsTransmit rest.now e) }
+{
+    let (conn, max) = split_word(rest);
+    let conn = ConnId::new(parse_u32(conn)?);
+    let max = parse_u32(max)?;
+    Some(Event::Transmit { conn, max })
+}
+
 /// Reads how a peer closed its connection.
-fn parse_how(word: &str) -> Result<How, LineError>
-    ensures { IfOk result (λ how. word.now ≡ how_word how) }
+fn parse_how(word: &str) -> Option<How>
+    ensures how { IfSome result (λ how. word.now ≡ how_word how) }
+    ensures none { result ≡ None → (how : How) → word.now ≢ how_word how }
 {
     match word {
-        "done" => Ok(How::Done),
-        "gone" => Ok(How::Gone),
-        _ => Err(LineError::NotACommand),
+        "done" => Some(How::Done),
+        "gone" => Some(How::Gone),
+        _ => None,
+    }
+}
+
+impl EventLine<'_> {
+    /// Makes the event, its texts decoded.
+    pub fn make(self, alloc: Global) -> Result<Event, AllocError>
+        requires { CanHappen self }
+        ensures { IfOk result (λ event. event ≡ event_of self.entry) }
+    {
+        match self {
+            EventLine::Whole(event) => Ok(event),
+            EventLine::Arrive { conn, text } => {
+                let bytes = decode_text(alloc, text)?;
+                Ok(Event::Arrive { conn, bytes })
+            }
+            EventLine::Call { by, call } => {
+                let call = call.make(alloc)?;
+                Ok(Event::Call { by, call })
+            }
+        }
     }
 }

@@ -1,15 +1,15 @@
 //! The program `replay`.
-ghost use Rattle.std.specs.Prelude.{◌≡◌, ◌≢◌, ◌⊎◌, ◌++◌, Err, IfOk, IfErr, IfSome, OnOk, OnErr, string_bytes};
-ghost use Rattle.std.specs.Io.KnownBytes.{Appends};
+ghost use Rattle.std.specs.Prelude.{◌≡◌, ◌≢◌, ◌⊎◌, ◌++◌, [], All, Err, IfOk, IfErr, IfSome, OnOk, OnErr, string_bytes};
+ghost use Rattle.std.specs.Io.KnownBytes.{Appends, Keeps};
 ghost use Rattle.std.specs.IoError.{error_kind};
-ghost use Rattle.iolite.specs.Answers.{Answered, IsAnswer, IsNew, Replayed};
-ghost use Rattle.iolite.specs.Failure.{status_of, IsOfInput};
-ghost use Rattle.iolite.specs.Printed.{answer_text, lines_of, newline};
-ghost use Rattle.iolite.specs.Script.{IsScriptText, IsWholeOrTooLong};
+ghost use Rattle.iolite.specs.Answers.{Answering, AnswersLine, Begun, EndsWithin, IsAnswer, IsNew, Replayed, WritesSome};
+ghost use Rattle.iolite.specs.Failure.{IsOfAnswers, IsOfInput, status_of};
+ghost use Rattle.iolite.specs.Printed.{answer_text, newline};
+ghost use Rattle.iolite.specs.Script.{AsksSomething, HasBadLine, IsBadScript, IsScriptText, IsWholeOrTooLong, asking, commands, lines};
 
 use crate::failure::Failure;
 use crate::printed::{Printed, PrintedReport};
-use crate::script::{Line, Script};
+use crate::script::{Line, is_asking, judge, read_line};
 use crate::setup::Setup;
 use iol_back::faulty::FaultyBacking;
 use iol_back::memory::MemoryBacking;
@@ -37,9 +37,10 @@ pub enum Answer {
 /// Runs the script that the input holds, and prints a reply a line. The answer is the exit status: 0, or 2 for a bad
 /// script or line, or 3 where input, output or memory failed.
 ///
-/// Each line of the script is answered by the system that it sets up, and each answer printed, in order. The
-/// script is read whole before the first event, so a bad one prints nothing on `output`. What goes wrong is told on
-/// `errors` in one line, and nothing is told where that cannot be written.
+/// The script is read and judged whole before the first event, so a bad one prints nothing on `output`. Then each line is
+/// answered by the system that the script sets up, and the answer printed before the next line is read. Where output or memory
+/// fails, what was printed is a beginning. What goes wrong is told on `errors` in one line, and nothing is told where that
+/// cannot be written.
 pub fn replay<R: Read, W: Write, E: Write>(
     alloc: Global,
     input: &mut R,
@@ -47,9 +48,12 @@ pub fn replay<R: Read, W: Write, E: Write>(
     errors: &mut E,
 ) -> u8
     ensures statuses { (result ≡ 0) ⊎ (result ≡ 2) ⊎ (result ≡ 3) }
+    ensures bad_script { result ≡ 2 → IfSome (R.remaining input.old) IsBadScript }
     ensures bad_script_prints_nothing { result ≡ 2 → output.new ≡ output.old }
     ensures no_script { IfSome (R.remaining input.old)
         (λ given. ¬ (IsScriptText given) → result ≢ 0) }
+    ensures begun { (output.new ≡ output.old) ⊎ IfSome (R.remaining input.old)
+        (λ given. Begun given (W.contents output.old) (W.contents output.new)) }
     ensures replayed { result ≡ 0 → IfSome (R.remaining input.old)
         (λ given. Replayed given (W.contents output.old) (W.contents output.new)) }
 {
@@ -66,15 +70,32 @@ pub fn replay<R: Read, W: Write, E: Write>(
 fn run<R: Read, W: Write>(alloc: Global, input: &mut R, output: &mut W) -> Result<(), Failure>
     ensures untouched { IfErr result (λ failure. status_of failure ≡ 2 → output.new ≡ output.old) }
     ensures ok { OnOk result (IfSome (R.remaining input.old) IsScriptText) }
-    ensures bad { result ≡ Err Failure.BadScript →
-        IfSome (R.remaining input.old) (λ given. ¬ (IsScriptText given)) }
+    ensures bad { IfErr result (λ failure. status_of failure ≡ 2 →
+        IfSome (R.remaining input.old) IsBadScript) }
+    ensures begun { (output.new ≡ output.old) ⊎ IfSome (R.remaining input.old)
+        (λ given. Begun given (W.contents output.old) (W.contents output.new)) }
     ensures replayed { OnOk result (IfSome (R.remaining input.old)
         (λ given. Replayed given (W.contents output.old) (W.contents output.new))) }
 {
-    let text = read_text(alloc, input)?;
-    let script = Script::parse(alloc, text.as_str())?;
-    let answers = answers_to(alloc, script)?;
-    print(alloc, answers.as_slice(), output)
+    match read_text(alloc, input) {
+        Ok(text) => replay_text(alloc, text.as_str(), output),
+        Err(failure) => Err(failure),
+    }
+}
+
+/// Judges a script, and then answers its lines, each printed before the next is read.
+fn replay_text<W: Write>(alloc: Global, text: &str, output: &mut W) -> Result<(), Failure>
+    ensures untouched { IfErr result (λ failure. status_of failure ≡ 2 → output.new ≡ output.old) }
+    ensures bad { IfErr result (λ failure. status_of failure ≡ 2 →
+        HasBadLine (commands text.now)) }
+    ensures begun { (output.new ≡ output.old) ⊎
+        Begun text.now (W.contents output.old) (W.contents output.new) }
+    ensures replayed { OnOk result
+        (Replayed text.now (W.contents output.old) (W.contents output.new)) }
+{
+    let setup = judge(alloc, text)?;
+    let mut system = system_of(alloc, setup)?;
+    answer_lines(alloc, &mut system, text, output)
 }
 
 /// Reads the input to its end, as a script.
@@ -123,24 +144,6 @@ fn text_of(bytes: Vec<u8>) -> Result<String, Failure>
 /// A system over a store in memory, of which one read or write may fail.
 type ScriptSystem = System<FaultyBacking<MemoryBacking>>;
 
-// Answers each line of a script, by the system that it sets up.
-fn answers_to(alloc: Global, script: Script) -> Result<Vec<Answer>, Failure>
-    ensures answered { IfOk result
-        (λ answers. Answered script.setup script.lines.items answers.items) }
-    ensures error { IfErr result (λ failure. failure ≡ Failure.Memory) }
-{
-    let mut system = system_of(alloc, script.setup)?;
-    let mut answers = match Vec::with_capacity(alloc, script.lines.len()) {
-        Ok(answers) => answers,
-        Err(_) => return Err(Failure::Memory),
-    };
-    for line in script.lines {
-        let answer = answer_to(&mut system, line)?;
-        answers.push_reserved(answer);
-    }
-    Ok(answers)
-}
-
 // The system that a script sets up.
 fn system_of(alloc: Global, setup: Setup) -> Result<ScriptSystem, Failure>
     ensures new { IfOk result (IsNew setup) }
@@ -151,6 +154,65 @@ fn system_of(alloc: Global, setup: Setup) -> Result<ScriptSystem, Failure>
     // The sizes are in their ranges, so only memory can be wanting.
     match System::new(alloc, config, store) {
         Ok(system) => Ok(system),
+        Err(_) => Err(Failure::Memory),
+    }
+}
+
+// Answers each line that asks for something, and prints its answer before the next is read, so that memory holds one line and
+// one answer at a time. The answers' texts are gathered here and not in a `BufWriter`, of which no contract says that the
+// writer it gives back is the one that it was given.
+fn answer_lines<W: Write>(
+    alloc: Global,
+    system: &mut ScriptSystem,
+    text: &str,
+    output: &mut W,
+) -> Result<(), Failure>
+    requires { All AsksSomething (asking (commands text.now)) }
+    ensures within { EndsWithin (lines text.now) system.old (W.contents output.old)
+        (W.contents output.new) }
+    ensures answered { OnOk result (Answering (lines text.now) system.old system.new
+        (W.contents output.old) (W.contents output.new) []) }
+    ensures error { IfErr result IsOfAnswers }
+{
+    let mut pending = match Vec::with_capacity(alloc, BUFFER_BYTES) {
+        Ok(pending) => pending,
+        Err(_) => return Err(Failure::Memory),
+    };
+    for line in text.split('\n') {
+        if !is_asking(line) {
+            continue;
+        }
+        answer_line(alloc, system, line, &mut pending)?;
+        if pending.len() >= BUFFER_BYTES {
+            write_out(pending.as_slice(), output)?;
+            pending.clear();
+        }
+    }
+    write_out(pending.as_slice(), output)?;
+    flush(output)
+}
+
+// Answers one line, and puts the answer's text behind what is pending.
+fn answer_line(
+    alloc: Global,
+    system: &mut ScriptSystem,
+    line: &str,
+    pending: &mut Vec<u8>,
+) -> Result<(), Failure>
+    requires { AsksSomething line.now }
+    ensures answers { OnOk result (AnswersLine line.now system.old system.new
+        pending.old.items pending.new.items) }
+    ensures error { IfErr result (λ failure. failure ≡ Failure.Memory) }
+{
+    let Some(asked) = read_line(line) else {
+        unreachable!();
+    };
+    let Ok(line) = asked.make(alloc) else {
+        return Err(Failure::Memory);
+    };
+    let answer = answer_to(system, line)?;
+    match write_answer(&answer, pending) {
+        Ok(()) => Ok(()),
         Err(_) => Err(Failure::Memory),
     }
 }
@@ -172,37 +234,6 @@ fn answer_to(system: &mut ScriptSystem, line: Line) -> Result<Answer, Failure>
     }
 }
 
-// Prints each reply on a line of its own, and of each report its lines.
-fn print<W: Write>(alloc: Global, answers: &[Answer], output: &mut W) -> Result<(), Failure>
-    ensures lines { OnOk result
-        (Appends (W.contents output.old) (W.contents output.new) (lines_of answers.now)) }
-    ensures error { IfErr result
-        (λ failure. (failure ≡ Failure.Output) ⊎ (failure ≡ Failure.Memory)) }
-{
-    match write_lines(alloc, answers, output) {
-        Ok(()) => Ok(()),
-        Err(e) => Err(failure_of(&e, Failure::Output)),
-    }
-}
-
-// Writes the lines of all answers, in order, many at a time. They are gathered here and not in a `BufWriter`, of which
-// no contract says that the writer it gives back is the one that it was given.
-fn write_lines<W: Write>(alloc: Global, answers: &[Answer], output: &mut W) -> io::Result<()>
-    ensures { OnOk result
-        (Appends (W.contents output.old) (W.contents output.new) (lines_of answers.now)) }
-{
-    let mut pending = Vec::with_capacity(alloc, BUFFER_BYTES)?;
-    for answer in answers {
-        write_answer(answer, &mut pending)?;
-        if pending.len() >= BUFFER_BYTES {
-            output.write_all(pending.as_slice())?;
-            pending.clear();
-        }
-    }
-    output.write_all(pending.as_slice())?;
-    output.flush()
-}
-
 // Writes the text of an answer, and the end of its last line.
 fn write_answer<W: Write>(answer: &Answer, output: &mut W) -> io::Result<()>
     ensures { OnOk result (Appends (W.contents output.old) (W.contents output.new)
@@ -217,6 +248,39 @@ fn write_answer<W: Write>(answer: &Answer, output: &mut W) -> io::Result<()>
             let printed = PrintedReport(report);
             writeln!(output, "{printed}")
         }
+    }
+}
+
+// Writes all bytes, or a beginning of them where the output fails.
+fn write_out<W: Write>(bytes: &[u8], output: &mut W) -> Result<(), Failure>
+    ensures some { WritesSome (W.contents output.old) (W.contents output.new) bytes.now }
+    ensures all { OnOk result
+        (Appends (W.contents output.old) (W.contents output.new) bytes.now) }
+    ensures error { IfErr result IsOfAnswers }
+{
+    let mut rest = bytes;
+    for _turn in 0..u64::MAX {
+        if rest.is_empty() {
+            return Ok(());
+        }
+        match output.write(rest) {
+            Ok(0) => return Err(Failure::Output),
+            Ok(count) => rest = &rest[count..],
+            Err(e) if e.kind() == ErrorKind::Interrupted => {}
+            Err(e) => return Err(failure_of(&e, Failure::Output)),
+        }
+    }
+    Err(Failure::Output)
+}
+
+// Has all that was written go out.
+fn flush<W: Write>(output: &mut W) -> Result<(), Failure>
+    ensures bytes { Keeps (W.contents output.old) (W.contents output.new) }
+    ensures error { IfErr result IsOfAnswers }
+{
+    match output.flush() {
+        Ok(()) => Ok(()),
+        Err(e) => Err(failure_of(&e, Failure::Output)),
     }
 }
 

@@ -1,19 +1,17 @@
-//! Scripts: lines of text that stand for events.
-ghost use Rattle.std.specs.Prelude.{◌≡◌, [], IfOk, IfErr, OnOk};
-ghost use Rattle.iolite.specs.Failure.{IsOfLines};
-ghost use Rattle.iolite.specs.Outside.{IsEvent};
-ghost use Rattle.iolite.specs.Script.{AddsLine, Asks, Says, commands, is_blank};
-ghost use Rattle.iolite.specs.Setup.{SetsUp};
+//! Scripts: lines of text that stand for events. A script is judged whole, and then read a line at a time.
+ghost use Rattle.std.specs.Prelude.{◌≡◌, ◌↔◌, Err, None, IfErr, IfOk, IfSome, OnOk, true};
+ghost use Rattle.iolite.specs.Failure.{IsBadLine, IsOfLines};
+ghost use Rattle.iolite.specs.Script.{Asks, AsksAlone, AsksEvent, AsksSomething, CanAsk, HasBadLine, IsBadAfter, IsJudged, Judges, commands, is_asking, is_blank, line_of};
+ghost use Rattle.iolite.specs.declared.headers.HeaderError.TheVariants.{NotACommand};
+ghost use Rattle.iolite.specs.declared.script.Line.{Line};
 
-use crate::calls::parse_call;
 use crate::failure::Failure;
-use crate::headers::is_header;
-use crate::outside::parse_outside;
+use crate::headers::{HeaderError, is_header};
+use crate::outside::{EventLine, read_event};
 use crate::setup::Setup;
-use crate::words::{LineError, parse_u32, split_word};
+use crate::words::split_word;
 use iol_core::events::Event;
-use iol_core::numbers::DomainId;
-use std::alloc::Global;
+use std::alloc::{AllocError, Global};
 
 /// What a line asks of a system.
 #[derive(Debug, Drop)]
@@ -25,102 +23,146 @@ pub enum Line {
     Report,
 }
 
-/// What a script says: the system that it runs on, and what is asked of it.
+/// What a line asks for, its texts as they stand there.
 #[derive(Drop)]
-pub struct Script {
-    pub setup: Setup,
-
-    /// The lines that ask for something, in order.
-    pub lines: Vec<Line>,
+pub enum Asked<'a> {
+    Event(EventLine<'a>),
+    Report,
 }
 
-impl Script {
-    /// Reads a script. It fails at the first line that is not a command, or for want of memory.
-    pub fn parse(alloc: Global, text: &str) -> Result<Script, Failure>
-        ensures says { IfOk result
-            (λ script. Says (commands text.now) script.setup script.lines.items) }
-        ensures error { IfErr result IsOfLines }
-    {
-        let mut script = Script {
-            setup: Setup::new(alloc),
-            lines: Vec::new(alloc),
-        };
-        for (place, line) in text.split('\n').enumerate() {
-            if is_blank(line) {
-                continue;
-            }
-            match script.add_line(alloc, line) {
-                Ok(()) => {}
-                Err(LineError::NotACommand) => {
-                    return Err(Failure::BadLine { number: place + 1 });
-                }
-                Err(LineError::Memory) => return Err(Failure::Memory),
-            }
+/// Judges a script whole, and keeps of it what it sets up. No text is decoded but those that it stores. It fails at the
+/// first line that is not a command, or for want of memory.
+pub fn judge(alloc: Global, text: &str) -> Result<Setup, Failure>
+    ensures judged { IfOk result (IsJudged (commands text.now)) }
+    ensures bad { IfErr result (λ failure. IsBadLine failure → HasBadLine (commands text.now)) }
+    ensures error { IfErr result IsOfLines }
+{
+    let mut judged = Judged {
+        setup: Setup::new(alloc),
+        has_asked: false,
+    };
+    for (place, line) in text.split('\n').enumerate() {
+        if is_blank(line) {
+            continue;
         }
-        Ok(script)
+        match judged.add_line(alloc, line) {
+            Ok(()) => {}
+            Err(HeaderError::NotACommand) => {
+                return Err(Failure::BadLine { number: place + 1 });
+            }
+            Err(HeaderError::Memory) => return Err(Failure::Memory),
+        }
     }
+    Ok(judged.setup)
+}
 
-    /// Adds what one line says. What sets the system up stands before all that is asked for.
-    fn add_line(&mut self, alloc: Global, line: &str) -> Result<(), LineError>
-        ensures { OnOk result (AddsLine self.old.setup self.old.lines.items line.now
-            self.new.setup self.new.lines.items) }
+/// What the lines of a script so far set up, and whether any has asked for something.
+#[derive(Drop)]
+struct Judged {
+    setup: Setup,
+    has_asked: bool,
+}
+
+impl Judged {
+    /// Judges one line more. What sets the system up stands before all that is asked for.
+    fn add_line(&mut self, alloc: Global, line: &str) -> Result<(), HeaderError>
+        ensures judges { OnOk result (Judges self.old.setup self.old.has_asked line.now
+            self.new.setup self.new.has_asked) }
+        ensures bad { result ≡ Err NotACommand →
+            IsBadAfter self.old.setup (self.old.has_asked ≡ true) line.now }
     {
-        if let Some((first, rest)) = line.split_once(' ') {
-            if is_header(first) {
-                return self.add_header(alloc, first, rest);
+        let (first, rest) = split_word(line);
+        if is_header(first) {
+            if self.has_asked {
+                return Err(HeaderError::NotACommand);
             }
+            return self.setup.add(alloc, first, rest);
         }
-        let asked = parse_line(alloc, line)?;
-        self.lines.push(asked)?;
+        if !asks_something(line) {
+            return Err(HeaderError::NotACommand);
+        }
+        self.has_asked = true;
         Ok(())
     }
-
-    // Adds what a line says of the system, by its first word and what stands behind it.
-    fn add_header(&mut self, alloc: Global, name: &str, rest: &str) -> Result<(), LineError>
-        ensures setup { OnOk result (SetsUp name.now rest.now self.old.setup self.new.setup) }
-        ensures first { OnOk result (self.old.lines.items ≡ []) }
-        ensures lines { self.new.lines.items ≡ self.old.lines.items }
-    {
-        if !self.lines.is_empty() {
-            return Err(LineError::NotACommand);
-        }
-        self.setup.add(alloc, name, rest)
-    }
 }
 
-// Reads what a line asks for.
-fn parse_line(alloc: Global, line: &str) -> Result<Line, LineError>
-    ensures { IfOk result (Asks line.now) }
+/// Whether a line asks for something.
+fn asks_something(line: &str) -> bool
+    ensures { result ≡ true ↔ AsksSomething line.now }
 {
-    match line {
-        "report" => Ok(Line::Report),
-        "flush" => Ok(Line::Event(Event::Flush)),
-        "drop_clean" => Ok(Line::Event(Event::DropClean)),
-        _ => {
-            let (first, rest) = split_word(line)?;
-            let event = parse_event(alloc, first, rest)?;
-            Ok(Line::Event(event))
-        }
-    }
+    let asked = read_line(line);
+    asked.is_some()
 }
 
-// Reads a call of the domain of that number, or what happens outside under that name.
-fn parse_event(alloc: Global, first: &str, rest: &str) -> Result<Event, LineError>
-    ensures { IfOk result (IsEvent first.now rest.now) }
+/// Whether a line asks for something, if it is a command: whether it is neither blank nor sets up.
+pub fn is_asking(line: &str) -> bool
+    ensures { result ≡ is_asking line.now }
 {
-    let Ok(by) = parse_u32(first) else {
-        return parse_outside(alloc, first, rest);
-    };
-    let call = parse_call(alloc, rest)?;
-    Ok(Event::Call {
-        by: DomainId::new(by),
-        call,
-    })
+    if is_blank(line) {
+        return false;
+    }
+    let (first, _rest) = split_word(line);
+    !is_header(first)
 }
 
-// Whether a line says nothing: an empty one, or a comment.
+/// Whether a line says nothing: an empty one, or a comment.
 fn is_blank(line: &str) -> bool
     ensures { result ≡ is_blank line.now }
 {
     matches!(line.as_bytes().first(), None | Some(b'#'))
+}
+
+/// Reads what a line asks for. To read it takes no memory.
+pub fn read_line(line: &str) -> Option<Asked<'_>>
+    ensures asks { IfSome result (λ asked. Asks line.now (line_of asked)) }
+    ensures can { IfSome result CanAsk }
+    ensures none { result ≡ None → (x : Line) → ¬ (Asks line.now x) }
+{
+    match read_alone(line) {
+        Some(asked) => Some(asked),
+        None => read_event_line(line),
+    }
+}
+
+/// Reads a line that is one word.
+fn read_alone(line: &str) -> Option<Asked<'_>>
+    ensures asks { IfSome result (λ asked. AsksAlone line.now (line_of asked)) }
+    ensures can { IfSome result CanAsk }
+    ensures none { result ≡ None → (x : Line) → ¬ (AsksAlone line.now x) }
+{
+    match line {
+        "report" => Some(Asked::Report),
+        "flush" => Some(Asked::Event(EventLine::Whole(Event::Flush))),
+        "drop_clean" => Some(Asked::Event(EventLine::Whole(Event::DropClean))),
+        _ => None,
+    }
+}
+
+/// Reads a line that has a call, or what happens outside.
+fn read_event_line(line: &str) -> Option<Asked<'_>>
+    ensures asks { IfSome result (λ asked. AsksEvent line.now (line_of asked)) }
+    ensures can { IfSome result CanAsk }
+    ensures none { result ≡ None → (x : Line) → ¬ (AsksEvent line.now x) }
+{
+    let (first, rest) = split_word(line);
+    match read_event(first, rest) {
+        Some(event) => Some(Asked::Event(event)),
+        None => None,
+    }
+}
+
+impl Asked<'_> {
+    /// Makes what is asked for, its texts decoded.
+    pub fn make(self, alloc: Global) -> Result<Line, AllocError>
+        requires { CanAsk self }
+        ensures { IfOk result (λ line. line ≡ line_of self.entry) }
+    {
+        match self {
+            Asked::Event(event) => {
+                let event = event.make(alloc)?;
+                Ok(Line::Event(event))
+            }
+            Asked::Report => Ok(Line::Report),
+        }
+    }
 }

@@ -1,9 +1,11 @@
-//! The words of a script's lines: numbers, lists of numbers, and texts.
-ghost use Rattle.std.specs.Prelude.{◌≡◌, ◌↔◌, ◌<◌, ◌+◌, ◌*◌, ◌^◌, ◌==◌, Err, IsOk, IfOk, length};
-ghost use Rattle.std.specs.List.{before_first, after_first, position_or_len, repeat};
-ghost use Rattle.std.specs.Str.Parse.{IsNumeral, digits_value};
-ghost use Rattle.iolite.specs.declared.words.LineError.TheVariants.{Memory};
+//! The words of a script's lines: numbers, lists of numbers, and texts. What reads them takes no memory, and so judges them;
+//! only a text that is decoded and a list that is made take some.
+ghost use Rattle.std.specs.Prelude.{◌≡◌, ◌↔◌, ◌≤◌, ◌*◌, ◌≢◌, None, IsSome, IfOk, IfSome, length, true};
+ghost use Rattle.std.specs.List.{before_first, after_first, repeat};
+ghost use Rattle.iol_core.specs.declared.descriptors.Mode.{Mode};
 ghost use Rattle.iolite.specs.declared.words.TheConstants.{MAX_REPEATED_BYTES};
+ghost use Rattle.iolite.specs.Calls.{AreDomains, domains_of, mode_word};
+ghost use Rattle.iolite.specs.Words.{IsLong, IsShort, rest_of, value, word};
 ghost use Rattle.percent_encoding.specs.Percent.{percent_decode as decoded};
 
 use iol_core::descriptors::Mode;
@@ -11,93 +13,73 @@ use iol_core::limits::MAX_AGGREGATE_BYTES;
 use iol_core::lists::{Bytes, Domains};
 use iol_core::numbers::DomainId;
 use percent_encoding::percent_decode;
-use std::alloc::{AllocError, AllocFailed, Global};
+use std::alloc::{AllocError, Global};
 
 /// The bytes that a text may have once it is repeated, and a file of the store: one more than an aggregate and a file may
 /// have, so that a script can ask for one that is too long.
 pub const MAX_REPEATED_BYTES: u64 = MAX_AGGREGATE_BYTES as u64 + 1;
 
-/// Why a line has no meaning.
-#[derive(Clone, Copy, Debug, PartialEq, Eq)]
-pub enum LineError {
-    /// The line is not a command.
-    NotACommand,
-
-    /// The allocator refused to give memory.
-    Memory,
-}
-
-impl From<AllocError> for LineError {
-    ghost from_gives = { λ _ e. e ≡ Memory };
-
-    fn from(_error: AllocError) -> LineError {
-        LineError::Memory
-    }
-}
-
-impl<T: Drop> From<AllocFailed<T>> for LineError {
-    ghost from_gives = { λ _ e. e ≡ Memory };
-
-    fn from(_error: AllocFailed<T>) -> LineError {
-        LineError::Memory
-    }
+/// Cuts a line at its first space, which belongs to neither part. Without one all is the word, and nothing behind it.
+pub fn split_word(line: &str) -> (&str, &str)
+    ensures word { result.0.now ≡ word line.now }
+    ensures rest { result.1.now ≡ rest_of line.now }
+{
+    line.split_once(' ').unwrap_or((line, ""))
 }
 
 /// Reads a number of decimal digits alone.
-pub fn parse_u32(word: &str) -> Result<u32, LineError>
-    ensures accepts { IsOk result ↔ (IsNumeral 10 word.now × (digits_value 10 word.now < 2 ^ 32)) }
-    ensures value { IfOk result (λ n. n ≡ digits_value 10 word.now) }
+pub fn parse_u32(word: &str) -> Option<u32>
+    ensures accepts { IsSome result ↔ IsShort word.now }
+    ensures value { IfSome result (λ n. n ≡ value word.now) }
 {
     if word.as_bytes().first() == Some(&b'+') {
-        return Err(LineError::NotACommand);
+        return None;
     }
-    match word.parse::<u32>() {
-        Ok(number) => Ok(number),
-        Err(_) => Err(LineError::NotACommand),
-    }
+    word.parse::<u32>().ok()
 }
 
 /// Reads a number of decimal digits alone.
-pub fn parse_u64(word: &str) -> Result<u64, LineError>
-    ensures accepts { IsOk result ↔ (IsNumeral 10 word.now × (digits_value 10 word.now < 2 ^ 64)) }
-    ensures value { IfOk result (λ n. n ≡ digits_value 10 word.now) }
+pub fn parse_u64(word: &str) -> Option<u64>
+    ensures accepts { IsSome result ↔ IsLong word.now }
+    ensures value { IfSome result (λ n. n ≡ value word.now) }
 {
     if word.as_bytes().first() == Some(&b'+') {
-        return Err(LineError::NotACommand);
+        return None;
     }
-    match word.parse::<u64>() {
-        Ok(number) => Ok(number),
-        Err(_) => Err(LineError::NotACommand),
-    }
-}
-
-/// Cuts a line at its first space, which belongs to neither part.
-pub fn split_word(line: &str) -> Result<(&str, &str), LineError>
-    ensures word { IfOk result (λ parts. parts.0.now ≡ before_first (λ b. b == 32) line.now) }
-    ensures rest { IfOk result (λ parts. parts.1.now ≡ after_first (λ b. b == 32) line.now) }
-    ensures found { IsOk result ↔ (position_or_len (λ b. b == 32) line.now < length line.now) }
-{
-    match line.split_once(' ') {
-        Some((word, rest)) => Ok((word, rest)),
-        None => Err(LineError::NotACommand),
-    }
+    word.parse::<u64>().ok()
 }
 
 /// Reads how a file is to be open.
-pub fn parse_mode(word: &str) -> Result<Mode, LineError> {
+pub fn parse_mode(word: &str) -> Option<Mode>
+    ensures mode { IfSome result (λ mode. word.now ≡ mode_word mode) }
+    ensures none { result ≡ None → (mode : Mode) → word.now ≢ mode_word mode }
+{
     match word {
-        "read" => Ok(Mode::Read),
-        "write" => Ok(Mode::Write),
-        "both" => Ok(Mode::Both),
-        _ => Err(LineError::NotACommand),
+        "read" => Some(Mode::Read),
+        "write" => Some(Mode::Write),
+        "both" => Some(Mode::Both),
+        _ => None,
     }
 }
 
+/// Whether a word has the numbers of domains, joined by commas.
+pub fn are_domains(word: &str) -> bool
+    ensures { result ≡ true ↔ AreDomains word.now }
+{
+    word.split(',').all(|number| parse_u32(number).is_some())
+}
+
 /// Reads the numbers of domains, joined by commas.
-pub fn parse_domains(alloc: Global, word: &str) -> Result<Domains, LineError> {
+pub fn list_domains(alloc: Global, word: &str) -> Result<Domains, AllocError>
+    requires { AreDomains word.now }
+    ensures { IfOk result (λ domains. domains ≡ domains_of word.now) }
+{
     let mut domains = Vec::new(alloc);
     for number in word.split(',') {
-        domains.push(DomainId::new(parse_u32(number)?))?;
+        let Some(number) = parse_u32(number) else {
+            unreachable!();
+        };
+        domains.push(DomainId::new(number))?;
     }
     Ok(Domains::from_vec(domains))
 }
@@ -111,16 +93,18 @@ pub fn decode_text(alloc: Global, text: &str) -> Result<Bytes, AllocError>
     Ok(Bytes::from_vec(bytes))
 }
 
-/// Reads a text, so many times over. Where that is too long the line is not a command.
-pub fn repeat_text(alloc: Global, count: u32, text: &str) -> Result<Bytes, LineError>
-    ensures bytes { IfOk result (λ bytes. bytes ≡ repeat count (decoded text.now)) }
-    ensures long { (result ≡ Err LineError.NotACommand)
-        ↔ (MAX_REPEATED_BYTES < count * length (decoded text.now)) }
+/// Whether a text, so many times over, is no longer than may be.
+pub fn can_repeat(count: u32, text: &str) -> bool
+    ensures { result ≡ true ↔ (count * length (decoded text.now) ≤ MAX_REPEATED_BYTES) }
 {
     let length = percent_decode(text.as_bytes()).count() as u64;
-    if length.saturating_mul(u64::from(count)) > MAX_REPEATED_BYTES {
-        return Err(LineError::NotACommand);
-    }
+    length.saturating_mul(u64::from(count)) <= MAX_REPEATED_BYTES
+}
+
+/// Reads a text, so many times over.
+pub fn repeat_text(alloc: Global, count: u32, text: &str) -> Result<Bytes, AllocError>
+    ensures { IfOk result (λ bytes. bytes ≡ repeat count (decoded text.now)) }
+{
     let once = decode_text(alloc, text)?;
     let bytes = once.as_slice().repeat(alloc, count as usize)?;
     Ok(Bytes::from_vec(bytes))

@@ -1,5 +1,8 @@
-use Rattle.flash_http.proofs.ServedRequests.{names_are_plain}
+use Rattle.flash_http.proofs.ServedRequests.{names_are_plain, heads_have_no_range}
 use Rattle.flash_http.proofs.heads.served_requests.Goals as goal
 
 pub returns-clause-names : goal.returns-clause-names
 returns-clause-names c = names_are_plain
+
+pub returns-clause-ranges : goal.returns-clause-ranges
+returns-clause-ranges c = heads_have_no_range

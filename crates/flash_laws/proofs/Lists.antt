@@ -1,0 +1,94 @@
+-- Lists, numbers and tests: what the proofs of phases use.
+use Rattle.std.proofs.Common.{◌≡◌, ℕ, zero, suc, ◌+◌, ◌-◌, ◌==◌, ◌<◌, ◌≤◌, List, [], ◌∷◌, ◌++◌, length, take, drop, ap, ◌∙◌, refl, sym, arith, true, false, Bool, length-append, length-drop}
+use Rattle.std.specs.Prelude.{min, nat_lt, ◌||◌, slice_range}
+use Rattle.std.proofs.lemmas.List.{take-append-le, drop-append-le, drop_all, drop-drop, length-take-le}
+use Rattle.std.proofs.lemmas.Bool.Decides.{nat_tests}
+use Rattle.iol_core.specs.Text.{Text, bytes_of}
+use Rattle.flash_laws.specs.Conn.{piece_end}
+
+pub not-equal : (a b : ℕ) → (a ≡ b → ⊥) → (a == b) ≡ false
+not-equal a b differ = grind (arith, nat_tests, differ)
+
+pub turned : (a b : ℕ) → (a == b) ≡ false → (b == a) ≡ false
+turned a b is = grind (arith, nat_tests, is)
+
+pub clash : (b : Bool) → b ≡ true → b ≡ false → ⊥
+clash true t f = absurd (cc)
+clash false t f = absurd (cc)
+
+pub self : (a : ℕ) → (a == a) ≡ true
+self a = grind (arith, nat_tests)
+
+pub first_of : (a : ℕ) (b : Bool) → ((a == a) || b) ≡ true
+first_of a b = grind (arith, nat_tests)
+
+pub later_of : (a b : Bool) → b ≡ true → (a || b) ≡ true
+later_of true b is = refl
+later_of false b is = is
+
+pub bytes-append : (s t : Text) → bytes_of (s ++ t) ≡ bytes_of s ++ bytes_of t
+bytes-append [] t = refl
+bytes-append (b ∷ s) t = ap (λ (l : List ℕ). b.0 ∷ l) (bytes-append s t)
+
+pub none-bytes : (t : Text) → bytes_of t ≡ [] → t ≡ []
+none-bytes [] is = refl
+none-bytes (b ∷ t) is = absurd (cc)
+
+take-none : (k : ℕ) → take {A = ℕ} k [] ≡ []
+take-none zero = refl
+take-none (suc k) = refl
+
+pub take-plus : (t k : ℕ) (l : List ℕ) → take (t + k) l ≡ take t l ++ take k (drop t l)
+take-plus zero k l = (let e : zero + k ≡ k = omega arith in ap (λ z. take z l) e)
+take-plus (suc t) k [] = take-none (suc t + k) ∙ sym (take-none k)
+take-plus (suc t) k (x ∷ l) = (let e : suc t + k ≡ suc (t + k) = omega arith in ap (λ z. take z (x ∷ l)) e ∙ ap (λ (w : List ℕ). x ∷ w) (take-plus t k l))
+
+-- of what is next the first k bytes, and what comes after them
+pub next-front : (k : ℕ) (bytes after due : List ℕ) → bytes ++ after ≡ due → k ≤ length bytes
+    → take k due ≡ take k bytes
+next-front k bytes after due next within = sym (ap (λ (l : List ℕ). take k l) next) ∙ take-append-le k bytes after within
+
+pub next-rest : (k taken : ℕ) (bytes after due : List ℕ) → bytes ++ after ≡ drop taken due
+    → k ≤ length bytes → drop k bytes ++ after ≡ drop (taken + k) due
+next-rest k taken bytes after due next within = sym (drop-append-le k bytes after within) ∙ (ap (λ (l : List ℕ). drop k l) next ∙ drop-drop k taken due)
+
+-- where all is taken only what follows is left
+pub none-left : (bytes after : List ℕ) (from len : ℕ) → len ≡ length bytes → nat_lt from len ≡ false
+    → after ≡ drop from bytes ++ after
+none-left bytes after from len size is = let all : length bytes ≤ from = grind (arith, nat_tests, is, size) in ap (λ (l : List ℕ). l ++ after) (sym (drop_all from bytes all))
+
+pub both-long : (xs ys : List ℕ) (size len : ℕ) → size ≡ length xs → len ≡ length ys → size + len ≡ length (xs ++ ys)
+both-long xs ys size len is_x is_y = let e = length-append xs ys in omega (arith, e, is_x, is_y)
+
+-- of a list's beginning the first k
+take-within : (k j : ℕ) (l : List ℕ) → k ≤ length (take j l) → (take k l ≡ take k (take j l)) × (k ≤ length l)
+take-within zero j l le = (refl, omega arith)
+take-within (suc k) zero l le = absurd (omega (arith, le))
+take-within (suc k) (suc j) [] le = absurd (omega (arith, le))
+take-within (suc k) (suc j) (x ∷ l) le = (let r = take-within k j l (omega (arith, le)) in (ap (λ (t : List ℕ). x ∷ t) r.0, (let e = r.1 in omega (arith, e))))
+
+pub take-slice : (k from to : ℕ) (bytes : List ℕ) → k ≤ length (slice_range bytes from to)
+    → take k (drop from bytes) ≡ take k (slice_range bytes from to)
+take-slice k from to bytes within = (take-within k (to - from) (drop from bytes) within).0
+
+-- no more is taken of a piece than is left
+pub few-taken : (k from len : ℕ) (bytes : List ℕ) → len ≡ length bytes
+    → k ≤ length (slice_range bytes from (piece_end from len))
+    → (k ≤ length (drop from bytes)) × (min k (len - from) ≡ k)
+few-taken k from len bytes size within =
+    let le = (take-within k (piece_end from len - from) (drop from bytes) within).1 in
+    let e = length-drop from bytes in
+    (le, (let few : k ≤ len - from = omega (arith, le, e, size) in omega (arith, few)))
+
+-- of a part of a list the length
+length-range : (bytes : List ℕ) (first last : ℕ) → first ≤ last → last < length bytes
+    → last - first + 1 ≡ length (slice_range bytes first (last + 1))
+length-range bytes first last le lt =
+    let e = length-drop first bytes in
+    let k : last + 1 - first ≤ length (drop first bytes) = omega (arith, e) in
+    let f = length-take-le (last + 1 - first) (drop first bytes) k in
+    omega (arith, f)
+
+pub length-part : (bytes : List ℕ) (first last : ℕ) → first ≤ last → last < length bytes
+    → last + 1 - first ≡ length (slice_range bytes first (last + 1))
+length-part bytes first last le lt = let e = length-range bytes first last le lt in omega (arith, e, le)

@@ -1,0 +1,509 @@
+-- What a phase uses, before its call and after the reply.
+use Rattle.std.proofs.Common.{inl, inr, ◌≡◌, ℕ, ◌+◌, ◌==◌, ◌⊎◌, List, [], ◌∷◌, ap, ◌∙◌, refl, sym, arith, Option, Some, None, true, false, Bool, if◌then◌else◌}
+use Rattle.std.specs.Prelude.{nat_lt, nat_le, ◌||◌, ◌&&◌, slice_range}
+use Rattle.std.specs.List.{list_any}
+use Rattle.std.proofs.lemmas.Bool.Decides.{nat_tests}
+use Rattle.std.proofs.lemmas.Grind.{common_steps}
+use Rattle.iol_core.specs.State.{State, descriptor}
+use Rattle.iol_core.specs.Values.{gives_up}
+use Rattle.iol_core.specs.Calls.Writing.{is_file}
+use Rattle.iol_laws.specs.Frame.{is_conn, touches_conn, touches_fd, changes_files, admits_to}
+use Rattle.iol_laws.specs.Caller.{lent_at, is_agg, is_fd, gives_away}
+use Rattle.iol_core.specs.declared.limits.TheConstants.{MAX_AGGREGATE_BYTES}
+use Rattle.iol_core.specs.declared.descriptors.Descriptor.{Descriptor}
+use Rattle.iol_core.specs.declared.descriptors.Descriptor.TheVariants as on
+use Rattle.iol_core.specs.declared.descriptors.Mode.TheVariants as modes
+use Rattle.iol_core.specs.declared.refusals.Refusal.TheVariants as no
+use Rattle.iol_core.specs.declared.events.Call.TheVariants as call
+use Rattle.iol_core.specs.declared.events.Event.TheVariants as event
+use Rattle.iol_core.specs.declared.events.Reply.{Reply}
+use Rattle.iol_core.specs.declared.events.Reply.TheVariants as reply
+use Rattle.flash_http.specs.declared.ranges.Selection.{Selection}
+use Rattle.flash_http.specs.declared.ranges.Selection.TheVariants.{Whole, Bytes, Unsatisfiable}
+use Rattle.flash_http.specs.Range.{selected}
+use Rattle.flash_http.specs.Request.{Answer, serve, refuse}
+use Rattle.flash_laws.specs.Answers.{keeps}
+use Rattle.flash_laws.specs.Conn.{Following, Conn, has_followed, learnt_agg, content_agg, uses_agg, uses_fd, is_head_only, most_read, piece_end, count_of, wants, sends_of, settled, following, headed, goes_on, drops_next, told, told_rests, begins}
+use Rattle.flash_laws.specs.declared.doing.Learnt.{Learnt}
+use Rattle.flash_laws.specs.declared.doing.Learnt.TheVariants.{File, Length, Fails}
+use Rattle.flash_laws.specs.declared.doing.Content.{Content}
+use Rattle.flash_laws.specs.declared.doing.Content.TheVariants.{Body, Bare, Error}
+use Rattle.flash_laws.specs.declared.doing.Doing.{Doing}
+use Rattle.flash_laws.specs.declared.doing.Doing.TheVariants.{Rests, Got, Opens, Reads as Reading, Shuts, Picks, Spares, Heads, Joins, Sends, Cuts, Offers, Swaps, Sent, Breaks, Drops, Closes, Over}
+use Rattle.flash_laws.specs.Fits.{IsLent, LendsMore, HasContent, HasLearnt, Has}
+use Rattle.flash_laws.specs.Site.{server}
+use Rattle.flash_laws.proofs.Lists.{clash, later_of}
+
+abbrev at : List ℕ → Answer → Doing → Conn
+at kept q d = record { kept = kept; q = q; doing = d }
+
+one-of : (a b : Bool) → (a || b) ≡ true → (a ≡ true) ⊎ (b ≡ true)
+one-of true b u = inl refl
+one-of false b u = inr u
+
+only : (a : Bool) → (a || false) ≡ true → a ≡ true
+only true u = refl
+only false u = u
+
+pub same-number : (a b : ℕ) → (a == b) ≡ true → a ≡ b
+same-number a b is = grind (arith, nat_tests, is)
+
+-- a call gives up what is the connection's
+pub gives-wants : (fd : ℕ) (kept : List ℕ) (q : Answer) (d : Doing) (a : ℕ)
+    → gives_up (event.Call server (wants fd (at kept q d))) server a ≡ true → uses_agg d a ≡ true
+gives-wants fd kept q Rests a is = absurd (cc)
+gives-wants fd kept q (Got b) a is = is
+gives-wants fd kept q Opens a is = absurd (cc)
+gives-wants fd kept q (Reading f) a is = absurd (by (is_head_only q) is)
+  where
+    by : (b : Bool) → gives_up (event.Call server (if b then call.Length f else call.IolRead f most_read)) server a ≡ true
+        → ⊥
+    by true is = cc
+    by false is = cc
+gives-wants fd kept q (Shuts f k) a is = absurd (cc)
+gives-wants fd kept q (Picks b first last len) a is = absurd (cc)
+gives-wants fd kept q (Spares b k) a is = grind (arith, is)
+gives-wants fd kept q (Heads k) a is = absurd (cc)
+gives-wants fd kept q (Joins b size body len) a is = grind (arith, is)
+gives-wants fd kept q (Sends b len taken more) a is = absurd (cc)
+gives-wants fd kept q (Cuts b from len taken more) a is = absurd (cc)
+gives-wants fd kept q (Offers b from len piece taken more) a is = absurd (cc)
+gives-wants fd kept q (Swaps b from len piece taken more) a is = grind (arith, is)
+gives-wants fd kept q (Sent b taken more) a is = grind (arith, is)
+gives-wants fd kept q (Breaks piece b more) a is = grind (arith, is)
+gives-wants fd kept q (Drops b more) a is = grind (arith, is)
+gives-wants fd kept q Closes a is = absurd (cc)
+gives-wants fd kept q Over a is = absurd (cc)
+
+-- its reply names nothing of another domain
+pub no-more : (fd : ℕ) (kept : List ℕ) (q : Answer) (d : Doing) → gives_away (wants fd (at kept q d)) ≡ false
+no-more fd kept q Rests = refl
+no-more fd kept q (Got b) = refl
+no-more fd kept q Opens = refl
+no-more fd kept q (Reading f) = by (is_head_only q)
+  where
+    by : (b : Bool) → gives_away (if b then call.Length f else call.IolRead f most_read) ≡ false
+    by true = refl
+    by false = refl
+no-more fd kept q (Shuts f k) = refl
+no-more fd kept q (Picks b first last len) = refl
+no-more fd kept q (Spares b k) = refl
+no-more fd kept q (Heads k) = refl
+no-more fd kept q (Joins b size body len) = refl
+no-more fd kept q (Sends b len taken more) = refl
+no-more fd kept q (Cuts b from len taken more) = refl
+no-more fd kept q (Offers b from len piece taken more) = refl
+no-more fd kept q (Swaps b from len piece taken more) = refl
+no-more fd kept q (Sent b taken more) = refl
+no-more fd kept q (Breaks piece b more) = refl
+no-more fd kept q (Drops b more) = refl
+no-more fd kept q Closes = refl
+no-more fd kept q Over = refl
+
+-- What it uses afterwards is what it used, or new.
+
+abbrev Uses : Doing → Reply → Doing → (a : ℕ) → Type 0
+Uses d r after a = uses_agg after a ≡ true → (uses_agg d a ≡ true) ⊎ (is_agg r a ≡ true)
+
+uses-rests : (kept : List ℕ) (q : Answer) (r : Reply) (heard : List ℕ) (a : ℕ)
+    → Uses Rests r (told_rests kept q r heard).doing a
+uses-rests kept q (reply.Agg n) [] a u = inr (only (n == a) u)
+uses-rests kept q (reply.Agg n) (b ∷ heard) a u = inr u
+uses-rests kept q r heard a u = absurd (cc)
+
+uses-settled : (q : Answer) (g : ℕ) (k : Learnt) (a : ℕ) → uses_agg (settled q k) a ≡ true → learnt_agg k a ≡ true
+uses-settled (serve w) g (File b len) a u = by (selected w.range len) u
+  where
+    by : (sel : Selection) → uses_agg (sends_of sel b len) a ≡ true → (b == a) ≡ true
+    by Whole u = u
+    by (Bytes first last) u = u
+    by Unsatisfiable u = only (b == a) u
+uses-settled (refuse status head_only close) g (File b len) a u = u
+uses-settled (serve w) g (Length len) a u = absurd (cc)
+uses-settled (refuse status head_only close) g (Length len) a u = absurd (cc)
+uses-settled (serve w) g (Fails status) a u = absurd (cc)
+uses-settled (refuse status head_only close) g (Fails was) a u = absurd (cc)
+
+uses-following : (k : Content) (a : ℕ) → has_followed (following k) a ≡ true → content_agg k a ≡ true
+uses-following (Body b size len) a u = u
+uses-following (Bare len) a u = absurd (cc)
+uses-following (Error status) a u = absurd (cc)
+
+uses-headed : (n size : ℕ) (more : Following) (a : ℕ) → uses_agg (headed n size more) a ≡ true
+    → ((n == a) || has_followed more a) ≡ true
+uses-headed n size None a u = u
+uses-headed n size (Some x) a u = by (nat_le (size + x.1) MAX_AGGREGATE_BYTES) u
+  where
+    by : (t : Bool) → uses_agg (if t then Joins n size x.0 x.1 else Sends n size 0 (Some x)) a ≡ true
+        → ((n == a) || (x.0 == a)) ≡ true
+    by true u = u
+    by false u = u
+
+uses-goes_on : (q : Answer) (b taken : ℕ) (more : Following) (a : ℕ)
+    → uses_agg (goes_on q taken more) a ≡ true → ((b == a) || has_followed more a) ≡ true
+uses-goes_on q b taken (Some x) a u = later_of (b == a) (x.0 == a) (only (x.0 == a) u)
+uses-goes_on q b taken None a u = by (keeps q) u
+  where
+    by : (t : Bool) → uses_agg (if t then Rests else Closes) a ≡ true → ((b == a) || false) ≡ true
+    by true u = absurd (cc)
+    by false u = absurd (cc)
+
+uses-drops : (b : ℕ) (more : Following) (a : ℕ) → uses_agg (drops_next more) a ≡ true
+    → ((b == a) || has_followed more a) ≡ true
+uses-drops b (Some x) a u = later_of (b == a) (x.0 == a) (only (x.0 == a) u)
+uses-drops b None a u = absurd (cc)
+
+pub uses-told : (kept : List ℕ) (q : Answer) (d : Doing) (r : Reply) (heard : List ℕ) (a : ℕ)
+    → Uses d r (told (at kept q d) r heard).doing a
+uses-told kept q Rests r heard a u = uses-rests kept q r heard a u
+uses-told kept q (Got b) reply.Done heard a u = absurd (cc)
+uses-told kept q (Got b) r heard a u = inl u
+uses-told kept q Opens (reply.Fd f) heard a u = absurd (cc)
+uses-told kept q Opens (reply.Refused no.WouldBlock) heard a u = absurd (cc)
+uses-told kept q Opens (reply.Refused x) heard a u = absurd (cc)
+uses-told kept q Opens r heard a u = absurd (cc)
+uses-told kept q (Reading f) (reply.Agg n) heard a u = inr u
+uses-told kept q (Reading f) (reply.Count n) heard a u = absurd (cc)
+uses-told kept q (Reading f) (reply.Refused no.WouldBlock) heard a u = absurd (cc)
+uses-told kept q (Reading f) (reply.Refused x) heard a u = absurd (cc)
+uses-told kept q (Reading f) r heard a u = absurd (cc)
+uses-told kept q (Shuts f k) reply.Done heard a u = inl (uses-settled q f k a u)
+uses-told kept q (Shuts f k) r heard a u = inl u
+uses-told kept q (Picks b first last len) (reply.Agg n) heard a u = elim (one-of (b == a) (n == a) u) [ inl is ↦ inl is | inr is ↦ inr is ]
+uses-told kept q (Picks b first last len) r heard a u = inl u
+uses-told kept q (Spares b k) reply.Done heard a u = inl (later_of (b == a) (content_agg k a) u)
+uses-told kept q (Spares b k) r heard a u = inl u
+uses-told kept q (Heads k) (reply.Agg n) heard a u = elim (one-of (n == a) (has_followed (following k) a) (uses-headed n (count_of heard) (following k) a u)) [ inl is ↦ inr is | inr is ↦ inl (uses-following k a is) ]
+uses-told kept q (Heads k) r heard a u = inl u
+uses-told kept q (Joins b size body len) (reply.Agg n) heard a u = inr (only (n == a) u)
+uses-told kept q (Joins b size body len) r heard a u = inl u
+uses-told kept q (Sends b len taken more) (reply.Count k) heard a u = inl (by (nat_lt k len) u)
+  where
+    by : (t : Bool) → uses_agg (if t then Cuts b k len (taken + k) more else Sent b (taken + len) more) a ≡ true
+        → ((b == a) || has_followed more a) ≡ true
+    by true u = u
+    by false u = u
+uses-told kept q (Sends b len taken more) (reply.Refused no.BrokenPipe) heard a u = inl u
+uses-told kept q (Sends b len taken more) r heard a u = inl u
+uses-told kept q (Cuts b from len taken more) (reply.Agg n) heard a u = elim (one-of (n == a) ((b == a) || has_followed more a) u) [ inl new ↦ inr new | inr old ↦ inl old ]
+uses-told kept q (Cuts b from len taken more) r heard a u = inl u
+uses-told kept q (Offers b from len piece taken more) (reply.Count k) heard a u = inl u
+uses-told kept q (Offers b from len piece taken more) (reply.Refused no.BrokenPipe) heard a u = inl u
+uses-told kept q (Offers b from len piece taken more) r heard a u = inl u
+uses-told kept q (Swaps b from len piece taken more) reply.Done heard a u = inl (later_of (piece == a) ((b == a) || has_followed more a) (by (nat_lt from len) u))
+  where
+    by : (t : Bool) → uses_agg (if t then Cuts b from len taken more else Sent b taken more) a ≡ true
+        → ((b == a) || has_followed more a) ≡ true
+    by true u = u
+    by false u = u
+uses-told kept q (Swaps b from len piece taken more) r heard a u = inl u
+uses-told kept q (Sent b taken more) reply.Done heard a u = inl (uses-goes_on q b taken more a u)
+uses-told kept q (Sent b taken more) r heard a u = inl u
+uses-told kept q (Breaks piece b more) reply.Done heard a u = inl (later_of (piece == a) ((b == a) || has_followed more a) u)
+uses-told kept q (Breaks piece b more) r heard a u = inl u
+uses-told kept q (Drops b more) reply.Done heard a u = inl (uses-drops b more a u)
+uses-told kept q (Drops b more) r heard a u = inl u
+uses-told kept q Closes reply.Done heard a u = absurd (cc)
+uses-told kept q Closes r heard a u = inl u
+uses-told kept q Over r heard a u = inl u
+
+abbrev UsesFd : Doing → Reply → Doing → (g : ℕ) → Type 0
+UsesFd d r after g = uses_fd after g ≡ true → (uses_fd d g ≡ true) ⊎ (is_fd r g ≡ true)
+
+uses_fd-rests : (kept : List ℕ) (q : Answer) (r : Reply) (heard : List ℕ) (g : ℕ)
+    → UsesFd Rests r (told_rests kept q r heard).doing g
+uses_fd-rests kept q (reply.Agg n) [] g u = absurd (cc)
+uses_fd-rests kept q (reply.Agg n) (b ∷ heard) g u = absurd (cc)
+uses_fd-rests kept q r heard g u = absurd (cc)
+
+no_fd-settled : (q : Answer) (k : Learnt) (g : ℕ) → uses_fd (settled q k) g ≡ false
+no_fd-settled (serve w) (File b len) g = by (selected w.range len)
+  where
+    by : (sel : Selection) → uses_fd (sends_of sel b len) g ≡ false
+    by Whole = refl
+    by (Bytes first last) = refl
+    by Unsatisfiable = refl
+no_fd-settled (refuse status head_only close) (File b len) g = refl
+no_fd-settled (serve w) (Length len) g = refl
+no_fd-settled (refuse status head_only close) (Length len) g = refl
+no_fd-settled (serve w) (Fails status) g = refl
+no_fd-settled (refuse status head_only close) (Fails was) g = refl
+
+no_fd-headed : (n size : ℕ) (more : Following) (g : ℕ) → uses_fd (headed n size more) g ≡ false
+no_fd-headed n size None g = refl
+no_fd-headed n size (Some x) g = by (nat_le (size + x.1) MAX_AGGREGATE_BYTES)
+  where
+    by : (t : Bool) → uses_fd (if t then Joins n size x.0 x.1 else Sends n size 0 (Some x)) g ≡ false
+    by true = refl
+    by false = refl
+
+no_fd-goes_on : (q : Answer) (taken : ℕ) (more : Following) (g : ℕ) → uses_fd (goes_on q taken more) g ≡ false
+no_fd-goes_on q taken (Some x) g = refl
+no_fd-goes_on q taken None g = by (keeps q)
+  where
+    by : (t : Bool) → uses_fd (if t then Rests else Closes) g ≡ false
+    by true = refl
+    by false = refl
+
+no_fd-drops : (more : Following) (g : ℕ) → uses_fd (drops_next more) g ≡ false
+no_fd-drops (Some x) g = refl
+no_fd-drops None g = refl
+
+pub uses_fd-told : (kept : List ℕ) (q : Answer) (d : Doing) (r : Reply) (heard : List ℕ) (g : ℕ)
+    → UsesFd d r (told (at kept q d) r heard).doing g
+uses_fd-told kept q Rests r heard g u = uses_fd-rests kept q r heard g u
+uses_fd-told kept q (Got b) reply.Done heard g u = absurd (cc)
+uses_fd-told kept q (Got b) r heard g u = inl u
+uses_fd-told kept q Opens (reply.Fd f) heard g u = inr u
+uses_fd-told kept q Opens (reply.Refused no.WouldBlock) heard g u = absurd (cc)
+uses_fd-told kept q Opens (reply.Refused x) heard g u = absurd (cc)
+uses_fd-told kept q Opens r heard g u = absurd (cc)
+uses_fd-told kept q (Reading f) (reply.Agg n) heard g u = inl u
+uses_fd-told kept q (Reading f) (reply.Count n) heard g u = inl u
+uses_fd-told kept q (Reading f) (reply.Refused no.WouldBlock) heard g u = inl u
+uses_fd-told kept q (Reading f) (reply.Refused x) heard g u = inl u
+uses_fd-told kept q (Reading f) r heard g u = inl u
+uses_fd-told kept q (Shuts f k) reply.Done heard g u = absurd (clash (uses_fd (settled q k) g) u (no_fd-settled q k g))
+uses_fd-told kept q (Shuts f k) r heard g u = inl u
+uses_fd-told kept q (Picks b first last len) (reply.Agg n) heard g u = absurd (cc)
+uses_fd-told kept q (Picks b first last len) r heard g u = inl u
+uses_fd-told kept q (Spares b k) reply.Done heard g u = absurd (cc)
+uses_fd-told kept q (Spares b k) r heard g u = inl u
+uses_fd-told kept q (Heads k) (reply.Agg n) heard g u = absurd (clash (uses_fd (headed n (count_of heard) (following k)) g) u (no_fd-headed n (count_of heard) (following k) g))
+uses_fd-told kept q (Heads k) r heard g u = inl u
+uses_fd-told kept q (Joins b size body len) (reply.Agg n) heard g u = absurd (cc)
+uses_fd-told kept q (Joins b size body len) r heard g u = inl u
+uses_fd-told kept q (Sends b len taken more) (reply.Count k) heard g u = absurd (by (nat_lt k len) u)
+  where
+    by : (t : Bool) → uses_fd (if t then Cuts b k len (taken + k) more else Sent b (taken + len) more) g ≡ true → ⊥
+    by true u = cc
+    by false u = cc
+uses_fd-told kept q (Sends b len taken more) (reply.Refused no.BrokenPipe) heard g u = absurd (cc)
+uses_fd-told kept q (Sends b len taken more) r heard g u = inl u
+uses_fd-told kept q (Cuts b from len taken more) (reply.Agg n) heard g u = absurd (cc)
+uses_fd-told kept q (Cuts b from len taken more) r heard g u = inl u
+uses_fd-told kept q (Offers b from len piece taken more) (reply.Count k) heard g u = absurd (cc)
+uses_fd-told kept q (Offers b from len piece taken more) (reply.Refused no.BrokenPipe) heard g u = absurd (cc)
+uses_fd-told kept q (Offers b from len piece taken more) r heard g u = inl u
+uses_fd-told kept q (Swaps b from len piece taken more) reply.Done heard g u = absurd (by (nat_lt from len) u)
+  where
+    by : (t : Bool) → uses_fd (if t then Cuts b from len taken more else Sent b taken more) g ≡ true → ⊥
+    by true u = cc
+    by false u = cc
+uses_fd-told kept q (Swaps b from len piece taken more) r heard g u = inl u
+uses_fd-told kept q (Sent b taken more) reply.Done heard g u = absurd (clash (uses_fd (goes_on q taken more) g) u (no_fd-goes_on q taken more g))
+uses_fd-told kept q (Sent b taken more) r heard g u = inl u
+uses_fd-told kept q (Breaks piece b more) reply.Done heard g u = absurd (cc)
+uses_fd-told kept q (Breaks piece b more) r heard g u = inl u
+uses_fd-told kept q (Drops b more) reply.Done heard g u = absurd (clash (uses_fd (drops_next more) g) u (no_fd-drops more g))
+uses_fd-told kept q (Drops b more) r heard g u = inl u
+uses_fd-told kept q Closes reply.Done heard g u = absurd (cc)
+uses_fd-told kept q Closes r heard g u = inl u
+uses_fd-told kept q Over r heard g u = inl u
+
+pub begins-none : (q : Answer) (a : ℕ) → uses_agg (begins q) a ≡ false
+begins-none (serve w) a = refl
+begins-none (refuse status head_only close) a = refl
+
+pub begins-no_fd : (q : Answer) (g : ℕ) → uses_fd (begins q) g ≡ false
+begins-no_fd (serve w) g = refl
+begins-no_fd (refuse status head_only close) g = refl
+
+-- What a connection uses is there.
+
+at-number : (m : State) (b a : ℕ) → (b == a) ≡ true → (bytes : List ℕ) → lent_at m server b ≡ Some bytes → IsLent m a
+at-number m b a is bytes lent = (bytes, ap (λ n. lent_at m server n) (sym (same-number b a is)) ∙ lent)
+
+at-following : (m : State) (more : Following) (bytes : List ℕ) (a : ℕ) → has_followed more a ≡ true
+    → LendsMore m more bytes → IsLent m a
+at-following m None bytes a u is = absurd (cc)
+at-following m (Some x) bytes a u is = at-number m x.0 a u bytes is.0
+
+at-content : (m : State) (q : Answer) (due : List ℕ) (k : Content) (a : ℕ) → content_agg k a ≡ true
+    → HasContent m q due k → IsLent m a
+at-content m q due (Body b size len) a u h = at-number m b a u h.bytes h.lends
+at-content m q due (Bare len) a u h = absurd (cc)
+at-content m q due (Error status) a u h = absurd (cc)
+
+at-learnt : (m : State) (q : Answer) (due : List ℕ) (k : Learnt) (a : ℕ) → learnt_agg k a ≡ true
+    → HasLearnt m q due k → IsLent m a
+at-learnt m (serve w) due (File b len) a u h = at-number m b a u h.bytes h.lends
+at-learnt m (refuse status head_only close) due (File b len) a u h = absurd h
+at-learnt m q due (Length len) a u h = absurd (cc)
+at-learnt m q due (Fails status) a u h = absurd (cc)
+
+two : (m : State) (b : ℕ) (rest : Bool) (a : ℕ) → ((b == a) || rest) ≡ true → (bytes : List ℕ)
+    → lent_at m server b ≡ Some bytes → (rest ≡ true → IsLent m a) → IsLent m a
+two m b rest a u bytes lent other = elim (one-of (b == a) rest u) [ inl is ↦ at-number m b a is bytes lent | inr is ↦ other is ]
+
+pub has-agg : (m : State) (q : Answer) (due : List ℕ) (d : Doing) (a : ℕ) → uses_agg d a ≡ true
+    → Has m q due d → IsLent m a
+has-agg m q due Rests a u has = absurd (cc)
+has-agg m q due (Got b) a u has = at-number m b a u has.0 has.1
+has-agg m q due Opens a u has = absurd (cc)
+has-agg m q due (Reading f) a u has = absurd (cc)
+has-agg m q due (Shuts f k) a u has = at-learnt m q due k a u has.1
+has-agg m q due (Picks b first last len) a u has = at-number m b a u has.bytes has.lends
+has-agg m q due (Spares b k) a u has = two m b (content_agg k a) a u has.0.0 has.0.1 (λ is. at-content m q due k a is has.2)
+has-agg m q due (Heads k) a u has = at-content m q due k a u has
+has-agg m q due (Joins b size body len) a u has = two m b (body == a) a u has.bytes has.lends (λ is. at-number m body a is has.after has.follows.0)
+has-agg m q due (Sends b len taken more) a u has = two m b (has_followed more a) a u has.bytes has.lends (λ is. at-following m more has.after a is has.follows)
+has-agg m q due (Cuts b from len taken more) a u has = two m b (has_followed more a) a u has.bytes has.lends (λ is. at-following m more has.after a is has.follows)
+has-agg m q due (Offers b from len piece taken more) a u has =
+    two m piece ((b == a) || has_followed more a) a u (slice_range has.whole.bytes from (piece_end from len)) has.lends
+    (λ v. two m b (has_followed more a) a v has.whole.bytes has.whole.lends (λ is. at-following m more has.whole.after a is has.whole.follows))
+has-agg m q due (Swaps b from len piece taken more) a u has = two m piece ((b == a) || has_followed more a) a u has.0.0 has.0.1 (λ v. two m b (has_followed more a) a v has.2.bytes has.2.lends (λ is. at-following m more has.2.after a is has.2.follows))
+has-agg m q due (Sent b taken more) a u has = two m b (has_followed more a) a u has.bytes has.lends (λ is. at-following m more has.after a is has.follows)
+has-agg m q due (Breaks piece b more) a u has = two m piece ((b == a) || has_followed more a) a u has.0.0 has.0.1 (λ v. two m b (has_followed more a) a v has.2.lent.0 has.2.lent.1 (λ is. at-following m more has.2.after a is has.2.follows))
+has-agg m q due (Drops b more) a u has = two m b (has_followed more a) a u has.lent.0 has.lent.1 (λ is. at-following m more has.after a is has.follows)
+has-agg m q due Closes a u has = absurd (cc)
+has-agg m q due Over a u has = absurd has
+
+pub has-fd : (m : State) (q : Answer) (due : List ℕ) (d : Doing) (g : ℕ) → uses_fd d g ≡ true
+    → Has m q due d → (f pos : ℕ) × (descriptor m server g ≡ Some (on.File f pos modes.Read))
+has-fd m q due (Reading f) g u has = (has.1.0, has.1.1, ap (λ n. descriptor m server n) (sym (same-number f g u)) ∙ has.1.2)
+has-fd m q due (Shuts f k) g u has = (has.0.0, has.0.1, ap (λ n. descriptor m server n) (sym (same-number f g u)) ∙ has.0.2)
+has-fd m q due Rests g u has = absurd (cc)
+has-fd m q due (Got b) g u has = absurd (cc)
+has-fd m q due Opens g u has = absurd (cc)
+has-fd m q due (Picks b first last len) g u has = absurd (cc)
+has-fd m q due (Spares b k) g u has = absurd (cc)
+has-fd m q due (Heads k) g u has = absurd (cc)
+has-fd m q due (Joins b size body len) g u has = absurd (cc)
+has-fd m q due (Sends b len taken more) g u has = absurd (cc)
+has-fd m q due (Cuts b from len taken more) g u has = absurd (cc)
+has-fd m q due (Offers b from len piece taken more) g u has = absurd (cc)
+has-fd m q due (Swaps b from len piece taken more) g u has = absurd (cc)
+has-fd m q due (Sent b taken more) g u has = absurd (cc)
+has-fd m q due (Breaks piece b more) g u has = absurd (cc)
+has-fd m q due (Drops b more) g u has = absurd (cc)
+has-fd m q due Closes g u has = absurd (cc)
+has-fd m q due Over g u has = absurd has
+
+-- What its call touches.
+
+not-file : (m : State) (fd c g : ℕ) → descriptor m server fd ≡ Some (on.Connection c)
+    → ((fd == g) && is_file (descriptor m server fd)) ≡ false
+not-file m fd c g is = ap (λ (d : Option Descriptor). (fd == g) && is_file d) is ∙ grind (arith)
+
+left-of : (a b : Bool) → (a && b) ≡ true → a ≡ true
+left-of true b u = refl
+left-of false b u = absurd (cc)
+
+-- a descriptor that the call closes or moves is a file's of the connection, or the connection itself
+pub fds-wants : (m : State) (fd c : ℕ) (kept : List ℕ) (q : Answer) (d : Doing) (g : ℕ)
+    → descriptor m server fd ≡ Some (on.Connection c)
+    → touches_fd m (event.Call server (wants fd (at kept q d))) server g ≡ true
+    → (uses_fd d g ≡ true) ⊎ (fd ≡ g)
+fds-wants m fd c kept q Rests g is t = absurd (clash ((fd == g) && is_file (descriptor m server fd)) t (not-file m fd c g is))
+fds-wants m fd c kept q (Got b) g is t = absurd (cc)
+fds-wants m fd c kept q Opens g is t = absurd (cc)
+fds-wants m fd c kept q (Reading f) g is t = inl (by (is_head_only q) t)
+  where
+    by : (b : Bool) → touches_fd m (event.Call server (if b then call.Length f else call.IolRead f most_read)) server g ≡ true
+        → (f == g) ≡ true
+    by true t = absurd (cc)
+    by false t = left-of (f == g) (is_file (descriptor m server f)) t
+fds-wants m fd c kept q (Shuts f k) g is t = inl t
+fds-wants m fd c kept q (Picks b first last len) g is t = absurd (cc)
+fds-wants m fd c kept q (Spares b k) g is t = absurd (cc)
+fds-wants m fd c kept q (Heads k) g is t = absurd (cc)
+fds-wants m fd c kept q (Joins b size body len) g is t = absurd (cc)
+fds-wants m fd c kept q (Sends b len taken more) g is t = absurd (clash ((fd == g) && is_file (descriptor m server fd)) t (not-file m fd c g is))
+fds-wants m fd c kept q (Cuts b from len taken more) g is t = absurd (cc)
+fds-wants m fd c kept q (Offers b from len piece taken more) g is t = absurd (clash ((fd == g) && is_file (descriptor m server fd)) t (not-file m fd c g is))
+fds-wants m fd c kept q (Swaps b from len piece taken more) g is t = absurd (cc)
+fds-wants m fd c kept q (Sent b taken more) g is t = absurd (cc)
+fds-wants m fd c kept q (Breaks piece b more) g is t = absurd (cc)
+fds-wants m fd c kept q (Drops b more) g is t = absurd (cc)
+fds-wants m fd c kept q Closes g is t = inr (same-number fd g t)
+fds-wants m fd c kept q Over g is t = inr (same-number fd g t)
+
+uses-conn : (m : State) (fd c k : ℕ) → descriptor m server fd ≡ Some (on.Connection c)
+    → (list_any (is_conn k) (descriptor m server fd ∷ []) || false) ≡ true → c ≡ k
+uses-conn m fd c k is t = (let e = sym (ap (λ (d : Option Descriptor). list_any (is_conn k) (d ∷ []) || false) is) ∙ t in grind (arith, nat_tests, common_steps, e))
+
+uses-no_conn : (m : State) (g f pos k : ℕ) → descriptor m server g ≡ Some (on.File f pos modes.Read)
+    → (list_any (is_conn k) (descriptor m server g ∷ []) || false) ≡ true → ⊥
+uses-no_conn m g f pos k is t = (let e = sym (ap (λ (d : Option Descriptor). list_any (is_conn k) (d ∷ []) || false) is) ∙ t in cc)
+
+-- the only connection that it touches is its own
+pub conns-wants : (m : State) (fd c : ℕ) (kept : List ℕ) (q : Answer) (due : List ℕ) (d : Doing) (k : ℕ)
+    → descriptor m server fd ≡ Some (on.Connection c) → Has m q due d
+    → touches_conn m (event.Call server (wants fd (at kept q d))) k ≡ true → c ≡ k
+conns-wants m fd c kept q due Rests k is has t = uses-conn m fd c k is t
+conns-wants m fd c kept q due (Got b) k is has t = absurd (cc)
+conns-wants m fd c kept q due Opens k is has t = absurd (cc)
+conns-wants m fd c kept q due (Reading f) k is has t = absurd (by (is_head_only q) t)
+  where
+    by : (b : Bool) → touches_conn m (event.Call server (if b then call.Length f else call.IolRead f most_read)) k ≡ true
+        → ⊥
+    by true t = cc
+    by false t = uses-no_conn m f has.1.0 has.1.1 k has.1.2 t
+conns-wants m fd c kept q due (Shuts f x) k is has t = absurd (uses-no_conn m f has.0.0 has.0.1 k has.0.2 t)
+conns-wants m fd c kept q due (Picks b first last len) k is has t = absurd (cc)
+conns-wants m fd c kept q due (Spares b x) k is has t = absurd (cc)
+conns-wants m fd c kept q due (Heads x) k is has t = absurd (cc)
+conns-wants m fd c kept q due (Joins b size body len) k is has t = absurd (cc)
+conns-wants m fd c kept q due (Sends b len taken more) k is has t = uses-conn m fd c k is t
+conns-wants m fd c kept q due (Cuts b from len taken more) k is has t = absurd (cc)
+conns-wants m fd c kept q due (Offers b from len piece taken more) k is has t = uses-conn m fd c k is t
+conns-wants m fd c kept q due (Swaps b from len piece taken more) k is has t = absurd (cc)
+conns-wants m fd c kept q due (Sent b taken more) k is has t = absurd (cc)
+conns-wants m fd c kept q due (Breaks piece b more) k is has t = absurd (cc)
+conns-wants m fd c kept q due (Drops b more) k is has t = absurd (cc)
+conns-wants m fd c kept q due Closes k is has t = uses-conn m fd c k is t
+conns-wants m fd c kept q due Over k is has t = uses-conn m fd c k is t
+
+-- it writes no file
+pub files-wants : (m : State) (fd c : ℕ) (kept : List ℕ) (q : Answer) (d : Doing)
+    → descriptor m server fd ≡ Some (on.Connection c)
+    → changes_files m (event.Call server (wants fd (at kept q d))) ≡ false
+files-wants m fd c kept q Rests is = refl
+files-wants m fd c kept q (Got b) is = refl
+files-wants m fd c kept q Opens is = refl
+files-wants m fd c kept q (Reading f) is = by (is_head_only q)
+  where
+    by : (b : Bool) → changes_files m (event.Call server (if b then call.Length f else call.IolRead f most_read)) ≡ false
+    by true = refl
+    by false = refl
+files-wants m fd c kept q (Shuts f k) is = refl
+files-wants m fd c kept q (Picks b first last len) is = refl
+files-wants m fd c kept q (Spares b k) is = refl
+files-wants m fd c kept q (Heads k) is = refl
+files-wants m fd c kept q (Joins b size body len) is = refl
+files-wants m fd c kept q (Sends b len taken more) is = ap is_file is
+files-wants m fd c kept q (Cuts b from len taken more) is = refl
+files-wants m fd c kept q (Offers b from len piece taken more) is = ap is_file is
+files-wants m fd c kept q (Swaps b from len piece taken more) is = refl
+files-wants m fd c kept q (Sent b taken more) is = refl
+files-wants m fd c kept q (Breaks piece b more) is = refl
+files-wants m fd c kept q (Drops b more) is = refl
+files-wants m fd c kept q Closes is = refl
+files-wants m fd c kept q Over is = refl
+
+-- it admits nobody to a pool
+pub admits-wants : (fd : ℕ) (kept : List ℕ) (q : Answer) (d : Doing) (p : ℕ)
+    → admits_to (event.Call server (wants fd (at kept q d))) p ≡ false
+admits-wants fd kept q Rests p = refl
+admits-wants fd kept q (Got b) p = refl
+admits-wants fd kept q Opens p = refl
+admits-wants fd kept q (Reading f) p = by (is_head_only q)
+  where
+    by : (b : Bool) → admits_to (event.Call server (if b then call.Length f else call.IolRead f most_read)) p ≡ false
+    by true = refl
+    by false = refl
+admits-wants fd kept q (Shuts f k) p = refl
+admits-wants fd kept q (Picks b first last len) p = refl
+admits-wants fd kept q (Spares b k) p = refl
+admits-wants fd kept q (Heads k) p = refl
+admits-wants fd kept q (Joins b size body len) p = refl
+admits-wants fd kept q (Sends b len taken more) p = refl
+admits-wants fd kept q (Cuts b from len taken more) p = refl
+admits-wants fd kept q (Offers b from len piece taken more) p = refl
+admits-wants fd kept q (Swaps b from len piece taken more) p = refl
+admits-wants fd kept q (Sent b taken more) p = refl
+admits-wants fd kept q (Breaks piece b more) p = refl
+admits-wants fd kept q (Drops b more) p = refl
+admits-wants fd kept q Closes p = refl
+admits-wants fd kept q Over p = refl

@@ -1,0 +1,5 @@
+use Rattle.flash_laws.proofs.Offering.{offers_the_response}
+use Rattle.flash_laws.proofs.laws.offers_law.Goals as goal
+
+pub returns : goal.returns
+returns c = offers_the_response c.each_step_leaves_the_rest.ensures c.calls_serve_their_domain.ensures c.file_calls_serve_their_domain.ensures

@@ -1,0 +1,117 @@
+-- What a stream is answered: the responses to its requests, in order, up to the first after which the connection closes
+-- (RFC 9112, sections 9.3.2 and 9.6).
+use Rattle.std.specs.Prelude.{◌≡◌, ℕ, ◌+◌, ◌⊎◌, Bool, true, false, not, ◌&&◌, List, [], ◌∷◌, ◌++◌, length, take, drop, slice_range}
+use Rattle.std.specs.List.{flat_map}
+use Rattle.flash_http.specs.declared.windows.Window.{Window}
+use Rattle.flash_http.specs.declared.windows.Window.TheVariants.{Wait, Head, TooLarge}
+use Rattle.flash_http.specs.declared.ranges.Selection.{Selection}
+use Rattle.flash_http.specs.declared.ranges.Selection.TheVariants.{Whole, Bytes, Unsatisfiable}
+use Rattle.flash_http.specs.Window.{window_in}
+use Rattle.flash_http.specs.Request.{Answer, serve, refuse, Wanted, IsAnswerTo}
+use Rattle.flash_http.specs.Range.{selected}
+use Rattle.flash_http.specs.MediaType.{media_type}
+use Rattle.flash_http.specs.Response.{head_text, file_head, refusal_head, error_body}
+
+-- ---- the response to a request
+
+-- what the calls that are made for a request give: the bytes of its file, or the status of an error (RFC 9110, section 15)
+pub data Outcome : Type 0 where
+  Found : (bytes : List ℕ) → Outcome
+  Failed : (status : ℕ) → Outcome
+
+-- whether the connection stays open after the response (RFC 9112, section 9.3)
+abbrev pub keeps : Answer → Bool
+keeps (serve w) = w.keep
+keeps (refuse status head_only close) = not close
+
+-- no body in the response to HEAD (RFC 9110, section 9.3.2)
+abbrev pub body_unless : (head_only : Bool) → List ℕ → List ℕ
+body_unless true body = []
+body_unless false body = body
+
+-- the text of the head for a file of so many bytes
+unfoldable pub file_text : Wanted → (len : ℕ) → List ℕ
+file_text w len = head_text (file_head (media_type w.name) (selected w.range len) len (not w.keep))
+
+-- an error's head, and its body (RFC 9110, section 15.5)
+unfoldable pub error_text : (status : ℕ) → (head_only close : Bool) → List ℕ
+error_text status head_only close = head_text (refusal_head status close) ++ body_unless head_only (error_body status)
+
+-- the body of 416 Range Not Satisfiable (RFC 9110, section 15.5.17)
+unfoldable pub unsatisfiable : List ℕ
+unsatisfiable = error_body 416
+
+-- the bytes that are sent of a file: all, or the part that is asked for (RFC 9110, section 14)
+abbrev pub chosen : Selection → List ℕ → List ℕ
+chosen Whole bytes = bytes
+chosen (Bytes first last) bytes = slice_range bytes first (last + 1)
+chosen Unsatisfiable bytes = unsatisfiable
+
+-- The response to a request with this outcome.
+abbrev pub response : Answer → Outcome → List ℕ
+response (serve w) (Found bytes) = file_text w (length bytes) ++ body_unless w.head_only (chosen (selected w.range (length bytes)) bytes)
+response (serve w) (Failed status) = error_text status w.head_only (not w.keep)
+response (refuse status head_only close) outcome = error_text status head_only close
+
+-- the files of a site by name: the outcome of each name, as long as no file changes and nobody else may read it
+abbrev pub Shelf : Type 0
+Shelf = List ℕ → Outcome
+
+abbrev pub outcome_of : Shelf → Answer → Outcome
+outcome_of shelf (serve w) = shelf w.name
+outcome_of shelf (refuse status head_only close) = Failed status
+
+-- the response that is due to a request, where the files are these
+abbrev pub due_to : Shelf → Answer → List ℕ
+due_to shelf q = response q (outcome_of shelf q)
+
+-- ---- the requests of a stream
+
+abbrev pub NextIn : Window → List ℕ → Answer → (rest : List ℕ) → Type 0
+NextIn Wait s q rest = ⊥
+NextIn (Head skip len) s q rest = IsAnswerTo (take len (drop skip s)) q
+    × (rest ≡ drop (skip + len) s)
+NextIn TooLarge s q rest = (q ≡ refuse 431 false true) × (rest ≡ s)
+
+-- The stream's next request is q, and rest comes after it. A head that is too long is one, too, which is refused.
+abbrev pub Next : List ℕ → Answer → (rest : List ℕ) → Type 0
+Next s q rest = NextIn (window_in s) s q rest
+
+-- its next requests are qs, in order, and rest comes after them
+abbrev pub Reads : List ℕ → List Answer → (rest : List ℕ) → Type 0
+Reads s [] rest = rest ≡ s
+Reads s (q ∷ qs) rest = (next : List ℕ) × Next s q next × Reads next qs rest
+
+-- after none but the last the connection closes
+abbrev pub last_may_close : List Answer → Bool
+last_may_close [] = true
+last_may_close (q ∷ []) = true
+last_may_close (q ∷ p ∷ qs) = keeps q && last_may_close (p ∷ qs)
+
+-- after the last it does
+abbrev pub last_closes : List Answer → Bool
+last_closes [] = false
+last_closes (q ∷ []) = not (keeps q)
+last_closes (q ∷ p ∷ qs) = last_closes (p ∷ qs)
+
+abbrev pub responses : Shelf → List Answer → List ℕ
+responses shelf qs = flat_map (λ q. due_to shelf q) qs
+
+-- These bytes begin the answer to the stream: they are the responses to its first requests, in order, or the beginning of
+-- these.
+pub record Begins (shelf : Shelf) (s bytes : List ℕ) : Type 0 where
+  pub qs : List Answer
+  pub rest : List ℕ
+  pub reads : Reads s qs rest
+  pub order : last_may_close qs ≡ true
+  pub more : List ℕ
+  pub all : responses shelf qs ≡ bytes ++ more
+
+-- These bytes are the answer to the stream: no further request is there, or the connection closes after the last one.
+pub record IsAnswer (shelf : Shelf) (s bytes : List ℕ) : Type 0 where
+  pub qs : List Answer
+  pub rest : List ℕ
+  pub reads : Reads s qs rest
+  pub order : last_may_close qs ≡ true
+  pub all : bytes ≡ responses shelf qs
+  pub no_more : (window_in rest ≡ Wait) ⊎ (last_closes qs ≡ true)

@@ -1,0 +1,30 @@
+-- Calm lists of choices: what comes from outside leaves the site and its processes alone.
+use Rattle.std.specs.Prelude.{◌≡◌, ◌≢◌, ℕ, List, [], ◌∷◌, Some, slice_get}
+use Rattle.iol_core.specs.State.{State}
+use Rattle.iol_core.specs.declared.events.Event.TheVariants as event
+use Rattle.iol_core.specs.declared.events.Reply.{Reply}
+use Rattle.iol_proc.specs.Turns.{Account}
+use Rattle.iol_proc.specs.World.{Stage, copying, WorldRun}
+use Rattle.iol_proc.specs.declared.choice.Choice.{Choice}
+use Rattle.iol_proc.specs.declared.choice.Choice.TheVariants as choice
+use Rattle.iol_proc.specs.declared.seat.Seat.{Seat}
+use Rattle.flash_laws.specs.Site.{KeepsSite}
+
+-- no process is in the domain
+abbrev pub IsNobody : {P : Type 0} → List (Seat P) → (d : ℕ) → Type 0
+IsNobody {P} seats d = (i : ℕ) (s : Seat P) → slice_get seats i ≡ Some s → s.by ≢ d
+
+-- a call from outside is by the domain of no process, makes and writes no file, and admits nobody to the net or to a file's pool
+abbrev pub IsMild : {P : Type 0} → Stage State P → Choice → (after : Stage State P) → Type 0
+IsMild w (choice.Outside (event.Call d k)) after = IsNobody w.seats d
+    × KeepsSite w.machine after.machine
+IsMild w x after = Unit {0}
+
+-- so is each over a run
+abbrev pub AreMild : {P : Type 0} → (turns : Account P) → (w : Stage State P)
+    → (xs : List Choice) → (rs : List Reply)
+    → (after : Stage State P) → WorldRun copying turns w xs rs after → Type 0
+AreMild turns w (x ∷ xs) (r ∷ rs) after run = IsMild w x run.0
+    × AreMild turns run.0 xs rs after run.2
+AreMild turns w [] rs after run = Unit {0}
+AreMild turns w (x ∷ xs) [] after run = Unit {0}

@@ -1,0 +1,16 @@
+pub mod Answers
+pub mod Conn
+pub mod Past
+pub mod Site
+pub mod Fits
+pub mod Tied
+pub mod Serves
+pub mod Policy
+pub mod Workers
+pub mod Tie
+pub mod Calm
+pub mod Laws
+pub mod Idle
+pub mod Done
+pub mod Host
+pub mod Offers

@@ -1,0 +1,47 @@
+-- The files of a site, and who may read them: what a list of outcomes by name stands for, and what leaves it so.
+use Rattle.std.specs.Prelude.{◌≡◌, ◌≢◌, ◌≤◌, ℕ, true, false, List, length, Option, Some, None, if◌then◌else◌}
+use Rattle.iol_core.specs.State.{State, content, file, may_read, is_live}
+use Rattle.iol_core.specs.Calls.Files.{file_called}
+use Rattle.iol_core.specs.Run.{StepsTo}
+use Rattle.iol_core.specs.declared.events.Event.{Event}
+use Rattle.iol_core.specs.declared.events.Reply.{Reply}
+use Rattle.iol_laws.specs.Frame.{changes_files, admits_to}
+use Rattle.flash_laws.specs.Answers.{Outcome, Found, Failed, Shelf}
+use Rattle.flash_laws.specs.Conn.{most_read}
+use Rattle.flash_laws.specs.Past.{net_pool}
+
+-- the server's domain
+abbrev pub server : ℕ
+server = 1
+
+-- what opening and reading a file gives the server, with no want of anything
+abbrev pub found_in : State → Option ℕ → Outcome
+found_in m None = Failed 404
+found_in m (Some f) = if may_read m server (file m f).pool then Found (content m f) else Failed 403
+
+abbrev pub outcome_in : State → (name : List ℕ) → Outcome
+outcome_in m name = found_in m (file_called m name)
+
+-- The files, and who may read them, are those of the shelf; the net is read by the server alone; and the server is there.
+pub record IsFixed (shelf : Shelf) (m : State) : Type 0 where
+  pub lives : is_live m server ≡ true
+  pub outcomes : (name : List ℕ) → outcome_in m name ≡ shelf name
+  pub lengths : (name : List ℕ) (f : ℕ) → file_called m name ≡ Some f
+      → length (content m f) ≤ most_read
+  pub read_by : (name : List ℕ) (f : ℕ) → file_called m name ≡ Some f → (d : ℕ)
+      × (may_read m d (file m f).pool ≡ true)
+  pub net_read : may_read m server net_pool ≡ true
+  pub net_alone : (d : ℕ) → d ≢ server → may_read m d net_pool ≡ false
+
+-- No file is made or written, and nobody is admitted to the net or to a file's pool: the site stays as it is.
+pub record KeepsSite (m n : State) : Type 0 where
+  pub files : n.files ≡ m.files
+  pub slots : n.slots ≡ m.slots
+  pub net : (d : ℕ) → may_read n d net_pool ≡ may_read m d net_pool
+  pub readers : (name : List ℕ) (f d : ℕ) → file_called m name ≡ Some f
+      → may_read n d (file m f).pool ≡ may_read m d (file m f).pool
+
+-- so it does over each step that may change no file, and that admits nobody to a pool
+abbrev pub SiteStays : Type 0
+SiteStays = (shelf : Shelf) (m n : State) (e : Event) (r : Reply) → IsFixed shelf m → StepsTo m e r n
+    → changes_files m e ≡ false → ((p : ℕ) → admits_to e p ≡ false) → KeepsSite m n

@@ -1,0 +1,103 @@
+//! The law of the server: connections do not meet. The functions do nothing; their contracts are the law.
+ghost use Rattle.std.specs.Prelude.{ℕ, List, Option};
+ghost use Rattle.iol_core.specs.State.{State};
+ghost use Rattle.iol_core.specs.declared.events.Reply.{Reply};
+ghost use Rattle.iol_proc.specs.Settled.{Settles};
+ghost use Rattle.iol_proc.specs.declared.process.Turn.{Turn};
+ghost use Rattle.flash_laws.specs.Host.{ActorsSettle, HostIsRight, IdleIsDone};
+ghost use Rattle.flash_laws.specs.Offers.{OffersTheResponse};
+ghost use Rattle.flash_laws.specs.Laws.{RunIsAnswered, RunKeepsTie, StepKeepsTie, TiedAtFirst, TiedIsAnswered};
+ghost use Rattle.flash_laws.specs.Policy.{in_rounds};
+ghost use Rattle.flash_laws.specs.Serves.{any};
+ghost use Rattle.flash_laws.specs.Site.{SiteStays};
+ghost use Rattle.flash_laws.specs.Workers.{WorkersWork};
+
+use flash_http::{window_fits, window_stays};
+use iol_laws::laws;
+
+/// What the law needs of workers.
+pub trait Works: Drop {
+    /// The turns that it may take.
+    ghost turns: { Self → Reply → (ℕ → Option (List ℕ)) → Turn → Self → Type 0 };
+
+    /// What holds of it between two turns, of the machine, its domain, what it is and its last reply.
+    ghost ready: { State → ℕ → Self → Reply → Type 0 };
+
+    /// Its condition for idle moments, as `iol_proc::idle::Settling` has it.
+    ghost settled: { ℕ → ℕ → Self → Reply → State → Type 0 };
+
+    /// Shows that it goes on being ready. The function does nothing.
+    fn works()
+        ensures { WorkersWork turns ready };
+
+    /// Shows that it keeps its condition. The function does nothing.
+    fn settles()
+        ensures { Settles settled turns };
+}
+
+/// A new world is tied, each calm step keeps the tie, and so does a calm run; and where it holds, what was sent on each
+/// connection of the net begins the answer to what came on it. Where all is idle, too, nothing is left to do.
+pub fn tied_law<W: Works>()
+    ensures first { TiedAtFirst W.ready }
+    ensures step { StepKeepsTie in_rounds W.turns W.ready }
+    ensures run { RunKeepsTie in_rounds W.turns W.ready }
+    ensures answered { TiedIsAnswered W.ready }
+    ensures all { RunIsAnswered in_rounds W.turns W.ready }
+    ensures settles { ActorsSettle W.turns W.settled }
+    ensures idle { IdleIsDone W.turns W.ready W.settled }
+    ensures host { HostIsRight W.turns W.ready W.settled }
+{
+    W::works();
+    W::settles();
+    laws::each_step_leaves_the_rest();
+    laws::each_step_keeps_order();
+    laws::calls_serve_their_domain();
+    laws::file_calls_serve_their_domain();
+    laws::refusals_tell_why();
+    laws::refusals_that_are_left();
+    laws::numbers_are_new();
+    laws::others_leave_connections();
+    laws::connection_numbers_rise();
+    window_stays();
+    window_fits();
+}
+
+/// The same for a server that picks whichever call it likes: what was sent on each connection of the net begins the answer to
+/// what came on it.
+pub fn free_law<W: Works>()
+    ensures first { TiedAtFirst W.ready }
+    ensures step { StepKeepsTie any W.turns W.ready }
+    ensures run { RunKeepsTie any W.turns W.ready }
+    ensures answered { TiedIsAnswered W.ready }
+    ensures all { RunIsAnswered any W.turns W.ready }
+{
+    W::works();
+    laws::each_step_leaves_the_rest();
+    laws::each_step_keeps_order();
+    laws::calls_serve_their_domain();
+    laws::file_calls_serve_their_domain();
+    laws::refusals_tell_why();
+    laws::numbers_are_new();
+    laws::others_leave_connections();
+    laws::connection_numbers_rise();
+    window_stays();
+    window_fits();
+}
+
+/// What the server offers for a request is the next bytes of the response to it, with the outcome of the calls that it made for it,
+/// the first of which opens the file of its name. It holds whatever the run, calm or not.
+pub fn offers_law()
+    ensures { OffersTheResponse }
+{
+    laws::each_step_leaves_the_rest();
+    laws::calls_serve_their_domain();
+    laws::file_calls_serve_their_domain();
+}
+
+/// A step that may change no file, and that admits nobody to a pool, leaves the site as it is: so a call from outside that is none of
+/// `file_new`, `pool_admit` and a write to a file is mild.
+pub fn site_law()
+    ensures { SiteStays }
+{
+    laws::each_step_leaves_the_rest();
+}

@@ -1,0 +1,9 @@
+pub mod Heard
+pub mod Small
+pub mod Texts
+pub mod Onward
+pub mod Turning
+pub mod Workers
+pub mod Actors
+pub mod Setup
+pub mod Offering

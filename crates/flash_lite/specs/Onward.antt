@@ -1,0 +1,47 @@
+-- What a connection does after a reply to its call.
+use Rattle.std.specs.Prelude.{◌≡◌, ℕ, Bool, true, false, List, [], Some}
+use Rattle.iol_core.specs.declared.events.Reply.{Reply}
+use Rattle.flash_laws.specs.Conn.{Conn, told, wants, Starts, Readies, IsAwaiting}
+use Rattle.flash_laws.specs.Policy.{is_later, is_bare, leaves_off}
+use Rattle.flash_laws.specs.Tied.{left_over}
+use Rattle.flash_laws.specs.declared.doing.Doing.{Doing}
+use Rattle.flash_laws.specs.declared.doing.Doing.TheVariants.{Rests, Over}
+use Rattle.flash_lite.specs.Small.{IsSmall}
+use Rattle.flash_lite.specs.declared.conn.Onward.{Onward}
+use Rattle.flash_lite.specs.declared.conn.Onward.TheVariants.{Asks, Leaves}
+
+abbrev pub is_over : Doing → Bool
+is_over Over = true
+is_over d = false
+
+-- a phase in which a connection may be left to others
+pub record CanRest (x : Conn) (d : Doing) : Type 0 where
+  pub small : IsSmall d
+  pub awaits : IsAwaiting (record x { doing = d })
+
+-- it goes on at once: the reply is filed, it is made ready, and this is its call
+pub record GoesOn (x : Conn) (r : Reply) (heard : List ℕ) (y : Conn) : Type 0 where
+  pub on : leaves_off (left_over (told x r heard)) r ≡ false
+  pub stays : left_over (told x r heard) ≡ Some (told x r heard)
+  pub readies : Readies (told x r heard) y
+
+-- it is left to others as it was, and the reply is filed by what it goes on with
+pub record IsLeft (x : Conn) (r : Reply) (heard : List ℕ) (d : Doing) (y : Conn) : Type 0 where
+  pub off : leaves_off (left_over (told x r heard)) r ≡ true
+  pub told_is : told x r heard ≡ record x { doing = d }
+  pub can_rest : CanRest x d
+  pub as_it_was : y ≡ x
+
+abbrev pub IsOnward : (fd : ℕ) → Conn → Reply → (heard : List ℕ) → Onward → Conn → Type 0
+IsOnward fd x r heard (Asks call) y = GoesOn x r heard y × (call ≡ wants fd y)
+IsOnward fd x r heard (Leaves d) y = IsLeft x r heard d y
+
+-- Where nothing is in progress any more: what is kept begins, or nothing is kept.
+abbrev pub Frees : (fd : ℕ) → Conn → Onward → Conn → Type 0
+Frees fd x (Asks call) y = (is_bare (record x { doing = Rests }) ≡ false) × Starts (record x { doing = Rests }) y × (call ≡ wants fd y)
+Frees fd x (Leaves d) y = (d ≡ Rests) × (x.kept ≡ []) × (y ≡ x)
+
+-- Where something is: it goes on with it, or will.
+abbrev pub GoesWith : (fd : ℕ) → Conn → Reply → Doing → Onward → Conn → Type 0
+GoesWith fd x r d (Asks call) y = (is_later r ≡ false) × (y ≡ record x { doing = d }) × (call ≡ wants fd y)
+GoesWith fd x r d (Leaves e) y = (is_later r ≡ true) × (e ≡ d) × (y ≡ x)

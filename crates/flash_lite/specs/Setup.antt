@@ -1,0 +1,79 @@
+-- What a site is set up by.
+use Rattle.std.specs.Prelude.{◌≡◌, ℕ, ◌+◌, ◌&&◌, ◌||◌, not, nat_le, nat_lt, Bool, true, false, List, [], ◌∷◌, ◌++◌, map, Option, Some, None, if◌then◌else◌}
+use Rattle.std.specs.List.{range_with_len, list_any, flat_map}
+use Rattle.iol_core.specs.State.{State}
+use Rattle.iol_core.specs.Run.{Run}
+use Rattle.iol_core.specs.declared.events.Call.{Call}
+use Rattle.iol_core.specs.declared.events.Call.TheVariants as call
+use Rattle.iol_core.specs.declared.events.Event.{Event}
+use Rattle.iol_core.specs.declared.events.Event.TheVariants as event
+use Rattle.iol_core.specs.declared.events.Reply.{Reply}
+use Rattle.iol_core.specs.declared.events.Reply.TheVariants as reply
+use Rattle.iol_core.specs.declared.refusals.Refusal.{Refusal}
+use Rattle.flash_laws.specs.Serves.{new_server}
+use Rattle.flash_laws.specs.Tie.{Actor, Serving}
+use Rattle.flash_lite.specs.declared.actor.Worker.{Worker}
+use Rattle.flash_lite.specs.declared.site.Site.{Site}
+use Rattle.flash_lite.specs.declared.site.SiteFile.{SiteFile}
+use Rattle.flash_lite.specs.declared.site.TheConstants.{MAX_WORKERS, MAX_GUESTS}
+
+abbrev pub is_private : Site → Bool
+is_private s = list_any (λ f. f.private) s.files.items
+
+-- 1 to 8 workers, at most 7 guests, and one where a file is private
+abbrev pub is_in_range : Site → Bool
+is_in_range s = nat_le 1 s.workers && nat_le s.workers MAX_WORKERS && nat_le s.guests MAX_GUESTS && (nat_lt 0 s.guests || not (is_private s))
+
+-- ---- the calls, in order; domain 1 is the server, then come the workers, then the guests
+
+abbrev pub call_by : (by : ℕ) → Call → Event
+call_by by c = event.Call by c
+
+abbrev pub domains_made : (count : ℕ) → List Event
+domains_made count = map (λ k. call_by 1 call.DomainNew) (range_with_len 0 count)
+
+-- a pool for so many domains from the first on
+abbrev pub pool : (chunks first count : ℕ) → Event
+pool chunks first count = call_by 1 (call.PoolCreate chunks (range_with_len first count))
+
+-- 1 `site` and 3 `work` for all, 2 `net` for the server, 4 `vault` for the first guest where a file is private
+abbrev pub pools_made : Site → List Event
+pools_made s = (pool s.site_chunks 1 (1 + s.workers + s.guests) ∷ pool s.net_chunks 1 1 ∷ pool s.work_chunks 1 (1 + s.workers + s.guests) ∷ []) ++ (if is_private s then pool s.vault_chunks (2 + s.workers) 1 ∷ [] else [])
+
+-- each domain places its bytes in `work`
+abbrev pub defaults_set : (count : ℕ) → List Event
+defaults_set count = map (λ k. call_by (1 + k) (call.SetPool 3)) (range_with_len 0 count)
+
+abbrev pub file_named : (guest : ℕ) → SiteFile → Event
+file_named guest f = if f.private then call_by guest (call.FileNew f.name.items 4) else call_by 1 (call.FileNew f.name.items 1)
+
+-- each worker gets the read end of a pipe, as its descriptor 0
+abbrev pub pipe_given : (k : ℕ) → List Event
+pipe_given k = call_by 1 call.Pipe ∷ call_by 1 (call.GiveFd 0 (2 + k)) ∷ []
+
+abbrev pub pipes_made : (workers : ℕ) → List Event
+pipes_made workers = flat_map pipe_given (range_with_len 0 workers)
+
+abbrev pub calls : Site → List Event
+calls s = ((((domains_made (s.workers + s.guests)) ++ pools_made s) ++ defaults_set (1 + (s.workers + s.guests))) ++ map (λ f. file_named (2 + s.workers) f) s.files.items) ++ pipes_made s.workers
+
+-- ---- what comes of them
+
+abbrev pub is_refused : Reply → Bool
+is_refused (reply.Refused x) = true
+is_refused r = false
+
+-- the first refusal among replies, or none is refused
+abbrev pub RefusalIn : List Reply → Option Refusal → Type 0
+RefusalIn rs (Some x) = list_any is_refused rs ≡ true
+RefusalIn rs None = list_any is_refused rs ≡ false
+
+-- the machine makes all these calls, and none is refused
+pub record SetsUp (s : Site) (old new : State) : Type 0 where
+  pub replies : List Reply
+  pub run : Run old (calls s) replies new
+  pub passed : list_any is_refused replies ≡ false
+
+-- the server, in domain 1
+abbrev pub actors : List (ℕ × Actor Worker)
+actors = (1, Serving new_server) ∷ []

@@ -1,0 +1,33 @@
+-- The numbers of a phase are small.
+use Rattle.std.specs.Prelude.{ℕ, ◌+◌, ◌-◌, ◌≤◌, ◌^◌, Bool, true, false, Option, Some, None}
+use Rattle.iol_core.specs.declared.descriptors.Mode.TheVariants as modes
+use Rattle.iol_core.specs.declared.events.Call.{Call}
+use Rattle.iol_core.specs.declared.events.Call.TheVariants as call
+use Rattle.iol_core.specs.declared.limits.TheConstants.{MAX_AGGREGATE_BYTES}
+use Rattle.flash_http.specs.Request.{Answer, serve, refuse}
+use Rattle.flash_laws.specs.Conn.{Following, text_of}
+use Rattle.flash_laws.specs.declared.doing.Content.TheVariants.{Error}
+use Rattle.flash_laws.specs.declared.doing.Doing.{Doing}
+use Rattle.flash_laws.specs.declared.doing.Doing.TheVariants.{Joins, Sends, Cuts, Offers, Swaps, Sent}
+
+abbrev pub size_of : Following → ℕ
+size_of None = 0
+size_of (Some x) = x.1
+
+-- the bytes of a response that are taken, and those that are left
+abbrev pub reach : Doing → ℕ
+reach (Sends a len taken more) = taken + len + size_of more
+reach (Cuts a from len taken more) = taken + (len - from) + size_of more
+reach (Offers a from len piece taken more) = taken + (len - from) + size_of more
+reach (Swaps a from len piece taken more) = taken + (len - from) + size_of more
+reach (Sent a taken more) = taken + size_of more
+reach d = 0
+
+abbrev pub IsSmall : Doing → Type 0
+IsSmall (Joins a size body len) = size + len ≤ MAX_AGGREGATE_BYTES
+IsSmall d = reach d ≤ 2 ^ 40
+
+-- the first call for a request
+abbrev pub first_call : Answer → Call
+first_call (serve w) = call.OpenFile w.name modes.Read
+first_call (refuse status head_only close) = call.AggMake (text_of (refuse status head_only close) (Error status))

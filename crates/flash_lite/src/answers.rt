@@ -1,0 +1,117 @@
+//! The bytes of answers that the server makes itself.
+ghost use Rattle.std.specs.Prelude.{◌≡◌, ◌++◌, IfOk, OnErr};
+ghost use Rattle.flash_http.specs.Request.{wanted, answer, serve};
+ghost use Rattle.flash_http.specs.Response.{error_body, head_text};
+ghost use Rattle.flash_lite.specs.Texts as texts;
+ghost use Rattle.flash_laws.specs.Answers as spec;
+ghost use Rattle.flash_laws.specs.Conn as conn;
+
+use flash_http::{Asked, MediaType, Request, ResponseHead, error_body, select};
+use flash_laws::doing::Content;
+use http::StatusCode;
+use std::alloc::{AllocError, Global};
+
+// The text of a head, as bytes.
+fn bytes_of_head(alloc: Global, head: &ResponseHead) -> Result<Vec<u8>, AllocError>
+    ensures { IfOk result (λ bytes. bytes.items ≡ head_text head.now) }
+{
+    let text = head.to_text(alloc)?;
+    Ok(text.into_bytes())
+}
+
+// The head for a file of so many bytes.
+fn head_for(request: &Request, len: u64) -> ResponseHead
+    ensures { result ≡ texts.head_for (wanted request.now) len }
+{
+    let media_type = MediaType::of_name(&request.name);
+    let selection = select(request.range, len);
+    ResponseHead::of_file(media_type, selection, len, !request.keep)
+}
+
+// The same, as bytes.
+#[tactic(auto, using(crate::proofs::Texts::file_text_is))]
+fn file_text(alloc: Global, request: &Request, len: u64) -> Result<Vec<u8>, AllocError>
+    ensures { IfOk result (λ bytes. bytes.items ≡ spec.file_text (wanted request.now) len) }
+{
+    let head = head_for(request, len);
+    Ok(bytes_of_head(alloc, &head)?)
+}
+
+// With the body of a refusal, unless there is to be none.
+fn add_body(
+    alloc: Global,
+    bytes: &mut Vec<u8>,
+    status: StatusCode,
+    head_only: bool,
+) -> Result<(), AllocError>
+    ensures { IfOk result (λ _. bytes.new.items
+        ≡ bytes.old.items ++ spec.body_unless head_only (error_body status)) }
+{
+    if !head_only {
+        let body = error_body(alloc, status)?;
+        bytes.extend_from_slice(body.as_bytes())?;
+    }
+    Ok(())
+}
+
+// All of an answer that is the status of a refusal.
+#[tactic(auto, using(crate::proofs::Texts::error_text_is))]
+fn error_text(
+    alloc: Global,
+    status: StatusCode,
+    head_only: bool,
+    close: bool,
+) -> Result<Vec<u8>, AllocError>
+    ensures { IfOk result (λ bytes. bytes.items ≡ spec.error_text status head_only close) }
+{
+    let head = ResponseHead::of_refusal(status, close);
+    let mut bytes = bytes_of_head(alloc, &head)?;
+    add_body(alloc, &mut bytes, status, head_only)?;
+    Ok(bytes)
+}
+
+// All of an answer for a file of which nothing is sent.
+#[tactic(auto, unfolding(flash_laws::specs::Answers::unsatisfiable))]
+fn bare_text(alloc: Global, request: &Request, len: u32) -> Result<Vec<u8>, AllocError>
+    ensures { IfOk result (λ bytes. bytes.items ≡ spec.file_text (wanted request.now) len
+        ++ spec.body_unless (wanted request.now).head_only spec.unsatisfiable) }
+{
+    let mut bytes = file_text(alloc, request, u64::from(len))?;
+    let status = StatusCode::RANGE_NOT_SATISFIABLE;
+    add_body(alloc, &mut bytes, status, request.head_only)?;
+    Ok(bytes)
+}
+
+// What is made of new bytes for a request for a file.
+fn served_text(alloc: Global, request: &Request, content: &Content) -> Result<Vec<u8>, AllocError>
+    ensures { IfOk result
+        (λ bytes. bytes.items ≡ conn.text_of (serve (wanted request.now)) content.now) }
+{
+    match *content {
+        Content::Body {
+            agg: _,
+            size: _,
+            len,
+        } => file_text(alloc, request, u64::from(len)),
+        Content::Bare { len } => bare_text(alloc, request, len),
+        Content::Error { status } => error_text(alloc, status, request.head_only, !request.keep),
+    }
+}
+
+/// What is made of new bytes: the head, and the body where no aggregate has it.
+pub(crate) fn text_of(
+    alloc: Global,
+    asked: &Asked,
+    content: &Content,
+) -> Result<Vec<u8>, AllocError>
+    ensures { IfOk result (λ bytes. bytes.items ≡ conn.text_of (answer asked.now) content.now) }
+{
+    match asked {
+        Asked::Serve(request) => served_text(alloc, request, content),
+        Asked::Refuse {
+            status,
+            head_only,
+            close,
+        } => error_text(alloc, *status, *head_only, *close),
+    }
+}

@@ -1,0 +1,401 @@
+//! One connection.
+ghost use Rattle.std.specs.Prelude.{◌≡◌, ◌≢◌, ◌-◌, IfOk, OnErr, drop, length, true, false};
+ghost use Rattle.iol_core.specs.declared.events.Reply.TheVariants.{Agg};
+ghost use Rattle.iol_core.specs.declared.events.Call.TheVariants.{IolRead};
+ghost use Rattle.flash_http.specs.Request.{answer, refuse};
+ghost use Rattle.flash_laws.specs.Conn as spec;
+ghost use Rattle.flash_laws.specs.Policy.{is_later};
+ghost use Rattle.flash_laws.specs.declared.doing.Doing.TheVariants.{Rests, Over};
+ghost use Rattle.flash_lite.specs.Heard.{heard};
+ghost use Rattle.flash_lite.specs.Onward.{IsOnward, Frees, GoesWith, CanRest, is_over};
+ghost use Rattle.flash_lite.specs.Small.{IsSmall};
+
+use crate::asking::{cut_call, first_call, join_call, make_call, open_call, read_call};
+use crate::finding::{
+    begins, told_got, told_opens, told_picks, told_reads, told_shuts, told_spares,
+};
+use crate::heard::append;
+use crate::sending::{
+    told_breaks, told_closes, told_cuts, told_drops, told_heads, told_joins, told_offers,
+    told_sends, told_sent, told_swaps,
+};
+use flash_http::{Asked, MAX_HEAD_BYTES, Window, read_head, window_of};
+use flash_laws::doing::Doing;
+use http::StatusCode;
+use iol_agg::Parts;
+use iol_core::events::{Call, Reply};
+use iol_core::limits::MAX_QUEUE_BYTES;
+use iol_core::numbers::{AggId, Fd};
+use iol_core::refusals::Refusal;
+use std::alloc::{AllocError, Global};
+use std::marker::Model;
+
+/// What a connection does after a reply.
+#[derive(Drop)]
+pub enum Onward {
+    /// It makes its next call at once.
+    Asks(Call),
+
+    /// Others have their turns, and this is what it goes on with then.
+    Leaves(Doing),
+}
+
+/// One connection of the server: what it keeps of its stream, what was asked for last, and what is
+/// in progress for it.
+#[derive(Drop)]
+pub struct Conn {
+    alloc: Global,
+    kept: Vec<u8>,
+    asked: Asked,
+    doing: Doing,
+}
+
+impl Model for Conn {
+    ghost use Rattle.flash_http.specs.Request.{answer};
+    ghost use Rattle.flash_laws.specs.Conn.{Conn as Kept, IsAwaiting};
+    ghost use Rattle.flash_lite.specs.Small.{IsSmall};
+
+    ghost Value = { Kept };
+
+    ghost view = { λ x. record { kept = x.kept.items; q = answer x.asked; doing = x.doing } };
+
+    ghost invariant = { λ x. IsSmall x.doing
+        × IsAwaiting (record { kept = x.kept.items; q = answer x.asked; doing = x.doing }) };
+}
+
+// Whether the call is to be made again at a later turn.
+fn is_later(last: &Reply) -> bool
+    ensures { result ≡ is_later last.now }
+{
+    match last {
+        Reply::Refused(refusal) => matches!(
+            refusal,
+            Refusal::WouldBlock | Refusal::TooMany | Refusal::NoRoom { pool: _ } | Refusal::Memory
+        ),
+        _ => false,
+    }
+}
+
+// Forgets the first bytes of a list.
+fn drop_first(list: &mut Vec<u8>, count: usize)
+    ensures { list.new.items ≡ drop count list.old.items }
+{
+    list.drain(..count.min(list.len()));
+}
+
+// Where the next piece ends: it has as many bytes as a queue takes, or all that are left.
+fn piece_end(from: u32, len: u32) -> u32
+    ensures { result ≡ spec.piece_end from len }
+{
+    len.min(from.saturating_add(MAX_QUEUE_BYTES as u32))
+}
+
+// A request that has not begun: nothing was asked for.
+fn no_request() -> Asked
+    ensures { answer result ≡ refuse 431 false true }
+{
+    Asked::Refuse {
+        status: StatusCode::REQUEST_HEADER_FIELDS_TOO_LARGE,
+        head_only: false,
+        close: true,
+    }
+}
+
+impl Conn {
+    /// A connection that was just accepted.
+    pub fn new(alloc: Global) -> Conn
+        ensures { result ≡ spec.new_connection }
+    {
+        Conn {
+            alloc,
+            kept: Vec::new(alloc),
+            asked: no_request(),
+            doing: Doing::Rests,
+        }
+    }
+
+    // More of the stream was read. Where nothing came it is at its end.
+    #[tactic(auto, using(crate::proofs::Begun::rests_heard))]
+    fn hear(&mut self, fd: Fd, agg: AggId, parts: Option<Parts<'_>>) -> Result<Call, AllocError>
+        ensures told { IfOk result
+            (λ _. self.new
+            ≡ spec.told_rests self.old.kept self.old.q (Agg agg) (heard parts.entry)) }
+        ensures call { IfOk result (λ call. call ≡ spec.wants fd self.new) }
+        ensures stays { IfOk result (λ _. is_over self.new.doing ≡ false) }
+        ensures err { OnErr result (self.new ≡ self.old) }
+    {
+        let len = self.kept.len();
+        append(&mut self.kept, parts)?;
+        self.doing = if self.kept.len() == len {
+            Doing::Drops { agg, more: None }
+        } else {
+            Doing::Got { agg }
+        };
+        Ok(Call::AggDrop { agg })
+    }
+
+    // What follows the reply to the call of a phase in which something is in progress.
+    fn next_doing(&self, last: &Reply, parts: Option<Parts<'_>>) -> Doing
+        requires { self.now.doing ≢ Rests }
+        ensures told { spec.told self.now last.now (heard parts.entry)
+            ≡ record self.now { doing = result } }
+        ensures small { IsSmall result }
+    {
+        match self.doing {
+            Doing::Rests => Doing::Rests,
+            Doing::Got { agg } => told_got(agg, last),
+            Doing::Opens => told_opens(last),
+            Doing::Reads { file } => told_reads(file, last, parts),
+            Doing::Shuts { file, learnt } => told_shuts(&self.asked, file, learnt, last),
+            Doing::Picks {
+                agg,
+                first,
+                last: to,
+                len,
+            } => told_picks(agg, first, to, len, last),
+            Doing::Spares { agg, content } => told_spares(agg, content, last),
+            Doing::Heads { content } => told_heads(content, last, parts),
+            Doing::Joins {
+                head,
+                size,
+                body,
+                len,
+            } => told_joins(head, size, body, len, last),
+            Doing::Sends {
+                agg,
+                len,
+                taken,
+                more,
+            } => told_sends(agg, len, taken, more, last),
+            Doing::Cuts {
+                agg,
+                from,
+                len,
+                taken,
+                more,
+            } => { told_cuts(agg, from, len, taken, more, last) }
+            Doing::Offers {
+                agg,
+                from,
+                len,
+                piece,
+                taken,
+                more,
+            } => { told_offers(agg, from, len, piece, taken, more, last) }
+            Doing::Swaps {
+                agg,
+                from,
+                len,
+                piece,
+                taken,
+                more,
+            } => { told_swaps(agg, from, len, piece, taken, more, last) }
+            Doing::Sent { agg, taken, more } => told_sent(&self.asked, agg, taken, more, last),
+            Doing::Breaks { piece, agg, more } => told_breaks(piece, agg, more, last),
+            Doing::Drops { agg, more } => told_drops(agg, more, last),
+            Doing::Closes => told_closes(last),
+            Doing::Over => Doing::Over,
+        }
+    }
+
+    // A request begins, after so many bytes: its first call.
+    #[tactic(auto, using(crate::proofs::Begun::first_wants))]
+    fn begin(&mut self, fd: Fd, asked: Asked, len: usize) -> Result<Call, AllocError>
+        ensures begun { IfOk result (λ _. self.new ≡ record {
+          kept = drop len self.old.kept;
+          q = answer asked;
+          doing = spec.begins (answer asked);
+        }) }
+        ensures call { IfOk result (λ call. call ≡ spec.wants fd self.new) }
+        ensures err { OnErr result (self.new ≡ self.old) }
+    {
+        let call = first_call(self.alloc, &asked)?;
+        drop_first(&mut self.kept, len);
+        self.doing = begins(&asked);
+        self.asked = asked;
+        Ok(call)
+    }
+
+    // How much of the stream is read.
+    fn read(&self, fd: Fd) -> Call
+        ensures { result ≡ IolRead fd (spec.most_kept - length self.now.kept) }
+    {
+        let count = MAX_HEAD_BYTES.saturating_sub(self.kept.len()) as u32;
+        Call::IolRead { fd, count }
+    }
+
+    // With nothing in progress: the first request that is kept begins, or more of the stream is
+    // read.
+    fn start(&mut self, fd: Fd) -> Result<Call, AllocError>
+        ensures starts { IfOk result
+            (λ _. spec.Starts (record self.old { doing = Rests }) self.new) }
+        ensures call { IfOk result (λ call. call ≡ spec.wants fd self.new) }
+        ensures err { OnErr result (self.new ≡ self.old) }
+    {
+        match window_of(self.kept.as_slice()) {
+            Window::Wait => {
+                self.doing = Doing::Rests;
+                Ok(self.read(fd))
+            }
+            Window::TooLarge => self.begin(fd, no_request(), 0),
+            Window::Head { skip, len } => {
+                let asked = read_head(self.alloc, &self.kept[skip..skip + len])?;
+                self.begin(fd, asked, skip + len)
+            }
+        }
+    }
+
+    // The call of a phase.
+    fn call_of(&self, fd: Fd, doing: &Doing) -> Result<Call, AllocError>
+        ensures { IfOk result
+            (λ call. call ≡ spec.wants fd (record self.now { doing = doing.now })) }
+    {
+        Ok(match *doing {
+            Doing::Rests => self.read(fd),
+            Doing::Opens => open_call(self.alloc, &self.asked)?,
+            Doing::Reads { file } => read_call(&self.asked, file),
+            Doing::Shuts { file, .. } => Call::Close { fd: file },
+            Doing::Picks {
+                agg,
+                first,
+                last,
+                ..
+            } => cut_call(agg, first, last),
+            Doing::Heads { content } => make_call(self.alloc, &self.asked, &content)?,
+            Doing::Joins { head, body, .. } => join_call(head, body),
+            Doing::Sends { agg, .. } => Call::IolWrite { fd, agg },
+            Doing::Cuts { agg, from, len, .. } => cut_call(agg, from, piece_end(from, len)),
+            Doing::Offers { piece, .. } => Call::IolWrite { fd, agg: piece },
+            Doing::Got { agg } => Call::AggDrop { agg },
+            Doing::Spares { agg, .. } => Call::AggDrop { agg },
+            Doing::Swaps { piece, .. } => Call::AggDrop { agg: piece },
+            Doing::Sent { agg, .. } => Call::AggDrop { agg },
+            Doing::Breaks { piece, .. } => Call::AggDrop { agg: piece },
+            Doing::Drops { agg, .. } => Call::AggDrop { agg },
+            Doing::Closes | Doing::Over => Call::Close { fd },
+        })
+    }
+
+    // Goes on with a phase in which something is in progress.
+    #[tactic(auto, using(crate::proofs::Waiting::busy_awaits))]
+    fn proceed(&mut self, fd: Fd, doing: Doing) -> Result<Call, AllocError>
+        requires { (doing ≢ Rests) × IsSmall doing }
+        ensures doing { IfOk result (λ _. self.new ≡ record self.old { doing = doing }) }
+        ensures call { IfOk result (λ call. call ≡ spec.wants fd self.new) }
+        ensures err { OnErr result (self.new ≡ self.old) }
+    {
+        let call = self.call_of(fd, &doing)?;
+        self.doing = doing;
+        Ok(call)
+    }
+
+    // Goes on with a phase in which something is in progress, unless its call is to be made again
+    // later.
+    fn go_on_with(&mut self, fd: Fd, doing: Doing, last: &Reply) -> Result<Onward, AllocError>
+        requires { (doing ≢ Rests) × IsSmall doing }
+        ensures goes { IfOk result (λ o. GoesWith fd self.old last.now doing o self.new) }
+        ensures err { OnErr result (self.new ≡ self.old) }
+    {
+        if is_later(last) {
+            return Ok(Onward::Leaves(doing));
+        }
+        let call = self.proceed(fd, doing)?;
+        Ok(Onward::Asks(call))
+    }
+
+    // Nothing is in progress after a reply, though it was: what is kept goes on.
+    fn go_on_free(&mut self, fd: Fd) -> Result<Onward, AllocError>
+        ensures asks { IfOk result (λ o. Frees fd self.old o self.new) }
+        ensures err { OnErr result (self.new ≡ self.old) }
+    {
+        if self.kept.is_empty() {
+            return Ok(Onward::Leaves(Doing::Rests));
+        }
+        let call = self.start(fd)?;
+        Ok(Onward::Asks(call))
+    }
+
+    // Something was in progress.
+    fn go_on_busy(
+        &mut self,
+        fd: Fd,
+        last: &Reply,
+        parts: Option<Parts<'_>>,
+    ) -> Result<Onward, AllocError>
+        requires { self.old.doing ≢ Rests }
+        ensures onward { IfOk result
+            (λ o. IsOnward fd self.old last.now (heard parts.entry) o self.new) }
+        ensures err { OnErr result (self.new ≡ self.old) }
+    {
+        let doing = self.next_doing(last, parts);
+        match doing {
+            Doing::Rests => self.go_on_free(fd),
+            Doing::Over => Ok(Onward::Leaves(doing)),
+            _ => self.go_on_with(fd, doing, last),
+        }
+    }
+
+    // The stream was read, or it could not be.
+    fn go_on_resting(
+        &mut self,
+        fd: Fd,
+        last: &Reply,
+        parts: Option<Parts<'_>>,
+    ) -> Result<Onward, AllocError>
+        requires { self.old.doing ≡ Rests }
+        ensures onward { IfOk result
+            (λ o. IsOnward fd self.old last.now (heard parts.entry) o self.new) }
+        ensures err { OnErr result (self.new ≡ self.old) }
+    {
+        let _kept = &self.kept;
+        match last {
+            Reply::Agg(agg) => {
+                let call = self.hear(fd, *agg, parts)?;
+                Ok(Onward::Asks(call))
+            }
+            _ => {
+                if is_later(last) {
+                    return Ok(Onward::Leaves(Doing::Rests));
+                }
+                self.go_on_free(fd)
+            }
+        }
+    }
+
+    /// What it does after the reply to its call, with the bytes of the aggregate that the reply
+    /// names. It goes on at once, unless the
+    /// call is to be made again later, nothing is in progress and nothing kept, or it is over. For
+    /// want of memory it stays as it was.
+    pub fn go_on(
+        &mut self,
+        fd: Fd,
+        last: &Reply,
+        parts: Option<Parts<'_>>,
+    ) -> Result<Onward, AllocError>
+        ensures onward { IfOk result
+            (λ o. IsOnward fd self.old last.now (heard parts.entry) o self.new) }
+        ensures err { OnErr result (self.new ≡ self.old) }
+    {
+        match self.doing {
+            Doing::Rests => self.go_on_resting(fd, last, parts),
+            _ => self.go_on_busy(fd, last, parts),
+        }
+    }
+
+    /// It is left to others, and goes on with this then.
+    pub fn leave(&mut self, doing: Doing)
+        requires { CanRest self.old doing }
+        ensures { self.new ≡ record self.old { doing = doing } }
+    {
+        self.doing = doing;
+    }
+
+    /// Its next call.
+    #[tactic(auto, using(crate::proofs::Waiting::awaits_ready))]
+    pub fn next_call(&self, fd: Fd) -> Result<Call, AllocError>
+        ensures call { IfOk result (λ call. call ≡ spec.wants fd self.now) }
+        ensures ready { spec.Readies self.now self.now }
+    {
+        self.call_of(fd, &self.doing)
+    }
+}

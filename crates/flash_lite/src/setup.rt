@@ -1,0 +1,209 @@
+//! Setting a site up.
+ghost use Rattle.std.specs.Prelude.{◌≡◌, ◌<◌, ◌+◌, ◌++◌, ◌∷◌, [], true, false, Err, IfOk, OnOk, map, nat_eq};
+ghost use Rattle.std.specs.List.{IsDistinct, range_with_len};
+ghost use Rattle.iol_back.specs.Disk.{IfHonest};
+ghost use Rattle.iol_system.specs.Machine.{machine_of};
+ghost use Rattle.flash_lite.specs.Setup as spec;
+
+use crate::actor::{Actor, Role};
+use crate::server::Server;
+use crate::site::{MAX_GUESTS, MAX_WORKERS, Site, SiteFile};
+use iol_back::backing::Backing;
+use iol_core::events::{Call, Event, Reply};
+use iol_core::lists::{Bytes, Domains};
+use iol_core::numbers::{DomainId, Fd, PoolId};
+use iol_core::refusals::Refusal;
+use iol_system::system::System;
+use std::alloc::{AllocError, Global};
+
+// Whether a file is the first guest's alone.
+fn is_private(site: &Site) -> bool
+    ensures { result ≡ spec.is_private site.now }
+{
+    site.files.iter().any(|file| file.private)
+}
+
+// Whether its numbers are within their limits.
+fn is_in_range(site: &Site) -> bool
+    ensures { result ≡ spec.is_in_range site.now }
+{
+    1 <= site.workers
+        && site.workers <= MAX_WORKERS
+        && site.guests <= MAX_GUESTS
+        && (0 < site.guests || !is_private(site))
+}
+
+fn call(by: u32, call: Call) -> Event
+    ensures { result ≡ spec.call_by by call }
+{
+    Event::Call {
+        by: DomainId::new(by),
+        call,
+    }
+}
+
+// So many domains from the first on.
+fn domains(alloc: Global, first: u32, count: u32) -> Result<Domains, AllocError>
+    requires { first + count < 1000 }
+    ensures { IfOk result (λ domains. domains ≡ range_with_len first count) }
+{
+    let mut list = Vec::new(alloc);
+    for k in 0..count {
+        list.push(DomainId::new(first + k))?;
+    }
+    Ok(Domains::from_vec(list))
+}
+
+// A pool for so many domains from the first on.
+fn pool(alloc: Global, chunks: u32, first: u32, count: u32) -> Result<Event, AllocError>
+    requires { first + count < 1000 }
+    ensures { IfOk result (λ e. e ≡ spec.pool chunks first count) }
+{
+    let domains = domains(alloc, first, count)?;
+    Ok(call(1, Call::PoolCreate { chunks, domains }))
+}
+
+// Domains are made.
+fn add_domains(events: &mut Vec<Event>, count: u32) -> Result<(), AllocError>
+    ensures { OnOk result (events.new.items ≡ events.old.items ++ spec.domains_made count) }
+{
+    for _ in 0..count {
+        events.push(call(1, Call::DomainNew))?;
+    }
+    Ok(())
+}
+
+// Pools are made: `site` and `work` for all, `net` for the server, `vault` for the first guest.
+fn add_pools(alloc: Global, events: &mut Vec<Event>, site: &Site) -> Result<(), AllocError>
+    requires { spec.is_in_range site.now ≡ true }
+    ensures { OnOk result (events.new.items ≡ events.old.items ++ spec.pools_made site.now) }
+{
+    let count = 1 + site.workers + site.guests;
+    events.push(pool(alloc, site.site_chunks, 1, count)?)?;
+    events.push(pool(alloc, site.net_chunks, 1, 1)?)?;
+    events.push(pool(alloc, site.work_chunks, 1, count)?)?;
+    if is_private(site) {
+        events.push(pool(alloc, site.vault_chunks, 2 + site.workers, 1)?)?;
+    }
+    Ok(())
+}
+
+// Each domain places its bytes in `work`.
+fn add_defaults(events: &mut Vec<Event>, count: u32) -> Result<(), AllocError>
+    requires { count < 1000 }
+    ensures { OnOk result (events.new.items ≡ events.old.items ++ spec.defaults_set count) }
+{
+    for k in 0..count {
+        let pool = PoolId::new(3);
+        events.push(call(1 + k, Call::SetPool { pool }))?;
+    }
+    Ok(())
+}
+
+// A file is named.
+fn file_call(alloc: Global, file: &SiteFile, guest: u32) -> Result<Event, AllocError>
+    ensures { IfOk result (λ e. e ≡ spec.file_named guest file.now) }
+{
+    let name = Bytes::from_vec(Vec::from_slice(alloc, file.name.as_slice())?);
+    let (by, number) = if file.private { (guest, 4) } else { (1, 1) };
+    let pool = PoolId::new(number);
+    Ok(call(by, Call::FileNew { name, pool }))
+}
+
+// The files are named.
+fn add_files(
+    alloc: Global,
+    events: &mut Vec<Event>,
+    files: &[SiteFile],
+    guest: u32,
+) -> Result<(), AllocError>
+    ensures { OnOk result (events.new.items ≡ events.old.items
+        ++ map (λ f. spec.file_named guest f) files.now) }
+{
+    for file in files {
+        let event = file_call(alloc, file, guest)?;
+        events.push(event)?;
+    }
+    Ok(())
+}
+
+// Each worker gets the read end of a pipe.
+fn add_pipes(events: &mut Vec<Event>, workers: u32) -> Result<(), AllocError>
+    requires { workers < 1000 }
+    ensures { OnOk result (events.new.items ≡ events.old.items ++ spec.pipes_made workers) }
+{
+    for k in 0..workers {
+        events.push(call(1, Call::Pipe))?;
+        let (fd, to) = (Fd::new(0), DomainId::new(2 + k));
+        events.push(call(1, Call::GiveFd { fd, to }))?;
+    }
+    Ok(())
+}
+
+// All calls.
+fn calls(alloc: Global, site: &Site) -> Result<Vec<Event>, AllocError>
+    requires { spec.is_in_range site.now ≡ true }
+    ensures { IfOk result (λ events. events.items ≡ spec.calls site.now) }
+{
+    let mut events = Vec::new(alloc);
+    let others = site.workers + site.guests;
+    add_domains(&mut events, others)?;
+    add_pools(alloc, &mut events, site)?;
+    add_defaults(&mut events, 1 + others)?;
+    add_files(alloc, &mut events, site.files.as_slice(), 2 + site.workers)?;
+    add_pipes(&mut events, site.workers)?;
+    Ok(events)
+}
+
+// The first refusal among replies.
+fn refusal_in(replies: &[Reply]) -> Option<Refusal>
+    ensures { spec.RefusalIn replies.now result }
+{
+    for reply in replies {
+        if let Reply::Refused(refusal) = reply {
+            return Some(*refusal);
+        }
+    }
+    None
+}
+
+/// Sets a site up in a new system, and gives its processes. Numbers out of their limits are
+/// `BadRange`, before anything is done; any
+/// other refusal is that of the first call that was refused, and the system is to be dropped then.
+pub fn setup<B: Backing + Drop>(
+    alloc: Global,
+    system: &mut System<B>,
+    site: &Site,
+) -> Result<Vec<(DomainId, Actor)>, Refusal>
+    ensures range { spec.is_in_range site.now ≡ false → result ≡ Err Refusal.BadRange }
+    ensures in_range { OnOk result (spec.is_in_range site.now ≡ true) }
+    ensures set_up { IfHonest system.old.disk (OnOk result
+        (spec.SetsUp site.now (machine_of system.old) (machine_of system.new))) }
+    ensures actors { IfOk result (λ actors. actors.items ≡ spec.actors) }
+    ensures apart { IfOk result
+        (λ actors. IsDistinct nat_eq (map (λ p. p.0) actors.items)) }
+{
+    if !is_in_range(site) {
+        return Err(Refusal::BadRange);
+    }
+    let events = calls(alloc, site)?;
+    let actors = actors(alloc)?;
+    let replies = system.run(events.as_slice())?;
+    match refusal_in(replies.as_slice()) {
+        Some(refusal) => Err(refusal),
+        None => Ok(actors),
+    }
+}
+
+// The server, in its domain.
+#[tactic(auto, using(crate::proofs::Apart::actors_apart))]
+fn actors(alloc: Global) -> Result<Vec<(DomainId, Actor)>, AllocError>
+    ensures actors { IfOk result (λ actors. actors.items ≡ spec.actors) }
+    ensures apart { IfOk result
+        (λ actors. IsDistinct nat_eq (map (λ p. p.0) actors.items)) }
+{
+    let server = Actor {
+        role: Role::Server(Server::new(alloc)),
+    };
+    Ok(vec![in alloc; (DomainId::new(1), server)]?)
+}

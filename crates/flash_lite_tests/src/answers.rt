@@ -1,0 +1,124 @@
+//! Answers, whole, and how a site is refused.
+use crate::host::{Kept, Plan, refusal_of};
+use crate::rows::{Row, held};
+use iol_core::refusals::Refusal;
+use std::alloc::{AllocError, Global};
+use std::test::Fail;
+
+/// An index, and a file of the guest alone.
+pub const FILES: [Kept<'static>; 2] = [
+    Kept {
+        name: "index.html",
+        bytes: b"hi\n",
+        private: false,
+    },
+    Kept {
+        name: "p",
+        bytes: b"secret",
+        private: true,
+    },
+];
+
+/// The answer to a GET of the index.
+pub const FIRST: &str =
+    "HTTP/1.1 200 OK\r\nContent-Type: text/html\r\nContent-Length: 3\r\n\r\nhi\n";
+
+/// The same, and the answer to a HEAD of it.
+pub const BOTH: &str =
+    "HTTP/1.1 200 OK\r\nContent-Type: text/html\r\nContent-Length: 3\r\n\r\nhi\nHTTP/1.1 200 OK\r\nContent-Type: text/html\r\nContent-Length: 3\r\n\r\n";
+
+const BAD: &str =
+    "HTTP/1.1 400 Bad Request\r\nContent-Type: text/plain\r\nContent-Length: 16\r\nConnection: close\r\n\r\n400 Bad Request\n";
+
+// The first is two requests, one after another; the fifth to the twelfth are refused heads, or none is found.
+const ROWS: [Row<'static>; 13] = [
+    (
+        "GET / HTTP/1.1\r\nHost: a\r\n\r\nHEAD / HTTP/1.1\r\nHost: a\r\n\r\n",
+        BOTH,
+        false,
+    ),
+    (
+        "GET / HTTP/1.1\r\nHost: a\r\n\r\n\r\nHEAD / HTTP/1.1\r\nHost: a\r\n\r\nGET / HTTP/1.1\r\nHost: a\r\nConnection: close\r\n\r\nGET / HTTP/1.1\r\nHost: a\r\n\r\n",
+        "HTTP/1.1 200 OK\r\nContent-Type: text/html\r\nContent-Length: 3\r\n\r\nhi\nHTTP/1.1 200 OK\r\nContent-Type: text/html\r\nContent-Length: 3\r\n\r\nHTTP/1.1 200 OK\r\nContent-Type: text/html\r\nContent-Length: 3\r\nConnection: close\r\n\r\nhi\n",
+        true,
+    ),
+    (
+        "GET /index.html HTTP/1.1\r\nHost: 127.0.0.1:8080\r\nUser-Agent: curl/8.5.0\r\nAccept: */*\r\n\r\n",
+        FIRST,
+        false,
+    ),
+    (
+        "GET / HTTP/1.0\r\n\r\n",
+        "HTTP/1.1 200 OK\r\nContent-Type: text/html\r\nContent-Length: 3\r\nConnection: close\r\n\r\nhi\n",
+        true,
+    ),
+    ("GET / HTTP/1.1\r\n\r\n", BAD, true),
+    ("GET /a%2 HTTP/1.1\r\nHost: a\r\n\r\n", BAD, true),
+    ("GET /../x HTTP/1.1\r\nHost: a\r\n\r\n", BAD, true),
+    (
+        "POST / HTTP/1.1\r\nHost: a\r\nContent-Length: 5\r\n\r\nhello",
+        BAD,
+        true,
+    ),
+    (
+        "POST / HTTP/1.1\r\nHost: a\r\n\r\n",
+        "HTTP/1.1 405 Method Not Allowed\r\nContent-Type: text/plain\r\nContent-Length: 23\r\nAllow: GET, HEAD\r\n\r\n405 Method Not Allowed\n",
+        false,
+    ),
+    (
+        "BREW / HTTP/1.1\r\nHost: a\r\n\r\n",
+        "HTTP/1.1 501 Not Implemented\r\nContent-Type: text/plain\r\nContent-Length: 20\r\n\r\n501 Not Implemented\n",
+        false,
+    ),
+    (
+        "GET /none HTTP/1.1\r\nHost: a\r\n\r\n",
+        "HTTP/1.1 404 Not Found\r\nContent-Type: text/plain\r\nContent-Length: 14\r\n\r\n404 Not Found\n",
+        false,
+    ),
+    (
+        "HEAD /none HTTP/1.1\r\nHost: a\r\n\r\n",
+        "HTTP/1.1 404 Not Found\r\nContent-Type: text/plain\r\nContent-Length: 14\r\n\r\n",
+        false,
+    ),
+    (
+        "GET /p HTTP/1.1\r\nHost: a\r\n\r\n",
+        "HTTP/1.1 403 Forbidden\r\nContent-Type: text/plain\r\nContent-Length: 14\r\n\r\n403 Forbidden\n",
+        false,
+    ),
+];
+
+#[test]
+fn answers_whole_and_byte_by_byte(rt: HostRuntime) -> Result<(), Fail> {
+    let plan = Plan::of(&FILES);
+    assert_eq!(rt; held(rt.alloc(), &plan, &ROWS, 8192)?, ROWS.len());
+    assert_eq!(rt; held(rt.alloc(), &plan, &ROWS, 1)?, ROWS.len());
+    Ok(())
+}
+
+// Sites of so many workers and guests.
+const SITES: [(u32, u32, Option<Refusal>); 5] = [
+    (0, 1, Some(Refusal::BadRange)),
+    (9, 1, Some(Refusal::BadRange)),
+    (1, 8, Some(Refusal::BadRange)),
+    (1, 0, Some(Refusal::BadRange)),
+    (8, 7, None),
+];
+
+// How many of the sites are refused as they should be, up to the first that is not.
+fn count_refused(alloc: Global, plan: &Plan<'_>) -> Result<usize, AllocError> {
+    let mut count = 0usize;
+    for (workers, guests, refusal) in SITES {
+        if refusal_of(alloc, plan, workers, guests)? != refusal {
+            return Ok(count);
+        }
+        count = count.saturating_add(1);
+    }
+    Ok(count)
+}
+
+#[test]
+fn sites_out_of_range(rt: HostRuntime) -> Result<(), Fail> {
+    let plan = Plan::of(&FILES);
+    assert_eq!(rt; count_refused(rt.alloc(), &plan)?, SITES.len());
+    Ok(())
+}

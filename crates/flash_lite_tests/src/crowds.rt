@@ -1,0 +1,43 @@
+//! As many connections as the server holds, and one more.
+use crate::answers::{FILES, FIRST};
+use crate::host::{Host, Plan, connect, host_of};
+use crate::rows::{arrivals, end, is_sent, let_arrive};
+use iol_core::descriptors::How;
+use iol_core::events::Event;
+use std::alloc::Global;
+use std::test::Fail;
+
+const GET: &[u8] = b"GET / HTTP/1.1\r\nHost: a\r\n\r\n";
+
+// So many connections, each of them accepted if it may be.
+fn connect_all(host: &mut Host, count: usize) -> bool {
+    let mut all = true;
+    for _ in 0..count {
+        all &= connect(host).is_some();
+    }
+    all && host.settle()
+}
+
+// The last of 257 is answered once another has ended; the one before it is answered at once.
+fn waits_for_another(host: &mut Host, within: Vec<Event>, past: Vec<Event>) -> bool {
+    connect_all(host, 257)
+        && let_arrive(host, within)
+        && is_sent(host, 256, FIRST.as_bytes())
+        && let_arrive(host, past)
+        && is_sent(host, 257, b"")
+        && end(host, 1, How::Done)
+        && is_sent(host, 257, FIRST.as_bytes())
+}
+
+fn waits(alloc: Global) -> Result<bool, Fail> {
+    let within = arrivals(alloc, 256, GET, 8192)?;
+    let past = arrivals(alloc, 257, GET, 8192)?;
+    let mut host = host_of(alloc, &Plan::of(&FILES))?;
+    Ok(waits_for_another(&mut host, within, past) && !host.is_rough())
+}
+
+#[test]
+fn one_more_than_may_be(rt: HostRuntime) -> Result<(), Fail> {
+    assert!(rt; waits(rt.alloc())?);
+    Ok(())
+}

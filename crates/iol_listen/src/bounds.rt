@@ -1,0 +1,27 @@
+//! How much and how long the connections of a listener may take. `docs/DECISIONS.md` says why.
+
+/// A look at a silent connection waits so many milliseconds for it to ask.
+pub const LOOK_MILLIS: u64 = 20;
+
+/// So many looks, a second, something that has begun may take where another connection has asked.
+pub const BEGUN_LOOKS: u32 = 50;
+
+/// No connection is silent for more looks than these, five seconds.
+pub const MAX_LOOKS: u32 = 250;
+
+/// A send that makes no progress for so many milliseconds fails.
+pub const SEND_MILLIS: u64 = 2000;
+
+/// So many silent connections are kept until they ask.
+pub const MAX_WAITING: usize = 64;
+
+/// A connection that had so many answers ends where another one has asked.
+pub const MAX_ANSWERS: u32 = 100;
+
+/// So many bytes are kept before they are sent: a head and a whole queue.
+pub const OUTBOX_BYTES: usize = 131_072;
+
+/// So many pieces, of this size, are read and dropped after the last answer.
+pub const LAST_PIECES: u32 = 256;
+
+pub const LAST_PIECE_BYTES: usize = 16_384;

@@ -1,0 +1,81 @@
+//! What is to be sent, kept until it is flushed.
+use crate::bounds::OUTBOX_BYTES;
+use std::alloc::{AllocError, Global};
+use std::cell::Cell;
+use std::io;
+use std::io::Write;
+use std::net::TcpStream;
+
+/// What both ends of a connection know of how far it has come.
+#[derive(Drop)]
+pub struct Talk {
+    /// Whether something came that was not answered yet.
+    pub has_begun: Cell<bool>,
+
+    /// How often something was sent that was waited for.
+    pub answers: Cell<u32>,
+}
+
+impl Talk {
+    pub fn new() -> Talk {
+        Talk {
+            has_begun: Cell::new(false),
+            answers: Cell::new(0),
+        }
+    }
+}
+
+/// A writer that sends what it holds when it is flushed, or full: so a head and the first bytes of its body are one send.
+/// What it holds when it is dropped is not sent: to a peer that takes nothing that would take as long once more.
+#[derive(Drop)]
+pub struct Outbox<'a> {
+    stream: &'a TcpStream,
+    talk: &'a Talk,
+    bytes: Vec<u8>,
+}
+
+impl<'a> Outbox<'a> {
+    pub fn new(
+        alloc: Global,
+        stream: &'a TcpStream,
+        talk: &'a Talk,
+    ) -> Result<Outbox<'a>, AllocError> {
+        let bytes = Vec::with_capacity(alloc, OUTBOX_BYTES)?;
+        Ok(Outbox {
+            stream,
+            talk,
+            bytes,
+        })
+    }
+
+    // Sends what it holds. Where that fails the rest is lost.
+    fn send(&mut self) -> io::Result<()> {
+        let mut stream = self.stream;
+        let sent = stream.write_all(&self.bytes);
+        self.bytes.clear();
+        sent
+    }
+}
+
+impl<'a> Write for Outbox<'a> {
+    fn write(&mut self, buf: &[u8]) -> io::Result<usize> {
+        let room = OUTBOX_BYTES.saturating_sub(self.bytes.len());
+        if room < buf.len() {
+            self.send()?;
+        }
+        let taken = buf.len().min(OUTBOX_BYTES);
+        self.bytes.extend_from_slice(&buf[..taken])?;
+        Ok(taken)
+    }
+
+    fn flush(&mut self) -> io::Result<()> {
+        if self.bytes.is_empty() {
+            return Ok(());
+        }
+        self.talk.has_begun.set(false);
+        self.talk
+            .answers
+            .set(self.talk.answers.get().saturating_add(1));
+        self.send()
+    }
+}

@@ -1,0 +1,102 @@
+//! How long the connection that is served is waited for.
+ghost use Rattle.std.specs.Prelude.{IfSome};
+ghost use Rattle.std.specs.Io.{ReadsAtMost};
+
+use crate::bounds::{BEGUN_LOOKS, LOOK_MILLIS, MAX_ANSWERS, MAX_LOOKS, SEND_MILLIS};
+use crate::outbox::Talk;
+use crate::waiting::Queue;
+use std::io;
+use std::io::{ErrorKind, Read};
+use std::net::TcpStream;
+use std::time::Duration;
+
+/// Sets how long reads and sends of a stream wait.
+pub fn set_waits(stream: &TcpStream) -> io::Result<()> {
+    stream.set_nodelay(true)?;
+    stream.set_read_timeout(Some(Duration::from_millis(LOOK_MILLIS)))?;
+    stream.set_write_timeout(Some(Duration::from_millis(SEND_MILLIS)))
+}
+
+/// A reader of a stream, look by look. Where another connection has asked, it fails after a look at which nothing comes; if
+/// something has begun, once that takes a second; and after 100 answers at the next pause. Else it fails after five seconds of silence.
+#[derive(Drop)]
+pub struct Patient<'a, 'b> {
+    stream: &'a TcpStream,
+    talk: &'a Talk,
+    others: &'a mut Queue<'b>,
+
+    // The looks since something began.
+    spent: u32,
+    is_over: bool,
+}
+
+impl<'a, 'b> Patient<'a, 'b> {
+    pub fn new(
+        stream: &'a TcpStream,
+        talk: &'a Talk,
+        others: &'a mut Queue<'b>,
+    ) -> Patient<'a, 'b> {
+        Patient {
+            stream,
+            talk,
+            others,
+            spent: 0,
+            is_over: false,
+        }
+    }
+
+    /// Whether the peer ended the connection, or failed.
+    pub fn is_over(&self) -> bool {
+        self.is_over
+    }
+
+    // Whether it is to give way before it is looked at again, where another connection has asked.
+    fn is_due(&self) -> bool {
+        if self.talk.has_begun.get() {
+            self.spent >= BEGUN_LOOKS
+        } else {
+            self.talk.answers.get() >= MAX_ANSWERS
+        }
+    }
+
+    // One look: none where nothing came.
+    fn look(&mut self, buf: &mut [u8]) -> Option<io::Result<usize>>
+        ensures { IfSome result (λ came. ReadsAtMost came buf.new) }
+    {
+        self.spent = self.spent.saturating_add(1);
+        let mut stream = self.stream;
+        match stream.read(buf) {
+            Err(e) if e.kind() == ErrorKind::WouldBlock => None,
+            Ok(n) => {
+                self.is_over = n == 0;
+                self.talk.has_begun.set(n > 0);
+                Some(Ok(n))
+            }
+            Err(e) => {
+                self.is_over = true;
+                Some(Err(e))
+            }
+        }
+    }
+}
+
+impl<'a, 'b> Read for Patient<'a, 'b> {
+    fn read(&mut self, buf: &mut [u8]) -> io::Result<usize> {
+        if !self.talk.has_begun.get() {
+            self.spent = 0;
+        }
+        if self.is_due() && self.others.is_asked() {
+            return Err(io::Error::from(ErrorKind::TimedOut));
+        }
+        for _ in 0..MAX_LOOKS {
+            if let Some(came) = self.look(buf) {
+                return came;
+            }
+            let is_pausing = !self.talk.has_begun.get();
+            if (is_pausing || self.is_due()) && self.others.is_asked() {
+                break;
+            }
+        }
+        Err(io::Error::from(ErrorKind::TimedOut))
+    }
+}

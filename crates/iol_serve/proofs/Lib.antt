@@ -1,0 +1,3 @@
+pub mod Drained
+pub mod Ended
+pub mod Steps

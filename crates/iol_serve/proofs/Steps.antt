@@ -1,0 +1,174 @@
+-- Serving a connection, one step after another.
+use Rattle.std.proofs.Common.{◌≡◌, ◌∙◌, ℕ, suc, zero, List, [], ◌∷◌, ◌++◌, Option, None, Some, refl, sym, ap, subst, length, take, arith, append_assoc, append-nil, ◌==◌, if◌then◌else◌}
+use Rattle.std.proofs.lemmas.Bool.Decides.{nat_tests}
+use Rattle.std.specs.Io.KnownBytes.{Appends, Consumes, Keeps}
+use Rattle.iol_core.specs.State.{State}
+use Rattle.iol_core.specs.Calls.Outside.{transmit}
+use Rattle.iol_core.specs.declared.descriptors.How.{How}
+use Rattle.iol_core.specs.declared.events.Event.{Event}
+use Rattle.iol_core.specs.declared.events.Event.TheVariants as event
+use Rattle.iol_core.specs.declared.events.Reply.{Reply}
+use Rattle.iol_core.specs.declared.events.Reply.TheVariants as reply
+use Rattle.iol_kernel.specs.Borrowed.{TakesIn}
+use Rattle.iol_laws.specs.History.{came_by, sent_by}
+use Rattle.iol_proc.specs.Borrowed.{ArrivesAs, SendsAs}
+use Rattle.iol_proc.specs.Histories.{stream_over, sent_over}
+use Rattle.iol_proc.specs.Idle.{rounds}
+use Rattle.iol_proc.specs.Turns.{Account}
+use Rattle.iol_proc.specs.World.{Stage, copying, OutsideStep, WorldRun}
+use Rattle.iol_proc.specs.declared.choice.Choice.{Choice}
+use Rattle.iol_proc.specs.declared.choice.Choice.TheVariants as choice
+use Rattle.iol_proc.proofs.Streams.{runs_follow, stream_over-append, sent_over-append}
+use Rattle.iol_serve.specs.Serving.{IsOn, AreOn, GoesOn, Sends, Serves}
+
+-- Known bytes.
+
+pub appends_none : (held : Option (List ℕ)) → Appends held held []
+appends_none None = tt
+appends_none (Some xs) = sym (append-nil xs)
+
+pub appends_kept : (held now : Option (List ℕ)) → Keeps held now → Appends held now []
+appends_kept None now keeps = tt
+appends_kept (Some xs) (Some ys) keeps = keeps ∙ sym (append-nil xs)
+appends_kept (Some xs) None keeps = absurd keeps
+
+pub appends_then : (a b d : Option (List ℕ)) (xs ys : List ℕ) → Appends a b xs → Appends b d ys → Appends a d (xs ++ ys)
+appends_then None b d xs ys first next = tt
+appends_then (Some k) (Some l) (Some m) xs ys first next = next ∙ (ap (λ (w : List ℕ). w ++ ys) first ∙ append_assoc k xs ys)
+appends_then (Some k) None d xs ys first next = absurd first
+appends_then (Some k) (Some l) None xs ys first next = absurd next
+
+pub consumes_none : (left : Option (List ℕ)) → Consumes left left []
+consumes_none None = tt
+consumes_none (Some xs) = refl
+
+pub consumes_then : (a b d : Option (List ℕ)) (xs ys : List ℕ) → Consumes a b xs → Consumes b d ys → Consumes a d (xs ++ ys)
+consumes_then None b d xs ys first next = tt
+consumes_then (Some k) (Some l) (Some m) xs ys first next = first ∙ (ap (λ (w : List ℕ). xs ++ w) next ∙ sym (append_assoc xs ys m))
+consumes_then (Some k) None d xs ys first next = absurd first
+consumes_then (Some k) (Some l) None xs ys first next = absurd next
+
+-- Choices.
+
+alone-append : (c : ℕ) (xs ys : List Choice) → AreOn c xs → AreOn c ys → AreOn c (xs ++ ys)
+alone-append c [] ys first next = next
+alone-append c (x ∷ xs) ys first next = (first.0, alone-append c xs ys first.1 next)
+
+alone_turns : (c : ℕ) (ds : List ℕ) (i n : ℕ) → AreOn c (rounds ds i n)
+alone_turns c ds i zero = tt
+alone_turns c ds i (suc n) = (tt, alone_turns c ds (suc i) n)
+
+stream_turns : (c : ℕ) (ds : List ℕ) (i n : ℕ) (rs : List Reply) → stream_over c (rounds ds i n) rs ≡ []
+unfolding stream_over
+stream_turns c ds i zero rs = refl
+stream_turns c ds i (suc n) [] = refl
+stream_turns c ds i (suc n) (r ∷ rs) = stream_turns c ds (suc i) n rs
+
+sent_turns : (c : ℕ) (ds : List ℕ) (i n : ℕ) (rs : List Reply) → sent_over c (rounds ds i n) rs ≡ []
+unfolding sent_over
+sent_turns c ds i zero rs = refl
+sent_turns c ds i (suc n) [] = refl
+sent_turns c ds i (suc n) (r ∷ rs) = sent_turns c ds (suc i) n rs
+
+-- its own number
+own : (c : ℕ) (xs : List ℕ) → (if c == c then xs else []) ≡ xs
+own c xs = grind (arith, nat_tests)
+
+take_all : (n : ℕ) (xs : List ℕ) → length xs ≡ n → take n xs ≡ xs
+take_all zero [] e = refl
+take_all zero (x ∷ xs) e = absurd (omega (arith, e))
+take_all (suc n) [] e = refl
+take_all (suc n) (x ∷ xs) e = ap (λ (w : List ℕ). x ∷ w) (take_all n xs (omega (arith, e)))
+
+module _ {P : Type 0} (turns : Account P) where
+  pub goes_none : (c : ℕ) (w after : Stage State P) → after ≡ w → GoesOn turns c [] [] w after
+  unfolding stream_over sent_over
+  goes_none c w after same = record { choices = []; replies = []; run = same; alone = tt; comes = refl; goes = refl }
+
+  pub goes_then : (c : ℕ) (came sent more rest : List ℕ) (w mid after : Stage State P) → GoesOn turns c came sent w mid → GoesOn turns c more rest mid after → GoesOn turns c (came ++ more) (sent ++ rest) w after
+  goes_then c came sent more rest w mid after a b = record {
+    choices = a.choices ++ b.choices;
+    replies = a.replies ++ b.replies;
+    run = runs_follow copying turns w mid after a.choices b.choices a.replies b.replies a.run b.run;
+    alone = alone-append c a.choices b.choices a.alone b.alone;
+    comes = stream_over-append copying turns w mid a.choices b.choices a.replies b.replies c a.run
+        ∙ (ap (λ (l : List ℕ). l ++ stream_over c b.choices b.replies) a.comes ∙ ap (λ (l : List ℕ). came ++ l) b.comes);
+    goes = sent_over-append copying turns w mid a.choices b.choices a.replies b.replies c a.run
+        ∙ (ap (λ (l : List ℕ). l ++ sent_over c b.choices b.replies) a.goes ∙ ap (λ (l : List ℕ). sent ++ l) b.goes);
+  }
+
+  pub goes_turns : (c i n : ℕ) (ds : List ℕ) (rs : List Reply) (w after : Stage State P) → WorldRun copying turns w (rounds ds i n) rs after → GoesOn turns c [] [] w after
+  goes_turns c i n ds rs w after ran = record {
+    choices = rounds ds i n;
+    replies = rs;
+    run = ran;
+    alone = alone_turns c ds i n;
+    comes = stream_turns c ds i n rs;
+    goes = sent_turns c ds i n rs;
+  }
+
+  -- one thing that happens
+  goes_outside : (c : ℕ) (e : Event) (r : Reply) (came sent : List ℕ) (w after : Stage State P) → OutsideStep copying turns w e r after → IsOn c (choice.Outside e) → came_by c e r ≡ came → sent_by c e r ≡ sent → GoesOn turns c came sent w after
+  unfolding stream_over sent_over
+  goes_outside c e r came sent w after step on comes goes = record {
+    choices = choice.Outside e ∷ [];
+    replies = r ∷ [];
+    run = (after, step, refl);
+    alone = (on, tt);
+    comes = append-nil (came_by c e r) ∙ comes;
+    goes = append-nil (sent_by c e r) ∙ goes;
+  }
+
+  pub goes_closed : (c : ℕ) (how : How) (r : Reply) (w after : Stage State P) → OutsideStep copying turns w (event.PeerClosed c how) r after → GoesOn turns c [] [] w after
+  goes_closed c how r w after step = goes_outside c (event.PeerClosed c how) r [] [] w after step refl refl refl
+
+  pub goes_arrived : (c n : ℕ) (bytes : List ℕ) (w after : Stage State P) → length bytes ≡ n → ArrivesAs turns c n bytes w after → GoesOn turns c bytes [] w after
+  goes_arrived c n bytes w after count step = goes_outside c (event.Arrive c bytes) (reply.Count n) bytes [] w after step refl (own c (take n bytes) ∙ take_all n bytes count) refl
+
+  pub goes_sent : (c n : ℕ) (bytes : List ℕ) (w after : Stage State P) → SendsAs turns c n w after → (transmit w.machine c n).answer.0 ≡ bytes → (n ≡ 0 → bytes ≡ []) → GoesOn turns c [] bytes w after
+  goes_sent c zero bytes w after step is none = subst (λ (l : List ℕ). GoesOn turns c [] l w after) (sym (none refl)) (goes_none c w after step)
+  goes_sent c (suc n) bytes w after step is none =
+      let sent = (transmit w.machine c (suc n)).answer in
+      goes_outside c (event.Transmit c (suc n)) (reply.Segment sent.0 sent.1) [] bytes w after step refl refl (own c sent.0 ∙ is)
+
+  -- what is sent, and what is served
+
+  pub sends_none : (c : ℕ) (held now : Option (List ℕ)) (w after : Stage State P) → Appends held now [] → after ≡ w → Sends turns c held now w after
+  sends_none c held now w after kept same = record { sent = []; taken = kept; goes_on = goes_none c w after same }
+
+  pub sends_then : (c : ℕ) (a b d : Option (List ℕ)) (w mid after : Stage State P) → Sends turns c a b w mid → Sends turns c b d mid after → Sends turns c a d w after
+  sends_then c a b d w mid after first next = record {
+    sent = first.sent ++ next.sent;
+    taken = appends_then a b d first.sent next.sent first.taken next.taken;
+    goes_on = goes_then c [] first.sent [] next.sent w mid after first.goes_on next.goes_on;
+  }
+
+  pub serves_none : (c : ℕ) (left held now : Option (List ℕ)) (w : Stage State P) → Appends held now [] → Serves turns c left left held now w w
+  serves_none c left held now w kept = record { came = []; sent = []; given = consumes_none left; taken = kept; goes_on = goes_none c w w refl }
+
+  pub serves_sent : (c : ℕ) (left held now : Option (List ℕ)) (w after : Stage State P) → Sends turns c held now w after → Serves turns c left left held now w after
+  serves_sent c left held now w after s = record { came = []; sent = s.sent; given = consumes_none left; taken = s.taken; goes_on = s.goes_on }
+
+  pub serves_alone : (c : ℕ) (left held : Option (List ℕ)) (w after : Stage State P) → GoesOn turns c [] [] w after → Serves turns c left left held held w after
+  serves_alone c left held w after g = record { came = []; sent = []; given = consumes_none left; taken = appends_none held; goes_on = g }
+
+  pub serves_then : (c : ℕ) (l m r h i k : Option (List ℕ)) (w mid after : Stage State P) → Serves turns c l m h i w mid → Serves turns c m r i k mid after → Serves turns c l r h k w after
+  serves_then c l m r h i k w mid after first next = record {
+    came = first.came ++ next.came;
+    sent = first.sent ++ next.sent;
+    given = consumes_then l m r first.came next.came first.given next.given;
+    taken = appends_then h i k first.sent next.sent first.taken next.taken;
+    goes_on = goes_then c first.came first.sent next.came next.sent w mid after first.goes_on next.goes_on;
+  }
+
+  pub serves_came : (c n : ℕ) (left rest held now : Option (List ℕ)) (w after : Stage State P) → Appends held now [] → TakesIn left rest n (λ bytes. ArrivesAs turns c n bytes w after) → Serves turns c left rest held now w after
+  serves_came c n left rest held now w after kept t = record { came = t.bytes; sent = []; given = t.given; taken = kept; goes_on = goes_arrived c n t.bytes w after t.count t.arrives }
+
+  pub serves_refused : (c : ℕ) (left rest held now : Option (List ℕ)) (w after : Stage State P) → rest ≡ left → Appends held now [] → after ≡ w → Serves turns c left rest held now w after
+  serves_refused c left rest held now w after still kept same = record {
+    came = [];
+    sent = [];
+    given = subst (λ (r : Option (List ℕ)). Consumes left r []) (sym still) (consumes_none left);
+    taken = kept;
+    goes_on = goes_none c w after same;
+  }

@@ -1,0 +1,7 @@
+//! Tests of connections that are served, in a crate of their own since a crate with tests is proved twice.
+#![tactic(auto)]
+
+#[cfg(test)]
+mod echo;
+#[cfg(test)]
+mod serving;

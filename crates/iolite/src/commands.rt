@@ -1,0 +1,106 @@
+//! What the program's words ask for.
+ghost use Rattle.std.specs.Prelude.{◌≡◌, ◌↔◌, None, IsSome, IfSome, map, string_bytes};
+ghost use Rattle.iolite.specs.Commands.{IsCommand, IsCount, IsLoop, IsPort, IsReplay, IsServe};
+ghost use Rattle.iolite.specs.Words.{value};
+ghost use Rattle.iolite.specs.declared.commands.Command.{Command};
+
+use crate::words::parse_u32;
+
+/// The bytes that a path may have.
+pub const MAX_PATH_BYTES: usize = 8000;
+
+/// The connections that `serve` may be asked for.
+pub const MAX_COUNT: u32 = 1_000_000;
+
+/// A program, with what it is given.
+#[derive(Clone, Copy, Debug)]
+pub enum Command<'a> {
+    Replay,
+    Serve {
+        port: u16,
+        root: &'a str,
+        count: u32,
+    },
+    Loop {
+        root: &'a str,
+        path: &'a str,
+    },
+}
+
+/// The command that the words behind the program's name are, if they are one.
+pub fn read_command(words: &[String]) -> Option<Command<'_>>
+    ensures command { IfSome result (IsCommand (map string_bytes words.now)) }
+    ensures none { result ≡ None →
+        (c : Command) → ¬ (IsCommand (map string_bytes words.now) c) }
+{
+    match words {
+        [name] => read_replay(name.as_str()),
+        [name, root, path] => read_loop(name.as_str(), root.as_str(), path.as_str()),
+        [name, port, root, count] => read_serve(
+            name.as_str(),
+            port.as_str(),
+            root.as_str(),
+            count.as_str(),
+        ),
+        _ => None,
+    }
+}
+
+fn read_replay(name: &str) -> Option<Command<'_>>
+    ensures command { IfSome result (IsReplay name.now) }
+    ensures none { result ≡ None → (c : Command) → ¬ (IsReplay name.now c) }
+{
+    if name == "replay" {
+        Some(Command::Replay)
+    } else {
+        None
+    }
+}
+
+fn read_loop<'a>(name: &str, root: &'a str, path: &'a str) -> Option<Command<'a>>
+    ensures command { IfSome result (IsLoop name.now root.now path.now) }
+    ensures none { result ≡ None → (c : Command) → ¬ (IsLoop name.now root.now path.now c) }
+{
+    if name == "loop" && path.len() <= MAX_PATH_BYTES {
+        Some(Command::Loop { root, path })
+    } else {
+        None
+    }
+}
+
+fn read_serve<'a>(name: &str, port: &str, root: &'a str, count: &str) -> Option<Command<'a>>
+    ensures command { IfSome result (IsServe name.now port.now root.now count.now) }
+    ensures none { result ≡ None →
+        (c : Command) → ¬ (IsServe name.now port.now root.now count.now c) }
+{
+    if name != "serve" {
+        return None;
+    }
+    let port = parse_port(port)?;
+    let count = parse_count(count)?;
+    Some(Command::Serve { port, root, count })
+}
+
+/// Reads a port, of decimal digits alone.
+fn parse_port(word: &str) -> Option<u16>
+    ensures accepts { IsSome result ↔ IsPort word.now }
+    ensures value { IfSome result (λ n. n ≡ value word.now) }
+{
+    if word.as_bytes().first() == Some(&b'+') {
+        return None;
+    }
+    word.parse::<u16>().ok()
+}
+
+/// Reads how many connections are to be served, of decimal digits alone.
+fn parse_count(word: &str) -> Option<u32>
+    ensures accepts { IsSome result ↔ IsCount word.now }
+    ensures value { IfSome result (λ n. n ≡ value word.now) }
+{
+    let count = parse_u32(word)?;
+    if 1 <= count && count <= MAX_COUNT {
+        Some(count)
+    } else {
+        None
+    }
+}
