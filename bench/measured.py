@@ -1,6 +1,7 @@
-"""Instructions of the program iolite on a script, counted by valgrind."""
+"""Instructions of the program iolite on a script, counted by valgrind, and the processor time that it takes."""
 import os
 import re
+import resource
 import subprocess
 import sys
 import tempfile
@@ -23,6 +24,24 @@ def instructions(script, refusals=0):
     if ran.stdout.count("refused") != refusals:
         sys.exit("a round was refused, or was not")
     return int(re.search(r"Collected : (\d+)", ran.stderr)[1])
+
+
+def used():
+    used = resource.getrusage(resource.RUSAGE_CHILDREN)
+    return used.ru_utime + used.ru_stime
+
+
+def seconds(script, tries=5):
+    """The least processor time of several runs."""
+    took = []
+    with tempfile.TemporaryFile("w+") as lines:
+        lines.write(script)
+        for _ in range(tries):
+            lines.seek(0)
+            before = used()
+            subprocess.run([PROGRAM, "replay"], stdin=lines, stdout=subprocess.DEVNULL, check=True)
+            took.append(used() - before)
+    return min(took)
 
 
 def a_round(head, rounds, count, refusals=0):

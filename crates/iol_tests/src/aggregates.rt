@@ -1,43 +1,32 @@
 //! Each call that wants memory answers when there is enough.
-ghost use Rattle.std.specs.Prelude.{[]};
-ghost use Rattle.iol_hold.specs.Moves.{Moves};
+ghost use Rattle.std.specs.Prelude.{[], ◌≡◌};
 ghost use Rattle.iol_hold.specs.Texts.{bufs_of, AllReadable};
 ghost use Rattle.iol_agg.specs.Held.{IsHeldBy};
 
+use crate::stores::{add_pool, filled, new_store};
 use iol_agg::Agg;
 use iol_core::configuration::Config;
 use iol_core::limits::MAX_AGGREGATE_BYTES;
 use iol_core::numbers::{DomainId, PoolId};
 use iol_core::refusals::Refusal;
 use iol_hold::Store;
-use iol_pool::names::Names;
 use std::alloc::Global;
 use std::process::Abort;
 use std::test::Fail;
+
+const TWO_CHUNKS: Config = Config {
+    chunks: 2,
+    gen_limit: u32::MAX,
+    sums: 1,
+};
 
 // A store of two chunks, and a pool that has both.
 fn start<R: Abort>(rt: &R, alloc: Global) -> (Store, PoolId)
     ensures { IsHeldBy result.0 [] }
 {
-    let config = Config {
-        chunks: 2,
-        gen_limit: u32::MAX,
-        sums: 1,
-    };
-    let mut store = Store::new(alloc, config).expect(rt, "memory");
-    let names = Names::of(&[DomainId::new(1)]).expect(rt, "a domain");
-    let pool = store.create_pool(alloc, 2, names).expect(rt, "room");
+    let mut store = new_store(rt, alloc, TWO_CHUNKS);
+    let pool = add_pool(rt, alloc, &mut store, 2, &[DomainId::new(1)]);
     (store, pool)
-}
-
-// New bytes of the pool.
-fn filled<R: Abort>(rt: &R, alloc: Global, store: &mut Store, pool: PoolId, text: &[u8]) -> Agg
-    ensures readable { AllReadable store.new result }
-    ensures moves { Moves store.old store.new [] (bufs_of result) }
-{
-    assert!(rt; text.len() <= MAX_AGGREGATE_BYTES);
-    assert!(rt; !store.pools().is_closed(pool));
-    Agg::fill(alloc, store, pool, text).expect(rt, "room")
 }
 
 // Bytes that come and go.
@@ -97,31 +86,50 @@ fn split_and_join<R: Abort>(rt: &R, store: &mut Store, agg: Agg)
     whole.release(store);
 }
 
-// 70,000 bytes need two buffers, since a chunk has 65,536.
-#[test]
-fn ample(rt: HostRuntime) -> Result<(), Fail> {
-    let alloc = rt.alloc();
-    let (mut store, pool) = start(&rt, alloc);
-    let text = vec![in alloc; 7u8; 70_000]?;
-    let agg = filled(&rt, alloc, &mut store, pool, &text);
+// What an aggregate of 70,000 bytes has: two buffers, since a chunk has 65,536.
+fn look<R: Abort>(rt: &R, alloc: Global, store: &Store, agg: &Agg, text: &[u8])
+    requires { AllReadable store.now agg.now }
+{
     assert_eq!(rt; agg.len(), 70_000);
     assert_eq!(rt; agg.slices().len(), 2);
-    assert_eq!(rt; agg.parts(&store).count(), 2);
-    assert!(rt; agg.to_vec(alloc, &store)? == text);
-    copy_all(&rt, alloc, &mut store, &agg);
-    copy_half(&rt, alloc, &mut store, &agg);
-    replace_half(&rt, alloc, &mut store, &agg);
+    assert_eq!(rt; agg.parts(store).count(), 2);
+    let bytes = agg.to_vec(alloc, store).expect(rt, "memory");
+    assert!(rt; bytes.as_slice() == text);
+}
+
+// There is no room for the same bytes beside the first ones.
+fn refuse_more<R: Abort>(rt: &R, alloc: Global, store: &mut Store, pool: PoolId, text: &[u8])
+    ensures { store.new ≡ store.old }
+{
     assert!(rt; text.len() <= MAX_AGGREGATE_BYTES);
     assert!(rt; !store.pools().is_closed(pool));
-    let Err(refusal) = Agg::fill(alloc, &mut store, pool, &text) else {
+    let Err(refusal) = Agg::fill(alloc, store, pool, text) else {
         panic!(rt; "room beside the first bytes");
     };
     assert_eq!(rt; refusal, Refusal::NoRoom { pool });
-    split_and_join(&rt, &mut store, agg);
+}
+
+// Bytes come and go many times.
+fn repeat<R: Abort>(rt: &R, alloc: Global, store: &mut Store, pool: PoolId) {
     assert_eq!(rt; store.buffer_count(), 0);
     for _ in 0..100_000 {
-        round(&rt, alloc, &mut store, pool);
+        round(rt, alloc, store, pool);
     }
     assert_eq!(rt; store.buffer_count(), 0);
+}
+
+#[test]
+fn ample(rt: HostRuntime) -> Result<(), Fail> {
+    let alloc = rt.alloc();
+    let text = vec![in alloc; 7u8; 70_000]?;
+    let (mut store, pool) = start(&rt, alloc);
+    let agg = filled(&rt, alloc, &mut store, pool, &text);
+    look(&rt, alloc, &store, &agg, &text);
+    copy_all(&rt, alloc, &mut store, &agg);
+    copy_half(&rt, alloc, &mut store, &agg);
+    replace_half(&rt, alloc, &mut store, &agg);
+    refuse_more(&rt, alloc, &mut store, pool, &text);
+    split_and_join(&rt, &mut store, agg);
+    repeat(&rt, alloc, &mut store, pool);
     Ok(())
 }

@@ -1,29 +1,47 @@
 //! Each call that wants memory answers when there is enough.
-ghost use Rattle.std.specs.Prelude.{◌≡◌, ℕ, ◌<◌, length};
+ghost use Rattle.std.specs.Prelude.{◌≡◌, ◌<◌};
 ghost use Rattle.std.specs.List.{All};
 ghost use Rattle.iol_arena.specs.State.{chunk_count};
+ghost use Rattle.iol_arena.specs.Buffers.{IsLive};
 
 use iol_arena::arena::Arena;
 use iol_arena::chunks::ChunkSet;
 use iol_core::configuration::Config;
+use iol_core::numbers::BufId;
 use std::alloc::Global;
 use std::process::Abort;
 use std::test::Fail;
 
-// Fills a buffer and frees it.
-fn round<R: Abort>(rt: &R, alloc: Global, arena: &mut Arena, set: &ChunkSet)
+/// A buffer of five bytes, 7 and zeros.
+pub fn make_one<R: Abort>(rt: &R, alloc: Global, arena: &mut Arena, set: &ChunkSet) -> BufId
     requires { All (λ c. c < chunk_count arena.old) set.now }
-    ensures { chunk_count arena.new ≡ chunk_count arena.old }
+    ensures live { IsLive arena.new result }
+    ensures taken { arena.new.taken ≡ arena.old.taken }
 {
     let mut filling = arena.begin(alloc, set, 5).expect(rt, "room");
     filling.part_mut(0)[0] = 7;
     let bufs = filling.publish(5);
     let list = bufs.as_slice();
     assert!(rt; list.len() > 0);
-    let buf = list[0];
+    list[0]
+}
+
+// What such a buffer has.
+fn look<R: Abort>(rt: &R, arena: &Arena, buf: BufId)
+    requires { IsLive arena.now buf }
+{
     assert_eq!(rt; arena.buffer_count(), 1);
     assert_eq!(rt; arena.len(buf), 5);
     assert!(rt; arena.bytes(buf, 0, 5) == [7, 0, 0, 0, 0].as_slice());
+}
+
+// Fills a buffer and frees it.
+fn round<R: Abort>(rt: &R, alloc: Global, arena: &mut Arena, set: &ChunkSet)
+    requires { All (λ c. c < chunk_count arena.old) set.now }
+    ensures { chunk_count arena.new ≡ chunk_count arena.old }
+{
+    let buf = make_one(rt, alloc, arena, set);
+    look(rt, arena, buf);
     arena.free(buf);
 }
 
@@ -38,6 +56,23 @@ fn begin<R: Abort>(rt: &R, alloc: Global, arena: &mut Arena, set: &ChunkSet)
     assert_eq!(rt; bufs.len(), 2);
 }
 
+// Takes a chunk, in which nothing lies.
+fn take_one<R: Abort>(rt: &R, arena: &mut Arena) {
+    let chunk = arena.take_chunk().expect(rt, "a chunk");
+    assert_eq!(rt; arena.free_in(chunk), 16);
+    assert_eq!(rt; arena.retired_in(chunk), 0);
+    assert!(rt; arena.is_unused(chunk));
+}
+
+// Takes two more, on which buffers come and go.
+fn use_two<R: Abort>(rt: &R, alloc: Global, arena: &mut Arena) {
+    let set = arena.take_chunks(alloc, 2).expect(rt, "chunks");
+    for _ in 0..100_000 {
+        round(rt, alloc, arena, &set);
+    }
+    begin(rt, alloc, arena, &set);
+}
+
 #[test]
 fn ample(rt: HostRuntime) -> Result<(), Fail> {
     let alloc = rt.alloc();
@@ -47,14 +82,7 @@ fn ample(rt: HostRuntime) -> Result<(), Fail> {
         sums: 1,
     };
     let mut arena = Arena::new(alloc, config).expect(&rt, "memory");
-    let chunk = arena.take_chunk().expect(&rt, "a chunk");
-    assert_eq!(rt; arena.free_in(chunk), 16);
-    assert_eq!(rt; arena.retired_in(chunk), 0);
-    assert!(rt; arena.is_unused(chunk));
-    let set = arena.take_chunks(alloc, 2).expect(&rt, "chunks");
-    for _ in 0..100_000 {
-        round(&rt, alloc, &mut arena, &set);
-    }
-    begin(&rt, alloc, &mut arena, &set);
+    take_one(&rt, &mut arena);
+    use_two(&rt, alloc, &mut arena);
     Ok(())
 }

@@ -4,21 +4,19 @@ ghost use Rattle.iol_hold.specs.Stored.{count_of};
 ghost use Rattle.iol_hold.specs.Moves.{Covers};
 ghost use Rattle.iol_hold.specs.Texts.{IsFilled};
 
+use crate::stores::{add_pool, new_store};
 use iol_core::configuration::Config;
-use iol_core::limits::MAX_POOLS;
 use iol_core::numbers::{DomainId, PoolId};
 use iol_hold::{Hold, Holds, Slice, Store};
-use iol_pool::names::Names;
 use std::alloc::Global;
 use std::process::Abort;
 use std::test::Fail;
 
-// Makes a pool of so many chunks for one domain.
-fn create<R: Abort>(rt: &R, alloc: Global, store: &mut Store, chunks: u32) -> PoolId {
-    assert!(rt; store.pools().len() < MAX_POOLS);
-    let names = Names::of(&[DomainId::new(1)]).expect(rt, "at most sixteen domains");
-    store.create_pool(alloc, chunks, names).expect(rt, "room")
-}
+const THREE_CHUNKS: Config = Config {
+    chunks: 3,
+    gen_limit: u32::MAX,
+    sums: 1,
+};
 
 // A buffer of five bytes.
 fn fill_one<R: Abort>(rt: &R, alloc: Global, store: &mut Store, pool: PoolId) -> Hold
@@ -111,26 +109,27 @@ fn close_in_use<R: Abort>(rt: &R, alloc: Global, store: &mut Store, pool: PoolId
     assert_eq!(rt; store.report_pool(pool).pages, 0);
 }
 
+// Fills a buffer and gives it up, many times.
+fn repeat<R: Abort>(rt: &R, alloc: Global, store: &mut Store, pool: PoolId) {
+    for _ in 0..100_000 {
+        round(rt, alloc, store, pool);
+    }
+}
+
 #[test]
 fn ample(rt: HostRuntime) -> Result<(), Fail> {
     let alloc = rt.alloc();
-    let config = Config {
-        chunks: 3,
-        gen_limit: u32::MAX,
-        sums: 1,
-    };
-    let mut store = Store::new(alloc, config).expect(&rt, "memory");
-    let other = create(&rt, alloc, &mut store, 1);
-    let pool = create(&rt, alloc, &mut store, 2);
+    let one = [DomainId::new(1)];
+    let mut store = new_store(&rt, alloc, THREE_CHUNKS);
+    let other = add_pool(&rt, alloc, &mut store, 1, &one);
+    let pool = add_pool(&rt, alloc, &mut store, 2, &one);
     let hold = fill_one(&rt, alloc, &mut store, other);
     share_and_cut(&rt, &mut store, hold);
     fill_two(&rt, alloc, &mut store, pool);
     publish_two(&rt, alloc, &mut store, pool);
     abandon_two(&rt, alloc, &mut store, pool);
-    for _ in 0..100_000 {
-        round(&rt, alloc, &mut store, pool);
-    }
+    repeat(&rt, alloc, &mut store, pool);
     close_in_use(&rt, alloc, &mut store, pool);
-    let _again = create(&rt, alloc, &mut store, 2);
+    let _again = add_pool(&rt, alloc, &mut store, 2, &one);
     Ok(())
 }

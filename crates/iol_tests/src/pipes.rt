@@ -3,41 +3,30 @@ ghost use Rattle.std.specs.Prelude.{[]};
 ghost use Rattle.iol_hold.specs.Texts.{bufs_of};
 ghost use Rattle.iol_agg.specs.Held.{IsHeldBy};
 
-use iol_agg::Agg;
+use crate::stores::{add_pool, filled, new_store};
 use iol_core::configuration::Config;
-use iol_core::limits::{MAX_AGGREGATE_BYTES, MAX_POOLS};
 use iol_core::numbers::{DomainId, PoolId};
 use iol_hold::Store;
 use iol_pipe::Pipe;
-use iol_pool::names::Names;
 use std::alloc::Global;
 use std::process::Abort;
 use std::test::Fail;
 
-// A pool of two chunks for these domains.
-fn add_pool<R: Abort>(rt: &R, alloc: Global, store: &mut Store, domains: &[DomainId]) -> PoolId
-    requires { IsHeldBy store.old [] }
-    ensures { IsHeldBy store.new [] }
-{
-    assert!(rt; store.pools().len() < MAX_POOLS);
-    let names = Names::of(domains).expect(rt, "few domains");
-    store.create_pool(alloc, 2, names).expect(rt, "room")
-}
+// Each page is used once.
+const FOUR_CHUNKS: Config = Config {
+    chunks: 4,
+    gen_limit: 1,
+    sums: 1,
+};
 
 // A store with a pool for two domains, and one for the second of them.
 fn start<R: Abort>(rt: &R, alloc: Global) -> (Store, PoolId, PoolId)
     ensures { IsHeldBy result.0 [] }
 {
-    let config = Config {
-        chunks: 4,
-        gen_limit: 1,
-        sums: 1,
-    };
-    let mut store = Store::new(alloc, config).expect(rt, "memory");
-    let one = DomainId::new(1);
-    let two = DomainId::new(2);
-    let both = add_pool(rt, alloc, &mut store, &[one, two]);
-    let second = add_pool(rt, alloc, &mut store, &[two]);
+    let (one, two) = (DomainId::new(1), DomainId::new(2));
+    let mut store = new_store(rt, alloc, FOUR_CHUNKS);
+    let both = add_pool(rt, alloc, &mut store, 2, &[one, two]);
+    let second = add_pool(rt, alloc, &mut store, 2, &[two]);
     (store, both, second)
 }
 
@@ -53,10 +42,8 @@ fn push<R: Abort>(
     requires { IsHeldBy store.old (bufs_of pipe.old) }
     ensures { IsHeldBy store.new (bufs_of pipe.new) }
 {
-    assert!(rt; text.len() <= MAX_AGGREGATE_BYTES);
-    assert!(rt; !store.pools().is_closed(pool));
     let waiting = pipe.len();
-    let agg = Agg::fill(alloc, store, pool, text).expect(rt, "room");
+    let agg = filled(rt, alloc, store, pool, text);
     assert_eq!(rt; agg.len() as usize, text.len());
     let taken = pipe.push(store, &agg).expect(rt, "memory");
     assert_eq!(rt; pipe.len() - waiting, taken);
@@ -87,6 +74,7 @@ fn front<R: Abort>(
 #[test]
 fn ample(rt: HostRuntime) -> Result<(), Fail> {
     let alloc = rt.alloc();
+    let text = vec![in alloc; 7u8; 70_000]?;
     let (mut store, both, second) = start(&rt, alloc);
     let mut pipe = Pipe::new(alloc);
     assert_eq!(rt; push(&rt, alloc, &mut store, &mut pipe, both, b"hello"), 5);
@@ -97,11 +85,8 @@ fn ample(rt: HostRuntime) -> Result<(), Fail> {
         assert_eq!(rt; given, want);
     }
     assert!(rt; pipe.is_empty());
-    let text = vec![in alloc; 7u8; 70_000]?;
-    assert_eq!(rt;
-        push(&rt, alloc, &mut store, &mut pipe, second, &text),
-        65_536
-    );
+    let taken = push(&rt, alloc, &mut store, &mut pipe, second, &text);
+    assert_eq!(rt; taken, 65_536);
     assert_eq!(rt; pipe.first_pool(), Some(second));
     Ok(())
 }

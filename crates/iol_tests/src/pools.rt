@@ -1,34 +1,18 @@
 //! Each call that wants memory answers when there is enough.
-ghost use Rattle.std.specs.Prelude.{◌≡◌, ◌<◌, true};
-ghost use Rattle.std.specs.List.{All};
+ghost use Rattle.std.specs.Prelude.{◌≡◌, true};
 ghost use Rattle.iol_core.specs.Numbered.{is_numbered};
-ghost use Rattle.iol_arena.specs.State.{chunk_count};
-ghost use Rattle.iol_arena.specs.Buffers.{IsLive};
 ghost use Rattle.iol_pool.specs.Owned.{AreOwned};
 
+use crate::arenas::make_one;
 use iol_arena::arena::Arena;
-use iol_arena::chunks::ChunkSet;
 use iol_core::configuration::Config;
-use iol_core::numbers::{BufId, DomainId, PoolId};
+use iol_core::numbers::{DomainId, PoolId};
 use iol_pool::names::Names;
 use iol_pool::pools::Pools;
 use iol_pool::report::PoolReport;
 use std::alloc::Global;
 use std::process::Abort;
 use std::test::Fail;
-
-// A buffer of five bytes.
-fn make_one<R: Abort>(rt: &R, alloc: Global, arena: &mut Arena, chunks: &ChunkSet) -> BufId
-    requires { All (λ c. c < chunk_count arena.old) chunks.now }
-    ensures live { IsLive arena.new result }
-    ensures taken { arena.new.taken ≡ arena.old.taken }
-{
-    let filling = arena.begin(alloc, chunks, 5).expect(rt, "room");
-    let bufs = filling.publish(5);
-    let list = bufs.as_slice();
-    assert!(rt; list.len() > 0);
-    list[0]
-}
 
 // Closes a pool while a buffer stands on its pages, and then frees that.
 fn close_in_use<R: Abort>(rt: &R, alloc: Global, arena: &mut Arena, pools: &mut Pools, pool: PoolId)

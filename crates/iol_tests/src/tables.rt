@@ -19,7 +19,9 @@ fn add<R: Abort>(rt: &R, table: &mut Table<u32>, d: DomainId, agg: u32) -> AggId
 // Takes an aggregate that is there.
 fn take<R: Abort>(rt: &R, table: &mut Table<u32>, d: DomainId, agg: AggId) -> u32 {
     assert!(rt; table.live(d));
-    assert!(rt; table.agg(d, agg).is_some());
+    let Some(_) = table.agg(d, agg) else {
+        panic!(rt; "no aggregate");
+    };
     table.take_agg(d, agg)
 }
 
@@ -40,10 +42,10 @@ fn open<R: Abort>(rt: &R, table: &mut Table<u32>, d: DomainId) -> u32 {
     assert!(rt; table.live(d));
     assert!(rt; !table.is_open_beyond(d, 1));
     let pipe = PipeId::new(0);
-    let fd = table
-        .add_fd(d, Descriptor::ReadEnd { pipe })
-        .expect(rt, "memory");
-    fd.number()
+    match table.add_fd(d, Descriptor::ReadEnd { pipe }) {
+        Ok(fd) => fd.number(),
+        Err(_) => panic!(rt; "memory"),
+    }
 }
 
 // Closes a descriptor.

@@ -9,6 +9,7 @@ use iol_sock::Drained;
 use iol_system::system::System;
 use std::alloc::Global;
 use std::io;
+use std::marker::Model;
 
 // A system over a store that has no file yet.
 fn new_system(alloc: Global) -> Result<System<MemoryBacking>, Refusal> {
@@ -20,6 +21,12 @@ fn new_system(alloc: Global) -> Result<System<MemoryBacking>, Refusal> {
 #[derive(Drop)]
 pub struct Machine {
     system: System<MemoryBacking>,
+}
+
+impl Model for Machine {
+    ghost Value = { Unit {0} };
+
+    ghost view = { λ _. tt };
 }
 
 impl Machine {
@@ -53,5 +60,10 @@ impl Machine {
             Ok(_) => Ok(()),
             Err(refusal) => Err(refusal),
         }
+    }
+
+    /// The system, for those that lend it on.
+    pub fn into_system(self) -> System<MemoryBacking> {
+        self.system
     }
 }

@@ -1,30 +1,73 @@
-//! How fast bytes are passed on by reference, and by copying: `system_speed WAY HOW LEN ROUNDS` passes so many bytes so many
-//! times. `bench/shared` measures it.
+//! What calls cost: `system_speed MEASUREMENT ..` carries out each measurement in turn. There are two.
 //!
-//! WAY is where they go: `file` (read, from memory), `pipe` (written and read), `sent` (written to a connection and taken by its
-//! peer) or `received` (arrived on a connection and read). HOW is `shared` or `copied`.
+//! `WAY HOW LEN ROUNDS` passes so many bytes so many times. WAY is where they go: `file` (read, from memory), `pipe` (written and
+//! read), `sent` (written to a connection and taken by its peer) or `received` (arrived on a connection and read). HOW is
+//! `shared` or `copied`. `bench/shared` measures it.
+//!
+//! `turns KIND ROUNDS` gives five processes two turns each, in rounds, so many times. By its kind each yields (`yield`), asks for a
+//! connection (`accept`), or reads an empty pipe (`read`). It prints whether all were idle each time. `bench/turns` measures it.
 #![tactic(auto)]
 
 mod machine;
 mod rounds;
 mod setup;
+mod turns;
+mod waiter;
 
 use anyhow::Context;
 use rounds::{Passing, Round, Way};
+use std::alloc::Global;
 use std::env;
+use turns::Waiters;
+use waiter::Waiter;
+
+// The next word.
+fn word(words: &mut env::Args) -> anyhow::Result<String> {
+    let word = words.next().context("a word is missing")?;
+    Ok(word)
+}
+
+// The round that the words name, and how often.
+fn round(alloc: Global, way: &str, words: &mut env::Args) -> anyhow::Result<(Round, u32, u64)> {
+    let way = Way::of_word(way).context("which way?")?;
+    let passing = Passing::of_word(word(words)?.as_str()).context("shared or copied?")?;
+    let len: u32 = word(words)?.parse()?;
+    let rounds: u64 = word(words)?.parse()?;
+    let round = Round::new(alloc, way, passing, len)?;
+    Ok((round, len, rounds))
+}
+
+// Passes bytes on.
+fn pass(alloc: Global, way: &str, words: &mut env::Args) -> anyhow::Result<()> {
+    let (round, len, rounds) = round(alloc, way, words)?;
+    let mut machine = setup::machine(alloc, len)?;
+    round.repeat(&mut machine, rounds)?;
+    Ok(())
+}
+
+// Gives turns, and tells whether all were idle each time.
+fn give_turns(alloc: Global, words: &mut env::Args) -> anyhow::Result<bool> {
+    let waiter = Waiter::of_word(word(words)?.as_str()).context("yield, accept or read?")?;
+    let rounds: u64 = word(words)?.parse()?;
+    let machine = setup::five_domains(alloc)?;
+    let mut waiters = Waiters::new(alloc, machine, waiter)?;
+    Ok(waiters.give_rounds(rounds))
+}
 
 fn main(rt: HostRuntime) -> anyhow::Result<()> {
     let alloc = rt.alloc();
     let mut words = env::args(&rt)?;
     let _program = words.next();
-    let way = words.next().context("which way?")?;
-    let way = Way::of_word(way.as_str()).context("which way?")?;
-    let passing = words.next().context("shared or copied?")?;
-    let passing = Passing::of_word(passing.as_str()).context("shared or copied?")?;
-    let len: u32 = words.next().context("how many bytes?")?.parse()?;
-    let rounds: u64 = words.next().context("how often?")?.parse()?;
-    let round = Round::new(alloc, way, passing, len)?;
-    let mut machine = setup::machine(alloc, len)?;
-    round.repeat(&mut machine, rounds)?;
+    for _ in 0..u64::MAX {
+        let Some(first) = words.next() else {
+            break;
+        };
+        if first.as_str() == "turns" {
+            let idle = give_turns(alloc, &mut words)?;
+            println!(rt; "{idle}")?;
+        } else {
+            pass(alloc, first.as_str(), &mut words)?;
+        }
+    }
     Ok(())
 }

@@ -1,4 +1,4 @@
-//! What is there before the rounds: one domain, which has an aggregate, a file, a pipe and a connection.
+//! What is there before the rounds.
 use crate::machine::Machine;
 use iol_core::configuration::Config;
 use iol_core::descriptors::Mode;
@@ -16,6 +16,9 @@ pub const READ_END: u32 = 1;
 pub const WRITE_END: u32 = 2;
 
 pub const SOCKET: u32 = 3;
+
+/// So many domains have turns.
+const DOMAINS: u32 = 5;
 
 /// A call of domain 1.
 pub fn call(call: Call) -> Event {
@@ -68,6 +71,20 @@ fn queues(alloc: Global) -> Result<Vec<Event>, AllocError> {
     ]?)
 }
 
+// Four domains more, and an empty pipe for each.
+fn pipes(alloc: Global) -> Result<Vec<Event>, AllocError> {
+    let mut events = Vec::new(alloc);
+    for _ in 1..DOMAINS {
+        events.push(call(Call::DomainNew))?;
+    }
+    for number in 1..=DOMAINS {
+        let by = DomainId::new(number);
+        let call = Call::Pipe;
+        events.push(Event::Call { by, call })?;
+    }
+    Ok(events)
+}
+
 // Carries out events in order, to the first that is refused.
 fn carry_out(machine: &mut Machine, events: &[Event]) -> Result<(), Refusal> {
     for event in events {
@@ -76,11 +93,25 @@ fn carry_out(machine: &mut Machine, events: &[Event]) -> Result<(), Refusal> {
     Ok(())
 }
 
+// A system that has carried out lists of events, one after another.
+fn begun(alloc: Global, lists: &[Vec<Event>]) -> Result<Machine, Refusal> {
+    let mut machine = Machine::new(alloc)?;
+    for events in lists {
+        carry_out(&mut machine, events)?;
+    }
+    Ok(machine)
+}
+
 /// A system in which domain 1 has an aggregate of so many bytes, a file of the same bytes, a pipe and a connection.
 pub fn machine(alloc: Global, len: u32) -> anyhow::Result<Machine> {
-    let mut machine = Machine::new(alloc)?;
-    carry_out(&mut machine, &aggregate(alloc, len)?)?;
-    carry_out(&mut machine, &file(alloc)?)?;
-    carry_out(&mut machine, &queues(alloc)?)?;
+    let lists = [aggregate(alloc, len)?, file(alloc)?, queues(alloc)?];
+    let machine = begun(alloc, &lists)?;
+    Ok(machine)
+}
+
+/// A system of five domains, each with an empty pipe.
+pub fn five_domains(alloc: Global) -> anyhow::Result<Machine> {
+    let lists = [pipes(alloc)?];
+    let machine = begun(alloc, &lists)?;
     Ok(machine)
 }

@@ -1,0 +1,49 @@
+//! Stores, pools and new bytes for the tests: each call of the store in a function of its own, with its inputs made before it.
+ghost use Rattle.std.specs.Prelude.{[]};
+ghost use Rattle.iol_hold.specs.Moves.{Moves};
+ghost use Rattle.iol_hold.specs.Texts.{bufs_of, AllReadable};
+ghost use Rattle.iol_agg.specs.Held.{IsHeldBy};
+
+use iol_agg::Agg;
+use iol_core::configuration::Config;
+use iol_core::limits::{MAX_AGGREGATE_BYTES, MAX_POOLS};
+use iol_core::numbers::{DomainId, PoolId};
+use iol_hold::Store;
+use iol_pool::names::Names;
+use std::alloc::Global;
+use std::process::Abort;
+
+/// A store in which nothing lies.
+pub fn new_store<R: Abort>(rt: &R, alloc: Global, config: Config) -> Store
+    ensures { IsHeldBy result [] }
+{
+    let Ok(store) = Store::new(alloc, config) else {
+        panic!(rt; "memory");
+    };
+    store
+}
+
+/// A pool of so many chunks for these domains.
+pub fn add_pool<R: Abort>(
+    rt: &R,
+    alloc: Global,
+    store: &mut Store,
+    chunks: u32,
+    domains: &[DomainId],
+) -> PoolId
+    ensures { IsHeldBy store.old [] → IsHeldBy store.new [] }
+{
+    assert!(rt; store.pools().len() < MAX_POOLS);
+    let names = Names::of(domains).expect(rt, "few domains");
+    store.create_pool(alloc, chunks, names).expect(rt, "room")
+}
+
+/// New bytes of a pool.
+pub fn filled<R: Abort>(rt: &R, alloc: Global, store: &mut Store, pool: PoolId, text: &[u8]) -> Agg
+    ensures readable { AllReadable store.new result }
+    ensures moves { Moves store.old store.new [] (bufs_of result) }
+{
+    assert!(rt; text.len() <= MAX_AGGREGATE_BYTES);
+    assert!(rt; !store.pools().is_closed(pool));
+    Agg::fill(alloc, store, pool, text).expect(rt, "room")
+}

@@ -1,0 +1,75 @@
+//! A reader and a writer in memory, which count their calls and may fail at one of them.
+use std::alloc::Global;
+use std::io;
+use std::io::{Read, Write};
+
+/// Reads from memory, at most `most` bytes at once, and counts its reads. Read number `fails` fails, if it is not 0.
+#[derive(Drop)]
+pub struct Source<'a> {
+    bytes: &'a [u8],
+    most: usize,
+    fails: usize,
+    pub reads: usize,
+}
+
+impl<'a> Source<'a> {
+    pub fn new(bytes: &'a [u8], most: usize, fails: usize) -> Source<'a> {
+        Source {
+            bytes,
+            most,
+            fails,
+            reads: 0,
+        }
+    }
+}
+
+impl<'a> Read for Source<'a> {
+    fn read(&mut self, buf: &mut [u8]) -> io::Result<usize> {
+        self.reads = self.reads.saturating_add(1);
+        if self.reads == self.fails {
+            return Err(io::Error::from(io::ErrorKind::BrokenPipe));
+        }
+        let most = self.most.min(buf.len());
+        self.bytes.read(&mut buf[..most])
+    }
+}
+
+/// Takes at most `most` bytes at once into memory, and counts its writes. Write number `fails` fails, if it is not 0.
+#[derive(Drop)]
+pub struct Sink {
+    bytes: Vec<u8>,
+    most: usize,
+    fails: usize,
+    pub writes: usize,
+}
+
+impl Sink {
+    pub fn new(alloc: Global, most: usize, fails: usize) -> Sink {
+        Sink {
+            bytes: Vec::new(alloc),
+            most,
+            fails,
+            writes: 0,
+        }
+    }
+
+    pub fn bytes(&self) -> &[u8] {
+        &self.bytes
+    }
+}
+
+impl Write for Sink {
+    fn write(&mut self, buf: &[u8]) -> io::Result<usize> {
+        self.writes = self.writes.saturating_add(1);
+        if self.writes == self.fails {
+            return Err(io::Error::from(io::ErrorKind::BrokenPipe));
+        }
+        let most = self.most.min(buf.len());
+        self.bytes.extend_from_slice(&buf[..most])?;
+        Ok(most)
+    }
+
+    fn flush(&mut self) -> io::Result<()> {
+        Ok(())
+    }
+}

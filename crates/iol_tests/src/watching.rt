@@ -1,0 +1,83 @@
+//! A world of watchers, up to the moment at which no connection waits.
+ghost use Rattle.std.specs.Prelude.{◌≡◌, [], ◌∷◌, map, true, IfOk};
+ghost use Rattle.iol_back.specs.Disk.{IfHonest};
+ghost use Rattle.iol_proc.specs.Settled.{AllSettled};
+ghost use Rattle.iol_tests.specs.Watching.{HasWatched};
+ghost use Rattle.iol_system.specs.Machine.{machine_of};
+
+use crate::machine::Machine;
+use crate::start::system_with_pipe;
+use crate::watcher::Watcher;
+use iol_back::memory::MemoryBacking;
+use iol_core::events::{Event, Reply};
+use iol_core::numbers::{DomainId, PoolId};
+use iol_proc::laws::idle_is_settled;
+use iol_proc::world::World;
+use iol_system::system::System;
+use std::alloc::{AllocError, Global};
+use std::marker::Model;
+use std::test::Fail;
+
+type Watched = World<MemoryBacking, Watcher>;
+
+// Gives turns until all is idle: then no connection waits that a watcher's domain may accept.
+fn watch(world: &mut Watched, turns: usize) -> bool
+    ensures { IfHonest world.old.machine.disk (result ≡ true →
+        AllSettled HasWatched world.new.seats (machine_of world.new.machine)) }
+{
+    idle_is_settled::<Watcher>();
+    world.until_idle(turns)
+}
+
+// A watcher in domain 2.
+fn watcher_of(alloc: Global) -> Result<Vec<(DomainId, Watcher)>, AllocError>
+    ensures { IfOk result (λ ps. map (λ p. p.0) ps.items ≡ 2 ∷ []) }
+{
+    let processes = vec![in alloc; (DomainId::new(2), Watcher::new())]?;
+    Ok(processes)
+}
+
+#[tactic(auto, using(crate::proofs::Apart::one_apart))]
+fn watched(alloc: Global, system: System<MemoryBacking>) -> Result<Watched, AllocError> {
+    let processes = watcher_of(alloc)?;
+    World::new(alloc, system, processes)
+}
+
+// A world of one watcher, behind a value that says nothing of it.
+#[derive(Drop)]
+struct Watchers {
+    world: Watched,
+}
+
+impl Model for Watchers {
+    ghost Value = { Unit {0} };
+
+    ghost view = { λ _. tt };
+}
+
+impl Watchers {
+    fn new(alloc: Global, machine: Machine) -> Result<Watchers, AllocError> {
+        let world = watched(alloc, machine.into_system())?;
+        Ok(Watchers { world })
+    }
+
+    fn connect(&mut self) -> Reply {
+        let pool = PoolId::new(1);
+        self.world.step_outside(Event::ConnNew { pool })
+    }
+
+    fn watch(&mut self, turns: usize) -> bool {
+        watch(&mut self.world, turns)
+    }
+}
+
+#[test]
+fn watcher_accepts_all_that_wait(rt: HostRuntime) -> Result<(), Fail> {
+    let machine = system_with_pipe(rt.alloc())?;
+    let mut world = Watchers::new(rt.alloc(), machine)?;
+    assert!(rt; matches!(world.connect(), Reply::Conn(_)));
+    assert!(rt; matches!(world.connect(), Reply::Conn(_)));
+    assert!(rt; !world.watch(5));
+    assert!(rt; world.watch(100));
+    Ok(())
+}

@@ -1,0 +1,136 @@
+//! Worlds of a few processes.
+use crate::consumer::{Consumer, summed};
+use crate::producer::{PIECE, Producer};
+use crate::start::{call_of, system_with_pipe};
+use crate::worker::Worker;
+use crate::workers::Workers;
+use iol_core::events::{Call, Reply};
+use iol_core::numbers::{DomainId, Fd};
+use iol_core::refusals::Refusal;
+use iol_proc::choice::Choice;
+use std::alloc::{AllocError, Global};
+use std::process::Abort;
+use std::test::Fail;
+
+/// How many pieces are a mebibyte.
+const PIECES: u8 = 128;
+
+// A world of two workers over a pipe from one to the other.
+fn world_of(alloc: Global, first: Worker, second: Worker) -> Result<Workers, Fail> {
+    let machine = system_with_pipe(alloc)?;
+    Ok(Workers::two(alloc, machine, first, second)?)
+}
+
+// How many bytes the consumer of domain 2 got, and their sum.
+fn came(world: &Workers) -> Option<(u32, u32)> {
+    match world.worker_of(DomainId::new(2))? {
+        Worker::Consumer(consumer) => Some(consumer.came()),
+        _ => None,
+    }
+}
+
+// A sum with one piece more.
+fn with_piece(sum: u32, byte: u8) -> u32 {
+    let mut sum = sum;
+    for _ in 0..PIECE {
+        sum = summed(sum, byte);
+    }
+    sum
+}
+
+// The sum of all pieces.
+fn sum_of_pieces() -> u32 {
+    let mut sum = 0;
+    for piece in 0..PIECES {
+        sum = with_piece(sum, PIECES - piece);
+    }
+    sum
+}
+
+// A world in which domain 1 sends all pieces to domain 2.
+fn sending_world(alloc: Global) -> Result<Workers, Fail> {
+    let producer = Worker::Producer(Producer::new(alloc, Fd::new(1), PIECES));
+    let consumer = Worker::Consumer(Consumer::new(Fd::new(0)));
+    world_of(alloc, producer, consumer)
+}
+
+// All is idle after so many turns at most.
+fn settle<R: Abort>(rt: &R, world: &mut Workers, turns: usize) {
+    assert!(rt; world.until_idle(turns));
+}
+
+// Nothing is idle yet after so many turns.
+fn go_on<R: Abort>(rt: &R, world: &mut Workers, turns: usize) {
+    assert!(rt; !world.until_idle(turns));
+}
+
+// All pieces came, and no turn was rough.
+fn all_came<R: Abort>(rt: &R, world: &Workers) {
+    assert_eq!(rt; came(world), Some((1_048_576, sum_of_pieces())));
+    assert!(rt; !world.is_rough());
+}
+
+#[test]
+fn pipe_passes_a_mebibyte(rt: HostRuntime) -> Result<(), Fail> {
+    let mut world = sending_world(rt.alloc())?;
+    settle(&rt, &mut world, 65_536);
+    all_came(&rt, &world);
+    Ok(())
+}
+
+#[test]
+fn idle_is_when_all_have_yielded(rt: HostRuntime) -> Result<(), Fail> {
+    let mut world = world_of(rt.alloc(), Worker::Idle, Worker::Idle)?;
+    go_on(&rt, &mut world, 0);
+    go_on(&rt, &mut world, 3);
+    settle(&rt, &mut world, 4);
+    Ok(())
+}
+
+#[test]
+fn waiting_without_a_pause_is_not_idle(rt: HostRuntime) -> Result<(), Fail> {
+    let mut world = world_of(rt.alloc(), Worker::Idle, Worker::Eager)?;
+    go_on(&rt, &mut world, 1_000);
+    Ok(())
+}
+
+#[test]
+fn world_without_processes_is_idle(rt: HostRuntime) -> Result<(), Fail> {
+    let machine = system_with_pipe(rt.alloc())?;
+    let mut world = Workers::none(rt.alloc(), machine)?;
+    settle(&rt, &mut world, 0);
+    Ok(())
+}
+
+// How a turn of a domain is refused.
+fn refusal_of(world: &mut Workers, by: u32) -> Result<Option<Refusal>, AllocError> {
+    let choices = [Choice::Turn(DomainId::new(by))];
+    let replies = world.run(&choices)?;
+    match replies.first() {
+        Some(Reply::Refused(refusal)) => Ok(Some(*refusal)),
+        _ => Ok(None),
+    }
+}
+
+// Whether a turn of a domain is refused so.
+fn is_refused(world: &mut Workers, by: u32, refusal: Refusal) -> bool {
+    match refusal_of(world, by) {
+        Ok(found) => found == Some(refusal),
+        Err(_) => false,
+    }
+}
+
+// Ends a domain.
+fn ends(world: &mut Workers, by: u32) -> bool {
+    matches!(world.step_outside(call_of(by, Call::Exit)), Reply::Done)
+}
+
+#[test]
+fn nobody_has_a_turn(rt: HostRuntime) -> Result<(), Fail> {
+    let mut world = world_of(rt.alloc(), Worker::Idle, Worker::Eager)?;
+    assert!(rt; is_refused(&mut world, 3, Refusal::NoDomain));
+    assert!(rt; is_refused(&mut world, 2, Refusal::WouldBlock));
+    assert!(rt; ends(&mut world, 2));
+    assert!(rt; is_refused(&mut world, 2, Refusal::NoDomain));
+    Ok(())
+}

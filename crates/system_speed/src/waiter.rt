@@ -1,0 +1,44 @@
+//! A process that waits.
+ghost use Rattle.std.specs.Prelude.{⊤};
+
+use iol_core::events::{Call, Reply};
+use iol_core::numbers::Fd;
+use iol_proc::look::Look;
+use iol_proc::process::{Process, Turn};
+use std::alloc::AllocError;
+
+/// What a process does in each of its turns.
+#[derive(Clone, Copy)]
+pub enum Waiter {
+    Yields,
+    Accepts,
+    Reads,
+}
+
+impl Waiter {
+    /// What a word names.
+    pub fn of_word(word: &str) -> Option<Waiter> {
+        match word {
+            "yield" => Some(Waiter::Yields),
+            "accept" => Some(Waiter::Accepts),
+            "read" => Some(Waiter::Reads),
+            _ => None,
+        }
+    }
+}
+
+impl Process for Waiter {
+    // Any turn: what these do is measured.
+    ghost turns = { λ waiter last lent turn next. ⊤ };
+
+    fn next(&mut self, _last: &Reply, _look: &Look<'_>) -> Result<Turn, AllocError> {
+        Ok(match self {
+            Waiter::Yields => Turn::Yield,
+            Waiter::Accepts => Turn::Make(Call::Accept),
+            Waiter::Reads => Turn::Make(Call::IolRead {
+                fd: Fd::new(0),
+                count: 4096,
+            }),
+        })
+    }
+}

@@ -1,0 +1,144 @@
+"""What the scripts share: the crates of a tree, the edits of a crate, and copies of a tree."""
+import os
+import re
+import shutil
+from dataclasses import dataclass
+
+ROOT = os.path.dirname(os.path.dirname(os.path.abspath(__file__)))
+PARTS = ("src", "specs", "proofs")  # what a crate is checked from
+TALLY = re.compile(r"(\d+) passed, (\d+) failed")
+
+
+class Unfit(Exception):
+    """An edit that cannot be read, or does not apply."""
+
+
+def read(path):
+    with open(path, encoding="utf-8") as it:
+        return it.read()
+
+
+def write(path, text):
+    os.makedirs(os.path.dirname(path), exist_ok=True)
+    with open(path, "w", encoding="utf-8") as it:
+        it.write(text)
+
+
+def listed(text):
+    """Each crate of a crates.txt with what it stands on, in order."""
+    lines = (line.split("#")[0].strip() for line in text.splitlines())
+    named = (line.partition(":") for line in lines if line)
+    return {name.split()[0]: low.split() for name, _, low in named}
+
+
+def crates(root=ROOT):
+    return listed(read(f"{root}/crates.txt"))
+
+
+def lowest_first(known, names):
+    """The crates of these names and all that they stand on, what is below first."""
+    found = []
+    for name in names:
+        if name in known:
+            found += [it for it in [*lowest_first(known, known[name]), name] if it not in found]
+    return found
+
+
+def below(known, name):
+    return lowest_first(known, known[name])
+
+
+def above(known, names):
+    """The crates that stand on one of these."""
+    return [name for name in known if any(low in names for low in below(known, name))]
+
+
+def only_known(names, known):
+    """These names, or all where there are none. One that is no crate ends the script."""
+    for name in names:
+        if name not in known:
+            raise SystemExit(f"{name} is no crate of crates.txt")
+    return names or [*known]
+
+
+@dataclass(frozen=True)
+class Edit:
+    """A change of a crate's text: old and new texts by file, and which goal of which function refuses it."""
+
+    crate: str
+    name: str
+    changes: tuple
+    function: str = ""
+    goal: str = ""
+
+    def apply(self, room):
+        """Changes the text of the crate in this folder."""
+        for file, old, new in self.changes:
+            if not os.path.isfile(f"{room}/{file}"):
+                raise Unfit(f"there is no file {file}")
+            text = read(f"{room}/{file}")
+            if text.count(old) != 1:
+                raise Unfit(f"an old text stands in {file} {text.count(old)} times, and not once: {old.strip()}")
+            write(f"{room}/{file}", text.replace(old, new))
+
+
+def read_edit(crate, path):
+    file, old, changes, words = None, None, [], {}
+    for line in read(path).splitlines():
+        key, _, rest = line.partition(":")
+        rest = rest.removeprefix(" ")
+        if key == "file":
+            file = rest.strip()
+        elif key == "old":
+            old = rest
+        elif key == "new" and file and old:
+            changes.append((file, old, rest))
+            old = None
+        elif key in ("function", "goal") and rest.strip():
+            words[key] = rest.strip()
+        else:
+            raise Unfit(f"a line that is not read: {line}")
+    if not changes or old is not None:
+        raise Unfit("it has no pair of an old and a new text, or half of one")
+    return Edit(crate, name_of(path), tuple(changes), **words)
+
+
+def name_of(path):
+    """The name of the edit in a file."""
+    return os.path.basename(path).removesuffix(".edit")
+
+
+def edits_in(folder):
+    """The files of the edits in a folder, by name."""
+    names = sorted(os.listdir(folder)) if os.path.isdir(folder) else []
+    return [f"{folder}/{name}" for name in names if name.endswith(".edit")]
+
+
+def copy_crate(name, room, root=ROOT):
+    """Copies what a crate is checked from into a new folder."""
+    os.makedirs(room)
+    for part in PARTS:
+        if os.path.isdir(f"{root}/crates/{name}/{part}"):
+            shutil.copytree(f"{root}/crates/{name}/{part}", f"{room}/{part}")
+
+
+def copy_tree(room, root=ROOT, leave=("edits", "wrong")):
+    """Copies the crates and what rt reads beside them, without what is made of them and what is to be left."""
+    shutil.copytree(f"{root}/crates", f"{room}/crates", ignore=shutil.ignore_patterns("out", *leave))
+    for name in ("crates.txt", "HANDLES"):
+        if os.path.isfile(f"{root}/{name}"):
+            shutil.copy(f"{root}/{name}", f"{room}/{name}")
+
+
+def tally(said):
+    """How many passed and failed by the last line of what a script said, or nothing."""
+    lines = said.strip().splitlines()
+    found = TALLY.match(lines[-1]) if lines else None
+    return (int(found[1]), int(found[2])) if found else None
+
+
+def report(results):
+    """Prints the last line of a script that tries several things, and gives its status. None at all is a failure."""
+    passed = sum(map(bool, results))
+    print(f"{passed} passed, {len(results) - passed} failed", flush=True)
+    return 0 if results and passed == len(results) else 1
