@@ -37,10 +37,10 @@ pub enum Answer {
 /// Runs the script that the input holds, and prints a reply a line. The answer is the exit status: 0, or 2 for a bad
 /// script or line, or 3 where input, output or memory failed.
 ///
-/// The script is read and judged whole before the first event, so a bad one prints nothing on `output`. Then each line is
-/// answered by the system that the script sets up, and the answer printed before the next line is read. Where output or memory
-/// fails, what was printed is a beginning. What goes wrong is told on `errors` in one line, and nothing is told where that
-/// cannot be written.
+/// The script is read and judged whole before the first event, so a bad one prints nothing on `output`. Then each line is read
+/// once more, and answered by the system that the script sets up before the next one is. Answers are printed in pieces of some
+/// 8 KiB. Where output or memory fails, what was printed is a beginning of them. What goes wrong is told on `errors` in one line,
+/// and nothing is told where that cannot be written.
 pub fn replay<R: Read, W: Write, E: Write>(
     alloc: Global,
     input: &mut R,
@@ -83,7 +83,7 @@ fn run<R: Read, W: Write>(alloc: Global, input: &mut R, output: &mut W) -> Resul
     }
 }
 
-/// Judges a script, and then answers its lines, each printed before the next is read.
+/// Judges a script, and then answers its lines, one after another.
 fn replay_text<W: Write>(alloc: Global, text: &str, output: &mut W) -> Result<(), Failure>
     ensures untouched { IfErr result (λ failure. status_of failure ≡ 2 → output.new ≡ output.old) }
     ensures bad { IfErr result (λ failure. status_of failure ≡ 2 →
@@ -158,8 +158,8 @@ fn system_of(alloc: Global, setup: Setup) -> Result<ScriptSystem, Failure>
     }
 }
 
-// Answers each line that asks for something, and prints its answer before the next is read, so that memory holds one line and
-// one answer at a time. The answers' texts are gathered here and not in a `BufWriter`, of which no contract says that the
+// Answers each line that asks for something before the next is read, so that memory holds one line's event and one answer at a
+// time. The answers' texts are gathered here, up to so many bytes, and not in a `BufWriter`, of which no contract says that the
 // writer it gives back is the one that it was given.
 fn answer_lines<W: Write>(
     alloc: Global,
