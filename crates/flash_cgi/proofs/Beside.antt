@@ -1,0 +1,252 @@
+-- What others do beside a worker with a job: they leave what it is still to write, and what is read is heard from the front.
+use Rattle.std.proofs.Common.{inl, inr, ◌⊎◌, ◌≡◌, ◌≢◌, ℕ, ◌==◌, List, [], ◌∷◌, ◌++◌, length, drop, ap, ◌∙◌, refl, sym, subst, Option, Some, None, true, false, Bool, if◌then◌else◌, append_assoc, ◌≤◌}
+use Rattle.std.specs.Prelude.{unwrap_or, option_map, ◌&&◌, ◌||◌}
+use Rattle.std.specs.List.{AllByRecursion}
+use Rattle.iol_core.specs.Text.{Text, bytes_of}
+use Rattle.iol_core.specs.State.{State, Pipe, File, aggregate, descriptor, pipe_at, file, may_read, is_live}
+use Rattle.iol_core.specs.declared.descriptors.Descriptor.TheVariants as on
+use Rattle.iol_core.specs.declared.descriptors.Mode.TheVariants.{Read}
+use Rattle.iol_core.specs.Positions.{ArePlaced}
+use Rattle.iol_core.specs.Calls.Writing.{is_file}
+use Rattle.iol_core.specs.Run.{StepsTo}
+use Rattle.iol_core.specs.Values.{ValuesStay, gives_up}
+use Rattle.iol_core.specs.declared.events.Call.TheVariants as call
+use Rattle.iol_core.specs.declared.events.Event.{Event}
+use Rattle.iol_core.specs.declared.events.Event.TheVariants as event
+use Rattle.iol_core.specs.declared.events.Reply.{Reply}
+use Rattle.iol_core.specs.declared.events.Reply.TheVariants as reply
+use Rattle.iol_laws.specs.Frame.{EachStepLeavesTheRest, Leaves, touches_fd, ends}
+use Rattle.iol_laws.specs.Caller.{lent_at, TakesFromPipe}
+use Rattle.iol_proc.specs.declared.seat.Seat.{Seat}
+use Rattle.flash_cgi.specs.Job.{Task, job_text}
+use Rattle.flash_cgi.specs.Output.{Outcome, output}
+use Rattle.flash_cgi.specs.Working.{said_text, bytes_at, told, told_next, told_doing, call_at}
+use Rattle.flash_cgi.specs.Feeds.{rest_of, still, still_doing, HasBytes, IsOpenFile, IsFileOpen, Needs, Feeds}
+use Rattle.flash_cgi.specs.Taking.{HasJob, Begins}
+use Rattle.flash_cgi.specs.Turns.{Awaits, HasRead, IsRunning, RunsJob, or_again, filed_step}
+use Rattle.flash_cgi.specs.Beside.{LeavesWorker, LeavesJobs, Hears, is_call_of}
+use Rattle.flash_cgi.specs.declared.line.Line.{Line}
+use Rattle.flash_cgi.specs.declared.doing.Purpose.TheVariants as purpose
+use Rattle.flash_cgi.specs.declared.doing.Doing.{Doing}
+use Rattle.flash_cgi.specs.declared.doing.Doing.TheVariants as doing
+use Rattle.flash_cgi.specs.declared.doing.Standing.{Standing}
+use Rattle.flash_cgi.specs.declared.doing.Standing.TheVariants as standing
+use Rattle.flash_cgi.specs.declared.doing.Step.{Step}
+use Rattle.flash_cgi.specs.declared.worker.Worker.{Worker}
+use Rattle.flash_cgi.proofs.Feeding.{bytes-append}
+
+some-inj : {A : Type 0} (x y : A) → Some x ≡ Some y → x ≡ y
+some-inj x y e = cc
+
+module _ (m n : State) (d : ℕ) (left : LeavesWorker m d n) where
+  same_at : (a : ℕ) (bytes : List ℕ) → lent_at m d a ≡ Some bytes → bytes_at (lent_at n d) a ≡ bytes_at (lent_at m d) a
+  same_at a bytes is = ap (λ (l : Option (List ℕ)). unwrap_or l []) (left.bytes a bytes is ∙ sym is)
+
+  open_stays : (file : ℕ) → IsFileOpen m d file → IsFileOpen n d file
+  open_stays file h = (h.0, h.1, left.fds file (on.File h.0 h.1 Read) h.2)
+
+  bytes_stay : (a : ℕ) → HasBytes m d a → HasBytes n d a
+  bytes_stay a h = (h.0, left.bytes a h.0 h.1)
+
+  needs_stay : (x : Doing) → Needs m d x → Needs n d x
+  needs_stay doing.Waits h = h
+  needs_stay (doing.Skips a) h = h
+  needs_stay (doing.Breaks a) h = h
+  needs_stay doing.Runs h = h
+  needs_stay (doing.Says s) h = h
+  needs_stay (doing.Drops a) h = bytes_stay a h
+  needs_stay (doing.Reads file u) h = record { number = h.number; place = h.place; open_on = left.fds file (on.File h.number h.place Read) h.open_on; may = left.may file h.number h.place Read h.open_on h.may }
+  needs_stay (doing.Counted file a s) h = (open_stays file h.0, bytes_stay a h.1)
+  needs_stay (doing.ShutsToSay file s) h = open_stays file h
+  needs_stay (doing.Shuts file a) h = (open_stays file h.0, bytes_stay a h.1)
+  needs_stay (doing.Writes a) h = bytes_stay a h
+  needs_stay (doing.Cuts a from to) h = (h.0, left.bytes a h.0 h.1, h.2)
+  needs_stay (doing.Swaps a b) h = (bytes_stay b h.0, h.1)
+
+  still_stays : (job : Task) (begun : ℕ) (x : Doing) (os : List Outcome) → Needs m d x → still_doing job begun (lent_at n d) x os ≡ still_doing job begun (lent_at m d) x os
+  still_stays job begun doing.Waits os h = refl
+  still_stays job begun (doing.Skips a) os h = refl
+  still_stays job begun (doing.Breaks a) os h = refl
+  still_stays job begun doing.Runs os h = refl
+  still_stays job begun (doing.Drops a) os h = refl
+  still_stays job begun (doing.Says s) os h = refl
+  still_stays job begun (doing.Reads file u) os h = refl
+  still_stays job begun (doing.Counted file a s) os h = refl
+  still_stays job begun (doing.ShutsToSay file s) os h = refl
+  still_stays job begun (doing.Shuts file a) os h = ap (λ (l : List ℕ). l ++ rest_of job begun os) (same_at a h.1.0 h.1.1)
+  still_stays job begun (doing.Writes a) os h = ap (λ (l : List ℕ). l ++ rest_of job begun os) (same_at a h.0 h.1)
+  still_stays job begun (doing.Cuts a from to) os h = ap (λ (l : List ℕ). drop from l ++ rest_of job begun os) (same_at a h.0 h.1)
+  still_stays job begun (doing.Swaps a b) os h = ap (λ (l : List ℕ). l ++ rest_of job begun os) (same_at b h.0.0 h.0.1)
+
+  -- the step that a reply leads to stays the same: it depends on bytes that the worker has
+  has_written : (a k len : ℕ) (t : Bool) → Needs m d (if t then doing.Drops a else doing.Cuts a k len) → HasBytes m d a
+  has_written a k len true h = h
+  has_written a k len false h = (h.0, h.1)
+
+  told_stays : (job : Task) (step : Step) (x : Doing) (last : Reply) → Needs m d (or_again (told_doing (lent_at m d) job step.begun x last) step).doing
+      → told_doing (lent_at n d) job step.begun x last ≡ told_doing (lent_at m d) job step.begun x last
+  told_stays job step (doing.Reads file purpose.Wc) (reply.Agg a) h = ap (λ (l : List ℕ). told_doing (λ k. Some l) job step.begun (doing.Reads file purpose.Wc) (reply.Agg a)) (same_at a h.1.0 h.1.1)
+  told_stays job step (doing.Writes a) (reply.Count k) h =
+      let has = has_written a k (length (bytes_at (lent_at m d) a)) (k == length (bytes_at (lent_at m d) a)) h in
+      ap (λ (l : List ℕ). told_doing (λ k. Some l) job step.begun (doing.Writes a) (reply.Count k)) (same_at a has.0 has.1)
+  told_stays job step x last h = refl
+
+  filed_stays : (s : Standing) (w : Worker) (last : Reply) → Needs m d (filed_step s w (lent_at m d) last).doing → filed_step s w (lent_at n d) last ≡ filed_step s w (lent_at m d) last
+  filed_stays standing.Asked w last h = ap (λ (o : Option Step). or_again o w.step) (told_stays w.job w.step w.step.doing last h)
+  filed_stays standing.Asks w last h = refl
+  filed_stays standing.Over w last h = refl
+
+  -- others leave the pipe, too
+  feeds_stay : (p : ℕ) (job : Task) (step : Step) (unseen : List Outcome → List ℕ) → Feeds m d p job step unseen → pipe_at n p ≡ pipe_at m p → Feeds n d p job step unseen
+  feeds_stay p job step unseen f pipe = record {
+    live = left.live f.live;
+    open_on = left.fds job.fd (on.WriteEnd p) f.open_on;
+    needs = needs_stay step.doing f.needs;
+    is = λ os. f.is os ∙ (ap (λ (l : List ℕ). bytes_of (pipe_at m p).queue ++ l) (sym (still_stays job step.begun step.doing os f.needs)) ∙ ap (λ (x : Pipe). bytes_of x.queue ++ still job (lent_at n d) step os) (sym pipe));
+  }
+
+  begins_stays : (p : ℕ) (job : Task) (a : ℕ) (unseen after : List Outcome → List ℕ) → (b : Begins m d p job a unseen) → Feeds n d p job (record { doing = doing.Drops a; begun = 0 }) after → Begins n d p job a after
+  begins_stays p job a unseen after b f = record { bytes = b.bytes; lends = left.bytes a b.bytes b.lends; is_job = b.is_job; feeds = f }
+
+  all_may : (t : Text) → AllByRecursion (λ b. may_read m d b.1 ≡ true) t → AllByRecursion (λ b. may_read n d b.1 ≡ true) t
+  all_may [] h = h
+  all_may (b ∷ t) h = (left.readers b.1 h.0, all_may t h.1)
+
+  job_stays : (j p fd : ℕ) (query script : List ℕ) (lines : List Line) → LeavesJobs m d n → HasJob m d j p fd query script lines → HasJob n d j p fd query script lines
+  job_stays j p fd query script lines jobs has =
+      let same : (pipe_at n j).queue ≡ (pipe_at m j).queue = ap (λ (x : Pipe). x.queue) (jobs.same j has.jobs) in
+      record {
+        live = left.live has.live;
+        jobs = left.fds 0 (on.ReadEnd j) has.jobs;
+        text = ap (λ (t : Text). bytes_of t) same ∙ has.text;
+        readable = subst (λ (t : Text). AllByRecursion (λ b. may_read n d b.1 ≡ true) t) (sym same) (all_may (pipe_at m j).queue has.readable);
+        short = subst (λ (t : Text). length t ≤ 65536) (sym same) has.short;
+        open_on = left.fds fd (on.WriteEnd p) has.open_on;
+        apart = has.apart;
+        is_script = has.is_script;
+        fds = has.fds;
+      }
+
+-- a running script as a seat has it, by another that is the same but for the machine
+module _ (m n : State) (p : ℕ) (seat : Seat Worker) (left : LeavesWorker m seat.by n) where
+  runs_on : (unseen after : List Outcome → List ℕ) → (i : IsRunning m p seat unseen)
+      → Feeds n seat.by p seat.process.job (filed_step seat.process.standing seat.process (lent_at m seat.by) seat.last) after → IsRunning n p seat after
+  runs_on unseen after i f = record {
+    not_over = i.not_over;
+    feeds = subst (λ (s : Step). Feeds n seat.by p seat.process.job s after) (sym (filed_stays m n seat.by left seat.process.standing seat.process seat.last i.feeds.needs)) f;
+  }
+
+  has_read_on : (unseen after : List Outcome → List ℕ) → (h : HasRead m p seat unseen) → Feeds n seat.by p h.job (record { doing = doing.Drops h.agg; begun = 0 }) after → HasRead n p seat after
+  has_read_on unseen after h f = record {
+    job = h.job;
+    agg = h.agg;
+    waits = h.waits;
+    asked = h.asked;
+    last = h.last;
+    begins = begins_stays m n seat.by left p h.job h.agg unseen after h.begins f;
+  }
+
+  awaits_on : (unseen after : List Outcome → List ℕ) → (h : Awaits m p seat unseen) → LeavesJobs m seat.by n → ((os : List Outcome) → after os ≡ bytes_of (pipe_at n p).queue ++ output h.query h.lines os) → Awaits n p seat after
+  awaits_on unseen after h jobs is = record {
+    jobs = h.jobs;
+    fd = h.fd;
+    query = h.query;
+    script = h.script;
+    lines = h.lines;
+    waits = h.waits;
+    is_to_read = h.is_to_read;
+    has = job_stays m n seat.by left h.jobs p h.fd h.query h.script h.lines jobs h.has;
+    is = is;
+  }
+
+  pub untouched : (unseen : List Outcome → List ℕ) → LeavesJobs m seat.by n → RunsJob m p seat unseen → pipe_at n p ≡ pipe_at m p → RunsJob n p seat unseen
+  untouched unseen jobs (inl h) pipe = inl (awaits_on unseen unseen h jobs (λ os. h.is os ∙ ap (λ (x : Pipe). bytes_of x.queue ++ output h.query h.lines os) (sym pipe)))
+  untouched unseen jobs (inr (inl h)) pipe = inr (inl (has_read_on unseen unseen h (feeds_stay m n seat.by left p h.job _ unseen h.begins.feeds pipe)))
+  untouched unseen jobs (inr (inr i)) pipe = inr (inr (runs_on unseen unseen i (feeds_stay m n seat.by left p seat.process.job _ unseen i.feeds pipe)))
+
+  -- another domain reads: what it hears stood in front of what is unseen then
+  module _ (by count a : ℕ) (takes : TakesFromPipe m by p count a n) (bytes : List ℕ) (names : lent_at n by a ≡ Some bytes) where
+    front : (rest : List ℕ) → bytes_of (pipe_at m p).queue ++ rest ≡ bytes ++ (bytes_of takes.rest ++ rest)
+    front rest =
+        let same : bytes_of takes.text ≡ bytes = some-inj (bytes_of takes.text) bytes (sym takes.lends ∙ names) in
+        ap (λ (t : Text). bytes_of t ++ rest) takes.was
+        ∙ (ap (λ (l : List ℕ). l ++ rest) (bytes-append takes.text takes.rest ∙ ap (λ (l : List ℕ). l ++ bytes_of takes.rest) same)
+        ∙ append_assoc bytes (bytes_of takes.rest) rest)
+
+    behind : (rest : List ℕ) → bytes_of takes.rest ++ rest ≡ bytes_of (pipe_at n p).queue ++ rest
+    behind rest = ap (λ (x : Pipe). bytes_of x.queue ++ rest) (sym takes.pipe)
+
+    feeds_after : (job : Task) (step : Step) (unseen : List Outcome → List ℕ) → Feeds m seat.by p job step unseen → Feeds n seat.by p job step (λ os. bytes_of takes.rest ++ still job (lent_at m seat.by) step os)
+    feeds_after job step unseen f = record {
+      live = left.live f.live;
+      open_on = left.fds job.fd (on.WriteEnd p) f.open_on;
+      needs = needs_stay m n seat.by left step.doing f.needs;
+      is = λ os. ap (λ (l : List ℕ). bytes_of takes.rest ++ l) (sym (still_stays m n seat.by left job step.begun step.doing os f.needs)) ∙ behind (still job (lent_at n seat.by) step os);
+    }
+
+    pub heard : (unseen : List Outcome → List ℕ) → LeavesJobs m seat.by n → RunsJob m p seat unseen → Hears n p seat unseen bytes
+    heard unseen jobs (inl h) = record {
+      after = λ os. bytes_of takes.rest ++ output h.query h.lines os;
+      splits = λ os. h.is os ∙ front (output h.query h.lines os);
+      runs = inl (awaits_on unseen (λ os. bytes_of takes.rest ++ output h.query h.lines os) h jobs (λ os. behind (output h.query h.lines os)));
+    }
+    heard unseen jobs (inr (inl h)) =
+        let step : Step = record { doing = doing.Drops h.agg; begun = 0 } in
+        record {
+          after = λ os. bytes_of takes.rest ++ still h.job (lent_at m seat.by) step os;
+          splits = λ os. h.begins.feeds.is os ∙ front (still h.job (lent_at m seat.by) step os);
+          runs = inr (inl (has_read_on unseen (λ os. bytes_of takes.rest ++ still h.job (lent_at m seat.by) step os) h (feeds_after h.job step unseen h.begins.feeds)));
+        }
+    heard unseen jobs (inr (inr i)) =
+        let step : Step = filed_step seat.process.standing seat.process (lent_at m seat.by) seat.last in
+        record {
+          after = λ os. bytes_of takes.rest ++ still seat.process.job (lent_at m seat.by) step os;
+          splits = λ os. i.feeds.is os ∙ front (still seat.process.job (lent_at m seat.by) step os);
+          runs = inr (inr (runs_on unseen (λ os. bytes_of takes.rest ++ still seat.process.job (lent_at m seat.by) step os) i (feeds_after seat.process.job step unseen i.feeds)));
+        }
+
+-- ---- a call of another domain, and what happens outside
+
+no_exit : (e : Event) (d : ℕ) → is_call_of e d ≡ false → ends e d ≡ false
+no_exit (event.Call by call.Exit) d other = other
+no_exit e d other = refl
+
+no_touch : (m : State) (e : Event) (d fd : ℕ) → is_call_of e d ≡ false → touches_fd m e d fd ≡ false
+no_touch m (event.Call by call.Exit) d fd other = other
+no_touch m (event.Call by (call.Close f)) d fd other = ap (λ b. b && (f == fd)) other
+no_touch m (event.Call by (call.GiveFd f to)) d fd other = ap (λ b. b && (f == fd)) other
+no_touch m (event.Call by (call.Seek f at)) d fd other = ap (λ b. b && (f == fd)) other
+no_touch m (event.Call by (call.IolRead f n)) d fd other = ap (λ b. b && (f == fd) && is_file (descriptor m by f)) other
+no_touch m (event.Call by (call.IolWrite f a)) d fd other = ap (λ b. b && (f == fd) && is_file (descriptor m by f)) other
+no_touch m (event.Call by (call.Read f n)) d fd other = ap (λ b. b && (f == fd) && is_file (descriptor m by f)) other
+no_touch m (event.Call by (call.Write f bytes)) d fd other = ap (λ b. b && (f == fd) && is_file (descriptor m by f)) other
+no_touch m e d fd other = refl
+
+no_gift : (e : Event) (d a : ℕ) → is_call_of e d ≡ false → gives_up e d a ≡ false
+no_gift (event.Call by call.Exit) d a other = other
+no_gift (event.Call by (call.AggSplit b at)) d a other = ap (λ t. t && (b == a)) other
+no_gift (event.Call by (call.AggJoin b c)) d a other = ap (λ t. t && ((b == a) || (c == a))) other
+no_gift (event.Call by (call.AggDrop b)) d a other = ap (λ t. t && (b == a)) other
+no_gift (event.Call by (call.AggGive b to)) d a other = ap (λ t. t && (b == a)) other
+no_gift e d a other = refl
+
+values_stay : (m n : State) (e : Event) (d a : ℕ) (bytes : List ℕ) → ValuesStay m e n → lent_at m d a ≡ Some bytes → gives_up e d a ≡ false → lent_at n d a ≡ Some bytes
+values_stay m n e d a bytes stay is un = by (aggregate m d a) refl
+  where
+    by : (t : Option Text) → aggregate m d a ≡ t → lent_at n d a ≡ Some bytes
+    by None none = (let e = ap (λ (t : Option Text). option_map bytes_of t) none in absurd (cc (is, e)))
+    by (Some t) some =
+        ap (λ (u : Option Text). option_map bytes_of u) (stay.each d a t some un)
+        ∙ sym (ap (λ (u : Option Text). option_map bytes_of u) some) ∙ is
+
+pub others_leave : EachStepLeavesTheRest → (m n : State) (d : ℕ) (e : Event) (r : Reply) → ArePlaced m → StepsTo m e r n → is_call_of e d ≡ false → LeavesWorker m d n
+others_leave steps m n d e r placed step other = record {
+  live = λ h. leaves.lives d h (no_exit e d other);
+  fds = λ fd x is. leaves.fds d fd x is (no_touch m e d fd other);
+  bytes = λ a bytes is. values_stay m n e d a bytes (steps.values m n e r step) is (no_gift e d a other);
+  readers = λ q h. leaves.readers d q h;
+  may = λ fd number place mode is h. ap (λ (x : File). may_read n d x.pool) (leaves.known number (placed.each d fd number place mode is).0) ∙ leaves.readers d (file m number).pool h;
+}
+  where
+    leaves : Leaves m e n
+    leaves = steps.leaves m n e r step

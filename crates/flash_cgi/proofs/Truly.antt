@@ -1,0 +1,192 @@
+-- The outcomes that a worker's calls settle are those of the files that its lines name.
+use Rattle.std.proofs.Common.{◌≡◌, ◌≢◌, ℕ, zero, suc, ◌+◌, ◌-◌, ◌==◌, ◌≤◌, List, [], ◌∷◌, ◌++◌, length, take, drop, ap, ◌∙◌, refl, sym, subst, arith, Option, Some, None, true, false, Bool, if◌then◌else◌}
+use Rattle.std.specs.Prelude.{slice_get, unwrap_or}
+use Rattle.std.specs.List.{list_any}
+use Rattle.std.proofs.lemmas.List.{take_all}
+use Rattle.iol_core.specs.State.{State, File, Pool, no_file, pool, is_pool, descriptor, content, file, may_read}
+use Rattle.iol_core.specs.Numbered.{numbered_or}
+use Rattle.iol_core.specs.Calls.Files.{file_called}
+use Rattle.iol_core.specs.Calls.Writing.{is_file}
+use Rattle.iol_core.specs.Positions.{ArePlaced}
+use Rattle.iol_core.specs.Run.{StepsTo}
+use Rattle.iol_core.specs.declared.descriptors.Descriptor.{Descriptor}
+use Rattle.iol_core.specs.declared.descriptors.Descriptor.TheVariants as on
+use Rattle.iol_core.specs.declared.descriptors.Mode.TheVariants.{Read}
+use Rattle.iol_core.specs.declared.refusals.Refusal.{Refusal}
+use Rattle.iol_core.specs.declared.refusals.Refusal.TheVariants as not_so
+use Rattle.iol_core.specs.declared.events.Call.{Call}
+use Rattle.iol_core.specs.declared.events.Call.TheVariants as call
+use Rattle.iol_core.specs.declared.events.Event.TheVariants as event
+use Rattle.iol_core.specs.declared.events.Reply.{Reply}
+use Rattle.iol_core.specs.declared.events.Reply.TheVariants as reply
+use Rattle.iol_laws.specs.Caller.{lent_at, is_rough}
+use Rattle.iol_laws.specs.CallerFiles as fl
+use Rattle.iol_laws.specs.CallerFiles.{FileCallsServeTheirDomain}
+use Rattle.iol_laws.specs.Frame.{EachStepLeavesTheRest, Leaves, changes_files, admits_to}
+use Rattle.iol_laws.specs.Order.{IsOrderly}
+use Rattle.flash_cgi.specs.Job.{Task}
+use Rattle.flash_cgi.specs.Output.{Outcome, Found, Failed}
+use Rattle.flash_cgi.specs.Working.{call_at, told, told_next, told_made, told_opened, told_written, told_read, told_cut, taken_of, next_call, bytes_at}
+use Rattle.flash_cgi.specs.Feeds.{Feeds, settled, settled_open, failed}
+use Rattle.flash_cgi.specs.Outcomes.{outcome_of, outcome_in, outcomes_in, to_come, to_come_doing, IsReading, ReadsNamed, SettlesTruly, AreFiles, OutcomesAreTrue}
+use Rattle.flash_cgi.specs.declared.line.Line.{Line}
+use Rattle.flash_cgi.specs.declared.line.Line.TheVariants as line
+use Rattle.flash_cgi.specs.declared.doing.Purpose.{Purpose}
+use Rattle.flash_cgi.specs.declared.doing.Purpose.TheVariants as purpose
+use Rattle.flash_cgi.specs.declared.doing.Doing.{Doing}
+use Rattle.flash_cgi.specs.declared.doing.Doing.TheVariants as doing
+use Rattle.flash_cgi.specs.declared.doing.Step.{Step}
+use Rattle.flash_cgi.proofs.Feeding.{rest-cons, rest-nil, at_step, file-same}
+
+content-same : (m n : State) (k : ℕ) → n.slots ≡ m.slots → content n k ≡ content m k
+unfolding content
+content-same m n k e = ap (λ (ss : List (List ℕ)). numbered_or ss k []) e
+
+module _ (steps : EachStepLeavesTheRest) (files : FileCallsServeTheirDomain) where
+  -- a call that changes no file leaves all outcomes
+  same_outcome : (m n : State) (d : ℕ) (c : Call) → Leaves m (event.Call d c) n → AreFiles m → changes_files m (event.Call d c) ≡ false → ((q : ℕ) → admits_to (event.Call d c) q ≡ false) → (name : List ℕ) → outcome_in n d name ≡ outcome_in m d name
+  same_outcome m n d c leaves good calm shut name = ap (λ (o : Option ℕ). outcome_of n d o) (ap (λ (fs : List File). file_called (record m { files = fs }) name) (leaves.files calm).0) ∙ by (file_called m name) refl
+    where
+      by : (o : Option ℕ) → file_called m name ≡ o → outcome_of n d o ≡ outcome_of m d o
+      by None is = refl
+      by (Some f) is =
+          let same_file : file n f ≡ file m f = file-same m n f (leaves.files calm).0 in
+          let lists = leaves.listed (file m f).pool (good.pooled name f is) (shut (file m f).pool) in
+          ap (λ (x : File). if may_read n d x.pool then Found (content n f) else Failed (not_so.Denied x.pool)) same_file
+          ∙ (ap (λ (ds : List ℕ). if list_any (λ e. e == d) ds then Found (content n f) else Failed (not_so.Denied (file m f).pool)) lists
+          ∙ ap (λ (l : List ℕ). if may_read m d (file m f).pool then Found l else Failed (not_so.Denied (file m f).pool)) (content-same m n f (leaves.files calm).1))
+
+  same_outcomes : (m n : State) (d : ℕ) → ((name : List ℕ) → outcome_in n d name ≡ outcome_in m d name) → (lines : List Line) → outcomes_in m d lines ≡ outcomes_in n d lines
+  same_outcomes m n d same [] = refl
+  same_outcomes m n d same (line.Emit text ∷ lines) = same_outcomes m n d same lines
+  same_outcomes m n d same (line.Query ∷ lines) = same_outcomes m n d same lines
+  same_outcomes m n d same (line.Pause ∷ lines) = same_outcomes m n d same lines
+  same_outcomes m n d same (line.Cat name ∷ lines) = ap (λ (o : Outcome). o ∷ outcomes_in m d lines) (sym (same name)) ∙ ap (λ (os : List Outcome). outcome_in n d name ∷ os) (same_outcomes m n d same lines)
+  same_outcomes m n d same (line.Wc name ∷ lines) = ap (λ (o : Outcome). o ∷ outcomes_in m d lines) (sym (same name)) ∙ ap (λ (os : List Outcome). outcome_in n d name ∷ os) (same_outcomes m n d same lines)
+
+  -- a phase that settles nothing and begins no line
+  plain : (m n : State) (d : ℕ) (job : Task) (c : Call) (r : Reply) → StepsTo m (event.Call d c) r n → AreFiles m → changes_files m (event.Call d c) ≡ false → ((q : ℕ) → admits_to (event.Call d c) q ≡ false) → (begun : ℕ) → outcomes_in m d (drop begun job.lines) ≡ outcomes_in n d (drop begun job.lines)
+  plain m n d job c r step good calm shut begun = same_outcomes m n d (same_outcome m n d c (steps.leaves m n (event.Call d c) r step) good calm shut) (drop begun job.lines)
+
+  abbrev TrulyTo : State → ℕ → Task → Step → Reply → State → Option Step → Type 0
+  TrulyTo m d job step r n None = Unit {0}
+  TrulyTo m d job step r n (Some next) = SettlesTruly m d job step r n next
+
+  made : (m n : State) (d : ℕ) (job : Task) (s : Step) (begun : ℕ) (r : Reply) → to_come m d job s ≡ outcomes_in n d (drop begun job.lines) → settled job s (lent_at n d) r ≡ [] → TrulyTo m d job s r n (told_made begun r)
+  made m n d job s begun (reply.Agg a) same none = record { same = same ∙ ap (λ (used : List Outcome). used ++ outcomes_in n d (drop begun job.lines)) (sym none); reads = tt }
+  made m n d job s begun r same none = tt
+
+  cut : (m n : State) (d : ℕ) (job : Task) (begun a from to : ℕ) (r : Reply) → outcomes_in m d (drop begun job.lines) ≡ outcomes_in n d (drop begun job.lines) → TrulyTo m d job (at_step (doing.Cuts a from to) begun) r n (told_cut a begun r)
+  cut m n d job begun a from to (reply.Agg b) same = record { same = same; reads = tt }
+  cut m n d job begun a from to r same = tt
+
+  written : (m n : State) (d : ℕ) (job : Task) (begun a : ℕ) (r : Reply) → outcomes_in m d (drop begun job.lines) ≡ outcomes_in n d (drop begun job.lines) → TrulyTo m d job (at_step (doing.Writes a) begun) r n (told_written a (length (bytes_at (lent_at n d) a)) begun r)
+  written m n d job begun a (reply.Count k) same = by (k == length (bytes_at (lent_at n d) a))
+    where
+      by : (t : Bool) → SettlesTruly m d job (at_step (doing.Writes a) begun) (reply.Count k) n (at_step (if t then doing.Drops a else doing.Cuts a k (length (bytes_at (lent_at n d) a))) begun)
+      by true = record { same = same; reads = tt }
+      by false = record { same = same; reads = tt }
+  written m n d job begun a (reply.Refused not_so.BrokenPipe) same = record { same = same; reads = tt }
+  written m n d job begun a (reply.Refused x) same = tt
+  written m n d job begun a r same = tt
+
+  clash : (b : Bool) → b ≡ true → b ≡ false → ⊥
+  clash true t f = absurd (cc)
+  clash false t f = absurd (cc)
+
+  -- a file is opened for the line that is begun
+  opens : (m n : State) (d : ℕ) (job : Task) (begun : ℕ) (u : Purpose) (name : List ℕ) (r : Reply) → outcomes_in m d (drop begun job.lines) ≡ outcome_in m d name ∷ outcomes_in m d (drop (begun + 1) job.lines)
+      → ((k : ℕ) → outcomes_in m d (drop k job.lines) ≡ outcomes_in n d (drop k job.lines)) → ((f : ℕ) → content n f ≡ content m f)
+      → settled job (at_step doing.Runs begun) (lent_at n d) r ≡ failed r → fl.Opening m d name Read r n → is_rough r ≡ false
+      → TrulyTo m d job (at_step doing.Runs begun) r n (told_opened u (begun + 1) r)
+  opens m n d job begun u name (reply.Fd g) line same contents used did smooth =
+      let back : begun + 1 - 1 ≡ begun = omega arith in
+      let found : outcome_in m d name ≡ Found (content n did.file_is) = ap (λ (o : Option ℕ). outcome_of m d o) did.found ∙ (ap (λ b. if b then Found (content m did.file_is) else Failed (not_so.Denied (file m did.file_is).pool)) did.may ∙ ap (λ (l : List ℕ). Found l) (sym (contents did.file_is))) in
+      record {
+        same = same begun ∙ (ap (λ k. outcomes_in n d (drop k job.lines)) (sym back) ∙ ap (λ (os : List Outcome). os ++ outcomes_in n d (drop (begun + 1 - 1) job.lines)) (sym used));
+        reads = record {
+          number = did.file_is;
+          open_on = did.open_on;
+          names = ap (λ k. outcomes_in n d (drop k job.lines)) back ∙ (sym (same begun) ∙ (line ∙ (ap (λ (o : Outcome). o ∷ outcomes_in m d (drop (begun + 1) job.lines)) found ∙ ap (λ (os : List Outcome). Found (content n did.file_is) ∷ os) (same (begun + 1)))));
+        };
+      }
+  opens m n d job begun u name (reply.Refused not_so.NoFile) line same contents used did smooth = record {
+    same = line ∙ (ap (λ (o : Option ℕ). outcome_of m d o ∷ outcomes_in m d (drop (begun + 1) job.lines)) did.0 ∙ (ap (λ (os : List Outcome). Failed not_so.NoFile ∷ os) (same (begun + 1)) ∙ ap (λ (os : List Outcome). os ++ outcomes_in n d (drop (begun + 1) job.lines)) (sym used)));
+    reads = tt;
+  }
+  opens m n d job begun u name (reply.Refused (not_so.Denied q)) line same contents used did smooth =
+      let barred = did.0 in
+      let may_not : may_read m d (file m barred.file_is).pool ≡ false = ap (λ k. may_read m d k) barred.pool_is ∙ barred.may_not in
+      let is : outcome_in m d name ≡ Failed (not_so.Denied q) = ap (λ (o : Option ℕ). outcome_of m d o) barred.found ∙ (ap (λ b. if b then Found (content m barred.file_is) else Failed (not_so.Denied (file m barred.file_is).pool)) may_not ∙ ap (λ k. Failed (not_so.Denied k)) barred.pool_is) in
+      record {
+        same = line ∙ (ap (λ (o : Outcome). o ∷ outcomes_in m d (drop (begun + 1) job.lines)) is ∙ (ap (λ (os : List Outcome). Failed (not_so.Denied q) ∷ os) (same (begun + 1)) ∙ ap (λ (os : List Outcome). os ++ outcomes_in n d (drop (begun + 1) job.lines)) (sym used)));
+        reads = tt;
+      }
+  opens m n d job begun u name (reply.Refused x) line same contents used did smooth = absurd (clash (is_rough (reply.Refused x)) did.0 smooth)
+  opens m n d job begun u name r line same contents used did smooth = tt
+
+  -- a file is read
+  reads : (m n : State) (d : ℕ) (job : Task) (begun fd : ℕ) (u : Purpose) (r : Reply) → (g : IsReading m d job begun fd) → ((k : ℕ) → outcomes_in m d (drop k job.lines) ≡ outcomes_in n d (drop k job.lines))
+      → length (content m g.number) ≤ 16777216 → fl.ReadsFile m d fd g.number 0 Read (take 16777216 (drop 0 (content m g.number))) r n → is_rough r ≡ false
+      → TrulyTo m d job (at_step (doing.Reads fd u) begun) r n (told_read (lent_at n d) fd u begun r)
+  reads m n d job begun fd u (reply.Agg a) g same short did smooth = by u
+    where
+      text : bytes_at (lent_at n d) a ≡ content m g.number
+      text = ap (λ (l : Option (List ℕ)). unwrap_or l []) did.lends ∙ take_all 16777216 (content m g.number) short
+
+      all : outcomes_in m d (drop (begun - 1) job.lines) ≡ Found (bytes_at (lent_at n d) a) ∷ outcomes_in n d (drop begun job.lines)
+      all = g.names ∙ (ap (λ (l : List ℕ). Found l ∷ outcomes_in m d (drop begun job.lines)) (sym text) ∙ ap (λ (os : List Outcome). Found (bytes_at (lent_at n d) a) ∷ os) (same begun))
+
+      by : (u : Purpose) → TrulyTo m d job (at_step (doing.Reads fd u) begun) (reply.Agg a) n (told_read (lent_at n d) fd u begun (reply.Agg a))
+      by purpose.Cat = record { same = all; reads = tt }
+      by purpose.Wc = record { same = all; reads = tt }
+  reads m n d job begun fd u (reply.Refused x) g same short did smooth = absurd (clash (is_rough (reply.Refused x)) did.0 smooth)
+  reads m n d job begun fd u r g same short did smooth = absurd did
+
+  line_named : (m : State) (d : ℕ) (job : Task) (begun : ℕ) (l : Line) (ls : List Line) → drop begun job.lines ≡ l ∷ ls → outcomes_in m d (drop begun job.lines) ≡ outcomes_in m d (l ∷ ls)
+  line_named m d job begun l ls e = ap (λ (xs : List Line). outcomes_in m d xs) e
+
+  begins : (m n : State) (d p : ℕ) (job : Task) (begun : ℕ) (r : Reply) (unseen : List Outcome → List ℕ) (l : Option Line) → AreFiles m → Feeds m d p job (at_step doing.Runs begun) unseen → slice_get job.lines begun ≡ l
+      → StepsTo m (event.Call d (next_call job l)) r n → is_rough r ≡ false → TrulyTo m d job (at_step doing.Runs begun) r n (told_next l begun r)
+  begins m n d p job begun r unseen None good f is step smooth = record { same = ap (λ (ls : List Line). outcomes_in m d ls) (rest-nil job.lines begun is) ∙ sym (ap (λ (o : Option Line). settled_open o r ++ []) is); reads = tt }
+  begins m n d p job begun r unseen (Some (line.Emit text)) good f is step smooth = made m n d job (at_step doing.Runs begun) (begun + 1) r
+      (line_named m d job begun (line.Emit text) (drop (begun + 1) job.lines) (rest-cons job.lines begun (line.Emit text) is) ∙ plain m n d job (next_call job (Some (line.Emit text))) r step good refl (λ q. refl) (begun + 1)) (ap (λ (o : Option Line). settled_open o r) is)
+  begins m n d p job begun r unseen (Some line.Query) good f is step smooth = made m n d job (at_step doing.Runs begun) (begun + 1) r
+      (line_named m d job begun line.Query (drop (begun + 1) job.lines) (rest-cons job.lines begun line.Query is) ∙ plain m n d job (next_call job (Some line.Query)) r step good refl (λ q. refl) (begun + 1)) (ap (λ (o : Option Line). settled_open o r) is)
+  begins m n d p job begun r unseen (Some line.Pause) good f is step smooth = record {
+    same = line_named m d job begun line.Pause (drop (begun + 1) job.lines) (rest-cons job.lines begun line.Pause is) ∙ (plain m n d job (call.SetPool 3) r step good refl (λ q. refl) (begun + 1) ∙ sym (ap (λ (o : Option Line). settled_open o r ++ outcomes_in n d (drop (begun + 1) job.lines)) is));
+    reads = tt;
+  }
+  begins m n d p job begun r unseen (Some (line.Cat name)) good f is step smooth = opens m n d job begun purpose.Cat name r
+      (line_named m d job begun (line.Cat name) (drop (begun + 1) job.lines) (rest-cons job.lines begun (line.Cat name) is)) (plain m n d job (call.OpenFile name Read) r step good refl (λ q. refl))
+      (λ k. content-same m n k ((steps.leaves m n (event.Call d (call.OpenFile name Read)) r step).files refl).1) (ap (λ (o : Option Line). settled_open o r) is) (files.opens m n d name Read r f.live step) smooth
+  begins m n d p job begun r unseen (Some (line.Wc name)) good f is step smooth = opens m n d job begun purpose.Wc name r
+      (line_named m d job begun (line.Wc name) (drop (begun + 1) job.lines) (rest-cons job.lines begun (line.Wc name) is)) (plain m n d job (call.OpenFile name Read) r step good refl (λ q. refl))
+      (λ k. content-same m n k ((steps.leaves m n (event.Call d (call.OpenFile name Read)) r step).files refl).1) (ap (λ (o : Option Line). settled_open o r) is) (files.opens m n d name Read r f.live step) smooth
+
+  by_doing : (m n : State) (d p : ℕ) (job : Task) (begun : ℕ) (x : Doing) (r : Reply) (unseen : List Outcome → List ℕ) → IsOrderly m → ArePlaced m → AreFiles m → Feeds m d p job (at_step x begun) unseen → ReadsNamed m d job begun x
+      → StepsTo m (event.Call d (call_at job (at_step x begun))) r n → is_rough r ≡ false → TrulyTo m d job (at_step x begun) r n (told job (at_step x begun) (lent_at n d) r)
+  by_doing m n d p job begun doing.Waits r unseen order placed good f g did smooth = absurd f.needs
+  by_doing m n d p job begun (doing.Skips a) r unseen order placed good f g did smooth = absurd f.needs
+  by_doing m n d p job begun (doing.Breaks a) r unseen order placed good f g did smooth = absurd f.needs
+  by_doing m n d p job begun doing.Runs r unseen order placed good f g did smooth = begins m n d p job begun r unseen (slice_get job.lines begun) good f refl did smooth
+  by_doing m n d p job begun (doing.Reads fd u) r unseen order placed good f g did smooth =
+      reads m n d job begun fd u r g (plain m n d job (call.IolRead fd 16777216) r did good refl (λ q. refl)) (good.lengths g.number (placed.each d fd g.number 0 Read g.open_on).0)
+      (files.reads_file m n d fd g.number 0 16777216 Read r order f.live may refl g.open_on did) smooth
+    where
+      number : f.needs.number ≡ g.number
+      number = let e = sym f.needs.open_on ∙ g.open_on in cc
+
+      may : may_read m d (file m g.number).pool ≡ true
+      may = subst (λ k. may_read m d (file m k).pool ≡ true) number f.needs.may
+  by_doing m n d p job begun (doing.Counted fd a t) r unseen order placed good f g did smooth = record { same = plain m n d job (call.AggDrop a) r did good refl (λ q. refl) begun; reads = tt }
+  by_doing m n d p job begun (doing.Shuts fd a) r unseen order placed good f g did smooth = record { same = plain m n d job (call.Close fd) r did good refl (λ q. refl) begun; reads = tt }
+  by_doing m n d p job begun (doing.ShutsToSay fd t) r unseen order placed good f g did smooth = record { same = plain m n d job (call.Close fd) r did good refl (λ q. refl) begun; reads = tt }
+  by_doing m n d p job begun (doing.Says t) r unseen order placed good f g did smooth = made m n d job (at_step (doing.Says t) begun) begun r (plain m n d job (call_at job (at_step (doing.Says t) begun)) r did good refl (λ q. refl) begun) refl
+  by_doing m n d p job begun (doing.Writes a) r unseen order placed good f g did smooth = written m n d job begun a r (plain m n d job (call.IolWrite job.fd a) r did good (ap (λ (x : Option Descriptor). is_file x) f.open_on) (λ q. refl) begun)
+  by_doing m n d p job begun (doing.Cuts a from to) r unseen order placed good f g did smooth = cut m n d job begun a from to r (plain m n d job (call.AggCut a from to) r did good refl (λ q. refl) begun)
+  by_doing m n d p job begun (doing.Swaps a b) r unseen order placed good f g did smooth = record { same = plain m n d job (call.AggDrop a) r did good refl (λ q. refl) begun; reads = tt }
+  by_doing m n d p job begun (doing.Drops a) r unseen order placed good f g did smooth = record { same = plain m n d job (call.AggDrop a) r did good refl (λ q. refl) begun; reads = tt }
+
+  pub outcomes_are_true : OutcomesAreTrue
+  outcomes_are_true m n d p job step next r unseen order placed good f g did smooth is = subst (λ (o : Option Step). TrulyTo m d job step r n o) is (by_doing m n d p job step.begun step.doing r unseen order placed good f g did smooth)

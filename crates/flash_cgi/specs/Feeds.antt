@@ -1,0 +1,144 @@
+-- What a running script is still to put out: what waits in its pipe, and what its worker is still to write.
+use Rattle.std.specs.Prelude.{◌≡◌, ◌≢◌, ◌⊎◌, ℕ, ◌==◌, ◌<◌, ◌≤◌, ◌^◌, take, Bool, true, false, List, [], ◌∷◌, ◌++◌, length, drop, Option, Some, None, slice_get}
+use Rattle.iol_core.specs.Text.{bytes_of, admitted}
+use Rattle.iol_core.specs.State.{State, descriptor, pipe_at, file, may_read, is_live}
+use Rattle.iol_core.specs.Run.{StepsTo}
+use Rattle.iol_core.specs.declared.descriptors.Descriptor.TheVariants as on
+use Rattle.iol_core.specs.Positions.{ArePlaced}
+use Rattle.iol_core.specs.declared.descriptors.Descriptor.{Descriptor}
+use Rattle.iol_core.specs.declared.descriptors.Mode.{Mode}
+use Rattle.iol_core.specs.declared.descriptors.Mode.TheVariants.{Read}
+use Rattle.iol_core.specs.declared.events.Event.{Event}
+use Rattle.iol_core.specs.declared.events.Event.TheVariants as event
+use Rattle.iol_core.specs.declared.events.Reply.{Reply}
+use Rattle.iol_core.specs.declared.events.Reply.TheVariants as reply
+use Rattle.iol_laws.specs.Caller.{lent_at, ClosesWriteEnd, TakesFromPipe}
+use Rattle.iol_laws.specs.Order.{IsOrderly}
+use Rattle.flash_cgi.specs.Job.{Task, job_of, job_text}
+use Rattle.flash_cgi.specs.Script.{script_of}
+use Rattle.std.specs.List.{AllByRecursion}
+use Rattle.iol_core.specs.declared.events.Call.TheVariants as call
+use Rattle.flash_cgi.specs.Output.{Outcome, Found, Failed, output, by_first, cat_of, wc_of}
+use Rattle.flash_cgi.specs.Working.{said_text, bytes_at, call_at, told}
+use Rattle.flash_cgi.specs.declared.line.Line.{Line}
+use Rattle.flash_cgi.specs.declared.line.Line.TheVariants as line
+use Rattle.flash_cgi.specs.declared.doing.Purpose.{Purpose}
+use Rattle.flash_cgi.specs.declared.doing.Purpose.TheVariants as purpose
+use Rattle.flash_cgi.specs.declared.doing.Doing.{Doing}
+use Rattle.flash_cgi.specs.declared.doing.Doing.TheVariants as doing
+use Rattle.flash_cgi.specs.declared.doing.Step.{Step}
+
+-- ---- what it is still to write
+
+abbrev pub put_out : Purpose → Outcome → List ℕ
+put_out purpose.Cat o = cat_of o
+put_out purpose.Wc o = wc_of o
+
+-- by the lines that it has not begun
+abbrev pub rest_of : Task → (begun : ℕ) → List Outcome → List ℕ
+rest_of job begun os = output job.query (drop begun job.lines) os
+
+abbrev pub still_doing : Task → (begun : ℕ) → (ℕ → Option (List ℕ)) → Doing → List Outcome → List ℕ
+still_doing job begun lent doing.Waits os = []
+still_doing job begun lent (doing.Skips agg) os = []
+still_doing job begun lent (doing.Breaks agg) os = []
+still_doing job begun lent doing.Runs os = rest_of job begun os
+still_doing job begun lent (doing.Drops agg) os = rest_of job begun os
+still_doing job begun lent (doing.Reads file p) os = by_first (put_out p) (rest_of job begun) os
+still_doing job begun lent (doing.Counted file agg s) os = said_text s ++ rest_of job begun os
+still_doing job begun lent (doing.ShutsToSay file s) os = said_text s ++ rest_of job begun os
+still_doing job begun lent (doing.Says s) os = said_text s ++ rest_of job begun os
+still_doing job begun lent (doing.Shuts file agg) os = bytes_at lent agg ++ rest_of job begun os
+still_doing job begun lent (doing.Writes agg) os = bytes_at lent agg ++ rest_of job begun os
+still_doing job begun lent (doing.Cuts agg from to) os = drop from (bytes_at lent agg) ++ rest_of job begun os
+still_doing job begun lent (doing.Swaps agg rest) os = bytes_at lent rest ++ rest_of job begun os
+
+-- where the files that are still to be read have these outcomes
+abbrev pub still : Task → (ℕ → Option (List ℕ)) → Step → List Outcome → List ℕ
+still job lent step os = still_doing job step.begun lent step.doing os
+
+-- ---- what it needs of the machine
+
+abbrev pub HasBytes : State → (d agg : ℕ) → Type 0
+HasBytes m d agg = (bytes : List ℕ) × (lent_at m d agg ≡ Some bytes)
+
+-- a file that it may read is open under this number
+pub record IsOpenFile (m : State) (d fd : ℕ) : Type 0 where
+  pub number : ℕ
+  pub place : ℕ
+  pub open_on : descriptor m d fd ≡ Some (on.File number place Read)
+  pub may : may_read m d (file m number).pool ≡ true
+
+-- a file is open under this number
+abbrev pub IsFileOpen : State → (d fd : ℕ) → Type 0
+IsFileOpen m d fd = (number : ℕ) × (place : ℕ) × (descriptor m d fd ≡ Some (on.File number place Read))
+
+abbrev pub Needs : State → (d : ℕ) → Doing → Type 0
+Needs m d doing.Waits = ⊥
+Needs m d (doing.Skips agg) = ⊥
+Needs m d (doing.Breaks agg) = ⊥
+Needs m d doing.Runs = Unit {0}
+Needs m d (doing.Says s) = Unit {0}
+Needs m d (doing.Drops agg) = HasBytes m d agg
+Needs m d (doing.Reads file p) = IsOpenFile m d file
+Needs m d (doing.ShutsToSay file s) = IsFileOpen m d file
+Needs m d (doing.Counted file agg s) = IsFileOpen m d file × HasBytes m d agg
+Needs m d (doing.Shuts file agg) = IsFileOpen m d file × HasBytes m d agg
+Needs m d (doing.Writes agg) = HasBytes m d agg
+Needs m d (doing.Cuts agg from to) = (bytes : List ℕ) × (lent_at m d agg ≡ Some bytes) × (to ≡ length bytes)
+Needs m d (doing.Swaps agg rest) = HasBytes m d rest × (agg ≢ rest)
+
+-- The worker in domain d runs a job whose output goes to pipe p: whatever the outcomes to come, what is unseen is what waits
+-- there, and then what is still to be written.
+pub record Feeds (m : State) (d p : ℕ) (job : Task) (step : Step) (unseen : List Outcome → List ℕ) : Type 0 where
+  pub live : is_live m d ≡ true
+  pub open_on : descriptor m d job.fd ≡ Some (on.WriteEnd p)
+  pub needs : Needs m d step.doing
+  pub is : (os : List Outcome) → unseen os ≡ bytes_of (pipe_at m p).queue ++ still job (lent_at m d) step os
+
+-- ---- its own calls
+
+abbrev pub failed : Reply → List Outcome
+failed (reply.Refused x) = Failed x ∷ []
+failed r = []
+
+abbrev pub settled_open : Option Line → Reply → List Outcome
+settled_open (Some (line.Cat name)) r = failed r
+settled_open (Some (line.Wc name)) r = failed r
+settled_open l r = []
+
+abbrev pub settled_read : (ℕ → Option (List ℕ)) → Reply → List Outcome
+settled_read lent (reply.Agg agg) = Found (bytes_at lent agg) ∷ []
+settled_read lent r = failed r
+
+abbrev pub settled_doing : Task → (begun : ℕ) → (ℕ → Option (List ℕ)) → Doing → Reply → List Outcome
+settled_doing job begun lent doing.Runs r = settled_open (slice_get job.lines begun) r
+settled_doing job begun lent (doing.Reads file p) r = settled_read lent r
+settled_doing job begun lent d r = []
+
+-- the outcome that a reply settles, if it does
+abbrev pub settled : Task → Step → (ℕ → Option (List ℕ)) → Reply → List Outcome
+settled job step lent r = settled_doing job step.begun lent step.doing r
+
+-- the script is over: all of its output was written, and the pipe's write end is closed
+pub record Ends (m : State) (d p : ℕ) (unseen : List Outcome → List ℕ) (r : Reply) (next : Step) (n : State) : Type 0 where
+  pub free : next.doing ≡ doing.Waits
+  pub all : (os : List Outcome) → unseen os ≡ bytes_of (pipe_at m p).queue
+  pub done : r ≡ reply.Done
+  pub closes : ClosesWriteEnd m p r n
+
+-- from m, by the reply r, to n
+abbrev pub ComesTo : (m : State) → (d p : ℕ) → Task → Step → (List Outcome → List ℕ) → (r : Reply) → (n : State)
+    → Option Step → Type 0
+ComesTo m d p job step unseen r n None = n ≡ m
+ComesTo m d p job step unseen r n (Some next) =
+    Feeds n d p job next (λ os. unseen (settled job step (lent_at n d) r ++ os))
+    ⊎ (Ends m d p unseen r next n ⊎ ((pipe_at n p).reading ≡ false))
+
+abbrev pub Comes : (m : State) → (d p : ℕ) → Task → Step → (List Outcome → List ℕ) → (r : Reply) → (n : State) → Type 0
+Comes m d p job step unseen r n = ComesTo m d p job step unseen r n (told job step (lent_at n d) r)
+
+-- A worker's call leaves what is unseen, until all of it is written or nobody reads it any more.
+abbrev pub FeedsOn : Type 0
+FeedsOn = (m n : State) (d p : ℕ) (job : Task) (step : Step) (r : Reply) (unseen : List Outcome → List ℕ) → IsOrderly m
+    → Feeds m d p job step unseen → StepsTo m (event.Call d (call_at job step)) r n → Comes m d p job step unseen r n

@@ -1,0 +1,12 @@
+pub mod Beside
+pub mod Feeds
+pub mod Job
+pub mod Laws
+pub mod Outcomes
+pub mod Output
+pub mod Script
+pub mod Taking
+pub mod Turns
+pub mod Waiting
+pub mod Working
+pub mod Works

@@ -1,0 +1,77 @@
+-- What comes of the files that a script names, with the files and lists as they are.
+use Rattle.std.specs.Prelude.{◌≡◌, ℕ, ◌+◌, ◌-◌, ◌≤◌, true, false, List, [], ◌∷◌, ◌++◌, length, drop, map, Option, Some, None, if◌then◌else◌}
+use Rattle.iol_core.specs.State.{State, descriptor, file, content, may_read, is_pool}
+use Rattle.iol_core.specs.Calls.Files.{file_called}
+use Rattle.iol_core.specs.Numbered.{is_numbered}
+use Rattle.iol_core.specs.Positions.{ArePlaced}
+use Rattle.iol_core.specs.Run.{StepsTo}
+use Rattle.iol_core.specs.declared.limits.TheConstants.{MAX_FILE_BYTES}
+use Rattle.iol_core.specs.declared.descriptors.Descriptor.TheVariants as on
+use Rattle.iol_core.specs.declared.descriptors.Mode.TheVariants.{Read}
+use Rattle.iol_core.specs.declared.refusals.Refusal.TheVariants.{NoFile, Denied}
+use Rattle.iol_core.specs.declared.events.Event.TheVariants as event
+use Rattle.iol_core.specs.declared.events.Reply.{Reply}
+use Rattle.iol_laws.specs.Caller.{lent_at, is_rough}
+use Rattle.iol_laws.specs.Order.{IsOrderly}
+use Rattle.flash_cgi.specs.Job.{Task}
+use Rattle.flash_cgi.specs.Output.{Outcome, Found, Failed}
+use Rattle.flash_cgi.specs.Working.{call_at, told}
+use Rattle.flash_cgi.specs.Feeds.{Feeds, settled}
+use Rattle.flash_cgi.specs.declared.line.Line.{Line}
+use Rattle.flash_cgi.specs.declared.line.Line.TheVariants as line
+use Rattle.flash_cgi.specs.declared.doing.Doing.{Doing}
+use Rattle.flash_cgi.specs.declared.doing.Doing.TheVariants as doing
+use Rattle.flash_cgi.specs.declared.doing.Step.{Step}
+
+-- the outcome of a file for a domain
+abbrev pub outcome_of : State → (d : ℕ) → Option ℕ → Outcome
+outcome_of m d (Some f) = if may_read m d (file m f).pool then Found (content m f) else Failed (Denied (file m f).pool)
+outcome_of m d None = Failed NoFile
+
+abbrev pub outcome_in : State → (d : ℕ) → (name : List ℕ) → Outcome
+outcome_in m d name = outcome_of m d (file_called m name)
+
+-- of each line that names one
+abbrev pub outcomes_in : State → (d : ℕ) → List Line → List Outcome
+outcomes_in m d [] = []
+outcomes_in m d (line.Emit text ∷ lines) = outcomes_in m d lines
+outcomes_in m d (line.Query ∷ lines) = outcomes_in m d lines
+outcomes_in m d (line.Cat name ∷ lines) = outcome_in m d name ∷ outcomes_in m d lines
+outcomes_in m d (line.Wc name ∷ lines) = outcome_in m d name ∷ outcomes_in m d lines
+outcomes_in m d (line.Pause ∷ lines) = outcomes_in m d lines
+
+-- of the lines whose files are still to be opened, and of the file that is being read
+abbrev pub to_come_doing : State → (d : ℕ) → Task → (begun : ℕ) → Doing → List Outcome
+to_come_doing m d job begun (doing.Reads file u) = outcomes_in m d (drop (begun - 1) job.lines)
+to_come_doing m d job begun doing.Waits = []
+to_come_doing m d job begun x = outcomes_in m d (drop begun job.lines)
+
+abbrev pub to_come : State → (d : ℕ) → Task → Step → List Outcome
+to_come m d job step = to_come_doing m d job step.begun step.doing
+
+-- the file that is being read is the one that the last line begun names, and it is read from its start
+pub record IsReading (m : State) (d : ℕ) (job : Task) (begun fd : ℕ) : Type 0 where
+  pub number : ℕ
+  pub open_on : descriptor m d fd ≡ Some (on.File number 0 Read)
+  pub names : outcomes_in m d (drop (begun - 1) job.lines) ≡ Found (content m number) ∷ outcomes_in m d (drop begun job.lines)
+
+abbrev pub ReadsNamed : State → (d : ℕ) → Task → (begun : ℕ) → Doing → Type 0
+ReadsNamed m d job begun (doing.Reads file u) = IsReading m d job begun file
+ReadsNamed m d job begun x = Unit {0}
+
+-- by a reply that is not rough, what is settled is what was to come
+pub record SettlesTruly (m : State) (d : ℕ) (job : Task) (step : Step) (r : Reply) (n : State) (next : Step) : Type 0 where
+  pub same : to_come m d job step ≡ settled job step (lent_at n d) r ++ to_come n d job next
+  pub reads : ReadsNamed n d job next.begun next.doing
+
+-- files are within their limit, and of pools that there are
+pub record AreFiles (m : State) : Type 0 where
+  pub lengths : (f : ℕ) → is_numbered m.files f ≡ true → length (content m f) ≤ MAX_FILE_BYTES
+  pub pooled : (name : List ℕ) (f : ℕ) → file_called m name ≡ Some f → is_pool m (file m f).pool ≡ true
+
+-- The outcomes that a worker's calls settle are those of the files that its lines name.
+abbrev pub OutcomesAreTrue : Type 0
+OutcomesAreTrue = (m n : State) (d p : ℕ) (job : Task) (step next : Step) (r : Reply) (unseen : List Outcome → List ℕ)
+    → IsOrderly m → ArePlaced m → AreFiles m → Feeds m d p job step unseen → ReadsNamed m d job step.begun step.doing
+    → StepsTo m (event.Call d (call_at job step)) r n → is_rough r ≡ false
+    → told job step (lent_at n d) r ≡ Some next → SettlesTruly m d job step r n next

@@ -1,0 +1,67 @@
+//! Laws of scripts and workers. The functions do nothing; their contracts are the laws.
+ghost use Rattle.flash_cgi.specs.Beside.{OthersHear};
+ghost use Rattle.flash_cgi.specs.Feeds.{FeedsOn};
+ghost use Rattle.flash_cgi.specs.Laws.{JobsAreRead};
+ghost use Rattle.flash_cgi.specs.Outcomes.{OutcomesAreTrue};
+ghost use Rattle.flash_cgi.specs.Taking.{JobsAreTaken};
+ghost use Rattle.flash_cgi.specs.Turns.{TurnsFeed};
+ghost use Rattle.flash_cgi.specs.Waiting.{WaitingIsEmpty};
+
+use iol_laws::laws;
+
+/// A job's text is read as that job.
+pub fn jobs_are_read()
+    ensures { JobsAreRead }
+{}
+
+/// The worker that reads a job which waits for it runs that job, and all of its output is unseen
+/// yet.
+pub fn jobs_are_taken()
+    ensures { JobsAreTaken }
+{
+    laws::each_step_leaves_the_rest();
+}
+
+/// A worker's call leaves what is unseen of its output, until all of it is written or nobody reads
+/// it any more.
+pub fn workers_feed_pipes()
+    ensures { FeedsOn }
+{
+    laws::each_step_leaves_the_rest();
+    laws::calls_serve_their_domain();
+    laws::file_calls_serve_their_domain();
+    laws::refusals_tell_why();
+}
+
+/// So does each turn of a worker, from the moment at which its job waits.
+pub fn turns_feed()
+    ensures { TurnsFeed }
+{
+    workers_feed_pipes();
+    jobs_are_taken();
+    laws::calls_serve_their_domain();
+}
+
+/// Others leave a worker with its job, but for what they take from its pipe: what is heard stood in
+/// front of what is unseen then.
+pub fn others_hear()
+    ensures { OthersHear }
+{
+    laws::each_step_leaves_the_rest();
+}
+
+/// The outcomes that a worker's calls settle are those of the files that its lines name.
+pub fn outcomes_are_true()
+    ensures { OutcomesAreTrue }
+{
+    laws::each_step_leaves_the_rest();
+    laws::file_calls_serve_their_domain();
+}
+
+/// A worker that waits for a job where all is idle: nothing is in its job pipe, and something may
+/// come.
+pub fn waiting_is_empty()
+    ensures { WaitingIsEmpty }
+{
+    laws::refusals_tell_why();
+}

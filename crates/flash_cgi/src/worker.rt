@@ -1,0 +1,155 @@
+//! A process that runs scripts.
+ghost use Rattle.std.specs.Prelude.{◌≡◌, ◌∷◌, Some, IfOk, OnErr};
+ghost use Rattle.iol_proc.specs.Looks.{lent};
+ghost use Rattle.iol_proc.specs.Quiet.{IsQuiet};
+ghost use Rattle.flash_cgi.specs.Job.{job_of};
+ghost use Rattle.flash_cgi.specs.Working as spec;
+ghost use Rattle.flash_cgi.specs.Works as account;
+
+use crate::asking::call_at;
+use crate::counting::text_of;
+use crate::doing::{Doing, Standing, Step};
+use crate::filing::told;
+use crate::jobs::Job;
+use iol_core::events::{Call, Reply};
+use iol_core::numbers::AggId;
+use iol_proc::idle::Settling;
+use iol_proc::look::Look;
+use iol_proc::process::{Process, Turn};
+use std::alloc::{AllocError, Global};
+
+/// Runs the scripts of the jobs that come on its descriptor 0, one after another. Once its job pipe
+/// has ended it makes no more calls.
+#[derive(Drop)]
+pub struct Worker {
+    alloc: Global,
+    job: Job,
+    step: Step,
+    standing: Standing,
+}
+
+impl Worker {
+    /// A worker that waits for its first job.
+    pub fn new(alloc: Global) -> Worker
+        ensures { account.IsNew result }
+    {
+        Worker {
+            alloc,
+            job: Job::nothing(alloc),
+            step: Step {
+                doing: Doing::Waits,
+                begun: 0,
+            },
+            standing: Standing::Asks,
+        }
+    }
+
+    // Makes the call that it is at.
+    fn ask(&mut self) -> Result<Turn, AllocError>
+        ensures turn { IfOk result (λ turn. account.asks self.old turn self.new) }
+        ensures quiet { IfOk result IsQuiet }
+        ensures err { OnErr result (self.new ≡ self.old) }
+    {
+        let call = call_at(self.alloc, &self.job, &self.step)?;
+        self.standing = Standing::Asked;
+        Ok(Turn::Make(call))
+    }
+
+    // Makes the call of a step, which it is at then.
+    fn make(&mut self, step: Step) -> Result<Turn, AllocError>
+        ensures turn { IfOk result
+            (λ turn. account.goes_on self.old (Some step) turn self.new) }
+        ensures quiet { IfOk result IsQuiet }
+        ensures err { OnErr result (self.new ≡ self.old) }
+    {
+        let call = call_at(self.alloc, &self.job, &step)?;
+        self.step = step;
+        Ok(Turn::Make(call))
+    }
+
+    // Goes on by the reply, or yields, to make the same call again.
+    fn go_on(&mut self, last: &Reply, look: &Look<'_>) -> Result<Turn, AllocError>
+        ensures turn { IfOk result
+            (λ turn. account.goes_on self.old
+            (spec.told self.old.job self.old.step (lent look.now) last.now) turn self.new) }
+        ensures quiet { IfOk result IsQuiet }
+        ensures err { OnErr result (self.new ≡ self.old) }
+    {
+        match told(&self.job, self.step, last, look) {
+            Some(step) => self.make(step),
+            None => {
+                self.standing = Standing::Asks;
+                Ok(Turn::Yield)
+            }
+        }
+    }
+
+    // Takes the job that this text is, if it is one. No text is the end of its job pipe.
+    fn take_text(&mut self, text: &[u8], agg: AggId) -> Result<(), AllocError>
+        ensures taken { IfOk result
+            (λ _. self.new ≡ account.with_text self.old text.now agg) }
+        ensures err { OnErr result (self.new ≡ self.old) }
+    {
+        if text.is_empty() {
+            self.standing = Standing::Over;
+            return Ok(());
+        }
+        match Job::read(self.alloc, text)? {
+            Some(job) => {
+                self.job = job;
+                self.step = Step {
+                    doing: Doing::Drops { agg },
+                    begun: 0,
+                };
+            }
+            None => self.step.doing = Doing::Skips { agg },
+        }
+        Ok(())
+    }
+
+    // Takes what came on its job pipe, and gives up the aggregate.
+    fn take(&mut self, agg: AggId, look: &Look<'_>) -> Result<Turn, AllocError>
+        ensures turn { IfOk result
+            (λ turn. account.takes self.old (spec.bytes_at (lent look.now) agg) agg turn self.new) }
+        ensures quiet { IfOk result IsQuiet }
+        ensures err { OnErr result (self.new ≡ self.old) }
+    {
+        let text = text_of(self.alloc, look, agg)?;
+        self.take_text(text.as_slice(), agg)?;
+        Ok(Turn::Make(Call::AggDrop { agg }))
+    }
+
+    // Files the reply to its call.
+    fn file(&mut self, last: &Reply, look: &Look<'_>) -> Result<Turn, AllocError>
+        ensures turn { IfOk result
+            (λ turn. account.files self.old self.old.step.doing last.now (lent look.now) turn self.new) }
+        ensures quiet { IfOk result IsQuiet }
+        ensures err { OnErr result (self.new ≡ self.old) }
+    {
+        let doing = self.step.doing;
+        match (doing, last) {
+            (Doing::Waits, Reply::Agg(agg)) => self.take(*agg, look),
+            _ => self.go_on(last, look),
+        }
+    }
+}
+
+impl Process for Worker {
+    ghost turns = { account.works };
+
+    fn next(&mut self, last: &Reply, look: &Look<'_>) -> Result<Turn, AllocError> {
+        match self.standing {
+            Standing::Asks => self.ask(),
+            Standing::Asked => self.file(last, look),
+            Standing::Over => Ok(Turn::Yield),
+        }
+    }
+}
+
+impl Settling for Worker {
+    ghost use Rattle.flash_cgi.specs.Waiting.{HasWaited};
+
+    ghost settled = { HasWaited };
+
+    fn settles() {}
+}
