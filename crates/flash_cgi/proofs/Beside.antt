@@ -1,9 +1,9 @@
 -- What others do beside a worker with a job: they leave what it is still to write, and what is read is heard from the front.
-use Rattle.std.proofs.Common.{inl, inr, ◌⊎◌, ◌≡◌, ◌≢◌, ℕ, ◌==◌, List, [], ◌∷◌, ◌++◌, length, drop, ap, ◌∙◌, refl, sym, subst, Option, Some, None, true, false, Bool, if◌then◌else◌, append_assoc, ◌≤◌}
+use Rattle.std.proofs.Common.{inl, inr, ◌≡◌, ℕ, ◌==◌, List, [], ◌∷◌, ◌++◌, length, drop, ap, ◌∙◌, refl, sym, subst, Option, Some, None, true, false, Bool, if◌then◌else◌, append_assoc, ◌≤◌}
 use Rattle.std.specs.Prelude.{unwrap_or, option_map, ◌&&◌, ◌||◌}
 use Rattle.std.specs.List.{AllByRecursion}
 use Rattle.iol_core.specs.Text.{Text, bytes_of}
-use Rattle.iol_core.specs.State.{State, Pipe, File, aggregate, descriptor, pipe_at, file, may_read, is_live}
+use Rattle.iol_core.specs.State.{State, Pipe, File, aggregate, descriptor, pipe_at, file, may_read}
 use Rattle.iol_core.specs.declared.descriptors.Descriptor.TheVariants as on
 use Rattle.iol_core.specs.declared.descriptors.Mode.TheVariants.{Read}
 use Rattle.iol_core.specs.Positions.{ArePlaced}
@@ -18,10 +18,10 @@ use Rattle.iol_core.specs.declared.events.Reply.TheVariants as reply
 use Rattle.iol_laws.specs.Frame.{EachStepLeavesTheRest, Leaves, touches_fd, ends}
 use Rattle.iol_laws.specs.Caller.{lent_at, TakesFromPipe}
 use Rattle.iol_proc.specs.declared.seat.Seat.{Seat}
-use Rattle.flash_cgi.specs.Job.{Task, job_text}
+use Rattle.flash_cgi.specs.Job.{Task}
 use Rattle.flash_cgi.specs.Output.{Outcome, output}
-use Rattle.flash_cgi.specs.Working.{said_text, bytes_at, told, told_next, told_doing, call_at}
-use Rattle.flash_cgi.specs.Feeds.{rest_of, still, still_doing, HasBytes, IsOpenFile, IsFileOpen, Needs, Feeds}
+use Rattle.flash_cgi.specs.Working.{bytes_at, told_doing}
+use Rattle.flash_cgi.specs.Feeds.{rest_of, still, still_doing, HasBytes, IsFileOpen, Needs, Feeds}
 use Rattle.flash_cgi.specs.Taking.{HasJob, Begins}
 use Rattle.flash_cgi.specs.Turns.{Awaits, HasRead, IsRunning, RunsJob, or_again, filed_step}
 use Rattle.flash_cgi.specs.Beside.{LeavesWorker, LeavesJobs, Hears, is_call_of}

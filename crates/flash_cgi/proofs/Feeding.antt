@@ -1,14 +1,13 @@
 -- A worker's call leaves what is unseen of its output: phase by phase.
-use Rattle.std.proofs.Common.{inl, inr, ◌≡◌, ◌≢◌, ℕ, zero, suc, ◌+◌, ◌-◌, ◌==◌, ◌<◌, ◌≤◌, ◌⊎◌, List, [], ◌∷◌, ◌++◌, length, take, drop, ap, ◌∙◌, refl, sym, subst, arith, Option, Some, None, true, false, Bool, cond, if◌then◌else◌, append_assoc, append-nil, length-append, length-drop}
+use Rattle.std.proofs.Common.{inl, inr, ◌≡◌, ◌≢◌, ℕ, zero, suc, ◌+◌, ◌-◌, ◌==◌, ◌⊎◌, List, [], ◌∷◌, ◌++◌, length, take, drop, ap, ◌∙◌, refl, sym, subst, arith, Option, Some, None, true, false, Bool, if◌then◌else◌, append_assoc, append-nil, length-drop}
 use Rattle.std.specs.Prelude.{unwrap_or, option_map, ◌||◌, ◌&&◌, slice_range, slice_get}
 use Rattle.std.specs.List.{list_any}
 use Rattle.std.proofs.lemmas.List.{take_all, take-append-drop}
 use Rattle.std.proofs.lemmas.Bool.Decides.{nat_tests}
 use Rattle.iol_core.specs.Text.{Text, bytes_of}
-use Rattle.iol_core.specs.State.{State, Pipe, File, no_file, content, aggregate, descriptor, pipe_at, file, may_read, is_live}
+use Rattle.iol_core.specs.State.{State, Pipe, File, no_file, content, aggregate, descriptor, pipe_at, file, may_read}
 use Rattle.iol_core.specs.Numbered.{numbered_or}
 use Rattle.iol_core.specs.Calls.Writing.{is_file}
-use Rattle.iol_core.specs.Calls.Files.{file_called}
 use Rattle.iol_core.specs.Run.{StepsTo}
 use Rattle.iol_core.specs.Values.{gives_up}
 use Rattle.iol_core.specs.declared.descriptors.Descriptor.{Descriptor}
@@ -26,13 +25,13 @@ use Rattle.iol_laws.specs.Caller as o
 use Rattle.iol_laws.specs.Caller.{CallsServeTheirDomain, lent_at}
 use Rattle.iol_laws.specs.CallerFiles as fl
 use Rattle.iol_laws.specs.CallerFiles.{FileCallsServeTheirDomain}
-use Rattle.iol_laws.specs.Frame.{EachStepLeavesTheRest, Leaves, is_end, touches_fd, touches_pipe, ends, changes_files}
+use Rattle.iol_laws.specs.Frame.{EachStepLeavesTheRest, Leaves, is_end, touches_fd, touches_pipe, ends}
 use Rattle.iol_laws.specs.Order.{IsOrderly}
 use Rattle.iol_laws.specs.Reasons.{RefusalsTellWhy}
 use Rattle.flash_cgi.specs.Job.{Task}
-use Rattle.flash_cgi.specs.Output.{Outcome, Found, Failed, output, by_first, cat_of, wc_of}
-use Rattle.flash_cgi.specs.Working.{said_text, line_text, counts_of, bytes_at, call_at, told, told_next, told_made, told_opened, told_written, told_read, told_cut, next_call, line_call}
-use Rattle.flash_cgi.specs.Feeds.{put_out, rest_of, still, HasBytes, IsOpenFile, IsFileOpen, Needs, Feeds, settled, settled_open, failed, Ends, ComesTo, Comes, FeedsOn}
+use Rattle.flash_cgi.specs.Output.{Outcome, Found, Failed, output, by_first}
+use Rattle.flash_cgi.specs.Working.{said_text, line_text, counts_of, bytes_at, call_at, told_next, told_made, told_opened, told_written, told_read, told_cut, next_call}
+use Rattle.flash_cgi.specs.Feeds.{put_out, rest_of, still, IsFileOpen, Needs, Feeds, settled, settled_open, failed, Ends, ComesTo, Comes, FeedsOn}
 use Rattle.flash_cgi.specs.declared.line.Line.{Line}
 use Rattle.flash_cgi.specs.declared.line.Line.TheVariants as line
 use Rattle.flash_cgi.specs.declared.saying.Said.{Said}

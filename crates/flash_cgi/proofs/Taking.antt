@@ -1,27 +1,22 @@
 -- A worker takes its job.
-use Rattle.std.proofs.Common.{◌≡◌, ◌≢◌, ℕ, ◌+◌, ◌==◌, ◌≤◌, List, [], ◌∷◌, ◌++◌, length, take, drop, cond, ap, ◌∙◌, refl, sym, subst, arith, Option, Some, None, true, false, Bool}
-use Rattle.std.specs.Prelude.{unwrap_or, ◌&&◌, ◌||◌}
-use Rattle.std.specs.List.{AllByRecursion, list_any, take_while, prefix_len}
+use Rattle.std.proofs.Common.{◌≡◌, ◌≢◌, ℕ, ◌+◌, ◌==◌, List, [], ◌∷◌, ◌++◌, length, take, cond, ap, ◌∙◌, refl, sym, arith, Option, Some, true, false, Bool}
+use Rattle.std.specs.Prelude.{◌&&◌, ◌||◌}
+use Rattle.std.specs.List.{AllByRecursion, list_any, prefix_len}
 use Rattle.std.proofs.lemmas.List.{take_all, length-map}
 use Rattle.std.proofs.lemmas.Bool.Decides.{nat_tests}
 use Rattle.iol_core.specs.Text.{Text, bytes_of, admitted}
-use Rattle.iol_core.specs.State.{State, Pipe, descriptor, pipe_at, may_read, is_live}
+use Rattle.iol_core.specs.State.{State, Pipe, descriptor, pipe_at, may_read}
 use Rattle.iol_core.specs.Calls.Writing.{is_file}
-use Rattle.iol_core.specs.Run.{StepsTo}
 use Rattle.iol_core.specs.declared.descriptors.Descriptor.{Descriptor}
 use Rattle.iol_core.specs.declared.descriptors.Descriptor.TheVariants as on
 use Rattle.iol_core.specs.declared.events.Call.TheVariants as call
 use Rattle.iol_core.specs.declared.events.Event.TheVariants as event
 use Rattle.iol_core.specs.declared.events.Reply.TheVariants as reply
-use Rattle.iol_laws.specs.Caller.{lent_at, TakesFromPipe}
 use Rattle.iol_laws.specs.Frame.{EachStepLeavesTheRest, Leaves, is_end}
-use Rattle.flash_cgi.specs.Job.{Task, job_of, job_text, task_of}
-use Rattle.flash_cgi.specs.Script.{script_of}
-use Rattle.flash_cgi.specs.Output.{Outcome, output}
-use Rattle.flash_cgi.specs.Feeds.{Feeds}
-use Rattle.flash_cgi.specs.Taking.{HasJob, Begins, JobsAreTaken}
+use Rattle.flash_cgi.specs.Job.{job_of, task_of}
+use Rattle.flash_cgi.specs.Output.{output}
+use Rattle.flash_cgi.specs.Taking.{HasJob, JobsAreTaken}
 use Rattle.flash_cgi.specs.declared.line.Line.{Line}
-use Rattle.flash_cgi.specs.declared.doing.Doing.TheVariants as doing
 use Rattle.flash_cgi.proofs.Written.{job_is_read, job_is_short}
 
 all_pass : (f : ℕ × ℕ → Bool) (t : Text) → AllByRecursion (λ b. f b ≡ true) t → prefix_len f t ≡ length t

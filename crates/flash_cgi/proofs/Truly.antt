@@ -1,18 +1,16 @@
 -- The outcomes that a worker's calls settle are those of the files that its lines name.
-use Rattle.std.proofs.Common.{◌≡◌, ◌≢◌, ℕ, zero, suc, ◌+◌, ◌-◌, ◌==◌, ◌≤◌, List, [], ◌∷◌, ◌++◌, length, take, drop, ap, ◌∙◌, refl, sym, subst, arith, Option, Some, None, true, false, Bool, if◌then◌else◌}
+use Rattle.std.proofs.Common.{◌≡◌, ℕ, ◌+◌, ◌-◌, ◌==◌, ◌≤◌, List, [], ◌∷◌, ◌++◌, length, take, drop, ap, ◌∙◌, refl, sym, subst, arith, Option, Some, None, true, false, Bool, if◌then◌else◌}
 use Rattle.std.specs.Prelude.{slice_get, unwrap_or}
 use Rattle.std.specs.List.{list_any}
 use Rattle.std.proofs.lemmas.List.{take_all}
-use Rattle.iol_core.specs.State.{State, File, Pool, no_file, pool, is_pool, descriptor, content, file, may_read}
+use Rattle.iol_core.specs.State.{State, File, content, file, may_read}
 use Rattle.iol_core.specs.Numbered.{numbered_or}
 use Rattle.iol_core.specs.Calls.Files.{file_called}
 use Rattle.iol_core.specs.Calls.Writing.{is_file}
 use Rattle.iol_core.specs.Positions.{ArePlaced}
 use Rattle.iol_core.specs.Run.{StepsTo}
 use Rattle.iol_core.specs.declared.descriptors.Descriptor.{Descriptor}
-use Rattle.iol_core.specs.declared.descriptors.Descriptor.TheVariants as on
 use Rattle.iol_core.specs.declared.descriptors.Mode.TheVariants.{Read}
-use Rattle.iol_core.specs.declared.refusals.Refusal.{Refusal}
 use Rattle.iol_core.specs.declared.refusals.Refusal.TheVariants as not_so
 use Rattle.iol_core.specs.declared.events.Call.{Call}
 use Rattle.iol_core.specs.declared.events.Call.TheVariants as call
@@ -26,9 +24,9 @@ use Rattle.iol_laws.specs.Frame.{EachStepLeavesTheRest, Leaves, changes_files, a
 use Rattle.iol_laws.specs.Order.{IsOrderly}
 use Rattle.flash_cgi.specs.Job.{Task}
 use Rattle.flash_cgi.specs.Output.{Outcome, Found, Failed}
-use Rattle.flash_cgi.specs.Working.{call_at, told, told_next, told_made, told_opened, told_written, told_read, told_cut, taken_of, next_call, bytes_at}
+use Rattle.flash_cgi.specs.Working.{call_at, told, told_next, told_made, told_opened, told_written, told_read, told_cut, next_call, bytes_at}
 use Rattle.flash_cgi.specs.Feeds.{Feeds, settled, settled_open, failed}
-use Rattle.flash_cgi.specs.Outcomes.{outcome_of, outcome_in, outcomes_in, to_come, to_come_doing, IsReading, ReadsNamed, SettlesTruly, AreFiles, OutcomesAreTrue}
+use Rattle.flash_cgi.specs.Outcomes.{outcome_of, outcome_in, outcomes_in, to_come, IsReading, ReadsNamed, SettlesTruly, AreFiles, OutcomesAreTrue}
 use Rattle.flash_cgi.specs.declared.line.Line.{Line}
 use Rattle.flash_cgi.specs.declared.line.Line.TheVariants as line
 use Rattle.flash_cgi.specs.declared.doing.Purpose.{Purpose}

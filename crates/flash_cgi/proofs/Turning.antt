@@ -4,7 +4,6 @@ use Rattle.std.specs.Prelude.{unwrap_or}
 use Rattle.iol_core.specs.Text.{bytes_of}
 use Rattle.iol_core.specs.State.{State, pipe_at, is_live}
 use Rattle.iol_core.specs.Run.{StepsTo}
-use Rattle.iol_core.specs.declared.events.Call.{Call}
 use Rattle.iol_core.specs.declared.events.Call.TheVariants as call
 use Rattle.iol_core.specs.declared.events.Event.TheVariants as event
 use Rattle.iol_core.specs.declared.events.Reply.{Reply}
@@ -12,7 +11,7 @@ use Rattle.iol_core.specs.declared.events.Reply.TheVariants as reply
 use Rattle.iol_laws.specs.Caller.{CallsServeTheirDomain, ReadsPipe, lent_at}
 use Rattle.iol_laws.specs.Order.{IsOrderly}
 use Rattle.iol_proc.specs.Lent.{lent_to}
-use Rattle.iol_proc.specs.Turns.{Comes as ComesOf, SeatTurn, Moves, Starves}
+use Rattle.iol_proc.specs.Turns.{Comes as ComesOf}
 use Rattle.iol_proc.specs.World.{copying}
 use Rattle.iol_proc.specs.declared.process.Turn.{Turn}
 use Rattle.iol_proc.specs.declared.process.Turn.TheVariants as turn
@@ -20,11 +19,11 @@ use Rattle.iol_proc.specs.declared.seat.Seat.{Seat}
 use Rattle.flash_cgi.specs.Job.{Task, job_of}
 use Rattle.flash_cgi.specs.Output.{Outcome, output}
 use Rattle.flash_cgi.specs.Working.{call_at, doing_call, told, told_doing, bytes_at}
-use Rattle.flash_cgi.specs.Works.{works, works_as, asks, files, goes_on, takes, with_job, with_text}
+use Rattle.flash_cgi.specs.Works.{works, works_as, files, goes_on, takes, with_job, with_text}
 use Rattle.flash_cgi.specs.Waiting.{is_over}
-use Rattle.flash_cgi.specs.Feeds.{Feeds, Ends, Comes, ComesTo, FeedsOn, settled, Needs}
+use Rattle.flash_cgi.specs.Feeds.{Feeds, ComesTo, FeedsOn, settled, Needs}
 use Rattle.flash_cgi.specs.Taking.{HasJob, Begins, JobsAreTaken}
-use Rattle.flash_cgi.specs.Turns.{IsToRead, Awaits, HasRead, IsRunning, or_again, filed_step, RunsJob, GoesOn, IsOver, TurnsFeed}
+use Rattle.flash_cgi.specs.Turns.{IsToRead, Awaits, or_again, filed_step, RunsJob, GoesOn, IsOver, TurnsFeed}
 use Rattle.flash_cgi.specs.declared.doing.Doing.{Doing}
 use Rattle.flash_cgi.specs.declared.doing.Doing.TheVariants as doing
 use Rattle.flash_cgi.specs.declared.doing.Standing.{Standing}

@@ -1,5 +1,5 @@
 -- A worker's account keeps what it waits for.
-use Rattle.std.proofs.Common.{◌≡◌, ℕ, zero, suc, ◌+◌, Bool, true, false, Option, Some, None, List, [], ◌∷◌, refl, sym, ap, subst, ◌∙◌, arith, nat_lt, if◌then◌else◌}
+use Rattle.std.proofs.Common.{◌≡◌, ℕ, zero, suc, ◌+◌, false, Option, Some, None, List, [], ◌∷◌, refl, sym, ap, subst, ◌∙◌, arith, nat_lt, if◌then◌else◌}
 use Rattle.std.proofs.lemmas.Bool.Decides.{nat_tests}
 use Rattle.iol_core.specs.State.{State}
 use Rattle.iol_core.specs.Run.{StepsTo}
@@ -13,11 +13,10 @@ use Rattle.iol_laws.specs.Reasons.{RefusalsTellWhy}
 use Rattle.iol_proc.specs.Lent.{lent_to}
 use Rattle.iol_proc.specs.Settled.{Settles}
 use Rattle.iol_proc.specs.Idle.{more_of_two}
-use Rattle.iol_proc.specs.declared.process.Turn.{Turn}
 use Rattle.iol_proc.specs.declared.process.Turn.TheVariants as turn
 use Rattle.flash_cgi.specs.Job.{Task, job_of}
 use Rattle.flash_cgi.specs.Working.{call_at, doing_call, told, bytes_at}
-use Rattle.flash_cgi.specs.Works.{works, works_as, asks, files, goes_on, takes, with_job, with_text}
+use Rattle.flash_cgi.specs.Works.{works, works_as, files, goes_on, takes, with_job}
 use Rattle.flash_cgi.specs.Waiting.{IsBlocked, IsStuck, IsRefused, HasWaited, WaitingIsEmpty, is_over}
 use Rattle.flash_cgi.specs.declared.doing.Doing.{Doing}
 use Rattle.flash_cgi.specs.declared.doing.Doing.TheVariants as doing

@@ -1,13 +1,12 @@
 -- A job's text, as it is written, is read as that job.
-use Rattle.std.proofs.Common.{◌≡◌, ℕ, zero, suc, ◌+◌, ◌*◌, ◌^◌, ◌<◌, ◌≤◌, Bool, true, false, cond, List, [], ◌∷◌, ◌++◌, length, take, drop, Option, Some, None, refl, sym, ap, ◌∙◌, subst, arith, append_assoc, append-nil, length-append}
-use Rattle.std.specs.Prelude.{not, nat_lt, nat_le, nat_eq, ◌==◌, ◌&&◌}
-use Rattle.std.specs.List.{position, position_or_len, prefix_len, list_all}
+use Rattle.std.proofs.Common.{◌≡◌, ℕ, suc, ◌+◌, ◌^◌, ◌<◌, ◌≤◌, Bool, true, false, cond, List, [], ◌∷◌, ◌++◌, length, take, drop, Some, None, refl, ap, ◌∙◌, arith, append_assoc, length-append}
+use Rattle.std.specs.Prelude.{not, nat_lt, ◌==◌}
+use Rattle.std.specs.List.{position, position_or_len, list_all}
 use Rattle.std.specs.Char.{is_ascii_digit}
 use Rattle.std.specs.Fmt.{decimal}
-use Rattle.std.specs.Str.Parse.{digits_value}
 use Rattle.std.proofs.lemmas.Bool.Decides.{nat_tests}
 use Rattle.std.proofs.lemmas.Fmt.{digits_decimal, digits_value-decimal, length-decimal-le, decimal_nonempty}
-use Rattle.flash_cgi.specs.Job.{Task, job_text, number, is_number, numbered, cut_at, number_before, task_of, job_with, job_sized, job_asked, job_begun, job_of}
+use Rattle.flash_cgi.specs.Job.{job_text, number, numbered, cut_at, number_before, task_of, job_sized, job_asked, job_begun, job_of}
 use Rattle.flash_cgi.specs.Script.{script_of}
 use Rattle.flash_cgi.proofs.Digits.{AreDigits, own, both, number_of_digits}
 

@@ -1,23 +1,16 @@
 -- What a running script is still to put out: what waits in its pipe, and what its worker is still to write.
-use Rattle.std.specs.Prelude.{◌≡◌, ◌≢◌, ◌⊎◌, ℕ, ◌==◌, ◌<◌, ◌≤◌, ◌^◌, take, Bool, true, false, List, [], ◌∷◌, ◌++◌, length, drop, Option, Some, None, slice_get}
-use Rattle.iol_core.specs.Text.{bytes_of, admitted}
+use Rattle.std.specs.Prelude.{◌≡◌, ◌≢◌, ◌⊎◌, ℕ, true, false, List, [], ◌∷◌, ◌++◌, length, drop, Option, Some, None, slice_get}
+use Rattle.iol_core.specs.Text.{bytes_of}
 use Rattle.iol_core.specs.State.{State, descriptor, pipe_at, file, may_read, is_live}
 use Rattle.iol_core.specs.Run.{StepsTo}
 use Rattle.iol_core.specs.declared.descriptors.Descriptor.TheVariants as on
-use Rattle.iol_core.specs.Positions.{ArePlaced}
-use Rattle.iol_core.specs.declared.descriptors.Descriptor.{Descriptor}
-use Rattle.iol_core.specs.declared.descriptors.Mode.{Mode}
 use Rattle.iol_core.specs.declared.descriptors.Mode.TheVariants.{Read}
-use Rattle.iol_core.specs.declared.events.Event.{Event}
 use Rattle.iol_core.specs.declared.events.Event.TheVariants as event
 use Rattle.iol_core.specs.declared.events.Reply.{Reply}
 use Rattle.iol_core.specs.declared.events.Reply.TheVariants as reply
-use Rattle.iol_laws.specs.Caller.{lent_at, ClosesWriteEnd, TakesFromPipe}
+use Rattle.iol_laws.specs.Caller.{lent_at, ClosesWriteEnd}
 use Rattle.iol_laws.specs.Order.{IsOrderly}
-use Rattle.flash_cgi.specs.Job.{Task, job_of, job_text}
-use Rattle.flash_cgi.specs.Script.{script_of}
-use Rattle.std.specs.List.{AllByRecursion}
-use Rattle.iol_core.specs.declared.events.Call.TheVariants as call
+use Rattle.flash_cgi.specs.Job.{Task}
 use Rattle.flash_cgi.specs.Output.{Outcome, Found, Failed, output, by_first, cat_of, wc_of}
 use Rattle.flash_cgi.specs.Working.{said_text, bytes_at, call_at, told}
 use Rattle.flash_cgi.specs.declared.line.Line.{Line}

@@ -1,5 +1,7 @@
 pub mod Beside
+pub mod Ending
 pub mod Feeds
+pub mod Having
 pub mod Job
 pub mod Laws
 pub mod Outcomes

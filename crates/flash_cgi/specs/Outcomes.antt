@@ -1,5 +1,5 @@
 -- What comes of the files that a script names, with the files and lists as they are.
-use Rattle.std.specs.Prelude.{◌≡◌, ℕ, ◌+◌, ◌-◌, ◌≤◌, true, false, List, [], ◌∷◌, ◌++◌, length, drop, map, Option, Some, None, if◌then◌else◌}
+use Rattle.std.specs.Prelude.{◌≡◌, ℕ, ◌-◌, ◌≤◌, true, false, List, [], ◌∷◌, ◌++◌, length, drop, Option, Some, None, if◌then◌else◌}
 use Rattle.iol_core.specs.State.{State, descriptor, file, content, may_read, is_pool}
 use Rattle.iol_core.specs.Calls.Files.{file_called}
 use Rattle.iol_core.specs.Numbered.{is_numbered}

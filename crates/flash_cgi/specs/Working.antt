@@ -1,7 +1,7 @@
 -- What a worker does, step by step: the call that it makes, and what it is at after the reply.
 --
 -- A reply that is no answer to its call, and no outcome of a file, leaves it where it is: the call is made again.
-use Rattle.std.specs.Prelude.{◌≡◌, ℕ, ◌+◌, ◌==◌, List, [], ◌∷◌, ◌++◌, length, count_by, Option, Some, None, unwrap_or, if◌then◌else◌, slice_get}
+use Rattle.std.specs.Prelude.{ℕ, ◌+◌, ◌==◌, List, [], ◌∷◌, ◌++◌, length, count_by, Option, Some, None, unwrap_or, if◌then◌else◌, slice_get}
 use Rattle.std.specs.Fmt.{decimal}
 use Rattle.iol_core.specs.Refusals.{name_of}
 use Rattle.iol_core.specs.declared.descriptors.Mode.TheVariants.{Read}

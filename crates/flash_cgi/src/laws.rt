@@ -1,6 +1,8 @@
 //! Laws of scripts and workers. The functions do nothing; their contracts are the laws.
 ghost use Rattle.flash_cgi.specs.Beside.{OthersHear};
+ghost use Rattle.flash_cgi.specs.Ending.{WorkersStop};
 ghost use Rattle.flash_cgi.specs.Feeds.{FeedsOn};
+ghost use Rattle.flash_cgi.specs.Having.{WorkersKeepNothing};
 ghost use Rattle.flash_cgi.specs.Laws.{JobsAreRead};
 ghost use Rattle.flash_cgi.specs.Outcomes.{OutcomesAreTrue};
 ghost use Rattle.flash_cgi.specs.Taking.{JobsAreTaken};
@@ -64,4 +66,21 @@ pub fn waiting_is_empty()
     ensures { WaitingIsEmpty }
 {
     laws::refusals_tell_why();
+}
+
+/// A worker whose job pipe has ended makes no more calls, and no other stops.
+pub fn workers_stop()
+    ensures { WorkersStop }
+{
+    laws::calls_serve_their_domain();
+}
+
+/// A worker has what it uses for the call that it is at, and nothing else: so one that ended its
+/// script, and waits for a job, has nothing of its own but its job pipe.
+pub fn workers_keep_nothing()
+    ensures { WorkersKeepNothing }
+{
+    laws::calls_serve_their_domain();
+    laws::refusals_tell_why();
+    laws::aggregates_come_and_go();
 }
