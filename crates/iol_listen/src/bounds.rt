@@ -1,13 +1,14 @@
 //! How much and how long the connections of a listener may take. `docs/DECISIONS.md` says why.
 
-/// A look at a silent connection waits so many milliseconds for it to ask.
+/// A look at a silent connection waits so many milliseconds for it to ask. The system rounds that up to its own ticks: where these
+/// take 4 milliseconds, a look takes 24.
 pub const LOOK_MILLIS: u64 = 20;
 
-/// So many looks, a second, something that has begun may take where another connection has asked.
-pub const BEGUN_LOOKS: u32 = 50;
+/// So many looks, about a second, something that has begun may take where another connection has asked.
+pub const BEGUN_LOOKS: u32 = 40;
 
-/// No connection is silent for more looks than these, five seconds.
-pub const MAX_LOOKS: u32 = 250;
+/// No connection is silent for more looks than these, four to five seconds.
+pub const MAX_LOOKS: u32 = 200;
 
 /// A send that makes no progress for so many milliseconds fails.
 pub const SEND_MILLIS: u64 = 2000;

@@ -1,4 +1,9 @@
 //! What is to be sent, kept until it is flushed.
+ghost use Rattle.std.specs.Prelude.{◌≡◌, [], None, IfOk, take};
+ghost use Rattle.std.specs.Io.{WritesAtMost};
+ghost use Rattle.std.specs.Io.KnownBytes.{Keeps, WriteAppends};
+ghost use Rattle.iol_listen.specs.Sending.{Holds};
+
 use crate::bounds::OUTBOX_BYTES;
 use std::alloc::{AllocError, Global};
 use std::cell::Cell;
@@ -49,7 +54,9 @@ impl<'a> Outbox<'a> {
     }
 
     // Sends what it holds. Where that fails the rest is lost.
-    fn send(&mut self) -> io::Result<()> {
+    fn send(&mut self) -> io::Result<()>
+        ensures { self.new.bytes.items ≡ [] }
+    {
         let mut stream = self.stream;
         let sent = stream.write_all(&self.bytes);
         self.bytes.clear();
@@ -58,7 +65,13 @@ impl<'a> Outbox<'a> {
 }
 
 impl<'a> Write for Outbox<'a> {
-    fn write(&mut self, buf: &[u8]) -> io::Result<usize> {
+    // What is taken is held behind what was held before, or alone once that was sent.
+    fn write(&mut self, buf: &[u8]) -> io::Result<usize>
+        ensures bound { WritesAtMost result buf.now }
+        ensures bytes { WriteAppends None None result buf.now }
+        ensures holds { IfOk result
+            (λ n. Holds self.old.bytes.items self.new.bytes.items (take n buf.now)) }
+    {
         let room = OUTBOX_BYTES.saturating_sub(self.bytes.len());
         if room < buf.len() {
             self.send()?;
@@ -68,7 +81,10 @@ impl<'a> Write for Outbox<'a> {
         Ok(taken)
     }
 
-    fn flush(&mut self) -> io::Result<()> {
+    fn flush(&mut self) -> io::Result<()>
+        ensures bytes { Keeps None None }
+        ensures empty { self.new.bytes.items ≡ [] }
+    {
         if self.bytes.is_empty() {
             return Ok(());
         }

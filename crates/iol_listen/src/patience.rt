@@ -1,6 +1,7 @@
 //! How long the connection that is served is waited for.
-ghost use Rattle.std.specs.Prelude.{IfSome};
+ghost use Rattle.std.specs.Prelude.{◌≡◌, ◌↔◌, IfOk, IfSome, None, true};
 ghost use Rattle.std.specs.Io.{ReadsAtMost};
+ghost use Rattle.std.specs.Io.KnownBytes.{ReadConsumes};
 
 use crate::bounds::{BEGUN_LOOKS, LOOK_MILLIS, MAX_ANSWERS, MAX_LOOKS, SEND_MILLIS};
 use crate::outbox::Talk;
@@ -18,7 +19,8 @@ pub fn set_waits(stream: &TcpStream) -> io::Result<()> {
 }
 
 /// A reader of a stream, look by look. Where another connection has asked, it fails after a look at which nothing comes; if
-/// something has begun, once that takes a second; and after 100 answers at the next pause. Else it fails after five seconds of silence.
+/// something has begun, once that takes about a second; and after 100 answers at the next pause. Else it fails after four to five
+/// seconds of silence.
 #[derive(Drop)]
 pub struct Patient<'a, 'b> {
     stream: &'a TcpStream,
@@ -46,7 +48,9 @@ impl<'a, 'b> Patient<'a, 'b> {
     }
 
     /// Whether the peer ended the connection, or failed.
-    pub fn is_over(&self) -> bool {
+    pub fn is_over(&self) -> bool
+        ensures { result ≡ self.now.is_over }
+    {
         self.is_over
     }
 
@@ -61,7 +65,9 @@ impl<'a, 'b> Patient<'a, 'b> {
 
     // One look: none where nothing came.
     fn look(&mut self, buf: &mut [u8]) -> Option<io::Result<usize>>
-        ensures { IfSome result (λ came. ReadsAtMost came buf.new) }
+        ensures bound { IfSome result (λ came. ReadsAtMost came buf.new) }
+        ensures over { IfSome result
+            (λ came. IfOk came (λ n. (n ≡ 0) ↔ (self.new.is_over ≡ true))) }
     {
         self.spent = self.spent.saturating_add(1);
         let mut stream = self.stream;
@@ -81,7 +87,12 @@ impl<'a, 'b> Patient<'a, 'b> {
 }
 
 impl<'a, 'b> Read for Patient<'a, 'b> {
-    fn read(&mut self, buf: &mut [u8]) -> io::Result<usize> {
+    // It is over just where the peer's end was read, or a read failed.
+    fn read(&mut self, buf: &mut [u8]) -> io::Result<usize>
+        ensures bound { ReadsAtMost result buf.new }
+        ensures bytes { ReadConsumes None None result buf.new }
+        ensures over { IfOk result (λ n. (n ≡ 0) ↔ (self.new.is_over ≡ true)) }
+    {
         if !self.talk.has_begun.get() {
             self.spent = 0;
         }

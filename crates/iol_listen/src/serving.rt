@@ -1,4 +1,9 @@
 //! The connections of a listener, one after another.
+ghost use Rattle.iol_back.specs.Disk.{IfHonest};
+ghost use Rattle.iol_listen.specs.Listening.{GoesAlone, ServesNext, ServesSome};
+ghost use Rattle.iol_proc.specs.Laws.{KeepsHonesty};
+ghost use Rattle.iol_proc.specs.World.{copied};
+
 use crate::ending::end;
 use crate::outbox::{Outbox, Talk};
 use crate::patience::Patient;
@@ -21,7 +26,11 @@ pub fn serve_all<B: Backing + Drop, P: Process>(
     world: &mut World<B, P>,
     pool: PoolId,
     count: u32,
-) -> Result<(), ServeFault> {
+) -> Result<(), ServeFault>
+    ensures honest { KeepsHonesty world.old.machine world.new.machine }
+    ensures serves { IfHonest world.old.machine.disk
+        (ServesSome P.turns pool count (copied world.old) (copied world.new)) }
+{
     let Ok(mut queue) = Queue::new(alloc, listener, count) else {
         return Err(ServeFault::Memory);
     };
@@ -29,24 +38,28 @@ pub fn serve_all<B: Backing + Drop, P: Process>(
         let Some(stream) = queue.next()? else {
             break;
         };
-        // One for which there is no place ends.
-        if let Some(conn) = connect(world, pool)? {
-            serve_stream(alloc, world, conn, &stream, &mut queue)?;
-        }
+        serve_next(alloc, world, pool, &stream, &mut queue)?;
     }
     Ok(())
 }
 
-// A new connection of the world, if there is a place for one.
-fn connect<B: Backing + Drop, P: Process>(
+// Makes a connection of the world, and serves it. One for which there is no place ends.
+fn serve_next<B: Backing + Drop, P: Process>(
+    alloc: Global,
     world: &mut World<B, P>,
     pool: PoolId,
-) -> Result<Option<ConnId>, ServeFault> {
+    stream: &TcpStream,
+    others: &mut Queue<'_>,
+) -> Result<(), ServeFault>
+    ensures honest { KeepsHonesty world.old.machine world.new.machine }
+    ensures serves { IfHonest world.old.machine.disk
+        (ServesNext P.turns pool (copied world.old) (copied world.new)) }
+{
     let reply = world.step_outside(Event::ConnNew { pool });
     match &reply {
-        Reply::Conn(conn) => Ok(Some(*conn)),
+        Reply::Conn(conn) => serve_stream(alloc, world, *conn, stream, others),
         Reply::Refused(Refusal::Memory) => Err(ServeFault::Memory),
-        _ => Ok(None),
+        _ => Ok(()),
     }
 }
 
@@ -57,7 +70,11 @@ fn serve_stream<B: Backing + Drop, P: Process>(
     conn: ConnId,
     stream: &TcpStream,
     others: &mut Queue<'_>,
-) -> Result<(), ServeFault> {
+) -> Result<(), ServeFault>
+    ensures honest { KeepsHonesty world.old.machine world.new.machine }
+    ensures alone { IfHonest world.old.machine.disk
+        (GoesAlone P.turns conn (copied world.old) (copied world.new)) }
+{
     let talk = Talk::new();
     let Ok(mut writer) = Outbox::new(alloc, stream, &talk) else {
         return Err(ServeFault::Memory);

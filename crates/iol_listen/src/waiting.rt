@@ -1,9 +1,14 @@
 //! Connections that were accepted and are served once they have asked.
+ghost use Rattle.std.specs.Prelude.{◌≡◌, ◌≤◌, ◌<◌, IfOk, IfSome, IsNone, true};
+ghost use Rattle.iol_listen.specs.Waiting.{to_come};
+ghost use Rattle.iol_listen.specs.declared.bounds.TheConstants.{MAX_WAITING};
+
 use crate::bounds::{MAX_LOOKS, MAX_WAITING};
 use crate::patience::set_waits;
 use std::alloc::{AllocError, Global};
 use std::io;
 use std::io::ErrorKind;
+use std::marker::Model;
 use std::net::{TcpListener, TcpStream};
 use thiserror::Error;
 
@@ -36,13 +41,28 @@ pub struct Queue<'a> {
     left: u32,
 }
 
+impl<'a> Model for Queue<'a> {
+    ghost use Rattle.std.specs.Prelude.{◌≤◌, length};
+    ghost use Rattle.iol_listen.specs.Waiting.{Awaited};
+    ghost use Rattle.iol_listen.specs.declared.bounds.TheConstants.{MAX_WAITING};
+
+    ghost Value = { Awaited };
+
+    ghost view = { λ q. record { waiting = length q.waiting.items; left = q.left } };
+
+    ghost invariant = { λ q. length q.waiting.items ≤ MAX_WAITING };
+}
+
 impl<'a> Queue<'a> {
     /// A queue of the next connections of a listener, so many in all.
     pub fn new(
         alloc: Global,
         listener: &'a TcpListener,
         count: u32,
-    ) -> Result<Queue<'a>, AllocError> {
+    ) -> Result<Queue<'a>, AllocError>
+        ensures waiting { IfOk result (λ q. q.waiting ≡ 0) }
+        ensures left { IfOk result (λ q. q.left ≡ count) }
+    {
         Ok(Queue {
             listener,
             waiting: Vec::with_capacity(alloc, MAX_WAITING)?,
@@ -50,9 +70,14 @@ impl<'a> Queue<'a> {
         })
     }
 
-    /// The next connection that has asked, or ended; none once all that may be accepted were. One that is silent for five seconds
-    /// is dropped.
-    pub fn next(&mut self) -> Result<Option<TcpStream>, ServeFault> {
+    /// The next connection that has asked, or ended; none once all that may be accepted were. One at which so many looks hear
+    /// nothing, while no other is served, is dropped.
+    pub fn next(&mut self) -> Result<Option<TcpStream>, ServeFault>
+        ensures most { to_come self.new ≤ to_come self.old }
+        ensures fewer { IfOk result
+            (λ next. IfSome next (λ stream. to_come self.new < to_come self.old)) }
+        ensures none { IfOk result (λ next. IsNone next → to_come self.new ≡ 0) }
+    {
         for _ in 0..u64::MAX {
             if let Some(stream) = self.take_asking() {
                 return Ok(Some(stream));
@@ -65,39 +90,64 @@ impl<'a> Queue<'a> {
                 return Ok(None);
             }
         }
-        Ok(None)
+        Err(ServeFault::Accept)
+    }
+
+    /// How many connections were accepted and wait.
+    pub fn waiting(&self) -> usize
+        ensures waiting { result ≡ self.now.waiting }
+        ensures few { result ≤ MAX_WAITING }
+    {
+        self.waiting.len()
     }
 
     /// Whether a connection has asked, or ended.
-    pub fn is_asked(&mut self) -> bool {
-        self.accept_ready();
-        self.waiting.iter().any(|other| has_asked(&other.stream))
+    pub fn is_asked(&mut self) -> bool
+        ensures most { to_come self.new ≤ to_come self.old }
+        ensures asked { result ≡ true → 0 < self.new.waiting }
+    {
+        self.first_asking().is_some()
     }
 
-    // The first connection that has asked, if there is one.
-    fn take_asking(&mut self) -> Option<TcpStream> {
+    // Where the first connection stands that has asked, if one has.
+    fn first_asking(&mut self) -> Option<usize>
+        ensures most { to_come self.new ≤ to_come self.old }
+        ensures place { IfSome result (λ place. place < self.new.waiting) }
+    {
         self.accept_ready();
-        for place in 0..self.waiting.len() {
-            if has_asked(&self.waiting[place].stream) {
-                return Some(self.waiting.remove(place).stream);
-            }
-        }
-        None
+        self.waiting
+            .iter()
+            .position(|other| has_asked(&other.stream))
+    }
+
+    // The first connection that has asked, if one has.
+    fn take_asking(&mut self) -> Option<TcpStream>
+        ensures most { to_come self.new ≤ to_come self.old }
+        ensures fewer { IfSome result (λ stream. to_come self.new < to_come self.old) }
+    {
+        let place = self.first_asking()?;
+        Some(self.waiting.remove(place).stream)
     }
 
     // Waits a little for the first one to ask, and drops those that are silent too long.
-    fn look(&mut self) {
+    fn look(&mut self)
+        ensures { to_come self.new ≤ to_come self.old }
+    {
         if let Some(first) = self.waiting.first() {
             let _heard = first.stream.peek(&mut [0u8]);
         }
-        for other in self.waiting.iter_mut() {
+        self.waiting.retain_mut(|other| {
             other.looks = other.looks.saturating_add(1);
-        }
-        self.waiting.retain(|other| other.looks < MAX_LOOKS);
+            other.looks < MAX_LOOKS
+        });
     }
 
     // Waits for a connection. One that broke before it was accepted is no fault.
-    fn accept(&mut self) -> Result<(), ServeFault> {
+    fn accept(&mut self) -> Result<(), ServeFault>
+        requires room { self.old.waiting < MAX_WAITING }
+        requires left { 0 < self.old.left }
+        ensures { to_come self.new ≤ to_come self.old }
+    {
         match self.listener.accept() {
             Ok((stream, _)) => {
                 self.keep(stream);
@@ -109,7 +159,9 @@ impl<'a> Queue<'a> {
     }
 
     // Accepts the connections that are there, as long as there is room.
-    fn accept_ready(&mut self) {
+    fn accept_ready(&mut self)
+        ensures { to_come self.new ≤ to_come self.old }
+    {
         if self.left == 0 || self.listener.set_nonblocking(true).is_err() {
             return;
         }
@@ -127,8 +179,12 @@ impl<'a> Queue<'a> {
     }
 
     // Keeps a connection until it asks. One whose waits cannot be set, or for which there is no room, is dropped.
-    fn keep(&mut self, stream: TcpStream) {
-        self.left = self.left.saturating_sub(1);
+    fn keep(&mut self, stream: TcpStream)
+        requires room { self.old.waiting < MAX_WAITING }
+        requires left { 0 < self.old.left }
+        ensures { to_come self.new ≤ to_come self.old }
+    {
+        self.left -= 1;
         if set_waits(&stream).is_ok() {
             let _ = self.waiting.push(Waiting { stream, looks: 0 });
         }

@@ -1,0 +1,34 @@
+-- What serving the connections of a listener is: one after another, each alone.
+use Rattle.std.specs.Prelude.{◌≡◌, ◌≤◌, ◌⊎◌, ℕ, zero, suc, List}
+use Rattle.iol_core.specs.State.{State}
+use Rattle.iol_core.specs.declared.events.Event.TheVariants as event
+use Rattle.iol_core.specs.declared.events.Reply.{Reply}
+use Rattle.iol_core.specs.declared.events.Reply.TheVariants as reply
+use Rattle.iol_proc.specs.Turns.{Account}
+use Rattle.iol_proc.specs.World.{Stage, copying, OutsideStep}
+use Rattle.iol_serve.specs.Serving.{GoesOn}
+
+module _ {P : Type 0} (turns : Account P) where
+  -- From w, processes have turns and things happen to this connection alone.
+  pub record GoesAlone (c : ℕ) (w after : Stage State P) : Type 0 where
+    pub came : List ℕ
+    pub sent : List ℕ
+    pub goes_on : GoesOn turns c came sent w after
+
+  -- A connection of the pool is made, if there is a place for it, and served: then it alone goes on.
+  pub record ServesNext (pool : ℕ) (w after : Stage State P) : Type 0 where
+    pub answer : Reply
+    pub begun : Stage State P
+    pub made : OutsideStep copying turns w (event.ConnNew pool) answer begun
+    pub goes : (after ≡ begun) ⊎ ((c : ℕ) × (answer ≡ reply.Conn c) × GoesAlone c begun after)
+
+  -- so many connections, one after another
+  abbrev pub ServesEach : (pool count : ℕ) → Stage State P → Stage State P → Type 0
+  ServesEach pool zero w after = after ≡ w
+  ServesEach pool (suc n) w after = (mid : Stage State P) × ServesEach pool n w mid × ServesNext pool mid after
+
+  -- at most so many
+  pub record ServesSome (pool most : ℕ) (w after : Stage State P) : Type 0 where
+    pub count : ℕ
+    pub few : count ≤ most
+    pub each : ServesEach pool count w after
