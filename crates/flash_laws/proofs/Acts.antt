@@ -24,11 +24,12 @@ use Rattle.iol_core.specs.declared.events.Reply.TheVariants as reply
 use Rattle.flash_laws.specs.Answers.{Shelf, Begins, IsAnswer}
 use Rattle.flash_laws.specs.Conn.{Conn}
 use Rattle.flash_laws.specs.Fits.{Tie, Owes, Fits}
-use Rattle.flash_laws.specs.Past.{Past, net_pool, made_by, and_then, IsAct}
+use Rattle.flash_laws.specs.Past.{Past, net_pool, made_by, gone_by, and_then, IsAct}
 use Rattle.flash_laws.specs.Tied.{Waits, Ended, Foreign, Aside, AllFit}
 use Rattle.flash_laws.proofs.TheLaws.{TheLaws}
 use Rattle.flash_laws.proofs.Answering.{begins-less, begins-none}
-use Rattle.flash_laws.proofs.Lists.{not-equal, self}
+use Rattle.flash_laws.proofs.Lists.{not-equal, self, later_of}
+use Rattle.flash_laws.proofs.Peers.{IsTold, peer-done, over-done}
 use Rattle.flash_laws.proofs.Phases.{fits_changed, begins-tie}
 use Rattle.flash_laws.proofs.Turn.{held-open}
 use Rattle.flash_laws.proofs.Others.{outside}
@@ -36,24 +37,45 @@ use Rattle.flash_laws.proofs.Others.{outside}
 -- Histories.
 
 pub past-equal : (p q : Past) → ((c : ℕ) → q.came c ≡ p.came c) → ((c : ℕ) → q.sent c ≡ p.sent c)
-    → ((c : ℕ) → q.net c ≡ p.net c) → q ≡ p
-past-equal p q came sent net =
-    ap (λ (f : ℕ → List ℕ). record { came = f; sent = q.sent; net = q.net }) (fun_ext came)
-    ∙ (ap (λ (f : ℕ → List ℕ). record { came = p.came; sent = f; net = q.net }) (fun_ext sent)
-    ∙ ap (λ (f : ℕ → Bool). record { came = p.came; sent = p.sent; net = f }) (fun_ext net))
+    → ((c : ℕ) → q.net c ≡ p.net c) → ((c : ℕ) → q.gone c ≡ p.gone c) → q ≡ p
+past-equal p q came sent net gone =
+    ap (λ (f : ℕ → List ℕ). record { came = f; sent = q.sent; net = q.net; gone = q.gone }) (fun_ext came)
+    ∙ (ap (λ (f : ℕ → List ℕ). record { came = p.came; sent = f; net = q.net; gone = q.gone }) (fun_ext sent)
+    ∙ (ap (λ (f : ℕ → Bool). record { came = p.came; sent = p.sent; net = f; gone = q.gone }) (fun_ext net)
+    ∙ ap (λ (f : ℕ → Bool). record { came = p.came; sent = p.sent; net = p.net; gone = f }) (fun_ext gone)))
 
 or-false : (b c : Bool) → c ≡ false → (b || c) ≡ b
 or-false true c is = refl
 or-false false c is = is
 
--- an event that brings nothing in, sends nothing and makes nothing
+or-left : (b c : Bool) → b ≡ true → (b || c) ≡ true
+or-left true c is = refl
+or-left false c is = absurd (cc)
+
+-- an event that brings nothing in, sends nothing, makes nothing, and tells of no peer that left
 pub past-same : (p : Past) (e : Event) (r : Reply) → ((c : ℕ) → came_by c e r ≡ []) → ((c : ℕ)
-    → sent_by c e r ≡ []) → ((c : ℕ) → made_by c e r ≡ false) → and_then p e r ≡ p
-past-same p e r came sent net =
+    → sent_by c e r ≡ []) → ((c : ℕ) → made_by c e r ≡ false) → ((c : ℕ) → gone_by c e r ≡ false)
+    → and_then p e r ≡ p
+past-same p e r came sent net gone =
     past-equal p (and_then p e r)
     (λ c. ap (λ (l : List ℕ). p.came c ++ l) (came c) ∙ append-nil (p.came c))
     (λ c. ap (λ (l : List ℕ). p.sent c ++ l) (sent c) ∙ append-nil (p.sent c))
     (λ c. or-false (p.net c) (made_by c e r) (net c))
+    (λ c. or-false (p.gone c) (gone_by c e r) (gone c))
+
+-- one that was refused told nothing
+none-told : (c z : ℕ) (w : How) (x : Refusal) → gone_by z (event.PeerClosed c w) (reply.Refused x) ≡ false
+none-told c z how.Done x = refl
+none-told c z how.Gone x = refl
+
+-- after a peer closed
+abbrev peer_told : Past → (c : ℕ) → How → Past
+peer_told p c w = record { came = p.came; sent = p.sent; net = p.net; gone = λ z. p.gone z || gone_by z (event.PeerClosed c w) reply.Done }
+
+past-told : (p : Past) (c : ℕ) (w : How) → and_then p (event.PeerClosed c w) reply.Done ≡ peer_told p c w
+past-told p c w =
+    past-equal (peer_told p c w) (and_then p (event.PeerClosed c w) reply.Done)
+    (λ z. append-nil (p.came z)) (λ z. append-nil (p.sent z)) (λ z. or-false (p.net z) false refl) (λ z. refl)
 
 -- one that does nothing
 module _ (shelf : Shelf) where
@@ -133,8 +155,9 @@ module _ (shelf : Shelf) (the : TheLaws) where
         came = λ z differ. ap (λ b. p.came z ++ (if b then take k bytes else [])) (other-number c z differ) ∙ append-nil (p.came z);
         sent = λ z differ. append-nil (p.sent z);
         net = λ z differ. or-false (p.net z) false refl;
+        gone = λ z differ. or-false (p.gone z) false refl;
       })
-      fits aside (λ more. absurd (open_yet more)) all
+      fits aside left (λ more. absurd (open_yet more)) all
     where
       leaves : Leaves m (event.Arrive c bytes) n
       leaves = the.steps.leaves m n (event.Arrive c bytes) (reply.Count k) step
@@ -166,6 +189,9 @@ module _ (shelf : Shelf) (the : TheLaws) where
       aside (inr (inr w)) = inr (inr (record { other_pool = or-false (p.net c) false refl ∙ w.other_pool; taken = ap (λ (z : Connection). z.accepted) did.conn ∙ w.taken }))
       aside (inr (inl w)) = (let a = did.open_yet in let b = w.closed in absurd (cc (a, b)))
 
+      left : IsTold (p.gone c || false) (conn_at n c)
+      left still gone = absurd (let here = ap (λ (w : Option How). is_gone w) did.peer_open in let there = ap (λ (z : Connection). is_gone z.peer) did.conn in cc (here, there, gone))
+
   -- Bytes are sent.
 
   pub transmits : (m n : State) (p : Past) (conns : List (Option Conn)) (c max : ℕ) (bytes : List ℕ) (sum : ℕ)
@@ -179,8 +205,9 @@ module _ (shelf : Shelf) (the : TheLaws) where
         came = λ z differ. append-nil (p.came z);
         sent = λ z differ. ap (λ b. p.sent z ++ (if b then bytes else [])) (other-number c z differ) ∙ append-nil (p.sent z);
         net = λ z differ. or-false (p.net z) false refl;
+        gone = λ z differ. or-false (p.gone z) false refl;
       })
-      fits aside (λ more. absurd (some_there more)) all
+      fits aside left (λ more. absurd (some_there more)) all
     where
       leaves : Leaves m (event.Transmit c max) n
       leaves = the.steps.leaves m n (event.Transmit c max) (reply.Segment bytes sum) step
@@ -213,18 +240,21 @@ module _ (shelf : Shelf) (the : TheLaws) where
       aside (inr (inl w)) = inr (inl (record {
         closed = (elim did.conn [ inl conn ↦ ap (λ (z : Connection). z.closed) conn ∙ w.closed | inr over ↦ over.1 ]);
         begins = subst (λ (l : List ℕ). Begins shelf l ((p.sent c ++ (if c == c then bytes else [])) ++ bytes_of (conn_at n c).outgoing)) (sym (append-nil (p.came c))) (subst (λ (l : List ℕ). Begins shelf (p.came c) l) total w.begins);
-        whole = elim did.left [
-          | inr none ↦ inl (ap (λ (z : Connection). is_gone z.peer) none)
-          | inl same ↦ elim w.whole [
-            | inl gone ↦ inl (ap (λ (z : Option How). is_gone z) same ∙ gone)
-            | inr all ↦ inr (subst (λ (l : List ℕ). IsAnswer shelf l ((p.sent c ++ (if c == c then bytes else [])) ++ bytes_of (conn_at n c).outgoing)) (sym (append-nil (p.came c))) (subst (λ (l : List ℕ). IsAnswer shelf (p.came c) l) total all))
-          ]
+        whole = elim w.whole [
+          | inl gone ↦ inl (or-left (p.gone c) false gone)
+          | inr all ↦ inr (subst (λ (l : List ℕ). IsAnswer shelf l ((p.sent c ++ (if c == c then bytes else [])) ++ bytes_of (conn_at n c).outgoing)) (sym (append-nil (p.came c))) (subst (λ (l : List ℕ). IsAnswer shelf (p.came c) l) total all))
         ];
       }))
       aside (inr (inr w)) = inr (inr (record {
         other_pool = or-false (p.net c) false refl ∙ w.other_pool;
         taken = (elim did.conn [ inl conn ↦ ap (λ (z : Connection). z.accepted) conn ∙ w.taken | inr over ↦ was-accepted n c order_n over.1 ]);
       }))
+
+      left : IsTold (p.gone c || false) (conn_at n c)
+      left still gone = elim did.conn [
+        | inl conn ↦ or-left (p.gone c) false (all.left c (ap (λ (z : Connection). z.closed) (sym conn) ∙ still) (ap (λ (z : Connection). is_gone z.peer) (sym conn) ∙ gone))
+        | inr over ↦ (let closed = over.1 in absurd (cc (closed, still)))
+      ]
 
   -- The peer closes.
 
@@ -250,16 +280,12 @@ module _ (shelf : Shelf) (the : TheLaws) where
   outgoing-less k how.Done s sent b = b
   outgoing-less k how.Gone s sent b = subst (λ (l : List ℕ). Begins shelf s l) (sym (append-nil sent)) (begins-less shelf s sent (bytes_of k.outgoing) b)
 
-  whole-closed : (k : Connection) (w : How) (s sent : List ℕ)
-      → (is_gone k.peer ≡ true) ⊎ IsAnswer shelf s (sent ++ bytes_of k.outgoing)
-      → (is_gone (closed_by k w).peer ≡ true) ⊎ IsAnswer shelf s (sent ++ bytes_of (closed_by k w).outgoing)
-  whole-closed k how.Gone s sent whole = inl refl
-  whole-closed k how.Done s sent (inr all) = inr all
-  whole-closed k how.Done s sent (inl gone) = inl (still (is_gone k.peer) gone)
-    where
-      still : (b : Bool) → b ≡ true → is_gone (if b then Some how.Gone else Some how.Done) ≡ true
-      still true is = refl
-      still false is = absurd (cc)
+  whole-closed : (k : Connection) (c : ℕ) (w : How) (s sent : List ℕ) (left : Bool)
+      → (left ≡ true) ⊎ IsAnswer shelf s (sent ++ bytes_of k.outgoing)
+      → ((left || gone_by c (event.PeerClosed c w) reply.Done) ≡ true) ⊎ IsAnswer shelf s (sent ++ bytes_of (closed_by k w).outgoing)
+  whole-closed k c how.Gone s sent left whole = inl (later_of left (c == c) (self c))
+  whole-closed k c how.Done s sent left (inr all) = inr all
+  whole-closed k c how.Done s sent left (inl gone) = inl (or-left left false gone)
 
   tie-closed : (took sent : List ℕ) (x : Conn) (k : Connection) (w : How) → Tie shelf k took sent x
       → Tie shelf (closed_by k w) took sent x
@@ -293,11 +319,11 @@ module _ (shelf : Shelf) (the : TheLaws) where
 
   pub peer_closes : (m n : State) (p : Past) (conns : List (Option Conn)) (c : ℕ) (w : How) → IsOrderly m
       → IsOrderly n → StepsTo m (event.PeerClosed c w) reply.Done n → AllFit shelf m p conns
-      → AllFit shelf n p conns
+      → AllFit shelf n (peer_told p c w) conns
   peer_closes m n p conns c w order order_n step all =
-      outside shelf the m n p p conns (event.PeerClosed c w) reply.Done c order step (λ g. refl) (λ a. refl) refl
-      (λ z differ. leaves.conns z (other-number c z differ)) (record { came = λ z differ. refl; sent = λ z differ. refl; net = λ z differ. refl })
-      fits aside (λ more. let up = the.rises m n (event.PeerClosed c w) reply.Done step in all.fresh c (omega (arith, up, more))) all
+      outside shelf the m n p (peer_told p c w) conns (event.PeerClosed c w) reply.Done c order step (λ g. refl) (λ a. refl) refl
+      (λ z differ. leaves.conns z (other-number c z differ)) (record { came = λ z differ. refl; sent = λ z differ. refl; net = λ z differ. refl; gone = λ z differ. or-false (p.gone z) (gone_by z (event.PeerClosed c w) reply.Done) (elsewhere w z differ) })
+      fits aside (left w step) (λ more. let up = the.rises m n (event.PeerClosed c w) reply.Done step in all.fresh c (omega (arith, up, more))) all
     where
       leaves : Leaves m (event.PeerClosed c w) n
       leaves = the.steps.leaves m n (event.PeerClosed c w) reply.Done step
@@ -318,11 +344,54 @@ module _ (shelf : Shelf) (the : TheLaws) where
           by (inr (inl a)) = (let s = stays.0 in let q = a.0 in absurd (cc (s, q)))
           by (inr (inr b)) = (let s = stays.1 in let q = b.0 in absurd (cc (s, q)))
 
-      aside : Aside shelf p c (conn_at m c) → Aside shelf p c (conn_at n c)
+      -- of others nothing is told
+      elsewhere : (w : How) (z : ℕ) → c ≢ z → gone_by z (event.PeerClosed c w) reply.Done ≡ false
+      elsewhere how.Done z differ = refl
+      elsewhere how.Gone z differ = other-number c z differ
+
+      was-gone : (b : Bool) → is_gone (if b then Some how.Gone else Some how.Done) ≡ true → b ≡ true
+      was-gone true is = refl
+      was-gone false is = is
+
+      left : (w : How) → StepsTo m (event.PeerClosed c w) reply.Done n
+          → IsTold (p.gone c || gone_by c (event.PeerClosed c w) reply.Done) (conn_at n c)
+      left how.Gone step still gone = later_of (p.gone c) (c == c) (self c)
+      left how.Done step still gone = elim (peer-done m n c order step) [
+        | inl conn ↦ or-left (p.gone c) false (all.left c (ap (λ (z : Connection). z.closed) (sym conn) ∙ still) (was-gone (is_gone (conn_at m c).peer) (ap (λ (z : Connection). is_gone z.peer) (sym conn) ∙ gone)))
+        | inr over ↦ (let closed = ap (λ (z : Connection). z.closed) over.0 in absurd (cc (closed, still)))
+      ]
+
+      -- one that nobody had accepted is forgotten where its peer left
+      unaccepted : (w : How) → StepsTo m (event.PeerClosed c w) reply.Done n → (conn_at m c).accepted ≡ false
+          → (conn_at n c).closed ≡ true → (p.gone c || gone_by c (event.PeerClosed c w) reply.Done) ≡ true
+      unaccepted how.Gone step waits closed = later_of (p.gone c) (c == c) (self c)
+      unaccepted how.Done step waits closed = elim (peer-done m n c order step) [
+        | inl conn ↦ (let was = order.waits c waits in let is = ap (λ (z : Connection). z.closed) conn in absurd (cc (was, is, closed)))
+        | inr over ↦ elim (over-done (conn_at m c) over.1).1 [
+          | inl is ↦ (let was = order.waits c waits in absurd (cc (was, is)))
+          | inr gone ↦ or-left (p.gone c) false (all.left c (order.waits c waits) gone)
+        ]
+      ]
+
+      -- one that was closed is forgotten where its peer left, or where nothing was to be sent
+      forgotten : (w : How) → StepsTo m (event.PeerClosed c w) reply.Done n → (conn_at n c).outgoing ≡ []
+          → (p.gone c ≡ true) ⊎ IsAnswer shelf (p.came c) (p.sent c ++ bytes_of (conn_at m c).outgoing)
+          → ((p.gone c || gone_by c (event.PeerClosed c w) reply.Done) ≡ true) ⊎ IsAnswer shelf (p.came c) (p.sent c ++ bytes_of (conn_at n c).outgoing)
+      forgotten how.Gone step none whole = inl (later_of (p.gone c) (c == c) (self c))
+      forgotten how.Done step none (inl gone) = inl (or-left (p.gone c) false gone)
+      forgotten how.Done step none (inr whole) = inr (subst (λ (t : Text). IsAnswer shelf (p.came c) (p.sent c ++ bytes_of t)) same whole)
+        where
+          same : (conn_at m c).outgoing ≡ (conn_at n c).outgoing
+          same = elim (peer-done m n c order step) [
+            | inl conn ↦ ap (λ (z : Connection). z.outgoing) (sym conn)
+            | inr over ↦ (over-done (conn_at m c) over.1).0 ∙ sym none
+          ]
+
+      aside : Aside shelf p c (conn_at m c) → Aside shelf (peer_told p c w) c (conn_at n c)
       aside a = by did a
         where
-          by : o.PeerCloses m c w reply.Done n → Aside shelf p c (conn_at m c) → Aside shelf p c (conn_at n c)
-          by (inl conn) (inl v) = inl (subst (λ (z : Connection). Waits p c z) (sym conn) (record {
+          by : o.PeerCloses m c w reply.Done n → Aside shelf p c (conn_at m c) → Aside shelf (peer_told p c w) c (conn_at n c)
+          by (inl conn) (inl v) = inl (subst (λ (z : Connection). Waits (peer_told p c w) c z) (sym conn) (record {
             waits = accepted-same (conn_at m c) w ∙ v.waits;
             pool_is = λ net. pool-same (conn_at m c) w ∙ v.pool_is net;
             came_is = v.came_is ∙ ap (λ (t : Text). bytes_of t) (sym (incoming-same (conn_at m c) w));
@@ -332,12 +401,12 @@ module _ (shelf : Shelf) (the : TheLaws) where
               silent : (w : How) → (closed_by (conn_at m c) w).outgoing ≡ (conn_at m c).outgoing
               silent how.Done = refl
               silent how.Gone = sym (order.silent c v.waits)
-          by (inl conn) (inr (inl v)) = inr (inl (subst (λ (z : Connection). Ended shelf p c z) (sym conn) (record { closed = closed-same (conn_at m c) w ∙ v.closed; begins = outgoing-less (conn_at m c) w (p.came c) (p.sent c) v.begins; whole = whole-closed (conn_at m c) w (p.came c) (p.sent c) v.whole })))
-          by (inl conn) (inr (inr v)) = inr (inr (subst (λ (z : Connection). Foreign p c z) (sym conn) (record { other_pool = v.other_pool; taken = accepted-same (conn_at m c) w ∙ v.taken })))
+          by (inl conn) (inr (inl v)) = inr (inl (subst (λ (z : Connection). Ended shelf (peer_told p c w) c z) (sym conn) (record { closed = closed-same (conn_at m c) w ∙ v.closed; begins = outgoing-less (conn_at m c) w (p.came c) (p.sent c) v.begins; whole = whole-closed (conn_at m c) c w (p.came c) (p.sent c) (p.gone c) v.whole })))
+          by (inl conn) (inr (inr v)) = inr (inr (subst (λ (z : Connection). Foreign (peer_told p c w) c z) (sym conn) (record { other_pool = v.other_pool; taken = accepted-same (conn_at m c) w ∙ v.taken })))
           by (inr (inl g)) (inl v) = inr (inl (record {
             closed = g.1;
             begins = subst (λ (l : List ℕ). Begins shelf (p.came c) l) (sym (ap (λ (t : Text). p.sent c ++ bytes_of t) (g.2 ∙ sym g.3) ∙ v.none_sent)) (begins-none shelf (p.came c));
-            whole = inl (ap (λ (z : Connection). is_gone z.peer) g.4);
+            whole = inl (unaccepted w step v.waits g.1);
           }))
           by (inr (inl g)) (inr (inl v)) = (let a = order.waits c g.0 in let b = v.closed in absurd (cc (a, b)))
           by (inr (inl g)) (inr (inr v)) = (let a = g.0 in let b = v.taken in absurd (cc (a, b)))
@@ -345,7 +414,7 @@ module _ (shelf : Shelf) (the : TheLaws) where
           by (inr (inr g)) (inr (inl v)) = inr (inl (record {
             closed = g.1;
             begins = subst (λ (t : Text). Begins shelf (p.came c) (p.sent c ++ bytes_of t)) (sym g.2) (subst (λ (l : List ℕ). Begins shelf (p.came c) l) (sym (append-nil (p.sent c))) (begins-less shelf (p.came c) (p.sent c) (bytes_of (conn_at m c).outgoing) v.begins));
-            whole = inl (ap (λ (z : Connection). is_gone z.peer) g.3);
+            whole = forgotten w step g.2 v.whole;
           }))
           by (inr (inr g)) (inr (inr v)) = inr (inr (record { other_pool = v.other_pool; taken = was-accepted n c order_n g.1 }))
 
@@ -368,9 +437,11 @@ module _ (shelf : Shelf) (the : TheLaws) where
         came = λ z differ. append-nil (p.came z);
         sent = λ z differ. append-nil (p.sent z);
         net = λ z differ. or-false (p.net z) ((c == z) && (pool == net_pool)) (ap (λ b. b && (pool == net_pool)) (other-number c z differ));
+        gone = λ z differ. or-false (p.gone z) false refl;
       })
       (λ fd x f. let a = (held-open m fd c order f.open_on).1 in let b = ap (λ (k : Connection). k.closed) did.new in absurd (cc (a, b)))
       (λ aside. inl waits)
+      (λ still gone. absurd (let is = ap (λ (k : Connection). is_gone k.peer) did.conn in cc (is, gone)))
       (λ more. let up = numbers.1 in let is = numbers.0 in absurd (omega (arith, up, is, more))) all
     where
       leaves : Leaves m (event.ConnNew pool) n
@@ -413,32 +484,32 @@ module _ (shelf : Shelf) (the : TheLaws) where
       by : (r : Reply) → o.MakesConn m pool r n → StepsTo m (event.ConnNew pool) r n
           → AllFit shelf n (and_then p (event.ConnNew pool) r) conns
       by (reply.Conn c) did step = connects m n p conns pool c order step all
-      by (reply.Refused x) did step = nothing shelf m n p conns (event.ConnNew pool) (reply.Refused x) did (past-same p (event.ConnNew pool) (reply.Refused x) (λ c. refl) (λ c. refl) (λ c. refl)) all
+      by (reply.Refused x) did step = nothing shelf m n p conns (event.ConnNew pool) (reply.Refused x) did (past-same p (event.ConnNew pool) (reply.Refused x) (λ c. refl) (λ c. refl) (λ c. refl) (λ c. refl)) all
       by r did step = absurd did
   acts m n p conns (event.Arrive c bytes) r act order order_n step all = by r (the.other.arrive m n c bytes r order step) step
     where
       by : (r : Reply) → o.Arrives m c bytes r n → StepsTo m (event.Arrive c bytes) r n
           → AllFit shelf n (and_then p (event.Arrive c bytes) r) conns
       by (reply.Count k) did step = arrives m n p conns c bytes k order step all
-      by (reply.Refused x) did step = nothing shelf m n p conns (event.Arrive c bytes) (reply.Refused x) did (past-same p (event.Arrive c bytes) (reply.Refused x) (λ z. refl) (λ z. refl) (λ z. refl)) all
+      by (reply.Refused x) did step = nothing shelf m n p conns (event.Arrive c bytes) (reply.Refused x) did (past-same p (event.Arrive c bytes) (reply.Refused x) (λ z. refl) (λ z. refl) (λ z. refl) (λ z. refl)) all
       by r did step = absurd did
   acts m n p conns (event.PeerClosed c w) r act order order_n step all = by r (the.other.peer_closed m n c w r order step) step
     where
       by : (r : Reply) → o.PeerCloses m c w r n → StepsTo m (event.PeerClosed c w) r n
           → AllFit shelf n (and_then p (event.PeerClosed c w) r) conns
-      by reply.Done did step = subst (λ (q : Past). AllFit shelf n q conns) (sym (past-same p (event.PeerClosed c w) reply.Done (λ z. refl) (λ z. refl) (λ z. refl))) (peer_closes m n p conns c w order order_n step all)
-      by (reply.Refused x) did step = nothing shelf m n p conns (event.PeerClosed c w) (reply.Refused x) did (past-same p (event.PeerClosed c w) (reply.Refused x) (λ z. refl) (λ z. refl) (λ z. refl)) all
+      by reply.Done did step = subst (λ (q : Past). AllFit shelf n q conns) (sym (past-told p c w)) (peer_closes m n p conns c w order order_n step all)
+      by (reply.Refused x) did step = nothing shelf m n p conns (event.PeerClosed c w) (reply.Refused x) did (past-same p (event.PeerClosed c w) (reply.Refused x) (λ z. refl) (λ z. refl) (λ z. refl) (λ z. none-told c z w x)) all
       by r did step = absurd did
   acts m n p conns (event.Transmit c max) r act order order_n step all = by r (the.other.transmit m n c max r order step) step
     where
       by : (r : Reply) → o.Transmits m c r n → StepsTo m (event.Transmit c max) r n
           → AllFit shelf n (and_then p (event.Transmit c max) r) conns
       by (reply.Segment bytes sum) did step = transmits m n p conns c max bytes sum order order_n step all
-      by (reply.Refused x) did step = nothing shelf m n p conns (event.Transmit c max) (reply.Refused x) did (past-same p (event.Transmit c max) (reply.Refused x) (λ z. refl) (λ z. refl) (λ z. refl)) all
+      by (reply.Refused x) did step = nothing shelf m n p conns (event.Transmit c max) (reply.Refused x) did (past-same p (event.Transmit c max) (reply.Refused x) (λ z. refl) (λ z. refl) (λ z. refl) (λ z. refl)) all
       by r did step = absurd did
-  acts m n p conns event.Flush r act order order_n step all = nothing shelf m n p conns event.Flush r (does-nothing (meaning m event.Flush) m n (outcome r) refl step) (past-same p event.Flush r (λ z. refl) (λ z. refl) (λ z. refl)) all
-  acts m n p conns event.DropClean r act order order_n step all = nothing shelf m n p conns event.DropClean r (does-nothing (meaning m event.DropClean) m n (outcome r) refl step) (past-same p event.DropClean r (λ z. refl) (λ z. refl) (λ z. refl)) all
+  acts m n p conns event.Flush r act order order_n step all = nothing shelf m n p conns event.Flush r (does-nothing (meaning m event.Flush) m n (outcome r) refl step) (past-same p event.Flush r (λ z. refl) (λ z. refl) (λ z. refl) (λ z. refl)) all
+  acts m n p conns event.DropClean r act order order_n step all = nothing shelf m n p conns event.DropClean r (does-nothing (meaning m event.DropClean) m n (outcome r) refl step) (past-same p event.DropClean r (λ z. refl) (λ z. refl) (λ z. refl) (λ z. refl)) all
 
   -- a call brings nothing in and sends nothing
   pub past-call : (p : Past) (d : ℕ) (k : Call) (r : Reply) → and_then p (event.Call d k) r ≡ p
-  past-call p d k r = past-same p (event.Call d k) r (λ z. refl) (λ z. refl) (λ z. refl)
+  past-call p d k r = past-same p (event.Call d k) r (λ z. refl) (λ z. refl) (λ z. refl) (λ z. refl)

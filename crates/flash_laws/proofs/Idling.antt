@@ -149,12 +149,12 @@ module _ (shelf : Shelf) (files : FileCallsServeTheirDomain) (reasons : Refusals
           (may-block (p.came there.conn) (p.sent there.conn) held.fd there.conn held.conn.kept held.conn.q held.conn.doing there.fits would.1))
 
       whole : (c : ℕ) → p.net c ≡ true → (conn_at m c).accepted ≡ true
-          → is_gone (conn_at m c).peer ≡ false → Held m conns c ⊎ Aside shelf p c (conn_at m c)
+          → p.gone c ≡ false → Held m conns c ⊎ Aside shelf p c (conn_at m c)
           → IsAnswer shelf (p.came c) (p.sent c ++ bytes_of (conn_at m c).outgoing) ⊎ (MAX_QUEUE_BYTES ≤ length (conn_at m c).outgoing)
       whole c net was live (inl held) = held-whole c held
       whole c net was live (inr (inl waits)) = (let a = waits.waits in absurd (cc (a, was)))
       whole c net was live (inr (inr (inr foreign))) = (let a = foreign.other_pool in absurd (cc (a, net)))
-      whole c net was live (inr (inr (inl ended))) = elim ended.whole [ inl gone ↦ absurd (clash (is_gone (conn_at m c).peer) gone live) | inr done ↦ inl done ]
+      whole c net was live (inr (inr (inl ended))) = elim ended.whole [ inl gone ↦ absurd (clash (p.gone c) gone live) | inr done ↦ inl done ]
 
 -- Where a world is tied and idle, all is done.
 pub idle-done : {W : Type 0} (works : Account W) (Ready : State → ℕ → W → Reply

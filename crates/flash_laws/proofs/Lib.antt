@@ -5,6 +5,7 @@ pub mod Counts
 pub mod Lent
 pub mod Having
 pub mod Phases
+pub mod Peers
 pub mod Uses
 pub mod Turn
 pub mod Others

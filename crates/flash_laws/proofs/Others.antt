@@ -6,7 +6,7 @@ use Rattle.std.proofs.lemmas.Bool.{cases_eq}
 use Rattle.std.proofs.lemmas.Bool.Decides.{nat_tests}
 use Rattle.std.proofs.lemmas.Grind.{common_steps}
 use Rattle.iol_core.specs.Text.{bytes_of}
-use Rattle.iol_core.specs.State.{State, Connection, File as FileEntry, descriptor, conn_at, is_gone, may_read, pool, is_pool, file, content}
+use Rattle.iol_core.specs.State.{State, Connection, File as FileEntry, descriptor, conn_at, may_read, pool, is_pool, file, content}
 use Rattle.iol_core.specs.Calls.Files.{file_called}
 use Rattle.iol_core.specs.Run.{StepsTo}
 use Rattle.iol_core.specs.Values.{gives_up}
@@ -26,6 +26,7 @@ use Rattle.flash_laws.specs.Past.{Past, net_pool}
 use Rattle.flash_laws.specs.Tied.{Waits, Ended, Held, Aside, AllFit}
 use Rattle.flash_laws.proofs.TheLaws.{TheLaws}
 use Rattle.flash_laws.proofs.Lent.{file-same, content-same}
+use Rattle.flash_laws.proofs.Peers.{IsTold, told-call}
 use Rattle.flash_laws.proofs.Phases.{fits_left}
 use Rattle.flash_laws.proofs.Turn.{held-open}
 
@@ -109,6 +110,7 @@ pub record SameBut (p q : Past) (c : ℕ) : Type 0 where
   pub came : (k : ℕ) → c ≢ k → q.came k ≡ p.came k
   pub sent : (k : ℕ) → c ≢ k → q.sent k ≡ p.sent k
   pub net : (k : ℕ) → c ≢ k → q.net k ≡ p.net k
+  pub gone : (k : ℕ) → c ≢ k → q.gone k ≡ p.gone k
 
 module _ (shelf : Shelf) (the : TheLaws) where
   -- a call of another domain leaves all of the server's connections, those that wait for it and those that have ended
@@ -126,6 +128,7 @@ module _ (shelf : Shelf) (the : TheLaws) where
     others = λ c. somewhere c (all.others c);
     aggs_apart = all.aggs_apart;
     fds_apart = all.fds_apart;
+    left = λ c. told-call (p.gone c) m n d k r c order step (all.left c);
     fresh = λ c more. let up = the.rises m n (event.Call d k) r step in all.fresh c (omega (arith, up, more));
   }
     where
@@ -173,9 +176,10 @@ module _ (shelf : Shelf) (the : TheLaws) where
       → ((k : ℕ) → c ≢ k → conn_at n k ≡ conn_at m k) → SameBut p q c
       → ((fd : ℕ) (x : Conn) → Fits shelf m (p.came c) (p.sent c) fd c x → Fits shelf n (q.came c) (q.sent c) fd c x)
       → (Aside shelf p c (conn_at m c) → Aside shelf q c (conn_at n c))
+      → IsTold (q.gone c) (conn_at n c)
       → (n.next_conn ≤ c → (q.came c ≡ []) × (q.sent c ≡ []) × (q.net c ≡ false))
       → AllFit shelf m p conns → AllFit shelf n q conns
-  outside m n p q conns e r c order step un_fds un_aggs calm same past fits_c aside_c fresh_c all = record {
+  outside m n p q conns e r c order step un_fds un_aggs calm same past fits_c aside_c left_c fresh_c all = record {
     each = λ fd x is. let at = all.each fd x is in elim (cases_eq c at.conn) [
       | inl here ↦ record { conn = c; fits = fits_c fd x (subst (λ k. Fits shelf m (p.came k) (p.sent k) fd k x) (sym here) at.fits) }
       | inr differ ↦ record {
@@ -190,6 +194,10 @@ module _ (shelf : Shelf) (the : TheLaws) where
     ];
     aggs_apart = all.aggs_apart;
     fds_apart = all.fds_apart;
+    left = λ k. elim (cases_eq c k) [
+      | inl here ↦ subst (λ z. IsTold (q.gone z) (conn_at n z)) here left_c
+      | inr differ ↦ subst (λ b. IsTold b (conn_at n k)) (sym (past.gone k differ)) (subst (λ (z : Connection). IsTold (p.gone k) z) (sym (same k differ)) (all.left k))
+    ];
     fresh = λ k more. elim (cases_eq c k) [
       | inl here ↦ subst (λ z. (q.came z ≡ []) × (q.sent z ≡ []) × (q.net z ≡ false)) here (fresh_c (subst (λ z. n.next_conn ≤ z) (sym here) more))
       | inr differ ↦ (let up = the.rises m n e r step in let was = all.fresh k (omega (arith, up, more)) in (past.came k differ ∙ was.0, past.sent k differ ∙ was.1, past.net k differ ∙ was.2))
@@ -217,8 +225,11 @@ module _ (shelf : Shelf) (the : TheLaws) where
         begins = subst (λ (l : List ℕ). Begins shelf (q.came k) (l ++ bytes_of (conn_at n k).outgoing)) (sym (past.sent k differ))
             (subst (λ (l : List ℕ). Begins shelf l (p.sent k ++ bytes_of (conn_at n k).outgoing)) (sym (past.came k differ))
             (subst (λ (z : Connection). Begins shelf (p.came k) (p.sent k ++ bytes_of z.outgoing)) (sym (same k differ)) w.begins));
-        whole = subst (λ (l : List ℕ). (is_gone (conn_at n k).peer ≡ true) ⊎ IsAnswer shelf (q.came k) (l ++ bytes_of (conn_at n k).outgoing)) (sym (past.sent k differ))
-            (subst (λ (l : List ℕ). (is_gone (conn_at n k).peer ≡ true) ⊎ IsAnswer shelf l (p.sent k ++ bytes_of (conn_at n k).outgoing)) (sym (past.came k differ))
-            (subst (λ (z : Connection). (is_gone z.peer ≡ true) ⊎ IsAnswer shelf (p.came k) (p.sent k ++ bytes_of z.outgoing)) (sym (same k differ)) w.whole));
+        whole = elim w.whole [
+          | inl gone ↦ inl (past.gone k differ ∙ gone)
+          | inr all ↦ inr (subst (λ (l : List ℕ). IsAnswer shelf (q.came k) (l ++ bytes_of (conn_at n k).outgoing)) (sym (past.sent k differ))
+              (subst (λ (l : List ℕ). IsAnswer shelf l (p.sent k ++ bytes_of (conn_at n k).outgoing)) (sym (past.came k differ))
+              (subst (λ (z : Connection). IsAnswer shelf (p.came k) (p.sent k ++ bytes_of z.outgoing)) (sym (same k differ)) all)))
+        ];
       })))
       another k differ (inr (inr (inr w))) = inr (inr (inr (record { other_pool = past.net k differ ∙ w.other_pool; taken = ap (λ (z : Connection). z.accepted) (same k differ) ∙ w.taken })))

@@ -656,23 +656,21 @@ module _ (shelf : Shelf) (the : TheLaws) (m n : State) (came sent : List ℕ) (f
   -- a connection that is closed keeps what was sent, which begins the answer, and is all of it unless the peer left before
   pub closes : (laws : WindowLaws) (q : Answer) → Was q Closes
       → StepsTo m (event.Call server (call.Close fd)) reply.Done n
-      → ((conn_at n c).closed ≡ true) × Begins shelf came (sent ++ bytes_of (conn_at n c).outgoing) × ((is_gone (conn_at n c).peer ≡ true) ⊎ IsAnswer shelf came (sent ++ bytes_of (conn_at n c).outgoing))
+      → ((conn_at n c).closed ≡ true) × Begins shelf came (sent ++ bytes_of (conn_at n c).outgoing) × ((is_gone (conn_at m c).peer ≡ true) ⊎ IsAnswer shelf came (sent ++ bytes_of (conn_at n c).outgoing))
   closes laws q f step =
       let did = the.own.closes_conn m n server fd c reply.Done order f.open_on step in
       let begun = begins-append laws shelf f.took (bytes_of (conn_at m c).incoming) (sent ++ bytes_of (conn_at m c).outgoing) (begins-tie shelf (conn_at m c) f.took sent (at q Closes) f.tie) in (
         did.0,
         subst (λ (l : List ℕ). Begins shelf l (sent ++ bytes_of (conn_at n c).outgoing)) (sym f.came_is) (subst (λ (t : Text). Begins shelf (f.took ++ bytes_of (conn_at m c).incoming) (sent ++ bytes_of t)) (sym did.1) begun),
-        whole did.2 did.1 f.tie,
+        whole did.1 f.tie,
       )
     where
-      whole : ((conn_at n c).peer ≡ (conn_at m c).peer) ⊎ (conn_at n c ≡ no_conn)
-          → (conn_at n c).outgoing ≡ (conn_at m c).outgoing
+      whole : (conn_at n c).outgoing ≡ (conn_at m c).outgoing
           → Tie shelf (conn_at m c) f.took sent (at q Closes)
-          → (is_gone (conn_at n c).peer ≡ true) ⊎ IsAnswer shelf came (sent ++ bytes_of (conn_at n c).outgoing)
-      whole peer out (inl o) = absurd (let bad = o.busy in cc (bad))
-      whole (inr none) out tie = inl (ap (λ (x : Connection). is_gone x.peer) none)
-      whole (inl same) out (inr h) = elim h.silent [
-        | inl gone ↦ inl (ap (λ (w : Option How). is_gone w) same ∙ gone)
+          → (is_gone (conn_at m c).peer ≡ true) ⊎ IsAnswer shelf came (sent ++ bytes_of (conn_at n c).outgoing)
+      whole out (inl o) = absurd (let bad = o.busy in cc (bad))
+      whole out (inr h) = elim h.silent [
+        | inl gone ↦ inl gone
         | inr u ↦ inr (subst (λ (l : List ℕ). IsAnswer shelf l (sent ++ bytes_of (conn_at n c).outgoing)) (sym f.came_is) (subst (λ (t : Text). IsAnswer shelf (f.took ++ bytes_of (conn_at m c).incoming) (sent ++ bytes_of t)) (sym out) (finished-whole laws shelf (conn_at m c) f.took (sent ++ bytes_of (conn_at m c).outgoing) u.1)))
       ]
 

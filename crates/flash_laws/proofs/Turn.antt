@@ -21,7 +21,7 @@ use Rattle.iol_core.specs.declared.events.Event.TheVariants as event
 use Rattle.iol_core.specs.declared.events.Reply.{Reply}
 use Rattle.iol_core.specs.declared.events.Reply.TheVariants as reply
 use Rattle.flash_http.specs.Request.{Answer, serve, refuse}
-use Rattle.flash_laws.specs.Answers.{Shelf, due_to, Begins}
+use Rattle.flash_laws.specs.Answers.{Shelf, due_to, Begins, IsAnswer}
 use Rattle.flash_laws.specs.Conn.{Conn, new_connection, uses_agg, uses_fd, wants, begins, Starts, Readies, IsAwaiting, told}
 use Rattle.flash_laws.specs.declared.doing.Doing.{Doing}
 use Rattle.flash_laws.specs.declared.doing.Doing.TheVariants.{Rests, Got, Opens, Reads as Reading, Shuts, Picks, Spares, Heads, Joins, Sends, Cuts, Offers, Swaps, Sent, Breaks, Drops, Closes, Over}
@@ -32,6 +32,7 @@ use Rattle.flash_laws.specs.Tied.{with_at, left_by, left_over, Waits, Held, Ende
 use Rattle.flash_laws.proofs.TheLaws.{TheLaws}
 use Rattle.flash_laws.proofs.Answering.{some-inj, WindowLaws, begins-none, begins-append}
 use Rattle.flash_laws.proofs.Lists.{clash}
+use Rattle.flash_laws.proofs.Peers.{IsTold, told-call}
 use Rattle.flash_laws.proofs.Phases.{phase, closes, readies, fits_same, fits_left, begins-tie}
 use Rattle.flash_laws.proofs.Uses.{gives-wants, no-more, uses-told, uses_fd-told, begins-none as begins-no_agg, begins-no_fd, has-agg, has-fd, fds-wants, conns-wants, files-wants}
 
@@ -170,10 +171,11 @@ replaced : (shelf : Shelf) (m n : State) (p : Past) (conns : List (Option Conn))
     → ((y : Conn) → o ≡ Some y → FitsAt shelf n p fd y)
     → ((gd : ℕ) (y : Conn) → fd ≢ gd → in_place conns gd ≡ Some y → FitsAt shelf n p gd y)
     → ((c : ℕ) → Held n (with_at conns fd o) c ⊎ Aside shelf p c (conn_at n c))
+    → ((c : ℕ) → IsTold (p.gone c) (conn_at n c))
     → ((gd a : ℕ) (y z : Conn) → fd ≢ gd → o ≡ Some y → in_place conns gd ≡ Some z → uses_agg y.doing a ≡ true → uses_agg z.doing a ≡ true → ⊥)
     → ((gd a : ℕ) (y z : Conn) → fd ≢ gd → o ≡ Some y → in_place conns gd ≡ Some z → uses_fd y.doing a ≡ true → uses_fd z.doing a ≡ true → ⊥)
     → AllFit shelf n p (with_at conns fd o)
-replaced shelf m n p conns fd o all rises here there others mixed_agg mixed_fd = record {
+replaced shelf m n p conns fd o all rises here there others left mixed_agg mixed_fd = record {
   each = λ gd y is. elim (cases_eq fd gd) [
     | inl same ↦ subst (λ g. FitsAt shelf n p g y) same (here y (mine gd y same is))
     | inr differ ↦ there gd y differ (old gd y differ is)
@@ -199,6 +201,7 @@ replaced shelf m n p conns fd o all rises here there others mixed_agg mixed_fd =
       | inr k ↦ all.fds_apart gd hd a y z (old gd y g is_y) (old hd z k is_z) uses_y uses_z
     ]
   ];
+  left = left;
   fresh = λ c more. all.fresh c (omega (arith, rises, more));
 }
   where
@@ -223,6 +226,7 @@ module _ (shelf : Shelf) (the : TheLaws) where
       (λ z is. subst (λ (w : Conn). FitsAt shelf m p fd w) (some-inj y z is) (record { conn = (all.each fd x at).conn; fits = fits_y }))
       (λ gd z differ is. all.each gd z is)
       (λ c. elsewhere c (all.others c))
+      all.left
       (λ gd a z w differ is is_w uses_z uses_w. differ (all.aggs_apart fd gd a x w at is_w (elim (uses_ready a) [ inl same ↦ same ∙ (ap (λ (v : Conn). uses_agg v.doing a) (some-inj y z is) ∙ uses_z) | inr none ↦ absurd (clash (uses_agg y.doing a) (ap (λ (v : Conn). uses_agg v.doing a) (some-inj y z is) ∙ uses_z) none) ]) uses_w))
       (λ gd a z w differ is is_w uses_z uses_w. differ (all.fds_apart fd gd a x w at is_w (elim (uses_fd_ready a) [ inl same ↦ same ∙ (ap (λ (v : Conn). uses_fd v.doing a) (some-inj y z is) ∙ uses_z) | inr none ↦ absurd (clash (uses_fd y.doing a) (ap (λ (v : Conn). uses_fd v.doing a) (some-inj y z is) ∙ uses_z) none) ]) uses_w))
     where
@@ -277,13 +281,13 @@ module _ (shelf : Shelf) (the : TheLaws) where
       ]
 
   -- after a close that was answered the connection has ended; after one that was refused nothing has changed
-  closing : (m n : State) (p : Past) (fd c : ℕ) (kept : List ℕ) (q : Answer) (r : Reply) → IsOrderly m → Fits shelf m (p.came c) (p.sent c) fd c (record { kept = kept; q = q; doing = Closes }) → StepsTo m (event.Call server (call.Close fd)) r n
+  closing : (m n : State) (p : Past) (fd c : ℕ) (kept : List ℕ) (q : Answer) (r : Reply) → IsOrderly m → IsTold (p.gone c) (conn_at m c) → Fits shelf m (p.came c) (p.sent c) fd c (record { kept = kept; q = q; doing = Closes }) → StepsTo m (event.Call server (call.Close fd)) r n
       → (((heard : List ℕ) → left_over (told (record { kept = kept; q = q; doing = Closes }) r heard) ≡ None) × Ended shelf p c (conn_at n c)) ⊎ (((heard : List ℕ) → told (record { kept = kept; q = q; doing = Closes }) r heard ≡ record { kept = kept; q = q; doing = Closes }) × (n ≡ m))
-  closing m n p fd c kept q r order f step = by r (the.own.closes_conn m n server fd c r order f.open_on step) step
+  closing m n p fd c kept q r order told_is f step = by r (the.own.closes_conn m n server fd c r order f.open_on step) step
     where
       by : (r : Reply) → o.ClosesConn m c r n → StepsTo m (event.Call server (call.Close fd)) r n
           → (((heard : List ℕ) → left_over (told (record { kept = kept; q = q; doing = Closes }) r heard) ≡ None) × Ended shelf p c (conn_at n c)) ⊎ (((heard : List ℕ) → told (record { kept = kept; q = q; doing = Closes }) r heard ≡ record { kept = kept; q = q; doing = Closes }) × (n ≡ m))
-      by reply.Done did step = inl (λ heard. refl, (let ended = closes shelf the m n (p.came c) (p.sent c) fd c kept order the.windows q f step in record { closed = ended.0; begins = ended.1; whole = ended.2 }))
+      by reply.Done did step = inl (λ heard. refl, (let ended = closes shelf the m n (p.came c) (p.sent c) fd c kept order the.windows q f step in record { closed = ended.0; begins = ended.1; whole = elim ended.2 [ inl gone ↦ inl (told_is (held-open m fd c order f.open_on).1 gone) | inr all ↦ inr all ] }))
       by (reply.Refused y) did step = inr (λ heard. refl, did)
       by r did step = absurd did
 
@@ -291,16 +295,16 @@ module _ (shelf : Shelf) (the : TheLaws) where
   abbrev Became : State → Past → (fd c : ℕ) → Conn → Reply → List ℕ → Type 0
   Became n p fd c x r heard = Fits shelf n (p.came c) (p.sent c) fd c (told x r heard) ⊎ ((left_over (told x r heard) ≡ None) × Ended shelf p c (conn_at n c))
 
-  becomes : (m n : State) (p : Past) (fd c : ℕ) (kept : List ℕ) (q : Answer) (d : Doing) (r : Reply) (heard : List ℕ) → IsOrderly m → IsFixed shelf m → Fits shelf m (p.came c) (p.sent c) fd c (record { kept = kept; q = q; doing = d }) → IsAwaiting (record { kept = kept; q = q; doing = d })
+  becomes : (m n : State) (p : Past) (fd c : ℕ) (kept : List ℕ) (q : Answer) (d : Doing) (r : Reply) (heard : List ℕ) → IsOrderly m → IsTold (p.gone c) (conn_at m c) → IsFixed shelf m → Fits shelf m (p.came c) (p.sent c) fd c (record { kept = kept; q = q; doing = d }) → IsAwaiting (record { kept = kept; q = q; doing = d })
       → is_rough r ≡ false → StepsTo m (event.Call server (wants fd (record { kept = kept; q = q; doing = d }))) r n → Names n r heard → Became n p fd c (record { kept = kept; q = q; doing = d }) r heard
-  becomes m n p fd c kept q d r heard order fixed f waits calm step names = by (is_closing d) refl
+  becomes m n p fd c kept q d r heard order told_is fixed f waits calm step names = by (is_closing d) refl
     where
       by : (b : Bool) → is_closing d ≡ b → Became n p fd c (record { kept = kept; q = q; doing = d }) r heard
       by false is = inl (phase shelf the m n (p.came c) (p.sent c) fd c kept order the.windows q d r heard fixed f waits is calm step names)
       by true is = at_close d is f step
         where
           at_close : (d : Doing) → is_closing d ≡ true → Fits shelf m (p.came c) (p.sent c) fd c (record { kept = kept; q = q; doing = d }) → StepsTo m (event.Call server (wants fd (record { kept = kept; q = q; doing = d }))) r n → Became n p fd c (record { kept = kept; q = q; doing = d }) r heard
-          at_close Closes is f step = elim (closing m n p fd c kept q r order f step) [
+          at_close Closes is f step = elim (closing m n p fd c kept q r order told_is f step) [
             | inl done ↦ inr (done.0 heard, done.1)
             | inr same ↦ inl (subst (λ (x : Conn). Fits shelf n (p.came c) (p.sent c) fd c x) (sym (same.0 heard)) (fits_same shelf m n (p.came c) (p.sent c) fd c (record { kept = kept; q = q; doing = Closes }) f same.1))
           ]
@@ -327,7 +331,7 @@ module _ (shelf : Shelf) (the : TheLaws) where
       → IsOrderly m → IsFixed shelf m → AllFit shelf m p conns
       → in_place conns fd ≡ Some x → IsAwaiting x → is_rough r ≡ false → StepsTo m (event.Call server (wants fd x)) r n → Names n r heard → AllFit shelf n p (with_at conns fd (left_over (told x r heard)))
   own_turn m n p conns fd x r heard order fixed all at waits calm step names =
-      replaced shelf m n p conns fd (left_over (told x r heard)) all (the.rises m n (event.Call server (wants fd x)) r step) here there (λ c. elsewhere c (all.others c)) mixed_agg mixed_fd
+      replaced shelf m n p conns fd (left_over (told x r heard)) all (the.rises m n (event.Call server (wants fd x)) r step) here there (λ c. elsewhere c (all.others c)) (λ z. told-call (p.gone z) m n server (wants fd x) r z order step (all.left z)) mixed_agg mixed_fd
     where
       k : Call
       k = wants fd x
@@ -342,7 +346,7 @@ module _ (shelf : Shelf) (the : TheLaws) where
       f = (all.each fd x at).fits
 
       became : Became n p fd (all.each fd x at).conn x r heard
-      became = becomes m n p fd (all.each fd x at).conn x.kept x.q x.doing r heard order fixed (all.each fd x at).fits waits calm step names
+      became = becomes m n p fd (all.each fd x at).conn x.kept x.q x.doing r heard order (all.left (all.each fd x at).conn) fixed (all.each fd x at).fits waits calm step names
 
       here : (y : Conn) → left_over (told x r heard) ≡ Some y → FitsAt shelf n p fd y
       here y is = elim became [
@@ -436,6 +440,7 @@ module _ (shelf : Shelf) (the : TheLaws) where
       news fd takes = replaced shelf m n p conns fd (Some new_connection) all (the.rises m n (event.Call server call.Accept) r step)
           (λ y is. subst (λ (z : Conn). FitsAt shelf n p fd z) (some-inj new_connection y is) (begun (all.others takes.conn)))
           there (λ k. elsewhere k (all.others k))
+          (λ z. told-call (p.gone z) m n server call.Accept r z order step (all.left z))
           (λ gd a y z differ is_y is_z uses uses_z. let none : false ≡ true = ap (λ (w : Conn). uses_agg w.doing a) (some-inj new_connection y is_y) ∙ uses in absurd (cc))
           (λ gd a y z differ is_y is_z uses uses_z. let none : false ≡ true = ap (λ (w : Conn). uses_fd w.doing a) (some-inj new_connection y is_y) ∙ uses in absurd (cc))
         where
@@ -502,3 +507,15 @@ answered laws shelf m p conns all c net = by (all.others c)
     by (inr (inl waits)) = subst (λ (l : List ℕ). Begins shelf (p.came c) l) (sym waits.none_sent) (begins-none shelf (p.came c))
     by (inr (inr (inr foreign))) = (let a = foreign.other_pool in absurd (cc (a, net)))
     by (inr (inr (inl ended))) = ended.begins
+
+-- and each that is closed is answered whole, unless its peer left
+pub whole : (shelf : Shelf) (m : State) (p : Past) (conns : List (Option Conn)) → IsOrderly m
+    → AllFit shelf m p conns → (c : ℕ) → p.net c ≡ true → (conn_at m c).closed ≡ true → p.gone c ≡ false
+    → IsAnswer shelf (p.came c) (p.sent c ++ bytes_of (conn_at m c).outgoing)
+whole shelf m p conns order all c net closed stays = by (all.others c)
+  where
+    by : Held m conns c ⊎ Aside shelf p c (conn_at m c) → IsAnswer shelf (p.came c) (p.sent c ++ bytes_of (conn_at m c).outgoing)
+    by (inl held) = absurd (not-closed m held.fd c c order held.open_on closed refl)
+    by (inr (inl waits)) = (let a = order.waits c waits.waits in absurd (cc (a, closed)))
+    by (inr (inr (inr foreign))) = (let a = foreign.other_pool in absurd (cc (a, net)))
+    by (inr (inr (inl ended))) = elim ended.whole [ inl gone ↦ absurd (clash (p.gone c) gone stays) | inr all ↦ all ]

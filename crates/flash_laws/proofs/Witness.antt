@@ -1,4 +1,4 @@
--- That the premises of the law can be met: a small site, a new world on it, and a calm run of that world.
+-- The premises of the law can be met: a small site, a new world on it, and a calm run of that world.
 use Rattle.std.proofs.Common.{inl, inr, ◌≡◌, ◌≢◌, ℕ, ◌+◌, ◌≤◌, ◌⊎◌, List, [], ◌∷◌, length, ap, refl, sym, subst, arith, Some, true, false, Bool}
 use Rattle.std.specs.Prelude.{codes, bytes_eq, position, option_map, ◌||◌}
 use Rattle.iol_core.specs.State.{State, new_state, domain, pool, file, content, conn_at, may_read, with_domain, with_conn, with_content}
@@ -19,6 +19,7 @@ use Rattle.flash_laws.specs.Answers.{Found, Failed}
 use Rattle.flash_laws.specs.Calm.{AreMild}
 use Rattle.flash_laws.specs.Conn.{most_read}
 use Rattle.flash_laws.specs.declared.doing.Flight.TheVariants.{Accepting}
+use Rattle.flash_laws.specs.Laws.{ARunIsCalm}
 use Rattle.flash_laws.specs.Policy.{in_rounds}
 use Rattle.flash_laws.specs.Serves.{new_server}
 use Rattle.flash_laws.specs.Site.{server, outcome_in, IsFixed}
@@ -144,10 +145,16 @@ module _ (orders : EachStepKeepsOrder) {W : Type 0} (works : Account W) (Ready :
   abbrev replies : List Reply
   replies = reply.Conn 1 ∷ reply.Fd 0 ∷ []
 
-  run_is_calm : (run : WorldRun copying (actor_turns in_rounds works) new_world choices replies accepted_1) × AreMild (actor_turns in_rounds works) new_world choices replies accepted_1 run × AreSmooth choices replies × (made_over 1 choices replies ≡ true)
+  pub run_is_calm : ARunIsCalm works Ready
   unfolding domain pool file content with_domain with_conn with_content conn_at made_over
-  run_is_calm = (
-    (
+  run_is_calm = record {
+    shelf = outcome_in site;
+    first = new_world;
+    after = accepted_1;
+    choices = choices;
+    replies = replies;
+    is_new = world_is_new;
+    run = (
       with_conn_1,
       record { step = (refl, refl, refl); seats_stay = refl; rough_stays = refl },
       (
@@ -167,8 +174,11 @@ module _ (orders : EachStepKeepsOrder) {W : Type 0} (works : Account W) (Ready :
         }),
         refl,
       ),
-    ),
-    (tt, (tt, tt)),
-    (refl, tt),
-    refl,
-  )
+    );
+    mild = (tt, (tt, tt));
+    smooth = (refl, tt);
+    conn = 1;
+    comes = refl;
+    taken = refl;
+    open_yet = refl;
+  }

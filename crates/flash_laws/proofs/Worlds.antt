@@ -2,7 +2,7 @@
 use Rattle.std.proofs.Common.{inl, inr, ◌≡◌, ◌≢◌, ℕ, zero, suc, ◌⊎◌, List, [], ◌∷◌, ◌++◌, length, ap, ◌∙◌, refl, sym, subst, arith, Some, true, false, Bool, append-nil, append_assoc, length-append, slice_get, slice_set}
 use Rattle.std.specs.Prelude.{◌||◌}
 use Rattle.std.proofs.lemmas.Bool.{cases_eq}
-use Rattle.iol_core.specs.State.{State, Connection}
+use Rattle.iol_core.specs.State.{State, Connection, conn_at}
 use Rattle.iol_core.specs.Run.{StepsTo}
 use Rattle.iol_core.specs.Values.{gives_up}
 use Rattle.iol_core.specs.Numbered.{in_place}
@@ -34,13 +34,14 @@ use Rattle.flash_laws.specs.Past.{Past, and_then, IsAct}
 use Rattle.flash_laws.specs.Tied.{filed, AllFit}
 use Rattle.flash_laws.specs.Serves.{Server, new_server, Policy, filed_in, Made, InFlight}
 use Rattle.flash_laws.specs.Calm.{IsMild, AreMild}
-use Rattle.flash_laws.specs.Tie.{made_with, made_over, past_of, Actor, Serving, Working, actor_turns, IsWorker, AreSeated, Tied, IsNew, AllAnswered}
+use Rattle.flash_laws.specs.Tie.{made_with, made_over, gone_with, gone_over, past_of, Actor, Serving, Working, actor_turns, IsWorker, AreSeated, Tied, IsNew, AllAnswered, ClosedAreWhole}
 use Rattle.flash_laws.specs.Workers.{is_by, WorkersWork}
 use Rattle.flash_laws.proofs.TheLaws.{TheLaws}
 use Rattle.flash_laws.proofs.Answering.{some-inj, WindowLaws}
 use Rattle.flash_laws.proofs.Lent.{lent-stays}
 use Rattle.flash_laws.proofs.Lists.{clash, not-equal}
-use Rattle.flash_laws.proofs.Turn.{answered}
+use Rattle.flash_laws.proofs.Peers.{told-none}
+use Rattle.flash_laws.proofs.Turn.{answered, whole}
 use Rattle.flash_laws.proofs.Others.{other-gives, other-ends, site-stays, fixed-stays, others_call}
 use Rattle.flash_laws.proofs.Acts.{past-equal, past-call, acts}
 use Rattle.flash_laws.proofs.Serving.{IsKind, calls-kindly, files-fit, server_turn}
@@ -63,11 +64,20 @@ made-more c (y ∷ xs) (s ∷ rs) x r even = ap (λ b. made_with c y s || b) (ma
 made-more c [] (s ∷ rs) x r even = absurd (omega (arith, even))
 made-more c (y ∷ xs) [] x r even = absurd (omega (arith, even))
 
+gone-more : (c : ℕ) (xs : List Choice) (rs : List Reply) (x : Choice) (r : Reply) → length xs ≡ length rs
+    → gone_over c (xs ++ x ∷ []) (rs ++ r ∷ []) ≡ (gone_over c xs rs || gone_with c x r)
+unfolding gone_over
+gone-more c [] [] x r even = or-false (gone_with c x r)
+gone-more c (y ∷ xs) (s ∷ rs) x r even = ap (λ b. gone_with c y s || b) (gone-more c xs rs x r (omega (arith, even))) ∙ or-assoc (gone_with c y s) (gone_over c xs rs) (gone_with c x r)
+gone-more c [] (s ∷ rs) x r even = absurd (omega (arith, even))
+gone-more c (y ∷ xs) [] x r even = absurd (omega (arith, even))
+
 past-outside : (xs : List Choice) (rs : List Reply) (e : Event) (r : Reply) → length xs ≡ length rs
     → past_of (xs ++ choice.Outside e ∷ []) (rs ++ r ∷ []) ≡ and_then (past_of xs rs) e r
 past-outside xs rs e r even =
     past-equal (and_then (past_of xs rs) e r) (past_of (xs ++ choice.Outside e ∷ []) (rs ++ r ∷ []))
     (λ c. stream_over-more xs rs (choice.Outside e) r c even) (λ c. sent_over-more xs rs (choice.Outside e) r c even) (λ c. made-more c xs rs (choice.Outside e) r even)
+    (λ c. gone-more c xs rs (choice.Outside e) r even)
 
 past-turn : (xs : List Choice) (rs : List Reply) (by : ℕ) (r : Reply) → length xs ≡ length rs
     → past_of (xs ++ choice.Turn by ∷ []) (rs ++ r ∷ []) ≡ past_of xs rs
@@ -76,6 +86,7 @@ past-turn xs rs by r even =
     (λ c. stream_over-more xs rs (choice.Turn by) r c even ∙ append-nil (stream_over c xs rs))
     (λ c. sent_over-more xs rs (choice.Turn by) r c even ∙ append-nil (sent_over c xs rs))
     (λ c. made-more c xs rs (choice.Turn by) r even ∙ or-false (made_over c xs rs))
+    (λ c. gone-more c xs rs (choice.Turn by) r even ∙ or-false (gone_over c xs rs))
 
 even-more : (xs : List Choice) (rs : List Reply) (x : Choice) (r : Reply) → length xs ≡ length rs
     → length (xs ++ x ∷ []) ≡ length (rs ++ r ∷ [])
@@ -433,7 +444,7 @@ module _ (may : Policy) {W : Type 0} (works : Account W) (Ready : State → ℕ 
 -- A new world is tied.
 module _ {W : Type 0} (Ready : State → ℕ → W → Reply → Type 0) where
   pub first_tied : (shelf : Shelf) (w : Stage State (Actor W)) → IsNew Ready shelf w → Tied Ready shelf [] [] w
-  unfolding stream_over sent_over made_over
+  unfolding stream_over sent_over made_over gone_over
   first_tied shelf w new = record {
     even = refl;
     order = new.order;
@@ -451,6 +462,7 @@ module _ {W : Type 0} (Ready : State → ℕ → W → Reply → Type 0) where
           others = λ c. inr (inr (inr (record { other_pool = refl; taken = ap (λ (k : Connection). k.accepted) (new.no_conns c) })));
           aggs_apart = λ fd gd a x y is_x is_y u v. absurd (none fd x is_x);
           fds_apart = λ fd gd a x y is_x is_y u v. absurd (none fd x is_x);
+          left = λ c. told-none false (conn_at w.machine c) (new.no_conns c);
           fresh = λ c more. (refl, refl, refl);
         };
       };
@@ -467,3 +479,9 @@ pub tied_answered : {W : Type 0} (Ready : State → ℕ → W → Reply
     → Type 0) (laws : WindowLaws) (shelf : Shelf) (xs : List Choice) (rs : List Reply) (w : Stage State (Actor W))
     → Tied Ready shelf xs rs w → AllAnswered shelf xs rs w.machine
 tied_answered Ready laws shelf xs rs w tied = answered laws shelf w.machine (past_of xs rs) (filed tied.seated.state.conns tied.seated.state.flight tied.seated.last tied.seated.flight.heard) tied.seated.flight.fit
+
+-- And each that is closed is answered whole, unless its peer left.
+pub tied_whole : {W : Type 0} (Ready : State → ℕ → W → Reply
+    → Type 0) (shelf : Shelf) (xs : List Choice) (rs : List Reply) (w : Stage State (Actor W))
+    → Tied Ready shelf xs rs w → ClosedAreWhole shelf xs rs w.machine
+tied_whole Ready shelf xs rs w tied = whole shelf w.machine (past_of xs rs) (filed tied.seated.state.conns tied.seated.state.flight tied.seated.last tied.seated.flight.heard) tied.order tied.seated.flight.fit

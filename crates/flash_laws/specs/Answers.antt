@@ -53,7 +53,7 @@ response (serve w) (Found bytes) = file_text w (length bytes) ++ body_unless w.h
 response (serve w) (Failed status) = error_text status w.head_only (not w.keep)
 response (refuse status head_only close) outcome = error_text status head_only close
 
--- the files of a site by name: the outcome of each name, as long as no file changes and nobody else may read it
+-- the files of a site by name: the outcome of each name, as long as no file and no pool's list changes
 abbrev pub Shelf : Type 0
 Shelf = List ℕ → Outcome
 

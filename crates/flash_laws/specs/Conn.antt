@@ -33,7 +33,7 @@ pub record Conn : Type 0 where
   pub q : Answer
   pub doing : Doing
 
--- one that was just accepted; its request is none that was made
+-- one that was just accepted; `q` stands for no request until one is begun
 abbrev pub new_connection : Conn
 new_connection = record { kept = []; q = refuse 431 false true; doing = Rests }
 

@@ -1,5 +1,7 @@
 -- What the server offers for a request is the next bytes of the response to it, with the outcome of the calls that it made for it.
--- This holds over any run, calm or not.
+--
+-- It is said of each step, calm or not: what the machine has of a response it goes on having, unless somebody gives up or moves
+-- what the connection uses. That over a whole run nobody does is not said here.
 use Rattle.std.specs.Prelude.{◌≡◌, ℕ, true, false, List, ◌++◌, length, drop, Some}
 use Rattle.iol_core.specs.Access.{HasAccess}
 use Rattle.iol_core.specs.State.{State, descriptor, is_live}

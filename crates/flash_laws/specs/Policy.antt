@@ -34,7 +34,7 @@ is_bare x = by x.doing
     by Rests = length x.kept == 0
     by d = false
 
--- whether it goes on at once
+-- whether its turn passes to the next: its call is to be made again later, or nothing is left to do but to read more
 abbrev pub leaves_off : Option Conn → Reply → Bool
 leaves_off None r = true
 leaves_off (Some x) r = is_later r || is_bare x

@@ -22,7 +22,8 @@ found_in m (Some f) = if may_read m server (file m f).pool then Found (content m
 abbrev pub outcome_in : State → (name : List ℕ) → Outcome
 outcome_in m name = found_in m (file_called m name)
 
--- The files, and who may read them, are those of the shelf; the net is read by the server alone; and the server is there.
+-- The files, and who may read them, are those of the shelf; none is longer than the server reads at once, and each is in a pool
+-- that somebody may read; the net is read by the server alone; and the server is there.
 pub record IsFixed (shelf : Shelf) (m : State) : Type 0 where
   pub lives : is_live m server ≡ true
   pub outcomes : (name : List ℕ) → outcome_in m name ≡ shelf name

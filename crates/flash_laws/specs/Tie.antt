@@ -13,8 +13,8 @@ use Rattle.iol_proc.specs.Histories.{stream_over, sent_over}
 use Rattle.iol_proc.specs.declared.choice.Choice.{Choice}
 use Rattle.iol_proc.specs.declared.choice.Choice.TheVariants as choice
 use Rattle.iol_proc.specs.declared.seat.Seat.{Seat}
-use Rattle.flash_laws.specs.Answers.{Shelf, Begins}
-use Rattle.flash_laws.specs.Past.{Past, made_by}
+use Rattle.flash_laws.specs.Answers.{Shelf, Begins, IsAnswer}
+use Rattle.flash_laws.specs.Past.{Past, made_by, gone_by}
 use Rattle.flash_laws.specs.Serves.{Server, new_server, Policy, server_turns, InFlight}
 use Rattle.flash_laws.specs.Site.{server, IsFixed}
 
@@ -29,8 +29,22 @@ unfoldable pub made_over : (c : ℕ) → List Choice → List Reply → Bool
 made_over c (x ∷ xs) (r ∷ rs) = made_with c x r || made_over c xs rs
 made_over c xs rs = false
 
+abbrev pub gone_with : (c : ℕ) → Choice → Reply → Bool
+gone_with c (choice.Outside e) r = gone_by c e r
+gone_with c (choice.Turn by) r = false
+
+-- whether one of them told that the peer of this connection left
+unfoldable pub gone_over : (c : ℕ) → List Choice → List Reply → Bool
+gone_over c (x ∷ xs) (r ∷ rs) = gone_with c x r || gone_over c xs rs
+gone_over c xs rs = false
+
 abbrev pub past_of : List Choice → List Reply → Past
-past_of xs rs = record { came = λ c. stream_over c xs rs; sent = λ c. sent_over c xs rs; net = λ c. made_over c xs rs }
+past_of xs rs = record {
+  came = λ c. stream_over c xs rs;
+  sent = λ c. sent_over c xs rs;
+  net = λ c. made_over c xs rs;
+  gone = λ c. gone_over c xs rs;
+}
 
 -- ---- processes
 
@@ -91,3 +105,10 @@ module _ {W : Type 0} (Ready : State → ℕ → W → Reply → Type 0) where
 abbrev pub AllAnswered : Shelf → List Choice → List Reply → State → Type 0
 AllAnswered shelf xs rs m = (c : ℕ) → made_over c xs rs ≡ true
     → Begins shelf (stream_over c xs rs) (sent_over c xs rs ++ bytes_of (conn_at m c).outgoing)
+
+-- Each connection of the net that is closed, and whose peer did not leave, is answered whole: what was sent on it, and is to be
+-- sent, is the answer to what came on it.
+abbrev pub ClosedAreWhole : Shelf → List Choice → List Reply → State → Type 0
+ClosedAreWhole shelf xs rs m = (c : ℕ) → made_over c xs rs ≡ true → (conn_at m c).closed ≡ true
+    → gone_over c xs rs ≡ false
+    → IsAnswer shelf (stream_over c xs rs) (sent_over c xs rs ++ bytes_of (conn_at m c).outgoing)

@@ -70,9 +70,8 @@ module _ (shelf : Shelf) where
   pub record Ended (p : Past) (c : ℕ) (k : Connection) : Type 0 where
     pub closed : k.closed ≡ true
     pub begins : Begins shelf (p.came c) (p.sent c ++ bytes_of k.outgoing)
-    -- all is answered, unless the peer left before
-    pub whole : (is_gone k.peer ≡ true)
-        ⊎ IsAnswer shelf (p.came c) (p.sent c ++ bytes_of k.outgoing)
+    -- all is answered, unless the peer left
+    pub whole : (p.gone c ≡ true) ⊎ IsAnswer shelf (p.came c) (p.sent c ++ bytes_of k.outgoing)
 
   abbrev pub Aside : Past → (c : ℕ) → Connection → Type 0
   Aside p c k = Waits p c k ⊎ (Ended p c k ⊎ Foreign p c k)
@@ -92,6 +91,9 @@ module _ (shelf : Shelf) where
         → fd ≡ gd
     pub fds_apart : (fd gd a : ℕ) (x y : Conn) → in_place conns fd ≡ Some x
         → in_place conns gd ≡ Some y → uses_fd x.doing a ≡ true → uses_fd y.doing a ≡ true → fd ≡ gd
+    -- of an open connection whose peer is gone it was told that it left
+    pub left : (c : ℕ) → (conn_at m c).closed ≡ false → is_gone (conn_at m c).peer ≡ true
+        → p.gone c ≡ true
     -- of a number that is still to come there is no history
     pub fresh : (c : ℕ) → m.next_conn ≤ c → (p.came c ≡ []) × (p.sent c ≡ []) × (p.net c ≡ false)
 

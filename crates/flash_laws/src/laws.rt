@@ -6,7 +6,7 @@ ghost use Rattle.iol_proc.specs.Settled.{Settles};
 ghost use Rattle.iol_proc.specs.declared.process.Turn.{Turn};
 ghost use Rattle.flash_laws.specs.Host.{ActorsSettle, HostIsRight, IdleIsDone};
 ghost use Rattle.flash_laws.specs.Offers.{OffersTheResponse};
-ghost use Rattle.flash_laws.specs.Laws.{RunIsAnswered, RunKeepsTie, StepKeepsTie, TiedAtFirst, TiedIsAnswered};
+ghost use Rattle.flash_laws.specs.Laws.{ARunIsCalm, RunIsAnswered, RunIsWhole, RunKeepsTie, StepKeepsTie, TiedAtFirst, TiedIsAnswered, TiedIsWhole};
 ghost use Rattle.flash_laws.specs.Policy.{in_rounds};
 ghost use Rattle.flash_laws.specs.Serves.{any};
 ghost use Rattle.flash_laws.specs.Site.{SiteStays};
@@ -36,13 +36,16 @@ pub trait Works: Drop {
 }
 
 /// A new world is tied, each calm step keeps the tie, and so does a calm run; and where it holds, what was sent on each
-/// connection of the net begins the answer to what came on it. Where all is idle, too, nothing is left to do.
+/// connection of the net begins the answer to what came on it, and is all of it once the connection is closed, unless its peer
+/// left. Where all is idle, too, nothing is left to do.
 pub fn tied_law<W: Works>()
     ensures first { TiedAtFirst W.ready }
     ensures step { StepKeepsTie in_rounds W.turns W.ready }
     ensures run { RunKeepsTie in_rounds W.turns W.ready }
     ensures answered { TiedIsAnswered W.ready }
+    ensures whole { TiedIsWhole W.ready }
     ensures all { RunIsAnswered in_rounds W.turns W.ready }
+    ensures all_whole { RunIsWhole in_rounds W.turns W.ready }
     ensures settles { ActorsSettle W.turns W.settled }
     ensures idle { IdleIsDone W.turns W.ready W.settled }
     ensures host { HostIsRight W.turns W.ready W.settled }
@@ -63,13 +66,15 @@ pub fn tied_law<W: Works>()
 }
 
 /// The same for a server that picks whichever call it likes: what was sent on each connection of the net begins the answer to
-/// what came on it.
+/// what came on it, and is all of it once the connection is closed, unless its peer left.
 pub fn free_law<W: Works>()
     ensures first { TiedAtFirst W.ready }
     ensures step { StepKeepsTie any W.turns W.ready }
     ensures run { RunKeepsTie any W.turns W.ready }
     ensures answered { TiedIsAnswered W.ready }
+    ensures whole { TiedIsWhole W.ready }
     ensures all { RunIsAnswered any W.turns W.ready }
+    ensures all_whole { RunIsWhole any W.turns W.ready }
 {
     W::works();
     laws::each_step_leaves_the_rest();
@@ -84,8 +89,17 @@ pub fn free_law<W: Works>()
     window_fits();
 }
 
+/// The premises of these laws can be met, whatever the workers are: there is a new world, with the server alone, and a calm run of
+/// it in which a connection of the net comes and is accepted.
+pub fn premises_can_be_met<W: Works>()
+    ensures { ARunIsCalm W.turns W.ready }
+{
+    laws::each_step_keeps_order();
+}
+
 /// What the server offers for a request is the next bytes of the response to it, with the outcome of the calls that it made for it,
-/// the first of which opens the file of its name. It holds whatever the run, calm or not.
+/// the first of which opens the file of its name. It is said of each step, calm or not, while nobody gives up or moves what the
+/// connection uses; that over a whole run nobody does is not.
 pub fn offers_law()
     ensures { OffersTheResponse }
 {

@@ -1,22 +1,23 @@
 //! The law of the server's own processes. The function does nothing; its contract is the law.
 ghost use Rattle.flash_laws.specs.Host.{ActorsSettle, HostIsRight, IdleIsDone};
-ghost use Rattle.flash_laws.specs.Laws.{RunIsAnswered, RunKeepsTie, StepKeepsTie, TiedAtFirst, TiedIsAnswered};
+ghost use Rattle.flash_laws.specs.Laws.{RunIsAnswered, RunIsWhole, RunKeepsTie, StepKeepsTie, TiedAtFirst, TiedIsAnswered, TiedIsWhole};
 ghost use Rattle.flash_laws.specs.Policy.{in_rounds};
 ghost use Rattle.flash_lite.specs.Workers.{worker_turns, worker_ready, worker_settled};
 
 use crate::actor::Worker;
 use flash_laws::laws::tied_law;
 
-/// Connections do not meet: of the account that `Actor` has as a process. A new world is tied, each
-/// calm step keeps the tie, and so
-/// does a calm run; and where it holds, what was sent on each connection of the net begins the
-/// answer to what came on it.
+/// Connections do not meet: of the account that `Actor` has as a process. A new world is tied, each calm step keeps the tie,
+/// and so does a calm run; and where it holds, what was sent on each connection of the net begins the answer to what came on it,
+/// and is all of it once the connection is closed, unless its peer left.
 pub fn connections_do_not_meet()
     ensures first { TiedAtFirst worker_ready }
     ensures step { StepKeepsTie in_rounds worker_turns worker_ready }
     ensures run { RunKeepsTie in_rounds worker_turns worker_ready }
     ensures answered { TiedIsAnswered worker_ready }
+    ensures whole { TiedIsWhole worker_ready }
     ensures all { RunIsAnswered in_rounds worker_turns worker_ready }
+    ensures all_whole { RunIsWhole in_rounds worker_turns worker_ready }
     ensures settles { ActorsSettle worker_turns worker_settled }
     ensures idle { IdleIsDone worker_turns worker_ready worker_settled }
     ensures host { HostIsRight worker_turns worker_ready worker_settled }

@@ -1,6 +1,6 @@
 use Rattle.std.proofs.Common.{[]}
 use Rattle.flash_laws.specs.Serves.{any}
-use Rattle.flash_laws.proofs.Worlds.{first_tied, step_keeps, run_keeps, tied_answered}
+use Rattle.flash_laws.proofs.Worlds.{first_tied, step_keeps, run_keeps, tied_answered, tied_whole}
 use Rattle.flash_laws.proofs.TheLaws.{TheLaws}
 use Rattle.flash_laws.proofs.laws.free_law.Given.{Over}
 use Rattle.flash_laws.proofs.laws.free_law.Goals as goal
@@ -30,6 +30,13 @@ returns-clause-run g c = λ shelf past xs ps rs w after. run_keeps any g.W.Works
 pub returns-clause-answered : goal.returns-clause-answered
 returns-clause-answered g c = λ shelf. tied_answered g.W.Works.ready (all_laws g c).windows shelf
 
+pub returns-clause-whole : goal.returns-clause-whole
+returns-clause-whole g c = tied_whole g.W.Works.ready
+
 pub returns-clause-all : goal.returns-clause-all
 returns-clause-all g c = λ shelf xs rs w after new run mild smooth. tied_answered g.W.Works.ready (all_laws g c).windows shelf xs rs after
+    (run_keeps any g.W.Works.turns g.W.Works.ready c.works.ensures shelf (all_laws g c) xs rs w after [] [] run mild smooth (first_tied g.W.Works.ready shelf w new))
+
+pub returns-clause-all_whole : goal.returns-clause-all_whole
+returns-clause-all_whole g c = λ shelf xs rs w after new run mild smooth. tied_whole g.W.Works.ready shelf xs rs after
     (run_keeps any g.W.Works.turns g.W.Works.ready c.works.ensures shelf (all_laws g c) xs rs w after [] [] run mild smooth (first_tied g.W.Works.ready shelf w new))

@@ -7,7 +7,7 @@ use Rattle.flash_laws.specs.Tie.{actor_turns}
 use Rattle.flash_laws.proofs.Settling.{actor_settles}
 use Rattle.flash_laws.proofs.Idling.{idle-done}
 use Rattle.flash_laws.proofs.Hosting.{rounds-mild}
-use Rattle.flash_laws.proofs.Worlds.{first_tied, step_keeps, run_keeps, tied_answered}
+use Rattle.flash_laws.proofs.Worlds.{first_tied, step_keeps, run_keeps, tied_answered, tied_whole}
 use Rattle.flash_laws.proofs.TheLaws.{TheLaws}
 use Rattle.flash_laws.proofs.laws.tied_law.Given.{Over}
 use Rattle.flash_laws.proofs.laws.tied_law.Goals as goal
@@ -37,8 +37,15 @@ returns-clause-run g c = λ shelf past xs ps rs w after. run_keeps in_rounds g.W
 pub returns-clause-answered : goal.returns-clause-answered
 returns-clause-answered g c = λ shelf. tied_answered g.W.Works.ready (all_laws g c).windows shelf
 
+pub returns-clause-whole : goal.returns-clause-whole
+returns-clause-whole g c = tied_whole g.W.Works.ready
+
 pub returns-clause-all : goal.returns-clause-all
 returns-clause-all g c = λ shelf xs rs w after new run mild smooth. tied_answered g.W.Works.ready (all_laws g c).windows shelf xs rs after
+    (run_keeps in_rounds g.W.Works.turns g.W.Works.ready c.works.ensures shelf (all_laws g c) xs rs w after [] [] run mild smooth (first_tied g.W.Works.ready shelf w new))
+
+pub returns-clause-all_whole : goal.returns-clause-all_whole
+returns-clause-all_whole g c = λ shelf xs rs w after new run mild smooth. tied_whole g.W.Works.ready shelf xs rs after
     (run_keeps in_rounds g.W.Works.turns g.W.Works.ready c.works.ensures shelf (all_laws g c) xs rs w after [] [] run mild smooth (first_tied g.W.Works.ready shelf w new))
 
 pub returns-clause-settles : goal.returns-clause-settles
@@ -56,6 +63,7 @@ returns-clause-host g c = λ settled shelf xs rs w mid after most idle new run m
     (rounds-mild (actor_turns in_rounds g.W.Works.turns) (domains_of mid.seats) 0 (length ends.went) (map (λ t. t.1) ends.went) mid after ends.run) later.1 tied_mid in
     record {
       answered = tied_answered g.W.Works.ready (all_laws g c).windows shelf (xs ++ rounds (domains_of mid.seats) 0 (length ends.went)) (rs ++ map (λ t. t.1) ends.went) after tied_end;
+      whole = tied_whole g.W.Works.ready shelf (xs ++ rounds (domains_of mid.seats) 0 (length ends.went)) (rs ++ map (λ t. t.1) ends.went) after tied_end;
       tied = tied_end;
       done = λ is. idle-done g.W.Works.turns g.W.Works.ready g.W.Works.settled shelf c.file_calls_serve_their_domain.ensures c.refusals_tell_why.ensures c.refusals_that_are_left.ensures.waits settled (xs ++ rounds (domains_of mid.seats) 0 (length ends.went)) (rs ++ map (λ t. t.1) ends.went) mid after most
           (subst (λ b. Idles copying (actor_turns in_rounds g.W.Works.turns) mid most b after) is ends) tied_end;
