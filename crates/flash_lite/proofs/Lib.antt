@@ -1,8 +1,17 @@
+pub mod AnyStore
 pub mod Apart
 pub mod Begun
 pub mod Fewer
+pub mod Filing
 pub mod Gathered
+pub mod Leading
+pub mod Making
+pub mod NewSite
 pub mod Offering
+pub mod Passing
+pub mod Piping
 pub mod Places
+pub mod Refused
+pub mod Standing
 pub mod Texts
 pub mod Waiting

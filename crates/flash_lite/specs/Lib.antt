@@ -6,4 +6,7 @@ pub mod Turning
 pub mod Workers
 pub mod Actors
 pub mod Setup
+pub mod SiteState
+pub mod Shelf
+pub mod NewWorld
 pub mod Offering

@@ -1,5 +1,5 @@
 -- What a site is set up by.
-use Rattle.std.specs.Prelude.{◌≡◌, ℕ, ◌+◌, ◌&&◌, ◌||◌, not, nat_le, nat_lt, Bool, true, false, List, [], ◌∷◌, ◌++◌, map, Option, Some, None, if◌then◌else◌}
+use Rattle.std.specs.Prelude.{◌≡◌, ◌⊎◌, ℕ, ◌+◌, ◌&&◌, ◌||◌, not, nat_le, nat_lt, Bool, true, false, List, [], ◌∷◌, ◌++◌, map, Option, Some, None, if◌then◌else◌}
 use Rattle.std.specs.List.{range_with_len, list_any, flat_map}
 use Rattle.iol_core.specs.State.{State}
 use Rattle.iol_core.specs.Run.{Run}
@@ -10,6 +10,9 @@ use Rattle.iol_core.specs.declared.events.Event.TheVariants as event
 use Rattle.iol_core.specs.declared.events.Reply.{Reply}
 use Rattle.iol_core.specs.declared.events.Reply.TheVariants as reply
 use Rattle.iol_core.specs.declared.refusals.Refusal.{Refusal}
+use Rattle.iol_core.specs.declared.refusals.Refusal.TheVariants.{Memory}
+use Rattle.iol_system.specs.Machine.{SystemState}
+use Rattle.iol_system.specs.Promises.{Chain}
 use Rattle.flash_laws.specs.Serves.{new_server}
 use Rattle.flash_laws.specs.Tie.{Actor, Serving}
 use Rattle.flash_lite.specs.declared.actor.Worker.{Worker}
@@ -59,20 +62,27 @@ calls s = ((((domains_made (s.workers + s.guests)) ++ pools_made s) ++ defaults_
 
 -- ---- what comes of them
 
-abbrev pub is_refused : Reply → Bool
-is_refused (reply.Refused x) = true
-is_refused r = false
-
--- the first refusal among replies, or none is refused
-abbrev pub RefusalIn : List Reply → Option Refusal → Type 0
-RefusalIn rs (Some x) = list_any is_refused rs ≡ true
-RefusalIn rs None = list_any is_refused rs ≡ false
+-- the first refusal among replies
+abbrev pub first_refusal : List Reply → Option Refusal
+first_refusal [] = None
+first_refusal (reply.Refused x ∷ rs) = Some x
+first_refusal (r ∷ rs) = first_refusal rs
 
 -- the machine makes all these calls, and none is refused
 pub record SetsUp (s : Site) (old new : State) : Type 0 where
   pub replies : List Reply
   pub run : Run old (calls s) replies new
-  pub passed : list_any is_refused replies ≡ false
+  pub passed : first_refusal replies ≡ None
+
+-- a system makes them, and this is the first refusal
+pub record IsRefused (s : Site) (x : Refusal) (old new : SystemState) : Type 0 where
+  pub replies : List Reply
+  pub chain : Chain old (calls s) replies new
+  pub refuses : first_refusal replies ≡ Some x
+
+-- so it is, or memory was wanting before the first call
+abbrev pub WhyRefused : Site → Refusal → (old new : SystemState) → Type 0
+WhyRefused s x old new = ((x ≡ Memory) × (new ≡ old)) ⊎ IsRefused s x old new
 
 -- the server, in domain 1
 abbrev pub actors : List (ℕ × Actor Worker)

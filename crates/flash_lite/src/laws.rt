@@ -2,10 +2,12 @@
 ghost use Rattle.flash_laws.specs.Host.{ActorsSettle, HostIsRight, IdleIsDone};
 ghost use Rattle.flash_laws.specs.Laws.{RunIsAnswered, RunIsWhole, RunKeepsTie, StepKeepsTie, TiedAtFirst, TiedIsAnswered, TiedIsWhole};
 ghost use Rattle.flash_laws.specs.Policy.{in_rounds};
+ghost use Rattle.flash_lite.specs.NewWorld.{SetUpIsNew};
 ghost use Rattle.flash_lite.specs.Workers.{worker_turns, worker_ready, worker_settled};
 
 use crate::actor::Worker;
 use flash_laws::laws::tied_law;
+use iol_laws::laws;
 
 /// Connections do not meet: of the account that `Actor` has as a process. A new world is tied, each calm step keeps the tie,
 /// and so does a calm run; and where it holds, what was sent on each connection of the net begins the answer to what came on it,
@@ -23,4 +25,13 @@ pub fn connections_do_not_meet()
     ensures host { HostIsRight worker_turns worker_ready worker_settled }
 {
     tied_law::<Worker>();
+}
+
+/// After the calls of a site within its limits, none of them refused, the world of its processes is new, if the machine was: its
+/// files are found by their names with the bytes of their slots, but private ones, the net is the server's alone, and there
+/// are no connections.
+pub fn set_up_is_new()
+    ensures { SetUpIsNew }
+{
+    laws::each_step_keeps_order();
 }

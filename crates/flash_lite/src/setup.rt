@@ -1,11 +1,14 @@
 //! Setting a site up.
-ghost use Rattle.std.specs.Prelude.{◌≡◌, ◌<◌, ◌+◌, ◌++◌, ◌∷◌, [], true, false, Err, IfOk, OnOk, map, nat_eq};
+ghost use Rattle.std.specs.Prelude.{◌≡◌, ◌<◌, ◌+◌, ◌++◌, ◌∷◌, [], true, false, Err, IfErr, IfOk, OnOk, map, nat_eq};
 ghost use Rattle.std.specs.List.{IsDistinct, range_with_len};
 ghost use Rattle.iol_back.specs.Disk.{IfHonest};
 ghost use Rattle.iol_system.specs.Machine.{machine_of};
+ghost use Rattle.flash_lite.specs.NewWorld.{IsNewOf, world_on};
 ghost use Rattle.flash_lite.specs.Setup as spec;
+ghost use Rattle.flash_lite.specs.SiteState.{LeavesSite};
 
 use crate::actor::{Actor, Role};
+use crate::laws::set_up_is_new;
 use crate::server::Server;
 use crate::site::{MAX_GUESTS, MAX_WORKERS, Site, SiteFile};
 use iol_back::backing::Backing;
@@ -157,7 +160,7 @@ fn calls(alloc: Global, site: &Site) -> Result<Vec<Event>, AllocError>
 
 // The first refusal among replies.
 fn refusal_in(replies: &[Reply]) -> Option<Refusal>
-    ensures { spec.RefusalIn replies.now result }
+    ensures { result ≡ spec.first_refusal replies.now }
 {
     for reply in replies {
         if let Reply::Refused(refusal) = reply {
@@ -168,8 +171,8 @@ fn refusal_in(replies: &[Reply]) -> Option<Refusal>
 }
 
 /// Sets a site up in a new system, and gives its processes. Numbers out of their limits are
-/// `BadRange`, before anything is done; any
-/// other refusal is that of the first call that was refused, and the system is to be dropped then.
+/// `BadRange`, before anything is done. Any other refusal is that of the first call that was
+/// refused, or `Memory` before the first call; the system is to be dropped then.
 pub fn setup<B: Backing + Drop>(
     alloc: Global,
     system: &mut System<B>,
@@ -177,8 +180,21 @@ pub fn setup<B: Backing + Drop>(
 ) -> Result<Vec<(DomainId, Actor)>, Refusal>
     ensures range { spec.is_in_range site.now ≡ false → result ≡ Err Refusal.BadRange }
     ensures in_range { OnOk result (spec.is_in_range site.now ≡ true) }
+    ensures unchanged { spec.is_in_range site.now ≡ false → system.new ≡ system.old }
+    ensures refused { IfErr result (λ x. spec.is_in_range site.now ≡ true →
+        spec.WhyRefused site.now x system.old system.new) }
     ensures set_up { IfHonest system.old.disk (OnOk result
         (spec.SetsUp site.now (machine_of system.old) (machine_of system.new))) }
+    ensures honest { system.new.disk.honest ≡ system.old.disk.honest }
+
+    // In a new system the machine is then that of the site, over any store. An honest one keeps
+    // what it has, and a world of these processes is new.
+    ensures leaves { OnOk result
+        (LeavesSite site.now (machine_of system.old) (machine_of system.new)) }
+    ensures slots { IfHonest system.old.disk (OnOk result
+        ((machine_of system.new).slots ≡ (machine_of system.old).slots)) }
+    ensures new { IfHonest system.old.disk (OnOk result (IsNewOf site.now
+        (machine_of system.old) (world_on (machine_of system.new) false))) }
     ensures actors { IfOk result (λ actors. actors.items ≡ spec.actors) }
     ensures apart { IfOk result
         (λ actors. IsDistinct nat_eq (map (λ p. p.0) actors.items)) }
@@ -186,6 +202,7 @@ pub fn setup<B: Backing + Drop>(
     if !is_in_range(site) {
         return Err(Refusal::BadRange);
     }
+    set_up_is_new();
     let events = calls(alloc, site)?;
     let actors = actors(alloc)?;
     let replies = system.run(events.as_slice())?;
