@@ -1,0 +1,82 @@
+//! Scripts that nobody reads, jobs that are none, and the end of the job pipe.
+use crate::rows::{OUTPUT, close, give, is_put_out, job_of};
+use crate::stage::{Stage, stage_of};
+use iol_core::events::{Call, Reply};
+use iol_core::lists::Bytes;
+use std::alloc::Global;
+use std::test::Fail;
+
+// Whether the worker has this number, and the next, free.
+fn has_free(stage: &mut Stage, fd: u32) -> bool {
+    match stage.call(2, Call::Pipe) {
+        Reply::Fds(read, write) => read.number() == fd && write.number() == fd.saturating_add(1),
+        _ => false,
+    }
+}
+
+// The pipe is closed before the script begins: it ends at its first write, and the next job is run.
+fn goes_on(stage: &mut Stage, unread: Bytes, next: Bytes) -> bool {
+    give(stage, unread)
+        && close(stage, 0)
+        && stage.settle()
+        && give(stage, next)
+        && is_put_out(stage, b"x\n")
+        && has_free(stage, OUTPUT)
+}
+
+fn ends_unread(alloc: Global) -> Result<bool, Fail> {
+    let unread = job_of(alloc, OUTPUT, "", "emit a\nquery\nemit b")?;
+    let next = job_of(alloc, OUTPUT, "x", "query")?;
+    let mut stage = stage_of(alloc, [].as_slice())?;
+    Ok(goes_on(&mut stage, unread, next) && !stage.is_rough())
+}
+
+#[test]
+fn broken_pipe_ends_the_script(rt: HostRuntime) -> Result<(), Fail> {
+    assert!(rt; ends_unread(rt.alloc())?);
+    Ok(())
+}
+
+// What is no job is dropped, and what it gave the worker is left there.
+fn passes_over(stage: &mut Stage, none: Bytes, next: Bytes) -> bool {
+    give(stage, none)
+        && stage.settle()
+        && close(stage, 0)
+        && give(stage, next)
+        && is_put_out(stage, b"x\n")
+}
+
+fn drops_no_job(alloc: Global, script: &str) -> Result<bool, Fail> {
+    let none = job_of(alloc, OUTPUT, "", script)?;
+    let next = job_of(alloc, OUTPUT + 1, "x", "query")?;
+    let mut stage = stage_of(alloc, [].as_slice())?;
+    Ok(passes_over(&mut stage, none, next))
+}
+
+#[test]
+fn what_is_no_job_is_dropped(rt: HostRuntime) -> Result<(), Fail> {
+    assert!(rt; drops_no_job(rt.alloc(), "jump")?);
+    assert!(rt; drops_no_job(rt.alloc(), "emit a\ncat ")?);
+    Ok(())
+}
+
+// The job pipe ends behind a job: the job is run, and then the worker makes no more calls.
+fn stops(stage: &mut Stage, job: Bytes) -> bool {
+    give(stage, job)
+        && close(stage, 1)
+        && is_put_out(stage, b"x\n")
+        && stage.settle()
+        && has_free(stage, OUTPUT)
+}
+
+fn stops_at_the_end(alloc: Global) -> Result<bool, Fail> {
+    let job = job_of(alloc, OUTPUT, "x", "query")?;
+    let mut stage = stage_of(alloc, [].as_slice())?;
+    Ok(stops(&mut stage, job) && !stage.is_rough())
+}
+
+#[test]
+fn job_pipe_ends(rt: HostRuntime) -> Result<(), Fail> {
+    assert!(rt; stops_at_the_end(rt.alloc())?);
+    Ok(())
+}
