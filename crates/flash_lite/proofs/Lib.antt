@@ -1,6 +1,7 @@
 pub mod AnyStore
 pub mod Apart
 pub mod Begun
+pub mod Few
 pub mod Fewer
 pub mod Filing
 pub mod Gathered

@@ -29,7 +29,7 @@ at_within conns fd x lt =
     let e : fd + 1 - length conns ≡ 0 = omega (arith, lt) in
     ap (λ k. slice_set (conns ++ replicate k None) fd x) e ∙ ap (λ (l : List (Option Conn)). slice_set l fd x) (append-nil conns)
 
-within : (conns : List (Option Conn)) (fd : ℕ) (x : Conn) → in_place conns fd ≡ Some x → fd < length conns
+pub within : (conns : List (Option Conn)) (fd : ℕ) (x : Conn) → in_place conns fd ≡ Some x → fd < length conns
 within [] fd x there = absurd (cc)
 within (y ∷ conns) zero x there = omega arith
 within (y ∷ conns) (suc fd) x there = let h = within conns fd x there in omega arith
@@ -153,7 +153,7 @@ never_none conns from place is none =
 
 -- ---- how many there are
 
-taken_kept : (conns : List (Option Conn)) (i : ℕ) (x y : Conn) → in_place conns i ≡ Some x → taken (slice_set conns i (Some y)) ≡ taken conns
+pub taken_kept : (conns : List (Option Conn)) (i : ℕ) (x y : Conn) → in_place conns i ≡ Some x → taken (slice_set conns i (Some y)) ≡ taken conns
 taken_kept [] i x y there = absurd (cc)
 taken_kept (None ∷ l) zero x y there = absurd (cc)
 taken_kept (Some z ∷ l) zero x y there = refl

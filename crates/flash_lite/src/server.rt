@@ -1,5 +1,5 @@
 //! The server: all connections, by one call a turn.
-ghost use Rattle.std.specs.Prelude.{◌≡◌, ◌<◌, ◌≤◌, ◌+◌, ◌^◌, ℕ, [], IfOk, IfSome, OnErr, MatchOption, None, Some, is_some, length, nat_lt, position};
+ghost use Rattle.std.specs.Prelude.{◌≡◌, ◌<◌, ◌≤◌, ◌+◌, ◌^◌, ℕ, [], IfOk, IfSome, OnErr, OnOk, MatchOption, None, Some, is_some, length, nat_lt, position};
 ghost use Rattle.iol_core.specs.Numbered.{in_place, taken};
 ghost use Rattle.iol_proc.specs.Looks.{lent};
 ghost use Rattle.iol_proc.specs.Quiet.{IsQuiet};
@@ -8,6 +8,7 @@ ghost use Rattle.flash_laws.specs.Policy.{in_rounds, next_place};
 ghost use Rattle.flash_laws.specs.Serves.{Picks, new_server, heard_of, server_turns};
 ghost use Rattle.flash_laws.specs.Tied.{filed, grown, with_at};
 ghost use Rattle.flash_laws.specs.declared.doing.Flight.TheVariants.{Nothing, Accepting, At};
+ghost use Rattle.flash_lite.specs.Few.{IsFew};
 ghost use Rattle.flash_lite.specs.Heard.{heard};
 ghost use Rattle.flash_lite.specs.Offering.{OffersNext};
 ghost use Rattle.flash_lite.specs.Turning.{OnwardIn, MayRest, left_at, CallAt, Makes, PicksFrom, door_to, most_with};
@@ -319,6 +320,10 @@ impl Process for Server {
 
         // What is offered is the next bytes of the response to the request.
         ensures offers { IfOk result (λ turn. OffersNext self.new turn) }
+
+        // It holds at most 256 connections, and one fewer while another is being accepted.
+        ensures few { IsFew self.old.conns self.old.flight → OnOk result
+            (IsFew self.new.conns self.new.flight) }
     {
         offers_law();
         let parts = lent_by(last, look);
