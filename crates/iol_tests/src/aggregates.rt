@@ -30,36 +30,39 @@ fn start<R: Abort>(rt: &R, alloc: Global) -> (Store, PoolId)
 }
 
 // Bytes that come and go.
-fn round<R: Abort>(rt: &R, alloc: Global, store: &mut Store, pool: PoolId) {
+fn round<R: Abort>(rt: &R, alloc: Global, store: &mut Store, pool: PoolId) -> bool {
     let agg = filled(rt, alloc, store, pool, b"hello");
-    assert_eq!(rt; agg.len(), 5);
+    let len = agg.len();
     agg.release(store);
+    len == 5
 }
 
 // The same bytes once more, for a while.
-fn copy_all<R: Abort>(rt: &R, alloc: Global, store: &mut Store, agg: &Agg)
+fn copy_all<R: Abort>(rt: &R, alloc: Global, store: &mut Store, agg: &Agg) -> bool
     requires { IsHeldBy store.old (bufs_of agg.now) }
     ensures { IsHeldBy store.new (bufs_of agg.now) }
 {
     let len = agg.len();
     let copy = agg.dup(alloc, store).expect(rt, "memory");
-    assert_eq!(rt; copy.len(), len);
+    let copied = copy.len();
     copy.release(store);
+    copied == len
 }
 
 // The second half, for a while.
-fn copy_half<R: Abort>(rt: &R, alloc: Global, store: &mut Store, agg: &Agg)
+fn copy_half<R: Abort>(rt: &R, alloc: Global, store: &mut Store, agg: &Agg) -> bool
     requires { IsHeldBy store.old (bufs_of agg.now) }
     ensures { IsHeldBy store.new (bufs_of agg.now) }
 {
     let len = agg.len();
     let part = agg.cut(alloc, store, len / 2, len).expect(rt, "memory");
-    assert_eq!(rt; part.len(), len - len / 2);
+    let copied = part.len();
     part.release(store);
+    copied == len - len / 2
 }
 
 // All bytes in place of the second half, for a while.
-fn replace_half<R: Abort>(rt: &R, alloc: Global, store: &mut Store, agg: &Agg)
+fn replace_half<R: Abort>(rt: &R, alloc: Global, store: &mut Store, agg: &Agg) -> bool
     requires { IsHeldBy store.old (bufs_of agg.now) }
     ensures { IsHeldBy store.new (bufs_of agg.now) }
 {
@@ -68,37 +71,48 @@ fn replace_half<R: Abort>(rt: &R, alloc: Global, store: &mut Store, agg: &Agg)
     let more = agg
         .replace(alloc, store, len / 2, len, agg)
         .expect(rt, "memory");
-    assert_eq!(rt; more.len(), len / 2 + len);
+    let replaced = more.len();
     more.release(store);
+    replaced == len / 2 + len
 }
 
 // Splits the bytes and joins them again, and gives them up.
-fn split_and_join<R: Abort>(rt: &R, store: &mut Store, agg: Agg)
+fn split_and_join<R: Abort>(rt: &R, store: &mut Store, agg: Agg) -> bool
     requires { IsHeldBy store.old (bufs_of agg) }
 {
     let len = agg.len();
     let half = len / 2;
     let (first, second) = agg.split(store, half).expect(rt, "memory");
-    assert_eq!(rt; first.len(), half);
-    assert_eq!(rt; second.len(), len - half);
+    let halves = (first.len(), second.len());
     let whole = first.join(second).expect(rt, "memory");
-    assert_eq!(rt; whole.len(), len);
+    let joined = whole.len();
     whole.release(store);
+    halves == (half, len - half) && joined == len
 }
 
 // What an aggregate of 70,000 bytes has: two buffers, since a chunk has 65,536.
-fn look<R: Abort>(rt: &R, alloc: Global, store: &Store, agg: &Agg, text: &[u8])
+fn has_two_buffers(store: &Store, agg: &Agg) -> bool
     requires { AllReadable store.now agg.now }
 {
-    assert_eq!(rt; agg.len(), 70_000);
-    assert_eq!(rt; agg.slices().len(), 2);
-    assert_eq!(rt; agg.parts(store).count(), 2);
-    let bytes = agg.to_vec(alloc, store).expect(rt, "memory");
-    assert!(rt; bytes.as_slice() == text);
+    agg.len() == 70_000 && agg.slices().len() == 2 && agg.parts(store).count() == 2
 }
 
-// There is no room for the same bytes beside the first ones.
-fn refuse_more<R: Abort>(rt: &R, alloc: Global, store: &mut Store, pool: PoolId, text: &[u8])
+// Whether an aggregate has these bytes.
+fn has_bytes<R: Abort>(rt: &R, alloc: Global, store: &Store, agg: &Agg, text: &[u8]) -> bool
+    requires { AllReadable store.now agg.now }
+{
+    let bytes = agg.to_vec(alloc, store).expect(rt, "memory");
+    bytes.as_slice() == text
+}
+
+// How the same bytes beside the first ones are refused, for which there is no room.
+fn refuse_more<R: Abort>(
+    rt: &R,
+    alloc: Global,
+    store: &mut Store,
+    pool: PoolId,
+    text: &[u8],
+) -> Refusal
     ensures { store.new ≡ store.old }
 {
     assert!(rt; text.len() <= MAX_AGGREGATE_BYTES);
@@ -106,30 +120,36 @@ fn refuse_more<R: Abort>(rt: &R, alloc: Global, store: &mut Store, pool: PoolId,
     let Err(refusal) = Agg::fill(alloc, store, pool, text) else {
         panic!(rt; "room beside the first bytes");
     };
-    assert_eq!(rt; refusal, Refusal::NoRoom { pool });
+    refusal
 }
 
 // Bytes come and go many times.
-fn repeat<R: Abort>(rt: &R, alloc: Global, store: &mut Store, pool: PoolId) {
-    assert_eq!(rt; store.buffer_count(), 0);
+fn repeat<R: Abort>(rt: &R, alloc: Global, store: &mut Store, pool: PoolId) -> bool {
+    let mut all = store.buffer_count() == 0;
     for _ in 0..100_000 {
-        round(rt, alloc, store, pool);
+        all &= round(rt, alloc, store, pool);
     }
-    assert_eq!(rt; store.buffer_count(), 0);
+    all && store.buffer_count() == 0
+}
+
+fn all_hold<R: Abort>(rt: &R, alloc: Global, text: &[u8]) -> bool {
+    let (mut store, pool) = start(rt, alloc);
+    let agg = filled(rt, alloc, &mut store, pool, text);
+    let two = has_two_buffers(&store, &agg);
+    let read = has_bytes(rt, alloc, &store, &agg, text);
+    let copied = copy_all(rt, alloc, &mut store, &agg);
+    let halved = copy_half(rt, alloc, &mut store, &agg);
+    let replaced = replace_half(rt, alloc, &mut store, &agg);
+    let refusal = refuse_more(rt, alloc, &mut store, pool, text);
+    let joined = split_and_join(rt, &mut store, agg);
+    let repeated = repeat(rt, alloc, &mut store, pool);
+    let seen = two && read && copied && halved && replaced && joined && repeated;
+    seen && refusal == Refusal::NoRoom { pool }
 }
 
 #[test]
 fn ample(rt: HostRuntime) -> Result<(), Fail> {
-    let alloc = rt.alloc();
-    let text = vec![in alloc; 7u8; 70_000]?;
-    let (mut store, pool) = start(&rt, alloc);
-    let agg = filled(&rt, alloc, &mut store, pool, &text);
-    look(&rt, alloc, &store, &agg, &text);
-    copy_all(&rt, alloc, &mut store, &agg);
-    copy_half(&rt, alloc, &mut store, &agg);
-    replace_half(&rt, alloc, &mut store, &agg);
-    refuse_more(&rt, alloc, &mut store, pool, &text);
-    split_and_join(&rt, &mut store, agg);
-    repeat(&rt, alloc, &mut store, pool);
+    let text = vec![in rt.alloc(); 7u8; 70_000]?;
+    assert!(rt; all_hold(&rt, rt.alloc(), &text));
     Ok(())
 }

@@ -10,7 +10,6 @@ use iol_core::configuration::Config;
 use iol_core::numbers::BufId;
 use std::alloc::Global;
 use std::process::Abort;
-use std::test::Fail;
 
 /// A buffer of five bytes, 7 and zeros.
 pub fn make_one<R: Abort>(rt: &R, alloc: Global, arena: &mut Arena, set: &ChunkSet) -> BufId
@@ -27,62 +26,63 @@ pub fn make_one<R: Abort>(rt: &R, alloc: Global, arena: &mut Arena, set: &ChunkS
 }
 
 // What such a buffer has.
-fn look<R: Abort>(rt: &R, arena: &Arena, buf: BufId)
+fn has_seven(arena: &Arena, buf: BufId) -> bool
     requires { IsLive arena.now buf }
 {
-    assert_eq!(rt; arena.buffer_count(), 1);
-    assert_eq!(rt; arena.len(buf), 5);
-    assert!(rt; arena.bytes(buf, 0, 5) == [7, 0, 0, 0, 0].as_slice());
+    arena.buffer_count() == 1
+        && arena.len(buf) == 5
+        && arena.bytes(buf, 0, 5) == [7, 0, 0, 0, 0].as_slice()
 }
 
 // Fills a buffer and frees it.
-fn round<R: Abort>(rt: &R, alloc: Global, arena: &mut Arena, set: &ChunkSet)
+fn round<R: Abort>(rt: &R, alloc: Global, arena: &mut Arena, set: &ChunkSet) -> bool
     requires { All (λ c. c < chunk_count arena.old) set.now }
     ensures { chunk_count arena.new ≡ chunk_count arena.old }
 {
     let buf = make_one(rt, alloc, arena, set);
-    look(rt, arena, buf);
+    let has_seven = has_seven(arena, buf);
     arena.free(buf);
+    has_seven
 }
 
 // Begins a filling, writes to it and publishes it.
-fn begin<R: Abort>(rt: &R, alloc: Global, arena: &mut Arena, set: &ChunkSet)
+fn begin<R: Abort>(rt: &R, alloc: Global, arena: &mut Arena, set: &ChunkSet) -> bool
     requires { All (λ c. c < chunk_count arena.old) set.now }
 {
     let mut filling = arena.begin(alloc, set, 70_000).expect(rt, "room");
-    assert_eq!(rt; filling.part_count(), 2);
+    let parts = filling.part_count();
     filling.part_mut(0)[0] = 7;
     let bufs = filling.publish(70_000);
-    assert_eq!(rt; bufs.len(), 2);
+    parts == 2 && bufs.len() == 2
 }
 
 // Takes a chunk, in which nothing lies.
-fn take_one<R: Abort>(rt: &R, arena: &mut Arena) {
+fn take_one<R: Abort>(rt: &R, arena: &mut Arena) -> bool {
     let chunk = arena.take_chunk().expect(rt, "a chunk");
-    assert_eq!(rt; arena.free_in(chunk), 16);
-    assert_eq!(rt; arena.retired_in(chunk), 0);
-    assert!(rt; arena.is_unused(chunk));
+    arena.free_in(chunk) == 16 && arena.retired_in(chunk) == 0 && arena.is_unused(chunk)
 }
 
 // Takes two more, on which buffers come and go.
-fn use_two<R: Abort>(rt: &R, alloc: Global, arena: &mut Arena) {
+fn use_two<R: Abort>(rt: &R, alloc: Global, arena: &mut Arena) -> bool {
     let set = arena.take_chunks(alloc, 2).expect(rt, "chunks");
+    let mut all = true;
     for _ in 0..100_000 {
-        round(rt, alloc, arena, &set);
+        all &= round(rt, alloc, arena, &set);
     }
-    begin(rt, alloc, arena, &set);
+    begin(rt, alloc, arena, &set) && all
 }
 
-#[test]
-fn ample(rt: HostRuntime) -> Result<(), Fail> {
-    let alloc = rt.alloc();
+fn all_hold<R: Abort>(rt: &R, alloc: Global) -> bool {
     let config = Config {
         chunks: 3,
         gen_limit: u32::MAX,
         sums: 1,
     };
-    let mut arena = Arena::new(alloc, config).expect(&rt, "memory");
-    take_one(&rt, &mut arena);
-    use_two(&rt, alloc, &mut arena);
-    Ok(())
+    let mut arena = Arena::new(alloc, config).expect(rt, "memory");
+    take_one(rt, &mut arena) && use_two(rt, alloc, &mut arena)
+}
+
+#[test]
+fn ample(rt: HostRuntime) {
+    assert!(rt; all_hold(&rt, rt.alloc()));
 }

@@ -1,15 +1,30 @@
 //! What comes in from a reader.
-use crate::line::{Line, NONE};
+use crate::checks::pass;
+use crate::line::{Line, NONE, text};
 use crate::streams::{Sink, Source};
+use iol_core::lists::Bytes;
 use iol_core::numbers::PoolId;
 use iol_core::refusals::Refusal;
 use iol_sock::Arrived;
 use std::alloc::Global;
-use std::process::Abort;
+use std::test::Fail;
 
 const END: Arrived = Arrived {
     taken: 0,
     end: true,
+    failed: false,
+};
+
+// Four bytes came, and the rest of six.
+const SOME: Arrived = Arrived {
+    taken: 4,
+    end: false,
+    failed: false,
+};
+
+const MORE: Arrived = Arrived {
+    taken: 2,
+    end: false,
     failed: false,
 };
 
@@ -28,120 +43,142 @@ fn given(taken: u32) -> Arrived {
 }
 
 // A request comes in, and goes out again: one byte to a writer that fails then, the others as a segment.
-fn echo_get<R: Abort>(rt: &R, line: &mut Line, reader: &mut Source<'_>, writer: &mut Sink) {
-    line.arrives(rt, reader, 8, Ok(given(3)));
-    line.arrives(rt, reader, 8, Ok(END));
-    line.echo(rt);
-    line.drains(rt, writer, 8, (1, true));
-    assert_eq!(rt; writer.bytes(), b"G".as_slice());
-    line.transmits(rt, 9, (b"ET", 0xbaab));
+fn echoes_get(line: &mut Line, reader: &mut Source<'_>, writer: &mut Sink) -> bool {
+    line.arrives(reader, 8, Ok(given(3)))
+        && line.arrives(reader, 8, Ok(END))
+        && line.echo()
+        && line.drains(writer, 8, (1, true))
+        && writer.bytes() == b"G".as_slice()
+        && line.transmits(9, (b"ET", 0xbaab))
+}
+
+fn gets(alloc: Global) -> Result<bool, Refusal> {
+    let mut line = Line::new(alloc)?;
+    let mut reader = Source::new(b"GET", 8, 0);
+    let mut writer = Sink::new(alloc, 1, 2);
+    Ok(echoes_get(&mut line, &mut reader, &mut writer))
 }
 
 #[test]
-fn borrowed_get(rt: HostRuntime) {
-    let mut line = Line::new(&rt, rt.alloc());
-    let mut reader = Source::new(b"GET", 8, 0);
-    let mut writer = Sink::new(rt.alloc(), 1, 2);
-    echo_get(&rt, &mut line, &mut reader, &mut writer);
+fn borrowed_get(rt: HostRuntime) -> Result<(), Fail> {
+    pass(gets(rt.alloc()))
 }
 
 // A full queue, a peer that sends no more, and a connection that is not there.
-fn refuse<R: Abort>(rt: &R, alloc: Global, line: &mut Line, reader: &mut Source<'_>) {
-    line.arrive(rt, alloc, 65_536);
-    line.arrives(rt, reader, 9, Err(Refusal::WouldBlock));
-    line.end(rt);
-    line.arrives(rt, reader, 0, Err(Refusal::BadRange));
-    line.arrives(rt, reader, 9, Err(Refusal::BrokenPipe));
-    let none = line.arrive_from(NONE, reader, 0);
-    assert!(rt; none == Err(Refusal::BadFd));
-    assert_eq!(rt; reader.reads, 0);
+fn refuses_all(line: &mut Line, full: Bytes, reader: &mut Source<'_>) -> bool {
+    line.arrive(full)
+        && line.arrives(reader, 9, Err(Refusal::WouldBlock))
+        && line.end()
+        && line.arrives(reader, 0, Err(Refusal::BadRange))
+        && line.arrives(reader, 9, Err(Refusal::BrokenPipe))
+        && line.arrive_from(NONE, reader, 0) == Err(Refusal::BadFd)
+        && reader.reads == 0
+}
+
+fn refuses(alloc: Global) -> Result<bool, Refusal> {
+    let full = text(alloc, 65_536)?;
+    let mut line = Line::new(alloc)?;
+    let mut reader = Source::new(b"abc", 9, 0);
+    Ok(refuses_all(&mut line, full, &mut reader))
 }
 
 #[test]
-fn refused_before_it_reads(rt: HostRuntime) {
-    let mut line = Line::new(&rt, rt.alloc());
-    let mut reader = Source::new(b"abc", 9, 0);
-    refuse(&rt, rt.alloc(), &mut line, &mut reader);
+fn refused_before_it_reads(rt: HostRuntime) -> Result<(), Fail> {
+    pass(refuses(rt.alloc()))
 }
 
 // All pages are in use.
-fn refuse_room<R: Abort>(rt: &R, alloc: Global, line: &mut Line, reader: &mut Source<'_>) {
+fn refuses_room(line: &mut Line, all: Bytes, reader: &mut Source<'_>) -> bool {
     let pool = PoolId::new(1);
-    line.fill(rt, alloc, 131_072);
-    line.arrives(rt, reader, 9, Err(Refusal::NoRoom { pool }));
-    assert_eq!(rt; reader.reads, 0);
+    line.fill(all) && line.arrives(reader, 9, Err(Refusal::NoRoom { pool })) && reader.reads == 0
 }
 
-#[test]
-fn no_room_before_it_reads(rt: HostRuntime) {
-    let mut line = Line::new(&rt, rt.alloc());
+fn has_no_room(alloc: Global) -> Result<bool, Refusal> {
+    let all = text(alloc, 131_072)?;
+    let mut line = Line::new(alloc)?;
     let mut reader = Source::new(b"abc", 9, 0);
-    refuse_room(&rt, rt.alloc(), &mut line, &mut reader);
+    Ok(refuses_room(&mut line, all, &mut reader))
 }
 
-// So many bytes came in before. A reader with more than a page is asked for at most `max`.
-fn asks_for<R: Abort>(rt: &R, alloc: Global, before: usize, max: u32, taken: u32) {
-    let bytes = vec![in alloc; b'b'; 5000].expect(rt, "memory");
-    let mut line = Line::new(rt, alloc);
-    line.arrive(rt, alloc, before);
-    let mut reader = Source::new(&bytes, 5000, 0);
-    one_more(rt, &mut line, &mut reader, max, (given(taken), 1));
-}
-
-// At most what is asked for, a page, and what fits the queue.
 #[test]
-fn asks_for_what_fits(rt: HostRuntime) {
-    asks_for(&rt, rt.alloc(), 0, 1, 1);
-    asks_for(&rt, rt.alloc(), 0, 9000, 4096);
-    asks_for(&rt, rt.alloc(), 65_530, 9000, 6);
+fn no_room_before_it_reads(rt: HostRuntime) -> Result<(), Fail> {
+    pass(has_no_room(rt.alloc()))
 }
 
-// One arrival more: there were so many reads then.
-fn one_more<R: Abort>(
-    rt: &R,
-    line: &mut Line,
-    reader: &mut Source<'_>,
-    max: u32,
-    (want, reads): (Arrived, usize),
-) {
-    line.arrives(rt, reader, max, Ok(want));
-    assert_eq!(rt; reader.reads, reads);
+// How many bytes came in before, how many are asked for, and how many are taken: at most what is asked for, a page, and what fits
+// the queue.
+const ASKED: [(usize, u32, u32); 3] = [(0, 1, 1), (0, 9000, 4096), (65_530, 9000, 6)];
+
+// What came in before comes in, and then what is read at once from a reader with more than a page.
+fn takes(line: &mut Line, before: Bytes, reader: &mut Source<'_>, max: u32, taken: u32) -> bool {
+    line.arrive(before) && line.arrives(reader, max, Ok(given(taken))) && reader.reads == 1
 }
 
-// Arrivals, each with what it answers, how many reads there were then, and how many buffers are live. In the end all came in.
-fn arrive_all<R: Abort>(
-    rt: &R,
-    line: &mut Line,
-    reader: &mut Source<'_>,
-    arrivals: &[(Arrived, usize, u32)],
-) {
-    for (want, reads, buffers) in arrivals {
-        one_more(rt, line, reader, 9, (*want, *reads));
-        line.holds(rt, *buffers);
+fn asks_for(alloc: Global, before: usize, max: u32, taken: u32) -> Result<bool, Refusal> {
+    let before = text(alloc, before)?;
+    let more = text(alloc, 5000)?;
+    let mut line = Line::new(alloc)?;
+    let mut reader = Source::new(more.as_slice(), 5000, 0);
+    Ok(takes(&mut line, before, &mut reader, max, taken))
+}
+
+fn all_ask(alloc: Global) -> Result<bool, Refusal> {
+    let mut all = true;
+    for (before, max, taken) in ASKED {
+        all &= asks_for(alloc, before, max, taken)?;
     }
-    line.reads(rt, b"abcdef");
-    line.holds(rt, 0);
+    Ok(all)
 }
+
+#[test]
+fn asks_for_what_fits(rt: HostRuntime) -> Result<(), Fail> {
+    pass(all_ask(rt.alloc()))
+}
+
+// An arrival: what it answers, how many reads there were then, and how many buffers are live.
+type Arrival = (Arrived, usize, u32);
 
 // A reader of six bytes gives four at once, and fails at that read. Each arrival is one read, and makes a buffer where it
 // gives bytes.
-fn fails_at<R: Abort>(rt: &R, alloc: Global, fails: usize, arrivals: &[(Arrived, usize, u32)]) {
-    let mut line = Line::new(rt, alloc);
+const FAILING: [(usize, &[Arrival]); 4] = [
+    (0, &[(SOME, 1, 1), (MORE, 2, 2), (END, 3, 2)]),
+    (1, &[(FAILURE, 1, 0), (SOME, 2, 1), (MORE, 3, 2)]),
+    (2, &[(SOME, 1, 1), (FAILURE, 2, 1), (MORE, 3, 2)]),
+    (
+        3,
+        &[(SOME, 1, 1), (MORE, 2, 2), (FAILURE, 3, 2), (END, 4, 2)],
+    ),
+];
+
+fn arrival_holds(line: &mut Line, reader: &mut Source<'_>, arrival: &Arrival) -> bool {
+    let (want, reads, buffers) = *arrival;
+    line.arrives(reader, 9, Ok(want)) && reader.reads == reads && line.holds(buffers)
+}
+
+// Arrivals, one after another. In the end all came in.
+fn all_arrive(line: &mut Line, reader: &mut Source<'_>, arrivals: &[Arrival]) -> bool {
+    let mut all = true;
+    for arrival in arrivals {
+        all &= arrival_holds(line, reader, arrival);
+    }
+    all && line.reads(b"abcdef") && line.holds(0)
+}
+
+fn fails_at(alloc: Global, fails: usize, arrivals: &[Arrival]) -> Result<bool, Refusal> {
+    let mut line = Line::new(alloc)?;
     let mut reader = Source::new(b"abcdef", 4, fails);
-    arrive_all(rt, &mut line, &mut reader, arrivals);
+    Ok(all_arrive(&mut line, &mut reader, arrivals))
+}
+
+fn all_fail(alloc: Global) -> Result<bool, Refusal> {
+    let mut all = true;
+    for (fails, arrivals) in FAILING {
+        all &= fails_at(alloc, fails, arrivals)?;
+    }
+    Ok(all)
 }
 
 #[test]
-fn fails_at_each_read(rt: HostRuntime) {
-    let (some, more, none, bad) = (given(4), given(2), END, FAILURE);
-    let alloc = rt.alloc();
-    fails_at(&rt, alloc, 0, &[(some, 1, 1), (more, 2, 2), (none, 3, 2)]);
-    fails_at(&rt, alloc, 1, &[(bad, 1, 0), (some, 2, 1), (more, 3, 2)]);
-    fails_at(&rt, alloc, 2, &[(some, 1, 1), (bad, 2, 1), (more, 3, 2)]);
-    fails_at(
-        &rt,
-        alloc,
-        3,
-        &[(some, 1, 1), (more, 2, 2), (bad, 3, 2), (none, 4, 2)],
-    );
+fn fails_at_each_read(rt: HostRuntime) -> Result<(), Fail> {
+    pass(all_fail(rt.alloc()))
 }

@@ -1,10 +1,11 @@
 //! What goes out to a writer.
+use crate::checks::pass;
 use crate::line::{Line, NONE};
 use crate::streams::{Sink, Source};
 use iol_core::refusals::Refusal;
 use iol_sock::Arrived;
 use std::alloc::Global;
-use std::process::Abort;
+use std::test::Fail;
 
 fn given(taken: u32) -> Arrived {
     Arrived {
@@ -15,94 +16,105 @@ fn given(taken: u32) -> Arrived {
 }
 
 // Two buffers wait to be sent, of three bytes and of two.
-fn two_buffers<R: Abort>(rt: &R, alloc: Global) -> Line {
-    let mut line = Line::new(rt, alloc);
-    let mut reader = Source::new(b"abcde", 3, 0);
-    line.arrives(rt, &mut reader, 9, Ok(given(3)));
-    line.arrives(rt, &mut reader, 9, Ok(given(2)));
-    line.echo(rt);
-    line
+fn let_wait(line: &mut Line, reader: &mut Source<'_>) -> bool {
+    line.arrives(reader, 9, Ok(given(3))) && line.arrives(reader, 9, Ok(given(2))) && line.echo()
 }
 
 // A connection that is not there.
-fn refuse<R: Abort>(rt: &R, line: &mut Line, writer: &mut Sink) {
-    let none = line.drain_to(NONE, writer, 9);
-    assert!(rt; none == Err(Refusal::BadFd));
-    assert_eq!(rt; writer.writes, 0);
+fn refuses_none(line: &mut Line, reader: &mut Source<'_>, writer: &mut Sink) -> bool {
+    let_wait(line, reader)
+        && line.drain_to(NONE, writer, 9) == Err(Refusal::BadFd)
+        && writer.writes == 0
+}
+
+fn refuses(alloc: Global) -> Result<bool, Refusal> {
+    let mut line = Line::new(alloc)?;
+    let mut reader = Source::new(b"abcde", 3, 0);
+    let mut writer = Sink::new(alloc, 9, 0);
+    Ok(refuses_none(&mut line, &mut reader, &mut writer))
 }
 
 #[test]
-fn refused_before_it_writes(rt: HostRuntime) {
-    let mut line = two_buffers(&rt, rt.alloc());
-    let mut writer = Sink::new(rt.alloc(), 9, 0);
-    refuse(&rt, &mut line, &mut writer);
+fn refused_before_it_writes(rt: HostRuntime) -> Result<(), Fail> {
+    pass(refuses(rt.alloc()))
 }
 
-// A write fails: so many bytes are sent, and the next time the rest.
-fn drain_twice<R: Abort>(
-    rt: &R,
-    line: &mut Line,
-    writer: &mut Sink,
-    fails: usize,
-    (taken, rest): (u32, u32),
-) {
-    line.drains(rt, writer, 9, (taken, true));
-    assert_eq!(rt; writer.writes, fails);
-    assert_eq!(rt; writer.bytes().len(), taken as usize);
-    line.drains(rt, writer, 9, (rest, false));
-    assert_eq!(rt; writer.bytes(), b"abcde".as_slice());
-    line.holds(rt, 0);
+// Which write fails, how many bytes are sent then, and how many the next time.
+const FAILING: [(usize, u32, u32); 3] = [(1, 0, 5), (2, 2, 3), (3, 3, 2)];
+
+// A write fails: so many bytes are sent.
+fn first_fails(line: &mut Line, writer: &mut Sink, fails: usize, taken: u32) -> bool {
+    line.drains(writer, 9, (taken, true))
+        && writer.writes == fails
+        && writer.bytes().len() == taken as usize
+}
+
+// The next time the rest is sent.
+fn rest_follows(line: &mut Line, writer: &mut Sink, rest: u32) -> bool {
+    line.drains(writer, 9, (rest, false)) && writer.bytes() == b"abcde".as_slice() && line.holds(0)
 }
 
 // A writer that takes at most two bytes at once fails at that write.
-fn fails_at<R: Abort>(rt: &R, alloc: Global, fails: usize, taken: u32, rest: u32) {
-    let mut line = two_buffers(rt, alloc);
+fn fails_at(alloc: Global, fails: usize, taken: u32, rest: u32) -> Result<bool, Refusal> {
+    let mut line = Line::new(alloc)?;
+    let mut reader = Source::new(b"abcde", 3, 0);
     let mut writer = Sink::new(alloc, 2, fails);
-    drain_twice(rt, &mut line, &mut writer, fails, (taken, rest));
+    let waits = let_wait(&mut line, &mut reader);
+    let failed = first_fails(&mut line, &mut writer, fails, taken);
+    Ok(waits && failed && rest_follows(&mut line, &mut writer, rest))
+}
+
+fn all_fail(alloc: Global) -> Result<bool, Refusal> {
+    let mut all = true;
+    for (fails, taken, rest) in FAILING {
+        all &= fails_at(alloc, fails, taken, rest)?;
+    }
+    Ok(all)
 }
 
 #[test]
-fn fails_at_each_write(rt: HostRuntime) {
-    fails_at(&rt, rt.alloc(), 1, 0, 5);
-    fails_at(&rt, rt.alloc(), 2, 2, 3);
-    fails_at(&rt, rt.alloc(), 3, 3, 2);
+fn fails_at_each_write(rt: HostRuntime) -> Result<(), Fail> {
+    pass(all_fail(rt.alloc()))
 }
 
-// A writer is lent `max` of the five bytes that wait: so many it takes, in so many writes.
-fn drain_once<R: Abort>(
-    rt: &R,
-    line: &mut Line,
-    writer: &mut Sink,
-    max: u32,
-    (taken, failed, writes): (u32, bool, usize),
-) {
-    line.drains(rt, writer, max, (taken, failed));
-    assert_eq!(rt; writer.writes, writes);
-    assert!(rt; b"abcde".as_slice().starts_with(writer.bytes()));
+// How many bytes a writer takes at most at once, how many of the five that wait it is lent, how many it takes, and in how many
+// writes. One that takes none has failed. There is a write for each buffer and each part that is not taken whole, and none for
+// nothing: no more writes than bytes, but for the writer that takes none.
+const WRITES: [(usize, u32, u32, usize); 8] = [
+    (9, 9, 5, 2),
+    (9, 4, 4, 2),
+    (9, 3, 3, 1),
+    (9, 0, 0, 0),
+    (2, 9, 5, 3),
+    (1, 9, 5, 5),
+    (1, 3, 3, 3),
+    (0, 9, 0, 1),
+];
+
+fn takes(line: &mut Line, writer: &mut Sink, max: u32, want: (u32, bool), writes: usize) -> bool {
+    line.drains(writer, max, want)
+        && writer.writes == writes
+        && b"abcde".as_slice().starts_with(writer.bytes())
 }
 
-// A writer takes at most `most` bytes at once. One that takes none has failed.
-fn writes<R: Abort>(
-    rt: &R,
-    alloc: Global,
-    (most, max): (usize, u32),
-    (taken, writes): (u32, usize),
-) {
-    let mut line = two_buffers(rt, alloc);
+fn writes(alloc: Global, row: (usize, u32, u32, usize)) -> Result<bool, Refusal> {
+    let (most, max, taken, writes) = row;
+    let mut line = Line::new(alloc)?;
+    let mut reader = Source::new(b"abcde", 3, 0);
     let mut writer = Sink::new(alloc, most, 0);
-    drain_once(rt, &mut line, &mut writer, max, (taken, most == 0, writes));
+    let waits = let_wait(&mut line, &mut reader);
+    Ok(waits && takes(&mut line, &mut writer, max, (taken, most == 0), writes))
 }
 
-// A write for each buffer and each part that is not taken whole, and none for nothing: no more writes than bytes, but for the
-// one that takes none.
+fn all_write(alloc: Global) -> Result<bool, Refusal> {
+    let mut all = true;
+    for row in WRITES {
+        all &= writes(alloc, row)?;
+    }
+    Ok(all)
+}
+
 #[test]
-fn a_write_a_part(rt: HostRuntime) {
-    writes(&rt, rt.alloc(), (9, 9), (5, 2));
-    writes(&rt, rt.alloc(), (9, 4), (4, 2));
-    writes(&rt, rt.alloc(), (9, 3), (3, 1));
-    writes(&rt, rt.alloc(), (9, 0), (0, 0));
-    writes(&rt, rt.alloc(), (2, 9), (5, 3));
-    writes(&rt, rt.alloc(), (1, 9), (5, 5));
-    writes(&rt, rt.alloc(), (1, 3), (3, 3));
-    writes(&rt, rt.alloc(), (0, 9), (0, 1));
+fn a_write_a_part(rt: HostRuntime) -> Result<(), Fail> {
+    pass(all_write(rt.alloc()))
 }

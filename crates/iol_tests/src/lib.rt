@@ -14,6 +14,8 @@ mod arenas;
 #[cfg(test)]
 mod arriving;
 #[cfg(test)]
+mod checks;
+#[cfg(test)]
 mod consumer;
 #[cfg(test)]
 mod draining;

@@ -9,7 +9,6 @@ use iol_core::numbers::{AggId, ConnId, DomainId, Fd, PoolId};
 use iol_core::refusals::Refusal;
 use iol_sock::{Arrived, Drained};
 use std::alloc::{AllocError, Global};
-use std::process::Abort;
 
 // The connection that is there.
 const CONN: u32 = 1;
@@ -31,29 +30,31 @@ fn call_of(call: Call) -> Event {
     Event::Call { by, call }
 }
 
-// What makes the pool and the connection.
-fn beginnings(alloc: Global) -> Result<Vec<Event>, AllocError> {
+// What makes the pool, for these domains, and the connection.
+fn beginnings(domains: Domains) -> [Event; 4] {
     let (pool, chunks) = (PoolId::new(1), CONFIG.chunks);
-    let domains = Domains::from_vec([DomainId::new(1)].to_vec(alloc)?);
-    Ok(vec![in alloc;
+    [
         call_of(Call::PoolCreate { chunks, domains }),
         call_of(Call::SetPool { pool }),
         Event::ConnNew { pool },
         call_of(Call::Accept),
-    ]?)
+    ]
 }
 
-// Whether nothing was refused.
-fn all_pass(replies: &[Reply]) -> bool {
-    replies
-        .iter()
-        .all(|reply| !matches!(reply, Reply::Refused(_)))
+// What came in is read, as the first aggregate, written back and dropped.
+fn echoing() -> [Event; 3] {
+    let (fd, agg) = (Fd::new(FD), AggId::new(1));
+    [
+        call_of(Call::IolRead { fd, count: 65_536 }),
+        call_of(Call::IolWrite { fd, agg }),
+        call_of(Call::AggDrop { agg }),
+    ]
 }
 
-// So many bytes.
-fn text<R: Abort>(rt: &R, alloc: Global, count: usize) -> Bytes {
-    let list = vec![in alloc; b'a'; count].expect(rt, "memory");
-    Bytes::from_vec(list)
+/// So many bytes.
+pub fn text(alloc: Global, count: usize) -> Result<Bytes, AllocError> {
+    let list = vec![in alloc; b'a'; count]?;
+    Ok(Bytes::from_vec(list))
 }
 
 /// A system over an empty store, with pool 1 of 32 pages, the default of domain 1, and connection 1 of it, which
@@ -64,16 +65,10 @@ pub struct Line {
 }
 
 impl Line {
-    pub fn new<R: Abort>(rt: &R, alloc: Global) -> Line {
-        let events = beginnings(alloc).expect(rt, "memory");
-        let mut machine = Machine::new(alloc, CONFIG).expect(rt, "memory");
-        let replies = machine.run(&events).expect(rt, "memory");
-        assert!(rt; all_pass(&replies));
-        Line { machine }
-    }
-
-    fn call(&mut self, call: Call) -> Reply {
-        self.machine.step(&call_of(call))
+    pub fn new(alloc: Global) -> Result<Line, Refusal> {
+        let domains = Domains::from_vec([DomainId::new(1)].to_vec(alloc)?);
+        let machine = Machine::begun(alloc, CONFIG, &beginnings(domains))?;
+        Ok(Line { machine })
     }
 
     /// Bytes come in from a reader.
@@ -86,16 +81,14 @@ impl Line {
         self.machine.arrive_from(ConnId::new(conn), reader, max)
     }
 
-    /// Bytes come in from a reader, or are refused, as told.
-    pub fn arrives<R: Abort>(
+    /// Whether bytes come in from a reader, or are refused, as told.
+    pub fn arrives(
         &mut self,
-        rt: &R,
         reader: &mut Source<'_>,
         max: u32,
         want: Result<Arrived, Refusal>,
-    ) {
-        let arrived = self.arrive_from(CONN, reader, max);
-        assert_eq!(rt; arrived, want);
+    ) -> bool {
+        self.arrive_from(CONN, reader, max) == want
     }
 
     /// Bytes go out to a writer.
@@ -103,73 +96,54 @@ impl Line {
         self.machine.drain_to(ConnId::new(conn), writer, max)
     }
 
-    /// Bytes go out to a writer: so many, and whether it failed.
-    pub fn drains<R: Abort>(
-        &mut self,
-        rt: &R,
-        writer: &mut Sink,
-        max: u32,
-        (taken, failed): (u32, bool),
-    ) {
-        let drained = self.drain_to(CONN, writer, max);
-        assert_eq!(rt; drained, Ok(Drained { taken, failed }));
+    /// Whether so many bytes go out to a writer, and whether it fails.
+    pub fn drains(&mut self, writer: &mut Sink, max: u32, (taken, failed): (u32, bool)) -> bool {
+        self.drain_to(CONN, writer, max) == Ok(Drained { taken, failed })
     }
 
     /// Bytes arrive that come from no reader.
-    pub fn arrive<R: Abort>(&mut self, rt: &R, alloc: Global, count: usize) {
-        let (conn, bytes) = (ConnId::new(CONN), text(rt, alloc, count));
-        let reply = self.machine.step(&Event::Arrive { conn, bytes });
-        assert!(rt; matches!(reply, Reply::Count(_)));
+    pub fn arrive(&mut self, bytes: Bytes) -> bool {
+        let conn = ConnId::new(CONN);
+        self.machine.counts(&Event::Arrive { conn, bytes })
     }
 
     /// Domain 1 makes an aggregate.
-    pub fn fill<R: Abort>(&mut self, rt: &R, alloc: Global, count: usize) {
-        let bytes = text(rt, alloc, count);
-        let reply = self.call(Call::AggMake { bytes });
-        assert!(rt; matches!(reply, Reply::Agg(_)));
+    pub fn fill(&mut self, bytes: Bytes) -> bool {
+        self.machine.makes(&call_of(Call::AggMake { bytes }))
     }
 
     /// The peer sends no more.
-    pub fn end<R: Abort>(&mut self, rt: &R) {
+    pub fn end(&mut self) -> bool {
         let (conn, how) = (ConnId::new(CONN), How::Done);
-        let reply = self.machine.step(&Event::PeerClosed { conn, how });
-        assert!(rt; matches!(reply, Reply::Done));
+        self.machine.completes(&Event::PeerClosed { conn, how })
     }
 
     /// Domain 1 reads what came in, as its first aggregate, and writes it back.
-    pub fn echo<R: Abort>(&mut self, rt: &R) {
-        let (fd, agg) = (Fd::new(FD), AggId::new(1));
-        let read = self.call(Call::IolRead { fd, count: 65_536 });
-        assert!(rt; matches!(read, Reply::Agg(_)));
-        let written = self.call(Call::IolWrite { fd, agg });
-        assert!(rt; matches!(written, Reply::Count(_)));
-        let dropped = self.call(Call::AggDrop { agg });
-        assert!(rt; matches!(dropped, Reply::Done));
+    pub fn echo(&mut self) -> bool {
+        let [read, write, end] = &echoing();
+        self.machine.makes(read) && self.machine.counts(write) && self.machine.completes(end)
     }
 
-    /// What is sent as a segment: these bytes, with their checksum.
-    pub fn transmits<R: Abort>(&mut self, rt: &R, max: u32, (want, sum): (&[u8], u16)) {
+    /// Whether this is sent as a segment: these bytes, with their checksum.
+    pub fn transmits(&mut self, max: u32, (want, sum): (&[u8], u16)) -> bool {
         let conn = ConnId::new(CONN);
-        let is_sent = match self.machine.step(&Event::Transmit { conn, max }) {
+        match self.machine.step(&Event::Transmit { conn, max }) {
             Reply::Segment { bytes, checksum } => bytes.as_slice() == want && checksum == sum,
             _ => false,
-        };
-        assert!(rt; is_sent);
+        }
     }
 
-    /// Domain 1 reads what came in: these bytes.
-    pub fn reads<R: Abort>(&mut self, rt: &R, want: &[u8]) {
+    /// Whether domain 1 reads these bytes, which came in.
+    pub fn reads(&mut self, want: &[u8]) -> bool {
         let (fd, count) = (Fd::new(FD), 65_536);
-        let is_read = match self.call(Call::Read { fd, count }) {
+        match self.machine.step(&call_of(Call::Read { fd, count })) {
             Reply::Bytes(bytes) => bytes.as_slice() == want,
             _ => false,
-        };
-        assert!(rt; is_read);
+        }
     }
 
-    /// So many buffers are live.
-    pub fn holds<R: Abort>(&self, rt: &R, want: u32) {
-        let buffers = self.machine.buffers().expect(rt, "memory");
-        assert_eq!(rt; buffers, want);
+    /// Whether so many buffers are live.
+    pub fn holds(&self, want: u32) -> bool {
+        self.machine.buffers() == Ok(want)
     }
 }

@@ -18,6 +18,16 @@ fn new_system(alloc: Global, config: Config) -> Result<System<MemoryBacking>, Re
     System::new(alloc, config, store)
 }
 
+// The first refusal among the replies.
+fn first_refusal(replies: &[Reply]) -> Option<Refusal> {
+    for reply in replies {
+        if let Reply::Refused(refusal) = reply {
+            return Some(*refusal);
+        }
+    }
+    None
+}
+
 /// A system over a store in memory.
 #[derive(Drop)]
 pub struct Machine {
@@ -37,12 +47,42 @@ impl Machine {
         Ok(Machine { system })
     }
 
+    /// A system that has carried out these events, of which none may be refused.
+    pub fn begun(alloc: Global, config: Config, events: &[Event]) -> Result<Machine, Refusal> {
+        let mut machine = Machine::new(alloc, config)?;
+        machine.pass_all(events)?;
+        Ok(machine)
+    }
+
+    fn run(&mut self, events: &[Event]) -> Result<Vec<Reply>, AllocError> {
+        self.system.run(events)
+    }
+
+    fn pass_all(&mut self, events: &[Event]) -> Result<(), Refusal> {
+        let replies = self.run(events)?;
+        match first_refusal(&replies) {
+            Some(refusal) => Err(refusal),
+            None => Ok(()),
+        }
+    }
+
     pub fn step(&mut self, event: &Event) -> Reply {
         self.system.step_ref(event)
     }
 
-    pub fn run(&mut self, events: &[Event]) -> Result<Vec<Reply>, AllocError> {
-        self.system.run(events)
+    /// Whether an event is answered by an aggregate.
+    pub fn makes(&mut self, event: &Event) -> bool {
+        matches!(self.step(event), Reply::Agg(_))
+    }
+
+    /// Whether an event is answered by a count.
+    pub fn counts(&mut self, event: &Event) -> bool {
+        matches!(self.step(event), Reply::Count(_))
+    }
+
+    /// Whether an event is done, with nothing to tell.
+    pub fn completes(&mut self, event: &Event) -> bool {
+        matches!(self.step(event), Reply::Done)
     }
 
     pub fn arrive_from(

@@ -30,7 +30,7 @@ fn start<R: Abort>(rt: &R, alloc: Global) -> (Store, PoolId, PoolId)
     (store, both, second)
 }
 
-// Pushes new bytes, and tells how many were taken.
+// Pushes new bytes, and tells how many were taken. Each way to count them comes to the same.
 fn push<R: Abort>(
     rt: &R,
     alloc: Global,
@@ -44,10 +44,10 @@ fn push<R: Abort>(
 {
     let waiting = pipe.len();
     let agg = filled(rt, alloc, store, pool, text);
-    assert_eq!(rt; agg.len() as usize, text.len());
+    let len = agg.len();
     let taken = pipe.push(store, &agg).expect(rt, "memory");
-    assert_eq!(rt; pipe.len() - waiting, taken);
     agg.release(store);
+    assert!(rt; len as usize == text.len() && pipe.len() - waiting == taken);
     taken
 }
 
@@ -66,27 +66,40 @@ fn front<R: Abort>(
     let waiting = pipe.len();
     let given = pipe.front(alloc, store, n, d).expect(rt, "memory");
     let len = given.len();
-    assert_eq!(rt; pipe.len(), waiting - len);
     given.release(store);
+    assert!(rt; pipe.len() == waiting - len);
     len
+}
+
+// How many bytes are asked for, by which domain, and how many it gets of five that both may read and then three of domain 2.
+const FRONTS: [(u32, u32, u32); 5] = [(3, 1, 3), (9, 1, 2), (9, 1, 0), (2, 2, 2), (9, 2, 1)];
+
+// Takes bytes off as the rows say.
+fn fronts_hold<R: Abort>(rt: &R, alloc: Global, store: &mut Store, pipe: &mut Pipe) -> bool
+    requires { IsHeldBy store.old (bufs_of pipe.old) }
+    ensures { IsHeldBy store.new (bufs_of pipe.new) }
+{
+    let mut all = true;
+    for (n, d, want) in FRONTS {
+        all &= front(rt, alloc, store, pipe, n, DomainId::new(d)) == want;
+    }
+    all
+}
+
+fn all_hold<R: Abort>(rt: &R, alloc: Global, text: &[u8]) -> bool {
+    let (mut store, both, second) = start(rt, alloc);
+    let mut pipe = Pipe::new(alloc);
+    let five = push(rt, alloc, &mut store, &mut pipe, both, b"hello");
+    let three = push(rt, alloc, &mut store, &mut pipe, second, b"you");
+    let all_come = fronts_hold(rt, alloc, &mut store, &mut pipe) && pipe.is_empty();
+    let most = push(rt, alloc, &mut store, &mut pipe, second, text);
+    let taken = five == 5 && three == 3 && most == 65_536;
+    taken && all_come && pipe.first_pool() == Some(second)
 }
 
 #[test]
 fn ample(rt: HostRuntime) -> Result<(), Fail> {
-    let alloc = rt.alloc();
-    let text = vec![in alloc; 7u8; 70_000]?;
-    let (mut store, both, second) = start(&rt, alloc);
-    let mut pipe = Pipe::new(alloc);
-    assert_eq!(rt; push(&rt, alloc, &mut store, &mut pipe, both, b"hello"), 5);
-    assert_eq!(rt; push(&rt, alloc, &mut store, &mut pipe, second, b"you"), 3);
-    let table = [(3, 1, 3), (9, 1, 2), (9, 1, 0), (2, 2, 2), (9, 2, 1)];
-    for (n, d, want) in table {
-        let given = front(&rt, alloc, &mut store, &mut pipe, n, DomainId::new(d));
-        assert_eq!(rt; given, want);
-    }
-    assert!(rt; pipe.is_empty());
-    let taken = push(&rt, alloc, &mut store, &mut pipe, second, &text);
-    assert_eq!(rt; taken, 65_536);
-    assert_eq!(rt; pipe.first_pool(), Some(second));
+    let text = vec![in rt.alloc(); 7u8; 70_000]?;
+    assert!(rt; all_hold(&rt, rt.alloc(), &text));
     Ok(())
 }

@@ -5,8 +5,7 @@ use iol_core::events::{Call, Event, Reply};
 use iol_core::lists::Domains;
 use iol_core::numbers::{DomainId, Fd, PoolId};
 use iol_core::refusals::Refusal;
-use std::alloc::{AllocError, Global};
-use std::test::Fail;
+use std::alloc::Global;
 
 pub fn call_of(by: u32, call: Call) -> Event {
     Event::Call {
@@ -15,40 +14,21 @@ pub fn call_of(by: u32, call: Call) -> Event {
     }
 }
 
-// Domain 1 makes domain 2, a pool of both, and a pipe whose read end it gives to domain 2.
-fn beginnings(alloc: Global) -> Result<Vec<Event>, AllocError> {
-    let domains = Domains::from_vec([DomainId::new(1), DomainId::new(2)].to_vec(alloc)?);
+// Domain 1 makes domain 2, a pool of both, which these are, and a pipe whose read end it gives to domain 2.
+fn beginnings(domains: Domains) -> [Event; 5] {
     let (pool, fd, to) = (PoolId::new(1), Fd::new(0), DomainId::new(2));
-    let mut events = vec![in alloc;
+    let chunks = 16;
+    [
         call_of(1, Call::DomainNew),
-        call_of(
-            1,
-            Call::PoolCreate {
-                chunks: 16,
-                domains
-            }
-        ),
-    ]?;
-    events.push(call_of(1, Call::SetPool { pool }))?;
-    events.push(call_of(1, Call::Pipe))?;
-    events.push(call_of(1, Call::GiveFd { fd, to }))?;
-    Ok(events)
-}
-
-// Brings events about, which have to pass.
-fn pass_all(machine: &mut Machine, events: &[Event]) -> Result<(), Refusal> {
-    for reply in machine.run(events)? {
-        if let Reply::Refused(refusal) = reply {
-            return Err(refusal);
-        }
-    }
-    Ok(())
+        call_of(1, Call::PoolCreate { chunks, domains }),
+        call_of(1, Call::SetPool { pool }),
+        call_of(1, Call::Pipe),
+        call_of(1, Call::GiveFd { fd, to }),
+    ]
 }
 
 /// A system with a pipe from domain 1 to domain 2, and a pool of both.
-pub fn system_with_pipe(alloc: Global) -> Result<Machine, Fail> {
-    let events = beginnings(alloc)?;
-    let mut machine = Machine::new(alloc, Config::DEFAULT)?;
-    pass_all(&mut machine, &events)?;
-    Ok(machine)
+pub fn system_with_pipe(alloc: Global) -> Result<Machine, Refusal> {
+    let domains = Domains::from_vec([DomainId::new(1), DomainId::new(2)].to_vec(alloc)?);
+    Machine::begun(alloc, Config::DEFAULT, &beginnings(domains))
 }

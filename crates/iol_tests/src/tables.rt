@@ -4,8 +4,8 @@ ghost use Rattle.std.specs.Prelude.{◌≡◌, true};
 use iol_core::descriptors::Descriptor;
 use iol_core::numbers::{AggId, DomainId, Fd, PipeId};
 use iol_desc::table::Table;
+use std::alloc::Global;
 use std::process::Abort;
-use std::test::Fail;
 
 // Adds an aggregate.
 fn add<R: Abort>(rt: &R, table: &mut Table<u32>, d: DomainId, agg: u32) -> AggId {
@@ -56,56 +56,101 @@ fn close<R: Abort>(rt: &R, table: &mut Table<u32>, d: DomainId, number: u32) {
     table.take_fd(d, fd);
 }
 
-#[test]
-fn ample(rt: HostRuntime) -> Result<(), Fail> {
-    let mut table = Table::new(rt.alloc());
-    table.add_domain().expect(&rt, "memory");
-    let d = DomainId::new(1);
-    let first = add(&rt, &mut table, d, 1);
-    let second = add(&rt, &mut table, d, 2);
+// Aggregates come and go, each under the next number.
+fn come_and_go<R: Abort>(rt: &R, table: &mut Table<u32>, d: DomainId) -> bool {
+    let mut all = true;
     for round in 3..100_000 {
-        let agg = add(&rt, &mut table, d, round);
-        assert_eq!(rt; agg.number(), round as u64);
-        assert_eq!(rt; take(&rt, &mut table, d, agg), round);
+        let agg = add(rt, table, d, round);
+        all &= agg.number() == round as u64 && take(rt, table, d, agg) == round;
     }
-    assert_eq!(rt; take(&rt, &mut table, d, first), 1);
+    all
+}
+
+// The first aggregate is taken, and the second stays.
+fn take_first<R: Abort>(rt: &R, table: &mut Table<u32>, d: DomainId) -> bool {
+    let first = add(rt, table, d, 1);
+    let second = add(rt, table, d, 2);
+    let all = come_and_go(rt, table, d);
+    let taken = take(rt, table, d, first);
     assert!(rt; table.live(d));
-    assert!(rt; table.agg(d, first).is_none());
-    assert_eq!(rt; table.agg(d, second).copied(), Some(2));
+    let is_gone = table.agg(d, first).is_none();
+    all && taken == 1 && is_gone && table.agg(d, second).copied() == Some(2)
+}
+
+// Many aggregates are taken at once, beside one that is there.
+fn take_many<R: Abort>(rt: &R, table: &mut Table<u32>, d: DomainId) -> bool {
     for round in 0..1000 {
-        add(&rt, &mut table, d, round);
+        add(rt, table, d, round);
     }
-    assert_eq!(rt; take_all(&rt, &mut table, d), 1001);
-    Ok(())
+    take_all(rt, table, d) == 1001
+}
+
+// A table with domain 1.
+fn with_one<R: Abort>(rt: &R, alloc: Global) -> Table<u32> {
+    let mut table = Table::new(alloc);
+    table.add_domain().expect(rt, "memory");
+    table
 }
 
 #[test]
-fn descriptors(rt: HostRuntime) -> Result<(), Fail> {
-    let mut table: Table<u32> = Table::new(rt.alloc());
-    table.add_domain().expect(&rt, "memory");
+fn ample(rt: HostRuntime) {
+    let mut table = with_one(&rt, rt.alloc());
     let d = DomainId::new(1);
+    let all = take_first(&rt, &mut table, d) && take_many(&rt, &mut table, d);
+    assert!(rt; all);
+}
+
+// Opens descriptors to the last, which have the numbers in their order.
+fn open_all<R: Abort>(rt: &R, table: &mut Table<u32>, d: DomainId) -> bool {
+    let mut all = true;
     for number in 0..1024 {
-        assert_eq!(rt; open(&rt, &mut table, d), number);
+        all &= open(rt, table, d) == number;
     }
     assert!(rt; table.live(d));
-    assert!(rt; table.is_open_beyond(d, 1));
+    all && table.is_open_beyond(d, 1)
+}
+
+// Numbers that are free again are given in their order.
+fn reuse<R: Abort>(rt: &R, table: &mut Table<u32>, d: DomainId) -> bool {
     for number in [7, 3, 1000] {
-        close(&rt, &mut table, d, number);
+        close(rt, table, d, number);
     }
+    let mut all = true;
     for number in [3, 7, 1000] {
-        assert_eq!(rt; open(&rt, &mut table, d), number);
+        all &= open(rt, table, d) == number;
     }
-    close(&rt, &mut table, d, 5);
+    all
+}
+
+// The last descriptor moves to a number that is free again.
+fn move_last<R: Abort>(rt: &R, table: &mut Table<u32>, d: DomainId) -> bool {
+    close(rt, table, d, 5);
     let last = Fd::new(1023);
     let pipe = PipeId::new(0);
     assert!(rt; table.live(d));
     assert!(rt; table.descriptor(d, last).is_some());
     let moved = table.move_fd(d, last, Descriptor::WriteEnd { pipe });
-    assert_eq!(rt; moved.number(), 5);
+    moved.number() == 5
+}
+
+// The last number comes and goes.
+fn repeat<R: Abort>(rt: &R, table: &mut Table<u32>, d: DomainId) -> bool {
+    let mut all = true;
     for _ in 0..100_000 {
-        let number = open(&rt, &mut table, d);
-        assert_eq!(rt; number, 1023);
-        close(&rt, &mut table, d, number);
+        let number = open(rt, table, d);
+        all &= number == 1023;
+        close(rt, table, d, number);
     }
-    Ok(())
+    all
+}
+
+#[test]
+fn descriptors(rt: HostRuntime) {
+    let mut table = with_one(&rt, rt.alloc());
+    let d = DomainId::new(1);
+    let all = open_all(&rt, &mut table, d)
+        && reuse(&rt, &mut table, d)
+        && move_last(&rt, &mut table, d)
+        && repeat(&rt, &mut table, d);
+    assert!(rt; all);
 }

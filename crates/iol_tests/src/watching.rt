@@ -5,12 +5,14 @@ ghost use Rattle.iol_proc.specs.Settled.{AllSettled};
 ghost use Rattle.iol_tests.specs.Watching.{HasWatched};
 ghost use Rattle.iol_system.specs.Machine.{machine_of};
 
+use crate::checks::pass;
 use crate::machine::Machine;
 use crate::start::system_with_pipe;
 use crate::watcher::Watcher;
 use iol_back::memory::MemoryBacking;
 use iol_core::events::{Event, Reply};
 use iol_core::numbers::{DomainId, PoolId};
+use iol_core::refusals::Refusal;
 use iol_proc::laws::idle_is_settled;
 use iol_proc::world::World;
 use iol_system::system::System;
@@ -66,18 +68,27 @@ impl Watchers {
         self.world.step_outside(Event::ConnNew { pool })
     }
 
+    fn connects(&mut self) -> bool {
+        matches!(self.connect(), Reply::Conn(_))
+    }
+
     fn watch(&mut self, turns: usize) -> bool {
         watch(&mut self.world, turns)
     }
 }
 
+// Two connections wait: a watcher of two turns each has not taken both, and later none waits.
+fn accepts(watchers: &mut Watchers) -> bool {
+    watchers.connects() && watchers.connects() && !watchers.watch(5) && watchers.watch(100)
+}
+
+fn all_wait(alloc: Global) -> Result<bool, Refusal> {
+    let machine = system_with_pipe(alloc)?;
+    let mut watchers = Watchers::new(alloc, machine)?;
+    Ok(accepts(&mut watchers))
+}
+
 #[test]
 fn watcher_accepts_all_that_wait(rt: HostRuntime) -> Result<(), Fail> {
-    let machine = system_with_pipe(rt.alloc())?;
-    let mut world = Watchers::new(rt.alloc(), machine)?;
-    assert!(rt; matches!(world.connect(), Reply::Conn(_)));
-    assert!(rt; matches!(world.connect(), Reply::Conn(_)));
-    assert!(rt; !world.watch(5));
-    assert!(rt; world.watch(100));
-    Ok(())
+    pass(all_wait(rt.alloc()))
 }

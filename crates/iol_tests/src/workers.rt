@@ -95,7 +95,7 @@ impl Workers {
         self.world.process(by)
     }
 
-    pub fn arrive_from(
+    fn arrive_from(
         &mut self,
         conn: ConnId,
         reader: &mut &[u8],
@@ -104,12 +104,28 @@ impl Workers {
         self.world.arrive_from(conn, reader, max)
     }
 
-    pub fn drain_to(
+    /// Whether so many bytes come in.
+    pub fn arrives(&mut self, conn: ConnId, reader: &mut &[u8], max: u32, want: u32) -> bool {
+        match self.arrive_from(conn, reader, max) {
+            Ok(arrived) => arrived.taken == want,
+            Err(_) => false,
+        }
+    }
+
+    fn drain_to(
         &mut self,
         conn: ConnId,
         writer: &mut Vec<u8>,
         max: u32,
     ) -> Result<Drained, Refusal> {
         self.world.drain_to(conn, writer, max)
+    }
+
+    /// Whether so many bytes go out.
+    pub fn drains(&mut self, conn: ConnId, writer: &mut Vec<u8>, max: u32, want: u32) -> bool {
+        match self.drain_to(conn, writer, max) {
+            Ok(drained) => drained.taken == want,
+            Err(_) => false,
+        }
     }
 }

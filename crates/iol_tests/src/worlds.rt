@@ -1,4 +1,5 @@
 //! Worlds of a few processes.
+use crate::checks::pass;
 use crate::consumer::{Consumer, summed};
 use crate::producer::{PIECE, Producer};
 use crate::start::{call_of, system_with_pipe};
@@ -9,14 +10,13 @@ use iol_core::numbers::{DomainId, Fd};
 use iol_core::refusals::Refusal;
 use iol_proc::choice::Choice;
 use std::alloc::{AllocError, Global};
-use std::process::Abort;
 use std::test::Fail;
 
 /// How many pieces are a mebibyte.
 const PIECES: u8 = 128;
 
 // A world of two workers over a pipe from one to the other.
-fn world_of(alloc: Global, first: Worker, second: Worker) -> Result<Workers, Fail> {
+fn world_of(alloc: Global, first: Worker, second: Worker) -> Result<Workers, Refusal> {
     let machine = system_with_pipe(alloc)?;
     Ok(Workers::two(alloc, machine, first, second)?)
 }
@@ -48,58 +48,57 @@ fn sum_of_pieces() -> u32 {
 }
 
 // A world in which domain 1 sends all pieces to domain 2.
-fn sending_world(alloc: Global) -> Result<Workers, Fail> {
+fn sending_world(alloc: Global) -> Result<Workers, Refusal> {
     let producer = Worker::Producer(Producer::new(alloc, Fd::new(1), PIECES));
     let consumer = Worker::Consumer(Consumer::new(Fd::new(0)));
     world_of(alloc, producer, consumer)
 }
 
-// All is idle after so many turns at most.
-fn settle<R: Abort>(rt: &R, world: &mut Workers, turns: usize) {
-    assert!(rt; world.until_idle(turns));
-}
-
-// Nothing is idle yet after so many turns.
-fn go_on<R: Abort>(rt: &R, world: &mut Workers, turns: usize) {
-    assert!(rt; !world.until_idle(turns));
-}
-
 // All pieces came, and no turn was rough.
-fn all_came<R: Abort>(rt: &R, world: &Workers) {
-    assert_eq!(rt; came(world), Some((1_048_576, sum_of_pieces())));
-    assert!(rt; !world.is_rough());
+fn all_came(world: &Workers) -> bool {
+    came(world) == Some((1_048_576, sum_of_pieces())) && !world.is_rough()
+}
+
+fn passes(alloc: Global) -> Result<bool, Refusal> {
+    let mut world = sending_world(alloc)?;
+    Ok(world.until_idle(65_536) && all_came(&world))
 }
 
 #[test]
 fn pipe_passes_a_mebibyte(rt: HostRuntime) -> Result<(), Fail> {
-    let mut world = sending_world(rt.alloc())?;
-    settle(&rt, &mut world, 65_536);
-    all_came(&rt, &world);
-    Ok(())
+    pass(passes(rt.alloc()))
+}
+
+// Nothing is idle before each of two processes has yielded twice.
+fn yields(alloc: Global) -> Result<bool, Refusal> {
+    let mut world = world_of(alloc, Worker::Idle, Worker::Idle)?;
+    Ok(!world.until_idle(0) && !world.until_idle(3) && world.until_idle(4))
 }
 
 #[test]
 fn idle_is_when_all_have_yielded(rt: HostRuntime) -> Result<(), Fail> {
-    let mut world = world_of(rt.alloc(), Worker::Idle, Worker::Idle)?;
-    go_on(&rt, &mut world, 0);
-    go_on(&rt, &mut world, 3);
-    settle(&rt, &mut world, 4);
-    Ok(())
+    pass(yields(rt.alloc()))
+}
+
+fn waits(alloc: Global) -> Result<bool, Refusal> {
+    let mut world = world_of(alloc, Worker::Idle, Worker::Eager)?;
+    Ok(!world.until_idle(1_000))
 }
 
 #[test]
 fn waiting_without_a_pause_is_not_idle(rt: HostRuntime) -> Result<(), Fail> {
-    let mut world = world_of(rt.alloc(), Worker::Idle, Worker::Eager)?;
-    go_on(&rt, &mut world, 1_000);
-    Ok(())
+    pass(waits(rt.alloc()))
+}
+
+fn is_idle_without(alloc: Global) -> Result<bool, Refusal> {
+    let machine = system_with_pipe(alloc)?;
+    let mut world = Workers::none(alloc, machine)?;
+    Ok(world.until_idle(0))
 }
 
 #[test]
 fn world_without_processes_is_idle(rt: HostRuntime) -> Result<(), Fail> {
-    let machine = system_with_pipe(rt.alloc())?;
-    let mut world = Workers::none(rt.alloc(), machine)?;
-    settle(&rt, &mut world, 0);
-    Ok(())
+    pass(is_idle_without(rt.alloc()))
 }
 
 // How a turn of a domain is refused.
@@ -125,12 +124,20 @@ fn ends(world: &mut Workers, by: u32) -> bool {
     matches!(world.step_outside(call_of(by, Call::Exit)), Reply::Done)
 }
 
+// A domain that never was, one whose call would wait, and one that has ended.
+fn all_are_refused(world: &mut Workers) -> bool {
+    is_refused(world, 3, Refusal::NoDomain)
+        && is_refused(world, 2, Refusal::WouldBlock)
+        && ends(world, 2)
+        && is_refused(world, 2, Refusal::NoDomain)
+}
+
+fn refuses(alloc: Global) -> Result<bool, Refusal> {
+    let mut world = world_of(alloc, Worker::Idle, Worker::Eager)?;
+    Ok(all_are_refused(&mut world))
+}
+
 #[test]
 fn nobody_has_a_turn(rt: HostRuntime) -> Result<(), Fail> {
-    let mut world = world_of(rt.alloc(), Worker::Idle, Worker::Eager)?;
-    assert!(rt; is_refused(&mut world, 3, Refusal::NoDomain));
-    assert!(rt; is_refused(&mut world, 2, Refusal::WouldBlock));
-    assert!(rt; ends(&mut world, 2));
-    assert!(rt; is_refused(&mut world, 2, Refusal::NoDomain));
-    Ok(())
+    pass(refuses(rt.alloc()))
 }

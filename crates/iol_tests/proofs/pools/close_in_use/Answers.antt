@@ -16,8 +16,8 @@ make_one-buf-requires g c = subst (λ (l : List ℕ). All (λ k. k < chunk_count
 pub close-requires-clause-owned : goal.close-requires-clause-owned
 close-requires-clause-owned g c = owned_stays c.args.arena.now c.make_one-buf.new.arena c.args.pools.now c.make_one-buf.ensures.taken c.requires.owned
 
-pub report-requires-clause-there : goal.report-requires-clause-there
-report-requires-clause-there g c = numbered_still c.make_one-buf.new.arena c.args.pools.now c.close.new.self c.args.pool c.requires.there c.close.ensures.pools
+pub report-closed-requires-clause-there : goal.report-closed-requires-clause-there
+report-closed-requires-clause-there g c = numbered_still c.make_one-buf.new.arena c.args.pools.now c.close.new.self c.args.pool c.requires.there c.close.ensures.pools
 
 pub free-requires : goal.free-requires
 free-requires g c =
@@ -27,7 +27,7 @@ free-requires g c =
 pub settle-requires : goal.settle-requires
 settle-requires g c = owned_stays c.close.new.arena c.free.new.self c.close.new.self (ap (λ (s : State). s.taken) c.free.ensures.arena) c.close.ensures.owned
 
-pub report-requires-2-clause-there : goal.report-requires-2-clause-there
-report-requires-2-clause-there g c =
+pub report-requires-clause-there : goal.report-requires-clause-there
+report-requires-clause-there g c =
     ap (λ (l : List Pool). is_numbered l c.args.pool) c.settle.ensures.pools ∙ is_numbered-settled c.free.new.self c.close.new.self c.args.pool c.args.pool
     ∙ numbered_still c.make_one-buf.new.arena c.args.pools.now c.close.new.self c.args.pool c.requires.there c.close.ensures.pools

@@ -5,7 +5,7 @@ use Rattle.iol_pool.specs.Owned.{AreOwned}
 use Rattle.iol_pool.proofs.Owning.{owned_none}
 use Rattle.iol_hold.proofs.Making.{none_taken}
 use Rattle.iol_agg.proofs.Holding.{of_ok}
-use Rattle.iol_tests.proofs.pools.ample.Goals as goal
+use Rattle.iol_tests.proofs.pools.all_hold.Goals as goal
 
 pub create-requires-clause-owned : goal.create-requires-clause-owned
 create-requires-clause-owned g c =
