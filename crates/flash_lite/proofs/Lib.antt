@@ -5,6 +5,7 @@ pub mod Few
 pub mod Fewer
 pub mod Filing
 pub mod Gathered
+pub mod HostedWorld
 pub mod Leading
 pub mod Making
 pub mod NewSite

@@ -10,4 +10,5 @@ pub mod Setup
 pub mod SiteState
 pub mod Shelf
 pub mod NewWorld
+pub mod Hosting
 pub mod Offering

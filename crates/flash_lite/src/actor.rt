@@ -1,7 +1,9 @@
 //! The processes of a site.
+use crate::laws::connections_do_not_meet;
 use crate::server::Server;
 use flash_laws::laws::Works;
 use iol_core::events::Reply;
+use iol_proc::idle::Settling;
 use iol_proc::look::Look;
 use iol_proc::process::{Process, Turn};
 use std::alloc::AllocError;
@@ -72,5 +74,16 @@ impl Process for Actor {
             Role::Server(server) => server.next(last, look),
             Role::Worker(worker) => worker.next(last, look),
         }
+    }
+}
+
+impl Settling for Actor {
+    ghost use Rattle.flash_laws.specs.Idle.{actor_settled};
+    ghost use Rattle.flash_lite.specs.Workers.{worker_settled};
+
+    ghost settled = { actor_settled worker_settled };
+
+    fn settles() {
+        connections_do_not_meet();
     }
 }

@@ -2,12 +2,14 @@
 ghost use Rattle.flash_laws.specs.Host.{ActorsSettle, HostIsRight, IdleIsDone};
 ghost use Rattle.flash_laws.specs.Laws.{RunIsAnswered, RunIsWhole, RunKeepsTie, StepKeepsTie, TiedAtFirst, TiedIsAnswered, TiedIsWhole};
 ghost use Rattle.flash_laws.specs.Policy.{in_rounds};
+ghost use Rattle.flash_lite.specs.Hosting.{HostedIsRight};
 ghost use Rattle.flash_lite.specs.NewWorld.{SetUpIsNew};
 ghost use Rattle.flash_lite.specs.Workers.{worker_turns, worker_ready, worker_settled};
 
-use crate::actor::Worker;
+use crate::actor::{Actor, Worker};
 use flash_laws::laws::tied_law;
 use iol_laws::laws;
+use iol_proc::laws::idle_is_settled;
 
 /// Connections do not meet: of the account that `Actor` has as a process. A new world is tied, each calm step keeps the tie,
 /// and so does a calm run; and where it holds, what was sent on each connection of the net begins the answer to what came on it,
@@ -34,4 +36,13 @@ pub fn set_up_is_new()
     ensures { SetUpIsNew }
 {
     laws::each_step_keeps_order();
+}
+
+/// What [`host`](crate::host::host) gives is right, where what came from outside was mild and no turn was rough: what was sent
+/// on each connection of the net begins the answer to what came on it, and where all is idle nothing is left to do.
+pub fn hosted_is_right()
+    ensures { HostedIsRight }
+{
+    connections_do_not_meet();
+    idle_is_settled::<Actor>();
 }

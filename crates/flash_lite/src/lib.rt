@@ -19,6 +19,7 @@ mod asking;
 pub mod conn;
 mod finding;
 mod heard;
+pub mod host;
 pub mod laws;
 mod sending;
 pub mod server;

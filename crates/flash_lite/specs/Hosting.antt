@@ -1,0 +1,42 @@
+-- A site that is hosted: set up in a new system, run over choices, and then over turns in rounds.
+use Rattle.std.specs.Prelude.{◌≡◌, ℕ, List, ◌++◌, length, map, false, Bool}
+use Rattle.iol_core.specs.State.{State}
+use Rattle.iol_core.specs.declared.events.Reply.{Reply}
+use Rattle.iol_proc.specs.Idle.{Idles, rounds}
+use Rattle.iol_proc.specs.World.{Stage, copying, WorldRun, domains_of}
+use Rattle.iol_proc.specs.declared.choice.Choice.{Choice}
+use Rattle.flash_laws.specs.Calm.{AreMild}
+use Rattle.flash_laws.specs.Host.{IsRight}
+use Rattle.flash_laws.specs.Policy.{in_rounds}
+use Rattle.flash_laws.specs.Tie.{Actor, IsNew, actor_turns}
+use Rattle.flash_lite.specs.NewWorld.{world_on}
+use Rattle.flash_lite.specs.Shelf.{shelf_of}
+use Rattle.flash_lite.specs.SiteState.{state_of}
+use Rattle.flash_lite.specs.Workers.{worker_turns, worker_ready, worker_settled}
+use Rattle.flash_lite.specs.declared.actor.Worker.{Worker}
+use Rattle.flash_lite.specs.declared.site.Site.{Site}
+
+-- the world of a site that was set up over these slots, before its first turn
+abbrev pub world_of : Site → (slots : List (List ℕ)) → Stage State (Actor Worker)
+world_of s slots = world_on (state_of s slots) false
+
+abbrev pub IsNewWorld : Site → (slots : List (List ℕ)) → Stage State (Actor Worker) → Type 0
+IsNewWorld s slots w = (w ≡ world_of s slots) × IsNew worker_ready (shelf_of s slots) w
+
+-- A site over these slots makes its choices, which are answered so, and then has at most so many turns in rounds.
+pub record Hosts (s : Site) (slots : List (List ℕ)) (xs : List Choice) (rs : List Reply) (turns : ℕ) (idle : Bool) (after : Stage State (Actor Worker)) : Type 0 where
+  pub new : IsNew worker_ready (shelf_of s slots) (world_of s slots)
+  pub mid : Stage State (Actor Worker)
+  pub run : WorldRun copying (actor_turns in_rounds worker_turns) (world_of s slots) xs rs mid
+  pub ends : Idles copying (actor_turns in_rounds worker_turns) mid turns idle after
+
+-- What was hosted is right, where calls from outside were mild and no turn was rough.
+abbrev pub HostedIsRight : Type 0
+HostedIsRight = (s : Site) (slots : List (List ℕ)) (xs : List Choice) (rs : List Reply) (turns : ℕ)
+    (idle : Bool) (after : Stage State (Actor Worker))
+    → (hosts : Hosts s slots xs rs turns idle after)
+    → AreMild (actor_turns in_rounds worker_turns) (world_of s slots) xs rs hosts.mid hosts.run
+    → after.rough ≡ false
+    → IsRight worker_turns worker_ready worker_settled (shelf_of s slots)
+    (xs ++ rounds (domains_of hosts.mid.seats) 0 (length hosts.ends.went))
+    (rs ++ map (λ t. t.1) hosts.ends.went) idle after
