@@ -10,8 +10,9 @@ pub const BEGUN_LOOKS: u32 = 40;
 /// No connection is silent for more looks than these, four to five seconds.
 pub const MAX_LOOKS: u32 = 200;
 
-/// A send that makes no progress for so many milliseconds fails.
-pub const SEND_MILLIS: u64 = 2000;
+/// A send that makes no progress for so many milliseconds fails. To a client that does not read the system may still send a part
+/// twice, each after as long a wait: two seconds in all.
+pub const SEND_MILLIS: u64 = 650;
 
 /// So many silent connections are kept until they ask.
 pub const MAX_WAITING: usize = 64;
