@@ -29,7 +29,7 @@ use Rattle.iol_cache.specs.Cached.{AreReady, file_in, with_file, order_in, with_
 use Rattle.iol_cache.specs.Contents.{byte_in, AreStored}
 use Rattle.iol_cache.specs.Evicting.{Holding}
 use Rattle.iol_cache.specs.Gaps as gaps
-use Rattle.iol_cache.specs.Gaps.{all_put, IsMade, FillsGaps, AllMirror}
+use Rattle.iol_cache.specs.Gaps.{all_put, IsMade}
 use Rattle.iol_cache.specs.Going.{FillsFile, Goes}
 use Rattle.iol_cache.specs.Reading.{all_entered, parts_of_spans}
 use Rattle.iol_cache.specs.Sound.{Each, IsLaid, IsFiled, IsSound}

@@ -1,5 +1,5 @@
 -- Which pages of a pool can be had for new bytes, if need be by releasing holds that are spared.
-use Rattle.std.specs.Prelude.{ℕ, ◌&&◌, Bool, true, nat_le, nat_lt, List, length, slice_index, Option, Some, None}
+use Rattle.std.specs.Prelude.{ℕ, ◌&&◌, Bool, true, nat_le, nat_lt, List, slice_index, Option, Some, None}
 use Rattle.std.specs.List.{filter}
 use Rattle.iol_arena.specs.State.{entry_at, generation_at}
 use Rattle.iol_arena.specs.Firsts.{first_on}

@@ -1,5 +1,5 @@
 -- What becomes of a kernel when a pool's list names a domain more.
-use Rattle.std.proofs.Common.{◌≡◌, ◌+◌, ℕ, [], true, refl, arith}
+use Rattle.std.proofs.Common.{◌≡◌, ℕ, true, refl, arith}
 use Rattle.iol_core.specs.Calls.Pools.{admitting}
 use Rattle.iol_core.specs.Numbered.{is_numbered, with_numbered}
 use Rattle.iol_core.specs.State as machine

@@ -4,7 +4,7 @@ use Rattle.std.specs.Prelude.{if◌then◌else◌, is_some, MatchOption, Ok, Err
 use Rattle.iol_core.specs.Text.{Text, labelled}
 use Rattle.iol_core.specs.Numbered.{lookup, without, changed}
 use Rattle.iol_core.specs.State as machine
-use Rattle.iol_core.specs.State.{State, Domain, Connection}
+use Rattle.iol_core.specs.State.{State, Connection}
 use Rattle.iol_core.specs.Calls.Outside as outside
 use Rattle.iol_core.specs.declared.descriptors.How.{How}
 use Rattle.iol_core.specs.declared.limits.TheConstants.{MAX_QUEUE_BYTES}
@@ -32,7 +32,7 @@ use Rattle.iol_core.specs.declared.refusals.Refusal.{Refusal}
 use Rattle.iol_core.specs.declared.refusals.Refusal.TheVariants.{BrokenPipe}
 use Rattle.iol_kernel.specs.Counted.{uses, conn_uses}
 use Rattle.iol_kernel.specs.KernelState as held
-use Rattle.iol_kernel.specs.KernelState.{KernelState, objects_of, Each, IsConnReadable, AreReadable, IsOpenEnd, ArePooled, IsSound, read_of, machine_of}
+use Rattle.iol_kernel.specs.KernelState.{KernelState, objects_of, IsConnReadable, AreReadable, ArePooled, IsSound, read_of, machine_of}
 use Rattle.iol_kernel.specs.Readings.{Reading, read, bytes_over}
 use Rattle.iol_kernel.specs.Calls.{Steps, MakesBytes, Arrives, with_incoming}
 use Rattle.iol_kernel.proofs.Effects.{adds_held}

@@ -37,7 +37,7 @@ use Rattle.iol_sock.proofs.Meaning.{conn_at-is, over_meant}
 use Rattle.iol_kernel.specs.Views.{state_view}
 use Rattle.iol_kernel.specs.Counted.{conn_uses, IsCounted}
 use Rattle.iol_kernel.specs.KernelState as held
-use Rattle.iol_kernel.specs.KernelState.{KernelState, objects_of, Each, IsConnReadable, AreReadable, IsOpenEnd, IsLimited, ArePooled, IsSound, read_of, machine_of}
+use Rattle.iol_kernel.specs.KernelState.{KernelState, objects_of, Each, IsConnReadable, AreReadable, IsOpenEnd, IsLimited, ArePooled, IsSound, read_of}
 use Rattle.iol_kernel.specs.Readings.{Reading, read}
 use Rattle.iol_kernel.specs.ClosedEnds.{KeepsEnds}
 use Rattle.iol_kernel.specs.Calls.{Leaves, Answers}

@@ -34,7 +34,7 @@ use Rattle.iol_kernel.specs.Adding.{TakesFront}
 use Rattle.iol_kernel.specs.Calls.{Answers}
 use Rattle.iol_kernel.specs.Counted.{IsCounted, conn_uses}
 use Rattle.iol_kernel.specs.KernelState as held
-use Rattle.iol_kernel.specs.KernelState.{KernelState, objects_of, Each, AreReadable, IsConnReadable, IsDomainReadable, IsOpenEnd, IsSound, read_of}
+use Rattle.iol_kernel.specs.KernelState.{KernelState, objects_of, Each, AreReadable, IsConnReadable, IsOpenEnd, IsSound, read_of}
 use Rattle.iol_kernel.specs.Readings.{Reading, read, KeepsPools}
 use Rattle.iol_kernel.proofs.Connecting.{conn_in-is, conn_readable, conn_limit, turned, turned_fds, turned_limits, turned_pooled, turned-read}
 use Rattle.iol_kernel.proofs.ConnQueues.{open_held, found_held, conn_at-read_of, incoming-read_of, conn_in-none, with_on}

@@ -33,7 +33,7 @@ use Rattle.iol_sock.proofs.Meaning.{queues_meant, fits_meant}
 use Rattle.iol_kernel.specs.Calls.{CarriesOut}
 use Rattle.iol_kernel.specs.Counted.{conn_uses}
 use Rattle.iol_kernel.specs.KernelState as held
-use Rattle.iol_kernel.specs.KernelState.{KernelState, objects_of, IsConnReadable, IsOpenEnd, IsSound, read_of}
+use Rattle.iol_kernel.specs.KernelState.{KernelState, IsConnReadable, IsSound, read_of}
 use Rattle.iol_kernel.specs.Readings.{Reading, read}
 use Rattle.iol_kernel.proofs.Arriving.{refused_as}
 use Rattle.iol_kernel.proofs.Connecting.{conn_found, conn_readable, conn_limit, turned, turned_fds, turned-read, turned-sound}

@@ -2,7 +2,7 @@
 use Rattle.std.proofs.Common.{◌≢◌, None, ◌≡◌, ℕ, ◌+◌, List, ap, ◌∙◌, refl, sym, subst, arith, Some}
 use Rattle.iol_core.specs.Numbered.{lookup, changed}
 use Rattle.iol_core.specs.State as machine
-use Rattle.iol_core.specs.State.{State, Domain, Connection}
+use Rattle.iol_core.specs.State.{State, Domain}
 use Rattle.iol_core.specs.Calls.Outside as outside
 use Rattle.iol_core.specs.declared.descriptors.How.{How}
 use Rattle.iol_core.specs.declared.descriptors.How.TheVariants.{Done, Gone}

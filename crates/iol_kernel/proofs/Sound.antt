@@ -7,7 +7,7 @@ use Rattle.std.proofs.lemmas.List.Sums.{sum_by-cons}
 use Rattle.iol_core.specs.Text.{Text}
 use Rattle.iol_core.specs.Numbered.{lookup, without, numbered_or, with_numbered, placed}
 use Rattle.iol_core.specs.State as machine
-use Rattle.iol_core.specs.State.{Domain, new_domain, no_domain}
+use Rattle.iol_core.specs.State.{Domain, no_domain}
 use Rattle.iol_core.specs.declared.descriptors.Descriptor.{Descriptor}
 use Rattle.iol_core.specs.declared.numbers.BufId.{BufId}
 use Rattle.iol_pool.specs.Pools.{Pool}

@@ -32,7 +32,7 @@ use Rattle.iol_sock.specs.Refused.{segment_refusals, IsRefused}
 use Rattle.iol_sock.proofs.Meaning.{conn_at-is, sends_meant}
 use Rattle.iol_kernel.specs.Counted.{uses, conn_uses}
 use Rattle.iol_kernel.specs.KernelState as held
-use Rattle.iol_kernel.specs.KernelState.{KernelState, Each, IsConnReadable, IsSound, read_of, machine_of}
+use Rattle.iol_kernel.specs.KernelState.{KernelState, IsConnReadable, IsSound, read_of, machine_of}
 use Rattle.iol_kernel.specs.Readings.{Reading, read, bytes_over}
 use Rattle.iol_kernel.specs.Calls.{Leaves, Transmits}
 use Rattle.iol_kernel.proofs.Numbering.{each_found}

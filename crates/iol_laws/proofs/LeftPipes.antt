@@ -13,7 +13,6 @@ use Rattle.iol_core.specs.Calls.Descriptors as fds
 use Rattle.iol_core.specs.Calls.Outside.{conn_new}
 use Rattle.iol_core.specs.Calls.Reading as reading
 use Rattle.iol_core.specs.Calls.Writing as writing
-use Rattle.iol_core.specs.Calls.Writing.{is_file}
 use Rattle.iol_core.specs.declared.descriptors.Descriptor.{Descriptor}
 use Rattle.iol_core.specs.declared.descriptors.Descriptor.TheVariants as on
 use Rattle.iol_core.specs.declared.events.Call.{Call}

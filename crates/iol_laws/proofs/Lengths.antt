@@ -13,7 +13,7 @@ use Rattle.iol_core.specs.Meaning.{first}
 use Rattle.iol_core.specs.Run.{meaning, Run, StepsTo}
 use Rattle.iol_core.specs.Calls.Files as files
 use Rattle.iol_core.specs.Calls.Writing as writing
-use Rattle.iol_core.specs.Calls.Writing.{is_file, is_too_long}
+use Rattle.iol_core.specs.Calls.Writing.{is_too_long}
 use Rattle.iol_core.specs.declared.limits.TheConstants.{MAX_AGGREGATE_BYTES, MAX_FILES, MAX_FILE_BYTES, MAX_QUEUE_BYTES}
 use Rattle.iol_core.specs.declared.refusals.Refusal.TheVariants as refuse
 use Rattle.iol_core.specs.declared.descriptors.Descriptor.{Descriptor}

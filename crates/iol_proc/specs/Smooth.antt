@@ -1,9 +1,7 @@
 -- Runs in which no turn was rough.
-use Rattle.std.specs.Prelude.{◌≡◌, Bool, false, List, [], ◌∷◌}
+use Rattle.std.specs.Prelude.{◌≡◌, false, List, ◌∷◌}
 use Rattle.iol_core.specs.declared.events.Reply.{Reply}
-use Rattle.iol_core.specs.State.{State}
 use Rattle.iol_laws.specs.Caller.{is_rough}
-use Rattle.iol_system.specs.Machine.{SystemState}
 use Rattle.iol_proc.specs.Turns.{Account, Machine}
 use Rattle.iol_proc.specs.World.{Stage, copying, sharing, WorldRun}
 use Rattle.iol_proc.specs.declared.choice.Choice.{Choice}

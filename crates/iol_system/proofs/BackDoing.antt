@@ -4,7 +4,6 @@ use Rattle.std.proofs.lemmas.Bool.{true≢false}
 use Rattle.std.specs.Prelude.{◌⊎◌, Result, Ok, Err, OnOk, MatchOption}
 use Rattle.iol_back.specs.Disk.{Disk}
 use Rattle.iol_arena.specs.Chunks.{free_chunks}
-use Rattle.iol_cache.specs.Cached.{extents_in}
 use Rattle.iol_cache.specs.Keeping.{KeepsDirty}
 use Rattle.iol_cache.specs.Serving.{FaultCounts}
 use Rattle.iol_cache.specs.Syncing.{WritesDirty}

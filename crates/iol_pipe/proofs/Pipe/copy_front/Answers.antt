@@ -1,8 +1,7 @@
-use Rattle.std.proofs.Common.{rules, ◌≡◌, ◌+◌, ◌-◌, ◌<◌, ◌++◌, ◌∙◌, min, length, take, drop, refl, sym, ap, arith, true, false}
+use Rattle.std.proofs.Common.{rules, ◌≡◌, ◌+◌, ◌-◌, ◌<◌, ◌++◌, ◌∙◌, min, length, take, drop, refl, ap, arith, true, false}
 use Rattle.std.proofs.lemmas.List.{length-take}
 use Rattle.iol_pool.specs.Pools.{names_in}
-use Rattle.iol_hold.proofs.Slicing.{byte_len-take-le}
-use Rattle.iol_pipe.proofs.Copied.{seen, all_bytes, readable-item, length-slice_bytes, seen_end, seen_full, seen_barred, seen_more, copied_full, copied_more}
+use Rattle.iol_pipe.proofs.Copied.{seen, readable-item, length-slice_bytes, seen_barred, seen_more, copied_full, copied_more}
 use Rattle.iol_pipe.proofs.Pipe.copy_front.Goals as goal
 
 pub returns-then-not-names-clause-count : goal.returns-then-not-names-clause-count

@@ -1,4 +1,4 @@
-use Rattle.std.proofs.Common.{◌≡◌, ◌∙◌, ◌+◌, ◌<◌, ◌≤◌, ℕ, List, length, flat_map, refl, sym, ap, arith, subst}
+use Rattle.std.proofs.Common.{◌≡◌, ◌∙◌, ◌+◌, ◌<◌, ℕ, List, length, flat_map, refl, sym, ap, arith, subst}
 use Rattle.std.specs.List.{filter}
 use Rattle.iol_arena.specs.State.{chunk_count}
 use Rattle.iol_arena.specs.Chunks.{chunk_pages}
