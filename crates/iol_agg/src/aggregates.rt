@@ -1,10 +1,9 @@
 //! Aggregates.
-ghost use Rattle.std.specs.Prelude.{◌≡◌, ℕ, ◌+◌, ◌<◌, ◌≤◌, ◌^◌, ◌↔◌, [], length, take, drop, map, true, false, Err, IsTrue, IfOk, IfErr, OnOk, OnErr};
+ghost use Rattle.std.specs.Prelude.{◌≡◌, ℕ, ◌+◌, ◌<◌, ◌≤◌, ◌^◌, ◌↔◌, [], length, take, true, false, Err, IsTrue, IfOk, IfErr, OnOk, OnErr};
 ghost use Rattle.std.specs.List.{All};
 ghost use Rattle.std.specs.Vec.{vec_capacity};
 ghost use Rattle.iol_core.specs.Meaning.{WantOfRoom};
 ghost use Rattle.iol_core.specs.Text as text;
-ghost use Rattle.iol_arena.specs.State.{pages_for};
 ghost use Rattle.iol_arena.specs.Buffers.{Grows};
 ghost use Rattle.iol_arena.specs.Chunks.{free_pages};
 ghost use Rattle.iol_arena.specs.Pages.{IsSameBut, MadeOn};

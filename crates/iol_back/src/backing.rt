@@ -1,5 +1,5 @@
 //! What a backing store is.
-ghost use Rattle.std.specs.Prelude.{◌≡◌, ℕ, min, length, OnOk, OnErr};
+ghost use Rattle.std.specs.Prelude.{◌≡◌, min, length, OnOk, OnErr};
 ghost use Rattle.iol_back.specs.Disk.{Disk, IsSlot, content, IfHonest, Counts, Reads, Writes, Tears, OthersStay};
 
 use iol_core::numbers::FileId;

@@ -1,6 +1,6 @@
 //! A store that fails once.
-ghost use Rattle.std.specs.Prelude.{◌≡◌, ◌≢◌, ℕ, ◌+◌, ◌-◌, ◌/◌, ◌<◌, ◌≤◌, ◌^◌, min, true, false, take, drop, length, slice_range, OnOk, OnErr, IsErr};
-ghost use Rattle.iol_back.specs.Disk.{Disk, IsSlot, content, raised, last_failure, IfHonest, Succeeds, Counts, Reads, Writes, Tears, OthersStay};
+ghost use Rattle.std.specs.Prelude.{◌≡◌, ◌≢◌, ◌-◌, ◌/◌, ◌<◌, true, false, take, length, OnOk, OnErr, IsErr};
+ghost use Rattle.iol_back.specs.Disk.{IsSlot, content, raised, last_failure, IfHonest, Succeeds, Counts, Reads, Writes, Tears, OthersStay};
 
 use crate::backing::{Backing, StoreFault};
 use iol_core::numbers::FileId;

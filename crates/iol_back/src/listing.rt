@@ -1,6 +1,6 @@
 //! The files that lie in a folder.
-ghost use Rattle.std.specs.Prelude.{◌≡◌, ◌+◌, ◌-◌, ◌<◌, ◌≤◌, ◌↔◌, ◌∷◌, ◌++◌, [], length, All, Some, IfSome, IsSome, IsTrue, OnOk, slice_get, string_bytes, map};
-ghost use Rattle.iol_back.specs.Folder.{IsSized, Precedes, AreNames, AreRising, AreDistinct};
+ghost use Rattle.std.specs.Prelude.{◌≡◌, ◌+◌, ◌-◌, ◌<◌, ◌≤◌, [], length, All, Some, IsTrue, slice_get, string_bytes, map};
+ghost use Rattle.iol_back.specs.Folder.{IsSized, Precedes, AreNames};
 ghost use Rattle.iol_core.specs.declared.limits.TheConstants.{MAX_FILES, MAX_FILE_BYTES};
 
 use iol_core::limits::{MAX_FILE_BYTES, MAX_FILES, MAX_NAME_BYTES};

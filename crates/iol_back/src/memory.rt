@@ -1,5 +1,5 @@
 //! A store in memory.
-ghost use Rattle.std.specs.Prelude.{◌≡◌, ℕ, ◌+◌, ◌-◌, ◌<◌, ◌≤◌, ◌^◌, ◌↔◌, min, true, length, take, drop, OnOk, OnErr, IsOk, IsTrue};
+ghost use Rattle.std.specs.Prelude.{◌≡◌, ◌+◌, ◌-◌, ◌<◌, ◌↔◌, min, true, length, OnOk, OnErr, IsOk, IsTrue};
 ghost use Rattle.iol_back.specs.Disk.{Disk, IsSlot, content, raised, CanRead, Counts, Reads, Writes, OthersStay};
 
 use crate::backing::{Backing, StoreFault};

@@ -1,6 +1,5 @@
 //! Lists of bytes by file number.
-ghost use Rattle.std.specs.Prelude.{◌≡◌, ℕ, ◌+◌, ◌-◌, ◌<◌, ◌≤◌, [], ◌++◌, length, map, take, drop, OnOk, OnErr, IsOk, vec_len};
-ghost use Rattle.iol_core.specs.Numbered.{numbered_or};
+ghost use Rattle.std.specs.Prelude.{◌≡◌, ℕ, ◌+◌, ◌-◌, ◌<◌, ◌≤◌, [], ◌++◌, length, OnOk, OnErr, IsOk};
 ghost use Rattle.iol_back.specs.Disk.{IsSlot, content, overwritten, OthersStay, AllStay};
 ghost use Rattle.iol_back.specs.Lists.{items_of};
 

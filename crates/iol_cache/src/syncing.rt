@@ -1,5 +1,5 @@
 //! Writing back of dirty extents.
-ghost use Rattle.std.specs.Prelude.{◌≡◌, ◌+◌, ◌<◌, ◌≤◌, ◌^◌, length, true, None, IfErr, IfSome, OnErr, OnOk};
+ghost use Rattle.std.specs.Prelude.{◌≡◌, ◌+◌, ◌<◌, ◌^◌, length, true, None, IfErr, IfSome, OnErr, OnOk};
 ghost use Rattle.iol_core.specs.Text as text;
 ghost use Rattle.iol_core.specs.Numbered.{is_numbered};
 ghost use Rattle.iol_cache.specs.Cache.{cached_of};
@@ -13,7 +13,7 @@ ghost use Rattle.iol_cache.specs.Syncing.{Flushes, KeepsBytes, KeepsStored, Stor
 ghost use Rattle.iol_extent.specs.Extents.{IsFirstDirty, cleaned_at};
 ghost use Rattle.iol_back.specs.Disk.{raised};
 ghost use Rattle.iol_core.specs.Meaning.{FaultOf};
-ghost use Rattle.iol_extent.specs.Extents.{IsApart, begins_at, dirty_in, last_end};
+ghost use Rattle.iol_extent.specs.Extents.{IsApart, begins_at, dirty_in};
 ghost use Rattle.iol_evict.specs.Ranking.{entered, with_one_given_back};
 ghost use Rattle.iol_hold.specs.Places.{byte_len};
 ghost use Rattle.iol_hold.specs.Texts.{AllReadable, text_of};

@@ -1,9 +1,9 @@
 //! One domain.
-ghost use Rattle.std.specs.Prelude.{◌≡◌, ◌≢◌, ℕ, ◌+◌, ◌-◌, ◌<◌, ◌≤◌, ◌^◌, length, true, Option, Some, None, List, [], ◌∷◌, ◌++◌, IfOk, IfErr, IfSome, OnOk, OnErr, slice_set, nat_lt, vec_len, vec_capacity};
+ghost use Rattle.std.specs.Prelude.{◌≡◌, ◌≢◌, ◌+◌, ◌-◌, ◌<◌, ◌≤◌, ◌^◌, length, true, Option, Some, None, [], IfOk, OnOk, OnErr, slice_set, nat_lt};
 ghost use Rattle.std.specs.Option.{option_copied};
 ghost use Rattle.iol_core.specs.State.{new_domain, no_domain};
-ghost use Rattle.iol_core.specs.Numbered.{in_place, lookup, without, lowest, placed, taken};
-ghost use Rattle.iol_desc.specs.Tables.{with_next, exchanged, place_in, with_next_fd, next_ends, with_ends};
+ghost use Rattle.iol_core.specs.Numbered.{in_place, lookup, without, lowest, taken};
+ghost use Rattle.iol_desc.specs.Tables.{with_next, exchanged, with_next_fd, next_ends, with_ends};
 
 use crate::entries::{Entries, Taken};
 use crate::places::Places;

@@ -1,11 +1,11 @@
 //! The table of domains.
 #![tactic(auto, using(crate::proofs::Rows::row_rules, crate::proofs::Counted::counted_rules), unfolding(crate::specs::Tables::domain_in, crate::specs::Tables::with_domain_in, crate::specs::Tables::row_in))]
 
-ghost use Rattle.std.specs.Prelude.{◌≡◌, ◌≢◌, ℕ, ◌+◌, ◌-◌, ◌<◌, ◌≤◌, ◌^◌, length, true, false, min, sum_by, Option, Some, None, List, [], ◌∷◌, ◌++◌, IfOk, IfErr, IfSome, OnOk, OnErr, slice_set, nat_lt};
+ghost use Rattle.std.specs.Prelude.{◌≡◌, ◌≢◌, ℕ, ◌+◌, ◌-◌, ◌<◌, ◌≤◌, length, true, false, Option, Some, None, List, [], ◌∷◌, ◌++◌, IfOk, OnOk, OnErr, slice_set, nat_lt};
 ghost use Rattle.std.specs.Option.{option_copied};
 ghost use Rattle.iol_core.specs.State.{new_domain, no_domain};
-ghost use Rattle.iol_core.specs.Numbered.{in_place, lookup, without, lowest, placed, taken};
-ghost use Rattle.iol_desc.specs.Tables.{domains_of, row_in, room_in, domain_in, with_domain_in, with_default_in, agg_in, aggs_in, with_aggs_in, with_agg_in, without_agg_in, exchanged, live_aggs_in, too_many_in, fds_in, with_fds_in, with_next_fd, next_ends, with_ends};
+ghost use Rattle.iol_core.specs.Numbered.{in_place, without, lowest, taken};
+ghost use Rattle.iol_desc.specs.Tables.{domains_of, row_in, room_in, domain_in, with_domain_in, with_default_in, agg_in, aggs_in, with_aggs_in, with_agg_in, without_agg_in, exchanged, too_many_in, fds_in, with_fds_in, with_next_fd, next_ends, with_ends};
 
 use crate::entries::Taken;
 use crate::row::Domain;

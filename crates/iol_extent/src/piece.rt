@@ -1,7 +1,6 @@
 //! One extent.
-ghost use Rattle.std.specs.Prelude.{◌≡◌, ℕ, ◌+◌, ◌-◌, ◌/◌, ◌<◌, ◌≤◌, length, slice_index_or, slice_set, insert, remove};
-ghost use Rattle.std.specs.VecDeque.{deque_len, deque_capacity};
-ghost use Rattle.iol_extent.specs.Extents.{Extent, as_clean, end_of, IsApart};
+ghost use Rattle.std.specs.Prelude.{◌≡◌, ◌+◌, ◌-◌, ◌<◌};
+ghost use Rattle.iol_extent.specs.Extents.{Extent, end_of};
 
 use iol_agg::Agg;
 use std::collections::VecDeque;

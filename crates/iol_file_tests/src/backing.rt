@@ -1,5 +1,4 @@
 //! Stores: what they hold after some calls, and which call fails.
-ghost use Rattle.iol_back.specs.Disk.{IsSlot};
 
 use iol_back::backing::Backing;
 use iol_back::faulty::FaultyBacking;

@@ -1,7 +1,6 @@
 //! Extents: what a range has, once two are put in and one is taken away.
-ghost use Rattle.std.specs.Prelude.{◌≡◌, ◌<◌, ◌+◌, ◌^◌, []};
+ghost use Rattle.std.specs.Prelude.{◌≡◌, ◌<◌, []};
 ghost use Rattle.iol_hold.specs.Places.{byte_len};
-ghost use Rattle.iol_extent.specs.Extents.{IsGap};
 
 use iol_agg::Agg;
 use iol_core::configuration::Config;

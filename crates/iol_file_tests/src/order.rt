@@ -1,6 +1,5 @@
 //! The order in which parts of files are evicted.
-ghost use Rattle.std.specs.Prelude.{◌≡◌, ◌≢◌, ℕ, ◌<◌, ◌≤◌, ◌==◌, [], None};
-ghost use Rattle.iol_evict.specs.Ranking.{Ranking, entry_at, entered};
+ghost use Rattle.std.specs.Prelude.{◌≡◌, ◌<◌, ◌≤◌, ◌==◌, [], None};
 
 use iol_core::numbers::FileId;
 use iol_evict::entry::Rank;

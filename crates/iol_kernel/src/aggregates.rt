@@ -3,12 +3,11 @@ ghost use Rattle.std.specs.Prelude.{◌≡◌, ◌≢◌, ℕ, ◌+◌, ◌<◌,
 ghost use Rattle.iol_core.specs.State as state;
 ghost use Rattle.iol_core.specs.State.{is_live, domain, text, may_read};
 ghost use Rattle.iol_core.specs.Meaning.{Step, WantOfRoom, first};
-ghost use Rattle.iol_core.specs.Text.{barred, bytes_of, labelled};
+ghost use Rattle.iol_core.specs.Text.{barred};
 ghost use Rattle.iol_core.specs.Calls.Aggregates as calls;
 ghost use Rattle.iol_core.specs.Calls.Aggregates.{default_pool, lacks_agg, too_many_aggs};
 ghost use Rattle.iol_hold.specs.Moves.{Stays};
 ghost use Rattle.iol_hold.specs.Room.{has_room};
-ghost use Rattle.iol_hold.specs.Texts.{AllReadable};
 ghost use Rattle.iol_kernel.specs.Adding.{replaced};
 ghost use Rattle.iol_kernel.specs.KernelState.{joined, IsSound};
 ghost use Rattle.iol_kernel.specs.Readings.{Reading, read, KeepsPools};

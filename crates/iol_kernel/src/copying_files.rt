@@ -1,5 +1,5 @@
 //! Reading files by copying: no aggregate is made of what is read.
-ghost use Rattle.std.specs.Prelude.{◌≡◌, ℕ, ◌+◌, ◌≤◌, ◌++◌, length, true, Some, None, IfOk};
+ghost use Rattle.std.specs.Prelude.{◌≡◌, ◌+◌, ◌≤◌, ◌++◌, length, true, Some, None, IfOk};
 ghost use Rattle.std.specs.Vec.{vec_len, vec_capacity};
 ghost use Rattle.iol_core.specs.Meaning.{first};
 ghost use Rattle.iol_core.specs.Numbered.{is_numbered};

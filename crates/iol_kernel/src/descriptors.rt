@@ -1,5 +1,5 @@
 //! Pipes are made and connections accepted, and descriptors on them are given and closed.
-ghost use Rattle.std.specs.Prelude.{◌≡◌, ◌≢◌, ℕ, ◌<◌, true, false, not, ◌&&◌, ◌==◌, if◌then◌else◌, Option, Some, None, option_map, IfOk, OnOk, OnErr, Err};
+ghost use Rattle.std.specs.Prelude.{◌≡◌, ◌≢◌, ℕ, ◌<◌, true, false, not, ◌&&◌, ◌==◌, Option, Some, None, option_map, IfOk, OnErr, Err};
 ghost use Rattle.iol_core.specs.State as state;
 ghost use Rattle.iol_core.specs.State.{is_live, descriptor, conn_at};
 ghost use Rattle.iol_core.specs.Numbered.{is_numbered, lookup, taken};

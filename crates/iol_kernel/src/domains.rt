@@ -1,5 +1,5 @@
 //! Domains come and go.
-ghost use Rattle.std.specs.Prelude.{◌≡◌, ℕ, ◌++◌, ◌∷◌, [], length, true, fold, Option, Err, IfOk, OnErr};
+ghost use Rattle.std.specs.Prelude.{◌≡◌, ℕ, [], length, true, fold, Option, Err};
 ghost use Rattle.iol_core.specs.State.{is_live, domain, with_domain};
 ghost use Rattle.iol_core.specs.Calls.Domains as calls;
 ghost use Rattle.iol_core.specs.Calls.Descriptors.{closed_on, with_fds};
@@ -17,7 +17,7 @@ use iol_core::refusals::Refusal;
 use std::alloc::AllocError;
 
 impl Kernel {
-    ghost use Rattle.iol_kernel.specs.Kernel.{state_of, machine, as_read, CarriesOut, KeepsPlaces, Answers, Leaves};
+    ghost use Rattle.iol_kernel.specs.Kernel.{state_of, machine, as_read, CarriesOut, KeepsPlaces, Leaves};
 
     /// Makes a domain.
     #[tactic(auto, using(crate::proofs::Stay::stay_rules))]

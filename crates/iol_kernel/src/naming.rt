@@ -1,5 +1,5 @@
 //! Files by name.
-ghost use Rattle.std.specs.Prelude.{◌≡◌, ℕ, ◌+◌, ◌<◌, length, true, false, is_some, nat_lt, IfOk, IfSome, OnErr, Err};
+ghost use Rattle.std.specs.Prelude.{◌≡◌, ◌+◌, ◌<◌, length, true, false, is_some, nat_lt, IfOk, IfSome, OnErr, Err};
 ghost use Rattle.iol_core.specs.State as state;
 ghost use Rattle.iol_core.specs.State.{content};
 ghost use Rattle.iol_core.specs.Numbered.{is_numbered};

@@ -1,5 +1,5 @@
 //! Pipes: bounded queues, each in a place of its own, with a read end and a write end.
-ghost use Rattle.std.specs.Prelude.{◌≡◌, ℕ, ◌+◌, ◌-◌, ◌<◌, ◌≤◌, ◌^◌, length, min, take, take_while, drop, slice_set, true, [], ◌++◌, Some, Err, IfOk, IfErr, OnOk, OnErr, false};
+ghost use Rattle.std.specs.Prelude.{◌≡◌, ℕ, ◌+◌, ◌-◌, ◌<◌, ◌≤◌, ◌^◌, length, min, take, take_while, drop, true, [], ◌++◌, Some, Err, IfOk, IfErr, OnOk, OnErr, false};
 ghost use Rattle.iol_core.specs.Numbered.{lowest, placed, taken};
 ghost use Rattle.iol_core.specs.Meaning.{WantOfRoom};
 ghost use Rattle.iol_core.specs.Text.{bytes_of};

@@ -2,7 +2,7 @@
 ghost use Rattle.std.specs.Prelude.{◌≡◌, ◌&&◌, ℕ, ◌+◌, ◌<◌, ◌≤◌, length, true, false, ◌∷◌, ◌++◌, [], Some, None, IfOk, IfErr, OnOk, OnErr, Err};
 ghost use Rattle.std.specs.List.{list_all};
 ghost use Rattle.iol_core.specs.State as state;
-ghost use Rattle.iol_core.specs.State.{is_live, is_pool, domain, with_domain};
+ghost use Rattle.iol_core.specs.State.{is_live, is_pool, domain};
 ghost use Rattle.iol_core.specs.Numbered.{with_numbered};
 ghost use Rattle.iol_core.specs.Meaning.{WantOfRoom, first};
 ghost use Rattle.iol_core.specs.Calls.Pools as calls;

@@ -1,12 +1,12 @@
 //! Reading by reference.
-ghost use Rattle.std.specs.Prelude.{◌≡◌, ℕ, length, true, false, min, take, Option, Some, IfOk, OnErr};
+ghost use Rattle.std.specs.Prelude.{◌≡◌, true, false, min, take, Option, Some, IfOk, OnErr};
 ghost use Rattle.iol_core.specs.State.{is_live, descriptor, may_read, pipe_at, conn_at};
 ghost use Rattle.iol_core.specs.Text.{barred};
 ghost use Rattle.iol_core.specs.Calls.Aggregates.{too_many_aggs};
 ghost use Rattle.iol_core.specs.Calls.Files.{open_on};
 ghost use Rattle.iol_core.specs.Calls.Reading as calls;
 ghost use Rattle.iol_kernel.specs.FileReading.{held_by};
-ghost use Rattle.iol_kernel.specs.KernelState.{queue_at, IsSound};
+ghost use Rattle.iol_kernel.specs.KernelState.{IsSound};
 ghost use Rattle.iol_kernel.specs.Readings.{Reading, KeepsPools};
 
 use crate::kernel::Kernel;

@@ -1,5 +1,5 @@
 //! Reading files by reference: what is in memory is shared, and what is not is read into clean extents.
-ghost use Rattle.std.specs.Prelude.{◌≡◌, ℕ, ◌+◌, true, false, Option, Some, None, IfSome, OnOk};
+ghost use Rattle.std.specs.Prelude.{◌≡◌, ◌+◌, true, false, Option, Some, None, IfSome, OnOk};
 ghost use Rattle.iol_core.specs.Meaning.{first};
 ghost use Rattle.iol_core.specs.State.{is_live, descriptor};
 ghost use Rattle.iol_core.specs.Calls.Aggregates.{too_many_aggs};

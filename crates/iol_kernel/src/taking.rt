@@ -1,5 +1,5 @@
 //! Bytes are copied out of pipes and connections: no aggregate is made of them, and no memory is taken.
-ghost use Rattle.std.specs.Prelude.{◌≡◌, ◌++◌, ℕ, length, min, drop, true, Some, None, IfOk, OnOk, IfErr};
+ghost use Rattle.std.specs.Prelude.{◌≡◌, ◌++◌, length, min, drop, true, Some, None, IfOk, OnOk, IfErr};
 ghost use Rattle.iol_core.specs.Meaning.{Never};
 ghost use Rattle.iol_core.specs.State.{is_live, descriptor};
 ghost use Rattle.iol_core.specs.Calls.Files.{open_on};
@@ -7,7 +7,7 @@ ghost use Rattle.iol_core.specs.Calls.Reading as calls;
 ghost use Rattle.iol_sock.specs.Refused.{IsPassed, IsRefused};
 ghost use Rattle.iol_kernel.specs.FileReading.{held_by};
 ghost use Rattle.iol_kernel.specs.KernelState.{IsSound};
-ghost use Rattle.iol_kernel.specs.Readings.{Reading, KeepsPools};
+ghost use Rattle.iol_kernel.specs.Readings.{Reading};
 
 use crate::kernel::Kernel;
 use iol_core::descriptors::Descriptor;

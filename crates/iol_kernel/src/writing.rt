@@ -1,10 +1,10 @@
 //! Writing by reference: to pipes and connections here, to files in `writing_files`.
-ghost use Rattle.std.specs.Prelude.{◌≡◌, ℕ, ◌-◌, length, true, false, Some, Err, IfOk, IfErr, OnOk, OnErr};
+ghost use Rattle.std.specs.Prelude.{◌≡◌, ◌-◌, length, true, false, Some, Err, IfOk, IfErr, OnOk, OnErr};
 ghost use Rattle.iol_core.specs.State.{is_live, descriptor, pipe_at, text};
 ghost use Rattle.iol_core.specs.Calls.Aggregates.{lacks_agg};
 ghost use Rattle.iol_core.specs.Calls.Writing as calls;
 ghost use Rattle.iol_back.specs.Disk.{Disk};
-ghost use Rattle.iol_kernel.specs.KernelState.{queue_at, IsSound};
+ghost use Rattle.iol_kernel.specs.KernelState.{IsSound};
 ghost use Rattle.iol_kernel.specs.Readings.{Reading};
 ghost use Rattle.iol_kernel.specs.WritingFiles.{WritesOn};
 

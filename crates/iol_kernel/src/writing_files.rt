@@ -1,5 +1,5 @@
 //! Writing by reference to files.
-ghost use Rattle.std.specs.Prelude.{◌≡◌, ℕ, ◌+◌, ◌≤◌, length, true, false, None, Some, Err, IfOk, IfErr, OnOk};
+ghost use Rattle.std.specs.Prelude.{◌≡◌, ◌+◌, ◌≤◌, true, false, None, Some, Err, IfErr, OnOk};
 ghost use Rattle.iol_core.specs.Meaning.{first};
 ghost use Rattle.iol_core.specs.State.{is_live, descriptor};
 ghost use Rattle.iol_core.specs.Calls.Aggregates.{lacks_agg};

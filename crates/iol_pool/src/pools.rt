@@ -1,7 +1,7 @@
 //! The table of pools.
-ghost use Rattle.std.specs.Prelude.{◌≡◌, ℕ, ◌+◌, ◌*◌, ◌<◌, ◌≤◌, ◌==◌, length, true, false, not, find, Option, Some, None, Err, is_some, IfSome, IfOk, IfErr, OnOk, OnErr, List, [], ◌∷◌, ◌++◌, ◌↔◌, IsTrue};
+ghost use Rattle.std.specs.Prelude.{◌≡◌, ◌+◌, ◌*◌, ◌<◌, ◌≤◌, ◌==◌, length, true, false, not, find, Option, Some, None, Err, is_some, IfSome, IfOk, IfErr, OnOk, OnErr, List, [], ◌↔◌, IsTrue};
 ghost use Rattle.std.specs.Option.{option_copied};
-ghost use Rattle.std.specs.List.{All, list_all, list_any};
+ghost use Rattle.std.specs.List.{All, list_all};
 ghost use Rattle.iol_core.specs.Numbered.{is_numbered};
 ghost use Rattle.iol_core.specs.Calls.Pools.{has_place};
 ghost use Rattle.iol_arena.specs.State.{chunk_count};

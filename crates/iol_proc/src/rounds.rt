@@ -1,7 +1,7 @@
 //! Turns in rounds, until nothing is left to do.
 ghost use Rattle.std.specs.Prelude.{◌≡◌, ◌<◌, length, false};
 ghost use Rattle.iol_proc.specs.Idle.{Idles, counted, is_idle};
-ghost use Rattle.iol_proc.specs.World.{Stage, sharing, domains_of};
+ghost use Rattle.iol_proc.specs.World.{sharing, domains_of};
 
 use crate::process::Process;
 use crate::replies::is_would_block;

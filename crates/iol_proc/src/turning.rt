@@ -1,7 +1,7 @@
 //! One turn of one process.
 ghost use Rattle.std.specs.Prelude.{◌≡◌, ◌<◌, length};
 ghost use Rattle.iol_proc.specs.Turns.{SeatTurn};
-ghost use Rattle.iol_proc.specs.World.{Stage, PlaceTurn, sharing, domains_of};
+ghost use Rattle.iol_proc.specs.World.{PlaceTurn, sharing, domains_of};
 
 use crate::look::Look;
 use crate::process::{Process, Turn};

@@ -1,5 +1,5 @@
 //! What came in is copied out, and then skipped.
-ghost use Rattle.std.specs.Prelude.{◌≡◌, ◌≢◌, ◌≤◌, ◌++◌, None, length, take, drop};
+ghost use Rattle.std.specs.Prelude.{◌≡◌, ◌≢◌, ◌++◌, None, length, take, drop};
 ghost use Rattle.std.specs.List.{take_while};
 ghost use Rattle.iol_core.specs.Numbered.{lookup};
 ghost use Rattle.iol_core.specs.Text.{bytes_of};

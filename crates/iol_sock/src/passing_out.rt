@@ -1,6 +1,6 @@
 //! What is sent on a connection of the table, by its number, and its peer.
 ghost use Rattle.iol_core.specs.Checksum.{checksum as checksum_of};
-ghost use Rattle.iol_core.specs.Meaning.{WantOfMemory, WantOfRoom, first};
+ghost use Rattle.iol_core.specs.Meaning.{WantOfMemory, WantOfRoom};
 ghost use Rattle.iol_core.specs.Numbered.{lookup};
 ghost use Rattle.iol_core.specs.Text.{bytes_of};
 ghost use Rattle.iol_hold.specs.Moves.{Covers, IsCountable, Moves, SameLists, Shares};

@@ -1,5 +1,5 @@
 //! Sums of pieces put together, and the checksum of a sum.
-ghost use Rattle.std.specs.Prelude.{◌≡◌, ◌+◌, ◌-◌, ◌≤◌, List, ℕ};
+ghost use Rattle.std.specs.Prelude.{◌≡◌, ◌+◌, ◌-◌, List, ℕ};
 ghost use Rattle.iol_core.specs.Checksum.{folded, checksum as checksum_of};
 ghost use Rattle.iol_sum.specs.Pieces.{joined, IsSumOf, JoinsPieces};
 

@@ -1,5 +1,5 @@
 //! Each call that wants memory answers when there is enough, and so it does after many rounds.
-ghost use Rattle.std.specs.Prelude.{◌≡◌, true};
+ghost use Rattle.std.specs.Prelude.{true};
 
 use iol_core::descriptors::Descriptor;
 use iol_core::numbers::{AggId, DomainId, Fd, PipeId};
