@@ -1,5 +1,5 @@
 //! What a worker is at after the reply to its call.
-ghost use Rattle.std.specs.Prelude.{◌≡◌, length};
+ghost use Rattle.std.specs.Prelude.{◌≡◌};
 ghost use Rattle.iol_proc.specs.Looks.{lent};
 ghost use Rattle.flash_cgi.specs.Working as spec;
 

@@ -1,8 +1,7 @@
 //! A process that runs scripts.
-ghost use Rattle.std.specs.Prelude.{◌≡◌, ◌∷◌, Some, IfOk, OnErr};
+ghost use Rattle.std.specs.Prelude.{◌≡◌, Some, IfOk, OnErr};
 ghost use Rattle.iol_proc.specs.Looks.{lent};
 ghost use Rattle.iol_proc.specs.Quiet.{IsQuiet};
-ghost use Rattle.flash_cgi.specs.Job.{job_of};
 ghost use Rattle.flash_cgi.specs.Working as spec;
 ghost use Rattle.flash_cgi.specs.Works as account;
 

@@ -1,6 +1,5 @@
 //! A worker in domain 2, in a world whose domain 1 gives it jobs. Domain 3 is a guest with a private file.
-ghost use Rattle.std.specs.Prelude.{◌≡◌, [], ◌∷◌, map, IfOk, nat_eq};
-ghost use Rattle.std.specs.List.{IsDistinct};
+ghost use Rattle.std.specs.Prelude.{◌≡◌, [], ◌∷◌, map, IfOk};
 ghost use Rattle.iol_back.specs.Disk.{IsSlot};
 
 use flash_cgi::worker::Worker;

@@ -12,7 +12,6 @@ use Rattle.iol_laws.specs.Frame.{Leaves}
 use Rattle.iol_laws.specs.History.{came_by, sent_by}
 use Rattle.iol_laws.specs.Order.{IsOrderly}
 use Rattle.iol_laws.specs.Others as o
-use Rattle.iol_laws.specs.Others.{OthersLeaveConnections}
 use Rattle.iol_core.specs.declared.refusals.Refusal.{Refusal}
 use Rattle.iol_core.specs.declared.descriptors.How.{How}
 use Rattle.iol_core.specs.declared.descriptors.How.TheVariants as how

@@ -12,7 +12,7 @@ use Rattle.iol_core.specs.Values.{gives_up}
 use Rattle.iol_laws.specs.Frame.{Leaves, touches_conn, touches_fd}
 use Rattle.iol_laws.specs.Order.{IsOrderly}
 use Rattle.iol_laws.specs.Caller as o
-use Rattle.iol_laws.specs.Caller.{CallsServeTheirDomain, NumbersAreNew, lent_at, is_rough, is_agg, is_fd}
+use Rattle.iol_laws.specs.Caller.{is_rough}
 use Rattle.iol_core.specs.declared.descriptors.Descriptor.{Descriptor}
 use Rattle.iol_core.specs.declared.descriptors.Descriptor.TheVariants as on
 use Rattle.iol_core.specs.declared.events.Call.{Call}

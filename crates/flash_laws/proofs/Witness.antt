@@ -9,21 +9,18 @@ use Rattle.iol_core.specs.declared.events.Call.TheVariants as call
 use Rattle.iol_core.specs.declared.events.Reply.{Reply}
 use Rattle.iol_core.specs.declared.events.Reply.TheVariants as reply
 use Rattle.iol_laws.specs.Order.{IsOrderly, EachStepKeepsOrder}
-use Rattle.iol_proc.specs.Smooth.{AreSmooth}
 use Rattle.iol_proc.specs.Turns.{Account}
-use Rattle.iol_proc.specs.World.{Stage, copying, WorldRun}
+use Rattle.iol_proc.specs.World.{Stage}
 use Rattle.iol_proc.specs.declared.choice.Choice.{Choice}
 use Rattle.iol_proc.specs.declared.choice.Choice.TheVariants as choice
 use Rattle.iol_proc.specs.declared.process.Turn.TheVariants as turn
 use Rattle.flash_laws.specs.Answers.{Found, Failed}
-use Rattle.flash_laws.specs.Calm.{AreMild}
 use Rattle.flash_laws.specs.Conn.{most_read}
 use Rattle.flash_laws.specs.declared.doing.Flight.TheVariants.{Accepting}
 use Rattle.flash_laws.specs.Laws.{ARunIsCalm}
-use Rattle.flash_laws.specs.Policy.{in_rounds}
 use Rattle.flash_laws.specs.Serves.{new_server}
 use Rattle.flash_laws.specs.Site.{server, outcome_in, IsFixed}
-use Rattle.flash_laws.specs.Tie.{made_over, Actor, Serving, actor_turns, IsNew}
+use Rattle.flash_laws.specs.Tie.{made_over, Actor, Serving, IsNew}
 use Rattle.flash_laws.proofs.Lists.{not-equal}
 
 -- what a call leads to, where it is not refused

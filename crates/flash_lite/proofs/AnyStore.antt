@@ -1,17 +1,16 @@
 -- The calls of a site over any store: the machine is that of the site, whatever bytes are in its slots.
-use Rattle.std.proofs.Common.{◌≡◌, ℕ, ◌+◌, List, [], ◌∷◌, refl, sym, subst, ap, ◌∙◌, Option, None, true}
+use Rattle.std.proofs.Common.{◌≡◌, ℕ, ◌+◌, List, [], ◌∷◌, sym, subst, ap, ◌∙◌, Option, None, true}
 use Rattle.std.specs.Prelude.{option_map}
 use Rattle.iol_core.specs.Calls.Files.{file_called}
 use Rattle.iol_core.specs.Meaning.{first}
-use Rattle.iol_core.specs.Run.{meaning, outcome}
+use Rattle.iol_core.specs.Run.{meaning}
 use Rattle.iol_core.specs.State.{State, new_state}
 use Rattle.iol_core.specs.declared.events.Event.{Event}
 use Rattle.iol_core.specs.declared.events.Reply.{Reply}
 use Rattle.iol_kernel.specs.Backed.{with_slots}
-use Rattle.iol_kernel.specs.KernelState.{KernelState}
 use Rattle.iol_kernel.proofs.Beside.{with_slots-own}
 use Rattle.iol_system.specs.Machine.{SystemState, machine_of}
-use Rattle.iol_system.specs.Promises.{Promises, Chain}
+use Rattle.iol_system.specs.Promises.{Chain}
 use Rattle.flash_lite.specs.Setup.{calls, first_refusal, is_in_range}
 use Rattle.flash_lite.specs.SiteState.{LeavesSite, state_of}
 use Rattle.flash_lite.specs.declared.site.Site.{Site}

@@ -1,6 +1,6 @@
 -- Places, and what is picked from them.
-use Rattle.std.proofs.Common.{◌≡◌, ◌≢◌, ℕ, zero, suc, ◌+◌, ◌-◌, ◌<◌, ◌≤◌, ◌||◌, List, [], ◌∷◌, ◌++◌, length, take, drop, ap, ◌∙◌, append-nil, add-one, arith, Option, Some, None, Bool, true, false, sym, refl, subst, if◌then◌else◌}
-use Rattle.std.specs.Prelude.{replicate, slice_set, filter, is_some, position, option_map, nat_lt}
+use Rattle.std.proofs.Common.{◌≡◌, ℕ, zero, suc, ◌+◌, ◌-◌, ◌<◌, ◌≤◌, List, [], ◌∷◌, ◌++◌, length, take, drop, ap, ◌∙◌, append-nil, add-one, arith, Option, Some, None, Bool, true, false, sym, refl, subst, if◌then◌else◌}
+use Rattle.std.specs.Prelude.{replicate, slice_set, is_some, position, option_map, nat_lt}
 use Rattle.std.specs.List.{position_or_len}
 use Rattle.std.proofs.lemmas.Bool.Decides.{nat_tests}
 use Rattle.std.proofs.lemmas.List.Sums.{passes_at_first}
@@ -10,16 +10,15 @@ use Rattle.iol_core.specs.declared.events.Call.{Call}
 use Rattle.iol_core.specs.declared.events.Reply.{Reply}
 use Rattle.iol_proc.specs.declared.process.Turn.{Turn}
 use Rattle.iol_proc.specs.declared.process.Turn.TheVariants as turn
-use Rattle.flash_laws.specs.Conn.{Conn, Readies, told, wants}
-use Rattle.flash_laws.specs.Policy.{leaves_off, next_place, next_flight, flight_from, flight_to, door, place_after, most_conns, in_rounds}
+use Rattle.flash_laws.specs.Conn.{Conn, told}
+use Rattle.flash_laws.specs.Policy.{leaves_off, next_place, flight_from, flight_to, door, place_after, most_conns, in_rounds}
 use Rattle.flash_laws.specs.Serves.{Picks, PicksAt}
 use Rattle.flash_laws.specs.Tied.{with_at, filed, told_at, left_over, left_by}
 use Rattle.flash_laws.specs.declared.doing.Doing.{Doing}
 use Rattle.flash_laws.specs.declared.doing.Doing.TheVariants.{Rests, Got, Opens, Reads, Shuts, Picks as Picking, Spares, Heads, Joins, Sends, Cuts, Offers, Swaps, Sent, Breaks, Drops, Closes, Over}
 use Rattle.flash_laws.specs.declared.doing.Flight.{Flight}
 use Rattle.flash_laws.specs.declared.doing.Flight.TheVariants.{Nothing, Accepting, At}
-use Rattle.flash_lite.specs.Onward.{IsOnward}
-use Rattle.flash_lite.specs.Turning.{OnwardAt, left_as, left_at, CallAt, Makes, PicksFrom, door_to, flight_by, most_with}
+use Rattle.flash_lite.specs.Turning.{OnwardAt, left_as, left_at, Makes, PicksFrom, door_to, flight_by, most_with}
 use Rattle.flash_lite.specs.declared.conn.Onward.TheVariants.{Asks, Leaves}
 
 -- ---- lists with a place set

@@ -1,5 +1,5 @@
 -- Where something is in progress a connection waits for nothing else, and one that waits is ready as it is.
-use Rattle.std.proofs.Common.{◌≡◌, ◌≢◌, ℕ, List, refl, inl}
+use Rattle.std.proofs.Common.{◌≢◌, ℕ, List, refl, inl}
 use Rattle.flash_http.specs.Request.{Answer}
 use Rattle.flash_laws.specs.Conn.{IsAwaiting, Readies}
 use Rattle.flash_laws.specs.declared.doing.Doing.{Doing}

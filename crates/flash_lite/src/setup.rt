@@ -1,5 +1,5 @@
 //! Setting a site up.
-ghost use Rattle.std.specs.Prelude.{◌≡◌, ◌<◌, ◌+◌, ◌++◌, ◌∷◌, [], true, false, Err, IfErr, IfOk, OnOk, map, nat_eq};
+ghost use Rattle.std.specs.Prelude.{◌≡◌, ◌<◌, ◌+◌, ◌++◌, true, false, Err, IfErr, IfOk, OnOk, map, nat_eq};
 ghost use Rattle.std.specs.List.{IsDistinct, range_with_len};
 ghost use Rattle.iol_back.specs.Disk.{IfHonest};
 ghost use Rattle.iol_system.specs.Machine.{machine_of};

@@ -1,5 +1,5 @@
 -- Connections that are served, one after another.
-use Rattle.std.proofs.Common.{◌≡◌, ◌+◌, ◌<◌, ◌≤◌, ℕ, suc, [], Option, List, inl, inr, refl, arith}
+use Rattle.std.proofs.Common.{◌≡◌, ◌+◌, ◌≤◌, ℕ, suc, [], Option, List, inl, inr, refl, arith}
 use Rattle.iol_core.specs.State.{State}
 use Rattle.iol_core.specs.declared.events.Event.TheVariants as event
 use Rattle.iol_core.specs.declared.events.Reply.{Reply}
@@ -8,7 +8,7 @@ use Rattle.iol_proc.specs.Turns.{Account}
 use Rattle.iol_proc.specs.World.{Stage, copying, OutsideStep}
 use Rattle.iol_serve.specs.Serving.{Serves}
 use Rattle.iol_serve.proofs.Steps.{goes_none}
-use Rattle.iol_listen.specs.Listening.{GoesAlone, ServesNext, ServesEach, ServesSome}
+use Rattle.iol_listen.specs.Listening.{GoesAlone, ServesNext, ServesSome}
 
 module _ {P : Type 0} (turns : Account P) where
   pub alone : (c : ℕ) (left rest held now : Option (List ℕ)) (w after : Stage State P) → Serves turns c left rest held now w after → GoesAlone turns c w after

@@ -1,7 +1,7 @@
 //! The words of a script's lines: numbers, lists of numbers, and texts. What reads them takes no memory, and so judges them;
 //! only a text that is decoded and a list that is made take some.
 ghost use Rattle.std.specs.Prelude.{◌≡◌, ◌↔◌, ◌≤◌, ◌*◌, ◌≢◌, None, IsSome, IfOk, IfSome, length, true};
-ghost use Rattle.std.specs.List.{before_first, after_first, repeat};
+ghost use Rattle.std.specs.List.{repeat};
 ghost use Rattle.iol_core.specs.declared.descriptors.Mode.{Mode};
 ghost use Rattle.iolite.specs.declared.words.TheConstants.{MAX_REPEATED_BYTES};
 ghost use Rattle.iolite.specs.Calls.{AreDomains, domains_of, mode_word};

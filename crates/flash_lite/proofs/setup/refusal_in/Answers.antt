@@ -1,4 +1,4 @@
-use Rattle.std.proofs.Common.{◌≡◌, ◌<◌, ◌+◌, ◌∙◌, length, sym, arith}
+use Rattle.std.proofs.Common.{◌<◌, ◌∙◌, length, sym, arith}
 use Rattle.flash_lite.proofs.Refused.{refused_at, none_more, not_refused}
 use Rattle.flash_lite.proofs.setup.refusal_in.Goals as goal
 
