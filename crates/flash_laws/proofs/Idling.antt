@@ -35,7 +35,7 @@ use Rattle.flash_laws.specs.Tied.{Held, Aside, AllFit}
 use Rattle.flash_laws.specs.Tie.{past_of, Actor, Serving, actor_turns, Tied}
 use Rattle.flash_laws.specs.Idle.{WouldWait, AllBlock, server_settled, actor_settled}
 use Rattle.flash_laws.specs.Policy.{in_rounds}
-use Rattle.flash_laws.specs.Done.{IsFull, is_sending, IsDone}
+use Rattle.flash_laws.specs.Done.{IsFull, is_sending, StaysOpen, IsDone}
 use Rattle.flash_laws.proofs.Answering.{order-all}
 use Rattle.flash_laws.proofs.Lists.{clash}
 use Rattle.flash_laws.proofs.Turn.{held-open, conn-same}
@@ -99,6 +99,35 @@ module _ (shelf : Shelf) (files : FileCallsServeTheirDomain) (reasons : Refusals
       })
       by (inr h) = absurd (elim h.silent [ inl gone ↦ clash (is_gone (conn_at m c).peer) gone (ap (λ (w : Option How). is_gone w) empty.1) | inr u ↦ (let bad = u.0 in cc (bad)) ])
 
+  -- and nothing on its stream asks for it to be closed
+  rests-open : (came sent : List ℕ) (fd c : ℕ) (kept : List ℕ) (q : Answer) → Fits shelf m came sent fd c (record { kept = kept; q = q; doing = Rests }) → IsAwaiting (record { kept = kept; q = q; doing = Rests })
+      → ((conn_at m c).incoming ≡ []) × ((conn_at m c).peer ≡ None) → StaysOpen came
+  rests-open came sent fd c kept q f waits empty = by f.tie
+    where
+      came-is : came ≡ f.took
+      came-is = f.came_is ∙ (ap (λ (t : Text). f.took ++ bytes_of t) empty.0 ∙ append-nil f.took)
+
+      by : Tie shelf (conn_at m c) f.took sent (record { kept = kept; q = q; doing = Rests }) → StaysOpen came
+      by (inl o) = subst (λ (l : List ℕ). StaysOpen l) (sym came-is) (record {
+        qs = o.done;
+        rest = kept;
+        reads = subst (λ (l : List Answer). Reads f.took l kept) (append-nil o.done) o.reads;
+        open_yet = o.open_yet;
+        no_more = waits;
+      })
+      by (inr h) = absurd (elim h.silent [ inl gone ↦ clash (is_gone (conn_at m c).peer) gone (ap (λ (w : Option How). is_gone w) empty.1) | inr u ↦ (let bad = u.0 in cc (bad)) ])
+
+  -- what of a connection is left to do where all is idle: it waits for its peer, to take or to ask for more
+  abbrev LeftOpen : (came : List ℕ) (c : ℕ) → Type 0
+  LeftOpen came c = (MAX_QUEUE_BYTES ≤ length (conn_at m c).outgoing) ⊎ (((conn_at m c).peer ≡ None) × StaysOpen came)
+
+  held-open-yet : (came sent : List ℕ) (fd c : ℕ) (kept : List ℕ) (q : Answer) (d : Doing) → Fits shelf m came sent fd c (record { kept = kept; q = q; doing = d }) → IsAwaiting (record { kept = kept; q = q; doing = d })
+      → StepsTo m (event.Call server (wants fd (record { kept = kept; q = q; doing = d }))) (reply.Refused no.WouldBlock) m → May d → LeftOpen came c
+  held-open-yet came sent fd c kept q Rests f waits step may = (let empty = reasons.conn_is_empty m m server fd c (most_kept - length kept) f.open_on step in inr (empty.1, rests-open came sent fd c kept q f waits empty))
+  held-open-yet came sent fd c kept q (Sends a len taken more) f waits step may = inl (reasons.conn_is_full m m server fd c a f.open_on step)
+  held-open-yet came sent fd c kept q (Offers a from len piece taken more) f waits step may = inl (reasons.conn_is_full m m server fd c piece f.open_on step)
+  held-open-yet came sent fd c kept q d f waits step may = absurd may
+
   held-done : (came sent : List ℕ) (fd c : ℕ) (kept : List ℕ) (q : Answer) (d : Doing) → Fits shelf m came sent fd c (record { kept = kept; q = q; doing = d }) → IsAwaiting (record { kept = kept; q = q; doing = d })
       → StepsTo m (event.Call server (wants fd (record { kept = kept; q = q; doing = d }))) (reply.Refused no.WouldBlock) m → May d → IsAnswer shelf came (sent ++ bytes_of (conn_at m c).outgoing) ⊎ (MAX_QUEUE_BYTES ≤ length (conn_at m c).outgoing)
   held-done came sent fd c kept q Rests f waits step may = inl (rests-whole came sent fd c kept q f waits (reasons.conn_is_empty m m server fd c (most_kept - length kept) f.open_on step))
@@ -117,6 +146,7 @@ module _ (shelf : Shelf) (files : FileCallsServeTheirDomain) (reasons : Refusals
   all-done p conns all blocked = record {
     accepted = λ c net. by c net (all.others c);
     answered = λ c net was live. whole c net was live (all.others c);
+    closes = λ c net was. left c net was (all.others c);
     lends = λ fd a x is uses.
         let there = all.each fd x is in
         let would = blocked.places fd x is in
@@ -147,6 +177,22 @@ module _ (shelf : Shelf) (files : FileCallsServeTheirDomain) (reasons : Refusals
           subst (λ k. IsAnswer shelf (p.came k) (p.sent k ++ bytes_of (conn_at m k).outgoing) ⊎ (MAX_QUEUE_BYTES ≤ length (conn_at m k).outgoing)) is
           (held-done (p.came there.conn) (p.sent there.conn) held.fd there.conn held.conn.kept held.conn.q held.conn.doing there.fits would.0 would.1
           (may-block (p.came there.conn) (p.sent there.conn) held.fd there.conn held.conn.kept held.conn.q held.conn.doing there.fits would.1))
+
+      held-left : (c : ℕ) → Held m conns c → LeftOpen (p.came c) c
+      held-left c held =
+          let there = all.each held.fd held.conn held.at in
+          let is : there.conn ≡ c = conn-same m held.fd there.conn c there.fits.open_on held.open_on in
+          let would = blocked.places held.fd held.conn held.at in
+          subst (λ k. LeftOpen (p.came k) k) is
+          (held-open-yet (p.came there.conn) (p.sent there.conn) held.fd there.conn held.conn.kept held.conn.q held.conn.doing there.fits would.0 would.1
+          (may-block (p.came there.conn) (p.sent there.conn) held.fd there.conn held.conn.kept held.conn.q held.conn.doing there.fits would.1))
+
+      left : (c : ℕ) → p.net c ≡ true → (conn_at m c).accepted ≡ true → Held m conns c ⊎ Aside shelf p c (conn_at m c)
+          → ((conn_at m c).closed ≡ true) ⊎ LeftOpen (p.came c) c
+      left c net was (inl held) = inr (held-left c held)
+      left c net was (inr (inl waits)) = (let a = waits.waits in absurd (cc (a, was)))
+      left c net was (inr (inr (inr foreign))) = (let a = foreign.other_pool in absurd (cc (a, net)))
+      left c net was (inr (inr (inl ended))) = inl ended.closed
 
       whole : (c : ℕ) → p.net c ≡ true → (conn_at m c).accepted ≡ true
           → p.gone c ≡ false → Held m conns c ⊎ Aside shelf p c (conn_at m c)

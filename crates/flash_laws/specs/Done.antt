@@ -1,10 +1,14 @@
 -- Where all is idle nothing is left to do.
-use Rattle.std.specs.Prelude.{◌≡◌, ◌≤◌, ℕ, ◌⊎◌, Bool, true, false, nat_lt, List, length, Option, Some, ◌++◌}
+use Rattle.std.specs.Prelude.{◌≡◌, ◌≤◌, ℕ, ◌⊎◌, Bool, true, false, nat_lt, List, length, Option, Some, None, ◌++◌}
+use Rattle.std.specs.List.{list_all}
 use Rattle.iol_core.specs.Text.{bytes_of}
 use Rattle.iol_core.specs.Numbered.{in_place, taken}
 use Rattle.iol_core.specs.State.{State, conn_at}
 use Rattle.iol_core.specs.declared.limits.TheConstants.{MAX_QUEUE_BYTES}
-use Rattle.flash_laws.specs.Answers.{Shelf, IsAnswer}
+use Rattle.flash_http.specs.declared.windows.Window.TheVariants.{Wait}
+use Rattle.flash_http.specs.Window.{window_in}
+use Rattle.flash_http.specs.Request.{Answer}
+use Rattle.flash_laws.specs.Answers.{Shelf, Reads, keeps, IsAnswer}
 use Rattle.flash_laws.specs.Conn.{Conn, uses_agg}
 use Rattle.flash_laws.specs.declared.doing.Doing.{Doing}
 use Rattle.flash_laws.specs.declared.doing.Doing.TheVariants.{Sends, Offers}
@@ -21,6 +25,15 @@ is_sending (Sends a len taken more) = true
 is_sending (Offers a from len piece taken more) = true
 is_sending d = false
 
+-- Nothing that came on the stream asks for the connection to be closed: after each of its requests it stays open, and no further
+-- one is there (RFC 9112, section 9.3).
+pub record StaysOpen (s : List ℕ) : Type 0 where
+  pub qs : List Answer
+  pub rest : List ℕ
+  pub reads : Reads s qs rest
+  pub open_yet : list_all (λ q. keeps q) qs ≡ true
+  pub no_more : window_in rest ≡ Wait
+
 pub record IsDone (shelf : Shelf) (m : State) (p : Past) (conns : List (Option Conn)) : Type 0 where
   -- each connection of the net is accepted, unless the server is full
   pub accepted : (c : ℕ) → p.net c ≡ true → ((conn_at m c).accepted ≡ true) ⊎ IsFull conns
@@ -29,6 +42,10 @@ pub record IsDone (shelf : Shelf) (m : State) (p : Past) (conns : List (Option C
       → p.gone c ≡ false
       → IsAnswer shelf (p.came c) (p.sent c ++ bytes_of (conn_at m c).outgoing)
       ⊎ (MAX_QUEUE_BYTES ≤ length (conn_at m c).outgoing)
+  -- each that was accepted is closed, or as much waits to be sent as may, or its peer is there and may ask for more
+  pub closes : (c : ℕ) → p.net c ≡ true → (conn_at m c).accepted ≡ true
+      → ((conn_at m c).closed ≡ true) ⊎ (MAX_QUEUE_BYTES ≤ length (conn_at m c).outgoing)
+      ⊎ (((conn_at m c).peer ≡ None) × StaysOpen (p.came c))
   -- a connection that uses an aggregate is about to write
   pub lends : (fd a : ℕ) (x : Conn) → in_place conns fd ≡ Some x → uses_agg x.doing a ≡ true
       → is_sending x.doing ≡ true
