@@ -16,4 +16,5 @@ pub mod Settling
 pub mod Idling
 pub mod Hosting
 pub mod Offering
+pub mod Keeping
 pub mod Witness

@@ -14,3 +14,4 @@ pub mod Idle
 pub mod Done
 pub mod Host
 pub mod Offers
+pub mod Keeping

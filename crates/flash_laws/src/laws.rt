@@ -5,6 +5,7 @@ ghost use Rattle.iol_core.specs.declared.events.Reply.{Reply};
 ghost use Rattle.iol_proc.specs.Settled.{Settles};
 ghost use Rattle.iol_proc.specs.declared.process.Turn.{Turn};
 ghost use Rattle.flash_laws.specs.Host.{ActorsSettle, HostIsRight, IdleIsDone};
+ghost use Rattle.flash_laws.specs.Keeping.{KeepsNothing};
 ghost use Rattle.flash_laws.specs.Offers.{OffersTheResponse};
 ghost use Rattle.flash_laws.specs.Laws.{ARunIsCalm, RunIsAnswered, RunIsWhole, RunKeepsTie, StepKeepsTie, TiedAtFirst, TiedIsAnswered, TiedIsWhole};
 ghost use Rattle.flash_laws.specs.Policy.{in_rounds};
@@ -104,6 +105,17 @@ pub fn offers_law()
     ensures { OffersTheResponse }
 {
     laws::each_step_leaves_the_rest();
+    laws::calls_serve_their_domain();
+    laws::file_calls_serve_their_domain();
+}
+
+/// The server keeps nothing of an answer that is over: what a call brings is used by the connection that it was made for, and what that
+/// connection uses no more, aggregates and descriptors of files, is given up. It is said of each call of the server, calm or not; what
+/// others give the server is not spoken of.
+pub fn keeping_law()
+    ensures { KeepsNothing }
+{
+    laws::aggregates_come_and_go();
     laws::calls_serve_their_domain();
     laws::file_calls_serve_their_domain();
 }
