@@ -328,8 +328,8 @@ module _ (come : AggregatesComeAndGo) (own : CallsServeTheirDomain) (files : Fil
 pub keeps_nothing : AggregatesComeAndGo → CallsServeTheirDomain → FileCallsServeTheirDomain → KeepsNothing
 keeps_nothing come own files = record {
   brought = λ m n fd c x o r heard bytes a order access lives open_on has step before after. brought come own files m n order a bytes before after x.kept fd c x.q x.doing (response x.q o) r heard access lives open_on has step;
-  left = λ m n fd x r heard a order step u no.
+  left = λ m n fd x r heard a order step u unused.
       let gives = leaves-told fd x.kept x.q x.doing r heard a u unused in
       come.gone m n (event.Call server (wants fd x)) r server a order step gives.0 gives.1;
-  shut = λ m n fd x r heard g step u no. shuts own m n fd x.kept x.q x.doing r heard g step u unused;
+  shut = λ m n fd x r heard g step u unused. shuts own m n fd x.kept x.q x.doing r heard g step u unused;
 }
