@@ -18,3 +18,10 @@ pub mod Hosting
 pub mod Offering
 pub mod Keeping
 pub mod Witness
+pub mod Pieces
+pub mod Outputs
+pub mod RunStays
+pub mod RunParts
+pub mod RunSteps
+pub mod RunOffering
+pub mod ScriptExamples

@@ -15,3 +15,7 @@ pub mod Done
 pub mod Host
 pub mod Offers
 pub mod Keeping
+pub mod Scripts
+pub mod Running
+pub mod RunFits
+pub mod RunOffers

@@ -1,6 +1,7 @@
 //! The file server Flash-Lite: its words, and the law that connections do not meet.
 //!
-//! There is no code here but the phases of a connection ([`doing`]). What the server does in a turn is a relation
+//! There is no code here but the phases of a connection ([`doing`]), and the steps of a script's run ([`running`]), of which there is a law
+//! ([`run_laws`]) and no code yet. What the server does in a turn is a relation
 //! (`specs/Serves`, `server_turns`): the last reply is filed, a connection is picked, and its next call is made. The law
 //! ([`laws`]) is about every process with such turns, beside workers that keep a promise ([`laws::Works`]): what is sent on each
 //! connection begins the answer to what came on it, as if it were alone, whatever the order of turns. It stands below the server's
@@ -15,3 +16,5 @@
 
 pub mod doing;
 pub mod laws;
+pub mod run_laws;
+pub mod running;

@@ -1,0 +1,243 @@
+-- A part of a script's response is sent as a file's response is.
+use Rattle.std.proofs.Common.{◌≡◌, ℕ, ◌+◌, ◌-◌, ◌==◌, ◌≤◌, List, [], ◌++◌, length, drop, ap, ◌∙◌, refl, sym, subst, arith, Option, Some, None, true, false, Bool, length-append, length-drop, if◌then◌else◌}
+use Rattle.std.specs.Prelude.{◌||◌, ◌&&◌, min, nat_lt, slice_range}
+use Rattle.std.proofs.lemmas.Bool.{or_parts, or_from}
+use Rattle.std.proofs.lemmas.Bool.Decides.{nat_tests}
+use Rattle.iol_core.specs.State.{State, descriptor}
+use Rattle.iol_core.specs.Calls.Writing.{is_file}
+use Rattle.iol_core.specs.Run.{StepsTo}
+use Rattle.iol_core.specs.Values.{gives_up}
+use Rattle.iol_core.specs.declared.descriptors.Descriptor.{Descriptor}
+use Rattle.iol_core.specs.declared.descriptors.Descriptor.TheVariants as on
+use Rattle.iol_core.specs.declared.refusals.Refusal.TheVariants as no
+use Rattle.iol_core.specs.declared.events.Call.{Call}
+use Rattle.iol_core.specs.declared.events.Call.TheVariants as call
+use Rattle.iol_core.specs.declared.events.Event.TheVariants as event
+use Rattle.iol_core.specs.declared.events.Reply.{Reply}
+use Rattle.iol_core.specs.declared.events.Reply.TheVariants as reply
+use Rattle.iol_laws.specs.Frame.{EachStepLeavesTheRest, touches_fd}
+use Rattle.iol_laws.specs.Order.{IsOrderly}
+use Rattle.iol_laws.specs.Caller as caller
+use Rattle.iol_laws.specs.Caller.{CallsServeTheirDomain, lent_at}
+use Rattle.flash_http.specs.Request.{serve, Wanted}
+use Rattle.flash_laws.specs.Conn as conn
+use Rattle.flash_laws.specs.Conn.{piece_end}
+use Rattle.flash_laws.specs.Fits.{Has}
+use Rattle.flash_laws.specs.RunFits.{Progress, Ran, Broken, NotRun, HoldsBack, Continues, Goes, HasFrame, HasHeard, sent_agg, IsPart, taken_of, sends_frame, HasPart}
+use Rattle.flash_laws.specs.RunOffers.{takes_on}
+use Rattle.flash_laws.specs.Running.{has_frame, broken}
+use Rattle.flash_laws.specs.Scripts.{frame_of}
+use Rattle.flash_laws.specs.Site.{server}
+use Rattle.flash_laws.specs.declared.doing.Doing.{Doing}
+use Rattle.flash_laws.specs.declared.doing.Doing.TheVariants as doing
+use Rattle.flash_laws.specs.declared.running.TheConstants.{CHUNK_BYTES}
+use Rattle.flash_laws.specs.declared.running.Run.{Run}
+use Rattle.flash_laws.proofs.Having as having
+use Rattle.flash_laws.proofs.Lent.{lent-stays, new-other}
+use Rattle.flash_laws.proofs.Lists.{not-equal, turned, few-taken}
+use Rattle.flash_laws.proofs.RunStays.{frame-on, reading-on}
+
+-- another number than one that is used is not used
+pub other : (uses : ℕ → Bool) (b a : ℕ) → uses b ≡ false → uses a ≡ true → (b == a) ≡ false
+other uses b a not_b is_a = not-equal b a (λ e. let p = ap uses e in absurd (cc (p, not_b, is_a)))
+
+pub and-false : (b c : Bool) → c ≡ false → (b && c) ≡ false
+and-false true c is = is
+and-false false c is = refl
+
+-- a call on a descriptor that is no file's moves none
+pub no-position : (m : State) (f g : ℕ) (x : Descriptor) → descriptor m server f ≡ Some x → is_file (Some x) ≡ false
+    → ((f == g) && is_file (descriptor m server f)) ≡ false
+no-position m f g x is no_file = and-false (f == g) (is_file (descriptor m server f)) (ap (λ d. is_file d) is ∙ no_file)
+
+-- a new aggregate is not the frame
+pub new-frame : (m : State) (frame : Option ℕ) (x : ℕ) → HasFrame m frame → lent_at m server x ≡ None → has_frame frame x ≡ false
+new-frame m None x has new = refl
+new-frame m (Some f) x has new = new-other m f x (frame_of CHUNK_BYTES) has new
+
+-- no more of a part is taken than there is
+most-left : (xs after part : List ℕ) (taken : ℕ) → xs ++ after ≡ drop taken part → taken ≤ length part → taken + length xs ≤ length part
+most-left xs after part taken next within =
+    let e = length-append xs after in
+    let f = length-drop taken part in
+    let g = ap (λ (l : List ℕ). length l) next in
+    omega (arith, e, f, g, within)
+
+sends-none : (d e : Doing) (frame : Option ℕ) → ((f : ℕ) → conn.uses_agg d f ≡ false → conn.uses_agg e f ≡ false)
+    → sends_frame d frame ≡ false → sends_frame e frame ≡ false
+sends-none d e None fewer apart = refl
+sends-none d e (Some f) fewer apart = fewer f apart
+
+-- of the piece too
+with-piece : (m : State) (piece : ℕ) (d e : Doing) (frame : Option ℕ) → ((f : ℕ) → (piece == f) ≡ false → conn.uses_agg d f ≡ false → conn.uses_agg e f ≡ false)
+    → has_frame frame piece ≡ false → sends_frame d frame ≡ false → sends_frame e frame ≡ false
+with-piece m piece d e None both new apart = refl
+with-piece m piece d e (Some f) both new apart = both f (turned f piece new) apart
+
+pub continued : (w : Wanted) (o : Progress) (part held : List ℕ) → Continues w o part held → HoldsBack w (takes_on o part) held
+continued w (Ran heard ended past) part held is = is
+continued w Broken part held is = absurd is
+continued w (NotRun status) part held is = absurd is
+
+pub goes-on : (b : Bool) (w : Wanted) (o : Progress) (held : List ℕ) → b ≡ false → HoldsBack w o held → Goes b w o held
+goes-on true w o held is back = absurd (cc (is))
+goes-on false w o held is back = back
+
+module _ (steps : EachStepLeavesTheRest) (own : CallsServeTheirDomain) (m n : State) (order : IsOrderly m)
+    (w : Wanted) (o : Progress) (run : Run) (frame : Option ℕ) where
+  -- what a phase still has of a part
+  abbrev Keeps : List ℕ → Doing → Type 0
+  Keeps part e = IsPart n (sent_agg e) part × (taken_of e ≤ length part) × (sends_frame e frame ≡ false)
+
+  lends : (k : Call) (r : Reply) → StepsTo m (event.Call server k) r n → (a : ℕ) (bytes : List ℕ)
+      → gives_up (event.Call server k) server a ≡ false → lent_at m server a ≡ Some bytes → lent_at n server a ≡ Some bytes
+  lends k r step a bytes un is = lent-stays steps m n (event.Call server k) r step a bytes is un
+
+  -- the read end and the frame stay
+  fits : (k : Call) (r : Reply) → StepsTo m (event.Call server k) r n
+      → touches_fd m (event.Call server k) server run.from ≡ false
+      → ((f : ℕ) → has_frame frame f ≡ true → gives_up (event.Call server k) server f ≡ false)
+      → (d e : Doing) (h : HasPart m w o run d frame) → Has n (serve w) h.part e → Keeps h.part e → HasPart n w o run e frame
+  fits k r step still un d e h has keeps = record {
+    reads = reading-on m n run (λ x is. (steps.leaves m n (event.Call server k) r step).fds server run.from x is still) h.reads;
+    frames = frame-on m n frame (λ a bytes u is. lends k r step a bytes (un a u) is) h.frames;
+    part = h.part;
+    is_part = keeps.0;
+    has = has;
+    within = keeps.1;
+    apart = keeps.2;
+    whole = h.whole;
+    continues = h.continues;
+  }
+
+  pub part-same : (d : Doing) → n ≡ m → HasPart m w o run d frame → HasPart n w o run d frame
+  part-same d same has = subst (λ (s : State). HasPart s w o run d frame) (sym same) has
+
+  pub sends : (fd c a len taken : ℕ) (r : Reply) → descriptor m server fd ≡ Some (on.Connection c)
+      → HasPart m w o run (doing.Sends a len taken None) frame → StepsTo m (event.Call server (call.IolWrite fd a)) r n
+      → HasPart n w o run (conn.told_sends a len taken None r) frame
+  sends fd c a len taken r open_on h step =
+      fits (call.IolWrite fd a) r step (no-position m fd run.from (on.Connection c) open_on refl) (λ f u. refl) (doing.Sends a len taken None) (conn.told_sends a len taken None r) h
+      (having.sends steps own m n order (serve w) fd c a len taken None h.part r open_on h.has step)
+      (keeps r (own.write_conn m n server fd c a h.part r order open_on h.is_part step))
+    where
+      here : lent_at n server a ≡ Some h.part
+      here = lends (call.IolWrite fd a) r step a h.part refl h.is_part
+
+      most : taken + length h.has.bytes ≤ length h.part
+      most = most-left h.has.bytes h.has.after h.part taken h.has.next h.within
+
+      free : (e : Doing) → ((f : ℕ) → conn.uses_agg e f ≡ conn.uses_agg (doing.Sends a len taken None) f) → sends_frame e frame ≡ false
+      free e same = sends-none (doing.Sends a len taken None) e frame (λ f is. same f ∙ is) h.apart
+
+      keeps : (r : Reply) → caller.WritesConn m c h.part r n → Keeps h.part (conn.told_sends a len taken None r)
+      keeps (reply.Count k) puts = by (nat_lt k len) refl
+        where
+          by : (b : Bool) → nat_lt k len ≡ b → Keeps h.part (if b then doing.Cuts a k len (taken + k) None else doing.Sent a (taken + len) None)
+          by true is = (here, (let size = h.has.size in let le = most in let lt : k ≤ len = grind (arith, nat_tests, is) in omega (arith, size, le, lt)), free (doing.Cuts a k len (taken + k) None) (λ f. refl))
+          by false is = (here, (let size = h.has.size in let le = most in omega (arith, size, le)), free (doing.Sent a (taken + len) None) (λ f. refl))
+      keeps (reply.Refused no.BrokenPipe) did = (here, omega arith, free (doing.Drops a None) (λ f. refl))
+      keeps (reply.Refused y) did = (here, h.within, h.apart)
+      keeps r did = absurd did
+
+  pub cuts : (a from len taken : ℕ) (r : Reply) → HasPart m w o run (doing.Cuts a from len taken None) frame
+      → StepsTo m (event.Call server (call.AggCut a from (piece_end from len))) r n
+      → HasPart n w o run (conn.told_cuts a from len taken None r) frame
+  cuts a from len taken r h step =
+      fits (call.AggCut a from (piece_end from len)) r step refl (λ f u. refl) (doing.Cuts a from len taken None) (conn.told_cuts a from len taken None r) h
+      (having.cuts steps own m n order (serve w) a from len taken None h.part r h.has step)
+      (keeps r (own.cut m n server a from (piece_end from len) h.part r order h.is_part step))
+    where
+      here : lent_at n server a ≡ Some h.part
+      here = lends (call.AggCut a from (piece_end from len)) r step a h.part refl h.is_part
+
+      keeps : (r : Reply) → caller.Makes m server (slice_range h.part from (piece_end from len)) r n → Keeps h.part (conn.told_cuts a from len taken None r)
+      keeps (reply.Agg x) did = (here, h.within, with-piece m x (doing.Cuts a from len taken None) (doing.Offers a from len x taken None) frame (λ f new is. or_from (x == f) ((a == f) || false) new is) (new-frame m frame x h.frames did.1) h.apart)
+      keeps (reply.Refused y) did = (here, h.within, h.apart)
+      keeps r did = absurd did
+
+  pub offers : (fd c a from len piece taken : ℕ) (r : Reply) → descriptor m server fd ≡ Some (on.Connection c)
+      → HasPart m w o run (doing.Offers a from len piece taken None) frame
+      → StepsTo m (event.Call server (call.IolWrite fd piece)) r n
+      → HasPart n w o run (conn.told_offers a from len piece taken None r) frame
+  offers fd c a from len piece taken r open_on h step =
+      fits (call.IolWrite fd piece) r step (no-position m fd run.from (on.Connection c) open_on refl) (λ f u. refl) (doing.Offers a from len piece taken None) (conn.told_offers a from len piece taken None r) h
+      (having.offers_piece steps own m n order (serve w) fd c a from len piece taken None h.part r open_on h.has step)
+      (keeps r (own.write_conn m n server fd c piece (slice_range h.has.whole.bytes from (piece_end from len)) r order open_on h.has.lends step))
+    where
+      here : lent_at n server a ≡ Some h.part
+      here = lends (call.IolWrite fd piece) r step a h.part refl h.is_part
+
+      keeps : (r : Reply) → caller.WritesConn m c (slice_range h.has.whole.bytes from (piece_end from len)) r n → Keeps h.part (conn.told_offers a from len piece taken None r)
+      keeps (reply.Count k) puts =
+          let few = few-taken k from len h.has.whole.bytes h.has.whole.size puts.within in
+          let most = most-left (drop from h.has.whole.bytes) h.has.whole.after h.part taken h.has.whole.next h.within in
+          let le = few.0 in
+          let same = few.1 in
+          (here, omega (arith, most, le, same), sends-none (doing.Offers a from len piece taken None) (conn.moved_on a from len piece taken None (min k (len - from))) frame (λ f is. is) h.apart)
+      keeps (reply.Refused no.BrokenPipe) did = (here, omega arith, sends-none (doing.Offers a from len piece taken None) (doing.Breaks piece a None) frame (λ f is. is) h.apart)
+      keeps (reply.Refused y) did = (here, h.within, h.apart)
+      keeps r did = absurd did
+
+  -- what is dropped is not the frame
+  not-frame : (b : ℕ) (d : Doing) → ((f : ℕ) → conn.uses_agg d f ≡ false → (b == f) ≡ false) → sends_frame d frame ≡ false
+      → (f : ℕ) → has_frame frame f ≡ true → (b == f) ≡ false
+  not-frame b d parts apart f is = by frame apart is
+    where
+      by : (frame : Option ℕ) → sends_frame d frame ≡ false → has_frame frame f ≡ true → (b == f) ≡ false
+      by None apart is = absurd (cc (is))
+      by (Some g) apart is = let e : g ≡ f = grind (arith, nat_tests, is) in subst (λ z. (b == z) ≡ false) e (parts g apart)
+
+  pub swaps : (a from len piece taken : ℕ) (r : Reply)
+      → HasPart m w o run (doing.Swaps a from len piece taken None) frame
+      → StepsTo m (event.Call server (call.AggDrop piece)) r n
+      → HasPart n w o run (conn.told_swaps a from len piece taken None r) frame
+  swaps a from len piece taken r h step =
+      fits (call.AggDrop piece) r step refl (not-frame piece (doing.Swaps a from len piece taken None) (λ f is. (or_parts (piece == f) ((a == f) || false) is).0) h.apart)
+      (doing.Swaps a from len piece taken None) (conn.told_swaps a from len piece taken None r) h
+      (having.swaps steps own m n order (serve w) a from len piece taken None h.part r h.has step)
+      (keeps r (own.drops m n server piece r order step))
+    where
+      here : lent_at n server a ≡ Some h.part
+      here = lends (call.AggDrop piece) r step a h.part (turned a piece (or_parts (a == piece) (false) h.has.1).0) h.is_part
+
+      free : (e : Doing) → ((f : ℕ) → conn.uses_agg e f ≡ ((a == f) || false)) → sends_frame e frame ≡ false
+      free e same = sends-none (doing.Swaps a from len piece taken None) e frame (λ f is. same f ∙ (or_parts (piece == f) ((a == f) || false) is).1) h.apart
+
+      keeps : (r : Reply) → caller.Drops m server piece r n → Keeps h.part (conn.told_swaps a from len piece taken None r)
+      keeps reply.Done did = by (nat_lt from len)
+        where
+          by : (b : Bool) → Keeps h.part (if b then doing.Cuts a from len taken None else doing.Sent a taken None)
+          by true = (here, h.within, free (doing.Cuts a from len taken None) (λ f. refl))
+          by false = (here, h.within, free (doing.Sent a taken None) (λ f. refl))
+      keeps (reply.Refused y) did = (here, h.within, h.apart)
+      keeps r did = absurd did
+
+  pub breaks : (piece a : ℕ) (r : Reply) → HasPart m w o run (doing.Breaks piece a None) frame
+      → StepsTo m (event.Call server (call.AggDrop piece)) r n
+      → HasPart n w o run (conn.told_breaks piece a None r) frame
+  breaks piece a r h step =
+      fits (call.AggDrop piece) r step refl (not-frame piece (doing.Breaks piece a None) (λ f is. (or_parts (piece == f) ((a == f) || false) is).0) h.apart)
+      (doing.Breaks piece a None) (conn.told_breaks piece a None r) h
+      (having.breaks steps own m n order (serve w) piece a None h.part r h.has step)
+      (keeps r (own.drops m n server piece r order step))
+    where
+      here : lent_at n server a ≡ Some h.part
+      here = lends (call.AggDrop piece) r step a h.part (turned a piece (or_parts (a == piece) (false) h.has.1).0) h.is_part
+
+      keeps : (r : Reply) → caller.Drops m server piece r n → Keeps h.part (conn.told_breaks piece a None r)
+      keeps reply.Done did = (here, omega arith, sends-none (doing.Breaks piece a None) (doing.Drops a None) frame (λ f is. (or_parts (piece == f) ((a == f) || false) is).1) h.apart)
+      keeps (reply.Refused y) did = (here, h.within, h.apart)
+      keeps r did = absurd did
+
+  -- the frame stays where the part is dropped, and output is read
+  pub hears-again : (a : ℕ) (d : Doing) (after : Progress) (next : Run) → StepsTo m (event.Call server (call.AggDrop a)) reply.Done n
+      → ((f : ℕ) → conn.uses_agg d f ≡ false → (a == f) ≡ false) → next.from ≡ run.from → Goes next.broken w after []
+      → HasPart m w o run d frame → HasHeard n w after next None frame
+  hears-again a d after next step uses same goes h = record {
+    reads = subst (λ f. (p : ℕ) × (descriptor n server f ≡ Some (on.ReadEnd p))) (sym same)
+        (reading-on m n run (λ x is. (steps.leaves m n (event.Call server (call.AggDrop a)) reply.Done step).fds server run.from x is refl) h.reads);
+    bytes = [];
+    has = record { holds = refl; frames = frame-on m n frame (λ b bytes u is. lends (call.AggDrop a) reply.Done step b bytes (not-frame a d uses h.apart b u) is) h.frames; apart = refl };
+    goes = goes;
+  }

@@ -1,0 +1,247 @@
+-- What a run has stays, if what it uses stays.
+use Rattle.std.proofs.Common.{◌≡◌, ℕ, ◌==◌, List, refl, ap, ◌∙◌, Option, Some, None, true, false, Bool}
+use Rattle.std.specs.Prelude.{◌||◌, ◌&&◌, not}
+use Rattle.iol_core.specs.State.{State, descriptor}
+use Rattle.iol_core.specs.Run.{StepsTo}
+use Rattle.iol_core.specs.Values.{gives_up}
+use Rattle.iol_core.specs.declared.descriptors.Descriptor.{Descriptor}
+use Rattle.iol_core.specs.declared.descriptors.Descriptor.TheVariants as on
+use Rattle.iol_core.specs.declared.events.Event.{Event}
+use Rattle.iol_core.specs.declared.events.Reply.{Reply}
+use Rattle.iol_laws.specs.Caller.{lent_at}
+use Rattle.iol_laws.specs.Frame.{EachStepLeavesTheRest, touches_fd}
+use Rattle.flash_http.specs.Request.{serve, Wanted}
+use Rattle.flash_laws.specs.Answers.{error_text}
+use Rattle.flash_laws.specs.Conn as conn
+use Rattle.flash_laws.specs.Conn.{Following, has_followed}
+use Rattle.flash_laws.specs.Fits.{IsLent, Has}
+use Rattle.flash_laws.specs.RunFits.{Progress, Ran, Broken, NotRun, HasJobPipe, IsReading, HoldsOutput, IsHeld, HasFrame, HasOutput, HasHeard, HasAll, HasPipe, sent_agg, IsPart, HasPart, HasEnd, HasStep, HasLeft, HasRun}
+use Rattle.flash_laws.specs.Running.{job_pipe, has_frame, step_agg, is_reading, step_fd, uses_agg, uses_fd}
+use Rattle.flash_laws.specs.Scripts.{frame_of, end_around}
+use Rattle.flash_laws.specs.Site.{server}
+use Rattle.flash_laws.specs.declared.doing.Doing.{Doing}
+use Rattle.flash_laws.specs.declared.doing.Doing.TheVariants as doing
+use Rattle.flash_laws.specs.declared.running.TheConstants.{CHUNK_BYTES}
+use Rattle.flash_laws.specs.declared.running.Run.{Run}
+use Rattle.flash_laws.specs.declared.running.Step.{Step}
+use Rattle.flash_laws.specs.declared.running.Step.TheVariants.{Gives, Makes, Hands, Lets, Heads, Sending, Hears, Spills, Gathers, Frames, Wraps, Trims, Ended, Unholds, Stops, Unframes, Lasts, WrapsLast, TrimsLast, Unwraps, Returns, Lapses, Fails}
+use Rattle.flash_laws.specs.declared.running.Running.{Running}
+use Rattle.flash_laws.specs.declared.running.Running.TheVariants.{Awaits, Runs, Leaves, Closes}
+use Rattle.flash_laws.proofs.Lent.{lent-stays, lent-on, has-stays}
+use Rattle.flash_laws.proofs.Lists.{self, first_of, later_of}
+
+-- no phase that sends a part uses a descriptor of a file
+no-file : (m : State) (d : Doing) (part : List ℕ) → IsPart m (sent_agg d) part → (g : ℕ) → conn.uses_fd d g ≡ true → ⊥
+no-file m (doing.Reads f) part is g u = is
+no-file m (doing.Shuts f k) part is g u = is
+no-file m d part is g u = absurd (cc (u))
+
+-- the part that is sent is used
+part-used : (m : State) (d : Doing) (part : List ℕ) (n : State) → ((a : ℕ) (bytes : List ℕ) → conn.uses_agg d a ≡ true
+    → lent_at m server a ≡ Some bytes → lent_at n server a ≡ Some bytes) → IsPart m (sent_agg d) part → IsPart n (sent_agg d) part
+part-used m (doing.Sends a len taken None) part n lends is = lends a part (first_of a (false)) is
+part-used m (doing.Cuts a from len taken None) part n lends is = lends a part (first_of a (false)) is
+part-used m (doing.Offers a from len piece taken None) part n lends is = lends a part (later_of (piece == a) ((a == a) || false) (first_of a (false))) is
+part-used m (doing.Swaps a from len piece taken None) part n lends is = lends a part (later_of (piece == a) ((a == a) || false) (first_of a (false))) is
+part-used m (doing.Sent a taken None) part n lends is = lends a part (first_of a (false)) is
+part-used m (doing.Breaks piece a None) part n lends is = lends a part (later_of (piece == a) ((a == a) || false) (first_of a (false))) is
+part-used m (doing.Drops a None) part n lends is = lends a part (first_of a (false)) is
+part-used m d part n lends is = absurd is
+
+or-first : (a b : Bool) → a ≡ true → (a || b) ≡ true
+or-first true b is = refl
+or-first false b is = absurd (cc (is))
+
+module _ (m n : State) where
+  abbrev LendsOn : (ℕ → Bool) → Type 0
+  LendsOn uses = (a : ℕ) (bytes : List ℕ) → uses a ≡ true → lent_at m server a ≡ Some bytes → lent_at n server a ≡ Some bytes
+
+  abbrev OpensOn : (ℕ → Bool) → Type 0
+  OpensOn uses = (g : ℕ) (x : Descriptor) → uses g ≡ true → descriptor m server g ≡ Some x → descriptor n server g ≡ Some x
+
+  -- of two that are used each
+  fore : (u v : ℕ → Bool) → LendsOn (λ a. u a || v a) → LendsOn u
+  fore u v lends a bytes is has = lends a bytes (or-first (u a) (v a) is) has
+
+  back : (u v : ℕ → Bool) → LendsOn (λ a. u a || v a) → LendsOn v
+  back u v lends a bytes is has = lends a bytes (later_of (u a) (v a) is) has
+
+  pub frame-on : (frame : Option ℕ) → LendsOn (λ a. has_frame frame a) → HasFrame m frame → HasFrame n frame
+  frame-on None lends has = tt
+  frame-on (Some f) lends has = lends f (frame_of CHUNK_BYTES) (self f) has
+
+  pub output-on : (w : Wanted) (a size : ℕ) (bytes : List ℕ) → (lent_at m server a ≡ Some bytes → lent_at n server a ≡ Some bytes)
+      → HoldsOutput m w a size bytes → HoldsOutput n w a size bytes
+  output-on w a size bytes lends h = record { lends = lends h.lends; count = h.count; some = h.some; few = h.few; chunked = h.chunked }
+
+  pub held-on : (w : Wanted) (held : Following) (bytes : List ℕ) → LendsOn (λ a. has_followed held a) → IsHeld m w held bytes → IsHeld n w held bytes
+  held-on w None bytes lends has = has
+  held-on w (Some x) bytes lends has = output-on w x.0 x.1 bytes (λ is. lends x.0 bytes (self x.0) is) has
+
+  pub has-output-on : (w : Wanted) (held : Following) (frame : Option ℕ) (bytes : List ℕ)
+      → LendsOn (λ a. has_followed held a || has_frame frame a) → HasOutput m w held frame bytes → HasOutput n w held frame bytes
+  has-output-on w held frame bytes lends h = record {
+    holds = held-on w held bytes (fore (λ a. has_followed held a) (λ a. has_frame frame a) lends) h.holds;
+    frames = frame-on frame (back (λ a. has_followed held a) (λ a. has_frame frame a) lends) h.frames;
+    apart = h.apart;
+  }
+
+  pub has-all-on : (w : Wanted) (o : Progress) (run : Run) (held : Following) (frame : Option ℕ)
+      → LendsOn (λ a. has_followed held a || has_frame frame a) → HasAll m w o run held frame → HasAll n w o run held frame
+  has-all-on w o run held frame lends h = record { bytes = h.bytes; has = has-output-on w held frame h.bytes lends h.has; ends = h.ends }
+
+  has-heard-on : (w : Wanted) (o : Progress) (run : Run) (held : Following) (frame : Option ℕ) → (IsReading m run → IsReading n run)
+      → LendsOn (λ a. has_followed held a || has_frame frame a) → HasHeard m w o run held frame → HasHeard n w o run held frame
+  has-heard-on w o run held frame reads lends h = record { reads = reads h.reads; bytes = h.bytes; has = has-output-on w held frame h.bytes lends h.has; goes = h.goes }
+
+  has-part-on : (w : Wanted) (o : Progress) (run : Run) (d : Doing) (frame : Option ℕ) → (IsReading m run → IsReading n run)
+      → LendsOn (λ a. conn.uses_agg d a || has_frame frame a) → HasPart m w o run d frame → HasPart n w o run d frame
+  has-part-on w o run d frame reads lends h = record {
+    reads = reads h.reads;
+    frames = frame-on frame (back (λ a. conn.uses_agg d a) (λ a. has_frame frame a) lends) h.frames;
+    part = h.part;
+    is_part = part-used m d h.part n (fore (λ a. conn.uses_agg d a) (λ a. has_frame frame a) lends) h.is_part;
+    has = has-stays m n (serve w) h.part d (fore (λ a. conn.uses_agg d a) (λ a. has_frame frame a) lends)
+        (λ g x u is. absurd (no-file m d h.part h.is_part g u)) h.has;
+    within = h.within;
+    apart = h.apart;
+    whole = h.whole;
+    continues = h.continues;
+  }
+
+  has-end-on : (w : Wanted) (o : Progress) (a len : ℕ) → ((bytes : List ℕ) → lent_at m server a ≡ Some bytes → lent_at n server a ≡ Some bytes)
+      → HasEnd m w o a len → HasEnd n w o a len
+  has-end-on w o a len lends h = record { bytes = h.bytes; lends = lends h.bytes h.lends; count = h.count; left = h.left }
+
+  pub hired-on : (worker : ℕ) → ((x : Descriptor) → descriptor m server (job_pipe worker) ≡ Some x → descriptor n server (job_pipe worker) ≡ Some x)
+      → HasJobPipe m worker → HasJobPipe n worker
+  hired-on worker opens is = (is.0, opens (on.WriteEnd is.0) is.1)
+
+  pub reading-on : (run : Run) → ((x : Descriptor) → descriptor m server run.from ≡ Some x → descriptor n server run.from ≡ Some x)
+      → IsReading m run → IsReading n run
+  reading-on run opens is = (is.0, opens (on.ReadEnd is.0) is.1)
+
+  -- the read end is used
+  from-used : (run : Run) (step : Step) → is_reading step ≡ true → uses_fd (Runs run step) run.from ≡ true
+  from-used run step open_yet = later_of (job_pipe run.worker == run.from) ((is_reading step && (run.from == run.from)) || step_fd step run.from)
+      (or-first (is_reading step && (run.from == run.from)) (step_fd step run.from) (ap (λ b. b && (run.from == run.from)) open_yet ∙ self run.from))
+
+  reads : (run : Run) (step : Step) → is_reading step ≡ true → OpensOn (λ g. uses_fd (Runs run step) g) → IsReading m run → IsReading n run
+  reads run step open_yet opens is = reading-on run (λ x e. opens run.from x (from-used run step open_yet) e) is
+
+  -- so is the write end
+  pipe-on : (run : Run) (step : Step) (write : ℕ) → is_reading step ≡ true → step_fd step write ≡ true → OpensOn (λ g. uses_fd (Runs run step) g)
+      → HasPipe m run write → HasPipe n run write
+  pipe-on run step write open_yet is opens h = record {
+    pipe = h.pipe;
+    read_end = opens run.from (on.ReadEnd h.pipe) (from-used run step open_yet) h.read_end;
+    write_end = opens write (on.WriteEnd h.pipe) (later_of (job_pipe run.worker == write) ((is_reading step && (run.from == write)) || step_fd step write) (later_of (is_reading step && (run.from == write)) (step_fd step write) is)) h.write_end;
+    apart = h.apart;
+  }
+
+  lent-if : (u : ℕ → Bool) (a : ℕ) → u a ≡ true → LendsOn u → IsLent m a → IsLent n a
+  lent-if u a is lends has = lent-on m n a (λ bytes e. lends a bytes is e) has
+
+  step-on : (job : ℕ → List ℕ) (w : Wanted) (o : Progress) (run : Run) (step : Step) → LendsOn (λ a. step_agg step a) → OpensOn (λ g. uses_fd (Runs run step) g)
+      → HasStep job m w o run step → HasStep job n w o run step
+  step-on job w o run (Gives write) lends opens has = (pipe-on run (Gives write) write refl (self write) opens has.0, has.1)
+  step-on job w o run (Makes f) lends opens has = (reads run (Makes f) refl opens has.0, has.1)
+  step-on job w o run (Hands j f) lends opens has = (reads run (Hands j f) refl opens has.0, lends j (job f) (self j) has.1, has.2)
+  step-on job w o run (Lets j) lends opens has = (reads run (Lets j) refl opens has.0, lent-if (λ a. j == a) j (self j) lends has.1, has.2)
+  step-on job w o run Heads lends opens has = (reads run Heads refl opens has.0, has.1)
+  step-on job w o run (Sending d frame) lends opens has = has-part-on w o run d frame (reads run (Sending d frame) refl opens) lends has
+  step-on job w o run (Hears held frame) lends opens has = has-heard-on w o run held frame (reads run (Hears held frame) refl opens) lends has
+  step-on job w o run (Spills a frame) lends opens has = (
+    (lent-if (λ b. (a == b) || has_frame frame b) a (first_of a (has_frame frame a)) lends has.0.0, has.0.1),
+    has-heard-on w o run None frame (reads run (Spills a frame) refl opens) (back (λ b. a == b) (λ b. has_frame frame b) lends) has.1,
+  )
+  step-on job w o run (Gathers held size piece len frame) lends opens h = record {
+    reads = reads run (Gathers held size piece len frame) refl opens h.reads;
+    bytes = h.bytes;
+    more = h.more;
+    has = has-output-on w (Some (held, size)) frame h.bytes (λ a bytes u is. lends a bytes (around (held == a) (piece == a) (has_frame frame a) u) is) h.has;
+    lends = lends piece h.more (later_of (held == piece) ((piece == piece) || has_frame frame piece) (first_of piece (has_frame frame piece))) h.lends;
+    count = h.count;
+    within = h.within;
+    apart = h.apart;
+    whole = h.whole;
+    goes = h.goes;
+  }
+    where
+      around : (x y z : Bool) → (x || z) ≡ true → (x || (y || z)) ≡ true
+      around true y z u = refl
+      around false y z u = later_of y z u
+  step-on job w o run (Frames held) lends opens h = record { reads = reads run (Frames held) refl opens h.reads; bytes = h.bytes; lends = lends held h.bytes (self held) h.lends; count = h.count; chunked = h.chunked; whole = h.whole; goes = h.goes }
+  step-on job w o run (Wraps held frame) lends opens has = (
+    record { reads = reads run (Wraps held frame) refl opens has.0.reads; bytes = has.0.bytes; lends = lends held has.0.bytes (first_of held (frame == held)) has.0.lends; count = has.0.count; chunked = has.0.chunked; whole = has.0.whole; goes = has.0.goes },
+    lends frame (frame_of CHUNK_BYTES) (later_of (held == frame) (frame == frame) (self frame)) has.1,
+    has.2,
+  )
+  step-on job w o run (Trims held chunk len frame) lends opens has = (
+    (lent-if (λ a. (held == a) || ((chunk == a) || (frame == a))) held (first_of held ((chunk == held) || (frame == held))) lends has.0.0, has.0.1),
+    has-part-on w o run (doing.Sends chunk len 0 None) (Some frame) (reads run (Trims held chunk len frame) refl opens)
+        (λ a bytes u is. lends a bytes (later_of (held == a) ((chunk == a) || (frame == a)) (plain (chunk == a) (frame == a) u)) is) has.1,
+  )
+    where
+      plain : (x z : Bool) → ((x || false) || z) ≡ true → (x || z) ≡ true
+      plain true z u = refl
+      plain false z u = u
+  step-on job w o run (Ended a held frame) lends opens has = (
+    (lent-if (λ b. (a == b) || (has_followed held b || has_frame frame b)) a (first_of a (has_followed held a || has_frame frame a)) lends has.0.0, has.0.1),
+    reads run (Ended a held frame) refl opens has.1,
+    has-all-on w o run held frame (back (λ b. a == b) (λ b. has_followed held b || has_frame frame b) lends) has.2,
+  )
+  step-on job w o run (Unholds held frame) lends opens has = (
+    (lent-if (λ b. (held == b) || has_frame frame b) held (first_of held (has_frame frame held)) lends has.0.0, has.0.1),
+    reads run (Unholds held frame) refl opens has.1,
+    has-all-on w o run None frame (back (λ b. held == b) (λ b. has_frame frame b) lends) has.2,
+  )
+  step-on job w o run (Stops held frame) lends opens has = (reads run (Stops held frame) refl opens has.0, has-all-on w o run held frame lends has.1)
+  step-on job w o run (Unframes f held) lends opens has = has-all-on w o run held (Some f) (λ a bytes u is. lends a bytes (swapped (has_followed held a) (f == a) u) is) has
+    where
+      swapped : (x y : Bool) → (x || y) ≡ true → (y || x) ≡ true
+      swapped true y u = later_of y true refl
+      swapped false y u = or-first y false u
+  step-on job w o run (Lasts held) lends opens has = (has.0, has.1, has-all-on w o run held None (λ a bytes u is. lends a bytes (bare (has_followed held a) u) is) has.2)
+    where
+      bare : (x : Bool) → (x || false) ≡ true → x ≡ true
+      bare true u = refl
+      bare false u = u
+  step-on job w o run (WrapsLast held size frame) lends opens h = record {
+    bytes = h.bytes;
+    holds = output-on w held size h.bytes (λ is. lends held h.bytes (first_of held (frame == held)) is) h.holds;
+    frames = lends frame (end_around (Some (held, size))) (later_of (held == frame) (frame == frame) (self frame)) h.frames;
+    apart = h.apart;
+    left = h.left;
+  }
+  step-on job w o run (TrimsLast held chunk len frame) lends opens has = (
+    (lent-if (λ a. (held == a) || ((chunk == a) || (frame == a))) held (first_of held ((chunk == held) || (frame == held))) lends has.0.0, has.0.1),
+    (lent-if (λ a. (held == a) || ((chunk == a) || (frame == a))) frame (later_of (held == frame) ((chunk == frame) || (frame == frame)) (later_of (chunk == frame) (frame == frame) (self frame))) lends has.1.0, has.1.1),
+    has-end-on w o chunk len (λ bytes is. lends chunk bytes (later_of (held == chunk) ((chunk == chunk) || (frame == chunk)) (first_of chunk (frame == chunk))) is) has.2,
+  )
+  step-on job w o run (Unwraps frame chunk len) lends opens has = (
+    (lent-if (λ a. (frame == a) || (chunk == a)) frame (first_of frame (chunk == frame)) lends has.0.0, has.0.1),
+    has-end-on w o chunk len (λ bytes is. lends chunk bytes (later_of (frame == chunk) (chunk == chunk) (self chunk)) is) has.1,
+  )
+  step-on job w o run (Returns write) lends opens has = pipe-on run (Returns write) write refl (self write) opens has
+  step-on job w o run (Lapses j) lends opens has = (reads run (Lapses j) refl opens has.0, lent-if (λ a. j == a) j (self j) lends has.1)
+  step-on job w o run Fails lends opens has = reads run Fails refl opens has
+
+  left-on : (w : Wanted) (o : Progress) (d : Doing) → LendsOn (λ a. conn.uses_agg d a) → OpensOn (λ g. conn.uses_fd d g)
+      → HasLeft m w o d → HasLeft n w o d
+  left-on w (Ran heard ended past) d lends opens has = (has.0, has.1, has-stays m n (serve w) has.0 d lends opens has.2)
+  left-on w Broken d lends opens has = absurd has
+  left-on w (NotRun status) d lends opens has = has-stays m n (serve w) (error_text status w.head_only (not w.keep)) d lends opens has
+
+pub run_stays : (steps : EachStepLeavesTheRest) (job : ℕ → List ℕ) (m n : State) (w : Wanted) (x : Running) (e : Event) (r : Reply) (o : Progress) → StepsTo m e r n
+    → ((a : ℕ) → uses_agg x a ≡ true → gives_up e server a ≡ false)
+    → ((g : ℕ) → uses_fd x g ≡ true → touches_fd m e server g ≡ false) → HasRun job m w o x → HasRun job n w o x
+run_stays steps job m n w Awaits e r o step un still has = has
+run_stays steps job m n w (Runs run doing) e r o step un still has =
+    let opens : (g : ℕ) (x : Descriptor) → uses_fd (Runs run doing) g ≡ true → descriptor m server g ≡ Some x → descriptor n server g ≡ Some x
+    = λ g x u is. (steps.leaves m n e r step).fds server g x is (still g u) in (
+      hired-on m n run.worker (λ x is. opens (job_pipe run.worker) x (first_of (job_pipe run.worker) ((is_reading doing && (run.from == job_pipe run.worker)) || step_fd doing (job_pipe run.worker))) is) has.0,
+      step-on m n job w o run doing (λ a bytes u is. lent-stays steps m n e r step a bytes is (un a u)) opens has.1,
+    )
+run_stays steps job m n w (Leaves d) e r o step un still has = left-on m n w o d (λ a bytes u is. lent-stays steps m n e r step a bytes is (un a u)) (λ g x u is. (steps.leaves m n e r step).fds server g x is (still g u)) has
+run_stays steps job m n w Closes e r o step un still has = has

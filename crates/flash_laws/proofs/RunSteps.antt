@@ -1,0 +1,548 @@
+-- After the reply to its own call a run has what it needs: each step that makes something, or lets it go.
+use Rattle.std.proofs.Common.{◌≡◌, ℕ, ◌+◌, ◌-◌, ◌==◌, ◌<◌, ◌≤◌, List, [], ◌∷◌, ◌++◌, length, take, drop, ap, ◌∙◌, refl, sym, subst, arith, Option, Some, None, true, false, Bool, append-nil, length-append, if◌then◌else◌}
+use Rattle.std.specs.Prelude.{◌||◌, nat_lt}
+use Rattle.std.proofs.lemmas.Bool.{or_from}
+use Rattle.std.proofs.lemmas.Bool.Decides.{nat_tests}
+use Rattle.iol_core.specs.Text.{bytes_of}
+use Rattle.iol_core.specs.State.{State, descriptor, may_read, pipe_at}
+use Rattle.iol_core.specs.Run.{StepsTo}
+use Rattle.iol_core.specs.Values.{gives_up}
+use Rattle.iol_core.specs.declared.descriptors.Descriptor.{Descriptor}
+use Rattle.iol_core.specs.declared.descriptors.Descriptor.TheVariants as on
+use Rattle.iol_core.specs.declared.refusals.Refusal.{Refusal}
+use Rattle.iol_core.specs.declared.refusals.Refusal.TheVariants as no
+use Rattle.iol_core.specs.declared.events.Call.{Call}
+use Rattle.iol_core.specs.declared.events.Call.TheVariants as call
+use Rattle.iol_core.specs.declared.events.Event.TheVariants as event
+use Rattle.iol_core.specs.declared.events.Reply.{Reply}
+use Rattle.iol_core.specs.declared.events.Reply.TheVariants as reply
+use Rattle.iol_laws.specs.Frame.{EachStepLeavesTheRest, touches_fd}
+use Rattle.iol_laws.specs.Order.{IsOrderly}
+use Rattle.iol_laws.specs.Caller as caller
+use Rattle.iol_laws.specs.Caller.{CallsServeTheirDomain, lent_at}
+use Rattle.flash_http.specs.Chunk.{chunk_head, chunk_end, chunk, last_chunk}
+use Rattle.flash_http.specs.Request.{serve, Wanted}
+use Rattle.flash_laws.specs.Conn.{Following, has_followed, count_of}
+use Rattle.flash_laws.specs.Fits.{HoldsRest, Names}
+use Rattle.flash_laws.specs.RunFits.{Progress, Ran, Broken, NotRun, nothing_yet, HoldsBack, Continues, IsLeft, Goes, Ends, HasJobPipe, IsReading, HasPipe, IsHeld, HasFrame, meets, HasOutput, HasHeard, HasAll, sends_frame, HasChunk, HasStep, HasRun}
+use Rattle.flash_laws.specs.RunOffers.{hears_on, Learns}
+use Rattle.flash_laws.specs.Running.{worker_domain, job_pipe, has_frame, step_agg, uses_fd, held_size, is_again, broken, told_awaits, told_gives, told_makes, told_hands, told_heads, filled, holding, hearing, unread, told_hears, told_gathers, told_frames, told_wraps, finishing, stopped, told_stops, told_unframes, ending, told_lasts, told_wraps_last, told_unwraps, told_returns, told_fails}
+use Rattle.flash_laws.specs.Scripts.{script_text, script_body, frame_of, place_in_frame, end_around}
+use Rattle.flash_laws.specs.Site.{server}
+use Rattle.flash_laws.specs.declared.doing.Doing.TheVariants as doing
+use Rattle.flash_laws.specs.declared.running.TheConstants.{CHUNK_BYTES}
+use Rattle.flash_laws.specs.declared.running.Run.{Run}
+use Rattle.flash_laws.specs.declared.running.Step.{Step}
+use Rattle.flash_laws.specs.declared.running.Step.TheVariants.{Gives, Makes, Hands, Heads, Hears, Gathers, Frames, Wraps, Stops, Unframes, Lasts, WrapsLast, Unwraps, Returns, Lapses, Fails}
+use Rattle.flash_laws.specs.declared.running.Running.{Running}
+use Rattle.flash_laws.specs.declared.running.Running.TheVariants.{Awaits, Runs, Leaves, Closes}
+use Rattle.flash_laws.proofs.Answering.{some-inj}
+use Rattle.flash_laws.proofs.Counts.{counted, made-short}
+use Rattle.flash_laws.proofs.Lent.{lent-stays, new-other}
+use Rattle.flash_laws.proofs.Lists.{not-equal, turned}
+use Rattle.flash_laws.proofs.Outputs.{short-output, short-chunk, hears-more, hears-end, plain-part, chunk-part, last-left}
+use Rattle.flash_laws.proofs.Pieces.{set_between}
+use Rattle.flash_laws.proofs.RunParts.{other, no-position, new-frame, goes-on}
+use Rattle.flash_laws.proofs.RunStays.{run_stays, frame-on, held-on, has-all-on, hired-on, reading-on}
+
+-- two descriptors that are open on different things
+fds-differ : (m : State) (g h : ℕ) (x y : Descriptor) → descriptor m server g ≡ Some x → descriptor m server h ≡ Some y → (x ≡ y → ⊥) → (g == h) ≡ false
+fds-differ m g h x y is_x is_y differ = not-equal g h (λ same. differ (some-inj x y (sym is_x ∙ (ap (λ k. descriptor m server k) same ∙ is_y))))
+
+ends-differ : (m : State) (g h p q : ℕ) → descriptor m server g ≡ Some (on.ReadEnd p) → descriptor m server h ≡ Some (on.WriteEnd q) → (g == h) ≡ false
+ends-differ m g h p q reads writes = fds-differ m g h (on.ReadEnd p) (on.WriteEnd q) reads writes (λ e. absurd (cc (e)))
+
+-- where the write end is, the read end is not
+pub write-elsewhere : (m : State) (run : Run) (write : ℕ) → HasPipe m run write → (write == run.from) ≡ false
+write-elsewhere m run write h = turned run.from write (ends-differ m run.from write h.pipe h.pipe h.read_end h.write_end)
+
+-- a part that is not yet sent
+begun : (n : State) (a len : ℕ) (part : List ℕ) → lent_at n server a ≡ Some part → len ≡ length part → HoldsRest n part a len 0 None
+begun n a len part lends size = record { bytes = part; after = []; lends = lends; size = size; follows = refl; next = append-nil part; apart = refl }
+
+module _ (steps : EachStepLeavesTheRest) (own : CallsServeTheirDomain) (m n : State) (order : IsOrderly m) (job : ℕ → List ℕ) (w : Wanted) where
+  abbrev Told : Running → Running → Reply → List ℕ → Progress → Type 0
+  Told x y r heard before = (after : Progress) × Learns m x r heard before after × HasRun job n w after y
+
+  lends : (k : Call) (r : Reply) → StepsTo m (event.Call server k) r n → (a : ℕ) (bytes : List ℕ)
+      → gives_up (event.Call server k) server a ≡ false → lent_at m server a ≡ Some bytes → lent_at n server a ≡ Some bytes
+  lends k r step a bytes un is = lent-stays steps m n (event.Call server k) r step a bytes is un
+
+  same : (o : Progress) (x : Running) → n ≡ m → HasRun job m w o x → HasRun job n w o x
+  same o x is has = subst (λ (s : State). HasRun job s w o x) (sym is) has
+
+  -- ---- a run begins: the pipe is made
+
+  pub awaits : (worker : ℕ) (r : Reply) (heard : List ℕ) (o : Progress) → HasJobPipe m worker
+      → o ≡ nothing_yet → StepsTo m (event.Call server call.Pipe) r n → Told Awaits (told_awaits worker r) r heard o
+  awaits worker r heard o hired fresh step = by r (own.makes_pipe m n server r step) step
+    where
+      by : (r : Reply) → caller.MakesPipe m server r n → StepsTo m (event.Call server call.Pipe) r n → Told Awaits (told_awaits worker r) r heard o
+      by (reply.Fds from write) did step = (
+        o,
+        refl,
+        (
+          (hired.0, (steps.leaves m n (event.Call server call.Pipe) (reply.Fds from write) step).fds server (worker + 1) (on.WriteEnd hired.0) hired.1 refl),
+          (record { pipe = did.pipe; read_end = did.read_end; write_end = did.write_end; apart = not-equal write (worker + 1) (λ e. let f = ap (λ k. descriptor m server k) e in let a = did.new_writes in let b = hired.1 in absurd (cc (a, b, f))) }, (refl, fresh)),
+        ),
+      )
+      by (reply.Refused y) did step = (o, refl, fresh)
+      by r did step = absurd did
+
+  module _ (run : Run) (hired : HasJobPipe m run.worker) where
+    -- where it gives up nothing that the step uses, and moves no descriptor of it
+    stay : (k : Call) (r : Reply) (o : Progress) (s : Step) → StepsTo m (event.Call server k) r n
+        → ((a : ℕ) → step_agg s a ≡ true → gives_up (event.Call server k) server a ≡ false)
+        → ((g : ℕ) → uses_fd (Runs run s) g ≡ true → touches_fd m (event.Call server k) server g ≡ false)
+        → HasStep job m w o run s → HasRun job n w o (Runs run s)
+    stay k r o s step un still has = run_stays steps job m n w (Runs run s) (event.Call server k) r o step un still (hired, has)
+
+    -- where an aggregate is dropped that it does not use
+    dropped : (a : ℕ) (o : Progress) (s : Step) → StepsTo m (event.Call server (call.AggDrop a)) reply.Done n → step_agg s a ≡ false
+        → HasStep job m w o run s → HasRun job n w o (Runs run s)
+    dropped a o s step apart has = stay (call.AggDrop a) reply.Done o s step (λ b u. other (λ z. step_agg s z) a b apart u) (λ g u. refl) has
+
+    still-hired : (k : Call) (r : Reply) → StepsTo m (event.Call server k) r n → touches_fd m (event.Call server k) server (job_pipe run.worker) ≡ false → HasJobPipe n run.worker
+    still-hired k r step still = hired-on m n run.worker (λ x is. (steps.leaves m n (event.Call server k) r step).fds server (job_pipe run.worker) x is still) hired
+
+    still-reading : (k : Call) (r : Reply) → StepsTo m (event.Call server k) r n → touches_fd m (event.Call server k) server run.from ≡ false → IsReading m run → IsReading n run
+    still-reading k r step still is = reading-on m n run (λ x e. (steps.leaves m n (event.Call server k) r step).fds server run.from x e still) is
+
+    -- after an aggregate is dropped, or was not
+    pub drops : (a : ℕ) (s t : Step) (r : Reply) (o : Progress) → HasRun job m w o (Runs run s) → step_agg t a ≡ false → HasStep job m w o run t
+        → StepsTo m (event.Call server (call.AggDrop a)) r n
+        → (y : Reply → Running) → y reply.Done ≡ Runs run t → ((x : Refusal) → y (reply.Refused x) ≡ Runs run s)
+        → HasRun job n w o (y r)
+    drops a s t r o has apart next step y done refused = by r (own.drops m n server a r order step) step
+      where
+        by : (r : Reply) → caller.Drops m server a r n → StepsTo m (event.Call server (call.AggDrop a)) r n → HasRun job n w o (y r)
+        by reply.Done did step = subst (λ (x : Running). HasRun job n w o x) (sym done) (dropped a o t step apart next)
+        by (reply.Refused x) did step = subst (λ (z : Running). HasRun job n w o z) (sym (refused x)) (same o (Runs run s) did has)
+        by r did step = absurd did
+
+    -- ---- the job
+
+    pub gives : (write : ℕ) (r : Reply) (o : Progress) → HasStep job m w o run (Gives write)
+        → StepsTo m (event.Call server (call.GiveFd write (worker_domain run.worker))) r n → HasRun job n w o (Runs run (told_gives write r))
+    gives write r o has step = by r (own.gives_fd m n server write (worker_domain run.worker) (on.WriteEnd has.0.pipe) r has.0.write_end step) step
+      where
+        again : (b : Bool) → n ≡ m → HasRun job n w o (Runs run (if b then Gives write else Returns write))
+        again true is = same o (Runs run (Gives write)) is (hired, has)
+        again false is = same o (Runs run (Returns write)) is (hired, has.0)
+
+        by : (r : Reply) → caller.GivesFd m server write (worker_domain run.worker) (on.WriteEnd has.0.pipe) r n
+            → StepsTo m (event.Call server (call.GiveFd write (worker_domain run.worker))) r n → HasRun job n w o (Runs run (told_gives write r))
+        by (reply.Fd f) did step = (
+          still-hired (call.GiveFd write (worker_domain run.worker)) (reply.Fd f) step has.0.apart,
+          (still-reading (call.GiveFd write (worker_domain run.worker)) (reply.Fd f) step (write-elsewhere m run write has.0) (has.0.pipe, has.0.read_end), has.1),
+        )
+        by (reply.Refused y) did step = again (is_again y) did
+        by r did step = absurd did
+
+    pub makes : (f : ℕ) (r : Reply) (o : Progress) → HasStep job m w o run (Makes f)
+        → StepsTo m (event.Call server (call.AggMake (job f))) r n → HasRun job n w o (Runs run (told_makes f r))
+    makes f r o has step = by r (own.make m n server (job f) r order step) step
+      where
+        by : (r : Reply) → caller.Makes m server (job f) r n → StepsTo m (event.Call server (call.AggMake (job f))) r n → HasRun job n w o (Runs run (told_makes f r))
+        by (reply.Agg x) did step =
+            let here = stay (call.AggMake (job f)) (reply.Agg x) o (Makes f) step (λ a u. refl) (λ g u. refl) has in
+            (here.0, (here.1.0, did.0, here.1.1))
+        by (reply.Refused y) did step = same o (Runs run (Makes f)) did (hired, has)
+        by r did step = absurd did
+
+    pub hands : (j f : ℕ) (r : Reply) (o : Progress) → HasStep job m w o run (Hands j f)
+        → StepsTo m (event.Call server (call.IolWrite (job_pipe run.worker) j)) r n → HasRun job n w o (Runs run (told_hands j f r))
+    hands j f r o has step = by r (own.write_pipe m n server (job_pipe run.worker) hired.0 j (job f) r order hired.1 has.1 step) step
+      where
+        again : (b : Bool) → n ≡ m → HasRun job n w o (Runs run (if b then Hands j f else Lapses j))
+        again true is = same o (Runs run (Hands j f)) is (hired, has)
+        again false is = same o (Runs run (Lapses j)) is (hired, (has.0, (job f, has.1)))
+
+        by : (r : Reply) → caller.WritesPipe m hired.0 (job f) r n → StepsTo m (event.Call server (call.IolWrite (job_pipe run.worker) j)) r n
+            → HasRun job n w o (Runs run (told_hands j f r))
+        by (reply.Count k) did step =
+            let here = stay (call.IolWrite (job_pipe run.worker) j) (reply.Count k) o (Hands j f) step (λ a u. refl) (λ g u. no-position m (job_pipe run.worker) g (on.WriteEnd hired.0) hired.1 refl) has in
+            (here.0, (here.1.0, (job f, here.1.1), here.1.2))
+        by (reply.Refused y) did step = again (is_again y) did
+        by r did step = absurd did
+
+    -- ---- the head
+
+    pub heads : (r : Reply) (heard : List ℕ) (o : Progress) → HasStep job m w o run Heads
+        → StepsTo m (event.Call server (call.AggMake (script_text w))) r n → Names n r heard → HasRun job n w o (Runs run (told_heads r heard))
+    heads r heard o has step names = by r (own.make m n server (script_text w) r order step) step names
+      where
+        by : (r : Reply) → caller.Makes m server (script_text w) r n → StepsTo m (event.Call server (call.AggMake (script_text w))) r n → Names n r heard
+            → HasRun job n w o (Runs run (told_heads r heard))
+        by (reply.Agg x) did step names =
+            let here = stay (call.AggMake (script_text w)) (reply.Agg x) o Heads step (λ a u. refl) (λ g u. refl) has in
+            let hears : heard ≡ script_text w = some-inj heard (script_text w) (sym names ∙ did.0) in (
+              here.0,
+              record {
+                reads = here.1.0;
+                frames = tt;
+                part = script_text w;
+                is_part = did.0;
+                has = begun n x (count_of heard) (script_text w) did.0 (ap (λ (l : List ℕ). count_of l) hears ∙ counted (script_text w) (made-short m n server x (script_text w) step));
+                within = omega arith;
+                apart = refl;
+                whole = has.1.0;
+                continues = subst (λ (z : Progress). Continues w z (script_text w) []) (sym has.1.1) (λ more. refl);
+              },
+            )
+        by (reply.Refused y) did step names = same o (Runs run Heads) did (hired, has)
+        by r did step names = absurd did
+
+    -- ---- output is read
+
+    -- what is held is not a new aggregate
+    new-held : (held : Following) (bytes : List ℕ) (x : ℕ) → IsHeld m w held bytes → lent_at m server x ≡ None → has_followed held x ≡ false
+    new-held None bytes x has new = refl
+    new-held (Some y) bytes x has new = new-other m y.0 x bytes has.lends new
+
+    -- so many bytes are held, at most a chunk's
+    held-now : (a size : ℕ) (bytes : List ℕ) (frame : Option ℕ) (o : Progress) → lent_at n server a ≡ Some bytes → size ≡ length bytes → 0 < size
+        → size ≤ CHUNK_BYTES → w.chunked ≡ true → run.broken ≡ false → IsReading n run → HasFrame n frame → has_frame frame a ≡ false
+        → HoldsBack w o bytes → HasStep job n w o run (holding a size frame)
+    held-now a size bytes frame o lent count some most chunked whole reads frames apart back = by (nat_lt size CHUNK_BYTES) refl
+      where
+        full : nat_lt size CHUNK_BYTES ≡ false → HasChunk n w o run a
+        full is = record { reads = reads; bytes = bytes; lends = lent; count = (let le : CHUNK_BYTES ≤ size = grind (arith, nat_tests, is) in omega (arith, le, most, count)); chunked = chunked; whole = whole; goes = back }
+
+        set : (frame : Option ℕ) → HasFrame n frame → has_frame frame a ≡ false → nat_lt size CHUNK_BYTES ≡ false → HasStep job n w o run (filled a frame)
+        set None frames apart is = full is
+        set (Some f) frames apart is = (full is, frames, apart)
+
+        by : (b : Bool) → nat_lt size CHUNK_BYTES ≡ b → HasStep job n w o run (if b then Hears (Some (a, size)) frame else filled a frame)
+        by true is = record {
+          reads = reads;
+          bytes = bytes;
+          has = record { holds = record { lends = lent; count = count; some = some; few = grind (arith, nat_tests, is); chunked = chunked }; frames = frames; apart = apart };
+          goes = goes-on run.broken w o bytes whole back;
+        }
+        by false is = set frame frames apart is
+
+    -- nothing is held where chunks are not made
+    none-held : (s : State) (held : Following) (bytes : List ℕ) → IsHeld s w held bytes → w.chunked ≡ false → bytes ≡ []
+    none-held s None bytes has plain = has
+    none-held s (Some x) bytes has plain = let c = has.chunked in absurd (cc (c, plain))
+
+    off-frame : (a : ℕ) (frame : Option ℕ) → has_frame frame a ≡ false → sends_frame (doing.Sends a 0 0 None) frame ≡ false
+    off-frame a None apart = refl
+    off-frame a (Some f) apart = or_from (a == f) false (turned f a apart) refl
+
+    heard-now : (held : Following) (frame : Option ℕ) (x b : ℕ) (new : List ℕ) (o : Progress) (h : HasHeard n w o run held frame)
+        → lent_at n server x ≡ Some (b ∷ new) → length (b ∷ new) ≤ CHUNK_BYTES - held_size held → has_frame frame x ≡ false
+        → HasStep job n w (hears_on o (b ∷ new)) run (hearing run.broken w.chunked held frame x (count_of (b ∷ new)))
+    heard-now held frame x b new o h lent short apart = by run.broken w.chunked held h.has.holds h.has.apart short refl refl h.goes
+      where
+        count : count_of (b ∷ new) ≡ length (b ∷ new)
+        count = counted (b ∷ new) (omega (arith, short))
+
+        by : (c d : Bool) (held : Following) → IsHeld n w held h.bytes → meets held frame ≡ false → length (b ∷ new) ≤ CHUNK_BYTES - held_size held → run.broken ≡ c → w.chunked ≡ d
+            → Goes c w o h.bytes → HasStep job n w (hears_on o (b ∷ new)) run (hearing c d held frame x (count_of (b ∷ new)))
+        by true d held holds off short is_c is_d goes = (
+          ((b ∷ new, lent), apart),
+          record {
+            reads = h.reads;
+            bytes = [];
+            has = record { holds = refl; frames = h.has.frames; apart = refl };
+            goes = subst (λ c. Goes c w (hears_on o (b ∷ new)) []) (sym is_c) (subst (λ (z : Progress). hears_on z (b ∷ new) ≡ Broken) (sym goes) refl);
+          },
+        )
+        by false false held holds off short is_c is_d goes =
+            let none = none-held n held h.bytes holds is_d in
+            record {
+              reads = h.reads;
+              frames = h.has.frames;
+              part = b ∷ new;
+              is_part = lent;
+              has = begun n x (count_of (b ∷ new)) (b ∷ new) lent count;
+              within = omega arith;
+              apart = off-frame x frame apart;
+              whole = is_c;
+              continues = plain-part w (hears_on o (b ∷ new)) (b ∷ new) is_d (subst (λ (l : List ℕ). HoldsBack w (hears_on o (b ∷ new)) (l ++ (b ∷ new))) none (hears-more w o h.bytes b new goes));
+            }
+        by false true None holds off short is_c is_d goes =
+            held-now x (count_of (b ∷ new)) (b ∷ new) frame (hears_on o (b ∷ new)) lent count (omega (arith, count)) (omega (arith, count, short)) is_d is_c h.reads h.has.frames apart
+            (subst (λ (l : List ℕ). HoldsBack w (hears_on o (b ∷ new)) (l ++ (b ∷ new))) holds (hears-more w o h.bytes b new goes))
+        by false true (Some y) holds off short is_c is_d goes = record {
+          reads = h.reads;
+          bytes = h.bytes;
+          more = b ∷ new;
+          has = record { holds = holds; frames = h.has.frames; apart = off };
+          lends = lent;
+          count = count;
+          within = (let few = holds.few in omega (arith, few, short, count));
+          apart = apart;
+          whole = is_c;
+          goes = hears-more w o h.bytes b new goes;
+        }
+
+    -- the output may not be read: nothing more is sent
+    barred : (held : Following) (frame : Option ℕ) → IsReading m run → (bytes : List ℕ) → HasOutput m w held frame bytes
+        → HasStep job m w Broken (broken run) (unread held frame)
+    barred None frame reads bytes has = (reads, record { bytes = []; has = record { holds = refl; frames = has.frames; apart = refl }; ends = refl })
+    barred (Some x) frame reads bytes has = (
+      ((bytes, has.holds.lends), has.apart),
+      reads,
+      record { bytes = []; has = record { holds = refl; frames = has.frames; apart = refl }; ends = refl },
+    )
+
+    pub hears : (held : Following) (frame : Option ℕ) (r : Reply) (heard : List ℕ) (o : Progress) → HasStep job m w o run (Hears held frame)
+        → StepsTo m (event.Call server (call.IolRead run.from (CHUNK_BYTES - held_size held))) r n → Names n r heard
+        → Told (Runs run (Hears held frame)) (told_hears w run held frame r heard) r heard o
+    hears held frame r heard o has step names =
+        by r (own.read_pipe m n server run.from has.reads.0 (CHUNK_BYTES - held_size held) r order has.reads.1 step) step names
+      where
+        count : ℕ
+        count = CHUNK_BYTES - held_size held
+
+        -- more, or the end
+        more : (x : ℕ) (heard : List ℕ) → HasJobPipe n run.worker → HasHeard n w o run held frame → lent_at n server x ≡ Some heard → length heard ≤ count
+            → has_followed held x ≡ false → has_frame frame x ≡ false
+            → Told (Runs run (Hears held frame)) (told_hears w run held frame (reply.Agg x) heard) (reply.Agg x) heard o
+        more x [] hired here lent short off apart = (
+          hears_on o [],
+          refl,
+          (
+            hired,
+            (
+              (([], lent), or_from (has_followed held x) (has_frame frame x) off apart),
+              here.reads,
+              record { bytes = here.bytes; has = here.has; ends = hears-end run.broken w o here.bytes here.goes },
+            ),
+          ),
+        )
+        more x (b ∷ new) hired here lent short off apart = (hears_on o (b ∷ new), refl, (hired, heard-now held frame x b new o here lent short apart))
+
+        by : (r : Reply) → caller.ReadsPipe m server has.reads.0 (CHUNK_BYTES - held_size held) r n
+            → StepsTo m (event.Call server (call.IolRead run.from (CHUNK_BYTES - held_size held))) r n → Names n r heard
+            → Told (Runs run (Hears held frame)) (told_hears w run held frame r heard) r heard o
+        by (reply.Agg x) did step names =
+            let here = stay (call.IolRead run.from count) (reply.Agg x) o (Hears held frame) step (λ a u. refl) (λ g u. no-position m run.from g (on.ReadEnd has.reads.0) has.reads.1 refl) has in
+            more x heard here.0 here.1 names
+            (short-output (may_read m server) count (pipe_at m has.reads.0).queue did.text heard did.most (some-inj heard (bytes_of did.text) (sym names ∙ did.lends)))
+            (new-held held has.bytes x has.has.holds did.new) (new-frame m frame x has.has.frames did.new)
+        by (reply.Refused (no.Denied p)) did step names = (Broken, refl, subst (λ (s : State). HasJobPipe s run.worker × HasStep job s w Broken (broken run) (unread held frame)) (sym did) (hired, barred held frame has.reads has.bytes has.has))
+        by (reply.Refused y) did step names = (o, refl, same o (Runs run (Hears held frame)) did (hired, has))
+        by r did step names = absurd did
+
+    pub gathers : (held size piece len : ℕ) (frame : Option ℕ) (r : Reply) (o : Progress) → HasStep job m w o run (Gathers held size piece len frame)
+        → StepsTo m (event.Call server (call.AggJoin held piece)) r n → HasRun job n w o (Runs run (told_gathers held size piece len frame r))
+    gathers held size piece len frame r o has step = by r (own.join m n server held piece has.bytes has.more r order has.has.holds.lends has.lends step) step
+      where
+        by : (r : Reply) → caller.Makes m server (has.bytes ++ has.more) r n → StepsTo m (event.Call server (call.AggJoin held piece)) r n
+            → HasRun job n w o (Runs run (told_gathers held size piece len frame r))
+        by (reply.Agg x) did step = (
+          still-hired (call.AggJoin held piece) (reply.Agg x) step refl,
+          held-now x (size + len) (has.bytes ++ has.more) frame o did.0
+              (let a = length-append has.bytes has.more in let b = has.has.holds.count in let c = has.count in omega (arith, a, b, c))
+              (let b = has.has.holds.some in omega (arith, b)) has.within has.has.holds.chunked has.whole
+              (still-reading (call.AggJoin held piece) (reply.Agg x) step refl has.reads)
+              (frame-on m n frame (λ a bytes u is. lends (call.AggJoin held piece) (reply.Agg x) step a bytes (or_from (held == a) (piece == a) (other (λ z. has_frame frame z) held a has.has.apart u) (other (λ z. has_frame frame z) piece a has.apart u)) is) has.has.frames)
+              (new-frame m frame x has.has.frames did.1) has.goes,
+        )
+        by (reply.Refused y) did step = same o (Runs run (Gathers held size piece len frame)) did (hired, has)
+        by r did step = absurd did
+
+    -- ---- a chunk is made
+
+    pub frames : (held : ℕ) (r : Reply) (o : Progress) → HasStep job m w o run (Frames held)
+        → StepsTo m (event.Call server (call.AggMake (frame_of CHUNK_BYTES))) r n → HasRun job n w o (Runs run (told_frames held r))
+    frames held r o has step = by r (own.make m n server (frame_of CHUNK_BYTES) r order step) step
+      where
+        by : (r : Reply) → caller.Makes m server (frame_of CHUNK_BYTES) r n → StepsTo m (event.Call server (call.AggMake (frame_of CHUNK_BYTES))) r n
+            → HasRun job n w o (Runs run (told_frames held r))
+        by (reply.Agg x) did step =
+            let here = stay (call.AggMake (frame_of CHUNK_BYTES)) (reply.Agg x) o (Frames held) step (λ a u. refl) (λ g u. refl) has in
+            (here.0, (here.1, did.0, turned held x (new-other m held x has.bytes has.lends did.1)))
+        by (reply.Refused y) did step = same o (Runs run (Frames held)) did (hired, has)
+        by r did step = absurd did
+
+    -- what is held is not what is made around it, nor is that the frame
+    two-off : (a b c : ℕ) → (a == c) ≡ false → (b == c) ≡ false → ((a == c) || (b == c)) ≡ false
+    two-off a b c x y = or_from (a == c) (b == c) x y
+
+    pub wraps : (held frame : ℕ) (r : Reply) (heard : List ℕ) (o : Progress) → HasStep job m w o run (Wraps held frame)
+        → StepsTo m (event.Call server (call.AggReplace frame (place_in_frame CHUNK_BYTES) (place_in_frame CHUNK_BYTES) held)) r n → Names n r heard
+        → HasRun job n w o (Runs run (told_wraps held frame r heard))
+    wraps held frame r heard o has step names =
+        by r (own.replace m n server frame (place_in_frame CHUNK_BYTES) (place_in_frame CHUNK_BYTES) held (frame_of CHUNK_BYTES) has.0.bytes r order has.1 has.0.lends step) step names
+      where
+        is_chunk : take (place_in_frame CHUNK_BYTES) (frame_of CHUNK_BYTES) ++ has.0.bytes ++ drop (place_in_frame CHUNK_BYTES) (frame_of CHUNK_BYTES) ≡ chunk has.0.bytes
+        is_chunk = set_between (chunk_head CHUNK_BYTES) chunk_end has.0.bytes ∙ ap (λ k. chunk_head k ++ (has.0.bytes ++ chunk_end)) (sym has.0.count)
+
+        by : (r : Reply) → caller.Makes m server (take (place_in_frame CHUNK_BYTES) (frame_of CHUNK_BYTES) ++ has.0.bytes ++ drop (place_in_frame CHUNK_BYTES) (frame_of CHUNK_BYTES)) r n
+            → StepsTo m (event.Call server (call.AggReplace frame (place_in_frame CHUNK_BYTES) (place_in_frame CHUNK_BYTES) held)) r n → Names n r heard
+            → HasRun job n w o (Runs run (told_wraps held frame r heard))
+        by (reply.Agg x) did step names =
+            let here = stay (call.AggReplace frame (place_in_frame CHUNK_BYTES) (place_in_frame CHUNK_BYTES) held) (reply.Agg x) o (Wraps held frame) step (λ a u. refl) (λ g u. refl) has in
+            let lent : lent_at n server x ≡ Some (chunk has.0.bytes) = did.0 ∙ ap (λ (l : List ℕ). Some l) is_chunk in
+            let hears : heard ≡ chunk has.0.bytes = some-inj heard (chunk has.0.bytes) (sym names ∙ lent) in
+            let c = has.0.count in
+            let few : length has.0.bytes ≤ CHUNK_BYTES = omega (arith, c) in
+            let not_held = turned held x (new-other m held x has.0.bytes has.0.lends did.1) in
+            let not_frame = turned frame x (new-other m frame x (frame_of CHUNK_BYTES) has.1 did.1) in (
+              here.0,
+              (
+                ((here.1.0.bytes, here.1.0.lends), or_from ((x == held) || false) (frame == held) (or_from (x == held) false not_held refl) has.2),
+                record {
+                  reads = here.1.0.reads;
+                  frames = here.1.1;
+                  part = chunk has.0.bytes;
+                  is_part = lent;
+                  has = begun n x (count_of heard) (chunk has.0.bytes) lent (ap (λ (l : List ℕ). count_of l) hears ∙ counted (chunk has.0.bytes) (short-chunk (length has.0.bytes) has.0.bytes chunk_end few (omega arith)));
+                  within = omega arith;
+                  apart = or_from (x == frame) false not_frame refl;
+                  whole = has.0.whole;
+                  continues = chunk-part w o has.0.bytes has.0.chunked has.0.count has.0.goes;
+                },
+              ),
+            )
+        by (reply.Refused y) did step names = same o (Runs run (Wraps held frame)) did (hired, has)
+        by r did step names = absurd did
+
+    -- ---- the end
+
+    -- without chunks nothing is left; with them the end of the body is
+    finishes : (b c : Bool) (held : Following) (bytes : List ℕ) (o : Progress) → HasJobPipe n run.worker → run.broken ≡ b → w.chunked ≡ c
+        → IsHeld n w held bytes → Ends run.broken w o bytes → HasRun job n w o (finishing b c run held)
+    finishes false true held bytes o hired whole chunked holds ends = (hired, (chunked, whole, record { bytes = bytes; has = record { holds = holds; frames = tt; apart = none held }; ends = ends }))
+      where
+        none : (held : Following) → meets held None ≡ false
+        none None = refl
+        none (Some x) = refl
+    finishes false false held bytes o hired whole plain holds ends =
+        over o (subst (λ b. Ends b w o bytes) whole ends)
+      where
+        over : (o : Progress) → IsLeft w o (script_body w.chunked bytes) → HasRun job n w o Closes
+        over (Ran heard ended past) left = subst (λ (l : List ℕ). IsLeft w (Ran heard ended past) l) (ap (λ c. script_body c bytes) plain ∙ none-held n held bytes holds plain) left
+        over Broken left = absurd left
+        over (NotRun status) left = absurd left
+    finishes true c held bytes o hired gone chunked holds ends = subst (λ (z : Progress). HasRun job n w z Closes) (sym (subst (λ b. Ends b w o bytes) gone ends)) tt
+
+    pub stops : (held : Following) (frame : Option ℕ) (r : Reply) (o : Progress) → HasStep job m w o run (Stops held frame)
+        → StepsTo m (event.Call server (call.Close run.from)) r n → HasRun job n w o (told_stops w run held frame r)
+    stops held frame r o has step = by r (own.closes m n server run.from r step) step
+      where
+        next : (frame : Option ℕ) → HasJobPipe n run.worker → HasAll n w o run held frame → HasRun job n w o (stopped w run held frame)
+        next None hired all = finishes run.broken w.chunked held all.bytes o hired refl refl all.has.holds all.ends
+        next (Some f) hired all = (hired, all)
+
+        by : (r : Reply) → caller.Closes m server run.from r n → StepsTo m (event.Call server (call.Close run.from)) r n → HasRun job n w o (told_stops w run held frame r)
+        by reply.Done did step = next frame
+            (still-hired (call.Close run.from) reply.Done step (ends-differ m run.from (job_pipe run.worker) has.0.0 hired.0 has.0.1 hired.1))
+            (has-all-on m n w o run held frame (λ a bytes u is. lends (call.Close run.from) reply.Done step a bytes refl is) has.1)
+        by (reply.Refused y) did step = same o (Runs run (Stops held frame)) did (hired, has)
+        by r did step = absurd did
+
+    pub unframes : (f : ℕ) (held : Following) (r : Reply) (o : Progress) → HasStep job m w o run (Unframes f held)
+        → StepsTo m (event.Call server (call.AggDrop f)) r n → HasRun job n w o (told_unframes w run f held r)
+    unframes f held r o has step = by r (own.drops m n server f r order step) step
+      where
+        off : (held : Following) → meets held (Some f) ≡ false → (a : ℕ) → has_followed held a ≡ true → (f == a) ≡ false
+        off None is a u = absurd (cc (u))
+        off (Some x) is a u = let e : x.0 ≡ a = grind (arith, nat_tests, u) in subst (λ z. (f == z) ≡ false) e is
+
+        by : (r : Reply) → caller.Drops m server f r n → StepsTo m (event.Call server (call.AggDrop f)) r n → HasRun job n w o (told_unframes w run f held r)
+        by reply.Done did step = finishes run.broken w.chunked held has.bytes o (still-hired (call.AggDrop f) reply.Done step refl) refl refl
+            (held-on m n w held has.bytes (λ a bytes u is. lends (call.AggDrop f) reply.Done step a bytes (off held has.has.apart a u) is) has.has.holds) has.ends
+        by (reply.Refused y) did step = same o (Runs run (Unframes f held)) did (hired, has)
+        by r did step = absurd did
+
+    -- of a run that is not broken the end is left
+    pub lasts : (held : Following) (r : Reply) (heard : List ℕ) (o : Progress) → HasStep job m w o run (Lasts held)
+        → StepsTo m (event.Call server (call.AggMake (end_around held))) r n → Names n r heard → HasRun job n w o (told_lasts run held r heard)
+    lasts held r heard o has step names = by r (own.make m n server (end_around held) r order step) step names
+      where
+        is_left : IsLeft w o (script_body true has.2.bytes)
+        is_left = subst (λ c. IsLeft w o (script_body c has.2.bytes)) has.0 (subst (λ b. Ends b w o has.2.bytes) has.1 has.2.ends)
+
+        last : (o : Progress) (held : Following) (x len : ℕ) → HasJobPipe n run.worker → IsHeld n w held has.2.bytes → has_followed held x ≡ false → lent_at n server x ≡ Some (end_around held)
+            → len ≡ length (end_around held) → IsLeft w o (script_body true has.2.bytes) → HasRun job n w o (ending run held x len)
+        last (Ran was ended past) None x len hired holds off lent count left = (last_chunk, subst (λ (l : List ℕ). IsLeft w (Ran was ended past) (script_body true l)) holds left, begun n x len last_chunk lent count)
+        last Broken None x len hired holds off lent count left = absurd left
+        last (NotRun status) None x len hired holds off lent count left = absurd left
+        last o (Some y) x len hired holds off lent count left = (hired, record { bytes = has.2.bytes; holds = holds; frames = lent; apart = turned y.0 x off; left = left })
+
+        by : (r : Reply) → caller.Makes m server (end_around held) r n → StepsTo m (event.Call server (call.AggMake (end_around held))) r n → Names n r heard
+            → HasRun job n w o (told_lasts run held r heard)
+        by (reply.Agg x) did step names =
+            let here = stay (call.AggMake (end_around held)) (reply.Agg x) o (Lasts held) step (λ a u. refl) (λ g u. refl) has in
+            let hears : heard ≡ end_around held = some-inj heard (end_around held) (sym names ∙ did.0) in
+            last o held x (count_of heard) here.0 (held-on m n w held has.2.bytes (λ a bytes u is. lends (call.AggMake (end_around held)) (reply.Agg x) step a bytes refl is) has.2.has.holds) (new-held held has.2.bytes x has.2.has.holds did.1) did.0
+            (ap (λ (l : List ℕ). count_of l) hears ∙ counted (end_around held) (made-short m n server x (end_around held) step)) is_left
+        by (reply.Refused y) did step names = same o (Runs run (Lasts held)) did (hired, has)
+        by r did step names = absurd did
+
+    pub wraps_last : (held size frame : ℕ) (r : Reply) (heard : List ℕ) (o : Progress) → HasStep job m w o run (WrapsLast held size frame)
+        → StepsTo m (event.Call server (call.AggReplace frame (place_in_frame size) (place_in_frame size) held)) r n → Names n r heard
+        → HasRun job n w o (Runs run (told_wraps_last held size frame r heard))
+    wraps_last held size frame r heard o has step names =
+        by r (own.replace m n server frame (place_in_frame size) (place_in_frame size) held (end_around (Some (held, size))) has.bytes r order has.frames has.holds.lends step) step names
+      where
+        made : List ℕ
+        made = chunk_head size ++ (has.bytes ++ (chunk_end ++ last_chunk))
+
+        by : (r : Reply) → caller.Makes m server (take (place_in_frame size) (end_around (Some (held, size))) ++ has.bytes ++ drop (place_in_frame size) (end_around (Some (held, size)))) r n
+            → StepsTo m (event.Call server (call.AggReplace frame (place_in_frame size) (place_in_frame size) held)) r n → Names n r heard
+            → HasRun job n w o (Runs run (told_wraps_last held size frame r heard))
+        by (reply.Agg x) did step names =
+            let here = stay (call.AggReplace frame (place_in_frame size) (place_in_frame size) held) (reply.Agg x) o (WrapsLast held size frame) step (λ a u. refl) (λ g u. refl) has in
+            let lent : lent_at n server x ≡ Some made = did.0 ∙ ap (λ (l : List ℕ). Some l) (set_between (chunk_head size) (chunk_end ++ last_chunk) has.bytes) in
+            let hears : heard ≡ made = some-inj heard made (sym names ∙ lent) in
+            let c = has.holds.count in
+            let f = has.holds.few in
+            let few : length has.bytes ≤ CHUNK_BYTES = omega (arith, c, f) in (
+              here.0,
+              (
+                ((here.1.bytes, here.1.holds.lends), or_from (frame == held) (x == held) has.apart (turned held x (new-other m held x has.bytes has.holds.lends did.1))),
+                ((end_around (Some (held, size)), here.1.frames), turned frame x (new-other m frame x (end_around (Some (held, size))) has.frames did.1)),
+                record {
+                  bytes = made;
+                  lends = lent;
+                  count = ap (λ (l : List ℕ). count_of l) hears ∙ counted made (short-chunk size has.bytes (chunk_end ++ last_chunk) few (omega arith));
+                  left = last-left w o has.bytes size has.holds.count has.holds.some has.holds.few has.left;
+                },
+              ),
+            )
+        by (reply.Refused y) did step names = same o (Runs run (WrapsLast held size frame)) did (hired, has)
+        by r did step names = absurd did
+
+    pub unwraps : (frame a len : ℕ) (r : Reply) (o : Progress) → HasStep job m w o run (Unwraps frame a len)
+        → StepsTo m (event.Call server (call.AggDrop frame)) r n → HasRun job n w o (told_unwraps run frame a len r)
+    unwraps frame a len r o has step = by r (own.drops m n server frame r order step) step
+      where
+        over : (o : Progress) (bytes : List ℕ) → IsLeft w o bytes → lent_at n server a ≡ Some bytes → len ≡ length bytes → HasRun job n w o (Leaves (doing.Sends a len 0 None))
+        over (Ran heard ended past) bytes left lent count = (bytes, left, begun n a len bytes lent count)
+        over Broken bytes left lent count = absurd left
+        over (NotRun status) bytes left lent count = absurd left
+
+        by : (r : Reply) → caller.Drops m server frame r n → StepsTo m (event.Call server (call.AggDrop frame)) r n → HasRun job n w o (told_unwraps run frame a len r)
+        by reply.Done did step = over o has.1.bytes has.1.left (lends (call.AggDrop frame) reply.Done step a has.1.bytes (turned a frame has.0.1) has.1.lends) has.1.count
+        by (reply.Refused y) did step = same o (Runs run (Unwraps frame a len)) did (hired, has)
+        by r did step = absurd did
+
+    -- ---- a script that cannot be run
+
+    pub returns : (write : ℕ) (r : Reply) (o : Progress) → HasStep job m w o run (Returns write)
+        → StepsTo m (event.Call server (call.Close write)) r n → HasRun job n w o (Runs run (told_returns write r))
+    returns write r o has step = by r (own.closes m n server write r step) step
+      where
+        by : (r : Reply) → caller.Closes m server write r n → StepsTo m (event.Call server (call.Close write)) r n → HasRun job n w o (Runs run (told_returns write r))
+        by reply.Done did step = (
+          still-hired (call.Close write) reply.Done step has.apart,
+          still-reading (call.Close write) reply.Done step (write-elsewhere m run write has) (has.pipe, has.read_end),
+        )
+        by (reply.Refused y) did step = same o (Runs run (Returns write)) did (hired, has)
+        by r did step = absurd did
+
+    pub fails : (r : Reply) (heard : List ℕ) (o : Progress) → HasStep job m w o run Fails
+        → StepsTo m (event.Call server (call.Close run.from)) r n → Told (Runs run Fails) (told_fails run r) r heard o
+    fails r heard o has step = by r (own.closes m n server run.from r step)
+      where
+        by : (r : Reply) → caller.Closes m server run.from r n → Told (Runs run Fails) (told_fails run r) r heard o
+        by reply.Done did = (NotRun 503, refl, refl)
+        by (reply.Refused y) did = (o, refl, same o (Runs run Fails) did (hired, has))
+        by r did = absurd did
