@@ -1,9 +1,11 @@
 -- What others do beside a worker with a job: they leave what it is still to write, and what is read is heard from the front.
-use Rattle.std.proofs.Common.{inl, inr, ◌≡◌, ℕ, ◌==◌, List, [], ◌∷◌, ◌++◌, length, drop, ap, ◌∙◌, refl, sym, subst, Option, Some, None, true, false, Bool, if◌then◌else◌, append_assoc, ◌≤◌}
+use Rattle.std.proofs.Common.{inl, inr, ◌≡◌, ℕ, ◌==◌, List, [], ◌∷◌, ◌++◌, ◌-◌, length, drop, arith, ap, ◌∙◌, refl, sym, subst, Option, Some, None, true, false, Bool, if◌then◌else◌, append_assoc, ◌≤◌}
 use Rattle.std.specs.Prelude.{unwrap_or, option_map, ◌&&◌, ◌||◌}
 use Rattle.std.specs.List.{AllByRecursion}
+use Rattle.std.proofs.lemmas.Bool.Decides.{nat_tests}
+use Rattle.std.proofs.lemmas.List.{append_cancel_right}
 use Rattle.iol_core.specs.Text.{Text, bytes_of}
-use Rattle.iol_core.specs.State.{State, Pipe, File, aggregate, descriptor, pipe_at, file, may_read}
+use Rattle.iol_core.specs.State.{State, Pipe, File, aggregate, content, descriptor, pipe_at, file, may_read}
 use Rattle.iol_core.specs.declared.descriptors.Descriptor.TheVariants as on
 use Rattle.iol_core.specs.declared.descriptors.Mode.TheVariants.{Read}
 use Rattle.iol_core.specs.Positions.{ArePlaced}
@@ -15,16 +17,19 @@ use Rattle.iol_core.specs.declared.events.Event.{Event}
 use Rattle.iol_core.specs.declared.events.Event.TheVariants as event
 use Rattle.iol_core.specs.declared.events.Reply.{Reply}
 use Rattle.iol_core.specs.declared.events.Reply.TheVariants as reply
-use Rattle.iol_laws.specs.Frame.{EachStepLeavesTheRest, Leaves, touches_fd, ends}
+use Rattle.iol_laws.specs.Frame.{EachStepLeavesTheRest, Leaves, touches_fd, ends, changes_files, admits_to}
 use Rattle.iol_laws.specs.Caller.{lent_at, TakesFromPipe}
+use Rattle.iol_laws.specs.Order.{IsOrderly}
+use Rattle.iol_laws.specs.Others.{GoesFromFront, OthersLeavePipes, HasNotEnd}
 use Rattle.iol_proc.specs.declared.seat.Seat.{Seat}
 use Rattle.flash_cgi.specs.Job.{Task}
-use Rattle.flash_cgi.specs.Output.{Outcome, output}
+use Rattle.flash_cgi.specs.Output.{Outcome, Found, output}
+use Rattle.flash_cgi.specs.Outcomes.{AreFiles, outcomes_in, to_come, to_come_doing, ReadsNamed}
 use Rattle.flash_cgi.specs.Working.{bytes_at, told_doing}
 use Rattle.flash_cgi.specs.Feeds.{rest_of, still, still_doing, HasBytes, IsFileOpen, Needs, Feeds}
 use Rattle.flash_cgi.specs.Taking.{HasJob, Begins}
-use Rattle.flash_cgi.specs.Turns.{Awaits, HasRead, IsRunning, RunsJob, or_again, filed_step}
-use Rattle.flash_cgi.specs.Beside.{LeavesWorker, LeavesJobs, Hears, is_call_of}
+use Rattle.flash_cgi.specs.Turns.{IsFree, RunsJob, or_again, filed_step}
+use Rattle.flash_cgi.specs.Beside.{LeavesWorker, LeavesFiles, LeavesJobs, Hears, is_call_of}
 use Rattle.flash_cgi.specs.declared.line.Line.{Line}
 use Rattle.flash_cgi.specs.declared.doing.Purpose.TheVariants as purpose
 use Rattle.flash_cgi.specs.declared.doing.Doing.{Doing}
@@ -34,6 +39,7 @@ use Rattle.flash_cgi.specs.declared.doing.Standing.TheVariants as standing
 use Rattle.flash_cgi.specs.declared.doing.Step.{Step}
 use Rattle.flash_cgi.specs.declared.worker.Worker.{Worker}
 use Rattle.flash_cgi.proofs.Feeding.{bytes-append}
+use Rattle.flash_cgi.proofs.Truly.{content-same, same_outcome, same_outcomes}
 
 some-inj : {A : Type 0} (x y : A) → Some x ≡ Some y → x ≡ y
 some-inj x y e = cc
@@ -112,9 +118,9 @@ module _ (m n : State) (d : ℕ) (left : LeavesWorker m d n) where
   all_may [] h = h
   all_may (b ∷ t) h = (left.readers b.1 h.0, all_may t h.1)
 
-  job_stays : (j p fd : ℕ) (query script : List ℕ) (lines : List Line) → LeavesJobs m d n → HasJob m d j p fd query script lines → HasJob n d j p fd query script lines
+  job_stays : (j p fd : ℕ) (query script : List ℕ) (lines : List Line) → pipe_at n j ≡ pipe_at m j → HasJob m d j p fd query script lines → HasJob n d j p fd query script lines
   job_stays j p fd query script lines jobs has =
-      let same : (pipe_at n j).queue ≡ (pipe_at m j).queue = ap (λ (x : Pipe). x.queue) (jobs.same j has.jobs) in
+      let same : (pipe_at n j).queue ≡ (pipe_at m j).queue = ap (λ (x : Pipe). x.queue) jobs in
       record {
         live = left.live has.live;
         jobs = left.fds 0 (on.ReadEnd j) has.jobs;
@@ -127,83 +133,115 @@ module _ (m n : State) (d : ℕ) (left : LeavesWorker m d n) where
         fds = has.fds;
       }
 
--- a running script as a seat has it, by another that is the same but for the machine
-module _ (m n : State) (p : ℕ) (seat : Seat Worker) (left : LeavesWorker m seat.by n) where
-  runs_on : (unseen after : List Outcome → List ℕ) → (i : IsRunning m p seat unseen)
-      → Feeds n seat.by p seat.process.job (filed_step seat.process.standing seat.process (lent_at m seat.by) seat.last) after → IsRunning n p seat after
-  runs_on unseen after i f = record {
-    not_over = i.not_over;
-    feeds = subst (λ (s : Step). Feeds n seat.by p seat.process.job s after) (sym (filed_stays m n seat.by left seat.process.standing seat.process seat.last i.feeds.needs)) f;
+  -- where files are left, so is what is still to come of them
+  come_still : LeavesFiles m d n → (job : Task) (begun : ℕ) (x : Doing) → to_come_doing n d job begun x ≡ to_come_doing m d job begun x
+  come_still files job begun doing.Waits = refl
+  come_still files job begun (doing.Reads file u) = sym (same_outcomes m n d files.outcomes (drop (begun - 1) job.lines))
+  come_still files job begun x = sym (same_outcomes m n d files.outcomes (drop begun job.lines))
+
+  named_still : LeavesFiles m d n → (job : Task) (begun : ℕ) (x : Doing) → ReadsNamed m d job begun x → ReadsNamed n d job begun x
+  named_still files job begun (doing.Reads file u) g = record {
+    number = g.number;
+    open_on = left.fds file (on.File g.number 0 Read) g.open_on;
+    names = sym (same_outcomes m n d files.outcomes (drop (begun - 1) job.lines)) ∙ (g.names
+        ∙ (ap (λ (l : List ℕ). Found l ∷ outcomes_in m d (drop begun job.lines)) (sym (files.contents g.number))
+        ∙ ap (λ (os : List Outcome). Found (content n g.number) ∷ os) (same_outcomes m n d files.outcomes (drop begun job.lines))));
+  }
+  named_still files job begun x g = tt
+
+-- ---- a worker that is free stays so
+
+-- what is written or counted depends on bytes that it is lent; a step at which it waits does not
+waits_still : (lm ln : ℕ → Option (List ℕ)) (job : Task) (step : Step) (x : Doing) (last : Reply) → (or_again (told_doing lm job step.begun x last) step).doing ≡ doing.Waits
+    → (or_again (told_doing ln job step.begun x last) step).doing ≡ doing.Waits
+waits_still lm ln job step (doing.Reads file purpose.Wc) (reply.Agg a) h = absurd (cc (h))
+waits_still lm ln job step (doing.Writes a) (reply.Count k) h = absurd (writes_on (k == length (bytes_at lm a)) (length (bytes_at lm a)) h)
+  where
+    writes_on : (t : Bool) (len : ℕ) → (if t then doing.Drops a else doing.Cuts a k len) ≡ doing.Waits → ⊥
+    writes_on true len e = cc (e)
+    writes_on false len e = cc (e)
+waits_still lm ln job step x last h = h
+
+free_still : (m n : State) (seat : Seat Worker) → IsFree m seat → IsFree n seat
+free_still m n seat h = record { not_over = h.not_over; waits = by seat.process.standing h.waits; not_given = h.not_given }
+  where
+    by : (s : Standing) → (filed_step s seat.process (lent_at m seat.by) seat.last).doing ≡ doing.Waits → (filed_step s seat.process (lent_at n seat.by) seat.last).doing ≡ doing.Waits
+    by standing.Asked is = waits_still (lent_at m seat.by) (lent_at n seat.by) seat.process.job seat.process.step seat.process.step.doing seat.last is
+    by standing.Asks is = is
+    by standing.Over is = is
+
+-- ---- what went from the front of the pipe of its output stood in front of what is unseen
+
+module _ (m n : State) (p : ℕ) (seat : Seat Worker) (left : LeavesWorker m seat.by n) (jobs : LeavesJobs m seat n) (goes : GoesFromFront m p n) where
+  front : (rest : List ℕ) → bytes_of (pipe_at m p).queue ++ rest ≡ bytes_of goes.gone ++ (bytes_of (pipe_at n p).queue ++ rest)
+  front rest = ap (λ (t : Text). bytes_of t ++ rest) goes.queue
+      ∙ (ap (λ (l : List ℕ). l ++ rest) (bytes-append goes.gone (pipe_at n p).queue) ∙ append_assoc (bytes_of goes.gone) (bytes_of (pipe_at n p).queue) rest)
+
+  feeds_after : (job : Task) (step : Step) (unseen : List Outcome → List ℕ) → Feeds m seat.by p job step unseen
+      → Feeds n seat.by p job step (λ os. bytes_of (pipe_at n p).queue ++ still job (lent_at m seat.by) step os)
+  feeds_after job step unseen f = record {
+    live = left.live f.live;
+    open_on = left.fds job.fd (on.WriteEnd p) f.open_on;
+    needs = needs_stay m n seat.by left step.doing f.needs;
+    is = λ os. ap (λ (l : List ℕ). bytes_of (pipe_at n p).queue ++ l) (sym (still_stays m n seat.by left job step.begun step.doing os f.needs));
   }
 
-  has_read_on : (unseen after : List Outcome → List ℕ) → (h : HasRead m p seat unseen) → Feeds n seat.by p h.job (record { doing = doing.Drops h.agg; begun = 0 }) after → HasRead n p seat after
-  has_read_on unseen after h f = record {
-    job = h.job;
-    agg = h.agg;
-    waits = h.waits;
-    asked = h.asked;
-    last = h.last;
-    begins = begins_stays m n seat.by left p h.job h.agg unseen after h.begins f;
+  pub gone : (unseen : List Outcome → List ℕ) (was : RunsJob m p seat unseen) → Hears m n p seat unseen was (bytes_of goes.gone)
+  gone unseen (inl h) = record {
+    after = λ os. bytes_of (pipe_at n p).queue ++ output h.query h.lines os;
+    splits = λ os. h.is os ∙ front (output h.query h.lines os);
+    runs = inl (record {
+      jobs = h.jobs;
+      fd = h.fd;
+      query = h.query;
+      script = h.script;
+      lines = h.lines;
+      free = free_still m n seat h.free;
+      has = job_stays m n seat.by left h.jobs p h.fd h.query h.script h.lines (jobs.same h.jobs h.free h.has.jobs) h.has;
+      is = λ os. refl;
+    });
+    outcomes = λ files. sym (same_outcomes m n seat.by files.outcomes h.lines);
+    reads = λ files right. tt;
   }
+  gone unseen (inr (inl h)) =
+      let step : Step = record { doing = doing.Drops h.agg; begun = 0 } in
+      record {
+        after = λ os. bytes_of (pipe_at n p).queue ++ still h.job (lent_at m seat.by) step os;
+        splits = λ os. h.begins.feeds.is os ∙ front (still h.job (lent_at m seat.by) step os);
+        runs = inr (inl (record {
+          job = h.job;
+          agg = h.agg;
+          waits = h.waits;
+          asked = h.asked;
+          last = h.last;
+          begins = begins_stays m n seat.by left p h.job h.agg unseen (λ os. bytes_of (pipe_at n p).queue ++ still h.job (lent_at m seat.by) step os) h.begins
+              (feeds_after h.job step unseen h.begins.feeds);
+        }));
+        outcomes = λ files. sym (same_outcomes m n seat.by files.outcomes h.job.lines);
+        reads = λ files right. tt;
+      }
+  gone unseen (inr (inr i)) =
+      let step : Step = filed_step seat.process.standing seat.process (lent_at m seat.by) seat.last in
+      let same : filed_step seat.process.standing seat.process (lent_at n seat.by) seat.last ≡ step = filed_stays m n seat.by left seat.process.standing seat.process seat.last i.feeds.needs in
+      record {
+        after = λ os. bytes_of (pipe_at n p).queue ++ still seat.process.job (lent_at m seat.by) step os;
+        splits = λ os. i.feeds.is os ∙ front (still seat.process.job (lent_at m seat.by) step os);
+        runs = inr (inr (record {
+          not_over = i.not_over;
+          feeds = subst (λ (s : Step). Feeds n seat.by p seat.process.job s (λ os. bytes_of (pipe_at n p).queue ++ still seat.process.job (lent_at m seat.by) step os)) (sym same)
+              (feeds_after seat.process.job step unseen i.feeds);
+        }));
+        outcomes = λ files. ap (λ (s : Step). to_come n seat.by seat.process.job s) same ∙ come_still m n seat.by left files seat.process.job step.begun step.doing;
+        reads = λ files right. subst (λ (s : Step). ReadsNamed n seat.by seat.process.job s.begun s.doing) (sym same)
+            (named_still m n seat.by left files seat.process.job step.begun step.doing right);
+      }
 
-  awaits_on : (unseen after : List Outcome → List ℕ) → (h : Awaits m p seat unseen) → LeavesJobs m seat.by n → ((os : List Outcome) → after os ≡ bytes_of (pipe_at n p).queue ++ output h.query h.lines os) → Awaits n p seat after
-  awaits_on unseen after h jobs is = record {
-    jobs = h.jobs;
-    fd = h.fd;
-    query = h.query;
-    script = h.script;
-    lines = h.lines;
-    waits = h.waits;
-    is_to_read = h.is_to_read;
-    has = job_stays m n seat.by left h.jobs p h.fd h.query h.script h.lines jobs h.has;
-    is = is;
-  }
-
-  pub untouched : (unseen : List Outcome → List ℕ) → LeavesJobs m seat.by n → RunsJob m p seat unseen → pipe_at n p ≡ pipe_at m p → RunsJob n p seat unseen
-  untouched unseen jobs (inl h) pipe = inl (awaits_on unseen unseen h jobs (λ os. h.is os ∙ ap (λ (x : Pipe). bytes_of x.queue ++ output h.query h.lines os) (sym pipe)))
-  untouched unseen jobs (inr (inl h)) pipe = inr (inl (has_read_on unseen unseen h (feeds_stay m n seat.by left p h.job _ unseen h.begins.feeds pipe)))
-  untouched unseen jobs (inr (inr i)) pipe = inr (inr (runs_on unseen unseen i (feeds_stay m n seat.by left p seat.process.job _ unseen i.feeds pipe)))
-
-  -- another domain reads: what it hears stood in front of what is unseen then
-  module _ (by count a : ℕ) (takes : TakesFromPipe m by p count a n) (bytes : List ℕ) (names : lent_at n by a ≡ Some bytes) where
-    front : (rest : List ℕ) → bytes_of (pipe_at m p).queue ++ rest ≡ bytes ++ (bytes_of takes.rest ++ rest)
-    front rest =
-        let same : bytes_of takes.text ≡ bytes = some-inj (bytes_of takes.text) bytes (sym takes.lends ∙ names) in
-        ap (λ (t : Text). bytes_of t ++ rest) takes.was
-        ∙ (ap (λ (l : List ℕ). l ++ rest) (bytes-append takes.text takes.rest ∙ ap (λ (l : List ℕ). l ++ bytes_of takes.rest) same)
-        ∙ append_assoc bytes (bytes_of takes.rest) rest)
-
-    behind : (rest : List ℕ) → bytes_of takes.rest ++ rest ≡ bytes_of (pipe_at n p).queue ++ rest
-    behind rest = ap (λ (x : Pipe). bytes_of x.queue ++ rest) (sym takes.pipe)
-
-    feeds_after : (job : Task) (step : Step) (unseen : List Outcome → List ℕ) → Feeds m seat.by p job step unseen → Feeds n seat.by p job step (λ os. bytes_of takes.rest ++ still job (lent_at m seat.by) step os)
-    feeds_after job step unseen f = record {
-      live = left.live f.live;
-      open_on = left.fds job.fd (on.WriteEnd p) f.open_on;
-      needs = needs_stay m n seat.by left step.doing f.needs;
-      is = λ os. ap (λ (l : List ℕ). bytes_of takes.rest ++ l) (sym (still_stays m n seat.by left job step.begun step.doing os f.needs)) ∙ behind (still job (lent_at n seat.by) step os);
-    }
-
-    pub heard : (unseen : List Outcome → List ℕ) → LeavesJobs m seat.by n → RunsJob m p seat unseen → Hears n p seat unseen bytes
-    heard unseen jobs (inl h) = record {
-      after = λ os. bytes_of takes.rest ++ output h.query h.lines os;
-      splits = λ os. h.is os ∙ front (output h.query h.lines os);
-      runs = inl (awaits_on unseen (λ os. bytes_of takes.rest ++ output h.query h.lines os) h jobs (λ os. behind (output h.query h.lines os)));
-    }
-    heard unseen jobs (inr (inl h)) =
-        let step : Step = record { doing = doing.Drops h.agg; begun = 0 } in
-        record {
-          after = λ os. bytes_of takes.rest ++ still h.job (lent_at m seat.by) step os;
-          splits = λ os. h.begins.feeds.is os ∙ front (still h.job (lent_at m seat.by) step os);
-          runs = inr (inl (has_read_on unseen (λ os. bytes_of takes.rest ++ still h.job (lent_at m seat.by) step os) h (feeds_after h.job step unseen h.begins.feeds)));
-        }
-    heard unseen jobs (inr (inr i)) =
-        let step : Step = filed_step seat.process.standing seat.process (lent_at m seat.by) seat.last in
-        record {
-          after = λ os. bytes_of takes.rest ++ still seat.process.job (lent_at m seat.by) step os;
-          splits = λ os. i.feeds.is os ∙ front (still seat.process.job (lent_at m seat.by) step os);
-          runs = inr (inr (runs_on unseen (λ os. bytes_of takes.rest ++ still seat.process.job (lent_at m seat.by) step os) i (feeds_after seat.process.job step unseen i.feeds)));
-        }
+-- what a read of it gives is what went
+pub heard : (m n : State) (p by count a : ℕ) (bytes : List ℕ) → TakesFromPipe m by p count a n → lent_at n by a ≡ Some bytes → (goes : GoesFromFront m p n) → bytes_of goes.gone ≡ bytes
+heard m n p by count a bytes takes names goes =
+    let rest : (pipe_at n p).queue ≡ takes.rest = ap (λ (x : Pipe). x.queue) takes.pipe in
+    let same : goes.gone ≡ takes.text = append_cancel_right goes.gone takes.text takes.rest (ap (λ (t : Text). goes.gone ++ t) (sym rest) ∙ (sym goes.queue ∙ takes.was)) in
+    ap (λ (t : Text). bytes_of t) same ∙ some-inj (bytes_of takes.text) bytes (sym takes.lends ∙ names)
 
 -- ---- a call of another domain, and what happens outside
 
@@ -250,3 +288,32 @@ others_leave steps m n d e r placed step other = record {
   where
     leaves : Leaves m e n
     leaves = steps.leaves m n e r step
+
+pub files_left : EachStepLeavesTheRest → (m n : State) (d : ℕ) (e : Event) (r : Reply) → AreFiles m → StepsTo m e r n → changes_files m e ≡ false
+    → ((q : ℕ) → admits_to e q ≡ false) → LeavesFiles m d n
+files_left steps m n d e r good step calm shut = record {
+  outcomes = same_outcome m n d e leaves good calm shut;
+  contents = λ f. content-same m n f (leaves.files calm).1;
+}
+  where
+    leaves : Leaves m e n
+    leaves = steps.leaves m n e r step
+
+-- ---- the pipe to which a worker writes: it alone has the write end
+
+module _ (steps : EachStepLeavesTheRest) (others : OthersLeavePipes) (m n : State) (d p fd : ℕ) (order : IsOrderly m) (opened : descriptor m d fd ≡ Some (on.WriteEnd p)) where
+  untouched : pipe_at n p ≡ pipe_at m p → GoesFromFront m p n
+  untouched same = record {
+    gone = [];
+    queue = sym (ap (λ (x : Pipe). x.queue) same);
+    writing = ap (λ (x : Pipe). x.writing) same ∙ order.all_stand d fd (on.WriteEnd p) opened;
+  }
+
+  not_its_own : (by : ℕ) → (by == d) ≡ false → HasNotEnd m by (on.WriteEnd p)
+  not_its_own by other f is =
+      let same : by ≡ d = (order.one by d f fd (on.WriteEnd p) refl is opened).0 in
+      grind (arith, nat_tests, other, same)
+
+  pub from_front : (e : Event) (r : Reply) → StepsTo m e r n → is_call_of e d ≡ false → GoesFromFront m p n
+  from_front (event.Call by c) r step other = others.written m n by c r p step (not_its_own by other) (order.all_stand d fd (on.WriteEnd p) opened)
+  from_front e r step other = untouched ((steps.leaves m n e r step).pipes p refl)

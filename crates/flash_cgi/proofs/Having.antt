@@ -19,7 +19,7 @@ use Rattle.iol_laws.specs.Order.{IsOrderly}
 use Rattle.iol_laws.specs.Reasons.{RefusalsTellWhy}
 use Rattle.flash_cgi.specs.Job.{Task}
 use Rattle.flash_cgi.specs.Working.{call_at, told, told_next, told_made, told_opened, told_written, told_read, told_cut, got, next_call, bytes_at}
-use Rattle.flash_cgi.specs.Having.{uses_fd, uses_agg, HasJust, WorkersKeepNothing}
+use Rattle.flash_cgi.specs.Having.{uses_fd, uses_agg, HasJust}
 use Rattle.flash_cgi.specs.declared.line.Line.{Line}
 use Rattle.flash_cgi.specs.declared.line.Line.TheVariants as line
 use Rattle.flash_cgi.specs.declared.doing.Purpose.{Purpose}
@@ -42,14 +42,14 @@ left_of : (a b : Bool) → (a || b) ≡ false → a ≡ false
 left_of true b e = e
 left_of false b e = refl
 
-both_false : (a b : Bool) → b ≡ false → (a && b) ≡ false
+pub both_false : (a b : Bool) → b ≡ false → (a && b) ≡ false
 both_false true b e = e
 both_false false b e = refl
 
 apart : (a b : ℕ) → (a == b) ≡ false → a ≢ b
 apart a b test same = grind (arith, nat_tests, test, same)
 
-same_number : (a b : ℕ) → (a == b) ≡ true → a ≡ b
+pub same_number : (a b : ℕ) → (a == b) ≡ true → a ≡ b
 same_number a b test = grind (arith, nat_tests, test)
 
 module _ (own : CallsServeTheirDomain) (why : RefusalsTellWhy) (come : AggregatesComeAndGo)
@@ -64,7 +64,7 @@ module _ (own : CallsServeTheirDomain) (why : RefusalsTellWhy) (come : Aggregate
   -- ---- aggregates
 
   -- one that is not there does not come by a reply that does not give it
-  absent : (k : Call) (r : Reply) (a : ℕ) → StepsTo m (event.Call d k) r n → brings (event.Call d k) r d a ≡ false → lent_at m d a ≡ None → lent_at n d a ≡ None
+  pub absent : (k : Call) (r : Reply) (a : ℕ) → StepsTo m (event.Call d k) r n → brings (event.Call d k) r d a ≡ false → lent_at m d a ≡ None → lent_at n d a ≡ None
   absent k r a step un is = come.none m n (event.Call d k) r d a step is un
 
   -- one that is dropped is gone
@@ -137,7 +137,7 @@ module _ (own : CallsServeTheirDomain) (why : RefusalsTellWhy) (come : Aggregate
 
   -- ---- phase by phase
 
-  drops : (x y : Doing) (a : ℕ) (r : Reply) → ((f : ℕ) → uses_fd job y f ≡ false → uses_fd job x f ≡ false) → ((b : ℕ) → (a == b) ≡ false → uses_agg y b ≡ false → uses_agg x b ≡ false)
+  pub drops : (x y : Doing) (a : ℕ) (r : Reply) → ((f : ℕ) → uses_fd job y f ≡ false → uses_fd job x f ≡ false) → ((b : ℕ) → (a == b) ≡ false → uses_agg y b ≡ false → uses_agg x b ≡ false)
       → Had x → StepsTo m (event.Call d (call.AggDrop a)) r n → HasJust n d fds aggs job y
   drops x y a r fewer_fds fewer_aggs h step = record {
     no_fd = λ f given un. free_drop m n d f a r step (h.no_fd f given (fewer_fds f un));
@@ -231,7 +231,9 @@ module _ (own : CallsServeTheirDomain) (why : RefusalsTellWhy) (come : Aggregate
   by_doing begun (doing.Shuts file a) r h step = closes (doing.Shuts file a) (doing.Writes a) file r (λ f differ un. either_false (job.fd == f) (file == f) un differ) (λ b un. un) h step
   by_doing begun (doing.ShutsToSay file s) r h step = closes (doing.ShutsToSay file s) (doing.Says s) file r (λ f differ un. either_false (job.fd == f) (file == f) un differ) (λ b un. refl) h step
 
-pub workers_keep_nothing : CallsServeTheirDomain → RefusalsTellWhy → AggregatesComeAndGo → WorkersKeepNothing
-workers_keep_nothing own why come m n d fds aggs job step next r order live h did is =
+pub call_keeps : CallsServeTheirDomain → RefusalsTellWhy → AggregatesComeAndGo → (m n : State) (d : ℕ) (fds aggs : ℕ → Bool) (job : Task) (step next : Step) (r : Reply) → IsOrderly m
+    → is_live m d ≡ true → HasJust m d fds aggs job step.doing → StepsTo m (event.Call d (call_at job step)) r n
+    → told job step (lent_at n d) r ≡ Some next → HasJust n d fds aggs job next.doing
+call_keeps own why come m n d fds aggs job step next r order live h did is =
     let kept = by_doing own why come m n d fds aggs job order live step.begun step.doing r h did in
     subst (λ (s : Option Step). HasTo own why come m n d fds aggs job order live s) is kept

@@ -14,6 +14,7 @@ use Rattle.iol_core.specs.declared.descriptors.Mode.TheVariants.{Read}
 use Rattle.iol_core.specs.declared.refusals.Refusal.TheVariants as not_so
 use Rattle.iol_core.specs.declared.events.Call.{Call}
 use Rattle.iol_core.specs.declared.events.Call.TheVariants as call
+use Rattle.iol_core.specs.declared.events.Event.{Event}
 use Rattle.iol_core.specs.declared.events.Event.TheVariants as event
 use Rattle.iol_core.specs.declared.events.Reply.{Reply}
 use Rattle.iol_core.specs.declared.events.Reply.TheVariants as reply
@@ -36,36 +37,36 @@ use Rattle.flash_cgi.specs.declared.doing.Doing.TheVariants as doing
 use Rattle.flash_cgi.specs.declared.doing.Step.{Step}
 use Rattle.flash_cgi.proofs.Feeding.{rest-cons, rest-nil, at_step, file-same}
 
-content-same : (m n : State) (k : ℕ) → n.slots ≡ m.slots → content n k ≡ content m k
+pub content-same : (m n : State) (k : ℕ) → n.slots ≡ m.slots → content n k ≡ content m k
 unfolding content
 content-same m n k e = ap (λ (ss : List (List ℕ)). numbered_or ss k []) e
 
+-- a step that changes no file leaves all outcomes
+pub same_outcome : (m n : State) (d : ℕ) (e : Event) → Leaves m e n → AreFiles m → changes_files m e ≡ false → ((q : ℕ) → admits_to e q ≡ false) → (name : List ℕ) → outcome_in n d name ≡ outcome_in m d name
+same_outcome m n d e leaves good calm shut name = ap (λ (o : Option ℕ). outcome_of n d o) (ap (λ (fs : List File). file_called (record m { files = fs }) name) (leaves.files calm).0) ∙ by (file_called m name) refl
+  where
+    by : (o : Option ℕ) → file_called m name ≡ o → outcome_of n d o ≡ outcome_of m d o
+    by None is = refl
+    by (Some f) is =
+        let same_file : file n f ≡ file m f = file-same m n f (leaves.files calm).0 in
+        let lists = leaves.listed (file m f).pool (good.pooled name f is) (shut (file m f).pool) in
+        ap (λ (x : File). if may_read n d x.pool then Found (content n f) else Failed (not_so.Denied x.pool)) same_file
+        ∙ (ap (λ (ds : List ℕ). if list_any (λ e. e == d) ds then Found (content n f) else Failed (not_so.Denied (file m f).pool)) lists
+        ∙ ap (λ (l : List ℕ). if may_read m d (file m f).pool then Found l else Failed (not_so.Denied (file m f).pool)) (content-same m n f (leaves.files calm).1))
+
+pub same_outcomes : (m n : State) (d : ℕ) → ((name : List ℕ) → outcome_in n d name ≡ outcome_in m d name) → (lines : List Line) → outcomes_in m d lines ≡ outcomes_in n d lines
+same_outcomes m n d same [] = refl
+same_outcomes m n d same (line.Emit text ∷ lines) = same_outcomes m n d same lines
+same_outcomes m n d same (line.Query ∷ lines) = same_outcomes m n d same lines
+same_outcomes m n d same (line.Pause ∷ lines) = same_outcomes m n d same lines
+same_outcomes m n d same (line.Cat name ∷ lines) = ap (λ (o : Outcome). o ∷ outcomes_in m d lines) (sym (same name)) ∙ ap (λ (os : List Outcome). outcome_in n d name ∷ os) (same_outcomes m n d same lines)
+same_outcomes m n d same (line.Wc name ∷ lines) = ap (λ (o : Outcome). o ∷ outcomes_in m d lines) (sym (same name)) ∙ ap (λ (os : List Outcome). outcome_in n d name ∷ os) (same_outcomes m n d same lines)
+
+-- a phase that settles nothing and begins no line
+pub plain : EachStepLeavesTheRest → (m n : State) (d : ℕ) (job : Task) (c : Call) (r : Reply) → StepsTo m (event.Call d c) r n → AreFiles m → changes_files m (event.Call d c) ≡ false → ((q : ℕ) → admits_to (event.Call d c) q ≡ false) → (begun : ℕ) → outcomes_in m d (drop begun job.lines) ≡ outcomes_in n d (drop begun job.lines)
+plain steps m n d job c r step good calm shut begun = same_outcomes m n d (same_outcome m n d (event.Call d c) (steps.leaves m n (event.Call d c) r step) good calm shut) (drop begun job.lines)
+
 module _ (steps : EachStepLeavesTheRest) (files : FileCallsServeTheirDomain) where
-  -- a call that changes no file leaves all outcomes
-  same_outcome : (m n : State) (d : ℕ) (c : Call) → Leaves m (event.Call d c) n → AreFiles m → changes_files m (event.Call d c) ≡ false → ((q : ℕ) → admits_to (event.Call d c) q ≡ false) → (name : List ℕ) → outcome_in n d name ≡ outcome_in m d name
-  same_outcome m n d c leaves good calm shut name = ap (λ (o : Option ℕ). outcome_of n d o) (ap (λ (fs : List File). file_called (record m { files = fs }) name) (leaves.files calm).0) ∙ by (file_called m name) refl
-    where
-      by : (o : Option ℕ) → file_called m name ≡ o → outcome_of n d o ≡ outcome_of m d o
-      by None is = refl
-      by (Some f) is =
-          let same_file : file n f ≡ file m f = file-same m n f (leaves.files calm).0 in
-          let lists = leaves.listed (file m f).pool (good.pooled name f is) (shut (file m f).pool) in
-          ap (λ (x : File). if may_read n d x.pool then Found (content n f) else Failed (not_so.Denied x.pool)) same_file
-          ∙ (ap (λ (ds : List ℕ). if list_any (λ e. e == d) ds then Found (content n f) else Failed (not_so.Denied (file m f).pool)) lists
-          ∙ ap (λ (l : List ℕ). if may_read m d (file m f).pool then Found l else Failed (not_so.Denied (file m f).pool)) (content-same m n f (leaves.files calm).1))
-
-  same_outcomes : (m n : State) (d : ℕ) → ((name : List ℕ) → outcome_in n d name ≡ outcome_in m d name) → (lines : List Line) → outcomes_in m d lines ≡ outcomes_in n d lines
-  same_outcomes m n d same [] = refl
-  same_outcomes m n d same (line.Emit text ∷ lines) = same_outcomes m n d same lines
-  same_outcomes m n d same (line.Query ∷ lines) = same_outcomes m n d same lines
-  same_outcomes m n d same (line.Pause ∷ lines) = same_outcomes m n d same lines
-  same_outcomes m n d same (line.Cat name ∷ lines) = ap (λ (o : Outcome). o ∷ outcomes_in m d lines) (sym (same name)) ∙ ap (λ (os : List Outcome). outcome_in n d name ∷ os) (same_outcomes m n d same lines)
-  same_outcomes m n d same (line.Wc name ∷ lines) = ap (λ (o : Outcome). o ∷ outcomes_in m d lines) (sym (same name)) ∙ ap (λ (os : List Outcome). outcome_in n d name ∷ os) (same_outcomes m n d same lines)
-
-  -- a phase that settles nothing and begins no line
-  plain : (m n : State) (d : ℕ) (job : Task) (c : Call) (r : Reply) → StepsTo m (event.Call d c) r n → AreFiles m → changes_files m (event.Call d c) ≡ false → ((q : ℕ) → admits_to (event.Call d c) q ≡ false) → (begun : ℕ) → outcomes_in m d (drop begun job.lines) ≡ outcomes_in n d (drop begun job.lines)
-  plain m n d job c r step good calm shut begun = same_outcomes m n d (same_outcome m n d c (steps.leaves m n (event.Call d c) r step) good calm shut) (drop begun job.lines)
-
   abbrev TrulyTo : State → ℕ → Task → Step → Reply → State → Option Step → Type 0
   TrulyTo m d job step r n None = Unit {0}
   TrulyTo m d job step r n (Some next) = SettlesTruly m d job step r n next
@@ -148,18 +149,18 @@ module _ (steps : EachStepLeavesTheRest) (files : FileCallsServeTheirDomain) whe
       → StepsTo m (event.Call d (next_call job l)) r n → is_rough r ≡ false → TrulyTo m d job (at_step doing.Runs begun) r n (told_next l begun r)
   begins m n d p job begun r unseen None good f is step smooth = record { same = ap (λ (ls : List Line). outcomes_in m d ls) (rest-nil job.lines begun is) ∙ sym (ap (λ (o : Option Line). settled_open o r ++ []) is); reads = tt }
   begins m n d p job begun r unseen (Some (line.Emit text)) good f is step smooth = made m n d job (at_step doing.Runs begun) (begun + 1) r
-      (line_named m d job begun (line.Emit text) (drop (begun + 1) job.lines) (rest-cons job.lines begun (line.Emit text) is) ∙ plain m n d job (next_call job (Some (line.Emit text))) r step good refl (λ q. refl) (begun + 1)) (ap (λ (o : Option Line). settled_open o r) is)
+      (line_named m d job begun (line.Emit text) (drop (begun + 1) job.lines) (rest-cons job.lines begun (line.Emit text) is) ∙ plain steps m n d job (next_call job (Some (line.Emit text))) r step good refl (λ q. refl) (begun + 1)) (ap (λ (o : Option Line). settled_open o r) is)
   begins m n d p job begun r unseen (Some line.Query) good f is step smooth = made m n d job (at_step doing.Runs begun) (begun + 1) r
-      (line_named m d job begun line.Query (drop (begun + 1) job.lines) (rest-cons job.lines begun line.Query is) ∙ plain m n d job (next_call job (Some line.Query)) r step good refl (λ q. refl) (begun + 1)) (ap (λ (o : Option Line). settled_open o r) is)
+      (line_named m d job begun line.Query (drop (begun + 1) job.lines) (rest-cons job.lines begun line.Query is) ∙ plain steps m n d job (next_call job (Some line.Query)) r step good refl (λ q. refl) (begun + 1)) (ap (λ (o : Option Line). settled_open o r) is)
   begins m n d p job begun r unseen (Some line.Pause) good f is step smooth = record {
-    same = line_named m d job begun line.Pause (drop (begun + 1) job.lines) (rest-cons job.lines begun line.Pause is) ∙ (plain m n d job (call.SetPool 3) r step good refl (λ q. refl) (begun + 1) ∙ sym (ap (λ (o : Option Line). settled_open o r ++ outcomes_in n d (drop (begun + 1) job.lines)) is));
+    same = line_named m d job begun line.Pause (drop (begun + 1) job.lines) (rest-cons job.lines begun line.Pause is) ∙ (plain steps m n d job (call.SetPool 3) r step good refl (λ q. refl) (begun + 1) ∙ sym (ap (λ (o : Option Line). settled_open o r ++ outcomes_in n d (drop (begun + 1) job.lines)) is));
     reads = tt;
   }
   begins m n d p job begun r unseen (Some (line.Cat name)) good f is step smooth = opens m n d job begun purpose.Cat name r
-      (line_named m d job begun (line.Cat name) (drop (begun + 1) job.lines) (rest-cons job.lines begun (line.Cat name) is)) (plain m n d job (call.OpenFile name Read) r step good refl (λ q. refl))
+      (line_named m d job begun (line.Cat name) (drop (begun + 1) job.lines) (rest-cons job.lines begun (line.Cat name) is)) (plain steps m n d job (call.OpenFile name Read) r step good refl (λ q. refl))
       (λ k. content-same m n k ((steps.leaves m n (event.Call d (call.OpenFile name Read)) r step).files refl).1) (ap (λ (o : Option Line). settled_open o r) is) (files.opens m n d name Read r f.live step) smooth
   begins m n d p job begun r unseen (Some (line.Wc name)) good f is step smooth = opens m n d job begun purpose.Wc name r
-      (line_named m d job begun (line.Wc name) (drop (begun + 1) job.lines) (rest-cons job.lines begun (line.Wc name) is)) (plain m n d job (call.OpenFile name Read) r step good refl (λ q. refl))
+      (line_named m d job begun (line.Wc name) (drop (begun + 1) job.lines) (rest-cons job.lines begun (line.Wc name) is)) (plain steps m n d job (call.OpenFile name Read) r step good refl (λ q. refl))
       (λ k. content-same m n k ((steps.leaves m n (event.Call d (call.OpenFile name Read)) r step).files refl).1) (ap (λ (o : Option Line). settled_open o r) is) (files.opens m n d name Read r f.live step) smooth
 
   by_doing : (m n : State) (d p : ℕ) (job : Task) (begun : ℕ) (x : Doing) (r : Reply) (unseen : List Outcome → List ℕ) → IsOrderly m → ArePlaced m → AreFiles m → Feeds m d p job (at_step x begun) unseen → ReadsNamed m d job begun x
@@ -169,7 +170,7 @@ module _ (steps : EachStepLeavesTheRest) (files : FileCallsServeTheirDomain) whe
   by_doing m n d p job begun (doing.Breaks a) r unseen order placed good f g did smooth = absurd f.needs
   by_doing m n d p job begun doing.Runs r unseen order placed good f g did smooth = begins m n d p job begun r unseen (slice_get job.lines begun) good f refl did smooth
   by_doing m n d p job begun (doing.Reads fd u) r unseen order placed good f g did smooth =
-      reads m n d job begun fd u r g (plain m n d job (call.IolRead fd 16777216) r did good refl (λ q. refl)) (good.lengths g.number (placed.each d fd g.number 0 Read g.open_on).0)
+      reads m n d job begun fd u r g (plain steps m n d job (call.IolRead fd 16777216) r did good refl (λ q. refl)) (good.lengths g.number (placed.each d fd g.number 0 Read g.open_on).0)
       (files.reads_file m n d fd g.number 0 16777216 Read r order f.live may refl g.open_on did) smooth
     where
       number : f.needs.number ≡ g.number
@@ -177,14 +178,14 @@ module _ (steps : EachStepLeavesTheRest) (files : FileCallsServeTheirDomain) whe
 
       may : may_read m d (file m g.number).pool ≡ true
       may = subst (λ k. may_read m d (file m k).pool ≡ true) number f.needs.may
-  by_doing m n d p job begun (doing.Counted fd a t) r unseen order placed good f g did smooth = record { same = plain m n d job (call.AggDrop a) r did good refl (λ q. refl) begun; reads = tt }
-  by_doing m n d p job begun (doing.Shuts fd a) r unseen order placed good f g did smooth = record { same = plain m n d job (call.Close fd) r did good refl (λ q. refl) begun; reads = tt }
-  by_doing m n d p job begun (doing.ShutsToSay fd t) r unseen order placed good f g did smooth = record { same = plain m n d job (call.Close fd) r did good refl (λ q. refl) begun; reads = tt }
-  by_doing m n d p job begun (doing.Says t) r unseen order placed good f g did smooth = made m n d job (at_step (doing.Says t) begun) begun r (plain m n d job (call_at job (at_step (doing.Says t) begun)) r did good refl (λ q. refl) begun) refl
-  by_doing m n d p job begun (doing.Writes a) r unseen order placed good f g did smooth = written m n d job begun a r (plain m n d job (call.IolWrite job.fd a) r did good (ap (λ (x : Option Descriptor). is_file x) f.open_on) (λ q. refl) begun)
-  by_doing m n d p job begun (doing.Cuts a from to) r unseen order placed good f g did smooth = cut m n d job begun a from to r (plain m n d job (call.AggCut a from to) r did good refl (λ q. refl) begun)
-  by_doing m n d p job begun (doing.Swaps a b) r unseen order placed good f g did smooth = record { same = plain m n d job (call.AggDrop a) r did good refl (λ q. refl) begun; reads = tt }
-  by_doing m n d p job begun (doing.Drops a) r unseen order placed good f g did smooth = record { same = plain m n d job (call.AggDrop a) r did good refl (λ q. refl) begun; reads = tt }
+  by_doing m n d p job begun (doing.Counted fd a t) r unseen order placed good f g did smooth = record { same = plain steps m n d job (call.AggDrop a) r did good refl (λ q. refl) begun; reads = tt }
+  by_doing m n d p job begun (doing.Shuts fd a) r unseen order placed good f g did smooth = record { same = plain steps m n d job (call.Close fd) r did good refl (λ q. refl) begun; reads = tt }
+  by_doing m n d p job begun (doing.ShutsToSay fd t) r unseen order placed good f g did smooth = record { same = plain steps m n d job (call.Close fd) r did good refl (λ q. refl) begun; reads = tt }
+  by_doing m n d p job begun (doing.Says t) r unseen order placed good f g did smooth = made m n d job (at_step (doing.Says t) begun) begun r (plain steps m n d job (call_at job (at_step (doing.Says t) begun)) r did good refl (λ q. refl) begun) refl
+  by_doing m n d p job begun (doing.Writes a) r unseen order placed good f g did smooth = written m n d job begun a r (plain steps m n d job (call.IolWrite job.fd a) r did good (ap (λ (x : Option Descriptor). is_file x) f.open_on) (λ q. refl) begun)
+  by_doing m n d p job begun (doing.Cuts a from to) r unseen order placed good f g did smooth = cut m n d job begun a from to r (plain steps m n d job (call.AggCut a from to) r did good refl (λ q. refl) begun)
+  by_doing m n d p job begun (doing.Swaps a b) r unseen order placed good f g did smooth = record { same = plain steps m n d job (call.AggDrop a) r did good refl (λ q. refl) begun; reads = tt }
+  by_doing m n d p job begun (doing.Drops a) r unseen order placed good f g did smooth = record { same = plain steps m n d job (call.AggDrop a) r did good refl (λ q. refl) begun; reads = tt }
 
   pub outcomes_are_true : OutcomesAreTrue
   outcomes_are_true m n d p job step next r unseen order placed good f g did smooth is = subst (λ (o : Option Step). TrulyTo m d job step r n o) is (by_doing m n d p job step.begun step.doing r unseen order placed good f g did smooth)

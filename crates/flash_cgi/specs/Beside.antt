@@ -1,6 +1,7 @@
 -- What others do beside a worker: calls of other domains, and what happens outside.
 use Rattle.std.specs.Prelude.{◌≡◌, ℕ, ◌==◌, Bool, true, false, List, ◌++◌, Some}
-use Rattle.iol_core.specs.State.{State, descriptor, pipe_at, file, may_read, is_live}
+use Rattle.iol_core.specs.Text.{bytes_of}
+use Rattle.iol_core.specs.State.{State, content, descriptor, pipe_at, file, may_read, is_live}
 use Rattle.iol_core.specs.Run.{StepsTo}
 use Rattle.iol_core.specs.Positions.{ArePlaced}
 use Rattle.iol_core.specs.declared.descriptors.Descriptor.{Descriptor}
@@ -10,9 +11,13 @@ use Rattle.iol_core.specs.declared.events.Event.{Event}
 use Rattle.iol_core.specs.declared.events.Event.TheVariants as event
 use Rattle.iol_core.specs.declared.events.Reply.{Reply}
 use Rattle.iol_laws.specs.Caller.{lent_at, TakesFromPipe}
+use Rattle.iol_laws.specs.Frame.{changes_files, admits_to}
+use Rattle.iol_laws.specs.Order.{IsOrderly}
+use Rattle.iol_laws.specs.Others.{GoesFromFront}
 use Rattle.iol_proc.specs.declared.seat.Seat.{Seat}
 use Rattle.flash_cgi.specs.Output.{Outcome}
-use Rattle.flash_cgi.specs.Turns.{RunsJob}
+use Rattle.flash_cgi.specs.Outcomes.{AreFiles, outcome_in}
+use Rattle.flash_cgi.specs.Turns.{IsFree, RunsJob, outcomes_to_come, ReadsItsFile}
 use Rattle.flash_cgi.specs.declared.worker.Worker.{Worker}
 
 -- whether the event is a call of this domain
@@ -29,22 +34,36 @@ pub record LeavesWorker (m : State) (d : ℕ) (n : State) : Type 0 where
   pub may : (fd number place : ℕ) (mode : Mode) → descriptor m d fd ≡ Some (on.File number place mode)
       → may_read m d (file m number).pool ≡ true → may_read n d (file n number).pool ≡ true
 
--- and so does what waits in its job pipe
-pub record LeavesJobs (m : State) (d : ℕ) (n : State) : Type 0 where
-  pub same : (j : ℕ) → descriptor m d 0 ≡ Some (on.ReadEnd j) → pipe_at n j ≡ pipe_at m j
+-- so do the outcomes of files for it, and the bytes of each file
+pub record LeavesFiles (m : State) (d : ℕ) (n : State) : Type 0 where
+  pub outcomes : (name : List ℕ) → outcome_in n d name ≡ outcome_in m d name
+  pub contents : (f : ℕ) → content n f ≡ content m f
 
--- what is heard stood in front of what is unseen then
-pub record Hears (n : State) (p : ℕ) (seat : Seat Worker) (unseen : List Outcome → List ℕ) (heard : List ℕ) : Type 0 where
+-- and what waits in its job pipe, as long as it has not read it
+pub record LeavesJobs (m : State) (seat : Seat Worker) (n : State) : Type 0 where
+  pub same : (j : ℕ) → IsFree m seat → descriptor m seat.by 0 ≡ Some (on.ReadEnd j) → pipe_at n j ≡ pipe_at m j
+
+-- What went from the pipe of its output stood in front of what is unseen then. Where files are left, so are the outcomes to come.
+pub record Hears (m n : State) (p : ℕ) (seat : Seat Worker) (unseen : List Outcome → List ℕ) (was : RunsJob m p seat unseen) (heard : List ℕ) : Type 0 where
   pub after : List Outcome → List ℕ
   pub splits : (os : List Outcome) → unseen os ≡ heard ++ after os
   pub runs : RunsJob n p seat after
+  pub outcomes : LeavesFiles m seat.by n → outcomes_to_come n p seat after runs ≡ outcomes_to_come m p seat unseen was
+  pub reads : LeavesFiles m seat.by n → ReadsItsFile m p seat unseen was → ReadsItsFile n p seat after runs
 
--- Others leave a worker with its job, but for what they take from the pipe that its output goes to.
+-- Others leave a worker with its job, but for what goes from the front of the pipe that its output goes to.
 pub record OthersHear : Type 0 where
   pub leave : (m n : State) (d : ℕ) (e : Event) (r : Reply) → ArePlaced m → StepsTo m e r n → is_call_of e d ≡ false
       → LeavesWorker m d n
-  pub untouched : (m n : State) (p : ℕ) (seat : Seat Worker) (unseen : List Outcome → List ℕ) → LeavesWorker m seat.by n
-      → LeavesJobs m seat.by n → RunsJob m p seat unseen → pipe_at n p ≡ pipe_at m p → RunsJob n p seat unseen
-  pub heard : (m n : State) (p by count a : ℕ) (seat : Seat Worker) (unseen : List Outcome → List ℕ) (bytes : List ℕ)
-      → LeavesWorker m seat.by n → LeavesJobs m seat.by n → RunsJob m p seat unseen → TakesFromPipe m by p count a n
-      → lent_at n by a ≡ Some bytes → Hears n p seat unseen bytes
+  -- a step that may change no file, and that admits nobody to a pool, leaves the files
+  pub files : (m n : State) (d : ℕ) (e : Event) (r : Reply) → AreFiles m → StepsTo m e r n → changes_files m e ≡ false
+      → ((q : ℕ) → admits_to e q ≡ false) → LeavesFiles m d n
+  -- a pipe to which a worker writes loses bytes from its front alone
+  pub front : (m n : State) (d p fd : ℕ) (e : Event) (r : Reply) → IsOrderly m → StepsTo m e r n → is_call_of e d ≡ false
+      → descriptor m d fd ≡ Some (on.WriteEnd p) → GoesFromFront m p n
+  pub gone : (m n : State) (p : ℕ) (seat : Seat Worker) (unseen : List Outcome → List ℕ) → LeavesWorker m seat.by n
+      → LeavesJobs m seat n → (was : RunsJob m p seat unseen) → (goes : GoesFromFront m p n)
+      → Hears m n p seat unseen was (bytes_of goes.gone)
+  -- and what a read of it gives is what went
+  pub heard : (m n : State) (p by count a : ℕ) (bytes : List ℕ) → TakesFromPipe m by p count a n → lent_at n by a ≡ Some bytes
+      → (goes : GoesFromFront m p n) → bytes_of goes.gone ≡ bytes

@@ -1,4 +1,5 @@
 pub mod Beside
+pub mod Due
 pub mod Ending
 pub mod Feeds
 pub mod Having

@@ -1,5 +1,6 @@
 //! Laws of scripts and workers. The functions do nothing; their contracts are the laws.
 ghost use Rattle.flash_cgi.specs.Beside.{OthersHear};
+ghost use Rattle.flash_cgi.specs.Due.{ScriptsPutOut};
 ghost use Rattle.flash_cgi.specs.Ending.{WorkersStop};
 ghost use Rattle.flash_cgi.specs.Feeds.{FeedsOn};
 ghost use Rattle.flash_cgi.specs.Having.{WorkersKeepNothing};
@@ -35,21 +36,25 @@ pub fn workers_feed_pipes()
     laws::refusals_tell_why();
 }
 
-/// So does each turn of a worker, from the moment at which its job waits.
+/// So does each turn of a worker, from the moment at which its job waits until it is free for the next one. Where a turn is not
+/// rough, the outcomes that it settles are those that the files have.
 pub fn turns_feed()
     ensures { TurnsFeed }
 {
     workers_feed_pipes();
     jobs_are_taken();
+    outcomes_are_true();
     laws::calls_serve_their_domain();
+    laws::each_step_leaves_the_rest();
 }
 
-/// Others leave a worker with its job, but for what they take from its pipe: what is heard stood in
-/// front of what is unseen then.
+/// Others leave a worker with its job, but for what goes from the front of the pipe to which it
+/// writes: that stood in front of what is unseen then, and is what a read of the pipe gives.
 pub fn others_hear()
     ensures { OthersHear }
 {
     laws::each_step_leaves_the_rest();
+    laws::others_leave_pipes();
 }
 
 /// The outcomes that a worker's calls settle are those of the files that its lines name.
@@ -58,6 +63,16 @@ pub fn outcomes_are_true()
 {
     laws::each_step_leaves_the_rest();
     laws::file_calls_serve_their_domain();
+}
+
+/// With the files as they are a script puts out one text: the output of its lines, in order, from its
+/// job to its end. Each turn of its worker that is not rough leaves it due, and what others take is
+/// its front.
+pub fn scripts_put_out()
+    ensures { ScriptsPutOut }
+{
+    turns_feed();
+    others_hear();
 }
 
 /// A worker that waits for a job where all is idle: nothing is in its job pipe, and something may
@@ -75,8 +90,8 @@ pub fn workers_stop()
     laws::calls_serve_their_domain();
 }
 
-/// A worker has what it uses for the call that it is at, and nothing else: so one that ended its
-/// script, and waits for a job, has nothing of its own but its job pipe.
+/// A worker has what it uses for the call that it is at, and nothing else, call by call and turn by
+/// turn: so one that ended its script, and waits for a job, has nothing of its own but its job pipe.
 pub fn workers_keep_nothing()
     ensures { WorkersKeepNothing }
 {

@@ -1,0 +1,5 @@
+use Rattle.flash_cgi.proofs.Due.{scripts_put_out}
+use Rattle.flash_cgi.proofs.laws.scripts_put_out.Goals as goal
+
+pub returns : goal.returns
+returns c = scripts_put_out c.turns_feed.ensures c.others_hear.ensures
