@@ -1,0 +1,96 @@
+"""Runs of the program, each with another growth of its memory refused (`refuse.c`)."""
+import os
+import subprocess
+
+import tree
+from replaying import Wrong, is_fault
+
+REFUSED = b"growth refused\n"  # what the shim tells
+AHEAD = 32  # of a line that stands twice, reading takes so many growths more at most
+WAYS = ("ended", "refused", "spared")
+
+
+def build_shim(folder, name="refuse"):
+    """A library of scripts/ that is loaded into the program, built by the compiler of the kit."""
+    doc = subprocess.run(["rt", "doc"], capture_output=True, text=True, check=True).stdout.strip()
+    clang = f"{os.path.dirname(doc)}/toolchain/bin/clang"
+    flags = ["-shared", "-fPIC", "-O1", "-Wall", "-fuse-ld=lld", "-nostdlib"]
+    subprocess.run([clang, *flags, "-o", f"{folder}/{name}.so", f"{tree.ROOT}/scripts/{name}.c"], check=True)
+    return f"{folder}/{name}.so"
+
+
+def is_want(answer, expected):
+    """Whether an answer, in place of the expected one, says that memory was wanted."""
+    return answer != expected and (answer == [b"refused Memory"] or is_fault(answer))
+
+
+class Sweep:
+    """The runs of a script, each with another growth refused. A check may look at each, too."""
+
+    def __init__(self, name, script, shim, check=None):
+        self.name, self.script, self.shim, self.check = name, script, shim, check
+        self.output = script.output()
+        self.expected = script.answers(self.output)
+        self.rests = {}
+
+    def run(self, script, number):
+        ended = script.run({"LD_PRELOAD": self.shim, "REFUSE": str(number)})
+        if self.check and ended.returncode == 0:
+            self.check(script.lines, ended.stdout)
+        return ended
+
+    def rest(self, event):
+        """The answers to the script without an event."""
+        if event not in self.rests:
+            script = self.script.without(event)
+            self.rests[event] = script.answers(script.output())
+        return self.rests[event]
+
+    def made_again(self, event, number):
+        """Checks the script in which the event stands twice, and the first is refused."""
+        script = self.script.doubled(event)
+        for later in range(number, number + AHEAD):
+            ended = self.run(script, later)
+            if ended.returncode == 0:
+                answers = script.answers(ended.stdout)
+                if is_want(answers[event], self.expected[event]):
+                    if answers[:event] + answers[event + 1:] != self.expected:
+                        raise Wrong("made again, it is answered otherwise")
+                    return
+        raise Wrong("where it stands twice, the first is not refused")
+
+    def way(self, ended, number):
+        """How a run ended."""
+        told = ended.stderr.replace(REFUSED, b"", 1)
+        if ended.returncode == 3 and told == b"fault: memory\n":
+            if not self.output.startswith(ended.stdout):
+                raise Wrong("it ended, and printed what is no reply")
+            return "ended"
+        if ended.returncode != 0 or told:
+            raise Wrong(f"status {ended.returncode}, {told!r}")
+        answers = self.script.answers(ended.stdout)
+        if answers == self.expected:
+            return "spared"
+        wants = [event for event, answer in enumerate(answers) if is_want(answer, self.expected[event])]
+        if not wants:
+            raise Wrong("other replies, and none says that memory was wanted")
+        event = wants[0]
+        if answers[:event] + answers[event + 1:] != self.rest(event):
+            raise Wrong("other replies than without the refused event")
+        self.made_again(event, number)
+        return "refused"
+
+    def counts(self):
+        """Refuses one growth after another, until there is none to refuse: how often it ended in which way."""
+        counts = dict.fromkeys(WAYS, 0)
+        number = 0
+        while True:
+            try:
+                ended = self.run(self.script, number)
+                way = self.way(ended, number)
+            except Wrong as wrong:
+                raise Wrong(f"{self.name}, growth {number} refused: {wrong}") from wrong
+            if REFUSED not in ended.stderr:
+                return counts
+            counts[way] += 1
+            number += 1

@@ -1,0 +1,240 @@
+"""The machine of docs/RULES.md, written from its words: it copies at every call, shares no page, and has no cache.
+
+A call checks its refusals in their order, says what it is answered and which late refusals may come instead, and
+then, where it is answered, changes the state: what stands behind a `yield` is carried out only then. What RULES
+leaves to pages and to the cache is left open here: whether there is room, what is evicted, and so which call meets a
+fault.
+"""
+from model.room import Room
+from model.texts import Text
+
+MAX_DOMAINS, MAX_POOLS, MAX_LISTED, MAX_CHUNKS = 4096, 1024, 16, 256
+MAX_OPEN, MAX_AGGREGATES, MAX_PIPES, MAX_FILES, MAX_CONNECTIONS = 1024, 65_536, 1024, 1024, 1024
+MAX_BYTES = 2**24  # of an aggregate, and of a file
+MAX_QUEUE_BYTES = 65_536
+NEVER = frozenset()
+MEMORY = frozenset({"Memory"})
+
+
+class Refused(Exception):
+    """A refusal, and the late ones that may come in its place."""
+
+    def __init__(self, refusal, late=NEVER):
+        super().__init__(refusal)
+        self.refusal = refusal
+        self.late = late
+
+
+def need(holds, refusal):
+    if not holds:
+        raise Refused(refusal)
+
+
+def lowest(taken, start=0):
+    while start in taken:
+        start += 1
+    return start
+
+
+class Pool:
+    def __init__(self, number, chunks, names):
+        self.number, self.chunks, self.names = number, chunks, names
+        self.is_closed = self.is_returned = False
+
+    def need_open(self):
+        need(not self.is_closed, f"PoolClosed pool {self.number}")
+
+    def need_named(self, domain):
+        need(domain in self.names, f"Denied pool {self.number}")
+
+
+class File:
+    def __init__(self, number, name, pool, data):
+        self.number, self.name, self.pool, self.data = number, name, pool, data
+
+
+class OpenFile:
+    def __init__(self, file, mode):
+        self.file, self.at = file, 0
+        self.reads, self.writes = mode != "write", mode != "read"
+
+
+class Pipe:
+    def __init__(self):
+        self.queue, self.is_read, self.is_written = Text(), True, True
+
+
+class ReadEnd:
+    reads, writes = True, False
+
+    def __init__(self, pipe):
+        self.pipe = pipe
+
+    unread = property(lambda self: self.pipe.queue)
+    may_grow = property(lambda self: self.pipe.is_written)
+
+    def take(self, count):
+        self.pipe.queue = self.pipe.queue.part(count)
+
+
+class WriteEnd:
+    reads, writes = False, True
+
+    def __init__(self, pipe):
+        self.pipe = pipe
+
+    unsent = property(lambda self: self.pipe.queue)
+    is_broken = property(lambda self: not self.pipe.is_read)
+
+    def put(self, text):
+        self.pipe.queue += text
+
+
+class Connection:
+    reads = writes = True
+
+    def __init__(self, number, pool):
+        self.number, self.pool, self.peer = number, pool, None
+        self.unread, self.unsent = Text(), Text()
+        self.is_accepted = self.is_closed = False
+
+    may_grow = property(lambda self: self.peer is None)
+    is_broken = property(lambda self: self.peer == "gone")
+
+    def take(self, count):
+        self.unread = self.unread.part(count)
+
+    def put(self, text):
+        self.unsent += text
+
+    def is_over(self):
+        is_left = self.is_closed or not self.is_accepted and self.peer == "gone"
+        return is_left and not self.unsent
+
+
+class Domain:
+    def __init__(self, number):
+        self.number, self.aggs, self.next_agg, self.fds, self.default = number, {}, 1, {}, None
+
+    def agg(self, number):
+        need(number in self.aggs, "BadAgg")
+        return self.aggs[number]
+
+    def fd(self, number):
+        need(number in self.fds, "BadFd")
+        return self.fds[number]
+
+    def file(self, number):
+        need(isinstance(self.fd(number), OpenFile), "WrongMode")
+        return self.fds[number]
+
+    def default_pool(self):
+        need(self.default is not None, "NoPool")
+        return self.default
+
+    def add(self, text):
+        self.aggs[self.next_agg] = text
+        self.next_agg += 1
+
+    def need_open(self, more):
+        need(len(self.fds) + more <= MAX_OPEN, "TooMany")
+
+
+class State:
+    """What the machine keeps, and how its parts are found."""
+
+    def __init__(self, chunks, gen_limit, slots, store_may_fail):
+        self.chunks, self.slots, self.store_may_fail = chunks, slots, store_may_fail
+        self.domains, self.domains_made = {1: Domain(1)}, 1
+        self.pools, self.files, self.names = {}, {}, {}
+        self.conns, self.conns_made, self.pipes, self.aggs = {}, 0, 0, 0
+        self.room = Room(gen_limit)
+        self.may_be_dirty, self.may_be_cached = set(), False
+        self.wanted = None  # room: the pool, and for how many bytes
+
+    def domain(self, number):
+        need(number in self.domains, "NoDomain")
+        return self.domains[number]
+
+    def pool(self, number):
+        need(number in self.pools, "NoPool")
+        return self.pools[number]
+
+    def conn(self, number):
+        need(number in self.conns, "BadFd")
+        return self.conns[number]
+
+    def need_aggs(self, made, given=0):
+        need(self.aggs + made - given <= MAX_AGGREGATES, "TooMany")
+
+    def may_read(self, domain, page):
+        return domain in self.pools[self.room.pools[page]].names
+
+    def barred(self, domain, text):
+        """The pool of the first byte that the domain may not read, or nothing."""
+        return next((self.room.pools[page] for page, _ in text.runs if not self.may_read(domain, page)), None)
+
+    def admitted(self, domain, text):
+        """The longest beginning that the domain may read."""
+        end = 0
+        for page, count in text.runs:
+            if not self.may_read(domain, page):
+                break
+            end += count
+        return text.part(0, end)
+
+    def held(self):
+        """The pages on which the bytes of aggregates and queues lie."""
+        texts = [text for conn in self.conns.values() for text in (conn.unread, conn.unsent)]
+        for domain in self.domains.values():
+            texts += domain.aggs.values()
+            texts += (fd.pipe.queue for fd in domain.fds.values() if isinstance(fd, (ReadEnd, WriteEnd)))
+        return {page for text in texts for page, _ in text.runs}
+
+    def return_chunks(self):
+        """Closed pools in which nothing lies give their chunks back."""
+        closed = [pool for pool in self.pools.values() if pool.is_closed and not pool.is_returned]
+        if closed:
+            held = {self.room.pools[page] for page in self.held()}
+            for pool in closed:
+                pool.is_returned = pool.number not in held
+
+    def free_chunks(self):
+        self.return_chunks()
+        return self.chunks - sum(pool.chunks for pool in self.pools.values() if not pool.is_returned)
+
+    def want(self, pool, count):
+        """The late refusals of a call that places so many bytes: of how many is not known of files' (`None`)."""
+        self.wanted = pool, count
+        return MEMORY if count == 0 else MEMORY | {f"NoRoom pool {pool.number}"}
+
+    def check_no_room(self):
+        """What was wanted last was refused for want of room."""
+        pool, count = self.wanted
+        if count is not None:
+            self.room.check_refused(pool, count, self)
+
+    def place(self, pool, data):
+        self.room.check_taken(pool, len(data), self)
+        return self.room.place(pool.number, data)
+
+    def faults(self, files):
+        """The faults that a call on the store may meet at one of these files."""
+        return frozenset(f"Fault file {number}" for number in files) if self.store_may_fail else NEVER
+
+    def forget(self, conn):
+        if conn.is_over():
+            self.conns.pop(conn.number, None)
+
+    def leave(self, open_on):
+        """What the closing of a descriptor does to what it is open on."""
+        match open_on:
+            case ReadEnd(pipe=pipe):
+                pipe.queue, pipe.is_read = Text(), False
+                self.pipes -= not pipe.is_written
+            case WriteEnd(pipe=pipe):
+                pipe.is_written = False
+                self.pipes -= not pipe.is_read
+            case Connection():
+                open_on.unread, open_on.is_closed = Text(), True
+                self.forget(open_on)

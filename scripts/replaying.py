@@ -1,0 +1,80 @@
+"""Scripts, and what `iolite replay` answers to them."""
+import os
+import subprocess
+
+import tree
+
+PROGRAM = f"{tree.ROOT}/crates/iolite/out/iolite"
+HEADERS = (b"config ", b"fault ", b"store ", b"storen ")
+SECONDS = 120
+
+
+class Wrong(Exception):
+    """A run that did not end as it must."""
+
+
+def build():
+    """Has the program proved and built, where that is still to be done."""
+    subprocess.run([f"{tree.ROOT}/scripts/iolite", "replay"], stdin=subprocess.DEVNULL, check=True)
+
+
+def is_answered(line):
+    return line != b"" and not line.startswith((b"#", *HEADERS))
+
+
+class Script:
+    """The lines of a script, where those stand that are answered, and whether reports' counts are compared."""
+
+    def __init__(self, lines, counts):
+        self.lines = lines
+        self.counts = counts
+        self.events = [at for at, line in enumerate(lines) if is_answered(line)]
+
+    def without(self, event):
+        at = self.events[event]
+        return Script(self.lines[:at] + self.lines[at + 1:], self.counts)
+
+    def doubled(self, event):
+        at = self.events[event]
+        return Script(self.lines[:at + 1] + self.lines[at:], self.counts)
+
+    def headed(self, line):
+        return Script([line, *self.lines], self.counts)
+
+    def run(self, extra=None):
+        given = b"\n".join(self.lines)
+        env = {**os.environ, **(extra or {})}
+        return subprocess.run([PROGRAM, "replay"], input=given, capture_output=True, env=env, timeout=SECONDS)
+
+    def output(self):
+        """What it prints with all memory."""
+        ended = self.run()
+        if ended.returncode != 0 or ended.stderr:
+            raise Wrong(f"status {ended.returncode} with all memory, {ended.stderr[-200:]!r}")
+        return ended.stdout
+
+    def answers(self, output):
+        """The lines that answer each event. Of a report whose counts are not compared, only that it stands there."""
+        *left, last = output.split(b"\n")
+        answers, begin = [], 0
+        for at in self.events:
+            end = begin
+            if self.lines[at] == b"report":
+                while end < len(left) and not left[end].startswith(b"extents "):
+                    end += 1
+            if last or end >= len(left):
+                raise Wrong("not a reply a line")
+            answers.append(left[begin:end + 1] if self.counts or self.lines[at] != b"report" else [b"report"])
+            begin = end + 1
+        if begin < len(left):
+            raise Wrong("more replies than lines")
+        return answers
+
+
+def read_script(path, counts):
+    with open(path, "rb") as it:
+        return Script(it.read().split(b"\n"), counts)
+
+
+def is_fault(answer):
+    return answer[0].startswith(b"refused Fault ")
