@@ -108,7 +108,7 @@ swaps-more : (b from len taken : ℕ) (more : Following) (a : ℕ) (t : Bool)
 swaps-more b from len taken more a true unused = unused
 swaps-more b from len taken more a false unused = unused
 
-leaves-told : (fd : ℕ) (kept : List ℕ) (q : Answer) (d : Doing) (r : Reply) (heard : List ℕ) (a : ℕ)
+pub leaves-told : (fd : ℕ) (kept : List ℕ) (q : Answer) (d : Doing) (r : Reply) (heard : List ℕ) (a : ℕ)
     → Leaves fd (at kept q d) r (told (at kept q d) r heard).doing a
 leaves-told fd kept q Rests r heard a u unused = absurd (cc (u))
 leaves-told fd kept q (Got b) reply.Done heard a u unused = (u, refl)
@@ -168,7 +168,7 @@ shuts own m n fd kept q d r heard g step u unused = absurd (cc (u))
 
 -- ---- what comes is used
 
-headed-first : (n size : ℕ) (more : Following) (a : ℕ) → (n == a) ≡ true → uses_agg (headed n size more) a ≡ true
+pub headed-first : (n size : ℕ) (more : Following) (a : ℕ) → (n == a) ≡ true → uses_agg (headed n size more) a ≡ true
 headed-first n size None a is = first_of (n == a) false is
 headed-first n size (Some x) a is = by (nat_le (size + x.1) MAX_AGGREGATE_BYTES)
   where

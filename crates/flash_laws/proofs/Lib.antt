@@ -25,3 +25,5 @@ pub mod RunParts
 pub mod RunSteps
 pub mod RunOffering
 pub mod ScriptExamples
+pub mod RunKeeping
+pub mod RunBrought

@@ -68,7 +68,7 @@ hears-more w (NotRun status) held b new back = absurd back
 
 -- the end was seen: only what is held is left
 pub hears-end : (b : Bool) (w : Wanted) (o : Progress) (held : List ℕ) → Goes b w o held → Ends b w (hears_on o []) held
-hears-end true w o held is = subst (λ (z : Progress). hears_on z [] ≡ Broken) (sym is) refl
+hears-end true w o held is = (subst (λ (z : Progress). hears_on z [] ≡ Broken) (sym is.0) refl, is.1)
 hears-end false w (Ran heard ended past) held back = (
   refl,
   (ap (λ (l : List ℕ). script_response w l) (sym (append-nil heard)) ∙ (back [] ∙ ap (λ (l : List ℕ). past ++ script_body w.chunked l) (append-nil held))),

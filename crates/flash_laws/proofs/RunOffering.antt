@@ -84,7 +84,7 @@ module _ (steps : EachStepLeavesTheRest) (own : CallsServeTheirDomain) (m n : St
           refl,
           (
             still-hired (call.AggDrop a) reply.Done step refl,
-            parts.hears-again steps own m n order w o run frame a (doing.Drops a None) Broken (broken run) step (λ f is. (or_parts (a == f) false is).0) refl refl h,
+            parts.hears-again steps own m n order w o run frame a (doing.Drops a None) Broken (broken run) step (λ f is. (or_parts (a == f) false is).0) refl (refl, refl) h,
           ),
         )
         by (reply.Refused y) did step = (o, refl, subst (λ (s : State). HasRun job s w o (Runs run (Sending (doing.Drops a None) frame))) (sym did) (hired, h))

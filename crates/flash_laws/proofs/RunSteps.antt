@@ -247,7 +247,7 @@ module _ (steps : EachStepLeavesTheRest) (own : CallsServeTheirDomain) (m n : St
             reads = h.reads;
             bytes = [];
             has = record { holds = refl; frames = h.has.frames; apart = refl };
-            goes = subst (λ c. Goes c w (hears_on o (b ∷ new)) []) (sym is_c) (subst (λ (z : Progress). hears_on z (b ∷ new) ≡ Broken) (sym goes) refl);
+            goes = subst (λ c. Goes c w (hears_on o (b ∷ new)) []) (sym is_c) (subst (λ (z : Progress). hears_on z (b ∷ new) ≡ Broken) (sym goes.0) refl, refl);
           },
         )
         by false false held holds off short is_c is_d goes =
@@ -282,11 +282,11 @@ module _ (steps : EachStepLeavesTheRest) (own : CallsServeTheirDomain) (m n : St
     -- the output may not be read: nothing more is sent
     barred : (held : Following) (frame : Option ℕ) → IsReading m run → (bytes : List ℕ) → HasOutput m w held frame bytes
         → HasStep job m w Broken (broken run) (unread held frame)
-    barred None frame reads bytes has = (reads, record { bytes = []; has = record { holds = refl; frames = has.frames; apart = refl }; ends = refl })
+    barred None frame reads bytes has = (reads, record { bytes = []; has = record { holds = refl; frames = has.frames; apart = refl }; ends = (refl, refl) })
     barred (Some x) frame reads bytes has = (
       ((bytes, has.holds.lends), has.apart),
       reads,
-      record { bytes = []; has = record { holds = refl; frames = has.frames; apart = refl }; ends = refl },
+      record { bytes = []; has = record { holds = refl; frames = has.frames; apart = refl }; ends = (refl, refl) },
     )
 
     pub hears : (held : Following) (frame : Option ℕ) (r : Reply) (heard : List ℕ) (o : Progress) → HasStep job m w o run (Hears held frame)
@@ -420,7 +420,7 @@ module _ (steps : EachStepLeavesTheRest) (own : CallsServeTheirDomain) (m n : St
         over (Ran heard ended past) left = subst (λ (l : List ℕ). IsLeft w (Ran heard ended past) l) (ap (λ c. script_body c bytes) plain ∙ none-held n held bytes holds plain) left
         over Broken left = absurd left
         over (NotRun status) left = absurd left
-    finishes true c held bytes o hired gone chunked holds ends = subst (λ (z : Progress). HasRun job n w z Closes) (sym (subst (λ b. Ends b w o bytes) gone ends)) tt
+    finishes true c held bytes o hired gone chunked holds ends = subst (λ (z : Progress). HasRun job n w z Closes) (sym (subst (λ b. Ends b w o bytes) gone ends).0) tt
 
     pub stops : (held : Following) (frame : Option ℕ) (r : Reply) (o : Progress) → HasStep job m w o run (Stops held frame)
         → StepsTo m (event.Call server (call.Close run.from)) r n → HasRun job n w o (told_stops w run held frame r)

@@ -19,3 +19,4 @@ pub mod Scripts
 pub mod Running
 pub mod RunFits
 pub mod RunOffers
+pub mod RunKeeping

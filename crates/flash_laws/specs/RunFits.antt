@@ -48,7 +48,8 @@ MayAnswer w (NotRun status) r = r ≡ error_text status w.head_only (not w.keep)
 -- All that was read is taken, but for what is held: whatever the script still puts out, the response is what was taken, and then
 -- the body of what is held and of that.
 abbrev pub HoldsBack : Wanted → Progress → (held : List ℕ) → Type 0
-HoldsBack w (Ran heard ended past) held = (more : List ℕ) → script_response w (heard ++ more) ≡ past ++ script_body w.chunked (held ++ more)
+HoldsBack w (Ran heard ended past) held =
+    (more : List ℕ) → script_response w (heard ++ more) ≡ past ++ script_body w.chunked (held ++ more)
 HoldsBack w o held = ⊥
 
 -- the same of these bytes of the response and then of what is held
@@ -62,11 +63,11 @@ IsLeft w (Ran heard ended past) rest = (ended ≡ true) × (script_response w he
 IsLeft w o rest = ⊥
 
 abbrev pub Goes : (broken : Bool) → Wanted → Progress → (held : List ℕ) → Type 0
-Goes true w o held = o ≡ Broken
+Goes true w o held = (o ≡ Broken) × (held ≡ [])
 Goes false w o held = HoldsBack w o held
 
 abbrev pub Ends : (broken : Bool) → Wanted → Progress → (held : List ℕ) → Type 0
-Ends true w o held = o ≡ Broken
+Ends true w o held = (o ≡ Broken) × (held ≡ [])
 Ends false w o held = IsLeft w o (script_body w.chunked held)
 
 -- ---- what the machine has

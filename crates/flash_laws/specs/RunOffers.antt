@@ -102,7 +102,8 @@ pub record RunOffersTheResponse (job : ℕ → List ℕ) : Type 0 where
       → HasRun job m w o (Runs run (Hears held frame)) → held_size held < CHUNK_BYTES
   -- what is read is the first bytes of the pipe that the server reads, as many as are wanting of a chunk or fewer, and their end
   -- is told only where nobody writes any more
-  pub hears : (m n : State) (w : Wanted) (o : Progress) (run : Run) (held : Option (ℕ × ℕ)) (frame : Option ℕ) (r : Reply) → IsOrderly m
+  pub hears : (m n : State) (w : Wanted) (o : Progress) (run : Run) (held : Option (ℕ × ℕ)) (frame : Option ℕ) (r : Reply)
+      → IsOrderly m
       → HasRun job m w o (Runs run (Hears held frame))
       → StepsTo m (event.Call server (call.IolRead run.from (CHUNK_BYTES - held_size held))) r n
       → (p : ℕ) × (descriptor m server run.from ≡ Some (on.ReadEnd p)) × ReadsPipe m server p (CHUNK_BYTES - held_size held) r n

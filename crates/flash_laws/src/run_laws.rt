@@ -1,4 +1,5 @@
-//! The law of a script's run. The function does nothing; its contract is the law.
+//! The laws of a script's run. The functions do nothing; their contracts are the laws.
+ghost use Rattle.flash_laws.specs.RunKeeping.{RunsKeepNothing};
 ghost use Rattle.flash_laws.specs.RunOffers.{RunsOfferTheResponse};
 
 use iol_laws::laws;
@@ -11,5 +12,15 @@ pub fn runs_law()
     ensures { RunsOfferTheResponse }
 {
     laws::each_step_leaves_the_rest();
+    laws::calls_serve_their_domain();
+}
+
+/// A run keeps nothing that it does not use: what a call brings is used by the run that it was made for, and what a run uses no more,
+/// aggregates and the ends of its pipe, is given up. It is said of each call of the server, calm or not; what others give the server is
+/// not spoken of.
+pub fn run_keeping_law()
+    ensures { RunsKeepNothing }
+{
+    laws::aggregates_come_and_go();
     laws::calls_serve_their_domain();
 }
