@@ -1,15 +1,14 @@
 //! What is to be sent, kept until it is flushed.
-ghost use Rattle.std.specs.Prelude.{◌≡◌, [], None, IfOk, take};
+ghost use Rattle.std.specs.Prelude.{◌≡◌, [], None, IfOk, OnOk, take};
 ghost use Rattle.std.specs.Io.{WritesAtMost};
-ghost use Rattle.std.specs.Io.KnownBytes.{Keeps, WriteAppends};
-ghost use Rattle.iol_listen.specs.Sending.{Holds};
+ghost use Rattle.std.specs.Io.KnownBytes.{Appends, Keeps, WriteAppends};
+ghost use Rattle.iol_listen.specs.Sending.{Takes};
 
 use crate::bounds::OUTBOX_BYTES;
 use std::alloc::{AllocError, Global};
 use std::cell::Cell;
 use std::io;
 use std::io::Write;
-use std::net::TcpStream;
 
 /// What both ends of a connection know of how far it has come.
 #[derive(Drop)]
@@ -33,44 +32,40 @@ impl Talk {
 /// A writer that sends what it holds when it is flushed, or full: so a head and the first bytes of its body are one send.
 /// What it holds when it is dropped is not sent: to a peer that takes nothing that would take as long once more.
 #[derive(Drop)]
-pub struct Outbox<'a> {
-    stream: &'a TcpStream,
+pub struct Outbox<'a, W> {
+    to: W,
     talk: &'a Talk,
     bytes: Vec<u8>,
 }
 
-impl<'a> Outbox<'a> {
-    pub fn new(
-        alloc: Global,
-        stream: &'a TcpStream,
-        talk: &'a Talk,
-    ) -> Result<Outbox<'a>, AllocError> {
+impl<'a, W: Write + Drop> Outbox<'a, W> {
+    pub fn new(alloc: Global, to: W, talk: &'a Talk) -> Result<Outbox<'a, W>, AllocError>
+        ensures holds { IfOk result (λ outbox. outbox.bytes.items ≡ []) }
+    {
         let bytes = Vec::with_capacity(alloc, OUTBOX_BYTES)?;
-        Ok(Outbox {
-            stream,
-            talk,
-            bytes,
-        })
+        Ok(Outbox { to, talk, bytes })
     }
 
-    // Sends what it holds. Where that fails the rest is lost.
+    // Sends what it holds, once. Where that fails the rest is lost.
     fn send(&mut self) -> io::Result<()>
-        ensures { self.new.bytes.items ≡ [] }
+        ensures sent { OnOk result
+            (Appends (W.contents self.old.to) (W.contents self.new.to) self.old.bytes.items) }
+        ensures empty { self.new.bytes.items ≡ [] }
     {
-        let mut stream = self.stream;
-        let sent = stream.write_all(&self.bytes);
+        let sent = self.to.write_all(&self.bytes);
         self.bytes.clear();
         sent
     }
 }
 
-impl<'a> Write for Outbox<'a> {
+impl<'a, W: Write + Drop> Write for Outbox<'a, W> {
     // What is taken is held behind what was held before, or alone once that was sent.
     fn write(&mut self, buf: &[u8]) -> io::Result<usize>
         ensures bound { WritesAtMost result buf.now }
         ensures bytes { WriteAppends None None result buf.now }
-        ensures holds { IfOk result
-            (λ n. Holds self.old.bytes.items self.new.bytes.items (take n buf.now)) }
+        ensures takes { IfOk result
+            (λ n. Takes (W.contents self.old.to) (W.contents self.new.to) self.old.bytes.items
+            self.new.bytes.items (take n buf.now)) }
     {
         let room = OUTBOX_BYTES.saturating_sub(self.bytes.len());
         if room < buf.len() {
@@ -83,6 +78,8 @@ impl<'a> Write for Outbox<'a> {
 
     fn flush(&mut self) -> io::Result<()>
         ensures bytes { Keeps None None }
+        ensures sent { OnOk result
+            (Appends (W.contents self.old.to) (W.contents self.new.to) self.old.bytes.items) }
         ensures empty { self.new.bytes.items ≡ [] }
     {
         if self.bytes.is_empty() {

@@ -1,7 +1,7 @@
 //! How long the connection that is served is waited for.
-ghost use Rattle.std.specs.Prelude.{◌≡◌, ◌↔◌, IfOk, IfSome, None, true};
+ghost use Rattle.std.specs.Prelude.{◌≡◌, ◌↔◌, IfOk, IfSome, IsNone, true};
 ghost use Rattle.std.specs.Io.{ReadsAtMost};
-ghost use Rattle.std.specs.Io.KnownBytes.{ReadConsumes};
+ghost use Rattle.std.specs.Io.KnownBytes.{Keeps, ReadConsumes};
 
 use crate::bounds::{BEGUN_LOOKS, LOOK_MILLIS, MAX_ANSWERS, MAX_LOOKS, SEND_MILLIS};
 use crate::outbox::Talk;
@@ -22,8 +22,8 @@ pub fn set_waits(stream: &TcpStream) -> io::Result<()> {
 /// something has begun, once that takes about a second; and after 100 answers at the next pause. Else it fails after four to five
 /// seconds of silence.
 #[derive(Drop)]
-pub struct Patient<'a, 'b> {
-    stream: &'a TcpStream,
+pub struct Patient<'a, 'b, R> {
+    from: R,
     talk: &'a Talk,
     others: &'a mut Queue<'b>,
 
@@ -32,14 +32,12 @@ pub struct Patient<'a, 'b> {
     is_over: bool,
 }
 
-impl<'a, 'b> Patient<'a, 'b> {
-    pub fn new(
-        stream: &'a TcpStream,
-        talk: &'a Talk,
-        others: &'a mut Queue<'b>,
-    ) -> Patient<'a, 'b> {
+impl<'a, 'b, R: Read + Drop> Patient<'a, 'b, R> {
+    pub fn new(from: R, talk: &'a Talk, others: &'a mut Queue<'b>) -> Patient<'a, 'b, R>
+        ensures { result.from ≡ from }
+    {
         Patient {
-            stream,
+            from,
             talk,
             others,
             spent: 0,
@@ -66,12 +64,15 @@ impl<'a, 'b> Patient<'a, 'b> {
     // One look: none where nothing came.
     fn look(&mut self, buf: &mut [u8]) -> Option<io::Result<usize>>
         ensures bound { IfSome result (λ came. ReadsAtMost came buf.new) }
+        ensures bytes { IfSome result (λ came.
+            ReadConsumes (R.remaining self.old.from) (R.remaining self.new.from) came buf.new) }
+        ensures nothing { IsNone result →
+            Keeps (R.remaining self.old.from) (R.remaining self.new.from) }
         ensures over { IfSome result
             (λ came. IfOk came (λ n. (n ≡ 0) ↔ (self.new.is_over ≡ true))) }
     {
         self.spent = self.spent.saturating_add(1);
-        let mut stream = self.stream;
-        match stream.read(buf) {
+        match self.from.read(buf) {
             Err(e) if e.kind() == ErrorKind::WouldBlock => None,
             Ok(n) => {
                 self.is_over = n == 0;
@@ -86,11 +87,14 @@ impl<'a, 'b> Patient<'a, 'b> {
     }
 }
 
-impl<'a, 'b> Read for Patient<'a, 'b> {
+impl<'a, 'b, R: Read + Drop> Read for Patient<'a, 'b, R> {
+    ghost remaining = { λ patient. R.remaining patient.from };
+
     // It is over just where the peer's end was read, or a read failed.
     fn read(&mut self, buf: &mut [u8]) -> io::Result<usize>
         ensures bound { ReadsAtMost result buf.new }
-        ensures bytes { ReadConsumes None None result buf.new }
+        ensures bytes { ReadConsumes (R.remaining self.old.from) (R.remaining self.new.from) result
+            buf.new }
         ensures over { IfOk result (λ n. (n ≡ 0) ↔ (self.new.is_over ≡ true)) }
     {
         if !self.talk.has_begun.get() {

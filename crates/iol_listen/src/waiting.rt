@@ -1,7 +1,7 @@
 //! Connections that were accepted and are served once they have asked.
-ghost use Rattle.std.specs.Prelude.{◌≡◌, ◌≤◌, ◌<◌, IfOk, IfSome, IsNone, true};
-ghost use Rattle.iol_listen.specs.Waiting.{to_come};
-ghost use Rattle.iol_listen.specs.declared.bounds.TheConstants.{MAX_WAITING};
+ghost use Rattle.std.specs.Prelude.{◌≡◌, ◌≤◌, ◌<◌, ◌+◌, ◌++◌, ◌∷◌, [], ◌-◌, IfOk, IfSome, IsNone, OnOk, OnErr, filter, length, nat_lt, true, vec_capacity};
+ghost use Rattle.iol_listen.specs.Waiting.{to_come, Joined, Gives, not_too_long};
+ghost use Rattle.iol_listen.specs.declared.bounds.TheConstants.{MAX_LOOKS, MAX_WAITING};
 
 use crate::bounds::{MAX_LOOKS, MAX_WAITING};
 use crate::patience::set_waits;
@@ -22,11 +22,11 @@ pub enum ServeFault {
     Memory,
 }
 
-/// A connection that has not asked yet, and for how many looks it has been silent.
+/// A connection that has not asked yet, and after which look it came.
 #[derive(Drop)]
 struct Waiting {
     stream: TcpStream,
-    looks: u32,
+    since: u64,
 }
 
 /// The connections to be served, one after another: the one that has waited longest of those that have asked.
@@ -37,20 +37,28 @@ pub struct Queue<'a> {
     // In the order in which they came.
     waiting: Vec<Waiting>,
 
+    // How many looks there were.
+    looks: u64,
+
     // How many may still be accepted.
     left: u32,
 }
 
 impl<'a> Model for Queue<'a> {
-    ghost use Rattle.std.specs.Prelude.{◌≤◌, length};
+    ghost use Rattle.std.specs.Prelude.{◌≤◌, length, map};
+    ghost use Rattle.std.specs.Vec.{vec_capacity};
     ghost use Rattle.iol_listen.specs.Waiting.{Awaited};
     ghost use Rattle.iol_listen.specs.declared.bounds.TheConstants.{MAX_WAITING};
 
     ghost Value = { Awaited };
 
-    ghost view = { λ q. record { waiting = length q.waiting.items; left = q.left } };
+    ghost view = { λ q. record {
+      waiting = map (λ w. w.since) q.waiting.items;
+      looks = q.looks;
+      left = q.left;
+    } };
 
-    ghost invariant = { λ q. length q.waiting.items ≤ MAX_WAITING };
+    ghost invariant = { λ q. (length q.waiting.items ≤ MAX_WAITING) × (MAX_WAITING ≤ vec_capacity q.waiting) };
 }
 
 impl<'a> Queue<'a> {
@@ -60,12 +68,13 @@ impl<'a> Queue<'a> {
         listener: &'a TcpListener,
         count: u32,
     ) -> Result<Queue<'a>, AllocError>
-        ensures waiting { IfOk result (λ q. q.waiting ≡ 0) }
+        ensures waiting { IfOk result (λ q. q.waiting ≡ []) }
         ensures left { IfOk result (λ q. q.left ≡ count) }
     {
         Ok(Queue {
             listener,
             waiting: Vec::with_capacity(alloc, MAX_WAITING)?,
+            looks: 0,
             left: count,
         })
     }
@@ -95,7 +104,7 @@ impl<'a> Queue<'a> {
 
     /// How many connections were accepted and wait.
     pub fn waiting(&self) -> usize
-        ensures waiting { result ≡ self.now.waiting }
+        ensures waiting { result ≡ length self.now.waiting }
         ensures few { result ≤ MAX_WAITING }
     {
         self.waiting.len()
@@ -103,16 +112,16 @@ impl<'a> Queue<'a> {
 
     /// Whether a connection has asked, or ended.
     pub fn is_asked(&mut self) -> bool
-        ensures most { to_come self.new ≤ to_come self.old }
-        ensures asked { result ≡ true → 0 < self.new.waiting }
+        ensures kept { Joined self.old self.new }
+        ensures asked { result ≡ true → 0 < length self.new.waiting }
     {
         self.first_asking().is_some()
     }
 
     // Where the first connection stands that has asked, if one has.
     fn first_asking(&mut self) -> Option<usize>
-        ensures most { to_come self.new ≤ to_come self.old }
-        ensures place { IfSome result (λ place. place < self.new.waiting) }
+        ensures kept { Joined self.old self.new }
+        ensures place { IfSome result (λ place. place < length self.new.waiting) }
     {
         self.accept_ready();
         self.waiting
@@ -122,6 +131,8 @@ impl<'a> Queue<'a> {
 
     // The first connection that has asked, if one has.
     fn take_asking(&mut self) -> Option<TcpStream>
+        ensures given { IfSome result (λ stream. Gives self.old self.new) }
+        ensures kept { IsNone result → Joined self.old self.new }
         ensures most { to_come self.new ≤ to_come self.old }
         ensures fewer { IfSome result (λ stream. to_come self.new < to_come self.old) }
     {
@@ -129,28 +140,36 @@ impl<'a> Queue<'a> {
         Some(self.waiting.remove(place).stream)
     }
 
-    // Waits a little for the first one to ask, and drops those that are silent too long.
-    fn look(&mut self)
-        ensures { to_come self.new ≤ to_come self.old }
-    {
+    // Waits a little for the first one to ask.
+    fn await_first(&self) {
         if let Some(first) = self.waiting.first() {
             let _heard = first.stream.peek(&mut [0u8]);
         }
-        self.waiting.retain_mut(|other| {
-            other.looks = other.looks.saturating_add(1);
-            other.looks < MAX_LOOKS
-        });
+    }
+
+    // Waits a little for the first one to ask, and drops those that are silent too long.
+    fn look(&mut self)
+        ensures looks { self.old.looks ≤ self.new.looks }
+        ensures waiting { self.new.waiting ≡ not_too_long self.new.looks self.old.waiting }
+        ensures left { self.new.left ≡ self.old.left }
+        ensures most { to_come self.new ≤ to_come self.old }
+    {
+        self.await_first();
+        self.looks = self.looks.saturating_add(1);
+        drop_silent(&mut self.waiting, self.looks);
     }
 
     // Waits for a connection. One that broke before it was accepted is no fault.
     fn accept(&mut self) -> Result<(), ServeFault>
-        requires room { self.old.waiting < MAX_WAITING }
+        requires room { length self.old.waiting < MAX_WAITING }
         requires left { 0 < self.old.left }
-        ensures { to_come self.new ≤ to_come self.old }
+        ensures kept { Joined self.old self.new }
+        ensures most { to_come self.new ≤ to_come self.old }
     {
         match self.listener.accept() {
             Ok((stream, _)) => {
-                self.keep(stream);
+                let waits = set_waits(&stream);
+                self.keep(stream, waits);
                 Ok(())
             }
             Err(e) if is_passing(&e) => Ok(()),
@@ -160,7 +179,7 @@ impl<'a> Queue<'a> {
 
     // Accepts the connections that are there, as long as there is room.
     fn accept_ready(&mut self)
-        ensures { to_come self.new ≤ to_come self.old }
+        ensures { Joined self.old self.new }
     {
         if self.left == 0 || self.listener.set_nonblocking(true).is_err() {
             return;
@@ -170,7 +189,10 @@ impl<'a> Queue<'a> {
                 break;
             }
             match self.listener.accept() {
-                Ok((stream, _)) => self.keep(stream),
+                Ok((stream, _)) => {
+                    let waits = set_waits(&stream);
+                    self.keep(stream, waits);
+                }
                 Err(_) => break,
             }
         }
@@ -178,17 +200,31 @@ impl<'a> Queue<'a> {
         let _ = self.listener.set_nonblocking(false);
     }
 
-    // Keeps a connection until it asks. One whose waits cannot be set, or for which there is no room, is dropped.
-    fn keep(&mut self, stream: TcpStream)
-        requires room { self.old.waiting < MAX_WAITING }
+    // Keeps a connection until it asks. One whose waits could not be set is dropped.
+    fn keep(&mut self, stream: TcpStream, waits: io::Result<()>)
+        requires room { length self.old.waiting < MAX_WAITING }
         requires left { 0 < self.old.left }
-        ensures { to_come self.new ≤ to_come self.old }
+        ensures kept { OnOk waits (self.new.waiting ≡ self.old.waiting ++ self.old.looks ∷ []) }
+        ensures dropped { OnErr waits (self.new.waiting ≡ self.old.waiting) }
+        ensures looks { self.new.looks ≡ self.old.looks }
+        ensures left { self.new.left + 1 ≡ self.old.left }
     {
         self.left -= 1;
-        if set_waits(&stream).is_ok() {
-            let _ = self.waiting.push(Waiting { stream, looks: 0 });
+        if waits.is_ok() {
+            let since = self.looks;
+            self.waiting.push_reserved(Waiting { stream, since });
         }
     }
+}
+
+// Drops those that have been silent too long.
+fn drop_silent(waiting: &mut Vec<Waiting>, looks: u64)
+    ensures items { waiting.new.items
+        ≡ filter (λ w. nat_lt (looks - w.since) MAX_LOOKS) waiting.old.items }
+    ensures bound { length waiting.new.items ≤ length waiting.old.items }
+    ensures capacity { vec_capacity waiting.new ≡ vec_capacity waiting.old }
+{
+    waiting.retain(|other| looks.saturating_sub(other.since) < u64::from(MAX_LOOKS));
 }
 
 // Whether a connection has something to read, has ended or fails, now.

@@ -1,6 +1,5 @@
-use Rattle.std.proofs.Common.{◌≤◌}
-use Rattle.iol_listen.specs.Waiting.{to_come}
+use Rattle.iol_listen.specs.Waiting.{Joined}
 use Rattle.iol_listen.proofs.waiting.Queue.accept_ready.Given as goal
 
 abbrev pub invariant-loop : goal.invariant-loop
-invariant-loop l = to_come l.self ≤ to_come l.fn.self
+invariant-loop l = Joined l.fn.self l.self
