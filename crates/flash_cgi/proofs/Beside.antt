@@ -162,7 +162,7 @@ waits_still lm ln job step (doing.Writes a) (reply.Count k) h = absurd (writes_o
     writes_on false len e = cc (e)
 waits_still lm ln job step x last h = h
 
-free_still : (m n : State) (seat : Seat Worker) → IsFree m seat → IsFree n seat
+pub free_still : (m n : State) (seat : Seat Worker) → IsFree m seat → IsFree n seat
 free_still m n seat h = record { not_over = h.not_over; waits = by seat.process.standing h.waits; not_given = h.not_given }
   where
     by : (s : Standing) → (filed_step s seat.process (lent_at m seat.by) seat.last).doing ≡ doing.Waits → (filed_step s seat.process (lent_at n seat.by) seat.last).doing ≡ doing.Waits

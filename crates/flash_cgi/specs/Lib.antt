@@ -2,6 +2,7 @@ pub mod Beside
 pub mod Due
 pub mod Ending
 pub mod Feeds
+pub mod Free
 pub mod Having
 pub mod Job
 pub mod Laws

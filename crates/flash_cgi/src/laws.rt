@@ -3,6 +3,7 @@ ghost use Rattle.flash_cgi.specs.Beside.{OthersHear};
 ghost use Rattle.flash_cgi.specs.Due.{ScriptsPutOut};
 ghost use Rattle.flash_cgi.specs.Ending.{WorkersStop};
 ghost use Rattle.flash_cgi.specs.Feeds.{FeedsOn};
+ghost use Rattle.flash_cgi.specs.Free.{WorkersStayFree};
 ghost use Rattle.flash_cgi.specs.Having.{WorkersKeepNothing};
 ghost use Rattle.flash_cgi.specs.Laws.{JobsAreRead};
 ghost use Rattle.flash_cgi.specs.Outcomes.{OutcomesAreTrue};
@@ -81,6 +82,14 @@ pub fn waiting_is_empty()
     ensures { WaitingIsEmpty }
 {
     laws::refusals_tell_why();
+}
+
+/// A worker without a job stays free, as a new one is, whatever others do: until one comes, or its job
+/// pipe ends. After what is no job it is free again.
+pub fn workers_stay_free()
+    ensures { WorkersStayFree }
+{
+    laws::calls_serve_their_domain();
 }
 
 /// A worker whose job pipe has ended makes no more calls, and no other stops.

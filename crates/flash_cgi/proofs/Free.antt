@@ -1,0 +1,137 @@
+-- A worker without a job stays free.
+use Rattle.std.proofs.Common.{inl, inr, ◌≡◌, ◌⊎◌, ℕ, List, [], ◌∷◌, ◌++◌, ap, ◌∙◌, refl, sym, subst, arith, Option, Some, None, true, false, Bool}
+use Rattle.std.specs.Prelude.{unwrap_or}
+use Rattle.iol_core.specs.Text.{Text}
+use Rattle.iol_core.specs.State.{State, is_live}
+use Rattle.iol_core.specs.declared.events.Call.TheVariants as call
+use Rattle.iol_core.specs.declared.events.Reply.{Reply}
+use Rattle.iol_core.specs.declared.events.Reply.TheVariants as reply
+use Rattle.iol_laws.specs.Caller.{CallsServeTheirDomain, ReadsPipe, lent_at}
+use Rattle.iol_laws.specs.Order.{IsOrderly}
+use Rattle.iol_proc.specs.Turns.{Comes as ComesOf, SeatTurn}
+use Rattle.iol_proc.specs.World.{copying, seat_of}
+use Rattle.iol_proc.specs.declared.process.Turn.{Turn}
+use Rattle.iol_proc.specs.declared.process.Turn.TheVariants as turn
+use Rattle.iol_proc.specs.declared.seat.Seat.{Seat}
+use Rattle.flash_cgi.specs.Free.{HasNoJob, WorkersStayFree}
+use Rattle.flash_cgi.specs.Job.{Task, job_of}
+use Rattle.flash_cgi.specs.Turns.{IsFree, is_given, or_again, filed_step}
+use Rattle.flash_cgi.specs.Waiting.{is_over}
+use Rattle.flash_cgi.specs.Working.{call_at, doing_call, told, told_doing, bytes_at}
+use Rattle.flash_cgi.specs.Works.{IsNew, works, works_as, files, goes_on, takes, with_job, with_text}
+use Rattle.flash_cgi.specs.declared.doing.Doing.{Doing}
+use Rattle.flash_cgi.specs.declared.doing.Doing.TheVariants as doing
+use Rattle.flash_cgi.specs.declared.doing.Standing.{Standing}
+use Rattle.flash_cgi.specs.declared.doing.Standing.TheVariants as standing
+use Rattle.flash_cgi.specs.declared.doing.Step.{Step}
+use Rattle.flash_cgi.specs.declared.worker.Worker.{Worker}
+use Rattle.flash_cgi.proofs.Beside.{free_still}
+use Rattle.flash_cgi.proofs.Turning.{seat_at, lent-live}
+
+new_is_free : (m : State) (d : ℕ) (w : Worker) → IsNew w → IsFree m (seat_of (d, w))
+new_is_free m d w new = record {
+  not_over = ap (λ (s : Standing). is_over s) new.standing;
+  waits = ap (λ (s : Standing). (filed_step s w (lent_at m d) reply.Done).doing) new.standing ∙ ap (λ (s : Step). s.doing) new.step;
+  not_given = λ e. (let asks = sym new.standing ∙ e in absurd (cc (asks)));
+}
+
+no_front : (s t : Text) → s ++ t ≡ [] → s ≡ []
+no_front [] t e = refl
+no_front (b ∷ s) t e = absurd (cc (e))
+
+-- a worker that was refused a job is free
+pub refused_is_free : (n : State) (d : ℕ) (x : Worker) (r y : Reply) → x.standing ≡ standing.Asked → x.step.doing ≡ doing.Waits → is_given doing.Waits y ≡ false → r ≡ y → IsFree n (seat_at d x r)
+refused_is_free n d x r y asked at un is = record {
+  not_over = ap (λ (s : Standing). is_over s) asked;
+  waits = ap (λ (s : Standing). (filed_step s x (lent_at n d) r).doing) asked
+      ∙ (ap (λ (z : Doing). (or_again (told_doing (lent_at n d) x.job x.step.begun z r) x.step).doing) at ∙ at);
+  not_given = λ e. ap (λ (z : Doing). is_given z r) at ∙ (ap (λ (l : Reply). is_given doing.Waits l) is ∙ un);
+}
+
+module _ (own : CallsServeTheirDomain) (m n : State) (d j : ℕ) (v : Worker) (r : Reply) (t : Turn) (yields : Bool) (order : IsOrderly m) (none : HasNoJob m d j)
+    (comes : ComesOf copying works m d t yields r n) where
+  abbrev Stays : Worker → Type 0
+  Stays x = (n ≡ m) × IsFree n (seat_at d x r)
+
+  -- it asks for a job, and is refused
+  read : (x : Worker) → x.standing ≡ standing.Asked → x.step.doing ≡ doing.Waits → (l : Reply) → r ≡ l → ReadsPipe m d j 65536 l n → Stays x
+  read x asked at (reply.Agg a) is takes =
+      let nothing = no_front takes.text takes.rest (sym takes.was ∙ none.empty) in
+      let ended = (takes.ended (omega arith) nothing).1 in
+      absurd (let e = sym none.writing ∙ ended in cc (e))
+  read x asked at (reply.Refused y) is same = (same, refused_is_free n d x r (reply.Refused y) asked at refl is)
+  read x asked at l is did = absurd did
+
+  asks : (x : Worker) → t ≡ turn.Make (call_at x.job x.step) → v ≡ x → x.standing ≡ standing.Asked → x.step.doing ≡ doing.Waits → Stays v
+  asks x is v_is asked at =
+      let make : t ≡ turn.Make (call.IolRead 0 65536) = is ∙ ap (λ (z : Doing). turn.Make (doing_call x.job x.step.begun z)) at in
+      let step = (subst (λ (u : Turn). ComesOf copying works m d u yields r n) make comes).1 in
+      subst (λ (y : Worker). Stays y) (sym v_is) (read x asked at r refl (own.read_pipe m n d 0 j 65536 r order none.jobs step))
+
+  on : (w : Worker) (o : Option Step) → w.standing ≡ standing.Asked → (or_again o w.step).doing ≡ doing.Waits → goes_on w o t v → Stays v
+  on w (Some next) asked waits did = asks (record w { step = next }) did.0 did.1 asked waits
+  on w None asked waits did = subst (λ (y : Worker). Stays y) (sym did.1)
+      ((subst (λ (u : Turn). ComesOf copying works m d u yields r n) did.0 comes).2, record { not_over = refl; waits = waits; not_given = λ e. absurd (cc (e)) })
+
+  filed : (w : Worker) (x : Doing) (l : Reply) → w.standing ≡ standing.Asked → (or_again (told w.job w.step (lent_at m d) l) w.step).doing ≡ doing.Waits → is_given x l ≡ false
+      → files w x l (lent_at m d) t v → Stays v
+  filed w doing.Waits (reply.Agg a) asked waits un did = absurd (cc (un))
+  filed w x l asked waits un did = on w (told w.job w.step (lent_at m d) l) asked waits did
+
+  moves : (w : Worker) (last : Reply) (s : Standing) → w.standing ≡ s → is_over s ≡ false → (filed_step s w (lent_at m d) last).doing ≡ doing.Waits
+      → (s ≡ standing.Asked → is_given w.step.doing last ≡ false) → works_as s w last (lent_at m d) t v → Stays v
+  moves w last standing.Over is goes waits un did = absurd (cc (goes))
+  moves w last standing.Asks is goes waits un did = asks (record w { standing = standing.Asked }) did.0 did.1 refl waits
+  moves w last standing.Asked is goes waits un did = filed w w.step.doing last is waits (un refl) did
+
+-- a turn by what the process does, its seat taken apart
+turns : CallsServeTheirDomain → (m n : State) (j : ℕ) (seat next : Seat Worker) (yields : Bool) (r : Reply) → IsOrderly m → HasNoJob m seat.by j → IsFree m seat
+    → SeatTurn copying works m seat yields r n next → (n ≡ m) × IsFree n next
+turns own m n j seat next yields r order none free (inl starved) =
+    (starved.machine_stays, subst (λ (x : Seat Worker). IsFree n x) (sym starved.seat_stays) (free_still m n seat free))
+turns own m n j seat next yields r order none free (inr did) =
+    let goes = subst (λ (l : ℕ → Option (List ℕ)). works seat.process seat.last l did.turn next.process) (lent-live m seat.by none.live) did.goes_on in
+    let same : seat_at seat.by next.process r ≡ next = ap (λ (x : ℕ). seat_at x next.process r) (sym did.domain_stays) ∙ ap (λ (l : Reply). seat_at next.by next.process l) (sym did.told) in
+    let went = moves own m n seat.by j next.process r did.turn yields order none did.comes seat.process seat.last seat.process.standing refl free.not_over free.waits free.not_given goes in
+    (went.0, subst (λ (x : Seat Worker). IsFree n x) same went.1)
+
+-- ---- what is no job
+
+skipped : (n : State) (d a : ℕ) (w : Worker) (r : Reply) → w.standing ≡ standing.Asked → IsFree n (seat_at d (with_job w None a) r)
+skipped n d a w r asked = record {
+  not_over = ap (λ (s : Standing). is_over s) asked;
+  waits = ap (λ (s : Standing). (filed_step s (with_job w None a) (lent_at n d) r).doing) asked;
+  not_given = λ e. refl;
+}
+
+skips : (m n : State) (a b : ℕ) (bs : List ℕ) (seat next : Seat Worker) (yields : Bool) (r : Reply) → is_live m seat.by ≡ true
+    → seat.process.step.doing ≡ doing.Waits → seat.process.standing ≡ standing.Asked → seat.last ≡ reply.Agg a
+    → lent_at m seat.by a ≡ Some (b ∷ bs) → job_of (b ∷ bs) ≡ None → SeatTurn copying works m seat yields r n next
+    → IsFree n next ⊎ (next ≡ seat)
+skips m n a b bs seat next yields r live waits asked last lends no_job (inl starved) = inr starved.seat_stays
+skips m n a b bs seat next yields r live waits asked last lends no_job (inr did) =
+    inl (subst (λ (x : Seat Worker). IsFree n x) same (subst (λ (y : Worker). IsFree n (seat_at seat.by y r)) (sym is) (skipped n seat.by a seat.process r asked)))
+  where
+    goes : works seat.process seat.last (lent_at m seat.by) did.turn next.process
+    goes = subst (λ (l : ℕ → Option (List ℕ)). works seat.process seat.last l did.turn next.process) (lent-live m seat.by live) did.goes_on
+
+    filed : files seat.process seat.process.step.doing seat.last (lent_at m seat.by) did.turn next.process
+    filed = subst (λ (s : Standing). works_as s seat.process seat.last (lent_at m seat.by) did.turn next.process) asked goes
+
+    took : takes seat.process (bytes_at (lent_at m seat.by) a) a did.turn next.process
+    took = subst (λ (l : Reply). files seat.process doing.Waits l (lent_at m seat.by) did.turn next.process) last
+        (subst (λ (x : Doing). files seat.process x seat.last (lent_at m seat.by) did.turn next.process) waits filed)
+
+    is : next.process ≡ with_job seat.process None a
+    is = took.1 ∙ (ap (λ (l : Option (List ℕ)). with_text seat.process (unwrap_or l []) a) lends ∙ ap (λ (o : Option Task). with_job seat.process o a) no_job)
+
+    same : seat_at seat.by next.process r ≡ next
+    same = ap (λ (x : ℕ). seat_at x next.process r) (sym did.domain_stays) ∙ ap (λ (l : Reply). seat_at next.by next.process l) (sym did.told)
+
+pub workers_stay_free : CallsServeTheirDomain → WorkersStayFree
+workers_stay_free own = record {
+  new = new_is_free;
+  turns = turns own;
+  others = λ m n seat free. free_still m n seat free;
+  skips = skips;
+}
