@@ -1,5 +1,5 @@
 -- Laws of runs: what follows from a chain of steps that keep their promises. Each is the contract of a function of `laws`.
-use Rattle.std.specs.Prelude.{◌≡◌, ◌<◌, ℕ, true, List, [], ◌∷◌, ◌++◌}
+use Rattle.std.specs.Prelude.{◌≡◌, ◌⊎◌, ◌+◌, ◌<◌, ℕ, true, List, [], ◌∷◌, ◌++◌, Option, option_map}
 use Rattle.iol_core.specs.Run.{Run}
 use Rattle.iol_core.specs.Sharing.{is_sharing}
 use Rattle.iol_core.specs.declared.events.Event.{Event}
@@ -10,6 +10,8 @@ use Rattle.iol_arena.specs.Chunks.{is_taken}
 use Rattle.iol_arena.specs.State.{chunk_count}
 use Rattle.iol_hold.specs.Moves.{Stays}
 use Rattle.iol_back.specs.Disk.{IfHonest}
+use Rattle.iol_evict.specs.Ranking.{entry_at, worth}
+use Rattle.iol_evict.specs.declared.entry.Entry.{Entry}
 use Rattle.iol_cache.specs.Cached.{Cached, extents_in, order_in}
 use Rattle.iol_kernel.specs.KernelState.{layout_of}
 use Rattle.iol_laws.specs.Order.{IsOrderly}
@@ -53,10 +55,20 @@ pub record Moment (old : SystemState) (past : List Event) (e : Event) (future : 
 abbrev pub EachEventIsAStep : Type 0
 EachEventIsAStep = (old new : SystemState) (past : List Event) (e : Event) (future : List Event) (rs : List Reply) → Chain old (past ++ e ∷ future) rs new → Moment old past e future rs new
 
--- What memory has of files lies where it lay, dirty or clean as it was, and L of each pool is as it was.
+-- an entry that is hit: it has the height that it would enter with, above L
+abbrev pub hit_above : (low : ℕ) → Entry → Entry
+hit_above low e = record e { height = low + worth e.size e.cost }
+
+-- the entry at a place is as it was, or was hit
+abbrev pub IsSameOrHit : (low : ℕ) → (old new : Option Entry) → Type 0
+IsSameOrHit low old new = (new ≡ old) ⊎ (new ≡ option_map (hit_above low) old)
+
+-- What memory has of files lies where it lay, dirty or clean as it was. L of each pool is as it was, and each clean extent stands in
+-- the pool's order as it stood, but that hits count.
 pub record EvictsNothing (old new : Cached) : Type 0 where
   pub extents : (f : ℕ) → extents_in new.files f ≡ extents_in old.files f
   pub low : (p : ℕ) → (order_in new.orders p).low ≡ (order_in old.orders p).low
+  pub order : (p f at : ℕ) → IsSameOrHit (order_in old.orders p).low (entry_at (order_in old.orders p).entries f at) (entry_at (order_in new.orders p).entries f at)
 
 -- an event that is refused for want of room evicts nothing
 abbrev pub NoRoomEvictsNothing : Type 0
@@ -82,10 +94,11 @@ RunsKeepBuffers = (old new : SystemState) (es : List Event) (rs : List Reply) �
 abbrev pub RunsKeepValues : Type 0
 RunsKeepValues = (old new : SystemState) (es : List Event) (rs : List Reply) → Chain old es rs new → ValuesStayOver (machine_of old) es (machine_of new)
 
--- after a run of calls that share, each byte lies where the calls' own meaning puts its place, and each page is as it was
+-- after a run of calls that share, each byte lies where the calls' own meaning puts its place, and each page and pool is as it was
 pub record SharesOver (old : SystemState) (es : List Event) (rs : List Reply) (new : SystemState) : Type 0 where
   pub places : Run (layout_of old.kernel) es rs (layout_of new.kernel)
   pub arena : new.kernel.store.arena ≡ old.kernel.store.arena
+  pub pools : new.kernel.store.pools ≡ old.kernel.store.pools
 
 -- each event of a run is a sharing call at its moment
 abbrev pub AllShare : (old : SystemState) (es : List Event) (rs : List Reply) (new : SystemState) → Chain old es rs new → Type 0

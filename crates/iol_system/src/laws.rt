@@ -20,7 +20,7 @@ pub fn each_event_is_a_step()
 {}
 
 /// An event that is refused for want of room evicts nothing: each extent lies where it lay, dirty or clean as it was, and L of
-/// each pool stays. A read of a file has counted its hits by then.
+/// each pool stays, and its order of eviction, but that a read of a file has counted its hits by then.
 pub fn no_room_evicts_nothing()
     ensures { NoRoomEvictsNothing }
 {}

@@ -25,7 +25,7 @@ ghost use Rattle.iol_arena.specs.Buffers.{SharesNoPage, live_pages};
 ghost use Rattle.iol_system.specs.Asking.{asks_store, makes_file, uses_cache, writes_store};
 ghost use Rattle.iol_system.specs.InPlace.{KeepsInPlace, SharesFile};
 ghost use Rattle.iol_system.specs.Late.{LeavesLate};
-ghost use Rattle.iol_system.specs.Placed.{Creates, Publishes};
+ghost use Rattle.iol_system.specs.Placed.{Creates, Publishes, SamePages};
 ghost use Rattle.iol_system.specs.Remembered.{Remembers};
 ghost use Rattle.iol_system.specs.Room.{HasRoomFor, LacksRoomFor, IsDone, IsEarly, IsFault, IsNoRoom, IsRefused};
 ghost use Rattle.iol_system.specs.Still.{is_still, keeps_store, only_looks, takes_out};
@@ -167,16 +167,17 @@ impl<B: Backing> System<B> {
         ensures late { LeavesLate self.old event result self.new }
         ensures looks { only_looks event ≡ true → self.new ≡ self.old }
 
-        // What a sharing call hands on lies where it lay, and no page is published or freed. So does all that is left by an event
-        // that is not about bytes.
+        // What a sharing call hands on lies where it lay, no page is published or freed, and no pool changes. So does all lie that
+        // is left by an event that is not about bytes.
         ensures shares { is_sharing (tables_of self.old.kernel) event ≡ true →
             LaysOut (layout_of self.old.kernel) event result (layout_of self.new.kernel) }
         ensures pages { is_sharing (tables_of self.old.kernel) event ≡ true →
-            self.new.kernel.store.arena ≡ self.old.kernel.store.arena }
+            SamePages self.old.kernel.store self.new.kernel.store }
         ensures still { is_still event ≡ true →
             LaysOut (layout_of self.old.kernel) event result (layout_of self.new.kernel) }
 
-        // Nor does anything move that is left where bytes are sent or copied off a queue, or a position moves, which changes no page.
+        // Nor does anything move that is left where bytes are sent or copied off a queue, or a position moves. A position
+        // that moves changes no page and no pool, nor does writing back.
         ensures places { takes_out (tables_of self.old.kernel) event ≡ true → IsDone result →
             layout_of self.new.kernel ≡ (meaning (layout_of self.old.kernel) event).after }
         ensures store { keeps_store event ≡ true →
