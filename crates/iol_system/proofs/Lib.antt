@@ -7,6 +7,7 @@ pub mod Freed
 pub mod Hits
 pub mod Lacking
 pub mod Paged
+pub mod Returned
 pub mod Empty
 pub mod Served
 pub mod Doing

@@ -1,5 +1,5 @@
 -- Laws of runs: what follows from a chain of steps that keep their promises. Each is the contract of a function of `laws`.
-use Rattle.std.specs.Prelude.{◌≡◌, ◌⊎◌, ◌+◌, ◌<◌, ℕ, true, List, [], ◌∷◌, ◌++◌, Option, option_map}
+use Rattle.std.specs.Prelude.{◌≡◌, ◌⊎◌, ◌+◌, ◌<◌, ℕ, true, false, List, [], ◌∷◌, ◌++◌, Option, option_map}
 use Rattle.iol_core.specs.Run.{Run}
 use Rattle.iol_core.specs.Sharing.{is_sharing}
 use Rattle.iol_core.specs.declared.events.Event.{Event}
@@ -8,7 +8,10 @@ use Rattle.iol_core.specs.declared.events.Reply.TheVariants.{Refused}
 use Rattle.iol_core.specs.declared.refusals.Refusal.TheVariants.{NoRoom}
 use Rattle.iol_arena.specs.Chunks.{is_taken}
 use Rattle.iol_arena.specs.State.{chunk_count}
+use Rattle.iol_pool.specs.Pools.{pool_in}
 use Rattle.iol_hold.specs.Moves.{Stays}
+use Rattle.iol_hold.specs.Releases.{HasAllOrNone}
+use Rattle.iol_hold.specs.Stored.{Stored}
 use Rattle.iol_back.specs.Disk.{IfHonest}
 use Rattle.iol_evict.specs.Ranking.{entry_at, worth}
 use Rattle.iol_evict.specs.declared.entry.Entry.{Entry}
@@ -73,6 +76,15 @@ pub record EvictsNothing (old new : Cached) : Type 0 where
 -- an event that is refused for want of room evicts nothing
 abbrev pub NoRoomEvictsNothing : Type 0
 NoRoomEvictsNothing = (old new : SystemState) (e : Event) (p : ℕ) → Promises old e (Refused (NoRoom p)) new → EvictsNothing old.kernel.cache new.kernel.cache
+
+-- A pool that is open before and after has its chunks still. One that is closed after has all that it had, or none any more.
+pub record KeepsChunks (old new : Stored) : Type 0 where
+  pub opens : (p : ℕ) → (pool_in old.pools p).closed ≡ false → (pool_in new.pools p).closed ≡ false → (pool_in new.pools p).chunks ≡ (pool_in old.pools p).chunks
+  pub closes : (p : ℕ) → (pool_in new.pools p).closed ≡ true → HasAllOrNone old new p
+
+-- so does each event, whatever it is answered
+abbrev pub EachStepKeepsChunks : Type 0
+EachStepKeepsChunks = (old new : SystemState) (e : Event) (r : Reply) → Promises old e r new → KeepsChunks old.kernel.store new.kernel.store
 
 -- a run from a safe system ends in one; by the law on parts the system is safe at each moment
 abbrev pub RunsStaySafe : Type 0
