@@ -1,5 +1,5 @@
 -- A step leaves an open pool its chunks, and a closed one all of them or none.
-use Rattle.std.proofs.Common.{inl, inr, ◌≡◌, ◌∙◌, ℕ, Bool, true, false, List, length, Option, Some, None, refl, sym, ap}
+use Rattle.std.proofs.Common.{inl, inr, ◌≡◌, ◌∙◌, ℕ, true, false, List, length, Option, Some, None, refl, sym, ap}
 use Rattle.iol_core.specs.State.{State}
 use Rattle.iol_core.specs.Run.{meaning, outcome}
 use Rattle.iol_core.specs.Text.{Text}
@@ -10,25 +10,22 @@ use Rattle.iol_core.specs.declared.events.Call.{Call}
 use Rattle.iol_core.specs.declared.events.Call.TheVariants as call
 use Rattle.iol_core.specs.declared.events.Event.{Event}
 use Rattle.iol_core.specs.declared.events.Event.TheVariants as event
-use Rattle.iol_core.specs.declared.events.Reply.{Reply}
 use Rattle.iol_core.specs.declared.events.Reply.TheVariants as reply
 use Rattle.iol_core.specs.declared.refusals.Refusal.{Refusal}
 use Rattle.iol_arena.proofs.Good.{bool_cases}
 use Rattle.iol_back.specs.Disk.{Disk}
-use Rattle.iol_pool.specs.Pools.{Pool, pool_in}
+use Rattle.iol_pool.specs.Pools.{pool_in}
 use Rattle.iol_hold.specs.Moves.{SameLists}
 use Rattle.iol_hold.specs.Pages.{KeepsPages}
-use Rattle.iol_hold.specs.Releases.{FreesOnly}
 use Rattle.iol_hold.specs.Stored.{Stored}
 use Rattle.iol_hold.specs.declared.slices.Slice.{Slice}
 use Rattle.iol_hold.proofs.Paging.{keeps_pages_frees, keeps_pages_same, same_closed}
 use Rattle.iol_hold.proofs.Releasing.{all_or_none}
 use Rattle.iol_cache.specs.Evicting.{Holding}
 use Rattle.iol_cache.specs.Overwriting.{OnlyMakesRoom}
-use Rattle.iol_cache.specs.Paging.{FillsLowest}
 use Rattle.iol_cache.proofs.Paging.{pages_kept, refused_pages, unwritten_pages}
 use Rattle.iol_kernel.specs.Backed.{StepsBeside, holding_of}
-use Rattle.iol_kernel.specs.FileReading.{FileRead, LeavesAtRefusal, file_read, held_by}
+use Rattle.iol_kernel.specs.FileReading.{FileRead, LeavesAtRefusal, file_read}
 use Rattle.iol_kernel.specs.KernelState.{KernelState}
 use Rattle.iol_kernel.specs.MakingRoom.{MakesRoom, MayHaveEvicted}
 use Rattle.iol_kernel.specs.WritingFiles.{GivesUpNew, LeavesUnlaid, LeavesUnwritten, over_pages}
