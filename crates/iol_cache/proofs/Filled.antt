@@ -27,6 +27,7 @@ use Rattle.iol_hold.specs.declared.slices.Slice.{Slice}
 use Rattle.iol_hold.proofs.Counting.{bufs-append, tally-append, tally_none}
 use Rattle.iol_hold.proofs.Moving.{moves_none, moves_trans, stays_trans}
 use Rattle.iol_hold.proofs.Paging.{keeps_pages_same}
+use Rattle.iol_hold.proofs.Releasing.{all_or_none}
 use Rattle.iol_hold.proofs.Reading.{readable_stays, text_stays}
 use Rattle.iol_pool.specs.Pools.{Pool, pool_in}
 use Rattle.iol_cache.specs.Gaps.{AllBegin, FillsGap, FillsGaps, IsMade, Mirrors, all_put, gap_pages, parts_back, without_spans}
@@ -77,6 +78,7 @@ places_then {s = s} {t = t} {u = u} {p = p} {k = k} {n = n} a b =
         };
         others = λ q out. inl (ap (λ (e : Entry). e.kind) (b.others.each q (out_right q out) ∙ a.others.each q (out_left q out)));
         chunks = λ r was is. ap (λ (ps : List Pool). (pool_in ps r).chunks) pools;
+        returned = λ r is. inl (ap (λ (ps : List Pool). (pool_in ps r).chunks) pools);
       };
       filled = λ q h. elim (inside q h) [
         | inl i ↦ (let c = contains_in P q i in ap (λ (e : Entry). kind_free e.kind) (b.others.each q (λ j. filled_once n a q c j)) ∙ a.filled q c)
@@ -306,6 +308,7 @@ placed_some {s = s} {t = t} {u = u} {v = v} {p = p} {k = k} n few a b c same =
           ]
           | inr x ↦ inr x
         ];
+        returned = λ r is. all_or_none s u v r (inl (ap (λ (ps : List Pool). (pool_in ps r).chunks) (same ∙ a.pools))) (c.chunks r);
         chunks = λ r was is.
             let pools : u.pools ≡ s.pools = same ∙ a.pools in
             let still : (pool_in u.pools r).closed ≡ false = ap (λ (ps : List Pool). (pool_in ps r).closed) pools ∙ was in

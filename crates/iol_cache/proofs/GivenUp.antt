@@ -15,7 +15,7 @@ use Rattle.iol_hold.specs.Texts.{bufs_of}
 use Rattle.iol_hold.specs.declared.slices.Slice.{Slice}
 use Rattle.iol_hold.proofs.Counting.{tally_none}
 use Rattle.iol_hold.proofs.Moving.{stays_trans, moves_none}
-use Rattle.iol_hold.proofs.Releasing.{frees_trans, frees_none}
+use Rattle.iol_hold.proofs.Releasing.{all_or_none, frees_trans, frees_none}
 use Rattle.iol_extent.specs.Extents.{Extent, Cell, cover, cell_at, is_over, end_of, IsApart, begins_at, without_at}
 use Rattle.iol_cache.specs.declared.files.CachedFile.{CachedFile}
 use Rattle.iol_cache.specs.Cached.{Cached, file_in, with_file, order_in, with_order, extents_in, parts_in, parts_at, all_parts, held, clean_held, lacking, without_extent}
@@ -121,6 +121,7 @@ pub frees_then : {a b c : Stored} → FreesOnly a b → FreesOnly b c → ((x : 
 frees_then {a = a} {b = b} {c = c} m n fewer = record {
   runs = λ h. n.runs (m.runs h);
   pools = λ p is. n.pools p (ap (λ (x : Pool). x.closed) (m.pools p is) ∙ is) ∙ m.pools p is;
+  chunks = λ p. all_or_none a b c p (m.chunks p) (n.chunks p);
   count = n.count ∙ m.count;
   limit = n.limit ∙ m.limit;
   raised = λ q. n.raised q ∙ m.raised q;
@@ -217,7 +218,7 @@ gives_up_none h = record {
   moves = record { counts = record { each = λ b. refl }; stays = (moves_none h.store).stays; still = λ x. x; tidy = λ x. x };
   clean = record { each = λ b. refl };
   fewer = λ b. omega arith;
-  frees = frees_none h.store h.store refl refl (λ p o. refl);
+  frees = frees_none h.store h.store refl refl refl;
   lists = refl;
   settles = λ x. x;
   mirrors = λ slots m. m;

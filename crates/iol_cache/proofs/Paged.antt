@@ -67,6 +67,7 @@ keeps_abandoned {a = a} {b = b} {c = c} {d = d} ps qs placed parts is one but tw
           | inr o ↦ inl (ap (λ (e : Entry). e.kind) (rest.each q (λ h. o (in_contains placed q h))))
         ];
         chunks = λ p was now. ap (λ (ps : List Pool). (pool_in ps p).chunks) pools;
+        returned = λ p now. inl (ap (λ (ps : List Pool). (pool_in ps p).chunks) pools);
       },
       rest,
       pools,

@@ -1,10 +1,11 @@
 -- What reads and writes do to pages.
-use Rattle.std.proofs.Common.{inl, inr, ◌≡◌, ◌∙◌, ℕ, false, List, [], flat_map, ◌+◌, ap, subst, refl}
+use Rattle.std.proofs.Common.{inl, inr, ◌≡◌, ◌∙◌, ℕ, true, false, List, [], flat_map, ◌+◌, ap, subst, refl, sym}
 use Rattle.std.specs.List.{Contains}
 use Rattle.iol_core.specs.declared.refusals.Refusal.{Refusal}
 use Rattle.iol_core.specs.declared.numbers.BufId.{BufId}
 use Rattle.iol_arena.specs.Chunks.{chunk_pages, usable}
 use Rattle.iol_arena.specs.State.{State}
+use Rattle.iol_arena.proofs.Good.{bool_cases}
 use Rattle.iol_arena.proofs.Members.{In, contains_in, in_contains, in_filter, in_take}
 use Rattle.iol_back.specs.Disk.{Disk}
 use Rattle.iol_pool.specs.Pools.{Pool, pool_in}
@@ -15,7 +16,7 @@ use Rattle.iol_hold.specs.Room.{free_of, pages_of}
 use Rattle.iol_hold.specs.Stored.{Stored}
 use Rattle.iol_hold.specs.declared.slices.Slice.{Slice}
 use Rattle.iol_hold.proofs.Paging.{keeps_pages_frees, keeps_pages_same, same_closed}
-use Rattle.iol_hold.proofs.Releasing.{frees_none}
+use Rattle.iol_hold.proofs.Releasing.{all_or_none, frees_none}
 use Rattle.iol_extent.specs.declared.spans.Span.{Span}
 use Rattle.iol_cache.specs.Cached.{file_in}
 use Rattle.iol_cache.specs.Composing.{copied_pages}
@@ -30,11 +31,18 @@ use Rattle.iol_cache.proofs.GivenUp.{frees_then}
 -- One step after another.
 
 pub frees_shares : {s t : Stored} {taken given : List BufId} → Shares s t taken given → FreesOnly s t
-frees_shares {s = s} {t = t} m = frees_none s t (ap (λ (a : State). a.entries) m.arena) (ap (λ (a : State). a.limit) m.arena) (λ p is. ap (λ ps. pool_in ps p) m.pools)
+frees_shares {s = s} {t = t} m = frees_none s t (ap (λ (a : State). a.entries) m.arena) (ap (λ (a : State). a.limit) m.arena) m.pools
+
+-- what is closed after releases was closed before
+closed_before : {s t : Stored} → FreesOnly s t → (p : ℕ) → (pool_in t.pools p).closed ≡ true → (pool_in s.pools p).closed ≡ true
+closed_before {s = s} x p shut = elim (bool_cases (pool_in s.pools p).closed) [
+  | inl is ↦ is
+  | inr yet ↦ (let bad : true ≡ false = sym shut ∙ ap (λ (y : Pool). y.closed) (x.pools p yet) ∙ yet in absurd (cc bad))
+]
 
 -- pages are filled, and others are freed
 keeps_freed : {a b c : Stored} {placed : List ℕ} → ((p : ℕ) → (pool_in a.pools p).closed ≡ false → (pool_in b.pools p).closed ≡ false) → KeepsPages a b placed → FreesOnly b c → KeepsPages a c placed
-keeps_freed keeps m n = record {
+keeps_freed {a = a} {b = b} {c = c} keeps m n = record {
   count = n.count ∙ m.count;
   limit = n.limit ∙ m.limit;
   raises = record { raised = λ q h. n.raised q ∙ m.raises.raised q h; kept = λ q h. n.raised q ∙ m.raises.kept q h };
@@ -43,11 +51,12 @@ keeps_freed keeps m n = record {
     | inr x ↦ inr x
   ];
   chunks = λ p was is. (let now = keeps p was in ap (λ (x : Pool). x.chunks) (n.pools p now) ∙ m.chunks p was now);
+  returned = λ p is. all_or_none a b c p (m.returned p (closed_before n p is)) (n.chunks p);
 }
 
 -- pages are freed, and some are filled
 keeps_roomy : {a b c : Stored} {placed : List ℕ} → FreesOnly a b → KeepsPages b c placed → KeepsPages a c placed
-keeps_roomy m n = record {
+keeps_roomy {a = a} {b = b} {c = c} m n = record {
   count = n.count ∙ m.count;
   limit = n.limit ∙ m.limit;
   raises = record { raised = λ q h. n.raises.raised q h ∙ ap (λ g. g + 1) (m.raised q); kept = λ q h. n.raises.kept q h ∙ m.raised q };
@@ -56,6 +65,7 @@ keeps_roomy m n = record {
     | inr x ↦ inr x
   ];
   chunks = λ p was is. (let there = m.pools p was in n.chunks p (ap (λ (x : Pool). x.closed) there ∙ was) is ∙ ap (λ (x : Pool). x.chunks) there);
+  returned = λ p is. all_or_none a b c p (m.chunks p) (n.returned p is);
 }
 
 -- What a caller learns of pages: those that were filled are of the pool, which keeps all that it has.

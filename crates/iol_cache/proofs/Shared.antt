@@ -126,7 +126,7 @@ readable_same s t xs arena pools h = record {
 }
 
 pub frees_shares : {s t : Stored} {xs ys : List BufId} → Shares s t xs ys → FreesOnly s t
-frees_shares {s = s} {t = t} m = frees_none s t (ap (λ (a : State). a.entries) m.arena) (ap (λ (a : State). a.limit) m.arena) (λ p is. ap (λ (ps : List Pool). pool_in ps p) m.pools)
+frees_shares {s = s} {t = t} m = frees_none s t (ap (λ (a : State). a.entries) m.arena) (ap (λ (a : State). a.limit) m.arena) m.pools
 
 pub settles_shares : {s t : Stored} {xs ys : List BufId} → Shares s t xs ys → AllSettled s → AllSettled t
 settles_shares {s = s} {t = t} m all = all_settled_same s t m.arena m.pools all

@@ -103,7 +103,7 @@ module _ (s : Stored) (f : ℕ) (old new : Cached) (d e : Disk) (sound : IsSound
       still = λ h. h;
       tidy = λ h. h;
     };
-    frees = frees_none s s refl refl (λ q o. refl);
+    frees = frees_none s s refl refl refl;
   }
 
   pub cleaned_sound : IsSound s new

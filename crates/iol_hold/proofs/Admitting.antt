@@ -1,5 +1,5 @@
 -- A list that grows changes no buffer, no page and no chunk.
-use Rattle.std.proofs.Common.{◌≡◌, ◌∙◌, ℕ, true, List, [], refl, sym, subst}
+use Rattle.std.proofs.Common.{◌≡◌, ◌∙◌, inl, ℕ, true, List, [], refl, sym, subst}
 use Rattle.std.specs.Prelude.{◌&&◌}
 use Rattle.std.specs.List.{Contains, list_all}
 use Rattle.iol_core.specs.Numbered.{is_numbered}
@@ -28,4 +28,4 @@ module _ (s : Stored) (p d : ℕ) (there : is_numbered s.pools p ≡ true) where
   admitted_settles all = record { each = λ q. settled_alike s (with_admitted s.pools p d) q (closed-admitted s.pools p d q there) (chunks-admitted s.pools p d q there) (all.each q) }
 
   pub admitted_pages : KeepsPages s (with_pools s (with_admitted s.pools p d)) []
-  admitted_pages = keeps_pages_entries s (with_pools s (with_admitted s.pools p d)) refl refl (λ q was is. chunks-admitted s.pools p d q there)
+  admitted_pages = keeps_pages_entries s (with_pools s (with_admitted s.pools p d)) refl refl (λ q was is. chunks-admitted s.pools p d q there) (λ q is. inl (chunks-admitted s.pools p d q there))

@@ -1,5 +1,5 @@
 -- What becomes of pages: where nothing changes, after releases, after a placing, and one step after another.
-use Rattle.std.proofs.Common.{◌≡◌, inl, inr, false, ℕ, ◌-◌, List, [], ◌∷◌, get_or, map, ap, sym, ◌∙◌, length, refl, arith, zero, suc}
+use Rattle.std.proofs.Common.{◌≡◌, inl, inr, true, false, ℕ, ◌-◌, List, [], ◌∷◌, get_or, map, ap, sym, ◌∙◌, length, refl, arith, zero, suc}
 use Rattle.std.specs.List.{Contains}
 use Rattle.std.proofs.lemmas.Bool.{cases_eq}
 use Rattle.std.proofs.lemmas.Bool.Decides.{nat_tests}
@@ -9,12 +9,14 @@ use Rattle.iol_arena.specs.State.{State, entry_at, entry_in, generation_at, page
 use Rattle.iol_arena.specs.Buffers.{Grows}
 use Rattle.iol_arena.specs.Pages.{IsSameBut, MadeOn}
 use Rattle.iol_arena.specs.declared.pages.Entry.{Entry}
+use Rattle.iol_arena.proofs.Good.{bool_cases}
 use Rattle.iol_arena.proofs.Members.{in_contains}
 use Rattle.iol_pool.specs.Pools.{Pool, no_pool, pool_in}
 use Rattle.iol_hold.specs.Stored.{Stored}
 use Rattle.iol_hold.specs.Moves.{SameLists, Shares, pool_meant}
 use Rattle.iol_hold.specs.Pages.{KeepsPages}
-use Rattle.iol_hold.specs.Releases.{FreesOnly}
+use Rattle.iol_hold.specs.Releases.{FreesOnly, HasAllOrNone}
+use Rattle.iol_hold.proofs.Releasing.{all_or_none}
 
 no_member : (q : ℕ) → Contains (let l : List ℕ = [] in l) q → ⊥
 no_member q h = in_contains [] q h
@@ -26,6 +28,7 @@ keeps_pages_same s t arena pools = record {
   raises = record { raised = λ q h. absurd (no_member q h); kept = λ q out. ap (λ a. generation_at a q) arena };
   others = λ q out. inl (ap (λ a. (entry_at a q).kind) arena);
   chunks = λ p was is. ap (λ (ps : List Pool). (pool_in ps p).chunks) pools;
+  returned = λ p is. inl (ap (λ (ps : List Pool). (pool_in ps p).chunks) pools);
 }
 
 pub keeps_pages_shares : {s t : Stored} {taken given : List BufId} → Shares s t taken given → KeepsPages s t []
@@ -38,17 +41,20 @@ keeps_pages_frees frees = record {
   raises = record { raised = λ q h. absurd (no_member q h); kept = λ q out. frees.raised q };
   others = λ q out. frees.each q;
   chunks = λ p was is. ap (λ (x : Pool). x.chunks) (frees.pools p was);
+  returned = λ p is. frees.chunks p;
 }
 
--- where pages are as they were, and pools that stay open have their chunks
+-- where pages are as they were, pools that stay open have their chunks, and closed ones all or none
 pub keeps_pages_entries : (s t : Stored) → t.arena.entries ≡ s.arena.entries → t.arena.limit ≡ s.arena.limit
-    → ((p : ℕ) → (pool_in s.pools p).closed ≡ false → (pool_in t.pools p).closed ≡ false → (pool_in t.pools p).chunks ≡ (pool_in s.pools p).chunks) → KeepsPages s t []
-keeps_pages_entries s t entries limit chunks = record {
+    → ((p : ℕ) → (pool_in s.pools p).closed ≡ false → (pool_in t.pools p).closed ≡ false → (pool_in t.pools p).chunks ≡ (pool_in s.pools p).chunks)
+    → ((p : ℕ) → (pool_in t.pools p).closed ≡ true → HasAllOrNone s t p) → KeepsPages s t []
+keeps_pages_entries s t entries limit chunks returned = record {
   count = ap length entries;
   limit = limit;
   raises = record { raised = λ q h. absurd (no_member q h); kept = λ q out. ap (λ (es : List Entry). (entry_in es q).generation) entries };
   others = λ q out. inl (ap (λ (es : List Entry). (entry_in es q).kind) entries);
   chunks = chunks;
+  returned = returned;
 }
 
 -- after a placing on these pages
@@ -59,20 +65,7 @@ keeps_pages_made made others grows pools = record {
   raises = made.raises;
   others = λ q out. inl (ap (λ (e : Entry). e.kind) (others.each q out));
   chunks = λ p was is. ap (λ (ps : List Pool). (pool_in ps p).chunks) pools;
-}
-
--- Two steps that place nothing; a pool that is open before and after is open between them.
-pub keeps_pages_then : {a b c : Stored} → ((p : ℕ) → (pool_in a.pools p).closed ≡ false → (pool_in c.pools p).closed ≡ false → (pool_in b.pools p).closed ≡ false)
-    → KeepsPages a b [] → KeepsPages b c [] → KeepsPages a c []
-keeps_pages_then keep m n = record {
-  count = n.count ∙ m.count;
-  limit = n.limit ∙ m.limit;
-  raises = record { raised = λ q h. absurd (no_member q h); kept = λ q out. n.raises.kept q out ∙ m.raises.kept q out };
-  others = λ q out. elim (n.others q out) [
-    | inl same ↦ elim (m.others q out) [ inl was ↦ inl (same ∙ was) | inr free ↦ inr (same ∙ free) ]
-    | inr free ↦ inr free
-  ];
-  chunks = λ p was is. (let between = keep p was is in n.chunks p between is ∙ m.chunks p was between);
+  returned = λ p is. inl (ap (λ (ps : List Pool). (pool_in ps p).chunks) pools);
 }
 
 -- a pool of the same lists is open as it was
@@ -95,6 +88,23 @@ same_closed s t same p = elim (cases_eq p 0) [
   | inr some ↦ ap (λ (x : machine.Pool). x.closed) (meant_at t.pools p some ∙ ap (λ l. get_or l (p - 1) (pool_meant no_pool)) same ∙ sym (meant_at s.pools p some))
 ]
 
+-- a step that leaves the lists of pools, and then another
+pub returned_then : (a b c : Stored) {placed : List ℕ} → SameLists a b → KeepsPages a b placed → (p : ℕ) → HasAllOrNone b c p → HasAllOrNone a c p
+returned_then a b c same m p n = elim (bool_cases (pool_in b.pools p).closed) [
+  | inl shut ↦ all_or_none a b c p (m.returned p shut) n
+  | inr is ↦ all_or_none a b c p (inl (m.chunks p (sym (same_closed a b same p) ∙ is) is)) n
+]
+
 -- two steps that place nothing, the first of which leaves the lists of pools
 pub keeps_pages_trans : {a b c : Stored} → SameLists a b → KeepsPages a b [] → KeepsPages b c [] → KeepsPages a c []
-keeps_pages_trans {a = a} {b = b} same m n = keeps_pages_then (λ p was is. same_closed a b same p ∙ was) m n
+keeps_pages_trans {a = a} {b = b} {c = c} same m n = record {
+  count = n.count ∙ m.count;
+  limit = n.limit ∙ m.limit;
+  raises = record { raised = λ q h. absurd (no_member q h); kept = λ q out. n.raises.kept q out ∙ m.raises.kept q out };
+  others = λ q out. elim (n.others q out) [
+    | inl same ↦ elim (m.others q out) [ inl was ↦ inl (same ∙ was) | inr free ↦ inr (same ∙ free) ]
+    | inr free ↦ inr free
+  ];
+  chunks = λ p was is. (let between = same_closed a b same p ∙ was in n.chunks p between is ∙ m.chunks p was between);
+  returned = λ p is. returned_then a b c same m p (n.returned p is);
+}

@@ -16,7 +16,9 @@ use Rattle.iol_pool.specs.Pools.{Pool, pool_in, goes_back, with_returned, settle
 use Rattle.iol_pool.proofs.Owning.{settled-no, pool_in-settled}
 use Rattle.std.specs.List.{list_all}
 use Rattle.iol_arena.specs.Chunks.{is_unused}
-use Rattle.iol_hold.specs.Releases.{first_page, buf_at, FreesOnly}
+use Rattle.iol_arena.proofs.Good.{bool_cases}
+use Rattle.iol_hold.proofs.Settling.{chunks_returned}
+use Rattle.iol_hold.specs.Releases.{first_page, buf_at, FreesOnly, HasAllOrNone}
 use Rattle.iol_hold.proofs.Counting.{tally_none, no_head}
 use Rattle.iol_hold.proofs.Freeing.{length-with_freed}
 
@@ -26,9 +28,16 @@ none_first k q p free some = absurd_of (sym (ap (λ (x : kind.PageKind). first_p
     absurd_of : None ≡ Some p → ⊥
     absurd_of e = cc
 
+-- one step after another
+pub all_or_none : (a b c : Stored) (p : ℕ) → HasAllOrNone a b p → HasAllOrNone b c p → HasAllOrNone a c p
+all_or_none a b c p m (inr none) = inr none
+all_or_none a b c p (inl was) (inl same) = inl (same ∙ was)
+all_or_none a b c p (inr none) (inl same) = inr (same ∙ none)
+
 -- where no entry changed
-pub frees_none : (s t : Stored) → t.arena.entries ≡ s.arena.entries → t.arena.limit ≡ s.arena.limit → ((p : ℕ) → (pool_in s.pools p).closed ≡ false → pool_in t.pools p ≡ pool_in s.pools p) → FreesOnly s t
-frees_none s t same limit open_stays = record {
+pub frees_chunks : (s t : Stored) → t.arena.entries ≡ s.arena.entries → t.arena.limit ≡ s.arena.limit → ((p : ℕ) → (pool_in s.pools p).closed ≡ false → pool_in t.pools p ≡ pool_in s.pools p) → ((p : ℕ) → HasAllOrNone s t p) → FreesOnly s t
+frees_chunks s t same limit open_stays chunks = record {
+  chunks = chunks;
   count = ap length same;
   runs = λ h. subst HasRuns (sym same) h;
   pools = open_stays;
@@ -38,10 +47,14 @@ frees_none s t same limit open_stays = record {
   freed = λ q p free some. absurd (none_first (entry_at s.arena q).kind q p (sym (ap (λ (es : List Entry). (entry_in es q).kind) same) ∙ free) some);
 }
 
+pub frees_none : (s t : Stored) → t.arena.entries ≡ s.arena.entries → t.arena.limit ≡ s.arena.limit → t.pools ≡ s.pools → FreesOnly s t
+frees_none s t same limit pools = frees_chunks s t same limit (λ p is. ap (λ (ps : List Pool). pool_in ps p) pools) (λ p. inl (ap (λ (ps : List Pool). (pool_in ps p).chunks) pools))
+
 pub frees_trans : {a b c : Stored} {xs : List BufId} → FreesOnly a b → FreesOnly b c → Counts b c xs [] → FreesOnly a c
 frees_trans {a = a} {b = b} {c = c} {xs = xs} m n counts = record {
   runs = λ h. n.runs (m.runs h);
   pools = λ p is. n.pools p (ap (λ (x : Pool). x.closed) (m.pools p is) ∙ is) ∙ m.pools p is;
+  chunks = λ p. all_or_none a b c p (m.chunks p) (n.chunks p);
   count = n.count ∙ m.count;
   limit = n.limit ∙ m.limit;
   raised = λ q. n.raised q ∙ m.raised q;
@@ -94,6 +107,7 @@ unfolding count_of
 frees_one s b runs after live = record {
   runs = λ h. after;
   pools = λ p is. refl;
+  chunks = λ p. inl refl;
   count = length-with_freed s.arena b.page;
   limit = refl;
   raised = λ q. elim (page_after s.arena b.page runs live.head q) [
@@ -128,4 +142,14 @@ open_settled s ps p q is = elim (cases_eq q p) [
       let stays : goes_back s ps p ≡ false = ap (λ b. b && list_all (is_unused s) (pool_in ps p).chunks) shut in
       ap (λ (xs : List Pool). pool_in xs q) (settled-no s ps p stays))
   | inr ne ↦ pool_in-settled s ps p q ne
+]
+
+-- all chunks of one pool may go back, and those of the others stay
+pub chunks_settled : (s : State) (ps : List Pool) (p q : ℕ) → ((pool_in (settled s ps p) q).chunks ≡ (pool_in ps q).chunks) ⊎ ((pool_in (settled s ps p) q).chunks ≡ [])
+chunks_settled s ps p q = elim (cases_eq q p) [
+  | inr ne ↦ inl (ap (λ (x : Pool). x.chunks) (pool_in-settled s ps p q ne))
+  | inl e ↦ elim (bool_cases (goes_back s ps p)) [
+    | inl back ↦ inr (ap (λ r. (pool_in (settled s ps p) r).chunks) e ∙ chunks_returned s ps p back)
+    | inr stays ↦ inl (ap (λ (xs : List Pool). (pool_in xs q).chunks) (settled-no s ps p stays))
+  ]
 ]

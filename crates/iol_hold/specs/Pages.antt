@@ -1,17 +1,20 @@
 -- What becomes of pages and chunks over a step, whatever the step.
-use Rattle.std.specs.Prelude.{◌≡◌, ◌⊎◌, ℕ, false, List}
+use Rattle.std.specs.Prelude.{◌≡◌, ◌⊎◌, ℕ, true, false, List}
 use Rattle.std.specs.List.{Contains}
 use Rattle.iol_arena.specs.State.{entry_at, page_count}
 use Rattle.iol_arena.specs.Pages.{Raises}
 use Rattle.iol_arena.specs.declared.pages.PageKind.TheVariants.{Free}
 use Rattle.iol_pool.specs.Pools.{pool_in}
+use Rattle.iol_hold.specs.Releases.{HasAllOrNone}
 use Rattle.iol_hold.specs.Stored.{Stored}
 
 -- Buffers were made on these pages (in most steps on none): each of them was raised by one, and no other page was. What
--- stands on all others stands there still, or they are free. An open pool keeps its chunks.
+-- stands on all others stands there still, or they are free. An open pool keeps its chunks, and a closed one keeps all of them or
+-- none.
 pub record KeepsPages (old new : Stored) (placed : List ℕ) : Type 0 where
   pub count : page_count new.arena ≡ page_count old.arena
   pub limit : new.arena.limit ≡ old.arena.limit
   pub raises : Raises old.arena new.arena placed
   pub others : (q : ℕ) → (Contains placed q → ⊥) → ((entry_at new.arena q).kind ≡ (entry_at old.arena q).kind) ⊎ ((entry_at new.arena q).kind ≡ Free)
   pub chunks : (p : ℕ) → (pool_in old.pools p).closed ≡ false → (pool_in new.pools p).closed ≡ false → (pool_in new.pools p).chunks ≡ (pool_in old.pools p).chunks
+  pub returned : (p : ℕ) → (pool_in new.pools p).closed ≡ true → HasAllOrNone old new p

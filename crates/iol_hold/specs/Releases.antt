@@ -1,5 +1,5 @@
 -- What a release does to pages.
-use Rattle.std.specs.Prelude.{◌≡◌, ◌⊎◌, ℕ, false, Option, Some, None}
+use Rattle.std.specs.Prelude.{◌≡◌, ◌⊎◌, ℕ, false, [], Option, Some, None}
 use Rattle.iol_core.specs.declared.numbers.BufId.{BufId}
 use Rattle.iol_arena.specs.State.{State, HasRuns, entry_at, generation_at, page_count}
 use Rattle.iol_arena.specs.declared.pages.PageKind as kind
@@ -18,7 +18,12 @@ first_page (Tail p) q = Some p
 abbrev pub buf_at : State → ℕ → BufId
 buf_at s p = record { page = p; generation = generation_at s p }
 
--- Each page is as it was, or was freed: then the buffer on it is no longer held. An open pool keeps its chunks.
+-- the pool has all chunks that it had, or none any more
+abbrev pub HasAllOrNone : (old new : Stored) → (p : ℕ) → Type 0
+HasAllOrNone old new p = ((pool_in new.pools p).chunks ≡ (pool_in old.pools p).chunks) ⊎ ((pool_in new.pools p).chunks ≡ [])
+
+-- Each page is as it was, or was freed: then the buffer on it is no longer held. An open pool keeps its chunks, and a closed one
+-- keeps all of them or none.
 pub record FreesOnly (old new : Stored) : Type 0 where
   pub count : page_count new.arena ≡ page_count old.arena
   pub limit : new.arena.limit ≡ old.arena.limit
@@ -26,4 +31,5 @@ pub record FreesOnly (old new : Stored) : Type 0 where
   pub each : (q : ℕ) → ((entry_at new.arena q).kind ≡ (entry_at old.arena q).kind) ⊎ ((entry_at new.arena q).kind ≡ Free)
   pub freed : (q p : ℕ) → (entry_at new.arena q).kind ≡ Free → first_page (entry_at old.arena q).kind q ≡ Some p → count_of new (buf_at old.arena p) ≡ 0
   pub pools : (p : ℕ) → (pool_in old.pools p).closed ≡ false → pool_in new.pools p ≡ pool_in old.pools p
+  pub chunks : (p : ℕ) → HasAllOrNone old new p
   pub runs : HasRuns old.arena.entries → HasRuns new.arena.entries

@@ -43,7 +43,7 @@ pub moves_same : (s : Stored) (xs : List BufId) → Moves s s xs xs
 moves_same s xs = let m = moves_none s in record { counts = record { each = λ b. refl }; stays = m.stays; still = m.still; tidy = m.tidy }
 
 pub frees_same : (s : Stored) → FreesOnly s s
-frees_same s = frees_none s s refl refl (λ p open'. refl)
+frees_same s = frees_none s s refl refl refl
 
 pub ruleset same_rules = (moves_same, frees_same)
 

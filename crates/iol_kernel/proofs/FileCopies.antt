@@ -37,7 +37,7 @@ abbrev Domains : Type 0
 Domains = List (Domain (List Slice))
 
 pub frees_here : (s : Stored) → FreesOnly s s
-frees_here s = frees_none s s refl refl (λ p o. refl)
+frees_here s = frees_none s s refl refl refl
 
 module _ (disk after : Disk) (h : KernelState) (m t : Stored) (c : Cached) (xs : List Slice) (sound : IsSound h) (kept : cache.IsSound m c) (goes : Goes disk [] (bufs_of xs) (holding_of h) (over m c)) where
   covers_all : Covers m (held c.files ++ bufs_of xs)

@@ -93,7 +93,7 @@ counts_few h sound = record { each = λ b. omega (arith, sound.counted.each b, a
 pub reads_nothing : {A : Type 0} (x : FileRead) (disk : Disk) (h k : KernelState) (y : Refusal) → k ≡ h → TellsRoom {A = A} (RoomToRead x.file x.at x.count disk (holding_of h)) (NoRoomToRead x.file x.at x.count disk (holding_of h)) (Err y) → FaultCounts {A = A} disk disk (Err y) → IsBeforeRoom y → ReadsFileAs {A = A} x disk h (Err y) disk k
 reads_nothing {A} x disk h k y same room counts before = subst (λ (l : KernelState). ReadsFileAs {A = A} x disk h (Err y) disk l) (sym same) (record {
   keeps = keeps_same (pool_read h x) (LacksPagesToRead x.file x.at x.count disk (holding_of h)) h.cache h.cache refl;
-  pages = fills_none (pool_read h x) (frees_none h.store h.store refl refl (λ p o. refl));
+  pages = fills_none (pool_read h x) (frees_none h.store h.store refl refl refl);
   lists = refl;
   room = room;
   fault = record { honest = refl; slots = λ i. refl; counts = counts };
@@ -109,7 +109,7 @@ copies_nothing x disk h y room counts before = record {
   reads = reads_nothing {A = List ℕ} x disk h h y refl room counts before;
   gives = tt;
   early = inl (refl, refl);
-  frees = frees_none h.store h.store refl refl (λ p o. refl);
+  frees = frees_none h.store h.store refl refl refl;
   lists = refl;
 }
 

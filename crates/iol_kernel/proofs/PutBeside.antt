@@ -25,7 +25,7 @@ use Rattle.iol_hold.specs.Room.{free_of, lowest_of}
 use Rattle.iol_hold.specs.Stored.{Stored}
 use Rattle.iol_hold.specs.Texts.{byte_at, text_of}
 use Rattle.iol_hold.specs.declared.slices.Slice.{Slice}
-use Rattle.iol_hold.proofs.Paging.{keeps_pages_frees, keeps_pages_shares, keeps_pages_trans, same_closed}
+use Rattle.iol_hold.proofs.Paging.{keeps_pages_frees, keeps_pages_shares, keeps_pages_trans, returned_then, same_closed}
 use Rattle.iol_hold.proofs.Rooms.{no_pages}
 use Rattle.iol_hold.proofs.Slicing.{byte_len-cons}
 use Rattle.iol_cache.specs.Cached.{Cached, file_in}
@@ -79,7 +79,7 @@ no_member : (q : ℕ) → Contains (let l : List ℕ = [] in l) q → ⊥
 no_member q h = in_contains [] q h
 
 filled_then : {a b c : Stored} {placed : List ℕ} → SameLists a b → KeepsPages a b placed → KeepsPages b c [] → KeepsPages a c placed
-filled_then {a = a} {b = b} same m n = record {
+filled_then {a = a} {b = b} {c = c} same m n = record {
   count = n.count ∙ m.count;
   limit = n.limit ∙ m.limit;
   raises = record { raised = λ q h. n.raises.kept q (no_member q) ∙ m.raises.raised q h; kept = λ q out. n.raises.kept q (no_member q) ∙ m.raises.kept q out };
@@ -88,6 +88,7 @@ filled_then {a = a} {b = b} same m n = record {
     | inr free ↦ inr free
   ];
   chunks = λ p was is. (let between = same_closed a b same p ∙ was in n.chunks p between is ∙ m.chunks p was between);
+  returned = λ p is. returned_then a b c same m p (n.returned p is);
 }
 
 -- New bytes lie in the file's pool, and are written.

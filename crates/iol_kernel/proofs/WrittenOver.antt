@@ -88,7 +88,7 @@ refused_leaves h f at xs x roomy = record {
   beside = (let p = pool_of_file h f in beside_same f at (byte_len xs) p (LacksPages h p (copied_pages p xs)) h.cache h.cache refl);
   room = tt;
   no_room = λ p e. absurd (roomy p e);
-  pages = fills_none (pool_of_file h f) (frees_none h.store h.store refl refl (λ p is. refl));
+  pages = fills_none (pool_of_file h f) (frees_none h.store h.store refl refl refl);
   lists = refl;
   same = refl;
   refused = refl;

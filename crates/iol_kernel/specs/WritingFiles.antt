@@ -121,6 +121,7 @@ pub record GivesUpNew (pool : ℕ) (bytes : List ℕ) (old new : KernelState) : 
   pub room : OnlyMakesRoom pool 0 (over_pages placed old) (over_pages left new)
   pub released : Moves left new.store (bufs_of slices) []
   pub frees : FreesOnly left new.store
+  pub lists : SameLists left new.store
   pub rest : new ≡ record old { store = new.store; cache = new.cache }
 
 -- A refused write. One that was refused before it made room, or for want of it, changed nothing. One for want of memory made

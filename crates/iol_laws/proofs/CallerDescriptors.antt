@@ -99,14 +99,14 @@ does_close_conn s t d fd c reply.Done order is step =
     let conn : conn_at t c ≡ conn_at (with_conn s c x) c = ap (λ u. conn_at u c) same ∙ conns-with_fds (with_conn s c x) d (fds.freed s d fd) c in
     by x conn both.1 (is_over x) refl refl
   where
-    by : (x : Connection) → conn_at t c ≡ conn_at (with_conn s c x) c → (conn_at s c).closed ≡ false → (b : Bool) → is_over x ≡ b → x ≡ record (conn_at s c) { incoming = []; closed = true } → ((conn_at t c).closed ≡ true) × ((conn_at t c).outgoing ≡ (conn_at s c).outgoing) × (((conn_at t c).peer ≡ (conn_at s c).peer) ⊎ (conn_at t c ≡ no_conn))
+    by : (x : Connection) → conn_at t c ≡ conn_at (with_conn s c x) c → (conn_at s c).closed ≡ false → (b : Bool) → is_over x ≡ b → x ≡ record (conn_at s c) { incoming = []; closed = true } → ((conn_at t c).closed ≡ true) × ((conn_at t c).outgoing ≡ (conn_at s c).outgoing) × ((conn_at t c ≡ record (conn_at s c) { incoming = []; closed = true }) ⊎ (((conn_at s c).outgoing ≡ []) × (conn_at t c ≡ no_conn)))
     by x conn open_yet false over x_is =
         let e = conn ∙ (conn-with_same s c x open_yet over ∙ x_is) in
-        (ap (λ (z : Connection). z.closed) e, ap (λ (z : Connection). z.outgoing) e, inl (ap (λ (z : Connection). z.peer) e))
+        (ap (λ (z : Connection). z.closed) e, ap (λ (z : Connection). z.outgoing) e, inl e)
     by x conn open_yet true over x_is =
         let e = conn ∙ conn-over s c x order.once over in
         let gone : x.outgoing ≡ [] = nothing-left x.outgoing (x.closed || (not x.accepted && is_gone x.peer)) over in
-        (ap (λ (z : Connection). z.closed) e, ap (λ (z : Connection). z.outgoing) e ∙ (sym gone ∙ ap (λ (z : Connection). z.outgoing) x_is), inr e)
+        (ap (λ (z : Connection). z.closed) e, ap (λ (z : Connection). z.outgoing) e ∙ (sym gone ∙ ap (λ (z : Connection). z.outgoing) x_is), inr (sym (ap (λ (z : Connection). z.outgoing) x_is) ∙ gone, e))
 does_close_conn s t d fd c (reply.Refused x) order is step = step.1
 does_close_conn s t d fd c r order is step = (let e = step.1 in absurd (cc))
 

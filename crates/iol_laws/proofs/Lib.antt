@@ -46,6 +46,7 @@ pub mod Histories
 pub mod NextNumber
 pub mod Pending
 pub mod RefusalsLeft
+pub mod Blocking
 pub mod RefusalsOfFiles
 pub mod RefusalsOfPools
 pub mod ComeAndGo

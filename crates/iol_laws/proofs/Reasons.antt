@@ -28,25 +28,25 @@ use Rattle.iol_laws.proofs.Numbers.{agg-there}
 use Rattle.iol_laws.proofs.Refusing.{past, past-live}
 
 -- a refusal that is no late one is the first that holds
-said : (o : Option Refusal) (x : Refusal) → MatchOption o ⊥ (λ y. x ≡ y) → o ≡ Some x
+pub said : (o : Option Refusal) (x : Refusal) → MatchOption o ⊥ (λ y. x ≡ y) → o ≡ Some x
 said None x never = absurd never
 said (Some y) x is = ap (λ z. Some z) (sym is)
 
 -- it is not this one, so it is among the rest
-other : (o : Option Refusal) (rest : List (Option Refusal)) (x : Refusal) → (o ≡ Some x → ⊥) → first (o ∷ rest) ≡ Some x → first rest ≡ Some x
+pub other : (o : Option Refusal) (rest : List (Option Refusal)) (x : Refusal) → (o ≡ Some x → ⊥) → first (o ∷ rest) ≡ Some x → first rest ≡ Some x
 other None rest x differ is = is
 other (Some y) rest x differ is = absurd (differ is)
 
 -- it is none of the rest, so it is this one
-this : (o : Option Refusal) (rest : List (Option Refusal)) (x : Refusal) → (first rest ≡ Some x → ⊥) → first (o ∷ rest) ≡ Some x → o ≡ Some x
+pub this : (o : Option Refusal) (rest : List (Option Refusal)) (x : Refusal) → (first rest ≡ Some x → ⊥) → first (o ∷ rest) ≡ Some x → o ≡ Some x
 this None rest x never is = absurd (never is)
 this (Some y) rest x never is = is
 
-when-some : (x : Refusal) (b : Bool) → (x when b) ≡ Some x → b ≡ true
+pub when-some : (x : Refusal) (b : Bool) → (x when b) ≡ Some x → b ≡ true
 when-some x true is = refl
 when-some x false is = absurd (cc)
 
-when-differs : (y x : Refusal) (b : Bool) → (y ≡ x → ⊥) → (y when b) ≡ Some x → ⊥
+pub when-differs : (y x : Refusal) (b : Bool) → (y ≡ x → ⊥) → (y when b) ≡ Some x → ⊥
 when-differs y x true differ is = differ (some y x is)
   where
     some : (y x : Refusal) → Some y ≡ Some x → y ≡ x

@@ -240,15 +240,15 @@ left_copy_to s t d fd p y bytes x live is queue can default open_yet step =
 
 -- who may be told to wait
 
-abbrev blocks : Refusal → Bool
+abbrev pub blocks : Refusal → Bool
 blocks refuse.WouldBlock = true
 blocks x = false
 
-abbrev IsNoWait : Refusal → Type 0
+abbrev pub IsNoWait : Refusal → Type 0
 IsNoWait x = blocks x ≡ false
 
 -- each refusal of a list is another, and so is each late one
-others : (os : List (Option Refusal)) (Late : Refusal → Type 0) → Pass IsNoWait os → (Late refuse.WouldBlock → IsNoWait refuse.WouldBlock) → MatchOption (first os) (Late refuse.WouldBlock) (λ y. refuse.WouldBlock ≡ y) → ⊥
+pub others : (os : List (Option Refusal)) (Late : Refusal → Type 0) → Pass IsNoWait os → (Late refuse.WouldBlock → IsNoWait refuse.WouldBlock) → MatchOption (first os) (Late refuse.WouldBlock) (λ y. refuse.WouldBlock ≡ y) → ⊥
 others os Late each late said = (let e : IsNoWait refuse.WouldBlock = left IsNoWait Late os refuse.WouldBlock each late said in absurd (cc))
 
 pub who_waits : (s t : State) (d : ℕ) (k : Call) → StepsTo s (event.Call d k) (reply.Refused refuse.WouldBlock) t → may_wait k ≡ true

@@ -156,9 +156,10 @@ GivesAgg s to bytes (reply.Agg n) t = (lent_at t to n ≡ Some bytes) × (lent_a
 GivesAgg s to bytes (reply.Refused x) t = t ≡ s
 GivesAgg s to bytes r t = ⊥
 
--- a closed connection keeps what is still to be sent, unless that is nothing: then it is forgotten
+-- A connection that is closed loses what came in and is unread, and no other field of it changes. Where nothing is to be sent any
+-- more, it is forgotten.
 abbrev pub ClosesConn : State → (c : ℕ) → Reply → State → Type 0
-ClosesConn s c reply.Done t = ((conn_at t c).closed ≡ true) × ((conn_at t c).outgoing ≡ (conn_at s c).outgoing) × (((conn_at t c).peer ≡ (conn_at s c).peer) ⊎ (conn_at t c ≡ no_conn))
+ClosesConn s c reply.Done t = ((conn_at t c).closed ≡ true) × ((conn_at t c).outgoing ≡ (conn_at s c).outgoing) × ((conn_at t c ≡ record (conn_at s c) { incoming = []; closed = true }) ⊎ (((conn_at s c).outgoing ≡ []) × (conn_at t c ≡ no_conn)))
 ClosesConn s c (reply.Refused x) t = t ≡ s
 ClosesConn s c r t = ⊥
 

@@ -46,6 +46,11 @@ pub record RefusalsTellWhy : Type 0 where
       → StepsTo s (event.Call d (call.IolWrite fd a)) (reply.Refused BrokenPipe) t → is_gone (conn_at s c).peer ≡ true
   pub nobody_reads : (s t : State) (d fd p a : ℕ) → descriptor s d fd ≡ Some (on.WriteEnd p)
       → StepsTo s (event.Call d (call.IolWrite fd a)) (reply.Refused BrokenPipe) t → (pipe_at s p).reading ≡ false
+  -- as much came in as may, and nothing is to be sent
+  pub arrival_is_full : (s t : State) (c : ℕ) (bytes : List ℕ)
+      → StepsTo s (event.Arrive c bytes) (reply.Refused WouldBlock) t → MAX_QUEUE_BYTES ≤ length (conn_at s c).incoming
+  pub segment_is_empty : (s t : State) (c max : ℕ) → StepsTo s (event.Transmit c max) (reply.Refused WouldBlock) t
+      → (conn_at s c).outgoing ≡ []
   -- each connection that waits is one that the domain may not accept
   pub nobody_waits : (s t : State) (d c : ℕ) → StepsTo s (event.Call d call.Accept) (reply.Refused WouldBlock) t
       → (conn_at s c).accepted ≡ false → may_read s d (conn_at s c).pool ≡ false

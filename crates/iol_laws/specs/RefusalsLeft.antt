@@ -16,6 +16,7 @@ use Rattle.iol_core.specs.declared.refusals.Refusal.{Refusal}
 use Rattle.iol_core.specs.declared.refusals.Refusal.TheVariants.{TooMany, Denied, PoolBusy, BrokenPipe, WouldBlock, NoRoom, Fault, Memory}
 use Rattle.iol_core.specs.declared.events.Call.{Call}
 use Rattle.iol_core.specs.declared.events.Call.TheVariants as call
+use Rattle.iol_core.specs.declared.events.Event.{Event}
 use Rattle.iol_core.specs.declared.events.Event.TheVariants as event
 use Rattle.iol_core.specs.declared.events.Reply.TheVariants as reply
 use Rattle.iol_laws.specs.Caller.{lent_at}
@@ -28,6 +29,13 @@ may_wait (call.IolWrite fd a) = true
 may_wait (call.Read fd n) = true
 may_wait (call.Write fd bytes) = true
 may_wait k = false
+
+-- and of what happens outside
+abbrev pub event_may_wait : Event → Bool
+event_may_wait (event.Call d k) = may_wait k
+event_may_wait (event.Arrive c bytes) = true
+event_may_wait (event.Transmit c max) = true
+event_may_wait e = false
 
 -- want of numbers or of memory
 abbrev pub LacksNumbers : Refusal → Type 0
@@ -110,6 +118,8 @@ HasNoPlace s p d x = ⊥
 
 pub record RefusalsThatAreLeft : Type 0 where
   pub waits : (s t : State) (d : ℕ) (k : Call) → StepsTo s (event.Call d k) (reply.Refused WouldBlock) t → may_wait k ≡ true
+  -- what is told to wait changes nothing
+  pub event_waits : (s t : State) (e : Event) → StepsTo s e (reply.Refused WouldBlock) t → (event_may_wait e ≡ true) × (t ≡ s)
   pub domain_new : (s t : State) (d : ℕ) (x : Refusal) → is_live s d ≡ true
       → StepsTo s (event.Call d call.DomainNew) (reply.Refused x) t → LacksNumbers x
   -- the domain has a default pool, which is open

@@ -52,8 +52,8 @@ pub fn domains_and_pools_come_and_go()
 
 /// What a refusal tells. A read that would block finds an empty queue, and one that is denied a first byte that the domain may
 /// not read. A write that would block finds a full queue, and one of a broken pipe nobody who will read. An `accept` that would
-/// block finds no waiting connection that the domain may have. An open descriptor is closed, and an aggregate that is there is
-/// dropped, without refusal.
+/// block finds no waiting connection that the domain may have. Bytes that arrive and would block find a full queue, and a segment
+/// an empty one. An open descriptor is closed, and an aggregate that is there is dropped, without refusal.
 pub fn refusals_tell_why()
     ensures { RefusalsTellWhy }
 {}
@@ -88,7 +88,8 @@ pub fn connection_numbers_rise()
 
 /// Which refusals a call can still get where the domain lives and what the call names is there and fits: each call's own. A fault
 /// is left to reads and `fsync` of a file alone; `set_pool`, `seek`, `length`, `close`, `agg_drop` and `exit` are never refused then.
-/// Only `accept` and the calls that read or write are told to wait.
+/// Only `accept` and the calls that read or write are told to wait, and of what happens outside bytes that arrive and segments; that
+/// changes nothing.
 pub fn refusals_that_are_left()
     ensures { RefusalsThatAreLeft }
 {}

@@ -170,6 +170,7 @@ module _ (s u t : Stored) (parts : List Part) (pool n : ℕ) (w : List ℕ)
             | inr o ↦ inl (ap (λ (e : Entry). e.kind) (rest.each q (λ h. o (in_contains (part_pages parts) q (subst (λ l. Contains l q) (sym pages) h)))))
           ];
           chunks = λ p was is. ap (λ (ps : List Pool). (pool_in ps p).chunks) pools;
+          returned = λ p is. inl (ap (λ (ps : List Pool). (pool_in ps p).chunks) pools);
         });
         settles = all_settled_placed s t (pool_in s.pools pool).chunks (pages_for n) pools rest;
         pools = pools;

@@ -37,8 +37,8 @@ use Rattle.iol_system.specs.Placed.{Creates, Publishes}
 use Rattle.iol_system.specs.Remembered.{Remembers}
 use Rattle.iol_system.specs.Replies.{told}
 use Rattle.iol_system.specs.Room.{HasRoomFor, IsEarly}
-use Rattle.iol_system.specs.Still.{is_still, keeps_store, takes_out}
-use Rattle.iol_system.proofs.Doing.{Means, Tells, answer_lies, early_told, kept_layout, no_room_told, refused_told, told_beside, unlooking_of}
+use Rattle.iol_system.specs.Still.{is_still, keeps_store, only_looks, takes_out}
+use Rattle.iol_system.proofs.Doing.{Means, Tells, answer_lies, early_told, kept_layout, no_room_told, refused_told, told_beside}
 use Rattle.iol_system.specs.WrittenBack.{DropsClean, WritesBack}
 use Rattle.iol_system.proofs.InPlace.{cache_in_place, drops_in_place, flushes_in_place, shares_file, shares_none, syncs_in_place}
 use Rattle.iol_system.proofs.WrittenBack.{drops_back, flushes_back, none_back, syncs_back}
@@ -49,11 +49,11 @@ done_tells : Tells {A = Unit {0}} (λ u. reply.Done)
 done_tells = record { answers = λ a. refl; roomy = λ a x. x; unrefused = λ a x. x }
 
 module _ (m : State → Meaning (Unit {0})) (e : Event) (disk after : Disk) (old new : KernelState) (r : Result (Unit {0}) Refusal) where
-  pub stores_does : Means (λ u. reply.Done) m e → ((s : State) → uses_cache s e ≡ true) → ((s : State) → is_sharing s e ≡ false) → ((s : State) → takes_out s e ≡ false) → is_still e ≡ false → keeps_store e ≡ false → LeavesLate (system_of old disk) e (told (λ u. reply.Done) r) (system_of new after)
+  pub stores_does : Means (λ u. reply.Done) m e → ((s : State) → uses_cache s e ≡ true) → ((s : State) → is_sharing s e ≡ false) → ((s : State) → takes_out s e ≡ false) → is_still e ≡ false → only_looks e ≡ false → (keeps_store e ≡ true → new.store ≡ old.store) → LeavesLate (system_of old disk) e (told (λ u. reply.Done) r) (system_of new after)
       → ((s : SystemState) → HasRoomFor s e) → (KeepsPages old.store new.store [] → Publishes old e new) → ((x : Reply) → Creates old e x new) → ((x : Reply) → new.sums ≡ old.sums → Remembers old e x new)
       → (asks_store (tables_of old) e ≡ false → after ≡ disk) → (asks_store (tables_of old) e ≡ true → FaultCounts disk after r) → ((p : ℕ) → r ≡ Err (NoRoom p) → ⊥)
       → KeepsPages old.store new.store [] → WritesBack disk old e (told (λ u. reply.Done) r) after new → KeepsInPlace (system_of old disk) e new → shares_file e ≡ false → Serves m disk old r after new → (writes_store e ≡ false → after.slots ≡ disk.slots) → (IsEarly (told (λ u. reply.Done) r) → (new ≡ old) × (after ≡ disk)) → Does disk old e (told (λ u. reply.Done) r) after new
-  stores_does means uses unshared inside moving changes late has publishes creates sums unasked faults roomy pages written lies unlent serves slots early = record {
+  stores_does means uses unshared inside moving looking store late has publishes creates sums unasked faults roomy pages written lies unlent serves slots early = record {
     step = λ backed placed. means (machine_of disk.slots old) (machine_of after.slots new) r (serves.step backed placed);
     backed = serves.backed;
     beside = told_beside (λ u. reply.Done) m e old new r means serves.beside;
@@ -68,12 +68,12 @@ module _ (m : State → Meaning (Unit {0})) (e : Event) (disk after : Disk) (old
     refused = λ unused is. absurd (true≢false (sym (uses (tables_of old)) ∙ unused));
     uncached = λ unused other. absurd (true≢false (sym (uses (tables_of old)) ∙ unused));
     late = late;
-    looks = λ is. absurd (true≢false (sym is ∙ unlooking_of e changes));
+    looks = λ is. absurd (true≢false (sym is ∙ looking));
     shares = λ shared. absurd (true≢false (sym shared ∙ unshared (tables_of old)));
     pages = λ shared. absurd (true≢false (sym shared ∙ unshared (tables_of old)));
     still = λ still. absurd (true≢false (sym still ∙ moving));
     places = λ out done. absurd (true≢false (sym out ∙ inside (tables_of old)));
-    store = λ keeps. absurd (true≢false (sym keeps ∙ changes));
+    store = store;
     in_place = lies;
     shares_file = λ done. shares_none (system_of old disk) (told (λ u. reply.Done) r) new e unlent;
     publishes = λ done. publishes pages;
@@ -103,7 +103,7 @@ module _ (by fd : ℕ) (disk after : Disk) (old new : KernelState) (r : Result (
 
   pub syncs_does : IsSound old → Means (λ u. reply.Done) (λ s. files.fsync s by fd) (event.Call by (call.Fsync fd)) → Serves (λ s. files.fsync s by fd) disk old r after new → SyncsFile (files.file_on (tables_of old) by fd) disk old r after new → Does disk old (event.Call by (call.Fsync fd)) (told (λ u. reply.Done) r) after new
   syncs_does sound means serves syncs =
-      stores_does (λ s. files.fsync s by fd) (event.Call by (call.Fsync fd)) disk after old new r means (λ s. refl) (λ s. refl) (λ s. refl) refl refl tt (λ s. tt) (λ k. k) (λ x. tt) (λ x k. k)
+      stores_does (λ s. files.fsync s by fd) (event.Call by (call.Fsync fd)) disk after old new r means (λ s. refl) (λ s. refl) (λ s. refl) refl refl (λ keeps. ap (λ (h : KernelState). h.store) syncs.same) tt (λ s. tt) (λ k. k) (λ x. tt) (λ x k. k)
       (λ none. absurd (true≢false none)) (λ asked. syncs.counts) (sync_roomy serves)
       (pages_equal old.store new.store (ap (λ (h : KernelState). h.store) syncs.same)) (syncs_back by fd disk after old new r sound serves.sound syncs) (syncs_in_place by fd (files.file_on (tables_of old) by fd) disk after old new syncs.syncs) refl serves
       (λ none. absurd (true≢false none)) (sync_early (files.file_on (tables_of old) by fd) r syncs.writes)
@@ -121,14 +121,14 @@ module _ (disk after : Disk) (old new : KernelState) (r : Result (Unit {0}) Refu
 
   pub flushes_does : IsSound old → Means (λ u. reply.Done) outside.flush event.Flush → Serves outside.flush disk old r after new → FlushesOne disk old r after new → Does disk old event.Flush (told (λ u. reply.Done) r) after new
   flushes_does sound means serves flushes =
-      stores_does outside.flush event.Flush disk after old new r means (λ s. refl) (λ s. refl) (λ s. refl) refl refl tt (λ s. tt) (λ k. k) (λ x. tt) (λ x k. k)
+      stores_does outside.flush event.Flush disk after old new r means (λ s. refl) (λ s. refl) (λ s. refl) refl refl (λ keeps. ap (λ (h : KernelState). h.store) flushes.same) tt (λ s. tt) (λ k. k) (λ x. tt) (λ x k. k)
       (λ none. absurd (true≢false none)) (λ asked. flushes.counts) (flush_roomy serves)
       (pages_equal old.store new.store (ap (λ (h : KernelState). h.store) flushes.same)) (flushes_back disk after old new r sound flushes) (flushes_in_place disk after old new r sound flushes) refl serves
       (λ none. absurd (true≢false none)) (flush_early r serves.beside)
 
 pub drops_does : (disk : Disk) (old new : KernelState) → Means (λ u. reply.Done) outside.drop_clean event.DropClean → Serves outside.drop_clean disk old (Ok tt) disk new → KeepsPages old.store new.store [] → DropsClean old new → KeepsDirty old.cache new.cache → Does disk old event.DropClean reply.Done disk new
 drops_does disk old new means serves pages drops keeps =
-    stores_does outside.drop_clean event.DropClean disk disk old new (Ok tt) means (λ s. refl) (λ s. refl) (λ s. refl) refl refl tt (λ s. tt) (λ k. k) (λ x. tt) (λ x k. k)
+    stores_does outside.drop_clean event.DropClean disk disk old new (Ok tt) means (λ s. refl) (λ s. refl) (λ s. refl) refl refl (λ keeps. absurd (true≢false (sym keeps))) tt (λ s. tt) (λ k. k) (λ x. tt) (λ x k. k)
     (λ none. refl) (λ asked. absurd (true≢false (sym asked))) (λ p is. cc) pages (drops_back old new disk drops) (drops_in_place disk old new keeps) refl serves
     (λ none. refl) (λ is. absurd is)
 

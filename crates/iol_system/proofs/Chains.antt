@@ -102,11 +102,12 @@ pub chain_values : RunsKeepValues
 chain_values old new es rs chain = record { each = λ d a t is kept. value_kept old new es rs d a t is kept chain }
 
 pub chain_shares : RunsShare
-chain_shares old new [] [] chain all = record { places = ap (λ (s : SystemState). layout_of s.kernel) chain; arena = ap (λ (s : SystemState). s.kernel.store.arena) chain }
+chain_shares old new [] [] chain all = record { places = ap (λ (s : SystemState). layout_of s.kernel) chain; arena = ap (λ (s : SystemState). s.kernel.store.arena) chain; pools = ap (λ (s : SystemState). s.kernel.store.pools) chain }
 chain_shares old new (e ∷ es) (r ∷ rs) chain all =
     let rest : SharesOver chain.0 es rs new = chain_shares chain.0 new es rs chain.2 all.1 in record {
       places = (layout_of chain.0.kernel, chain.1.shares all.0, rest.places);
-      arena = rest.arena ∙ chain.1.pages all.0;
+      arena = rest.arena ∙ (chain.1.pages all.0).arena;
+      pools = rest.pools ∙ (chain.1.pages all.0).pools;
     }
 chain_shares old new [] (r ∷ rs) chain all = absurd chain
 chain_shares old new (e ∷ es) [] chain all = absurd chain

@@ -175,7 +175,7 @@ module _ {A : Type 0} (f : A → Reply) (m : State → Meaning A) (e : Event) (d
     late = plain.late (system_of old disk) (told f r) (system_of new disk);
     looks = λ is. absurd (true≢false (sym is ∙ unlooking_of e changes));
     shares = λ shared. means (layout_of old) (layout_of new) r (carried_layout m old new r c);
-    pages = λ shared. c.arena;
+    pages = λ shared. record { arena = c.arena; pools = c.pools };
     still = λ still. means (layout_of old) (layout_of new) r (carried_layout m old new r c);
     places = λ out done. done_after (meaning (layout_of old) e) (layout_of old) (layout_of new) (told f r) (means (layout_of old) (layout_of new) r (carried_layout m old new r c)) done;
     store = λ keeps. absurd (true≢false (sym keeps ∙ changes));

@@ -74,7 +74,7 @@ module _ {A : Type 0} (f : A → Reply) (m : State → Meaning A) (e : Event) (d
     late = plain.late (system_of h disk) (told f r) (system_of h disk);
     looks = λ is. (refl, refl);
     shares = λ shared. absurd (true≢false (sym shared ∙ unshared (tables_of h)));
-    pages = λ shared. refl;
+    pages = λ shared. record { arena = refl; pools = refl };
     still = λ still. absurd (true≢false (sym still ∙ moving));
     places = λ out done. absurd (true≢false (sym out ∙ inside (tables_of h)));
     store = λ keeps. refl;
@@ -236,7 +236,7 @@ module _ (by fd n : ℕ) (disk after : Disk) (old new : KernelState) (r : Result
         late = read_late o reads;
         looks = λ is. absurd (true≢false (sym is));
         shares = λ shared. means (layout_of old) (layout_of new) r (carried_layout (λ s. reading.iol_read s by fd n) old new r (read_carried o reads (queue shared)));
-        pages = λ shared. (read_carried o reads (queue shared)).arena;
+        pages = λ shared. (let c = read_carried o reads (queue shared) in record { arena = c.arena; pools = c.pools });
         still = λ still. absurd (true≢false (sym still));
         places = λ out done. absurd (true≢false (sym out));
         store = λ keeps. absurd (true≢false (sym keeps));
@@ -322,7 +322,7 @@ module _ (by fd a : ℕ) (disk : Disk) (old new : KernelState) (r : Result ℕ R
         late = write_late o writes;
         looks = λ is. absurd (true≢false (sym is));
         shares = λ shared. means (layout_of old) (layout_of new) r (carried_layout (λ s. writing.iol_write s by fd a) old new r (write_carried o writes shared));
-        pages = λ shared. (write_carried o writes shared).arena;
+        pages = λ shared. (let c = write_carried o writes shared in record { arena = c.arena; pools = c.pools });
         still = λ still. absurd (true≢false (sym still));
         places = λ out done. absurd (true≢false (sym out));
         store = λ keeps. absurd (true≢false (sym keeps));

@@ -1,6 +1,5 @@
 -- An event that is refused for want of room evicts nothing.
-use Rattle.std.proofs.Common.{inl, inr, ◌≡◌, ◌∙◌, ℕ, ◌<◌, Bool, true, false, cond, List, [], ◌∷◌, length, Option, Some, None, refl, sym, ap, arith}
-use Rattle.std.proofs.lemmas.Bool.{cases_eq, cases_lt}
+use Rattle.std.proofs.Common.{inl, inr, ◌≡◌, ◌∙◌, ℕ, false, List, Option, Some, None, refl, sym, ap, subst}
 use Rattle.iol_core.specs.declared.descriptors.Descriptor.{Descriptor}
 use Rattle.iol_core.specs.declared.descriptors.Descriptor.TheVariants as on
 use Rattle.iol_core.specs.declared.events.Call.{Call}
@@ -11,17 +10,15 @@ use Rattle.iol_core.specs.declared.events.Reply.TheVariants as reply
 use Rattle.iol_core.specs.declared.refusals.Refusal.{Refusal}
 use Rattle.iol_core.specs.declared.refusals.Refusal.TheVariants.{Memory, NoRoom}
 use Rattle.iol_back.specs.Disk.{Disk}
-use Rattle.iol_evict.specs.Ranking.{Ranking, hit_at}
-use Rattle.iol_extent.specs.Extents.{Extent, extent_over}
+use Rattle.iol_evict.specs.Ranking.{Ranking, entry_at}
+use Rattle.iol_evict.specs.declared.entry.Entry.{Entry}
 use Rattle.iol_extent.specs.declared.spans.Span.{Span}
 use Rattle.iol_hold.specs.declared.slices.Slice.{Slice}
-use Rattle.iol_cache.specs.Cached.{Cached, extents_in, file_in, order_in, with_order}
+use Rattle.iol_cache.specs.Cached.{Cached, extents_in, file_in, order_in}
 use Rattle.iol_cache.specs.Evicting.{Holding}
 use Rattle.iol_cache.specs.Going.{CountsHits}
-use Rattle.iol_cache.specs.Reading.{SameButRoom, hit_counted, hits_counted}
+use Rattle.iol_cache.specs.Reading.{SameButRoom, hits_counted}
 use Rattle.iol_cache.specs.Serving.{LeavesRange}
-use Rattle.iol_cache.proofs.Filing.{length-with_order, order_nowhere, order_other}
-use Rattle.iol_cache.proofs.Roomy.{order_low}
 use Rattle.iol_kernel.specs.FileReading.{FileRead, LeavesAtRefusal, file_read}
 use Rattle.iol_kernel.specs.KernelState.{KernelState}
 use Rattle.iol_kernel.specs.MakingRoom.{MayHaveEvicted}
@@ -30,60 +27,42 @@ use Rattle.iol_system.specs.Asking.{uses_cache}
 use Rattle.iol_system.specs.Late.{CallLeaves, CopyLeaves, LeavesLate, PutLeaves, ReadLeaves, WriteLeaves}
 use Rattle.iol_system.specs.Laws.{EvictsNothing, NoRoomEvictsNothing}
 use Rattle.iol_system.specs.Machine.{SystemState, tables_of}
+use Rattle.iol_system.proofs.Hits.{AreHit, hit_then, hits_leave, others_stay}
 use Rattle.iol_system.specs.Room.{CallLacksRoom, LacksRoomFor, LacksRoomToRead, LacksRoomToWrite}
 
 -- Of what memory has of files.
 
 same_cache : (a b : Cached) → b ≡ a → EvictsNothing a b
-same_cache a b is = record { extents = λ f. ap (λ (c : Cached). extents_in c.files f) is; low = λ p. ap (λ (c : Cached). (order_in c.orders p).low) is }
+same_cache a b is = record {
+  extents = λ f. ap (λ (c : Cached). extents_in c.files f) is;
+  low = λ p. ap (λ (c : Cached). (order_in c.orders p).low) is;
+  order = λ p f at. inl (ap (λ (c : Cached). entry_at (order_in c.orders p).entries f at) is);
+}
 
 same_kernel : (h k : KernelState) → k ≡ h → EvictsNothing h.cache k.cache
 same_kernel h k is = same_cache h.cache k.cache (ap (λ (x : KernelState). x.cache) is)
 
 only_reserved : (a b : Cached) → SameButRoom a b → EvictsNothing a b
-only_reserved a b x = record { extents = x.extents; low = x.low }
+only_reserved a b x = record { extents = x.extents; low = x.low; order = λ p f at. inl (ap (λ (es : List Entry). entry_at es f at) (x.entries p)) }
 
 and_then : (a b c : Cached) → EvictsNothing a b → EvictsNothing b c → EvictsNothing a c
-and_then a b c x y = record { extents = λ f. y.extents f ∙ x.extents f; low = λ p. y.low p ∙ x.low p }
-
--- Hits leave L.
-
-hits_low : (r : Ranking) (f : ℕ) (es : List Extent) (ss : List Span) → (hits_counted r f es ss).low ≡ r.low
-hits_low r f es [] = refl
-hits_low r f es (s ∷ ss) = hits_low (hit_counted r f (extent_over es s.from)) f es ss ∙ one (extent_over es s.from)
-  where
-    dirty : (d : Bool) (at : ℕ) → (cond d r (hit_at r f at)).low ≡ r.low
-    dirty true at = refl
-    dirty false at = refl
-
-    one : (o : Option Extent) → (hit_counted r f o).low ≡ r.low
-    one None = refl
-    one (Some e) = dirty e.dirty e.at
-
--- also where there is no such pool
-low_stays : (os : List Ranking) (p : ℕ) (r : Ranking) (q : ℕ) → r.low ≡ (order_in os p).low → (order_in (with_order os p r) q).low ≡ (order_in os q).low
-low_stays os p r q e = elim (cases_lt 0 p) [
-  | inl some ↦ elim (cases_lt (length os) p) [
-    | inl past ↦ nowhere (λ k. past)
-    | inr within ↦ order_low os p r q (some, within) e
-  ]
-  | inr none ↦ nowhere (λ k. absurd (omega (arith, k, none)))
-]
-  where
-    nowhere : (0 < p → length os < p) → (order_in (with_order os p r) q).low ≡ (order_in os q).low
-    nowhere out = elim (cases_eq q p) [
-      | inl here ↦ ap (λ n. (order_in (with_order os p r) n).low) here
-          ∙ ap (λ (x : Ranking). x.low) (order_nowhere (with_order os p r) p (λ k. omega (arith, out k, length-with_order os p r)) ∙ sym (order_nowhere os p out))
-          ∙ ap (λ n. (order_in os n).low) (sym here)
-      | inr ne ↦ ap (λ (x : Ranking). x.low) (order_other os p q r ne)
-    ]
+and_then a b c x y = record {
+  extents = λ f. y.extents f ∙ x.extents f;
+  low = λ p. y.low p ∙ x.low p;
+  order = λ p f at. hit_then (order_in a.orders p).low (order_in b.orders p).low _ _ _ (x.low p) (x.order p f at) (y.order p f at);
+}
 
 only_counted : (f : ℕ) (hits : List Span) (a b : Cached) → CountsHits f hits a b → EvictsNothing a b
 only_counted f hits a b x = record {
   extents = λ g. ap (λ fs. extents_in fs g) x.files;
-  low = λ q. (let p = (file_in a.files f).pool in
-      ap (λ os. (order_in os q).low) x.orders ∙ low_stays a.orders p (hits_counted (order_in a.orders p) f (extents_in a.files f) hits) q (hits_low (order_in a.orders p) f (extents_in a.files f) hits));
+  low = λ q. (stays q).low;
+  order = λ q. (stays q).order;
 }
+  where
+    stays : (q : ℕ) → AreHit (order_in a.orders q) (order_in b.orders q)
+    stays q =
+        let p = (file_in a.files f).pool in
+        subst (λ (os : List Ranking). AreHit (order_in a.orders q) (order_in os q)) (sym x.orders) (others_stay a.orders p (hits_counted (order_in a.orders p) f (extents_in a.files f) hits) q (hits_leave (order_in a.orders p) f (extents_in a.files f) hits))
 
 -- Refusals for want of room, by what they left.
 

@@ -4,8 +4,10 @@ pub mod Beside
 pub mod Orderly
 pub mod Used
 pub mod Freed
+pub mod Hits
 pub mod Lacking
 pub mod Paged
+pub mod Returned
 pub mod Empty
 pub mod Served
 pub mod Doing

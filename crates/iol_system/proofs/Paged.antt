@@ -7,6 +7,7 @@ use Rattle.iol_core.specs.declared.refusals.Refusal.{Refusal}
 use Rattle.iol_hold.specs.Pages.{KeepsPages}
 use Rattle.iol_hold.specs.Stored.{Stored}
 use Rattle.iol_hold.proofs.Paging.{keeps_pages_same, same_closed}
+use Rattle.iol_hold.proofs.Releasing.{all_or_none}
 use Rattle.iol_hold.specs.Moves.{SameLists}
 use Rattle.iol_hold.specs.Releases.{FreesOnly}
 use Rattle.iol_pool.specs.Pools.{Pool}
@@ -21,8 +22,8 @@ pub pages_here : (s : Stored) → KeepsPages s s []
 pages_here s = keeps_pages_same s s refl refl
 
 -- pages are filled, and then some are freed
-keeps_then_frees : {a b c : Stored} {placed : List ℕ} → SameLists b c → KeepsPages a b placed → FreesOnly b c → KeepsPages a c placed
-keeps_then_frees {b = b} {c = c} same m n = record {
+pub keeps_then_frees : {a b c : Stored} {placed : List ℕ} → SameLists b c → KeepsPages a b placed → FreesOnly b c → KeepsPages a c placed
+keeps_then_frees {a = a} {b = b} {c = c} same m n = record {
   count = n.count ∙ m.count;
   limit = n.limit ∙ m.limit;
   raises = record { raised = λ q h. n.raised q ∙ m.raises.raised q h; kept = λ q h. n.raised q ∙ m.raises.kept q h };
@@ -31,6 +32,7 @@ keeps_then_frees {b = b} {c = c} same m n = record {
     | inr x ↦ inr x
   ];
   chunks = λ p was is. (let now = sym (same_closed b c same p) ∙ is in ap (λ (x : Pool). x.chunks) (n.pools p now) ∙ m.chunks p was now);
+  returned = λ p is. all_or_none a b c p (m.returned p (sym (same_closed b c same p) ∙ is)) (n.chunks p);
 }
 
 pub fills_then_frees : {p : ℕ} {a b c : Stored} → SameLists b c → FillsLowest p a b → FreesOnly b c → FillsLowest p a c

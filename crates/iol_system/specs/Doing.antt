@@ -14,7 +14,7 @@ use Rattle.iol_system.specs.Asking.{asks_store, makes_file, uses_cache, writes_s
 use Rattle.iol_system.specs.InPlace.{KeepsInPlace, SharesFile}
 use Rattle.iol_system.specs.Late.{LeavesLate}
 use Rattle.iol_system.specs.Machine.{system_of, tables_of}
-use Rattle.iol_system.specs.Placed.{Creates, Publishes}
+use Rattle.iol_system.specs.Placed.{Creates, Publishes, SamePages}
 use Rattle.iol_system.specs.Remembered.{Remembers}
 use Rattle.iol_system.specs.Still.{is_still, keeps_store, only_looks, takes_out}
 use Rattle.iol_system.specs.Room.{HasRoomFor, LacksRoomFor, IsDone, IsEarly, IsFault, IsNoRoom, IsRefused}
@@ -39,7 +39,7 @@ pub record Does (disk : Disk) (old : KernelState) (e : Event) (r : Reply) (after
   pub late : LeavesLate (system_of old disk) e r (system_of new after)
   pub looks : only_looks e ≡ true → (new ≡ old) × (after ≡ disk)
   pub shares : is_sharing (tables_of old) e ≡ true → LaysOut (layout_of old) e r (layout_of new)
-  pub pages : is_sharing (tables_of old) e ≡ true → new.store.arena ≡ old.store.arena
+  pub pages : is_sharing (tables_of old) e ≡ true → SamePages old.store new.store
   pub still : is_still e ≡ true → LaysOut (layout_of old) e r (layout_of new)
   pub in_place : KeepsInPlace (system_of old disk) e new
   pub places : takes_out (tables_of old) e ≡ true → IsDone r → layout_of new ≡ (meaning (layout_of old) e).after

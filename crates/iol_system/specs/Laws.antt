@@ -1,5 +1,5 @@
 -- Laws of runs: what follows from a chain of steps that keep their promises. Each is the contract of a function of `laws`.
-use Rattle.std.specs.Prelude.{◌≡◌, ◌<◌, ℕ, true, List, [], ◌∷◌, ◌++◌}
+use Rattle.std.specs.Prelude.{◌≡◌, ◌⊎◌, ◌+◌, ◌<◌, ℕ, true, false, List, [], ◌∷◌, ◌++◌, Option, option_map}
 use Rattle.iol_core.specs.Run.{Run}
 use Rattle.iol_core.specs.Sharing.{is_sharing}
 use Rattle.iol_core.specs.declared.events.Event.{Event}
@@ -8,8 +8,13 @@ use Rattle.iol_core.specs.declared.events.Reply.TheVariants.{Refused}
 use Rattle.iol_core.specs.declared.refusals.Refusal.TheVariants.{NoRoom}
 use Rattle.iol_arena.specs.Chunks.{is_taken}
 use Rattle.iol_arena.specs.State.{chunk_count}
+use Rattle.iol_pool.specs.Pools.{pool_in}
 use Rattle.iol_hold.specs.Moves.{Stays}
+use Rattle.iol_hold.specs.Releases.{HasAllOrNone}
+use Rattle.iol_hold.specs.Stored.{Stored}
 use Rattle.iol_back.specs.Disk.{IfHonest}
+use Rattle.iol_evict.specs.Ranking.{entry_at, worth}
+use Rattle.iol_evict.specs.declared.entry.Entry.{Entry}
 use Rattle.iol_cache.specs.Cached.{Cached, extents_in, order_in}
 use Rattle.iol_kernel.specs.KernelState.{layout_of}
 use Rattle.iol_laws.specs.Order.{IsOrderly}
@@ -53,14 +58,33 @@ pub record Moment (old : SystemState) (past : List Event) (e : Event) (future : 
 abbrev pub EachEventIsAStep : Type 0
 EachEventIsAStep = (old new : SystemState) (past : List Event) (e : Event) (future : List Event) (rs : List Reply) → Chain old (past ++ e ∷ future) rs new → Moment old past e future rs new
 
--- What memory has of files lies where it lay, dirty or clean as it was, and L of each pool is as it was.
+-- an entry that is hit: it has the height that it would enter with, above L
+abbrev pub hit_above : (low : ℕ) → Entry → Entry
+hit_above low e = record e { height = low + worth e.size e.cost }
+
+-- the entry at a place is as it was, or was hit
+abbrev pub IsSameOrHit : (low : ℕ) → (old new : Option Entry) → Type 0
+IsSameOrHit low old new = (new ≡ old) ⊎ (new ≡ option_map (hit_above low) old)
+
+-- What memory has of files lies where it lay, dirty or clean as it was. L of each pool is as it was, and each clean extent stands in
+-- the pool's order as it stood, but that hits count.
 pub record EvictsNothing (old new : Cached) : Type 0 where
   pub extents : (f : ℕ) → extents_in new.files f ≡ extents_in old.files f
   pub low : (p : ℕ) → (order_in new.orders p).low ≡ (order_in old.orders p).low
+  pub order : (p f at : ℕ) → IsSameOrHit (order_in old.orders p).low (entry_at (order_in old.orders p).entries f at) (entry_at (order_in new.orders p).entries f at)
 
 -- an event that is refused for want of room evicts nothing
 abbrev pub NoRoomEvictsNothing : Type 0
 NoRoomEvictsNothing = (old new : SystemState) (e : Event) (p : ℕ) → Promises old e (Refused (NoRoom p)) new → EvictsNothing old.kernel.cache new.kernel.cache
+
+-- A pool that is open before and after has its chunks still. One that is closed after has all that it had, or none any more.
+pub record KeepsChunks (old new : Stored) : Type 0 where
+  pub opens : (p : ℕ) → (pool_in old.pools p).closed ≡ false → (pool_in new.pools p).closed ≡ false → (pool_in new.pools p).chunks ≡ (pool_in old.pools p).chunks
+  pub closes : (p : ℕ) → (pool_in new.pools p).closed ≡ true → HasAllOrNone old new p
+
+-- so does each event, whatever it is answered
+abbrev pub EachStepKeepsChunks : Type 0
+EachStepKeepsChunks = (old new : SystemState) (e : Event) (r : Reply) → Promises old e r new → KeepsChunks old.kernel.store new.kernel.store
 
 -- a run from a safe system ends in one; by the law on parts the system is safe at each moment
 abbrev pub RunsStaySafe : Type 0
@@ -82,10 +106,11 @@ RunsKeepBuffers = (old new : SystemState) (es : List Event) (rs : List Reply) �
 abbrev pub RunsKeepValues : Type 0
 RunsKeepValues = (old new : SystemState) (es : List Event) (rs : List Reply) → Chain old es rs new → ValuesStayOver (machine_of old) es (machine_of new)
 
--- after a run of calls that share, each byte lies where the calls' own meaning puts its place, and each page is as it was
+-- after a run of calls that share, each byte lies where the calls' own meaning puts its place, and each page and pool is as it was
 pub record SharesOver (old : SystemState) (es : List Event) (rs : List Reply) (new : SystemState) : Type 0 where
   pub places : Run (layout_of old.kernel) es rs (layout_of new.kernel)
   pub arena : new.kernel.store.arena ≡ old.kernel.store.arena
+  pub pools : new.kernel.store.pools ≡ old.kernel.store.pools
 
 -- each event of a run is a sharing call at its moment
 abbrev pub AllShare : (old : SystemState) (es : List Event) (rs : List Reply) (new : SystemState) → Chain old es rs new → Type 0

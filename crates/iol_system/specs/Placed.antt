@@ -16,6 +16,7 @@ use Rattle.iol_core.specs.declared.events.Reply.{Reply}
 use Rattle.iol_core.specs.declared.events.Reply.TheVariants as reply
 use Rattle.iol_hold.specs.Pages.{KeepsPages}
 use Rattle.iol_hold.specs.Room.{lowest_of}
+use Rattle.iol_hold.specs.Stored.{Stored}
 use Rattle.iol_cache.specs.Paging.{FillsLowest}
 use Rattle.iol_kernel.specs.Calls.{AddsEmpty, MakesBytes, with_incoming, with_reader}
 use Rattle.iol_kernel.specs.MakingRoom.{AfterRoom}
@@ -60,6 +61,11 @@ abbrev pub Publishes : KernelState → Event → KernelState → Type 0
 Publishes old (event.Call by c) new = CallPublishes old by c new
 Publishes old (event.Arrive c bytes) new = Makes (with_incoming c) (conn_at (tables_of old) c).pool (arrive (tables_of old) c bytes).answer old new
 Publishes old e new = KeepsPages old.store new.store []
+
+-- no page was published or freed, and no pool changed
+pub record SamePages (old new : Stored) : Type 0 where
+  pub arena : new.arena ≡ old.arena
+  pub pools : new.pools ≡ old.pools
 
 -- A file came of which nothing is in memory. Nothing else changed: no page and no other table, and no extent or height of other files.
 pub record CreatesFile (old new : KernelState) : Type 0 where

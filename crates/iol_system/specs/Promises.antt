@@ -17,7 +17,7 @@ use Rattle.iol_system.specs.Asking.{asks_store, makes_file, uses_cache, writes_s
 use Rattle.iol_system.specs.InPlace.{KeepsInPlace, SharesFile}
 use Rattle.iol_system.specs.Late.{LeavesLate}
 use Rattle.iol_system.specs.Machine.{SystemState, machine_of, tables_of}
-use Rattle.iol_system.specs.Placed.{Creates, Publishes}
+use Rattle.iol_system.specs.Placed.{Creates, Publishes, SamePages}
 use Rattle.iol_system.specs.Remembered.{Remembers}
 use Rattle.iol_system.specs.Room.{HasRoomFor, LacksRoomFor, IsDone, IsEarly, IsFault, IsNoRoom, IsRefused}
 use Rattle.iol_system.specs.Safe.{IsSafe}
@@ -31,12 +31,12 @@ use Rattle.iol_system.specs.WrittenBack.{IsDropped, IsFlushed, IsKept, IsSynced,
 -- wants pages or works on what memory has of files, one for want of room or of memory or by a fault may leave clean parts of files
 -- gone, those that go first before the others, hits counted, pages raised that were filled and are free again, and by `fsync` and
 -- `flush` what was written back before. Other events leave what memory has of files, but that a new file has nothing there; `show`
--- and `length` change nothing at all. What a sharing call hands on lies where it lay, and no page is published or freed; what a
+-- and `length` change nothing at all. What a sharing call hands on lies where it lay, and no page and no pool changes; what a
 -- call leaves that is not about bytes lies where it lay, and so does what is left where bytes are sent, copied out of a queue, or
--- a position moves, which changes no page; bytes of files in memory lie where they lay, but those that are written
+-- a position moves; that changes no page, nor does writing back; bytes of files in memory lie where they lay, but those that are written
 -- and clean ones that give way, and calls on files share them, and what is read or written by copying is in memory then, too;
 -- calls that make buffers do so on the lowest free pages, each of which is raised by one, and no others do, and no more gives way
--- for new bytes than was wanted; an open pool keeps its chunks, and a new one has the lowest free; admitting a domain changes the
+-- for new bytes than was wanted; an open pool keeps its chunks, a closed one all of them or none, and a new one has the lowest free; admitting a domain changes the
 -- pool's list alone; sending remembers the sums of what is sent; after `fsync` an honest store has the file, and nothing of it is dirty, `flush` leaves one dirty extent fewer, and
 -- `drop_clean` no clean one; new is safe again; live buffers keep their bytes, and aggregates their values.
 pub record Promises (old : SystemState) (e : Event) (r : Reply) (new : SystemState) : Type 0 where
@@ -55,7 +55,7 @@ pub record Promises (old : SystemState) (e : Event) (r : Reply) (new : SystemSta
   pub late : LeavesLate old e r new
   pub looks : only_looks e ≡ true → new ≡ old
   pub shares : is_sharing (tables_of old.kernel) e ≡ true → LaysOut (layout_of old.kernel) e r (layout_of new.kernel)
-  pub pages : is_sharing (tables_of old.kernel) e ≡ true → new.kernel.store.arena ≡ old.kernel.store.arena
+  pub pages : is_sharing (tables_of old.kernel) e ≡ true → SamePages old.kernel.store new.kernel.store
   pub still : is_still e ≡ true → LaysOut (layout_of old.kernel) e r (layout_of new.kernel)
   pub in_place : KeepsInPlace old e new.kernel
   pub places : takes_out (tables_of old.kernel) e ≡ true → IsDone r → layout_of new.kernel ≡ (meaning (layout_of old.kernel) e).after

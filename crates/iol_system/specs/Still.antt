@@ -40,9 +40,11 @@ takes_out s (event.Call by (call.Read fd n)) = not (is_file (held_by s by fd))
 takes_out s (event.Transmit c max) = true
 takes_out s e = false
 
--- Whether the event looks at something or moves a position: it changes no page, no count and no pool.
+-- Whether the event looks at something, moves a position or writes back: it changes no page, no count and no pool.
 abbrev pub keeps_store : Event → Bool
 keeps_store (event.Call by (call.Show a)) = true
 keeps_store (event.Call by (call.Length fd)) = true
 keeps_store (event.Call by (call.Seek fd at)) = true
+keeps_store (event.Call by (call.Fsync fd)) = true
+keeps_store event.Flush = true
 keeps_store e = false

@@ -1,7 +1,7 @@
 //! Laws of runs: what follows from a run's clause `chain`, whatever the events; and of what lies in a system between any
 //! two of them. The functions do nothing; their contracts are the laws.
 ghost use Rattle.iol_system.specs.Laws.{RunsAsTheMachine, RunsInParts, EachEventIsAStep};
-ghost use Rattle.iol_system.specs.Laws.{AllPagesComeFree, EachPageHasOneUse, EachChunkHasOnePool, NoRoomEvictsNothing};
+ghost use Rattle.iol_system.specs.Laws.{AllPagesComeFree, EachPageHasOneUse, EachChunkHasOnePool, EachStepKeepsChunks, NoRoomEvictsNothing};
 ghost use Rattle.iol_system.specs.Laws.{RunsStaySafe, RunsStayOrderly, RunsKeepBuffers, RunsKeepValues, RunsShare};
 
 /// The replies of a run, and the state after it, are those of the machine that copies at every call.
@@ -20,9 +20,14 @@ pub fn each_event_is_a_step()
 {}
 
 /// An event that is refused for want of room evicts nothing: each extent lies where it lay, dirty or clean as it was, and L of
-/// each pool stays. A read of a file has counted its hits by then.
+/// each pool stays, and its order of eviction, but that a read of a file has counted its hits by then.
 pub fn no_room_evicts_nothing()
     ensures { NoRoomEvictsNothing }
+{}
+
+/// Each event leaves an open pool its chunks, and a closed one all of them or none, whatever it is answered.
+pub fn each_step_keeps_chunks()
+    ensures { EachStepKeepsChunks }
 {}
 
 /// A run from a safe system ends in a safe one. With [`runs_in_parts`], counts and access are right at each moment.

@@ -25,7 +25,7 @@ ghost use Rattle.iol_arena.specs.Buffers.{SharesNoPage, live_pages};
 ghost use Rattle.iol_system.specs.Asking.{asks_store, makes_file, uses_cache, writes_store};
 ghost use Rattle.iol_system.specs.InPlace.{KeepsInPlace, SharesFile};
 ghost use Rattle.iol_system.specs.Late.{LeavesLate};
-ghost use Rattle.iol_system.specs.Placed.{Creates, Publishes};
+ghost use Rattle.iol_system.specs.Placed.{Creates, Publishes, SamePages};
 ghost use Rattle.iol_system.specs.Remembered.{Remembers};
 ghost use Rattle.iol_system.specs.Room.{HasRoomFor, LacksRoomFor, IsDone, IsEarly, IsFault, IsNoRoom, IsRefused};
 ghost use Rattle.iol_system.specs.Still.{is_still, keeps_store, only_looks, takes_out};
@@ -167,16 +167,17 @@ impl<B: Backing> System<B> {
         ensures late { LeavesLate self.old event result self.new }
         ensures looks { only_looks event ≡ true → self.new ≡ self.old }
 
-        // What a sharing call hands on lies where it lay, and no page is published or freed. So does all that is left by an event
-        // that is not about bytes.
+        // What a sharing call hands on lies where it lay, no page is published or freed, and no pool changes. So does all lie that
+        // is left by an event that is not about bytes.
         ensures shares { is_sharing (tables_of self.old.kernel) event ≡ true →
             LaysOut (layout_of self.old.kernel) event result (layout_of self.new.kernel) }
         ensures pages { is_sharing (tables_of self.old.kernel) event ≡ true →
-            self.new.kernel.store.arena ≡ self.old.kernel.store.arena }
+            SamePages self.old.kernel.store self.new.kernel.store }
         ensures still { is_still event ≡ true →
             LaysOut (layout_of self.old.kernel) event result (layout_of self.new.kernel) }
 
-        // Nor does anything move that is left where bytes are sent or copied off a queue, or a position moves, which changes no page.
+        // Nor does anything move that is left where bytes are sent or copied off a queue, or a position moves. A position
+        // that moves changes no page and no pool, nor does writing back.
         ensures places { takes_out (tables_of self.old.kernel) event ≡ true → IsDone result →
             layout_of self.new.kernel ≡ (meaning (layout_of self.old.kernel) event).after }
         ensures store { keeps_store event ≡ true →
@@ -191,8 +192,8 @@ impl<B: Backing> System<B> {
             SharesFile self.old event result self.new.kernel }
 
         // What publishes does so on the lowest free pages of its pool, each of which is raised by one; where new bytes are placed
-        // room is made first, and nothing else changes then, so no more gives way. An open pool keeps its chunks, and a new one
-        // has the lowest free chunks, as many as asked for. Where a domain is admitted to a pool, that list names it, and nothing
+        // room is made first, and nothing else changes then, so no more gives way. An open pool keeps its chunks, a closed one all of
+        // them or none, and a new one has the lowest free chunks, as many as asked for. Where a domain is admitted to a pool, that list names it, and nothing
         // else changes. Of a new file nothing is in memory, and nothing else changes.
         ensures publishes { IsDone result →
             Publishes self.old.kernel event self.new.kernel }

@@ -1,3 +1,4 @@
+use Rattle.iol_laws.proofs.Blocking.{arrival_is_full, segment_is_empty}
 use Rattle.iol_laws.proofs.Reasons.{conn_is_empty, pipe_is_empty, conn_is_hidden, pipe_is_hidden, conn_is_full, pipe_is_full, peer_is_gone, nobody_reads, nobody_waits, close_is_done, drop_is_done}
 use Rattle.iol_laws.proofs.laws.refusals_tell_why.Goals as goal
 
@@ -11,6 +12,8 @@ returns c = record {
   pipe_is_full = pipe_is_full;
   peer_is_gone = peer_is_gone;
   nobody_reads = nobody_reads;
+  arrival_is_full = arrival_is_full;
+  segment_is_empty = segment_is_empty;
   nobody_waits = nobody_waits;
   close_is_done = close_is_done;
   drop_is_done = drop_is_done;

@@ -6,7 +6,6 @@ use Rattle.iol_hold.specs.Moves.{Moves}
 use Rattle.iol_hold.proofs.Counting.{one_less}
 use Rattle.iol_hold.proofs.Moving.{shares_move, moves_trans}
 use Rattle.iol_hold.proofs.Placing.{tidy_count}
-use Rattle.iol_pool.specs.Pools.{pool_in}
 use Rattle.iol_hold.specs.Stored.{Stored}
 use Rattle.iol_hold.proofs.Releasing.{frees_none, frees_trans}
 use Rattle.iol_hold.proofs.store.Store.release.Goals as goal
@@ -27,7 +26,7 @@ returns-else-count-gt1-clause-moves c =
     subst (λ b. Moves s c.settle.new.self (b ∷ []) []) c.buf-buf.ensures (moves_trans c.free.ensures.moves c.settle.ensures.moves)
 
 pub returns-then-count-gt1-clause-frees : goal.returns-then-count-gt1-clause-frees
-returns-then-count-gt1-clause-frees c = frees_none c.args.self.now c.set_count.new.self (ap (λ (x : Stored). x.arena.entries) c.set_count.ensures.set) (ap (λ (x : Stored). x.arena.limit) c.set_count.ensures.set) (λ p is. ap (λ (x : Stored). pool_in x.pools p) c.set_count.ensures.set)
+returns-then-count-gt1-clause-frees c = frees_none c.args.self.now c.set_count.new.self (ap (λ (x : Stored). x.arena.entries) c.set_count.ensures.set) (ap (λ (x : Stored). x.arena.limit) c.set_count.ensures.set) (ap (λ (x : Stored). x.pools) c.set_count.ensures.set)
 
 pub returns-else-count-gt1-clause-frees : goal.returns-else-count-gt1-clause-frees
 returns-else-count-gt1-clause-frees c = frees_trans c.free.ensures.frees c.settle.ensures.frees c.settle.ensures.moves.counts

@@ -7,8 +7,8 @@ use Rattle.iol_pool.proofs.Owning.{map-settled}
 use Rattle.iol_hold.specs.Moves.{Moves, pool_meant}
 use Rattle.iol_hold.specs.View.{stored}
 use Rattle.iol_hold.proofs.Settling.{settled_moves, settled_settled, length-settled_arena}
-use Rattle.iol_hold.specs.Releases.{FreesOnly}
-use Rattle.iol_hold.proofs.Releasing.{frees_none, settled_entries, settled_limit, open_settled}
+use Rattle.iol_hold.specs.Releases.{FreesOnly, HasAllOrNone}
+use Rattle.iol_hold.proofs.Releasing.{chunks_settled, frees_chunks, settled_entries, settled_limit, open_settled}
 use Rattle.iol_hold.proofs.store.Store.settle.Goals as goal
 
 abbrev with_both : Stored → State → List Pool → Stored
@@ -49,8 +49,9 @@ pub returns-clause-frees : goal.returns-clause-frees
 returns-clause-frees c =
     let s : Stored = stored c.self.inside in
     let t = with_both s c.settle.new.arena c.settle.new.self in
-    let frees = frees_none s t (ap (λ (a : State). a.entries) c.settle.ensures.arena ∙ settled_entries s.arena s.pools c.args.pool) (ap (λ (a : State). a.limit) c.settle.ensures.arena ∙ settled_limit s.arena s.pools c.args.pool)
-    (λ q is. ap (λ (ps : List Pool). pool_in ps q) c.settle.ensures.pools ∙ open_settled s.arena s.pools c.args.pool q is) in
+    let frees = frees_chunks s t (ap (λ (a : State). a.entries) c.settle.ensures.arena ∙ settled_entries s.arena s.pools c.args.pool) (ap (λ (a : State). a.limit) c.settle.ensures.arena ∙ settled_limit s.arena s.pools c.args.pool)
+    (λ q is. ap (λ (ps : List Pool). pool_in ps q) c.settle.ensures.pools ∙ open_settled s.arena s.pools c.args.pool q is)
+    (λ q. subst (λ (ps : List Pool). HasAllOrNone s (with_both s c.settle.new.arena ps) q) (sym c.settle.ensures.pools) (chunks_settled s.arena s.pools c.args.pool q)) in
     subst (λ x. FreesOnly x t) c.self.view_is frees
 
 pub returns-clause-settles : goal.returns-clause-settles

@@ -179,6 +179,7 @@ returns-in-Err-clause-leaves c =
       room = room_alone h s c.write.new.store (cached_of c.write.new.self) c.args.file c.args.at c.args.pool xs c.args.bytes.now (files_apart h c.requires.sound) own (filled_len s xs c.args.pool c.args.bytes.now e.text) e.text c.in-Err.ensures.evicts;
       released = c.release.ensures.moves;
       frees = c.release.ensures.frees;
+      lists = c.release.ensures.lists;
       rest = refl;
     })
 
