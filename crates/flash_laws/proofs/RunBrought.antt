@@ -23,7 +23,7 @@ use Rattle.flash_laws.specs.Conn.{Following, has_followed, count_of, piece_end}
 use Rattle.flash_laws.specs.Fits.{Has}
 use Rattle.flash_laws.specs.RunFits.{Progress, Ran, NotRun, Broken, HasHeard, HasPart, HasLeft, HasRun}
 use Rattle.flash_laws.specs.RunKeeping.{RunsKeepNothing}
-use Rattle.flash_laws.specs.Running.{worker_domain, has_frame, uses_agg, held_size, in_phase, step_wants, wants, broken, ending, told_sending, told_hears, holding, hearing, told_step, told, is_left, is_over}
+use Rattle.flash_laws.specs.Running.{both, worker_domain, has_frame, uses_agg, held_size, in_phase, step_wants, wants, broken, ending, told_sending, told_hears, holding, hearing, told_step, told, is_left, is_over}
 use Rattle.flash_laws.specs.Scripts.{script_text, frame_of, place_in_frame, end_around}
 use Rattle.flash_laws.specs.Site.{server}
 use Rattle.flash_laws.specs.declared.doing.Doing.{Doing}
@@ -153,7 +153,7 @@ module _ (come : AggregatesComeAndGo) (own : CallsServeTheirDomain) (m n : State
     step-brings run (Hears held frame) r heard has step = hears-brings run held frame r heard has.1 step
     step-brings run (Spills b frame) r heard has step = absurd (dropped b r step)
     step-brings run (Gathers held size piece len frame) r heard has step = made (call.AggJoin held piece) (has.1.bytes ++ has.1.more) (λ k. told_step w run (Gathers held size piece len frame) k heard) r step
-        (own.join m n server held piece has.1.bytes has.1.more r order has.1.has.holds.lends has.1.lends step) (λ x is. is) (λ x is. cc (is)) (λ x is. holding-new x (size + len) frame a is)
+        (own.join m n server held piece has.1.bytes has.1.more r order has.1.has.holds.lends has.1.lends step) (λ x is. is) (λ x is. cc (is)) (λ x is. holding-new x (both size len) frame a is)
     step-brings run (Frames held) r heard has step = made (call.AggMake (frame_of CHUNK_BYTES)) (frame_of CHUNK_BYTES) (λ k. told_step w run (Frames held) k heard) r step (own.make m n server (frame_of CHUNK_BYTES) r order step) (λ x is. is) (λ x is. cc (is))
         (λ x is. later_of (held == a) (x == a) is)
     step-brings run (Wraps held frame) r heard has step = made (call.AggReplace frame (place_in_frame CHUNK_BYTES) (place_in_frame CHUNK_BYTES) held) (take (place_in_frame CHUNK_BYTES) (frame_of CHUNK_BYTES) ++ has.1.0.bytes ++ drop (place_in_frame CHUNK_BYTES) (frame_of CHUNK_BYTES))

@@ -22,7 +22,7 @@ use Rattle.flash_laws.specs.Conn.{Following, has_followed, count_of}
 use Rattle.flash_laws.specs.Fits.{Has}
 use Rattle.flash_laws.specs.RunFits.{Progress, Goes, Ends, IsHeld, HasHeard, HasAll, HasPart, HasStep, HasRun}
 use Rattle.flash_laws.specs.RunKeeping.{has_end}
-use Rattle.flash_laws.specs.Running.{worker_domain, has_frame, step_agg, ends_of, uses_agg, step_wants, wants, is_again, broken, ending, told_gives, told_sending, told_hears, filled, holding, hearing, unread, finishing, told_step, told}
+use Rattle.flash_laws.specs.Running.{both, worker_domain, has_frame, step_agg, ends_of, uses_agg, step_wants, wants, is_again, broken, ending, told_gives, told_sending, told_hears, filled, holding, hearing, unread, finishing, told_step, told}
 use Rattle.flash_laws.specs.Site.{server}
 use Rattle.flash_laws.specs.declared.doing.Doing.{Doing}
 use Rattle.flash_laws.specs.declared.doing.Doing.TheVariants as doing
@@ -199,7 +199,7 @@ module _ (job : ℕ → List ℕ) (m : State) (fd : ℕ) (w : Wanted) (o : Progr
   gathers held size piece len frame (reply.Agg n) heard u unused = (by (has_frame frame a) refl (held == a) (piece == a) u, refl)
     where
       by : (f : Bool) → has_frame frame a ≡ f → (x y : Bool) → (x || (y || f)) ≡ true → (x || y) ≡ true
-      by true is x y u = absurd (clash (step_agg (holding n (size + len) frame) a) (holding-frame n (size + len) frame a is) unused)
+      by true is x y u = absurd (clash (step_agg (holding n (both size len) frame) a) (holding-frame n (both size len) frame a is) unused)
       by false is true y u = refl
       by false is false y u = bare y u
   gathers held size piece len frame r heard u unused = absurd (clash (step_agg (Gathers held size piece len frame) a) u unused)
@@ -355,7 +355,7 @@ module _ (own : CallsServeTheirDomain) (job : ℕ → List ℕ) (m n : State) (f
   spills-ends b frame r heard = refl
 
   gathers-ends : (held size piece len : ℕ) (frame : Option ℕ) (r : Reply) (heard : List ℕ) → Stays (Gathers held size piece len frame) r heard
-  gathers-ends held size piece len frame (reply.Agg k) heard = holding-ends k (size + len) frame
+  gathers-ends held size piece len frame (reply.Agg k) heard = holding-ends k (both size len) frame
   gathers-ends held size piece len frame r heard = refl
 
   frames-ends : (held : ℕ) (r : Reply) (heard : List ℕ) → Stays (Frames held) r heard

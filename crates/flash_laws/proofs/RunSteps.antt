@@ -26,7 +26,7 @@ use Rattle.flash_laws.specs.Conn.{Following, has_followed, count_of}
 use Rattle.flash_laws.specs.Fits.{HoldsRest, Names}
 use Rattle.flash_laws.specs.RunFits.{Progress, Ran, Broken, NotRun, nothing_yet, HoldsBack, Continues, IsLeft, Goes, Ends, HasJobPipe, IsReading, HasPipe, IsHeld, HasFrame, meets, HasOutput, HasHeard, HasAll, sends_frame, HasChunk, HasStep, HasRun}
 use Rattle.flash_laws.specs.RunOffers.{hears_on, Learns}
-use Rattle.flash_laws.specs.Running.{worker_domain, job_pipe, has_frame, step_agg, uses_fd, held_size, is_again, broken, told_awaits, told_gives, told_makes, told_hands, told_heads, filled, holding, hearing, unread, told_hears, told_gathers, told_frames, told_wraps, finishing, stopped, told_stops, told_unframes, ending, told_lasts, told_wraps_last, told_unwraps, told_returns, told_fails}
+use Rattle.flash_laws.specs.Running.{both, worker_domain, job_pipe, has_frame, step_agg, uses_fd, held_size, is_again, broken, told_awaits, told_gives, told_makes, told_hands, told_heads, filled, holding, hearing, unread, told_hears, told_gathers, told_frames, told_wraps, finishing, stopped, told_stops, told_unframes, ending, told_lasts, told_wraps_last, told_unwraps, told_returns, told_fails}
 use Rattle.flash_laws.specs.Scripts.{script_text, script_body, frame_of, place_in_frame, end_around}
 use Rattle.flash_laws.specs.Site.{server}
 use Rattle.flash_laws.specs.declared.doing.Doing.TheVariants as doing
@@ -336,9 +336,9 @@ module _ (steps : EachStepLeavesTheRest) (own : CallsServeTheirDomain) (m n : St
             → HasRun job n w o (Runs run (told_gathers held size piece len frame r))
         by (reply.Agg x) did step = (
           still-hired (call.AggJoin held piece) (reply.Agg x) step refl,
-          held-now x (size + len) (has.bytes ++ has.more) frame o did.0
-              (let a = length-append has.bytes has.more in let b = has.has.holds.count in let c = has.count in omega (arith, a, b, c))
-              (let b = has.has.holds.some in omega (arith, b)) has.within has.has.holds.chunked has.whole
+          held-now x (both size len) (has.bytes ++ has.more) frame o did.0
+              (let a = length-append has.bytes has.more in let b = has.has.holds.count in let c = has.count in let within = has.within in omega (arith, a, b, c, within))
+              (let b = has.has.holds.some in omega (arith, b)) (let within = has.within in omega (arith, within)) has.has.holds.chunked has.whole
               (still-reading (call.AggJoin held piece) (reply.Agg x) step refl has.reads)
               (frame-on m n frame (λ a bytes u is. lends (call.AggJoin held piece) (reply.Agg x) step a bytes (or_from (held == a) (piece == a) (other (λ z. has_frame frame z) held a has.has.apart u) (other (λ z. has_frame frame z) piece a has.apart u)) is) has.has.frames)
               (new-frame m frame x has.has.frames did.1) has.goes,

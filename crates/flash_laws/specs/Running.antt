@@ -2,7 +2,7 @@
 --
 -- It begins once the text of the script is read, and is the answer to a request that is served and is no HEAD. `job` is the text of
 -- the job, which names the descriptor at which the worker has the pipe's write end.
-use Rattle.std.specs.Prelude.{ℕ, ◌+◌, ◌-◌, ◌==◌, ◌&&◌, ◌||◌, nat_lt, not, Bool, true, false, List, [], ◌∷◌, Option, Some, None, if◌then◌else◌}
+use Rattle.std.specs.Prelude.{ℕ, min, ◌+◌, ◌-◌, ◌==◌, ◌&&◌, ◌||◌, nat_lt, not, Bool, true, false, List, [], ◌∷◌, Option, Some, None, if◌then◌else◌}
 use Rattle.iol_core.specs.declared.refusals.Refusal.{Refusal}
 use Rattle.iol_core.specs.declared.refusals.Refusal.TheVariants as no
 use Rattle.iol_core.specs.declared.events.Call.{Call}
@@ -234,8 +234,12 @@ abbrev pub told_spills : (agg : ℕ) → (frame : Option ℕ) → Reply → Step
 told_spills a frame reply.Done = Hears None frame
 told_spills a frame r = Spills a frame
 
+-- how many bytes two aggregates have, as a number of 32 bits
+abbrev pub both : (size len : ℕ) → ℕ
+both size len = min (size + len) 4294967295
+
 abbrev pub told_gathers : (held size piece len : ℕ) → (frame : Option ℕ) → Reply → Step
-told_gathers held size piece len frame (reply.Agg n) = holding n (size + len) frame
+told_gathers held size piece len frame (reply.Agg n) = holding n (both size len) frame
 told_gathers held size piece len frame r = Gathers held size piece len frame
 
 abbrev pub told_frames : (held : ℕ) → Reply → Step
