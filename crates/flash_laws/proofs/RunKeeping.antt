@@ -1,5 +1,5 @@
 -- What a run uses no more is given up.
-use Rattle.std.proofs.Common.{◌≡◌, ℕ, ◌+◌, ◌-◌, ◌==◌, List, [], ◌∷◌, ap, ◌∙◌, refl, sym, arith, Option, Some, None, true, false, Bool, if◌then◌else◌, length, take}
+use Rattle.std.proofs.Common.{◌≡◌, ℕ, ◌-◌, ◌==◌, List, [], ◌∷◌, ap, ◌∙◌, refl, sym, arith, Option, Some, None, true, false, Bool, if◌then◌else◌, length, take}
 use Rattle.std.specs.Prelude.{◌||◌, nat_lt}
 use Rattle.iol_core.specs.State.{State, descriptor}
 use Rattle.iol_core.specs.Run.{StepsTo}
