@@ -27,8 +27,8 @@ def fault_met(script, call, expected, check):
 def faults_met(script, expected, check=lambda lines, output: None):
     """How many calls of the store there were to fail.
 
-    The line that meets the fault is answered so. Made again it is answered as without the fault, and so is every other
-    line. A check may look at each run.
+    The line that meets the fault is answered so. Made again it is answered as without the fault, and so is every
+    other line. A check may look at each run.
     """
     for call in range(1, MOST_CALLS + 1):
         if not fault_met(script, call, expected, check):

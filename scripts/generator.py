@@ -12,16 +12,17 @@ from model.texts import encode
 from themes import THEMES
 
 TRIES = 8
-WILD = 0.05  # how often a word of a call is drawn from what is not there
+WILD, ODD = 0.05, 0.4  # how often a word of a call is drawn from what is not there, and how often in an odd line
+ODD_LINES = 0.04
 WORDS = {  # what stands behind each name, in order
     "pool_create": ("chunks", "domains"), "pool_close": ("pool",), "pool_admit": ("pool", "domain"),
-    "set_pool": ("pool",), "agg_make": ("text",), "agg_fill": ("times",), "agg_dup": ("agg",), "agg_cut": ("agg", "part"),
-    "agg_split": ("agg", "place"), "agg_join": ("agg", "agg"), "agg_replace": ("agg", "part", "agg"),
-    "agg_drop": ("agg",), "agg_give": ("agg", "domain"), "show": ("agg",), "file_new": ("new_name", "pool"),
-    "open_file": ("named", "mode"), "give_fd": ("fd", "domain"), "close": ("fd",), "seek": ("fd", "place"),
-    "length": ("fd",), "fsync": ("fd",), "iol_write": ("fd", "agg"), "iol_read": ("fd", "count"),
-    "write": ("fd", "text"), "read": ("fd", "count"), "conn_new": ("pool",), "arrive": ("conn", "text"),
-    "peer_closed": ("conn", "how"), "transmit": ("conn", "count"),
+    "set_pool": ("pool",), "agg_make": ("text",), "agg_fill": ("times",), "agg_dup": ("agg",),
+    "agg_cut": ("agg", "part"), "agg_split": ("agg", "place"), "agg_join": ("agg", "agg"),
+    "agg_replace": ("agg", "part", "agg"), "agg_drop": ("agg",), "agg_give": ("agg", "domain"), "show": ("agg",),
+    "file_new": ("new_name", "pool"), "open_file": ("named", "mode"), "give_fd": ("fd", "domain"), "close": ("fd",),
+    "seek": ("fd", "place"), "length": ("fd",), "fsync": ("fd",), "iol_write": ("fd", "agg"),
+    "iol_read": ("fd", "count"), "write": ("fd", "text"), "read": ("fd", "count"), "conn_new": ("pool",),
+    "arrive": ("conn", "text"), "peer_closed": ("conn", "how"), "transmit": ("conn", "count"),
 }
 
 
@@ -30,7 +31,8 @@ def is_file(on):
 
 
 FITS = {  # the descriptors that are drawn for a call, mostly
-    "seek": is_file, "length": is_file, "fsync": is_file, "iol_read": lambda on: on.reads, "read": lambda on: on.reads,
+    "seek": is_file, "length": is_file, "fsync": is_file,
+    "iol_read": lambda on: on.reads, "read": lambda on: on.reads,
     "iol_write": lambda on: on.writes, "write": lambda on: on.writes,
 }
 
@@ -44,7 +46,7 @@ class Words:
     """Draws the words of calls, of what the machine has or, rarely, of what it has not."""
 
     def is_wild(self):
-        return self.chance.random() < WILD
+        return self.chance.random() < self.wildness
 
     def one_of(self, numbers, next_number):
         """A number of those that are there, mostly of the last, or one that is not."""
@@ -149,7 +151,7 @@ class Drawing(Words):
         self.theme = theme_of(seed)
         self.lines = [line.encode() for line in self.theme.headers(self.chance)]
         self.machine = set_up(self.lines)
-        self.caller, self.name, self.of, self.met = None, "", 0, set()
+        self.caller, self.name, self.of, self.wildness, self.met = None, "", 0, WILD, set()
         for line in self.theme.opening(self.chance):
             self.take(line.encode())
         for _ in range(self.chance.randint(*self.theme.lines)):
@@ -157,7 +159,11 @@ class Drawing(Words):
         self.lines.append(b"report")
 
     def line(self):
-        """A line, drawn again while the model refuses it, mostly."""
+        """A line, drawn again while the model refuses it, mostly. An odd one may be wrong for several reasons."""
+        if self.chance.random() < ODD_LINES:
+            self.wildness = ODD
+            return self.drawn().encode()
+        self.wildness = WILD
         for _ in range(TRIES):
             line = self.drawn().encode()
             if line == b"report":

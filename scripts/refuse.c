@@ -1,27 +1,40 @@
 /*
- * Loaded into a program, refuses the growth of its memory that REFUSE names, or fails the call on a file or folder that
- * FAIL names, or the sending or receiving that BREAK names, each counted from 0, and says so.
+ * Loaded into a program, hinders what one of these words of its environment names, and says so:
+ *
+ * REFUSE  a growth of its memory
+ * FAIL    a call on a file, a folder or its input
+ * BREAK   a sending or receiving on a connection
+ * SPOIL   a writing to its output
+ *
+ * Each names one, counted from 0. SHORT is how many bytes any of these moves at most.
  */
 #define NEXT ((void *)-1L)
 #define EIO 5
 #define ECONNRESET 104
+#define OUTPUT 1
+#define ERRORS 2
+
+typedef unsigned long size;
 
 extern void *dlsym(void *, const char *);
 extern char *getenv(const char *);
-extern long write(int, const void *, unsigned long);
 extern int *__errno_location(void);
+long write(int, const void *, size);
 
 struct turn {
     const char *name, *told;
-    int is_known;
     long left;
+    int is_known;
 };
 
 static struct turn growth = {"REFUSE", "growth refused\n", 0, 0};
 static struct turn call = {"FAIL", "call failed\n", 0, 0};
 static struct turn traffic = {"BREAK", "connection broken\n", 0, 0};
+static struct turn output = {"SPOIL", "output spoiled\n", 0, 0};
+static struct turn most = {"SHORT", "", 0, 0};
 
-static int has_come(struct turn *turn) {
+/* The number behind a name, which is left, or -1 where there is none. */
+static long left(struct turn *turn) {
     const char *word;
     if (!turn->is_known) {
         turn->is_known = 1;
@@ -29,11 +42,16 @@ static int has_come(struct turn *turn) {
         for (turn->left = word ? 0 : -1; word && *word; word++)
             turn->left = 10 * turn->left + (*word - '0');
     }
-    if (turn->left < 0 || turn->left-- > 0)
+    return turn->left;
+}
+
+static int has_come(struct turn *turn) {
+    const char *end = turn->told;
+    if (left(turn) < 0 || turn->left-- > 0)
         return 0;
-    for (word = turn->told; *word; word++)
-        ;
-    write(2, turn->told, word - turn->told);
+    while (*end)
+        end++;
+    write(ERRORS, turn->told, end - turn->told);
     return 1;
 }
 
@@ -42,6 +60,10 @@ static int fails(struct turn *turn, int error) {
         return 0;
     *__errno_location() = error;
     return 1;
+}
+
+static size at_most(size wanted) {
+    return left(&most) > 0 && wanted > (size)most.left ? (size)most.left : wanted;
 }
 
 /* A function of the C library, that runs what is given first. */
@@ -54,17 +76,19 @@ static int fails(struct turn *turn, int error) {
         return next arguments; \
     }
 
-BEFORE(void *, malloc, (unsigned long size), (size), if (has_come(&growth)) return 0)
-BEFORE(void *, realloc, (void *old, unsigned long size), (old, size), if (has_come(&growth)) return 0)
+BEFORE(void *, malloc, (size n), (n), if (has_come(&growth)) return 0)
+BEFORE(void *, realloc, (void *old, size n), (old, n), if (has_come(&growth)) return 0)
 BEFORE(int, open, (const char *path, int flags, unsigned mode), (path, flags, mode), if (fails(&call, EIO)) return -1)
 BEFORE(int, openat, (int dir, const char *path, int flags, unsigned mode), (dir, path, flags, mode),
        if (fails(&call, EIO)) return -1)
 BEFORE(int, statx, (int dir, const char *path, int flags, unsigned mask, void *found), (dir, path, flags, mask, found),
        if (fails(&call, EIO)) return -1)
 BEFORE(long, lseek, (int fd, long at, int from), (fd, at, from), if (fails(&call, EIO)) return -1)
-BEFORE(long, read, (int fd, void *into, unsigned long size), (fd, into, size), if (fails(&call, EIO)) return -1)
-BEFORE(long, getdents64, (int fd, void *into, unsigned long size), (fd, into, size), if (fails(&call, EIO)) return -1)
-BEFORE(long, recv, (int fd, void *into, unsigned long size, int flags), (fd, into, size, flags),
+BEFORE(long, getdents64, (int fd, void *into, size n), (fd, into, n), if (fails(&call, EIO)) return -1)
+BEFORE(long, read, (int fd, void *into, size n), (fd, into, at_most(n)), if (fails(&call, EIO)) return -1)
+BEFORE(long, recv, (int fd, void *into, size n, int flags), (fd, into, at_most(n), flags),
        if (fails(&traffic, ECONNRESET)) return -1)
-BEFORE(long, send, (int fd, const void *from, unsigned long size, int flags), (fd, from, size, flags),
+BEFORE(long, send, (int fd, const void *from, size n, int flags), (fd, from, at_most(n), flags),
        if (fails(&traffic, ECONNRESET)) return -1)
+BEFORE(long, write, (int fd, const void *from, size n), (fd, from, fd == OUTPUT ? at_most(n) : n),
+       if (fd == OUTPUT && fails(&output, EIO)) return -1)

@@ -124,9 +124,28 @@ MIXED = (
     "1 domain_new", "1 pool_create 2 1,2", "1 pool_create 2 1", "1 pool_create 2 1,2", "1 pipe", "1 give_fd 0 2",
     "1 set_pool 1", "1 agg_make both", "1 iol_write 1 1", "1 set_pool 2", "1 agg_make mine", "1 iol_write 1 2",
 )
+# Domain 1 places bytes in a closed pool, and nobody reads its pipe, nor its connection.
+BROKEN = (
+    "1 pool_create 2 1", "1 pool_create 2 1", "1 set_pool 1", "1 pipe", "1 agg_make x", "1 close 0", "conn_new 2",
+    "1 accept", "peer_closed 1 gone", "1 pool_close 1", "1 write 1 x", "1 write 0 x",
+)
+# A file whose pool is full, and bytes that lie in another.
+FULL_POOL = (
+    "1 pool_create 1 1", "1 pool_create 1 1", "1 set_pool 1", "1 agg_fill 65536 a", "1 set_pool 2", "1 agg_make b",
+    "1 file_new f 1", "1 open_file f both", "1 iol_write 0 2",
+)
+CONNECTED = (
+    "1 domain_new", "1 pool_create 2 1,2", "1 set_pool 1", "conn_new 1", "1 accept", "1 write 0 hello", "arrive 1 hello",
+    "transmit 1 3",
+)
+FULL_QUEUES = (
+    "1 pool_create 8 1", "1 set_pool 1", "1 pipe", "1 agg_fill 65536 a", "1 iol_write 1 1", "1 iol_write 1 1", "1 write 1 b",
+    "conn_new 1", "1 accept", f"arrive 1 {'c' * 65_536}", "arrive 1 d",
+)
 FEW = (20, 60)
 STORE = {"weights": times(ON_FILES, 4), "pools": (1, 2)}
 NET = {"weights": times(ON_NET, 4)}
+QUEUES = {**NET, "pools": (4, 8), "chunks": (16, 32), "texts": (*LARGE, (60_000, 70_000)), "lines": FEW}
 FULL = {"weights": times(GIVEN_UP, 0), "lines": FEW}
 # A seed has the theme of its place here, over and over.
 THEMES = [
@@ -135,10 +154,14 @@ THEMES = [
     *[Theme(chunks=(1, 3), generations=(1, 4), pools=(1,), texts=LARGE)] * 8,
     *[Theme(**STORE, is_swept=True, is_stored=True)] * 12,
     *[Theme(**STORE, chunks=(2, 4), texts=LARGE, is_stored=True)] * 8,
-    *[Theme(**STORE, is_faulty=True)] * 10,
-    *[Theme(weights=times(ON_PIPES, 6), filling=MIXED)] * 8,
-    *[Theme(**NET, is_swept=True)] * 12,
-    *[Theme(**NET, pools=(4, 8), chunks=(16, 32), texts=(*LARGE, (60_000, 70_000)), lines=FEW)] * 8,
+    *[Theme(**STORE, filling=FULL_POOL, texts=LARGE)] * 2,
+    *[Theme(**STORE, is_faulty=True)] * 8,
+    *[Theme(weights=times(ON_PIPES, 6), filling=MIXED)] * 6,
+    *[Theme(weights=times(ON_PIPES, 6), filling=BROKEN)] * 2,
+    *[Theme(**NET, is_swept=True)] * 8,
+    *[Theme(**NET, filling=CONNECTED, is_swept=True)] * 4,
+    *[Theme(**QUEUES)] * 6,
+    *[Theme(**QUEUES, filling=FULL_QUEUES)] * 2,
     *[Theme(**FULL, filling=tuple(filling)) for filling in FILLINGS.values()],
     *[Theme(**FULL, filling=tuple(FILLINGS[name])) for name in ("names", "descriptors", "connections", "files")],
     *[Long(weights=times(SHOWN, 0), filling=tuple(LONGEST), lines=(5, 15))] * 2,

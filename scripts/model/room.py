@@ -1,8 +1,8 @@
 """What the model knows of pages: bounds, since it does not know where they lie, nor what of a file is in memory.
 
-Placing n bytes takes ⌈n / 4096⌉ pages of a pool. Each page that is taken has a number here, over a whole script, and
-each byte the number of its page. So a page whose number some byte has is pinned; and what is pinned of a pool without
-files was taken together with such a page, or is retired.
+Placing n bytes takes ⌈n / 4096⌉ pages of a pool. Each page that is taken has a number here, over a whole script,
+and each byte the number of its page. So a page whose number some byte has is pinned; and what is pinned of a pool
+without files was taken together with such a page, or is retired.
 """
 import re
 

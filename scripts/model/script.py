@@ -86,36 +86,57 @@ def compare_line(machine, line, reply):
     return name, refusal.split(" ")[0] if reply.startswith("refused ") else "answered"
 
 
-def compare(lines, output, is_memory_wanted=False):
-    """What a script reached: how often each call was answered, or refused for which reason.
-
-    A reply that the model does not allow is a `Differs`. Where memory is wanted, it is allowed to say so, and the store in
-    memory to fail.
-    """
-    machine, reached = set_up(lines), Counter()
-    may_fail, machine.store_may_fail = machine.store_may_fail, machine.store_may_fail or is_memory_wanted
-    *replies, last = output.decode().split("\n")
-    replies = iter(replies)
-    for number, line in enumerate(lines, 1):
-        if not is_answered(line):
-            continue
+def answer_to(line, replies):
+    """The lines that answer a line. A report has one for each pool, and a last one."""
+    answer = []
+    while not answer or line == b"report" and not answer[-1].startswith("extents "):
         reply = next(replies, None)
+        if reply is None:
+            raise Impossible("it must be answered")
+        answer.append(reply)
+    return answer
+
+
+class Comparison:
+    """A script's replies beside the model, and what was reached: how often each call was answered, or refused for what.
+
+    Where memory is wanted, a reply may say so, and the store in memory may fail.
+    """
+
+    def __init__(self, lines, is_memory_wanted):
+        self.machine, self.reached, self.is_memory_wanted = set_up(lines), Counter(), is_memory_wanted
+        self.may_fail = self.machine.store_may_fail
+        self.machine.store_may_fail |= is_memory_wanted
+
+    def take(self, line, answer):
+        if line == b"report":
+            self.machine.room.check_report(answer, self.machine)
+            self.reached["report", "answered"] += 1
+        elif answer == ["refused Memory"] and not self.is_memory_wanted:
+            raise Impossible("all memory was there")
+        else:
+            self.reached[compare_line(self.machine, line, answer[0])] += 1
+
+    def end(self, left):
+        faults = sum(count for (_, what), count in self.reached.items() if what == "Fault")
+        if left:
+            raise Differs("there are more replies than lines")
+        if faults > self.may_fail and not self.is_memory_wanted:
+            raise Differs("the store failed more than once")
+
+
+def compare(lines, output, is_memory_wanted=False):
+    """What a script reached. A reply that the model does not allow is a `Differs`."""
+    comparison = Comparison(lines, is_memory_wanted)
+    replies = iter(output.decode().splitlines())
+    for number, line in enumerate(lines, 1):
+        answer = []
         try:
-            if reply is None or reply == "refused Memory" and not is_memory_wanted:
-                raise Impossible("it must be answered")
-            if line == b"report":
-                counted = [reply]
-                while not counted[-1].startswith("extents "):
-                    counted.append(next(replies))
-                machine.room.check_report(counted, machine)
-                reached["report", "answered"] += 1
-            else:
-                reached[compare_line(machine, line, reply)] += 1
+            if is_answered(line):
+                answer = answer_to(line, replies)
+                comparison.take(line, answer)
         except Impossible as it:
-            raise Differs(f"line {number}, {line[:80]!r}, was answered {(reply or '')[:200]!r}: {it}") from it
-    if last or next(replies, None) is not None:
-        raise Differs("there are more replies than lines")
-    faults = sum(count for (_, what), count in reached.items() if what == "Fault")
-    if faults > may_fail and not is_memory_wanted:
-        raise Differs("the store failed more than once")
-    return reached
+            told = " ".join(answer)[:200]
+            raise Differs(f"line {number}, {line[:80]!r}, was answered {told!r}: {it}") from it
+    comparison.end([*replies])
+    return comparison.reached

@@ -1,4 +1,4 @@
-"""The calls of the model that read and write: docs/RULES.md, The calls, Pipes, Files and the cache, and Connections."""
+"""The calls of the model that read and write: docs/RULES.md, The calls, Pipes, Files and the cache, Connections."""
 from model.state import MAX_BYTES, MAX_QUEUE_BYTES, MEMORY, OpenFile, State, need
 from model.texts import encode
 
