@@ -1,4 +1,4 @@
-"""Instructions of the program iolite on a script, counted by valgrind, and the processor time that it takes."""
+"""Instructions and allocations of a program, counted by valgrind; those of iolite on a script, and the processor time that it takes."""
 import os
 import re
 import resource
@@ -12,6 +12,21 @@ PROGRAM = f"{ROOT}/crates/iolite/out/iolite"
 
 def build():
     subprocess.run([f"{ROOT}/scripts/iolite", "replay"], stdin=subprocess.DEVNULL, check=True)
+
+
+def _counted(tool, pattern, words):
+    ran = subprocess.run(["valgrind", *tool, *words], capture_output=True, text=True, check=True)
+    return int(re.search(pattern, ran.stderr)[1].replace(",", ""))
+
+
+def instructions_of(words):
+    """The instructions of a program that is run by these words."""
+    return _counted(["--tool=callgrind", "--callgrind-out-file=/dev/null"], r"Collected : (\d+)", words)
+
+
+def allocations_of(words):
+    """Its allocations."""
+    return _counted(["--tool=memcheck"], r"total heap usage: ([\d,]+) allocs", words)
 
 
 def instructions(script, refusals=0):

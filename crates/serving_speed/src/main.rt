@@ -1,0 +1,79 @@
+//! What requests to the file server cost: `serving_speed WHAT REQUEST LEN OTHERS ROUNDS ..` carries
+//! out each of these measurements in turn, each on a site of its own, with one file of so many
+//! bytes. REQUEST is `get`, `head`, `none` (a GET of a file that is not there) or `pair` (two GETs
+//! that come at once), on an open connection beside so many others on which nothing comes.
+//!
+//! WHAT is `calls` (it prints how many calls the server makes for the request), `answers` (so many
+//! requests, one after another) or `rests` (one request, and then so many times the turns that were
+//! given for it, with nothing to do in them); of these two it prints how many bytes were sent.
+//! `bench/serving` measures them.
+#![tactic(auto)]
+
+mod host;
+mod requests;
+
+use anyhow::Context;
+use host::Host;
+use iol_core::refusals::Refusal;
+use requests::{Plan, Request, What, measure};
+use std::alloc::{AllocError, Global};
+use std::env;
+
+// The next word.
+fn word(words: &mut env::Args) -> anyhow::Result<String> {
+    let word = words.next().context("a word is missing")?;
+    Ok(word)
+}
+
+// The next number.
+fn number(words: &mut env::Args) -> anyhow::Result<u32> {
+    let number: u32 = word(words)?.parse()?;
+    Ok(number)
+}
+
+// So many bytes.
+fn text(alloc: Global, len: u32) -> Result<Vec<u8>, AllocError> {
+    let mut text = Vec::with_capacity(alloc, len as usize)?;
+    for place in 0..len {
+        text.push((place % 251) as u8)?;
+    }
+    Ok(text)
+}
+
+// What is measured on a new site, with a file of these bytes.
+fn measured(alloc: Global, bytes: &[u8], plan: &Plan) -> Result<Option<u64>, Refusal> {
+    let mut host = Host::new(alloc, bytes)?;
+    Ok(measure(&mut host, plan))
+}
+
+// What the words name is measured.
+fn carry_out(alloc: Global, what: &str, words: &mut env::Args) -> anyhow::Result<u64> {
+    let what = What::of_word(what).context("calls, answers or rests?")?;
+    let request = Request::of_word(word(words)?.as_str()).context("which request?")?;
+    let len = number(words)?;
+    let others = number(words)?;
+    let rounds = number(words)?;
+    let bytes = text(alloc, len)?;
+    let plan = Plan {
+        what,
+        request,
+        others,
+        rounds,
+    };
+    let count = measured(alloc, &bytes, &plan)?.context("no connection was made")?;
+    Ok(count)
+}
+
+fn main(rt: HostRuntime) -> anyhow::Result<()> {
+    let alloc = rt.alloc();
+    let mut words = env::args(&rt)?;
+    let _program = words.next();
+    for _ in 0..u64::MAX {
+        let Some(first) = words.next() else {
+            break;
+        };
+        let count = carry_out(alloc, first.as_str(), &mut words)?;
+        println!(rt; "{count}")?;
+    }
+    Ok(())
+}
