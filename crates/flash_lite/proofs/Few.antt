@@ -12,8 +12,12 @@ use Rattle.flash_laws.specs.Serves.{Picks}
 use Rattle.flash_laws.specs.Tied.{filed, left_over, told_at, with_at}
 use Rattle.flash_laws.specs.declared.doing.Flight.{Flight}
 use Rattle.flash_laws.specs.declared.doing.Flight.TheVariants.{Nothing, Accepting, At}
+use Rattle.flash_laws.specs.declared.doing.Doing.{Doing}
+use Rattle.flash_lite.specs.declared.conn.Onward.{Onward}
+use Rattle.flash_lite.specs.declared.server.TheConstants.{MAX_CONNS}
 use Rattle.flash_lite.specs.Few.{most_in, IsFew}
-use Rattle.flash_lite.proofs.Places.{at_within, taken_kept, within}
+use Rattle.flash_lite.specs.Turning.{MayRest, OnwardIn, PicksFrom, door_to, flight_by, left_as, left_at, most_with}
+use Rattle.flash_lite.proofs.Places.{at_within, door_left, taken_kept, within}
 
 -- ---- places
 
@@ -38,12 +42,12 @@ none_more (None ∷ l) (suc i) = none_more l i
 none_more (Some z ∷ l) (suc i) = let h = none_more l i in omega (arith, h)
 
 -- another connection in its place, or none
+no_more_set : (l : List (Option Conn)) (fd : ℕ) (x : Conn) (o : Option Conn) → in_place l fd ≡ Some x → taken (slice_set l fd o) ≤ taken l
+no_more_set l fd x None there = none_more l fd
+no_more_set l fd x (Some y) there = let e = taken_kept l fd x y there in omega (arith, e)
+
 no_more_at : (l : List (Option Conn)) (fd : ℕ) (x : Conn) (o : Option Conn) → in_place l fd ≡ Some x → taken (with_at l fd o) ≤ taken l
-no_more_at l fd x o there = subst (λ (m : List (Option Conn)). taken m ≤ taken l) (sym (at_within l fd o (within l fd x there))) (less o)
-  where
-    less : (p : Option Conn) → taken (slice_set l fd p) ≤ taken l
-    less None = none_more l fd
-    less (Some y) = let e = taken_kept l fd x y there in omega (arith, e)
+no_more_at l fd x o there = subst (λ (m : List (Option Conn)). taken m ≤ taken l) (sym (at_within l fd o (within l fd x there))) (no_more_set l fd x o there)
 
 -- a connection more, where one was being accepted
 pub few_admitted : (conns : List (Option Conn)) (fd : ℕ) (x : Conn) → IsFew conns Accepting → taken (with_at conns fd (Some x)) ≤ 256
@@ -64,6 +68,56 @@ few_door conns few = by (nat_lt (taken conns) most_conns) refl
 few_to : (conns : List (Option Conn)) (found : Option ℕ) → taken conns ≤ 256 → IsFew conns (flight_to conns found)
 few_to conns None few = few_door conns few
 few_to conns (Some place) few = few
+
+pub few_all : (conns : List (Option Conn)) (flight : Flight) → IsFew conns flight → taken conns ≤ 256
+few_all conns Nothing few = few
+few_all conns Accepting few = omega (arith, few)
+few_all conns (At fd) few = few
+
+-- ---- parts of a turn
+
+few_by : (conns : List (Option Conn)) (found : Option ℕ) → taken conns ≤ 256 → IsFew conns (flight_by conns MAX_CONNS found)
+few_by conns None few = few_door conns few
+few_by conns (Some place) few = few
+
+pub few_picked : (conns : List (Option Conn)) (from : ℕ) (was flight : Flight) (made : Turn) → IsFew conns was → PicksFrom conns from MAX_CONNS flight made → IsFew conns flight
+few_picked conns from was flight made few p = subst (λ (f : Flight). IsFew conns f) (sym p.flight_is) (few_by conns (next_place conns from) (few_all conns was few))
+
+pub few_accepted : (conns after : List (Option Conn)) (fd : ℕ) (flight : Flight) → IsFew conns Accepting → after ≡ with_at conns fd (Some new_connection) → flight ≡ door_to after MAX_CONNS → IsFew after flight
+few_accepted conns after fd flight few is flight_is =
+    let small : taken after ≤ 256 = subst (λ (l : List (Option Conn)). taken l ≤ 256) (sym is) (few_admitted conns fd new_connection few) in
+    subst (λ (f : Flight). IsFew after f) (sym flight_is) (few_door after small)
+
+-- a connection goes on in its place, or none is there
+pub few_onward : (conns after : List (Option Conn)) (flight : Flight) (fd : ℕ) (r : Reply) (heard : List ℕ) (o : Option Onward) → flight ≡ At fd → IsFew conns flight → OnwardIn conns fd r heard o after → IsFew after flight
+few_onward conns after flight fd r heard o at few w = subst (λ (f : Flight). IsFew after f) (sym at) (by o w)
+  where
+    was : taken conns ≤ 256
+    was = few_all conns flight few
+
+    by : (o : Option Onward) → OnwardIn conns fd r heard o after → taken after ≤ 256
+    by None w = subst (λ (l : List (Option Conn)). taken l ≤ 256) (sym w.1) was
+    by (Some o) w =
+        let e = taken_kept conns fd w.was w.now w.there in
+        let few = was in
+        let small : taken (slice_set conns fd (Some w.now)) ≤ 256 = omega (arith, e, few) in
+        subst (λ (l : List (Option Conn)). taken l ≤ 256) (sym w.after_is) small
+
+-- one is left to others
+pub few_left : (conns after : List (Option Conn)) (fd : ℕ) (d : Doing) (was flight : Flight) (made : Turn) → IsFew conns was → MayRest (in_place conns fd) d → PicksFrom conns (fd + 1) (most_with d) flight made → after ≡ left_at conns fd d → IsFew after flight
+few_left conns after fd d was flight made few rests p is = by (in_place conns fd) refl rests
+  where
+    to : (x : Conn) → in_place conns fd ≡ Some x → taken (left_at conns fd d) ≤ 256 → (found : Option ℕ) → IsFew (left_at conns fd d) (flight_by conns (most_with d) found)
+    to x there small None = subst (λ (f : Flight). IsFew (left_at conns fd d) f) (sym (door_left conns fd x d there)) (few_door (left_at conns fd d) small)
+    to x there small (Some place) = small
+
+    by : (o : Option Conn) → in_place conns fd ≡ o → MayRest o d → IsFew after flight
+    by None none rests = absurd (rests)
+    by (Some x) there rests =
+        let less = no_more_set conns fd x (left_as (in_place conns fd) d) there in
+        let all = few_all conns was few in
+        let small : taken (left_at conns fd d) ≤ 256 = omega (arith, less, all) in
+        subst (λ (l : List (Option Conn)). IsFew l flight) (sym is) (subst (λ (f : Flight). IsFew (left_at conns fd d) f) (sym p.flight_is) (to x there small (next_place conns (fd + 1))))
 
 -- ---- a turn
 

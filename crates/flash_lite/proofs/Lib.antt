@@ -17,3 +17,4 @@ pub mod Refused
 pub mod Standing
 pub mod Texts
 pub mod Waiting
+pub mod Wanting

@@ -24,7 +24,8 @@ abbrev pub IsNewWorld : Site → (slots : List (List ℕ)) → Stage State (Acto
 IsNewWorld s slots w = (w ≡ world_of s slots) × IsNew worker_ready (shelf_of s slots) w
 
 -- A site over these slots makes its choices, which are answered so, and then has at most so many turns in rounds.
-pub record Hosts (s : Site) (slots : List (List ℕ)) (xs : List Choice) (rs : List Reply) (turns : ℕ) (idle : Bool) (after : Stage State (Actor Worker)) : Type 0 where
+pub record Hosts (s : Site) (slots : List (List ℕ)) (xs : List Choice) (rs : List Reply)
+    (turns : ℕ) (idle : Bool) (after : Stage State (Actor Worker)) : Type 0 where
   pub new : IsNew worker_ready (shelf_of s slots) (world_of s slots)
   pub mid : Stage State (Actor Worker)
   pub run : WorldRun copying (actor_turns in_rounds worker_turns) (world_of s slots) xs rs mid

@@ -4,6 +4,7 @@ pub mod Small
 pub mod Texts
 pub mod Onward
 pub mod Turning
+pub mod Wanting
 pub mod Workers
 pub mod Actors
 pub mod Setup

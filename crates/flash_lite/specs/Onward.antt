@@ -38,7 +38,10 @@ IsOnward fd x r heard (Leaves d) y = IsLeft x r heard d y
 
 -- Where nothing is in progress any more: what is kept begins, or nothing is kept.
 abbrev pub Frees : (fd : ℕ) → Conn → Onward → Conn → Type 0
-Frees fd x (Asks call) y = (is_bare (record x { doing = Rests }) ≡ false) × Starts (record x { doing = Rests }) y × (call ≡ wants fd y)
+Frees fd x (Asks call) y =
+    (is_bare (record x { doing = Rests }) ≡ false)
+    × Starts (record x { doing = Rests }) y
+    × (call ≡ wants fd y)
 Frees fd x (Leaves d) y = (d ≡ Rests) × (x.kept ≡ []) × (y ≡ x)
 
 -- Where something is: it goes on with it, or will.

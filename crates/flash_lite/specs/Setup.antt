@@ -25,7 +25,9 @@ is_private s = list_any (λ f. f.private) s.files.items
 
 -- 1 to 8 workers, at most 7 guests, and one where a file is private
 abbrev pub is_in_range : Site → Bool
-is_in_range s = nat_le 1 s.workers && nat_le s.workers MAX_WORKERS && nat_le s.guests MAX_GUESTS && (nat_lt 0 s.guests || not (is_private s))
+is_in_range s =
+    nat_le 1 s.workers && nat_le s.workers MAX_WORKERS && nat_le s.guests MAX_GUESTS
+    && (nat_lt 0 s.guests || not (is_private s))
 
 -- ---- the calls, in order; domain 1 is the server, then come the workers, then the guests
 
@@ -41,14 +43,20 @@ pool chunks first count = call_by 1 (call.PoolCreate chunks (range_with_len firs
 
 -- 1 `site` and 3 `work` for all, 2 `net` for the server, 4 `vault` for the first guest where a file is private
 abbrev pub pools_made : Site → List Event
-pools_made s = (pool s.site_chunks 1 (1 + s.workers + s.guests) ∷ pool s.net_chunks 1 1 ∷ pool s.work_chunks 1 (1 + s.workers + s.guests) ∷ []) ++ (if is_private s then pool s.vault_chunks (2 + s.workers) 1 ∷ [] else [])
+pools_made s =
+    (pool s.site_chunks 1 (1 + s.workers + s.guests)
+    ∷ pool s.net_chunks 1 1
+    ∷ pool s.work_chunks 1 (1 + s.workers + s.guests) ∷ [])
+    ++ (if is_private s then pool s.vault_chunks (2 + s.workers) 1 ∷ [] else [])
 
 -- each domain places its bytes in `work`
 abbrev pub defaults_set : (count : ℕ) → List Event
 defaults_set count = map (λ k. call_by (1 + k) (call.SetPool 3)) (range_with_len 0 count)
 
 abbrev pub file_named : (guest : ℕ) → SiteFile → Event
-file_named guest f = if f.private then call_by guest (call.FileNew f.name.items 4) else call_by 1 (call.FileNew f.name.items 1)
+file_named guest f =
+    if f.private then call_by guest (call.FileNew f.name.items 4)
+    else call_by 1 (call.FileNew f.name.items 1)
 
 -- each worker gets the read end of a pipe, as its descriptor 0
 abbrev pub pipe_given : (k : ℕ) → List Event
@@ -58,7 +66,12 @@ abbrev pub pipes_made : (workers : ℕ) → List Event
 pipes_made workers = flat_map pipe_given (range_with_len 0 workers)
 
 abbrev pub calls : Site → List Event
-calls s = ((((domains_made (s.workers + s.guests)) ++ pools_made s) ++ defaults_set (1 + (s.workers + s.guests))) ++ map (λ f. file_named (2 + s.workers) f) s.files.items) ++ pipes_made s.workers
+calls s =
+    ((((domains_made (s.workers + s.guests))
+    ++ pools_made s)
+    ++ defaults_set (1 + (s.workers + s.guests)))
+    ++ map (λ f. file_named (2 + s.workers) f) s.files.items)
+    ++ pipes_made s.workers
 
 -- ---- what comes of them
 

@@ -35,7 +35,11 @@ pool_for first count = record { domains = range_with_len first count; closed = f
 
 -- `site` and `work` for all, `net` for the server, and where a file is private `vault` for the first guest
 abbrev pub pools_of : (private : Bool) → (workers guests : ℕ) → List Pool
-pools_of private workers guests = pool_for 1 (1 + workers + guests) ∷ pool_for 1 1 ∷ pool_for 1 (1 + workers + guests) ∷ (if private then pool_for (2 + workers) 1 ∷ [] else [])
+pools_of private workers guests =
+    pool_for 1 (1 + workers + guests)
+    ∷ pool_for 1 1
+    ∷ pool_for 1 (1 + workers + guests)
+    ∷ (if private then pool_for (2 + workers) 1 ∷ [] else [])
 
 -- in `vault` or in `site`, by its name
 abbrev pub file_of : SiteFile → File

@@ -18,7 +18,8 @@ use Rattle.flash_lite.specs.Onward.{CanRest, IsOnward}
 use Rattle.flash_lite.specs.declared.conn.Onward.{Onward}
 
 -- the connection in a place, and what it does after a reply
-pub record OnwardAt (conns : List (Option Conn)) (fd : ℕ) (r : Reply) (heard : List ℕ) (o : Onward) (after : List (Option Conn)) : Type 0 where
+pub record OnwardAt (conns : List (Option Conn)) (fd : ℕ) (r : Reply) (heard : List ℕ)
+    (o : Onward) (after : List (Option Conn)) : Type 0 where
   pub was : Conn
   pub now : Conn
   pub there : in_place conns fd ≡ Some was
@@ -27,7 +28,8 @@ pub record OnwardAt (conns : List (Option Conn)) (fd : ℕ) (r : Reply) (heard :
   pub after_is : after ≡ slice_set conns fd (Some now)
 
 -- or none is there
-abbrev pub OnwardIn : List (Option Conn) → (fd : ℕ) → Reply → (heard : List ℕ) → Option Onward → (after : List (Option Conn)) → Type 0
+abbrev pub OnwardIn : List (Option Conn) → (fd : ℕ) → Reply → (heard : List ℕ)
+    → Option Onward → (after : List (Option Conn)) → Type 0
 OnwardIn conns fd r heard None after = (in_place conns fd ≡ None) × (after ≡ conns)
 OnwardIn conns fd r heard (Some o) after = OnwardAt conns fd r heard o after
 
@@ -39,9 +41,9 @@ left_as (Some x) d = left_by d (record x { doing = d })
 abbrev pub left_at : List (Option Conn) → (fd : ℕ) → Doing → List (Option Conn)
 left_at conns fd d = slice_set conns fd (left_as (in_place conns fd) d)
 
--- what stands in a place may be left so
+-- a connection stands in a place, and may be left so
 abbrev pub MayRest : Option Conn → Doing → Type 0
-MayRest None d = Unit {0}
+MayRest None d = ⊥
 MayRest (Some x) d = CanRest x d
 
 -- the call of the connection in a place

@@ -1,4 +1,12 @@
 //! The processes of a site.
+ghost use Rattle.std.specs.Prelude.{◌≡◌, IfOk, IsOk, OnErr};
+ghost use Rattle.iol_proc.specs.Looks.{lent};
+ghost use Rattle.iol_proc.specs.Quiet.{IsQuiet};
+ghost use Rattle.flash_laws.specs.Policy.{in_rounds};
+ghost use Rattle.flash_laws.specs.Tie.{actor_turns};
+ghost use Rattle.flash_lite.specs.Wanting.{WantsBy};
+ghost use Rattle.flash_lite.specs.Workers.{worker_turns};
+
 use crate::laws::connections_do_not_meet;
 use crate::server::Server;
 use flash_laws::laws::Works;
@@ -16,17 +24,23 @@ pub struct Worker {
 }
 
 impl Process for Worker {
-    ghost use Rattle.flash_lite.specs.Workers.{worker_turns};
-
     ghost turns = { worker_turns };
 
-    fn next(&mut self, _last: &Reply, _look: &Look<'_>) -> Result<Turn, AllocError> {
+    fn next(&mut self, _last: &Reply, _look: &Look<'_>) -> Result<Turn, AllocError>
+        ensures turn { IfOk result
+            (λ turn. worker_turns self.old _last.now (lent _look.now) turn self.new) }
+        ensures quiet { IfOk result IsQuiet }
+        ensures err { OnErr result (self.new ≡ self.old) }
+
+        // It wants no memory.
+        ensures ok { IsOk result }
+    {
         Ok(Turn::Yield)
     }
 }
 
 impl Works for Worker {
-    ghost use Rattle.flash_lite.specs.Workers.{worker_turns, worker_ready, worker_settled};
+    ghost use Rattle.flash_lite.specs.Workers.{worker_ready, worker_settled};
 
     ghost turns = { worker_turns };
 
@@ -63,13 +77,17 @@ impl Model for Actor {
 }
 
 impl Process for Actor {
-    ghost use Rattle.flash_laws.specs.Policy.{in_rounds};
-    ghost use Rattle.flash_laws.specs.Tie.{actor_turns};
-    ghost use Rattle.flash_lite.specs.Workers.{worker_turns};
-
     ghost turns = { actor_turns in_rounds worker_turns };
 
-    fn next(&mut self, last: &Reply, look: &Look<'_>) -> Result<Turn, AllocError> {
+    fn next(&mut self, last: &Reply, look: &Look<'_>) -> Result<Turn, AllocError>
+        ensures turn { IfOk result (λ turn. actor_turns in_rounds worker_turns self.old last.now
+            (lent look.now) turn self.new) }
+        ensures quiet { IfOk result IsQuiet }
+        ensures err { OnErr result (self.new ≡ self.old) }
+
+        // The server wants memory only for what it keeps, and a worker none.
+        ensures wants { OnErr result (WantsBy self.old last.now (lent look.now)) }
+    {
         match &mut self.role {
             Role::Server(server) => server.next(last, look),
             Role::Worker(worker) => worker.next(last, look),

@@ -4,11 +4,12 @@ ghost use Rattle.iol_core.specs.declared.events.Reply.TheVariants.{Agg};
 ghost use Rattle.iol_core.specs.declared.events.Call.TheVariants.{IolRead};
 ghost use Rattle.flash_http.specs.Request.{answer, refuse};
 ghost use Rattle.flash_laws.specs.Conn as spec;
-ghost use Rattle.flash_laws.specs.Policy.{is_later};
+ghost use Rattle.flash_laws.specs.Policy.{is_later, is_bare};
 ghost use Rattle.flash_laws.specs.declared.doing.Doing.TheVariants.{Rests, Over};
 ghost use Rattle.flash_lite.specs.Heard.{heard};
 ghost use Rattle.flash_lite.specs.Onward.{IsOnward, Frees, GoesWith, CanRest, is_over};
 ghost use Rattle.flash_lite.specs.Small.{IsSmall};
+ghost use Rattle.flash_lite.specs.Wanting.{WantsOn, has_bytes};
 
 use crate::asking::{cut_call, first_call, join_call, make_call, open_call, read_call};
 use crate::finding::{
@@ -247,8 +248,9 @@ impl Conn {
 
     // The call of a phase.
     fn call_of(&self, fd: Fd, doing: &Doing) -> Result<Call, AllocError>
-        ensures { IfOk result
+        ensures call { IfOk result
             (λ call. call ≡ spec.wants fd (record self.now { doing = doing.now })) }
+        ensures wants { OnErr result (has_bytes doing.now ≡ true) }
     {
         Ok(match *doing {
             Doing::Rests => self.read(fd),
@@ -283,6 +285,7 @@ impl Conn {
         ensures doing { IfOk result (λ _. self.new ≡ record self.old { doing = doing }) }
         ensures call { IfOk result (λ call. call ≡ spec.wants fd self.new) }
         ensures err { OnErr result (self.new ≡ self.old) }
+        ensures wants { OnErr result (has_bytes doing ≡ true) }
     {
         let call = self.call_of(fd, &doing)?;
         self.doing = doing;
@@ -295,6 +298,7 @@ impl Conn {
         requires { (doing ≢ Rests) × IsSmall doing }
         ensures goes { IfOk result (λ o. GoesWith fd self.old last.now doing o self.new) }
         ensures err { OnErr result (self.new ≡ self.old) }
+        ensures wants { OnErr result ((is_later last.now ≡ false) × (has_bytes doing ≡ true)) }
     {
         if is_later(last) {
             return Ok(Onward::Leaves(doing));
@@ -307,6 +311,7 @@ impl Conn {
     fn go_on_free(&mut self, fd: Fd) -> Result<Onward, AllocError>
         ensures asks { IfOk result (λ o. Frees fd self.old o self.new) }
         ensures err { OnErr result (self.new ≡ self.old) }
+        ensures wants { OnErr result (is_bare (record self.old { doing = Rests }) ≡ false) }
     {
         if self.kept.is_empty() {
             return Ok(Onward::Leaves(Doing::Rests));
@@ -326,6 +331,7 @@ impl Conn {
         ensures onward { IfOk result
             (λ o. IsOnward fd self.old last.now (heard parts.entry) o self.new) }
         ensures err { OnErr result (self.new ≡ self.old) }
+        ensures wants { OnErr result (WantsOn self.old last.now (heard parts.entry)) }
     {
         let doing = self.next_doing(last, parts);
         match doing {
@@ -346,6 +352,7 @@ impl Conn {
         ensures onward { IfOk result
             (λ o. IsOnward fd self.old last.now (heard parts.entry) o self.new) }
         ensures err { OnErr result (self.new ≡ self.old) }
+        ensures wants { OnErr result (WantsOn self.old last.now (heard parts.entry)) }
     {
         let _kept = &self.kept;
         match last {
@@ -363,9 +370,9 @@ impl Conn {
     }
 
     /// What it does after the reply to its call, with the bytes of the aggregate that the reply
-    /// names. It goes on at once, unless the
-    /// call is to be made again later, nothing is in progress and nothing kept, or it is over. For
-    /// want of memory it stays as it was.
+    /// names. It goes on at once, unless the call is to be made again later, nothing is in progress
+    /// and nothing kept, or it is over. For want of memory it stays as it was; it wants memory only
+    /// to keep what came, to begin a request, or for a call that has bytes of its own.
     pub fn go_on(
         &mut self,
         fd: Fd,
@@ -375,6 +382,7 @@ impl Conn {
         ensures onward { IfOk result
             (λ o. IsOnward fd self.old last.now (heard parts.entry) o self.new) }
         ensures err { OnErr result (self.new ≡ self.old) }
+        ensures wants { OnErr result (WantsOn self.old last.now (heard parts.entry)) }
     {
         match self.doing {
             Doing::Rests => self.go_on_resting(fd, last, parts),
@@ -395,6 +403,7 @@ impl Conn {
     pub fn next_call(&self, fd: Fd) -> Result<Call, AllocError>
         ensures call { IfOk result (λ call. call ≡ spec.wants fd self.now) }
         ensures ready { spec.Readies self.now self.now }
+        ensures wants { OnErr result (has_bytes self.now.doing ≡ true) }
     {
         self.call_of(fd, &self.doing)
     }

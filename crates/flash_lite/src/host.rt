@@ -30,11 +30,13 @@ pub struct Hosted<B: Backing> {
     pub idle: bool,
 }
 
-/// Sets a site up in a new system over a store, makes these choices come true in its world, and then gives it turns in rounds, at
-/// most so many, until all is idle. A configuration or a site out of its limits is `BadRange`. Any other refusal is that of the
-/// first call of the setup that was refused, or `Memory`; it drops all.
+/// Sets a site up in a new system over a store, makes these choices come true in its world, and
+/// then gives it turns in rounds, at most so many, until all is idle. A configuration or a site out
+/// of its limits is `BadRange`. Any other refusal is that of the first call of the setup that was
+/// refused, or `Memory`; it drops all.
 ///
-/// With an honest store what comes of it is right: [`hosted_is_right`](crate::laws::hosted_is_right).
+/// With an honest store what comes of it is right:
+/// [`hosted_is_right`](crate::laws::hosted_is_right).
 pub fn host<B: Backing + Drop>(
     alloc: Global,
     config: Config,

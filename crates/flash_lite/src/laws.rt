@@ -11,9 +11,10 @@ use flash_laws::laws::tied_law;
 use iol_laws::laws;
 use iol_proc::laws::idle_is_settled;
 
-/// Connections do not meet: of the account that `Actor` has as a process. A new world is tied, each calm step keeps the tie,
-/// and so does a calm run; and where it holds, what was sent on each connection of the net begins the answer to what came on it,
-/// and is all of it once the connection is closed, unless its peer left.
+/// Connections do not meet: of the account that `Actor` has as a process. A new world is tied, each
+/// calm step keeps the tie, and so does a calm run; and where it holds, what was sent on each
+/// connection of the net begins the answer to what came on it, and is all of it once the connection
+/// is closed, unless its peer left.
 pub fn connections_do_not_meet()
     ensures first { TiedAtFirst worker_ready }
     ensures step { StepKeepsTie in_rounds worker_turns worker_ready }
@@ -29,17 +30,18 @@ pub fn connections_do_not_meet()
     tied_law::<Worker>();
 }
 
-/// After the calls of a site within its limits, none of them refused, the world of its processes is new, if the machine was: its
-/// files are found by their names with the bytes of their slots, but private ones, the net is the server's alone, and there
-/// are no connections.
+/// After the calls of a site within its limits, none of them refused, the world of its processes is
+/// new, if the machine was: its files are found by their names with the bytes of their slots, but
+/// private ones, the net is the server's alone, and there are no connections.
 pub fn set_up_is_new()
     ensures { SetUpIsNew }
 {
     laws::each_step_keeps_order();
 }
 
-/// What [`host`](crate::host::host) gives is right, where what came from outside was mild and no turn was rough: what was sent
-/// on each connection of the net begins the answer to what came on it, and where all is idle nothing is left to do.
+/// What [`host`](crate::host::host) gives is right, where what came from outside was mild and no
+/// turn was rough: what was sent on each connection of the net begins the answer to what came on
+/// it, and where all is idle nothing is left to do.
 pub fn hosted_is_right()
     ensures { HostedIsRight }
 {

@@ -1,5 +1,5 @@
 //! The server: all connections, by one call a turn.
-ghost use Rattle.std.specs.Prelude.{◌≡◌, ◌<◌, ◌≤◌, ◌+◌, ◌^◌, ℕ, [], IfOk, IfSome, OnErr, OnOk, MatchOption, None, Some, is_some, length, nat_lt, position};
+ghost use Rattle.std.specs.Prelude.{◌≡◌, ◌<◌, ◌≤◌, ◌+◌, ◌^◌, ℕ, [], IfOk, IfSome, OnErr, OnOk, MatchOption, None, Some, is_some, length, nat_lt, position, true};
 ghost use Rattle.iol_core.specs.Numbered.{in_place, taken};
 ghost use Rattle.iol_proc.specs.Looks.{lent};
 ghost use Rattle.iol_proc.specs.Quiet.{IsQuiet};
@@ -12,6 +12,7 @@ ghost use Rattle.flash_lite.specs.Few.{IsFew};
 ghost use Rattle.flash_lite.specs.Heard.{heard};
 ghost use Rattle.flash_lite.specs.Offering.{OffersNext};
 ghost use Rattle.flash_lite.specs.Turning.{OnwardIn, MayRest, left_at, CallAt, Makes, PicksFrom, door_to, most_with};
+ghost use Rattle.flash_lite.specs.Wanting.{MayWant, WantsFrom, WantsHere, is_accepted, wants_there};
 
 use crate::conn::{Conn, Onward};
 use flash_laws::doing::{Doing, Flight};
@@ -39,12 +40,13 @@ pub struct Server {
 impl Model for Server {
     ghost use Rattle.std.specs.Prelude.{◌≤◌, ◌^◌, length};
     ghost use Rattle.flash_laws.specs.Serves.{Server as Serving};
+    ghost use Rattle.flash_lite.specs.Few.{IsFew};
 
     ghost Value = { Serving };
 
     ghost view = { λ s. record { conns = s.conns.items; flight = s.flight } };
 
-    ghost invariant = { λ s. length s.conns.items ≤ 2 ^ 32 };
+    ghost invariant = { λ s. (length s.conns.items ≤ 2 ^ 32) × IsFew s.conns.items s.flight };
 }
 
 // Makes places up to this one.
@@ -83,6 +85,8 @@ fn go_on_at(
     ensures onward { IfOk result
         (λ o. OnwardIn conns.old.items fd last.now (heard parts.entry) o conns.new.items) }
     ensures err { OnErr result (conns.new.items ≡ conns.old.items) }
+    ensures wants { OnErr result
+        (WantsHere (in_place conns.old.items fd) last.now (heard parts.entry)) }
     ensures length { length conns.new.items ≡ length conns.old.items }
 {
     let at = fd as usize;
@@ -139,8 +143,9 @@ fn next_place(conns: &[Option<Conn>], from: usize) -> Option<usize>
 // The next call of the connection in a place.
 fn call_at(conns: &[Option<Conn>], place: usize) -> Result<Option<Call>, AllocError>
     requires { (place < length conns.now) × (place < 2 ^ 32) }
-    ensures { IfOk result (λ found. MatchOption found (in_place conns.now place ≡ None)
+    ensures call { IfOk result (λ found. MatchOption found (in_place conns.now place ≡ None)
         (λ call. CallAt conns.now place call)) }
+    ensures wants { OnErr result (wants_there (in_place conns.now place) ≡ true) }
 {
     match &conns[place] {
         Some(conn) => {
@@ -171,12 +176,23 @@ fn door(conns: &[Option<Conn>], most: usize) -> (Flight, Turn)
     }
 }
 
+// As many as may be held where others are to be accepted: one that is over makes room for one more.
+fn most_with(doing: &Doing) -> usize
+    ensures { result ≡ most_with doing.now }
+{
+    match doing {
+        Doing::Over => MAX_CONNS + 1,
+        _ => MAX_CONNS,
+    }
+}
+
 // The call that is next: that of the first connection from this place on, and past all of them one
 // is accepted.
 #[tactic(auto, using(crate::proofs::Places::never_none))]
 fn pick(conns: &[Option<Conn>], from: usize, most: usize) -> Result<(Flight, Turn), AllocError>
     requires { length conns.now ≤ 2 ^ 32 }
-    ensures { IfOk result (λ p. PicksFrom conns.now from most p.0 p.1) }
+    ensures picks { IfOk result (λ p. PicksFrom conns.now from most p.0 p.1) }
+    ensures wants { OnErr result (WantsFrom conns.now from) }
 {
     match next_place(conns, from) {
         Some(place) => match call_at(conns, place)? {
@@ -200,11 +216,13 @@ impl Server {
     }
 
     // The first connection from a place on is picked.
+    #[tactic(auto, using(crate::proofs::Few::few_picked))]
     fn pick_from(&mut self, from: usize) -> Result<Turn, AllocError>
         ensures picks { IfOk result
             (λ turn. PicksFrom self.old.conns from MAX_CONNS self.new.flight turn) }
         ensures same { IfOk result (λ _. self.new.conns ≡ self.old.conns) }
         ensures err { OnErr result (self.new ≡ self.old) }
+        ensures wants { OnErr result (WantsFrom self.old.conns from) }
     {
         let (flight, turn) = pick(self.conns.as_slice(), from, MAX_CONNS)?;
         self.flight = flight;
@@ -212,6 +230,7 @@ impl Server {
     }
 
     // After the reply to `accept`: the next one is accepted, or where none waits the round is over.
+    #[tactic(auto, using(crate::proofs::Few::few_accepted, crate::proofs::Few::few_all))]
     fn go_on_accepting(&mut self, last: &Reply) -> Result<Turn, AllocError>
         requires { self.old.flight ≡ Accepting }
         ensures turn { IfOk result (λ turn. Picks (filed self.old.conns Accepting last.now [])
@@ -219,6 +238,7 @@ impl Server {
         ensures policy { IfOk result (λ _. in_rounds (filed self.old.conns Accepting last.now [])
             Accepting last.now self.new.flight) }
         ensures err { OnErr result (self.new ≡ self.old) }
+        ensures wants { OnErr result (is_accepted last.now ≡ true) }
     {
         match last {
             Reply::Fd(fd) => {
@@ -243,11 +263,9 @@ impl Server {
             self.new.flight turn) }
         ensures left { IfOk result (λ _. self.new.conns ≡ left_at self.old.conns fd doing) }
         ensures err { OnErr result (self.new ≡ self.old) }
+        ensures wants { OnErr result (WantsFrom self.old.conns (fd + 1)) }
     {
-        let most = match doing {
-            Doing::Over => MAX_CONNS + 1,
-            _ => MAX_CONNS,
-        };
+        let most = most_with(&doing);
         let (flight, turn) = pick(self.conns.as_slice(), fd as usize + 1, most)?;
         leave_at(&mut self.conns, fd, doing);
         self.flight = flight;
@@ -255,7 +273,7 @@ impl Server {
     }
 
     // What follows the reply to the call of the connection in a place.
-    #[tactic(auto, using(crate::proofs::Places::asks_picks, crate::proofs::Places::leaves_turn, crate::proofs::Places::leaves_policy))]
+    #[tactic(auto, using(crate::proofs::Places::asks_picks, crate::proofs::Places::leaves_turn, crate::proofs::Places::leaves_policy, crate::proofs::Wanting::here_wants, crate::proofs::Wanting::left_wants, crate::proofs::Wanting::none_wants, crate::proofs::Few::few_onward))]
     fn go_on_at(
         &mut self,
         fd: u32,
@@ -270,6 +288,8 @@ impl Server {
             (filed self.old.conns (At fd) last.now (heard parts.entry))
             (At fd) last.now self.new.flight) }
         ensures err { OnErr result (self.new ≡ self.old) }
+        ensures wants { OnErr result
+            (MayWant self.old.conns (At fd) last.now (heard parts.entry)) }
     {
         match go_on_at(&mut self.conns, fd, last, parts)? {
             None => self.pick_from(fd as usize + 1),
@@ -290,6 +310,8 @@ impl Server {
             (filed self.old.conns self.old.flight last.now (heard parts.entry))
             self.old.flight last.now self.new.flight) }
         ensures err { OnErr result (self.new ≡ self.old) }
+        ensures wants { OnErr result
+            (MayWant self.old.conns self.old.flight last.now (heard parts.entry)) }
     {
         match self.flight {
             Flight::Nothing => self.pick_from(0),
@@ -318,14 +340,19 @@ impl Process for Server {
         ensures quiet { IfOk result IsQuiet }
         ensures err { OnErr result (self.new ≡ self.old) }
 
+        // It wants memory only to keep what came, for a place, to begin a request, and for the bytes
+        // of a call.
+        ensures wants { OnErr result (MayWant self.old.conns self.old.flight last.now
+            (heard_of last.now (lent look.now))) }
+
         // What is offered is the next bytes of the response to the request.
         ensures offers { IfOk result (λ turn. OffersNext self.new turn) }
 
         // It holds at most 256 connections, and one fewer while another is being accepted.
-        ensures few { IsFew self.old.conns self.old.flight → OnOk result
-            (IsFew self.new.conns self.new.flight) }
+        ensures few { OnOk result (IsFew self.new.conns self.new.flight) }
     {
         offers_law();
+        let _flight = &self.flight;
         let parts = lent_by(last, look);
         self.go_on(last, parts)
     }
