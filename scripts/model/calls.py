@@ -33,10 +33,11 @@ class Domains(State):
         need(names and 1 <= chunks <= MAX_CHUNKS, "BadRange")
         need(len(set(names)) <= MAX_LISTED and len(self.pools) < MAX_POOLS, "TooMany")
         number = len(self.pools) + 1
-        if self.free_chunks() < chunks:
+        free = self.free_chunks()
+        if len(free) < chunks:
             raise Refused(f"NoRoom pool {number}", MEMORY)
         yield f"pool {number}", MEMORY
-        self.pools[number] = Pool(number, chunks, set(names))
+        self.pools[number] = Pool(number, free[:chunks], set(names))
         self.room.add_pool(number)
 
     def pool_close(self, by, pool):

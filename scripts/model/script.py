@@ -6,7 +6,7 @@ from model.state import Refused
 from model.room import Impossible
 from model.texts import decode
 from model.traffic import Reading, Writing
-from replaying import is_answered
+from replaying import Wrong, is_answered
 
 # What stands behind each name: n is a number, l a list of numbers, w a word, d a name, t a text.
 CALLS = {
@@ -67,10 +67,6 @@ def set_up(lines):
     return Machine(*sizes, slots, store_may_fail)
 
 
-class Differs(Exception):
-    """A reply that the model does not allow."""
-
-
 def compare_line(machine, line, reply):
     """Checks a reply, and changes the machine as it says: the call, and why it was refused where it was."""
     name, answer, late, change = machine.step(line)
@@ -120,13 +116,13 @@ class Comparison:
     def end(self, left):
         faults = sum(count for (_, what), count in self.reached.items() if what == "Fault")
         if left:
-            raise Differs("there are more replies than lines")
+            raise Wrong("there are more replies than lines")
         if faults > self.may_fail and not self.is_memory_wanted:
-            raise Differs("the store failed more than once")
+            raise Wrong("the store failed more than once")
 
 
 def compare(lines, output, is_memory_wanted=False):
-    """What a script reached. A reply that the model does not allow is a `Differs`."""
+    """What a script reached. A reply that the model does not allow is `Wrong`."""
     comparison = Comparison(lines, is_memory_wanted)
     replies = iter(output.decode().splitlines())
     for number, line in enumerate(lines, 1):
@@ -137,6 +133,6 @@ def compare(lines, output, is_memory_wanted=False):
                 comparison.take(line, answer)
         except Impossible as it:
             told = " ".join(answer)[:200]
-            raise Differs(f"line {number}, {line[:80]!r}, was answered {told!r}: {it}") from it
+            raise Wrong(f"line {number}, {line[:80]!r}, was answered {told!r}: {it}") from it
     comparison.end([*replies])
     return comparison.reached

@@ -2,10 +2,10 @@
 
 A call checks its refusals in their order, says what it is answered and which late refusals may come instead, and
 then, where it is answered, changes the state: what stands behind a `yield` is carried out only then. What RULES
-leaves to pages and to the cache is left open here: whether there is room, what is evicted, and so which call meets a
-fault.
+leaves to what of a file is in memory is left open here: which extents are evicted, whether a file's pool has room, and
+which call meets a fault.
 """
-from model.room import Room
+from model.room import Room, pages_of
 from model.texts import Text
 
 MAX_DOMAINS, MAX_POOLS, MAX_LISTED, MAX_CHUNKS = 4096, 1024, 16, 256
@@ -38,7 +38,7 @@ def lowest(taken, start=0):
 
 class Pool:
     def __init__(self, number, chunks, names):
-        self.number, self.chunks, self.names = number, chunks, names
+        self.number, self.chunks, self.pages, self.names = number, chunks, pages_of(chunks), names
         self.is_closed = self.is_returned = False
 
     def need_open(self):
@@ -167,41 +167,42 @@ class State:
     def need_aggs(self, made, given=0):
         need(self.aggs + made - given <= MAX_AGGREGATES, "TooMany")
 
-    def may_read(self, domain, page):
-        return domain in self.pools[self.room.pools[page]].names
+    def may_read(self, domain, mark):
+        return domain in self.pools[self.room.pools[mark]].names
 
     def barred(self, domain, text):
         """The pool of the first byte that the domain may not read, or nothing."""
-        return next((self.room.pools[page] for page, _ in text.runs if not self.may_read(domain, page)), None)
+        return next((self.room.pools[mark] for mark, _ in text.runs if not self.may_read(domain, mark)), None)
 
     def admitted(self, domain, text):
         """The longest beginning that the domain may read."""
         end = 0
-        for page, count in text.runs:
-            if not self.may_read(domain, page):
+        for mark, count in text.runs:
+            if not self.may_read(domain, mark):
                 break
             end += count
         return text.part(0, end)
 
     def held(self):
-        """The pages on which the bytes of aggregates and queues lie."""
+        """The marks that the bytes of aggregates and queues have."""
         texts = [text for conn in self.conns.values() for text in (conn.unread, conn.unsent)]
         for domain in self.domains.values():
             texts += domain.aggs.values()
             texts += (fd.pipe.queue for fd in domain.fds.values() if isinstance(fd, (ReadEnd, WriteEnd)))
-        return {page for text in texts for page, _ in text.runs}
+        return {mark for text in texts for mark, _ in text.runs}
 
     def return_chunks(self):
         """Closed pools in which nothing lies give their chunks back."""
         closed = [pool for pool in self.pools.values() if pool.is_closed and not pool.is_returned]
         if closed:
-            held = {self.room.pools[page] for page in self.held()}
+            held = {self.room.pools[mark] for mark in self.held()}
             for pool in closed:
                 pool.is_returned = pool.number not in held
 
     def free_chunks(self):
         self.return_chunks()
-        return self.chunks - sum(pool.chunks for pool in self.pools.values() if not pool.is_returned)
+        taken = {chunk for pool in self.pools.values() if not pool.is_returned for chunk in pool.chunks}
+        return [chunk for chunk in range(self.chunks) if chunk not in taken]
 
     def want(self, pool, count):
         """The late refusals of a call that places so many bytes: of how many is not known of files' (`None`)."""
@@ -212,11 +213,10 @@ class State:
         """What was wanted last was refused for want of room."""
         pool, count = self.wanted
         if count is not None:
-            self.room.check_refused(pool, count, self)
+            self.room.check_refused(pool, count, self.held())
 
     def place(self, pool, data):
-        self.room.check_taken(pool, len(data), self)
-        return self.room.place(pool.number, data)
+        return self.room.place(pool, data, self.held())
 
     def faults(self, files):
         """The faults that a call on the store may meet at one of these files."""

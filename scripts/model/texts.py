@@ -17,7 +17,7 @@ def checksum(data):
 
 
 class Text:
-    """Bytes, and the pages that they were put on: each by its number, with how many of the bytes are its."""
+    """Bytes, and the pages that they were put on: the mark of each, with how many of the bytes have it (room.py)."""
 
     __slots__ = ("data", "runs")
 
@@ -31,14 +31,11 @@ class Text:
     def __add__(self, other):
         return Text(self.data + other.data, (*self.runs, *other.runs))
 
-    def pages(self):
-        return {page for page, _ in self.runs}
-
     def part(self, start, end=None):
         data, runs, at = self.data[start:end], [], 0
-        for page, count in self.runs:
+        for mark, count in self.runs:
             first, last = max(at, start), min(at + count, start + len(data))
             if first < last:
-                runs.append((page, last - first))
+                runs.append((mark, last - first))
             at += count
         return Text(data, tuple(runs))

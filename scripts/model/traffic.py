@@ -82,9 +82,9 @@ class Writing(State):
             yield f"count {count}", MEMORY
             to.put(text.part(0, count))
             return
-        copied = sum(count for page, count in text.runs if self.room.pools[page] != to.file.pool.number)
+        copied = sum(count for mark, count in text.runs if self.room.pools[mark] != to.file.pool.number)
         yield f"count {count}", self.want(to.file.pool, None) if copied else MEMORY
-        self.room.check_taken(to.file.pool, copied, self)
+        self.room.check_taken(to.file.pool, copied, self.held())
         self.put_in_file(to, text.data)
 
     def write(self, by, fd, data):
@@ -99,7 +99,7 @@ class Writing(State):
         taken = data[:self.taken(to, len(data))]
         yield f"count {len(taken)}", self.want(pool, len(taken))
         if is_file:
-            self.room.check_taken(pool, len(taken), self)
+            self.room.check_taken(pool, len(taken), self.held())
             self.put_in_file(to, taken)
         else:
             to.put(self.place(pool, taken))
