@@ -1,5 +1,5 @@
 -- What serving the connections of a listener is: one after another, each alone.
-use Rattle.std.specs.Prelude.{◌≡◌, ◌≤◌, ◌⊎◌, ℕ, zero, suc, List}
+use Rattle.std.specs.Prelude.{◌≡◌, ◌≤◌, ◌⊎◌, ℕ, zero, suc, Bool, List}
 use Rattle.iol_core.specs.State.{State}
 use Rattle.iol_core.specs.declared.events.Event.TheVariants as event
 use Rattle.iol_core.specs.declared.events.Reply.{Reply}
@@ -9,11 +9,12 @@ use Rattle.iol_proc.specs.World.{Stage, copying, OutsideStep}
 use Rattle.iol_serve.specs.Serving.{GoesOn}
 
 module _ {P : Type 0} (turns : Account P) where
-  -- From w, processes have turns and things happen to this connection alone.
+  -- From w, processes have turns and things happen to this connection alone, whose peer is told to be gone, or is not.
   pub record GoesAlone (c : ℕ) (w after : Stage State P) : Type 0 where
     pub came : List ℕ
     pub sent : List ℕ
-    pub goes_on : GoesOn turns c came sent w after
+    pub gone : Bool
+    pub goes_on : GoesOn turns c came sent gone w after
 
   -- A connection of the pool is made, if there is a place for it, and served: then it alone goes on.
   pub record ServesNext (pool : ℕ) (w after : Stage State P) : Type 0 where
@@ -32,3 +33,8 @@ module _ {P : Type 0} (turns : Account P) where
     pub count : ℕ
     pub few : count ≤ most
     pub each : ServesEach pool count w after
+
+  -- so many, or fewer where there are none left
+  pub record ServesAll (pool count left : ℕ) (w after : Stage State P) : Type 0 where
+    pub some : ServesSome pool count w after
+    pub all : (some.count ≡ count) ⊎ (left ≡ 0)

@@ -1,6 +1,8 @@
 //! The connections of a listener, one after another.
+ghost use Rattle.std.specs.Prelude.{OnOk};
 ghost use Rattle.iol_back.specs.Disk.{IfHonest};
-ghost use Rattle.iol_listen.specs.Listening.{GoesAlone, ServesNext, ServesSome};
+ghost use Rattle.iol_listen.specs.Listening.{GoesAlone, ServesAll, ServesNext, ServesSome};
+ghost use Rattle.iol_listen.specs.Waiting.{to_come};
 ghost use Rattle.iol_proc.specs.Laws.{KeepsHonesty};
 ghost use Rattle.iol_proc.specs.World.{copied};
 
@@ -34,11 +36,28 @@ pub fn serve_all<B: Backing + Drop, P: Process>(
     let Ok(mut queue) = Queue::new(alloc, listener, count) else {
         return Err(ServeFault::Memory);
     };
+    serve_queue(alloc, world, pool, &mut queue, count)
+}
+
+/// Serves so many connections that a queue gives, one after another: fewer only where it has none left to give.
+pub fn serve_queue<B: Backing + Drop, P: Process>(
+    alloc: Global,
+    world: &mut World<B, P>,
+    pool: PoolId,
+    queue: &mut Queue<'_>,
+    count: u32,
+) -> Result<(), ServeFault>
+    ensures honest { KeepsHonesty world.old.machine world.new.machine }
+    ensures serves { IfHonest world.old.machine.disk
+        (ServesSome P.turns pool count (copied world.old) (copied world.new)) }
+    ensures all { IfHonest world.old.machine.disk (OnOk result (ServesAll P.turns pool count
+        (to_come queue.new) (copied world.old) (copied world.new))) }
+{
     for _ in 0..count {
         let Some(stream) = queue.next()? else {
-            break;
+            return Ok(());
         };
-        serve_next(alloc, world, pool, &stream, &mut queue)?;
+        serve_next(alloc, world, pool, &stream, queue)?;
     }
     Ok(())
 }

@@ -1,18 +1,20 @@
 -- Serving a connection, one step after another.
-use Rattle.std.proofs.Common.{◌≡◌, ◌∙◌, ℕ, suc, zero, List, [], ◌∷◌, ◌++◌, Option, None, Some, refl, sym, ap, subst, length, take, arith, append_assoc, append-nil, ◌==◌, if◌then◌else◌}
+use Rattle.std.proofs.Common.{◌≡◌, ◌∙◌, ℕ, suc, zero, Bool, true, false, ◌||◌, List, [], ◌∷◌, ◌++◌, Option, None, Some, refl, sym, ap, subst, length, take, arith, append_assoc, append-nil, ◌==◌, if◌then◌else◌}
 use Rattle.std.proofs.lemmas.Bool.Decides.{nat_tests}
+use Rattle.std.proofs.lemmas.List.Folds.{list_any-append}
+use Rattle.std.specs.List.{list_any}
 use Rattle.std.specs.Io.KnownBytes.{Appends, Consumes, Keeps}
 use Rattle.iol_core.specs.State.{State}
 use Rattle.iol_core.specs.Calls.Outside.{transmit}
-use Rattle.iol_core.specs.declared.descriptors.How.{How}
+use Rattle.iol_core.specs.declared.descriptors.How.TheVariants.{Done, Gone}
 use Rattle.iol_core.specs.declared.events.Event.{Event}
 use Rattle.iol_core.specs.declared.events.Event.TheVariants as event
 use Rattle.iol_core.specs.declared.events.Reply.{Reply}
 use Rattle.iol_core.specs.declared.events.Reply.TheVariants as reply
 use Rattle.iol_kernel.specs.Borrowed.{TakesIn}
-use Rattle.iol_laws.specs.History.{came_by, sent_by}
+use Rattle.iol_laws.specs.History.{came_by, sent_by, drops_unsent}
 use Rattle.iol_proc.specs.Borrowed.{ArrivesAs, SendsAs}
-use Rattle.iol_proc.specs.Histories.{stream_over, sent_over}
+use Rattle.iol_proc.specs.Histories.{stream_over, sent_over, drops_with}
 use Rattle.iol_proc.specs.Idle.{rounds}
 use Rattle.iol_proc.specs.Turns.{Account}
 use Rattle.iol_proc.specs.World.{Stage, copying, OutsideStep, WorldRun}
@@ -70,6 +72,17 @@ sent_turns c ds i zero rs = refl
 sent_turns c ds i (suc n) [] = refl
 sent_turns c ds i (suc n) (r ∷ rs) = sent_turns c ds (suc i) n rs
 
+drops_turns : (c : ℕ) (ds : List ℕ) (i n : ℕ) → list_any (λ x. drops_with x c) (rounds ds i n) ≡ false
+drops_turns c ds i zero = refl
+drops_turns c ds i (suc n) = drops_turns c ds (suc i) n
+
+or-false : (b : Bool) → (b || false) ≡ b
+or-false true = refl
+or-false false = refl
+
+same_number : (c : ℕ) → (c == c) ≡ true
+same_number c = grind (arith, nat_tests)
+
 -- its own number
 own : (c : ℕ) (xs : List ℕ) → (if c == c then xs else []) ≡ xs
 own c xs = grind (arith, nat_tests)
@@ -81,12 +94,12 @@ take_all (suc n) [] e = refl
 take_all (suc n) (x ∷ xs) e = ap (λ (w : List ℕ). x ∷ w) (take_all n xs (omega (arith, e)))
 
 module _ {P : Type 0} (turns : Account P) where
-  pub goes_none : (c : ℕ) (w after : Stage State P) → after ≡ w → GoesOn turns c [] [] w after
+  pub goes_none : (c : ℕ) (w after : Stage State P) → after ≡ w → GoesOn turns c [] [] false w after
   unfolding stream_over sent_over
-  goes_none c w after same = record { choices = []; replies = []; run = same; alone = tt; comes = refl; goes = refl }
+  goes_none c w after same = record { choices = []; replies = []; run = same; alone = tt; comes = refl; goes = refl; tells = refl }
 
-  pub goes_then : (c : ℕ) (came sent more rest : List ℕ) (w mid after : Stage State P) → GoesOn turns c came sent w mid → GoesOn turns c more rest mid after → GoesOn turns c (came ++ more) (sent ++ rest) w after
-  goes_then c came sent more rest w mid after a b = record {
+  pub goes_then : (c : ℕ) (came sent more rest : List ℕ) (gone last : Bool) (w mid after : Stage State P) → GoesOn turns c came sent gone w mid → GoesOn turns c more rest last mid after → GoesOn turns c (came ++ more) (sent ++ rest) (gone || last) w after
+  goes_then c came sent more rest gone last w mid after a b = record {
     choices = a.choices ++ b.choices;
     replies = a.replies ++ b.replies;
     run = runs_follow copying turns w mid after a.choices b.choices a.replies b.replies a.run b.run;
@@ -95,9 +108,11 @@ module _ {P : Type 0} (turns : Account P) where
         ∙ (ap (λ (l : List ℕ). l ++ stream_over c b.choices b.replies) a.comes ∙ ap (λ (l : List ℕ). came ++ l) b.comes);
     goes = sent_over-append copying turns w mid a.choices b.choices a.replies b.replies c a.run
         ∙ (ap (λ (l : List ℕ). l ++ sent_over c b.choices b.replies) a.goes ∙ ap (λ (l : List ℕ). sent ++ l) b.goes);
+    tells = list_any-append (λ x. drops_with x c) a.choices b.choices
+        ∙ (ap (λ (t : Bool). t || list_any (λ x. drops_with x c) b.choices) a.tells ∙ ap (λ (t : Bool). gone || t) b.tells);
   }
 
-  pub goes_turns : (c i n : ℕ) (ds : List ℕ) (rs : List Reply) (w after : Stage State P) → WorldRun copying turns w (rounds ds i n) rs after → GoesOn turns c [] [] w after
+  pub goes_turns : (c i n : ℕ) (ds : List ℕ) (rs : List Reply) (w after : Stage State P) → WorldRun copying turns w (rounds ds i n) rs after → GoesOn turns c [] [] false w after
   goes_turns c i n ds rs w after ran = record {
     choices = rounds ds i n;
     replies = rs;
@@ -105,31 +120,36 @@ module _ {P : Type 0} (turns : Account P) where
     alone = alone_turns c ds i n;
     comes = stream_turns c ds i n rs;
     goes = sent_turns c ds i n rs;
+    tells = drops_turns c ds i n;
   }
 
   -- one thing that happens
-  goes_outside : (c : ℕ) (e : Event) (r : Reply) (came sent : List ℕ) (w after : Stage State P) → OutsideStep copying turns w e r after → IsOn c (choice.Outside e) → came_by c e r ≡ came → sent_by c e r ≡ sent → GoesOn turns c came sent w after
+  goes_outside : (c : ℕ) (e : Event) (r : Reply) (came sent : List ℕ) (gone : Bool) (w after : Stage State P) → OutsideStep copying turns w e r after → IsOn c (choice.Outside e) → came_by c e r ≡ came → sent_by c e r ≡ sent → drops_unsent e c ≡ gone → GoesOn turns c came sent gone w after
   unfolding stream_over sent_over
-  goes_outside c e r came sent w after step on comes goes = record {
+  goes_outside c e r came sent gone w after step on comes goes tells = record {
     choices = choice.Outside e ∷ [];
     replies = r ∷ [];
     run = (after, step, refl);
     alone = (on, tt);
     comes = append-nil (came_by c e r) ∙ comes;
     goes = append-nil (sent_by c e r) ∙ goes;
+    tells = or-false (drops_unsent e c) ∙ tells;
   }
 
-  pub goes_closed : (c : ℕ) (how : How) (r : Reply) (w after : Stage State P) → OutsideStep copying turns w (event.PeerClosed c how) r after → GoesOn turns c [] [] w after
-  goes_closed c how r w after step = goes_outside c (event.PeerClosed c how) r [] [] w after step refl refl refl
+  pub goes_closed : (c : ℕ) (r : Reply) (w after : Stage State P) → OutsideStep copying turns w (event.PeerClosed c Done) r after → GoesOn turns c [] [] false w after
+  goes_closed c r w after step = goes_outside c (event.PeerClosed c Done) r [] [] false w after step refl refl refl refl
 
-  pub goes_arrived : (c n : ℕ) (bytes : List ℕ) (w after : Stage State P) → length bytes ≡ n → ArrivesAs turns c n bytes w after → GoesOn turns c bytes [] w after
-  goes_arrived c n bytes w after count step = goes_outside c (event.Arrive c bytes) (reply.Count n) bytes [] w after step refl (own c (take n bytes) ∙ take_all n bytes count) refl
+  pub goes_hung_up : (c : ℕ) (r : Reply) (w after : Stage State P) → OutsideStep copying turns w (event.PeerClosed c Gone) r after → GoesOn turns c [] [] true w after
+  goes_hung_up c r w after step = goes_outside c (event.PeerClosed c Gone) r [] [] true w after step refl refl refl (same_number c)
 
-  pub goes_sent : (c n : ℕ) (bytes : List ℕ) (w after : Stage State P) → SendsAs turns c n w after → (transmit w.machine c n).answer.0 ≡ bytes → (n ≡ 0 → bytes ≡ []) → GoesOn turns c [] bytes w after
-  goes_sent c zero bytes w after step is none = subst (λ (l : List ℕ). GoesOn turns c [] l w after) (sym (none refl)) (goes_none c w after step)
+  pub goes_arrived : (c n : ℕ) (bytes : List ℕ) (w after : Stage State P) → length bytes ≡ n → ArrivesAs turns c n bytes w after → GoesOn turns c bytes [] false w after
+  goes_arrived c n bytes w after count step = goes_outside c (event.Arrive c bytes) (reply.Count n) bytes [] false w after step refl (own c (take n bytes) ∙ take_all n bytes count) refl refl
+
+  pub goes_sent : (c n : ℕ) (bytes : List ℕ) (w after : Stage State P) → SendsAs turns c n w after → (transmit w.machine c n).answer.0 ≡ bytes → (n ≡ 0 → bytes ≡ []) → GoesOn turns c [] bytes false w after
+  goes_sent c zero bytes w after step is none = subst (λ (l : List ℕ). GoesOn turns c [] l false w after) (sym (none refl)) (goes_none c w after step)
   goes_sent c (suc n) bytes w after step is none =
       let sent = (transmit w.machine c (suc n)).answer in
-      goes_outside c (event.Transmit c (suc n)) (reply.Segment sent.0 sent.1) [] bytes w after step refl refl (own c sent.0 ∙ is)
+      goes_outside c (event.Transmit c (suc n)) (reply.Segment sent.0 sent.1) [] bytes false w after step refl refl (own c sent.0 ∙ is) refl
 
   -- what is sent, and what is served
 
@@ -140,35 +160,52 @@ module _ {P : Type 0} (turns : Account P) where
   sends_then c a b d w mid after first next = record {
     sent = first.sent ++ next.sent;
     taken = appends_then a b d first.sent next.sent first.taken next.taken;
-    goes_on = goes_then c [] first.sent [] next.sent w mid after first.goes_on next.goes_on;
+    goes_on = goes_then c [] first.sent [] next.sent false false w mid after first.goes_on next.goes_on;
   }
 
-  pub serves_none : (c : ℕ) (left held now : Option (List ℕ)) (w : Stage State P) → Appends held now [] → Serves turns c left left held now w w
+  pub serves_none : (c : ℕ) (left held now : Option (List ℕ)) (w : Stage State P) → Appends held now [] → Serves turns c false left left held now w w
   serves_none c left held now w kept = record { came = []; sent = []; given = consumes_none left; taken = kept; goes_on = goes_none c w w refl }
 
-  pub serves_sent : (c : ℕ) (left held now : Option (List ℕ)) (w after : Stage State P) → Sends turns c held now w after → Serves turns c left left held now w after
+  pub serves_sent : (c : ℕ) (left held now : Option (List ℕ)) (w after : Stage State P) → Sends turns c held now w after → Serves turns c false left left held now w after
   serves_sent c left held now w after s = record { came = []; sent = s.sent; given = consumes_none left; taken = s.taken; goes_on = s.goes_on }
 
-  pub serves_alone : (c : ℕ) (left held : Option (List ℕ)) (w after : Stage State P) → GoesOn turns c [] [] w after → Serves turns c left left held held w after
-  serves_alone c left held w after g = record { came = []; sent = []; given = consumes_none left; taken = appends_none held; goes_on = g }
+  pub serves_alone : (c : ℕ) (gone : Bool) (left held : Option (List ℕ)) (w after : Stage State P) → GoesOn turns c [] [] gone w after → Serves turns c gone left left held held w after
+  serves_alone c gone left held w after g = record { came = []; sent = []; given = consumes_none left; taken = appends_none held; goes_on = g }
 
-  pub serves_then : (c : ℕ) (l m r h i k : Option (List ℕ)) (w mid after : Stage State P) → Serves turns c l m h i w mid → Serves turns c m r i k mid after → Serves turns c l r h k w after
-  serves_then c l m r h i k w mid after first next = record {
+  pub serves_then : (c : ℕ) (gone last : Bool) (l m r h i k : Option (List ℕ)) (w mid after : Stage State P) → Serves turns c gone l m h i w mid → Serves turns c last m r i k mid after → Serves turns c (gone || last) l r h k w after
+  serves_then c gone last l m r h i k w mid after first next = record {
     came = first.came ++ next.came;
     sent = first.sent ++ next.sent;
     given = consumes_then l m r first.came next.came first.given next.given;
     taken = appends_then h i k first.sent next.sent first.taken next.taken;
-    goes_on = goes_then c first.came first.sent next.came next.sent w mid after first.goes_on next.goes_on;
+    goes_on = goes_then c first.came first.sent next.came next.sent gone last w mid after first.goes_on next.goes_on;
   }
 
-  pub serves_came : (c n : ℕ) (left rest held now : Option (List ℕ)) (w after : Stage State P) → Appends held now [] → TakesIn left rest n (λ bytes. ArrivesAs turns c n bytes w after) → Serves turns c left rest held now w after
+  pub serves_came : (c n : ℕ) (left rest held now : Option (List ℕ)) (w after : Stage State P) → Appends held now [] → TakesIn left rest n (λ bytes. ArrivesAs turns c n bytes w after) → Serves turns c false left rest held now w after
   serves_came c n left rest held now w after kept t = record { came = t.bytes; sent = []; given = t.given; taken = kept; goes_on = goes_arrived c n t.bytes w after t.count t.arrives }
 
-  pub serves_refused : (c : ℕ) (left rest held now : Option (List ℕ)) (w after : Stage State P) → rest ≡ left → Appends held now [] → after ≡ w → Serves turns c left rest held now w after
+  pub serves_refused : (c : ℕ) (left rest held now : Option (List ℕ)) (w after : Stage State P) → rest ≡ left → Appends held now [] → after ≡ w → Serves turns c false left rest held now w after
   serves_refused c left rest held now w after still kept same = record {
     came = [];
     sent = [];
     given = subst (λ (r : Option (List ℕ)). Consumes left r []) (sym still) (consumes_none left);
     taken = kept;
     goes_on = goes_none c w after same;
+  }
+
+  pub goes_as : (c : ℕ) (gone is : Bool) (w after : Stage State P) → gone ≡ is → GoesOn turns c [] [] gone w after → GoesOn turns c [] [] is w after
+  goes_as c gone is w after same g = subst (λ (b : Bool). GoesOn turns c [] [] b w after) same g
+
+  -- told in other words whether the peer was told to be gone
+  pub serves_as : (c : ℕ) (gone is : Bool) (l r h k : Option (List ℕ)) (w after : Stage State P) → gone ≡ is → Serves turns c gone l r h k w after → Serves turns c is l r h k w after
+  serves_as c gone is l r h k w after same s = subst (λ (b : Bool). Serves turns c b l r h k w after) same s
+
+  -- and then the writer takes nothing more
+  pub serves_kept : (c : ℕ) (gone : Bool) (l r h i k : Option (List ℕ)) (w after : Stage State P) → Appends i k [] → Serves turns c gone l r h i w after → Serves turns c gone l r h k w after
+  serves_kept c gone l r h i k w after kept s = record {
+    came = s.came;
+    sent = s.sent;
+    given = s.given;
+    taken = subst (λ (xs : List ℕ). Appends h k xs) (append-nil s.sent) (appends_then h i k s.sent [] s.taken kept);
+    goes_on = s.goes_on;
   }

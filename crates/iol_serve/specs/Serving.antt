@@ -1,19 +1,29 @@
 -- What serving a connection of a world is.
-use Rattle.std.specs.Prelude.{◌≡◌, ◌⊎◌, ℕ, true, List, [], ◌∷◌, Option}
+use Rattle.std.specs.Prelude.{◌≡◌, ◌⊎◌, ℕ, Bool, true, false, List, [], ◌∷◌, Option}
+use Rattle.std.specs.List.{list_any}
 use Rattle.std.specs.Io.KnownBytes.{Appends, Consumes}
 use Rattle.iol_core.specs.State.{State, conn_at, is_gone}
 use Rattle.iol_core.specs.Calls.Outside.{lacks_conn}
 use Rattle.iol_core.specs.declared.events.Event.TheVariants as event
 use Rattle.iol_core.specs.declared.events.Reply.{Reply}
-use Rattle.iol_proc.specs.Histories.{stream_over, sent_over}
+use Rattle.iol_proc.specs.Histories.{stream_over, sent_over, drops_with}
 use Rattle.iol_proc.specs.Turns.{Account}
 use Rattle.iol_proc.specs.World.{Stage, copying, WorldRun}
 use Rattle.iol_proc.specs.declared.choice.Choice.{Choice}
 use Rattle.iol_proc.specs.declared.choice.Choice.TheVariants as choice
+use Rattle.iol_serve.specs.declared.ending.Ending.{Ending}
+use Rattle.iol_serve.specs.declared.ending.Ending.TheVariants.{Over, Failed, Silent, Long}
 
 -- nothing more comes of a connection: it is not there any more, or its peer is gone
 abbrev pub HasEnded : State → (c : ℕ) → Type 0
 HasEnded s c = (lacks_conn s c ≡ true) ⊎ (is_gone (conn_at s c).peer ≡ true)
+
+-- whether the peer was told to be gone
+abbrev pub hung_up : Ending → Bool
+hung_up Over = false
+hung_up Failed = true
+hung_up Silent = true
+hung_up Long = true
 
 -- A turn of a process, or something that happens to this connection: bytes arrive, the peer closes it, bytes are sent.
 abbrev pub IsOn : (c : ℕ) → Choice → Type 0
@@ -28,25 +38,27 @@ AreOn c [] = Unit {0}
 AreOn c (x ∷ xs) = IsOn c x × AreOn c xs
 
 module _ {P : Type 0} (turns : Account P) where
-  -- From w, processes have turns and things happen to this connection alone, on which these bytes come in and these are sent.
-  pub record GoesOn (c : ℕ) (came sent : List ℕ) (w after : Stage State P) : Type 0 where
+  -- From w, processes have turns and things happen to this connection alone, on which these bytes come in and these are sent, and
+  -- whose peer is told to be gone, or is not.
+  pub record GoesOn (c : ℕ) (came sent : List ℕ) (gone : Bool) (w after : Stage State P) : Type 0 where
     pub choices : List Choice
     pub replies : List Reply
     pub run : WorldRun copying turns w choices replies after
     pub alone : AreOn c choices
     pub comes : stream_over c choices replies ≡ came
     pub goes : sent_over c choices replies ≡ sent
+    pub tells : list_any (λ x. drops_with x c) choices ≡ gone
 
   -- What is sent so is what a writer took, in order, where its bytes are known.
   pub record Sends (c : ℕ) (held now : Option (List ℕ)) (w after : Stage State P) : Type 0 where
     pub sent : List ℕ
     pub taken : Appends held now sent
-    pub goes_on : GoesOn c [] sent w after
+    pub goes_on : GoesOn c [] sent false w after
 
   -- What comes in so is what a reader gave, and what is sent is what a writer took, each in order and where its bytes are known.
-  pub record Serves (c : ℕ) (left rest held now : Option (List ℕ)) (w after : Stage State P) : Type 0 where
+  pub record Serves (c : ℕ) (gone : Bool) (left rest held now : Option (List ℕ)) (w after : Stage State P) : Type 0 where
     pub came : List ℕ
     pub sent : List ℕ
     pub given : Consumes left rest came
     pub taken : Appends held now sent
-    pub goes_on : GoesOn c came sent w after
+    pub goes_on : GoesOn c came sent gone w after

@@ -9,4 +9,6 @@
 //!     serve_connection(&mut world, conn, &mut reader, &mut writer);
 #![tactic(auto)]
 
+pub mod ending;
+pub mod laws;
 pub mod serving;

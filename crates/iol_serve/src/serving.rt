@@ -1,14 +1,16 @@
 //! A connection of a world, served from a reader and to a writer.
-ghost use Rattle.std.specs.Prelude.{◌≡◌, ◌≢◌, ◌⊎◌, [], true, false};
+ghost use Rattle.std.specs.Prelude.{◌≡◌, ◌≢◌, ◌||◌, [], true, false};
 ghost use Rattle.std.specs.Io.KnownBytes.{Appends};
 ghost use Rattle.iol_back.specs.Disk.{IfHonest};
 ghost use Rattle.iol_core.specs.Calls.Outside.{lacks_conn};
 ghost use Rattle.iol_proc.specs.Laws.{KeepsHonesty};
 ghost use Rattle.iol_proc.specs.World.{copied};
-ghost use Rattle.iol_serve.specs.Serving.{HasEnded, GoesOn, Sends, Serves};
+ghost use Rattle.iol_serve.specs.Serving.{HasEnded, GoesOn, Sends, Serves, hung_up};
+ghost use Rattle.iol_serve.specs.Rounds as spec;
 ghost use Rattle.iol_system.specs.Machine.{tables_of};
 ghost use Rattle.iol_system.specs.Safe.{IsSafe};
 
+use crate::ending::Ending;
 use iol_back::backing::Backing;
 use iol_core::descriptors::How;
 use iol_core::events::Event;
@@ -38,8 +40,11 @@ enum Step {
     /// Nothing is to be sent.
     Quiet,
 
-    /// The peer is gone, or nothing will come any more: what was not sent yet never will be.
-    Gone,
+    /// A read, a write or a flush failed.
+    Failed,
+
+    /// Nothing will come any more, and all waits for it.
+    Silent,
 
     /// The connection is gone.
     Over,
@@ -48,7 +53,7 @@ enum Step {
 /// Serves a connection of the world until it is gone, or its peer is: what the reader gives comes in, and what the world
 /// sends goes to the writer, which is flushed before each read. The reader's end is a peer that is done. A fault of the reader or
 /// the writer is a peer that is gone; so is one of which nothing comes any more where all is idle, and one that is served for 1,048,576
-/// rounds.
+/// rounds. The answer tells which it was.
 ///
 /// A round is turns of the processes until all is idle, at most 65,536; all that is to be sent, at most 4,096 bytes
 /// at a time; and, where all is idle and nothing was sent, one read of at most 4,096 bytes.
@@ -57,38 +62,74 @@ pub fn serve_connection<B: Backing + Drop, P: Process, R: Read, W: Write>(
     conn: ConnId,
     reader: &mut R,
     writer: &mut W,
-)
+) -> Ending
     ensures ended { HasEnded (tables_of world.new.machine.kernel) conn }
+    ensures over { result ≡ Ending.Over →
+        lacks_conn (tables_of world.new.machine.kernel) conn ≡ true }
     ensures honest { KeepsHonesty world.old.machine world.new.machine }
     ensures serves { IfHonest world.old.machine.disk
-        (Serves P.turns conn (R.remaining reader.old) (R.remaining reader.new)
+        (Serves P.turns conn (hung_up result) (R.remaining reader.old) (R.remaining reader.new)
         (W.contents writer.old) (W.contents writer.new) (copied world.old) (copied world.new)) }
 {
-    let mut is_gone = false;
+    let mut ending = Ending::Over;
     for _ in 0..MAX_ROUNDS {
-        match round(world, conn, reader, writer) {
-            Step::Moved | Step::Quiet => {}
-            Step::Gone => {
-                if is_gone {
-                    return;
-                }
-                is_gone = true;
-            }
-            Step::Over => {
-                finish(writer, is_gone);
-                return;
-            }
+        let before = ending;
+        let step = round(world, conn, reader, writer);
+        ending = after(before, step);
+        if is_last(before, step) {
+            finish(writer, ending);
+            return ending;
         }
     }
-    hang_up(world, conn);
+    long(ending, hang_up(world, conn))
+}
+
+// How it ends, should it end after this round. The first that went wrong tells.
+fn after(before: Ending, step: Step) -> Ending
+    ensures { result ≡ spec.after before step }
+{
+    if before.is_hung_up() {
+        return before;
+    }
+    match step {
+        Step::Failed => Ending::Failed,
+        Step::Silent => Ending::Silent,
+        Step::Moved | Step::Quiet | Step::Over => Ending::Over,
+    }
+}
+
+// Whether a round is the last: the connection is over, or its peer is gone, and was before it.
+fn is_last(before: Ending, step: Step) -> bool
+    ensures { result ≡ spec.is_last (hung_up before) step }
+{
+    match step {
+        Step::Moved | Step::Quiet => false,
+        Step::Failed | Step::Silent => before.is_hung_up(),
+        Step::Over => true,
+    }
+}
+
+// How it ended after the last of all rounds, at which the connection was there, or was not.
+fn long(before: Ending, was_there: bool) -> Ending
+    ensures told { hung_up result ≡ (hung_up before || was_there) }
+    ensures over { result ≡ Ending.Over → was_there ≡ false }
+{
+    if before.is_hung_up() {
+        return before;
+    }
+    if was_there {
+        Ending::Long
+    } else {
+        Ending::Over
+    }
 }
 
 // Sends the last bytes on their way. What a peer that is gone did not take is not offered again: that could take as long as
 // the first time.
-fn finish<W: Write>(writer: &mut W, is_gone: bool)
+fn finish<W: Write>(writer: &mut W, ending: Ending)
     ensures { Appends (W.contents writer.old) (W.contents writer.new) [] }
 {
-    if !is_gone {
+    if !ending.is_hung_up() {
         let _ = writer.flush();
     }
 }
@@ -100,21 +141,43 @@ fn round<B: Backing + Drop, P: Process, R: Read, W: Write>(
     reader: &mut R,
     writer: &mut W,
 ) -> Step
-    ensures gone { result ≡ Step.Gone → HasEnded (tables_of world.new.machine.kernel) conn }
-    ensures over { result ≡ Step.Over → HasEnded (tables_of world.new.machine.kernel) conn }
+    ensures gone { spec.is_gone result ≡ true →
+        HasEnded (tables_of world.new.machine.kernel) conn }
+    ensures over { result ≡ Step.Over →
+        lacks_conn (tables_of world.new.machine.kernel) conn ≡ true }
     ensures honest { KeepsHonesty world.old.machine world.new.machine }
     ensures serves { IfHonest world.old.machine.disk
-        (Serves P.turns conn (R.remaining reader.old) (R.remaining reader.new)
+        (Serves P.turns conn (spec.is_gone result) (R.remaining reader.old) (R.remaining reader.new)
         (W.contents writer.old) (W.contents writer.new) (copied world.old) (copied world.new)) }
 {
-    match exchange(world, conn, reader, writer) {
-        Step::Gone => {
-            hang_up(world, conn);
-            Step::Gone
-        }
-        Step::Moved => Step::Moved,
-        Step::Quiet => Step::Quiet,
-        Step::Over => Step::Over,
+    let step = exchange(world, conn, reader, writer);
+    if is_gone(step) {
+        return tell(world, conn, step);
+    }
+    step
+}
+
+// Whether the peer is to be told to be gone.
+fn is_gone(step: Step) -> bool
+    ensures { result ≡ spec.is_gone step }
+{
+    matches!(step, Step::Failed | Step::Silent)
+}
+
+// Tells that the peer is gone, if the connection is there.
+fn tell<B: Backing + Drop, P: Process>(world: &mut World<B, P>, conn: ConnId, step: Step) -> Step
+    requires { spec.is_gone step ≡ true }
+    ensures ended { HasEnded (tables_of world.new.machine.kernel) conn }
+    ensures over { result ≡ Step.Over →
+        lacks_conn (tables_of world.new.machine.kernel) conn ≡ true }
+    ensures honest { KeepsHonesty world.old.machine world.new.machine }
+    ensures goes_on { IfHonest world.old.machine.disk
+        (GoesOn P.turns conn [] [] (spec.is_gone result) (copied world.old) (copied world.new)) }
+{
+    if hang_up(world, conn) {
+        step
+    } else {
+        Step::Over
     }
 }
 
@@ -129,7 +192,7 @@ fn exchange<B: Backing + Drop, P: Process, R: Read, W: Write>(
         lacks_conn (tables_of world.new.machine.kernel) conn ≡ true }
     ensures honest { KeepsHonesty world.old.machine world.new.machine }
     ensures serves { IfHonest world.old.machine.disk
-        (Serves P.turns conn (R.remaining reader.old) (R.remaining reader.new)
+        (Serves P.turns conn false (R.remaining reader.old) (R.remaining reader.new)
         (W.contents writer.old) (W.contents writer.new) (copied world.old) (copied world.new)) }
 {
     let is_idle = settle(world, conn);
@@ -147,7 +210,7 @@ fn exchange<B: Backing + Drop, P: Process, R: Read, W: Write>(
 fn settle<B: Backing + Drop, P: Process>(world: &mut World<B, P>, conn: ConnId) -> bool
     ensures honest { KeepsHonesty world.old.machine world.new.machine }
     ensures goes_on { IfHonest world.old.machine.disk
-        (GoesOn P.turns conn [] [] (copied world.old) (copied world.new)) }
+        (GoesOn P.turns conn [] [] false (copied world.old) (copied world.new)) }
 {
     let _conn = conn;
     world.until_idle(TURNS)
@@ -170,7 +233,8 @@ fn send<B: Backing + Drop, P: Process, W: Write>(
         match send_piece(world, conn, writer) {
             Step::Moved => has_moved = true,
             Step::Quiet => return progress(has_moved),
-            Step::Gone => return Step::Gone,
+            Step::Failed => return Step::Failed,
+            Step::Silent => return Step::Silent,
             Step::Over => return Step::Over,
         }
     }
@@ -199,7 +263,7 @@ fn send_piece<B: Backing + Drop, P: Process, W: Write>(
     match world.drain_to(conn, writer, PIECE) {
         Ok(drained) => {
             if drained.failed {
-                Step::Gone
+                Step::Failed
             } else if drained.taken == 0 {
                 Step::Quiet
             } else {
@@ -217,51 +281,57 @@ fn receive<B: Backing + Drop, P: Process, R: Read, W: Write>(
     reader: &mut R,
     writer: &mut W,
 ) -> Step
-    ensures goes { (result ≡ Step.Moved) ⊎ (result ≡ Step.Gone) }
+    ensures goes { result ≢ Step.Over }
     ensures honest { KeepsHonesty world.old.machine world.new.machine }
     ensures serves { IfHonest world.old.machine.disk
-        (Serves P.turns conn (R.remaining reader.old) (R.remaining reader.new)
+        (Serves P.turns conn false (R.remaining reader.old) (R.remaining reader.new)
         (W.contents writer.old) (W.contents writer.new) (copied world.old) (copied world.new)) }
 {
     if writer.flush().is_err() {
-        return Step::Gone;
+        return Step::Failed;
     }
     match world.arrive_from(conn, reader, PIECE) {
         Ok(arrived) => {
             if arrived.failed {
-                return Step::Gone;
+                return Step::Failed;
             }
             if arrived.end {
-                close(world, conn, How::Done);
+                close(world, conn);
             }
             Step::Moved
         }
         // The peer sends no more, and all waits for it.
-        Err(Refusal::BrokenPipe) => Step::Gone,
+        Err(Refusal::BrokenPipe) => Step::Silent,
         // Made again in the next round, which also finds out where the connection is not there any more.
         Err(_) => Step::Moved,
     }
 }
 
-// The peer of a connection closes it.
-fn close<B: Backing + Drop, P: Process>(world: &mut World<B, P>, conn: ConnId, how: How)
+// The peer of a connection sends no more.
+fn close<B: Backing + Drop, P: Process>(world: &mut World<B, P>, conn: ConnId)
     ensures honest { KeepsHonesty world.old.machine world.new.machine }
     ensures goes_on { IfHonest world.old.machine.disk
-        (GoesOn P.turns conn [] [] (copied world.old) (copied world.new)) }
+        (GoesOn P.turns conn [] [] false (copied world.old) (copied world.new)) }
 {
+    let how = How::Done;
     let _ = world.step_outside(Event::PeerClosed { conn, how });
 }
 
-// The peer of a connection is gone, if it is there.
-fn hang_up<B: Backing + Drop, P: Process>(world: &mut World<B, P>, conn: ConnId)
+// The peer of a connection is gone, if that is there: whether it was.
+fn hang_up<B: Backing + Drop, P: Process>(world: &mut World<B, P>, conn: ConnId) -> bool
     ensures ended { HasEnded (tables_of world.new.machine.kernel) conn }
+    ensures lacks { result ≡ false →
+        lacks_conn (tables_of world.new.machine.kernel) conn ≡ true }
     ensures honest { KeepsHonesty world.old.machine world.new.machine }
     ensures goes_on { IfHonest world.old.machine.disk
-        (GoesOn P.turns conn [] [] (copied world.old) (copied world.new)) }
+        (GoesOn P.turns conn [] [] result (copied world.old) (copied world.new)) }
 {
     if is_there(world, conn) {
         let how = How::Gone;
         let _ = world.step_outside(Event::PeerClosed { conn, how });
+        true
+    } else {
+        false
     }
 }
 

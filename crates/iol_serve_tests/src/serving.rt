@@ -5,6 +5,7 @@ use iol_core::events::{Event, Reply};
 use iol_core::numbers::{ConnId, PoolId};
 use iol_core::refusals::Refusal;
 use iol_proc::world::World;
+use iol_serve::ending::Ending;
 use iol_serve::serving::serve_connection;
 use std::alloc::Global;
 use std::io;
@@ -58,17 +59,26 @@ impl Write for Target {
     }
 }
 
-// What the writer took, how often it and the reader were called, and what came of the connection.
+// How serving ended, how often the reader and the writer were called, and whether the connection is still there.
 #[derive(Drop)]
 struct Served {
-    bytes: Vec<u8>,
+    ending: Ending,
     reads: u32,
-    writes: u32,
-    flushes: u32,
     is_there: bool,
 }
 
 const ASKED: &[u8] = b"hello, world: some bytes more";
+
+// Takes pieces of 5 bytes. Write number `fails` fails, if it is not 0.
+fn target_of(alloc: Global, fails: u32) -> Target {
+    Target {
+        bytes: Vec::new(alloc),
+        piece: 5,
+        fails,
+        writes: 0,
+        flushes: 0,
+    }
+}
 
 // Whether there is such a connection.
 fn is_there(world: &mut World<MemoryBacking, Echo>, conn: ConnId) -> bool {
@@ -76,64 +86,91 @@ fn is_there(world: &mut World<MemoryBacking, Echo>, conn: ConnId) -> bool {
     !matches!(last, Reply::Refused(Refusal::BadFd))
 }
 
-// Reads of 7 bytes, writes of 5, of which one of each may fail.
-fn serve(alloc: Global, read_fails: u32, write_fails: u32) -> Result<Served, Fail> {
-    let mut world = world_of(alloc)?;
+fn connect(world: &mut World<MemoryBacking, Echo>) -> Option<ConnId> {
     let pool = PoolId::new(1);
-    let Reply::Conn(conn) = world.step_outside(Event::ConnNew { pool }) else {
-        return Err(Fail::from("no connection"));
-    };
+    match world.step_outside(Event::ConnNew { pool }) {
+        Reply::Conn(conn) => Some(conn),
+        _ => None,
+    }
+}
+
+// A connection is served from reads of 7 bytes, of which number `fails` fails, if it is not 0.
+fn serve_in(
+    world: &mut World<MemoryBacking, Echo>,
+    fails: u32,
+    writer: &mut Target,
+) -> Option<Served> {
+    let conn = connect(world)?;
     let mut reader = Source {
         bytes: ASKED,
         piece: 7,
-        fails: read_fails,
+        fails,
         reads: 0,
     };
-    let mut writer = Target {
-        bytes: Vec::new(alloc),
-        piece: 5,
-        fails: write_fails,
-        writes: 0,
-        flushes: 0,
-    };
-    serve_connection(&mut world, conn, &mut reader, &mut writer);
-    let is_there = is_there(&mut world, conn);
-    Ok(Served {
-        bytes: writer.bytes,
+    let ending = serve_connection(world, conn, &mut reader, writer);
+    let is_there = is_there(world, conn);
+    Some(Served {
+        ending,
         reads: reader.reads,
-        writes: writer.writes,
-        flushes: writer.flushes,
         is_there,
     })
 }
 
-// All is sent back, flushed before each read and at the end.
+fn serve(alloc: Global, fails: u32, writer: &mut Target) -> Result<Option<Served>, Fail> {
+    let mut world = world_of(alloc)?;
+    Ok(serve_in(&mut world, fails, writer))
+}
+
+// Whether all is sent back, flushed before each read and at the end.
+fn is_ample(served: &Option<Served>, writer: &Target) -> bool {
+    let is_sent = writer.bytes.as_slice() == ASKED && writer.writes == 9 && writer.flushes == 7;
+    match served {
+        Some(it) => is_sent && it.reads == 6 && !it.is_there && it.ending == Ending::Over,
+        None => false,
+    }
+}
+
+fn has_failed(served: &Option<Served>) -> bool {
+    match served {
+        Some(it) => !it.is_there && it.ending == Ending::Failed,
+        None => false,
+    }
+}
+
+// Whether read number k fails, and so many bytes that came before it are answered.
+fn read_fails(alloc: Global, k: u32, came: usize) -> Result<bool, Fail> {
+    let mut writer = target_of(alloc, 0);
+    let served = serve(alloc, k, &mut writer)?;
+    let is_answered = writer.bytes.len() == came && ASKED.starts_with(&writer.bytes);
+    Ok(is_answered && has_failed(&served))
+}
+
+// Whether write number k fails, and what was written before it was taken.
+fn write_fails(alloc: Global, k: u32) -> Result<bool, Fail> {
+    let mut writer = target_of(alloc, k);
+    let served = serve(alloc, 0, &mut writer)?;
+    let is_taken = writer.writes == k && ASKED.starts_with(&writer.bytes);
+    Ok(is_taken && has_failed(&served))
+}
+
 #[test]
 fn ample(rt: HostRuntime) -> Result<(), Fail> {
-    let all = serve(rt.alloc(), 0, 0)?;
-    assert_eq!(rt; all.bytes.as_slice(), ASKED);
-    assert_eq!(rt; all.reads, 6);
-    assert_eq!(rt; all.writes, 9);
-    assert_eq!(rt; all.flushes, 7);
-    assert!(rt; !all.is_there);
+    let mut writer = target_of(rt.alloc(), 0);
+    let served = serve(rt.alloc(), 0, &mut writer)?;
+    assert!(rt; is_ample(&served, &writer));
     Ok(())
 }
 
-// A read that fails: what came before is answered. A write that fails: what was written before was taken. Either way the
-// connection is gone.
+// Either way the connection is gone, and its peer was told to be.
 #[test]
 fn each_read_and_write_fails(rt: HostRuntime) -> Result<(), Fail> {
-    for k in 1..=6u32 {
-        let some = serve(rt.alloc(), k, 0)?;
-        assert_eq!(rt; some.bytes.len(), (7 * (k as usize - 1)).min(ASKED.len()));
-        assert!(rt; ASKED.starts_with(&some.bytes));
-        assert!(rt; !some.is_there);
+    for (k, came) in [(1, 0), (2, 7), (3, 14), (4, 21), (5, 28), (6, 29)] {
+        let is_well = read_fails(rt.alloc(), k, came)?;
+        assert!(rt; is_well);
     }
-    for k in 1..=9u32 {
-        let some = serve(rt.alloc(), 0, k)?;
-        assert_eq!(rt; some.writes, k);
-        assert!(rt; ASKED.starts_with(&some.bytes));
-        assert!(rt; !some.is_there);
+    for k in 1..=9 {
+        let is_well = write_fails(rt.alloc(), k)?;
+        assert!(rt; is_well);
     }
     Ok(())
 }

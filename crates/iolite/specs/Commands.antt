@@ -1,5 +1,5 @@
 -- The words of a command, those behind the program's name.
-use Rattle.std.specs.Prelude.{◌≡◌, ◌<◌, ◌≤◌, ◌^◌, ℕ, List, [], ◌∷◌, codes, length}
+use Rattle.std.specs.Prelude.{◌≡◌, ◌⊎◌, ◌<◌, ◌≤◌, ◌^◌, ℕ, List, [], ◌∷◌, codes, length}
 use Rattle.std.specs.Str.Parse.{IsNumeral}
 use Rattle.iolite.specs.Words.{IsShort, value}
 use Rattle.iolite.specs.declared.commands.Command.{Command}
@@ -54,3 +54,10 @@ IsCommand (name ∷ []) c = IsReplay name c
 IsCommand (name ∷ root ∷ path ∷ []) c = IsLoop name root path c
 IsCommand (name ∷ port ∷ root ∷ count ∷ []) c = IsServe name port root count c
 IsCommand words c = ⊥
+
+abbrev pub IsNoCommand : (words : List (List ℕ)) → Type 0
+IsNoCommand words = (c : Command) → ¬ (IsCommand words c)
+
+-- Words that may be found bad: they are no command, or the script that they ask for is read, and may be.
+abbrev pub MayBeBad : (words : List (List ℕ)) → Type 0
+MayBeBad words = IsNoCommand words ⊎ IsCommand words Replay

@@ -5,29 +5,28 @@
 //! a path, over a connection to itself, and prints the answer.
 #![tactic(auto)]
 
-ghost use Rattle.std.specs.Prelude.{◌≡◌, ◌⊎◌};
+ghost use Rattle.std.specs.Prelude.{◌≡◌, ◌⊎◌, map, string_bytes};
+ghost use Rattle.iolite.specs.Commands.{IsNoCommand, MayBeBad};
 
 mod calls;
 mod commands;
 mod failure;
-mod fault;
-mod folder;
 mod headers;
-mod looping;
 mod names;
 mod outside;
 mod printed;
 mod replay;
 mod script;
-mod serve;
 mod setup;
 mod words;
 
 use commands::{Command, read_command};
-use fault::{FAULT, Fault};
+use flash_folder::fault::{Fault, ended};
+use flash_folder::looping::loop_on;
+use flash_folder::serving::serve;
 use std::alloc::AllocError;
 use std::env;
-use std::io::ErrorKind;
+use std::io::{ErrorKind, Write};
 use std::process::ExitCode;
 use std::rt::Env;
 
@@ -51,38 +50,23 @@ fn words_of<R: Env + AllocGlobal>(rt: &R) -> Result<Vec<String>, AllocError> {
     Ok(words)
 }
 
-/// Tells what ended a program, where that can be written: its status.
-fn ended(rt: &HostRuntime, done: Result<(), Fault>) -> u8
-    ensures { (result ≡ 0) ⊎ (result ≡ 3) }
-{
-    match done {
-        Ok(()) => 0,
-        Err(fault) => {
-            let _ = eprintln!(rt; "{fault}");
-            FAULT
-        }
-    }
-}
-
-/// Runs the program that the words name: its status.
+/// Runs the program that the words name: its status. Words that are no command are told so, where that can be written.
 fn run(rt: &HostRuntime, words: &[String]) -> u8
-    ensures { (result ≡ 0) ⊎ ((result ≡ 2) ⊎ (result ≡ 3)) }
+    ensures statuses { (result ≡ 0) ⊎ ((result ≡ 2) ⊎ (result ≡ 3)) }
+    ensures bad { result ≡ 2 → MayBeBad (map string_bytes words.now) }
+    ensures none { IsNoCommand (map string_bytes words.now) → result ≡ 2 }
 {
+    let (mut output, mut errors) = (rt.stdout(), rt.stderr());
     match read_command(words) {
-        Some(Command::Replay) => replay::replay(
-            rt.alloc(),
-            &mut rt.stdin(),
-            &mut rt.stdout(),
-            &mut rt.stderr(),
-        ),
+        Some(Command::Replay) => {
+            replay::replay(rt.alloc(), &mut rt.stdin(), &mut output, &mut errors)
+        }
         Some(Command::Serve { port, root, count }) => {
-            ended(rt, serve::serve(rt, port, root, count))
+            serve(rt, port, root, count, &mut output, &mut errors)
         }
-        Some(Command::Loop { root, path }) => {
-            ended(rt, looping::loop_on(rt, root, path, &mut rt.stdout()))
-        }
+        Some(Command::Loop { root, path }) => loop_on(rt, root, path, &mut output, &mut errors),
         None => {
-            let _ = eprintln!(rt; "{USAGE}");
+            let _ = writeln!(errors, "{USAGE}");
             BAD_WORDS
         }
     }
@@ -92,7 +76,7 @@ fn run(rt: &HostRuntime, words: &[String]) -> u8
 fn main(rt: HostRuntime) -> ExitCode {
     let status = match words_of(&rt) {
         Ok(words) => run(&rt, &words),
-        Err(_) => ended(&rt, Err(Fault::Memory)),
+        Err(_) => ended(Err(Fault::Memory), &mut rt.stderr()),
     };
     ExitCode::from(status)
 }

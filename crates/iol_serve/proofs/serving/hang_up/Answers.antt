@@ -1,6 +1,6 @@
 use Rattle.std.proofs.Common.{[], ◌∙◌}
 use Rattle.iol_serve.proofs.Ended.{ended_beside}
-use Rattle.iol_serve.proofs.Steps.{goes_none, goes_closed, goes_then}
+use Rattle.iol_serve.proofs.Steps.{goes_none, goes_hung_up, goes_then}
 use Rattle.iol_serve.proofs.serving.hang_up.Goals as goal
 
 pub returns-then-is_there-clause-ended : goal.returns-then-is_there-clause-ended
@@ -8,8 +8,8 @@ returns-then-is_there-clause-ended g c = ended_beside _ _ c.args.conn c.step_out
 
 pub returns-then-is_there-clause-goes_on : goal.returns-then-is_there-clause-goes_on
 returns-then-is_there-clause-goes_on g c = λ honest.
-    goes_then g.P.Process.turns c.args.conn [] [] [] [] _ _ _ (goes_none g.P.Process.turns c.args.conn _ _ c.is_there.ensures.same)
-    (goes_closed g.P.Process.turns c.args.conn _ _ _ _ (c.step_outside.ensures.copied (c.is_there.ensures.honest.same ∙ honest)))
+    goes_then g.P.Process.turns c.args.conn [] [] [] [] _ _ _ _ _ (goes_none g.P.Process.turns c.args.conn _ _ c.is_there.ensures.same)
+    (goes_hung_up g.P.Process.turns c.args.conn _ _ _ (c.step_outside.ensures.copied (c.is_there.ensures.honest.same ∙ honest)))
 
 pub returns-else-is_there-clause-goes_on : goal.returns-else-is_there-clause-goes_on
 returns-else-is_there-clause-goes_on g c = λ honest. goes_none g.P.Process.turns c.args.conn _ _ c.is_there.ensures.same

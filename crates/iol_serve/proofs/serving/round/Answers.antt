@@ -1,8 +1,12 @@
-use Rattle.std.proofs.Common.{◌∙◌}
-use Rattle.iol_serve.proofs.Steps.{serves_alone, serves_then}
+use Rattle.std.proofs.Common.{◌∙◌, false, sym}
+use Rattle.iol_serve.proofs.Steps.{serves_alone, serves_as, serves_then}
 use Rattle.iol_serve.proofs.serving.round.Goals as goal
 
-pub returns-in-Gone-clause-serves : goal.returns-in-Gone-clause-serves
-returns-in-Gone-clause-serves g c = λ honest.
-    let gone = c.hang_up.ensures.goes_on (c.exchange.ensures.honest.same ∙ honest) in
-    serves_then g.P.Process.turns c.args.conn _ _ _ _ _ _ _ _ _ (c.exchange.ensures.serves honest) (serves_alone g.P.Process.turns c.args.conn _ _ _ _ gone)
+pub returns-then-is_gone-clause-serves : goal.returns-then-is_gone-clause-serves
+returns-then-is_gone-clause-serves g c = λ honest.
+    serves_then g.P.Process.turns c.args.conn false _ _ _ _ _ _ _ _ _ _ (c.exchange-step.ensures.serves honest)
+    (serves_alone g.P.Process.turns c.args.conn _ _ _ _ _ (c.tell.ensures.goes_on (c.exchange-step.ensures.honest.same ∙ honest)))
+
+pub returns-clause-serves : goal.returns-clause-serves
+returns-clause-serves g c = λ honest.
+    serves_as g.P.Process.turns c.args.conn _ _ _ _ _ _ _ _ (sym c.if-is_gone.false ∙ c.is_gone.ensures) (c.exchange-step.ensures.serves honest)

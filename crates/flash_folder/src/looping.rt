@@ -1,9 +1,11 @@
-//! The program `loop`: the server and its client in one, over a connection to itself.
-ghost use Rattle.std.specs.Prelude.{◌≤◌, length, IfOk};
+//! A server and its client in one program, over a connection to itself.
+ghost use Rattle.std.specs.Prelude.{◌≡◌, ◌⊎◌, ◌≤◌, ◌↔◌, false, length, IfOk, IsOk};
+ghost use Rattle.iol_serve.specs.Serving.{hung_up};
 
-use crate::fault::Fault;
+use crate::fault::{Fault, ended};
 use crate::folder::Host;
-use crate::serve::listen;
+use crate::serving::listen;
+use iol_serve::ending::Ending;
 use std::io;
 use std::io::{ErrorKind, Read, Write};
 use std::net::{Net, TcpListener, TcpStream};
@@ -70,17 +72,46 @@ impl<'a, W: Write> Write for Looped<'a, W> {
     }
 }
 
-/// Asks a server of the files of a folder for a path, and prints the answer.
-pub fn loop_on<R, W: Write>(rt: &R, root: &str, path: &str, output: &mut W) -> Result<(), Fault>
+/// Asks a server of the files of a folder for a path, and prints the answer: the exit status.
+pub fn loop_on<R, W: Write, E: Write>(
+    rt: &R,
+    root: &str,
+    path: &str,
+    output: &mut W,
+    errors: &mut E,
+) -> u8
+where
+    R: Net<Listener = TcpListener, Stream = TcpStream> + Files + AllocGlobal + Clone + Drop,
+    ensures statuses { (result ≡ 0) ⊎ (result ≡ 3) }
+    ensures silent { result ≡ 0 → errors.new ≡ errors.old }
+{
+    ended(ask_and_print(rt, root, path, output), errors)
+}
+
+// Does the work of `loop_on`, up to the first fault.
+fn ask_and_print<R, W: Write>(rt: &R, root: &str, path: &str, output: &mut W) -> Result<(), Fault>
 where
     R: Net<Listener = TcpListener, Stream = TcpStream> + Files + AllocGlobal + Clone + Drop,
 {
     let mut host = Host::new(rt, root)?;
+    ask_host(rt, &mut host, path, output)
+}
+
+// Asks over a connection to this program itself.
+fn ask_host<R, W: Write>(
+    rt: &R,
+    host: &mut Host<R>,
+    path: &str,
+    output: &mut W,
+) -> Result<(), Fault>
+where
+    R: Net<Listener = TcpListener, Stream = TcpStream> + Files + Drop,
+{
     let (client, server) = connect(rt)?;
     if ask(&client, path).is_err() {
         return Err(Fault::Connect);
     }
-    pass_through(&mut host, &server, &client, output)?;
+    pass_through(host, &server, &client, output)?;
     match output.flush() {
         Ok(()) => Ok(()),
         Err(e) => Err(Fault::of(&e, Fault::Output)),
@@ -139,9 +170,20 @@ fn pass_through<R: Files + Drop, W: Write>(
         output,
         fault: None,
     };
-    host.answer(&mut reader, &mut writer)?;
+    let ending = host.answer(&mut reader, &mut writer)?;
     match writer.fault {
         Some(fault) => Err(fault),
-        None => Ok(()),
+        None => whole(ending),
+    }
+}
+
+// Whether all of the answer came: one whose connection was hung up is cut off.
+fn whole(ending: Ending) -> Result<(), Fault>
+    ensures { IsOk result ↔ (hung_up ending ≡ false) }
+{
+    if ending.is_hung_up() {
+        Err(Fault::Connect)
+    } else {
+        Ok(())
     }
 }

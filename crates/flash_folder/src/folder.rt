@@ -1,21 +1,22 @@
 //! A site of the files of a folder, and the world that serves it.
-ghost use Rattle.std.specs.Prelude.{IfOk, map, nat_eq};
-ghost use Rattle.std.specs.List.{IsDistinct};
+ghost use Rattle.std.specs.Prelude.{◌≡◌, ◌<◌, IfOk, Some, true, false, length, slice_get};
+ghost use Rattle.iol_core.specs.declared.limits.TheConstants.{MAX_FILES};
+ghost use Rattle.flash_folder.specs.Folder.{AreFilesOf};
+ghost use Rattle.flash_lite.specs.Setup.{is_in_range};
 
 use crate::fault::Fault;
 use flash_lite::actor::Actor;
-use flash_lite::setup::setup;
 use flash_lite::site::{Site, SiteFile};
 use iol_back::folder::FolderBacking;
 use iol_core::configuration::Config;
 use iol_core::events::{Event, Reply};
-use iol_core::numbers::{ConnId, DomainId, FileId, PoolId};
+use iol_core::numbers::{ConnId, FileId, PoolId};
 use iol_core::refusals::Refusal;
 use iol_listen::serving::serve_all;
 use iol_listen::waiting::ServeFault;
 use iol_proc::world::World;
+use iol_serve::ending::Ending;
 use iol_serve::serving::serve_connection;
-use iol_system::system::System;
 use std::alloc::{AllocError, Global};
 use std::io::{Read, Write};
 use std::marker::Model;
@@ -46,8 +47,9 @@ impl<R: Files + AllocGlobal + Clone + Drop> Host<R> {
             Err(e) => return Err(Fault::of(&e, Fault::Folder)),
         };
         // All is within its limits, so only memory can be wanting.
-        match host_over(rt.alloc(), store) {
-            Ok(host) => Ok(host),
+        let alloc = rt.alloc();
+        match world_over(alloc, store) {
+            Ok(world) => Ok(Host { alloc, world }),
             Err(_) => Err(Fault::Memory),
         }
     }
@@ -64,15 +66,14 @@ impl<R: Files + Drop> Host<R> {
         }
     }
 
-    /// Serves one connection, from a reader and to a writer.
+    /// Serves one connection, from a reader and to a writer: how that ended.
     pub fn answer<I: Read, O: Write>(
         &mut self,
         reader: &mut I,
         writer: &mut O,
-    ) -> Result<(), Fault> {
+    ) -> Result<Ending, Fault> {
         let conn = self.connect()?;
-        serve_connection(&mut self.world, conn, reader, writer);
-        Ok(())
+        Ok(serve_connection(&mut self.world, conn, reader, writer))
     }
 
     // A new connection. The first one has a place, so only memory can be wanting.
@@ -86,24 +87,41 @@ impl<R: Files + Drop> Host<R> {
     }
 }
 
-// All files of a store, by their slots.
-fn files_of<R: Files>(
-    alloc: Global,
-    store: &FolderBacking<R>,
-) -> Result<Vec<SiteFile>, AllocError> {
+// All files of a store, by their slots, for everybody.
+fn files_of<R: Files>(alloc: Global, store: &FolderBacking<R>) -> Result<Vec<SiteFile>, AllocError>
+    ensures { IfOk result (λ files. AreFilesOf store.now.names files.items) }
+{
     let mut files = Vec::new(alloc);
-    for number in 1..=store.count() as u32 {
-        if let Some(name) = store.name(FileId::new(number)) {
-            let name = Vec::from_slice(alloc, name.as_bytes())?;
-            let private = false;
-            files.push(SiteFile { name, private })?;
-        }
+    for place in 0..store.count() {
+        files.push(file_at(alloc, store, place)?)?;
     }
     Ok(files)
 }
 
+// The file in a place.
+fn file_at<R: Files>(
+    alloc: Global,
+    store: &FolderBacking<R>,
+    place: usize,
+) -> Result<SiteFile, AllocError>
+    requires there { place < length store.now.names }
+    requires few { place < MAX_FILES }
+    ensures name { IfOk result (λ f. slice_get store.now.names place ≡ Some f.name.items) }
+    ensures shared { IfOk result (λ f. f.private ≡ false) }
+{
+    let Some(name) = store.name(FileId::new(place as u32 + 1)) else {
+        unreachable!();
+    };
+    let name = Vec::from_slice(alloc, name.as_bytes())?;
+    let private = false;
+    Ok(SiteFile { name, private })
+}
+
 // Four workers, and every file for everybody. The chunks are those of the system, all of them.
-fn site_of<R: Files>(alloc: Global, store: &FolderBacking<R>) -> Result<Site, AllocError> {
+fn site_of<R: Files>(alloc: Global, store: &FolderBacking<R>) -> Result<Site, AllocError>
+    ensures files { IfOk result (λ site. AreFilesOf store.now.names site.files.items) }
+    ensures range { IfOk result (λ site. is_in_range site ≡ true) }
+{
     Ok(Site {
         workers: 4,
         guests: 0,
@@ -115,39 +133,12 @@ fn site_of<R: Files>(alloc: Global, store: &FolderBacking<R>) -> Result<Site, Al
     })
 }
 
-fn new_system<R: Files + Drop>(
+// The world of the site of a store's files.
+fn world_over<R: Files + Drop>(
     alloc: Global,
     store: FolderBacking<R>,
-) -> Result<System<FolderBacking<R>>, Refusal> {
-    System::new(alloc, Config::DEFAULT, store)
-}
-
-fn set_up<R: Files + Drop>(
-    alloc: Global,
-    system: &mut System<FolderBacking<R>>,
-    site: &Site,
-) -> Result<Vec<(DomainId, Actor)>, Refusal>
-    ensures { IfOk result (λ actors. IsDistinct nat_eq (map (λ p. p.0) actors.items)) }
-{
-    setup(alloc, system, site)
-}
-
-fn new_host<R: Files + Drop>(
-    alloc: Global,
-    system: System<FolderBacking<R>>,
-    actors: Vec<(DomainId, Actor)>,
-) -> Result<Host<R>, AllocError>
-    requires { IsDistinct nat_eq (map (λ p. p.0) actors.items) }
-{
-    let world = World::new(alloc, system, actors)?;
-    Ok(Host { alloc, world })
-}
-
-// The host of the site of a store's files.
-fn host_over<R: Files + Drop>(alloc: Global, store: FolderBacking<R>) -> Result<Host<R>, Refusal> {
+) -> Result<World<FolderBacking<R>, Actor>, Refusal> {
     let site = site_of(alloc, &store)?;
-    let mut system = new_system(alloc, store)?;
-    let actors = set_up(alloc, &mut system, &site)?;
-    let host = new_host(alloc, system, actors)?;
-    Ok(host)
+    let hosted = flash_lite::host::host(alloc, Config::DEFAULT, store, &site, &[], 0)?;
+    Ok(hosted.world)
 }

@@ -1,0 +1,21 @@
+-- How a server of a folder ends, and what it tells.
+use Rattle.std.specs.Prelude.{ℕ, List, ◌++◌, Result, Ok, Err, codes}
+use Rattle.flash_folder.specs.declared.fault.Fault.{Fault}
+use Rattle.flash_folder.specs.declared.fault.Fault.TheVariants.{Listen, Accept, Connect, Folder, Output, Memory}
+
+abbrev pub word_of : Fault → List ℕ
+word_of Listen = codes "listen"
+word_of Accept = codes "accept"
+word_of Connect = codes "connect"
+word_of Folder = codes "folder"
+word_of Output = codes "output"
+word_of Memory = codes "memory"
+
+-- what it prints as
+abbrev pub fault_text : Fault → List ℕ
+fault_text fault = codes "fault: " ++ word_of fault
+
+-- the exit status: 0 just where there was no fault
+abbrev pub status_of : Result (Unit {0}) Fault → ℕ
+status_of (Ok done) = 0
+status_of (Err fault) = 3
