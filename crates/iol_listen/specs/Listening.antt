@@ -6,7 +6,7 @@ use Rattle.iol_core.specs.declared.events.Reply.{Reply}
 use Rattle.iol_core.specs.declared.events.Reply.TheVariants as reply
 use Rattle.iol_proc.specs.Turns.{Account}
 use Rattle.iol_proc.specs.World.{Stage, copying, OutsideStep}
-use Rattle.iol_serve.specs.Serving.{GoesOn}
+use Rattle.iol_serve.specs.Serving.{GoesOn, HasEnded}
 
 module _ {P : Type 0} (turns : Account P) where
   -- From w, processes have turns and things happen to this connection alone, whose peer is told to be gone, or is not.
@@ -16,12 +16,17 @@ module _ {P : Type 0} (turns : Account P) where
     pub gone : Bool
     pub goes_on : GoesOn turns c came sent gone w after
 
-  -- A connection of the pool is made, if there is a place for it, and served: then it alone goes on.
+  -- A connection that was made goes on alone, until it has ended; where none was made nothing happens.
+  abbrev pub IsServed : Reply → (begun after : Stage State P) → Type 0
+  IsServed (reply.Conn c) begun after = GoesAlone c begun after × HasEnded after.machine c
+  IsServed r begun after = after ≡ begun
+
+  -- A connection of the pool is made, if there is a place for it, and served to its end.
   pub record ServesNext (pool : ℕ) (w after : Stage State P) : Type 0 where
     pub answer : Reply
     pub begun : Stage State P
     pub made : OutsideStep copying turns w (event.ConnNew pool) answer begun
-    pub goes : (after ≡ begun) ⊎ ((c : ℕ) × (answer ≡ reply.Conn c) × GoesAlone c begun after)
+    pub serves : IsServed answer begun after
 
   -- so many connections, one after another
   abbrev pub ServesEach : (pool count : ℕ) → Stage State P → Stage State P → Type 0

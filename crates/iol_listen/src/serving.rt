@@ -5,6 +5,8 @@ ghost use Rattle.iol_listen.specs.Listening.{GoesAlone, ServesAll, ServesNext, S
 ghost use Rattle.iol_listen.specs.Waiting.{to_come};
 ghost use Rattle.iol_proc.specs.Laws.{KeepsHonesty};
 ghost use Rattle.iol_proc.specs.World.{copied};
+ghost use Rattle.iol_serve.specs.Serving.{HasEnded};
+ghost use Rattle.iol_system.specs.Machine.{tables_of};
 
 use crate::ending::end;
 use crate::outbox::{Outbox, Talk};
@@ -62,7 +64,7 @@ pub fn serve_queue<B: Backing + Drop, P: Process>(
     Ok(())
 }
 
-// Makes a connection of the world, and serves it. One for which there is no place ends.
+// Makes a connection of the world, and serves it to its end. One for which there is no place ends.
 fn serve_next<B: Backing + Drop, P: Process>(
     alloc: Global,
     world: &mut World<B, P>,
@@ -72,11 +74,20 @@ fn serve_next<B: Backing + Drop, P: Process>(
 ) -> Result<(), ServeFault>
     ensures honest { KeepsHonesty world.old.machine world.new.machine }
     ensures serves { IfHonest world.old.machine.disk
-        (ServesNext P.turns pool (copied world.old) (copied world.new)) }
+        (ServesSome P.turns pool 1 (copied world.old) (copied world.new)) }
+    ensures next { IfHonest world.old.machine.disk (OnOk result
+        (ServesNext P.turns pool (copied world.old) (copied world.new))) }
 {
+    let talk = Talk::new();
+    let Ok(mut writer) = Outbox::new(alloc, stream, &talk) else {
+        return Err(ServeFault::Memory);
+    };
     let reply = world.step_outside(Event::ConnNew { pool });
     match &reply {
-        Reply::Conn(conn) => serve_stream(alloc, world, *conn, stream, others),
+        Reply::Conn(conn) => {
+            serve_stream(world, *conn, stream, others, &talk, &mut writer);
+            Ok(())
+        }
         Reply::Refused(Refusal::Memory) => Err(ServeFault::Memory),
         _ => Ok(()),
     }
@@ -84,24 +95,21 @@ fn serve_next<B: Backing + Drop, P: Process>(
 
 // Serves one connection.
 fn serve_stream<B: Backing + Drop, P: Process>(
-    alloc: Global,
     world: &mut World<B, P>,
     conn: ConnId,
     stream: &TcpStream,
     others: &mut Queue<'_>,
-) -> Result<(), ServeFault>
+    talk: &Talk,
+    writer: &mut Outbox<'_, &TcpStream>,
+)
+    ensures ended { HasEnded (tables_of world.new.machine.kernel) conn }
     ensures honest { KeepsHonesty world.old.machine world.new.machine }
     ensures alone { IfHonest world.old.machine.disk
         (GoesAlone P.turns conn (copied world.old) (copied world.new)) }
 {
-    let talk = Talk::new();
-    let Ok(mut writer) = Outbox::new(alloc, stream, &talk) else {
-        return Err(ServeFault::Memory);
-    };
-    let mut reader = Patient::new(stream, &talk, others);
-    serve_connection(world, conn, &mut reader, &mut writer);
+    let mut reader = Patient::new(stream, talk, others);
+    serve_connection(world, conn, &mut reader, writer);
     if !reader.is_over() {
         end(stream, others);
     }
-    Ok(())
 }
