@@ -1,0 +1,119 @@
+//! What is served of a folder that is made for the test, and how that ends: what no clause says, since none speaks of sockets.
+use flash_folder::looping::loop_on;
+use flash_folder::serving::{listen, serve, serve_on};
+use std::io::{Read, Write};
+use std::net::TcpStream;
+use std::test::Fail;
+use std::{fs, io};
+
+const LARGE_BYTES: usize = 100_000;
+
+const INDEX: &[u8] =
+    b"HTTP/1.1 200 OK\r\nContent-Type: text/html\r\nContent-Length: 3\r\nConnection: close\r\n\r\nhi\n";
+
+const LARGE_HEAD: &[u8] =
+    b"HTTP/1.1 200 OK\r\nContent-Type: text/plain\r\nContent-Length: 100000\r\nConnection: close\r\n\r\n";
+
+const NO_FOLDER: &[u8] = b"fault: folder\n";
+
+// A folder with a page and a large file. What an earlier run left goes first.
+fn make(rt: &HostRuntime, root: &str) -> io::Result<()> {
+    let _ = fs::remove_dir_all(rt, root);
+    fs::create_dir(rt, root)?;
+    let page = format!(in rt.alloc(); "{root}/index.html")?;
+    fs::write(rt, page.as_str(), "hi\n")?;
+    let path = format!(in rt.alloc(); "{root}/large.txt")?;
+    let large = vec![in rt.alloc(); b'z'; LARGE_BYTES]?;
+    fs::write(rt, path.as_str(), large.as_slice())
+}
+
+// What a program printed, what it told, and its status.
+#[derive(Drop)]
+struct Ran {
+    output: Vec<u8>,
+    errors: Vec<u8>,
+    status: u8,
+}
+
+fn run_loop(rt: &HostRuntime, root: &str, path: &str) -> Ran {
+    let (mut output, mut errors) = (Vec::new(rt.alloc()), Vec::new(rt.alloc()));
+    let status = loop_on(rt, root, path, &mut output, &mut errors);
+    Ran {
+        output,
+        errors,
+        status,
+    }
+}
+
+fn run_server(rt: &HostRuntime, root: &str) -> Ran {
+    let (mut output, mut errors) = (Vec::new(rt.alloc()), Vec::new(rt.alloc()));
+    let status = serve(rt, 0, root, 1, &mut output, &mut errors);
+    Ran {
+        output,
+        errors,
+        status,
+    }
+}
+
+fn is_done(ran: &Ran) -> bool {
+    ran.status == 0 && ran.errors.is_empty()
+}
+
+fn lacks_folder(ran: &Ran) -> bool {
+    ran.status == 3 && ran.output.is_empty() && ran.errors.as_slice() == NO_FOLDER
+}
+
+// Whether it is the answer with the large file.
+fn is_large(answer: &[u8]) -> bool {
+    answer.len() == LARGE_HEAD.len() + LARGE_BYTES
+        && answer.starts_with(LARGE_HEAD)
+        && answer[LARGE_HEAD.len()..].iter().all(|byte| *byte == b'z')
+}
+
+#[test]
+fn loops(rt: HostRuntime) -> Result<(), Fail> {
+    make(&rt, "looped")?;
+    let index = run_loop(&rt, "looped", "/");
+    assert!(rt; is_done(&index) && index.output.as_slice() == INDEX);
+    let large = run_loop(&rt, "looped", "/large.txt");
+    assert!(rt; is_done(&large) && is_large(&large.output));
+    fs::remove_dir_all(&rt, "looped")?;
+    Ok(())
+}
+
+#[test]
+fn no_folder(rt: HostRuntime) -> Result<(), Fail> {
+    let looped = run_loop(&rt, "no such folder", "/");
+    assert!(rt; lacks_folder(&looped));
+    let served = run_server(&rt, "no such folder");
+    assert!(rt; lacks_folder(&served));
+    Ok(())
+}
+
+fn ask(client: &TcpStream) -> io::Result<()> {
+    let mut to = client;
+    to.write_all(b"GET / HTTP/1.1\r\nHost: a\r\nConnection: close\r\n\r\n")
+}
+
+// Whether the answer to a client is the page, and then ends.
+fn gets_index(client: &TcpStream) -> io::Result<bool> {
+    let mut answer = [0u8; INDEX.len()];
+    let mut from = client;
+    from.read_exact(&mut answer)?;
+    Ok(answer.as_slice() == INDEX && from.read(&mut [0u8])? == 0)
+}
+
+// A connection that has asked before anybody listens to it.
+#[test]
+fn asks_before(rt: HostRuntime) -> Result<(), Fail> {
+    make(&rt, "served")?;
+    let Ok(listener) = listen(&rt, 0) else {
+        return Err(Fail::from("no listener"));
+    };
+    let client = TcpStream::connect(&rt, listener.local_addr()?)?;
+    ask(&client)?;
+    assert!(rt; serve_on(&rt, &listener, "served", 1).is_ok());
+    assert!(rt; gets_index(&client)?);
+    fs::remove_dir_all(&rt, "served")?;
+    Ok(())
+}
