@@ -1,0 +1,150 @@
+"""How a stream of requests is answered from some files, none of them a script: docs/HTTP.md, said once more."""
+import re
+from urllib.parse import unquote_to_bytes
+
+WINDOW = 8192
+MOST_FIELDS = 64
+PHRASES = {
+    200: "OK", 206: "Partial Content", 400: "Bad Request", 404: "Not Found", 405: "Method Not Allowed",
+    416: "Range Not Satisfiable", 431: "Request Header Fields Too Large", 500: "Internal Server Error",
+    501: "Not Implemented", 503: "Service Unavailable",
+}
+TYPES = {
+    ".html": "text/html", ".txt": "text/plain", ".css": "text/css", ".js": "text/javascript", ".json": "application/json",
+    ".png": "image/png", ".jpg": "image/jpeg",
+}
+NOT_SERVED = (b"POST", b"PUT", b"DELETE", b"CONNECT", b"OPTIONS", b"TRACE", b"PATCH")
+TOKEN = rb"[!#$%&'*+\-.^_`|~0-9A-Za-z]+"
+VALUE = rb"[\t\x20-\x7e\x80-\xff]*"
+HEAD = re.compile(rb"(%s) ([^\x00-\x20\x7f]+) HTTP/1\.([01])\r?\n((?:%s:%s\r?\n)*)\r?\n" % (TOKEN, TOKEN, VALUE))
+FIELD = re.compile(rb"(%s):(%s)\r?\n" % (TOKEN, VALUE))
+EMPTY_LINES = re.compile(rb"(?:\r?\n)*")
+END = re.compile(rb"\n\r?\n")
+HOST = re.compile(rb"(?:(?![/?#@])[\x21-\x7e])*")
+TARGET = re.compile(rb"(?:https?://[^/?#]+)?([^?#]*)(?:\?([^#]*))?", re.IGNORECASE)
+PATH = re.compile(rb"(?:/(?:(?![#<>?`])[\x21-\x7e\x80-\xff])*)?")
+QUERY = re.compile(rb"(?:(?![\"#<>])[\x21-\x7e\x80-\xff])*")
+UNESCAPED = re.compile(rb"%(?![0-9A-Fa-f]{2})")
+RANGE = re.compile(rb"bytes=(?:([0-9]{1,15})-([0-9]{1,15})?|-([0-9]{1,15}))")
+
+
+def lined(*lines):
+    return "".join(f"{line}\r\n" for line in lines).encode()
+
+
+def response(code, kind="text/plain", body=None, more=(), closes=False, is_head=False):
+    """A head, and a body unless it is for HEAD. Without one it is that of a refusal."""
+    body = f"{code} {PHRASES[code]}\n".encode() if body is None else body
+    allow = ["Allow: GET, HEAD"] if code == 405 else []
+    fields = (f"Content-Type: {kind}", f"Content-Length: {len(body)}", *more, *allow, *["Connection: close"] * closes)
+    head = lined(f"HTTP/1.1 {code} {PHRASES[code]}", *fields, "")
+    return head if is_head else head + body
+
+
+def type_of(name):
+    return next((kind for end, kind in TYPES.items() if name.endswith(end)), "application/octet-stream")
+
+
+def is_utf8(data):
+    try:
+        data.decode()
+    except UnicodeDecodeError:
+        return False
+    return True
+
+
+def name_of(target):
+    """The name of the file that a target is of, or nothing where it is refused."""
+    found = TARGET.fullmatch(target)
+    path = (found[1] or (b"" if target.startswith(b"/") else b"/")) if found else b""
+    is_absolute = bool(found) and found.start(1) > 0
+    if not found or not path or not (is_absolute or target.startswith(b"/")) or not PATH.fullmatch(path):
+        return None
+    if not QUERY.fullmatch(found[2] or b"") or UNESCAPED.search(path):
+        return None
+    decoded = unquote_to_bytes(path)
+    if not is_utf8(decoded) or b"\0" in decoded or {b".", b".."} & {*decoded.split(b"/")}:
+        return None
+    return decoded.removeprefix(b"/").decode() or "index.html"
+
+
+class Head:
+    """A head, by the grammar: what is looked at of it."""
+
+    def __init__(self, found):
+        self.method, self.target, minor, fields = found.groups()
+        self.is_old = minor == b"0"
+        self.fields = [(name.lower(), value.strip(b" \t")) for name, value in FIELD.findall(fields)]
+        options = [part.strip(b" \t").lower() for value in self.values(b"connection") for part in value.split(b",")]
+        self.closes = self.is_old or b"close" in options
+        self.is_head = self.method == b"HEAD"
+
+    def values(self, name):
+        return [value for its, value in self.fields if its == name]
+
+    def refusal(self):
+        """The code of the first check that fails, or nothing."""
+        hosts = self.values(b"host")
+        if not self.is_old and (len(hosts) != 1 or not HOST.fullmatch(hosts[0])):
+            return 400
+        if self.values(b"transfer-encoding") or any(value != b"0" for value in self.values(b"content-length")):
+            return 400
+        if self.method not in (b"GET", b"HEAD"):
+            return 405 if self.method in NOT_SERVED else 501
+        return 400 if name_of(self.target) is None else None
+
+    def part(self, size):
+        """The part that is asked for of so many bytes, or nothing where it is all."""
+        values = self.values(b"range")
+        found = RANGE.fullmatch(values[0]) if len(values) == 1 else None
+        if not found or self.is_head or self.values(b"if-range") or size == 0:
+            return None
+        first, last, count = (None if number is None else int(number) for number in found.groups())
+        if count is not None:
+            return max(0, size - count) if count else size, size
+        return None if last is not None and last < first else (first, size if last is None else min(last + 1, size))
+
+    def answer(self, files):
+        """The response, and whether the connection closes."""
+        code = self.refusal()
+        if code:
+            closes = self.closes or code == 400
+            return response(code, closes=closes, is_head=self.is_head), closes
+        how = {"closes": self.closes, "is_head": self.is_head}
+        name = name_of(self.target)
+        if name not in files:
+            return response(404, **how), self.closes
+        data, kind = files[name], type_of(name)
+        part = self.part(len(data))
+        if part is None:
+            return response(200, kind, data, **how), self.closes
+        first, end = part
+        if first >= len(data):
+            return response(416, more=[f"Content-Range: bytes */{len(data)}"], **how), self.closes
+        more = [f"Content-Range: bytes {first}-{end - 1}/{len(data)}"]
+        return response(206, kind, data[first:end], more, **how), self.closes
+
+
+def head_of(text):
+    """A head, if it is one, and has no more fields than may be."""
+    found = HEAD.fullmatch(text)
+    head = Head(found) if found and is_utf8(found[2]) else None
+    return head if head and len(head.fields) <= MOST_FIELDS else None
+
+
+def answers(stream, files):
+    """The responses to a stream that ends, in order."""
+    while True:
+        window = stream[:WINDOW]
+        start = EMPTY_LINES.match(window).end()
+        end = END.search(window, start)
+        if not end:
+            if len(window) == WINDOW:
+                yield response(431, closes=True)
+            return
+        head = head_of(window[start:end.end()])
+        text, closes = head.answer(files) if head else (response(400, closes=True), True)
+        yield text
+        if closes:
+            return
+        stream = stream[end.end():]
