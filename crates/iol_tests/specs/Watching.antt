@@ -1,27 +1,25 @@
 -- What a watcher does, and when it is settled.
-use Rattle.std.specs.Prelude.{◌≡◌, ℕ, zero, suc, true, false, List, Option}
+use Rattle.std.specs.Prelude.{◌≡◌, ℕ, zero, suc, Bool, true, false}
 use Rattle.iol_core.specs.State.{State}
 use Rattle.iol_core.specs.Run.{StepsTo}
 use Rattle.iol_core.specs.declared.events.Call.TheVariants as call
 use Rattle.iol_core.specs.declared.events.Event.TheVariants as event
-use Rattle.iol_core.specs.declared.events.Reply.{Reply}
 use Rattle.iol_core.specs.declared.events.Reply.TheVariants as reply
 use Rattle.iol_core.specs.declared.refusals.Refusal.TheVariants.{WouldBlock}
 use Rattle.iol_proc.specs.declared.process.Turn.{Turn}
 use Rattle.iol_proc.specs.declared.process.Turn.TheVariants as turn
-use Rattle.iol_tests.specs.declared.watcher.Watcher.{Watcher}
 
--- it asks for a connection, and yields each time that it has asked
-abbrev pub Watches : Watcher → Reply → (ℕ → Option (List ℕ)) → Turn → Watcher → Type 0
-Watches w last lent turn.Yield next = (w.asked ≡ true) × (next.asked ≡ false)
-Watches w last lent (turn.Make c) next = (w.asked ≡ false) × (c ≡ call.Accept) × (next.asked ≡ true)
+-- it asks for a connection, and yields each time that it has asked: whether it had asked before a turn, and has after it
+abbrev pub Watches : (asked : Bool) → Turn → (next : Bool) → Type 0
+Watches asked turn.Yield next = (asked ≡ true) × (next ≡ false)
+Watches asked (turn.Make c) next = (asked ≡ false) × (c ≡ call.Accept) × (next ≡ true)
 
 -- no connection waits that the domain may accept
 abbrev pub NoneWaits : State → (by : ℕ) → Type 0
 NoneWaits m by = StepsTo m (event.Call by call.Accept) (reply.Refused WouldBlock) m
 
--- what holds of it after so many yields
-abbrev pub HasWatched : (n by : ℕ) → Watcher → Reply → State → Type 0
-HasWatched zero by w last m = Unit {0}
-HasWatched (suc zero) by w last m = w.asked ≡ true → NoneWaits m by
-HasWatched (suc (suc n)) by w last m = NoneWaits m by
+-- what holds after so many yields of one that has asked or not
+abbrev pub HasWatched : (n by : ℕ) → (asked : Bool) → State → Type 0
+HasWatched zero by asked m = Unit {0}
+HasWatched (suc zero) by asked m = asked ≡ true → NoneWaits m by
+HasWatched (suc (suc n)) by asked m = NoneWaits m by

@@ -1,5 +1,5 @@
 //! What comes in from a reader.
-use crate::checks::pass;
+use crate::checks::{pass, with};
 use crate::line::{Line, NONE, text};
 use crate::streams::{Sink, Source};
 use iol_core::lists::Bytes;
@@ -53,10 +53,11 @@ fn echoes_get(line: &mut Line, reader: &mut Source<'_>, writer: &mut Sink) -> bo
 }
 
 fn gets(alloc: Global) -> Result<bool, Refusal> {
-    let mut line = Line::new(alloc)?;
     let mut reader = Source::new(b"GET", 8, 0);
     let mut writer = Sink::new(alloc, 1, 2);
-    Ok(echoes_get(&mut line, &mut reader, &mut writer))
+    with(Line::new(alloc), |line| {
+        echoes_get(line, &mut reader, &mut writer)
+    })
 }
 
 #[test]
@@ -77,9 +78,11 @@ fn refuses_all(line: &mut Line, full: Bytes, reader: &mut Source<'_>) -> bool {
 
 fn refuses(alloc: Global) -> Result<bool, Refusal> {
     let full = text(alloc, 65_536)?;
-    let mut line = Line::new(alloc)?;
     let mut reader = Source::new(b"abc", 9, 0);
-    Ok(refuses_all(&mut line, full, &mut reader))
+    with(
+        Line::new(alloc),
+        |line| refuses_all(line, full, &mut reader),
+    )
 }
 
 #[test]
@@ -95,9 +98,11 @@ fn refuses_room(line: &mut Line, all: Bytes, reader: &mut Source<'_>) -> bool {
 
 fn has_no_room(alloc: Global) -> Result<bool, Refusal> {
     let all = text(alloc, 131_072)?;
-    let mut line = Line::new(alloc)?;
     let mut reader = Source::new(b"abc", 9, 0);
-    Ok(refuses_room(&mut line, all, &mut reader))
+    with(
+        Line::new(alloc),
+        |line| refuses_room(line, all, &mut reader),
+    )
 }
 
 #[test]
@@ -117,9 +122,10 @@ fn takes(line: &mut Line, before: Bytes, reader: &mut Source<'_>, max: u32, take
 fn asks_for(alloc: Global, before: usize, max: u32, taken: u32) -> Result<bool, Refusal> {
     let before = text(alloc, before)?;
     let more = text(alloc, 5000)?;
-    let mut line = Line::new(alloc)?;
     let mut reader = Source::new(more.as_slice(), 5000, 0);
-    Ok(takes(&mut line, before, &mut reader, max, taken))
+    with(Line::new(alloc), |line| {
+        takes(line, before, &mut reader, max, taken)
+    })
 }
 
 fn all_ask(alloc: Global) -> Result<bool, Refusal> {
@@ -165,9 +171,10 @@ fn all_arrive(line: &mut Line, reader: &mut Source<'_>, arrivals: &[Arrival]) ->
 }
 
 fn fails_at(alloc: Global, fails: usize, arrivals: &[Arrival]) -> Result<bool, Refusal> {
-    let mut line = Line::new(alloc)?;
     let mut reader = Source::new(b"abcdef", 4, fails);
-    Ok(all_arrive(&mut line, &mut reader, arrivals))
+    with(Line::new(alloc), |line| {
+        all_arrive(line, &mut reader, arrivals)
+    })
 }
 
 fn all_fail(alloc: Global) -> Result<bool, Refusal> {

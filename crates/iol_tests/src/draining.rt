@@ -1,5 +1,5 @@
 //! What goes out to a writer.
-use crate::checks::pass;
+use crate::checks::{pass, with};
 use crate::line::{Line, NONE};
 use crate::streams::{Sink, Source};
 use iol_core::refusals::Refusal;
@@ -28,10 +28,11 @@ fn refuses_none(line: &mut Line, reader: &mut Source<'_>, writer: &mut Sink) -> 
 }
 
 fn refuses(alloc: Global) -> Result<bool, Refusal> {
-    let mut line = Line::new(alloc)?;
     let mut reader = Source::new(b"abcde", 3, 0);
     let mut writer = Sink::new(alloc, 9, 0);
-    Ok(refuses_none(&mut line, &mut reader, &mut writer))
+    with(Line::new(alloc), |line| {
+        refuses_none(line, &mut reader, &mut writer)
+    })
 }
 
 #[test]
@@ -56,12 +57,13 @@ fn rest_follows(line: &mut Line, writer: &mut Sink, rest: u32) -> bool {
 
 // A writer that takes at most two bytes at once fails at that write.
 fn fails_at(alloc: Global, fails: usize, taken: u32, rest: u32) -> Result<bool, Refusal> {
-    let mut line = Line::new(alloc)?;
     let mut reader = Source::new(b"abcde", 3, 0);
     let mut writer = Sink::new(alloc, 2, fails);
-    let waits = let_wait(&mut line, &mut reader);
-    let failed = first_fails(&mut line, &mut writer, fails, taken);
-    Ok(waits && failed && rest_follows(&mut line, &mut writer, rest))
+    with(Line::new(alloc), |line| {
+        let_wait(line, &mut reader)
+            && first_fails(line, &mut writer, fails, taken)
+            && rest_follows(line, &mut writer, rest)
+    })
 }
 
 fn all_fail(alloc: Global) -> Result<bool, Refusal> {
@@ -99,11 +101,11 @@ fn takes(line: &mut Line, writer: &mut Sink, max: u32, want: (u32, bool), writes
 
 fn writes(alloc: Global, row: (usize, u32, u32, usize)) -> Result<bool, Refusal> {
     let (most, max, taken, writes) = row;
-    let mut line = Line::new(alloc)?;
     let mut reader = Source::new(b"abcde", 3, 0);
     let mut writer = Sink::new(alloc, most, 0);
-    let waits = let_wait(&mut line, &mut reader);
-    Ok(waits && takes(&mut line, &mut writer, max, (taken, most == 0), writes))
+    with(Line::new(alloc), |line| {
+        let_wait(line, &mut reader) && takes(line, &mut writer, max, (taken, most == 0), writes)
+    })
 }
 
 fn all_write(alloc: Global) -> Result<bool, Refusal> {

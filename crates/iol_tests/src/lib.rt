@@ -3,8 +3,6 @@
 //! Each call that wants memory answers when there is enough: of the system's calls a script says so, `examples/every_call`.
 //! Connections are served from readers and to writers ([`arriving`], [`draining`]): what they answer, how many reads and
 //! writes they make, and what a failing one leaves. Processes have turns in worlds ([`worlds`], [`served`], [`watching`]).
-//!
-//! The [`watcher`] is no test: `specs/Watching` speaks of it, and definitions are read without the tests, too.
 #![tactic(auto)]
 
 #[cfg(test)]
@@ -47,7 +45,8 @@ mod stores;
 mod streams;
 #[cfg(test)]
 mod tables;
-pub mod watcher;
+#[cfg(test)]
+mod watcher;
 #[cfg(test)]
 mod watching;
 #[cfg(test)]

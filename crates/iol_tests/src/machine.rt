@@ -1,5 +1,6 @@
 //! A system over a store in memory, behind a value that says nothing of it: a function that has the clauses of a call of the
 //! system and goes on with them is slow to prove. So each call stands in a function of its own here, and tests see its answer.
+use crate::checks::begun_by;
 use crate::streams::{Sink, Source};
 use iol_back::memory::MemoryBacking;
 use iol_back::slots::Slots;
@@ -49,9 +50,9 @@ impl Machine {
 
     /// A system that has carried out these events, of which none may be refused.
     pub fn begun(alloc: Global, config: Config, events: &[Event]) -> Result<Machine, Refusal> {
-        let mut machine = Machine::new(alloc, config)?;
-        machine.pass_all(events)?;
-        Ok(machine)
+        begun_by(Machine::new(alloc, config), |machine| {
+            machine.pass_all(events)
+        })
     }
 
     fn run(&mut self, events: &[Event]) -> Result<Vec<Reply>, AllocError> {

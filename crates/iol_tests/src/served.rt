@@ -1,5 +1,5 @@
 //! Worlds with a connection that is served from outside.
-use crate::checks::pass;
+use crate::checks::{pass, with};
 use crate::echo::Echo;
 use crate::start::system_with_pipe;
 use crate::worker::Worker;
@@ -18,10 +18,14 @@ fn conn() -> ConnId {
 // A world in which domain 2 sends back what comes in on a connection.
 fn echoing_world(alloc: Global) -> Result<Workers, Refusal> {
     let machine = system_with_pipe(alloc)?;
-    let mut world = Workers::two(alloc, machine, Worker::Idle, Worker::Echo(Echo::new()))?;
+    let echo = Worker::Echo(Echo::new());
+    Ok(Workers::two(alloc, machine, Worker::Idle, echo)?)
+}
+
+// Whether there is a new connection, the first.
+fn connects(world: &mut Workers) -> bool {
     let pool = PoolId::new(1);
-    let _conn = world.step_outside(Event::ConnNew { pool });
-    Ok(world)
+    matches!(world.step_outside(Event::ConnNew { pool }), Reply::Conn(_))
 }
 
 // What one segment of at most so many bytes has.
@@ -34,7 +38,8 @@ fn is_sent(world: &mut Workers, max: u32, bytes: &[u8]) -> bool {
 
 // What comes in goes out again: four bytes as a segment, and the last to a writer.
 fn comes_back(world: &mut Workers, reader: &mut &[u8], writer: &mut Vec<u8>) -> bool {
-    world.arrives(conn(), reader, 3, 3)
+    connects(world)
+        && world.arrives(conn(), reader, 3, 3)
         && world.arrives(conn(), reader, 3, 2)
         && world.until_idle(1_000)
         && is_sent(world, 4, b"hell")
@@ -44,10 +49,11 @@ fn comes_back(world: &mut Workers, reader: &mut &[u8], writer: &mut Vec<u8>) -> 
 }
 
 fn echoes(alloc: Global) -> Result<bool, Refusal> {
-    let mut world = echoing_world(alloc)?;
     let mut reader = b"hello".as_slice();
     let mut writer = Vec::new(alloc);
-    Ok(comes_back(&mut world, &mut reader, &mut writer))
+    with(echoing_world(alloc), |world| {
+        comes_back(world, &mut reader, &mut writer)
+    })
 }
 
 #[test]
@@ -56,8 +62,9 @@ fn connection_gets_back_what_came(rt: HostRuntime) -> Result<(), Fail> {
 }
 
 fn is_silent(alloc: Global) -> Result<bool, Refusal> {
-    let mut world = echoing_world(alloc)?;
-    Ok(world.until_idle(1_000) && !is_sent(&mut world, 9, b""))
+    with(echoing_world(alloc), |world| {
+        connects(world) && world.until_idle(1_000) && !is_sent(world, 9, b"")
+    })
 }
 
 #[test]

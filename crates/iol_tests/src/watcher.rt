@@ -20,7 +20,7 @@ impl Watcher {
 }
 
 impl Process for Watcher {
-    ghost turns = { Watches };
+    ghost turns = { λ watcher last lent turn next. Watches watcher.asked turn next.asked };
 
     fn next(&mut self, _last: &Reply, _look: &Look<'_>) -> Result<Turn, AllocError> {
         if self.asked {
@@ -33,7 +33,7 @@ impl Process for Watcher {
 }
 
 impl Settling for Watcher {
-    ghost settled = { HasWatched };
+    ghost settled = { λ n by watcher last m. HasWatched n by watcher.asked m };
 
     fn settles() {}
 }

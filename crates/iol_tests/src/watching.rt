@@ -5,7 +5,7 @@ ghost use Rattle.iol_proc.specs.Settled.{AllSettled};
 ghost use Rattle.iol_tests.specs.Watching.{HasWatched};
 ghost use Rattle.iol_system.specs.Machine.{machine_of};
 
-use crate::checks::pass;
+use crate::checks::{pass, with};
 use crate::machine::Machine;
 use crate::start::system_with_pipe;
 use crate::watcher::Watcher;
@@ -25,7 +25,7 @@ type Watched = World<MemoryBacking, Watcher>;
 // Gives turns until all is idle: then no connection waits that a watcher's domain may accept.
 fn watch(world: &mut Watched, turns: usize) -> bool
     ensures { IfHonest world.old.machine.disk (result ≡ true →
-        AllSettled HasWatched world.new.seats (machine_of world.new.machine)) }
+        AllSettled (λ n by w last m. HasWatched n by w.asked m) world.new.seats (machine_of world.new.machine)) }
 {
     idle_is_settled::<Watcher>();
     world.until_idle(turns)
@@ -82,10 +82,13 @@ fn accepts(watchers: &mut Watchers) -> bool {
     watchers.connects() && watchers.connects() && !watchers.watch(5) && watchers.watch(100)
 }
 
-fn all_wait(alloc: Global) -> Result<bool, Refusal> {
+fn world_of_one(alloc: Global) -> Result<Watchers, Refusal> {
     let machine = system_with_pipe(alloc)?;
-    let mut watchers = Watchers::new(alloc, machine)?;
-    Ok(accepts(&mut watchers))
+    Ok(Watchers::new(alloc, machine)?)
+}
+
+fn all_wait(alloc: Global) -> Result<bool, Refusal> {
+    with(world_of_one(alloc), accepts)
 }
 
 #[test]

@@ -1,5 +1,5 @@
 //! Worlds of a few processes.
-use crate::checks::pass;
+use crate::checks::{pass, with};
 use crate::consumer::{Consumer, summed};
 use crate::producer::{PIECE, Producer};
 use crate::start::{call_of, system_with_pipe};
@@ -60,8 +60,9 @@ fn all_came(world: &Workers) -> bool {
 }
 
 fn passes(alloc: Global) -> Result<bool, Refusal> {
-    let mut world = sending_world(alloc)?;
-    Ok(world.until_idle(65_536) && all_came(&world))
+    with(sending_world(alloc), |world| {
+        world.until_idle(65_536) && all_came(world)
+    })
 }
 
 #[test]
@@ -71,8 +72,9 @@ fn pipe_passes_a_mebibyte(rt: HostRuntime) -> Result<(), Fail> {
 
 // Nothing is idle before each of two processes has yielded twice.
 fn yields(alloc: Global) -> Result<bool, Refusal> {
-    let mut world = world_of(alloc, Worker::Idle, Worker::Idle)?;
-    Ok(!world.until_idle(0) && !world.until_idle(3) && world.until_idle(4))
+    with(world_of(alloc, Worker::Idle, Worker::Idle), |world| {
+        !world.until_idle(0) && !world.until_idle(3) && world.until_idle(4)
+    })
 }
 
 #[test]
@@ -81,8 +83,9 @@ fn idle_is_when_all_have_yielded(rt: HostRuntime) -> Result<(), Fail> {
 }
 
 fn waits(alloc: Global) -> Result<bool, Refusal> {
-    let mut world = world_of(alloc, Worker::Idle, Worker::Eager)?;
-    Ok(!world.until_idle(1_000))
+    with(world_of(alloc, Worker::Idle, Worker::Eager), |world| {
+        !world.until_idle(1_000)
+    })
 }
 
 #[test]
@@ -90,10 +93,14 @@ fn waiting_without_a_pause_is_not_idle(rt: HostRuntime) -> Result<(), Fail> {
     pass(waits(rt.alloc()))
 }
 
-fn is_idle_without(alloc: Global) -> Result<bool, Refusal> {
+// A world without processes.
+fn empty_world(alloc: Global) -> Result<Workers, Refusal> {
     let machine = system_with_pipe(alloc)?;
-    let mut world = Workers::none(alloc, machine)?;
-    Ok(world.until_idle(0))
+    Ok(Workers::none(alloc, machine)?)
+}
+
+fn is_idle_without(alloc: Global) -> Result<bool, Refusal> {
+    with(empty_world(alloc), |world| world.until_idle(0))
 }
 
 #[test]
@@ -133,8 +140,10 @@ fn all_are_refused(world: &mut Workers) -> bool {
 }
 
 fn refuses(alloc: Global) -> Result<bool, Refusal> {
-    let mut world = world_of(alloc, Worker::Idle, Worker::Eager)?;
-    Ok(all_are_refused(&mut world))
+    with(
+        world_of(alloc, Worker::Idle, Worker::Eager),
+        all_are_refused,
+    )
 }
 
 #[test]
