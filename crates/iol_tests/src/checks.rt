@@ -3,8 +3,8 @@
 //! Functions tell whether all was as it should be, and the test alone passes or fails by that: each `assert!` of a function
 //! takes the prover a second, and each `assert_eq!` two or three.
 //!
-//! A function that lets a system or a world go is slow to prove, half a minute each. So none but [`with`] and [`begun_by`] do,
-//! which are proved once, whatever is let go.
+//! A function that lets a system or a world go is slow to prove, half a minute each. So [`with`] and [`begun_by`] do, which are
+//! proved once, whatever is let go, and of the others the README's example alone.
 use iol_core::refusals::Refusal;
 use std::test::Fail;
 
