@@ -5,7 +5,6 @@ one that it would refuse for a reason that the script has not met yet is kept mo
 """
 import random
 
-from model.room import Impossible
 from model.script import OUTSIDE, set_up
 from model.state import OpenFile
 from model.texts import encode
@@ -194,13 +193,10 @@ class Drawing(Words):
         return self.chance.choice(able) if able and not self.is_wild() else self.domain()
 
     def take(self, line):
-        """Adds a line, as if it were answered."""
+        """Adds a line, and changes the machine as it does."""
         self.lines.append(line)
         change = self.machine.step(line)[-1] if line != b"report" else None
-        try:
-            next(change or iter(()), None)
-        except Impossible:
-            pass  # it will be refused for want of room
+        next(change or iter(()), None)
 
 
 def theme_of(seed):

@@ -73,6 +73,29 @@ class Long(Theme):
         yield from ("config 256 9 9", f"storen 1 {LONG} a", "store 2 b", f"storen 3 {LONG + 1} a")
 
 
+# Calls on five files whose pool does not hold them all.
+EVICTING = {
+    "read": 20, "iol_read": 10, "agg_drop": 12, "seek": 20, "write": 6, "iol_write": 6, "agg_fill": 2, "agg_make": 2,
+    "agg_cut": 3, "agg_join": 3, "fsync": 3, "flush": 6, "drop_clean": 0.5, "length": 1, "report": 12,
+}
+
+
+class Evicting(Theme):
+    """Files of several pages in a pool of one or two chunks, which are read and written again and again."""
+
+    def headers(self, chance):
+        yield f"config 4 {chance.randint(*self.generations)} 9"
+        if self.is_faulty:
+            yield f"fault {chance.randint(1, 40)}"
+        for slot in range(1, 6):
+            yield f"storen {slot} {chance.choice((1, 3000, 5000, 15_000, 30_000, 60_000))} {chance.choice('abc')}"
+
+    def opening(self, chance):
+        yield from (f"1 pool_create {chance.choice((1, 1, 2))} 1", "1 pool_create 1 1", "1 set_pool 2")
+        for name in "abcde":
+            yield from (f"1 file_new {name} 1", f"1 open_file {name} both")
+
+
 def listed(numbers):
     return ",".join(map(str, numbers))
 
@@ -155,7 +178,10 @@ THEMES = [
     *[Theme(**STORE, is_swept=True, is_stored=True)] * 12,
     *[Theme(**STORE, chunks=(2, 4), texts=LARGE, is_stored=True)] * 8,
     *[Theme(**STORE, filling=FULL_POOL, texts=LARGE)] * 2,
-    *[Theme(**STORE, is_faulty=True)] * 8,
+    *[Theme(**STORE, is_faulty=True)] * 6,
+    *[Evicting(weights=EVICTING, texts=LARGE, is_stored=True)] * 8,
+    *[Evicting(weights=EVICTING, texts=LARGE, is_faulty=True)] * 6,
+    *[Evicting(weights=EVICTING, texts=LARGE, generations=(3, 12))] * 2,
     *[Theme(weights=times(ON_PIPES, 6), filling=MIXED)] * 6,
     *[Theme(weights=times(ON_PIPES, 6), filling=BROKEN)] * 2,
     *[Theme(**NET, is_swept=True)] * 8,

@@ -38,7 +38,6 @@ class Domains(State):
             raise Refused(f"NoRoom pool {number}", MEMORY)
         yield f"pool {number}", MEMORY
         self.pools[number] = Pool(number, free[:chunks], set(names))
-        self.room.add_pool(number)
 
     def pool_close(self, by, pool):
         self.domain(by)
@@ -85,8 +84,10 @@ class Aggregates(State):
         need(len(data) <= MAX_BYTES, "TooLong")
         self.need_aggs(1)
         pool.need_open()
-        yield f"agg {domain.next_agg}", self.want(pool, len(data))
-        domain.add(self.place(pool, data))
+        text, plan = self.placed(pool, data)
+        yield f"agg {domain.next_agg}", MEMORY
+        plan.commit()
+        domain.add(text)
         self.aggs += 1
 
     def agg_dup(self, by, agg):
@@ -162,7 +163,6 @@ class Descriptors(State):
         pool.need_open()
         yield f"file {number}", MEMORY
         self.files[number] = self.names[name] = File(number, name, pool, data)
-        self.room.with_files.add(pool.number)
 
     def open_file(self, by, name, mode):
         domain = self.domain(by)
@@ -209,9 +209,8 @@ class Descriptors(State):
         yield f"count {len(self.domain(by).file(fd).file.data)}", NEVER
 
     def fsync(self, by, fd):
-        number = self.domain(by).file(fd).file.number
-        yield "done", self.faults(self.may_be_dirty & {number})
-        self.may_be_dirty.discard(number)
+        file = self.domain(by).file(fd).file.number
+        yield from self.written_back([(file, extent) for extent in self.cache.of(file) if extent.is_dirty])
 
     def accept(self, by):
         domain = self.domain(by)
@@ -236,8 +235,10 @@ class Outside(State):
         need(conn.peer is None and not conn.is_closed, "BrokenPipe")
         taken = data[:MAX_QUEUE_BYTES - len(conn.unread)]
         need(taken or not data, "WouldBlock")
-        yield f"count {len(taken)}", self.want(conn.pool, len(taken)) if taken else NEVER
-        conn.unread += self.place(conn.pool, taken)
+        text, plan = self.placed(conn.pool, taken)
+        yield f"count {len(taken)}", MEMORY if taken else NEVER
+        plan.commit()
+        conn.unread += text
 
     def peer_closed(self, conn, how):
         conn = self.conn(conn)
@@ -257,8 +258,8 @@ class Outside(State):
         self.forget(conn)
 
     def flush(self):
-        yield "done", self.faults(self.may_be_dirty)
+        yield from self.written_back([it for it in self.cache.all() if it[1].is_dirty][:1])
 
     def drop_clean(self):
         yield "done", NEVER
-        self.may_be_cached = bool(self.may_be_dirty)
+        self.cache.drop_clean()

@@ -3,7 +3,7 @@ from collections import Counter
 
 from model.calls import Aggregates, Descriptors, Domains, Outside
 from model.state import Refused
-from model.room import Impossible
+from model.room import Impossible, check_report
 from model.texts import decode
 from model.traffic import Reading, Writing
 from replaying import Wrong, is_answered
@@ -47,39 +47,30 @@ class Machine(Domains, Aggregates, Descriptors, Reading, Writing, Outside):
         try:
             answer, late = next(change)
         except Refused as it:
-            return name, f"refused {it.refusal}", it.late, None
+            return name, f"refused {it.refusal}", it.late, it.plan and committing(it.plan)
         return name, answer, late, change
 
 
 def set_up(lines):
     """The machine that the headers of a script set up."""
-    sizes, slots, store_may_fail = (256, 2**32 - 1), {}, False
+    sizes, slots, fault = (256, 2**32 - 1), {}, 0
     for line in lines:
         name, _, rest = line.partition(b" ")
         if name == b"config":
             sizes = tuple(map(int, rest.split()[:2]))
         elif name == b"fault":
-            store_may_fail = True
+            fault = int(rest)
         elif name in (b"store", b"storen"):
             slot, text = rest.split(b" ", 1)
             times, text = text.split(b" ", 1) if name == b"storen" else (1, text)
             slots[int(slot)] = slots.get(int(slot), b"") + decode(text) * int(times)
-    return Machine(*sizes, slots, store_may_fail)
+    return Machine(*sizes, slots, fault)
 
 
-def compare_line(machine, line, reply):
-    """Checks a reply, and changes the machine as it says: the call, and why it was refused where it was."""
-    name, answer, late, change = machine.step(line)
-    refusal = reply.removeprefix("refused ")
-    if reply == answer:
-        if change:
-            next(change, None)
-    elif reply.startswith("refused ") and refusal in late:
-        if refusal.startswith("NoRoom"):
-            machine.check_no_room()
-    else:
-        raise Impossible(f"the model answers {answer[:200]!r}{''.join(f' or {it}' for it in sorted(late))}")
-    return name, refusal.split(" ")[0] if reply.startswith("refused ") else "answered"
+def committing(plan):
+    """The change that is what a refusal leaves."""
+    plan.commit()
+    yield
 
 
 def answer_to(line, replies):
@@ -96,29 +87,33 @@ def answer_to(line, replies):
 class Comparison:
     """A script's replies beside the model, and what was reached: how often each call was answered, or refused for what.
 
-    Where memory is wanted, a reply may say so, and the store in memory may fail.
+    Where memory is wanted, a reply may say so, and the store in memory may fail. What of files is in memory is not known
+    then, so where there are files the comparison ends.
     """
 
     def __init__(self, lines, is_memory_wanted):
         self.machine, self.reached, self.is_memory_wanted = set_up(lines), Counter(), is_memory_wanted
-        self.may_fail = self.machine.store_may_fail
-        self.machine.store_may_fail |= is_memory_wanted
+        self.is_over = False
 
     def take(self, line, answer):
         if line == b"report":
-            self.machine.room.check_report(answer, self.machine)
+            check_report(answer, self.machine)
             self.reached["report", "answered"] += 1
-        elif answer == ["refused Memory"] and not self.is_memory_wanted:
-            raise Impossible("all memory was there")
+            return
+        name, wanted, late, change = self.machine.step(line)
+        reply = answer[0]
+        if reply == wanted:
+            next(change or iter(()), None)
+        elif not self.is_memory_wanted or not is_want(reply, late):
+            raise Impossible(f"the model answers {wanted[:200]!r}")
         else:
-            self.reached[compare_line(self.machine, line, answer[0])] += 1
+            self.is_over = bool(self.machine.files)
+        self.reached[name, reply.split(" ")[1] if reply.startswith("refused ") else "answered"] += 1
 
-    def end(self, left):
-        faults = sum(count for (_, what), count in self.reached.items() if what == "Fault")
-        if left:
-            raise Wrong("there are more replies than lines")
-        if faults > self.may_fail and not self.is_memory_wanted:
-            raise Wrong("the store failed more than once")
+
+def is_want(reply, late):
+    """Whether a reply says that memory was wanted, as the call may."""
+    return reply.startswith("refused Fault ") or reply == "refused Memory" and "Memory" in late
 
 
 def compare(lines, output, is_memory_wanted=False):
@@ -128,11 +123,12 @@ def compare(lines, output, is_memory_wanted=False):
     for number, line in enumerate(lines, 1):
         answer = []
         try:
-            if is_answered(line):
+            if is_answered(line) and not comparison.is_over:
                 answer = answer_to(line, replies)
                 comparison.take(line, answer)
         except Impossible as it:
             told = " ".join(answer)[:200]
             raise Wrong(f"line {number}, {line[:80]!r}, was answered {told!r}: {it}") from it
-    comparison.end([*replies])
+    if not comparison.is_over and next(replies, None) is not None:
+        raise Wrong("there are more replies than lines")
     return comparison.reached

@@ -1,11 +1,13 @@
-"""The machine of docs/RULES.md, written from its words: it copies at every call, shares no page, and has no cache.
+"""The machine of docs/RULES.md, written from its words: it copies at every call, and yet knows where each byte lies.
 
 A call checks its refusals in their order, says what it is answered and which late refusals may come instead, and
-then, where it is answered, changes the state: what stands behind a `yield` is carried out only then. What RULES
-leaves to what of a file is in memory is left open here: which extents are evicted, whether a file's pool has room, and
-which call meets a fault.
+then, where it is answered, changes the state: what stands behind a `yield` is carried out only then. Where it wants
+pages, or works on a file, it has a plan (cache.py), which says whether there is room and whether the store fails.
 """
-from model.room import Room, pages_of
+from contextlib import contextmanager
+
+from model.cache import Cache, Fault, NoRoom, Plan
+from model.room import Buffers, pages_for, pages_of
 from model.texts import Text
 
 MAX_DOMAINS, MAX_POOLS, MAX_LISTED, MAX_CHUNKS = 4096, 1024, 16, 256
@@ -17,12 +19,11 @@ MEMORY = frozenset({"Memory"})
 
 
 class Refused(Exception):
-    """A refusal, and the late ones that may come in its place."""
+    """A refusal, the late ones that may come in its place, and what it leaves of pages and of the cache."""
 
-    def __init__(self, refusal, late=NEVER):
+    def __init__(self, refusal, late=NEVER, plan=None):
         super().__init__(refusal)
-        self.refusal = refusal
-        self.late = late
+        self.refusal, self.late, self.plan = refusal, late, plan
 
 
 def need(holds, refusal):
@@ -143,14 +144,12 @@ class Domain:
 class State:
     """What the machine keeps, and how its parts are found."""
 
-    def __init__(self, chunks, gen_limit, slots, store_may_fail):
-        self.chunks, self.slots, self.store_may_fail = chunks, slots, store_may_fail
+    def __init__(self, chunks, gen_limit, slots, fault):
+        self.chunks, self.gen_limit, self.slots, self.fault = chunks, gen_limit, slots, fault
         self.domains, self.domains_made = {1: Domain(1)}, 1
         self.pools, self.files, self.names = {}, {}, {}
         self.conns, self.conns_made, self.pipes, self.aggs = {}, 0, 0, 0
-        self.room = Room(gen_limit)
-        self.may_be_dirty, self.may_be_cached = set(), False
-        self.wanted = None  # room: the pool, and for how many bytes
+        self.buffers, self.cache = Buffers(), Cache()
 
     def domain(self, number):
         need(number in self.domains, "NoDomain")
@@ -168,16 +167,16 @@ class State:
         need(self.aggs + made - given <= MAX_AGGREGATES, "TooMany")
 
     def may_read(self, domain, mark):
-        return domain in self.pools[self.room.pools[mark]].names
+        return domain in self.pools[self.buffers.pools[mark]].names
 
     def barred(self, domain, text):
         """The pool of the first byte that the domain may not read, or nothing."""
-        return next((self.room.pools[mark] for mark, _ in text.runs if not self.may_read(domain, mark)), None)
+        return next((self.buffers.pools[mark] for mark, _ in text.slices if not self.may_read(domain, mark)), None)
 
     def admitted(self, domain, text):
         """The longest beginning that the domain may read."""
         end = 0
-        for mark, count in text.runs:
+        for mark, count in text.slices:
             if not self.may_read(domain, mark):
                 break
             end += count
@@ -189,13 +188,13 @@ class State:
         for domain in self.domains.values():
             texts += domain.aggs.values()
             texts += (fd.pipe.queue for fd in domain.fds.values() if isinstance(fd, (ReadEnd, WriteEnd)))
-        return {mark for text in texts for mark, _ in text.runs}
+        return {mark for text in texts for mark, _ in text.slices}
 
     def return_chunks(self):
         """Closed pools in which nothing lies give their chunks back."""
         closed = [pool for pool in self.pools.values() if pool.is_closed and not pool.is_returned]
         if closed:
-            held = {self.room.pools[mark] for mark in self.held()}
+            held = {self.buffers.pools[mark] for mark in self.held()}
             for pool in closed:
                 pool.is_returned = pool.number not in held
 
@@ -204,23 +203,34 @@ class State:
         taken = {chunk for pool in self.pools.values() if not pool.is_returned for chunk in pool.chunks}
         return [chunk for chunk in range(self.chunks) if chunk not in taken]
 
-    def want(self, pool, count):
-        """The late refusals of a call that places so many bytes: of how many is not known of files' (`None`)."""
-        self.wanted = pool, count
-        return MEMORY if count == 0 else MEMORY | {f"NoRoom pool {pool.number}"}
+    def plan(self):
+        return Plan(self)
 
-    def check_no_room(self):
-        """What was wanted last was refused for want of room."""
-        pool, count = self.wanted
-        if count is not None:
-            self.room.check_refused(pool, count, self.held())
+    @contextmanager
+    def planned(self, pool=None, file=None, late=MEMORY):
+        """A plan for pages of a pool, or for a file, which is refused where there is no room or the store fails."""
+        plan = self.plan()
+        try:
+            yield plan
+        except NoRoom:
+            raise Refused(f"NoRoom pool {pool.number}", late, plan) from None
+        except Fault:
+            raise Refused(f"Fault file {file}", late, plan) from None
 
-    def place(self, pool, data):
-        return self.room.place(pool, data, self.held())
+    def placed(self, pool, data):
+        """Bytes on new pages, and the plan of that."""
+        with self.planned(pool) as plan:
+            if data:
+                plan.make_room(pool, pages_for(len(data)))
+            return plan.place(pool, data), plan
 
-    def faults(self, files):
-        """The faults that a call on the store may meet at one of these files."""
-        return frozenset(f"Fault file {number}" for number in files) if self.store_may_fail else NEVER
+    def written_back(self, dirty):
+        """Extents of a file are written back, in order, up to the first fault."""
+        with self.planned(file=dirty[0][0] if dirty else None, late=NEVER) as plan:
+            for file, extent in dirty:
+                plan.write_back(file, extent)
+        yield "done", NEVER
+        plan.commit()
 
     def forget(self, conn):
         if conn.is_over():

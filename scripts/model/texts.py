@@ -1,8 +1,15 @@
-"""The texts of scripts, how they are written, and texts that know the pages that they were put on."""
-from urllib.parse import unquote_to_bytes as decode  # `%` and two hexadecimal digits, of either case, are a byte
+"""The texts of scripts, how they are written, and texts that know where they lie."""
+from functools import lru_cache
+from urllib.parse import unquote_to_bytes
 
 PLAIN = {*range(0x21, 0x7F)} - {ord("%")}
 PRINTED = [b"%c" % byte if byte in PLAIN else b"%%%02X" % byte for byte in range(256)]
+
+
+@lru_cache(256)
+def decode(text):
+    """The bytes of a TEXT: `%` and two hexadecimal digits, of either case, are one."""
+    return unquote_to_bytes(text)
 
 
 def encode(data):
@@ -17,25 +24,24 @@ def checksum(data):
 
 
 class Text:
-    """Bytes, and the pages that they were put on: the mark of each, with how many of the bytes have it (room.py)."""
+    """Bytes, and the slices that they lie in: of each the mark of its buffer (room.py), and how many bytes it has."""
 
-    __slots__ = ("data", "runs")
+    __slots__ = ("data", "slices")
 
-    def __init__(self, data=b"", runs=()):
-        self.data = data
-        self.runs = runs
+    def __init__(self, data=b"", slices=()):
+        self.data, self.slices = data, slices
 
     def __len__(self):
         return len(self.data)
 
     def __add__(self, other):
-        return Text(self.data + other.data, (*self.runs, *other.runs))
+        return Text(self.data + other.data, (*self.slices, *other.slices))
 
     def part(self, start, end=None):
-        data, runs, at = self.data[start:end], [], 0
-        for mark, count in self.runs:
+        data, slices, at = self.data[start:end], [], 0
+        for mark, count in self.slices:
             first, last = max(at, start), min(at + count, start + len(data))
             if first < last:
-                runs.append((mark, last - first))
+                slices.append((mark, last - first))
             at += count
-        return Text(data, tuple(runs))
+        return Text(data, tuple(slices))

@@ -1,6 +1,6 @@
 """The calls of the model that read and write: docs/RULES.md, The calls, Pipes, Files and the cache, Connections."""
 from model.state import MAX_BYTES, MAX_QUEUE_BYTES, MEMORY, OpenFile, State, need
-from model.texts import encode
+from model.texts import Text, encode
 
 
 def shown(word, data):
@@ -9,25 +9,22 @@ def shown(word, data):
 
 class Reading(State):
     def readable(self, by, source, count):
-        """What a read of so many bytes gives."""
+        """What a read of so many bytes gives, and what that does to the cache."""
         if isinstance(source, OpenFile):
             source.file.pool.need_named(by)
-            return self.room.somewhere(source.file.pool.number, source.file.data[source.at:source.at + count])
+            end = min(source.at + count, len(source.file.data))
+            with self.planned(source.file.pool, source.file.number) as plan:
+                return plan.read(source.file, source.at, end), plan
         if count:
             barred = self.barred(by, source.unread.part(0, 1))
             need(barred is None, f"Denied pool {barred}")
             need(source.unread or not source.may_grow, "WouldBlock")
-        return self.admitted(by, source.unread.part(0, count))
+        return self.admitted(by, source.unread.part(0, count)), None
 
-    def late_for_read(self, source, text):
-        if isinstance(source, OpenFile) and text:
-            return self.want(source.file.pool, None) | self.faults({source.file.number})
-        return MEMORY
-
-    def was_read(self, source, text):
+    def was_read(self, source, text, plan):
         if isinstance(source, OpenFile):
+            plan.commit()
             source.at += len(text)
-            self.may_be_cached |= bool(text)
         else:
             source.take(len(text))
 
@@ -36,18 +33,18 @@ class Reading(State):
         source = domain.fd(fd)
         need(source.reads, "WrongMode")
         self.need_aggs(1)
-        text = self.readable(by, source, count)
-        yield f"agg {domain.next_agg}", self.late_for_read(source, text)
-        self.was_read(source, text)
+        text, plan = self.readable(by, source, count)
+        yield f"agg {domain.next_agg}", MEMORY
+        self.was_read(source, text, plan)
         domain.add(text)
         self.aggs += 1
 
     def read(self, by, fd, count):
         source = self.domain(by).fd(fd)
         need(source.reads, "WrongMode")
-        text = self.readable(by, source, count)
-        yield shown("bytes", text.data), self.late_for_read(source, text)
-        self.was_read(source, text)
+        text, plan = self.readable(by, source, count)
+        yield shown("bytes", text.data), MEMORY
+        self.was_read(source, text, plan)
 
 
 class Writing(State):
@@ -64,13 +61,15 @@ class Writing(State):
         if isinstance(to, OpenFile):
             need(to.at + count <= MAX_BYTES, "TooLong")
 
-    def put_in_file(self, to, data):
-        file, end = to.file, to.at + len(data)
-        file.data = file.data[:to.at] + data + file.data[end:]
+    def into_file(self, to, text):
+        """A write of so many bytes to a file."""
+        with self.planned(to.file.pool) as plan:
+            plan.write(to.file, to.at, text)
+        yield f"count {len(text)}", MEMORY
+        plan.commit()
+        file, end = to.file, to.at + len(text)
+        file.data = file.data[:to.at] + text.data + file.data[end:]
         to.at = end
-        if data:
-            self.may_be_dirty.add(file.number)
-            self.may_be_cached = True
 
     def iol_write(self, by, fd, agg):
         domain = self.domain(by)
@@ -78,14 +77,11 @@ class Writing(State):
         need(to.writes, "WrongMode")
         self.need_short(to, len(text))
         count = self.taken(to, len(text))
-        if not isinstance(to, OpenFile):
+        if isinstance(to, OpenFile):
+            yield from self.into_file(to, text)
+        else:
             yield f"count {count}", MEMORY
             to.put(text.part(0, count))
-            return
-        copied = sum(count for mark, count in text.runs if self.room.pools[mark] != to.file.pool.number)
-        yield f"count {count}", self.want(to.file.pool, None) if copied else MEMORY
-        self.room.check_taken(to.file.pool, copied, self.held())
-        self.put_in_file(to, text.data)
 
     def write(self, by, fd, data):
         domain = self.domain(by)
@@ -97,9 +93,10 @@ class Writing(State):
         if not is_file:
             pool.need_open()
         taken = data[:self.taken(to, len(data))]
-        yield f"count {len(taken)}", self.want(pool, len(taken))
         if is_file:
-            self.room.check_taken(pool, len(taken), self.held())
-            self.put_in_file(to, taken)
+            yield from self.into_file(to, Text(data, ((None, len(data)),) if data else ()))  # it lies nowhere yet
         else:
-            to.put(self.place(pool, taken))
+            text, plan = self.placed(pool, taken)
+            yield f"count {len(taken)}", MEMORY
+            plan.commit()
+            to.put(text)
