@@ -54,7 +54,7 @@ class Sweep:
             if ended.returncode == 0:
                 answers = script.answers(ended.stdout)
                 if is_want(answers[event], self.expected[event]):
-                    if answers[:event] + answers[event + 1:] != self.expected:
+                    if not script.agree(answers[:event] + answers[event + 1:], self.expected):
                         raise Wrong("made again, it is answered otherwise")
                     return
         raise Wrong("where it stands twice, the first is not refused")
@@ -75,7 +75,7 @@ class Sweep:
         if not wants:
             raise Wrong("other replies, and none says that memory was wanted")
         event = wants[0]
-        if answers[:event] + answers[event + 1:] != self.rest(event):
+        if not self.script.agree(answers[:event] + answers[event + 1:], self.rest(event)):
             raise Wrong("other replies than without the refused event")
         self.made_again(event, number)
         return "refused"

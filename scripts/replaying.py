@@ -71,6 +71,18 @@ class Script:
         return answers
 
 
+    def agree(self, answers, others):
+        """Whether two runs were answered alike.
+
+        Where reports' counts are not compared, what of files is in memory may differ. So what is pinned may, too, and from
+        the first NoRoom of one run alone nothing is compared.
+        """
+        for answer, other in zip(answers, others, strict=True):
+            if answer != other:
+                return not self.counts and any(it[0].startswith(b"refused NoRoom ") for it in (answer, other))
+        return True
+
+
 def read_script(path, counts):
     with open(path, "rb") as it:
         return Script(it.read().split(b"\n"), counts)
