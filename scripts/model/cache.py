@@ -156,6 +156,7 @@ class Plan:
         whole = Text()
         for _, text in sorted(parts, key=lambda part: part[0]):
             whole += text
+        assert whole.data == file.data[start:end]  # the cache changes no byte
         return whole
 
     def fill(self, file, gaps):
