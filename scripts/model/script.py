@@ -1,49 +1,84 @@
 """Reads the lines of a script (docs/RULES.md, Scripts), and compares each reply with what the model allows."""
+import re
 from collections import Counter
 
 from model.calls import Aggregates, Descriptors, Domains, Outside
-from model.state import Refused
+from model.state import MAX_BYTES, Refused
 from model.room import Impossible, check_report
 from model.texts import decode
 from model.traffic import Reading, Writing
 from replaying import Wrong, is_answered
 
-# What stands behind each name: n is a number, l a list of numbers, w a word, d a name, t a text.
+# What stands behind each name: n is a number of 32 bits, a one of 64, l a list of numbers, d a name, t a text; m is how a
+# file is open, h how a peer closed.
 CALLS = {
     "domain_new": "", "exit": "", "pool_create": "nl", "pool_close": "n", "pool_admit": "nn", "set_pool": "n",
-    "agg_make": "t", "agg_fill": "nt", "agg_dup": "n", "agg_cut": "nnn", "agg_split": "nn", "agg_join": "nn",
-    "agg_replace": "nnnn", "agg_drop": "n", "agg_give": "nn", "show": "n", "file_new": "dn", "open_file": "dw",
-    "pipe": "", "give_fd": "nn", "close": "n", "seek": "nn", "length": "n", "fsync": "n", "iol_write": "nn",
+    "agg_make": "t", "agg_fill": "nt", "agg_dup": "a", "agg_cut": "ann", "agg_split": "an", "agg_join": "aa",
+    "agg_replace": "anna", "agg_drop": "a", "agg_give": "an", "show": "a", "file_new": "dn", "open_file": "dm",
+    "pipe": "", "give_fd": "nn", "close": "n", "seek": "nn", "length": "n", "fsync": "n", "iol_write": "na",
     "iol_read": "nn", "write": "nt", "read": "nn", "accept": "",
 }
-OUTSIDE = {"conn_new": "n", "arrive": "nt", "peer_closed": "nw", "transmit": "nn", "flush": "", "drop_clean": ""}
+OUTSIDE = {
+    "conn_new": "n", "arrive": "nt", "peer_closed": "nh", "transmit": "nn", "flush": "", "drop_clean": "", "report": "",
+}
+
+
+def number_below(limit):
+    def read(word):
+        if not re.fullmatch(rb"[0-9]+", word) or int(word) >= limit:
+            raise ValueError(word)
+        return int(word)
+    return read
 
 
 def numbers(word):
-    return [int(number) for number in word.split(b",")]
+    return [READ["n"](number) for number in word.split(b",")]
 
 
-READ = {"n": int, "l": numbers, "w": bytes.decode, "d": decode, "t": decode}
+def one_of(*words):
+    return lambda word: words[[it.encode() for it in words].index(word)]
 
 
-def arguments(kinds, rest):
-    words = rest.split(b" ", len(kinds) - 1) if kinds else []
-    words += [b""] * (len(kinds) - len(words))  # a text that is not given is empty
-    return [READ[kind](word) for kind, word in zip(kinds, words)]
+READ = {
+    "n": number_below(2**32), "a": number_below(2**64), "l": numbers, "d": decode, "t": decode,
+    "m": one_of("read", "write", "both"), "h": one_of("done", "gone"),
+}
+
+
+def read_line(line):
+    """The name of a line's call, and what it is called with, its domain first. Of a line that is none a `ValueError`."""
+    first, has_more, rest = line.partition(b" ")
+    name, by, kinds = first, [], OUTSIDE
+    if first.isdigit():
+        by = [READ["n"](first)]
+        name, has_more, rest = rest.partition(b" ")
+        kinds = CALLS
+    name = name.decode()
+    if name not in kinds or has_more and not kinds[name]:
+        raise ValueError(line)
+    words = rest.split(b" ", len(kinds[name]) - 1) if kinds[name] else []
+    words += [b""] * (len(kinds[name]) - len(words))  # a text that is not given is empty
+    given = [READ[kind](word) for kind, word in zip(kinds[name], words)]
+    if name == "agg_fill":
+        if given[0] * len(given[1]) > MAX_BYTES + 1:
+            raise ValueError(line)
+        name, given = "agg_make", [given[1] * given[0]]
+    return name, [*by, *given]
+
+
+def is_command(line):
+    """Whether a line that is no header is one that has a meaning, or is skipped."""
+    try:
+        return not is_answered(line) or bool(read_line(line))
+    except ValueError:
+        return False
 
 
 class Machine(Domains, Aggregates, Descriptors, Reading, Writing, Outside):
     def step(self, line):
         """The call of a line, its answer, the late refusals that may come instead, and the change to be made."""
-        first, _, rest = line.partition(b" ")
-        name, by, kinds = first.decode(), [], OUTSIDE
-        if first.isdigit():
-            word, _, rest = rest.partition(b" ")
-            name, by, kinds = word.decode(), [int(first)], CALLS
-        given = arguments(kinds[name], rest)
-        if name == "agg_fill":
-            name, given = "agg_make", [given[1] * given[0]]
-        change = getattr(self, name)(*by, *given)
+        name, given = read_line(line)
+        change = getattr(self, name)(*given)
         try:
             answer, late = next(change)
         except Refused as it:
