@@ -22,8 +22,13 @@ pub mod Pieces
 pub mod Outputs
 pub mod RunStays
 pub mod RunParts
+pub mod RunLeft
+pub mod RunQuiet
+pub mod RunTakes
+pub mod RunMoves
 pub mod RunSteps
 pub mod RunOffering
 pub mod ScriptExamples
 pub mod RunKeeping
+pub mod RunAlone
 pub mod RunBrought

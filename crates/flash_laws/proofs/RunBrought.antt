@@ -1,11 +1,10 @@
 -- What a call brings a run is used by it.
-use Rattle.std.proofs.Common.{◌≡◌, ℕ, ◌+◌, ◌-◌, ◌==◌, List, [], ◌∷◌, ◌++◌, ap, refl, Option, Some, None, true, false, Bool, take, drop}
+use Rattle.std.proofs.Common.{◌≡◌, ℕ, ◌+◌, ◌-◌, ◌==◌, List, [], ◌∷◌, ◌++◌, refl, Option, Some, None, true, false, Bool, take, drop}
 use Rattle.std.specs.Prelude.{◌||◌, not, slice_range}
 use Rattle.iol_core.specs.State.{State, descriptor}
 use Rattle.iol_core.specs.Run.{StepsTo}
 use Rattle.iol_core.specs.declared.descriptors.Descriptor.TheVariants as on
 use Rattle.iol_core.specs.declared.refusals.Refusal.{Refusal}
-use Rattle.iol_core.specs.declared.refusals.Refusal.TheVariants as no
 use Rattle.iol_core.specs.declared.events.Call.{Call}
 use Rattle.iol_core.specs.declared.events.Call.TheVariants as call
 use Rattle.iol_core.specs.declared.events.Event.{Event}
@@ -17,13 +16,12 @@ use Rattle.iol_laws.specs.Caller as caller
 use Rattle.iol_laws.specs.Caller.{CallsServeTheirDomain, lent_at}
 use Rattle.iol_laws.specs.Order.{IsOrderly}
 use Rattle.flash_http.specs.Request.{serve, Wanted}
-use Rattle.flash_laws.specs.Answers.{error_text}
 use Rattle.flash_laws.specs.Conn as conn
 use Rattle.flash_laws.specs.Conn.{Following, has_followed, count_of, piece_end}
 use Rattle.flash_laws.specs.Fits.{Has}
-use Rattle.flash_laws.specs.RunFits.{Progress, Ran, NotRun, Broken, HasHeard, HasPart, HasLeft, HasRun}
+use Rattle.flash_laws.specs.RunFits.{Progress, HasHeard, HasPart, HasLeft, HasRun}
 use Rattle.flash_laws.specs.RunKeeping.{RunsKeepNothing}
-use Rattle.flash_laws.specs.Running.{both, worker_domain, has_frame, uses_agg, held_size, in_phase, step_wants, wants, broken, ending, told_sending, told_hears, holding, hearing, told_step, told, is_left, is_over}
+use Rattle.flash_laws.specs.Running.{both, worker_domain, has_frame, uses_agg, held_size, in_phase, step_wants, wants, ending, told_sending, told_hears, told_step, told, is_left, is_over}
 use Rattle.flash_laws.specs.Scripts.{script_text, frame_of, place_in_frame, end_around}
 use Rattle.flash_laws.specs.Site.{server}
 use Rattle.flash_laws.specs.declared.doing.Doing.{Doing}
@@ -36,6 +34,8 @@ use Rattle.flash_laws.specs.declared.running.Running.{Running}
 use Rattle.flash_laws.specs.declared.running.Running.TheVariants.{Awaits, Runs, Leaves, Closes}
 use Rattle.flash_laws.proofs.Keeping.{headed-first}
 use Rattle.flash_laws.proofs.Lists.{later_of}
+use Rattle.flash_laws.proofs.RunAlone.{keeps-alone, opened}
+use Rattle.flash_laws.proofs.RunLeft.{is-rest}
 use Rattle.flash_laws.proofs.RunKeeping.{first, holding-new, hearing-new, left, shut}
 
 module _ (come : AggregatesComeAndGo) (own : CallsServeTheirDomain) (m n : State) (order : IsOrderly m)
@@ -191,9 +191,7 @@ module _ (come : AggregatesComeAndGo) (own : CallsServeTheirDomain) (m n : State
 
     leaving-brings : (o : Progress) (d : Doing) (r : Reply) (heard : List ℕ) → is_left d ≡ true → HasLeft m w o d
         → StepsTo m (event.Call server (conn.wants fd (in_phase w d))) r n → conn.uses_agg (conn.told (in_phase w d) r heard).doing a ≡ true
-    leaving-brings (Ran was ended past) d r heard is has step = left-brings has.0 d r heard is has.2 step
-    leaving-brings Broken d r heard is has step = absurd has
-    leaving-brings (NotRun status) d r heard is has step = left-brings (error_text status w.head_only (not w.keep)) d r heard is has step
+    leaving-brings o d r heard is has step = let h = is-rest m w o d is has in left-brings h.due d r heard is h.has step
 
 pub brought : (come : AggregatesComeAndGo) (own : CallsServeTheirDomain) (job : ℕ → List ℕ) (m n : State) (fd c worker : ℕ) (w : Wanted) (x : Running) (o : Progress) (r : Reply) (heard bytes : List ℕ) (a : ℕ)
     → IsOrderly m → descriptor m server fd ≡ Some (on.Connection c) → is_over x ≡ false → HasRun job m w o x
@@ -212,6 +210,8 @@ brought come own job m n fd c worker w Closes o r heard bytes a order open_on go
 pub runs_keep : AggregatesComeAndGo → CallsServeTheirDomain → RunsKeepNothing
 runs_keep come own = λ job. record {
   brought = brought come own job;
+  opened = opened job;
   left = left come job;
   shut = shut own job;
+  alone = keeps-alone job;
 }

@@ -1,5 +1,5 @@
 -- What a run uses no more is given up.
-use Rattle.std.proofs.Common.{◌≡◌, ℕ, ◌-◌, ◌==◌, List, [], ◌∷◌, ap, ◌∙◌, refl, sym, arith, Option, Some, None, true, false, Bool, if◌then◌else◌, length, take}
+use Rattle.std.proofs.Common.{◌≡◌, ℕ, ◌==◌, List, [], ◌∷◌, ap, ◌∙◌, refl, sym, arith, Option, Some, None, true, false, Bool, if◌then◌else◌, length}
 use Rattle.std.specs.Prelude.{◌||◌, nat_lt}
 use Rattle.iol_core.specs.State.{State, descriptor}
 use Rattle.iol_core.specs.Run.{StepsTo}
@@ -19,10 +19,9 @@ use Rattle.iol_laws.specs.Order.{IsOrderly}
 use Rattle.flash_http.specs.Request.{serve, Wanted}
 use Rattle.flash_laws.specs.Conn as conn
 use Rattle.flash_laws.specs.Conn.{Following, has_followed, count_of}
-use Rattle.flash_laws.specs.Fits.{Has}
 use Rattle.flash_laws.specs.RunFits.{Progress, Goes, Ends, IsHeld, HasHeard, HasAll, HasPart, HasStep, HasRun}
 use Rattle.flash_laws.specs.RunKeeping.{has_end}
-use Rattle.flash_laws.specs.Running.{both, worker_domain, has_frame, step_agg, ends_of, uses_agg, step_wants, wants, is_again, broken, ending, told_gives, told_sending, told_hears, filled, holding, hearing, unread, finishing, told_step, told}
+use Rattle.flash_laws.specs.Running.{both, worker_domain, has_frame, step_agg, ends_of, uses_agg, step_wants, wants, is_again, told_gives, told_sending, told_hears, filled, holding, hearing, unread, finishing, told_step, told}
 use Rattle.flash_laws.specs.Site.{server}
 use Rattle.flash_laws.specs.declared.doing.Doing.{Doing}
 use Rattle.flash_laws.specs.declared.doing.Doing.TheVariants as doing
@@ -31,7 +30,7 @@ use Rattle.flash_laws.specs.declared.running.Run.{Run}
 use Rattle.flash_laws.specs.declared.running.Step.{Step}
 use Rattle.flash_laws.specs.declared.running.Step.TheVariants.{Gives, Makes, Hands, Lets, Heads, Sending, Hears, Spills, Gathers, Frames, Wraps, Trims, Ended, Unholds, Stops, Unframes, Lasts, WrapsLast, TrimsLast, Unwraps, Returns, Lapses, Fails}
 use Rattle.flash_laws.specs.declared.running.Running.{Running}
-use Rattle.flash_laws.specs.declared.running.Running.TheVariants.{Runs, Leaves, Closes}
+use Rattle.flash_laws.specs.declared.running.Running.TheVariants.{Runs, Leaves}
 use Rattle.flash_laws.proofs.Keeping.{leaves-told}
 use Rattle.flash_laws.proofs.Lists.{clash, later_of}
 use Rattle.flash_laws.proofs.Uses.{same-number}

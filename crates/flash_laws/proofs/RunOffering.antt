@@ -1,9 +1,9 @@
 -- What is offered for a script is the next bytes of the response, whatever the run.
-use Rattle.std.proofs.Common.{◌≡◌, ℕ, zero, suc, ◌+◌, ◌-◌, ◌==◌, ◌<◌, ◌≤◌, List, [], ◌∷◌, ◌++◌, length, take, drop, ap, ◌∙◌, refl, sym, subst, arith, Option, Some, None, true, false, Bool, append_assoc, append-nil, zero-add, if◌then◌else◌}
-use Rattle.std.specs.Prelude.{slice_range, not}
+use Rattle.std.proofs.Common.{◌≡◌, ℕ, suc, ◌+◌, ◌-◌, ◌==◌, ◌<◌, ◌≤◌, List, [], ◌∷◌, ◌++◌, length, drop, ap, ◌∙◌, refl, sym, subst, arith, Option, Some, None, true, false, Bool, append_assoc, append-nil, zero-add, if◌then◌else◌}
+use Rattle.std.specs.Prelude.{slice_range}
 use Rattle.std.proofs.lemmas.Bool.{or_parts}
 use Rattle.std.proofs.lemmas.List.{take-append-drop, drop-append-le}
-use Rattle.iol_core.specs.State.{State, descriptor}
+use Rattle.iol_core.specs.State.{State, descriptor, pipe_at, new_pipe}
 use Rattle.iol_core.specs.Run.{StepsTo}
 use Rattle.iol_core.specs.declared.descriptors.Descriptor.TheVariants as on
 use Rattle.iol_core.specs.declared.refusals.Refusal.TheVariants as no
@@ -16,13 +16,14 @@ use Rattle.iol_laws.specs.Frame.{EachStepLeavesTheRest, touches_fd}
 use Rattle.iol_laws.specs.Order.{IsOrderly}
 use Rattle.iol_laws.specs.Caller as caller
 use Rattle.iol_laws.specs.Caller.{CallsServeTheirDomain, lent_at}
+use Rattle.iol_laws.specs.Reasons.{RefusalsTellWhy}
+use Rattle.iol_laws.specs.RefusalsLeft.{RefusalsThatAreLeft}
 use Rattle.flash_http.specs.Request.{serve, Wanted}
-use Rattle.flash_laws.specs.Answers.{error_text}
 use Rattle.flash_laws.specs.Conn as conn
 use Rattle.flash_laws.specs.Conn.{Following, piece_end}
 use Rattle.flash_laws.specs.Fits.{Has, Names}
-use Rattle.flash_laws.specs.RunFits.{Progress, Ran, Broken, NotRun, Follows, Continues, HasJobPipe, HasPart, HasLeft, HasRun, taken_of}
-use Rattle.flash_laws.specs.RunOffers.{takes_on, Learns, taken_by, IsNextOf, HasWorker, RunsOfferTheResponse}
+use Rattle.flash_laws.specs.RunFits.{Progress, Ran, Broken, NotRun, Follows, MayAnswer, Continues, IsLeft, HasJobPipe, HasPart, HasRest, HasLeft, HasRun, taken_of}
+use Rattle.flash_laws.specs.RunOffers.{takes_on, Learns, taken_by, past_of, IsNextOf, HasWorker, RunsOfferTheResponse}
 use Rattle.flash_laws.specs.Running.{worker_domain, job_pipe, held_size, in_phase, wants, broken, told_lets, told_sending, told_spills, told_trims, told_ended, told_unholds, told_trims_last, told_lapses, told_hears, told_stops, told_unframes, told_lasts, told_unwraps, told_fails, finishing, told, is_left, is_over}
 use Rattle.flash_laws.specs.Scripts.{script_body, script_response}
 use Rattle.flash_laws.specs.Site.{server}
@@ -34,10 +35,13 @@ use Rattle.flash_laws.specs.declared.running.Step.{Step}
 use Rattle.flash_laws.specs.declared.running.Step.TheVariants.{Gives, Makes, Hands, Lets, Heads, Sending, Hears, Spills, Gathers, Frames, Wraps, Trims, Ended, Unholds, Stops, Unframes, Lasts, WrapsLast, TrimsLast, Unwraps, Returns, Lapses, Fails}
 use Rattle.flash_laws.specs.declared.running.Running.{Running}
 use Rattle.flash_laws.specs.declared.running.Running.TheVariants.{Awaits, Runs, Leaves, Closes}
-use Rattle.flash_laws.proofs.Having as having
+use Rattle.flash_laws.proofs.RunLeft as left
+use Rattle.flash_laws.proofs.RunLeft.{is-rest, still-left}
+use Rattle.flash_laws.proofs.RunMoves.{moves}
 use Rattle.flash_laws.proofs.RunParts as parts
 use Rattle.flash_laws.proofs.RunParts.{no-position, continued, goes-on}
 use Rattle.flash_laws.proofs.RunStays.{run_stays, hired-on}
+use Rattle.flash_laws.proofs.RunTakes.{takes, breaks, fails, in_turn}
 use Rattle.flash_laws.proofs.RunSteps as acts
 
 module _ (steps : EachStepLeavesTheRest) (own : CallsServeTheirDomain) (m n : State) (order : IsOrderly m) (job : ℕ → List ℕ) (w : Wanted) where
@@ -103,36 +107,22 @@ module _ (steps : EachStepLeavesTheRest) (own : CallsServeTheirDomain) (m n : St
     sending d r heard o h step = absurd h.is_part
 
   -- what is left goes on as a file's response does
-  left-told : (fd c : ℕ) (due : List ℕ) (d : Doing) (r : Reply) (heard : List ℕ) → descriptor m server fd ≡ Some (on.Connection c) → is_left d ≡ true
-      → Has m (serve w) due d → StepsTo m (event.Call server (conn.wants fd (in_phase w d))) r n → Names n r heard
-      → Has n (serve w) due (conn.told (in_phase w d) r heard).doing
-  left-told fd c due (doing.Heads k) r heard open_on is has step names = having.heads steps own m n order (serve w) k due r heard has step names
-  left-told fd c due (doing.Sends a len taken more) r heard open_on is has step names = having.sends steps own m n order (serve w) fd c a len taken more due r open_on has step
-  left-told fd c due (doing.Cuts a from len taken more) r heard open_on is has step names = having.cuts steps own m n order (serve w) a from len taken more due r has step
-  left-told fd c due (doing.Offers a from len piece taken more) r heard open_on is has step names = having.offers_piece steps own m n order (serve w) fd c a from len piece taken more due r open_on has step
-  left-told fd c due (doing.Swaps a from len piece taken more) r heard open_on is has step names = having.swaps steps own m n order (serve w) a from len piece taken more due r has step
-  left-told fd c due (doing.Sent a taken more) r heard open_on is has step names = having.sent_all steps own m n order (serve w) a taken more due r has step
-  left-told fd c due (doing.Breaks piece a more) r heard open_on is has step names = having.breaks steps own m n order (serve w) piece a more due r has step
-  left-told fd c due (doing.Drops a more) r heard open_on is has step names = having.drops steps own m n order (serve w) a more due r has step
-  left-told fd c due d r heard open_on is has step names = absurd (cc (is))
+  rest : (fd c : ℕ) (o : Progress) (d : Doing) (r : Reply) (heard : List ℕ) → descriptor m server fd ≡ Some (on.Connection c)
+      → HasRest m w o d → StepsTo m (event.Call server (conn.wants fd (in_phase w d))) r n → Names n r heard
+      → Told (Leaves d) (Leaves (conn.told (in_phase w d) r heard).doing) r heard o
+  rest fd c o d r heard open_on h step names = left.leaving steps own m n order w h.due fd c d r heard o h.left h.has h.sends open_on step names
 
   leaving : (fd c : ℕ) (o : Progress) (d : Doing) (r : Reply) (heard : List ℕ) → descriptor m server fd ≡ Some (on.Connection c) → is_left d ≡ true
       → HasLeft m w o d → StepsTo m (event.Call server (conn.wants fd (in_phase w d))) r n → Names n r heard
-      → HasLeft n w o (conn.told (in_phase w d) r heard).doing
-  leaving fd c (Ran was ended past) d r heard open_on is has step names = (has.0, has.1, left-told fd c has.0 d r heard open_on is has.2 step names)
-  leaving fd c Broken d r heard open_on is has step names = absurd has
-  leaving fd c (NotRun status) d r heard open_on is has step names = left-told fd c (error_text status w.head_only (not w.keep)) d r heard open_on is has step names
+      → Told (Leaves d) (Leaves (conn.told (in_phase w d) r heard).doing) r heard o
+  leaving fd c o d r heard open_on is has step names = rest fd c o d r heard open_on (is-rest m w o d is has) step names
 
   replied : (fd c worker : ℕ) (x : Running) (r : Reply) (heard : List ℕ) (o : Progress) → descriptor m server fd ≡ Some (on.Connection c)
-      → HasJobPipe m worker → is_over x ≡ false → HasRun job m w o x
+      → (x ≡ Awaits → HasJobPipe m worker) → is_over x ≡ false → HasRun job m w o x
       → StepsTo m (event.Call server (wants job fd w x)) r n → Names n r heard → Told x (told worker w x r heard) r heard o
-  replied fd c worker Awaits r heard o open_on free going has step names = acts.awaits steps own m n order job w worker r heard o free has step
+  replied fd c worker Awaits r heard o open_on free going has step names = acts.awaits steps own m n order job w worker r heard o (free refl) has step
   replied fd c worker Closes r heard o open_on free going has step names = absurd (cc (going))
-  replied fd c worker (Leaves d) r heard o open_on free going has step names = (o, refl, leaving fd c o d r heard open_on (turned-about (is_left d) going) has step names)
-    where
-      turned-about : (b : Bool) → not b ≡ false → b ≡ true
-      turned-about true is = refl
-      turned-about false is = absurd (cc (is))
+  replied fd c worker (Leaves d) r heard o open_on free going has step names = leaving fd c o d r heard open_on (still-left (is_left d) going) has step names
   replied fd c worker (Runs run (Gives write)) r heard o open_on free going has step names = (o, refl, acts.gives steps own m n order job w run has.0 write r o has.1 step)
   replied fd c worker (Runs run (Makes f)) r heard o open_on free going has step names = (o, refl, acts.makes steps own m n order job w run has.0 f r o has.1 step)
   replied fd c worker (Runs run (Hands j f)) r heard o open_on free going has step names = (o, refl, acts.hands steps own m n order job w run has.0 j f r o has.1 step)
@@ -154,7 +144,7 @@ module _ (steps : EachStepLeavesTheRest) (own : CallsServeTheirDomain) (m n : St
   replied fd c worker (Runs run (TrimsLast held chunk len frame)) r heard o open_on free going has step names = (o, refl, acts.drops steps own m n order job w run has.0 held (TrimsLast held chunk len frame) (Unwraps frame chunk len) r o has has.1.0.1 (has.1.1, has.1.2) step (λ z. Runs run (told_trims_last held chunk len frame z)) refl (λ y. refl))
   replied fd c worker (Runs run (Unwraps frame chunk len)) r heard o open_on free going has step names = (o, refl, acts.unwraps steps own m n order job w run has.0 frame chunk len r o has.1 step)
   replied fd c worker (Runs run (Returns write)) r heard o open_on free going has step names = (o, refl, acts.returns steps own m n order job w run has.0 write r o has.1 step)
-  replied fd c worker (Runs run (Lapses j)) r heard o open_on free going has step names = (o, refl, acts.drops steps own m n order job w run has.0 j (Lapses j) Fails r o has refl has.1.0 step (λ z. Runs run (told_lapses j z)) refl (λ y. refl))
+  replied fd c worker (Runs run (Lapses j)) r heard o open_on free going has step names = (o, refl, acts.drops steps own m n order job w run has.0 j (Lapses j) Fails r o has refl (has.1.0, has.1.2) step (λ z. Runs run (told_lapses j z)) refl (λ y. refl))
   replied fd c worker (Runs run Fails) r heard o open_on free going has step names = acts.fails steps own m n order job w run has.0 r heard o has.1 step
 
 -- ---- what is offered
@@ -181,7 +171,7 @@ next-in m w (Ran heard ended past) a taken part bytes after goes within next len
   );
 }
 next-in m w Broken a taken part bytes after goes within next lends = absurd goes
-next-in m w (NotRun status) a taken part bytes after goes within next lends = absurd goes
+next-in m w (NotRun status past) a taken part bytes after goes within next lends = absurd goes
 
 -- the aggregate that a call writes, and where
 abbrev written_agg : Call → (other : ℕ) → ℕ
@@ -228,26 +218,26 @@ part-next m fd a w o run d frame h is =
     let p = offered m fd a w h.part d h.has is in
     next-in m w o a (taken_of d) h.part p.bytes p.after h.continues h.within p.next p.lends
 
+-- what may be the response, once all of it is known
+is-whole : (w : Wanted) (o : Progress) (due r : List ℕ) → IsLeft w o due → MayAnswer w o r → (taken : ℕ) → drop taken due ≡ drop (past_of o + taken) r
+is-whole w (Ran heard ended past) due r left may taken =
+    let none : may.0 ≡ [] = subst (λ b. Follows b may.0) left.0 may.1 in
+    let all : r ≡ past ++ due = may.2 ∙ (ap (λ (l : List ℕ). script_response w (heard ++ l)) none ∙ (ap (λ (l : List ℕ). script_response w l) (append-nil heard) ∙ left.1)) in
+    sym (drop_past past due taken) ∙ ap (λ (l : List ℕ). drop (length past + taken) l) (sym all)
+is-whole w Broken due r left may taken = absurd left
+is-whole w (NotRun status past) due r left may taken = sym (drop_past past due taken) ∙ ap (λ (l : List ℕ). drop (length past + taken) l) (sym (may ∙ left))
+
+rest-next : (m : State) (fd a : ℕ) (w : Wanted) (o : Progress) (d : Doing) → HasRest m w o d
+    → conn.wants fd (in_phase w d) ≡ call.IolWrite fd a → IsNextOf m w o a (taken_of d)
+rest-next m fd a w o d h is =
+    let p = offered m fd a w h.due d h.has is in
+    record { bytes = p.bytes; lends = p.lends; next = λ r may. (p.after, p.next ∙ is-whole w o h.due r h.left may (taken_of d)) }
+
 left-next : (m : State) (fd a : ℕ) (w : Wanted) (o : Progress) (d : Doing) → HasLeft m w o d
     → conn.wants fd (in_phase w d) ≡ call.IolWrite fd a → IsNextOf m w o a (taken_of d)
-left-next m fd a w (Ran heard ended past) d has is =
-    let p = offered m fd a w has.0 d has.2 is in
-    record {
-      bytes = p.bytes;
-      lends = p.lends;
-      next = λ r may.
-          let none : may.0 ≡ [] = subst (λ b. Follows b may.0) has.1.0 may.1 in
-          let all : r ≡ past ++ has.0 = may.2 ∙ (ap (λ (l : List ℕ). script_response w (heard ++ l)) none ∙ (ap (λ (l : List ℕ). script_response w l) (append-nil heard) ∙ has.1.1)) in
-          (p.after, p.next ∙ (sym (drop_past past has.0 (taken_of d)) ∙ ap (λ (l : List ℕ). drop (length past + taken_of d) l) (sym all)));
-    }
-left-next m fd a w Broken d has is = absurd has
-left-next m fd a w (NotRun status) d has is =
-    let p = offered m fd a w (error_text status w.head_only (not w.keep)) d has is in
-    record {
-      bytes = p.bytes;
-      lends = p.lends;
-      next = λ r may. (p.after, p.next ∙ (ap (λ k. drop k (error_text status w.head_only (not w.keep))) (sym (zero-add (taken_of d))) ∙ ap (λ (l : List ℕ). drop (0 + taken_of d) l) (sym may)));
-    }
+left-next m fd a w o doing.Rests has is = absurd (cc (is))
+left-next m fd a w o doing.Closes has is = absurd (cc (is))
+left-next m fd a w o d has is = rest-next m fd a w o d has is
 
 next-of : (job : ℕ → List ℕ) (m : State) (fd c a : ℕ) (w : Wanted) (x : Running) (o : Progress)
     → descriptor m server fd ≡ Some (on.Connection c) → HasRun job m w o x
@@ -266,14 +256,38 @@ few-held : (job : ℕ → List ℕ) (m : State) (w : Wanted) (o : Progress) (run
 few-held job m w o run None frame has = omega arith
 few-held job m w o run (Some x) frame has = has.1.has.holds.few
 
-given : (steps : EachStepLeavesTheRest) (own : CallsServeTheirDomain) (job : ℕ → List ℕ) (m n : State) (w : Wanted) (o : Progress) (run : Run) (write f : ℕ)
-    → HasRun job m w o (Runs run (Gives write)) → StepsTo m (event.Call server (call.GiveFd write (worker_domain run.worker))) (reply.Fd f) n
-    → (p : ℕ) × (descriptor n server run.from ≡ Some (on.ReadEnd p)) × (descriptor n (worker_domain run.worker) f ≡ Some (on.WriteEnd p))
-given steps own job m n w o run write f has step = (
-  has.1.0.pipe,
-  (steps.leaves m n (event.Call server (call.GiveFd write (worker_domain run.worker))) (reply.Fd f) step).fds server run.from (on.ReadEnd has.1.0.pipe) has.1.0.read_end
-      (acts.write-elsewhere m run write has.1.0),
-  (own.gives_fd m n server write (worker_domain run.worker) (on.WriteEnd has.1.0.pipe) (reply.Fd f) has.1.0.write_end step).open_on,
+-- ---- once it is broken off
+
+none-of : (job : ℕ → List ℕ) (m : State) (fd a : ℕ) (w : Wanted) (x : Running) → HasRun job m w Broken x → wants job fd w x ≡ call.IolWrite fd a → ⊥
+none-of job m fd a w (Runs run (Sending d frame)) has is = has.1.continues
+none-of job m fd a w (Runs run (Hands j f)) has is = let e = has.1.2.1 in cc (e)
+none-of job m fd a w (Leaves doing.Rests) has is = has.0
+none-of job m fd a w (Leaves doing.Closes) has is = cc (is)
+none-of job m fd a w (Leaves d) has is = has.left
+none-of job m fd a w x has is = cc (is)
+
+-- ---- the job
+
+opened : (own : CallsServeTheirDomain) (job : ℕ → List ℕ) (m n : State) (fd worker : ℕ) (w : Wanted) (from write : ℕ) (heard : List ℕ)
+    → StepsTo m (event.Call server (wants job fd w Awaits)) (reply.Fds from write) n
+    → (told worker w Awaits (reply.Fds from write) heard ≡ Runs (record { worker = worker; from = from; broken = false }) (Gives write))
+    × ((p : ℕ) × (pipe_at n p ≡ new_pipe) × (descriptor n server from ≡ Some (on.ReadEnd p)) × (descriptor n server write ≡ Some (on.WriteEnd p)))
+opened own job m n fd worker w from write heard step =
+    let did = own.makes_pipe m n server (reply.Fds from write) step in
+    (refl, (did.pipe, did.empty, did.read_end, did.write_end))
+
+given : (steps : EachStepLeavesTheRest) (own : CallsServeTheirDomain) (job : ℕ → List ℕ) (m n : State) (fd worker : ℕ) (w : Wanted) (o : Progress) (run : Run) (write f : ℕ) (heard : List ℕ)
+    → HasRun job m w o (Runs run (Gives write)) → StepsTo m (event.Call server (wants job fd w (Runs run (Gives write)))) (reply.Fd f) n
+    → (told worker w (Runs run (Gives write)) (reply.Fd f) heard ≡ Runs run (Makes f))
+    × ((p : ℕ) × (descriptor n server run.from ≡ Some (on.ReadEnd p)) × (descriptor n (worker_domain run.worker) f ≡ Some (on.WriteEnd p)))
+given steps own job m n fd worker w o run write f heard has step = (
+  refl,
+  (
+    has.1.0.pipe,
+    (steps.leaves m n (event.Call server (call.GiveFd write (worker_domain run.worker))) (reply.Fd f) step).fds server run.from (on.ReadEnd has.1.0.pipe) has.1.0.read_end
+        (acts.write-elsewhere m run write has.1.0),
+    (own.gives_fd m n server write (worker_domain run.worker) (on.WriteEnd has.1.0.pipe) (reply.Fd f) has.1.0.write_end step).open_on,
+  ),
 )
 
 -- ---- its worker
@@ -326,16 +340,24 @@ keeps worker w run (Unwraps frame chunk len) r heard = keeps-unwraps run frame c
 keeps worker w run Fails r heard = keeps-fails run r
 keeps worker w run step r heard = refl
 
-pub runs_offer : EachStepLeavesTheRest → CallsServeTheirDomain → RunsOfferTheResponse
-runs_offer steps own = λ job. record {
+pub runs_offer : EachStepLeavesTheRest → CallsServeTheirDomain → RefusalsTellWhy → RefusalsThatAreLeft → RunsOfferTheResponse
+runs_offer steps own why may = λ job. record {
   starts = λ m w. refl;
   replied = λ m n fd c worker w x r heard o order open_on free going has step names. replied steps own m n order job w fd c worker x r heard o open_on free going has step names;
   stays = λ m n w x e r o. run_stays steps job m n w x e r o;
   offers = next-of job;
+  silent = none-of job;
+  takes = takes steps own job;
+  breaks = breaks why job;
+  fails = fails may why job;
+  moves = moves job;
   reads = few-held job;
-  hears = λ m n w o run held frame r order has step.
+  hears = λ m n fd w o run held frame r order has step.
       (has.1.reads.0, has.1.reads.1, own.read_pipe m n server run.from has.1.reads.0 (CHUNK_BYTES - held_size held) r order has.1.reads.1 step);
+  opens = opened own job;
   gives = given steps own job;
-  hands = λ m w o run j f has. has.1.1;
+  hands = λ m n fd w o run j f r order has step.
+      (has.0.0, has.0.1, own.write_pipe m n server (job_pipe run.worker) has.0.0 j (job f) r order has.0.1 has.1.1 step);
+  in_turn = in_turn;
   keeps = keeps;
 }

@@ -25,7 +25,7 @@ use Rattle.flash_laws.specs.Conn.{piece_end}
 use Rattle.flash_laws.specs.Fits.{Has}
 use Rattle.flash_laws.specs.RunFits.{Progress, Ran, Broken, NotRun, HoldsBack, Continues, Goes, HasFrame, HasHeard, sent_agg, IsPart, taken_of, sends_frame, HasPart}
 use Rattle.flash_laws.specs.RunOffers.{takes_on}
-use Rattle.flash_laws.specs.Running.{has_frame, broken}
+use Rattle.flash_laws.specs.Running.{has_frame}
 use Rattle.flash_laws.specs.Scripts.{frame_of}
 use Rattle.flash_laws.specs.Site.{server}
 use Rattle.flash_laws.specs.declared.doing.Doing.{Doing}
@@ -56,7 +56,7 @@ new-frame m None x has new = refl
 new-frame m (Some f) x has new = new-other m f x (frame_of CHUNK_BYTES) has new
 
 -- no more of a part is taken than there is
-most-left : (xs after part : List ℕ) (taken : ℕ) → xs ++ after ≡ drop taken part → taken ≤ length part → taken + length xs ≤ length part
+pub most-left : (xs after part : List ℕ) (taken : ℕ) → xs ++ after ≡ drop taken part → taken ≤ length part → taken + length xs ≤ length part
 most-left xs after part taken next within =
     let e = length-append xs after in
     let f = length-drop taken part in
@@ -77,7 +77,7 @@ with-piece m piece d e (Some f) both new apart = both f (turned f piece new) apa
 pub continued : (w : Wanted) (o : Progress) (part held : List ℕ) → Continues w o part held → HoldsBack w (takes_on o part) held
 continued w (Ran heard ended past) part held is = is
 continued w Broken part held is = absurd is
-continued w (NotRun status) part held is = absurd is
+continued w (NotRun status past) part held is = absurd is
 
 pub goes-on : (b : Bool) (w : Wanted) (o : Progress) (held : List ℕ) → b ≡ false → HoldsBack w o held → Goes b w o held
 goes-on true w o held is back = absurd (cc (is))

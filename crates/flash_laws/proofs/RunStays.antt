@@ -1,6 +1,6 @@
 -- What a run has stays, if what it uses stays.
 use Rattle.std.proofs.Common.{◌≡◌, ℕ, ◌==◌, List, refl, ap, ◌∙◌, Option, Some, None, true, false, Bool}
-use Rattle.std.specs.Prelude.{◌||◌, ◌&&◌, not}
+use Rattle.std.specs.Prelude.{◌||◌, ◌&&◌}
 use Rattle.iol_core.specs.State.{State, descriptor}
 use Rattle.iol_core.specs.Run.{StepsTo}
 use Rattle.iol_core.specs.Values.{gives_up}
@@ -11,14 +11,14 @@ use Rattle.iol_core.specs.declared.events.Reply.{Reply}
 use Rattle.iol_laws.specs.Caller.{lent_at}
 use Rattle.iol_laws.specs.Frame.{EachStepLeavesTheRest, touches_fd}
 use Rattle.flash_http.specs.Request.{serve, Wanted}
-use Rattle.flash_laws.specs.Answers.{error_text}
 use Rattle.flash_laws.specs.Conn as conn
 use Rattle.flash_laws.specs.Conn.{Following, has_followed}
-use Rattle.flash_laws.specs.Fits.{IsLent, Has}
-use Rattle.flash_laws.specs.RunFits.{Progress, Ran, Broken, NotRun, HasJobPipe, IsReading, HoldsOutput, IsHeld, HasFrame, HasOutput, HasHeard, HasAll, HasPipe, sent_agg, IsPart, HasPart, HasEnd, HasStep, HasLeft, HasRun}
+use Rattle.flash_laws.specs.Fits.{IsLent}
+use Rattle.flash_laws.specs.RunFits.{Progress, HasJobPipe, IsReading, HoldsOutput, IsHeld, HasFrame, HasOutput, HasHeard, HasAll, HasPipe, sent_agg, IsPart, HasPart, HasEnd, HasStep, IsSending, HasRest, HasLeft, HasRun}
 use Rattle.flash_laws.specs.Running.{job_pipe, has_frame, step_agg, is_reading, step_fd, uses_agg, uses_fd}
 use Rattle.flash_laws.specs.Scripts.{frame_of, end_around}
 use Rattle.flash_laws.specs.Site.{server}
+use Rattle.flash_laws.specs.declared.doing.Content.TheVariants.{Error}
 use Rattle.flash_laws.specs.declared.doing.Doing.{Doing}
 use Rattle.flash_laws.specs.declared.doing.Doing.TheVariants as doing
 use Rattle.flash_laws.specs.declared.running.TheConstants.{CHUNK_BYTES}
@@ -223,15 +223,30 @@ module _ (m n : State) where
     (lent-if (λ a. (frame == a) || (chunk == a)) frame (first_of frame (chunk == frame)) lends has.0.0, has.0.1),
     has-end-on w o chunk len (λ bytes is. lends chunk bytes (later_of (frame == chunk) (chunk == chunk) (self chunk)) is) has.1,
   )
-  step-on job w o run (Returns write) lends opens has = pipe-on run (Returns write) write refl (self write) opens has
-  step-on job w o run (Lapses j) lends opens has = (reads run (Lapses j) refl opens has.0, lent-if (λ a. j == a) j (self j) lends has.1)
-  step-on job w o run Fails lends opens has = reads run Fails refl opens has
+  step-on job w o run (Returns write) lends opens has = (pipe-on run (Returns write) write refl (self write) opens has.0, has.1)
+  step-on job w o run (Lapses j) lends opens has = (reads run (Lapses j) refl opens has.0, lent-if (λ a. j == a) j (self j) lends has.1, has.2)
+  step-on job w o run Fails lends opens has = (reads run Fails refl opens has.0, has.1)
+
+  sending-on : (due : List ℕ) (d : Doing) → LendsOn (λ a. conn.uses_agg d a) → IsSending m due d → IsSending n due d
+  sending-on due (doing.Heads (Error status)) lends has = tt
+  sending-on due (doing.Sends a len taken None) lends has = (part-used m (doing.Sends a len taken None) due n lends has.0, has.1)
+  sending-on due (doing.Cuts a from len taken None) lends has = (part-used m (doing.Cuts a from len taken None) due n lends has.0, has.1)
+  sending-on due (doing.Offers a from len piece taken None) lends has = (part-used m (doing.Offers a from len piece taken None) due n lends has.0, has.1)
+  sending-on due (doing.Swaps a from len piece taken None) lends has = (part-used m (doing.Swaps a from len piece taken None) due n lends has.0, has.1)
+  sending-on due (doing.Sent a taken None) lends has = (part-used m (doing.Sent a taken None) due n lends has.0, has.1)
+  sending-on due (doing.Breaks piece a None) lends has = (part-used m (doing.Breaks piece a None) due n lends has.0, has.1)
+  sending-on due (doing.Drops a None) lends has = (part-used m (doing.Drops a None) due n lends has.0, has.1)
+  sending-on due d lends has = absurd has.0
+
+  rest-on : (w : Wanted) (o : Progress) (d : Doing) → LendsOn (λ a. conn.uses_agg d a) → OpensOn (λ g. conn.uses_fd d g)
+      → HasRest m w o d → HasRest n w o d
+  rest-on w o d lends opens h = record { due = h.due; left = h.left; has = has-stays m n (serve w) h.due d lends opens h.has; sends = sending-on h.due d lends h.sends }
 
   left-on : (w : Wanted) (o : Progress) (d : Doing) → LendsOn (λ a. conn.uses_agg d a) → OpensOn (λ g. conn.uses_fd d g)
       → HasLeft m w o d → HasLeft n w o d
-  left-on w (Ran heard ended past) d lends opens has = (has.0, has.1, has-stays m n (serve w) has.0 d lends opens has.2)
-  left-on w Broken d lends opens has = absurd has
-  left-on w (NotRun status) d lends opens has = has-stays m n (serve w) (error_text status w.head_only (not w.keep)) d lends opens has
+  left-on w o doing.Rests lends opens has = has
+  left-on w o doing.Closes lends opens has = has
+  left-on w o d lends opens has = rest-on w o d lends opens has
 
 pub run_stays : (steps : EachStepLeavesTheRest) (job : ℕ → List ℕ) (m n : State) (w : Wanted) (x : Running) (e : Event) (r : Reply) (o : Progress) → StepsTo m e r n
     → ((a : ℕ) → uses_agg x a ≡ true → gives_up e server a ≡ false)

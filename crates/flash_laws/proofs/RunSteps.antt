@@ -1,6 +1,6 @@
 -- After the reply to its own call a run has what it needs: each step that makes something, or lets it go.
 use Rattle.std.proofs.Common.{◌≡◌, ℕ, ◌+◌, ◌-◌, ◌==◌, ◌<◌, ◌≤◌, List, [], ◌∷◌, ◌++◌, length, take, drop, ap, ◌∙◌, refl, sym, subst, arith, Option, Some, None, true, false, Bool, append-nil, length-append, if◌then◌else◌}
-use Rattle.std.specs.Prelude.{◌||◌, nat_lt}
+use Rattle.std.specs.Prelude.{◌||◌, not, nat_lt}
 use Rattle.std.proofs.lemmas.Bool.{or_from}
 use Rattle.std.proofs.lemmas.Bool.Decides.{nat_tests}
 use Rattle.iol_core.specs.Text.{bytes_of}
@@ -21,10 +21,11 @@ use Rattle.iol_laws.specs.Order.{IsOrderly}
 use Rattle.iol_laws.specs.Caller as caller
 use Rattle.iol_laws.specs.Caller.{CallsServeTheirDomain, lent_at}
 use Rattle.flash_http.specs.Chunk.{chunk_head, chunk_end, chunk, last_chunk}
-use Rattle.flash_http.specs.Request.{serve, Wanted}
+use Rattle.flash_http.specs.Request.{Wanted}
+use Rattle.flash_laws.specs.Answers.{error_text}
 use Rattle.flash_laws.specs.Conn.{Following, has_followed, count_of}
 use Rattle.flash_laws.specs.Fits.{HoldsRest, Names}
-use Rattle.flash_laws.specs.RunFits.{Progress, Ran, Broken, NotRun, nothing_yet, HoldsBack, Continues, IsLeft, Goes, Ends, HasJobPipe, IsReading, HasPipe, IsHeld, HasFrame, meets, HasOutput, HasHeard, HasAll, sends_frame, HasChunk, HasStep, HasRun}
+use Rattle.flash_laws.specs.RunFits.{Progress, Ran, Broken, NotRun, nothing_yet, HoldsBack, Continues, IsLeft, Goes, Ends, HasJobPipe, IsReading, HasPipe, IsHeld, HasFrame, meets, HasOutput, HasHeard, HasAll, sends_frame, HasChunk, HasStep, HasNone, HasRun}
 use Rattle.flash_laws.specs.RunOffers.{hears_on, Learns}
 use Rattle.flash_laws.specs.Running.{both, worker_domain, job_pipe, has_frame, step_agg, uses_fd, held_size, is_again, broken, told_awaits, told_gives, told_makes, told_hands, told_heads, filled, holding, hearing, unread, told_hears, told_gathers, told_frames, told_wraps, finishing, stopped, told_stops, told_unframes, ending, told_lasts, told_wraps_last, told_unwraps, told_returns, told_fails}
 use Rattle.flash_laws.specs.Scripts.{script_text, script_body, frame_of, place_in_frame, end_around}
@@ -128,7 +129,7 @@ module _ (steps : EachStepLeavesTheRest) (own : CallsServeTheirDomain) (m n : St
       where
         again : (b : Bool) → n ≡ m → HasRun job n w o (Runs run (if b then Gives write else Returns write))
         again true is = same o (Runs run (Gives write)) is (hired, has)
-        again false is = same o (Runs run (Returns write)) is (hired, has.0)
+        again false is = same o (Runs run (Returns write)) is (hired, has)
 
         by : (r : Reply) → caller.GivesFd m server write (worker_domain run.worker) (on.WriteEnd has.0.pipe) r n
             → StepsTo m (event.Call server (call.GiveFd write (worker_domain run.worker))) r n → HasRun job n w o (Runs run (told_gives write r))
@@ -156,7 +157,7 @@ module _ (steps : EachStepLeavesTheRest) (own : CallsServeTheirDomain) (m n : St
       where
         again : (b : Bool) → n ≡ m → HasRun job n w o (Runs run (if b then Hands j f else Lapses j))
         again true is = same o (Runs run (Hands j f)) is (hired, has)
-        again false is = same o (Runs run (Lapses j)) is (hired, (has.0, (job f, has.1)))
+        again false is = same o (Runs run (Lapses j)) is (hired, (has.0, (job f, has.1), has.2))
 
         by : (r : Reply) → caller.WritesPipe m hired.0 (job f) r n → StepsTo m (event.Call server (call.IolWrite (job_pipe run.worker) j)) r n
             → HasRun job n w o (Runs run (told_hands j f r))
@@ -416,10 +417,13 @@ module _ (steps : EachStepLeavesTheRest) (own : CallsServeTheirDomain) (m n : St
     finishes false false held bytes o hired whole plain holds ends =
         over o (subst (λ b. Ends b w o bytes) whole ends)
       where
-        over : (o : Progress) → IsLeft w o (script_body w.chunked bytes) → HasRun job n w o Closes
-        over (Ran heard ended past) left = subst (λ (l : List ℕ). IsLeft w (Ran heard ended past) l) (ap (λ c. script_body c bytes) plain ∙ none-held n held bytes holds plain) left
+        none : script_body w.chunked bytes ≡ []
+        none = ap (λ c. script_body c bytes) plain ∙ none-held n held bytes holds plain
+
+        over : (o : Progress) → IsLeft w o (script_body w.chunked bytes) → HasNone w o
+        over (Ran heard ended past) left = subst (λ (l : List ℕ). IsLeft w (Ran heard ended past) l) none left
         over Broken left = absurd left
-        over (NotRun status) left = absurd left
+        over (NotRun status past) left = subst (λ (l : List ℕ). IsLeft w (NotRun status past) l) none left
     finishes true c held bytes o hired gone chunked holds ends = subst (λ (z : Progress). HasRun job n w z Closes) (sym (subst (λ b. Ends b w o bytes) gone ends).0) tt
 
     pub stops : (held : Following) (frame : Option ℕ) (r : Reply) (o : Progress) → HasStep job m w o run (Stops held frame)
@@ -461,9 +465,12 @@ module _ (steps : EachStepLeavesTheRest) (own : CallsServeTheirDomain) (m n : St
 
         last : (o : Progress) (held : Following) (x len : ℕ) → HasJobPipe n run.worker → IsHeld n w held has.2.bytes → has_followed held x ≡ false → lent_at n server x ≡ Some (end_around held)
             → len ≡ length (end_around held) → IsLeft w o (script_body true has.2.bytes) → HasRun job n w o (ending run held x len)
-        last (Ran was ended past) None x len hired holds off lent count left = (last_chunk, subst (λ (l : List ℕ). IsLeft w (Ran was ended past) (script_body true l)) holds left, begun n x len last_chunk lent count)
-        last Broken None x len hired holds off lent count left = absurd left
-        last (NotRun status) None x len hired holds off lent count left = absurd left
+        last o None x len hired holds off lent count left = record {
+          due = last_chunk;
+          left = subst (λ (l : List ℕ). IsLeft w o (script_body true l)) holds left;
+          has = begun n x len last_chunk lent count;
+          sends = (lent, omega arith);
+        }
         last o (Some y) x len hired holds off lent count left = (hired, record { bytes = has.2.bytes; holds = holds; frames = lent; apart = turned y.0 x off; left = left })
 
         by : (r : Reply) → caller.Makes m server (end_around held) r n → StepsTo m (event.Call server (call.AggMake (end_around held))) r n → Names n r heard
@@ -515,9 +522,7 @@ module _ (steps : EachStepLeavesTheRest) (own : CallsServeTheirDomain) (m n : St
     unwraps frame a len r o has step = by r (own.drops m n server frame r order step) step
       where
         over : (o : Progress) (bytes : List ℕ) → IsLeft w o bytes → lent_at n server a ≡ Some bytes → len ≡ length bytes → HasRun job n w o (Leaves (doing.Sends a len 0 None))
-        over (Ran heard ended past) bytes left lent count = (bytes, left, begun n a len bytes lent count)
-        over Broken bytes left lent count = absurd left
-        over (NotRun status) bytes left lent count = absurd left
+        over o bytes left lent count = record { due = bytes; left = left; has = begun n a len bytes lent count; sends = (lent, omega arith) }
 
         by : (r : Reply) → caller.Drops m server frame r n → StepsTo m (event.Call server (call.AggDrop frame)) r n → HasRun job n w o (told_unwraps run frame a len r)
         by reply.Done did step = over o has.1.bytes has.1.left (lends (call.AggDrop frame) reply.Done step a has.1.bytes (turned a frame has.0.1) has.1.lends) has.1.count
@@ -532,8 +537,8 @@ module _ (steps : EachStepLeavesTheRest) (own : CallsServeTheirDomain) (m n : St
       where
         by : (r : Reply) → caller.Closes m server write r n → StepsTo m (event.Call server (call.Close write)) r n → HasRun job n w o (Runs run (told_returns write r))
         by reply.Done did step = (
-          still-hired (call.Close write) reply.Done step has.apart,
-          still-reading (call.Close write) reply.Done step (write-elsewhere m run write has) (has.pipe, has.read_end),
+          still-hired (call.Close write) reply.Done step has.0.apart,
+          (still-reading (call.Close write) reply.Done step (write-elsewhere m run write has.0) (has.0.pipe, has.0.read_end), has.1),
         )
         by (reply.Refused y) did step = same o (Runs run (Returns write)) did (hired, has)
         by r did step = absurd did
@@ -543,6 +548,10 @@ module _ (steps : EachStepLeavesTheRest) (own : CallsServeTheirDomain) (m n : St
     fails r heard o has step = by r (own.closes m n server run.from r step)
       where
         by : (r : Reply) → caller.Closes m server run.from r n → Told (Runs run Fails) (told_fails run r) r heard o
-        by reply.Done did = (NotRun 503, refl, refl)
+        by reply.Done did = (
+          NotRun 503 [],
+          refl,
+          record { due = error_text 503 w.head_only (not w.keep); left = refl; has = refl; sends = tt },
+        )
         by (reply.Refused y) did = (o, refl, same o (Runs run Fails) did (hired, has))
         by r did = absurd did

@@ -12,6 +12,7 @@ use Rattle.flash_laws.specs.Fits.{IsLent, Has}
 use Rattle.flash_laws.specs.Running.{has_frame, job_pipe, step_agg}
 use Rattle.flash_laws.specs.Scripts.{script_body, script_response, frame_of, end_around}
 use Rattle.flash_laws.specs.Site.{server}
+use Rattle.flash_laws.specs.declared.doing.Content.TheVariants.{Error}
 use Rattle.flash_laws.specs.declared.doing.Doing.{Doing}
 use Rattle.flash_laws.specs.declared.doing.Doing.TheVariants as doing
 use Rattle.flash_laws.specs.declared.running.TheConstants.{CHUNK_BYTES}
@@ -28,8 +29,8 @@ pub data Progress : Type 0 where
   Ran : (heard : List ℕ) → (ended : Bool) → (past : List ℕ) → Progress
   -- nobody takes the response any more, or the output may not be read: no more of it is sent
   Broken : Progress
-  -- the script could not be run
-  NotRun : (status : ℕ) → Progress
+  -- the script could not be run; of the error these bytes were taken
+  NotRun : (status : ℕ) → (past : List ℕ) → Progress
 
 abbrev pub nothing_yet : Progress
 nothing_yet = Ran [] false []
@@ -43,7 +44,7 @@ Follows false more = Unit {0}
 abbrev pub MayAnswer : Wanted → Progress → List ℕ → Type 0
 MayAnswer w (Ran heard ended past) r = (more : List ℕ) × Follows ended more × (r ≡ script_response w (heard ++ more))
 MayAnswer w Broken r = ⊥
-MayAnswer w (NotRun status) r = r ≡ error_text status w.head_only (not w.keep)
+MayAnswer w (NotRun status past) r = r ≡ error_text status w.head_only (not w.keep)
 
 -- All that was read is taken, but for what is held: whatever the script still puts out, the response is what was taken, and then
 -- the body of what is held and of that.
@@ -57,10 +58,11 @@ abbrev pub Continues : Wanted → Progress → (part held : List ℕ) → Type 0
 Continues w (Ran heard ended past) part held = HoldsBack w (Ran heard ended (past ++ part)) held
 Continues w o part held = ⊥
 
--- the end was seen, and of the response to the output these bytes are not yet taken
+-- all of the response is known: the end of the output was seen, or it is an error; and these bytes of it are not yet taken
 abbrev pub IsLeft : Wanted → Progress → (rest : List ℕ) → Type 0
 IsLeft w (Ran heard ended past) rest = (ended ≡ true) × (script_response w heard ≡ past ++ rest)
-IsLeft w o rest = ⊥
+IsLeft w Broken rest = ⊥
+IsLeft w (NotRun status past) rest = error_text status w.head_only (not w.keep) ≡ past ++ rest
 
 abbrev pub Goes : (broken : Bool) → Wanted → Progress → (held : List ℕ) → Type 0
 Goes true w o held = (o ≡ Broken) × (held ≡ [])
@@ -212,16 +214,28 @@ pub record HasEnd (m : State) (w : Wanted) (o : Progress) (a len : ℕ) : Type 0
 abbrev pub IsSpare : State → (a : ℕ) → (next : Step) → Type 0
 IsSpare m a next = IsLent m a × (step_agg next a ≡ false)
 
--- the phases of any response have what is left of this one
-abbrev pub HasLeft : State → Wanted → Progress → Doing → Type 0
-HasLeft m w (Ran heard ended past) d = (due : List ℕ) × IsLeft w (Ran heard ended past) due × Has m (serve w) due d
-HasLeft m w Broken d = ⊥
-HasLeft m w (NotRun status) d = Has m (serve w) (error_text status w.head_only (not w.keep)) d
+-- an error is to be made, or all that is due is being sent, with nothing to follow it
+abbrev pub IsSending : State → (due : List ℕ) → Doing → Type 0
+IsSending m due (doing.Heads (Error status)) = Unit {0}
+IsSending m due d = IsPart m (sent_agg d) due × (taken_of d ≤ length due)
+
+-- What is left of the response is sent: for the phases of any response it is all that is due.
+pub record HasRest (m : State) (w : Wanted) (o : Progress) (d : Doing) : Type 0 where
+  pub due : List ℕ
+  pub left : IsLeft w o due
+  pub has : Has m (serve w) due d
+  pub sends : IsSending m due d
 
 -- nothing of it is left, or nobody takes it
 abbrev pub HasNone : Wanted → Progress → Type 0
 HasNone w Broken = Unit {0}
 HasNone w o = IsLeft w o []
+
+-- the rest is sent; or nothing is left, and the connection goes on where the response lets it, or is to be closed
+abbrev pub HasLeft : State → Wanted → Progress → Doing → Type 0
+HasLeft m w o doing.Rests = IsLeft w o [] × (w.keep ≡ true)
+HasLeft m w o doing.Closes = HasNone w o
+HasLeft m w o d = HasRest m w o d
 
 -- `job` is the text of the job, by the descriptor that it names.
 module _ (job : (fd : ℕ) → List ℕ) where
@@ -248,9 +262,9 @@ module _ (job : (fd : ℕ) → List ℕ) where
   HasStep m w o run (TrimsLast held chunk len frame) = IsSpare m held (Unwraps frame chunk len) × IsSpare m frame (Lapses chunk)
       × HasEnd m w o chunk len
   HasStep m w o run (Unwraps frame chunk len) = IsSpare m frame (Lapses chunk) × HasEnd m w o chunk len
-  HasStep m w o run (Returns write) = HasPipe m run write
-  HasStep m w o run (Lapses j) = IsReading m run × IsLent m j
-  HasStep m w o run Fails = IsReading m run
+  HasStep m w o run (Returns write) = HasPipe m run write × IsFresh run o
+  HasStep m w o run (Lapses j) = IsReading m run × IsLent m j × IsFresh run o
+  HasStep m w o run Fails = IsReading m run × IsFresh run o
 
   -- The machine has what a run needs, where its calls gave so much.
   abbrev pub HasRun : State → Wanted → Progress → Running → Type 0

@@ -6,18 +6,23 @@ use iol_laws::laws;
 
 /// What the server offers for a script is the next bytes of the response, whatever its output will be; once the end of the output
 /// was seen, of the response to that output. It is said of each step of a run by itself, calm or not, while nobody gives up or moves
-/// what the run uses: a run begins so, and after the reply to its own call the machine has what is needed then. No output is read
-/// while the bytes of a whole chunk are held.
+/// what the run uses: a run begins so, and after the reply to its own call the machine has what is needed then. As much counts as
+/// taken as the connection took, until the response is broken off, which is where its peer is gone or the output may not be read.
+/// A script is given up before it runs, and only where its worker does not live or nobody reads its jobs. The worker gets the pipe
+/// that the server reads, and then the job that names it. No output is read while the bytes of a whole chunk are held.
 pub fn runs_law()
     ensures { RunsOfferTheResponse }
 {
     laws::each_step_leaves_the_rest();
     laws::calls_serve_their_domain();
+    laws::refusals_tell_why();
+    laws::refusals_that_are_left();
 }
 
 /// A run keeps nothing that it does not use: what a call brings is used by the run that it was made for, and what a run uses no more,
-/// aggregates and the ends of its pipe, is given up. It is said of each call of the server, calm or not; what others give the server is
-/// not spoken of.
+/// aggregates and the ends of its pipe, is given up. And it keeps to itself: its calls give up and move only what it has, and touch
+/// no connection and no pipe but its own. It is said of each call of the server, calm or not; what others give the server is not
+/// spoken of.
 pub fn run_keeping_law()
     ensures { RunsKeepNothing }
 {

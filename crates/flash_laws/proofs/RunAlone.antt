@@ -1,0 +1,219 @@
+-- The calls of a run touch nothing but what it has.
+use Rattle.std.proofs.Common.{◌≡◌, ℕ, ◌-◌, ◌==◌, List, [], ◌∷◌, ap, ◌∙◌, refl, sym, subst, Option, Some, None, true, false, Bool}
+use Rattle.std.specs.Prelude.{◌||◌, ◌&&◌}
+use Rattle.std.specs.List.{list_any}
+use Rattle.iol_core.specs.Numbered.{lowest}
+use Rattle.iol_core.specs.State.{State, descriptor}
+use Rattle.iol_core.specs.Calls.Writing.{is_file}
+use Rattle.iol_core.specs.Run.{StepsTo}
+use Rattle.iol_core.specs.declared.descriptors.Descriptor.{Descriptor}
+use Rattle.iol_core.specs.declared.descriptors.Descriptor.TheVariants as on
+use Rattle.iol_core.specs.declared.events.Call.{Call}
+use Rattle.iol_core.specs.declared.events.Call.TheVariants as call
+use Rattle.iol_core.specs.declared.events.Event.TheVariants as event
+use Rattle.iol_core.specs.declared.events.Reply.TheVariants as reply
+use Rattle.iol_laws.specs.Frame.{is_conn, is_end}
+use Rattle.flash_http.specs.Request.{serve, Wanted}
+use Rattle.flash_laws.specs.Conn as conn
+use Rattle.flash_laws.specs.Conn.{has_followed, piece_end}
+use Rattle.flash_laws.specs.RunFits.{Progress, IsSending, HasRun}
+use Rattle.flash_laws.specs.RunKeeping.{has_end, MayTouch, KeepsToItself}
+use Rattle.flash_laws.specs.Running.{worker_domain, job_pipe, has_frame, uses_agg, held_size, in_phase, step_wants, wants, told, is_left, is_over}
+use Rattle.flash_laws.specs.Scripts.{script_text, frame_of, place_in_frame, end_around}
+use Rattle.flash_laws.specs.Site.{server}
+use Rattle.flash_laws.specs.declared.doing.Content.TheVariants.{Error}
+use Rattle.flash_laws.specs.declared.doing.Doing.{Doing}
+use Rattle.flash_laws.specs.declared.doing.Doing.TheVariants as doing
+use Rattle.flash_laws.specs.declared.running.TheConstants.{CHUNK_BYTES}
+use Rattle.flash_laws.specs.declared.running.Run.{Run}
+use Rattle.flash_laws.specs.declared.running.Step.{Step}
+use Rattle.flash_laws.specs.declared.running.Step.TheVariants.{Gives, Makes, Hands, Lets, Heads, Sending, Hears, Spills, Gathers, Frames, Wraps, Trims, Ended, Unholds, Stops, Unframes, Lasts, WrapsLast, TrimsLast, Unwraps, Returns, Lapses, Fails}
+use Rattle.flash_laws.specs.declared.running.Running.{Running}
+use Rattle.flash_laws.specs.declared.running.Running.TheVariants.{Awaits, Runs, Leaves, Closes}
+use Rattle.flash_laws.proofs.Lists.{clash, later_of}
+use Rattle.flash_laws.proofs.RunKeeping.{first}
+use Rattle.flash_laws.proofs.RunLeft.{is-rest, part-sends, still-left}
+use Rattle.flash_laws.proofs.RunParts.{no-position}
+use Rattle.flash_laws.proofs.Uses.{same-number}
+
+alone : (b : Bool) → (b || false) ≡ true → b ≡ true
+alone true is = refl
+alone false is = is
+
+-- of a call on one descriptor that is what it touches
+one-conn : (x : Option Descriptor) (y : Descriptor) (d : ℕ) → x ≡ Some y → (list_any (is_conn d) (x ∷ []) || false) ≡ true → is_conn d (Some y) ≡ true
+one-conn x y d is u = ap (λ z. is_conn d z) (sym is) ∙ alone (is_conn d x) (alone (is_conn d x || false) u)
+
+one-end : (x : Option Descriptor) (y : Descriptor) (p : ℕ) → x ≡ Some y → (list_any (is_end p) (x ∷ []) || false) ≡ true → is_end p (Some y) ≡ true
+one-end x y p is u = ap (λ z. is_end p z) (sym is) ∙ alone (is_end p x) (alone (is_end p x || false) u)
+
+no-file : (x : Option Descriptor) (y : Descriptor) → x ≡ Some y → is_file (Some y) ≡ false → is_file x ≡ false
+no-file x y is none = ap (λ z. is_file z) is ∙ none
+
+module _ (m : State) (fd c : ℕ) (x : Running) where
+  abbrev Keeps : Call → Type 0
+  Keeps k = KeepsToItself m fd c x k
+
+  makes : (bytes : List ℕ) → Keeps (call.AggMake bytes)
+  makes bytes = record { kind = refl; aggs = λ a u. absurd (cc (u)); fds = λ g u. absurd (cc (u)); conns = λ d u. absurd (cc (u)); pipes = λ p u. absurd (cc (u)); files = refl }
+
+  cuts : (a from to : ℕ) → Keeps (call.AggCut a from to)
+  cuts a from to = record { kind = refl; aggs = λ a u. absurd (cc (u)); fds = λ g u. absurd (cc (u)); conns = λ d u. absurd (cc (u)); pipes = λ p u. absurd (cc (u)); files = refl }
+
+  replaces : (a from to b : ℕ) → Keeps (call.AggReplace a from to b)
+  replaces a from to b = record { kind = refl; aggs = λ a u. absurd (cc (u)); fds = λ g u. absurd (cc (u)); conns = λ d u. absurd (cc (u)); pipes = λ p u. absurd (cc (u)); files = refl }
+
+  drops : (b : ℕ) → ((a : ℕ) → (b == a) ≡ true → uses_agg x a ≡ true) → Keeps (call.AggDrop b)
+  drops b uses = record { kind = refl; aggs = uses; fds = λ g u. absurd (cc (u)); conns = λ d u. absurd (cc (u)); pipes = λ p u. absurd (cc (u)); files = refl }
+
+  joins : (b e : ℕ) → ((a : ℕ) → ((b == a) || (e == a)) ≡ true → uses_agg x a ≡ true) → Keeps (call.AggJoin b e)
+  joins b e uses = record { kind = refl; aggs = uses; fds = λ g u. absurd (cc (u)); conns = λ d u. absurd (cc (u)); pipes = λ p u. absurd (cc (u)); files = refl }
+
+  gives : (f to : ℕ) → ((g : ℕ) → (f == g) ≡ true → has_end x g ≡ true) → Keeps (call.GiveFd f to)
+  gives f to has = record { kind = refl; aggs = λ a u. absurd (cc (u)); fds = has; conns = λ d u. absurd (cc (u)); pipes = λ p u. absurd (cc (u)); files = refl }
+
+  -- to its connection
+  offers : (a : ℕ) → descriptor m server fd ≡ Some (on.Connection c) → Keeps (call.IolWrite fd a)
+  offers a open_on = record {
+    kind = refl;
+    aggs = λ a u. absurd (cc (u));
+    fds = λ g u. absurd (clash ((fd == g) && is_file (descriptor m server fd)) u (no-position m fd g (on.Connection c) open_on refl));
+    conns = λ d u. (same-number c d (one-conn (descriptor m server fd) (on.Connection c) d open_on u), (a, refl));
+    pipes = λ p u. let e = one-end (descriptor m server fd) (on.Connection c) p open_on u in absurd (cc (e));
+    files = no-file (descriptor m server fd) (on.Connection c) open_on refl;
+  }
+
+  -- to the end of a pipe
+  writes : (f p a : ℕ) → descriptor m server f ≡ Some (on.WriteEnd p) → ((q : ℕ) → p ≡ q → MayTouch m x q) → Keeps (call.IolWrite f a)
+  writes f p a open_on may = record {
+    kind = refl;
+    aggs = λ a u. absurd (cc (u));
+    fds = λ g u. absurd (clash ((f == g) && is_file (descriptor m server f)) u (no-position m f g (on.WriteEnd p) open_on refl));
+    conns = λ d u. let e = one-conn (descriptor m server f) (on.WriteEnd p) d open_on u in absurd (cc (e));
+    pipes = λ q u. may q (same-number p q (one-end (descriptor m server f) (on.WriteEnd p) q open_on u));
+    files = no-file (descriptor m server f) (on.WriteEnd p) open_on refl;
+  }
+
+  reads : (f p n : ℕ) → descriptor m server f ≡ Some (on.ReadEnd p) → ((q : ℕ) → p ≡ q → MayTouch m x q) → Keeps (call.IolRead f n)
+  reads f p n open_on may = record {
+    kind = refl;
+    aggs = λ a u. absurd (cc (u));
+    fds = λ g u. absurd (clash ((f == g) && is_file (descriptor m server f)) u (no-position m f g (on.ReadEnd p) open_on refl));
+    conns = λ d u. let e = one-conn (descriptor m server f) (on.ReadEnd p) d open_on u in absurd (cc (e));
+    pipes = λ q u. may q (same-number p q (one-end (descriptor m server f) (on.ReadEnd p) q open_on u));
+    files = refl;
+  }
+
+  closes-read : (f p : ℕ) → descriptor m server f ≡ Some (on.ReadEnd p) → ((g : ℕ) → (f == g) ≡ true → has_end x g ≡ true) → ((q : ℕ) → p ≡ q → MayTouch m x q)
+      → Keeps (call.Close f)
+  closes-read f p open_on has may = record {
+    kind = refl;
+    aggs = λ a u. absurd (cc (u));
+    fds = has;
+    conns = λ d u. let e = one-conn (descriptor m server f) (on.ReadEnd p) d open_on u in absurd (cc (e));
+    pipes = λ q u. may q (same-number p q (one-end (descriptor m server f) (on.ReadEnd p) q open_on u));
+    files = refl;
+  }
+
+  closes-write : (f p : ℕ) → descriptor m server f ≡ Some (on.WriteEnd p) → ((g : ℕ) → (f == g) ≡ true → has_end x g ≡ true) → ((q : ℕ) → p ≡ q → MayTouch m x q)
+      → Keeps (call.Close f)
+  closes-write f p open_on has may = record {
+    kind = refl;
+    aggs = λ a u. absurd (cc (u));
+    fds = has;
+    conns = λ d u. let e = one-conn (descriptor m server f) (on.WriteEnd p) d open_on u in absurd (cc (e));
+    pipes = λ q u. may q (same-number p q (one-end (descriptor m server f) (on.WriteEnd p) q open_on u));
+    files = refl;
+  }
+
+  -- a phase that sends
+  sends : (w : Wanted) (due : List ℕ) (d : Doing) → descriptor m server fd ≡ Some (on.Connection c) → ((a : ℕ) → conn.uses_agg d a ≡ true → uses_agg x a ≡ true)
+      → IsSending m due d → Keeps (conn.wants fd (in_phase w d))
+  sends w due (doing.Heads (Error status)) open_on uses is = makes (conn.text_of (serve w) (Error status))
+  sends w due (doing.Sends a len taken None) open_on uses is = offers a open_on
+  sends w due (doing.Cuts a from len taken None) open_on uses is = cuts a from (piece_end from len)
+  sends w due (doing.Offers a from len piece taken None) open_on uses is = offers piece open_on
+  sends w due (doing.Swaps a from len piece taken None) open_on uses is = drops piece (λ b u. uses b (first (piece == b) ((a == b) || false) u))
+  sends w due (doing.Sent a taken None) open_on uses is = drops a (λ b u. uses b (first (a == b) false u))
+  sends w due (doing.Breaks piece a None) open_on uses is = drops piece (λ b u. uses b (first (piece == b) ((a == b) || false) u))
+  sends w due (doing.Drops a None) open_on uses is = drops a (λ b u. uses b (first (a == b) false u))
+  sends w due d open_on uses is = absurd is.0
+
+to-end : (m : State) (f p q : ℕ) → descriptor m server f ≡ Some (on.ReadEnd p) → p ≡ q → descriptor m server f ≡ Some (on.ReadEnd q)
+to-end m f p q open_on same = subst (λ z. descriptor m server f ≡ Some (on.ReadEnd z)) same open_on
+
+from-end : (m : State) (f p q : ℕ) → descriptor m server f ≡ Some (on.WriteEnd p) → p ≡ q → descriptor m server f ≡ Some (on.WriteEnd q)
+from-end m f p q open_on same = subst (λ z. descriptor m server f ≡ Some (on.WriteEnd z)) same open_on
+
+module _ (job : ℕ → List ℕ) (m : State) (fd c : ℕ) (w : Wanted) (o : Progress) (run : Run) (open_on : descriptor m server fd ≡ Some (on.Connection c)) where
+  -- what is read, and closed, is its own
+  reading : (g : ℕ) → (run.from == g) ≡ true → ((run.from == g) || false) ≡ true
+  reading g u = first (run.from == g) false u
+
+  step-alone : (s : Step) → HasRun job m w o (Runs run s) → KeepsToItself m fd c (Runs run s) (step_wants job fd w run s)
+  step-alone (Gives write) has = gives m fd c (Runs run (Gives write)) write (worker_domain run.worker) (λ g u. later_of (run.from == g) (write == g) u)
+  step-alone (Makes f) has = makes m fd c (Runs run (Makes f)) (job f)
+  step-alone (Hands j f) has = writes m fd c (Runs run (Hands j f)) (job_pipe run.worker) has.0.0 j has.0.1 (λ q same. from-end m (job_pipe run.worker) has.0.0 q has.0.1 same)
+  step-alone (Lets j) has = drops m fd c (Runs run (Lets j)) j (λ a u. u)
+  step-alone Heads has = makes m fd c (Runs run Heads) (script_text w)
+  step-alone (Sending d frame) has = sends m fd c (Runs run (Sending d frame)) w has.1.part d open_on (λ a u. first (conn.uses_agg d a) (has_frame frame a) u) (part-sends m has.1.part d has.1.is_part has.1.within)
+  step-alone (Hears held frame) has = reads m fd c (Runs run (Hears held frame)) run.from has.1.reads.0 (CHUNK_BYTES - held_size held) has.1.reads.1 (λ q same. to-end m run.from has.1.reads.0 q has.1.reads.1 same)
+  step-alone (Spills a frame) has = drops m fd c (Runs run (Spills a frame)) a (λ b u. first (a == b) (has_frame frame b) u)
+  step-alone (Gathers held size piece len frame) has = joins m fd c (Runs run (Gathers held size piece len frame)) held piece (λ a u. around (held == a) (piece == a) (has_frame frame a) u)
+    where
+      around : (x y z : Bool) → (x || y) ≡ true → (x || (y || z)) ≡ true
+      around true y z u = refl
+      around false y z u = first y z u
+  step-alone (Frames held) has = makes m fd c (Runs run (Frames held)) (frame_of CHUNK_BYTES)
+  step-alone (Wraps held frame) has = replaces m fd c (Runs run (Wraps held frame)) frame (place_in_frame CHUNK_BYTES) (place_in_frame CHUNK_BYTES) held
+  step-alone (Trims held chunk len frame) has = drops m fd c (Runs run (Trims held chunk len frame)) held (λ a u. first (held == a) ((chunk == a) || (frame == a)) u)
+  step-alone (Ended b held frame) has = drops m fd c (Runs run (Ended b held frame)) b (λ a u. first (b == a) (has_followed held a || has_frame frame a) u)
+  step-alone (Unholds held frame) has = drops m fd c (Runs run (Unholds held frame)) held (λ a u. first (held == a) (has_frame frame a) u)
+  step-alone (Stops held frame) has = closes-read m fd c (Runs run (Stops held frame)) run.from has.1.0.0 has.1.0.1 (λ g u. reading g u) (λ q same. to-end m run.from has.1.0.0 q has.1.0.1 same)
+  step-alone (Unframes frame held) has = drops m fd c (Runs run (Unframes frame held)) frame (λ a u. first (frame == a) (has_followed held a) u)
+  step-alone (Lasts held) has = makes m fd c (Runs run (Lasts held)) (end_around held)
+  step-alone (WrapsLast held size frame) has = replaces m fd c (Runs run (WrapsLast held size frame)) frame (place_in_frame size) (place_in_frame size) held
+  step-alone (TrimsLast held chunk len frame) has = drops m fd c (Runs run (TrimsLast held chunk len frame)) held (λ a u. first (held == a) ((chunk == a) || (frame == a)) u)
+  step-alone (Unwraps frame chunk len) has = drops m fd c (Runs run (Unwraps frame chunk len)) frame (λ a u. first (frame == a) (chunk == a) u)
+  step-alone (Returns write) has = closes-write m fd c (Runs run (Returns write)) write has.1.0.pipe has.1.0.write_end (λ g u. later_of (run.from == g) (write == g) u)
+      (λ q same. from-end m write has.1.0.pipe q has.1.0.write_end same)
+  step-alone (Lapses j) has = drops m fd c (Runs run (Lapses j)) j (λ a u. u)
+  step-alone Fails has = closes-read m fd c (Runs run Fails) run.from has.1.0.0 has.1.0.1 (λ g u. reading g u) (λ q same. to-end m run.from has.1.0.0 q has.1.0.1 same)
+
+pub keeps-alone : (job : ℕ → List ℕ) (m : State) (fd c : ℕ) (w : Wanted) (x : Running) (o : Progress) → descriptor m server fd ≡ Some (on.Connection c)
+    → is_over x ≡ false → HasRun job m w o x → KeepsToItself m fd c x (wants job fd w x)
+keeps-alone job m fd c w Awaits o open_on going has = record {
+  kind = refl;
+  aggs = λ a u. absurd (cc (u));
+  fds = λ g u. absurd (cc (u));
+  conns = λ d u. absurd (cc (u));
+  pipes = λ p u. same-number (lowest m.pipes) p u;
+  files = refl;
+}
+keeps-alone job m fd c w (Runs run s) o open_on going has = step-alone job m fd c w o run open_on s has
+keeps-alone job m fd c w (Leaves d) o open_on going has =
+    let h = is-rest m w o d (still-left (is_left d) going) has in
+    sends m fd c (Leaves d) w h.due d open_on (λ a u. u) h.sends
+keeps-alone job m fd c w Closes o open_on going has = absurd (cc (going))
+
+-- ---- a pipe that comes is had
+
+-- only one call is answered with two descriptors
+only-pipe : (m n : State) (d from write : ℕ) (k : Call) → StepsTo m (event.Call d k) (reply.Fds from write) n → k ≡ call.Pipe
+only-pipe m n d from write call.Pipe step = refl
+only-pipe m n d from write k step = let e = step.1 in absurd (cc (e))
+
+no-pipe : (m : State) (fd : ℕ) (w : Wanted) (due : List ℕ) (d : Doing) → IsSending m due d → conn.wants fd (in_phase w d) ≡ call.Pipe → ⊥
+no-pipe m fd w due (doing.Reads f) sends is = sends.0
+no-pipe m fd w due d sends is = cc (is)
+
+pub opened : (job : ℕ → List ℕ) (m n : State) (fd worker : ℕ) (w : Wanted) (x : Running) (o : Progress) (from write : ℕ) (heard : List ℕ) (g : ℕ)
+    → is_over x ≡ false → HasRun job m w o x → StepsTo m (event.Call server (wants job fd w x)) (reply.Fds from write) n
+    → ((from == g) || (write == g)) ≡ true → has_end (told worker w x (reply.Fds from write) heard) g ≡ true
+opened job m n fd worker w x o from write heard g going has step u = by x going has (only-pipe m n server from write (wants job fd w x) step)
+  where
+    by : (x : Running) → is_over x ≡ false → HasRun job m w o x → wants job fd w x ≡ call.Pipe → has_end (told worker w x (reply.Fds from write) heard) g ≡ true
+    by Awaits going has is = u
+    by (Leaves d) going has is = let h = is-rest m w o d (still-left (is_left d) going) has in absurd (no-pipe m fd w h.due d h.sends is)
+    by (Runs run (Sending d frame)) going has is = absurd (no-pipe m fd w has.1.part d (part-sends m has.1.part d has.1.is_part has.1.within) is)
+    by x going has is = absurd (cc (is))
