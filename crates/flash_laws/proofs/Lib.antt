@@ -21,8 +21,8 @@ pub mod Witness
 pub mod Pieces
 pub mod Outputs
 pub mod RunStays
-pub mod RunParts
 pub mod RunLeft
+pub mod RunParts
 pub mod RunQuiet
 pub mod RunTakes
 pub mod RunMoves

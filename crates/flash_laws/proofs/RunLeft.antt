@@ -1,5 +1,5 @@
 -- What is left of a response is sent as a file's response is, and as much counts as taken as the connection took.
-use Rattle.std.proofs.Common.{◌≡◌, ℕ, ◌+◌, ◌==◌, ◌≤◌, List, [], ◌++◌, length, drop, ap, ◌∙◌, refl, sym, subst, arith, Some, None, true, false, Bool, append-nil, length-drop, if◌then◌else◌}
+use Rattle.std.proofs.Common.{inl, ◌≡◌, ℕ, ◌+◌, ◌==◌, ◌≤◌, List, [], ◌++◌, length, drop, ap, ◌∙◌, refl, sym, subst, arith, Some, None, true, false, Bool, append-nil, length-append, length-drop, if◌then◌else◌}
 use Rattle.std.specs.Prelude.{not, nat_lt, slice_range}
 use Rattle.std.proofs.lemmas.Bool.{or_parts}
 use Rattle.std.proofs.lemmas.Bool.Decides.{nat_tests}
@@ -32,7 +32,6 @@ use Rattle.flash_laws.specs.declared.doing.Doing.TheVariants as doing
 use Rattle.flash_laws.proofs.Having as having
 use Rattle.flash_laws.proofs.Lent.{lent-stays}
 use Rattle.flash_laws.proofs.Lists.{self, turned, few-taken}
-use Rattle.flash_laws.proofs.RunParts.{most-left}
 
 -- what a phase that sends all that is due has
 abbrev pub SendsAll : State → Wanted → (due : List ℕ) → Doing → Type 0
@@ -41,6 +40,14 @@ SendsAll s w due d = Has s (serve w) due d × IsPart s (sent_agg d) due × (take
 abbrev pub is_sent : Doing → Bool
 is_sent (doing.Sent a taken more) = true
 is_sent d = false
+
+-- no more of a part is taken than there is
+most-left : (xs after part : List ℕ) (taken : ℕ) → xs ++ after ≡ drop taken part → taken ≤ length part → taken + length xs ≤ length part
+most-left xs after part taken next within =
+    let e = length-append xs after in
+    let f = length-drop taken part in
+    let g = ap (λ (l : List ℕ). length l) next in
+    omega (arith, e, f, g, within)
 
 -- all of a part is taken where nothing follows
 pub whole-taken : (part : List ℕ) (taken : ℕ) → [] ≡ drop taken part → taken ≤ length part → length part ≡ taken
@@ -55,10 +62,10 @@ left-none w (Ran heard ended past) due left = (left.0, left.1 ∙ sym (append-ni
 left-none w Broken due left = absurd left
 left-none w (NotRun status past) due left = left ∙ sym (append-nil (past ++ due))
 
-none-left : (w : Wanted) (o : Progress) → IsLeft w o [] → HasNone w o
-none-left w (Ran heard ended past) left = left
-none-left w Broken left = absurd left
-none-left w (NotRun status past) left = left
+none-left : (w : Wanted) (o : Progress) → w.keep ≡ false → IsLeft w o [] → HasNone w o
+none-left w (Ran heard ended past) closes left = (left, inl closes)
+none-left w Broken closes left = absurd left
+none-left w (NotRun status past) closes left = (left, inl closes)
 
 pub still-left : (b : Bool) → not b ≡ false → b ≡ true
 still-left true is = refl
@@ -252,7 +259,7 @@ module _ (steps : EachStepLeavesTheRest) (own : CallsServeTheirDomain) (m n : St
     where
       over : (b : Bool) → w.keep ≡ b → HasLeft n w (takes_on o due) (if b then doing.Rests else doing.Closes)
       over true is = (left-none w o due left, is)
-      over false is = none-left w (takes_on o due) (left-none w o due left)
+      over false is = none-left w (takes_on o due) is (left-none w o due left)
 
       by : (r : Reply) → caller.Drops m server a r n → Told (doing.Sent a taken None) (conn.told_sent (serve w) a taken None r) r o
       by reply.Done did = (takes_on o due, (due, has.1, refl), over w.keep refl)

@@ -212,7 +212,7 @@ offered m fd a w due (doing.Reads f) has is = absurd (by w.head_only is)
     by false is = cc
 offered m fd a w due d has is = absurd (cc (is))
 
-part-next : (m : State) (fd a : ℕ) (w : Wanted) (o : Progress) (run : Run) (d : Doing) (frame : Option ℕ) → HasPart m w o run d frame
+pub part-next : (m : State) (fd a : ℕ) (w : Wanted) (o : Progress) (run : Run) (d : Doing) (frame : Option ℕ) → HasPart m w o run d frame
     → conn.wants fd (in_phase w d) ≡ call.IolWrite fd a → IsNextOf m w o a (taken_of d)
 part-next m fd a w o run d frame h is =
     let p = offered m fd a w h.part d h.has is in
@@ -233,7 +233,7 @@ rest-next m fd a w o d h is =
     let p = offered m fd a w h.due d h.has is in
     record { bytes = p.bytes; lends = p.lends; next = λ r may. (p.after, p.next ∙ is-whole w o h.due r h.left may (taken_of d)) }
 
-left-next : (m : State) (fd a : ℕ) (w : Wanted) (o : Progress) (d : Doing) → HasLeft m w o d
+pub left-next : (m : State) (fd a : ℕ) (w : Wanted) (o : Progress) (d : Doing) → HasLeft m w o d
     → conn.wants fd (in_phase w d) ≡ call.IolWrite fd a → IsNextOf m w o a (taken_of d)
 left-next m fd a w o doing.Rests has is = absurd (cc (is))
 left-next m fd a w o doing.Closes has is = absurd (cc (is))
@@ -330,7 +330,7 @@ keeps-fails : (run : Run) (r : Reply) → HasWorker run.worker (told_fails run r
 keeps-fails run reply.Done = tt
 keeps-fails run r = refl
 
-keeps : (worker : ℕ) (w : Wanted) (run : Run) (step : Step) (r : Reply) (heard : List ℕ) → HasWorker run.worker (told worker w (Runs run step) r heard)
+pub keeps : (worker : ℕ) (w : Wanted) (run : Run) (step : Step) (r : Reply) (heard : List ℕ) → HasWorker run.worker (told worker w (Runs run step) r heard)
 keeps worker w run (Sending d frame) r heard = keeps-sending run d frame r
 keeps worker w run (Hears held frame) r heard = keeps-hears w run held frame r heard
 keeps worker w run (Stops held frame) r heard = keeps-stops w run held frame r

@@ -1,5 +1,5 @@
 -- A part of a script's response is sent as a file's response is.
-use Rattle.std.proofs.Common.{◌≡◌, ℕ, ◌+◌, ◌-◌, ◌==◌, ◌≤◌, List, [], ◌++◌, length, drop, ap, ◌∙◌, refl, sym, subst, arith, Option, Some, None, true, false, Bool, length-append, length-drop, if◌then◌else◌}
+use Rattle.std.proofs.Common.{◌≡◌, ℕ, ◌+◌, ◌-◌, ◌==◌, List, [], ap, ◌∙◌, refl, sym, subst, arith, Option, Some, None, true, false, Bool, if◌then◌else◌}
 use Rattle.std.specs.Prelude.{◌||◌, ◌&&◌, min, nat_lt, slice_range}
 use Rattle.std.proofs.lemmas.Bool.{or_parts, or_from}
 use Rattle.std.proofs.lemmas.Bool.Decides.{nat_tests}
@@ -23,7 +23,7 @@ use Rattle.flash_http.specs.Request.{serve, Wanted}
 use Rattle.flash_laws.specs.Conn as conn
 use Rattle.flash_laws.specs.Conn.{piece_end}
 use Rattle.flash_laws.specs.Fits.{Has}
-use Rattle.flash_laws.specs.RunFits.{Progress, Ran, Broken, NotRun, HoldsBack, Continues, Goes, HasFrame, HasHeard, sent_agg, IsPart, taken_of, sends_frame, HasPart}
+use Rattle.flash_laws.specs.RunFits.{Progress, Ran, Broken, NotRun, HoldsBack, Continues, Goes, HasFrame, HasHeard, sends_frame, HasPart}
 use Rattle.flash_laws.specs.RunOffers.{takes_on}
 use Rattle.flash_laws.specs.Running.{has_frame}
 use Rattle.flash_laws.specs.Scripts.{frame_of}
@@ -32,9 +32,10 @@ use Rattle.flash_laws.specs.declared.doing.Doing.{Doing}
 use Rattle.flash_laws.specs.declared.doing.Doing.TheVariants as doing
 use Rattle.flash_laws.specs.declared.running.TheConstants.{CHUNK_BYTES}
 use Rattle.flash_laws.specs.declared.running.Run.{Run}
-use Rattle.flash_laws.proofs.Having as having
 use Rattle.flash_laws.proofs.Lent.{lent-stays, new-other}
-use Rattle.flash_laws.proofs.Lists.{not-equal, turned, few-taken}
+use Rattle.flash_laws.proofs.Lists.{not-equal, turned}
+use Rattle.flash_laws.proofs.RunLeft as left
+use Rattle.flash_laws.proofs.RunLeft.{SendsAll}
 use Rattle.flash_laws.proofs.RunStays.{frame-on, reading-on}
 
 -- another number than one that is used is not used
@@ -54,14 +55,6 @@ no-position m f g x is no_file = and-false (f == g) (is_file (descriptor m serve
 pub new-frame : (m : State) (frame : Option ℕ) (x : ℕ) → HasFrame m frame → lent_at m server x ≡ None → has_frame frame x ≡ false
 new-frame m None x has new = refl
 new-frame m (Some f) x has new = new-other m f x (frame_of CHUNK_BYTES) has new
-
--- no more of a part is taken than there is
-pub most-left : (xs after part : List ℕ) (taken : ℕ) → xs ++ after ≡ drop taken part → taken ≤ length part → taken + length xs ≤ length part
-most-left xs after part taken next within =
-    let e = length-append xs after in
-    let f = length-drop taken part in
-    let g = ap (λ (l : List ℕ). length l) next in
-    omega (arith, e, f, g, within)
 
 sends-none : (d e : Doing) (frame : Option ℕ) → ((f : ℕ) → conn.uses_agg d f ≡ false → conn.uses_agg e f ≡ false)
     → sends_frame d frame ≡ false → sends_frame e frame ≡ false
@@ -85,10 +78,6 @@ goes-on false w o held is back = back
 
 module _ (steps : EachStepLeavesTheRest) (own : CallsServeTheirDomain) (m n : State) (order : IsOrderly m)
     (w : Wanted) (o : Progress) (run : Run) (frame : Option ℕ) where
-  -- what a phase still has of a part
-  abbrev Keeps : List ℕ → Doing → Type 0
-  Keeps part e = IsPart n (sent_agg e) part × (taken_of e ≤ length part) × (sends_frame e frame ≡ false)
-
   lends : (k : Call) (r : Reply) → StepsTo m (event.Call server k) r n → (a : ℕ) (bytes : List ℕ)
       → gives_up (event.Call server k) server a ≡ false → lent_at m server a ≡ Some bytes → lent_at n server a ≡ Some bytes
   lends k r step a bytes un is = lent-stays steps m n (event.Call server k) r step a bytes is un
@@ -97,15 +86,15 @@ module _ (steps : EachStepLeavesTheRest) (own : CallsServeTheirDomain) (m n : St
   fits : (k : Call) (r : Reply) → StepsTo m (event.Call server k) r n
       → touches_fd m (event.Call server k) server run.from ≡ false
       → ((f : ℕ) → has_frame frame f ≡ true → gives_up (event.Call server k) server f ≡ false)
-      → (d e : Doing) (h : HasPart m w o run d frame) → Has n (serve w) h.part e → Keeps h.part e → HasPart n w o run e frame
-  fits k r step still un d e h has keeps = record {
+      → (d e : Doing) (h : HasPart m w o run d frame) → SendsAll n w h.part e → sends_frame e frame ≡ false → HasPart n w o run e frame
+  fits k r step still un d e h has apart = record {
     reads = reading-on m n run (λ x is. (steps.leaves m n (event.Call server k) r step).fds server run.from x is still) h.reads;
     frames = frame-on m n frame (λ a bytes u is. lends k r step a bytes (un a u) is) h.frames;
     part = h.part;
-    is_part = keeps.0;
-    has = has;
-    within = keeps.1;
-    apart = keeps.2;
+    is_part = has.1;
+    has = has.0;
+    within = has.2;
+    apart = apart;
     whole = h.whole;
     continues = h.continues;
   }
@@ -118,43 +107,31 @@ module _ (steps : EachStepLeavesTheRest) (own : CallsServeTheirDomain) (m n : St
       → HasPart n w o run (conn.told_sends a len taken None r) frame
   sends fd c a len taken r open_on h step =
       fits (call.IolWrite fd a) r step (no-position m fd run.from (on.Connection c) open_on refl) (λ f u. refl) (doing.Sends a len taken None) (conn.told_sends a len taken None r) h
-      (having.sends steps own m n order (serve w) fd c a len taken None h.part r open_on h.has step)
-      (keeps r (own.write_conn m n server fd c a h.part r order open_on h.is_part step))
+      (left.sends steps own m n order w h.part fd c a len taken r open_on (h.has, h.is_part, h.within) step) (apart r)
     where
-      here : lent_at n server a ≡ Some h.part
-      here = lends (call.IolWrite fd a) r step a h.part refl h.is_part
-
-      most : taken + length h.has.bytes ≤ length h.part
-      most = most-left h.has.bytes h.has.after h.part taken h.has.next h.within
-
       free : (e : Doing) → ((f : ℕ) → conn.uses_agg e f ≡ conn.uses_agg (doing.Sends a len taken None) f) → sends_frame e frame ≡ false
       free e same = sends-none (doing.Sends a len taken None) e frame (λ f is. same f ∙ is) h.apart
 
-      keeps : (r : Reply) → caller.WritesConn m c h.part r n → Keeps h.part (conn.told_sends a len taken None r)
-      keeps (reply.Count k) puts = by (nat_lt k len) refl
+      apart : (r : Reply) → sends_frame (conn.told_sends a len taken None r) frame ≡ false
+      apart (reply.Count k) = by (nat_lt k len)
         where
-          by : (b : Bool) → nat_lt k len ≡ b → Keeps h.part (if b then doing.Cuts a k len (taken + k) None else doing.Sent a (taken + len) None)
-          by true is = (here, (let size = h.has.size in let le = most in let lt : k ≤ len = grind (arith, nat_tests, is) in omega (arith, size, le, lt)), free (doing.Cuts a k len (taken + k) None) (λ f. refl))
-          by false is = (here, (let size = h.has.size in let le = most in omega (arith, size, le)), free (doing.Sent a (taken + len) None) (λ f. refl))
-      keeps (reply.Refused no.BrokenPipe) did = (here, omega arith, free (doing.Drops a None) (λ f. refl))
-      keeps (reply.Refused y) did = (here, h.within, h.apart)
-      keeps r did = absurd did
+          by : (b : Bool) → sends_frame (if b then doing.Cuts a k len (taken + k) None else doing.Sent a (taken + len) None) frame ≡ false
+          by true = free (doing.Cuts a k len (taken + k) None) (λ f. refl)
+          by false = free (doing.Sent a (taken + len) None) (λ f. refl)
+      apart (reply.Refused no.BrokenPipe) = free (doing.Drops a None) (λ f. refl)
+      apart r = h.apart
 
   pub cuts : (a from len taken : ℕ) (r : Reply) → HasPart m w o run (doing.Cuts a from len taken None) frame
       → StepsTo m (event.Call server (call.AggCut a from (piece_end from len))) r n
       → HasPart n w o run (conn.told_cuts a from len taken None r) frame
   cuts a from len taken r h step =
       fits (call.AggCut a from (piece_end from len)) r step refl (λ f u. refl) (doing.Cuts a from len taken None) (conn.told_cuts a from len taken None r) h
-      (having.cuts steps own m n order (serve w) a from len taken None h.part r h.has step)
-      (keeps r (own.cut m n server a from (piece_end from len) h.part r order h.is_part step))
+      (left.cuts steps own m n order w h.part a from len taken r (h.has, h.is_part, h.within) step)
+      (apart r (own.cut m n server a from (piece_end from len) h.part r order h.is_part step))
     where
-      here : lent_at n server a ≡ Some h.part
-      here = lends (call.AggCut a from (piece_end from len)) r step a h.part refl h.is_part
-
-      keeps : (r : Reply) → caller.Makes m server (slice_range h.part from (piece_end from len)) r n → Keeps h.part (conn.told_cuts a from len taken None r)
-      keeps (reply.Agg x) did = (here, h.within, with-piece m x (doing.Cuts a from len taken None) (doing.Offers a from len x taken None) frame (λ f new is. or_from (x == f) ((a == f) || false) new is) (new-frame m frame x h.frames did.1) h.apart)
-      keeps (reply.Refused y) did = (here, h.within, h.apart)
-      keeps r did = absurd did
+      apart : (r : Reply) → caller.Makes m server (slice_range h.part from (piece_end from len)) r n → sends_frame (conn.told_cuts a from len taken None r) frame ≡ false
+      apart (reply.Agg x) did = with-piece m x (doing.Cuts a from len taken None) (doing.Offers a from len x taken None) frame (λ f new is. or_from (x == f) ((a == f) || false) new is) (new-frame m frame x h.frames did.1) h.apart
+      apart r did = h.apart
 
   pub offers : (fd c a from len piece taken : ℕ) (r : Reply) → descriptor m server fd ≡ Some (on.Connection c)
       → HasPart m w o run (doing.Offers a from len piece taken None) frame
@@ -162,22 +139,12 @@ module _ (steps : EachStepLeavesTheRest) (own : CallsServeTheirDomain) (m n : St
       → HasPart n w o run (conn.told_offers a from len piece taken None r) frame
   offers fd c a from len piece taken r open_on h step =
       fits (call.IolWrite fd piece) r step (no-position m fd run.from (on.Connection c) open_on refl) (λ f u. refl) (doing.Offers a from len piece taken None) (conn.told_offers a from len piece taken None r) h
-      (having.offers_piece steps own m n order (serve w) fd c a from len piece taken None h.part r open_on h.has step)
-      (keeps r (own.write_conn m n server fd c piece (slice_range h.has.whole.bytes from (piece_end from len)) r order open_on h.has.lends step))
+      (left.offers steps own m n order w h.part fd c a from len piece taken r open_on (h.has, h.is_part, h.within) step) (apart r)
     where
-      here : lent_at n server a ≡ Some h.part
-      here = lends (call.IolWrite fd piece) r step a h.part refl h.is_part
-
-      keeps : (r : Reply) → caller.WritesConn m c (slice_range h.has.whole.bytes from (piece_end from len)) r n → Keeps h.part (conn.told_offers a from len piece taken None r)
-      keeps (reply.Count k) puts =
-          let few = few-taken k from len h.has.whole.bytes h.has.whole.size puts.within in
-          let most = most-left (drop from h.has.whole.bytes) h.has.whole.after h.part taken h.has.whole.next h.within in
-          let le = few.0 in
-          let same = few.1 in
-          (here, omega (arith, most, le, same), sends-none (doing.Offers a from len piece taken None) (conn.moved_on a from len piece taken None (min k (len - from))) frame (λ f is. is) h.apart)
-      keeps (reply.Refused no.BrokenPipe) did = (here, omega arith, sends-none (doing.Offers a from len piece taken None) (doing.Breaks piece a None) frame (λ f is. is) h.apart)
-      keeps (reply.Refused y) did = (here, h.within, h.apart)
-      keeps r did = absurd did
+      apart : (r : Reply) → sends_frame (conn.told_offers a from len piece taken None r) frame ≡ false
+      apart (reply.Count k) = sends-none (doing.Offers a from len piece taken None) (conn.moved_on a from len piece taken None (min k (len - from))) frame (λ f is. is) h.apart
+      apart (reply.Refused no.BrokenPipe) = sends-none (doing.Offers a from len piece taken None) (doing.Breaks piece a None) frame (λ f is. is) h.apart
+      apart r = h.apart
 
   -- what is dropped is not the frame
   not-frame : (b : ℕ) (d : Doing) → ((f : ℕ) → conn.uses_agg d f ≡ false → (b == f) ≡ false) → sends_frame d frame ≡ false
@@ -195,23 +162,18 @@ module _ (steps : EachStepLeavesTheRest) (own : CallsServeTheirDomain) (m n : St
   swaps a from len piece taken r h step =
       fits (call.AggDrop piece) r step refl (not-frame piece (doing.Swaps a from len piece taken None) (λ f is. (or_parts (piece == f) ((a == f) || false) is).0) h.apart)
       (doing.Swaps a from len piece taken None) (conn.told_swaps a from len piece taken None r) h
-      (having.swaps steps own m n order (serve w) a from len piece taken None h.part r h.has step)
-      (keeps r (own.drops m n server piece r order step))
+      (left.swaps steps own m n order w h.part a from len piece taken r (h.has, h.is_part, h.within) step) (apart r)
     where
-      here : lent_at n server a ≡ Some h.part
-      here = lends (call.AggDrop piece) r step a h.part (turned a piece (or_parts (a == piece) (false) h.has.1).0) h.is_part
-
       free : (e : Doing) → ((f : ℕ) → conn.uses_agg e f ≡ ((a == f) || false)) → sends_frame e frame ≡ false
       free e same = sends-none (doing.Swaps a from len piece taken None) e frame (λ f is. same f ∙ (or_parts (piece == f) ((a == f) || false) is).1) h.apart
 
-      keeps : (r : Reply) → caller.Drops m server piece r n → Keeps h.part (conn.told_swaps a from len piece taken None r)
-      keeps reply.Done did = by (nat_lt from len)
+      apart : (r : Reply) → sends_frame (conn.told_swaps a from len piece taken None r) frame ≡ false
+      apart reply.Done = by (nat_lt from len)
         where
-          by : (b : Bool) → Keeps h.part (if b then doing.Cuts a from len taken None else doing.Sent a taken None)
-          by true = (here, h.within, free (doing.Cuts a from len taken None) (λ f. refl))
-          by false = (here, h.within, free (doing.Sent a taken None) (λ f. refl))
-      keeps (reply.Refused y) did = (here, h.within, h.apart)
-      keeps r did = absurd did
+          by : (b : Bool) → sends_frame (if b then doing.Cuts a from len taken None else doing.Sent a taken None) frame ≡ false
+          by true = free (doing.Cuts a from len taken None) (λ f. refl)
+          by false = free (doing.Sent a taken None) (λ f. refl)
+      apart r = h.apart
 
   pub breaks : (piece a : ℕ) (r : Reply) → HasPart m w o run (doing.Breaks piece a None) frame
       → StepsTo m (event.Call server (call.AggDrop piece)) r n
@@ -219,16 +181,11 @@ module _ (steps : EachStepLeavesTheRest) (own : CallsServeTheirDomain) (m n : St
   breaks piece a r h step =
       fits (call.AggDrop piece) r step refl (not-frame piece (doing.Breaks piece a None) (λ f is. (or_parts (piece == f) ((a == f) || false) is).0) h.apart)
       (doing.Breaks piece a None) (conn.told_breaks piece a None r) h
-      (having.breaks steps own m n order (serve w) piece a None h.part r h.has step)
-      (keeps r (own.drops m n server piece r order step))
+      (left.breaks steps own m n order w h.part piece a r (h.has, h.is_part, h.within) step) (apart r)
     where
-      here : lent_at n server a ≡ Some h.part
-      here = lends (call.AggDrop piece) r step a h.part (turned a piece (or_parts (a == piece) (false) h.has.1).0) h.is_part
-
-      keeps : (r : Reply) → caller.Drops m server piece r n → Keeps h.part (conn.told_breaks piece a None r)
-      keeps reply.Done did = (here, omega arith, sends-none (doing.Breaks piece a None) (doing.Drops a None) frame (λ f is. (or_parts (piece == f) ((a == f) || false) is).1) h.apart)
-      keeps (reply.Refused y) did = (here, h.within, h.apart)
-      keeps r did = absurd did
+      apart : (r : Reply) → sends_frame (conn.told_breaks piece a None r) frame ≡ false
+      apart reply.Done = sends-none (doing.Breaks piece a None) (doing.Drops a None) frame (λ f is. (or_parts (piece == f) ((a == f) || false) is).1) h.apart
+      apart r = h.apart
 
   -- the frame stays where the part is dropped, and output is read
   pub hears-again : (a : ℕ) (d : Doing) (after : Progress) (next : Run) → StepsTo m (event.Call server (call.AggDrop a)) reply.Done n

@@ -1,5 +1,5 @@
 -- After the reply to its own call a run has what it needs: each step that makes something, or lets it go.
-use Rattle.std.proofs.Common.{◌≡◌, ℕ, ◌+◌, ◌-◌, ◌==◌, ◌<◌, ◌≤◌, List, [], ◌∷◌, ◌++◌, length, take, drop, ap, ◌∙◌, refl, sym, subst, arith, Option, Some, None, true, false, Bool, append-nil, length-append, if◌then◌else◌}
+use Rattle.std.proofs.Common.{inr, ◌≡◌, ℕ, ◌+◌, ◌-◌, ◌==◌, ◌<◌, ◌≤◌, List, [], ◌∷◌, ◌++◌, length, take, drop, ap, ◌∙◌, refl, sym, subst, arith, Option, Some, None, true, false, Bool, append-nil, length-append, if◌then◌else◌}
 use Rattle.std.specs.Prelude.{◌||◌, not, nat_lt}
 use Rattle.std.proofs.lemmas.Bool.{or_from}
 use Rattle.std.proofs.lemmas.Bool.Decides.{nat_tests}
@@ -421,9 +421,9 @@ module _ (steps : EachStepLeavesTheRest) (own : CallsServeTheirDomain) (m n : St
         none = ap (λ c. script_body c bytes) plain ∙ none-held n held bytes holds plain
 
         over : (o : Progress) → IsLeft w o (script_body w.chunked bytes) → HasNone w o
-        over (Ran heard ended past) left = subst (λ (l : List ℕ). IsLeft w (Ran heard ended past) l) none left
+        over (Ran heard ended past) left = (subst (λ (l : List ℕ). IsLeft w (Ran heard ended past) l) none left, inr plain)
         over Broken left = absurd left
-        over (NotRun status past) left = subst (λ (l : List ℕ). IsLeft w (NotRun status past) l) none left
+        over (NotRun status past) left = (subst (λ (l : List ℕ). IsLeft w (NotRun status past) l) none left, inr plain)
     finishes true c held bytes o hired gone chunked holds ends = subst (λ (z : Progress). HasRun job n w z Closes) (sym (subst (λ b. Ends b w o bytes) gone ends).0) tt
 
     pub stops : (held : Following) (frame : Option ℕ) (r : Reply) (o : Progress) → HasStep job m w o run (Stops held frame)

@@ -1,5 +1,5 @@
 -- What ties the run of a script to the machine and to the output that was read: what it has of the response.
-use Rattle.std.specs.Prelude.{◌≡◌, ◌≤◌, ◌<◌, ℕ, ◌+◌, ◌==◌, not, Bool, true, false, List, [], ◌++◌, length, Option, Some, None}
+use Rattle.std.specs.Prelude.{◌≡◌, ◌≤◌, ◌<◌, ℕ, ◌+◌, ◌==◌, ◌⊎◌, not, Bool, true, false, List, [], ◌++◌, length, Option, Some, None}
 use Rattle.iol_core.specs.State.{State, descriptor}
 use Rattle.iol_core.specs.declared.descriptors.Descriptor.TheVariants as on
 use Rattle.iol_laws.specs.Caller.{lent_at}
@@ -226,12 +226,12 @@ pub record HasRest (m : State) (w : Wanted) (o : Progress) (d : Doing) : Type 0 
   pub has : Has m (serve w) due d
   pub sends : IsSending m due d
 
--- nothing of it is left, or nobody takes it
+-- nothing of it is left, and it ends with the connection; or nobody takes it
 abbrev pub HasNone : Wanted → Progress → Type 0
 HasNone w Broken = Unit {0}
-HasNone w o = IsLeft w o []
+HasNone w o = IsLeft w o [] × ((w.keep ≡ false) ⊎ (w.chunked ≡ false))
 
--- the rest is sent; or nothing is left, and the connection goes on where the response lets it, or is to be closed
+-- the rest is sent; or nothing is left, and the connection goes on where the response lets it, and is else to be closed
 abbrev pub HasLeft : State → Wanted → Progress → Doing → Type 0
 HasLeft m w o doing.Rests = IsLeft w o [] × (w.keep ≡ true)
 HasLeft m w o doing.Closes = HasNone w o
