@@ -4,12 +4,14 @@ pub mod Begun
 pub mod Few
 pub mod Fewer
 pub mod Filing
+pub mod Frames
 pub mod Gathered
 pub mod HostedWorld
 pub mod Leading
 pub mod Making
 pub mod NewSite
 pub mod Offering
+pub mod Output
 pub mod Passing
 pub mod Piping
 pub mod Places

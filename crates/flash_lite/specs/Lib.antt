@@ -13,3 +13,4 @@ pub mod Shelf
 pub mod NewWorld
 pub mod Hosting
 pub mod Offering
+pub mod Runs

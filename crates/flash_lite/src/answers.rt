@@ -82,8 +82,12 @@ fn bare_text(alloc: Global, request: &Request, len: u32) -> Result<Vec<u8>, Allo
     Ok(bytes)
 }
 
-// What is made of new bytes for a request for a file.
-fn served_text(alloc: Global, request: &Request, content: &Content) -> Result<Vec<u8>, AllocError>
+/// What is made of new bytes for a request for a file.
+pub(crate) fn served_text(
+    alloc: Global,
+    request: &Request,
+    content: &Content,
+) -> Result<Vec<u8>, AllocError>
     ensures { IfOk result
         (λ bytes. bytes.items ≡ conn.text_of (serve (wanted request.now)) content.now) }
 {

@@ -84,8 +84,8 @@ fn drop_first(list: &mut Vec<u8>, count: usize)
     list.drain(..count.min(list.len()));
 }
 
-// Where the next piece ends: it has as many bytes as a queue takes, or all that are left.
-fn piece_end(from: u32, len: u32) -> u32
+/// Where the next piece ends: it has as many bytes as a queue takes, or all that are left.
+pub(crate) fn piece_end(from: u32, len: u32) -> u32
     ensures { result ≡ spec.piece_end from len }
 {
     len.min(from.saturating_add(MAX_QUEUE_BYTES as u32))

@@ -19,6 +19,7 @@ mod finding;
 mod heard;
 pub mod host;
 pub mod laws;
+mod running;
 mod sending;
 pub mod server;
 pub mod setup;

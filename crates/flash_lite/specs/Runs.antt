@@ -1,0 +1,67 @@
+-- The numbers of a script's run are small, and which of its calls have bytes of their own.
+use Rattle.std.specs.Prelude.{◌≡◌, ◌<◌, ◌==◌, ℕ, Bool, true, false, List, Option, Some, None, if◌then◌else◌}
+use Rattle.flash_cgi.specs.Job.{job_text}
+use Rattle.flash_http.specs.Request.{Wanted}
+use Rattle.flash_laws.specs.Conn.{Following}
+use Rattle.flash_laws.specs.Running.{is_left, hearing}
+use Rattle.flash_laws.specs.declared.doing.Doing.{Doing}
+use Rattle.flash_laws.specs.declared.running.TheConstants.{CHUNK_BYTES}
+use Rattle.flash_laws.specs.declared.running.Run.{Run}
+use Rattle.flash_laws.specs.declared.running.Step.{Step}
+use Rattle.flash_laws.specs.declared.running.Step.TheVariants.{Makes, Heads, Sending, Hears, Gathers, Frames, Ended, Stops, Unframes, Lasts, WrapsLast}
+use Rattle.flash_laws.specs.declared.running.Running.{Running}
+use Rattle.flash_laws.specs.declared.running.Running.TheVariants.{Runs, Leaves}
+use Rattle.flash_lite.specs.Small.{IsSmall}
+use Rattle.flash_lite.specs.Wanting.{has_bytes}
+use Rattle.flash_lite.specs.declared.site.TheConstants.{MAX_WORKERS}
+
+-- what is held has some bytes, and fewer than a chunk
+abbrev pub IsPiece : Following → Type 0
+IsPiece None = Unit {0}
+IsPiece (Some x) = (0 < x.1) × (x.1 < CHUNK_BYTES)
+
+-- what is left of a response is being made or sent
+pub record IsGoing (d : Doing) : Type 0 where
+  pub small : IsSmall d
+  pub left : is_left d ≡ true
+
+abbrev pub IsSmallStep : Step → Type 0
+IsSmallStep (Sending d frame) = IsGoing d
+IsSmallStep (Hears held frame) = IsPiece held
+IsSmallStep (Gathers held size piece len frame) = IsPiece (Some (held, size))
+IsSmallStep (Ended a held frame) = IsPiece held
+IsSmallStep (Stops held frame) = IsPiece held
+IsSmallStep (Unframes frame held) = IsPiece held
+IsSmallStep (Lasts held) = IsPiece held
+IsSmallStep (WrapsLast held size frame) = IsPiece (Some (held, size))
+IsSmallStep s = Unit {0}
+
+abbrev pub IsSmallRun : Run → Type 0
+IsSmallRun run = run.worker < MAX_WORKERS
+
+abbrev pub IsSmallRunning : Running → Type 0
+IsSmallRunning (Runs run step) = IsSmallRun run × IsSmallStep step
+IsSmallRunning (Leaves d) = IsSmall d
+IsSmallRunning x = Unit {0}
+
+-- the text of the job for a request
+abbrev pub job_for : Wanted → (script : List ℕ) → (fd : ℕ) → List ℕ
+job_for w script fd = job_text fd w.query script
+
+-- output was read, so many bytes, or its end was seen
+abbrev pub reading : (broken chunked : Bool) → (held : Following) → (frame : Option ℕ) → (agg len : ℕ) → Step
+reading broken chunked held frame a len = if len == 0 then Ended a held frame else hearing broken chunked held frame a len
+
+-- whether its next call has bytes of its own
+abbrev pub makes_bytes : Step → Bool
+makes_bytes (Makes fd) = true
+makes_bytes Heads = true
+makes_bytes (Sending d frame) = has_bytes d
+makes_bytes (Frames held) = true
+makes_bytes (Lasts held) = true
+makes_bytes s = false
+
+abbrev pub makes_any : Running → Bool
+makes_any (Runs run step) = makes_bytes step
+makes_any (Leaves d) = has_bytes d
+makes_any x = false
