@@ -26,6 +26,7 @@ pub mod RunParts
 pub mod RunQuiet
 pub mod RunTakes
 pub mod RunMoves
+pub mod RunReadsOn
 pub mod RunSteps
 pub mod RunOffering
 pub mod ScriptExamples

@@ -40,6 +40,7 @@ use Rattle.flash_laws.proofs.RunLeft.{is-rest, still-left}
 use Rattle.flash_laws.proofs.RunMoves.{moves}
 use Rattle.flash_laws.proofs.RunParts as parts
 use Rattle.flash_laws.proofs.RunParts.{no-position, continued, goes-on}
+use Rattle.flash_laws.proofs.RunReadsOn.{reads_on}
 use Rattle.flash_laws.proofs.RunStays.{run_stays, hired-on}
 use Rattle.flash_laws.proofs.RunTakes.{takes, breaks, fails, in_turn}
 use Rattle.flash_laws.proofs.RunSteps as acts
@@ -354,6 +355,7 @@ runs_offer steps own why may = λ job. record {
   reads = few-held job;
   hears = λ m n fd w o run held frame r order has step.
       (has.1.reads.0, has.1.reads.1, own.read_pipe m n server run.from has.1.reads.0 (CHUNK_BYTES - held_size held) r order has.1.reads.1 step);
+  reads_on = reads_on;
   opens = opened own job;
   gives = given steps own job;
   hands = λ m n fd w o run j f r order has step.

@@ -29,7 +29,7 @@ use Rattle.flash_laws.specs.declared.doing.Doing.TheVariants as doing
 use Rattle.flash_laws.specs.declared.running.TheConstants.{CHUNK_BYTES}
 use Rattle.flash_laws.specs.declared.running.Run.{Run}
 use Rattle.flash_laws.specs.declared.running.Step.{Step}
-use Rattle.flash_laws.specs.declared.running.Step.TheVariants.{Gives, Makes, Hands, Lets, Heads, Sending, Hears, Returns, Lapses, Fails}
+use Rattle.flash_laws.specs.declared.running.Step.TheVariants.{Gives, Makes, Hands, Lets, Heads, Sending, Hears, Ended, Unholds, Stops, Unframes, Lasts, WrapsLast, TrimsLast, Unwraps, Returns, Lapses, Fails}
 use Rattle.flash_laws.specs.declared.running.Running.{Running}
 use Rattle.flash_laws.specs.declared.running.Running.TheVariants.{Awaits, Runs, Leaves}
 
@@ -127,6 +127,26 @@ IsLost m (Runs run step) = (is_live m (worker_domain run.worker) ≡ false)
     ⊎ ((p : ℕ) × (descriptor m server (job_pipe run.worker) ≡ Some (on.WriteEnd p)) × ((pipe_at m p).reading ≡ false))
 IsLost m x = ⊥
 
+-- ---- until when it reads
+
+-- whether no more output is read
+abbrev pub is_stopping : Running → Bool
+is_stopping (Runs run (Ended a held frame)) = true
+is_stopping (Runs run (Unholds held frame)) = true
+is_stopping (Runs run (Stops held frame)) = true
+is_stopping (Runs run (Unframes frame held)) = true
+is_stopping (Runs run (Lasts held)) = true
+is_stopping (Runs run (WrapsLast held size frame)) = true
+is_stopping (Runs run (TrimsLast held chunk len frame)) = true
+is_stopping (Runs run (Unwraps frame chunk len)) = true
+is_stopping x = false
+
+-- the end of the output was read, or the server may not read it
+abbrev pub StopsBy : Running → Reply → (heard : List ℕ) → Type 0
+StopsBy (Runs run (Hears held frame)) (reply.Agg n) heard = heard ≡ []
+StopsBy (Runs run (Hears held frame)) (reply.Refused (no.Denied p)) heard = Unit {0}
+StopsBy x r heard = ⊥
+
 -- ---- in which order it hands the job over
 
 -- the pipe is given, the job made, written and let go, and the head made: each only once the call before it was done
@@ -193,6 +213,9 @@ pub record RunOffersTheResponse (job : ℕ → List ℕ) : Type 0 where
       → IsOrderly m → HasRun job m w o (Runs run (Hears held frame))
       → StepsTo m (event.Call server (wants job fd w (Runs run (Hears held frame)))) r n
       → (p : ℕ) × (descriptor m server run.from ≡ Some (on.ReadEnd p)) × ReadsPipe m server p (CHUNK_BYTES - held_size held) r n
+  -- it reads until then, also where nobody takes the response any more
+  pub reads_on : (worker : ℕ) (w : Wanted) (x : Running) (r : Reply) (heard : List ℕ) → is_stopping x ≡ false
+      → is_stopping (told worker w x r heard) ≡ true → StopsBy x r heard
   -- a run begins with a new pipe, in which nothing lies, and with the worker that it is given
   pub opens : (m n : State) (fd worker : ℕ) (w : Wanted) (from write : ℕ) (heard : List ℕ)
       → StepsTo m (event.Call server (wants job fd w Awaits)) (reply.Fds from write) n
