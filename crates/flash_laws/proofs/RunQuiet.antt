@@ -6,7 +6,7 @@ use Rattle.iol_core.specs.declared.events.Reply.{Reply}
 use Rattle.iol_core.specs.declared.events.Reply.TheVariants as reply
 use Rattle.flash_http.specs.Request.{Wanted}
 use Rattle.flash_laws.specs.Conn.{Following, count_of}
-use Rattle.flash_laws.specs.RunOffers.{taken_by, breaks_off, is_failing, ComesAfter}
+use Rattle.flash_laws.specs.RunOffers.{taken_by, breaks_off, is_failing, is_handing, ComesAfter}
 use Rattle.flash_laws.specs.Running.{both, is_again, told_gives, told_makes, told_hands, told_lets, told_heads, told_spills, told_gathers, told_frames, told_wraps, told_trims, told_ended, told_unholds, told_wraps_last, told_trims_last, told_returns, told_lapses, told_hears, told_stops, told_unframes, told_lasts, told_unwraps, told_fails, filled, holding, hearing, finishing, told_step}
 use Rattle.flash_laws.specs.declared.running.TheConstants.{CHUNK_BYTES}
 use Rattle.flash_laws.specs.declared.running.Run.{Run}
@@ -70,7 +70,7 @@ module _ (w : Wanted) (run : Run) where
   lets j r = (refl, λ b. inl b, λ z. absurd (cc (z)), inl refl)
 
   heads : (r : Reply) (heard : List ℕ) → Quiet run Heads r (Runs run (told_heads r heard))
-  heads (reply.Agg n) heard = (refl, λ b. absurd (cc (b)), λ z. absurd (cc (z)), inr tt)
+  heads (reply.Agg n) heard = (refl, λ b. absurd (cc (b)), λ z. absurd (cc (z)), inr refl)
   heads r heard = (refl, λ b. inl b, λ z. absurd (cc (z)), inl refl)
 
   holds : (s : Step) (r : Reply) (held size : ℕ) (frame : Option ℕ) → Quiet run s r (Runs run (holding held size frame))
@@ -81,15 +81,16 @@ module _ (w : Wanted) (run : Run) where
       by false None = (refl, λ b. inl b, λ z. absurd (cc (z)), inr tt)
       by false (Some f) = (refl, λ b. inl b, λ z. absurd (cc (z)), inr tt)
 
-  hearing-on : (s : Step) (r : Reply) (c d : Bool) (held : Following) (frame : Option ℕ) (a len : ℕ) → Quiet run s r (Runs run (hearing c d held frame a len))
-  hearing-on s r true d held frame a len = (refl, λ b. inl b, λ z. absurd (cc (z)), inr tt)
-  hearing-on s r false false held frame a len = (refl, λ b. absurd (cc (b)), λ z. absurd (cc (z)), inr tt)
-  hearing-on s r false true None frame a len = holds s r a len frame
-  hearing-on s r false true (Some x) frame a len = (refl, λ b. inl b, λ z. absurd (cc (z)), inr tt)
+  hearing-on : (s : Step) (r : Reply) (c d : Bool) (held : Following) (frame : Option ℕ) (a len : ℕ) → is_handing (Runs run s) ≡ false
+      → Quiet run s r (Runs run (hearing c d held frame a len))
+  hearing-on s r true d held frame a len handed = (refl, λ b. inl b, λ z. absurd (cc (z)), inr tt)
+  hearing-on s r false false held frame a len handed = (refl, λ b. absurd (cc (b)), λ z. absurd (cc (z)), inr handed)
+  hearing-on s r false true None frame a len handed = holds s r a len frame
+  hearing-on s r false true (Some x) frame a len handed = (refl, λ b. inl b, λ z. absurd (cc (z)), inr tt)
 
   hears : (held : Following) (frame : Option ℕ) (r : Reply) (heard : List ℕ) → Quiet run (Hears held frame) r (told_hears w run held frame r heard)
   hears held frame (reply.Agg n) [] = (refl, λ b. inl b, λ z. absurd (cc (z)), inr tt)
-  hears held frame (reply.Agg n) (b ∷ heard) = hearing-on (Hears held frame) (reply.Agg n) run.broken w.chunked held frame n (count_of (b ∷ heard))
+  hears held frame (reply.Agg n) (b ∷ heard) = hearing-on (Hears held frame) (reply.Agg n) run.broken w.chunked held frame n (count_of (b ∷ heard)) refl
   hears None frame (reply.Refused (no.Denied p)) heard = (refl, λ b. inr tt, λ z. absurd (cc (z)), inr tt)
   hears (Some x) frame (reply.Refused (no.Denied p)) heard = (refl, λ b. inr tt, λ z. absurd (cc (z)), inr tt)
   hears held frame r heard = (refl, λ b. inl b, λ z. absurd (cc (z)), inl refl)
@@ -111,7 +112,7 @@ module _ (w : Wanted) (run : Run) where
   wraps held frame r heard = (refl, λ b. inl b, λ z. absurd (cc (z)), inl refl)
 
   trims : (held chunk len frame : ℕ) (r : Reply) → Quiet run (Trims held chunk len frame) r (Runs run (told_trims held chunk len frame r))
-  trims held chunk len frame reply.Done = (refl, λ b. absurd (cc (b)), λ z. absurd (cc (z)), inr tt)
+  trims held chunk len frame reply.Done = (refl, λ b. absurd (cc (b)), λ z. absurd (cc (z)), inr refl)
   trims held chunk len frame r = (refl, λ b. inl b, λ z. absurd (cc (z)), inl refl)
 
   ended : (a : ℕ) (held : Following) (frame : Option ℕ) (r : Reply) → Quiet run (Ended a held frame) r (Runs run (told_ended a held frame r))

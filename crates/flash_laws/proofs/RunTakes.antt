@@ -409,5 +409,5 @@ in_turn worker w (Runs run (Sending d frame)) r heard = inr (by d r)
     by : (d : Doing) (r : Reply) → ComesAfter (Runs run (Sending d frame)) r (told_sending run d frame r)
     by (doing.Sent a taken None) reply.Done = tt
     by (doing.Drops a None) reply.Done = tt
-    by d r = tt
+    by d r = refl
 in_turn worker w (Runs run s) r heard = (quiet w run s r heard refl).3

@@ -149,12 +149,23 @@ StopsBy x r heard = ⊥
 
 -- ---- in which order it hands the job over
 
--- the pipe is given, the job made, written and let go, and the head made: each only once the call before it was done
+-- whether its job is not yet handed over
+abbrev pub is_handing : Running → Bool
+is_handing Awaits = true
+is_handing (Runs run (Gives write)) = true
+is_handing (Runs run (Makes f)) = true
+is_handing (Runs run (Hands j f)) = true
+is_handing (Runs run (Lets j)) = true
+is_handing x = false
+
+-- the pipe is given, the job made, written and let go, and the head made: each only once the call before it was done; and nothing of
+-- the response is sent before
 abbrev pub ComesAfter : Running → Reply → Running → Type 0
 ComesAfter x r (Runs run (Makes f)) = (write : ℕ) × (x ≡ Runs run (Gives write)) × (r ≡ reply.Fd f)
 ComesAfter x r (Runs run (Hands j f)) = (x ≡ Runs run (Makes f)) × (r ≡ reply.Agg j)
 ComesAfter x r (Runs run (Lets j)) = (f : ℕ) × (k : ℕ) × (x ≡ Runs run (Hands j f)) × (r ≡ reply.Count k)
 ComesAfter x r (Runs run Heads) = (j : ℕ) × (x ≡ Runs run (Lets j)) × (r ≡ reply.Done)
+ComesAfter x r (Runs run (Sending d frame)) = is_handing x ≡ false
 ComesAfter x r y = Unit {0}
 
 -- whether a call with this reply may be made again: it was refused, but not because nobody takes what it writes
@@ -235,7 +246,7 @@ pub record RunOffersTheResponse (job : ℕ → List ℕ) : Type 0 where
       → HasRun job m w o (Runs run (Hands j f))
       → StepsTo m (event.Call server (wants job fd w (Runs run (Hands j f)))) r n
       → (p : ℕ) × (descriptor m server (job_pipe run.worker) ≡ Some (on.WriteEnd p)) × WritesPipe m p (job f) r n
-  -- and nothing of the response is made before that
+  -- and nothing of the response is made or sent before that
   pub in_turn : (worker : ℕ) (w : Wanted) (x : Running) (r : Reply) (heard : List ℕ)
       → (told worker w x r heard ≡ x) ⊎ ComesAfter x r (told worker w x r heard)
   -- a run keeps its worker as long as it runs
