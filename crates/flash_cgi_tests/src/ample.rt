@@ -1,4 +1,5 @@
 //! With memory enough no call is refused for want of it; and which texts are scripts.
+use crate::checks::{pass, pass_all};
 use flash_cgi::jobs::{Job, job_text};
 use flash_cgi::saying::{Counts, Said};
 use flash_cgi::script::Script;
@@ -7,62 +8,121 @@ use iol_core::refusals::Refusal;
 use std::alloc::{AllocError, Global};
 use std::test::Fail;
 
-// Whether each text is a script, or none is.
-fn are_scripts(alloc: Global, texts: &[&[u8]], wanted: bool) -> Result<bool, AllocError> {
-    for text in texts {
-        if Script::read(alloc, text)?.is_some() != wanted {
-            return Ok(false);
+// Texts, and whether they are scripts.
+const TEXTS: [(&[u8], bool); 12] = [
+    (b"", true),
+    (b"emit\nemit \nemit  a\nquery\npause\ncat f\nwc f", true),
+    (b"cat  f\nwc /\xc3\xa4", true),
+    (b"jump", false),
+    (b"Emit a", false),
+    (b" emit a", false),
+    (b"emitter", false),
+    (b"query ", false),
+    (b"cat", false),
+    (b"cat ", false),
+    (b"wc ", false),
+    (b"emit \xff", false),
+];
+
+// So many empty lines, or a file's name of so many bytes, and whether they are a script.
+const LINES: [(usize, bool); 2] = [(32_768, true), (32_769, false)];
+
+const NAMES: [(usize, bool); 2] = [(255, true), (256, false)];
+
+fn is_script(alloc: Global, text: &[u8]) -> Result<bool, AllocError> {
+    let script = Script::read(alloc, text)?;
+    Ok(script.is_some())
+}
+
+// How many texts are scripts, or are none, as the rows say, up to the first that is not.
+fn texts_held(alloc: Global) -> Result<usize, Refusal> {
+    let mut held = 0usize;
+    for (text, wanted) in TEXTS {
+        if is_script(alloc, text)? != wanted {
+            return Ok(held);
         }
+        held = held.saturating_add(1);
     }
-    Ok(true)
+    Ok(held)
 }
 
 #[test]
 fn which_texts_are_scripts(rt: HostRuntime) -> Result<(), Fail> {
-    let mut long = vec![in rt.alloc(); b'\n'; 32_768]?;
-    let mut name = vec![in rt.alloc(); b'x'; 259]?;
-    name.as_mut_slice()[..4].copy_from_slice(b"cat ".as_slice());
-    let good = [
-        b"".as_slice(),
-        b"emit\nemit \nemit  a\nquery\npause\ncat f\nwc f".as_slice(),
-        b"cat  f\nwc /\xc3\xa4".as_slice(),
-        long.as_slice(),
-        name.as_slice(),
-    ];
-    assert!(rt; are_scripts(rt.alloc(), good.as_slice(), true)?);
-    let bad = [
-        b"jump".as_slice(),
-        b"Emit a".as_slice(),
-        b" emit a".as_slice(),
-        b"emitter".as_slice(),
-        b"query ".as_slice(),
-        b"cat".as_slice(),
-        b"cat ".as_slice(),
-        b"wc ".as_slice(),
-        b"emit \xff".as_slice(),
-    ];
-    assert!(rt; are_scripts(rt.alloc(), bad.as_slice(), false)?);
-    long.push(b'\n')?;
-    name.push(b'x')?;
-    let too_long = [long.as_slice(), name.as_slice()];
-    assert!(rt; are_scripts(rt.alloc(), too_long.as_slice(), false)?);
-    Ok(())
+    pass_all(texts_held(rt.alloc()), TEXTS.len())
+}
+
+fn lines(alloc: Global, count: usize) -> Result<Vec<u8>, AllocError> {
+    let lines = vec![in alloc; b'\n'; count]?;
+    Ok(lines)
+}
+
+fn lines_held(alloc: Global) -> Result<usize, Refusal> {
+    let mut held = 0usize;
+    for (count, wanted) in LINES {
+        if is_script(alloc, &lines(alloc, count)?)? != wanted {
+            return Ok(held);
+        }
+        held = held.saturating_add(1);
+    }
+    Ok(held)
+}
+
+#[test]
+fn as_many_lines_as_may_be(rt: HostRuntime) -> Result<(), Fail> {
+    pass_all(lines_held(rt.alloc()), LINES.len())
+}
+
+fn cat(alloc: Global, count: usize) -> Result<Vec<u8>, AllocError> {
+    let mut line = Vec::from_slice(alloc, b"cat ")?;
+    for _ in 0..count {
+        line.push(b'x')?;
+    }
+    Ok(line)
+}
+
+fn names_held(alloc: Global) -> Result<usize, Refusal> {
+    let mut held = 0usize;
+    for (count, wanted) in NAMES {
+        if is_script(alloc, &cat(alloc, count)?)? != wanted {
+            return Ok(held);
+        }
+        held = held.saturating_add(1);
+    }
+    Ok(held)
+}
+
+#[test]
+fn names_as_long_as_may_be(rt: HostRuntime) -> Result<(), Fail> {
+    pass_all(names_held(rt.alloc()), NAMES.len())
+}
+
+fn writes_job(alloc: Global) -> Result<bool, AllocError> {
+    let text = job_text(alloc, Fd::new(7), b"q", b"emit a")?;
+    Ok(text.as_slice() == b"7 1 6\nqemit a".as_slice())
+}
+
+fn is_job(alloc: Global, text: &[u8]) -> Result<bool, AllocError> {
+    let job = Job::read(alloc, text)?;
+    Ok(job.is_some())
+}
+
+fn says(alloc: Global, said: Said, text: &[u8]) -> Result<bool, AllocError> {
+    let said = said.text(alloc)?;
+    Ok(said.as_slice() == text)
+}
+
+fn all_hold(alloc: Global) -> Result<bool, Refusal> {
+    let counts = Counts { lines: 1, bytes: 3 };
+    Ok(
+        writes_job(alloc)?
+            && is_job(alloc, b"7 1 6\nqemit a")?
+            && !is_job(alloc, b"7 1 7\nqemit a")?
+            && says(alloc, Said::Refused(Refusal::NoFile), b"[NoFile]\n")?
+            && says(alloc, Said::Counted(counts), b"1 3\n")?,
+    )
 }
 
 #[test]
 fn ample(rt: HostRuntime) -> Result<(), Fail> {
-    let text = job_text(
-        rt.alloc(),
-        Fd::new(7),
-        b"q".as_slice(),
-        b"emit a".as_slice(),
-    )?;
-    assert_eq!(rt; text.as_slice(), b"7 1 6\nqemit a".as_slice());
-    assert!(rt; Job::read(rt.alloc(), text.as_slice())?.is_some());
-    assert!(rt; Job::read(rt.alloc(), b"7 1 7\nqemit a".as_slice())?.is_none());
-    let refused = Said::Refused(Refusal::NoFile).text(rt.alloc())?;
-    assert_eq!(rt; refused.as_slice(), b"[NoFile]\n".as_slice());
-    let counted = Said::Counted(Counts { lines: 1, bytes: 3 }).text(rt.alloc())?;
-    assert_eq!(rt; counted.as_slice(), b"1 3\n".as_slice());
-    Ok(())
+    pass(all_hold(rt.alloc()))
 }

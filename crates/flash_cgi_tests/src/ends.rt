@@ -1,8 +1,10 @@
 //! Scripts that nobody reads, jobs that are none, and the end of the job pipe.
+use crate::checks::pass;
 use crate::rows::{OUTPUT, close, give, is_put_out, job_of};
 use crate::stage::{Stage, stage_of};
 use iol_core::events::{Call, Reply};
 use iol_core::lists::Bytes;
+use iol_core::refusals::Refusal;
 use std::alloc::Global;
 use std::test::Fail;
 
@@ -24,17 +26,18 @@ fn goes_on(stage: &mut Stage, unread: Bytes, next: Bytes) -> bool {
         && has_free(stage, OUTPUT)
 }
 
-fn ends_unread(alloc: Global) -> Result<bool, Fail> {
+fn ends_unread(alloc: Global) -> Result<bool, Refusal> {
     let unread = job_of(alloc, OUTPUT, "", "emit a\nquery\nemit b")?;
     let next = job_of(alloc, OUTPUT, "x", "query")?;
-    let mut stage = stage_of(alloc, [].as_slice())?;
-    Ok(goes_on(&mut stage, unread, next) && !stage.is_rough())
+    let mut stage = stage_of(alloc, &[])?;
+    let is_well = goes_on(&mut stage, unread, next) && !stage.is_rough();
+    drop(stage);
+    Ok(is_well)
 }
 
 #[test]
 fn broken_pipe_ends_the_script(rt: HostRuntime) -> Result<(), Fail> {
-    assert!(rt; ends_unread(rt.alloc())?);
-    Ok(())
+    pass(ends_unread(rt.alloc()))
 }
 
 // What is no job is dropped, and what it gave the worker is left there.
@@ -46,18 +49,23 @@ fn passes_over(stage: &mut Stage, none: Bytes, next: Bytes) -> bool {
         && is_put_out(stage, b"x\n")
 }
 
-fn drops_no_job(alloc: Global, script: &str) -> Result<bool, Fail> {
+fn drops_no_job(alloc: Global, script: &str) -> Result<bool, Refusal> {
     let none = job_of(alloc, OUTPUT, "", script)?;
     let next = job_of(alloc, OUTPUT + 1, "x", "query")?;
-    let mut stage = stage_of(alloc, [].as_slice())?;
-    Ok(passes_over(&mut stage, none, next))
+    let mut stage = stage_of(alloc, &[])?;
+    let is_well = passes_over(&mut stage, none, next);
+    drop(stage);
+    Ok(is_well)
 }
 
 #[test]
 fn what_is_no_job_is_dropped(rt: HostRuntime) -> Result<(), Fail> {
-    assert!(rt; drops_no_job(rt.alloc(), "jump")?);
-    assert!(rt; drops_no_job(rt.alloc(), "emit a\ncat ")?);
-    Ok(())
+    pass(drops_no_job(rt.alloc(), "jump"))
+}
+
+#[test]
+fn what_begins_as_a_job_is_dropped(rt: HostRuntime) -> Result<(), Fail> {
+    pass(drops_no_job(rt.alloc(), "emit a\ncat "))
 }
 
 // The job pipe ends behind a job: the job is run, and then the worker makes no more calls.
@@ -69,14 +77,15 @@ fn stops(stage: &mut Stage, job: Bytes) -> bool {
         && has_free(stage, OUTPUT)
 }
 
-fn stops_at_the_end(alloc: Global) -> Result<bool, Fail> {
+fn stops_at_the_end(alloc: Global) -> Result<bool, Refusal> {
     let job = job_of(alloc, OUTPUT, "x", "query")?;
-    let mut stage = stage_of(alloc, [].as_slice())?;
-    Ok(stops(&mut stage, job) && !stage.is_rough())
+    let mut stage = stage_of(alloc, &[])?;
+    let is_well = stops(&mut stage, job) && !stage.is_rough();
+    drop(stage);
+    Ok(is_well)
 }
 
 #[test]
 fn job_pipe_ends(rt: HostRuntime) -> Result<(), Fail> {
-    assert!(rt; stops_at_the_end(rt.alloc())?);
-    Ok(())
+    pass(stops_at_the_end(rt.alloc()))
 }

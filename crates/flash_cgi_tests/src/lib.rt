@@ -6,6 +6,8 @@
 #[cfg(test)]
 mod ample;
 #[cfg(test)]
+mod checks;
+#[cfg(test)]
 mod ends;
 #[cfg(test)]
 mod outputs;

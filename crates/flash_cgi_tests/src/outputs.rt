@@ -1,6 +1,9 @@
 //! What scripts put out.
+use crate::checks::pass_all;
 use crate::rows::{Row, held};
 use crate::stage::Kept;
+use iol_core::refusals::Refusal;
+use std::alloc::Global;
 use std::test::Fail;
 
 // A file for all, and one of the guest's.
@@ -32,16 +35,11 @@ const ROWS: [Row<'static>; 10] = [
 
 #[test]
 fn outcomes_of_a_script(rt: HostRuntime) -> Result<(), Fail> {
-    let (files, rows) = (FILES, ROWS);
-    assert_eq!(rt; held(rt.alloc(), files.as_slice(), rows.as_slice())?, 10);
-    Ok(())
+    pass_all(held(rt.alloc(), &FILES, &ROWS), ROWS.len())
 }
 
 // Files of no bytes, of as many as a pipe holds, and of more, which go in pieces.
-#[test]
-fn files_of_several_sizes(rt: HostRuntime) -> Result<(), Fail> {
-    let full = vec![in rt.alloc(); b'z'; 65536]?;
-    let more = vec![in rt.alloc(); b'\n'; 100_000]?;
+fn sizes_held<'a>(alloc: Global, full: &'a [u8], more: &'a [u8]) -> Result<usize, Refusal> {
     let files = [
         Kept {
             name: "none",
@@ -50,25 +48,28 @@ fn files_of_several_sizes(rt: HostRuntime) -> Result<(), Fail> {
         },
         Kept {
             name: "full",
-            bytes: full.as_slice(),
+            bytes: full,
             private: false,
         },
         Kept {
             name: "more",
-            bytes: more.as_slice(),
+            bytes: more,
             private: false,
         },
     ];
+    let counts = b"0 0\n0 65536\n100000 100000\n".as_slice();
     let rows = [
         ("cat none", "", b"".as_slice()),
-        ("cat full", "", full.as_slice()),
-        ("cat more", "", more.as_slice()),
-        (
-            "wc none\nwc full\nwc more",
-            "",
-            b"0 0\n0 65536\n100000 100000\n".as_slice(),
-        ),
+        ("cat full", "", full),
+        ("cat more", "", more),
+        ("wc none\nwc full\nwc more", "", counts),
     ];
-    assert_eq!(rt; held(rt.alloc(), files.as_slice(), rows.as_slice())?, 4);
-    Ok(())
+    held(alloc, &files, &rows)
+}
+
+#[test]
+fn files_of_several_sizes(rt: HostRuntime) -> Result<(), Fail> {
+    let full = vec![in rt.alloc(); b'z'; 65_536]?;
+    let more = vec![in rt.alloc(); b'\n'; 100_000]?;
+    pass_all(sizes_held(rt.alloc(), &full, &more), 4)
 }

@@ -4,8 +4,8 @@ use flash_cgi::jobs::job_text;
 use iol_core::events::{Call, Reply};
 use iol_core::lists::Bytes;
 use iol_core::numbers::{DomainId, Fd};
+use iol_core::refusals::Refusal;
 use std::alloc::{AllocError, Global};
-use std::test::Fail;
 
 /// A script, the query, and what is put out.
 pub type Row<'a> = (&'a str, &'a str, &'a [u8]);
@@ -87,12 +87,19 @@ fn count_held(stage: &mut Stage, jobs: Vec<Bytes>, rows: &[Row<'_>]) -> u32 {
     held
 }
 
-/// How many rows hold with these files, run one after another by one worker, up to the first that does not.
-pub fn held(alloc: Global, files: &[Kept<'_>], rows: &[Row<'_>]) -> Result<usize, Fail> {
+fn jobs_of(alloc: Global, rows: &[Row<'_>]) -> Result<Vec<Bytes>, AllocError> {
     let mut jobs = Vec::new(alloc);
     for (script, query, _) in rows {
         jobs.push(job_of(alloc, OUTPUT, query, script)?)?;
     }
+    Ok(jobs)
+}
+
+/// How many rows hold with these files, run one after another by one worker, up to the first that does not.
+pub fn held(alloc: Global, files: &[Kept<'_>], rows: &[Row<'_>]) -> Result<usize, Refusal> {
+    let jobs = jobs_of(alloc, rows)?;
     let mut stage = stage_of(alloc, files)?;
-    Ok(count_held(&mut stage, jobs, rows) as usize)
+    let count = count_held(&mut stage, jobs, rows);
+    drop(stage);
+    Ok(count as usize)
 }

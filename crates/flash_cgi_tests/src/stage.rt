@@ -14,7 +14,6 @@ use iol_proc::world::World;
 use iol_system::system::System;
 use std::alloc::{AllocError, Global};
 use std::marker::Model;
-use std::test::Fail;
 
 type Store = MemoryBacking;
 
@@ -128,6 +127,18 @@ fn begin(system: &mut System<Store>, events: &[Event]) -> Result<(), Refusal> {
     Ok(())
 }
 
+// A system that has carried out these events.
+fn begun(alloc: Global, store: Store, events: &[Event]) -> Result<System<Store>, Refusal> {
+    let mut system = new_system(alloc, store)?;
+    match begin(&mut system, events) {
+        Ok(()) => Ok(system),
+        Err(refusal) => {
+            drop(system);
+            Err(refusal)
+        }
+    }
+}
+
 fn worker_of(alloc: Global) -> Result<Vec<(DomainId, Worker)>, AllocError>
     ensures { IfOk result (λ ps. map (λ p. p.0) ps.items ≡ 2 ∷ []) }
 {
@@ -148,12 +159,10 @@ fn stage_with(
 }
 
 /// The world of a worker that waits for its first job, with files.
-pub fn stage_of(alloc: Global, files: &[Kept<'_>]) -> Result<Stage, Fail> {
+pub fn stage_of(alloc: Global, files: &[Kept<'_>]) -> Result<Stage, Refusal> {
     let store = store_of(alloc, files)?;
     let events = beginnings(alloc, files)?;
     let processes = worker_of(alloc)?;
-    let mut system = new_system(alloc, store)?;
-    begin(&mut system, events.as_slice())?;
-    let stage = stage_with(alloc, system, processes)?;
-    Ok(stage)
+    let system = begun(alloc, store, &events)?;
+    Ok(stage_with(alloc, system, processes)?)
 }
