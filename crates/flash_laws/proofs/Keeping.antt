@@ -36,6 +36,7 @@ use Rattle.flash_laws.specs.Fits.{Has}
 use Rattle.flash_laws.specs.Keeping.{KeepsNothing}
 use Rattle.flash_laws.specs.Site.{server}
 use Rattle.flash_laws.proofs.Lists.{clash, later_of}
+use Rattle.flash_laws.proofs.Moving.{conn-opened}
 use Rattle.flash_laws.proofs.Uses.{same-number}
 
 abbrev at : List ℕ → Answer → Doing → Conn
@@ -328,6 +329,7 @@ module _ (come : AggregatesComeAndGo) (own : CallsServeTheirDomain) (files : Fil
 pub keeps_nothing : AggregatesComeAndGo → CallsServeTheirDomain → FileCallsServeTheirDomain → KeepsNothing
 keeps_nothing come own files = record {
   brought = λ m n fd c x o r heard bytes a order access lives open_on has step before after. brought come own files m n order a bytes before after x.kept fd c x.q x.doing (response x.q o) r heard access lives open_on has step;
+  opened = conn-opened;
   left = λ m n fd x r heard a order step u unused.
       let gives = leaves-told fd x.kept x.q x.doing r heard a u unused in
       come.gone m n (event.Call server (wants fd x)) r server a order step gives.0 gives.1;

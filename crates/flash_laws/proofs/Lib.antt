@@ -15,6 +15,8 @@ pub mod Worlds
 pub mod Settling
 pub mod Idling
 pub mod Hosting
+pub mod Repeats
+pub mod Moving
 pub mod Offering
 pub mod Keeping
 pub mod Witness

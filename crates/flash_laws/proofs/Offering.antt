@@ -32,6 +32,7 @@ use Rattle.flash_laws.proofs.Answering.{some-inj}
 use Rattle.flash_laws.proofs.Counts.{counted, short-take}
 use Rattle.flash_laws.proofs.Having as having
 use Rattle.flash_laws.proofs.Lent.{lent-stays, has-stays}
+use Rattle.flash_laws.proofs.Moving.{conn-moves}
 
 abbrev at : List ℕ → Answer → Doing → Conn
 at kept q d = record { kept = kept; q = q; doing = d }
@@ -173,4 +174,5 @@ offers_the_response steps own files = record {
   replied = λ m n fd c x r heard before order access lives open_on open_yet has step names. replied steps own files m n order lives x.kept fd c x.q x.doing r heard before access open_on open_yet has step names;
   stays = λ m n x e r o step aggs fds has. has-stays m n x.q (response x.q o) x.doing (λ a l u lent. lent-stays steps m n e r step a l lent (aggs a u)) (λ g y u opens. (steps.leaves m n e r step).fds server g y opens (fds g u)) has;
   offers = λ m fd a x o has is. next-of m fd a x.kept x.q x.doing o has is;
+  moves = conn-moves;
 }

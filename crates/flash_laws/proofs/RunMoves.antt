@@ -1,10 +1,9 @@
 -- A call of a run that was done is not made again.
-use Rattle.std.proofs.Common.{◌≡◌, ℕ, ◌+◌, ◌-◌, ◌≤◌, List, [], ◌∷◌, length, ap, refl, Option, Some, None, true, false, Bool, if◌then◌else◌}
+use Rattle.std.proofs.Common.{◌≡◌, ℕ, ◌+◌, ◌-◌, ◌≤◌, List, [], ◌∷◌, length, ap, Option, Some, None, true, false, Bool, if◌then◌else◌}
 use Rattle.std.specs.Prelude.{nat_lt}
 use Rattle.iol_core.specs.State.{State}
 use Rattle.iol_core.specs.Run.{StepsTo}
 use Rattle.iol_core.specs.declared.refusals.Refusal.TheVariants as no
-use Rattle.iol_core.specs.declared.events.Call.TheVariants as call
 use Rattle.iol_core.specs.declared.events.Event.TheVariants as event
 use Rattle.iol_core.specs.declared.events.Reply.{Reply}
 use Rattle.iol_core.specs.declared.events.Reply.TheVariants as reply
@@ -12,7 +11,7 @@ use Rattle.flash_http.specs.Request.{serve, Wanted}
 use Rattle.flash_laws.specs.Conn as conn
 use Rattle.flash_laws.specs.Conn.{Following, count_of, piece_end}
 use Rattle.flash_laws.specs.RunFits.{Progress, sent_agg, IsPart, taken_of, IsSending, HasRun}
-use Rattle.flash_laws.specs.RunOffers.{may_repeat}
+use Rattle.flash_laws.specs.Offers.{may_repeat}
 use Rattle.flash_laws.specs.Running.{both, worker_domain, job_pipe, held_size, in_phase, step_wants, wants, told_gives, told_makes, told_hands, told_lets, told_heads, told_sending, told_spills, told_gathers, told_frames, told_wraps, told_trims, told_ended, told_unholds, told_wraps_last, told_trims_last, told_returns, told_lapses, told_hears, told_stops, told_unframes, told_lasts, told_unwraps, told_fails, filled, holding, hearing, finishing, stopped, ending, told_step, told, is_left, is_over}
 use Rattle.flash_laws.specs.Scripts.{script_text, frame_of, place_in_frame, end_around}
 use Rattle.flash_laws.specs.Site.{server}
@@ -25,6 +24,7 @@ use Rattle.flash_laws.specs.declared.running.Step.{Step}
 use Rattle.flash_laws.specs.declared.running.Step.TheVariants.{Gives, Makes, Hands, Lets, Heads, Sending, Hears, Spills, Gathers, Frames, Wraps, Trims, Ended, Unholds, Stops, Unframes, Lasts, WrapsLast, TrimsLast, Unwraps, Returns, Lapses, Fails}
 use Rattle.flash_laws.specs.declared.running.Running.{Running}
 use Rattle.flash_laws.specs.declared.running.Running.TheVariants.{Awaits, Runs, Leaves, Closes}
+use Rattle.flash_laws.proofs.Repeats.{either, drops, closes, makes, cuts, joins, replaces, reads, gives, writes, pipes}
 use Rattle.flash_laws.proofs.RunLeft.{is-rest, still-left}
 
 -- the phase of what is sent
@@ -33,72 +33,7 @@ doing_of (Runs run (Sending d frame)) = d
 doing_of (Leaves d) = d
 doing_of x = doing.Over
 
-module _ (m n : State) {A : Type 0} (x : A) (y : Reply → A) where
-  -- each call is answered in one way, and where that is not x it was refused
-  drops : (a : ℕ) (r : Reply) → StepsTo m (event.Call server (call.AggDrop a)) r n → (y reply.Done ≡ x → ⊥) → y r ≡ x → may_repeat (call.AggDrop a) r ≡ true
-  drops a reply.Done step differs same = absurd (differs same)
-  drops a (reply.Refused z) step differs same = refl
-  drops a r step differs same = let e = step.1 in absurd (cc (e))
-
-  closes : (g : ℕ) (r : Reply) → StepsTo m (event.Call server (call.Close g)) r n → (y reply.Done ≡ x → ⊥) → y r ≡ x → may_repeat (call.Close g) r ≡ true
-  closes g reply.Done step differs same = absurd (differs same)
-  closes g (reply.Refused z) step differs same = refl
-  closes g r step differs same = let e = step.1 in absurd (cc (e))
-
-  makes : (bytes : List ℕ) (r : Reply) → StepsTo m (event.Call server (call.AggMake bytes)) r n → ((k : ℕ) → y (reply.Agg k) ≡ x → ⊥) → y r ≡ x
-      → may_repeat (call.AggMake bytes) r ≡ true
-  makes bytes (reply.Agg k) step differs same = absurd (differs k same)
-  makes bytes (reply.Refused z) step differs same = refl
-  makes bytes r step differs same = let e = step.1 in absurd (cc (e))
-
-  cuts : (a from to : ℕ) (r : Reply) → StepsTo m (event.Call server (call.AggCut a from to)) r n → ((k : ℕ) → y (reply.Agg k) ≡ x → ⊥) → y r ≡ x
-      → may_repeat (call.AggCut a from to) r ≡ true
-  cuts a from to (reply.Agg k) step differs same = absurd (differs k same)
-  cuts a from to (reply.Refused z) step differs same = refl
-  cuts a from to r step differs same = let e = step.1 in absurd (cc (e))
-
-  joins : (a b : ℕ) (r : Reply) → StepsTo m (event.Call server (call.AggJoin a b)) r n → ((k : ℕ) → y (reply.Agg k) ≡ x → ⊥) → y r ≡ x
-      → may_repeat (call.AggJoin a b) r ≡ true
-  joins a b (reply.Agg k) step differs same = absurd (differs k same)
-  joins a b (reply.Refused z) step differs same = refl
-  joins a b r step differs same = let e = step.1 in absurd (cc (e))
-
-  replaces : (a from to b : ℕ) (r : Reply) → StepsTo m (event.Call server (call.AggReplace a from to b)) r n → ((k : ℕ) → y (reply.Agg k) ≡ x → ⊥) → y r ≡ x
-      → may_repeat (call.AggReplace a from to b) r ≡ true
-  replaces a from to b (reply.Agg k) step differs same = absurd (differs k same)
-  replaces a from to b (reply.Refused z) step differs same = refl
-  replaces a from to b r step differs same = let e = step.1 in absurd (cc (e))
-
-  reads : (g count : ℕ) (r : Reply) → StepsTo m (event.Call server (call.IolRead g count)) r n → ((k : ℕ) → y (reply.Agg k) ≡ x → ⊥) → y r ≡ x
-      → may_repeat (call.IolRead g count) r ≡ true
-  reads g count (reply.Agg k) step differs same = absurd (differs k same)
-  reads g count (reply.Refused z) step differs same = refl
-  reads g count r step differs same = let e = step.1 in absurd (cc (e))
-
-  gives : (g to : ℕ) (r : Reply) → StepsTo m (event.Call server (call.GiveFd g to)) r n → ((k : ℕ) → y (reply.Fd k) ≡ x → ⊥) → y r ≡ x
-      → may_repeat (call.GiveFd g to) r ≡ true
-  gives g to (reply.Fd k) step differs same = absurd (differs k same)
-  gives g to (reply.Refused z) step differs same = refl
-  gives g to r step differs same = let e = step.1 in absurd (cc (e))
-
-  writes : (g a : ℕ) (r : Reply) → StepsTo m (event.Call server (call.IolWrite g a)) r n → ((k : ℕ) → y (reply.Count k) ≡ x → ⊥)
-      → (y (reply.Refused no.BrokenPipe) ≡ x → ⊥) → y r ≡ x → may_repeat (call.IolWrite g a) r ≡ true
-  writes g a (reply.Count k) step differs broken same = absurd (differs k same)
-  writes g a (reply.Refused no.BrokenPipe) step differs broken same = absurd (broken same)
-  writes g a (reply.Refused z) step differs broken same = refl
-  writes g a r step differs broken same = let e = step.1 in absurd (cc (e))
-
-  pipes : (r : Reply) → StepsTo m (event.Call server call.Pipe) r n → ((k l : ℕ) → y (reply.Fds k l) ≡ x → ⊥) → y r ≡ x → may_repeat call.Pipe r ≡ true
-  pipes (reply.Fds k l) step differs same = absurd (differs k l same)
-  pipes (reply.Refused z) step differs same = refl
-  pipes r step differs same = let e = step.1 in absurd (cc (e))
-
 -- ---- a part, or what is left
-
--- one of two, and neither is this
-either : (b : Bool) (d e f : Doing) → (d ≡ f → ⊥) → (e ≡ f → ⊥) → (if b then d else e) ≡ f → ⊥
-either true d e f one two same = one same
-either false d e f one two same = two same
 
 phase : (m n : State) (w : Wanted) (fd : ℕ) (due : List ℕ) (d : Doing) (r : Reply) (heard : List ℕ) → IsSending m due d
     → StepsTo m (event.Call server (conn.wants fd (in_phase w d))) r n → (conn.told (in_phase w d) r heard).doing ≡ d

@@ -9,6 +9,7 @@ use Rattle.iol_core.specs.Run.{StepsTo}
 use Rattle.iol_core.specs.declared.descriptors.Descriptor.TheVariants as on
 use Rattle.iol_core.specs.declared.events.Event.TheVariants as event
 use Rattle.iol_core.specs.declared.events.Reply.{Reply}
+use Rattle.iol_core.specs.declared.events.Reply.TheVariants as reply
 use Rattle.iol_laws.specs.Caller.{lent_at}
 use Rattle.iol_laws.specs.Order.{IsOrderly}
 use Rattle.flash_laws.specs.Answers.{Outcome}
@@ -22,7 +23,10 @@ pub record KeepsNothing : Type 0 where
       → IsOrderly m → HasAccess m → is_live m server ≡ true → descriptor m server fd ≡ Some (on.Connection c)
       → HasAnswer m x o → StepsTo m (event.Call server (wants fd x)) r n
       → lent_at m server a ≡ None → lent_at n server a ≡ Some bytes → uses_agg (told x r heard).doing a ≡ true
-  -- one that it uses no more is gone
+  -- a descriptor that comes by one is used by it
+  pub opened : (m n : State) (fd f : ℕ) (x : Conn) (heard : List ℕ) → StepsTo m (event.Call server (wants fd x)) (reply.Fd f) n
+      → uses_fd (told x (reply.Fd f) heard).doing f ≡ true
+  -- an aggregate that it uses no more is gone
   pub left : (m n : State) (fd : ℕ) (x : Conn) (r : Reply) (heard : List ℕ) (a : ℕ) → IsOrderly m
       → StepsTo m (event.Call server (wants fd x)) r n
       → uses_agg x.doing a ≡ true → uses_agg (told x r heard).doing a ≡ false → lent_at n server a ≡ None

@@ -2,13 +2,14 @@
 --
 -- It is said of each step, calm or not: what the machine has of a response it goes on having, unless somebody gives up or moves
 -- what the connection uses. That over a whole run nobody does is not said here.
-use Rattle.std.specs.Prelude.{◌≡◌, ℕ, true, false, List, ◌++◌, length, drop, Some}
+use Rattle.std.specs.Prelude.{◌≡◌, ℕ, Bool, true, false, List, ◌++◌, length, drop, Some}
 use Rattle.iol_core.specs.Access.{HasAccess}
 use Rattle.iol_core.specs.State.{State, descriptor, is_live}
 use Rattle.iol_core.specs.Run.{StepsTo}
 use Rattle.iol_core.specs.Values.{gives_up}
 use Rattle.iol_core.specs.declared.descriptors.Descriptor.TheVariants as on
 use Rattle.iol_core.specs.declared.descriptors.Mode.TheVariants as modes
+use Rattle.iol_core.specs.declared.refusals.Refusal.TheVariants as no
 use Rattle.iol_core.specs.declared.events.Call.{Call}
 use Rattle.iol_core.specs.declared.events.Call.TheVariants as call
 use Rattle.iol_core.specs.declared.events.Event.{Event}
@@ -61,6 +62,12 @@ pub record IsNextOf (m : State) (q : Answer) (o : Outcome) (a taken : ℕ) : Typ
   pub lends : lent_at m server a ≡ Some bytes
   pub next : bytes ++ after ≡ drop taken (response q o)
 
+-- whether a call with this reply may be made again: it was refused, but not because nobody takes what it writes
+abbrev pub may_repeat : Call → Reply → Bool
+may_repeat (call.IolWrite fd a) (reply.Refused no.BrokenPipe) = false
+may_repeat k (reply.Refused x) = true
+may_repeat k r = false
+
 pub record OffersTheResponse : Type 0 where
   -- a request begins so, with nothing needed yet
   pub starts : (m : State) (fd : ℕ) (kept : List ℕ) (q : Answer) (o : Outcome)
@@ -82,3 +89,6 @@ pub record OffersTheResponse : Type 0 where
   pub offers : (m : State) (fd a : ℕ) (x : Conn) (o : Outcome) → HasAnswer m x o
       → wants fd x ≡ call.IolWrite fd a
       → IsNextOf m x.q o a (taken_of x.doing)
+  -- a call that was done is not made again
+  pub moves : (m n : State) (fd : ℕ) (x : Conn) (r : Reply) (heard : List ℕ) → is_closing x.doing ≡ false
+      → StepsTo m (event.Call server (wants fd x)) r n → told x r heard ≡ x → may_repeat (wants fd x) r ≡ true

@@ -21,6 +21,7 @@ use Rattle.iol_laws.specs.Order.{IsOrderly}
 use Rattle.iol_laws.specs.Reasons.{IsHidden}
 use Rattle.flash_http.specs.Request.{Wanted}
 use Rattle.flash_laws.specs.Fits.{Names}
+use Rattle.flash_laws.specs.Offers.{may_repeat}
 use Rattle.flash_laws.specs.RunFits.{Progress, Ran, Broken, NotRun, nothing_yet, MayAnswer, HasRun, HasJobPipe, taken_of}
 use Rattle.flash_laws.specs.Running.{uses_agg, uses_fd, worker_domain, job_pipe, held_size, wants, told, is_over}
 use Rattle.flash_laws.specs.Site.{server}
@@ -96,6 +97,7 @@ HasWorker worker x = Unit {0}
 
 -- ---- why a response is broken off, or a script not run
 
+-- whether what was to be sent is dropped
 abbrev pub is_dropping : Doing → Bool
 is_dropping (doing.Breaks piece a more) = true
 is_dropping (doing.Drops a more) = true
@@ -168,12 +170,6 @@ ComesAfter x r (Runs run Heads) = (j : ℕ) × (x ≡ Runs run (Lets j)) × (r �
 ComesAfter x r (Runs run (Sending d frame)) = is_handing x ≡ false
 ComesAfter x r y = Unit {0}
 
--- whether a call with this reply may be made again: it was refused, but not because nobody takes what it writes
-abbrev pub may_repeat : Call → Reply → Bool
-may_repeat (call.IolWrite fd a) (reply.Refused no.BrokenPipe) = false
-may_repeat k (reply.Refused x) = true
-may_repeat k r = false
-
 -- `job` is the text of the job, by the descriptor that it names.
 pub record RunOffersTheResponse (job : ℕ → List ℕ) : Type 0 where
   -- so a run begins
@@ -224,7 +220,7 @@ pub record RunOffersTheResponse (job : ℕ → List ℕ) : Type 0 where
       → IsOrderly m → HasRun job m w o (Runs run (Hears held frame))
       → StepsTo m (event.Call server (wants job fd w (Runs run (Hears held frame)))) r n
       → (p : ℕ) × (descriptor m server run.from ≡ Some (on.ReadEnd p)) × ReadsPipe m server p (CHUNK_BYTES - held_size held) r n
-  -- it reads until then, also where nobody takes the response any more
+  -- it reads on until that end was told, or it may not read, also where nobody takes the response any more
   pub reads_on : (worker : ℕ) (w : Wanted) (x : Running) (r : Reply) (heard : List ℕ) → is_stopping x ≡ false
       → is_stopping (told worker w x r heard) ≡ true → StopsBy x r heard
   -- a run begins with a new pipe, in which nothing lies, and with the worker that it is given
