@@ -41,8 +41,9 @@ fn round(alloc: Global, way: &str, words: &mut env::Args) -> anyhow::Result<(Rou
 fn pass(alloc: Global, way: &str, words: &mut env::Args) -> anyhow::Result<()> {
     let (round, len, rounds) = round(alloc, way, words)?;
     let mut machine = setup::machine(alloc, len)?;
-    round.repeat(&mut machine, rounds)?;
-    Ok(())
+    let passed = round.repeat(&mut machine, rounds);
+    drop(machine);
+    Ok(passed?)
 }
 
 // Gives turns, and tells whether all were idle each time.
@@ -51,7 +52,9 @@ fn give_turns(alloc: Global, words: &mut env::Args) -> anyhow::Result<bool> {
     let rounds: u64 = word(words)?.parse()?;
     let machine = setup::five_domains(alloc)?;
     let mut waiters = Waiters::new(alloc, machine, waiter)?;
-    Ok(waiters.give_rounds(rounds))
+    let idle = waiters.give_rounds(rounds);
+    drop(waiters);
+    Ok(idle)
 }
 
 fn main(rt: HostRuntime) -> anyhow::Result<()> {

@@ -85,10 +85,12 @@ fn pipes(alloc: Global) -> Result<Vec<Event>, AllocError> {
     Ok(events)
 }
 
-// Carries out events in order, to the first that is refused.
-fn carry_out(machine: &mut Machine, events: &[Event]) -> Result<(), Refusal> {
-    for event in events {
-        machine.step(event)?;
+// Carries out lists of events in order, to the first event that is refused.
+fn carry_out(machine: &mut Machine, lists: &[Vec<Event>]) -> Result<(), Refusal> {
+    for events in lists {
+        for event in events {
+            machine.step(event)?;
+        }
     }
     Ok(())
 }
@@ -96,22 +98,23 @@ fn carry_out(machine: &mut Machine, events: &[Event]) -> Result<(), Refusal> {
 // A system that has carried out lists of events, one after another.
 fn begun(alloc: Global, lists: &[Vec<Event>]) -> Result<Machine, Refusal> {
     let mut machine = Machine::new(alloc)?;
-    for events in lists {
-        carry_out(&mut machine, events)?;
+    match carry_out(&mut machine, lists) {
+        Ok(()) => Ok(machine),
+        Err(refusal) => {
+            drop(machine);
+            Err(refusal)
+        }
     }
-    Ok(machine)
 }
 
 /// A system in which domain 1 has an aggregate of so many bytes, a file of the same bytes, a pipe and a connection.
-pub fn machine(alloc: Global, len: u32) -> anyhow::Result<Machine> {
+pub fn machine(alloc: Global, len: u32) -> Result<Machine, Refusal> {
     let lists = [aggregate(alloc, len)?, file(alloc)?, queues(alloc)?];
-    let machine = begun(alloc, &lists)?;
-    Ok(machine)
+    begun(alloc, &lists)
 }
 
 /// A system of five domains, each with an empty pipe.
-pub fn five_domains(alloc: Global) -> anyhow::Result<Machine> {
+pub fn five_domains(alloc: Global) -> Result<Machine, Refusal> {
     let lists = [pipes(alloc)?];
-    let machine = begun(alloc, &lists)?;
-    Ok(machine)
+    begun(alloc, &lists)
 }
