@@ -26,9 +26,9 @@ use Rattle.flash_http.specs.Request.{Answer, serve, refuse, Wanted}
 use Rattle.flash_laws.specs.Answers.{keeps, body_unless, chosen, file_text, unsatisfiable}
 use Rattle.flash_laws.specs.Conn.{Following, has_followed, content_agg, piece_end, count_of, text_of, sends_of, settled, told_shuts, told_picks, told_spares, following, headed, told_heads, told_joins, told_sends, told_cuts, moved_on, told_offers, told_swaps, goes_on, told_sent, told_breaks, drops_next, told_drops}
 use Rattle.flash_laws.specs.declared.doing.Learnt.{Learnt}
-use Rattle.flash_laws.specs.declared.doing.Learnt.TheVariants.{File, Length, Fails}
+use Rattle.flash_laws.specs.declared.doing.Learnt.TheVariants.{File, Length, Fails, Text as TextOf}
 use Rattle.flash_laws.specs.declared.doing.Content.{Content}
-use Rattle.flash_laws.specs.declared.doing.Content.TheVariants.{Body, Bare, Error}
+use Rattle.flash_laws.specs.declared.doing.Content.TheVariants.{Body, Bare, Error, Script}
 use Rattle.flash_laws.specs.declared.doing.Doing.{Doing}
 use Rattle.flash_laws.specs.declared.doing.Doing.TheVariants.{Rests, Shuts, Picks, Spares, Heads, Joins, Sends, Cuts, Offers, Swaps, Sent, Breaks, Drops, Closes}
 use Rattle.flash_laws.specs.Fits.{LendsMore, HoldsRest, HoldsUnsent, HasFile, HasLearnt, HasContent, Has, Names}
@@ -73,6 +73,10 @@ module _ (steps : EachStepLeavesTheRest) (own : CallsServeTheirDomain) (m n : St
       done (refuse status head_only close) (Length len) h lends = h
       done (serve w) (Fails status) h lends = h
       done (refuse status head_only close) (Fails was) h lends = h
+      done (serve w) (TextOf a true) h lends = ((h.0.0, lends a h.0.0 h.0.1), refl, h.1)
+      done (serve w) (TextOf a false) h lends = ((h.0.0, lends a h.0.0 h.0.1), refl, h.1)
+      done (refuse status head_only close) (TextOf a true) h lends = ((h.0.0, lends a h.0.0 h.0.1), refl, h.1)
+      done (refuse status head_only close) (TextOf a false) h lends = ((h.0.0, lends a h.0.0 h.0.1), refl, h.1)
       done (refuse status head_only close) (File a len) h lends = absurd h
       done (serve w) (File a len) h lends = cut (selected w.range len) refl (selected-within w.range len)
         where
@@ -135,6 +139,7 @@ module _ (steps : EachStepLeavesTheRest) (own : CallsServeTheirDomain) (m n : St
           → (after : List ℕ) × LendsMore m (following k) after × (text_of q k ++ after ≡ due)
       parts (Body b size len) h = (h.bytes, (h.lends, h.count), sym h.due_is)
       parts (Bare len) h = ([], refl, append-nil (text_of q (Bare len)) ∙ sym h)
+      parts Script h = ([], refl, append-nil (text_of q Script) ∙ sym h)
       parts (Error status) h = ([], refl, append-nil (text_of q (Error status)) ∙ sym h)
 
       by : (r : Reply) → o.Makes m server (text_of q k) r n

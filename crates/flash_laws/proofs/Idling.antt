@@ -1,7 +1,8 @@
 -- Where everything that the server polls would block, nothing is left to do.
-use Rattle.std.proofs.Common.{inl, inr, ◌≡◌, ℕ, ◌-◌, ◌≤◌, ◌⊎◌, List, [], ◌++◌, length, ap, ◌∙◌, refl, sym, subst, Option, None, true, false, Bool, append-nil, if◌then◌else◌, slice_get}
+use Rattle.std.proofs.Common.{inl, inr, ◌≡◌, ℕ, ◌-◌, ◌≤◌, ◌⊎◌, List, [], ◌++◌, length, ap, ◌∙◌, refl, sym, subst, Option, Some, None, true, false, Bool, append-nil, if◌then◌else◌, slice_get}
 use Rattle.iol_core.specs.Text.{Text, bytes_of}
-use Rattle.iol_core.specs.Numbered.{taken}
+use Rattle.std.specs.Prelude.{option_map, not, ◌||◌}
+use Rattle.iol_core.specs.Numbered.{in_place}
 use Rattle.iol_core.specs.State.{State, conn_at, is_gone, may_read}
 use Rattle.iol_core.specs.Run.{StepsTo}
 use Rattle.iol_core.specs.declared.limits.TheConstants.{MAX_QUEUE_BYTES}
@@ -31,15 +32,47 @@ use Rattle.flash_laws.specs.declared.doing.Doing.TheVariants.{Rests, Got, Opens,
 use Rattle.flash_laws.specs.Fits.{Tie, Fits}
 use Rattle.flash_laws.specs.Site.{server, IsFixed}
 use Rattle.flash_laws.specs.Past.{Past}
-use Rattle.flash_laws.specs.Tied.{Held, Aside, AllFit}
+use Rattle.flash_laws.specs.Tied.{Held, Aside, AllFit, filed}
 use Rattle.flash_laws.specs.Tie.{past_of, Actor, Serving, actor_turns, Tied}
-use Rattle.flash_laws.specs.Idle.{WouldWait, AllBlock, server_settled, actor_settled}
-use Rattle.flash_laws.specs.Policy.{in_rounds}
+use Rattle.flash_laws.specs.Idle.{WouldWait, Blocks, AllBlock, server_settled, actor_settled}
+use Rattle.flash_laws.specs.Client as client
+use Rattle.flash_laws.specs.Client.{Client}
+use Rattle.flash_laws.specs.Places.{connections, NoneRuns, has_free}
+use Rattle.flash_laws.specs.Rounds.{in_rounds}
 use Rattle.flash_laws.specs.Done.{IsFull, is_sending, StaysOpen, IsDone}
-use Rattle.flash_laws.proofs.Answering.{order-all}
+use Rattle.flash_laws.specs.declared.running.Running.{Running}
+use Rattle.flash_laws.proofs.Answering.{some-inj, order-all}
 use Rattle.flash_laws.proofs.Lists.{clash}
 use Rattle.flash_laws.proofs.Turn.{held-open, conn-same}
-use Rattle.flash_laws.proofs.Settling.{WaitLaw, filed-same}
+use Rattle.flash_laws.proofs.Blocked.{WaitLaw}
+use Rattle.flash_laws.proofs.Clients.{wants-alone, filed-alone}
+use Rattle.flash_laws.proofs.InPlaces.{place-map}
+use Rattle.flash_laws.proofs.Settling.{filed-same}
+
+-- ---- of a client for which no script runs
+
+abbrev of : Conn → Option Running → List ℕ → Client
+of c run script = record { conn = c; run = run; script = script }
+
+uses-alone : (c : Conn) (run : Option Running) (script : List ℕ) (a : ℕ) → run ≡ None → client.uses_agg (of c run script) a ≡ true → uses_agg c.doing a ≡ true
+uses-alone c None script a none uses = uses
+uses-alone c (Some y) script a none uses = absurd (cc (none))
+
+-- without workers none waits for one
+blocks-alone : (m : State) (workers fd : ℕ) (clients : List (Option Client)) (c : Conn) (run : Option Running) (script : List ℕ) → workers ≡ 0 → run ≡ None
+    → Blocks m server workers clients fd (of c run script) → IsAwaiting c × WouldWait m server (wants fd c)
+blocks-alone m workers fd clients c (Some y) script hired none blocks = absurd (cc (none))
+blocks-alone m workers fd clients c None script hired none blocks = (
+  blocks.0,
+  elim blocks.1 [
+    | inl passed ↦ absurd (never (has_free workers clients) passed)
+    | inr step ↦ subst (λ (k : Call). WouldWait m server k) (wants-alone workers fd c None script hired refl) step
+  ],
+)
+  where
+    never : (b : Bool) → (b || not false) ≡ false → ⊥
+    never true e = cc (e)
+    never false e = cc (e)
 
 -- which phase may be one that would block
 abbrev May : Doing → Type 0
@@ -141,20 +174,38 @@ module _ (shelf : Shelf) (files : FileCallsServeTheirDomain) (reasons : Refusals
   lends-sending (Offers b from len piece taken more) a may uses = refl
   lends-sending d a may uses = absurd may
 
-  pub all-done : (p : Past) (conns : List (Option Conn)) → AllFit shelf m p conns
-      → AllBlock m server conns → IsDone shelf m p conns
-  all-done p conns all blocked = record {
+  pub all-done : (p : Past) (workers : ℕ) (clients : List (Option Client)) → workers ≡ 0 → NoneRuns clients → AllFit shelf m p (connections clients)
+      → AllBlock m server workers clients → IsDone shelf m p clients
+  all-done p workers clients hired runs all blocked = record {
     accepted = λ c net. by c net (all.others c);
     answered = λ c net was live. whole c net was live (all.others c);
     closes = λ c net was. left c net was (all.others c);
     lends = λ fd a x is uses.
-        let there = all.each fd x is in
-        let would = blocked.places fd x is in
-        lends-sending x.doing a (may-block (p.came there.conn) (p.sent there.conn) fd there.conn x.kept x.q x.doing there.fits would.1) uses;
+        let at = there-alone fd x is in
+        let there = all.each fd x.conn at in
+        let would = places fd x.conn at in (
+          runs fd x is,
+          lends-sending x.conn.doing a (may-block (p.came there.conn) (p.sent there.conn) fd there.conn x.conn.kept x.conn.q x.conn.doing there.fits would.1)
+              (uses-alone x.conn x.run x.script a (runs fd x is) uses),
+        );
   }
     where
-      by : (c : ℕ) → p.net c ≡ true → Held m conns c ⊎ Aside shelf p c (conn_at m c)
-          → ((conn_at m c).accepted ≡ true) ⊎ IsFull conns
+      there-alone : (fd : ℕ) (x : Client) → in_place clients fd ≡ Some x → in_place (connections clients) fd ≡ Some x.conn
+      there-alone fd x is = place-map (λ (z : Client). z.conn) clients fd ∙ ap (λ (o : Option Client). option_map (λ (z : Client). z.conn) o) is
+
+      -- what the connections alone would do
+      places : (fd : ℕ) (c : Conn) → in_place (connections clients) fd ≡ Some c → IsAwaiting c × WouldWait m server (wants fd c)
+      places fd c is = by (in_place clients fd) refl
+        where
+          by : (o : Option Client) → in_place clients fd ≡ o → IsAwaiting c × WouldWait m server (wants fd c)
+          by None none = (let e = sym is ∙ (place-map (λ (z : Client). z.conn) clients fd ∙ ap (λ (o : Option Client). option_map (λ (z : Client). z.conn) o) none) in absurd (cc (e)))
+          by (Some x) some =
+              let same : x.conn ≡ c = some-inj x.conn c (sym (there-alone fd x some) ∙ is) in
+              subst (λ (z : Conn). IsAwaiting z × WouldWait m server (wants fd z)) same
+              (blocks-alone m workers fd clients x.conn x.run x.script hired (runs fd x some) (blocked.places fd x some))
+
+      by : (c : ℕ) → p.net c ≡ true → Held m (connections clients) c ⊎ Aside shelf p c (conn_at m c)
+          → ((conn_at m c).accepted ≡ true) ⊎ IsFull clients
       by c net (inl held) = inl (held-open m held.fd c order held.open_on).0
       by c net (inr (inr (inl ended))) = inl (accepted (conn_at m c).accepted refl)
         where
@@ -167,27 +218,27 @@ module _ (shelf : Shelf) (files : FileCallsServeTheirDomain) (reasons : Refusals
         | inr step ↦ (let never = ap (λ z. may_read m server z) (sym (waits.pool_is net)) ∙ reasons.nobody_waits m m server c step waits.waits in let may = fixed.net_read in absurd (cc (never, may)))
       ]
 
-      held-whole : (c : ℕ) → Held m conns c
+      held-whole : (c : ℕ) → Held m (connections clients) c
           → IsAnswer shelf (p.came c) (p.sent c ++ bytes_of (conn_at m c).outgoing) ⊎ (MAX_QUEUE_BYTES ≤ length (conn_at m c).outgoing)
       held-whole c held =
           let there = all.each held.fd held.conn held.at in
           let is : there.conn ≡ c = conn-same m held.fd there.conn c there.fits.open_on held.open_on in
-          let would = blocked.places held.fd held.conn held.at in
+          let would = places held.fd held.conn held.at in
           let x : Conn = held.conn in
           subst (λ k. IsAnswer shelf (p.came k) (p.sent k ++ bytes_of (conn_at m k).outgoing) ⊎ (MAX_QUEUE_BYTES ≤ length (conn_at m k).outgoing)) is
           (held-done (p.came there.conn) (p.sent there.conn) held.fd there.conn held.conn.kept held.conn.q held.conn.doing there.fits would.0 would.1
           (may-block (p.came there.conn) (p.sent there.conn) held.fd there.conn held.conn.kept held.conn.q held.conn.doing there.fits would.1))
 
-      held-left : (c : ℕ) → Held m conns c → LeftOpen (p.came c) c
+      held-left : (c : ℕ) → Held m (connections clients) c → LeftOpen (p.came c) c
       held-left c held =
           let there = all.each held.fd held.conn held.at in
           let is : there.conn ≡ c = conn-same m held.fd there.conn c there.fits.open_on held.open_on in
-          let would = blocked.places held.fd held.conn held.at in
+          let would = places held.fd held.conn held.at in
           subst (λ k. LeftOpen (p.came k) k) is
           (held-open-yet (p.came there.conn) (p.sent there.conn) held.fd there.conn held.conn.kept held.conn.q held.conn.doing there.fits would.0 would.1
           (may-block (p.came there.conn) (p.sent there.conn) held.fd there.conn held.conn.kept held.conn.q held.conn.doing there.fits would.1))
 
-      left : (c : ℕ) → p.net c ≡ true → (conn_at m c).accepted ≡ true → Held m conns c ⊎ Aside shelf p c (conn_at m c)
+      left : (c : ℕ) → p.net c ≡ true → (conn_at m c).accepted ≡ true → Held m (connections clients) c ⊎ Aside shelf p c (conn_at m c)
           → ((conn_at m c).closed ≡ true) ⊎ LeftOpen (p.came c) c
       left c net was (inl held) = inr (held-left c held)
       left c net was (inr (inl waits)) = (let a = waits.waits in absurd (cc (a, was)))
@@ -195,7 +246,7 @@ module _ (shelf : Shelf) (files : FileCallsServeTheirDomain) (reasons : Refusals
       left c net was (inr (inr (inl ended))) = inl ended.closed
 
       whole : (c : ℕ) → p.net c ≡ true → (conn_at m c).accepted ≡ true
-          → p.gone c ≡ false → Held m conns c ⊎ Aside shelf p c (conn_at m c)
+          → p.gone c ≡ false → Held m (connections clients) c ⊎ Aside shelf p c (conn_at m c)
           → IsAnswer shelf (p.came c) (p.sent c ++ bytes_of (conn_at m c).outgoing) ⊎ (MAX_QUEUE_BYTES ≤ length (conn_at m c).outgoing)
       whole c net was live (inl held) = held-whole c held
       whole c net was live (inr (inl waits)) = (let a = waits.waits in absurd (cc (a, was)))
@@ -206,10 +257,14 @@ module _ (shelf : Shelf) (files : FileCallsServeTheirDomain) (reasons : Refusals
 pub idle-done : {W : Type 0} (works : Account W) (Ready : State → ℕ → W → Reply
     → Type 0) (Settled : Claim W) (shelf : Shelf) (files : FileCallsServeTheirDomain) (reasons : RefusalsTellWhy) (waits_law : WaitLaw)
     → IdleIsSettled (actor_settled Settled) (actor_turns in_rounds works) → (xs : List Choice) (rs : List Reply) (w after : Stage State (Actor W)) (most : ℕ) → Idles copying (actor_turns in_rounds works) w most true after → (tied : Tied Ready shelf xs rs after)
-    → IsDone shelf after.machine (past_of xs rs) tied.seated.state.conns
+    → IsDone shelf after.machine (past_of xs rs) tied.seated.state.clients
 idle-done {W = W} works Ready Settled shelf files reasons waits_law settled xs rs w after most idle tied =
     let s = tied.seated in
     let seat : Seat (Actor W) = record { by = server; process = Serving s.state; last = s.last } in
     let is : server_settled 2 server s.state s.last after.machine = settled.each w after most 0 seat idle (ap (λ (l : List (Seat (Actor W))). slice_get l 0) s.seats) in
-    all-done shelf files reasons waits_law after.machine tied.order tied.fixed (past_of xs rs) s.state.conns
-    (subst (λ (l : List (Option Conn)). AllFit shelf after.machine (past_of xs rs) l) (filed-same waits_law after.machine server s.state s.last s.flight.heard is.0) s.flight.fit) is.1
+    let heard = s.flight.flies.heard in
+    let same : filed (connections s.state.clients) s.state.flight s.last heard ≡ connections s.state.clients =
+    sym (filed-alone s.state.workers s.state.clients s.state.flight s.last heard s.flight.no_workers s.flight.none_runs)
+    ∙ ap (λ (l : List (Option Client)). connections l) (filed-same waits_law after.machine server s.state s.last heard is.0) in
+    all-done shelf files reasons waits_law after.machine tied.order tied.fixed (past_of xs rs) s.state.workers s.state.clients s.flight.no_workers s.flight.none_runs
+    (subst (λ (l : List (Option Conn)). AllFit shelf after.machine (past_of xs rs) l) same s.flight.flies.fit) is.1

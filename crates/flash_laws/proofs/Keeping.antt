@@ -25,11 +25,11 @@ use Rattle.flash_http.specs.declared.ranges.Selection.TheVariants.{Whole, Bytes,
 use Rattle.flash_http.specs.Range.{selected}
 use Rattle.flash_http.specs.Request.{Answer, serve, refuse}
 use Rattle.flash_laws.specs.Answers.{keeps, response}
-use Rattle.flash_laws.specs.Conn.{Following, Conn, has_followed, learnt_agg, content_agg, uses_agg, uses_fd, name_of, text_of, is_head_only, most_kept, most_read, piece_end, count_of, wants, sends_of, settled, following, headed, goes_on, drops_next, told_rests, told}
+use Rattle.flash_laws.specs.Conn.{Following, Conn, has_followed, learnt_agg, content_agg, uses_agg, uses_fd, name_of, text_of, is_head_only, most_kept, most_read, piece_end, count_of, wants, sends_of, put_out, settled, following, headed, goes_on, drops_next, told_rests, told}
 use Rattle.flash_laws.specs.declared.doing.Learnt.{Learnt}
-use Rattle.flash_laws.specs.declared.doing.Learnt.TheVariants.{File, Length, Fails}
+use Rattle.flash_laws.specs.declared.doing.Learnt.TheVariants.{File, Length, Fails, Text as TextOf}
 use Rattle.flash_laws.specs.declared.doing.Content.{Content}
-use Rattle.flash_laws.specs.declared.doing.Content.TheVariants.{Body, Bare, Error}
+use Rattle.flash_laws.specs.declared.doing.Content.TheVariants.{Body, Bare, Error, Script}
 use Rattle.flash_laws.specs.declared.doing.Doing.{Doing}
 use Rattle.flash_laws.specs.declared.doing.Doing.TheVariants.{Rests, Got, Opens, Reads as Reading, Shuts, Picks, Spares, Heads, Joins, Sends, Cuts, Offers, Swaps, Sent, Breaks, Drops, Closes, Over}
 use Rattle.flash_laws.specs.Fits.{Has}
@@ -66,11 +66,14 @@ settled-uses (serve w) (File b len) a u = by (selected w.range len)
 settled-uses (refuse status head_only close) (File b len) a u = u
 settled-uses q (Length len) a u = absurd (cc (u))
 settled-uses q (Fails status) a u = absurd (cc (u))
+settled-uses (serve w) (TextOf b runs) a u = first_of (b == a) (content_agg (put_out runs) a) u
+settled-uses (refuse status head_only close) (TextOf b runs) a u = first_of (b == a) (content_agg (put_out runs) a) u
 
 following-uses : (k : Content) (a : ℕ) → content_agg k a ≡ true → has_followed (following k) a ≡ true
 following-uses (Body b size len) a u = u
 following-uses (Bare len) a u = absurd (cc (u))
 following-uses (Error status) a u = absurd (cc (u))
+following-uses Script a u = absurd (cc (u))
 
 headed-more : (n size : ℕ) (more : Following) (a : ℕ) → has_followed more a ≡ true → uses_agg (headed n size more) a ≡ true
 headed-more n size None a u = absurd (cc (u))
@@ -147,7 +150,7 @@ leaves-told fd kept q Over r heard a u unused = absurd (cc (u))
 
 -- ---- the descriptor of a file that is used no more is closed
 
-shuts : (own : CallsServeTheirDomain) (m n : State) (fd : ℕ) (kept : List ℕ) (q : Answer) (d : Doing) (r : Reply) (heard : List ℕ) (g : ℕ)
+pub shuts : (own : CallsServeTheirDomain) (m n : State) (fd : ℕ) (kept : List ℕ) (q : Answer) (d : Doing) (r : Reply) (heard : List ℕ) (g : ℕ)
     → StepsTo m (event.Call server (wants fd (at kept q d))) r n
     → uses_fd d g ≡ true → uses_fd (told (at kept q d) r heard).doing g ≡ false → descriptor n server g ≡ None
 shuts own m n fd kept q (Reading f) r heard g step u unused = absurd (by r u unused)
@@ -188,7 +191,7 @@ module _ (come : AggregatesComeAndGo) (own : CallsServeTheirDomain) (files : Fil
       by false is = (let none = come.none m n e r server a step before is in absurd (cc (none, after)))
 
   -- to drop an aggregate brings none
-  nothing : (b : ℕ) (r : Reply) → StepsTo m (event.Call server (call.AggDrop b)) r n → ⊥
+  pub nothing : (b : ℕ) (r : Reply) → StepsTo m (event.Call server (call.AggDrop b)) r n → ⊥
   nothing b r step = by r (own.drops m n server b r order step) (named (event.Call server (call.AggDrop b)) r step)
     where
       by : (r : Reply) → o.Drops m server b r n → brings (event.Call server (call.AggDrop b)) r server a ≡ true → ⊥
@@ -237,7 +240,7 @@ module _ (come : AggregatesComeAndGo) (own : CallsServeTheirDomain) (files : Fil
       by (reply.Refused x) heard did is = absurd (cc (is))
       by r heard did is = absurd did
 
-  reads : (q : Answer) (g i pos : ℕ) (r : Reply) (heard : List ℕ) → HasAccess m → is_live m server ≡ true
+  pub reads : (q : Answer) (g i pos : ℕ) (r : Reply) (heard : List ℕ) → HasAccess m → is_live m server ≡ true
       → descriptor m server g ≡ Some (on.File i pos modes.Read) → (b : Bool)
       → StepsTo m (event.Call server (if b then call.Length g else call.IolRead g most_read)) r n
       → uses_agg (told (at kept q (Reading g)) r heard).doing a ≡ true
@@ -304,7 +307,7 @@ module _ (come : AggregatesComeAndGo) (own : CallsServeTheirDomain) (files : Fil
       by (reply.Refused x) did is = absurd (cc (is))
       by r did is = absurd did
 
-  brought : (fd c : ℕ) (q : Answer) (d : Doing) (due : List ℕ) (r : Reply) (heard : List ℕ) → HasAccess m → is_live m server ≡ true
+  pub brought : (fd c : ℕ) (q : Answer) (d : Doing) (due : List ℕ) (r : Reply) (heard : List ℕ) → HasAccess m → is_live m server ≡ true
       → descriptor m server fd ≡ Some (on.Connection c) → Has m q due d
       → StepsTo m (event.Call server (wants fd (at kept q d))) r n → uses_agg (told (at kept q d) r heard).doing a ≡ true
   brought fd c q Rests due r heard access lives open_on has step = rests fd c (most_kept - length kept) q r heard open_on step

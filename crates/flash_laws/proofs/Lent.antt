@@ -18,9 +18,9 @@ use Rattle.flash_http.specs.Request.{Answer, serve, refuse}
 use Rattle.flash_laws.specs.Answers.{Found, Shelf}
 use Rattle.flash_laws.specs.Conn.{Following, has_followed, learnt_agg, content_agg, uses_agg, uses_fd, most_read, piece_end, text_of}
 use Rattle.flash_laws.specs.declared.doing.Learnt.{Learnt}
-use Rattle.flash_laws.specs.declared.doing.Learnt.TheVariants.{File, Length, Fails}
+use Rattle.flash_laws.specs.declared.doing.Learnt.TheVariants.{File, Length, Fails, Text as TextOf}
 use Rattle.flash_laws.specs.declared.doing.Content.{Content}
-use Rattle.flash_laws.specs.declared.doing.Content.TheVariants.{Body, Bare, Error}
+use Rattle.flash_laws.specs.declared.doing.Content.TheVariants.{Body, Bare, Error, Script}
 use Rattle.flash_laws.specs.declared.doing.Doing.{Doing}
 use Rattle.flash_laws.specs.declared.doing.Doing.TheVariants.{Rests, Got, Opens, Reads as Reading, Shuts, Picks, Spares, Heads, Joins, Sends, Cuts, Offers, Swaps, Sent, Breaks, Drops, Closes, Over}
 use Rattle.flash_laws.specs.Fits.{IsLent, LendsMore, HoldsRest, HoldsRestFrom, HoldsUnsent, HasLearnt, HasContent, Has, Finds}
@@ -86,6 +86,7 @@ learnt-on m n (serve w) due (File a len) lends h = record { bytes = h.bytes; len
 learnt-on m n (refuse status head_only close) due (File a len) lends h = h
 learnt-on m n q due (Length len) lends h = h
 learnt-on m n q due (Fails status) lends h = h
+learnt-on m n q due (TextOf a runs) lends h = (lent-on m n a (λ l is. lends a l (self a) is) h.0, h.1)
 
 pub content-on : (m n : State) (q : Answer) (due : List ℕ) (k : Content) → ((a : ℕ) (bytes : List ℕ)
     → content_agg k a ≡ true → lent_at m server a ≡ Some bytes → lent_at n server a ≡ Some bytes)
@@ -93,6 +94,7 @@ pub content-on : (m n : State) (q : Answer) (due : List ℕ) (k : Content) → (
 content-on m n q due (Body a size len) lends h = record { bytes = h.bytes; lends = lends a h.bytes (self a) h.lends; count = h.count; due_is = h.due_is }
 content-on m n q due (Bare len) lends h = h
 content-on m n q due (Error status) lends h = h
+content-on m n q due Script lends h = h
 
 -- what is kept of an answer that is being sent stays, if its aggregates do
 rest-on : (m n : State) (due : List ℕ) (a len taken : ℕ) (more : Following) → ((bytes : List ℕ)

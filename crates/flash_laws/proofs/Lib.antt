@@ -7,11 +7,14 @@ pub mod Having
 pub mod Phases
 pub mod Peers
 pub mod Uses
+pub mod InPlaces
+pub mod Clients
 pub mod Turn
 pub mod Others
 pub mod Acts
 pub mod Serving
 pub mod Worlds
+pub mod Blocked
 pub mod Settling
 pub mod Idling
 pub mod Hosting
@@ -35,3 +38,8 @@ pub mod ScriptExamples
 pub mod RunKeeping
 pub mod RunAlone
 pub mod RunBrought
+pub mod Sharing
+pub mod ClientPhases
+pub mod RunEnds
+pub mod ClientOffering
+pub mod ClientKeeping

@@ -36,7 +36,7 @@ use Rattle.flash_http.specs.Request.{Answer, serve, refuse}
 use Rattle.flash_laws.specs.Answers.{Outcome, Found, Failed, Shelf, keeps, body_unless, chosen, file_text, unsatisfiable, response, due_to, Reads, responses, Begins, IsAnswer}
 use Rattle.flash_laws.specs.Conn.{Following, Conn, uses_agg, uses_fd, most_kept, most_read, piece_end, name_of, count_of, text_of, wants, begins, Starts, Readies, IsAwaiting, sends_of, settled, told_shuts, told_picks, told_spares, following, headed, told_heads, told_joins, told_cuts, moved_on, told_swaps, goes_on, told_sent, told_breaks, drops_next, told_drops, told}
 use Rattle.flash_laws.specs.declared.doing.Learnt.{Learnt}
-use Rattle.flash_laws.specs.declared.doing.Learnt.TheVariants.{File, Length, Fails}
+use Rattle.flash_laws.specs.declared.doing.Learnt.TheVariants.{File, Length, Fails, Text as TextOf}
 use Rattle.flash_laws.specs.declared.doing.Content.{Content}
 use Rattle.flash_laws.specs.declared.doing.Content.TheVariants.{Error}
 use Rattle.flash_laws.specs.declared.doing.Doing.{Doing}
@@ -239,6 +239,8 @@ module _ (shelf : Shelf) (the : TheLaws) (m n : State) (came sent : List ℕ) (f
   settled-stands (refuse status head_only close) (Length len) = (refl, refl, refl, tt)
   settled-stands (serve w) (Fails status) = (refl, refl, refl, tt)
   settled-stands (refuse status head_only close) (Fails was) = (refl, refl, refl, tt)
+  settled-stands (serve w) (TextOf a runs) = (refl, refl, refl, tt)
+  settled-stands (refuse status head_only close) (TextOf a runs) = (refl, refl, refl, tt)
 
   shuts : (q : Answer) (g : ℕ) (k : Learnt) (r : Reply) (heard : List ℕ) → Was q (Shuts g k)
       → StepsTo m (event.Call server (call.Close g)) r n

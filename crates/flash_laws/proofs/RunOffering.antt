@@ -118,7 +118,7 @@ module _ (steps : EachStepLeavesTheRest) (own : CallsServeTheirDomain) (m n : St
       → Told (Leaves d) (Leaves (conn.told (in_phase w d) r heard).doing) r heard o
   leaving fd c o d r heard open_on is has step names = rest fd c o d r heard open_on (is-rest m w o d is has) step names
 
-  replied : (fd c worker : ℕ) (x : Running) (r : Reply) (heard : List ℕ) (o : Progress) → descriptor m server fd ≡ Some (on.Connection c)
+  pub replied : (fd c worker : ℕ) (x : Running) (r : Reply) (heard : List ℕ) (o : Progress) → descriptor m server fd ≡ Some (on.Connection c)
       → (x ≡ Awaits → HasJobPipe m worker) → is_over x ≡ false → HasRun job m w o x
       → StepsTo m (event.Call server (wants job fd w x)) r n → Names n r heard → Told x (told worker w x r heard) r heard o
   replied fd c worker Awaits r heard o open_on free going has step names = acts.awaits steps own m n order job w worker r heard o (free refl) has step

@@ -26,11 +26,16 @@ use Rattle.flash_laws.specs.Past.{Past}
 use Rattle.flash_laws.specs.Tied.{filed, told_at, AllFit}
 use Rattle.flash_laws.specs.declared.doing.Flight.{Flight}
 use Rattle.flash_laws.specs.declared.doing.Flight.TheVariants.{Nothing, Accepting, At}
-use Rattle.flash_laws.specs.Serves.{Server, heard_of, filed_in, Picks, Made, InFlight}
+use Rattle.flash_laws.specs.Alone.{Picks, Flies}
+use Rattle.flash_laws.specs.Places.{connections, NoneRuns}
+use Rattle.flash_laws.specs.Serves.{Server, heard_of, filed_in, Made, InFlight}
+use Rattle.flash_laws.specs.Serves as serves
 use Rattle.flash_laws.proofs.TheLaws.{TheLaws}
 use Rattle.flash_laws.proofs.Lists.{self}
 use Rattle.flash_laws.proofs.Uses.{no-more, files-wants, admits-wants}
-use Rattle.flash_laws.proofs.Turn.{at-same, ready-awaits, ready_turn, own_turn, accept_turn}
+use Rattle.flash_laws.proofs.Clients.{filed-alone, picks-alone, runs-filed, runs-picked}
+use Rattle.flash_laws.proofs.InPlaces.{at-same}
+use Rattle.flash_laws.proofs.Turn.{ready-awaits, ready_turn, own_turn, accept_turn}
 
 stays-there : (fd : ℕ) (kept : List ℕ) (q : Answer) (d : Doing) → ends (event.Call server (wants fd (record { kept = kept; q = q; doing = d }))) server ≡ false
 stays-there fd kept q Rests = refl
@@ -91,10 +96,10 @@ module _ (shelf : Shelf) (the : TheLaws) where
   heard-is m last heard lives names xs w = ap (λ (l : List ℕ). filed xs w last l) (sym names)
 
   -- the connections that the server picks from
-  pub files-fit : (m : State) (p : Past) (s : Server) (last : Reply) → is_live m server ≡ true
-      → InFlight shelf m p s last
-      → AllFit shelf m p (filed s.conns s.flight last (heard_of last (λ a. lent_to m server a)))
-  files-fit m p s last lives was = subst (λ (xs : List (Option Conn)). AllFit shelf m p xs) (sym (heard-is m last was.heard lives was.names s.conns s.flight)) was.fit
+  pub files-fit : (m : State) (p : Past) (conns : List (Option Conn)) (flight : Flight) (last : Reply) → is_live m server ≡ true
+      → Flies shelf m p conns flight last
+      → AllFit shelf m p (filed conns flight last (heard_of last (λ a. lent_to m server a)))
+  files-fit m p conns flight last lives was = subst (λ (xs : List (Option Conn)). AllFit shelf m p xs) (sym (heard-is m last was.heard lives was.names conns flight)) was.fit
 
   -- what a reply names is there to be heard
   hears : (m n : State) (k : Call) (r : Reply) → IsOrderly m → StepsTo m (event.Call server k) r n
@@ -103,23 +108,23 @@ module _ (shelf : Shelf) (the : TheLaws) where
   hears m n k r order step stays = ([], refl)
 
   -- a turn, whichever call was picked
-  pub server_turn : (m n : State) (p : Past) (s t : Server) (last r : Reply) (made : Turn) → IsOrderly m
-      → IsFixed shelf m → InFlight shelf m p s last
-      → Picks (filed_in s last (λ a. lent_to m server a)) t.flight made t.conns → is_rough r ≡ false
-      → Made m made r n → InFlight shelf n p t r
-  server_turn m n p s t last r made order fixed was picks calm did = by t.flight refl picks
+  alone_turn : (m n : State) (p : Past) (conns after : List (Option Conn)) (flight next : Flight) (last r : Reply) (made : Turn) → IsOrderly m
+      → IsFixed shelf m → Flies shelf m p conns flight last
+      → Picks (filed conns flight last (heard_of last (λ a. lent_to m server a))) next made after → is_rough r ≡ false
+      → Made m made r n → Flies shelf n p after next r
+  alone_turn m n p conns after flight next last r made order fixed was picks calm did = by next refl picks
     where
-      fit : AllFit shelf m p (filed_in s last (λ a. lent_to m server a))
-      fit = files-fit m p s last fixed.lives was
+      fit : AllFit shelf m p (filed conns flight last (heard_of last (λ a. lent_to m server a)))
+      fit = files-fit m p conns flight last fixed.lives was
 
-      by : (w : Flight) → t.flight ≡ w → Picks (filed_in s last (λ a. lent_to m server a)) w made t.conns
-          → InFlight shelf n p t r
+      by : (w : Flight) → next ≡ w → Picks (filed conns flight last (heard_of last (λ a. lent_to m server a))) w made after
+          → Flies shelf n p after next r
       by Nothing is picks =
           let none : Made m turn.Yield r n = subst (λ (z : Turn). Made m z r n) picks.1 did in
           record {
             heard = [];
             names = subst (λ (z : Reply). Names n z []) (sym none.0) refl;
-            fit = subst (λ w. AllFit shelf n p (filed t.conns w r [])) (sym is) (subst (λ (z : State). AllFit shelf z p t.conns) (sym none.1) (subst (λ (xs : List (Option Conn)). AllFit shelf m p xs) (sym picks.0) fit));
+            fit = subst (λ w. AllFit shelf n p (filed after w r [])) (sym is) (subst (λ (z : State). AllFit shelf z p after) (sym none.1) (subst (λ (xs : List (Option Conn)). AllFit shelf m p xs) (sym picks.0) fit));
           }
       by Accepting is picks =
           let step : StepsTo m (event.Call server call.Accept) r n = subst (λ (z : Turn). Made m z r n) picks.1 did in
@@ -127,18 +132,37 @@ module _ (shelf : Shelf) (the : TheLaws) where
           record {
             heard = hear.0;
             names = hear.1;
-            fit = subst (λ w. AllFit shelf n p (filed t.conns w r hear.0)) (sym is)
-                (accept_turn shelf the m n p t.conns r order (subst (λ (xs : List (Option Conn)). AllFit shelf m p xs) (sym picks.0) fit) step);
+            fit = subst (λ w. AllFit shelf n p (filed after w r hear.0)) (sym is)
+                (accept_turn shelf the m n p after r order (subst (λ (xs : List (Option Conn)). AllFit shelf m p xs) (sym picks.0) fit) step);
           }
       by (At fd) is picks =
           let step : StepsTo m (event.Call server (wants fd picks.ready)) r n = subst (λ (z : Turn). Made m z r n) picks.call_is did in
           let hear = hears m n (wants fd picks.ready) r order step (no-more fd picks.ready.kept picks.ready.q picks.ready.doing) in
-          let ready : AllFit shelf m p t.conns = subst (λ (xs : List (Option Conn)). AllFit shelf m p xs) (sym picks.after_is) (ready_turn shelf the m p (filed_in s last (λ a. lent_to m server a)) fd picks.was picks.ready order fit picks.there picks.readies) in
-          let there : in_place t.conns fd ≡ Some picks.ready = ap (λ (xs : List (Option Conn)). in_place xs fd) picks.after_is ∙ at-same (filed_in s last (λ a. lent_to m server a)) fd (Some picks.ready) in
+          let ready : AllFit shelf m p after = subst (λ (xs : List (Option Conn)). AllFit shelf m p xs) (sym picks.after_is) (ready_turn shelf the m p (filed conns flight last (heard_of last (λ a. lent_to m server a))) fd picks.was picks.ready order fit picks.there picks.readies) in
+          let there : in_place after fd ≡ Some picks.ready = ap (λ (xs : List (Option Conn)). in_place xs fd) picks.after_is ∙ at-same (filed conns flight last (heard_of last (λ a. lent_to m server a))) fd (Some picks.ready) in
           record {
             heard = hear.0;
             names = hear.1;
-            fit = subst (λ w. AllFit shelf n p (filed t.conns w r hear.0)) (sym is)
-                (subst (λ (o : Option Conn). AllFit shelf n p (told_at t.conns fd o r hear.0)) (sym there)
-                (own_turn shelf the m n p t.conns fd picks.ready r hear.0 order fixed ready there (ready-awaits picks.was.kept picks.was.q picks.was.doing picks.ready picks.readies) calm step hear.1));
+            fit = subst (λ w. AllFit shelf n p (filed after w r hear.0)) (sym is)
+                (subst (λ (o : Option Conn). AllFit shelf n p (told_at after fd o r hear.0)) (sym there)
+                (own_turn shelf the m n p after fd picks.ready r hear.0 order fixed ready there (ready-awaits picks.was.kept picks.was.q picks.was.doing picks.ready picks.readies) calm step hear.1));
           }
+
+  -- the same of the server's clients, where no script runs
+  pub picked-alone : (m : State) (s t : Server) (last : Reply) (made : Turn) → s.workers ≡ 0 → NoneRuns s.clients
+      → serves.Picks s.workers (filed_in s last (λ a. lent_to m server a)) t.flight made t.clients
+      → Picks (filed (connections s.clients) s.flight last (heard_of last (λ a. lent_to m server a))) t.flight made (connections t.clients)
+  picked-alone m s t last made none runs picks =
+      let heard = heard_of last (λ a. lent_to m server a) in
+      subst (λ (xs : List (Option Conn)). Picks xs t.flight made (connections t.clients)) (filed-alone s.workers s.clients s.flight last heard none runs)
+      (picks-alone s.workers (filed_in s last (λ a. lent_to m server a)) t.flight made t.clients none (runs-filed s.workers s.clients s.flight last heard none runs) picks)
+
+  pub server_turn : (m n : State) (p : Past) (s t : Server) (last r : Reply) (made : Turn) → IsOrderly m
+      → IsFixed shelf m → InFlight shelf m p s last
+      → serves.Picks s.workers (filed_in s last (λ a. lent_to m server a)) t.flight made t.clients × (t.workers ≡ s.workers)
+      → is_rough r ≡ false → Made m made r n → InFlight shelf n p t r
+  server_turn m n p s t last r made order fixed was picks calm did = record {
+    no_workers = picks.1 ∙ was.no_workers;
+    none_runs = runs-picked s.workers (filed_in s last (λ a. lent_to m server a)) t.flight made t.clients (runs-filed s.workers s.clients s.flight last (heard_of last (λ a. lent_to m server a)) was.no_workers was.none_runs) picks.0;
+    flies = alone_turn m n p (connections s.clients) (connections t.clients) s.flight t.flight last r made order fixed was.flies (picked-alone m s t last made was.no_workers was.none_runs picks.0) calm did;
+  }

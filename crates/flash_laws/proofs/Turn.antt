@@ -1,9 +1,7 @@
 -- A turn of the server keeps all its connections tied.
-use Rattle.std.proofs.Common.{inl, inr, ◌≡◌, ◌≢◌, ℕ, zero, suc, ◌+◌, ◌-◌, ◌≤◌, ◌⊎◌, List, [], ◌∷◌, ◌++◌, length, ap, ◌∙◌, refl, sym, subst, arith, Option, Some, None, true, false, Bool}
-use Rattle.std.specs.Prelude.{◌&&◌, replicate, not}
+use Rattle.std.proofs.Common.{inl, inr, ◌≡◌, ◌≢◌, ℕ, ◌+◌, ◌-◌, ◌≤◌, ◌⊎◌, List, [], ◌++◌, ap, ◌∙◌, refl, sym, subst, arith, Option, Some, None, true, false, Bool}
+use Rattle.std.specs.Prelude.{◌&&◌, not}
 use Rattle.std.proofs.lemmas.Bool.{cases_eq}
-use Rattle.std.proofs.lemmas.Bool.Decides.{nat_tests}
-use Rattle.std.proofs.lemmas.Grind.{common_steps}
 use Rattle.iol_core.specs.Text.{bytes_of}
 use Rattle.iol_core.specs.Numbered.{in_place}
 use Rattle.iol_core.specs.State.{State, Connection, descriptor, conn_at}
@@ -32,28 +30,10 @@ use Rattle.flash_laws.specs.Tied.{with_at, left_by, left_over, Waits, Held, Ende
 use Rattle.flash_laws.proofs.TheLaws.{TheLaws}
 use Rattle.flash_laws.proofs.Answering.{some-inj, WindowLaws, begins-none, begins-append}
 use Rattle.flash_laws.proofs.Lists.{clash}
+use Rattle.flash_laws.proofs.InPlaces.{at-same, at-other, left-is}
 use Rattle.flash_laws.proofs.Peers.{IsTold, told-call}
 use Rattle.flash_laws.proofs.Phases.{phase, closes, readies, fits_same, fits_left, begins-tie}
 use Rattle.flash_laws.proofs.Uses.{gives-wants, no-more, uses-told, uses_fd-told, begins-none as begins-no_agg, begins-no_fd, has-agg, has-fd, fds-wants, conns-wants, files-wants}
-
--- Places.
-
-none-in : (k g : ℕ) → in_place {A = Conn} (replicate k None) g ≡ None
-none-in zero g = refl
-none-in (suc k) zero = refl
-none-in (suc k) (suc g) = none-in k g
-
-place-grown : (conns : List (Option Conn)) (k g : ℕ) → in_place (conns ++ replicate k None) g ≡ in_place conns g
-place-grown [] k g = none-in k g
-place-grown (x ∷ conns) k zero = refl
-place-grown (x ∷ conns) k (suc g) = place-grown conns k g
-
-pub at-same : (conns : List (Option Conn)) (fd : ℕ) (x : Option Conn) → in_place (with_at conns fd x) fd ≡ x
-at-same conns fd x = grind (arith, nat_tests, common_steps)
-
-pub at-other : (conns : List (Option Conn)) (fd gd : ℕ) (x : Option Conn) → fd ≢ gd
-    → in_place (with_at conns fd x) gd ≡ in_place conns gd
-at-other conns fd gd x differ = let e = place-grown conns (fd + 1 - length conns) gd in grind (arith, nat_tests, common_steps, differ, e)
 
 pub no-true : (b : Bool) → (b ≡ true → ⊥) → b ≡ false
 no-true true never = absurd (never refl)
@@ -91,30 +71,7 @@ conn-same m fd c k is_c is_k = ap number_on (sym is_c ∙ is_k)
 
 -- what is left in the place of a connection is what it was told, unless it is over
 left-some : (x y : Conn) → left_over x ≡ Some y → x ≡ y
-left-some x y is = by x.doing is
-  where
-    same : Some x ≡ Some y → x ≡ y
-    same is = some-inj x y is
-
-    by : (d : Doing) → left_by d x ≡ Some y → x ≡ y
-    by Over is = absurd (cc)
-    by Rests is = same is
-    by (Got a) is = same is
-    by Opens is = same is
-    by (Reading f) is = same is
-    by (Shuts f k) is = same is
-    by (Picks a first last len) is = same is
-    by (Spares a k) is = same is
-    by (Heads k) is = same is
-    by (Joins a size body len) is = same is
-    by (Sends a len taken more) is = same is
-    by (Cuts a from len taken more) is = same is
-    by (Offers a from len piece taken more) is = same is
-    by (Swaps a from len piece taken more) is = same is
-    by (Sent a taken more) is = same is
-    by (Breaks piece a more) is = same is
-    by (Drops a more) is = same is
-    by Closes is = same is
+left-some x y is = left-is x.doing x y is
 
 left-none : (m : State) (q : Answer) (due : List ℕ) (d : Doing) (x : Conn) → left_by d x ≡ None → Has m q due d → ⊥
 left-none m q due Over x is has = has

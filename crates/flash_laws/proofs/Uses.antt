@@ -25,9 +25,9 @@ use Rattle.flash_http.specs.Request.{Answer, serve, refuse}
 use Rattle.flash_laws.specs.Answers.{keeps}
 use Rattle.flash_laws.specs.Conn.{Following, Conn, has_followed, learnt_agg, content_agg, uses_agg, uses_fd, is_head_only, most_read, piece_end, count_of, wants, sends_of, settled, following, headed, goes_on, drops_next, told, told_rests, begins}
 use Rattle.flash_laws.specs.declared.doing.Learnt.{Learnt}
-use Rattle.flash_laws.specs.declared.doing.Learnt.TheVariants.{File, Length, Fails}
+use Rattle.flash_laws.specs.declared.doing.Learnt.TheVariants.{File, Length, Fails, Text as TextOf}
 use Rattle.flash_laws.specs.declared.doing.Content.{Content}
-use Rattle.flash_laws.specs.declared.doing.Content.TheVariants.{Body, Bare, Error}
+use Rattle.flash_laws.specs.declared.doing.Content.TheVariants.{Body, Bare, Error, Script}
 use Rattle.flash_laws.specs.declared.doing.Doing.{Doing}
 use Rattle.flash_laws.specs.declared.doing.Doing.TheVariants.{Rests, Got, Opens, Reads as Reading, Shuts, Picks, Spares, Heads, Joins, Sends, Cuts, Offers, Swaps, Sent, Breaks, Drops, Closes, Over}
 use Rattle.flash_laws.specs.Fits.{IsLent, LendsMore, HasContent, HasLearnt, Has}
@@ -123,11 +123,16 @@ uses-settled (serve w) g (Length len) a u = absurd (cc)
 uses-settled (refuse status head_only close) g (Length len) a u = absurd (cc)
 uses-settled (serve w) g (Fails status) a u = absurd (cc)
 uses-settled (refuse status head_only close) g (Fails was) a u = absurd (cc)
+uses-settled (serve w) g (TextOf b true) a u = only (b == a) u
+uses-settled (serve w) g (TextOf b false) a u = only (b == a) u
+uses-settled (refuse status head_only close) g (TextOf b true) a u = only (b == a) u
+uses-settled (refuse status head_only close) g (TextOf b false) a u = only (b == a) u
 
 uses-following : (k : Content) (a : ℕ) → has_followed (following k) a ≡ true → content_agg k a ≡ true
 uses-following (Body b size len) a u = u
 uses-following (Bare len) a u = absurd (cc)
 uses-following (Error status) a u = absurd (cc)
+uses-following Script a u = absurd (cc)
 
 uses-headed : (n size : ℕ) (more : Following) (a : ℕ) → uses_agg (headed n size more) a ≡ true
     → ((n == a) || has_followed more a) ≡ true
@@ -228,6 +233,8 @@ no_fd-settled (serve w) (Length len) g = refl
 no_fd-settled (refuse status head_only close) (Length len) g = refl
 no_fd-settled (serve w) (Fails status) g = refl
 no_fd-settled (refuse status head_only close) (Fails was) g = refl
+no_fd-settled (serve w) (TextOf b runs) g = refl
+no_fd-settled (refuse status head_only close) (TextOf b runs) g = refl
 
 no_fd-headed : (n size : ℕ) (more : Following) (g : ℕ) → uses_fd (headed n size more) g ≡ false
 no_fd-headed n size None g = refl
@@ -324,6 +331,7 @@ at-content : (m : State) (q : Answer) (due : List ℕ) (k : Content) (a : ℕ) �
 at-content m q due (Body b size len) a u h = at-number m b a u h.bytes h.lends
 at-content m q due (Bare len) a u h = absurd (cc)
 at-content m q due (Error status) a u h = absurd (cc)
+at-content m q due Script a u h = absurd (cc)
 
 at-learnt : (m : State) (q : Answer) (due : List ℕ) (k : Learnt) (a : ℕ) → learnt_agg k a ≡ true
     → HasLearnt m q due k → IsLent m a
@@ -331,6 +339,7 @@ at-learnt m (serve w) due (File b len) a u h = at-number m b a u h.bytes h.lends
 at-learnt m (refuse status head_only close) due (File b len) a u h = absurd h
 at-learnt m q due (Length len) a u h = absurd (cc)
 at-learnt m q due (Fails status) a u h = absurd (cc)
+at-learnt m q due (TextOf b runs) a u h = at-number m b a u h.0.0 h.0.1
 
 two : (m : State) (b : ℕ) (rest : Bool) (a : ℕ) → ((b == a) || rest) ≡ true → (bytes : List ℕ)
     → lent_at m server b ≡ Some bytes → (rest ≡ true → IsLent m a) → IsLent m a

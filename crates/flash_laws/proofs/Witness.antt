@@ -132,7 +132,7 @@ module _ (orders : EachStepKeepsOrder) {W : Type 0} (works : Account W) (Ready :
   abbrev accepted_1 : Stage State (Actor W)
   accepted_1 = record {
     machine = then_on (then_on site (event.ConnNew 2)) (event.Call 1 call.Accept);
-    seats = record { by = server; process = Serving (record { conns = []; flight = Accepting }); last = reply.Fd 0 } ∷ [];
+    seats = record { by = server; process = Serving (record { clients = []; flight = Accepting; workers = 0 }); last = reply.Fd 0 } ∷ [];
     rough = false;
   }
 
@@ -161,9 +161,9 @@ module _ (orders : EachStepKeepsOrder) {W : Type 0} (works : Account W) (Ready :
           yields = false;
           turn = record {
             seat = record { by = server; process = Serving new_server; last = reply.Done };
-            next = record { by = server; process = Serving (record { conns = []; flight = Accepting }); last = reply.Fd 0 };
+            next = record { by = server; process = Serving (record { clients = []; flight = Accepting; workers = 0 }); last = reply.Fd 0 };
             sits = refl;
-            turn = inr (record { turn = turn.Make call.Accept; goes_on = (refl, (refl, refl)); comes = (refl, (refl, refl, refl)); told = refl; domain_stays = refl });
+            turn = inr (record { turn = turn.Make call.Accept; goes_on = (refl, (refl, refl), refl); comes = (refl, (refl, refl, refl)); told = refl; domain_stays = refl });
             others_stay = refl;
             notes = refl;
           };

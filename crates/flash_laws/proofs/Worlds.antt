@@ -32,7 +32,8 @@ use Rattle.flash_laws.specs.Fits.{Names}
 use Rattle.flash_laws.specs.Site.{server, IsFixed, KeepsSite}
 use Rattle.flash_laws.specs.Past.{Past, and_then, IsAct}
 use Rattle.flash_laws.specs.Tied.{filed, AllFit}
-use Rattle.flash_laws.specs.Serves.{Server, new_server, Policy, filed_in, Made, InFlight}
+use Rattle.flash_laws.specs.Places.{connections}
+use Rattle.flash_laws.specs.Serves.{Server, new_server, heard_of, Policy, Made, InFlight}
 use Rattle.flash_laws.specs.Calm.{IsMild, AreMild}
 use Rattle.flash_laws.specs.Tie.{made_with, made_over, gone_with, gone_over, past_of, Actor, Serving, Working, actor_turns, IsWorker, AreSeated, Tied, IsNew, AllAnswered, ClosedAreWhole}
 use Rattle.flash_laws.specs.Workers.{is_by, WorkersWork}
@@ -44,7 +45,7 @@ use Rattle.flash_laws.proofs.Peers.{told-none}
 use Rattle.flash_laws.proofs.Turn.{answered, whole}
 use Rattle.flash_laws.proofs.Others.{other-gives, other-ends, site-stays, fixed-stays, others_call}
 use Rattle.flash_laws.proofs.Acts.{past-equal, past-call, acts}
-use Rattle.flash_laws.proofs.Serving.{IsKind, calls-kindly, files-fit, server_turn}
+use Rattle.flash_laws.proofs.Serving.{IsKind, calls-kindly, files-fit, picked-alone, server_turn}
 
 -- The past of one choice more.
 
@@ -245,7 +246,7 @@ module _ (may : Policy) {W : Type 0} (works : Account W) (Ready : State → ℕ 
           last = r;
           workers = s.workers;
           seats = seats ∙ ap (λ (z : Seat (Actor W)). z ∷ s.workers) next_is;
-          flight = server_turn shelf the w.machine after.machine p s.state t s.last r moves.turn order fixed s.flight goes_on.1 calm made;
+          flight = server_turn shelf the w.machine after.machine p s.state t s.last r moves.turn order fixed s.flight (goes_on.1, goes_on.2) calm made;
           ready = λ i seat there. still moves.turn made refl seat (s.ready i seat there);
           apart = s.apart;
         },
@@ -259,7 +260,12 @@ module _ (may : Policy) {W : Type 0} (works : Account W) (Ready : State → ℕ 
               ∙ (ap (λ (z : Actor W). record { by = server; process = z; last = next.last }) is ∙ ap (λ (z : Reply). record { by = server; process = Serving t; last = z }) moves.told)
 
           kind : (k : Call) → moves.turn ≡ turn.Make k → IsKind w.machine k
-          kind k is_k = calls-kindly shelf w.machine p (filed_in s.state s.last (λ a. lent_to w.machine server a)) t.flight moves.turn t.conns k (files-fit shelf the w.machine p s.state s.last fixed.lives s.flight) goes_on.1 is_k
+          kind k is_k =
+              let conns = connections s.state.clients in
+              let heard = heard_of s.last (λ a. lent_to w.machine server a) in
+              calls-kindly shelf w.machine p (filed conns s.state.flight s.last heard) t.flight moves.turn (connections t.clients) k
+              (files-fit shelf the w.machine p conns s.state.flight s.last fixed.lives s.flight.flies)
+              (picked-alone shelf the w.machine s.state t s.last moves.turn s.flight.no_workers s.flight.none_runs goes_on.1) is_k
 
           kept : (k : Call) → moves.turn ≡ turn.Make k
               → StepsTo w.machine (event.Call server k) r after.machine → KeepsSite w.machine after.machine
@@ -279,9 +285,13 @@ module _ (may : Policy) {W : Type 0} (works : Account W) (Ready : State → ℕ 
       → IsOrderly m → IsFixed shelf m → d ≢ server → KeepsSite m n → StepsTo m (event.Call d k) r n
       → InFlight shelf m p s last → InFlight shelf n p s last
   flight-other m n p s last d k r order fixed differ same step was = record {
-    heard = was.heard;
-    names = names-stay the.steps m n (event.Call d k) r last was.heard step (λ a. other-gives d k a differ) was.names;
-    fit = others_call shelf the m n p (filed s.conns s.flight last was.heard) d k r order differ (fixed.net_alone d differ) (same.files, same.slots) step was.fit;
+    no_workers = was.no_workers;
+    none_runs = was.none_runs;
+    flies = record {
+      heard = was.flies.heard;
+      names = names-stay the.steps m n (event.Call d k) r last was.flies.heard step (λ a. other-gives d k a differ) was.flies.names;
+      fit = others_call shelf the m n p (filed (connections s.clients) s.flight last was.flies.heard) d k r order differ (fixed.net_alone d differ) (same.files, same.slots) step was.flies.fit;
+    };
   }
 
   -- A worker's turn.
@@ -404,9 +414,13 @@ module _ (may : Policy) {W : Type 0} (works : Account W) (Ready : State → ℕ 
               workers = s.workers;
               seats = seats ∙ s.seats;
               flight = record {
-                heard = s.flight.heard;
-                names = names-stay the.steps w.machine after.machine f r s.last s.flight.heard step (λ a. act-gives f a act) s.flight.names;
-                fit = subst (λ (g : Event). AllFit shelf after.machine (and_then p g r) (filed s.state.conns s.state.flight s.last s.flight.heard)) (sym is) (acts shelf the w.machine after.machine p (filed s.state.conns s.state.flight s.last s.flight.heard) f r act order order_n step s.flight.fit);
+                no_workers = s.flight.no_workers;
+                none_runs = s.flight.none_runs;
+                flies = record {
+                  heard = s.flight.flies.heard;
+                  names = names-stay the.steps w.machine after.machine f r s.last s.flight.flies.heard step (λ a. act-gives f a act) s.flight.flies.names;
+                  fit = subst (λ (g : Event). AllFit shelf after.machine (and_then p g r) (filed (connections s.state.clients) s.state.flight s.last s.flight.flies.heard)) (sym is) (acts shelf the w.machine after.machine p (filed (connections s.state.clients) s.state.flight s.last s.flight.flies.heard) f r act order order_n step s.flight.flies.fit);
+                };
               };
               ready = λ i seat there. ready-on w.machine after.machine f r seat order step same (act-by f seat.by act) (s.ready i seat there);
               apart = s.apart;
@@ -455,15 +469,19 @@ module _ {W : Type 0} (Ready : State → ℕ → W → Reply → Type 0) where
       workers = new.workers;
       seats = new.seats;
       flight = record {
-        heard = [];
-        names = refl;
-        fit = record {
-          each = λ fd x is. absurd (none fd x is);
-          others = λ c. inr (inr (inr (record { other_pool = refl; taken = ap (λ (k : Connection). k.accepted) (new.no_conns c) })));
-          aggs_apart = λ fd gd a x y is_x is_y u v. absurd (none fd x is_x);
-          fds_apart = λ fd gd a x y is_x is_y u v. absurd (none fd x is_x);
-          left = λ c. told-none false (conn_at w.machine c) (new.no_conns c);
-          fresh = λ c more. (refl, refl, refl);
+        no_workers = refl;
+        none_runs = λ fd x is. absurd (cc (is));
+        flies = record {
+          heard = [];
+          names = refl;
+          fit = record {
+            each = λ fd x is. absurd (none fd x is);
+            others = λ c. inr (inr (inr (record { other_pool = refl; taken = ap (λ (k : Connection). k.accepted) (new.no_conns c) })));
+            aggs_apart = λ fd gd a x y is_x is_y u v. absurd (none fd x is_x);
+            fds_apart = λ fd gd a x y is_x is_y u v. absurd (none fd x is_x);
+            left = λ c. told-none false (conn_at w.machine c) (new.no_conns c);
+            fresh = λ c more. (refl, refl, refl);
+          };
         };
       };
       ready = new.ready;
@@ -478,10 +496,10 @@ module _ {W : Type 0} (Ready : State → ℕ → W → Reply → Type 0) where
 pub tied_answered : {W : Type 0} (Ready : State → ℕ → W → Reply
     → Type 0) (laws : WindowLaws) (shelf : Shelf) (xs : List Choice) (rs : List Reply) (w : Stage State (Actor W))
     → Tied Ready shelf xs rs w → AllAnswered shelf xs rs w.machine
-tied_answered Ready laws shelf xs rs w tied = answered laws shelf w.machine (past_of xs rs) (filed tied.seated.state.conns tied.seated.state.flight tied.seated.last tied.seated.flight.heard) tied.seated.flight.fit
+tied_answered Ready laws shelf xs rs w tied = answered laws shelf w.machine (past_of xs rs) (filed (connections tied.seated.state.clients) tied.seated.state.flight tied.seated.last tied.seated.flight.flies.heard) tied.seated.flight.flies.fit
 
 -- And each that is closed is answered whole, unless its peer left.
 pub tied_whole : {W : Type 0} (Ready : State → ℕ → W → Reply
     → Type 0) (shelf : Shelf) (xs : List Choice) (rs : List Reply) (w : Stage State (Actor W))
     → Tied Ready shelf xs rs w → ClosedAreWhole shelf xs rs w.machine
-tied_whole Ready shelf xs rs w tied = whole shelf w.machine (past_of xs rs) (filed tied.seated.state.conns tied.seated.state.flight tied.seated.last tied.seated.flight.heard) tied.order tied.seated.flight.fit
+tied_whole Ready shelf xs rs w tied = whole shelf w.machine (past_of xs rs) (filed (connections tied.seated.state.clients) tied.seated.state.flight tied.seated.last tied.seated.flight.flies.heard) tied.order tied.seated.flight.flies.fit

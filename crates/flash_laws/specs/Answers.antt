@@ -10,7 +10,7 @@ use Rattle.flash_http.specs.Window.{window_in}
 use Rattle.flash_http.specs.Request.{Answer, serve, refuse, Wanted, IsAnswerTo}
 use Rattle.flash_http.specs.Range.{selected}
 use Rattle.flash_http.specs.MediaType.{media_type}
-use Rattle.flash_http.specs.Response.{head_text, file_head, refusal_head, error_body}
+use Rattle.flash_http.specs.Response.{head_text, file_head, refusal_head, script_head, error_body}
 
 -- ---- the response to a request
 
@@ -40,6 +40,10 @@ error_text status head_only close = head_text (refusal_head status close) ++ bod
 -- the body of 416 Range Not Satisfiable (RFC 9110, section 15.5.17)
 unfoldable pub unsatisfiable : List ℕ
 unsatisfiable = error_body 416
+
+-- the text of the head for what a script puts out (RFC 9112, sections 6.3 and 7.1)
+unfoldable pub script_text : Wanted → List ℕ
+script_text w = head_text (script_head w.chunked (not w.keep))
 
 -- the bytes that are sent of a file: all, or the part that is asked for (RFC 9110, section 14)
 abbrev pub chosen : Selection → List ℕ → List ℕ

@@ -15,12 +15,12 @@ use Rattle.flash_http.specs.Window.{window_in}
 use Rattle.flash_http.specs.Range.{selected}
 use Rattle.flash_http.specs.Request.{Answer, serve, refuse}
 use Rattle.flash_laws.specs.declared.doing.Learnt.{Learnt}
-use Rattle.flash_laws.specs.declared.doing.Learnt.TheVariants.{File, Length, Fails}
+use Rattle.flash_laws.specs.declared.doing.Learnt.TheVariants.{File, Length, Fails, Text}
 use Rattle.flash_laws.specs.declared.doing.Content.{Content}
-use Rattle.flash_laws.specs.declared.doing.Content.TheVariants.{Body, Bare, Error}
+use Rattle.flash_laws.specs.declared.doing.Content.TheVariants.{Body, Bare, Error, Script}
 use Rattle.flash_laws.specs.declared.doing.Doing.{Doing}
 use Rattle.flash_laws.specs.declared.doing.Doing.TheVariants.{Rests, Got, Opens, Reads, Shuts, Picks, Spares, Heads, Joins, Sends, Cuts, Offers, Swaps, Sent, Breaks, Drops, Closes, Over}
-use Rattle.flash_laws.specs.Answers.{keeps, body_unless, file_text, error_text, unsatisfiable, Next}
+use Rattle.flash_laws.specs.Answers.{keeps, body_unless, file_text, script_text, error_text, unsatisfiable, Next}
 
 -- the aggregate that is to be sent after the one that is sent now, and its bytes
 abbrev pub Following : Type 0
@@ -45,6 +45,7 @@ has_followed (Some x) a = x.0 == a
 
 abbrev pub learnt_agg : Learnt → (a : ℕ) → Bool
 learnt_agg (File b len) a = b == a
+learnt_agg (Text b runs) a = b == a
 learnt_agg k a = false
 
 abbrev pub content_agg : Content → (a : ℕ) → Bool
@@ -99,6 +100,7 @@ abbrev pub text_of : Answer → Content → List ℕ
 text_of (serve w) (Body agg size len) = file_text w len
 text_of (serve w) (Bare len) = file_text w len ++ body_unless w.head_only unsatisfiable
 text_of (serve w) (Error status) = error_text status w.head_only (not w.keep)
+text_of (serve w) Script = script_text w
 text_of (refuse status head_only close) k = error_text status head_only close
 
 -- where the next piece ends: it has as many bytes as a queue takes, or all that are left
@@ -190,11 +192,17 @@ sends_of Whole a len = Heads (Body a len len)
 sends_of (Bytes first last) a len = Picks a first (last + 1) len
 sends_of Unsatisfiable a len = Spares a (Bare len)
 
+-- a text that is no script cannot run
+abbrev pub put_out : (runs : Bool) → Content
+put_out true = Script
+put_out false = Error 500
+
 abbrev pub settled : Answer → Learnt → Doing
 settled (serve w) (File a len) = sends_of (selected w.range len) a len
 settled (refuse status head_only close) (File a len) = Heads (Body a len len)
 settled q (Length len) = Heads (Bare len)
 settled q (Fails status) = Heads (Error status)
+settled q (Text a runs) = Spares a (put_out runs)
 
 abbrev pub told_shuts : Answer → (file : ℕ) → Learnt → Reply → Doing
 told_shuts q f k reply.Done = settled q k

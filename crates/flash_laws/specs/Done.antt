@@ -9,14 +9,14 @@ use Rattle.flash_http.specs.declared.windows.Window.TheVariants.{Wait}
 use Rattle.flash_http.specs.Window.{window_in}
 use Rattle.flash_http.specs.Request.{Answer}
 use Rattle.flash_laws.specs.Answers.{Shelf, Reads, keeps, IsAnswer}
-use Rattle.flash_laws.specs.Conn.{Conn, uses_agg}
+use Rattle.flash_laws.specs.Client.{Client, uses_agg}
 use Rattle.flash_laws.specs.declared.doing.Doing.{Doing}
 use Rattle.flash_laws.specs.declared.doing.Doing.TheVariants.{Sends, Offers}
 use Rattle.flash_laws.specs.Past.{Past}
 use Rattle.flash_laws.specs.Policy.{most_conns}
 
 -- the server holds as many connections as it may
-abbrev pub IsFull : List (Option Conn) → Type 0
+abbrev pub IsFull : {A : Type 0} → List (Option A) → Type 0
 IsFull conns = nat_lt (taken conns) most_conns ≡ false
 
 -- whether its next call writes to the connection
@@ -34,9 +34,9 @@ pub record StaysOpen (s : List ℕ) : Type 0 where
   pub open_yet : list_all (λ q. keeps q) qs ≡ true
   pub no_more : window_in rest ≡ Wait
 
-pub record IsDone (shelf : Shelf) (m : State) (p : Past) (conns : List (Option Conn)) : Type 0 where
+pub record IsDone (shelf : Shelf) (m : State) (p : Past) (clients : List (Option Client)) : Type 0 where
   -- each connection of the net is accepted, unless the server is full
-  pub accepted : (c : ℕ) → p.net c ≡ true → ((conn_at m c).accepted ≡ true) ⊎ IsFull conns
+  pub accepted : (c : ℕ) → p.net c ≡ true → ((conn_at m c).accepted ≡ true) ⊎ IsFull clients
   -- each that was accepted, and whose peer did not leave, is answered whole, closed or not, or as much waits to be sent as may
   pub answered : (c : ℕ) → p.net c ≡ true → (conn_at m c).accepted ≡ true
       → p.gone c ≡ false
@@ -46,6 +46,6 @@ pub record IsDone (shelf : Shelf) (m : State) (p : Past) (conns : List (Option C
   pub closes : (c : ℕ) → p.net c ≡ true → (conn_at m c).accepted ≡ true
       → ((conn_at m c).closed ≡ true) ⊎ (MAX_QUEUE_BYTES ≤ length (conn_at m c).outgoing)
       ⊎ (((conn_at m c).peer ≡ None) × StaysOpen (p.came c))
-  -- a connection that uses an aggregate is about to write
-  pub lends : (fd a : ℕ) (x : Conn) → in_place conns fd ≡ Some x → uses_agg x.doing a ≡ true
-      → is_sending x.doing ≡ true
+  -- one that uses an aggregate is about to write to its connection
+  pub lends : (fd a : ℕ) (x : Client) → in_place clients fd ≡ Some x → uses_agg x a ≡ true
+      → (x.run ≡ None) × (is_sending x.conn.doing ≡ true)

@@ -13,11 +13,11 @@ use Rattle.flash_http.specs.Window.{window_in}
 use Rattle.flash_http.specs.Request.{Answer, serve, refuse, Wanted}
 use Rattle.flash_laws.specs.Answers.{Found, Shelf, keeps, response, due_to, Reads, last_may_close, last_closes, responses, Begins}
 use Rattle.flash_laws.specs.Site.{server}
-use Rattle.flash_laws.specs.Conn.{Following, Conn, has_followed, content_agg, most_read, piece_end, name_of, text_of}
+use Rattle.flash_laws.specs.Conn.{Following, Conn, has_followed, content_agg, most_read, piece_end, name_of, text_of, put_out}
 use Rattle.flash_laws.specs.declared.doing.Learnt.{Learnt}
-use Rattle.flash_laws.specs.declared.doing.Learnt.TheVariants.{File, Length, Fails}
+use Rattle.flash_laws.specs.declared.doing.Learnt.TheVariants.{File, Length, Fails, Text}
 use Rattle.flash_laws.specs.declared.doing.Content.{Content}
-use Rattle.flash_laws.specs.declared.doing.Content.TheVariants.{Body, Bare, Error}
+use Rattle.flash_laws.specs.declared.doing.Content.TheVariants.{Body, Bare, Error, Script}
 use Rattle.flash_laws.specs.declared.doing.Doing.{Doing}
 use Rattle.flash_laws.specs.declared.doing.Doing.TheVariants.{Rests, Got, Opens, Reads as Reading, Shuts, Picks, Spares, Heads, Joins, Sends, Cuts, Offers, Swaps, Sent, Breaks, Drops, Closes, Over}
 
@@ -102,11 +102,13 @@ abbrev pub HasLearnt : State → Answer → (due : List ℕ) → Learnt → Type
 HasLearnt m q due (File a len) = HasWhole m q due a len
 HasLearnt m q due (Length len) = due ≡ text_of q (Bare len)
 HasLearnt m q due (Fails status) = due ≡ text_of q (Error status)
+HasLearnt m q due (Text a runs) = IsLent m a × (due ≡ text_of q (put_out runs))
 
 abbrev pub HasContent : State → Answer → (due : List ℕ) → Content → Type 0
 HasContent m q due (Body a size len) = HasBody m due (text_of q (Body a size len)) a size
 HasContent m q due (Bare len) = due ≡ text_of q (Bare len)
 HasContent m q due (Error status) = due ≡ text_of q (Error status)
+HasContent m q due Script = due ≡ text_of q Script
 
 -- a descriptor of the server that reads a file
 abbrev pub IsFile : State → (fd : ℕ) → Type 0

@@ -11,7 +11,7 @@ use Rattle.flash_laws.specs.Answers.{Shelf}
 use Rattle.flash_laws.specs.Calm.{AreMild}
 use Rattle.flash_laws.specs.Done.{IsDone}
 use Rattle.flash_laws.specs.Idle.{actor_settled}
-use Rattle.flash_laws.specs.Policy.{in_rounds}
+use Rattle.flash_laws.specs.Rounds.{in_rounds}
 use Rattle.flash_laws.specs.Tie.{past_of, Actor, actor_turns, Tied, IsNew, AllAnswered, ClosedAreWhole}
 
 module _ {W : Type 0} (works : Account W) (Settled : Claim W) where
@@ -31,14 +31,14 @@ module _ {W : Type 0} (works : Account W) (Ready : State → ℕ → W → Reply
       → (shelf : Shelf) (xs : List Choice) (rs : List Reply) (w after : Stage State (Actor W))
       (most : ℕ) → Idles copying (actor_turns in_rounds works) w most true after
       → (tied : Tied Ready shelf xs rs after)
-      → IsDone shelf after.machine (past_of xs rs) tied.seated.state.conns
+      → IsDone shelf after.machine (past_of xs rs) tied.seated.state.clients
 
   -- what holds at the end, if no turn was rough
   pub record IsRight (shelf : Shelf) (xs : List Choice) (rs : List Reply) (idle : Bool) (after : Stage State (Actor W)) : Type 0 where
     pub answered : AllAnswered shelf xs rs after.machine
     pub whole : ClosedAreWhole shelf xs rs after.machine
     pub tied : Tied Ready shelf xs rs after
-    pub done : idle ≡ true → IsDone shelf after.machine (past_of xs rs) tied.seated.state.conns
+    pub done : idle ≡ true → IsDone shelf after.machine (past_of xs rs) tied.seated.state.clients
 
   -- A new world runs choices whose calls from outside are mild, and then turns until it is idle; no turn was rough.
   abbrev pub HostIsRight : Type 0

@@ -10,7 +10,8 @@ use Rattle.iol_core.specs.declared.events.Event.TheVariants as event
 use Rattle.iol_core.specs.declared.events.Reply.{Reply}
 use Rattle.iol_core.specs.declared.events.Reply.TheVariants as reply
 use Rattle.iol_proc.specs.Settled.{Claim}
-use Rattle.flash_laws.specs.Conn.{Conn, wants, IsAwaiting}
+use Rattle.flash_laws.specs.Client.{Client, wants, IsAwaiting}
+use Rattle.flash_laws.specs.Places.{has_free, may_go, runs_scripts}
 use Rattle.flash_laws.specs.declared.doing.Flight.{Flight}
 use Rattle.flash_laws.specs.declared.doing.Flight.TheVariants.{Nothing, Accepting, At}
 use Rattle.flash_laws.specs.Serves.{Server}
@@ -21,28 +22,32 @@ use Rattle.flash_laws.specs.Tie.{Actor, Serving, Working}
 abbrev pub WouldWait : State → (by : ℕ) → Call → Type 0
 WouldWait m by k = StepsTo m (event.Call by k) (reply.Refused no.WouldBlock) m
 
--- so would that of the connection at a place, if one is there
-abbrev pub BlocksAt : State → (by : ℕ) → List (Option Conn) → (place : ℕ) → Type 0
-BlocksAt m by conns place = (x : Conn) → in_place conns place ≡ Some x → IsAwaiting x
-    × WouldWait m by (wants place x)
+-- a client has no request that could begin, and waits for a worker while none is free, or its call would block
+abbrev pub Blocks : State → (by workers : ℕ) → List (Option Client) → (place : ℕ) → Client → Type 0
+Blocks m by workers clients place x = IsAwaiting x
+    × ((may_go (has_free workers clients) x ≡ false) ⊎ WouldWait m by (wants (runs_scripts workers) place x))
 
--- so would all calls of a round: those of the connections, and accepting one, unless the server holds as many as it may
-pub record AllBlock (m : State) (by : ℕ) (conns : List (Option Conn)) : Type 0 where
-  pub places : (place : ℕ) → BlocksAt m by conns place
-  pub door : (nat_lt (taken conns) most_conns ≡ false) ⊎ WouldWait m by call.Accept
+-- so does the client at a place, if one is there
+abbrev pub BlocksAt : State → (by workers : ℕ) → List (Option Client) → (place : ℕ) → Type 0
+BlocksAt m by workers clients place = (x : Client) → in_place clients place ≡ Some x → Blocks m by workers clients place x
 
--- so would those of a round up to this one
-abbrev pub BlockUpTo : State → (by : ℕ) → List (Option Conn) → Flight → Type 0
-BlockUpTo m by conns Nothing = ⊥
-BlockUpTo m by conns (At fd) = (place : ℕ) → place ≤ fd → BlocksAt m by conns place
-BlockUpTo m by conns Accepting = AllBlock m by conns
+-- so do all of a round: the clients, and accepting one, unless the server holds as many as it may
+pub record AllBlock (m : State) (by workers : ℕ) (clients : List (Option Client)) : Type 0 where
+  pub places : (place : ℕ) → BlocksAt m by workers clients place
+  pub door : (nat_lt (taken clients) most_conns ≡ false) ⊎ WouldWait m by call.Accept
+
+-- so do those of a round up to this one
+abbrev pub BlockUpTo : State → (by workers : ℕ) → List (Option Client) → Flight → Type 0
+BlockUpTo m by workers clients Nothing = ⊥
+BlockUpTo m by workers clients (At fd) = (place : ℕ) → place ≤ fd → BlocksAt m by workers clients place
+BlockUpTo m by workers clients Accepting = AllBlock m by workers clients
 
 -- the server has just yielded, or its call would have blocked
 abbrev pub HasYielded : Server → Reply → Type 0
 HasYielded s l = (s.flight ≡ Nothing) × (l ≡ reply.Done)
 
 abbrev pub HasBlocked : State → (by : ℕ) → Server → Reply → Type 0
-HasBlocked m by s l = (l ≡ reply.Refused no.WouldBlock) × BlockUpTo m by s.conns s.flight
+HasBlocked m by s l = (l ≡ reply.Refused no.WouldBlock) × BlockUpTo m by s.workers s.clients s.flight
 
 abbrev pub IsPolling : State → (by : ℕ) → Server → Reply → Type 0
 IsPolling m by s l = HasYielded s l ⊎ HasBlocked m by s l
@@ -51,7 +56,7 @@ IsPolling m by s l = HasYielded s l ⊎ HasBlocked m by s l
 abbrev pub server_settled : Claim Server
 server_settled zero by s l m = Unit {0}
 server_settled (suc zero) by s l m = IsPolling m by s l
-server_settled (suc (suc n)) by s l m = IsPolling m by s l × AllBlock m by s.conns
+server_settled (suc (suc n)) by s l m = IsPolling m by s l × AllBlock m by s.workers s.clients
 
 module _ {W : Type 0} (Settled : Claim W) where
   abbrev pub actor_settled : Claim (Actor W)

@@ -8,7 +8,7 @@ use Rattle.iol_proc.specs.World.{Stage, copying, WorldStep, WorldRun}
 use Rattle.iol_proc.specs.declared.choice.Choice.{Choice}
 use Rattle.flash_laws.specs.Answers.{Shelf}
 use Rattle.flash_laws.specs.Calm.{IsMild, AreMild}
-use Rattle.flash_laws.specs.Policy.{in_rounds}
+use Rattle.flash_laws.specs.Rounds.{in_rounds}
 use Rattle.flash_laws.specs.Serves.{Policy}
 use Rattle.flash_laws.specs.Tie.{Actor, actor_turns, Tied, IsNew, AllAnswered, ClosedAreWhole, made_over}
 

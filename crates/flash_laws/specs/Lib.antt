@@ -4,8 +4,13 @@ pub mod Past
 pub mod Site
 pub mod Fits
 pub mod Tied
-pub mod Serves
 pub mod Policy
+pub mod Alone
+pub mod Client
+pub mod Places
+pub mod Serves
+pub mod Rounds
+pub mod Sharing
 pub mod Workers
 pub mod Tie
 pub mod Calm
@@ -20,3 +25,6 @@ pub mod Running
 pub mod RunFits
 pub mod RunOffers
 pub mod RunKeeping
+pub mod Known
+pub mod ClientOffers
+pub mod ClientKeeping

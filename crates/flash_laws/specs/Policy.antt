@@ -1,14 +1,13 @@
--- Which connection has its turn, and when the server yields: its policy.
+-- Which connection has its turn, and when the server yields, where no script runs.
 --
 -- A round goes over the places of the connections, then accepts those that wait, and ends with a yield. A connection goes on
 -- until its call is to be made again later, or nothing is left to do for it but to read more.
-use Rattle.std.specs.Prelude.{◌≡◌, ℕ, ◌+◌, ◌==◌, ◌||◌, Bool, true, false, if◌then◌else◌, nat_lt, List, length, drop, position, Option, Some, None, is_some, option_map}
+use Rattle.std.specs.Prelude.{ℕ, ◌+◌, ◌==◌, ◌||◌, Bool, true, false, if◌then◌else◌, nat_lt, List, length, drop, position, Option, Some, None, is_some, option_map}
 use Rattle.iol_core.specs.Numbered.{in_place, taken}
 use Rattle.iol_core.specs.declared.refusals.Refusal.TheVariants.{WouldBlock, TooMany, NoRoom, Memory}
 use Rattle.iol_core.specs.declared.events.Reply.{Reply}
 use Rattle.iol_core.specs.declared.events.Reply.TheVariants as reply
 use Rattle.flash_laws.specs.Conn.{Conn}
-use Rattle.flash_laws.specs.Serves.{Policy}
 use Rattle.flash_laws.specs.declared.doing.Doing.{Doing}
 use Rattle.flash_laws.specs.declared.doing.Doing.TheVariants.{Rests}
 use Rattle.flash_laws.specs.declared.doing.Flight.{Flight}
@@ -48,10 +47,10 @@ abbrev pub next_place : List (Option Conn) → (from : ℕ) → Option ℕ
 next_place conns from = option_map (λ k. from + k) (position is_some (drop from conns))
 
 -- past all places one is accepted, unless the server holds as many as it may
-abbrev pub door : List (Option Conn) → Flight
+abbrev pub door : {A : Type 0} → List (Option A) → Flight
 door conns = if nat_lt (taken conns) most_conns then Accepting else Nothing
 
-abbrev pub flight_to : List (Option Conn) → Option ℕ → Flight
+abbrev pub flight_to : {A : Type 0} → List (Option A) → Option ℕ → Flight
 flight_to conns (Some fd) = At fd
 flight_to conns None = door conns
 
@@ -59,7 +58,7 @@ abbrev pub flight_from : List (Option Conn) → (from : ℕ) → Flight
 flight_from conns from = flight_to conns (next_place conns from)
 
 -- more are accepted until none waits
-abbrev pub flight_past : List (Option Conn) → Reply → Flight
+abbrev pub flight_past : {A : Type 0} → List (Option A) → Reply → Flight
 flight_past conns (reply.Fd fd) = door conns
 flight_past conns r = Nothing
 
@@ -68,7 +67,3 @@ abbrev pub next_flight : List (Option Conn) → (was : Flight) → (last : Reply
 next_flight conns Nothing r = flight_from conns 0
 next_flight conns Accepting r = flight_past conns r
 next_flight conns (At fd) r = flight_from conns (place_after fd (in_place conns fd) r)
-
--- in rounds
-abbrev pub in_rounds : Policy
-in_rounds conns was last next = next ≡ next_flight conns was last

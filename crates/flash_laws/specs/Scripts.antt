@@ -1,9 +1,9 @@
 -- The response with the output of a script (RFC 9112, sections 6.3 and 7.1): in chunks of 4,096 bytes and one of the rest, or, to
 -- a client of HTTP/1.0, the bytes up to the close of the connection.
-use Rattle.std.specs.Prelude.{ℕ, zero, suc, not, Bool, true, false, List, [], ◌∷◌, ◌++◌, length, take, drop, Some, None}
+use Rattle.std.specs.Prelude.{ℕ, zero, suc, Bool, true, false, List, [], ◌∷◌, ◌++◌, length, take, drop, Some, None}
 use Rattle.flash_http.specs.Chunk.{chunk_head, chunk_end, last_chunk, chunked_body}
 use Rattle.flash_http.specs.Request.{Wanted}
-use Rattle.flash_http.specs.Response.{head_text, script_head}
+unfoldable pub use Rattle.flash_laws.specs.Answers.{script_text}
 use Rattle.flash_laws.specs.Conn.{Following}
 use Rattle.flash_laws.specs.declared.running.TheConstants.{CHUNK_BYTES}
 
@@ -16,10 +16,6 @@ pieces_by (suc most) (b ∷ bytes) = take CHUNK_BYTES (b ∷ bytes) ∷ pieces_b
 -- cut after each 4,096 bytes
 abbrev pub pieces : List ℕ → List (List ℕ)
 pieces bytes = pieces_by (length bytes) bytes
-
--- the text of the head
-unfoldable pub script_text : Wanted → List ℕ
-script_text w = head_text (script_head w.chunked (not w.keep))
 
 abbrev pub script_body : (chunked : Bool) → (output : List ℕ) → List ℕ
 script_body true output = chunked_body (pieces output)

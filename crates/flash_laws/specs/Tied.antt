@@ -17,14 +17,14 @@ use Rattle.flash_laws.specs.declared.doing.Flight.TheVariants.{Nothing, Acceptin
 use Rattle.flash_laws.specs.Past.{Past, net_pool}
 
 -- a place for each descriptor, with what stands at one of them
-abbrev pub grown : List (Option Conn) → (fd : ℕ) → List (Option Conn)
+abbrev pub grown : {A : Type 0} → List (Option A) → (fd : ℕ) → List (Option A)
 grown conns fd = conns ++ replicate (fd + 1 - length conns) None
 
-abbrev pub with_at : List (Option Conn) → (fd : ℕ) → Option Conn → List (Option Conn)
+abbrev pub with_at : {A : Type 0} → List (Option A) → (fd : ℕ) → Option A → List (Option A)
 with_at conns fd x = slice_set (grown conns fd) fd x
 
 -- a connection that is over is forgotten
-abbrev pub left_by : Doing → Conn → Option Conn
+abbrev pub left_by : {A : Type 0} → Doing → A → Option A
 left_by Over x = None
 left_by d x = Some x
 
@@ -40,7 +40,7 @@ abbrev pub accepted : List (Option Conn) → Reply → List (Option Conn)
 accepted conns (reply.Fd fd) = with_at conns fd (Some new_connection)
 accepted conns r = conns
 
--- the connections, once the reply to the call that is out is filed
+-- the connections, once the reply to the call that is out is filed, where no script runs
 abbrev pub filed : List (Option Conn) → Flight → Reply → (heard : List ℕ) → List (Option Conn)
 filed conns Nothing r heard = conns
 filed conns Accepting r heard = accepted conns r

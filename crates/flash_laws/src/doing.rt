@@ -3,19 +3,22 @@ use http::StatusCode;
 use iol_core::numbers::{AggId, Fd};
 
 /// What is learnt of a file: all its bytes lie in an aggregate, or it has so many, or a call was refused, and the answer is an error.
+/// Of a script the text lies in an aggregate, and `runs` says whether it is one that can run.
 #[derive(Clone, Copy, Debug, PartialEq, Eq)]
 pub enum Learnt {
     File { agg: AggId, len: u32 },
     Length { len: u32 },
     Fails { status: StatusCode },
+    Text { agg: AggId, runs: bool },
 }
 
-/// What is sent: `size` bytes of a file of `len` bytes, which lie in an aggregate; of such a file none; or an error.
+/// What is sent: `size` bytes of a file of `len` bytes, which lie in an aggregate; of such a file none; an error; or what a script puts out.
 #[derive(Clone, Copy, Debug, PartialEq, Eq)]
 pub enum Content {
     Body { agg: AggId, size: u32, len: u32 },
     Bare { len: u32 },
     Error { status: StatusCode },
+    Script,
 }
 
 /// What is in progress on a connection: the call that it wants next. The request that is answered stands beside it.

@@ -8,8 +8,9 @@ ghost use Rattle.flash_laws.specs.Host.{ActorsSettle, HostIsRight, IdleIsDone};
 ghost use Rattle.flash_laws.specs.Keeping.{KeepsNothing};
 ghost use Rattle.flash_laws.specs.Offers.{OffersTheResponse};
 ghost use Rattle.flash_laws.specs.Laws.{ARunIsCalm, RunIsAnswered, RunIsWhole, RunKeepsTie, StepKeepsTie, TiedAtFirst, TiedIsAnswered, TiedIsWhole};
-ghost use Rattle.flash_laws.specs.Policy.{in_rounds};
+ghost use Rattle.flash_laws.specs.Rounds.{in_rounds};
 ghost use Rattle.flash_laws.specs.Serves.{any};
+ghost use Rattle.flash_laws.specs.Sharing.{WorkersAreShared};
 ghost use Rattle.flash_laws.specs.Site.{SiteStays};
 ghost use Rattle.flash_laws.specs.Workers.{WorkersWork};
 
@@ -127,3 +128,9 @@ pub fn site_law()
 {
     laws::each_step_leaves_the_rest();
 }
+
+/// Each script that runs has a worker of its own, whichever call the server picks: so it is of a new server, however many workers it
+/// has, and each turn leaves it so. For a server that has no workers no script runs.
+pub fn sharing_law()
+    ensures { WorkersAreShared }
+{}

@@ -1,4 +1,6 @@
-//! The laws of a script's run. The functions do nothing; their contracts are the laws.
+//! The laws of a script's run, and of a client for whose requests scripts run. The functions do nothing; their contracts are the laws.
+ghost use Rattle.flash_laws.specs.ClientKeeping.{ClientsLeaveNothing};
+ghost use Rattle.flash_laws.specs.ClientOffers.{ClientsAreOfferedTheResponse};
 ghost use Rattle.flash_laws.specs.RunKeeping.{RunsKeepNothing};
 ghost use Rattle.flash_laws.specs.RunOffers.{RunsOfferTheResponse};
 
@@ -28,4 +30,27 @@ pub fn run_keeping_law()
 {
     laws::aggregates_come_and_go();
     laws::calls_serve_their_domain();
+}
+
+/// What the server offers a client for a request, be it for a file or for a script, is the next bytes of the response: of a file there
+/// is one, of a script it is whatever it will be. It is said of each call for the client, calm or not, while nobody gives up or moves what
+/// it uses: the file's name is asked for first, a script that was read runs with its own text and the query of its request, and HEAD
+/// runs none.
+pub fn clients_law()
+    ensures { ClientsAreOfferedTheResponse }
+{
+    laws::each_step_leaves_the_rest();
+    laws::calls_serve_their_domain();
+    laws::file_calls_serve_their_domain();
+}
+
+/// The server keeps nothing of an answer that is over, be it of a file or of a script: what a call brings is used by the client that it
+/// was made for, and what that uses no more, aggregates, descriptors of files and ends of pipes, is given up. It is said of each call
+/// of the server, calm or not; what others give the server is not spoken of.
+pub fn client_keeping_law()
+    ensures { ClientsLeaveNothing }
+{
+    laws::aggregates_come_and_go();
+    laws::calls_serve_their_domain();
+    laws::file_calls_serve_their_domain();
 }

@@ -1,14 +1,15 @@
 -- The server holds few connections.
 use Rattle.std.proofs.Common.{◌≡◌, ℕ, zero, suc, ◌+◌, ◌-◌, ◌≤◌, List, [], ◌∷◌, ◌++◌, length, replicate, refl, sym, subst, ap, arith, Option, Some, None, Bool, true, false, if◌then◌else◌}
-use Rattle.std.specs.Prelude.{slice_set, nat_lt, Result, Ok, Err, IfOk}
+use Rattle.std.specs.Prelude.{slice_set, nat_lt, Result, Ok, Err, IfOk, OnOk}
 use Rattle.std.proofs.lemmas.Bool.Decides.{nat_tests}
 use Rattle.iol_core.specs.Numbered.{in_place, taken}
 use Rattle.iol_core.specs.declared.events.Reply.{Reply}
 use Rattle.iol_core.specs.declared.events.Reply.TheVariants as reply
 use Rattle.iol_proc.specs.declared.process.Turn.{Turn}
 use Rattle.flash_laws.specs.Conn.{Conn, told, new_connection}
-use Rattle.flash_laws.specs.Policy.{door, flight_to, in_rounds, most_conns, next_flight, next_place, place_after}
-use Rattle.flash_laws.specs.Serves.{Picks}
+use Rattle.flash_laws.specs.Policy.{door, flight_to, most_conns, next_flight, next_place, place_after}
+use Rattle.flash_laws.specs.Alone.{Picks}
+use Rattle.flash_lite.specs.Table.{in_rounds_alone}
 use Rattle.flash_laws.specs.Tied.{filed, left_over, told_at, with_at}
 use Rattle.flash_laws.specs.declared.doing.Flight.{Flight}
 use Rattle.flash_laws.specs.declared.doing.Flight.TheVariants.{Nothing, Accepting, At}
@@ -145,7 +146,7 @@ few_picks l (At fd) made after few p =
     subst (λ (m : List (Option Conn)). taken m ≤ 256) (sym p.after_is) (let small : taken (with_at l fd (Some p.ready)) ≤ 256 = omega (arith, less, few) in small)
 
 -- it leaves few where there were few
-pub few_turn : (conns : List (Option Conn)) (was : Flight) (r : Reply) (heard : List ℕ) (flight : Flight) (made : Turn) (after : List (Option Conn)) → IsFew conns was → Picks (filed conns was r heard) flight made after → in_rounds (filed conns was r heard) was r flight → IsFew after flight
+pub few_turn : (conns : List (Option Conn)) (was : Flight) (r : Reply) (heard : List ℕ) (flight : Flight) (made : Turn) (after : List (Option Conn)) → IsFew conns was → Picks (filed conns was r heard) flight made after → in_rounds_alone (filed conns was r heard) was r flight → IsFew after flight
 few_turn conns was r heard flight made after few picks policy =
     let l : List (Option Conn) = filed conns was r heard in
     few_picks l flight made after (subst (λ (f : Flight). IsFew l f) (sym policy) (few_next l was r (few_filed conns was r heard few))) picks
@@ -153,3 +154,7 @@ few_turn conns was r heard flight made after few picks policy =
 pub both : {T E : Type 0} (r : Result T E) (P Q R : T → Type 0) → ((x : T) → P x → Q x → R x) → IfOk r P → IfOk r Q → IfOk r R
 both (Ok x) P Q R from p q = from x p q
 both (Err e) P Q R from p q = tt
+
+pub on_ok : {T E : Type 0} (r : Result T E) (P Q : Type 0) → (P → Q) → OnOk r P → OnOk r Q
+on_ok (Ok x) P Q from p = from p
+on_ok (Err e) P Q from p = tt

@@ -9,7 +9,7 @@ use Rattle.iol_proc.specs.World.{Stage, copied, copying, seat_of, WorldRun}
 use Rattle.iol_proc.specs.declared.choice.Choice.{Choice}
 use Rattle.iol_proc.specs.declared.seat.Seat.{Seat}
 use Rattle.iol_system.specs.Machine.{SystemState, machine_of}
-use Rattle.flash_laws.specs.Policy.{in_rounds}
+use Rattle.flash_laws.specs.Rounds.{in_rounds}
 use Rattle.flash_laws.specs.Tie.{Actor, IsNew, actor_turns}
 use Rattle.flash_lite.specs.Hosting.{Hosts, IsNewWorld}
 use Rattle.flash_lite.specs.NewWorld.{IsNewOf, world_on}

@@ -20,3 +20,4 @@ pub mod Standing
 pub mod Texts
 pub mod Waiting
 pub mod Wanting
+pub mod Lifted

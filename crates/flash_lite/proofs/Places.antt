@@ -11,8 +11,9 @@ use Rattle.iol_core.specs.declared.events.Reply.{Reply}
 use Rattle.iol_proc.specs.declared.process.Turn.{Turn}
 use Rattle.iol_proc.specs.declared.process.Turn.TheVariants as turn
 use Rattle.flash_laws.specs.Conn.{Conn, told}
-use Rattle.flash_laws.specs.Policy.{leaves_off, next_place, flight_from, flight_to, door, place_after, most_conns, in_rounds}
-use Rattle.flash_laws.specs.Serves.{Picks, PicksAt}
+use Rattle.flash_laws.specs.Policy.{leaves_off, next_place, flight_from, flight_to, door, place_after, most_conns}
+use Rattle.flash_laws.specs.Alone.{Picks, PicksAt}
+use Rattle.flash_lite.specs.Table.{in_rounds_alone}
 use Rattle.flash_laws.specs.Tied.{with_at, filed, told_at, left_over, left_by}
 use Rattle.flash_laws.specs.declared.doing.Doing.{Doing}
 use Rattle.flash_laws.specs.declared.doing.Doing.TheVariants.{Rests, Got, Opens, Reads, Shuts, Picks as Picking, Spares, Heads, Joins, Sends, Cuts, Offers, Swaps, Sent, Breaks, Drops, Closes, Over}
@@ -230,7 +231,7 @@ next_there conns fd x there =
     let e : fd + 0 ≡ fd = omega arith in
     ap (λ (o : Option ℕ). flight_to conns (option_map (λ k. fd + k) o)) (drop_there conns fd x there) ∙ ap (λ (k : ℕ). At k) e
 
-pub asks_policy : (conns after : List (Option Conn)) (fd : ℕ) (r : Reply) (heard : List ℕ) (k : Call) → OnwardAt conns fd r heard (Asks k) after → in_rounds (filed conns (At fd) r heard) (At fd) r (At fd)
+pub asks_policy : (conns after : List (Option Conn)) (fd : ℕ) (r : Reply) (heard : List ℕ) (k : Call) → OnwardAt conns fd r heard (Asks k) after → in_rounds_alone (filed conns (At fd) r heard) (At fd) r (At fd)
 asks_policy conns after fd r heard k w =
     let t : Conn = told w.was r heard in
     let none : Option Conn = None in
@@ -240,7 +241,7 @@ asks_policy conns after fd r heard k w =
     let on : leaves_off (in_place l fd) r ≡ false = ap (λ (o : Option Conn). leaves_off o r) (there ∙ sym w.onward.0.stays) ∙ w.onward.0.on in
     sym (ap (λ p. flight_from l p) (place_on fd (in_place l fd) r on) ∙ next_there l fd t there)
 
-pub leaves_policy : (conns now : List (Option Conn)) (fd : ℕ) (r : Reply) (heard : List ℕ) (d : Doing) (flight : Flight) (made : Turn) → OnwardAt conns fd r heard (Leaves d) now → PicksFrom now (fd + 1) (most_with d) flight made → in_rounds (filed conns (At fd) r heard) (At fd) r flight
+pub leaves_policy : (conns now : List (Option Conn)) (fd : ℕ) (r : Reply) (heard : List ℕ) (d : Doing) (flight : Flight) (made : Turn) → OnwardAt conns fd r heard (Leaves d) now → PicksFrom now (fd + 1) (most_with d) flight made → in_rounds_alone (filed conns (At fd) r heard) (At fd) r flight
 leaves_policy conns now fd r heard d flight made w p =
     let none : Option Conn = None in
     let l : List (Option Conn) = filed conns (At fd) r heard in

@@ -1,7 +1,6 @@
 -- How many connections the server holds.
 use Rattle.std.specs.Prelude.{ℕ, ◌≤◌, List, Option}
 use Rattle.iol_core.specs.Numbered.{taken}
-use Rattle.flash_laws.specs.Conn.{Conn}
 use Rattle.flash_laws.specs.declared.doing.Flight.{Flight}
 use Rattle.flash_laws.specs.declared.doing.Flight.TheVariants.{Nothing, Accepting, At}
 
@@ -11,5 +10,5 @@ most_in Nothing = 256
 most_in Accepting = 255
 most_in (At fd) = 256
 
-abbrev pub IsFew : List (Option Conn) → Flight → Type 0
+abbrev pub IsFew : {A : Type 0} → List (Option A) → Flight → Type 0
 IsFew conns flight = taken conns ≤ most_in flight

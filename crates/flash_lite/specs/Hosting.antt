@@ -7,7 +7,7 @@ use Rattle.iol_proc.specs.World.{Stage, copying, WorldRun, domains_of}
 use Rattle.iol_proc.specs.declared.choice.Choice.{Choice}
 use Rattle.flash_laws.specs.Calm.{AreMild}
 use Rattle.flash_laws.specs.Host.{IsRight}
-use Rattle.flash_laws.specs.Policy.{in_rounds}
+use Rattle.flash_laws.specs.Rounds.{in_rounds}
 use Rattle.flash_laws.specs.Tie.{Actor, IsNew, actor_turns}
 use Rattle.flash_lite.specs.NewWorld.{world_on}
 use Rattle.flash_lite.specs.Shelf.{shelf_of}

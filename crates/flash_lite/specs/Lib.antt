@@ -1,3 +1,4 @@
+pub mod Table
 pub mod Few
 pub mod Heard
 pub mod Small

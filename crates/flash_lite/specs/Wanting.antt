@@ -5,6 +5,7 @@ use Rattle.iol_core.specs.Numbered.{in_place}
 use Rattle.iol_core.specs.declared.events.Reply.{Reply}
 use Rattle.iol_core.specs.declared.events.Reply.TheVariants as reply
 use Rattle.flash_laws.specs.Conn.{Conn, told}
+use Rattle.flash_laws.specs.Places.{connections}
 use Rattle.flash_laws.specs.Policy.{leaves_off, next_place}
 use Rattle.flash_laws.specs.Serves.{heard_of}
 use Rattle.flash_laws.specs.Tie.{Actor, Serving, Working}
@@ -75,5 +76,5 @@ MayWant conns (At fd) r heard =
 
 -- a process of a site: a worker wants none
 abbrev pub WantsBy : Actor Worker → Reply → (lent : ℕ → Option (List ℕ)) → Type 0
-WantsBy (Serving s) r lent = MayWant s.conns s.flight r (heard_of r lent)
+WantsBy (Serving s) r lent = MayWant (connections s.clients) s.flight r (heard_of r lent)
 WantsBy (Working w) r lent = ⊥

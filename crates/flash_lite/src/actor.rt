@@ -2,7 +2,7 @@
 ghost use Rattle.std.specs.Prelude.{◌≡◌, IfOk, IsOk, OnErr};
 ghost use Rattle.iol_proc.specs.Looks.{lent};
 ghost use Rattle.iol_proc.specs.Quiet.{IsQuiet};
-ghost use Rattle.flash_laws.specs.Policy.{in_rounds};
+ghost use Rattle.flash_laws.specs.Rounds.{in_rounds};
 ghost use Rattle.flash_laws.specs.Tie.{actor_turns};
 ghost use Rattle.flash_lite.specs.Wanting.{WantsBy};
 ghost use Rattle.flash_lite.specs.Workers.{worker_turns};

@@ -6,6 +6,7 @@ ghost use Rattle.flash_lite.specs.Texts as texts;
 ghost use Rattle.flash_laws.specs.Answers as spec;
 ghost use Rattle.flash_laws.specs.Conn as conn;
 
+use crate::running::texts::script_text;
 use flash_http::{Asked, MediaType, Request, ResponseHead, error_body, select};
 use flash_laws::doing::Content;
 use http::StatusCode;
@@ -99,6 +100,7 @@ pub(crate) fn served_text(
         } => file_text(alloc, request, u64::from(len)),
         Content::Bare { len } => bare_text(alloc, request, len),
         Content::Error { status } => error_text(alloc, status, request.head_only, !request.keep),
+        Content::Script => script_text(alloc, request),
     }
 }
 

@@ -119,6 +119,19 @@ fn sends_of(request: &Request, agg: AggId, len: u32) -> Doing
     }
 }
 
+// What is sent of a text: what it puts out, where it is a script.
+fn put_out(runs: bool) -> Content
+    ensures { result ≡ spec.put_out runs }
+{
+    if runs {
+        Content::Script
+    } else {
+        Content::Error {
+            status: StatusCode::INTERNAL_SERVER_ERROR,
+        }
+    }
+}
+
 // What follows where the file is closed.
 fn settled(asked: &Asked, learnt: Learnt) -> Doing
     ensures settled { result ≡ spec.settled (answer asked.now) learnt }
@@ -144,6 +157,10 @@ fn settled(asked: &Asked, learnt: Learnt) -> Doing
         },
         Learnt::Fails { status } => Doing::Heads {
             content: Content::Error { status },
+        },
+        Learnt::Text { agg, runs } => Doing::Spares {
+            agg,
+            content: put_out(runs),
         },
     }
 }

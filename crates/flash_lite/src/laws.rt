@@ -1,7 +1,7 @@
 //! The law of the server's own processes. The function does nothing; its contract is the law.
 ghost use Rattle.flash_laws.specs.Host.{ActorsSettle, HostIsRight, IdleIsDone};
 ghost use Rattle.flash_laws.specs.Laws.{RunIsAnswered, RunIsWhole, RunKeepsTie, StepKeepsTie, TiedAtFirst, TiedIsAnswered, TiedIsWhole};
-ghost use Rattle.flash_laws.specs.Policy.{in_rounds};
+ghost use Rattle.flash_laws.specs.Rounds.{in_rounds};
 ghost use Rattle.flash_lite.specs.Hosting.{HostedIsRight};
 ghost use Rattle.flash_lite.specs.NewWorld.{SetUpIsNew};
 ghost use Rattle.flash_lite.specs.Workers.{worker_turns, worker_ready, worker_settled};

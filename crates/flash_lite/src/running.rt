@@ -34,7 +34,7 @@ mod ending;
 mod hearing;
 mod parts;
 mod starting;
-mod texts;
+pub(crate) mod texts;
 
 // After the reply to the call of a step.
 fn told_step(

@@ -28,6 +28,7 @@ fn following(content: &Content) -> Following
         Content::Body { agg, size, len: _ } => Some((agg, size)),
         Content::Bare { len: _ } => None,
         Content::Error { status: _ } => None,
+        Content::Script => None,
     }
 }
 

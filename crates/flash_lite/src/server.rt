@@ -4,19 +4,23 @@ ghost use Rattle.iol_core.specs.Numbered.{in_place, taken};
 ghost use Rattle.iol_proc.specs.Looks.{lent};
 ghost use Rattle.iol_proc.specs.Quiet.{IsQuiet};
 ghost use Rattle.flash_laws.specs.Conn.{new_connection};
-ghost use Rattle.flash_laws.specs.Policy.{in_rounds, next_place};
-ghost use Rattle.flash_laws.specs.Serves.{Picks, new_server, heard_of, server_turns};
+ghost use Rattle.flash_laws.specs.Alone.{Picks};
+ghost use Rattle.flash_laws.specs.Places.{NoneRuns, connections};
+ghost use Rattle.flash_laws.specs.Policy.{next_place};
+ghost use Rattle.flash_laws.specs.Rounds.{in_rounds};
+ghost use Rattle.flash_laws.specs.Serves.{new_server, heard_of, server_turns};
 ghost use Rattle.flash_laws.specs.Tied.{filed, grown, with_at};
 ghost use Rattle.flash_laws.specs.declared.doing.Flight.TheVariants.{Nothing, Accepting, At};
 ghost use Rattle.flash_lite.specs.Few.{IsFew};
 ghost use Rattle.flash_lite.specs.Heard.{heard};
 ghost use Rattle.flash_lite.specs.Offering.{OffersNext};
+ghost use Rattle.flash_lite.specs.Table.{in_rounds_alone, serving};
 ghost use Rattle.flash_lite.specs.Turning.{OnwardIn, MayRest, left_at, CallAt, Makes, PicksFrom, door_to, most_with};
 ghost use Rattle.flash_lite.specs.Wanting.{MayWant, WantsFrom, WantsHere, is_accepted, wants_there};
 
 use crate::conn::{Conn, Onward};
 use flash_laws::doing::{Doing, Flight};
-use flash_laws::laws::offers_law;
+use flash_laws::run_laws::clients_law;
 use iol_agg::Parts;
 use iol_core::events::{Call, Reply};
 use iol_core::numbers::Fd;
@@ -29,20 +33,20 @@ use std::marker::Model;
 /// The connections that the server holds at most.
 pub const MAX_CONNS: usize = 256;
 
-/// The connections, each in the place of its descriptor, and which call is out.
+// The connections, each in the place of its descriptor, and which call is out.
 #[derive(Drop)]
-pub struct Server {
+struct Table {
     alloc: Global,
     conns: Vec<Option<Conn>>,
     flight: Flight,
 }
 
-impl Model for Server {
+impl Model for Table {
     ghost use Rattle.std.specs.Prelude.{◌≤◌, ◌^◌, length};
-    ghost use Rattle.flash_laws.specs.Serves.{Server as Serving};
     ghost use Rattle.flash_lite.specs.Few.{IsFew};
+    ghost use Rattle.flash_lite.specs.Table.{Table as Kept};
 
-    ghost Value = { Serving };
+    ghost Value = { Kept };
 
     ghost view = { λ s. record { conns = s.conns.items; flight = s.flight } };
 
@@ -203,12 +207,12 @@ fn pick(conns: &[Option<Conn>], from: usize, most: usize) -> Result<(Flight, Tur
     }
 }
 
-impl Server {
-    /// A server without connections.
-    pub fn new(alloc: Global) -> Server
-        ensures { result ≡ new_server }
+impl Table {
+    // Without connections.
+    fn new(alloc: Global) -> Table
+        ensures { result ≡ record { conns = []; flight = Nothing } }
     {
-        Server {
+        Table {
             alloc,
             conns: Vec::new(alloc),
             flight: Flight::Nothing,
@@ -235,7 +239,7 @@ impl Server {
         requires { self.old.flight ≡ Accepting }
         ensures turn { IfOk result (λ turn. Picks (filed self.old.conns Accepting last.now [])
             self.new.flight turn self.new.conns) }
-        ensures policy { IfOk result (λ _. in_rounds (filed self.old.conns Accepting last.now [])
+        ensures policy { IfOk result (λ _. in_rounds_alone (filed self.old.conns Accepting last.now [])
             Accepting last.now self.new.flight) }
         ensures err { OnErr result (self.new ≡ self.old) }
         ensures wants { OnErr result (is_accepted last.now ≡ true) }
@@ -284,7 +288,7 @@ impl Server {
         ensures turn { IfOk result (λ turn. Picks
             (filed self.old.conns (At fd) last.now (heard parts.entry))
             self.new.flight turn self.new.conns) }
-        ensures policy { IfOk result (λ _. in_rounds
+        ensures policy { IfOk result (λ _. in_rounds_alone
             (filed self.old.conns (At fd) last.now (heard parts.entry))
             (At fd) last.now self.new.flight) }
         ensures err { OnErr result (self.new ≡ self.old) }
@@ -306,7 +310,7 @@ impl Server {
         ensures turn { IfOk result (λ turn. Picks
             (filed self.old.conns self.old.flight last.now (heard parts.entry))
             self.new.flight turn self.new.conns) }
-        ensures policy { IfOk result (λ _. in_rounds
+        ensures policy { IfOk result (λ _. in_rounds_alone
             (filed self.old.conns self.old.flight last.now (heard parts.entry))
             self.old.flight last.now self.new.flight) }
         ensures err { OnErr result (self.new ≡ self.old) }
@@ -319,6 +323,23 @@ impl Server {
             Flight::At { fd } => self.go_on_at(fd, last, parts),
         }
     }
+
+    // The same, which leaves few connections.
+    fn advance(&mut self, last: &Reply, parts: Option<Parts<'_>>) -> Result<Turn, AllocError>
+        ensures turn { IfOk result (λ turn. Picks
+            (filed self.old.conns self.old.flight last.now (heard parts.entry))
+            self.new.flight turn self.new.conns) }
+        ensures policy { IfOk result (λ _. in_rounds_alone
+            (filed self.old.conns self.old.flight last.now (heard parts.entry))
+            self.old.flight last.now self.new.flight) }
+        ensures err { OnErr result (self.new ≡ self.old) }
+        ensures wants { OnErr result
+            (MayWant self.old.conns self.old.flight last.now (heard parts.entry)) }
+        ensures few { OnOk result (IsFew self.new.conns self.new.flight) }
+    {
+        let _flight = &self.flight;
+        self.go_on(last, parts)
+    }
 }
 
 // What lies in the aggregate that a reply names.
@@ -328,6 +349,32 @@ fn lent_by<'a>(last: &Reply, look: &Look<'a>) -> Option<Parts<'a>>
     match last {
         Reply::Agg(agg) => look.bytes(*agg),
         _ => None,
+    }
+}
+
+/// The server: its clients, and which call is out. It has no workers, and runs no scripts.
+#[derive(Drop)]
+pub struct Server {
+    table: Table,
+}
+
+impl Model for Server {
+    ghost use Rattle.flash_laws.specs.Serves.{Server as Serving};
+    ghost use Rattle.flash_lite.specs.Table.{serving};
+
+    ghost Value = { Serving };
+
+    ghost view = { λ s. serving s.table };
+}
+
+impl Server {
+    /// A server without connections.
+    pub fn new(alloc: Global) -> Server
+        ensures { result ≡ new_server }
+    {
+        Server {
+            table: Table::new(alloc),
+        }
     }
 }
 
@@ -342,18 +389,20 @@ impl Process for Server {
 
         // It wants memory only to keep what came, for a place, to begin a request, and for the bytes
         // of a call.
-        ensures wants { OnErr result (MayWant self.old.conns self.old.flight last.now
-            (heard_of last.now (lent look.now))) }
+        ensures wants { OnErr result (MayWant (connections self.old.clients) self.old.flight
+            last.now (heard_of last.now (lent look.now))) }
 
         // What is offered is the next bytes of the response to the request.
         ensures offers { IfOk result (λ turn. OffersNext self.new turn) }
 
         // It holds at most 256 connections, and one fewer while another is being accepted.
-        ensures few { OnOk result (IsFew self.new.conns self.new.flight) }
+        ensures few { OnOk result (IsFew self.new.clients self.new.flight) }
+
+        // For none of them a script runs.
+        ensures none { OnOk result (NoneRuns self.new.clients) }
     {
-        offers_law();
-        let _flight = &self.flight;
+        clients_law();
         let parts = lent_by(last, look);
-        self.go_on(last, parts)
+        self.table.advance(last, parts)
     }
 }

@@ -2,7 +2,7 @@ use Rattle.std.proofs.Common.{[], ◌++◌, length, map, subst}
 use Rattle.iol_proc.specs.Idle.{Idles, rounds}
 use Rattle.iol_proc.specs.World.{copying, domains_of}
 use Rattle.iol_proc.proofs.Smooth.{rough_as_it_runs}
-use Rattle.flash_laws.specs.Policy.{in_rounds}
+use Rattle.flash_laws.specs.Rounds.{in_rounds}
 use Rattle.flash_laws.specs.Tie.{actor_turns}
 use Rattle.flash_laws.proofs.Settling.{actor_settles}
 use Rattle.flash_laws.proofs.Idling.{idle-done}

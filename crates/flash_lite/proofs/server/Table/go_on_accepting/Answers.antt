@@ -3,7 +3,7 @@ use Rattle.flash_laws.specs.Conn.{Conn}
 use Rattle.flash_laws.specs.Tied.{accepted}
 use Rattle.flash_lite.specs.Turning.{Makes}
 use Rattle.flash_lite.proofs.Places.{door_picks}
-use Rattle.flash_lite.proofs.server.Server.go_on_accepting.Goals as goal
+use Rattle.flash_lite.proofs.server.Table.go_on_accepting.Goals as goal
 
 pub returns-in_ok-admit-in-Fd-clause-turn : goal.returns-in_ok-admit-in-Fd-clause-turn
 returns-in_ok-admit-in-Fd-clause-turn c =

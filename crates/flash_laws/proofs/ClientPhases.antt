@@ -1,0 +1,330 @@
+-- The phases of a client, whatever the response that is due: what the machine has, what is offered, and what of a script's text is
+-- read.
+use Rattle.std.proofs.Common.{◌≡◌, ℕ, ◌+◌, ◌-◌, List, [], ◌∷◌, ◌++◌, drop, ap, ◌∙◌, refl, sym, subst, Some, None, true, false, Bool, append_assoc, if◌then◌else◌}
+use Rattle.std.specs.Prelude.{min, nat_lt, nat_le, slice_range}
+use Rattle.std.proofs.lemmas.List.{take-append-drop}
+use Rattle.iol_core.specs.State.{State, descriptor}
+use Rattle.iol_core.specs.Run.{StepsTo}
+use Rattle.iol_core.specs.declared.limits.TheConstants.{MAX_AGGREGATE_BYTES}
+use Rattle.iol_core.specs.declared.descriptors.Descriptor.TheVariants as on
+use Rattle.iol_core.specs.declared.refusals.Refusal.TheVariants as no
+use Rattle.iol_core.specs.declared.events.Call.{Call}
+use Rattle.iol_core.specs.declared.events.Call.TheVariants as call
+use Rattle.iol_core.specs.declared.events.Event.TheVariants as event
+use Rattle.iol_core.specs.declared.events.Reply.{Reply}
+use Rattle.iol_core.specs.declared.events.Reply.TheVariants as reply
+use Rattle.iol_laws.specs.Frame.{EachStepLeavesTheRest}
+use Rattle.iol_laws.specs.Order.{IsOrderly}
+use Rattle.iol_laws.specs.Caller as o
+use Rattle.iol_laws.specs.Caller.{CallsServeTheirDomain, lent_at}
+use Rattle.flash_http.specs.declared.ranges.Selection.{Selection}
+use Rattle.flash_http.specs.declared.ranges.Selection.TheVariants.{Whole, Bytes, Unsatisfiable}
+use Rattle.flash_http.specs.Range.{selected}
+use Rattle.flash_http.specs.Request.{Answer, serve, refuse}
+use Rattle.flash_laws.specs.Answers.{keeps}
+use Rattle.flash_laws.specs.Client.{conn_wants}
+use Rattle.flash_laws.specs.Conn.{Following, Conn, is_head_only, most_read, piece_end, count_of, wants, sends_of, settled, following, headed, told_rests, told}
+use Rattle.flash_laws.specs.declared.doing.Learnt.{Learnt}
+use Rattle.flash_laws.specs.declared.doing.Learnt.TheVariants.{File, Length, Fails, Text as TextOf}
+use Rattle.flash_laws.specs.declared.doing.Content.{Content}
+use Rattle.flash_laws.specs.declared.doing.Doing.{Doing}
+use Rattle.flash_laws.specs.declared.doing.Doing.TheVariants.{Rests, Got, Opens, Reads as Reading, Shuts, Picks, Spares, Heads, Joins, Sends, Cuts, Offers, Swaps, Sent, Breaks, Drops, Closes, Over}
+use Rattle.flash_laws.specs.Fits.{Has, is_closing, Names}
+use Rattle.flash_laws.specs.Known.{is_read, is_opening}
+use Rattle.flash_laws.specs.Offers.{taken_of}
+use Rattle.flash_laws.specs.Site.{server}
+use Rattle.flash_laws.proofs.Having as having
+
+abbrev pub at : List ℕ → Answer → Doing → Conn
+at kept q d = record { kept = kept; q = q; doing = d }
+
+-- ---- what the machine has after a call, but for those that open and read
+
+module _ (steps : EachStepLeavesTheRest) (own : CallsServeTheirDomain) (m n : State) (order : IsOrderly m) (kept : List ℕ) where
+  rests : (q : Answer) (due : List ℕ) (r : Reply) (heard : List ℕ) → Names n r heard → Has n q due (told_rests kept q r heard).doing
+  rests q due (reply.Agg a) [] names = record { after = []; lent = ([], names); follows = refl; apart = refl }
+  rests q due (reply.Agg a) (b ∷ l) names = (b ∷ l, names)
+  rests q due r heard names = tt
+
+  got : (q : Answer) (due : List ℕ) (a : ℕ) (r : Reply) (heard : List ℕ) → Has m q due (Got a) → StepsTo m (event.Call server (call.AggDrop a)) r n
+      → Has n q due (told (at kept q (Got a)) r heard).doing
+  got q due a r heard has step = by r (own.drops m n server a r order step)
+    where
+      by : (r : Reply) → o.Drops m server a r n → Has n q due (told (at kept q (Got a)) r heard).doing
+      by reply.Done did = tt
+      by (reply.Refused y) did = subst (λ (s : State). Has s q due (Got a)) (sym did) has
+      by r did = absurd did
+
+  pub phase : (fd c : ℕ) (q : Answer) (d : Doing) (due : List ℕ) (r : Reply) (heard : List ℕ) → descriptor m server fd ≡ Some (on.Connection c)
+      → is_opening d ≡ false → is_closing d ≡ false → Has m q due d → StepsTo m (event.Call server (wants fd (at kept q d))) r n
+      → Names n r heard → Has n q due (told (at kept q d) r heard).doing
+  phase fd c q Rests due r heard open_on read busy has step names = rests q due r heard names
+  phase fd c q (Got a) due r heard open_on read busy has step names = got q due a r heard has step
+  phase fd c q Opens due r heard open_on read busy has step names = absurd (cc (read))
+  phase fd c q (Reading f) due r heard open_on read busy has step names = absurd (cc (read))
+  phase fd c q (Shuts f k) due r heard open_on read busy has step names = having.shuts steps own m n order q f k due r has step
+  phase fd c q (Picks a first last len) due r heard open_on read busy has step names = having.picks steps own m n order q a first last len due r has step
+  phase fd c q (Spares a k) due r heard open_on read busy has step names = having.spares steps own m n order q a k due r has step
+  phase fd c q (Heads k) due r heard open_on read busy has step names = having.heads steps own m n order q k due r heard has step names
+  phase fd c q (Joins a size body len) due r heard open_on read busy has step names = having.joins steps own m n order q a size body len due r has step
+  phase fd c q (Sends a len taken more) due r heard open_on read busy has step names = having.sends steps own m n order q fd c a len taken more due r open_on has step
+  phase fd c q (Cuts a from len taken more) due r heard open_on read busy has step names = having.cuts steps own m n order q a from len taken more due r has step
+  phase fd c q (Offers a from len piece taken more) due r heard open_on read busy has step names = having.offers_piece steps own m n order q fd c a from len piece taken more due r open_on has step
+  phase fd c q (Swaps a from len piece taken more) due r heard open_on read busy has step names = having.swaps steps own m n order q a from len piece taken more due r has step
+  phase fd c q (Sent a taken more) due r heard open_on read busy has step names = having.sent_all steps own m n order q a taken more due r has step
+  phase fd c q (Breaks piece a more) due r heard open_on read busy has step names = having.breaks steps own m n order q piece a more due r has step
+  phase fd c q (Drops a more) due r heard open_on read busy has step names = having.drops steps own m n order q a more due r has step
+  phase fd c q Closes due r heard open_on read busy has step names = absurd (cc (busy))
+  phase fd c q Over due r heard open_on read busy has step names = absurd (cc (busy))
+
+-- ---- what is offered
+
+abbrev pub Next : State → (due : List ℕ) → (a taken : ℕ) → Type 0
+Next m due a taken = (bytes : List ℕ) × (after : List ℕ) × (lent_at m server a ≡ Some bytes) × (bytes ++ after ≡ drop taken due)
+
+-- the descriptor, and the aggregate, that a call writes
+abbrev written_fd : Call → (other : ℕ) → ℕ
+written_fd (call.IolWrite fd a) other = fd
+written_fd k other = other
+
+abbrev written : Call → (other : ℕ) → ℕ
+written (call.IolWrite fd a) other = a
+written k other = other
+
+reads-none : (b : Bool) (f g a : ℕ) → (if b then call.Length f else call.IolRead f most_read) ≡ call.IolWrite g a → ⊥
+reads-none true f g a e = cc (e)
+reads-none false f g a e = cc (e)
+
+pub next-due : (m : State) (fd g a : ℕ) (kept : List ℕ) (q : Answer) (d : Doing) (due : List ℕ) → Has m q due d
+    → wants fd (at kept q d) ≡ call.IolWrite g a → (g ≡ fd) × Next m due a (taken_of d)
+next-due m fd g a kept q (Sends b len taken more) due has is =
+    let same : b ≡ a = ap (λ k. written k b) is in
+    let own : fd ≡ g = ap (λ k. written_fd k fd) is in
+    (sym own, (has.bytes, has.after, ap (λ z. lent_at m server z) (sym same) ∙ has.lends, has.next))
+next-due m fd g a kept q (Offers b from len piece taken more) due has is =
+    let same : piece ≡ a = ap (λ k. written k piece) is in
+    let own : fd ≡ g = ap (λ k. written_fd k fd) is in
+    let bytes = has.whole.bytes in
+    let rest = drop (piece_end from len - from) (drop from bytes) in (
+      sym own,
+      (
+        slice_range bytes from (piece_end from len),
+        rest ++ has.whole.after,
+        ap (λ z. lent_at m server z) (sym same) ∙ has.lends,
+        sym (append_assoc (slice_range bytes from (piece_end from len)) rest has.whole.after)
+            ∙ (ap (λ (l : List ℕ). l ++ has.whole.after) (take-append-drop (piece_end from len - from) (drop from bytes)) ∙ has.whole.next),
+      ),
+    )
+next-due m fd g a kept q (Reading f) due has is = absurd (reads-none (is_head_only q) f g a is)
+next-due m fd g a kept q d due has is = absurd (cc (is))
+
+-- what is written for a script's request is what would be written for a file's
+pub script-writes : (fd g a : ℕ) (kept : List ℕ) (q : Answer) (d : Doing) (b : Bool) → conn_wants b fd (at kept q d) ≡ call.IolWrite g a → wants fd (at kept q d) ≡ call.IolWrite g a
+script-writes fd g a kept q d false is = is
+script-writes fd g a kept q (Reading f) true is = absurd (cc (is))
+script-writes fd g a kept q Rests true is = is
+script-writes fd g a kept q (Got b) true is = is
+script-writes fd g a kept q Opens true is = is
+script-writes fd g a kept q (Shuts f k) true is = is
+script-writes fd g a kept q (Picks b first last len) true is = is
+script-writes fd g a kept q (Spares b k) true is = is
+script-writes fd g a kept q (Heads k) true is = is
+script-writes fd g a kept q (Joins b size body len) true is = is
+script-writes fd g a kept q (Sends b len taken more) true is = is
+script-writes fd g a kept q (Cuts b from len taken more) true is = is
+script-writes fd g a kept q (Offers b from len piece taken more) true is = is
+script-writes fd g a kept q (Swaps b from len piece taken more) true is = is
+script-writes fd g a kept q (Sent b taken more) true is = is
+script-writes fd g a kept q (Breaks piece b more) true is = is
+script-writes fd g a kept q (Drops b more) true is = is
+script-writes fd g a kept q Closes true is = is
+script-writes fd g a kept q Over true is = is
+
+-- ---- once all is read nothing is opened or read any more
+
+-- whether an answer is being made or sent, or dropped
+abbrev is_making : Doing → Bool
+is_making (Heads k) = true
+is_making (Joins a size body len) = true
+is_making (Sends a len taken more) = true
+is_making (Cuts a from len taken more) = true
+is_making (Offers a from len piece taken more) = true
+is_making (Swaps a from len piece taken more) = true
+is_making (Sent a taken more) = true
+is_making (Breaks piece a more) = true
+is_making (Drops a more) = true
+is_making d = false
+
+abbrev Stays : (Doing → Bool) → Doing → Type 0
+Stays p d = p d ≡ false
+
+module _ (p : Doing → Bool)
+    (rests : Stays p Rests) (got : (a : ℕ) → Stays p (Got a)) (closes : Stays p Closes) (over : Stays p Over) (heads : (k : Content) → Stays p (Heads k))
+    (joins : (a size body len : ℕ) → Stays p (Joins a size body len)) (sends : (a len taken : ℕ) (more : Following) → Stays p (Sends a len taken more))
+    (cuts : (a from len taken : ℕ) (more : Following) → Stays p (Cuts a from len taken more))
+    (offers : (a from len piece taken : ℕ) (more : Following) → Stays p (Offers a from len piece taken more))
+    (swaps : (a from len piece taken : ℕ) (more : Following) → Stays p (Swaps a from len piece taken more))
+    (sent : (a taken : ℕ) (more : Following) → Stays p (Sent a taken more))
+    (breaks : (piece a : ℕ) (more : Following) → Stays p (Breaks piece a more)) (drops : (a : ℕ) (more : Following) → Stays p (Drops a more)) where
+  headed-stays : (n size : ℕ) (more : Following) → Stays p (headed n size more)
+  headed-stays n size None = sends n size 0 None
+  headed-stays n size (Some x) = by (nat_le (size + x.1) MAX_AGGREGATE_BYTES)
+    where
+      by : (t : Bool) → Stays p (if t then Joins n size x.0 x.1 else Sends n size 0 (Some x))
+      by true = joins n size x.0 x.1
+      by false = sends n size 0 (Some x)
+
+  pub sending-stays : (kept : List ℕ) (q : Answer) (d : Doing) (r : Reply) (heard : List ℕ) → is_making d ≡ true → Stays p (told (at kept q d) r heard).doing
+  sending-stays kept q (Heads k) (reply.Agg n) heard left = headed-stays n (count_of heard) (following k)
+  sending-stays kept q (Heads k) r heard left = heads k
+  sending-stays kept q (Joins a size body len) (reply.Agg n) heard left = sends n (size + len) 0 None
+  sending-stays kept q (Joins a size body len) r heard left = joins a size body len
+  sending-stays kept q (Sends a len taken more) (reply.Count n) heard left = by (nat_lt n len)
+    where
+      by : (t : Bool) → Stays p (if t then Cuts a n len (taken + n) more else Sent a (taken + len) more)
+      by true = cuts a n len (taken + n) more
+      by false = sent a (taken + len) more
+  sending-stays kept q (Sends a len taken more) (reply.Refused no.BrokenPipe) heard left = drops a more
+  sending-stays kept q (Sends a len taken more) r heard left = sends a len taken more
+  sending-stays kept q (Cuts a from len taken more) (reply.Agg n) heard left = offers a from len n taken more
+  sending-stays kept q (Cuts a from len taken more) r heard left = cuts a from len taken more
+  sending-stays kept q (Offers a from len piece taken more) (reply.Count n) heard left = swaps a (from + min n (len - from)) len piece (taken + min n (len - from)) more
+  sending-stays kept q (Offers a from len piece taken more) (reply.Refused no.BrokenPipe) heard left = breaks piece a more
+  sending-stays kept q (Offers a from len piece taken more) r heard left = offers a from len piece taken more
+  sending-stays kept q (Swaps a from len piece taken more) reply.Done heard left = by (nat_lt from len)
+    where
+      by : (t : Bool) → Stays p (if t then Cuts a from len taken more else Sent a taken more)
+      by true = cuts a from len taken more
+      by false = sent a taken more
+  sending-stays kept q (Swaps a from len piece taken more) r heard left = swaps a from len piece taken more
+  sending-stays kept q (Sent a taken (Some x)) reply.Done heard left = sends x.0 x.1 taken None
+  sending-stays kept q (Sent a taken None) reply.Done heard left = by (keeps q)
+    where
+      by : (t : Bool) → Stays p (if t then Rests else Closes)
+      by true = rests
+      by false = closes
+  sending-stays kept q (Sent a taken more) r heard left = sent a taken more
+  sending-stays kept q (Breaks piece a more) reply.Done heard left = drops a more
+  sending-stays kept q (Breaks piece a more) r heard left = breaks piece a more
+  sending-stays kept q (Drops a (Some x)) reply.Done heard left = drops x.0 None
+  sending-stays kept q (Drops a None) reply.Done heard left = closes
+  sending-stays kept q (Drops a more) r heard left = drops a more
+  sending-stays kept q d r heard left = absurd (cc (left))
+
+settled-unread : (f : ℕ) (q : Answer) (k : Learnt) → is_read (Shuts f k) ≡ false → is_read (settled q k) ≡ false
+settled-unread f (serve w) (File a len) was = by (selected w.range len)
+  where
+    by : (sel : Selection) → is_read (sends_of sel a len) ≡ false
+    by Whole = refl
+    by (Bytes first last) = refl
+    by Unsatisfiable = refl
+settled-unread f (refuse status head_only close) (File a len) was = refl
+settled-unread f (serve w) (Length len) was = refl
+settled-unread f (refuse status head_only close) (Length len) was = refl
+settled-unread f (serve w) (Fails status) was = refl
+settled-unread f (refuse status head_only close) (Fails status_was) was = refl
+settled-unread f (serve w) (TextOf a true) was = absurd (cc (was))
+settled-unread f (refuse status head_only close) (TextOf a true) was = absurd (cc (was))
+settled-unread f (serve w) (TextOf a false) was = refl
+settled-unread f (refuse status head_only close) (TextOf a false) was = refl
+
+settled-read : (q : Answer) (k : Learnt) → is_opening (settled q k) ≡ false
+settled-read (serve w) (File a len) = by (selected w.range len)
+  where
+    by : (sel : Selection) → is_opening (sends_of sel a len) ≡ false
+    by Whole = refl
+    by (Bytes first last) = refl
+    by Unsatisfiable = refl
+settled-read (refuse status head_only close) (File a len) = refl
+settled-read (serve w) (Length len) = refl
+settled-read (refuse status head_only close) (Length len) = refl
+settled-read (serve w) (Fails status) = refl
+settled-read (refuse status head_only close) (Fails was) = refl
+settled-read (serve w) (TextOf a runs) = refl
+settled-read (refuse status head_only close) (TextOf a runs) = refl
+
+-- no script's text is read by a call for a file
+pub unread-told : (kept : List ℕ) (q : Answer) (d : Doing) (r : Reply) (heard : List ℕ) → is_read d ≡ false → is_read (told (at kept q d) r heard).doing ≡ false
+unread-told kept q Rests (reply.Agg n) [] was = refl
+unread-told kept q Rests (reply.Agg n) (b ∷ heard) was = refl
+unread-told kept q Rests r heard was = refl
+unread-told kept q (Got a) reply.Done heard was = refl
+unread-told kept q (Got a) r heard was = refl
+unread-told kept q Opens (reply.Fd f) heard was = refl
+unread-told kept q Opens (reply.Refused no.WouldBlock) heard was = refl
+unread-told kept q Opens (reply.Refused x) heard was = refl
+unread-told kept q Opens r heard was = refl
+unread-told kept q (Reading f) (reply.Agg n) heard was = refl
+unread-told kept q (Reading f) (reply.Count n) heard was = refl
+unread-told kept q (Reading f) (reply.Refused no.WouldBlock) heard was = refl
+unread-told kept q (Reading f) (reply.Refused x) heard was = refl
+unread-told kept q (Reading f) r heard was = refl
+unread-told kept q (Shuts f k) reply.Done heard was = settled-unread f q k was
+unread-told kept q (Shuts f k) r heard was = was
+unread-told kept q (Picks a first last len) (reply.Agg n) heard was = refl
+unread-told kept q (Picks a first last len) r heard was = refl
+unread-told kept q (Spares a k) reply.Done heard was = refl
+unread-told kept q (Spares a k) r heard was = was
+unread-told kept q Closes reply.Done heard was = refl
+unread-told kept q Closes r heard was = refl
+unread-told kept q Over r heard was = refl
+unread-told kept q (Heads k) r heard was = sending-stays (λ e. is_read e) refl (λ a. refl) refl refl (λ k. refl) (λ a size body len. refl) (λ a len taken more. refl) (λ a from len taken more. refl) (λ a from len piece taken more. refl) (λ a from len piece taken more. refl) (λ a taken more. refl) (λ piece a more. refl) (λ a more. refl) kept q (Heads k) r heard refl
+unread-told kept q (Joins a size body len) r heard was = sending-stays (λ e. is_read e) refl (λ a. refl) refl refl (λ k. refl) (λ a size body len. refl) (λ a len taken more. refl) (λ a from len taken more. refl) (λ a from len piece taken more. refl) (λ a from len piece taken more. refl) (λ a taken more. refl) (λ piece a more. refl) (λ a more. refl) kept q (Joins a size body len) r heard refl
+unread-told kept q (Sends a len taken more) r heard was = sending-stays (λ e. is_read e) refl (λ a. refl) refl refl (λ k. refl) (λ a size body len. refl) (λ a len taken more. refl) (λ a from len taken more. refl) (λ a from len piece taken more. refl) (λ a from len piece taken more. refl) (λ a taken more. refl) (λ piece a more. refl) (λ a more. refl) kept q (Sends a len taken more) r heard refl
+unread-told kept q (Cuts a from len taken more) r heard was = sending-stays (λ e. is_read e) refl (λ a. refl) refl refl (λ k. refl) (λ a size body len. refl) (λ a len taken more. refl) (λ a from len taken more. refl) (λ a from len piece taken more. refl) (λ a from len piece taken more. refl) (λ a taken more. refl) (λ piece a more. refl) (λ a more. refl) kept q (Cuts a from len taken more) r heard refl
+unread-told kept q (Offers a from len piece taken more) r heard was = sending-stays (λ e. is_read e) refl (λ a. refl) refl refl (λ k. refl) (λ a size body len. refl) (λ a len taken more. refl) (λ a from len taken more. refl) (λ a from len piece taken more. refl) (λ a from len piece taken more. refl) (λ a taken more. refl) (λ piece a more. refl) (λ a more. refl) kept q (Offers a from len piece taken more) r heard refl
+unread-told kept q (Swaps a from len piece taken more) r heard was = sending-stays (λ e. is_read e) refl (λ a. refl) refl refl (λ k. refl) (λ a size body len. refl) (λ a len taken more. refl) (λ a from len taken more. refl) (λ a from len piece taken more. refl) (λ a from len piece taken more. refl) (λ a taken more. refl) (λ piece a more. refl) (λ a more. refl) kept q (Swaps a from len piece taken more) r heard refl
+unread-told kept q (Sent a taken more) r heard was = sending-stays (λ e. is_read e) refl (λ a. refl) refl refl (λ k. refl) (λ a size body len. refl) (λ a len taken more. refl) (λ a from len taken more. refl) (λ a from len piece taken more. refl) (λ a from len piece taken more. refl) (λ a taken more. refl) (λ piece a more. refl) (λ a more. refl) kept q (Sent a taken more) r heard refl
+unread-told kept q (Breaks piece a more) r heard was = sending-stays (λ e. is_read e) refl (λ a. refl) refl refl (λ k. refl) (λ a size body len. refl) (λ a len taken more. refl) (λ a from len taken more. refl) (λ a from len piece taken more. refl) (λ a from len piece taken more. refl) (λ a taken more. refl) (λ piece a more. refl) (λ a more. refl) kept q (Breaks piece a more) r heard refl
+unread-told kept q (Drops a more) r heard was = sending-stays (λ e. is_read e) refl (λ a. refl) refl refl (λ k. refl) (λ a size body len. refl) (λ a len taken more. refl) (λ a from len taken more. refl) (λ a from len piece taken more. refl) (λ a from len piece taken more. refl) (λ a taken more. refl) (λ piece a more. refl) (λ a more. refl) kept q (Drops a more) r heard refl
+
+-- and what is read is not read again
+pub read-told : (kept : List ℕ) (q : Answer) (d : Doing) (r : Reply) (heard : List ℕ) → is_opening d ≡ false → is_opening (told (at kept q d) r heard).doing ≡ false
+read-told kept q Rests (reply.Agg n) [] was = refl
+read-told kept q Rests (reply.Agg n) (b ∷ heard) was = refl
+read-told kept q Rests r heard was = refl
+read-told kept q (Got a) reply.Done heard was = refl
+read-told kept q (Got a) r heard was = refl
+read-told kept q Opens r heard was = absurd (cc (was))
+read-told kept q (Reading f) r heard was = absurd (cc (was))
+read-told kept q (Shuts f k) reply.Done heard was = settled-read q k
+read-told kept q (Shuts f k) r heard was = refl
+read-told kept q (Picks a first last len) (reply.Agg n) heard was = refl
+read-told kept q (Picks a first last len) r heard was = refl
+read-told kept q (Spares a k) reply.Done heard was = refl
+read-told kept q (Spares a k) r heard was = refl
+read-told kept q Closes reply.Done heard was = refl
+read-told kept q Closes r heard was = refl
+read-told kept q Over r heard was = refl
+read-told kept q (Heads k) r heard was = sending-stays (λ e. is_opening e) refl (λ a. refl) refl refl (λ k. refl) (λ a size body len. refl) (λ a len taken more. refl) (λ a from len taken more. refl) (λ a from len piece taken more. refl) (λ a from len piece taken more. refl) (λ a taken more. refl) (λ piece a more. refl) (λ a more. refl) kept q (Heads k) r heard refl
+read-told kept q (Joins a size body len) r heard was = sending-stays (λ e. is_opening e) refl (λ a. refl) refl refl (λ k. refl) (λ a size body len. refl) (λ a len taken more. refl) (λ a from len taken more. refl) (λ a from len piece taken more. refl) (λ a from len piece taken more. refl) (λ a taken more. refl) (λ piece a more. refl) (λ a more. refl) kept q (Joins a size body len) r heard refl
+read-told kept q (Sends a len taken more) r heard was = sending-stays (λ e. is_opening e) refl (λ a. refl) refl refl (λ k. refl) (λ a size body len. refl) (λ a len taken more. refl) (λ a from len taken more. refl) (λ a from len piece taken more. refl) (λ a from len piece taken more. refl) (λ a taken more. refl) (λ piece a more. refl) (λ a more. refl) kept q (Sends a len taken more) r heard refl
+read-told kept q (Cuts a from len taken more) r heard was = sending-stays (λ e. is_opening e) refl (λ a. refl) refl refl (λ k. refl) (λ a size body len. refl) (λ a len taken more. refl) (λ a from len taken more. refl) (λ a from len piece taken more. refl) (λ a from len piece taken more. refl) (λ a taken more. refl) (λ piece a more. refl) (λ a more. refl) kept q (Cuts a from len taken more) r heard refl
+read-told kept q (Offers a from len piece taken more) r heard was = sending-stays (λ e. is_opening e) refl (λ a. refl) refl refl (λ k. refl) (λ a size body len. refl) (λ a len taken more. refl) (λ a from len taken more. refl) (λ a from len piece taken more. refl) (λ a from len piece taken more. refl) (λ a taken more. refl) (λ piece a more. refl) (λ a more. refl) kept q (Offers a from len piece taken more) r heard refl
+read-told kept q (Swaps a from len piece taken more) r heard was = sending-stays (λ e. is_opening e) refl (λ a. refl) refl refl (λ k. refl) (λ a size body len. refl) (λ a len taken more. refl) (λ a from len taken more. refl) (λ a from len piece taken more. refl) (λ a from len piece taken more. refl) (λ a taken more. refl) (λ piece a more. refl) (λ a more. refl) kept q (Swaps a from len piece taken more) r heard refl
+read-told kept q (Sent a taken more) r heard was = sending-stays (λ e. is_opening e) refl (λ a. refl) refl refl (λ k. refl) (λ a size body len. refl) (λ a len taken more. refl) (λ a from len taken more. refl) (λ a from len piece taken more. refl) (λ a from len piece taken more. refl) (λ a taken more. refl) (λ piece a more. refl) (λ a more. refl) kept q (Sent a taken more) r heard refl
+read-told kept q (Breaks piece a more) r heard was = sending-stays (λ e. is_opening e) refl (λ a. refl) refl refl (λ k. refl) (λ a size body len. refl) (λ a len taken more. refl) (λ a from len taken more. refl) (λ a from len piece taken more. refl) (λ a from len piece taken more. refl) (λ a taken more. refl) (λ piece a more. refl) (λ a more. refl) kept q (Breaks piece a more) r heard refl
+read-told kept q (Drops a more) r heard was = sending-stays (λ e. is_opening e) refl (λ a. refl) refl refl (λ k. refl) (λ a size body len. refl) (λ a len taken more. refl) (λ a from len taken more. refl) (λ a from len piece taken more. refl) (λ a from len piece taken more. refl) (λ a taken more. refl) (λ piece a more. refl) (λ a more. refl) kept q (Drops a more) r heard refl
+
+-- the request stays the same
+pub asks-told : (kept : List ℕ) (q : Answer) (d : Doing) (r : Reply) (heard : List ℕ) → (told (at kept q d) r heard).q ≡ q
+asks-told kept q Rests (reply.Agg n) [] = refl
+asks-told kept q Rests (reply.Agg n) (b ∷ heard) = refl
+asks-told kept q Rests r heard = refl
+asks-told kept q (Got a) r heard = refl
+asks-told kept q Opens r heard = refl
+asks-told kept q (Reading f) r heard = refl
+asks-told kept q (Shuts f k) r heard = refl
+asks-told kept q (Picks a first last len) r heard = refl
+asks-told kept q (Spares a k) r heard = refl
+asks-told kept q (Heads k) r heard = refl
+asks-told kept q (Joins a size body len) r heard = refl
+asks-told kept q (Sends a len taken more) r heard = refl
+asks-told kept q (Cuts a from len taken more) r heard = refl
+asks-told kept q (Offers a from len piece taken more) r heard = refl
+asks-told kept q (Swaps a from len piece taken more) r heard = refl
+asks-told kept q (Sent a taken more) r heard = refl
+asks-told kept q (Breaks piece a more) r heard = refl
+asks-told kept q (Drops a more) r heard = refl
+asks-told kept q Closes r heard = refl
+asks-told kept q Over r heard = refl

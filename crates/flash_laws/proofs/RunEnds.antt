@@ -1,0 +1,179 @@
+-- How a run ends, and until when it keeps the text of its script.
+use Rattle.std.proofs.Common.{inl, inr, ◌≡◌, ℕ, ◌-◌, ◌⊎◌, List, [], ◌∷◌, ap, refl, Option, Some, None, true, false, Bool, if◌then◌else◌}
+use Rattle.std.specs.Prelude.{nat_lt, not}
+use Rattle.iol_core.specs.declared.refusals.Refusal.TheVariants as no
+use Rattle.iol_core.specs.declared.events.Reply.{Reply}
+use Rattle.iol_core.specs.declared.events.Reply.TheVariants as reply
+use Rattle.flash_http.specs.Request.{Wanted}
+use Rattle.flash_laws.specs.Client.{job_of, keeps_text, after_run}
+use Rattle.flash_laws.specs.Conn.{Following, count_of}
+use Rattle.iol_core.specs.State.{State}
+use Rattle.flash_laws.specs.RunFits.{Progress, HasLeft, HasRun}
+use Rattle.flash_laws.specs.Running.{is_again, is_left, is_over, wants, told, told_step, holding, hearing, filled, finishing, both}
+use Rattle.flash_laws.specs.declared.doing.Doing.{Doing}
+use Rattle.flash_laws.specs.declared.doing.Doing.TheVariants as doing
+use Rattle.flash_laws.specs.declared.running.TheConstants.{CHUNK_BYTES}
+use Rattle.flash_laws.specs.declared.running.Run.{Run}
+use Rattle.flash_laws.specs.declared.running.Step.{Step}
+use Rattle.flash_laws.specs.declared.running.Step.TheVariants.{Gives, Makes, Hands, Lets, Heads, Sending, Hears, Spills, Gathers, Frames, Wraps, Trims, Ended, Unholds, Stops, Unframes, Lasts, WrapsLast, TrimsLast, Unwraps, Returns, Lapses, Fails}
+use Rattle.flash_laws.specs.declared.running.Running.{Running}
+use Rattle.flash_laws.specs.declared.running.Running.TheVariants.{Awaits, Runs, Leaves, Closes}
+use Rattle.flash_laws.proofs.Lists.{clash}
+
+-- ---- it ends where the connection rests, or is to be closed
+
+abbrev pub IsEnd : Doing → Type 0
+IsEnd d = (d ≡ doing.Rests) ⊎ (d ≡ doing.Closes)
+
+-- what is left is sent, until nothing of it is
+left-ends : (m : State) (w : Wanted) (o : Progress) (d : Doing) → HasLeft m w o d → is_left d ≡ false → IsEnd d
+left-ends m w o doing.Rests has over = inl refl
+left-ends m w o doing.Closes has over = inr refl
+left-ends m w o doing.Opens has over = absurd has.sends.0
+left-ends m w o (doing.Got a) has over = absurd has.sends.0
+left-ends m w o (doing.Reads f) has over = absurd has.sends.0
+left-ends m w o (doing.Shuts f k) has over = absurd has.sends.0
+left-ends m w o (doing.Picks a first last len) has over = absurd has.sends.0
+left-ends m w o (doing.Spares a k) has over = absurd has.sends.0
+left-ends m w o (doing.Joins a size body len) has over = absurd has.sends.0
+left-ends m w o doing.Over has over = absurd has.sends.0
+left-ends m w o (doing.Heads k) has over = absurd (cc (over))
+left-ends m w o (doing.Sends a len taken more) has over = absurd (cc (over))
+left-ends m w o (doing.Cuts a from len taken more) has over = absurd (cc (over))
+left-ends m w o (doing.Offers a from len piece taken more) has over = absurd (cc (over))
+left-ends m w o (doing.Swaps a from len piece taken more) has over = absurd (cc (over))
+left-ends m w o (doing.Sent a taken more) has over = absurd (cc (over))
+left-ends m w o (doing.Breaks piece a more) has over = absurd (cc (over))
+left-ends m w o (doing.Drops a more) has over = absurd (cc (over))
+
+turned-over : (b : Bool) → not b ≡ true → b ≡ false
+turned-over true is = absurd (cc (is))
+turned-over false is = refl
+
+pub run-ends : (job : ℕ → List ℕ) (m : State) (w : Wanted) (o : Progress) (z : Running) → HasRun job m w o z → is_over z ≡ true → IsEnd (after_run z)
+run-ends job m w o Awaits has over = absurd (cc (over))
+run-ends job m w o (Runs run s) has over = absurd (cc (over))
+run-ends job m w o (Leaves d) has over = left-ends m w o d has (turned-over (is_left d) over)
+run-ends job m w o Closes has over = inr refl
+
+-- ---- the text is kept until the job is made
+
+abbrev Forgets : Running → Type 0
+Forgets z = keeps_text z ≡ false
+
+holding-forgets : (run : Run) (held size : ℕ) (frame : Option ℕ) → Forgets (Runs run (holding held size frame))
+holding-forgets run held size frame = by (nat_lt size CHUNK_BYTES) frame
+  where
+    by : (t : Bool) (frame : Option ℕ) → Forgets (Runs run (if t then Hears (Some (held, size)) frame else filled held frame))
+    by true frame = refl
+    by false None = refl
+    by false (Some f) = refl
+
+hearing-forgets : (run : Run) (b c : Bool) (held : Following) (frame : Option ℕ) (a len : ℕ) → Forgets (Runs run (hearing b c held frame a len))
+hearing-forgets run true c held frame a len = refl
+hearing-forgets run false false held frame a len = refl
+hearing-forgets run false true None frame a len = holding-forgets run a len frame
+hearing-forgets run false true (Some x) frame a len = refl
+
+finishing-forgets : (b c : Bool) (run : Run) (held : Following) → Forgets (finishing b c run held)
+finishing-forgets false true run held = refl
+finishing-forgets false false run held = refl
+finishing-forgets true c run held = refl
+
+step-forgets : (w : Wanted) (run : Run) (s : Step) (r : Reply) (heard : List ℕ) → keeps_text (Runs run s) ≡ false → Forgets (told_step w run s r heard)
+step-forgets w run (Gives write) r heard was = absurd (cc (was))
+step-forgets w run (Makes f) r heard was = absurd (cc (was))
+step-forgets w run (Hands j f) (reply.Count n) heard was = refl
+step-forgets w run (Hands j f) (reply.Refused x) heard was = by (is_again x)
+  where
+    by : (t : Bool) → Forgets (Runs run (if t then Hands j f else Lapses j))
+    by true = refl
+    by false = refl
+step-forgets w run (Hands j f) r heard was = refl
+step-forgets w run (Lets j) reply.Done heard was = refl
+step-forgets w run (Lets j) r heard was = refl
+step-forgets w run Heads (reply.Agg n) heard was = refl
+step-forgets w run Heads r heard was = refl
+step-forgets w run (Sending (doing.Sent a taken None) frame) reply.Done heard was = refl
+step-forgets w run (Sending (doing.Drops a None) frame) reply.Done heard was = refl
+step-forgets w run (Sending d frame) r heard was = refl
+step-forgets w run (Hears held frame) (reply.Agg n) [] was = refl
+step-forgets w run (Hears held frame) (reply.Agg n) (b ∷ heard) was = hearing-forgets run run.broken w.chunked held frame n (count_of (b ∷ heard))
+step-forgets w run (Hears None frame) (reply.Refused (no.Denied p)) heard was = refl
+step-forgets w run (Hears (Some x) frame) (reply.Refused (no.Denied p)) heard was = refl
+step-forgets w run (Hears held frame) r heard was = refl
+step-forgets w run (Spills a frame) reply.Done heard was = refl
+step-forgets w run (Spills a frame) r heard was = refl
+step-forgets w run (Gathers held size piece len frame) (reply.Agg n) heard was = holding-forgets run n (both size len) frame
+step-forgets w run (Gathers held size piece len frame) r heard was = refl
+step-forgets w run (Frames held) (reply.Agg n) heard was = refl
+step-forgets w run (Frames held) r heard was = refl
+step-forgets w run (Wraps held frame) (reply.Agg n) heard was = refl
+step-forgets w run (Wraps held frame) r heard was = refl
+step-forgets w run (Trims held chunk len frame) reply.Done heard was = refl
+step-forgets w run (Trims held chunk len frame) r heard was = refl
+step-forgets w run (Ended a held frame) reply.Done heard was = refl
+step-forgets w run (Ended a held frame) r heard was = refl
+step-forgets w run (Unholds held frame) reply.Done heard was = refl
+step-forgets w run (Unholds held frame) r heard was = refl
+step-forgets w run (Stops held None) reply.Done heard was = finishing-forgets run.broken w.chunked run held
+step-forgets w run (Stops held (Some f)) reply.Done heard was = refl
+step-forgets w run (Stops held frame) r heard was = refl
+step-forgets w run (Unframes f held) reply.Done heard was = finishing-forgets run.broken w.chunked run held
+step-forgets w run (Unframes f held) r heard was = refl
+step-forgets w run (Lasts None) (reply.Agg n) heard was = refl
+step-forgets w run (Lasts (Some x)) (reply.Agg n) heard was = refl
+step-forgets w run (Lasts held) r heard was = refl
+step-forgets w run (WrapsLast held size frame) (reply.Agg n) heard was = refl
+step-forgets w run (WrapsLast held size frame) r heard was = refl
+step-forgets w run (TrimsLast held chunk len frame) reply.Done heard was = refl
+step-forgets w run (TrimsLast held chunk len frame) r heard was = refl
+step-forgets w run (Unwraps frame chunk len) reply.Done heard was = refl
+step-forgets w run (Unwraps frame chunk len) r heard was = refl
+step-forgets w run (Returns write) reply.Done heard was = refl
+step-forgets w run (Returns write) r heard was = refl
+step-forgets w run (Lapses j) reply.Done heard was = refl
+step-forgets w run (Lapses j) r heard was = refl
+step-forgets w run Fails reply.Done heard was = refl
+step-forgets w run Fails r heard was = refl
+
+-- what keeps it kept it before
+pub keeps-back : (worker : ℕ) (w : Wanted) (y : Running) (r : Reply) (heard : List ℕ) → keeps_text (told worker w y r heard) ≡ true → keeps_text y ≡ true
+keeps-back worker w Awaits r heard kept = refl
+keeps-back worker w (Runs run s) r heard kept = by (keeps_text (Runs run s)) refl
+  where
+    by : (b : Bool) → keeps_text (Runs run s) ≡ b → keeps_text (Runs run s) ≡ true
+    by true is = is
+    by false is = absurd (clash (keeps_text (told_step w run s r heard)) kept (step-forgets w run s r heard is))
+keeps-back worker w (Leaves d) r heard kept = absurd (cc (kept))
+keeps-back worker w Closes r heard kept = absurd (cc (kept))
+
+-- no call but that for the job tells its text
+pub wants-text : (fd : ℕ) (w : Wanted) (y : Running) (script text : List ℕ) → (keeps_text y ≡ true → script ≡ text)
+    → wants (job_of w script) fd w y ≡ wants (job_of w text) fd w y
+wants-text fd w Awaits script text kept = refl
+wants-text fd w (Runs run (Makes f)) script text kept = ap (λ (t : List ℕ). wants (job_of w t) fd w (Runs run (Makes f))) (kept refl)
+wants-text fd w (Runs run (Gives write)) script text kept = refl
+wants-text fd w (Runs run (Hands j f)) script text kept = refl
+wants-text fd w (Runs run (Lets j)) script text kept = refl
+wants-text fd w (Runs run Heads) script text kept = refl
+wants-text fd w (Runs run (Sending d frame)) script text kept = refl
+wants-text fd w (Runs run (Hears held frame)) script text kept = refl
+wants-text fd w (Runs run (Spills a frame)) script text kept = refl
+wants-text fd w (Runs run (Gathers held size piece len frame)) script text kept = refl
+wants-text fd w (Runs run (Frames held)) script text kept = refl
+wants-text fd w (Runs run (Wraps held frame)) script text kept = refl
+wants-text fd w (Runs run (Trims held chunk len frame)) script text kept = refl
+wants-text fd w (Runs run (Ended a held frame)) script text kept = refl
+wants-text fd w (Runs run (Unholds held frame)) script text kept = refl
+wants-text fd w (Runs run (Stops held frame)) script text kept = refl
+wants-text fd w (Runs run (Unframes frame held)) script text kept = refl
+wants-text fd w (Runs run (Lasts held)) script text kept = refl
+wants-text fd w (Runs run (WrapsLast held size frame)) script text kept = refl
+wants-text fd w (Runs run (TrimsLast held chunk len frame)) script text kept = refl
+wants-text fd w (Runs run (Unwraps frame chunk len)) script text kept = refl
+wants-text fd w (Runs run (Returns write)) script text kept = refl
+wants-text fd w (Runs run (Lapses j)) script text kept = refl
+wants-text fd w (Runs run Fails) script text kept = refl
+wants-text fd w (Leaves d) script text kept = refl
+wants-text fd w Closes script text kept = refl

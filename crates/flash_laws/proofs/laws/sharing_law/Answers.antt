@@ -1,0 +1,5 @@
+use Rattle.flash_laws.proofs.Sharing.{workers_shared}
+use Rattle.flash_laws.proofs.laws.sharing_law.Goals as goal
+
+pub returns : goal.returns
+returns c = workers_shared

@@ -1,0 +1,217 @@
+-- One client as the server sees it: its connection, and the script that runs for the request in progress.
+--
+-- A server that has workers answers a request for a name that ends in `.cgi` with what the script puts out. The script is opened and
+-- read as any file; then its run has the connection until all is sent.
+use Rattle.std.specs.Prelude.{◌≡◌, ℕ, ◌&&◌, Bool, true, false, List, [], Option, Some, None, is_some}
+use Rattle.iol_core.specs.declared.events.Call.{Call}
+use Rattle.iol_core.specs.declared.events.Call.TheVariants as call
+use Rattle.iol_core.specs.declared.events.Reply.{Reply}
+use Rattle.iol_core.specs.declared.events.Reply.TheVariants as reply
+use Rattle.flash_http.specs.MediaType.{is_script}
+use Rattle.flash_http.specs.Request.{Answer, serve, refuse, Wanted}
+use Rattle.flash_cgi.specs.Job.{job_text}
+use Rattle.flash_cgi.specs.Script.{script_of}
+use Rattle.flash_laws.specs.Conn as conn
+use Rattle.flash_laws.specs.Conn.{Conn, new_connection, most_read, is_head_only}
+use Rattle.flash_laws.specs.Policy as policy
+use Rattle.flash_laws.specs.Running as running
+use Rattle.flash_laws.specs.Running.{is_over}
+use Rattle.flash_laws.specs.Tied.{left_by}
+use Rattle.flash_laws.specs.declared.doing.Learnt.TheVariants.{Text}
+use Rattle.flash_laws.specs.declared.doing.Content.TheVariants.{Script}
+use Rattle.flash_laws.specs.declared.doing.Doing.{Doing}
+use Rattle.flash_laws.specs.declared.doing.Doing.TheVariants as doing
+use Rattle.flash_laws.specs.declared.running.Run.{Run}
+use Rattle.flash_laws.specs.declared.running.Step.TheVariants.{Gives, Makes}
+use Rattle.flash_laws.specs.declared.running.Running.{Running}
+use Rattle.flash_laws.specs.declared.running.Running.TheVariants.{Awaits, Runs, Leaves}
+
+pub record Client : Type 0 where
+  -- its connection; while a script runs, its phase stands still
+  pub conn : Conn
+  -- the run of the script that is asked for, if it has begun and is not over
+  pub run : Option Running
+  -- the text of that script, from the moment that it is read until the job is made
+  pub script : List ℕ
+
+abbrev pub new_client : Client
+new_client = record { conn = new_connection; run = None; script = [] }
+
+-- ---- what it uses
+
+abbrev pub uses_agg : Client → (a : ℕ) → Bool
+uses_agg x a = by x.run
+  where
+    by : Option Running → Bool
+    by None = conn.uses_agg x.conn.doing a
+    by (Some y) = running.uses_agg y a
+
+abbrev pub uses_fd : Client → (g : ℕ) → Bool
+uses_fd x g = by x.run
+  where
+    by : Option Running → Bool
+    by None = conn.uses_fd x.conn.doing g
+    by (Some y) = running.uses_fd y g
+
+-- ---- what it wants
+
+-- whether a request is for a script, if scripts are run at all
+abbrev pub is_for_script : (scripts : Bool) → Answer → Bool
+is_for_script scripts (serve w) = scripts && is_script w.name
+is_for_script scripts (refuse status head_only close) = false
+
+-- a script is read whole, for HEAD too
+abbrev pub script_wants : (fd : ℕ) → Conn → Call
+script_wants fd x = by x.doing
+  where
+    by : Doing → Call
+    by (doing.Reads f) = call.IolRead f most_read
+    by d = conn.wants fd x
+
+abbrev pub conn_wants : (script : Bool) → (fd : ℕ) → Conn → Call
+conn_wants false fd x = conn.wants fd x
+conn_wants true fd x = script_wants fd x
+
+-- the text of the job for a request whose script has this text, by the descriptor that takes the output
+abbrev pub job_of : Wanted → (script : List ℕ) → (fd : ℕ) → List ℕ
+job_of w script fd = job_text fd w.query script
+
+abbrev pub run_wants : (fd : ℕ) → Answer → (script : List ℕ) → Running → Call
+run_wants fd (serve w) script y = running.wants (job_of w script) fd w y
+run_wants fd (refuse status head_only close) script y = call.Close fd
+
+-- its next call; fd is the descriptor of its connection
+abbrev pub wants : (scripts : Bool) → (fd : ℕ) → Client → Call
+wants scripts fd x = by x.run
+  where
+    by : Option Running → Call
+    by None = conn_wants (is_for_script scripts x.conn.q) fd x.conn
+    by (Some y) = run_wants fd x.conn.q x.script y
+
+-- ---- how an answer begins
+
+abbrev pub Readies : Client → Client → Type 0
+Readies x y = by x.run
+  where
+    by : Option Running → Type 0
+    by None = (ready : Conn) × conn.Readies x.conn ready × (y ≡ record { conn = ready; run = None; script = x.script })
+    by (Some z) = y ≡ x
+
+-- whether a connection that reads has no request that could begin
+abbrev pub IsAwaiting : Client → Type 0
+IsAwaiting x = by x.run
+  where
+    by : Option Running → Type 0
+    by None = conn.IsAwaiting x.conn
+    by (Some y) = Unit {0}
+
+-- ---- what it is after the reply to its call; `heard` is what the aggregate of the reply holds
+
+-- whether a text is a script
+abbrev pub can_run : List ℕ → Bool
+can_run text = is_some (script_of text)
+
+abbrev pub told_text : (file : ℕ) → Reply → (heard : List ℕ) → Doing
+told_text f (reply.Agg n) heard = doing.Shuts f (Text n (can_run heard))
+told_text f r heard = conn.told_reads f r heard
+
+-- the text that is kept: one that will run
+abbrev pub kept_if : (head_only runs : Bool) → List ℕ → List ℕ
+kept_if false true text = text
+kept_if head_only runs text = []
+
+abbrev pub kept_text : (head_only : Bool) → (was : List ℕ) → Reply → (heard : List ℕ) → List ℕ
+kept_text head_only was (reply.Agg n) heard = kept_if head_only (can_run heard) heard
+kept_text head_only was r heard = was
+
+-- what was read is dropped: but for HEAD the run begins
+abbrev pub told_spares : (head_only : Bool) → Reply → Option Running
+told_spares false reply.Done = Some Awaits
+told_spares head_only r = None
+
+abbrev pub conn_told : Client → Reply → (heard : List ℕ) → Client
+conn_told x r heard = record { conn = conn.told x.conn r heard; run = None; script = x.script }
+
+abbrev pub script_told : Client → Reply → (heard : List ℕ) → Client
+script_told x r heard = by x.conn.doing
+  where
+    by : Doing → Client
+    by (doing.Reads f) = record {
+      conn = record x.conn { doing = told_text f r heard };
+      run = None;
+      script = kept_text (is_head_only x.conn.q) x.script r heard;
+    }
+    by (doing.Spares a Script) = record {
+      conn = conn.told x.conn r heard;
+      run = told_spares (is_head_only x.conn.q) r;
+      script = x.script;
+    }
+    by d = conn_told x r heard
+
+abbrev pub file_told : (script : Bool) → Client → Reply → (heard : List ℕ) → Client
+file_told false x r heard = conn_told x r heard
+file_told true x r heard = script_told x r heard
+
+-- whether the job is still to be made
+abbrev pub keeps_text : Running → Bool
+keeps_text Awaits = true
+keeps_text (Runs run (Gives write)) = true
+keeps_text (Runs run (Makes f)) = true
+keeps_text y = false
+
+-- from then on the text is kept no more
+abbrev pub text_on : (was now : Bool) → List ℕ → List ℕ
+text_on true false text = []
+text_on was now text = text
+
+-- where the connection is once the run is over
+abbrev pub after_run : Running → Doing
+after_run (Leaves d) = d
+after_run y = doing.Closes
+
+-- the run goes on from y to z, or is over with it
+abbrev pub goes_on : (was over : Bool) → Client → (y z : Running) → Client
+goes_on false true x y z = record { conn = record x.conn { doing = after_run z }; run = None; script = [] }
+goes_on was over x y z = record { conn = x.conn; run = Some z; script = text_on (keeps_text y) (keeps_text z) x.script }
+
+abbrev pub run_on : Client → (y z : Running) → Client
+run_on x y z = goes_on (is_over y) (is_over z) x y z
+
+abbrev pub run_told : (worker : ℕ) → Answer → Client → Running → Reply → (heard : List ℕ) → Client
+run_told worker (serve w) x y r heard = run_on x y (running.told worker w y r heard)
+run_told worker (refuse status head_only close) x y r heard = x
+
+-- What it is after the reply to its call, where `worker` is one that is free.
+abbrev pub told : (scripts : Bool) → (worker : ℕ) → Client → Reply → (heard : List ℕ) → Client
+told scripts worker x r heard = by x.run
+  where
+    by : Option Running → Client
+    by None = file_told (is_for_script scripts x.conn.q) x r heard
+    by (Some y) = run_told worker x.conn.q x y r heard
+
+-- one that is over is forgotten
+abbrev pub left_over : Client → Option Client
+left_over x = by x.run
+  where
+    by : Option Running → Option Client
+    by None = left_by x.conn.doing x
+    by (Some y) = Some x
+
+-- ---- its turns
+
+-- whether it waits for a worker
+abbrev pub awaits : Client → Bool
+awaits x = by x.run
+  where
+    by : Option Running → Bool
+    by None = false
+    by (Some Awaits) = true
+    by (Some y) = false
+
+-- whether nothing is in progress for it, and nothing is kept
+abbrev pub is_bare : Client → Bool
+is_bare x = by x.run
+  where
+    by : Option Running → Bool
+    by None = policy.is_bare x.conn
+    by (Some y) = false

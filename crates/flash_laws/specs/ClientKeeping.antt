@@ -1,0 +1,46 @@
+-- The server keeps nothing of an answer that is over, be it of a file or of a script: what its calls bring it is used by the client
+-- that they are made for, and what that client uses no more is given up.
+--
+-- As what it offers (`ClientOffers`), it is said of each call of its own, calm or not.
+use Rattle.std.specs.Prelude.{◌≡◌, ℕ, Bool, true, false, List, Option, Some, None}
+use Rattle.iol_core.specs.Access.{HasAccess}
+use Rattle.iol_core.specs.State.{State, descriptor, is_live}
+use Rattle.iol_core.specs.Run.{StepsTo}
+use Rattle.iol_core.specs.declared.descriptors.Descriptor.TheVariants as on
+use Rattle.iol_core.specs.declared.events.Event.TheVariants as event
+use Rattle.iol_core.specs.declared.events.Reply.{Reply}
+use Rattle.iol_laws.specs.Caller.{lent_at}
+use Rattle.iol_laws.specs.Order.{IsOrderly}
+use Rattle.flash_laws.specs.Client.{Client, uses_agg, wants, told}
+use Rattle.flash_laws.specs.ClientOffers.{is_ending}
+use Rattle.flash_laws.specs.Conn as conn
+use Rattle.flash_laws.specs.Known.{Known, HasKnown}
+use Rattle.flash_laws.specs.RunKeeping.{has_end}
+use Rattle.flash_laws.specs.Site.{server}
+use Rattle.flash_laws.specs.declared.running.Running.{Running}
+
+-- whether it has this descriptor, of a file or of an end of the pipe that a script puts out into
+abbrev pub has_fd : Client → (g : ℕ) → Bool
+has_fd x g = by x.run
+  where
+    by : Option Running → Bool
+    by None = conn.uses_fd x.conn.doing g
+    by (Some y) = has_end y g
+
+pub record ClientKeepsNothing (scripts : Bool) : Type 0 where
+  -- an aggregate that comes by a call for a client is used by it
+  pub brought : (m n : State) (fd c worker : ℕ) (x : Client) (known : Known) (r : Reply) (heard bytes : List ℕ) (a : ℕ)
+      → IsOrderly m → HasAccess m → is_live m server ≡ true → descriptor m server fd ≡ Some (on.Connection c)
+      → is_ending x ≡ false → HasKnown scripts m x known → StepsTo m (event.Call server (wants scripts fd x)) r n
+      → lent_at m server a ≡ None → lent_at n server a ≡ Some bytes → uses_agg (told scripts worker x r heard) a ≡ true
+  -- one that it uses no more is gone
+  pub left : (m n : State) (fd worker : ℕ) (x : Client) (known : Known) (r : Reply) (heard : List ℕ) (a : ℕ) → IsOrderly m
+      → HasKnown scripts m x known → StepsTo m (event.Call server (wants scripts fd x)) r n
+      → uses_agg x a ≡ true → uses_agg (told scripts worker x r heard) a ≡ false → lent_at n server a ≡ None
+  -- and so is the descriptor of a file, and each end of a pipe, which is closed, or given to the worker
+  pub shut : (m n : State) (fd worker : ℕ) (x : Client) (known : Known) (r : Reply) (heard : List ℕ) (g : ℕ)
+      → HasKnown scripts m x known → StepsTo m (event.Call server (wants scripts fd x)) r n
+      → has_fd x g ≡ true → has_fd (told scripts worker x r heard) g ≡ false → descriptor n server g ≡ None
+
+abbrev pub ClientsLeaveNothing : Type 0
+ClientsLeaveNothing = (scripts : Bool) → ClientKeepsNothing scripts

@@ -1,0 +1,108 @@
+-- What the server offers a client for a request, be it for a file or for a script, is the next bytes of the response.
+--
+-- It is said of each step, calm or not: what the machine has of a response it goes on having, unless somebody gives up or moves
+-- what the client uses. That over a whole run nobody does is not said here.
+use Rattle.std.specs.Prelude.{◌≡◌, ◌⊎◌, ℕ, Bool, true, false, List, [], Option, Some, None}
+use Rattle.iol_core.specs.Access.{HasAccess}
+use Rattle.iol_core.specs.State.{State, descriptor, is_live}
+use Rattle.iol_core.specs.Run.{StepsTo}
+use Rattle.iol_core.specs.Values.{gives_up}
+use Rattle.iol_core.specs.declared.descriptors.Descriptor.TheVariants as on
+use Rattle.iol_core.specs.declared.events.Call.{Call}
+use Rattle.iol_core.specs.declared.events.Call.TheVariants as call
+use Rattle.iol_core.specs.declared.events.Event.{Event}
+use Rattle.iol_core.specs.declared.events.Event.TheVariants as event
+use Rattle.iol_core.specs.declared.events.Reply.{Reply}
+use Rattle.iol_core.specs.declared.events.Reply.TheVariants as reply
+use Rattle.iol_laws.specs.Frame.{touches_fd}
+use Rattle.iol_laws.specs.Order.{IsOrderly}
+use Rattle.flash_http.specs.Request.{Answer}
+use Rattle.flash_laws.specs.Answers.{Outcome}
+use Rattle.flash_laws.specs.Client.{Client, uses_agg, uses_fd, wants, is_for_script, awaits, told}
+use Rattle.flash_laws.specs.Conn.{begins}
+use Rattle.flash_laws.specs.Fits.{Names, is_closing}
+use Rattle.flash_laws.specs.Known.{Known, OfFile, OfScript, of_text, IsNextOf, HasKnown}
+use Rattle.flash_laws.specs.Offers as file
+use Rattle.flash_laws.specs.Offers.{FirstCall}
+use Rattle.flash_laws.specs.RunFits.{Progress, HasJobPipe}
+use Rattle.flash_laws.specs.RunOffers as run
+use Rattle.flash_laws.specs.Running.{job_pipe, is_over}
+use Rattle.flash_laws.specs.Site.{server}
+use Rattle.flash_laws.specs.declared.doing.Doing.{Doing}
+use Rattle.flash_laws.specs.declared.doing.Doing.TheVariants as doing
+use Rattle.flash_laws.specs.declared.running.Step.TheVariants.{Hands}
+use Rattle.flash_laws.specs.declared.running.Running.{Running}
+use Rattle.flash_laws.specs.declared.running.Running.TheVariants.{Runs}
+
+-- one for which this request begins
+abbrev pub begun : (kept : List ℕ) → Answer → Client
+begun kept q = record { conn = record { kept = kept; q = q; doing = begins q }; run = None; script = [] }
+
+-- whether nothing is left to do for it but to close its connection
+abbrev pub is_ending : Client → Bool
+is_ending x = by x.run
+  where
+    by : Option Running → Bool
+    by None = is_closing x.conn.doing
+    by (Some y) = is_over y
+
+-- What the calls for a file or for the text of a script gave, after the reply to one.
+abbrev pub ConnLearns : (script : Bool) → Doing → Reply → (heard : List ℕ) → (before after : Known) → Type 0
+ConnLearns true (doing.Reads f) (reply.Agg n) heard before after = after ≡ of_text heard
+ConnLearns script d r heard (OfFile o) after = (p : Outcome) × file.Learns d r heard o p × (after ≡ OfFile p)
+ConnLearns script d r heard (OfScript text o) after = after ≡ OfScript text o
+
+-- what those of a run gave
+abbrev pub RunLearns : State → Running → Reply → (heard : List ℕ) → (before after : Known) → Type 0
+RunLearns m y r heard (OfScript text o) after = (p : Progress) × run.Learns m y r heard o p × (after ≡ OfScript text p)
+RunLearns m y r heard (OfFile o) after = ⊥
+
+abbrev pub Learns : (scripts : Bool) → State → Client → Reply → (heard : List ℕ) → (before after : Known) → Type 0
+Learns scripts m x r heard before after = by x.run
+  where
+    by : Option Running → Type 0
+    by None = ConnLearns (is_for_script scripts x.conn.q) x.conn.doing r heard before after
+    by (Some y) = RunLearns m y r heard before after
+
+-- how many bytes are taken of what is being sent
+abbrev pub taken_by : Client → ℕ
+taken_by x = by x.run
+  where
+    by : Option Running → ℕ
+    by None = file.taken_of x.conn.doing
+    by (Some y) = run.taken_by y
+
+-- it writes its job into the pipe of its worker
+abbrev pub HandsJob : Client → (fd a : ℕ) → Type 0
+HandsJob x fd a = by x.run
+  where
+    by : Option Running → Type 0
+    by (Some (Runs y (Hands j f))) = (fd ≡ job_pipe y.worker) × (a ≡ j)
+    by y = ⊥
+
+-- `scripts` says whether scripts are run.
+pub record ClientOffersTheResponse (scripts : Bool) : Type 0 where
+  -- a request begins so, with nothing needed yet
+  pub starts : (m : State) (fd : ℕ) (kept : List ℕ) (q : Answer) (o : Outcome)
+      → FirstCall q (wants scripts fd (begun kept q)) × HasKnown scripts m (begun kept q) (OfFile o)
+  -- after the reply to its call more is known, or what was, and the machine has what is needed then; the worker that is free is one
+  -- that has a job pipe
+  pub replied : (m n : State) (fd c worker : ℕ) (x : Client) (r : Reply) (heard : List ℕ) (before : Known)
+      → IsOrderly m → HasAccess m
+      → is_live m server ≡ true → descriptor m server fd ≡ Some (on.Connection c)
+      → (awaits x ≡ true → HasJobPipe m worker)
+      → is_ending x ≡ false
+      → HasKnown scripts m x before → StepsTo m (event.Call server (wants scripts fd x)) r n → Names n r heard
+      → (after : Known) × Learns scripts m x r heard before after × HasKnown scripts n (told scripts worker x r heard) after
+  -- whatever else happens, as long as it neither gives up nor moves what the client uses
+  pub stays : (m n : State) (x : Client) (e : Event) (r : Reply) (known : Known) → StepsTo m e r n
+      → ((a : ℕ) → uses_agg x a ≡ true → gives_up e server a ≡ false)
+      → ((g : ℕ) → uses_fd x g ≡ true → touches_fd m e server g ≡ false) → HasKnown scripts m x known
+      → HasKnown scripts n x known
+  -- what it writes is the next of the response, to its connection; or a job, to a worker
+  pub offers : (m : State) (fd g a : ℕ) (x : Client) (known : Known) → HasKnown scripts m x known
+      → wants scripts fd x ≡ call.IolWrite g a
+      → ((g ≡ fd) × IsNextOf m x.conn.q known a (taken_by x)) ⊎ HandsJob x g a
+
+abbrev pub ClientsAreOfferedTheResponse : Type 0
+ClientsAreOfferedTheResponse = (scripts : Bool) → ClientOffersTheResponse scripts
