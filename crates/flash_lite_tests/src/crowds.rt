@@ -1,9 +1,11 @@
 //! As many connections as the server holds, and one more.
 use crate::answers::{FILES, FIRST};
+use crate::checks::pass;
 use crate::host::{Host, Plan, connect, host_of};
 use crate::rows::{arrivals, end, is_sent, let_arrive};
 use iol_core::descriptors::How;
 use iol_core::events::Event;
+use iol_core::refusals::Refusal;
 use std::alloc::Global;
 use std::test::Fail;
 
@@ -29,15 +31,16 @@ fn waits_for_another(host: &mut Host, within: Vec<Event>, past: Vec<Event>) -> b
         && is_sent(host, 257, FIRST.as_bytes())
 }
 
-fn waits(alloc: Global) -> Result<bool, Fail> {
+fn waits(alloc: Global) -> Result<bool, Refusal> {
     let within = arrivals(alloc, 256, GET, 8192)?;
     let past = arrivals(alloc, 257, GET, 8192)?;
     let mut host = host_of(alloc, &Plan::of(&FILES))?;
-    Ok(waits_for_another(&mut host, within, past) && !host.is_rough())
+    let is_well = waits_for_another(&mut host, within, past) && !host.is_rough();
+    drop(host);
+    Ok(is_well)
 }
 
 #[test]
 fn one_more_than_may_be(rt: HostRuntime) -> Result<(), Fail> {
-    assert!(rt; waits(rt.alloc())?);
-    Ok(())
+    pass(waits(rt.alloc()))
 }

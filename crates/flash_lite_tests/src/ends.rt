@@ -1,5 +1,6 @@
 //! Streams that end, peers that leave, pages that tire, and a device call that fails.
 use crate::answers::{BOTH, FILES, FIRST};
+use crate::checks::{pass, pass_all};
 use crate::host::{Host, Kept, Plan, connect, host_of};
 use crate::rows::{arrivals, end, holds, is_gone, is_sent, let_arrive};
 use iol_core::descriptors::How;
@@ -60,21 +61,26 @@ fn count_ended(host: &mut Host, streams: Vec<Vec<Event>>, how: How) -> u32 {
     count
 }
 
-fn ended(alloc: Global, how: How) -> Result<u32, Fail> {
+fn ended(alloc: Global, how: How) -> Result<usize, Refusal> {
     let streams = cut_streams(alloc)?;
     let mut host = host_of(alloc, &Plan::of(&FILES))?;
-    Ok(count_ended(&mut host, streams, how))
+    let count = count_ended(&mut host, streams, how);
+    drop(host);
+    Ok(count as usize)
 }
 
 #[test]
 fn stream_cut_after_each_byte(rt: HostRuntime) -> Result<(), Fail> {
-    assert_eq!(rt; ended(rt.alloc(), How::Done)?, 56);
-    assert_eq!(rt; ended(rt.alloc(), How::Gone)?, 56);
-    Ok(())
+    pass_all(ended(rt.alloc(), How::Done), 56)
+}
+
+#[test]
+fn peer_gone_after_each_byte(rt: HostRuntime) -> Result<(), Fail> {
+    pass_all(ended(rt.alloc(), How::Gone), 56)
 }
 
 // Whether both requests are answered where the first device call fails.
-fn answers_fault(alloc: Global) -> Result<bool, Fail> {
+fn answers_fault(alloc: Global) -> Result<bool, Refusal> {
     let events = arrivals(alloc, 1, STREAM, 1)?;
     let plan = Plan {
         fault: 1,
@@ -82,13 +88,14 @@ fn answers_fault(alloc: Global) -> Result<bool, Fail> {
     };
     let mut host = host_of(alloc, &plan)?;
     let row = ("", FAULTED, false);
-    Ok(holds(&mut host, 1, events, &row) && host.is_rough())
+    let is_well = holds(&mut host, 1, events, &row) && host.is_rough();
+    drop(host);
+    Ok(is_well)
 }
 
 #[test]
 fn first_device_call_fails(rt: HostRuntime) -> Result<(), Fail> {
-    assert!(rt; answers_fault(rt.alloc())?);
-    Ok(())
+    pass(answers_fault(rt.alloc()))
 }
 
 // Whether a reply is that the pool `net` has no room.
@@ -113,7 +120,7 @@ fn count_taken(host: &mut Host, events: Vec<Event>) -> (u32, bool) {
 }
 
 // A stream on pages of which each holds two buffers and no more.
-fn tired(alloc: Global) -> Result<(u32, bool, bool), Fail> {
+fn tired(alloc: Global) -> Result<(u32, bool, bool), Refusal> {
     let events = arrivals(alloc, 1, STREAM, 1)?;
     let plan = Plan {
         gen_limit: 2,
@@ -123,6 +130,7 @@ fn tired(alloc: Global) -> Result<(u32, bool, bool), Fail> {
     let _conn = connect(&mut host);
     let (count, refused) = count_taken(&mut host, events);
     let sent = is_sent(&mut host, 1, FIRST.as_bytes());
+    drop(host);
     Ok((count, refused, sent))
 }
 
@@ -145,7 +153,7 @@ fn is_forgotten(host: &mut Host, events: Vec<Event>) -> bool {
 }
 
 // A file of as many bytes as two queues take.
-fn forgets(alloc: Global) -> Result<bool, Fail> {
+fn forgets(alloc: Global) -> Result<bool, Refusal> {
     let events = arrivals(alloc, 1, b"GET /f HTTP/1.1\r\nHost: a\r\n\r\n", 8192)?;
     let bytes = vec![in alloc; 122u8; 131_072]?;
     let files = [Kept {
@@ -158,11 +166,12 @@ fn forgets(alloc: Global) -> Result<bool, Fail> {
         ..Plan::of(&files)
     };
     let mut host = host_of(alloc, &plan)?;
-    Ok(is_forgotten(&mut host, events) && !host.is_rough())
+    let is_well = is_forgotten(&mut host, events) && !host.is_rough();
+    drop(host);
+    Ok(is_well)
 }
 
 #[test]
 fn peer_goes_in_mid_answer(rt: HostRuntime) -> Result<(), Fail> {
-    assert!(rt; forgets(rt.alloc())?);
-    Ok(())
+    pass(forgets(rt.alloc()))
 }

@@ -150,9 +150,13 @@ fn new_host(
 // The host of a site over a store.
 fn host_over(alloc: Global, store: Store, gen_limit: u32, site: &Site) -> Result<Host, Refusal> {
     let mut system = new_system(alloc, store, gen_limit)?;
-    let actors = set_up(alloc, &mut system, site)?;
-    let host = new_host(alloc, system, actors)?;
-    Ok(host)
+    match set_up(alloc, &mut system, site) {
+        Ok(actors) => Ok(new_host(alloc, system, actors)?),
+        Err(refusal) => {
+            drop(system);
+            Err(refusal)
+        }
+    }
 }
 
 /// The host of a site.

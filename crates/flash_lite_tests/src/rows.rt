@@ -6,7 +6,6 @@ use iol_core::lists::Bytes;
 use iol_core::numbers::ConnId;
 use iol_core::refusals::Refusal;
 use std::alloc::{AllocError, Global};
-use std::test::Fail;
 
 /// What comes on a connection, all that is sent on it, and whether it is closed then.
 pub type Row<'a> = (&'a str, &'a str, bool);
@@ -108,8 +107,15 @@ fn count_held(host: &mut Host, streams: Vec<Vec<Event>>, rows: &[Row<'_>]) -> u3
 }
 
 /// How many rows hold on one site, up to the first that does not; streams come in pieces of so many bytes.
-pub fn held(alloc: Global, plan: &Plan<'_>, rows: &[Row<'_>], size: usize) -> Result<usize, Fail> {
+pub fn held(
+    alloc: Global,
+    plan: &Plan<'_>,
+    rows: &[Row<'_>],
+    size: usize,
+) -> Result<usize, Refusal> {
     let streams = streams(alloc, rows, size)?;
     let mut host = host_of(alloc, plan)?;
-    Ok(count_held(&mut host, streams, rows) as usize)
+    let count = count_held(&mut host, streams, rows);
+    drop(host);
+    Ok(count as usize)
 }

@@ -1,7 +1,9 @@
 //! Files about as long as a queue takes, and as long as a file may be.
+use crate::checks::{pass, pass_all};
 use crate::host::{Host, Kept, Plan, connect, host_of};
 use crate::rows::{arrivals, is_sent, let_arrive};
 use iol_core::events::Event;
+use iol_core::refusals::Refusal;
 use std::alloc::{AllocError, Global};
 use std::test::Fail;
 
@@ -43,7 +45,7 @@ fn are_answered(
     chunks: u32,
     get: &[u8],
     head: &[u8],
-) -> Result<bool, Fail> {
+) -> Result<bool, Refusal> {
     let first = arrivals(alloc, 1, GET, 8192)?;
     let second = arrivals(alloc, 2, HEAD, 8192)?;
     let files = [Kept {
@@ -56,38 +58,54 @@ fn are_answered(
         ..Plan::of(&files)
     };
     let mut host = host_of(alloc, &plan)?;
-    Ok(is_answered(&mut host, 1, first, get) && is_answered(&mut host, 2, second, head))
+    let is_well = is_answered(&mut host, 1, first, get) && is_answered(&mut host, 2, second, head);
+    drop(host);
+    Ok(is_well)
 }
 
 // Whether a file of so many bytes is answered whole.
-fn is_whole(alloc: Global, len: u32, chunks: u32) -> Result<bool, Fail> {
+fn is_whole(alloc: Global, len: u32, chunks: u32) -> Result<bool, Refusal> {
     let bytes = bytes_of(alloc, len)?;
     let get = answer_of(alloc, len, &bytes)?;
     let head = answer_of(alloc, len, b"")?;
     are_answered(alloc, &bytes, chunks, &get, &head)
 }
 
+// Files of so many bytes, over so many chunks.
+const SIZES: [(u32, u32); 4] = [(0, 1), (65_535, 1), (65_536, 1), (65_537, 2)];
+
+// How many of the files are answered whole, up to the first that is not.
+fn count_whole(alloc: Global) -> Result<usize, Refusal> {
+    let mut count = 0usize;
+    for (len, chunks) in SIZES {
+        if !is_whole(alloc, len, chunks)? {
+            return Ok(count);
+        }
+        count = count.saturating_add(1);
+    }
+    Ok(count)
+}
+
 #[test]
 fn files_of_about_a_queue(rt: HostRuntime) -> Result<(), Fail> {
-    assert!(rt; is_whole(rt.alloc(), 0, 1)?);
-    assert!(rt; is_whole(rt.alloc(), 65_535, 1)?);
-    assert!(rt; is_whole(rt.alloc(), 65_536, 1)?);
-    assert!(rt; is_whole(rt.alloc(), 65_537, 2)?);
-    Ok(())
+    pass_all(count_whole(rt.alloc()), SIZES.len())
+}
+
+// Whether a file of so many bytes is too large to be answered, and its head is not.
+fn is_refused(alloc: Global, len: u32) -> Result<bool, Refusal> {
+    let bytes = bytes_of(alloc, len)?;
+    let head = answer_of(alloc, len, b"")?;
+    are_answered(alloc, &bytes, 254, REFUSED, &head)
 }
 
 // As many bytes as the pool `site` may have pages for, where three other pools have a chunk each.
 #[test]
 fn file_as_large_as_its_pool(rt: HostRuntime) -> Result<(), Fail> {
-    assert!(rt; is_whole(rt.alloc(), 254 * 65_536, 254)?);
-    Ok(())
+    pass(is_whole(rt.alloc(), 254 * 65_536, 254))
 }
 
 // As many as a file may have: its pool has no pages for all of them at once.
 #[test]
 fn file_that_no_pool_holds(rt: HostRuntime) -> Result<(), Fail> {
-    let bytes = bytes_of(rt.alloc(), 16_777_216)?;
-    let head = answer_of(rt.alloc(), 16_777_216, b"")?;
-    assert!(rt; are_answered(rt.alloc(), &bytes, 254, REFUSED, &head)?);
-    Ok(())
+    pass(is_refused(rt.alloc(), 16_777_216))
 }
