@@ -11,7 +11,7 @@ use Rattle.iol_kernel.specs.Backed.{with_slots}
 use Rattle.iol_kernel.proofs.Beside.{with_slots-own}
 use Rattle.iol_system.specs.Machine.{SystemState, machine_of}
 use Rattle.iol_system.specs.Promises.{Chain}
-use Rattle.flash_lite.specs.Setup.{calls, first_refusal, is_in_range}
+use Rattle.flash_lite.specs.Setup.{IsMade, calls, first_refusal, is_in_range}
 use Rattle.flash_lite.specs.SiteState.{LeavesSite, state_of}
 use Rattle.flash_lite.specs.declared.site.Site.{Site}
 use Rattle.flash_lite.proofs.Leading.{led}
@@ -50,3 +50,6 @@ leaves_by s old new rs fits chain none slots is =
       state = state;
       named = λ i f at. ap (λ (m : State). file_called m f.name.items) state ∙ ap (λ (o : Option ℕ). option_map (λ k. k + 1) o) (l.named i f at);
     }
+
+pub made_by : (s : Site) (old new : SystemState) (es : List Event) (rs : List Reply) → es ≡ calls s → Chain old es rs new → first_refusal rs ≡ None → IsMade s old new
+made_by s old new es rs is chain none = record { replies = rs; chain = subst (λ (l : List Event). Chain old l rs new) is chain; passed = none }

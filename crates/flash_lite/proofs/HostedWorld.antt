@@ -26,7 +26,7 @@ one_alone x [] all long = absurd (omega arith)
 one_alone x (y ∷ []) all long = ap (λ z. z ∷ []) (All-head (λ y. y ≡ x) y [] all)
 one_alone x (y ∷ z ∷ ws) all long = absurd (omega arith)
 
-permuted_alone : {X : Type 0} (x : X) (ys : List X) → IsPermutation (x ∷ []) ys → ys ≡ x ∷ []
+pub permuted_alone : {X : Type 0} (x : X) (ys : List X) → IsPermutation (x ∷ []) ys → ys ≡ x ∷ []
 permuted_alone x ys moved = one_alone x ys
     (All-permutation (λ y. y ≡ x) (x ∷ []) ys moved (All-cons (λ y. y ≡ x) x [] refl (All-nil (λ y. y ≡ x))))
     (length_permutation (x ∷ []) ys moved)

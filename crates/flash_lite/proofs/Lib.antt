@@ -17,6 +17,7 @@ pub mod Piping
 pub mod Places
 pub mod Refused
 pub mod Standing
+pub mod Starting
 pub mod Texts
 pub mod Waiting
 pub mod Wanting

@@ -1,10 +1,14 @@
 -- A site that is hosted: set up in a new system, run over choices, and then over turns in rounds.
 use Rattle.std.specs.Prelude.{◌≡◌, ℕ, List, ◌++◌, length, map, false, Bool}
+use Rattle.iol_back.specs.Disk.{Disk}
 use Rattle.iol_core.specs.State.{State}
+use Rattle.iol_core.specs.declared.configuration.Config.{Config}
 use Rattle.iol_core.specs.declared.events.Reply.{Reply}
 use Rattle.iol_proc.specs.Idle.{Idles, rounds}
-use Rattle.iol_proc.specs.World.{Stage, copying, WorldRun, domains_of}
+use Rattle.iol_proc.specs.Laws.{HasEvents}
+use Rattle.iol_proc.specs.World.{Stage, copying, sharing, WorldRun, domains_of}
 use Rattle.iol_proc.specs.declared.choice.Choice.{Choice}
+use Rattle.iol_system.specs.Machine.{SystemState}
 use Rattle.flash_laws.specs.Calm.{AreMild}
 use Rattle.flash_laws.specs.Host.{IsRight}
 use Rattle.flash_laws.specs.Rounds.{in_rounds}
@@ -12,6 +16,7 @@ use Rattle.flash_laws.specs.Tie.{Actor, IsNew, actor_turns}
 use Rattle.flash_lite.specs.NewWorld.{world_on}
 use Rattle.flash_lite.specs.Shelf.{shelf_of}
 use Rattle.flash_lite.specs.SiteState.{state_of}
+use Rattle.flash_lite.specs.Starting.{Starts}
 use Rattle.flash_lite.specs.Workers.{worker_turns, worker_ready, worker_settled}
 use Rattle.flash_lite.specs.declared.actor.Worker.{Worker}
 use Rattle.flash_lite.specs.declared.site.Site.{Site}
@@ -30,6 +35,18 @@ pub record Hosts (s : Site) (slots : List (List ℕ)) (xs : List Choice) (rs : L
   pub mid : Stage State (Actor Worker)
   pub run : WorldRun copying (actor_turns in_rounds worker_turns) (world_of s slots) xs rs mid
   pub ends : Idles copying (actor_turns in_rounds worker_turns) mid turns idle after
+
+-- So does a system of these sizes, over any store: all of it, from the new system on, is a chain of the system's steps, and
+-- the store is as honest after it as before.
+pub record HostsOver (config : Config) (store : Disk) (s : Site) (xs : List Choice) (rs : List Reply)
+    (turns : ℕ) (idle : Bool) (after : Stage SystemState (Actor Worker)) : Type 0 where
+  pub first : Stage SystemState (Actor Worker)
+  pub starts : Starts config store s first
+  pub mid : Stage SystemState (Actor Worker)
+  pub run : WorldRun sharing (actor_turns in_rounds worker_turns) first xs rs mid
+  pub ends : Idles sharing (actor_turns in_rounds worker_turns) mid turns idle after
+  pub events : HasEvents starts.begun after.machine
+  pub honest : after.machine.disk.honest ≡ store.honest
 
 -- What was hosted is right, where calls from outside were mild and no turn was rough.
 abbrev pub HostedIsRight : Type 0

@@ -12,6 +12,7 @@ pub mod Setup
 pub mod SiteState
 pub mod Shelf
 pub mod NewWorld
+pub mod Starting
 pub mod Hosting
 pub mod Offering
 pub mod Runs

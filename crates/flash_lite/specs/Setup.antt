@@ -87,7 +87,13 @@ pub record SetsUp (s : Site) (old new : State) : Type 0 where
   pub run : Run old (calls s) replies new
   pub passed : first_refusal replies ≡ None
 
--- a system makes them, and this is the first refusal
+-- a system makes them, and none is refused
+pub record IsMade (s : Site) (old new : SystemState) : Type 0 where
+  pub replies : List Reply
+  pub chain : Chain old (calls s) replies new
+  pub passed : first_refusal replies ≡ None
+
+-- or this is the first refusal
 pub record IsRefused (s : Site) (x : Refusal) (old new : SystemState) : Type 0 where
   pub replies : List Reply
   pub chain : Chain old (calls s) replies new

@@ -1,12 +1,15 @@
 //! Hosting a site: a system of its own, and its processes in turns.
-ghost use Rattle.std.specs.Prelude.{◌≡◌, IfOk};
+ghost use Rattle.std.specs.Prelude.{◌≡◌, true, false, Err, IfErr, IfOk, OnOk};
 ghost use Rattle.iol_back.specs.Disk.{IfHonest};
+ghost use Rattle.iol_core.specs.Configuration.{IsInRange};
 ghost use Rattle.iol_kernel.specs.Readings.{slots_of};
 ghost use Rattle.iol_proc.specs.World.{copied};
-ghost use Rattle.flash_lite.specs.Hosting.{Hosts, IsNewWorld};
+ghost use Rattle.flash_lite.specs.Hosting.{Hosts, HostsOver, IsNewWorld};
+ghost use Rattle.flash_lite.specs.Setup as spec;
+ghost use Rattle.flash_lite.specs.Starting.{Starts, WhyNone};
 
 use crate::actor::Actor;
-use crate::setup::setup;
+use crate::setup::{is_in_range, setup};
 use crate::site::Site;
 use iol_back::backing::Backing;
 use iol_core::configuration::Config;
@@ -30,9 +33,9 @@ pub struct Hosted<B: Backing> {
     pub idle: bool,
 }
 
-/// Sets a site up in a new system over a store, makes these choices come true in its world, and
-/// then gives it turns in rounds, at most so many, until all is idle. A configuration or a site out
-/// of its limits is `BadRange`. Any other refusal is that of the first call of the setup that was
+/// Sets a site up in a new system of these sizes over a store, makes these choices come true in its
+/// world, and then gives it turns in rounds, at most so many, until all is idle. Sizes or a site out
+/// of their limits are `BadRange`. Any other refusal is that of the first call of the setup that was
 /// refused, or `Memory`; it drops all.
 ///
 /// With an honest store what comes of it is right:
@@ -45,12 +48,27 @@ pub fn host<B: Backing + Drop>(
     choices: &[Choice],
     turns: usize,
 ) -> Result<Hosted<B>, Refusal>
+    ensures sizes { (IsInRange config → ⊥) → result ≡ Err Refusal.BadRange }
+    ensures range { spec.is_in_range site.now ≡ false → result ≡ Err Refusal.BadRange }
+    ensures in_range { OnOk result (IsInRange config × (spec.is_in_range site.now ≡ true)) }
+    ensures refused { IfErr result (WhyNone config (B.disk backing) site.now) }
+
+    // Over any store the world is run by a new system of these sizes, in which the site was set up.
+    // Over an honest one it is that of the site, and its run one over the copying machine.
+    ensures shared { IfOk result (λ h. HostsOver config (B.disk backing) site.now choices.now
+        h.replies.items turns h.idle h.world) }
     ensures hosts { IfHonest (B.disk backing) (IfOk result (λ h. Hosts site.now
         (slots_of (B.disk backing).slots) choices.now h.replies.items turns h.idle
         (copied h.world))) }
 {
     let mut world = new_world(alloc, config, backing, site)?;
-    let replies = world.run(choices)?;
+    let replies = match world.run(choices) {
+        Ok(replies) => replies,
+        Err(_) => {
+            drop(world);
+            return Err(Refusal::Memory);
+        }
+    };
     let idle = world.until_idle(turns);
     Ok(Hosted {
         world,
@@ -66,11 +84,25 @@ fn new_world<B: Backing + Drop>(
     backing: B,
     site: &Site,
 ) -> Result<World<B, Actor>, Refusal>
+    ensures sizes { (IsInRange config → ⊥) → result ≡ Err Refusal.BadRange }
+    ensures range { spec.is_in_range site.now ≡ false → result ≡ Err Refusal.BadRange }
+    ensures in_range { OnOk result (IsInRange config × (spec.is_in_range site.now ≡ true)) }
+    ensures refused { IfErr result (WhyNone config (B.disk backing) site.now) }
+    ensures starts { IfOk result (λ w. Starts config (B.disk backing) site.now w) }
     ensures honest { IfOk result (λ w. w.machine.disk.honest ≡ (B.disk backing).honest) }
     ensures new { IfHonest (B.disk backing) (IfOk result
         (λ w. IsNewWorld site.now (slots_of (B.disk backing).slots) (copied w))) }
 {
+    if !is_in_range(site) {
+        return Err(Refusal::BadRange);
+    }
     let mut system = System::new(alloc, config, backing)?;
-    let actors = setup(alloc, &mut system, site)?;
+    let actors = match setup(alloc, &mut system, site) {
+        Ok(actors) => actors,
+        Err(refusal) => {
+            drop(system);
+            return Err(refusal);
+        }
+    };
     Ok(World::new(alloc, system, actors)?)
 }

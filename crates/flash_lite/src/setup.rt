@@ -27,7 +27,7 @@ fn is_private(site: &Site) -> bool
 }
 
 // Whether its numbers are within their limits.
-fn is_in_range(site: &Site) -> bool
+pub(crate) fn is_in_range(site: &Site) -> bool
     ensures { result ≡ spec.is_in_range site.now }
 {
     1 <= site.workers
@@ -183,6 +183,7 @@ pub fn setup<B: Backing + Drop>(
     ensures unchanged { spec.is_in_range site.now ≡ false → system.new ≡ system.old }
     ensures refused { IfErr result (λ x. spec.is_in_range site.now ≡ true →
         spec.WhyRefused site.now x system.old system.new) }
+    ensures made { OnOk result (spec.IsMade site.now system.old system.new) }
     ensures set_up { IfHonest system.old.disk (OnOk result
         (spec.SetsUp site.now (machine_of system.old) (machine_of system.new))) }
     ensures honest { system.new.disk.honest ≡ system.old.disk.honest }

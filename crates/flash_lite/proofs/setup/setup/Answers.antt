@@ -3,9 +3,15 @@ use Rattle.iol_core.specs.declared.events.Event.{Event}
 use Rattle.iol_system.specs.Machine.{machine_of}
 use Rattle.iol_system.specs.Promises.{Chain}
 use Rattle.flash_lite.specs.Setup.{calls, first_refusal, is_in_range}
-use Rattle.flash_lite.proofs.AnyStore.{leaves_by}
+use Rattle.flash_lite.proofs.AnyStore.{leaves_by, made_by}
 use Rattle.flash_lite.proofs.NewSite.{sets_up_by, slots_kept}
 use Rattle.flash_lite.proofs.setup.setup.Goals as goal
+
+pub returns-clause-made : goal.returns-clause-made
+returns-clause-made g c =
+    let events : c.as_slice.result.now ≡ calls c.args.site.now = c.as_slice.ensures.value ∙ c.in_ok-events.ensures in
+    let none : first_refusal c.in_ok-replies.replies.items ≡ None = ap first_refusal (sym c.as_slice-2.ensures.value) ∙ (sym c.refusal_in.ensures ∙ c.in-None.is) in
+    made_by c.args.site.now c.args.system.now c.run.new.self c.as_slice.result.now c.in_ok-replies.replies.items events c.in_ok-replies.ensures.chain none
 
 pub returns-clause-leaves : goal.returns-clause-leaves
 returns-clause-leaves g c =
