@@ -32,6 +32,7 @@ use Rattle.flash_laws.specs.RunKeeping.{has_end, RunsKeepNothing}
 use Rattle.flash_laws.specs.Running as running
 use Rattle.flash_laws.specs.Running.{is_over}
 use Rattle.flash_laws.specs.Site.{server}
+use Rattle.flash_laws.proofs.ClientMoving.{client-opened, client-piped}
 use Rattle.flash_laws.proofs.ClientPhases.{at}
 use Rattle.flash_laws.proofs.Keeping as keeping
 use Rattle.flash_laws.proofs.Keeping.{leaves-told, shuts}
@@ -284,6 +285,8 @@ pub clients_leave : AggregatesComeAndGo → CallsServeTheirDomain → FileCallsS
 clients_leave come own files = λ scripts. record {
   brought = λ m n fd c worker x known r heard bytes a order access lives open_on going has step before after.
       brought come own files m n order scripts fd c worker x.conn.kept x.conn.q x.conn.doing x.run x.script known r heard bytes a access lives open_on going has step before after;
+  opened = λ m n fd worker f x heard none step. client-opened scripts m n fd worker f x.conn.kept x.conn.q x.conn.doing x.run x.script heard none step;
+  piped = λ m worker from write x known heard g waits has u. client-piped scripts m worker from write x.conn.kept x.conn.q x.conn.doing x.run x.script known heard g waits has u;
   left = λ m n fd worker x known r heard a order has step u unused.
       left come own files m n order scripts fd worker x.conn.kept x.conn.q x.conn.doing x.run x.script known r heard a has step u unused;
   shut = λ m n fd worker x known r heard g has step u unused.

@@ -43,6 +43,7 @@ use Rattle.flash_laws.specs.RunOffers.{past_of, IsNextOf as IsNextOfRun, taken_b
 use Rattle.flash_laws.specs.Running as running
 use Rattle.flash_laws.specs.Running.{in_phase, is_over, job_pipe}
 use Rattle.flash_laws.specs.Site.{server}
+use Rattle.flash_laws.proofs.ClientMoving.{client-moves}
 use Rattle.flash_laws.proofs.ClientPhases as phases
 use Rattle.flash_laws.proofs.ClientPhases.{at, Next, next-due, script-writes, asks-told, unread-told, read-told}
 use Rattle.flash_laws.proofs.Lent.{lent-stays, has-stays}
@@ -475,5 +476,6 @@ clients_offered steps own files = λ scripts. record {
   replied = λ m n fd c worker x r heard before order access lives open_on hired going has step names.
       replied steps own files scripts m n fd c worker x.conn.kept x.conn.q x.conn.doing x.run x.script r heard before order access lives open_on hired going has step names;
   stays = λ m n x e r known step aggs fds has. stays steps scripts m n x.conn.kept x.conn.q x.conn.doing x.run x.script e r known step aggs fds has;
+  moves = λ m n fd worker x r heard known going has step same. client-moves scripts m n fd worker x.conn.kept x.conn.q x.conn.doing x.run x.script r heard known going has step same;
   offers = λ m fd g a x known has is. offers scripts m fd g a x.conn.kept x.conn.q x.conn.doing x.run x.script known has is;
 }

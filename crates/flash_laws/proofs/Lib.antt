@@ -41,5 +41,6 @@ pub mod RunBrought
 pub mod Sharing
 pub mod ClientPhases
 pub mod RunEnds
+pub mod ClientMoving
 pub mod ClientOffering
 pub mod ClientKeeping

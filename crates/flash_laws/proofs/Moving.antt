@@ -65,7 +65,7 @@ module _ (m n : State) (fd : ℕ) (kept : List ℕ) (q : Answer) where
   reading f true r heard step same = lengths m n (Reading f) (λ z. told_reads f z heard) f r step (λ k e. cc (e)) same
   reading f false r heard step same = reads m n (Reading f) (λ z. told_reads f z heard) f most_read r step (λ k e. cc (e)) same
 
-  moved : (d : Doing) (r : Reply) (heard : List ℕ) → is_closing d ≡ false → StepsTo m (event.Call server (wants fd (at kept q d))) r n
+  pub moved : (d : Doing) (r : Reply) (heard : List ℕ) → is_closing d ≡ false → StepsTo m (event.Call server (wants fd (at kept q d))) r n
       → (told (at kept q d) r heard).doing ≡ d → may_repeat (wants fd (at kept q d)) r ≡ true
   moved Rests r heard going step same = reads m n Rests (λ z. (told_rests kept q z heard).doing) fd (most_kept - length kept) r step (rests-not kept q heard) same
   moved (Got b) r heard going step same = drops m n (Got b) (λ z. told_got b z) b r step (λ e. cc (e)) same
@@ -94,7 +94,7 @@ module _ (m n : State) (fd : ℕ) (kept : List ℕ) (q : Answer) where
   came f true g step = let e = step.1 in cc (e)
   came f false g step = let e = step.1 in cc (e)
 
-  opened : (d : Doing) (f : ℕ) (heard : List ℕ) → StepsTo m (event.Call server (wants fd (at kept q d))) (reply.Fd f) n
+  pub opened : (d : Doing) (f : ℕ) (heard : List ℕ) → StepsTo m (event.Call server (wants fd (at kept q d))) (reply.Fd f) n
       → uses_fd (told (at kept q d) (reply.Fd f) heard).doing f ≡ true
   opened Opens f heard step = self f
   opened (Reading g) f heard step = absurd (came g (is_head_only q) f step)

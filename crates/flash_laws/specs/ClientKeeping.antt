@@ -2,16 +2,17 @@
 -- that they are made for, and what that client uses no more is given up.
 --
 -- As what it offers (`ClientOffers`), it is said of each call of its own, calm or not.
-use Rattle.std.specs.Prelude.{◌≡◌, ℕ, Bool, true, false, List, Option, Some, None}
+use Rattle.std.specs.Prelude.{◌≡◌, ℕ, ◌==◌, ◌||◌, Bool, true, false, List, Option, Some, None}
 use Rattle.iol_core.specs.Access.{HasAccess}
 use Rattle.iol_core.specs.State.{State, descriptor, is_live}
 use Rattle.iol_core.specs.Run.{StepsTo}
 use Rattle.iol_core.specs.declared.descriptors.Descriptor.TheVariants as on
 use Rattle.iol_core.specs.declared.events.Event.TheVariants as event
 use Rattle.iol_core.specs.declared.events.Reply.{Reply}
+use Rattle.iol_core.specs.declared.events.Reply.TheVariants as reply
 use Rattle.iol_laws.specs.Caller.{lent_at}
 use Rattle.iol_laws.specs.Order.{IsOrderly}
-use Rattle.flash_laws.specs.Client.{Client, uses_agg, wants, told}
+use Rattle.flash_laws.specs.Client.{Client, uses_agg, wants, awaits, told}
 use Rattle.flash_laws.specs.ClientOffers.{is_ending}
 use Rattle.flash_laws.specs.Conn as conn
 use Rattle.flash_laws.specs.Known.{Known, HasKnown}
@@ -33,7 +34,13 @@ pub record ClientKeepsNothing (scripts : Bool) : Type 0 where
       → IsOrderly m → HasAccess m → is_live m server ≡ true → descriptor m server fd ≡ Some (on.Connection c)
       → is_ending x ≡ false → HasKnown scripts m x known → StepsTo m (event.Call server (wants scripts fd x)) r n
       → lent_at m server a ≡ None → lent_at n server a ≡ Some bytes → uses_agg (told scripts worker x r heard) a ≡ true
-  -- one that it uses no more is gone
+  -- so is the descriptor of a file, and both ends of a pipe are
+  pub opened : (m n : State) (fd worker f : ℕ) (x : Client) (heard : List ℕ) → x.run ≡ None
+      → StepsTo m (event.Call server (wants scripts fd x)) (reply.Fd f) n → has_fd (told scripts worker x (reply.Fd f) heard) f ≡ true
+  pub piped : (m : State) (worker from write : ℕ) (x : Client) (known : Known) (heard : List ℕ) (g : ℕ) → awaits x ≡ true
+      → HasKnown scripts m x known → ((from == g) || (write == g)) ≡ true
+      → has_fd (told scripts worker x (reply.Fds from write) heard) g ≡ true
+  -- an aggregate that it uses no more is gone
   pub left : (m n : State) (fd worker : ℕ) (x : Client) (known : Known) (r : Reply) (heard : List ℕ) (a : ℕ) → IsOrderly m
       → HasKnown scripts m x known → StepsTo m (event.Call server (wants scripts fd x)) r n
       → uses_agg x a ≡ true → uses_agg (told scripts worker x r heard) a ≡ false → lent_at n server a ≡ None

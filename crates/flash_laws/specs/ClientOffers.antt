@@ -23,7 +23,7 @@ use Rattle.flash_laws.specs.Conn.{begins}
 use Rattle.flash_laws.specs.Fits.{Names, is_closing}
 use Rattle.flash_laws.specs.Known.{Known, OfFile, OfScript, of_text, IsNextOf, HasKnown}
 use Rattle.flash_laws.specs.Offers as file
-use Rattle.flash_laws.specs.Offers.{FirstCall}
+use Rattle.flash_laws.specs.Offers.{FirstCall, may_repeat}
 use Rattle.flash_laws.specs.RunFits.{Progress, HasJobPipe}
 use Rattle.flash_laws.specs.RunOffers as run
 use Rattle.flash_laws.specs.Running.{job_pipe, is_over}
@@ -103,6 +103,10 @@ pub record ClientOffersTheResponse (scripts : Bool) : Type 0 where
   pub offers : (m : State) (fd g a : ℕ) (x : Client) (known : Known) → HasKnown scripts m x known
       → wants scripts fd x ≡ call.IolWrite g a
       → ((g ≡ fd) × IsNextOf m x.conn.q known a (taken_by x)) ⊎ HandsJob x g a
+  -- a call that was done is not made again
+  pub moves : (m n : State) (fd worker : ℕ) (x : Client) (r : Reply) (heard : List ℕ) (known : Known) → is_ending x ≡ false
+      → HasKnown scripts m x known → StepsTo m (event.Call server (wants scripts fd x)) r n
+      → told scripts worker x r heard ≡ x → may_repeat (wants scripts fd x) r ≡ true
 
 abbrev pub ClientsAreOfferedTheResponse : Type 0
 ClientsAreOfferedTheResponse = (scripts : Bool) → ClientOffersTheResponse scripts
