@@ -43,7 +43,9 @@ fn text(alloc: Global, len: u32) -> Result<Vec<u8>, AllocError> {
 // What is measured on a new site, with a file of these bytes.
 fn measured(alloc: Global, bytes: &[u8], plan: &Plan) -> Result<Option<u64>, Refusal> {
     let mut host = Host::new(alloc, bytes)?;
-    Ok(measure(&mut host, plan))
+    let count = measure(&mut host, plan);
+    drop(host);
+    Ok(count)
 }
 
 // What the words name is measured.
