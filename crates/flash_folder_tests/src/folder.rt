@@ -70,24 +70,37 @@ fn is_large(answer: &[u8]) -> bool {
         && answer[LARGE_HEAD.len()..].iter().all(|byte| *byte == b'z')
 }
 
+fn loops_index(rt: &HostRuntime, root: &str) -> bool {
+    let ran = run_loop(rt, root, "/");
+    is_done(&ran) && ran.output.as_slice() == INDEX
+}
+
+fn loops_large(rt: &HostRuntime, root: &str) -> bool {
+    let ran = run_loop(rt, root, "/large.txt");
+    is_done(&ran) && is_large(&ran.output)
+}
+
 #[test]
 fn loops(rt: HostRuntime) -> Result<(), Fail> {
     make(&rt, "looped")?;
-    let index = run_loop(&rt, "looped", "/");
-    assert!(rt; is_done(&index) && index.output.as_slice() == INDEX);
-    let large = run_loop(&rt, "looped", "/large.txt");
-    assert!(rt; is_done(&large) && is_large(&large.output));
+    assert!(rt; loops_index(&rt, "looped"));
+    assert!(rt; loops_large(&rt, "looped"));
     fs::remove_dir_all(&rt, "looped")?;
     Ok(())
 }
 
+fn loop_lacks_folder(rt: &HostRuntime, root: &str) -> bool {
+    lacks_folder(&run_loop(rt, root, "/"))
+}
+
+fn server_lacks_folder(rt: &HostRuntime, root: &str) -> bool {
+    lacks_folder(&run_server(rt, root))
+}
+
 #[test]
-fn no_folder(rt: HostRuntime) -> Result<(), Fail> {
-    let looped = run_loop(&rt, "no such folder", "/");
-    assert!(rt; lacks_folder(&looped));
-    let served = run_server(&rt, "no such folder");
-    assert!(rt; lacks_folder(&served));
-    Ok(())
+fn no_folder(rt: HostRuntime) {
+    assert!(rt; loop_lacks_folder(&rt, "no such folder"));
+    assert!(rt; server_lacks_folder(&rt, "no such folder"));
 }
 
 fn ask(client: &TcpStream) -> io::Result<()> {
