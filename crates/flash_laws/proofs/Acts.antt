@@ -1,7 +1,6 @@
 -- What happens outside keeps the connections tied.
 use Rattle.std.proofs.Common.{inl, inr, ◌≡◌, ◌≢◌, ℕ, ◌+◌, ◌==◌, ◌≤◌, ◌⊎◌, List, [], ◌++◌, take, ap, ◌∙◌, refl, sym, subst, arith, Option, Some, None, true, false, Bool, append_assoc, append-nil, if◌then◌else◌}
 use Rattle.std.specs.Prelude.{◌||◌, ◌&&◌, is_none, Result, Ok, Err}
-use Rattle.std.proofs.Math.Path.{fun_ext}
 use Rattle.std.proofs.lemmas.Bool.Decides.{nat_tests}
 use Rattle.iol_core.specs.Text.{Text, bytes_of}
 use Rattle.iol_core.specs.State.{State, Connection, no_conn, conn_at, is_gone}
@@ -9,7 +8,6 @@ use Rattle.iol_core.specs.Meaning.{Meaning, Step}
 use Rattle.iol_core.specs.Run.{StepsTo, meaning, outcome}
 use Rattle.iol_core.specs.Calls.Outside.{closed_by}
 use Rattle.iol_laws.specs.Frame.{Leaves}
-use Rattle.iol_laws.specs.History.{came_by, sent_by}
 use Rattle.iol_laws.specs.Order.{IsOrderly}
 use Rattle.iol_laws.specs.Others as o
 use Rattle.iol_core.specs.declared.refusals.Refusal.{Refusal}
@@ -23,8 +21,9 @@ use Rattle.iol_core.specs.declared.events.Reply.TheVariants as reply
 use Rattle.flash_laws.specs.Answers.{Shelf, Begins, IsAnswer}
 use Rattle.flash_laws.specs.Conn.{Conn}
 use Rattle.flash_laws.specs.Fits.{Tie, Owes, Fits}
-use Rattle.flash_laws.specs.Past.{Past, net_pool, made_by, gone_by, and_then, IsAct}
+use Rattle.flash_laws.specs.Past.{Past, net_pool, gone_by, and_then, IsAct}
 use Rattle.flash_laws.specs.Tied.{Waits, Ended, Foreign, Aside, AllFit}
+use Rattle.flash_laws.proofs.Pasts.{or-false, or-left, past-same, none-told, peer_told, past-told}
 use Rattle.flash_laws.proofs.TheLaws.{TheLaws}
 use Rattle.flash_laws.proofs.Answering.{begins-less, begins-none}
 use Rattle.flash_laws.proofs.Lists.{not-equal, self, later_of}
@@ -32,49 +31,6 @@ use Rattle.flash_laws.proofs.Peers.{IsTold, peer-done, over-done}
 use Rattle.flash_laws.proofs.Phases.{fits_changed, begins-tie}
 use Rattle.flash_laws.proofs.Turn.{held-open}
 use Rattle.flash_laws.proofs.Others.{outside}
-
--- Histories.
-
-pub past-equal : (p q : Past) → ((c : ℕ) → q.came c ≡ p.came c) → ((c : ℕ) → q.sent c ≡ p.sent c)
-    → ((c : ℕ) → q.net c ≡ p.net c) → ((c : ℕ) → q.gone c ≡ p.gone c) → q ≡ p
-past-equal p q came sent net gone =
-    ap (λ (f : ℕ → List ℕ). record { came = f; sent = q.sent; net = q.net; gone = q.gone }) (fun_ext came)
-    ∙ (ap (λ (f : ℕ → List ℕ). record { came = p.came; sent = f; net = q.net; gone = q.gone }) (fun_ext sent)
-    ∙ (ap (λ (f : ℕ → Bool). record { came = p.came; sent = p.sent; net = f; gone = q.gone }) (fun_ext net)
-    ∙ ap (λ (f : ℕ → Bool). record { came = p.came; sent = p.sent; net = p.net; gone = f }) (fun_ext gone)))
-
-or-false : (b c : Bool) → c ≡ false → (b || c) ≡ b
-or-false true c is = refl
-or-false false c is = is
-
-or-left : (b c : Bool) → b ≡ true → (b || c) ≡ true
-or-left true c is = refl
-or-left false c is = absurd (cc)
-
--- an event that brings nothing in, sends nothing, makes nothing, and tells of no peer that left
-pub past-same : (p : Past) (e : Event) (r : Reply) → ((c : ℕ) → came_by c e r ≡ []) → ((c : ℕ)
-    → sent_by c e r ≡ []) → ((c : ℕ) → made_by c e r ≡ false) → ((c : ℕ) → gone_by c e r ≡ false)
-    → and_then p e r ≡ p
-past-same p e r came sent net gone =
-    past-equal p (and_then p e r)
-    (λ c. ap (λ (l : List ℕ). p.came c ++ l) (came c) ∙ append-nil (p.came c))
-    (λ c. ap (λ (l : List ℕ). p.sent c ++ l) (sent c) ∙ append-nil (p.sent c))
-    (λ c. or-false (p.net c) (made_by c e r) (net c))
-    (λ c. or-false (p.gone c) (gone_by c e r) (gone c))
-
--- one that was refused told nothing
-none-told : (c z : ℕ) (w : How) (x : Refusal) → gone_by z (event.PeerClosed c w) (reply.Refused x) ≡ false
-none-told c z how.Done x = refl
-none-told c z how.Gone x = refl
-
--- after a peer closed
-abbrev peer_told : Past → (c : ℕ) → How → Past
-peer_told p c w = record { came = p.came; sent = p.sent; net = p.net; gone = λ z. p.gone z || gone_by z (event.PeerClosed c w) reply.Done }
-
-past-told : (p : Past) (c : ℕ) (w : How) → and_then p (event.PeerClosed c w) reply.Done ≡ peer_told p c w
-past-told p c w =
-    past-equal (peer_told p c w) (and_then p (event.PeerClosed c w) reply.Done)
-    (λ z. append-nil (p.came z)) (λ z. append-nil (p.sent z)) (λ z. or-false (p.net z) false refl) (λ z. refl)
 
 -- one that does nothing
 module _ (shelf : Shelf) where

@@ -7,10 +7,12 @@ pub mod Having
 pub mod Phases
 pub mod Peers
 pub mod Uses
+pub mod Touching
 pub mod InPlaces
 pub mod Clients
 pub mod Turn
 pub mod Others
+pub mod Pasts
 pub mod Acts
 pub mod Serving
 pub mod Worlds

@@ -32,7 +32,8 @@ use Rattle.flash_laws.specs.Serves.{Server, heard_of, filed_in, Made, InFlight}
 use Rattle.flash_laws.specs.Serves as serves
 use Rattle.flash_laws.proofs.TheLaws.{TheLaws}
 use Rattle.flash_laws.proofs.Lists.{self}
-use Rattle.flash_laws.proofs.Uses.{no-more, files-wants, admits-wants}
+use Rattle.flash_laws.proofs.Uses.{no-more}
+use Rattle.flash_laws.proofs.Touching.{files-wants, admits-wants}
 use Rattle.flash_laws.proofs.Clients.{filed-alone, picks-alone, runs-filed, runs-picked}
 use Rattle.flash_laws.proofs.InPlaces.{at-same}
 use Rattle.flash_laws.proofs.Turn.{ready-awaits, ready_turn, own_turn, accept_turn}

@@ -33,7 +33,8 @@ use Rattle.flash_laws.proofs.Lists.{clash}
 use Rattle.flash_laws.proofs.InPlaces.{at-same, at-other, left-is}
 use Rattle.flash_laws.proofs.Peers.{IsTold, told-call}
 use Rattle.flash_laws.proofs.Phases.{phase, closes, readies, fits_same, fits_left, begins-tie}
-use Rattle.flash_laws.proofs.Uses.{gives-wants, no-more, uses-told, uses_fd-told, begins-none as begins-no_agg, begins-no_fd, has-agg, has-fd, fds-wants, conns-wants, files-wants}
+use Rattle.flash_laws.proofs.Uses.{gives-wants, no-more, uses-told, uses_fd-told, begins-none as begins-no_agg, begins-no_fd, has-agg, has-fd}
+use Rattle.flash_laws.proofs.Touching.{fds-wants, conns-wants, files-wants}
 
 pub no-true : (b : Bool) → (b ≡ true → ⊥) → b ≡ false
 no-true true never = absurd (never refl)

@@ -1,6 +1,5 @@
 -- Each calm step of a world keeps its tie.
-use Rattle.std.proofs.Common.{inl, inr, ◌≡◌, ◌≢◌, ℕ, zero, suc, ◌⊎◌, List, [], ◌∷◌, ◌++◌, length, ap, ◌∙◌, refl, sym, subst, arith, Some, true, false, Bool, append-nil, append_assoc, length-append, slice_get, slice_set}
-use Rattle.std.specs.Prelude.{◌||◌}
+use Rattle.std.proofs.Common.{inl, inr, ◌≡◌, ◌≢◌, ℕ, zero, suc, ◌⊎◌, List, [], ◌∷◌, ◌++◌, ap, ◌∙◌, refl, sym, subst, Some, false, Bool, append-nil, append_assoc, slice_get, slice_set}
 use Rattle.std.proofs.lemmas.Bool.{cases_eq}
 use Rattle.iol_core.specs.State.{State, Connection, conn_at}
 use Rattle.iol_core.specs.Run.{StepsTo}
@@ -20,7 +19,6 @@ use Rattle.iol_proc.specs.Turns.{Account, Comes, SeatTurn}
 use Rattle.iol_proc.specs.World.{Stage, copying, PlaceTurn, WorldStep, WorldRun}
 use Rattle.iol_proc.specs.Histories.{stream_over, sent_over}
 use Rattle.iol_proc.specs.Smooth.{AreSmooth}
-use Rattle.iol_proc.proofs.Streams.{stream_over-more, sent_over-more}
 use Rattle.iol_proc.specs.declared.choice.Choice.{Choice}
 use Rattle.iol_proc.specs.declared.choice.Choice.TheVariants as choice
 use Rattle.iol_proc.specs.declared.process.Turn.{Turn}
@@ -35,7 +33,7 @@ use Rattle.flash_laws.specs.Tied.{filed, AllFit}
 use Rattle.flash_laws.specs.Places.{connections}
 use Rattle.flash_laws.specs.Serves.{Server, new_server, heard_of, Policy, Made, InFlight}
 use Rattle.flash_laws.specs.Calm.{IsMild, AreMild}
-use Rattle.flash_laws.specs.Tie.{made_with, made_over, gone_with, gone_over, past_of, Actor, Serving, Working, actor_turns, IsWorker, AreSeated, Tied, IsNew, AllAnswered, ClosedAreWhole}
+use Rattle.flash_laws.specs.Tie.{made_over, gone_over, past_of, Actor, Serving, Working, actor_turns, IsWorker, AreSeated, Tied, IsNew, AllAnswered, ClosedAreWhole}
 use Rattle.flash_laws.specs.Workers.{is_by, WorkersWork}
 use Rattle.flash_laws.proofs.TheLaws.{TheLaws}
 use Rattle.flash_laws.proofs.Answering.{some-inj, WindowLaws}
@@ -44,54 +42,9 @@ use Rattle.flash_laws.proofs.Lists.{clash, not-equal}
 use Rattle.flash_laws.proofs.Peers.{told-none}
 use Rattle.flash_laws.proofs.Turn.{answered, whole}
 use Rattle.flash_laws.proofs.Others.{other-gives, other-ends, site-stays, fixed-stays, others_call}
-use Rattle.flash_laws.proofs.Acts.{past-equal, past-call, acts}
+use Rattle.flash_laws.proofs.Acts.{past-call, acts}
+use Rattle.flash_laws.proofs.Pasts.{past-outside, past-turn, even-more}
 use Rattle.flash_laws.proofs.Serving.{IsKind, calls-kindly, files-fit, picked-alone, server_turn}
-
--- The past of one choice more.
-
-or-false : (b : Bool) → (b || false) ≡ b
-or-false true = refl
-or-false false = refl
-
-or-assoc : (a b c : Bool) → (a || (b || c)) ≡ ((a || b) || c)
-or-assoc true b c = refl
-or-assoc false b c = refl
-
-made-more : (c : ℕ) (xs : List Choice) (rs : List Reply) (x : Choice) (r : Reply) → length xs ≡ length rs
-    → made_over c (xs ++ x ∷ []) (rs ++ r ∷ []) ≡ (made_over c xs rs || made_with c x r)
-unfolding made_over
-made-more c [] [] x r even = or-false (made_with c x r)
-made-more c (y ∷ xs) (s ∷ rs) x r even = ap (λ b. made_with c y s || b) (made-more c xs rs x r (omega (arith, even))) ∙ or-assoc (made_with c y s) (made_over c xs rs) (made_with c x r)
-made-more c [] (s ∷ rs) x r even = absurd (omega (arith, even))
-made-more c (y ∷ xs) [] x r even = absurd (omega (arith, even))
-
-gone-more : (c : ℕ) (xs : List Choice) (rs : List Reply) (x : Choice) (r : Reply) → length xs ≡ length rs
-    → gone_over c (xs ++ x ∷ []) (rs ++ r ∷ []) ≡ (gone_over c xs rs || gone_with c x r)
-unfolding gone_over
-gone-more c [] [] x r even = or-false (gone_with c x r)
-gone-more c (y ∷ xs) (s ∷ rs) x r even = ap (λ b. gone_with c y s || b) (gone-more c xs rs x r (omega (arith, even))) ∙ or-assoc (gone_with c y s) (gone_over c xs rs) (gone_with c x r)
-gone-more c [] (s ∷ rs) x r even = absurd (omega (arith, even))
-gone-more c (y ∷ xs) [] x r even = absurd (omega (arith, even))
-
-past-outside : (xs : List Choice) (rs : List Reply) (e : Event) (r : Reply) → length xs ≡ length rs
-    → past_of (xs ++ choice.Outside e ∷ []) (rs ++ r ∷ []) ≡ and_then (past_of xs rs) e r
-past-outside xs rs e r even =
-    past-equal (and_then (past_of xs rs) e r) (past_of (xs ++ choice.Outside e ∷ []) (rs ++ r ∷ []))
-    (λ c. stream_over-more xs rs (choice.Outside e) r c even) (λ c. sent_over-more xs rs (choice.Outside e) r c even) (λ c. made-more c xs rs (choice.Outside e) r even)
-    (λ c. gone-more c xs rs (choice.Outside e) r even)
-
-past-turn : (xs : List Choice) (rs : List Reply) (by : ℕ) (r : Reply) → length xs ≡ length rs
-    → past_of (xs ++ choice.Turn by ∷ []) (rs ++ r ∷ []) ≡ past_of xs rs
-past-turn xs rs by r even =
-    past-equal (past_of xs rs) (past_of (xs ++ choice.Turn by ∷ []) (rs ++ r ∷ []))
-    (λ c. stream_over-more xs rs (choice.Turn by) r c even ∙ append-nil (stream_over c xs rs))
-    (λ c. sent_over-more xs rs (choice.Turn by) r c even ∙ append-nil (sent_over c xs rs))
-    (λ c. made-more c xs rs (choice.Turn by) r even ∙ or-false (made_over c xs rs))
-    (λ c. gone-more c xs rs (choice.Turn by) r even ∙ or-false (gone_over c xs rs))
-
-even-more : (xs : List Choice) (rs : List Reply) (x : Choice) (r : Reply) → length xs ≡ length rs
-    → length (xs ++ x ∷ []) ≡ length (rs ++ r ∷ [])
-even-more xs rs x r even = let a = length-append xs (x ∷ []) in let b = length-append rs (r ∷ []) in omega (arith, a, b, even)
 
 -- Seats.
 
