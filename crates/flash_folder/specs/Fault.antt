@@ -1,5 +1,5 @@
 -- How a server of a folder ends, and what it tells.
-use Rattle.std.specs.Prelude.{ℕ, List, ◌++◌, Result, Ok, Err, codes}
+use Rattle.std.specs.Prelude.{◌≡◌, ◌⊎◌, ℕ, List, ◌++◌, Result, Ok, Err, codes}
 use Rattle.flash_folder.specs.declared.fault.Fault.{Fault}
 use Rattle.flash_folder.specs.declared.fault.Fault.TheVariants.{Listen, Accept, Connect, Folder, Output, Memory}
 
@@ -19,3 +19,11 @@ fault_text fault = codes "fault: " ++ word_of fault
 abbrev pub status_of : Result (Unit {0}) Fault → ℕ
 status_of (Ok done) = 0
 status_of (Err fault) = 3
+
+-- why no server of a folder starts: memory is wanting, or the folder cannot be read
+abbrev pub StopsStart : Fault → Type 0
+StopsStart fault = (fault ≡ Memory) ⊎ (fault ≡ Folder)
+
+-- why one stops that started: memory is wanting, or no connection can be accepted
+abbrev pub StopsServing : Fault → Type 0
+StopsServing fault = (fault ≡ Memory) ⊎ (fault ≡ Accept)

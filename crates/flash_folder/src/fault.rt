@@ -1,5 +1,5 @@
 //! Why a server of a folder ends without doing all that it was asked for.
-ghost use Rattle.std.specs.Prelude.{◌≡◌, ◌≢◌, OnOk};
+ghost use Rattle.std.specs.Prelude.{◌≡◌, ◌≢◌, ◌⊎◌, OnOk};
 ghost use Rattle.std.specs.IoError.{error_kind};
 ghost use Rattle.flash_folder.specs.Fault.{status_of, word_of};
 
@@ -39,6 +39,7 @@ impl Fault {
     pub fn of(error: &io::Error, otherwise: Fault) -> Fault
         ensures memory { error_kind error.now ≡ ErrorKind.OutOfMemory → result ≡ Fault.Memory }
         ensures otherwise { error_kind error.now ≢ ErrorKind.OutOfMemory → result ≡ otherwise }
+        ensures either { (result ≡ Fault.Memory) ⊎ (result ≡ otherwise) }
     {
         if error.kind() == ErrorKind::OutOfMemory {
             Fault::Memory

@@ -1,6 +1,7 @@
 //! A site of the files of a folder, and the world that serves it.
-ghost use Rattle.std.specs.Prelude.{◌≡◌, ◌<◌, IfOk, Some, true, false, length, slice_get};
+ghost use Rattle.std.specs.Prelude.{◌≡◌, ◌<◌, IfErr, IfOk, Some, true, false, length, slice_get};
 ghost use Rattle.iol_core.specs.declared.limits.TheConstants.{MAX_FILES};
+ghost use Rattle.flash_folder.specs.Fault.{StopsServing, StopsStart};
 ghost use Rattle.flash_folder.specs.Folder.{AreFilesOf};
 ghost use Rattle.flash_lite.specs.Setup.{is_in_range};
 
@@ -41,7 +42,9 @@ impl<R: Files> Model for Host<R> {
 
 impl<R: Files + AllocGlobal + Clone + Drop> Host<R> {
     /// The files of a folder, as they are now, and the processes that serve them.
-    pub fn new(rt: &R, root: &str) -> Result<Host<R>, Fault> {
+    pub fn new(rt: &R, root: &str) -> Result<Host<R>, Fault>
+        ensures { IfErr result StopsStart }
+    {
         let store = match FolderBacking::new(rt, root) {
             Ok(store) => store,
             Err(e) => return Err(Fault::of(&e, Fault::Folder)),
@@ -57,7 +60,9 @@ impl<R: Files + AllocGlobal + Clone + Drop> Host<R> {
 
 impl<R: Files + Drop> Host<R> {
     /// Serves so many connections of a listener, one after another.
-    pub fn serve(&mut self, listener: &TcpListener, count: u32) -> Result<(), Fault> {
+    pub fn serve(&mut self, listener: &TcpListener, count: u32) -> Result<(), Fault>
+        ensures { IfErr result StopsServing }
+    {
         let pool = PoolId::new(NET);
         match serve_all(self.alloc, listener, &mut self.world, pool, count) {
             Ok(()) => Ok(()),

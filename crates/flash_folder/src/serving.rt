@@ -1,6 +1,7 @@
 //! The server of a folder.
-ghost use Rattle.std.specs.Prelude.{◌≡◌, ◌⊎◌, OnOk};
+ghost use Rattle.std.specs.Prelude.{◌≡◌, ◌⊎◌, IfErr, OnOk};
 ghost use Rattle.std.specs.Io.KnownBytes.{Appends};
+ghost use Rattle.flash_folder.specs.Fault.{StopsServing, StopsStart};
 ghost use Rattle.flash_folder.specs.Serving.{Announces, announcement};
 
 use crate::fault::{Fault, ended};
@@ -33,6 +34,7 @@ where
 pub fn serve_on<R>(rt: &R, listener: &TcpListener, root: &str, count: u32) -> Result<(), Fault>
 where
     R: Files + AllocGlobal + Clone + Drop,
+    ensures { IfErr result (λ fault. StopsStart fault ⊎ StopsServing fault) }
 {
     let mut host = Host::new(rt, root)?;
     host.serve(listener, count)
