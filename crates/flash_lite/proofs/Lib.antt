@@ -22,3 +22,5 @@ pub mod Texts
 pub mod Waiting
 pub mod Wanting
 pub mod Lifted
+pub mod Clients
+pub mod RunsOn

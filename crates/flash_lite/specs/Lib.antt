@@ -16,3 +16,4 @@ pub mod Starting
 pub mod Hosting
 pub mod Offering
 pub mod Runs
+pub mod Course

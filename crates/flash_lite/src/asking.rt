@@ -16,7 +16,7 @@ use iol_core::numbers::{AggId, Fd};
 use std::alloc::{AllocError, Global};
 
 /// The bytes that are read of a file: all that it may have.
-const MAX_READ_BYTES: u32 = 16_777_216;
+pub(crate) const MAX_READ_BYTES: u32 = 16_777_216;
 
 /// The file that is asked for is opened.
 pub(crate) fn open_call(alloc: Global, asked: &Asked) -> Result<Call, AllocError>
@@ -36,20 +36,26 @@ pub(crate) fn open_call(alloc: Global, asked: &Asked) -> Result<Call, AllocError
     })
 }
 
-/// It is read, or its length asked for where only the head is wanted.
-pub(crate) fn read_call(asked: &Asked, file: Fd) -> Call
-    ensures { result ≡ (if spec.is_head_only (answer asked.now) then (Length file)
-        else (IolRead file spec.most_read)) }
+/// Whether only the head of the answer is wanted.
+pub(crate) fn is_head_only(asked: &Asked) -> bool
+    ensures { result ≡ spec.is_head_only (answer asked.now) }
 {
-    let head_only = match asked {
+    match asked {
         Asked::Serve(request) => request.head_only,
         Asked::Refuse {
             status: _,
             head_only,
             close: _,
         } => *head_only,
-    };
-    if head_only {
+    }
+}
+
+/// It is read, or its length asked for where only the head is wanted.
+pub(crate) fn read_call(asked: &Asked, file: Fd) -> Call
+    ensures { result ≡ (if spec.is_head_only (answer asked.now) then (Length file)
+        else (IolRead file spec.most_read)) }
+{
+    if is_head_only(asked) {
         Call::Length { fd: file }
     } else {
         Call::IolRead {

@@ -64,8 +64,8 @@ impl Model for Conn {
         × IsAwaiting (record { kept = x.kept.items; q = answer x.asked; doing = x.doing }) };
 }
 
-// Whether the call is to be made again at a later turn.
-fn is_later(last: &Reply) -> bool
+/// Whether the call is to be made again at a later turn.
+pub(crate) fn is_later(last: &Reply) -> bool
     ensures { result ≡ is_later last.now }
 {
     match last {
@@ -113,6 +113,20 @@ impl Conn {
             asked: no_request(),
             doing: Doing::Rests,
         }
+    }
+
+    /// What was asked for.
+    pub(crate) fn asked(&self) -> &Asked
+        ensures { answer result.now ≡ self.now.q }
+    {
+        &self.asked
+    }
+
+    /// What is in progress.
+    pub(crate) fn doing(&self) -> Doing
+        ensures { result ≡ self.now.doing }
+    {
+        self.doing
     }
 
     // More of the stream was read. Where nothing came it is at its end.
@@ -278,9 +292,9 @@ impl Conn {
         })
     }
 
-    // Goes on with a phase in which something is in progress.
+    /// Goes on with a phase in which something is in progress.
     #[tactic(auto, using(crate::proofs::Waiting::busy_awaits))]
-    fn proceed(&mut self, fd: Fd, doing: Doing) -> Result<Call, AllocError>
+    pub(crate) fn proceed(&mut self, fd: Fd, doing: Doing) -> Result<Call, AllocError>
         requires { (doing ≢ Rests) × IsSmall doing }
         ensures doing { IfOk result (λ _. self.new ≡ record self.old { doing = doing }) }
         ensures call { IfOk result (λ call. call ≡ spec.wants fd self.new) }
@@ -307,8 +321,8 @@ impl Conn {
         Ok(Onward::Asks(call))
     }
 
-    // Nothing is in progress after a reply, though it was: what is kept goes on.
-    fn go_on_free(&mut self, fd: Fd) -> Result<Onward, AllocError>
+    /// Nothing is in progress after a reply, though it was: what is kept goes on.
+    pub(crate) fn go_on_free(&mut self, fd: Fd) -> Result<Onward, AllocError>
         ensures asks { IfOk result (λ o. Frees fd self.old o self.new) }
         ensures err { OnErr result (self.new ≡ self.old) }
         ensures wants { OnErr result (is_bare (record self.old { doing = Rests }) ≡ false) }

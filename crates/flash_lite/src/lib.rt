@@ -14,12 +14,14 @@
 pub mod actor;
 mod answers;
 mod asking;
+pub mod client;
 pub mod conn;
 mod finding;
 mod heard;
 pub mod host;
 pub mod laws;
 mod running;
+mod scripts;
 mod sending;
 pub mod server;
 pub mod setup;

@@ -1,12 +1,14 @@
 //! A run of a script: what it is after each reply, and its next call.
 //!
 //! Each phase has a function, in the file of its subject: a run is started, output is heard, chunks
-//! are made of it and sent, and it ends. Connections do not use this yet.
-ghost use Rattle.std.specs.Prelude.{◌≡◌, ◌<◌, IfOk, OnErr, false, true};
+//! are made of it and sent, and it ends.
+ghost use Rattle.std.specs.Prelude.{◌≡◌, ◌<◌, IfOk, MatchOption, OnErr, false, true};
 ghost use Rattle.flash_http.specs.Request.{wanted};
+ghost use Rattle.flash_laws.specs.Client as client;
 ghost use Rattle.flash_laws.specs.Running as spec;
 ghost use Rattle.flash_lite.specs.Heard.{heard};
 ghost use Rattle.flash_lite.specs.Runs.{IsSmallRun, IsSmallStep, IsSmallRunning, job_for, makes_any};
+ghost use Rattle.flash_lite.specs.Small.{IsSmall};
 ghost use Rattle.flash_lite.specs.declared.site.TheConstants.{MAX_WORKERS};
 
 use crate::running::asking::step_call;
@@ -22,6 +24,7 @@ use crate::running::starting::{
     told_makes, told_returns,
 };
 use flash_http::Request;
+use flash_laws::doing::Doing;
 use flash_laws::running::{Run, Running, Step};
 use iol_agg::Parts;
 use iol_core::events::{Call, Reply};
@@ -141,5 +144,47 @@ pub(crate) fn next_call(
         Running::Runs { run, step } => step_call(alloc, fd, request, script, run, step),
         Running::Leaves { doing } => part_call(alloc, fd, request, doing),
         Running::Closes => Ok(Call::Close { fd }),
+    }
+}
+
+// Whether what is left of a response is still to be made, or to be sent.
+fn is_left(doing: &Doing) -> bool
+    ensures { result ≡ spec.is_left doing.now }
+{
+    matches!(
+        *doing,
+        Doing::Heads { .. }
+            | Doing::Sends { .. }
+            | Doing::Cuts { .. }
+            | Doing::Offers { .. }
+            | Doing::Swaps { .. }
+            | Doing::Sent { .. }
+            | Doing::Breaks { .. }
+            | Doing::Drops { .. }
+    )
+}
+
+/// Where the connection is once the run is over, if it is.
+pub(crate) fn after_run(running: &Running) -> Option<Doing>
+    requires { IsSmallRunning running.now }
+    ensures { MatchOption result (spec.is_over running.now ≡ false) (λ doing.
+        (spec.is_over running.now ≡ true) × (doing ≡ client.after_run running.now)
+        × IsSmall doing) }
+{
+    match *running {
+        Running::Leaves { doing } => { if is_left(&doing) { None } else { Some(doing) } }
+        Running::Closes => Some(Doing::Closes),
+        Running::Awaits | Running::Runs { .. } => None,
+    }
+}
+
+/// Whether the job is still to be made, for which the script's text is kept.
+pub(crate) fn keeps_text(running: &Running) -> bool
+    ensures { result ≡ client.keeps_text running.now }
+{
+    match *running {
+        Running::Awaits => true,
+        Running::Runs { run: _, step } => matches!(step, Step::Gives { .. } | Step::Makes { .. }),
+        _ => false,
     }
 }

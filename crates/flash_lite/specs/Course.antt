@@ -1,0 +1,151 @@
+-- What a client does after a reply to its call, where `t` is what it is by the words, once the reply is filed.
+use Rattle.std.specs.Prelude.{◌≡◌, ◌⊎◌, ℕ, Bool, true, false, not, if◌then◌else◌, List, [], Option, Some, None}
+use Rattle.iol_core.specs.declared.events.Call.{Call}
+use Rattle.iol_core.specs.declared.events.Call.TheVariants as call
+use Rattle.iol_core.specs.declared.events.Reply.{Reply}
+use Rattle.iol_core.specs.declared.events.Reply.TheVariants as reply
+use Rattle.flash_http.specs.Request.{Answer, serve, refuse}
+use Rattle.flash_laws.specs.Client.{Client, Readies, is_for_script, can_run, kept_if, wants, left_over, awaits}
+use Rattle.flash_laws.specs.Conn.{most_read, is_head_only}
+use Rattle.flash_laws.specs.Rounds.{leaves_off}
+use Rattle.flash_laws.specs.Running as running
+use Rattle.flash_laws.specs.Running.{is_over}
+use Rattle.flash_laws.specs.declared.doing.Content.{Content}
+use Rattle.flash_laws.specs.declared.doing.Content.TheVariants.{Script}
+use Rattle.flash_laws.specs.declared.doing.Learnt.TheVariants.{Text}
+use Rattle.flash_laws.specs.declared.doing.Doing.{Doing}
+use Rattle.flash_laws.specs.declared.doing.Doing.TheVariants.{Reads, Shuts, Spares, Heads}
+use Rattle.flash_laws.specs.declared.running.Running.{Running}
+use Rattle.flash_laws.specs.declared.running.Running.TheVariants.{Awaits}
+use Rattle.flash_lite.specs.Onward as conn
+use Rattle.flash_lite.specs.Runs.{IsSmallRunning, makes_any}
+use Rattle.flash_lite.specs.Wanting as wanting
+use Rattle.flash_lite.specs.declared.client.Course.{Course}
+use Rattle.flash_lite.specs.declared.client.Course.TheVariants.{Asks, Leaves}
+use Rattle.flash_lite.specs.declared.client.Left.{Left}
+use Rattle.flash_lite.specs.declared.client.Left.TheVariants.{Goes, Ends, Begins, Stays}
+use Rattle.flash_lite.specs.declared.scripts.Found.{Found}
+use Rattle.flash_lite.specs.declared.scripts.Found.TheVariants as tells
+
+-- a run that goes on is small, and not over
+abbrev pub GoesAsRun : Option Running → Type 0
+GoesAsRun None = Unit {0}
+GoesAsRun (Some y) = IsSmallRunning y × (is_over y ≡ false)
+
+-- ---- a script is found
+
+-- whether its run begins, once what was read is dropped
+abbrev pub runs : Reply → (head_only : Bool) → Bool
+runs reply.Done head_only = not head_only
+runs r head_only = false
+
+-- what a reply to the reading of a script tells
+abbrev pub read : (file : ℕ) → Reply → Found
+read f (reply.Agg n) = tells.Text f n
+read f r = tells.AsFile
+
+-- what one to the dropping of what is not sent tells
+abbrev pub spared : Content → Reply → (head_only : Bool) → Found
+spared Script r head_only = if runs r head_only then tells.Runs else tells.AsFile
+spared k r head_only = tells.AsFile
+
+-- what a reply tells of a script: its text is read, or it runs, or nothing but what it tells of any file
+abbrev pub found : (script : Bool) → Doing → Reply → (head_only : Bool) → Found
+found true (Reads f) r head_only = read f r
+found true (Spares a k) r head_only = spared k r head_only
+found script d r head_only = tells.AsFile
+
+-- the call for a file is that for a script, but that a script is read whole
+abbrev pub whole : (script : Bool) → Doing → Call → Call
+whole true (Reads f) k = call.IolRead f most_read
+whole script d k = k
+
+-- the text of a script was read
+abbrev pub text_heard : Client → (file agg : ℕ) → (heard : List ℕ) → Client
+text_heard x f n heard = record {
+  conn = record x.conn { doing = Shuts f (Text n (can_run heard)) };
+  run = None;
+  script = kept_if (is_head_only x.conn.q) (can_run heard) heard;
+}
+
+-- ---- its run
+
+-- what a run is after the reply to its call
+abbrev pub run_after : (worker : ℕ) → Answer → Running → Reply → (heard : List ℕ) → Running
+run_after worker (serve w) y r heard = running.told worker w y r heard
+run_after worker (refuse status head_only close) y r heard = y
+
+-- its run is over, and its connection in this phase
+abbrev pub ended : Client → Doing → Client
+ended x d = record { conn = record x.conn { doing = d }; run = None; script = [] }
+
+-- ---- it is left to others
+
+-- what it goes on with then
+abbrev pub left_with : Client → Left → Client
+left_with x (Goes d) = record { conn = record x.conn { doing = d }; run = x.run; script = x.script }
+left_with x (Ends d) = ended x d
+left_with x Begins = record { conn = record x.conn { doing = Heads Script }; run = Some Awaits; script = x.script }
+left_with x Stays = x
+
+abbrev pub CanRest : Client → Left → Type 0
+CanRest x (Goes d) = conn.CanRest x.conn d
+CanRest x (Ends d) = conn.CanRest x.conn d
+CanRest x l = Unit {0}
+
+-- its turn passes to the next, or it is to wait for a worker
+abbrev pub IsPassed : Client → Reply → Left → Type 0
+IsPassed t r Begins = awaits t ≡ true
+IsPassed t r l = leaves_off (left_over t) r ≡ true
+
+-- it is left as it was, and the reply is filed by what it goes on with
+pub record IsLeft (t x : Client) (r : Reply) (l : Left) (y : Client) : Type 0 where
+  pub passed : IsPassed t r l
+  pub told_is : t ≡ left_with x l
+  pub can_rest : CanRest x l
+  pub as_it_was : y ≡ x
+
+-- ---- or it goes on at once: the reply is filed, and it is made ready
+
+pub record GoesOn (t : Client) (r : Reply) (y : Client) : Type 0 where
+  pub on : leaves_off (left_over t) r ≡ false
+  pub stays : left_over t ≡ Some t
+  pub readies : Readies t y
+
+abbrev pub IsCourse : (scripts : Bool) → (fd : ℕ) → (t x : Client) → Reply → Course → (y : Client) → Type 0
+IsCourse scripts fd t x r (Asks k) y = GoesOn t r y × (k ≡ wants scripts fd y)
+IsCourse scripts fd t x r (Leaves l) y = IsLeft t x r l y
+
+-- ---- what it wants memory for
+
+-- whether it was reading, and something came: of its stream, or the text of a script
+abbrev pub hears : (script : Bool) → Doing → Reply → Bool
+hears true (Reads f) (reply.Agg n) = true
+hears script d r = wanting.hears d r
+
+abbrev pub client_hears : (scripts : Bool) → Client → Reply → Bool
+client_hears scripts x r = by x.run
+  where
+    by : Option Running → Bool
+    by None = hears (is_for_script scripts x.conn.q) x.conn.doing r
+    by (Some y) = false
+
+-- whether its next call has bytes of its own
+abbrev pub makes_bytes : Client → Bool
+makes_bytes x = by x.run
+  where
+    by : Option Running → Bool
+    by None = wanting.has_bytes x.conn.doing
+    by (Some y) = makes_any y
+
+-- whether one that goes on at once begins a request, or makes such a call
+abbrev pub needs_memory : Client → Bool
+needs_memory x = by x.run
+  where
+    by : Option Running → Bool
+    by None = wanting.needs_memory x.conn.doing
+    by (Some y) = makes_any y
+
+-- to keep what came, or to go on at once
+abbrev pub WantsOn : (scripts : Bool) → (t x : Client) → Reply → Type 0
+WantsOn scripts t x r = (client_hears scripts x r ≡ true) ⊎ ((leaves_off (left_over t) r ≡ false) × (needs_memory t ≡ true))

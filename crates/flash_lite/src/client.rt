@@ -1,0 +1,440 @@
+//! One client: its connection, and the script that runs for the request in progress.
+//!
+//! A script is found as any file; then its run has the connection until all is sent. The server has
+//! no workers yet, and does not use this.
+ghost use Rattle.std.specs.Prelude.{◌≡◌, ◌≢◌, ◌<◌, [], IfOk, OnErr, None, Some, false, true};
+ghost use Rattle.iol_core.specs.declared.events.Reply.TheVariants as reply;
+ghost use Rattle.flash_laws.specs.Client as spec;
+ghost use Rattle.flash_laws.specs.Conn as conn;
+ghost use Rattle.flash_laws.specs.Rounds.{leaves_off};
+ghost use Rattle.flash_laws.specs.Running.{is_over};
+ghost use Rattle.flash_laws.specs.declared.doing.Doing.TheVariants.{Rests, Over};
+ghost use Rattle.flash_lite.specs.Course.{CanRest, IsCourse, WantsOn, ended, left_with, makes_bytes, needs_memory, run_after, text_heard};
+ghost use Rattle.flash_lite.specs.Heard.{heard};
+ghost use Rattle.flash_lite.specs.Runs.{IsSmallRunning, makes_any};
+ghost use Rattle.flash_lite.specs.Small.{IsSmall};
+ghost use Rattle.flash_lite.specs.Wanting as wanting;
+ghost use Rattle.flash_lite.specs.declared.site.TheConstants.{MAX_WORKERS};
+
+use crate::asking::is_head_only;
+use crate::conn::{Conn, Onward, is_later};
+use crate::heard::append;
+use crate::running::{after_run, keeps_text, next_call, told};
+use crate::scripts::{Found, can_run, is_for_script, kept_if, tells, whole};
+use flash_http::Asked;
+use flash_laws::doing::{Content, Doing, Learnt};
+use flash_laws::running::Running;
+use iol_agg::Parts;
+use iol_core::events::{Call, Reply};
+use iol_core::numbers::{AggId, Fd};
+use std::alloc::{AllocError, Global};
+use std::marker::Model;
+
+/// What a client goes on with, once others had their turns.
+#[derive(Clone, Copy, Debug, PartialEq, Eq)]
+pub enum Left {
+    /// Its connection is in this phase.
+    Goes { doing: Doing },
+
+    /// Its run is over, and its connection in this phase.
+    Ends { doing: Doing },
+
+    /// A run begins: it waits for a worker.
+    Begins,
+
+    /// Its call is made again.
+    Stays,
+}
+
+/// What a client does after a reply.
+#[derive(Drop)]
+pub enum Course {
+    /// It makes its next call at once.
+    Asks(Call),
+
+    /// Others have their turns, and this is what it goes on with then. One that waits for a worker
+    /// may go on at once, if one is free.
+    Leaves(Left),
+}
+
+/// One client of the server: its connection, the run of the script that was asked for, if it has
+/// begun and is not over, and the script's text, from the moment that it is read until the job is
+/// made.
+#[derive(Drop)]
+pub struct Client {
+    alloc: Global,
+    conn: Conn,
+    run: Option<Running>,
+    script: Vec<u8>,
+}
+
+impl Model for Client {
+    ghost use Rattle.flash_laws.specs.Client.{Client as Kept};
+    ghost use Rattle.flash_lite.specs.Course.{GoesAsRun};
+
+    ghost Value = { Kept };
+
+    ghost view = { λ x. record { conn = x.conn; run = x.run; script = x.script.items } };
+
+    ghost invariant = { λ x. GoesAsRun x.run };
+}
+
+impl Client {
+    /// One that was just accepted.
+    pub fn new(alloc: Global) -> Client
+        ensures { result ≡ spec.new_client }
+    {
+        Client {
+            alloc,
+            conn: Conn::new(alloc),
+            run: None,
+            script: Vec::new(alloc),
+        }
+    }
+
+    // Its call where no script runs, if its connection wants this one.
+    #[tactic(auto, using(crate::proofs::Clients::whole_wants))]
+    fn file_call(&self, scripts: bool, fd: Fd, call: Call) -> Call
+        requires { call ≡ conn.wants fd self.now.conn }
+        ensures { result ≡ spec.conn_wants (spec.is_for_script scripts self.now.conn.q) fd
+            self.now.conn }
+    {
+        let script = is_for_script(scripts, self.conn.asked());
+        whole(script, self.conn.doing(), call)
+    }
+
+    // What its connection does, where no script runs.
+    #[tactic(auto, using(crate::proofs::Clients::asks_alone, crate::proofs::Clients::leaves_alone))]
+    fn go_on_alone(
+        &mut self,
+        scripts: bool,
+        fd: Fd,
+        last: &Reply,
+        parts: Option<Parts<'_>>,
+    ) -> Result<Course, AllocError>
+        requires { self.old.run ≡ None }
+        ensures course { IfOk result (λ o. IsCourse scripts fd
+            (spec.conn_told self.old last.now (heard parts.entry)) self.old last.now o self.new) }
+        ensures err { OnErr result (self.new ≡ self.old) }
+        ensures wants { OnErr result
+            (wanting.WantsOn self.old.conn last.now (heard parts.entry)) }
+    {
+        match self.conn.go_on(fd, last, parts)? {
+            Onward::Asks(call) => Ok(Course::Asks(self.file_call(scripts, fd, call))),
+            Onward::Leaves(doing) => Ok(Course::Leaves(Left::Goes { doing })),
+        }
+    }
+
+    // The text of a script was read: it is kept, if it is to run, and the file is closed.
+    #[tactic(auto, using(crate::proofs::Clients::heard_goes))]
+    fn hear(
+        &mut self,
+        scripts: bool,
+        fd: Fd,
+        file: Fd,
+        agg: AggId,
+        parts: Option<Parts<'_>>,
+    ) -> Result<Course, AllocError>
+        requires { self.old.run ≡ None }
+        ensures course { IfOk result (λ o. IsCourse scripts fd
+            (text_heard self.old file agg (heard parts.entry)) self.old reply.Done o self.new) }
+        ensures err { OnErr result (self.new ≡ self.old) }
+    {
+        let mut text = Vec::new(self.alloc);
+        append(&mut text, parts)?;
+        let runs = can_run(self.alloc, text.as_slice())?;
+        let learnt = Learnt::Text { agg, runs };
+        let call = self.conn.proceed(fd, Doing::Shuts { file, learnt })?;
+        self.script = kept_if(self.alloc, is_head_only(self.conn.asked()), runs, text);
+        Ok(Course::Asks(self.file_call(scripts, fd, call)))
+    }
+
+    // No script runs for it: what it does after the reply to a call for a file, or a script's text.
+    #[tactic(auto, using(crate::proofs::Clients::file_hears, crate::proofs::Clients::file_runs, crate::proofs::Clients::file_alone, crate::proofs::Clients::hears_wants, crate::proofs::Clients::alone_wants))]
+    fn go_on_file(
+        &mut self,
+        scripts: bool,
+        fd: Fd,
+        last: &Reply,
+        parts: Option<Parts<'_>>,
+    ) -> Result<Course, AllocError>
+        requires { self.old.run ≡ None }
+        ensures course { IfOk result (λ o. IsCourse scripts fd
+            (spec.file_told (spec.is_for_script scripts self.old.conn.q) self.old last.now
+            (heard parts.entry)) self.old last.now o self.new) }
+        ensures err { OnErr result (self.new ≡ self.old) }
+        ensures wants { OnErr result (WantsOn scripts
+            (spec.file_told (spec.is_for_script scripts self.old.conn.q) self.old last.now
+            (heard parts.entry)) self.old last.now) }
+    {
+        let asked = self.conn.asked();
+        let script = is_for_script(scripts, asked);
+        match tells(script, self.conn.doing(), last, is_head_only(asked)) {
+            Found::Text { file, agg } => {
+                let course = self.hear(scripts, fd, file, agg, parts)?;
+                Ok(course)
+            }
+            Found::Runs => Ok(Course::Leaves(Left::Begins)),
+            Found::AsFile => {
+                let course = self.go_on_alone(scripts, fd, last, parts)?;
+                Ok(course)
+            }
+        }
+    }
+
+    // What its run is after the reply to its call.
+    fn run_after(
+        &self,
+        worker: u32,
+        running: &Running,
+        last: &Reply,
+        parts: Option<Parts<'_>>,
+    ) -> Running
+        requires worker { worker < MAX_WORKERS }
+        requires goes { IsSmallRunning running.now × (is_over running.now ≡ false) }
+        ensures after { result
+            ≡ run_after worker self.now.conn.q running.now last.now (heard parts.entry) }
+        ensures small { IsSmallRunning result }
+    {
+        match self.conn.asked() {
+            Asked::Serve(request) => told(worker, request, *running, last, parts),
+            Asked::Refuse {
+                status: _,
+                head_only: _,
+                close: _,
+            } => *running,
+        }
+    }
+
+    // The call of a run, with this text of its script.
+    fn run_call(&self, fd: Fd, script: &[u8], running: &Running) -> Result<Call, AllocError>
+        requires { IsSmallRunning running.now × (is_over running.now ≡ false) }
+        ensures call { IfOk result
+            (λ call. call ≡ spec.run_wants fd self.now.conn.q script.now running.now) }
+        ensures wants { OnErr result (makes_any running.now ≡ true) }
+    {
+        match self.conn.asked() {
+            Asked::Serve(request) => next_call(self.alloc, fd, request, script, *running),
+            Asked::Refuse {
+                status: _,
+                head_only: _,
+                close: _,
+            } => Ok(Call::Close { fd }),
+        }
+    }
+
+    // Its run goes on with this, and its text is kept.
+    fn run_with(&mut self, fd: Fd, next: Running) -> Result<Call, AllocError>
+        requires { IsSmallRunning next × (is_over next ≡ false) }
+        ensures on { IfOk result (λ _. self.new
+            ≡ record { conn = self.old.conn; run = Some next; script = self.old.script }) }
+        ensures call { IfOk result
+            (λ call. call ≡ spec.run_wants fd self.old.conn.q self.old.script next) }
+        ensures err { OnErr result (self.new ≡ self.old) }
+        ensures wants { OnErr result (makes_any next ≡ true) }
+    {
+        let call = self.run_call(fd, self.script.as_slice(), &next)?;
+        self.run = Some(next);
+        Ok(call)
+    }
+
+    // Its run goes on with this, and its text is kept no more.
+    fn run_without(&mut self, fd: Fd, next: Running) -> Result<Call, AllocError>
+        requires { IsSmallRunning next × (is_over next ≡ false) }
+        ensures on { IfOk result
+            (λ _. self.new ≡ record { conn = self.old.conn; run = Some next; script = [] }) }
+        ensures call { IfOk result (λ call. call ≡ spec.run_wants fd self.old.conn.q [] next) }
+        ensures err { OnErr result (self.new ≡ self.old) }
+        ensures wants { OnErr result (makes_any next ≡ true) }
+    {
+        let call = self.run_call(fd, &[], &next)?;
+        self.script = Vec::new(self.alloc);
+        self.run = Some(next);
+        Ok(call)
+    }
+
+    // Its run goes on from one to the next.
+    fn run_on(&mut self, fd: Fd, was: &Running, next: Running) -> Result<Call, AllocError>
+        requires { IsSmallRunning next × (is_over next ≡ false) }
+        ensures on { IfOk result
+            (λ _. self.new ≡ spec.goes_on false false self.old was.now next) }
+        ensures call { IfOk result
+            (λ call. call ≡ spec.run_wants fd self.new.conn.q self.new.script next) }
+        ensures err { OnErr result (self.new ≡ self.old) }
+        ensures wants { OnErr result (makes_any next ≡ true) }
+    {
+        if keeps_text(was) {
+            if keeps_text(&next) {
+                return self.run_with(fd, next);
+            }
+            return self.run_without(fd, next);
+        }
+        self.run_with(fd, next)
+    }
+
+    // Its run is over, and all is sent: what is kept of its stream goes on.
+    #[tactic(auto, using(crate::proofs::Clients::rests_asks, crate::proofs::Clients::rests_leaves, crate::proofs::Clients::rests_wants))]
+    fn end_free(&mut self, scripts: bool, fd: Fd) -> Result<Course, AllocError>
+        ensures course { IfOk result (λ o. IsCourse scripts fd (ended self.old Rests) self.old
+            reply.Done o self.new) }
+        ensures err { OnErr result (self.new ≡ self.old) }
+        ensures wants { OnErr result
+            (leaves_off (spec.left_over (ended self.old Rests)) reply.Done ≡ false) }
+    {
+        match self.conn.go_on_free(fd)? {
+            Onward::Asks(call) => {
+                self.run = None;
+                self.script = Vec::new(self.alloc);
+                Ok(Course::Asks(self.file_call(scripts, fd, call)))
+            }
+            Onward::Leaves(doing) => Ok(Course::Leaves(Left::Ends { doing })),
+        }
+    }
+
+    // Its run is over, and its connection goes on with this.
+    #[tactic(auto, using(crate::proofs::Clients::ends_asks, crate::proofs::Clients::ends_wants))]
+    fn end_with(&mut self, scripts: bool, fd: Fd, doing: Doing) -> Result<Course, AllocError>
+        requires { (doing ≢ Rests) × (doing ≢ Over) × IsSmall doing }
+        ensures course { IfOk result (λ o. IsCourse scripts fd (ended self.old doing) self.old
+            reply.Done o self.new) }
+        ensures err { OnErr result (self.new ≡ self.old) }
+        ensures wants { OnErr result (wanting.has_bytes doing ≡ true) }
+    {
+        let call = self.conn.proceed(fd, doing)?;
+        self.run = None;
+        self.script = Vec::new(self.alloc);
+        Ok(Course::Asks(self.file_call(scripts, fd, call)))
+    }
+
+    // Its run is over.
+    #[tactic(auto, using(crate::proofs::Clients::over_leaves, crate::proofs::Clients::ends_wants, crate::proofs::Clients::rests_needs))]
+    fn end(&mut self, scripts: bool, fd: Fd, doing: Doing) -> Result<Course, AllocError>
+        requires { IsSmall doing }
+        ensures course { IfOk result (λ o. IsCourse scripts fd (ended self.old doing) self.old
+            reply.Done o self.new) }
+        ensures err { OnErr result (self.new ≡ self.old) }
+        ensures wants { OnErr result
+            ((leaves_off (spec.left_over (ended self.old doing)) reply.Done ≡ false)
+            × (needs_memory (ended self.old doing) ≡ true)) }
+    {
+        match doing {
+            Doing::Rests => {
+                let course = self.end_free(scripts, fd)?;
+                Ok(course)
+            }
+            Doing::Over => Ok(Course::Leaves(Left::Ends { doing })),
+            _ => {
+                let course = self.end_with(scripts, fd, doing)?;
+                Ok(course)
+            }
+        }
+    }
+
+    // What it does after the reply to the call of its run.
+    #[tactic(auto, using(crate::proofs::RunsOn::run_stays, crate::proofs::RunsOn::run_goes, crate::proofs::RunsOn::run_ends, crate::proofs::RunsOn::goes_wants, crate::proofs::RunsOn::run_wants_on))]
+    fn go_on_running(
+        &mut self,
+        scripts: bool,
+        fd: Fd,
+        worker: u32,
+        running: Running,
+        last: &Reply,
+        parts: Option<Parts<'_>>,
+    ) -> Result<Course, AllocError>
+        requires worker { worker < MAX_WORKERS }
+        requires runs { self.old.run ≡ Some running }
+        requires goes { IsSmallRunning running × (is_over running ≡ false) }
+        ensures course { IfOk result (λ o. IsCourse scripts fd
+            (spec.run_told worker self.old.conn.q self.old running last.now (heard parts.entry))
+            self.old last.now o self.new) }
+        ensures err { OnErr result (self.new ≡ self.old) }
+        ensures wants { OnErr result (WantsOn scripts
+            (spec.run_told worker self.old.conn.q self.old running last.now (heard parts.entry))
+            self.old last.now) }
+    {
+        if is_later(last) {
+            return Ok(Course::Leaves(Left::Stays));
+        }
+        let next = self.run_after(worker, &running, last, parts);
+        match after_run(&next) {
+            Some(doing) => {
+                let course = self.end(scripts, fd, doing)?;
+                Ok(course)
+            }
+            None => {
+                let call = self.run_on(fd, &running, next)?;
+                Ok(Course::Asks(call))
+            }
+        }
+    }
+
+    /// What it does after the reply to its call, with the bytes of the aggregate that the reply
+    /// names. `scripts` says whether scripts are run, and `worker` is one that is free, if it waits
+    /// for one. For want of memory it stays as it was; it wants memory only to keep what came, to
+    /// begin a request, or for a call that has bytes of its own.
+    pub fn go_on(
+        &mut self,
+        scripts: bool,
+        fd: Fd,
+        worker: u32,
+        last: &Reply,
+        parts: Option<Parts<'_>>,
+    ) -> Result<Course, AllocError>
+        requires { worker < MAX_WORKERS }
+        ensures course { IfOk result (λ o. IsCourse scripts fd
+            (spec.told scripts worker self.old last.now (heard parts.entry)) self.old last.now o
+            self.new) }
+        ensures err { OnErr result (self.new ≡ self.old) }
+        ensures wants { OnErr result (WantsOn scripts
+            (spec.told scripts worker self.old last.now (heard parts.entry)) self.old last.now) }
+    {
+        match self.run {
+            Some(running) => {
+                let course = self.go_on_running(scripts, fd, worker, running, last, parts)?;
+                Ok(course)
+            }
+            None => {
+                let course = self.go_on_file(scripts, fd, last, parts)?;
+                Ok(course)
+            }
+        }
+    }
+
+    /// It is left to others, and goes on with this then.
+    pub fn leave(&mut self, left: Left)
+        requires { CanRest self.old left }
+        ensures { self.new ≡ left_with self.old left }
+    {
+        match left {
+            Left::Goes { doing } => self.conn.leave(doing),
+            Left::Ends { doing } => {
+                self.conn.leave(doing);
+                self.run = None;
+                self.script = Vec::new(self.alloc);
+            }
+            Left::Begins => {
+                self.conn.leave(Doing::Heads {
+                    content: Content::Script,
+                });
+                self.run = Some(Running::Awaits);
+            }
+            Left::Stays => {}
+        }
+    }
+
+    /// Its next call.
+    #[tactic(auto, using(crate::proofs::Clients::ready_alone))]
+    pub fn next_call(&self, scripts: bool, fd: Fd) -> Result<Call, AllocError>
+        ensures call { IfOk result (λ call. call ≡ spec.wants scripts fd self.now) }
+        ensures ready { spec.Readies self.now self.now }
+        ensures wants { OnErr result (makes_bytes self.now ≡ true) }
+    {
+        match self.run {
+            Some(running) => self.run_call(fd, self.script.as_slice(), &running),
+            None => {
+                let call = self.conn.next_call(fd)?;
+                Ok(self.file_call(scripts, fd, call))
+            }
+        }
+    }
+}
