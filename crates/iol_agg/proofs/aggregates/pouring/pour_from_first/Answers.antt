@@ -1,0 +1,27 @@
+use Rattle.std.proofs.Common.{◌∙◌, arith}
+use Rattle.iol_agg.proofs.Cutting.{cut_more}
+use Rattle.iol_agg.proofs.Poured.{pours_within, pours_more, next_live, next_few}
+use Rattle.iol_agg.proofs.aggregates.pouring.pour_from_first.Goals as goal
+
+pub returns-then-left-eq0-clause-pours : goal.returns-then-left-eq0-clause-pours
+returns-then-left-eq0-clause-pours c = pours_within c.args.slices.now c.loop-slice.slice-index c.loop-slice.invariant.pours
+
+pub pour_slice-requires-clause-live : goal.pour_slice-requires-clause-live
+pour_slice-requires-clause-live c =
+    next_live c.args.slices.now c.loop-slice.slice-index c.slice-item.result (omega arith) c.slice-item.is c.requires.covered c.loop-slice.invariant.pours
+
+pub pour_slice-requires-clause-few : goal.pour_slice-requires-clause-few
+pour_slice-requires-clause-few c =
+    next_few c.args.slices.now c.loop-slice.slice-index c.slice-item.result (omega arith) c.slice-item.is c.requires.countable c.loop-slice.invariant.pours
+
+pub loop-slice-preserved : goal.loop-slice-preserved
+loop-slice-preserved c =
+    let xs = c.args.slices.now in
+    let i = c.loop-slice.slice-index in
+    let x = c.slice-item.result in
+    record {
+      so_far = rw (c.saturating_sub-left.ensures, c.saturating_sub-skip.ensures, c.saturating_sub.ensures) (cut_more c.loop-slice.out.items c.pour_slice.new.out.items xs i c.loop-slice.skip c.loop-slice.left x _ (omega arith) c.slice-item.is c.pour_slice.ensures.places c.loop-slice.invariant.so_far);
+      pours = pours_more xs i x (omega arith) c.slice-item.is c.loop-slice.invariant.pours c.pour_slice.ensures.pours;
+      capacity = c.pour_slice.ensures.capacity ∙ c.loop-slice.invariant.capacity;
+      short = omega (arith, c.pour_slice.ensures.len, c.loop-slice.invariant.short);
+    }
