@@ -1,5 +1,5 @@
 -- A range whose hits were shared: what the rest of its read needs.
-use Rattle.std.proofs.Common.{◌≡◌, ℕ, ◌+◌, ◌<◌, ◌≤◌, ◌^◌, true, List, [], ◌∷◌, ◌++◌, length, map, Result, sym, ap, ◌∙◌, arith, subst}
+use Rattle.std.proofs.Common.{◌≡◌, ℕ, ◌+◌, ◌<◌, ◌≤◌, ◌^◌, true, List, [], ◌∷◌, ◌++◌, length, map, Result, sym, ap, ◌∙◌, arith, subst, inl, inr}
 use Rattle.std.specs.List.{All, flat_map}
 use Rattle.std.proofs.lemmas.List.Elements.{All-append}
 use Rattle.iol_core.specs.Numbered.{is_numbered}
@@ -26,7 +26,7 @@ use Rattle.iol_cache.specs.Evicting.{Holding}
 use Rattle.iol_cache.specs.Gaps.{gap_pages}
 use Rattle.iol_cache.specs.Going.{Goes, HasRoom, LacksRoom, Pins}
 use Rattle.iol_cache.specs.Pinned.{pinned_beside}
-use Rattle.iol_cache.specs.Ranges.{FillsAfter, PinsRange}
+use Rattle.iol_cache.specs.Ranges.{CompletesRange, PinsRange}
 use Rattle.iol_cache.specs.Serving.{TellsRoom}
 use Rattle.iol_cache.specs.Sharing.{CountsBelow, places_over}
 use Rattle.iol_cache.specs.Sound.{IsSound}
@@ -99,8 +99,9 @@ module _ (f from to : ℕ) (a b : Holding) (pins : List Slice) (gs : List Span) 
   room_hit r h = tells_more _ _ (HasRoom a.store a.cache f from to) (LacksRoom a.store a.cache f from to) r (λ k. record { pinned = pins_hit; fits = omega (arith, k, pinned_same, all_same) }) (λ k. record { pinned = pins_hit; lacks = omega (arith, k, pinned_same, all_same) }) h
 
   -- Where the bytes of the range lie in the end.
-  pub lies_read : (d : Disk) (c : Holding) (xs : List Slice) → FillsAfter f from to pins gs d b c xs → places xs ≡ places_read es (extents_in c.cache.files f) from to gs
-  lies_read d c xs filled =
+  pub lies_read : (d : Disk) (c : Holding) (xs : List Slice) → CompletesRange f from to pins gs d b c xs → places xs ≡ places_read es (extents_in c.cache.files f) from to gs
+  lies_read d c xs (inl e) = ap places e.all ∙ x.lies ∙ ap (places_beside es from to) e.none ∙ sym (ap (places_read es (extents_in c.cache.files f) from to) e.none)
+  lies_read d c xs (inr filled) =
       let n = numbered_bounds b.cache.files f numbered_hit in
       let there_mid = numbered_yes filled.mid.cache.files f n.0 (omega (arith, n.1, filled.less.keeps.count)) in
       let new = filled.fills.extents.extents in

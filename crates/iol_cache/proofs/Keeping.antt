@@ -19,7 +19,7 @@ use Rattle.iol_cache.specs.Gaps.{all_put, gap_pages}
 use Rattle.iol_cache.specs.Going.{FillsFile}
 use Rattle.iol_cache.specs.Keeping.{KeepsCover, KeepsDirty}
 use Rattle.iol_cache.specs.Overwriting.{WritesFile}
-use Rattle.iol_cache.specs.Ranges.{PinsRange}
+use Rattle.iol_cache.specs.Ranges.{PinsRange, FillsAfter, IsAllShared}
 use Rattle.iol_cache.specs.Serving.{LeavesRange, ReadsFile, ReadsRange, RefusesRead}
 use Rattle.iol_cache.specs.Sound.{IsSound}
 use Rattle.iol_cache.proofs.Extending.{apart-without_at, cover-begins, cover-without_at, over_not}
@@ -154,26 +154,39 @@ module _ (f at n : ℕ) (disk : Disk) (old new : Holding) (xs : List Slice) (the
   abbrev pinned : PinsRange f x.range.from x.range.to old r.hit r.pins r.gaps
   pinned = r.pinned
 
-  after_room : KeepsCover r.filled.mid.cache new.cache
-  after_room =
-      let mid = r.filled.mid in
-      let keeps = r.filled.less.keeps in
+  abbrev Fills : Type 0
+  Fills = FillsAfter f x.range.from x.range.to r.pins r.gaps disk r.hit new xs
+
+  after_room : (u : Fills) → KeepsCover u.mid.cache new.cache
+  after_room u =
+      let mid = u.mid in
+      let keeps = u.less.keeps in
       let b = numbered_bounds r.hit.cache.files f (hit_numbered f x.range.from x.range.to old r.hit r.pins r.gaps pinned there) in
       let mid_there = numbered_yes mid.cache.files f b.0 (omega (arith, b.1, keeps.count)) in
       let empty = gaps_kept r.hit mid f r.gaps keeps (hit_gaps f x.range.from x.range.to old r.hit r.pins r.gaps pinned) in
-      subst (KeepsCover mid.cache) (sym r.filled.cache) (filled_keeps f x.range.from x.range.to mid r.filled.full (places r.pins) r.gaps disk xs mid_there pinned.tile.gaps empty r.filled.fills)
+      subst (KeepsCover mid.cache) (sym u.cache) (filled_keeps f x.range.from x.range.to mid u.full (places r.pins) r.gaps disk xs mid_there pinned.tile.gaps empty u.fills)
+
+  -- nothing was missing
+  all_shared : IsAllShared r.pins r.gaps r.hit new xs → KeepsCover r.hit.cache new.cache
+  all_shared e = cover_same r.hit.cache new.cache (λ g. ap (λ (h : Holding). extents_in h.cache.files g) e.same)
 
   pub read_keeps : AreApart old.cache → KeepsDirty old.cache new.cache
   read_keeps apart =
       let apart' = hit_apart f x.range.from x.range.to old r.hit r.pins r.gaps pinned apart in
-      dirty_then old.cache r.hit.cache new.cache (dirty_of old.cache r.hit.cache (hit_keeps f x.range.from x.range.to old r.hit r.pins r.gaps pinned))
-      (dirty_cover r.hit.cache r.filled.mid.cache new.cache (evictions_keep (file_in r.hit.cache.files f).pool (Some (gap_pages r.gaps)) r.hit r.filled.mid r.filled.victims apart') after_room)
+      let later : KeepsDirty r.hit.cache new.cache = elim r.completed [
+        | inl e ↦ dirty_of r.hit.cache new.cache (all_shared e)
+        | inr u ↦ dirty_cover r.hit.cache u.mid.cache new.cache (evictions_keep (file_in r.hit.cache.files f).pool (Some (gap_pages r.gaps)) r.hit u.mid u.victims apart') (after_room u)
+      ] in
+      dirty_then old.cache r.hit.cache new.cache (dirty_of old.cache r.hit.cache (hit_keeps f x.range.from x.range.to old r.hit r.pins r.gaps pinned)) later
 
   -- where the pages that its gaps want are free
   pub read_keeps_all : gap_pages r.gaps ≤ length (free_of r.hit.store (file_in r.hit.cache.files f).pool) → KeepsCover old.cache new.cache
   read_keeps_all free =
-      let same = nothing_goes (file_in r.hit.cache.files f).pool (gap_pages r.gaps) r.hit r.filled.mid free r.filled.victims in
-      cover_then old.cache r.hit.cache new.cache (hit_keeps f x.range.from x.range.to old r.hit r.pins r.gaps pinned) (subst (λ (h : Holding). KeepsCover h.cache new.cache) same after_room)
+      let later : KeepsCover r.hit.cache new.cache = elim r.completed [
+        | inl e ↦ all_shared e
+        | inr u ↦ (let same = nothing_goes (file_in r.hit.cache.files f).pool (gap_pages r.gaps) r.hit u.mid free u.victims in subst (λ (h : Holding). KeepsCover h.cache new.cache) same (after_room u))
+      ] in
+      cover_then old.cache r.hit.cache new.cache (hit_keeps f x.range.from x.range.to old r.hit r.pins r.gaps pinned) later
 
 leaves_keeps : (f from to : ℕ) (old new : Holding) (y : Refusal) → AreApart old.cache → LeavesRange f from to old new y → KeepsDirty old.cache new.cache
 leaves_keeps f from to old new y apart (inl (is, x)) = dirty_of old.cache new.cache (cover_same old.cache new.cache x.same.extents)

@@ -24,7 +24,7 @@ use Rattle.iol_cache.specs.Gaps.{gap_pages}
 use Rattle.iol_cache.specs.Evicting.{GivesUp, Holding}
 use Rattle.iol_cache.specs.Overwriting.{OnlyMakesRoom, WritesFile}
 use Rattle.iol_cache.specs.Paging.{FillsLowest, filled_pages}
-use Rattle.iol_cache.specs.Ranges.{PinsRange}
+use Rattle.iol_cache.specs.Ranges.{PinsRange, FillsAfter}
 use Rattle.iol_cache.specs.Serving.{LeavesRange, ReadsFile, RefusesRead}
 use Rattle.iol_cache.proofs.GivenUp.{frees_then}
 
@@ -91,22 +91,30 @@ given_up_pages old new x = keeps_pages_frees x.frees
 hit_pool : (f from to : ℕ) (old hit : Holding) (pins : List Slice) (gaps : List Span) → PinsRange f from to old hit pins gaps → (file_in hit.cache.files f).pool ≡ (file_in old.cache.files f).pool
 hit_pool f from to old hit pins gaps x = ap (λ fs. (file_in fs f).pool) x.counted.files ∙ x.rooms.pools f
 
-pub read_pages : (f at n : ℕ) (disk : Disk) (old new : Holding) (xs : List Slice) → ReadsFile f at n disk old new xs → FillsLowest (file_in old.cache.files f).pool old.store new.store
-read_pages f at n disk old new xs x =
-    let r = x.reads in
-    let mid = r.filled.mid in
-    let less = r.filled.less in
-    let range = r.filled.fills.range in
+-- a read that filled its gaps
+filled_pages_of : (f from to : ℕ) (disk : Disk) (old hit new : Holding) (pins xs : List Slice) (gaps : List Span) → PinsRange f from to old hit pins gaps → FillsAfter f from to pins gaps disk hit new xs → FillsLowest (file_in old.cache.files f).pool old.store new.store
+filled_pages_of f from to disk old hit new pins xs gaps pinned u =
+    let mid = u.mid in
+    let less = u.less in
+    let range = u.fills.range in
     let placed = range.filled in
-    let pool : (file_in mid.cache.files f).pool ≡ (file_in old.cache.files f).pool = less.keeps.pools f ∙ hit_pool f x.range.from x.range.to old r.hit r.pins r.gaps r.pinned in
-    let same : r.filled.full.store.pools ≡ mid.store.pools = range.shares.pools ∙ placed.pools in
+    let pool : (file_in mid.cache.files f).pool ≡ (file_in old.cache.files f).pool = less.keeps.pools f ∙ hit_pool f from to old hit pins gaps pinned in
+    let same : u.full.store.pools ≡ mid.store.pools = range.shares.pools ∙ placed.pools in
     let shared = keeps_freed (λ p is. ap (λ ps. (pool_in ps p).closed) placed.pools ∙ is) placed.pages (frees_shares range.shares) in
     subst (λ p. FillsLowest p old.store new.store) pool (record {
       roomy = mid.store;
-      frees = frees_then (frees_shares r.pinned.shares) less.frees less.fewer;
-      count = gap_pages r.gaps;
-      pages = keeps_freed (λ p is. ap (λ ps. (pool_in ps p).closed) same ∙ is) shared r.filled.frees;
+      frees = frees_then (frees_shares pinned.shares) less.frees less.fewer;
+      count = gap_pages gaps;
+      pages = keeps_freed (λ p is. ap (λ ps. (pool_in ps p).closed) same ∙ is) shared u.frees;
     })
+
+pub read_pages : (f at n : ℕ) (disk : Disk) (old new : Holding) (xs : List Slice) → ReadsFile f at n disk old new xs → FillsLowest (file_in old.cache.files f).pool old.store new.store
+read_pages f at n disk old new xs x =
+    let r = x.reads in
+    elim r.completed [
+      | inl e ↦ fills_none (file_in old.cache.files f).pool (subst (λ (h : Holding). FreesOnly old.store h.store) (sym e.same) (frees_shares r.pinned.shares))
+      | inr u ↦ filled_pages_of f x.range.from x.range.to disk old r.hit new r.pins xs r.gaps r.pinned u
+    ]
 
 leaves_pages : (f from to : ℕ) (old new : Holding) (y : Refusal) → LeavesRange f from to old new y → FillsLowest (file_in old.cache.files f).pool old.store new.store
 leaves_pages f from to old new y (inl (is, x)) = fills_none (file_in old.cache.files f).pool x.frees

@@ -24,7 +24,7 @@ use Rattle.iol_cache.specs.Contents.{byte_in, file_byte, file_bytes, file_len, r
 use Rattle.iol_cache.specs.Evicting.{Holding}
 use Rattle.iol_cache.specs.Gaps.{AreOf}
 use Rattle.iol_cache.specs.Going.{Goes}
-use Rattle.iol_cache.specs.Ranges.{IsCleanSpan}
+use Rattle.iol_cache.specs.Ranges.{IsCleanSpan, CompletesRange}
 use Rattle.iol_cache.specs.Serving.{IsBacked, ReadsFile, bytes_read}
 use Rattle.iol_cache.specs.Sharing.{IsCovered, IsCoveredSpan, place_over, places_over}
 use Rattle.iol_cache.specs.Sharing as sharing
@@ -162,6 +162,11 @@ length-places_read old new at to (g ∷ gs) order =
     let B = places_over new g.from g.to in
     omega (arith, length-append (A ++ B) (places_read old new g.to to gs), length-append A B, length-places_over old at g.from, length-places_over new g.from g.to, length-places_read old new g.to to gs order.2, order.0, order.1)
 
+-- where there were gaps clean extents stand now
+gaps_stand : {f from to : ℕ} {pins xs : List Slice} {gaps : List Span} {disk : Disk} {old new : Holding} → CompletesRange f from to pins gaps disk old new xs → All (IsCleanSpan (extents_in new.cache.files f)) gaps
+gaps_stand {f = f} {new = new} (inl e) = subst (All (IsCleanSpan (extents_in new.cache.files f))) (sym e.none) (All-nil (IsCleanSpan (extents_in new.cache.files f)))
+gaps_stand (inr u) = u.stand
+
 pub pooled_read : (f at n : ℕ) (disk : Disk) (a c : Holding) (xs : List Slice) → IsSound a.store a.cache → IsSound c.store c.cache → Goes disk [] (bufs_of xs) a c → ReadsFile f at n disk a c xs → AreOf (file_in a.cache.files f).pool xs
 pooled_read f at n disk a c xs sound after goes reads =
     let p = (file_in a.cache.files f).pool in
@@ -170,7 +175,7 @@ pooled_read f at n disk a c xs sound after goes reads =
     let r = reads.reads in
     let laid_new = subst (λ q. Each (IsLaid c.store q) new) (goes.pools f) (after.files f).laid in
     let beside = tile_beside old reads.range.from reads.range.to r.pinned.hits r.gaps r.pinned.tile in
-    let stand = All-weaker (IsCleanSpan new) (IsCoveredSpan new) (λ g h. covered_span new g (after.files f).apart h) r.gaps r.filled.stand in
+    let stand = All-weaker (IsCleanSpan new) (IsCoveredSpan new) (λ g h. covered_span new g (after.files f).apart h) r.gaps (gaps_stand r.completed) in
     record { each = pooled_places p xs (All-same (IsOf p) _ _ r.lies (read_pool a.store c.store p old new reads.range.from reads.range.to r.gaps (sound.files f).laid laid_new beside stand)) }
 
 pub long_read : (f at n : ℕ) (disk : Disk) (a c : Holding) (xs : List Slice) → ReadsFile f at n disk a c xs → byte_len xs ≤ n
@@ -224,6 +229,6 @@ text_read f at n disk a c xs sound after there goes readable reads backed =
     let same = byte_same (byte_in c.store) (byte_in a.store) stored new old ((goes.files backed.honest backed.mirrors).each f) in
     let beside = tile_beside old from to reads.reads.pinned.hits gs tile in
     let there_new : All (IsThere c.store) (places_read old new from to gs) = All-same (IsThere c.store) _ _ (sym reads.reads.lies) readable.each in
-    let run = read_run a.store c.store p old new stored goes.moves.stays laid laid_new (λ g i stands l u. span_cover new g i (after.files f).apart stands l u) same from to gs tile.gaps (omega (arith, reads.range.stops, end)) beside reads.reads.filled.stand there_new in
+    let run = read_run a.store c.store p old new stored goes.moves.stays laid laid_new (λ g i stands l u. span_cover new g i (after.files f).apart stands l u) same from to gs tile.gaps (omega (arith, reads.range.stops, end)) beside (gaps_stand reads.reads.completed) there_new in
     ap (map (byte_at c.store)) reads.reads.lies ∙ run ∙ labelled_run V p (range_with_len from (to - from))
     ∙ ap (text.labelled p) (sym (part_run V at n (file_len stored old) from to (omega (arith, reads.range.begins, end)) (omega (arith, reads.range.stops, end))))

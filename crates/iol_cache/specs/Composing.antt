@@ -23,7 +23,8 @@ copied_pages p xs = pages_after 0 p xs
 -- as many bytes, and those that lay in the pool already lie where they lay
 pub record KeepsOwn (pool : ℕ) (source out : List Place) : Type 0 where
   pub long : length out ≡ length source
-  pub each : (i : ℕ) → i < length source → (slice_index_or source i no_place).pool ≡ pool → slice_index_or out i no_place ≡ slice_index_or source i no_place
+  pub each : (i : ℕ) → i < length source → (slice_index_or source i no_place).pool ≡ pool
+      → slice_index_or out i no_place ≡ slice_index_or source i no_place
 
 -- The same bytes as those of the source, all in the pool. Its own are shared, and the others lie on the lowest k pages that
 -- were free.

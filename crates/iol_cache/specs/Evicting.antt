@@ -92,5 +92,6 @@ pub record GivesUp (old new : Holding) : Type 0 where
   pub lists : SameLists old.store new.store
   pub settles : AllSettled old.store → AllSettled new.store
   pub mirrors : (slots : List (List ℕ)) → Mirrors old.store slots old.cache.files → Mirrors new.store slots new.cache.files
-  pub files : (slots : List (List ℕ)) → Mirrors old.store slots old.cache.files → SameFiles old.store old.cache.files new.store new.cache.files slots
+  pub files : (slots : List (List ℕ)) → Mirrors old.store slots old.cache.files
+      → SameFiles old.store old.cache.files new.store new.cache.files slots
   pub keeps : KeepsPlaces old.cache new.cache

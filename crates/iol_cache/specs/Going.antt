@@ -31,13 +31,15 @@ pub record Goes (disk : Disk) (taken given : List BufId) (old new : Holding) : T
   pub count : length new.cache.files ≡ length old.cache.files
   pub pools : (f : ℕ) → (file_in new.cache.files f).pool ≡ (file_in old.cache.files f).pool
   pub mirrors : IfHonest disk (Mirrors old.store disk.slots old.cache.files → Mirrors new.store disk.slots new.cache.files)
-  pub files : IfHonest disk (Mirrors old.store disk.slots old.cache.files → SameFiles old.store old.cache.files new.store new.cache.files disk.slots)
+  pub files : IfHonest disk
+      (Mirrors old.store disk.slots old.cache.files → SameFiles old.store old.cache.files new.store new.cache.files disk.slots)
 
 -- hits on extents of a file were counted in the order of its pool
 pub record CountsHits (f : ℕ) (hits : List Span) (old new : Cached) : Type 0 where
   pub files : new.files ≡ old.files
   pub marks : new.marks ≡ old.marks
-  pub orders : let p = (file_in old.files f).pool in new.orders ≡ with_order old.orders p (hits_counted (order_in old.orders p) f (extents_in old.files f) hits)
+  pub orders : let p = (file_in old.files f).pool in
+      new.orders ≡ with_order old.orders p (hits_counted (order_in old.orders p) f (extents_in old.files f) hits)
 
 -- The hits of a range, held once more, and the gaps; which pages are pinned then, and how many are wanted.
 pub record Pins (s : Stored) (c : Cached) (f from to : ℕ) : Type 0 where
@@ -64,10 +66,13 @@ pub record LacksRoom (s : Stored) (c : Cached) (f from to : ℕ) : Type 0 where
 
 -- The gaps of a range of a file were read, and stand as clean extents, which are marked and in the order; the range was
 -- put together.
-pub record FillsFile (f from to : ℕ) (beside : List Place) (gaps : List Span) (disk : Disk) (old new : Holding) (xs : List Slice) : Type 0 where
+pub record FillsFile (f from to : ℕ) (beside : List Place) (gaps : List Span) (disk : Disk) (old new : Holding)
+    (xs : List Slice) : Type 0 where
   pub extents : ExtentMap
-  pub range : FillsRange old.store new.store (file_in old.cache.files f).extents extents (file_in old.cache.files f).pool beside gaps from to disk f xs
+  pub range : FillsRange old.store new.store (file_in old.cache.files f).extents extents (file_in old.cache.files f).pool
+      beside gaps from to disk f xs
   pub apart : IsApart 0 extents.extents
   pub files : new.cache.files ≡ with_file old.cache.files f (record { pool = (file_in old.cache.files f).pool; extents = extents })
-  pub orders : let p = (file_in old.cache.files f).pool in new.cache.orders ≡ with_order old.cache.orders p (all_entered (order_in old.cache.orders p) f extents.extents gaps)
+  pub orders : let p = (file_in old.cache.files f).pool in
+      new.cache.orders ≡ with_order old.cache.orders p (all_entered (order_in old.cache.orders p) f extents.extents gaps)
   pub marks : Marks old.cache.marks new.cache.marks (parts_of_spans extents.extents gaps)

@@ -5,7 +5,8 @@ use Rattle.iol_cache.specs.Cached.{Cached, extents_in}
 
 -- each byte that lies under an extent lies where it lay, or it was clean
 pub record KeepsDirty (old new : Cached) : Type 0 where
-  pub each : (f i : ℕ) (c : Cell) → cover (extents_in old.files f) i ≡ Some c → (cover (extents_in new.files f) i ≡ Some c) ⊎ (c.dirty ≡ false)
+  pub each : (f i : ℕ) (c : Cell) → cover (extents_in old.files f) i ≡ Some c
+      → (cover (extents_in new.files f) i ≡ Some c) ⊎ (c.dirty ≡ false)
 
 -- each byte that lies under an extent lies where it lay
 pub record KeepsCover (old new : Cached) : Type 0 where

@@ -10,7 +10,8 @@ use Rattle.iol_cache.specs.Sound.{IsSound}
 
 -- in whichever slices the hits of a range are held, as many pages are pinned and wanted
 abbrev pub WantsOneNumber : Type 0
-WantsOneNumber = (s : Stored) (c : Cached) (f from to : ℕ) → IsSound s c → (x y : Pins s c f from to) → wanted_pages x ≡ wanted_pages y
+WantsOneNumber = (s : Stored) (c : Cached) (f from to : ℕ) → IsSound s c → (x y : Pins s c f from to)
+    → wanted_pages x ≡ wanted_pages y
 
 -- a range has room, or it lacks it, and never both
 abbrev pub HasOrLacksRoom : Type 0
@@ -18,4 +19,5 @@ HasOrLacksRoom = (s : Stored) (c : Cached) (f from to : ℕ) → IsSound s c →
 
 -- so it is with a read of a file, whose end an honest store tells
 abbrev pub ReadsOrLacksRoom : Type 0
-ReadsOrLacksRoom = (f at n : ℕ) (disk : Disk) (h : Holding) → disk.honest ≡ true → IsSound h.store h.cache → RoomToRead f at n disk h → NoRoomToRead f at n disk h → ⊥
+ReadsOrLacksRoom = (f at n : ℕ) (disk : Disk) (h : Holding) → disk.honest ≡ true → IsSound h.store h.cache
+    → RoomToRead f at n disk h → NoRoomToRead f at n disk h → ⊥

@@ -27,7 +27,8 @@ MirrorsIn h slots = Mirrors h.store slots h.cache.files
 
 -- the bytes of the source stand in the file from a place on, which is at most its end
 pub record IsWritten (f at : ℕ) (source : List Slice) (old new : Holding) : Type 0 where
-  pub each : (slots : List (List ℕ)) → MirrorsIn old slots → at ≤ length (bytes_in old slots f) → bytes_in new slots f ≡ overwritten at (text.bytes_of (text_of old.store source)) (bytes_in old slots f)
+  pub each : (slots : List (List ℕ)) → MirrorsIn old slots → at ≤ length (bytes_in old slots f)
+      → bytes_in new slots f ≡ overwritten at (text.bytes_of (text_of old.store source)) (bytes_in old slots f)
 
 -- every other file has the bytes that it had
 pub record KeepsOthers (f : ℕ) (old new : Holding) : Type 0 where

@@ -1,5 +1,5 @@
 -- A range of a file that is read, step by step.
-use Rattle.std.specs.Prelude.{◌≡◌, ℕ, ◌≤◌, false, List, [], length, All, Some}
+use Rattle.std.specs.Prelude.{◌≡◌, ◌⊎◌, ℕ, ◌≤◌, false, List, [], length, All, Some}
 use Rattle.iol_core.specs.declared.refusals.Refusal.{Refusal}
 use Rattle.iol_core.specs.declared.refusals.Refusal.TheVariants.{NoRoom}
 use Rattle.iol_back.specs.Disk.{Disk}
@@ -39,9 +39,16 @@ pub record IsCleanSpan (es : List Extent) (s : Span) : Type 0 where
   pub ends : end_of extent ≡ s.to
   pub clean : extent.dirty ≡ false
 
+-- Nothing was missing: the range is what was shared, and nothing else was done.
+pub record IsAllShared (pins : List Slice) (gaps : List Span) (old new : Holding) (xs : List Slice) : Type 0 where
+  pub none : gaps ≡ []
+  pub all : xs ≡ pins
+  pub same : new ≡ old
+
 -- Room was made for the gaps, they were read and stand as clean extents, the range was put together from them and what was
 -- shared beside them, and that was released.
-pub record FillsAfter (f from to : ℕ) (pins : List Slice) (gaps : List Span) (disk : Disk) (old new : Holding) (xs : List Slice) : Type 0 where
+pub record FillsAfter (f from to : ℕ) (pins : List Slice) (gaps : List Span) (disk : Disk) (old new : Holding)
+    (xs : List Slice) : Type 0 where
   pub mid : Holding
   pub victims : EvictsAll (file_in old.cache.files f).pool (Some (gap_pages gaps)) old mid
   pub less : GivesUp old mid
@@ -51,6 +58,11 @@ pub record FillsAfter (f from to : ℕ) (pins : List Slice) (gaps : List Span) (
   pub cache : new.cache ≡ full.cache
   pub released : Moves full.store new.store (bufs_of pins) []
   pub frees : FreesOnly full.store new.store
+
+-- The range is whole: by what was shared alone, or with its gaps.
+abbrev pub CompletesRange : (f from to : ℕ) → List Slice → List Span → Disk → (old new : Holding) → List Slice → Type 0
+CompletesRange f from to pins gaps disk old new xs =
+    IsAllShared pins gaps old new xs ⊎ FillsAfter f from to pins gaps disk old new xs
 
 -- Room was made for the gaps; nothing is left of what was made of them, and what was shared beside them was released. Where
 -- there is no room no extent went, and no page was filled.

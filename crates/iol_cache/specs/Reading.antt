@@ -73,7 +73,8 @@ AreAbsent r f [] = Unit {0}
 AreAbsent r f (s ∷ ss) = (entries_at f s.from r.entries ≡ 0) × AreAbsent r f ss
 
 -- Gaps of a range that were read, and the range put together from what was shared beside them, and from them.
-pub record FillsRange (s t : Stored) (old new : ExtentMap) (pool : ℕ) (beside : List Place) (gaps : List Span) (from to : ℕ) (disk : Disk) (file : ℕ) (xs : List Slice) : Type 0 where
+pub record FillsRange (s t : Stored) (old new : ExtentMap) (pool : ℕ) (beside : List Place) (gaps : List Span)
+    (from to : ℕ) (disk : Disk) (file : ℕ) (xs : List Slice) : Type 0 where
   pub mid : Stored
   pub fills : FillsGaps s mid old new pool gaps disk file
   pub filled : PlacesPages s mid pool (gap_pages gaps)

@@ -16,7 +16,7 @@ use Rattle.iol_cache.specs.Cached.{Cached, extents_in}
 use Rattle.iol_cache.specs.Contents.{Mirrors, bytes_in_slot}
 use Rattle.iol_cache.specs.Evicting.{Holding}
 use Rattle.iol_cache.specs.Going.{HasRoom, LacksRoom}
-use Rattle.iol_cache.specs.Ranges.{FillsAfter, PinsRange, UndoesAfter}
+use Rattle.iol_cache.specs.Ranges.{CompletesRange, PinsRange, UndoesAfter}
 use Rattle.iol_cache.specs.Reading.{SameButRoom}
 use Rattle.iol_cache.specs.Weaving.{places_read}
 
@@ -60,14 +60,14 @@ pub record Range (disk : Disk) (c : Cached) (f at n : ℕ) : Type 0 where
   pub to : ℕ
   pub stops : to ≡ min (at + n) end
 
--- The hits of a range were shared and counted, extents went to make room for its gaps, and these stand as clean extents
--- now. Its bytes lie over hits where they lay, over gaps in the new extents.
+-- The hits of a range were shared and counted. Where there are gaps, extents went to make room for them, and they stand as
+-- clean extents now. Its bytes lie over hits where they lay, over gaps in the new extents.
 pub record ReadsRange (f from to : ℕ) (disk : Disk) (old new : Holding) (xs : List Slice) : Type 0 where
   pub pins : List Slice
   pub gaps : List Span
   pub hit : Holding
   pub pinned : PinsRange f from to old hit pins gaps
-  pub filled : FillsAfter f from to pins gaps disk hit new xs
+  pub completed : CompletesRange f from to pins gaps disk hit new xs
   pub lies : places xs ≡ places_read (extents_in old.cache.files f) (extents_in new.cache.files f) from to gaps
   pub answers : 0 < length gaps → disk.failures < last_failure
 

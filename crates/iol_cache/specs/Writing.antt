@@ -24,9 +24,12 @@ pub record PutsOver (f from to : ℕ) (left right e : Extent) (old new : Holding
   pub apart : IsApart 0 extents.extents
   pub files : new.cache.files ≡ with_file old.cache.files f (record { pool = (file_in old.cache.files f).pool; extents = extents })
   pub orders : new.cache.orders ≡ with_order old.cache.orders (file_in old.cache.files f).pool order
-  pub ranks : order ≡ reordered (order_in old.cache.orders (file_in old.cache.files f).pool) f (extents_in old.cache.files f) from to left right e
-  pub follows : Reindexes f (extents_in old.cache.files f) extents.extents (order_in old.cache.orders (file_in old.cache.files f).pool) order old.cache.marks new.cache.marks
-  pub moves : Moves old.store new.store (bufs_of (all_parts (extents_in old.cache.files f) ++ parts_put left right e)) (bufs_of (all_parts extents.extents))
+  pub ranks : order ≡ reordered (order_in old.cache.orders (file_in old.cache.files f).pool) f (extents_in old.cache.files f)
+      from to left right e
+  pub follows : Reindexes f (extents_in old.cache.files f) extents.extents
+      (order_in old.cache.orders (file_in old.cache.files f).pool) order old.cache.marks new.cache.marks
+  pub moves : Moves old.store new.store (bufs_of (all_parts (extents_in old.cache.files f) ++ parts_put left right e))
+      (bufs_of (all_parts extents.extents))
   pub frees : FreesOnly old.store new.store
   pub lists : SameLists old.store new.store
   pub settles : AllSettled old.store → AllSettled new.store
@@ -38,6 +41,7 @@ pub record Changes (f : ℕ) (own : List Slice) (old new : Holding) : Type 0 whe
   pub apart : IsApart 0 extents.extents
   pub files : new.cache.files ≡ with_file old.cache.files f (record { pool = (file_in old.cache.files f).pool; extents = extents })
   pub orders : new.cache.orders ≡ with_order old.cache.orders (file_in old.cache.files f).pool order
-  pub follows : Reindexes f (extents_in old.cache.files f) extents.extents (order_in old.cache.orders (file_in old.cache.files f).pool) order old.cache.marks new.cache.marks
+  pub follows : Reindexes f (extents_in old.cache.files f) extents.extents
+      (order_in old.cache.orders (file_in old.cache.files f).pool) order old.cache.marks new.cache.marks
   pub moves : Moves old.store new.store (bufs_of (all_parts (extents_in old.cache.files f) ++ own)) (bufs_of (all_parts extents.extents))
   pub frees : FreesOnly old.store new.store

@@ -91,7 +91,7 @@ impl Cache {
         filled
     }
 
-    // Reads a range that lies within a file.
+    // Reads a range that lies within a file. Without gaps it is what was shared.
     fn read_range<B: Backing>(
         &mut self,
         alloc: Global,
@@ -123,6 +123,9 @@ impl Cache {
             (WantOfRoomOrFault (file_in self.old.files.items file).pool file) }
     {
         let (pins, gaps) = self.pin(alloc, store, file, from, to)?;
+        if gaps.as_slice().is_empty() {
+            return Ok(pins);
+        }
         self.fill_pinned(alloc, store, backing, file, from, to, pins, &gaps)
     }
 

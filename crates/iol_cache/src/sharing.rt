@@ -19,7 +19,6 @@ use std::alloc::{AllocError, Global};
 
 // Adds what the extent over byte `at` has before `to`, and tells where that ends. Refused, all is released.
 fn share_next(
-    alloc: Global,
     extents: &Extents,
     store: &mut Store,
     so_far: Agg,
@@ -49,27 +48,18 @@ fn share_next(
     };
     let skip = at - begin;
     let count = (to - at).min(agg.len() - skip);
-    let piece = match agg.cut(alloc, store, skip, skip + count) {
-        Ok(piece) => piece,
+    let mut shared = so_far;
+    match shared.add_range(store, agg, skip, skip + count) {
+        Ok(()) => Ok((shared, at + count)),
         Err(refused) => {
-            so_far.release(store);
-            return Err(refused);
-        }
-    };
-    match so_far.join(piece) {
-        Ok(joined) => Ok((joined, at + count)),
-        Err(failed) => {
-            let (so_far, piece) = failed.value;
-            so_far.release(store);
-            piece.release(store);
-            Err(AllocError)
+            shared.release(store);
+            Err(refused)
         }
     }
 }
 
 /// Adds the bytes of a range that lies under extents. Refused, all is released.
 pub(crate) fn share_over(
-    alloc: Global,
     extents: &Extents,
     store: &mut Store,
     so_far: Agg,
@@ -95,7 +85,7 @@ pub(crate) fn share_over(
     let mut shared = so_far;
     let mut at = from;
     while at < to {
-        let (more, end) = match share_next(alloc, extents, store, shared, at, to) {
+        let (more, end) = match share_next(extents, store, shared, at, to) {
             Ok(next) => next,
             Err(refused) => return Err(refused),
         };
@@ -126,7 +116,7 @@ pub(crate) fn share_range(
     ensures settles { AllReadable store.old (all_parts extents.now.extents) →
         AllSettled store.old → AllSettled store.new }
 {
-    share_over(alloc, extents, store, Agg::new(alloc), from, to)
+    share_over(extents, store, Agg::new(alloc), from, to)
 }
 
 /// Shares the bytes of ranges of a file that lie under extents, one after another.
@@ -151,7 +141,7 @@ pub(crate) fn share_spans(
 {
     let mut shared = Agg::new(alloc);
     for span in spans {
-        shared = match share_over(alloc, extents, store, shared, span.from, span.to) {
+        shared = match share_over(extents, store, shared, span.from, span.to) {
             Ok(more) => more,
             Err(refused) => return Err(refused),
         };

@@ -43,13 +43,13 @@ pub(crate) fn share_beside(
     let mut shared = Agg::new(alloc);
     let mut at = from;
     for gap in gaps {
-        shared = match share_over(alloc, extents, store, shared, at, gap.from) {
+        shared = match share_over(extents, store, shared, at, gap.from) {
             Ok(more) => more,
             Err(refused) => return Err(refused),
         };
         at = gap.to;
     }
-    match share_over(alloc, extents, store, shared, at, to) {
+    match share_over(extents, store, shared, at, to) {
         Ok(all) => Ok(all),
         Err(refused) => Err(refused),
     }
@@ -57,7 +57,6 @@ pub(crate) fn share_beside(
 
 // Adds a part of other bytes. Refused, all is released.
 fn add_part(
-    alloc: Global,
     store: &mut Store,
     so_far: Agg,
     other: &Agg,
@@ -80,20 +79,12 @@ fn add_part(
     ensures lists { SameLists store.old store.new }
     ensures settles { AllSettled store.old → AllSettled store.new }
 {
-    let piece = match other.cut(alloc, store, from, to) {
-        Ok(piece) => piece,
+    let mut shared = so_far;
+    match shared.add_range(store, other, from, to) {
+        Ok(()) => Ok(shared),
         Err(refused) => {
-            so_far.release(store);
-            return Err(refused);
-        }
-    };
-    match so_far.join(piece) {
-        Ok(joined) => Ok(joined),
-        Err(failed) => {
-            let (so_far, piece) = failed.value;
-            so_far.release(store);
-            piece.release(store);
-            Err(AllocError)
+            shared.release(store);
+            Err(refused)
         }
     }
 }
@@ -130,11 +121,11 @@ pub(crate) fn weave(
     let mut used = 0;
     for gap in gaps {
         let next = used + (gap.from - at);
-        shared = match add_part(alloc, store, shared, beside, used, next) {
+        shared = match add_part(store, shared, beside, used, next) {
             Ok(more) => more,
             Err(refused) => return Err(refused),
         };
-        shared = match share_over(alloc, extents, store, shared, gap.from, gap.to) {
+        shared = match share_over(extents, store, shared, gap.from, gap.to) {
             Ok(more) => more,
             Err(refused) => return Err(refused),
         };
@@ -142,7 +133,7 @@ pub(crate) fn weave(
         at = gap.to;
     }
     let end = used + (to - at);
-    match add_part(alloc, store, shared, beside, used, end) {
+    match add_part(store, shared, beside, used, end) {
         Ok(all) => Ok(all),
         Err(refused) => Err(refused),
     }

@@ -132,15 +132,16 @@ read_unless f at n disk old new xs there apart x =
     let a = x.range.from in
     let b = x.range.to in
     let p = (file_in old.cache.files f).pool in
-    let mid = r.filled.mid in
     keeps_unless p (length (free_of old.store p)) (gap_pages r.gaps) (LacksPagesToRead f at n disk old) old.cache new.cache
     (lacks_gaps f a b old r.hit r.pins r.gaps r.pinned at n disk x.range refl refl)
-    (λ g ne.
-    let filled : CachedFile = record { pool = (file_in mid.cache.files f).pool; extents = r.filled.fills.extents } in
-    ap (λ (c : Cached). extents_in c.files g) r.filled.cache
-    ∙ ap (λ fs. extents_in fs g) r.filled.fills.files
-    ∙ ap (λ (y : CachedFile). y.extents.extents) (file_other mid.cache.files f g filled (λ e. ne (ap (λ m. (file_in old.cache.files m).pool) e)))
-    ∙ hit_other f a b old r.hit r.pins r.gaps r.pinned mid r.filled.victims g ne)
+    (λ g ne. elim r.completed [
+      | inl e ↦ ap (λ (h : Holding). extents_in h.cache.files g) e.same ∙ hit_extents f a b old r.hit r.pins r.gaps r.pinned g
+      | inr u ↦ (let filled : CachedFile = record { pool = (file_in u.mid.cache.files f).pool; extents = u.fills.extents } in
+          ap (λ (c : Cached). extents_in c.files g) u.cache
+          ∙ ap (λ fs. extents_in fs g) u.fills.files
+          ∙ ap (λ (y : CachedFile). y.extents.extents) (file_other u.mid.cache.files f g filled (λ e. ne (ap (λ m. (file_in old.cache.files m).pool) e)))
+          ∙ hit_other f a b old r.hit r.pins r.gaps r.pinned u.mid u.victims g ne)
+    ])
     (read_keeps f at n disk old new xs there x apart)
     (λ enough. read_keeps_all f at n disk old new xs there x (subst (λ m. gap_pages r.gaps ≤ m) (sym (hit_free f a b old r.hit r.pins r.gaps r.pinned)) enough))
 

@@ -1,14 +1,8 @@
-use Rattle.std.proofs.Common.{◌∙◌, ◌+◌, ◌-◌, ◌++◌, [], ap, sym, subst, List, arith}
+use Rattle.std.proofs.Common.{◌∙◌, ◌+◌, ◌-◌, ◌++◌, ap, sym, arith}
 use Rattle.iol_agg.proofs.Holding.{tally-few}
 use Rattle.iol_extent.specs.Extents.{Extent, extent_of}
-use Rattle.iol_hold.specs.Moves.{Covers, Moves, Shares}
 use Rattle.iol_hold.specs.Places.{places}
-use Rattle.iol_hold.specs.Texts.{AllReadable, bufs_of}
-use Rattle.iol_hold.specs.declared.slices.Slice.{Slice}
-use Rattle.iol_hold.proofs.Counting.{bufs-append, tally-append, tally_none}
-use Rattle.iol_hold.proofs.Reading.{readable_stays}
-use Rattle.iol_hold.proofs.Slicing.{places-append}
-use Rattle.iol_cache.proofs.Shared.{covers_part, covers_shared, given_frees, given_up, over_at, over_readable, over_tally, readable_range, readable_same, run_over, settles_shares}
+use Rattle.iol_cache.proofs.Shared.{over_at, over_tally, run_over}
 use Rattle.iol_cache.proofs.sharing.share_next.Goals as goal
 
 pub overflow_sub-skip : goal.overflow_sub-skip
@@ -17,64 +11,21 @@ overflow_sub-skip c = (over_at c.args.extents.now.extents c.args.at (extent_of c
 pub overflow_sub-len : goal.overflow_sub-len
 overflow_sub-len c = let h = over_at c.args.extents.now.extents c.args.at (extent_of c.in-Some.begin c.in-Some.agg.now c.in-Some._dirty) c.in-Some.ensures.extent in omega (arith, h.0, h.1, c.len.ensures)
 
-pub cut-requires-clause-within : goal.cut-requires-clause-within
-cut-requires-clause-within c = let h = over_at c.args.extents.now.extents c.args.at (extent_of c.in-Some.begin c.in-Some.agg.now c.in-Some._dirty) c.in-Some.ensures.extent in omega (arith, h.0, h.1, c.len.ensures, c.min-count.ensures)
+pub add_range-requires-clause-within : goal.add_range-requires-clause-within
+add_range-requires-clause-within c = let h = over_at c.args.extents.now.extents c.args.at (extent_of c.in-Some.begin c.in-Some.agg.now c.in-Some._dirty) c.in-Some.ensures.extent in omega (arith, h.0, h.1, c.len.ensures, c.min-count.ensures)
 
-pub cut-requires-clause-covered : goal.cut-requires-clause-covered
-cut-requires-clause-covered c = record { each = λ b. omega (arith, over_tally c.args.extents.now.extents c.args.at (extent_of c.in-Some.begin c.in-Some.agg.now c.in-Some._dirty) c.in-Some.ensures.extent b, c.requires.held.each b) }
+pub add_range-requires-clause-covered : goal.add_range-requires-clause-covered
+add_range-requires-clause-covered c = record { each = λ b. omega (arith, over_tally c.args.extents.now.extents c.args.at (extent_of c.in-Some.begin c.in-Some.agg.now c.in-Some._dirty) c.in-Some.ensures.extent b, c.requires.held.each b) }
 
-pub cut-requires-clause-countable : goal.cut-requires-clause-countable
-cut-requires-clause-countable c = record { each = λ b. omega (arith, tally-few b c.in-Some.agg.now, c.requires.few.each b, c.len.ensures) }
+pub add_range-requires-clause-countable : goal.add_range-requires-clause-countable
+add_range-requires-clause-countable c = record { each = λ b. omega (arith, tally-few b c.in-Some.agg.now, c.requires.few.each b, c.len.ensures) }
 
-pub release-requires-in-Err-join : goal.release-requires-in-Err-join
-release-requires-in-Err-join c =
-    let is = ap (λ (q : List Slice × List Slice). q.0) c.in-Err-join.ensures.back in
-    subst (λ (x : List Slice). Covers c.cut.new.store (bufs_of x)) (sym is) (covers_shared c.requires.own c.in-Ok.ensures.shares)
+pub returns-in-Ok-clause-further : goal.returns-in-Ok-clause-further
+returns-in-Ok-clause-further c = let h = over_at c.args.extents.now.extents c.args.at (extent_of c.in-Some.begin c.in-Some.agg.now c.in-Some._dirty) c.in-Some.ensures.extent in omega (arith, h.0, h.1, c.len.ensures, c.min-count.ensures, c.requires.before)
 
-pub returns-in-Ok-join-clause-further : goal.returns-in-Ok-join-clause-further
-returns-in-Ok-join-clause-further c = let h = over_at c.args.extents.now.extents c.args.at (extent_of c.in-Some.begin c.in-Some.agg.now c.in-Some._dirty) c.in-Some.ensures.extent in omega (arith, h.0, h.1, c.len.ensures, c.min-count.ensures, c.requires.before)
-
-pub returns-in-Ok-join-clause-places : goal.returns-in-Ok-join-clause-places
-returns-in-Ok-join-clause-places c =
+pub returns-in-Ok-clause-places : goal.returns-in-Ok-clause-places
+returns-in-Ok-clause-places c =
     let e : Extent = extent_of c.in-Some.begin c.in-Some.agg.now c.in-Some._dirty in
     let h = over_at c.args.extents.now.extents c.args.at e c.in-Some.ensures.extent in
     let run = run_over c.args.extents.now.extents c.args.at c.min-count.result e c.requires.apart c.in-Some.ensures.extent (omega (arith, h.0, h.1, c.len.ensures, c.min-count.ensures)) in
-    ap places c.in-Ok-join.ensures.joined ∙ places-append c.args.so_far c.in-Ok.piece ∙ ap (λ l. places c.args.so_far ++ l) (c.in-Ok.ensures.places ∙ sym run)
-
-pub returns-in-Ok-join-clause-shares : goal.returns-in-Ok-join-clause-shares
-returns-in-Ok-join-clause-shares c =
-    let joined = ap bufs_of c.in-Ok-join.ensures.joined ∙ bufs-append c.args.so_far c.in-Ok.piece in
-    let m = c.in-Ok.ensures.shares in
-    subst (λ bs. Shares c.args.store.now c.cut.new.store (bufs_of c.args.so_far) bs) (sym joined) (record {
-      counts = record { each = λ b. omega (arith, m.counts.each b, tally_none b, tally-append b (bufs_of c.args.so_far) (bufs_of c.in-Ok.piece)) };
-      arena = m.arena;
-      pools = m.pools;
-      tidy = m.tidy;
-    })
-
-pub returns-in-Err-join-clause-gone : goal.returns-in-Err-join-clause-gone
-returns-in-Err-join-clause-gone c =
-    let is0 = ap (λ (q : List Slice × List Slice). q.0) c.in-Err-join.ensures.back in
-    let is1 = ap (λ (q : List Slice × List Slice). q.1) c.in-Err-join.ensures.back in
-    given_up c.in-Ok.ensures.shares (subst (λ (x : List Slice). Moves c.cut.new.store c.release-in-Err-join.new.store (bufs_of x) []) is0 c.release-in-Err-join.ensures.moves)
-    (subst (λ (x : List Slice). Moves c.release-in-Err-join.new.store c.release-in-Err-join-2.new.store (bufs_of x) []) is1 c.release-in-Err-join-2.ensures.moves)
-
-pub returns-in-Err-join-clause-frees : goal.returns-in-Err-join-clause-frees
-returns-in-Err-join-clause-frees c =
-    let is0 = ap (λ (q : List Slice × List Slice). q.0) c.in-Err-join.ensures.back in
-    let is1 = ap (λ (q : List Slice × List Slice). q.1) c.in-Err-join.ensures.back in
-    given_frees c.in-Ok.ensures.shares (subst (λ (x : List Slice). Moves c.cut.new.store c.release-in-Err-join.new.store (bufs_of x) []) is0 c.release-in-Err-join.ensures.moves)
-    (subst (λ (x : List Slice). Moves c.release-in-Err-join.new.store c.release-in-Err-join-2.new.store (bufs_of x) []) is1 c.release-in-Err-join-2.ensures.moves)
-    c.release-in-Err-join.ensures.frees c.release-in-Err-join-2.ensures.frees
-
-pub returns-in-Err-join-clause-settles : goal.returns-in-Err-join-clause-settles
-returns-in-Err-join-clause-settles c = λ all own settled.
-    let is0 = ap (λ (q : List Slice × List Slice). q.0) c.in-Err-join.ensures.back in
-    let is1 = ap (λ (q : List Slice × List Slice). q.1) c.in-Err-join.ensures.back in
-    let e : Extent = extent_of c.in-Some.begin c.in-Some.agg.now c.in-Some._dirty in
-    let m = c.in-Ok.ensures.shares in
-    let n = subst (λ (x : List Slice). Moves c.cut.new.store c.release-in-Err-join.new.store (bufs_of x) []) is0 c.release-in-Err-join.ensures.moves in
-    let there = readable_range c.in-Ok.piece e.parts (c.args.at - e.at) ((c.args.at - e.at) + c.min-count.result) c.in-Ok.ensures.places (over_readable c.args.extents.now.extents c.args.at e c.in-Some.ensures.extent all) in
-    let piece = readable_stays c.in-Ok.piece n.stays (covers_part c.requires.own m n) (readable_same c.args.store.now c.cut.new.store c.in-Ok.piece m.arena m.pools there) in
-    c.release-in-Err-join-2.ensures.settles (subst (AllReadable c.release-in-Err-join.new.store) (sym is1) piece)
-    (c.release-in-Err-join.ensures.settles (subst (AllReadable c.cut.new.store) (sym is0) (readable_same c.args.store.now c.cut.new.store c.args.so_far m.arena m.pools own)) (settles_shares m settled))
+    c.in-Ok.ensures.places ∙ ap (λ l. places c.args.so_far ++ l) (sym run)

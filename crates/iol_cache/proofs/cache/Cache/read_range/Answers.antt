@@ -1,6 +1,8 @@
-use Rattle.std.proofs.Common.{inr, ◌+◌, ◌<◌, ◌≤◌, List, [], length, sym, ap, ◌∙◌, arith, subst}
+use Rattle.std.proofs.Common.{inl, inr, ◌≡◌, ◌==◌, true, Bool, ◌∷◌, refl, ◌+◌, ◌<◌, ◌≤◌, List, [], length, Result, Ok, sym, ap, ◌∙◌, arith, subst}
+use Rattle.std.proofs.lemmas.Bool.Decides.{nat_tests}
 use Rattle.std.proofs.lemmas.Result.{IfOk-weaker, on_err_weaker}
 use Rattle.iol_back.specs.Disk.{last_failure}
+use Rattle.iol_core.specs.declared.refusals.Refusal.{Refusal}
 use Rattle.iol_extent.specs.declared.spans.Span.{Span}
 use Rattle.iol_hold.specs.Room.{pages_of}
 use Rattle.iol_hold.specs.Texts.{bufs_of}
@@ -10,10 +12,11 @@ use Rattle.iol_cache.specs.Cache.{holding}
 use Rattle.iol_cache.specs.Gaps.{gap_pages}
 use Rattle.iol_cache.specs.Going.{Goes}
 use Rattle.iol_cache.specs.Pinned.{pinned_beside}
-use Rattle.iol_cache.specs.Ranges.{FillsAfter, UndoesAfter}
+use Rattle.iol_cache.specs.Ranges.{CompletesRange, FillsAfter, UndoesAfter}
 use Rattle.iol_cache.specs.Serving.{LeavesRange, ReadsRange, TellsRoom}
 use Rattle.iol_cache.specs.Weaving.{len_beside}
 use Rattle.iol_cache.proofs.Hits.{covers_hit, few_hit, goes_hit, len_hit, lies_read, readable_hit, room_hit}
+use Rattle.iol_cache.proofs.Rooming.{at_most}
 use Rattle.iol_cache.proofs.Served.{always_err, asks_ok, goes_reserved, ok_both, some_lacked, tells_fault, told_late}
 use Rattle.iol_cache.proofs.Steps.{goes_trans}
 use Rattle.iol_cache.proofs.cache.Cache.read_range.Goals as goal
@@ -22,6 +25,58 @@ pub returns-in_err-pins-clause-gone : goal.returns-in_err-pins-clause-gone
 returns-in_err-pins-clause-gone g c =
     let e = c.in_err-pins.ensures in
     always_err c.from_residual.result (goes_reserved (g.B.Backing.disk c.args.backing.now) (holding c.args.store.now c.args.self.now) (holding c.pin.new.store c.pin.new.self) c.requires.sound e.same e.none e.lists e.settles e.frees.count)
+
+-- Without gaps.
+
+none_of : (gs items : List Span) (b : Bool) → b ≡ (length gs == 0) → b ≡ true → gs ≡ items → items ≡ []
+none_of gs [] b is empty same = refl
+none_of gs (x ∷ xs) b is empty same =
+    let long : length gs ≡ 0 = grind (arith, nat_tests, is, empty) in
+    absurd (omega (arith, long, ap length same))
+
+pub returns-then-is_empty-clause-reads : goal.returns-then-is_empty-clause-reads
+returns-then-is_empty-clause-reads g c =
+    let d = g.B.Backing.disk c.args.backing.now in
+    let old = holding c.args.store.now c.args.self.now in
+    let hit = holding c.pin.new.store c.pin.new.self in
+    let pins = c.in_ok-pins.pins in
+    let items = c.in_ok-pins.gaps.items in
+    let none = none_of c.as_slice.result.now items c.is_empty.result c.is_empty.ensures c.if-is_empty.true c.as_slice.ensures.value in
+    let whole : CompletesRange c.args.file c.args.from c.args.to pins items d hit hit pins = inl (record { none = none; all = refl; same = refl }) in
+    record {
+      pins = pins;
+      gaps = items;
+      hit = hit;
+      pinned = c.in_ok-pins.ensures.pinned;
+      completed = whole;
+      lies = lies_read c.args.file c.args.from c.args.to old hit pins items c.requires.sound c.requires.file c.in_ok-pins.ensures.pinned d hit pins whole;
+      answers = λ some. absurd (omega (arith, some, ap length none));
+    }
+
+pub returns-then-is_empty-clause-readable : goal.returns-then-is_empty-clause-readable
+returns-then-is_empty-clause-readable g c =
+    let old = holding c.args.store.now c.args.self.now in
+    let hit = holding c.pin.new.store c.pin.new.self in
+    readable_hit c.args.file c.args.from c.args.to old hit c.in_ok-pins.pins c.in_ok-pins.gaps.items c.requires.sound c.requires.file c.in_ok-pins.ensures.pinned
+
+pub returns-then-is_empty-clause-goes : goal.returns-then-is_empty-clause-goes
+returns-then-is_empty-clause-goes g c =
+    let old = holding c.args.store.now c.args.self.now in
+    let hit = holding c.pin.new.store c.pin.new.self in
+    goes_hit c.args.file c.args.from c.args.to old hit c.in_ok-pins.pins c.in_ok-pins.gaps.items c.requires.sound c.requires.file c.in_ok-pins.ensures.pinned (g.B.Backing.disk c.args.backing.now)
+
+pub returns-then-is_empty-clause-room : goal.returns-then-is_empty-clause-room
+returns-then-is_empty-clause-room g c =
+    let old = holding c.args.store.now c.args.self.now in
+    let hit = holding c.pin.new.store c.pin.new.self in
+    let items = c.in_ok-pins.gaps.items in
+    let p = (file_in hit.cache.files c.args.file).pool in
+    let none = none_of c.as_slice.result.now items c.is_empty.result c.is_empty.ensures c.if-is_empty.true c.as_slice.ensures.value in
+    let r : Result (List Slice) Refusal = Ok c.in_ok-pins.pins in
+    room_hit c.args.file c.args.from c.args.to old hit c.in_ok-pins.pins items c.requires.sound c.requires.file c.in_ok-pins.ensures.pinned r
+    (omega (arith, ap gap_pages none, at_most hit.store (clean_held hit.cache.files) (pages_of hit.store p)))
+
+-- With gaps.
 
 pub fill_pinned-requires-clause-pins_len : goal.fill_pinned-requires-clause-pins_len
 fill_pinned-requires-clause-pins_len g c =
@@ -68,8 +123,8 @@ returns-clause-reads g c =
       gaps = items;
       hit = hit;
       pinned = c.in_ok-pins.ensures.pinned;
-      filled = here;
-      lies = lies_read c.args.file c.args.from c.args.to old hit pins items c.requires.sound c.requires.file c.in_ok-pins.ensures.pinned d new xs here;
+      completed = inr here;
+      lies = lies_read c.args.file c.args.from c.args.to old hit pins items c.requires.sound c.requires.file c.in_ok-pins.ensures.pinned d new xs (inr here);
       answers = λ some. h.1 (omega (arith, some, ap length c.deref.ensures.value));
     }) both
 
