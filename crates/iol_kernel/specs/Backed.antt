@@ -33,8 +33,10 @@ pub record StepsBeside {A : Type 0} (m : State → Meaning A) (old : KernelState
 
 -- A call that may ask the store under the files. With an honest store it is the machine's step, of the files' bytes, too, if
 -- positions are in files, as they are from the start on.
-pub record Serves {A : Type 0} (m : State → Meaning A) (disk : Disk) (old : KernelState) (r : Result A Refusal) (after : Disk) (new : KernelState) : Type 0 where
-  pub step : IsBackedBy disk old → ArePlaced (machine_of disk.slots old) → Step (m (machine_of disk.slots old)) (machine_of disk.slots old) r (machine_of after.slots new)
+pub record Serves {A : Type 0} (m : State → Meaning A) (disk : Disk) (old : KernelState) (r : Result A Refusal)
+    (after : Disk) (new : KernelState) : Type 0 where
+  pub step : IsBackedBy disk old → ArePlaced (machine_of disk.slots old)
+      → Step (m (machine_of disk.slots old)) (machine_of disk.slots old) r (machine_of after.slots new)
   pub backed : IsBackedBy disk old → IsBackedBy after new
   pub beside : StepsBeside m old r new
   pub honest : after.honest ≡ disk.honest
@@ -44,7 +46,8 @@ pub record Serves {A : Type 0} (m : State → Meaning A) (disk : Disk) (old : Ke
 
 -- A call that asks the store under the files for a length at most. Pages and what is cached are as they were, all bytes lie
 -- where they lay, and a refused call changes nothing.
-pub record LooksUp {A : Type 0} (m : State → Meaning A) (disk : Disk) (old : KernelState) (r : Result A Refusal) (new : KernelState) : Type 0 where
+pub record LooksUp {A : Type 0} (m : State → Meaning A) (disk : Disk) (old : KernelState) (r : Result A Refusal)
+    (new : KernelState) : Type 0 where
   pub serves : Serves m disk old r disk new
   pub places : OnOk r ((f : Reading) → KeepsPools f → read_of f new ≡ (m (read_of f old)).after)
   pub store : new.store ≡ old.store

@@ -38,11 +38,13 @@ AddsBytes d pool bytes old new = (stored : List (List ℕ)) → machine_of store
 
 -- these are the bytes that `show` answers, whatever is stored
 abbrev pub Shows : (d a : ℕ) → List ℕ → KernelState → Type 0
-Shows d a bytes h = (stored : List (List ℕ)) → (first (show (machine_of stored h) d a).refusals ≡ None) × (bytes ≡ (show (machine_of stored h) d a).answer)
+Shows d a bytes h = (stored : List (List ℕ))
+    → (first (show (machine_of stored h) d a).refusals ≡ None) × (bytes ≡ (show (machine_of stored h) d a).answer)
 
 -- so many bytes `show` answers, whatever is stored
 abbrev pub ShowsSoMany : (d a n : ℕ) → KernelState → Type 0
-ShowsSoMany d a n h = (stored : List (List ℕ)) → (first (show (machine_of stored h) d a).refusals ≡ None) × (n ≡ length (show (machine_of stored h) d a).answer)
+ShowsSoMany d a n h = (stored : List (List ℕ))
+    → (first (show (machine_of stored h) d a).refusals ≡ None) × (n ≡ length (show (machine_of stored h) d a).answer)
 
 -- The machine's step whatever is read: of bytes it is the step that the call means; of places it says that the bytes
 -- of its result lie where its meaning says, so that none was copied, and that nothing else moved.
@@ -79,7 +81,8 @@ pub record AddsEmpty (old new : Cached) : Type 0 where
 
 -- The machine's step on files, where the store under them is honest, and the bytes of files aside over any store. Nothing changes but
 -- the list of files and what memory has of them: pages, pools and remembered sums are as they were, and all bytes lie where they lay.
-pub record Names {A : Type 0} (disk : Disk) (m : State → Meaning A) (old : KernelState) (r : Result A Refusal) (new : KernelState) : Type 0 where
+pub record Names {A : Type 0} (disk : Disk) (m : State → Meaning A) (old : KernelState) (r : Result A Refusal)
+    (new : KernelState) : Type 0 where
   pub step : IfHonest disk (Step (m (machine_of disk.slots old)) (machine_of disk.slots old) r (machine_of disk.slots new))
   pub backed : IsBackedBy disk old → IsBackedBy disk new
   pub beside : StepsBeside m old r new
@@ -96,13 +99,15 @@ pub record Names {A : Type 0} (disk : Disk) (m : State → Meaning A) (old : Ker
 -- with some bytes in the next slot, this tells whether they are more than a file may have
 pub record TellsNext (h : KernelState) (long : Bool) : Type 0 where
   pub stored : List (List ℕ)
-  pub is : (f : Reading) → f.stored ≡ stored → long ≡ nat_lt MAX_FILE_BYTES (length (machine.content (read_of f h) (length (read_of f h).files + 1)))
+  pub is : (f : Reading) → f.stored ≡ stored
+      → long ≡ nat_lt MAX_FILE_BYTES (length (machine.content (read_of f h) (length (read_of f h).files + 1)))
 
 -- A file was added: the answer and the state after it. Nothing of it is in memory.
 pub record AddsFile {A : Type 0} (m : State → Meaning A) (old : KernelState) (a : A) (new : KernelState) : Type 0 where
   pub answer : (f : Reading) → KeepsPools f → a ≡ (m (read_of f old)).answer
   pub after : (f : Reading) → KeepsPools f → read_of f new ≡ (m (read_of f old)).after
-  pub backed : (disk : Disk) → length (content disk.slots (length old.files + 1)) ≤ MAX_FILE_BYTES → IsBackedBy disk old → IsBackedBy disk new
+  pub backed : (disk : Disk) → length (content disk.slots (length old.files + 1)) ≤ MAX_FILE_BYTES → IsBackedBy disk old
+      → IsBackedBy disk new
   pub store : new.store ≡ old.store
   pub sums : new.sums ≡ old.sums
   pub keeps : KeepsCover old.cache new.cache

@@ -33,7 +33,9 @@ conn_uses b e = uses b e.1.incoming + uses b e.1.outgoing
 
 -- those in all aggregates and queues, and in extents of files
 abbrev pub all_uses : List (Domain (List Slice)) → Objects (List Slice) → BufId → ℕ
-all_uses domains objects b = sum_by (domain_uses b) domains + sum_by (pipe_uses b) objects.pipes + sum_by (conn_uses b) objects.conns + tally b (held objects.cached)
+all_uses domains objects b =
+    sum_by (domain_uses b) domains + sum_by (pipe_uses b) objects.pipes + sum_by (conn_uses b) objects.conns
+    + tally b (held objects.cached)
 
 -- the count of each buffer is the number of its slices, wherever they lie
 pub record IsCounted (s : Stored) (domains : List (Domain (List Slice))) (objects : Objects (List Slice)) : Type 0 where

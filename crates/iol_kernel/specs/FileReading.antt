@@ -82,7 +82,8 @@ LeavesAtRefusal x disk old after new y =
 -- may have given way where more pages were wanted than were free. The lowest free pages of the file's pool are filled, and no
 -- others. It is refused for want of room only where the pages that are pinned and wanted do not fit the pool, and done only where
 -- they do. A fault is answered just where the store failed once more. A refusal before that changed nothing.
-pub record ReadsFileAs {A : Type 0} (x : FileRead) (disk : Disk) (old : KernelState) (r : Result A Refusal) (after : Disk) (new : KernelState) : Type 0 where
+pub record ReadsFileAs {A : Type 0} (x : FileRead) (disk : Disk) (old : KernelState) (r : Result A Refusal)
+    (after : Disk) (new : KernelState) : Type 0 where
   pub keeps : KeepsUnless (pool_read old x) (LacksPagesToRead x.file x.at x.count disk (holding_of old)) old.cache new.cache
   pub pages : FillsLowest (pool_read old x) old.store new.store
   pub lists : SameLists old.store new.store
@@ -102,7 +103,8 @@ pub record GivesCopy (x : FileRead) (disk : Disk) (old : KernelState) (mid : Sto
   pub domains : new.domains ≡ moved_on old.domains x (byte_len slices)
 
 -- A read of a file by copying: what a read by reference does, whose slices were then released. A refusal before that changed nothing.
-pub record CopiesFileAs (x : FileRead) (disk : Disk) (old : KernelState) (r : Result (List ℕ) Refusal) (after : Disk) (new : KernelState) : Type 0 where
+pub record CopiesFileAs (x : FileRead) (disk : Disk) (old : KernelState) (r : Result (List ℕ) Refusal)
+    (after : Disk) (new : KernelState) : Type 0 where
   pub mid : Stored
   pub reads : ReadsFileAs x disk old r after (record new { store = mid })
   pub gives : IfOk r (GivesCopy x disk old mid new)

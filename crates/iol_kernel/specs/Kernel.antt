@@ -18,7 +18,16 @@ use Rattle.iol_kernel.specs.Readings.{Reading}
 use Rattle.iol_kernel.specs.declared.kernel.Kernel.{Kernel}
 
 abbrev pub state_of : Kernel → KernelState
-state_of k = record { store = k.store; domains = domains_of k.domains; pipes = k.pipes.places; conns = k.conns.conns; next_conn = k.conns.next; sums = k.sums; files = k.files.table.files; cache = cached_of k.files.cache }
+state_of k = record {
+  store = k.store;
+  domains = domains_of k.domains;
+  pipes = k.pipes.places;
+  conns = k.conns.conns;
+  next_conn = k.conns.next;
+  sums = k.sums;
+  files = k.files.table.files;
+  cache = cached_of k.files.cache;
+}
 
 -- the copying machine's state, with the bytes that lie there, over an empty store
 abbrev pub machine : Kernel → State

@@ -9,5 +9,6 @@ abbrev pub with_queue : List (Option (Pipe (List Slice))) → (p : ℕ) → List
 with_queue pipes p xs = slice_set pipes p (Some (record (queue_at pipes p) { queue = xs }))
 
 -- with the queue that p has in others
-abbrev pub with_queue_of : List (Option (Pipe (List Slice))) → (p : ℕ) → (others : List (Option (Pipe (List Slice)))) → List (Option (Pipe (List Slice)))
+abbrev pub with_queue_of : List (Option (Pipe (List Slice))) → (p : ℕ) → (others : List (Option (Pipe (List Slice))))
+    → List (Option (Pipe (List Slice)))
 with_queue_of pipes p others = with_queue pipes p (queue_at others p).queue

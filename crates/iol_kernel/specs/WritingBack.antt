@@ -13,10 +13,12 @@ use Rattle.iol_kernel.specs.KernelState.{KernelState}
 -- The first dirty extents of the file in slot f were written back and are clean: all of them, or those before the one at which
 -- the store failed. Each entered the order as a new one. A fault is answered just where one failure more was counted. Nothing else
 -- changed; a refusal before the store was asked changed nothing at all.
-pub record SyncsFile {A : Type 0} (f : ℕ) (disk : Disk) (old : KernelState) (r : Result A Refusal) (after : Disk) (new : KernelState) : Type 0 where
+pub record SyncsFile {A : Type 0} (f : ℕ) (disk : Disk) (old : KernelState) (r : Result A Refusal) (after : Disk)
+    (new : KernelState) : Type 0 where
   pub syncs : cache.Syncs old.store f old.cache new.cache disk after
   pub clean : OnOk r (dirty_in (extents_in new.cache.files f) ≡ None)
-  pub writes : cache.WritesDirty old.store f old.cache new.cache disk after r ⊎ (((g : ℕ) → r ≡ Err (Fault g) → ⊥) × (new ≡ old) × (after ≡ disk))
+  pub writes : cache.WritesDirty old.store f old.cache new.cache disk after r
+      ⊎ (((g : ℕ) → r ≡ Err (Fault g) → ⊥) × (new ≡ old) × (after ≡ disk))
   pub counts : FaultCounts disk after r
   pub same : new ≡ record old { cache = new.cache }
 

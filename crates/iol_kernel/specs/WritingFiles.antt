@@ -45,7 +45,8 @@ pages_to_write h f source = pinned_beside h.store (clean_held h.cache.files) (po
 abbrev pub LeavesUnwritten : (f : ℕ) (source : List Slice) (old new : KernelState) → Refusal → Type 0
 LeavesUnwritten f source old new x =
     (new ≡ old)
-    ⊎ (WantOfRoom (pool_of_file old f) x × OnlyMakesRoom (pool_of_file old f) (copied_pages (pool_of_file old f) source) (holding_of old) (holding_of new)
+    ⊎ (WantOfRoom (pool_of_file old f) x
+    × OnlyMakesRoom (pool_of_file old f) (copied_pages (pool_of_file old f) source) (holding_of old) (holding_of new)
     × ((p : ℕ) → x ≡ NoRoom p → LeavesAll (holding_of old) (holding_of new)))
 
 -- Of the tables one descriptor changed, which is open on the file: its position is that after so many bytes from `at` on.
@@ -57,14 +58,17 @@ pub record OnlyMoves (f at len : ℕ) (old new : List (Domain (List Slice))) : T
 
 -- The bytes of the source lie dirty over those of the file from `at` on: those of the file's pool where they lay, copies of
 -- the others on the lowest pages that were free once there was room. Every other byte that was in memory lies where it lay, but that
--- clean ones of the file's pool may have given way where the copies want more pages than were free. It was refused for want of room just where the pages
--- wanted are more than the pool has. No bytes change nothing of pages and files. Nothing else changed but the caller's descriptor.
-pub record WritesOver {A : Type 0} (f at : ℕ) (source : List Slice) (old : KernelState) (r : Result A Refusal) (new : KernelState) : Type 0 where
+-- clean ones of the file's pool may have given way where the copies want more pages than were free. It was refused for want of
+-- room just where the pages wanted are more than the pool has. No bytes change nothing of pages and files. Nothing else changed but
+-- the caller's descriptor.
+pub record WritesOver {A : Type 0} (f at : ℕ) (source : List Slice) (old : KernelState) (r : Result A Refusal)
+    (new : KernelState) : Type 0 where
   pub lies : OnOk r (LiesDirty f at source new.cache)
   pub over : 0 < byte_len source → OnOk r (WritesFile f at source (holding_of old) (holding_of new))
   pub nothing : byte_len source ≡ 0 → OnOk r (holding_of new ≡ holding_of old)
   pub moves : OnOk r (OnlyMoves f at (byte_len source) old.domains new.domains)
-  pub beside : let p = pool_of_file old f in KeepsBeside f at (byte_len source) p (LacksPages old p (copied_pages p source)) old.cache new.cache
+  pub beside : let p = pool_of_file old f in
+      KeepsBeside f at (byte_len source) p (LacksPages old p (copied_pages p source)) old.cache new.cache
   pub room : OnOk r (pages_to_write old f source ≤ length (pages_of old.store (pool_of_file old f)))
   pub no_room : (p : ℕ) → r ≡ Err (NoRoom p) → length (pages_of old.store (pool_of_file old f)) < pages_to_write old f source
   pub pages : FillsLowest (pool_of_file old f) old.store new.store
@@ -132,7 +136,8 @@ LeavesUnlaid pool bytes old new x =
     ⊎ ((x ≡ Memory) × AfterRoom pool (length bytes) old (λ roomy. (new ≡ roomy) ⊎ GivesUpNew pool bytes roomy new))
 
 -- Room was made for new bytes, and they came over those of a file; or they did not, and nothing else became of the file.
-pub record LaysInFile {A : Type 0} (f at pool : ℕ) (bytes : List ℕ) (old : KernelState) (r : Result A Refusal) (new : KernelState) : Type 0 where
+pub record LaysInFile {A : Type 0} (f at pool : ℕ) (bytes : List ℕ) (old : KernelState) (r : Result A Refusal)
+    (new : KernelState) : Type 0 where
   pub lays : OnOk r (AfterRoom pool (length bytes) old (λ roomy. LaysOver f at pool bytes roomy new))
   pub leaves : IfErr r (LeavesUnlaid pool bytes old new)
 

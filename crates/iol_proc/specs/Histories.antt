@@ -68,7 +68,8 @@ BringAbout (choice.Turn by ∷ xs) (r ∷ rs) es qs =
 BringAbout xs rs es qs = ⊥
 
 -- The choices are events, by processes and outside, in a run of the machine, and each connection has the same history.
-pub record RunsAs {M : Type 0} (Runs : M → List Event → List Reply → M → Type 0) (old : M) (xs : List Choice) (rs : List Reply) (new : M) : Type 0 where
+pub record RunsAs {M : Type 0} (Runs : M → List Event → List Reply → M → Type 0) (old : M) (xs : List Choice)
+    (rs : List Reply) (new : M) : Type 0 where
   pub events : List Event
   pub replies : List Reply
   pub runs : Runs old events replies new

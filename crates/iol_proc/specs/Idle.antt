@@ -44,7 +44,8 @@ module _ {M P : Type 0} (machine : Machine M) (turns : Account P) where
   -- Turns in rounds, from the i-th on: the process at each place in turn, and then the first again.
   abbrev pub RoundRun : Stage M P → (i : ℕ) → List Went → Stage M P → Type 0
   RoundRun w i [] after = after ≡ w
-  RoundRun w i (t ∷ ts) after = (mid : Stage M P) × PlaceTurn machine turns w (i % length w.seats) t.0 t.1 mid × RoundRun mid (suc i) ts after
+  RoundRun w i (t ∷ ts) after = (mid : Stage M P) × PlaceTurn machine turns w (i % length w.seats) t.0 t.1 mid
+      × RoundRun mid (suc i) ts after
 
   -- Turns in rounds of rising domains, as many as are allowed, or until the first moment at which every process has yielded
   -- twice since the last turn that was answered by anything but WouldBlock.

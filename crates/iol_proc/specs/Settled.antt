@@ -39,10 +39,14 @@ module _ {P : Type 0} (S : Claim P) where
   -- yield moves it on.
   pub record Settles (turns : Account P) : Type 0 where
     pub first : (by : ℕ) (p : P) (l : Reply) (m : State) → S 0 by p l m
-    pub blocks : (n by : ℕ) (p q : P) (l : Reply) (m : State) (c : Call) → S n by p l m → turns p l (lent_to m by) (turn.Make c) q → StepsTo m (event.Call by c) (reply.Refused WouldBlock) m → S n by q (reply.Refused WouldBlock) m
-    pub yields : (n by : ℕ) (p q : P) (l : Reply) (m : State) → S n by p l m → turns p l (lent_to m by) turn.Yield q → S (more_of_two n) by q reply.Done m
+    pub blocks : (n by : ℕ) (p q : P) (l : Reply) (m : State) (c : Call) → S n by p l m
+        → turns p l (lent_to m by) (turn.Make c) q → StepsTo m (event.Call by c) (reply.Refused WouldBlock) m
+        → S n by q (reply.Refused WouldBlock) m
+    pub yields : (n by : ℕ) (p q : P) (l : Reply) (m : State) → S n by p l m → turns p l (lent_to m by) turn.Yield q
+        → S (more_of_two n) by q reply.Done m
 
   -- What then holds where all is idle, as `World::until_idle` says it: each process is one that has yielded twice.
   pub record IdleIsSettled (turns : Account P) : Type 0 where
     pub all : (w after : Stage State P) (most : ℕ) → Idles copying turns w most true after → AllSettled after.seats after.machine
-    pub each : (w after : Stage State P) (most place : ℕ) (s : Seat P) → Idles copying turns w most true after → slice_get after.seats place ≡ Some s → S 2 s.by s.process s.last after.machine
+    pub each : (w after : Stage State P) (most place : ℕ) (s : Seat P) → Idles copying turns w most true after
+        → slice_get after.seats place ≡ Some s → S 2 s.by s.process s.last after.machine
