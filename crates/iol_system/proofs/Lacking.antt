@@ -1,5 +1,5 @@
--- An event that is refused for want of room evicts nothing.
-use Rattle.std.proofs.Common.{inl, inr, ◌≡◌, ◌∙◌, ℕ, false, List, Option, Some, None, refl, sym, ap, subst}
+-- An event that is refused for want of room evicts nothing, and leaves what is held held as often.
+use Rattle.std.proofs.Common.{inl, inr, ◌≡◌, ◌∙◌, ℕ, ◌+◌, false, List, [], Option, Some, None, sum_by, refl, sym, ap, arith, subst}
 use Rattle.iol_core.specs.declared.descriptors.Descriptor.{Descriptor}
 use Rattle.iol_core.specs.declared.descriptors.Descriptor.TheVariants as on
 use Rattle.iol_core.specs.declared.events.Call.{Call}
@@ -13,18 +13,28 @@ use Rattle.iol_back.specs.Disk.{Disk}
 use Rattle.iol_evict.specs.Ranking.{Ranking, entry_at}
 use Rattle.iol_evict.specs.declared.entry.Entry.{Entry}
 use Rattle.iol_extent.specs.declared.spans.Span.{Span}
+use Rattle.iol_core.specs.declared.numbers.BufId.{BufId}
+use Rattle.iol_hold.specs.Moves.{Counts, Moves, tally}
+use Rattle.iol_hold.specs.Releases.{FreesOnly}
+use Rattle.iol_hold.specs.Stored.{Stored, count_of}
+use Rattle.iol_hold.specs.Texts.{bufs_of}
 use Rattle.iol_hold.specs.declared.slices.Slice.{Slice}
-use Rattle.iol_cache.specs.Cached.{Cached, extents_in, file_in, order_in}
+use Rattle.iol_hold.proofs.Counting.{tally_none}
+use Rattle.iol_hold.proofs.Releasing.{frees_none, frees_trans}
+use Rattle.iol_cache.proofs.Paging.{frees_shares}
+use Rattle.iol_kernel.specs.Counted.{all_uses, conn_uses, domain_uses, pipe_uses}
+use Rattle.iol_system.specs.Promises.{Promises}
+use Rattle.iol_cache.specs.Cached.{Cached, extents_in, file_in, held, order_in}
 use Rattle.iol_cache.specs.Evicting.{Holding}
 use Rattle.iol_cache.specs.Going.{CountsHits}
 use Rattle.iol_cache.specs.Reading.{SameButRoom, hits_counted}
 use Rattle.iol_cache.specs.Serving.{LeavesRange}
 use Rattle.iol_kernel.specs.FileReading.{FileRead, LeavesAtRefusal, file_read}
-use Rattle.iol_kernel.specs.KernelState.{KernelState}
+use Rattle.iol_kernel.specs.KernelState.{KernelState, IsSound, objects_of}
 use Rattle.iol_kernel.specs.MakingRoom.{MayHaveEvicted}
 use Rattle.iol_kernel.specs.WritingFiles.{LeavesUnlaid, LeavesUnwritten}
 use Rattle.iol_system.specs.Asking.{uses_cache}
-use Rattle.iol_system.specs.Late.{CallLeaves, CopyLeaves, LeavesLate, PutLeaves, ReadLeaves, WriteLeaves}
+use Rattle.iol_system.specs.Late.{CallLeaves, CopyLeaves, LeavesLate, PutLeaves, ReadLeaves, SameTables, WriteLeaves}
 use Rattle.iol_system.specs.Laws.{EvictsNothing, NoRoomEvictsNothing}
 use Rattle.iol_system.specs.Machine.{SystemState, tables_of}
 use Rattle.iol_system.proofs.Hits.{AreHit, hit_then, hits_leave, others_stay}
@@ -39,8 +49,20 @@ same_cache a b is = record {
   order = λ p f at. inl (ap (λ (c : Cached). entry_at (order_in c.orders p).entries f at) is);
 }
 
-same_kernel : (h k : KernelState) → k ≡ h → EvictsNothing h.cache k.cache
-same_kernel h k is = same_cache h.cache k.cache (ap (λ (x : KernelState). x.cache) is)
+-- Of pages: what was freed nothing holds any more, and what is held is held as often.
+pub record HeldAlike (s t : Stored) : Type 0 where
+  pub counts : (b : BufId) → count_of t b ≡ count_of s b
+  pub frees : FreesOnly s t
+
+same_pages : (s t : Stored) → t ≡ s → HeldAlike s t
+same_pages s t is = subst (HeldAlike s) (sym is) (record { counts = λ b. refl; frees = frees_none s s refl refl refl })
+
+-- Of both, where the kernel is sound before and after.
+abbrev pub LeavesBoth : (h k : KernelState) → Type 0
+LeavesBoth h k = EvictsNothing h.cache k.cache × (IsSound h → IsSound k → HeldAlike h.store k.store)
+
+same_kernel : (h k : KernelState) → k ≡ h → LeavesBoth h k
+same_kernel h k is = (same_cache h.cache k.cache (ap (λ (x : KernelState). x.cache) is), λ was now. same_pages h.store k.store (ap (λ (x : KernelState). x.store) is))
 
 only_reserved : (a b : Cached) → SameButRoom a b → EvictsNothing a b
 only_reserved a b x = record { extents = x.extents; low = x.low; order = λ p f at. inl (ap (λ (es : List Entry). entry_at es f at) (x.entries p)) }
@@ -66,26 +88,57 @@ only_counted f hits a b x = record {
 
 -- Refusals for want of room, by what they left.
 
-range_left : (f from to p : ℕ) (old new : Holding) → LeavesRange f from to old new (NoRoom p) → EvictsNothing old.cache new.cache
+-- what a read of a range leaves, whose extents hold what they held
+abbrev RangeLeft : (old new : Holding) → Type 0
+RangeLeft old new = EvictsNothing old.cache new.cache × HeldAlike old.store new.store × (held new.cache.files ≡ held old.cache.files)
+
+range_left : (f from to p : ℕ) (old new : Holding) → LeavesRange f from to old new (NoRoom p) → RangeLeft old new
 range_left f from to p old new (inl (is, x)) = absurd (let e : ◌≡◌ {A = Refusal} (NoRoom p) Memory = is in cc)
 range_left f from to p old new (inr x) =
     let a = x.pinned in
-    let last : new.cache ≡ x.hit.cache = x.undone.cache ∙ ap (λ (h : Holding). h.cache) (x.undone.kept p refl) in
-    and_then old.cache a.reserved new.cache (only_reserved old.cache a.reserved a.rooms) (and_then a.reserved x.hit.cache new.cache (only_counted f a.hits a.reserved x.hit.cache a.counted) (same_cache x.hit.cache new.cache last))
+    let same = x.undone.kept p refl in
+    let last : new.cache ≡ x.hit.cache = x.undone.cache ∙ ap (λ (h : Holding). h.cache) same in
+    let released : Moves x.hit.store new.store (bufs_of x.pins) [] = subst (λ (h : Holding). Moves h.store new.store (bufs_of x.pins) []) same x.undone.released in
+    let frees : FreesOnly x.hit.store new.store = subst (λ (h : Holding). FreesOnly h.store new.store) same x.undone.frees in (
+      and_then old.cache a.reserved new.cache (only_reserved old.cache a.reserved a.rooms) (and_then a.reserved x.hit.cache new.cache (only_counted f a.hits a.reserved x.hit.cache a.counted) (same_cache x.hit.cache new.cache last)),
+      record {
+        counts = λ b. omega (arith, a.shares.counts.each b, released.counts.each b, tally_none b);
+        frees = frees_trans (frees_shares a.shares) frees released.counts;
+      },
+      ap (λ (c : Cached). held c.files) last ∙ ap held a.counted.files ∙ a.rooms.held,
+    )
 
-read_left : (x : FileRead) (disk after : Disk) (p : ℕ) (h k : KernelState) → LeavesAtRefusal x disk h after k (NoRoom p) → EvictsNothing h.cache k.cache
+read_left : (x : FileRead) (disk after : Disk) (p : ℕ) (h k : KernelState) → LeavesAtRefusal x disk h after k (NoRoom p) → RangeLeft (record { store = h.store; cache = h.cache }) (record { store = k.store; cache = k.cache })
 read_left x disk after p h k (inl early) = absurd early.0
 read_left x disk after p h k (inr late) = range_left x.file late.1.range.from late.1.range.to p (record { store = h.store; cache = h.cache }) (record { store = k.store; cache = k.cache }) late.1.leaves
 
-room_left : (pool n p : ℕ) (h k : KernelState) → MayHaveEvicted pool n h k (NoRoom p) → EvictsNothing h.cache k.cache
+-- buffers are held as often, where tables and extents hold what they held
+held_alike : (h k : KernelState) → SameTables h k → held k.cache.files ≡ held h.cache.files → IsSound h → IsSound k → (b : BufId) → count_of k.store b ≡ count_of h.store b
+held_alike h k same extents was now b =
+    now.counted.each b
+    ∙ ap (λ (x : KernelState). all_uses x.domains (objects_of x) b) same
+    ∙ ap (λ (bs : List BufId). sum_by (domain_uses b) h.domains + sum_by (pipe_uses b) h.pipes + sum_by (conn_uses b) h.conns + tally b bs) extents
+    ∙ sym (was.counted.each b)
+
+-- a read by copying, which has freed pages since, or none
+copy_left : (h k : KernelState) (mid : Stored) → RangeLeft (record { store = h.store; cache = h.cache }) (record { store = mid; cache = k.cache }) → FreesOnly mid k.store → SameTables h k → LeavesBoth h k
+copy_left h k mid left frees same = (
+  left.0,
+  λ was now.
+      let counts = held_alike h k same left.2 was now in
+      let here : Counts mid k.store [] [] = record { each = λ b. omega (arith, counts b, left.1.counts b) } in
+      record { counts = counts; frees = frees_trans left.1.frees frees here },
+)
+
+room_left : (pool n p : ℕ) (h k : KernelState) → MayHaveEvicted pool n h k (NoRoom p) → LeavesBoth h k
 room_left pool n p h k (inl same) = same_kernel h k same
 room_left pool n p h k (inr late) = absurd (let e : ◌≡◌ {A = Refusal} (NoRoom p) Memory = late.0 in cc)
 
-write_left : (f p : ℕ) (xs : List Slice) (h k : KernelState) → LeavesUnwritten f xs h k (NoRoom p) → EvictsNothing h.cache k.cache
+write_left : (f p : ℕ) (xs : List Slice) (h k : KernelState) → LeavesUnwritten f xs h k (NoRoom p) → LeavesBoth h k
 write_left f p xs h k (inl same) = same_kernel h k same
-write_left f p xs h k (inr late) = only_reserved h.cache k.cache (late.2 p refl).same
+write_left f p xs h k (inr late) = (only_reserved h.cache k.cache (late.2 p refl).same, λ was now. same_pages h.store k.store (late.2 p refl).store)
 
-put_left : (pool p : ℕ) (bytes : List ℕ) (h k : KernelState) → LeavesUnlaid pool bytes h k (NoRoom p) → EvictsNothing h.cache k.cache
+put_left : (pool p : ℕ) (bytes : List ℕ) (h k : KernelState) → LeavesUnlaid pool bytes h k (NoRoom p) → LeavesBoth h k
 put_left pool p bytes h k (inl same) = same_kernel h k same
 put_left pool p bytes h k (inr late) = absurd (let e : ◌≡◌ {A = Refusal} (NoRoom p) Memory = late.0 in cc)
 
@@ -93,21 +146,21 @@ put_left pool p bytes h k (inr late) = absurd (let e : ◌≡◌ {A = Refusal} (
 
 module _ (old new : SystemState) (p : ℕ) where
   abbrev Kept : Type 0
-  Kept = EvictsNothing old.kernel.cache new.kernel.cache
+  Kept = LeavesBoth old.kernel new.kernel
 
   read_on : (by fd n : ℕ) (o : Option Descriptor) → ReadLeaves by fd n old o (reply.Refused (NoRoom p)) new → LacksRoomToRead old o n → Kept
   read_on by fd n None late lacks = absurd lacks
   read_on by fd n (Some (on.ReadEnd q)) late lacks = absurd lacks
   read_on by fd n (Some (on.WriteEnd q)) late lacks = absurd lacks
   read_on by fd n (Some (on.Connection q)) late lacks = absurd lacks
-  read_on by fd n (Some (on.File f at mode)) late lacks = read_left (file_read by fd f at mode n) old.disk new.disk p old.kernel new.kernel late.1
+  read_on by fd n (Some (on.File f at mode)) late lacks = (let left = read_left (file_read by fd f at mode n) old.disk new.disk p old.kernel new.kernel late.1 in (left.0, λ was now. left.1))
 
   copy_on : (by fd n : ℕ) (o : Option Descriptor) → CopyLeaves by fd n old o (reply.Refused (NoRoom p)) new → LacksRoomToRead old o n → Kept
   copy_on by fd n None late lacks = absurd lacks
   copy_on by fd n (Some (on.ReadEnd q)) late lacks = absurd lacks
   copy_on by fd n (Some (on.WriteEnd q)) late lacks = absurd lacks
   copy_on by fd n (Some (on.Connection q)) late lacks = absurd lacks
-  copy_on by fd n (Some (on.File f at mode)) late lacks = read_left (file_read by fd f at mode n) old.disk new.disk p old.kernel (record new.kernel { store = late.mid }) late.leaves
+  copy_on by fd n (Some (on.File f at mode)) late lacks = copy_left old.kernel new.kernel late.mid (read_left (file_read by fd f at mode n) old.disk new.disk p old.kernel (record new.kernel { store = late.mid }) late.leaves) late.frees late.same
 
   write_on : (xs : List Slice) (o : Option Descriptor) → WriteLeaves old.kernel o xs (reply.Refused (NoRoom p)) new.kernel → LacksRoomToWrite old.kernel o xs → Kept
   write_on xs None late lacks = absurd lacks
@@ -137,5 +190,8 @@ module _ (old new : SystemState) (p : ℕ) where
   event_left (event.Arrive c bytes) late lacks unused = room_left _ _ p old.kernel new.kernel late
   event_left e late lacks unused = absurd lacks
 
+pub no_room_left : (old new : SystemState) (e : Event) (p : ℕ) → Promises old e (reply.Refused (NoRoom p)) new → LeavesBoth old.kernel new.kernel
+no_room_left old new e p x = event_left old new p e x.late (x.no_room tt) (λ unused. x.refused unused tt)
+
 pub no_room_evicts : NoRoomEvictsNothing
-no_room_evicts old new e p x = event_left old new p e x.late (x.no_room tt) (λ unused. x.refused unused tt)
+no_room_evicts old new e p x = (no_room_left old new e p x).0

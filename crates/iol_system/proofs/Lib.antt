@@ -3,6 +3,7 @@ pub mod Safe
 pub mod Beside
 pub mod Orderly
 pub mod Used
+pub mod Unmoved
 pub mod Freed
 pub mod Hits
 pub mod Lacking

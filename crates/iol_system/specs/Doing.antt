@@ -23,7 +23,8 @@ use Rattle.iol_system.specs.WrittenBack.{WritesBack}
 -- With a store that has the same bytes as memory where nothing was written, and positions within files, it is the machine's
 -- step; and then the store has them again. The other clauses hold over any store.
 pub record Does (disk : Disk) (old : KernelState) (e : Event) (r : Reply) (after : Disk) (new : KernelState) : Type 0 where
-  pub step : IsBackedBy disk old → ArePlaced (machine_of disk.slots old) → StepsTo (machine_of disk.slots old) e r (machine_of after.slots new)
+  pub step : IsBackedBy disk old → ArePlaced (machine_of disk.slots old)
+      → StepsTo (machine_of disk.slots old) e r (machine_of after.slots new)
   pub backed : IsBackedBy disk old → IsBackedBy after new
   pub beside : StepsBeside (λ s. meaning s e) old (outcome r) new
   pub honest : after.honest ≡ disk.honest

@@ -36,7 +36,8 @@ IsInRange o n f i = ⊥
 
 -- the event writes byte i of file f
 abbrev pub IsWritten : KernelState → Event → (f i : ℕ) → Type 0
-IsWritten old (event.Call by (call.IolWrite fd a)) f i = IsInRange (descriptor (tables_of old) by fd) (byte_len (slices_in old.domains by a)) f i
+IsWritten old (event.Call by (call.IolWrite fd a)) f i =
+    IsInRange (descriptor (tables_of old) by fd) (byte_len (slices_in old.domains by a)) f i
 IsWritten old (event.Call by (call.Write fd bytes)) f i = IsInRange (descriptor (tables_of old) by fd) (length bytes) f i
 IsWritten old e f i = ⊥
 
@@ -58,10 +59,14 @@ WriteWantsMore h o xs p = ⊥
 abbrev pub MayLetGo : SystemState → Event → (p : ℕ) → Type 0
 MayLetGo s (event.Call by (call.AggMake bytes)) p = WantsMore s.kernel (default_pool (tables_of s.kernel) by) (length bytes) p
 MayLetGo s (event.Call by (call.IolRead fd n)) p = ReadWantsMore s (held_by (tables_of s.kernel) by fd) n p
-MayLetGo s (event.Call by (call.IolWrite fd a)) p = WriteWantsMore s.kernel (descriptor (tables_of s.kernel) by fd) (slices_in s.kernel.domains by a) p
+MayLetGo s (event.Call by (call.IolWrite fd a)) p =
+    WriteWantsMore s.kernel (descriptor (tables_of s.kernel) by fd) (slices_in s.kernel.domains by a) p
 MayLetGo s (event.Call by (call.Read fd n)) p = ReadWantsMore s (held_by (tables_of s.kernel) by fd) n p
-MayLetGo s (event.Call by (call.Write fd bytes)) p = WantsMore s.kernel (pool_for (tables_of s.kernel) by (descriptor (tables_of s.kernel) by fd)) (write (tables_of s.kernel) by fd bytes).answer p
-MayLetGo s (event.Arrive c bytes) p = WantsMore s.kernel (conn_at (tables_of s.kernel) c).pool (arrive (tables_of s.kernel) c bytes).answer p
+MayLetGo s (event.Call by (call.Write fd bytes)) p =
+    WantsMore s.kernel (pool_for (tables_of s.kernel) by (descriptor (tables_of s.kernel) by fd))
+    (write (tables_of s.kernel) by fd bytes).answer p
+MayLetGo s (event.Arrive c bytes) p =
+    WantsMore s.kernel (conn_at (tables_of s.kernel) c).pool (arrive (tables_of s.kernel) c bytes).answer p
 MayLetGo s event.DropClean p = Unit {0}
 MayLetGo s e p = ⊥
 
@@ -78,7 +83,8 @@ LiesStill e c o = o ≡ Some c
 -- Each byte of a file that is in memory lies where it lay. Or the event writes it; or it was clean, and the event may let it go.
 pub record KeepsInPlace (old : SystemState) (e : Event) (new : KernelState) : Type 0 where
   pub each : (f i : ℕ) (c : Cell) → cover (extents_in old.kernel.cache.files f) i ≡ Some c
-      → LiesStill e c (cover (extents_in new.cache.files f) i) ⊎ (IsWritten old.kernel e f i ⊎ ((c.dirty ≡ false) × MayLetGo old e (file_in old.kernel.cache.files f).pool))
+      → LiesStill e c (cover (extents_in new.cache.files f) i)
+      ⊎ (IsWritten old.kernel e f i ⊎ ((c.dirty ≡ false) × MayLetGo old e (file_in old.kernel.cache.files f).pool))
 
 -- Pages, what memory has of files and the domains' tables changed, and nothing else: pipes, connections, the sums that are
 -- remembered and the list of files are as they were.
@@ -131,7 +137,10 @@ SharesPut pool bytes o old new = ⊤
 
 abbrev pub SharesFile : SystemState → Event → Reply → KernelState → Type 0
 SharesFile old (event.Call by (call.IolRead fd n)) r new = SharesRead by fd n old (held_by (tables_of old.kernel) by fd) new
-SharesFile old (event.Call by (call.IolWrite fd a)) r new = SharesWrite (descriptor (tables_of old.kernel) by fd) (slices_in old.kernel.domains by a) old.kernel new
+SharesFile old (event.Call by (call.IolWrite fd a)) r new =
+    SharesWrite (descriptor (tables_of old.kernel) by fd) (slices_in old.kernel.domains by a) old.kernel new
 SharesFile old (event.Call by (call.Read fd n)) r new = SharesCopy by fd n old (held_by (tables_of old.kernel) by fd) r new
-SharesFile old (event.Call by (call.Write fd bytes)) r new = SharesPut (pool_for (tables_of old.kernel) by (descriptor (tables_of old.kernel) by fd)) bytes (descriptor (tables_of old.kernel) by fd) old.kernel new
+SharesFile old (event.Call by (call.Write fd bytes)) r new =
+    SharesPut (pool_for (tables_of old.kernel) by (descriptor (tables_of old.kernel) by fd)) bytes
+    (descriptor (tables_of old.kernel) by fd) old.kernel new
 SharesFile old e r new = ⊤

@@ -37,7 +37,8 @@ SameTables old new = new ≡ record old { store = new.store; cache = new.cache }
 -- others.
 abbrev pub ReadLeaves : (by fd n : ℕ) → (old : SystemState) → Option Descriptor → Reply → (new : SystemState) → Type 0
 ReadLeaves by fd n old (Some (on.File f at mode)) r new =
-    IfRefused r (λ x. SameTables old.kernel new.kernel × LeavesAtRefusal (file_read by fd f at mode n) old.disk old.kernel new.disk new.kernel x)
+    IfRefused r (λ x. SameTables old.kernel new.kernel
+    × LeavesAtRefusal (file_read by fd f at mode n) old.disk old.kernel new.disk new.kernel x)
 ReadLeaves by fd n old o r new = ⊤
 
 -- A refused read of a file by copying left what one by reference does, over some pages of which some were freed since.
@@ -64,16 +65,23 @@ PutLeaves pool n bytes old (Some (on.File f at mode)) r new = IfRefused r (Leave
 PutLeaves pool n bytes old o r new = IfRefused r (MayHaveEvicted pool n old new)
 
 abbrev pub CallLeaves : (old : SystemState) → (by : ℕ) → Call → Reply → (new : SystemState) → Type 0
-CallLeaves old by (call.AggMake bytes) r new = IfRefused r (MayHaveEvicted (default_pool (tables_of old.kernel) by) (length bytes) old.kernel new.kernel)
+CallLeaves old by (call.AggMake bytes) r new =
+    IfRefused r (MayHaveEvicted (default_pool (tables_of old.kernel) by) (length bytes) old.kernel new.kernel)
 CallLeaves old by (call.IolRead fd n) r new = ReadLeaves by fd n old (held_by (tables_of old.kernel) by fd) r new
-CallLeaves old by (call.IolWrite fd a) r new = WriteLeaves old.kernel (descriptor (tables_of old.kernel) by fd) (slices_in old.kernel.domains by a) r new.kernel
+CallLeaves old by (call.IolWrite fd a) r new =
+    WriteLeaves old.kernel (descriptor (tables_of old.kernel) by fd) (slices_in old.kernel.domains by a) r new.kernel
 CallLeaves old by (call.Read fd n) r new = CopyLeaves by fd n old (held_by (tables_of old.kernel) by fd) r new
-CallLeaves old by (call.Write fd bytes) r new = PutLeaves (pool_for (tables_of old.kernel) by (descriptor (tables_of old.kernel) by fd)) (write (tables_of old.kernel) by fd bytes).answer bytes old.kernel (descriptor (tables_of old.kernel) by fd) r new.kernel
+CallLeaves old by (call.Write fd bytes) r new =
+    PutLeaves (pool_for (tables_of old.kernel) by (descriptor (tables_of old.kernel) by fd))
+    (write (tables_of old.kernel) by fd bytes).answer bytes old.kernel (descriptor (tables_of old.kernel) by fd) r new.kernel
 CallLeaves old by c r new = ⊤
 
 -- A refused event that places bytes, or reads or writes a file, changed nothing; or it came late, and has just made room or counted
--- hits. For want of room it has at most counted hits. Those that write back are told of by `StoresBack`, and others change nothing where they are refused.
+-- hits. For want of room it has at most counted hits. Those that write back are told of by `StoresBack`, and others change nothing
+-- where they are refused.
 abbrev pub LeavesLate : (old : SystemState) → Event → Reply → (new : SystemState) → Type 0
 LeavesLate old (event.Call by c) r new = CallLeaves old by c r new
-LeavesLate old (event.Arrive c bytes) r new = IfRefused r (MayHaveEvicted (conn_at (tables_of old.kernel) c).pool (arrive (tables_of old.kernel) c bytes).answer old.kernel new.kernel)
+LeavesLate old (event.Arrive c bytes) r new =
+    IfRefused r
+    (MayHaveEvicted (conn_at (tables_of old.kernel) c).pool (arrive (tables_of old.kernel) c bytes).answer old.kernel new.kernel)
 LeavesLate old e r new = ⊤

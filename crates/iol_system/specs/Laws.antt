@@ -2,16 +2,18 @@
 use Rattle.std.specs.Prelude.{◌≡◌, ◌⊎◌, ◌+◌, ◌<◌, ℕ, true, false, List, [], ◌∷◌, ◌++◌, Option, option_map}
 use Rattle.iol_core.specs.Run.{Run}
 use Rattle.iol_core.specs.Sharing.{is_sharing}
+use Rattle.iol_core.specs.declared.numbers.BufId.{BufId}
 use Rattle.iol_core.specs.declared.events.Event.{Event}
 use Rattle.iol_core.specs.declared.events.Reply.{Reply}
 use Rattle.iol_core.specs.declared.events.Reply.TheVariants.{Refused}
 use Rattle.iol_core.specs.declared.refusals.Refusal.TheVariants.{NoRoom}
 use Rattle.iol_arena.specs.Chunks.{is_taken}
 use Rattle.iol_arena.specs.State.{chunk_count}
+use Rattle.iol_arena.specs.State as arena
 use Rattle.iol_pool.specs.Pools.{pool_in}
 use Rattle.iol_hold.specs.Moves.{Stays}
 use Rattle.iol_hold.specs.Releases.{HasAllOrNone}
-use Rattle.iol_hold.specs.Stored.{Stored}
+use Rattle.iol_hold.specs.Stored.{Stored, count_of}
 use Rattle.iol_back.specs.Disk.{IfHonest}
 use Rattle.iol_evict.specs.Ranking.{entry_at, worth}
 use Rattle.iol_evict.specs.declared.entry.Entry.{Entry}
@@ -27,7 +29,8 @@ use Rattle.iol_system.specs.Values.{ValuesStayOver}
 
 -- over an honest store the replies of a run, and the state after it, are those of the copying machine
 abbrev pub RunsAsTheMachine : Type 0
-RunsAsTheMachine = (old new : SystemState) (es : List Event) (rs : List Reply) → Chain old es rs new → IfHonest old.disk (Run (machine_of old) es rs (machine_of new))
+RunsAsTheMachine = (old new : SystemState) (es : List Event) (rs : List Reply) → Chain old es rs new
+    → IfHonest old.disk (Run (machine_of old) es rs (machine_of new))
 
 -- What the system held between the first events of a run and the others. Each part is a run of its own.
 pub record Between (old : SystemState) (past future : List Event) (rs : List Reply) (new : SystemState) : Type 0 where
@@ -40,10 +43,12 @@ pub record Between (old : SystemState) (past future : List Event) (rs : List Rep
 
 -- a run of some events and then others is a run of the first, and from there one of the others
 abbrev pub RunsInParts : Type 0
-RunsInParts = (old new : SystemState) (past future : List Event) (rs : List Reply) → Chain old (past ++ future) rs new → Between old past future rs new
+RunsInParts = (old new : SystemState) (past future : List Event) (rs : List Reply) → Chain old (past ++ future) rs new
+    → Between old past future rs new
 
 -- an event of a run, and its reply: a step that keeps all promises, between a run of the events before and one of those after it
-pub record Moment (old : SystemState) (past : List Event) (e : Event) (future : List Event) (rs : List Reply) (new : SystemState) : Type 0 where
+pub record Moment (old : SystemState) (past : List Event) (e : Event) (future : List Event) (rs : List Reply)
+    (new : SystemState) : Type 0 where
   pub before : SystemState
   pub after : SystemState
   pub past_replies : List Reply
@@ -56,7 +61,8 @@ pub record Moment (old : SystemState) (past : List Event) (e : Event) (future : 
 
 -- Each event of a run keeps all promises of a step: so NoRoom is answered exactly where there is no room, and so on.
 abbrev pub EachEventIsAStep : Type 0
-EachEventIsAStep = (old new : SystemState) (past : List Event) (e : Event) (future : List Event) (rs : List Reply) → Chain old (past ++ e ∷ future) rs new → Moment old past e future rs new
+EachEventIsAStep = (old new : SystemState) (past : List Event) (e : Event) (future : List Event) (rs : List Reply)
+    → Chain old (past ++ e ∷ future) rs new → Moment old past e future rs new
 
 -- an entry that is hit: it has the height that it would enter with, above L
 abbrev pub hit_above : (low : ℕ) → Entry → Entry
@@ -71,15 +77,30 @@ IsSameOrHit low old new = (new ≡ old) ⊎ (new ≡ option_map (hit_above low) 
 pub record EvictsNothing (old new : Cached) : Type 0 where
   pub extents : (f : ℕ) → extents_in new.files f ≡ extents_in old.files f
   pub low : (p : ℕ) → (order_in new.orders p).low ≡ (order_in old.orders p).low
-  pub order : (p f at : ℕ) → IsSameOrHit (order_in old.orders p).low (entry_at (order_in old.orders p).entries f at) (entry_at (order_in new.orders p).entries f at)
+  pub order : (p f at : ℕ) → IsSameOrHit (order_in old.orders p).low (entry_at (order_in old.orders p).entries f at)
+      (entry_at (order_in new.orders p).entries f at)
 
 -- an event that is refused for want of room evicts nothing
 abbrev pub NoRoomEvictsNothing : Type 0
-NoRoomEvictsNothing = (old new : SystemState) (e : Event) (p : ℕ) → Promises old e (Refused (NoRoom p)) new → EvictsNothing old.kernel.cache new.kernel.cache
+NoRoomEvictsNothing = (old new : SystemState) (e : Event) (p : ℕ) → Promises old e (Refused (NoRoom p)) new
+    → EvictsNothing old.kernel.cache new.kernel.cache
+
+-- Each pool has the list and the chunks that it had, each page is as it was, free or in use and as often filled, and each buffer is held
+-- as often.
+pub record KeepsPools (old new : Stored) : Type 0 where
+  pub pools : (p : ℕ) → pool_in new.pools p ≡ pool_in old.pools p
+  pub pages : (q : ℕ) → arena.entry_at new.arena q ≡ arena.entry_at old.arena q
+  pub counts : (b : BufId) → count_of new b ≡ count_of old b
+
+-- an event that is refused for want of room changes nothing of the pools of a safe system
+abbrev pub NoRoomKeepsPools : Type 0
+NoRoomKeepsPools = (old new : SystemState) (e : Event) (p : ℕ) → IsSafe old → Promises old e (Refused (NoRoom p)) new
+    → KeepsPools old.kernel.store new.kernel.store
 
 -- A pool that is open before and after has its chunks still. One that is closed after has all that it had, or none any more.
 pub record KeepsChunks (old new : Stored) : Type 0 where
-  pub opens : (p : ℕ) → (pool_in old.pools p).closed ≡ false → (pool_in new.pools p).closed ≡ false → (pool_in new.pools p).chunks ≡ (pool_in old.pools p).chunks
+  pub opens : (p : ℕ) → (pool_in old.pools p).closed ≡ false → (pool_in new.pools p).closed ≡ false
+      → (pool_in new.pools p).chunks ≡ (pool_in old.pools p).chunks
   pub closes : (p : ℕ) → (pool_in new.pools p).closed ≡ true → HasAllOrNone old new p
 
 -- so does each event, whatever it is answered
@@ -92,7 +113,8 @@ RunsStaySafe = (old new : SystemState) (es : List Event) (rs : List Reply) → C
 
 -- a run from a machine that is orderly ends in one, over any store; a new one is orderly (`iol_laws`, `each_step_keeps_order`)
 abbrev pub RunsStayOrderly : Type 0
-RunsStayOrderly = (old new : SystemState) (es : List Event) (rs : List Reply) → Chain old es rs new → IsOrderly (machine_of old) → IsOrderly (machine_of new)
+RunsStayOrderly = (old new : SystemState) (es : List Event) (rs : List Reply) → Chain old es rs new → IsOrderly (machine_of old)
+    → IsOrderly (machine_of new)
 
 -- a store is after a run as honest as before
 abbrev pub RunsKeepHonesty : Type 0
@@ -100,11 +122,13 @@ RunsKeepHonesty = (old new : SystemState) (es : List Event) (rs : List Reply) �
 
 -- what is live before and after a run has the same bytes and pool, and no identity is given twice
 abbrev pub RunsKeepBuffers : Type 0
-RunsKeepBuffers = (old new : SystemState) (es : List Event) (rs : List Reply) → Chain old es rs new → Stays old.kernel.store new.kernel.store
+RunsKeepBuffers = (old new : SystemState) (es : List Event) (rs : List Reply) → Chain old es rs new
+    → Stays old.kernel.store new.kernel.store
 
 -- an aggregate that no event of a run gives up keeps its value
 abbrev pub RunsKeepValues : Type 0
-RunsKeepValues = (old new : SystemState) (es : List Event) (rs : List Reply) → Chain old es rs new → ValuesStayOver (machine_of old) es (machine_of new)
+RunsKeepValues = (old new : SystemState) (es : List Event) (rs : List Reply) → Chain old es rs new
+    → ValuesStayOver (machine_of old) es (machine_of new)
 
 -- after a run of calls that share, each byte lies where the calls' own meaning puts its place, and each page and pool is as it was
 pub record SharesOver (old : SystemState) (es : List Event) (rs : List Reply) (new : SystemState) : Type 0 where
@@ -119,7 +143,8 @@ AllShare old (e ∷ es) (r ∷ rs) new chain = (is_sharing (tables_of old.kernel
 AllShare old (e ∷ es) [] new chain = Unit {0}
 
 abbrev pub RunsShare : Type 0
-RunsShare = (old new : SystemState) (es : List Event) (rs : List Reply) → (chain : Chain old es rs new) → AllShare old es rs new chain → SharesOver old es rs new
+RunsShare = (old new : SystemState) (es : List Event) (rs : List Reply) → (chain : Chain old es rs new)
+    → AllShare old es rs new chain → SharesOver old es rs new
 
 -- Between any two events each page is unused, or is part of just one live buffer.
 abbrev pub EachPageHasOneUse : Type 0
@@ -127,7 +152,8 @@ EachPageHasOneUse = (s : SystemState) → IsSafe s → (q : ℕ) → HasOneUse s
 
 -- Between any two events each chunk that is taken is of just one pool.
 abbrev pub EachChunkHasOnePool : Type 0
-EachChunkHasOnePool = (s : SystemState) → IsSafe s → (c : ℕ) → c < chunk_count s.kernel.store.arena → is_taken s.kernel.store.arena c ≡ true → HasOnePool s.kernel.store c
+EachChunkHasOnePool = (s : SystemState) → IsSafe s → (c : ℕ) → c < chunk_count s.kernel.store.arena
+    → is_taken s.kernel.store.arena c ≡ true → HasOnePool s.kernel.store c
 
 -- Where no domain and no connection is live and no extent is left, every page that is not retired is free.
 abbrev pub AllPagesComeFree : Type 0

@@ -53,13 +53,16 @@ CallPublishes old by (call.AggMake bytes) new = Makes (λ s t. with_agg s by t) 
 CallPublishes old by (call.IolRead fd n) new = FillsForFile old (held_by (tables_of old) by fd) new
 CallPublishes old by (call.IolWrite fd a) new = FillsForFile old (descriptor (tables_of old) by fd) new
 CallPublishes old by (call.Read fd n) new = FillsForFile old (held_by (tables_of old) by fd) new
-CallPublishes old by (call.Write fd bytes) new = Puts by fd (pool_for (tables_of old) by (descriptor (tables_of old) by fd)) (write (tables_of old) by fd bytes).answer (descriptor (tables_of old) by fd) old new
+CallPublishes old by (call.Write fd bytes) new =
+    Puts by fd (pool_for (tables_of old) by (descriptor (tables_of old) by fd)) (write (tables_of old) by fd bytes).answer
+    (descriptor (tables_of old) by fd) old new
 CallPublishes old by c new = KeepsPages old.store new.store []
 
 -- so do bytes that arrive in the connection's pool, as many as are taken
 abbrev pub Publishes : KernelState → Event → KernelState → Type 0
 Publishes old (event.Call by c) new = CallPublishes old by c new
-Publishes old (event.Arrive c bytes) new = Makes (with_incoming c) (conn_at (tables_of old) c).pool (arrive (tables_of old) c bytes).answer old new
+Publishes old (event.Arrive c bytes) new =
+    Makes (with_incoming c) (conn_at (tables_of old) c).pool (arrive (tables_of old) c bytes).answer old new
 Publishes old e new = KeepsPages old.store new.store []
 
 -- no page was published or freed, and no pool changed
@@ -75,7 +78,8 @@ pub record CreatesFile (old new : KernelState) : Type 0 where
 -- A call that made a pool: it has as many chunks as were asked for, the lowest free ones, and the others have theirs. One that
 -- admitted a domain to a pool: that list names it, and nothing else changed at all. Or one that made a file.
 abbrev pub CallCreates : KernelState → Call → Reply → KernelState → Type 0
-CallCreates old (call.PoolCreate chunks list) (reply.Pool p) new = AddsPool old.store.arena new.store.arena old.store.pools new.store.pools chunks (distinct list)
+CallCreates old (call.PoolCreate chunks list) (reply.Pool p) new =
+    AddsPool old.store.arena new.store.arena old.store.pools new.store.pools chunks (distinct list)
 CallCreates old (call.PoolAdmit p d) reply.Done new = new ≡ with_reader old p d
 CallCreates old (call.FileNew name p) (reply.File f) new = CreatesFile old new
 CallCreates old c r new = ⊤

@@ -36,9 +36,10 @@ use Rattle.iol_system.specs.WrittenBack.{IsDropped, IsFlushed, IsKept, IsSynced,
 -- a position moves; that changes no page, nor does writing back; bytes of files in memory lie where they lay, but those that are written
 -- and clean ones that give way, and calls on files share them, and what is read or written by copying is in memory then, too;
 -- calls that make buffers do so on the lowest free pages, each of which is raised by one, and no others do, and no more gives way
--- for new bytes than was wanted; an open pool keeps its chunks, a closed one all of them or none, and a new one has the lowest free; admitting a domain changes the
--- pool's list alone; sending remembers the sums of what is sent; after `fsync` an honest store has the file, and nothing of it is dirty, `flush` leaves one dirty extent fewer, and
--- `drop_clean` no clean one; new is safe again; live buffers keep their bytes, and aggregates their values.
+-- for new bytes than was wanted; an open pool keeps its chunks, a closed one all of them or none, and a new one has the lowest
+-- free; admitting a domain changes the pool's list alone; sending remembers the sums of what is sent; after `fsync` an honest
+-- store has the file, and nothing of it is dirty, `flush` leaves one dirty extent fewer, and `drop_clean` no clean one; new is
+-- safe again; live buffers keep their bytes, and aggregates their values.
 pub record Promises (old : SystemState) (e : Event) (r : Reply) (new : SystemState) : Type 0 where
   pub step : IfHonest old.disk (StepsTo (machine_of old) e r (machine_of new))
   pub beside : StepsBeside (λ s. meaning s e) old.kernel (outcome r) new.kernel

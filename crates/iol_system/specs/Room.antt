@@ -50,7 +50,9 @@ CallHasRoom s by (call.PoolCreate chunks list) = chunks ≤ length (free_chunks 
 CallHasRoom s by (call.IolRead fd n) = HasRoomToRead s (held_by (tables_of s.kernel) by fd) n
 CallHasRoom s by (call.IolWrite fd a) = HasRoomToWrite s.kernel (descriptor (tables_of s.kernel) by fd) (slices_in s.kernel.domains by a)
 CallHasRoom s by (call.Read fd n) = HasRoomToRead s (held_by (tables_of s.kernel) by fd) n
-CallHasRoom s by (call.Write fd bytes) = can_fit s.kernel (pool_for (tables_of s.kernel) by (descriptor (tables_of s.kernel) by fd)) (write (tables_of s.kernel) by fd bytes).answer ≡ true
+CallHasRoom s by (call.Write fd bytes) =
+    can_fit s.kernel (pool_for (tables_of s.kernel) by (descriptor (tables_of s.kernel) by fd))
+    (write (tables_of s.kernel) by fd bytes).answer ≡ true
 CallHasRoom s by c = ⊤
 
 -- They do not, or are not.
@@ -58,20 +60,25 @@ abbrev pub CallLacksRoom : SystemState → (by : ℕ) → Call → Type 0
 CallLacksRoom s by (call.AggMake bytes) = can_fit s.kernel (default_pool (tables_of s.kernel) by) (length bytes) ≡ false
 CallLacksRoom s by (call.PoolCreate chunks list) = length (free_chunks s.kernel.store.arena) < chunks
 CallLacksRoom s by (call.IolRead fd n) = LacksRoomToRead s (held_by (tables_of s.kernel) by fd) n
-CallLacksRoom s by (call.IolWrite fd a) = LacksRoomToWrite s.kernel (descriptor (tables_of s.kernel) by fd) (slices_in s.kernel.domains by a)
+CallLacksRoom s by (call.IolWrite fd a) =
+    LacksRoomToWrite s.kernel (descriptor (tables_of s.kernel) by fd) (slices_in s.kernel.domains by a)
 CallLacksRoom s by (call.Read fd n) = LacksRoomToRead s (held_by (tables_of s.kernel) by fd) n
-CallLacksRoom s by (call.Write fd bytes) = can_fit s.kernel (pool_for (tables_of s.kernel) by (descriptor (tables_of s.kernel) by fd)) (write (tables_of s.kernel) by fd bytes).answer ≡ false
+CallLacksRoom s by (call.Write fd bytes) =
+    can_fit s.kernel (pool_for (tables_of s.kernel) by (descriptor (tables_of s.kernel) by fd))
+    (write (tables_of s.kernel) by fd bytes).answer ≡ false
 CallLacksRoom s by c = ⊥
 
 -- bytes that arrive lie in the connection's pool, as many as are taken
 abbrev pub HasRoomFor : SystemState → Event → Type 0
 HasRoomFor s (event.Call by c) = CallHasRoom s by c
-HasRoomFor s (event.Arrive c bytes) = can_fit s.kernel (conn_at (tables_of s.kernel) c).pool (arrive (tables_of s.kernel) c bytes).answer ≡ true
+HasRoomFor s (event.Arrive c bytes) =
+    can_fit s.kernel (conn_at (tables_of s.kernel) c).pool (arrive (tables_of s.kernel) c bytes).answer ≡ true
 HasRoomFor s e = ⊤
 
 abbrev pub LacksRoomFor : SystemState → Event → Type 0
 LacksRoomFor s (event.Call by c) = CallLacksRoom s by c
-LacksRoomFor s (event.Arrive c bytes) = can_fit s.kernel (conn_at (tables_of s.kernel) c).pool (arrive (tables_of s.kernel) c bytes).answer ≡ false
+LacksRoomFor s (event.Arrive c bytes) =
+    can_fit s.kernel (conn_at (tables_of s.kernel) c).pool (arrive (tables_of s.kernel) c bytes).answer ≡ false
 LacksRoomFor s e = ⊥
 
 abbrev pub IsDone : Reply → Type 0

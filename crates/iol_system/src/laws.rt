@@ -1,7 +1,7 @@
 //! Laws of runs: what follows from a run's clause `chain`, whatever the events; and of what lies in a system between any
 //! two of them. The functions do nothing; their contracts are the laws.
 ghost use Rattle.iol_system.specs.Laws.{RunsAsTheMachine, RunsInParts, EachEventIsAStep};
-ghost use Rattle.iol_system.specs.Laws.{AllPagesComeFree, EachPageHasOneUse, EachChunkHasOnePool, EachStepKeepsChunks, NoRoomEvictsNothing};
+ghost use Rattle.iol_system.specs.Laws.{AllPagesComeFree, EachPageHasOneUse, EachChunkHasOnePool, EachStepKeepsChunks, NoRoomEvictsNothing, NoRoomKeepsPools};
 ghost use Rattle.iol_system.specs.Laws.{RunsStaySafe, RunsStayOrderly, RunsKeepBuffers, RunsKeepValues, RunsShare};
 
 /// The replies of a run, and the state after it, are those of the machine that copies at every call.
@@ -23,6 +23,12 @@ pub fn each_event_is_a_step()
 /// each pool stays, and its order of eviction, but that a read of a file has counted its hits by then.
 pub fn no_room_evicts_nothing()
     ensures { NoRoomEvictsNothing }
+{}
+
+/// An event that is refused for want of room leaves each pool its list and its chunks, closed ones too, each page as it was, and
+/// each buffer held as often.
+pub fn no_room_keeps_pools()
+    ensures { NoRoomKeepsPools }
 {}
 
 /// Each event leaves an open pool its chunks, and a closed one all of them or none, whatever it is answered.

@@ -193,8 +193,8 @@ impl<B: Backing> System<B> {
 
         // What publishes does so on the lowest free pages of its pool, each of which is raised by one; where new bytes are placed
         // room is made first, and nothing else changes then, so no more gives way. An open pool keeps its chunks, a closed one all of
-        // them or none, and a new one has the lowest free chunks, as many as asked for. Where a domain is admitted to a pool, that list names it, and nothing
-        // else changes. Of a new file nothing is in memory, and nothing else changes.
+        // them or none, and a new one has the lowest free chunks, as many as asked for. Where a domain is admitted to a pool, that
+        // list names it, and nothing else changes. Of a new file nothing is in memory, and nothing else changes.
         ensures publishes { IsDone result →
             Publishes self.old.kernel event self.new.kernel }
         ensures creates { Creates self.old.kernel event result self.new.kernel }

@@ -1,0 +1,5 @@
+use Rattle.iol_system.proofs.Unmoved.{no_room_pools}
+use Rattle.iol_system.proofs.laws.no_room_keeps_pools.Goals as goal
+
+pub returns : goal.returns
+returns c = no_room_pools
