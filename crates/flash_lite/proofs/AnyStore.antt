@@ -8,7 +8,7 @@ use Rattle.iol_core.specs.State.{State, new_state}
 use Rattle.iol_core.specs.declared.events.Event.{Event}
 use Rattle.iol_core.specs.declared.events.Reply.{Reply}
 use Rattle.iol_kernel.specs.Backed.{with_slots}
-use Rattle.iol_kernel.proofs.Beside.{with_slots-own}
+use Rattle.iol_kernel.proofs.State.Beside.{with_slots-own}
 use Rattle.iol_system.specs.Machine.{SystemState, machine_of}
 use Rattle.iol_system.specs.Promises.{Chain}
 use Rattle.flash_lite.specs.Setup.{IsMade, calls, first_refusal, is_in_range}

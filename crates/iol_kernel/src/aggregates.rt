@@ -69,7 +69,7 @@ impl Kernel {
     }
 
     /// The pool that the domain places in.
-    #[tactic(auto, using(crate::proofs::Views::domain_rules), unfolding(crate::specs::KernelState::read_of))]
+    #[tactic(auto, using(crate::proofs::State::Views::domain_rules), unfolding(crate::specs::KernelState::read_of))]
     pub(crate) fn default_of(&self, d: DomainId) -> Option<PoolId>
         requires { is_live (machine self.now) d ≡ true }
         ensures { (f : Reading) → result ≡ (domain (as_read f self.now) d).default }
@@ -97,7 +97,7 @@ impl Kernel {
     }
 
     /// Places bytes in a pool that has room, as the domain's next aggregate.
-    #[tactic(auto, using(crate::proofs::Stay::stay_rules, crate::proofs::Slices::held_rules))]
+    #[tactic(auto, using(crate::proofs::State::Stay::stay_rules, crate::proofs::AggregateCalls::Slices::held_rules))]
     fn fill_agg(&mut self, by: DomainId, pool: PoolId, bytes: &[u8]) -> Result<AggId, Refusal>
         requires sound { IsSound (state_of self.old) }
         requires live { is_live (machine self.old) by ≡ true }
@@ -127,7 +127,7 @@ impl Kernel {
     }
 
     /// Makes an aggregate of the same bytes once more.
-    #[tactic(auto, using(crate::proofs::Stay::stay_rules))]
+    #[tactic(auto, using(crate::proofs::State::Stay::stay_rules))]
     pub fn agg_dup(&mut self, by: DomainId, agg: AggId) -> Result<AggId, Refusal>
         requires { IsSound (state_of self.old) }
         ensures { CarriesOut (λ s. calls.agg_dup s by agg) self.old result self.new }
@@ -140,7 +140,7 @@ impl Kernel {
     }
 
     /// Adds the same bytes once more.
-    #[tactic(auto, using(crate::proofs::Stay::stay_rules, crate::proofs::Slices::held_rules))]
+    #[tactic(auto, using(crate::proofs::State::Stay::stay_rules, crate::proofs::AggregateCalls::Slices::held_rules))]
     fn add_dup(&mut self, by: DomainId, agg: AggId, len: u32) -> Result<AggId, AllocError>
         requires sound { IsSound (state_of self.old) }
         requires live { is_live (machine self.old) by ≡ true }
@@ -163,7 +163,7 @@ impl Kernel {
     }
 
     /// Makes an aggregate of the bytes `from..to` of another, which stays.
-    #[tactic(auto, using(crate::proofs::Stay::stay_rules))]
+    #[tactic(auto, using(crate::proofs::State::Stay::stay_rules))]
     pub fn agg_cut(
         &mut self,
         by: DomainId,
@@ -185,7 +185,7 @@ impl Kernel {
     }
 
     /// Adds the bytes of a range once more.
-    #[tactic(auto, using(crate::proofs::Stay::stay_rules, crate::proofs::Slices::held_rules))]
+    #[tactic(auto, using(crate::proofs::State::Stay::stay_rules, crate::proofs::AggregateCalls::Slices::held_rules))]
     fn add_cut(&mut self, by: DomainId, agg: AggId, from: u32, to: u32) -> Result<AggId, AllocError>
         requires sound { IsSound (state_of self.old) }
         requires live { is_live (machine self.old) by ≡ true }
@@ -209,7 +209,7 @@ impl Kernel {
     }
 
     /// Splits an aggregate into the bytes before a place and those from it on.
-    #[tactic(auto, using(crate::proofs::Stay::stay_rules))]
+    #[tactic(auto, using(crate::proofs::State::Stay::stay_rules))]
     pub fn agg_split(
         &mut self,
         by: DomainId,
@@ -230,7 +230,7 @@ impl Kernel {
     }
 
     /// Splits an aggregate into the domain's next two.
-    #[tactic(auto, using(crate::proofs::Stay::stay_rules, crate::proofs::Slices::held_rules))]
+    #[tactic(auto, using(crate::proofs::State::Stay::stay_rules, crate::proofs::AggregateCalls::Slices::held_rules))]
     fn split(&mut self, by: DomainId, agg: AggId, at: u32) -> Result<(AggId, AggId), AllocError>
         requires sound { IsSound (state_of self.old) }
         requires live { is_live (machine self.old) by ≡ true }
@@ -245,7 +245,7 @@ impl Kernel {
     }
 
     /// Joins two aggregates, the first and then the second.
-    #[tactic(auto, using(crate::proofs::Stay::stay_rules))]
+    #[tactic(auto, using(crate::proofs::State::Stay::stay_rules))]
     pub fn agg_join(&mut self, by: DomainId, first: AggId, second: AggId) -> Result<AggId, Refusal>
         requires { IsSound (state_of self.old) }
         ensures { CarriesOut (λ s. calls.agg_join s by first second) self.old result self.new }
@@ -265,7 +265,7 @@ impl Kernel {
     }
 
     /// Joins two aggregates to the domain's next one.
-    #[tactic(auto, using(crate::proofs::Stay::stay_rules, crate::proofs::Slices::held_rules))]
+    #[tactic(auto, using(crate::proofs::State::Stay::stay_rules, crate::proofs::AggregateCalls::Slices::held_rules))]
     fn join(&mut self, by: DomainId, first: AggId, second: AggId) -> Result<AggId, AllocError>
         requires sound { IsSound (state_of self.old) }
         requires live { is_live (machine self.old) by ≡ true }
@@ -284,7 +284,7 @@ impl Kernel {
 
     /// Makes an aggregate of the bytes of one, with those of another in place of `from..to`. Both
     /// stay.
-    #[tactic(auto, using(crate::proofs::Stay::stay_rules))]
+    #[tactic(auto, using(crate::proofs::State::Stay::stay_rules))]
     pub fn agg_replace(
         &mut self,
         by: DomainId,
@@ -312,7 +312,7 @@ impl Kernel {
     }
 
     /// Adds the bytes with those of another in place of a range.
-    #[tactic(auto, using(crate::proofs::Stay::stay_rules, crate::proofs::Slices::held_rules))]
+    #[tactic(auto, using(crate::proofs::State::Stay::stay_rules, crate::proofs::AggregateCalls::Slices::held_rules))]
     fn replace(
         &mut self,
         by: DomainId,
@@ -347,7 +347,7 @@ impl Kernel {
     }
 
     /// Drops an aggregate.
-    #[tactic(auto, using(crate::proofs::Stay::stay_rules))]
+    #[tactic(auto, using(crate::proofs::State::Stay::stay_rules))]
     pub fn agg_drop(&mut self, by: DomainId, agg: AggId) -> Result<(), Refusal>
         requires { IsSound (state_of self.old) }
         ensures agg_drop { KeepsPlaces (λ s. calls.agg_drop s by agg) self.old result self.new }
@@ -359,7 +359,7 @@ impl Kernel {
     }
 
     /// Takes an aggregate from its domain, and releases its holds.
-    #[tactic(auto, using(crate::proofs::Slices::held_rules))]
+    #[tactic(auto, using(crate::proofs::AggregateCalls::Slices::held_rules))]
     fn release(&mut self, by: DomainId, agg: AggId)
         requires sound { IsSound (state_of self.old) }
         requires live { is_live (machine self.old) by ≡ true }
@@ -371,7 +371,7 @@ impl Kernel {
     }
 
     /// Moves an aggregate to a domain that may read all its bytes.
-    #[tactic(auto, using(crate::proofs::Stay::stay_rules))]
+    #[tactic(auto, using(crate::proofs::State::Stay::stay_rules))]
     pub fn agg_give(&mut self, by: DomainId, agg: AggId, to: DomainId) -> Result<AggId, Refusal>
         requires { IsSound (state_of self.old) }
         ensures { CarriesOut (λ s. calls.agg_give s by agg to) self.old result self.new }
@@ -398,7 +398,7 @@ impl Kernel {
     }
 
     /// Moves an aggregate.
-    #[tactic(auto, using(crate::proofs::Stay::stay_rules, crate::proofs::Slices::held_rules))]
+    #[tactic(auto, using(crate::proofs::State::Stay::stay_rules, crate::proofs::AggregateCalls::Slices::held_rules))]
     fn give(&mut self, by: DomainId, agg: AggId, to: DomainId) -> Result<AggId, AllocError>
         requires sound { IsSound (state_of self.old) }
         requires from { is_live (machine self.old) by ≡ true }

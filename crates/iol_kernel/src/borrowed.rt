@@ -142,7 +142,7 @@ impl Kernel {
     /// fails or takes none. What it took is sent. No memory is taken.
     ///
     /// `BadFd` where there is no such connection.
-    #[tactic(auto, using(crate::proofs::Stay::stay_rules))]
+    #[tactic(auto, using(crate::proofs::State::Stay::stay_rules))]
     pub fn drain_to<W: Write>(
         &mut self,
         conn: ConnId,

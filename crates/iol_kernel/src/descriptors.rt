@@ -21,7 +21,7 @@ impl Kernel {
     ghost use Rattle.iol_kernel.specs.Kernel.{state_of, machine, as_read, CarriesOut, KeepsPlaces, Answers, Leaves};
 
     /// Makes a pipe, and opens its read end and its write end.
-    #[tactic(auto, using(crate::proofs::Stay::stay_rules))]
+    #[tactic(auto, using(crate::proofs::State::Stay::stay_rules))]
     pub fn pipe(&mut self, by: DomainId) -> Result<(Fd, Fd), Refusal>
         requires { IsSound (state_of self.old) }
         ensures { CarriesOut (λ s. calls.pipe s by) self.old result self.new }
@@ -36,7 +36,7 @@ impl Kernel {
     }
 
     /// How many pipes are live.
-    #[tactic(auto, using(crate::proofs::Views::count_rules), unfolding(crate::specs::KernelState::read_of))]
+    #[tactic(auto, using(crate::proofs::State::Views::count_rules), unfolding(crate::specs::KernelState::read_of))]
     fn pipe_count(&self) -> usize
         ensures { (f : Reading) → result ≡ taken (as_read f self.now).pipes }
     {
@@ -44,7 +44,7 @@ impl Kernel {
     }
 
     /// Adds a pipe with both ends in a domain.
-    #[tactic(auto, using(crate::proofs::Stay::stay_rules, crate::proofs::Slices::held_rules))]
+    #[tactic(auto, using(crate::proofs::State::Stay::stay_rules, crate::proofs::AggregateCalls::Slices::held_rules))]
     fn new_pipe(&mut self, by: DomainId) -> Result<(Fd, Fd), AllocError>
         requires sound { IsSound (state_of self.old) }
         requires live { is_live (machine self.old) by ≡ true }
@@ -60,7 +60,7 @@ impl Kernel {
     }
 
     /// Moves a descriptor to a domain's lowest free number.
-    #[tactic(auto, using(crate::proofs::Stay::stay_rules))]
+    #[tactic(auto, using(crate::proofs::State::Stay::stay_rules))]
     pub fn give_fd(&mut self, by: DomainId, fd: Fd, to: DomainId) -> Result<Fd, Refusal>
         requires { IsSound (state_of self.old) }
         ensures { CarriesOut (λ s. calls.give_fd s by fd to) self.old result self.new }
@@ -123,7 +123,7 @@ impl Kernel {
     }
 
     /// Moves a descriptor that the receiver may hold.
-    #[tactic(auto, using(crate::proofs::Stay::stay_rules, crate::proofs::Slices::held_rules))]
+    #[tactic(auto, using(crate::proofs::State::Stay::stay_rules, crate::proofs::AggregateCalls::Slices::held_rules))]
     fn move_fd(
         &mut self,
         by: DomainId,
@@ -149,7 +149,7 @@ impl Kernel {
     }
 
     /// Closes a descriptor.
-    #[tactic(auto, using(crate::proofs::Stay::stay_rules))]
+    #[tactic(auto, using(crate::proofs::State::Stay::stay_rules))]
     pub fn close(&mut self, by: DomainId, fd: Fd) -> Result<(), Refusal>
         requires { IsSound (state_of self.old) }
         ensures close { KeepsPlaces (λ s. calls.close s by fd) self.old result self.new }
@@ -166,7 +166,7 @@ impl Kernel {
     }
 
     /// Closes an open descriptor, and the end that it is open on.
-    #[tactic(auto, using(crate::proofs::Slices::held_rules))]
+    #[tactic(auto, using(crate::proofs::AggregateCalls::Slices::held_rules))]
     fn close_fd(&mut self, by: DomainId, fd: Fd, end: Descriptor)
         requires sound { IsSound (state_of self.old) }
         requires live { is_live (machine self.old) by ≡ true }
@@ -212,7 +212,7 @@ impl Kernel {
     }
 
     /// Accepts the first connection that waits and whose pool the domain may read, as its lowest free number.
-    #[tactic(auto, using(crate::proofs::Stay::stay_rules))]
+    #[tactic(auto, using(crate::proofs::State::Stay::stay_rules))]
     pub fn accept(&mut self, by: DomainId) -> Result<Fd, Refusal>
         requires { IsSound (state_of self.old) }
         ensures { CarriesOut (λ s. calls.accept s by) self.old result self.new }
@@ -237,7 +237,7 @@ impl Kernel {
     }
 
     /// Opens a connection that waits in a domain.
-    #[tactic(auto, using(crate::proofs::Stay::stay_rules, crate::proofs::Slices::held_rules))]
+    #[tactic(auto, using(crate::proofs::State::Stay::stay_rules, crate::proofs::AggregateCalls::Slices::held_rules))]
     fn open_conn(&mut self, by: DomainId, conn: ConnId) -> Result<Fd, AllocError>
         requires sound { IsSound (state_of self.old) }
         requires live { is_live (machine self.old) by ≡ true }

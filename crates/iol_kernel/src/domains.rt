@@ -20,7 +20,7 @@ impl Kernel {
     ghost use Rattle.iol_kernel.specs.Kernel.{state_of, machine, as_read, CarriesOut, KeepsPlaces, Leaves};
 
     /// Makes a domain.
-    #[tactic(auto, using(crate::proofs::Stay::stay_rules))]
+    #[tactic(auto, using(crate::proofs::State::Stay::stay_rules))]
     pub fn domain_new(&mut self, by: DomainId) -> Result<DomainId, Refusal>
         requires { IsSound (state_of self.old) }
         ensures { CarriesOut (λ s. calls.domain_new s by) self.old result self.new }
@@ -37,7 +37,7 @@ impl Kernel {
     }
 
     /// How many domains were ever made.
-    #[tactic(auto, using(crate::proofs::Views::count_rules), unfolding(crate::specs::KernelState::read_of))]
+    #[tactic(auto, using(crate::proofs::State::Views::count_rules), unfolding(crate::specs::KernelState::read_of))]
     fn domain_count(&self) -> usize
         ensures { (f : Reading) → result ≡ length (as_read f self.now).domains }
     {
@@ -45,7 +45,7 @@ impl Kernel {
     }
 
     /// Ends the caller: its descriptors are closed by rising number, and its aggregates dropped.
-    #[tactic(auto, using(crate::proofs::Stay::stay_rules))]
+    #[tactic(auto, using(crate::proofs::State::Stay::stay_rules))]
     pub fn exit(&mut self, by: DomainId) -> Result<(), Refusal>
         requires { IsSound (state_of self.old) }
         ensures exit { KeepsPlaces (λ s. calls.exit s by) self.old result self.new }
@@ -70,7 +70,7 @@ impl Kernel {
     }
 
     /// Drops all aggregates of a domain.
-    #[tactic(auto, using(crate::proofs::Slices::held_rules))]
+    #[tactic(auto, using(crate::proofs::AggregateCalls::Slices::held_rules))]
     fn drop_aggs(&mut self, by: DomainId)
         requires sound { IsSound (state_of self.old) }
         requires live { is_live (machine self.old) by ≡ true }
@@ -84,7 +84,7 @@ impl Kernel {
     }
 
     /// Closes all descriptors of a domain, by rising number.
-    #[tactic(auto, using(crate::proofs::Slices::held_rules))]
+    #[tactic(auto, using(crate::proofs::AggregateCalls::Slices::held_rules))]
     fn close_fds(&mut self, by: DomainId)
         requires sound { IsSound (state_of self.old) }
         requires live { is_live (machine self.old) by ≡ true }
@@ -98,7 +98,7 @@ impl Kernel {
     }
 
     /// Closes ends that were taken from a domain, one after another.
-    #[tactic(auto, using(crate::proofs::Stay::stay_rules))]
+    #[tactic(auto, using(crate::proofs::State::Stay::stay_rules))]
     fn close_ends(&mut self, ends: &[Option<Descriptor>])
         requires sound { IsSound (state_of self.old) }
         requires taken { AreTaken (state_of self.old).domains (objects_of (state_of self.old)) ends.now }

@@ -67,7 +67,7 @@ impl Kernel {
     }
 
     /// The file that a descriptor is open on.
-    #[tactic(auto, using(crate::proofs::Stay::stay_rules))]
+    #[tactic(auto, using(crate::proofs::State::Stay::stay_rules))]
     fn file_to_sync(&self, by: DomainId, fd: Fd) -> Result<FileId, Refusal>
         requires { IsSound (state_of self.now) }
         ensures passed { OnOk result ((f : Reading) → first (calls.fsync (as_read f self.now) by

@@ -76,7 +76,7 @@ impl Kernel {
     }
 
     /// Whether a domain is live.
-    #[tactic(auto, using(crate::proofs::Views::domain_rules), unfolding(crate::specs::KernelState::read_of))]
+    #[tactic(auto, using(crate::proofs::State::Views::domain_rules), unfolding(crate::specs::KernelState::read_of))]
     pub(crate) fn is_live(&self, d: DomainId) -> bool
         ensures { (f : Reading) → result ≡ is_live (as_read f self.now) d }
     {
@@ -99,7 +99,7 @@ impl Kernel {
     }
 
     /// How long a domain's aggregate is. It is refused as `find` is.
-    #[tactic(auto, using(crate::proofs::ReadOf::length_rules))]
+    #[tactic(auto, using(crate::proofs::State::ReadOf::length_rules))]
     pub(crate) fn find_len(&self, d: DomainId, agg: AggId) -> Result<u32, Refusal>
         ensures live { IfOk result (λ n. (f : Reading) → is_live (as_read f self.now) d ≡ true) }
         ensures there { IfOk result (λ n. (f : Reading) → lacks_agg (as_read f self.now) d agg ≡
@@ -113,7 +113,7 @@ impl Kernel {
     }
 
     /// Whether so many new aggregates, with so many given up, are too many.
-    #[tactic(auto, using(crate::proofs::Views::domain_rules), unfolding(crate::specs::KernelState::read_of))]
+    #[tactic(auto, using(crate::proofs::State::Views::domain_rules), unfolding(crate::specs::KernelState::read_of))]
     pub(crate) fn is_too_many(&self, d: DomainId, made: u64, given: u64) -> bool
         requires live { is_live (machine self.now) d ≡ true }
         requires made { made ≤ 2 }
@@ -124,7 +124,7 @@ impl Kernel {
     }
 
     /// What the domain's descriptor is open on.
-    #[tactic(auto, using(crate::proofs::Views::domain_rules), unfolding(crate::specs::KernelState::read_of))]
+    #[tactic(auto, using(crate::proofs::State::Views::domain_rules), unfolding(crate::specs::KernelState::read_of))]
     pub(crate) fn descriptor(&self, d: DomainId, fd: Fd) -> Option<Descriptor>
         requires { is_live (machine self.now) d ≡ true }
         ensures { (f : Reading) → result ≡ descriptor (as_read f self.now) d fd }
@@ -133,7 +133,7 @@ impl Kernel {
     }
 
     /// Whether so many more descriptors are too many.
-    #[tactic(auto, using(crate::proofs::Views::domain_rules), unfolding(crate::specs::KernelState::read_of))]
+    #[tactic(auto, using(crate::proofs::State::Views::domain_rules), unfolding(crate::specs::KernelState::read_of))]
     pub(crate) fn is_open_beyond(&self, d: DomainId, made: usize) -> bool
         requires live { is_live (machine self.now) d ≡ true }
         requires made { made ≤ 2 }
@@ -143,7 +143,7 @@ impl Kernel {
     }
 
     /// Whether the pool's list names the domain.
-    #[tactic(auto, using(crate::proofs::Views::pool_rules), unfolding(crate::specs::KernelState::read_of))]
+    #[tactic(auto, using(crate::proofs::State::Views::pool_rules), unfolding(crate::specs::KernelState::read_of))]
     pub(crate) fn may_read(&self, d: DomainId, p: PoolId) -> bool
         ensures { (f : Reading) → result ≡ may_read (as_read f self.now) d p }
     {

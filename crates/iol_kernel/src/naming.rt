@@ -27,7 +27,7 @@ impl Kernel {
     /// Gives the next slot of the store under files a name and a pool. The file begins with the bytes that are stored there.
     ///
     /// `TooLong` is answered by what an honest store says of the slot's length.
-    #[tactic(auto, using(crate::proofs::Stay::stay_rules))]
+    #[tactic(auto, using(crate::proofs::State::Stay::stay_rules))]
     pub fn file_new<B: Backing>(
         &mut self,
         backing: &B,
@@ -68,7 +68,7 @@ impl Kernel {
     }
 
     /// Whether a file has this name.
-    #[tactic(auto, using(crate::proofs::Named::file_rules))]
+    #[tactic(auto, using(crate::proofs::FileCalls::Named::file_rules))]
     fn is_named(&self, name: &Bytes) -> bool
         ensures { (f : Reading) → result ≡ is_some (file_called (as_read f self.now) name.now) }
     {
@@ -76,7 +76,7 @@ impl Kernel {
     }
 
     /// Opens a file in a mode, as the caller's lowest free number, at position 0.
-    #[tactic(auto, using(crate::proofs::Stay::stay_rules))]
+    #[tactic(auto, using(crate::proofs::State::Stay::stay_rules))]
     pub fn open_file(&mut self, by: DomainId, name: &Bytes, mode: Mode) -> Result<Fd, Refusal>
         requires { IsSound (state_of self.old) }
         ensures { CarriesOut (λ s. calls.open_file s by name.now mode) self.old result self.new }
@@ -129,7 +129,7 @@ impl Kernel {
     }
 
     /// How many files there are.
-    #[tactic(auto, using(crate::proofs::Named::file_rules))]
+    #[tactic(auto, using(crate::proofs::FileCalls::Named::file_rules))]
     fn file_count(&self) -> usize
         ensures { (f : Reading) → result ≡ length (as_read f self.now).files }
     {

@@ -27,7 +27,7 @@ impl Kernel {
     ghost use Rattle.iol_kernel.specs.Kernel.{state_of, machine, as_read, Steps, CarriesOut, KeepsPlaces, Answers, Arrives, Places, Transmits, Leaves};
 
     /// Makes a connection that waits to be accepted. What arrives on it will lie in the pool.
-    #[tactic(auto, using(crate::proofs::Stay::stay_rules))]
+    #[tactic(auto, using(crate::proofs::State::Stay::stay_rules))]
     pub fn conn_new(&mut self, pool: PoolId) -> Result<ConnId, Refusal>
         requires { IsSound (state_of self.old) }
         ensures { CarriesOut (λ s. calls.conn_new s pool) self.old result self.new }
@@ -45,7 +45,7 @@ impl Kernel {
     }
 
     /// How many connections are live.
-    #[tactic(auto, using(crate::proofs::Connecting::conn_rules))]
+    #[tactic(auto, using(crate::proofs::Connections::Connecting::conn_rules))]
     fn conn_count(&self) -> usize
         ensures { (f : Reading) → result ≡ length (as_read f self.now).conns }
     {
@@ -53,7 +53,7 @@ impl Kernel {
     }
 
     /// The number of the next connection.
-    #[tactic(auto, using(crate::proofs::Connecting::conn_rules))]
+    #[tactic(auto, using(crate::proofs::Connections::Connecting::conn_rules))]
     fn next_conn(&self) -> ConnId
         ensures { (f : Reading) → result ≡ (as_read f self.now).next_conn }
     {
@@ -74,7 +74,7 @@ impl Kernel {
     }
 
     /// Whether there is no live connection of this number.
-    #[tactic(auto, using(crate::proofs::Connecting::there_rules))]
+    #[tactic(auto, using(crate::proofs::Connections::Connecting::there_rules))]
     pub(crate) fn lacks_conn(&self, conn: ConnId) -> bool
         ensures { (f : Reading) → result ≡ lacks_conn (as_read f self.now) conn }
     {
@@ -85,7 +85,7 @@ impl Kernel {
     }
 
     /// The peer of a connection sends no more, or also takes no more: then what was to be sent is dropped.
-    #[tactic(auto, using(crate::proofs::Stay::stay_rules))]
+    #[tactic(auto, using(crate::proofs::State::Stay::stay_rules))]
     pub fn peer_closed(&mut self, conn: ConnId, how: How) -> Result<(), Refusal>
         requires { IsSound (state_of self.old) }
         ensures peer_closed { KeepsPlaces (λ s. calls.peer_closed s conn how) self.old result
@@ -210,7 +210,7 @@ impl Kernel {
 
     /// Sends the first `max` bytes to be sent of a connection, or all where fewer wait, with the checksum of these
     /// alone. The sum of each slice that is sent is used, in order.
-    #[tactic(auto, using(crate::proofs::Stay::stay_rules))]
+    #[tactic(auto, using(crate::proofs::State::Stay::stay_rules))]
     pub fn transmit(&mut self, conn: ConnId, max: u32) -> Result<Segment, Refusal>
         requires { IsSound (state_of self.old) }
         ensures { Transmits conn max self.old (told result) self.new }

@@ -63,7 +63,7 @@ impl Pipe {
 
     /// Closes the write end, and releases what waits where nobody reads. Returns whether the read
     /// end is open.
-    #[tactic(auto, using(crate::proofs::ClosedEnds::same_rules))]
+    #[tactic(auto, using(crate::proofs::Queues::ClosedEnds::same_rules))]
     fn close_writer(&mut self, store: &mut Store) -> bool
         requires { Covers store.old (bufs_of self.old.queue) }
         ensures stays { result ≡ self.old.reading }
@@ -190,7 +190,7 @@ impl Pipes {
     }
 
     /// Adds the longest prefix that fits to a pipe's queue. Returns how many bytes that is.
-    #[tactic(auto, using(crate::proofs::Ends::there_rules))]
+    #[tactic(auto, using(crate::proofs::Queues::Ends::there_rules))]
     pub(crate) fn push(
         &mut self,
         store: &mut Store,
@@ -217,7 +217,7 @@ impl Pipes {
 
     /// Adds new bytes of an open pool to a pipe's queue, as many as fit, and tells how many that is. They lie in new buffers
     /// on the lowest free pages of the pool.
-    #[tactic(auto, using(crate::proofs::Ends::there_rules))]
+    #[tactic(auto, using(crate::proofs::Queues::Ends::there_rules))]
     pub(crate) fn fill(
         &mut self,
         alloc: Global,
@@ -247,7 +247,7 @@ impl Pipes {
     }
 
     /// Takes off the longest prefix of a pipe's first `n` bytes whose pools all name the domain.
-    #[tactic(auto, using(crate::proofs::Ends::there_rules))]
+    #[tactic(auto, using(crate::proofs::Queues::Ends::there_rules))]
     pub(crate) fn front(
         &mut self,
         alloc: Global,
@@ -291,7 +291,7 @@ impl Pipes {
     }
 
     /// Releases the first `n` bytes that wait in a pipe, or all where fewer wait.
-    #[tactic(auto, using(crate::proofs::Ends::there_rules))]
+    #[tactic(auto, using(crate::proofs::Queues::Ends::there_rules))]
     pub(crate) fn skip(&mut self, store: &mut Store, p: PipeId, n: u32)
         requires covered { Covers store.old (bufs_of (queue_at self.old.places p).queue) }
         requires reading { (queue_at self.old.places p).reading ≡ true }
@@ -312,7 +312,7 @@ impl Pipes {
     }
 
     /// Closes the read end of a pipe, which goes where its write end is closed.
-    #[tactic(auto, using(crate::proofs::Ends::there_rules))]
+    #[tactic(auto, using(crate::proofs::Queues::Ends::there_rules))]
     pub(crate) fn close_reader(&mut self, store: &mut Store, p: PipeId)
         requires covered { Covers store.old (bufs_of (queue_at self.old.places p).queue) }
         requires reading { (queue_at self.old.places p).reading ≡ true }
@@ -327,7 +327,7 @@ impl Pipes {
     }
 
     /// Closes the write end of a pipe, which goes where its read end is closed.
-    #[tactic(auto, using(crate::proofs::Ends::there_rules))]
+    #[tactic(auto, using(crate::proofs::Queues::Ends::there_rules))]
     pub(crate) fn close_writer(&mut self, store: &mut Store, p: PipeId)
         requires covered { Covers store.old (bufs_of (queue_at self.old.places p).queue) }
         requires writing { (queue_at self.old.places p).writing ≡ true }

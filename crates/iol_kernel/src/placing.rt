@@ -255,7 +255,7 @@ impl Kernel {
     }
 
     /// Adds new bytes to a pipe's queue, as many as fit, where the pool has room.
-    #[tactic(auto, using(crate::proofs::Stay::stay_rules))]
+    #[tactic(auto, using(crate::proofs::State::Stay::stay_rules))]
     fn fill_pipe(
         &mut self,
         by: DomainId,
@@ -318,7 +318,7 @@ impl Kernel {
     }
 
     /// New bytes are to be sent on a connection, as many as fit, where the pool has room.
-    #[tactic(auto, using(crate::proofs::Stay::stay_rules))]
+    #[tactic(auto, using(crate::proofs::State::Stay::stay_rules))]
     fn fill_outgoing(
         &mut self,
         by: DomainId,

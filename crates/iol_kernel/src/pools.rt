@@ -24,7 +24,7 @@ impl Kernel {
     ghost use Rattle.iol_kernel.specs.Kernel.{state_of, machine, as_read, CarriesOut, KeepsPlaces, Answers, Leaves};
 
     /// Sets the caller's default pool, in which it places new bytes.
-    #[tactic(auto, using(crate::proofs::Stay::stay_rules))]
+    #[tactic(auto, using(crate::proofs::State::Stay::stay_rules))]
     pub fn set_pool(&mut self, by: DomainId, pool: PoolId) -> Result<(), Refusal>
         requires { IsSound (state_of self.old) }
         ensures { CarriesOut (λ s. calls.set_pool s by pool) self.old result self.new }
@@ -46,7 +46,7 @@ impl Kernel {
     }
 
     /// Sets a domain's default pool.
-    #[tactic(auto, using(crate::proofs::Slices::held_rules))]
+    #[tactic(auto, using(crate::proofs::AggregateCalls::Slices::held_rules))]
     fn set_default(&mut self, by: DomainId, pool: PoolId)
         requires sound { IsSound (state_of self.old) }
         requires live { is_live (machine self.old) by ≡ true }
@@ -56,7 +56,7 @@ impl Kernel {
     }
 
     /// Whether there is a pool of this number.
-    #[tactic(auto, using(crate::proofs::Views::pool_rules), unfolding(crate::specs::KernelState::read_of))]
+    #[tactic(auto, using(crate::proofs::State::Views::pool_rules), unfolding(crate::specs::KernelState::read_of))]
     pub(crate) fn is_pool(&self, p: PoolId) -> bool
         ensures { (f : Reading) → result ≡ is_pool (as_read f self.now) p }
     {
@@ -64,7 +64,7 @@ impl Kernel {
     }
 
     /// Whether nothing more is placed in the pool.
-    #[tactic(auto, using(crate::proofs::Views::pool_rules), unfolding(crate::specs::KernelState::read_of))]
+    #[tactic(auto, using(crate::proofs::State::Views::pool_rules), unfolding(crate::specs::KernelState::read_of))]
     pub(crate) fn is_closed(&self, p: PoolId) -> bool
         ensures { (f : Reading) → result ≡ (state.pool (as_read f self.now) p).closed }
     {
@@ -72,7 +72,7 @@ impl Kernel {
     }
 
     /// Makes a pool of so many chunks, which the domains of a list may read.
-    #[tactic(auto, using(crate::proofs::Stay::stay_rules))]
+    #[tactic(auto, using(crate::proofs::State::Stay::stay_rules))]
     pub fn pool_create(
         &mut self,
         by: DomainId,
@@ -126,7 +126,7 @@ impl Kernel {
     }
 
     /// How many pools were ever made.
-    #[tactic(auto, using(crate::proofs::Views::count_rules), unfolding(crate::specs::KernelState::read_of))]
+    #[tactic(auto, using(crate::proofs::State::Views::count_rules), unfolding(crate::specs::KernelState::read_of))]
     fn pool_count(&self) -> usize
         ensures { (f : Reading) → result ≡ length (as_read f self.now).pools }
     {
@@ -134,7 +134,7 @@ impl Kernel {
     }
 
     /// Adds a pool of so many chunks for these domains.
-    #[tactic(auto, using(crate::proofs::Stay::stay_rules))]
+    #[tactic(auto, using(crate::proofs::State::Stay::stay_rules))]
     fn add_pool(&mut self, chunks: u32, names: Names) -> Result<PoolId, Refusal>
         requires sound { IsSound (state_of self.old) }
         requires few { length (machine self.old).pools < MAX_POOLS }
@@ -161,7 +161,7 @@ impl Kernel {
 
     /// Has a pool that the caller may read name a domain more on its list. It takes no memory; a domain that is named already
     /// changes nothing.
-    #[tactic(auto, using(crate::proofs::Stay::stay_rules))]
+    #[tactic(auto, using(crate::proofs::State::Stay::stay_rules))]
     pub fn pool_admit(
         &mut self,
         by: DomainId,
@@ -194,7 +194,7 @@ impl Kernel {
     }
 
     /// Whether the pool's list names the domain, or has a place for its name.
-    #[tactic(auto, using(crate::proofs::Views::pool_rules), unfolding(crate::specs::KernelState::read_of))]
+    #[tactic(auto, using(crate::proofs::State::Views::pool_rules), unfolding(crate::specs::KernelState::read_of))]
     fn has_place(&self, p: PoolId, d: DomainId) -> bool
         ensures { (f : Reading) → result ≡ calls.has_place (state.pool (as_read f self.now)
             p).domains d }
@@ -217,7 +217,7 @@ impl Kernel {
     }
 
     /// Closes a pool: nothing more is placed in it, and its bytes stay readable.
-    #[tactic(auto, using(crate::proofs::Stay::stay_rules))]
+    #[tactic(auto, using(crate::proofs::State::Stay::stay_rules))]
     pub fn pool_close(&mut self, by: DomainId, pool: PoolId) -> Result<(), Refusal>
         requires { IsSound (state_of self.old) }
         ensures pool_close { KeepsPlaces (λ s. calls.pool_close s by pool) self.old result self.new }
@@ -243,7 +243,7 @@ impl Kernel {
     }
 
     /// Whether a file or a connection is of the pool.
-    #[tactic(auto, using(crate::proofs::Views::busy_rules), unfolding(crate::specs::KernelState::read_of))]
+    #[tactic(auto, using(crate::proofs::State::Views::busy_rules), unfolding(crate::specs::KernelState::read_of))]
     fn is_busy(&self, p: PoolId) -> bool
         ensures { (f : Reading) → result ≡ calls.is_busy (as_read f self.now) p }
     {

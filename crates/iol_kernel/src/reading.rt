@@ -41,7 +41,7 @@ impl Kernel {
     }
 
     /// Reads from a pipe or a connection.
-    #[tactic(auto, using(crate::proofs::Stay::stay_rules))]
+    #[tactic(auto, using(crate::proofs::State::Stay::stay_rules))]
     fn read_queue(&mut self, by: DomainId, fd: Fd, count: u32) -> Result<AggId, Refusal>
         requires sound { IsSound (state_of self.old) }
         requires no_file { (f : Reading) → open_on (held_by (as_read f self.old) by fd) ≡ None }
@@ -62,7 +62,7 @@ impl Kernel {
     }
 
     /// Reads from a pipe.
-    #[tactic(auto, using(crate::proofs::Stay::stay_rules))]
+    #[tactic(auto, using(crate::proofs::State::Stay::stay_rules))]
     fn read_pipe(
         &mut self,
         by: DomainId,
@@ -104,7 +104,7 @@ impl Kernel {
     }
 
     /// Whether bytes are asked for, none wait, and some may come.
-    #[tactic(auto, using(crate::proofs::ReadOf::pipe_rules))]
+    #[tactic(auto, using(crate::proofs::State::ReadOf::pipe_rules))]
     pub(crate) fn must_wait(&self, p: PipeId, count: usize) -> bool
         ensures { (f : Reading) → result ≡ calls.must_wait (as_read f self.now) (Some
             (Descriptor.ReadEnd p)) count }
@@ -113,7 +113,7 @@ impl Kernel {
     }
 
     /// Takes what the reader may see of the first bytes of a pipe's queue, as its next aggregate.
-    #[tactic(auto, using(crate::proofs::Stay::stay_rules, crate::proofs::Slices::held_rules))]
+    #[tactic(auto, using(crate::proofs::State::Stay::stay_rules, crate::proofs::AggregateCalls::Slices::held_rules))]
     fn take(&mut self, by: DomainId, fd: Fd, p: PipeId, n: u32) -> Result<AggId, AllocError>
         requires sound { IsSound (state_of self.old) }
         requires live { is_live (machine self.old) by ≡ true }
@@ -130,7 +130,7 @@ impl Kernel {
     }
 
     /// Reads what came in on a connection.
-    #[tactic(auto, using(crate::proofs::Stay::stay_rules))]
+    #[tactic(auto, using(crate::proofs::State::Stay::stay_rules))]
     fn read_conn(
         &mut self,
         by: DomainId,
@@ -191,7 +191,7 @@ impl Kernel {
     }
 
     /// Takes what the reader may see of the first bytes that came in on a connection, as its next aggregate.
-    #[tactic(auto, using(crate::proofs::Stay::stay_rules, crate::proofs::Slices::held_rules))]
+    #[tactic(auto, using(crate::proofs::State::Stay::stay_rules, crate::proofs::AggregateCalls::Slices::held_rules))]
     fn take_unread(
         &mut self,
         by: DomainId,

@@ -138,7 +138,7 @@ pub(crate) fn add_replaced(
 }
 
 /// Splits a domain's aggregate into its next two.
-#[tactic(auto, using(crate::proofs::Exchanging::table_rules))]
+#[tactic(auto, using(crate::proofs::AggregateCalls::Exchanging::table_rules))]
 pub(crate) fn split_agg(
     alloc: Global,
     store: &mut Store,
@@ -180,7 +180,7 @@ pub(crate) fn split_agg(
 }
 
 /// Joins two aggregates of a domain to its next one.
-#[tactic(auto, using(crate::proofs::Exchanging::table_rules))]
+#[tactic(auto, using(crate::proofs::AggregateCalls::Exchanging::table_rules))]
 pub(crate) fn join_aggs(
     alloc: Global,
     domains: &mut Table<Agg>,
@@ -251,7 +251,7 @@ pub(crate) fn move_agg(
 }
 
 /// Releases all holds of aggregates.
-#[tactic(auto, using(crate::proofs::ClosedEnds::same_rules))]
+#[tactic(auto, using(crate::proofs::Queues::ClosedEnds::same_rules))]
 pub(crate) fn release_all(store: &mut Store, aggs: Taken<Agg>)
     requires { Covers store.old (bufs_in aggs) }
     ensures moves { Moves store.old store.new (bufs_in aggs) [] }

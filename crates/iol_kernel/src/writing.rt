@@ -40,7 +40,7 @@ impl Kernel {
     }
 
     /// What the caller's descriptor is open on.
-    #[tactic(auto, using(crate::proofs::Stay::stay_rules))]
+    #[tactic(auto, using(crate::proofs::State::Stay::stay_rules))]
     fn end_to_write(&self, by: DomainId, fd: Fd, agg: AggId) -> Result<Descriptor, Refusal>
         requires { IsSound (state_of self.now) }
         ensures live { OnOk result ((f : Reading) → is_live (as_read f self.now) by ≡ true) }
@@ -59,7 +59,7 @@ impl Kernel {
     }
 
     /// Writes an aggregate to what is no file.
-    #[tactic(auto, using(crate::proofs::Stay::stay_rules))]
+    #[tactic(auto, using(crate::proofs::State::Stay::stay_rules))]
     fn write_queue(
         &mut self,
         by: DomainId,
@@ -82,7 +82,7 @@ impl Kernel {
     }
 
     /// Writes an aggregate of so many bytes to a pipe.
-    #[tactic(auto, using(crate::proofs::Stay::stay_rules))]
+    #[tactic(auto, using(crate::proofs::State::Stay::stay_rules))]
     fn write_pipe(
         &mut self,
         by: DomainId,
@@ -109,7 +109,7 @@ impl Kernel {
     }
 
     /// Whether a pipe's read end is open.
-    #[tactic(auto, using(crate::proofs::ReadOf::pipe_rules))]
+    #[tactic(auto, using(crate::proofs::State::ReadOf::pipe_rules))]
     pub(crate) fn is_read(&self, p: PipeId) -> bool
         ensures { (f : Reading) → result ≡ (pipe_at (as_read f self.now) p).reading }
     {
@@ -117,7 +117,7 @@ impl Kernel {
     }
 
     /// How many bytes more fit into a pipe.
-    #[tactic(auto, using(crate::proofs::ReadOf::pipe_rules))]
+    #[tactic(auto, using(crate::proofs::State::ReadOf::pipe_rules))]
     pub(crate) fn room_in(&self, p: PipeId) -> u32
         ensures { (f : Reading) → result ≡ MAX_QUEUE_BYTES - length (pipe_at (as_read f self.now)
             p).queue }
@@ -126,7 +126,7 @@ impl Kernel {
     }
 
     /// Adds the longest prefix of an aggregate that fits to a pipe's queue.
-    #[tactic(auto, using(crate::proofs::Stay::stay_rules, crate::proofs::Slices::held_rules))]
+    #[tactic(auto, using(crate::proofs::State::Stay::stay_rules, crate::proofs::AggregateCalls::Slices::held_rules))]
     fn push(&mut self, by: DomainId, fd: Fd, agg: AggId, p: PipeId) -> Result<u32, AllocError>
         requires sound { IsSound (state_of self.old) }
         requires live { is_live (machine self.old) by ≡ true }
@@ -144,7 +144,7 @@ impl Kernel {
     }
 
     /// Writes an aggregate to a connection.
-    #[tactic(auto, using(crate::proofs::Stay::stay_rules, crate::proofs::Slices::held_rules))]
+    #[tactic(auto, using(crate::proofs::State::Stay::stay_rules, crate::proofs::AggregateCalls::Slices::held_rules))]
     fn write_conn(&mut self, by: DomainId, fd: Fd, agg: AggId, conn: ConnId) -> Result<u32, Refusal>
         requires sound { IsSound (state_of self.old) }
         requires live { (f : Reading) → is_live (as_read f self.old) by ≡ true }

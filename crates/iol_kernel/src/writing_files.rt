@@ -56,7 +56,7 @@ impl Kernel {
     }
 
     /// Whether an aggregate may be written to a file.
-    #[tactic(auto, using(crate::proofs::Stay::stay_rules))]
+    #[tactic(auto, using(crate::proofs::State::Stay::stay_rules))]
     fn test_write(
         &self,
         by: DomainId,
@@ -89,7 +89,7 @@ impl Kernel {
     }
 
     /// Writes an aggregate that may be written.
-    #[tactic(auto, using(crate::proofs::Slices::held_rules))]
+    #[tactic(auto, using(crate::proofs::AggregateCalls::Slices::held_rules))]
     fn write_over(
         &mut self,
         by: DomainId,

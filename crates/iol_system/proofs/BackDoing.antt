@@ -26,8 +26,8 @@ use Rattle.iol_kernel.specs.Backed.{Serves, StepsBeside, with_slots}
 use Rattle.iol_kernel.specs.Calls.{KeepsPlaces, Transmits}
 use Rattle.iol_kernel.specs.KernelState.{KernelState, IsSound, layout_of, machine_of}
 use Rattle.iol_kernel.specs.WritingBack.{FlushesOne, SyncsFile}
-use Rattle.iol_kernel.proofs.Serving.{backed_stays, steps_beside}
-use Rattle.iol_kernel.proofs.Stay.{pages_equal}
+use Rattle.iol_kernel.proofs.State.Serving.{backed_stays, steps_beside}
+use Rattle.iol_kernel.proofs.State.Stay.{pages_equal}
 use Rattle.iol_system.specs.Asking.{asks_store, uses_cache, writes_store}
 use Rattle.iol_system.specs.Doing.{Does}
 use Rattle.iol_system.specs.Late.{LeavesLate}

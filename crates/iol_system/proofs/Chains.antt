@@ -13,7 +13,7 @@ use Rattle.iol_core.specs.Text.{Text}
 use Rattle.iol_core.specs.Values.{gives_up}
 use Rattle.iol_kernel.specs.KernelState.{layout_of}
 use Rattle.iol_system.specs.Machine.{SystemState, machine_of}
-use Rattle.iol_kernel.proofs.Stay.{stays_here}
+use Rattle.iol_kernel.proofs.State.Stay.{stays_here}
 use Rattle.iol_system.specs.Promises.{Promises, Chain}
 use Rattle.iol_system.specs.Safe.{IsSafe}
 use Rattle.iol_system.specs.Laws.{RunsAsTheMachine, Between, RunsInParts, Moment, EachEventIsAStep, RunsStaySafe, RunsKeepHonesty, RunsKeepBuffers, RunsKeepValues, SharesOver, RunsShare}

@@ -22,9 +22,9 @@ use Rattle.iol_kernel.specs.Backed.{LooksUp, StepsBeside, with_slots}
 use Rattle.iol_kernel.specs.Calls.{CarriesOut, KeepsPlaces, Names, with_reader}
 use Rattle.iol_kernel.specs.KernelState.{KernelState, IsSound, layout_of, machine_of, read_of}
 use Rattle.iol_kernel.specs.Readings.{Reading, KeepsPools}
-use Rattle.iol_kernel.proofs.Carried.{carried_machine, carried_layout}
-use Rattle.iol_kernel.proofs.Serving.{backed_stays, steps_beside}
-use Rattle.iol_kernel.proofs.Stay.{pages_equal, stays_equal}
+use Rattle.iol_kernel.proofs.State.Carried.{carried_machine, carried_layout}
+use Rattle.iol_kernel.proofs.State.Serving.{backed_stays, steps_beside}
+use Rattle.iol_kernel.proofs.State.Stay.{pages_equal, stays_equal}
 use Rattle.iol_system.specs.Asking.{asks_store, makes_file}
 use Rattle.iol_system.specs.Doing.{Does}
 use Rattle.iol_system.specs.Late.{LeavesLate}

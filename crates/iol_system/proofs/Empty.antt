@@ -13,7 +13,7 @@ use Rattle.iol_kernel.specs.Backed.{IsBackedBy}
 use Rattle.iol_kernel.specs.KernelState.{KernelState, IsSound, machine_of, read_of}
 use Rattle.iol_kernel.specs.Views.{state_view}
 use Rattle.iol_extent.specs.Extents.{cover}
-use Rattle.iol_kernel.proofs.Slots.{none_there}
+use Rattle.iol_kernel.proofs.State.Slots.{none_there}
 use Rattle.iol_kernel.specs.Readings.{slots_of}
 
 -- there are slots enough

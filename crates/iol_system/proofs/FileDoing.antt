@@ -34,10 +34,10 @@ use Rattle.iol_kernel.specs.KernelState.{KernelState, IsSound, layout_of, machin
 use Rattle.iol_kernel.specs.MakingRoom.{MakesRoom, MayHaveEvicted, Places, can_fit}
 use Rattle.iol_kernel.specs.WritingFiles.{LaysOn, LeavesUnwritten, PutsOn, WritesOn, pool_of_file}
 use Rattle.iol_kernel.specs.Keeping.{LacksPages, LacksPagesToRead}
-use Rattle.iol_kernel.proofs.AfterRoom.{memory_wanted}
-use Rattle.iol_kernel.proofs.Carried.{carried_layout}
-use Rattle.iol_kernel.proofs.Serving.{steps_beside}
-use Rattle.iol_kernel.proofs.Stay.{pages_here, stays_here}
+use Rattle.iol_kernel.proofs.State.AfterRoom.{memory_wanted}
+use Rattle.iol_kernel.proofs.State.Carried.{carried_layout}
+use Rattle.iol_kernel.proofs.State.Serving.{steps_beside}
+use Rattle.iol_kernel.proofs.State.Stay.{pages_here, stays_here}
 use Rattle.iol_system.specs.Asking.{asks_store, uses_cache}
 use Rattle.iol_system.specs.Doing.{Does}
 use Rattle.iol_system.specs.Late.{CopyLeaves, IfRefused, LeavesCopied, LeavesLate, PutLeaves, ReadLeaves, SameTables, WriteLeaves}

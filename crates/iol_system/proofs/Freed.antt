@@ -29,7 +29,7 @@ use Rattle.iol_kernel.specs.KernelState.{KernelState, objects_of, read_of}
 use Rattle.iol_kernel.specs.Readings.{Reading, read}
 use Rattle.iol_kernel.specs.Views.{Pipe, domain_view, pipe_view, state_view}
 use Rattle.iol_laws.specs.Order.{IsOrderly}
-use Rattle.iol_laws.proofs.NoneLive.{domain-none, pipe-none}
+use Rattle.iol_laws.proofs.Order.NoneLive.{domain-none, pipe-none}
 use Rattle.iol_system.specs.Laws.{AllPagesComeFree}
 
 -- What holds nothing.

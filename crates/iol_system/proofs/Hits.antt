@@ -9,7 +9,7 @@ use Rattle.iol_extent.specs.Extents.{Extent, extent_over}
 use Rattle.iol_extent.specs.declared.spans.Span.{Span}
 use Rattle.iol_cache.specs.Cached.{order_in, with_order}
 use Rattle.iol_cache.specs.Reading.{hit_counted, hits_counted}
-use Rattle.iol_cache.proofs.Filing.{length-with_order, order_nowhere, order_other, order_same}
+use Rattle.iol_cache.proofs.Extents.Filing.{length-with_order, order_nowhere, order_other, order_same}
 use Rattle.iol_system.specs.Laws.{IsSameOrHit, hit_above}
 
 abbrev raised_to : (h : ℕ) → Entry → Entry

@@ -24,11 +24,11 @@ use Rattle.iol_cache.specs.declared.syncing.Flushed.{Flushed}
 use Rattle.iol_cache.specs.declared.syncing.Flushed.TheVariants.{Nothing, Wrote}
 use Rattle.iol_kernel.specs.Calls.{MakesBytes}
 use Rattle.iol_kernel.specs.WritingBack.{FlushesOne}
-use Rattle.iol_kernel.proofs.Named.{cache_sound}
+use Rattle.iol_kernel.proofs.FileCalls.Named.{cache_sound}
 use Rattle.iol_kernel.specs.Keeping.{KeepsBeside, KeepsUnless, LacksPages}
 use Rattle.iol_kernel.specs.KernelState.{KernelState, IsSound}
 use Rattle.iol_kernel.specs.MakingRoom.{AfterRoom, MayHaveEvicted, Places}
-use Rattle.iol_kernel.proofs.Kept.{keeps_same, room_keeps}
+use Rattle.iol_kernel.proofs.FileCalls.Kept.{keeps_same, room_keeps}
 use Rattle.iol_system.specs.InPlace.{IsThereOrClean, IsWritten, KeepsInPlace, LiesStill, MayLetGo, SharesFile}
 use Rattle.iol_system.specs.Machine.{SystemState, system_of}
 use Rattle.iol_system.specs.WrittenBack.{CleansFirst}

@@ -18,7 +18,7 @@ use Rattle.iol_core.proofs.Access.{access_new}
 use Rattle.iol_hold.specs.Moves.{Stays}
 use Rattle.iol_kernel.specs.Backed.{IsBackedBy}
 use Rattle.iol_kernel.specs.KernelState.{KernelState, IsSound}
-use Rattle.iol_kernel.proofs.Stay.{stays_here}
+use Rattle.iol_kernel.proofs.State.Stay.{stays_here}
 use Rattle.iol_system.specs.Machine.{SystemState, machine_of, tables_of, system_of}
 use Rattle.iol_system.specs.Asking.{asks_store, uses_cache}
 use Rattle.iol_system.specs.Doing.{Does}

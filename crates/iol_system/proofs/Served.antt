@@ -20,7 +20,7 @@ use Rattle.iol_kernel.specs.Calls.{Leaves}
 use Rattle.iol_kernel.specs.KernelState as held
 use Rattle.iol_kernel.specs.KernelState.{KernelState, IsSound}
 use Rattle.iol_kernel.specs.MakingRoom.{MayHaveEvicted, MakesRoom}
-use Rattle.iol_kernel.proofs.Serving.{backed_stays}
+use Rattle.iol_kernel.proofs.State.Serving.{backed_stays}
 use Rattle.iol_system.specs.Machine.{machine_of, system_of}
 use Rattle.iol_system.specs.Safe.{IsSafe}
 use Rattle.iol_system.specs.Served.{Comes}

@@ -24,19 +24,19 @@ use Rattle.iol_cache.specs.Syncing.{AllClean, Cleans, Flushes}
 use Rattle.iol_cache.specs.declared.files.CachedFile.{CachedFile}
 use Rattle.iol_cache.specs.declared.syncing.Flushed.{Flushed}
 use Rattle.iol_cache.specs.declared.syncing.Flushed.TheVariants.{Nothing, Wrote}
-use Rattle.iol_cache.proofs.Cleaned.{bytes_alike, count-cleaned, first_dirty}
-use Rattle.iol_cache.proofs.Extending.{over_yes}
-use Rattle.iol_cache.proofs.Filing.{file_other, file_same, numbered_bounds, sum-with_file}
+use Rattle.iol_cache.proofs.Writes.Cleaned.{bytes_alike, count-cleaned, first_dirty}
+use Rattle.iol_cache.proofs.Extents.Extending.{over_yes}
+use Rattle.iol_cache.proofs.Extents.Filing.{file_other, file_same, numbered_bounds, sum-with_file}
 use Rattle.iol_kernel.specs.Backed.{IsBackedBy}
 use Rattle.iol_kernel.specs.KernelState.{KernelState, IsSound}
 use Rattle.iol_kernel.specs.Readings.{bytes_over}
 use Rattle.iol_kernel.specs.WritingBack.{FlushesOne, SyncsFile, done_of}
-use Rattle.iol_kernel.proofs.Beside.{content-machine_of}
-use Rattle.iol_kernel.proofs.Called.{file_within}
-use Rattle.iol_kernel.proofs.Named.{cache_sound}
-use Rattle.iol_kernel.proofs.Opening.{end_held}
-use Rattle.iol_kernel.proofs.Slots.{file_bytes-none}
-use Rattle.iol_kernel.proofs.WrittenBack.{dirty_there}
+use Rattle.iol_kernel.proofs.State.Beside.{content-machine_of}
+use Rattle.iol_kernel.proofs.FileCalls.Called.{file_within}
+use Rattle.iol_kernel.proofs.FileCalls.Named.{cache_sound}
+use Rattle.iol_kernel.proofs.Queues.Opening.{end_held}
+use Rattle.iol_kernel.proofs.State.Slots.{file_bytes-none}
+use Rattle.iol_kernel.proofs.FileCalls.WrittenBack.{dirty_there}
 use Rattle.iol_system.specs.Machine.{system_of, tables_of}
 use Rattle.iol_system.specs.Replies.{told}
 use Rattle.iol_system.specs.Room.{IsDone}

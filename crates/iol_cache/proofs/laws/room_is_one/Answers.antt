@@ -1,4 +1,4 @@
-use Rattle.iol_cache.proofs.OneRoom.{has_or_lacks, reads_or_lacks, wants_one}
+use Rattle.iol_cache.proofs.Evictions.OneRoom.{has_or_lacks, reads_or_lacks, wants_one}
 use Rattle.iol_cache.proofs.laws.room_is_one.Goals as goal
 
 pub returns : goal.returns

@@ -6,7 +6,7 @@ use Rattle.iol_hold.specs.declared.slices.Slice.{Slice}
 use Rattle.iol_evict.specs.Ranking.{Ranking}
 use Rattle.iol_cache.specs.Marks.{Marks, AreWithin}
 use Rattle.iol_cache.specs.Reading.{parts_from, parts_of_spans, all_entered, AllBeginAt, AreAbsent}
-use Rattle.iol_cache.proofs.Entering.{marks_nothing, marks_then, parts-take_more, few_left, order_lower, absent_after}
+use Rattle.iol_cache.proofs.Evictions.Entering.{marks_nothing, marks_then, parts-take_more, few_left, order_lower, absent_after}
 use Rattle.iol_cache.proofs.ranking.enter_all.Goals as goal
 
 abbrev none : Span

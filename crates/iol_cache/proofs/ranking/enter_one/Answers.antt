@@ -3,8 +3,8 @@ use Rattle.iol_hold.specs.Places.{byte_len}
 use Rattle.iol_hold.specs.declared.slices.Slice.{Slice}
 use Rattle.iol_evict.specs.Ranking.{entered}
 use Rattle.iol_cache.specs.Marks.{Marks, AreWithin, HasMarksLeft}
-use Rattle.iol_cache.proofs.Ranked.{entry_absent}
-use Rattle.iol_cache.proofs.Entering.{begin_is, begin_not, begin_some}
+use Rattle.iol_cache.proofs.Evictions.Ranked.{entry_absent}
+use Rattle.iol_cache.proofs.Evictions.Entering.{begin_is, begin_not, begin_some}
 use Rattle.iol_cache.proofs.ranking.enter_one.Goals as goal
 
 pub returns-in_default-clause-order : goal.returns-in_default-clause-order

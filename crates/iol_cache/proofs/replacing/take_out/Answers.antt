@@ -6,9 +6,9 @@ use Rattle.iol_hold.specs.Texts.{AllReadable, bufs_of}
 use Rattle.iol_hold.specs.declared.slices.Slice.{Slice}
 use Rattle.iol_cache.specs.Cached.{parts_in, all_parts}
 use Rattle.iol_cache.specs.Marks.{AreWithin}
-use Rattle.iol_cache.proofs.Evicted.{given_is}
-use Rattle.iol_cache.proofs.Replaced.{covers_part, moves_part, readable_part}
-use Rattle.iol_cache.proofs.Using.{are_within}
+use Rattle.iol_cache.proofs.Evictions.Evicted.{given_is}
+use Rattle.iol_cache.proofs.Writes.Replaced.{covers_part, moves_part, readable_part}
+use Rattle.iol_cache.proofs.Extents.Using.{are_within}
 use Rattle.iol_cache.proofs.replacing.take_out.Goals as goal
 
 pub forget-requires-clause-within : goal.forget-requires-clause-within

@@ -9,8 +9,8 @@ use Rattle.iol_hold.specs.Places.{byte_len, places}
 use Rattle.iol_hold.specs.declared.slices.Slice.{Slice}
 use Rattle.iol_cache.specs.Cached.{all_parts}
 use Rattle.iol_cache.specs.Sharing.{IsCoveredSpan, places_of_spans, places_over}
-use Rattle.iol_cache.proofs.Filled.{order_drop, order_take, span_next}
-use Rattle.iol_cache.proofs.Shared.{held_beside, length-places_over, readable_of, readable_same, settles_shares, spans_long, spans_more, spans_there}
+use Rattle.iol_cache.proofs.Reads.Filled.{order_drop, order_take, span_next}
+use Rattle.iol_cache.proofs.Reads.Shared.{held_beside, length-places_over, readable_of, readable_same, settles_shares, spans_long, spans_more, spans_there}
 use Rattle.iol_cache.proofs.sharing.share_spans.Goals as goal
 
 abbrev no_span : Span

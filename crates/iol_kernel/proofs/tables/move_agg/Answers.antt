@@ -2,7 +2,7 @@ use Rattle.std.proofs.Common.{List, ap, ◌∙◌, arith}
 use Rattle.iol_core.specs.State.{Domain}
 use Rattle.iol_hold.specs.declared.slices.Slice.{Slice}
 use Rattle.iol_desc.specs.Tables.{domains_of, domain_in, without_agg_in}
-use Rattle.iol_kernel.proofs.Gifts.{left_live, left_next}
+use Rattle.iol_kernel.proofs.AggregateCalls.Gifts.{left_live, left_next}
 use Rattle.iol_kernel.proofs.tables.move_agg.Goals as goal
 
 pub add_agg-requires-clause-live : goal.add_agg-requires-clause-live

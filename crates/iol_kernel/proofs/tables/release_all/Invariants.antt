@@ -3,7 +3,7 @@ use Rattle.iol_hold.specs.Moves.{Moves, SameLists}
 use Rattle.iol_hold.specs.Releases.{FreesOnly}
 use Rattle.iol_hold.specs.Stored.{AllSettled}
 use Rattle.iol_kernel.specs.Counted.{bufs_in}
-use Rattle.iol_kernel.proofs.GivenUp.{AreReadable}
+use Rattle.iol_kernel.proofs.AggregateCalls.GivenUp.{AreReadable}
 use Rattle.iol_kernel.proofs.tables.release_all.Given as goal
 
 abbrev pub invariant-loop-agg : goal.invariant-loop-agg

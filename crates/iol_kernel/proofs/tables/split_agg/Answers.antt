@@ -7,8 +7,8 @@ use Rattle.iol_core.specs.State.{Domain}
 use Rattle.iol_desc.specs.Tables.{domains_of, domain_in, with_domain_in}
 use Rattle.iol_kernel.specs.KernelState.{slices_in}
 use Rattle.iol_kernel.specs.Regrouped.{with_two}
-use Rattle.iol_kernel.proofs.Exchanging.{taken_out, split_table, put_back}
-use Rattle.iol_kernel.proofs.Slices.{slices_found}
+use Rattle.iol_kernel.proofs.AggregateCalls.Exchanging.{taken_out, split_table, put_back}
+use Rattle.iol_kernel.proofs.AggregateCalls.Slices.{slices_found}
 use Rattle.iol_kernel.proofs.tables.split_agg.Goals as goal
 
 pub returns-in-Ok-clause-split : goal.returns-in-Ok-clause-split

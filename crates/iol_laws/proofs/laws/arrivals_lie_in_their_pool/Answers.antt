@@ -1,4 +1,4 @@
-use Rattle.iol_laws.proofs.Labels.{home_new, home_step, home_reached, home_each, home_reads, home_copies}
+use Rattle.iol_laws.proofs.Streams.Labels.{home_new, home_step, home_reached, home_each, home_reads, home_copies}
 use Rattle.iol_laws.proofs.laws.arrivals_lie_in_their_pool.Goals as goal
 
 pub returns : goal.returns

@@ -1,7 +1,7 @@
 use Rattle.std.proofs.Common.{◌≡◌, ℕ, ap}
 use Rattle.iol_core.specs.State.{State}
 use Rattle.iol_core.specs.declared.events.Reply.TheVariants as reply
-use Rattle.iol_laws.proofs.NextNumber.{next_step}
+use Rattle.iol_laws.proofs.Streams.NextNumber.{next_step}
 use Rattle.iol_laws.proofs.laws.connection_numbers_rise.Goals as goal
 
 number : (a b : ℕ) → reply.Conn a ≡ reply.Conn b → a ≡ b

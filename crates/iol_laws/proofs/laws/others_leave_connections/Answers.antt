@@ -1,5 +1,5 @@
-use Rattle.iol_laws.proofs.OtherCalls.{other_conn, other_waiting, other_accepted}
-use Rattle.iol_laws.proofs.Outside.{does_connect, does_arrive, does_transmit, does_peer_closed}
+use Rattle.iol_laws.proofs.Streams.OtherCalls.{other_conn, other_waiting, other_accepted}
+use Rattle.iol_laws.proofs.Streams.Outside.{does_connect, does_arrive, does_transmit, does_peer_closed}
 use Rattle.iol_laws.proofs.laws.others_leave_connections.Goals as goal
 
 pub returns : goal.returns

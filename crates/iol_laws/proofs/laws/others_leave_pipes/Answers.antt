@@ -1,4 +1,4 @@
-use Rattle.iol_laws.proofs.OtherPipes.{others_pipe, others_unread, others_written}
+use Rattle.iol_laws.proofs.Streams.OtherPipes.{others_pipe, others_unread, others_written}
 use Rattle.iol_laws.proofs.laws.others_leave_pipes.Goals as goal
 
 pub returns : goal.returns

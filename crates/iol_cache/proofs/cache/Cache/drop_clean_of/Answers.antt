@@ -1,9 +1,9 @@
 use Rattle.std.proofs.Common.{◌∙◌, None, refl}
 use Rattle.iol_cache.specs.Cache.{cached_of, holding}
 use Rattle.iol_cache.specs.Evicting.{in_use}
-use Rattle.iol_cache.proofs.GivenUp.{gives_up_none, gives_up_more}
-use Rattle.iol_cache.proofs.Passed.{passed_pool, passed_least}
-use Rattle.iol_cache.proofs.Choosing.{victim_clean, evicts_fewer, none_evicted, one_more, evicts_others, evicts_len}
+use Rattle.iol_cache.proofs.Evictions.GivenUp.{gives_up_none, gives_up_more}
+use Rattle.iol_cache.proofs.Evictions.Passed.{passed_pool, passed_least}
+use Rattle.iol_cache.proofs.Evictions.Choosing.{victim_clean, evicts_fewer, none_evicted, one_more, evicts_others, evicts_len}
 use Rattle.iol_cache.proofs.cache.Cache.drop_clean_of.Goals as goal
 
 pub loop-place-init : goal.loop-place-init

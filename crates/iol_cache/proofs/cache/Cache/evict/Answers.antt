@@ -11,11 +11,11 @@ use Rattle.iol_cache.specs.Cached.{Cached, file_in, order_in, extents_in, parts_
 use Rattle.iol_cache.specs.Cache.{cached_of, holding}
 use Rattle.iol_cache.specs.Sound.{IsSound, IsLaid}
 use Rattle.iol_cache.specs.Evicting.{IsCleanAt}
-use Rattle.iol_cache.proofs.Filing.{file_at_number, order_at_number, numbered_bounds, numbered_yes, additive_page, each-begins}
-use Rattle.iol_cache.proofs.Using.{clean_numbered, are_within, covers_at, sum-clean_at}
-use Rattle.iol_cache.proofs.Ranked.{clean_ranked, entry_there}
-use Rattle.iol_cache.proofs.Evicted.{given_is, begins_in, files_are, orders_are, sound_evicted}
-use Rattle.iol_cache.proofs.Passed.{passed_evicted}
+use Rattle.iol_cache.proofs.Extents.Filing.{file_at_number, order_at_number, numbered_bounds, numbered_yes, additive_page, each-begins}
+use Rattle.iol_cache.proofs.Extents.Using.{clean_numbered, are_within, covers_at, sum-clean_at}
+use Rattle.iol_cache.proofs.Evictions.Ranked.{clean_ranked, entry_there}
+use Rattle.iol_cache.proofs.Evictions.Evicted.{given_is, begins_in, files_are, orders_are, sound_evicted}
+use Rattle.iol_cache.proofs.Evictions.Passed.{passed_evicted}
 use Rattle.iol_cache.proofs.cache.Cache.evict.Goals as goal
 
 ordered_pool : (s : Stored) (c : Cached) (f at : ℕ) → IsSound s c → IsCleanAt c.files f at → (0 < (file_in c.files f).pool) × ((file_in c.files f).pool ≤ length c.orders)

@@ -5,11 +5,11 @@ use Rattle.iol_hold.proofs.Rooms.{open_numbered}
 use Rattle.iol_cache.specs.Cached.{clean_held}
 use Rattle.iol_cache.specs.Cache.{cached_of, holding}
 use Rattle.iol_cache.specs.Evicting.{in_use}
-use Rattle.iol_cache.proofs.Rooming.{room_at_most, no_room_left, same_pages}
-use Rattle.iol_cache.proofs.NoneLeft.{none_beside}
-use Rattle.iol_cache.proofs.GivenUp.{gives_up_none, gives_up_more}
-use Rattle.iol_cache.proofs.Passed.{passed_pool, passed_least}
-use Rattle.iol_cache.proofs.Choosing.{victim_clean, evicts_fewer, none_evicted, one_more}
+use Rattle.iol_cache.proofs.Evictions.Rooming.{room_at_most, no_room_left, same_pages}
+use Rattle.iol_cache.proofs.Evictions.NoneLeft.{none_beside}
+use Rattle.iol_cache.proofs.Evictions.GivenUp.{gives_up_none, gives_up_more}
+use Rattle.iol_cache.proofs.Evictions.Passed.{passed_pool, passed_least}
+use Rattle.iol_cache.proofs.Evictions.Choosing.{victim_clean, evicts_fewer, none_evicted, one_more}
 use Rattle.iol_cache.proofs.cache.Cache.evict_for.Goals as goal
 
 pub free_count-requires : goal.free_count-requires

@@ -1,5 +1,5 @@
 use Rattle.iol_cache.specs.Cache.{cached_of}
-use Rattle.iol_cache.proofs.Lengths.{end_is}
+use Rattle.iol_cache.proofs.Extents.Lengths.{end_is}
 use Rattle.iol_cache.proofs.cache.Cache.file_length.Goals as goal
 
 pub returns-clause-length : goal.returns-clause-length

@@ -23,15 +23,15 @@ use Rattle.iol_cache.specs.Loading.{PlacesSome}
 use Rattle.iol_cache.specs.Reading.{SameButRoom, FillsRange, AllBeginAt, AllWithin, AreAbsent, all_entered, parts_of_spans}
 use Rattle.iol_cache.specs.Sharing.{CountsBelow}
 use Rattle.iol_cache.specs.Sound.{IsSound}
-use Rattle.iol_cache.proofs.Filing.{file_at_number, file_set, order_at_number, order_set, numbered_bounds}
-use Rattle.iol_cache.proofs.Using.{covers_file}
-use Rattle.iol_cache.proofs.Undone.{none_gaps}
-use Rattle.iol_cache.proofs.Filled.{order_wide}
-use Rattle.iol_cache.proofs.Putting.{begins_made, zip_begins, absent_gaps}
-use Rattle.iol_cache.proofs.Ranged.{laid_readable, range_held, made_len}
-use Rattle.iol_cache.proofs.Roomy.{ranks_file, same_room, sound_same}
-use Rattle.iol_cache.proofs.Stepping.{sound_to, all_within, page_len, mark_few}
-use Rattle.iol_cache.proofs.Completed.{sound_filled}
+use Rattle.iol_cache.proofs.Extents.Filing.{file_at_number, file_set, order_at_number, order_set, numbered_bounds}
+use Rattle.iol_cache.proofs.Extents.Using.{covers_file}
+use Rattle.iol_cache.proofs.Reads.Undone.{none_gaps}
+use Rattle.iol_cache.proofs.Reads.Filled.{order_wide}
+use Rattle.iol_cache.proofs.Reads.Putting.{begins_made, zip_begins, absent_gaps}
+use Rattle.iol_cache.proofs.Reads.Ranged.{laid_readable, range_held, made_len}
+use Rattle.iol_cache.proofs.Evictions.Roomy.{ranks_file, same_room, sound_same}
+use Rattle.iol_cache.proofs.Extents.Stepping.{sound_to, all_within, page_len, mark_few}
+use Rattle.iol_cache.proofs.Reads.Completed.{sound_filled}
 use Rattle.iol_cache.proofs.cache.Cache.fill.Goals as goal
 
 -- What was made of a range of the file.

@@ -13,8 +13,8 @@ use Rattle.iol_cache.specs.Evicting.{EvictsAll, GivesUp, Holding}
 use Rattle.iol_cache.specs.Overwriting.{LeavesAll, MakesRoom}
 use Rattle.iol_cache.specs.Pinned.{pinned_beside}
 use Rattle.iol_cache.specs.Reading.{SameButRoom}
-use Rattle.iol_cache.proofs.Filing.{file_at_number, numbered_bounds}
-use Rattle.iol_cache.proofs.Roomy.{sound_same}
+use Rattle.iol_cache.proofs.Extents.Filing.{file_at_number, numbered_bounds}
+use Rattle.iol_cache.proofs.Evictions.Roomy.{sound_same}
 use Rattle.iol_cache.proofs.cache.Cache.make_place.Goals as goal
 
 module _ (s : Stored) (source : List Slice) (fs : List CachedFile) (f n : ℕ) (x : CachedFile) (is : x ≡ file_in fs f) (pages : n ≡ copied_pages x.pool source) where

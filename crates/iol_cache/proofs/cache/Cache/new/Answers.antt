@@ -1,4 +1,4 @@
-use Rattle.iol_cache.proofs.Adding.{sound_new}
+use Rattle.iol_cache.proofs.Extents.Adding.{sound_new}
 use Rattle.iol_cache.proofs.cache.Cache.new.Goals as goal
 
 pub returns-clause-sound : goal.returns-clause-sound

@@ -10,12 +10,12 @@ use Rattle.iol_cache.specs.Cache.{cached_of}
 use Rattle.iol_cache.specs.Going.{CountsHits}
 use Rattle.iol_cache.specs.Sound.{IsSound}
 use Rattle.iol_cache.specs.Weaving.{IsCoveredBeside, places_beside}
-use Rattle.iol_cache.proofs.Filing.{file_at_number, numbered_bounds}
-use Rattle.iol_cache.proofs.Roomy.{sound_same, sound_hits}
-use Rattle.iol_cache.proofs.Stepping.{sound_on, sound_to}
-use Rattle.iol_cache.proofs.Steps.{hits_entries_left, numbered_same}
-use Rattle.iol_cache.proofs.Tiled.{tile_beside}
-use Rattle.iol_cache.proofs.Woven.{still_covers}
+use Rattle.iol_cache.proofs.Extents.Filing.{file_at_number, numbered_bounds}
+use Rattle.iol_cache.proofs.Evictions.Roomy.{sound_same, sound_hits}
+use Rattle.iol_cache.proofs.Extents.Stepping.{sound_on, sound_to}
+use Rattle.iol_cache.proofs.Extents.Steps.{hits_entries_left, numbered_same}
+use Rattle.iol_cache.proofs.Reads.Tiled.{tile_beside}
+use Rattle.iol_cache.proofs.Reads.Woven.{still_covers}
 use Rattle.iol_cache.proofs.cache.Cache.pin.Goals as goal
 
 pub share_hits-requires-clause-covered : goal.share_hits-requires-clause-covered

@@ -5,8 +5,8 @@ use Rattle.iol_cache.specs.declared.files.CachedFile.{CachedFile}
 use Rattle.iol_cache.specs.Reading.{SameButRoom}
 use Rattle.iol_cache.specs.Cached.{Cached, file_in, with_file, order_in, with_order}
 use Rattle.iol_cache.specs.Cache.{cached_of}
-use Rattle.iol_cache.proofs.Filing.{file_at_number, file_set, file_same, order_at_number, order_set, order_same, numbered_bounds, length-with_order}
-use Rattle.iol_cache.proofs.Roomy.{same_room, order_room, order_kept, order_low}
+use Rattle.iol_cache.proofs.Extents.Filing.{file_at_number, file_set, file_same, order_at_number, order_set, order_same, numbered_bounds, length-with_order}
+use Rattle.iol_cache.proofs.Evictions.Roomy.{same_room, order_room, order_kept, order_low}
 use Rattle.iol_cache.proofs.cache.Cache.reserve_places.Goals as goal
 
 set_files : (fs : List CachedFile) (f n : ℕ) (x : CachedFile) → n ≡ f → 0 < f → set fs (n - 1) x ≡ with_file fs f x

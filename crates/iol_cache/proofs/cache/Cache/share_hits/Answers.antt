@@ -8,10 +8,10 @@ use Rattle.iol_cache.specs.Cached.{file_in, extents_in, order_in, all_parts}
 use Rattle.iol_cache.specs.Cache.{cached_of}
 use Rattle.iol_cache.specs.Reading.{RanksFile, hits_counted}
 use Rattle.iol_cache.specs.Weaving.{IsCoveredBeside, places_beside}
-use Rattle.iol_cache.proofs.Filing.{file_at_number, order_at_number, order_set, numbered_bounds}
-use Rattle.iol_cache.proofs.Using.{covers_file}
-use Rattle.iol_cache.proofs.Ranged.{laid_readable}
-use Rattle.iol_cache.proofs.Roomy.{ranks_file}
+use Rattle.iol_cache.proofs.Extents.Filing.{file_at_number, order_at_number, order_set, numbered_bounds}
+use Rattle.iol_cache.proofs.Extents.Using.{covers_file}
+use Rattle.iol_cache.proofs.Reads.Ranged.{laid_readable}
+use Rattle.iol_cache.proofs.Evictions.Roomy.{ranks_file}
 use Rattle.iol_cache.proofs.cache.Cache.share_hits.Goals as goal
 
 pub share_beside-requires-clause-apart : goal.share_beside-requires-clause-apart

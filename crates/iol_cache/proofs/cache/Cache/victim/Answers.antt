@@ -9,9 +9,9 @@ use Rattle.iol_cache.specs.Cached.{Cached, order_in, entries_at}
 use Rattle.iol_cache.specs.Cache.{cached_of}
 use Rattle.iol_cache.specs.Evicting.{in_use, IsCleanAt}
 use Rattle.iol_cache.specs.Sound.{IsSound, IsUsable}
-use Rattle.iol_cache.proofs.Filing.{order_nowhere, order_at_number}
-use Rattle.iol_cache.proofs.Ranked.{entry_counts, ranked_clean}
-use Rattle.iol_cache.proofs.Evicted.{usable_of}
+use Rattle.iol_cache.proofs.Extents.Filing.{order_nowhere, order_at_number}
+use Rattle.iol_cache.proofs.Evictions.Ranked.{entry_counts, ranked_clean}
+use Rattle.iol_cache.proofs.Evictions.Evicted.{usable_of}
 use Rattle.iol_cache.proofs.cache.Cache.victim.Goals as goal
 
 pub returns-then-number-eq0-clause-first : goal.returns-then-number-eq0-clause-first

@@ -1,7 +1,7 @@
 use Rattle.std.proofs.Common.{arith, ap, ◌∙◌, ◌+◌, sym, subst, length, ℕ, List, get_or, set}
 use Rattle.iol_core.specs.declared.numbers.BufId.{BufId}
 use Rattle.iol_cache.specs.Marks.{HasMarksLeft}
-use Rattle.iol_cache.proofs.Marking.{within_at, mark_more, few_at, marks_none}
+use Rattle.iol_cache.proofs.Evictions.Marking.{within_at, mark_more, few_at, marks_none}
 use Rattle.iol_cache.proofs.marks.CleanHolds.mark.Goals as goal
 
 pub loop-slice-init : goal.loop-slice-init

@@ -2,8 +2,8 @@ use Rattle.std.proofs.Common.{◌-◌, ap, sym, ◌∙◌, arith, get_or, subst}
 use Rattle.iol_hold.specs.Moves.{Covers}
 use Rattle.iol_hold.specs.Texts.{bufs_of}
 use Rattle.iol_extent.specs.Extents.{Extent}
-use Rattle.iol_cache.proofs.Filing.{file_at_number}
-use Rattle.iol_cache.proofs.Using.{clean_numbered, found_is, not_found, used_is, are_within, covers_at}
+use Rattle.iol_cache.proofs.Extents.Filing.{file_at_number}
+use Rattle.iol_cache.proofs.Extents.Using.{clean_numbered, found_is, not_found, used_is, are_within, covers_at}
 use Rattle.iol_cache.proofs.users.UsersInUse.is_in_use.Goals as goal
 
 pub overflow_sub-number : goal.overflow_sub-number

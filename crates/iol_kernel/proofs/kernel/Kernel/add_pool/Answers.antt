@@ -1,7 +1,7 @@
 use Rattle.std.proofs.Common.{◌∙◌, ◌+◌, ◌<◌, ap, sym, subst, rules}
 use Rattle.iol_kernel.specs.Kernel.{state_of}
-use Rattle.iol_kernel.proofs.Effects.{pooled}
-use Rattle.iol_kernel.proofs.ReadOf.{length_pools-read_of}
+use Rattle.iol_kernel.proofs.State.Effects.{pooled}
+use Rattle.iol_kernel.proofs.State.ReadOf.{length_pools-read_of}
 use Rattle.iol_kernel.proofs.kernel.Kernel.add_pool.Goals as goal
 
 pub create_pool-requires : goal.create_pool-requires

@@ -6,8 +6,8 @@ use Rattle.iol_core.specs.State.{State}
 use Rattle.iol_hold.specs.Stored.{Stored}
 use Rattle.iol_kernel.specs.Kernel.{state_of}
 use Rattle.iol_kernel.specs.Calls.{Leaves}
-use Rattle.iol_kernel.proofs.Admitting.{admitted}
-use Rattle.iol_kernel.proofs.ReadOf.{is_pool-read_of, list-read_of}
+use Rattle.iol_kernel.proofs.State.Admitting.{admitted}
+use Rattle.iol_kernel.proofs.State.ReadOf.{is_pool-read_of, list-read_of}
 use Rattle.iol_kernel.proofs.kernel.Kernel.add_reader.Goals as goal
 
 pub admit-requires-clause-there : goal.admit-requires-clause-there

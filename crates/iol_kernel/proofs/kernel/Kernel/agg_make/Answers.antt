@@ -4,7 +4,7 @@ use Rattle.iol_core.specs.Calls.Aggregates.{agg_make, default_pool, with_agg}
 use Rattle.iol_core.specs.declared.refusals.Refusal.{Refusal}
 use Rattle.iol_kernel.specs.Kernel.{state_of, machine}
 use Rattle.iol_kernel.specs.MakingRoom.{Places}
-use Rattle.iol_kernel.proofs.AfterRoom.{places_refused}
+use Rattle.iol_kernel.proofs.State.AfterRoom.{places_refused}
 use Rattle.iol_kernel.proofs.kernel.Kernel.agg_make.Goals as goal
 
 pub returns-in_err-pool : goal.returns-in_err-pool

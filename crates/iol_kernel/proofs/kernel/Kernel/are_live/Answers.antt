@@ -3,7 +3,7 @@ use Rattle.std.specs.Prelude.{◌&&◌}
 use Rattle.iol_core.specs.State.{is_live}
 use Rattle.std.specs.List.{list_all}
 use Rattle.iol_kernel.specs.Kernel.{state_of, as_read}
-use Rattle.iol_kernel.proofs.ReadOf.{all_live-read_of}
+use Rattle.iol_kernel.proofs.State.ReadOf.{all_live-read_of}
 use Rattle.iol_kernel.proofs.kernel.Kernel.are_live.Goals as goal
 
 pub returns-then-is_live : goal.returns-then-is_live

@@ -7,7 +7,7 @@ use Rattle.iol_kernel.specs.Calls.{with_incoming}
 use Rattle.iol_kernel.specs.Kernel.{state_of, machine}
 use Rattle.iol_kernel.specs.KernelState.{KernelState, machine_of}
 use Rattle.iol_kernel.specs.MakingRoom.{Places}
-use Rattle.iol_kernel.proofs.AfterRoom.{places_refused}
+use Rattle.iol_kernel.proofs.State.AfterRoom.{places_refused}
 use Rattle.iol_kernel.proofs.kernel.Kernel.arrive.Goals as goal
 
 -- what the call promises, of these bytes

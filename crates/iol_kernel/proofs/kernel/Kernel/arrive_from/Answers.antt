@@ -11,7 +11,7 @@ use Rattle.iol_kernel.specs.Calls.{Arrives, Steps}
 use Rattle.iol_kernel.specs.Kernel.{state_of}
 use Rattle.iol_kernel.specs.KernelState.{machine_of}
 use Rattle.iol_kernel.specs.MakingRoom.{IsSame}
-use Rattle.iol_kernel.proofs.TakenIn.{if_ok, if_ok_both, still_there, takes_evicted, takes_most, takes_none, takes_refused, takes_room, takes_serves, takes_stays}
+use Rattle.iol_kernel.proofs.Connections.TakenIn.{if_ok, if_ok_both, still_there, takes_evicted, takes_most, takes_none, takes_refused, takes_room, takes_serves, takes_stays}
 use Rattle.iol_kernel.proofs.kernel.Kernel.arrive_from.Goals as goal
 
 pub read_in-requires-clause-there : goal.read_in-requires-clause-there

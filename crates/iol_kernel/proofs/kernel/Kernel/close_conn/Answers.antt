@@ -1,8 +1,8 @@
 use Rattle.std.proofs.Common.{ap}
 use Rattle.iol_sock.specs.Table.{ConnTable, conn_in}
 use Rattle.iol_kernel.specs.Kernel.{state_of}
-use Rattle.iol_kernel.proofs.Connecting.{conn_in-found, incoming_covered, open_conn-there}
-use Rattle.iol_kernel.proofs.Hanging.{hung_sound, hung_still, hung_left, hung_others}
+use Rattle.iol_kernel.proofs.Connections.Connecting.{conn_in-found, incoming_covered, open_conn-there}
+use Rattle.iol_kernel.proofs.Connections.Hanging.{hung_sound, hung_still, hung_left, hung_others}
 use Rattle.iol_kernel.proofs.kernel.Kernel.close_conn.Goals as goal
 
 pub close-requires-clause-there : goal.close-requires-clause-there

@@ -5,7 +5,7 @@ use Rattle.iol_kernel.specs.Kernel.{state_of}
 use Rattle.iol_kernel.specs.Calls.{Leaves}
 use Rattle.iol_kernel.specs.Ends.{all_ends_on}
 use Rattle.iol_kernel.specs.KernelState.{objects_of, IsOpenEnd}
-use Rattle.iol_kernel.proofs.ClosedEnds.{reader_closed, writer_closed}
+use Rattle.iol_kernel.proofs.Queues.ClosedEnds.{reader_closed, writer_closed}
 use Rattle.iol_kernel.proofs.kernel.Kernel.close_end.Goals as goal
 
 pub returns-in-ReadEnd-clause-closed : goal.returns-in-ReadEnd-clause-closed

@@ -6,9 +6,9 @@ use Rattle.iol_core.specs.declared.descriptors.Descriptor.{Descriptor}
 use Rattle.iol_kernel.specs.Kernel.{state_of}
 use Rattle.iol_kernel.specs.Ends.{all_ends_on}
 use Rattle.iol_kernel.specs.KernelState.{objects_of, read_of}
-use Rattle.iol_kernel.proofs.CloseAll.{pools-fold}
-use Rattle.iol_kernel.proofs.Effects.{leaves_as, leaves_then}
-use Rattle.iol_kernel.proofs.TakenEnds.{first_alone, later_taken}
+use Rattle.iol_kernel.proofs.Queues.CloseAll.{pools-fold}
+use Rattle.iol_kernel.proofs.State.Effects.{leaves_as, leaves_then}
+use Rattle.iol_kernel.proofs.Queues.TakenEnds.{first_alone, later_taken}
 use Rattle.iol_kernel.proofs.kernel.Kernel.close_ends.Goals as goal
 
 pub close_end-requires-clause-free : goal.close_end-requires-clause-free

@@ -6,10 +6,10 @@ use Rattle.iol_core.specs.declared.descriptors.Descriptor.{Descriptor}
 use Rattle.iol_desc.specs.Tables.{domains_of, domain_in}
 use Rattle.iol_kernel.specs.Kernel.{state_of}
 use Rattle.iol_kernel.specs.KernelState.{read_of}
-use Rattle.iol_kernel.proofs.CloseAll.{closed_on-with_fds, pools-with_domain}
-use Rattle.iol_kernel.proofs.Effects.{fds-changed, leaves_here, leaves_then, leaves_as}
-use Rattle.iol_kernel.proofs.Opening.{end_held, not_none, freed-alone, freed-read_of, freed-sound}
-use Rattle.iol_kernel.proofs.ReadOf.{live_held, descriptor-read_of}
+use Rattle.iol_kernel.proofs.Queues.CloseAll.{closed_on-with_fds, pools-with_domain}
+use Rattle.iol_kernel.proofs.State.Effects.{fds-changed, leaves_here, leaves_then, leaves_as}
+use Rattle.iol_kernel.proofs.Queues.Opening.{end_held, not_none, freed-alone, freed-read_of, freed-sound}
+use Rattle.iol_kernel.proofs.State.ReadOf.{live_held, descriptor-read_of}
 use Rattle.iol_kernel.proofs.kernel.Kernel.close_fd.Goals as goal
 
 pub take_fd-requires-clause-there : goal.take_fd-requires-clause-there

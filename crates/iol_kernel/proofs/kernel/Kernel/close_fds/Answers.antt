@@ -6,10 +6,10 @@ use Rattle.iol_core.specs.declared.descriptors.Descriptor.{Descriptor}
 use Rattle.iol_desc.specs.Tables.{domains_of}
 use Rattle.iol_kernel.specs.KernelState.{read_of}
 use Rattle.iol_kernel.specs.Kernel.{state_of}
-use Rattle.iol_kernel.proofs.CloseAll.{pools-with_domain}
-use Rattle.iol_kernel.proofs.Effects.{fds-changed, leaves_here, leaves_then, leaves_as}
-use Rattle.iol_kernel.proofs.ReadOf.{live_held, fds-read_of}
-use Rattle.iol_kernel.proofs.TakenEnds.{taken-sound, taken_ends}
+use Rattle.iol_kernel.proofs.Queues.CloseAll.{pools-with_domain}
+use Rattle.iol_kernel.proofs.State.Effects.{fds-changed, leaves_here, leaves_then, leaves_as}
+use Rattle.iol_kernel.proofs.State.ReadOf.{live_held, fds-read_of}
+use Rattle.iol_kernel.proofs.Queues.TakenEnds.{taken-sound, taken_ends}
 use Rattle.iol_kernel.proofs.kernel.Kernel.close_fds.Goals as goal
 
 pub close_ends-requires-clause-sound : goal.close_ends-requires-clause-sound

@@ -8,10 +8,10 @@ use Rattle.iol_kernel.specs.FileReading.{file_read}
 use Rattle.iol_kernel.specs.Kernel.{state_of}
 use Rattle.iol_kernel.specs.KernelState.{machine_of}
 use Rattle.iol_kernel.specs.Readings.{bytes_over}
-use Rattle.iol_kernel.proofs.FileCopies.{frees_here}
-use Rattle.iol_kernel.proofs.FileServed.{reads_nothing}
-use Rattle.iol_kernel.proofs.FileTests.{read-left, read-wrong, refuses_read}
-use Rattle.iol_kernel.proofs.Opening.{end_held}
+use Rattle.iol_kernel.proofs.FileCalls.FileCopies.{frees_here}
+use Rattle.iol_kernel.proofs.FileCalls.FileServed.{reads_nothing}
+use Rattle.iol_kernel.proofs.FileCalls.FileTests.{read-left, read-wrong, refuses_read}
+use Rattle.iol_kernel.proofs.Queues.Opening.{end_held}
 use Rattle.iol_kernel.proofs.kernel.Kernel.copy_file.Goals as goal
 
 pub returns-then-not-may_be_read-clause-serves : goal.returns-then-not-may_be_read-clause-serves

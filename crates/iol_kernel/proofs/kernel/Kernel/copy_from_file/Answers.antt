@@ -12,18 +12,18 @@ use Rattle.iol_hold.proofs.Reading.{length-text_of}
 use Rattle.iol_desc.specs.Tables.{domains_of}
 use Rattle.iol_cache.specs.Cache.{cached_of}
 use Rattle.iol_cache.specs.Serving.{NoRoomToRead, RoomToRead}
-use Rattle.iol_cache.proofs.Served.{tells_more}
+use Rattle.iol_cache.proofs.Reads.Served.{tells_more}
 use Rattle.iol_kernel.specs.Backed.{Serves, holding_of}
 use Rattle.iol_kernel.specs.FileReading.{CopiesFileAs, file_read, moved_on, pool_read}
 use Rattle.iol_kernel.specs.Kernel.{state_of}
 use Rattle.iol_kernel.specs.Readings.{bytes_over}
-use Rattle.iol_kernel.proofs.FileCopies.{copied_as, covers_read, frees_here}
-use Rattle.iol_kernel.proofs.FileReads.{numbered_here, position_short, refused_read, untouched_read}
-use Rattle.iol_kernel.proofs.FileServed.{copies_nothing, counts_few, gives_copy, read_fits, reads_done, reads_refused}
-use Rattle.iol_kernel.proofs.Named.{cache_sound}
-use Rattle.iol_kernel.proofs.ReadOf.{descriptor-read_of, live_held}
-use Rattle.iol_kernel.proofs.Refilled.{over}
-use Rattle.iol_kernel.proofs.Shortened.{bytes_more, lacks_more, reads_more, refuses_more, room_more}
+use Rattle.iol_kernel.proofs.FileCalls.FileCopies.{copied_as, covers_read, frees_here}
+use Rattle.iol_kernel.proofs.FileCalls.FileReads.{numbered_here, position_short, refused_read, untouched_read}
+use Rattle.iol_kernel.proofs.FileCalls.FileServed.{copies_nothing, counts_few, gives_copy, read_fits, reads_done, reads_refused}
+use Rattle.iol_kernel.proofs.FileCalls.Named.{cache_sound}
+use Rattle.iol_kernel.proofs.State.ReadOf.{descriptor-read_of, live_held}
+use Rattle.iol_kernel.proofs.FileCalls.Refilled.{over}
+use Rattle.iol_kernel.proofs.FileCalls.Shortened.{bytes_more, lacks_more, reads_more, refuses_more, room_more}
 use Rattle.iol_kernel.proofs.kernel.Kernel.copy_from_file.Goals as goal
 
 pub readable-most-requires-clause-there : goal.readable-most-requires-clause-there

@@ -3,7 +3,7 @@ use Rattle.std.proofs.lemmas.List.{take_at}
 use Rattle.iol_core.specs.Calls.Reading.{read}
 use Rattle.iol_kernel.specs.Kernel.{state_of}
 use Rattle.iol_kernel.specs.KernelState.{machine_of}
-use Rattle.iol_kernel.proofs.Listing.{front_is, listed, on_no_file, read_refused, read_unlisted}
+use Rattle.iol_kernel.proofs.Queues.Listing.{front_is, listed, on_no_file, read_refused, read_unlisted}
 use Rattle.iol_kernel.proofs.kernel.Kernel.copy_queue.Goals as goal
 
 pub returns-in_err-most : goal.returns-in_err-most

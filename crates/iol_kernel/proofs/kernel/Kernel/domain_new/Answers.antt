@@ -1,8 +1,8 @@
 use Rattle.std.proofs.Common.{rules, refl}
 use Rattle.iol_desc.specs.Tables.{domains_of}
 use Rattle.iol_kernel.specs.Kernel.{state_of}
-use Rattle.iol_kernel.proofs.Effects.{grown-read, grown-sound}
-use Rattle.iol_kernel.proofs.Stay.{stays_here}
+use Rattle.iol_kernel.proofs.State.Effects.{grown-read, grown-sound}
+use Rattle.iol_kernel.proofs.State.Stay.{stays_here}
 use Rattle.iol_kernel.proofs.kernel.Kernel.domain_new.Goals as goal
 
 pub returns : goal.returns

@@ -2,13 +2,13 @@ use Rattle.std.proofs.Common.{Ok, refl}
 use Rattle.iol_core.specs.Calls.Outside as outside
 use Rattle.iol_cache.specs.Cache.{cached_of}
 use Rattle.iol_cache.specs.Evicting.{Holding}
-use Rattle.iol_cache.proofs.Paging.{given_up_pages}
+use Rattle.iol_cache.proofs.Reads.Paging.{given_up_pages}
 use Rattle.iol_kernel.specs.Backed.{holding_of}
 use Rattle.iol_kernel.specs.Kernel.{state_of}
-use Rattle.iol_kernel.proofs.Kept.{drop_keeps}
-use Rattle.iol_kernel.proofs.Named.{cache_sound}
-use Rattle.iol_kernel.proofs.PutBeside.{files_apart}
-use Rattle.iol_kernel.proofs.WrittenBack.{given_serves}
+use Rattle.iol_kernel.proofs.FileCalls.Kept.{drop_keeps}
+use Rattle.iol_kernel.proofs.FileCalls.Named.{cache_sound}
+use Rattle.iol_kernel.proofs.FileCalls.PutBeside.{files_apart}
+use Rattle.iol_kernel.proofs.FileCalls.WrittenBack.{given_serves}
 use Rattle.iol_kernel.proofs.kernel.Kernel.drop_clean.Goals as goal
 
 pub drop_clean-requires : goal.drop_clean-requires

@@ -8,11 +8,11 @@ use Rattle.iol_hold.specs.declared.slices.Slice.{Slice}
 use Rattle.iol_desc.specs.Tables.{domains_of, domain_in, with_aggs_in, with_fds_in}
 use Rattle.iol_kernel.specs.KernelState.{KernelState, read_of}
 use Rattle.iol_kernel.specs.Kernel.{state_of}
-use Rattle.iol_kernel.proofs.Effects.{leaves_as, leaves_then, dropped}
-use Rattle.iol_kernel.proofs.ReadOf.{live_held, is_live-read_of}
-use Rattle.iol_kernel.proofs.CloseAll.{ended_all, pools-fold, pools-with_domain}
-use Rattle.iol_kernel.proofs.GivenUp.{domain_ended}
-use Rattle.iol_kernel.proofs.Rows.{domain_in-changed}
+use Rattle.iol_kernel.proofs.State.Effects.{leaves_as, leaves_then, dropped}
+use Rattle.iol_kernel.proofs.State.ReadOf.{live_held, is_live-read_of}
+use Rattle.iol_kernel.proofs.Queues.CloseAll.{ended_all, pools-fold, pools-with_domain}
+use Rattle.iol_kernel.proofs.AggregateCalls.GivenUp.{domain_ended}
+use Rattle.iol_kernel.proofs.State.Rows.{domain_in-changed}
 use Rattle.iol_kernel.proofs.kernel.Kernel.end.Goals as goal
 
 pub close_fds-requires-clause-live : goal.close_fds-requires-clause-live

@@ -2,8 +2,8 @@ use Rattle.std.proofs.Common.{[], ap}
 use Rattle.iol_sock.specs.Table.{ConnTable, conn_in}
 use Rattle.iol_kernel.specs.Kernel.{state_of}
 use Rattle.iol_kernel.specs.Readings.{bytes_over}
-use Rattle.iol_kernel.proofs.Connecting.{conn_held, conn_in-found, outgoing_covered}
-use Rattle.iol_kernel.proofs.PeerClosed.{peer_sound, peer_there, peer_left}
+use Rattle.iol_kernel.proofs.Connections.Connecting.{conn_held, conn_in-found, outgoing_covered}
+use Rattle.iol_kernel.proofs.Connections.PeerClosed.{peer_sound, peer_there, peer_left}
 use Rattle.iol_kernel.proofs.kernel.Kernel.end_peer.Goals as goal
 
 pub peer_closed-requires-clause-there : goal.peer_closed-requires-clause-there

@@ -1,8 +1,8 @@
 use Rattle.std.proofs.Common.{[], ◌∙◌, sym}
 use Rattle.iol_kernel.specs.Kernel.{state_of}
 use Rattle.iol_kernel.specs.Readings.{bytes_over}
-use Rattle.iol_kernel.proofs.Effects.{pool_closed}
-use Rattle.iol_kernel.proofs.ReadOf.{idle_held, is_pool-read_of}
+use Rattle.iol_kernel.proofs.State.Effects.{pool_closed}
+use Rattle.iol_kernel.proofs.State.ReadOf.{idle_held, is_pool-read_of}
 use Rattle.iol_kernel.proofs.kernel.Kernel.end_pool.Goals as goal
 
 pub close_pool-requires : goal.close_pool-requires

@@ -4,8 +4,8 @@ use Rattle.iol_core.specs.declared.descriptors.Descriptor.TheVariants as on
 use Rattle.iol_core.specs.declared.refusals.Refusal.TheVariants.{NoDomain, BadFd, WrongMode}
 use Rattle.iol_kernel.specs.Kernel.{state_of}
 use Rattle.iol_kernel.specs.Readings.{bytes_over}
-use Rattle.iol_kernel.proofs.Opening.{end_held}
-use Rattle.iol_kernel.proofs.Seeking.{length_refused, length_told, no_file_long}
+use Rattle.iol_kernel.proofs.Queues.Opening.{end_held}
+use Rattle.iol_kernel.proofs.FileCalls.Seeking.{length_refused, length_told, no_file_long}
 use Rattle.iol_kernel.proofs.kernel.Kernel.file_length.Goals as goal
 
 pub returns-then-not-is_live-clause-told : goal.returns-then-not-is_live-clause-told

@@ -9,7 +9,7 @@ use Rattle.iol_kernel.specs.Calls.{Names}
 use Rattle.iol_kernel.specs.Kernel.{state_of}
 use Rattle.iol_kernel.specs.KernelState.{machine_of, read_of}
 use Rattle.iol_kernel.specs.Readings.{Reading, bytes_over}
-use Rattle.iol_kernel.proofs.NewFiles.{names, next_short, refused_always, refused_memory, refused_told}
+use Rattle.iol_kernel.proofs.FileCalls.NewFiles.{names, next_short, refused_always, refused_memory, refused_told}
 use Rattle.iol_kernel.proofs.kernel.Kernel.file_new.Goals as goal
 
 pub returns-then-not-is_live : goal.returns-then-not-is_live

@@ -3,8 +3,8 @@ use Rattle.std.proofs.lemmas.List.{length-map}
 use Rattle.iol_desc.specs.Tables.{domains_of}
 use Rattle.iol_kernel.specs.Kernel.{state_of}
 use Rattle.iol_kernel.specs.Readings.{bytes_over}
-use Rattle.iol_kernel.proofs.Effects.{few_aggs, few_numbers, placed-machine, placed_alone, placed-sound}
-use Rattle.iol_kernel.proofs.ReadOf.{live_held, next_agg-read_of, closed-read_of}
+use Rattle.iol_kernel.proofs.State.Effects.{few_aggs, few_numbers, placed-machine, placed_alone, placed-sound}
+use Rattle.iol_kernel.proofs.State.ReadOf.{live_held, next_agg-read_of, closed-read_of}
 use Rattle.iol_kernel.proofs.kernel.Kernel.fill_agg.Goals as goal
 
 pub add_bytes-requires-clause-few : goal.add_bytes-requires-clause-few

@@ -3,8 +3,8 @@ use Rattle.iol_sock.specs.Table.{ConnTable, conn_in}
 use Rattle.iol_kernel.specs.Kernel.{state_of}
 use Rattle.iol_kernel.specs.Readings.{bytes_over}
 use Rattle.iol_kernel.specs.KernelState.{KernelState}
-use Rattle.iol_kernel.proofs.Arriving.{all_sound, all_step, all_made, arrive_kept, has_as_meant}
-use Rattle.iol_kernel.proofs.Connecting.{conn_held, conn_in-found, conn_open}
+use Rattle.iol_kernel.proofs.Connections.Arriving.{all_sound, all_step, all_made, arrive_kept, has_as_meant}
+use Rattle.iol_kernel.proofs.Connections.Connecting.{conn_held, conn_in-found, conn_open}
 use Rattle.iol_kernel.proofs.kernel.Kernel.fill_conn.Goals as goal
 
 pub arrive-requires-clause-there : goal.arrive-requires-clause-there

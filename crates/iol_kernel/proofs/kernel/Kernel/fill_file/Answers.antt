@@ -12,13 +12,13 @@ use Rattle.iol_cache.specs.Cached.{held}
 use Rattle.iol_kernel.specs.Kernel.{state_of}
 use Rattle.iol_kernel.specs.KernelState.{KernelState}
 use Rattle.iol_kernel.specs.Readings.{bytes_over}
-use Rattle.iol_kernel.proofs.FilledOver.{filled_covers, filled_few, filled_sound, put_pools, through, through_files, through_mirrors, through_puts, unput_pools}
-use Rattle.iol_kernel.proofs.FilledServes.{filled_len, filled_serves, held_file, held_live, held_short, unfilled_serves, unplaced_serves}
-use Rattle.iol_kernel.proofs.Opening.{end_held}
-use Rattle.iol_kernel.proofs.PutBeside.{files_apart, own_pool, put_beside, put_pages, put_released, room_alone, unput_beside}
-use Rattle.iol_kernel.proofs.Kept.{beside_same}
-use Rattle.iol_kernel.proofs.ReadOf.{closed-read_of}
-use Rattle.iol_kernel.proofs.WrittenOver.{in_cache}
+use Rattle.iol_kernel.proofs.FileCalls.FilledOver.{filled_covers, filled_few, filled_sound, put_pools, through, through_files, through_mirrors, through_puts, unput_pools}
+use Rattle.iol_kernel.proofs.FileCalls.FilledServes.{filled_len, filled_serves, held_file, held_live, held_short, unfilled_serves, unplaced_serves}
+use Rattle.iol_kernel.proofs.Queues.Opening.{end_held}
+use Rattle.iol_kernel.proofs.FileCalls.PutBeside.{files_apart, own_pool, put_beside, put_pages, put_released, room_alone, unput_beside}
+use Rattle.iol_kernel.proofs.FileCalls.Kept.{beside_same}
+use Rattle.iol_kernel.proofs.State.ReadOf.{closed-read_of}
+use Rattle.iol_kernel.proofs.FileCalls.WrittenOver.{in_cache}
 use Rattle.iol_kernel.proofs.kernel.Kernel.fill_file.Goals as goal
 
 pub fill-requires-clause-open : goal.fill-requires-clause-open

@@ -3,10 +3,10 @@ use Rattle.iol_hold.specs.Room.{has_room}
 use Rattle.iol_kernel.specs.Kernel.{state_of}
 use Rattle.iol_kernel.specs.KernelState.{KernelState}
 use Rattle.iol_kernel.specs.Readings.{bytes_over}
-use Rattle.iol_kernel.proofs.ReadOf.{closed-read_of}
+use Rattle.iol_kernel.proofs.State.ReadOf.{closed-read_of}
 use Rattle.iol_sock.specs.Table.{ConnTable, conn_in}
-use Rattle.iol_kernel.proofs.ConnQueues.{conn_there_held}
-use Rattle.iol_kernel.proofs.Written.{put_step, put_made, put_late, sends-count, sends_late, sends_sound, sends_each}
+use Rattle.iol_kernel.proofs.Connections.ConnQueues.{conn_there_held}
+use Rattle.iol_kernel.proofs.Queues.Written.{put_step, put_made, put_late, sends-count, sends_late, sends_sound, sends_each}
 use Rattle.iol_kernel.proofs.kernel.Kernel.fill_outgoing.Goals as goal
 
 pub write-requires-clause-there : goal.write-requires-clause-there

@@ -3,9 +3,9 @@ use Rattle.iol_hold.specs.Room.{has_room}
 use Rattle.iol_kernel.specs.Kernel.{state_of}
 use Rattle.iol_kernel.specs.KernelState.{KernelState, queue_at}
 use Rattle.iol_kernel.specs.Readings.{bytes_over}
-use Rattle.iol_kernel.proofs.ReadOf.{closed-read_of}
-use Rattle.iol_kernel.proofs.Queueing.{writing_held}
-use Rattle.iol_kernel.proofs.Written.{put_step, put_made, fills-count, fills_sound, fills_each}
+use Rattle.iol_kernel.proofs.State.ReadOf.{closed-read_of}
+use Rattle.iol_kernel.proofs.Queues.Queueing.{writing_held}
+use Rattle.iol_kernel.proofs.Queues.Written.{put_step, put_made, fills-count, fills_sound, fills_each}
 use Rattle.iol_kernel.proofs.kernel.Kernel.fill_pipe.Goals as goal
 
 pub fill-requires-clause-open : goal.fill-requires-clause-open

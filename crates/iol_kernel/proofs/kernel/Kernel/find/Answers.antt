@@ -1,6 +1,6 @@
 use Rattle.std.proofs.Common.{◌∙◌, sym}
 use Rattle.iol_kernel.specs.Kernel.{state_of}
-use Rattle.iol_kernel.proofs.Slices.{is_found, no_domain_missing, no_agg_missing}
+use Rattle.iol_kernel.proofs.AggregateCalls.Slices.{is_found, no_domain_missing, no_agg_missing}
 use Rattle.iol_kernel.proofs.kernel.Kernel.find.Goals as goal
 
 pub returns-then-not-live-clause-err : goal.returns-then-not-live-clause-err

@@ -1,7 +1,7 @@
 use Rattle.std.proofs.Common.{◌+◌, ◌∙◌, ℕ, List, ap}
 use Rattle.std.specs.Prelude.{bytes_eq, option_map, position}
 use Rattle.iol_kernel.specs.Kernel.{state_of}
-use Rattle.iol_kernel.proofs.Called.{file_called-read_of}
+use Rattle.iol_kernel.proofs.FileCalls.Called.{file_called-read_of}
 use Rattle.iol_kernel.proofs.kernel.Kernel.find_file.Goals as goal
 
 pub returns-clause-called : goal.returns-clause-called

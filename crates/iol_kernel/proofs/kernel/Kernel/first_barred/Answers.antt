@@ -1,6 +1,6 @@
 use Rattle.std.proofs.Common.{◌∙◌, arith, rules, sym}
 use Rattle.iol_kernel.specs.Kernel.{state_of}
-use Rattle.iol_kernel.proofs.Flowing.{first_admitted, first_denied, first_empty}
+use Rattle.iol_kernel.proofs.Queues.Flowing.{first_admitted, first_denied, first_empty}
 use Rattle.iol_kernel.proofs.kernel.Kernel.first_barred.Goals as goal
 
 pub returns-in_err-pool : goal.returns-in_err-pool

@@ -1,6 +1,6 @@
 use Rattle.std.proofs.Common.{◌∙◌, arith, rules, sym}
 use Rattle.iol_kernel.specs.Kernel.{state_of}
-use Rattle.iol_kernel.proofs.Incoming.{lacking_unread, none_unread, unread_admitted, unread_denied}
+use Rattle.iol_kernel.proofs.Connections.Incoming.{lacking_unread, none_unread, unread_admitted, unread_denied}
 use Rattle.iol_kernel.proofs.kernel.Kernel.first_unread_barred.Goals as goal
 
 pub returns-in_err-get : goal.returns-in_err-get

@@ -8,10 +8,10 @@ use Rattle.iol_kernel.specs.Backed.{Serves}
 use Rattle.iol_kernel.specs.Kernel.{state_of}
 use Rattle.iol_kernel.specs.KernelState.{KernelState}
 use Rattle.iol_kernel.specs.WritingBack.{done_of}
-use Rattle.iol_kernel.proofs.Faults.{flush_counted, flush_steps}
-use Rattle.iol_kernel.proofs.Named.{cache_sound}
-use Rattle.iol_kernel.proofs.WrittenBack.{back_serves, flush_parts}
-use Rattle.iol_kernel.proofs.WrittenOver.{counts_lower}
+use Rattle.iol_kernel.proofs.FileCalls.Faults.{flush_counted, flush_steps}
+use Rattle.iol_kernel.proofs.FileCalls.Named.{cache_sound}
+use Rattle.iol_kernel.proofs.FileCalls.WrittenBack.{back_serves, flush_parts}
+use Rattle.iol_kernel.proofs.FileCalls.WrittenOver.{counts_lower}
 use Rattle.iol_kernel.proofs.kernel.Kernel.flush.Goals as goal
 
 pub flush_one-requires-clause-sound : goal.flush_one-requires-clause-sound

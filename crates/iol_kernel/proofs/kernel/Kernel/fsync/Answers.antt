@@ -5,8 +5,8 @@ use Rattle.iol_kernel.specs.Kernel.{state_of}
 use Rattle.iol_kernel.specs.KernelState.{machine_of}
 use Rattle.iol_kernel.specs.Readings.{bytes_over}
 use Rattle.iol_kernel.specs.WritingBack.{SyncsFile}
-use Rattle.iol_kernel.proofs.Faults.{refused_sync}
-use Rattle.iol_kernel.proofs.Serving.{carried_serves}
+use Rattle.iol_kernel.proofs.FileCalls.Faults.{refused_sync}
+use Rattle.iol_kernel.proofs.State.Serving.{carried_serves}
 use Rattle.iol_kernel.proofs.kernel.Kernel.fsync.Goals as goal
 
 pub returns-in-Err-clause-serves : goal.returns-in-Err-clause-serves

@@ -1,7 +1,7 @@
 use Rattle.std.proofs.Common.{ap, rules, sym}
 use Rattle.iol_core.specs.Calls.Pools.{has_place}
 use Rattle.iol_kernel.specs.Kernel.{state_of}
-use Rattle.iol_kernel.proofs.ReadOf.{list-read_of}
+use Rattle.iol_kernel.proofs.State.ReadOf.{list-read_of}
 use Rattle.iol_kernel.proofs.kernel.Kernel.has_place.Goals as goal
 
 pub returns : goal.returns

@@ -1,6 +1,6 @@
 use Rattle.iol_core.specs.Calls.Reading as calls
 use Rattle.iol_kernel.specs.Kernel.{state_of}
-use Rattle.iol_kernel.proofs.Serving.{carried_serves}
+use Rattle.iol_kernel.proofs.State.Serving.{carried_serves}
 use Rattle.iol_kernel.proofs.kernel.Kernel.iol_read.Goals as goal
 
 pub returns-in-None-clause-serves : goal.returns-in-None-clause-serves

@@ -6,8 +6,8 @@ use Rattle.iol_kernel.specs.Readings.{bytes_over}
 use Rattle.iol_kernel.specs.WritingFiles.{WritesOn}
 use Rattle.iol_core.specs.State.{descriptor}
 use Rattle.iol_kernel.specs.KernelState.{machine_of}
-use Rattle.iol_kernel.proofs.Serving.{carried_serves}
-use Rattle.iol_kernel.proofs.WrittenOver.{queued_on, refused_on}
+use Rattle.iol_kernel.proofs.State.Serving.{carried_serves}
+use Rattle.iol_kernel.proofs.FileCalls.WrittenOver.{queued_on, refused_on}
 use Rattle.iol_kernel.proofs.kernel.Kernel.iol_write.Goals as goal
 
 pub returns-in-Err-clause-serves : goal.returns-in-Err-clause-serves

@@ -2,8 +2,8 @@ use Rattle.std.proofs.Common.{◌≡◌, ◌+◌, rules, false, arith, length}
 use Rattle.std.specs.Prelude.{min}
 use Rattle.iol_back.specs.Disk.{IfHonest, content}
 use Rattle.iol_kernel.specs.Kernel.{state_of}
-use Rattle.iol_kernel.proofs.Named.{last_not_too_long, next_too_long}
-use Rattle.iol_kernel.proofs.NewFiles.{tells_next}
+use Rattle.iol_kernel.proofs.FileCalls.Named.{last_not_too_long, next_too_long}
+use Rattle.iol_kernel.proofs.FileCalls.NewFiles.{tells_next}
 use Rattle.iol_kernel.proofs.kernel.Kernel.is_next_too_long.Goals as goal
 
 pub returns-then-count-ge-MAX_FILES-clause-honest : goal.returns-then-count-ge-MAX_FILES-clause-honest

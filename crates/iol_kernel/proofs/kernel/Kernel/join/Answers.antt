@@ -2,10 +2,10 @@ use Rattle.std.proofs.Common.{[], arith}
 use Rattle.iol_desc.specs.Tables.{domains_of}
 use Rattle.iol_kernel.specs.Kernel.{state_of}
 use Rattle.iol_kernel.specs.Readings.{bytes_over}
-use Rattle.iol_kernel.proofs.Effects.{few_numbers}
-use Rattle.iol_kernel.proofs.ReadOf.{live_held, length_text-read_of}
-use Rattle.iol_kernel.proofs.Regrouping.{join_answers}
-use Rattle.iol_kernel.proofs.Slices.{there_held}
+use Rattle.iol_kernel.proofs.State.Effects.{few_numbers}
+use Rattle.iol_kernel.proofs.State.ReadOf.{live_held, length_text-read_of}
+use Rattle.iol_kernel.proofs.AggregateCalls.Regrouping.{join_answers}
+use Rattle.iol_kernel.proofs.AggregateCalls.Slices.{there_held}
 use Rattle.iol_kernel.proofs.kernel.Kernel.join.Goals as goal
 
 pub join_aggs-requires-clause-few : goal.join_aggs-requires-clause-few

@@ -4,8 +4,8 @@ use Rattle.std.specs.Io.KnownBytes.{Appends}
 use Rattle.iol_core.specs.Text.{Text, bytes_of}
 use Rattle.iol_sock.specs.Table.{ConnTable, conn_in}
 use Rattle.iol_kernel.specs.Kernel.{state_of}
-use Rattle.iol_kernel.proofs.Borrowing.{outgoing_len, outgoing_text, lent_sound, lent_there, lent_none, lent_some}
-use Rattle.iol_kernel.proofs.Connecting.{conn_held, conn_in-found, conn_readable, outgoing_covered}
+use Rattle.iol_kernel.proofs.Connections.Borrowing.{outgoing_len, outgoing_text, lent_sound, lent_there, lent_none, lent_some}
+use Rattle.iol_kernel.proofs.Connections.Connecting.{conn_held, conn_in-found, conn_readable, outgoing_covered}
 use Rattle.iol_kernel.proofs.kernel.Kernel.lend_out.Goals as goal
 use Rattle.iol_kernel.specs.Readings.{bytes_over}
 

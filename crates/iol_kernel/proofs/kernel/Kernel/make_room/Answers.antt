@@ -2,8 +2,8 @@ use Rattle.std.proofs.Common.{ap}
 use Rattle.iol_cache.specs.Evicting.{Holding}
 use Rattle.iol_cache.specs.Cache.{cached_of}
 use Rattle.iol_kernel.specs.Kernel.{state_of}
-use Rattle.iol_kernel.proofs.Named.{cache_sound}
-use Rattle.iol_kernel.proofs.RoomMade.{room_made}
+use Rattle.iol_kernel.proofs.FileCalls.Named.{cache_sound}
+use Rattle.iol_kernel.proofs.State.RoomMade.{room_made}
 use Rattle.iol_kernel.proofs.kernel.Kernel.make_room.Goals as goal
 
 pub make_room-requires-clause-sound : goal.make_room-requires-clause-sound

@@ -1,7 +1,7 @@
 use Rattle.std.proofs.Common.{subst}
 use Rattle.iol_kernel.specs.Kernel.{state_of}
 use Rattle.iol_kernel.specs.MakingRoom.{MakesRoom}
-use Rattle.iol_kernel.proofs.AfterRoom.{fits, has}
+use Rattle.iol_kernel.proofs.State.AfterRoom.{fits, has}
 use Rattle.iol_kernel.proofs.kernel.Kernel.make_room_for.Goals as goal
 
 pub returns-clause-made : goal.returns-clause-made

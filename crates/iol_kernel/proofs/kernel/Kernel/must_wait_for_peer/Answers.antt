@@ -1,6 +1,6 @@
 use Rattle.std.proofs.Common.{◌∙◌, sym, arith, inl, inr}
 use Rattle.iol_kernel.specs.Kernel.{state_of}
-use Rattle.iol_kernel.proofs.Incoming.{waits_for_none, waits_for_peer, needs_no_peer}
+use Rattle.iol_kernel.proofs.Connections.Incoming.{waits_for_none, waits_for_peer, needs_no_peer}
 use Rattle.iol_kernel.proofs.kernel.Kernel.must_wait_for_peer.Goals as goal
 use Rattle.iol_kernel.proofs.kernel.Kernel.must_wait_for_peer.Goals.{then-count-eq0-via-then-count-eq0, then-count-eq0-via-else-count-eq0+then-unread-gt0}
 

@@ -7,8 +7,8 @@ use Rattle.iol_hold.specs.declared.slices.Slice.{Slice}
 use Rattle.iol_kernel.specs.Views.{Pipe}
 use Rattle.iol_kernel.specs.Kernel.{state_of}
 use Rattle.iol_kernel.specs.Readings.{bytes_over}
-use Rattle.iol_kernel.proofs.Opening.{empty, ends_of, few_open_held, piped_answers}
-use Rattle.iol_kernel.proofs.ReadOf.{live_held, taken_pipes-read_of}
+use Rattle.iol_kernel.proofs.Queues.Opening.{empty, ends_of, few_open_held, piped_answers}
+use Rattle.iol_kernel.proofs.State.ReadOf.{live_held, taken_pipes-read_of}
 use Rattle.iol_kernel.proofs.kernel.Kernel.new_pipe.Goals as goal
 
 pub next-requires : goal.next-requires

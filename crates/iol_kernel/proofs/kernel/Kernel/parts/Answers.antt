@@ -4,7 +4,7 @@ use Rattle.iol_agg.proofs.Partwise.{flat_map-parts_of}
 use Rattle.iol_kernel.specs.Kernel.{state_of}
 use Rattle.iol_kernel.specs.Readings.{bytes_over}
 use Rattle.iol_kernel.specs.KernelState.{joined}
-use Rattle.iol_kernel.proofs.Sound.{agg_readable}
+use Rattle.iol_kernel.proofs.State.Sound.{agg_readable}
 use Rattle.iol_kernel.proofs.kernel.Kernel.parts.Goals as goal
 
 pub parts-requires : goal.parts-requires

@@ -2,8 +2,8 @@ use Rattle.std.proofs.Common.{[], ◌∙◌, sym, refl, length}
 use Rattle.iol_arena.specs.State.{pages_for}
 use Rattle.iol_kernel.specs.Kernel.{state_of}
 use Rattle.iol_kernel.specs.Readings.{bytes_over}
-use Rattle.iol_kernel.proofs.Making.{live_after, few_after, open_after, make_none, make_places}
-use Rattle.iol_kernel.proofs.ReadOf.{closed-read_of}
+use Rattle.iol_kernel.proofs.AggregateCalls.Making.{live_after, few_after, open_after, make_none, make_places}
+use Rattle.iol_kernel.proofs.State.ReadOf.{closed-read_of}
 use Rattle.iol_kernel.proofs.kernel.Kernel.place.Goals as goal
 
 pub make_room_for-requires-clause-open : goal.make_room_for-requires-clause-open

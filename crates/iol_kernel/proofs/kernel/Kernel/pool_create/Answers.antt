@@ -1,7 +1,7 @@
 use Rattle.std.proofs.Common.{rules}
 use Rattle.iol_core.specs.Calls.Pools as calls
 use Rattle.iol_kernel.specs.Kernel.{state_of}
-use Rattle.iol_kernel.proofs.Effects.{keeps_late}
+use Rattle.iol_kernel.proofs.State.Effects.{keeps_late}
 use Rattle.iol_kernel.proofs.kernel.Kernel.pool_create.Goals as goal
 
 pub returns-in_err-add_pool-clause-create : goal.returns-in_err-add_pool-clause-create

@@ -7,11 +7,11 @@ use Rattle.iol_kernel.specs.Kernel.{state_of}
 use Rattle.iol_kernel.specs.Readings.{bytes_over}
 use Rattle.iol_kernel.specs.KernelState.{objects_of}
 use Rattle.iol_kernel.specs.KernelState.{queue_at}
-use Rattle.iol_kernel.proofs.Queueing.{writing_held, queue_short, pushed_answers}
-use Rattle.iol_kernel.proofs.ReadOf.{live_held}
-use Rattle.iol_kernel.proofs.Slices.{there_held}
-use Rattle.iol_kernel.proofs.Sound.{agg_small}
-use Rattle.iol_kernel.proofs.Uses.{agg_covered, countable}
+use Rattle.iol_kernel.proofs.Queues.Queueing.{writing_held, queue_short, pushed_answers}
+use Rattle.iol_kernel.proofs.State.ReadOf.{live_held}
+use Rattle.iol_kernel.proofs.AggregateCalls.Slices.{there_held}
+use Rattle.iol_kernel.proofs.State.Sound.{agg_small}
+use Rattle.iol_kernel.proofs.State.Uses.{agg_covered, countable}
 use Rattle.iol_kernel.proofs.kernel.Kernel.push.Goals as goal
 
 pub unreachable-requires : goal.unreachable-requires

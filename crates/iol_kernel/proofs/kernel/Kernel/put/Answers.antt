@@ -4,7 +4,7 @@ use Rattle.iol_core.specs.Calls.Writing.{can_write, is_file}
 use Rattle.iol_core.specs.declared.descriptors.Descriptor.TheVariants as on
 use Rattle.iol_kernel.specs.Kernel.{state_of}
 use Rattle.iol_kernel.specs.Readings.{bytes_over}
-use Rattle.iol_kernel.proofs.Queueing.{not_writable}
+use Rattle.iol_kernel.proofs.Queues.Queueing.{not_writable}
 use Rattle.iol_kernel.proofs.kernel.Kernel.put.Goals as goal
 
 pub unreachable-requires-in-ReadEnd : goal.unreachable-requires-in-ReadEnd

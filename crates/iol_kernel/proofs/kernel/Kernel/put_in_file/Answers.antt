@@ -5,11 +5,11 @@ use Rattle.iol_core.specs.declared.descriptors.Descriptor.TheVariants as on
 use Rattle.iol_kernel.specs.Kernel.{state_of}
 use Rattle.iol_kernel.specs.MakingRoom.{can_fit}
 use Rattle.iol_kernel.specs.Readings.{bytes_over}
-use Rattle.iol_kernel.proofs.FilledServes.{file_count, held_short, on_ok, roomed_serves}
-use Rattle.iol_kernel.proofs.Making.{open_after}
-use Rattle.iol_kernel.proofs.PutBeside.{laid_none, laid_roomed, puts_none, puts_roomed}
-use Rattle.iol_kernel.proofs.Queued.{passed_still, pool_still, to_still, write_none}
-use Rattle.iol_kernel.proofs.ReadOf.{closed-read_of}
+use Rattle.iol_kernel.proofs.FileCalls.FilledServes.{file_count, held_short, on_ok, roomed_serves}
+use Rattle.iol_kernel.proofs.AggregateCalls.Making.{open_after}
+use Rattle.iol_kernel.proofs.FileCalls.PutBeside.{laid_none, laid_roomed, puts_none, puts_roomed}
+use Rattle.iol_kernel.proofs.Queues.Queued.{passed_still, pool_still, to_still, write_none}
+use Rattle.iol_kernel.proofs.State.ReadOf.{closed-read_of}
 use Rattle.iol_kernel.proofs.kernel.Kernel.put_in_file.Goals as goal
 
 pub make_room_for-requires-clause-open : goal.make_room_for-requires-clause-open

@@ -9,9 +9,9 @@ use Rattle.iol_kernel.specs.FileReading.{file_read}
 use Rattle.iol_kernel.specs.Kernel.{state_of}
 use Rattle.iol_kernel.specs.KernelState.{machine_of}
 use Rattle.iol_kernel.specs.Readings.{bytes_over}
-use Rattle.iol_kernel.proofs.FileServed.{reads_nothing}
-use Rattle.iol_kernel.proofs.FileTests.{iol_read-left, iol_read-many, iol_read-wrong, refuses_iol_read}
-use Rattle.iol_kernel.proofs.Opening.{end_held}
+use Rattle.iol_kernel.proofs.FileCalls.FileServed.{reads_nothing}
+use Rattle.iol_kernel.proofs.FileCalls.FileTests.{iol_read-left, iol_read-many, iol_read-wrong, refuses_iol_read}
+use Rattle.iol_kernel.proofs.Queues.Opening.{end_held}
 use Rattle.iol_kernel.proofs.kernel.Kernel.read_file.Goals as goal
 
 pub returns-then-not-may_be_read-clause-serves : goal.returns-then-not-may_be_read-clause-serves

@@ -1,8 +1,8 @@
 use Rattle.std.proofs.Common.{[], ap, rules, true, false}
 use Rattle.iol_sock.specs.Table.{ConnTable, conn_in}
 use Rattle.iol_kernel.specs.Kernel.{state_of}
-use Rattle.iol_kernel.proofs.Borrowing.{read_passed, read_refused, read_room, read_sound, read_made, read_takes, read_none, read_most}
-use Rattle.iol_kernel.proofs.Connecting.{conn_held, conn_in-found, conn_open}
+use Rattle.iol_kernel.proofs.Connections.Borrowing.{read_passed, read_refused, read_room, read_sound, read_made, read_takes, read_none, read_most}
+use Rattle.iol_kernel.proofs.Connections.Connecting.{conn_held, conn_in-found, conn_open}
 use Rattle.iol_kernel.proofs.kernel.Kernel.read_in.Goals as goal
 use Rattle.iol_kernel.specs.Readings.{bytes_over}
 

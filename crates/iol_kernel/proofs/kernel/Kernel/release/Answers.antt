@@ -1,9 +1,9 @@
 use Rattle.iol_desc.specs.Tables.{domains_of}
 use Rattle.iol_kernel.specs.Kernel.{state_of}
 use Rattle.iol_kernel.specs.KernelState.{objects_of}
-use Rattle.iol_kernel.proofs.Effects.{dropped}
-use Rattle.iol_kernel.proofs.ReadOf.{live_held}
-use Rattle.iol_kernel.proofs.Uses.{agg_covered}
+use Rattle.iol_kernel.proofs.State.Effects.{dropped}
+use Rattle.iol_kernel.proofs.State.ReadOf.{live_held}
+use Rattle.iol_kernel.proofs.State.Uses.{agg_covered}
 use Rattle.iol_kernel.proofs.kernel.Kernel.release.Goals as goal
 
 pub release-requires : goal.release-requires

@@ -2,10 +2,10 @@ use Rattle.std.proofs.Common.{[], arith}
 use Rattle.iol_desc.specs.Tables.{domains_of}
 use Rattle.iol_kernel.specs.Kernel.{state_of}
 use Rattle.iol_kernel.specs.Readings.{bytes_over}
-use Rattle.iol_kernel.proofs.Additions.{replaced_answers}
-use Rattle.iol_kernel.proofs.Effects.{few_aggs, few_numbers}
-use Rattle.iol_kernel.proofs.ReadOf.{live_held, length_text-read_of}
-use Rattle.iol_kernel.proofs.Slices.{slices_small, slices_covered, thrice_countable}
+use Rattle.iol_kernel.proofs.AggregateCalls.Additions.{replaced_answers}
+use Rattle.iol_kernel.proofs.State.Effects.{few_aggs, few_numbers}
+use Rattle.iol_kernel.proofs.State.ReadOf.{live_held, length_text-read_of}
+use Rattle.iol_kernel.proofs.AggregateCalls.Slices.{slices_small, slices_covered, thrice_countable}
 use Rattle.iol_kernel.proofs.kernel.Kernel.replace.Goals as goal
 
 pub add_replaced-requires-clause-few : goal.add_replaced-requires-clause-few

@@ -5,9 +5,9 @@ use Rattle.iol_hold.specs.declared.slices.Slice.{Slice}
 use Rattle.iol_sock.specs.Connections.{Conn}
 use Rattle.iol_sock.specs.Table.{conn_in}
 use Rattle.iol_kernel.specs.Kernel.{state_of}
-use Rattle.iol_kernel.proofs.Connecting.{conn_in-is}
-use Rattle.iol_kernel.proofs.ConnQueues.{conn_in-none}
-use Rattle.iol_kernel.proofs.Written.{outgoing-read_of}
+use Rattle.iol_kernel.proofs.Connections.Connecting.{conn_in-is}
+use Rattle.iol_kernel.proofs.Connections.ConnQueues.{conn_in-none}
+use Rattle.iol_kernel.proofs.Queues.Written.{outgoing-read_of}
 use Rattle.iol_kernel.proofs.kernel.Kernel.room_on.Goals as goal
 
 pub returns-in-Some : goal.returns-in-Some

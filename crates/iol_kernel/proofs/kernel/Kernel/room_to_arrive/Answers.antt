@@ -4,8 +4,8 @@ use Rattle.iol_pipe.specs.Queue.{fitting}
 use Rattle.iol_sock.specs.Refused.{arrive_refusals}
 use Rattle.iol_core.specs.Meaning.{first}
 use Rattle.iol_kernel.specs.Kernel.{state_of}
-use Rattle.iol_kernel.proofs.Arrived.{arrive_first, arrive_fits, arrive_in, arrive_missing}
-use Rattle.iol_kernel.proofs.Connecting.{conn_open}
+use Rattle.iol_kernel.proofs.Connections.Arrived.{arrive_first, arrive_fits, arrive_in, arrive_missing}
+use Rattle.iol_kernel.proofs.Connections.Connecting.{conn_open}
 use Rattle.iol_kernel.proofs.kernel.Kernel.room_to_arrive.Goals as goal
 
 pub returns-in_default-clause-refused : goal.returns-in_default-clause-refused

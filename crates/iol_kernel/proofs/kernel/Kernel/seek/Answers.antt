@@ -5,9 +5,9 @@ use Rattle.iol_core.specs.declared.refusals.Refusal.TheVariants.{NoDomain, BadFd
 use Rattle.iol_desc.specs.Tables.{domains_of}
 use Rattle.iol_kernel.specs.Kernel.{state_of}
 use Rattle.iol_kernel.specs.Readings.{bytes_over}
-use Rattle.iol_kernel.proofs.Opening.{end_held, not_none}
-use Rattle.iol_kernel.proofs.ReadOf.{descriptor-read_of, live_held}
-use Rattle.iol_kernel.proofs.Seeking.{moved-places, no_file, seek_beyond, seek_refused, sought}
+use Rattle.iol_kernel.proofs.Queues.Opening.{end_held, not_none}
+use Rattle.iol_kernel.proofs.State.ReadOf.{descriptor-read_of, live_held}
+use Rattle.iol_kernel.proofs.FileCalls.Seeking.{moved-places, no_file, seek_beyond, seek_refused, sought}
 use Rattle.iol_kernel.proofs.kernel.Kernel.seek.Goals as goal
 
 pub returns-then-not-is_live : goal.returns-then-not-is_live

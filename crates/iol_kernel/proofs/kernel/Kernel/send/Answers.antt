@@ -3,9 +3,9 @@ use Rattle.iol_sock.specs.Table.{ConnTable, conn_in}
 use Rattle.iol_kernel.specs.Kernel.{state_of}
 use Rattle.iol_kernel.specs.Readings.{bytes_over}
 use Rattle.iol_kernel.specs.KernelState.{KernelState, objects_of}
-use Rattle.iol_kernel.proofs.Connecting.{conn_held, conn_in-found, conn_limit, conn_readable, outgoing_covered}
-use Rattle.iol_kernel.proofs.Transmitting.{mid_sound, mid_there, transmitted, send_kept, uses_kept}
-use Rattle.iol_kernel.proofs.Uses.{countable}
+use Rattle.iol_kernel.proofs.Connections.Connecting.{conn_held, conn_in-found, conn_limit, conn_readable, outgoing_covered}
+use Rattle.iol_kernel.proofs.Connections.Transmitting.{mid_sound, mid_there, transmitted, send_kept, uses_kept}
+use Rattle.iol_kernel.proofs.State.Uses.{countable}
 use Rattle.iol_kernel.proofs.kernel.Kernel.send.Goals as goal
 
 pub segment-requires-clause-there : goal.segment-requires-clause-there

@@ -1,7 +1,7 @@
 use Rattle.iol_desc.specs.Tables.{domains_of}
 use Rattle.iol_kernel.specs.Kernel.{state_of}
-use Rattle.iol_kernel.proofs.Effects.{default_set}
-use Rattle.iol_kernel.proofs.ReadOf.{live_held}
+use Rattle.iol_kernel.proofs.State.Effects.{default_set}
+use Rattle.iol_kernel.proofs.State.ReadOf.{live_held}
 use Rattle.iol_kernel.proofs.kernel.Kernel.set_default.Goals as goal
 
 pub returns : goal.returns

@@ -1,5 +1,5 @@
 use Rattle.iol_kernel.specs.Kernel.{state_of}
-use Rattle.iol_kernel.proofs.Sound.{agg_readable}
+use Rattle.iol_kernel.proofs.State.Sound.{agg_readable}
 use Rattle.iol_kernel.proofs.kernel.Kernel.show.Goals as goal
 
 pub to_vec-requires : goal.to_vec-requires

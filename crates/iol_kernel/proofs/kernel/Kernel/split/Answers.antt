@@ -2,10 +2,10 @@ use Rattle.std.proofs.Common.{[], ◌≤◌, arith, subst}
 use Rattle.iol_desc.specs.Tables.{domains_of}
 use Rattle.iol_kernel.specs.Kernel.{state_of}
 use Rattle.iol_kernel.specs.Readings.{bytes_over}
-use Rattle.iol_kernel.proofs.Effects.{few_aggs, few_numbers}
-use Rattle.iol_kernel.proofs.ReadOf.{live_held, length_text-read_of}
-use Rattle.iol_kernel.proofs.Regrouping.{split_answers}
-use Rattle.iol_kernel.proofs.Slices.{there_held, slices_covered, slices_countable}
+use Rattle.iol_kernel.proofs.State.Effects.{few_aggs, few_numbers}
+use Rattle.iol_kernel.proofs.State.ReadOf.{live_held, length_text-read_of}
+use Rattle.iol_kernel.proofs.AggregateCalls.Regrouping.{split_answers}
+use Rattle.iol_kernel.proofs.AggregateCalls.Slices.{there_held, slices_covered, slices_countable}
 use Rattle.iol_kernel.proofs.kernel.Kernel.split.Goals as goal
 
 pub split_agg-requires-clause-few : goal.split_agg-requires-clause-few

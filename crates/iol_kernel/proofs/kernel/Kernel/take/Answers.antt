@@ -5,11 +5,11 @@ use Rattle.iol_desc.specs.Tables.{domains_of, domain_in, with_agg_in}
 use Rattle.iol_kernel.specs.Kernel.{state_of}
 use Rattle.iol_kernel.specs.Readings.{bytes_over}
 use Rattle.iol_kernel.specs.KernelState.{objects_of}
-use Rattle.iol_kernel.proofs.Effects.{few_aggs, few_numbers}
-use Rattle.iol_kernel.proofs.Ends.{there_if_open}
-use Rattle.iol_kernel.proofs.Queueing.{reading_held, queue_short, taken_answers}
-use Rattle.iol_kernel.proofs.ReadOf.{live_held}
-use Rattle.iol_kernel.proofs.Uses.{queue_covered, countable}
+use Rattle.iol_kernel.proofs.State.Effects.{few_aggs, few_numbers}
+use Rattle.iol_kernel.proofs.Queues.Ends.{there_if_open}
+use Rattle.iol_kernel.proofs.Queues.Queueing.{reading_held, queue_short, taken_answers}
+use Rattle.iol_kernel.proofs.State.ReadOf.{live_held}
+use Rattle.iol_kernel.proofs.State.Uses.{queue_covered, countable}
 use Rattle.iol_kernel.proofs.kernel.Kernel.take.Goals as goal
 
 pub front-requires-clause-reading : goal.front-requires-clause-reading

@@ -9,9 +9,9 @@ use Rattle.iol_sock.specs.Connections.{Conn}
 use Rattle.iol_sock.specs.Table.{ConnTable, conn_in}
 use Rattle.iol_kernel.specs.Kernel.{state_of}
 use Rattle.iol_kernel.specs.KernelState.{KernelState}
-use Rattle.iol_kernel.proofs.Connecting.{conn_in-is, conn_readable, incoming_covered}
-use Rattle.iol_kernel.proofs.ConnQueues.{conn_there_held, found_held}
-use Rattle.iol_kernel.proofs.Skipped.{unread_bytes, unread_count, unread_left}
+use Rattle.iol_kernel.proofs.Connections.Connecting.{conn_in-is, conn_readable, incoming_covered}
+use Rattle.iol_kernel.proofs.Connections.ConnQueues.{conn_there_held, found_held}
+use Rattle.iol_kernel.proofs.Queues.Skipped.{unread_bytes, unread_count, unread_left}
 use Rattle.iol_kernel.proofs.kernel.Kernel.take_from_conn.Goals as goal
 
 pub unreachable-requires : goal.unreachable-requires

@@ -12,11 +12,11 @@ use Rattle.iol_kernel.specs.FileReading.{file_read, moved_on}
 use Rattle.iol_kernel.specs.Kernel.{state_of}
 use Rattle.iol_kernel.specs.KernelState.{KernelState}
 use Rattle.iol_kernel.specs.Readings.{bytes_over}
-use Rattle.iol_kernel.proofs.Effects.{few_aggs, few_numbers}
-use Rattle.iol_kernel.proofs.FileReads.{given_as, numbered_here, position_short, refused_as, row_moved, untouched_iol_read}
-use Rattle.iol_kernel.proofs.FileServed.{counts_few, gives_read, read_fits, reads_done, reads_nothing, reads_refused}
-use Rattle.iol_kernel.proofs.Named.{cache_sound}
-use Rattle.iol_kernel.proofs.ReadOf.{descriptor-read_of, live_held}
+use Rattle.iol_kernel.proofs.State.Effects.{few_aggs, few_numbers}
+use Rattle.iol_kernel.proofs.FileCalls.FileReads.{given_as, numbered_here, position_short, refused_as, row_moved, untouched_iol_read}
+use Rattle.iol_kernel.proofs.FileCalls.FileServed.{counts_few, gives_read, read_fits, reads_done, reads_nothing, reads_refused}
+use Rattle.iol_kernel.proofs.FileCalls.Named.{cache_sound}
+use Rattle.iol_kernel.proofs.State.ReadOf.{descriptor-read_of, live_held}
 use Rattle.iol_kernel.proofs.kernel.Kernel.take_from_file.Goals as goal
 
 pub reserve_aggs-requires : goal.reserve_aggs-requires

@@ -1,10 +1,10 @@
 use Rattle.std.proofs.Common.{[], ◌∙◌, ◌++◌, ℕ, List, ap, inl, length, drop}
 use Rattle.iol_kernel.specs.Kernel.{state_of}
 use Rattle.iol_kernel.specs.KernelState.{objects_of}
-use Rattle.iol_kernel.proofs.Ends.{there_if_open}
-use Rattle.iol_kernel.proofs.Queueing.{reading_held, queue_readable}
-use Rattle.iol_kernel.proofs.Skipped.{queued_bytes, queued_count, queued_left}
-use Rattle.iol_kernel.proofs.Uses.{queue_covered}
+use Rattle.iol_kernel.proofs.Queues.Ends.{there_if_open}
+use Rattle.iol_kernel.proofs.Queues.Queueing.{reading_held, queue_readable}
+use Rattle.iol_kernel.proofs.Queues.Skipped.{queued_bytes, queued_count, queued_left}
+use Rattle.iol_kernel.proofs.State.Uses.{queue_covered}
 use Rattle.iol_kernel.proofs.kernel.Kernel.take_from_pipe.Goals as goal
 use Rattle.iol_kernel.specs.Readings.{bytes_over}
 

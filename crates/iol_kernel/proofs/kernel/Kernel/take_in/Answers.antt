@@ -1,6 +1,6 @@
 use Rattle.std.proofs.Common.{◌∙◌}
 use Rattle.iol_kernel.specs.Kernel.{state_of}
-use Rattle.iol_kernel.proofs.Arrived.{arrive_none, arrive_places, there_now, there_if_passed}
+use Rattle.iol_kernel.proofs.Connections.Arrived.{arrive_none, arrive_places, there_now, there_if_passed}
 use Rattle.iol_kernel.proofs.kernel.Kernel.take_in.Goals as goal
 
 pub returns-then-not-make_room_for : goal.returns-then-not-make_room_for

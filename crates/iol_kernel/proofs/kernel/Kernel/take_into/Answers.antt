@@ -5,7 +5,7 @@ use Rattle.iol_core.specs.declared.descriptors.Descriptor.TheVariants as on
 use Rattle.iol_kernel.specs.Kernel.{state_of}
 use Rattle.iol_kernel.specs.KernelState.{machine_of}
 use Rattle.iol_kernel.specs.Readings.{bytes_over}
-use Rattle.iol_kernel.proofs.FileTests.{no_queue}
+use Rattle.iol_kernel.proofs.FileCalls.FileTests.{no_queue}
 use Rattle.iol_kernel.proofs.kernel.Kernel.take_into.Goals as goal
 
 pub unreachable-requires-in-File : goal.unreachable-requires-in-File

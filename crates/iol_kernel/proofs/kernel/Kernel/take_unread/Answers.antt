@@ -6,12 +6,12 @@ use Rattle.iol_sock.specs.Table.{ConnTable, conn_in}
 use Rattle.iol_kernel.specs.Kernel.{state_of}
 use Rattle.iol_kernel.specs.Readings.{bytes_over}
 use Rattle.iol_kernel.specs.KernelState.{KernelState, objects_of}
-use Rattle.iol_kernel.proofs.Connecting.{conn_limit, incoming_covered}
-use Rattle.iol_kernel.proofs.ConnQueues.{conn_there_held, found_held}
-use Rattle.iol_kernel.proofs.Effects.{few_aggs, few_numbers}
-use Rattle.iol_kernel.proofs.Incoming.{unread_taken}
-use Rattle.iol_kernel.proofs.ReadOf.{live_held}
-use Rattle.iol_kernel.proofs.Uses.{countable}
+use Rattle.iol_kernel.proofs.Connections.Connecting.{conn_limit, incoming_covered}
+use Rattle.iol_kernel.proofs.Connections.ConnQueues.{conn_there_held, found_held}
+use Rattle.iol_kernel.proofs.State.Effects.{few_aggs, few_numbers}
+use Rattle.iol_kernel.proofs.Connections.Incoming.{unread_taken}
+use Rattle.iol_kernel.proofs.State.ReadOf.{live_held}
+use Rattle.iol_kernel.proofs.State.Uses.{countable}
 use Rattle.iol_kernel.proofs.kernel.Kernel.take_unread.Goals as goal
 
 pub front-requires-clause-there : goal.front-requires-clause-there

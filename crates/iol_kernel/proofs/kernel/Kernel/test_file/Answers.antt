@@ -2,9 +2,9 @@ use Rattle.std.proofs.Common.{[], ◌∙◌, ap}
 use Rattle.iol_pool.specs.Pools.{pool_in}
 use Rattle.iol_kernel.specs.Kernel.{state_of}
 use Rattle.iol_kernel.specs.Readings.{bytes_over}
-use Rattle.iol_kernel.proofs.ReadOf.{closed-read_of}
-use Rattle.iol_kernel.proofs.Seeking.{file_cached}
-use Rattle.iol_kernel.proofs.WrittenOver.{pool-file}
+use Rattle.iol_kernel.proofs.State.ReadOf.{closed-read_of}
+use Rattle.iol_kernel.proofs.FileCalls.Seeking.{file_cached}
+use Rattle.iol_kernel.proofs.FileCalls.WrittenOver.{pool-file}
 use Rattle.iol_kernel.proofs.kernel.Kernel.test_file.Goals as goal
 
 pub returns-clause-open : goal.returns-clause-open

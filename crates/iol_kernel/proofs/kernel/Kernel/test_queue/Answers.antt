@@ -1,6 +1,6 @@
 use Rattle.std.proofs.Common.{◌≡◌, ◌∙◌, ℕ, inl, inr, rules, sym}
 use Rattle.iol_core.specs.declared.descriptors.Descriptor.TheVariants as on
-use Rattle.iol_kernel.proofs.Queueing.{not_writable}
+use Rattle.iol_kernel.proofs.Queues.Queueing.{not_writable}
 use Rattle.iol_kernel.proofs.kernel.Kernel.test_queue.Goals as goal
 
 pub returns-in-ReadEnd-clause-refused : goal.returns-in-ReadEnd-clause-refused

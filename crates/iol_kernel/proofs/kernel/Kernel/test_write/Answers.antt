@@ -1,7 +1,7 @@
 use Rattle.std.proofs.Common.{arith, []}
 use Rattle.iol_kernel.specs.Kernel.{state_of}
 use Rattle.iol_kernel.specs.Readings.{bytes_over}
-use Rattle.iol_kernel.proofs.ReadOf.{length_text-read_of}
+use Rattle.iol_kernel.proofs.State.ReadOf.{length_text-read_of}
 use Rattle.iol_kernel.proofs.kernel.Kernel.test_write.Goals as goal
 
 pub returns-clause-short : goal.returns-clause-short

@@ -1,6 +1,6 @@
 use Rattle.std.proofs.Common.{◌∙◌, ap, min}
 use Rattle.iol_kernel.specs.Kernel.{state_of}
-use Rattle.iol_kernel.proofs.Skipped.{waiting-queued}
+use Rattle.iol_kernel.proofs.Queues.Skipped.{waiting-queued}
 use Rattle.iol_kernel.proofs.kernel.Kernel.waiting_in.Goals as goal
 
 pub returns-clause-some : goal.returns-clause-some

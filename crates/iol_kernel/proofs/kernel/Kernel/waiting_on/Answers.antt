@@ -4,9 +4,9 @@ use Rattle.iol_hold.specs.declared.slices.Slice.{Slice}
 use Rattle.iol_sock.specs.Connections.{Conn}
 use Rattle.iol_sock.specs.Table.{conn_in}
 use Rattle.iol_kernel.specs.Kernel.{state_of}
-use Rattle.iol_kernel.proofs.Connecting.{conn_in-is}
-use Rattle.iol_kernel.proofs.ConnQueues.{conn_there_held}
-use Rattle.iol_kernel.proofs.Skipped.{waiting-unread}
+use Rattle.iol_kernel.proofs.Connections.Connecting.{conn_in-is}
+use Rattle.iol_kernel.proofs.Connections.ConnQueues.{conn_there_held}
+use Rattle.iol_kernel.proofs.Queues.Skipped.{waiting-unread}
 use Rattle.iol_kernel.proofs.kernel.Kernel.waiting_on.Goals as goal
 
 pub unreachable-requires : goal.unreachable-requires

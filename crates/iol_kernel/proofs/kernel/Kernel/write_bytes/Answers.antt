@@ -6,8 +6,8 @@ use Rattle.iol_kernel.specs.Kernel.{state_of}
 use Rattle.iol_kernel.specs.KernelState.{machine_of}
 use Rattle.iol_kernel.specs.Readings.{bytes_over}
 use Rattle.iol_kernel.specs.WritingFiles.{LaysOn, PutsOn}
-use Rattle.iol_kernel.proofs.Put.{left_placing, put_refused}
-use Rattle.iol_kernel.proofs.PutBeside.{laid_queue, laid_refused, puts_queue, puts_refused}
+use Rattle.iol_kernel.proofs.Queues.Put.{left_placing, put_refused}
+use Rattle.iol_kernel.proofs.FileCalls.PutBeside.{laid_queue, laid_refused, puts_queue, puts_refused}
 use Rattle.iol_kernel.proofs.kernel.Kernel.write_bytes.Goals as goal
 
 pub returns-in-Err-clause-serves : goal.returns-in-Err-clause-serves

@@ -3,12 +3,12 @@ use Rattle.iol_sock.specs.Table.{ConnTable}
 use Rattle.iol_kernel.specs.Kernel.{state_of}
 use Rattle.iol_kernel.specs.Readings.{bytes_over}
 use Rattle.iol_kernel.specs.KernelState.{KernelState, objects_of}
-use Rattle.iol_kernel.proofs.ConnQueues.{conn_there_held}
-use Rattle.iol_kernel.proofs.Outgoing.{write_done, write_refused}
-use Rattle.iol_kernel.proofs.ReadOf.{live_held}
-use Rattle.iol_kernel.proofs.Slices.{there_held}
-use Rattle.iol_kernel.proofs.Sound.{agg_small}
-use Rattle.iol_kernel.proofs.Uses.{agg_covered, countable}
+use Rattle.iol_kernel.proofs.Connections.ConnQueues.{conn_there_held}
+use Rattle.iol_kernel.proofs.Connections.Outgoing.{write_done, write_refused}
+use Rattle.iol_kernel.proofs.State.ReadOf.{live_held}
+use Rattle.iol_kernel.proofs.AggregateCalls.Slices.{there_held}
+use Rattle.iol_kernel.proofs.State.Sound.{agg_small}
+use Rattle.iol_kernel.proofs.State.Uses.{agg_covered, countable}
 use Rattle.iol_kernel.proofs.kernel.Kernel.write_conn.Goals as goal
 
 pub unreachable-requires : goal.unreachable-requires

@@ -2,8 +2,8 @@ use Rattle.std.proofs.Common.{Err}
 use Rattle.iol_core.specs.Calls.Writing as calls
 use Rattle.iol_kernel.specs.Kernel.{state_of}
 use Rattle.iol_kernel.specs.KernelState.{slices_in}
-use Rattle.iol_kernel.proofs.Serving.{carried_serves}
-use Rattle.iol_kernel.proofs.WrittenOver.{refused_leaves}
+use Rattle.iol_kernel.proofs.State.Serving.{carried_serves}
+use Rattle.iol_kernel.proofs.FileCalls.WrittenOver.{refused_leaves}
 use Rattle.iol_kernel.proofs.kernel.Kernel.write_file.Goals as goal
 
 pub returns-in-Err-clause-serves : goal.returns-in-Err-clause-serves

@@ -10,12 +10,12 @@ use Rattle.iol_kernel.specs.Kernel.{state_of}
 use Rattle.iol_kernel.specs.KernelState.{KernelState}
 use Rattle.iol_kernel.specs.Readings.{bytes_over}
 use Rattle.iol_kernel.specs.WritingFiles.{WritesOver}
-use Rattle.iol_kernel.proofs.Named.{cache_sound}
-use Rattle.iol_kernel.proofs.Opening.{end_held}
-use Rattle.iol_kernel.proofs.ReadOf.{descriptor-read_of, live_held}
-use Rattle.iol_kernel.proofs.Slices.{slices_found}
-use Rattle.iol_kernel.proofs.Sound.{agg_readable}
-use Rattle.iol_kernel.proofs.WrittenOver.{agg_beside, counts_below, in_cache, over_leaves, over_serves, unwritten_leaves, unwritten_serves}
+use Rattle.iol_kernel.proofs.FileCalls.Named.{cache_sound}
+use Rattle.iol_kernel.proofs.Queues.Opening.{end_held}
+use Rattle.iol_kernel.proofs.State.ReadOf.{descriptor-read_of, live_held}
+use Rattle.iol_kernel.proofs.AggregateCalls.Slices.{slices_found}
+use Rattle.iol_kernel.proofs.State.Sound.{agg_readable}
+use Rattle.iol_kernel.proofs.FileCalls.WrittenOver.{agg_beside, counts_below, in_cache, over_leaves, over_serves, unwritten_leaves, unwritten_serves}
 use Rattle.iol_kernel.proofs.kernel.Kernel.write_over.Goals as goal
 
 pub write-requires-clause-sound : goal.write-requires-clause-sound

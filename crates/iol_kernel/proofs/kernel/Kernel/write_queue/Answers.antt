@@ -1,7 +1,7 @@
 use Rattle.std.proofs.Common.{◌≡◌, ◌∙◌, ℕ, inl, inr, rules, sym}
 use Rattle.iol_core.specs.declared.descriptors.Descriptor.TheVariants as on
-use Rattle.iol_kernel.proofs.Queueing.{not_writable}
-use Rattle.iol_kernel.proofs.Stay.{stays_here}
+use Rattle.iol_kernel.proofs.Queues.Queueing.{not_writable}
+use Rattle.iol_kernel.proofs.State.Stay.{stays_here}
 use Rattle.iol_kernel.proofs.kernel.Kernel.write_queue.Goals as goal
 
 pub returns-in-ReadEnd : goal.returns-in-ReadEnd

@@ -1,6 +1,6 @@
 use Rattle.std.proofs.Common.{◌∙◌, sym}
 use Rattle.iol_kernel.specs.ClosedEnds.{without_reader}
-use Rattle.iol_kernel.proofs.ClosedEnds.{closes_gone}
+use Rattle.iol_kernel.proofs.Queues.ClosedEnds.{closes_gone}
 use Rattle.iol_kernel.proofs.pipes.Pipes.close_reader.Goals as goal
 
 pub returns-then-not-stays : goal.returns-then-not-stays

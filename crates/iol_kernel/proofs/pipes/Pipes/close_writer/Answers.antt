@@ -1,6 +1,6 @@
 use Rattle.std.proofs.Common.{◌∙◌, sym}
 use Rattle.iol_kernel.specs.ClosedEnds.{without_writer}
-use Rattle.iol_kernel.proofs.ClosedEnds.{closes_gone, neither}
+use Rattle.iol_kernel.proofs.Queues.ClosedEnds.{closes_gone, neither}
 use Rattle.iol_kernel.proofs.pipes.Pipes.close_writer.Goals as goal
 
 pub returns-then-not-stays : goal.returns-then-not-stays

@@ -1,0 +1,15 @@
+pub mod Marking
+pub mod Pinning
+pub mod Passed
+pub mod Rooming
+pub mod Ranked
+pub mod Evicted
+pub mod GivenUp
+pub mod NoneLeft
+pub mod Choosing
+pub mod Entering
+pub mod Ready
+pub mod Roomy
+pub mod Reordered
+pub mod OneRoom
+pub mod Loosened

@@ -1,0 +1,11 @@
+pub mod Filing
+pub mod Using
+pub mod Extending
+pub mod Adding
+pub mod Staying
+pub mod Stepping
+pub mod Steps
+pub mod Changed
+pub mod Bounded
+pub mod Lengths
+pub mod Keeping

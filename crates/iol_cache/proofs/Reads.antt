@@ -1,0 +1,15 @@
+pub mod Loaded
+pub mod Paged
+pub mod Pooled
+pub mod Undone
+pub mod Filled
+pub mod Shared
+pub mod Putting
+pub mod Ranged
+pub mod Completed
+pub mod Paging
+pub mod Woven
+pub mod Tiled
+pub mod Hits
+pub mod Texts
+pub mod Served

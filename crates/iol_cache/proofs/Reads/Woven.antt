@@ -1,0 +1,56 @@
+-- Parts of a range, put together.
+use Rattle.std.proofs.Common.{◌≡◌, ℕ, ◌+◌, ◌-◌, ◌<◌, ◌≤◌, ◌++◌, ◌^◌, List, [], ◌∷◌, length, take, drop, sym, ap, ◌∙◌, arith, length-append}
+use Rattle.std.proofs.lemmas.List.{take_at, drop_at, append-nil}
+use Rattle.iol_core.specs.declared.numbers.BufId.{BufId}
+use Rattle.iol_hold.specs.Moves.{Shares, Covers}
+use Rattle.iol_hold.specs.Places.{Place, places, byte_len}
+use Rattle.iol_hold.specs.Stored.{Stored}
+use Rattle.iol_hold.specs.Texts.{bufs_of, AllReadable, IsThere}
+use Rattle.std.proofs.lemmas.List.Elements.{All-take, All-drop}
+use Rattle.std.specs.Prelude.{slice_range}
+use Rattle.iol_hold.specs.declared.slices.Slice.{Slice}
+use Rattle.iol_hold.proofs.Counting.{tally_none}
+use Rattle.iol_extent.specs.Extents.{Extent}
+use Rattle.iol_extent.specs.Spans.{AreInOrder}
+use Rattle.iol_extent.specs.declared.spans.Span.{Span}
+use Rattle.iol_cache.specs.Sharing.{CountsBelow, places_over}
+use Rattle.iol_cache.specs.Weaving.{len_beside, places_beside, woven, places_read}
+use Rattle.iol_cache.proofs.Reads.Ranged.{tally_len}
+use Rattle.iol_cache.proofs.Reads.Shared.{length-places_over, readable_places}
+
+pub beside_few : (at to : ℕ) (gs : List Span) → AreInOrder at to gs → len_beside at to gs + at ≤ to
+beside_few at to [] order = omega (arith, order)
+beside_few at to (g ∷ gs) order = omega (arith, beside_few g.to to gs order.2, order.0, order.1)
+
+pub shared_covers : {s t : Stored} {xs : List BufId} → Shares s t [] xs → Covers t xs
+shared_covers m = record { each = λ b. omega (arith, m.counts.each b, tally_none b) }
+
+pub still_covers : {s t : Stored} {xs ys : List BufId} → Covers s ys → Shares s t [] xs → Covers t ys
+still_covers c m = record { each = λ b. omega (arith, c.each b, m.counts.each b, tally_none b) }
+
+pub shared_few : {s t : Stored} (xs : List Slice) → Shares s t [] (bufs_of xs) → byte_len xs < 2 ^ 32 → CountsBelow s (2 ^ 61) → CountsBelow t (2 ^ 62)
+shared_few xs m small few = record { each = λ b. omega (arith, m.counts.each b, tally_none b, few.each b, tally_len b xs, small) }
+
+pub length-places_beside : (es : List Extent) (at to : ℕ) (gs : List Span) → length (places_beside es at to gs) ≡ len_beside at to gs
+length-places_beside es at to [] = length-places_over es at to
+length-places_beside es at to (g ∷ gs) = omega (arith, length-append (places_over es at g.from) (places_beside es g.to to gs), length-places_over es at g.from, length-places_beside es g.to to gs)
+
+-- what lies beside the gaps, woven with what lies in them
+pub woven-beside : (old new : List Extent) (at to : ℕ) (gs : List Span) → woven (places_beside old at to gs) new at to gs ≡ places_read old new at to gs
+woven-beside old new at to [] = take_all (places_over old at to) (to - at) (length-places_over old at to)
+  where
+    take_all : (xs : List Place) (n : ℕ) → length xs ≡ n → take n xs ≡ xs
+    take_all xs n is = ap (take n) (sym (append-nil xs)) ∙ take_at xs [] n is
+woven-beside old new at to (g ∷ gs) =
+    let here = places_over old at g.from in
+    let rest = places_beside old g.to to gs in
+    let n = g.from - at in
+    let first : take n (here ++ rest) ≡ here = take_at here rest n (length-places_over old at g.from) in
+    let later : drop n (here ++ rest) ≡ rest = drop_at here rest n (length-places_over old at g.from) in
+    ap (λ l. l ++ places_over new g.from g.to ++ woven (drop n (here ++ rest)) new g.to to gs) first
+    ∙ ap (λ l. here ++ places_over new g.from g.to ++ woven l new g.to to gs) later
+    ∙ ap (λ l. here ++ places_over new g.from g.to ++ l) (woven-beside old new g.to to gs)
+
+-- with a part of what can be read
+pub readable_more : {s : Stored} (more xs ys : List Slice) (from to : ℕ) → places more ≡ places xs ++ slice_range (places ys) from to → AllReadable s xs → AllReadable s ys → AllReadable s more
+readable_more {s = s} more xs ys from to e h k = readable_places more xs (slice_range (places ys) from to) e h (All-take (IsThere s) (to - from) (drop from (places ys)) (All-drop (IsThere s) from (places ys) k.each))

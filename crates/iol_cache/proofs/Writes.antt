@@ -1,0 +1,12 @@
+pub mod Composed
+pub mod CutOut
+pub mod Replaced
+pub mod Written
+pub mod Overlaid
+pub mod Prepared
+pub mod Overwritten
+pub mod Placed
+pub mod Storing
+pub mod Cleaned
+pub mod Synced
+pub mod Settled

@@ -1,0 +1,136 @@
+-- A domain gets an aggregate of bytes that lie there already: for the machine, for the layout, and that all stays sound.
+use Rattle.std.proofs.Common.{[], refl, ◌≡◌, ℕ, ◌-◌, ◌<◌, ◌≤◌, List, ◌++◌, length, length-append, take, drop, slice_range, ap, ◌∙◌, sym, arith, true}
+use Rattle.std.proofs.lemmas.List.Elements.{All-append, All-take, All-drop, All-same}
+use Rattle.std.proofs.lemmas.List.{take_all, length-take, length-drop}
+use Rattle.iol_core.specs.Text.{Text}
+use Rattle.iol_core.specs.State as machine
+use Rattle.iol_core.specs.State.{State, Domain}
+use Rattle.iol_core.specs.Calls.Aggregates as aggs
+use Rattle.iol_pool.specs.Pools.{Pool}
+use Rattle.iol_arena.specs.State.{page_count}
+use Rattle.iol_hold.specs.Stored.{Stored}
+use Rattle.iol_hold.specs.Places.{Place, places, byte_len}
+use Rattle.iol_kernel.specs.Readings.{Reading, read, bytes_over}
+use Rattle.iol_hold.specs.Texts.{AllReadable, IsThere}
+use Rattle.iol_hold.specs.declared.slices.Slice.{Slice}
+use Rattle.iol_hold.proofs.AtPlaces.{read_same, read_cut, read_replaced}
+use Rattle.iol_hold.proofs.Emptied.{all_settled_same}
+use Rattle.iol_hold.proofs.Moving.{shares_move, covers_given}
+use Rattle.iol_hold.proofs.Reading.{readable_stays}
+use Rattle.iol_desc.specs.Tables.{domain_in, live_aggs_in}
+use Rattle.iol_kernel.specs.Views.{state_view}
+use Rattle.iol_kernel.specs.Adding.{replaced, AddsShared}
+use Rattle.iol_kernel.specs.KernelState.{KernelState, objects_of, machine_of, IsSound, slices_in, read_of}
+use Rattle.iol_kernel.proofs.State.Views.{with_agg-view}
+use Rattle.iol_kernel.proofs.State.Effects.{gained-sound}
+use Rattle.iol_kernel.proofs.State.ReadOf.{text-read_of, length_text-read_of, next_agg-read_of}
+use Rattle.iol_kernel.proofs.AggregateCalls.Slices.{slices_readable, slices_small}
+use Rattle.iol_core.specs.declared.limits.TheConstants.{MAX_AGGREGATES, MAX_AGGREGATE_BYTES}
+use Rattle.iol_kernel.specs.Calls.{Answers}
+
+module _ (h : KernelState) (t : Stored) (ds : List (Domain (List Slice))) (d : ℕ) (bytes : List Place) (adds : AddsShared h.store t h.domains ds d bytes) where
+  added-read : (f : Reading) → read_of f (record h { store = t; domains = ds }) ≡ aggs.with_agg (read_of f h) d (read f adds.slices)
+  unfolding read_of
+  added-read f =
+      ap (λ (xs : List (Domain (List Slice))). state_view f xs t.pools (objects_of h)) adds.added
+      ∙ with_agg-view f h.domains t.pools (objects_of h) d adds.slices
+      ∙ ap (λ (ps : List Pool). aggs.with_agg (state_view f h.domains ps (objects_of h)) d (read f adds.slices)) adds.shares.pools
+
+  added-sound : IsSound h → (domain_in h.domains d).live ≡ true → live_aggs_in h.domains < MAX_AGGREGATES → AllReadable h.store adds.slices → byte_len adds.slices ≤ MAX_AGGREGATE_BYTES → IsSound (record h { store = t; domains = ds })
+  added-sound sound live few readable small =
+      gained-sound h t ds d adds.slices sound live few small (readable_stays adds.slices (shares_move adds.shares).stays (covers_given adds.shares.counts) readable) (shares_move adds.shares)
+      (all_settled_same h.store t adds.shares.arena adds.shares.pools sound.settled) adds.shares.pools (ap page_count adds.shares.arena) adds.added
+
+-- Part of an aggregate, or all of it.
+
+module _ (h : KernelState) (t : Stored) (ds : List (Domain (List Slice))) (d a from to n : ℕ) (adds : AddsShared h.store t h.domains ds d (slice_range (places (slices_in h.domains d a)) from to))
+    (sound : IsSound h) (live : (domain_in h.domains d).live ≡ true) (few : live_aggs_in h.domains < MAX_AGGREGATES) (number : n ≡ (domain_in h.domains d).next_agg) where
+  cut-sound : IsSound (record h { store = t; domains = ds })
+  cut-sound =
+      let xs : List Slice = slices_in h.domains d a in
+      added-sound h t ds d _ adds sound live few
+      (record { each = All-same (IsThere h.store) _ _ adds.is_there (All-take (IsThere h.store) (to - from) (drop from (places xs)) (All-drop (IsThere h.store) from (places xs) (slices_readable h d a sound).each)) })
+      (omega (arith, slices_small h d a sound, ap length adds.is_there, length-take (to - from) (drop from (places xs)), length-drop from (places xs)))
+
+  pub cut_answers : Answers (λ s. aggs.agg_cut s d a from to) h n (record h { store = t; domains = ds })
+  cut_answers = record {
+    answer = λ f keeps. number ∙ sym (next_agg-read_of f h d);
+    after = λ f keeps. added-read h t ds d _ adds f
+        ∙ ap (aggs.with_agg (read_of f h) d) (read_cut f.at adds.slices (slices_in h.domains d a) from to adds.is_there ∙ ap (λ (u : Text). slice_range u from to) (sym (text-read_of f h d a)));
+    arena = adds.shares.arena;
+    pools = adds.shares.pools;
+    sums = refl;
+    cache = refl;
+    sound = cut-sound;
+    stays = (shares_move adds.shares).stays;
+  }
+
+  pub dup_answers : from ≡ 0 → to ≡ byte_len (slices_in h.domains d a) → Answers (λ s. aggs.agg_dup s d a) h n (record h { store = t; domains = ds })
+  dup_answers none all = record {
+    answer = λ f keeps. number ∙ sym (next_agg-read_of f h d);
+    after = λ f keeps. added-read h t ds d _ adds f
+        ∙ ap (aggs.with_agg (read_of f h) d) (read_same f.at adds.slices (slices_in h.domains d a) (adds.is_there ∙ whole (places (slices_in h.domains d a)) from to none all) ∙ sym (text-read_of f h d a));
+    arena = adds.shares.arena;
+    pools = adds.shares.pools;
+    sums = refl;
+    cache = refl;
+    sound = cut-sound;
+    stays = (shares_move adds.shares).stays;
+  }
+    where
+      whole : (ps : List Place) (from to : ℕ) → from ≡ 0 → to ≡ length ps → slice_range ps from to ≡ ps
+      whole ps from to none all = rw none (rw all (take_all (length ps - 0) ps (omega arith)))
+
+-- An aggregate with another in place of a range.
+
+module _ (h : KernelState) (t : Stored) (ds : List (Domain (List Slice))) (d a from to b n : ℕ) (adds : AddsShared h.store t h.domains ds d (replaced (places (slices_in h.domains d a)) from to (places (slices_in h.domains d b))))
+    (sound : IsSound h) (live : (domain_in h.domains d).live ≡ true) (few : live_aggs_in h.domains < MAX_AGGREGATES) (number : n ≡ (domain_in h.domains d).next_agg)
+    (small : length (replaced (machine.text (machine_of [] h) d a) from to (machine.text (machine_of [] h) d b)) ≤ MAX_AGGREGATE_BYTES) where
+  replaced-sound : IsSound (record h { store = t; domains = ds })
+  replaced-sound =
+      let xs : List Place = places (slices_in h.domains d a) in
+      let ys : List Place = places (slices_in h.domains d b) in
+      let P : Place → Type 0 = IsThere h.store in
+      let good = (slices_readable h d a sound).each in
+      added-sound h t ds d _ adds sound live few
+      (record {
+        each = All-same P _ _ adds.is_there
+            (All-append P (take from xs ++ ys) (drop to xs) (All-append P (take from xs) ys (All-take P from xs good) (slices_readable h d b sound).each) (All-drop P to xs good));
+      })
+      (omega (arith, small, ap length adds.is_there, as_long))
+    where
+      as_long : length (replaced (places (slices_in h.domains d a)) from to (places (slices_in h.domains d b))) ≡ length (replaced (machine.text (machine_of [] h) d a) from to (machine.text (machine_of [] h) d b))
+      as_long =
+          let x : List Place = places (slices_in h.domains d a) in
+          let y : List Place = places (slices_in h.domains d b) in
+          let u : Text = machine.text (machine_of [] h) d a in
+          let v : Text = machine.text (machine_of [] h) d b in
+          omega (
+            arith,
+            length_text-read_of (bytes_over [] h.store) h d a,
+            length_text-read_of (bytes_over [] h.store) h d b,
+            length-append (take from x ++ y) (drop to x),
+            length-append (take from x) y,
+            length-take from x,
+            length-drop to x,
+            length-append (take from u ++ v) (drop to u),
+            length-append (take from u) v,
+            length-take from u,
+            length-drop to u,
+          )
+
+  pub replaced_answers : Answers (λ s. aggs.agg_replace s d a from to b) h n (record h { store = t; domains = ds })
+  replaced_answers = record {
+    answer = λ f keeps. number ∙ sym (next_agg-read_of f h d);
+    after = λ f keeps. added-read h t ds d _ adds f
+        ∙ ap (aggs.with_agg (read_of f h) d)
+        (read_replaced f.at adds.slices (slices_in h.domains d a) (slices_in h.domains d b) from to adds.is_there
+        ∙ ap (λ (u : Text). replaced u from to (read f (slices_in h.domains d b))) (sym (text-read_of f h d a))
+        ∙ ap (λ (u : Text). replaced (machine.text (read_of f h) d a) from to u) (sym (text-read_of f h d b)));
+    arena = adds.shares.arena;
+    pools = adds.shares.pools;
+    sums = refl;
+    cache = refl;
+    sound = replaced-sound;
+    stays = (shares_move adds.shares).stays;
+  }

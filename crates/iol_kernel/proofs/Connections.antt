@@ -1,0 +1,12 @@
+pub mod Arrived
+pub mod TakenIn
+pub mod Connecting
+pub mod Arriving
+pub mod Transmitting
+pub mod PeerClosed
+pub mod Hanging
+pub mod Accepting
+pub mod ConnQueues
+pub mod Incoming
+pub mod Outgoing
+pub mod Borrowing

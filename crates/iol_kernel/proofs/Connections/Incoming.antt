@@ -1,0 +1,223 @@
+-- Reading from a connection: a domain gets the front of what came in, whatever is read at the places.
+use Rattle.std.proofs.Common.{◌≡◌, ℕ, ◌+◌, ◌<◌, ◌≤◌, List, [], ◌∷◌, ◌++◌, length, take, drop, map, ap, ◌∙◌, refl, sym, subst, arith, Option, Some, None, true, false, inl, inr, ◌⊎◌}
+use Rattle.std.specs.Prelude.{min, nat_lt, ◌==◌, ◌&&◌, is_none, Bool}
+use Rattle.std.specs.List.{prefix_len}
+use Rattle.std.proofs.lemmas.Bool.Decides.{nat_tests}
+use Rattle.std.proofs.lemmas.List.{length-take, length-drop}
+use Rattle.iol_core.specs.Text.{Text, admitted, barred}
+use Rattle.iol_core.specs.Numbered.{lookup, changed}
+use Rattle.iol_core.specs.State as machine
+use Rattle.iol_core.specs.State.{State, Domain, Connection}
+use Rattle.iol_core.specs.Calls.Aggregates as aggs
+use Rattle.iol_core.specs.Calls.Reading as reading
+use Rattle.iol_core.specs.declared.descriptors.Descriptor.{Descriptor}
+use Rattle.iol_core.specs.declared.descriptors.Descriptor.TheVariants as on
+use Rattle.iol_core.specs.declared.limits.TheConstants.{MAX_AGGREGATES, MAX_QUEUE_BYTES}
+use Rattle.iol_pool.specs.Pools.{names_in}
+use Rattle.iol_hold.specs.Moves.{SameLists, pool_meant}
+use Rattle.iol_arena.specs.State.{page_count}
+use Rattle.iol_hold.specs.Places.{places, byte_len}
+use Rattle.iol_hold.specs.Texts.{bufs_of, AllReadable}
+use Rattle.iol_hold.specs.declared.slices.Slice.{Slice}
+use Rattle.iol_hold.proofs.AtPlaces.{length-read}
+use Rattle.iol_hold.proofs.Counting.{tally-append}
+use Rattle.iol_hold.proofs.Emptied.{all_settled_same}
+use Rattle.iol_hold.proofs.Moving.{shares_move}
+use Rattle.iol_hold.proofs.Reading.{readable_rest}
+use Rattle.iol_pipe.specs.Queue.{first_pool, may_see}
+use Rattle.iol_pipe.proofs.Given.{read_given, read_left}
+use Rattle.iol_pipe.proofs.Texts.{readable_given}
+use Rattle.iol_desc.specs.Tables.{domain_in, with_agg_in, live_aggs_in}
+use Rattle.iol_sock.specs.Connections.{Conn, conn_view}
+use Rattle.iol_sock.specs.Table.{conn_in, no_conn}
+use Rattle.iol_kernel.specs.Adding.{TakesFront}
+use Rattle.iol_kernel.specs.Calls.{Answers}
+use Rattle.iol_kernel.specs.Counted.{IsCounted, conn_uses}
+use Rattle.iol_kernel.specs.KernelState as held
+use Rattle.iol_kernel.specs.KernelState.{KernelState, objects_of, Each, AreReadable, IsConnReadable, IsOpenEnd, IsSound, read_of}
+use Rattle.iol_kernel.specs.Readings.{Reading, read, KeepsPools}
+use Rattle.iol_kernel.proofs.Connections.Connecting.{conn_in-is, conn_readable, conn_limit, turned, turned_fds, turned_limits, turned_pooled, turned-read}
+use Rattle.iol_kernel.proofs.Connections.ConnQueues.{open_held, found_held, conn_at-read_of, incoming-read_of, conn_in-none, with_on}
+use Rattle.iol_kernel.proofs.State.Effects.{moved-sound}
+use Rattle.iol_kernel.proofs.Queues.Flowing.{admitted-same, barred_of, denied_at}
+use Rattle.iol_kernel.proofs.State.Numbering.{each-changed, sum-changed}
+use Rattle.iol_kernel.proofs.State.Once.{once_same}
+use Rattle.iol_kernel.proofs.State.Pooling.{pools_pooled}
+use Rattle.iol_kernel.proofs.State.ReadOf.{may_read-read_of, next_agg-read_of}
+use Rattle.iol_kernel.proofs.State.Sound.{add_readable, fds_stay, limits_agg}
+use Rattle.iol_kernel.proofs.State.Uses.{uses-with_agg}
+use Rattle.iol_kernel.proofs.State.Views.{with_agg-view}
+
+-- the first byte's pool, where the reader may not read it
+
+module _ (f : Reading) (keeps : KeepsPools f) (h : KernelState) (d c n : ℕ) where
+  abbrev first_barred : Option ℕ
+  first_barred = barred (machine.may_read (read_of f h) d) (take (min n 1) (machine.conn_at (read_of f h) c).incoming)
+
+  unread_barred : (x : Conn (List Slice)) → conn_in h.conns c ≡ x → 0 < n → first_barred ≡ denied_at (read_of f h) d (first_pool x.incoming)
+  unread_barred x is some =
+      let m : State = read_of f h in
+      ap (λ (t : Text). barred (machine.may_read m d) (take (min n 1) t)) (incoming-read_of f h c ∙ ap (λ (y : Conn (List Slice)). read f y.incoming) is)
+      ∙ barred_of f keeps m d n x.incoming some
+
+  pub lacking_unread : 0 < n → None ≡ lookup h.conns c → None ≡ first_barred
+  lacking_unread some none = sym (unread_barred no_conn (conn_in-none h.conns c none) some)
+
+  module _ (x : Conn (List Slice)) (found : Some x ≡ lookup h.conns c) where
+    here : conn_in h.conns c ≡ x
+    here = conn_in-is h.conns c x (sym found)
+
+    pub none_unread : 0 < n → None ≡ first_pool x.incoming → None ≡ first_barred
+    none_unread some is = sym (unread_barred x here some ∙ ap (λ (o : Option ℕ). denied_at (read_of f h) d o) (sym is))
+
+    pub unread_admitted : (q : ℕ) → 0 < n → Some q ≡ first_pool x.incoming → machine.may_read (read_of f h) d q ≡ true → None ≡ first_barred
+    unread_admitted q some is named = sym (unread_barred x here some ∙ ap (λ (o : Option ℕ). denied_at (read_of f h) d o) (sym is) ∙ rw named refl)
+
+    pub unread_denied : (q : ℕ) → 0 < n → Some q ≡ first_pool x.incoming → machine.may_read (read_of f h) d q ≡ false → Some q ≡ first_barred
+    unread_denied q some is named = sym (unread_barred x here some ∙ ap (λ (o : Option ℕ). denied_at (read_of f h) d o) (sym is) ∙ rw named refl)
+
+-- whether the reader must wait
+
+abbrev must_wait : Reading → KernelState → (c n : ℕ) → Bool
+must_wait f h c n = reading.must_wait (read_of f h) (Some (on.Connection c)) n
+
+module _ (f : Reading) (h : KernelState) (c n : ℕ) where
+  waits_for : (x : Conn (List Slice)) → conn_in h.conns c ≡ x → must_wait f h c n ≡ (nat_lt 0 n && (byte_len x.incoming == 0) && is_none x.peer)
+  waits_for x is =
+      ap (λ (y : Connection). nat_lt 0 n && (length y.incoming == 0) && is_none y.peer) (conn_at-read_of f h c ∙ ap (conn_view (read f)) is)
+      ∙ ap (λ k. nat_lt 0 n && (k == 0) && is_none x.peer) (length-read f.at x.incoming)
+
+  pub waits_for_none : None ≡ lookup h.conns c → must_wait f h c n ≡ false
+  waits_for_none none = waits_for no_conn (conn_in-none h.conns c none) ∙ of (nat_lt 0 n)
+    where
+      of : (b : Bool) → (b && true && false) ≡ false
+      of true = refl
+      of false = refl
+
+  pub waits_for_peer : (x : Conn (List Slice)) → Some x ≡ lookup h.conns c → 0 < n → byte_len x.incoming ≡ 0 → must_wait f h c n ≡ is_none x.peer
+  waits_for_peer x found some empty = waits_for x (conn_in-is h.conns c x (sym found)) ∙ of n (byte_len x.incoming) (is_none x.peer) some empty
+    where
+      of : (n k : ℕ) (b : Bool) → 0 < n → k ≡ 0 → (nat_lt 0 n && (k == 0) && b) ≡ b
+      of n k b some empty = grind (arith, nat_tests, some, empty)
+
+  pub needs_no_peer : (x : Conn (List Slice)) → Some x ≡ lookup h.conns c → (n ≡ 0) ⊎ (0 < byte_len x.incoming) → must_wait f h c n ≡ false
+  needs_no_peer x found some = waits_for x (conn_in-is h.conns c x (sym found)) ∙ elim some [ inl e ↦ none n (byte_len x.incoming) (is_none x.peer) e | inr l ↦ more n (byte_len x.incoming) (is_none x.peer) l ]
+    where
+      none : (n k : ℕ) (b : Bool) → n ≡ 0 → (nat_lt 0 n && (k == 0) && b) ≡ false
+      none n k b e = grind (arith, nat_tests, e)
+
+      more : (n k : ℕ) (b : Bool) → 0 < k → (nat_lt 0 n && (k == 0) && b) ≡ false
+      more n k b l = grind (arith, nat_tests, l)
+
+-- A domain gets the front.
+
+module _ (h k : KernelState) (d fd c n : ℕ) (sound : IsSound h) (from : (f : Reading) → machine.descriptor (read_of f h) d fd ≡ Some (on.Connection c)) (takes : TakesFront h.store k.store (conn_in h.conns c).incoming (conn_in k.conns c).incoming h.domains k.domains d n)
+    (same : k ≡ record h { store = k.store; domains = k.domains; conns = changed h.conns c (record (conn_in h.conns c) { incoming = (conn_in k.conns c).incoming }) }) where
+  -- the connection with the rest in its queue
+  abbrev rest : Conn (List Slice)
+  rest = record (conn_in h.conns c) { incoming = (conn_in k.conns c).incoming }
+
+  there : lookup h.conns c ≡ Some (conn_in h.conns c)
+  there = found_held h d fd c sound from
+
+  abbrev less : KernelState
+  less = turned h k.store c (conn_in h.conns c) rest sound there
+
+  abbrev given : List (Domain (List Slice))
+  given = with_agg_in h.domains d takes.slices
+
+  abbrev taken : KernelState
+  taken = record less { domains = given }
+
+  is_taken : k ≡ taken
+  is_taken = same ∙ ap (λ (ds : List (Domain (List Slice))). record less { domains = ds }) takes.added
+
+  slices_good : AllReadable h.store takes.slices
+  slices_good = readable_given takes.slices (conn_in h.conns c).incoming h.store.pools d n takes.given (conn_readable h c (conn_in h.conns c) sound there).0
+
+  rest_good : IsConnReadable h.store (c, rest)
+  rest_good =
+      let was = conn_readable h c (conn_in h.conns c) sound there in
+      (readable_rest (conn_in k.conns c).incoming (conn_in h.conns c).incoming (byte_len takes.slices) takes.left was.0, was.1)
+
+  parts_short : (byte_len takes.slices ≤ MAX_QUEUE_BYTES) × (byte_len (conn_in k.conns c).incoming ≤ MAX_QUEUE_BYTES)
+  parts_short =
+      let was = (conn_limit h c (conn_in h.conns c) sound there).incoming in
+      let q = places (conn_in h.conns c).incoming in
+      (omega (arith, was, ap length takes.given, length-take (prefix_len (may_see h.store.pools d) (take n q)) (take n q), length-take n q), omega (arith, was, ap length takes.left, length-drop (byte_len takes.slices) q))
+
+  less_good : AreReadable h.store (objects_of less)
+  less_good = record { pipes = sound.objects.pipes; conns = each-changed (IsConnReadable h.store) h.conns c rest sound.objects.conns rest_good; files = sound.objects.files }
+
+  rest_limit : held.IsConn (c, rest)
+  rest_limit = let was = conn_limit h c (conn_in h.conns c) sound there in record { incoming = parts_short.1; outgoing = was.outgoing; waits = was.waits }
+
+  less_fds : Each (λ (x : Domain (List Slice)). Each (IsOpenEnd (objects_of less)) x.fds) h.domains
+  less_fds = turned_fds h k.store c (conn_in h.conns c) rest sound there (λ open'. open')
+
+  -- what is read
+
+  lists : SameLists h.store k.store
+  lists = ap (map pool_meant) takes.shares.pools
+
+  taken-read : (f : Reading) → read_of f taken ≡ aggs.with_agg (read_of f less) d (read f takes.slices)
+  unfolding read_of
+  taken-read f = with_agg-view f h.domains k.store.pools (objects_of less) d takes.slices
+
+  after : (f : Reading) → KeepsPools f → read_of f k ≡ (reading.iol_read (read_of f h) d fd n).after
+  after f keeps =
+      let s : State = read_of f h in
+      let w : Connection = conn_view (read f) (conn_in h.conns c) in
+      let u : Text = reading.read_text s d (Some (on.Connection c)) n in
+      let first : read f takes.slices ≡ u =
+      read_given f.at keeps takes.slices (conn_in h.conns c).incoming h.store.pools d n takes.given
+      ∙ admitted-same (λ q. names_in h.store.pools q d) (machine.may_read s d) (take n (read f (conn_in h.conns c).incoming)) (λ q. sym (may_read-read_of f h d q))
+      ∙ ap (λ (q : Text). admitted (machine.may_read s d) (take n q)) (sym (incoming-read_of f h c)) in
+      let left : read f (conn_in k.conns c).incoming ≡ drop (length u) w.incoming =
+      read_left f.at keeps takes.slices (conn_in k.conns c).incoming (conn_in h.conns c).incoming h.store.pools d n takes.given takes.left
+      ∙ ap (λ (v : Text). drop (length v) (read f (conn_in h.conns c).incoming)) (sym (read_given f.at keeps takes.slices (conn_in h.conns c).incoming h.store.pools d n takes.given) ∙ first) in
+      ap (read_of f) is_taken
+      ∙ taken-read f
+      ∙ ap (λ (x : State). aggs.with_agg x d (read f takes.slices)) (turned-read h k.store c (conn_in h.conns c) rest sound there lists f)
+      ∙ ap (λ (v : Text). aggs.with_agg (record s { conns = changed s.conns c (record w { incoming = read f (conn_in k.conns c).incoming }) }) d v) first
+      ∙ ap (λ (v : Text). aggs.with_agg (record s { conns = changed s.conns c (record w { incoming = v }) }) d u) left
+      ∙ ap (λ (x : State). aggs.with_agg x d u) (sym (with_on s c (record w { incoming = drop (length u) w.incoming }) (open_held h d fd c sound from).0 (open_held h d fd c sound from).1))
+      ∙ ap (λ (z : Connection). aggs.with_agg (machine.with_conn s c (record z { incoming = drop (length u) z.incoming })) d u) (sym (conn_at-read_of f h c))
+      ∙ ap (λ (o : Option Descriptor). aggs.with_agg (reading.read_on s d fd o (length (reading.read_text s d o n))) d (reading.read_text s d o n)) (sym (from f))
+
+  -- and all stays sound
+
+  module _ (live : (domain_in h.domains d).live ≡ true) (few : live_aggs_in h.domains < MAX_AGGREGATES) where
+    taken_counted : IsCounted k.store given (objects_of less)
+    taken_counted = record {
+      each = λ b. omega (
+        arith,
+        sound.counted.each b,
+        takes.shares.counts.each b,
+        uses-with_agg b h.domains d takes.slices live,
+        sum-changed (conn_uses b) h.conns 0 h.next_conn c (conn_in h.conns c) rest sound.limits.objects.rising there,
+        tally-append b (bufs_of takes.slices) (bufs_of (conn_in k.conns c).incoming),
+      );
+    }
+
+    taken-sound : IsSound taken
+    taken-sound =
+        let x : Domain (List Slice) = domain_in h.domains d in
+        let y : Domain (List Slice) = record x { aggs = x.aggs ++ (x.next_agg, takes.slices) ∷ []; next_agg = x.next_agg + 1 } in
+        moved-sound h.store taken (shares_move takes.shares).stays taken_counted (takes.shares.tidy sound.tidy) ((shares_move takes.shares).still sound.still) (all_settled_same h.store k.store takes.shares.arena takes.shares.pools sound.settled)
+        (add_readable h.store h.domains d takes.slices sound.domains slices_good) less_good
+        (fds_stay (objects_of less) h.domains d y less_fds refl) (once_same h.domains d y live refl sound.once)
+        (limits_agg h.domains (objects_of less) d takes.slices (turned_limits h k.store c (conn_in h.conns c) rest sound there rest_limit) live (omega (arith, parts_short.0)) few)
+        (turned_pooled h k.store c (conn_in h.conns c) rest sound there refl (pools_pooled h.store k.store h.conns h.cache.files takes.shares.pools sound.pooled)) sound.sums sound.filed sound.cached (ap page_count takes.shares.arena)
+
+    pub unread_taken : (a : ℕ) → a ≡ (domain_in h.domains d).next_agg → Answers (λ s. reading.iol_read s d fd n) h a k
+    unread_taken a number = record {
+      answer = λ f keeps. number ∙ sym (next_agg-read_of f h d);
+      after = after;
+      arena = takes.shares.arena;
+      pools = takes.shares.pools;
+      sums = ap (λ (l : KernelState). l.sums) same;
+      cache = ap (λ (l : KernelState). l.cache) same;
+      sound = subst IsSound (sym is_taken) taken-sound;
+      stays = (shares_move takes.shares).stays;
+    }

@@ -1,0 +1,206 @@
+-- An aggregate is written over the bytes of a file: what the call means and leaves, by what the cache promises.
+use Rattle.std.proofs.Common.{inl, inr, ◌≡◌, ℕ, ◌+◌, ◌<◌, ◌≤◌, ◌++◌, ◌^◌, List, [], length, take, refl, sym, ap, ◌∙◌, subst, arith, Option, Some, None, true}
+use Rattle.std.specs.Prelude.{Result, Ok, Err}
+use Rattle.std.proofs.lemmas.Bool.{cases_lt}
+use Rattle.std.proofs.lemmas.List.{take_all}
+use Rattle.iol_core.specs.Text.{Text}
+use Rattle.iol_core.specs.Numbered.{in_place, is_numbered, numbered_or}
+use Rattle.iol_core.specs.Meaning.{Meaning, first, WantOfRoom}
+use Rattle.iol_core.specs.State as machine
+use Rattle.iol_core.specs.State.{State}
+use Rattle.iol_core.specs.Calls.Writing as writing
+use Rattle.iol_core.specs.declared.refusals.Refusal.{Refusal}
+use Rattle.iol_core.specs.declared.refusals.Refusal.TheVariants.{NoRoom}
+use Rattle.iol_core.specs.declared.descriptors.Mode.{Mode}
+use Rattle.iol_core.specs.declared.descriptors.Descriptor.{Descriptor}
+use Rattle.iol_core.specs.declared.descriptors.Descriptor.TheVariants as on
+use Rattle.iol_core.specs.declared.limits.TheConstants.{MAX_FILE_BYTES}
+use Rattle.iol_back.specs.Disk.{Disk}
+use Rattle.iol_hold.specs.Moves.{Covers, Moves, SameLists}
+use Rattle.iol_hold.specs.Places.{byte_len}
+use Rattle.iol_hold.specs.Room.{pages_of}
+use Rattle.iol_hold.specs.Stored.{Stored, AllSettled}
+use Rattle.iol_hold.specs.Texts.{bufs_of, text_of}
+use Rattle.iol_hold.specs.declared.slices.Slice.{Slice}
+use Rattle.iol_hold.proofs.AtPlaces.{length-read}
+use Rattle.iol_hold.proofs.Counting.{tally-append}
+use Rattle.iol_hold.proofs.Releasing.{frees_none}
+use Rattle.iol_desc.specs.Tables.{agg_in, domain_in, with_fds_in}
+use Rattle.iol_cache.specs.Cached.{Cached, file_in, held, no_file}
+use Rattle.iol_cache.specs.Composing.{copied_pages}
+use Rattle.iol_cache.specs.Evicting.{Holding}
+use Rattle.iol_cache.specs.Overwriting.{IsWritten, KeepsFiles, KeepsMirrors, KeepsOthers, LeavesAll, LiesDirty, OnlyMakesRoom, WritesFile}
+use Rattle.iol_cache.specs.Paging.{FillsLowest}
+use Rattle.iol_cache.specs.Sharing.{CountsBelow}
+use Rattle.iol_cache.specs.Sound as cache
+use Rattle.iol_cache.specs.declared.files.CachedFile.{CachedFile}
+use Rattle.iol_cache.proofs.Extents.Filing.{numbered_bounds, numbered_yes}
+use Rattle.iol_cache.proofs.Reads.Paging.{fills_none, pages_kept}
+use Rattle.iol_kernel.specs.Backed.{Serves, holding_of}
+use Rattle.iol_kernel.specs.Calls.{CarriesOut}
+use Rattle.iol_kernel.specs.KernelState.{KernelState, IsSound, machine_of, objects_of, read_of, slices_in}
+use Rattle.iol_kernel.specs.Readings.{Reading, bytes_over}
+use Rattle.iol_kernel.specs.Views.{state_view}
+use Rattle.iol_kernel.specs.Keeping.{KeepsBeside, LacksPages}
+use Rattle.iol_kernel.specs.WritingFiles.{WritesOn, WritesOver, pages_to_write, pool_of_file}
+use Rattle.iol_cache.proofs.Extents.Keeping.{apart_of}
+use Rattle.iol_kernel.proofs.FileCalls.Kept.{beside_same, unwritten_unless, write_unless}
+use Rattle.iol_kernel.proofs.FileCalls.FileWrites.{SamePools, late_serves, unwritten_pools, write_serves, written_pools}
+use Rattle.iol_kernel.proofs.FileCalls.Moved.{repositioned}
+use Rattle.iol_kernel.proofs.FileCalls.Named.{as_many, cache_sound}
+use Rattle.iol_kernel.proofs.State.ReadOf.{descriptor-read_of, text-read_of}
+use Rattle.iol_kernel.proofs.FileCalls.Recached.{Recaches}
+use Rattle.iol_kernel.proofs.AggregateCalls.Slices.{slices_found}
+use Rattle.iol_kernel.proofs.State.Uses.{all_few, uses-without_agg}
+use Rattle.iol_kernel.proofs.State.Views.{numbered_or-map}
+
+-- What the cache asks of an aggregate that is written.
+
+pub agg_beside : (h : KernelState) (d a : ℕ) (xs : List Slice) → IsSound h → (domain_in h.domains d).live ≡ true → Some xs ≡ agg_in h.domains d a → Covers h.store (held h.cache.files ++ bufs_of xs)
+agg_beside h d a xs sound live found = record {
+  each = λ b. omega (arith, tally-append b (held h.cache.files) (bufs_of xs), sound.counted.each b, uses-without_agg b h.domains d a xs live found);
+}
+
+pub counts_below : (h : KernelState) → IsSound h → CountsBelow h.store (2 ^ 60)
+counts_below h sound = record { each = λ b. omega (arith, sound.counted.each b, all_few b h.domains (objects_of h) sound.limits) }
+
+pub counts_lower : (h : KernelState) → IsSound h → CountsBelow h.store (2 ^ 61)
+counts_lower h sound = record { each = λ b. omega (arith, sound.counted.each b, all_few b h.domains (objects_of h) sound.limits) }
+
+pub in_cache : (h : KernelState) (f : ℕ) → IsSound h → is_numbered h.files f ≡ true → is_numbered h.cache.files f ≡ true
+in_cache h f sound there = let b = numbered_bounds h.files f there in numbered_yes h.cache.files f b.0 (omega (arith, b.1, as_many h sound.filed))
+
+-- the pool of a file, as the machine has it
+pub pool-file : (r : Reading) (h : KernelState) (f : ℕ) → IsSound h → (machine.file (read_of r h) f).pool ≡ pool_of_file h f
+unfolding read_of state_view machine.file file_in
+pool-file r h f sound =
+    sym (numbered_or-map (λ (x : machine.File). x.pool) h.files f machine.no_file)
+    ∙ ap (λ ps. numbered_or ps f 0) (sym sound.filed)
+    ∙ numbered_or-map (λ (x : CachedFile). x.pool) h.cache.files f no_file
+
+-- a refusal before anything was done
+pub refused_leaves : (h : KernelState) (f at : ℕ) (xs : List Slice) (x : Refusal) → ((p : ℕ) → ◌≡◌ {A = Result ℕ Refusal} (Err x) (Err (NoRoom p)) → ⊥) → WritesOver {A = ℕ} f at xs h (Err x) h
+refused_leaves h f at xs x roomy = record {
+  lies = tt;
+  over = λ some. tt;
+  nothing = λ none. tt;
+  moves = tt;
+  beside = (let p = pool_of_file h f in beside_same f at (byte_len xs) p (LacksPages h p (copied_pages p xs)) h.cache h.cache refl);
+  room = tt;
+  no_room = λ p e. absurd (roomy p e);
+  pages = fills_none (pool_of_file h f) (frees_none h.store h.store refl refl refl);
+  lists = refl;
+  same = refl;
+  refused = refl;
+  leaves = inl refl;
+}
+
+-- by what the descriptor is open on
+
+pub refused_on : (d fd a : ℕ) (h : KernelState) (x : Refusal) (o : Option Descriptor) → CarriesOut (λ s. writing.iol_write s d fd a) h (Err x) h → WritesOn d fd a o h (Err x) h
+refused_on d fd a h x None c = c
+refused_on d fd a h x (Some (on.File f at mode)) c = refused_leaves h f at (slices_in h.domains d a) x c.roomy
+refused_on d fd a h x (Some (on.ReadEnd p)) c = c
+refused_on d fd a h x (Some (on.WriteEnd p)) c = c
+refused_on d fd a h x (Some (on.Connection n)) c = c
+
+pub queued_on : (d fd a : ℕ) (h k : KernelState) (r : Result ℕ Refusal) (x : Descriptor) → ((f at : ℕ) (mode : Mode) → x ≡ on.File f at mode → ⊥) → CarriesOut (λ s. writing.iol_write s d fd a) h r k → WritesOn d fd a (Some x) h r k
+queued_on d fd a h k r (on.File f at mode) other c = absurd (other f at mode refl)
+queued_on d fd a h k r (on.ReadEnd p) other c = c
+queued_on d fd a h k r (on.WriteEnd p) other c = c
+queued_on d fd a h k r (on.Connection n) other c = c
+
+module _ (h : KernelState) (t : Stored) (d : Cached) (by fd a f at : ℕ) (mode : Mode) (xs : List Slice) (sound : IsSound h) (live : (domain_in h.domains by).live ≡ true) (is : in_place (domain_in h.domains by).fds fd ≡ Some (on.File f at mode)) (there : is_numbered h.files f ≡ true) (found : Some xs ≡ agg_in h.domains by a)
+    (moves : Moves h.store t (held h.cache.files) (held d.files)) (lists : SameLists h.store t) (settles : AllSettled h.store → AllSettled t) (pages : FillsLowest (pool_of_file h f) h.store t) (after : cache.IsSound t d) (mirrors : KeepsMirrors (holding_of h) (record { store = t; cache = d }))
+    (passed : (r : Reading) → first (writing.iol_write (read_of r h) by fd a).refusals ≡ None) where
+  abbrev new : Holding
+  new = record { store = t; cache = d }
+
+  recaches : SamePools (holding_of h) new → Recaches h.store t h.cache d
+  recaches same = record { moves = moves; lists = lists; settles = settles; pages = (pages_kept pages).count; files = same.0; pools = same.1; sound = after }
+
+  abbrev m : State → Meaning ℕ
+  m s = writing.iol_write s by fd a
+
+  to : (stored : List (List ℕ)) → machine.descriptor (machine_of stored h) by fd ≡ Some (on.File f at mode)
+  to stored = descriptor-read_of (bytes_over stored h.store) h by fd ∙ is
+
+  source : (stored : List (List ℕ)) → machine.text (machine_of stored h) by a ≡ text_of h.store xs
+  source stored = text-read_of (bytes_over stored h.store) h by a ∙ ap (text_of h.store) (sym (slices_found h.domains by a xs found))
+
+  long : length (text_of h.store xs) ≡ byte_len xs
+  long = length-read (bytes_over [] h.store).at xs
+
+  answered : (stored : List (List ℕ)) → length (text_of h.store xs) ≡ (m (machine_of stored h)).answer
+  answered stored =
+      let s : State = machine_of stored h in
+      sym (ap (λ (o : Option Descriptor). writing.fitting s o (length (machine.text s by a))) (to stored) ∙ ap (λ (w : Text). length w) (source stored))
+
+  left : (stored : List (List ℕ)) → (m (machine_of stored h)).after ≡ writing.written (machine_of stored h) by fd (Some (on.File f at mode)) (text_of h.store xs)
+  left stored =
+      let s : State = machine_of stored h in
+      ap (λ (o : Option Descriptor). writing.written s by fd o (take (writing.fitting s o (length (machine.text s by a))) (machine.text s by a))) (to stored)
+      ∙ ap (λ (w : Text). writing.written s by fd (Some (on.File f at mode)) (take (length w) w)) (source stored)
+      ∙ ap (λ (w : Text). writing.written s by fd (Some (on.File f at mode)) w) (take_all (length (text_of h.store xs)) (text_of h.store xs) (omega arith))
+
+  module _ (lies : LiesDirty f at xs d) (writes : 0 < byte_len xs → WritesFile f at xs (holding_of h) new) (nothing : byte_len xs ≡ 0 → new ≡ holding_of h) where
+    pools : SamePools (holding_of h) new
+    pools = elim (cases_lt 0 (byte_len xs)) [
+      | inl some ↦ written_pools f at xs (holding_of h) new (in_cache h f sound there) (writes some)
+      | inr none ↦ subst (λ (x : Holding). SamePools (holding_of h) x) (sym (nothing (omega (arith, none)))) (refl, λ g. refl)
+    ]
+
+    pub over_serves : (k : KernelState) (n : ℕ) → IsWritten f at xs (holding_of h) new → KeepsOthers f (holding_of h) new → at + byte_len xs ≤ MAX_FILE_BYTES → n ≡ byte_len xs → k ≡ record h { store = t; cache = d; domains = with_fds_in h.domains by (repositioned h by fd f (at + byte_len xs) mode) } → (disk : Disk) → Serves m disk h (Ok n) disk k
+    over_serves k n written others short count same disk =
+        subst (λ z. Serves m disk h (Ok z) disk k) (long ∙ sym count)
+        (write_serves m h k t d by fd f at mode (text_of h.store xs) sound live is (recaches pools) (record { written = written.each; others = others; mirrors = mirrors }) (omega (arith, short, long)) (λ stored. passed (bytes_over stored h.store)) answered left
+        (same ∙ ap (λ z. let k : KernelState = record h { store = t; cache = d; domains = with_fds_in h.domains by (repositioned h by fd f (at + z) mode) } in k) (sym long)) disk)
+
+    beside : let p = pool_of_file h f in KeepsBeside f at (byte_len xs) p (LacksPages h p (copied_pages p xs)) h.cache d
+    beside = elim (cases_lt 0 (byte_len xs)) [
+      | inl some ↦ write_unless h f at xs new (apart_of {h = holding_of h} (cache_sound h sound)) (in_cache h f sound there) (writes some)
+      | inr none ↦ (let p = pool_of_file h f in beside_same f at (byte_len xs) p (LacksPages h p (copied_pages p xs)) h.cache d (ap (λ (x : Holding). x.cache) (nothing (omega (arith, none)))))
+    ]
+
+    pub over_leaves : (k : KernelState) (n : ℕ) → pages_to_write h f xs ≤ length (pages_of h.store (pool_of_file h f)) → k ≡ record h { store = t; cache = d; domains = k.domains } → k.domains ≡ with_fds_in h.domains by (repositioned h by fd f (at + byte_len xs) mode) → WritesOver f at xs h (Ok n) k
+    over_leaves k n room same moved = subst (λ (l : KernelState). WritesOver f at xs h (Ok n) l) (sym same) (record {
+      lies = lies;
+      over = writes;
+      nothing = nothing;
+      moves = record { domain = by; fd = fd; mode = mode; is = moved };
+      beside = beside;
+      room = room;
+      no_room = λ p e. absurd (cc e);
+      pages = pages;
+      lists = lists;
+      same = refl;
+      refused = tt;
+      leaves = tt;
+    })
+
+  -- refused late
+
+  pub unwritten_serves : (k : KernelState) (x : Refusal) → OnlyMakesRoom (pool_of_file h f) (copied_pages (pool_of_file h f) xs) (holding_of h) new → KeepsFiles (holding_of h) new → WantOfRoom (pool_of_file h f) x → k ≡ record h { store = t; cache = d } → (disk : Disk) → Serves m disk h (Err x) disk k
+  unwritten_serves k x room keeps late same =
+      late_serves m h k t d x sound (recaches (unwritten_pools (pool_of_file h f) (copied_pages (pool_of_file h f) xs) (holding_of h) new room)) keeps mirrors (λ stored. passed (bytes_over stored h.store))
+      (λ stored. subst (λ (o : Option Descriptor). writing.write_late (machine_of stored h) o x) (sym (to stored)) (subst (λ p. WantOfRoom p x) (sym (pool-file (bytes_over stored h.store) h f sound)) late))
+      same
+
+  pub unwritten_leaves : (k : KernelState) (x : Refusal) → OnlyMakesRoom (pool_of_file h f) (copied_pages (pool_of_file h f) xs) (holding_of h) new → ((p : ℕ) → x ≡ NoRoom p → length (pages_of h.store (pool_of_file h f)) < pages_to_write h f xs) → ((p : ℕ) → x ≡ NoRoom p → LeavesAll (holding_of h) new) → WantOfRoom (pool_of_file h f) x → k ≡ record h { store = t; cache = d } → WritesOver {A = ℕ} f at xs h (Err x) k
+  unwritten_leaves k x room lacks kept late same = subst (λ (l : KernelState). WritesOver {A = ℕ} f at xs h (Err x) l) (sym same) (record {
+    lies = tt;
+    over = λ some. tt;
+    nothing = λ none. tt;
+    moves = tt;
+    beside = unwritten_unless h f at xs new (apart_of {h = holding_of h} (cache_sound h sound)) room;
+    room = tt;
+    no_room = λ p e. lacks p (the_refusal e);
+    pages = pages;
+    lists = lists;
+    same = refl;
+    refused = refl;
+    leaves = inr (late, room, kept);
+  })
+    where
+      the_refusal : {p : ℕ} → ◌≡◌ {A = Result ℕ Refusal} (Err x) (Err (NoRoom p)) → x ≡ NoRoom p
+      the_refusal e = cc

@@ -1,0 +1,13 @@
+pub mod Queued
+pub mod TakenOut
+pub mod Listing
+pub mod Ends
+pub mod Opening
+pub mod Flowing
+pub mod Queueing
+pub mod CloseAll
+pub mod ClosedEnds
+pub mod TakenEnds
+pub mod Skipped
+pub mod Written
+pub mod Put

@@ -1,0 +1,139 @@
+-- What is written to queues and read from them, whatever is read at the places.
+use Rattle.std.proofs.Common.{◌≡◌, ℕ, ◌+◌, ◌-◌, ◌<◌, cond, List, [], ◌∷◌, ◌++◌, length, take, drop, ap, ◌∙◌, refl, sym, arith, Option, Some, None, true, false, Bool}
+use Rattle.std.specs.Prelude.{slice_set, ◌||◌, min, not, option_map, option_and_then, if◌then◌else◌}
+use Rattle.std.specs.List.{prefix_len, slice_get}
+use Rattle.std.proofs.lemmas.Bool.Decides.{nat_tests}
+use Rattle.iol_core.specs.Text.{Text, admitted, barred}
+use Rattle.iol_core.specs.State as machine
+use Rattle.iol_core.specs.State.{State, Domain}
+use Rattle.iol_core.specs.Calls.Aggregates as aggs
+use Rattle.iol_core.specs.Calls.Reading as reading
+use Rattle.iol_core.specs.declared.descriptors.Descriptor.TheVariants as on
+use Rattle.iol_pool.specs.Pools.{Pool, names_in}
+use Rattle.iol_hold.specs.Stored.{Stored}
+use Rattle.iol_hold.specs.Moves.{Shares}
+use Rattle.iol_hold.specs.Places.{places, byte_len}
+use Rattle.iol_hold.specs.Texts.{bufs_of}
+use Rattle.iol_hold.specs.declared.slices.Slice.{Slice}
+use Rattle.iol_hold.proofs.AtPlaces.{read_pushed}
+use Rattle.iol_pipe.proofs.Given.{read_given, read_left, first_pool-read}
+use Rattle.iol_pipe.specs.Queue.{first_pool}
+use Rattle.iol_desc.specs.Tables.{agg_in}
+use Rattle.iol_kernel.specs.Views.{Pipe, pipe_view, state_view}
+use Rattle.iol_kernel.specs.KernelState.{KernelState, objects_of, queue_at, read_of}
+use Rattle.iol_kernel.specs.Readings.{Reading, read, KeepsPools}
+use Rattle.iol_kernel.proofs.State.Views.{with_pipe-view, with_agg-view}
+use Rattle.iol_kernel.proofs.State.ReadOf.{may_read-read_of, text-read_of, length_text-read_of, pipe_at-read_of, queue-read_of, length_queue-read_of}
+use Rattle.iol_kernel.proofs.AggregateCalls.Slices.{slices_found}
+use Rattle.iol_kernel.specs.Adding.{TakesFront}
+
+left_true : (a b : Bool) → a ≡ true → (a || b) ≡ true
+left_true a b e = grind (arith, nat_tests, e)
+
+right_true : (a b : Bool) → b ≡ true → (a || b) ≡ true
+right_true a b e = grind (arith, nat_tests, e)
+
+-- Writing: the queue gets what fits.
+
+abbrev pub after_push : (p n d a : ℕ) → State → State
+after_push p n d a s = machine.with_pipe s p (record (machine.pipe_at s p) { queue = (machine.pipe_at s p).queue ++ take n (machine.text s d a) })
+
+module _ (h : KernelState) (t : Stored) (qs : List (Option (Pipe (List Slice)))) (p n d a : ℕ) (from : List Slice) (writing : (queue_at h.pipes p).writing ≡ true) (found : Some from ≡ agg_in h.domains d a)
+    (places' : places (queue_at qs p).queue ≡ places (queue_at h.pipes p).queue ++ take n (places from)) (pipes' : qs ≡ slice_set h.pipes p (Some (record (queue_at h.pipes p) { queue = (queue_at qs p).queue })))
+    (shares : Shares h.store t (bufs_of (queue_at h.pipes p).queue) (bufs_of (queue_at qs p).queue)) where
+  pub pushed-read : (f : Reading) → read_of f (record h { store = t; pipes = qs }) ≡ after_push p n d a (read_of f h)
+  unfolding read_of
+  pushed-read f =
+      let m : State = read_of f h in
+      let x : Pipe (List Slice) = record (queue_at h.pipes p) { queue = (queue_at qs p).queue } in
+      let q : read f (queue_at qs p).queue ≡ (machine.pipe_at m p).queue ++ take n (machine.text m d a) =
+      read_pushed f.at (queue_at qs p).queue (queue_at h.pipes p).queue from n places'
+      ∙ ap (λ (t : Text). t ++ take n (read f from)) (sym (queue-read_of f h p))
+      ∙ ap (λ (t : Text). (machine.pipe_at m p).queue ++ take n t) (ap (read f) (slices_found h.domains d a from found) ∙ sym (text-read_of f h d a)) in
+      ap (λ (ps : List Pool). state_view f h.domains ps (record (objects_of h) { pipes = qs })) shares.pools
+      ∙ ap (λ (ys : List (Option (Pipe (List Slice)))). state_view f h.domains h.store.pools (record (objects_of h) { pipes = ys })) pipes'
+      ∙ with_pipe-view f h.domains h.store.pools (objects_of h) p x (right_true x.reading x.writing writing)
+      ∙ ap (λ (t : Text). machine.with_pipe m p (record (pipe_view (read f) (queue_at h.pipes p)) { queue = t })) q
+      ∙ ap (λ (y : machine.Pipe). machine.with_pipe m p (record y { queue = (machine.pipe_at m p).queue ++ take n (machine.text m d a) })) (sym (pipe_at-read_of f h p))
+
+-- Reading: a domain gets the front.
+
+pub admitted-same : (f g : ℕ → Bool) (t : Text) → ((p : ℕ) → f p ≡ g p) → admitted f t ≡ admitted g t
+admitted-same f g t same = ap (λ n. take n t) (prefix t)
+  where
+    prefix : (xs : Text) → prefix_len (λ b. f b.1) xs ≡ prefix_len (λ b. g b.1) xs
+    prefix [] = refl
+    prefix (x ∷ xs) = ap (λ b. cond b (1 + prefix_len (λ b. f b.1) xs) 0) (same x.1) ∙ ap (λ n. cond (g x.1) (1 + n) 0) (prefix xs)
+
+abbrev pub after_take : (p d n : ℕ) → State → State
+after_take p d n s =
+    aggs.with_agg (reading.read_on s d 0 (Some (on.ReadEnd p)) (length (reading.read_text s d (Some (on.ReadEnd p)) n))) d (reading.read_text s d (Some (on.ReadEnd p)) n)
+
+module _ (h : KernelState) (t : Stored) (ds : List (Domain (List Slice))) (qs : List (Option (Pipe (List Slice)))) (p d n : ℕ) (reading' : (queue_at h.pipes p).reading ≡ true)
+    (takes : TakesFront h.store t (queue_at h.pipes p).queue (queue_at qs p).queue h.domains ds d n) (pipes' : qs ≡ slice_set h.pipes p (Some (record (queue_at h.pipes p) { queue = (queue_at qs p).queue }))) where
+  pub taken-read : (f : Reading) → KeepsPools f → read_of f (record h { store = t; domains = ds; pipes = qs }) ≡ after_take p d n (read_of f h)
+  unfolding read_of
+  taken-read f keeps =
+      let m : State = read_of f h in
+      let x : Pipe (List Slice) = record (queue_at h.pipes p) { queue = (queue_at qs p).queue } in
+      let less : List (Option (Pipe (List Slice))) = slice_set h.pipes p (Some x) in
+      let u : Text = admitted (machine.may_read m d) (take n (machine.pipe_at m p).queue) in
+      let first : read f takes.slices ≡ u =
+      read_given f.at keeps takes.slices (queue_at h.pipes p).queue h.store.pools d n takes.given
+      ∙ admitted-same (λ q. names_in h.store.pools q d) (machine.may_read m d) (take n (read f (queue_at h.pipes p).queue)) (λ q. sym (may_read-read_of f h d q))
+      ∙ ap (λ (q : Text). admitted (machine.may_read m d) (take n q)) (sym (queue-read_of f h p)) in
+      let left : read f (queue_at qs p).queue ≡ drop (length u) (machine.pipe_at m p).queue =
+      read_left f.at keeps takes.slices (queue_at qs p).queue (queue_at h.pipes p).queue h.store.pools d n takes.given takes.left
+      ∙ ap (λ (v : Text). drop (length v) (read f (queue_at h.pipes p).queue)) (sym (read_given f.at keeps takes.slices (queue_at h.pipes p).queue h.store.pools d n takes.given) ∙ first)
+      ∙ ap (λ (q : Text). drop (length u) q) (sym (queue-read_of f h p)) in
+      ap (λ (ps : List Pool). state_view f ds ps (record (objects_of h) { pipes = qs })) takes.shares.pools
+      ∙ ap (λ (ys : List (Option (Pipe (List Slice)))). state_view f ds h.store.pools (record (objects_of h) { pipes = ys })) pipes'
+      ∙ ap (λ (ys : List (Domain (List Slice))). state_view f ys h.store.pools (record (objects_of h) { pipes = less })) takes.added
+      ∙ with_agg-view f h.domains h.store.pools (record (objects_of h) { pipes = less }) d takes.slices
+      ∙ ap (λ (s : State). aggs.with_agg s d (read f takes.slices)) (with_pipe-view f h.domains h.store.pools (objects_of h) p x (left_true x.reading x.writing reading'))
+      ∙ ap (λ (v : Text). aggs.with_agg (machine.with_pipe m p (pipe_view (read f) x)) d v) first
+      ∙ ap (λ (v : Text). aggs.with_agg (machine.with_pipe m p (record (pipe_view (read f) (queue_at h.pipes p)) { queue = v })) d u) left
+      ∙ ap (λ (y : machine.Pipe). aggs.with_agg (machine.with_pipe m p (record y { queue = drop (length u) (machine.pipe_at m p).queue })) d u) (sym (pipe_at-read_of f h p))
+
+-- how many bytes of an aggregate fit
+pub fits : (f : Reading) (h : KernelState) (p d a : ℕ) (xs : List Slice) (n : ℕ) → Some xs ≡ agg_in h.domains d a → n ≡ min (byte_len xs) (65536 - byte_len (queue_at h.pipes p).queue) → n ≡ min (length (machine.text (read_of f h) d a)) (65536 - length (machine.pipe_at (read_of f h) p).queue)
+fits f h p d a xs n found is =
+    is
+    ∙ ap (λ k. min k (65536 - byte_len (queue_at h.pipes p).queue)) (ap byte_len (slices_found h.domains d a xs found) ∙ sym (length_text-read_of f h d a))
+    ∙ ap (λ k. min (length (machine.text (read_of f h) d a)) (65536 - k)) (sym (length_queue-read_of f h p))
+
+-- the first byte's pool, where the reader may not read it
+
+abbrev pub denied_at : State → (d : ℕ) → Option ℕ → Option ℕ
+denied_at m d o = option_and_then (λ q. if machine.may_read m d q then None else Some q) o
+
+pub barred_of : (f : Reading) → KeepsPools f → (m : State) (d n : ℕ) (queue : List Slice) → 0 < n → barred (machine.may_read m d) (take (min n 1) (read f queue)) ≡ denied_at m d (first_pool queue)
+barred_of f keeps m d n queue some =
+    ap (λ k. barred (machine.may_read m d) (take k (read f queue))) one
+    ∙ first (read f queue)
+    ∙ ap (λ (o : Option ℕ). denied_at m d o) (sym (first_pool-read f.at keeps queue))
+  where
+    one : min n 1 ≡ 1
+    one = omega arith
+
+    first : (t : Text) → barred (machine.may_read m d) (take 1 t) ≡ denied_at m d (option_map (λ b. b.1) (slice_get t 0))
+    first [] = refl
+    first (x ∷ t) = elim (machine.may_read m d x.1) as (λ b. option_map (λ (y : ℕ × ℕ). y.1) (cond (not b) (Some x) None) ≡ (if b then None else Some x.1)) [ true ↦ refl | false ↦ refl ]
+
+abbrev first_barred : State → (d p n : ℕ) → Option ℕ
+first_barred m d p n = barred (machine.may_read m d) (take (min n 1) (machine.pipe_at m p).queue)
+
+barred_first : (f : Reading) → KeepsPools f → (h : KernelState) (d p n : ℕ) → 0 < n → first_barred (read_of f h) d p n ≡ denied_at (read_of f h) d (first_pool (queue_at h.pipes p).queue)
+barred_first f keeps h d p n some =
+    let m : State = read_of f h in
+    ap (λ (t : Text). barred (machine.may_read m d) (take (min n 1) t)) (queue-read_of f h p)
+    ∙ barred_of f keeps m d n (queue_at h.pipes p).queue some
+
+pub first_admitted : (f : Reading) → KeepsPools f → (h : KernelState) (d p n q : ℕ) → 0 < n → Some q ≡ first_pool (queue_at h.pipes p).queue → machine.may_read (read_of f h) d q ≡ true → None ≡ first_barred (read_of f h) d p n
+first_admitted f keeps h d p n q some is named = sym (barred_first f keeps h d p n some ∙ ap (λ (o : Option ℕ). denied_at (read_of f h) d o) (sym is) ∙ rw named refl)
+
+pub first_denied : (f : Reading) → KeepsPools f → (h : KernelState) (d p n q : ℕ) → 0 < n → Some q ≡ first_pool (queue_at h.pipes p).queue → machine.may_read (read_of f h) d q ≡ false → Some q ≡ first_barred (read_of f h) d p n
+first_denied f keeps h d p n q some is named = sym (barred_first f keeps h d p n some ∙ ap (λ (o : Option ℕ). denied_at (read_of f h) d o) (sym is) ∙ rw named refl)
+
+pub first_empty : (f : Reading) → KeepsPools f → (h : KernelState) (d p n : ℕ) → 0 < n → None ≡ first_pool (queue_at h.pipes p).queue → None ≡ first_barred (read_of f h) d p n
+first_empty f keeps h d p n some is = sym (barred_first f keeps h d p n some ∙ ap (λ (o : Option ℕ). denied_at (read_of f h) d o) (sym is))

@@ -1,0 +1,207 @@
+-- Pipes stay sound where a queue gets bytes or gives them to a domain.
+use Rattle.std.proofs.Common.{◌≡◌, ◌∙◌, ℕ, ◌+◌, ◌-◌, ◌<◌, ◌≤◌, List, [], ◌∷◌, ◌++◌, length, take, ap, refl, sym, subst, arith, Option, Some, None, true, false, inl, inr, length-set}
+use Rattle.std.specs.Prelude.{slice_set, unwrap_or, min}
+use Rattle.std.specs.List.{prefix_len}
+use Rattle.std.proofs.lemmas.List.{length-take, length-drop}
+use Rattle.iol_core.specs.Numbered.{in_place}
+use Rattle.iol_core.specs.Calls.Aggregates as aggs
+use Rattle.iol_core.specs.Calls.Reading as reading
+use Rattle.iol_core.specs.Calls.Writing as writing
+use Rattle.iol_core.specs.declared.descriptors.Descriptor.{Descriptor}
+use Rattle.iol_core.specs.State as machine
+use Rattle.iol_core.specs.State.{State, Domain}
+use Rattle.iol_core.specs.declared.descriptors.Descriptor.TheVariants as on
+use Rattle.iol_hold.specs.Stored.{Stored}
+use Rattle.iol_arena.specs.State.{page_count}
+use Rattle.iol_hold.specs.Moves.{Shares}
+use Rattle.iol_hold.specs.Places.{places, byte_len}
+use Rattle.iol_hold.specs.Texts.{bufs_of, AllReadable}
+use Rattle.iol_hold.specs.declared.slices.Slice.{Slice}
+use Rattle.iol_hold.proofs.Counting.{tally-append}
+use Rattle.iol_hold.proofs.Emptied.{all_settled_same}
+use Rattle.iol_hold.proofs.Moving.{shares_move}
+use Rattle.iol_hold.proofs.Reading.{readable_none, readable_rest}
+use Rattle.iol_pipe.specs.Queue.{may_see}
+use Rattle.iol_pipe.proofs.Texts.{readable_pushed, readable_given}
+use Rattle.iol_desc.specs.Tables.{agg_in, domain_in, with_agg_in, live_aggs_in}
+use Rattle.iol_kernel.specs.Views.{Pipe}
+use Rattle.iol_kernel.specs.Counted.{IsCounted}
+use Rattle.iol_kernel.specs.KernelState.{KernelState, objects_of, Each, IsOpenEnd, IsPipeReadable, AreReadable, IsDomainReadable, IsShort, IsLimited, IsSound, queue_at, read_of}
+use Rattle.iol_kernel.specs.Readings.{Reading, bytes_over}
+use Rattle.iol_kernel.proofs.State.Uses.{uses-set_pipe, uses-with_agg}
+use Rattle.iol_kernel.proofs.State.Once.{once_same}
+use Rattle.iol_kernel.proofs.State.Sound.{with_pipes, each-get, each-set, each-weaker, agg_readable, add_readable, fds_stay, limits_agg}
+use Rattle.iol_kernel.proofs.Queues.Ends.{ends_queued, there_if_open}
+use Rattle.iol_kernel.proofs.State.Pooling.{pools_pooled}
+use Rattle.iol_kernel.proofs.State.Effects.{moved-sound}
+use Rattle.iol_kernel.proofs.Queues.Opening.{end_held}
+use Rattle.iol_core.specs.declared.limits.TheConstants.{MAX_AGGREGATES, MAX_QUEUE_BYTES}
+use Rattle.iol_kernel.specs.Adding.{TakesFront}
+use Rattle.iol_kernel.proofs.Queues.Flowing.{fits, pushed-read, taken-read}
+use Rattle.iol_kernel.proofs.State.ReadOf.{next_agg-read_of}
+use Rattle.iol_kernel.specs.Calls.{Answers}
+use Rattle.iol_kernel.specs.Queues.{with_queue_of}
+
+pub queue_readable : (h : KernelState) (p : ℕ) → IsSound h → AllReadable h.store (queue_at h.pipes p).queue
+queue_readable h p sound = pick (in_place h.pipes p) (each-get (IsPipeReadable h.store) h.pipes p None sound.objects.pipes tt)
+  where
+    pick : (o : Option (Pipe (List Slice))) → IsPipeReadable h.store o → AllReadable h.store (unwrap_or o (record { queue = []; reading = false; writing = false })).queue
+    pick None r = readable_none h.store
+    pick (Some x) r = r
+
+-- within the limits
+pub queue_limits : (h : KernelState) (p : ℕ) (q : List Slice) → IsSound h → byte_len q ≤ 65536 → IsLimited h.domains (record (objects_of h) { pipes = slice_set h.pipes p (Some (record (queue_at h.pipes p) { queue = q })) })
+queue_limits h p q sound short =
+    let limits = sound.limits.objects in
+    record {
+      aggs = sound.limits.aggs;
+      few = sound.limits.few;
+      objects = with_pipes limits (each-set IsShort h.pipes p (Some (record (queue_at h.pipes p) { queue = q })) limits.queues short) (omega (arith, limits.few_pipes, length-set h.pipes p (Some (record (queue_at h.pipes p) { queue = q }))));
+    }
+
+pub queue_short : (h : KernelState) (p : ℕ) → IsSound h → byte_len (queue_at h.pipes p).queue ≤ 65536
+queue_short h p sound = pick (in_place h.pipes p) (each-get IsShort h.pipes p None sound.limits.objects.queues tt)
+  where
+    pick : (o : Option (Pipe (List Slice))) → IsShort o → byte_len (unwrap_or o (record { queue = []; reading = false; writing = false })).queue ≤ 65536
+    pick None r = omega arith
+    pick (Some x) r = r
+
+-- and the store goes on
+module _ (h : KernelState) (t : Stored) (qs : List (Option (Pipe (List Slice)))) (p n d a : ℕ) (from : List Slice) (sound : IsSound h) (writing : (queue_at h.pipes p).writing ≡ true) (found : Some from ≡ agg_in h.domains d a)
+    (short : byte_len (queue_at qs p).queue ≤ 65536)
+    (places' : places (queue_at qs p).queue ≡ places (queue_at h.pipes p).queue ++ take n (places from)) (pipes' : qs ≡ slice_set h.pipes p (Some (record (queue_at h.pipes p) { queue = (queue_at qs p).queue })))
+    (shares : Shares h.store t (bufs_of (queue_at h.pipes p).queue) (bufs_of (queue_at qs p).queue)) where
+  abbrev more : List (Option (Pipe (List Slice)))
+  more = slice_set h.pipes p (Some (record (queue_at h.pipes p) { queue = (queue_at qs p).queue }))
+
+  there : p < length h.pipes
+  there = there_if_open h.pipes p (inr writing)
+
+  more_counted : IsCounted t h.domains (record (objects_of h) { pipes = more })
+  more_counted = record { each = λ b. omega (arith, sound.counted.each b, shares.counts.each b, uses-set_pipe b h.pipes p (record (queue_at h.pipes p) { queue = (queue_at qs p).queue }) there) }
+
+  queue_good : AllReadable h.store (queue_at qs p).queue
+  queue_good = readable_pushed (queue_at qs p).queue (queue_at h.pipes p).queue from n places' (queue_readable h p sound) (agg_readable h d a from sound found)
+
+  more_good : AreReadable h.store (record (objects_of h) { pipes = more })
+  more_good = record { pipes = each-set (IsPipeReadable h.store) h.pipes p (Some (record (queue_at h.pipes p) { queue = (queue_at qs p).queue })) sound.objects.pipes queue_good; conns = sound.objects.conns; files = sound.objects.files }
+
+  pub pushed-sound : IsSound (record h { store = t; pipes = qs })
+  pushed-sound = subst (λ (ys : List (Option (Pipe (List Slice)))). IsSound (record h { store = t; pipes = ys })) (sym pipes')
+      (moved-sound h.store (record h { store = t; pipes = more }) (shares_move shares).stays more_counted (shares.tidy sound.tidy) ((shares_move shares).still sound.still) (all_settled_same h.store t shares.arena shares.pools sound.settled) sound.domains more_good
+      (each-weaker (λ (x : Domain (List Slice)). Each (IsOpenEnd (objects_of h)) x.fds) (λ (x : Domain (List Slice)). Each (IsOpenEnd (record (objects_of h) { pipes = more })) x.fds) h.domains (λ x e. ends_queued (objects_of h) p (queue_at qs p).queue there x.fds e) sound.fds) sound.once
+      (queue_limits h p (queue_at qs p).queue sound short) (pools_pooled h.store t h.conns h.cache.files shares.pools sound.pooled) sound.sums sound.filed sound.cached (ap page_count shares.arena))
+
+pub writing_held : (f : Reading) (h : KernelState) (d fd p : ℕ) → IsSound h → machine.descriptor (read_of f h) d fd ≡ Some (on.WriteEnd p) → (queue_at h.pipes p).writing ≡ true
+writing_held f h d fd p sound is = end_held f h d fd (on.WriteEnd p) sound is
+
+pub reading_held : (f : Reading) (h : KernelState) (d fd p : ℕ) → IsSound h → machine.descriptor (read_of f h) d fd ≡ Some (on.ReadEnd p) → (queue_at h.pipes p).reading ≡ true
+reading_held f h d fd p sound is = end_held f h d fd (on.ReadEnd p) sound is
+
+-- Reading: a domain gets the front.
+
+module _ (h : KernelState) (t : Stored) (ds : List (Domain (List Slice))) (qs : List (Option (Pipe (List Slice)))) (p d n : ℕ) (sound : IsSound h) (reading' : (queue_at h.pipes p).reading ≡ true)
+    (takes : TakesFront h.store t (queue_at h.pipes p).queue (queue_at qs p).queue h.domains ds d n) (pipes' : qs ≡ slice_set h.pipes p (Some (record (queue_at h.pipes p) { queue = (queue_at qs p).queue }))) where
+  abbrev less : List (Option (Pipe (List Slice)))
+  less = slice_set h.pipes p (Some (record (queue_at h.pipes p) { queue = (queue_at qs p).queue }))
+
+  abbrev given : List (Domain (List Slice))
+  given = with_agg_in h.domains d takes.slices
+
+  there' : p < length h.pipes
+  there' = there_if_open h.pipes p (inl reading')
+
+  slices_good : AllReadable h.store takes.slices
+  slices_good = readable_given takes.slices (queue_at h.pipes p).queue h.store.pools d n takes.given (queue_readable h p sound)
+
+  less_good : AreReadable h.store (record (objects_of h) { pipes = less })
+  less_good = record {
+    pipes = each-set (IsPipeReadable h.store) h.pipes p (Some (record (queue_at h.pipes p) { queue = (queue_at qs p).queue })) sound.objects.pipes
+        (readable_rest (queue_at qs p).queue (queue_at h.pipes p).queue (byte_len takes.slices) takes.left (queue_readable h p sound));
+    conns = sound.objects.conns;
+    files = sound.objects.files;
+  }
+
+  given_good : Each (IsDomainReadable h.store) given
+  given_good = add_readable h.store h.domains d takes.slices sound.domains slices_good
+
+  module _ (live : (domain_in h.domains d).live ≡ true) (few : live_aggs_in h.domains < MAX_AGGREGATES) where
+    pub taken_counted : IsCounted t given (record (objects_of h) { pipes = less })
+    taken_counted = record {
+      each = λ b. omega (
+        arith,
+        sound.counted.each b,
+        takes.shares.counts.each b,
+        uses-with_agg b h.domains d takes.slices live,
+        uses-set_pipe b h.pipes p (record (queue_at h.pipes p) { queue = (queue_at qs p).queue }) there',
+        tally-append b (bufs_of takes.slices) (bufs_of (queue_at qs p).queue),
+      );
+    }
+
+    parts_short : (byte_len takes.slices ≤ 65536) × (byte_len (queue_at qs p).queue ≤ 65536)
+    parts_short =
+        let short = queue_short h p sound in
+        let q = places (queue_at h.pipes p).queue in
+        let l = length-drop (byte_len takes.slices) q in
+        (omega (arith, short, ap length takes.given, length-take (prefix_len (may_see h.store.pools d) (take n q)) (take n q), length-take n q), omega (arith, short, ap length takes.left, l))
+
+    pub taken-sound : IsSound (record h { store = t; domains = ds; pipes = qs })
+    taken-sound =
+        let x : Domain (List Slice) = domain_in h.domains d in
+        subst (λ (ys : List (Option (Pipe (List Slice)))). IsSound (record h { store = t; domains = ds; pipes = ys })) (sym pipes')
+        (subst (λ (ys : List (Domain (List Slice))). IsSound (record h { store = t; domains = ys; pipes = less })) (sym takes.added)
+        (moved-sound h.store (record h { store = t; domains = given; pipes = less }) (shares_move takes.shares).stays taken_counted (takes.shares.tidy sound.tidy) ((shares_move takes.shares).still sound.still) (all_settled_same h.store t takes.shares.arena takes.shares.pools sound.settled) given_good less_good
+        (fds_stay (record (objects_of h) { pipes = less }) h.domains d (record x { aggs = x.aggs ++ (x.next_agg, takes.slices) ∷ []; next_agg = x.next_agg + 1 })
+        (each-weaker (λ (x : Domain (List Slice)). Each (IsOpenEnd (objects_of h)) x.fds) (λ (x : Domain (List Slice)). Each (IsOpenEnd (record (objects_of h) { pipes = less })) x.fds) h.domains (λ x e. ends_queued (objects_of h) p (queue_at qs p).queue there' x.fds e) sound.fds) refl)
+        (once_same h.domains d (record x { aggs = x.aggs ++ (x.next_agg, takes.slices) ∷ []; next_agg = x.next_agg + 1 }) live refl sound.once)
+        (limits_agg h.domains (record (objects_of h) { pipes = less }) d takes.slices (queue_limits h p (queue_at qs p).queue sound parts_short.1) live (omega (arith, parts_short.0)) few) (pools_pooled h.store t h.conns h.cache.files takes.shares.pools sound.pooled) sound.sums sound.filed sound.cached (ap page_count takes.shares.arena)))
+
+-- An open descriptor that is neither a connection nor a file nor a pipe's end for writing, or for reading, is not open for it.
+
+pub not_writable : (x : Descriptor) → ((p : ℕ) → x ≡ on.WriteEnd p → ⊥) → ((c : ℕ) → x ≡ on.Connection c → ⊥) → writing.is_file (Some x) ≡ false → writing.can_write (Some x) ≡ false
+not_writable (on.ReadEnd p) other none no_file = refl
+not_writable (on.WriteEnd p) other none no_file = absurd (other p refl)
+not_writable (on.File f at mode) other none no_file = absurd cc
+not_writable (on.Connection c) other none no_file = absurd (none c refl)
+
+pub not_readable : (x : Descriptor) → ((p : ℕ) → x ≡ on.ReadEnd p → ⊥) → ((c : ℕ) → x ≡ on.Connection c → ⊥) → writing.is_file (Some x) ≡ false → reading.can_read (Some x) ≡ false
+not_readable (on.ReadEnd p) other none no_file = absurd (other p refl)
+not_readable (on.WriteEnd p) other none no_file = refl
+not_readable (on.File f at mode) other none no_file = absurd cc
+not_readable (on.Connection c) other none no_file = absurd (none c refl)
+
+-- What the calls answer.
+
+pub taken_answers : (h : KernelState) (t : Stored) (ds : List (Domain (List Slice))) (qs : List (Option (Pipe (List Slice)))) (fd p d n a : ℕ) → (sound : IsSound h) → (from : (f : Reading) → machine.descriptor (read_of f h) d fd ≡ Some (on.ReadEnd p))
+    → TakesFront h.store t (queue_at h.pipes p).queue (queue_at qs p).queue h.domains ds d n → qs ≡ with_queue_of h.pipes p qs → (domain_in h.domains d).live ≡ true → live_aggs_in h.domains < MAX_AGGREGATES → a ≡ (domain_in h.domains d).next_agg
+    → Answers (λ s. reading.iol_read s d fd n) h a (record h { store = t; domains = ds; pipes = qs })
+taken_answers h t ds qs fd p d n a sound from takes pipes' live few number =
+    let reading' = reading_held (bytes_over [] h.store) h d fd p sound (from (bytes_over [] h.store)) in
+    record {
+      answer = λ f keeps. number ∙ sym (next_agg-read_of f h d);
+      after = λ f keeps. taken-read h t ds qs p d n reading' takes pipes' f keeps ∙ ap (λ (o : Option Descriptor). aggs.with_agg (reading.read_on (read_of f h) d fd o (length (reading.read_text (read_of f h) d o n))) d (reading.read_text (read_of f h) d o n)) (sym (from f));
+      arena = takes.shares.arena;
+      pools = takes.shares.pools;
+      sums = refl;
+      cache = refl;
+      sound = taken-sound h t ds qs p d n sound reading' takes pipes' live few;
+      stays = (shares_move takes.shares).stays;
+    }
+
+pub pushed_answers : (h : KernelState) (t : Stored) (qs : List (Option (Pipe (List Slice)))) (fd p n d a : ℕ) (from : List Slice) → IsSound h → ((f : Reading) → machine.descriptor (read_of f h) d fd ≡ Some (on.WriteEnd p)) → Some from ≡ agg_in h.domains d a → byte_len (queue_at qs p).queue ≤ MAX_QUEUE_BYTES
+    → n ≡ min (byte_len from) (MAX_QUEUE_BYTES - byte_len (queue_at h.pipes p).queue) → places (queue_at qs p).queue ≡ places (queue_at h.pipes p).queue ++ take n (places from) → qs ≡ with_queue_of h.pipes p qs → Shares h.store t (bufs_of (queue_at h.pipes p).queue) (bufs_of (queue_at qs p).queue)
+    → Answers (λ s. writing.iol_write s d fd a) h n (record h { store = t; pipes = qs })
+pushed_answers h t qs fd p n d a from sound to found short is places' pipes' shares =
+    let writing' = writing_held (bytes_over [] h.store) h d fd p sound (to (bytes_over [] h.store)) in
+    record {
+      answer = λ f keeps. fits f h p d a from n found is ∙ ap (λ (o : Option Descriptor). writing.fitting (read_of f h) o (length (machine.text (read_of f h) d a))) (sym (to f));
+      after = λ f keeps. pushed-read h t qs p n d a from writing' found places' pipes' shares f
+          ∙ ap (λ k. machine.with_pipe (read_of f h) p (record (machine.pipe_at (read_of f h) p) { queue = (machine.pipe_at (read_of f h) p).queue ++ take k (machine.text (read_of f h) d a) })) (fits f h p d a from n found is)
+          ∙ ap (λ (o : Option Descriptor). writing.written (read_of f h) d fd o (take (writing.fitting (read_of f h) o (length (machine.text (read_of f h) d a))) (machine.text (read_of f h) d a))) (sym (to f));
+      arena = shares.arena;
+      pools = shares.pools;
+      sums = refl;
+      cache = refl;
+      sound = pushed-sound h t qs p n d a from sound writing' found short places' pipes' shares;
+      stays = (shares_move shares).stays;
+    }

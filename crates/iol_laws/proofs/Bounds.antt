@@ -1,0 +1,3 @@
+pub mod ShortAggregates
+pub mod ShortQueues
+pub mod Lengths

@@ -1,0 +1,134 @@
+-- What reading, writing, accepting and closing do for their own domain.
+use Rattle.std.proofs.Common.{◌⊎◌, inr, inl, ◌≡◌, ℕ, ◌≤◌, List, [], ◌++◌, length, take, drop, ap, ◌∙◌, refl, sym, arith, Option, Some, None, true, false, Bool}
+use Rattle.std.specs.Prelude.{min, ◌-◌, option_map, unwrap_or, not, is_none, ◌&&◌, ◌||◌}
+use Rattle.iol_core.specs.Text.{Text, bytes_of, admitted}
+use Rattle.iol_core.specs.Numbered.{lookup, in_place, lowest, placed}
+use Rattle.iol_core.specs.State.{no_conn, State, Domain, Connection, domain, text, descriptor, may_read, conn_at, is_live, is_over, is_gone, with_conn}
+use Rattle.iol_core.specs.Run.{StepsTo}
+use Rattle.iol_core.specs.Calls.Aggregates as aggs
+use Rattle.iol_core.specs.Calls.Descriptors as fds
+use Rattle.iol_core.specs.Calls.Reading as reading
+use Rattle.iol_core.specs.Calls.Writing as writing
+use Rattle.iol_core.specs.declared.limits.TheConstants.{MAX_QUEUE_BYTES}
+use Rattle.iol_core.specs.declared.refusals.Refusal.TheVariants as refuse
+use Rattle.iol_core.specs.declared.descriptors.Descriptor.TheVariants as on
+use Rattle.iol_core.specs.declared.events.Call.TheVariants as call
+use Rattle.iol_core.specs.declared.events.Event.TheVariants as event
+use Rattle.iol_core.specs.declared.events.Reply.{Reply}
+use Rattle.iol_core.specs.declared.events.Reply.TheVariants as reply
+use Rattle.iol_core.proofs.Lookups.{domain-same}
+use Rattle.iol_core.proofs.Passing.{passed, when-none}
+use Rattle.iol_laws.specs.Order.{IsOrderly}
+use Rattle.iol_laws.specs.Caller.{lent_at, Puts, ReadsConn, WritesConn, Closes, ClosesConn, Accepts}
+use Rattle.iol_laws.proofs.Connections.{conn-over, conn-with_same, conns-with_agg, conns-with_fds, conns_conn, not-over, nothing-left}
+use Rattle.iol_laws.proofs.Domains.{domain-with_same, domains-closed_on, domains-with_conn, live-first}
+use Rattle.iol_laws.proofs.Ended.{none-admitted, none-comes}
+use Rattle.iol_laws.proofs.Numbers.{lent-made, new-fd, number, text-of}
+use Rattle.iol_laws.proofs.Places.{lowest-free, place-set_free}
+use Rattle.iol_laws.proofs.Tests.{is_some-or}
+use Rattle.iol_laws.proofs.Texts.{admitted-rest, bytes-take, length-bytes}
+use Rattle.iol_laws.proofs.Streams.Waiting.{opened-conn, waiting-is}
+
+-- a text goes behind what is to be sent
+pub puts_conn : (s t : State) (d fd c : ℕ) (bytes : List ℕ) (k : ℕ) (x : Text) → IsOrderly s → descriptor s d fd ≡ Some (on.Connection c) → k ≤ length bytes → k ≡ min (length bytes) (MAX_QUEUE_BYTES - length (conn_at s c).outgoing) → bytes_of x ≡ take k bytes → is_gone (conn_at s c).peer ≡ false
+    → t ≡ with_conn s c (record (conn_at s c) { outgoing = (conn_at s c).outgoing ++ x }) → Puts s c bytes k t
+puts_conn s t d fd c bytes k x order is within most x_is takes same =
+    let both = opened-conn s d fd c order is in
+    let y : Connection = record (conn_at s c) { outgoing = (conn_at s c).outgoing ++ x } in
+    record { text = x; within = within; text_is = x_is; most = most; takes = takes; conn = ap (λ u. conn_at u c) same ∙ conn-with_same s c y both.1 (not-over y both.0 both.1) }
+
+pub does_write_conn : (s t : State) (d fd c a : ℕ) (bytes : List ℕ) (r : Reply) → IsOrderly s → descriptor s d fd ≡ Some (on.Connection c) → lent_at s d a ≡ Some bytes → StepsTo s (event.Call d (call.IolWrite fd a)) r t → WritesConn s c bytes r t
+does_write_conn s t d fd c a bytes (reply.Count k) order is has step =
+    let w : Text = text s d a in
+    let fit : ℕ = writing.fitting s (Some (on.Connection c)) (length w) in
+    let k_is : k ≡ fit = ap number step.1 ∙ ap (λ o. writing.fitting s o (length w)) is in
+    let to : t ≡ with_conn s c (record (conn_at s c) { outgoing = (conn_at s c).outgoing ++ take fit w }) = step.2 ∙ ap (λ o. writing.written s d fd o (take (writing.fitting s o (length w)) w)) is in
+    let same = to ∙ ap (λ n. with_conn s c (record (conn_at s c) { outgoing = (conn_at s c).outgoing ++ take n w })) (sym k_is) in
+    let broken = when-none refuse.BrokenPipe (writing.is_broken s (descriptor s d fd)) (passed (writing.iol_write s d fd a).refusals 5 step.0) in
+    let text_is = text-of s d a bytes has in
+    let within : k ≤ length bytes = (let e = ap (λ (l : List ℕ). length l) text_is in let l : length (bytes_of w) ≡ length w = length-bytes w in omega (arith, k_is, e, l)) in
+    let same_length : length w ≡ length bytes = (let l : length (bytes_of w) ≡ length w = length-bytes w in sym l ∙ ap (λ (l : List ℕ). length l) text_is) in
+    let most = k_is ∙ ap (λ z. min z (MAX_QUEUE_BYTES - length (conn_at s c).outgoing)) same_length in
+    puts_conn s t d fd c bytes k (take k w) order is within most (bytes-take k w ∙ ap (λ (l : List ℕ). take k l) text_is) (sym (ap (λ o. writing.is_broken s o) is) ∙ broken) same
+does_write_conn s t d fd c a bytes (reply.Refused x) order is has step = step.1
+does_write_conn s t d fd c a bytes r order is has step = (let e = step.1 in absurd (cc))
+
+pub does_read_conn : (s t : State) (d fd c n : ℕ) (r : Reply) → IsOrderly s → descriptor s d fd ≡ Some (on.Connection c) → StepsTo s (event.Call d (call.IolRead fd n)) r t → ReadsConn s d c n r t
+does_read_conn s t d fd c n (reply.Agg a) order is step =
+    let free = sym (ap (λ o. reading.read_denied s d o n) is) ∙ passed (reading.iol_read s d fd n).refusals 4 step.0 in
+    let still = sym (ap (λ o. reading.must_wait s o n) is) ∙ when-none refuse.WouldBlock (reading.must_wait s (descriptor s d fd) n) (passed (reading.iol_read s d fd n).refusals 5 step.0) in
+    let both = opened-conn s d fd c order is in
+    let live = live-first s d _ step.0 in
+    let inc : Text = (conn_at s c).incoming in
+    let tx : Text = admitted (may_read s d) (take n inc) in
+    let x : Connection = record (conn_at s c) { incoming = drop (length tx) inc } in
+    let mid : State = with_conn s c x in
+    let same : t ≡ aggs.with_agg mid d tx = step.2 ∙ ap (λ o. aggs.with_agg (reading.read_on s d fd o (length (reading.read_text s d o n))) d (reading.read_text s d o n)) is in
+    let dom : domain mid d ≡ domain s d = domain-same s mid d (domains-with_conn s c x) in
+    let next : aggs.next_agg mid d ≡ aggs.next_agg s d = ap (λ (y : Domain Text). y.next_agg) dom in
+    let a_is : a ≡ aggs.next_agg mid d = ap number step.1 ∙ sym next in
+    let none = order.aggs d (aggs.next_agg s d) (omega arith) in
+    let none_mid : lookup (domain mid d).aggs (aggs.next_agg mid d) ≡ None = ap (λ (y : Domain Text). lookup y.aggs y.next_agg) dom ∙ none in
+    record {
+      text = tx;
+      incoming = drop (length tx) inc;
+      lends = ap (λ k. lent_at t d k) a_is ∙ lent-made mid t d (domain mid d).aggs tx (ap (λ (y : Domain Text). y.live) dom ∙ live) none_mid same;
+      new = ap (λ k. lent_at s d k) (a_is ∙ next) ∙ ap (λ (o : Option Text). option_map bytes_of o) none;
+      was = admitted-rest (may_read s d) n inc;
+      most = refl;
+      conn = ap (λ u. conn_at u c) same ∙ (conns-with_agg mid d tx c ∙ conn-with_same s c x both.1 (not-over x both.0 both.1));
+      ended = λ some none. (let gone = none-admitted (may_read s d) n inc some free none in (gone, none-comes n inc (is_none (conn_at s c).peer) some gone still));
+    }
+does_read_conn s t d fd c n (reply.Refused x) order is step = step.1
+does_read_conn s t d fd c n r order is step = (let e = step.1 in absurd (cc))
+
+pub does_close : (s t : State) (d fd : ℕ) (r : Reply) → StepsTo s (event.Call d (call.Close fd)) r t → Closes s d fd r t
+does_close s t d fd reply.Done step =
+    let mid : State = fds.closed_on s (descriptor s d fd) in
+    let dom : domain mid d ≡ domain s d = domain-same s mid d (domains-closed_on s (descriptor s d fd)) in
+    let live : is_live mid d ≡ true = ap (λ (y : Domain Text). y.live) dom ∙ live-first s d _ step.0 in
+    ap (λ u. descriptor u d fd) step.2 ∙ (ap (λ (y : Domain Text). in_place y.fds fd) (domain-with_same mid d (record (domain mid d) { fds = fds.freed s d fd }) live) ∙ place-set_free (domain s d).fds fd)
+does_close s t d fd (reply.Refused x) step = step.1
+does_close s t d fd r step = (let e = step.1 in absurd (cc))
+
+pub does_close_conn : (s t : State) (d fd c : ℕ) (r : Reply) → IsOrderly s → descriptor s d fd ≡ Some (on.Connection c) → StepsTo s (event.Call d (call.Close fd)) r t → ClosesConn s c r t
+does_close_conn s t d fd c reply.Done order is step =
+    let both = opened-conn s d fd c order is in
+    let x : Connection = record (conn_at s c) { incoming = []; closed = true } in
+    let same : t ≡ fds.with_fds (with_conn s c x) d (fds.freed s d fd) = step.2 ∙ ap (λ o. fds.with_fds (fds.closed_on s o) d (fds.freed s d fd)) is in
+    let conn : conn_at t c ≡ conn_at (with_conn s c x) c = ap (λ u. conn_at u c) same ∙ conns-with_fds (with_conn s c x) d (fds.freed s d fd) c in
+    by x conn both.1 (is_over x) refl refl
+  where
+    by : (x : Connection) → conn_at t c ≡ conn_at (with_conn s c x) c → (conn_at s c).closed ≡ false → (b : Bool) → is_over x ≡ b → x ≡ record (conn_at s c) { incoming = []; closed = true } → ((conn_at t c).closed ≡ true) × ((conn_at t c).outgoing ≡ (conn_at s c).outgoing) × ((conn_at t c ≡ record (conn_at s c) { incoming = []; closed = true }) ⊎ (((conn_at s c).outgoing ≡ []) × (conn_at t c ≡ no_conn)))
+    by x conn open_yet false over x_is =
+        let e = conn ∙ (conn-with_same s c x open_yet over ∙ x_is) in
+        (ap (λ (z : Connection). z.closed) e, ap (λ (z : Connection). z.outgoing) e, inl e)
+    by x conn open_yet true over x_is =
+        let e = conn ∙ conn-over s c x order.once over in
+        let gone : x.outgoing ≡ [] = nothing-left x.outgoing (x.closed || (not x.accepted && is_gone x.peer)) over in
+        (ap (λ (z : Connection). z.closed) e, ap (λ (z : Connection). z.outgoing) e ∙ (sym gone ∙ ap (λ (z : Connection). z.outgoing) x_is), inr (sym (ap (λ (z : Connection). z.outgoing) x_is) ∙ gone, e))
+does_close_conn s t d fd c (reply.Refused x) order is step = step.1
+does_close_conn s t d fd c r order is step = (let e = step.1 in absurd (cc))
+
+pub does_accept : (s t : State) (d : ℕ) (r : Reply) → IsOrderly s → StepsTo s (event.Call d call.Accept) r t → Accepts s d r t
+does_accept s t d (reply.Fd fd) order step =
+    let live = live-first s d _ step.0 in
+    let c : ℕ = unwrap_or (fds.waiting s d) 0 in
+    let x : Connection = record (conn_at s c) { accepted = true } in
+    let mid : State = with_conn s c x in
+    let dom : domain mid d ≡ domain s d = domain-same s mid d (domains-with_conn s c x) in
+    let fd_is : fd ≡ fds.next_fd mid d = ap number step.1 ∙ sym (ap (λ (y : Domain Text). lowest y.fds) dom) in
+    let found = is_some-or (fds.waiting s d) (when-none refuse.WouldBlock (is_none (fds.waiting s d)) (passed (fds.accept s d).refusals 2 step.0)) in
+    let it = waiting-is s d c order found in
+    let conn : conn_at t c ≡ x = ap (λ u. conn_at u c) step.2 ∙ (conns-with_fds mid d (placed (domain mid d).fds (fds.next_fd mid d) (on.Connection c)) c ∙ conn-with_same s c x (order.waits c it.0) (not-over x refl (order.waits c it.0))) in
+    record {
+      conn = c;
+      waited = it.0;
+      may = it.1;
+      open_on = ap (λ k. descriptor t d k) fd_is ∙ (ap (λ u. descriptor u d (fds.next_fd mid d)) step.2 ∙ new-fd mid d (on.Connection c) (ap (λ (y : Domain Text). y.live) dom ∙ live));
+      new = ap (λ k. descriptor s d k) (ap number step.1) ∙ lowest-free (domain s d).fds;
+      conn_is = conn;
+      others = λ k differ. ap (λ u. conn_at u k) step.2 ∙ (conns-with_fds mid d (placed (domain mid d).fds (fds.next_fd mid d) (on.Connection c)) k ∙ conns_conn s c x k differ);
+    }
+does_accept s t d (reply.Refused x) order step = step.1
+does_accept s t d r order step = (let e = step.1 in absurd (cc))

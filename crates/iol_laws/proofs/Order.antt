@@ -1,0 +1,12 @@
+pub mod Ends
+pub mod EndsKept
+pub mod EndsOfCalls
+pub mod Gone
+pub mod Held
+pub mod HeldOfCalls
+pub mod Unaccepted
+pub mod NumbersToCome
+pub mod Listed
+pub mod Ordered
+pub mod NoneLive
+pub mod Ending

@@ -1,0 +1,6 @@
+pub mod Refusing
+pub mod Reasons
+pub mod Left
+pub mod Blocking
+pub mod OfFiles
+pub mod OfPools

@@ -1,0 +1,11 @@
+pub mod Accepted
+pub mod Waiting
+pub mod OtherCalls
+pub mod OtherPipes
+pub mod Outside
+pub mod Unread
+pub mod Unsent
+pub mod Histories
+pub mod NextNumber
+pub mod Pending
+pub mod Labels
