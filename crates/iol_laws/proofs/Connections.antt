@@ -12,6 +12,7 @@ use Rattle.iol_core.specs.Calls.Descriptors as fds
 use Rattle.iol_core.specs.Calls.Outside.{conn_new}
 use Rattle.iol_core.specs.declared.descriptors.Descriptor.{Descriptor}
 use Rattle.iol_core.proofs.Lookups.{lookup-without}
+use Rattle.iol_laws.specs.Caller.{remains}
 use Rattle.iol_laws.specs.Order.{Once}
 use Rattle.iol_laws.proofs.Places.{changed-none, lookup-changed, lookup-changed_same, lookup-push, lookup-push_other, lookup-without_none}
 
@@ -106,6 +107,14 @@ conn-there s c x y there over = ap (λ b. unwrap_or (lookup (if b then without s
 pub conn-missing : (s : State) (c : ℕ) (x : Connection) → lookup s.conns c ≡ None → is_over x ≡ false → conn_at (with_conn s c x) c ≡ no_conn
 unfolding conn_at with_conn
 conn-missing s c x none over = ap (λ b. unwrap_or (lookup (if b then without s.conns c else changed s.conns c x) c) no_conn) over ∙ ap (λ (o : Option Connection). unwrap_or o no_conn) (changed-none s.conns c c x none)
+
+-- what remains of one that changes
+pub conn-remains : (s : State) (c : ℕ) (x : Connection) → Once s.conns → (is_over x ≡ false → conn_at (with_conn s c x) c ≡ x) → conn_at (with_conn s c x) c ≡ remains x
+conn-remains s c x once there = by (is_over x) refl
+  where
+    by : (b : Bool) → is_over x ≡ b → conn_at (with_conn s c x) c ≡ (if b then no_conn else x)
+    by true over = conn-over s c x once over
+    by false over = there over
 
 -- one connection changes
 pub after-with_conn : (s : State) (c : ℕ) (x : Connection) → Once s.conns → (conn_at (with_conn s c x) c ≡ x) ⊎ (conn_at (with_conn s c x) c ≡ no_conn)

@@ -4,3 +4,4 @@ pub mod Left
 pub mod Blocking
 pub mod OfFiles
 pub mod OfPools
+pub mod FromOutside

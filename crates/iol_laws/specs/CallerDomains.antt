@@ -10,7 +10,8 @@ use Rattle.iol_core.specs.declared.events.Event.TheVariants as event
 use Rattle.iol_core.specs.declared.events.Reply.{Reply}
 use Rattle.iol_core.specs.declared.events.Reply.TheVariants as reply
 use Rattle.iol_laws.specs.Order.{IsOrderly}
-use Rattle.iol_laws.specs.Caller.{is_rough}
+use Rattle.iol_laws.specs.Caller.{is_rough, remains, ClosesReadEnd, ClosesWriteEnd}
+use Rattle.iol_laws.specs.Others.{HasNotEnd}
 
 -- a new domain is live and has nothing, and the others are as they were
 pub record StartsDomain (s : State) (n : ℕ) (t : State) : Type 0 where
@@ -24,7 +25,7 @@ MakesDomain s (reply.Refused x) t = (is_rough (reply.Refused x) ≡ true) × (t 
 MakesDomain s r t = ⊥
 
 -- The domain has nothing any more, and each of its descriptors is closed: of a connection what is still to be sent stays, of
--- a pipe what is still to be read, unless the read end was its own.
+-- a pipe what is still to be read, unless the read end was its own. What it had is closed as by `close`.
 pub record EndsDomain (s : State) (d : ℕ) (t : State) : Type 0 where
   pub nothing : domain t d ≡ no_domain
   pub others : (e : ℕ) → d ≢ e → domain t e ≡ domain s e
@@ -35,6 +36,13 @@ pub record EndsDomain (s : State) (d : ℕ) (t : State) : Type 0 where
   pub write_ends : (fd p : ℕ) → descriptor s d fd ≡ Some (on.WriteEnd p) → (pipe_at t p).writing ≡ false
   pub unread : (p : ℕ) → ((fd : ℕ) → descriptor s d fd ≡ Some (on.ReadEnd p) → ⊥) → (pipe_at s p).reading ≡ true
       → ((pipe_at t p).reading ≡ true) × ((pipe_at t p).queue ≡ (pipe_at s p).queue)
+  pub conns_remain : (fd c : ℕ) → descriptor s d fd ≡ Some (on.Connection c)
+      → conn_at t c ≡ remains (record (conn_at s c) { incoming = []; closed = true })
+  -- of a pipe of which it had one end
+  pub closes_read_end : (fd p : ℕ) → descriptor s d fd ≡ Some (on.ReadEnd p) → HasNotEnd s d (on.WriteEnd p)
+      → ClosesReadEnd s p reply.Done t
+  pub closes_write_end : (fd p : ℕ) → descriptor s d fd ≡ Some (on.WriteEnd p) → HasNotEnd s d (on.ReadEnd p)
+      → ClosesWriteEnd s p reply.Done t
 
 -- it is never refused
 abbrev pub Exits : State → (d : ℕ) → Reply → State → Type 0

@@ -1,9 +1,11 @@
 -- What others do to a connection or a pipe: calls of other domains, and what happens outside.
-use Rattle.std.specs.Prelude.{◌≡◌, ℕ, ◌⊎◌, ◌||◌, true, false, List, [], ◌++◌, take, Some, None}
+use Rattle.std.specs.Prelude.{◌≡◌, ℕ, ◌-◌, min, ◌⊎◌, ◌||◌, true, false, List, [], ◌++◌, length, take, drop, Some, None}
 use Rattle.iol_core.specs.Text.{Text, bytes_of}
+use Rattle.iol_core.specs.Checksum.{checksum}
 use Rattle.iol_core.specs.State.{State, descriptor, pool, may_read, conn_at, no_conn, new_conn, pipe_at}
 use Rattle.iol_core.specs.Calls.Outside.{closed_by}
 use Rattle.iol_core.specs.Run.{StepsTo}
+use Rattle.iol_core.specs.declared.limits.TheConstants.{MAX_QUEUE_BYTES}
 use Rattle.iol_core.specs.declared.descriptors.How.{How}
 use Rattle.iol_core.specs.declared.descriptors.Descriptor.{Descriptor}
 use Rattle.iol_core.specs.declared.descriptors.Descriptor.TheVariants as on
@@ -12,6 +14,7 @@ use Rattle.iol_core.specs.declared.events.Event.TheVariants as event
 use Rattle.iol_core.specs.declared.events.Reply.{Reply}
 use Rattle.iol_core.specs.declared.events.Reply.TheVariants as reply
 use Rattle.iol_laws.specs.Order.{IsOrderly}
+use Rattle.iol_laws.specs.Caller.{remains}
 
 -- a new connection waits: nothing came in, and nothing is to be sent
 pub record Connects (s : State) (p c : ℕ) (t : State) : Type 0 where
@@ -78,6 +81,19 @@ pub record OthersLeaveConnections : Type 0 where
       → Transmits s c r t
   pub peer_closed : (s t : State) (c : ℕ) (how : How) (r : Reply) → IsOrderly s → StepsTo s (event.PeerClosed c how) r t
       → PeerCloses s c how r t
+  -- as many bytes come in as fit
+  pub arrive_count : (s t : State) (c : ℕ) (bytes : List ℕ) (k : ℕ) → StepsTo s (event.Arrive c bytes) (reply.Count k) t
+      → k ≡ min (length bytes) (MAX_QUEUE_BYTES - length (conn_at s c).incoming)
+  -- a segment has as many bytes as it may, or all that are to be sent, and their checksum
+  pub transmit_count : (s t : State) (c max : ℕ) (bytes : List ℕ) (sum : ℕ)
+      → StepsTo s (event.Transmit c max) (reply.Segment bytes sum) t
+      → (length bytes ≡ min max (length (conn_at s c).outgoing)) × (sum ≡ checksum bytes)
+  -- what remains of a connection after a segment, and when its peer closed
+  pub transmit_remains : (s t : State) (c max : ℕ) (bytes : List ℕ) (sum : ℕ) → IsOrderly s
+      → StepsTo s (event.Transmit c max) (reply.Segment bytes sum) t
+      → conn_at t c ≡ remains (record (conn_at s c) { outgoing = drop max (conn_at s c).outgoing })
+  pub peer_remains : (s t : State) (c : ℕ) (how : How) → IsOrderly s → StepsTo s (event.PeerClosed c how) reply.Done t
+      → conn_at t c ≡ remains (closed_by (conn_at s c) how)
 
 -- what is still to be read of a pipe stays where it is, and more may come behind it
 pub record StaysUnread (s : State) (p : ℕ) (t : State) : Type 0 where

@@ -1,6 +1,6 @@
 -- What a refusal tells the domain that is refused: why nothing can be read, written or accepted now. And which calls are not
 -- refused.
-use Rattle.std.specs.Prelude.{◌≡◌, ℕ, ◌≤◌, true, false, List, [], ◌∷◌, length, Some, None}
+use Rattle.std.specs.Prelude.{◌≡◌, ℕ, ◌≤◌, ◌⊎◌, true, false, List, [], ◌∷◌, length, Some, None, is_some}
 use Rattle.iol_core.specs.Text.{Text}
 use Rattle.iol_core.specs.State.{State, descriptor, may_read, conn_at, pipe_at, is_gone, is_live}
 use Rattle.iol_core.specs.Run.{StepsTo}
@@ -51,6 +51,10 @@ pub record RefusalsTellWhy : Type 0 where
       → StepsTo s (event.Arrive c bytes) (reply.Refused WouldBlock) t → MAX_QUEUE_BYTES ≤ length (conn_at s c).incoming
   pub segment_is_empty : (s t : State) (c max : ℕ) → StepsTo s (event.Transmit c max) (reply.Refused WouldBlock) t
       → (conn_at s c).outgoing ≡ []
+  -- its peer closed, or it is closed itself
+  pub arrival_is_broken : (s t : State) (c : ℕ) (bytes : List ℕ)
+      → StepsTo s (event.Arrive c bytes) (reply.Refused BrokenPipe) t
+      → (is_some (conn_at s c).peer ≡ true) ⊎ ((conn_at s c).closed ≡ true)
   -- each connection that waits is one that the domain may not accept
   pub nobody_waits : (s t : State) (d c : ℕ) → StepsTo s (event.Call d call.Accept) (reply.Refused WouldBlock) t
       → (conn_at s c).accepted ≡ false → may_read s d (conn_at s c).pool ≡ false

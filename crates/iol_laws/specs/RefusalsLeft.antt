@@ -2,15 +2,18 @@
 -- them. And which calls may be told to wait.
 use Rattle.std.specs.Prelude.{◌≡◌, ◌≢◌, ℕ, ◌+◌, ◌≤◌, ◌<◌, Bool, true, false, List, ◌++◌, length, take, drop, Some, None, ⊤}
 use Rattle.std.specs.List.{list_all}
-use Rattle.iol_core.specs.State.{State, domain, descriptor, file, content, is_live, may_read, pool}
+use Rattle.iol_core.specs.State.{State, domain, descriptor, file, content, conn_at, is_live, is_pool, may_read, pool}
+use Rattle.iol_core.specs.Meaning.{FaultIn}
 use Rattle.iol_core.specs.Run.{StepsTo}
 use Rattle.iol_core.specs.Calls.Files.{file_called}
+use Rattle.iol_core.specs.Calls.Outside.{lacks_conn}
 use Rattle.iol_core.specs.Calls.Pools.{has_place, is_busy}
 use Rattle.iol_core.specs.Calls.Reading.{can_read, reads}
 use Rattle.iol_core.specs.Calls.Writing.{can_write, is_file, writes}
 use Rattle.iol_core.specs.declared.limits.TheConstants.{MAX_AGGREGATE_BYTES, MAX_CHUNKS, MAX_FILE_BYTES, MAX_NAME_BYTES}
 use Rattle.iol_core.specs.declared.descriptors.Descriptor.{Descriptor}
 use Rattle.iol_core.specs.declared.descriptors.Descriptor.TheVariants as on
+use Rattle.iol_core.specs.declared.descriptors.How.{How}
 use Rattle.iol_core.specs.declared.descriptors.Mode.{Mode}
 use Rattle.iol_core.specs.declared.refusals.Refusal.{Refusal}
 use Rattle.iol_core.specs.declared.refusals.Refusal.TheVariants.{TooMany, Denied, PoolBusy, BrokenPipe, WouldBlock, NoRoom, Fault, Memory}
@@ -105,6 +108,12 @@ abbrev pub LacksRoom : (pool : ℕ) → Refusal → Type 0
 LacksRoom pool (NoRoom p) = p ≡ pool
 LacksRoom pool Memory = ⊤
 LacksRoom pool x = ⊥
+
+-- nothing is to be sent, or want of memory
+abbrev pub HasNothingToSend : Refusal → Type 0
+HasNothingToSend WouldBlock = ⊤
+HasNothingToSend Memory = ⊤
+HasNothingToSend x = ⊥
 
 -- the pool is that of a file or of a live connection
 abbrev pub IsInUse : State → (p : ℕ) → Refusal → Type 0
@@ -203,6 +212,14 @@ pub record RefusalsThatAreLeft : Type 0 where
   pub pool_admit : (s t : State) (d p e : ℕ) (x : Refusal) → is_live s d ≡ true → is_live s e ≡ true
       → may_read s d p ≡ true → (pool s p).closed ≡ false
       → StepsTo s (event.Call d (call.PoolAdmit p e)) (reply.Refused x) t → HasNoPlace s p e x
+  -- what happens outside: to an open pool, to a connection that is there, and to the store
+  pub connects : (s t : State) (p : ℕ) (x : Refusal) → is_pool s p ≡ true → (pool s p).closed ≡ false
+      → StepsTo s (event.ConnNew p) (reply.Refused x) t → LacksNumbers x
+  pub arrives : (s t : State) (c : ℕ) (bytes : List ℕ) (x : Refusal) → lacks_conn s c ≡ false
+      → StepsTo s (event.Arrive c bytes) (reply.Refused x) t → CannotPutOrLacksRoom (conn_at s c).pool x
+  pub transmits : (s t : State) (c max : ℕ) (x : Refusal) → lacks_conn s c ≡ false → 0 < max
+      → StepsTo s (event.Transmit c max) (reply.Refused x) t → HasNothingToSend x
+  pub flushes : (s t : State) (x : Refusal) → StepsTo s event.Flush (reply.Refused x) t → FaultIn s x
   -- and these are never refused
   pub set_pool : (s t : State) (d p : ℕ) (x : Refusal) → is_live s d ≡ true → may_read s d p ≡ true
       → (pool s p).closed ≡ false → StepsTo s (event.Call d (call.SetPool p)) (reply.Refused x) t → ⊥
@@ -217,3 +234,6 @@ pub record RefusalsThatAreLeft : Type 0 where
       → StepsTo s (event.Call d (call.AggDrop a)) (reply.Refused x) t → ⊥
   pub exits : (s t : State) (d : ℕ) (x : Refusal) → is_live s d ≡ true
       → StepsTo s (event.Call d call.Exit) (reply.Refused x) t → ⊥
+  pub peer_closes : (s t : State) (c : ℕ) (how : How) (x : Refusal) → lacks_conn s c ≡ false
+      → StepsTo s (event.PeerClosed c how) (reply.Refused x) t → ⊥
+  pub drops_clean : (s t : State) (x : Refusal) → StepsTo s event.DropClean (reply.Refused x) t → ⊥

@@ -44,16 +44,17 @@ pub fn copying_calls_serve_their_domain()
     ensures { CopyingCallsServeTheirDomain }
 {}
 
-/// A new domain has nothing, and one that ends leaves nothing open; a new pool is read by just the domains that were named, and
-/// by one more where that is admitted to it; and the pool that a domain sets is its default.
+/// A new domain has nothing, and one that ends leaves nothing open: what it had is closed as by `close`. A new pool is read by just
+/// the domains that were named, and by one more where that is admitted to it; and the pool that a domain sets is its default.
 pub fn domains_and_pools_come_and_go()
     ensures { DomainsAndPoolsComeAndGo }
 {}
 
 /// What a refusal tells. A read that would block finds an empty queue, and one that is denied a first byte that the domain may
 /// not read. A write that would block finds a full queue, and one of a broken pipe nobody who will read. An `accept` that would
-/// block finds no waiting connection that the domain may have. Bytes that arrive and would block find a full queue, and a segment
-/// an empty one. An open descriptor is closed, and an aggregate that is there is dropped, without refusal.
+/// block finds no waiting connection that the domain may have. Bytes that arrive and would block find a full queue, those of a
+/// broken pipe a connection that it or its peer closed, and a segment finds an empty queue. An open descriptor is closed, and an
+/// aggregate that is there is dropped, without refusal.
 pub fn refusals_tell_why()
     ensures { RefusalsTellWhy }
 {}
@@ -64,7 +65,8 @@ pub fn numbers_are_new()
 {}
 
 /// A connection that a domain neither has nor may accept is left by its calls; one that waits is left or accepted; and
-/// what happens outside makes or changes what its event names.
+/// what happens outside makes or changes what its event names. As many bytes come in as fit, a segment has as many as it may, and
+/// a connection that is over then is forgotten, and no other.
 pub fn others_leave_connections()
     ensures { OthersLeaveConnections }
 {}
@@ -89,7 +91,7 @@ pub fn connection_numbers_rise()
 /// Which refusals a call can still get where the domain lives and what the call names is there and fits: each call's own. A fault
 /// is left to reads and `fsync` of a file alone; `set_pool`, `seek`, `length`, `close`, `agg_drop` and `exit` are never refused then.
 /// Only `accept` and the calls that read or write are told to wait, and of what happens outside bytes that arrive and segments; that
-/// changes nothing.
+/// changes nothing. So of what happens outside, to what is there: a peer's close and `drop_clean` are never refused.
 pub fn refusals_that_are_left()
     ensures { RefusalsThatAreLeft }
 {}

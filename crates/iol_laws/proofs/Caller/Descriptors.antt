@@ -19,8 +19,8 @@ use Rattle.iol_core.specs.declared.events.Reply.TheVariants as reply
 use Rattle.iol_core.proofs.Lookups.{domain-same}
 use Rattle.iol_core.proofs.Passing.{passed, when-none}
 use Rattle.iol_laws.specs.Order.{IsOrderly}
-use Rattle.iol_laws.specs.Caller.{lent_at, Puts, ReadsConn, WritesConn, Closes, ClosesConn, Accepts}
-use Rattle.iol_laws.proofs.Connections.{conn-over, conn-with_same, conns-with_agg, conns-with_fds, conns_conn, not-over, nothing-left}
+use Rattle.iol_laws.specs.Caller.{lent_at, remains, Puts, ReadsConn, WritesConn, Closes, ClosesConn, Accepts}
+use Rattle.iol_laws.proofs.Connections.{conn-over, conn-remains, conn-with_same, conns-with_agg, conns-with_fds, conns_conn, not-over, nothing-left}
 use Rattle.iol_laws.proofs.Domains.{domain-with_same, domains-closed_on, domains-with_conn, live-first}
 use Rattle.iol_laws.proofs.Ended.{none-admitted, none-comes}
 use Rattle.iol_laws.proofs.Numbers.{lent-made, new-fd, number, text-of}
@@ -109,6 +109,13 @@ does_close_conn s t d fd c reply.Done order is step =
         (ap (λ (z : Connection). z.closed) e, ap (λ (z : Connection). z.outgoing) e ∙ (sym gone ∙ ap (λ (z : Connection). z.outgoing) x_is), inr (sym (ap (λ (z : Connection). z.outgoing) x_is) ∙ gone, e))
 does_close_conn s t d fd c (reply.Refused x) order is step = step.1
 does_close_conn s t d fd c r order is step = (let e = step.1 in absurd (cc))
+
+pub close_remains : (s t : State) (d fd c : ℕ) → IsOrderly s → descriptor s d fd ≡ Some (on.Connection c) → StepsTo s (event.Call d (call.Close fd)) reply.Done t → conn_at t c ≡ remains (record (conn_at s c) { incoming = []; closed = true })
+close_remains s t d fd c order is step =
+    let both = opened-conn s d fd c order is in
+    let x : Connection = record (conn_at s c) { incoming = []; closed = true } in
+    let same : t ≡ fds.with_fds (with_conn s c x) d (fds.freed s d fd) = step.2 ∙ ap (λ o. fds.with_fds (fds.closed_on s o) d (fds.freed s d fd)) is in
+    ap (λ u. conn_at u c) same ∙ (conns-with_fds (with_conn s c x) d (fds.freed s d fd) c ∙ conn-remains s c x order.once (conn-with_same s c x both.1))
 
 pub does_accept : (s t : State) (d : ℕ) (r : Reply) → IsOrderly s → StepsTo s (event.Call d call.Accept) r t → Accepts s d r t
 does_accept s t d (reply.Fd fd) order step =

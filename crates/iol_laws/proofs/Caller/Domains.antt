@@ -8,7 +8,7 @@ use Rattle.std.proofs.lemmas.List.{set-get_or}
 use Rattle.std.proofs.lemmas.List.Folds.{list_any-append}
 use Rattle.iol_core.specs.Text.{Text}
 use Rattle.iol_core.specs.Numbered.{numbered_or, with_numbered, is_numbered}
-use Rattle.iol_core.specs.State.{State, Domain, Pool, domain, new_domain, no_domain, no_pool, is_live, pool, is_pool, may_read, pipe_at, conn_at, with_domain}
+use Rattle.iol_core.specs.State.{State, Domain, Pipe, Pool, domain, new_domain, no_domain, no_pool, is_live, pool, is_pool, may_read, pipe_at, conn_at, with_domain}
 use Rattle.iol_core.specs.Meaning.{first, ◌when◌, Never, WantOfMemory}
 use Rattle.iol_core.specs.Run.{StepsTo}
 use Rattle.iol_core.specs.Calls.Domains as domains
@@ -29,7 +29,7 @@ use Rattle.iol_laws.specs.Caller.{is_rough}
 use Rattle.iol_laws.specs.CallerDomains.{MakesDomain, Exits, MakesPool, ClosesPool, Admits, SetsPool}
 use Rattle.iol_laws.proofs.Connections.{conns_same}
 use Rattle.iol_laws.proofs.Domains.{domain-with_other, domain-with_same, domains-all_closed, live-first}
-use Rattle.iol_laws.proofs.Order.Ending.{conn_ended, read_end_ended, unread_ended, write_end_ended}
+use Rattle.iol_laws.proofs.Order.Ending.{conn_ended, ended_remains, read_end_ended, read_end_shut, unread_ended, write_end_ended, write_end_shut}
 use Rattle.iol_laws.proofs.Left.Pipes.{pipes_same}
 use Rattle.iol_laws.proofs.Refusals.Refusing.{past-live}
 use Rattle.iol_laws.proofs.Tests.{both-true}
@@ -100,6 +100,9 @@ does_exit s t d reply.Done order live step =
       read_ends = λ fd p is. (let both = read_end_ended s list fd p is in (ap (λ k. k.reading) (pipe p) ∙ both.0, ap (λ k. k.queue) (pipe p) ∙ both.1));
       write_ends = λ fd p is. ap (λ k. k.writing) (pipe p) ∙ write_end_ended s list fd p is;
       unread = λ p nobody reads. (let both = unread_ended s list p nobody reads in (ap (λ k. k.reading) (pipe p) ∙ both.0, ap (λ k. k.queue) (pipe p) ∙ both.1));
+      conns_remain = λ fd c is. conn c ∙ ended_remains s list fd c order.once is;
+      closes_read_end = λ fd p is nobody. subst (λ (k : Pipe). (k.reading ≡ false) × (k.queue ≡ []) × (k.writing ≡ (pipe_at s p).writing)) (sym (pipe p)) (read_end_shut s list fd p is nobody);
+      closes_write_end = λ fd p is nobody. subst (λ (k : Pipe). (k.writing ≡ false) × ((pipe_at s p).reading ≡ true → k ≡ record (pipe_at s p) { writing = false })) (sym (pipe p)) (write_end_shut s list fd p is nobody);
     }
 does_exit s t d (reply.Refused x) order live step = subst (λ o. MatchOption o (Never x) (λ y. x ≡ y)) (past-live s d [] live) step.0
 does_exit s t d r order live step = (let e = step.1 in absurd (cc))

@@ -1,18 +1,20 @@
 -- What closing all of a domain's descriptors does to connections and pipes.
 use Rattle.std.proofs.Common.{inl, inr, zero, suc, ◌≡◌, ℕ, ◌⊎◌, ◌==◌, List, [], ◌∷◌, ap, ◌∙◌, refl, sym, subst, arith, Option, Some, None, true, false, Bool}
-use Rattle.std.specs.Prelude.{not, fold, ◌&&◌, ◌||◌}
+use Rattle.std.specs.Prelude.{not, fold, ◌&&◌, ◌||◌, if◌then◌else◌}
 use Rattle.std.specs.List.{list_any}
 use Rattle.std.proofs.lemmas.Bool.{cases_eq}
 use Rattle.std.proofs.lemmas.Bool.Decides.{nat_tests}
 use Rattle.std.proofs.lemmas.Grind.{common_steps}
+use Rattle.iol_core.specs.Text.{Text}
 use Rattle.iol_core.specs.Numbered.{lookup, in_place}
-use Rattle.iol_core.specs.State.{State, Pipe, Connection, pipe_at, conn_at, is_over, is_gone, with_pipe, with_conn}
+use Rattle.iol_core.specs.State.{State, Pipe, Connection, pipe_at, conn_at, no_conn, is_over, is_gone, with_pipe, with_conn}
 use Rattle.iol_core.specs.Calls.Descriptors as fds
 use Rattle.iol_core.specs.declared.descriptors.Descriptor.{Descriptor}
 use Rattle.iol_core.specs.declared.descriptors.Descriptor.TheVariants as on
+use Rattle.iol_laws.specs.Caller.{remains}
 use Rattle.iol_laws.specs.Frame.{is_conn}
 use Rattle.iol_laws.specs.Order.{Once}
-use Rattle.iol_laws.proofs.Connections.{conn-missing, conn-over, conn-there, conn-unmade, conns_conn, conns-with_pipe, conns_same, nothing-left, once-with_conn}
+use Rattle.iol_laws.proofs.Connections.{conn-missing, conn-over, conn-remains, conn-there, conn-unmade, conns_conn, conns-with_pipe, conns_same, nothing-left, once-with_conn}
 use Rattle.iol_laws.proofs.Order.Ends.{pipe-with_same}
 use Rattle.iol_laws.proofs.Caller.Pipes.{pipe-gone}
 use Rattle.iol_laws.proofs.Left.Pipes.{pipes_closed_on, pipes_pipe}
@@ -92,6 +94,65 @@ conn_ended s list fd c once is =
     let all = all_close s list c once in
     let one : is_conn c (Some (on.Connection c)) ≡ true = grind (arith, nat_tests) in
     (all.shuts (some-open (is_conn c) list fd (on.Connection c) is one), all.outgoing)
+
+-- what remains of a connection that is closed
+abbrev shut_as : Connection → Connection
+shut_as k = remains (record k { incoming = []; closed = true })
+
+shut-remains : (s : State) (c : ℕ) → Once s.conns → conn_at (fds.closed_on s (Some (on.Connection c))) c ≡ shut_as (conn_at s c)
+shut-remains s c once = conn-remains s c x once (by (lookup s.conns c) refl)
+  where
+    x : Connection
+    x = record (conn_at s c) { incoming = []; closed = true }
+
+    by : (o : Option Connection) → lookup s.conns c ≡ o → is_over x ≡ false → conn_at (with_conn s c x) c ≡ x
+    by (Some y) is over = conn-there s c x y is over
+    by None is over = absurd (let e = ap (λ (k : Connection). is_over (record k { incoming = []; closed = true })) (conn-unmade s c is) in cc (e, over))
+
+-- closed twice, it is closed once
+shut-twice : (k : Connection) → shut_as (shut_as k) ≡ shut_as k
+shut-twice k = by (is_over x) refl
+  where
+    x : Connection
+    x = record k { incoming = []; closed = true }
+
+    by : (b : Bool) → is_over x ≡ b → shut_as (if b then no_conn else x) ≡ (if b then no_conn else x)
+    by true over = refl
+    by false over = ap (λ b. if b then no_conn else x) over
+
+one_remains : (s : State) (o : Option Descriptor) (c : ℕ) → Once s.conns → conn_at (fds.closed_on s o) c ≡ (if is_conn c o then shut_as (conn_at s c) else conn_at s c)
+one_remains s None c once = refl
+one_remains s (Some (on.File f at mode)) c once = refl
+one_remains s (Some (on.ReadEnd p)) c once = conns_same s (fds.closed_on s (Some (on.ReadEnd p))) (λ k. false) (conns-with_pipe s p _) c refl
+one_remains s (Some (on.WriteEnd p)) c once = conns_same s (fds.closed_on s (Some (on.WriteEnd p))) (λ k. false) (conns-with_pipe s p _) c refl
+one_remains s (Some (on.Connection e)) c once = elim (cases_eq e c) [
+  | inl same ↦ (let is : (e == c) ≡ true = grind (arith, nat_tests, same) in ap (λ n. conn_at (fds.closed_on s (Some (on.Connection n))) c) same ∙ (shut-remains s c once ∙ sym (ap (λ b. if b then shut_as (conn_at s c) else conn_at s c) is)))
+  | inr differ ↦ (let un : (e == c) ≡ false = grind (arith, nat_tests, differ) in conns_conn s e _ c differ ∙ sym (ap (λ b. if b then shut_as (conn_at s c) else conn_at s c) un))
+]
+
+all_remain : (s : State) (list : List (Option Descriptor)) (c : ℕ) → Once s.conns → conn_at (fold fds.closed_on s list) c ≡ (if list_any (is_conn c) list then shut_as (conn_at s c) else conn_at s c)
+all_remain s [] c once = refl
+all_remain s (o ∷ list) c once =
+    let a : Bool = list_any (is_conn c) list in
+    let k : Connection = conn_at s c in
+    all_remain (fds.closed_on s o) list c (once-closed_on s o once)
+    ∙ (ap (λ z. if a then shut_as z else z) (one_remains s o c once)
+    ∙ (both a (is_conn c o) k
+    ∙ sym (ap (λ b. if b then shut_as k else k) (any-cons (is_conn c) o list))))
+  where
+    both : (a b : Bool) (k : Connection) → (if a then shut_as (if b then shut_as k else k) else (if b then shut_as k else k)) ≡ (if b || a then shut_as k else k)
+    both true true k = shut-twice k
+    both true false k = refl
+    both false true k = refl
+    both false false k = refl
+
+    any-cons : (test : Option Descriptor → Bool) (o : Option Descriptor) (list : List (Option Descriptor)) → list_any test (o ∷ list) ≡ (test o || list_any test list)
+    any-cons test o list = grind (arith, common_steps)
+
+pub ended_remains : (s : State) (list : List (Option Descriptor)) (fd c : ℕ) → Once s.conns → in_place list fd ≡ Some (on.Connection c) → conn_at (fold fds.closed_on s list) c ≡ remains (record (conn_at s c) { incoming = []; closed = true })
+ended_remains s list fd c once is =
+    let one : is_conn c (Some (on.Connection c)) ≡ true = grind (arith, nat_tests) in
+    all_remain s list c once ∙ ap (λ b. if b then shut_as (conn_at s c) else conn_at s c) (some-open (is_conn c) list fd (on.Connection c) is one)
 
 -- Pipes.
 
@@ -273,3 +334,25 @@ unread_ended s list p nobody reads =
     let none = none-reading p list nobody in
     let on_yet : (pipe_at (fold fds.closed_on s list) p).reading ≡ true = all.reading ∙ grind (arith, none, reads) in
     (on_yet, all.kept none (left-true _ _ on_yet))
+
+-- one end of a pipe, where the other is open elsewhere or nowhere
+
+and-on : (a b : Bool) → b ≡ false → (a && not b) ≡ a
+and-on true b off = ap (λ b. not b) off
+and-on false b off = refl
+
+pub read_end_shut : (s : State) (list : List (Option Descriptor)) (fd p : ℕ) → in_place list fd ≡ Some (on.ReadEnd p) → ((fd : ℕ) → in_place list fd ≡ Some (on.WriteEnd p) → ⊥) → let u : Pipe = pipe_at (fold fds.closed_on s list) p in (u.reading ≡ false) × (u.queue ≡ []) × (u.writing ≡ (pipe_at s p).writing)
+read_end_shut s list fd p is nobody =
+    let both = read_end_ended s list fd p is in
+    (both.0, both.1, (all_shut s list p).writing ∙ and-on (pipe_at s p).writing (list_any (is_write_end p) list) (none-writing p list nobody))
+
+pub write_end_shut : (s : State) (list : List (Option Descriptor)) (fd p : ℕ) → in_place list fd ≡ Some (on.WriteEnd p) → ((fd : ℕ) → in_place list fd ≡ Some (on.ReadEnd p) → ⊥) → let u : Pipe = pipe_at (fold fds.closed_on s list) p in (u.writing ≡ false) × ((pipe_at s p).reading ≡ true → u ≡ record (pipe_at s p) { writing = false })
+write_end_shut s list fd p is nobody =
+    let shut = write_end_ended s list fd p is in
+    (shut, λ reads. (let both = unread_ended s list p nobody reads in same (pipe_at (fold fds.closed_on s list) p) (pipe_at s p) both.1 (both.0 ∙ sym reads) shut))
+  where
+    same : (u k : Pipe) → u.queue ≡ k.queue → u.reading ≡ k.reading → u.writing ≡ false → u ≡ record k { writing = false }
+    same u k queue reading writing =
+        ap (λ (l : Text). record u { queue = l }) queue
+        ∙ (ap (λ (b : Bool). record u { queue = k.queue; reading = b }) reading
+        ∙ ap (λ (b : Bool). record k { writing = b }) writing)

@@ -172,7 +172,7 @@ full n waits broken is =
     let holds = when-some refuse.WouldBlock none (this (refuse.WouldBlock when none) [] refuse.WouldBlock (λ e. cc) last) in
     grind (arith, nat_tests, holds)
 
-broken-said : (broken none : Bool) → first ((refuse.BrokenPipe when broken) ∷ (refuse.WouldBlock when none) ∷ []) ≡ Some refuse.BrokenPipe → broken ≡ true
+pub broken-said : (broken none : Bool) → first ((refuse.BrokenPipe when broken) ∷ (refuse.WouldBlock when none) ∷ []) ≡ Some refuse.BrokenPipe → broken ≡ true
 broken-said broken none is = when-some refuse.BrokenPipe broken (this (refuse.BrokenPipe when broken) ((refuse.WouldBlock when none) ∷ []) refuse.BrokenPipe (last none) is)
   where
     last : (b : Bool) → first ((refuse.WouldBlock when b) ∷ []) ≡ Some refuse.BrokenPipe → ⊥

@@ -1,13 +1,17 @@
 -- What happens outside to a connection.
-use Rattle.std.proofs.Common.{inl, inr, ◌≡◌, ℕ, ◌==◌, ◌⊎◌, List, [], ◌++◌, length, take, drop, ap, ◌∙◌, refl, sym, arith, Option, Some, None, true, false, Bool}
-use Rattle.std.specs.Prelude.{not, is_none, is_some, ◌&&◌, ◌||◌}
-use Rattle.std.proofs.lemmas.List.{take-append-drop}
+use Rattle.std.proofs.Common.{inl, inr, ◌≡◌, ℕ, ◌==◌, ◌⊎◌, List, [], ◌∷◌, ◌++◌, length, take, drop, ap, ◌∙◌, refl, sym, arith, Option, Some, None, true, false, Bool}
+use Rattle.std.specs.Prelude.{min, not, is_none, is_some, ◌&&◌, ◌||◌, ◌-◌}
+use Rattle.std.proofs.lemmas.List.{length-take, take-append-drop}
 use Rattle.iol_core.specs.Text.{Text, bytes_of, labelled}
+use Rattle.iol_core.specs.Checksum.{checksum}
 use Rattle.iol_core.specs.Numbered.{lookup}
 use Rattle.iol_core.specs.State.{State, Connection, pool, conn_at, no_conn, is_over, is_gone, with_conn}
+use Rattle.iol_core.specs.Meaning.{first, ◌when◌}
 use Rattle.iol_core.specs.Run.{StepsTo}
 use Rattle.iol_core.specs.Calls.Outside.{conn_new, closed_by, arrive, transmit, peer_closed}
 use Rattle.iol_core.specs.Calls.Outside as outside
+use Rattle.iol_core.specs.declared.limits.TheConstants.{MAX_QUEUE_BYTES}
+use Rattle.iol_core.specs.declared.refusals.Refusal.{Refusal}
 use Rattle.iol_core.specs.declared.refusals.Refusal.TheVariants as refuse
 use Rattle.iol_core.specs.declared.descriptors.How.{How}
 use Rattle.iol_core.specs.declared.descriptors.How.TheVariants as ways
@@ -16,14 +20,19 @@ use Rattle.iol_core.specs.declared.events.Reply.{Reply}
 use Rattle.iol_core.specs.declared.events.Reply.TheVariants as reply
 use Rattle.iol_core.proofs.Passing.{passed, when-none}
 use Rattle.iol_laws.specs.Order.{IsOrderly}
+use Rattle.iol_laws.specs.Caller.{remains}
 use Rattle.iol_laws.specs.Others.{MakesConn, Arrives, GoesOut, Transmits, PeerCloses}
-use Rattle.iol_laws.proofs.Connections.{conn-made, conn-over, conn-unmade, conn-there, conn-with_same, not-over, nothing-left}
+use Rattle.iol_laws.proofs.Connections.{conn-made, conn-over, conn-remains, conn-unmade, conn-there, conn-with_same, not-over, nothing-left}
 use Rattle.iol_laws.proofs.Numbers.{number}
-use Rattle.iol_laws.proofs.Texts.{bytes-append, bytes-labelled}
+use Rattle.iol_laws.proofs.Texts.{bytes-append, bytes-labelled, length-bytes}
 
 abbrev sent_in : Reply → List ℕ
 sent_in (reply.Segment bytes sum) = bytes
 sent_in r = []
+
+abbrev sum_in : Reply → ℕ
+sum_in (reply.Segment bytes sum) = sum
+sum_in r = 0
 
 is-there : {A : Type 0} (o : Option A) → is_none o ≡ false → (y : A) × (o ≡ Some y)
 is-there None some = absurd (cc)
@@ -136,3 +145,31 @@ does_peer_closed s t c how reply.Done order step = by (is_over (closed_by (conn_
         cases false true is_a is_b = absurd (let n = not-over (closed_by (conn_at s c) how) ((kept (conn_at s c) how).0 ∙ is_b) ((kept (conn_at s c) how).1 ∙ is_a) in cc (n, over))
 does_peer_closed s t c how (reply.Refused x) order step = step.1
 does_peer_closed s t c how r order step = (let e = step.1 in absurd (cc))
+
+-- How many bytes come in, and how many are sent.
+
+pub count_arrived : (s t : State) (c : ℕ) (bytes : List ℕ) (k : ℕ) → StepsTo s (event.Arrive c bytes) (reply.Count k) t → k ≡ min (length bytes) (MAX_QUEUE_BYTES - length (conn_at s c).incoming)
+count_arrived s t c bytes k step = ap number step.1
+
+pub count_sent : (s t : State) (c max : ℕ) (bytes : List ℕ) (sum : ℕ) → StepsTo s (event.Transmit c max) (reply.Segment bytes sum) t → (length bytes ≡ min max (length (conn_at s c).outgoing)) × (sum ≡ checksum bytes)
+count_sent s t c max bytes sum step =
+    let out : Text = (conn_at s c).outgoing in
+    let is : bytes ≡ bytes_of (take max out) = ap sent_in step.1 in
+    (ap (λ (l : List ℕ). length l) is ∙ (length-bytes (take max out) ∙ length-take max out), ap sum_in step.1 ∙ ap checksum (sym is))
+
+-- What remains of a connection.
+
+conn-known : (s : State) (c : ℕ) (rest : List (Option Refusal)) → first ((refuse.BadFd when is_none (lookup s.conns c)) ∷ rest) ≡ None → (y : Connection) × (lookup s.conns c ≡ Some y)
+conn-known s c rest none = is-there (lookup s.conns c) (when-none refuse.BadFd (is_none (lookup s.conns c)) (passed ((refuse.BadFd when is_none (lookup s.conns c)) ∷ rest) 0 none))
+
+pub sent_remains : (s t : State) (c max : ℕ) (bytes : List ℕ) (sum : ℕ) → IsOrderly s → StepsTo s (event.Transmit c max) (reply.Segment bytes sum) t → conn_at t c ≡ remains (record (conn_at s c) { outgoing = drop max (conn_at s c).outgoing })
+sent_remains s t c max bytes sum order step =
+    let x : Connection = record (conn_at s c) { outgoing = drop max (conn_at s c).outgoing } in
+    let there = conn-known s c _ step.0 in
+    ap (λ u. conn_at u c) step.2 ∙ conn-remains s c x order.once (conn-there s c x there.0 there.1)
+
+pub peer_remains : (s t : State) (c : ℕ) (how : How) → IsOrderly s → StepsTo s (event.PeerClosed c how) reply.Done t → conn_at t c ≡ remains (closed_by (conn_at s c) how)
+peer_remains s t c how order step =
+    let x : Connection = closed_by (conn_at s c) how in
+    let there = conn-known s c _ step.0 in
+    ap (λ u. conn_at u c) step.2 ∙ conn-remains s c x order.once (conn-there s c x there.0 there.1)

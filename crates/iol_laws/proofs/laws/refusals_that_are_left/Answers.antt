@@ -1,4 +1,5 @@
 use Rattle.iol_laws.proofs.Refusals.Blocking.{which_waits}
+use Rattle.iol_laws.proofs.Refusals.FromOutside.{left_connect, left_arrive, left_transmit, left_flush, left_peer_closed, left_drop_clean}
 use Rattle.iol_laws.proofs.Refusals.Left.{who_waits, left_domain_new, left_make, left_dup, left_cut, left_split, left_join, left_show, left_give_agg, left_pipe, left_give_fd, left_accept, left_read, left_copy, left_write, left_copy_to}
 use Rattle.iol_laws.proofs.Refusals.OfFiles.{left_read_file, left_copy_file, left_write_file, left_copy_to_file, left_file_new, left_open_file, left_sync, left_seek, left_length}
 use Rattle.iol_laws.proofs.Refusals.OfPools.{left_pool_create, left_pool_close, left_pool_admit, left_set_pool, left_replace, left_close, left_drop, left_exit}
@@ -34,10 +35,16 @@ returns c = record {
   pool_create = left_pool_create;
   pool_close = left_pool_close;
   pool_admit = left_pool_admit;
+  connects = left_connect;
+  arrives = left_arrive;
+  transmits = left_transmit;
+  flushes = left_flush;
   set_pool = left_set_pool;
   seeks = left_seek;
   measures = left_length;
   closes = left_close;
   drops = left_drop;
   exits = left_exit;
+  peer_closes = left_peer_closed;
+  drops_clean = left_drop_clean;
 }
