@@ -1,5 +1,7 @@
 -- An event that is refused for want of room evicts nothing, and leaves what is held held as often.
-use Rattle.std.proofs.Common.{inl, inr, ◌≡◌, ◌∙◌, ℕ, ◌+◌, false, List, [], Option, Some, None, sum_by, refl, sym, ap, arith, subst}
+use Rattle.std.proofs.Common.{inl, inr, ◌≡◌, ◌==◌, ◌∙◌, ℕ, ◌+◌, Bool, true, false, List, [], Option, Some, None, sum_by, refl, sym, ap, arith, subst}
+use Rattle.std.proofs.lemmas.Bool.{true≢false}
+use Rattle.std.proofs.lemmas.Bool.Decides.{nat_tests}
 use Rattle.iol_core.specs.declared.descriptors.Descriptor.{Descriptor}
 use Rattle.iol_core.specs.declared.descriptors.Descriptor.TheVariants as on
 use Rattle.iol_core.specs.declared.events.Call.{Call}
@@ -35,19 +37,10 @@ use Rattle.iol_kernel.specs.MakingRoom.{MayHaveEvicted}
 use Rattle.iol_kernel.specs.WritingFiles.{LeavesUnlaid, LeavesUnwritten}
 use Rattle.iol_system.specs.Asking.{uses_cache}
 use Rattle.iol_system.specs.Late.{CallLeaves, CopyLeaves, LeavesLate, PutLeaves, ReadLeaves, SameTables, WriteLeaves}
-use Rattle.iol_system.specs.Laws.{EvictsNothing, NoRoomEvictsNothing}
+use Rattle.iol_system.specs.Laws.{EvictsNothing, NoRoomEvictsNothing, is_on_file, reads_file}
 use Rattle.iol_system.specs.Machine.{SystemState, tables_of}
 use Rattle.iol_system.proofs.Hits.{AreHit, hit_then, hits_leave, others_stay}
 use Rattle.iol_system.specs.Room.{CallLacksRoom, LacksRoomFor, LacksRoomToRead, LacksRoomToWrite}
-
--- Of what memory has of files.
-
-same_cache : (a b : Cached) → b ≡ a → EvictsNothing a b
-same_cache a b is = record {
-  extents = λ f. ap (λ (c : Cached). extents_in c.files f) is;
-  low = λ p. ap (λ (c : Cached). (order_in c.orders p).low) is;
-  order = λ p f at. inl (ap (λ (c : Cached). entry_at (order_in c.orders p).entries f at) is);
-}
 
 -- Of pages: what was freed nothing holds any more, and what is held is held as often.
 pub record HeldAlike (s t : Stored) : Type 0 where
@@ -57,61 +50,6 @@ pub record HeldAlike (s t : Stored) : Type 0 where
 same_pages : (s t : Stored) → t ≡ s → HeldAlike s t
 same_pages s t is = subst (HeldAlike s) (sym is) (record { counts = λ b. refl; frees = frees_none s s refl refl refl })
 
--- Of both, where the kernel is sound before and after.
-abbrev pub LeavesBoth : (h k : KernelState) → Type 0
-LeavesBoth h k = EvictsNothing h.cache k.cache × (IsSound h → IsSound k → HeldAlike h.store k.store)
-
-same_kernel : (h k : KernelState) → k ≡ h → LeavesBoth h k
-same_kernel h k is = (same_cache h.cache k.cache (ap (λ (x : KernelState). x.cache) is), λ was now. same_pages h.store k.store (ap (λ (x : KernelState). x.store) is))
-
-only_reserved : (a b : Cached) → SameButRoom a b → EvictsNothing a b
-only_reserved a b x = record { extents = x.extents; low = x.low; order = λ p f at. inl (ap (λ (es : List Entry). entry_at es f at) (x.entries p)) }
-
-and_then : (a b c : Cached) → EvictsNothing a b → EvictsNothing b c → EvictsNothing a c
-and_then a b c x y = record {
-  extents = λ f. y.extents f ∙ x.extents f;
-  low = λ p. y.low p ∙ x.low p;
-  order = λ p f at. hit_then (order_in a.orders p).low (order_in b.orders p).low _ _ _ (x.low p) (x.order p f at) (y.order p f at);
-}
-
-only_counted : (f : ℕ) (hits : List Span) (a b : Cached) → CountsHits f hits a b → EvictsNothing a b
-only_counted f hits a b x = record {
-  extents = λ g. ap (λ fs. extents_in fs g) x.files;
-  low = λ q. (stays q).low;
-  order = λ q. (stays q).order;
-}
-  where
-    stays : (q : ℕ) → AreHit (order_in a.orders q) (order_in b.orders q)
-    stays q =
-        let p = (file_in a.files f).pool in
-        subst (λ (os : List Ranking). AreHit (order_in a.orders q) (order_in os q)) (sym x.orders) (others_stay a.orders p (hits_counted (order_in a.orders p) f (extents_in a.files f) hits) q (hits_leave (order_in a.orders p) f (extents_in a.files f) hits))
-
--- Refusals for want of room, by what they left.
-
--- what a read of a range leaves, whose extents hold what they held
-abbrev RangeLeft : (old new : Holding) → Type 0
-RangeLeft old new = EvictsNothing old.cache new.cache × HeldAlike old.store new.store × (held new.cache.files ≡ held old.cache.files)
-
-range_left : (f from to p : ℕ) (old new : Holding) → LeavesRange f from to old new (NoRoom p) → RangeLeft old new
-range_left f from to p old new (inl (is, x)) = absurd (let e : ◌≡◌ {A = Refusal} (NoRoom p) Memory = is in cc)
-range_left f from to p old new (inr x) =
-    let a = x.pinned in
-    let same = x.undone.kept p refl in
-    let last : new.cache ≡ x.hit.cache = x.undone.cache ∙ ap (λ (h : Holding). h.cache) same in
-    let released : Moves x.hit.store new.store (bufs_of x.pins) [] = subst (λ (h : Holding). Moves h.store new.store (bufs_of x.pins) []) same x.undone.released in
-    let frees : FreesOnly x.hit.store new.store = subst (λ (h : Holding). FreesOnly h.store new.store) same x.undone.frees in (
-      and_then old.cache a.reserved new.cache (only_reserved old.cache a.reserved a.rooms) (and_then a.reserved x.hit.cache new.cache (only_counted f a.hits a.reserved x.hit.cache a.counted) (same_cache x.hit.cache new.cache last)),
-      record {
-        counts = λ b. omega (arith, a.shares.counts.each b, released.counts.each b, tally_none b);
-        frees = frees_trans (frees_shares a.shares) frees released.counts;
-      },
-      ap (λ (c : Cached). held c.files) last ∙ ap held a.counted.files ∙ a.rooms.held,
-    )
-
-read_left : (x : FileRead) (disk after : Disk) (p : ℕ) (h k : KernelState) → LeavesAtRefusal x disk h after k (NoRoom p) → RangeLeft (record { store = h.store; cache = h.cache }) (record { store = k.store; cache = k.cache })
-read_left x disk after p h k (inl early) = absurd early.0
-read_left x disk after p h k (inr late) = range_left x.file late.1.range.from late.1.range.to p (record { store = h.store; cache = h.cache }) (record { store = k.store; cache = k.cache }) late.1.leaves
-
 -- buffers are held as often, where tables and extents hold what they held
 held_alike : (h k : KernelState) → SameTables h k → held k.cache.files ≡ held h.cache.files → IsSound h → IsSound k → (b : BufId) → count_of k.store b ≡ count_of h.store b
 held_alike h k same extents was now b =
@@ -120,77 +58,153 @@ held_alike h k same extents was now b =
     ∙ ap (λ (bs : List BufId). sum_by (domain_uses b) h.domains + sum_by (pipe_uses b) h.pipes + sum_by (conn_uses b) h.conns + tally b bs) extents
     ∙ sym (was.counted.each b)
 
--- a read by copying, which has freed pages since, or none
-copy_left : (h k : KernelState) (mid : Stored) → RangeLeft (record { store = h.store; cache = h.cache }) (record { store = mid; cache = k.cache }) → FreesOnly mid k.store → SameTables h k → LeavesBoth h k
-copy_left h k mid left frees same = (
-  left.0,
-  λ was now.
-      let counts = held_alike h k same left.2 was now in
-      let here : Counts mid k.store [] [] = record { each = λ b. omega (arith, counts b, left.1.counts b) } in
-      record { counts = counts; frees = frees_trans left.1.frees frees here },
-)
+-- Of what memory has of files, where an event reads some of them.
 
-room_left : (pool n p : ℕ) (h k : KernelState) → MayHaveEvicted pool n h k (NoRoom p) → LeavesBoth h k
-room_left pool n p h k (inl same) = same_kernel h k same
-room_left pool n p h k (inr late) = absurd (let e : ◌≡◌ {A = Refusal} (NoRoom p) Memory = late.0 in cc)
+module _ (is_read : ℕ → Bool) where
+  same_cache : (a b : Cached) → b ≡ a → EvictsNothing is_read a b
+  same_cache a b is = record {
+    extents = λ f. ap (λ (c : Cached). extents_in c.files f) is;
+    low = λ p. ap (λ (c : Cached). (order_in c.orders p).low) is;
+    order = λ p f at. inl (ap (λ (c : Cached). entry_at (order_in c.orders p).entries f at) is);
+    unread = λ p f at un. ap (λ (c : Cached). entry_at (order_in c.orders p).entries f at) is;
+  }
 
-write_left : (f p : ℕ) (xs : List Slice) (h k : KernelState) → LeavesUnwritten f xs h k (NoRoom p) → LeavesBoth h k
-write_left f p xs h k (inl same) = same_kernel h k same
-write_left f p xs h k (inr late) = (only_reserved h.cache k.cache (late.2 p refl).same, λ was now. same_pages h.store k.store (late.2 p refl).store)
+  -- Of both, where the kernel is sound before and after.
+  abbrev pub LeavesBoth : (h k : KernelState) → Type 0
+  LeavesBoth h k = EvictsNothing is_read h.cache k.cache × (IsSound h → IsSound k → HeldAlike h.store k.store)
 
-put_left : (pool p : ℕ) (bytes : List ℕ) (h k : KernelState) → LeavesUnlaid pool bytes h k (NoRoom p) → LeavesBoth h k
-put_left pool p bytes h k (inl same) = same_kernel h k same
-put_left pool p bytes h k (inr late) = absurd (let e : ◌≡◌ {A = Refusal} (NoRoom p) Memory = late.0 in cc)
+  same_kernel : (h k : KernelState) → k ≡ h → LeavesBoth h k
+  same_kernel h k is = (same_cache h.cache k.cache (ap (λ (x : KernelState). x.cache) is), λ was now. same_pages h.store k.store (ap (λ (x : KernelState). x.store) is))
+
+  only_reserved : (a b : Cached) → SameButRoom a b → EvictsNothing is_read a b
+  only_reserved a b x = record {
+    extents = x.extents;
+    low = x.low;
+    order = λ p f at. inl (ap (λ (es : List Entry). entry_at es f at) (x.entries p));
+    unread = λ p f at un. ap (λ (es : List Entry). entry_at es f at) (x.entries p);
+  }
+
+  and_then : (a b c : Cached) → EvictsNothing is_read a b → EvictsNothing is_read b c → EvictsNothing is_read a c
+  and_then a b c x y = record {
+    extents = λ f. y.extents f ∙ x.extents f;
+    low = λ p. y.low p ∙ x.low p;
+    order = λ p f at. hit_then (order_in a.orders p).low (order_in b.orders p).low _ _ _ (x.low p) (x.order p f at) (y.order p f at);
+    unread = λ p f at un. y.unread p f at un ∙ x.unread p f at un;
+  }
+
+  only_counted : (f : ℕ) (hits : List Span) (a b : Cached) → is_read f ≡ true → CountsHits f hits a b → EvictsNothing is_read a b
+  only_counted f hits a b read x = record {
+    extents = λ g. ap (λ fs. extents_in fs g) x.files;
+    low = λ q. (stays q).low;
+    order = λ q. (stays q).order;
+    unread = λ q g at un. (stays q).others g at (λ same. true≢false (sym read ∙ ap is_read (sym same) ∙ un));
+  }
+    where
+      stays : (q : ℕ) → AreHit f (order_in a.orders q) (order_in b.orders q)
+      stays q =
+          let p = (file_in a.files f).pool in
+          subst (λ (os : List Ranking). AreHit f (order_in a.orders q) (order_in os q)) (sym x.orders) (others_stay f a.orders p (hits_counted (order_in a.orders p) f (extents_in a.files f) hits) q (hits_leave (order_in a.orders p) f (extents_in a.files f) hits))
+
+  -- Refusals for want of room, by what they left.
+
+  -- what a read of a range leaves, whose extents hold what they held
+  abbrev RangeLeft : (old new : Holding) → Type 0
+  RangeLeft old new = EvictsNothing is_read old.cache new.cache × HeldAlike old.store new.store × (held new.cache.files ≡ held old.cache.files)
+
+  range_left : (f from to p : ℕ) (old new : Holding) → is_read f ≡ true → LeavesRange f from to old new (NoRoom p) → RangeLeft old new
+  range_left f from to p old new read (inl (is, x)) = absurd (let e : ◌≡◌ {A = Refusal} (NoRoom p) Memory = is in cc)
+  range_left f from to p old new read (inr x) =
+      let a = x.pinned in
+      let same = x.undone.kept p refl in
+      let last : new.cache ≡ x.hit.cache = x.undone.cache ∙ ap (λ (h : Holding). h.cache) same in
+      let released : Moves x.hit.store new.store (bufs_of x.pins) [] = subst (λ (h : Holding). Moves h.store new.store (bufs_of x.pins) []) same x.undone.released in
+      let frees : FreesOnly x.hit.store new.store = subst (λ (h : Holding). FreesOnly h.store new.store) same x.undone.frees in (
+        and_then old.cache a.reserved new.cache (only_reserved old.cache a.reserved a.rooms) (and_then a.reserved x.hit.cache new.cache (only_counted f a.hits a.reserved x.hit.cache read a.counted) (same_cache x.hit.cache new.cache last)),
+        record {
+          counts = λ b. omega (arith, a.shares.counts.each b, released.counts.each b, tally_none b);
+          frees = frees_trans (frees_shares a.shares) frees released.counts;
+        },
+        ap (λ (c : Cached). held c.files) last ∙ ap held a.counted.files ∙ a.rooms.held,
+      )
+
+  read_left : (x : FileRead) (disk after : Disk) (p : ℕ) (h k : KernelState) → is_read x.file ≡ true → LeavesAtRefusal x disk h after k (NoRoom p) → RangeLeft (record { store = h.store; cache = h.cache }) (record { store = k.store; cache = k.cache })
+  read_left x disk after p h k read (inl early) = absurd early.0
+  read_left x disk after p h k read (inr late) = range_left x.file late.1.range.from late.1.range.to p (record { store = h.store; cache = h.cache }) (record { store = k.store; cache = k.cache }) read late.1.leaves
+
+  -- a read by copying, which has freed pages since, or none
+  copy_left : (h k : KernelState) (mid : Stored) → RangeLeft (record { store = h.store; cache = h.cache }) (record { store = mid; cache = k.cache }) → FreesOnly mid k.store → SameTables h k → LeavesBoth h k
+  copy_left h k mid left frees same = (
+    left.0,
+    λ was now.
+        let counts = held_alike h k same left.2 was now in
+        let here : Counts mid k.store [] [] = record { each = λ b. omega (arith, counts b, left.1.counts b) } in
+        record { counts = counts; frees = frees_trans left.1.frees frees here },
+  )
+
+  room_left : (pool n p : ℕ) (h k : KernelState) → MayHaveEvicted pool n h k (NoRoom p) → LeavesBoth h k
+  room_left pool n p h k (inl same) = same_kernel h k same
+  room_left pool n p h k (inr late) = absurd (let e : ◌≡◌ {A = Refusal} (NoRoom p) Memory = late.0 in cc)
+
+  write_left : (f p : ℕ) (xs : List Slice) (h k : KernelState) → LeavesUnwritten f xs h k (NoRoom p) → LeavesBoth h k
+  write_left f p xs h k (inl same) = same_kernel h k same
+  write_left f p xs h k (inr late) = (only_reserved h.cache k.cache (late.2 p refl).same, λ was now. same_pages h.store k.store (late.2 p refl).store)
+
+  put_left : (pool p : ℕ) (bytes : List ℕ) (h k : KernelState) → LeavesUnlaid pool bytes h k (NoRoom p) → LeavesBoth h k
+  put_left pool p bytes h k (inl same) = same_kernel h k same
+  put_left pool p bytes h k (inr late) = absurd (let e : ◌≡◌ {A = Refusal} (NoRoom p) Memory = late.0 in cc)
 
 -- By what a descriptor is open on.
 
-module _ (old new : SystemState) (p : ℕ) where
-  abbrev Kept : Type 0
-  Kept = LeavesBoth old.kernel new.kernel
+on-itself : (f : ℕ) → (f == f) ≡ true
+on-itself f = grind (arith, nat_tests)
 
-  read_on : (by fd n : ℕ) (o : Option Descriptor) → ReadLeaves by fd n old o (reply.Refused (NoRoom p)) new → LacksRoomToRead old o n → Kept
+module _ (old new : SystemState) (p : ℕ) where
+  abbrev Kept : (ℕ → Bool) → Type 0
+  Kept is_read = LeavesBoth is_read old.kernel new.kernel
+
+  read_on : (by fd n : ℕ) (o : Option Descriptor) → ReadLeaves by fd n old o (reply.Refused (NoRoom p)) new → LacksRoomToRead old o n → Kept (λ f. is_on_file f o)
   read_on by fd n None late lacks = absurd lacks
   read_on by fd n (Some (on.ReadEnd q)) late lacks = absurd lacks
   read_on by fd n (Some (on.WriteEnd q)) late lacks = absurd lacks
   read_on by fd n (Some (on.Connection q)) late lacks = absurd lacks
-  read_on by fd n (Some (on.File f at mode)) late lacks = (let left = read_left (file_read by fd f at mode n) old.disk new.disk p old.kernel new.kernel late.1 in (left.0, λ was now. left.1))
+  read_on by fd n (Some (on.File f at mode)) late lacks = (let left = read_left (λ g. f == g) (file_read by fd f at mode n) old.disk new.disk p old.kernel new.kernel (on-itself f) late.1 in (left.0, λ was now. left.1))
 
-  copy_on : (by fd n : ℕ) (o : Option Descriptor) → CopyLeaves by fd n old o (reply.Refused (NoRoom p)) new → LacksRoomToRead old o n → Kept
+  copy_on : (by fd n : ℕ) (o : Option Descriptor) → CopyLeaves by fd n old o (reply.Refused (NoRoom p)) new → LacksRoomToRead old o n → Kept (λ f. is_on_file f o)
   copy_on by fd n None late lacks = absurd lacks
   copy_on by fd n (Some (on.ReadEnd q)) late lacks = absurd lacks
   copy_on by fd n (Some (on.WriteEnd q)) late lacks = absurd lacks
   copy_on by fd n (Some (on.Connection q)) late lacks = absurd lacks
-  copy_on by fd n (Some (on.File f at mode)) late lacks = copy_left old.kernel new.kernel late.mid (read_left (file_read by fd f at mode n) old.disk new.disk p old.kernel (record new.kernel { store = late.mid }) late.leaves) late.frees late.same
+  copy_on by fd n (Some (on.File f at mode)) late lacks = copy_left (λ g. f == g) old.kernel new.kernel late.mid (read_left (λ g. f == g) (file_read by fd f at mode n) old.disk new.disk p old.kernel (record new.kernel { store = late.mid }) (on-itself f) late.leaves) late.frees late.same
 
-  write_on : (xs : List Slice) (o : Option Descriptor) → WriteLeaves old.kernel o xs (reply.Refused (NoRoom p)) new.kernel → LacksRoomToWrite old.kernel o xs → Kept
+  write_on : (xs : List Slice) (o : Option Descriptor) → WriteLeaves old.kernel o xs (reply.Refused (NoRoom p)) new.kernel → LacksRoomToWrite old.kernel o xs → Kept (λ f. false)
   write_on xs None late lacks = absurd lacks
   write_on xs (Some (on.ReadEnd q)) late lacks = absurd lacks
   write_on xs (Some (on.WriteEnd q)) late lacks = absurd lacks
   write_on xs (Some (on.Connection q)) late lacks = absurd lacks
-  write_on xs (Some (on.File f at mode)) late lacks = write_left f p xs old.kernel new.kernel late.1
+  write_on xs (Some (on.File f at mode)) late lacks = write_left (λ g. false) f p xs old.kernel new.kernel late.1
 
-  put_on : (pool n : ℕ) (bytes : List ℕ) (o : Option Descriptor) → PutLeaves pool n bytes old.kernel o (reply.Refused (NoRoom p)) new.kernel → Kept
-  put_on pool n bytes None late = room_left pool n p old.kernel new.kernel late
-  put_on pool n bytes (Some (on.ReadEnd q)) late = room_left pool n p old.kernel new.kernel late
-  put_on pool n bytes (Some (on.WriteEnd q)) late = room_left pool n p old.kernel new.kernel late
-  put_on pool n bytes (Some (on.Connection q)) late = room_left pool n p old.kernel new.kernel late
-  put_on pool n bytes (Some (on.File f at mode)) late = put_left pool p bytes old.kernel new.kernel late
+  put_on : (pool n : ℕ) (bytes : List ℕ) (o : Option Descriptor) → PutLeaves pool n bytes old.kernel o (reply.Refused (NoRoom p)) new.kernel → Kept (λ f. false)
+  put_on pool n bytes None late = room_left (λ g. false) pool n p old.kernel new.kernel late
+  put_on pool n bytes (Some (on.ReadEnd q)) late = room_left (λ g. false) pool n p old.kernel new.kernel late
+  put_on pool n bytes (Some (on.WriteEnd q)) late = room_left (λ g. false) pool n p old.kernel new.kernel late
+  put_on pool n bytes (Some (on.Connection q)) late = room_left (λ g. false) pool n p old.kernel new.kernel late
+  put_on pool n bytes (Some (on.File f at mode)) late = put_left (λ g. false) pool p bytes old.kernel new.kernel late
 
-  call_left : (by : ℕ) (c : Call) → CallLeaves old by c (reply.Refused (NoRoom p)) new → CallLacksRoom old by c → (uses_cache (tables_of old.kernel) (event.Call by c) ≡ false → new ≡ old) → Kept
-  call_left by (call.AggMake bytes) late lacks unused = room_left _ _ p old.kernel new.kernel late
-  call_left by (call.PoolCreate chunks list) late lacks unused = same_kernel old.kernel new.kernel (ap (λ (s : SystemState). s.kernel) (unused refl))
+  call_left : (by : ℕ) (c : Call) → CallLeaves old by c (reply.Refused (NoRoom p)) new → CallLacksRoom old by c → (uses_cache (tables_of old.kernel) (event.Call by c) ≡ false → new ≡ old) → Kept (reads_file (tables_of old.kernel) (event.Call by c))
+  call_left by (call.AggMake bytes) late lacks unused = room_left (λ g. false) _ _ p old.kernel new.kernel late
+  call_left by (call.PoolCreate chunks list) late lacks unused = same_kernel (λ g. false) old.kernel new.kernel (ap (λ (s : SystemState). s.kernel) (unused refl))
   call_left by (call.IolRead fd n) late lacks unused = read_on by fd n _ late lacks
   call_left by (call.IolWrite fd a) late lacks unused = write_on _ _ late lacks
   call_left by (call.Read fd n) late lacks unused = copy_on by fd n _ late lacks
   call_left by (call.Write fd bytes) late lacks unused = put_on _ _ bytes _ late
   call_left by c late lacks unused = absurd lacks
 
-  event_left : (e : Event) → LeavesLate old e (reply.Refused (NoRoom p)) new → LacksRoomFor old e → (uses_cache (tables_of old.kernel) e ≡ false → new ≡ old) → Kept
+  event_left : (e : Event) → LeavesLate old e (reply.Refused (NoRoom p)) new → LacksRoomFor old e → (uses_cache (tables_of old.kernel) e ≡ false → new ≡ old) → Kept (reads_file (tables_of old.kernel) e)
   event_left (event.Call by c) late lacks unused = call_left by c late lacks unused
-  event_left (event.Arrive c bytes) late lacks unused = room_left _ _ p old.kernel new.kernel late
+  event_left (event.Arrive c bytes) late lacks unused = room_left (λ g. false) _ _ p old.kernel new.kernel late
   event_left e late lacks unused = absurd lacks
 
-pub no_room_left : (old new : SystemState) (e : Event) (p : ℕ) → Promises old e (reply.Refused (NoRoom p)) new → LeavesBoth old.kernel new.kernel
+pub no_room_left : (old new : SystemState) (e : Event) (p : ℕ) → Promises old e (reply.Refused (NoRoom p)) new → LeavesBoth (reads_file (tables_of old.kernel) e) old.kernel new.kernel
 no_room_left old new e p x = event_left old new p e x.late (x.no_room tt) (λ unused. x.refused unused tt)
 
 pub no_room_evicts : NoRoomEvictsNothing

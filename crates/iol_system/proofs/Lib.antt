@@ -4,6 +4,7 @@ pub mod Beside
 pub mod Orderly
 pub mod Used
 pub mod Unmoved
+pub mod GivenBack
 pub mod Freed
 pub mod Hits
 pub mod Lacking

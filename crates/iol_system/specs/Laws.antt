@@ -1,23 +1,30 @@
 -- Laws of runs: what follows from a chain of steps that keep their promises. Each is the contract of a function of `laws`.
-use Rattle.std.specs.Prelude.{◌≡◌, ◌⊎◌, ◌+◌, ◌<◌, ℕ, true, false, List, [], ◌∷◌, ◌++◌, Option, option_map}
+use Rattle.std.specs.Prelude.{◌≡◌, ◌⊎◌, ◌+◌, ◌<◌, ◌==◌, ℕ, Bool, true, false, List, [], ◌∷◌, ◌++◌, Option, Some, option_map}
+use Rattle.iol_core.specs.State.{State}
 use Rattle.iol_core.specs.Run.{Run}
 use Rattle.iol_core.specs.Sharing.{is_sharing}
+use Rattle.iol_core.specs.declared.descriptors.Descriptor.{Descriptor}
+use Rattle.iol_core.specs.declared.descriptors.Descriptor.TheVariants as on
 use Rattle.iol_core.specs.declared.numbers.BufId.{BufId}
+use Rattle.iol_core.specs.declared.events.Call.TheVariants as call
 use Rattle.iol_core.specs.declared.events.Event.{Event}
+use Rattle.iol_core.specs.declared.events.Event.TheVariants as event
 use Rattle.iol_core.specs.declared.events.Reply.{Reply}
 use Rattle.iol_core.specs.declared.events.Reply.TheVariants.{Refused}
 use Rattle.iol_core.specs.declared.refusals.Refusal.TheVariants.{NoRoom}
+use Rattle.iol_arena.specs.Buffers.{IsLive}
 use Rattle.iol_arena.specs.Chunks.{is_taken}
 use Rattle.iol_arena.specs.State.{chunk_count}
 use Rattle.iol_arena.specs.State as arena
 use Rattle.iol_pool.specs.Pools.{pool_in}
 use Rattle.iol_hold.specs.Moves.{Stays}
 use Rattle.iol_hold.specs.Releases.{HasAllOrNone}
-use Rattle.iol_hold.specs.Stored.{Stored, count_of}
+use Rattle.iol_hold.specs.Stored.{Stored, IsHome, count_of}
 use Rattle.iol_back.specs.Disk.{IfHonest}
 use Rattle.iol_evict.specs.Ranking.{entry_at, worth}
 use Rattle.iol_evict.specs.declared.entry.Entry.{Entry}
 use Rattle.iol_cache.specs.Cached.{Cached, extents_in, order_in}
+use Rattle.iol_kernel.specs.FileReading.{held_by}
 use Rattle.iol_kernel.specs.KernelState.{layout_of}
 use Rattle.iol_laws.specs.Order.{IsOrderly}
 use Rattle.iol_system.specs.Freed.{IsAllFree, IsLeft}
@@ -72,18 +79,30 @@ hit_above low e = record e { height = low + worth e.size e.cost }
 abbrev pub IsSameOrHit : (low : ℕ) → (old new : Option Entry) → Type 0
 IsSameOrHit low old new = (new ≡ old) ⊎ (new ≡ option_map (hit_above low) old)
 
--- What memory has of files lies where it lay, dirty or clean as it was. L of each pool is as it was, and each clean extent stands in
--- the pool's order as it stood, but that hits count.
-pub record EvictsNothing (old new : Cached) : Type 0 where
+abbrev pub is_on_file : (f : ℕ) → Option Descriptor → Bool
+is_on_file f (Some (on.File g at mode)) = g == f
+is_on_file f o = false
+
+-- whether the event reads the file, by reference or by copying
+abbrev pub reads_file : State → Event → (f : ℕ) → Bool
+reads_file s (event.Call by (call.IolRead fd n)) f = is_on_file f (held_by s by fd)
+reads_file s (event.Call by (call.Read fd n)) f = is_on_file f (held_by s by fd)
+reads_file s e f = false
+
+-- What memory has of files lies where it lay, dirty or clean as it was. L of each pool is as it was, and each clean extent
+-- stands in the pool's order as it stood, but that hits of files that are read count.
+pub record EvictsNothing (is_read : ℕ → Bool) (old new : Cached) : Type 0 where
   pub extents : (f : ℕ) → extents_in new.files f ≡ extents_in old.files f
   pub low : (p : ℕ) → (order_in new.orders p).low ≡ (order_in old.orders p).low
-  pub order : (p f at : ℕ) → IsSameOrHit (order_in old.orders p).low (entry_at (order_in old.orders p).entries f at)
-      (entry_at (order_in new.orders p).entries f at)
+  pub order : (p f at : ℕ) → IsSameOrHit (order_in old.orders p).low
+      (entry_at (order_in old.orders p).entries f at) (entry_at (order_in new.orders p).entries f at)
+  pub unread : (p f at : ℕ) → is_read f ≡ false
+      → entry_at (order_in new.orders p).entries f at ≡ entry_at (order_in old.orders p).entries f at
 
 -- an event that is refused for want of room evicts nothing
 abbrev pub NoRoomEvictsNothing : Type 0
 NoRoomEvictsNothing = (old new : SystemState) (e : Event) (p : ℕ) → Promises old e (Refused (NoRoom p)) new
-    → EvictsNothing old.kernel.cache new.kernel.cache
+    → EvictsNothing (reads_file (tables_of old.kernel) e) old.kernel.cache new.kernel.cache
 
 -- Each pool has the list and the chunks that it had, each page is as it was, free or in use and as often filled, and each buffer is held
 -- as often.
@@ -154,6 +173,15 @@ EachPageHasOneUse = (s : SystemState) → IsSafe s → (q : ℕ) → HasOneUse s
 abbrev pub EachChunkHasOnePool : Type 0
 EachChunkHasOnePool = (s : SystemState) → IsSafe s → (c : ℕ) → c < chunk_count s.kernel.store.arena
     → is_taken s.kernel.store.arena c ≡ true → HasOnePool s.kernel.store c
+
+-- The pool has given its chunks back, or a buffer lies in them that is still held.
+abbrev pub HasGivenBack : Stored → (p : ℕ) → Type 0
+HasGivenBack s p = ((pool_in s.pools p).chunks ≡ []) ⊎ ((b : BufId) × IsLive s.arena b × IsHome s p b × (0 < count_of s b))
+
+-- Between any two events a closed pool has given its chunks back, as soon as no buffer in them is held.
+abbrev pub ClosedPoolsGiveBack : Type 0
+ClosedPoolsGiveBack = (s : SystemState) → IsSafe s → (p : ℕ) → (pool_in s.kernel.store.pools p).closed ≡ true
+    → HasGivenBack s.kernel.store p
 
 -- Where no domain and no connection is live and no extent is left, every page that is not retired is free.
 abbrev pub AllPagesComeFree : Type 0

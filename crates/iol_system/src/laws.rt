@@ -1,8 +1,9 @@
 //! Laws of runs: what follows from a run's clause `chain`, whatever the events; and of what lies in a system between any
 //! two of them. The functions do nothing; their contracts are the laws.
 ghost use Rattle.iol_system.specs.Laws.{RunsAsTheMachine, RunsInParts, EachEventIsAStep};
-ghost use Rattle.iol_system.specs.Laws.{AllPagesComeFree, EachPageHasOneUse, EachChunkHasOnePool, EachStepKeepsChunks, NoRoomEvictsNothing, NoRoomKeepsPools};
-ghost use Rattle.iol_system.specs.Laws.{RunsStaySafe, RunsStayOrderly, RunsKeepBuffers, RunsKeepValues, RunsShare};
+ghost use Rattle.iol_system.specs.Laws.{AllPagesComeFree, ClosedPoolsGiveBack, EachPageHasOneUse, EachChunkHasOnePool};
+ghost use Rattle.iol_system.specs.Laws.{EachStepKeepsChunks, NoRoomEvictsNothing, NoRoomKeepsPools};
+ghost use Rattle.iol_system.specs.Laws.{RunsStaySafe, RunsStayOrderly, RunsKeepBuffers, RunsKeepHonesty, RunsKeepValues, RunsShare};
 
 /// The replies of a run, and the state after it, are those of the machine that copies at every call.
 pub fn runs_as_the_machine()
@@ -20,7 +21,7 @@ pub fn each_event_is_a_step()
 {}
 
 /// An event that is refused for want of room evicts nothing: each extent lies where it lay, dirty or clean as it was, and L of
-/// each pool stays, and its order of eviction, but that a read of a file has counted its hits by then.
+/// each pool stays, and its order of eviction, but that a read of a file has counted its hits by then: those of no other file.
 pub fn no_room_evicts_nothing()
     ensures { NoRoomEvictsNothing }
 {}
@@ -48,6 +49,11 @@ pub fn runs_stay_orderly()
     ensures { RunsStayOrderly }
 {}
 
+/// A store is after a run as honest as before it.
+pub fn runs_keep_honesty()
+    ensures { RunsKeepHonesty }
+{}
+
 /// What is live before and after a run has the same bytes and pool, and no identity is given twice.
 pub fn runs_keep_buffers()
     ensures { RunsKeepBuffers }
@@ -71,6 +77,11 @@ pub fn each_page_has_one_use()
 /// Between any two events each chunk that is taken is of just one pool.
 pub fn each_chunk_has_one_pool()
     ensures { EachChunkHasOnePool }
+{}
+
+/// Between any two events a closed pool has given its chunks back, as soon as no buffer that lies in them is held.
+pub fn closed_pools_give_back()
+    ensures { ClosedPoolsGiveBack }
 {}
 
 /// Where no domain and no connection is live and no extent of a file is left, every page that is not retired is free, whether
