@@ -9,7 +9,8 @@ use Rattle.iol_arena.specs.declared.pages.Part.{Part}
 unfoldable pub published_entries : List Entry → Part → ℕ → List Entry
 published_entries es p n =
     let k = pages_for n in
-    each_from (p.first + k) (p.count - k) (marked Free 0) (each_from p.first 1 (marked (Head n) 1) (each_from (p.first + 1) (k - 1) (marked (Tail p.first) 1) es))
+    each_from (p.first + k) (p.count - k) (marked Free 0)
+    (each_from p.first 1 (marked (Head n) 1) (each_from (p.first + 1) (k - 1) (marked (Tail p.first) 1) es))
 
 abbrev pub published_part : State → Part → ℕ → State
 published_part s p n = with_entries s (published_entries s.entries p n)

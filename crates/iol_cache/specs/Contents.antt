@@ -47,5 +47,6 @@ pub record Mirrors (s : Stored) (slots : List (List ℕ)) (fs : List CachedFile)
   pub each : (f : ℕ) → AreStored s (content slots f) (extents_in fs f)
 
 -- every file has the bytes that it had
-pub record SameFiles (s : Stored) (fs : List CachedFile) (t : Stored) (gs : List CachedFile) (slots : List (List ℕ)) : Type 0 where
+pub record SameFiles (s : Stored) (fs : List CachedFile) (t : Stored) (gs : List CachedFile)
+    (slots : List (List ℕ)) : Type 0 where
   pub each : (f : ℕ) → bytes_in_slot t slots gs f ≡ bytes_in_slot s slots fs f

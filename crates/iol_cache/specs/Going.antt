@@ -72,7 +72,8 @@ pub record FillsFile (f from to : ℕ) (beside : List Place) (gaps : List Span) 
   pub range : FillsRange old.store new.store (file_in old.cache.files f).extents extents (file_in old.cache.files f).pool
       beside gaps from to disk f xs
   pub apart : IsApart 0 extents.extents
-  pub files : new.cache.files ≡ with_file old.cache.files f (record { pool = (file_in old.cache.files f).pool; extents = extents })
+  pub files : new.cache.files ≡ with_file old.cache.files f
+      (record { pool = (file_in old.cache.files f).pool; extents = extents })
   pub orders : let p = (file_in old.cache.files f).pool in
       new.cache.orders ≡ with_order old.cache.orders p (all_entered (order_in old.cache.orders p) f extents.extents gaps)
   pub marks : Marks old.cache.marks new.cache.marks (parts_of_spans extents.extents gaps)

@@ -49,7 +49,8 @@ is_dirty (Some c) = c.dirty ≡ true
 -- The bytes of a range lie under dirty extents; those of the source that lay in the file's pool lie where they lay.
 pub record LiesDirty (f at : ℕ) (source : List Slice) (cache : Cached) : Type 0 where
   pub dirty : (i : ℕ) → at ≤ i → i < at + byte_len source → is_dirty (cover (extents_in cache.files f) i)
-  pub own : KeepsOwn (file_in cache.files f).pool (places source) (places_over (extents_in cache.files f) at (at + byte_len source))
+  pub own : KeepsOwn (file_in cache.files f).pool (places source)
+      (places_over (extents_in cache.files f) at (at + byte_len source))
 
 -- Room for extents and entries was reserved, and clean extents of the pool's files were evicted, if need be until n pages
 -- were free.
@@ -77,7 +78,8 @@ pub record Overwrites (f at : ℕ) (source : List Slice) (old new : Holding) : T
   pub right : Extent
   pub bytes : Extent
   pub ready : Stored
-  pub prepares : Prepares old.store ready (file_in old.cache.files f).pool (extents_in old.cache.files f) at source left right bytes
+  pub prepares : Prepares old.store ready (file_in old.cache.files f).pool
+      (extents_in old.cache.files f) at source left right bytes
   pub puts : PutsOver f at (at + byte_len source) left right bytes (record { store = ready; cache = old.cache }) new
 
 -- room was made, and then the range was overwritten

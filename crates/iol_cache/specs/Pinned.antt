@@ -15,7 +15,8 @@ is_begun s clean (Some p) = is_held_beside s clean (buf_at s.arena p)
 
 -- its generation is the last, or it lies in a buffer that is held by anything but a clean extent
 unfoldable pub is_pinned : Stored → (clean : List BufId) → ℕ → Bool
-is_pinned s clean q = not (nat_lt (generation_at s.arena q) s.arena.limit) || is_begun s clean (first_page (entry_at s.arena q).kind q)
+is_pinned s clean q = not (nat_lt (generation_at s.arena q) s.arena.limit)
+    || is_begun s clean (first_page (entry_at s.arena q).kind q)
 
 -- how many pages of a pool are pinned
 abbrev pub pinned_beside : Stored → (clean : List BufId) → (pool : ℕ) → ℕ

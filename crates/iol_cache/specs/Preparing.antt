@@ -11,7 +11,8 @@ use Rattle.iol_cache.specs.Cutting.{CutsLeft, CutsRight}
 
 -- The bytes that a source has lie in the file's pool, as a dirty extent that begins at a place; and the parts of extents
 -- on both sides of them are shared.
-pub record Prepares (s t : Stored) (pool : ℕ) (es : List Extent) (at : ℕ) (source : List Slice) (left right e : Extent) : Type 0 where
+pub record Prepares (s t : Stored) (pool : ℕ) (es : List Extent) (at : ℕ) (source : List Slice)
+    (left right e : Extent) : Type 0 where
   pub before : CutsLeft es at left
   pub after : CutsRight es (at + byte_len source) right
   pub ends : right.at ≡ at + byte_len source

@@ -15,7 +15,8 @@ pub record Reindexes (f : ℕ) (es fs : List Extent) (r t : Ranking) (marks new 
   pub others : (g b : ℕ) → (g ≡ f → ⊥) → entries_at g b t.entries ≡ entries_at g b r.entries
   pub low : t.low ≡ r.low
   pub kept : t.kept + dirty_count es ≡ r.kept + dirty_count fs
-  pub each : (p : ℕ) → slice_index new p + at_page p (bufs_of (clean_in es)) ≡ slice_index marks p + at_page p (bufs_of (clean_in fs))
+  pub each : (p : ℕ) → slice_index new p + at_page p (bufs_of (clean_in es)) ≡ slice_index marks p
+      + at_page p (bufs_of (clean_in fs))
   pub long : length new ≡ length marks
 
 -- the marks count these clean extents at least

@@ -74,7 +74,8 @@ pub record Cleans (s : Stored) (f : ℕ) (old new : Cached) (d e : Disk) : Type 
   pub apart : IsApart 0 extents.extents
   pub files : new.files ≡ with_file old.files f (record { pool = (file_in old.files f).pool; extents = extents })
   pub orders : new.orders ≡ with_order old.orders (file_in old.files f).pool order
-  pub ranks : order ≡ entered (with_one_given_back (order_in old.orders (file_in old.files f).pool)) f extent.at (byte_len extent.parts) 1
+  pub ranks : order ≡ entered (with_one_given_back (order_in old.orders (file_in old.files f).pool)) f extent.at
+      (byte_len extent.parts) 1
   pub follows : Reindexes f (extents_in old.files f) extents.extents
       (order_in old.orders (file_in old.files f).pool) order old.marks new.marks
   pub honest : e.honest ≡ d.honest

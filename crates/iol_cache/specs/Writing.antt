@@ -22,7 +22,8 @@ pub record PutsOver (f from to : ℕ) (left right e : Extent) (old new : Holding
   pub is : extents.extents ≡ put_some (put_some (put_some (unmet (extents_in old.cache.files f) from to) left) right) e
   pub adds : Adds (extents_in old.cache.files f) e extents.extents
   pub apart : IsApart 0 extents.extents
-  pub files : new.cache.files ≡ with_file old.cache.files f (record { pool = (file_in old.cache.files f).pool; extents = extents })
+  pub files : new.cache.files ≡ with_file old.cache.files f
+      (record { pool = (file_in old.cache.files f).pool; extents = extents })
   pub orders : new.cache.orders ≡ with_order old.cache.orders (file_in old.cache.files f).pool order
   pub ranks : order ≡ reordered (order_in old.cache.orders (file_in old.cache.files f).pool) f (extents_in old.cache.files f)
       from to left right e
@@ -39,9 +40,11 @@ pub record Changes (f : ℕ) (own : List Slice) (old new : Holding) : Type 0 whe
   pub extents : ExtentMap
   pub order : Ranking
   pub apart : IsApart 0 extents.extents
-  pub files : new.cache.files ≡ with_file old.cache.files f (record { pool = (file_in old.cache.files f).pool; extents = extents })
+  pub files : new.cache.files ≡ with_file old.cache.files f
+      (record { pool = (file_in old.cache.files f).pool; extents = extents })
   pub orders : new.cache.orders ≡ with_order old.cache.orders (file_in old.cache.files f).pool order
   pub follows : Reindexes f (extents_in old.cache.files f) extents.extents
       (order_in old.cache.orders (file_in old.cache.files f).pool) order old.cache.marks new.cache.marks
-  pub moves : Moves old.store new.store (bufs_of (all_parts (extents_in old.cache.files f) ++ own)) (bufs_of (all_parts extents.extents))
+  pub moves : Moves old.store new.store (bufs_of (all_parts (extents_in old.cache.files f) ++ own))
+      (bufs_of (all_parts extents.extents))
   pub frees : FreesOnly old.store new.store

@@ -6,4 +6,5 @@ use Rattle.iol_extent.specs.declared.spans.Span.{Span}
 
 -- however a range is tiled, it has the same gaps
 abbrev pub HasOneTiling : Type 0
-HasOneTiling = (es : List Extent) (from to : ℕ) (hits gaps more others : List Span) → Tile es from to hits gaps → Tile es from to more others → gaps ≡ others
+HasOneTiling = (es : List Extent) (from to : ℕ) (hits gaps more others : List Span) → Tile es from to hits gaps
+    → Tile es from to more others → gaps ≡ others

@@ -15,6 +15,8 @@ pub record KeepsPages (old new : Stored) (placed : List ℕ) : Type 0 where
   pub count : page_count new.arena ≡ page_count old.arena
   pub limit : new.arena.limit ≡ old.arena.limit
   pub raises : Raises old.arena new.arena placed
-  pub others : (q : ℕ) → (Contains placed q → ⊥) → ((entry_at new.arena q).kind ≡ (entry_at old.arena q).kind) ⊎ ((entry_at new.arena q).kind ≡ Free)
-  pub chunks : (p : ℕ) → (pool_in old.pools p).closed ≡ false → (pool_in new.pools p).closed ≡ false → (pool_in new.pools p).chunks ≡ (pool_in old.pools p).chunks
+  pub others : (q : ℕ) → (Contains placed q → ⊥) → ((entry_at new.arena q).kind ≡ (entry_at old.arena q).kind)
+      ⊎ ((entry_at new.arena q).kind ≡ Free)
+  pub chunks : (p : ℕ) → (pool_in old.pools p).closed ≡ false → (pool_in new.pools p).closed ≡ false
+      → (pool_in new.pools p).chunks ≡ (pool_in old.pools p).chunks
   pub returned : (p : ℕ) → (pool_in new.pools p).closed ≡ true → HasAllOrNone old new p

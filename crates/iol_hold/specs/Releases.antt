@@ -29,7 +29,8 @@ pub record FreesOnly (old new : Stored) : Type 0 where
   pub limit : new.arena.limit ≡ old.arena.limit
   pub raised : (q : ℕ) → generation_at new.arena q ≡ generation_at old.arena q
   pub each : (q : ℕ) → ((entry_at new.arena q).kind ≡ (entry_at old.arena q).kind) ⊎ ((entry_at new.arena q).kind ≡ Free)
-  pub freed : (q p : ℕ) → (entry_at new.arena q).kind ≡ Free → first_page (entry_at old.arena q).kind q ≡ Some p → count_of new (buf_at old.arena p) ≡ 0
+  pub freed : (q p : ℕ) → (entry_at new.arena q).kind ≡ Free → first_page (entry_at old.arena q).kind q ≡ Some p
+      → count_of new (buf_at old.arena p) ≡ 0
   pub pools : (p : ℕ) → (pool_in old.pools p).closed ≡ false → pool_in new.pools p ≡ pool_in old.pools p
   pub chunks : (p : ℕ) → HasAllOrNone old new p
   pub runs : HasRuns old.arena.entries → HasRuns new.arena.entries

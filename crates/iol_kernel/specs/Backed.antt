@@ -26,7 +26,8 @@ with_slots slots h = record (machine_of [] h) { slots = slots }
 
 -- The bytes of files aside, the call is the machine's step: there are bytes that files may have with which it is.
 -- So it is over any store, whatever that answers.
-pub record StepsBeside {A : Type 0} (m : State → Meaning A) (old : KernelState) (r : Result A Refusal) (new : KernelState) : Type 0 where
+pub record StepsBeside {A : Type 0} (m : State → Meaning A) (old : KernelState) (r : Result A Refusal)
+    (new : KernelState) : Type 0 where
   pub before : List (List ℕ)
   pub after : List (List ℕ)
   pub step : Step (m (with_slots before old)) (with_slots before old) r (with_slots after new)

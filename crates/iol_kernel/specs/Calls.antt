@@ -34,7 +34,8 @@ Steps m old r new = (stored : List (List ℕ)) → Step (m (machine_of stored ol
 
 -- a domain gets these bytes as its next aggregate, whatever is stored
 abbrev pub AddsBytes : (d pool : ℕ) → List ℕ → (old new : KernelState) → Type 0
-AddsBytes d pool bytes old new = (stored : List (List ℕ)) → machine_of stored new ≡ with_agg (machine_of stored old) d (labelled pool bytes)
+AddsBytes d pool bytes old new = (stored : List (List ℕ)) → machine_of stored new
+    ≡ with_agg (machine_of stored old) d (labelled pool bytes)
 
 -- these are the bytes that `show` answers, whatever is stored
 abbrev pub Shows : (d a : ℕ) → List ℕ → KernelState → Type 0
@@ -49,7 +50,8 @@ ShowsSoMany d a n h = (stored : List (List ℕ))
 -- The machine's step whatever is read: of bytes it is the step that the call means; of places it says that the bytes
 -- of its result lie where its meaning says, so that none was copied, and that nothing else moved.
 -- The pages, the pools and the remembered sums are as they were.
-pub record CarriesOut {A : Type 0} (m : State → Meaning A) (old : KernelState) (r : Result A Refusal) (new : KernelState) : Type 0 where
+pub record CarriesOut {A : Type 0} (m : State → Meaning A) (old : KernelState) (r : Result A Refusal)
+    (new : KernelState) : Type 0 where
   pub step : (f : Reading) → KeepsPools f → Step (m (read_of f old)) (read_of f old) r (read_of f new)
   pub arena : new.store.arena ≡ old.store.arena
   pub pools : new.store.pools ≡ old.store.pools
@@ -63,7 +65,8 @@ pub record CarriesOut {A : Type 0} (m : State → Meaning A) (old : KernelState)
 -- The machine's step, of bytes and of places: what the call leaves lies where it lay.
 -- Pages and chunks may be freed or taken, and lists may grow; no page is raised, an open pool keeps its chunks, and remembered
 -- sums stay.
-pub record KeepsPlaces {A : Type 0} (m : State → Meaning A) (old : KernelState) (r : Result A Refusal) (new : KernelState) : Type 0 where
+pub record KeepsPlaces {A : Type 0} (m : State → Meaning A) (old : KernelState) (r : Result A Refusal)
+    (new : KernelState) : Type 0 where
   pub step : Steps m old r new
   pub places : (f : Reading) → KeepsPools f → Step (m (read_of f old)) (read_of f old) r (read_of f new)
   pub pages : KeepsPages old.store new.store []
@@ -79,8 +82,9 @@ pub record AddsEmpty (old new : Cached) : Type 0 where
   pub files : new.files ≡ old.files ++ new_file pool ∷ []
   pub orders : (p : ℕ) → order_in new.orders p ≡ order_in old.orders p
 
--- The machine's step on files, where the store under them is honest, and the bytes of files aside over any store. Nothing changes but
--- the list of files and what memory has of them: pages, pools and remembered sums are as they were, and all bytes lie where they lay.
+-- The machine's step on files, where the store under them is honest, and the bytes of files aside over any store. Nothing
+-- changes but the list of files and what memory has of them: pages, pools and remembered sums are as they were, and all bytes
+-- lie where they lay.
 pub record Names {A : Type 0} (disk : Disk) (m : State → Meaning A) (old : KernelState) (r : Result A Refusal)
     (new : KernelState) : Type 0 where
   pub step : IfHonest disk (Step (m (machine_of disk.slots old)) (machine_of disk.slots old) r (machine_of disk.slots new))

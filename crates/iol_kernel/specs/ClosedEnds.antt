@@ -32,7 +32,8 @@ pub record ClosesEnd (s t : Stored) (old new : List (Option (Pipe (List Slice)))
   pub settles : AllReadable s (queue_at old p).queue → AllSettled s → AllSettled t
 
 -- what a domain's numbers were open on: each end is open, and in no other descriptor
-pub record AreTaken (domains : List (Domain (List Slice))) (objects : Objects (List Slice)) (ends : List (Option Descriptor)) : Type 0 where
+pub record AreTaken (domains : List (Domain (List Slice))) (objects : Objects (List Slice))
+    (ends : List (Option Descriptor)) : Type 0 where
   pub opened : Each (IsOpenEnd objects) ends
   pub once : (x : Descriptor) → all_ends_on x domains + ends_on x ends ≤ 1
 

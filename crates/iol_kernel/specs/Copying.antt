@@ -23,7 +23,8 @@ pub record ReadsOut (by fd n : ℕ) (old : KernelState) (r : Result (List ℕ) R
   pub refused : OnErr r (new ≡ old)
 
 -- by what the descriptor is open on
-abbrev pub CopiesOn : (by fd n : ℕ) → Option Descriptor → Disk → KernelState → Result (List ℕ) Refusal → Disk → KernelState → Type 0
+abbrev pub CopiesOn : (by fd n : ℕ) → Option Descriptor → Disk → KernelState → Result (List ℕ) Refusal → Disk
+    → KernelState → Type 0
 CopiesOn by fd n (Some (on.File f at mode)) disk old r after new = CopiesFileAs (file_read by fd f at mode n) disk old r after new
 CopiesOn by fd n _ disk old r after new = ReadsOut by fd n old r new × (after ≡ disk)
 

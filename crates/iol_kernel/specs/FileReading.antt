@@ -71,23 +71,25 @@ IsBeforeRoom (NoRoom p) = ⊥
 IsBeforeRoom (Fault f) = ⊥
 IsBeforeRoom y = Unit {0}
 
--- A refused read. One that was refused before it asked for room changed nothing. A late one left hits that count, and clean extents
--- that went to make room, the first ones before the others; for want of memory it may have come before any hit was shared.
+-- A refused read. One that was refused before it asked for room changed nothing. A late one left hits that count, and clean
+-- extents that went to make room, the first ones before the others; for want of memory it may have come before any hit was
+-- shared.
 abbrev pub LeavesAtRefusal : (x : FileRead) → Disk → (old : KernelState) → (after : Disk) → (new : KernelState) → Refusal → Type 0
 LeavesAtRefusal x disk old after new y =
     (IsBeforeRoom y × (new ≡ old) × (after ≡ disk))
     ⊎ (WantOfRoomOrFault (pool_read old x) x.file y × RefusesRead x.file x.at x.count disk (holding_of old) (holding_of new) y)
 
--- A read of a file by reference. Every byte of a file that was in memory lies where it lay, but that clean ones of the file's pool
--- may have given way where more pages were wanted than were free. The lowest free pages of the file's pool are filled, and no
--- others. It is refused for want of room only where the pages that are pinned and wanted do not fit the pool, and done only where
--- they do. A fault is answered just where the store failed once more. A refusal before that changed nothing.
+-- A read of a file by reference. Every byte of a file that was in memory lies where it lay, but that clean ones of the file's
+-- pool may have given way where more pages were wanted than were free. The lowest free pages of the file's pool are filled,
+-- and no others. It is refused for want of room only where the pages that are pinned and wanted do not fit the pool, and done
+-- only where they do. A fault is answered just where the store failed once more. A refusal before that changed nothing.
 pub record ReadsFileAs {A : Type 0} (x : FileRead) (disk : Disk) (old : KernelState) (r : Result A Refusal)
     (after : Disk) (new : KernelState) : Type 0 where
   pub keeps : KeepsUnless (pool_read old x) (LacksPagesToRead x.file x.at x.count disk (holding_of old)) old.cache new.cache
   pub pages : FillsLowest (pool_read old x) old.store new.store
   pub lists : SameLists old.store new.store
-  pub room : TellsRoom (RoomToRead x.file x.at x.count disk (holding_of old)) (NoRoomToRead x.file x.at x.count disk (holding_of old)) r
+  pub room : TellsRoom (RoomToRead x.file x.at x.count disk (holding_of old))
+      (NoRoomToRead x.file x.at x.count disk (holding_of old)) r
   pub fault : TellsFault disk after r
   pub same : new ≡ record old { store = new.store; cache = new.cache; domains = new.domains }
   pub refused : OnErr r (new.domains ≡ old.domains)
@@ -95,14 +97,16 @@ pub record ReadsFileAs {A : Type 0} (x : FileRead) (disk : Disk) (old : KernelSt
 
 -- What was read by reference over these pages was copied and released, and the position moved on. The bytes that were copied are
 -- those that lay there, whatever the store had given before. Over gaps there are new clean extents.
-pub record GivesCopy (x : FileRead) (disk : Disk) (old : KernelState) (mid : Stored) (new : KernelState) (bytes : List ℕ) : Type 0 where
+pub record GivesCopy (x : FileRead) (disk : Disk) (old : KernelState) (mid : Stored) (new : KernelState)
+    (bytes : List ℕ) : Type 0 where
   pub slices : List Slice
   pub copied : bytes ≡ bytes_of (text_of mid slices)
   pub read : ReadsFile x.file x.at x.count disk (holding_of old) (holding_over mid new) slices
   pub released : Moves mid new.store (bufs_of slices) []
   pub domains : new.domains ≡ moved_on old.domains x (byte_len slices)
 
--- A read of a file by copying: what a read by reference does, whose slices were then released. A refusal before that changed nothing.
+-- A read of a file by copying: what a read by reference does, whose slices were then released. A refusal before that changed
+-- nothing.
 pub record CopiesFileAs (x : FileRead) (disk : Disk) (old : KernelState) (r : Result (List ℕ) Refusal)
     (after : Disk) (new : KernelState) : Type 0 where
   pub mid : Stored
@@ -112,8 +116,8 @@ pub record CopiesFileAs (x : FileRead) (disk : Disk) (old : KernelState) (r : Re
   pub frees : FreesOnly mid new.store
   pub lists : SameLists mid new.store
 
--- A read by reference, by what the descriptor is open on: of a file it is as above, of anything else nothing is copied and the store
--- under the files is not asked.
+-- A read by reference, by what the descriptor is open on: of a file it is as above, of anything else nothing is copied and
+-- the store under the files is not asked.
 abbrev pub ReadsOn : (d fd n : ℕ) → Option Descriptor → Disk → KernelState → Result ℕ Refusal → Disk → KernelState → Type 0
 ReadsOn d fd n (Some (on.File f at mode)) disk old r after new =
     ReadsFileAs (file_read d fd f at mode n) disk old r after new × OnOk r (GivesRead (file_read d fd f at mode n) disk old new)

@@ -58,7 +58,8 @@ Steps m old r new = calls.Steps m (state_of old) r (state_of new)
 abbrev pub Names : {A : Type 0} → Disk → (State → Meaning A) → Kernel → Result A Refusal → Kernel → Type 0
 Names disk m old r new = calls.Names disk m (state_of old) r (state_of new)
 
-abbrev pub Serves : {A : Type 0} → (State → Meaning A) → (disk : Disk) → Kernel → Result A Refusal → (after : Disk) → Kernel → Type 0
+abbrev pub Serves : {A : Type 0} → (State → Meaning A) → (disk : Disk) → Kernel → Result A Refusal
+    → (after : Disk) → Kernel → Type 0
 Serves m disk old r after new = backed.Serves m disk (state_of old) r after (state_of new)
 
 abbrev pub LooksUp : {A : Type 0} → (State → Meaning A) → Disk → Kernel → Result A Refusal → Kernel → Type 0
@@ -100,5 +101,6 @@ IsFound k d a xs = calls.IsFound (state_of k) d a xs
 abbrev pub IsMissing : Kernel → (d a : ℕ) → Refusal → Type 0
 IsMissing k d a x = calls.IsMissing (state_of k) d a x
 
-abbrev pub Places : {A : Type 0} → (State → Meaning A) → (State → Text → State) → (pool n : ℕ) → Kernel → Result A Refusal → Kernel → Type 0
+abbrev pub Places : {A : Type 0} → (State → Meaning A) → (State → Text → State) → (pool n : ℕ) → Kernel
+    → Result A Refusal → Kernel → Type 0
 Places m put pool n old r new = making.Places m put pool n (state_of old) r (state_of new)

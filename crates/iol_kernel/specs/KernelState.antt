@@ -100,7 +100,8 @@ IsOpenEnd objects None = Unit {0}
 IsOpenEnd objects (Some (on.ReadEnd p)) = (queue_at objects.pipes p).reading ≡ true
 IsOpenEnd objects (Some (on.WriteEnd p)) = (queue_at objects.pipes p).writing ≡ true
 IsOpenEnd objects (Some (on.File f at mode)) = (is_numbered objects.files f ≡ true) × (at ≤ MAX_FILE_BYTES)
-IsOpenEnd objects (Some (on.Connection c)) = ((conn_in objects.conns c).accepted ≡ true) × ((conn_in objects.conns c).closed ≡ false)
+IsOpenEnd objects (Some (on.Connection c)) = ((conn_in objects.conns c).accepted ≡ true)
+    × ((conn_in objects.conns c).closed ≡ false)
 
 -- its queue is within the limit
 abbrev pub IsShort : Option (Pipe (List Slice)) → Type 0
@@ -149,10 +150,10 @@ AreFiled files cached = map (λ x. x.pool) cached ≡ map (λ x. x.pool) files
 unfoldable pub IsCached : Stored → Cached → Type 0
 IsCached s c = cache.IsSound s c
 
--- Between any two events: what aggregates, queues and extents of files name lies in live buffers of their pools, each buffer is counted
--- for each of its slices, no page is lost and no closed pool keeps chunks in which nothing lies, descriptors are
--- open on open ends of pipes and on accepted connections, each on one of its own, and on files, remembered sums are right, and
--- the cache of files is in order.
+-- Between any two events: what aggregates, queues and extents of files name lies in live buffers of their pools, each buffer
+-- is counted for each of its slices, no page is lost and no closed pool keeps chunks in which nothing lies, descriptors are
+-- open on open ends of pipes and on accepted connections, each on one of its own, and on files, remembered sums are right,
+-- and the cache of files is in order.
 pub record IsSound (h : KernelState) : Type 0 where
   pub domains : Each (IsDomainReadable h.store) h.domains
   pub objects : AreReadable h.store (objects_of h)

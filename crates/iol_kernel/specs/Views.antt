@@ -13,7 +13,13 @@ use Rattle.iol_kernel.specs.Readings.{Reading, read, slots_read}
 
 -- a domain with each aggregate as what it means
 abbrev pub domain_view : {A B : Type 0} → (A → B) → Domain A → Domain B
-domain_view g d = record { live = d.live; aggs = map (λ e. (e.0, g e.1)) d.aggs; next_agg = d.next_agg; fds = d.fds; default = d.default }
+domain_view g d = record {
+  live = d.live;
+  aggs = map (λ e. (e.0, g e.1)) d.aggs;
+  next_agg = d.next_agg;
+  fds = d.fds;
+  default = d.default;
+}
 
 -- a pipe; A is what its queue is
 pub record Pipe (A : Type 0) : Type 0 where

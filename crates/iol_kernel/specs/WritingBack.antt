@@ -11,8 +11,8 @@ use Rattle.iol_cache.specs.declared.syncing.Flushed.{Flushed}
 use Rattle.iol_kernel.specs.KernelState.{KernelState}
 
 -- The first dirty extents of the file in slot f were written back and are clean: all of them, or those before the one at which
--- the store failed. Each entered the order as a new one. A fault is answered just where one failure more was counted. Nothing else
--- changed; a refusal before the store was asked changed nothing at all.
+-- the store failed. Each entered the order as a new one. A fault is answered just where one failure more was counted. Nothing
+-- else changed; a refusal before the store was asked changed nothing at all.
 pub record SyncsFile {A : Type 0} (f : ℕ) (disk : Disk) (old : KernelState) (r : Result A Refusal) (after : Disk)
     (new : KernelState) : Type 0 where
   pub syncs : cache.Syncs old.store f old.cache new.cache disk after
@@ -29,7 +29,8 @@ done_of (Err x) = Err x
 
 -- The dirty extent of least file and offset was written back and is clean, unless none was dirty or the store failed. A fault
 -- is answered just where one failure more was counted. Nothing else changed.
-pub record FlushesOne (disk : Disk) (old : KernelState) (r : Result (Unit {0}) Refusal) (after : Disk) (new : KernelState) : Type 0 where
+pub record FlushesOne (disk : Disk) (old : KernelState) (r : Result (Unit {0}) Refusal) (after : Disk)
+    (new : KernelState) : Type 0 where
   pub flushed : Result Flushed Refusal
   pub told : r ≡ done_of flushed
   pub flushes : cache.Flushes old.store old.cache new.cache disk after flushed

@@ -38,7 +38,8 @@ pool_of_file h f = (file_in h.cache.files f).pool
 
 -- the pages of its pool that something else than clean extents holds, and those for the bytes that are copied there
 abbrev pub pages_to_write : KernelState → (f : ℕ) → List Slice → ℕ
-pages_to_write h f source = pinned_beside h.store (clean_held h.cache.files) (pool_of_file h f) + copied_pages (pool_of_file h f) source
+pages_to_write h f source = pinned_beside h.store (clean_held h.cache.files) (pool_of_file h f)
+    + copied_pages (pool_of_file h f) source
 
 -- A refused write. One that was refused before it made room changed nothing. A late one made room at most, the first extents
 -- before the others, and what it placed is gone; for want of room no extent went, and no page was filled.
@@ -57,10 +58,10 @@ pub record OnlyMoves (f at len : ℕ) (old new : List (Domain (List Slice))) : T
   pub is : new ≡ with_fds_in old domain (slice_set (fds_in old domain) fd (Some (on.File f (at + len) mode)))
 
 -- The bytes of the source lie dirty over those of the file from `at` on: those of the file's pool where they lay, copies of
--- the others on the lowest pages that were free once there was room. Every other byte that was in memory lies where it lay, but that
--- clean ones of the file's pool may have given way where the copies want more pages than were free. It was refused for want of
--- room just where the pages wanted are more than the pool has. No bytes change nothing of pages and files. Nothing else changed but
--- the caller's descriptor.
+-- the others on the lowest pages that were free once there was room. Every other byte that was in memory lies where it lay,
+-- but that clean ones of the file's pool may have given way where the copies want more pages than were free. It was refused
+-- for want of room just where the pages wanted are more than the pool has. No bytes change nothing of pages and files.
+-- Nothing else changed but the caller's descriptor.
 pub record WritesOver {A : Type 0} (f at : ℕ) (source : List Slice) (old : KernelState) (r : Result A Refusal)
     (new : KernelState) : Type 0 where
   pub lies : OnOk r (LiesDirty f at source new.cache)
@@ -82,14 +83,15 @@ abbrev pub WritesOn : (d fd a : ℕ) → Option Descriptor → (old : KernelStat
 WritesOn d fd a (Some (on.File f at mode)) old r new = WritesOver f at (slices_in old.domains d a) old r new
 WritesOn d fd a _ old r new = CarriesOut (λ s. iol_write s d fd a) old r new
 
--- So many bytes lie over those of a file from `at` on, on the lowest pages of its pool that were free once there was room for them,
--- and other bytes stay as above.
-pub record PutsInFile {A : Type 0} (f at pool count : ℕ) (old : KernelState) (r : Result A Refusal) (new : KernelState) : Type 0 where
+-- So many bytes lie over those of a file from `at` on, on the lowest pages of its pool that were free once there was room for
+-- them, and other bytes stay as above.
+pub record PutsInFile {A : Type 0} (f at pool count : ℕ) (old : KernelState) (r : Result A Refusal)
+    (new : KernelState) : Type 0 where
   pub fills : OnOk r (AfterRoom pool count old (λ roomy. KeepsPages roomy.store new.store (lowest_of roomy.store pool count)))
   pub beside : KeepsBeside f at count pool (LacksPages old pool (pages_for count)) old.cache new.cache
 
--- New bytes lie on the lowest free pages of a pool, each run of these a buffer, as slices that nobody else holds. These pages were
--- raised by one, and no other page, pool or list changed.
+-- New bytes lie on the lowest free pages of a pool, each run of these a buffer, as slices that nobody else holds. These pages
+-- were raised by one, and no other page, pool or list changed.
 pub record PlacesNew (pool : ℕ) (bytes : List ℕ) (old placed : Stored) (slices : List Slice) : Type 0 where
   pub text : text_of placed slices ≡ labelled pool bytes
   pub made : MadeOn old.arena placed.arena (bufs_of slices) (lowest_of old pool (length bytes))
@@ -142,7 +144,8 @@ pub record LaysInFile {A : Type 0} (f at pool : ℕ) (bytes : List ℕ) (old : K
   pub leaves : IfErr r (LeavesUnlaid pool bytes old new)
 
 -- A write of these bytes by copying, where the descriptor is open on a file.
-abbrev pub LaysOn : Option Descriptor → (pool : ℕ) (bytes : List ℕ) → (old : KernelState) → Result ℕ Refusal → (new : KernelState) → Type 0
+abbrev pub LaysOn : Option Descriptor → (pool : ℕ) (bytes : List ℕ) → (old : KernelState) → Result ℕ Refusal
+    → (new : KernelState) → Type 0
 LaysOn (Some (on.File f at mode)) pool bytes old r new = LaysInFile f at pool bytes old r new
 LaysOn _ pool bytes old r new = ⊤
 

@@ -37,7 +37,8 @@ Makes s d bytes r t = ⊥
 
 -- aggregates of these bytes and of those are made, under two new numbers
 abbrev pub MakesTwo : State → (d : ℕ) → (front back : List ℕ) → Reply → State → Type 0
-MakesTwo s d front back (reply.Aggs n m) t = (lent_at t d n ≡ Some front) × (lent_at t d m ≡ Some back) × (lent_at s d n ≡ None) × (lent_at s d m ≡ None)
+MakesTwo s d front back (reply.Aggs n m) t = (lent_at t d n ≡ Some front) × (lent_at t d m ≡ Some back)
+    × (lent_at s d n ≡ None) × (lent_at s d m ≡ None)
 MakesTwo s d front back (reply.Refused x) t = t ≡ s
 MakesTwo s d front back r t = ⊥
 
@@ -163,19 +164,23 @@ remains x = if is_over x then no_conn else x
 -- A connection that is closed loses what came in and is unread, and no other field of it changes. Where nothing is to be sent any
 -- more, it is forgotten.
 abbrev pub ClosesConn : State → (c : ℕ) → Reply → State → Type 0
-ClosesConn s c reply.Done t = ((conn_at t c).closed ≡ true) × ((conn_at t c).outgoing ≡ (conn_at s c).outgoing) × ((conn_at t c ≡ record (conn_at s c) { incoming = []; closed = true }) ⊎ (((conn_at s c).outgoing ≡ []) × (conn_at t c ≡ no_conn)))
+ClosesConn s c reply.Done t = ((conn_at t c).closed ≡ true) × ((conn_at t c).outgoing ≡ (conn_at s c).outgoing)
+    × ((conn_at t c ≡ record (conn_at s c) { incoming = []; closed = true })
+    ⊎ (((conn_at s c).outgoing ≡ []) × (conn_at t c ≡ no_conn)))
 ClosesConn s c (reply.Refused x) t = t ≡ s
 ClosesConn s c r t = ⊥
 
 -- a pipe whose write end is closed keeps what is to be read, as long as somebody may read it
 abbrev pub ClosesWriteEnd : State → (p : ℕ) → Reply → State → Type 0
-ClosesWriteEnd s p reply.Done t = ((pipe_at t p).writing ≡ false) × ((pipe_at s p).reading ≡ true → pipe_at t p ≡ record (pipe_at s p) { writing = false })
+ClosesWriteEnd s p reply.Done t = ((pipe_at t p).writing ≡ false)
+    × ((pipe_at s p).reading ≡ true → pipe_at t p ≡ record (pipe_at s p) { writing = false })
 ClosesWriteEnd s p (reply.Refused x) t = t ≡ s
 ClosesWriteEnd s p r t = ⊥
 
 -- a pipe whose read end is closed loses what is to be read
 abbrev pub ClosesReadEnd : State → (p : ℕ) → Reply → State → Type 0
-ClosesReadEnd s p reply.Done t = ((pipe_at t p).reading ≡ false) × ((pipe_at t p).queue ≡ []) × ((pipe_at t p).writing ≡ (pipe_at s p).writing)
+ClosesReadEnd s p reply.Done t = ((pipe_at t p).reading ≡ false) × ((pipe_at t p).queue ≡ [])
+    × ((pipe_at t p).writing ≡ (pipe_at s p).writing)
 ClosesReadEnd s p (reply.Refused x) t = t ≡ s
 ClosesReadEnd s p r t = ⊥
 

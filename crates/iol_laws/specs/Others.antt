@@ -45,7 +45,8 @@ Arrives s c bytes r t = ⊥
 pub record GoesOut (s : State) (c : ℕ) (bytes : List ℕ) (t : State) : Type 0 where
   pub bytes_were : bytes_of (conn_at s c).outgoing ≡ bytes ++ bytes_of (conn_at t c).outgoing
   pub some : ((conn_at s c).outgoing ≡ []) → ⊥
-  pub conn : (conn_at t c ≡ record (conn_at s c) { outgoing = (conn_at t c).outgoing }) ⊎ (((conn_at s c).closed ≡ true) × ((conn_at t c).closed ≡ true))
+  pub conn : (conn_at t c ≡ record (conn_at s c) { outgoing = (conn_at t c).outgoing })
+      ⊎ (((conn_at s c).closed ≡ true) × ((conn_at t c).closed ≡ true))
   pub left : ((conn_at t c).peer ≡ (conn_at s c).peer) ⊎ (conn_at t c ≡ no_conn)
 
 abbrev pub Transmits : State → (c : ℕ) → Reply → State → Type 0
@@ -57,7 +58,8 @@ Transmits s c r t = ⊥
 abbrev pub PeerCloses : State → (c : ℕ) → How → Reply → State → Type 0
 PeerCloses s c how reply.Done t =
     (conn_at t c ≡ closed_by (conn_at s c) how)
-    ⊎ (((conn_at s c).accepted ≡ false) × ((conn_at t c).closed ≡ true) × ((conn_at t c).outgoing ≡ []) × ((conn_at s c).outgoing ≡ []) × (conn_at t c ≡ no_conn))
+    ⊎ (((conn_at s c).accepted ≡ false) × ((conn_at t c).closed ≡ true) × ((conn_at t c).outgoing ≡ [])
+    × ((conn_at s c).outgoing ≡ []) × (conn_at t c ≡ no_conn))
     ⊎ (((conn_at s c).closed ≡ true) × ((conn_at t c).closed ≡ true) × ((conn_at t c).outgoing ≡ []) × (conn_at t c ≡ no_conn))
 PeerCloses s c how (reply.Refused x) t = t ≡ s
 PeerCloses s c how r t = ⊥

@@ -79,7 +79,8 @@ pub record RunsAs {M : Type 0} (Runs : M → List Event → List Reply → M →
   pub drops : (c : ℕ) → list_any (λ e. drops_unsent e c) events ≡ list_any (λ x. drops_with x c) xs
 
 -- The machine's run up to here goes on with the choices: each connection's history is what it was, and then what they brought.
-pub record GoesOn (first : State) (past : List Event) (ps : List Reply) (xs : List Choice) (rs : List Reply) (new : State) : Type 0 where
+pub record GoesOn (first : State) (past : List Event) (ps : List Reply) (xs : List Choice) (rs : List Reply)
+    (new : State) : Type 0 where
   pub events : List Event
   pub replies : List Reply
   pub run : Run first (past ++ events) (ps ++ replies) new
@@ -94,14 +95,18 @@ pub record HistoriesOfChoices {P : Type 0} (turns : Account P) : Type 0 where
   pub system : (w after : Stage SystemState P) (xs : List Choice) (rs : List Reply) → WorldRun sharing turns w xs rs after
       → RunsAs Chain w.machine xs rs after.machine
   -- histories go on with what the choices brought and sent
-  pub goes_on : (first : State) (past : List Event) (ps : List Reply) (w after : Stage State P) (xs : List Choice) (rs : List Reply)
+  pub goes_on : (first : State) (past : List Event) (ps : List Reply) (w after : Stage State P)
+      (xs : List Choice) (rs : List Reply)
       → Run first past ps w.machine → WorldRun copying turns w xs rs after → GoesOn first past ps xs rs after.machine
   -- a run and then another are one run, whose history is that of the first and then that of the other
-  pub follows : (w mid after : Stage State P) (past future : List Choice) (rs qs : List Reply) → WorldRun copying turns w past rs mid
+  pub follows : (w mid after : Stage State P) (past future : List Choice) (rs qs : List Reply)
+      → WorldRun copying turns w past rs mid
       → WorldRun copying turns mid future qs after → WorldRun copying turns w (past ++ future) (rs ++ qs) after
-  pub stream : (w mid : Stage State P) (past future : List Choice) (rs qs : List Reply) (c : ℕ) → WorldRun copying turns w past rs mid
+  pub stream : (w mid : Stage State P) (past future : List Choice) (rs qs : List Reply) (c : ℕ)
+      → WorldRun copying turns w past rs mid
       → stream_over c (past ++ future) (rs ++ qs) ≡ stream_over c past rs ++ stream_over c future qs
-  pub sent : (w mid : Stage State P) (past future : List Choice) (rs qs : List Reply) (c : ℕ) → WorldRun copying turns w past rs mid
+  pub sent : (w mid : Stage State P) (past future : List Choice) (rs qs : List Reply) (c : ℕ)
+      → WorldRun copying turns w past rs mid
       → sent_over c (past ++ future) (rs ++ qs) ≡ sent_over c past rs ++ sent_over c future qs
   -- one choice more adds what it brought and sent
   pub stream_more : (xs : List Choice) (rs : List Reply) (x : Choice) (r : Reply) (c : ℕ) → length xs ≡ length rs

@@ -9,8 +9,8 @@ use Rattle.iol_proc.specs.Turns.{Account}
 use Rattle.iol_proc.specs.World.{Stage}
 use Rattle.iol_serve.specs.Serving.{Serves}
 
--- Where its peer was never told to be gone, and it is not there any more, all was sent, in order: what waited to be sent, and what
--- was written since. Nothing is left of it.
+-- Where its peer was never told to be gone, and it is not there any more, all was sent, in order: what waited to be sent, and
+-- what was written since. Nothing is left of it.
 abbrev pub OverIsWhole : {P : Type 0} → Account P → Type 0
 OverIsWhole {P} turns = (c : ℕ) (left rest held now : Option (List ℕ)) (w after : Stage State P) → IsOrderly w.machine
     → (served : Serves turns c false left rest held now w after) → lacks_conn after.machine c ≡ true

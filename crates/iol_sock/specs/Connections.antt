@@ -22,7 +22,14 @@ pub record Conn (A : Type 0) : Type 0 where
 
 -- as the copying machine has it, with the text that g gives for each queue
 abbrev pub conn_view : {A : Type 0} → (A → Text) → Conn A → machine.Connection
-conn_view g c = record { pool = c.pool; incoming = g c.incoming; outgoing = g c.outgoing; accepted = c.accepted; closed = c.closed; peer = c.peer }
+conn_view g c = record {
+  pool = c.pool;
+  incoming = g c.incoming;
+  outgoing = g c.outgoing;
+  accepted = c.accepted;
+  closed = c.closed;
+  peer = c.peer;
+}
 
 -- the buffers that it holds, one for each slice
 abbrev pub held_by : Conn (List Slice) → List BufId

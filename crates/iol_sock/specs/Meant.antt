@@ -30,19 +30,24 @@ abbrev pub IsOverAsMeant : Type 0
 IsOverAsMeant = (f : Reading) (x : Conn (List Slice)) → machine.is_over (conn_view (read f) x) ≡ is_over x
 
 abbrev pub ClosesAsMeant : Type 0
-ClosesAsMeant = (f : Reading) (x : Conn (List Slice)) (how : How) → outside.closed_by (conn_view (read f) x) how ≡ conn_view (read f) (closed_by x how)
+ClosesAsMeant = (f : Reading) (x : Conn (List Slice)) (how : How) → outside.closed_by (conn_view (read f) x) how
+    ≡ conn_view (read f) (closed_by x how)
 
 abbrev pub ArrivesAsMeant : Type 0
-ArrivesAsMeant = (f : Reading) (s : State) (c : ℕ) (x : Conn (List Slice)) (bytes : List ℕ) → IsConn f s c x → first (outside.arrive s c bytes).refusals ≡ first (arrive_refusals x (length bytes))
+ArrivesAsMeant = (f : Reading) (s : State) (c : ℕ) (x : Conn (List Slice)) (bytes : List ℕ) → IsConn f s c x
+    → first (outside.arrive s c bytes).refusals ≡ first (arrive_refusals x (length bytes))
 
 abbrev pub TakesAsMeant : Type 0
-TakesAsMeant = (f : Reading) (s : State) (c : ℕ) (x : Conn (List Slice)) (bytes : List ℕ) → IsConn f s c x → (outside.arrive s c bytes).answer ≡ fitting x.incoming (length bytes)
+TakesAsMeant = (f : Reading) (s : State) (c : ℕ) (x : Conn (List Slice)) (bytes : List ℕ) → IsConn f s c x
+    → (outside.arrive s c bytes).answer ≡ fitting x.incoming (length bytes)
 
 abbrev pub WantsAsMeant : Type 0
-WantsAsMeant = (f : Reading) (s : State) (c : ℕ) (x : Conn (List Slice)) (bytes : List ℕ) (r : Refusal) → IsConn f s c x → arrive_late x bytes r → outside.arrive_late s c bytes r
+WantsAsMeant = (f : Reading) (s : State) (c : ℕ) (x : Conn (List Slice)) (bytes : List ℕ) (r : Refusal)
+    → IsConn f s c x → arrive_late x bytes r → outside.arrive_late s c bytes r
 
 abbrev pub SendsAsMeant : Type 0
-SendsAsMeant = (f : Reading) (s : State) (c max : ℕ) (x : Conn (List Slice)) → IsConn f s c x → first (outside.transmit s c max).refusals ≡ first (segment_refusals x max)
+SendsAsMeant = (f : Reading) (s : State) (c max : ℕ) (x : Conn (List Slice)) → IsConn f s c x
+    → first (outside.transmit s c max).refusals ≡ first (segment_refusals x max)
 
 -- a descriptor that is open on it
 abbrev pub open_on : (c : ℕ) → Option Descriptor
@@ -50,7 +55,9 @@ open_on c = Some (on.Connection c)
 
 abbrev pub QueuesAsMeant : Type 0
 QueuesAsMeant = (f : Reading) (s : State) (c n : ℕ) (x : Conn (List Slice)) → IsConn f s c x →
-    first ((BrokenPipe when writing.is_broken s (open_on c)) ∷ (WouldBlock when writing.takes_none s (open_on c) n) ∷ []) ≡ first (queue_refusals x n)
+    first ((BrokenPipe when writing.is_broken s (open_on c)) ∷
+    (WouldBlock when writing.takes_none s (open_on c) n) ∷ []) ≡ first (queue_refusals x n)
 
 abbrev pub FitsAsMeant : Type 0
-FitsAsMeant = (f : Reading) (s : State) (c n : ℕ) (x : Conn (List Slice)) → IsConn f s c x → writing.fitting s (open_on c) n ≡ fitting x.outgoing n
+FitsAsMeant = (f : Reading) (s : State) (c n : ℕ) (x : Conn (List Slice)) → IsConn f s c x
+    → writing.fitting s (open_on c) n ≡ fitting x.outgoing n

@@ -47,7 +47,8 @@ WantsMore h pool n p = (p ≡ pool) × LacksPages h p (pages_for n)
 
 -- so does a read of a file, for what is not in memory
 abbrev pub ReadWantsMore : SystemState → Option Descriptor → (n p : ℕ) → Type 0
-ReadWantsMore s (Some (on.File f at mode)) n p = (p ≡ pool_of_file s.kernel f) × LacksPagesToRead f at n s.disk (holding_of s.kernel)
+ReadWantsMore s (Some (on.File f at mode)) n p = (p ≡ pool_of_file s.kernel f)
+    × LacksPagesToRead f at n s.disk (holding_of s.kernel)
 ReadWantsMore s o n p = ⊥
 
 -- so does a write of slices to a file, for copies of those that lie in other pools
@@ -101,9 +102,9 @@ abbrev pub SharesRead : (by fd n : ℕ) → SystemState → Option Descriptor �
 SharesRead by fd n old (Some (on.File f at mode)) new = ReadsShared by fd n f at mode old new
 SharesRead by fd n old o new = ⊤
 
--- A read of a file by copying does what one by reference does, over some pages; then its slices are released. So what it hit counts,
--- what was not in memory lies in new clean extents, and the bytes that it answers are those that lie there. Of the tables the
--- descriptor's position moved.
+-- A read of a file by copying does what one by reference does, over some pages; then its slices are released. So what it hit
+-- counts, what was not in memory lies in new clean extents, and the bytes that it answers are those that lie there. Of the
+-- tables the descriptor's position moved.
 pub record CopiesShared (by fd n f at : ℕ) (mode : Mode) (old : SystemState) (bytes : List ℕ) (new : KernelState) : Type 0 where
   pub mid : Stored
   pub gives : GivesCopy (file_read by fd f at mode n) old.disk old.kernel mid new bytes
@@ -129,10 +130,11 @@ abbrev pub SharesWrite : Option Descriptor → List Slice → (old new : KernelS
 SharesWrite (Some (on.File f at mode)) xs old new = WritesShared f at xs old new
 SharesWrite o xs old new = ⊤
 
--- A write over a file by copying: room was made for its bytes, and then they came over those of the file, dirty and as any write of
--- their slices does, which were then released.
+-- A write over a file by copying: room was made for its bytes, and then they came over those of the file, dirty and as any
+-- write of their slices does, which were then released.
 abbrev pub SharesPut : (pool : ℕ) → List ℕ → Option Descriptor → (old new : KernelState) → Type 0
-SharesPut pool bytes (Some (on.File f at mode)) old new = AfterRoom pool (length bytes) old (λ roomy. LaysOver f at pool bytes roomy new)
+SharesPut pool bytes (Some (on.File f at mode)) old new =
+    AfterRoom pool (length bytes) old (λ roomy. LaysOver f at pool bytes roomy new)
 SharesPut pool bytes o old new = ⊤
 
 abbrev pub SharesFile : SystemState → Event → Reply → KernelState → Type 0

@@ -76,9 +76,9 @@ CallLeaves old by (call.Write fd bytes) r new =
     (write (tables_of old.kernel) by fd bytes).answer bytes old.kernel (descriptor (tables_of old.kernel) by fd) r new.kernel
 CallLeaves old by c r new = ⊤
 
--- A refused event that places bytes, or reads or writes a file, changed nothing; or it came late, and has just made room or counted
--- hits. For want of room it has at most counted hits. Those that write back are told of by `StoresBack`, and others change nothing
--- where they are refused.
+-- A refused event that places bytes, or reads or writes a file, changed nothing; or it came late, and has just made room or
+-- counted hits. For want of room it has at most counted hits. Those that write back are told of by `StoresBack`, and others
+-- change nothing where they are refused.
 abbrev pub LeavesLate : (old : SystemState) → Event → Reply → (new : SystemState) → Type 0
 LeavesLate old (event.Call by c) r new = CallLeaves old by c r new
 LeavesLate old (event.Arrive c bytes) r new =

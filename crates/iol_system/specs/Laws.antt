@@ -104,8 +104,8 @@ abbrev pub NoRoomEvictsNothing : Type 0
 NoRoomEvictsNothing = (old new : SystemState) (e : Event) (p : ℕ) → Promises old e (Refused (NoRoom p)) new
     → EvictsNothing (reads_file (tables_of old.kernel) e) old.kernel.cache new.kernel.cache
 
--- Each pool has the list and the chunks that it had, each page is as it was, free or in use and as often filled, and each buffer is held
--- as often.
+-- Each pool has the list and the chunks that it had, each page is as it was, free or in use and as often filled, and each
+-- buffer is held as often.
 pub record KeepsPools (old new : Stored) : Type 0 where
   pub pools : (p : ℕ) → pool_in new.pools p ≡ pool_in old.pools p
   pub pages : (q : ℕ) → arena.entry_at new.arena q ≡ arena.entry_at old.arena q
@@ -124,7 +124,8 @@ pub record KeepsChunks (old new : Stored) : Type 0 where
 
 -- so does each event, whatever it is answered
 abbrev pub EachStepKeepsChunks : Type 0
-EachStepKeepsChunks = (old new : SystemState) (e : Event) (r : Reply) → Promises old e r new → KeepsChunks old.kernel.store new.kernel.store
+EachStepKeepsChunks = (old new : SystemState) (e : Event) (r : Reply) → Promises old e r new
+    → KeepsChunks old.kernel.store new.kernel.store
 
 -- a run from a safe system ends in one; by the law on parts the system is safe at each moment
 abbrev pub RunsStaySafe : Type 0
@@ -137,7 +138,8 @@ RunsStayOrderly = (old new : SystemState) (es : List Event) (rs : List Reply) �
 
 -- a store is after a run as honest as before
 abbrev pub RunsKeepHonesty : Type 0
-RunsKeepHonesty = (old new : SystemState) (es : List Event) (rs : List Reply) → Chain old es rs new → new.disk.honest ≡ old.disk.honest
+RunsKeepHonesty = (old new : SystemState) (es : List Event) (rs : List Reply) → Chain old es rs new
+    → new.disk.honest ≡ old.disk.honest
 
 -- what is live before and after a run has the same bytes and pool, and no identity is given twice
 abbrev pub RunsKeepBuffers : Type 0
@@ -149,7 +151,8 @@ abbrev pub RunsKeepValues : Type 0
 RunsKeepValues = (old new : SystemState) (es : List Event) (rs : List Reply) → Chain old es rs new
     → ValuesStayOver (machine_of old) es (machine_of new)
 
--- after a run of calls that share, each byte lies where the calls' own meaning puts its place, and each page and pool is as it was
+-- after a run of calls that share, each byte lies where the calls' own meaning puts its place, and each page and pool is as
+-- it was
 pub record SharesOver (old : SystemState) (es : List Event) (rs : List Reply) (new : SystemState) : Type 0 where
   pub places : Run (layout_of old.kernel) es rs (layout_of new.kernel)
   pub arena : new.kernel.store.arena ≡ old.kernel.store.arena

@@ -26,14 +26,14 @@ use Rattle.iol_kernel.specs.FileReading.{held_by}
 use Rattle.iol_kernel.specs.KernelState.{KernelState}
 use Rattle.iol_system.specs.Machine.{tables_of}
 
--- Room was made for n bytes in a pool, and then they came in, put where `put` says. Their buffers lie on the lowest pages that were
--- free then, each of which was raised by one, and no others were. Nothing else changed: so no more gave way of what memory has
--- of files.
+-- Room was made for n bytes in a pool, and then they came in, put where `put` says. Their buffers lie on the lowest pages
+-- that were free then, each of which was raised by one, and no others were. Nothing else changed: so no more gave way of what
+-- memory has of files.
 abbrev pub Makes : (put : State → Text → State) → (pool n : ℕ) → (old new : KernelState) → Type 0
 Makes put pool n old new = AfterRoom pool n old (λ roomy. MakesBytes put pool n roomy new)
 
--- Room was made for n bytes in a pool, and of the pages that were free then the lowest were filled: each was raised by one, and no
--- others were. So of a `write` to a file, which puts them over the file's then (`SharesPut`).
+-- Room was made for n bytes in a pool, and of the pages that were free then the lowest were filled: each was raised by one,
+-- and no others were. So of a `write` to a file, which puts them over the file's then (`SharesPut`).
 abbrev pub Fills : (pool n : ℕ) → (old new : KernelState) → Type 0
 Fills pool n old new = AfterRoom pool n old (λ roomy. KeepsPages roomy.store new.store (lowest_of roomy.store pool n))
 
@@ -49,7 +49,8 @@ FillsForFile old o new = KeepsPages old.store new.store []
 
 -- `agg_make` makes buffers in the caller's default pool, and `write` in that of a file, or to anything else in the caller's
 abbrev pub CallPublishes : KernelState → (by : ℕ) → Call → KernelState → Type 0
-CallPublishes old by (call.AggMake bytes) new = Makes (λ s t. with_agg s by t) (default_pool (tables_of old) by) (length bytes) old new
+CallPublishes old by (call.AggMake bytes) new =
+    Makes (λ s t. with_agg s by t) (default_pool (tables_of old) by) (length bytes) old new
 CallPublishes old by (call.IolRead fd n) new = FillsForFile old (held_by (tables_of old) by fd) new
 CallPublishes old by (call.IolWrite fd a) new = FillsForFile old (descriptor (tables_of old) by fd) new
 CallPublishes old by (call.Read fd n) new = FillsForFile old (held_by (tables_of old) by fd) new
@@ -70,7 +71,8 @@ pub record SamePages (old new : Stored) : Type 0 where
   pub arena : new.arena ≡ old.arena
   pub pools : new.pools ≡ old.pools
 
--- A file came of which nothing is in memory. Nothing else changed: no page and no other table, and no extent or height of other files.
+-- A file came of which nothing is in memory. Nothing else changed: no page and no other table, and no extent or height of
+-- other files.
 pub record CreatesFile (old new : KernelState) : Type 0 where
   pub same : new ≡ record old { files = new.files; cache = new.cache }
   pub added : AddsEmpty old.cache new.cache

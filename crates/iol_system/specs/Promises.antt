@@ -24,22 +24,23 @@ use Rattle.iol_system.specs.Safe.{IsSafe}
 use Rattle.iol_system.specs.Still.{is_still, keeps_store, only_looks, takes_out}
 use Rattle.iol_system.specs.WrittenBack.{IsDropped, IsFlushed, IsKept, IsSynced, StoresBack}
 
--- From old to new, by this event with this reply. Over an honest store it is the copying machine's step; over any store it is that
--- but for the bytes of files, and a store stays as honest as it was. A store is asked by calls on files alone, and a fault is
--- answered just where it failed once more, and only where there is room. What an honest store has changes where something is
--- written back alone. NoRoom is answered exactly where there is no room. A refusal changes nothing at all; but where the event
--- wants pages or works on what memory has of files, one for want of room or of memory or by a fault may leave clean parts of files
--- gone, those that go first before the others, hits counted, pages raised that were filled and are free again, and by `fsync` and
--- `flush` what was written back before. Other events leave what memory has of files, but that a new file has nothing there; `show`
--- and `length` change nothing at all. What a sharing call hands on lies where it lay, and no page and no pool changes; what a
--- call leaves that is not about bytes lies where it lay, and so does what is left where bytes are sent, copied out of a queue, or
--- a position moves; that changes no page, nor does writing back; bytes of files in memory lie where they lay, but those that are written
--- and clean ones that give way, and calls on files share them, and what is read or written by copying is in memory then, too;
--- calls that make buffers do so on the lowest free pages, each of which is raised by one, and no others do, and no more gives way
--- for new bytes than was wanted; an open pool keeps its chunks, a closed one all of them or none, and a new one has the lowest
--- free; admitting a domain changes the pool's list alone; sending remembers the sums of what is sent; after `fsync` an honest
--- store has the file, and nothing of it is dirty, `flush` leaves one dirty extent fewer, and `drop_clean` no clean one; new is
--- safe again; live buffers keep their bytes, and aggregates their values.
+-- From old to new, by this event with this reply. Over an honest store it is the copying machine's step; over any store it is
+-- that but for the bytes of files, and a store stays as honest as it was. A store is asked by calls on files alone, and a
+-- fault is answered just where it failed once more, and only where there is room. What an honest store has changes where
+-- something is written back alone. NoRoom is answered exactly where there is no room. A refusal changes nothing at all; but
+-- where the event wants pages or works on what memory has of files, one for want of room or of memory or by a fault may leave
+-- clean parts of files gone, those that go first before the others, hits counted, pages raised that were filled and are free
+-- again, and by `fsync` and `flush` what was written back before. Other events leave what memory has of files, but that a new
+-- file has nothing there; `show` and `length` change nothing at all. What a sharing call hands on lies where it lay, and no
+-- page and no pool changes; what a call leaves that is not about bytes lies where it lay, and so does what is left where
+-- bytes are sent, copied out of a queue, or a position moves; that changes no page, nor does writing back; bytes of files in
+-- memory lie where they lay, but those that are written and clean ones that give way, and calls on files share them, and what
+-- is read or written by copying is in memory then, too; calls that make buffers do so on the lowest free pages, each of which
+-- is raised by one, and no others do, and no more gives way for new bytes than was wanted; an open pool keeps its chunks, a
+-- closed one all of them or none, and a new one has the lowest free; admitting a domain changes the pool's list alone;
+-- sending remembers the sums of what is sent; after `fsync` an honest store has the file, and nothing of it is dirty, `flush`
+-- leaves one dirty extent fewer, and `drop_clean` no clean one; new is safe again; live buffers keep their bytes, and
+-- aggregates their values.
 pub record Promises (old : SystemState) (e : Event) (r : Reply) (new : SystemState) : Type 0 where
   pub step : IfHonest old.disk (StepsTo (machine_of old) e r (machine_of new))
   pub beside : StepsBeside (λ s. meaning s e) old.kernel (outcome r) new.kernel
@@ -59,7 +60,8 @@ pub record Promises (old : SystemState) (e : Event) (r : Reply) (new : SystemSta
   pub pages : is_sharing (tables_of old.kernel) e ≡ true → SamePages old.kernel.store new.kernel.store
   pub still : is_still e ≡ true → LaysOut (layout_of old.kernel) e r (layout_of new.kernel)
   pub in_place : KeepsInPlace old e new.kernel
-  pub places : takes_out (tables_of old.kernel) e ≡ true → IsDone r → layout_of new.kernel ≡ (meaning (layout_of old.kernel) e).after
+  pub places : takes_out (tables_of old.kernel) e ≡ true → IsDone r → layout_of new.kernel
+      ≡ (meaning (layout_of old.kernel) e).after
   pub store : keeps_store e ≡ true → new.kernel.store ≡ old.kernel.store
   pub shares_file : IsDone r → SharesFile old e r new.kernel
   pub publishes : IsDone r → Publishes old.kernel e new.kernel

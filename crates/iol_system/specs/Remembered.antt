@@ -10,5 +10,6 @@ use Rattle.iol_kernel.specs.KernelState.{KernelState}
 
 -- Sending uses the sum of each slice that is sent, in order; nothing else touches the remembered sums.
 abbrev pub Remembers : KernelState → Event → Reply → KernelState → Type 0
-Remembers old (event.Transmit c max) (reply.Segment bytes sum) new = UsesSent old.store (conn_in old.conns c).outgoing max old.sums new.sums
+Remembers old (event.Transmit c max) (reply.Segment bytes sum) new =
+    UsesSent old.store (conn_in old.conns c).outgoing max old.sums new.sums
 Remembers old e r new = new.sums ≡ old.sums

@@ -33,7 +33,8 @@ abbrev pub LacksRoomToRead : SystemState → Option Descriptor → (n : ℕ) →
 LacksRoomToRead s (Some (on.File f at mode)) n = NoRoomToRead f at n s.disk (holding_of s.kernel)
 LacksRoomToRead s o n = ⊥
 
--- An `iol_write` to a file has room for copies of the bytes that lie in other pools than the file's. To anything else it wants none.
+-- An `iol_write` to a file has room for copies of the bytes that lie in other pools than the file's. To anything else it
+-- wants none.
 abbrev pub HasRoomToWrite : KernelState → Option Descriptor → List Slice → Type 0
 HasRoomToWrite h (Some (on.File f at mode)) xs = pages_to_write h f xs ≤ length (pages_of h.store (pool_of_file h f))
 HasRoomToWrite h o xs = ⊤
@@ -48,7 +49,8 @@ abbrev pub CallHasRoom : SystemState → (by : ℕ) → Call → Type 0
 CallHasRoom s by (call.AggMake bytes) = can_fit s.kernel (default_pool (tables_of s.kernel) by) (length bytes) ≡ true
 CallHasRoom s by (call.PoolCreate chunks list) = chunks ≤ length (free_chunks s.kernel.store.arena)
 CallHasRoom s by (call.IolRead fd n) = HasRoomToRead s (held_by (tables_of s.kernel) by fd) n
-CallHasRoom s by (call.IolWrite fd a) = HasRoomToWrite s.kernel (descriptor (tables_of s.kernel) by fd) (slices_in s.kernel.domains by a)
+CallHasRoom s by (call.IolWrite fd a) = HasRoomToWrite s.kernel (descriptor (tables_of s.kernel) by fd)
+    (slices_in s.kernel.domains by a)
 CallHasRoom s by (call.Read fd n) = HasRoomToRead s (held_by (tables_of s.kernel) by fd) n
 CallHasRoom s by (call.Write fd bytes) =
     can_fit s.kernel (pool_for (tables_of s.kernel) by (descriptor (tables_of s.kernel) by fd))

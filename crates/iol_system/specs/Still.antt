@@ -7,8 +7,8 @@ use Rattle.iol_core.specs.declared.events.Event.{Event}
 use Rattle.iol_core.specs.declared.events.Event.TheVariants as event
 use Rattle.iol_kernel.specs.FileReading.{held_by}
 
--- Whether the event is about domains, pools, descriptors or what is given up, and not about bytes: whatever it leaves lies where it
--- lay. What a file has may lie in the store alone, so calls that ask how long one is are not among these.
+-- Whether the event is about domains, pools, descriptors or what is given up, and not about bytes: whatever it leaves lies
+-- where it lay. What a file has may lie in the store alone, so calls that ask how long one is are not among these.
 abbrev pub is_still : Event → Bool
 is_still (event.Call by call.DomainNew) = true
 is_still (event.Call by call.Exit) = true
@@ -32,8 +32,8 @@ only_looks (event.Call by (call.Show a)) = true
 only_looks (event.Call by (call.Length fd)) = true
 only_looks e = false
 
--- Whether the event takes bytes out, to a peer or by a copy off a queue, or moves a position. Of the places of bytes it means what
--- it means of the bytes: all that it leaves lies where it lay.
+-- Whether the event takes bytes out, to a peer or by a copy off a queue, or moves a position. Of the places of bytes it means
+-- what it means of the bytes: all that it leaves lies where it lay.
 abbrev pub takes_out : State → Event → Bool
 takes_out s (event.Call by (call.Seek fd at)) = true
 takes_out s (event.Call by (call.Read fd n)) = not (is_file (held_by s by fd))

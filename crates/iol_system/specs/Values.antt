@@ -8,4 +8,5 @@ use Rattle.iol_core.specs.declared.events.Event.{Event}
 
 -- an aggregate that no event gives up has after them the text that it had before
 pub record ValuesStayOver (old : State) (es : List Event) (new : State) : Type 0 where
-  pub each : (d a : ℕ) (t : Text) → aggregate old d a ≡ Some t → list_any (λ e. gives_up e d a) es ≡ false → aggregate new d a ≡ Some t
+  pub each : (d a : ℕ) (t : Text) → aggregate old d a ≡ Some t → list_any (λ e. gives_up e d a) es ≡ false
+      → aggregate new d a ≡ Some t
