@@ -1,5 +1,5 @@
 -- Bytes of a file, shared from the extents over them.
-use Rattle.std.specs.Prelude.{ℕ, ◌-◌, ◌<◌, ◌≤◌, List, map, flat_map, Option, Some, None, IsSome}
+use Rattle.std.specs.Prelude.{ℕ, ◌-◌, ◌<◌, ◌≤◌, List, map, Option, Some, None, IsSome}
 use Rattle.std.specs.List.{range_with_len}
 use Rattle.iol_core.specs.declared.numbers.BufId.{BufId}
 use Rattle.iol_extent.specs.Extents.{Cell, Extent, cover, no_place}
@@ -22,10 +22,6 @@ place_over es i = place_in (cover es i)
 -- where the bytes of a range lie
 abbrev pub places_over : List Extent → (from to : ℕ) → List Place
 places_over es from to = map (place_over es) (range_with_len from (to - from))
-
--- where the bytes of these ranges lie, one after another
-abbrev pub places_of_spans : List Extent → List Span → List Place
-places_of_spans es spans = flat_map (λ s. places_over es s.from s.to) spans
 
 -- each of these ranges lies under extents
 abbrev pub IsCoveredSpan : List Extent → Span → Type 0

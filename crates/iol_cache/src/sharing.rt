@@ -1,9 +1,8 @@
 //! Bytes of a file, shared from the extents over them.
 ghost use Rattle.std.specs.Prelude.{◌≡◌, ◌+◌, ◌-◌, ◌<◌, ◌≤◌, ◌^◌, ◌++◌, [], All, IsSome, IfOk, OnErr};
 ghost use Rattle.iol_cache.specs.Cached.{all_parts};
-ghost use Rattle.iol_cache.specs.Sharing.{CountsBelow, IsCovered, IsCoveredSpan, places_of_spans, places_over};
+ghost use Rattle.iol_cache.specs.Sharing.{CountsBelow, IsCovered, places_over};
 ghost use Rattle.iol_extent.specs.Extents.{IsApart, extent_over};
-ghost use Rattle.iol_extent.specs.Spans.{AreInOrder};
 ghost use Rattle.iol_core.specs.declared.numbers.BufId.{BufId};
 ghost use Rattle.iol_hold.specs.Moves.{Covers, Moves, SameLists, Shares, tally};
 ghost use Rattle.iol_hold.specs.Places.{byte_len, places};
@@ -13,9 +12,8 @@ ghost use Rattle.iol_hold.specs.Texts.{AllReadable, bufs_of};
 
 use iol_agg::Agg;
 use iol_extent::extents::Extents;
-use iol_extent::spans::Span;
 use iol_hold::Store;
-use std::alloc::{AllocError, Global};
+use std::alloc::AllocError;
 
 // Adds what the extent over byte `at` has before `to`, and tells where that ends. Refused, all is released.
 fn share_next(
@@ -91,60 +89,6 @@ pub(crate) fn share_over(
         };
         shared = more;
         at = end;
-    }
-    Ok(shared)
-}
-
-/// Shares the bytes of a range of a file that lies under extents.
-pub(crate) fn share_range(
-    alloc: Global,
-    extents: &Extents,
-    store: &mut Store,
-    from: u32,
-    to: u32,
-) -> Result<Agg, AllocError>
-    requires ordered { from ≤ to }
-    requires apart { IsApart 0 extents.now.extents }
-    requires covered { IsCovered extents.now.extents from to }
-    requires held { Covers store.old (bufs_of (all_parts extents.now.extents)) }
-    requires few { CountsBelow store.old (2 ^ 62) }
-    ensures places { IfOk result (λ a. places a ≡ places_over extents.now.extents from to) }
-    ensures shares { IfOk result (λ a. Shares store.old store.new [] (bufs_of a)) }
-    ensures none { OnErr result (Moves store.old store.new [] []) }
-    ensures frees { FreesOnly store.old store.new }
-    ensures lists { SameLists store.old store.new }
-    ensures settles { AllReadable store.old (all_parts extents.now.extents) →
-        AllSettled store.old → AllSettled store.new }
-{
-    share_over(extents, store, Agg::new(alloc), from, to)
-}
-
-/// Shares the bytes of ranges of a file that lie under extents, one after another.
-pub(crate) fn share_spans(
-    alloc: Global,
-    extents: &Extents,
-    store: &mut Store,
-    spans: &[Span],
-) -> Result<Agg, AllocError>
-    requires order { AreInOrder 0 u32.MAX spans.now }
-    requires apart { IsApart 0 extents.now.extents }
-    requires covered { All (IsCoveredSpan extents.now.extents) spans.now }
-    requires held { Covers store.old (bufs_of (all_parts extents.now.extents)) }
-    requires few { CountsBelow store.old (2 ^ 62) }
-    ensures places { IfOk result (λ a. places a ≡ places_of_spans extents.now.extents spans.now) }
-    ensures shares { IfOk result (λ a. Shares store.old store.new [] (bufs_of a)) }
-    ensures none { OnErr result (Moves store.old store.new [] []) }
-    ensures frees { FreesOnly store.old store.new }
-    ensures lists { SameLists store.old store.new }
-    ensures settles { AllReadable store.old (all_parts extents.now.extents) →
-        AllSettled store.old → AllSettled store.new }
-{
-    let mut shared = Agg::new(alloc);
-    for span in spans {
-        shared = match share_over(extents, store, shared, span.from, span.to) {
-            Ok(more) => more,
-            Err(refused) => return Err(refused),
-        };
     }
     Ok(shared)
 }
