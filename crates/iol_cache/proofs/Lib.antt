@@ -1,4 +1,4 @@
 pub mod Evictions
 pub mod Extents
-pub mod Reads
-pub mod Writes
+pub mod RangeReads
+pub mod RangeWrites

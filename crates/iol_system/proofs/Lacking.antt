@@ -23,7 +23,7 @@ use Rattle.iol_hold.specs.Texts.{bufs_of}
 use Rattle.iol_hold.specs.declared.slices.Slice.{Slice}
 use Rattle.iol_hold.proofs.Counting.{tally_none}
 use Rattle.iol_hold.proofs.Releasing.{frees_none, frees_trans}
-use Rattle.iol_cache.proofs.Reads.Paging.{frees_shares}
+use Rattle.iol_cache.proofs.RangeReads.Paging.{frees_shares}
 use Rattle.iol_kernel.specs.Counted.{all_uses, conn_uses, domain_uses, pipe_uses}
 use Rattle.iol_system.specs.Promises.{Promises}
 use Rattle.iol_cache.specs.Cached.{Cached, extents_in, file_in, held, order_in}

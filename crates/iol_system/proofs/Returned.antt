@@ -23,7 +23,7 @@ use Rattle.iol_hold.proofs.Paging.{keeps_pages_frees, keeps_pages_same, same_clo
 use Rattle.iol_hold.proofs.Releasing.{all_or_none}
 use Rattle.iol_cache.specs.Evicting.{Holding}
 use Rattle.iol_cache.specs.Overwriting.{OnlyMakesRoom}
-use Rattle.iol_cache.proofs.Reads.Paging.{pages_kept, refused_pages, unwritten_pages}
+use Rattle.iol_cache.proofs.RangeReads.Paging.{pages_kept, refused_pages, unwritten_pages}
 use Rattle.iol_kernel.specs.Backed.{StepsBeside, holding_of}
 use Rattle.iol_kernel.specs.FileReading.{FileRead, LeavesAtRefusal, file_read}
 use Rattle.iol_kernel.specs.KernelState.{KernelState}

@@ -24,7 +24,7 @@ use Rattle.iol_cache.specs.Syncing.{AllClean, Cleans, Flushes}
 use Rattle.iol_cache.specs.declared.files.CachedFile.{CachedFile}
 use Rattle.iol_cache.specs.declared.syncing.Flushed.{Flushed}
 use Rattle.iol_cache.specs.declared.syncing.Flushed.TheVariants.{Nothing, Wrote}
-use Rattle.iol_cache.proofs.Writes.Cleaned.{bytes_alike, count-cleaned, first_dirty}
+use Rattle.iol_cache.proofs.RangeWrites.Cleaned.{bytes_alike, count-cleaned, first_dirty}
 use Rattle.iol_cache.proofs.Extents.Extending.{over_yes}
 use Rattle.iol_cache.proofs.Extents.Filing.{file_other, file_same, numbered_bounds, sum-with_file}
 use Rattle.iol_kernel.specs.Backed.{IsBackedBy}

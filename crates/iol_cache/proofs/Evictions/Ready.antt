@@ -17,7 +17,7 @@ use Rattle.iol_cache.specs.Gaps.{IsMade, all_put}
 use Rattle.iol_cache.specs.Reading.{SameButRoom, all_entered, hit_counted, hits_counted, parts_from}
 use Rattle.iol_cache.specs.Replacing.{Reindexes, IsReady}
 use Rattle.iol_cache.proofs.Extents.Filing.{order_other, order_same, sum-file_in, sum-with_file, sum-without_at}
-use Rattle.iol_cache.proofs.Reads.Putting.{sum-all_put}
+use Rattle.iol_cache.proofs.RangeReads.Putting.{sum-all_put}
 
 -- What hits, entries and evictions leave kept.
 

@@ -15,7 +15,7 @@ use Rattle.iol_cache.specs.declared.files.CachedFile.{CachedFile}
 use Rattle.iol_cache.specs.Cached.{Cached, all_parts, file_in, held, no_file}
 use Rattle.iol_cache.specs.Sound.{IsFiled, IsSound}
 use Rattle.iol_cache.proofs.Extents.Filing.{additive_tally, sum-flat}
-use Rattle.iol_cache.proofs.Reads.Ranged.{tally_len}
+use Rattle.iol_cache.proofs.RangeReads.Ranged.{tally_len}
 use Rattle.iol_cache.proofs.Evictions.Ready.{at_index}
 
 parts_len : (low : ℕ) (es : List Extent) → IsApart low es → byte_len (all_parts es) + low ≤ max low (last_end es)

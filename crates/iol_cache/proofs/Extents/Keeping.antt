@@ -24,9 +24,9 @@ use Rattle.iol_cache.specs.Serving.{LeavesRange, ReadsFile, ReadsRange, RefusesR
 use Rattle.iol_cache.specs.Sound.{IsSound}
 use Rattle.iol_cache.proofs.Extents.Extending.{apart-without_at, cover-begins, cover-without_at, over_not}
 use Rattle.iol_cache.proofs.Extents.Filing.{file_other, file_same, numbered_bounds, numbered_yes}
-use Rattle.iol_cache.proofs.Writes.Prepared.{prepared_ends}
-use Rattle.iol_cache.proofs.Reads.Putting.{cover-stays, made_fits}
-use Rattle.iol_cache.proofs.Reads.Served.{extents_filled, gaps_kept}
+use Rattle.iol_cache.proofs.RangeWrites.Prepared.{prepared_ends}
+use Rattle.iol_cache.proofs.RangeReads.Putting.{cover-stays, made_fits}
+use Rattle.iol_cache.proofs.RangeReads.Served.{extents_filled, gaps_kept}
 use Rattle.iol_cache.proofs.Extents.Using.{clean_numbered}
 
 -- One step after another.

@@ -17,7 +17,7 @@ use Rattle.iol_cache.specs.Syncing.{Flushes}
 use Rattle.iol_cache.specs.declared.syncing.Flushed.{Flushed}
 use Rattle.iol_cache.specs.declared.syncing.Flushed.TheVariants.{Nothing, Wrote}
 use Rattle.iol_cache.proofs.Extents.Filing.{numbered_bounds, numbered_yes}
-use Rattle.iol_cache.proofs.Writes.Synced.{syncs_none}
+use Rattle.iol_cache.proofs.RangeWrites.Synced.{syncs_none}
 use Rattle.iol_kernel.specs.KernelState.{KernelState, IsSound, machine_of}
 use Rattle.iol_kernel.specs.Readings.{bytes_over}
 use Rattle.iol_kernel.specs.WritingBack.{SyncsFile, done_of}

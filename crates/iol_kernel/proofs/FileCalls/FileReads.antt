@@ -37,7 +37,7 @@ use Rattle.iol_cache.specs.Going.{Goes}
 use Rattle.iol_cache.specs.Serving.{IsBacked, bytes_read}
 use Rattle.iol_cache.specs.Sound as cache
 use Rattle.iol_cache.specs.declared.files.CachedFile.{CachedFile}
-use Rattle.iol_cache.proofs.Writes.Composed.{own_places, own_text}
+use Rattle.iol_cache.proofs.RangeWrites.Composed.{own_places, own_text}
 use Rattle.iol_cache.proofs.Extents.Filing.{numbered_bounds, numbered_yes}
 use Rattle.iol_kernel.specs.Backed.{IsBackedBy, Serves, holding_of, with_slots}
 use Rattle.iol_kernel.specs.Ends.{ends_on, on_end, same_end}

@@ -27,8 +27,8 @@ use Rattle.iol_cache.specs.Serving.{FaultCounts, NoRoomToRead, ReadsFile, Refuse
 use Rattle.iol_cache.specs.Sharing.{CountsBelow, places_over}
 use Rattle.iol_cache.specs.Weaving.{places_read}
 use Rattle.iol_cache.proofs.Extents.Keeping.{apart_of}
-use Rattle.iol_cache.proofs.Reads.Paging.{fills_none}
-use Rattle.iol_cache.proofs.Reads.Shared.{length-places_over}
+use Rattle.iol_cache.proofs.RangeReads.Paging.{fills_none}
+use Rattle.iol_cache.proofs.RangeReads.Shared.{length-places_over}
 use Rattle.iol_kernel.specs.Backed.{holding_of}
 use Rattle.iol_kernel.specs.FileReading.{CopiesFileAs, FileRead, GivesCopy, GivesRead, IsBeforeRoom, ReadsFileAs, moved_on, pool_read}
 use Rattle.iol_kernel.specs.KernelState.{KernelState, objects_of, IsSound}

@@ -25,7 +25,7 @@ use Rattle.iol_cache.specs.Overwriting.{IsWritten, KeepsFiles, KeepsMirrors, Kee
 use Rattle.iol_cache.specs.Paging.{FillsLowest}
 use Rattle.iol_cache.specs.Sharing.{CountsBelow}
 use Rattle.iol_cache.specs.Sound as cache
-use Rattle.iol_cache.proofs.Reads.Paging.{pages_kept}
+use Rattle.iol_cache.proofs.RangeReads.Paging.{pages_kept}
 use Rattle.iol_cache.proofs.Extents.Staying.{mirrors_stay, slot_stays, sound_beside}
 use Rattle.iol_kernel.specs.Backed.{holding_of}
 use Rattle.iol_kernel.specs.KernelState.{KernelState, IsSound, objects_of}

@@ -32,7 +32,7 @@ use Rattle.iol_cache.specs.Cached.{Cached, file_in}
 use Rattle.iol_cache.specs.Composing.{copied_pages}
 use Rattle.iol_cache.specs.Evicting.{Holding}
 use Rattle.iol_cache.specs.Overwriting.{OnlyMakesRoom, WritesFile}
-use Rattle.iol_cache.proofs.Writes.Composed.{own_run}
+use Rattle.iol_cache.proofs.RangeWrites.Composed.{own_run}
 use Rattle.iol_cache.proofs.Extents.Keeping.{AreApart, apart_of}
 use Rattle.iol_kernel.specs.Keeping.{KeepsBeside, LacksPages}
 use Rattle.iol_kernel.specs.Backed.{holding_of}

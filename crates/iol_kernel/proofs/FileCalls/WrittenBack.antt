@@ -28,7 +28,7 @@ use Rattle.iol_cache.specs.declared.files.CachedFile.{CachedFile}
 use Rattle.iol_cache.specs.declared.syncing.Flushed.{Flushed}
 use Rattle.iol_cache.specs.declared.syncing.Flushed.TheVariants.{Nothing, Wrote}
 use Rattle.iol_core.specs.declared.refusals.Refusal.TheVariants as because
-use Rattle.iol_cache.proofs.Writes.Cleaned.{parts-cleaned}
+use Rattle.iol_cache.proofs.RangeWrites.Cleaned.{parts-cleaned}
 use Rattle.iol_cache.proofs.Extents.Filing.{file_nowhere, file_other, file_same, length-with_file, numbered_bounds, numbered_yes}
 use Rattle.iol_cache.proofs.Evictions.Ready.{at_index}
 use Rattle.iol_kernel.specs.Backed.{IsBackedBy, Serves, holding_of, with_slots}

@@ -35,7 +35,7 @@ use Rattle.iol_cache.specs.Sharing.{CountsBelow}
 use Rattle.iol_cache.specs.Sound as cache
 use Rattle.iol_cache.specs.declared.files.CachedFile.{CachedFile}
 use Rattle.iol_cache.proofs.Extents.Filing.{numbered_bounds, numbered_yes}
-use Rattle.iol_cache.proofs.Reads.Paging.{fills_none, pages_kept}
+use Rattle.iol_cache.proofs.RangeReads.Paging.{fills_none, pages_kept}
 use Rattle.iol_kernel.specs.Backed.{Serves, holding_of}
 use Rattle.iol_kernel.specs.Calls.{CarriesOut}
 use Rattle.iol_kernel.specs.KernelState.{KernelState, IsSound, machine_of, objects_of, read_of, slices_in}

@@ -14,8 +14,8 @@ use Rattle.iol_hold.proofs.Reading.{readable_stays}
 use Rattle.iol_hold.proofs.Releasing.{frees_trans}
 use Rattle.iol_hold.proofs.Slicing.{byte_len-append}
 use Rattle.iol_cache.specs.Composing.{ComposesRun}
-use Rattle.iol_cache.proofs.Writes.Composed.{covers_first, covers_second, covers_source, gone_both, run_all, run_none, run_then}
-use Rattle.iol_cache.proofs.Reads.Filled.{moved_back, placed_some, places_then}
+use Rattle.iol_cache.proofs.RangeWrites.Composed.{covers_first, covers_second, covers_source, gone_both, run_all, run_none, run_then}
+use Rattle.iol_cache.proofs.RangeReads.Filled.{moved_back, placed_some, places_then}
 use Rattle.iol_cache.proofs.composing.compose.Goals as goal
 
 pub loop-i-init : goal.loop-i-init

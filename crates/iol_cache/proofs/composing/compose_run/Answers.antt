@@ -6,7 +6,7 @@ use Rattle.iol_core.specs.declared.refusals.Refusal.TheVariants.{NoRoom}
 use Rattle.iol_hold.specs.Places.{byte_len, places}
 use Rattle.iol_hold.specs.declared.slices.Slice.{Slice}
 use Rattle.iol_cache.specs.Composing.{Composes, copied_pages}
-use Rattle.iol_cache.proofs.Writes.Composed.{all_rest, byte_len-drop-le, composes_shared, eq_no, eq_yes, is_run, other_run, own_run, readable_drop, readable_take, run_places, run_splits}
+use Rattle.iol_cache.proofs.RangeWrites.Composed.{all_rest, byte_len-drop-le, composes_shared, eq_no, eq_yes, is_run, other_run, own_run, readable_drop, readable_take, run_places, run_splits}
 use Rattle.iol_cache.proofs.composing.compose_run.Goals as goal
 
 kind_is : (p a b q : ℕ) → a ≡ p → b ≡ q → (p == q) ≡ (a == b)

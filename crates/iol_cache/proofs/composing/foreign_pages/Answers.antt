@@ -3,7 +3,7 @@ use Rattle.std.proofs.lemmas.List.{drop_all}
 use Rattle.iol_hold.specs.Places.{byte_len}
 use Rattle.iol_hold.proofs.Slicing.{byte_len-take_more, byte_len-take-le}
 use Rattle.iol_cache.specs.Composing.{pages_after}
-use Rattle.iol_cache.proofs.Writes.Composed.{eq_no, eq_yes, after_other, after_own, pages_for-few, pages_for-is, slice_next}
+use Rattle.iol_cache.proofs.RangeWrites.Composed.{eq_no, eq_yes, after_other, after_own, pages_for-few, pages_for-is, slice_next}
 use Rattle.iol_cache.proofs.composing.foreign_pages.Goals as goal
 use Rattle.iol_cache.proofs.composing.foreign_pages.Goals.{then-number, else-number}
 

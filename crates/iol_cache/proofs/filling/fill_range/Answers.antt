@@ -11,8 +11,8 @@ use Rattle.iol_extent.specs.Spans.{AreInOrder, IsGapSpan}
 use Rattle.iol_back.specs.Disk.{Disk}
 use Rattle.std.specs.List.{All}
 use Rattle.iol_cache.specs.Gaps.{FillsGaps, parts_back}
-use Rattle.iol_cache.proofs.Reads.Filled.{CanTakeBack, can_take_back, covers_back, moved_back, placed_some, same_map, order_wide}
-use Rattle.iol_cache.proofs.Reads.Ranged.{range_held, range_few, range_covered, range_readable, range_still}
+use Rattle.iol_cache.proofs.RangeReads.Filled.{CanTakeBack, can_take_back, covers_back, moved_back, placed_some, same_map, order_wide}
+use Rattle.iol_cache.proofs.RangeReads.Ranged.{range_held, range_few, range_covered, range_readable, range_still}
 use Rattle.iol_cache.specs.Cached.{all_parts}
 use Rattle.iol_cache.proofs.filling.fill_range.Goals as goal
 

@@ -14,7 +14,7 @@ use Rattle.iol_extent.specs.Spans.{AreInOrder, IsGapSpan}
 use Rattle.iol_extent.specs.declared.spans.Span.{Span}
 use Rattle.iol_cache.specs.Gaps.{AllBegin, FillsGaps, gap_pages, parts_back, without_spans}
 use Rattle.iol_cache.specs.Loading.{PlacesPages}
-use Rattle.iol_cache.proofs.Reads.Filled.{CanTakeBack, can_take_back, covers_back, fills_more, fills_none, gap_pages-push, gap_pages-take, gaps_left, moved_back, order_drop, order_take, placed_some, places_none, places_then, same_map, span_next}
+use Rattle.iol_cache.proofs.RangeReads.Filled.{CanTakeBack, can_take_back, covers_back, fills_more, fills_none, gap_pages-push, gap_pages-take, gaps_left, moved_back, order_drop, order_take, placed_some, places_none, places_then, same_map, span_next}
 use Rattle.iol_cache.specs.Cached.{all_parts}
 use Rattle.iol_cache.proofs.gaps.fill_gaps.Goals as goal
 

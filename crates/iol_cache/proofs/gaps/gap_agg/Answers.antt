@@ -10,7 +10,7 @@ use Rattle.iol_hold.proofs.Reading.{length-text_of}
 use Rattle.iol_agg.specs.Parts.{whole_texts}
 use Rattle.iol_agg.proofs.Wholes.{whole_texts-one}
 use Rattle.iol_arena.specs.Adds.{IsNew}
-use Rattle.iol_cache.proofs.Reads.Pooled.{length-labelled, pooled_text}
+use Rattle.iol_cache.proofs.RangeReads.Pooled.{length-labelled, pooled_text}
 use Rattle.iol_cache.proofs.gaps.gap_agg.Goals as goal
 
 texts : (t : Stored) (xs : List Slice) (hs : List Buffer) (p : ℕ) → text_of t xs ≡ whole_texts t hs → All (λ (h : Buffer). h.pool ≡ p) hs → text_of t xs ≡ text.labelled p (bytes_in t.arena (held_bufs hs))

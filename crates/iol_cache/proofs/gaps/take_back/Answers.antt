@@ -10,7 +10,7 @@ use Rattle.iol_hold.proofs.Releasing.{frees_trans}
 use Rattle.iol_extent.specs.Extents.{Extent, begins_at}
 use Rattle.iol_extent.specs.declared.spans.Span.{Span}
 use Rattle.iol_cache.specs.Gaps.{parts_back}
-use Rattle.iol_cache.proofs.Reads.Undone.{next_back, back_fewer, readable_back, readable_here}
+use Rattle.iol_cache.proofs.RangeReads.Undone.{next_back, back_fewer, readable_back, readable_here}
 use Rattle.iol_cache.specs.Cached.{parts_in}
 use Rattle.iol_cache.proofs.gaps.take_back.Goals as goal
 

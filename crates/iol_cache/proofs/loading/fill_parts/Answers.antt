@@ -10,7 +10,7 @@ use Rattle.iol_hold.specs.declared.parts.Reserved.{Reserved}
 use Rattle.iol_arena.proofs.Steps.{some_at}
 use Rattle.iol_arena.proofs.Marks.{pages_hold}
 use Rattle.iol_back.specs.Disk.{content}
-use Rattle.iol_cache.proofs.Reads.Loaded.{one_more, read_more, fills_trans, some_parts}
+use Rattle.iol_cache.proofs.RangeReads.Loaded.{one_more, read_more, fills_trans, some_parts}
 use Rattle.iol_cache.proofs.loading.fill_parts.Goals as goal
 
 parts_are : (r q : Reserved) → r ≡ q → r.reservation.parts.items ≡ q.reservation.parts.items

@@ -19,7 +19,7 @@ use Rattle.iol_hold.proofs.Emptied.{all_settled_placed}
 use Rattle.iol_arena.specs.Pages.{IsSameBut}
 use Rattle.iol_core.specs.declared.refusals.Refusal.TheVariants.{NoRoom}
 use Rattle.iol_cache.specs.Loading.{PlacesPages}
-use Rattle.iol_cache.proofs.Reads.Paged.{few_free, Places, placed_all, keeps_abandoned}
+use Rattle.iol_cache.proofs.RangeReads.Paged.{few_free, Places, placed_all, keeps_abandoned}
 use Rattle.iol_cache.proofs.loading.load.Goals as goal
 
 pub fill_parts-requires-clause-long : goal.fill_parts-requires-clause-long

@@ -11,13 +11,13 @@ use Rattle.iol_hold.proofs.Releasing.{frees_trans}
 use Rattle.iol_extent.specs.Extents.{Extent}
 use Rattle.iol_cache.specs.Cutting.{CutsRight}
 use Rattle.iol_cache.specs.Cached.{all_parts}
-use Rattle.iol_cache.proofs.Writes.Composed.{composed_long, covers_source}
-use Rattle.iol_cache.proofs.Reads.Filled.{placed_some}
-use Rattle.iol_cache.proofs.Writes.Prepared.{composed_few, cut_few, few_more, gone_after, held_after, left_readable, still_held}
-use Rattle.iol_cache.proofs.Writes.Replaced.{moves_on}
-use Rattle.iol_cache.proofs.Reads.Shared.{settles_shares}
-use Rattle.iol_cache.proofs.Reads.Woven.{still_covers}
-use Rattle.iol_cache.proofs.Writes.Written.{left_len}
+use Rattle.iol_cache.proofs.RangeWrites.Composed.{composed_long, covers_source}
+use Rattle.iol_cache.proofs.RangeReads.Filled.{placed_some}
+use Rattle.iol_cache.proofs.RangeWrites.Prepared.{composed_few, cut_few, few_more, gone_after, held_after, left_readable, still_held}
+use Rattle.iol_cache.proofs.RangeWrites.Replaced.{moves_on}
+use Rattle.iol_cache.proofs.RangeReads.Shared.{settles_shares}
+use Rattle.iol_cache.proofs.RangeReads.Woven.{still_covers}
+use Rattle.iol_cache.proofs.RangeWrites.Written.{left_len}
 use Rattle.iol_cache.proofs.preparing.prepare.Goals as goal
 
 pub cut_left-requires-clause-held : goal.cut_left-requires-clause-held

@@ -7,7 +7,7 @@ use Rattle.iol_hold.specs.Moves.{Counts}
 use Rattle.iol_hold.proofs.Releasing.{frees_trans}
 use Rattle.iol_hold.proofs.Reading.{readable_stays}
 use Rattle.iol_cache.specs.Cached.{all_parts}
-use Rattle.iol_cache.proofs.Writes.Replaced.{counts_part, covers_moved, fewer, reindexes_then, met_begins_at, met_less, moves_on, readable_less}
+use Rattle.iol_cache.proofs.RangeWrites.Replaced.{counts_part, covers_moved, fewer, reindexes_then, met_begins_at, met_less, moves_on, readable_less}
 use Rattle.iol_cache.specs.Replacing.{all_forgotten, forgotten}
 use Rattle.iol_cache.proofs.Evictions.Ready.{ready_after}
 use Rattle.iol_cache.proofs.Evictions.Reordered.{forgot_first, met_none, some_is}

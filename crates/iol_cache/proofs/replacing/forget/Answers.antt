@@ -5,7 +5,7 @@ use Rattle.iol_extent.specs.Extents.{begins_at, extent_of, without_at}
 use Rattle.iol_cache.specs.Cached.{parts_in}
 use Rattle.iol_cache.specs.Marks.{AreWithin, HaveMarks, Unmarks}
 use Rattle.iol_cache.specs.Replacing.{Reindexes, forgotten}
-use Rattle.iol_cache.proofs.Writes.Replaced.{begins_over, clean_goes, dirty_goes, entry_some, marks_of, nothing_begins}
+use Rattle.iol_cache.proofs.RangeWrites.Replaced.{begins_over, clean_goes, dirty_goes, entry_some, marks_of, nothing_begins}
 use Rattle.iol_cache.proofs.Evictions.Ready.{some_kept}
 use Rattle.iol_cache.proofs.Extents.Extending.{begins_above}
 use Rattle.iol_cache.proofs.Evictions.Reordered.{forgot_clean, forgot_dirty, is_some}

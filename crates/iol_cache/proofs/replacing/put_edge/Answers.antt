@@ -6,7 +6,7 @@ use Rattle.iol_extent.specs.Extents.{Extent, end_of, extent_of, put_in}
 use Rattle.iol_cache.specs.Marks.{Marks}
 use Rattle.iol_cache.specs.Replacing.{Reindexes, remembered}
 use Rattle.iol_cache.proofs.Evictions.Reordered.{remembered_clean, remembered_dirty, remembered_none}
-use Rattle.iol_cache.proofs.Writes.Replaced.{absent_gap, clean_comes, dirty_comes}
+use Rattle.iol_cache.proofs.RangeWrites.Replaced.{absent_gap, clean_comes, dirty_comes}
 use Rattle.iol_cache.proofs.replacing.put_edge.Goals as goal
 
 pub returns-then-dirty-clause-follows : goal.returns-then-dirty-clause-follows

@@ -8,9 +8,9 @@ use Rattle.iol_extent.specs.Extents.{Adds, Extent, IsGap, unmet}
 use Rattle.iol_cache.specs.Cached.{clean_in, all_parts}
 use Rattle.iol_cache.specs.Marks.{at_page}
 use Rattle.iol_cache.specs.Replacing.{put_some}
-use Rattle.iol_cache.proofs.Writes.CutOut.{left_gap, new_gap, replaced, right_gap}
+use Rattle.iol_cache.proofs.RangeWrites.CutOut.{left_gap, new_gap, replaced, right_gap}
 use Rattle.iol_cache.proofs.Extents.Filing.{additive_page}
-use Rattle.iol_cache.proofs.Writes.Replaced.{page-three, some-clean, some-parts, tally-four, unmet-clean}
+use Rattle.iol_cache.proofs.RangeWrites.Replaced.{page-three, some-clean, some-parts, tally-four, unmet-clean}
 use Rattle.iol_cache.proofs.Evictions.Reordered.{reordered_is}
 use Rattle.iol_cache.proofs.Extents.Using.{are_within}
 use Rattle.iol_cache.proofs.replacing.replace_range.Goals as goal

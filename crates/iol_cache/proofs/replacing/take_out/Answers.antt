@@ -7,7 +7,7 @@ use Rattle.iol_hold.specs.declared.slices.Slice.{Slice}
 use Rattle.iol_cache.specs.Cached.{parts_in, all_parts}
 use Rattle.iol_cache.specs.Marks.{AreWithin}
 use Rattle.iol_cache.proofs.Evictions.Evicted.{given_is}
-use Rattle.iol_cache.proofs.Writes.Replaced.{covers_part, moves_part, readable_part}
+use Rattle.iol_cache.proofs.RangeWrites.Replaced.{covers_part, moves_part, readable_part}
 use Rattle.iol_cache.proofs.Extents.Using.{are_within}
 use Rattle.iol_cache.proofs.replacing.take_out.Goals as goal
 

@@ -2,7 +2,7 @@ use Rattle.std.proofs.Common.{◌∙◌, ◌+◌, ◌-◌, ◌++◌, ap, sym, ar
 use Rattle.iol_agg.proofs.Holding.{tally-few}
 use Rattle.iol_extent.specs.Extents.{Extent, extent_of}
 use Rattle.iol_hold.specs.Places.{places}
-use Rattle.iol_cache.proofs.Reads.Shared.{over_at, over_tally, run_over}
+use Rattle.iol_cache.proofs.RangeReads.Shared.{over_at, over_tally, run_over}
 use Rattle.iol_cache.proofs.sharing.share_next.Goals as goal
 
 pub overflow_sub-skip : goal.overflow_sub-skip

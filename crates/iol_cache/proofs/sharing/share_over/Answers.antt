@@ -12,7 +12,7 @@ use Rattle.iol_hold.specs.declared.slices.Slice.{Slice}
 use Rattle.iol_hold.proofs.Counting.{tally-append}
 use Rattle.iol_cache.specs.Cached.{all_parts}
 use Rattle.iol_cache.specs.Sharing.{IsCovered, places_over}
-use Rattle.iol_cache.proofs.Reads.Shared.{covered_over, length-places_over, over_join, over_none, over_there, readable_places, readable_same, settles_shares}
+use Rattle.iol_cache.proofs.RangeReads.Shared.{covered_over, length-places_over, over_join, over_none, over_there, readable_places, readable_same, settles_shares}
 use Rattle.iol_cache.proofs.sharing.share_over.Goals as goal
 
 -- so many bytes so far

@@ -3,10 +3,10 @@ use Rattle.iol_hold.specs.Places.{byte_len}
 use Rattle.iol_evict.specs.Ranking.{Ranking, entered, with_one_given_back}
 use Rattle.iol_extent.specs.Extents.{begins_at, dirty_in}
 use Rattle.iol_cache.specs.Cached.{clean_at, entries_at, parts_in}
-use Rattle.iol_cache.proofs.Writes.Cleaned.{first_dirty}
+use Rattle.iol_cache.proofs.RangeWrites.Cleaned.{first_dirty}
 use Rattle.iol_cache.proofs.Evictions.Ready.{some_kept}
 use Rattle.iol_cache.proofs.Evictions.Reordered.{is_some}
-use Rattle.iol_cache.proofs.Writes.Settled.{begins_there, none_clean, settled}
+use Rattle.iol_cache.proofs.RangeWrites.Settled.{begins_there, none_clean, settled}
 use Rattle.iol_cache.proofs.syncing.settle.Goals as goal
 
 pub give_back-requires : goal.give_back-requires

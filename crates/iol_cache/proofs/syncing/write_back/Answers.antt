@@ -9,8 +9,8 @@ use Rattle.iol_hold.specs.declared.slices.Slice.{Slice}
 use Rattle.iol_hold.proofs.Reading.{length-text_of}
 use Rattle.iol_hold.proofs.Slicing.{byte_len-take-le, byte_len-take_more}
 use Rattle.iol_cache.specs.Syncing.{Stores}
-use Rattle.iol_cache.proofs.Writes.Composed.{bytes_more, readable_at}
-use Rattle.iol_cache.proofs.Writes.Storing.{stores_more, tears_more}
+use Rattle.iol_cache.proofs.RangeWrites.Composed.{bytes_more, readable_at}
+use Rattle.iol_cache.proofs.RangeWrites.Storing.{stores_more, tears_more}
 use Rattle.iol_cache.proofs.syncing.write_back.Goals as goal
 
 abbrev bytes_in : Stored → List Slice → List ℕ

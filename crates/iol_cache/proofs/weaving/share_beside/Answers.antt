@@ -7,7 +7,7 @@ use Rattle.iol_hold.specs.Places.{places}
 use Rattle.iol_cache.specs.Cached.{all_parts}
 use Rattle.iol_cache.specs.Sharing.{places_over}
 use Rattle.iol_cache.specs.Weaving.{IsCoveredBeside, places_beside}
-use Rattle.iol_cache.proofs.Reads.Shared.{held_beside, length-places_over, over_there, readable_places, readable_same, settles_shares, shared_gone}
+use Rattle.iol_cache.proofs.RangeReads.Shared.{held_beside, length-places_over, over_there, readable_places, readable_same, settles_shares, shared_gone}
 use Rattle.iol_cache.proofs.weaving.share_beside.Goals as goal
 
 abbrev no_span : Span

@@ -9,8 +9,8 @@ use Rattle.iol_hold.specs.Places.{Place, byte_len, places}
 use Rattle.iol_cache.specs.Cached.{all_parts}
 use Rattle.iol_cache.specs.Sharing.{IsCoveredSpan, places_over}
 use Rattle.iol_cache.specs.Weaving.{len_beside, woven}
-use Rattle.iol_cache.proofs.Reads.Shared.{held_beside, length-places_over, over_there, readable_places, readable_same, settles_shares, shared_gone}
-use Rattle.iol_cache.proofs.Reads.Woven.{beside_few, shared_covers, still_covers, shared_few, readable_more}
+use Rattle.iol_cache.proofs.RangeReads.Shared.{held_beside, length-places_over, over_there, readable_places, readable_same, settles_shares, shared_gone}
+use Rattle.iol_cache.proofs.RangeReads.Woven.{beside_few, shared_covers, still_covers, shared_few, readable_more}
 use Rattle.iol_cache.proofs.weaving.weave.Goals as goal
 
 abbrev no_span : Span

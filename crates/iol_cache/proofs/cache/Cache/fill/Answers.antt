@@ -25,13 +25,13 @@ use Rattle.iol_cache.specs.Sharing.{CountsBelow}
 use Rattle.iol_cache.specs.Sound.{IsSound}
 use Rattle.iol_cache.proofs.Extents.Filing.{file_at_number, file_set, order_at_number, order_set, numbered_bounds}
 use Rattle.iol_cache.proofs.Extents.Using.{covers_file}
-use Rattle.iol_cache.proofs.Reads.Undone.{none_gaps}
-use Rattle.iol_cache.proofs.Reads.Filled.{order_wide}
-use Rattle.iol_cache.proofs.Reads.Putting.{begins_made, zip_begins, absent_gaps}
-use Rattle.iol_cache.proofs.Reads.Ranged.{laid_readable, range_held, made_len}
+use Rattle.iol_cache.proofs.RangeReads.Undone.{none_gaps}
+use Rattle.iol_cache.proofs.RangeReads.Filled.{order_wide}
+use Rattle.iol_cache.proofs.RangeReads.Putting.{begins_made, zip_begins, absent_gaps}
+use Rattle.iol_cache.proofs.RangeReads.Ranged.{laid_readable, range_held, made_len}
 use Rattle.iol_cache.proofs.Evictions.Roomy.{ranks_file, same_room, sound_same}
 use Rattle.iol_cache.proofs.Extents.Stepping.{sound_to, all_within, page_len, mark_few}
-use Rattle.iol_cache.proofs.Reads.Completed.{sound_filled}
+use Rattle.iol_cache.proofs.RangeReads.Completed.{sound_filled}
 use Rattle.iol_cache.proofs.cache.Cache.fill.Goals as goal
 
 -- What was made of a range of the file.

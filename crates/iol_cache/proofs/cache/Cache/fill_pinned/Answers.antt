@@ -19,8 +19,8 @@ use Rattle.iol_cache.specs.Pinned.{pinned_beside}
 use Rattle.iol_cache.specs.Ranges.{FillsAfter}
 use Rattle.iol_cache.specs.Sound.{IsSound}
 use Rattle.iol_cache.proofs.Extents.Filing.{file_at_number, numbered_bounds}
-use Rattle.iol_cache.proofs.Reads.Filled.{order_wide}
-use Rattle.iol_cache.proofs.Reads.Served.{Undone, either_way, goes_out, pins_held, pins_left, on_errs, places_none, readable_c, readable_filled, readable_left, readable_out, same_none, sound_out, stand_filled, tells_has, told_errs, told_is, went_filled, went_none, went_undone}
+use Rattle.iol_cache.proofs.RangeReads.Filled.{order_wide}
+use Rattle.iol_cache.proofs.RangeReads.Served.{Undone, either_way, goes_out, pins_held, pins_left, on_errs, places_none, readable_c, readable_filled, readable_left, readable_out, same_none, sound_out, stand_filled, tells_has, told_errs, told_is, went_filled, went_none, went_undone}
 use Rattle.iol_cache.proofs.cache.Cache.fill_pinned.Goals as goal
 
 pub count_pages-requires : goal.count_pages-requires

@@ -18,8 +18,8 @@ use Rattle.iol_cache.specs.Loading.{PlacesSome}
 use Rattle.iol_cache.specs.Preparing.{Prepares}
 use Rattle.iol_cache.specs.Writing.{PutsOver}
 use Rattle.iol_cache.proofs.Extents.Filing.{file_at_number, numbered_bounds}
-use Rattle.iol_cache.proofs.Writes.Prepared.{prepared_covers, prepared_few, prepared_laid, prepared_sound, right_len}
-use Rattle.iol_cache.proofs.Reads.Ranged.{laid_readable}
+use Rattle.iol_cache.proofs.RangeWrites.Prepared.{prepared_covers, prepared_few, prepared_laid, prepared_sound, right_len}
+use Rattle.iol_cache.proofs.RangeReads.Ranged.{laid_readable}
 use Rattle.iol_cache.proofs.Extents.Stepping.{sound_to}
 use Rattle.iol_cache.proofs.Extents.Steps.{covers_right}
 use Rattle.iol_cache.proofs.Extents.Using.{covers_file}

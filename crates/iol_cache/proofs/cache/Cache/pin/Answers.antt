@@ -14,8 +14,8 @@ use Rattle.iol_cache.proofs.Extents.Filing.{file_at_number, numbered_bounds}
 use Rattle.iol_cache.proofs.Evictions.Roomy.{sound_same, sound_hits}
 use Rattle.iol_cache.proofs.Extents.Stepping.{sound_on, sound_to}
 use Rattle.iol_cache.proofs.Extents.Steps.{hits_entries_left, numbered_same}
-use Rattle.iol_cache.proofs.Reads.Tiled.{tile_beside}
-use Rattle.iol_cache.proofs.Reads.Woven.{still_covers}
+use Rattle.iol_cache.proofs.RangeReads.Tiled.{tile_beside}
+use Rattle.iol_cache.proofs.RangeReads.Woven.{still_covers}
 use Rattle.iol_cache.proofs.cache.Cache.pin.Goals as goal
 
 pub share_hits-requires-clause-covered : goal.share_hits-requires-clause-covered

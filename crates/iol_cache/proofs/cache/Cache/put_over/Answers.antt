@@ -11,10 +11,10 @@ use Rattle.iol_cache.specs.Reading.{RanksFile}
 use Rattle.iol_cache.specs.Replacing.{Reindexes, HaveClean, IsReady, put_some, reordered}
 use Rattle.iol_cache.specs.Writing.{parts_put}
 use Rattle.iol_cache.proofs.Extents.Filing.{file_at_number, file_set, order_at_number, order_set, numbered_bounds}
-use Rattle.iol_cache.proofs.Reads.Ranged.{laid_readable}
+use Rattle.iol_cache.proofs.RangeReads.Ranged.{laid_readable}
 use Rattle.iol_cache.proofs.Evictions.Ready.{is_ready}
 use Rattle.iol_cache.proofs.Evictions.Roomy.{ranks_file}
-use Rattle.iol_cache.proofs.Writes.Written.{left_len, have_clean, covers_put, marks_left, sound_put}
+use Rattle.iol_cache.proofs.RangeWrites.Written.{left_len, have_clean, covers_put, marks_left, sound_put}
 use Rattle.iol_cache.proofs.cache.Cache.put_over.Goals as goal
 
 pub overflow_sub-number : goal.overflow_sub-number

@@ -11,9 +11,9 @@ use Rattle.iol_cache.specs.Evicting.{Holding}
 use Rattle.iol_cache.specs.Gaps.{AreOf}
 use Rattle.iol_cache.specs.Going.{Goes, HasRoom, LacksRoom}
 use Rattle.iol_cache.specs.Serving.{IsEnd, LeavesRange, NoRoomToRead, Range, ReadsFile, ReadsRange, RefusesRead, RoomToRead, bytes_read}
-use Rattle.iol_cache.proofs.Reads.Paging.{read_pages, refused_pages}
-use Rattle.iol_cache.proofs.Reads.Served.{either_told, ok_both, tells_more}
-use Rattle.iol_cache.proofs.Reads.Texts.{long_read, pooled_read, text_read}
+use Rattle.iol_cache.proofs.RangeReads.Paging.{read_pages, refused_pages}
+use Rattle.iol_cache.proofs.RangeReads.Served.{either_told, ok_both, tells_more}
+use Rattle.iol_cache.proofs.RangeReads.Texts.{long_read, pooled_read, text_read}
 use Rattle.iol_cache.proofs.cache.Cache.read.Goals as goal
 
 -- the range that the code computes

@@ -15,9 +15,9 @@ use Rattle.iol_cache.specs.Pinned.{pinned_beside}
 use Rattle.iol_cache.specs.Ranges.{CompletesRange, FillsAfter, UndoesAfter}
 use Rattle.iol_cache.specs.Serving.{LeavesRange, ReadsRange, TellsRoom}
 use Rattle.iol_cache.specs.Weaving.{len_beside}
-use Rattle.iol_cache.proofs.Reads.Hits.{covers_hit, few_hit, goes_hit, len_hit, lies_read, readable_hit, room_hit}
+use Rattle.iol_cache.proofs.RangeReads.Hits.{covers_hit, few_hit, goes_hit, len_hit, lies_read, readable_hit, room_hit}
 use Rattle.iol_cache.proofs.Evictions.Rooming.{at_most}
-use Rattle.iol_cache.proofs.Reads.Served.{always_err, asks_ok, goes_reserved, ok_both, some_lacked, tells_fault, told_late}
+use Rattle.iol_cache.proofs.RangeReads.Served.{always_err, asks_ok, goes_reserved, ok_both, some_lacked, tells_fault, told_late}
 use Rattle.iol_cache.proofs.Extents.Steps.{goes_trans}
 use Rattle.iol_cache.proofs.cache.Cache.read_range.Goals as goal
 

@@ -10,7 +10,7 @@ use Rattle.iol_cache.specs.Reading.{RanksFile, hits_counted}
 use Rattle.iol_cache.specs.Weaving.{IsCoveredBeside, places_beside}
 use Rattle.iol_cache.proofs.Extents.Filing.{file_at_number, order_at_number, order_set, numbered_bounds}
 use Rattle.iol_cache.proofs.Extents.Using.{covers_file}
-use Rattle.iol_cache.proofs.Reads.Ranged.{laid_readable}
+use Rattle.iol_cache.proofs.RangeReads.Ranged.{laid_readable}
 use Rattle.iol_cache.proofs.Evictions.Roomy.{ranks_file}
 use Rattle.iol_cache.proofs.cache.Cache.share_hits.Goals as goal
 

@@ -18,15 +18,15 @@ use Rattle.iol_cache.specs.Sharing.{CountsBelow}
 use Rattle.iol_cache.specs.Sound.{IsLaid, IsSound}
 use Rattle.iol_cache.specs.Syncing.{Stores}
 use Rattle.iol_extent.specs.Extents.{IsFirstDirty, cleaned_at}
-use Rattle.iol_cache.proofs.Writes.Cleaned.{dirty_some, first_dirty}
-use Rattle.iol_cache.proofs.Writes.Composed.{length-bytes}
+use Rattle.iol_cache.proofs.RangeWrites.Cleaned.{dirty_some, first_dirty}
+use Rattle.iol_cache.proofs.RangeWrites.Composed.{length-bytes}
 use Rattle.iol_cache.proofs.Extents.Extending.{last_end-without_at}
 use Rattle.iol_cache.proofs.Extents.Filing.{each-begins, file_at_number, file_set, numbered_bounds, order_at_number, order_set}
 use Rattle.iol_cache.proofs.Evictions.Ready.{is_ready}
 use Rattle.iol_cache.proofs.Evictions.Reordered.{some_is}
 use Rattle.iol_cache.proofs.Evictions.Roomy.{ranks_file}
 use Rattle.iol_cache.proofs.Extents.Stepping.{mark_few, page_len}
-use Rattle.iol_cache.proofs.Writes.Synced.{clean_bytes, clean_mirrors, cleaned_sound, fail_bytes, fail_stored}
+use Rattle.iol_cache.proofs.RangeWrites.Synced.{clean_bytes, clean_mirrors, cleaned_sound, fail_bytes, fail_stored}
 use Rattle.iol_cache.proofs.Extents.Using.{are_within, covers_at}
 use Rattle.iol_cache.proofs.cache.Cache.store_first.Goals as goal
 

@@ -8,7 +8,7 @@ use Rattle.iol_cache.specs.Cached.{Cached, extents_in}
 use Rattle.iol_cache.specs.Sound.{IsSound}
 use Rattle.iol_cache.specs.Syncing.{AreCleaned, StoresFirst, Syncs}
 use Rattle.iol_cache.proofs.Extents.Filing.{numbered_bounds, numbered_yes}
-use Rattle.iol_cache.proofs.Writes.Synced.{clean_fewer, syncs_fail, syncs_more}
+use Rattle.iol_cache.proofs.RangeWrites.Synced.{clean_fewer, syncs_fail, syncs_more}
 use Rattle.iol_cache.proofs.cache.Cache.sync.Goals as goal
 
 still_there : (s : Stored) (f : ℕ) (old new : Cached) (d e : Disk) → Syncs s f old new d e → is_numbered old.files f ≡ true → is_numbered new.files f ≡ true

@@ -16,11 +16,11 @@ use Rattle.iol_cache.specs.Composing.{copied_pages}
 use Rattle.iol_cache.specs.Evicting.{Holding}
 use Rattle.iol_cache.specs.Going.{Goes}
 use Rattle.iol_cache.specs.Pinned.{is_pinned, pinned_beside}
-use Rattle.iol_cache.proofs.Writes.Composed.{pages_for-zero}
-use Rattle.iol_cache.proofs.Writes.Overwritten.{over_lies}
-use Rattle.iol_cache.proofs.Reads.Paging.{unwritten_pages, write_pages}
-use Rattle.iol_cache.proofs.Reads.Served.{places_none}
-use Rattle.iol_cache.proofs.Writes.Placed.{goes_files, goes_mirrors, goes_moves, goes_others, goes_refused, goes_room, room_held, room_numbered, room_readable, wrote, wrote_mirrors, wrote_moves, wrote_others}
+use Rattle.iol_cache.proofs.RangeWrites.Composed.{pages_for-zero}
+use Rattle.iol_cache.proofs.RangeWrites.Overwritten.{over_lies}
+use Rattle.iol_cache.proofs.RangeReads.Paging.{unwritten_pages, write_pages}
+use Rattle.iol_cache.proofs.RangeReads.Served.{places_none}
+use Rattle.iol_cache.proofs.RangeWrites.Placed.{goes_files, goes_mirrors, goes_moves, goes_others, goes_refused, goes_room, room_held, room_numbered, room_readable, wrote, wrote_mirrors, wrote_moves, wrote_others}
 use Rattle.iol_cache.proofs.cache.Cache.write.Goals as goal
 
 pages_none : (p : ℕ) (xs : List Slice) → byte_len xs ≡ 0 → copied_pages p xs ≡ 0

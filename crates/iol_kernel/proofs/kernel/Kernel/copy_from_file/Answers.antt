@@ -12,7 +12,7 @@ use Rattle.iol_hold.proofs.Reading.{length-text_of}
 use Rattle.iol_desc.specs.Tables.{domains_of}
 use Rattle.iol_cache.specs.Cache.{cached_of}
 use Rattle.iol_cache.specs.Serving.{NoRoomToRead, RoomToRead}
-use Rattle.iol_cache.proofs.Reads.Served.{tells_more}
+use Rattle.iol_cache.proofs.RangeReads.Served.{tells_more}
 use Rattle.iol_kernel.specs.Backed.{Serves, holding_of}
 use Rattle.iol_kernel.specs.FileReading.{CopiesFileAs, file_read, moved_on, pool_read}
 use Rattle.iol_kernel.specs.Kernel.{state_of}

@@ -2,7 +2,7 @@ use Rattle.std.proofs.Common.{Ok, refl}
 use Rattle.iol_core.specs.Calls.Outside as outside
 use Rattle.iol_cache.specs.Cache.{cached_of}
 use Rattle.iol_cache.specs.Evicting.{Holding}
-use Rattle.iol_cache.proofs.Reads.Paging.{given_up_pages}
+use Rattle.iol_cache.proofs.RangeReads.Paging.{given_up_pages}
 use Rattle.iol_kernel.specs.Backed.{holding_of}
 use Rattle.iol_kernel.specs.Kernel.{state_of}
 use Rattle.iol_kernel.proofs.FileCalls.Kept.{drop_keeps}

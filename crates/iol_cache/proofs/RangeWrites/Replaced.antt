@@ -7,7 +7,7 @@ use Rattle.iol_hold.specs.Moves.{Counts, Covers, Moves, tally}
 use Rattle.iol_hold.specs.Stored.{Stored}
 use Rattle.iol_hold.specs.Texts.{AllReadable, bufs_of}
 use Rattle.iol_hold.proofs.Reading.{readable_joined}
-use Rattle.iol_cache.proofs.Reads.Shared.{over_readable, readable_parts}
+use Rattle.iol_cache.proofs.RangeReads.Shared.{over_readable, readable_parts}
 use Rattle.iol_hold.specs.declared.slices.Slice.{Slice}
 use Rattle.iol_agg.proofs.Holding.{tally-few}
 use Rattle.iol_cache.proofs.Evictions.Marking.{at_page-append}
@@ -26,7 +26,7 @@ use Rattle.iol_cache.proofs.Evictions.Entering.{entered_entries}
 use Rattle.iol_cache.proofs.Extents.Extending.{begins_above}
 use Rattle.iol_cache.proofs.Extents.Filing.{IsAdditive, additive_bufs, additive_page, additive_tally, sum-flat, sum-put_in, sum-without, sum-without_at}
 use Rattle.iol_cache.proofs.Evictions.Ranked.{clean_one, entry_absent, entry_found, found_at}
-use Rattle.iol_cache.proofs.Reads.Undone.{begins_gap}
+use Rattle.iol_cache.proofs.RangeReads.Undone.{begins_gap}
 use Rattle.iol_hold.specs.Places.{byte_len}
 use Rattle.std.proofs.lemmas.List.Sums.{sum_by-cons}
 

@@ -24,12 +24,12 @@ use Rattle.iol_cache.specs.Syncing.{Cleans, Fails, KeepsBytes, KeepsStored, Sync
 use Rattle.iol_extent.specs.Extents.{cleaned_at}
 use Rattle.iol_cache.specs.Writing.{Changes}
 use Rattle.iol_cache.proofs.Extents.Changed.{sound_changed}
-use Rattle.iol_cache.proofs.Writes.Cleaned.{bytes_alike, cleaned_more, count-cleaned, end-cleaned, first_dirty, laid-cleaned, parts-cleaned, read-cleaned, stored-cleaned, torn_byte, torn_len, torn_stored}
-use Rattle.iol_cache.proofs.Writes.Composed.{length-bytes}
+use Rattle.iol_cache.proofs.RangeWrites.Cleaned.{bytes_alike, cleaned_more, count-cleaned, end-cleaned, first_dirty, laid-cleaned, parts-cleaned, read-cleaned, stored-cleaned, torn_byte, torn_len, torn_stored}
+use Rattle.iol_cache.proofs.RangeWrites.Composed.{length-bytes}
 use Rattle.iol_cache.proofs.Extents.Extending.{last_end-without_at, over_of}
 use Rattle.iol_cache.proofs.Extents.Filing.{file_other, file_same, length-with_file, numbered_bounds}
 use Rattle.iol_cache.proofs.Evictions.GivenUp.{bytes_same}
-use Rattle.iol_cache.proofs.Writes.Storing.{stores_tears}
+use Rattle.iol_cache.proofs.RangeWrites.Storing.{stores_tears}
 
 -- the byte that lies at the k-th place
 byte_there : (s : Stored) (xs : List Slice) (k : ℕ) → k < byte_len xs → byte_in s (get_or (places xs) k no_place) ≡ get_or (text.bytes_of (text_of s xs)) k 0

@@ -30,11 +30,11 @@ use Rattle.iol_hold.proofs.Rooms.{no_room_there}
 use Rattle.iol_hold.specs.declared.slices.Slice.{Slice}
 use Rattle.iol_hold.proofs.Slicing.{byte_len-append, byte_len-cons, byte_len-take-le, places-append}
 use Rattle.iol_cache.specs.Composing.{Composes, ComposesRun, KeepsOwn, copied_pages, pages_after}
-use Rattle.iol_cache.proofs.Reads.Filled.{places_none, places_then}
+use Rattle.iol_cache.proofs.RangeReads.Filled.{places_none, places_then}
 use Rattle.iol_cache.specs.Loading.{PlacesPages}
-use Rattle.iol_cache.proofs.Reads.Paged.{made_stands}
-use Rattle.iol_cache.proofs.Reads.Pooled.{length-labelled}
-use Rattle.iol_cache.proofs.Reads.Shared.{readable_same, settles_shares}
+use Rattle.iol_cache.proofs.RangeReads.Paged.{made_stands}
+use Rattle.iol_cache.proofs.RangeReads.Pooled.{length-labelled}
+use Rattle.iol_cache.proofs.RangeReads.Shared.{readable_same, settles_shares}
 
 -- Pages.
 

@@ -37,9 +37,9 @@ use Rattle.iol_cache.proofs.Extents.Filing.{file_same, file_other, order_same, o
 use Rattle.iol_cache.proofs.Extents.Extending.{laid_stays}
 use Rattle.iol_cache.proofs.Evictions.GivenUp.{StaysFile, file_stays, bytes_same}
 use Rattle.iol_cache.proofs.Extents.Using.{covers_file}
-use Rattle.iol_cache.proofs.Reads.Undone.{none_gaps}
-use Rattle.iol_cache.proofs.Reads.Putting.{Fits, IsMirrored, made_fits, mirrored_is, all_byte, all_stored, all_len, last_end-all_put, sum-all_put, each-all_put, begins_made, zip_begins, made_clean, all_entries, all_entries-other}
-use Rattle.iol_cache.proofs.Reads.Ranged.{tally-all_put, made_laid}
+use Rattle.iol_cache.proofs.RangeReads.Undone.{none_gaps}
+use Rattle.iol_cache.proofs.RangeReads.Putting.{Fits, IsMirrored, made_fits, mirrored_is, all_byte, all_stored, all_len, last_end-all_put, sum-all_put, each-all_put, begins_made, zip_begins, made_clean, all_entries, all_entries-other}
+use Rattle.iol_cache.proofs.RangeReads.Ranged.{tally-all_put, made_laid}
 use Rattle.iol_cache.proofs.Evictions.Ready.{dirty-all_put, entered_kept, ready_changed}
 
 -- Sums over the file with what was put in.

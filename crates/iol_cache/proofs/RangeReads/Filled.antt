@@ -32,8 +32,8 @@ use Rattle.iol_hold.proofs.Reading.{readable_stays, text_stays}
 use Rattle.iol_pool.specs.Pools.{Pool, pool_in}
 use Rattle.iol_cache.specs.Gaps.{AllBegin, FillsGap, FillsGaps, IsMade, Mirrors, all_put, gap_pages, parts_back, without_spans}
 use Rattle.iol_cache.specs.Loading.{PlacesPages, PlacesSome}
-use Rattle.iol_cache.proofs.Reads.Paged.{usable_free}
-use Rattle.iol_cache.proofs.Reads.Undone.{Begin, CanRead, all_put-push, back_put, back_readable, begin_put, gap_left, none_gaps, without_put}
+use Rattle.iol_cache.proofs.RangeReads.Paged.{usable_free}
+use Rattle.iol_cache.proofs.RangeReads.Undone.{Begin, CanRead, all_put-push, back_put, back_readable, begin_put, gap_left, none_gaps, without_put}
 use Rattle.iol_cache.specs.Cached.{all_parts}
 
 -- Pages, one placing after another.

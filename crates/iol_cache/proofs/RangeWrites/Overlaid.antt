@@ -9,7 +9,7 @@ use Rattle.iol_extent.specs.Extents.{Adds, Cell, Extent, IsApart, cell_at, cover
 use Rattle.iol_extent.proofs.Cover.{cover_no, cover_yes}
 use Rattle.iol_back.specs.Disk.{overwritten}
 use Rattle.iol_cache.proofs.Extents.Extending.{over_not, over_yes}
-use Rattle.iol_cache.proofs.Writes.Storing.{length-overwritten, over_after, over_before, over_in}
+use Rattle.iol_cache.proofs.RangeWrites.Storing.{length-overwritten, over_after, over_before, over_in}
 
 -- The end of the last extent.
 

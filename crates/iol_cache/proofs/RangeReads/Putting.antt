@@ -23,8 +23,8 @@ use Rattle.iol_cache.specs.Sound.{Each}
 use Rattle.iol_cache.proofs.Extents.Filing.{sum-put_in, each-put_in}
 use Rattle.iol_cache.proofs.Extents.Extending.{over_of, over_yes}
 use Rattle.iol_cache.proofs.Evictions.Entering.{entered_entries}
-use Rattle.iol_cache.proofs.Reads.Filled.{gaps_left, order_wide}
-use Rattle.iol_cache.proofs.Reads.Undone.{NoneBegins, Begin, none_beside, begins_at-beside, begins_at-put_in}
+use Rattle.iol_cache.proofs.RangeReads.Filled.{gaps_left, order_wide}
+use Rattle.iol_cache.proofs.RangeReads.Undone.{NoneBegins, Begin, none_beside, begins_at-beside, begins_at-put_in}
 
 -- each of these extents lies in a gap that those before it leave
 unfoldable pub Fits : List Extent → List Extent → Type 0

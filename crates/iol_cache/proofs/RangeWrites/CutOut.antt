@@ -8,7 +8,7 @@ use Rattle.iol_extent.specs.Extents.{Adds, Extent, IsApart, IsGap, cell_at, cove
 use Rattle.iol_extent.proofs.Cover.{cover-extent, extent_no, extent_yes}
 use Rattle.iol_extent.proofs.Meeting.{unmet_free, unmet_gone, unmet_stays}
 use Rattle.iol_cache.specs.Cutting.{CutsLeft, CutsRight, IsAfter, IsBefore}
-use Rattle.iol_cache.proofs.Reads.Shared.{over_at, over_low}
+use Rattle.iol_cache.proofs.RangeReads.Shared.{over_at, over_low}
 
 over_yes : (e : Extent) (i : ℕ) → e.at ≤ i → i < end_of e → is_over e i ≡ true
 over_yes e i h k = grind (arith, nat_tests)

@@ -20,7 +20,7 @@ use Rattle.iol_cache.specs.Overwriting.{IsWritten, KeepsFiles, KeepsMirrors, Kee
 use Rattle.iol_cache.specs.Sharing.{CountsBelow}
 use Rattle.iol_cache.specs.Sound.{IsSound}
 use Rattle.iol_cache.proofs.Extents.Filing.{numbered_bounds, numbered_yes}
-use Rattle.iol_cache.proofs.Writes.Overwritten.{over_lists, over_mirrors, over_moves, over_others, over_settles, over_written}
+use Rattle.iol_cache.proofs.RangeWrites.Overwritten.{over_lists, over_mirrors, over_moves, over_others, over_settles, over_written}
 use Rattle.iol_cache.proofs.Extents.Steps.{covers_right, goes_cache, goes_covers, goes_less, goes_store, goes_trans}
 
 -- an honest store of these bytes

@@ -28,12 +28,12 @@ use Rattle.iol_cache.specs.Sound.{Each, IsLaid, IsSound}
 use Rattle.iol_cache.specs.Writing.{Changes, parts_put}
 use Rattle.iol_cache.proofs.Extents.Changed as changed
 use Rattle.iol_cache.proofs.Evictions.GivenUp.{file_stays, read_stays, stored_stays}
-use Rattle.iol_cache.proofs.Writes.Overlaid.{beside_is, last_end-over, map_over, over_is}
-use Rattle.iol_cache.proofs.Writes.Prepared.{prepared_covers, prepared_ends, prepared_laid, prepared_lists, prepared_long, prepared_moves, prepared_settles, prepared_sound}
-use Rattle.iol_cache.proofs.Writes.Replaced.{some-parts}
-use Rattle.iol_cache.proofs.Reads.Shared.{length-places_over}
+use Rattle.iol_cache.proofs.RangeWrites.Overlaid.{beside_is, last_end-over, map_over, over_is}
+use Rattle.iol_cache.proofs.RangeWrites.Prepared.{prepared_covers, prepared_ends, prepared_laid, prepared_lists, prepared_long, prepared_moves, prepared_settles, prepared_sound}
+use Rattle.iol_cache.proofs.RangeWrites.Replaced.{some-parts}
+use Rattle.iol_cache.proofs.RangeReads.Shared.{length-places_over}
 use Rattle.iol_cache.proofs.Extents.Using.{covers_file}
-use Rattle.iol_cache.proofs.Writes.Written as put
+use Rattle.iol_cache.proofs.RangeWrites.Written as put
 
 module _ (old new : Holding) (f at : ℕ) (source : List Slice) (sound : IsSound old.store old.cache) (there : is_numbered old.cache.files f ≡ true) (sound' : IsSound new.store new.cache) (some : 0 < byte_len source) (w : Overwrites f at source old new) where
   abbrev n : ℕ

@@ -28,12 +28,12 @@ use Rattle.iol_cache.specs.Gaps.{all_put}
 use Rattle.iol_cache.specs.Replacing.{HaveClean, put_some}
 use Rattle.iol_cache.specs.Sound.{Each, IsLaid, IsSound}
 use Rattle.iol_cache.specs.Writing.{Changes, PutsOver, parts_put}
-use Rattle.iol_cache.proofs.Writes.Composed.{pools_of}
-use Rattle.iol_cache.proofs.Writes.CutOut.{left_of, right_of}
+use Rattle.iol_cache.proofs.RangeWrites.Composed.{pools_of}
+use Rattle.iol_cache.proofs.RangeWrites.CutOut.{left_of, right_of}
 use Rattle.iol_cache.proofs.Extents.Filing.{additive_tally, additive_page, sum-flat, sum-file_in, each-put_in}
-use Rattle.iol_cache.proofs.Reads.Putting.{last_end-all_put}
+use Rattle.iol_cache.proofs.RangeReads.Putting.{last_end-all_put}
 use Rattle.iol_cache.proofs.Extents.Using.{sum-file}
-use Rattle.iol_cache.proofs.Writes.Replaced.{page-three}
+use Rattle.iol_cache.proofs.RangeWrites.Replaced.{page-three}
 use Rattle.iol_cache.proofs.Extents.Stepping.{mark_few, page_len}
 use Rattle.iol_cache.proofs.Extents.Changed.{sound_changed}
 

@@ -28,7 +28,7 @@ use Rattle.iol_hold.proofs.Paging.{keeps_pages_made}
 use Rattle.iol_hold.proofs.Reserving.{fill_publish}
 use Rattle.iol_hold.proofs.Rooms.{room_there}
 use Rattle.iol_cache.specs.Loading.{PlacesPages}
-use Rattle.iol_cache.proofs.Reads.Loaded.{fills_trans}
+use Rattle.iol_cache.proofs.RangeReads.Loaded.{fills_trans}
 
 no_member : (q : ℕ) → Contains (let l : List ℕ = [] in l) q → ⊥
 no_member q h = in_contains [] q h

@@ -31,11 +31,11 @@ use Rattle.iol_cache.specs.Sharing as sharing
 use Rattle.iol_cache.specs.Sound.{Each, IsLaid, IsSound}
 use Rattle.iol_cache.specs.Weaving.{IsCoveredBeside, places_read}
 use Rattle.iol_cache.proofs.Extents.Extending.{over_of}
-use Rattle.iol_cache.proofs.Reads.Pooled.{pooled_places}
-use Rattle.iol_cache.proofs.Reads.Ranged.{laid_readable}
-use Rattle.iol_cache.proofs.Reads.Served.{covered_span, span_cover}
-use Rattle.iol_cache.proofs.Reads.Shared.{length-places_over, over_there}
-use Rattle.iol_cache.proofs.Reads.Tiled.{tile_beside}
+use Rattle.iol_cache.proofs.RangeReads.Pooled.{pooled_places}
+use Rattle.iol_cache.proofs.RangeReads.Ranged.{laid_readable}
+use Rattle.iol_cache.proofs.RangeReads.Served.{covered_span, span_cover}
+use Rattle.iol_cache.proofs.RangeReads.Shared.{length-places_over, over_there}
+use Rattle.iol_cache.proofs.RangeReads.Tiled.{tile_beside}
 
 -- Pools of places.
 

@@ -21,13 +21,13 @@ use Rattle.iol_cache.specs.Preparing.{Prepares}
 use Rattle.iol_cache.specs.Sharing.{CountsBelow}
 use Rattle.iol_cache.specs.Sound.{IsLaid, IsSound}
 use Rattle.iol_cache.specs.Writing.{parts_put}
-use Rattle.iol_cache.proofs.Writes.Composed.{composed_long}
-use Rattle.iol_cache.proofs.Writes.CutOut.{right_of}
-use Rattle.iol_cache.proofs.Reads.Pooled.{pooled_text}
-use Rattle.iol_cache.proofs.Reads.Ranged.{tally_len}
-use Rattle.iol_cache.proofs.Reads.Shared.{over_readable, readable_same, settles_shares}
+use Rattle.iol_cache.proofs.RangeWrites.Composed.{composed_long}
+use Rattle.iol_cache.proofs.RangeWrites.CutOut.{right_of}
+use Rattle.iol_cache.proofs.RangeReads.Pooled.{pooled_text}
+use Rattle.iol_cache.proofs.RangeReads.Ranged.{tally_len}
+use Rattle.iol_cache.proofs.RangeReads.Shared.{over_readable, readable_same, settles_shares}
 use Rattle.iol_cache.proofs.Extents.Stepping.{sound_on}
-use Rattle.iol_cache.proofs.Writes.Written.{left_len, over_end}
+use Rattle.iol_cache.proofs.RangeWrites.Written.{left_len, over_end}
 
 -- The parts can be read.
 

@@ -15,8 +15,8 @@ use Rattle.iol_extent.specs.Spans.{AreInOrder}
 use Rattle.iol_extent.specs.declared.spans.Span.{Span}
 use Rattle.iol_cache.specs.Sharing.{CountsBelow, places_over}
 use Rattle.iol_cache.specs.Weaving.{len_beside, places_beside, woven, places_read}
-use Rattle.iol_cache.proofs.Reads.Ranged.{tally_len}
-use Rattle.iol_cache.proofs.Reads.Shared.{length-places_over, readable_places}
+use Rattle.iol_cache.proofs.RangeReads.Ranged.{tally_len}
+use Rattle.iol_cache.proofs.RangeReads.Shared.{length-places_over, readable_places}
 
 pub beside_few : (at to : ℕ) (gs : List Span) → AreInOrder at to gs → len_beside at to gs + at ≤ to
 beside_few at to [] order = omega (arith, order)

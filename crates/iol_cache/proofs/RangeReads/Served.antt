@@ -34,16 +34,16 @@ use Rattle.iol_cache.specs.Serving.{FaultCounts, TellsFault, TellsRoom}
 use Rattle.iol_cache.specs.Sharing.{IsCoveredSpan, places_over}
 use Rattle.iol_cache.specs.Sound.{IsSound}
 use Rattle.iol_cache.specs.Weaving.{woven}
-use Rattle.iol_cache.proofs.Reads.Completed.{goes_filled}
+use Rattle.iol_cache.proofs.RangeReads.Completed.{goes_filled}
 use Rattle.iol_cache.proofs.Extents.Extending.{begins_above, cover-begins, over_yes}
 use Rattle.iol_cache.proofs.Extents.Filing.{file_same, numbered_bounds, numbered_yes}
-use Rattle.iol_cache.proofs.Reads.Filled.{order_wide}
-use Rattle.iol_cache.proofs.Reads.Putting.{kept_begins, zip_begins}
-use Rattle.iol_cache.proofs.Reads.Ranged.{laid_readable}
+use Rattle.iol_cache.proofs.RangeReads.Filled.{order_wide}
+use Rattle.iol_cache.proofs.RangeReads.Putting.{kept_begins, zip_begins}
+use Rattle.iol_cache.proofs.RangeReads.Ranged.{laid_readable}
 use Rattle.iol_cache.proofs.Evictions.Rooming.{at_most}
-use Rattle.iol_cache.proofs.Reads.Shared.{over_there, readable_of}
+use Rattle.iol_cache.proofs.RangeReads.Shared.{over_there, readable_of}
 use Rattle.iol_cache.proofs.Extents.Stepping.{sound_on}
-use Rattle.iol_cache.proofs.Reads.Undone.{NoneBegins, begins_at-put_in, none_beside, none_gaps}
+use Rattle.iol_cache.proofs.RangeReads.Undone.{NoneBegins, begins_at-put_in, none_beside, none_gaps}
 use Rattle.iol_cache.proofs.Extents.Steps.{covers_right, goes_cache, goes_covers, goes_less, goes_store, goes_trans}
 
 -- what holds of both results

@@ -10,8 +10,8 @@ use Rattle.iol_extent.specs.Extents.{Extent, IsApart, IsFirstDirty, as_clean, be
 use Rattle.iol_cache.specs.Cached.{begins_clean, clean_at, parts_in}
 use Rattle.iol_cache.specs.Marks.{Marks}
 use Rattle.iol_cache.specs.Replacing.{Reindexes}
-use Rattle.iol_cache.proofs.Writes.Cleaned.{cleaned_put, first_dirty}
-use Rattle.iol_cache.proofs.Writes.Replaced.{clean_comes, dirty_goes, reindexes_then}
+use Rattle.iol_cache.proofs.RangeWrites.Cleaned.{cleaned_put, first_dirty}
+use Rattle.iol_cache.proofs.RangeWrites.Replaced.{clean_comes, dirty_goes, reindexes_then}
 
 other : (m n : ℕ) → m < n → eqb m n ≡ false
 other m n h = grind (arith, nat_tests)

@@ -32,12 +32,12 @@ use Rattle.iol_cache.specs.Sharing.{CountsBelow, places_over}
 use Rattle.iol_cache.specs.Sound.{IsSound}
 use Rattle.iol_cache.specs.Weaving.{IsCoveredBeside, len_beside, places_beside, places_read, woven}
 use Rattle.iol_cache.proofs.Extents.Filing.{numbered_bounds, numbered_yes}
-use Rattle.iol_cache.proofs.Reads.Ranged.{laid_readable, tally_len}
-use Rattle.iol_cache.proofs.Reads.Served.{extents_filled, tells_more}
-use Rattle.iol_cache.proofs.Reads.Shared.{over_there, readable_of, readable_same, settles_shares}
+use Rattle.iol_cache.proofs.RangeReads.Ranged.{laid_readable, tally_len}
+use Rattle.iol_cache.proofs.RangeReads.Served.{extents_filled, tells_more}
+use Rattle.iol_cache.proofs.RangeReads.Shared.{over_there, readable_of, readable_same, settles_shares}
 use Rattle.iol_cache.proofs.Extents.Steps.{goes_cache, goes_store, goes_trans, numbered_same}
-use Rattle.iol_cache.proofs.Reads.Tiled.{tile_beside}
-use Rattle.iol_cache.proofs.Reads.Woven.{beside_few, length-places_beside, still_covers, woven-beside}
+use Rattle.iol_cache.proofs.RangeReads.Tiled.{tile_beside}
+use Rattle.iol_cache.proofs.RangeReads.Woven.{beside_few, length-places_beside, still_covers, woven-beside}
 
 beside_there : {s : Stored} (es : List Extent) (at to : ℕ) (gs : List Span) → IsCoveredBeside es at to gs → AllReadable s (all_parts es) → All (IsThere s) (places_beside es at to gs)
 beside_there {s = s} es at to [] covered all = over_there {s = s} es at to covered all

@@ -21,7 +21,7 @@ use Rattle.iol_cache.specs.Gaps.{all_put, IsMade, FillsGaps}
 use Rattle.iol_cache.specs.Sound.{Each, IsLaid}
 use Rattle.iol_cache.specs.Sharing.{IsCoveredSpan, CountsBelow}
 use Rattle.iol_cache.proofs.Extents.Filing.{additive_tally, additive_bufs, sum-flat}
-use Rattle.iol_cache.proofs.Reads.Putting.{made_fits, covered-made, sum-all_put, each-all_put}
+use Rattle.iol_cache.proofs.RangeReads.Putting.{made_fits, covered-made, sum-all_put, each-all_put}
 use Rattle.iol_cache.specs.Cached.{all_parts}
 
 pub tally_len : (b : BufId) (xs : List Slice) → tally b (bufs_of xs) ≤ byte_len xs
