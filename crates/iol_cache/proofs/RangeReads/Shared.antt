@@ -1,16 +1,13 @@
 -- Bytes of a file, shared from the extents over them.
 use Rattle.std.proofs.Common.{◌≡◌, ℕ, zero, suc, ◌+◌, ◌-◌, ◌/◌, ◌<◌, ◌≤◌, inr, Bool, true, false, cond, All, List, [], ◌∷◌, ◌++◌, length, map, take, drop, get_or, Option, Some, None, IsSome, slice_range, refl, sym, ap, ◌∙◌, arith, subst}
 use Rattle.std.specs.List.{Contains, range_with_len}
-use Rattle.std.proofs.lemmas.List.Elements.{All-nil, All-append, All-drop, All-same, All-take}
+use Rattle.std.proofs.lemmas.List.Elements.{All-append, All-drop, All-same, All-take}
 use Rattle.std.proofs.lemmas.List.FromFn.{get_or-map-range_with_len, length-map-range_with_len}
 use Rattle.std.proofs.lemmas.Bool.Decides.{nat_tests}
-use Rattle.std.proofs.lemmas.List.{append-nil, length-append, take_at, drop_at, map-append}
-use Rattle.std.proofs.lemmas.Grind.{flat_map-append}
+use Rattle.std.proofs.lemmas.List.{take_at, drop_at, map-append}
 use Rattle.std.proofs.Math.Seq.{drop-cons}
 use Rattle.iol_core.specs.declared.numbers.BufId.{BufId}
 use Rattle.iol_extent.specs.Extents.{Cell, Extent, IsApart, cell_at, cover, end_of, extent_over, is_over, no_place}
-use Rattle.iol_extent.specs.Spans.{AreInOrder}
-use Rattle.iol_extent.specs.declared.spans.Span.{Span}
 use Rattle.iol_extent.proofs.Cover.{cover_no, cover_yes}
 use Rattle.iol_hold.specs.Moves.{Covers, Moves, Shares, tally}
 use Rattle.iol_hold.specs.Places.{Place, places}
@@ -28,7 +25,7 @@ use Rattle.iol_arena.specs.Buffers.{IsLive, bytes_of}
 use Rattle.iol_arena.specs.State.{State}
 use Rattle.iol_pool.specs.Pools.{Pool, pool_in}
 use Rattle.iol_cache.specs.Cached.{all_parts}
-use Rattle.iol_cache.specs.Sharing.{IsCovered, IsCoveredSpan, place_in, place_over, places_of_spans, places_over}
+use Rattle.iol_cache.specs.Sharing.{IsCovered, place_in, place_over, places_over}
 
 over_from : (e : Extent) (i : ℕ) → is_over e i ≡ true → (e.at ≤ i) × (i < end_of e)
 over_from e i h = (grind (arith, nat_tests), grind (arith, nat_tests))
@@ -195,23 +192,6 @@ length-places_over es from to = length-map-range_with_len (place_over es) from (
 
 pub readable_places : {s : Stored} (xs ys : List Slice) (ps : List Place) → places xs ≡ places ys ++ ps → AllReadable s ys → All (IsThere s) ps → AllReadable s xs
 readable_places {s} xs ys ps e h all = record { each = All-same (IsThere s) _ _ e (All-append (IsThere s) (places ys) ps h.each all) }
-
--- Ranges, one after another.
-
-pub spans_more : (es : List Extent) (spans : List Span) (s : Span) → places_of_spans es (spans ++ s ∷ []) ≡ places_of_spans es spans ++ places_over es s.from s.to
-spans_more es spans s =
-    let f : Span → List Place = λ (x : Span). places_over es x.from x.to in
-    flat_map-append f spans (s ∷ []) ∙ ap (λ l. places_of_spans es spans ++ l) (append-nil (places_over es s.from s.to))
-
-pub spans_long : (es : List Extent) (low high : ℕ) (spans : List Span) → AreInOrder low high spans → length (places_of_spans es spans) + low ≤ high
-spans_long es low high [] o = omega (arith, o)
-spans_long es low high (s ∷ spans) o =
-    let rest = spans_long es s.to high spans o.2 in
-    omega (arith, rest, o.0, o.1, length-append (places_over es s.from s.to) (places_of_spans es spans), length-places_over es s.from s.to)
-
-pub spans_there : {s : Stored} (es : List Extent) (spans : List Span) → All (IsCoveredSpan es) spans → AllReadable s (all_parts es) → All (IsThere s) (places_of_spans es spans)
-spans_there {s} es [] covered all = All-nil (IsThere s)
-spans_there {s} es (x ∷ spans) covered all = All-append (IsThere s) (places_over es x.from x.to) (places_of_spans es spans) (over_there {s = s} es x.from x.to (covered 0 x (omega arith)) all) (spans_there {s = s} es spans (λ k d h. covered (suc k) d (omega arith)) all)
 
 pub shared_gone : {a b c : Stored} {xs : List BufId} → Shares a b [] xs → Moves b c xs [] → Moves a c [] []
 shared_gone m n = record {
