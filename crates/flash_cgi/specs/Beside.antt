@@ -44,7 +44,8 @@ pub record LeavesJobs (m : State) (seat : Seat Worker) (n : State) : Type 0 wher
   pub same : (j : ℕ) → IsFree m seat → descriptor m seat.by 0 ≡ Some (on.ReadEnd j) → pipe_at n j ≡ pipe_at m j
 
 -- What went from the pipe of its output stood in front of what is unseen then. Where files are left, so are the outcomes to come.
-pub record Hears (m n : State) (p : ℕ) (seat : Seat Worker) (unseen : List Outcome → List ℕ) (was : RunsJob m p seat unseen) (heard : List ℕ) : Type 0 where
+pub record Hears (m n : State) (p : ℕ) (seat : Seat Worker) (unseen : List Outcome → List ℕ)
+    (was : RunsJob m p seat unseen) (heard : List ℕ) : Type 0 where
   pub after : List Outcome → List ℕ
   pub splits : (os : List Outcome) → unseen os ≡ heard ++ after os
   pub runs : RunsJob n p seat after

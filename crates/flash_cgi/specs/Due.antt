@@ -49,7 +49,8 @@ pub record ScriptsPutOut : Type 0 where
       → HasJob m seat.by j p fd query script lines
       → IsDue m p seat (bytes_of (pipe_at m p).queue ++ output query lines (outcomes_in m seat.by lines))
   -- a turn of the worker leaves it due, until all is written, or nobody reads; it is not rough
-  pub turns : (m n : State) (p : ℕ) (seat next : Seat Worker) (yields : Bool) (r : Reply) (text : List ℕ) → IsOrderly m → ArePlaced m
+  pub turns : (m n : State) (p : ℕ) (seat next : Seat Worker) (yields : Bool) (r : Reply) (text : List ℕ)
+      → IsOrderly m → ArePlaced m
       → AreFiles m → IsDue m p seat text → SeatTurn copying works m seat yields r n next → is_rough r ≡ false
       → IsDue n p next text ⊎ IsWritten m n p next text r ⊎ ((pipe_at n p).reading ≡ false)
   -- calls of others and what happens outside take its front, as long as they leave the files, and the job that waits

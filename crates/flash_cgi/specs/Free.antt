@@ -32,7 +32,8 @@ pub record WorkersStayFree : Type 0 where
   -- so does all that others do
   pub others : (m n : State) (seat : Seat Worker) → IsFree m seat → IsFree n seat
   -- one that was given what is no job is free after its turn, or found no memory and will be told so again
-  pub skips : (m n : State) (agg b : ℕ) (bs : List ℕ) (seat next : Seat Worker) (yields : Bool) (r : Reply) → is_live m seat.by ≡ true
+  pub skips : (m n : State) (agg b : ℕ) (bs : List ℕ) (seat next : Seat Worker) (yields : Bool) (r : Reply)
+      → is_live m seat.by ≡ true
       → seat.process.step.doing ≡ doing.Waits → seat.process.standing ≡ standing.Asked → seat.last ≡ reply.Agg agg
       → lent_at m seat.by agg ≡ Some (b ∷ bs) → job_of (b ∷ bs) ≡ None → SeatTurn copying works m seat yields r n next
       → IsFree n next ⊎ (next ≡ seat)

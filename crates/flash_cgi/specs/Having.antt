@@ -60,10 +60,11 @@ held_doing standing.Asked doing.Waits (reply.Agg agg) step = doing.Skips agg
 held_doing s x r step = step.doing
 
 abbrev pub KeepsJust : State → (fds aggs : ℕ → Bool) → Seat Worker → Type 0
-KeepsJust m fds aggs seat = HasJust m seat.by fds aggs seat.process.job (held_doing seat.process.standing seat.process.step.doing seat.last (step_of m seat))
+KeepsJust m fds aggs seat = HasJust m seat.by fds aggs seat.process.job
+    (held_doing seat.process.standing seat.process.step.doing seat.last (step_of m seat))
 
--- A worker has what it uses, and nothing else. So where its script has ended, and it waits, it has what it had without a job: of its
--- own nothing but its job pipe.
+-- A worker has what it uses, and nothing else. So where its script has ended, and it waits, it has what it had without a job:
+-- of its own nothing but its job pipe.
 pub record WorkersKeepNothing : Type 0 where
   -- its call leaves it with what it uses then
   pub calls : (m n : State) (d : ℕ) (fds aggs : ℕ → Bool) (job : Task) (step next : Step) (r : Reply) → IsOrderly m
@@ -71,7 +72,9 @@ pub record WorkersKeepNothing : Type 0 where
       → told job step (lent_at n d) r ≡ Some next → HasJust n d fds aggs job next.doing
   -- and so does each of its turns, those in which it reads a job or finds none among them
   pub turns : (m n : State) (fds aggs : ℕ → Bool) (seat next : Seat Worker) (yields : Bool) (r : Reply) → IsOrderly m
-      → is_live m seat.by ≡ true → KeepsJust m fds aggs seat → SeatTurn copying works m seat yields r n next → KeepsJust n fds aggs next
+      → is_live m seat.by ≡ true → KeepsJust m fds aggs seat → SeatTurn copying works m seat yields r n next
+      → KeepsJust n fds aggs next
   -- what takes its output is its job's own, though others gave it: so it has that no more once its script has ended
-  pub output : (m : State) (d : ℕ) (fds aggs : ℕ → Bool) (job : Task) (x : Doing) → uses_fd job x job.fd ≡ true → HasJust m d fds aggs job x
+  pub output : (m : State) (d : ℕ) (fds aggs : ℕ → Bool) (job : Task) (x : Doing) → uses_fd job x job.fd ≡ true
+      → HasJust m d fds aggs job x
       → HasJust m d (λ fd. fds fd && not (job.fd == fd)) aggs job x

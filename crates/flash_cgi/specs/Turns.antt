@@ -88,13 +88,15 @@ outcomes_to_come m p seat unseen (inr (inl h)) = outcomes_in m seat.by h.job.lin
 outcomes_to_come m p seat unseen (inr (inr i)) = to_come m seat.by seat.process.job (step_of m seat)
 
 -- the file that it is reading, if it is reading one, is the one that its line names
-abbrev pub ReadsItsFile : (m : State) (p : ℕ) (seat : Seat Worker) (unseen : List Outcome → List ℕ) → RunsJob m p seat unseen → Type 0
+abbrev pub ReadsItsFile : (m : State) (p : ℕ) (seat : Seat Worker) (unseen : List Outcome → List ℕ)
+    → RunsJob m p seat unseen → Type 0
 ReadsItsFile m p seat unseen (inl h) = Unit {0}
 ReadsItsFile m p seat unseen (inr (inl h)) = Unit {0}
 ReadsItsFile m p seat unseen (inr (inr i)) = ReadsNamed m seat.by seat.process.job (step_of m seat).begun (step_of m seat).doing
 
 -- It goes on, where some outcome may be settled: by a reply that is not rough one of those that were to come.
-pub record GoesOn (m n : State) (p : ℕ) (next : Seat Worker) (r : Reply) (unseen : List Outcome → List ℕ) (due : List Outcome) (Reads : Type 0) : Type 0 where
+pub record GoesOn (m n : State) (p : ℕ) (next : Seat Worker) (r : Reply) (unseen : List Outcome → List ℕ)
+    (due : List Outcome) (Reads : Type 0) : Type 0 where
   pub settled : List Outcome
   pub runs : RunsJob n p next (λ os. unseen (settled ++ os))
   pub truly : ArePlaced m → AreFiles m → is_rough r ≡ false → Reads

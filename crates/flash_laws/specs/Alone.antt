@@ -31,7 +31,8 @@ Picks conns Accepting made after = (after ≡ conns) × (made ≡ turn.Make call
 Picks conns (At fd) made after = PicksAt conns fd made after
 
 -- Between two turns all connections fit, with the reply to the call that is out taken as filed.
-pub record Flies (shelf : Shelf) (m : State) (p : Past) (conns : List (Option Conn)) (flight : Flight) (last : Reply) : Type 0 where
+pub record Flies (shelf : Shelf) (m : State) (p : Past) (conns : List (Option Conn)) (flight : Flight)
+    (last : Reply) : Type 0 where
   pub heard : List ℕ
   pub names : Names m last heard
   pub fit : AllFit shelf m p (filed conns flight last heard)

@@ -53,7 +53,8 @@ chosen Unsatisfiable bytes = unsatisfiable
 
 -- The response to a request with this outcome.
 abbrev pub response : Answer → Outcome → List ℕ
-response (serve w) (Found bytes) = file_text w (length bytes) ++ body_unless w.head_only (chosen (selected w.range (length bytes)) bytes)
+response (serve w) (Found bytes) = file_text w (length bytes)
+    ++ body_unless w.head_only (chosen (selected w.range (length bytes)) bytes)
 response (serve w) (Failed status) = error_text status w.head_only (not w.keep)
 response (refuse status head_only close) outcome = error_text status head_only close
 

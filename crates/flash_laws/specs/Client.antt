@@ -1,7 +1,7 @@
 -- One client as the server sees it: its connection, and the script that runs for the request in progress.
 --
--- A server that has workers answers a request for a name that ends in `.cgi` with what the script puts out. The script is opened and
--- read as any file; then its run has the connection until all is sent.
+-- A server that has workers answers a request for a name that ends in `.cgi` with what the script puts out. The script is
+-- opened and read as any file; then its run has the connection until all is sent.
 use Rattle.std.specs.Prelude.{◌≡◌, ℕ, ◌&&◌, Bool, true, false, List, [], Option, Some, None, is_some}
 use Rattle.iol_core.specs.declared.events.Call.{Call}
 use Rattle.iol_core.specs.declared.events.Call.TheVariants as call

@@ -1,5 +1,5 @@
--- The server keeps nothing of an answer that is over, be it of a file or of a script: what its calls bring it is used by the client
--- that they are made for, and what that client uses no more is given up.
+-- The server keeps nothing of an answer that is over, be it of a file or of a script: what its calls bring it is used by the
+-- client that they are made for, and what that client uses no more is given up.
 --
 -- As what it offers (`ClientOffers`), it is said of each call of its own, calm or not.
 use Rattle.std.specs.Prelude.{◌≡◌, ℕ, ◌==◌, ◌||◌, Bool, true, false, List, Option, Some, None}
@@ -36,7 +36,8 @@ pub record ClientKeepsNothing (scripts : Bool) : Type 0 where
       → lent_at m server a ≡ None → lent_at n server a ≡ Some bytes → uses_agg (told scripts worker x r heard) a ≡ true
   -- so is the descriptor of a file, and both ends of a pipe are
   pub opened : (m n : State) (fd worker f : ℕ) (x : Client) (heard : List ℕ) → x.run ≡ None
-      → StepsTo m (event.Call server (wants scripts fd x)) (reply.Fd f) n → has_fd (told scripts worker x (reply.Fd f) heard) f ≡ true
+      → StepsTo m (event.Call server (wants scripts fd x)) (reply.Fd f) n
+      → has_fd (told scripts worker x (reply.Fd f) heard) f ≡ true
   pub piped : (m : State) (worker from write : ℕ) (x : Client) (known : Known) (heard : List ℕ) (g : ℕ) → awaits x ≡ true
       → HasKnown scripts m x known → ((from == g) || (write == g)) ≡ true
       → has_fd (told scripts worker x (reply.Fds from write) heard) g ≡ true

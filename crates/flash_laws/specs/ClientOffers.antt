@@ -85,8 +85,8 @@ pub record ClientOffersTheResponse (scripts : Bool) : Type 0 where
   -- a request begins so, with nothing needed yet
   pub starts : (m : State) (fd : ℕ) (kept : List ℕ) (q : Answer) (o : Outcome)
       → FirstCall q (wants scripts fd (begun kept q)) × HasKnown scripts m (begun kept q) (OfFile o)
-  -- after the reply to its call more is known, or what was, and the machine has what is needed then; the worker that is free is one
-  -- that has a job pipe
+  -- after the reply to its call more is known, or what was, and the machine has what is needed then; the worker that is free
+  -- is one that has a job pipe
   pub replied : (m n : State) (fd c worker : ℕ) (x : Client) (r : Reply) (heard : List ℕ) (before : Known)
       → IsOrderly m → HasAccess m
       → is_live m server ≡ true → descriptor m server fd ≡ Some (on.Connection c)

@@ -209,8 +209,8 @@ module _ (shelf : Shelf) where
       × (shelf (name_of q) ≡ Found (content m i))
   Finds m q d = Unit {0}
 
-  -- Of a connection, where `came` came by arrivals, and `sent` went by segments: the server's descriptor is open on it; what it took
-  -- of the stream is what came before what waits; and it is tied.
+  -- Of a connection, where `came` came by arrivals, and `sent` went by segments: the server's descriptor is open on it; what
+  -- it took of the stream is what came before what waits; and it is tied.
   pub record Fits (m : State) (came sent : List ℕ) (fd c : ℕ) (x : Conn) : Type 0 where
     pub open_on : descriptor m server fd ≡ Some (on.Connection c)
     pub took : List ℕ

@@ -34,7 +34,8 @@ module _ {W : Type 0} (works : Account W) (Ready : State → ℕ → W → Reply
       → IsDone shelf after.machine (past_of xs rs) tied.seated.state.clients
 
   -- what holds at the end, if no turn was rough
-  pub record IsRight (shelf : Shelf) (xs : List Choice) (rs : List Reply) (idle : Bool) (after : Stage State (Actor W)) : Type 0 where
+  pub record IsRight (shelf : Shelf) (xs : List Choice) (rs : List Reply) (idle : Bool)
+      (after : Stage State (Actor W)) : Type 0 where
     pub answered : AllAnswered shelf xs rs after.machine
     pub whole : ClosedAreWhole shelf xs rs after.machine
     pub tied : Tied Ready shelf xs rs after

@@ -1,5 +1,5 @@
--- The server keeps nothing of an answer that is over: what its calls bring it is used by the connection they are made for, and what
--- that connection uses no more is given up.
+-- The server keeps nothing of an answer that is over: what its calls bring it is used by the connection they are made for,
+-- and what that connection uses no more is given up.
 --
 -- As what it offers (`Offers`), it is said of each call of its own, calm or not.
 use Rattle.std.specs.Prelude.{◌≡◌, ℕ, true, false, List, Some, None}

@@ -1,4 +1,5 @@
--- What the server offers for a request is the next bytes of the response to it, with the outcome of the calls that it made for it.
+-- What the server offers for a request is the next bytes of the response to it, with the outcome of the calls that it made
+-- for it.
 --
 -- It is said of each step, calm or not: what the machine has of a response it goes on having, unless somebody gives up or moves
 -- what the connection uses. That over a whole run nobody does is not said here.
@@ -36,8 +37,8 @@ abbrev pub FirstCall : Answer → Call → Type 0
 FirstCall (serve w) k = k ≡ call.OpenFile w.name modes.Read
 FirstCall (refuse status head_only close) k = k ≡ call.AggMake (error_text status head_only close)
 
--- The outcome of the calls, after the reply to one: the file is refused, or what was read of it is heard, or its length is told, as
--- that of some bytes; of other calls it stays as it was.
+-- The outcome of the calls, after the reply to one: the file is refused, or what was read of it is heard, or its length is
+-- told, as that of some bytes; of other calls it stays as it was.
 abbrev pub Learns : Doing → Reply → (heard : List ℕ) → (before after : Outcome) → Type 0
 Learns Opens (reply.Refused x) heard before after = after ≡ Failed (status_of x)
 Learns (Reads f) (reply.Agg n) heard before after = after ≡ Found heard

@@ -173,7 +173,8 @@ pub record HasPart (m : State) (w : Wanted) (o : Progress) (run : Run) (d : Doin
   pub continues : Continues w o part []
 
 -- what is held, and a piece that comes after it
-pub record HasPiece (m : State) (w : Wanted) (o : Progress) (run : Run) (held size piece len : ℕ) (frame : Option ℕ) : Type 0 where
+pub record HasPiece (m : State) (w : Wanted) (o : Progress) (run : Run) (held size piece len : ℕ)
+    (frame : Option ℕ) : Type 0 where
   pub reads : IsReading m run
   pub bytes : List ℕ
   pub more : List ℕ

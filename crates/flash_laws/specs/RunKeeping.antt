@@ -1,5 +1,5 @@
--- A run keeps nothing that it does not use: what its calls bring is used by it, and what it uses no more is given up. And it keeps to
--- itself: its calls touch nothing but what it has.
+-- A run keeps nothing that it does not use: what its calls bring is used by it, and what it uses no more is given up. And it
+-- keeps to itself: its calls touch nothing but what it has.
 --
 -- As what it offers (`RunOffers`), it is said of each call of its own, calm or not.
 use Rattle.std.specs.Prelude.{◌≡◌, ℕ, ◌==◌, ◌||◌, Bool, true, false, List, Some, None}
@@ -65,7 +65,8 @@ pub record KeepsToItself (m : State) (fd c : ℕ) (x : Running) (k : Call) : Typ
 
 pub record RunKeepsNothing (job : ℕ → List ℕ) : Type 0 where
   -- an aggregate that comes by a call for it is used by it
-  pub brought : (m n : State) (fd c worker : ℕ) (w : Wanted) (x : Running) (o : Progress) (r : Reply) (heard bytes : List ℕ) (a : ℕ)
+  pub brought : (m n : State) (fd c worker : ℕ) (w : Wanted) (x : Running) (o : Progress) (r : Reply)
+      (heard bytes : List ℕ) (a : ℕ)
       → IsOrderly m → descriptor m server fd ≡ Some (on.Connection c) → is_over x ≡ false → HasRun job m w o x
       → StepsTo m (event.Call server (wants job fd w x)) r n
       → lent_at m server a ≡ None → lent_at n server a ≡ Some bytes → uses_agg (told worker w x r heard) a ≡ true

@@ -160,8 +160,8 @@ is_handing (Runs run (Hands j f)) = true
 is_handing (Runs run (Lets j)) = true
 is_handing x = false
 
--- the pipe is given, the job made, written and let go, and the head made: each only once the call before it was done; and nothing of
--- the response is sent before
+-- the pipe is given, the job made, written and let go, and the head made: each only once the call before it was done; and
+-- nothing of the response is sent before
 abbrev pub ComesAfter : Running → Reply → Running → Type 0
 ComesAfter x r (Runs run (Makes f)) = (write : ℕ) × (x ≡ Runs run (Gives write)) × (r ≡ reply.Fd f)
 ComesAfter x r (Runs run (Hands j f)) = (x ≡ Runs run (Makes f)) × (r ≡ reply.Agg j)
@@ -216,7 +216,8 @@ pub record RunOffersTheResponse (job : ℕ → List ℕ) : Type 0 where
       → HasRun job m w o (Runs run (Hears held frame)) → held_size held < CHUNK_BYTES
   -- what is read is the first bytes of the pipe that the server reads, as many as are wanting of a chunk or fewer, and their end
   -- is told only where nobody writes any more
-  pub hears : (m n : State) (fd : ℕ) (w : Wanted) (o : Progress) (run : Run) (held : Option (ℕ × ℕ)) (frame : Option ℕ) (r : Reply)
+  pub hears : (m n : State) (fd : ℕ) (w : Wanted) (o : Progress) (run : Run) (held : Option (ℕ × ℕ))
+      (frame : Option ℕ) (r : Reply)
       → IsOrderly m → HasRun job m w o (Runs run (Hears held frame))
       → StepsTo m (event.Call server (wants job fd w (Runs run (Hears held frame)))) r n
       → (p : ℕ) × (descriptor m server run.from ≡ Some (on.ReadEnd p)) × ReadsPipe m server p (CHUNK_BYTES - held_size held) r n

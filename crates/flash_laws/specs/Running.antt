@@ -1,7 +1,7 @@
 -- A run of a script, by itself: what it uses, its next call, and what it is after the reply.
 --
--- It begins once the text of the script is read, and is the answer to a request that is served and is no HEAD. `job` is the text of
--- the job, which names the descriptor at which the worker has the pipe's write end.
+-- It begins once the text of the script is read, and is the answer to a request that is served and is no HEAD. `job` is the
+-- text of the job, which names the descriptor at which the worker has the pipe's write end.
 use Rattle.std.specs.Prelude.{ℕ, min, ◌+◌, ◌-◌, ◌==◌, ◌&&◌, ◌||◌, nat_lt, not, Bool, true, false, List, [], ◌∷◌, Option, Some, None, if◌then◌else◌}
 use Rattle.iol_core.specs.declared.refusals.Refusal.{Refusal}
 use Rattle.iol_core.specs.declared.refusals.Refusal.TheVariants as no
@@ -226,7 +226,8 @@ unread (Some x) frame = Unholds x.0 frame
 
 abbrev pub told_hears : Wanted → Run → Following → (frame : Option ℕ) → Reply → (heard : List ℕ) → Running
 told_hears w run held frame (reply.Agg n) [] = Runs run (Ended n held frame)
-told_hears w run held frame (reply.Agg n) (b ∷ heard) = Runs run (hearing run.broken w.chunked held frame n (count_of (b ∷ heard)))
+told_hears w run held frame (reply.Agg n) (b ∷ heard) =
+    Runs run (hearing run.broken w.chunked held frame n (count_of (b ∷ heard)))
 told_hears w run held frame (reply.Refused (no.Denied p)) heard = Runs (broken run) (unread held frame)
 told_hears w run held frame r heard = Runs run (Hears held frame)
 

@@ -36,7 +36,8 @@ heard_of (reply.Agg a) lent = unwrap_or (lent a) []
 heard_of r lent = []
 
 -- The client at this place is made ready, and its call is made. One that waits for a worker has its turn only where one is free.
-pub record PicksAt (workers : ℕ) (clients : List (Option Client)) (fd : ℕ) (made : Turn) (after : List (Option Client)) : Type 0 where
+pub record PicksAt (workers : ℕ) (clients : List (Option Client)) (fd : ℕ) (made : Turn)
+    (after : List (Option Client)) : Type 0 where
   pub was : Client
   pub ready : Client
   pub there : in_place clients fd ≡ Some was
@@ -52,8 +53,8 @@ Picks workers clients Nothing made after = (after ≡ clients) × (made ≡ turn
 Picks workers clients Accepting made after = (after ≡ clients) × (made ≡ turn.Make call.Accept)
 Picks workers clients (At fd) made after = PicksAt workers clients fd made after
 
--- Which may be picked next, where there are so many workers, and the clients are these, once the last reply is filed, and which call
--- it answered.
+-- Which may be picked next, where there are so many workers, and the clients are these, once the last reply is filed, and
+-- which call it answered.
 abbrev pub Policy : Type 1
 Policy = (workers : ℕ) → List (Option Client) → (was : Flight) → (last : Reply) → (next : Flight) → Type 0
 

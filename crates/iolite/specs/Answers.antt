@@ -69,7 +69,8 @@ pub record Replayed (given : List ℕ) (old new : Option (List ℕ)) : Type 0 wh
   pub answered : Answered setup asked answers
   pub printed : Appends old new (lines_of answers)
 
--- The same where it ended early: all lines are commands, a beginning of them was answered, and a beginning of the answers printed.
+-- The same where it ended early: all lines are commands, a beginning of them was answered, and a beginning of the answers
+-- printed.
 pub record Begun (given : List ℕ) (old new : Option (List ℕ)) : Type 0 where
   pub setup : Setup
   pub judged : IsJudged (commands given) setup
@@ -85,8 +86,8 @@ pub record Begun (given : List ℕ) (old new : Option (List ℕ)) : Type 0 where
   pub all : lines_of answers ≡ printed ++ left
   pub appended : Appends old new printed
 
--- Of lines as they stand, those that ask for something were answered from start on, ending in end, and each answer was printed or is
--- left to be.
+-- Of lines as they stand, those that ask for something were answered from start on, ending in end, and each answer was
+-- printed or is left to be.
 pub record Answering (ls : List (List ℕ)) (start end : SystemState) (old new : Option (List ℕ)) (left : List ℕ) : Type 0 where
   pub asked : List Line
   pub answers : List Answer

@@ -103,10 +103,14 @@ named w = named_in names w
 abbrev pub IsCalled : CallName → (rest : List ℕ) → Call → Type 0
 IsCalled (name.Number n) rest c = IsShort rest × (c ≡ of_number n (value rest))
 IsCalled (name.Aggregate n) rest c = IsLong rest × (c ≡ of_aggregate n (value rest))
-IsCalled (name.Pair n) rest c = IsShort (word rest) × IsShort (rest_of rest) × (c ≡ of_pair n (value (word rest)) (value (rest_of rest)))
-IsCalled (name.Part n) rest c = IsLong (word rest) × IsShort (rest_of rest) × (c ≡ of_part n (value (word rest)) (value (rest_of rest)))
-IsCalled name.AggJoin rest c = IsLong (word rest) × IsLong (rest_of rest) × (c ≡ call.AggJoin (value (word rest)) (value (rest_of rest)))
-IsCalled name.IolWrite rest c = IsShort (word rest) × IsLong (rest_of rest) × (c ≡ call.IolWrite (value (word rest)) (value (rest_of rest)))
+IsCalled (name.Pair n) rest c = IsShort (word rest) × IsShort (rest_of rest)
+    × (c ≡ of_pair n (value (word rest)) (value (rest_of rest)))
+IsCalled (name.Part n) rest c = IsLong (word rest) × IsShort (rest_of rest)
+    × (c ≡ of_part n (value (word rest)) (value (rest_of rest)))
+IsCalled name.AggJoin rest c = IsLong (word rest) × IsLong (rest_of rest)
+    × (c ≡ call.AggJoin (value (word rest)) (value (rest_of rest)))
+IsCalled name.IolWrite rest c = IsShort (word rest) × IsLong (rest_of rest)
+    × (c ≡ call.IolWrite (value (word rest)) (value (rest_of rest)))
 IsCalled name.AggCut rest c =
     let range = rest_of rest in
     IsLong (word rest) × IsShort (word range) × IsShort (rest_of range)

@@ -24,7 +24,8 @@ abbrev pub IsArrive : (rest : List ℕ) → Event → Type 0
 IsArrive rest e = IsShort (word rest) × (e ≡ event.Arrive (value (word rest)) (decoded (rest_of rest)))
 
 abbrev pub IsPeerClosed : (rest : List ℕ) → Event → Type 0
-IsPeerClosed rest e = IsShort (word rest) × ((how : How) × (rest_of rest ≡ how_word how) × (e ≡ event.PeerClosed (value (word rest)) how))
+IsPeerClosed rest e = IsShort (word rest)
+    × ((how : How) × (rest_of rest ≡ how_word how) × (e ≡ event.PeerClosed (value (word rest)) how))
 
 abbrev pub IsTransmit : (rest : List ℕ) → Event → Type 0
 IsTransmit rest e = IsShort (word rest) × IsShort (rest_of rest) × (e ≡ event.Transmit (value (word rest)) (value (rest_of rest)))

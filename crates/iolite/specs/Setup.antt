@@ -11,11 +11,16 @@ use Rattle.iolite.specs.Words.{IsLong, IsShort, rest_of, value, word}
 
 -- a line that begins with this word is one of them
 abbrev pub is_header : List ℕ → Bool
-is_header w = bytes_eq w (codes "config") || (bytes_eq w (codes "fault") || (bytes_eq w (codes "store") || bytes_eq w (codes "storen")))
+is_header w = bytes_eq w (codes "config")
+    || (bytes_eq w (codes "fault") || (bytes_eq w (codes "store") || bytes_eq w (codes "storen")))
 
 -- the sizes of a system, three words
 abbrev pub sizes_of : List ℕ → Config
-sizes_of words = record { chunks = value (word words); gen_limit = value (word (rest_of words)); sums = value (rest_of (rest_of words)) }
+sizes_of words = record {
+  chunks = value (word words);
+  gen_limit = value (word (rest_of words));
+  sums = value (rest_of (rest_of words));
+}
 
 -- `CHUNKS GENERATIONS SUMS`, each in its range
 pub record AreSizes (words : List ℕ) : Type 0 where
