@@ -1,12 +1,16 @@
 -- What a client does, by what its connection does.
-use Rattle.std.proofs.Common.{inl, inr, ◌≡◌, ◌≢◌, ℕ, ◌==◌, ◌||◌, if◌then◌else◌, length, List, [], Option, Some, None, Bool, true, false, refl, sym, ap, subst, arith, ◌∙◌}
-use Rattle.std.specs.Prelude.{option_map}
+use Rattle.std.proofs.Common.{inl, inr, ◌≡◌, ◌≢◌, ℕ, ◌<◌, ◌==◌, ◌||◌, if◌then◌else◌, length, List, [], Option, Some, None, Bool, true, false, refl, sym, ap, subst, arith, ◌∙◌}
+use Rattle.std.specs.Prelude.{◌&&◌, is_some, nat_le, option_map}
+use Rattle.std.specs.List.{slice_split}
+use Rattle.std.proofs.lemmas.Bool.Decides.{nat_tests}
+use Rattle.flash_cgi.specs.Script.{is_utf8, is_line_feed, lines_in}
+use Rattle.flash_cgi.specs.declared.script.TheConstants.{MAX_SCRIPT_BYTES}
 use Rattle.iol_core.specs.declared.events.Call.{Call}
 use Rattle.iol_core.specs.declared.events.Reply.{Reply}
 use Rattle.iol_core.specs.declared.events.Reply.TheVariants as reply
 use Rattle.flash_http.specs.Request.{Answer}
 use Rattle.flash_http.specs.Window.{window_in}
-use Rattle.flash_laws.specs.Client.{Client, Readies, is_bare, conn_wants, conn_told, file_told, told_spares, is_for_script, left_over, wants, awaits}
+use Rattle.flash_laws.specs.Client.{Client, Readies, is_bare, can_run, kept_if, conn_wants, conn_told, file_told, told_spares, is_for_script, left_over, wants, awaits}
 use Rattle.flash_laws.specs.Conn as conn
 use Rattle.flash_laws.specs.Conn.{Conn, is_head_only}
 use Rattle.flash_laws.specs.Policy as policy
@@ -184,6 +188,19 @@ file-found true kept q (Spares a Script) run script reply.Done heard false e is 
 file-found true kept q (Spares a Script) run script r heard true e is = ap (λ b. record { conn = at kept q (Spares a Script); run = told_spares b r; script = script }) e
 file-found true kept q (Spares a Script) run script r heard false e is = ap (λ b. record { conn = at kept q (Spares a Script); run = told_spares b r; script = script }) e
 file-found true kept q d run script r heard h e is = refl
+
+-- a text that is too long is no script, and not kept
+pub long_runs : (text : List ℕ) → MAX_SCRIPT_BYTES < length text → can_run text ≡ false
+long_runs text long =
+    let e : nat_le (length text) MAX_SCRIPT_BYTES ≡ false = grind (arith, nat_tests, long) in
+    ap (λ b. is_some (if b && is_utf8 text then lines_in (slice_split is_line_feed text) else None)) e
+
+kept-none : (h : Bool) (text : List ℕ) → kept_if h false text ≡ []
+kept-none true text = refl
+kept-none false text = refl
+
+pub long_kept : (h : Bool) (text : List ℕ) → MAX_SCRIPT_BYTES < length text → kept_if h (can_run text) text ≡ []
+long_kept h text long = ap (λ b. kept_if h b text) (long_runs text long) ∙ kept-none h text
 
 pub heard_goes : (scripts : Bool) (fd : ℕ) (x y : Client) (f n : ℕ) (heard : List ℕ) (k : Call) → y ≡ text_heard x f n heard
     → k ≡ conn_wants (is_for_script scripts y.conn.q) fd y.conn → GoesOn (text_heard x f n heard) reply.Done y × (k ≡ wants scripts fd y)

@@ -18,9 +18,8 @@ ghost use Rattle.flash_lite.specs.declared.site.TheConstants.{MAX_WORKERS};
 
 use crate::asking::is_head_only;
 use crate::conn::{Conn, Onward, is_later};
-use crate::heard::append;
 use crate::running::{after_run, keeps_text, next_call, told};
-use crate::scripts::{Found, can_run, is_for_script, kept_if, tells, whole};
+use crate::scripts::{Found, heard_text, is_for_script, tells, whole};
 use flash_http::Asked;
 use flash_laws::doing::{Content, Doing, Learnt};
 use flash_laws::running::Running;
@@ -140,12 +139,11 @@ impl Client {
             (text_heard self.old file agg (heard parts.entry)) self.old reply.Done o self.new) }
         ensures err { OnErr result (self.new ≡ self.old) }
     {
-        let mut text = Vec::new(self.alloc);
-        append(&mut text, parts)?;
-        let runs = can_run(self.alloc, text.as_slice())?;
+        let head_only = is_head_only(self.conn.asked());
+        let (runs, text) = heard_text(self.alloc, head_only, parts)?;
         let learnt = Learnt::Text { agg, runs };
         let call = self.conn.proceed(fd, Doing::Shuts { file, learnt })?;
-        self.script = kept_if(self.alloc, is_head_only(self.conn.asked()), runs, text);
+        self.script = text;
         Ok(Course::Asks(self.file_call(scripts, fd, call)))
     }
 

@@ -1,15 +1,18 @@
 //! A script is found: it is opened, read and closed as any file, but read whole for HEAD too, and
 //! its text is kept until the job is made.
-ghost use Rattle.std.specs.Prelude.{◌≡◌, IfOk};
+ghost use Rattle.std.specs.Prelude.{◌≡◌, ◌<◌, IfOk, MatchOption, length};
+ghost use Rattle.std.specs.List.{concat};
 ghost use Rattle.flash_http.specs.MediaType as names;
 ghost use Rattle.flash_http.specs.Request.{answer};
 ghost use Rattle.flash_laws.specs.Client as spec;
 ghost use Rattle.flash_lite.specs.Course as course;
+ghost use Rattle.flash_lite.specs.Heard.{heard};
 
 use crate::asking::MAX_READ_BYTES;
-use flash_cgi::script::Script;
+use flash_cgi::script::{MAX_SCRIPT_BYTES, Script};
 use flash_http::Asked;
 use flash_laws::doing::{Content, Doing};
+use iol_agg::Parts;
 use iol_core::events::{Call, Reply};
 use iol_core::numbers::{AggId, Fd};
 use std::alloc::{AllocError, Global};
@@ -114,21 +117,72 @@ pub(crate) fn whole(script: bool, doing: Doing, call: Call) -> Call
     }
 }
 
-/// Whether a text is a script.
-pub(crate) fn can_run(alloc: Global, text: &[u8]) -> Result<bool, AllocError>
+// The bytes of these parts, if they are no more than so many.
+fn gather_all(alloc: Global, parts: Parts<'_>, most: usize) -> Result<Option<Vec<u8>>, AllocError>
+    ensures { IfOk result (λ o. MatchOption o (most < length (concat parts.entry))
+        (λ bytes. bytes.items ≡ concat parts.entry)) }
+{
+    let mut bytes = Vec::new(alloc);
+    for part in parts {
+        if part.len() > most.saturating_sub(bytes.len()) {
+            return Ok(None);
+        }
+        bytes.extend_from_slice(part)?;
+    }
+    Ok(Some(bytes))
+}
+
+// The bytes that were read, if they are no more than so many.
+fn gather(
+    alloc: Global,
+    parts: Option<Parts<'_>>,
+    most: usize,
+) -> Result<Option<Vec<u8>>, AllocError>
+    ensures { IfOk result (λ o. MatchOption o (most < length (heard parts.entry))
+        (λ bytes. bytes.items ≡ heard parts.entry)) }
+{
+    match parts {
+        Some(parts) => gather_all(alloc, parts, most),
+        None => Ok(Some(Vec::new(alloc))),
+    }
+}
+
+// Whether a text is a script.
+fn can_run(alloc: Global, text: &[u8]) -> Result<bool, AllocError>
     ensures { IfOk result (λ runs. runs ≡ spec.can_run text.now) }
 {
     let script = Script::read(alloc, text)?;
     Ok(script.is_some())
 }
 
-/// The text that is kept: one that will run.
-pub(crate) fn kept_if(alloc: Global, head_only: bool, runs: bool, text: Vec<u8>) -> Vec<u8>
+// The text that is kept: one that will run.
+fn kept_if(alloc: Global, head_only: bool, runs: bool, text: Vec<u8>) -> Vec<u8>
     ensures { result.items ≡ spec.kept_if head_only runs text.items }
 {
     if head_only || !runs {
         Vec::new(alloc)
     } else {
         text
+    }
+}
+
+/// Whether the text that was read is a script, and what is kept of it. One that is too long for a
+/// script is not gathered.
+#[tactic(auto, using(crate::proofs::Clients::long_runs, crate::proofs::Clients::long_kept))]
+pub(crate) fn heard_text(
+    alloc: Global,
+    head_only: bool,
+    parts: Option<Parts<'_>>,
+) -> Result<(bool, Vec<u8>), AllocError>
+    ensures runs { IfOk result (λ r. r.0 ≡ spec.can_run (heard parts.entry)) }
+    ensures kept { IfOk result (λ r. r.1.items
+        ≡ spec.kept_if head_only (spec.can_run (heard parts.entry)) (heard parts.entry)) }
+{
+    match gather(alloc, parts, MAX_SCRIPT_BYTES)? {
+        Some(text) => {
+            let runs = can_run(alloc, text.as_slice())?;
+            Ok((runs, kept_if(alloc, head_only, runs, text)))
+        }
+        None => Ok((false, Vec::new(alloc))),
     }
 }
