@@ -14,3 +14,5 @@ pub mod Refusals
 pub mod NewNumbers
 pub mod ComeAndGo
 pub mod Bounds
+pub mod Sources
+pub mod Opening

@@ -12,3 +12,5 @@ pub mod RefusalsLeft
 pub mod Aggregates
 pub mod Lengths
 pub mod Labels
+pub mod Sources
+pub mod Opening

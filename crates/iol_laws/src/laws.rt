@@ -8,11 +8,13 @@ ghost use Rattle.iol_laws.specs.Frame.{EachStepLeavesTheRest};
 ghost use Rattle.iol_laws.specs.History.{HistoriesAddUp};
 ghost use Rattle.iol_laws.specs.Labels.{ArrivalsLieInTheirPool};
 ghost use Rattle.iol_laws.specs.Lengths.{LengthsStayBounded};
+ghost use Rattle.iol_laws.specs.Opening.{DescriptorsComeByReplies};
 ghost use Rattle.iol_laws.specs.Order.{EachStepKeepsOrder};
 ghost use Rattle.iol_laws.specs.Others.{OthersLeaveConnections, OthersLeavePipes};
 ghost use Rattle.iol_laws.specs.Reasons.{RefusalsTellWhy};
 ghost use Rattle.iol_laws.specs.RefusalsLeft.{RefusalsThatAreLeft};
 ghost use Rattle.iol_laws.specs.Rising.{ConnectionNumbersRise};
+ghost use Rattle.iol_laws.specs.Sources.{LabelsFollow};
 
 /// Each step leaves what its event does not touch: connections, pipes, descriptors, files, pools, which domains live and where
 /// what they make lies, and the aggregates that nobody gives up. A pool's list grows by one name at most, and loses none.
@@ -112,4 +114,17 @@ pub fn lengths_stay_bounded()
 /// a read of it.
 pub fn arrivals_lie_in_their_pool()
     ensures { ArrivalsLieInTheirPool }
+{}
+
+/// Bytes keep the pool that they were made in, whoever cuts, joins, passes or reads them: what is made, and what is written to a
+/// pipe, lies in the pools of what it is taken from. So a domain that may read these is never denied a read of the pipe, and takes of
+/// it all that it asks for.
+pub fn labels_follow()
+    ensures { LabelsFollow }
+{}
+
+/// A domain has a descriptor more only under a number that a reply gives it, its own or that of another's gift; and each such number
+/// is below the limit.
+pub fn descriptors_come_by_replies()
+    ensures { DescriptorsComeByReplies }
 {}

@@ -116,7 +116,7 @@ room-copied s p (Some (on.ReadEnd q)) bytes queue = least-labelled p (length byt
 room-copied s p (Some (on.WriteEnd q)) bytes queue = least-labelled p (length bytes) _ bytes
 room-copied s p (Some (on.Connection c)) bytes queue = least-labelled p (length bytes) _ bytes
 
-pipe-made : (s : State) (by : ℕ) → pipe_at (fds.pipe s by).after (lowest s.pipes) ≡ new_pipe
+pub pipe-made : (s : State) (by : ℕ) → pipe_at (fds.pipe s by).after (lowest s.pipes) ≡ new_pipe
 unfolding pipe_at
 pipe-made s by = ap (λ o. unwrap_or o no_pipe) (place-new s.pipes new_pipe)
 

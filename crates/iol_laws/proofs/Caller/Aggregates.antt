@@ -56,7 +56,7 @@ second_agg (reply.Aggs n m) = m
 second_agg r = 0
 
 -- what is found under two numbers one after another
-two-found : (kept : List (ℕ × Text)) (n : ℕ) (x y : Text) → ((a : ℕ) → n ≤ a → lookup kept a ≡ None) → (lookup (kept ++ (n, x) ∷ (n + 1, y) ∷ []) n ≡ Some x) × (lookup (kept ++ (n, x) ∷ (n + 1, y) ∷ []) (n + 1) ≡ Some y)
+pub two-found : (kept : List (ℕ × Text)) (n : ℕ) (x y : Text) → ((a : ℕ) → n ≤ a → lookup kept a ≡ None) → (lookup (kept ++ (n, x) ∷ (n + 1, y) ∷ []) n ≡ Some x) × (lookup (kept ++ (n, x) ∷ (n + 1, y) ∷ []) (n + 1) ≡ Some y)
 two-found kept n x y below =
     let both = append_assoc kept ((n, x) ∷ []) ((n + 1, y) ∷ []) in
     let one : lookup (kept ++ (n, x) ∷ []) n ≡ Some x = lookup-push kept n x (below n (omega arith)) in

@@ -25,7 +25,7 @@ use Rattle.iol_laws.proofs.Numbers.{lent-made, new-fd, number, text-of}
 use Rattle.iol_laws.proofs.Places.{lookup-without_none, lowest-free, place-new, place-set_free}
 
 -- both domains live, since the call was not refused
-both_live : (s : State) (d to : ℕ) (rest : List (Option Refusal)) → first ((refuse.NoDomain when (not (is_live s d) || not (is_live s to))) ∷ rest) ≡ None → (is_live s d ≡ true) × (is_live s to ≡ true)
+pub both_live : (s : State) (d to : ℕ) (rest : List (Option Refusal)) → first ((refuse.NoDomain when (not (is_live s d) || not (is_live s to))) ∷ rest) ≡ None → (is_live s d ≡ true) × (is_live s to ≡ true)
 both_live s d to rest none = by (is_live s d) (is_live s to) refl refl (passed ((refuse.NoDomain when (not (is_live s d) || not (is_live s to))) ∷ rest) 0 none)
   where
     by : (a b : Bool) → is_live s d ≡ a → is_live s to ≡ b → (refuse.NoDomain when (not a || not b)) ≡ None → (is_live s d ≡ true) × (is_live s to ≡ true)

@@ -98,14 +98,14 @@ home_reached slots t es rs run = home_run (new_state slots) t es rs (home_new sl
 
 -- Who may read the pool is never denied.
 
-abbrev is_other : Refusal → Bool
+abbrev pub is_other : Refusal → Bool
 is_other (refuse.Denied p) = false
 is_other x = true
 
-abbrev IsOther : Refusal → Type 0
+abbrev pub IsOther : Refusal → Type 0
 IsOther x = is_other x ≡ true
 
-barred-none : (may : ℕ → Bool) (t : Text) → list_all (λ b. may b.1) t ≡ true → barred may t ≡ None
+pub barred-none : (may : ℕ → Bool) (t : Text) → list_all (λ b. may b.1) t ≡ true → barred may t ≡ None
 barred-none may [] all = refl
 barred-none may (b ∷ t) all = by (may b.1) refl (barred-none may t)
   where

@@ -1,0 +1,78 @@
+-- Where lies what calls make and write: in the pools of what they take it from.
+use Rattle.std.specs.Prelude.{◌≡◌, ℕ, ◌==◌, Bool, true, false, List, [], ◌++◌, take, Option, Some}
+use Rattle.std.specs.List.{list_all}
+use Rattle.iol_core.specs.Text.{Text, labelled, admitted}
+use Rattle.iol_core.specs.State.{State, text, descriptor, file, content, may_read, pipe_at}
+use Rattle.iol_core.specs.Calls.Aggregates.{default_pool}
+use Rattle.iol_core.specs.Calls.Reading.{unread}
+use Rattle.iol_core.specs.Run.{StepsTo}
+use Rattle.iol_core.specs.declared.descriptors.Descriptor.{Descriptor}
+use Rattle.iol_core.specs.declared.descriptors.Descriptor.TheVariants as on
+use Rattle.iol_core.specs.declared.refusals.Refusal.TheVariants.{Denied}
+use Rattle.iol_core.specs.declared.events.Call.TheVariants as call
+use Rattle.iol_core.specs.declared.events.Event.{Event}
+use Rattle.iol_core.specs.declared.events.Event.TheVariants as event
+use Rattle.iol_core.specs.declared.events.Reply.{Reply}
+use Rattle.iol_core.specs.declared.events.Reply.TheVariants as reply
+use Rattle.iol_laws.specs.Order.{IsOrderly}
+use Rattle.iol_laws.specs.Aggregates.{brings}
+
+-- whether each byte lies in one of these pools
+abbrev pub lie_in : (pools : ℕ → Bool) → Text → Bool
+lie_in pools t = list_all (λ b. pools b.1) t
+
+-- what a read takes its bytes from: the file, or what waits in a pipe or on a connection
+abbrev pub read_from : State → Option Descriptor → Text
+read_from s (Some (on.File f at mode)) = labelled (file s f).pool (content s f)
+read_from s o = unread s o
+
+-- what an event takes the aggregates from that it makes, and the bytes that it puts in a queue
+abbrev pub taken_from : State → Event → Text
+taken_from s (event.Call by (call.AggMake bytes)) = labelled (default_pool s by) bytes
+taken_from s (event.Call by (call.AggDup a)) = text s by a
+taken_from s (event.Call by (call.AggCut a from to)) = text s by a
+taken_from s (event.Call by (call.AggSplit a at)) = text s by a
+taken_from s (event.Call by (call.AggJoin a b)) = text s by a ++ text s by b
+taken_from s (event.Call by (call.AggReplace a from to b)) = text s by a ++ text s by b
+taken_from s (event.Call by (call.AggGive a to)) = text s by a
+taken_from s (event.Call by (call.IolRead fd n)) = read_from s (descriptor s by fd)
+taken_from s (event.Call by (call.IolWrite fd a)) = text s by a
+taken_from s (event.Call by (call.Write fd bytes)) = labelled (default_pool s by) bytes
+taken_from s e = []
+
+abbrev pub is_write_end : (p : ℕ) → Option Descriptor → Bool
+is_write_end p (Some (on.WriteEnd q)) = q == p
+is_write_end p o = false
+
+-- whether it may write to this pipe
+abbrev pub writes_pipe : State → Event → (p : ℕ) → Bool
+writes_pipe s (event.Call by (call.IolWrite fd a)) p = is_write_end p (descriptor s by fd)
+writes_pipe s (event.Call by (call.Write fd bytes)) p = is_write_end p (descriptor s by fd)
+writes_pipe s e p = false
+
+-- whether the domain may read each of these pools
+abbrev pub MayReadAll : State → (d : ℕ) → (pools : ℕ → Bool) → Type 0
+MayReadAll s d pools = (q : ℕ) → pools q ≡ true → may_read s d q ≡ true
+
+-- Bytes keep the pool that they were made in, whoever cuts, joins, passes or reads them.
+pub record LabelsFollow : Type 0 where
+  -- an aggregate lies in these pools after an event where it did before, and where what it is made from does
+  pub aggs : (pools : ℕ → Bool) (s t : State) (e : Event) (r : Reply) (d a : ℕ) → IsOrderly s → StepsTo s e r t
+      → (brings e r d a ≡ true → lie_in pools (taken_from s e) ≡ true) → lie_in pools (text s d a) ≡ true
+      → lie_in pools (text t d a) ≡ true
+  -- so does what waits in a pipe
+  pub pipes : (pools : ℕ → Bool) (s t : State) (e : Event) (r : Reply) (p : ℕ) → StepsTo s e r t
+      → (writes_pipe s e p ≡ true → lie_in pools (taken_from s e) ≡ true) → lie_in pools (pipe_at s p).queue ≡ true
+      → lie_in pools (pipe_at t p).queue ≡ true
+  -- new bytes lie in the pool that they are made in, and two texts where each of them does
+  pub fresh : (pools : ℕ → Bool) (p : ℕ) (bytes : List ℕ) → pools p ≡ true → lie_in pools (labelled p bytes) ≡ true
+  pub both : (pools : ℕ → Bool) (x y : Text) → lie_in pools x ≡ true → lie_in pools y ≡ true → lie_in pools (x ++ y) ≡ true
+  -- a domain that may read all these pools is never denied what lies in them, and takes of it all that it asks for
+  pub reads : (pools : ℕ → Bool) (s t : State) (d fd p n q : ℕ) → MayReadAll s d pools
+      → lie_in pools (pipe_at s p).queue ≡ true → descriptor s d fd ≡ Some (on.ReadEnd p)
+      → StepsTo s (event.Call d (call.IolRead fd n)) (reply.Refused (Denied q)) t → ⊥
+  pub copies : (pools : ℕ → Bool) (s t : State) (d fd p n q : ℕ) → MayReadAll s d pools
+      → lie_in pools (pipe_at s p).queue ≡ true → descriptor s d fd ≡ Some (on.ReadEnd p)
+      → StepsTo s (event.Call d (call.Read fd n)) (reply.Refused (Denied q)) t → ⊥
+  pub whole : (pools : ℕ → Bool) (s : State) (d p n : ℕ) → MayReadAll s d pools → lie_in pools (pipe_at s p).queue ≡ true
+      → admitted (may_read s d) (take n (pipe_at s p).queue) ≡ take n (pipe_at s p).queue
