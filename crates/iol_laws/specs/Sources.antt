@@ -56,10 +56,10 @@ MayReadAll s d pools = (q : ℕ) → pools q ≡ true → may_read s d q ≡ tru
 
 -- Bytes keep the pool that they were made in, whoever cuts, joins, passes or reads them.
 pub record LabelsFollow : Type 0 where
-  -- an aggregate lies in these pools after an event where it did before, and where what it is made from does
+  -- an aggregate lies in these pools after an event where what it is made from does, or, if it is not new, where it did before
   pub aggs : (pools : ℕ → Bool) (s t : State) (e : Event) (r : Reply) (d a : ℕ) → IsOrderly s → StepsTo s e r t
-      → (brings e r d a ≡ true → lie_in pools (taken_from s e) ≡ true) → lie_in pools (text s d a) ≡ true
-      → lie_in pools (text t d a) ≡ true
+      → (brings e r d a ≡ true → lie_in pools (taken_from s e) ≡ true)
+      → (brings e r d a ≡ false → lie_in pools (text s d a) ≡ true) → lie_in pools (text t d a) ≡ true
   -- so does what waits in a pipe
   pub pipes : (pools : ℕ → Bool) (s t : State) (e : Event) (r : Reply) (p : ℕ) → StepsTo s e r t
       → (writes_pipe s e p ≡ true → lie_in pools (taken_from s e) ≡ true) → lie_in pools (pipe_at s p).queue ≡ true

@@ -206,9 +206,9 @@ module _ (pools : ℕ → Bool) where
       by (Some x) is true gives false answered = lie-unlent t d a (gone_step s t e r d a order step gives answered)
       by (Some x) is true gives true refused = subst (λ u. Lie (text u d a)) (sym (refused-same s t e r step refused)) lies
 
-  pub lie_step : (s t : State) (e : Event) (r : Reply) (d a : ℕ) → IsOrderly s → StepsTo s e r t → (brings e r d a ≡ true → Lie (taken_from s e)) → Lie (text s d a) → Lie (text t d a)
+  pub lie_step : (s t : State) (e : Event) (r : Reply) (d a : ℕ) → IsOrderly s → StepsTo s e r t → (brings e r d a ≡ true → Lie (taken_from s e)) → (brings e r d a ≡ false → Lie (text s d a)) → Lie (text t d a)
   lie_step s t e r d a order step from lies = by (brings e r d a) refl
     where
       by : (b : Bool) → brings e r d a ≡ b → Lie (text t d a)
       by true is = lie-new s t e r d a order step is (from is)
-      by false un = lie-old s t e r d a order step un lies
+      by false un = lie-old s t e r d a order step un (lies un)
