@@ -6,6 +6,7 @@ pub mod TargetLemmas
 pub mod HeadLemmas
 pub mod OneAnswer
 pub mod ServedRequests
+pub mod QueryLengths
 pub mod StatusTexts
 pub mod ChunkLines
 pub mod SelectionLaws

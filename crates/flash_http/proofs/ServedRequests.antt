@@ -66,7 +66,7 @@ served_from : (r : Reading) (w : Wanted) (o : Option Answer) → (o ≡ Some (se
 served_from r w None no_serve h = h
 served_from r w (Some refused) no_serve h = absurd (no_serve (ap (λ a. Some a) (sym h)))
 
-from_reading : (r : Reading) (w : Wanted) → Asks (Some r) (serve w) → (file : Option (List ℕ × List ℕ)) × TargetIs r.target file × (serve w ≡ served r file)
+pub from_reading : (r : Reading) (w : Wanted) → Asks (Some r) (serve w) → (file : Option (List ℕ × List ℕ)) × TargetIs r.target file × (serve w ≡ served r file)
 from_reading r w h = served_from r w (refusal r) (no_refusal (not (is_host_fine r) || has_content r.fields) (is_served_method r.method) r _ w) h
 
 by_reading : (o : Option Reading) (w : Wanted) → Asks o (serve w) → IsPlainName w.name

@@ -141,3 +141,7 @@ ClosesWithoutChunks = (head : List ℕ) (w : Wanted) → IsAnswerTo head (serve 
 -- whatever the head, HEAD asks for all of the file
 abbrev pub HeadsHaveNoRange : Type 0
 HeadsHaveNoRange = (head : List ℕ) (w : Wanted) → IsAnswerTo head (serve w) → w.head_only ≡ true → w.range ≡ None
+
+-- whatever the head, a query is no longer than it
+abbrev pub QueriesFit : Type 0
+QueriesFit = (head : List ℕ) (w : Wanted) → IsAnswerTo head (serve w) → length w.query ≤ length head

@@ -148,10 +148,11 @@ pub fn one_answer()
     ensures { spec.OneAnswer }
 {}
 
-/// What is served, whatever the head: its name is plain, where no chunks may be sent the connection closes, and HEAD has
-/// no range. A law: the call does nothing.
+/// What is served, whatever the head: its name is plain, where no chunks may be sent the connection closes, HEAD has no range,
+/// and its query is no longer than the head. A law: the call does nothing.
 pub fn served_requests()
     ensures names { spec.NamesArePlain }
     ensures closes { spec.ClosesWithoutChunks }
     ensures ranges { spec.HeadsHaveNoRange }
+    ensures queries { spec.QueriesFit }
 {}
