@@ -18,6 +18,7 @@ pub mod Serving
 pub mod Worlds
 pub mod Blocked
 pub mod Settling
+pub mod Rounding
 pub mod Idling
 pub mod Hosting
 pub mod Repeats

@@ -50,7 +50,7 @@ pub record Found (free : Bool) (clients : List (Option Client)) (from : ℕ) (o 
   pub before : (fd : ℕ) → o ≡ Some fd → (i : ℕ) → from ≤ i → i < fd → goes_in free (in_place clients i) ≡ false
   pub none : o ≡ None → (i : ℕ) → from ≤ i → goes_in free (in_place clients i) ≡ false
 
-found : (workers : ℕ) (clients : List (Option Client)) (from : ℕ) → Found (has_free workers clients) clients from (next_place workers clients from)
+pub found : (workers : ℕ) (clients : List (Option Client)) (from : ℕ) → Found (has_free workers clients) clients from (next_place workers clients from)
 found workers clients from = in_free (has_free workers clients)
   where
     in_free : (free : Bool) → Found free clients from (option_map (λ k. from + k) (position (λ o. goes_in free o) (drop from clients)))

@@ -1,24 +1,24 @@
 -- Each script that runs has a worker of its own.
-use Rattle.std.proofs.Common.{inl, inr, ◌≡◌, ◌≢◌, ℕ, zero, suc, ◌==◌, ◌<◌, ◌⊎◌, List, [], ◌∷◌, length, get_or, ap, ◌∙◌, refl, sym, subst, arith, Option, Some, None, true, false, Bool, zero-add}
-use Rattle.std.specs.Prelude.{not, ◌||◌}
+use Rattle.std.proofs.Common.{inl, inr, ◌≡◌, ◌≢◌, ℕ, zero, suc, ◌+◌, ◌==◌, ◌<◌, ◌≤◌, ◌⊎◌, List, [], ◌∷◌, length, get_or, ap, ◌∙◌, refl, sym, subst, arith, Option, Some, None, true, false, Bool, zero-add}
+use Rattle.std.specs.Prelude.{not, nat_lt, ◌||◌}
 use Rattle.std.specs.List.{list_any, position_or_len, range_with_len}
 use Rattle.std.proofs.lemmas.Bool.{cases_eq}
 use Rattle.std.proofs.lemmas.Bool.Decides.{nat_tests}
 use Rattle.std.proofs.lemmas.List.FromFn.{get_or-range_with_len, length-range_with_len}
-use Rattle.std.proofs.lemmas.List.Sums.{passes_at_first}
+use Rattle.std.proofs.lemmas.List.Sums.{fails_before_first, passes_at_first}
 use Rattle.iol_core.specs.Numbered.{in_place}
 use Rattle.iol_core.specs.declared.events.Reply.{Reply}
 use Rattle.iol_core.specs.declared.events.Reply.TheVariants as reply
 use Rattle.iol_proc.specs.declared.process.Turn.{Turn}
 use Rattle.flash_http.specs.Request.{Answer, serve, refuse, Wanted}
-use Rattle.flash_laws.specs.Client.{Client, new_client, is_for_script, Readies, told_spares, file_told, goes_on, run_told, told, left_over, awaits}
+use Rattle.flash_laws.specs.Client.{Client, new_client, uses_agg, uses_fd, is_for_script, Readies, told_spares, file_told, goes_on, run_told, told, left_over, awaits}
 use Rattle.flash_laws.specs.Conn.{Conn, is_head_only}
 use Rattle.flash_laws.specs.Places.{has_worker, is_run_by, runs_at, is_free, first_free, has_free, may_go, EachHasItsOwn, runs_scripts, told_at, accepted, filed}
 use Rattle.flash_laws.specs.RunOffers.{HasWorker}
 use Rattle.flash_laws.specs.Running as running
 use Rattle.flash_laws.specs.Running.{is_over, told_awaits}
 use Rattle.flash_laws.specs.Serves.{heard_of, filed_in, Picks, any}
-use Rattle.flash_laws.specs.Sharing.{FlightGoes, WorkersAreShared}
+use Rattle.flash_laws.specs.Sharing.{FlightGoes, RunsForAnother, WorkersAreShared}
 use Rattle.flash_laws.specs.Tied.{with_at}
 use Rattle.flash_laws.specs.declared.doing.Content.TheVariants.{Body, Bare, Error, Script}
 use Rattle.flash_laws.specs.declared.doing.Doing.{Doing}
@@ -242,8 +242,93 @@ module _ (workers : ℕ) (clients : List (Option Client)) (own : EachHasItsOwn w
       let same : p.ready ≡ x = some-inj p.ready x (sym (at-same clients fd (Some p.ready)) ∙ (ap (λ (l : List (Option Client)). in_place l fd) (sym p.after_is) ∙ is)) in
       ap (λ (z : Client). may_go (has_free workers after) z) (sym same) ∙ p.goes
 
+-- ---- who waits
+
+all-busy : (workers : ℕ) (clients : List (Option Client)) (k : ℕ) → nat_lt (first_free workers clients) workers ≡ false → k < workers → is_free clients k ≡ false
+all-busy workers clients k none lt =
+    let past : workers ≤ first_free workers clients = grind (arith, nat_tests, none) in
+    let before : k < first_free workers clients = omega (arith, past, lt) in
+    let at : get_or (range_with_len 0 workers) k 0 ≡ k = get_or-range_with_len 0 workers k 0 lt ∙ zero-add k in
+    ap (λ j. is_free clients j) (sym at) ∙ fails_before_first (λ j. is_free clients j) (range_with_len 0 workers) k 0 before
+
+-- a place that passes
+pub record Passes {A : Type 0} (p : Option A → Bool) (xs : List (Option A)) : Type 0 where
+  pub place : ℕ
+  pub passes : p (in_place xs place) ≡ true
+
+some-any : {A : Type 0} (p : Option A → Bool) (xs : List (Option A)) → list_any p xs ≡ true → Passes p xs
+some-any p [] is = absurd (cc (is))
+some-any {A} p (x ∷ xs) is = by (p x) refl is (λ later. some-any p xs later)
+  where
+    by : (b : Bool) → p x ≡ b → (b || list_any p xs) ≡ true → (list_any p xs ≡ true → Passes p xs) → Passes p (x ∷ xs)
+    by true at is rest = record { place = 0; passes = at }
+    by false at is rest = record { place = (rest is).place + 1; passes = at-next (rest is).place (rest is).passes }
+      where
+        at-next : (i : ℕ) → p (in_place xs i) ≡ true → p (in_place (x ∷ xs) (i + 1)) ≡ true
+        at-next i is = let e : i + 1 ≡ suc i = omega arith in ap (λ z. p (in_place (x ∷ xs) z)) e ∙ is
+
+runs-one : (clients : List (Option Client)) (k : ℕ) → is_free clients k ≡ false → Passes (λ (o : Option Client). runs_at k o) clients
+runs-one clients k busy = by (list_any (λ o. runs_at k o) clients) refl busy
+  where
+    by : (b : Bool) → list_any (λ o. runs_at k o) clients ≡ b → not b ≡ false → Passes (λ (o : Option Client). runs_at k o) clients
+    by true is busy = some-any (λ (o : Option Client). runs_at k o) clients is
+    by false is busy = absurd (cc (busy))
+
+waits-none : (c : Conn) (run : Option Running) (script : List ℕ) (k : ℕ) → awaits (of c run script) ≡ true → is_run_by (of c run script) k ≡ false
+waits-none c None script k waits = refl
+waits-none c (Some Awaits) script k waits = refl
+waits-none c (Some (Runs run s)) script k waits = absurd (cc (waits))
+waits-none c (Some (Leaves d)) script k waits = refl
+waits-none c (Some Ends) script k waits = refl
+
+another : (clients : List (Option Client)) (fd k : ℕ) (x : Client) → in_place clients fd ≡ Some x → awaits x ≡ true → is_free clients k ≡ false → RunsForAnother clients fd k
+another clients fd k x there waits busy =
+    let one = runs-one clients k busy in
+    by one.place (in_place clients one.place) refl one.passes
+  where
+    by : (gd : ℕ) (o : Option Client) → in_place clients gd ≡ o → runs_at k o ≡ true → RunsForAnother clients fd k
+    by gd None at runs = absurd (cc (runs))
+    by gd (Some y) at runs = record {
+      place = gd;
+      client = y;
+      there = at;
+      runs = runs;
+      other = λ same. (let mine : y ≡ x = some-inj y x (sym at ∙ (ap (λ z. in_place clients z) (sym same) ∙ there)) in
+          clash (is_run_by y k) runs (ap (λ (z : Client). is_run_by z k) mine ∙ waits-none x.conn x.run x.script k waits));
+    }
+
+passed-over : (free waits : Bool) → (free || not waits) ≡ false → (free ≡ false) × (waits ≡ true)
+passed-over true waits is = absurd (cc (is))
+passed-over false true is = (refl, refl)
+passed-over false false is = absurd (cc (is))
+
+waits : (workers : ℕ) (clients : List (Option Client)) (fd : ℕ) (x : Client) → in_place clients fd ≡ Some x → may_go (has_free workers clients) x ≡ false
+    → (awaits x ≡ true) × ((k : ℕ) → k < workers → RunsForAnother clients fd k)
+waits workers clients fd x there passed =
+    let both = passed-over (has_free workers clients) (awaits x) passed in
+    (both.1, λ k lt. another clients fd k x there both.1 (all-busy workers clients k both.0 lt))
+
+going : (free : Bool) (k : ℕ) (c : Conn) (run : Option Running) (script : List ℕ) → is_run_by (of c run script) k ≡ true → may_go free (of c run script) ≡ true
+going free k c None script runs = absurd (cc (runs))
+going free k c (Some Awaits) script runs = absurd (cc (runs))
+going true k c (Some (Runs run s)) script runs = refl
+going false k c (Some (Runs run s)) script runs = refl
+going free k c (Some (Leaves d)) script runs = absurd (cc (runs))
+going free k c (Some Ends) script runs = absurd (cc (runs))
+
+waiting : (c : Conn) (run : Option Running) (script : List ℕ) → awaits (of c run script) ≡ true
+    → ((a : ℕ) → uses_agg (of c run script) a ≡ false) × ((g : ℕ) → uses_fd (of c run script) g ≡ false)
+waiting c None script waits = absurd (cc (waits))
+waiting c (Some Awaits) script waits = (λ a. refl, λ g. refl)
+waiting c (Some (Runs run s)) script waits = absurd (cc (waits))
+waiting c (Some (Leaves d)) script waits = absurd (cc (waits))
+waiting c (Some Ends) script waits = absurd (cc (waits))
+
 pub workers_shared : WorkersAreShared
 workers_shared = record {
+  waits = waits;
+  going = λ free k x runs. going free k x.conn x.run x.script runs;
+  waiting = λ x is. waiting x.conn x.run x.script is;
   first = λ workers. record {
     own = record { apart = λ fd gd k x y is_x is_y u v. absurd (cc (is_x)); among = λ fd k x is u. absurd (cc (is)) };
     goes = tt;

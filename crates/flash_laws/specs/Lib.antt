@@ -10,6 +10,7 @@ pub mod Client
 pub mod Places
 pub mod Serves
 pub mod Rounds
+pub mod GoesRound
 pub mod Sharing
 pub mod Workers
 pub mod Tie

@@ -4,6 +4,7 @@ ghost use Rattle.iol_core.specs.State.{State};
 ghost use Rattle.iol_core.specs.declared.events.Reply.{Reply};
 ghost use Rattle.iol_proc.specs.Settled.{Settles};
 ghost use Rattle.iol_proc.specs.declared.process.Turn.{Turn};
+ghost use Rattle.flash_laws.specs.GoesRound.{TurnsGoRound};
 ghost use Rattle.flash_laws.specs.Host.{ActorsSettle, HostIsRight, IdleIsDone};
 ghost use Rattle.flash_laws.specs.Keeping.{KeepsNothing};
 ghost use Rattle.flash_laws.specs.Offers.{OffersTheResponse};
@@ -128,6 +129,13 @@ pub fn site_law()
 {
     laws::each_step_leaves_the_rest();
 }
+
+/// Turns go round: a client whose call is to be made again later is passed, and so is one that has to wait for a worker, or for which
+/// nothing is left to do but to read more; the next turn is that of the first behind it that may have one; past all places connections
+/// are accepted while there are any, and then the server yields. So a client waits for another only while that is being answered.
+pub fn rounds_law()
+    ensures { TurnsGoRound }
+{}
 
 /// Each script that runs has a worker of its own, whichever call the server picks: so it is of a new server, however many workers it
 /// has, and each turn leaves it so. For a server that has no workers no script runs.
