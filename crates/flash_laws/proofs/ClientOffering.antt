@@ -19,10 +19,11 @@ use Rattle.iol_laws.specs.CallerFiles as of
 use Rattle.iol_laws.specs.CallerFiles.{FileCallsServeTheirDomain}
 use Rattle.iol_laws.specs.Frame.{EachStepLeavesTheRest, touches_fd}
 use Rattle.iol_laws.specs.Order.{IsOrderly}
+use Rattle.iol_laws.specs.RefusalsLeft.{RefusalsThatAreLeft}
 use Rattle.flash_http.specs.Request.{Answer, serve, refuse, Wanted}
 use Rattle.flash_laws.specs.Answers.{Outcome, Failed, response, script_text}
 use Rattle.flash_laws.specs.Client.{Client, uses_agg, uses_fd, is_for_script, conn_wants, job_of, wants, can_run, kept_if, told_spares, conn_told, file_told, keeps_text, text_on, after_run, goes_on, run_told, run_on, told, awaits}
-use Rattle.flash_laws.specs.ClientOffers.{begun, is_ending, ConnLearns, Learns, taken_by, HandsJob, ClientsAreOfferedTheResponse}
+use Rattle.flash_laws.specs.ClientOffers.{begun, is_ending, ConnLearns, Learns, taken_by, HandsJob, IsAsItsConn, IsAsItsRun, ClientsAreOfferedTheResponse}
 use Rattle.flash_laws.specs.Conn as conn
 use Rattle.flash_laws.specs.Conn.{Conn, most_read, status_of}
 use Rattle.flash_laws.specs.declared.doing.Learnt.TheVariants.{File, Length, Fails, Text as TextOf}
@@ -36,7 +37,7 @@ use Rattle.flash_laws.specs.declared.running.Running.{Running}
 use Rattle.flash_laws.specs.declared.running.Running.TheVariants.{Runs, Leaves}
 use Rattle.flash_laws.specs.Fits.{IsFile, Has, is_closing, Names}
 use Rattle.flash_laws.specs.Known as known
-use Rattle.flash_laws.specs.Known.{Known, OfFile, OfScript, MayPutOut, IsNextOf, is_read, is_silent, ReadsOn, HasNoRun, IsRun, HasFile, HasKnown}
+use Rattle.flash_laws.specs.Known.{Known, OfFile, OfScript, MayPutOut, IsNextOf, is_read, is_silent, IsAfter, ReadsOn, HasNoRun, IsRun, HasFile, HasKnown}
 use Rattle.flash_laws.specs.Offers as single
 use Rattle.flash_laws.specs.RunFits.{Progress, nothing_yet, HasJobPipe, HasRun}
 use Rattle.flash_laws.specs.RunOffers.{past_of, IsNextOf as IsNextOfRun, taken_by as taken_by_run}
@@ -44,12 +45,13 @@ use Rattle.flash_laws.specs.Running as running
 use Rattle.flash_laws.specs.Running.{in_phase, is_over, job_pipe}
 use Rattle.flash_laws.specs.Site.{server}
 use Rattle.flash_laws.proofs.ClientMoving.{client-moves}
+use Rattle.flash_laws.proofs.ClientNearing.{rank, client-nears}
 use Rattle.flash_laws.proofs.ClientPhases as phases
 use Rattle.flash_laws.proofs.ClientPhases.{at, Next, next-due, script-writes, asks-told, unread-told, read-told}
 use Rattle.flash_laws.proofs.Lent.{lent-stays, has-stays}
 use Rattle.flash_laws.proofs.Lists.{clash}
 use Rattle.flash_laws.proofs.Offering as offering
-use Rattle.flash_laws.proofs.RunEnds.{IsEnd, run-ends, keeps-back, wants-text}
+use Rattle.flash_laws.proofs.RunEnds.{IsEnd, run-ends, all-taken, run-after, keeps-back, wants-text}
 use Rattle.flash_laws.proofs.RunOffering.{part-next, left-next}
 use Rattle.flash_laws.proofs.RunOffering as running_on
 use Rattle.flash_laws.proofs.RunStays.{run_stays}
@@ -109,10 +111,49 @@ silent-told kept q (Sent a taken more) r heard silent unread busy = absurd (cc (
 silent-told kept q Over r heard silent unread busy = absurd (cc (silent))
 silent-told kept q Closes r heard silent unread busy = absurd (cc (busy))
 
--- the text of a script is not yet to run, or has run
-no-text : (b : Bool) (x : Client) (text : List ℕ) (o : Progress) → b ≡ false → ReadsOn b x text o
-no-text true x text o is = absurd (cc (is))
-no-text false x text o is = tt
+-- after a run nothing more is taken of its response
+after-told : (w : Wanted) (o : Progress) (kept : List ℕ) (d : Doing) (r : Reply) (heard : List ℕ) → is_silent d ≡ true → is_read d ≡ false → is_closing d ≡ false
+    → IsAfter w o d → IsAfter w o (conn.told (at kept (serve w) d) r heard).doing
+after-told w o kept Rests (reply.Agg n) [] silent unread busy after = all-taken w o after.0
+after-told w o kept Rests (reply.Agg n) (b ∷ heard) silent unread busy after = after
+after-told w o kept Rests r heard silent unread busy after = after
+after-told w o kept (Got a) reply.Done heard silent unread busy after = after
+after-told w o kept (Got a) r heard silent unread busy after = after
+after-told w o kept (Breaks piece a more) reply.Done heard silent unread busy after = after
+after-told w o kept (Breaks piece a more) r heard silent unread busy after = after
+after-told w o kept (Drops a None) reply.Done heard silent unread busy after = after
+after-told w o kept (Drops a (Some x)) reply.Done heard silent unread busy after = after
+after-told w o kept (Drops a more) r heard silent unread busy after = after
+after-told w o kept Opens r heard silent unread busy after = absurd (cc (silent))
+after-told w o kept (Reading f) r heard silent unread busy after = absurd (cc (silent))
+after-told w o kept (Shuts f (File a len)) r heard silent unread busy after = absurd (cc (silent))
+after-told w o kept (Shuts f (Length len)) r heard silent unread busy after = absurd (cc (silent))
+after-told w o kept (Shuts f (Fails status)) r heard silent unread busy after = absurd (cc (silent))
+after-told w o kept (Shuts f (TextOf a false)) r heard silent unread busy after = absurd (cc (silent))
+after-told w o kept (Shuts f (TextOf a true)) r heard silent unread busy after = absurd (cc (unread))
+after-told w o kept (Picks a first last len) r heard silent unread busy after = absurd (cc (silent))
+after-told w o kept (Spares a (Body b size len)) r heard silent unread busy after = absurd (cc (silent))
+after-told w o kept (Spares a (Bare len)) r heard silent unread busy after = absurd (cc (silent))
+after-told w o kept (Spares a (Error status)) r heard silent unread busy after = absurd (cc (silent))
+after-told w o kept (Spares a Script) r heard silent unread busy after = absurd (cc (unread))
+after-told w o kept (Heads k) r heard silent unread busy after = absurd (cc (silent))
+after-told w o kept (Joins a size body len) r heard silent unread busy after = absurd (cc (silent))
+after-told w o kept (Sends a len taken more) r heard silent unread busy after = absurd (cc (silent))
+after-told w o kept (Cuts a from len taken more) r heard silent unread busy after = absurd (cc (silent))
+after-told w o kept (Offers a from len piece taken more) r heard silent unread busy after = absurd (cc (silent))
+after-told w o kept (Swaps a from len piece taken more) r heard silent unread busy after = absurd (cc (silent))
+after-told w o kept (Sent a taken more) r heard silent unread busy after = absurd (cc (silent))
+after-told w o kept Over r heard silent unread busy after = absurd (cc (silent))
+after-told w o kept Closes r heard silent unread busy after = absurd (cc (busy))
+
+-- the text of a script has run
+no-text : (b : Bool) (w : Wanted) (x : Client) (text : List ℕ) (o : Progress) → b ≡ false → IsAfter w o x.conn.doing → ReadsOn b w x text o
+no-text true w x text o is after = absurd (cc (is))
+no-text false w x text o is after = after
+
+run-is-over : (b : Bool) (w : Wanted) (x : Client) (text : List ℕ) (o : Progress) → b ≡ false → ReadsOn b w x text o → IsAfter w o x.conn.doing
+run-is-over true w x text o is reads = absurd (cc (is))
+run-is-over false w x text o is reads = reads
 
 module _ (steps : EachStepLeavesTheRest) (own : CallsServeTheirDomain) (files : FileCallsServeTheirDomain) (scripts : Bool)
     (m n : State) (order : IsOrderly m) (access : HasAccess m) (lives : is_live m server ≡ true) (fd c : ℕ)
@@ -144,7 +185,7 @@ module _ (steps : EachStepLeavesTheRest) (own : CallsServeTheirDomain) (files : 
       still : n ≡ m → IsFile n g
       still same = (i, pos, subst (λ (s : State). descriptor s server g ≡ Some (on.File i pos modes.Read)) (sym same) opened)
 
-      sends : (a : ℕ) (h : Bool) → known.Sends h (record { conn = at kept (serve w) (Shuts g (TextOf a true)); run = None; script = kept_if h true heard }) heard nothing_yet
+      sends : (a : ℕ) (h : Bool) → known.Sends h w (record { conn = at kept (serve w) (Shuts g (TextOf a true)); run = None; script = kept_if h true heard }) heard nothing_yet
       sends a true = refl
       sends a false = (refl, record { kept = refl; fresh = refl })
 
@@ -217,11 +258,12 @@ module _ (steps : EachStepLeavesTheRest) (own : CallsServeTheirDomain) (files : 
       sends = sends w.head_only has.sends;
     }
       where
-        sends : (h : Bool) → known.Sends h (of_doing (serve w) d) text o → known.Sends h (conn_told (of_doing (serve w) d) r heard) text o
+        sends : (h : Bool) → known.Sends h w (of_doing (serve w) d) text o → known.Sends h w (conn_told (of_doing (serve w) d) r heard) text o
         sends true fresh = fresh
         sends false was = (
           silent-told kept (serve w) d r heard was.0 unread busy,
-          no-text (is_read (conn.told (at kept (serve w) d) r heard).doing) (conn_told (of_doing (serve w) d) r heard) text o (unread-told kept (serve w) d r heard unread),
+          no-text (is_read (conn.told (at kept (serve w) d) r heard).doing) w (conn_told (of_doing (serve w) d) r heard) text o (unread-told kept (serve w) d r heard unread)
+              (after-told w o kept d r heard was.0 unread busy (run-is-over (is_read d) w (of_doing (serve w) d) text o unread was.1)),
         )
 
     -- the descriptor of a script that was read is closed
@@ -234,8 +276,8 @@ module _ (steps : EachStepLeavesTheRest) (own : CallsServeTheirDomain) (files : 
       sends = sends w.head_only r has.sends;
     }
       where
-        sends : (h : Bool) (r : Reply) → known.Sends h (of_doing (serve w) (Shuts g (TextOf a true))) text o
-            → known.Sends h (conn_told (of_doing (serve w) (Shuts g (TextOf a true))) r heard) text o
+        sends : (h : Bool) (r : Reply) → known.Sends h w (of_doing (serve w) (Shuts g (TextOf a true))) text o
+            → known.Sends h w (conn_told (of_doing (serve w) (Shuts g (TextOf a true))) r heard) text o
         sends true r fresh = fresh
         sends false reply.Done was = (refl, record { kept = was.1.kept; fresh = was.1.fresh })
         sends false r was = (refl, record { kept = was.1.kept; fresh = was.1.fresh })
@@ -245,9 +287,9 @@ module _ (steps : EachStepLeavesTheRest) (own : CallsServeTheirDomain) (files : 
         → HasKnown scripts n (record { conn = conn.told (at kept (serve w) (Spares a Script)) r heard; run = told_spares w.head_only r; script = script }) (OfScript text o)
     spared-on a for_script has step = by r (own.drops m n server a r order step) w.head_only refl has.sends
       where
-        by : (r : Reply) → caller.Drops m server a r n → (h : Bool) → w.head_only ≡ h → known.Sends h (of_doing (serve w) (Spares a Script)) text o
+        by : (r : Reply) → caller.Drops m server a r n → (h : Bool) → w.head_only ≡ h → known.Sends h w (of_doing (serve w) (Spares a Script)) text o
             → HasKnown scripts n (record { conn = conn.told (at kept (serve w) (Spares a Script)) r heard; run = told_spares h r; script = script }) (OfScript text o)
-        by reply.Done did true is sends = record { script = λ read. for_script; read = refl; has = refl; sends = subst (λ h. known.Sends h (client (at kept (serve w) (Heads Script)) None script) text o) (sym is) sends }
+        by reply.Done did true is sends = record { script = λ read. for_script; read = refl; has = refl; sends = subst (λ h. known.Sends h w (client (at kept (serve w) (Heads Script)) None script) text o) (sym is) sends }
         by reply.Done did false is sends = record { answers = is; has = sends.1.fresh; kept = λ keeps. sends.1.kept }
         by (reply.Refused y) did true is sends = subst (λ (s : State). HasNoRun scripts s w (of_doing (serve w) (Spares a Script)) text o) (sym did) has
         by (reply.Refused y) did false is sends = subst (λ (s : State). HasNoRun scripts s w (of_doing (serve w) (Spares a Script)) text o) (sym did) has
@@ -292,18 +334,20 @@ module _ (steps : EachStepLeavesTheRest) (own : CallsServeTheirDomain) (files : 
 -- ---- a reply to a run
 
 -- a run that is over leaves the connection at rest, or to be closed
-end-has : (scripts : Bool) (n : State) (w : Wanted) (kept text : List ℕ) (o : Progress) (d : Doing) → w.head_only ≡ false → IsEnd d
+end-has : (scripts : Bool) (n : State) (w : Wanted) (kept text : List ℕ) (o : Progress) (d : Doing) → w.head_only ≡ false → IsEnd d × IsAfter w o d
     → HasNoRun scripts n w (client (at kept (serve w) d) None []) text o
-end-has scripts n w kept text o d answers ends = elim ends [
-  | inl rests ↦ subst (λ (e : Doing). HasNoRun scripts n w (client (at kept (serve w) e) None []) text o) (sym rests) (record { script = λ read. absurd (cc (read)); read = refl; has = tt; sends = sent Rests refl refl })
-  | inr closes ↦ subst (λ (e : Doing). HasNoRun scripts n w (client (at kept (serve w) e) None []) text o) (sym closes) (record { script = λ read. absurd (cc (read)); read = refl; has = tt; sends = sent Closes refl refl })
+end-has scripts n w kept text o d answers ends = elim ends.0 [
+  | inl rests ↦ subst (λ (e : Doing). HasNoRun scripts n w (client (at kept (serve w) e) None []) text o) (sym rests)
+      (record { script = λ read. absurd (cc (read)); read = refl; has = tt; sends = sent Rests refl refl (subst (λ (e : Doing). IsAfter w o e) rests ends.1) })
+  | inr closes ↦ subst (λ (e : Doing). HasNoRun scripts n w (client (at kept (serve w) e) None []) text o) (sym closes)
+      (record { script = λ read. absurd (cc (read)); read = refl; has = tt; sends = sent Closes refl refl (subst (λ (e : Doing). IsAfter w o e) closes ends.1) })
 ]
   where
-    sent : (e : Doing) → is_silent e ≡ true → is_read e ≡ false → known.Sends w.head_only (client (at kept (serve w) e) None []) text o
-    sent e silent unread = subst (λ h. known.Sends h (client (at kept (serve w) e) None []) text o) (sym answers) (silent, no-text (is_read e) (client (at kept (serve w) e) None []) text o unread)
+    sent : (e : Doing) → is_silent e ≡ true → is_read e ≡ false → IsAfter w o e → known.Sends w.head_only w (client (at kept (serve w) e) None []) text o
+    sent e silent unread after = subst (λ h. known.Sends h w (client (at kept (serve w) e) None []) text o) (sym answers) (silent, no-text (is_read e) w (client (at kept (serve w) e) None []) text o unread after)
 
 run-has : (scripts : Bool) (n : State) (w : Wanted) (kept : List ℕ) (d : Doing) (script text : List ℕ) (y z : Running) (o : Progress)
-    → w.head_only ≡ false → is_over y ≡ false → (is_over z ≡ true → IsEnd (after_run z)) → (keeps_text z ≡ true → keeps_text y ≡ true)
+    → w.head_only ≡ false → is_over y ≡ false → (is_over z ≡ true → IsEnd (after_run z) × IsAfter w o (after_run z)) → (keeps_text z ≡ true → keeps_text y ≡ true)
     → (keeps_text y ≡ true → script ≡ text) → HasRun (job_of w text) n w o z
     → HasKnown scripts n (run_on (client (at kept (serve w) d) (Some y) script) y z) (OfScript text o)
 run-has scripts n w kept d script text y z o answers going ends back same has =
@@ -340,7 +384,8 @@ module _ (steps : EachStepLeavesTheRest) (own : CallsServeTheirDomain) (scripts 
       (subst (λ (k : Call). StepsTo m (event.Call server k) r n) (wants-text fd w y script text has.kept) step) names in (
         OfScript text got.0,
         (got.0, got.1, refl),
-        run-has scripts n w kept d script text y (running.told worker w y r heard) got.0 has.answers going (run-ends (job_of w text) n w got.0 (running.told worker w y r heard) got.2) (keeps-back worker w y r heard) has.kept got.2,
+        run-has scripts n w kept d script text y (running.told worker w y r heard) got.0 has.answers going
+            (λ over. (run-ends (job_of w text) n w got.0 (running.told worker w y r heard) got.2 over, run-after (job_of w text) n w got.0 (running.told worker w y r heard) got.2 over)) (keeps-back worker w y r heard) has.kept got.2,
       )
 
 -- ---- any reply
@@ -462,7 +507,7 @@ offers scripts m fd g a kept (serve w) d None script (OfScript text o) has is = 
     asks : conn.wants fd (at kept (serve w) d) ≡ call.IolWrite g a
     asks = script-writes fd g a kept (serve w) d (is_for_script scripts (serve w)) is
 
-    by : (h : Bool) → w.head_only ≡ h → known.Sends h (client (at kept (serve w) d) None script) text o
+    by : (h : Bool) → w.head_only ≡ h → known.Sends h w (client (at kept (serve w) d) None script) text o
         → Writes scripts m fd g a (client (at kept (serve w) d) None script) (OfScript text o)
     by true head fresh =
         let next = next-due m fd g a kept (serve w) d (script_text w) has.has asks in
@@ -470,12 +515,64 @@ offers scripts m fd g a kept (serve w) d None script (OfScript text o) has is = 
     by false head was = absurd (silent-writes fd g a kept (serve w) d was.0 asks)
 offers scripts m fd g a kept (serve w) d (Some y) script (OfScript text o) has is = run-writes scripts m fd g a kept w d y script text o has is
 
-pub clients_offered : EachStepLeavesTheRest → CallsServeTheirDomain → FileCallsServeTheirDomain → ClientsAreOfferedTheResponse
-clients_offered steps own files = λ scripts. record {
+-- ---- a client for whose request no script is run
+
+as-its-conn : (scripts : Bool) (m : State) (kept : List ℕ) (q : Answer) (d : Doing) (script : List ℕ) (o : Outcome) → is_for_script scripts q ≡ false
+    → Has m q (response q o) d → IsAsItsConn scripts m (client (at kept q d) None script) o
+as-its-conn scripts m kept q d script o plain has = record {
+  has = has;
+  asks = λ fd. ap (λ b. conn_wants b fd (at kept q d)) plain;
+  aggs = λ a. refl;
+  fds = λ g. refl;
+  tells = λ worker r heard. ap (λ b. file_told b (client (at kept q d) None script) r heard) plain;
+}
+
+client-files : (scripts : Bool) (m : State) (kept : List ℕ) (q : Answer) (d : Doing) (run : Option Running) (script : List ℕ) (o : Outcome) → is_for_script scripts q ≡ false
+    → HasKnown scripts m (client (at kept q d) run script) (OfFile o) → IsAsItsConn scripts m (client (at kept q d) run script) o
+client-files scripts m kept q d run script o plain has =
+    subst (λ (z : Option Running). IsAsItsConn scripts m (client (at kept q d) z script) o) (sym has.none) (as-its-conn scripts m kept q d script o plain has.has)
+
+-- ---- a client with a run
+
+as-its-run : (scripts : Bool) (m : State) (kept : List ℕ) (d : Doing) (script : List ℕ) (w : Wanted) (y : Running) (text : List ℕ) (o : Progress) → is_over y ≡ false
+    → IsRun m w y script text o → IsAsItsRun scripts m (client (at kept (serve w) d) (Some y) script) w y text o
+as-its-run scripts m kept d script w y text o going has = record {
+  has = has.has;
+  asks = λ fd. wants-text fd w y script text has.kept;
+  aggs = λ a. refl;
+  fds = λ g. refl;
+  tells = λ worker r heard.
+      let x = client (at kept (serve w) d) (Some y) script in
+      let z = running.told worker w y r heard in
+      record {
+        going = λ is. (let same = goes-as x y z false going is in (ap (λ (k : Client). k.run) same, ap (λ (k : Client). k.conn) same));
+        ended = λ is. goes-as x y z true going is;
+      };
+}
+  where
+    goes-as : (x : Client) (y z : Running) (over : Bool) → is_over y ≡ false → is_over z ≡ over → goes_on (is_over y) (is_over z) x y z ≡ goes_on false over x y z
+    goes-as x y z over going is = ap (λ b. goes_on b (is_over z) x y z) going ∙ ap (λ b. goes_on false b x y z) is
+
+client-runs : (scripts : Bool) (m : State) (kept : List ℕ) (q : Answer) (d : Doing) (run : Option Running) (script : List ℕ) (w : Wanted) (y : Running) (text : List ℕ) (o : Progress)
+    → run ≡ Some y → q ≡ serve w → is_over y ≡ false → HasKnown scripts m (client (at kept q d) run script) (OfScript text o)
+    → IsAsItsRun scripts m (client (at kept q d) run script) w y text o
+client-runs scripts m kept q d run script w y text o is_run is_q going has =
+    let had = subst (λ (p : Answer). HasKnown scripts m (client (at kept p d) (Some y) script) (OfScript text o)) is_q
+    (subst (λ (z : Option Running). HasKnown scripts m (client (at kept q d) z script) (OfScript text o)) is_run has) in
+    subst (λ (z : Option Running). IsAsItsRun scripts m (client (at kept q d) z script) w y text o) (sym is_run)
+    (subst (λ (p : Answer). IsAsItsRun scripts m (client (at kept p d) (Some y) script) w y text o) (sym is_q) (as-its-run scripts m kept d script w y text o going had))
+
+pub clients_offered : EachStepLeavesTheRest → CallsServeTheirDomain → FileCallsServeTheirDomain → RefusalsThatAreLeft → ClientsAreOfferedTheResponse
+clients_offered steps own files may = λ scripts. record {
   starts = starts scripts;
   replied = λ m n fd c worker x r heard before order access lives open_on hired going has step names.
       replied steps own files scripts m n fd c worker x.conn.kept x.conn.q x.conn.doing x.run x.script r heard before order access lives open_on hired going has step names;
   stays = λ m n x e r known step aggs fds has. stays steps scripts m n x.conn.kept x.conn.q x.conn.doing x.run x.script e r known step aggs fds has;
+  files = λ m x o plain has. client-files scripts m x.conn.kept x.conn.q x.conn.doing x.run x.script o plain has;
+  runs = λ m x w y text o is_run is_q going has. client-runs scripts m x.conn.kept x.conn.q x.conn.doing x.run x.script w y text o is_run is_q going has;
+  rank = rank;
+  nears = λ m n fd c worker x r heard known order lives open_on busy has can step names.
+      client-nears steps own may scripts m n fd c worker x.conn.kept x.conn.q x.conn.doing x.run x.script r heard known order lives open_on busy has can step names;
   moves = λ m n fd worker x r heard known going has step same. client-moves scripts m n fd worker x.conn.kept x.conn.q x.conn.doing x.run x.script r heard known going has step same;
   offers = λ m fd g a x known has is. offers scripts m fd g a x.conn.kept x.conn.q x.conn.doing x.run x.script known has is;
 }

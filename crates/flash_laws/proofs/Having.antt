@@ -85,7 +85,7 @@ module _ (steps : EachStepLeavesTheRest) (own : CallsServeTheirDomain) (m n : St
           cut Whole is within = record { bytes = h.bytes; lends = lends a h.bytes h.lends; count = h.count; due_is = sent-whole w a len due h Whole is }
           cut (Bytes first last) is within =
               let in_file : LiesWithin len (Bytes first last) = subst (λ (z : Selection). LiesWithin len z) is within in
-              record { bytes = h.bytes; lends = lends a h.bytes h.lends; count = length-part h.bytes first last in_file.0 (subst (λ z. last < z) h.count in_file.1); due_is = sent-whole w a len due h (Bytes first last) is }
+              record { bytes = h.bytes; lends = lends a h.bytes h.lends; some = (let le = in_file.0 in omega (arith, le)); count = length-part h.bytes first last in_file.0 (subst (λ z. last < z) h.count in_file.1); due_is = sent-whole w a len due h (Bytes first last) is }
           cut Unsatisfiable is within = ((h.bytes, lends a h.bytes h.lends), refl, sent-whole w a len due h Unsatisfiable is ∙ ap (λ b. file_text w len ++ body_unless b unsatisfiable) (sym h.whole))
 
       by : (r : Reply) → o.Closes m server g r n → StepsTo m (event.Call server (call.Close g)) r n
@@ -124,11 +124,11 @@ module _ (steps : EachStepLeavesTheRest) (own : CallsServeTheirDomain) (m n : St
   headed-keeps : (q : Answer) (a size : ℕ) (more : Following) (due : List ℕ)
       → HoldsRest n due a size 0 more → Has n q due (headed a size more)
   headed-keeps q a size None due has = has
-  headed-keeps q a size (Some x) due has = by (nat_le (size + x.1) MAX_AGGREGATE_BYTES)
+  headed-keeps q a size (Some x) due has = by (nat_le (size + x.1) MAX_AGGREGATE_BYTES) refl
     where
-      by : (b : Bool) → Has n q due (if b then Joins a size x.0 x.1 else Sends a size 0 (Some x))
-      by true = has
-      by false = has
+      by : (b : Bool) → nat_le (size + x.1) MAX_AGGREGATE_BYTES ≡ b → Has n q due (if b then Joins a size x.0 x.1 else Sends a size 0 (Some x))
+      by true fits = (has, grind (arith, nat_tests, fits))
+      by false fits = has
 
   pub heads : (q : Answer) (k : Content) (due : List ℕ) (r : Reply) (heard : List ℕ)
       → Has m q due (Heads k) → StepsTo m (event.Call server (call.AggMake (text_of q k))) r n
@@ -155,11 +155,11 @@ module _ (steps : EachStepLeavesTheRest) (own : CallsServeTheirDomain) (m n : St
   pub joins : (q : Answer) (a size b len : ℕ) (due : List ℕ) (r : Reply)
       → Has m q due (Joins a size b len) → StepsTo m (event.Call server (call.AggJoin a b)) r n
       → Has n q due (told_joins a size b len r)
-  joins q a size b len due r has step = by r (own.join m n server a b has.bytes has.after r order has.lends has.follows.0 step) step
+  joins q a size b len due r has step = by r (own.join m n server a b has.0.bytes has.0.after r order has.0.lends has.0.follows.0 step) step
     where
-      by : (r : Reply) → o.Makes m server (has.bytes ++ has.after) r n
+      by : (r : Reply) → o.Makes m server (has.0.bytes ++ has.0.after) r n
           → StepsTo m (event.Call server (call.AggJoin a b)) r n → Has n q due (told_joins a size b len r)
-      by (reply.Agg x) did step = record { bytes = has.bytes ++ has.after; after = []; lends = did.0; size = both-long has.bytes has.after size len has.size has.follows.1; follows = refl; next = append-nil (has.bytes ++ has.after) ∙ has.next; apart = refl }
+      by (reply.Agg x) did step = record { bytes = has.0.bytes ++ has.0.after; after = []; lends = did.0; size = both-long has.0.bytes has.0.after size len has.0.size has.0.follows.1; follows = refl; next = append-nil (has.0.bytes ++ has.0.after) ∙ has.0.next; apart = refl }
       by (reply.Refused y) did step = unchanged q (Joins a size b len) due has did
       by r did step = absurd did
 
@@ -186,7 +186,7 @@ module _ (steps : EachStepLeavesTheRest) (own : CallsServeTheirDomain) (m n : St
               → Has n q due (if b then Cuts a k len (taken + k) more else Sent a (taken + len) more)
           cases false all = (let size = has.size in let within = puts.within in let le : length has.bytes ≤ k = grind (arith, nat_tests, all, size) in let here : taken + len ≡ taken + k = omega (arith, le, within, size) in
               record { bytes = has.bytes; after = has.after; lends = lends; follows = more_stays; next = none-left has.bytes has.after k len has.size all ∙ (rest ∙ ap (λ z. drop z due) (sym here)); apart = has.apart })
-          cases true part = record { bytes = has.bytes; after = has.after; lends = lends; size = has.size; follows = more_stays; next = rest; apart = has.apart }
+          cases true part = (record { bytes = has.bytes; after = has.after; lends = lends; size = has.size; follows = more_stays; next = rest; apart = has.apart }, grind (arith, nat_tests, part))
       by (reply.Refused no.BrokenPipe) did step = subst (λ (s : State). HoldsUnsent s a more) (sym did) (record { after = has.after; lent = (has.bytes, has.lends); follows = has.follows; apart = has.apart })
       by (reply.Refused y) did step = unchanged q (Sends a len taken more) due has did
       by r did step = absurd did
@@ -195,24 +195,25 @@ module _ (steps : EachStepLeavesTheRest) (own : CallsServeTheirDomain) (m n : St
       → Has m q due (Cuts a from len taken more)
       → StepsTo m (event.Call server (call.AggCut a from (piece_end from len))) r n
       → Has n q due (told_cuts a from len taken more r)
-  cuts q a from len taken more due r has step = by r (own.cut m n server a from (piece_end from len) has.bytes r order has.lends step) step
+  cuts q a from len taken more due r has step = by r (own.cut m n server a from (piece_end from len) has.0.bytes r order has.0.lends step) step
     where
-      by : (r : Reply) → o.Makes m server (slice_range has.bytes from (piece_end from len)) r n
+      by : (r : Reply) → o.Makes m server (slice_range has.0.bytes from (piece_end from len)) r n
           → StepsTo m (event.Call server (call.AggCut a from (piece_end from len))) r n
           → Has n q due (told_cuts a from len taken more r)
       by (reply.Agg x) did step =
           record {
             whole = record {
-              bytes = has.bytes;
-              after = has.after;
-              lends = stays (call.AggCut a from (piece_end from len)) (reply.Agg x) step a has.bytes has.lends refl;
-              size = has.size;
-              follows = follows (call.AggCut a from (piece_end from len)) (reply.Agg x) step more has.after (λ b u. refl) has.follows;
-              next = has.next;
-              apart = has.apart;
+              bytes = has.0.bytes;
+              after = has.0.after;
+              lends = stays (call.AggCut a from (piece_end from len)) (reply.Agg x) step a has.0.bytes has.0.lends refl;
+              size = has.0.size;
+              follows = follows (call.AggCut a from (piece_end from len)) (reply.Agg x) step more has.0.after (λ b u. refl) has.0.follows;
+              next = has.0.next;
+              apart = has.0.apart;
             };
+            some = has.1;
             lends = did.0;
-            other = or_from (a == x) (has_followed more x) (new-other m a x has.bytes has.lends did.1) (new-follows m more has.after x has.follows did.1);
+            other = or_from (a == x) (has_followed more x) (new-other m a x has.0.bytes has.0.lends did.1) (new-follows m more has.0.after x has.0.follows did.1);
           }
       by (reply.Refused y) did step = unchanged q (Cuts a from len taken more) due has did
       by r did step = absurd did
@@ -270,7 +271,7 @@ module _ (steps : EachStepLeavesTheRest) (own : CallsServeTheirDomain) (m n : St
 
           cases : (b : Bool) → nat_lt from len ≡ b
               → Has n q due (if b then Cuts a from len taken more else Sent a taken more)
-          cases true part = record { bytes = has.2.bytes; after = has.2.after; lends = lends; size = has.2.size; follows = more_stays; next = has.2.next; apart = has.2.apart }
+          cases true part = (record { bytes = has.2.bytes; after = has.2.after; lends = lends; size = has.2.size; follows = more_stays; next = has.2.next; apart = has.2.apart }, grind (arith, nat_tests, part))
           cases false all = record { bytes = has.2.bytes; after = has.2.after; lends = lends; follows = more_stays; next = none-left has.2.bytes has.2.after from len has.2.size all ∙ has.2.next; apart = has.2.apart }
       by (reply.Refused y) did step = unchanged q (Swaps a from len piece taken more) due has did
       by r did step = absurd did

@@ -318,9 +318,9 @@ module _ (come : AggregatesComeAndGo) (own : CallsServeTheirDomain) (files : Fil
   brought fd c q (Picks b first last len) due r heard access lives open_on has step = picks b first last len q has.bytes r heard has.lends step
   brought fd c q (Spares b k) due r heard access lives open_on has step = absurd (nothing b r step)
   brought fd c q (Heads k) due r heard access lives open_on has step = heads fd q k r heard step
-  brought fd c q (Joins b size body len) due r heard access lives open_on has step = joins b size body len q has.bytes has.after r heard has.lends has.follows.0 step
+  brought fd c q (Joins b size body len) due r heard access lives open_on has step = joins b size body len q has.0.bytes has.0.after r heard has.0.lends has.0.follows.0 step
   brought fd c q (Sends b len taken more) due r heard access lives open_on has step = absurd (written-nothing fd c b has.bytes r open_on has.lends step)
-  brought fd c q (Cuts b from len taken more) due r heard access lives open_on has step = cuts b from len taken more q has.bytes r heard has.lends step
+  brought fd c q (Cuts b from len taken more) due r heard access lives open_on has step = cuts b from len taken more q has.0.bytes r heard has.0.lends step
   brought fd c q (Offers b from len piece taken more) due r heard access lives open_on has step = absurd (written-nothing fd c piece (slice_range has.whole.bytes from (piece_end from len)) r open_on has.lends step)
   brought fd c q (Swaps b from len piece taken more) due r heard access lives open_on has step = absurd (nothing piece r step)
   brought fd c q (Sent b taken more) due r heard access lives open_on has step = absurd (nothing b r step)

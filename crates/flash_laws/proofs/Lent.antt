@@ -120,14 +120,15 @@ has-stays m n q due (Got a) lends opens has = lent-on m n a (λ l is. lends a l 
 has-stays m n q due Opens lends opens has = has
 has-stays m n q due (Reading f) lends opens has = (has.0, (has.1.0, has.1.1, opens f (on.File has.1.0 has.1.1 modes.Read) (self f) has.1.2))
 has-stays m n q due (Shuts f k) lends opens has = ((has.0.0, has.0.1, opens f (on.File has.0.0 has.0.1 modes.Read) (self f) has.0.2), learnt-on m n q due k (λ a l u is. lends a l u is) has.1)
-has-stays m n q due (Picks a first last len) lends opens has = record { bytes = has.bytes; lends = lends a has.bytes (self a) has.lends; count = has.count; due_is = has.due_is }
+has-stays m n q due (Picks a first last len) lends opens has = record { bytes = has.bytes; lends = lends a has.bytes (self a) has.lends; some = has.some; count = has.count; due_is = has.due_is }
 has-stays m n q due (Spares a k) lends opens has = (lent-on m n a (λ l is. lends a l (first_of a (content_agg k a)) is) has.0, has.1, content-on m n q due k (λ b l u is. lends b l (later_of (a == b) (content_agg k b) u) is) has.2)
 has-stays m n q due (Heads k) lends opens has = content-on m n q due k (λ b l u is. lends b l u is) has
-has-stays m n q due (Joins a size body len) lends opens has = rest-on m n due a size 0 (Some (body, len)) (λ l is. lends a l (first_of a (body == a)) is) (λ b l u is. lends b l (later_of (a == b) (body == b) u) is) has
+has-stays m n q due (Joins a size body len) lends opens has = (rest-on m n due a size 0 (Some (body, len)) (λ l is. lends a l (first_of a (body == a)) is) (λ b l u is. lends b l (later_of (a == b) (body == b) u) is) has.0, has.1)
 has-stays m n q due (Sends a len taken more) lends opens has = rest-on m n due a len taken more (λ l is. lends a l (first_of a (has_followed more a)) is) (λ b l u is. lends b l (later_of (a == b) (has_followed more b) u) is) has
-has-stays m n q due (Cuts a from len taken more) lends opens has = rest-from-on m n due a from len taken more (λ l is. lends a l (first_of a (has_followed more a)) is) (λ b l u is. lends b l (later_of (a == b) (has_followed more b) u) is) has
+has-stays m n q due (Cuts a from len taken more) lends opens has = (rest-from-on m n due a from len taken more (λ l is. lends a l (first_of a (has_followed more a)) is) (λ b l u is. lends b l (later_of (a == b) (has_followed more b) u) is) has.0, has.1)
 has-stays m n q due (Offers a from len piece taken more) lends opens has = record {
   whole = rest-from-on m n due a from len taken more (λ l is. lends a l (later_of (piece == a) ((a == a) || has_followed more a) (first_of a (has_followed more a))) is) (λ b l u is. lends b l (later_of (piece == b) ((a == b) || has_followed more b) (later_of (a == b) (has_followed more b) u)) is) has.whole;
+  some = has.some;
   lends = lends piece (slice_range has.whole.bytes from (piece_end from len)) (first_of piece ((a == piece) || has_followed more piece)) has.lends;
   other = has.other;
 }

@@ -23,6 +23,8 @@ pub mod Idling
 pub mod Hosting
 pub mod Repeats
 pub mod Moving
+pub mod Nearing
+pub mod Taking
 pub mod Offering
 pub mod Keeping
 pub mod Witness
@@ -34,6 +36,7 @@ pub mod RunParts
 pub mod RunQuiet
 pub mod RunTakes
 pub mod RunMoves
+pub mod RunNearing
 pub mod RunReadsOn
 pub mod RunSteps
 pub mod RunOffering
@@ -45,5 +48,6 @@ pub mod Sharing
 pub mod ClientPhases
 pub mod RunEnds
 pub mod ClientMoving
+pub mod ClientNearing
 pub mod ClientOffering
 pub mod ClientKeeping

@@ -1,7 +1,7 @@
 -- Lists, numbers and tests: what the proofs of phases use.
-use Rattle.std.proofs.Common.{◌≡◌, ℕ, zero, suc, ◌+◌, ◌-◌, ◌==◌, ◌<◌, ◌≤◌, List, [], ◌∷◌, ◌++◌, length, take, drop, ap, ◌∙◌, refl, sym, arith, true, false, Bool, length-append, length-drop}
+use Rattle.std.proofs.Common.{◌≡◌, ◌≢◌, ℕ, zero, suc, ◌+◌, ◌-◌, ◌==◌, ◌<◌, ◌≤◌, List, [], ◌∷◌, ◌++◌, length, take, drop, ap, ◌∙◌, refl, sym, arith, true, false, Bool, length-append, length-drop}
 use Rattle.std.specs.Prelude.{min, nat_lt, ◌||◌, slice_range}
-use Rattle.std.proofs.lemmas.List.{take-append-le, drop-append-le, drop_all, drop-drop, length-take-le}
+use Rattle.std.proofs.lemmas.List.{take-append-le, drop-append-le, drop_all, drop-drop, length-take, length-take-le}
 use Rattle.std.proofs.lemmas.Bool.Decides.{nat_tests}
 use Rattle.iol_core.specs.Text.{Text, bytes_of}
 use Rattle.flash_laws.specs.Conn.{piece_end}
@@ -92,3 +92,13 @@ length-range bytes first last le lt =
 pub length-part : (bytes : List ℕ) (first last : ℕ) → first ≤ last → last < length bytes
     → last + 1 - first ≡ length (slice_range bytes first (last + 1))
 length-part bytes first last le lt = let e = length-range bytes first last le lt in omega (arith, e, le)
+
+-- a part that has as many bytes as its bounds tell, and some, lies within
+pub within-part : (from to : ℕ) (bytes : List ℕ) → from < to → to - from ≡ length (slice_range bytes from to) → to ≤ length bytes
+within-part from to bytes some count =
+    let few = length-take (to - from) (drop from bytes) in
+    let all = length-drop from bytes in
+    omega (arith, few, all, some, count)
+
+pub differ : (a b : ℕ) → (a == b) ≡ false → a ≢ b
+differ a b is = λ same. (let e : (a == b) ≡ true = grind (arith, nat_tests, same) in clash (a == b) e is)

@@ -1,5 +1,5 @@
 -- What is offered is what of the response is not yet taken, whatever the run.
-use Rattle.std.proofs.Common.{◌≡◌, ℕ, ◌+◌, ◌-◌, ◌≤◌, List, [], ◌∷◌, ◌++◌, length, take, drop, ap, ◌∙◌, refl, sym, subst, Some, true, false, Bool, append_assoc, if◌then◌else◌}
+use Rattle.std.proofs.Common.{◌≡◌, ℕ, ◌+◌, ◌-◌, ◌≤◌, List, [], ◌∷◌, ◌++◌, length, take, drop, ap, ◌∙◌, refl, sym, subst, Some, None, true, false, Bool, append_assoc, if◌then◌else◌}
 use Rattle.std.specs.Prelude.{slice_range}
 use Rattle.std.proofs.lemmas.List.{take-append-drop}
 use Rattle.iol_core.specs.Access.{HasAccess}
@@ -19,6 +19,8 @@ use Rattle.iol_laws.specs.Caller as o
 use Rattle.iol_laws.specs.Caller.{CallsServeTheirDomain, lent_at}
 use Rattle.iol_laws.specs.CallerFiles as of
 use Rattle.iol_laws.specs.CallerFiles.{FileCallsServeTheirDomain}
+use Rattle.iol_laws.specs.Reasons.{RefusalsTellWhy}
+use Rattle.iol_laws.specs.RefusalsLeft.{RefusalsThatAreLeft}
 use Rattle.flash_http.specs.Range.{selected}
 use Rattle.flash_http.specs.Request.{Answer, serve, refuse, Wanted}
 use Rattle.flash_laws.specs.Answers.{Outcome, Found, Failed, body_unless, chosen, file_text, unsatisfiable, response}
@@ -33,6 +35,8 @@ use Rattle.flash_laws.proofs.Counts.{counted, short-take}
 use Rattle.flash_laws.proofs.Having as having
 use Rattle.flash_laws.proofs.Lent.{lent-stays, has-stays}
 use Rattle.flash_laws.proofs.Moving.{conn-moves}
+use Rattle.flash_laws.proofs.Nearing.{rank, conn-nears, conn-reads}
+use Rattle.flash_laws.proofs.Taking.{takes, breaks, closes}
 
 abbrev at : List ℕ → Answer → Doing → Conn
 at kept q d = record { kept = kept; q = q; doing = d }
@@ -168,11 +172,25 @@ module _ (steps : EachStepLeavesTheRest) (own : CallsServeTheirDomain) (files : 
   replied fd c q Closes r heard before access open_on open_yet has step names = absurd (cc (open_yet))
   replied fd c q Over r heard before access open_on open_yet has step names = absurd (cc (open_yet))
 
-pub offers_the_response : EachStepLeavesTheRest → CallsServeTheirDomain → FileCallsServeTheirDomain → OffersTheResponse
-offers_the_response steps own files = record {
+-- where the response is sent all of it is taken
+whole : (m : State) (q : Answer) (due : List ℕ) (d : Doing) (a taken : ℕ) → d ≡ Sent a taken None → Has m q due d → drop taken due ≡ []
+whole m q due d a taken is has =
+    let all : Has m q due (Sent a taken None) = subst (λ (e : Doing). Has m q due e) is has in
+    sym all.next ∙ all.follows
+
+pub offers_the_response : EachStepLeavesTheRest → CallsServeTheirDomain → FileCallsServeTheirDomain → RefusalsTellWhy → RefusalsThatAreLeft → OffersTheResponse
+offers_the_response steps own files why may = record {
   starts = starts;
   replied = λ m n fd c x r heard before order access lives open_on open_yet has step names. replied steps own files m n order lives x.kept fd c x.q x.doing r heard before access open_on open_yet has step names;
   stays = λ m n x e r o step aggs fds has. has-stays m n x.q (response x.q o) x.doing (λ a l u lent. lent-stays steps m n e r step a l lent (aggs a u)) (λ g y u opens. (steps.leaves m n e r step).fds server g y opens (fds g u)) has;
   offers = λ m fd a x o has is. next-of m fd a x.kept x.q x.doing o has is;
+  takes = λ m n fd c x r heard o order open_on has step at_is on busy. takes own m n order fd c open_on x.q (response x.q o) x.kept x.doing r heard has step at_is on busy;
+  whole = λ m x o a taken is has. whole m x.q (response x.q o) x.doing a taken is has;
+  breaks = λ m n fd c x r heard o open_on busy has step at_is off. breaks why m n fd c open_on x.kept x.q heard x.doing r busy step at_is off;
+  closes = λ m n fd c x r heard order lives open_on is step. closes own may m n fd c x.kept x.q x.doing r heard order lives open_on is step;
+  rank = λ x. rank x.q x.doing;
+  nears = λ m n fd c x r heard o order lives open_on busy has can step names.
+      conn-nears own may m n fd c x.kept x.q x.doing (response x.q o) r heard order lives open_on busy has can step names;
+  reads = λ m n fd c x r heard lives open_on rests step same. conn-reads why may m n fd c x.kept x.q x.doing r heard lives open_on rests step same;
   moves = conn-moves;
 }

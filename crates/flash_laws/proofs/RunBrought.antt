@@ -115,8 +115,8 @@ module _ (come : AggregatesComeAndGo) (own : CallsServeTheirDomain) (m n : State
     sending-brings : (run : Run) (d : Doing) (frame : Option ℕ) (r : Reply) → HasPart m w o run d frame
         → StepsTo m (event.Call server (conn.wants fd (in_phase w d))) r n → uses_agg (told_sending run d frame r) a ≡ true
     sending-brings run (doing.Sends b len taken None) frame r h step = absurd (written fd c b h.has.bytes r open_on h.has.lends step)
-    sending-brings run (doing.Cuts b from len taken None) frame r h step = made (call.AggCut b from (piece_end from len)) (slice_range h.has.bytes from (piece_end from len)) (λ k. told_sending run (doing.Cuts b from len taken None) frame k) r step
-        (own.cut m n server b from (piece_end from len) h.has.bytes r order h.has.lends step) (λ x is. is) (λ x is. cc (is))
+    sending-brings run (doing.Cuts b from len taken None) frame r h step = made (call.AggCut b from (piece_end from len)) (slice_range h.has.0.bytes from (piece_end from len)) (λ k. told_sending run (doing.Cuts b from len taken None) frame k) r step
+        (own.cut m n server b from (piece_end from len) h.has.0.bytes r order h.has.0.lends step) (λ x is. is) (λ x is. cc (is))
         (λ x is. first ((x == a) || ((b == a) || false)) (has_frame frame a) (first (x == a) ((b == a) || false) is))
     sending-brings run (doing.Offers b from len piece taken None) frame r h step = absurd (written fd c piece (slice_range h.has.whole.bytes from (piece_end from len)) r open_on h.has.lends step)
     sending-brings run (doing.Swaps b from len piece taken None) frame r h step = absurd (dropped piece r step)
@@ -180,8 +180,8 @@ module _ (come : AggregatesComeAndGo) (own : CallsServeTheirDomain) (m n : State
     left-brings due (doing.Heads k) r heard is has step = made (call.AggMake (conn.text_of (serve w) k)) (conn.text_of (serve w) k) (λ z. Leaves (conn.told (in_phase w (doing.Heads k)) z heard).doing) r step (own.make m n server (conn.text_of (serve w) k) r order step) (λ x is. is) (λ x is. cc (is))
         (λ x is. headed-first x (count_of heard) (conn.following k) a is)
     left-brings due (doing.Sends b len taken more) r heard is has step = absurd (written fd c b has.bytes r open_on has.lends step)
-    left-brings due (doing.Cuts b from len taken more) r heard is has step = made (call.AggCut b from (piece_end from len)) (slice_range has.bytes from (piece_end from len)) (λ z. Leaves (conn.told (in_phase w (doing.Cuts b from len taken more)) z heard).doing) r step
-        (own.cut m n server b from (piece_end from len) has.bytes r order has.lends step) (λ x is. is) (λ x is. cc (is)) (λ x is. first (x == a) ((b == a) || has_followed more a) is)
+    left-brings due (doing.Cuts b from len taken more) r heard is has step = made (call.AggCut b from (piece_end from len)) (slice_range has.0.bytes from (piece_end from len)) (λ z. Leaves (conn.told (in_phase w (doing.Cuts b from len taken more)) z heard).doing) r step
+        (own.cut m n server b from (piece_end from len) has.0.bytes r order has.0.lends step) (λ x is. is) (λ x is. cc (is)) (λ x is. first (x == a) ((b == a) || has_followed more a) is)
     left-brings due (doing.Offers b from len piece taken more) r heard is has step = absurd (written fd c piece (slice_range has.whole.bytes from (piece_end from len)) r open_on has.lends step)
     left-brings due (doing.Swaps b from len piece taken more) r heard is has step = absurd (dropped piece r step)
     left-brings due (doing.Sent b taken more) r heard is has step = absurd (dropped b r step)

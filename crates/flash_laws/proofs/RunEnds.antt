@@ -1,5 +1,5 @@
 -- How a run ends, and until when it keeps the text of its script.
-use Rattle.std.proofs.Common.{inl, inr, ◌≡◌, ℕ, ◌-◌, ◌⊎◌, List, [], ◌∷◌, ap, refl, Option, Some, None, true, false, Bool, if◌then◌else◌}
+use Rattle.std.proofs.Common.{inl, inr, ◌≡◌, ℕ, ◌-◌, ◌⊎◌, List, [], ◌∷◌, ap, refl, sym, subst, Option, Some, None, true, false, Bool, if◌then◌else◌}
 use Rattle.std.specs.Prelude.{nat_lt, not}
 use Rattle.iol_core.specs.declared.refusals.Refusal.TheVariants as no
 use Rattle.iol_core.specs.declared.events.Reply.{Reply}
@@ -8,7 +8,8 @@ use Rattle.flash_http.specs.Request.{Wanted}
 use Rattle.flash_laws.specs.Client.{job_of, keeps_text, after_run}
 use Rattle.flash_laws.specs.Conn.{Following, count_of}
 use Rattle.iol_core.specs.State.{State}
-use Rattle.flash_laws.specs.RunFits.{Progress, HasLeft, HasRun}
+use Rattle.flash_laws.specs.Known.{IsTaken, IsAfter}
+use Rattle.flash_laws.specs.RunFits.{Progress, Ran, Broken, NotRun, IsLeft, HasNone, HasLeft, HasRun}
 use Rattle.flash_laws.specs.Running.{is_again, is_left, is_over, wants, told, told_step, holding, hearing, filled, finishing, both}
 use Rattle.flash_laws.specs.declared.doing.Doing.{Doing}
 use Rattle.flash_laws.specs.declared.doing.Doing.TheVariants as doing
@@ -55,6 +56,30 @@ run-ends job m w o Awaits has over = absurd (cc (over))
 run-ends job m w o (Runs run s) has over = absurd (cc (over))
 run-ends job m w o (Leaves d) has over = left-ends m w o d has (turned-over (is_left d) over)
 run-ends job m w o Closes has over = inr refl
+
+-- ---- and all of the response was taken, or it was broken off
+
+pub all-taken : (w : Wanted) (o : Progress) → IsLeft w o [] → IsTaken w o
+all-taken w (Ran heard ended past) left = left
+all-taken w Broken left = absurd left
+all-taken w (NotRun status past) left = left
+
+none-taken : (w : Wanted) (o : Progress) → HasNone w o → IsTaken w o
+none-taken w (Ran heard ended past) none = none.0
+none-taken w Broken none = tt
+none-taken w (NotRun status past) none = none.0
+
+left-after : (m : State) (w : Wanted) (o : Progress) (d : Doing) → HasLeft m w o d → IsEnd d → IsAfter w o d
+left-after m w o d has ends = elim ends [
+  | inl rests ↦ subst (λ (e : Doing). IsAfter w o e) (sym rests) (subst (λ (e : Doing). HasLeft m w o e) rests has)
+  | inr closes ↦ subst (λ (e : Doing). IsAfter w o e) (sym closes) (none-taken w o (subst (λ (e : Doing). HasLeft m w o e) closes has))
+]
+
+pub run-after : (job : ℕ → List ℕ) (m : State) (w : Wanted) (o : Progress) (z : Running) → HasRun job m w o z → is_over z ≡ true → IsAfter w o (after_run z)
+run-after job m w o Awaits has over = absurd (cc (over))
+run-after job m w o (Runs run s) has over = absurd (cc (over))
+run-after job m w o (Leaves d) has over = left-after m w o d has (left-ends m w o d has (turned-over (is_left d) over))
+run-after job m w o Closes has over = none-taken w o has
 
 -- ---- the text is kept until the job is made
 

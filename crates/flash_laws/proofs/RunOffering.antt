@@ -38,6 +38,7 @@ use Rattle.flash_laws.specs.declared.running.Running.TheVariants.{Awaits, Runs, 
 use Rattle.flash_laws.proofs.RunLeft as left
 use Rattle.flash_laws.proofs.RunLeft.{is-rest, still-left}
 use Rattle.flash_laws.proofs.RunMoves.{moves}
+use Rattle.flash_laws.proofs.RunNearing.{rank, nears}
 use Rattle.flash_laws.proofs.RunParts as parts
 use Rattle.flash_laws.proofs.RunParts.{no-position, continued, goes-on}
 use Rattle.flash_laws.proofs.RunReadsOn.{reads_on}
@@ -351,6 +352,8 @@ runs_offer steps own why may = λ job. record {
   takes = takes steps own job;
   breaks = breaks why job;
   fails = fails may why job;
+  rank = rank;
+  nears = nears own may job;
   moves = moves job;
   reads = few-held job;
   hears = λ m n fd w o run held frame r order has step.

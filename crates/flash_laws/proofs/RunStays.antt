@@ -163,6 +163,7 @@ module _ (m n : State) where
     lends = lends piece h.more (later_of (held == piece) ((piece == piece) || has_frame frame piece) (first_of piece (has_frame frame piece))) h.lends;
     count = h.count;
     within = h.within;
+    other = h.other;
     apart = h.apart;
     whole = h.whole;
     goes = h.goes;

@@ -233,16 +233,17 @@ module _ (steps : EachStepLeavesTheRest) (own : CallsServeTheirDomain) (m n : St
     off-frame a (Some f) apart = or_from (a == f) false (turned f a apart) refl
 
     heard-now : (held : Following) (frame : Option ℕ) (x b : ℕ) (new : List ℕ) (o : Progress) (h : HasHeard n w o run held frame)
-        → lent_at n server x ≡ Some (b ∷ new) → length (b ∷ new) ≤ CHUNK_BYTES - held_size held → has_frame frame x ≡ false
+        → lent_at n server x ≡ Some (b ∷ new) → length (b ∷ new) ≤ CHUNK_BYTES - held_size held → has_followed held x ≡ false → has_frame frame x ≡ false
         → HasStep job n w (hears_on o (b ∷ new)) run (hearing run.broken w.chunked held frame x (count_of (b ∷ new)))
-    heard-now held frame x b new o h lent short apart = by run.broken w.chunked held h.has.holds h.has.apart short refl refl h.goes
+    heard-now held frame x b new o h lent short other apart = by run.broken w.chunked held h.has.holds h.has.apart short other refl refl h.goes
       where
         count : count_of (b ∷ new) ≡ length (b ∷ new)
         count = counted (b ∷ new) (omega (arith, short))
 
-        by : (c d : Bool) (held : Following) → IsHeld n w held h.bytes → meets held frame ≡ false → length (b ∷ new) ≤ CHUNK_BYTES - held_size held → run.broken ≡ c → w.chunked ≡ d
+        by : (c d : Bool) (held : Following) → IsHeld n w held h.bytes → meets held frame ≡ false → length (b ∷ new) ≤ CHUNK_BYTES - held_size held
+            → has_followed held x ≡ false → run.broken ≡ c → w.chunked ≡ d
             → Goes c w o h.bytes → HasStep job n w (hears_on o (b ∷ new)) run (hearing c d held frame x (count_of (b ∷ new)))
-        by true d held holds off short is_c is_d goes = (
+        by true d held holds off short other is_c is_d goes = (
           ((b ∷ new, lent), apart),
           record {
             reads = h.reads;
@@ -251,7 +252,7 @@ module _ (steps : EachStepLeavesTheRest) (own : CallsServeTheirDomain) (m n : St
             goes = subst (λ c. Goes c w (hears_on o (b ∷ new)) []) (sym is_c) (subst (λ (z : Progress). hears_on z (b ∷ new) ≡ Broken) (sym goes.0) refl, refl);
           },
         )
-        by false false held holds off short is_c is_d goes =
+        by false false held holds off short other is_c is_d goes =
             let none = none-held n held h.bytes holds is_d in
             record {
               reads = h.reads;
@@ -264,10 +265,10 @@ module _ (steps : EachStepLeavesTheRest) (own : CallsServeTheirDomain) (m n : St
               whole = is_c;
               continues = plain-part w (hears_on o (b ∷ new)) (b ∷ new) is_d (subst (λ (l : List ℕ). HoldsBack w (hears_on o (b ∷ new)) (l ++ (b ∷ new))) none (hears-more w o h.bytes b new goes));
             }
-        by false true None holds off short is_c is_d goes =
+        by false true None holds off short other is_c is_d goes =
             held-now x (count_of (b ∷ new)) (b ∷ new) frame (hears_on o (b ∷ new)) lent count (omega (arith, count)) (omega (arith, count, short)) is_d is_c h.reads h.has.frames apart
             (subst (λ (l : List ℕ). HoldsBack w (hears_on o (b ∷ new)) (l ++ (b ∷ new))) holds (hears-more w o h.bytes b new goes))
-        by false true (Some y) holds off short is_c is_d goes = record {
+        by false true (Some y) holds off short other is_c is_d goes = record {
           reads = h.reads;
           bytes = h.bytes;
           more = b ∷ new;
@@ -275,6 +276,7 @@ module _ (steps : EachStepLeavesTheRest) (own : CallsServeTheirDomain) (m n : St
           lends = lent;
           count = count;
           within = (let few = holds.few in omega (arith, few, short, count));
+          other = other;
           apart = apart;
           whole = is_c;
           goes = hears-more w o h.bytes b new goes;
@@ -315,7 +317,7 @@ module _ (steps : EachStepLeavesTheRest) (own : CallsServeTheirDomain) (m n : St
             ),
           ),
         )
-        more x (b ∷ new) hired here lent short off apart = (hears_on o (b ∷ new), refl, (hired, heard-now held frame x b new o here lent short apart))
+        more x (b ∷ new) hired here lent short off apart = (hears_on o (b ∷ new), refl, (hired, heard-now held frame x b new o here lent short off apart))
 
         by : (r : Reply) → caller.ReadsPipe m server has.reads.0 (CHUNK_BYTES - held_size held) r n
             → StepsTo m (event.Call server (call.IolRead run.from (CHUNK_BYTES - held_size held))) r n → Names n r heard

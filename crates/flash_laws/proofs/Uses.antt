@@ -350,9 +350,9 @@ has-agg m q due (Shuts f k) a u has = at-learnt m q due k a u has.1
 has-agg m q due (Picks b first last len) a u has = at-number m b a u has.bytes has.lends
 has-agg m q due (Spares b k) a u has = two m b (content_agg k a) a u has.0.0 has.0.1 (λ is. at-content m q due k a is has.2)
 has-agg m q due (Heads k) a u has = at-content m q due k a u has
-has-agg m q due (Joins b size body len) a u has = two m b (body == a) a u has.bytes has.lends (λ is. at-number m body a is has.after has.follows.0)
+has-agg m q due (Joins b size body len) a u has = two m b (body == a) a u has.0.bytes has.0.lends (λ is. at-number m body a is has.0.after has.0.follows.0)
 has-agg m q due (Sends b len taken more) a u has = two m b (has_followed more a) a u has.bytes has.lends (λ is. at-following m more has.after a is has.follows)
-has-agg m q due (Cuts b from len taken more) a u has = two m b (has_followed more a) a u has.bytes has.lends (λ is. at-following m more has.after a is has.follows)
+has-agg m q due (Cuts b from len taken more) a u has = two m b (has_followed more a) a u has.0.bytes has.0.lends (λ is. at-following m more has.0.after a is has.0.follows)
 has-agg m q due (Offers b from len piece taken more) a u has =
     two m piece ((b == a) || has_followed more a) a u (slice_range has.whole.bytes from (piece_end from len)) has.lends
     (λ v. two m b (has_followed more a) a v has.whole.bytes has.whole.lends (λ is. at-following m more has.whole.after a is has.whole.follows))

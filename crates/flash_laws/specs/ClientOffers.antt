@@ -2,7 +2,7 @@
 --
 -- It is said of each step, calm or not: what the machine has of a response it goes on having, unless somebody gives up or moves
 -- what the client uses. That over a whole run nobody does is not said here.
-use Rattle.std.specs.Prelude.{◌≡◌, ◌⊎◌, ℕ, Bool, true, false, List, [], Option, Some, None}
+use Rattle.std.specs.Prelude.{◌≡◌, ◌⊎◌, ℕ, Bool, true, false, not, List, [], Option, Some, None}
 use Rattle.iol_core.specs.Access.{HasAccess}
 use Rattle.iol_core.specs.State.{State, descriptor, is_live}
 use Rattle.iol_core.specs.Run.{StepsTo}
@@ -16,16 +16,19 @@ use Rattle.iol_core.specs.declared.events.Reply.{Reply}
 use Rattle.iol_core.specs.declared.events.Reply.TheVariants as reply
 use Rattle.iol_laws.specs.Frame.{touches_fd}
 use Rattle.iol_laws.specs.Order.{IsOrderly}
-use Rattle.flash_http.specs.Request.{Answer}
+use Rattle.flash_http.specs.Request.{Answer, serve, Wanted}
 use Rattle.flash_laws.specs.Answers.{Outcome}
-use Rattle.flash_laws.specs.Client.{Client, uses_agg, uses_fd, wants, is_for_script, awaits, told}
+use Rattle.flash_laws.specs.Client.{Client, uses_agg, uses_fd, job_of, wants, is_for_script, awaits, after_run, told}
+use Rattle.flash_laws.specs.Conn as conn
 use Rattle.flash_laws.specs.Conn.{begins}
 use Rattle.flash_laws.specs.Fits.{Names, is_closing}
 use Rattle.flash_laws.specs.Known.{Known, OfFile, OfScript, of_text, IsNextOf, HasKnown}
+use Rattle.flash_laws.specs.Nears.{Rank, Nears, CanMake, is_busy}
 use Rattle.flash_laws.specs.Offers as file
 use Rattle.flash_laws.specs.Offers.{FirstCall, may_repeat}
-use Rattle.flash_laws.specs.RunFits.{Progress, HasJobPipe}
+use Rattle.flash_laws.specs.RunFits.{Progress, HasJobPipe, HasRun}
 use Rattle.flash_laws.specs.RunOffers as run
+use Rattle.flash_laws.specs.Running as running
 use Rattle.flash_laws.specs.Running.{job_pipe, is_over}
 use Rattle.flash_laws.specs.Site.{server}
 use Rattle.flash_laws.specs.declared.doing.Doing.{Doing}
@@ -80,6 +83,49 @@ HandsJob x fd a = by x.run
     by (Some (Runs y (Hands j f))) = (fd ≡ job_pipe y.worker) × (a ≡ j)
     by y = ⊥
 
+-- whether something is in progress for it that ends
+abbrev pub is_working : Client → Bool
+is_working x = by x.run
+  where
+    by : Option Running → Bool
+    by None = is_busy x.conn.doing
+    by (Some y) = not (is_over y)
+
+-- more of its script's output was read
+abbrev pub HearsMore : Client → Reply → (heard : List ℕ) → Type 0
+HearsMore x r heard = by x.run
+  where
+    by : Option Running → Type 0
+    by None = ⊥
+    by (Some y) = run.HearsMore y r heard
+
+-- The client goes on as its run does, with its connection as it was; once that is over, the connection goes on where it left off.
+pub record GoesOnAs (x : Client) (z : Running) (after : Client) : Type 0 where
+  pub going : is_over z ≡ false → (after.run ≡ Some z) × (after.conn ≡ x.conn)
+  pub ended : is_over z ≡ true
+      → after ≡ record { conn = record x.conn { doing = after_run z }; run = None; script = [] }
+
+-- A client with a run wants, uses and has what that does, and goes on as it does; so what is said of runs (`RunOffers`) is said
+-- of it.
+pub record IsAsItsRun (scripts : Bool) (m : State) (x : Client) (w : Wanted) (y : Running) (text : List ℕ)
+    (o : Progress) : Type 0 where
+  pub has : HasRun (job_of w text) m w o y
+  pub asks : (fd : ℕ) → wants scripts fd x ≡ running.wants (job_of w text) fd w y
+  pub aggs : (a : ℕ) → uses_agg x a ≡ running.uses_agg y a
+  pub fds : (g : ℕ) → uses_fd x g ≡ running.uses_fd y g
+  pub tells : (worker : ℕ) (r : Reply) (heard : List ℕ)
+      → GoesOnAs x (running.told worker w y r heard) (told scripts worker x r heard)
+
+-- A client for whose request no script is run wants, uses and has what its connection does, and is told what that is told; so
+-- what is said of connections (`Offers`) is said of it.
+pub record IsAsItsConn (scripts : Bool) (m : State) (x : Client) (o : Outcome) : Type 0 where
+  pub has : file.HasAnswer m x.conn o
+  pub asks : (fd : ℕ) → wants scripts fd x ≡ conn.wants fd x.conn
+  pub aggs : (a : ℕ) → uses_agg x a ≡ conn.uses_agg x.conn.doing a
+  pub fds : (g : ℕ) → uses_fd x g ≡ conn.uses_fd x.conn.doing g
+  pub tells : (worker : ℕ) (r : Reply) (heard : List ℕ)
+      → told scripts worker x r heard ≡ record x { conn = conn.told x.conn r heard }
+
 -- `scripts` says whether scripts are run.
 pub record ClientOffersTheResponse (scripts : Bool) : Type 0 where
   -- a request begins so, with nothing needed yet
@@ -103,6 +149,20 @@ pub record ClientOffersTheResponse (scripts : Bool) : Type 0 where
   pub offers : (m : State) (fd g a : ℕ) (x : Client) (known : Known) → HasKnown scripts m x known
       → wants scripts fd x ≡ call.IolWrite g a
       → ((g ≡ fd) × IsNextOf m x.conn.q known a (taken_by x)) ⊎ HandsJob x g a
+  -- for a request that is not for a script the client is as its connection
+  pub files : (m : State) (x : Client) (o : Outcome) → is_for_script scripts x.conn.q ≡ false → HasKnown scripts m x (OfFile o)
+      → IsAsItsConn scripts m x o
+  -- while a script runs it is as its run
+  pub runs : (m : State) (x : Client) (w : Wanted) (y : Running) (text : List ℕ) (o : Progress) → x.run ≡ Some y
+      → x.conn.q ≡ serve w → is_over y ≡ false → HasKnown scripts m x (OfScript text o) → IsAsItsRun scripts m x w y text o
+  -- with each reply its request comes nearer to its end, but where more of its script's output was read, or its call is to be
+  -- made again later
+  pub rank : Client → Rank
+  pub nears : (m n : State) (fd c worker : ℕ) (x : Client) (r : Reply) (heard : List ℕ) (known : Known) → IsOrderly m
+      → is_live m server ≡ true → descriptor m server fd ≡ Some (on.Connection c) → is_working x ≡ true
+      → HasKnown scripts m x known → CanMake m (wants scripts fd x)
+      → StepsTo m (event.Call server (wants scripts fd x)) r n → Names n r heard
+      → Nears rank x r (told scripts worker x r heard) ⊎ HearsMore x r heard
   -- a call that was done is not made again
   pub moves : (m n : State) (fd worker : ℕ) (x : Client) (r : Reply) (heard : List ℕ) (known : Known) → is_ending x ≡ false
       → HasKnown scripts m x known → StepsTo m (event.Call server (wants scripts fd x)) r n

@@ -1,9 +1,10 @@
 -- What ties one connection to what came on it and what was sent.
-use Rattle.std.specs.Prelude.{◌≡◌, ◌≤◌, ℕ, ◌-◌, ◌⊎◌, ◌||◌, ◌==◌, Bool, true, false, List, [], ◌∷◌, ◌++◌, length, take, drop, slice_range, Some, None, is_none}
+use Rattle.std.specs.Prelude.{◌≡◌, ◌≤◌, ◌<◌, ℕ, ◌+◌, ◌-◌, ◌⊎◌, ◌||◌, ◌==◌, Bool, true, false, List, [], ◌∷◌, ◌++◌, length, take, drop, slice_range, Some, None, is_none}
 use Rattle.std.specs.List.{list_all}
 use Rattle.iol_core.specs.Text.{bytes_of}
 use Rattle.iol_core.specs.State.{State, Connection, descriptor, content, file, may_read, conn_at, is_gone}
 use Rattle.iol_laws.specs.Caller.{lent_at}
+use Rattle.iol_core.specs.declared.limits.TheConstants.{MAX_AGGREGATE_BYTES}
 use Rattle.iol_core.specs.declared.descriptors.Descriptor.TheVariants as on
 use Rattle.iol_core.specs.declared.descriptors.Mode.TheVariants as modes
 use Rattle.iol_core.specs.declared.events.Reply.{Reply}
@@ -50,9 +51,10 @@ pub record HoldsRestFrom (m : State) (due : List ℕ) (a from len taken : ℕ) (
   pub next : drop from bytes ++ after ≡ drop taken due
   pub apart : has_followed more a ≡ false
 
--- the same, and a piece of it is another aggregate
+-- the same, of which some are left, and a piece of these is another aggregate
 pub record HoldsPiece (m : State) (due : List ℕ) (a from len piece taken : ℕ) (more : Following) : Type 0 where
   pub whole : HoldsRestFrom m due a from len taken more
+  pub some : from < len
   pub lends : lent_at m server piece ≡ Some (slice_range whole.bytes from (piece_end from len))
   pub other : ((a == piece) || has_followed more piece) ≡ false
 
@@ -79,10 +81,11 @@ pub record HasBody (m : State) (due text : List ℕ) (a size : ℕ) : Type 0 whe
   pub count : size ≡ length bytes
   pub due_is : due ≡ text ++ bytes
 
--- the same, where only these of its bytes are sent
+-- the same, where only these of its bytes are sent, and some
 pub record HasPart (m : State) (due text : List ℕ) (a from to : ℕ) : Type 0 where
   pub bytes : List ℕ
   pub lends : lent_at m server a ≡ Some bytes
+  pub some : from < to
   pub count : to - from ≡ length (slice_range bytes from to)
   pub due_is : due ≡ text ++ slice_range bytes from to
 
@@ -128,9 +131,9 @@ Has m q due (Shuts f k) = IsFile m f × HasLearnt m q due k
 Has m q due (Picks a from to len) = HasPart m due (text_of q (Body a 0 len)) a from to
 Has m q due (Spares a k) = IsLent m a × (content_agg k a ≡ false) × HasContent m q due k
 Has m q due (Heads k) = HasContent m q due k
-Has m q due (Joins a size body len) = HoldsRest m due a size 0 (Some (body, len))
+Has m q due (Joins a size body len) = HoldsRest m due a size 0 (Some (body, len)) × (size + len ≤ MAX_AGGREGATE_BYTES)
 Has m q due (Sends a len taken more) = HoldsRest m due a len taken more
-Has m q due (Cuts a from len taken more) = HoldsRestFrom m due a from len taken more
+Has m q due (Cuts a from len taken more) = HoldsRestFrom m due a from len taken more × (from < len)
 Has m q due (Offers a from len piece taken more) = HoldsPiece m due a from len piece taken more
 Has m q due (Swaps a from len piece taken more) = IsLent m piece
     × (((a == piece) || has_followed more piece) ≡ false)

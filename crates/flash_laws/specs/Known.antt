@@ -1,5 +1,5 @@
 -- What is known of the response to a request, whether it is for a file or for a script, and what the machine has of it.
-use Rattle.std.specs.Prelude.{◌≡◌, ℕ, ◌+◌, Bool, true, false, List, ◌++◌, drop, Option, Some, None, if◌then◌else◌}
+use Rattle.std.specs.Prelude.{◌≡◌, ℕ, ◌+◌, Bool, true, false, List, [], ◌++◌, drop, Option, Some, None, if◌then◌else◌}
 use Rattle.iol_core.specs.State.{State}
 use Rattle.iol_laws.specs.Caller.{lent_at}
 use Rattle.flash_http.specs.Request.{Answer, serve, refuse, Wanted}
@@ -7,7 +7,7 @@ use Rattle.flash_laws.specs.Answers.{Outcome, Failed, response, script_text}
 use Rattle.flash_laws.specs.Client.{Client, is_for_script, job_of, can_run, keeps_text}
 use Rattle.flash_laws.specs.Fits.{Has}
 use Rattle.flash_laws.specs.RunFits as run
-use Rattle.flash_laws.specs.RunFits.{Progress, nothing_yet, HasRun}
+use Rattle.flash_laws.specs.RunFits.{Progress, Broken, nothing_yet, IsLeft, HasRun}
 use Rattle.flash_laws.specs.RunOffers.{past_of}
 use Rattle.flash_laws.specs.Site.{server}
 use Rattle.flash_laws.specs.declared.doing.Learnt.TheVariants.{Text}
@@ -80,21 +80,32 @@ pub record IsToRun (x : Client) (text : List ℕ) (o : Progress) : Type 0 where
   pub kept : x.script ≡ text
   pub fresh : o ≡ nothing_yet
 
-abbrev pub ReadsOn : (read : Bool) → Client → (text : List ℕ) → Progress → Type 0
-ReadsOn true x text o = IsToRun x text o
-ReadsOn false x text o = Unit {0}
+-- all of the response was taken, or it was broken off
+abbrev pub IsTaken : Wanted → Progress → Type 0
+IsTaken w Broken = Unit {0}
+IsTaken w o = IsLeft w o []
+
+-- After the run the connection rests where all of the response was taken, and it lets it; else it is to be closed.
+abbrev pub IsAfter : Wanted → Progress → Doing → Type 0
+IsAfter w o doing.Rests = IsLeft w o [] × (w.keep ≡ true)
+IsAfter w o (doing.Got a) = IsLeft w o [] × (w.keep ≡ true)
+IsAfter w o d = IsTaken w o
+
+abbrev pub ReadsOn : (read : Bool) → Wanted → Client → (text : List ℕ) → Progress → Type 0
+ReadsOn true w x text o = IsToRun x text o
+ReadsOn false w x text o = IsAfter w o x.conn.doing
 
 -- HEAD is answered as for a file; with GET nothing is sent before the run begins, or after it
-abbrev pub Sends : (head_only : Bool) → Client → (text : List ℕ) → Progress → Type 0
-Sends true x text o = o ≡ nothing_yet
-Sends false x text o = (is_silent x.conn.doing ≡ true) × ReadsOn (is_read x.conn.doing) x text o
+abbrev pub Sends : (head_only : Bool) → Wanted → Client → (text : List ℕ) → Progress → Type 0
+Sends true w x text o = o ≡ nothing_yet
+Sends false w x text o = (is_silent x.conn.doing ≡ true) × ReadsOn (is_read x.conn.doing) w x text o
 
 -- no run has begun, or it is over
 pub record HasNoRun (scripts : Bool) (m : State) (w : Wanted) (x : Client) (text : List ℕ) (o : Progress) : Type 0 where
   pub script : is_read x.conn.doing ≡ true → is_for_script scripts (serve w) ≡ true
   pub read : is_opening x.conn.doing ≡ false
   pub has : Has m (serve w) (script_text w) x.conn.doing
-  pub sends : Sends w.head_only x text o
+  pub sends : Sends w.head_only w x text o
 
 -- a run has the connection
 pub record IsRun (m : State) (w : Wanted) (y : Running) (script text : List ℕ) (o : Progress) : Type 0 where

@@ -19,6 +19,7 @@ pub mod Laws
 pub mod Idle
 pub mod Done
 pub mod Host
+pub mod Nears
 pub mod Offers
 pub mod Keeping
 pub mod Scripts

@@ -182,6 +182,7 @@ pub record HasPiece (m : State) (w : Wanted) (o : Progress) (run : Run) (held si
   pub lends : lent_at m server piece ≡ Some more
   pub count : len ≡ length more
   pub within : size + len ≤ CHUNK_BYTES
+  pub other : (held == piece) ≡ false
   pub apart : has_frame frame piece ≡ false
   pub whole : run.broken ≡ false
   pub goes : HoldsBack w o (bytes ++ more)

@@ -3,7 +3,7 @@
 --
 -- It is said of each step, calm or not: what a run has it goes on having, unless somebody gives up or moves what it uses. That
 -- over a whole run nobody does is not said here, nor what a worker writes.
-use Rattle.std.specs.Prelude.{◌≡◌, ◌<◌, ℕ, ◌+◌, ◌-◌, ◌==◌, ◌⊎◌, Bool, true, false, List, [], ◌∷◌, ◌++◌, length, drop, Option, Some, None, if◌then◌else◌}
+use Rattle.std.specs.Prelude.{◌≡◌, ◌<◌, ℕ, ◌+◌, ◌-◌, ◌⊎◌, Bool, true, false, List, [], ◌∷◌, ◌++◌, length, drop, Option, Some, None}
 use Rattle.iol_core.specs.State.{State, descriptor, is_live, pipe_at, conn_at, new_pipe, is_gone}
 use Rattle.iol_core.specs.Run.{StepsTo}
 use Rattle.iol_core.specs.Values.{gives_up}
@@ -21,7 +21,8 @@ use Rattle.iol_laws.specs.Order.{IsOrderly}
 use Rattle.iol_laws.specs.Reasons.{IsHidden}
 use Rattle.flash_http.specs.Request.{Wanted}
 use Rattle.flash_laws.specs.Fits.{Names}
-use Rattle.flash_laws.specs.Offers.{may_repeat}
+use Rattle.flash_laws.specs.Nears.{Rank, Nears, CanMake}
+use Rattle.flash_laws.specs.Offers.{newly_taken, is_dropping, may_repeat}
 use Rattle.flash_laws.specs.RunFits.{Progress, Ran, Broken, NotRun, nothing_yet, MayAnswer, HasRun, HasJobPipe, taken_of}
 use Rattle.flash_laws.specs.Running.{uses_agg, uses_fd, worker_domain, job_pipe, held_size, wants, told, is_over}
 use Rattle.flash_laws.specs.Site.{server}
@@ -78,11 +79,6 @@ past_of (Ran heard ended past) = length past
 past_of Broken = 0
 past_of (NotRun status past) = length past
 
--- how many bytes the connection at fd takes by this reply
-abbrev pub newly_taken : (fd : ℕ) → Call → Reply → ℕ
-newly_taken fd (call.IolWrite g a) (reply.Count k) = if g == fd then k else 0
-newly_taken fd k r = 0
-
 -- the bytes of an aggregate are the next of the response, whatever that will be
 pub record IsNextOf (m : State) (w : Wanted) (o : Progress) (a taken : ℕ) : Type 0 where
   pub bytes : List ℕ
@@ -96,12 +92,6 @@ HasWorker worker (Runs run step) = run.worker ≡ worker
 HasWorker worker x = Unit {0}
 
 -- ---- why a response is broken off, or a script not run
-
--- whether what was to be sent is dropped
-abbrev pub is_dropping : Doing → Bool
-is_dropping (doing.Breaks piece a more) = true
-is_dropping (doing.Drops a more) = true
-is_dropping d = false
 
 -- whether what is left of the response is dropped
 abbrev pub breaks_off : Running → Bool
@@ -148,6 +138,13 @@ abbrev pub StopsBy : Running → Reply → (heard : List ℕ) → Type 0
 StopsBy (Runs run (Hears held frame)) (reply.Agg n) heard = heard ≡ []
 StopsBy (Runs run (Hears held frame)) (reply.Refused (no.Denied p)) heard = Unit {0}
 StopsBy x r heard = ⊥
+
+-- ---- how it comes nearer to its end
+
+-- more of the output was read
+abbrev pub HearsMore : Running → Reply → (heard : List ℕ) → Type 0
+HearsMore (Runs run (Hears held frame)) (reply.Agg n) (b ∷ heard) = Unit {0}
+HearsMore x r heard = ⊥
 
 -- ---- in which order it hands the job over
 
@@ -207,6 +204,12 @@ pub record RunOffersTheResponse (job : ℕ → List ℕ) : Type 0 where
   pub fails : (m n : State) (fd worker : ℕ) (w : Wanted) (x : Running) (r : Reply) (heard : List ℕ) (o : Progress)
       → is_live m server ≡ true → HasRun job m w o x → StepsTo m (event.Call server (wants job fd w x)) r n
       → is_failing x ≡ false → is_failing (told worker w x r heard) ≡ true → IsLost m x
+  -- with each reply it comes nearer to its end, but where more of the output was read, or its call is to be made again later
+  pub rank : Wanted → Running → Rank
+  pub nears : (m n : State) (fd c worker : ℕ) (w : Wanted) (x : Running) (r : Reply) (heard : List ℕ) (o : Progress)
+      → IsOrderly m → is_live m server ≡ true → descriptor m server fd ≡ Some (on.Connection c) → is_over x ≡ false
+      → HasRun job m w o x → CanMake m (wants job fd w x) → StepsTo m (event.Call server (wants job fd w x)) r n
+      → Names n r heard → Nears (rank w) x r (told worker w x r heard) ⊎ HearsMore x r heard
   -- a call that was done is not made again
   pub moves : (m n : State) (fd worker : ℕ) (w : Wanted) (x : Running) (r : Reply) (heard : List ℕ) (o : Progress)
       → is_over x ≡ false → HasRun job m w o x → StepsTo m (event.Call server (wants job fd w x)) r n

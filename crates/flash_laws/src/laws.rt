@@ -101,7 +101,8 @@ pub fn premises_can_be_met<W: Works>()
 }
 
 /// What the server offers for a request is the next bytes of the response to it, with the outcome of the calls that it made for it,
-/// the first of which opens the file of its name. It is said of each step, calm or not, while nobody gives up or moves what the
+/// the first of which opens the file of its name. With each reply the request comes nearer to its end, but where its call is to be
+/// made again later; so it makes only so many calls. It is said of each step, calm or not, while nobody gives up or moves what the
 /// connection uses; that over a whole run nobody does is not.
 pub fn offers_law()
     ensures { OffersTheResponse }
@@ -109,6 +110,8 @@ pub fn offers_law()
     laws::each_step_leaves_the_rest();
     laws::calls_serve_their_domain();
     laws::file_calls_serve_their_domain();
+    laws::refusals_tell_why();
+    laws::refusals_that_are_left();
 }
 
 /// The server keeps nothing of an answer that is over: what a call brings is used by the connection that it was made for, and what that

@@ -11,7 +11,8 @@ use iol_laws::laws;
 /// what the run uses: a run begins so, and after the reply to its own call the machine has what is needed then. As much counts as
 /// taken as the connection took, until the response is broken off, which is where its peer is gone or the output may not be read.
 /// A script is given up before it runs, and only where its worker does not live or nobody reads its jobs. The worker gets the pipe
-/// that the server reads, and then the job that names it. No output is read while the bytes of a whole chunk are held.
+/// that the server reads, and then the job that names it. No output is read while the bytes of a whole chunk are held. With each reply
+/// it comes nearer to its end, but where more output was read, or its call is to be made again later.
 pub fn runs_law()
     ensures { RunsOfferTheResponse }
 {
@@ -35,13 +36,15 @@ pub fn run_keeping_law()
 /// What the server offers a client for a request, be it for a file or for a script, is the next bytes of the response: of a file there
 /// is one, of a script it is whatever it will be. It is said of each call for the client, calm or not, while nobody gives up or moves what
 /// it uses: the file's name is asked for first, a script that was read runs with its own text and the query of its request, and HEAD
-/// runs none.
+/// runs none. While a script runs the client is as its run. With each reply a request comes nearer to its end, but where more of the
+/// output was read, or its call is to be made again later.
 pub fn clients_law()
     ensures { ClientsAreOfferedTheResponse }
 {
     laws::each_step_leaves_the_rest();
     laws::calls_serve_their_domain();
     laws::file_calls_serve_their_domain();
+    laws::refusals_that_are_left();
 }
 
 /// The server keeps nothing of an answer that is over, be it of a file or of a script: what a call brings is used by the client that it
