@@ -37,7 +37,8 @@ use Rattle.flash_laws.specs.Keeping.{KeepsNothing}
 use Rattle.flash_laws.specs.Site.{server}
 use Rattle.flash_laws.proofs.Lists.{clash, later_of}
 use Rattle.flash_laws.proofs.Moving.{conn-opened}
-use Rattle.flash_laws.proofs.Uses.{same-number}
+use Rattle.flash_laws.proofs.Touching.{fds-wants, conns-wants, pipes-wants, files-wants, admits-wants}
+use Rattle.flash_laws.proofs.Uses.{same-number, gives-wants}
 
 abbrev at : List ℕ → Answer → Doing → Conn
 at kept q d = record { kept = kept; q = q; doing = d }
@@ -337,4 +338,12 @@ keeps_nothing come own files = record {
       let gives = leaves-told fd x.kept x.q x.doing r heard a u unused in
       come.gone m n (event.Call server (wants fd x)) r server a order step gives.0 gives.1;
   shut = λ m n fd x r heard g step u unused. shuts own m n fd x.kept x.q x.doing r heard g step u unused;
+  alone = λ m fd c x o is has. record {
+    aggs = λ a u. gives-wants fd x.kept x.q x.doing a u;
+    fds = λ g t. fds-wants m fd c x.kept x.q x.doing g is t;
+    conns = λ e t. conns-wants m fd c x.kept x.q (response x.q o) x.doing e is has t;
+    pipes = λ p. pipes-wants m fd c x.kept x.q (response x.q o) x.doing p is has;
+    files = files-wants m fd c x.kept x.q x.doing is;
+    pools = λ p. admits-wants fd x.kept x.q x.doing p;
+  };
 }

@@ -6,7 +6,7 @@ use Rattle.std.proofs.lemmas.Bool.Decides.{nat_tests}
 use Rattle.std.proofs.lemmas.Grind.{common_steps}
 use Rattle.iol_core.specs.State.{State, descriptor}
 use Rattle.iol_core.specs.Calls.Writing.{is_file}
-use Rattle.iol_laws.specs.Frame.{is_conn, touches_conn, touches_fd, changes_files, admits_to}
+use Rattle.iol_laws.specs.Frame.{is_conn, is_end, touches_conn, touches_pipe, touches_fd, changes_files, admits_to}
 use Rattle.iol_core.specs.declared.descriptors.Descriptor.{Descriptor}
 use Rattle.iol_core.specs.declared.descriptors.Descriptor.TheVariants as on
 use Rattle.iol_core.specs.declared.descriptors.Mode.TheVariants as modes
@@ -98,6 +98,38 @@ conns-wants m fd c kept q due (Breaks piece b more) k is has t = absurd (cc)
 conns-wants m fd c kept q due (Drops b more) k is has t = absurd (cc)
 conns-wants m fd c kept q due Closes k is has t = uses-conn m fd c k is t
 conns-wants m fd c kept q due Over k is has t = uses-conn m fd c k is t
+
+-- and no pipe
+no-end : (m : State) (fd c p : ℕ) → descriptor m server fd ≡ Some (on.Connection c) → (list_any (is_end p) (descriptor m server fd ∷ []) || false) ≡ false
+no-end m fd c p is = ap (λ (d : Option Descriptor). list_any (is_end p) (d ∷ []) || false) is
+
+no-file-end : (m : State) (g f pos p : ℕ) → descriptor m server g ≡ Some (on.File f pos modes.Read) → (list_any (is_end p) (descriptor m server g ∷ []) || false) ≡ false
+no-file-end m g f pos p is = ap (λ (d : Option Descriptor). list_any (is_end p) (d ∷ []) || false) is
+
+pub pipes-wants : (m : State) (fd c : ℕ) (kept : List ℕ) (q : Answer) (due : List ℕ) (d : Doing) (p : ℕ) → descriptor m server fd ≡ Some (on.Connection c) → Has m q due d
+    → touches_pipe m (event.Call server (wants fd (at kept q d))) p ≡ false
+pipes-wants m fd c kept q due Rests p is has = no-end m fd c p is
+pipes-wants m fd c kept q due (Reading f) p is has = by (is_head_only q)
+  where
+    by : (b : Bool) → touches_pipe m (event.Call server (if b then call.Length f else call.IolRead f most_read)) p ≡ false
+    by true = refl
+    by false = no-file-end m f has.1.0 has.1.1 p has.1.2
+pipes-wants m fd c kept q due (Shuts f x) p is has = no-file-end m f has.0.0 has.0.1 p has.0.2
+pipes-wants m fd c kept q due (Sends b len taken more) p is has = no-end m fd c p is
+pipes-wants m fd c kept q due (Offers b from len piece taken more) p is has = no-end m fd c p is
+pipes-wants m fd c kept q due Closes p is has = no-end m fd c p is
+pipes-wants m fd c kept q due Over p is has = no-end m fd c p is
+pipes-wants m fd c kept q due (Got b) p is has = refl
+pipes-wants m fd c kept q due Opens p is has = refl
+pipes-wants m fd c kept q due (Picks b first last len) p is has = refl
+pipes-wants m fd c kept q due (Spares b x) p is has = refl
+pipes-wants m fd c kept q due (Heads x) p is has = refl
+pipes-wants m fd c kept q due (Joins b size body len) p is has = refl
+pipes-wants m fd c kept q due (Cuts b from len taken more) p is has = refl
+pipes-wants m fd c kept q due (Swaps b from len piece taken more) p is has = refl
+pipes-wants m fd c kept q due (Sent b taken more) p is has = refl
+pipes-wants m fd c kept q due (Breaks piece b more) p is has = refl
+pipes-wants m fd c kept q due (Drops b more) p is has = refl
 
 -- it writes no file
 pub files-wants : (m : State) (fd c : ℕ) (kept : List ℕ) (q : Answer) (d : Doing)

@@ -115,8 +115,8 @@ pub fn offers_law()
 }
 
 /// The server keeps nothing of an answer that is over: what a call brings is used by the connection that it was made for, and what that
-/// connection uses no more, aggregates and descriptors of files, is given up. It is said of each call of the server, calm or not; what
-/// others give the server is not spoken of.
+/// connection uses no more, aggregates and descriptors of files, is given up. Its calls touch nothing but what it has. It is said of each
+/// call of the server, calm or not; what others give the server is not spoken of.
 pub fn keeping_law()
     ensures { KeepsNothing }
 {
