@@ -83,16 +83,16 @@ lift kept q script d e r was now (inr same) = inr (ap (λ z. client (at kept q z
 
 -- ---- phases in which a request for a script goes as one for a file
 
-abbrev is_scripts : Doing → Bool
+abbrev pub is_scripts : Doing → Bool
 is_scripts (Reading f) = true
 is_scripts (Spares a Script) = true
 is_scripts d = false
 
-wants-plain : (fd : ℕ) (kept : List ℕ) (q : Answer) (d : Doing) → is_scripts d ≡ false → conn_wants true fd (at kept q d) ≡ conn.wants fd (at kept q d)
+pub wants-plain : (fd : ℕ) (kept : List ℕ) (q : Answer) (d : Doing) → is_scripts d ≡ false → conn_wants true fd (at kept q d) ≡ conn.wants fd (at kept q d)
 wants-plain fd kept q (Reading f) plain = absurd (cc (plain))
 wants-plain fd kept q d plain = refl
 
-told-plain : (kept : List ℕ) (q : Answer) (script : List ℕ) (d : Doing) (r : Reply) (heard : List ℕ) → is_scripts d ≡ false
+pub told-plain : (kept : List ℕ) (q : Answer) (script : List ℕ) (d : Doing) (r : Reply) (heard : List ℕ) → is_scripts d ≡ false
     → file_told true (client (at kept q d) None script) r heard ≡ conn_told (client (at kept q d) None script) r heard
 told-plain kept q script (Reading f) r heard plain = absurd (cc (plain))
 told-plain kept q script (Spares a Script) r heard plain = absurd (cc (plain))

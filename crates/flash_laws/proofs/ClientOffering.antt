@@ -46,6 +46,7 @@ use Rattle.flash_laws.specs.Running.{in_phase, is_over, job_pipe}
 use Rattle.flash_laws.specs.Site.{server}
 use Rattle.flash_laws.proofs.ClientMoving.{client-moves}
 use Rattle.flash_laws.proofs.ClientNearing.{rank, client-nears}
+use Rattle.flash_laws.proofs.ClientTaking.{client-takes}
 use Rattle.flash_laws.proofs.ClientPhases as phases
 use Rattle.flash_laws.proofs.ClientPhases.{at, Next, next-due, script-writes, asks-told, unread-told, read-told}
 use Rattle.flash_laws.proofs.Lent.{lent-stays, has-stays}
@@ -568,6 +569,8 @@ clients_offered steps own files may = λ scripts. record {
   replied = λ m n fd c worker x r heard before order access lives open_on hired going has step names.
       replied steps own files scripts m n fd c worker x.conn.kept x.conn.q x.conn.doing x.run x.script r heard before order access lives open_on hired going has step names;
   stays = λ m n x e r known step aggs fds has. stays steps scripts m n x.conn.kept x.conn.q x.conn.doing x.run x.script e r known step aggs fds has;
+  takes = λ m n fd c worker x r heard before after order open_on going has step learns at_is on busy.
+      client-takes steps own scripts m n fd c worker x.conn.kept x.conn.q x.conn.doing x.run x.script r heard before after order open_on going has step learns at_is on busy;
   files = λ m x o plain has. client-files scripts m x.conn.kept x.conn.q x.conn.doing x.run x.script o plain has;
   runs = λ m x w y text o is_run is_q going has. client-runs scripts m x.conn.kept x.conn.q x.conn.doing x.run x.script w y text o is_run is_q going has;
   rank = rank;

@@ -49,5 +49,6 @@ pub mod ClientPhases
 pub mod RunEnds
 pub mod ClientMoving
 pub mod ClientNearing
+pub mod ClientTaking
 pub mod ClientOffering
 pub mod ClientKeeping

@@ -2,7 +2,7 @@
 --
 -- It is said of each step, calm or not: what the machine has of a response it goes on having, unless somebody gives up or moves
 -- what the client uses. That over a whole run nobody does is not said here.
-use Rattle.std.specs.Prelude.{◌≡◌, ◌⊎◌, ℕ, Bool, true, false, not, List, [], Option, Some, None}
+use Rattle.std.specs.Prelude.{◌≡◌, ◌⊎◌, ℕ, ◌+◌, Bool, true, false, not, List, [], Option, Some, None}
 use Rattle.iol_core.specs.Access.{HasAccess}
 use Rattle.iol_core.specs.State.{State, descriptor, is_live}
 use Rattle.iol_core.specs.Run.{StepsTo}
@@ -22,10 +22,10 @@ use Rattle.flash_laws.specs.Client.{Client, uses_agg, uses_fd, job_of, wants, is
 use Rattle.flash_laws.specs.Conn as conn
 use Rattle.flash_laws.specs.Conn.{begins}
 use Rattle.flash_laws.specs.Fits.{Names, is_closing}
-use Rattle.flash_laws.specs.Known.{Known, OfFile, OfScript, of_text, IsNextOf, HasKnown}
+use Rattle.flash_laws.specs.Known.{Known, OfFile, OfScript, of_text, taken_before, IsNextOf, HasKnown}
 use Rattle.flash_laws.specs.Nears.{Rank, Nears, CanMake, is_busy}
 use Rattle.flash_laws.specs.Offers as file
-use Rattle.flash_laws.specs.Offers.{FirstCall, may_repeat}
+use Rattle.flash_laws.specs.Offers.{FirstCall, newly_taken, is_dropping, may_repeat}
 use Rattle.flash_laws.specs.RunFits.{Progress, HasJobPipe, HasRun}
 use Rattle.flash_laws.specs.RunOffers as run
 use Rattle.flash_laws.specs.Running as running
@@ -99,6 +99,14 @@ HearsMore x r heard = by x.run
     by None = ⊥
     by (Some y) = run.HearsMore y r heard
 
+-- whether what was to be sent for it is dropped
+abbrev pub drops_rest : Client → Bool
+drops_rest x = by x.run
+  where
+    by : Option Running → Bool
+    by None = is_dropping x.conn.doing
+    by (Some y) = run.breaks_off y
+
 -- The client goes on as its run does, with its connection as it was; once that is over, the connection goes on where it left off.
 pub record GoesOnAs (x : Client) (z : Running) (after : Client) : Type 0 where
   pub going : is_over z ≡ false → (after.run ≡ Some z) × (after.conn ≡ x.conn)
@@ -149,6 +157,14 @@ pub record ClientOffersTheResponse (scripts : Bool) : Type 0 where
   pub offers : (m : State) (fd g a : ℕ) (x : Client) (known : Known) → HasKnown scripts m x known
       → wants scripts fd x ≡ call.IolWrite g a
       → ((g ≡ fd) × IsNextOf m x.conn.q known a (taken_by x)) ⊎ HandsJob x g a
+  -- as much counts as taken as the connection took, as long as the response is neither over nor broken off
+  pub takes : (m n : State) (fd c worker : ℕ) (x : Client) (r : Reply) (heard : List ℕ) (before after : Known) → IsOrderly m
+      → descriptor m server fd ≡ Some (on.Connection c) → is_ending x ≡ false → HasKnown scripts m x before
+      → StepsTo m (event.Call server (wants scripts fd x)) r n → Learns scripts m x r heard before after
+      → drops_rest x ≡ false → drops_rest (told scripts worker x r heard) ≡ false
+      → is_working (told scripts worker x r heard) ≡ true
+      → taken_before after + taken_by (told scripts worker x r heard)
+      ≡ taken_before before + taken_by x + newly_taken fd (wants scripts fd x) r
   -- for a request that is not for a script the client is as its connection
   pub files : (m : State) (x : Client) (o : Outcome) → is_for_script scripts x.conn.q ≡ false → HasKnown scripts m x (OfFile o)
       → IsAsItsConn scripts m x o
