@@ -14,3 +14,4 @@ pub mod Turns
 pub mod Waiting
 pub mod Working
 pub mod Works
+pub mod Wants

@@ -1,5 +1,7 @@
 //! The calls that a worker makes.
-ghost use Rattle.std.specs.Prelude.{◌≡◌, IfOk};
+ghost use Rattle.std.specs.Prelude.{◌≡◌, true, IfOk, OnErr};
+ghost use Rattle.std.specs.List.{slice_get};
+ghost use Rattle.flash_cgi.specs.Wants.{has_bytes, line_has_bytes, next_has_bytes};
 ghost use Rattle.flash_cgi.specs.Working as spec;
 
 use crate::doing::{Doing, Step};
@@ -44,7 +46,8 @@ fn open_call(alloc: Global, name: &[u8]) -> Result<Call, AllocError>
 
 // The call that begins a line.
 fn line_call(alloc: Global, line: &Line, query: &[u8]) -> Result<Call, AllocError>
-    ensures { IfOk result (λ call. call ≡ spec.line_call query.now line.now) }
+    ensures call { IfOk result (λ call. call ≡ spec.line_call query.now line.now) }
+    ensures wants { OnErr result (line_has_bytes line.now ≡ true) }
 {
     match line {
         Line::Emit { text } => {
@@ -65,7 +68,8 @@ fn line_call(alloc: Global, line: &Line, query: &[u8]) -> Result<Call, AllocErro
 
 // The call that begins the next line, or closes the output after the last one.
 fn begin_call(alloc: Global, job: &Job, begun: usize) -> Result<Call, AllocError>
-    ensures { IfOk result (λ call. call ≡ spec.begin_call job.now begun) }
+    ensures call { IfOk result (λ call. call ≡ spec.begin_call job.now begun) }
+    ensures wants { OnErr result (next_has_bytes (slice_get job.now.lines begun) ≡ true) }
 {
     match job.script.lines.get(begun) {
         Some(line) => line_call(alloc, line, job.query.as_slice()),
@@ -75,7 +79,8 @@ fn begin_call(alloc: Global, job: &Job, begun: usize) -> Result<Call, AllocError
 
 /// The call of a step.
 pub(crate) fn call_at(alloc: Global, job: &Job, step: &Step) -> Result<Call, AllocError>
-    ensures { IfOk result (λ call. call ≡ spec.call_at job.now step.now) }
+    ensures call { IfOk result (λ call. call ≡ spec.call_at job.now step.now) }
+    ensures wants { OnErr result (has_bytes job.now step.now ≡ true) }
 {
     let doing = step.doing;
     match doing {

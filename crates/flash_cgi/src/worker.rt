@@ -1,7 +1,8 @@
 //! A process that runs scripts.
-ghost use Rattle.std.specs.Prelude.{◌≡◌, Some, IfOk, OnErr};
+ghost use Rattle.std.specs.Prelude.{◌≡◌, true, Some, IfOk, OnErr};
 ghost use Rattle.iol_proc.specs.Looks.{lent};
 ghost use Rattle.iol_proc.specs.Quiet.{IsQuiet};
+ghost use Rattle.flash_cgi.specs.Wants as memory;
 ghost use Rattle.flash_cgi.specs.Working as spec;
 ghost use Rattle.flash_cgi.specs.Works as account;
 
@@ -48,6 +49,7 @@ impl Worker {
         ensures turn { IfOk result (λ turn. account.asks self.old turn self.new) }
         ensures quiet { IfOk result IsQuiet }
         ensures err { OnErr result (self.new ≡ self.old) }
+        ensures wants { OnErr result (memory.has_bytes self.old.job self.old.step ≡ true) }
     {
         let call = call_at(self.alloc, &self.job, &self.step)?;
         self.standing = Standing::Asked;
@@ -60,6 +62,7 @@ impl Worker {
             (λ turn. account.goes_on self.old (Some step) turn self.new) }
         ensures quiet { IfOk result IsQuiet }
         ensures err { OnErr result (self.new ≡ self.old) }
+        ensures wants { OnErr result (memory.has_bytes self.old.job step ≡ true) }
     {
         let call = call_at(self.alloc, &self.job, &step)?;
         self.step = step;
@@ -73,6 +76,8 @@ impl Worker {
             (spec.told self.old.job self.old.step (lent look.now) last.now) turn self.new) }
         ensures quiet { IfOk result IsQuiet }
         ensures err { OnErr result (self.new ≡ self.old) }
+        ensures wants { OnErr result (memory.WantsOn self.old.job
+            (spec.told self.old.job self.old.step (lent look.now) last.now)) }
     {
         match told(&self.job, self.step, last, look) {
             Some(step) => self.make(step),
@@ -124,6 +129,8 @@ impl Worker {
             (λ turn. account.files self.old self.old.step.doing last.now (lent look.now) turn self.new) }
         ensures quiet { IfOk result IsQuiet }
         ensures err { OnErr result (self.new ≡ self.old) }
+        ensures wants { OnErr result
+            (memory.WantsToFile self.old self.old.step.doing last.now (lent look.now)) }
     {
         let doing = self.step.doing;
         match (doing, last) {
@@ -136,7 +143,15 @@ impl Worker {
 impl Process for Worker {
     ghost turns = { account.works };
 
-    fn next(&mut self, last: &Reply, look: &Look<'_>) -> Result<Turn, AllocError> {
+    fn next(&mut self, last: &Reply, look: &Look<'_>) -> Result<Turn, AllocError>
+        ensures turn { IfOk result
+            (λ turn. account.works self.old last.now (lent look.now) turn self.new) }
+        ensures quiet { IfOk result IsQuiet }
+        ensures err { OnErr result (self.new ≡ self.old) }
+
+        // It wants memory only to read a job, and for the bytes of a call.
+        ensures wants { OnErr result (memory.Wants self.old last.now (lent look.now)) }
+    {
         match self.standing {
             Standing::Asks => self.ask(),
             Standing::Asked => self.file(last, look),
