@@ -97,7 +97,7 @@ module _ (m n : State) (d : ℕ) (left : LeavesWorker m d n) where
       ap (λ (l : List ℕ). told_doing (λ k. Some l) job step.begun (doing.Writes a) (reply.Count k)) (same_at a has.0 has.1)
   told_stays job step x last h = refl
 
-  filed_stays : (s : Standing) (w : Worker) (last : Reply) → Needs m d (filed_step s w (lent_at m d) last).doing → filed_step s w (lent_at n d) last ≡ filed_step s w (lent_at m d) last
+  pub filed_stays : (s : Standing) (w : Worker) (last : Reply) → Needs m d (filed_step s w (lent_at m d) last).doing → filed_step s w (lent_at n d) last ≡ filed_step s w (lent_at m d) last
   filed_stays standing.Asked w last h = ap (λ (o : Option Step). or_again o w.step) (told_stays w.job w.step w.step.doing last h)
   filed_stays standing.Asks w last h = refl
   filed_stays standing.Over w last h = refl
@@ -249,7 +249,7 @@ no_exit : (e : Event) (d : ℕ) → is_call_of e d ≡ false → ends e d ≡ fa
 no_exit (event.Call by call.Exit) d other = other
 no_exit e d other = refl
 
-no_touch : (m : State) (e : Event) (d fd : ℕ) → is_call_of e d ≡ false → touches_fd m e d fd ≡ false
+pub no_touch : (m : State) (e : Event) (d fd : ℕ) → is_call_of e d ≡ false → touches_fd m e d fd ≡ false
 no_touch m (event.Call by call.Exit) d fd other = other
 no_touch m (event.Call by (call.Close f)) d fd other = ap (λ b. b && (f == fd)) other
 no_touch m (event.Call by (call.GiveFd f to)) d fd other = ap (λ b. b && (f == fd)) other
@@ -260,7 +260,7 @@ no_touch m (event.Call by (call.Read f n)) d fd other = ap (λ b. b && (f == fd)
 no_touch m (event.Call by (call.Write f bytes)) d fd other = ap (λ b. b && (f == fd) && is_file (descriptor m by f)) other
 no_touch m e d fd other = refl
 
-no_gift : (e : Event) (d a : ℕ) → is_call_of e d ≡ false → gives_up e d a ≡ false
+pub no_gift : (e : Event) (d a : ℕ) → is_call_of e d ≡ false → gives_up e d a ≡ false
 no_gift (event.Call by call.Exit) d a other = other
 no_gift (event.Call by (call.AggSplit b at)) d a other = ap (λ t. t && (b == a)) other
 no_gift (event.Call by (call.AggJoin b c)) d a other = ap (λ t. t && ((b == a) || (c == a))) other
@@ -268,7 +268,7 @@ no_gift (event.Call by (call.AggDrop b)) d a other = ap (λ t. t && (b == a)) ot
 no_gift (event.Call by (call.AggGive b to)) d a other = ap (λ t. t && (b == a)) other
 no_gift e d a other = refl
 
-values_stay : (m n : State) (e : Event) (d a : ℕ) (bytes : List ℕ) → ValuesStay m e n → lent_at m d a ≡ Some bytes → gives_up e d a ≡ false → lent_at n d a ≡ Some bytes
+pub values_stay : (m n : State) (e : Event) (d a : ℕ) (bytes : List ℕ) → ValuesStay m e n → lent_at m d a ≡ Some bytes → gives_up e d a ≡ false → lent_at n d a ≡ Some bytes
 values_stay m n e d a bytes stay is un = by (aggregate m d a) refl
   where
     by : (t : Option Text) → aggregate m d a ≡ t → lent_at n d a ≡ Some bytes

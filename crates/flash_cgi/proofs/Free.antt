@@ -3,10 +3,12 @@ use Rattle.std.proofs.Common.{inl, inr, ◌≡◌, ◌⊎◌, ℕ, List, [], ◌
 use Rattle.std.specs.Prelude.{unwrap_or}
 use Rattle.iol_core.specs.Text.{Text}
 use Rattle.iol_core.specs.State.{State, is_live}
+use Rattle.iol_core.specs.Run.{StepsTo}
 use Rattle.iol_core.specs.declared.events.Call.TheVariants as call
+use Rattle.iol_core.specs.declared.events.Event.TheVariants as event
 use Rattle.iol_core.specs.declared.events.Reply.{Reply}
 use Rattle.iol_core.specs.declared.events.Reply.TheVariants as reply
-use Rattle.iol_laws.specs.Caller.{CallsServeTheirDomain, ReadsPipe, lent_at}
+use Rattle.iol_laws.specs.Caller.{CallsServeTheirDomain, lent_at}
 use Rattle.iol_laws.specs.Order.{IsOrderly}
 use Rattle.iol_proc.specs.Turns.{Comes as ComesOf, SeatTurn}
 use Rattle.iol_proc.specs.World.{copying, seat_of}
@@ -48,30 +50,30 @@ refused_is_free n d x r y asked at un is = record {
   not_given = λ e. ap (λ (z : Doing). is_given z r) at ∙ (ap (λ (l : Reply). is_given doing.Waits l) is ∙ un);
 }
 
-module _ (own : CallsServeTheirDomain) (m n : State) (d j : ℕ) (v : Worker) (r : Reply) (t : Turn) (yields : Bool) (order : IsOrderly m) (none : HasNoJob m d j)
-    (comes : ComesOf copying works m d t yields r n) where
-  abbrev Stays : Worker → Type 0
-  Stays x = (n ≡ m) × IsFree n (seat_at d x r)
+-- its turn changes nothing, and leaves it free; or it is given what lies in its job pipe
+abbrev pub FreeTurn : (m n : State) → (d : ℕ) → (next : Seat Worker) → Reply → Type 0
+FreeTurn m n d next r = ((n ≡ m) × IsFree n next) ⊎ ((a : ℕ) × StepsTo m (event.Call d (call.IolRead 0 65536)) (reply.Agg a) n × (r ≡ reply.Agg a))
 
-  -- it asks for a job, and is refused
-  read : (x : Worker) → x.standing ≡ standing.Asked → x.step.doing ≡ doing.Waits → (l : Reply) → r ≡ l → ReadsPipe m d j 65536 l n → Stays x
-  read x asked at (reply.Agg a) is takes =
-      let nothing = no_front takes.text takes.rest (sym takes.was ∙ none.empty) in
-      let ended = (takes.ended (omega arith) nothing).1 in
-      absurd (let e = sym none.writing ∙ ended in cc (e))
-  read x asked at (reply.Refused y) is same = (same, refused_is_free n d x r (reply.Refused y) asked at refl is)
-  read x asked at l is did = absurd did
+module _ (m n : State) (d : ℕ) (v : Worker) (r : Reply) (t : Turn) (yields : Bool) (comes : ComesOf copying works m d t yields r n) where
+  abbrev Stays : Worker → Type 0
+  Stays x = FreeTurn m n d (seat_at d x r) r
+
+  -- it asks for a job, and is refused, or is given a text
+  read : (x : Worker) → x.standing ≡ standing.Asked → x.step.doing ≡ doing.Waits → (l : Reply) → r ≡ l → StepsTo m (event.Call d (call.IolRead 0 65536)) l n → Stays x
+  read x asked at (reply.Agg a) is step = inr (a, step, is)
+  read x asked at (reply.Refused y) is step = inl (step.1, refused_is_free n d x r (reply.Refused y) asked at refl is)
+  read x asked at l is step = (let e = step.1 in absurd (cc))
 
   asks : (x : Worker) → t ≡ turn.Make (call_at x.job x.step) → v ≡ x → x.standing ≡ standing.Asked → x.step.doing ≡ doing.Waits → Stays v
   asks x is v_is asked at =
       let make : t ≡ turn.Make (call.IolRead 0 65536) = is ∙ ap (λ (z : Doing). turn.Make (doing_call x.job x.step.begun z)) at in
       let step = (subst (λ (u : Turn). ComesOf copying works m d u yields r n) make comes).1 in
-      subst (λ (y : Worker). Stays y) (sym v_is) (read x asked at r refl (own.read_pipe m n d 0 j 65536 r order none.jobs step))
+      subst (λ (y : Worker). Stays y) (sym v_is) (read x asked at r refl step)
 
   on : (w : Worker) (o : Option Step) → w.standing ≡ standing.Asked → (or_again o w.step).doing ≡ doing.Waits → goes_on w o t v → Stays v
   on w (Some next) asked waits did = asks (record w { step = next }) did.0 did.1 asked waits
   on w None asked waits did = subst (λ (y : Worker). Stays y) (sym did.1)
-      ((subst (λ (u : Turn). ComesOf copying works m d u yields r n) did.0 comes).2, record { not_over = refl; waits = waits; not_given = λ e. absurd (cc (e)) })
+      (inl ((subst (λ (u : Turn). ComesOf copying works m d u yields r n) did.0 comes).2, record { not_over = refl; waits = waits; not_given = λ e. absurd (cc (e)) }))
 
   filed : (w : Worker) (x : Doing) (l : Reply) → w.standing ≡ standing.Asked → (or_again (told w.job w.step (lent_at m d) l) w.step).doing ≡ doing.Waits → is_given x l ≡ false
       → files w x l (lent_at m d) t v → Stays v
@@ -85,15 +87,28 @@ module _ (own : CallsServeTheirDomain) (m n : State) (d j : ℕ) (v : Worker) (r
   moves w last standing.Asked is goes waits un did = filed w w.step.doing last is waits (un refl) did
 
 -- a turn by what the process does, its seat taken apart
+pub free_turn : (m n : State) (seat next : Seat Worker) (yields : Bool) (r : Reply) → is_live m seat.by ≡ true → IsFree m seat
+    → SeatTurn copying works m seat yields r n next → FreeTurn m n seat.by next r
+free_turn m n seat next yields r live free (inl starved) = inl
+    (starved.machine_stays, subst (λ (x : Seat Worker). IsFree n x) (sym starved.seat_stays) (free_still m n seat free))
+free_turn m n seat next yields r live free (inr did) =
+    let goes = subst (λ (l : ℕ → Option (List ℕ)). works seat.process seat.last l did.turn next.process) (lent-live m seat.by live) did.goes_on in
+    let same : seat_at seat.by next.process r ≡ next = ap (λ (x : ℕ). seat_at x next.process r) (sym did.domain_stays) ∙ ap (λ (l : Reply). seat_at next.by next.process l) (sym did.told) in
+    let went = moves m n seat.by next.process r did.turn yields did.comes seat.process seat.last seat.process.standing refl free.not_over free.waits free.not_given goes in
+    subst (λ (x : Seat Worker). FreeTurn m n seat.by x r) same went
+
+-- where nothing lies there it is given nothing
 turns : CallsServeTheirDomain → (m n : State) (j : ℕ) (seat next : Seat Worker) (yields : Bool) (r : Reply) → IsOrderly m → HasNoJob m seat.by j → IsFree m seat
     → SeatTurn copying works m seat yields r n next → (n ≡ m) × IsFree n next
-turns own m n j seat next yields r order none free (inl starved) =
-    (starved.machine_stays, subst (λ (x : Seat Worker). IsFree n x) (sym starved.seat_stays) (free_still m n seat free))
-turns own m n j seat next yields r order none free (inr did) =
-    let goes = subst (λ (l : ℕ → Option (List ℕ)). works seat.process seat.last l did.turn next.process) (lent-live m seat.by none.live) did.goes_on in
-    let same : seat_at seat.by next.process r ≡ next = ap (λ (x : ℕ). seat_at x next.process r) (sym did.domain_stays) ∙ ap (λ (l : Reply). seat_at next.by next.process l) (sym did.told) in
-    let went = moves own m n seat.by j next.process r did.turn yields order none did.comes seat.process seat.last seat.process.standing refl free.not_over free.waits free.not_given goes in
-    (went.0, subst (λ (x : Seat Worker). IsFree n x) same went.1)
+turns own m n j seat next yields r order none free did = by (free_turn m n seat next yields r none.live free did)
+  where
+    by : FreeTurn m n seat.by next r → (n ≡ m) × IsFree n next
+    by (inl stays) = stays
+    by (inr given) =
+        let takes = own.read_pipe m n seat.by 0 j 65536 (reply.Agg given.0) order none.jobs given.1 in
+        let nothing = no_front takes.text takes.rest (sym takes.was ∙ none.empty) in
+        let ended = (takes.ended (omega arith) nothing).1 in
+        absurd (let e = sym none.writing ∙ ended in cc (e))
 
 -- ---- what is no job
 

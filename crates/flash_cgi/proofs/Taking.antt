@@ -12,6 +12,7 @@ use Rattle.iol_core.specs.declared.descriptors.Descriptor.TheVariants as on
 use Rattle.iol_core.specs.declared.events.Call.TheVariants as call
 use Rattle.iol_core.specs.declared.events.Event.TheVariants as event
 use Rattle.iol_core.specs.declared.events.Reply.TheVariants as reply
+use Rattle.iol_laws.specs.Caller.{TakesFromPipe}
 use Rattle.iol_laws.specs.Frame.{EachStepLeavesTheRest, Leaves, is_end}
 use Rattle.flash_cgi.specs.Job.{job_of, task_of}
 use Rattle.flash_cgi.specs.Output.{output}
@@ -42,6 +43,21 @@ waits_as_job m d j p fd query script lines has =
     let same = ap (λ (l : List ℕ). length l) has.text in
     let short = job_is_short fd query script (omega (arith, size, same, has.short)) in
     ap job_of has.text ∙ (job_is_read fd query script has.fds short.0 short.1 ∙ ap (λ (o : Option (List Line)). task_of fd query o) has.is_script)
+
+-- the read of it leaves nothing behind
+pub all_taken : (m n : State) (d j p fd a : ℕ) (query script : List ℕ) (lines : List Line) → HasJob m d j p fd query script lines
+    → TakesFromPipe m d j 65536 a n → (pipe_at n j).queue ≡ []
+all_taken m n d j p fd a query script lines has takes =
+    let queue : Text = (pipe_at m j).queue in
+    let all : takes.text ≡ queue = takes.most ∙ (ap (λ (t : Text). admitted (may_read m d) t) (take_all 65536 queue has.short) ∙ all_admitted (may_read m d) queue has.readable) in
+    ap (λ (x : Pipe). x.queue) takes.pipe ∙ no_rest queue takes.rest (ap (λ (t : Text). t ++ takes.rest) (sym all) ∙ sym takes.was)
+  where
+    no_rest : (t rest : Text) → t ++ rest ≡ t → rest ≡ []
+    no_rest [] rest e = e
+    no_rest (b ∷ t) rest e = no_rest t rest (tail_is b b (t ++ rest) t e)
+      where
+        tail_is : (x y : ℕ × ℕ) (s u : Text) → x ∷ s ≡ y ∷ u → s ≡ u
+        tail_is x y s u e = cc
 
 pub job_is_taken : EachStepLeavesTheRest → JobsAreTaken
 job_is_taken steps m n d j p fd a query script lines has step takes =

@@ -39,13 +39,13 @@ pub lent-live : (m : State) (d : ℕ) → is_live m d ≡ true → lent_to m d �
 lent-live m d live = ap (λ b. λ a. if b then lent_at m d a else None) live
 
 -- a worker that has a job is live
-has_life : (m : State) (p : ℕ) (seat : Seat Worker) (unseen : List Outcome → List ℕ) → RunsJob m p seat unseen → is_live m seat.by ≡ true
+pub has_life : (m : State) (p : ℕ) (seat : Seat Worker) (unseen : List Outcome → List ℕ) → RunsJob m p seat unseen → is_live m seat.by ≡ true
 has_life m p seat unseen (inl h) = h.has.live
 has_life m p seat unseen (inr (inl h)) = h.begins.feeds.live
 has_life m p seat unseen (inr (inr i)) = i.feeds.live
 
 -- a text that is a job is taken as one
-text_taken : (w : Worker) (text : List ℕ) (agg : ℕ) (job : Task) → job_of text ≡ Some job → with_text w text agg ≡ with_job w (Some job) agg
+pub text_taken : (w : Worker) (text : List ℕ) (agg : ℕ) (job : Task) → job_of text ≡ Some job → with_text w text agg ≡ with_job w (Some job) agg
 text_taken w [] agg job is = absurd (cc)
 text_taken w (b ∷ bs) agg job is = ap (λ (o : Option Task). with_job w o agg) is
 

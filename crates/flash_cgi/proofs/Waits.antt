@@ -17,7 +17,7 @@ use Rattle.iol_proc.specs.declared.process.Turn.TheVariants as turn
 use Rattle.flash_cgi.specs.Job.{Task, job_of}
 use Rattle.flash_cgi.specs.Working.{call_at, doing_call, told, bytes_at}
 use Rattle.flash_cgi.specs.Works.{works, works_as, files, goes_on, takes, with_job}
-use Rattle.flash_cgi.specs.Waiting.{IsBlocked, IsStuck, IsRefused, HasWaited, WaitingIsEmpty, is_over}
+use Rattle.flash_cgi.specs.Waiting.{IsStuck, IsRefused, HasWaited, WaitingIsEmpty, is_over}
 use Rattle.flash_cgi.specs.declared.doing.Doing.{Doing}
 use Rattle.flash_cgi.specs.declared.doing.Doing.TheVariants as doing
 use Rattle.flash_cgi.specs.declared.doing.Standing.{Standing}
@@ -86,37 +86,26 @@ yield_is w v l lent did = by w.standing did
 
 -- what is claimed after one yield and after two, by where it stands
 module _ (m : State) (by : ℕ) where
-  abbrev Stuck : Worker → Type 0
-  Stuck w = IsStuck m by w w.standing
-
-  abbrev Refused : Worker → Type 0
-  Refused w = IsRefused m by w w.standing
-
-  stuck_blocked : (w : Worker) (s : Standing) → IsBlocked m by w → IsStuck m by w s
-  stuck_blocked w standing.Over h = tt
-  stuck_blocked w standing.Asks h = h
-  stuck_blocked w standing.Asked h = h
-
-  stuck_called : (w : Worker) (c : Call) (s : Standing) → IsCallOf c w s → StepsTo m (event.Call by c) (reply.Refused WouldBlock) m → IsStuck m by w s
+  stuck_called : (w : Worker) (c : Call) (s : Standing) → IsCallOf c w s → StepsTo m (event.Call by c) (reply.Refused WouldBlock) m → IsStuck m by w (reply.Refused WouldBlock) s
   stuck_called w c standing.Over is step = tt
   stuck_called w c standing.Asks is step = subst (λ (k : Call). StepsTo m (event.Call by k) (reply.Refused WouldBlock) m) is step
-  stuck_called w c standing.Asked is step = subst (λ (k : Call). StepsTo m (event.Call by k) (reply.Refused WouldBlock) m) is step
+  stuck_called w c standing.Asked is step = (subst (λ (k : Call). StepsTo m (event.Call by k) (reply.Refused WouldBlock) m) is step, refl)
 
-  refused_stuck : (w : Worker) (s : Standing) → IsStuck m by w s → IsRefused m by w s
-  refused_stuck w standing.Over h = tt
-  refused_stuck w standing.Asks h = tt
-  refused_stuck w standing.Asked h = h
+  refused_stuck : (w : Worker) (l : Reply) (s : Standing) → IsStuck m by w l s → IsRefused m by w l s
+  refused_stuck w l standing.Over h = tt
+  refused_stuck w l standing.Asks h = tt
+  refused_stuck w l standing.Asked h = h
 
   -- a yield makes of what was refused what is stuck, and leaves what is stuck
-  yields_once : (w v : Worker) (s : Standing) → w.standing ≡ s → Yields w v s → Refused v
+  yields_once : (w v : Worker) (s : Standing) → w.standing ≡ s → Yields w v s → IsRefused m by v reply.Done v.standing
   yields_once w v standing.Asks is y = absurd y
-  yields_once w v standing.Asked is y = subst (λ (x : Standing). IsRefused m by v x) (sym (ap (λ (x : Worker). x.standing) y)) tt
-  yields_once w v standing.Over is y = subst (λ (x : Standing). IsRefused m by v x) (sym (ap (λ (x : Worker). x.standing) y ∙ is)) tt
+  yields_once w v standing.Asked is y = subst (λ (x : Standing). IsRefused m by v reply.Done x) (sym (ap (λ (x : Worker). x.standing) y)) tt
+  yields_once w v standing.Over is y = subst (λ (x : Standing). IsRefused m by v reply.Done x) (sym (ap (λ (x : Worker). x.standing) y ∙ is)) tt
 
-  yields_twice : (w v : Worker) (s : Standing) → w.standing ≡ s → Yields w v s → IsRefused m by w s → Stuck v
-  yields_twice w v standing.Asks is y h = absurd y
-  yields_twice w v standing.Asked is y h = stuck_blocked v v.standing (subst (λ (x : Worker). IsBlocked m by x) (sym y) h)
-  yields_twice w v standing.Over is y h = subst (λ (x : Standing). IsStuck m by v x) (sym (ap (λ (x : Worker). x.standing) y ∙ is)) tt
+  yields_twice : (w v : Worker) (l : Reply) (s : Standing) → w.standing ≡ s → Yields w v s → IsRefused m by w l s → IsStuck m by v reply.Done v.standing
+  yields_twice w v l standing.Asks is y h = absurd y
+  yields_twice w v l standing.Asked is y h = subst (λ (x : Worker). IsStuck m by x reply.Done x.standing) (sym y) h.0
+  yields_twice w v l standing.Over is y h = subst (λ (x : Standing). IsStuck m by v reply.Done x) (sym (ap (λ (x : Worker). x.standing) y ∙ is)) tt
 
 pub worker_settles : Settles HasWaited works
 worker_settles = record {
@@ -130,18 +119,18 @@ worker_settles = record {
 
     blocks : (n by : ℕ) (p q : Worker) (l : Reply) (m : State) (c : Call) → works p l (lent_to m by) (turn.Make c) q → StepsTo m (event.Call by c) (reply.Refused WouldBlock) m → HasWaited n by q (reply.Refused WouldBlock) m
     blocks zero by p q l m c did step = tt
-    blocks (suc zero) by p q l m c did step = refused_stuck m by q q.standing (stuck_called m by q c q.standing (call_is p q c l (lent_to m by) did) step)
+    blocks (suc zero) by p q l m c did step = refused_stuck m by q (reply.Refused WouldBlock) q.standing (stuck_called m by q c q.standing (call_is p q c l (lent_to m by) did) step)
     blocks (suc (suc n)) by p q l m c did step = stuck_called m by q c q.standing (call_is p q c l (lent_to m by) did) step
 
     yields : (n by : ℕ) (p q : Worker) (l : Reply) (m : State) → HasWaited n by p l m → works p l (lent_to m by) turn.Yield q → HasWaited (more_of_two n) by q reply.Done m
     yields zero by p q l m h did = yields_once m by p q p.standing refl (yield_is p q l (lent_to m by) did)
-    yields (suc zero) by p q l m h did = yields_twice m by p q p.standing refl (yield_is p q l (lent_to m by) did) h
-    yields (suc (suc n)) by p q l m h did = subst (λ (k : ℕ). HasWaited k by q reply.Done m) (sym (stays n)) (yields_twice m by p q p.standing refl (yield_is p q l (lent_to m by) did) (refused_stuck m by p p.standing h))
+    yields (suc zero) by p q l m h did = yields_twice m by p q l p.standing refl (yield_is p q l (lent_to m by) did) h
+    yields (suc (suc n)) by p q l m h did = subst (λ (k : ℕ). HasWaited k by q reply.Done m) (sym (stays n)) (yields_twice m by p q l p.standing refl (yield_is p q l (lent_to m by) did) (refused_stuck m by p l p.standing h))
 
 pub waiting_is_empty : RefusalsTellWhy → WaitingIsEmpty
 waiting_is_empty why m by j w last h waits goes opened = why.pipe_is_empty m m by 0 j 65536 opened (stuck w.standing goes h)
   where
-    stuck : (s : Standing) → is_over s ≡ false → IsStuck m by w s → StepsTo m (event.Call by (call.IolRead 0 65536)) (reply.Refused WouldBlock) m
+    stuck : (s : Standing) → is_over s ≡ false → IsStuck m by w last s → StepsTo m (event.Call by (call.IolRead 0 65536)) (reply.Refused WouldBlock) m
     stuck standing.Over goes h = absurd (cc)
     stuck standing.Asks goes h = subst (λ (d : Doing). StepsTo m (event.Call by (doing_call w.job w.step.begun d)) (reply.Refused WouldBlock) m) waits h
-    stuck standing.Asked goes h = subst (λ (d : Doing). StepsTo m (event.Call by (doing_call w.job w.step.begun d)) (reply.Refused WouldBlock) m) waits h
+    stuck standing.Asked goes h = subst (λ (d : Doing). StepsTo m (event.Call by (doing_call w.job w.step.begun d)) (reply.Refused WouldBlock) m) waits h.0

@@ -16,21 +16,22 @@ use Rattle.flash_cgi.specs.declared.worker.Worker.{Worker}
 abbrev pub IsBlocked : State → (by : ℕ) → Worker → Type 0
 IsBlocked m by w = StepsTo m (event.Call by (call_at w.job w.step)) (reply.Refused WouldBlock) m
 
--- its job pipe has ended, or its call would block
-abbrev pub IsStuck : State → (by : ℕ) → Worker → Standing → Type 0
-IsStuck m by w standing.Over = Unit {0}
-IsStuck m by w s = IsBlocked m by w
+-- its job pipe has ended, or its call would block; if it made the call, it is told so
+abbrev pub IsStuck : State → (by : ℕ) → Worker → (last : Reply) → Standing → Type 0
+IsStuck m by w last standing.Over = Unit {0}
+IsStuck m by w last standing.Asks = IsBlocked m by w
+IsStuck m by w last standing.Asked = IsBlocked m by w × (last ≡ reply.Refused WouldBlock)
 
--- the call that it made, if it made one, was refused in this state
-abbrev pub IsRefused : State → (by : ℕ) → Worker → Standing → Type 0
-IsRefused m by w standing.Asked = IsBlocked m by w
-IsRefused m by w s = Unit {0}
+-- the call that it made, if it made one, was refused in this state, and it is told so
+abbrev pub IsRefused : State → (by : ℕ) → Worker → (last : Reply) → Standing → Type 0
+IsRefused m by w last standing.Asked = IsBlocked m by w × (last ≡ reply.Refused WouldBlock)
+IsRefused m by w last s = Unit {0}
 
 -- what holds of it after so many yields
 abbrev pub HasWaited : (n by : ℕ) → Worker → Reply → State → Type 0
 HasWaited zero by w last m = Unit {0}
-HasWaited (suc zero) by w last m = IsRefused m by w w.standing
-HasWaited (suc (suc n)) by w last m = IsStuck m by w w.standing
+HasWaited (suc zero) by w last m = IsRefused m by w last w.standing
+HasWaited (suc (suc n)) by w last m = IsStuck m by w last w.standing
 
 abbrev pub is_over : Standing → Bool
 is_over standing.Over = true

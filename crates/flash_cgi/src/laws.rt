@@ -4,9 +4,12 @@ ghost use Rattle.flash_cgi.specs.Due.{ScriptsPutOut};
 ghost use Rattle.flash_cgi.specs.Ending.{WorkersStop};
 ghost use Rattle.flash_cgi.specs.Feeds.{FeedsOn};
 ghost use Rattle.flash_cgi.specs.Free.{WorkersStayFree};
+ghost use Rattle.flash_cgi.specs.Full.{RunningIsFull};
 ghost use Rattle.flash_cgi.specs.Having.{WorkersKeepNothing};
 ghost use Rattle.flash_cgi.specs.Laws.{JobsAreRead};
+ghost use Rattle.flash_cgi.specs.Leaving.{WorkersAreQuiet};
 ghost use Rattle.flash_cgi.specs.Outcomes.{OutcomesAreTrue};
+ghost use Rattle.flash_cgi.specs.Shown.{OutputsAreShown};
 ghost use Rattle.flash_cgi.specs.Taking.{JobsAreTaken};
 ghost use Rattle.flash_cgi.specs.Turns.{TurnsFeed};
 ghost use Rattle.flash_cgi.specs.Waiting.{WaitingIsEmpty};
@@ -68,12 +71,14 @@ pub fn outcomes_are_true()
 
 /// With the files as they are a script puts out one text: the output of its lines, in order, from its
 /// job to its end. Each turn of its worker that is not rough leaves it due, and what others take is
-/// its front.
+/// its front. Once the job is read nothing lies in its job pipe.
 pub fn scripts_put_out()
     ensures { ScriptsPutOut }
 {
     turns_feed();
     others_hear();
+    workers_are_quiet();
+    laws::calls_serve_their_domain();
 }
 
 /// A worker that waits for a job where all is idle: nothing is in its job pipe, and something may
@@ -82,6 +87,15 @@ pub fn waiting_is_empty()
     ensures { WaitingIsEmpty }
 {
     laws::refusals_tell_why();
+}
+
+/// A worker that has a job where all is idle writes to the pipe of its output, which is full.
+pub fn running_is_full()
+    ensures { RunningIsFull }
+{
+    laws::refusals_tell_why();
+    laws::refusals_that_are_left();
+    laws::file_calls_serve_their_domain();
 }
 
 /// A worker without a job stays free, as a new one is, whatever others do: until one comes, or its job
@@ -107,4 +121,23 @@ pub fn workers_keep_nothing()
     laws::calls_serve_their_domain();
     laws::refusals_tell_why();
     laws::aggregates_come_and_go();
+}
+
+/// A worker's turn leaves all but what is its own and one pipe: its job pipe while it is free, and then the pipe of its output.
+pub fn workers_are_quiet()
+    ensures { WorkersAreQuiet }
+{
+    laws::each_step_leaves_the_rest();
+    laws::aggregates_come_and_go();
+    laws::descriptors_come_by_replies();
+}
+
+/// What a worker writes lies in the pools of the files, and in its default pool: so whoever may read these is never denied its output.
+pub fn outputs_are_shown()
+    ensures { OutputsAreShown }
+{
+    laws::labels_follow();
+    laws::each_step_leaves_the_rest();
+    laws::file_calls_serve_their_domain();
+    laws::domains_and_pools_come_and_go();
 }

@@ -1,0 +1,16 @@
+-- A worker that has a job where all is idle: the pipe of its output is full.
+use Rattle.std.specs.Prelude.{ℕ, ◌≤◌, List, length}
+use Rattle.iol_core.specs.Access.{HasAccess}
+use Rattle.iol_core.specs.State.{State, pipe_at}
+use Rattle.iol_core.specs.declared.limits.TheConstants.{MAX_QUEUE_BYTES}
+use Rattle.iol_laws.specs.Order.{IsOrderly}
+use Rattle.iol_proc.specs.declared.seat.Seat.{Seat}
+use Rattle.flash_cgi.specs.Output.{Outcome}
+use Rattle.flash_cgi.specs.Turns.{RunsJob}
+use Rattle.flash_cgi.specs.Waiting.{HasWaited}
+use Rattle.flash_cgi.specs.declared.worker.Worker.{Worker}
+
+-- It waits for nothing else: a job that it has not read would be read, and of its calls a write to the pipe alone may block.
+abbrev pub RunningIsFull : Type 0
+RunningIsFull = (m : State) (p : ℕ) (seat : Seat Worker) (unseen : List Outcome → List ℕ) → IsOrderly m → HasAccess m
+    → RunsJob m p seat unseen → HasWaited 2 seat.by seat.process seat.last m → MAX_QUEUE_BYTES ≤ length (pipe_at m p).queue

@@ -1,0 +1,58 @@
+-- Where lies what a worker writes: in the pools of the files that it reads, and in its default pool.
+--
+-- Whoever may read these is never denied its output.
+use Rattle.std.specs.Prelude.{◌≡◌, ℕ, Bool, true, false, List, Some}
+use Rattle.iol_core.specs.State.{State, descriptor, file, pipe_at, text}
+use Rattle.iol_core.specs.Calls.Aggregates.{default_pool}
+use Rattle.iol_core.specs.Calls.Files.{file_called}
+use Rattle.iol_core.specs.Positions.{ArePlaced}
+use Rattle.iol_core.specs.Run.{StepsTo}
+use Rattle.iol_core.specs.declared.descriptors.Descriptor.TheVariants as on
+use Rattle.iol_core.specs.declared.descriptors.Mode.{Mode}
+use Rattle.iol_core.specs.declared.events.Event.{Event}
+use Rattle.iol_core.specs.declared.events.Reply.{Reply}
+use Rattle.iol_laws.specs.Order.{IsOrderly}
+use Rattle.iol_laws.specs.Sources.{lie_in}
+use Rattle.iol_proc.specs.Turns.{SeatTurn}
+use Rattle.iol_proc.specs.World.{copying}
+use Rattle.iol_proc.specs.declared.seat.Seat.{Seat}
+use Rattle.flash_cgi.specs.Beside.{is_call_of}
+use Rattle.flash_cgi.specs.Output.{Outcome}
+use Rattle.flash_cgi.specs.Turns.{IsFree, RunsJob, step_of}
+use Rattle.flash_cgi.specs.Works.{works}
+use Rattle.flash_cgi.specs.declared.doing.Doing.{Doing}
+use Rattle.flash_cgi.specs.declared.doing.Doing.TheVariants as doing
+use Rattle.flash_cgi.specs.declared.worker.Worker.{Worker}
+
+-- the pools are those of all files, and the one that a pause sets
+pub record HoldFiles (pools : ℕ → Bool) (m : State) : Type 0 where
+  pub files : (name : List ℕ) (f : ℕ) → file_called m name ≡ Some f → pools (file m f).pool ≡ true
+  pub pauses : pools 3 ≡ true
+
+-- the file that it reads lies in them, or what it is to write
+abbrev pub LiesIn : (pools : ℕ → Bool) → State → (d : ℕ) → Doing → Type 0
+LiesIn pools m d (doing.Reads fd u) =
+    (f at : ℕ) (mode : Mode) → descriptor m d fd ≡ Some (on.File f at mode) → pools (file m f).pool ≡ true
+LiesIn pools m d (doing.Shuts fd a) = lie_in pools (text m d a) ≡ true
+LiesIn pools m d (doing.Writes a) = lie_in pools (text m d a) ≡ true
+LiesIn pools m d (doing.Cuts a from to) = lie_in pools (text m d a) ≡ true
+LiesIn pools m d (doing.Swaps a rest) = lie_in pools (text m d rest) ≡ true
+LiesIn pools m d x = Unit {0}
+
+-- so does what it wrote to pipe p, and what it will make
+pub record IsShown (pools : ℕ → Bool) (m : State) (p : ℕ) (seat : Seat Worker) : Type 0 where
+  pub default : pools (default_pool m seat.by) ≡ true
+  pub output : lie_in pools (pipe_at m p).queue ≡ true
+  pub lies : LiesIn pools m seat.by (step_of m seat).doing
+
+pub record OutputsAreShown : Type 0 where
+  -- of a worker that is free, and a pipe to which nothing else was written
+  pub free : (pools : ℕ → Bool) (m : State) (p : ℕ) (seat : Seat Worker) → IsFree m seat
+      → pools (default_pool m seat.by) ≡ true → lie_in pools (pipe_at m p).queue ≡ true → IsShown pools m p seat
+  -- its turns leave it so, and so does all that others do
+  pub turns : (pools : ℕ → Bool) (m n : State) (p : ℕ) (seat next : Seat Worker) (yields : Bool) (r : Reply)
+      (unseen : List Outcome → List ℕ) → IsOrderly m → HoldFiles pools m → RunsJob m p seat unseen → IsShown pools m p seat
+      → SeatTurn copying works m seat yields r n next → IsShown pools n p next
+  pub others : (pools : ℕ → Bool) (m n : State) (p : ℕ) (seat : Seat Worker) (e : Event) (r : Reply)
+      (unseen : List Outcome → List ℕ) → IsOrderly m → ArePlaced m → RunsJob m p seat unseen → IsShown pools m p seat
+      → StepsTo m e r n → is_call_of e seat.by ≡ false → IsShown pools n p seat

@@ -1,0 +1,136 @@
+-- The worker that runs scripts is as the law needs it.
+use Rattle.std.proofs.Common.{inl, inr, ◌≡◌, ◌⊎◌, ℕ, List, ◌++◌, ap, ◌∙◌, refl, sym, subst, Option, Some, true, false, Bool}
+use Rattle.std.specs.Prelude.{unwrap_or}
+use Rattle.iol_core.specs.Text.{bytes_of}
+use Rattle.iol_core.specs.State.{State, Pipe, pipe_at}
+use Rattle.iol_core.specs.Calls.Aggregates.{default_pool}
+use Rattle.iol_core.specs.Positions.{ArePlaced}
+use Rattle.iol_core.specs.Run.{StepsTo}
+use Rattle.iol_core.specs.declared.events.Call.TheVariants as call
+use Rattle.iol_core.specs.declared.events.Event.{Event}
+use Rattle.iol_core.specs.declared.events.Event.TheVariants as event
+use Rattle.iol_core.specs.declared.events.Reply.{Reply}
+use Rattle.iol_laws.specs.Caller.{is_rough}
+use Rattle.iol_laws.specs.Frame.{EachStepLeavesTheRest, sets_default}
+use Rattle.iol_laws.specs.Order.{IsOrderly}
+use Rattle.iol_laws.specs.Sources.{lie_in}
+use Rattle.iol_proc.specs.Turns.{SeatTurn}
+use Rattle.iol_proc.specs.World.{copying}
+use Rattle.iol_proc.specs.declared.seat.Seat.{Seat}
+use Rattle.flash_cgi.specs.Beside.{is_call_of, LeavesFiles, OthersHear}
+use Rattle.flash_cgi.specs.Due.{IsDue, IsWritten, ScriptsPutOut}
+use Rattle.flash_cgi.specs.Free.{HasNoJob, WorkersStayFree}
+use Rattle.flash_cgi.specs.Full.{RunningIsFull}
+use Rattle.flash_cgi.specs.Leaving.{LeavesAllBut, WorkersAreQuiet}
+use Rattle.flash_cgi.specs.Outcomes.{AreFiles, outcomes_in}
+use Rattle.flash_cgi.specs.Output.{Outcome, output}
+use Rattle.flash_cgi.specs.Shown.{HoldFiles, IsShown, OutputsAreShown}
+use Rattle.flash_cgi.specs.Taking.{HasJob}
+use Rattle.flash_cgi.specs.Turns.{IsFree, RunsJob}
+use Rattle.flash_cgi.specs.Waiting.{HasWaited}
+use Rattle.flash_cgi.specs.Works.{works}
+use Rattle.flash_cgi.specs.declared.line.Line.{Line}
+use Rattle.flash_cgi.specs.declared.worker.Worker.{Worker}
+use Rattle.flash_laws.specs.WorkersRun.{Gave, IsDueOf, IsFreeFor, WorkersRun, Wrote}
+
+no_exit : (e : Event) (d : ℕ) → is_call_of e d ≡ false → sets_default e d ≡ false
+no_exit (event.Call by call.Exit) d other = other
+no_exit (event.Call by (call.SetPool q)) d other = other
+no_exit e d other = refl
+
+module _ (stay_free : WorkersStayFree) (put_out : ScriptsPutOut) (hear : OthersHear) (keep_quiet : WorkersAreQuiet) (show : OutputsAreShown) (fill : RunningIsFull)
+    (steps : EachStepLeavesTheRest) (pools : ℕ → Bool) where
+  abbrev Free : State → (j : ℕ) → Seat Worker → Type 0
+  Free m j seat = IsFreeFor pools m j seat
+
+  abbrev Due : State → (j p : ℕ) → Seat Worker → List ℕ → Type 0
+  Due m j p seat text = IsDueOf pools m j p seat text
+
+  waits : (m n : State) (j : ℕ) (seat next : Seat Worker) (yields : Bool) (r : Reply) → IsOrderly m → Free m j seat → SeatTurn copying works m seat yields r n next → (n ≡ m) × Free n j next
+  waits m n j seat next yields r order free did =
+      let same = stay_free.turns m n j seat next yields r order free.none free.free did in
+      let by_same = stays_in did in (
+        same.0,
+        record {
+          free = same.1;
+          none = subst (λ d. HasNoJob n d j) (sym by_same) (subst (λ (u : State). HasNoJob u seat.by j) (sym same.0) free.none);
+          default = subst (λ d. pools (default_pool n d) ≡ true) (sym by_same) (subst (λ (u : State). pools (default_pool u seat.by) ≡ true) (sym same.0) free.default);
+        },
+      )
+    where
+      stays_in : SeatTurn copying works m seat yields r n next → next.by ≡ seat.by
+      stays_in (inl starved) = ap (λ (s : Seat Worker). s.by) starved.seat_stays
+      stays_in (inr moves) = moves.domain_stays
+
+  free_others : (m n : State) (j : ℕ) (seat : Seat Worker) (e : Event) (r : Reply) → ArePlaced m → StepsTo m e r n → is_call_of e seat.by ≡ false → pipe_at n j ≡ pipe_at m j → Free m j seat → Free n j seat
+  free_others m n j seat e r placed step other same free =
+      let left = hear.leave m n seat.by e r placed step other in
+      let leaves = steps.leaves m n e r step in
+      record {
+        free = stay_free.others m n seat free.free;
+        none = record {
+          live = left.live free.none.live;
+          jobs = left.fds 0 _ free.none.jobs;
+          empty = ap (λ (x : Pipe). x.queue) same ∙ free.none.empty;
+          writing = ap (λ (x : Pipe). x.writing) same ∙ free.none.writing;
+        };
+        default = subst (λ (o : Option ℕ). pools (unwrap_or o 0) ≡ true) (sym (leaves.defaults seat.by free.none.live (no_exit e seat.by other))) free.default;
+      }
+
+  begins : (m n : State) (j p fd : ℕ) (seat : Seat Worker) (query script : List ℕ) (lines : List Line) (e : Event) (r : Reply) → ArePlaced m → Free m j seat → StepsTo m e r n
+      → is_call_of e seat.by ≡ false → HasJob n seat.by j p fd query script lines → (pipe_at n j).writing ≡ true → lie_in pools (pipe_at n p).queue ≡ true
+      → Due n j p seat (bytes_of (pipe_at n p).queue ++ output query lines (outcomes_in n seat.by lines))
+  begins m n j p fd seat query script lines e r placed free step other has writing lies =
+      let is_free = stay_free.others m n seat free.free in
+      let leaves = steps.leaves m n e r step in
+      let default = subst (λ (o : Option ℕ). pools (unwrap_or o 0) ≡ true) (sym (leaves.defaults seat.by free.none.live (no_exit e seat.by other))) free.default in
+      record {
+        due = put_out.begins n j p fd seat query script lines is_free has writing;
+        shown = show.free pools n p seat is_free default lies;
+      }
+
+  turns : (m n : State) (j p : ℕ) (seat next : Seat Worker) (yields : Bool) (r : Reply) (text : List ℕ) → IsOrderly m → ArePlaced m → AreFiles m → HoldFiles pools m
+      → Due m j p seat text → SeatTurn copying works m seat yields r n next → is_rough r ≡ false
+      → Due n j p next text ⊎ Wrote works HasWaited pools Free Due m n j p next text r ⊎ ((pipe_at n p).reading ≡ false)
+  turns m n j p seat next yields r text order placed good holds h did smooth = by (put_out.turns m n j p seat next yields r text order placed good h.due did smooth)
+    where
+      shown : IsShown pools n p next
+      shown = show.turns pools m n p seat next yields r h.due.unseen order holds h.due.runs h.shown did
+
+      by : IsDue n j p next text ⊎ IsWritten m n j p next text r ⊎ ((pipe_at n p).reading ≡ false)
+          → Due n j p next text ⊎ Wrote works HasWaited pools Free Due m n j p next text r ⊎ ((pipe_at n p).reading ≡ false)
+      by (inl due) = inl (record { due = due; shown = shown })
+      by (inr (inl w)) = inr (inl (record { all = w.all; closes = w.closes; free = record { free = w.free; none = w.none; default = shown.default }; lies = shown.output }))
+      by (inr (inr gone)) = inr (inr gone)
+
+  others : (m n : State) (j p : ℕ) (seat : Seat Worker) (e : Event) (r : Reply) (text : List ℕ) → IsOrderly m → ArePlaced m → StepsTo m e r n → is_call_of e seat.by ≡ false
+      → LeavesFiles m seat.by n → pipe_at n j ≡ pipe_at m j → Due m j p seat text → Gave works HasWaited pools Free Due m n j p seat text
+  others m n j p seat e r text order placed step other files same h =
+      let gave = put_out.others m n j p seat e r text order placed step other files same h.due in
+      record {
+        goes = gave.goes;
+        rest = gave.rest;
+        splits = gave.splits;
+        due = record { due = gave.due; shown = show.others pools m n p seat e r h.due.unseen order placed h.due.runs h.shown step other };
+      }
+
+  quiet : (m n : State) (j p : ℕ) (seat next : Seat Worker) (yields : Bool) (r : Reply) (text : List ℕ) → Due m j p seat text
+      → SeatTurn copying works m seat yields r n next → LeavesAllBut m seat.by j n ⊎ LeavesAllBut m seat.by p n
+  quiet m n j p seat next yields r text h did = by h.due.unseen h.due.runs
+    where
+      by : (unseen : List Outcome → List ℕ) → RunsJob m p seat unseen → LeavesAllBut m seat.by j n ⊎ LeavesAllBut m seat.by p n
+      by unseen (inl a) = inl (keep_quiet.free m n j seat next yields r a.has.live a.free h.due.desk.jobs did).0
+      by unseen (inr (inl a)) = inr (keep_quiet.begins m n p seat next yields r unseen a did)
+      by unseen (inr (inr a)) = inr (keep_quiet.runs m n p seat next yields r unseen a did)
+
+  pub workers_run : WorkersRun works HasWaited pools Free Due
+  workers_run = record {
+    waits = waits;
+    free_others = free_others;
+    begins = begins;
+    turns = turns;
+    others = others;
+    quiet = quiet;
+    shown = λ m j p seat text h. h.shown.output;
+    full = λ m j p seat text order access h waited. fill m p seat h.due.unseen order access h.due.runs waited;
+  }
