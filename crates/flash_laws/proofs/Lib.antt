@@ -52,3 +52,5 @@ pub mod ClientNearing
 pub mod ClientTaking
 pub mod ClientOffering
 pub mod ClientKeeping
+pub mod WorkersRun
+pub mod Due

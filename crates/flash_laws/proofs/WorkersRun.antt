@@ -1,5 +1,5 @@
 -- The worker that runs scripts is as the law needs it.
-use Rattle.std.proofs.Common.{inl, inr, ◌≡◌, ◌⊎◌, ℕ, List, ◌++◌, ap, ◌∙◌, refl, sym, subst, Option, Some, true, false, Bool}
+use Rattle.std.proofs.Common.{inl, inr, ◌≡◌, ◌⊎◌, ℕ, List, ◌++◌, ap, ◌∙◌, refl, sym, subst, Option, true, false, Bool}
 use Rattle.std.specs.Prelude.{unwrap_or}
 use Rattle.iol_core.specs.Text.{bytes_of}
 use Rattle.iol_core.specs.State.{State, Pipe, pipe_at}

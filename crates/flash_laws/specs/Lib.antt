@@ -30,3 +30,5 @@ pub mod RunKeeping
 pub mod Known
 pub mod ClientOffers
 pub mod ClientKeeping
+pub mod Due
+pub mod WorkersRun

@@ -33,7 +33,7 @@ use Rattle.flash_cgi.specs.declared.worker.Worker.{Worker}
 
 -- Free m j seat: the worker that sits here is free, and reads its jobs from pipe j, in which nothing lies.
 -- Due m j p seat text: this text is still to be had from pipe p, by the worker whose jobs come from pipe j.
-module _ {W : Type 0} (turns : Account W) (settled : Claim W) (pools : ℕ → Bool) (Free : State → (j : ℕ) → Seat W → Type 0)
+module _ {W : Type 0} (works : Account W) (settled : Claim W) (pools : ℕ → Bool) (Free : State → (j : ℕ) → Seat W → Type 0)
     (Due : State → (j p : ℕ) → Seat W → (text : List ℕ) → Type 0) where
   -- all of it lies in the pipe, whose write end is closed, and the worker is free again
   pub record Wrote (m n : State) (j p : ℕ) (next : Seat W) (text : List ℕ) (r : Reply) : Type 0 where
@@ -52,7 +52,7 @@ module _ {W : Type 0} (turns : Account W) (settled : Claim W) (pools : ℕ → B
   pub record WorkersRun : Type 0 where
     -- a worker that is free changes nothing, and stays free; so do others leave it, as long as they leave its job pipe
     pub waits : (m n : State) (j : ℕ) (seat next : Seat W) (yields : Bool) (r : Reply) → IsOrderly m → Free m j seat
-        → SeatTurn copying turns m seat yields r n next → (n ≡ m) × Free n j next
+        → SeatTurn copying works m seat yields r n next → (n ≡ m) × Free n j next
     pub free_others : (m n : State) (j : ℕ) (seat : Seat W) (e : Event) (r : Reply) → ArePlaced m → StepsTo m e r n
         → is_call_of e seat.by ≡ false → pipe_at n j ≡ pipe_at m j → Free m j seat → Free n j seat
     -- with a job in its pipe all of that job's output is due, behind what lies in the pipe for it
@@ -63,7 +63,7 @@ module _ {W : Type 0} (turns : Account W) (settled : Claim W) (pools : ℕ → B
     -- its turn leaves a text due, until all of it is written, or nobody reads
     pub turns : (m n : State) (j p : ℕ) (seat next : Seat W) (yields : Bool) (r : Reply) (text : List ℕ) → IsOrderly m
         → ArePlaced m → AreFiles m → HoldFiles pools m → Due m j p seat text
-        → SeatTurn copying turns m seat yields r n next → is_rough r ≡ false
+        → SeatTurn copying works m seat yields r n next → is_rough r ≡ false
         → Due n j p next text ⊎ Wrote m n j p next text r ⊎ ((pipe_at n p).reading ≡ false)
     -- what others do takes its front, as long as they leave the files and the job pipe
     pub others : (m n : State) (j p : ℕ) (seat : Seat W) (e : Event) (r : Reply) (text : List ℕ) → IsOrderly m → ArePlaced m
@@ -71,7 +71,7 @@ module _ {W : Type 0} (turns : Account W) (settled : Claim W) (pools : ℕ → B
         → Due m j p seat text → Gave m n j p seat text
     -- its turn touches nothing but its own, and one pipe
     pub quiet : (m n : State) (j p : ℕ) (seat next : Seat W) (yields : Bool) (r : Reply) (text : List ℕ) → Due m j p seat text
-        → SeatTurn copying turns m seat yields r n next → LeavesAllBut m seat.by j n ⊎ LeavesAllBut m seat.by p n
+        → SeatTurn copying works m seat yields r n next → LeavesAllBut m seat.by j n ⊎ LeavesAllBut m seat.by p n
     -- what lies in the pipe is of these pools, and where all is idle it is full
     pub shown : (m : State) (j p : ℕ) (seat : Seat W) (text : List ℕ) → Due m j p seat text
         → lie_in pools (pipe_at m p).queue ≡ true

@@ -1,8 +1,9 @@
-//! What the law needs of workers that run scripts, and that `flash_cgi`'s worker is so. The function does nothing; its contract is
-//! the law.
+//! What the law over a world with workers needs of them, and of the response that is due. The functions do nothing; their contracts are
+//! the laws.
 ghost use Rattle.std.specs.Prelude.{ℕ, Bool};
 ghost use Rattle.flash_cgi.specs.Waiting.{HasWaited};
 ghost use Rattle.flash_cgi.specs.Works.{works};
+ghost use Rattle.flash_laws.specs.Due.{DueMayCome};
 ghost use Rattle.flash_laws.specs.WorkersRun.{IsDueOf, IsFreeFor, WorkersRun};
 
 use flash_cgi::laws as scripts;
@@ -21,3 +22,9 @@ pub fn workers_run()
     scripts::running_is_full();
     laws::each_step_leaves_the_rest();
 }
+
+/// With the files as they are one response is due to a request, be it for a file or for a script; and at each moment that response may
+/// come, with what the calls for the request gave so far.
+pub fn due_may_come()
+    ensures { DueMayCome }
+{}

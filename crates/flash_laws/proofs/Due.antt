@@ -1,0 +1,74 @@
+-- The response that is due may come, with what is known.
+use Rattle.std.proofs.Common.{◌≡◌, ℕ, List, [], ◌∷◌, ◌++◌, ap, ◌∙◌, refl, sym, subst, Option, Some, None, true, false, Bool}
+use Rattle.std.specs.Prelude.{is_some, if◌then◌else◌}
+use Rattle.iol_core.specs.State.{State}
+use Rattle.flash_http.specs.Request.{Answer, serve, Wanted}
+use Rattle.flash_cgi.specs.Outcomes.{outcome_in, outcomes_in}
+use Rattle.flash_cgi.specs.Output as script
+use Rattle.flash_cgi.specs.Output.{output}
+use Rattle.flash_cgi.specs.Script.{script_of}
+use Rattle.flash_cgi.specs.declared.line.Line.{Line}
+use Rattle.flash_cgi.specs.declared.line.Line.TheVariants as line
+use Rattle.flash_laws.specs.Answers.{Outcome, Found, Failed, Shelf, due_to}
+use Rattle.flash_laws.specs.Client.{is_for_script}
+use Rattle.flash_laws.specs.Due.{DueMayCome, Seen, due, due_if, due_of_run, due_of_script, due_of_text, outcomes_by}
+use Rattle.flash_laws.specs.Known.{Known, OfFile, OfScript, of_text, MayAnswer, MayPutOut}
+use Rattle.flash_laws.specs.RunFits.{Ran, Follows, nothing_yet}
+use Rattle.flash_laws.specs.Scripts.{script_response}
+
+file : (scripts : Bool) (shelf : Shelf) (seen : Seen) (q : Answer) → is_for_script scripts q ≡ false → due scripts shelf seen q ≡ due_to shelf q
+file scripts shelf seen q is = ap (λ b. due_if b shelf seen q) is
+
+-- of a script it is by what its name gives
+due_found : (scripts : Bool) (shelf : Shelf) (seen : Seen) (w : Wanted) (o : Outcome) → is_for_script scripts (serve w) ≡ true → shelf w.name ≡ o
+    → due scripts shelf seen (serve w) ≡ due_of_script seen w o
+due_found scripts shelf seen w o is found = ap (λ b. due_if b shelf seen (serve w)) is ∙ ap (λ x. due_of_script seen w x) found
+
+-- before it runs
+may_run : (seen : Seen) (w : Wanted) (lines : List Line) (head_only : Bool) → MayPutOut head_only w nothing_yet (due_of_run head_only seen w lines)
+may_run seen w lines true = refl
+may_run seen w lines false = (output w.query lines (outcomes_by seen lines), tt, refl)
+
+-- whether a text runs, by its lines
+abbrev of_option : (text : List ℕ) → Option (List Line) → Known
+of_option text o = if is_some o then OfScript text nothing_yet else OfFile (Failed 500)
+
+may_read : (seen : Seen) (w : Wanted) (text : List ℕ) → MayAnswer (serve w) (of_text text) (due_of_text seen w (script_of text))
+may_read seen w text = by (script_of text) refl
+  where
+    by : (o : Option (List Line)) → script_of text ≡ o → MayAnswer (serve w) (of_text text) (due_of_text seen w (script_of text))
+    by None is = subst (λ (x : Option (List Line)). MayAnswer (serve w) (of_option text x) (due_of_text seen w x)) (sym is) refl
+    by (Some lines) is = subst (λ (x : Option (List Line)). MayAnswer (serve w) (of_option text x) (due_of_text seen w x)) (sym is) (may_run seen w lines w.head_only)
+
+read : (scripts : Bool) (shelf : Shelf) (seen : Seen) (w : Wanted) (text : List ℕ) → is_for_script scripts (serve w) ≡ true → shelf w.name ≡ Found text
+    → MayAnswer (serve w) (of_text text) (due scripts shelf seen (serve w))
+read scripts shelf seen w text is found =
+    subst (λ (r : List ℕ). MayAnswer (serve w) (of_text text) r) (sym (due_found scripts shelf seen w (Found text) is found)) (may_read seen w text)
+
+unread : (scripts : Bool) (shelf : Shelf) (seen : Seen) (w : Wanted) (status : ℕ) → is_for_script scripts (serve w) ≡ true → shelf w.name ≡ Failed status
+    → MayAnswer (serve w) (OfFile (Failed status)) (due scripts shelf seen (serve w))
+unread scripts shelf seen w status is failed = due_found scripts shelf seen w (Failed status) is failed
+
+while_heard : (scripts : Bool) (shelf : Shelf) (seen : Seen) (w : Wanted) (text heard past more : List ℕ) (lines : List Line) (ended : Bool) → is_for_script scripts (serve w) ≡ true
+    → shelf w.name ≡ Found text → script_of text ≡ Some lines → w.head_only ≡ false → output w.query lines (outcomes_by seen lines) ≡ heard ++ more → Follows ended more
+    → MayAnswer (serve w) (OfScript text (Ran heard ended past)) (due scripts shelf seen (serve w))
+while_heard scripts shelf seen w text heard past more lines ended is found lines_are gets all follows =
+    subst (λ (b : Bool). MayPutOut b w (Ran heard ended past) (due scripts shelf seen (serve w))) (sym gets) (more, follows, due_is)
+  where
+    due_is : due scripts shelf seen (serve w) ≡ script_response w (heard ++ more)
+    due_is = due_found scripts shelf seen w (Found text) is found
+        ∙ (ap (λ (o : Option (List Line)). due_of_text seen w o) lines_are
+        ∙ (ap (λ b. due_of_run b seen w lines) gets ∙ ap (λ (l : List ℕ). script_response w l) all))
+
+outcomes : (m : State) (d : ℕ) (seen : Seen) (lines : List Line) → ((name : List ℕ) → outcome_in m d name ≡ seen name) → outcomes_in m d lines ≡ outcomes_by seen lines
+outcomes m d seen [] same = refl
+outcomes m d seen (line.Emit text ∷ lines) same = outcomes m d seen lines same
+outcomes m d seen (line.Query ∷ lines) same = outcomes m d seen lines same
+outcomes m d seen (line.Pause ∷ lines) same = outcomes m d seen lines same
+outcomes m d seen (line.Cat name ∷ lines) same =
+    ap (λ (os : List script.Outcome). outcome_in m d name ∷ os) (outcomes m d seen lines same) ∙ ap (λ (o : script.Outcome). o ∷ outcomes_by seen lines) (same name)
+outcomes m d seen (line.Wc name ∷ lines) same =
+    ap (λ (os : List script.Outcome). outcome_in m d name ∷ os) (outcomes m d seen lines same) ∙ ap (λ (o : script.Outcome). o ∷ outcomes_by seen lines) (same name)
+
+pub due_may_come : DueMayCome
+due_may_come = record { file = file; read = read; unread = unread; heard = while_heard; outcomes = outcomes }
