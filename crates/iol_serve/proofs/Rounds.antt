@@ -7,13 +7,14 @@ use Rattle.iol_serve.specs.Serving.{HasEnded, hung_up}
 use Rattle.iol_serve.specs.declared.ending.Ending.{Ending}
 use Rattle.iol_serve.specs.declared.ending.Ending.TheVariants as ending
 use Rattle.iol_serve.specs.declared.serving.Step.{Step}
-use Rattle.iol_serve.specs.declared.serving.Step.TheVariants.{Moved, Quiet, Failed, Silent, Over}
+use Rattle.iol_serve.specs.declared.serving.Step.TheVariants.{Moved, Quiet, Failed, Silent, Stalled, Over}
 
 pub hung_up-after : (before : Ending) (step : Step) → (hung_up before || is_gone step) ≡ hung_up (after before step)
 hung_up-after ending.Over Moved = refl
 hung_up-after ending.Over Quiet = refl
 hung_up-after ending.Over Failed = refl
 hung_up-after ending.Over Silent = refl
+hung_up-after ending.Over Stalled = refl
 hung_up-after ending.Over Over = refl
 hung_up-after ending.Failed step = refl
 hung_up-after ending.Silent step = refl
@@ -24,6 +25,7 @@ ended_last s c was Moved last gone over = absurd (cc last)
 ended_last s c was Quiet last gone over = absurd (cc last)
 ended_last s c was Failed last gone over = gone refl
 ended_last s c was Silent last gone over = gone refl
+ended_last s c was Stalled last gone over = gone refl
 ended_last s c was Over last gone over = inl (over refl)
 
 -- where the last round leaves a connection over, the round told so
@@ -33,9 +35,13 @@ over_last before Quiet last is over = absurd (cc last)
 over_last before Over last is over = over refl
 over_last ending.Over Failed last is over = absurd (cc last)
 over_last ending.Over Silent last is over = absurd (cc last)
+over_last ending.Over Stalled last is over = absurd (cc last)
 over_last ending.Failed Failed last is over = absurd (cc is)
 over_last ending.Failed Silent last is over = absurd (cc is)
+over_last ending.Failed Stalled last is over = absurd (cc is)
 over_last ending.Silent Failed last is over = absurd (cc is)
 over_last ending.Silent Silent last is over = absurd (cc is)
+over_last ending.Silent Stalled last is over = absurd (cc is)
 over_last ending.Long Failed last is over = absurd (cc is)
 over_last ending.Long Silent last is over = absurd (cc is)
+over_last ending.Long Stalled last is over = absurd (cc is)

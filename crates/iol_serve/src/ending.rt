@@ -15,7 +15,7 @@ pub enum Ending {
     /// Its peer sends no more, all that was written on it was sent, and yet nobody closes it: all is idle.
     Silent,
 
-    /// It was served for as many rounds as one may be.
+    /// It was served for as many rounds as one may be, or as may follow one another with nothing sent and the processes not idle.
     Long,
 }
 

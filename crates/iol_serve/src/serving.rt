@@ -28,6 +28,9 @@ const MAX_ROUNDS: u32 = 0x10_0000;
 /// The turns that the processes have in one round at the most.
 const TURNS: usize = 65_536;
 
+/// The rounds, one after another, in which nothing is sent and the processes are not idle, after which all is stalled.
+const MAX_STALLS: u32 = 32;
+
 /// The bytes of one read, and of one drain, at the most.
 const PIECE: u32 = PAGE_BYTES as u32;
 
@@ -37,7 +40,7 @@ enum Step {
     /// Something came or was sent, or may be later.
     Moved,
 
-    /// Nothing is to be sent.
+    /// Nothing is to be sent. After a round: and the processes are not idle.
     Quiet,
 
     /// A read, a write or a flush failed.
@@ -46,14 +49,18 @@ enum Step {
     /// Nothing will come any more, and all waits for it.
     Silent,
 
+    /// Round after round nothing was sent, and the processes were not idle.
+    Stalled,
+
     /// The connection is gone.
     Over,
 }
 
 /// Serves a connection of the world until it is gone, or its peer is: what the reader gives comes in, and what the world
 /// sends goes to the writer, which is flushed before each read. The reader's end is a peer that is done. A fault of the reader or
-/// the writer is a peer that is gone; so is one of which nothing comes any more where all is idle, and one that is served for 1,048,576
-/// rounds. The answer tells which it was.
+/// the writer is a peer that is gone; so is one of which nothing comes any more where all is idle, one to which nothing is sent in 32
+/// rounds, one after another, after which the processes are not idle, and one that is served for 1,048,576 rounds. The answer tells
+/// which it was.
 ///
 /// A round is turns of the processes until all is idle, at most 65,536; all that is to be sent, at most 4,096 bytes
 /// at a time; and, where all is idle and nothing was sent, one read of at most 4,096 bytes.
@@ -72,9 +79,10 @@ pub fn serve_connection<B: Backing + Drop, P: Process, R: Read, W: Write>(
         (W.contents writer.old) (W.contents writer.new) (copied world.old) (copied world.new)) }
 {
     let mut ending = Ending::Over;
+    let mut stalls = 0;
     for _ in 0..MAX_ROUNDS {
         let before = ending;
-        let step = round(world, conn, reader, writer);
+        let step = round(world, conn, reader, writer, &mut stalls);
         ending = after(before, step);
         if is_last(before, step) {
             finish(writer, ending);
@@ -94,6 +102,7 @@ fn after(before: Ending, step: Step) -> Ending
     match step {
         Step::Failed => Ending::Failed,
         Step::Silent => Ending::Silent,
+        Step::Stalled => Ending::Long,
         Step::Moved | Step::Quiet | Step::Over => Ending::Over,
     }
 }
@@ -104,7 +113,7 @@ fn is_last(before: Ending, step: Step) -> bool
 {
     match step {
         Step::Moved | Step::Quiet => false,
-        Step::Failed | Step::Silent => before.is_hung_up(),
+        Step::Failed | Step::Silent | Step::Stalled => before.is_hung_up(),
         Step::Over => true,
     }
 }
@@ -140,6 +149,7 @@ fn round<B: Backing + Drop, P: Process, R: Read, W: Write>(
     conn: ConnId,
     reader: &mut R,
     writer: &mut W,
+    stalls: &mut u32,
 ) -> Step
     ensures gone { spec.is_gone result ≡ true →
         HasEnded (tables_of world.new.machine.kernel) conn }
@@ -150,18 +160,34 @@ fn round<B: Backing + Drop, P: Process, R: Read, W: Write>(
         (Serves P.turns conn (spec.is_gone result) (R.remaining reader.old) (R.remaining reader.new)
         (W.contents writer.old) (W.contents writer.new) (copied world.old) (copied world.new)) }
 {
-    let step = exchange(world, conn, reader, writer);
+    let reached = exchange(world, conn, reader, writer);
+    let step = bounded(reached, stalls);
     if is_gone(step) {
         return tell(world, conn, step);
     }
     step
 }
 
+// The same step, or that all is stalled, after so many quiet ones.
+fn bounded(step: Step, stalls: &mut u32) -> Step
+    ensures over { result ≡ Step.Over → step ≡ Step.Over }
+{
+    *stalls = match step {
+        Step::Quiet => stalls.saturating_add(1),
+        _ => 0,
+    };
+    if *stalls < MAX_STALLS {
+        return step;
+    }
+    *stalls = 0;
+    Step::Stalled
+}
+
 // Whether the peer is to be told to be gone.
 fn is_gone(step: Step) -> bool
     ensures { result ≡ spec.is_gone step }
 {
-    matches!(step, Step::Failed | Step::Silent)
+    matches!(step, Step::Failed | Step::Silent | Step::Stalled)
 }
 
 // Tells that the peer is gone, if the connection is there.
@@ -235,6 +261,7 @@ fn send<B: Backing + Drop, P: Process, W: Write>(
             Step::Quiet => return progress(has_moved),
             Step::Failed => return Step::Failed,
             Step::Silent => return Step::Silent,
+            Step::Stalled => return Step::Stalled,
             Step::Over => return Step::Over,
         }
     }

@@ -4,9 +4,9 @@ use Rattle.iol_serve.proofs.serving.round.Goals as goal
 
 pub returns-then-is_gone-clause-serves : goal.returns-then-is_gone-clause-serves
 returns-then-is_gone-clause-serves g c = λ honest.
-    serves_then g.P.Process.turns c.args.conn false _ _ _ _ _ _ _ _ _ _ (c.exchange-step.ensures.serves honest)
-    (serves_alone g.P.Process.turns c.args.conn _ _ _ _ _ (c.tell.ensures.goes_on (c.exchange-step.ensures.honest.same ∙ honest)))
+    serves_then g.P.Process.turns c.args.conn false _ _ _ _ _ _ _ _ _ _ (c.exchange-reached.ensures.serves honest)
+    (serves_alone g.P.Process.turns c.args.conn _ _ _ _ _ (c.tell.ensures.goes_on (c.exchange-reached.ensures.honest.same ∙ honest)))
 
 pub returns-clause-serves : goal.returns-clause-serves
 returns-clause-serves g c = λ honest.
-    serves_as g.P.Process.turns c.args.conn _ _ _ _ _ _ _ _ (sym c.if-is_gone.false ∙ c.is_gone.ensures) (c.exchange-step.ensures.serves honest)
+    serves_as g.P.Process.turns c.args.conn _ _ _ _ _ _ _ _ (sym c.if-is_gone.false ∙ c.is_gone.ensures) (c.exchange-reached.ensures.serves honest)

@@ -23,5 +23,8 @@ returns-in-Failed-clause-sends g c = sends_then g.P.Process.turns c.args.conn _ 
 pub returns-in-Silent-clause-sends : goal.returns-in-Silent-clause-sends
 returns-in-Silent-clause-sends g c = sends_then g.P.Process.turns c.args.conn _ _ _ _ _ _ c.loop.invariant.sends c.send_piece.ensures.sends
 
+pub returns-in-Stalled-clause-sends : goal.returns-in-Stalled-clause-sends
+returns-in-Stalled-clause-sends g c = sends_then g.P.Process.turns c.args.conn _ _ _ _ _ _ c.loop.invariant.sends c.send_piece.ensures.sends
+
 pub returns-in-Over-clause-sends : goal.returns-in-Over-clause-sends
 returns-in-Over-clause-sends g c = sends_then g.P.Process.turns c.args.conn _ _ _ _ _ _ c.loop.invariant.sends c.send_piece.ensures.sends
