@@ -4,6 +4,7 @@ pub mod Ending
 pub mod Feeds
 pub mod Free
 pub mod Full
+pub mod Gathered
 pub mod Having
 pub mod Job
 pub mod Laws

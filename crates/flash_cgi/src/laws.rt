@@ -6,7 +6,7 @@ ghost use Rattle.flash_cgi.specs.Feeds.{FeedsOn};
 ghost use Rattle.flash_cgi.specs.Free.{WorkersStayFree};
 ghost use Rattle.flash_cgi.specs.Full.{RunningIsFull};
 ghost use Rattle.flash_cgi.specs.Having.{WorkersKeepNothing};
-ghost use Rattle.flash_cgi.specs.Laws.{JobsAreRead};
+ghost use Rattle.flash_cgi.specs.Laws.{GatheringKeeps, JobsAreRead};
 ghost use Rattle.flash_cgi.specs.Leaving.{WorkersAreQuiet};
 ghost use Rattle.flash_cgi.specs.Outcomes.{OutcomesAreTrue};
 ghost use Rattle.flash_cgi.specs.Shown.{OutputsAreShown};
@@ -21,11 +21,17 @@ pub fn jobs_are_read()
     ensures { JobsAreRead }
 {}
 
+/// The lines that a worker runs, consecutive texts as one, put out what the lines of the script do.
+pub fn gathering_keeps()
+    ensures { GatheringKeeps }
+{}
+
 /// The worker that reads a job which waits for it runs that job, and all of its output is unseen
 /// yet.
 pub fn jobs_are_taken()
     ensures { JobsAreTaken }
 {
+    gathering_keeps();
     laws::each_step_leaves_the_rest();
 }
 
@@ -48,6 +54,7 @@ pub fn turns_feed()
     workers_feed_pipes();
     jobs_are_taken();
     outcomes_are_true();
+    gathering_keeps();
     laws::calls_serve_their_domain();
     laws::each_step_leaves_the_rest();
 }

@@ -19,6 +19,7 @@ mod asking;
 mod counting;
 pub mod doing;
 mod filing;
+pub mod gathering;
 pub mod jobs;
 pub mod laws;
 pub mod line;

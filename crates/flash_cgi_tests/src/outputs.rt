@@ -1,9 +1,11 @@
 //! What scripts put out.
-use crate::checks::pass_all;
-use crate::rows::{Row, held};
-use crate::stage::Kept;
+use crate::checks::{pass, pass_all};
+use crate::rows::{OUTPUT, Row, give, held, is_put_out};
+use crate::stage::{Kept, stage_of};
+use flash_cgi::jobs::job_text;
+use iol_core::numbers::Fd;
 use iol_core::refusals::Refusal;
-use std::alloc::Global;
+use std::alloc::{AllocError, Global};
 use std::test::Fail;
 
 // A file for all, and one of the guest's.
@@ -20,7 +22,7 @@ const FILES: [Kept<'static>; 2] = [
     },
 ];
 
-const ROWS: [Row<'static>; 10] = [
+const ROWS: [Row<'static>; 12] = [
     ("emit a\nquery\ncat f", "q=1", b"a\nq=1\na\nb"),
     ("wc f\ncat none\nemit\n", "", b"1 3\n[NoFile]\n\n"),
     ("cat p", "", b"[Denied]\n"),
@@ -31,6 +33,12 @@ const ROWS: [Row<'static>; 10] = [
     ("emit  two  ", "", b" two  \n"),
     ("emit \nquery\nquery", "", b"\n\n\n"),
     ("emit a\r\ncat f\r\n", "", b"a\r\n[NoFile]\n"),
+    ("emit a\nemit b\npause\nemit c\nemit", "", b"a\nb\nc\n\n"),
+    (
+        "emit a\nemit\ncat f\nemit b\nemit c\nquery",
+        "q",
+        b"a\n\na\nbb\nc\nq\n",
+    ),
 ];
 
 #[test]
@@ -72,4 +80,29 @@ fn files_of_several_sizes(rt: HostRuntime) -> Result<(), Fail> {
     let full = vec![in rt.alloc(); b'z'; 65_536]?;
     let more = vec![in rt.alloc(); b'\n'; 100_000]?;
     pass_all(sizes_held(rt.alloc(), &full, &more), 4)
+}
+
+fn repeated(alloc: Global, line: &[u8], count: usize) -> Result<Vec<u8>, AllocError> {
+    let mut lines = Vec::new(alloc);
+    for _ in 0..count {
+        lines.extend_from_slice(line)?;
+    }
+    Ok(lines)
+}
+
+// Many more texts than the worker's pool has pages: nothing is read before all of them are put out, and no
+// call is refused for want of room.
+fn many_texts(alloc: Global) -> Result<bool, Refusal> {
+    let script = repeated(alloc, b"emit abc\n".as_slice(), 1500)?;
+    let wanted = repeated(alloc, b"abc\n".as_slice(), 1500)?;
+    let job = job_text(alloc, Fd::new(OUTPUT), b"", &script)?;
+    let mut stage = stage_of(alloc, &[])?;
+    let is_well = give(&mut stage, job) && is_put_out(&mut stage, &wanted) && !stage.is_rough();
+    drop(stage);
+    Ok(is_well)
+}
+
+#[test]
+fn more_texts_than_pages(rt: HostRuntime) -> Result<(), Fail> {
+    pass(many_texts(rt.alloc()))
 }
