@@ -192,6 +192,7 @@ turns feeds own quiet m n j p seat next yields r text order placed good due did 
         })
     by (inr (inl over)) = inr (inl (record {
       all = due.is ∙ over.ends.all (outcomes_to_come m p seat due.unseen due.runs);
+      done = over.ends.done;
       closes = over.ends.closes;
       free = over.free;
       none = none_after own quiet m n j p seat next yields r order did due.desk left open_yet (closed_now m n p r over.ends.done over.ends.closes);

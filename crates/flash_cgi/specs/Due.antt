@@ -8,6 +8,7 @@ use Rattle.iol_core.specs.Run.{StepsTo}
 use Rattle.iol_core.specs.declared.descriptors.Descriptor.TheVariants as on
 use Rattle.iol_core.specs.declared.events.Event.{Event}
 use Rattle.iol_core.specs.declared.events.Reply.{Reply}
+use Rattle.iol_core.specs.declared.events.Reply.TheVariants as reply
 use Rattle.iol_laws.specs.Caller.{is_rough, ClosesWriteEnd}
 use Rattle.iol_laws.specs.Order.{IsOrderly}
 use Rattle.iol_laws.specs.Others.{GoesFromFront}
@@ -49,6 +50,7 @@ pub record IsDue (m : State) (j p : ℕ) (seat : Seat Worker) (text : List ℕ) 
 -- all of it lies in the pipe, whose write end is closed, and the worker is free for the next job, which is still to come
 pub record IsWritten (m n : State) (j p : ℕ) (next : Seat Worker) (text : List ℕ) (r : Reply) : Type 0 where
   pub all : text ≡ bytes_of (pipe_at m p).queue
+  pub done : r ≡ reply.Done
   pub closes : ClosesWriteEnd m p r n
   pub free : IsFree n next
   pub none : HasNoJob n next.by j

@@ -54,3 +54,4 @@ pub mod ClientOffering
 pub mod ClientKeeping
 pub mod WorkersRun
 pub mod Due
+pub mod World

@@ -100,7 +100,7 @@ module _ (stay_free : WorkersStayFree) (put_out : ScriptsPutOut) (hear : OthersH
       by : IsDue n j p next text ⊎ IsWritten m n j p next text r ⊎ ((pipe_at n p).reading ≡ false)
           → Due n j p next text ⊎ Wrote works HasWaited pools Free Due m n j p next text r ⊎ ((pipe_at n p).reading ≡ false)
       by (inl due) = inl (record { due = due; shown = shown })
-      by (inr (inl w)) = inr (inl (record { all = w.all; closes = w.closes; free = record { free = w.free; none = w.none; default = shown.default }; lies = shown.output }))
+      by (inr (inl w)) = inr (inl (record { all = w.all; done = w.done; closes = w.closes; free = record { free = w.free; none = w.none; default = shown.default }; lies = shown.output }))
       by (inr (inr gone)) = inr (inr gone)
 
   others : (m n : State) (j p : ℕ) (seat : Seat Worker) (e : Event) (r : Reply) (text : List ℕ) → IsOrderly m → ArePlaced m → StepsTo m e r n → is_call_of e seat.by ≡ false

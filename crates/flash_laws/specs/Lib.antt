@@ -32,3 +32,4 @@ pub mod ClientOffers
 pub mod ClientKeeping
 pub mod Due
 pub mod WorkersRun
+pub mod PutsOut

@@ -11,6 +11,7 @@ use Rattle.iol_core.specs.Run.{StepsTo}
 use Rattle.iol_core.specs.declared.limits.TheConstants.{MAX_QUEUE_BYTES}
 use Rattle.iol_core.specs.declared.events.Event.{Event}
 use Rattle.iol_core.specs.declared.events.Reply.{Reply}
+use Rattle.iol_core.specs.declared.events.Reply.TheVariants as reply
 use Rattle.iol_laws.specs.Caller.{is_rough, ClosesWriteEnd}
 use Rattle.iol_laws.specs.Order.{IsOrderly}
 use Rattle.iol_laws.specs.Others.{GoesFromFront}
@@ -38,6 +39,7 @@ module _ {W : Type 0} (works : Account W) (settled : Claim W) (pools : ℕ → B
   -- all of it lies in the pipe, whose write end is closed, and the worker is free again
   pub record Wrote (m n : State) (j p : ℕ) (next : Seat W) (text : List ℕ) (r : Reply) : Type 0 where
     pub all : text ≡ bytes_of (pipe_at m p).queue
+    pub done : r ≡ reply.Done
     pub closes : ClosesWriteEnd m p r n
     pub free : Free n j next
     pub lies : lie_in pools (pipe_at n p).queue ≡ true

@@ -4,6 +4,7 @@ ghost use Rattle.std.specs.Prelude.{ℕ, Bool};
 ghost use Rattle.flash_cgi.specs.Waiting.{HasWaited};
 ghost use Rattle.flash_cgi.specs.Works.{works};
 ghost use Rattle.flash_laws.specs.Due.{DueMayCome};
+ghost use Rattle.flash_laws.specs.PutsOut.{TextsArePutOut};
 ghost use Rattle.flash_laws.specs.WorkersRun.{IsDueOf, IsFreeFor, WorkersRun};
 
 use flash_cgi::laws as scripts;
@@ -28,3 +29,15 @@ pub fn workers_run()
 pub fn due_may_come()
     ensures { DueMayCome }
 {}
+
+/// What a script puts out comes to whoever reads its pipe, in order and to its end: each read gives the front of what is still to be had,
+/// one that gives nothing tells that all was read and that the worker is free, and none is denied. Meanwhile the worker's turns and
+/// others leave the rest.
+pub fn texts_are_put_out()
+    ensures { (pools : ℕ → Bool) → TextsArePutOut works pools (IsFreeFor pools) (IsDueOf pools) }
+{
+    workers_run();
+    scripts::others_hear();
+    laws::calls_serve_their_domain();
+    laws::labels_follow();
+}
