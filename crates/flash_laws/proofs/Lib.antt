@@ -49,6 +49,7 @@ pub mod ClientPhases
 pub mod RunEnds
 pub mod ClientMoving
 pub mod ClientNearing
+pub mod ClientStaying
 pub mod ClientTaking
 pub mod ClientOffering
 pub mod ClientKeeping

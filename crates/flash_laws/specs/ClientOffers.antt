@@ -20,7 +20,7 @@ use Rattle.flash_http.specs.Request.{Answer, serve, Wanted}
 use Rattle.flash_laws.specs.Answers.{Outcome}
 use Rattle.flash_laws.specs.Client.{Client, uses_agg, uses_fd, job_of, wants, is_for_script, awaits, after_run, told}
 use Rattle.flash_laws.specs.Conn as conn
-use Rattle.flash_laws.specs.Conn.{begins}
+use Rattle.flash_laws.specs.Conn.{begins, most_read}
 use Rattle.flash_laws.specs.Fits.{Names, is_closing}
 use Rattle.flash_laws.specs.Known.{Known, OfFile, OfScript, of_text, taken_before, IsNextOf, HasKnown}
 use Rattle.flash_laws.specs.Nears.{Rank, Nears, CanMake, is_busy}
@@ -171,6 +171,9 @@ pub record ClientOffersTheResponse (scripts : Bool) : Type 0 where
   -- while a script runs it is as its run
   pub runs : (m : State) (x : Client) (w : Wanted) (y : Running) (text : List ℕ) (o : Progress) → x.run ≡ Some y
       → x.conn.q ≡ serve w → is_over y ≡ false → HasKnown scripts m x (OfScript text o) → IsAsItsRun scripts m x w y text o
+  -- the text of a script is read whole, for HEAD too
+  pub whole : (fd f : ℕ) (x : Client) → x.run ≡ None → is_for_script scripts x.conn.q ≡ true → x.conn.doing ≡ doing.Reads f
+      → wants scripts fd x ≡ call.IolRead f most_read
   -- with each reply its request comes nearer to its end, but where more of its script's output was read, or its call is to be
   -- made again later
   pub rank : Client → Rank
