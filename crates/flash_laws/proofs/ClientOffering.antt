@@ -46,7 +46,7 @@ use Rattle.flash_laws.specs.Running.{in_phase, is_over, job_pipe}
 use Rattle.flash_laws.specs.Site.{server}
 use Rattle.flash_laws.proofs.ClientMoving.{client-moves}
 use Rattle.flash_laws.proofs.ClientNearing.{rank, client-nears}
-use Rattle.flash_laws.proofs.ClientStaying.{client-whole}
+use Rattle.flash_laws.proofs.ClientStaying.{client-whole, client-keeps}
 use Rattle.flash_laws.proofs.ClientTaking.{client-takes}
 use Rattle.flash_laws.proofs.ClientPhases as phases
 use Rattle.flash_laws.proofs.ClientPhases.{at, Next, next-due, script-writes, asks-told, unread-told, read-told}
@@ -575,6 +575,7 @@ clients_offered steps own files may = λ scripts. record {
   files = λ m x o plain has. client-files scripts m x.conn.kept x.conn.q x.conn.doing x.run x.script o plain has;
   runs = λ m x w y text o is_run is_q going has. client-runs scripts m x.conn.kept x.conn.q x.conn.doing x.run x.script w y text o is_run is_q going has;
   whole = λ fd f x none for_script reads. client-whole scripts fd f x.conn.kept x.conn.q x.conn.doing x.run x.script none for_script reads;
+  keeps = λ worker x r heard. client-keeps scripts worker x.conn.kept x.conn.q x.conn.doing x.run x.script r heard;
   rank = rank;
   nears = λ m n fd c worker x r heard known order lives open_on busy has can step names.
       client-nears steps own may scripts m n fd c worker x.conn.kept x.conn.q x.conn.doing x.run x.script r heard known order lives open_on busy has can step names;

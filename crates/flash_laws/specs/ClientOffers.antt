@@ -2,7 +2,7 @@
 --
 -- It is said of each step, calm or not: what the machine has of a response it goes on having, unless somebody gives up or moves
 -- what the client uses. That over a whole run nobody does is not said here.
-use Rattle.std.specs.Prelude.{◌≡◌, ◌⊎◌, ℕ, ◌+◌, Bool, true, false, not, List, [], Option, Some, None}
+use Rattle.std.specs.Prelude.{◌≡◌, ◌⊎◌, ℕ, ◌+◌, Bool, true, false, not, List, [], ◌++◌, Option, Some, None}
 use Rattle.iol_core.specs.Access.{HasAccess}
 use Rattle.iol_core.specs.State.{State, descriptor, is_live}
 use Rattle.iol_core.specs.Run.{StepsTo}
@@ -107,6 +107,14 @@ drops_rest x = by x.run
     by None = is_dropping x.conn.doing
     by (Some y) = run.breaks_off y
 
+-- what is kept of the stream after a reply: what was, and after it what is heard of the stream, where that is read
+abbrev pub kept_by : Client → Reply → (heard : List ℕ) → List ℕ
+kept_by x r heard = by x.run x.conn.doing r
+  where
+    by : Option Running → Doing → Reply → List ℕ
+    by None doing.Rests (reply.Agg n) = x.conn.kept ++ heard
+    by y d r = x.conn.kept
+
 -- The client goes on as its run does, with its connection as it was; once that is over, the connection goes on where it left off.
 pub record GoesOnAs (x : Client) (z : Running) (after : Client) : Type 0 where
   pub going : is_over z ≡ false → (after.run ≡ Some z) × (after.conn ≡ x.conn)
@@ -174,6 +182,10 @@ pub record ClientOffersTheResponse (scripts : Bool) : Type 0 where
   -- the text of a script is read whole, for HEAD too
   pub whole : (fd f : ℕ) (x : Client) → x.run ≡ None → is_for_script scripts x.conn.q ≡ true → x.conn.doing ≡ doing.Reads f
       → wants scripts fd x ≡ call.IolRead f most_read
+  -- its request stays, and so does what is kept of the stream, but that what is heard of it is added
+  pub keeps : (worker : ℕ) (x : Client) (r : Reply) (heard : List ℕ)
+      → ((told scripts worker x r heard).conn.q ≡ x.conn.q)
+      × ((told scripts worker x r heard).conn.kept ≡ kept_by x r heard)
   -- with each reply its request comes nearer to its end, but where more of its script's output was read, or its call is to be
   -- made again later
   pub rank : Client → Rank

@@ -36,8 +36,9 @@ pub fn run_keeping_law()
 /// What the server offers a client for a request, be it for a file or for a script, is the next bytes of the response: of a file there
 /// is one, of a script it is whatever it will be. It is said of each call for the client, calm or not, while nobody gives up or moves what
 /// it uses: the file's name is asked for first, a script is read whole and runs with its own text and the query of its request, and
-/// HEAD runs none. As much counts as taken as its connection took. While a script runs the client is as its run. With each reply a
-/// request comes nearer to its end, but where more of the output was read, or its call is to be made again later.
+/// HEAD runs none. As much counts as taken as its connection took. While a script runs the client is as its run. The request stays with
+/// each reply, and so does what is kept of the stream, but that what is heard is added. With each reply a request
+/// comes nearer to its end, but where more of the output was read, or its call is to be made again later.
 pub fn clients_law()
     ensures { ClientsAreOfferedTheResponse }
 {
