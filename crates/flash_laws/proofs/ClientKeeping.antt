@@ -34,6 +34,7 @@ use Rattle.flash_laws.specs.Running.{is_over}
 use Rattle.flash_laws.specs.Site.{server}
 use Rattle.flash_laws.proofs.ClientMoving.{client-opened, client-piped}
 use Rattle.flash_laws.proofs.ClientPhases.{at}
+use Rattle.flash_laws.proofs.ClientStaying.{client-holds, client-ready, new-holds}
 use Rattle.flash_laws.proofs.Keeping as keeping
 use Rattle.flash_laws.proofs.Keeping.{leaves-told, shuts}
 use Rattle.flash_laws.proofs.Lists.{clash}
@@ -291,4 +292,7 @@ clients_leave come own files = λ scripts. record {
       left come own files m n order scripts fd worker x.conn.kept x.conn.q x.conn.doing x.run x.script known r heard a has step u unused;
   shut = λ m n fd worker x known r heard g has step u unused.
       shut come own m n scripts fd worker x.conn.kept x.conn.q x.conn.doing x.run x.script known r heard g has step u unused;
+  fresh = new-holds scripts;
+  held = λ worker x r heard holds. client-holds scripts worker x.conn.kept x.conn.q x.conn.doing x.run x.script r heard holds;
+  ready = λ x y holds begun. client-ready scripts x.conn.kept x.conn.q x.conn.doing x.run x.script y holds begun;
 }

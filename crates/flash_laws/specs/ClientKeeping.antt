@@ -2,7 +2,7 @@
 -- client that they are made for, and what that client uses no more is given up.
 --
 -- As what it offers (`ClientOffers`), it is said of each call of its own, calm or not.
-use Rattle.std.specs.Prelude.{◌≡◌, ℕ, ◌==◌, ◌||◌, Bool, true, false, List, Option, Some, None}
+use Rattle.std.specs.Prelude.{◌≡◌, ℕ, ◌==◌, ◌||◌, ◌&&◌, Bool, true, false, not, List, [], Option, Some, None}
 use Rattle.iol_core.specs.Access.{HasAccess}
 use Rattle.iol_core.specs.State.{State, descriptor, is_live}
 use Rattle.iol_core.specs.Run.{StepsTo}
@@ -12,13 +12,16 @@ use Rattle.iol_core.specs.declared.events.Reply.{Reply}
 use Rattle.iol_core.specs.declared.events.Reply.TheVariants as reply
 use Rattle.iol_laws.specs.Caller.{lent_at}
 use Rattle.iol_laws.specs.Order.{IsOrderly}
-use Rattle.flash_laws.specs.Client.{Client, uses_agg, wants, awaits, told}
+use Rattle.flash_laws.specs.Client.{Client, new_client, uses_agg, is_for_script, wants, Readies, awaits, told}
 use Rattle.flash_laws.specs.ClientOffers.{is_ending}
 use Rattle.flash_laws.specs.Conn as conn
-use Rattle.flash_laws.specs.Known.{Known, HasKnown}
+use Rattle.flash_laws.specs.Conn.{is_head_only}
+use Rattle.flash_laws.specs.Known.{Known, is_read, HasKnown}
 use Rattle.flash_laws.specs.RunKeeping.{has_end}
 use Rattle.flash_laws.specs.Site.{server}
+use Rattle.flash_laws.specs.declared.running.Step.TheVariants.{Gives, Makes}
 use Rattle.flash_laws.specs.declared.running.Running.{Running}
+use Rattle.flash_laws.specs.declared.running.Running.TheVariants.{Awaits, Runs}
 
 -- whether it has this descriptor, of a file or of an end of the pipe that a script puts out into
 abbrev pub has_fd : Client → (g : ℕ) → Bool
@@ -27,6 +30,25 @@ has_fd x g = by x.run
     by : Option Running → Bool
     by None = conn.uses_fd x.conn.doing g
     by (Some y) = has_end y g
+
+-- whether the job of a run, which is made of the text of its script, is not made yet
+abbrev pub is_before_job : Running → Bool
+is_before_job Awaits = true
+is_before_job (Runs run (Gives write)) = true
+is_before_job (Runs run (Makes f)) = true
+is_before_job y = false
+
+-- whether a script is to run for it, whose text was read
+abbrev pub is_to_run : (scripts : Bool) → Client → Bool
+is_to_run scripts x = by x.run
+  where
+    by : Option Running → Bool
+    by None = is_for_script scripts x.conn.q && (not (is_head_only x.conn.q) && is_read x.conn.doing)
+    by (Some y) = is_before_job y
+
+-- no text is held but of a script that is to run
+abbrev pub HoldsNoOther : (scripts : Bool) → Client → Type 0
+HoldsNoOther scripts x = is_to_run scripts x ≡ false → x.script ≡ []
 
 pub record ClientKeepsNothing (scripts : Bool) : Type 0 where
   -- an aggregate that comes by a call for a client is used by it
@@ -49,6 +71,11 @@ pub record ClientKeepsNothing (scripts : Bool) : Type 0 where
   pub shut : (m n : State) (fd worker : ℕ) (x : Client) (known : Known) (r : Reply) (heard : List ℕ) (g : ℕ)
       → HasKnown scripts m x known → StepsTo m (event.Call server (wants scripts fd x)) r n
       → has_fd x g ≡ true → has_fd (told scripts worker x r heard) g ≡ false → descriptor n server g ≡ None
+  -- no text is held but of a script that is to run: of a new client none is, and so it stays
+  pub fresh : HoldsNoOther scripts new_client
+  pub held : (worker : ℕ) (x : Client) (r : Reply) (heard : List ℕ) → HoldsNoOther scripts x
+      → HoldsNoOther scripts (told scripts worker x r heard)
+  pub ready : (x y : Client) → HoldsNoOther scripts x → Readies x y → HoldsNoOther scripts y
 
 abbrev pub ClientsLeaveNothing : Type 0
 ClientsLeaveNothing = (scripts : Bool) → ClientKeepsNothing scripts

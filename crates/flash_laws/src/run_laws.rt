@@ -49,8 +49,9 @@ pub fn clients_law()
 }
 
 /// The server keeps nothing of an answer that is over, be it of a file or of a script: what a call brings is used by the client that it
-/// was made for, and what that uses no more, aggregates, descriptors of files and ends of pipes, is given up. It is said of each call
-/// of the server, calm or not; what others give the server is not spoken of.
+/// was made for, and what that uses no more, aggregates, descriptors of files and ends of pipes, is given up. No text of a script is
+/// held but by a client that is to run it. It is said of each call of the server, calm or not; what others give the server is not
+/// spoken of.
 pub fn client_keeping_law()
     ensures { ClientsLeaveNothing }
 {
