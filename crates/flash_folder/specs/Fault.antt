@@ -1,5 +1,5 @@
 -- How a server of a folder ends, and what it tells.
-use Rattle.std.specs.Prelude.{◌≡◌, ◌⊎◌, ℕ, List, ◌++◌, Result, Ok, Err, codes}
+use Rattle.std.specs.Prelude.{◌≡◌, ◌⊎◌, ℕ, List, [], ◌∷◌, ◌++◌, Result, Ok, Err, codes}
 use Rattle.flash_folder.specs.declared.fault.Fault.{Fault}
 use Rattle.flash_folder.specs.declared.fault.Fault.TheVariants.{Listen, Accept, Connect, Folder, Output, Memory}
 
@@ -14,6 +14,10 @@ word_of Memory = codes "memory"
 -- what it prints as
 abbrev pub fault_text : Fault → List ℕ
 fault_text fault = codes "fault: " ++ word_of fault
+
+-- the line that it is told as
+abbrev pub fault_line : Fault → List ℕ
+fault_line fault = fault_text fault ++ 10 ∷ []
 
 -- the exit status: 0 just where there was no fault
 abbrev pub status_of : Result (Unit {0}) Fault → ℕ

@@ -1,7 +1,8 @@
 //! Why a server of a folder ends without doing all that it was asked for.
 ghost use Rattle.std.specs.Prelude.{◌≡◌, ◌≢◌, ◌⊎◌, OnOk};
 ghost use Rattle.std.specs.IoError.{error_kind};
-ghost use Rattle.flash_folder.specs.Fault.{status_of, word_of};
+ghost use Rattle.std.specs.Io.KnownBytes.{Appends};
+ghost use Rattle.flash_folder.specs.Fault.{fault_line, status_of, word_of};
 
 use std::io::{ErrorKind, Write};
 use std::{fmt, io};
@@ -83,8 +84,16 @@ pub fn ended<E: Write>(done: Result<(), Fault>, errors: &mut E) -> u8
     match done {
         Ok(()) => DONE,
         Err(fault) => {
-            let _ = writeln!(errors, "{fault}");
+            let _ = tell(fault, errors);
             FAULT
         }
     }
+}
+
+// Writes the line that a fault is told as.
+fn tell<E: Write>(fault: Fault, errors: &mut E) -> io::Result<()>
+    ensures { OnOk result (Appends (E.contents errors.old) (E.contents errors.new)
+        (fault_line fault)) }
+{
+    writeln!(errors, "{fault}")
 }

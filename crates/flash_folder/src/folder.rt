@@ -76,13 +76,17 @@ impl<R: Files + Drop> Host<R> {
         &mut self,
         reader: &mut I,
         writer: &mut O,
-    ) -> Result<Ending, Fault> {
+    ) -> Result<Ending, Fault>
+        ensures { IfErr result (λ fault. fault ≡ Fault.Memory) }
+    {
         let conn = self.connect()?;
         Ok(serve_connection(&mut self.world, conn, reader, writer))
     }
 
     // A new connection. The first one has a place, so only memory can be wanting.
-    fn connect(&mut self) -> Result<ConnId, Fault> {
+    fn connect(&mut self) -> Result<ConnId, Fault>
+        ensures { IfErr result (λ fault. fault ≡ Fault.Memory) }
+    {
         let pool = PoolId::new(NET);
         let reply = self.world.step_outside(Event::ConnNew { pool });
         match &reply {

@@ -77,6 +77,7 @@ where
 pub fn listen<R>(rt: &R, port: u16) -> Result<TcpListener, Fault>
 where
     R: Net<Listener = TcpListener, Stream = TcpStream>,
+    ensures { IfErr result (λ fault. fault ≡ Fault.Listen) }
 {
     match TcpListener::bind(rt, SocketAddr::from((Ipv4Addr::LOCALHOST, port))) {
         Ok(listener) => Ok(listener),
