@@ -1,8 +1,11 @@
-"""How a stream of requests is answered from some files, none of them a script: docs/HTTP.md, said once more."""
+"""How a stream of requests is answered from some files, some of them scripts: docs/HTTP.md, said once more."""
 import re
 from urllib.parse import unquote_to_bytes
 
+from model import cgi
+
 WINDOW = 8192
+CHUNK = 4096
 MOST_FIELDS = 64
 PHRASES = {
     200: "OK", 206: "Partial Content", 400: "Bad Request", 404: "Not Found", 405: "Method Not Allowed",
@@ -41,6 +44,21 @@ def response(code, kind="text/plain", body=None, more=(), closes=False, is_head=
     return head if is_head else head + body
 
 
+def chunked(data):
+    """A body in chunks (RFC 9112, section 7.1)."""
+    pieces = [data[at:at + CHUNK] for at in range(0, len(data), CHUNK)]
+    return b"".join(b"%x\r\n%s\r\n" % (len(piece), piece) for piece in [*pieces, b""])
+
+
+def response_in_chunks(data, closes=False, is_head=False, is_old=False):
+    """The response with what a script puts out: to HTTP/1.0 the bytes up to the close."""
+    fields = ["Transfer-Encoding: chunked"] * (not is_old) + ["Connection: close"] * closes
+    head = lined("HTTP/1.1 200 OK", "Content-Type: text/plain", *fields, "")
+    if is_head:
+        return head
+    return head + (data if is_old else chunked(data))
+
+
 def type_of(name):
     return next((kind for end, kind in TYPES.items() if name.endswith(end)), "application/octet-stream")
 
@@ -53,8 +71,8 @@ def is_utf8(data):
     return True
 
 
-def name_of(target):
-    """The name of the file that a target is of, or nothing where it is refused."""
+def asked_of(target):
+    """The name of the file that a target is of, and the query, or nothing where it is refused."""
     found = TARGET.fullmatch(target)
     path = (found[1] or (b"" if target.startswith(b"/") else b"/")) if found else b""
     is_absolute = bool(found) and found.start(1) > 0
@@ -65,7 +83,7 @@ def name_of(target):
     decoded = unquote_to_bytes(path)
     if not is_utf8(decoded) or b"\0" in decoded or {b".", b".."} & {*decoded.split(b"/")}:
         return None
-    return decoded.removeprefix(b"/").decode() or "index.html"
+    return decoded.removeprefix(b"/").decode() or "index.html", found[2] or b""
 
 
 class Head:
@@ -91,7 +109,7 @@ class Head:
             return 400
         if self.method not in (b"GET", b"HEAD"):
             return 405 if self.method in NOT_SERVED else 501
-        return 400 if name_of(self.target) is None else None
+        return 400 if asked_of(self.target) is None else None
 
     def part(self, size):
         """The part that is asked for of so many bytes, or nothing where it is all."""
@@ -104,6 +122,13 @@ class Head:
             return max(0, size - count) if count else size, size
         return None if last is not None and last < first else (first, size if last is None else min(last + 1, size))
 
+    def script_response(self, lines, query, files):
+        """The response of a script of these lines, or where there is none."""
+        how = {"closes": self.closes, "is_head": self.is_head}
+        if lines is None:
+            return response(500, **how)
+        return response_in_chunks(cgi.output(lines, query, files), is_old=self.is_old, **how)
+
     def answer(self, files):
         """The response, and whether the connection closes."""
         code = self.refusal()
@@ -111,9 +136,11 @@ class Head:
             closes = self.closes or code == 400
             return response(code, closes=closes, is_head=self.is_head), closes
         how = {"closes": self.closes, "is_head": self.is_head}
-        name = name_of(self.target)
+        name, query = asked_of(self.target)
         if name not in files:
             return response(404, **how), self.closes
+        if name.endswith(".cgi"):
+            return self.script_response(cgi.lines_of(files[name]), query, files), self.closes
         data, kind = files[name], type_of(name)
         part = self.part(len(data))
         if part is None:

@@ -102,6 +102,7 @@ pub leaves_alone : (x y : Client) (k : Conn) (r : Reply) (heard : List ℕ) (d :
 leaves_alone x y k r heard d none l is = record {
   passed = leaves-plain (conn.told x.conn r heard) x.script r ∙ l.off;
   told_is = ap (λ (c : Conn). plain c x.script) l.told_is ∙ ap (λ (o : Option Running). record { conn = record x.conn { doing = d }; run = o; script = x.script }) (sym none);
+  remains_is = ap (λ (e : Doing). tied.left_by e (conn_told x r heard)) (ap (λ (c : Conn). c.doing) l.told_is);
   can_rest = l.can_rest;
   as_it_was = is ∙ ap (λ (c : Conn). record { conn = c; run = x.run; script = x.script }) l.as_it_was;
 }
@@ -110,20 +111,20 @@ leaves_alone x y k r heard d none l is = record {
 
 leaves-now : (o : Option Client) (r : Reply) → is_later r ≡ false → leaves_off o r ≡ leaves_off o reply.Done
 leaves-now None r now = refl
-leaves-now (Some x) r now = ap (λ (b : Bool). b || is_bare x) now
+leaves-now (Some x) r now = ap (λ (b : Bool). b || (awaits x || is_bare x)) now
 
 pub course_reply : (scripts : Bool) (fd : ℕ) (t x : Client) (r : Reply) (o : Course) (y : Client) → is_later r ≡ false
     → IsCourse scripts fd t x reply.Done o y → IsCourse scripts fd t x r o y
 course_reply scripts fd t x r (Asks k) y now c =
     (record { on = leaves-now (left_over t) r now ∙ c.0.on; stays = c.0.stays; readies = c.0.readies }, c.1)
 course_reply scripts fd t x r (Leaves (Goes d)) y now c =
-    record { passed = leaves-now (left_over t) r now ∙ c.passed; told_is = c.told_is; can_rest = c.can_rest; as_it_was = c.as_it_was }
+    record { passed = leaves-now (left_over t) r now ∙ c.passed; told_is = c.told_is; remains_is = c.remains_is; can_rest = c.can_rest; as_it_was = c.as_it_was }
 course_reply scripts fd t x r (Leaves (Ends d)) y now c =
-    record { passed = leaves-now (left_over t) r now ∙ c.passed; told_is = c.told_is; can_rest = c.can_rest; as_it_was = c.as_it_was }
+    record { passed = leaves-now (left_over t) r now ∙ c.passed; told_is = c.told_is; remains_is = c.remains_is; can_rest = c.can_rest; as_it_was = c.as_it_was }
 course_reply scripts fd t x r (Leaves Begins) y now c =
-    record { passed = c.passed; told_is = c.told_is; can_rest = c.can_rest; as_it_was = c.as_it_was }
+    record { passed = leaves-now (left_over t) r now ∙ c.passed; told_is = c.told_is; remains_is = c.remains_is; can_rest = c.can_rest; as_it_was = c.as_it_was }
 course_reply scripts fd t x r (Leaves Stays) y now c =
-    record { passed = leaves-now (left_over t) r now ∙ c.passed; told_is = c.told_is; can_rest = c.can_rest; as_it_was = c.as_it_was }
+    record { passed = leaves-now (left_over t) r now ∙ c.passed; told_is = c.told_is; remains_is = c.remains_is; can_rest = c.can_rest; as_it_was = c.as_it_was }
 
 -- it goes on with this, and no script runs for it
 pub goes_as : (scripts : Bool) (fd : ℕ) (t y : Client) (r : Reply) (k : Call) → GoesOn t r t → t.run ≡ None → y ≡ t
@@ -162,7 +163,6 @@ text-found true kept q d run script r heard h f n is = absurd (cc (is))
 
 record IsBegun (b : Bool) (x : Client) (r : Reply) (heard : List ℕ) : Type 0 where
   told : file_told b x r heard ≡ left_with x Begins
-  waits : awaits (file_told b x r heard) ≡ true
 
 run-found : (b : Bool) (kept : List ℕ) (q : Answer) (d : Doing) (run : Option Running) (script : List ℕ) (r : Reply) (heard : List ℕ) (h : Bool)
     → is_head_only q ≡ h → found b d r h ≡ tells.Runs → IsBegun b (of kept q d run script) r heard
@@ -173,7 +173,6 @@ run-found true kept q (Spares a Script) run script reply.Done heard true e is = 
 run-found true kept q (Spares a Script) run script reply.Done heard false e is =
     record {
       told = ap (λ b. record { conn = at kept q (Heads Script); run = told_spares b reply.Done; script = script }) e;
-      waits = ap (λ b. awaits (record { conn = at kept q (Heads Script); run = told_spares b reply.Done; script = script })) e;
     }
 run-found true kept q (Spares a Script) run script r heard h e is = absurd (cc (is))
 run-found true kept q d run script r heard h e is = absurd (cc (is))
@@ -188,6 +187,14 @@ file-found true kept q (Spares a Script) run script reply.Done heard false e is 
 file-found true kept q (Spares a Script) run script r heard true e is = ap (λ b. record { conn = at kept q (Spares a Script); run = told_spares b r; script = script }) e
 file-found true kept q (Spares a Script) run script r heard false e is = ap (λ b. record { conn = at kept q (Spares a Script); run = told_spares b r; script = script }) e
 file-found true kept q d run script r heard h e is = refl
+
+-- one that begins waits for a worker
+begun-passes : (x : Client) (r : Reply) → leaves_off (left_over (left_with x Begins)) r ≡ true
+begun-passes x r = by (is_later r)
+  where
+    by : (b : Bool) → (b || true) ≡ true
+    by true = refl
+    by false = refl
 
 -- a text that is too long is no script, and not kept
 pub long_runs : (text : List ℕ) → MAX_SCRIPT_BYTES < length text → can_run text ≡ false
@@ -205,7 +212,8 @@ long_kept h text long = ap (λ b. kept_if h b text) (long_runs text long) ∙ ke
 pub heard_goes : (scripts : Bool) (fd : ℕ) (x y : Client) (f n : ℕ) (heard : List ℕ) (k : Call) → y ≡ text_heard x f n heard
     → k ≡ conn_wants (is_for_script scripts y.conn.q) fd y.conn → GoesOn (text_heard x f n heard) reply.Done y × (k ≡ wants scripts fd y)
 heard_goes scripts fd x y f n heard k is asks =
-    goes_as scripts fd (text_heard x f n heard) y reply.Done k (record { on = refl; stays = refl; readies = ((text_heard x f n heard).conn, refl, refl) }) refl is asks
+    goes_as scripts fd (text_heard x f n heard) y reply.Done k
+    (record { on = refl; stays = refl; readies = ((text_heard x f n heard).conn, refl, refl) }) refl is asks
 
 pub file_hears : (scripts : Bool) (fd : ℕ) (x y : Client) (r : Reply) (heard : List ℕ) (o : Course) (f n : ℕ)
     → tells.Text f n ≡ found (is_for_script scripts x.conn.q) x.conn.doing r (is_head_only x.conn.q)
@@ -220,7 +228,13 @@ pub file_runs : (scripts : Bool) (x : Client) (r : Reply) (heard : List ℕ)
     → IsLeft (file_told (is_for_script scripts x.conn.q) x r heard) x r Begins x
 file_runs scripts x r heard is =
     let t = run-found (is_for_script scripts x.conn.q) x.conn.kept x.conn.q x.conn.doing x.run x.script r heard (is_head_only x.conn.q) refl (sym is) in
-    record { passed = t.waits; told_is = t.told; can_rest = tt; as_it_was = refl }
+    record {
+      passed = ap (λ (z : Client). leaves_off (left_over z) r) t.told ∙ begun-passes x r;
+      told_is = t.told;
+      remains_is = ap (λ (z : Client). left_over z) t.told ∙ ap (λ (z : Client). Some z) (sym t.told);
+      can_rest = tt;
+      as_it_was = refl;
+    }
 
 pub file_alone : (scripts : Bool) (fd : ℕ) (x y : Client) (r : Reply) (heard : List ℕ) (o : Course)
     → tells.AsFile ≡ found (is_for_script scripts x.conn.q) x.conn.doing r (is_head_only x.conn.q)
@@ -276,6 +290,7 @@ rests_leaves fd x y c d f is =
     record {
       passed = none;
       told_is = ap (λ (e : Doing). ended x e) (sym f.0);
+      remains_is = ap (λ (e : Doing). tied.left_by e (ended x Rests)) (sym f.0);
       can_rest = subst (λ (e : Doing). onward.CanRest x.conn e) (sym f.0) (record {
         small = omega arith;
         awaits = ap (λ (l : List ℕ). window_in l) f.1;
@@ -309,7 +324,7 @@ pub rests_needs : (x : Client) → leaves_off (left_over (ended x Rests)) reply.
 rests_needs x on = (on, refl)
 
 pub over_leaves : (x : Client) → IsLeft (ended x Over) x reply.Done (Ends Over) x
-over_leaves x = record { passed = refl; told_is = refl; can_rest = record { small = omega arith; awaits = tt }; as_it_was = refl }
+over_leaves x = record { passed = refl; told_is = refl; remains_is = refl; can_rest = record { small = omega arith; awaits = tt }; as_it_was = refl }
 
 -- ---- its next call
 

@@ -1,6 +1,7 @@
 pub mod AnyStore
 pub mod Apart
 pub mod Begun
+pub mod Desks
 pub mod Few
 pub mod Fewer
 pub mod Filing
@@ -16,11 +17,16 @@ pub mod Passing
 pub mod Piping
 pub mod Places
 pub mod Refused
+pub mod Seated
 pub mod Standing
 pub mod Starting
 pub mod Texts
 pub mod Waiting
 pub mod Wanting
-pub mod Lifted
+pub mod Freed
+pub mod Turned
+pub mod Kept
+pub mod Quiet
 pub mod Clients
 pub mod RunsOn
+pub mod Firsts

@@ -62,4 +62,4 @@ module _ (orders : EachStepKeepsOrder) where
   }
 
   pub set_up_new : SetUpIsNew
-  set_up_new s old new rough fits set slots is = new_by s slots new rough (led_by s slots old new fits set is) (ordered (calls s) set.replies old new (subst (λ (m : State). IsOrderly m) (sym is) (orders.new slots)) set.run)
+  set_up_new s old new rough fits set none slots is = new_by s slots new rough (led_by s slots old new fits set is) (ordered (calls s) set.replies old new (subst (λ (m : State). IsOrderly m) (sym is) (orders.new slots)) set.run)

@@ -6,12 +6,13 @@ use Rattle.iol_core.specs.declared.events.Reply.{Reply}
 use Rattle.iol_core.specs.declared.events.Reply.TheVariants as reply
 use Rattle.iol_core.specs.declared.refusals.Refusal.TheVariants as no
 use Rattle.flash_http.specs.Request.{Answer, serve, refuse, Wanted}
-use Rattle.flash_laws.specs.Client.{Client, is_bare, keeps_text, text_on, after_run, goes_on, run_told, run_wants, wants, left_over}
+use Rattle.flash_laws.specs.Client.{Client, is_bare, keeps_text, text_on, after_run, goes_on, run_told, run_wants, wants, left_over, awaits}
 use Rattle.flash_laws.specs.Conn as conn
 use Rattle.flash_laws.specs.Policy.{is_later}
+use Rattle.flash_laws.specs.RunOffers.{HasWorker}
 use Rattle.flash_laws.specs.Rounds.{leaves_off}
 use Rattle.flash_laws.specs.Running as running
-use Rattle.flash_laws.specs.Running.{is_over, is_left, in_phase, told_sending, told_step}
+use Rattle.flash_laws.specs.Running.{is_over, is_left, in_phase, told_awaits, told_sending, told_step}
 use Rattle.flash_laws.specs.declared.doing.Doing.{Doing}
 use Rattle.flash_laws.specs.declared.doing.Doing.TheVariants.{Heads, Sends, Cuts, Offers, Swaps, Sent, Breaks, Drops}
 use Rattle.flash_laws.specs.declared.running.Run.{Run}
@@ -20,9 +21,11 @@ use Rattle.flash_laws.specs.declared.running.Step.TheVariants as act
 use Rattle.flash_laws.specs.declared.running.Running.{Running}
 use Rattle.flash_laws.specs.declared.running.Running.TheVariants.{Awaits, Runs, Leaves, Closes as Finished}
 use Rattle.flash_lite.specs.Course.{run_after, ended, needs_memory, GoesOn, IsLeft, IsCourse, WantsOn}
-use Rattle.flash_lite.specs.Runs.{makes_any}
+use Rattle.flash_lite.specs.Runs.{makes_any, waits}
 use Rattle.flash_lite.specs.declared.client.Course.{Course}
 use Rattle.flash_lite.specs.declared.client.Left.TheVariants.{Stays}
+use Rattle.flash_laws.proofs.Answering.{some-inj}
+use Rattle.flash_laws.proofs.RunOffering.{keeps}
 use Rattle.flash_lite.proofs.Clients.{course_reply}
 
 -- ---- where its call is to be made again later, a run is as it was
@@ -95,26 +98,68 @@ told-is : (worker : ℕ) (q : Answer) (x : Client) (y : Running) (r : Reply) (he
 told-is worker (serve w) x y r heard is going = ap (λ b. goes_on b (is_over (running.told worker w y r heard)) x y (running.told worker w y r heard)) going
 told-is worker (refuse status head_only close) x y r heard is going = sym (ap (λ b. goes_on false b x y y) going ∙ stands x y is)
 
+-- ---- it waits for a worker
+
+waits-is : (c : conn.Conn) (y : Running) (script : List ℕ) → awaits (record { conn = c; run = Some y; script = script }) ≡ waits y
+waits-is c Awaits script = refl
+waits-is c (Runs run s) script = refl
+waits-is c (Leaves d) script = refl
+waits-is c Finished script = refl
+
+kept-runs : (worker : ℕ) (z : Running) → HasWorker worker z → waits z ≡ false
+kept-runs worker Awaits has = absurd has
+kept-runs worker (Runs run s) has = refl
+kept-runs worker (Leaves d) has = refl
+kept-runs worker Finished has = refl
+
+-- one that waits after a reply waited before, and is as it was
+still-waits : (worker : ℕ) (q : Answer) (y : Running) (r : Reply) (heard : List ℕ) → waits (run_after worker q y r heard) ≡ true → run_after worker q y r heard ≡ y
+still-waits worker (serve w) Awaits r heard is = by r is
+  where
+    by : (r : Reply) → waits (told_awaits worker r) ≡ true → told_awaits worker r ≡ Awaits
+    by (reply.Fds from write) is = absurd (cc (is))
+    by r is = refl
+still-waits worker (serve w) (Runs run s) r heard is =
+    absurd (let no : waits (told_step w run s r heard) ≡ false = kept-runs run.worker (told_step w run s r heard) (keeps worker w run s r heard) in let never : false ≡ true = sym no ∙ is in cc (never))
+still-waits worker (serve w) (Leaves d) r heard is = absurd (cc (is))
+still-waits worker (serve w) Finished r heard is = absurd (cc (is))
+still-waits worker (refuse status head_only close) y r heard is = refl
+
 leaves-run : (c : conn.Conn) (run : Option Running) (script : List ℕ) (y : Running) (r : Reply) → run ≡ Some y
-    → leaves_off (left_over (record { conn = c; run = run; script = script })) r ≡ is_later r || false
+    → leaves_off (left_over (record { conn = c; run = run; script = script })) r ≡ is_later r || (waits y || false)
 leaves-run c None script y r is = absurd (cc (is))
-leaves-run c (Some z) script y r is = refl
+leaves-run c (Some z) script y r is = ap (λ b. is_later r || (b || false)) (waits-is c z script ∙ ap (λ (v : Running). waits v) (some-inj z y is))
+
+-- one whose script runs is not forgotten
+runs-on : (c : conn.Conn) (run : Option Running) (script : List ℕ) (y : Running) → run ≡ Some y
+    → left_over (record { conn = c; run = run; script = script }) ≡ Some (record { conn = c; run = run; script = script })
+runs-on c None script y is = absurd (cc (is))
+runs-on c (Some z) script y is = refl
 
 or-true : (b c : Bool) → b ≡ true → b || c ≡ true
 or-true b c is = ap (λ d. d || c) is
 
-pub run_stays : (worker : ℕ) (x : Client) (y : Running) (r : Reply) (heard : List ℕ) → x.run ≡ Some y → is_over y ≡ false → is_later r ≡ true
-    → IsLeft (run_told worker x.conn.q x y r heard) x r Stays x
-run_stays worker x y r heard is going later =
-    let z : run_after worker x.conn.q y r heard ≡ y = after-later worker x.conn.q y r heard going later in
+or-after : (b : Bool) → (b || true) ≡ true
+or-after true = refl
+or-after false = refl
+
+stays-as : (worker : ℕ) (x : Client) (y : Running) (r : Reply) (heard : List ℕ) → x.run ≡ Some y → is_over y ≡ false
+    → run_after worker x.conn.q y r heard ≡ y → (is_later r || (waits y || false)) ≡ true → IsLeft (run_told worker x.conn.q x y r heard) x r Stays x
+stays-as worker x y r heard is going z passes =
     let same : run_told worker x.conn.q x y r heard ≡ x = told-is worker x.conn.q x y r heard is going
     ∙ (ap (λ (v : Running). goes_on false (is_over v) x y v) z ∙ (ap (λ b. goes_on false b x y y) going ∙ stands x y is)) in
     record {
-      passed = ap (λ (t : Client). leaves_off (left_over t) r) same ∙ (leaves-run x.conn x.run x.script y r is ∙ or-true (is_later r) false later);
+      passed = ap (λ (t : Client). leaves_off (left_over t) r) same ∙ (leaves-run x.conn x.run x.script y r is ∙ passes);
       told_is = same;
+      remains_is = ap (λ (t : Client). left_over t) same ∙ (runs-on x.conn x.run x.script y is ∙ ap (λ (t : Client). Some t) (sym same));
       can_rest = tt;
       as_it_was = refl;
     }
+
+pub run_stays : (worker : ℕ) (x : Client) (y : Running) (r : Reply) (heard : List ℕ) → x.run ≡ Some y → is_over y ≡ false → is_later r ≡ true
+    → IsLeft (run_told worker x.conn.q x y r heard) x r Stays x
+run_stays worker x y r heard is going later =
+    stays-as worker x y r heard is going (after-later worker x.conn.q y r heard going later) (or-true (is_later r) (waits y || false) later)
 
 on-told : (worker : ℕ) (x : Client) (y z : Running) (r : Reply) (heard : List ℕ) → x.run ≡ Some y → is_over y ≡ false
     → z ≡ run_after worker x.conn.q y r heard → is_over z ≡ false → run_told worker x.conn.q x y r heard ≡ goes_on false false x y z
@@ -126,15 +171,27 @@ over-told : (worker : ℕ) (x : Client) (y z : Running) (r : Reply) (heard : Lis
 over-told worker x y z r heard is going z_is over =
     told-is worker x.conn.q x y r heard is going ∙ (ap (λ (v : Running). goes_on false (is_over v) x y v) (sym z_is) ∙ ap (λ b. goes_on false b x y z) over)
 
-goes-on : (x : Client) (y z : Running) (r : Reply) → is_later r ≡ false → GoesOn (goes_on false false x y z) r (goes_on false false x y z)
-goes-on x y z r now = record { on = ap (λ b. b || false) now; stays = refl; readies = refl }
+pub run_waits : (worker : ℕ) (x : Client) (y z : Running) (r : Reply) (heard : List ℕ) → x.run ≡ Some y → is_over y ≡ false
+    → z ≡ run_after worker x.conn.q y r heard → waits z ≡ true → IsLeft (run_told worker x.conn.q x y r heard) x r Stays x
+run_waits worker x y z r heard is going z_is waiting =
+    let still : run_after worker x.conn.q y r heard ≡ y = still-waits worker x.conn.q y r heard (ap (λ (v : Running). waits v) (sym z_is) ∙ waiting) in
+    let waited : waits y ≡ true = ap (λ (v : Running). waits v) (sym (z_is ∙ still)) ∙ waiting in
+    stays-as worker x y r heard is going still (ap (λ b. is_later r || (b || false)) waited ∙ or-after (is_later r))
+
+goes-on : (x : Client) (y z : Running) (r : Reply) → is_later r ≡ false → waits z ≡ false → GoesOn (goes_on false false x y z) r (goes_on false false x y z)
+goes-on x y z r now going = record {
+  on = ap (λ b. b || (awaits (goes_on false false x y z) || false)) now
+      ∙ ap (λ b. b || false) (waits-is x.conn z (text_on (keeps_text y) (keeps_text z) x.script) ∙ going);
+  stays = refl;
+  readies = refl;
+}
 
 pub run_goes : (scripts : Bool) (fd worker : ℕ) (x n : Client) (y z : Running) (r : Reply) (heard : List ℕ) (k : Call) → x.run ≡ Some y → is_over y ≡ false
-    → is_later r ≡ false → z ≡ run_after worker x.conn.q y r heard → is_over z ≡ false → n ≡ goes_on false false x y z
+    → is_later r ≡ false → z ≡ run_after worker x.conn.q y r heard → waits z ≡ false → is_over z ≡ false → n ≡ goes_on false false x y z
     → k ≡ run_wants fd n.conn.q n.script z → GoesOn (run_told worker x.conn.q x y r heard) r n × (k ≡ wants scripts fd n)
-run_goes scripts fd worker x n y z r heard k is going now z_is on n_is asks =
+run_goes scripts fd worker x n y z r heard k is going now z_is runs on n_is asks =
     let told = on-told worker x y z r heard is going z_is on in (
-      subst (λ (t : Client). GoesOn t r n) (sym told) (subst (λ (v : Client). GoesOn (goes_on false false x y z) r v) (sym n_is) (goes-on x y z r now)),
+      subst (λ (t : Client). GoesOn t r n) (sym told) (subst (λ (v : Client). GoesOn (goes_on false false x y z) r v) (sym n_is) (goes-on x y z r now runs)),
       asks ∙ (ap (λ (v : Client). run_wants fd v.conn.q v.script z) n_is ∙ ap (λ (v : Client). wants scripts fd v) (sym n_is)),
     )
 
@@ -152,15 +209,15 @@ on_err (Ok x) P p = tt
 on_err (Err e) P p = p
 
 pub goes_wants : (scripts : Bool) (worker : ℕ) (x : Client) (y z : Running) (r : Reply) (heard : List ℕ) → x.run ≡ Some y → is_over y ≡ false
-    → is_later r ≡ false → z ≡ run_after worker x.conn.q y r heard → is_over z ≡ false → makes_any z ≡ true
+    → is_later r ≡ false → z ≡ run_after worker x.conn.q y r heard → waits z ≡ false → is_over z ≡ false → makes_any z ≡ true
     → WantsOn scripts (run_told worker x.conn.q x y r heard) x r
-goes_wants scripts worker x y z r heard is going now z_is on makes =
+goes_wants scripts worker x y z r heard is going now z_is runs on makes =
     let told = on-told worker x y z r heard is going z_is on in
-    inr (ap (λ (t : Client). leaves_off (left_over t) r) told ∙ (goes-on x y z r now).on, ap (λ (t : Client). needs_memory t) told ∙ makes)
+    inr (ap (λ (t : Client). leaves_off (left_over t) r) told ∙ (goes-on x y z r now runs).on, ap (λ (t : Client). needs_memory t) told ∙ makes)
 
 leaves-now : (o : Option Client) (r : Reply) → is_later r ≡ false → leaves_off o r ≡ leaves_off o reply.Done
 leaves-now None r now = refl
-leaves-now (Some x) r now = ap (λ (b : Bool). b || is_bare x) now
+leaves-now (Some x) r now = ap (λ (b : Bool). b || (awaits x || is_bare x)) now
 
 pub run_wants_on : (scripts : Bool) (worker : ℕ) (x : Client) (y z : Running) (d : Doing) (r : Reply) (heard : List ℕ) → x.run ≡ Some y → is_over y ≡ false
     → is_later r ≡ false → z ≡ run_after worker x.conn.q y r heard → is_over z ≡ true → d ≡ after_run z

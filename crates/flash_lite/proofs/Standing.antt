@@ -83,7 +83,7 @@ file_at s name i found = by s.files.items refl found
           within = subst (λ (l : List SiteFile). i < length l) (sym is) lt;
         }
 
-nth : {A : Type 0} (l : List A) (i : ℕ) (z : A) → numbered_or l (i + 1) z ≡ slice_index_or l i z
+pub nth : {A : Type 0} (l : List A) (i : ℕ) (z : A) → numbered_or l (i + 1) z ≡ slice_index_or l i z
 nth l i z = grind (arith, nat_tests, common_steps)
 
 module _ (s : Site) (slots : List (List ℕ)) where

@@ -12,22 +12,22 @@ use Rattle.iol_core.specs.declared.refusals.Refusal.{Refusal}
 use Rattle.iol_kernel.specs.Readings.{slots_of}
 use Rattle.iol_proc.specs.Idle.{Idles}
 use Rattle.iol_proc.specs.Laws.{HasEvents}
-use Rattle.iol_proc.specs.World.{Stage, sharing, seat_of, WorldRun}
+use Rattle.iol_proc.specs.World.{IsRising, Stage, domains_of, sharing, seat_of, WorldRun}
 use Rattle.iol_proc.specs.declared.choice.Choice.{Choice}
 use Rattle.iol_proc.proofs.Chained.{honesty_kept}
 use Rattle.iol_system.specs.Machine.{SystemState, machine_of}
 use Rattle.iol_system.specs.Promises.{Chain}
 use Rattle.iol_system.specs.Safe.{IsSafe}
+use Rattle.flash_cgi.specs.declared.worker.Worker.{Worker}
 use Rattle.flash_laws.specs.Rounds.{in_rounds}
 use Rattle.flash_laws.specs.Tie.{Actor, actor_turns}
 use Rattle.flash_lite.specs.Hosting.{HostsOver}
-use Rattle.flash_lite.specs.Setup.{IsMade, WhyRefused, actors, calls}
+use Rattle.flash_lite.specs.Setup.{AreActors, IsMade, WhyRefused, calls}
 use Rattle.flash_lite.specs.SiteState.{IsSetUp, LeavesSite}
 use Rattle.flash_lite.specs.Starting.{IsNewSystem, Starts, WhyNone}
 use Rattle.flash_lite.specs.Workers.{worker_turns}
-use Rattle.flash_lite.specs.declared.actor.Worker.{Worker}
 use Rattle.flash_lite.specs.declared.site.Site.{Site}
-use Rattle.flash_lite.proofs.HostedWorld.{permuted_alone}
+use Rattle.flash_lite.proofs.Seated.{seated_by}
 
 -- ---- a new system
 
@@ -52,14 +52,14 @@ begun_by config store s machine disk entries taken limit sums sum_limit orders s
 
 pub starts_by : (config : Config) (store : Disk) (s : Site) (begun sys : SystemState) (w : Stage SystemState (Actor Worker))
     (ps : List (ℕ × Actor Worker)) → IsNewSystem config store begun → IsMade s begun sys
-    → LeavesSite s (machine_of begun) (machine_of sys) → ps ≡ actors → w.machine ≡ sys
-    → IsPermutation (map seat_of ps) w.seats → w.rough ≡ false → Starts config store s w
-starts_by config store s begun sys w ps new made leaves procs machine seats smooth = record {
+    → LeavesSite s (machine_of begun) (machine_of sys) → AreActors s ps → w.machine ≡ sys
+    → IsPermutation (map seat_of ps) w.seats → IsRising (domains_of w.seats) → w.rough ≡ false → Starts config store s w
+starts_by config store s begun sys w ps new made leaves procs machine seats rises smooth = record {
   begun = begun;
   new = new;
   made = subst (λ (x : SystemState). IsMade s begun x) (sym machine) made;
   site = subst (λ (x : SystemState). IsSetUp s (machine_of x)) (sym machine) (leaves (slots_of store.slots) new.machine);
-  seats = permuted_alone _ w.seats (subst (λ (qs : List (ℕ × Actor Worker)). IsPermutation (map seat_of qs) w.seats) procs seats);
+  seats = seated_by s ps w.seats procs seats rises;
   smooth = smooth;
 }
 

@@ -5,7 +5,8 @@ use Rattle.iol_core.specs.declared.events.Call.TheVariants as call
 use Rattle.iol_core.specs.declared.events.Reply.{Reply}
 use Rattle.iol_core.specs.declared.events.Reply.TheVariants as reply
 use Rattle.flash_http.specs.Request.{Answer, serve, refuse}
-use Rattle.flash_laws.specs.Client.{Client, Readies, is_for_script, can_run, kept_if, wants, left_over, awaits}
+use Rattle.flash_laws.specs.Client.{Client, Readies, is_for_script, can_run, kept_if, wants, left_over}
+use Rattle.flash_laws.specs.Tied.{left_by}
 use Rattle.flash_laws.specs.Conn.{most_read, is_head_only}
 use Rattle.flash_laws.specs.Rounds.{leaves_off}
 use Rattle.flash_laws.specs.Running as running
@@ -18,7 +19,7 @@ use Rattle.flash_laws.specs.declared.doing.Doing.TheVariants.{Reads, Shuts, Spar
 use Rattle.flash_laws.specs.declared.running.Running.{Running}
 use Rattle.flash_laws.specs.declared.running.Running.TheVariants.{Awaits}
 use Rattle.flash_lite.specs.Onward as conn
-use Rattle.flash_lite.specs.Runs.{IsSmallRunning, makes_any}
+use Rattle.flash_lite.specs.Runs.{IsSmallRunning, makes_any, run_worker}
 use Rattle.flash_lite.specs.Wanting as wanting
 use Rattle.flash_lite.specs.declared.client.Course.{Course}
 use Rattle.flash_lite.specs.declared.client.Course.TheVariants.{Asks, Leaves}
@@ -93,15 +94,17 @@ CanRest x (Goes d) = conn.CanRest x.conn d
 CanRest x (Ends d) = conn.CanRest x.conn d
 CanRest x l = Unit {0}
 
--- its turn passes to the next, or it is to wait for a worker
-abbrev pub IsPassed : Client → Reply → Left → Type 0
-IsPassed t r Begins = awaits t ≡ true
-IsPassed t r l = leaves_off (left_over t) r ≡ true
+-- one whose connection is over is forgotten then
+abbrev pub remains : Left → Client → Option Client
+remains (Goes d) t = left_by d t
+remains (Ends d) t = left_by d t
+remains l t = Some t
 
 -- it is left as it was, and the reply is filed by what it goes on with
 pub record IsLeft (t x : Client) (r : Reply) (l : Left) (y : Client) : Type 0 where
-  pub passed : IsPassed t r l
+  pub passed : leaves_off (left_over t) r ≡ true
   pub told_is : t ≡ left_with x l
+  pub remains_is : left_over t ≡ remains l t
   pub can_rest : CanRest x l
   pub as_it_was : y ≡ x
 
@@ -115,6 +118,16 @@ pub record GoesOn (t : Client) (r : Reply) (y : Client) : Type 0 where
 abbrev pub IsCourse : (scripts : Bool) → (fd : ℕ) → (t x : Client) → Reply → Course → (y : Client) → Type 0
 IsCourse scripts fd t x r (Asks k) y = GoesOn t r y × (k ≡ wants scripts fd y)
 IsCourse scripts fd t x r (Leaves l) y = IsLeft t x r l y
+
+-- ---- its worker
+
+-- the worker that runs its script, if one does
+abbrev pub worker_of : Client → Option ℕ
+worker_of x = by x.run
+  where
+    by : Option Running → Option ℕ
+    by None = None
+    by (Some y) = run_worker y
 
 -- ---- what it wants memory for
 

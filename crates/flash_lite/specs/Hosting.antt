@@ -9,31 +9,34 @@ use Rattle.iol_proc.specs.Laws.{HasEvents}
 use Rattle.iol_proc.specs.World.{Stage, copying, sharing, WorldRun, domains_of}
 use Rattle.iol_proc.specs.declared.choice.Choice.{Choice}
 use Rattle.iol_system.specs.Machine.{SystemState}
+use Rattle.flash_cgi.specs.declared.worker.Worker.{Worker}
 use Rattle.flash_laws.specs.Calm.{AreMild}
 use Rattle.flash_laws.specs.Host.{IsRight}
 use Rattle.flash_laws.specs.Rounds.{in_rounds}
 use Rattle.flash_laws.specs.Tie.{Actor, IsNew, actor_turns}
-use Rattle.flash_lite.specs.NewWorld.{world_on}
+use Rattle.flash_lite.specs.NewWorld.{AreSeated}
+use Rattle.flash_lite.specs.Setup.{has_script}
 use Rattle.flash_lite.specs.Shelf.{shelf_of}
 use Rattle.flash_lite.specs.SiteState.{state_of}
 use Rattle.flash_lite.specs.Starting.{Starts}
 use Rattle.flash_lite.specs.Workers.{worker_turns, worker_ready, worker_settled}
-use Rattle.flash_lite.specs.declared.actor.Worker.{Worker}
 use Rattle.flash_lite.specs.declared.site.Site.{Site}
 
--- the world of a site that was set up over these slots, before its first turn
-abbrev pub world_of : Site → (slots : List (List ℕ)) → Stage State (Actor Worker)
-world_of s slots = world_on (state_of s slots) false
-
-abbrev pub IsNewWorld : Site → (slots : List (List ℕ)) → Stage State (Actor Worker) → Type 0
-IsNewWorld s slots w = (w ≡ world_of s slots) × IsNew worker_ready (shelf_of s slots) w
+-- The world of a site that was set up over these slots, before its first turn. Where the site has no script it is new, as the
+-- law over whole worlds has it.
+pub record IsNewWorld (s : Site) (slots : List (List ℕ)) (w : Stage State (Actor Worker)) : Type 0 where
+  pub machine : w.machine ≡ state_of s slots
+  pub seats : AreSeated s w.seats
+  pub smooth : w.rough ≡ false
+  pub new : has_script s ≡ false → IsNew worker_ready (shelf_of s slots) w
 
 -- A site over these slots makes its choices, which are answered so, and then has at most so many turns in rounds.
 pub record Hosts (s : Site) (slots : List (List ℕ)) (xs : List Choice) (rs : List Reply)
     (turns : ℕ) (idle : Bool) (after : Stage State (Actor Worker)) : Type 0 where
-  pub new : IsNew worker_ready (shelf_of s slots) (world_of s slots)
+  pub first : Stage State (Actor Worker)
+  pub new : IsNewWorld s slots first
   pub mid : Stage State (Actor Worker)
-  pub run : WorldRun copying (actor_turns in_rounds worker_turns) (world_of s slots) xs rs mid
+  pub run : WorldRun copying (actor_turns in_rounds worker_turns) first xs rs mid
   pub ends : Idles copying (actor_turns in_rounds worker_turns) mid turns idle after
 
 -- So does a system of these sizes, over any store: all of it, from the new system on, is a chain of the system's steps, and
@@ -48,12 +51,12 @@ pub record HostsOver (config : Config) (store : Disk) (s : Site) (xs : List Choi
   pub events : HasEvents starts.begun after.machine
   pub honest : after.machine.disk.honest ≡ store.honest
 
--- What was hosted is right, where calls from outside were mild and no turn was rough.
+-- What was hosted is right, where the site has no script, calls from outside were mild and no turn was rough.
 abbrev pub HostedIsRight : Type 0
 HostedIsRight = (s : Site) (slots : List (List ℕ)) (xs : List Choice) (rs : List Reply) (turns : ℕ)
     (idle : Bool) (after : Stage State (Actor Worker))
-    → (hosts : Hosts s slots xs rs turns idle after)
-    → AreMild (actor_turns in_rounds worker_turns) (world_of s slots) xs rs hosts.mid hosts.run
+    → has_script s ≡ false → (hosts : Hosts s slots xs rs turns idle after)
+    → AreMild (actor_turns in_rounds worker_turns) hosts.first xs rs hosts.mid hosts.run
     → after.rough ≡ false
     → IsRight worker_turns worker_ready worker_settled (shelf_of s slots)
     (xs ++ rounds (domains_of hosts.mid.seats) 0 (length hosts.ends.went))

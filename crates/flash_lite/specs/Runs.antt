@@ -10,7 +10,7 @@ use Rattle.flash_laws.specs.declared.running.Run.{Run}
 use Rattle.flash_laws.specs.declared.running.Step.{Step}
 use Rattle.flash_laws.specs.declared.running.Step.TheVariants.{Makes, Heads, Sending, Hears, Gathers, Frames, Ended, Stops, Unframes, Lasts, WrapsLast}
 use Rattle.flash_laws.specs.declared.running.Running.{Running}
-use Rattle.flash_laws.specs.declared.running.Running.TheVariants.{Runs, Leaves}
+use Rattle.flash_laws.specs.declared.running.Running.TheVariants.{Awaits, Runs, Leaves}
 use Rattle.flash_lite.specs.Small.{IsSmall}
 use Rattle.flash_lite.specs.Wanting.{has_bytes}
 use Rattle.flash_lite.specs.declared.site.TheConstants.{MAX_WORKERS}
@@ -43,6 +43,16 @@ abbrev pub IsSmallRunning : Running → Type 0
 IsSmallRunning (Runs run step) = IsSmallRun run × IsSmallStep step
 IsSmallRunning (Leaves d) = IsSmall d
 IsSmallRunning x = Unit {0}
+
+-- whether it waits for a worker
+abbrev pub waits : Running → Bool
+waits Awaits = true
+waits y = false
+
+-- the worker that runs it
+abbrev pub run_worker : Running → Option ℕ
+run_worker (Runs run step) = Some run.worker
+run_worker y = None
 
 -- the text of the job for a request
 abbrev pub job_for : Wanted → (script : List ℕ) → (fd : ℕ) → List ℕ

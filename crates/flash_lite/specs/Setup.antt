@@ -1,6 +1,6 @@
 -- What a site is set up by.
-use Rattle.std.specs.Prelude.{◌≡◌, ◌⊎◌, ℕ, ◌+◌, ◌&&◌, ◌||◌, not, nat_le, nat_lt, Bool, List, [], ◌∷◌, ◌++◌, map, Option, Some, None, if◌then◌else◌}
-use Rattle.std.specs.List.{range_with_len, list_any, flat_map}
+use Rattle.std.specs.Prelude.{◌≡◌, ◌⊎◌, ℕ, ◌+◌, ◌&&◌, ◌||◌, not, nat_le, nat_lt, Bool, List, [], ◌∷◌, ◌++◌, length, map, Option, Some, None, if◌then◌else◌}
+use Rattle.std.specs.List.{range_with_len, list_any, flat_map, slice_get}
 use Rattle.iol_core.specs.State.{State}
 use Rattle.iol_core.specs.Run.{Run}
 use Rattle.iol_core.specs.declared.events.Call.{Call}
@@ -13,9 +13,13 @@ use Rattle.iol_core.specs.declared.refusals.Refusal.{Refusal}
 use Rattle.iol_core.specs.declared.refusals.Refusal.TheVariants.{Memory}
 use Rattle.iol_system.specs.Machine.{SystemState}
 use Rattle.iol_system.specs.Promises.{Chain}
-use Rattle.flash_laws.specs.Serves.{new_server}
-use Rattle.flash_laws.specs.Tie.{Actor, Serving}
-use Rattle.flash_lite.specs.declared.actor.Worker.{Worker}
+use Rattle.flash_http.specs.MediaType.{is_script}
+use Rattle.flash_cgi.specs.Works.{IsNew}
+use Rattle.flash_cgi.specs.declared.worker.Worker.{Worker}
+use Rattle.flash_laws.specs.Running.{worker_domain}
+use Rattle.flash_laws.specs.Serves.{Server, new_server}
+use Rattle.flash_laws.specs.Site.{server}
+use Rattle.flash_laws.specs.Tie.{Actor, Serving, Working}
 use Rattle.flash_lite.specs.declared.site.Site.{Site}
 use Rattle.flash_lite.specs.declared.site.SiteFile.{SiteFile}
 use Rattle.flash_lite.specs.declared.site.TheConstants.{MAX_WORKERS, MAX_GUESTS}
@@ -103,6 +107,31 @@ pub record IsRefused (s : Site) (x : Refusal) (old new : SystemState) : Type 0 w
 abbrev pub WhyRefused : Site → Refusal → (old new : SystemState) → Type 0
 WhyRefused s x old new = ((x ≡ Memory) × (new ≡ old)) ⊎ IsRefused s x old new
 
--- the server, in domain 1
-abbrev pub actors : List (ℕ × Actor Worker)
-actors = (1, Serving new_server) ∷ []
+-- ---- its processes
+
+abbrev pub has_script : Site → Bool
+has_script s = list_any (λ f. is_script f.name.items) s.files.items
+
+-- how many workers run its scripts: none where it has no script
+abbrev pub workers_used : Site → ℕ
+workers_used s = if has_script s then s.workers else 0
+
+-- without clients, with so many workers to run scripts for it
+abbrev pub server_with : (workers : ℕ) → Server
+server_with workers = record new_server { workers = workers }
+
+-- the worker of this number, counted from 0, before its first job
+abbrev pub IsWorkerAt : (k : ℕ) → ℕ × Actor Worker → Type 0
+IsWorkerAt k (d, Serving s) = ⊥
+IsWorkerAt k (d, Working w) = (d ≡ worker_domain k) × IsNew w
+
+-- so many workers behind these processes
+pub record HasWorkers (first : List (ℕ × Actor Worker)) (count : ℕ) (ps : List (ℕ × Actor Worker)) : Type 0 where
+  pub workers : List (ℕ × Actor Worker)
+  pub are : ps ≡ first ++ workers
+  pub many : length workers ≡ count
+  pub each : (k : ℕ) (p : ℕ × Actor Worker) → slice_get workers k ≡ Some p → IsWorkerAt k p
+
+-- The server in its domain, and behind it the workers that run the site's scripts.
+abbrev pub AreActors : Site → List (ℕ × Actor Worker) → Type 0
+AreActors s ps = HasWorkers ((server, Serving (server_with (workers_used s))) ∷ []) (workers_used s) ps

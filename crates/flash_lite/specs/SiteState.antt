@@ -1,11 +1,13 @@
 -- The machine of a site that was set up: all that there is.
-use Rattle.std.specs.Prelude.{◌≡◌, ℕ, ◌+◌, Bool, true, false, if◌then◌else◌, List, [], ◌∷◌, ◌++◌, map, replicate, Option, Some, None}
+use Rattle.std.specs.Prelude.{◌≡◌, ◌<◌, ℕ, ◌+◌, Bool, true, false, if◌then◌else◌, List, [], ◌∷◌, ◌++◌, map, replicate, Option, Some, None}
 use Rattle.std.specs.List.{range_with_len, slice_get}
 use Rattle.iol_core.specs.Calls.Files.{file_called}
-use Rattle.iol_core.specs.State.{State, Domain, Pool, File, new_pipe, new_state}
+use Rattle.iol_core.specs.State.{State, Domain, Pool, File, descriptor, pipe_at, new_pipe, new_state}
 use Rattle.iol_core.specs.Text.{Text}
 use Rattle.iol_core.specs.declared.descriptors.Descriptor.{Descriptor}
 use Rattle.iol_core.specs.declared.descriptors.Descriptor.TheVariants as on
+use Rattle.flash_laws.specs.Running.{job_pipe, worker_domain}
+use Rattle.flash_laws.specs.Site.{server}
 use Rattle.flash_lite.specs.Setup.{is_private}
 use Rattle.flash_lite.specs.declared.site.Site.{Site}
 use Rattle.flash_lite.specs.declared.site.SiteFile.{SiteFile}
@@ -14,7 +16,7 @@ use Rattle.flash_lite.specs.declared.site.SiteFile.{SiteFile}
 abbrev pub placing_in_work : List (Option Descriptor) → Domain Text
 placing_in_work fds = record { live = true; aggs = []; next_agg = 1; fds = fds; default = Some 3 }
 
--- the server writes to worker k by its descriptor k
+-- the server writes to its workers by its descriptors 1, 2 and so on
 abbrev pub server_of : (workers : ℕ) → Domain Text
 server_of workers = placing_in_work (None ∷ map (λ p. Some (on.WriteEnd p)) (range_with_len 0 workers))
 
@@ -57,10 +59,17 @@ state_of s slots = record {
   next_conn = 1;
 }
 
--- The machine of a site, whatever is in its slots: and each file of the site is found by its name.
+-- Worker k, counted from 0, reads what the server writes to its job pipe, and nothing is there yet.
+pub record HasDesk (m : State) (k : ℕ) : Type 0 where
+  pub reads : descriptor m (worker_domain k) 0 ≡ Some (on.ReadEnd k)
+  pub writes : descriptor m server (job_pipe k) ≡ Some (on.WriteEnd k)
+  pub new : pipe_at m k ≡ new_pipe
+
+-- The machine of a site, whatever is in its slots: each file of the site is found by its name, and each worker has its desk.
 pub record IsSetUp (s : Site) (m : State) : Type 0 where
   pub state : m ≡ state_of s m.slots
   pub named : (i : ℕ) (f : SiteFile) → slice_get s.files.items i ≡ Some f → file_called m f.name.items ≡ Some (i + 1)
+  pub desks : (k : ℕ) → k < s.workers → HasDesk m k
 
 -- what the calls of a site leave of a new machine
 abbrev pub LeavesSite : Site → (old new : State) → Type 0

@@ -1,5 +1,5 @@
 -- The world of a site before its first turn, and what makes one refused: of a system, over any store.
-use Rattle.std.specs.Prelude.{◌≡◌, ◌⊎◌, ◌*◌, [], replicate, map, false}
+use Rattle.std.specs.Prelude.{◌≡◌, ◌⊎◌, ◌*◌, [], replicate, false}
 use Rattle.iol_arena.specs.State.{no_entry}
 use Rattle.iol_back.specs.Disk.{Disk}
 use Rattle.iol_core.specs.Configuration.{IsInRange}
@@ -9,13 +9,14 @@ use Rattle.iol_core.specs.declared.limits.TheConstants.{CHUNK_PAGES}
 use Rattle.iol_core.specs.declared.refusals.Refusal.{Refusal}
 use Rattle.iol_core.specs.declared.refusals.Refusal.TheVariants.{BadRange, Memory}
 use Rattle.iol_kernel.specs.Readings.{slots_of}
-use Rattle.iol_proc.specs.World.{Stage, seat_of}
+use Rattle.iol_proc.specs.World.{Stage}
 use Rattle.iol_system.specs.Machine.{SystemState, machine_of}
 use Rattle.iol_system.specs.Safe.{IsSafe}
+use Rattle.flash_cgi.specs.declared.worker.Worker.{Worker}
 use Rattle.flash_laws.specs.Tie.{Actor}
-use Rattle.flash_lite.specs.Setup.{IsMade, IsRefused, actors, is_in_range}
+use Rattle.flash_lite.specs.NewWorld.{AreSeated}
+use Rattle.flash_lite.specs.Setup.{IsMade, IsRefused, is_in_range}
 use Rattle.flash_lite.specs.SiteState.{IsSetUp}
-use Rattle.flash_lite.specs.declared.actor.Worker.{Worker}
 use Rattle.flash_lite.specs.declared.site.Site.{Site}
 
 -- A new system of these sizes over this store: none of its pages was used, no sum is remembered, and nothing of a file
@@ -38,7 +39,7 @@ pub record Starts (config : Config) (store : Disk) (s : Site) (w : Stage SystemS
   pub new : IsNewSystem config store begun
   pub made : IsMade s begun w.machine
   pub site : IsSetUp s (machine_of w.machine)
-  pub seats : w.seats ≡ map seat_of actors
+  pub seats : AreSeated s w.seats
   pub smooth : w.rough ≡ false
 
 -- sizes, or a site, out of their limits

@@ -1,27 +1,33 @@
--- What the server keeps: its connections, for none of which a script runs, and which call is out.
-use Rattle.std.specs.Prelude.{◌≡◌, List, [], map, Option, None, option_map}
-use Rattle.iol_core.specs.declared.events.Reply.{Reply}
+-- What the server keeps: its clients, which call is out, and which of its workers are free.
+use Rattle.std.specs.Prelude.{◌≡◌, ◌<◌, ◌≤◌, ℕ, Bool, false, List, length, get_or, Option}
 use Rattle.flash_laws.specs.Client.{Client}
-use Rattle.flash_laws.specs.Conn.{Conn}
-use Rattle.flash_laws.specs.Policy.{next_flight}
+use Rattle.flash_laws.specs.Places.{NoneRuns, is_free}
 use Rattle.flash_laws.specs.Serves.{Server}
+use Rattle.flash_laws.specs.Sharing.{IsShared}
 use Rattle.flash_laws.specs.declared.doing.Flight.{Flight}
+use Rattle.flash_lite.specs.Few.{IsFew}
+use Rattle.flash_lite.specs.declared.site.TheConstants.{MAX_WORKERS}
 
 pub record Table : Type 0 where
-  pub conns : List (Option Conn)
+  pub clients : List (Option Client)
   pub flight : Flight
+  pub workers : ℕ
+  -- of each number that a worker may have, whether it is free
+  pub free : List Bool
 
--- a client that has this connection alone
-abbrev pub alone : Conn → Client
-alone x = record { conn = x; run = None; script = [] }
-
-abbrev pub clients_of : List (Option Conn) → List (Option Client)
-clients_of conns = map (λ o. option_map (λ (x : Conn). alone x) o) conns
-
--- as a server that has no workers
+-- the server that it is
 abbrev pub serving : Table → Server
-serving t = record { clients = clients_of t.conns; flight = t.flight; workers = 0 }
+serving t = record { clients = t.clients; flight = t.flight; workers = t.workers }
 
--- which is picked next, in rounds
-abbrev pub in_rounds_alone : List (Option Conn) → (was : Flight) → (last : Reply) → (next : Flight) → Type 0
-in_rounds_alone conns was last next = next ≡ next_flight conns was last
+-- the list tells which workers run none of these clients' scripts
+pub record TellsFree (free : List Bool) (clients : List (Option Client)) : Type 0 where
+  pub long : length free ≡ MAX_WORKERS
+  pub each : (worker : ℕ) → worker < MAX_WORKERS → get_or free worker false ≡ is_free clients worker
+
+-- between two turns
+pub record IsKept (t : Table) : Type 0 where
+  pub few : IsFew t.clients t.flight
+  pub hired : t.workers ≤ MAX_WORKERS
+  pub shared : IsShared (serving t)
+  pub tells : TellsFree t.free t.clients
+  pub none : t.workers ≡ 0 → NoneRuns t.clients

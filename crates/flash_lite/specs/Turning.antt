@@ -1,77 +1,148 @@
 -- A turn of the server, as its code makes it.
-use Rattle.std.specs.Prelude.{◌≡◌, ℕ, ◌<◌, ◌≤◌, ◌+◌, nat_lt, List, length, Option, Some, None, slice_set, if◌then◌else◌}
+use Rattle.std.specs.Prelude.{◌≡◌, ℕ, ◌<◌, ◌≤◌, ◌+◌, ◌==◌, ◌||◌, ◌&&◌, not, Bool, true, false, nat_lt, List, length, get_or, take, drop, position, Option, Some, None, option_map, slice_set, if◌then◌else◌}
+use Rattle.std.specs.List.{position_or_len}
 use Rattle.iol_core.specs.Numbered.{in_place, taken}
 use Rattle.iol_core.specs.declared.events.Call.{Call}
 use Rattle.iol_core.specs.declared.events.Call.TheVariants as call
 use Rattle.iol_core.specs.declared.events.Reply.{Reply}
 use Rattle.iol_proc.specs.declared.process.Turn.{Turn}
 use Rattle.iol_proc.specs.declared.process.Turn.TheVariants as turn
-use Rattle.flash_laws.specs.Conn.{Conn, wants, Readies}
-use Rattle.flash_laws.specs.Policy.{next_place}
-use Rattle.flash_laws.specs.Tied.{left_by}
-use Rattle.flash_laws.specs.declared.doing.Doing.{Doing}
+use Rattle.flash_laws.specs.Client.{Client, told, wants, Readies}
+use Rattle.flash_laws.specs.Places.{filed}
+use Rattle.flash_laws.specs.Rounds.{goes_in, in_rounds}
+use Rattle.flash_laws.specs.Serves.{Picks}
 use Rattle.flash_laws.specs.declared.doing.Doing.TheVariants.{Over}
-use Rattle.flash_lite.specs.declared.server.TheConstants.{MAX_CONNS}
 use Rattle.flash_laws.specs.declared.doing.Flight.{Flight}
 use Rattle.flash_laws.specs.declared.doing.Flight.TheVariants.{Nothing, Accepting, At}
-use Rattle.flash_lite.specs.Onward.{CanRest, IsOnward}
-use Rattle.flash_lite.specs.declared.conn.Onward.{Onward}
+use Rattle.flash_lite.specs.Course.{CanRest, IsCourse, left_with, remains, worker_of}
+use Rattle.flash_lite.specs.Table.{Table, TellsFree}
+use Rattle.flash_lite.specs.declared.client.Course.{Course}
+use Rattle.flash_lite.specs.declared.client.Left.{Left}
+use Rattle.flash_lite.specs.declared.client.Left.TheVariants.{Goes, Ends, Stays}
+use Rattle.flash_lite.specs.declared.server.TheConstants.{MAX_CONNS}
+use Rattle.flash_lite.specs.declared.site.TheConstants.{MAX_WORKERS}
 
--- the connection in a place, and what it does after a reply
-pub record OnwardAt (conns : List (Option Conn)) (fd : ℕ) (r : Reply) (heard : List ℕ)
-    (o : Onward) (after : List (Option Conn)) : Type 0 where
-  pub was : Conn
-  pub now : Conn
-  pub there : in_place conns fd ≡ Some was
-  pub within : fd < length conns
-  pub onward : IsOnward fd was r heard o now
-  pub after_is : after ≡ slice_set conns fd (Some now)
+-- ---- one client goes on
+
+-- the client in a place, and what it does after a reply, where `worker` is free
+pub record CourseAt (scripts : Bool) (worker : ℕ) (clients : List (Option Client)) (fd : ℕ) (r : Reply) (heard : List ℕ)
+    (o : Course) (after : List (Option Client)) : Type 0 where
+  pub was : Client
+  pub now : Client
+  pub there : in_place clients fd ≡ Some was
+  pub within : fd < length clients
+  pub course : IsCourse scripts fd (told scripts worker was r heard) was r o now
+  pub after_is : after ≡ slice_set clients fd (Some now)
 
 -- or none is there
-abbrev pub OnwardIn : List (Option Conn) → (fd : ℕ) → Reply → (heard : List ℕ)
-    → Option Onward → (after : List (Option Conn)) → Type 0
-OnwardIn conns fd r heard None after = (in_place conns fd ≡ None) × (after ≡ conns)
-OnwardIn conns fd r heard (Some o) after = OnwardAt conns fd r heard o after
+abbrev pub CourseIn : (scripts : Bool) → (worker : ℕ) → List (Option Client) → (fd : ℕ) → Reply → (heard : List ℕ)
+    → Option Course → (after : List (Option Client)) → Type 0
+CourseIn scripts worker clients fd r heard None after = (in_place clients fd ≡ None) × (after ≡ clients)
+CourseIn scripts worker clients fd r heard (Some o) after = CourseAt scripts worker clients fd r heard o after
 
 -- what stands in a place, once it is left to others
-abbrev pub left_as : Option Conn → Doing → Option Conn
-left_as None d = None
-left_as (Some x) d = left_by d (record x { doing = d })
+abbrev pub left_as : Option Client → Left → Option Client
+left_as None l = None
+left_as (Some x) l = remains l (left_with x l)
 
-abbrev pub left_at : List (Option Conn) → (fd : ℕ) → Doing → List (Option Conn)
-left_at conns fd d = slice_set conns fd (left_as (in_place conns fd) d)
+abbrev pub left_at : List (Option Client) → (fd : ℕ) → Left → List (Option Client)
+left_at clients fd l = slice_set clients fd (left_as (in_place clients fd) l)
 
--- a connection stands in a place, and may be left so
-abbrev pub MayRest : Option Conn → Doing → Type 0
-MayRest None d = ⊥
-MayRest (Some x) d = CanRest x d
+-- a client stands in a place, and may be left so
+abbrev pub MayRest : Option Client → Left → Type 0
+MayRest None l = ⊥
+MayRest (Some x) l = CanRest x l
 
--- the call of the connection in a place
-pub record CallAt (conns : List (Option Conn)) (place : ℕ) (made : Call) : Type 0 where
-  pub was : Conn
-  pub there : in_place conns place ≡ Some was
+-- ---- workers
+
+-- the worker that runs the script of the client in a place
+abbrev pub worker_in : Option Client → Option ℕ
+worker_in None = None
+worker_in (Some x) = worker_of x
+
+abbrev pub worker_at : List (Option Client) → (fd : ℕ) → Option ℕ
+worker_at clients fd = worker_in (in_place clients fd)
+
+-- the worker that a client is left with
+abbrev pub worker_left : Left → Option ℕ → Option ℕ
+worker_left (Goes d) worker = worker
+worker_left Stays worker = worker
+worker_left l worker = None
+
+abbrev pub is_worker : Option ℕ → (worker : ℕ) → Bool
+is_worker None worker = false
+is_worker (Some k) worker = k == worker
+
+-- the first of so many that is free, or their number where none is
+abbrev pub first_in : (workers : ℕ) → (free : List Bool) → ℕ
+first_in workers free = position_or_len (λ b. b) (take workers free)
+
+abbrev pub has_in : (workers : ℕ) → (free : List Bool) → Bool
+has_in workers free = nat_lt (first_in workers free) workers
+
+-- one client had a worker and has another now, or none: who is free then
+pub record TurnsFree (free : List Bool) (was now : Option ℕ) (after : List Bool) : Type 0 where
+  pub long : length after ≡ length free
+  pub each : (worker : ℕ) → worker < MAX_WORKERS
+      → get_or after worker false ≡ not (is_worker now worker) && (is_worker was worker || get_or free worker false)
+
+-- ---- the next is picked
+
+-- the first place from here on that has one that may have its turn, where a worker is free or none
+abbrev pub next_in : (free : Bool) → List (Option Client) → (from : ℕ) → Option ℕ
+next_in free clients from = option_map (λ k. from + k) (position (λ o. goes_in free o) (drop from clients))
+
+-- the call of the client in a place
+pub record CallAt (scripts : Bool) (clients : List (Option Client)) (place : ℕ) (made : Call) : Type 0 where
+  pub was : Client
+  pub there : in_place clients place ≡ Some was
   pub ready : Readies was was
-  pub call_is : made ≡ wants place was
+  pub call_is : made ≡ wants scripts place was
 
-abbrev pub Makes : List (Option Conn) → (from : ℕ) → Flight → Turn → Type 0
-Makes conns from Nothing made = made ≡ turn.Yield
-Makes conns from Accepting made = made ≡ turn.Make call.Accept
-Makes conns from (At place) made = (from ≤ place) × (k : Call) × (made ≡ turn.Make k) × CallAt conns place k
+abbrev pub Makes : (scripts : Bool) → List (Option Client) → (from : ℕ) → Flight → Turn → Type 0
+Makes scripts clients from Nothing made = made ≡ turn.Yield
+Makes scripts clients from Accepting made = made ≡ turn.Make call.Accept
+Makes scripts clients from (At place) made = (from ≤ place) × (k : Call) × (made ≡ turn.Make k) × CallAt scripts clients place k
 
--- past all places, where so many connections may be held
-abbrev pub door_to : List (Option Conn) → (most : ℕ) → Flight
-door_to conns most = if nat_lt (taken conns) most then Accepting else Nothing
+-- past all places one is accepted, or the round is over
+abbrev pub AtDoor : Flight → Turn → Type 0
+AtDoor Nothing made = made ≡ turn.Yield
+AtDoor Accepting made = made ≡ turn.Make call.Accept
+AtDoor (At place) made = ⊥
 
-abbrev pub flight_by : List (Option Conn) → (most : ℕ) → Option ℕ → Flight
-flight_by conns most (Some place) = At place
-flight_by conns most None = door_to conns most
+-- which of both, where so many connections may be held
+abbrev pub door_to : List (Option Client) → (most : ℕ) → Flight
+door_to clients most = if nat_lt (taken clients) most then Accepting else Nothing
+
+abbrev pub flight_by : List (Option Client) → (most : ℕ) → Option ℕ → Flight
+flight_by clients most (Some place) = At place
+flight_by clients most None = door_to clients most
+
+-- the first client from a place on is picked, or past all of them one is accepted
+pub record PicksFrom (scripts free : Bool) (clients : List (Option Client)) (from most : ℕ) (flight : Flight)
+    (made : Turn) : Type 0 where
+  pub flight_is : flight ≡ flight_by clients most (next_in free clients from)
+  pub makes : Makes scripts clients from flight made
+
+-- whether its connection is over
+abbrev pub ends : Left → Bool
+ends (Goes Over) = true
+ends (Ends Over) = true
+ends l = false
 
 -- as many as may be held, and one more where one is over
-abbrev pub most_with : Doing → ℕ
-most_with Over = MAX_CONNS + 1
-most_with d = MAX_CONNS
+abbrev pub most_with : Left → ℕ
+most_with l = if ends l then MAX_CONNS + 1 else MAX_CONNS
 
--- the first connection from a place on is picked, or past all of them one is accepted
-pub record PicksFrom (conns : List (Option Conn)) (from most : ℕ) (flight : Flight) (made : Turn) : Type 0 where
-  pub flight_is : flight ≡ flight_by conns most (next_place conns from)
-  pub makes : Makes conns from flight made
+-- ---- a turn
+
+-- the clients, once the reply is filed
+abbrev pub filed_by : Table → Reply → (heard : List ℕ) → List (Option Client)
+filed_by t r heard = filed t.workers t.clients t.flight r heard
+
+-- what is picked then, in rounds
+pub record Turns (s : Table) (r : Reply) (heard : List ℕ) (made : Turn) (t : Table) : Type 0 where
+  pub policy : in_rounds s.workers (filed_by s r heard) s.flight r t.flight
+  pub picks : Picks s.workers (filed_by s r heard) t.flight made t.clients
+  pub hired : t.workers ≡ s.workers
+  pub tells : TellsFree t.free t.clients

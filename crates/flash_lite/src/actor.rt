@@ -1,41 +1,63 @@
 //! The processes of a site.
-ghost use Rattle.std.specs.Prelude.{◌≡◌, IfOk, IsOk, OnErr};
+ghost use Rattle.std.specs.Prelude.{◌≡◌, IfOk, OnErr};
 ghost use Rattle.iol_proc.specs.Looks.{lent};
 ghost use Rattle.iol_proc.specs.Quiet.{IsQuiet};
+ghost use Rattle.flash_cgi.specs.Wants.{Wants};
+ghost use Rattle.flash_cgi.specs.Works.{IsNew};
 ghost use Rattle.flash_laws.specs.Rounds.{in_rounds};
 ghost use Rattle.flash_laws.specs.Tie.{actor_turns};
-ghost use Rattle.flash_lite.specs.Wanting.{WantsBy};
+ghost use Rattle.flash_lite.specs.TurnWants.{WantsBy};
 ghost use Rattle.flash_lite.specs.Workers.{worker_turns};
 
 use crate::laws::connections_do_not_meet;
 use crate::server::Server;
+use flash_cgi::worker::Worker as Runner;
 use flash_laws::laws::Works;
 use iol_core::events::Reply;
 use iol_proc::idle::Settling;
 use iol_proc::look::Look;
 use iol_proc::process::{Process, Turn};
-use std::alloc::AllocError;
+use std::alloc::{AllocError, Global};
 use std::marker::Model;
 
-/// A worker, which runs scripts. Until the server starts any it has nothing to do, and has no seat.
+/// A worker, which runs scripts: that of `flash_cgi`, of which the law of the server speaks here.
 #[derive(Drop)]
 pub struct Worker {
-    pub jobs: u32,
+    runner: Runner,
+}
+
+impl Model for Worker {
+    ghost use Rattle.flash_cgi.specs.declared.worker.Worker.{Worker as Running};
+
+    ghost Value = { Running };
+
+    ghost view = { λ w. w.runner };
+}
+
+impl Worker {
+    /// A worker that waits for its first job.
+    pub fn new(alloc: Global) -> Worker
+        ensures { IsNew result }
+    {
+        Worker {
+            runner: Runner::new(alloc),
+        }
+    }
 }
 
 impl Process for Worker {
     ghost turns = { worker_turns };
 
-    fn next(&mut self, _last: &Reply, _look: &Look<'_>) -> Result<Turn, AllocError>
+    fn next(&mut self, last: &Reply, look: &Look<'_>) -> Result<Turn, AllocError>
         ensures turn { IfOk result
-            (λ turn. worker_turns self.old _last.now (lent _look.now) turn self.new) }
+            (λ turn. worker_turns self.old last.now (lent look.now) turn self.new) }
         ensures quiet { IfOk result IsQuiet }
         ensures err { OnErr result (self.new ≡ self.old) }
 
-        // It wants no memory.
-        ensures ok { IsOk result }
+        // It wants memory only to read a job, and for the bytes of its calls.
+        ensures wants { OnErr result (Wants self.old last.now (lent look.now)) }
     {
-        Ok(Turn::Yield)
+        self.runner.next(last, look)
     }
 }
 
@@ -50,7 +72,9 @@ impl Works for Worker {
 
     fn works() {}
 
-    fn settles() {}
+    fn settles() {
+        Runner::settles();
+    }
 }
 
 /// The server, or a worker.
@@ -67,11 +91,11 @@ pub struct Actor {
 }
 
 impl Model for Actor {
+    ghost use Rattle.flash_cgi.specs.declared.worker.Worker.{Worker as Running};
     ghost use Rattle.flash_laws.specs.Tie.{Actor as Playing};
-    ghost use Rattle.flash_lite.specs.declared.actor.Worker.{Worker as Stand};
     ghost use Rattle.flash_lite.specs.Actors.{playing};
 
-    ghost Value = { Playing Stand };
+    ghost Value = { Playing Running };
 
     ghost view = { λ a. playing a.role };
 }
@@ -85,7 +109,8 @@ impl Process for Actor {
         ensures quiet { IfOk result IsQuiet }
         ensures err { OnErr result (self.new ≡ self.old) }
 
-        // The server wants memory only for what it keeps, and a worker none.
+        // The server wants memory only for what it keeps, and for the bytes of its calls, and a
+        // worker for a job, and for the bytes of its calls.
         ensures wants { OnErr result (WantsBy self.old last.now (lent look.now)) }
     {
         match &mut self.role {

@@ -1,15 +1,14 @@
 //! One client: its connection, and the script that runs for the request in progress.
 //!
-//! A script is found as any file; then its run has the connection until all is sent. The server has
-//! no workers yet, and does not use this.
-ghost use Rattle.std.specs.Prelude.{◌≡◌, ◌≢◌, ◌<◌, [], IfOk, OnErr, None, Some, false, true};
+//! A script is found as any file; then its run has the connection until all is sent.
+ghost use Rattle.std.specs.Prelude.{◌≡◌, ◌≢◌, ◌<◌, [], IfOk, IfSome, OnErr, None, Some, false, true};
 ghost use Rattle.iol_core.specs.declared.events.Reply.TheVariants as reply;
 ghost use Rattle.flash_laws.specs.Client as spec;
 ghost use Rattle.flash_laws.specs.Conn as conn;
 ghost use Rattle.flash_laws.specs.Rounds.{leaves_off};
 ghost use Rattle.flash_laws.specs.Running.{is_over};
 ghost use Rattle.flash_laws.specs.declared.doing.Doing.TheVariants.{Rests, Over};
-ghost use Rattle.flash_lite.specs.Course.{CanRest, IsCourse, WantsOn, ended, left_with, makes_bytes, needs_memory, run_after, text_heard};
+ghost use Rattle.flash_lite.specs.Course.{CanRest, IsCourse, WantsOn, ended, left_with, makes_bytes, needs_memory, run_after, text_heard, worker_of};
 ghost use Rattle.flash_lite.specs.Heard.{heard};
 ghost use Rattle.flash_lite.specs.Runs.{IsSmallRunning, makes_any};
 ghost use Rattle.flash_lite.specs.Small.{IsSmall};
@@ -18,7 +17,7 @@ ghost use Rattle.flash_lite.specs.declared.site.TheConstants.{MAX_WORKERS};
 
 use crate::asking::is_head_only;
 use crate::conn::{Conn, Onward, is_later};
-use crate::running::{after_run, keeps_text, next_call, told};
+use crate::running::{after_run, keeps_text, next_call, run_worker, told, waits};
 use crate::scripts::{Found, heard_text, is_for_script, tells, whole};
 use flash_http::Asked;
 use flash_laws::doing::{Content, Doing, Learnt};
@@ -51,8 +50,7 @@ pub enum Course {
     /// It makes its next call at once.
     Asks(Call),
 
-    /// Others have their turns, and this is what it goes on with then. One that waits for a worker
-    /// may go on at once, if one is free.
+    /// Others have their turns, and this is what it goes on with then.
     Leaves(Left),
 }
 
@@ -329,7 +327,7 @@ impl Client {
     }
 
     // What it does after the reply to the call of its run.
-    #[tactic(auto, using(crate::proofs::RunsOn::run_stays, crate::proofs::RunsOn::run_goes, crate::proofs::RunsOn::run_ends, crate::proofs::RunsOn::goes_wants, crate::proofs::RunsOn::run_wants_on))]
+    #[tactic(auto, using(crate::proofs::RunsOn::run_stays, crate::proofs::RunsOn::run_waits, crate::proofs::RunsOn::run_goes, crate::proofs::RunsOn::run_ends, crate::proofs::RunsOn::goes_wants, crate::proofs::RunsOn::run_wants_on))]
     fn go_on_running(
         &mut self,
         scripts: bool,
@@ -354,6 +352,9 @@ impl Client {
             return Ok(Course::Leaves(Left::Stays));
         }
         let next = self.run_after(worker, &running, last, parts);
+        if waits(&next) {
+            return Ok(Course::Leaves(Left::Stays));
+        }
         match after_run(&next) {
             Some(doing) => {
                 let course = self.end(scripts, fd, doing)?;
@@ -395,6 +396,27 @@ impl Client {
                 let course = self.go_on_file(scripts, fd, last, parts)?;
                 Ok(course)
             }
+        }
+    }
+
+    /// Whether it waits for a worker.
+    pub fn awaits(&self) -> bool
+        ensures { result ≡ spec.awaits self.now }
+    {
+        match self.run {
+            Some(running) => waits(&running),
+            None => false,
+        }
+    }
+
+    /// The worker that runs its script, if one does.
+    pub fn worker(&self) -> Option<u32>
+        ensures worker { result ≡ worker_of self.now }
+        ensures within { IfSome result (λ worker. worker < MAX_WORKERS) }
+    {
+        match self.run {
+            Some(running) => run_worker(&running),
+            None => None,
         }
     }
 

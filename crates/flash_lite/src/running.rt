@@ -2,12 +2,12 @@
 //!
 //! Each phase has a function, in the file of its subject: a run is started, output is heard, chunks
 //! are made of it and sent, and it ends.
-ghost use Rattle.std.specs.Prelude.{◌≡◌, ◌<◌, IfOk, MatchOption, OnErr, false, true};
+ghost use Rattle.std.specs.Prelude.{◌≡◌, ◌<◌, IfOk, IfSome, MatchOption, OnErr, false, true};
 ghost use Rattle.flash_http.specs.Request.{wanted};
 ghost use Rattle.flash_laws.specs.Client as client;
 ghost use Rattle.flash_laws.specs.Running as spec;
 ghost use Rattle.flash_lite.specs.Heard.{heard};
-ghost use Rattle.flash_lite.specs.Runs.{IsSmallRun, IsSmallStep, IsSmallRunning, job_for, makes_any};
+ghost use Rattle.flash_lite.specs.Runs.{IsSmallRun, IsSmallStep, IsSmallRunning, job_for, makes_any, run_worker, waits};
 ghost use Rattle.flash_lite.specs.Small.{IsSmall};
 ghost use Rattle.flash_lite.specs.declared.site.TheConstants.{MAX_WORKERS};
 
@@ -186,5 +186,24 @@ pub(crate) fn keeps_text(running: &Running) -> bool
         Running::Awaits => true,
         Running::Runs { run: _, step } => matches!(step, Step::Gives { .. } | Step::Makes { .. }),
         _ => false,
+    }
+}
+
+/// Whether it waits for a worker.
+pub(crate) fn waits(running: &Running) -> bool
+    ensures { result ≡ waits running.now }
+{
+    matches!(*running, Running::Awaits)
+}
+
+/// The worker that runs it, if one does.
+pub(crate) fn run_worker(running: &Running) -> Option<u32>
+    requires { IsSmallRunning running.now }
+    ensures worker { result ≡ run_worker running.now }
+    ensures within { IfSome result (λ worker. worker < MAX_WORKERS) }
+{
+    match *running {
+        Running::Runs { run, step: _ } => Some(run.worker),
+        _ => None,
     }
 }

@@ -1,13 +1,14 @@
 //! Setting a site up.
-ghost use Rattle.std.specs.Prelude.{◌≡◌, ◌<◌, ◌+◌, ◌++◌, true, false, Err, IfErr, IfOk, OnOk, map, nat_eq};
+ghost use Rattle.std.specs.Prelude.{◌≡◌, ◌<◌, ◌≤◌, ◌+◌, ◌++◌, true, false, Err, IfErr, IfOk, OnOk, map, nat_eq};
 ghost use Rattle.std.specs.List.{IsDistinct, range_with_len};
 ghost use Rattle.iol_back.specs.Disk.{IfHonest};
 ghost use Rattle.iol_system.specs.Machine.{machine_of};
+ghost use Rattle.flash_laws.specs.Tie.{Serving};
 ghost use Rattle.flash_lite.specs.NewWorld.{IsNewOf, world_on};
 ghost use Rattle.flash_lite.specs.Setup as spec;
 ghost use Rattle.flash_lite.specs.SiteState.{LeavesSite};
 
-use crate::actor::{Actor, Role};
+use crate::actor::{Actor, Role, Worker};
 use crate::laws::set_up_is_new;
 use crate::server::Server;
 use crate::site::{MAX_GUESTS, MAX_WORKERS, Site, SiteFile};
@@ -170,7 +171,8 @@ fn refusal_in(replies: &[Reply]) -> Option<Refusal>
     None
 }
 
-/// Sets a site up in a new system, and gives its processes. Numbers out of their limits are
+/// Sets a site up in a new system, and gives its processes: the server, and where the site has a
+/// script its workers. Numbers out of their limits are
 /// `BadRange`, before anything is done. Any other refusal is that of the first call that was
 /// refused, or `Memory` before the first call; the system is to be dropped then.
 pub fn setup<B: Backing + Drop>(
@@ -189,14 +191,14 @@ pub fn setup<B: Backing + Drop>(
     ensures honest { system.new.disk.honest ≡ system.old.disk.honest }
 
     // In a new system the machine is then that of the site, over any store. An honest one keeps
-    // what it has, and a world of these processes is new.
+    // what it has, and where the site has no script a world of these processes is new.
     ensures leaves { OnOk result
         (LeavesSite site.now (machine_of system.old) (machine_of system.new)) }
     ensures slots { IfHonest system.old.disk (OnOk result
         ((machine_of system.new).slots ≡ (machine_of system.old).slots)) }
     ensures new { IfHonest system.old.disk (OnOk result (IsNewOf site.now
         (machine_of system.old) (world_on (machine_of system.new) false))) }
-    ensures actors { IfOk result (λ actors. actors.items ≡ spec.actors) }
+    ensures actors { IfOk result (λ actors. spec.AreActors site.now actors.items) }
     ensures apart { IfOk result
         (λ actors. IsDistinct nat_eq (map (λ p. p.0) actors.items)) }
 {
@@ -205,7 +207,7 @@ pub fn setup<B: Backing + Drop>(
     }
     set_up_is_new();
     let events = calls(alloc, site)?;
-    let actors = actors(alloc)?;
+    let actors = actors(alloc, site)?;
     let replies = system.run(events.as_slice())?;
     match refusal_in(replies.as_slice()) {
         Some(refusal) => Err(refusal),
@@ -213,15 +215,41 @@ pub fn setup<B: Backing + Drop>(
     }
 }
 
-// The server, in its domain.
+// So many workers, each in its domain.
+fn add_workers(
+    alloc: Global,
+    actors: &mut Vec<(DomainId, Actor)>,
+    count: u32,
+) -> Result<(), AllocError>
+    requires { count ≤ 8 }
+    ensures { OnOk result (spec.HasWorkers actors.old.items count actors.new.items) }
+{
+    for k in 0..count {
+        let role = Role::Worker(Worker::new(alloc));
+        actors.push((DomainId::new(2 + k), Actor { role }))?;
+    }
+    Ok(())
+}
+
+// The server in its domain.
+fn server(alloc: Global, workers: u32) -> (DomainId, Actor)
+    requires { workers ≤ 8 }
+    ensures { result ≡ (1, Serving (spec.server_with workers)) }
+{
+    let role = Role::Server(Server::with_workers(alloc, workers));
+    (DomainId::new(1), Actor { role })
+}
+
+// The server, and the workers that run the site's scripts.
 #[tactic(auto, using(crate::proofs::Apart::actors_apart))]
-fn actors(alloc: Global) -> Result<Vec<(DomainId, Actor)>, AllocError>
-    ensures actors { IfOk result (λ actors. actors.items ≡ spec.actors) }
+fn actors(alloc: Global, site: &Site) -> Result<Vec<(DomainId, Actor)>, AllocError>
+    requires { spec.is_in_range site.now ≡ true }
+    ensures actors { IfOk result (λ actors. spec.AreActors site.now actors.items) }
     ensures apart { IfOk result
         (λ actors. IsDistinct nat_eq (map (λ p. p.0) actors.items)) }
 {
-    let server = Actor {
-        role: Role::Server(Server::new(alloc)),
-    };
-    Ok(vec![in alloc; (DomainId::new(1), server)]?)
+    let workers = site.workers_used();
+    let mut actors = vec![in alloc; server(alloc, workers)]?;
+    add_workers(alloc, &mut actors, workers)?;
+    Ok(actors)
 }

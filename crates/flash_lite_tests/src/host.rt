@@ -13,6 +13,7 @@ use iol_core::configuration::Config;
 use iol_core::events::{Event, Reply};
 use iol_core::numbers::{ConnId, DomainId, FileId, PoolId};
 use iol_core::refusals::Refusal;
+use iol_proc::choice::Choice;
 use iol_proc::world::World;
 use iol_system::system::System;
 use std::alloc::{AllocError, Global};
@@ -28,20 +29,23 @@ pub struct Kept<'a> {
     pub private: bool,
 }
 
-/// What a site is made of: its files, the chunks of its pool `site`, the last generation of a page, and which device call fails.
+/// What a site is made of: its files, its workers, the chunks of its pool `site`, the last generation of a page, and which device
+/// call fails.
 #[derive(Clone, Copy)]
 pub struct Plan<'a> {
     pub files: &'a [Kept<'a>],
+    pub workers: u32,
     pub chunks: u32,
     pub gen_limit: u32,
     pub fault: u64,
 }
 
 impl<'a> Plan<'a> {
-    /// One chunk a pool, and nothing that fails.
+    /// One worker, one chunk a pool, and nothing that fails.
     pub fn of(files: &'a [Kept<'a>]) -> Plan<'a> {
         Plan {
             files,
+            workers: 1,
             chunks: 1,
             gen_limit: u32::MAX,
             fault: 0,
@@ -72,6 +76,16 @@ impl Host {
         self.world.until_idle(65536)
     }
 
+    /// So many turns of a domain; whether there was memory to tell what came of them.
+    pub fn turns(&mut self, by: u32, count: u32) -> bool {
+        let choices = [Choice::Turn(DomainId::new(by))];
+        let mut all = true;
+        for _ in 0..count {
+            all &= self.world.run(&choices).is_ok();
+        }
+        all
+    }
+
     /// Whether a turn found no room, no numbers, no memory or a fault.
     pub fn is_rough(&self) -> bool {
         self.world.rough()
@@ -99,7 +113,7 @@ fn store_of(alloc: Global, plan: &Plan<'_>) -> Result<Store, AllocError> {
     Ok(FaultyBacking::new(MemoryBacking::new(slots), plan.fault))
 }
 
-/// One worker and one guest, and one chunk for each pool but `site`.
+/// One guest, and one chunk for each pool but `site`.
 pub fn site_of(alloc: Global, plan: &Plan<'_>) -> Result<Site, AllocError> {
     let mut files = Vec::new(alloc);
     for file in plan.files {
@@ -108,7 +122,7 @@ pub fn site_of(alloc: Global, plan: &Plan<'_>) -> Result<Site, AllocError> {
         files.push(SiteFile { name, private })?;
     }
     Ok(Site {
-        workers: 1,
+        workers: plan.workers,
         guests: 1,
         site_chunks: plan.chunks,
         net_chunks: 1,

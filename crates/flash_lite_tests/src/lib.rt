@@ -16,8 +16,16 @@ mod heads;
 #[cfg(test)]
 mod host;
 #[cfg(test)]
+mod outputs;
+#[cfg(test)]
 mod ranges;
+#[cfg(test)]
+mod refusals;
 #[cfg(test)]
 mod rows;
 #[cfg(test)]
+mod scripts;
+#[cfg(test)]
 mod sizes;
+#[cfg(test)]
+mod turns;

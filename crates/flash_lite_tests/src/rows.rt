@@ -27,6 +27,13 @@ pub fn arrivals(
     Ok(events)
 }
 
+/// Lets pieces arrive, or other events happen, with no turns.
+pub fn let_wait(host: &mut Host, events: Vec<Event>) {
+    for event in events {
+        let _reply = host.step(event);
+    }
+}
+
 /// Lets pieces arrive, with turns after each; whether all was idle after each. What comes after a close is refused.
 pub fn let_arrive(host: &mut Host, events: Vec<Event>) -> bool {
     let mut idle = true;
@@ -72,14 +79,25 @@ pub fn end(host: &mut Host, number: u32, how: How) -> bool {
     host.settle()
 }
 
+/// Whether what comes on a new connection of this number is answered so, and whether it is closed then.
+pub fn is_answered(
+    host: &mut Host,
+    number: u32,
+    events: Vec<Event>,
+    answer: &[u8],
+    closes: bool,
+) -> bool {
+    connect(host) == Some(ConnId::new(number))
+        && let_arrive(host, events)
+        && is_sent(host, number, answer)
+        && is_gone(host, number) == closes
+        && end(host, number, How::Gone)
+}
+
 /// Whether a row holds on a new connection of this number.
 pub fn holds(host: &mut Host, number: u32, events: Vec<Event>, row: &Row<'_>) -> bool {
     let (_stream, answer, closes) = *row;
-    connect(host) == Some(ConnId::new(number))
-        && let_arrive(host, events)
-        && is_sent(host, number, answer.as_bytes())
-        && is_gone(host, number) == closes
-        && end(host, number, How::Gone)
+    is_answered(host, number, events, answer.as_bytes(), closes)
 }
 
 // The streams of rows, each on a connection of its own, in pieces of so many bytes.

@@ -11,7 +11,8 @@ const GET: &[u8] = b"GET /f HTTP/1.1\r\nHost: a\r\n\r\n";
 
 const HEAD: &[u8] = b"HEAD /f HTTP/1.1\r\nHost: a\r\n\r\n";
 
-const REFUSED: &[u8] =
+/// What is answered where the file cannot be read, or its script run.
+pub const REFUSED: &[u8] =
     b"HTTP/1.1 503 Service Unavailable\r\nContent-Type: text/plain\r\nContent-Length: 24\r\n\r\n503 Service Unavailable\n";
 
 // So many bytes, none of which is that of the place 251 before.

@@ -18,23 +18,38 @@ use std::alloc::{AllocError, Global};
 use std::io;
 use std::marker::Model;
 
-// The slot of the one file.
-fn slot() -> FileId
+// The slot of the file, and that of the script.
+fn slot(is_script: bool) -> FileId
     ensures { IsSlot result }
 {
-    FileId::new(1)
+    FileId::new(if is_script { 2 } else { 1 })
 }
 
 fn store_of(alloc: Global, bytes: &[u8]) -> Result<MemoryBacking, AllocError> {
     let mut slots = Slots::new(alloc);
-    slots.append(slot(), bytes)?;
+    slots.append(slot(false), bytes)?;
+    slots.append(slot(true), b"cat f")?;
     Ok(MemoryBacking::new(slots))
 }
 
-// One file `f`, for which all chunks are but those of other pools.
-fn site_of(alloc: Global) -> Result<Site, AllocError> {
-    let name = b"f".to_vec(alloc)?;
+fn file_of(alloc: Global, name: &[u8]) -> Result<SiteFile, AllocError> {
+    let name = Vec::from_slice(alloc, name)?;
     let private = false;
+    Ok(SiteFile { name, private })
+}
+
+// A file `f`, and where it is asked for a script that puts it out.
+fn files_of(alloc: Global, with_script: bool) -> Result<Vec<SiteFile>, AllocError> {
+    let mut files = Vec::new(alloc);
+    files.push(file_of(alloc, b"f")?)?;
+    if with_script {
+        files.push(file_of(alloc, b"s.cgi")?)?;
+    }
+    Ok(files)
+}
+
+// All chunks are for the files but those of other pools.
+fn site_of(alloc: Global, with_script: bool) -> Result<Site, AllocError> {
     Ok(Site {
         workers: 1,
         guests: 0,
@@ -42,7 +57,7 @@ fn site_of(alloc: Global) -> Result<Site, AllocError> {
         net_chunks: 4,
         work_chunks: 4,
         vault_chunks: 1,
-        files: vec![in alloc; SiteFile { name, private }]?,
+        files: files_of(alloc, with_script)?,
     })
 }
 
@@ -71,10 +86,10 @@ impl Model for Host {
 }
 
 impl Host {
-    /// A site with one file, of these bytes.
-    pub fn new(alloc: Global, bytes: &[u8]) -> Result<Host, Refusal> {
+    /// A site with a file of these bytes, and one where a script puts it out.
+    pub fn new(alloc: Global, bytes: &[u8], with_script: bool) -> Result<Host, Refusal> {
         let store = store_of(alloc, bytes)?;
-        let site = site_of(alloc)?;
+        let site = site_of(alloc, with_script)?;
         let world = world_of(alloc, store, &site)?;
         Ok(Host { world })
     }

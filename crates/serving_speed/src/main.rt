@@ -1,7 +1,8 @@
 //! What requests to the file server cost: `serving_speed WHAT REQUEST LEN OTHERS ROUNDS ..` carries
 //! out each of these measurements in turn, each on a site of its own, with one file of so many
-//! bytes. REQUEST is `get`, `head`, `none` (a GET of a file that is not there) or `pair` (two GETs
-//! that come at once), on an open connection beside so many others on which nothing comes.
+//! bytes. REQUEST is `get`, `head`, `none` (a GET of a file that is not there), `pair` (two GETs
+//! that come at once) or `script` (a GET of a script that puts the file out), on an open connection
+//! beside so many others on which nothing comes.
 //!
 //! WHAT is `calls` (it prints how many calls the server makes for the request), `answers` (so many
 //! requests, one after another) or `rests` (one request, and then so many times the turns that were
@@ -42,7 +43,7 @@ fn text(alloc: Global, len: u32) -> Result<Vec<u8>, AllocError> {
 
 // What is measured on a new site, with a file of these bytes.
 fn measured(alloc: Global, bytes: &[u8], plan: &Plan) -> Result<Option<u64>, Refusal> {
-    let mut host = Host::new(alloc, bytes)?;
+    let mut host = Host::new(alloc, bytes, plan.request.is_for_script())?;
     let count = measure(&mut host, plan);
     drop(host);
     Ok(count)

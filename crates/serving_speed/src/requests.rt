@@ -16,6 +16,9 @@ pub enum Request {
 
     /// Two GETs of the file.
     Pair,
+
+    /// A GET of a script that puts the file out.
+    Script,
 }
 
 impl Request {
@@ -26,8 +29,14 @@ impl Request {
             "head" => Some(Request::Head),
             "none" => Some(Request::None),
             "pair" => Some(Request::Pair),
+            "script" => Some(Request::Script),
             _ => None,
         }
+    }
+
+    /// Whether it is for a script.
+    pub fn is_for_script(self) -> bool {
+        matches!(self, Request::Script)
     }
 
     fn bytes(self) -> &'static [u8] {
@@ -35,6 +44,7 @@ impl Request {
             Request::Get => b"GET /f HTTP/1.1\r\nHost: a\r\n\r\n",
             Request::Head => b"HEAD /f HTTP/1.1\r\nHost: a\r\n\r\n",
             Request::None => b"GET /g HTTP/1.1\r\nHost: a\r\n\r\n",
+            Request::Script => b"GET /s.cgi HTTP/1.1\r\nHost: a\r\n\r\n",
             Request::Pair => {
                 b"GET /f HTTP/1.1\r\nHost: a\r\n\r\nGET /f HTTP/1.1\r\nHost: a\r\n\r\n"
             }

@@ -21,7 +21,7 @@ returns-clause-starts g c =
     starts_by c.args.config (g.B.Backing.disk c.args.backing) c.args.site.now c.in_ok-system.system c.setup.new.system c.in_ok-new.field-0
     c.in-Ok.actors.items
     (begun_by c.args.config (g.B.Backing.disk c.args.backing) c.in_ok-system.system e.new e.disk e.entries e.taken e.limit e.sums e.sum_limit e.orders e.safe)
-    c.in-Ok.ensures.made c.in-Ok.ensures.leaves c.in-Ok.ensures.actors c.in_ok-new.ensures.system c.in_ok-new.ensures.seats c.in_ok-new.ensures.smooth
+    c.in-Ok.ensures.made c.in-Ok.ensures.leaves c.in-Ok.ensures.actors c.in_ok-new.ensures.system c.in_ok-new.ensures.seats c.in_ok-new.ensures.rising c.in_ok-new.ensures.smooth
 
 pub returns-clause-new : goal.returns-clause-new
 returns-clause-new g c = λ honest.
@@ -30,4 +30,4 @@ returns-clause-new g c = λ honest.
     world_new c.args.site.now (slots_of (g.B.Backing.disk c.args.backing).slots) c.in_ok-system.system c.setup.new.system c.in_ok-new.field-0
     c.in-Ok.actors.items (c.in_ok-system.ensures.new ∙ ap (λ (d : Disk). new_state (slots_of d.slots)) disk)
     c.in-Ok.ensures.leaves (c.in-Ok.ensures.slots told) (c.in-Ok.ensures.new told) c.in-Ok.ensures.actors
-    c.in_ok-new.ensures.system c.in_ok-new.ensures.seats c.in_ok-new.ensures.smooth
+    c.in_ok-new.ensures.system c.in_ok-new.ensures.seats c.in_ok-new.ensures.rising c.in_ok-new.ensures.smooth

@@ -1,0 +1,66 @@
+-- No call of a client is answered by a copy of bytes.
+use Rattle.std.proofs.Common.{ℕ, Bool, true, false, List, Option, Some, None, sym, subst, if◌then◌else◌}
+use Rattle.iol_core.specs.declared.events.Call.TheVariants as call
+use Rattle.iol_core.specs.declared.events.Reply.{Reply}
+use Rattle.iol_proc.specs.Quiet.{IsQuiet, IsQuietCall}
+use Rattle.iol_proc.specs.declared.process.Turn.{Turn}
+use Rattle.iol_proc.specs.declared.process.Turn.TheVariants as turn
+use Rattle.flash_http.specs.Request.{Answer, serve, refuse, Wanted}
+use Rattle.flash_laws.specs.Client.{Client, is_for_script, conn_wants, job_of, run_wants, wants}
+use Rattle.flash_laws.specs.Conn as conn
+use Rattle.flash_laws.specs.Conn.{Conn, is_head_only, most_read}
+use Rattle.flash_laws.specs.Places.{runs_scripts}
+use Rattle.flash_laws.specs.Running as running
+use Rattle.flash_laws.specs.Running.{in_phase, step_wants}
+use Rattle.flash_laws.specs.Serves.{Picks}
+use Rattle.flash_laws.specs.declared.doing.Doing.{Doing}
+use Rattle.flash_laws.specs.declared.doing.Doing.TheVariants.{Reads}
+use Rattle.flash_laws.specs.declared.doing.Flight.{Flight}
+use Rattle.flash_laws.specs.declared.doing.Flight.TheVariants.{Nothing, Accepting, At}
+use Rattle.flash_laws.specs.declared.running.Run.{Run}
+use Rattle.flash_laws.specs.declared.running.Step.{Step}
+use Rattle.flash_laws.specs.declared.running.Step.TheVariants as act
+use Rattle.flash_laws.specs.declared.running.Running.{Running}
+use Rattle.flash_laws.specs.declared.running.Running.TheVariants.{Awaits, Runs, Leaves, Closes as Finished}
+use Rattle.flash_lite.specs.Turning.{Turns, filed_by}
+use Rattle.flash_lite.specs.Table.{Table}
+
+reading : (head_only : Bool) (f : ℕ) → IsQuietCall (if head_only then call.Length f else call.IolRead f most_read)
+reading true f = tt
+reading false f = tt
+
+phase : (fd : ℕ) (kept : List ℕ) (q : Answer) (d : Doing) → IsQuietCall (conn.wants fd (record { kept = kept; q = q; doing = d }))
+phase fd kept q (Reads f) = reading (is_head_only q) f
+phase fd kept q d = tt
+
+script-phase : (script : Bool) (fd : ℕ) (kept : List ℕ) (q : Answer) (d : Doing) → IsQuietCall (conn_wants script fd (record { kept = kept; q = q; doing = d }))
+script-phase true fd kept q (Reads f) = tt
+script-phase true fd kept q d = tt
+script-phase false fd kept q d = phase fd kept q d
+
+step : (job : ℕ → List ℕ) (fd : ℕ) (w : Wanted) (run : Run) (s : Step) → IsQuietCall (step_wants job fd w run s)
+step job fd w run (act.Sending d frame) = phase fd (in_phase w d).kept (in_phase w d).q d
+step job fd w run s = tt
+
+run : (job : ℕ → List ℕ) (fd : ℕ) (w : Wanted) (y : Running) → IsQuietCall (running.wants job fd w y)
+run job fd w Awaits = tt
+run job fd w (Runs r s) = step job fd w r s
+run job fd w (Leaves d) = phase fd (in_phase w d).kept (in_phase w d).q d
+run job fd w Finished = tt
+
+quiet-wants : (scripts : Bool) (fd : ℕ) (c : Conn) (r : Option Running) (script : List ℕ) → IsQuietCall (wants scripts fd (record { conn = c; run = r; script = script }))
+quiet-wants scripts fd c None script = script-phase (is_for_script scripts c.q) fd c.kept c.q c.doing
+quiet-wants scripts fd c (Some y) script = by c.q
+  where
+    by : (q : Answer) → IsQuietCall (run_wants fd q script y)
+    by (serve w) = run (λ g. job_of w script g) fd w y
+    by (refuse status head_only close) = tt
+
+quiet-picks : (workers : ℕ) (l : List (Option Client)) (flight : Flight) (made : Turn) (after : List (Option Client)) → Picks workers l flight made after → IsQuiet made
+quiet-picks workers l Nothing made after p = subst (λ (t : Turn). IsQuiet t) (sym p.1) tt
+quiet-picks workers l Accepting made after p = subst (λ (t : Turn). IsQuiet t) (sym p.1) tt
+quiet-picks workers l (At fd) made after p =
+    subst (λ (t : Turn). IsQuiet t) (sym p.call_is) (quiet-wants (runs_scripts workers) fd p.ready.conn p.ready.run p.ready.script)
+
+pub quiet_turn : (s t : Table) (r : Reply) (heard : List ℕ) (made : Turn) → Turns s r heard made t → IsQuiet made
+quiet_turn s t r heard made turns = quiet-picks s.workers (filed_by s r heard) t.flight made t.clients turns.picks

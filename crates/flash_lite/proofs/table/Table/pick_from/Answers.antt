@@ -1,0 +1,18 @@
+use Rattle.std.proofs.Common.{◌≡◌, ◌∙◌, ap, subst, rules}
+use Rattle.flash_laws.specs.Places.{runs_scripts}
+use Rattle.flash_lite.specs.Table.{Table}
+use Rattle.flash_lite.specs.Turning.{PicksFrom, has_in}
+use Rattle.flash_lite.specs.declared.server.TheConstants.{MAX_CONNS}
+use Rattle.flash_lite.proofs.table.Table.pick_from.Goals as goal
+
+pub returns-clause-picks : goal.returns-clause-picks
+returns-clause-picks c =
+    let scripts : c.scripts-scripts.result ≡ runs_scripts c.args.self.now.workers = c.scripts-scripts.ensures in
+    let free : c.has_free-has_free.result ≡ has_in c.args.self.now.workers c.self.inside.free = c.has_free-has_free.ensures in
+    let slice : c.as_slice.result.now ≡ c.self.inside.clients.items = search rules in
+    subst (λ l. PicksFrom (runs_scripts c.args.self.now.workers) (has_in c.args.self.now.workers c.args.self.now.free) l c.args.from MAX_CONNS c.in_ok-flight.flight c.in_ok-flight.turn)
+    (slice ∙ ap (λ (u : Table). u.clients) c.self.view_is)
+    (subst (λ b. PicksFrom (runs_scripts c.args.self.now.workers) b c.as_slice.result.now c.args.from MAX_CONNS c.in_ok-flight.flight c.in_ok-flight.turn)
+    (free ∙ ap (λ (u : Table). has_in c.args.self.now.workers u.free) c.self.view_is)
+    (subst (λ b. PicksFrom b c.has_free-has_free.result c.as_slice.result.now c.args.from MAX_CONNS c.in_ok-flight.flight c.in_ok-flight.turn)
+    scripts c.in_ok-flight.ensures.picks))

@@ -1,0 +1,307 @@
+//! What the server keeps: its clients, which call is out, and which of its workers are free.
+ghost use Rattle.std.specs.Prelude.{◌≡◌, ◌<◌, ◌≤◌, ◌+◌, ◌^◌, [], IfOk, IfSome, OnErr, Some, length, min, replicate, true};
+ghost use Rattle.iol_core.specs.Numbered.{in_place};
+ghost use Rattle.flash_laws.specs.Client.{new_client};
+ghost use Rattle.flash_laws.specs.Places.{runs_scripts};
+ghost use Rattle.flash_laws.specs.Tied.{grown, with_at};
+ghost use Rattle.flash_laws.specs.declared.doing.Flight.TheVariants.{Nothing, Accepting, At};
+ghost use Rattle.flash_lite.specs.Heard.{heard};
+ghost use Rattle.flash_lite.specs.Table.{IsKept};
+ghost use Rattle.flash_lite.specs.TurnWants.{MayWant, WantsFrom, WantsHere, is_accepted};
+ghost use Rattle.flash_lite.specs.Turning.{CourseIn, MayRest, PicksFrom, Turns, first_in, has_in, left_at, most_with, worker_at};
+ghost use Rattle.flash_lite.specs.declared.site.TheConstants.{MAX_WORKERS};
+
+use crate::client::{Client, Course, Left};
+use crate::hired::{first_free, turned, worker_left};
+use crate::picking::{door, ends, most_with, pick};
+use crate::server::MAX_CONNS;
+use crate::site::MAX_WORKERS;
+use flash_laws::doing::Flight;
+use iol_agg::Parts;
+use iol_core::events::Reply;
+use iol_core::numbers::Fd;
+use iol_proc::process::Turn;
+use std::alloc::{AllocError, Global};
+use std::marker::Model;
+
+/// The clients, each in the place of its descriptor, which call is out, and of each worker whether
+/// it is free.
+#[derive(Drop)]
+pub(crate) struct Table {
+    alloc: Global,
+    clients: Vec<Option<Client>>,
+    flight: Flight,
+    workers: u32,
+    free: [bool; 8],
+}
+
+impl Model for Table {
+    ghost use Rattle.std.specs.Prelude.{◌≤◌, ◌^◌, length};
+    ghost use Rattle.flash_lite.specs.Table.{Table as Kept};
+    ghost use Rattle.flash_lite.specs.declared.site.TheConstants.{MAX_WORKERS};
+
+    ghost Value = { Kept };
+
+    ghost view = { λ s. record {
+      clients = s.clients.items;
+      flight = s.flight;
+      workers = s.workers;
+      free = s.free;
+    } };
+
+    ghost invariant = { λ s. (length s.clients.items ≤ 2 ^ 32) × (s.workers ≤ MAX_WORKERS) };
+}
+
+// Makes places up to this one.
+fn reach(clients: &mut Vec<Option<Client>>, place: u32) -> Result<(), AllocError>
+    ensures ok { IfOk result (λ _. clients.new.items ≡ grown clients.old.items place) }
+    ensures err { OnErr result (clients.new.items ≡ clients.old.items) }
+{
+    let more = (place as usize + 1).saturating_sub(clients.len());
+    clients.reserve(more)?;
+    for _ in 0..more {
+        clients.push_reserved(None);
+    }
+    Ok(())
+}
+
+// With a new client in a place.
+fn admit(alloc: Global, clients: &mut Vec<Option<Client>>, place: u32) -> Result<(), AllocError>
+    requires { length clients.old.items ≤ 2 ^ 32 }
+    ensures ok { IfOk result
+        (λ _. clients.new.items ≡ with_at clients.old.items place (Some new_client)) }
+    ensures err { OnErr result (clients.new.items ≡ clients.old.items) }
+    ensures length { length clients.new.items ≤ 2 ^ 32 }
+{
+    reach(clients, place)?;
+    clients[place as usize] = Some(Client::new(alloc));
+    Ok(())
+}
+
+// The worker that runs the script of the client in a place, if one does.
+fn worker_at(clients: &[Option<Client>], place: u32) -> Option<u32>
+    ensures worker { result ≡ worker_at clients.now place }
+    ensures within { IfSome result (λ worker. worker < MAX_WORKERS) }
+{
+    let at = place as usize;
+    if at >= clients.len() {
+        return None;
+    }
+    match &clients[at] {
+        Some(client) => client.worker(),
+        None => None,
+    }
+}
+
+// What the client in a place does after the reply to its call, if one is there.
+fn go_on_at(
+    scripts: bool,
+    worker: u32,
+    clients: &mut Vec<Option<Client>>,
+    fd: u32,
+    last: &Reply,
+    parts: Option<Parts<'_>>,
+) -> Result<Option<Course>, AllocError>
+    requires { worker < MAX_WORKERS }
+    ensures course { IfOk result (λ o. CourseIn scripts worker clients.old.items fd last.now
+        (heard parts.entry) o clients.new.items) }
+    ensures err { OnErr result (clients.new.items ≡ clients.old.items) }
+    ensures wants { OnErr result
+        (WantsHere scripts worker (in_place clients.old.items fd) last.now (heard parts.entry)) }
+    ensures length { length clients.new.items ≡ length clients.old.items }
+{
+    let at = fd as usize;
+    if at >= clients.len() {
+        return Ok(None);
+    }
+    match &mut clients[at] {
+        Some(client) => {
+            let course = client.go_on(scripts, Fd::new(fd), worker, last, parts)?;
+            Ok(Some(course))
+        }
+        None => Ok(None),
+    }
+}
+
+// What is in a place is left to others. A client whose connection is over is forgotten.
+fn leave_at(clients: &mut Vec<Option<Client>>, fd: u32, left: Left)
+    requires within { fd < length clients.old.items }
+    requires rests { MayRest (in_place clients.old.items fd) left }
+    ensures left { clients.new.items ≡ left_at clients.old.items fd left }
+    ensures length { length clients.new.items ≡ length clients.old.items }
+{
+    let slot = &mut clients[fd as usize];
+    if ends(&left) {
+        *slot = None;
+    } else if let Some(client) = slot {
+        client.leave(left);
+    }
+}
+
+impl Table {
+    /// Without clients, and with so many workers, of which none runs a script.
+    pub(crate) fn new(alloc: Global, workers: u32) -> Table
+        requires { workers ≤ MAX_WORKERS }
+        ensures { result
+            ≡ record { clients = []; flight = Nothing; workers = workers; free = replicate 8 true } }
+    {
+        Table {
+            alloc,
+            clients: Vec::new(alloc),
+            flight: Flight::Nothing,
+            workers,
+            free: [true; 8],
+        }
+    }
+
+    // Whether scripts are run at all.
+    fn scripts(&self) -> bool
+        ensures { result ≡ runs_scripts self.now.workers }
+    {
+        0 < self.workers
+    }
+
+    // Whether a worker is free, by a list that tells it.
+    fn has_free(&self, free: &[bool; 8]) -> bool
+        ensures { result ≡ has_in self.now.workers free.now }
+    {
+        first_free(free, self.workers) < self.workers
+    }
+
+    // A worker that is free, if one is.
+    fn worker(&self) -> u32
+        ensures worker { result ≡ min (first_in self.now.workers self.now.free) 7 }
+        ensures within { result < MAX_WORKERS }
+    {
+        first_free(&self.free, self.workers).min(MAX_WORKERS - 1)
+    }
+
+    // The first client from a place on is picked.
+    fn pick_from(&mut self, from: usize) -> Result<Turn, AllocError>
+        ensures picks { IfOk result (λ turn. PicksFrom (runs_scripts self.old.workers)
+            (has_in self.old.workers self.old.free) self.old.clients from MAX_CONNS self.new.flight
+            turn) }
+        ensures same { IfOk result (λ _. self.new ≡ record {
+          clients = self.old.clients;
+          flight = self.new.flight;
+          workers = self.old.workers;
+          free = self.old.free;
+        }) }
+        ensures err { OnErr result (self.new ≡ self.old) }
+        ensures wants { OnErr result
+            (WantsFrom (has_in self.old.workers self.old.free) self.old.clients from) }
+    {
+        let free = self.free;
+        let (scripts, has_free) = (self.scripts(), self.has_free(&free));
+        let (flight, turn) = pick(scripts, has_free, self.clients.as_slice(), from, MAX_CONNS)?;
+        self.flight = flight;
+        Ok(turn)
+    }
+
+    // After the reply to `accept`: the next one is accepted, or where none waits the round is over.
+    #[tactic(auto, using(crate::proofs::Turned::accepted_turns, crate::proofs::Turned::over_turns))]
+    fn go_on_accepting(&mut self, last: &Reply) -> Result<Turn, AllocError>
+        requires accepts { self.old.flight ≡ Accepting }
+        requires kept { IsKept self.old }
+        ensures turn { IfOk result (λ turn. Turns self.old last.now [] turn self.new) }
+        ensures err { OnErr result (self.new ≡ self.old) }
+        ensures wants { OnErr result (is_accepted last.now ≡ true) }
+    {
+        match last {
+            Reply::Fd(fd) => {
+                let place = fd.number();
+                let was = worker_at(self.clients.as_slice(), place);
+                admit(self.alloc, &mut self.clients, place)?;
+                self.free = turned(self.free, was, None);
+                let (flight, turn) = door(self.clients.as_slice(), MAX_CONNS);
+                self.flight = flight;
+                Ok(turn)
+            }
+            _ => {
+                self.flight = Flight::Nothing;
+                Ok(Turn::Yield)
+            }
+        }
+    }
+
+    // What is in a place is left to others, and the next call is another's. A client whose
+    // connection is over makes room for one more. `free` tells which workers are free then.
+    fn leave(&mut self, fd: u32, left: Left, free: [bool; 8]) -> Result<Turn, AllocError>
+        requires within { fd < length self.old.clients }
+        requires rests { MayRest (in_place self.old.clients fd) left }
+        ensures picks { IfOk result (λ turn. PicksFrom (runs_scripts self.old.workers)
+            (has_in self.old.workers free) self.old.clients (fd + 1) (most_with left)
+            self.new.flight turn) }
+        ensures left { IfOk result (λ _. self.new ≡ record {
+          clients = left_at self.old.clients fd left;
+          flight = self.new.flight;
+          workers = self.old.workers;
+          free = free;
+        }) }
+        ensures err { OnErr result (self.new ≡ self.old) }
+        ensures wants { OnErr result
+            (WantsFrom (has_in self.old.workers free) self.old.clients (fd + 1)) }
+    {
+        let (scripts, has_free) = (self.scripts(), self.has_free(&free));
+        let (from, most) = (fd as usize + 1, most_with(&left));
+        let (flight, turn) = pick(scripts, has_free, self.clients.as_slice(), from, most)?;
+        leave_at(&mut self.clients, fd, left);
+        self.free = free;
+        self.flight = flight;
+        Ok(turn)
+    }
+
+    // What follows the reply to the call of the client in a place.
+    #[tactic(auto, using(crate::proofs::Turned::none_turns, crate::proofs::Turned::asks_turns, crate::proofs::Turned::leaves_turns, crate::proofs::Turned::left_same, crate::proofs::Turned::table_same, crate::proofs::Wanting::here_wants, crate::proofs::Wanting::none_wants, crate::proofs::Wanting::left_wants))]
+    fn go_on_at(
+        &mut self,
+        fd: u32,
+        last: &Reply,
+        parts: Option<Parts<'_>>,
+    ) -> Result<Turn, AllocError>
+        requires flies { self.old.flight ≡ At fd }
+        requires kept { IsKept self.old }
+        ensures turn { IfOk result
+            (λ turn. Turns self.old last.now (heard parts.entry) turn self.new) }
+        ensures err { OnErr result (self.new ≡ self.old) }
+        ensures wants { OnErr result (MayWant self.old.workers self.old.clients (At fd) last.now
+            (heard parts.entry)) }
+    {
+        let was = worker_at(self.clients.as_slice(), fd);
+        let (scripts, worker) = (self.scripts(), self.worker());
+        match go_on_at(scripts, worker, &mut self.clients, fd, last, parts)? {
+            None => self.pick_from(fd as usize + 1),
+            Some(Course::Asks(call)) => {
+                let now = worker_at(self.clients.as_slice(), fd);
+                self.free = turned(self.free, was, now);
+                Ok(Turn::Make(call))
+            }
+            Some(Course::Leaves(left)) => {
+                let free = turned(self.free, was, worker_left(&left, was));
+                let turn = self.leave(fd, left, free)?;
+                Ok(turn)
+            }
+        }
+    }
+
+    /// What follows the reply to the call that is out, and the next call.
+    #[tactic(auto, using(crate::proofs::Turned::nothing_turns, crate::proofs::Turned::unheard, crate::proofs::Wanting::nothing_wants))]
+    pub(crate) fn go_on(
+        &mut self,
+        last: &Reply,
+        parts: Option<Parts<'_>>,
+    ) -> Result<Turn, AllocError>
+        requires { IsKept self.old }
+        ensures turn { IfOk result
+            (λ turn. Turns self.old last.now (heard parts.entry) turn self.new) }
+        ensures err { OnErr result (self.new ≡ self.old) }
+        ensures wants { OnErr result (MayWant self.old.workers self.old.clients self.old.flight
+            last.now (heard parts.entry)) }
+    {
+        match self.flight {
+            Flight::Nothing => self.pick_from(0),
+            Flight::Accepting => self.go_on_accepting(last),
+            Flight::At { fd } => self.go_on_at(fd, last, parts),
+        }
+    }
+}

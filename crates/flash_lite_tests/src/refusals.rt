@@ -1,0 +1,191 @@
+//! What refuses the calls for a script, each in its turn: where it is tried again, and where the script is answered 503.
+use crate::checks::pass;
+use crate::host::{Host, Kept, Plan, connect, host_of};
+use crate::rows::{arrivals, is_sent, let_arrive, let_wait};
+use crate::sizes::REFUSED;
+use crate::turns::{FROM_SHORT, SHORT, by};
+use iol_core::events::{Call, Event, Reply};
+use iol_core::lists::Bytes;
+use iol_core::numbers::{AggId, ConnId, DomainId, Fd, PoolId};
+use iol_core::refusals::Refusal;
+use std::alloc::{AllocError, Global};
+use std::test::Fail;
+
+// The server is domain 1, its worker 2, and the guest 3.
+const FILES: [Kept<'static>; 1] = [Kept {
+    name: "t.cgi",
+    bytes: b"emit t",
+    private: false,
+}];
+
+fn is_done(host: &mut Host, event: Event) -> bool {
+    matches!(host.step(event), Reply::Done)
+}
+
+fn close(number: u32, fd: u32) -> Event {
+    let fd = Fd::new(fd);
+    by(number, Call::Close { fd })
+}
+
+// Pipes of a domain up to the first that is refused for want of descriptors.
+fn take_pairs(host: &mut Host, number: u32) -> bool {
+    for _ in 0..600 {
+        match host.step(by(number, Call::Pipe)) {
+            Reply::Fds(_, _) => {}
+            reply => return matches!(reply, Reply::Refused(Refusal::TooMany)),
+        }
+    }
+    false
+}
+
+// The server has turns for a request, and nothing comes of it.
+fn waits(host: &mut Host, request: Vec<Event>) -> bool {
+    let_wait(host, request);
+    host.turns(1, 500) && is_sent(host, 1, b"")
+}
+
+// Then it is answered.
+fn goes_on(host: &mut Host) -> bool {
+    host.settle() && is_sent(host, 1, FROM_SHORT)
+}
+
+// The server has turns for a request, which cannot be run.
+fn is_refused(host: &mut Host, request: Vec<Event>) -> bool {
+    let (conn, max) = (ConnId::new(1), 4096);
+    let_wait(host, request);
+    host.turns(1, 500)
+        && match host.step(Event::Transmit { conn, max }) {
+            Reply::Segment { bytes, .. } => bytes.as_slice() == REFUSED,
+            _ => false,
+        }
+}
+
+// One descriptor is left, for the script's file, and a pipe has two.
+fn waits_for_a_pipe(host: &mut Host, request: Vec<Event>) -> bool {
+    connect(host).is_some()
+        && host.settle()
+        && take_pairs(host, 1)
+        && is_done(host, close(1, 1023))
+        && waits(host, request)
+        && is_done(host, close(1, 1022))
+        && goes_on(host)
+}
+
+// The worker has no descriptor left for the write end.
+fn waits_to_give(host: &mut Host, request: Vec<Event>) -> bool {
+    let (fd, to) = (Fd::new(0), DomainId::new(2));
+    take_pairs(host, 2)
+        && matches!(host.step(by(3, Call::Pipe)), Reply::Fds(_, _))
+        && matches!(host.step(by(3, Call::GiveFd { fd, to })), Reply::Fd(_))
+        && connect(host).is_some()
+        && waits(host, request)
+        && is_done(host, close(2, 1023))
+        && goes_on(host)
+}
+
+// The worker's domain is no more.
+fn gives_nobody(host: &mut Host, request: Vec<Event>) -> bool {
+    is_done(host, by(2, Call::Exit)) && connect(host).is_some() && is_refused(host, request)
+}
+
+// Nobody reads the job.
+fn hands_nobody(host: &mut Host, request: Vec<Event>) -> bool {
+    is_done(host, close(2, 0)) && connect(host).is_some() && is_refused(host, request)
+}
+
+// The guest's bytes fill the pool in which the job is placed.
+fn waits_to_make(host: &mut Host, fill: Event, request: Vec<Event>) -> bool {
+    let agg = AggId::new(1);
+    matches!(host.step(fill), Reply::Agg(_))
+        && connect(host).is_some()
+        && waits(host, request)
+        && is_done(host, by(3, Call::AggDrop { agg }))
+        && goes_on(host)
+}
+
+// They fill that of the script's file.
+fn reads_without_room(host: &mut Host, fill: Event, request: Vec<Event>) -> bool {
+    let pool = PoolId::new(1);
+    is_done(host, by(3, Call::SetPool { pool }))
+        && matches!(host.step(fill), Reply::Agg(_))
+        && connect(host).is_some()
+        && let_arrive(host, request)
+        && is_sent(host, 1, REFUSED)
+}
+
+/// What is refused.
+#[derive(Clone, Copy)]
+enum Case {
+    Pipe,
+    Give,
+    GiveToNobody,
+    HandToNobody,
+}
+
+fn goes(host: &mut Host, case: Case, request: Vec<Event>) -> bool {
+    match case {
+        Case::Pipe => waits_for_a_pipe(host, request),
+        Case::Give => waits_to_give(host, request),
+        Case::GiveToNobody => gives_nobody(host, request),
+        Case::HandToNobody => hands_nobody(host, request),
+    }
+}
+
+// Whether it goes so, on a site of its own.
+fn holds(alloc: Global, case: Case) -> Result<bool, Refusal> {
+    let request = arrivals(alloc, 1, SHORT, 8192)?;
+    let mut host = host_of(alloc, &Plan::of(&FILES))?;
+    let is_well = goes(&mut host, case, request);
+    drop(host);
+    Ok(is_well)
+}
+
+// As many bytes as a chunk has, of the guest's.
+fn full_chunk(alloc: Global) -> Result<Event, AllocError> {
+    let bytes = Bytes::from_vec(vec![in alloc; b'x'; 65_536]?);
+    Ok(by(3, Call::AggMake { bytes }))
+}
+
+// Whether it goes so where the pool of the job, or that of the script's file, is full.
+fn holds_filled(alloc: Global, jobs: bool) -> Result<bool, Refusal> {
+    let request = arrivals(alloc, 1, SHORT, 8192)?;
+    let fill = full_chunk(alloc)?;
+    let mut host = host_of(alloc, &Plan::of(&FILES))?;
+    let is_well = if jobs {
+        waits_to_make(&mut host, fill, request)
+    } else {
+        reads_without_room(&mut host, fill, request)
+    };
+    drop(host);
+    Ok(is_well)
+}
+
+#[test]
+fn no_descriptors_for_a_pipe(rt: HostRuntime) -> Result<(), Fail> {
+    pass(holds(rt.alloc(), Case::Pipe))
+}
+
+#[test]
+fn no_descriptor_in_the_worker(rt: HostRuntime) -> Result<(), Fail> {
+    pass(holds(rt.alloc(), Case::Give))
+}
+
+#[test]
+fn no_worker(rt: HostRuntime) -> Result<(), Fail> {
+    pass(holds(rt.alloc(), Case::GiveToNobody))
+}
+
+#[test]
+fn no_reader_of_jobs(rt: HostRuntime) -> Result<(), Fail> {
+    pass(holds(rt.alloc(), Case::HandToNobody))
+}
+
+#[test]
+fn no_room_for_the_job(rt: HostRuntime) -> Result<(), Fail> {
+    pass(holds_filled(rt.alloc(), true))
+}
+
+#[test]
+fn no_room_for_the_script(rt: HostRuntime) -> Result<(), Fail> {
+    pass(holds_filled(rt.alloc(), false))
+}

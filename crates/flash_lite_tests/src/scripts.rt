@@ -1,0 +1,160 @@
+//! Scripts: requests and whole replies.
+use crate::checks::pass_all;
+use crate::host::{Kept, Plan};
+use crate::rows::{Row, held};
+use std::test::Fail;
+
+// A file for all, one of the guest's, and scripts, one of which is the guest's, too.
+const FILES: [Kept<'static>; 9] = [
+    Kept {
+        name: "f",
+        bytes: b"a\nb",
+        private: false,
+    },
+    Kept {
+        name: "p",
+        bytes: b"secret",
+        private: true,
+    },
+    Kept {
+        name: "two.cgi",
+        bytes: b"emit a\nquery",
+        private: false,
+    },
+    Kept {
+        name: "none.cgi",
+        bytes: b"",
+        private: false,
+    },
+    Kept {
+        name: "junk.cgi",
+        bytes: b"jump",
+        private: false,
+    },
+    Kept {
+        name: "own.cgi",
+        bytes: b"emit a",
+        private: true,
+    },
+    Kept {
+        name: "outcomes.cgi",
+        bytes: b"wc f\ncat none\nemit",
+        private: false,
+    },
+    Kept {
+        name: "cat-p.cgi",
+        bytes: b"cat p",
+        private: false,
+    },
+    Kept {
+        name: "pauses.cgi",
+        bytes: b"pause\npause\npause\nemit a",
+        private: false,
+    },
+];
+
+const NOT_FOUND: &str =
+    "HTTP/1.1 404 Not Found\r\nContent-Type: text/plain\r\nContent-Length: 14\r\n\r\n404 Not Found\n";
+
+const FORBIDDEN: &str =
+    "HTTP/1.1 403 Forbidden\r\nContent-Type: text/plain\r\nContent-Length: 14\r\n\r\n403 Forbidden\n";
+
+const FAULTY: &str =
+    "HTTP/1.1 500 Internal Server Error\r\nContent-Type: text/plain\r\nContent-Length: 26\r\n\r\n500 Internal Server Error\n";
+
+const ROWS: [Row<'static>; 17] = [
+    (
+        "GET /two.cgi?q=1 HTTP/1.1\r\nHost: a\r\n\r\n",
+        "HTTP/1.1 200 OK\r\nContent-Type: text/plain\r\nTransfer-Encoding: chunked\r\n\r\n6\r\na\nq=1\n\r\n0\r\n\r\n",
+        false,
+    ),
+    (
+        "GET /two.cgi?q=1 HTTP/1.0\r\n\r\n",
+        "HTTP/1.1 200 OK\r\nContent-Type: text/plain\r\nConnection: close\r\n\r\na\nq=1\n",
+        true,
+    ),
+    (
+        "GET /two.cgi HTTP/1.1\r\nHost: a\r\nConnection: close\r\n\r\n",
+        "HTTP/1.1 200 OK\r\nContent-Type: text/plain\r\nTransfer-Encoding: chunked\r\nConnection: close\r\n\r\n3\r\na\n\n\r\n0\r\n\r\n",
+        true,
+    ),
+    (
+        "HEAD /two.cgi HTTP/1.1\r\nHost: a\r\n\r\n",
+        "HTTP/1.1 200 OK\r\nContent-Type: text/plain\r\nTransfer-Encoding: chunked\r\n\r\n",
+        false,
+    ),
+    (
+        "HEAD /two.cgi HTTP/1.0\r\n\r\n",
+        "HTTP/1.1 200 OK\r\nContent-Type: text/plain\r\nConnection: close\r\n\r\n",
+        true,
+    ),
+    (
+        "GET /none.cgi HTTP/1.1\r\nHost: a\r\n\r\n",
+        "HTTP/1.1 200 OK\r\nContent-Type: text/plain\r\nTransfer-Encoding: chunked\r\n\r\n0\r\n\r\n",
+        false,
+    ),
+    (
+        "GET /none.cgi HTTP/1.0\r\n\r\n",
+        "HTTP/1.1 200 OK\r\nContent-Type: text/plain\r\nConnection: close\r\n\r\n",
+        true,
+    ),
+    (
+        "GET /outcomes.cgi HTTP/1.1\r\nHost: a\r\nRange: bytes=0-1\r\n\r\n",
+        "HTTP/1.1 200 OK\r\nContent-Type: text/plain\r\nTransfer-Encoding: chunked\r\n\r\ne\r\n1 3\n[NoFile]\n\n\r\n0\r\n\r\n",
+        false,
+    ),
+    (
+        "GET /cat-p.cgi HTTP/1.1\r\nHost: a\r\n\r\n",
+        "HTTP/1.1 200 OK\r\nContent-Type: text/plain\r\nTransfer-Encoding: chunked\r\n\r\n9\r\n[Denied]\n\r\n0\r\n\r\n",
+        false,
+    ),
+    (
+        "GET /pauses.cgi HTTP/1.1\r\nHost: a\r\n\r\n",
+        "HTTP/1.1 200 OK\r\nContent-Type: text/plain\r\nTransfer-Encoding: chunked\r\n\r\n2\r\na\n\r\n0\r\n\r\n",
+        false,
+    ),
+    (
+        "GET /%74wo.cgi?%20+ HTTP/1.1\r\nHost: a\r\n\r\nGET /f HTTP/1.1\r\nHost: a\r\n\r\nGET /none.cgi HTTP/1.1\r\nHost: a\r\n\r\n",
+        "HTTP/1.1 200 OK\r\nContent-Type: text/plain\r\nTransfer-Encoding: chunked\r\n\r\n7\r\na\n%20+\n\r\n0\r\n\r\nHTTP/1.1 200 OK\r\nContent-Type: application/octet-stream\r\nContent-Length: 3\r\n\r\na\nbHTTP/1.1 200 OK\r\nContent-Type: text/plain\r\nTransfer-Encoding: chunked\r\n\r\n0\r\n\r\n",
+        false,
+    ),
+    ("GET /junk.cgi HTTP/1.1\r\nHost: a\r\n\r\n", FAULTY, false),
+    (
+        "HEAD /junk.cgi HTTP/1.1\r\nHost: a\r\n\r\n",
+        "HTTP/1.1 500 Internal Server Error\r\nContent-Type: text/plain\r\nContent-Length: 26\r\n\r\n",
+        false,
+    ),
+    ("GET /own.cgi HTTP/1.1\r\nHost: a\r\n\r\n", FORBIDDEN, false),
+    (
+        "GET /lost.cgi HTTP/1.1\r\nHost: a\r\n\r\n",
+        NOT_FOUND,
+        false,
+    ),
+    ("GET /p HTTP/1.1\r\nHost: a\r\n\r\n", FORBIDDEN, false),
+    (
+        "POST /two.cgi HTTP/1.1\r\nHost: a\r\n\r\n",
+        "HTTP/1.1 405 Method Not Allowed\r\nContent-Type: text/plain\r\nContent-Length: 23\r\nAllow: GET, HEAD\r\n\r\n405 Method Not Allowed\n",
+        false,
+    ),
+];
+
+#[test]
+fn scripts_whole(rt: HostRuntime) -> Result<(), Fail> {
+    let plan = Plan::of(&FILES);
+    pass_all(held(rt.alloc(), &plan, &ROWS, 8192), ROWS.len())
+}
+
+#[test]
+fn scripts_byte_by_byte(rt: HostRuntime) -> Result<(), Fail> {
+    let plan = Plan::of(&FILES);
+    pass_all(held(rt.alloc(), &plan, &ROWS, 1), ROWS.len())
+}
+
+#[test]
+fn scripts_of_eight_workers(rt: HostRuntime) -> Result<(), Fail> {
+    let plan = Plan {
+        workers: 8,
+        ..Plan::of(&FILES)
+    };
+    pass_all(held(rt.alloc(), &plan, &ROWS, 8192), ROWS.len())
+}
