@@ -64,7 +64,7 @@ unfolding file
 file-same m n f same = ap (λ (fs : List File). numbered_or fs f no_file) same
 
 module _ (labels : LabelsFollow) (steps : EachStepLeavesTheRest) (files : FileCallsServeTheirDomain) (pools_come : DomainsAndPoolsComeAndGo)
-    (pools : ℕ → Bool) (m n : State) (d : ℕ) (order : IsOrderly m) (live : is_live m d ≡ true) (holds : HoldFiles pools m) (default : pools (default_pool m d) ≡ true) where
+    (pools : ℕ → Bool) (m n : State) (d : ℕ) (order : IsOrderly m) (live : is_live m d ≡ true) (holds : HoldFiles pools m d) (default : pools (default_pool m d) ≡ true) where
   abbrev Lie : Text → Type 0
   Lie t = lie_in pools t ≡ true
 
@@ -98,7 +98,7 @@ module _ (labels : LabelsFollow) (steps : EachStepLeavesTheRest) (files : FileCa
   opened_file : (name : List ℕ) (fd : ℕ) → own_files.OpensFile m d name Read fd n → n.files ≡ m.files → LiesIn pools n d (doing.Reads fd purpose.Cat)
   opened_file name fd h same f at mode is =
       let number : f ≡ h.file_is = same_file f at mode h.file_is (sym is ∙ h.open_on) in
-      ap (λ k. pools (file n k).pool) number ∙ (ap (λ (x : File). pools x.pool) (file-same m n h.file_is same) ∙ holds.files name h.file_is h.found)
+      ap (λ k. pools (file n k).pool) number ∙ (ap (λ (x : File). pools x.pool) (file-same m n h.file_is same) ∙ holds.files name h.file_is h.found h.may)
     where
       same_file : (f at : ℕ) (mode : Mode) (g : ℕ) → Some (on.File f at mode) ≡ Some (on.File g 0 Read) → f ≡ g
       same_file f at mode g e = cc
@@ -233,7 +233,7 @@ module _ (labels : LabelsFollow) (steps : EachStepLeavesTheRest) (files : FileCa
 -- ---- a turn
 
 file_open : (labels : LabelsFollow) (steps : EachStepLeavesTheRest) (files : FileCallsServeTheirDomain) (pools_come : DomainsAndPoolsComeAndGo)
-    (pools : ℕ → Bool) (m n : State) (d : ℕ) (order : IsOrderly m) (live : is_live m d ≡ true) (holds : HoldFiles pools m) (default : pools (default_pool m d) ≡ true)
+    (pools : ℕ → Bool) (m n : State) (d : ℕ) (order : IsOrderly m) (live : is_live m d ≡ true) (holds : HoldFiles pools m d) (default : pools (default_pool m d) ≡ true)
     (x : Doing) → Needs m d x → FileOpen labels steps files pools_come pools m n d order live holds default x
 file_open labels steps files pools_come pools m n d order live holds default (doing.Reads fd u) h = (h.number, h.place, h.open_on)
 file_open labels steps files pools_come pools m n d order live holds default x h = tt
@@ -254,7 +254,7 @@ yields_at w v l lent standing.Asked goes un did = filed w.step.doing l (un refl)
     filed x y given did = on (told w.job w.step lent y) did
 
 module _ (labels : LabelsFollow) (steps : EachStepLeavesTheRest) (files : FileCallsServeTheirDomain) (pools_come : DomainsAndPoolsComeAndGo)
-    (pools : ℕ → Bool) (m n : State) (p d : ℕ) (w : Worker) (last : Reply) (order : IsOrderly m) (live : is_live m d ≡ true) (holds : HoldFiles pools m)
+    (pools : ℕ → Bool) (m n : State) (p d : ℕ) (w : Worker) (last : Reply) (order : IsOrderly m) (live : is_live m d ≡ true) (holds : HoldFiles pools m d)
     (shown : IsShown pools m p (seat_at d w last)) (v : Worker) (r : Reply) (yields : Bool) where
   abbrev Open : Doing → Type 0
   Open x = FileOpen labels steps files pools_come pools m n d order live holds shown.default x
@@ -287,7 +287,7 @@ module _ (labels : LabelsFollow) (steps : EachStepLeavesTheRest) (files : FileCa
       (subst (λ (u : Turn). ComesOf copying works m d u yields r n) is comes).1
 
 turns : LabelsFollow → EachStepLeavesTheRest → FileCallsServeTheirDomain → DomainsAndPoolsComeAndGo → (pools : ℕ → Bool) (m n : State) (p : ℕ) (seat next : Seat Worker) (yields : Bool) (r : Reply)
-    (unseen : List Outcome → List ℕ) → IsOrderly m → HoldFiles pools m → RunsJob m p seat unseen → IsShown pools m p seat → SeatTurn copying works m seat yields r n next → IsShown pools n p next
+    (unseen : List Outcome → List ℕ) → IsOrderly m → HoldFiles pools m seat.by → RunsJob m p seat unseen → IsShown pools m p seat → SeatTurn copying works m seat yields r n next → IsShown pools n p next
 turns labels steps files pools_come pools m n p seat next yields r unseen order holds job shown (inl starved) =
     subst (λ (u : State). IsShown pools u p next) (sym starved.machine_stays) (subst (λ (x : Seat Worker). IsShown pools m p x) (sym starved.seat_stays) shown)
 turns labels steps files pools_come pools m n p seat next yields r unseen order holds job shown (inr did) = subst (λ (x : Seat Worker). IsShown pools n p x) same (by job goes)

@@ -2,7 +2,7 @@
 --
 -- Whoever may read these is never denied its output.
 use Rattle.std.specs.Prelude.{◌≡◌, ℕ, Bool, true, false, List, Some}
-use Rattle.iol_core.specs.State.{State, descriptor, file, pipe_at, text}
+use Rattle.iol_core.specs.State.{State, descriptor, file, may_read, pipe_at, text}
 use Rattle.iol_core.specs.Calls.Aggregates.{default_pool}
 use Rattle.iol_core.specs.Calls.Files.{file_called}
 use Rattle.iol_core.specs.Positions.{ArePlaced}
@@ -24,9 +24,10 @@ use Rattle.flash_cgi.specs.declared.doing.Doing.{Doing}
 use Rattle.flash_cgi.specs.declared.doing.Doing.TheVariants as doing
 use Rattle.flash_cgi.specs.declared.worker.Worker.{Worker}
 
--- the pools are those of all files, and the one that a pause sets
-pub record HoldFiles (pools : ℕ → Bool) (m : State) : Type 0 where
-  pub files : (name : List ℕ) (f : ℕ) → file_called m name ≡ Some f → pools (file m f).pool ≡ true
+-- the pools are those of all files that the domain may read, and the one that a pause sets
+pub record HoldFiles (pools : ℕ → Bool) (m : State) (d : ℕ) : Type 0 where
+  pub files : (name : List ℕ) (f : ℕ) → file_called m name ≡ Some f → may_read m d (file m f).pool ≡ true
+      → pools (file m f).pool ≡ true
   pub pauses : pools 3 ≡ true
 
 -- the file that it reads lies in them, or what it is to write
@@ -51,7 +52,7 @@ pub record OutputsAreShown : Type 0 where
       → pools (default_pool m seat.by) ≡ true → lie_in pools (pipe_at m p).queue ≡ true → IsShown pools m p seat
   -- its turns leave it so, and so does all that others do
   pub turns : (pools : ℕ → Bool) (m n : State) (p : ℕ) (seat next : Seat Worker) (yields : Bool) (r : Reply)
-      (unseen : List Outcome → List ℕ) → IsOrderly m → HoldFiles pools m → RunsJob m p seat unseen → IsShown pools m p seat
+      (unseen : List Outcome → List ℕ) → IsOrderly m → HoldFiles pools m seat.by → RunsJob m p seat unseen → IsShown pools m p seat
       → SeatTurn copying works m seat yields r n next → IsShown pools n p next
   pub others : (pools : ℕ → Bool) (m n : State) (p : ℕ) (seat : Seat Worker) (e : Event) (r : Reply)
       (unseen : List Outcome → List ℕ) → IsOrderly m → ArePlaced m → RunsJob m p seat unseen → IsShown pools m p seat

@@ -1,5 +1,5 @@
 -- What a call brings the server is used by the client that it is made for, and what that uses no more is given up.
-use Rattle.std.proofs.Common.{◌≡◌, ℕ, ◌==◌, List, ap, ◌∙◌, refl, sym, subst, Option, Some, None, true, false, Bool}
+use Rattle.std.proofs.Common.{◌≡◌, ℕ, ◌==◌, List, ◌∙◌, refl, sym, subst, Option, Some, None, true, false, Bool}
 use Rattle.iol_core.specs.Access.{HasAccess}
 use Rattle.iol_core.specs.State.{State, descriptor, is_live}
 use Rattle.iol_core.specs.Run.{StepsTo}

@@ -1,27 +1,23 @@
--- A server without workers does with its clients what one does with their connections alone.
-use Rattle.std.proofs.Common.{inl, inr, ◌≡◌, ℕ, List, map, ap, ◌∙◌, refl, sym, subst, Option, Some, None, false}
-use Rattle.std.specs.Prelude.{option_map, nat_lt}
+-- For a server without workers no script runs: none does when it is new, and each turn leaves it so.
+use Rattle.std.proofs.Common.{inl, inr, ◌≡◌, ℕ, List, ap, ◌∙◌, refl, sym, subst, Option, Some, None, false}
+use Rattle.std.specs.Prelude.{nat_lt}
 use Rattle.std.proofs.lemmas.Bool.{cases_eq}
 use Rattle.iol_core.specs.Numbered.{in_place}
-use Rattle.iol_core.specs.declared.events.Call.{Call}
 use Rattle.iol_core.specs.declared.events.Reply.{Reply}
 use Rattle.iol_core.specs.declared.events.Reply.TheVariants as reply
 use Rattle.iol_proc.specs.declared.process.Turn.{Turn}
-use Rattle.iol_proc.specs.declared.process.Turn.TheVariants as turn
 use Rattle.flash_http.specs.Request.{Answer, serve, refuse}
-use Rattle.flash_laws.specs.Alone as alone
-use Rattle.flash_laws.specs.Client.{Client, new_client, is_for_script, conn_wants, file_told, wants, told, Readies, left_over}
+use Rattle.flash_laws.specs.Client.{Client, new_client, is_for_script, file_told, told, Readies, left_over}
 use Rattle.flash_laws.specs.Conn as conn
 use Rattle.flash_laws.specs.Conn.{Conn}
-use Rattle.flash_laws.specs.Places.{connections, NoneRuns, first_free, runs_scripts, told_at, accepted, filed}
+use Rattle.flash_laws.specs.Places.{NoneRuns, first_free, runs_scripts, told_at, accepted, filed}
 use Rattle.flash_laws.specs.Serves.{Picks}
-use Rattle.flash_laws.specs.Tied as tied
 use Rattle.flash_laws.specs.Tied.{with_at}
 use Rattle.flash_laws.specs.declared.doing.Flight.{Flight}
 use Rattle.flash_laws.specs.declared.doing.Flight.TheVariants.{Nothing, Accepting, At}
 use Rattle.flash_laws.specs.declared.running.Running.{Running}
 use Rattle.flash_laws.proofs.Answering.{some-inj}
-use Rattle.flash_laws.proofs.InPlaces.{at-same, at-other, place-map, with-map, left-is, left-map}
+use Rattle.flash_laws.proofs.InPlaces.{at-same, at-other, left-is}
 
 -- one with these, for which no script runs
 abbrev plain : Conn → List ℕ → Client
@@ -38,11 +34,6 @@ none-for : (q : Answer) → is_for_script false q ≡ false
 none-for (serve w) = refl
 none-for (refuse status head_only close) = refl
 
-pub wants-alone : (workers fd : ℕ) (c : Conn) (run : Option Running) (script : List ℕ) → workers ≡ 0 → run ≡ None
-    → wants (runs_scripts workers) fd (of c run script) ≡ conn.wants fd c
-wants-alone workers fd c None script none is = ap (λ b. conn_wants (is_for_script b c.q) fd c) (none-run workers none) ∙ ap (λ b. conn_wants b fd c) (none-for c.q)
-wants-alone workers fd c (Some y) script none is = absurd (cc (is))
-
 pub told-alone : (workers worker : ℕ) (c : Conn) (run : Option Running) (script : List ℕ) (r : Reply) (heard : List ℕ) → workers ≡ 0 → run ≡ None
     → told (runs_scripts workers) worker (of c run script) r heard ≡ plain (conn.told c r heard) script
 told-alone workers worker c None script r heard none is = ap (λ b. file_told (is_for_script b c.q) (plain c script) r heard) (none-run workers none) ∙ ap (λ b. file_told b (plain c script) r heard) (none-for c.q)
@@ -54,29 +45,6 @@ readies-alone c None script y is ready = ready
 readies-alone c (Some z) script y is ready = absurd (cc (is))
 
 -- ---- replies are filed
-
--- what is left of one is what is left of its connection
-left-alone : (c : Conn) (script : List ℕ) → option_map (λ (x : Client). x.conn) (left_over (plain c script)) ≡ tied.left_over c
-left-alone c script = left-map (λ (x : Client). x.conn) c.doing (plain c script)
-
-pub filed-alone : (workers : ℕ) (clients : List (Option Client)) (w : Flight) (r : Reply) (heard : List ℕ) → workers ≡ 0 → NoneRuns clients
-    → connections (filed workers clients w r heard) ≡ tied.filed (connections clients) w r heard
-filed-alone workers clients Nothing r heard none runs = refl
-filed-alone workers clients Accepting r heard none runs = by r
-  where
-    by : (r : Reply) → connections (accepted clients r) ≡ tied.accepted (connections clients) r
-    by (reply.Fd fd) = with-map (λ (x : Client). x.conn) clients fd (Some new_client)
-    by r = refl
-filed-alone workers clients (At fd) r heard none runs = by (in_place clients fd) refl ∙ ap (λ (o : Option Conn). tied.told_at (connections clients) fd o r heard) (sym (place-map (λ (x : Client). x.conn) clients fd))
-  where
-    by : (o : Option Client) → in_place clients fd ≡ o
-        → connections (told_at workers clients fd o r heard) ≡ tied.told_at (connections clients) fd (option_map (λ (x : Client). x.conn) o) r heard
-    by None is = refl
-    by (Some x) is =
-        let is_told : told (runs_scripts workers) (first_free workers clients) x r heard ≡ plain (conn.told x.conn r heard) x.script = told-alone workers (first_free workers clients) x.conn x.run x.script r heard none (runs fd x is) in
-        with-map (λ (z : Client). z.conn) clients fd (left_over (told (runs_scripts workers) (first_free workers clients) x r heard))
-        ∙ (ap (λ (z : Client). with_at (connections clients) fd (option_map (λ (y : Client). y.conn) (left_over z))) is_told
-        ∙ ap (λ (o : Option Conn). with_at (connections clients) fd o) (left-alone (conn.told x.conn r heard) x.script))
 
 -- one place changes
 pub runs-set : (clients : List (Option Client)) (fd : ℕ) (o : Option Client) → NoneRuns clients → ((x : Client) → o ≡ Some x → x.run ≡ None)
@@ -108,22 +76,6 @@ runs-filed workers clients (At fd) r heard none runs = by (in_place clients fd) 
         (λ y left. left-none (conn.told x.conn r heard) x.script y (ap (λ (z : Client). left_over z) (sym is_told) ∙ left))
 
 -- ---- a client is picked
-
-pub picks-alone : (workers : ℕ) (clients : List (Option Client)) (w : Flight) (made : Turn) (after : List (Option Client)) → workers ≡ 0 → NoneRuns clients
-    → Picks workers clients w made after → alone.Picks (connections clients) w made (connections after)
-picks-alone workers clients Nothing made after none runs p = (ap (λ (l : List (Option Client)). connections l) p.0, p.1)
-picks-alone workers clients Accepting made after none runs p = (ap (λ (l : List (Option Client)). connections l) p.0, p.1)
-picks-alone workers clients (At fd) made after none runs p =
-    let got = readies-alone p.was.conn p.was.run p.was.script p.ready (runs fd p.was p.there) p.readies in
-    record {
-      was = p.was.conn;
-      ready = got.0;
-      there = place-map (λ (x : Client). x.conn) clients fd ∙ ap (λ (o : Option Client). option_map (λ (x : Client). x.conn) o) p.there;
-      readies = got.1;
-      after_is = ap (λ (l : List (Option Client)). connections l) p.after_is
-          ∙ (with-map (λ (x : Client). x.conn) clients fd (Some p.ready) ∙ ap (λ (y : Client). with_at (connections clients) fd (Some y.conn)) got.2);
-      call_is = p.call_is ∙ (ap (λ (y : Client). turn.Make (wants (runs_scripts workers) fd y)) got.2 ∙ ap (λ (k : Call). turn.Make k) (wants-alone workers fd got.0 None p.was.script none refl));
-    }
 
 pub runs-picked : (workers : ℕ) (clients : List (Option Client)) (w : Flight) (made : Turn) (after : List (Option Client)) → NoneRuns clients
     → Picks workers clients w made after → NoneRuns after

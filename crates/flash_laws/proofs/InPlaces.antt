@@ -1,5 +1,5 @@
 -- Places of a list, and what is left in them.
-use Rattle.std.proofs.Common.{◌≡◌, ◌≢◌, ℕ, zero, suc, ◌+◌, ◌-◌, List, [], ◌∷◌, ◌++◌, length, map, replicate, slice_set, ap, ◌∙◌, refl, sym, arith, Option, Some, None}
+use Rattle.std.proofs.Common.{◌≡◌, ◌≢◌, ℕ, zero, suc, ◌+◌, ◌-◌, List, [], ◌∷◌, ◌++◌, length, replicate, refl, arith, Option, Some, None}
 use Rattle.std.specs.Prelude.{option_map}
 use Rattle.std.proofs.lemmas.Bool.Decides.{nat_tests}
 use Rattle.std.proofs.lemmas.Grind.{common_steps}
@@ -29,34 +29,6 @@ pub at-other : {A : Type 0} (xs : List (Option A)) (fd gd : ℕ) (x : Option A) 
 at-other xs fd gd x differ = let e = place-grown xs (fd + 1 - length xs) gd in grind (arith, nat_tests, common_steps, differ, e)
 
 -- ---- each place mapped
-
-pub place-map : {A B : Type 0} (f : A → B) (xs : List (Option A)) (i : ℕ)
-    → in_place (map (λ o. option_map f o) xs) i ≡ option_map f (in_place xs i)
-place-map f [] i = refl
-place-map f (x ∷ xs) zero = refl
-place-map f (x ∷ xs) (suc i) = place-map f xs i
-
-set-map : {A B : Type 0} (g : A → B) (xs : List A) (i : ℕ) (x : A) → map g (slice_set xs i x) ≡ slice_set (map g xs) i (g x)
-set-map g [] i x = refl
-set-map g (y ∷ xs) zero x = refl
-set-map {B = B} g (y ∷ xs) (suc i) x = ap (λ (l : List B). g y ∷ l) (set-map g xs i x)
-
-grown-map : {A B : Type 0} (f : A → B) (xs : List (Option A)) (k : ℕ)
-    → map (λ o. option_map f o) (xs ++ replicate k None) ≡ map (λ o. option_map f o) xs ++ replicate k None
-grown-map f [] zero = refl
-grown-map {B = B} f [] (suc k) = ap (λ (l : List (Option B)). None ∷ l) (grown-map f [] k)
-grown-map {B = B} f (x ∷ xs) k = ap (λ (l : List (Option B)). option_map f x ∷ l) (grown-map f xs k)
-
-pub length-mapped : {A B : Type 0} (g : A → B) (xs : List A) → length (map g xs) ≡ length xs
-length-mapped g [] = refl
-length-mapped g (x ∷ xs) = ap suc (length-mapped g xs)
-
-pub with-map : {A B : Type 0} (f : A → B) (xs : List (Option A)) (fd : ℕ) (o : Option A)
-    → map (λ z. option_map f z) (with_at xs fd o) ≡ with_at (map (λ z. option_map f z) xs) fd (option_map f o)
-with-map {A = A} {B = B} f xs fd o =
-    set-map (λ z. option_map f z) (xs ++ replicate (fd + 1 - length xs) None) fd o
-    ∙ (ap (λ (l : List (Option B)). slice_set l fd (option_map f o)) (grown-map f xs (fd + 1 - length xs))
-    ∙ ap (λ (k : ℕ). slice_set (map (λ z. option_map f z) xs ++ replicate (fd + 1 - k) None) fd (option_map f o)) (sym (length-mapped (λ (z : Option A). option_map f z) xs)))
 
 -- ---- what is over is forgotten
 

@@ -24,7 +24,7 @@ use Rattle.flash_http.specs.declared.ranges.Selection.{Selection}
 use Rattle.flash_http.specs.declared.ranges.Selection.TheVariants.{Whole, Bytes, Unsatisfiable}
 use Rattle.flash_http.specs.Range.{selected}
 use Rattle.flash_http.specs.Request.{Answer, serve, refuse}
-use Rattle.flash_laws.specs.Answers.{keeps, response}
+use Rattle.flash_laws.specs.Answers.{response}
 use Rattle.flash_laws.specs.Conn.{Following, Conn, has_followed, learnt_agg, content_agg, uses_agg, uses_fd, name_of, text_of, is_head_only, most_kept, most_read, piece_end, count_of, wants, sends_of, put_out, settled, following, headed, goes_on, drops_next, told_rests, told}
 use Rattle.flash_laws.specs.declared.doing.Learnt.{Learnt}
 use Rattle.flash_laws.specs.declared.doing.Learnt.TheVariants.{File, Length, Fails, Text as TextOf}

@@ -1,10 +1,10 @@
 -- What the server has of its answers stays, if what it uses stays.
-use Rattle.std.proofs.Common.{◌≡◌, ℕ, ◌==◌, ◌≤◌, List, [], length, ap, ◌∙◌, refl, sym, subst, arith, Option, Some, None, true, false}
+use Rattle.std.proofs.Common.{◌≡◌, ℕ, ◌==◌, List, [], ap, ◌∙◌, refl, sym, arith, Option, Some, None, true, false}
 use Rattle.std.specs.Prelude.{option_map, ◌||◌, slice_range}
 use Rattle.std.proofs.lemmas.Bool.Decides.{nat_tests}
 use Rattle.iol_core.specs.Text.{Text, bytes_of}
 use Rattle.iol_core.specs.Numbered.{numbered_or}
-use Rattle.iol_core.specs.State.{State, File as FileEntry, no_file, aggregate, descriptor, content, may_read, file}
+use Rattle.iol_core.specs.State.{State, File as FileEntry, no_file, aggregate, descriptor, content, file}
 use Rattle.iol_core.specs.Run.{StepsTo}
 use Rattle.iol_core.specs.Values.{gives_up}
 use Rattle.iol_core.specs.declared.descriptors.Descriptor.{Descriptor}
@@ -15,15 +15,14 @@ use Rattle.iol_core.specs.declared.events.Reply.{Reply}
 use Rattle.iol_laws.specs.Caller.{lent_at}
 use Rattle.iol_laws.specs.Frame.{EachStepLeavesTheRest}
 use Rattle.flash_http.specs.Request.{Answer, serve, refuse}
-use Rattle.flash_laws.specs.Answers.{Found, Shelf}
-use Rattle.flash_laws.specs.Conn.{Following, has_followed, learnt_agg, content_agg, uses_agg, uses_fd, most_read, piece_end, text_of}
+use Rattle.flash_laws.specs.Conn.{Following, has_followed, learnt_agg, content_agg, uses_agg, uses_fd, piece_end, text_of}
 use Rattle.flash_laws.specs.declared.doing.Learnt.{Learnt}
 use Rattle.flash_laws.specs.declared.doing.Learnt.TheVariants.{File, Length, Fails, Text as TextOf}
 use Rattle.flash_laws.specs.declared.doing.Content.{Content}
 use Rattle.flash_laws.specs.declared.doing.Content.TheVariants.{Body, Bare, Error, Script}
 use Rattle.flash_laws.specs.declared.doing.Doing.{Doing}
 use Rattle.flash_laws.specs.declared.doing.Doing.TheVariants.{Rests, Got, Opens, Reads as Reading, Shuts, Picks, Spares, Heads, Joins, Sends, Cuts, Offers, Swaps, Sent, Breaks, Drops, Closes, Over}
-use Rattle.flash_laws.specs.Fits.{IsLent, LendsMore, HoldsRest, HoldsRestFrom, HoldsUnsent, HasLearnt, HasContent, Has, Finds}
+use Rattle.flash_laws.specs.Fits.{IsLent, LendsMore, HoldsRest, HoldsRestFrom, HoldsUnsent, HasLearnt, HasContent, Has}
 use Rattle.flash_laws.specs.Site.{server}
 use Rattle.flash_laws.proofs.Lists.{not-equal, self, first_of, later_of}
 
@@ -146,31 +145,3 @@ has-stays m n q due (Breaks piece a more) lends opens has = (
 has-stays m n q due (Drops a more) lends opens has = unsent-on m n a more (λ l is. lends a l (first_of a (has_followed more a)) is) (λ b l u is. lends b l (later_of (a == b) (has_followed more b) u) is) has
 has-stays m n q due Closes lends opens has = tt
 has-stays m n q due Over lends opens has = has
-
-pub finds-stays : (shelf : Shelf) (m n : State) (q : Answer) (d : Doing) → OpensOn m n d
-    → (n.files ≡ m.files) × (n.slots ≡ m.slots) → ((p : ℕ) → may_read m server p ≡ true
-    → may_read n server p ≡ true) → Finds shelf m q d → Finds shelf n q d
-finds-stays shelf m n q (Reading f) opens same may is = (
-  is.0,
-  opens f (on.File is.0 0 modes.Read) (self f) is.1,
-  subst (λ (x : FileEntry). may_read n server x.pool ≡ true) (sym (file-same m n is.0 same.0)) (may (file m is.0).pool is.2),
-  subst (λ (l : List ℕ). length l ≤ most_read) (sym (content-same m n is.0 same.1)) is.3,
-  is.4 ∙ ap (λ (l : List ℕ). Found l) (sym (content-same m n is.0 same.1)),
-)
-finds-stays shelf m n q Rests opens same may is = tt
-finds-stays shelf m n q (Got a) opens same may is = tt
-finds-stays shelf m n q Opens opens same may is = tt
-finds-stays shelf m n q (Shuts f k) opens same may is = tt
-finds-stays shelf m n q (Picks a first last len) opens same may is = tt
-finds-stays shelf m n q (Spares a k) opens same may is = tt
-finds-stays shelf m n q (Heads k) opens same may is = tt
-finds-stays shelf m n q (Joins a size body len) opens same may is = tt
-finds-stays shelf m n q (Sends a len taken more) opens same may is = tt
-finds-stays shelf m n q (Cuts a from len taken more) opens same may is = tt
-finds-stays shelf m n q (Offers a from len piece taken more) opens same may is = tt
-finds-stays shelf m n q (Swaps a from len piece taken more) opens same may is = tt
-finds-stays shelf m n q (Sent a taken more) opens same may is = tt
-finds-stays shelf m n q (Breaks piece a more) opens same may is = tt
-finds-stays shelf m n q (Drops a more) opens same may is = tt
-finds-stays shelf m n q Closes opens same may is = tt
-finds-stays shelf m n q Over opens same may is = tt

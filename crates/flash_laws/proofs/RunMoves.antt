@@ -3,7 +3,6 @@ use Rattle.std.proofs.Common.{◌≡◌, ℕ, ◌+◌, ◌-◌, ◌≤◌, List,
 use Rattle.std.specs.Prelude.{nat_lt}
 use Rattle.iol_core.specs.State.{State}
 use Rattle.iol_core.specs.Run.{StepsTo}
-use Rattle.iol_core.specs.declared.refusals.Refusal.TheVariants as no
 use Rattle.iol_core.specs.declared.events.Event.TheVariants as event
 use Rattle.iol_core.specs.declared.events.Reply.{Reply}
 use Rattle.iol_core.specs.declared.events.Reply.TheVariants as reply

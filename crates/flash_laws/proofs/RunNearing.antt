@@ -21,7 +21,7 @@ use Rattle.flash_http.specs.Chunk.{chunk_head, chunk_end, last_chunk}
 use Rattle.flash_http.specs.Request.{serve, Wanted}
 use Rattle.flash_laws.specs.Conn as conn
 use Rattle.flash_laws.specs.Conn.{Following, count_of}
-use Rattle.flash_laws.specs.Fits.{Has, Names}
+use Rattle.flash_laws.specs.Fits.{Names}
 use Rattle.flash_laws.specs.Nears.{Rank, IsBelow, Nears, CanMake, is_busy}
 use Rattle.flash_laws.specs.Policy.{is_later}
 use Rattle.flash_laws.specs.RunFits.{Progress, HasPart, HasRun}

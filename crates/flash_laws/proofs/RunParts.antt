@@ -19,10 +19,9 @@ use Rattle.iol_laws.specs.Frame.{EachStepLeavesTheRest, touches_fd}
 use Rattle.iol_laws.specs.Order.{IsOrderly}
 use Rattle.iol_laws.specs.Caller as caller
 use Rattle.iol_laws.specs.Caller.{CallsServeTheirDomain, lent_at}
-use Rattle.flash_http.specs.Request.{serve, Wanted}
+use Rattle.flash_http.specs.Request.{Wanted}
 use Rattle.flash_laws.specs.Conn as conn
 use Rattle.flash_laws.specs.Conn.{piece_end}
-use Rattle.flash_laws.specs.Fits.{Has}
 use Rattle.flash_laws.specs.RunFits.{Progress, Ran, Broken, NotRun, HoldsBack, Continues, Goes, HasFrame, HasHeard, sends_frame, HasPart}
 use Rattle.flash_laws.specs.RunOffers.{takes_on}
 use Rattle.flash_laws.specs.Running.{has_frame}
@@ -98,9 +97,6 @@ module _ (steps : EachStepLeavesTheRest) (own : CallsServeTheirDomain) (m n : St
     whole = h.whole;
     continues = h.continues;
   }
-
-  pub part-same : (d : Doing) → n ≡ m → HasPart m w o run d frame → HasPart n w o run d frame
-  part-same d same has = subst (λ (s : State). HasPart s w o run d frame) (sym same) has
 
   pub sends : (fd c a len taken : ℕ) (r : Reply) → descriptor m server fd ≡ Some (on.Connection c)
       → HasPart m w o run (doing.Sends a len taken None) frame → StepsTo m (event.Call server (call.IolWrite fd a)) r n

@@ -363,10 +363,6 @@ module _ (steps : EachStepLeavesTheRest) (own : CallsServeTheirDomain) (m n : St
         by (reply.Refused y) did step = same o (Runs run (Frames held)) did (hired, has)
         by r did step = absurd did
 
-    -- what is held is not what is made around it, nor is that the frame
-    two-off : (a b c : ℕ) → (a == c) ≡ false → (b == c) ≡ false → ((a == c) || (b == c)) ≡ false
-    two-off a b c x y = or_from (a == c) (b == c) x y
-
     pub wraps : (held frame : ℕ) (r : Reply) (heard : List ℕ) (o : Progress) → HasStep job m w o run (Wraps held frame)
         → StepsTo m (event.Call server (call.AggReplace frame (place_in_frame CHUNK_BYTES) (place_in_frame CHUNK_BYTES) held)) r n → Names n r heard
         → HasRun job n w o (Runs run (told_wraps held frame r heard))

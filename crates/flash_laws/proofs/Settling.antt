@@ -33,7 +33,11 @@ use Rattle.flash_laws.specs.declared.doing.Flight.TheVariants.{Nothing, Acceptin
 use Rattle.flash_laws.specs.declared.running.Running.{Running}
 use Rattle.flash_laws.proofs.Answering.{some-inj}
 use Rattle.flash_laws.proofs.Blocked.{WaitLaw, none-in, same-there, filed-at, ready-blocked}
-use Rattle.flash_laws.proofs.Serving.{called_in}
+
+-- what is called in a turn
+abbrev called_in : Turn → Call → Call
+called_in (turn.Make k) other = k
+called_in turn.Yield other = other
 
 -- The next place that has a client whose turn it may be.
 

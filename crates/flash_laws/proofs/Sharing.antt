@@ -17,7 +17,7 @@ use Rattle.flash_laws.specs.Places.{has_worker, is_run_by, runs_at, is_free, fir
 use Rattle.flash_laws.specs.RunOffers.{HasWorker}
 use Rattle.flash_laws.specs.Running as running
 use Rattle.flash_laws.specs.Running.{is_over, told_awaits}
-use Rattle.flash_laws.specs.Serves.{heard_of, filed_in, Picks, any}
+use Rattle.flash_laws.specs.Serves.{heard_of, filed_in, Picks}
 use Rattle.flash_laws.specs.Sharing.{FlightGoes, RunsForAnother, WorkersAreShared}
 use Rattle.flash_laws.specs.Tied.{with_at}
 use Rattle.flash_laws.specs.declared.doing.Content.TheVariants.{Body, Bare, Error, Script}
@@ -25,7 +25,6 @@ use Rattle.flash_laws.specs.declared.doing.Doing.{Doing}
 use Rattle.flash_laws.specs.declared.doing.Doing.TheVariants.{Rests, Got, Opens, Reads as Reading, Shuts, Picks as Picking, Spares, Heads, Joins, Sends, Cuts, Offers, Swaps, Sent, Breaks, Drops, Closes, Over}
 use Rattle.flash_laws.specs.declared.doing.Flight.{Flight}
 use Rattle.flash_laws.specs.declared.doing.Flight.TheVariants.{Nothing, Accepting, At}
-use Rattle.flash_laws.specs.declared.running.Run.{Run}
 use Rattle.flash_laws.specs.declared.running.Running.{Running}
 use Rattle.flash_laws.specs.declared.running.Running.TheVariants.{Awaits, Runs, Leaves, Closes as Ends}
 use Rattle.flash_laws.proofs.Answering.{some-inj}
@@ -54,11 +53,11 @@ turned true is = absurd (cc (is))
 turned false is = refl
 
 -- a worker that is free runs no script
-free-runs : (clients : List (Option Client)) (k gd : ℕ) (y : Client) → is_free clients k ≡ true → in_place clients gd ≡ Some y → is_run_by y k ≡ false
+pub free-runs : (clients : List (Option Client)) (k gd : ℕ) (y : Client) → is_free clients k ≡ true → in_place clients gd ≡ Some y → is_run_by y k ≡ false
 free-runs clients k gd y free is =
     ap (λ (o : Option Client). runs_at k o) (sym is) ∙ none-any (λ (o : Option Client). runs_at k o) clients gd refl (turned (list_any (λ o. runs_at k o) clients) free)
 
-first-free : (workers : ℕ) (clients : List (Option Client)) → has_free workers clients ≡ true
+pub first-free : (workers : ℕ) (clients : List (Option Client)) → has_free workers clients ≡ true
     → (first_free workers clients < workers) × (is_free clients (first_free workers clients) ≡ true)
 first-free workers clients free =
     let k = first_free workers clients in
@@ -71,7 +70,7 @@ first-free workers clients free =
 
 -- ---- which worker a client has after a reply: the one that it had, or the one that is free, if it waited
 
-abbrev Had : (worker : ℕ) → Client → (k : ℕ) → Type 0
+abbrev pub Had : (worker : ℕ) → Client → (k : ℕ) → Type 0
 Had worker x k = (is_run_by x k ≡ true) ⊎ ((awaits x ≡ true) × (k ≡ worker))
 
 on-goes : (was over : Bool) (x : Client) (y z : Running) (k : ℕ) → is_run_by (goes_on was over x y z) k ≡ true → has_worker z k ≡ true
@@ -127,7 +126,7 @@ on-script kept q (Drops a more) script r heard k u = cc (u)
 on-script kept q Closes script r heard k u = cc (u)
 on-script kept q Over script r heard k u = cc (u)
 
-on-told : (scripts : Bool) (worker : ℕ) (c : Conn) (run : Option Running) (script : List ℕ) (r : Reply) (heard : List ℕ) (k : ℕ)
+pub on-told : (scripts : Bool) (worker : ℕ) (c : Conn) (run : Option Running) (script : List ℕ) (r : Reply) (heard : List ℕ) (k : ℕ)
     → is_run_by (told scripts worker (of c run script) r heard) k ≡ true → Had worker (of c run script) k
 on-told scripts worker c None script r heard k u = absurd (by (is_for_script scripts c.q) u)
   where
@@ -142,7 +141,7 @@ on-told scripts worker c (Some y) script r heard k u = by c.q u
         on-run worker w c script y r heard k (on-goes (is_over y) (is_over (running.told worker w y r heard)) (of c (Some y) script) y (running.told worker w y r heard) k u)
     by (refuse status head_only close) u = inl u
 
-left-over-is : (c : Conn) (run : Option Running) (script : List ℕ) (y : Client) → left_over (of c run script) ≡ Some y → of c run script ≡ y
+pub left-over-is : (c : Conn) (run : Option Running) (script : List ℕ) (y : Client) → left_over (of c run script) ≡ Some y → of c run script ≡ y
 left-over-is c None script y is = left-is c.doing (of c None script) y is
 left-over-is c (Some z) script y is = some-inj (of c (Some z) script) y is
 
@@ -219,7 +218,7 @@ own-filed workers clients (At fd) r heard own goes = by (in_place clients fd) re
 
 -- ---- a turn
 
-ready-runs : (c : Conn) (run : Option Running) (script : List ℕ) (y : Client) → Readies (of c run script) y → y.run ≡ run
+pub ready-runs : (c : Conn) (run : Option Running) (script : List ℕ) (y : Client) → Readies (of c run script) y → y.run ≡ run
 ready-runs c None script y ready = ap (λ (z : Client). z.run) ready.2
 ready-runs c (Some z) script y ready = ap (λ (z : Client). z.run) ready
 
@@ -227,7 +226,7 @@ abbrev run_of : Option Running → (k : ℕ) → Bool
 run_of run k = is_run_by (record new_client { run = run }) k
 
 module _ (workers : ℕ) (clients : List (Option Client)) (own : EachHasItsOwn workers clients) (made : Turn) (after : List (Option Client)) where
-  own-picked : (w : Flight) → Picks workers clients w made after → EachHasItsOwn workers after
+  pub own-picked : (w : Flight) → Picks workers clients w made after → EachHasItsOwn workers after
   own-picked Nothing p = subst (λ (l : List (Option Client)). EachHasItsOwn workers l) (sym p.0) own
   own-picked Accepting p = subst (λ (l : List (Option Client)). EachHasItsOwn workers l) (sym p.0) own
   own-picked (At fd) p = subst (λ (l : List (Option Client)). EachHasItsOwn workers l) (sym p.after_is)
@@ -235,7 +234,7 @@ module _ (workers : ℕ) (clients : List (Option Client)) (own : EachHasItsOwn w
       (λ k y is u. still-own workers clients fd k p.was own p.there
       (ap (λ (o : Option Running). run_of o k) (sym (ready-runs p.was.conn p.was.run p.was.script p.ready p.readies)) ∙ (ap (λ (z : Client). run_of z.run k) (some-inj p.ready y is) ∙ u))))
 
-  goes-picked : (w : Flight) → Picks workers clients w made after → FlightGoes workers after w
+  pub goes-picked : (w : Flight) → Picks workers clients w made after → FlightGoes workers after w
   goes-picked Nothing p = tt
   goes-picked Accepting p = tt
   goes-picked (At fd) p = λ x is.
@@ -267,7 +266,7 @@ some-any {A} p (x ∷ xs) is = by (p x) refl is (λ later. some-any p xs later)
         at-next : (i : ℕ) → p (in_place xs i) ≡ true → p (in_place (x ∷ xs) (i + 1)) ≡ true
         at-next i is = let e : i + 1 ≡ suc i = omega arith in ap (λ z. p (in_place (x ∷ xs) z)) e ∙ is
 
-runs-one : (clients : List (Option Client)) (k : ℕ) → is_free clients k ≡ false → Passes (λ (o : Option Client). runs_at k o) clients
+pub runs-one : (clients : List (Option Client)) (k : ℕ) → is_free clients k ≡ false → Passes (λ (o : Option Client). runs_at k o) clients
 runs-one clients k busy = by (list_any (λ o. runs_at k o) clients) refl busy
   where
     by : (b : Bool) → list_any (λ o. runs_at k o) clients ≡ b → not b ≡ false → Passes (λ (o : Option Client). runs_at k o) clients

@@ -10,12 +10,10 @@ use Rattle.iol_laws.specs.Frame.{is_conn, is_end, touches_conn, touches_pipe, to
 use Rattle.iol_core.specs.declared.descriptors.Descriptor.{Descriptor}
 use Rattle.iol_core.specs.declared.descriptors.Descriptor.TheVariants as on
 use Rattle.iol_core.specs.declared.descriptors.Mode.TheVariants as modes
-use Rattle.iol_core.specs.declared.refusals.Refusal.TheVariants as no
 use Rattle.iol_core.specs.declared.events.Call.TheVariants as call
 use Rattle.iol_core.specs.declared.events.Event.TheVariants as event
-use Rattle.flash_http.specs.Request.{Answer, serve}
+use Rattle.flash_http.specs.Request.{Answer}
 use Rattle.flash_laws.specs.Conn.{Conn, uses_fd, is_head_only, most_read, wants}
-use Rattle.flash_laws.specs.declared.doing.Learnt.TheVariants.{File, Length}
 use Rattle.flash_laws.specs.declared.doing.Doing.{Doing}
 use Rattle.flash_laws.specs.declared.doing.Doing.TheVariants.{Rests, Got, Opens, Reads as Reading, Shuts, Picks, Spares, Heads, Joins, Sends, Cuts, Offers, Swaps, Sent, Breaks, Drops, Closes, Over}
 use Rattle.flash_laws.specs.Fits.{Has}

@@ -32,7 +32,7 @@ use Rattle.flash_laws.proofs.Lists.{clash, later_of}
 abbrev at : List ℕ → Answer → Doing → Conn
 at kept q d = record { kept = kept; q = q; doing = d }
 
-one-of : (a b : Bool) → (a || b) ≡ true → (a ≡ true) ⊎ (b ≡ true)
+pub one-of : (a b : Bool) → (a || b) ≡ true → (a ≡ true) ⊎ (b ≡ true)
 one-of true b u = inl refl
 one-of false b u = inr u
 

@@ -1,35 +1,58 @@
--- The premises of the law can be met: a small site, a new world on it, and a calm run of that world.
-use Rattle.std.proofs.Common.{inl, inr, ◌≡◌, ◌≢◌, ℕ, ◌+◌, ◌≤◌, ◌⊎◌, List, [], ◌∷◌, length, ap, refl, sym, subst, arith, Some, true, false, Bool}
+-- The premises of the law can be met: a small site, a new world on it with the server alone, and a calm run of that world.
+use Rattle.std.proofs.Common.{inl, inr, ◌≡◌, ◌≢◌, ℕ, zero, suc, ◌+◌, ◌≤◌, ◌<◌, ◌⊎◌, List, [], ◌∷◌, length, replicate, ap, refl, sym, subst, arith, Some, true, false, Bool}
 use Rattle.std.specs.Prelude.{codes, bytes_eq, position, option_map, ◌||◌}
-use Rattle.iol_core.specs.State.{State, new_state, domain, pool, file, content, conn_at, may_read, with_domain, with_conn, with_content}
-use Rattle.iol_core.specs.Run.{meaning}
+use Rattle.std.proofs.lemmas.Bool.Decides.{nat_tests}
+use Rattle.std.proofs.lemmas.Grind.{common_steps}
+use Rattle.std.proofs.lemmas.List.{length-replicate}
+use Rattle.iol_core.specs.Access.{HasAccess}
+use Rattle.iol_core.specs.Numbered.{is_numbered}
+use Rattle.iol_core.specs.Positions.{ArePlaced}
+use Rattle.iol_core.specs.State.{State, File, new_state, domain, pool, file, content, conn_at, is_pool, may_read, with_domain, with_conn, with_content}
+use Rattle.iol_core.specs.Run.{meaning, StepsTo}
 use Rattle.iol_core.specs.declared.events.Event.{Event}
 use Rattle.iol_core.specs.declared.events.Event.TheVariants as event
 use Rattle.iol_core.specs.declared.events.Call.TheVariants as call
 use Rattle.iol_core.specs.declared.events.Reply.{Reply}
 use Rattle.iol_core.specs.declared.events.Reply.TheVariants as reply
+use Rattle.iol_core.specs.declared.limits.TheConstants.{MAX_FILES, MAX_FILE_BYTES}
+use Rattle.iol_core.specs.declared.refusals.Refusal.TheVariants as refusal
+use Rattle.iol_laws.specs.Opening.{DescriptorsComeByReplies, AreLow}
 use Rattle.iol_laws.specs.Order.{IsOrderly, EachStepKeepsOrder}
+use Rattle.iol_proc.specs.Settled.{Claim}
 use Rattle.iol_proc.specs.Turns.{Account}
 use Rattle.iol_proc.specs.World.{Stage}
 use Rattle.iol_proc.specs.declared.choice.Choice.{Choice}
 use Rattle.iol_proc.specs.declared.choice.Choice.TheVariants as choice
 use Rattle.iol_proc.specs.declared.process.Turn.TheVariants as turn
+use Rattle.iol_proc.specs.declared.seat.Seat.{Seat}
+use Rattle.flash_cgi.specs.Outcomes.{AreFiles}
+use Rattle.flash_cgi.specs.Output as script
 use Rattle.flash_laws.specs.Answers.{Found, Failed}
 use Rattle.flash_laws.specs.Conn.{most_read}
 use Rattle.flash_laws.specs.declared.doing.Flight.TheVariants.{Accepting}
-use Rattle.flash_laws.specs.Laws.{ARunIsCalm}
+use Rattle.flash_laws.specs.Crew.{Crew, IsFixedFor}
+use Rattle.flash_laws.specs.Crews.{crew_with, OfSome}
 use Rattle.flash_laws.specs.Serves.{new_server}
+use Rattle.flash_laws.specs.Shelf.{Shelf}
 use Rattle.flash_laws.specs.Site.{server, outcome_in, IsFixed}
-use Rattle.flash_laws.specs.Tie.{made_over, Actor, Serving, IsNew}
+use Rattle.flash_laws.specs.Tie.{made_over, Actor, Serving}
+use Rattle.flash_laws.specs.World.{IsNew, ARunIsCalm}
 use Rattle.flash_laws.proofs.Lists.{not-equal}
 
 -- what a call leads to, where it is not refused
 abbrev then_on : State → Event → State
 then_on s e = (meaning s e).after
 
+-- two texts, and room for more
+abbrev slots : List (List ℕ)
+slots = codes "hello" ∷ codes "secret" ∷ replicate MAX_FILES []
+
+enough : MAX_FILES ≤ length slots
+enough = omega (arith, length-replicate {A = List ℕ} MAX_FILES [])
+
 -- Domain 1 is the server and 2 a guest; pool 1 is for both, 2 the net, 4 the guest's own; a file lies in 1, and another in 4.
 abbrev begun : State
-begun = new_state (codes "hello" ∷ codes "secret" ∷ [])
+begun = new_state slots
 
 abbrev with_guest : State
 with_guest = then_on begun (event.Call 1 call.DomainNew)
@@ -69,17 +92,17 @@ site_net d differ = ap (λ b. b || false) (not-equal 1 d (λ same. differ (same_
     same_turned : 1 ≡ d → d ≡ 1
     same_turned e = cc
 
-module _ (orders : EachStepKeepsOrder) where
-  site_order : IsOrderly site
-  unfolding domain pool file content with_domain with_content
-  site_order =
-      orders.step with_file site (event.Call 2 (call.FileNew (codes "b.txt") 4)) (reply.File 2)
-      (orders.step with_vault with_file (event.Call 1 (call.FileNew (codes "a.txt") 1)) (reply.File 1)
-      (orders.step with_work with_vault (event.Call 1 (call.PoolCreate 1 (2 ∷ []))) (reply.Pool 4)
-      (orders.step with_net with_work (event.Call 1 (call.PoolCreate 1 (1 ∷ 2 ∷ []))) (reply.Pool 3)
-      (orders.step with_site with_net (event.Call 1 (call.PoolCreate 1 (1 ∷ []))) (reply.Pool 2)
-      (orders.step with_guest with_site (event.Call 1 (call.PoolCreate 1 (1 ∷ 2 ∷ []))) (reply.Pool 1)
-      (orders.step begun with_guest (event.Call 1 call.DomainNew) (reply.Domain 2) (orders.new (codes "hello" ∷ codes "secret" ∷ [])) (refl, refl, refl)) (refl, refl, refl)) (refl, refl, refl)) (refl, refl, refl)) (refl, refl, refl)) (refl, refl, refl)) (refl, refl, refl)
+-- what each step keeps, and a new state has, the site has
+over_steps : (Q : State → Type 0) → ((s t : State) (e : Event) (r : Reply) → Q s → StepsTo s e r t → Q t) → Q begun → Q site
+unfolding domain pool file content with_domain with_content
+over_steps Q step first =
+    step with_file site (event.Call 2 (call.FileNew (codes "b.txt") 4)) (reply.File 2)
+    (step with_vault with_file (event.Call 1 (call.FileNew (codes "a.txt") 1)) (reply.File 1)
+    (step with_work with_vault (event.Call 1 (call.PoolCreate 1 (2 ∷ []))) (reply.Pool 4)
+    (step with_net with_work (event.Call 1 (call.PoolCreate 1 (1 ∷ 2 ∷ []))) (reply.Pool 3)
+    (step with_site with_net (event.Call 1 (call.PoolCreate 1 (1 ∷ []))) (reply.Pool 2)
+    (step with_guest with_site (event.Call 1 (call.PoolCreate 1 (1 ∷ 2 ∷ []))) (reply.Pool 1)
+    (step begun with_guest (event.Call 1 call.DomainNew) (reply.Domain 2) first (refl, refl, refl)) (refl, refl, refl)) (refl, refl, refl)) (refl, refl, refl)) (refl, refl, refl)) (refl, refl, refl)) (refl, refl, refl)
 
 -- the file that has a name is one of these
 one_of_two : (a b : Bool) (f : ℕ)
@@ -109,20 +132,80 @@ site_fixed = record {
   net_alone = site_net;
 }
 
+-- the files that there are
+of_two : {A : Type 0} (a b : A) (f : ℕ) → is_numbered (a ∷ b ∷ []) f ≡ true → (f ≡ 1) ⊎ (f ≡ 2)
+of_two a b f is = by f (grind (arith, nat_tests, common_steps, is)) (grind (arith, nat_tests, common_steps, is))
+  where
+    by : (f : ℕ) → 0 < f → f ≤ 2 → (f ≡ 1) ⊎ (f ≡ 2)
+    by zero first last = absurd (omega (arith, first))
+    by (suc zero) first last = inl refl
+    by (suc (suc zero)) first last = inr refl
+    by (suc (suc (suc f))) first last = absurd (omega (arith, last))
+
+two_files : (f : ℕ) → is_numbered site.files f ≡ true → (f ≡ 1) ⊎ (f ≡ 2)
+unfolding domain pool file content with_domain with_content
+two_files f is = of_two {A = File} (record { name = codes "a.txt"; pool = 1 }) (record { name = codes "b.txt"; pool = 4 }) f is
+
+site_within : (f : ℕ) → (f ≡ 1) ⊎ (f ≡ 2) → length (content site f) ≤ MAX_FILE_BYTES
+unfolding domain pool file content with_domain with_content
+site_within f (inl one) = subst (λ z. length (content site z) ≤ MAX_FILE_BYTES) (sym one) (omega arith)
+site_within f (inr two) = subst (λ z. length (content site z) ≤ MAX_FILE_BYTES) (sym two) (omega arith)
+
+site_pooled : (f : ℕ) → (f ≡ 1) ⊎ (f ≡ 2) → is_pool site (file site f).pool ≡ true
+unfolding domain pool file content with_domain with_content
+site_pooled f (inl one) = subst (λ z. is_pool site (file site z).pool ≡ true) (sym one) refl
+site_pooled f (inr two) = subst (λ z. is_pool site (file site z).pool ≡ true) (sym two) refl
+
+site_files : AreFiles site
+unfolding domain pool file content with_domain with_content
+site_files = record {
+  lengths = λ f is. site_within f (two_files f is);
+  pooled = λ name f is. site_pooled f (one_of_two (bytes_eq (codes "a.txt") name) (bytes_eq (codes "b.txt") name) f is);
+}
+
+-- nothing is shown, since no script runs
+abbrev shelf : Shelf
+shelf = record { finds = outcome_in site; shows = λ name. script.Failed refusal.NoFile; scripts = false }
+
 -- A world with the server alone: it is new. A connection comes, and is accepted: this run is calm, and the connection is the net's.
-module _ (orders : EachStepKeepsOrder) {W : Type 0} (works : Account W) (Ready : State → ℕ → W → Reply → Type 0) where
+module _ (orders : EachStepKeepsOrder) (descriptors : DescriptorsComeByReplies) {W : Type 0} (works : Account W) (settled : Claim W)
+    (free : (ℕ → Bool) → State → ℕ → Seat W → Type 0) (due : (ℕ → Bool) → State → ℕ → ℕ → Seat W → List ℕ → Type 0) where
+  -- no workers, and so no desks, and no pools of theirs
+  abbrev alone : Crew
+  alone = crew_with works settled free due 0 (λ k. 0) (λ q. false) (λ q. true)
+
+  fixed_alone : IsFixedFor shelf alone site
+  unfolding domain pool file content with_domain with_content
+  fixed_alone = record {
+    site = site_fixed;
+    access = over_steps HasAccess orders.access (orders.new_access slots);
+    placed = over_steps ArePlaced orders.places (orders.new_places slots enough);
+    low = over_steps AreLow descriptors.step (descriptors.new slots);
+    files = site_files;
+    holds = λ k lt. absurd (omega (arith, lt));
+    shows = λ k lt name. absurd (omega (arith, lt));
+    wide = λ q is. absurd (cc (is));
+    read_jobs = λ k lt. absurd (omega (arith, lt));
+    default = refl;
+    scripts = refl;
+  }
+
   abbrev new_world : Stage State (Actor W)
   new_world = record { machine = site; seats = record { by = server; process = Serving new_server; last = reply.Done } ∷ []; rough = false }
 
-  world_is_new : IsNew Ready (outcome_in site) new_world
+  world_is_new : IsNew shelf alone new_world
   unfolding conn_at
   world_is_new = record {
-    order = site_order orders;
-    fixed = site_fixed;
+    order = over_steps IsOrderly orders.step (orders.new slots);
+    fixed = fixed_alone;
     workers = [];
     seats = refl;
-    ready = λ i seat is. absurd (cc (is));
-    apart = λ i j s t is_s is_t same. absurd (cc (is_s));
+    desks = record {
+      seated = λ k lt. absurd (omega (arith, lt));
+      by = λ k seat is. absurd (cc (is));
+      desks = λ k lt. absurd (omega (arith, lt));
+    };
+    free = λ k seat is. absurd (cc (is));
     no_conns = λ c. refl;
   }
 
@@ -142,10 +225,10 @@ module _ (orders : EachStepKeepsOrder) {W : Type 0} (works : Account W) (Ready :
   abbrev replies : List Reply
   replies = reply.Conn 1 ∷ reply.Fd 0 ∷ []
 
-  pub run_is_calm : ARunIsCalm works Ready
+  run_is_calm : ARunIsCalm alone
   unfolding domain pool file content with_domain with_conn with_content conn_at made_over
   run_is_calm = record {
-    shelf = outcome_in site;
+    shelf = shelf;
     first = new_world;
     after = accepted_1;
     choices = choices;
@@ -178,4 +261,14 @@ module _ (orders : EachStepKeepsOrder) {W : Type 0} (works : Account W) (Ready :
     comes = refl;
     taken = refl;
     open_yet = refl;
+  }
+
+  pub some_run_is_calm : OfSome works settled free due ARunIsCalm
+  some_run_is_calm = record {
+    count = 0;
+    desk = λ k. 0;
+    pools = λ q. false;
+    jobs = λ q. true;
+    apart = λ k l lt lt_l same. absurd (omega (arith, lt));
+    holds = run_is_calm;
   }

@@ -1,11 +1,12 @@
 -- The worker that runs scripts is as the law needs it.
-use Rattle.std.proofs.Common.{inl, inr, ◌≡◌, ◌⊎◌, ℕ, List, ◌++◌, ap, ◌∙◌, refl, sym, subst, Option, true, false, Bool}
+use Rattle.std.proofs.Common.{inl, inr, ◌≡◌, ◌⊎◌, ℕ, List, ◌++◌, ap, ◌∙◌, refl, sym, subst, Option, Some, true, false, Bool}
 use Rattle.std.specs.Prelude.{unwrap_or}
 use Rattle.iol_core.specs.Text.{bytes_of}
-use Rattle.iol_core.specs.State.{State, Pipe, pipe_at}
+use Rattle.iol_core.specs.State.{State, Pipe, descriptor, pipe_at}
 use Rattle.iol_core.specs.Calls.Aggregates.{default_pool}
 use Rattle.iol_core.specs.Positions.{ArePlaced}
 use Rattle.iol_core.specs.Run.{StepsTo}
+use Rattle.iol_core.specs.declared.descriptors.Descriptor.TheVariants as on
 use Rattle.iol_core.specs.declared.events.Call.TheVariants as call
 use Rattle.iol_core.specs.declared.events.Event.{Event}
 use Rattle.iol_core.specs.declared.events.Event.TheVariants as event
@@ -26,7 +27,7 @@ use Rattle.flash_cgi.specs.Outcomes.{AreFiles, outcomes_in}
 use Rattle.flash_cgi.specs.Output.{Outcome, output}
 use Rattle.flash_cgi.specs.Shown.{HoldFiles, IsShown, OutputsAreShown}
 use Rattle.flash_cgi.specs.Taking.{HasJob}
-use Rattle.flash_cgi.specs.Turns.{IsFree, RunsJob}
+use Rattle.flash_cgi.specs.Turns.{RunsJob}
 use Rattle.flash_cgi.specs.Waiting.{HasWaited}
 use Rattle.flash_cgi.specs.Works.{works}
 use Rattle.flash_cgi.specs.declared.line.Line.{Line}
@@ -89,7 +90,7 @@ module _ (stay_free : WorkersStayFree) (put_out : ScriptsPutOut) (hear : OthersH
         shown = show.free pools n p seat is_free default lies;
       }
 
-  turns : (m n : State) (j p : ℕ) (seat next : Seat Worker) (yields : Bool) (r : Reply) (text : List ℕ) → IsOrderly m → ArePlaced m → AreFiles m → HoldFiles pools m
+  turns : (m n : State) (j p : ℕ) (seat next : Seat Worker) (yields : Bool) (r : Reply) (text : List ℕ) → IsOrderly m → ArePlaced m → AreFiles m → HoldFiles pools m seat.by
       → Due m j p seat text → SeatTurn copying works m seat yields r n next → is_rough r ≡ false
       → Due n j p next text ⊎ Wrote works HasWaited pools Free Due m n j p next text r ⊎ ((pipe_at n p).reading ≡ false)
   turns m n j p seat next yields r text order placed good holds h did smooth = by (put_out.turns m n j p seat next yields r text order placed good h.due did smooth)
@@ -123,8 +124,18 @@ module _ (stay_free : WorkersStayFree) (put_out : ScriptsPutOut) (hear : OthersH
       by unseen (inr (inl a)) = inr (keep_quiet.begins m n p seat next yields r unseen a did)
       by unseen (inr (inr a)) = inr (keep_quiet.runs m n p seat next yields r unseen a did)
 
+  writes : (m : State) (j p : ℕ) (seat : Seat Worker) (text : List ℕ) → Due m j p seat text → (fd : ℕ) × (descriptor m seat.by fd ≡ Some (on.WriteEnd p))
+  writes m j p seat text h = by h.due.unseen h.due.runs
+    where
+      by : (unseen : List Outcome → List ℕ) → RunsJob m p seat unseen → (fd : ℕ) × (descriptor m seat.by fd ≡ Some (on.WriteEnd p))
+      by unseen (inl a) = (a.fd, a.has.open_on)
+      by unseen (inr (inl a)) = (a.job.fd, a.begins.feeds.open_on)
+      by unseen (inr (inr a)) = (seat.process.job.fd, a.feeds.open_on)
+
   pub workers_run : WorkersRun works HasWaited pools Free Due
   workers_run = record {
+    none = λ m j seat free. free.none;
+    writes = writes;
     waits = waits;
     free_others = free_others;
     begins = begins;
@@ -132,5 +143,6 @@ module _ (stay_free : WorkersStayFree) (put_out : ScriptsPutOut) (hear : OthersH
     others = others;
     quiet = quiet;
     shown = λ m j p seat text h. h.shown.output;
+    reads = λ m j p seat text h. h.due.desk.jobs;
     full = λ m j p seat text order access h waited. fill m p seat h.due.unseen order access h.due.runs waited;
   }

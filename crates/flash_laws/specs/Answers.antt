@@ -1,7 +1,6 @@
 -- What a stream is answered: the responses to its requests, in order, up to the first after which the connection closes
 -- (RFC 9112, sections 9.3.2 and 9.6).
-use Rattle.std.specs.Prelude.{◌≡◌, ℕ, ◌+◌, ◌⊎◌, Bool, true, false, not, ◌&&◌, List, [], ◌∷◌, ◌++◌, length, take, drop, slice_range}
-use Rattle.std.specs.List.{flat_map}
+use Rattle.std.specs.Prelude.{◌≡◌, ℕ, ◌+◌, Bool, true, false, not, ◌&&◌, List, [], ◌∷◌, ◌++◌, length, take, drop, slice_range}
 use Rattle.flash_http.specs.declared.windows.Window.{Window}
 use Rattle.flash_http.specs.declared.windows.Window.TheVariants.{Wait, Head, TooLarge}
 use Rattle.flash_http.specs.declared.ranges.Selection.{Selection}
@@ -98,25 +97,3 @@ abbrev pub last_closes : List Answer → Bool
 last_closes [] = false
 last_closes (q ∷ []) = not (keeps q)
 last_closes (q ∷ p ∷ qs) = last_closes (p ∷ qs)
-
-abbrev pub responses : Shelf → List Answer → List ℕ
-responses shelf qs = flat_map (λ q. due_to shelf q) qs
-
--- These bytes begin the answer to the stream: they are the responses to its first requests, in order, or the beginning of
--- these.
-pub record Begins (shelf : Shelf) (s bytes : List ℕ) : Type 0 where
-  pub qs : List Answer
-  pub rest : List ℕ
-  pub reads : Reads s qs rest
-  pub order : last_may_close qs ≡ true
-  pub more : List ℕ
-  pub all : responses shelf qs ≡ bytes ++ more
-
--- These bytes are the answer to the stream: no further request is there, or the connection closes after the last one.
-pub record IsAnswer (shelf : Shelf) (s bytes : List ℕ) : Type 0 where
-  pub qs : List Answer
-  pub rest : List ℕ
-  pub reads : Reads s qs rest
-  pub order : last_may_close qs ≡ true
-  pub all : bytes ≡ responses shelf qs
-  pub no_more : (window_in rest ≡ Wait) ⊎ (last_closes qs ≡ true)

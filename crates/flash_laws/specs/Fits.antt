@@ -1,20 +1,16 @@
 -- What ties one connection to what came on it and what was sent.
-use Rattle.std.specs.Prelude.{◌≡◌, ◌≤◌, ◌<◌, ℕ, ◌+◌, ◌-◌, ◌⊎◌, ◌||◌, ◌==◌, Bool, true, false, List, [], ◌∷◌, ◌++◌, length, take, drop, slice_range, Some, None, is_none}
-use Rattle.std.specs.List.{list_all}
-use Rattle.iol_core.specs.Text.{bytes_of}
-use Rattle.iol_core.specs.State.{State, Connection, descriptor, content, file, may_read, conn_at, is_gone}
+use Rattle.std.specs.Prelude.{◌≡◌, ◌≤◌, ◌<◌, ℕ, ◌+◌, ◌-◌, ◌||◌, ◌==◌, Bool, true, false, List, [], ◌∷◌, ◌++◌, length, drop, slice_range, Some, None}
+use Rattle.iol_core.specs.State.{State, descriptor}
 use Rattle.iol_laws.specs.Caller.{lent_at}
 use Rattle.iol_core.specs.declared.limits.TheConstants.{MAX_AGGREGATE_BYTES}
 use Rattle.iol_core.specs.declared.descriptors.Descriptor.TheVariants as on
 use Rattle.iol_core.specs.declared.descriptors.Mode.TheVariants as modes
 use Rattle.iol_core.specs.declared.events.Reply.{Reply}
 use Rattle.iol_core.specs.declared.events.Reply.TheVariants as reply
-use Rattle.flash_http.specs.declared.windows.Window.TheVariants.{Wait}
-use Rattle.flash_http.specs.Window.{window_in}
 use Rattle.flash_http.specs.Request.{Answer, serve, refuse, Wanted}
-use Rattle.flash_laws.specs.Answers.{Found, Shelf, keeps, response, due_to, Reads, last_may_close, last_closes, responses, Begins}
+use Rattle.flash_laws.specs.Answers.{Found, response}
 use Rattle.flash_laws.specs.Site.{server}
-use Rattle.flash_laws.specs.Conn.{Following, Conn, has_followed, content_agg, most_read, piece_end, name_of, text_of, put_out}
+use Rattle.flash_laws.specs.Conn.{Following, has_followed, content_agg, piece_end, text_of, put_out}
 use Rattle.flash_laws.specs.declared.doing.Learnt.{Learnt}
 use Rattle.flash_laws.specs.declared.doing.Learnt.TheVariants.{File, Length, Fails, Text}
 use Rattle.flash_laws.specs.declared.doing.Content.{Content}
@@ -166,61 +162,6 @@ abbrev pub asked : Answer → Doing → List Answer
 asked q Rests = []
 asked q (Got a) = []
 asked q d = q ∷ []
-
-module _ (shelf : Shelf) where
-  -- what of its response is taken
-  abbrev pub given : Answer → Doing → List ℕ
-  given q (Sends a len taken more) = take taken (due_to shelf q)
-  given q (Cuts a from len taken more) = take taken (due_to shelf q)
-  given q (Offers a from len piece taken more) = take taken (due_to shelf q)
-  given q (Swaps a from len piece taken more) = take taken (due_to shelf q)
-  given q (Sent a taken more) = take taken (due_to shelf q)
-  given q d = []
-
-  -- Of what was read some requests are answered whole, one is in progress, and the rest is kept; and just this was written.
-  pub record Owes (took out kept : List ℕ) (q : Answer) (doing : Doing) : Type 0 where
-    pub busy : quits doing ≡ false
-    pub done : List Answer
-    pub open_yet : list_all (λ p. keeps p) done ≡ true
-    pub reads : Reads took (done ++ asked q doing) kept
-    pub out_is : out ≡ responses shelf done ++ given q doing
-
-  -- All is answered: the last response closes, or the stream is at its end, and no request is left.
-  pub record Finished (k : Connection) (took out : List ℕ) : Type 0 where
-    pub qs : List Answer
-    pub rest : List ℕ
-    pub reads : Reads took qs rest
-    pub order : last_may_close qs ≡ true
-    pub all : out ≡ responses shelf qs
-    pub no_more : (last_closes qs ≡ true) ⊎ ((window_in rest ≡ Wait) × (k.incoming ≡ [])
-        × (is_none k.peer ≡ false))
-
-  -- Nothing more can be sent, and what was sent begins the answer: the peer is gone, which drops what was to be sent, or all is
-  -- answered, and the connection will only be closed.
-  pub record Hushed (k : Connection) (took out : List ℕ) (doing : Doing) : Type 0 where
-    pub silent : (is_gone k.peer ≡ true) ⊎ ((quits doing ≡ true) × Finished k took out)
-    pub begins : Begins shelf took out
-
-  abbrev pub Tie : Connection → (took sent : List ℕ) → Conn → Type 0
-  Tie k took sent x = Owes took (sent ++ bytes_of k.outgoing) x.kept x.q x.doing
-      ⊎ Hushed k took (sent ++ bytes_of k.outgoing) x.doing
-
-  -- the file that is being read is the one that is asked for
-  abbrev pub Finds : State → Answer → Doing → Type 0
-  Finds m q (Reading f) = (i : ℕ) × (descriptor m server f ≡ Some (on.File i 0 modes.Read))
-      × (may_read m server (file m i).pool ≡ true) × (length (content m i) ≤ most_read)
-      × (shelf (name_of q) ≡ Found (content m i))
-  Finds m q d = Unit {0}
-
-  -- Of a connection, where `came` came by arrivals, and `sent` went by segments: the server's descriptor is open on it; what
-  -- it took of the stream is what came before what waits; and it is tied.
-  pub record Fits (m : State) (came sent : List ℕ) (fd c : ℕ) (x : Conn) : Type 0 where
-    pub open_on : descriptor m server fd ≡ Some (on.Connection c)
-    pub took : List ℕ
-    pub came_is : came ≡ took ++ bytes_of (conn_at m c).incoming
-    pub tie : Tie (conn_at m c) took sent x
-    pub has : Has m x.q (due_to shelf x.q) x.doing
-    pub finds : Finds m x.q x.doing
 
 -- what the aggregate of a reply holds
 abbrev pub Names : State → Reply → List ℕ → Type 0

@@ -1,20 +1,15 @@
 -- The clients of a server, each in the place of its descriptor, and the workers that run scripts for them.
-use Rattle.std.specs.Prelude.{◌≡◌, ◌<◌, ℕ, ◌==◌, ◌||◌, not, Bool, true, false, List, map, Option, Some, None, option_map, nat_lt}
+use Rattle.std.specs.Prelude.{◌≡◌, ◌<◌, ℕ, ◌==◌, ◌||◌, not, Bool, true, false, List, Option, Some, None, nat_lt}
 use Rattle.std.specs.List.{list_any, position_or_len, range_with_len}
 use Rattle.iol_core.specs.Numbered.{in_place}
 use Rattle.iol_core.specs.declared.events.Reply.{Reply}
 use Rattle.iol_core.specs.declared.events.Reply.TheVariants as reply
 use Rattle.flash_laws.specs.Client.{Client, new_client, told, left_over, awaits}
-use Rattle.flash_laws.specs.Conn.{Conn}
 use Rattle.flash_laws.specs.Tied.{with_at}
 use Rattle.flash_laws.specs.declared.doing.Flight.{Flight}
 use Rattle.flash_laws.specs.declared.doing.Flight.TheVariants.{Nothing, Accepting, At}
 use Rattle.flash_laws.specs.declared.running.Running.{Running}
 use Rattle.flash_laws.specs.declared.running.Running.TheVariants.{Runs}
-
--- their connections
-abbrev pub connections : List (Option Client) → List (Option Conn)
-connections clients = map (λ o. option_map (λ (x : Client). x.conn) o) clients
 
 -- for none of them a script runs
 abbrev pub NoneRuns : List (Option Client) → Type 0

@@ -2,8 +2,8 @@
 --
 -- A round goes over the places of the connections, then accepts those that wait, and ends with a yield. A connection goes on
 -- until its call is to be made again later, or nothing is left to do for it but to read more.
-use Rattle.std.specs.Prelude.{ℕ, ◌+◌, ◌==◌, ◌||◌, Bool, true, false, if◌then◌else◌, nat_lt, List, length, drop, position, Option, Some, None, is_some, option_map}
-use Rattle.iol_core.specs.Numbered.{in_place, taken}
+use Rattle.std.specs.Prelude.{ℕ, ◌==◌, ◌||◌, Bool, true, false, if◌then◌else◌, nat_lt, List, length, Option, Some, None}
+use Rattle.iol_core.specs.Numbered.{taken}
 use Rattle.iol_core.specs.declared.refusals.Refusal.TheVariants.{WouldBlock, TooMany, NoRoom, Memory}
 use Rattle.iol_core.specs.declared.events.Reply.{Reply}
 use Rattle.iol_core.specs.declared.events.Reply.TheVariants as reply
@@ -38,14 +38,6 @@ abbrev pub leaves_off : Option Conn → Reply → Bool
 leaves_off None r = true
 leaves_off (Some x) r = is_later r || is_bare x
 
--- from where on the next connection is looked for
-abbrev pub place_after : (fd : ℕ) → Option Conn → Reply → ℕ
-place_after fd x r = if leaves_off x r then fd + 1 else fd
-
--- the first place from here on that has a connection
-abbrev pub next_place : List (Option Conn) → (from : ℕ) → Option ℕ
-next_place conns from = option_map (λ k. from + k) (position is_some (drop from conns))
-
 -- past all places one is accepted, unless the server holds as many as it may
 abbrev pub door : {A : Type 0} → List (Option A) → Flight
 door conns = if nat_lt (taken conns) most_conns then Accepting else Nothing
@@ -54,16 +46,7 @@ abbrev pub flight_to : {A : Type 0} → List (Option A) → Option ℕ → Fligh
 flight_to conns (Some fd) = At fd
 flight_to conns None = door conns
 
-abbrev pub flight_from : List (Option Conn) → (from : ℕ) → Flight
-flight_from conns from = flight_to conns (next_place conns from)
-
 -- more are accepted until none waits
 abbrev pub flight_past : {A : Type 0} → List (Option A) → Reply → Flight
 flight_past conns (reply.Fd fd) = door conns
 flight_past conns r = Nothing
-
--- what is picked after a reply, once it is filed
-abbrev pub next_flight : List (Option Conn) → (was : Flight) → (last : Reply) → Flight
-next_flight conns Nothing r = flight_from conns 0
-next_flight conns Accepting r = flight_past conns r
-next_flight conns (At fd) r = flight_from conns (place_after fd (in_place conns fd) r)

@@ -44,7 +44,7 @@ module _ {W : Type 0} (works : Account W) (pools : ℕ → Bool) (Free : State �
   pub record TextsArePutOut : Type 0 where
     -- a turn of the worker that is not rough leaves the text, as long as somebody reads
     pub turns : (m n : State) (j p : ℕ) (seat next : Seat W) (yields : Bool) (r : Reply) (text : List ℕ) → IsOrderly m
-        → ArePlaced m → AreFiles m → HoldFiles pools m → PutsOut m j p seat text
+        → ArePlaced m → AreFiles m → HoldFiles pools m seat.by → PutsOut m j p seat text
         → SeatTurn copying works m seat yields r n next → is_rough r ≡ false → (pipe_at m p).reading ≡ true
         → (pipe_at n p).reading ≡ true → PutsOut n j p next text
     -- so do others that leave the files and both pipes

@@ -10,11 +10,8 @@ use Rattle.iol_core.specs.declared.events.Reply.TheVariants as reply
 use Rattle.iol_proc.specs.Turns.{Account}
 use Rattle.iol_proc.specs.declared.process.Turn.{Turn}
 use Rattle.iol_proc.specs.declared.process.Turn.TheVariants as turn
-use Rattle.flash_laws.specs.Alone.{Flies}
-use Rattle.flash_laws.specs.Answers.{Shelf}
 use Rattle.flash_laws.specs.Client.{Client, wants, Readies}
-use Rattle.flash_laws.specs.Past.{Past}
-use Rattle.flash_laws.specs.Places.{connections, NoneRuns, has_free, may_go, runs_scripts, filed}
+use Rattle.flash_laws.specs.Places.{has_free, may_go, runs_scripts, filed}
 use Rattle.flash_laws.specs.Site.{server}
 use Rattle.flash_laws.specs.Tied.{with_at}
 use Rattle.flash_laws.specs.declared.doing.Flight.{Flight}
@@ -76,9 +73,3 @@ server_turns may s last lent made t = may s.workers (filed_in s last lent) s.fli
 abbrev pub Made : State → Turn → Reply → State → Type 0
 Made m turn.Yield r n = (r ≡ reply.Done) × (n ≡ m)
 Made m (turn.Make k) r n = StepsTo m (event.Call server k) r n
-
--- Between two turns of a server without workers no script runs, and all connections fit.
-pub record InFlight (shelf : Shelf) (m : State) (p : Past) (s : Server) (last : Reply) : Type 0 where
-  pub no_workers : s.workers ≡ 0
-  pub none_runs : NoneRuns s.clients
-  pub flies : Flies shelf m p (connections s.clients) s.flight last

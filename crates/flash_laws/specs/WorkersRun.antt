@@ -1,10 +1,11 @@
 -- What the law needs of workers that run scripts: what a script puts out is one text, which whoever reads its pipe may read.
 --
 -- Which workers are free, and what text is due of one that runs, are words of the worker's own.
-use Rattle.std.specs.Prelude.{◌≡◌, ◌⊎◌, ◌≤◌, ℕ, Bool, true, false, List, ◌++◌, length}
+use Rattle.std.specs.Prelude.{◌≡◌, ◌⊎◌, ◌≤◌, ℕ, Bool, true, false, List, ◌++◌, length, Some}
 use Rattle.iol_core.specs.Access.{HasAccess}
 use Rattle.iol_core.specs.Text.{bytes_of}
-use Rattle.iol_core.specs.State.{State, pipe_at}
+use Rattle.iol_core.specs.State.{State, descriptor, pipe_at}
+use Rattle.iol_core.specs.declared.descriptors.Descriptor.TheVariants as on
 use Rattle.iol_core.specs.Calls.Aggregates.{default_pool}
 use Rattle.iol_core.specs.Positions.{ArePlaced}
 use Rattle.iol_core.specs.Run.{StepsTo}
@@ -52,6 +53,13 @@ module _ {W : Type 0} (works : Account W) (settled : Claim W) (pools : ℕ → B
     pub due : Due n j p seat rest
 
   pub record WorkersRun : Type 0 where
+    -- nothing lies in the job pipe of one that is free, and one of which a text is due has the write end of the pipe
+    pub none : (m : State) (j : ℕ) (seat : Seat W) → Free m j seat → HasNoJob m seat.by j
+    pub writes : (m : State) (j p : ℕ) (seat : Seat W) (text : List ℕ) → Due m j p seat text
+        → (fd : ℕ) × (descriptor m seat.by fd ≡ Some (on.WriteEnd p))
+    -- and it reads its job pipe
+    pub reads : (m : State) (j p : ℕ) (seat : Seat W) (text : List ℕ) → Due m j p seat text
+        → descriptor m seat.by 0 ≡ Some (on.ReadEnd j)
     -- a worker that is free changes nothing, and stays free; so do others leave it, as long as they leave its job pipe
     pub waits : (m n : State) (j : ℕ) (seat next : Seat W) (yields : Bool) (r : Reply) → IsOrderly m → Free m j seat
         → SeatTurn copying works m seat yields r n next → (n ≡ m) × Free n j next
@@ -64,7 +72,7 @@ module _ {W : Type 0} (works : Account W) (settled : Claim W) (pools : ℕ → B
         → Due n j p seat (bytes_of (pipe_at n p).queue ++ output query lines (outcomes_in n seat.by lines))
     -- its turn leaves a text due, until all of it is written, or nobody reads
     pub turns : (m n : State) (j p : ℕ) (seat next : Seat W) (yields : Bool) (r : Reply) (text : List ℕ) → IsOrderly m
-        → ArePlaced m → AreFiles m → HoldFiles pools m → Due m j p seat text
+        → ArePlaced m → AreFiles m → HoldFiles pools m seat.by → Due m j p seat text
         → SeatTurn copying works m seat yields r n next → is_rough r ≡ false
         → Due n j p next text ⊎ Wrote m n j p next text r ⊎ ((pipe_at n p).reading ≡ false)
     -- what others do takes its front, as long as they leave the files and the job pipe

@@ -56,7 +56,7 @@ module _ {W : Type 0} (works : Account W) (settled : Claim W) (pools : ℕ → B
         lies = w.lies;
       }
 
-  turns : (m n : State) (j p : ℕ) (seat next : Seat W) (yields : Bool) (r : Reply) (text : List ℕ) → IsOrderly m → ArePlaced m → AreFiles m → HoldFiles pools m
+  turns : (m n : State) (j p : ℕ) (seat next : Seat W) (yields : Bool) (r : Reply) (text : List ℕ) → IsOrderly m → ArePlaced m → AreFiles m → HoldFiles pools m seat.by
       → Puts m j p seat text → SeatTurn copying works m seat yields r n next → is_rough r ≡ false → (pipe_at m p).reading ≡ true → (pipe_at n p).reading ≡ true → Puts n j p next text
   turns m n j p seat next yields r text order placed good holds (inl due) did smooth was now = by (run.turns m n j p seat next yields r text order placed good holds due did smooth)
     where

@@ -1,0 +1,172 @@
+-- What the server's own call for a client touches: nothing but what that has.
+use Rattle.std.proofs.Common.{inl, inr, ◌≡◌, ◌⊎◌, ℕ, ◌==◌, List, [], ◌∷◌, ap, ◌∙◌, refl, sym, subst, Option, Some, None, true, false, Bool, if◌then◌else◌}
+use Rattle.std.specs.Prelude.{◌||◌, ◌&&◌}
+use Rattle.std.specs.List.{list_any}
+use Rattle.iol_core.specs.State.{State, descriptor}
+use Rattle.iol_core.specs.Calls.Writing.{is_file}
+use Rattle.iol_core.specs.Values.{gives_up}
+use Rattle.iol_core.specs.declared.descriptors.Descriptor.{Descriptor}
+use Rattle.iol_core.specs.declared.descriptors.Descriptor.TheVariants as on
+use Rattle.iol_core.specs.declared.descriptors.Mode.TheVariants as modes
+use Rattle.iol_core.specs.declared.events.Call.{Call}
+use Rattle.iol_core.specs.declared.events.Call.TheVariants as call
+use Rattle.iol_core.specs.declared.events.Event.TheVariants as event
+use Rattle.iol_laws.specs.Frame.{is_conn, is_end, touches_conn, touches_pipe, touches_fd, changes_files, admits_to, ends, sets_default}
+use Rattle.flash_http.specs.Request.{Answer}
+use Rattle.flash_laws.specs.Client.{Client, is_for_script, conn_wants, job_of, wants, uses_agg}
+use Rattle.flash_laws.specs.ClientFits.{due_in, Fits}
+use Rattle.flash_laws.specs.ClientKeeping.{has_fd}
+use Rattle.flash_laws.specs.Conn as conn
+use Rattle.flash_laws.specs.Conn.{Conn, is_head_only, most_read}
+use Rattle.flash_laws.specs.Crew.{Crew}
+use Rattle.flash_laws.specs.Fits.{IsLent, Has}
+use Rattle.flash_laws.specs.RunKeeping.{may_make, MayTouch, KeepsToItself}
+use Rattle.flash_laws.specs.Running as running
+use Rattle.flash_laws.specs.Shelf.{Shelf}
+use Rattle.flash_laws.specs.Site.{server}
+use Rattle.flash_laws.specs.declared.doing.Doing.{Doing}
+use Rattle.flash_laws.specs.declared.doing.Doing.TheVariants as doing
+use Rattle.flash_laws.specs.declared.running.Running.{Running}
+use Rattle.iol_proc.specs.declared.seat.Seat.{Seat}
+use Rattle.flash_laws.proofs.Lists.{clash}
+use Rattle.flash_laws.proofs.Touching.{fds-wants, conns-wants, pipes-wants, files-wants}
+use Rattle.flash_laws.proofs.Uses.{gives-wants, has-agg, has-fd}
+use Rattle.flash_laws.proofs.World.AllLaws.{AllLaws}
+use Rattle.flash_laws.proofs.World.OwnRun.{wants-run}
+use Rattle.flash_laws.proofs.World.RunUses.{IsEnd, run-there, run-end}
+
+abbrev of : Conn → Option Running → List ℕ → Client
+of c run script = record { conn = c; run = run; script = script }
+
+-- the pipe that it may touch: with a run one of that, and else none
+abbrev pub MayTouchPipe : State → Option Running → (p : ℕ) → Type 0
+MayTouchPipe m None p = ⊥
+MayTouchPipe m (Some y) p = MayTouch m y p
+
+-- which calls are made for clients
+abbrev pub is_client_call : Call → Bool
+is_client_call call.Exit = false
+is_client_call (call.SetPool p) = false
+is_client_call (call.PoolAdmit p d) = false
+is_client_call (call.AggSplit a at) = false
+is_client_call (call.AggGive a to) = false
+is_client_call (call.FileNew name p) = false
+is_client_call k = true
+
+pub record CallsAlone (m : State) (fd c : ℕ) (x : Client) (k : Call) : Type 0 where
+  pub kind : is_client_call k ≡ true
+  -- it gives up an aggregate only that the client uses
+  pub aggs : (a : ℕ) → gives_up (event.Call server k) server a ≡ true → uses_agg x a ≡ true
+  -- it closes, moves or gives away a descriptor only that it has, or its connection's own
+  pub fds : (g : ℕ) → touches_fd m (event.Call server k) server g ≡ true → (has_fd x g ≡ true) ⊎ (fd ≡ g)
+  pub conns : (d : ℕ) → touches_conn m (event.Call server k) d ≡ true → c ≡ d
+  pub pipes : (p : ℕ) → touches_pipe m (event.Call server k) p ≡ true → MayTouchPipe m x.run p
+  pub files : changes_files m (event.Call server k) ≡ false
+
+-- ---- what follows of the kind
+
+pub kind-ends : (k : Call) → is_client_call k ≡ true → ends (event.Call server k) server ≡ false
+kind-ends call.Exit is = absurd (cc (is))
+kind-ends k is = refl
+
+pub kind-default : (k : Call) → is_client_call k ≡ true → sets_default (event.Call server k) server ≡ false
+kind-default call.Exit is = absurd (cc (is))
+kind-default (call.SetPool p) is = absurd (cc (is))
+kind-default k is = refl
+
+pub kind-admits : (k : Call) (p : ℕ) → is_client_call k ≡ true → admits_to (event.Call server k) p ≡ false
+kind-admits (call.PoolAdmit q d) p is = absurd (cc (is))
+kind-admits k p is = refl
+
+-- ---- alone
+
+wants-kind : (fd : ℕ) (kept : List ℕ) (q : Answer) (d : Doing) → is_client_call (conn.wants fd (record { kept = kept; q = q; doing = d })) ≡ true
+wants-kind fd kept q (doing.Reads f) = by (is_head_only q)
+  where
+    by : (b : Bool) → is_client_call (if b then call.Length f else call.IolRead f most_read) ≡ true
+    by true = refl
+    by false = refl
+wants-kind fd kept q d = refl
+
+abbrev at : List ℕ → Answer → Doing → Conn
+at kept q d = record { kept = kept; q = q; doing = d }
+
+module _ (m : State) (fd c : ℕ) (script : List ℕ) (kept : List ℕ) (q : Answer) (due : List ℕ) (open_on : descriptor m server fd ≡ Some (on.Connection c)) where
+  plain : (d : Doing) → Has m q due d → CallsAlone m fd c (of (at kept q d) None script) (conn.wants fd (at kept q d))
+  plain d has = record {
+    kind = wants-kind fd kept q d;
+    aggs = λ a u. gives-wants fd kept q d a u;
+    fds = λ g u. fds-wants m fd c kept q d g open_on u;
+    conns = λ e u. conns-wants m fd c kept q due d e open_on has u;
+    pipes = λ p u. absurd (clash (touches_pipe m (event.Call server (conn.wants fd (at kept q d))) p) u (pipes-wants m fd c kept q due d p open_on has));
+    files = files-wants m fd c kept q d open_on;
+  }
+
+  left-of : (a b : Bool) → (a && b) ≡ true → a ≡ true
+  left-of true b u = refl
+  left-of false b u = absurd (cc (u))
+
+  -- a script is read whole, for HEAD too
+  reads : (f : ℕ) → Has m q due (doing.Reads f) → CallsAlone m fd c (of (at kept q (doing.Reads f)) None script) (call.IolRead f most_read)
+  reads f has = record {
+    kind = refl;
+    aggs = λ a u. absurd (cc (u));
+    fds = λ g u. inl (left-of (f == g) (is_file (descriptor m server f)) u);
+    conns = λ e u. absurd (let b = sym (ap (λ (x : Option Descriptor). list_any (is_conn e) (x ∷ []) || false) has.1.2) ∙ u in cc (b));
+    pipes = λ p u. absurd (let b = sym (ap (λ (x : Option Descriptor). list_any (is_end p) (x ∷ []) || false) has.1.2) ∙ u in cc (b));
+    files = refl;
+  }
+
+  scripted : (b : Bool) (d : Doing) → Has m q due d → CallsAlone m fd c (of (at kept q d) None script) (conn_wants b fd (at kept q d))
+  scripted false d has = plain d has
+  scripted true (doing.Reads f) has = reads f has
+  scripted true d has = plain d has
+
+-- ---- with a run
+
+kind-of : (k : Call) → may_make k ≡ true → is_client_call k ≡ true
+kind-of call.Exit is = absurd (cc (is))
+kind-of (call.SetPool p) is = absurd (cc (is))
+kind-of (call.PoolAdmit p d) is = absurd (cc (is))
+kind-of (call.AggSplit a at) is = absurd (cc (is))
+kind-of (call.AggGive a to) is = absurd (cc (is))
+kind-of (call.FileNew name p) is = absurd (cc (is))
+kind-of k is = refl
+
+of-run : (m : State) (fd c : ℕ) (conn : Conn) (script : List ℕ) (y : Running) (k : Call) → KeepsToItself m fd c y k → CallsAlone m fd c (of conn (Some y) script) k
+of-run m fd c conn script y k alone = record {
+  kind = kind-of k alone.kind;
+  aggs = alone.aggs;
+  fds = λ g u. inl (alone.fds g u);
+  conns = λ d u. (alone.conns d u).0;
+  pipes = alone.pipes;
+  files = alone.files;
+}
+
+module _ (shelf : Shelf) (crew : Crew) (laws : AllLaws crew) (m : State) (came sent : List ℕ) (fd c : ℕ) (seats : List (Seat crew.Worker)) where
+  -- the server's descriptor is open on its connection
+  pub opens-on : (conn : Conn) (run : Option Running) (script : List ℕ) → Fits shelf crew m came sent fd c (of conn run script) seats
+      → descriptor m server fd ≡ Some (on.Connection c)
+  opens-on conn None script f = f.open_on
+  opens-on conn (Some y) script f = f.open_on
+
+  pub calls-alone : (conn : Conn) (run : Option Running) (script : List ℕ) → Fits shelf crew m came sent fd c (of conn run script) seats
+      → CallsAlone m fd c (of conn run script) (wants shelf.scripts fd (of conn run script))
+  calls-alone conn None script f = scripted m fd c script conn.kept conn.q (due_in shelf conn.q conn.doing) f.open_on (is_for_script shelf.scripts conn.q) conn.doing f.has
+  calls-alone conn (Some y) script f =
+      subst (λ (k : Call). CallsAlone m fd c (of conn (Some y) script) k) (sym (wants-run shelf.scripts fd conn (Some y) script f.script.text y f.wanted refl f.script.asks f.kept))
+      (of-run m fd c conn script y (running.wants (job_of f.wanted f.script.text) fd f.wanted y)
+      ((laws.run_keeps (job_of f.wanted f.script.text)).alone m fd c f.wanted y f.so_far f.open_on f.ongoing f.has))
+
+  -- what it uses is there
+  pub there-agg : (conn : Conn) (run : Option Running) (script : List ℕ) (a : ℕ) → Fits shelf crew m came sent fd c (of conn run script) seats
+      → uses_agg (of conn run script) a ≡ true → IsLent m a
+  there-agg conn None script a f u = has-agg m conn.q (due_in shelf conn.q conn.doing) conn.doing a u f.has
+  there-agg conn (Some y) script a f u = run-there m a (job_of f.wanted f.script.text) f.wanted f.so_far y u f.has
+
+  -- and what it has: a file, or an end of a pipe
+  pub there-fd : (conn : Conn) (run : Option Running) (script : List ℕ) (g : ℕ) → Fits shelf crew m came sent fd c (of conn run script) seats
+      → has_fd (of conn run script) g ≡ true
+      → ((i : ℕ) × (pos : ℕ) × (descriptor m server g ≡ Some (on.File i pos modes.Read))) ⊎ IsEnd m g
+  there-fd conn None script g f u = inl (has-fd m conn.q (due_in shelf conn.q conn.doing) conn.doing g u f.has)
+  there-fd conn (Some y) script g f u = inr (run-end m g (job_of f.wanted f.script.text) f.wanted f.so_far y u f.has)

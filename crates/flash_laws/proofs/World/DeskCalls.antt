@@ -1,0 +1,155 @@
+-- The server's own call, and what it leaves of a worker: its pipes stay, its files, and what it has.
+use Rattle.std.proofs.Common.{◌≡◌, ℕ, List, [], ◌∷◌, ap, ◌∙◌, refl, sym, subst, arith, Some, true, false, slice_get}
+use Rattle.std.specs.Prelude.{◌==◌, ◌||◌}
+use Rattle.std.specs.List.{list_any}
+use Rattle.iol_core.specs.State.{State, descriptor, pipe_at}
+use Rattle.iol_core.specs.Run.{StepsTo}
+use Rattle.iol_core.specs.declared.descriptors.Descriptor.{Descriptor}
+use Rattle.iol_core.specs.declared.descriptors.Descriptor.TheVariants as on
+use Rattle.iol_core.specs.declared.events.Call.{Call}
+use Rattle.iol_core.specs.declared.events.Call.TheVariants as call
+use Rattle.iol_core.specs.declared.events.Event.TheVariants as event
+use Rattle.iol_core.specs.declared.events.Reply.{Reply}
+use Rattle.iol_laws.specs.Frame.{Leaves, touches_fd, touches_pipe, is_end, changes_files, admits_to}
+use Rattle.iol_laws.specs.Order.{IsOrderly}
+use Rattle.iol_proc.specs.declared.seat.Seat.{Seat}
+use Rattle.flash_cgi.specs.Beside.{is_call_of, LeavesFiles, LeavesWorker}
+use Rattle.flash_laws.specs.Crew.{Crew, IsFixedFor}
+use Rattle.flash_laws.specs.RunFits.{Progress}
+use Rattle.flash_laws.specs.RunKeeping.{may_make, KeepsToItself}
+use Rattle.flash_laws.specs.Running.{worker_domain}
+use Rattle.flash_laws.specs.Served.{AreAtDesks}
+use Rattle.flash_laws.specs.Shelf.{Shelf}
+use Rattle.flash_laws.specs.Site.{server}
+use Rattle.flash_laws.specs.Stages.{IsReadyFor, IsGiven, IsPuttingOut, HasPutOut, IsToCome}
+use Rattle.flash_laws.specs.declared.running.Run.{Run}
+use Rattle.flash_laws.specs.declared.running.Running.{Running}
+use Rattle.flash_laws.proofs.Lists.{not-equal}
+use Rattle.flash_laws.proofs.RunParts.{no-position}
+use Rattle.flash_laws.proofs.World.AllLaws.{AllLaws}
+
+-- ---- calls that touch no pipe, and move no descriptor
+
+-- those on aggregates, and a write to the client's connection
+abbrev pub Quiet : (fd : ℕ) → Call → Type 0
+Quiet fd (call.AggMake bytes) = Unit {0}
+Quiet fd (call.AggCut a from to) = Unit {0}
+Quiet fd (call.AggJoin a b) = Unit {0}
+Quiet fd (call.AggReplace a from to b) = Unit {0}
+Quiet fd (call.AggDrop a) = Unit {0}
+Quiet fd (call.IolWrite g a) = g ≡ fd
+Quiet fd k = ⊥
+
+-- all pipes stay, and what the server has open
+pub record Still (m n : State) : Type 0 where
+  pub pipes : (p : ℕ) → pipe_at n p ≡ pipe_at m p
+  pub fds : (g : ℕ) (x : Descriptor) → descriptor m server g ≡ Some x → descriptor n server g ≡ Some x
+
+module _ (m : State) (fd c : ℕ) (open_on : descriptor m server fd ≡ Some (on.Connection c)) where
+  at_conn : (g : ℕ) → g ≡ fd → descriptor m server g ≡ Some (on.Connection c)
+  at_conn g same = ap (λ z. descriptor m server z) same ∙ open_on
+
+  untouched : (k : Call) → Quiet fd k → (p : ℕ) → touches_pipe m (event.Call server k) p ≡ false
+  untouched (call.AggMake bytes) quiet p = refl
+  untouched (call.AggCut a from to) quiet p = refl
+  untouched (call.AggJoin a b) quiet p = refl
+  untouched (call.AggReplace a from to b) quiet p = refl
+  untouched (call.AggDrop a) quiet p = refl
+  untouched (call.IolWrite g a) quiet p = ap (λ o. list_any (is_end p) (o ∷ []) || false) (at_conn g quiet)
+  untouched k quiet p = absurd quiet
+
+  unmoved : (k : Call) → Quiet fd k → (g : ℕ) → touches_fd m (event.Call server k) server g ≡ false
+  unmoved (call.AggMake bytes) quiet g = refl
+  unmoved (call.AggCut a from to) quiet g = refl
+  unmoved (call.AggJoin a b) quiet g = refl
+  unmoved (call.AggReplace a from to b) quiet g = refl
+  unmoved (call.AggDrop a) quiet g = refl
+  unmoved (call.IolWrite f a) quiet g = no-position m f g (on.Connection c) (at_conn f quiet) refl
+  unmoved k quiet g = absurd quiet
+
+  pub still : (n : State) (k : Call) → Leaves m (event.Call server k) n → Quiet fd k → Still m n
+  still n k leaves quiet = record {
+    pipes = λ p. leaves.pipes p (untouched k quiet p);
+    fds = λ g x is. leaves.fds server g x is (unmoved k quiet g);
+  }
+
+-- ---- the calls of a run
+
+no_admit : (k : Call) (q : ℕ) → may_make k ≡ true → admits_to (event.Call server k) q ≡ false
+no_admit (call.PoolAdmit p d) q may = absurd (cc (may))
+no_admit k q may = refl
+
+-- a call of the server that makes and writes no file, and admits nobody
+pub record OwnCall (shelf : Shelf) (crew : Crew) (m n : State) (k : Call) (r : Reply) (seats : List (Seat crew.Worker)) : Type 0 where
+  pub order : IsOrderly m
+  pub fixed : IsFixedFor shelf crew m
+  pub desks : AreAtDesks crew m seats
+  pub step : StepsTo m (event.Call server k) r n
+  pub files : changes_files m (event.Call server k) ≡ false
+  pub admits : (q : ℕ) → admits_to (event.Call server k) q ≡ false
+
+pub own_call : (shelf : Shelf) (crew : Crew) (m n : State) (fd c : ℕ) (y : Running) (k : Call) (r : Reply) (seats : List (Seat crew.Worker)) → IsOrderly m
+    → IsFixedFor shelf crew m → AreAtDesks crew m seats → StepsTo m (event.Call server k) r n → KeepsToItself m fd c y k → OwnCall shelf crew m n k r seats
+own_call shelf crew m n fd c y k r seats order fixed desks step keeps = record {
+  order = order;
+  fixed = fixed;
+  desks = desks;
+  step = step;
+  files = keeps.files;
+  admits = λ q. no_admit k q keeps.kind;
+}
+
+no_worker : (worker : ℕ) → (server == worker_domain worker) ≡ false
+no_worker worker = not-equal server (worker_domain worker) (λ e. omega (arith, e))
+
+module _ (shelf : Shelf) (crew : Crew) (laws : AllLaws crew) (m n : State) (k : Call) (r : Reply) (seats : List (Seat crew.Worker)) (h : OwnCall shelf crew m n k r seats) where
+  pub leaves : Leaves m (event.Call server k) n
+  leaves = laws.the.steps.leaves m n (event.Call server k) r h.step
+
+  module _ (worker : ℕ) (seat : Seat crew.Worker) (sits : slice_get seats worker ≡ Some seat) where
+    pub other : is_call_of (event.Call server k) seat.by ≡ false
+    other = subst (λ d. (server == d) ≡ false) (sym (h.desks.by worker seat sits).1) (no_worker worker)
+
+    pub own_things : LeavesWorker m seat.by n
+    own_things = laws.hear.leave m n seat.by (event.Call server k) r h.fixed.placed h.step other
+
+    pub own_files : LeavesFiles m seat.by n
+    own_files = laws.hear.files m n seat.by (event.Call server k) r h.fixed.files h.step h.files h.admits
+
+    -- a worker that is free stays so, where its desk's pipe does
+    pub free_on : pipe_at n (crew.desk worker) ≡ pipe_at m (crew.desk worker) → crew.Free m (crew.desk worker) seat → crew.Free n (crew.desk worker) seat
+    free_on same free = laws.workers.free_others m n (crew.desk worker) seat (event.Call server k) r h.fixed.placed h.step other same free
+
+  -- so does all that the worker of a run has
+  module _ (run : Run) (seat : Seat crew.Worker) (sits : slice_get seats run.worker ≡ Some seat) where
+    pub ready_on : ((p : ℕ) → pipe_at n p ≡ pipe_at m p) → (ready : IsReadyFor crew m seat run) → descriptor n server run.from ≡ Some (on.ReadEnd ready.has.pipe)
+        → IsReadyFor crew n seat run
+    ready_on stay ready reads = record {
+      free = free_on run.worker seat sits (stay (crew.desk run.worker)) ready.free;
+      has = record { pipe = ready.has.pipe; reads = reads; apart = ready.has.apart };
+      new = stay ready.has.pipe ∙ ready.new;
+    }
+
+    pub given_on : Still m n → (f : ℕ) → IsGiven crew m seat run f → IsGiven crew n seat run f
+    given_on stays f given = record {
+      ready = record {
+        free = free_on run.worker seat sits (stays.pipes (crew.desk run.worker)) given.ready.free;
+        has = record { pipe = given.ready.has.pipe; reads = stays.fds run.from (on.ReadEnd given.ready.has.pipe) given.ready.has.reads; apart = given.ready.has.apart };
+        new = stays.pipes given.ready.has.pipe ∙ given.ready.new;
+      };
+      writes = (own_things run.worker seat sits).fds f (on.WriteEnd given.ready.has.pipe) given.writes;
+    }
+
+    pub putting_on : Still m n → (output : List ℕ) (o after : Progress) → (was : IsPuttingOut crew m seat run output o) → IsToCome after output was.more
+        → IsPuttingOut crew n seat run output after
+    putting_on stays output o after was to_come = record {
+      has = record { pipe = was.has.pipe; reads = stays.fds run.from (on.ReadEnd was.has.pipe) was.has.reads; apart = was.has.apart };
+      more = was.more;
+      puts_out = laws.texts.left m n (crew.desk run.worker) was.has.pipe seat (event.Call server k) r was.more h.order h.fixed.placed h.step (other run.worker seat sits)
+          (own_files run.worker seat sits) (stays.pipes (crew.desk run.worker)) (stays.pipes was.has.pipe) was.puts_out;
+      to_come = to_come;
+    }
+
+    pub put_on : pipe_at n (crew.desk run.worker) ≡ pipe_at m (crew.desk run.worker) → (output : List ℕ) (o after : Progress) → after ≡ o
+        → HasPutOut crew m seat run output o → HasPutOut crew n seat run output after
+    put_on same output o after stays was = subst (λ (p : Progress). HasPutOut crew n seat run output p) (sym stays) (record { free = free_on run.worker seat sits same was.free; whole = was.whole })

@@ -1,0 +1,150 @@
+-- The server's own call for a client for which no script runs.
+use Rattle.std.proofs.Common.{inl, inr, ◌≡◌, ◌⊎◌, ◌+◌, ◌≤◌, ℕ, List, [], ◌∷◌, ◌++◌, length, take, drop, ap, ◌∙◌, refl, sym, subst, arith, Option, Some, None, true, false, append-nil}
+use Rattle.std.proofs.lemmas.List.{length-take}
+use Rattle.iol_core.specs.Text.{Text, bytes_of}
+use Rattle.iol_core.specs.State.{State, conn_at, is_gone}
+use Rattle.iol_core.specs.Run.{StepsTo}
+use Rattle.iol_core.specs.declared.events.Call.TheVariants as call
+use Rattle.iol_core.specs.declared.events.Event.TheVariants as event
+use Rattle.iol_core.specs.declared.events.Reply.{Reply}
+use Rattle.iol_core.specs.declared.events.Reply.TheVariants as reply
+use Rattle.iol_laws.specs.Caller.{is_rough}
+use Rattle.iol_laws.specs.Order.{IsOrderly}
+use Rattle.iol_proc.specs.declared.seat.Seat.{Seat}
+use Rattle.flash_http.specs.declared.windows.Window.{Window}
+use Rattle.flash_http.specs.declared.windows.Window.TheVariants.{Wait, Head, TooLarge}
+use Rattle.flash_http.specs.Window.{window_in, FitsIn}
+use Rattle.flash_http.specs.Request.{Answer, serve, refuse, IsAnswerTo}
+use Rattle.flash_laws.specs.Answers.{Next, NextIn, Reads}
+use Rattle.flash_laws.specs.Client.{Client, wants, Readies, IsAwaiting, is_for_script, told}
+use Rattle.flash_laws.specs.ClientFits.{IsProper, TieAlone, due_in, Finds, FitsAlone, Fits}
+use Rattle.flash_laws.specs.Conn as conn
+use Rattle.flash_laws.specs.Conn.{Conn, begins}
+use Rattle.flash_laws.specs.Crew.{Crew, IsFixedFor}
+use Rattle.flash_laws.specs.Fits.{Has, asked, quits, is_closing, Names}
+use Rattle.flash_laws.specs.Shelf.{Shelf, responses, Begins, IsAnswer}
+use Rattle.flash_laws.specs.Site.{server}
+use Rattle.flash_laws.specs.declared.doing.Doing.{Doing}
+use Rattle.flash_laws.specs.declared.doing.Doing.TheVariants as doing
+use Rattle.flash_laws.specs.declared.running.Running.{Running}
+use Rattle.flash_laws.proofs.Answering.{reads-more}
+use Rattle.flash_laws.proofs.World.AllLaws.{AllLaws}
+use Rattle.flash_laws.proofs.World.AlonePhases.{alone_phase}
+use Rattle.flash_laws.proofs.World.AloneTies.{alone, part_of}
+use Rattle.flash_laws.proofs.World.Answering.{begins-append, begins-tie, finished-whole}
+
+abbrev with_run : Client → Option Running → Client
+with_run x run = record { conn = x.conn; run = run; script = x.script }
+
+module _ (shelf : Shelf) (crew : Crew) (laws : AllLaws crew) where
+  -- any call of it but the last: it goes on alone, or its script begins to run
+  pub alone_step : (m n : State) (came sent : List ℕ) (fd c worker : ℕ) (x : Client) (r : Reply) (heard : List ℕ)
+      (seats : List (Seat crew.Worker)) → IsOrderly m → IsFixedFor shelf crew m → x.run ≡ None
+      → FitsAlone shelf m came sent fd c x → IsAwaiting x → is_closing x.conn.doing ≡ false → is_rough r ≡ false
+      → StepsTo m (event.Call server (wants shelf.scripts fd x)) r n → Names n r heard
+      → Fits shelf crew n came sent fd c (told shelf.scripts worker x r heard) seats
+  alone_step m n came sent fd c worker x r heard seats order fixed none f waits busy calm step names = by x.run none f waits step
+    where
+      by : (run : Option Running) → run ≡ None → FitsAlone shelf m came sent fd c (with_run x run) → IsAwaiting (with_run x run)
+          → StepsTo m (event.Call server (wants shelf.scripts fd (with_run x run))) r n
+          → Fits shelf crew n came sent fd c (told shelf.scripts worker (with_run x run) r heard) seats
+      by None none f waits step =
+          alone_phase shelf crew laws m n came sent fd c x.conn.kept x.script order seats (is_for_script shelf.scripts x.conn.q) x.conn.q x.conn.doing r heard refl fixed.site f waits busy calm step names
+      by (Some y) none f waits step = absurd (cc (none))
+
+  -- the next request of a stream is proper
+  next_proper : (s : List ℕ) (q : Answer) (rest : List ℕ) → Next s q rest → IsProper q
+  next_proper s q rest next = by (window_in s) refl next
+    where
+      of_head : (skip len : ℕ) (q : Answer) → skip + len ≤ 8192 → IsAnswerTo (take len (drop skip s)) q → IsProper q
+      of_head skip len (serve w) short is =
+          let fits = laws.queries (take len (drop skip s)) w is in
+          let taken = length-take len (drop skip s) in
+          (omega (arith, short, fits, taken), laws.closes (take len (drop skip s)) w is)
+      of_head skip len (refuse status head_only close) short is = tt
+
+      by : (w : Window) → window_in s ≡ w → NextIn w s q rest → IsProper q
+      by Wait is next = absurd next
+      by (Head skip len) is next =
+          let fits : FitsIn (length s) (Head skip len) = subst (λ (w : Window). FitsIn (length s) w) is (laws.the.windows.fit s) in
+          of_head skip len q fits.2 next.0
+      by TooLarge is next = subst (λ (p : Answer). IsProper p) (sym next.0) tt
+
+  -- one that is made ready: with nothing in progress the first request that is kept begins
+  pub alone_readies : (m : State) (came sent : List ℕ) (fd c : ℕ) (x y : Client) → x.run ≡ None
+      → FitsAlone shelf m came sent fd c x → Readies x y → (y.run ≡ None) × FitsAlone shelf m came sent fd c y
+  alone_readies m came sent fd c x y none f ready = by x.run none f ready
+    where
+      begun : (p : Answer)
+          → Has m p (due_in shelf p (begins p)) (begins p) × Finds shelf m p x.script (begins p) × (asked p (begins p) ≡ p ∷ [])
+          × (part_of shelf p (begins p) ≡ []) × (quits (begins p) ≡ false)
+      begun (serve w) = (tt, tt, refl, refl, refl)
+      begun (refuse status head_only close) = (refl, tt, refl, refl, refl)
+
+      -- a request begins
+      starts : (q : Answer) (p : Answer) (rest : List ℕ) → FitsAlone shelf m came sent fd c (alone x.conn.kept x.script q doing.Rests)
+          → Next x.conn.kept p rest → FitsAlone shelf m came sent fd c (alone rest x.script p (begins p))
+      starts q p rest f next =
+          let b = begun p in
+          record {
+            open_on = f.open_on;
+            took = f.took;
+            came_is = f.came_is;
+            tie = ties f.tie;
+            has = b.0;
+            finds = b.1;
+            proper = next_proper x.conn.kept p rest next;
+          }
+        where
+          ties : TieAlone shelf (conn_at m c) f.took sent (alone x.conn.kept x.script q doing.Rests) → TieAlone shelf (conn_at m c) f.took sent (alone rest x.script p (begins p))
+          ties (inl owes) = inl (
+            (begun p).4,
+            record {
+              done = owes.1.done;
+              open_yet = owes.1.open_yet;
+              reads = subst (λ (l : List Answer). Reads f.took (owes.1.done ++ l) rest) (sym (begun p).2) (reads-more f.took owes.1.done x.conn.kept p rest (subst (λ (l : List Answer). Reads f.took l x.conn.kept) (append-nil owes.1.done) owes.1.reads) next);
+              out_is = owes.1.out_is ∙ ap (λ (l : List ℕ). responses shelf owes.1.done ++ l) (sym (begun p).3);
+            },
+          )
+          ties (inr (inl finished)) = absurd (let bad = finished.quits in cc (bad))
+          ties (inr (inr gone)) = inr (inr gone)
+
+      readied : (q : Answer) (d : Doing) (z : Conn) → FitsAlone shelf m came sent fd c (alone x.conn.kept x.script q d)
+          → conn.Readies (record { kept = x.conn.kept; q = q; doing = d }) z
+          → FitsAlone shelf m came sent fd c (record { conn = z; run = None; script = x.script })
+      readied q doing.Rests z f (inl waits) = subst (λ (u : Conn). FitsAlone shelf m came sent fd c (record { conn = u; run = None; script = x.script })) (sym waits.1) f
+      readied q doing.Rests z f (inr some) =
+          subst (λ (u : Conn). FitsAlone shelf m came sent fd c (record { conn = u; run = None; script = x.script })) (sym some.3) (starts q some.0 some.1 f some.2)
+      readied q d z f ready = subst (λ (u : Conn). FitsAlone shelf m came sent fd c (record { conn = u; run = None; script = x.script })) (sym ready) f
+
+      by : (run : Option Running) → run ≡ None → FitsAlone shelf m came sent fd c (with_run x run) → Readies (with_run x run) y
+          → (y.run ≡ None) × FitsAlone shelf m came sent fd c y
+      by None none f ready = (
+        ap (λ (z : Client). z.run) ready.2,
+        subst (λ (z : Client). FitsAlone shelf m came sent fd c z) (sym ready.2) (readied x.conn.q x.conn.doing ready.0 f ready.1),
+      )
+      by (Some z) none f ready = absurd (cc (none))
+
+  -- a connection that is closed keeps what was sent, which begins the answer, and is all of it unless the peer left before
+  pub alone_closes : (m n : State) (came sent : List ℕ) (fd c : ℕ) (x : Client) → IsOrderly m → x.conn.doing ≡ doing.Closes
+      → FitsAlone shelf m came sent fd c x → StepsTo m (event.Call server (call.Close fd)) reply.Done n
+      → ((conn_at n c).closed ≡ true) × Begins shelf came (sent ++ bytes_of (conn_at n c).outgoing)
+      × ((is_gone (conn_at m c).peer ≡ true) ⊎ IsAnswer shelf came (sent ++ bytes_of (conn_at n c).outgoing))
+  alone_closes m n came sent fd c x order closing f step =
+      let did = laws.the.own.closes_conn m n server fd c reply.Done order f.open_on step in
+      let begun = begins-append laws.the.windows shelf f.took (bytes_of (conn_at m c).incoming) (sent ++ bytes_of (conn_at m c).outgoing) (begins-tie shelf (conn_at m c) f.took sent x f.tie) in (
+        did.0,
+        subst (λ (l : List ℕ). Begins shelf l (sent ++ bytes_of (conn_at n c).outgoing)) (sym f.came_is) (subst (λ (t : Text). Begins shelf (f.took ++ bytes_of (conn_at m c).incoming) (sent ++ bytes_of t)) (sym did.1) begun),
+        whole did.1 f.tie,
+      )
+    where
+      quitting : quits x.conn.doing ≡ true
+      quitting = ap (λ (d : Doing). quits d) closing
+
+      whole : (conn_at n c).outgoing ≡ (conn_at m c).outgoing
+          → TieAlone shelf (conn_at m c) f.took sent x
+          → (is_gone (conn_at m c).peer ≡ true) ⊎ IsAnswer shelf came (sent ++ bytes_of (conn_at n c).outgoing)
+      whole out (inl owes) = absurd (let bad = owes.0 in let quit = quitting in cc (bad, quit))
+      whole out (inr (inl finished)) = inr (subst (λ (l : List ℕ). IsAnswer shelf l (sent ++ bytes_of (conn_at n c).outgoing)) (sym f.came_is)
+          (subst (λ (t : Text). IsAnswer shelf (f.took ++ bytes_of (conn_at m c).incoming) (sent ++ bytes_of t)) (sym out) (finished-whole laws.the.windows shelf (conn_at m c) f.took (sent ++ bytes_of (conn_at m c).outgoing) finished.finished)))
+      whole out (inr (inr gone)) = inl gone.gone

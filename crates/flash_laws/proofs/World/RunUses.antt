@@ -1,0 +1,408 @@
+-- What a run uses: what it had before, or what the reply brought; and that it is there.
+use Rattle.std.proofs.Common.{inl, inr, ◌≡◌, ◌⊎◌, ℕ, ◌==◌, List, [], ◌∷◌, ap, ◌∙◌, refl, sym, Option, Some, None, true, false, Bool, if◌then◌else◌}
+use Rattle.std.specs.Prelude.{◌||◌, ◌&&◌, nat_lt}
+use Rattle.iol_core.specs.State.{State, descriptor}
+use Rattle.iol_core.specs.declared.descriptors.Descriptor.TheVariants as on
+use Rattle.iol_core.specs.declared.refusals.Refusal.TheVariants as no
+use Rattle.iol_core.specs.declared.events.Reply.{Reply}
+use Rattle.iol_core.specs.declared.events.Reply.TheVariants as reply
+use Rattle.iol_laws.specs.Caller.{lent_at, is_agg}
+use Rattle.flash_http.specs.Request.{serve, Wanted}
+use Rattle.flash_laws.specs.Conn as conn
+use Rattle.flash_laws.specs.Conn.{Following, has_followed, count_of}
+use Rattle.flash_laws.specs.Fits.{IsLent}
+use Rattle.flash_laws.specs.RunFits.{Progress, HasStep, HasRun, HasLeft, HasFrame, IsHeld, HasOutput, HasPart}
+use Rattle.flash_laws.specs.RunKeeping.{has_end}
+use Rattle.flash_laws.specs.Running.{has_frame, step_agg, ends_of, is_reading, step_fd, uses_agg, is_again, told_sending, holding, filled, hearing, told_hears, both, finishing, told_step, told}
+use Rattle.flash_laws.specs.Site.{server}
+use Rattle.flash_laws.specs.declared.doing.Doing.{Doing}
+use Rattle.flash_laws.specs.declared.doing.Doing.TheVariants as doing
+use Rattle.flash_laws.specs.declared.running.TheConstants.{CHUNK_BYTES}
+use Rattle.flash_laws.specs.declared.running.Run.{Run}
+use Rattle.flash_laws.specs.declared.running.Step.{Step}
+use Rattle.flash_laws.specs.declared.running.Step.TheVariants.{Gives, Makes, Hands, Lets, Heads, Sending, Hears, Spills, Gathers, Frames, Wraps, Trims, Ended, Unholds, Stops, Unframes, Lasts, WrapsLast, TrimsLast, Unwraps, Returns, Lapses, Fails}
+use Rattle.flash_laws.specs.declared.running.Running.{Running}
+use Rattle.flash_laws.specs.declared.running.Running.TheVariants.{Awaits, Runs, Leaves, Closes}
+use Rattle.flash_laws.proofs.Lists.{later_of}
+use Rattle.flash_laws.proofs.RunKeeping.{first}
+use Rattle.flash_laws.proofs.Uses.{same-number, uses-told, has-agg, one-of}
+
+bare : (a : Bool) → (a || false) ≡ true → a ≡ true
+bare true u = refl
+bare false u = u
+
+-- it was used, or is new
+abbrev New : Reply → (a : ℕ) → (was : Bool) → Type 0
+New r a was = (was ≡ true) ⊎ (is_agg r a ≡ true)
+
+module _ (worker : ℕ) (w : Wanted) (run : Run) (a : ℕ) where
+  abbrev UsesNew : Step → Reply → Running → Type 0
+  UsesNew s r z = uses_agg z a ≡ true → New r a (step_agg s a)
+
+  part-new : (d : Doing) (frame : Option ℕ) (r : Reply) (after : Doing)
+      → (conn.uses_agg after a ≡ true → (conn.uses_agg d a ≡ true) ⊎ (is_agg r a ≡ true))
+      → (conn.uses_agg after a || has_frame frame a) ≡ true → New r a (conn.uses_agg d a || has_frame frame a)
+  part-new d frame r after new u = elim (one-of (conn.uses_agg after a) (has_frame frame a) u) [
+    | inl is ↦ elim (new is) [ inl old ↦ inl (first (conn.uses_agg d a) (has_frame frame a) old) | inr made ↦ inr made ]
+    | inr is ↦ inl (later_of (conn.uses_agg d a) (has_frame frame a) is)
+  ]
+
+  sending-new : (d : Doing) (frame : Option ℕ) (r : Reply) → UsesNew (Sending d frame) r (told_sending run d frame r)
+  sending-new (doing.Sent b taken None) frame reply.Done u = inl (later_of ((b == a) || false) (has_frame frame a) u)
+  sending-new (doing.Drops b None) frame reply.Done u = inl (later_of ((b == a) || false) (has_frame frame a) u)
+  sending-new (doing.Sends b len taken more) frame r u = part-new (doing.Sends b len taken more) frame r (conn.told_sends b len taken more r) (uses-told [] (serve w) (doing.Sends b len taken more) r [] a) u
+  sending-new (doing.Cuts b from len taken more) frame r u = part-new (doing.Cuts b from len taken more) frame r (conn.told_cuts b from len taken more r) (uses-told [] (serve w) (doing.Cuts b from len taken more) r [] a) u
+  sending-new (doing.Offers b from len piece taken more) frame r u = part-new (doing.Offers b from len piece taken more) frame r (conn.told_offers b from len piece taken more r) (uses-told [] (serve w) (doing.Offers b from len piece taken more) r [] a) u
+  sending-new (doing.Swaps b from len piece taken more) frame r u = part-new (doing.Swaps b from len piece taken more) frame r (conn.told_swaps b from len piece taken more r) (uses-told [] (serve w) (doing.Swaps b from len piece taken more) r [] a) u
+  sending-new (doing.Breaks piece b more) frame r u = part-new (doing.Breaks piece b more) frame r (conn.told_breaks piece b more r) (uses-told [] (serve w) (doing.Breaks piece b more) r [] a) u
+  sending-new d frame r u = inl u
+
+  holding-new : (n size : ℕ) (frame : Option ℕ) (r : Reply) (was : Bool) → (n == a ≡ true → is_agg r a ≡ true) → (has_frame frame a ≡ true → was ≡ true)
+      → step_agg (holding n size frame) a ≡ true → New r a was
+  holding-new n size frame r was made old u = by (nat_lt size CHUNK_BYTES) u
+    where
+      set : (frame : Option ℕ) → (has_frame frame a ≡ true → was ≡ true) → step_agg (filled n frame) a ≡ true → New r a was
+      set None old u = inr (made u)
+      set (Some f) old u = elim (one-of (n == a) (f == a) u) [ inl is ↦ inr (made is) | inr is ↦ inl (old is) ]
+
+      by : (b : Bool) → step_agg (if b then Hears (Some (n, size)) frame else filled n frame) a ≡ true → New r a was
+      by true u = elim (one-of (n == a) (has_frame frame a) u) [ inl is ↦ inr (made is) | inr is ↦ inl (old is) ]
+      by false u = set frame old u
+
+  hearing-new : (c d : Bool) (held : Following) (frame : Option ℕ) (n len : ℕ) → step_agg (hearing c d held frame n len) a ≡ true
+      → New (reply.Agg n) a (has_followed held a || has_frame frame a)
+  hearing-new true d held frame n len u = elim (one-of (n == a) (has_frame frame a) u) [ inl is ↦ inr is | inr is ↦ inl (later_of (has_followed held a) (has_frame frame a) is) ]
+  hearing-new false false held frame n len u = elim (one-of ((n == a) || false) (has_frame frame a) u) [ inl is ↦ inr (bare (n == a) is) | inr is ↦ inl (later_of (has_followed held a) (has_frame frame a) is) ]
+  hearing-new false true None frame n len u = holding-new n len frame (reply.Agg n) (has_frame frame a) (λ is. is) (λ is. is) u
+  hearing-new false true (Some x) frame n len u = elim (one-of (x.0 == a) ((n == a) || has_frame frame a) u) [
+    | inl is ↦ inl (first (x.0 == a) (has_frame frame a) is)
+    | inr is ↦ elim (one-of (n == a) (has_frame frame a) is) [ inl made ↦ inr made | inr old ↦ inl (later_of (x.0 == a) (has_frame frame a) old) ]
+  ]
+
+  hears-new : (held : Following) (frame : Option ℕ) (r : Reply) (heard : List ℕ) → UsesNew (Hears held frame) r (told_hears w run held frame r heard)
+  hears-new held frame (reply.Agg n) [] u = elim (one-of (n == a) (has_followed held a || has_frame frame a) u) [ inl is ↦ inr is | inr is ↦ inl is ]
+  hears-new held frame (reply.Agg n) (b ∷ heard) u = hearing-new run.broken w.chunked held frame n (count_of (b ∷ heard)) u
+  hears-new None frame (reply.Refused (no.Denied p)) heard u = inl u
+  hears-new (Some x) frame (reply.Refused (no.Denied p)) heard u = inl u
+  hears-new held frame r heard u = inl u
+
+  finishing-new : (b c : Bool) (held : Following) → uses_agg (finishing b c run held) a ≡ true → has_followed held a ≡ true
+  finishing-new false true held u = u
+  finishing-new false false held u = absurd (cc (u))
+  finishing-new true c held u = absurd (cc (u))
+
+  step-new : (s : Step) (r : Reply) (heard : List ℕ) → UsesNew s r (told_step w run s r heard)
+  step-new (Gives write) (reply.Fd f) heard u = absurd (cc (u))
+  step-new (Gives write) (reply.Refused x) heard u = absurd (by (is_again x) u)
+    where
+      by : (b : Bool) → step_agg (if b then Gives write else Returns write) a ≡ true → ⊥
+      by true u = cc (u)
+      by false u = cc (u)
+  step-new (Gives write) r heard u = absurd (cc (u))
+  step-new (Makes f) (reply.Agg n) heard u = inr u
+  step-new (Makes f) r heard u = absurd (cc (u))
+  step-new (Hands j f) (reply.Count n) heard u = inl u
+  step-new (Hands j f) (reply.Refused x) heard u = inl (by (is_again x) u)
+    where
+      by : (b : Bool) → step_agg (if b then Hands j f else Lapses j) a ≡ true → (j == a) ≡ true
+      by true u = u
+      by false u = u
+  step-new (Hands j f) r heard u = inl u
+  step-new (Lets j) reply.Done heard u = absurd (cc (u))
+  step-new (Lets j) r heard u = inl u
+  step-new Heads (reply.Agg n) heard u = inr (bare (n == a) (bare ((n == a) || false) u))
+  step-new Heads r heard u = absurd (cc (u))
+  step-new (Sending d frame) r heard u = sending-new d frame r u
+  step-new (Hears held frame) r heard u = hears-new held frame r heard u
+  step-new (Spills b frame) reply.Done heard u = inl (later_of (b == a) (has_frame frame a) u)
+  step-new (Spills b frame) r heard u = inl u
+  step-new (Gathers held size piece len frame) (reply.Agg n) heard u = holding-new n (both size len) frame (reply.Agg n) ((held == a) || ((piece == a) || has_frame frame a)) (λ is. is)
+      (λ is. later_of (held == a) ((piece == a) || has_frame frame a) (later_of (piece == a) (has_frame frame a) is)) u
+  step-new (Gathers held size piece len frame) r heard u = inl u
+  step-new (Frames held) (reply.Agg n) heard u = elim (one-of (held == a) (n == a) u) [ inl is ↦ inl is | inr is ↦ inr is ]
+  step-new (Frames held) r heard u = inl u
+  step-new (Wraps held frame) (reply.Agg n) heard u = around (held == a) (n == a) (frame == a) u
+    where
+      around : (x y z : Bool) → (x || (y || z)) ≡ true → ((x || z) ≡ true) ⊎ (y ≡ true)
+      around true y z u = inl refl
+      around false true z u = inr refl
+      around false false z u = inl u
+  step-new (Wraps held frame) r heard u = inl u
+  step-new (Trims held chunk len frame) reply.Done heard u = inl (by (held == a) (chunk == a) (frame == a) u)
+    where
+      by : (x y z : Bool) → (((y || false) || z)) ≡ true → (x || (y || z)) ≡ true
+      by x true z u = later_of x true refl
+      by x false z u = later_of x z u
+  step-new (Trims held chunk len frame) r heard u = inl u
+  step-new (Ended b held frame) reply.Done heard u = inl (later_of (b == a) (has_followed held a || has_frame frame a) u)
+  step-new (Ended b held frame) r heard u = inl u
+  step-new (Unholds held frame) reply.Done heard u = inl (later_of (held == a) (has_frame frame a) u)
+  step-new (Unholds held frame) r heard u = inl u
+  step-new (Stops held None) reply.Done heard u = inl (first (has_followed held a) false (finishing-new run.broken w.chunked held u))
+  step-new (Stops held (Some f)) reply.Done heard u = inl (swap (f == a) (has_followed held a) u)
+    where
+      swap : (x y : Bool) → (x || y) ≡ true → (y || x) ≡ true
+      swap true y u = later_of y true refl
+      swap false y u = first y false u
+  step-new (Stops held frame) r heard u = inl u
+  step-new (Unframes f held) reply.Done heard u = inl (later_of (f == a) (has_followed held a) (finishing-new run.broken w.chunked held u))
+  step-new (Unframes f held) r heard u = inl u
+  step-new (Lasts None) (reply.Agg n) heard u = inr (bare (n == a) u)
+  step-new (Lasts (Some x)) (reply.Agg n) heard u = elim (one-of (x.0 == a) (n == a) u) [ inl is ↦ inl is | inr is ↦ inr is ]
+  step-new (Lasts held) r heard u = inl u
+  step-new (WrapsLast held size frame) (reply.Agg n) heard u = around (held == a) (n == a) (frame == a) u
+    where
+      around : (x y z : Bool) → (x || (y || z)) ≡ true → ((x || z) ≡ true) ⊎ (y ≡ true)
+      around true y z u = inl refl
+      around false true z u = inr refl
+      around false false z u = inl u
+  step-new (WrapsLast held size frame) r heard u = inl u
+  step-new (TrimsLast held chunk len frame) reply.Done heard u = inl (by (held == a) (chunk == a) (frame == a) u)
+    where
+      by : (x y z : Bool) → (z || y) ≡ true → (x || (y || z)) ≡ true
+      by x true z u = later_of x true refl
+      by x false z u = later_of x z (bare z u)
+  step-new (TrimsLast held chunk len frame) r heard u = inl u
+  step-new (Unwraps frame chunk len) reply.Done heard u = inl (later_of (frame == a) (chunk == a) (bare (chunk == a) u))
+  step-new (Unwraps frame chunk len) r heard u = inl u
+  step-new (Returns write) reply.Done heard u = absurd (cc (u))
+  step-new (Returns write) r heard u = absurd (cc (u))
+  step-new (Lapses j) reply.Done heard u = absurd (cc (u))
+  step-new (Lapses j) r heard u = inl u
+  step-new Fails reply.Done heard u = absurd (cc (u))
+  step-new Fails r heard u = absurd (cc (u))
+
+pub run-uses : (worker : ℕ) (w : Wanted) (y : Running) (r : Reply) (heard : List ℕ) (a : ℕ) → uses_agg (told worker w y r heard) a ≡ true
+    → New r a (uses_agg y a)
+run-uses worker w Awaits (reply.Fds from write) heard a u = absurd (cc (u))
+run-uses worker w Awaits r heard a u = absurd (cc (u))
+run-uses worker w (Runs run s) r heard a u = step-new worker w run a s r heard u
+run-uses worker w (Leaves d) r heard a u = uses-told [] (serve w) d r heard a u
+run-uses worker w Closes r heard a u = absurd (cc (u))
+
+-- ---- the ends of its pipe
+
+abbrev pub is_fds : Reply → (g : ℕ) → Bool
+is_fds (reply.Fds f h) g = (f == g) || (h == g)
+is_fds r g = false
+
+module _ (w : Wanted) (run : Run) (g : ℕ) where
+  abbrev Has : Step → Running → Type 0
+  Has s z = has_end z g ≡ true → ends_of run s g ≡ true
+
+  from-end : (f x : Bool) → ((f && x) || false) ≡ true → x ≡ true
+  from-end true x u = bare x u
+  from-end false x u = absurd (cc (u))
+
+  -- one that reads goes on to have what it reads from
+  on-reading : (s : Step) → is_reading s ≡ true → (run.from == g) ≡ true → ends_of run s g ≡ true
+  on-reading s reads is = first (is_reading s && (run.from == g)) (step_fd s g) (ap (λ b. b && (run.from == g)) reads ∙ is)
+
+  only-from : (s : Step) → ((h : ℕ) → step_fd s h ≡ false) → ends_of run s g ≡ true → (run.from == g) ≡ true
+  only-from s none u = from-end (is_reading s) (run.from == g) (ap (λ b. (is_reading s && (run.from == g)) || b) (sym (none g)) ∙ u)
+
+  holding-fd : (n size : ℕ) (frame : Option ℕ) (h : ℕ) → step_fd (holding n size frame) h ≡ false
+  holding-fd n size frame h = by (nat_lt size CHUNK_BYTES)
+    where
+      set : (frame : Option ℕ) → step_fd (filled n frame) h ≡ false
+      set None = refl
+      set (Some f) = refl
+
+      by : (b : Bool) → step_fd (if b then Hears (Some (n, size)) frame else filled n frame) h ≡ false
+      by true = refl
+      by false = set frame
+
+  hearing-fd : (c d : Bool) (held : Following) (frame : Option ℕ) (n len h : ℕ) → step_fd (hearing c d held frame n len) h ≡ false
+  hearing-fd true d held frame n len h = refl
+  hearing-fd false false held frame n len h = refl
+  hearing-fd false true None frame n len h = holding-fd n len frame h
+  hearing-fd false true (Some x) frame n len h = refl
+
+  sending-has : (d : Doing) (frame : Option ℕ) (r : Reply) → Has (Sending d frame) (told_sending run d frame r)
+  sending-has (doing.Sent b taken None) frame reply.Done u = u
+  sending-has (doing.Drops b None) frame reply.Done u = u
+  sending-has d frame r u = u
+
+  hears-has : (held : Following) (frame : Option ℕ) (r : Reply) (heard : List ℕ) → Has (Hears held frame) (told_hears w run held frame r heard)
+  hears-has held frame (reply.Agg n) [] u = u
+  hears-has held frame (reply.Agg n) (b ∷ heard) u = on-reading (Hears held frame) refl
+      (only-from (hearing run.broken w.chunked held frame n (count_of (b ∷ heard))) (hearing-fd run.broken w.chunked held frame n (count_of (b ∷ heard))) u)
+  hears-has None frame (reply.Refused (no.Denied p)) heard u = u
+  hears-has (Some x) frame (reply.Refused (no.Denied p)) heard u = u
+  hears-has held frame r heard u = u
+
+  finishing-has : (b c : Bool) (held : Following) → has_end (finishing b c run held) g ≡ true → ⊥
+  finishing-has false true held u = cc (u)
+  finishing-has false false held u = cc (u)
+  finishing-has true c held u = cc (u)
+
+  pub step-has : (s : Step) (r : Reply) (heard : List ℕ) → Has s (told_step w run s r heard)
+  step-has (Gives write) (reply.Fd f) heard u = on-reading (Gives write) refl (only-from (Makes f) (λ h. refl) u)
+  step-has (Gives write) (reply.Refused x) heard u = by (is_again x) u
+    where
+      by : (b : Bool) → ends_of run (if b then Gives write else Returns write) g ≡ true → ends_of run (Gives write) g ≡ true
+      by true u = u
+      by false u = u
+  step-has (Gives write) r heard u = u
+  step-has (Makes f) (reply.Agg n) heard u = u
+  step-has (Makes f) r heard u = u
+  step-has (Hands j f) (reply.Count n) heard u = u
+  step-has (Hands j f) (reply.Refused x) heard u = by (is_again x) u
+    where
+      by : (b : Bool) → ends_of run (if b then Hands j f else Lapses j) g ≡ true → ends_of run (Hands j f) g ≡ true
+      by true u = u
+      by false u = u
+  step-has (Hands j f) r heard u = u
+  step-has (Lets j) reply.Done heard u = u
+  step-has (Lets j) r heard u = u
+  step-has Heads (reply.Agg n) heard u = u
+  step-has Heads r heard u = u
+  step-has (Sending d frame) r heard u = sending-has d frame r u
+  step-has (Hears held frame) r heard u = hears-has held frame r heard u
+  step-has (Spills b frame) reply.Done heard u = u
+  step-has (Spills b frame) r heard u = u
+  step-has (Gathers held size piece len frame) (reply.Agg n) heard u = on-reading (Gathers held size piece len frame) refl (only-from (holding n (both size len) frame) (holding-fd n (both size len) frame) u)
+  step-has (Gathers held size piece len frame) r heard u = u
+  step-has (Frames held) (reply.Agg n) heard u = u
+  step-has (Frames held) r heard u = u
+  step-has (Wraps held frame) (reply.Agg n) heard u = u
+  step-has (Wraps held frame) r heard u = u
+  step-has (Trims held chunk len frame) reply.Done heard u = u
+  step-has (Trims held chunk len frame) r heard u = u
+  step-has (Ended b held frame) reply.Done heard u = u
+  step-has (Ended b held frame) r heard u = u
+  step-has (Unholds held frame) reply.Done heard u = u
+  step-has (Unholds held frame) r heard u = u
+  step-has (Stops held None) reply.Done heard u = absurd (finishing-has run.broken w.chunked held u)
+  step-has (Stops held (Some f)) reply.Done heard u = absurd (cc (u))
+  step-has (Stops held frame) r heard u = u
+  step-has (Unframes f held) reply.Done heard u = absurd (finishing-has run.broken w.chunked held u)
+  step-has (Unframes f held) r heard u = u
+  step-has (Lasts None) (reply.Agg n) heard u = absurd (cc (u))
+  step-has (Lasts (Some x)) (reply.Agg n) heard u = absurd (cc (u))
+  step-has (Lasts held) r heard u = u
+  step-has (WrapsLast held size frame) (reply.Agg n) heard u = u
+  step-has (WrapsLast held size frame) r heard u = u
+  step-has (TrimsLast held chunk len frame) reply.Done heard u = u
+  step-has (TrimsLast held chunk len frame) r heard u = u
+  step-has (Unwraps frame chunk len) reply.Done heard u = absurd (cc (u))
+  step-has (Unwraps frame chunk len) r heard u = u
+  step-has (Returns write) reply.Done heard u = on-reading (Returns write) refl (only-from Fails (λ h. refl) u)
+  step-has (Returns write) r heard u = u
+  step-has (Lapses j) reply.Done heard u = u
+  step-has (Lapses j) r heard u = u
+  step-has Fails reply.Done heard u = absurd (cc (u))
+  step-has Fails r heard u = u
+
+pub run-ends : (worker : ℕ) (w : Wanted) (y : Running) (r : Reply) (heard : List ℕ) (g : ℕ) → has_end (told worker w y r heard) g ≡ true
+    → (has_end y g ≡ true) ⊎ (is_fds r g ≡ true)
+run-ends worker w Awaits (reply.Fds from write) heard g u = inr u
+run-ends worker w Awaits r heard g u = absurd (cc (u))
+run-ends worker w (Runs run s) r heard g u = inl (step-has w run g s r heard u)
+run-ends worker w (Leaves d) r heard g u = absurd (cc (u))
+run-ends worker w Closes r heard g u = absurd (cc (u))
+
+-- ---- what it uses is there
+
+module _ (m : State) (a : ℕ) where
+  at : (b : ℕ) → (b == a) ≡ true → (bytes : List ℕ) → lent_at m server b ≡ Some bytes → IsLent m a
+  at b is bytes lent = (bytes, ap (λ n. lent_at m server n) (sym (same-number b a is)) ∙ lent)
+
+  two : (b : ℕ) (rest : Bool) → ((b == a) || rest) ≡ true → (bytes : List ℕ) → lent_at m server b ≡ Some bytes → (rest ≡ true → IsLent m a) → IsLent m a
+  two b rest u bytes lent other = elim (one-of (b == a) rest u) [ inl is ↦ at b is bytes lent | inr is ↦ other is ]
+
+  frame-there : (frame : Option ℕ) → has_frame frame a ≡ true → HasFrame m frame → IsLent m a
+  frame-there None u has = absurd (cc (u))
+  frame-there (Some f) u has = at f u _ has
+
+  held-there : (w : Wanted) (held : Following) (bytes : List ℕ) → has_followed held a ≡ true → IsHeld m w held bytes → IsLent m a
+  held-there w None bytes u has = absurd (cc (u))
+  held-there w (Some x) bytes u has = at x.0 u bytes has.lends
+
+  output-there : (w : Wanted) (held : Following) (frame : Option ℕ) (bytes : List ℕ) → (has_followed held a || has_frame frame a) ≡ true
+      → HasOutput m w held frame bytes → IsLent m a
+  output-there w held frame bytes u has = elim (one-of (has_followed held a) (has_frame frame a) u) [ inl is ↦ held-there w held bytes is has.holds | inr is ↦ frame-there frame is has.frames ]
+
+  part-there : (w : Wanted) (o : Progress) (run : Run) (d : Doing) (frame : Option ℕ) → (conn.uses_agg d a || has_frame frame a) ≡ true
+      → HasPart m w o run d frame → IsLent m a
+  part-there w o run d frame u has = elim (one-of (conn.uses_agg d a) (has_frame frame a) u) [ inl is ↦ has-agg m (serve w) has.part d a is has.has | inr is ↦ frame-there frame is has.frames ]
+
+  step-there : (job : ℕ → List ℕ) (w : Wanted) (o : Progress) (run : Run) (s : Step) → step_agg s a ≡ true → HasStep job m w o run s → IsLent m a
+  step-there job w o run (Hands j f) u has = at j u (job f) has.1
+  step-there job w o run (Lets j) u has = at j u has.1.0 has.1.1
+  step-there job w o run (Sending d frame) u has = part-there w o run d frame u has
+  step-there job w o run (Hears held frame) u has = output-there w held frame has.bytes u has.has
+  step-there job w o run (Spills b frame) u has = two b (has_frame frame a) u has.0.0.0 has.0.0.1 (λ is. frame-there frame is has.1.has.frames)
+  step-there job w o run (Gathers held size piece len frame) u has = two held ((piece == a) || has_frame frame a) u has.bytes has.has.holds.lends
+      (λ v. two piece (has_frame frame a) v has.more has.lends (λ is. frame-there frame is has.has.frames))
+  step-there job w o run (Frames held) u has = at held u has.bytes has.lends
+  step-there job w o run (Wraps held frame) u has = two held (frame == a) u has.0.bytes has.0.lends (λ is. at frame is _ has.1)
+  step-there job w o run (Trims held chunk len frame) u has = two held ((chunk == a) || (frame == a)) u has.0.0.0 has.0.0.1
+      (λ v. part-there w o run (doing.Sends chunk len 0 None) (Some frame) (widen (chunk == a) (frame == a) v) has.1)
+    where
+      widen : (x y : Bool) → (x || y) ≡ true → ((x || false) || y) ≡ true
+      widen true y v = refl
+      widen false y v = v
+  step-there job w o run (Ended b held frame) u has = two b (has_followed held a || has_frame frame a) u has.0.0.0 has.0.0.1 (λ v. output-there w held frame has.2.bytes v has.2.has)
+  step-there job w o run (Unholds held frame) u has = two held (has_frame frame a) u has.0.0.0 has.0.0.1 (λ is. frame-there frame is has.2.has.frames)
+  step-there job w o run (Stops held frame) u has = output-there w held frame has.1.bytes u has.1.has
+  step-there job w o run (Unframes f held) u has = elim (one-of (f == a) (has_followed held a) u) [ inl is ↦ at f is _ has.has.frames | inr is ↦ held-there w held has.bytes is has.has.holds ]
+  step-there job w o run (Lasts held) u has = held-there w held has.2.bytes u has.2.has.holds
+  step-there job w o run (WrapsLast held size frame) u has = two held (frame == a) u has.bytes has.holds.lends (λ is. at frame is _ has.frames)
+  step-there job w o run (TrimsLast held chunk len frame) u has = two held ((chunk == a) || (frame == a)) u has.0.0.0 has.0.0.1
+      (λ v. two chunk (frame == a) v has.2.bytes has.2.lends (λ is. at frame is has.1.0.0 has.1.0.1))
+  step-there job w o run (Unwraps frame chunk len) u has = two frame (chunk == a) u has.0.0.0 has.0.0.1 (λ is. at chunk is has.1.bytes has.1.lends)
+  step-there job w o run (Lapses j) u has = at j u has.1.0 has.1.1
+  step-there job w o run s u has = absurd (cc (u))
+
+  left-there : (w : Wanted) (o : Progress) (d : Doing) → conn.uses_agg d a ≡ true → HasLeft m w o d → IsLent m a
+  left-there w o doing.Rests u has = absurd (cc (u))
+  left-there w o doing.Closes u has = absurd (cc (u))
+  left-there w o d u has = has-agg m (serve w) has.due d a u has.has
+
+  pub run-there : (job : ℕ → List ℕ) (w : Wanted) (o : Progress) (y : Running) → uses_agg y a ≡ true → HasRun job m w o y → IsLent m a
+  run-there job w o Awaits u has = absurd (cc (u))
+  run-there job w o (Runs run s) u has = step-there job w o run s u has.1
+  run-there job w o (Leaves d) u has = left-there w o d u has
+  run-there job w o Closes u has = absurd (cc (u))
+
+-- an end of a pipe
+abbrev pub IsEnd : State → (g : ℕ) → Type 0
+IsEnd m g = (p : ℕ) × ((descriptor m server g ≡ Some (on.ReadEnd p)) ⊎ (descriptor m server g ≡ Some (on.WriteEnd p)))
+
+module _ (m : State) (g : ℕ) where
+  read-there : (f p : ℕ) → (f == g) ≡ true → descriptor m server f ≡ Some (on.ReadEnd p) → IsEnd m g
+  read-there f p is there = (p, inl (ap (λ n. descriptor m server n) (sym (same-number f g is)) ∙ there))
+
+  write-there : (f p : ℕ) → (f == g) ≡ true → descriptor m server f ≡ Some (on.WriteEnd p) → IsEnd m g
+  write-there f p is there = (p, inr (ap (λ n. descriptor m server n) (sym (same-number f g is)) ∙ there))
+
+  of-one : (x : Bool) → ((true && x) || false) ≡ true → x ≡ true
+  of-one x u = bare x u
+
+  step-end : (job : ℕ → List ℕ) (w : Wanted) (o : Progress) (run : Run) (s : Step) → ends_of run s g ≡ true → HasStep job m w o run s → IsEnd m g
+  step-end job w o run (Gives write) u has = elim (one-of (run.from == g) (write == g) u) [ inl is ↦ read-there run.from has.0.pipe is has.0.read_end | inr is ↦ write-there write has.0.pipe is has.0.write_end ]
+  step-end job w o run (Returns write) u has = elim (one-of (run.from == g) (write == g) u) [ inl is ↦ read-there run.from has.0.pipe is has.0.read_end | inr is ↦ write-there write has.0.pipe is has.0.write_end ]
+  step-end job w o run (Makes f) u has = read-there run.from has.0.0 (of-one (run.from == g) u) has.0.1
+  step-end job w o run (Hands j f) u has = read-there run.from has.0.0 (of-one (run.from == g) u) has.0.1
+  step-end job w o run (Lets j) u has = read-there run.from has.0.0 (of-one (run.from == g) u) has.0.1
+  step-end job w o run Heads u has = read-there run.from has.0.0 (of-one (run.from == g) u) has.0.1
+  step-end job w o run (Sending d frame) u has = read-there run.from has.reads.0 (of-one (run.from == g) u) has.reads.1
+  step-end job w o run (Hears held frame) u has = read-there run.from has.reads.0 (of-one (run.from == g) u) has.reads.1
+  step-end job w o run (Spills b frame) u has = read-there run.from has.1.reads.0 (of-one (run.from == g) u) has.1.reads.1
+  step-end job w o run (Gathers held size piece len frame) u has = read-there run.from has.reads.0 (of-one (run.from == g) u) has.reads.1
+  step-end job w o run (Frames held) u has = read-there run.from has.reads.0 (of-one (run.from == g) u) has.reads.1
+  step-end job w o run (Wraps held frame) u has = read-there run.from has.0.reads.0 (of-one (run.from == g) u) has.0.reads.1
+  step-end job w o run (Trims held chunk len frame) u has = read-there run.from has.1.reads.0 (of-one (run.from == g) u) has.1.reads.1
+  step-end job w o run (Ended b held frame) u has = read-there run.from has.1.0 (of-one (run.from == g) u) has.1.1
+  step-end job w o run (Unholds held frame) u has = read-there run.from has.1.0 (of-one (run.from == g) u) has.1.1
+  step-end job w o run (Stops held frame) u has = read-there run.from has.0.0 (of-one (run.from == g) u) has.0.1
+  step-end job w o run (Lapses j) u has = read-there run.from has.0.0 (of-one (run.from == g) u) has.0.1
+  step-end job w o run Fails u has = read-there run.from has.0.0 (of-one (run.from == g) u) has.0.1
+  step-end job w o run s u has = absurd (cc (u))
+
+  pub run-end : (job : ℕ → List ℕ) (w : Wanted) (o : Progress) (y : Running) → has_end y g ≡ true → HasRun job m w o y → IsEnd m g
+  run-end job w o (Runs run s) u has = step-end job w o run s u has.1
+  run-end job w o Awaits u has = absurd (cc (u))
+  run-end job w o (Leaves d) u has = absurd (cc (u))
+  run-end job w o Closes u has = absurd (cc (u))

@@ -1,0 +1,70 @@
+-- What holds where all is idle: nothing is left to do but where a peer takes nothing.
+use Rattle.std.specs.Prelude.{◌≡◌, ◌<◌, ◌≤◌, ◌⊎◌, ℕ, true, false, List, ◌++◌, length, Option, Some, None}
+use Rattle.iol_core.specs.Numbered.{in_place}
+use Rattle.iol_core.specs.Text.{bytes_of}
+use Rattle.iol_core.specs.State.{State, descriptor, conn_at}
+use Rattle.iol_core.specs.declared.descriptors.Descriptor.TheVariants as on
+use Rattle.iol_core.specs.declared.limits.TheConstants.{MAX_QUEUE_BYTES}
+use Rattle.iol_core.specs.declared.events.Reply.{Reply}
+use Rattle.iol_proc.specs.Idle.{Idles}
+use Rattle.iol_proc.specs.World.{Stage, copying}
+use Rattle.iol_proc.specs.declared.choice.Choice.{Choice}
+use Rattle.flash_laws.specs.Client.{Client, uses_agg, awaits}
+use Rattle.flash_laws.specs.Crew.{Crew}
+use Rattle.flash_laws.specs.Done.{IsFull, StaysOpen}
+use Rattle.flash_laws.specs.Host.{ActorsAreSettled}
+use Rattle.flash_laws.specs.Past.{Past}
+use Rattle.flash_laws.specs.Places.{is_run_by}
+use Rattle.flash_laws.specs.Rounds.{in_rounds}
+use Rattle.flash_laws.specs.Shelf.{Shelf, IsAnswer}
+use Rattle.flash_laws.specs.Site.{server}
+use Rattle.flash_laws.specs.Tie.{past_of, Actor, actor_turns}
+use Rattle.flash_laws.specs.World.{Tied}
+
+-- as much waits to be sent as may
+abbrev pub IsHeldUp : State → (c : ℕ) → Type 0
+IsHeldUp m c = MAX_QUEUE_BYTES ≤ length (conn_at m c).outgoing
+
+-- the client at this descriptor is held up
+abbrev pub IsHeldUpAt : State → (fd : ℕ) → Type 0
+IsHeldUpAt m fd = (c : ℕ) × (descriptor m server fd ≡ Some (on.Connection c)) × IsHeldUp m c
+
+-- this worker runs the script of a client that is held up
+pub record RunsForHeldUp (m : State) (clients : List (Option Client)) (k : ℕ) : Type 0 where
+  pub place : ℕ
+  pub client : Client
+  pub there : in_place clients place ≡ Some client
+  pub runs : is_run_by client k ≡ true
+  pub held : IsHeldUpAt m place
+
+-- the client of this connection waits for a worker, while each runs the script of one that is held up
+pub record AwaitsWorker (workers : ℕ) (m : State) (clients : List (Option Client)) (c : ℕ) : Type 0 where
+  pub place : ℕ
+  pub client : Client
+  pub there : in_place clients place ≡ Some client
+  pub open_on : descriptor m server place ≡ Some (on.Connection c)
+  pub waits : awaits client ≡ true
+  pub some : 0 < workers
+  pub busy : (k : ℕ) → k < workers → RunsForHeldUp m clients k
+
+pub record IsDone (shelf : Shelf) (workers : ℕ) (m : State) (p : Past) (clients : List (Option Client)) : Type 0 where
+  -- each connection of the net is accepted, unless the server is full
+  pub accepted : (c : ℕ) → p.net c ≡ true → ((conn_at m c).accepted ≡ true) ⊎ IsFull clients
+  -- each that was accepted, and whose peer did not leave, is answered whole, closed or not, or as much waits to be sent as may, or it
+  -- waits for a worker
+  pub answered : (c : ℕ) → p.net c ≡ true → (conn_at m c).accepted ≡ true → p.gone c ≡ false
+      → IsAnswer shelf (p.came c) (p.sent c ++ bytes_of (conn_at m c).outgoing)
+      ⊎ IsHeldUp m c ⊎ AwaitsWorker workers m clients c
+  -- each that was accepted is closed, or is held up, or waits for a worker, or its peer is there and may ask for more
+  pub closes : (c : ℕ) → p.net c ≡ true → (conn_at m c).accepted ≡ true
+      → ((conn_at m c).closed ≡ true) ⊎ IsHeldUp m c ⊎ AwaitsWorker workers m clients c
+      ⊎ (((conn_at m c).peer ≡ None) × StaysOpen (p.came c))
+  -- one that uses an aggregate is held up
+  pub lends : (fd a : ℕ) (x : Client) → in_place clients fd ≡ Some x → uses_agg x a ≡ true → IsHeldUpAt m fd
+
+-- Where all is idle in a tied world nothing is left to do.
+abbrev pub IdleIsDone : Crew → Type 0
+IdleIsDone crew = ActorsAreSettled crew.turns crew.settled
+    → (shelf : Shelf) (xs : List Choice) (rs : List Reply) (w after : Stage State (Actor crew.Worker)) (most : ℕ)
+    → Idles copying (actor_turns in_rounds crew.turns) w most true after → (tied : Tied shelf crew xs rs after)
+    → IsDone shelf crew.count after.machine (past_of xs rs) tied.seated.state.clients
