@@ -20,9 +20,6 @@ used_few s fits = by (has_script s)
     by true = grind (arith, nat_tests, common_steps, fits)
     by false = omega arith
 
-pub none_used : (s : Site) → has_script s ≡ false → workers_used s ≡ 0
-none_used s none = ap (λ (b : Bool). if b then s.workers else 0) none
-
 -- ---- one more
 
 module _ {X : Type 0} (P : ℕ → X → Type 0) where

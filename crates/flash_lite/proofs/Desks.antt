@@ -15,7 +15,7 @@ use Rattle.flash_lite.proofs.Standing.{nth}
 
 module _ (s : Site) (slots : List (List ℕ)) (k : ℕ) (within : k < s.workers) where
   -- the worker's domain
-  worker_there : domain (state_of s slots) (k + 2) ≡ worker_of k
+  pub worker_there : domain (state_of s slots) (k + 2) ≡ worker_of k
   unfolding domain
   worker_there =
       let none : Domain Text = no_domain in

@@ -1,48 +1,38 @@
 -- A world of a site's processes that was just made is that of the site, and what it then does is hosted.
-use Rattle.std.proofs.Common.{◌≡◌, ℕ, List, map, sym, ap, subst, ◌∙◌, IsPermutation, Bool, false}
+use Rattle.std.proofs.Common.{◌≡◌, ℕ, List, map, ap, subst, ◌∙◌, IsPermutation, Bool, false}
+use Rattle.iol_core.specs.Positions.{ArePlaced}
 use Rattle.iol_core.specs.State.{State, new_state}
 use Rattle.iol_core.specs.declared.events.Reply.{Reply}
 use Rattle.iol_proc.specs.Idle.{Idles}
 use Rattle.iol_proc.specs.World.{IsRising, Stage, copied, copying, domains_of, seat_of, WorldRun}
 use Rattle.iol_proc.specs.declared.choice.Choice.{Choice}
-use Rattle.iol_proc.specs.declared.seat.Seat.{Seat}
 use Rattle.iol_system.specs.Machine.{SystemState, machine_of}
 use Rattle.flash_cgi.specs.declared.worker.Worker.{Worker}
 use Rattle.flash_laws.specs.Rounds.{in_rounds}
-use Rattle.flash_laws.specs.Tie.{Actor, IsNew, actor_turns}
+use Rattle.flash_laws.specs.Tie.{Actor, actor_turns}
 use Rattle.flash_lite.specs.Hosting.{Hosts, IsNewWorld}
-use Rattle.flash_lite.specs.NewWorld.{IsNewOf, server_alone, world_on}
 use Rattle.flash_lite.specs.Setup.{AreActors}
-use Rattle.flash_lite.specs.Shelf.{shelf_of}
 use Rattle.flash_lite.specs.SiteState.{LeavesSite, state_of}
-use Rattle.flash_lite.specs.Workers.{worker_turns, worker_ready}
+use Rattle.flash_lite.specs.SiteWorld.{IsNewAt}
+use Rattle.flash_lite.specs.Workers.{worker_turns}
 use Rattle.flash_lite.specs.declared.site.Site.{Site}
-use Rattle.flash_lite.proofs.Seated.{seated_by, seats_alone}
-
--- a world of the server alone
-alone : (w : Stage SystemState (Actor Worker)) (m : State) → machine_of w.machine ≡ m
-    → w.seats ≡ map seat_of server_alone → w.rough ≡ false → copied w ≡ world_on m false
-alone w m machine seats smooth =
-    ap (λ (n : State). record { machine = n; seats = w.seats; rough = w.rough }) machine
-    ∙ (ap (λ (s : List (Seat (Actor Worker))). record { machine = m; seats = s; rough = w.rough }) seats
-    ∙ ap (λ (b : Bool). record { machine = m; seats = map seat_of server_alone; rough = b }) smooth)
+use Rattle.flash_lite.proofs.Seated.{seated_by}
 
 pub world_new : (s : Site) (slots : List (List ℕ)) (old sys : SystemState) (w : Stage SystemState (Actor Worker))
-    (ps : List (ℕ × Actor Worker)) → machine_of old ≡ new_state slots
+    (ps : List (ℕ × Actor Worker)) → machine_of old ≡ new_state slots → ArePlaced (machine_of old)
     → LeavesSite s (machine_of old) (machine_of sys)
     → (machine_of sys).slots ≡ (machine_of old).slots
-    → IsNewOf s (machine_of old) (world_on (machine_of sys) false)
+    → IsNewAt s (machine_of old) (machine_of sys)
     → AreActors s ps → w.machine ≡ sys → IsPermutation (map seat_of ps) w.seats → IsRising (domains_of w.seats) → w.rough ≡ false
     → IsNewWorld s slots (copied w)
-world_new s slots old sys w ps begins leaves same new procs machine seats rises smooth =
+world_new s slots old sys w ps begins placed leaves same new procs machine seats rises smooth =
     let kept : (machine_of sys).slots ≡ slots = same ∙ ap (λ (m : State). m.slots) begins in
     let is : machine_of w.machine ≡ machine_of sys = ap (λ (x : SystemState). machine_of x) machine in
     let seated = seated_by s ps w.seats procs seats rises in record {
       machine = is ∙ ((leaves slots begins).state ∙ ap (λ (l : List (List ℕ)). state_of s l) kept);
       seats = seated;
       smooth = smooth;
-      new = λ none. subst (λ (v : Stage State (Actor Worker)). IsNew worker_ready (shelf_of s slots) v)
-          (sym (alone w (machine_of sys) is (seats_alone s w.seats seated none) smooth)) (new none slots begins);
+      new = new (copied w) is seated slots begins (subst (λ (m : State). ArePlaced m) begins placed).slots;
     }
 
 pub hosted : (s : Site) (slots : List (List ℕ)) (xs : List Choice) (rs : List Reply) (turns : ℕ) (idle : Bool)

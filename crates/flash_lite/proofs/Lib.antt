@@ -11,6 +11,9 @@ pub mod HostedWorld
 pub mod Leading
 pub mod Making
 pub mod NewSite
+pub mod SiteFixed
+pub mod SiteSeats
+pub mod SiteWorld
 pub mod Offering
 pub mod Output
 pub mod Passing

@@ -1,5 +1,5 @@
 -- The seats of a site's processes: in a world they rise by domain, so they stand as the processes were given.
-use Rattle.std.proofs.Common.{◌≡◌, ◌∙◌, inl, inr, ℕ, suc, ◌<◌, List, [], ◌∷◌, length, map, refl, sym, ap, subst, arith, false, IsPermutation}
+use Rattle.std.proofs.Common.{◌≡◌, ◌∙◌, inl, inr, ℕ, suc, ◌<◌, List, [], ◌∷◌, map, refl, sym, ap, subst, arith, IsPermutation}
 use Rattle.std.specs.Prelude.{◌⊎◌}
 use Rattle.std.specs.List.{AllByRecursion}
 use Rattle.std.proofs.lemmas.List.Elements.{All-from_recursion, recursion_from_All}
@@ -7,12 +7,11 @@ use Rattle.std.proofs.lemmas.List.Sorted.{All-permutation, IsPermutation-sym}
 use Rattle.iol_proc.specs.World.{IsRising, domains_of, seat_of}
 use Rattle.iol_proc.specs.declared.seat.Seat.{Seat}
 use Rattle.flash_cgi.specs.declared.worker.Worker.{Worker}
-use Rattle.flash_laws.specs.Site.{server}
-use Rattle.flash_laws.specs.Tie.{Actor, Serving}
-use Rattle.flash_lite.specs.NewWorld.{AreSeated, server_alone}
-use Rattle.flash_lite.specs.Setup.{AreActors, has_script, server_with, workers_used}
+use Rattle.flash_laws.specs.Tie.{Actor}
+use Rattle.flash_lite.specs.NewWorld.{AreSeated}
+use Rattle.flash_lite.specs.Setup.{AreActors, workers_used}
 use Rattle.flash_lite.specs.declared.site.Site.{Site}
-use Rattle.flash_lite.proofs.Apart.{domains_are, none_used, range_rises}
+use Rattle.flash_lite.proofs.Apart.{domains_are, range_rises}
 
 -- ---- lists with the same elements
 
@@ -96,17 +95,3 @@ seated_by s ps seats are moved rises =
       seats_are = same_order (map seat_of ps) seats given rises (λ u at. kept_in (map seat_of ps) seats u moved at)
           (λ u at. kept_in seats (map seat_of ps) u (IsPermutation-sym (map seat_of ps) seats moved) at);
     }
-
--- a site that has no script has the server alone
-none_behind : {X : Type 0} (ws : List X) → length ws ≡ 0 → ws ≡ []
-none_behind [] none = refl
-none_behind (w ∷ ws) none = absurd (omega (arith, none))
-
-pub seats_alone : (s : Site) (seats : List (Seat (Actor Worker))) → AreSeated s seats → has_script s ≡ false → seats ≡ map seat_of server_alone
-seats_alone s seats h none =
-    let no = none_used s none in
-    let behind = none_behind h.are.workers (h.are.many ∙ no) in
-    h.seats_are
-    ∙ (ap (λ (l : List (ℕ × Actor Worker)). map seat_of l) h.are.are
-    ∙ (ap (λ (l : List (ℕ × Actor Worker)). map seat_of ((server, Serving (server_with (workers_used s))) ∷ l)) behind
-    ∙ ap (λ (n : ℕ). map seat_of ((server, Serving (server_with n)) ∷ [])) no))

@@ -54,7 +54,7 @@ later_of true b is = refl
 later_of false b is = is
 
 -- where a file is private there is a vault
-private_there : (xs : List SiteFile) (i : ℕ) (x : SiteFile) → slice_get xs i ≡ Some x → x.private ≡ true → list_any (λ f. f.private) xs ≡ true
+pub private_there : (xs : List SiteFile) (i : ℕ) (x : SiteFile) → slice_get xs i ≡ Some x → x.private ≡ true → list_any (λ f. f.private) xs ≡ true
 private_there [] i x is private = absurd (cc (is))
 private_there (y ∷ ys) zero x is private =
     let same : y ≡ x = slice_get-first y x ys is in
@@ -65,12 +65,12 @@ private_there (y ∷ ys) (suc i) x is private =
     later_of y.private (list_any (λ f. f.private) ys) rest
 
 -- the file in a place of the site's list
-record FileAt (s : Site) (i : ℕ) : Type 0 where
+pub record FileAt (s : Site) (i : ℕ) : Type 0 where
   pub file : SiteFile
   pub there : slice_get s.files.items i ≡ Some file
   pub within : i < length s.files.items
 
-file_at : (s : Site) (name : List ℕ) (i : ℕ) → position (λ f. bytes_eq f.name.items name) s.files.items ≡ Some i → FileAt s i
+pub file_at : (s : Site) (name : List ℕ) (i : ℕ) → position (λ f. bytes_eq f.name.items name) s.files.items ≡ Some i → FileAt s i
 file_at s name i found = by s.files.items refl found
   where
     by : (xs : List SiteFile) → s.files.items ≡ xs → position (λ f. bytes_eq f.name.items name) xs ≡ Some i → FileAt s i
@@ -87,15 +87,15 @@ pub nth : {A : Type 0} (l : List A) (i : ℕ) (z : A) → numbered_or l (i + 1) 
 nth l i z = grind (arith, nat_tests, common_steps)
 
 module _ (s : Site) (slots : List (List ℕ)) where
-  file_there : (i : ℕ) (x : SiteFile) → slice_get s.files.items i ≡ Some x → i < length s.files.items → file (state_of s slots) (i + 1) ≡ file_of x
+  pub file_there : (i : ℕ) (x : SiteFile) → slice_get s.files.items i ≡ Some x → i < length s.files.items → file (state_of s slots) (i + 1) ≡ file_of x
   unfolding file
   file_there i x is within = nth (map file_of s.files.items) i no_file ∙ (get_or-map file_of s.files.items i x no_file within ∙ ap (λ (y : SiteFile). file_of y) (get_or_from_slice_get s.files.items i x x is))
 
-  content_there : (i : ℕ) → content (state_of s slots) (i + 1) ≡ slice_index_or slots i []
+  pub content_there : (i : ℕ) → content (state_of s slots) (i + 1) ≡ slice_index_or slots i []
   unfolding content
   content_there i = let none : List ℕ = [] in nth slots i none
 
-  may_in : (d p : ℕ) (b : Bool) → is_private s ≡ b → may_read (state_of s slots) d p ≡ list_any (λ e. e == d) (numbered_or (pools_of b s.workers s.guests) p no_pool).domains
+  pub may_in : (d p : ℕ) (b : Bool) → is_private s ≡ b → may_read (state_of s slots) d p ≡ list_any (λ e. e == d) (numbered_or (pools_of b s.workers s.guests) p no_pool).domains
   unfolding pool
   may_in d p b is = ap (λ (c : Bool). list_any (λ e. e == d) (numbered_or (pools_of c s.workers s.guests) p no_pool).domains) is
 
@@ -125,7 +125,7 @@ module _ (s : Site) (slots : List (List ℕ)) where
       by true = refl
       by false = ap (λ (l : List ℕ). Found l) (content_there i)
 
-  called_there : (name : List ℕ) → file_called (state_of s slots) name ≡ option_map (λ i. i + 1) (position (λ f. bytes_eq f.name.items name) s.files.items)
+  pub called_there : (name : List ℕ) → file_called (state_of s slots) name ≡ option_map (λ i. i + 1) (position (λ f. bytes_eq f.name.items name) s.files.items)
   called_there name = ap (λ (o : Option ℕ). option_map (λ i. i + 1) o) (position-named name s.files.items)
 
   outcomes_are : (name : List ℕ) → outcome_in (state_of s slots) name ≡ shelf_of s slots name
@@ -136,12 +136,12 @@ module _ (s : Site) (slots : List (List ℕ)) where
       by (Some i) is = let f = file_at s name i is in found_there i f.file f.there f.within
 
   -- a file that has a name stands in a place of the list
-  record CalledAt (name : List ℕ) (f : ℕ) : Type 0 where
+  pub record CalledAt (name : List ℕ) (f : ℕ) : Type 0 where
     pub place : ℕ
     pub number : f ≡ place + 1
     pub found : position (λ g. bytes_eq g.name.items name) s.files.items ≡ Some place
 
-  called_at : (name : List ℕ) (f : ℕ) → file_called (state_of s slots) name ≡ Some f → CalledAt name f
+  pub called_at : (name : List ℕ) (f : ℕ) → file_called (state_of s slots) name ≡ Some f → CalledAt name f
   called_at name f called = by (position (λ g. bytes_eq g.name.items name) s.files.items) refl (sym (called_there name) ∙ called)
     where
       by : (o : Option ℕ) → position (λ g. bytes_eq g.name.items name) s.files.items ≡ o → option_map (λ i. i + 1) o ≡ Some f → CalledAt name f

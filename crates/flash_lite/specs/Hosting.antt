@@ -11,24 +11,24 @@ use Rattle.iol_proc.specs.declared.choice.Choice.{Choice}
 use Rattle.iol_system.specs.Machine.{SystemState}
 use Rattle.flash_cgi.specs.declared.worker.Worker.{Worker}
 use Rattle.flash_laws.specs.Calm.{AreMild}
-use Rattle.flash_laws.specs.Host.{IsRight}
 use Rattle.flash_laws.specs.Rounds.{in_rounds}
-use Rattle.flash_laws.specs.Tie.{Actor, IsNew, actor_turns}
+use Rattle.flash_laws.specs.Tie.{Actor, actor_turns}
+use Rattle.flash_laws.specs.World.{IsNew}
+use Rattle.flash_laws.specs.WorldHost.{IsRight}
+use Rattle.flash_lite.specs.Crew.{crew_of}
+use Rattle.flash_lite.specs.Library.{library_of}
 use Rattle.flash_lite.specs.NewWorld.{AreSeated}
-use Rattle.flash_lite.specs.Setup.{has_script}
-use Rattle.flash_lite.specs.Shelf.{shelf_of}
 use Rattle.flash_lite.specs.SiteState.{state_of}
 use Rattle.flash_lite.specs.Starting.{Starts}
-use Rattle.flash_lite.specs.Workers.{worker_turns, worker_ready, worker_settled}
+use Rattle.flash_lite.specs.Workers.{worker_turns}
 use Rattle.flash_lite.specs.declared.site.Site.{Site}
 
--- The world of a site that was set up over these slots, before its first turn. Where the site has no script it is new, as the
--- law over whole worlds has it.
+-- The world of a site that was set up over these slots, before its first turn: it is new, as the law over whole worlds has it.
 pub record IsNewWorld (s : Site) (slots : List (List ℕ)) (w : Stage State (Actor Worker)) : Type 0 where
   pub machine : w.machine ≡ state_of s slots
   pub seats : AreSeated s w.seats
   pub smooth : w.rough ≡ false
-  pub new : has_script s ≡ false → IsNew worker_ready (shelf_of s slots) w
+  pub new : IsNew (library_of s slots) (crew_of s) w
 
 -- A site over these slots makes its choices, which are answered so, and then has at most so many turns in rounds.
 pub record Hosts (s : Site) (slots : List (List ℕ)) (xs : List Choice) (rs : List Reply)
@@ -51,13 +51,13 @@ pub record HostsOver (config : Config) (store : Disk) (s : Site) (xs : List Choi
   pub events : HasEvents starts.begun after.machine
   pub honest : after.machine.disk.honest ≡ store.honest
 
--- What was hosted is right, where the site has no script, calls from outside were mild and no turn was rough.
+-- What was hosted is right, where calls from outside were mild and no turn was rough.
 abbrev pub HostedIsRight : Type 0
 HostedIsRight = (s : Site) (slots : List (List ℕ)) (xs : List Choice) (rs : List Reply) (turns : ℕ)
     (idle : Bool) (after : Stage State (Actor Worker))
-    → has_script s ≡ false → (hosts : Hosts s slots xs rs turns idle after)
+    → (hosts : Hosts s slots xs rs turns idle after)
     → AreMild (actor_turns in_rounds worker_turns) hosts.first xs rs hosts.mid hosts.run
     → after.rough ≡ false
-    → IsRight worker_turns worker_ready worker_settled (shelf_of s slots)
+    → IsRight (crew_of s) (library_of s slots)
     (xs ++ rounds (domains_of hosts.mid.seats) 0 (length hosts.ends.went))
     (rs ++ map (λ t. t.1) hosts.ends.went) idle after

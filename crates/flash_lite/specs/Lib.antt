@@ -13,6 +13,9 @@ pub mod Setup
 pub mod SiteState
 pub mod Shelf
 pub mod NewWorld
+pub mod Library
+pub mod Crew
+pub mod SiteWorld
 pub mod Starting
 pub mod Hosting
 pub mod Offering

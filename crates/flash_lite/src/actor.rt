@@ -12,7 +12,8 @@ ghost use Rattle.flash_lite.specs.Workers.{worker_turns};
 use crate::laws::connections_do_not_meet;
 use crate::server::Server;
 use flash_cgi::worker::Worker as Runner;
-use flash_laws::laws::Works;
+use flash_laws::worker_laws::workers_run;
+use flash_laws::world_law::RunsScripts;
 use iol_core::events::Reply;
 use iol_proc::idle::Settling;
 use iol_proc::look::Look;
@@ -61,16 +62,21 @@ impl Process for Worker {
     }
 }
 
-impl Works for Worker {
-    ghost use Rattle.flash_lite.specs.Workers.{worker_ready, worker_settled};
+impl RunsScripts for Worker {
+    ghost use Rattle.flash_laws.specs.WorkersRun.{IsDueOf, IsFreeFor};
+    ghost use Rattle.flash_lite.specs.Workers.{worker_settled};
 
     ghost turns = { worker_turns };
 
-    ghost ready = { worker_ready };
-
     ghost settled = { worker_settled };
 
-    fn works() {}
+    ghost free = { IsFreeFor };
+
+    ghost due = { IsDueOf };
+
+    fn runs() {
+        workers_run();
+    }
 
     fn settles() {
         Runner::settles();

@@ -4,12 +4,12 @@ ghost use Rattle.std.specs.List.{IsDistinct, range_with_len};
 ghost use Rattle.iol_back.specs.Disk.{IfHonest};
 ghost use Rattle.iol_system.specs.Machine.{machine_of};
 ghost use Rattle.flash_laws.specs.Tie.{Serving};
-ghost use Rattle.flash_lite.specs.NewWorld.{IsNewOf, world_on};
+ghost use Rattle.flash_lite.specs.SiteWorld.{IsNewAt};
 ghost use Rattle.flash_lite.specs.Setup as spec;
 ghost use Rattle.flash_lite.specs.SiteState.{LeavesSite};
 
 use crate::actor::{Actor, Role, Worker};
-use crate::laws::set_up_is_new;
+use crate::laws::set_up_is_a_new_world;
 use crate::server::Server;
 use crate::site::{MAX_GUESTS, MAX_WORKERS, Site, SiteFile};
 use iol_back::backing::Backing;
@@ -191,13 +191,13 @@ pub fn setup<B: Backing + Drop>(
     ensures honest { system.new.disk.honest ≡ system.old.disk.honest }
 
     // In a new system the machine is then that of the site, over any store. An honest one keeps
-    // what it has, and where the site has no script a world of these processes is new.
+    // what it has, and a world of these processes is new.
     ensures leaves { OnOk result
         (LeavesSite site.now (machine_of system.old) (machine_of system.new)) }
     ensures slots { IfHonest system.old.disk (OnOk result
         ((machine_of system.new).slots ≡ (machine_of system.old).slots)) }
-    ensures new { IfHonest system.old.disk (OnOk result (IsNewOf site.now
-        (machine_of system.old) (world_on (machine_of system.new) false))) }
+    ensures new { IfHonest system.old.disk (OnOk result
+        (IsNewAt site.now (machine_of system.old) (machine_of system.new))) }
     ensures actors { IfOk result (λ actors. spec.AreActors site.now actors.items) }
     ensures apart { IfOk result
         (λ actors. IsDistinct nat_eq (map (λ p. p.0) actors.items)) }
@@ -205,7 +205,7 @@ pub fn setup<B: Backing + Drop>(
     if !is_in_range(site) {
         return Err(Refusal::BadRange);
     }
-    set_up_is_new();
+    set_up_is_a_new_world();
     let events = calls(alloc, site)?;
     let actors = actors(alloc, site)?;
     let replies = system.run(events.as_slice())?;

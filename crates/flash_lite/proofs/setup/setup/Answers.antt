@@ -1,8 +1,9 @@
-use Rattle.std.proofs.Common.{rules, ◌≡◌, ◌∙◌, List, true, false, None, ap, sym, subst}
+use Rattle.std.proofs.Common.{rules, ◌≡◌, ◌∙◌, List, true, None, ap, sym, subst}
+use Rattle.iol_core.specs.State.{State}
 use Rattle.iol_core.specs.declared.events.Event.{Event}
 use Rattle.iol_system.specs.Machine.{machine_of}
 use Rattle.iol_system.specs.Promises.{Chain}
-use Rattle.flash_lite.specs.Setup.{calls, first_refusal, is_in_range}
+use Rattle.flash_lite.specs.Setup.{SetsUp, calls, first_refusal, is_in_range}
 use Rattle.flash_lite.proofs.AnyStore.{leaves_by, made_by}
 use Rattle.flash_lite.proofs.NewSite.{sets_up_by, slots_kept}
 use Rattle.flash_lite.proofs.setup.setup.Goals as goal
@@ -31,4 +32,6 @@ returns-clause-new g c honest =
     let fits : is_in_range c.args.site.now ≡ true = search rules in
     let events : c.as_slice.result.now ≡ calls c.args.site.now = c.as_slice.ensures.value ∙ c.in_ok-events.ensures in
     let none : first_refusal c.in_ok-replies.replies.items ≡ None = ap first_refusal (sym c.as_slice-2.ensures.value) ∙ (sym c.refusal_in.ensures ∙ c.in-None.is) in
-    c.set_up_is_new.ensures c.args.site.now (machine_of c.args.system.now) (machine_of c.run.new.self) false fits (sets_up_by c.args.site.now (machine_of c.args.system.now) (machine_of c.run.new.self) c.as_slice.result.now c.in_ok-replies.replies.items events (c.in_ok-replies.ensures.run honest) none)
+    let set = sets_up_by c.args.site.now (machine_of c.args.system.now) (machine_of c.run.new.self) c.as_slice.result.now c.in_ok-replies.replies.items events (c.in_ok-replies.ensures.run honest) none in
+    λ w is seated. c.set_up_is_a_new_world.ensures c.args.site.now (machine_of c.args.system.now) w fits
+    (subst (λ (m : State). SetsUp c.args.site.now (machine_of c.args.system.now) m) (sym is) set) seated
