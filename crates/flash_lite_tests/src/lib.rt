@@ -28,4 +28,6 @@ mod scripts;
 #[cfg(test)]
 mod sizes;
 #[cfg(test)]
+mod together;
+#[cfg(test)]
 mod turns;

@@ -24,8 +24,8 @@ fn add_chunk(alloc: Global, answer: &mut Vec<u8>, piece: &[u8]) -> Result<(), Al
     answer.extend_from_slice(b"\r\n")
 }
 
-// The answer with this output, in chunks.
-fn in_chunks(alloc: Global, output: &[u8]) -> Result<Vec<u8>, AllocError> {
+/// The answer with this output, in chunks.
+pub fn in_chunks(alloc: Global, output: &[u8]) -> Result<Vec<u8>, AllocError> {
     let mut answer = Vec::from_slice(alloc, HEAD)?;
     for piece in output.chunks(4096) {
         add_chunk(alloc, &mut answer, piece)?;
@@ -41,8 +41,8 @@ fn as_it_is(alloc: Global, output: &[u8]) -> Result<Vec<u8>, AllocError> {
     Ok(answer)
 }
 
-// So many bytes, none of which is that of the place 251 before.
-fn bytes_of(alloc: Global, len: u32) -> Result<Vec<u8>, AllocError> {
+/// So many bytes, none of which is that of the place 251 before.
+pub fn bytes_of(alloc: Global, len: u32) -> Result<Vec<u8>, AllocError> {
     let mut bytes = Vec::with_capacity(alloc, len as usize)?;
     for n in 0..len {
         bytes.push((n % 251) as u8)?;

@@ -71,6 +71,17 @@ fn waits_for_a_pipe(host: &mut Host, request: Vec<Event>) -> bool {
         && goes_on(host)
 }
 
+// The worker and the guest have all other pipes that may be.
+fn waits_for_another_pipe(host: &mut Host, request: Vec<Event>) -> bool {
+    take_pairs(host, 2)
+        && take_pairs(host, 3)
+        && connect(host).is_some()
+        && waits(host, request)
+        && is_done(host, close(3, 0))
+        && is_done(host, close(3, 1))
+        && goes_on(host)
+}
+
 // The worker has no descriptor left for the write end.
 fn waits_to_give(host: &mut Host, request: Vec<Event>) -> bool {
     let (fd, to) = (Fd::new(0), DomainId::new(2));
@@ -91,6 +102,24 @@ fn gives_nobody(host: &mut Host, request: Vec<Event>) -> bool {
 // Nobody reads the job.
 fn hands_nobody(host: &mut Host, request: Vec<Event>) -> bool {
     is_done(host, close(2, 0)) && connect(host).is_some() && is_refused(host, request)
+}
+
+// The job pipe is filled with these bytes, which are no job.
+fn is_filled(host: &mut Host, fill: Event) -> bool {
+    let (fd, agg) = (Fd::new(1), AggId::new(1));
+    let mut all = matches!(host.step(fill), Reply::Agg(_));
+    for _ in 0..16 {
+        all &= matches!(
+            host.step(by(1, Call::IolWrite { fd, agg })),
+            Reply::Count(4096)
+        );
+    }
+    all && is_done(host, by(1, Call::AggDrop { agg }))
+}
+
+// The worker has not read what is in its job pipe.
+fn waits_to_hand(host: &mut Host, fill: Event, request: Vec<Event>) -> bool {
+    is_filled(host, fill) && connect(host).is_some() && waits(host, request) && goes_on(host)
 }
 
 // The guest's bytes fill the pool in which the job is placed.
@@ -117,6 +146,7 @@ fn reads_without_room(host: &mut Host, fill: Event, request: Vec<Event>) -> bool
 #[derive(Clone, Copy)]
 enum Case {
     Pipe,
+    AnotherPipe,
     Give,
     GiveToNobody,
     HandToNobody,
@@ -125,6 +155,7 @@ enum Case {
 fn goes(host: &mut Host, case: Case, request: Vec<Event>) -> bool {
     match case {
         Case::Pipe => waits_for_a_pipe(host, request),
+        Case::AnotherPipe => waits_for_another_pipe(host, request),
         Case::Give => waits_to_give(host, request),
         Case::GiveToNobody => gives_nobody(host, request),
         Case::HandToNobody => hands_nobody(host, request),
@@ -140,22 +171,38 @@ fn holds(alloc: Global, case: Case) -> Result<bool, Refusal> {
     Ok(is_well)
 }
 
-// As many bytes as a chunk has, of the guest's.
-fn full_chunk(alloc: Global) -> Result<Event, AllocError> {
-    let bytes = Bytes::from_vec(vec![in alloc; b'x'; 65_536]?);
-    Ok(by(3, Call::AggMake { bytes }))
+/// What is full: the pool of the job, that of the script's file, or the job pipe.
+#[derive(Clone, Copy)]
+enum Full {
+    Jobs,
+    Files,
+    JobPipe,
 }
 
-// Whether it goes so where the pool of the job, or that of the script's file, is full.
-fn holds_filled(alloc: Global, jobs: bool) -> Result<bool, Refusal> {
-    let request = arrivals(alloc, 1, SHORT, 8192)?;
-    let fill = full_chunk(alloc)?;
-    let mut host = host_of(alloc, &Plan::of(&FILES))?;
-    let is_well = if jobs {
-        waits_to_make(&mut host, fill, request)
-    } else {
-        reads_without_room(&mut host, fill, request)
+// As many bytes as a chunk has, of the guest's, or as a page has, of the server's.
+fn fill_of(alloc: Global, full: Full) -> Result<Event, AllocError> {
+    let (number, bytes) = match full {
+        Full::Jobs | Full::Files => (3, vec![in alloc; b'x'; 65_536]?),
+        Full::JobPipe => (1, vec![in alloc; b'x'; 4_096]?),
     };
+    let bytes = Bytes::from_vec(bytes);
+    Ok(by(number, Call::AggMake { bytes }))
+}
+
+fn goes_filled(host: &mut Host, full: Full, fill: Event, request: Vec<Event>) -> bool {
+    match full {
+        Full::Jobs => waits_to_make(host, fill, request),
+        Full::Files => reads_without_room(host, fill, request),
+        Full::JobPipe => waits_to_hand(host, fill, request),
+    }
+}
+
+// Whether it goes so where that is full.
+fn holds_filled(alloc: Global, full: Full) -> Result<bool, Refusal> {
+    let request = arrivals(alloc, 1, SHORT, 8192)?;
+    let fill = fill_of(alloc, full)?;
+    let mut host = host_of(alloc, &Plan::of(&FILES))?;
+    let is_well = goes_filled(&mut host, full, fill, request);
     drop(host);
     Ok(is_well)
 }
@@ -163,6 +210,11 @@ fn holds_filled(alloc: Global, jobs: bool) -> Result<bool, Refusal> {
 #[test]
 fn no_descriptors_for_a_pipe(rt: HostRuntime) -> Result<(), Fail> {
     pass(holds(rt.alloc(), Case::Pipe))
+}
+
+#[test]
+fn no_more_pipes(rt: HostRuntime) -> Result<(), Fail> {
+    pass(holds(rt.alloc(), Case::AnotherPipe))
 }
 
 #[test]
@@ -182,10 +234,15 @@ fn no_reader_of_jobs(rt: HostRuntime) -> Result<(), Fail> {
 
 #[test]
 fn no_room_for_the_job(rt: HostRuntime) -> Result<(), Fail> {
-    pass(holds_filled(rt.alloc(), true))
+    pass(holds_filled(rt.alloc(), Full::Jobs))
 }
 
 #[test]
 fn no_room_for_the_script(rt: HostRuntime) -> Result<(), Fail> {
-    pass(holds_filled(rt.alloc(), false))
+    pass(holds_filled(rt.alloc(), Full::Files))
+}
+
+#[test]
+fn no_room_in_the_job_pipe(rt: HostRuntime) -> Result<(), Fail> {
+    pass(holds_filled(rt.alloc(), Full::JobPipe))
 }
