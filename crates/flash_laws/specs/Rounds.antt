@@ -1,8 +1,8 @@
 -- Which client has its turn, and when the server yields: its policy.
 --
 -- A round goes over the places of the clients, then accepts those that wait, and ends with a yield. A client goes on until
--- its call is to be made again later, or nothing is left to do for it but to read more, or it has to wait for a worker: so
--- whoever waited before it has one first. One that waits for a worker is passed over while none is free.
+-- its call is to be made again later, or nothing is left to do for it but to read more, or it has to wait for a worker. One that
+-- waits for a worker is passed over while none is free; one that comes free goes to the first that waits behind.
 use Rattle.std.specs.Prelude.{◌≡◌, ℕ, ◌+◌, ◌||◌, Bool, true, false, if◌then◌else◌, List, drop, position, Option, Some, None, option_map}
 use Rattle.iol_core.specs.Numbered.{in_place}
 use Rattle.iol_core.specs.declared.events.Reply.{Reply}
