@@ -1,14 +1,14 @@
 -- Lines with consecutive texts as one put out what the lines do.
-use Rattle.std.proofs.Common.{◌≡◌, ℕ, ◌+◌, ◌≤◌, ◌<◌, Bool, true, false, List, [], ◌∷◌, ◌++◌, length, Option, Some, None, refl, sym, ap, ◌∙◌, subst, arith, append_assoc, length-append}
-use Rattle.std.specs.Prelude.{if◌then◌else◌}
+use Rattle.std.proofs.Common.{◌≡◌, ℕ, ◌+◌, ◌≤◌, ◌<◌, Bool, true, false, List, [], ◌∷◌, ◌++◌, length, map, Option, Some, None, refl, sym, ap, ◌∙◌, subst, arith, append_assoc, length-append}
+use Rattle.std.specs.Prelude.{if◌then◌else◌, nat_le}
 use Rattle.std.proofs.lemmas.Bool.Decides.{nat_tests}
 use Rattle.iol_core.specs.State.{State}
-use Rattle.flash_cgi.specs.Gathered.{joined, fits, gather}
+use Rattle.flash_cgi.specs.Gathered.{as_text, joined, fits, gather}
 use Rattle.flash_cgi.specs.Laws.{GatheringKeeps}
 use Rattle.flash_cgi.specs.Outcomes.{outcome_in, outcomes_in}
 use Rattle.flash_cgi.specs.Output.{Outcome, output, cat_of, wc_of}
 use Rattle.flash_cgi.specs.Working.{line_text}
-use Rattle.flash_cgi.specs.declared.gathering.TheConstants.{MAX_TEXT_BYTES}
+use Rattle.flash_cgi.specs.declared.gathering.TheConstants.{MAX_QUERY_BYTES, MAX_TEXT_BYTES}
 use Rattle.flash_cgi.specs.declared.line.Line.{Line}
 use Rattle.flash_cgi.specs.declared.line.Line.TheVariants as line
 
@@ -142,9 +142,44 @@ too_long one two long =
     let e = length-append (line_text one) (line_text two) in
     grind (arith, nat_tests, a, b, c, e, long)
 
+-- ---- a short query as a text
+
+output_as_text : (query : List ℕ) (lines : List Line) (os : List Outcome) → output query (map (as_text query) lines) os ≡ output query lines os
+output_as_text query [] os = refl
+output_as_text query (line.Emit text ∷ lines) os = ap (λ (l : List ℕ). line_text text ++ l) (output_as_text query lines os)
+output_as_text query (line.Query ∷ lines) os = either_line (nat_le (length query) MAX_QUERY_BYTES) ∙ ap (λ (l : List ℕ). line_text query ++ l) (output_as_text query lines os)
+  where
+    rest : List Line
+    rest = map (as_text query) lines
+
+    either_line : (t : Bool) → output query ((if t then line.Emit query else line.Query) ∷ rest) os ≡ line_text query ++ output query rest os
+    either_line true = refl
+    either_line false = refl
+output_as_text query (line.Cat name ∷ lines) [] = refl
+output_as_text query (line.Cat name ∷ lines) (o ∷ os) = ap (λ (l : List ℕ). cat_of o ++ l) (output_as_text query lines os)
+output_as_text query (line.Wc name ∷ lines) [] = refl
+output_as_text query (line.Wc name ∷ lines) (o ∷ os) = ap (λ (l : List ℕ). wc_of o ++ l) (output_as_text query lines os)
+output_as_text query (line.Pause ∷ lines) os = output_as_text query lines os
+
+outcomes_as_text : (m : State) (d : ℕ) (query : List ℕ) (lines : List Line) → outcomes_in m d (map (as_text query) lines) ≡ outcomes_in m d lines
+outcomes_as_text m d query [] = refl
+outcomes_as_text m d query (line.Emit text ∷ lines) = outcomes_as_text m d query lines
+outcomes_as_text m d query (line.Query ∷ lines) = either_line (nat_le (length query) MAX_QUERY_BYTES) ∙ outcomes_as_text m d query lines
+  where
+    rest : List Line
+    rest = map (as_text query) lines
+
+    either_line : (t : Bool) → outcomes_in m d ((if t then line.Emit query else line.Query) ∷ rest) ≡ outcomes_in m d rest
+    either_line true = refl
+    either_line false = refl
+outcomes_as_text m d query (line.Cat name ∷ lines) = ap (λ (os : List Outcome). outcome_in m d name ∷ os) (outcomes_as_text m d query lines)
+outcomes_as_text m d query (line.Wc name ∷ lines) = ap (λ (os : List Outcome). outcome_in m d name ∷ os) (outcomes_as_text m d query lines)
+outcomes_as_text m d query (line.Pause ∷ lines) = outcomes_as_text m d query lines
+
 pub gathering_keeps : GatheringKeeps
 gathering_keeps = record {
-  output = λ query lines os. output_kept query None lines os;
-  outcomes = λ m d lines. outcomes_kept m d None lines;
-  long = λ lines front rest one two is. too_long one two (long_at front rest one two (subst (λ (ls : List Line). AreLong ls) is (are_long None lines)));
+  output = λ query lines os. output_kept query None (map (as_text query) lines) os ∙ output_as_text query lines os;
+  outcomes = λ m d query lines. outcomes_kept m d None (map (as_text query) lines) ∙ outcomes_as_text m d query lines;
+  long = λ query lines front rest one two is.
+      too_long one two (long_at front rest one two (subst (λ (ls : List Line). AreLong ls) is (are_long None (map (as_text query) lines))));
 }

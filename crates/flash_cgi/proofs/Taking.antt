@@ -38,7 +38,7 @@ last_false false c e = refl
 
 -- what waits for it is its job
 pub waits_as_job : (m : State) (d j p fd : ℕ) (query script : List ℕ) (lines : List Line) → HasJob m d j p fd query script lines
-    → job_of (bytes_of (pipe_at m j).queue) ≡ Some (record { fd = fd; query = query; lines = gathered lines })
+    → job_of (bytes_of (pipe_at m j).queue) ≡ Some (record { fd = fd; query = query; lines = gathered query lines })
 waits_as_job m d j p fd query script lines has =
     let queue : Text = (pipe_at m j).queue in
     let size = length-map queue (λ b. b.0) in

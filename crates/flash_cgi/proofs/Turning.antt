@@ -161,7 +161,7 @@ module _ (feeds_on : FeedsOn) (taken : JobsAreTaken) (true_to : OutcomesAreTrue)
     awaits w last unseen h did = by w.standing refl h.free.not_over h.free.waits h.free.not_given did
       where
         job : Task
-        job = record { fd = h.fd; query = h.query; lines = gathered h.lines }
+        job = record { fd = h.fd; query = h.query; lines = gathered h.query h.lines }
 
         -- it awaits it still, where nothing happened
         still : (x : Worker) → v ≡ x → IsFree n (seat_at d x r) → n ≡ m → Went m n d p v r unseen (outcomes_in m d h.lines) (Unit {0})
@@ -209,7 +209,7 @@ module _ (feeds_on : FeedsOn) (taken : JobsAreTaken) (true_to : OutcomesAreTrue)
             last = is;
             begins = begun a (taken m n d h.jobs p h.fd a h.query h.script h.lines h.has step takes);
           }));
-          truly = λ placed good smooth reads. (sym (keeps.outcomes m d h.lines) ∙ plain steps m n d job (call.IolRead 0 65536) (reply.Agg a) step good refl (λ q. refl) 0, tt);
+          truly = λ placed good smooth reads. (sym (keeps.outcomes m d h.query h.lines) ∙ plain steps m n d job (call.IolRead 0 65536) (reply.Agg a) step good refl (λ q. refl) 0, tt);
         }))
         read x v_is asked at (reply.Refused y) is step same = still x v_is (free_of x (reply.Refused y) asked at refl is) same
         read x v_is asked at l is step did = absurd did

@@ -1,8 +1,13 @@
--- The lines that a worker runs: those of the script, with consecutive texts as one.
-use Rattle.std.specs.Prelude.{◌≡◌, ℕ, Bool, List, [], ◌∷◌, ◌++◌, length, nat_lt, Option, Some, None, if◌then◌else◌}
+-- The lines that a worker runs: those of the script, with consecutive texts, a short query among them, as one.
+use Rattle.std.specs.Prelude.{◌≡◌, ℕ, Bool, List, [], ◌∷◌, ◌++◌, length, map, nat_le, nat_lt, Option, Some, None, if◌then◌else◌}
 use Rattle.flash_cgi.specs.declared.line.Line.{Line}
-use Rattle.flash_cgi.specs.declared.line.Line.TheVariants.{Emit}
-use Rattle.flash_cgi.specs.declared.gathering.TheConstants.{MAX_TEXT_BYTES}
+use Rattle.flash_cgi.specs.declared.line.Line.TheVariants.{Emit, Query}
+use Rattle.flash_cgi.specs.declared.gathering.TheConstants.{MAX_QUERY_BYTES, MAX_TEXT_BYTES}
+
+-- a line that puts out a short query is a text like any other
+abbrev pub as_text : (query : List ℕ) → Line → Line
+as_text query Query = if nat_le (length query) MAX_QUERY_BYTES then Emit query else Query
+as_text query line = line
 
 -- a text behind another, which ends with a line feed then
 abbrev pub joined : (held text : List ℕ) → List ℕ
@@ -23,8 +28,8 @@ gather (Some held) (Emit text ∷ lines) =
 gather (Some held) (line ∷ lines) = Emit held ∷ line ∷ gather None lines
 
 -- The lines with consecutive texts as one, as long as it fits.
-abbrev pub gathered : List Line → List Line
-gathered lines = gather None lines
+abbrev pub gathered : (query : List ℕ) → List Line → List Line
+gathered query lines = gather None (map (as_text query) lines)
 
 -- the lines so far and the text that is held, with one line more: whatever follows, the same comes of it
 abbrev pub AddsLine : (lines : List Line) → (held : Option (List ℕ)) → Line → (new : List Line) → (now : Option (List ℕ)) → Type 0

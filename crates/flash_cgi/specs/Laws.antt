@@ -19,8 +19,10 @@ JobsAreRead = (fd : ℕ) (query script : List ℕ) → fd < 10 ^ 9 → length qu
 -- Gathered lines put out what the lines do, and name the same files.
 pub record GatheringKeeps : Type 0 where
   pub output : (query : List ℕ) (lines : List Line) (os : List Outcome)
-      → output query (gathered lines) os ≡ output query lines os
-  pub outcomes : (m : State) (d : ℕ) (lines : List Line) → outcomes_in m d (gathered lines) ≡ outcomes_in m d lines
+      → output query (gathered query lines) os ≡ output query lines os
+  pub outcomes : (m : State) (d : ℕ) (query : List ℕ) (lines : List Line)
+      → outcomes_in m d (gathered query lines) ≡ outcomes_in m d lines
   -- of texts that still stand one behind the other, two are too long together
-  pub long : (lines front rest : List Line) (one two : List ℕ) → gathered lines ≡ front ++ Emit one ∷ Emit two ∷ rest
+  pub long : (query : List ℕ) (lines front rest : List Line) (one two : List ℕ)
+      → gathered query lines ≡ front ++ Emit one ∷ Emit two ∷ rest
       → MAX_TEXT_BYTES < length (line_text one ++ line_text two)

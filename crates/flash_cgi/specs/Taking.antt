@@ -41,5 +41,5 @@ abbrev pub JobsAreTaken : Type 0
 JobsAreTaken = (m n : State) (d j p fd agg : ℕ) (query script : List ℕ) (lines : List Line)
     → HasJob m d j p fd query script lines
     → StepsTo m (event.Call d (call.IolRead 0 65536)) (reply.Agg agg) n → TakesFromPipe m d j 65536 agg n
-    → Begins n d p (record { fd = fd; query = query; lines = gathered lines }) agg
+    → Begins n d p (record { fd = fd; query = query; lines = gathered query lines }) agg
     (λ os. bytes_of (pipe_at m p).queue ++ output query lines os)

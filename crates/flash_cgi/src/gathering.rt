@@ -1,4 +1,4 @@
-//! Consecutive texts of a script, as one text.
+//! Consecutive texts of a script, a short query among them, as one text.
 ghost use Rattle.std.specs.Prelude.{◌≡◌, ◌++◌, [], IfOk, Some};
 ghost use Rattle.flash_cgi.specs.Gathered as spec;
 ghost use Rattle.flash_cgi.specs.declared.line.Line.TheVariants as of;
@@ -8,6 +8,9 @@ use crate::script::Script;
 use iol_core::limits::PAGE_BYTES;
 use iol_core::lists::Bytes;
 use std::alloc::{AllocError, Global};
+
+/// The bytes that a query may have which is joined to texts: so a job is never much longer than its script.
+pub const MAX_QUERY_BYTES: usize = 64;
 
 /// The bytes that joined texts may have, with a line feed behind: as many as lie in a page.
 pub const MAX_TEXT_BYTES: usize = PAGE_BYTES;
@@ -71,14 +74,29 @@ fn add(lines: &mut Vec<Line>, held: Option<Bytes>, line: Line) -> Result<Option<
     }
 }
 
+// This line; one that puts out a short query as the text that it puts out.
+fn as_text(alloc: Global, query: &[u8], line: Line) -> Result<Line, AllocError>
+    ensures { IfOk result (λ text. text ≡ spec.as_text query.now line) }
+{
+    match line {
+        Line::Query if query.len() <= MAX_QUERY_BYTES => {
+            let text = Bytes::from_vec(Vec::from_slice(alloc, query)?);
+            Ok(Line::Emit { text })
+        }
+        other => Ok(other),
+    }
+}
+
 impl Script {
-    /// This script with consecutive texts as one, as long as that has at most [`MAX_TEXT_BYTES`].
-    pub fn gathered(self, alloc: Global) -> Result<Script, AllocError>
-        ensures { IfOk result (λ script. script ≡ spec.gathered self) }
+    /// This script with consecutive texts as one, as long as that has at most [`MAX_TEXT_BYTES`]. A query of at most
+    /// [`MAX_QUERY_BYTES`] is a text, too.
+    pub fn gathered(self, alloc: Global, query: &[u8]) -> Result<Script, AllocError>
+        ensures { IfOk result (λ script. script ≡ spec.gathered query.now self) }
     {
         let mut lines = Vec::new(alloc);
         let mut held = None;
         for line in self.lines {
+            let line = as_text(alloc, query, line)?;
             held = add(&mut lines, held, line)?;
         }
         add_held(&mut lines, held)?;

@@ -15,7 +15,7 @@ use std::str;
 pub const MAX_DIGITS: usize = 9;
 
 /// A script that is to be run for a request: where its output goes, the query, and its lines, consecutive
-/// texts as one.
+/// texts as one ([`gathering`](crate::gathering)).
 #[derive(Debug, Drop)]
 pub struct Job {
     pub(crate) fd: Fd,
@@ -90,7 +90,7 @@ fn job_with(
     }
     match Script::read(alloc, &body[query..])? {
         Some(script) => {
-            let script = script.gathered(alloc)?;
+            let script = script.gathered(alloc, &body[..query])?;
             let query = Vec::from_slice(alloc, &body[..query])?;
             Ok(Some(Job {
                 fd: Fd::new(fd),

@@ -22,7 +22,10 @@ const FILES: [Kept<'static>; 2] = [
     },
 ];
 
-const ROWS: [Row<'static>; 12] = [
+// One byte more than a query has that is joined to texts.
+const LONG_QUERY: &str = "xxxxxxxxxxxxxxxxxxxxxxxxxxxxxxxxxxxxxxxxxxxxxxxxxxxxxxxxxxxxxxxxx";
+
+const ROWS: [Row<'static>; 13] = [
     ("emit a\nquery\ncat f", "q=1", b"a\nq=1\na\nb"),
     ("wc f\ncat none\nemit\n", "", b"1 3\n[NoFile]\n\n"),
     ("cat p", "", b"[Denied]\n"),
@@ -30,6 +33,11 @@ const ROWS: [Row<'static>; 12] = [
     ("pause\npause\npause\nemit a", "", b"a\n"),
     ("", "q", b""),
     ("\n\n", "", b""),
+    (
+        "emit a\nquery\nemit b",
+        LONG_QUERY,
+        b"a\nxxxxxxxxxxxxxxxxxxxxxxxxxxxxxxxxxxxxxxxxxxxxxxxxxxxxxxxxxxxxxxxxx\nb\n",
+    ),
     ("emit  two  ", "", b" two  \n"),
     ("emit \nquery\nquery", "", b"\n\n\n"),
     ("emit a\r\ncat f\r\n", "", b"a\r\n[NoFile]\n"),
