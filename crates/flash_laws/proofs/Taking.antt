@@ -16,6 +16,7 @@ use Rattle.iol_laws.specs.Caller.{CallsServeTheirDomain}
 use Rattle.iol_laws.specs.Order.{IsOrderly}
 use Rattle.iol_laws.specs.Reasons.{RefusalsTellWhy}
 use Rattle.iol_laws.specs.RefusalsLeft.{RefusalsThatAreLeft}
+use Rattle.iol_laws.proofs.Streams.Remaining.{closed-then}
 use Rattle.flash_http.specs.declared.ranges.Selection.{Selection}
 use Rattle.flash_http.specs.declared.ranges.Selection.TheVariants.{Whole, Bytes, Unsatisfiable}
 use Rattle.flash_http.specs.Range.{selected}
@@ -255,7 +256,7 @@ closes own may m n fd c kept q Closes r heard order lives open_on is step = by r
   where
     by : (r : Reply) → caller.ClosesConn m c r n → StepsTo m (event.Call server (call.Close fd)) r n
         → (r ≡ reply.Done) × ((told (at kept q Closes) r heard).doing ≡ Over) × ((conn_at n c).closed ≡ true)
-    by reply.Done did step = (refl, refl, did.0)
+    by reply.Done did step = (refl, refl, (closed-then m n c did).0)
     by (reply.Refused z) did step = absurd (may.closes m n server fd (on.Connection c) z lives open_on step)
     by r did step = absurd did
 closes own may m n fd c kept q d r heard order lives open_on is step = absurd (cc (is))

@@ -3,6 +3,7 @@ pub mod Waiting
 pub mod OtherCalls
 pub mod OtherPipes
 pub mod Outside
+pub mod Remaining
 pub mod Unread
 pub mod Unsent
 pub mod Histories

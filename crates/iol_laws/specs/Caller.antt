@@ -2,7 +2,7 @@
 --
 -- Each word says of a reply what is then so: of an answer what it brought, of a refusal that nothing changed, and of any
 -- other reply that it cannot come.
-use Rattle.std.specs.Prelude.{◌≡◌, ◌≢◌, ℕ, ◌-◌, ◌<◌, ◌≤◌, ◌==◌, min, ◌⊎◌, Bool, true, false, if◌then◌else◌, List, [], ◌++◌, is_none, length, take, drop, Option, Some, None, option_map, slice_range}
+use Rattle.std.specs.Prelude.{◌≡◌, ◌≢◌, ℕ, ◌-◌, ◌<◌, ◌≤◌, ◌==◌, min, Bool, true, false, if◌then◌else◌, List, [], ◌++◌, is_none, length, take, drop, Option, Some, None, option_map, slice_range}
 use Rattle.iol_core.specs.Text.{Text, bytes_of, admitted}
 use Rattle.iol_core.specs.State.{State, Connection, aggregate, descriptor, may_read, conn_at, pipe_at, new_pipe, no_conn, is_gone, is_over}
 use Rattle.iol_core.specs.Run.{StepsTo}
@@ -161,12 +161,10 @@ GivesAgg s to bytes r t = ⊥
 abbrev pub remains : Connection → Connection
 remains x = if is_over x then no_conn else x
 
--- A connection that is closed loses what came in and is unread, and no other field of it changes. Where nothing is to be sent any
--- more, it is forgotten.
+-- A connection that is closed loses what came in and is unread, and no other field of it changes. One that is over then is
+-- forgotten.
 abbrev pub ClosesConn : State → (c : ℕ) → Reply → State → Type 0
-ClosesConn s c reply.Done t = ((conn_at t c).closed ≡ true) × ((conn_at t c).outgoing ≡ (conn_at s c).outgoing)
-    × ((conn_at t c ≡ record (conn_at s c) { incoming = []; closed = true })
-    ⊎ (((conn_at s c).outgoing ≡ []) × (conn_at t c ≡ no_conn)))
+ClosesConn s c reply.Done t = conn_at t c ≡ remains (record (conn_at s c) { incoming = []; closed = true })
 ClosesConn s c (reply.Refused x) t = t ≡ s
 ClosesConn s c r t = ⊥
 
@@ -240,10 +238,6 @@ pub record CallsServeTheirDomain : Type 0 where
   pub closes : (s t : State) (d fd : ℕ) (r : Reply) → StepsTo s (event.Call d (call.Close fd)) r t → Closes s d fd r t
   pub closes_conn : (s t : State) (d fd c : ℕ) (r : Reply) → IsOrderly s → descriptor s d fd ≡ Some (on.Connection c)
       → StepsTo s (event.Call d (call.Close fd)) r t → ClosesConn s c r t
-  -- what remains of it
-  pub close_remains : (s t : State) (d fd c : ℕ) → IsOrderly s → descriptor s d fd ≡ Some (on.Connection c)
-      → StepsTo s (event.Call d (call.Close fd)) reply.Done t
-      → conn_at t c ≡ remains (record (conn_at s c) { incoming = []; closed = true })
   pub accepts : (s t : State) (d : ℕ) (r : Reply) → IsOrderly s → StepsTo s (event.Call d call.Accept) r t → Accepts s d r t
 
 -- whether the reply gives this number of an aggregate, or of a descriptor

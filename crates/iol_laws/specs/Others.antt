@@ -41,26 +41,20 @@ Arrives s c bytes (reply.Count k) t = ComesIn s c (take k bytes) t
 Arrives s c bytes (reply.Refused x) t = t ≡ s
 Arrives s c bytes r t = ⊥
 
--- the first bytes that were to be sent went out; a connection that is over then is forgotten
-pub record GoesOut (s : State) (c : ℕ) (bytes : List ℕ) (t : State) : Type 0 where
-  pub bytes_were : bytes_of (conn_at s c).outgoing ≡ bytes ++ bytes_of (conn_at t c).outgoing
+-- the first bytes that were to be sent went out, at most so many; a connection that is over then is forgotten
+pub record GoesOut (s : State) (c max : ℕ) (bytes : List ℕ) (t : State) : Type 0 where
+  pub bytes_are : bytes ≡ bytes_of (take max (conn_at s c).outgoing)
   pub some : ((conn_at s c).outgoing ≡ []) → ⊥
-  pub conn : (conn_at t c ≡ record (conn_at s c) { outgoing = (conn_at t c).outgoing })
-      ⊎ (((conn_at s c).closed ≡ true) × ((conn_at t c).closed ≡ true))
-  pub left : ((conn_at t c).peer ≡ (conn_at s c).peer) ⊎ (conn_at t c ≡ no_conn)
+  pub conn : conn_at t c ≡ remains (record (conn_at s c) { outgoing = drop max (conn_at s c).outgoing })
 
-abbrev pub Transmits : State → (c : ℕ) → Reply → State → Type 0
-Transmits s c (reply.Segment bytes sum) t = GoesOut s c bytes t
-Transmits s c (reply.Refused x) t = t ≡ s
-Transmits s c r t = ⊥
+abbrev pub Transmits : State → (c max : ℕ) → Reply → State → Type 0
+Transmits s c max (reply.Segment bytes sum) t = GoesOut s c max bytes t
+Transmits s c max (reply.Refused x) t = t ≡ s
+Transmits s c max r t = ⊥
 
--- the peer closed; a connection that is over then is forgotten: nobody had accepted it, or it was closed
+-- the peer closed; a connection that is over then is forgotten
 abbrev pub PeerCloses : State → (c : ℕ) → How → Reply → State → Type 0
-PeerCloses s c how reply.Done t =
-    (conn_at t c ≡ closed_by (conn_at s c) how)
-    ⊎ (((conn_at s c).accepted ≡ false) × ((conn_at t c).closed ≡ true) × ((conn_at t c).outgoing ≡ [])
-    × ((conn_at s c).outgoing ≡ []) × (conn_at t c ≡ no_conn))
-    ⊎ (((conn_at s c).closed ≡ true) × ((conn_at t c).closed ≡ true) × ((conn_at t c).outgoing ≡ []) × (conn_at t c ≡ no_conn))
+PeerCloses s c how reply.Done t = conn_at t c ≡ remains (closed_by (conn_at s c) how)
 PeerCloses s c how (reply.Refused x) t = t ≡ s
 PeerCloses s c how r t = ⊥
 
@@ -80,7 +74,7 @@ pub record OthersLeaveConnections : Type 0 where
   pub arrive : (s t : State) (c : ℕ) (bytes : List ℕ) (r : Reply) → IsOrderly s → StepsTo s (event.Arrive c bytes) r t
       → Arrives s c bytes r t
   pub transmit : (s t : State) (c max : ℕ) (r : Reply) → IsOrderly s → StepsTo s (event.Transmit c max) r t
-      → Transmits s c r t
+      → Transmits s c max r t
   pub peer_closed : (s t : State) (c : ℕ) (how : How) (r : Reply) → IsOrderly s → StepsTo s (event.PeerClosed c how) r t
       → PeerCloses s c how r t
   -- as many bytes come in as fit
@@ -90,12 +84,6 @@ pub record OthersLeaveConnections : Type 0 where
   pub transmit_count : (s t : State) (c max : ℕ) (bytes : List ℕ) (sum : ℕ)
       → StepsTo s (event.Transmit c max) (reply.Segment bytes sum) t
       → (length bytes ≡ min max (length (conn_at s c).outgoing)) × (sum ≡ checksum bytes)
-  -- what remains of a connection after a segment, and when its peer closed
-  pub transmit_remains : (s t : State) (c max : ℕ) (bytes : List ℕ) (sum : ℕ) → IsOrderly s
-      → StepsTo s (event.Transmit c max) (reply.Segment bytes sum) t
-      → conn_at t c ≡ remains (record (conn_at s c) { outgoing = drop max (conn_at s c).outgoing })
-  pub peer_remains : (s t : State) (c : ℕ) (how : How) → IsOrderly s → StepsTo s (event.PeerClosed c how) reply.Done t
-      → conn_at t c ≡ remains (closed_by (conn_at s c) how)
 
 -- what is still to be read of a pipe stays where it is, and more may come behind it
 pub record StaysUnread (s : State) (p : ℕ) (t : State) : Type 0 where

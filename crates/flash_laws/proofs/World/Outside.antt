@@ -109,7 +109,7 @@ module _ (shelf : Shelf) (crew : Crew) (laws : AllLaws crew) where
       by r did step = absurd did
   acts m n p clients seats (event.Transmit c max) r order order_n fixed act site step all = by r (laws.the.other.transmit m n c max r order step) step
     where
-      by : (r : Reply) → o.Transmits m c r n → StepsTo m (event.Transmit c max) r n → AllFit shelf crew n (and_then p (event.Transmit c max) r) clients seats
+      by : (r : Reply) → o.Transmits m c max r n → StepsTo m (event.Transmit c max) r n → AllFit shelf crew n (and_then p (event.Transmit c max) r) clients seats
       by (reply.Segment bytes sum) did step = transmits shelf crew laws m n p clients seats c max bytes sum order order_n fixed site step all
       by (reply.Refused x) did step = nothing shelf crew m n p clients seats (event.Transmit c max) (reply.Refused x) did (past-same p (event.Transmit c max) (reply.Refused x) (λ z. refl) (λ z. refl) (λ z. refl) (λ z. refl)) all
       by r did step = absurd did

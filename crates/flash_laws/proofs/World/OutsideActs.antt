@@ -11,6 +11,7 @@ use Rattle.iol_core.specs.declared.events.Reply.TheVariants as reply
 use Rattle.iol_laws.specs.Frame.{Leaves as Leaving}
 use Rattle.iol_laws.specs.Order.{IsOrderly}
 use Rattle.iol_laws.specs.Others as o
+use Rattle.iol_laws.proofs.Streams.Remaining.{Went, went-out}
 use Rattle.iol_proc.specs.declared.seat.Seat.{Seat}
 use Rattle.flash_laws.specs.Client.{Client}
 use Rattle.flash_laws.specs.Crew.{Crew, IsFixedFor}
@@ -116,8 +117,8 @@ module _ (shelf : Shelf) (crew : Crew) (laws : AllLaws crew) where
       leaves : Leaving m (event.Transmit c max) n
       leaves = laws.the.steps.leaves m n (event.Transmit c max) (reply.Segment bytes sum) step
 
-      did : o.GoesOut m c bytes n
-      did = laws.the.other.transmit m n c max (reply.Segment bytes sum) order step
+      did : Went m c bytes n
+      did = went-out m n c max bytes order (laws.the.other.transmit m n c max (reply.Segment bytes sum) order step)
 
       some_there : n.next_conn ≤ c → ⊥
       some_there more = (let up = laws.the.rises m n (event.Transmit c max) (reply.Segment bytes sum) step in did.some (ap (λ (x : Connection). x.outgoing) (none-there m c order (omega (arith, up, more)))))

@@ -12,6 +12,7 @@ use Rattle.iol_core.specs.declared.events.Reply.TheVariants as reply
 use Rattle.iol_laws.specs.Frame.{Leaves as Leaving}
 use Rattle.iol_laws.specs.Order.{IsOrderly}
 use Rattle.iol_laws.specs.Others as o
+use Rattle.iol_laws.proofs.Streams.Remaining.{LeavesPeer, peer-left}
 use Rattle.iol_proc.specs.declared.seat.Seat.{Seat}
 use Rattle.flash_laws.specs.Client.{Client}
 use Rattle.flash_laws.specs.Crew.{Crew, IsFixedFor}
@@ -86,10 +87,10 @@ module _ (shelf : Shelf) (crew : Crew) (laws : AllLaws crew) where
       leaves : Leaving m (event.PeerClosed c w) n
       leaves = laws.the.steps.leaves m n (event.PeerClosed c w) reply.Done step
 
-      did : o.PeerCloses m c w reply.Done n
-      did = laws.the.other.peer_closed m n c w reply.Done order step
+      did : LeavesPeer m c w n
+      did = peer-left m n c w order (laws.the.other.peer_closed m n c w reply.Done order step)
 
-      goes : (conn_at m c).accepted ≡ true → (conn_at m c).closed ≡ false → o.PeerCloses m c w reply.Done n → Goes m n p (peer_told p c w) c
+      goes : (conn_at m c).accepted ≡ true → (conn_at m c).closed ≡ false → LeavesPeer m c w n → Goes m n p (peer_told p c w) c
       goes taken open_yet (inl conn) = record {
         more = [];
         came = sym (append-nil (p.came c));
@@ -142,7 +143,7 @@ module _ (shelf : Shelf) (crew : Crew) (laws : AllLaws crew) where
       silent how.Done waits = refl
       silent how.Gone waits = sym (order.silent c waits)
 
-      aside : o.PeerCloses m c w reply.Done n → Aside shelf p c (conn_at m c) → Aside shelf (peer_told p c w) c (conn_at n c)
+      aside : LeavesPeer m c w n → Aside shelf p c (conn_at m c) → Aside shelf (peer_told p c w) c (conn_at n c)
       aside (inl conn) (inl v) = inl (subst (λ (z : Connection). Waits (peer_told p c w) c z) (sym conn) (record {
         waits = accepted-same (conn_at m c) w ∙ v.waits;
         pool_is = λ net. pool-same (conn_at m c) w ∙ v.pool_is net;
@@ -152,16 +153,16 @@ module _ (shelf : Shelf) (crew : Crew) (laws : AllLaws crew) where
       aside (inl conn) (inr (inl v)) = inr (inl (subst (λ (z : Connection). Ended shelf (peer_told p c w) c z) (sym conn) (record { closed = closed-same (conn_at m c) w ∙ v.closed; begins = outgoing-less shelf (conn_at m c) w (p.came c) (p.sent c) v.begins; whole = whole-closed shelf (conn_at m c) c w (p.came c) (p.sent c) (p.gone c) v.whole })))
       aside (inl conn) (inr (inr v)) = inr (inr (subst (λ (z : Connection). Foreign (peer_told p c w) c z) (sym conn) (record { other_pool = v.other_pool; taken = accepted-same (conn_at m c) w ∙ v.taken })))
       aside (inr (inl g)) (inl v) = inr (inl (record {
-        closed = g.1;
-        begins = subst (λ (l : List ℕ). Begins shelf (p.came c) l) (sym (ap (λ (t : Text). p.sent c ++ bytes_of t) (g.2 ∙ sym g.3) ∙ v.none_sent)) (begins-none shelf (p.came c));
-        whole = inl (unaccepted w step v.waits g.1);
+        closed = g.2.closed;
+        begins = subst (λ (l : List ℕ). Begins shelf (p.came c) l) (sym (ap (λ (t : Text). p.sent c ++ bytes_of t) (g.2.none ∙ sym g.1) ∙ v.none_sent)) (begins-none shelf (p.came c));
+        whole = inl (unaccepted w step v.waits g.2.closed);
       }))
       aside (inr (inl g)) (inr (inl v)) = (let a = order.waits c g.0 in let b = v.closed in absurd (cc (a, b)))
       aside (inr (inl g)) (inr (inr v)) = (let a = g.0 in let b = v.taken in absurd (cc (a, b)))
       aside (inr (inr g)) (inl v) = (let a = order.waits c v.waits in let b = g.0 in absurd (cc (a, b)))
       aside (inr (inr g)) (inr (inl v)) = inr (inl (record {
-        closed = g.1;
-        begins = subst (λ (t : Text). Begins shelf (p.came c) (p.sent c ++ bytes_of t)) (sym g.2) (subst (λ (l : List ℕ). Begins shelf (p.came c) l) (sym (append-nil (p.sent c))) (begins-less shelf (p.came c) (p.sent c) (bytes_of (conn_at m c).outgoing) v.begins));
-        whole = forgotten w step g.2 v.whole;
+        closed = g.1.closed;
+        begins = subst (λ (t : Text). Begins shelf (p.came c) (p.sent c ++ bytes_of t)) (sym g.1.none) (subst (λ (l : List ℕ). Begins shelf (p.came c) l) (sym (append-nil (p.sent c))) (begins-less shelf (p.came c) (p.sent c) (bytes_of (conn_at m c).outgoing) v.begins));
+        whole = forgotten w step g.1.none v.whole;
       }))
-      aside (inr (inr g)) (inr (inr v)) = inr (inr (record { other_pool = v.other_pool; taken = was-accepted n c order_n g.1 }))
+      aside (inr (inr g)) (inr (inr v)) = inr (inr (record { other_pool = v.other_pool; taken = was-accepted n c order_n g.1.closed }))

@@ -10,6 +10,7 @@ use Rattle.iol_core.specs.declared.events.Reply.{Reply}
 use Rattle.iol_core.specs.declared.events.Reply.TheVariants as reply
 use Rattle.iol_laws.specs.Caller.{is_rough}
 use Rattle.iol_laws.specs.Order.{IsOrderly}
+use Rattle.iol_laws.proofs.Streams.Remaining.{closed-then}
 use Rattle.iol_proc.specs.declared.seat.Seat.{Seat}
 use Rattle.flash_http.specs.declared.windows.Window.{Window}
 use Rattle.flash_http.specs.declared.windows.Window.TheVariants.{Wait, Head, TooLarge}
@@ -131,7 +132,7 @@ module _ (shelf : Shelf) (crew : Crew) (laws : AllLaws crew) where
       → ((conn_at n c).closed ≡ true) × Begins shelf came (sent ++ bytes_of (conn_at n c).outgoing)
       × ((is_gone (conn_at m c).peer ≡ true) ⊎ IsAnswer shelf came (sent ++ bytes_of (conn_at n c).outgoing))
   alone_closes m n came sent fd c x order closing f step =
-      let did = laws.the.own.closes_conn m n server fd c reply.Done order f.open_on step in
+      let did = closed-then m n c (laws.the.own.closes_conn m n server fd c reply.Done order f.open_on step) in
       let begun = begins-append laws.the.windows shelf f.took (bytes_of (conn_at m c).incoming) (sent ++ bytes_of (conn_at m c).outgoing) (begins-tie shelf (conn_at m c) f.took sent x f.tie) in (
         did.0,
         subst (λ (l : List ℕ). Begins shelf l (sent ++ bytes_of (conn_at n c).outgoing)) (sym f.came_is) (subst (λ (t : Text). Begins shelf (f.took ++ bytes_of (conn_at m c).incoming) (sent ++ bytes_of t)) (sym did.1) begun),

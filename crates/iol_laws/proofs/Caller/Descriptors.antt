@@ -1,9 +1,9 @@
 -- What reading, writing, accepting and closing do for their own domain.
-use Rattle.std.proofs.Common.{◌⊎◌, inr, inl, ◌≡◌, ℕ, ◌≤◌, List, [], ◌++◌, length, take, drop, ap, ◌∙◌, refl, sym, arith, Option, Some, None, true, false, Bool}
-use Rattle.std.specs.Prelude.{min, ◌-◌, option_map, unwrap_or, not, is_none, ◌&&◌, ◌||◌}
+use Rattle.std.proofs.Common.{◌≡◌, ℕ, ◌≤◌, List, [], ◌++◌, length, take, drop, ap, ◌∙◌, refl, sym, arith, Option, Some, None, true, false}
+use Rattle.std.specs.Prelude.{min, ◌-◌, option_map, unwrap_or, is_none}
 use Rattle.iol_core.specs.Text.{Text, bytes_of, admitted}
 use Rattle.iol_core.specs.Numbered.{lookup, in_place, lowest, placed}
-use Rattle.iol_core.specs.State.{no_conn, State, Domain, Connection, domain, text, descriptor, may_read, conn_at, is_live, is_over, is_gone, with_conn}
+use Rattle.iol_core.specs.State.{State, Domain, Connection, domain, text, descriptor, may_read, conn_at, is_live, is_gone, with_conn}
 use Rattle.iol_core.specs.Run.{StepsTo}
 use Rattle.iol_core.specs.Calls.Aggregates as aggs
 use Rattle.iol_core.specs.Calls.Descriptors as fds
@@ -19,8 +19,8 @@ use Rattle.iol_core.specs.declared.events.Reply.TheVariants as reply
 use Rattle.iol_core.proofs.Lookups.{domain-same}
 use Rattle.iol_core.proofs.Passing.{passed, when-none}
 use Rattle.iol_laws.specs.Order.{IsOrderly}
-use Rattle.iol_laws.specs.Caller.{lent_at, remains, Puts, ReadsConn, WritesConn, Closes, ClosesConn, Accepts}
-use Rattle.iol_laws.proofs.Connections.{conn-over, conn-remains, conn-with_same, conns-with_agg, conns-with_fds, conns_conn, not-over, nothing-left}
+use Rattle.iol_laws.specs.Caller.{lent_at, Puts, ReadsConn, WritesConn, Closes, ClosesConn, Accepts}
+use Rattle.iol_laws.proofs.Connections.{conn-remains, conn-with_same, conns-with_agg, conns-with_fds, conns_conn, not-over}
 use Rattle.iol_laws.proofs.Domains.{domain-with_same, domains-closed_on, domains-with_conn, live-first}
 use Rattle.iol_laws.proofs.Ended.{none-admitted, none-comes}
 use Rattle.iol_laws.proofs.Numbers.{lent-made, new-fd, number, text-of}
@@ -96,26 +96,9 @@ does_close_conn s t d fd c reply.Done order is step =
     let both = opened-conn s d fd c order is in
     let x : Connection = record (conn_at s c) { incoming = []; closed = true } in
     let same : t ≡ fds.with_fds (with_conn s c x) d (fds.freed s d fd) = step.2 ∙ ap (λ o. fds.with_fds (fds.closed_on s o) d (fds.freed s d fd)) is in
-    let conn : conn_at t c ≡ conn_at (with_conn s c x) c = ap (λ u. conn_at u c) same ∙ conns-with_fds (with_conn s c x) d (fds.freed s d fd) c in
-    by x conn both.1 (is_over x) refl refl
-  where
-    by : (x : Connection) → conn_at t c ≡ conn_at (with_conn s c x) c → (conn_at s c).closed ≡ false → (b : Bool) → is_over x ≡ b → x ≡ record (conn_at s c) { incoming = []; closed = true } → ((conn_at t c).closed ≡ true) × ((conn_at t c).outgoing ≡ (conn_at s c).outgoing) × ((conn_at t c ≡ record (conn_at s c) { incoming = []; closed = true }) ⊎ (((conn_at s c).outgoing ≡ []) × (conn_at t c ≡ no_conn)))
-    by x conn open_yet false over x_is =
-        let e = conn ∙ (conn-with_same s c x open_yet over ∙ x_is) in
-        (ap (λ (z : Connection). z.closed) e, ap (λ (z : Connection). z.outgoing) e, inl e)
-    by x conn open_yet true over x_is =
-        let e = conn ∙ conn-over s c x order.once over in
-        let gone : x.outgoing ≡ [] = nothing-left x.outgoing (x.closed || (not x.accepted && is_gone x.peer)) over in
-        (ap (λ (z : Connection). z.closed) e, ap (λ (z : Connection). z.outgoing) e ∙ (sym gone ∙ ap (λ (z : Connection). z.outgoing) x_is), inr (sym (ap (λ (z : Connection). z.outgoing) x_is) ∙ gone, e))
+    ap (λ u. conn_at u c) same ∙ (conns-with_fds (with_conn s c x) d (fds.freed s d fd) c ∙ conn-remains s c x order.once (conn-with_same s c x both.1))
 does_close_conn s t d fd c (reply.Refused x) order is step = step.1
 does_close_conn s t d fd c r order is step = (let e = step.1 in absurd (cc))
-
-pub close_remains : (s t : State) (d fd c : ℕ) → IsOrderly s → descriptor s d fd ≡ Some (on.Connection c) → StepsTo s (event.Call d (call.Close fd)) reply.Done t → conn_at t c ≡ remains (record (conn_at s c) { incoming = []; closed = true })
-close_remains s t d fd c order is step =
-    let both = opened-conn s d fd c order is in
-    let x : Connection = record (conn_at s c) { incoming = []; closed = true } in
-    let same : t ≡ fds.with_fds (with_conn s c x) d (fds.freed s d fd) = step.2 ∙ ap (λ o. fds.with_fds (fds.closed_on s o) d (fds.freed s d fd)) is in
-    ap (λ u. conn_at u c) same ∙ (conns-with_fds (with_conn s c x) d (fds.freed s d fd) c ∙ conn-remains s c x order.once (conn-with_same s c x both.1))
 
 pub does_accept : (s t : State) (d : ℕ) (r : Reply) → IsOrderly s → StepsTo s (event.Call d call.Accept) r t → Accepts s d r t
 does_accept s t d (reply.Fd fd) order step =

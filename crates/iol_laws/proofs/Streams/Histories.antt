@@ -15,10 +15,11 @@ use Rattle.iol_core.specs.declared.events.Event.TheVariants as event
 use Rattle.iol_core.specs.declared.events.Reply.{Reply}
 use Rattle.iol_core.specs.declared.events.Reply.TheVariants as reply
 use Rattle.iol_laws.specs.Order.{IsOrderly}
-use Rattle.iol_laws.specs.Others.{ComesIn, GoesOut}
+use Rattle.iol_laws.specs.Others.{ComesIn}
 use Rattle.iol_laws.specs.History.{came_by, sent_by, stream_of, sent_of, IsEndOf, GoesFirst}
 use Rattle.iol_laws.proofs.Left.Leaving.{leaves_step}
 use Rattle.iol_laws.proofs.Streams.Outside.{does_arrive, does_transmit}
+use Rattle.iol_laws.proofs.Streams.Remaining.{Went, went-out}
 use Rattle.iol_laws.proofs.Order.Ordered.{orderly_step}
 use Rattle.iol_laws.proofs.Texts.{bytes-append}
 use Rattle.iol_laws.specs.History.{drops_unsent}
@@ -115,8 +116,8 @@ longer_outcome m old new (Err x) c longer step = subst (λ (s : State). IsLonger
 first_transmit : (s t : State) (e max : ℕ) (r : Reply) (c : ℕ) → IsOrderly s → StepsTo s (event.Transmit e max) r t → GoesFirst (bytes_of (conn_at s c).outgoing) (sent_by c (event.Transmit e max) r) (bytes_of (conn_at t c).outgoing)
 first_transmit s t e max (reply.Segment bytes sum) c order step = by (e == c) refl
   where
-    went : GoesOut s e bytes t
-    went = does_transmit s t e max (reply.Segment bytes sum) order step
+    went : Went s e bytes t
+    went = went-out s t e max bytes order (does_transmit s t e max (reply.Segment bytes sum) order step)
 
     by : (b : Bool) → (e == c) ≡ b → GoesFirst (bytes_of (conn_at s c).outgoing) (if b then bytes else []) (bytes_of (conn_at t c).outgoing)
     by true is =

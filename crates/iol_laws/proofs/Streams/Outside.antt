@@ -1,11 +1,11 @@
 -- What happens outside to a connection.
-use Rattle.std.proofs.Common.{inl, inr, ◌≡◌, ℕ, ◌==◌, ◌⊎◌, List, [], ◌∷◌, ◌++◌, length, take, drop, ap, ◌∙◌, refl, sym, arith, Option, Some, None, true, false, Bool}
+use Rattle.std.proofs.Common.{◌≡◌, ℕ, ◌==◌, List, [], ◌∷◌, ◌++◌, length, take, drop, ap, ◌∙◌, refl, sym, arith, Option, Some, None, true, false, Bool}
 use Rattle.std.specs.Prelude.{min, not, is_none, is_some, ◌&&◌, ◌||◌, ◌-◌}
-use Rattle.std.proofs.lemmas.List.{length-take, take-append-drop}
+use Rattle.std.proofs.lemmas.List.{length-take}
 use Rattle.iol_core.specs.Text.{Text, bytes_of, labelled}
 use Rattle.iol_core.specs.Checksum.{checksum}
 use Rattle.iol_core.specs.Numbered.{lookup}
-use Rattle.iol_core.specs.State.{State, Connection, pool, conn_at, no_conn, is_over, is_gone, with_conn}
+use Rattle.iol_core.specs.State.{State, Connection, pool, conn_at, is_gone, with_conn}
 use Rattle.iol_core.specs.Meaning.{first, ◌when◌}
 use Rattle.iol_core.specs.Run.{StepsTo}
 use Rattle.iol_core.specs.Calls.Outside.{conn_new, closed_by, arrive, transmit, peer_closed}
@@ -14,15 +14,13 @@ use Rattle.iol_core.specs.declared.limits.TheConstants.{MAX_QUEUE_BYTES}
 use Rattle.iol_core.specs.declared.refusals.Refusal.{Refusal}
 use Rattle.iol_core.specs.declared.refusals.Refusal.TheVariants as refuse
 use Rattle.iol_core.specs.declared.descriptors.How.{How}
-use Rattle.iol_core.specs.declared.descriptors.How.TheVariants as ways
 use Rattle.iol_core.specs.declared.events.Event.TheVariants as event
 use Rattle.iol_core.specs.declared.events.Reply.{Reply}
 use Rattle.iol_core.specs.declared.events.Reply.TheVariants as reply
 use Rattle.iol_core.proofs.Passing.{passed, when-none}
 use Rattle.iol_laws.specs.Order.{IsOrderly}
-use Rattle.iol_laws.specs.Caller.{remains}
-use Rattle.iol_laws.specs.Others.{MakesConn, Arrives, GoesOut, Transmits, PeerCloses}
-use Rattle.iol_laws.proofs.Connections.{conn-made, conn-over, conn-remains, conn-unmade, conn-there, conn-with_same, not-over, nothing-left}
+use Rattle.iol_laws.specs.Others.{MakesConn, Arrives, Transmits, PeerCloses}
+use Rattle.iol_laws.proofs.Connections.{conn-made, conn-remains, conn-unmade, conn-there, conn-with_same}
 use Rattle.iol_laws.proofs.Numbers.{number}
 use Rattle.iol_laws.proofs.Texts.{bytes-append, bytes-labelled, length-bytes}
 
@@ -83,66 +81,30 @@ does_arrive s t c bytes (reply.Count k) order step =
 does_arrive s t c bytes (reply.Refused x) order step = step.1
 does_arrive s t c bytes r order step = (let e = step.1 in absurd (cc))
 
-pub does_transmit : (s t : State) (c max : ℕ) (r : Reply) → IsOrderly s → StepsTo s (event.Transmit c max) r t → Transmits s c r t
-does_transmit s t c max (reply.Segment bytes sum) order step = by (is_over x) refl
-  where
-    out : Text
-    out = (conn_at s c).outgoing
+conn-known : (s : State) (c : ℕ) (rest : List (Option Refusal)) → first ((refuse.BadFd when is_none (lookup s.conns c)) ∷ rest) ≡ None → (y : Connection) × (lookup s.conns c ≡ Some y)
+conn-known s c rest none = is-there (lookup s.conns c) (when-none refuse.BadFd (is_none (lookup s.conns c)) (passed ((refuse.BadFd when is_none (lookup s.conns c)) ∷ rest) 0 none))
 
+pub does_transmit : (s t : State) (c max : ℕ) (r : Reply) → IsOrderly s → StepsTo s (event.Transmit c max) r t → Transmits s c max r t
+does_transmit s t c max (reply.Segment bytes sum) order step = record {
+  bytes_are = ap sent_in step.1;
+  some = λ empty. (let a = when-none refuse.WouldBlock (length (conn_at s c).outgoing == 0) (passed (transmit s c max).refusals 2 step.0) in let b : (length (conn_at s c).outgoing == 0) ≡ true = ap (λ (l : Text). length l == 0) empty in absurd (cc (a, b)));
+  conn = ap (λ u. conn_at u c) step.2 ∙ conn-remains s c x order.once (conn-there s c x there.0 there.1);
+}
+  where
     x : Connection
     x = record (conn_at s c) { outgoing = drop max (conn_at s c).outgoing }
 
-    bytes_is : bytes ≡ bytes_of (take max (conn_at s c).outgoing)
-    bytes_is = ap sent_in step.1
-
     there : (y : Connection) × (lookup s.conns c ≡ Some y)
-    there = is-there (lookup s.conns c) (when-none refuse.BadFd (is_none (lookup s.conns c)) (passed (transmit s c max).refusals 0 step.0))
-
-    some : (conn_at s c).outgoing ≡ [] → ⊥
-    some empty = (let a = when-none refuse.WouldBlock (length (conn_at s c).outgoing == 0) (passed (transmit s c max).refusals 2 step.0) in let b : (length (conn_at s c).outgoing == 0) ≡ true = ap (λ (l : Text). length l == 0) empty in absurd (cc (a, b)))
-
-    parts : bytes_of (conn_at s c).outgoing ≡ bytes ++ bytes_of (drop max (conn_at s c).outgoing)
-    parts = ap (λ (l : Text). bytes_of l) (sym (take-append-drop max (conn_at s c).outgoing)) ∙ (bytes-append (take max (conn_at s c).outgoing) (drop max (conn_at s c).outgoing) ∙ ap (λ (l : List ℕ). l ++ bytes_of (drop max (conn_at s c).outgoing)) (sym bytes_is))
-
-    by : (b : Bool) → is_over x ≡ b → GoesOut s c bytes t
-    by false over =
-        let e : conn_at t c ≡ x = ap (λ u. conn_at u c) step.2 ∙ conn-there s c x there.0 there.1 over in
-        record { bytes_were = parts ∙ ap (λ (k : Connection). bytes ++ bytes_of k.outgoing) (sym e); some = some; conn = inl (e ∙ ap (λ (k : Connection). record (conn_at s c) { outgoing = k.outgoing }) (sym e)); left = inl (ap (λ (k : Connection). k.peer) e) }
-    by true over =
-        let e : conn_at t c ≡ no_conn = ap (λ u. conn_at u c) step.2 ∙ conn-over s c x order.once over in
-        let gone : drop max (conn_at s c).outgoing ≡ [] = nothing-left (drop max (conn_at s c).outgoing) ((conn_at s c).closed || (not (conn_at s c).accepted && is_gone (conn_at s c).peer)) over in
-        record { bytes_were = parts ∙ (ap (λ (l : Text). bytes ++ bytes_of l) gone ∙ ap (λ (k : Connection). bytes ++ bytes_of k.outgoing) (sym e)); some = some; conn = inr (was_closed (conn_at s c).closed (conn_at s c).accepted refl refl over, ap (λ (k : Connection). k.closed) e); left = inr e }
-      where
-        was_closed : (a b : Bool) → (conn_at s c).closed ≡ a → (conn_at s c).accepted ≡ b → is_over x ≡ true → (conn_at s c).closed ≡ true
-        was_closed true b is_a is_b over = is_a
-        was_closed false false is_a is_b over = absurd (some (order.silent c is_b))
-        was_closed false true is_a is_b over = absurd (let e = not-over x is_b is_a in cc (e, over))
+    there = conn-known s c _ step.0
 does_transmit s t c max (reply.Refused x) order step = step.1
 does_transmit s t c max r order step = (let e = step.1 in absurd (cc))
 
 -- The peer closes.
 pub does_peer_closed : (s t : State) (c : ℕ) (how : How) (r : Reply) → IsOrderly s → StepsTo s (event.PeerClosed c how) r t → PeerCloses s c how r t
-does_peer_closed s t c how reply.Done order step = by (is_over (closed_by (conn_at s c) how)) refl
-  where
-    there : (y : Connection) × (lookup s.conns c ≡ Some y)
-    there = is-there (lookup s.conns c) (when-none refuse.BadFd (is_none (lookup s.conns c)) (passed (peer_closed s c how).refusals 0 step.0))
-
-    kept : (k : Connection) (how : How) → ((closed_by k how).accepted ≡ k.accepted) × ((closed_by k how).closed ≡ k.closed)
-    kept k ways.Done = (refl, refl)
-    kept k ways.Gone = (refl, refl)
-
-    by : (b : Bool) → is_over (closed_by (conn_at s c) how) ≡ b → PeerCloses s c how reply.Done t
-    by false over = inl (ap (λ u. conn_at u c) step.2 ∙ conn-there s c (closed_by (conn_at s c) how) there.0 there.1 over)
-    by true over = inr (cases (conn_at s c).closed (conn_at s c).accepted refl refl)
-      where
-        e : conn_at t c ≡ no_conn
-        e = ap (λ u. conn_at u c) step.2 ∙ conn-over s c (closed_by (conn_at s c) how) order.once over
-
-        cases : (a b : Bool) → (conn_at s c).closed ≡ a → (conn_at s c).accepted ≡ b
-            → (((conn_at s c).accepted ≡ false) × ((conn_at t c).closed ≡ true) × ((conn_at t c).outgoing ≡ []) × ((conn_at s c).outgoing ≡ []) × (conn_at t c ≡ no_conn)) ⊎ (((conn_at s c).closed ≡ true) × ((conn_at t c).closed ≡ true) × ((conn_at t c).outgoing ≡ []) × (conn_at t c ≡ no_conn))
-        cases true b is_a is_b = inr (is_a, ap (λ (k : Connection). k.closed) e, ap (λ (k : Connection). k.outgoing) e, e)
-        cases false false is_a is_b = inl (is_b, ap (λ (k : Connection). k.closed) e, ap (λ (k : Connection). k.outgoing) e, order.silent c is_b, e)
-        cases false true is_a is_b = absurd (let n = not-over (closed_by (conn_at s c) how) ((kept (conn_at s c) how).0 ∙ is_b) ((kept (conn_at s c) how).1 ∙ is_a) in cc (n, over))
+does_peer_closed s t c how reply.Done order step =
+    let x : Connection = closed_by (conn_at s c) how in
+    let there = conn-known s c _ step.0 in
+    ap (λ u. conn_at u c) step.2 ∙ conn-remains s c x order.once (conn-there s c x there.0 there.1)
 does_peer_closed s t c how (reply.Refused x) order step = step.1
 does_peer_closed s t c how r order step = (let e = step.1 in absurd (cc))
 
@@ -156,20 +118,3 @@ count_sent s t c max bytes sum step =
     let out : Text = (conn_at s c).outgoing in
     let is : bytes ≡ bytes_of (take max out) = ap sent_in step.1 in
     (ap (λ (l : List ℕ). length l) is ∙ (length-bytes (take max out) ∙ length-take max out), ap sum_in step.1 ∙ ap checksum (sym is))
-
--- What remains of a connection.
-
-conn-known : (s : State) (c : ℕ) (rest : List (Option Refusal)) → first ((refuse.BadFd when is_none (lookup s.conns c)) ∷ rest) ≡ None → (y : Connection) × (lookup s.conns c ≡ Some y)
-conn-known s c rest none = is-there (lookup s.conns c) (when-none refuse.BadFd (is_none (lookup s.conns c)) (passed ((refuse.BadFd when is_none (lookup s.conns c)) ∷ rest) 0 none))
-
-pub sent_remains : (s t : State) (c max : ℕ) (bytes : List ℕ) (sum : ℕ) → IsOrderly s → StepsTo s (event.Transmit c max) (reply.Segment bytes sum) t → conn_at t c ≡ remains (record (conn_at s c) { outgoing = drop max (conn_at s c).outgoing })
-sent_remains s t c max bytes sum order step =
-    let x : Connection = record (conn_at s c) { outgoing = drop max (conn_at s c).outgoing } in
-    let there = conn-known s c _ step.0 in
-    ap (λ u. conn_at u c) step.2 ∙ conn-remains s c x order.once (conn-there s c x there.0 there.1)
-
-pub peer_remains : (s t : State) (c : ℕ) (how : How) → IsOrderly s → StepsTo s (event.PeerClosed c how) reply.Done t → conn_at t c ≡ remains (closed_by (conn_at s c) how)
-peer_remains s t c how order step =
-    let x : Connection = closed_by (conn_at s c) how in
-    let there = conn-known s c _ step.0 in
-    ap (λ u. conn_at u c) step.2 ∙ conn-remains s c x order.once (conn-there s c x there.0 there.1)

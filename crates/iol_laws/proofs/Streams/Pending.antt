@@ -18,7 +18,7 @@ use Rattle.iol_core.specs.declared.events.Event.TheVariants as event
 use Rattle.iol_core.specs.declared.events.Reply.{Reply}
 use Rattle.iol_core.specs.declared.events.Reply.TheVariants as reply
 use Rattle.iol_laws.specs.Order.{Once, IsOrderly}
-use Rattle.iol_laws.specs.Others.{ComesIn, GoesOut}
+use Rattle.iol_laws.specs.Others.{ComesIn}
 use Rattle.iol_laws.specs.History.{came_by, sent_by, stream_of, sent_of, IsAllUnread}
 use Rattle.iol_laws.proofs.Streams.Accepted.{IsAccepted, accepted-with_conn, accepted_called, accepted_outcome}
 use Rattle.iol_laws.proofs.Connections.{conns_conn, conn-push, conn-unmade, after-with_conn}
@@ -27,6 +27,7 @@ use Rattle.iol_laws.proofs.Streams.NextNumber.{next_step}
 use Rattle.iol_laws.proofs.Order.Ordered.{orderly_step}
 use Rattle.iol_laws.proofs.Streams.OtherCalls.{other_waiting}
 use Rattle.iol_laws.proofs.Streams.Outside.{does_arrive, does_transmit}
+use Rattle.iol_laws.proofs.Streams.Remaining.{Went, went-out}
 
 -- What is accepted stays so, whatever happens.
 
@@ -91,8 +92,8 @@ unread_all_arrive s t e bytes r c order step = (let e = step.1 in absurd (cc))
 unread_all_transmit : (s t : State) (e max : ℕ) (r : Reply) (c : ℕ) → IsOrderly s → StepsTo s (event.Transmit e max) r t → (conn_at s c).accepted ≡ false → IsAllUnread s c [] (sent_by c (event.Transmit e max) r) t
 unread_all_transmit s t e max (reply.Segment bytes sum) c order step waits = by (e == c) refl
   where
-    went : GoesOut s e bytes t
-    went = does_transmit s t e max (reply.Segment bytes sum) order step
+    went : Went s e bytes t
+    went = went-out s t e max bytes order (does_transmit s t e max (reply.Segment bytes sum) order step)
 
     by : (b : Bool) → (e == c) ≡ b → IsAllUnread s c [] (if b then bytes else []) t
     by true is =

@@ -1,5 +1,5 @@
 use Rattle.iol_laws.proofs.Streams.OtherCalls.{other_conn, other_waiting, other_accepted}
-use Rattle.iol_laws.proofs.Streams.Outside.{does_connect, does_arrive, does_transmit, does_peer_closed, count_arrived, count_sent, sent_remains, peer_remains}
+use Rattle.iol_laws.proofs.Streams.Outside.{does_connect, does_arrive, does_transmit, does_peer_closed, count_arrived, count_sent}
 use Rattle.iol_laws.proofs.laws.others_leave_connections.Goals as goal
 
 pub returns : goal.returns
@@ -13,6 +13,4 @@ returns c = record {
   peer_closed = does_peer_closed;
   arrive_count = count_arrived;
   transmit_count = count_sent;
-  transmit_remains = sent_remains;
-  peer_remains = peer_remains;
 }
