@@ -20,7 +20,8 @@ use iol_proc::laws::idle_is_settled;
 /// has as a process. A new world is tied, each calm step keeps the tie, and so does a calm run; and
 /// where it holds, what was sent on each connection of the net begins the answer to what came on it,
 /// of files and of what scripts put out, and is all of it once the connection is closed, unless its
-/// peer left. Where all is idle nothing is left to do.
+/// peer left. Where all is idle nothing is left to do, but what waits for others: full queues, clients
+/// that wait for workers of such, and connections while the server has as many as it may (`IsDone`).
 pub fn connections_do_not_meet()
     ensures first { (s : Site) → TiedAtFirst (crew_of s) }
     ensures step { (s : Site) → StepKeepsTie in_rounds (crew_of s) }
@@ -49,7 +50,7 @@ pub fn set_up_is_a_new_world()
 /// What [`host`](crate::host::host) gives is right, whatever the site, where what came from outside
 /// was mild and no turn was rough: what was sent on each connection of the net begins the answer to
 /// what came on it, be it for files or for scripts, and is all of it once it is closed, unless its
-/// peer left; where all is idle nothing is left to do.
+/// peer left; where all is idle nothing is left to do, but what waits for others (`IsDone`).
 pub fn hosted_is_right()
     ensures { HostedIsRight }
 {
