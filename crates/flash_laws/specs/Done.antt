@@ -1,16 +1,20 @@
 -- Where all is idle nothing is left to do.
-use Rattle.std.specs.Prelude.{◌≡◌, ℕ, true, false, nat_lt, List, Option}
+use Rattle.std.specs.Prelude.{◌≡◌, ℕ, true, false, nat_lt, List, Option, Some}
 use Rattle.std.specs.List.{list_all}
-use Rattle.iol_core.specs.Numbered.{taken}
+use Rattle.iol_core.specs.Numbered.{in_place, taken}
+use Rattle.iol_core.specs.State.{State, descriptor}
+use Rattle.iol_core.specs.declared.descriptors.Descriptor.TheVariants as on
 use Rattle.flash_http.specs.declared.windows.Window.TheVariants.{Wait}
 use Rattle.flash_http.specs.Window.{window_in}
 use Rattle.flash_http.specs.Request.{Answer}
 use Rattle.flash_laws.specs.Answers.{Reads, keeps}
 use Rattle.flash_laws.specs.Policy.{most_conns}
+use Rattle.flash_laws.specs.Site.{server}
 
--- the server holds as many connections as it may
-abbrev pub IsFull : {A : Type 0} → List (Option A) → Type 0
-IsFull conns = nat_lt (taken conns) most_conns ≡ false
+-- The server has as many connections as it may: so many are kept, and each of these is open on one.
+pub record IsFull {A : Type 0} (m : State) (kept : List (Option A)) : Type 0 where
+  pub most : nat_lt (taken kept) most_conns ≡ false
+  pub each : (fd : ℕ) (x : A) → in_place kept fd ≡ Some x → (c : ℕ) × (descriptor m server fd ≡ Some (on.Connection c))
 
 -- Nothing that came on the stream asks for the connection to be closed: after each of its requests it stays open, and no further
 -- one is there (RFC 9112, section 9.3).

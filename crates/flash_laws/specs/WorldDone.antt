@@ -48,8 +48,8 @@ pub record AwaitsWorker (workers : ℕ) (m : State) (clients : List (Option Clie
   pub busy : (k : ℕ) → k < workers → RunsForHeldUp m clients k
 
 pub record IsDone (shelf : Shelf) (workers : ℕ) (m : State) (p : Past) (clients : List (Option Client)) : Type 0 where
-  -- each connection of the net is accepted, unless the server is full
-  pub accepted : (c : ℕ) → p.net c ≡ true → ((conn_at m c).accepted ≡ true) ⊎ IsFull clients
+  -- each connection of the net is accepted, unless the server has as many open as it may
+  pub accepted : (c : ℕ) → p.net c ≡ true → ((conn_at m c).accepted ≡ true) ⊎ IsFull m clients
   -- each that was accepted, and whose peer did not leave, is answered whole, closed or not, or as much waits to be sent as may, or it
   -- waits for a worker
   pub answered : (c : ℕ) → p.net c ≡ true → (conn_at m c).accepted ≡ true → p.gone c ≡ false

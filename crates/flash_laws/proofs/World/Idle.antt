@@ -138,7 +138,7 @@ module _ (shelf : Shelf) (crew : Crew) (laws : AllLaws crew) (m : State) (order 
       by (inr (inr over)) = inr (inr (awaits-left held.fd held.client held.at over))
 
   -- each connection of the net, whether the server has it or not
-  accepted : (c : ℕ) → p.net c ≡ true → Held m clients c ⊎ Aside shelf p c (conn_at m c) → ((conn_at m c).accepted ≡ true) ⊎ IsFull clients
+  accepted : (c : ℕ) → p.net c ≡ true → Held m clients c ⊎ Aside shelf p c (conn_at m c) → ((conn_at m c).accepted ≡ true) ⊎ IsFull m clients
   accepted c net (inl held) = inl (held-open m held.fd c order held.open_on).0
   accepted c net (inr (inr (inl ended))) = inl (by (conn_at m c).accepted refl)
     where
@@ -147,7 +147,7 @@ module _ (shelf : Shelf) (crew : Crew) (laws : AllLaws crew) (m : State) (order 
       by false is = (let a = order.waits c is in let b = ended.closed in absurd (cc (a, b)))
   accepted c net (inr (inr (inr foreign))) = inl foreign.taken
   accepted c net (inr (inl waits)) = elim blocked.door [
-    | inl full ↦ inr full
+    | inl most ↦ inr (record { most = most; each = λ fd x is. ((all.each fd x is).conn, place-open fd x is) })
     | inr step ↦ (let never = ap (λ z. may_read m server z) (sym (waits.pool_is net)) ∙ laws.the.reasons.nobody_waits m m server c step waits.waits in let may = fixed.site.net_read in absurd (cc (never, may)))
   ]
 
