@@ -1,5 +1,5 @@
 -- Where all is idle nothing is left to do.
-use Rattle.std.specs.Prelude.{◌≡◌, ℕ, true, false, nat_lt, List, Option, Some}
+use Rattle.std.specs.Prelude.{◌≡◌, ℕ, true, false, nat_lt, List, [], ◌∷◌, ◌++◌, Option, Some}
 use Rattle.std.specs.List.{list_all}
 use Rattle.iol_core.specs.Numbered.{in_place, taken}
 use Rattle.iol_core.specs.State.{State, descriptor}
@@ -8,7 +8,9 @@ use Rattle.flash_http.specs.declared.windows.Window.TheVariants.{Wait}
 use Rattle.flash_http.specs.Window.{window_in}
 use Rattle.flash_http.specs.Request.{Answer}
 use Rattle.flash_laws.specs.Answers.{Reads, keeps}
+use Rattle.flash_laws.specs.Client.{is_for_script}
 use Rattle.flash_laws.specs.Policy.{most_conns}
+use Rattle.flash_laws.specs.Shelf.{Shelf, due_to, responses}
 use Rattle.flash_laws.specs.Site.{server}
 
 -- The server has as many connections as it may: so many are kept, and each of these is open on one.
@@ -24,3 +26,16 @@ pub record StaysOpen (s : List ℕ) : Type 0 where
   pub reads : Reads s qs rest
   pub open_yet : list_all (λ q. keeps q) qs ≡ true
   pub no_more : window_in rest ≡ Wait
+
+-- The first request of the stream that is not answered whole asks for a script: these bytes answer those before it, and it up to
+-- this part of its response.
+pub record AnswersScript (shelf : Shelf) (s bytes part : List ℕ) : Type 0 where
+  pub qs : List Answer
+  pub q : Answer
+  pub rest : List ℕ
+  pub reads : Reads s (qs ++ q ∷ []) rest
+  pub open_yet : list_all (λ p. keeps p) qs ≡ true
+  pub script : is_for_script shelf.scripts q ≡ true
+  pub so_far : bytes ≡ responses shelf qs ++ part
+  pub after : List ℕ
+  pub due : due_to shelf q ≡ part ++ after

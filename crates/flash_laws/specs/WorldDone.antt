@@ -1,5 +1,5 @@
 -- What holds where all is idle: nothing is left to do but where a peer takes nothing.
-use Rattle.std.specs.Prelude.{◌≡◌, ◌<◌, ◌≤◌, ◌⊎◌, ℕ, true, false, List, ◌++◌, length, Option, Some, None}
+use Rattle.std.specs.Prelude.{◌≡◌, ◌<◌, ◌≤◌, ◌⊎◌, ℕ, true, false, List, [], ◌++◌, length, Option, Some, None}
 use Rattle.iol_core.specs.Numbered.{in_place}
 use Rattle.iol_core.specs.Text.{bytes_of}
 use Rattle.iol_core.specs.State.{State, descriptor, conn_at}
@@ -11,7 +11,7 @@ use Rattle.iol_proc.specs.World.{Stage, copying}
 use Rattle.iol_proc.specs.declared.choice.Choice.{Choice}
 use Rattle.flash_laws.specs.Client.{Client, uses_agg, awaits}
 use Rattle.flash_laws.specs.Crew.{Crew}
-use Rattle.flash_laws.specs.Done.{IsFull, StaysOpen}
+use Rattle.flash_laws.specs.Done.{IsFull, StaysOpen, AnswersScript}
 use Rattle.flash_laws.specs.Host.{ActorsAreSettled}
 use Rattle.flash_laws.specs.Past.{Past}
 use Rattle.flash_laws.specs.Places.{is_run_by}
@@ -29,23 +29,34 @@ IsHeldUp m c = MAX_QUEUE_BYTES ≤ length (conn_at m c).outgoing
 abbrev pub IsHeldUpAt : State → (fd : ℕ) → Type 0
 IsHeldUpAt m fd = (c : ℕ) × (descriptor m server fd ≡ Some (on.Connection c)) × IsHeldUp m c
 
--- this worker runs the script of a client that is held up
-pub record RunsForHeldUp (m : State) (clients : List (Option Client)) (k : ℕ) : Type 0 where
+-- The request in progress on this connection asks for a script, and so much of the response is made; or its peer left.
+abbrev pub AsksForScript : Shelf → State → Past → (c : ℕ) → (part : List ℕ) → Type 0
+AsksForScript shelf m p c part = (p.gone c ≡ true)
+    ⊎ AnswersScript shelf (p.came c) (p.sent c ++ bytes_of (conn_at m c).outgoing) part
+
+-- this worker runs the script that was asked for on a connection that is held up
+pub record RunsForHeldUp (shelf : Shelf) (m : State) (p : Past) (clients : List (Option Client)) (k : ℕ) : Type 0 where
   pub place : ℕ
   pub client : Client
   pub there : in_place clients place ≡ Some client
   pub runs : is_run_by client k ≡ true
-  pub held : IsHeldUpAt m place
+  pub conn : ℕ
+  pub open_on : descriptor m server place ≡ Some (on.Connection conn)
+  pub held : IsHeldUp m conn
+  pub part : List ℕ
+  pub asks : AsksForScript shelf m p conn part
 
--- the client of this connection waits for a worker, while each runs the script of one that is held up
-pub record AwaitsWorker (workers : ℕ) (m : State) (clients : List (Option Client)) (c : ℕ) : Type 0 where
+-- The client of this connection asked for a script, of whose response nothing is made yet: it waits for a worker, while each runs
+-- the script of one that is held up.
+pub record AwaitsWorker (shelf : Shelf) (workers : ℕ) (m : State) (p : Past) (clients : List (Option Client)) (c : ℕ) : Type 0 where
   pub place : ℕ
   pub client : Client
   pub there : in_place clients place ≡ Some client
   pub open_on : descriptor m server place ≡ Some (on.Connection c)
   pub waits : awaits client ≡ true
+  pub asks : AsksForScript shelf m p c []
   pub some : 0 < workers
-  pub busy : (k : ℕ) → k < workers → RunsForHeldUp m clients k
+  pub busy : (k : ℕ) → k < workers → RunsForHeldUp shelf m p clients k
 
 pub record IsDone (shelf : Shelf) (workers : ℕ) (m : State) (p : Past) (clients : List (Option Client)) : Type 0 where
   -- each connection of the net is accepted, unless the server has as many open as it may
@@ -54,10 +65,10 @@ pub record IsDone (shelf : Shelf) (workers : ℕ) (m : State) (p : Past) (client
   -- waits for a worker
   pub answered : (c : ℕ) → p.net c ≡ true → (conn_at m c).accepted ≡ true → p.gone c ≡ false
       → IsAnswer shelf (p.came c) (p.sent c ++ bytes_of (conn_at m c).outgoing)
-      ⊎ IsHeldUp m c ⊎ AwaitsWorker workers m clients c
+      ⊎ IsHeldUp m c ⊎ AwaitsWorker shelf workers m p clients c
   -- each that was accepted is closed, or is held up, or waits for a worker, or its peer is there and may ask for more
   pub closes : (c : ℕ) → p.net c ≡ true → (conn_at m c).accepted ≡ true
-      → ((conn_at m c).closed ≡ true) ⊎ IsHeldUp m c ⊎ AwaitsWorker workers m clients c
+      → ((conn_at m c).closed ≡ true) ⊎ IsHeldUp m c ⊎ AwaitsWorker shelf workers m p clients c
       ⊎ (((conn_at m c).peer ≡ None) × StaysOpen (p.came c))
   -- one that uses an aggregate is held up
   pub lends : (fd a : ℕ) (x : Client) → in_place clients fd ≡ Some x → uses_agg x a ≡ true → IsHeldUpAt m fd

@@ -1,7 +1,8 @@
 -- Where everything that the server and its workers poll would block, nothing is left to do.
-use Rattle.std.proofs.Common.{inl, inr, ◌≡◌, ◌<◌, ℕ, suc, ◌⊎◌, List, ◌++◌, map, ap, ◌∙◌, refl, sym, subst, arith, Option, Some, None, true, false, Bool, slice_get}
+use Rattle.std.proofs.Common.{inl, inr, ◌≡◌, ◌<◌, ℕ, suc, ◌+◌, ◌⊎◌, List, [], ◌∷◌, ◌++◌, take, drop, map, ap, ◌∙◌, refl, sym, subst, arith, Option, Some, None, true, false, Bool, slice_get}
 use Rattle.std.specs.Prelude.{option_map, not, ◌&&◌, ◌||◌}
 use Rattle.std.proofs.lemmas.Bool.Decides.{nat_tests}
+use Rattle.std.proofs.lemmas.List.{take-append-drop}
 use Rattle.std.proofs.lemmas.Option.{slice_get-map}
 use Rattle.iol_core.specs.Numbered.{in_place}
 use Rattle.iol_core.specs.Text.{bytes_of}
@@ -11,22 +12,28 @@ use Rattle.iol_core.specs.declared.events.Call.{Call}
 use Rattle.iol_laws.specs.Order.{IsOrderly}
 use Rattle.iol_proc.specs.declared.seat.Seat.{Seat}
 use Rattle.flash_http.specs.MediaType.{is_script}
-use Rattle.flash_laws.specs.Client.{Client, uses_agg, is_for_script, job_of}
-use Rattle.flash_laws.specs.ClientFits.{output_of, Fits}
+use Rattle.flash_http.specs.Request.{serve}
+use Rattle.flash_laws.specs.Answers.{Reads}
+use Rattle.flash_laws.specs.Client.{Client, uses_agg, is_for_script, job_of, awaits}
+use Rattle.flash_laws.specs.ClientFits.{output_of, Fits, FitsRun}
 use Rattle.flash_laws.specs.Conn.{Conn}
 use Rattle.flash_laws.specs.Crew.{Crew, IsFixedFor}
 use Rattle.flash_laws.specs.Done.{IsFull, StaysOpen}
 use Rattle.flash_laws.specs.Idle.{WouldWait, Blocks, AllBlock, server_settled}
 use Rattle.flash_laws.specs.Past.{Past}
 use Rattle.flash_laws.specs.Places.{is_run_by, has_free, may_go, runs_scripts, filed}
+use Rattle.flash_laws.specs.RunFits.{Progress}
+use Rattle.flash_laws.specs.RunOffers.{past_of as past_taken, taken_by}
 use Rattle.flash_laws.specs.Served.{Held, Aside, AllFit}
-use Rattle.flash_laws.specs.Shelf.{Shelf, IsAnswer}
+use Rattle.flash_laws.specs.Shelf.{Shelf, IsAnswer, due_to}
 use Rattle.flash_laws.specs.Sharing.{RunsForAnother}
 use Rattle.flash_laws.specs.Site.{server}
 use Rattle.flash_laws.specs.Tie.{past_of, Actor, Serving}
 use Rattle.flash_laws.specs.World.{as_actor}
-use Rattle.flash_laws.specs.WorldDone.{IsHeldUp, IsHeldUpAt, RunsForHeldUp, AwaitsWorker, IsDone, IdleIsDone}
+use Rattle.flash_laws.specs.WorldDone.{IsHeldUp, IsHeldUpAt, AsksForScript, RunsForHeldUp, AwaitsWorker, IsDone, IdleIsDone}
 use Rattle.flash_laws.specs.declared.running.Running.{Running}
+use Rattle.flash_laws.specs.declared.running.Running.TheVariants.{Awaits}
+use Rattle.flash_laws.proofs.Answering.{reads-append}
 use Rattle.flash_laws.proofs.Lists.{clash}
 use Rattle.flash_laws.proofs.Settling.{filed-same}
 use Rattle.flash_laws.proofs.Sharing.{workers_shared}
@@ -107,24 +114,72 @@ module _ (shelf : Shelf) (crew : Crew) (laws : AllLaws crew) (m : State) (order 
       by (inr (inl held)) = held
       by (inr (inr over)) = absurd (clash (may_go (has_free workers clients) x) (workers_shared.going (has_free workers clients) k x runs) over.passed)
 
+  -- a script is asked for, and so much of its response is taken, or the peer left
+  run-asks : (fd c : ℕ) (x : Client) (y : Running) (f : FitsRun shelf crew m (p.came c) (p.sent c) fd c x y seats)
+      → AsksForScript shelf m p c (take (past_taken f.so_far + taken_by y) (due_to shelf (serve f.wanted)))
+  run-asks fd c x y f = elim f.tie [
+    | inl goes ↦ inr (record {
+      qs = goes.answers.done;
+      q = serve f.wanted;
+      rest = x.conn.kept ++ bytes_of (conn_at m c).incoming;
+      reads = subst (λ (s : List ℕ). Reads s (goes.answers.done ++ serve f.wanted ∷ []) (x.conn.kept ++ bytes_of (conn_at m c).incoming)) (sym f.came_is)
+          (reads-append laws.the.windows f.took (bytes_of (conn_at m c).incoming) (goes.answers.done ++ serve f.wanted ∷ []) x.conn.kept goes.answers.reads);
+      open_yet = goes.answers.open_yet;
+      script = f.script.is_for;
+      so_far = goes.answers.out_is;
+      after = drop (past_taken f.so_far + taken_by y) (due_to shelf (serve f.wanted));
+      due = sym (take-append-drop (past_taken f.so_far + taken_by y) (due_to shelf (serve f.wanted)));
+    })
+    | inr alone ↦ inl (all.left c (held-open m fd c order f.open_on).1 alone.gone)
+  ]
+
+  runner-asks : (fd c k : ℕ) (conn : Conn) (run : Option Running) (script : List ℕ) → Fits shelf crew m (p.came c) (p.sent c) fd c (of conn run script) seats
+      → is_run_by (of conn run script) k ≡ true → (part : List ℕ) × AsksForScript shelf m p c part
+  runner-asks fd c k conn None script f runs = absurd (cc (runs))
+  runner-asks fd c k conn (Some y) script f runs = (take (past_taken f.so_far + taken_by y) (due_to shelf (serve f.wanted)), run-asks fd c (of conn (Some y) script) y f)
+
+  -- nothing is of one that waits for a worker
+  waiter-asks : (fd c : ℕ) (conn : Conn) (run : Option Running) (script : List ℕ) → Fits shelf crew m (p.came c) (p.sent c) fd c (of conn run script) seats
+      → awaits (of conn run script) ≡ true → AsksForScript shelf m p c []
+  waiter-asks fd c conn None script f waits = absurd (cc (waits))
+  waiter-asks fd c conn (Some Awaits) script f waits =
+      subst (λ (l : List ℕ). AsksForScript shelf m p c l) (ap (λ (o : Progress). take (past_taken o + 0) (due_to shelf (serve f.wanted))) f.has) (run-asks fd c (of conn (Some Awaits) script) Awaits f)
+  waiter-asks fd c conn (Some y) script f waits = absurd (cc (waits))
+
   -- one that is passed over waits for a worker, while each runs the script of one that is held up
-  awaits-left : (fd : ℕ) (x : Client) (is : in_place clients fd ≡ Some x) → IsPassedOver x → AwaitsWorker crew.count m clients (all.each fd x is).conn
+  awaits-left : (fd : ℕ) (x : Client) (is : in_place clients fd ≡ Some x) → IsPassedOver x → AwaitsWorker shelf crew.count m p clients (all.each fd x is).conn
   awaits-left fd x is over =
       let both = workers_shared.waits workers clients fd x is over.passed in
-      record { place = fd; client = x; there = is; open_on = place-open fd x is; waits = both.0; some = over.some; busy = λ k lt. busy k (both.1 k (subst (λ n. k < n) (sym count) lt)) }
-    where
-      busy : (k : ℕ) → RunsForAnother clients fd k → RunsForHeldUp m clients k
-      busy k one = record {
-        place = one.place;
-        client = one.client;
-        there = one.there;
-        runs = one.runs;
-        held = ((all.each one.place one.client one.there).conn, place-open one.place one.client one.there, runner-held one.place k one.client one.there one.runs);
+      record {
+        place = fd;
+        client = x;
+        there = is;
+        open_on = place-open fd x is;
+        waits = both.0;
+        asks = waiter-asks fd (all.each fd x is).conn x.conn x.run x.script (all.each fd x is).fits both.0;
+        some = over.some;
+        busy = λ k lt. busy k (both.1 k (subst (λ n. k < n) (sym count) lt));
       }
+    where
+      busy : (k : ℕ) → RunsForAnother clients fd k → RunsForHeldUp shelf m p clients k
+      busy k one =
+          let at = all.each one.place one.client one.there in
+          let asks = runner-asks one.place at.conn k one.client.conn one.client.run one.client.script at.fits one.runs in
+          record {
+            place = one.place;
+            client = one.client;
+            there = one.there;
+            runs = one.runs;
+            conn = at.conn;
+            open_on = place-open one.place one.client one.there;
+            held = runner-held one.place k one.client one.there one.runs;
+            part = asks.0;
+            asks = asks.1;
+          }
 
   -- what is left to do for a connection that the server has
   abbrev IsLeft : (c : ℕ) → Type 0
-  IsLeft c = IsAnsweredSoFar shelf m (p.came c) (p.sent c) c ⊎ IsHeldUp m c ⊎ AwaitsWorker crew.count m clients c
+  IsLeft c = IsAnsweredSoFar shelf m (p.came c) (p.sent c) c ⊎ IsHeldUp m c ⊎ AwaitsWorker shelf crew.count m p clients c
 
   held-left : (c : ℕ) → Held m clients c → IsLeft c
   held-left c held =
@@ -153,7 +208,7 @@ module _ (shelf : Shelf) (crew : Crew) (laws : AllLaws crew) (m : State) (order 
 
   -- it is answered whole, but where its peer takes nothing, or no worker is free
   abbrev IsWhole : (c : ℕ) → Type 0
-  IsWhole c = IsAnswer shelf (p.came c) (p.sent c ++ bytes_of (conn_at m c).outgoing) ⊎ IsHeldUp m c ⊎ AwaitsWorker crew.count m clients c
+  IsWhole c = IsAnswer shelf (p.came c) (p.sent c ++ bytes_of (conn_at m c).outgoing) ⊎ IsHeldUp m c ⊎ AwaitsWorker shelf crew.count m p clients c
 
   answered : (c : ℕ) → p.net c ≡ true → (conn_at m c).accepted ≡ true → p.gone c ≡ false → Held m clients c ⊎ Aside shelf p c (conn_at m c) → IsWhole c
   answered c net was live (inl held) = by (held-left c held)
@@ -167,7 +222,7 @@ module _ (shelf : Shelf) (crew : Crew) (laws : AllLaws crew) (m : State) (order 
 
   -- it is closed, or its peer may still ask for more, or take
   abbrev IsClosing : (c : ℕ) → Type 0
-  IsClosing c = ((conn_at m c).closed ≡ true) ⊎ IsHeldUp m c ⊎ AwaitsWorker crew.count m clients c ⊎ (((conn_at m c).peer ≡ None) × StaysOpen (p.came c))
+  IsClosing c = ((conn_at m c).closed ≡ true) ⊎ IsHeldUp m c ⊎ AwaitsWorker shelf crew.count m p clients c ⊎ (((conn_at m c).peer ≡ None) × StaysOpen (p.came c))
 
   closes : (c : ℕ) → p.net c ≡ true → (conn_at m c).accepted ≡ true → Held m clients c ⊎ Aside shelf p c (conn_at m c) → IsClosing c
   closes c net was (inl held) = by (held-left c held)
