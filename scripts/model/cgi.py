@@ -2,6 +2,7 @@
 
 MOST_BYTES = 32_768
 MOST_NAME_BYTES = 255
+OF_FILES = (b"cat", b"wc")
 
 
 def line_of(text):
@@ -11,7 +12,7 @@ def line_of(text):
         return None if space else (word, b"")
     if word == b"emit":
         return word, rest
-    if word in (b"cat", b"wc") and 1 <= len(rest) <= MOST_NAME_BYTES:
+    if word in OF_FILES and 1 <= len(rest) <= MOST_NAME_BYTES:
         return word, rest
     return None
 
@@ -30,13 +31,13 @@ def counts(data):
     return b"%d %d\n" % (data.count(b"\n"), len(data))
 
 
-def output(lines, query, files):
-    """What a script puts out, where everybody may read the files."""
-    parts = {
+def parts(lines, query, files):
+    """What each line puts out, where everybody may read the files."""
+    said = {
         b"emit": lambda rest: rest + b"\n",
         b"query": lambda _: query + b"\n",
         b"pause": lambda _: b"",
         b"cat": lambda name: files.get(name.decode(), b"[NoFile]\n"),
         b"wc": lambda name: counts(files[name.decode()]) if name.decode() in files else b"[NoFile]\n",
     }
-    return b"".join(parts[word](rest) for word, rest in lines)
+    return [said[word](rest) for word, rest in lines]

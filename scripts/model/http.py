@@ -122,12 +122,30 @@ class Head:
             return max(0, size - count) if count else size, size
         return None if last is not None and last < first else (first, size if last is None else min(last + 1, size))
 
-    def script_response(self, lines, query, files):
-        """The response of a script of these lines, or where there is none."""
+    def script_response(self, parts):
+        """The response of a script whose lines put these out."""
+        return response_in_chunks(b"".join(parts), self.closes, self.is_head, self.is_old)
+
+    def refused(self, code):
+        """The response where the call on what is asked for is refused."""
+        return response(code, closes=self.closes, is_head=self.is_head)
+
+    def asked(self, files):
+        """The name of the file that is asked for, and the query, if there is such a file."""
+        named = None if self.refusal() else asked_of(self.target)
+        return named if named and named[0] in files else None
+
+    def file_response(self, name, data):
+        """The response with a file, or with the part of it that is asked for."""
         how = {"closes": self.closes, "is_head": self.is_head}
-        if lines is None:
-            return response(500, **how)
-        return response_in_chunks(cgi.output(lines, query, files), is_old=self.is_old, **how)
+        part = self.part(len(data))
+        if part is None:
+            return response(200, type_of(name), data, **how)
+        first, end = part
+        if first >= len(data):
+            return response(416, more=[f"Content-Range: bytes */{len(data)}"], **how)
+        more = [f"Content-Range: bytes {first}-{end - 1}/{len(data)}"]
+        return response(206, type_of(name), data[first:end], more, **how)
 
     def answer(self, files):
         """The response, and whether the connection closes."""
@@ -135,21 +153,14 @@ class Head:
         if code:
             closes = self.closes or code == 400
             return response(code, closes=closes, is_head=self.is_head), closes
-        how = {"closes": self.closes, "is_head": self.is_head}
         name, query = asked_of(self.target)
         if name not in files:
-            return response(404, **how), self.closes
-        if name.endswith(".cgi"):
-            return self.script_response(cgi.lines_of(files[name]), query, files), self.closes
-        data, kind = files[name], type_of(name)
-        part = self.part(len(data))
-        if part is None:
-            return response(200, kind, data, **how), self.closes
-        first, end = part
-        if first >= len(data):
-            return response(416, more=[f"Content-Range: bytes */{len(data)}"], **how), self.closes
-        more = [f"Content-Range: bytes {first}-{end - 1}/{len(data)}"]
-        return response(206, kind, data[first:end], more, **how), self.closes
+            return self.refused(404), self.closes
+        if not name.endswith(".cgi"):
+            return self.file_response(name, files[name]), self.closes
+        lines = cgi.lines_of(files[name])
+        text = self.refused(500) if lines is None else self.script_response(cgi.parts(lines, query, files))
+        return text, self.closes
 
 
 def head_of(text):
@@ -159,19 +170,24 @@ def head_of(text):
     return head if head and len(head.fields) <= MOST_FIELDS else None
 
 
-def answers(stream, files):
-    """The responses to a stream that ends, in order."""
+def replies(stream, files):
+    """For each request of a stream that ends, in order, its head, if it is one, and its response."""
     while True:
         window = stream[:WINDOW]
         start = EMPTY_LINES.match(window).end()
         end = END.search(window, start)
         if not end:
             if len(window) == WINDOW:
-                yield response(431, closes=True)
+                yield None, response(431, closes=True)
             return
         head = head_of(window[start:end.end()])
         text, closes = head.answer(files) if head else (response(400, closes=True), True)
-        yield text
+        yield head, text
         if closes:
             return
         stream = stream[end.end():]
+
+
+def answer_to(stream, files):
+    """All that is answered to a stream that ends."""
+    return b"".join(text for _, text in replies(stream, files))
