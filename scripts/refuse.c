@@ -6,7 +6,8 @@
  * BREAK   a sending or receiving on a connection
  * SPOIL   a writing to its output
  *
- * Each names one, counted from 0. SHORT is how many bytes any of these moves at most.
+ * Each names one, counted from 0. SHORT is how many bytes any of these moves at most, and LATE how many writings to its
+ * output come before the counting begins.
  */
 #define NEXT ((void *)-1L)
 #define EIO 5
@@ -32,6 +33,7 @@ static struct turn call = {"FAIL", "call failed\n", 0, 0};
 static struct turn traffic = {"BREAK", "connection broken\n", 0, 0};
 static struct turn output = {"SPOIL", "output spoiled\n", 0, 0};
 static struct turn most = {"SHORT", "", 0, 0};
+static struct turn early = {"LATE", "", 0, 0};
 
 /* The number behind a name, which is left, or -1 where there is none. */
 static long left(struct turn *turn) {
@@ -47,7 +49,7 @@ static long left(struct turn *turn) {
 
 static int has_come(struct turn *turn) {
     const char *end = turn->told;
-    if (left(turn) < 0 || turn->left-- > 0)
+    if (left(turn) < 0 || left(&early) > 0 || turn->left-- > 0)
         return 0;
     while (*end)
         end++;
@@ -60,6 +62,17 @@ static int fails(struct turn *turn, int error) {
         return 0;
     *__errno_location() = error;
     return 1;
+}
+
+/* Whether a writing to a descriptor fails. One before the counting begins does not. */
+static int spoils(int fd) {
+    if (fd != OUTPUT)
+        return 0;
+    if (left(&early) > 0) {
+        early.left--;
+        return 0;
+    }
+    return fails(&output, EIO);
 }
 
 static size at_most(size wanted) {
@@ -91,4 +104,4 @@ BEFORE(long, recv, (int fd, void *into, size n, int flags), (fd, into, at_most(n
 BEFORE(long, send, (int fd, const void *from, size n, int flags), (fd, from, at_most(n), flags),
        if (fails(&traffic, ECONNRESET)) return -1)
 BEFORE(long, write, (int fd, const void *from, size n), (fd, from, fd == OUTPUT ? at_most(n) : n),
-       if (fd == OUTPUT && fails(&output, EIO)) return -1)
+       if (spoils(fd)) return -1)

@@ -1,0 +1,199 @@
+"""Rows of the server, and all that may be answered to them where something is hindered (`refuse.c`)."""
+import contextlib
+import os
+import socket
+import subprocess
+from collections import Counter
+from collections.abc import Iterable
+from dataclasses import dataclass
+
+from growths import REFUSED
+from model import cgi, http
+from replaying import PROGRAM, Wrong
+
+FAILED, BROKEN, SPOILED = b"call failed\n", b"connection broken\n", b"output spoiled\n"  # what the shim tells
+SECONDS = 60
+
+
+@dataclass(frozen=True)
+class Site:
+    """A folder, and the bytes of its files."""
+
+    root: str
+    files: dict
+
+    def make(self):
+        os.mkdir(self.root)
+        for name, data in self.files.items():
+            with open(f"{self.root}/{name}", "wb") as it:
+                it.write(data)
+        return self
+
+    def without(self, name):
+        return Site(self.root, {other: data for other, data in self.files.items() if other != name})
+
+    def answer(self, stream):
+        return http.answer_to(stream, self.files)
+
+
+def asked(port, stream):
+    """What is answered to a stream that ends. Of a connection that breaks what came before counts."""
+    answer = b""
+    with contextlib.suppress(ConnectionError), socket.create_connection(("127.0.0.1", port), SECONDS) as client:
+        client.sendall(stream)
+        with contextlib.suppress(OSError):  # it may be closed already
+            client.shutdown(socket.SHUT_WR)
+        while more := client.recv(65_536):
+            answer += more
+    return answer
+
+
+class Row:
+    """Streams of requests to a server, each of a client, one after another."""
+
+    def __init__(self, name, site, streams):
+        self.name, self.site, self.streams = name, site, streams
+
+    def run(self, extra):
+        """What is answered to each stream, the server's status, and what it told."""
+        words = [PROGRAM, "serve", "0", self.site.root, str(len(self.streams))]
+        pipes = {"stdout": subprocess.PIPE, "stderr": subprocess.PIPE}
+        with subprocess.Popen(words, env={**os.environ, **extra}, **pipes) as server:
+            try:
+                line = server.stdout.readline()
+                port = int(line.removeprefix(b"listening ")) if line.endswith(b"\n") else None
+                answers = [asked(port, stream) if port else b"" for stream in self.streams]
+                return answers, server.wait(SECONDS), server.stderr.read()
+            finally:
+                server.kill()
+
+    def whole(self):
+        return [self.site.answer(stream) for stream in self.streams]
+
+    def with_one(self, code, refusal):
+        """The answers, and all in which one call on a file is refused so, each with the word for it."""
+        whole = self.whole()
+        yield "whole", whole
+        for at, stream in enumerate(self.streams):
+            replies = list(http.replies(stream, self.site.files))
+            texts = [text for _, text in replies]
+            for place, (head, _) in enumerate(replies):
+                for way, text in refused_once(head, self.site.files, code, refusal):
+                    yield way, [*whole[:at], b"".join([*texts[:place], text, *texts[place + 1:]]), *whole[at + 1:]]
+
+    def without_one(self):
+        """The answers from the site without one of its files, each with a word for that."""
+        for name in self.site.files:
+            less = self.site.without(name)
+            yield "not found", [less.answer(stream) for stream in self.streams]
+
+
+class Loop(Row):
+    """A path that `loop` asks for."""
+
+    def __init__(self, name, site, path):
+        stream = http.lined(f"GET {path} HTTP/1.1", "Host: 127.0.0.1", "Connection: close", "")
+        super().__init__(name, site, [stream])
+        self.path = path
+
+    def run(self, extra):
+        words, env = [PROGRAM, "loop", self.site.root, self.path], {**os.environ, **extra}
+        ran = subprocess.run(words, env=env, capture_output=True, timeout=SECONDS)
+        return [ran.stdout], ran.returncode, ran.stderr
+
+
+def refused_once(head, files, code, refusal):
+    """The responses to a request where a call on its file, or on one that its script reads, is refused."""
+    asked = head.asked(files) if head else None
+    if asked is None:
+        return
+    name, query = asked
+    yield f"a {code}", head.refused(code)
+    if name.endswith(".cgi") and not head.is_head:
+        lines = cgi.lines_of(files[name]) or []
+        parts = cgi.parts(lines, query, files)
+        for at, (word, rest) in enumerate(lines):
+            if word in cgi.OF_FILES and rest.decode() in files:
+                yield refusal, head.script_response([*parts[:at], f"{refusal}\n".encode(), *parts[at + 1:]])
+
+
+def way_among(answers, ways):
+    return next((way for way, wanted in ways if wanted == answers), None)
+
+
+def way_of_growth(row, answers, status, told):
+    """How a run ended in which a growth was refused, or nothing where it may not end so."""
+    if (status, told) == (3, b"fault: memory\n"):
+        whole = row.whole()
+        until = ([*whole[:count], *[b""] * (len(whole) - count)] for count in range(len(whole)))
+        return "ended" if answers in until else None
+    return way_among(answers, row.with_one(503, "[Memory]")) if (status, told) == (0, b"") else None
+
+
+def way_of_call(row, answers, status, told):
+    """The same, of a call on the folder or on a file that failed."""
+    if (status, told) == (3, b"fault: folder\n"):
+        return None if any(answers) else "ended"
+    way = way_among(answers, row.with_one(500, "[Fault]")) or way_among(answers, row.without_one())
+    return way if (status, told) == (0, b"") else None
+
+
+def way_of_break(row, answers, status, told):
+    """The same, where a connection broke."""
+    cut = [(answer, whole) for answer, whole in zip(answers, row.whole(), strict=True) if answer != whole]
+    is_begun = all(whole.startswith(answer) for answer, whole in cut)
+    if isinstance(row, Loop):
+        return "cut off" if cut and is_begun and (status, told) == (3, b"fault: connect\n") else None
+    if len(cut) > 1 or not is_begun or (status, told) != (0, b""):
+        return None
+    return "cut off" if cut else "whole"
+
+
+def way_of_spoil(row, answers, status, told):
+    """The same, where a writing to the output failed."""
+    is_begun = row.whole()[0].startswith(answers[0]) if isinstance(row, Loop) else not any(answers)
+    return "spoiled" if is_begun and (status, told) == (3, b"fault: output\n") else None
+
+
+WAYS = {
+    "growths": ("REFUSE", REFUSED, way_of_growth),
+    "calls": ("FAIL", FAILED, way_of_call),
+    "breaks": ("BREAK", BROKEN, way_of_break),
+    "output": ("SPOIL", SPOILED, way_of_spoil),
+}
+
+
+@dataclass(frozen=True)
+class Sweep:
+    """The runs of a row in an environment, in which one thing after another is hindered, those of some numbers."""
+
+    row: Row
+    env: dict
+    what: str
+    numbers: Iterable
+
+    def run(self):
+        """Up to the first in which there is none left: how often it ended in which way, and what was otherwise, or nothing."""
+        counts = Counter()
+        for number in self.numbers:
+            try:
+                way, is_last = self.way(number)
+            except (Wrong, TimeoutError, subprocess.TimeoutExpired) as wrong:
+                word, *_ = WAYS[self.what]
+                return counts, f"{self.row.name}, {self.row.streams}, with {word}={number} in {self.env}: {wrong}"
+            if is_last:
+                return counts, None
+            counts[way] += 1
+        return counts, "there are not as many numbers"
+
+    def way(self, number):
+        """How a run ended, and whether nothing was hindered any more."""
+        word, mark, way_of = WAYS[self.what]
+        answers, status, told = self.row.run(self.env | {word: str(number)})
+        if mark in told:
+            way = way_of(self.row, answers, status, told.replace(mark, b"", 1))
+        else:
+            way = "whole" if (answers, status, told) == (self.row.whole(), 0, b"") else None
+        if way is None:
+            raise Wrong(f"status {status}, {told!r}, answered {[answer[:300] for answer in answers]}")
+        return way, mark not in told
