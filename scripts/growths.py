@@ -31,7 +31,9 @@ class Sweep:
         self.name, self.script, self.shim, self.check = name, script, shim, check
         self.output = script.output()
         self.expected = script.answers(self.output)
+        self.ends = script.ends(self.output)
         self.rests = {}
+        self.passed = {0}  # numbers of first events that are known not to come to the growth; none may do
 
     def run(self, script, number):
         ended = script.run({"LD_PRELOAD": self.shim, "REFUSE": str(number)})
@@ -59,12 +61,26 @@ class Sweep:
                     return
         raise Wrong("where it stands twice, the first is not refused")
 
+    def comes_to(self, count, number):
+        """Whether that growth comes where only so many of the first events are there."""
+        return REFUSED in self.script.first(count).run({"LD_PRELOAD": self.shim, "REFUSE": str(number)}).stderr
+
+    def check_ended(self, printed, number):
+        """Checks that just the answers to the lines before the one that came to the growth were printed."""
+        if not self.output.startswith(printed) or len(printed) not in self.ends:
+            raise Wrong("it ended, and printed what is no beginning of the answers, each whole")
+        count = self.ends.index(len(printed))
+        if count not in self.passed and self.comes_to(count, number):
+            raise Wrong("it ended, and printed the answer of a line that came to the growth")
+        self.passed.add(count)
+        if not self.comes_to(count + 1, number):
+            raise Wrong("it ended, and printed fewer answers than lines that did not come to the growth")
+
     def way(self, ended, number):
         """How a run ended."""
         told = ended.stderr.replace(REFUSED, b"", 1)
         if ended.returncode == 3 and told == b"fault: memory\n":
-            if not self.output.startswith(ended.stdout):
-                raise Wrong("it ended, and printed what is no reply")
+            self.check_ended(ended.stdout, number)
             return "ended"
         if ended.returncode != 0 or told:
             raise Wrong(f"status {ended.returncode}, {told!r}")

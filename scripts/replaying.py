@@ -38,6 +38,13 @@ class Script:
         at = self.events[event]
         return Script(self.lines[:at + 1] + self.lines[at:], self.counts)
 
+    def first(self, count):
+        """All but so many of its first events turned into comments, each as long as it was."""
+        lines = list(self.lines)
+        for at in self.events[count:]:
+            lines[at] = b"#" + lines[at][1:]
+        return Script(lines, self.counts)
+
     def headed(self, line):
         return Script([line, *self.lines], self.counts)
 
@@ -53,8 +60,8 @@ class Script:
             raise Wrong(f"status {ended.returncode} with all memory, {ended.stderr[-200:]!r}")
         return ended.stdout
 
-    def answers(self, output):
-        """The lines that answer each event. Of a report whose counts are not compared, only that it stands there."""
+    def answered(self, output):
+        """The lines that answer each event."""
         *left, last = output.split(b"\n")
         answers, begin = [], 0
         for at in self.events:
@@ -64,12 +71,25 @@ class Script:
                     end += 1
             if last or end >= len(left):
                 raise Wrong("not a reply a line")
-            answers.append(left[begin:end + 1] if self.counts or self.lines[at] != b"report" else [b"report"])
+            answers.append(left[begin:end + 1])
             begin = end + 1
         if begin < len(left):
             raise Wrong("more replies than lines")
         return answers
 
+    def answers(self, output):
+        """The same, but of a report whose counts are not compared only that it stands there."""
+        told = self.answered(output)
+        if self.counts:
+            return told
+        return [[b"report"] if self.lines[at] == b"report" else answer for at, answer in zip(self.events, told)]
+
+    def ends(self, output):
+        """Where the first answer begins, and where each ends."""
+        ends = [0]
+        for answer in self.answered(output):
+            ends.append(ends[-1] + sum(len(line) + 1 for line in answer))
+        return ends
 
     def agree(self, answers, others):
         """Whether two runs were answered alike.

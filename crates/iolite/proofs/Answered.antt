@@ -12,7 +12,7 @@ use Rattle.iolite.specs.declared.failure.Failure.TheVariants.{BadLine, BadScript
 use Rattle.iolite.specs.declared.script.Line.{Line}
 use Rattle.iolite.specs.declared.replay.Answer.{Answer}
 use Rattle.iolite.specs.declared.setup.Setup.{Setup}
-use Rattle.iolite.specs.Answers.{Answering, AnswersLine, AreAnswers, Begun, EndsWithin, IsAnswer, IsNew, Replayed, WritesTo}
+use Rattle.iolite.specs.Answers.{Answering, AnswersLine, AreAnswers, Begun, BegunWhole, EndsWanting, EndsWithin, IsAnswer, IsNew, LosesFirst, Replayed, WritesTo}
 use Rattle.iolite.specs.Failure.{IsBadLine, IsOfAnswers, IsOfInput, IsOfLines, status_of}
 use Rattle.iolite.specs.Printed.{answer_text, lines_of, newline}
 use Rattle.iolite.specs.Script.{AskInOrder, AsksSomething, HasBadLine, IsBadScript, IsJudged, IsScriptText, asking, commands, is_asking, lines, without_blank}
@@ -56,16 +56,16 @@ module _ (ls : List (List ℕ)) (start mid end : SystemState) (old known : Optio
       }
 
   -- a line that is answered
-  pub Answering-line : (more : List ℕ) → Answering ls start mid old known pending → is_asking l ≡ true → AnswersLine l mid end pending more → Answering (ls ++ l ∷ []) start end old known more
-  Answering-line more so asks next =
+  pub Answering-line : (text : List ℕ) → Answering ls start mid old known pending → is_asking l ≡ true → AnswersLine l mid end text → Answering (ls ++ l ∷ []) start end old known (pending ++ text)
+  Answering-line text so asks next =
       let e : asking (without_blank (ls ++ l ∷ [])) ≡ asking (without_blank ls) ++ l ∷ [] = commands-append ls (l ∷ []) ∙ ap (λ ys. asking (without_blank ls) ++ ys) (is_asking-yes l asks) in
-      let text = answer_text next.answer ++ newline in record {
+      let told = answer_text next.answer ++ newline in record {
         asked = so.asked ++ next.line ∷ [];
         answers = so.answers ++ next.answer ∷ [];
         asks = subst (λ ys. AskInOrder ys (so.asked ++ next.line ∷ [])) (sym e) (AskInOrder-push (asking (without_blank ls)) so.asked l next.line so.asks next.asks);
         each = AreAnswers-push start mid end so.asked so.answers next.line next.answer so.each next.answered;
         printed = so.printed;
-        all = lines_of-push so.answers next.answer ∙ (ap (λ ys. ys ++ text) so.all ∙ (append_assoc so.printed pending text ∙ ap (λ ys. so.printed ++ ys) (sym next.text)));
+        all = lines_of-push so.answers next.answer ∙ (ap (λ ys. ys ++ told) so.all ∙ (append_assoc so.printed pending told ∙ ap (λ ys. so.printed ++ (pending ++ ys)) (sym next.is)));
         appended = so.appended;
       }
 
@@ -94,13 +94,18 @@ module _ (ls : List (List ℕ)) (start end : SystemState) (old known new : Optio
     appended = Appends-kept old known new so.printed so.appended keeps;
   }
 
--- all bytes are written
-pub WritesTo-all : (old new : Option (List ℕ)) (bytes : List ℕ) → Appends old new bytes → WritesTo old new bytes []
-WritesTo-all old new bytes written = record { front = bytes; all = sym (append-nil bytes); written = written }
-
 -- lines that came are a beginning
 pub EndsWithin-here : (all front rest : List (List ℕ)) (start end : SystemState) (old new : Option (List ℕ)) (left : List ℕ) → all ≡ front ++ rest → Answering front start end old new left → EndsWithin all start old new
 EndsWithin-here all front rest start end old new left begins so = record { front = front; rest = rest; begins = begins; end = end; left = left; answering = so }
+
+-- lines that came, each answer printed, are a beginning where the next found no memory
+pub EndsWanting-here : (all front rest : List (List ℕ)) (start before end : SystemState) (old new : Option (List ℕ)) → all ≡ front ++ rest → Answering front start before old new [] → LosesFirst rest before end → EndsWanting all start end old new
+EndsWanting-here all front rest start before end old new begins so lost = record { front = front; rest = rest; begins = begins; before = before; answering = so; lost = lost }
+
+-- no line found memory, and nothing came of any
+pub LosesFirst-none : (ls : List (List ℕ)) (s : SystemState) → LosesFirst ls s s
+LosesFirst-none [] s = refl
+LosesFirst-none (l ∷ ls) s = inl refl
 
 All-middle : (P : List ℕ → Type 0) (xs ys : List (List ℕ)) (y : List ℕ) → All P (xs ++ y ∷ ys) → P y
 All-middle P [] ys y each = All-head P y ys each
@@ -131,6 +136,13 @@ begun_by text setup start old new judged is_new ends =
       all = so.all;
       appended = so.appended;
     }
+
+-- where a line found no memory, each answer was printed
+pub whole_by : (text : List ℕ) (setup : Setup) (start end : SystemState) (old new : Option (List ℕ)) → IsJudged (commands text) setup → IsNew setup start → EndsWanting (lines text) start end old new → BegunWhole text old new
+unfolding begun_by EndsWithin-here
+whole_by text setup start end old new judged is_new ends =
+    let within = EndsWithin-here (lines text) ends.front ends.rest start ends.before old new [] ends.begins ends.answering in
+    record { begun = begun_by text setup start old new judged is_new within; whole = refl }
 
 Replayed-from : (text : List ℕ) (setup : Setup) (start end : SystemState) (old new : Option (List ℕ)) → IsJudged (commands text) setup → IsNew setup start → Answering (lines text) start end old new [] → Replayed text old new
 Replayed-from text setup start end old new judged is_new so = record {
@@ -189,6 +201,6 @@ pub never_bad : {A : Type 0} (r : Result A Failure) (P : Type 0) → IfErr r IsO
 never_bad (Ok u) P of = tt
 never_bad (Err failure) P of = not_bad P failure of
 
-pub on_ok : {A E P : Type 0} (r : Result A E) → P → OnOk r P
-on_ok (Ok u) holds = holds
-on_ok (Err e) holds = tt
+pub then_on_ok : {A E P Q : Type 0} (r : Result A E) → (P → Q) → OnOk r P → OnOk r Q
+then_on_ok (Ok u) so holds = so holds
+then_on_ok (Err e) so holds = tt

@@ -49,3 +49,19 @@ WritesTo-kept old mid new bytes rest so keeps = record { front = so.front; all =
 pub Appends-all : (old new : Option (List ℕ)) (bytes rest : List ℕ) → WritesTo old new bytes rest → rest ≡ [] → Appends old new bytes
 Appends-all old new bytes rest so none =
     subst (Appends old new) (sym (so.all ∙ (ap (λ ys. so.front ++ ys) none ∙ append-nil so.front))) so.written
+
+-- all bytes are written
+pub WritesTo-all : (old new : Option (List ℕ)) (bytes : List ℕ) → Appends old new bytes → WritesTo old new bytes []
+WritesTo-all old new bytes written = record { front = bytes; all = sym (append-nil bytes); written = written }
+
+-- of bytes with more behind them the same are written
+pub WritesTo-before : (old new : Option (List ℕ)) (bytes more left : List ℕ) → WritesTo old new bytes left → WritesTo old new (bytes ++ more) (left ++ more)
+WritesTo-before old new bytes more left so = record { front = so.front; all = ap (λ ys. ys ++ more) so.all ∙ append_assoc so.front left more; written = so.written }
+
+-- all are written, and then some of those behind them
+pub WritesTo-behind : (old mid new : Option (List ℕ)) (bytes more left : List ℕ) → Appends old mid bytes → WritesTo mid new more left → WritesTo old new (bytes ++ more) left
+WritesTo-behind old mid new bytes more left wrote so = record {
+  front = bytes ++ so.front;
+  all = ap (λ ys. bytes ++ ys) so.all ∙ sym (append_assoc bytes so.front left);
+  written = Appends-more old mid new bytes so.front wrote so.written;
+}

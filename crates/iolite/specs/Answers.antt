@@ -1,5 +1,5 @@
 -- What the lines of a script are answered: events by steps of a system, reports by what lies in it.
-use Rattle.std.specs.Prelude.{◌≡◌, ◌*◌, ℕ, true, false, List, [], ◌∷◌, Option, ◌++◌, length, replicate, unwrap_or}
+use Rattle.std.specs.Prelude.{◌≡◌, ◌*◌, ℕ, true, false, List, [], ◌∷◌, ◌⊎◌, Option, ◌++◌, length, replicate, unwrap_or}
 use Rattle.std.specs.Io.KnownBytes.{Appends}
 use Rattle.iol_core.specs.State.{new_state}
 use Rattle.iol_core.specs.declared.configuration.TheConstants.Config.{DEFAULT}
@@ -86,6 +86,11 @@ pub record Begun (given : List ℕ) (old new : Option (List ℕ)) : Type 0 where
   pub all : lines_of answers ≡ printed ++ left
   pub appended : Appends old new printed
 
+-- The same where a line found no memory: each answer to that beginning was printed.
+pub record BegunWhole (given : List ℕ) (old new : Option (List ℕ)) : Type 0 where
+  pub begun : Begun given old new
+  pub whole : begun.left ≡ []
+
 -- Of lines as they stand, those that ask for something were answered from start on, ending in end, and each answer was
 -- printed or is left to be.
 pub record Answering (ls : List (List ℕ)) (start end : SystemState) (old new : Option (List ℕ)) (left : List ℕ) : Type 0 where
@@ -106,13 +111,31 @@ pub record EndsWithin (ls : List (List ℕ)) (start : SystemState) (old new : Op
   pub left : List ℕ
   pub answering : Answering front start end old new left
 
--- one line more was answered, and its answer put behind what is pending
-pub record AnswersLine (l : List ℕ) (old new : SystemState) (pending more : List ℕ) : Type 0 where
+-- one line more was answered, and its answer has this text
+pub record AnswersLine (l : List ℕ) (old new : SystemState) (text : List ℕ) : Type 0 where
   pub line : Line
   pub answer : Answer
   pub asks : Asks l line
   pub answered : IsAnswer old line answer new
-  pub text : more ≡ pending ++ (answer_text answer ++ newline)
+  pub is : text ≡ answer_text answer ++ newline
+
+-- a line found no memory: nothing came of it, or its answer was lost
+abbrev pub LosesLine : List ℕ → (old new : SystemState) → Type 0
+LosesLine l old new = (new ≡ old) ⊎ ((text : List ℕ) × AnswersLine l old new text)
+
+-- the first of these lines found no memory, or nothing came of any
+abbrev pub LosesFirst : List (List ℕ) → (old new : SystemState) → Type 0
+LosesFirst [] old new = new ≡ old
+LosesFirst (l ∷ ls) old new = LosesLine l old new
+
+-- So far the lines came, and each answer was printed; then the next found no memory, or none did before the first.
+pub record EndsWanting (ls : List (List ℕ)) (start end : SystemState) (old new : Option (List ℕ)) : Type 0 where
+  pub front : List (List ℕ)
+  pub rest : List (List ℕ)
+  pub begins : ls ≡ front ++ rest
+  pub before : SystemState
+  pub answering : Answering front start before old new []
+  pub lost : LosesFirst rest before end
 
 -- a beginning of the bytes was written, and these are left
 pub record WritesTo (old new : Option (List ℕ)) (bytes left : List ℕ) : Type 0 where

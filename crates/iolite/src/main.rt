@@ -19,6 +19,7 @@ mod replay;
 mod script;
 mod setup;
 mod words;
+mod writing;
 
 use commands::{Command, read_command};
 use flash_folder::fault::{Fault, ended};

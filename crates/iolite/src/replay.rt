@@ -1,8 +1,8 @@
 //! The program `replay`.
 ghost use Rattle.std.specs.Prelude.{◌≡◌, ◌≢◌, ◌⊎◌, ◌++◌, [], All, Err, IfOk, IfErr, IfSome, OnOk, OnErr, string_bytes};
-ghost use Rattle.std.specs.Io.KnownBytes.{Appends, Keeps};
+ghost use Rattle.std.specs.Io.KnownBytes.{Appends};
 ghost use Rattle.std.specs.IoError.{error_kind};
-ghost use Rattle.iolite.specs.Answers.{Answering, AnswersLine, Begun, EndsWithin, IsAnswer, IsNew, Replayed, WritesSome};
+ghost use Rattle.iolite.specs.Answers.{Answering, AnswersLine, Begun, BegunWhole, EndsWanting, EndsWithin, IsAnswer, IsNew, LosesLine, Replayed};
 ghost use Rattle.iolite.specs.Failure.{IsOfAnswers, IsOfInput, status_of};
 ghost use Rattle.iolite.specs.Printed.{answer_text, newline};
 ghost use Rattle.iolite.specs.Script.{AsksSomething, HasBadLine, IsBadScript, IsScriptText, IsWholeOrTooLong, asking, commands, lines};
@@ -11,6 +11,7 @@ use crate::failure::Failure;
 use crate::printed::{Printed, PrintedReport};
 use crate::script::{Line, is_asking, judge, read_line};
 use crate::setup::Setup;
+use crate::writing::{BUFFER_BYTES, finish, gather};
 use iol_back::faulty::FaultyBacking;
 use iol_back::memory::MemoryBacking;
 use iol_core::configuration::Config;
@@ -24,9 +25,6 @@ use std::io::{ErrorKind, Read, Write};
 /// The bytes that a script may have.
 const MAX_SCRIPT_BYTES: u64 = 0x100_0000;
 
-/// The bytes of lines that are kept before they are written.
-const BUFFER_BYTES: usize = 8192;
-
 /// What a line of a script is answered.
 #[derive(Debug, Drop)]
 pub enum Answer {
@@ -39,8 +37,8 @@ pub enum Answer {
 ///
 /// The script is read and judged whole before the first event, so a bad one prints nothing on `output`. Then each line is read
 /// once more, and answered by the system that the script sets up before the next one is. Answers are printed in pieces of some
-/// 8 KiB. Where output or memory fails, what was printed is a beginning of them. What goes wrong is told on `errors` in one line,
-/// and nothing is told where that cannot be written.
+/// 8 KiB. Where the output fails, what was printed is a beginning of them; where a line finds no memory, the answers to all lines
+/// before it are printed first. What goes wrong is told on `errors` in one line, and nothing is told where that cannot be written.
 pub fn replay<R: Read, W: Write, E: Write>(
     alloc: Global,
     input: &mut R,
@@ -74,6 +72,9 @@ fn run<R: Read, W: Write>(alloc: Global, input: &mut R, output: &mut W) -> Resul
         IfSome (R.remaining input.old) IsBadScript) }
     ensures begun { (output.new ≡ output.old) ⊎ IfSome (R.remaining input.old)
         (λ given. Begun given (W.contents output.old) (W.contents output.new)) }
+    ensures whole { result ≡ Err Failure.Memory →
+        (output.new ≡ output.old) ⊎ IfSome (R.remaining input.old)
+        (λ given. BegunWhole given (W.contents output.old) (W.contents output.new)) }
     ensures replayed { OnOk result (IfSome (R.remaining input.old)
         (λ given. Replayed given (W.contents output.old) (W.contents output.new))) }
 {
@@ -90,6 +91,8 @@ fn replay_text<W: Write>(alloc: Global, text: &str, output: &mut W) -> Result<()
         HasBadLine (commands text.now)) }
     ensures begun { (output.new ≡ output.old) ⊎
         Begun text.now (W.contents output.old) (W.contents output.new) }
+    ensures whole { result ≡ Err Failure.Memory → (output.new ≡ output.old) ⊎
+        BegunWhole text.now (W.contents output.old) (W.contents output.new) }
     ensures replayed { OnOk result
         (Replayed text.now (W.contents output.old) (W.contents output.new)) }
 {
@@ -121,7 +124,7 @@ fn read_bytes<R: Read>(alloc: Global, input: &mut R) -> Result<Vec<u8>, Failure>
     let mut bytes = Vec::new(alloc);
     match input.take(MAX_SCRIPT_BYTES + 1).read_to_end(&mut bytes) {
         Ok(_) => Ok(bytes),
-        Err(e) => Err(failure_of(&e, Failure::Input)),
+        Err(e) => Err(failure_of(&e)),
     }
 }
 
@@ -159,8 +162,7 @@ fn system_of(alloc: Global, setup: Setup) -> Result<ScriptSystem, Failure>
 }
 
 // Answers each line that asks for something before the next is read, so that memory holds one line's event and one answer at a
-// time. The answers' texts are gathered here, up to so many bytes, and not in a `BufWriter`, of which no contract says that the
-// writer it gives back is the one that it was given.
+// time. Where a line finds no memory, the answers to those before it are written first.
 fn answer_lines<W: Write>(
     alloc: Global,
     system: &mut ScriptSystem,
@@ -172,36 +174,40 @@ fn answer_lines<W: Write>(
         (W.contents output.new) }
     ensures answered { OnOk result (Answering (lines text.now) system.old system.new
         (W.contents output.old) (W.contents output.new) []) }
+    ensures memory { result ≡ Err Failure.Memory → EndsWanting (lines text.now) system.old
+        system.new (W.contents output.old) (W.contents output.new) }
     ensures error { IfErr result IsOfAnswers }
 {
     let mut pending = match Vec::with_capacity(alloc, BUFFER_BYTES) {
         Ok(pending) => pending,
         Err(_) => return Err(Failure::Memory),
     };
+    let mut answer = Vec::new(alloc);
     for line in text.split('\n') {
         if !is_asking(line) {
             continue;
         }
-        answer_line(alloc, system, line, &mut pending)?;
-        if pending.len() >= BUFFER_BYTES {
-            write_out(pending.as_slice(), output)?;
-            pending.clear();
+        if let Err(failure) = answer_line(alloc, system, line, &mut answer) {
+            finish(pending.as_slice(), output)?;
+            return Err(failure);
         }
+        gather(answer.as_slice(), &mut pending, output)?;
     }
-    write_out(pending.as_slice(), output)?;
-    flush(output)
+    finish(pending.as_slice(), output)
 }
 
-// Answers one line, and puts the answer's text behind what is pending.
+// Answers one line, and puts the answer's text in place of the one before. The text is made by itself, since one that is broken
+// off for want of memory must not stand behind those that are to be written.
 fn answer_line(
     alloc: Global,
     system: &mut ScriptSystem,
     line: &str,
-    pending: &mut Vec<u8>,
+    text: &mut Vec<u8>,
 ) -> Result<(), Failure>
     requires { AsksSomething line.now }
-    ensures answers { OnOk result (AnswersLine line.now system.old system.new
-        pending.old.items pending.new.items) }
+    ensures answers { OnOk result
+        (AnswersLine line.now system.old system.new text.new.items) }
+    ensures lost { OnErr result (LosesLine line.now system.old system.new) }
     ensures error { IfErr result (λ failure. failure ≡ Failure.Memory) }
 {
     let Some(asked) = read_line(line) else {
@@ -211,7 +217,8 @@ fn answer_line(
         return Err(Failure::Memory);
     };
     let answer = answer_to(system, line)?;
-    match write_answer(&answer, pending) {
+    text.clear();
+    match write_answer(&answer, text) {
         Ok(()) => Ok(()),
         Err(_) => Err(Failure::Memory),
     }
@@ -220,6 +227,7 @@ fn answer_line(
 // Carries out an event, or makes a report, which changes nothing.
 fn answer_to(system: &mut ScriptSystem, line: Line) -> Result<Answer, Failure>
     ensures answer { IfOk result (λ answer. IsAnswer system.old line answer system.new) }
+    ensures same { OnErr result (system.new ≡ system.old) }
     ensures error { IfErr result (λ failure. failure ≡ Failure.Memory) }
 {
     match line {
@@ -251,47 +259,14 @@ fn write_answer<W: Write>(answer: &Answer, output: &mut W) -> io::Result<()>
     }
 }
 
-// Writes all bytes, or a beginning of them where the output fails.
-fn write_out<W: Write>(bytes: &[u8], output: &mut W) -> Result<(), Failure>
-    ensures some { WritesSome (W.contents output.old) (W.contents output.new) bytes.now }
-    ensures all { OnOk result
-        (Appends (W.contents output.old) (W.contents output.new) bytes.now) }
-    ensures error { IfErr result IsOfAnswers }
-{
-    let mut rest = bytes;
-    for _turn in 0..u64::MAX {
-        if rest.is_empty() {
-            return Ok(());
-        }
-        match output.write(rest) {
-            Ok(0) => return Err(Failure::Output),
-            Ok(count) => rest = &rest[count..],
-            Err(e) if e.kind() == ErrorKind::Interrupted => {}
-            Err(e) => return Err(failure_of(&e, Failure::Output)),
-        }
-    }
-    Err(Failure::Output)
-}
-
-// Has all that was written go out.
-fn flush<W: Write>(output: &mut W) -> Result<(), Failure>
-    ensures bytes { Keeps (W.contents output.old) (W.contents output.new) }
-    ensures error { IfErr result IsOfAnswers }
-{
-    match output.flush() {
-        Ok(()) => Ok(()),
-        Err(e) => Err(failure_of(&e, Failure::Output)),
-    }
-}
-
-/// The failure that an error of a reader or a writer is: want of memory, or `otherwise`.
-fn failure_of(error: &io::Error, otherwise: Failure) -> Failure
+// The failure that an error of the input is.
+fn failure_of(error: &io::Error) -> Failure
     ensures memory { error_kind error.now ≡ ErrorKind.OutOfMemory → result ≡ Failure.Memory }
-    ensures otherwise { error_kind error.now ≢ ErrorKind.OutOfMemory → result ≡ otherwise }
+    ensures otherwise { error_kind error.now ≢ ErrorKind.OutOfMemory → result ≡ Failure.Input }
 {
     if error.kind() == ErrorKind::OutOfMemory {
         Failure::Memory
     } else {
-        otherwise
+        Failure::Input
     }
 }

@@ -1,5 +1,21 @@
-use Rattle.std.proofs.Common.{refl}
+use Rattle.std.proofs.Common.{◌++◌, inr, refl}
+use Rattle.iolite.specs.Printed.{answer_text, newline}
 use Rattle.iolite.proofs.replay.answer_line.Goals as goal
 
 pub unreachable-requires : goal.unreachable-requires
 unreachable-requires c = c.in_default.ensures.none refl c.requires.0 c.requires.1
+
+-- it was carried out, and its text is the one that was not made
+pub returns-clause-lost : goal.returns-clause-lost
+returns-clause-lost c =
+    let answer = c.in_ok-answer.answer in
+    inr (
+      answer_text answer ++ newline,
+      record {
+        line = c.in-Ok.line;
+        answer = answer;
+        asks = rw (c.in-Ok.ensures) c.in-Some.ensures.asks;
+        answered = c.in_ok-answer.ensures.answer;
+        is = refl;
+      },
+    )

@@ -1,7 +1,7 @@
 use Rattle.std.proofs.Common.{arith}
 use Rattle.iolite.proofs.Appending.{WritesTo-kept, WritesTo-sliced}
-use Rattle.iolite.proofs.replay.write_out.Goals.{in-Ok, in-Err}
-use Rattle.iolite.proofs.replay.write_out.Goals as goal
+use Rattle.iolite.proofs.writing.write_out.Goals.{in-Ok, in-Err}
+use Rattle.iolite.proofs.writing.write_out.Goals as goal
 
 pub loop-turn-preserved : goal.loop-turn-preserved
 loop-turn-preserved g c =
