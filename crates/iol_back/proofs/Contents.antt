@@ -1,12 +1,14 @@
 -- Files by number.
-use Rattle.std.proofs.Common.{inl, inr, ◌≡◌, ◌≢◌, ℕ, ◌-◌, ◌<◌, ◌≤◌, ◌⊎◌, List, [], ◌∷◌, ◌++◌, length, map, get_or, ap, subst, ◌∙◌, sym, arith, Result, Ok, Err, OnOk, OnErr}
+use Rattle.std.proofs.Common.{inl, inr, ◌≡◌, ◌≢◌, ℕ, ◌-◌, ◌<◌, ◌≤◌, ◌⊎◌, ◌^◌, ◌==◌, if◌then◌else◌, min, refl, Bool, true, false, Some, slice_get, List, [], ◌∷◌, ◌++◌, length, map, get_or, ap, subst, ◌∙◌, sym, arith, Result, Ok, Err, OnOk, OnErr}
 use Rattle.std.proofs.lemmas.List.{get_or-map, get_or-set_same, get_or-set_other, length-map, map-append}
+use Rattle.std.proofs.Math.ListN as lists
 use Rattle.std.proofs.Math.ListN.{set, length-set}
+use Rattle.std.proofs.lemmas.Option.{get_or_from_slice_get}
 use Rattle.std.proofs.lemmas.Bool.{cases_eq, cases_lt}
 use Rattle.std.proofs.lemmas.Bool.Decides.{nat_tests}
 use Rattle.std.proofs.lemmas.Grind.{common_steps}
 use Rattle.iol_core.proofs.Lookups.{numbered_or-push}
-use Rattle.iol_back.specs.Disk.{content}
+use Rattle.iol_back.specs.Disk.{content, length_told, lengths_of}
 
 -- there is none
 pub content-none : (slots : List (List ℕ)) (n : ℕ) → (n ≡ 0) ⊎ (length slots < n) → content slots n ≡ []
@@ -65,3 +67,30 @@ content-some f xs n some = elim (cases_lt (length xs) n) [
   where
     none : length (map f xs) < n → ⊥
     none past = let e = content-none (map f xs) n (inr past) in let zero = ap length e in omega (arith, zero)
+
+-- The lengths that are told.
+
+-- of files of these bytes
+pub told-lengths : (slots : List (List ℕ)) (n : ℕ) → length_told (lengths_of slots) n ≡ min (length (content slots n)) (2 ^ 32 - 1)
+unfolding content length_told
+told-lengths slots n = by (n == 0)
+  where
+    cut : List ℕ → ℕ
+    cut bytes = min (length bytes) (2 ^ 32 - 1)
+
+    by : (b : Bool) → (if b then 0 else get_or (map cut slots) (n - 1) 0) ≡ cut (if b then [] else get_or slots (n - 1) [])
+    by true = refl
+    by false = lists.get_or-map cut slots (n - 1) []
+
+-- there is none
+pub told-none : (told : List ℕ) (n : ℕ) → (n ≡ 0) ⊎ (length told < n) → length_told told n ≡ 0
+unfolding length_told
+told-none told n out = elim out [
+  | inl k ↦ grind (arith, nat_tests, common_steps, k)
+  | inr past ↦ grind (arith, nat_tests, common_steps, past)
+]
+
+-- as it stands in the list
+pub told-some : (told : List ℕ) (n x : ℕ) → 0 < n → slice_get told (n - 1) ≡ Some x → length_told told n ≡ x
+unfolding length_told
+told-some told n x some is = let e = get_or_from_slice_get told (n - 1) x 0 is in grind (arith, nat_tests, e, some)

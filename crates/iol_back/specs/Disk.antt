@@ -1,15 +1,17 @@
 -- What a contract sees of a backing store.
-use Rattle.std.specs.Prelude.{◌≡◌, ◌≢◌, ℕ, ◌+◌, ◌<◌, ◌≤◌, ◌^◌, ◌-◌, ◌⊎◌, Bool, true, List, [], ◌++◌, length, take, drop, min, max, slice_index, Result, Ok, Err}
+use Rattle.std.specs.Prelude.{◌≡◌, ◌≢◌, ℕ, ◌+◌, ◌<◌, ◌≤◌, ◌^◌, ◌-◌, ◌⊎◌, Bool, true, List, [], ◌++◌, length, map, take, drop, min, max, slice_index, Result, Ok, Err}
 use Rattle.iol_core.specs.Numbered.{numbered_or}
 use Rattle.iol_core.specs.declared.limits.TheConstants.{MAX_FILES}
 
--- The bytes of each file, how often the store failed, and whether it is honest. An honest store
--- gives back what was written to it, and nobody else writes it. Of any other only its failures are
--- told.
+-- The bytes of each file, how often the store failed, whether it is honest, and how many bytes it
+-- tells that each file has. An honest store gives back what was written to it, and nobody else
+-- writes it. Of any other only its failures are known, and that it tells one length of a file until
+-- it is read or written.
 pub record Disk : Type 0 where
   pub slots : List (List ℕ)
   pub failures : ℕ
   pub honest : Bool
+  pub told : List ℕ
 
 -- files have the slots 1 to 1,024
 abbrev pub IsSlot : ℕ → Type 0
@@ -18,6 +20,14 @@ IsSlot f = (0 < f) × (f ≤ MAX_FILES)
 -- the bytes of a file: none past the last slot
 unfoldable pub content : (slots : List (List ℕ)) → (file : ℕ) → List ℕ
 content slots f = numbered_or slots f []
+
+-- the length that is told of a file: none past the last
+unfoldable pub length_told : (told : List ℕ) → (file : ℕ) → ℕ
+length_told told f = numbered_or told f 0
+
+-- the lengths of files of these bytes, each at most 2^32 - 1
+abbrev pub lengths_of : (slots : List (List ℕ)) → List ℕ
+lengths_of slots = map (λ bytes. min (length bytes) (2 ^ 32 - 1)) slots
 
 -- failures are counted up to here: a store that failed so often fails from then on
 abbrev pub last_failure : ℕ

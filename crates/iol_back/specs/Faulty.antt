@@ -11,8 +11,8 @@ inner_of f = f.inner
 abbrev pub calls_to_fault : {B : Type 0} → FaultyBacking B → ℕ
 calls_to_fault f = f.left
 
--- As a store: the bytes and the honesty of the one below, and its own failures, among them each call that failed below.
--- What the one below had failed before is not counted.
+-- As a store: the bytes, the honesty and the lengths of the one below, and its own failures, among them each call that
+-- failed below. What the one below had failed before is not counted.
 abbrev pub disk_over : {B : Type 0} → (B → Disk) → FaultyBacking B → Disk
 disk_over disk f =
-    record { slots = (disk f.inner).slots; failures = f.failed; honest = (disk f.inner).honest }
+    record { slots = (disk f.inner).slots; failures = f.failed; honest = (disk f.inner).honest; told = (disk f.inner).told }

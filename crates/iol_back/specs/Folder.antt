@@ -29,12 +29,18 @@ pub record AreNames (names : List (List ℕ)) : Type 0 where
   pub sized : All IsSized names
   pub rising : AreRising names
 
--- The names of the files, and how often the store failed.
+-- the names of the files of a folder, and their lengths when they were looked at last
+pub record Listed : Type 0 where
+  pub names : List (List ℕ)
+  pub lengths : List ℕ
+
+-- The names of the files, the lengths that are told of them, and how often the store failed.
 pub record Folder : Type 0 where
   pub names : List (List ℕ)
+  pub lengths : List ℕ
   pub failures : ℕ
 
--- As a store: of the files' bytes nothing is told, and it is not honest, since others write the
+-- As a store: of the files' bytes nothing is known, and it is not honest, since others write the
 -- files too.
 abbrev pub disk_of : Folder → Disk
-disk_of f = record { slots = []; failures = f.failures; honest = false }
+disk_of f = record { slots = []; failures = f.failures; honest = false; told = f.lengths }

@@ -1,6 +1,6 @@
 //! What a backing store is.
 ghost use Rattle.std.specs.Prelude.{◌≡◌, min, length, OnOk, OnErr};
-ghost use Rattle.iol_back.specs.Disk.{Disk, IsSlot, content, IfHonest, Counts, Reads, Writes, Tears, OthersStay};
+ghost use Rattle.iol_back.specs.Disk.{Disk, IsSlot, content, length_told, IfHonest, Counts, Reads, Writes, Tears, OthersStay};
 
 use iol_core::numbers::FileId;
 use thiserror::Error;
@@ -17,9 +17,11 @@ pub struct StoreFault;
 pub trait Backing {
     ghost disk: { Self → Disk };
 
-    /// How many bytes the file has, at most `u32::MAX`.
+    /// How many bytes the file has, at most `u32::MAX`. Until it is read or written, a store that is
+    /// not honest tells one length of each file, too.
     fn length(&self, file: FileId) -> u32
-        ensures { let now = disk self.now in
+        ensures told { result ≡ length_told (disk self.now).told file }
+        ensures honest { let now = disk self.now in
             IfHonest now (result ≡ min (length (content now.slots file)) u32.MAX) };
 
     /// Reads bytes from place `at` on, as many as `into` has. A read past the end fails. One that

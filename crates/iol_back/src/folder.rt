@@ -1,6 +1,6 @@
 //! A store of the files of a folder.
 ghost use Rattle.std.specs.Prelude.{◌≡◌, ◌+◌, ◌-◌, ◌<◌, ◌≤◌, ◌↔◌, length, All, Some, IsSome, IfSome, IfOk, OnOk, OnErr, slice_get, min};
-ghost use Rattle.iol_back.specs.Disk.{IsSlot, Counts, raised, content, IfHonest, Reads, Writes, Tears, OthersStay};
+ghost use Rattle.iol_back.specs.Disk.{IsSlot, Counts, raised, content, length_told, IfHonest, Reads, Writes, Tears, OthersStay};
 ghost use Rattle.iol_back.specs.Folder.{disk_of, IsSized, AreRising, AreDistinct};
 ghost use Rattle.iol_core.specs.declared.limits.TheConstants.{MAX_FILES, MAX_FILE_BYTES};
 
@@ -31,7 +31,11 @@ impl<R: Files> Model for FolderBacking<R> {
 
     ghost Value = { Folder };
 
-    ghost view = { λ f. record { names = f.listing; failures = f.failures } };
+    ghost view = { λ f. record {
+      names = f.listing.names;
+      lengths = f.listing.lengths;
+      failures = f.failures;
+    } };
 }
 
 impl<R: Files + AllocGlobal + Clone + Drop> FolderBacking<R> {
@@ -76,6 +80,7 @@ impl<R: Files> FolderBacking<R> {
         ensures which { IsSome result ↔ ((0 < slot) × (slot ≤ length self.now.names)) }
         ensures slot { IfSome result (λ place. IsSlot slot × (place ≡ slot - 1)) }
         ensures sized { All IsSized self.now.names }
+        ensures lengths { length self.now.lengths ≡ length self.now.names }
     {
         let number = slot.number() as usize;
         let listing = &self.listing;
@@ -157,6 +162,7 @@ impl<R: Files> Backing for FolderBacking<R> {
 
     /// The length that the file had when it was found, or was written here last; 0 where there is no file.
     fn length(&self, file: FileId) -> u32
+        ensures told { result ≡ length_told (disk_of self.now).told file }
         ensures honest { let now = disk_of self.now in
             IfHonest now (result ≡ min (length (content now.slots file)) u32.MAX) }
         ensures short { result ≤ MAX_FILE_BYTES }

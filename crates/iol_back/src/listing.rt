@@ -40,7 +40,8 @@ impl Stamp {
 
     /// How many bytes the file has.
     pub fn length(&self) -> u32
-        ensures { result ≤ MAX_FILE_BYTES }
+        ensures length { result ≡ self.now.length }
+        ensures short { result ≤ MAX_FILE_BYTES }
     {
         self.length
     }
@@ -61,12 +62,15 @@ pub struct Listing {
 }
 
 impl Model for Listing {
-    ghost use Rattle.std.specs.Prelude.{◌≡◌, ℕ, List, length, map, string_bytes};
-    ghost use Rattle.iol_back.specs.Folder.{AreNames};
+    ghost use Rattle.std.specs.Prelude.{◌≡◌, length, map, string_bytes};
+    ghost use Rattle.iol_back.specs.Folder.{AreNames, Listed};
 
-    ghost Value = { List (List ℕ) };
+    ghost Value = { Listed };
 
-    ghost view = { λ l. map (λ e. string_bytes e.name) l.entries.items };
+    ghost view = { λ l. record {
+      names = map (λ e. string_bytes e.name) l.entries.items;
+      lengths = map (λ s. s.length) l.stamps.items;
+    } };
 
     ghost invariant = { λ l. AreNames (map (λ e. string_bytes e.name) l.entries.items)
         × (length l.stamps.items ≡ length l.entries.items) };
@@ -74,7 +78,7 @@ impl Model for Listing {
 
 impl Listing {
     fn new(alloc: Global) -> Listing
-        ensures { result ≡ [] }
+        ensures { result.names ≡ [] }
     {
         Listing {
             entries: Vec::new(alloc),
@@ -84,47 +88,49 @@ impl Listing {
 
     /// How many files there are.
     pub fn count(&self) -> usize
-        ensures count { result ≡ length self.now }
-        ensures names { AreNames self.now }
+        ensures count { result ≡ length self.now.names }
+        ensures names { AreNames self.now.names }
+        ensures lengths { result ≡ length self.now.lengths }
     {
         self.entries.len()
     }
 
     /// The name of a file.
     pub fn name(&self, place: usize) -> &str
-        requires { place < length self.now }
-        ensures { slice_get self.now place ≡ Some result.now }
+        requires { place < length self.now.names }
+        ensures { slice_get self.now.names place ≡ Some result.now }
     {
         self.entries[place].name.as_str()
     }
 
     /// Where a file lies.
     pub fn path(&self, place: usize) -> &str
-        requires { place < length self.now }
+        requires { place < length self.now.names }
     {
         self.entries[place].path.as_str()
     }
 
     /// What a file was like when it was looked at last.
     pub fn stamp(&self, place: usize) -> Stamp
-        requires { place < length self.now }
+        requires { place < length self.now.names }
+        ensures { slice_get self.now.lengths place ≡ Some result.length }
     {
         self.stamps[place]
     }
 
     /// Notes what a file is like now.
     pub fn set_stamp(&mut self, place: usize, stamp: Stamp)
-        requires { place < length self.old }
-        ensures { self.new ≡ self.old }
+        requires { place < length self.old.names }
+        ensures { self.new.names ≡ self.old.names }
     {
         self.stamps[place] = stamp;
     }
 
     // Whether a file of this name may stand behind the others.
     fn takes(&self, name: &str) -> bool
-        ensures room { IsTrue result → length self.now < MAX_FILES }
+        ensures room { IsTrue result → length self.now.names < MAX_FILES }
         ensures sized { IsTrue result → IsSized name.now }
-        ensures last { IsTrue result → All (λ other. Precedes other name.now) self.now }
+        ensures last { IsTrue result → All (λ other. Precedes other name.now) self.now.names }
     {
         let is_sized = 1 <= name.len() && name.len() <= MAX_NAME_BYTES;
         is_sized && self.entries.len() < MAX_FILES && self.is_last(name)
@@ -132,7 +138,7 @@ impl Listing {
 
     // Whether a name is behind the others in byte order.
     fn is_last(&self, name: &str) -> bool
-        ensures { IsTrue result → All (λ other. Precedes other name.now) self.now }
+        ensures { IsTrue result → All (λ other. Precedes other name.now) self.now.names }
     {
         let count = self.count();
         if count == 0 {
@@ -143,9 +149,9 @@ impl Listing {
 
     // Adds a file behind the others.
     fn add(&mut self, entry: Entry, stamp: Stamp) -> Result<(), AllocError>
-        requires room { length self.old < MAX_FILES }
+        requires room { length self.old.names < MAX_FILES }
         requires sized { IsSized (string_bytes entry.name) }
-        requires last { All (λ other. Precedes other (string_bytes entry.name)) self.old }
+        requires last { All (λ other. Precedes other (string_bytes entry.name)) self.old.names }
     {
         self.entries.reserve(1)?;
         self.stamps.reserve(1)?;

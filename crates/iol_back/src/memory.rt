@@ -1,6 +1,6 @@
 //! A store in memory.
 ghost use Rattle.std.specs.Prelude.{◌≡◌, ◌+◌, ◌-◌, ◌<◌, ◌↔◌, min, true, length, OnOk, OnErr, IsOk, IsTrue};
-ghost use Rattle.iol_back.specs.Disk.{Disk, IsSlot, content, raised, CanRead, Counts, Reads, Writes, OthersStay};
+ghost use Rattle.iol_back.specs.Disk.{Disk, IsSlot, content, lengths_of, raised, CanRead, Counts, Reads, Writes, OthersStay};
 
 use crate::backing::{Backing, StoreFault};
 use crate::slots::Slots;
@@ -18,11 +18,16 @@ pub struct MemoryBacking {
 
 impl Model for MemoryBacking {
     ghost use Rattle.std.specs.Prelude.{true};
-    ghost use Rattle.iol_back.specs.Disk.{Disk};
+    ghost use Rattle.iol_back.specs.Disk.{Disk, lengths_of};
 
     ghost Value = { Disk };
 
-    ghost view = { λ m. record { slots = m.slots; failures = m.failures; honest = true } };
+    ghost view = { λ m. record {
+      slots = m.slots;
+      failures = m.failures;
+      honest = true;
+      told = lengths_of m.slots;
+    } };
 }
 
 impl MemoryBacking {
@@ -31,6 +36,7 @@ impl MemoryBacking {
         ensures slots { result.slots ≡ slots }
         ensures failures { result.failures ≡ 0 }
         ensures honest { result.honest ≡ true }
+        ensures told { result.told ≡ lengths_of slots }
     {
         MemoryBacking { slots, failures: 0 }
     }

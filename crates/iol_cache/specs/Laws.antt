@@ -1,11 +1,11 @@
 -- What the words of the contracts determine.
-use Rattle.std.specs.Prelude.{◌≡◌, ℕ, true}
+use Rattle.std.specs.Prelude.{◌≡◌, ℕ}
 use Rattle.iol_back.specs.Disk.{Disk}
 use Rattle.iol_hold.specs.Stored.{Stored}
 use Rattle.iol_cache.specs.Cached.{Cached}
 use Rattle.iol_cache.specs.Evicting.{Holding}
 use Rattle.iol_cache.specs.Going.{HasRoom, LacksRoom, Pins, wanted_pages}
-use Rattle.iol_cache.specs.Serving.{NoRoomToRead, RoomToRead}
+use Rattle.iol_cache.specs.Serving.{IsEnd, NoRoomToRead, RoomToRead}
 use Rattle.iol_cache.specs.Sound.{IsSound}
 
 -- in whichever slices the hits of a range are held, as many pages are pinned and wanted
@@ -17,7 +17,11 @@ WantsOneNumber = (s : Stored) (c : Cached) (f from to : ℕ) → IsSound s c →
 abbrev pub HasOrLacksRoom : Type 0
 HasOrLacksRoom = (s : Stored) (c : Cached) (f from to : ℕ) → IsSound s c → HasRoom s c f from to → LacksRoom s c f from to → ⊥
 
--- so it is with a read of a file, whose end an honest store tells
+-- a file has one end, whatever the store under it
+abbrev pub HasOneEnd : Type 0
+HasOneEnd = (disk : Disk) (c : Cached) (f m n : ℕ) → IsEnd disk c f m → IsEnd disk c f n → m ≡ n
+
+-- so a read of a file has room, or it lacks it, and never both
 abbrev pub ReadsOrLacksRoom : Type 0
-ReadsOrLacksRoom = (f at n : ℕ) (disk : Disk) (h : Holding) → disk.honest ≡ true → IsSound h.store h.cache
+ReadsOrLacksRoom = (f at n : ℕ) (disk : Disk) (h : Holding) → IsSound h.store h.cache
     → RoomToRead f at n disk h → NoRoomToRead f at n disk h → ⊥

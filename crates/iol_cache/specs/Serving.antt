@@ -4,7 +4,7 @@ use Rattle.iol_core.specs.Numbered.{is_numbered}
 use Rattle.iol_core.specs.declared.limits.TheConstants.{MAX_FILE_BYTES}
 use Rattle.iol_core.specs.declared.refusals.Refusal.{Refusal}
 use Rattle.iol_core.specs.declared.refusals.Refusal.TheVariants.{NoRoom, Fault, Memory}
-use Rattle.iol_back.specs.Disk.{Disk, IfHonest, content, last_failure, raised}
+use Rattle.iol_back.specs.Disk.{Disk, IfHonest, content, last_failure, length_told, raised}
 use Rattle.iol_extent.specs.Extents.{last_end}
 use Rattle.iol_extent.specs.declared.spans.Span.{Span}
 use Rattle.iol_hold.specs.Moves.{Moves}
@@ -46,10 +46,12 @@ pub record IsBacked (disk : Disk) (h : Holding) : Type 0 where
   pub short : (f : ℕ) → is_numbered h.cache.files f ≡ true → length (content disk.slots f) ≤ MAX_FILE_BYTES
   pub mirrors : Mirrors h.store disk.slots h.cache.files
 
--- The end of a file for a read: that of what is stored, as far as a file may go, or of the last extent.
+-- The end of a file for a read: that of what the store tells of it, as far as a file may go, or of the last extent. An
+-- honest store tells what is stored.
 pub record IsEnd (disk : Disk) (c : Cached) (f end : ℕ) : Type 0 where
   pub short : end ≤ MAX_FILE_BYTES
-  pub is : IfHonest disk (end ≡ max (min (length (content disk.slots f)) MAX_FILE_BYTES) (last_end (extents_in c.files f)))
+  pub is : end ≡ max (min (length_told disk.told f) MAX_FILE_BYTES) (last_end (extents_in c.files f))
+  pub stored : IfHonest disk (end ≡ max (min (length (content disk.slots f)) MAX_FILE_BYTES) (last_end (extents_in c.files f)))
 
 -- n bytes from `at` on, as far as the file goes
 pub record Range (disk : Disk) (c : Cached) (f at n : ℕ) : Type 0 where

@@ -23,7 +23,7 @@
 //! - `file_length`: how many bytes a file has. `report`: how many extents there are, and how many of them are dirty.
 //! - `sync` writes the dirty extents of a file back, `flush_one` the dirty extent of least file and offset. They want no
 //!   memory, change no file's bytes (`files`), and are refused just where the store fails.
-//! - `laws`: whether a read has room is one question, in whichever slices its hits are held.
+//! - `laws`: whether a read has room is one question, over any store and in whichever slices its hits are held.
 //!
 //! ```text
 //! let file = cache.add_file(alloc, pool)?;

@@ -129,7 +129,7 @@ impl Cache {
         self.fill_pinned(alloc, store, backing, file, from, to, pins, &gaps)
     }
 
-    // The end of a file: that of what is stored, or of the last extent.
+    // The end of a file: that of what the store tells of it, or of the last extent.
     fn file_end<B: Backing>(&self, backing: &B, file: FileId) -> u32
         requires file { is_numbered self.now.files.items file ≡ true }
         requires short { last_end (extents_in self.now.files.items file) ≤ MAX_FILE_BYTES }

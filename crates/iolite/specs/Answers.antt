@@ -4,6 +4,7 @@ use Rattle.std.specs.Io.KnownBytes.{Appends}
 use Rattle.iol_core.specs.State.{new_state}
 use Rattle.iol_core.specs.declared.configuration.TheConstants.Config.{DEFAULT}
 use Rattle.iol_core.specs.declared.limits.TheConstants.{CHUNK_PAGES}
+use Rattle.iol_back.specs.Disk.{lengths_of}
 use Rattle.iol_arena.specs.State.{no_entry}
 use Rattle.iol_arena.specs.Buffers.{live_pages}
 use Rattle.iol_kernel.specs.KernelState.{KernelState}
@@ -25,7 +26,7 @@ use Rattle.iolite.specs.Script.{Asks, AskInOrder, IsJudged, Says, asking, comman
 -- the default ones, over a store in memory that has what the script stored.
 pub record IsNew (setup : Setup) (s : SystemState) : Type 0 where
   pub machine : machine_of s ≡ new_state (slots_of setup.slots)
-  pub store : s.disk ≡ record { slots = setup.slots; failures = 0; honest = true }
+  pub store : s.disk ≡ record { slots = setup.slots; failures = 0; honest = true; told = lengths_of setup.slots }
   pub entries : s.kernel.store.arena.entries ≡ replicate ((unwrap_or setup.config DEFAULT).chunks * CHUNK_PAGES) no_entry
   pub taken : s.kernel.store.arena.taken ≡ replicate (unwrap_or setup.config DEFAULT).chunks false
   pub limit : s.kernel.store.arena.limit ≡ (unwrap_or setup.config DEFAULT).gen_limit

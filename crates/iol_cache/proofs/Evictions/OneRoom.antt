@@ -1,5 +1,5 @@
 -- How many pages a range wants does not depend on how its hits are sliced.
-use Rattle.std.proofs.Common.{inl, inr, ◌≡◌, ◌∙◌, ℕ, zero, suc, ◌+◌, ◌<◌, ◌≤◌, nat_lt, true, cond, List, [], ◌∷◌, ◌++◌, length, map, min, refl, sym, ap, arith, subst, Option, Some, None}
+use Rattle.std.proofs.Common.{inl, inr, ◌≡◌, ◌∙◌, ℕ, zero, suc, ◌+◌, ◌<◌, ◌≤◌, nat_lt, cond, List, [], ◌∷◌, ◌++◌, length, map, min, refl, sym, ap, arith, subst, Option, Some, None}
 use Rattle.std.specs.Prelude.{not, ◌||◌}
 use Rattle.std.specs.List.{filter, flat_map, range_with_len}
 use Rattle.std.proofs.lemmas.Bool.{cases_lt}
@@ -128,12 +128,12 @@ has_or_lacks s c f from to sound has lacks = omega (arith, has.fits, lacks.lacks
 
 -- A read.
 
-end_one : (disk : Disk) (c : Cached) (f m n : ℕ) → disk.honest ≡ true → IsEnd disk c f m → IsEnd disk c f n → m ≡ n
-end_one disk c f m n honest a b = a.is honest ∙ sym (b.is honest)
+pub end_one : (disk : Disk) (c : Cached) (f m n : ℕ) → IsEnd disk c f m → IsEnd disk c f n → m ≡ n
+end_one disk c f m n a b = a.is ∙ sym b.is
 
-pub reads_or_lacks : (f at n : ℕ) (disk : Disk) (h : Holding) → disk.honest ≡ true → IsSound h.store h.cache → RoomToRead f at n disk h → NoRoomToRead f at n disk h → ⊥
-reads_or_lacks f at n disk h honest sound x y =
-    let end = end_one disk h.cache f x.range.end y.range.end honest x.range.ends y.range.ends in
+pub reads_or_lacks : (f at n : ℕ) (disk : Disk) (h : Holding) → IsSound h.store h.cache → RoomToRead f at n disk h → NoRoomToRead f at n disk h → ⊥
+reads_or_lacks f at n disk h sound x y =
+    let end = end_one disk h.cache f x.range.end y.range.end x.range.ends y.range.ends in
     let from : x.range.from ≡ y.range.from = x.range.begins ∙ ap (min at) end ∙ sym y.range.begins in
     let to : x.range.to ≡ y.range.to = x.range.stops ∙ ap (min (at + n)) end ∙ sym y.range.stops in
     has_or_lacks h.store h.cache f y.range.from y.range.to sound (subst (λ k. HasRoom h.store h.cache f y.range.from k) to (subst (λ k. HasRoom h.store h.cache f k x.range.to) from x.room)) y.lacks

@@ -20,4 +20,4 @@ pub end_is : (disk : Disk) (h : Holding) (f end : ℕ) → is_numbered h.cache.f
 end_is disk h f end there ends backed =
     let stored = content disk.slots f in
     let es = extents_in h.cache.files f in
-    omega (arith, ends.is backed.honest, backed.short f there, length-file_bytes (byte_in h.store) stored es)
+    omega (arith, ends.stored backed.honest, backed.short f there, length-file_bytes (byte_in h.store) stored es)

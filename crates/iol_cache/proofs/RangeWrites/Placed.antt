@@ -25,7 +25,7 @@ use Rattle.iol_cache.proofs.Extents.Steps.{covers_right, goes_cache, goes_covers
 
 -- an honest store of these bytes
 abbrev honest_of : List (List ℕ) → Disk
-honest_of slots = record { slots = slots; failures = 0; honest = true }
+honest_of slots = record { slots = slots; failures = 0; honest = true; told = [] }
 
 pub goes_room : (d : Disk) (own : List BufId) (p n : ℕ) (old new : Holding) → MakesRoom p n old new → Goes d own own old new
 goes_room d own p n old new m =

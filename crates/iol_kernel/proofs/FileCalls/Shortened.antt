@@ -1,5 +1,5 @@
 -- A read of no more bytes than a file has is a read of as many as were asked.
-use Rattle.std.proofs.Common.{◌≡◌, ℕ, min, max, length, List, take, drop, ap, ◌∙◌, arith}
+use Rattle.std.proofs.Common.{◌≡◌, ℕ, min, length, List, take, drop, ap, ◌∙◌, arith}
 use Rattle.std.proofs.lemmas.List.{length-drop, take_min}
 use Rattle.iol_core.specs.declared.refusals.Refusal.{Refusal}
 use Rattle.iol_back.specs.Disk.{Disk}
@@ -11,18 +11,15 @@ use Rattle.iol_cache.specs.Serving.{IsBacked, NoRoomToRead, Range, ReadsFile, Re
 use Rattle.iol_kernel.specs.FileReading.{IsReadable}
 
 module _ (disk : Disk) (f at n many : ℕ) where
-  -- the end that both have seen: an honest store has one
+  -- both have seen the same end
   pub range_more : (c : Cached) → IsReadable disk c f at n many → Range disk c f at many → Range disk c f at n
   range_more c told r = record {
-    end = max (min told.end r.end) (min at r.end);
-    ends = record {
-      short = omega (arith, r.ends.short);
-      is = λ honest. omega (arith, told.ends.is honest, r.ends.is honest);
-    };
+    end = r.end;
+    ends = r.ends;
     from = r.from;
-    begins = omega (arith, r.begins);
+    begins = r.begins;
     to = r.to;
-    stops = omega (arith, r.stops, told.fewer);
+    stops = omega (arith, r.stops, told.fewer, told.ends.is, r.ends.is);
   }
 
   module _ (old : Holding) (told : IsReadable disk old.cache f at n many) where

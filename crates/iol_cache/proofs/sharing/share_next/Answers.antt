@@ -1,4 +1,4 @@
-use Rattle.std.proofs.Common.{◌∙◌, ◌+◌, ◌-◌, ◌++◌, ap, sym, arith}
+use Rattle.std.proofs.Common.{◌∙◌, ◌++◌, ap, sym, arith}
 use Rattle.iol_agg.proofs.Holding.{tally-few}
 use Rattle.iol_extent.specs.Extents.{Extent, extent_of}
 use Rattle.iol_hold.specs.Places.{places}

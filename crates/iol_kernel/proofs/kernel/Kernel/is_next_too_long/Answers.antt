@@ -16,7 +16,7 @@ pub returns-clause-honest : goal.returns-clause-honest
 returns-clause-honest g c =
     let h = state_of c.args.self.now in
     let disk = g.B.Backing.disk c.args.backing.now in
-    let told : IfHonest disk (c.length-stored.result ≡ min (length (content disk.slots (length h.files + 1))) 4294967295) = search (rules, c.length-stored.ensures) in
+    let told : IfHonest disk (c.length-stored.result ≡ min (length (content disk.slots (length h.files + 1))) 4294967295) = search (rules, c.length-stored.ensures.honest) in
     let is = next_too_long disk h c.length-stored.result c.requires.filed (omega (arith)) told in
     search (rules, is)
 
