@@ -18,7 +18,7 @@ pub struct Keeper<'a> {
 }
 
 impl<'a> Process for Keeper<'a> {
-    ghost turns = { λ before last lent turn now. Unit {0} };
+    ghost turns = { record { goes = λ before last lent turn now. Unit {0}; may_want = λ before last lent. ⊥ } };
 
     fn next(&mut self, _last: &Reply, look: &Look<'_>) -> Result<Turn, AllocError> {
         self.kept = look.bytes(AggId::new(1)); //~ borrow-lifetime

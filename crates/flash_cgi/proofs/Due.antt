@@ -23,7 +23,7 @@ use Rattle.flash_cgi.specs.Outcomes.{AreFiles, outcomes_in}
 use Rattle.flash_cgi.specs.Output.{Outcome, output}
 use Rattle.flash_cgi.specs.Taking.{HasJob}
 use Rattle.flash_cgi.specs.Turns.{IsFree, is_given, step_of, Awaits, RunsJob, outcomes_to_come, ReadsItsFile, GoesOn, IsOver, TurnsFeed}
-use Rattle.flash_cgi.specs.Works.{works}
+use Rattle.flash_cgi.specs.Works.{worker_turns}
 use Rattle.flash_cgi.specs.declared.line.Line.{Line}
 use Rattle.flash_cgi.specs.declared.doing.Doing.{Doing}
 use Rattle.flash_cgi.specs.declared.doing.Doing.TheVariants as doing
@@ -73,12 +73,12 @@ nothing_left m j p seat unseen (inl h) empty = tt
 nothing_left m j p seat unseen (inr h) empty = empty
 
 module _ (own : CallsServeTheirDomain) (quiet : WorkersAreQuiet) (m n : State) (j p : ℕ) (seat next : Seat Worker) (yields : Bool) (r : Reply)
-    (order : IsOrderly m) (did : SeatTurn copying works m seat yields r n next) where
+    (order : IsOrderly m) (did : SeatTurn copying worker_turns m seat yields r n next) where
   -- it is in its domain still
   stays_in : next.by ≡ seat.by
   stays_in = by did
     where
-      by : SeatTurn copying works m seat yields r n next → next.by ≡ seat.by
+      by : SeatTurn copying worker_turns m seat yields r n next → next.by ≡ seat.by
       by (inl starved) = ap (λ (s : Seat Worker). s.by) starved.seat_stays
       by (inr moves) = moves.domain_stays
 
@@ -167,7 +167,7 @@ closed_now : (m n : State) (p : ℕ) (r : Reply) → r ≡ reply.Done → Closes
 closed_now m n p r done closes = (subst (λ (l : Reply). ClosesWriteEnd m p l n) done closes).0
 
 turns : TurnsFeed → CallsServeTheirDomain → WorkersAreQuiet → (m n : State) (j p : ℕ) (seat next : Seat Worker) (yields : Bool) (r : Reply) (text : List ℕ) → IsOrderly m → ArePlaced m → AreFiles m
-    → IsDue m j p seat text → SeatTurn copying works m seat yields r n next → is_rough r ≡ false
+    → IsDue m j p seat text → SeatTurn copying worker_turns m seat yields r n next → is_rough r ≡ false
     → IsDue n j p next text ⊎ IsWritten m n j p next text r ⊎ ((pipe_at n p).reading ≡ false)
 turns feeds own quiet m n j p seat next yields r text order placed good due did smooth = by (feeds m n p seat next yields r due.unseen order due.runs did)
   where

@@ -20,7 +20,7 @@ use Rattle.flash_cgi.specs.Job.{Task, job_of}
 use Rattle.flash_cgi.specs.Turns.{IsFree, is_given, or_again, filed_step}
 use Rattle.flash_cgi.specs.Waiting.{is_over}
 use Rattle.flash_cgi.specs.Working.{call_at, doing_call, told, told_doing, bytes_at}
-use Rattle.flash_cgi.specs.Works.{IsNew, works, works_as, files, goes_on, takes, with_job, with_text}
+use Rattle.flash_cgi.specs.Works.{IsNew, works, works_as, files, goes_on, takes, with_job, with_text, worker_turns}
 use Rattle.flash_cgi.specs.declared.doing.Doing.{Doing}
 use Rattle.flash_cgi.specs.declared.doing.Doing.TheVariants as doing
 use Rattle.flash_cgi.specs.declared.doing.Standing.{Standing}
@@ -54,7 +54,7 @@ refused_is_free n d x r y asked at un is = record {
 abbrev pub FreeTurn : (m n : State) → (d : ℕ) → (next : Seat Worker) → Reply → Type 0
 FreeTurn m n d next r = ((n ≡ m) × IsFree n next) ⊎ ((a : ℕ) × StepsTo m (event.Call d (call.IolRead 0 65536)) (reply.Agg a) n × (r ≡ reply.Agg a))
 
-module _ (m n : State) (d : ℕ) (v : Worker) (r : Reply) (t : Turn) (yields : Bool) (comes : ComesOf copying works m d t yields r n) where
+module _ (m n : State) (d : ℕ) (v : Worker) (r : Reply) (t : Turn) (yields : Bool) (comes : ComesOf copying worker_turns m d t yields r n) where
   abbrev Stays : Worker → Type 0
   Stays x = FreeTurn m n d (seat_at d x r) r
 
@@ -67,13 +67,13 @@ module _ (m n : State) (d : ℕ) (v : Worker) (r : Reply) (t : Turn) (yields : B
   asks : (x : Worker) → t ≡ turn.Make (call_at x.job x.step) → v ≡ x → x.standing ≡ standing.Asked → x.step.doing ≡ doing.Waits → Stays v
   asks x is v_is asked at =
       let make : t ≡ turn.Make (call.IolRead 0 65536) = is ∙ ap (λ (z : Doing). turn.Make (doing_call x.job x.step.begun z)) at in
-      let step = (subst (λ (u : Turn). ComesOf copying works m d u yields r n) make comes).1 in
+      let step = (subst (λ (u : Turn). ComesOf copying worker_turns m d u yields r n) make comes).1 in
       subst (λ (y : Worker). Stays y) (sym v_is) (read x asked at r refl step)
 
   on : (w : Worker) (o : Option Step) → w.standing ≡ standing.Asked → (or_again o w.step).doing ≡ doing.Waits → goes_on w o t v → Stays v
   on w (Some next) asked waits did = asks (record w { step = next }) did.0 did.1 asked waits
   on w None asked waits did = subst (λ (y : Worker). Stays y) (sym did.1)
-      (inl ((subst (λ (u : Turn). ComesOf copying works m d u yields r n) did.0 comes).2, record { not_over = refl; waits = waits; not_given = λ e. absurd (cc (e)) }))
+      (inl ((subst (λ (u : Turn). ComesOf copying worker_turns m d u yields r n) did.0 comes).2, record { not_over = refl; waits = waits; not_given = λ e. absurd (cc (e)) }))
 
   filed : (w : Worker) (x : Doing) (l : Reply) → w.standing ≡ standing.Asked → (or_again (told w.job w.step (lent_at m d) l) w.step).doing ≡ doing.Waits → is_given x l ≡ false
       → files w x l (lent_at m d) t v → Stays v
@@ -88,7 +88,7 @@ module _ (m n : State) (d : ℕ) (v : Worker) (r : Reply) (t : Turn) (yields : B
 
 -- a turn by what the process does, its seat taken apart
 pub free_turn : (m n : State) (seat next : Seat Worker) (yields : Bool) (r : Reply) → is_live m seat.by ≡ true → IsFree m seat
-    → SeatTurn copying works m seat yields r n next → FreeTurn m n seat.by next r
+    → SeatTurn copying worker_turns m seat yields r n next → FreeTurn m n seat.by next r
 free_turn m n seat next yields r live free (inl starved) = inl
     (starved.machine_stays, subst (λ (x : Seat Worker). IsFree n x) (sym starved.seat_stays) (free_still m n seat free))
 free_turn m n seat next yields r live free (inr did) =
@@ -99,7 +99,7 @@ free_turn m n seat next yields r live free (inr did) =
 
 -- where nothing lies there it is given nothing
 turns : CallsServeTheirDomain → (m n : State) (j : ℕ) (seat next : Seat Worker) (yields : Bool) (r : Reply) → IsOrderly m → HasNoJob m seat.by j → IsFree m seat
-    → SeatTurn copying works m seat yields r n next → (n ≡ m) × IsFree n next
+    → SeatTurn copying worker_turns m seat yields r n next → (n ≡ m) × IsFree n next
 turns own m n j seat next yields r order none free did = by (free_turn m n seat next yields r none.live free did)
   where
     by : FreeTurn m n seat.by next r → (n ≡ m) × IsFree n next
@@ -121,7 +121,7 @@ skipped n d a w r asked = record {
 
 skips : (m n : State) (a b : ℕ) (bs : List ℕ) (seat next : Seat Worker) (yields : Bool) (r : Reply) → is_live m seat.by ≡ true
     → seat.process.step.doing ≡ doing.Waits → seat.process.standing ≡ standing.Asked → seat.last ≡ reply.Agg a
-    → lent_at m seat.by a ≡ Some (b ∷ bs) → job_of (b ∷ bs) ≡ None → SeatTurn copying works m seat yields r n next
+    → lent_at m seat.by a ≡ Some (b ∷ bs) → job_of (b ∷ bs) ≡ None → SeatTurn copying worker_turns m seat yields r n next
     → IsFree n next ⊎ (next ≡ seat)
 skips m n a b bs seat next yields r live waits asked last lends no_job (inl starved) = inr starved.seat_stays
 skips m n a b bs seat next yields r live waits asked last lends no_job (inr did) =

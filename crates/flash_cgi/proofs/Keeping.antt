@@ -19,7 +19,7 @@ use Rattle.iol_proc.specs.declared.process.Turn.TheVariants as turn
 use Rattle.iol_proc.specs.declared.seat.Seat.{Seat}
 use Rattle.flash_cgi.specs.Job.{Task, job_of}
 use Rattle.flash_cgi.specs.Working.{call_at, doing_call, told, told_doing, told_next, told_made, told_opened, told_written, told_read, told_cut, next_call, open_call, bytes_at}
-use Rattle.flash_cgi.specs.Works.{works, works_as, files, goes_on, takes, with_job}
+use Rattle.flash_cgi.specs.Works.{works, works_as, files, goes_on, takes, with_job, worker_turns}
 use Rattle.flash_cgi.specs.Turns.{is_given, or_again, filed_step}
 use Rattle.flash_cgi.specs.Having.{uses_fd, HasJust, held_doing, KeepsJust, WorkersKeepNothing}
 use Rattle.flash_cgi.specs.declared.line.Line.{Line}
@@ -122,16 +122,16 @@ module _ (own : CallsServeTheirDomain) (why : RefusalsTellWhy) (come : Aggregate
   ended : (x : Worker) (r : Reply) → x.standing ≡ standing.Over → HasJust n d fds aggs x.job x.step.doing → KeepsJust n fds aggs (seat_at d x r)
   ended x r is h = subst (λ (s : Standing). HasJust n d fds aggs x.job (held_doing s x.step.doing r (filed_step s x (lent_at n d) r))) (sym is) h
 
-  module _ (v : Worker) (r : Reply) (t : Turn) (yields : Bool) (comes : ComesOf copying works m d t yields r n) where
+  module _ (v : Worker) (r : Reply) (t : Turn) (yields : Bool) (comes : ComesOf copying worker_turns m d t yields r n) where
     abbrev Keeps : Worker → Type 0
     Keeps x = KeepsJust n fds aggs (seat_at d x r)
 
     makes : (x : Worker) → v ≡ x → t ≡ turn.Make (call_at x.job x.step) → x.standing ≡ standing.Asked → HasJust m d fds aggs x.job x.step.doing → Keeps v
     makes x v_is is asked h = subst (λ (y : Worker). Keeps y) (sym v_is)
-        (called x r asked h (subst (λ (u : Turn). ComesOf copying works m d u yields r n) is comes).1)
+        (called x r asked h (subst (λ (u : Turn). ComesOf copying worker_turns m d u yields r n) is comes).1)
 
     yielded : t ≡ turn.Yield → n ≡ m
-    yielded is = (subst (λ (u : Turn). ComesOf copying works m d u yields r n) is comes).2
+    yielded is = (subst (λ (u : Turn). ComesOf copying worker_turns m d u yields r n) is comes).2
 
     still : (job : Task) (x : Doing) → t ≡ turn.Yield → HasJust m d fds aggs job x → HasJust n d fds aggs job x
     still job x is h = subst (λ (s : State). HasJust s d fds aggs job x) (sym (yielded is)) h
@@ -146,7 +146,7 @@ module _ (own : CallsServeTheirDomain) (why : RefusalsTellWhy) (come : Aggregate
     text w [] a asked at h did = subst (λ (y : Worker). Keeps y) (sym did.1) (ended (record w { standing = standing.Over }) r refl
         (subst (λ (x : Doing). HasJust n d fds aggs w.job x) (sym at)
         (drops own why come m n d fds aggs w.job order live (doing.Skips a) doing.Waits a r (λ f un. refl) (λ b differ un. differ) h
-        (subst (λ (u : Turn). ComesOf copying works m d u yields r n) did.0 comes).1)))
+        (subst (λ (u : Turn). ComesOf copying worker_turns m d u yields r n) did.0 comes).1)))
     text w (b ∷ bs) a asked at h did = by (job_of (b ∷ bs)) did.0 did.1
       where
         by : (o : Option Task) → t ≡ turn.Make (call.AggDrop a) → v ≡ with_job w o a → Keeps v
@@ -165,7 +165,7 @@ module _ (own : CallsServeTheirDomain) (why : RefusalsTellWhy) (come : Aggregate
     moves w last standing.Over is h did = subst (λ (y : Worker). Keeps y) (sym did.1) (ended w r is (still w.job w.step.doing did.0 h))
 
 turn_keeps : CallsServeTheirDomain → RefusalsTellWhy → AggregatesComeAndGo → (m n : State) (fds aggs : ℕ → Bool) (seat next : Seat Worker) (yields : Bool) (r : Reply) → IsOrderly m
-    → is_live m seat.by ≡ true → KeepsJust m fds aggs seat → SeatTurn copying works m seat yields r n next → KeepsJust n fds aggs next
+    → is_live m seat.by ≡ true → KeepsJust m fds aggs seat → SeatTurn copying worker_turns m seat yields r n next → KeepsJust n fds aggs next
 turn_keeps own why come m n fds aggs seat next yields r order live h (inl starved) =
     subst (λ (s : State). KeepsJust s fds aggs next) (sym starved.machine_stays) (subst (λ (x : Seat Worker). KeepsJust m fds aggs x) (sym starved.seat_stays) h)
 turn_keeps own why come m n fds aggs seat next yields r order live h (inr did) =

@@ -30,7 +30,7 @@ use Rattle.flash_cgi.specs.Output.{Outcome}
 use Rattle.flash_cgi.specs.Turns.{IsFree, HasRead, IsRunning, filed_step, is_given, or_again}
 use Rattle.flash_cgi.specs.Waiting.{is_over}
 use Rattle.flash_cgi.specs.Working.{call_at, doing_call, next_call, told, told_doing}
-use Rattle.flash_cgi.specs.Works.{files, goes_on, works, works_as}
+use Rattle.flash_cgi.specs.Works.{files, goes_on, works, works_as, worker_turns}
 use Rattle.flash_cgi.specs.declared.line.Line.{Line}
 use Rattle.flash_cgi.specs.declared.line.Line.TheVariants as line
 use Rattle.flash_cgi.specs.declared.doing.Doing.{Doing}
@@ -232,7 +232,7 @@ module _ (steps : EachStepLeavesTheRest) (come : AggregatesComeAndGo) (by_reply 
     desk = λ j differ opened. ap (λ u. descriptor u d 0) is ∙ opened;
   }
 
-  turned : (t : Turn) (r : Reply) (yields : Bool) → ComesOf copying works m d t yields r n → ((k : Call) → t ≡ turn.Make k → keeps_to m d p k ≡ true) → LeavesAllBut m d p n
+  turned : (t : Turn) (r : Reply) (yields : Bool) → ComesOf copying worker_turns m d t yields r n → ((k : Call) → t ≡ turn.Make k → keeps_to m d p k ≡ true) → LeavesAllBut m d p n
   turned turn.Yield r yields comes keeps = same comes.2
   turned (turn.Make k) r yields comes keeps = called k r comes.1 (keeps k refl)
 
@@ -319,7 +319,7 @@ module _ (steps : EachStepLeavesTheRest) (come : AggregatesComeAndGo) (by_reply 
   -- of a worker that lives: whichever call it makes keeps to the pipe
   quiet : (m n : State) (p : ℕ) (seat next : Seat Worker) (yields : Bool) (r : Reply) → is_live m seat.by ≡ true
       → ((k : Call) (v : Worker) → works seat.process seat.last (lent_at m seat.by) (turn.Make k) v → keeps_to m seat.by p k ≡ true)
-      → SeatTurn copying works m seat yields r n next → LeavesAllBut m seat.by p n
+      → SeatTurn copying worker_turns m seat yields r n next → LeavesAllBut m seat.by p n
   quiet m n p seat next yields r live keeps (inl starved) = same steps come by_reply m n seat.by p starved.machine_stays
   quiet m n p seat next yields r live keeps (inr did) =
       let goes = subst (λ (l : ℕ → Option (List ℕ)). works seat.process seat.last l did.turn next.process) (lent-live m seat.by live) did.goes_on in
@@ -338,20 +338,20 @@ module _ (steps : EachStepLeavesTheRest) (come : AggregatesComeAndGo) (by_reply 
   desk_is m d j opened = ap (λ o. is_but j o) opened ∙ grind (arith, nat_tests)
 
   free : (m n : State) (j : ℕ) (seat next : Seat Worker) (yields : Bool) (r : Reply) → is_live m seat.by ≡ true
-      → IsFree m seat → descriptor m seat.by 0 ≡ Some (on.ReadEnd j) → SeatTurn copying works m seat yields r n next
+      → IsFree m seat → descriptor m seat.by 0 ≡ Some (on.ReadEnd j) → SeatTurn copying worker_turns m seat yields r n next
       → LeavesAllBut m seat.by j n × (descriptor n seat.by 0 ≡ Some (on.ReadEnd j))
   free m n j seat next yields r live is_free opened did = (
     quiet m n j seat next yields r live (λ k v goes. ap (λ c. keeps_to m seat.by j c) (free_keeps m j seat is_free opened k v goes) ∙ desk_is m seat.by j opened) did,
     kept did,
   )
     where
-      read : (t : Turn) (y : Bool) → ComesOf copying works m seat.by t y r n → ((k : Call) → t ≡ turn.Make k → k ≡ call.IolRead 0 65536) → descriptor n seat.by 0 ≡ Some (on.ReadEnd j)
+      read : (t : Turn) (y : Bool) → ComesOf copying worker_turns m seat.by t y r n → ((k : Call) → t ≡ turn.Make k → k ≡ call.IolRead 0 65536) → descriptor n seat.by 0 ≡ Some (on.ReadEnd j)
       read turn.Yield y comes is = ap (λ u. descriptor u seat.by 0) comes.2 ∙ opened
       read (turn.Make k) y comes is =
           let step = subst (λ c. StepsTo m (event.Call seat.by c) r n) (is k refl) comes.1 in
           (steps.leaves m n (event.Call seat.by (call.IolRead 0 65536)) r step).fds seat.by 0 (on.ReadEnd j) opened (no_file_end m seat.by j 0 j opened)
 
-      kept : SeatTurn copying works m seat yields r n next → descriptor n seat.by 0 ≡ Some (on.ReadEnd j)
+      kept : SeatTurn copying worker_turns m seat yields r n next → descriptor n seat.by 0 ≡ Some (on.ReadEnd j)
       kept (inl starved) = ap (λ u. descriptor u seat.by 0) starved.machine_stays ∙ opened
       kept (inr did) =
           let goes = subst (λ (l : ℕ → Option (List ℕ)). works seat.process seat.last l did.turn next.process) (lent-live m seat.by live) did.goes_on in
@@ -359,7 +359,7 @@ module _ (steps : EachStepLeavesTheRest) (come : AggregatesComeAndGo) (by_reply 
           (λ k is. free_keeps m j seat is_free opened k next.process (subst (λ (t : Turn). works seat.process seat.last (lent_at m seat.by) t next.process) is goes))
 
   begins : (m n : State) (p : ℕ) (seat next : Seat Worker) (yields : Bool) (r : Reply) (unseen : List Outcome → List ℕ)
-      → HasRead m p seat unseen → SeatTurn copying works m seat yields r n next → LeavesAllBut m seat.by p n
+      → HasRead m p seat unseen → SeatTurn copying worker_turns m seat yields r n next → LeavesAllBut m seat.by p n
   begins m n p seat next yields r unseen h did = quiet m n p seat next yields r h.begins.feeds.live keeps did
     where
       keeps : (k : Call) (v : Worker) → works seat.process seat.last (lent_at m seat.by) (turn.Make k) v → keeps_to m seat.by p k ≡ true
@@ -371,7 +371,7 @@ module _ (steps : EachStepLeavesTheRest) (come : AggregatesComeAndGo) (by_reply 
           ap (λ c. keeps_to m seat.by p c) (made_is k (call.AggDrop h.agg) took.0)
 
   runs : (m n : State) (p : ℕ) (seat next : Seat Worker) (yields : Bool) (r : Reply) (unseen : List Outcome → List ℕ)
-      → IsRunning m p seat unseen → SeatTurn copying works m seat yields r n next → LeavesAllBut m seat.by p n
+      → IsRunning m p seat unseen → SeatTurn copying worker_turns m seat yields r n next → LeavesAllBut m seat.by p n
   runs m n p seat next yields r unseen i did = quiet m n p seat next yields r i.feeds.live keeps did
     where
       keeps : (k : Call) (v : Worker) → works seat.process seat.last (lent_at m seat.by) (turn.Make k) v → keeps_to m seat.by p k ≡ true

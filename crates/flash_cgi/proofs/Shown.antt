@@ -40,7 +40,7 @@ use Rattle.flash_cgi.specs.Output.{Outcome}
 use Rattle.flash_cgi.specs.Shown.{HoldFiles, IsShown, LiesIn, OutputsAreShown}
 use Rattle.flash_cgi.specs.Turns.{RunsJob, filed_step, is_given, or_again, step_of}
 use Rattle.flash_cgi.specs.Waiting.{is_over}
-use Rattle.flash_cgi.specs.Works.{goes_on, with_job, works, works_as}
+use Rattle.flash_cgi.specs.Works.{goes_on, with_job, works, works_as, worker_turns}
 use Rattle.flash_cgi.specs.Works.{files as files_reply}
 use Rattle.flash_cgi.specs.Working.{bytes_at, call_at, doing_call, next_call, told, told_cut, told_doing, told_made, told_next, told_opened, told_read, told_written}
 use Rattle.flash_cgi.specs.declared.line.Line.{Line}
@@ -264,7 +264,7 @@ module _ (labels : LabelsFollow) (steps : EachStepLeavesTheRest) (files : FileCa
 
   -- one that goes on at its step
   moves : (t : Turn) → is_over w.standing ≡ false → (w.standing ≡ standing.Asked → is_given w.step.doing last ≡ false) → Open now.doing
-      → works_as w.standing w last (lent_at m d) t v → ComesOf copying works m d t yields r n → IsShown pools n p (seat_at d v r)
+      → works_as w.standing w last (lent_at m d) t v → ComesOf copying worker_turns m d t yields r n → IsShown pools n p (seat_at d v r)
   moves turn.Yield goes un opened did comes =
       let y = yields_at w v last (lent_at m d) w.standing goes un did in
       let step_is : filed_step v.standing v (lent_at n d) r ≡ now = ap (λ (s : Standing). filed_step s v (lent_at n d) r) y.1 ∙ y.0 in
@@ -279,15 +279,15 @@ module _ (labels : LabelsFollow) (steps : EachStepLeavesTheRest) (files : FileCa
 
   -- one that takes its job
   takes_job : (t : Turn) (job : Task) (a : ℕ) → w.standing ≡ standing.Asked → t ≡ turn.Make (call.AggDrop a) → v ≡ with_job w (Some job) a
-      → ComesOf copying works m d t yields r n → IsShown pools n p (seat_at d v r)
+      → ComesOf copying worker_turns m d t yields r n → IsShown pools n p (seat_at d v r)
   takes_job t job a asked is v_is comes =
       let step : Step = record { doing = doing.Drops a; begun = 0 } in
       shown_after labels steps files pools_come pools m n d order live holds shown.default p v r job step (call.AggDrop a)
       (ap (λ (y : Worker). y.job) v_is) (ap (λ (y : Worker). y.step) v_is) (ap (λ (y : Worker). y.standing) v_is ∙ asked) refl tt tt shown.output
-      (subst (λ (u : Turn). ComesOf copying works m d u yields r n) is comes).1
+      (subst (λ (u : Turn). ComesOf copying worker_turns m d u yields r n) is comes).1
 
 turns : LabelsFollow → EachStepLeavesTheRest → FileCallsServeTheirDomain → DomainsAndPoolsComeAndGo → (pools : ℕ → Bool) (m n : State) (p : ℕ) (seat next : Seat Worker) (yields : Bool) (r : Reply)
-    (unseen : List Outcome → List ℕ) → IsOrderly m → HoldFiles pools m seat.by → RunsJob m p seat unseen → IsShown pools m p seat → SeatTurn copying works m seat yields r n next → IsShown pools n p next
+    (unseen : List Outcome → List ℕ) → IsOrderly m → HoldFiles pools m seat.by → RunsJob m p seat unseen → IsShown pools m p seat → SeatTurn copying worker_turns m seat yields r n next → IsShown pools n p next
 turns labels steps files pools_come pools m n p seat next yields r unseen order holds job shown (inl starved) =
     subst (λ (u : State). IsShown pools u p next) (sym starved.machine_stays) (subst (λ (x : Seat Worker). IsShown pools m p x) (sym starved.seat_stays) shown)
 turns labels steps files pools_come pools m n p seat next yields r unseen order holds job shown (inr did) = subst (λ (x : Seat Worker). IsShown pools n p x) same (by job goes)

@@ -23,7 +23,7 @@ use Rattle.flash_cgi.specs.Job.{Task, job_of}
 use Rattle.flash_cgi.specs.Laws.{GatheringKeeps}
 use Rattle.flash_cgi.specs.Output.{Outcome, output}
 use Rattle.flash_cgi.specs.Working.{call_at, doing_call, told, told_doing, bytes_at}
-use Rattle.flash_cgi.specs.Works.{works, works_as, files, goes_on, takes, with_job, with_text}
+use Rattle.flash_cgi.specs.Works.{works, works_as, files, goes_on, takes, with_job, with_text, worker_turns}
 use Rattle.flash_cgi.specs.Waiting.{is_over}
 use Rattle.flash_cgi.specs.Feeds.{Feeds, ComesTo, FeedsOn, settled, Needs}
 use Rattle.flash_cgi.specs.Outcomes.{AreFiles, OutcomesAreTrue, SettlesTruly, outcomes_in, to_come, ReadsNamed}
@@ -103,15 +103,15 @@ module _ (feeds_on : FeedsOn) (taken : JobsAreTaken) (true_to : OutcomesAreTrue)
       }))
       by (Some next) is (inr (inr gone)) = inr (inr gone)
 
-  module _ (m n : State) (p d : ℕ) (v : Worker) (r : Reply) (t : Turn) (yields : Bool) (order : IsOrderly m) (comes : ComesOf copying works m d t yields r n) where
+  module _ (m n : State) (p d : ℕ) (v : Worker) (r : Reply) (t : Turn) (yields : Bool) (order : IsOrderly m) (comes : ComesOf copying worker_turns m d t yields r n) where
     -- it is another worker now, and its call is made
     makes : (x : Worker) (unseen : List Outcome → List ℕ) → x.standing ≡ standing.Asked → t ≡ turn.Make (call_at x.job x.step) → v ≡ x
         → Feeds m d p x.job x.step unseen → WentFrom m n d p v r unseen x.job x.step
     makes x unseen asked is v_is g = subst (λ (y : Worker). WentFrom m n d p y r unseen x.job x.step) (sym v_is)
-        (called m n d p x r unseen order asked g (subst (λ (u : Turn). ComesOf copying works m d u yields r n) is comes).1)
+        (called m n d p x r unseen order asked g (subst (λ (u : Turn). ComesOf copying worker_turns m d u yields r n) is comes).1)
 
     yielded : t ≡ turn.Yield → n ≡ m
-    yielded is = (subst (λ (u : Turn). ComesOf copying works m d u yields r n) is comes).2
+    yielded is = (subst (λ (u : Turn). ComesOf copying worker_turns m d u yields r n) is comes).2
 
     -- ---- it runs the script
 
@@ -217,7 +217,7 @@ module _ (feeds_on : FeedsOn) (taken : JobsAreTaken) (true_to : OutcomesAreTrue)
         asks_now : (x : Worker) → t ≡ turn.Make (call_at x.job x.step) → v ≡ x → x.standing ≡ standing.Asked → x.step.doing ≡ doing.Waits → Went m n d p v r unseen (outcomes_in m d h.lines) (Unit {0})
         asks_now x is v_is asked at =
             let make : t ≡ turn.Make (call.IolRead 0 65536) = is ∙ ap (λ (z : Doing). turn.Make (doing_call x.job x.step.begun z)) at in
-            let step = (subst (λ (u : Turn). ComesOf copying works m d u yields r n) make comes).1 in
+            let step = (subst (λ (u : Turn). ComesOf copying worker_turns m d u yields r n) make comes).1 in
             read x v_is asked at r refl step (own.read_pipe m n d 0 h.jobs 65536 r order h.has.jobs step)
 
         on : (o : Option Step) → w.standing ≡ standing.Asked → (or_again o w.step).doing ≡ doing.Waits → goes_on w o t v → Went m n d p v r unseen (outcomes_in m d h.lines) (Unit {0})

@@ -16,7 +16,7 @@ use Rattle.iol_proc.specs.Idle.{more_of_two}
 use Rattle.iol_proc.specs.declared.process.Turn.TheVariants as turn
 use Rattle.flash_cgi.specs.Job.{Task, job_of}
 use Rattle.flash_cgi.specs.Working.{call_at, doing_call, told, bytes_at}
-use Rattle.flash_cgi.specs.Works.{works, works_as, files, goes_on, takes, with_job}
+use Rattle.flash_cgi.specs.Works.{works, works_as, files, goes_on, takes, with_job, worker_turns}
 use Rattle.flash_cgi.specs.Waiting.{IsStuck, IsRefused, HasWaited, WaitingIsEmpty, is_over}
 use Rattle.flash_cgi.specs.declared.doing.Doing.{Doing}
 use Rattle.flash_cgi.specs.declared.doing.Doing.TheVariants as doing
@@ -107,7 +107,7 @@ module _ (m : State) (by : ℕ) where
   yields_twice w v l standing.Asked is y h = subst (λ (x : Worker). IsStuck m by x reply.Done x.standing) (sym y) h.0
   yields_twice w v l standing.Over is y h = subst (λ (x : Standing). IsStuck m by v reply.Done x) (sym (ap (λ (x : Worker). x.standing) y ∙ is)) tt
 
-pub worker_settles : Settles HasWaited works
+pub worker_settles : Settles HasWaited worker_turns
 worker_settles = record {
   first = λ by p l m. tt;
   blocks = λ n by p q l m c before did step. blocks n by p q l m c did step;

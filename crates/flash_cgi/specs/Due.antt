@@ -21,7 +21,7 @@ use Rattle.flash_cgi.specs.Outcomes.{AreFiles, outcomes_in}
 use Rattle.flash_cgi.specs.Output.{Outcome, output}
 use Rattle.flash_cgi.specs.Taking.{HasJob}
 use Rattle.flash_cgi.specs.Turns.{IsFree, RunsJob, outcomes_to_come, ReadsItsFile}
-use Rattle.flash_cgi.specs.Works.{works}
+use Rattle.flash_cgi.specs.Works.{worker_turns}
 use Rattle.flash_cgi.specs.declared.line.Line.{Line}
 use Rattle.flash_cgi.specs.declared.worker.Worker.{Worker}
 
@@ -71,7 +71,7 @@ pub record ScriptsPutOut : Type 0 where
   -- a turn of the worker leaves it due, until all is written, or nobody reads; it is not rough
   pub turns : (m n : State) (j p : ℕ) (seat next : Seat Worker) (yields : Bool) (r : Reply) (text : List ℕ)
       → IsOrderly m → ArePlaced m
-      → AreFiles m → IsDue m j p seat text → SeatTurn copying works m seat yields r n next → is_rough r ≡ false
+      → AreFiles m → IsDue m j p seat text → SeatTurn copying worker_turns m seat yields r n next → is_rough r ≡ false
       → IsDue n j p next text ⊎ IsWritten m n j p next text r ⊎ ((pipe_at n p).reading ≡ false)
   -- calls of others and what happens outside take its front, as long as they leave the files, and the job pipe
   pub others : (m n : State) (j p : ℕ) (seat : Seat Worker) (e : Event) (r : Reply) (text : List ℕ) → IsOrderly m → ArePlaced m

@@ -11,7 +11,7 @@ use Rattle.iol_proc.specs.World.{copying, seat_of}
 use Rattle.iol_proc.specs.declared.seat.Seat.{Seat}
 use Rattle.flash_cgi.specs.Job.{job_of}
 use Rattle.flash_cgi.specs.Turns.{IsFree}
-use Rattle.flash_cgi.specs.Works.{IsNew, works}
+use Rattle.flash_cgi.specs.Works.{IsNew, worker_turns}
 use Rattle.flash_cgi.specs.declared.doing.Doing.TheVariants as doing
 use Rattle.flash_cgi.specs.declared.doing.Standing.TheVariants as standing
 use Rattle.flash_cgi.specs.declared.worker.Worker.{Worker}
@@ -28,12 +28,12 @@ pub record WorkersStayFree : Type 0 where
   pub new : (m : State) (d : ℕ) (w : Worker) → IsNew w → IsFree m (seat_of (d, w))
   -- its turn changes nothing while there is no job, and leaves it free
   pub turns : (m n : State) (j : ℕ) (seat next : Seat Worker) (yields : Bool) (r : Reply) → IsOrderly m → HasNoJob m seat.by j
-      → IsFree m seat → SeatTurn copying works m seat yields r n next → (n ≡ m) × IsFree n next
+      → IsFree m seat → SeatTurn copying worker_turns m seat yields r n next → (n ≡ m) × IsFree n next
   -- so does all that others do
   pub others : (m n : State) (seat : Seat Worker) → IsFree m seat → IsFree n seat
   -- one that was given what is no job is free after its turn, or found no memory and will be told so again
   pub skips : (m n : State) (agg b : ℕ) (bs : List ℕ) (seat next : Seat Worker) (yields : Bool) (r : Reply)
       → is_live m seat.by ≡ true
       → seat.process.step.doing ≡ doing.Waits → seat.process.standing ≡ standing.Asked → seat.last ≡ reply.Agg agg
-      → lent_at m seat.by agg ≡ Some (b ∷ bs) → job_of (b ∷ bs) ≡ None → SeatTurn copying works m seat yields r n next
+      → lent_at m seat.by agg ≡ Some (b ∷ bs) → job_of (b ∷ bs) ≡ None → SeatTurn copying worker_turns m seat yields r n next
       → IsFree n next ⊎ (next ≡ seat)

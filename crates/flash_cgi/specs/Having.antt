@@ -13,7 +13,7 @@ use Rattle.iol_proc.specs.declared.seat.Seat.{Seat}
 use Rattle.flash_cgi.specs.Job.{Task}
 use Rattle.flash_cgi.specs.Turns.{step_of}
 use Rattle.flash_cgi.specs.Working.{call_at, told}
-use Rattle.flash_cgi.specs.Works.{works}
+use Rattle.flash_cgi.specs.Works.{worker_turns}
 use Rattle.flash_cgi.specs.declared.doing.Doing.{Doing}
 use Rattle.flash_cgi.specs.declared.doing.Doing.TheVariants as doing
 use Rattle.flash_cgi.specs.declared.doing.Standing.{Standing}
@@ -72,7 +72,7 @@ pub record WorkersKeepNothing : Type 0 where
       → told job step (lent_at n d) r ≡ Some next → HasJust n d fds aggs job next.doing
   -- and so does each of its turns, those in which it reads a job or finds none among them
   pub turns : (m n : State) (fds aggs : ℕ → Bool) (seat next : Seat Worker) (yields : Bool) (r : Reply) → IsOrderly m
-      → is_live m seat.by ≡ true → KeepsJust m fds aggs seat → SeatTurn copying works m seat yields r n next
+      → is_live m seat.by ≡ true → KeepsJust m fds aggs seat → SeatTurn copying worker_turns m seat yields r n next
       → KeepsJust n fds aggs next
   -- what takes its output is its job's own, though others gave it: so it has that no more once its script has ended
   pub output : (m : State) (d : ℕ) (fds aggs : ℕ → Bool) (job : Task) (x : Doing) → uses_fd job x job.fd ≡ true

@@ -9,7 +9,7 @@ use Rattle.iol_proc.specs.World.{copying}
 use Rattle.iol_proc.specs.declared.seat.Seat.{Seat}
 use Rattle.flash_cgi.specs.Output.{Outcome}
 use Rattle.flash_cgi.specs.Turns.{IsFree, HasRead, IsRunning}
-use Rattle.flash_cgi.specs.Works.{works}
+use Rattle.flash_cgi.specs.Works.{worker_turns}
 use Rattle.flash_cgi.specs.declared.worker.Worker.{Worker}
 
 -- what is not of domain d, nor this pipe, is left as it was
@@ -28,10 +28,10 @@ pub record LeavesAllBut (m : State) (d p : ℕ) (n : State) : Type 0 where
 pub record WorkersAreQuiet : Type 0 where
   -- a worker that is free touches its job pipe alone, and goes on to read it
   pub free : (m n : State) (j : ℕ) (seat next : Seat Worker) (yields : Bool) (r : Reply) → is_live m seat.by ≡ true
-      → IsFree m seat → descriptor m seat.by 0 ≡ Some (on.ReadEnd j) → SeatTurn copying works m seat yields r n next
+      → IsFree m seat → descriptor m seat.by 0 ≡ Some (on.ReadEnd j) → SeatTurn copying worker_turns m seat yields r n next
       → LeavesAllBut m seat.by j n × (descriptor n seat.by 0 ≡ Some (on.ReadEnd j))
   -- one that has read its job, and one that runs it, touches the pipe of its output alone
   pub begins : (m n : State) (p : ℕ) (seat next : Seat Worker) (yields : Bool) (r : Reply) (unseen : List Outcome → List ℕ)
-      → HasRead m p seat unseen → SeatTurn copying works m seat yields r n next → LeavesAllBut m seat.by p n
+      → HasRead m p seat unseen → SeatTurn copying worker_turns m seat yields r n next → LeavesAllBut m seat.by p n
   pub runs : (m n : State) (p : ℕ) (seat next : Seat Worker) (yields : Bool) (r : Reply) (unseen : List Outcome → List ℕ)
-      → IsRunning m p seat unseen → SeatTurn copying works m seat yields r n next → LeavesAllBut m seat.by p n
+      → IsRunning m p seat unseen → SeatTurn copying worker_turns m seat yields r n next → LeavesAllBut m seat.by p n

@@ -19,7 +19,7 @@ use Rattle.iol_proc.specs.declared.seat.Seat.{Seat}
 use Rattle.flash_cgi.specs.Beside.{is_call_of}
 use Rattle.flash_cgi.specs.Output.{Outcome}
 use Rattle.flash_cgi.specs.Turns.{IsFree, RunsJob, step_of}
-use Rattle.flash_cgi.specs.Works.{works}
+use Rattle.flash_cgi.specs.Works.{worker_turns}
 use Rattle.flash_cgi.specs.declared.doing.Doing.{Doing}
 use Rattle.flash_cgi.specs.declared.doing.Doing.TheVariants as doing
 use Rattle.flash_cgi.specs.declared.worker.Worker.{Worker}
@@ -53,7 +53,7 @@ pub record OutputsAreShown : Type 0 where
   -- its turns leave it so, and so does all that others do
   pub turns : (pools : ℕ → Bool) (m n : State) (p : ℕ) (seat next : Seat Worker) (yields : Bool) (r : Reply)
       (unseen : List Outcome → List ℕ) → IsOrderly m → HoldFiles pools m seat.by → RunsJob m p seat unseen → IsShown pools m p seat
-      → SeatTurn copying works m seat yields r n next → IsShown pools n p next
+      → SeatTurn copying worker_turns m seat yields r n next → IsShown pools n p next
   pub others : (pools : ℕ → Bool) (m n : State) (p : ℕ) (seat : Seat Worker) (e : Event) (r : Reply)
       (unseen : List Outcome → List ℕ) → IsOrderly m → ArePlaced m → RunsJob m p seat unseen → IsShown pools m p seat
       → StepsTo m e r n → is_call_of e seat.by ≡ false → IsShown pools n p seat

@@ -15,7 +15,7 @@ use Rattle.flash_cgi.specs.Job.{Task}
 use Rattle.flash_cgi.specs.Output.{Outcome, output}
 use Rattle.flash_cgi.specs.Outcomes.{AreFiles, outcomes_in, to_come, ReadsNamed}
 use Rattle.flash_cgi.specs.Working.{told}
-use Rattle.flash_cgi.specs.Works.{works}
+use Rattle.flash_cgi.specs.Works.{worker_turns}
 use Rattle.flash_cgi.specs.Waiting.{is_over}
 use Rattle.flash_cgi.specs.Feeds.{Feeds, Ends}
 use Rattle.flash_cgi.specs.Taking.{HasJob, Begins}
@@ -112,6 +112,6 @@ pub record IsOver (m n : State) (d p : ℕ) (next : Seat Worker) (unseen : List 
 -- A turn of a worker leaves what is unseen, until all of it is written or nobody reads it any more.
 abbrev pub TurnsFeed : Type 0
 TurnsFeed = (m n : State) (p : ℕ) (seat next : Seat Worker) (yields : Bool) (r : Reply) (unseen : List Outcome → List ℕ)
-    → IsOrderly m → (runs : RunsJob m p seat unseen) → SeatTurn copying works m seat yields r n next
+    → IsOrderly m → (runs : RunsJob m p seat unseen) → SeatTurn copying worker_turns m seat yields r n next
     → GoesOn m n p next r unseen (outcomes_to_come m p seat unseen runs) (ReadsItsFile m p seat unseen runs)
     ⊎ IsOver m n seat.by p next unseen r ⊎ ((pipe_at n p).reading ≡ false)

@@ -1,11 +1,13 @@
--- The account of a worker: the turns that it takes.
+-- The account of a worker: the turns that it takes, and when it may want memory.
 use Rattle.std.specs.Prelude.{◌≡◌, ℕ, List, [], ◌∷◌, Option, Some, None}
 use Rattle.iol_core.specs.declared.events.Call.TheVariants as call
 use Rattle.iol_core.specs.declared.events.Reply.{Reply}
 use Rattle.iol_core.specs.declared.events.Reply.TheVariants as reply
+use Rattle.iol_proc.specs.Turns.{Account}
 use Rattle.iol_proc.specs.declared.process.Turn.{Turn}
 use Rattle.iol_proc.specs.declared.process.Turn.TheVariants as turn
 use Rattle.flash_cgi.specs.Job.{Task, no_task, job_of}
+use Rattle.flash_cgi.specs.Wants.{Wants}
 use Rattle.flash_cgi.specs.Working.{call_at, told, bytes_at}
 use Rattle.flash_cgi.specs.declared.doing.Doing.{Doing}
 use Rattle.flash_cgi.specs.declared.doing.Doing.TheVariants as doing
@@ -56,3 +58,6 @@ works_as standing.Over w last lent t v = (t ≡ turn.Yield) × (v ≡ w)
 -- its job pipe has ended it yields.
 abbrev pub works : Worker → Reply → (ℕ → Option (List ℕ)) → Turn → Worker → Type 0
 works w last lent t v = works_as w.standing w last lent t v
+
+abbrev pub worker_turns : Account Worker
+worker_turns = record { goes = works; may_want = Wants }

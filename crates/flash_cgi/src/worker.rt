@@ -141,7 +141,7 @@ impl Worker {
 }
 
 impl Process for Worker {
-    ghost turns = { account.works };
+    ghost turns = { account.worker_turns };
 
     fn next(&mut self, last: &Reply, look: &Look<'_>) -> Result<Turn, AllocError>
         ensures turn { IfOk result

@@ -26,7 +26,7 @@ use Rattle.flash_laws.specs.Places.{has_free, may_go, runs_scripts, filed}
 use Rattle.flash_laws.specs.Policy.{most_conns, flight_to}
 use Rattle.flash_laws.specs.Rounds.{leaves_off, goes_in, next_place, flight_from, next_flight, in_rounds}
 use Rattle.flash_laws.specs.Serves.{Server, heard_of, PicksAt, Picks, filed_in, server_turns}
-use Rattle.flash_laws.specs.Tie.{Actor, Serving, Working, actor_turns}
+use Rattle.flash_laws.specs.Tie.{Actor, Serving, Working, actor_goes, actor_turns}
 use Rattle.flash_laws.specs.Tied.{with_at}
 use Rattle.flash_laws.specs.declared.doing.Flight.{Flight}
 use Rattle.flash_laws.specs.declared.doing.Flight.TheVariants.{Nothing, Accepting, At}
@@ -275,7 +275,7 @@ module _ (waits : WaitLaw) where
 
       blocks : (n by : ℕ) (p q : Actor W) (l : Reply) (m : State) (c : Call)
           → actor_settled Settled n by p l m
-          → actor_turns in_rounds works p l (λ a. lent_to m by a) (turn.Make c) q → WouldWait m by c
+          → actor_goes in_rounds works p l (λ a. lent_to m by a) (turn.Make c) q → WouldWait m by c
           → actor_settled Settled n by q (reply.Refused no.WouldBlock) m
       blocks n by (Serving s) (Serving t) l m c settled goes step = server_blocks n by s t l m c settled goes step
       blocks n by (Working w) (Working v) l m c settled goes step = workers.blocks n by w v l m c settled goes step
@@ -283,7 +283,7 @@ module _ (waits : WaitLaw) where
       blocks n by (Working w) (Serving t) l m c settled goes step = absurd goes
 
       yields : (n by : ℕ) (p q : Actor W) (l : Reply) (m : State) → actor_settled Settled n by p l m
-          → actor_turns in_rounds works p l (λ a. lent_to m by a) turn.Yield q
+          → actor_goes in_rounds works p l (λ a. lent_to m by a) turn.Yield q
           → actor_settled Settled (more_of_two n) by q reply.Done m
       yields n by (Serving s) (Serving t) l m settled goes = server_yields n by s t l m settled goes
       yields n by (Working w) (Working v) l m settled goes = workers.yields n by w v l m settled goes

@@ -29,7 +29,7 @@ use Rattle.flash_cgi.specs.Shown.{HoldFiles, IsShown, OutputsAreShown}
 use Rattle.flash_cgi.specs.Taking.{HasJob}
 use Rattle.flash_cgi.specs.Turns.{RunsJob}
 use Rattle.flash_cgi.specs.Waiting.{HasWaited}
-use Rattle.flash_cgi.specs.Works.{works}
+use Rattle.flash_cgi.specs.Works.{worker_turns}
 use Rattle.flash_cgi.specs.declared.line.Line.{Line}
 use Rattle.flash_cgi.specs.declared.worker.Worker.{Worker}
 use Rattle.flash_laws.specs.WorkersRun.{Gave, IsDueOf, IsFreeFor, WorkersRun, Wrote}
@@ -47,7 +47,7 @@ module _ (stay_free : WorkersStayFree) (put_out : ScriptsPutOut) (hear : OthersH
   abbrev Due : State → (j p : ℕ) → Seat Worker → List ℕ → Type 0
   Due m j p seat text = IsDueOf pools m j p seat text
 
-  waits : (m n : State) (j : ℕ) (seat next : Seat Worker) (yields : Bool) (r : Reply) → IsOrderly m → Free m j seat → SeatTurn copying works m seat yields r n next → (n ≡ m) × Free n j next
+  waits : (m n : State) (j : ℕ) (seat next : Seat Worker) (yields : Bool) (r : Reply) → IsOrderly m → Free m j seat → SeatTurn copying worker_turns m seat yields r n next → (n ≡ m) × Free n j next
   waits m n j seat next yields r order free did =
       let same = stay_free.turns m n j seat next yields r order free.none free.free did in
       let by_same = stays_in did in (
@@ -59,7 +59,7 @@ module _ (stay_free : WorkersStayFree) (put_out : ScriptsPutOut) (hear : OthersH
         },
       )
     where
-      stays_in : SeatTurn copying works m seat yields r n next → next.by ≡ seat.by
+      stays_in : SeatTurn copying worker_turns m seat yields r n next → next.by ≡ seat.by
       stays_in (inl starved) = ap (λ (s : Seat Worker). s.by) starved.seat_stays
       stays_in (inr moves) = moves.domain_stays
 
@@ -91,21 +91,21 @@ module _ (stay_free : WorkersStayFree) (put_out : ScriptsPutOut) (hear : OthersH
       }
 
   turns : (m n : State) (j p : ℕ) (seat next : Seat Worker) (yields : Bool) (r : Reply) (text : List ℕ) → IsOrderly m → ArePlaced m → AreFiles m → HoldFiles pools m seat.by
-      → Due m j p seat text → SeatTurn copying works m seat yields r n next → is_rough r ≡ false
-      → Due n j p next text ⊎ Wrote works HasWaited pools Free Due m n j p next text r ⊎ ((pipe_at n p).reading ≡ false)
+      → Due m j p seat text → SeatTurn copying worker_turns m seat yields r n next → is_rough r ≡ false
+      → Due n j p next text ⊎ Wrote worker_turns HasWaited pools Free Due m n j p next text r ⊎ ((pipe_at n p).reading ≡ false)
   turns m n j p seat next yields r text order placed good holds h did smooth = by (put_out.turns m n j p seat next yields r text order placed good h.due did smooth)
     where
       shown : IsShown pools n p next
       shown = show.turns pools m n p seat next yields r h.due.unseen order holds h.due.runs h.shown did
 
       by : IsDue n j p next text ⊎ IsWritten m n j p next text r ⊎ ((pipe_at n p).reading ≡ false)
-          → Due n j p next text ⊎ Wrote works HasWaited pools Free Due m n j p next text r ⊎ ((pipe_at n p).reading ≡ false)
+          → Due n j p next text ⊎ Wrote worker_turns HasWaited pools Free Due m n j p next text r ⊎ ((pipe_at n p).reading ≡ false)
       by (inl due) = inl (record { due = due; shown = shown })
       by (inr (inl w)) = inr (inl (record { all = w.all; done = w.done; closes = w.closes; free = record { free = w.free; none = w.none; default = shown.default }; lies = shown.output }))
       by (inr (inr gone)) = inr (inr gone)
 
   others : (m n : State) (j p : ℕ) (seat : Seat Worker) (e : Event) (r : Reply) (text : List ℕ) → IsOrderly m → ArePlaced m → StepsTo m e r n → is_call_of e seat.by ≡ false
-      → LeavesFiles m seat.by n → pipe_at n j ≡ pipe_at m j → Due m j p seat text → Gave works HasWaited pools Free Due m n j p seat text
+      → LeavesFiles m seat.by n → pipe_at n j ≡ pipe_at m j → Due m j p seat text → Gave worker_turns HasWaited pools Free Due m n j p seat text
   others m n j p seat e r text order placed step other files same h =
       let gave = put_out.others m n j p seat e r text order placed step other files same h.due in
       record {
@@ -116,7 +116,7 @@ module _ (stay_free : WorkersStayFree) (put_out : ScriptsPutOut) (hear : OthersH
       }
 
   quiet : (m n : State) (j p : ℕ) (seat next : Seat Worker) (yields : Bool) (r : Reply) (text : List ℕ) → Due m j p seat text
-      → SeatTurn copying works m seat yields r n next → LeavesAllBut m seat.by j n ⊎ LeavesAllBut m seat.by p n
+      → SeatTurn copying worker_turns m seat yields r n next → LeavesAllBut m seat.by j n ⊎ LeavesAllBut m seat.by p n
   quiet m n j p seat next yields r text h did = by h.due.unseen h.due.runs
     where
       by : (unseen : List Outcome → List ℕ) → RunsJob m p seat unseen → LeavesAllBut m seat.by j n ⊎ LeavesAllBut m seat.by p n
@@ -132,7 +132,7 @@ module _ (stay_free : WorkersStayFree) (put_out : ScriptsPutOut) (hear : OthersH
       by unseen (inr (inl a)) = (a.job.fd, a.begins.feeds.open_on)
       by unseen (inr (inr a)) = (seat.process.job.fd, a.feeds.open_on)
 
-  pub workers_run : WorkersRun works HasWaited pools Free Due
+  pub workers_run : WorkersRun worker_turns HasWaited pools Free Due
   workers_run = record {
     none = λ m j seat free. free.none;
     writes = writes;

@@ -11,6 +11,10 @@ pub mod Serves
 pub mod Rounds
 pub mod GoesRound
 pub mod Sharing
+pub mod Wanting
+pub mod RunWants
+pub mod ClientWants
+pub mod TurnWants
 pub mod Tie
 pub mod Calm
 pub mod Idle

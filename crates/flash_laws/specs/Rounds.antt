@@ -28,10 +28,12 @@ abbrev pub goes_in : (free : Bool) → Option Client → Bool
 goes_in free None = false
 goes_in free (Some x) = may_go free x
 
--- the first place from here on that has one
+-- the first place from here on that has one, where a worker is free or none
+abbrev pub next_in : (free : Bool) → List (Option Client) → (from : ℕ) → Option ℕ
+next_in free clients from = option_map (λ k. from + k) (position (λ o. goes_in free o) (drop from clients))
+
 abbrev pub next_place : (workers : ℕ) → List (Option Client) → (from : ℕ) → Option ℕ
-next_place workers clients from =
-    option_map (λ k. from + k) (position (λ o. goes_in (has_free workers clients) o) (drop from clients))
+next_place workers clients from = next_in (has_free workers clients) clients from
 
 abbrev pub flight_from : (workers : ℕ) → List (Option Client) → (from : ℕ) → Flight
 flight_from workers clients from = flight_to clients (next_place workers clients from)

@@ -7,7 +7,6 @@ use Rattle.iol_core.specs.declared.events.Call.TheVariants as call
 use Rattle.iol_core.specs.declared.events.Event.TheVariants as event
 use Rattle.iol_core.specs.declared.events.Reply.{Reply}
 use Rattle.iol_core.specs.declared.events.Reply.TheVariants as reply
-use Rattle.iol_proc.specs.Turns.{Account}
 use Rattle.iol_proc.specs.declared.process.Turn.{Turn}
 use Rattle.iol_proc.specs.declared.process.Turn.TheVariants as turn
 use Rattle.flash_laws.specs.Client.{Client, wants, Readies}
@@ -64,7 +63,7 @@ abbrev pub filed_in : Server → (last : Reply) → (lent : ℕ → Option (List
 filed_in s last lent = filed s.workers s.clients s.flight last (heard_of last lent)
 
 -- What the server does by its account: one that the policy allows is picked, and what it asks for is done.
-abbrev pub server_turns : Policy → Account Server
+abbrev pub server_turns : Policy → Server → Reply → (lent : ℕ → Option (List ℕ)) → Turn → Server → Type 0
 server_turns may s last lent made t = may s.workers (filed_in s last lent) s.flight last t.flight
     × Picks s.workers (filed_in s last lent) t.flight made t.clients
     × (t.workers ≡ s.workers)

@@ -1,12 +1,14 @@
 -- The processes of a world, the server and workers, and the past of what was chosen and replied. W is what a worker is.
-use Rattle.std.specs.Prelude.{ℕ, ◌||◌, Bool, false, List, ◌∷◌}
+use Rattle.std.specs.Prelude.{ℕ, ◌||◌, Bool, false, List, ◌∷◌, Option}
 use Rattle.iol_core.specs.declared.events.Reply.{Reply}
 use Rattle.iol_proc.specs.Turns.{Account}
 use Rattle.iol_proc.specs.Histories.{stream_over, sent_over}
 use Rattle.iol_proc.specs.declared.choice.Choice.{Choice}
 use Rattle.iol_proc.specs.declared.choice.Choice.TheVariants as choice
+use Rattle.iol_proc.specs.declared.process.Turn.{Turn}
 use Rattle.flash_laws.specs.Past.{Past, made_by, gone_by}
 use Rattle.flash_laws.specs.Serves.{Server, Policy, server_turns}
+use Rattle.flash_laws.specs.TurnWants.{server_wants}
 
 -- ---- the past of choices and their replies
 
@@ -43,8 +45,21 @@ pub data Actor (W : Type 0) : Type 0 where
   Serving : (s : Server) → Actor W
   Working : (w : W) → Actor W
 
+-- the server by itself: the turns that it takes, and when it may want memory
+abbrev pub server_account : Policy → Account Server
+server_account may = record { goes = server_turns may; may_want = server_wants }
+
+-- when a process may want memory
+abbrev pub actor_wants : {W : Type 0} → Account W → Actor W → Reply → (lent : ℕ → Option (List ℕ)) → Type 0
+actor_wants works (Serving s) last lent = server_wants s last lent
+actor_wants works (Working w) last lent = works.may_want w last lent
+
 module _ (may : Policy) {W : Type 0} (works : Account W) where
+  -- the turns that it takes
+  abbrev pub actor_goes : Actor W → Reply → (lent : ℕ → Option (List ℕ)) → Turn → Actor W → Type 0
+  actor_goes (Serving s) last lent t (Serving after) = server_turns may s last lent t after
+  actor_goes (Working w) last lent t (Working after) = works.goes w last lent t after
+  actor_goes x last lent t y = ⊥
+
   abbrev pub actor_turns : Account (Actor W)
-  actor_turns (Serving s) last lent t (Serving after) = server_turns may s last lent t after
-  actor_turns (Working w) last lent t (Working after) = works w last lent t after
-  actor_turns x last lent t y = ⊥
+  actor_turns = record { goes = actor_goes; may_want = actor_wants works }

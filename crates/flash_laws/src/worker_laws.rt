@@ -2,7 +2,7 @@
 //! the laws.
 ghost use Rattle.std.specs.Prelude.{ℕ, Bool};
 ghost use Rattle.flash_cgi.specs.Waiting.{HasWaited};
-ghost use Rattle.flash_cgi.specs.Works.{works};
+ghost use Rattle.flash_cgi.specs.Works.{worker_turns};
 ghost use Rattle.flash_laws.specs.Due.{DueMayCome};
 ghost use Rattle.flash_laws.specs.PutsOut.{TextsArePutOut};
 ghost use Rattle.flash_laws.specs.WorkersRun.{IsDueOf, IsFreeFor, WorkersRun};
@@ -13,7 +13,7 @@ use iol_laws::laws;
 /// The worker that runs scripts is as the law needs it, whichever pools hold the files: what a script puts out is one text, which lies in
 /// these pools, and its worker waits for nothing but room in its pipe. A worker touches nothing else, and is free again after it.
 pub fn workers_run()
-    ensures { (pools : ℕ → Bool) → WorkersRun works HasWaited pools (IsFreeFor pools) (IsDueOf pools) }
+    ensures { (pools : ℕ → Bool) → WorkersRun worker_turns HasWaited pools (IsFreeFor pools) (IsDueOf pools) }
 {
     scripts::workers_stay_free();
     scripts::scripts_put_out();
@@ -34,7 +34,7 @@ pub fn due_may_come()
 /// one that gives nothing tells that all was read and that the worker is free, and none is denied. Meanwhile the worker's turns and
 /// others leave the rest.
 pub fn texts_are_put_out()
-    ensures { (pools : ℕ → Bool) → TextsArePutOut works pools (IsFreeFor pools) (IsDueOf pools) }
+    ensures { (pools : ℕ → Bool) → TextsArePutOut worker_turns pools (IsFreeFor pools) (IsDueOf pools) }
 {
     workers_run();
     scripts::others_hear();

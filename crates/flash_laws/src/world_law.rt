@@ -1,10 +1,10 @@
 //! The law over a world in which scripts run: connections do not meet, be it for files or for what scripts put out. The function does
 //! nothing; its contract is the law.
-ghost use Rattle.std.specs.Prelude.{ℕ, Bool, List, Option};
+ghost use Rattle.std.specs.Prelude.{ℕ, Bool, List};
 ghost use Rattle.iol_core.specs.State.{State};
 ghost use Rattle.iol_core.specs.declared.events.Reply.{Reply};
 ghost use Rattle.iol_proc.specs.Settled.{Settles};
-ghost use Rattle.iol_proc.specs.declared.process.Turn.{Turn};
+ghost use Rattle.iol_proc.specs.Turns.{Account};
 ghost use Rattle.iol_proc.specs.declared.seat.Seat.{Seat};
 ghost use Rattle.flash_laws.specs.Crews.{OfEach, OfSome};
 ghost use Rattle.flash_laws.specs.Host.{ActorsSettle};
@@ -23,8 +23,8 @@ use iol_laws::laws;
 
 /// What the law needs of workers that run scripts.
 pub trait RunsScripts: Drop {
-    /// The turns that it may take.
-    ghost turns: { Self → Reply → (ℕ → Option (List ℕ)) → Turn → Self → Type 0 };
+    /// Its account: the turns that it may take, and when it may find no memory.
+    ghost turns: { Account Self };
 
     /// Its condition for idle moments, as `iol_proc::idle::Settling` has it.
     ghost settled: { ℕ → ℕ → Self → Reply → State → Type 0 };

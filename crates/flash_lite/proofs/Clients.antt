@@ -11,20 +11,21 @@ use Rattle.iol_core.specs.declared.events.Reply.TheVariants as reply
 use Rattle.flash_http.specs.Request.{Answer}
 use Rattle.flash_http.specs.Window.{window_in}
 use Rattle.flash_laws.specs.Client.{Client, Readies, is_bare, can_run, kept_if, conn_wants, conn_told, file_told, told_spares, is_for_script, left_over, wants, awaits}
+use Rattle.flash_laws.specs.ClientWants.{hears, client_hears, needs_memory, WantsOn}
 use Rattle.flash_laws.specs.Conn as conn
 use Rattle.flash_laws.specs.Conn.{Conn, is_head_only}
 use Rattle.flash_laws.specs.Policy as policy
 use Rattle.flash_laws.specs.Policy.{is_later}
 use Rattle.flash_laws.specs.Rounds.{leaves_off}
 use Rattle.flash_laws.specs.Tied as tied
+use Rattle.flash_laws.specs.Wanting as wanting
 use Rattle.flash_laws.specs.declared.running.Running.{Running}
 use Rattle.flash_laws.specs.declared.doing.Content.TheVariants.{Script}
 use Rattle.flash_laws.specs.declared.doing.Doing.{Doing}
 use Rattle.flash_laws.specs.declared.doing.Doing.TheVariants.{Rests, Got, Opens, Reads, Shuts, Picks, Spares, Heads, Joins, Sends, Cuts, Offers, Swaps, Sent, Breaks, Drops, Closes, Over}
 use Rattle.flash_laws.proofs.InPlaces.{left-map}
-use Rattle.flash_lite.specs.Course.{whole, found, runs, text_heard, ended, left_with, hears, client_hears, needs_memory, GoesOn, IsLeft, IsCourse, WantsOn}
+use Rattle.flash_lite.specs.Course.{whole, found, runs, text_heard, ended, left_with, GoesOn, IsLeft, IsCourse}
 use Rattle.flash_lite.specs.Onward as onward
-use Rattle.flash_lite.specs.Wanting as wanting
 use Rattle.flash_lite.specs.declared.client.Course.{Course}
 use Rattle.flash_lite.specs.declared.client.Course.TheVariants.{Asks, Leaves}
 use Rattle.flash_lite.specs.declared.client.Left.TheVariants.{Goes, Ends, Begins, Stays}

@@ -14,6 +14,7 @@ use Rattle.flash_laws.specs.Client.{Client, told, left_over}
 use Rattle.flash_laws.specs.Places.{first_free, has_free, may_go, runs_scripts, told_at, filed}
 use Rattle.flash_laws.specs.Policy.{door, flight_to, most_conns}
 use Rattle.flash_laws.specs.Rounds.{goes_in, leaves_off, flight_from, place_after}
+use Rattle.flash_laws.specs.Rounds.{next_in}
 use Rattle.flash_laws.specs.Serves.{Picks}
 use Rattle.flash_laws.specs.Tied.{with_at, left_by}
 use Rattle.flash_laws.specs.declared.doing.Doing.{Doing}
@@ -21,7 +22,7 @@ use Rattle.flash_laws.specs.declared.doing.Doing.TheVariants.{Rests, Got, Opens,
 use Rattle.flash_laws.specs.declared.doing.Flight.{Flight}
 use Rattle.flash_laws.specs.declared.doing.Flight.TheVariants.{Nothing, Accepting, At}
 use Rattle.flash_lite.specs.Course.{left_with, remains}
-use Rattle.flash_lite.specs.Turning.{AtDoor, Makes, PicksFrom, door_to, ends, flight_by, left_as, left_at, most_with, next_in}
+use Rattle.flash_lite.specs.Turning.{AtDoor, Makes, PicksFrom, door_to, ends, flight_by, left_as, left_at, most_with}
 use Rattle.flash_lite.specs.declared.client.Left.{Left}
 use Rattle.flash_lite.specs.declared.client.Left.TheVariants as left
 use Rattle.flash_lite.proofs.Filing.{position-here}

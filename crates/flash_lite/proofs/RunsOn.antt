@@ -6,11 +6,15 @@ use Rattle.iol_core.specs.declared.events.Reply.{Reply}
 use Rattle.iol_core.specs.declared.events.Reply.TheVariants as reply
 use Rattle.iol_core.specs.declared.refusals.Refusal.TheVariants as no
 use Rattle.flash_http.specs.Request.{Answer, serve, refuse, Wanted}
+use Rattle.flash_laws.proofs.Answering.{some-inj}
+use Rattle.flash_laws.proofs.RunOffering.{keeps}
 use Rattle.flash_laws.specs.Client.{Client, is_bare, keeps_text, text_on, after_run, goes_on, run_told, run_wants, wants, left_over, awaits}
+use Rattle.flash_laws.specs.ClientWants.{needs_memory, WantsOn}
 use Rattle.flash_laws.specs.Conn as conn
 use Rattle.flash_laws.specs.Policy.{is_later}
 use Rattle.flash_laws.specs.RunOffers.{HasWorker}
 use Rattle.flash_laws.specs.Rounds.{leaves_off}
+use Rattle.flash_laws.specs.RunWants.{makes_any}
 use Rattle.flash_laws.specs.Running as running
 use Rattle.flash_laws.specs.Running.{is_over, is_left, in_phase, told_awaits, told_sending, told_step}
 use Rattle.flash_laws.specs.declared.doing.Doing.{Doing}
@@ -20,12 +24,10 @@ use Rattle.flash_laws.specs.declared.running.Step.{Step}
 use Rattle.flash_laws.specs.declared.running.Step.TheVariants as act
 use Rattle.flash_laws.specs.declared.running.Running.{Running}
 use Rattle.flash_laws.specs.declared.running.Running.TheVariants.{Awaits, Runs, Leaves, Closes as Finished}
-use Rattle.flash_lite.specs.Course.{run_after, ended, needs_memory, GoesOn, IsLeft, IsCourse, WantsOn}
-use Rattle.flash_lite.specs.Runs.{makes_any, waits}
+use Rattle.flash_lite.specs.Course.{run_after, ended, GoesOn, IsLeft, IsCourse}
+use Rattle.flash_lite.specs.Runs.{waits}
 use Rattle.flash_lite.specs.declared.client.Course.{Course}
 use Rattle.flash_lite.specs.declared.client.Left.TheVariants.{Stays}
-use Rattle.flash_laws.proofs.Answering.{some-inj}
-use Rattle.flash_laws.proofs.RunOffering.{keeps}
 use Rattle.flash_lite.proofs.Clients.{course_reply}
 
 -- ---- where its call is to be made again later, a run is as it was

@@ -1,11 +1,11 @@
 -- What a client does after a reply to its call, where `t` is what it is by the words, once the reply is filed.
-use Rattle.std.specs.Prelude.{◌≡◌, ◌⊎◌, ℕ, Bool, true, false, not, if◌then◌else◌, List, [], Option, Some, None}
+use Rattle.std.specs.Prelude.{◌≡◌, ℕ, Bool, true, false, not, if◌then◌else◌, List, [], Option, Some, None}
 use Rattle.iol_core.specs.declared.events.Call.{Call}
 use Rattle.iol_core.specs.declared.events.Call.TheVariants as call
 use Rattle.iol_core.specs.declared.events.Reply.{Reply}
 use Rattle.iol_core.specs.declared.events.Reply.TheVariants as reply
 use Rattle.flash_http.specs.Request.{Answer, serve, refuse}
-use Rattle.flash_laws.specs.Client.{Client, Readies, is_for_script, can_run, kept_if, wants, left_over}
+use Rattle.flash_laws.specs.Client.{Client, Readies, can_run, kept_if, wants, left_over}
 use Rattle.flash_laws.specs.Tied.{left_by}
 use Rattle.flash_laws.specs.Conn.{most_read, is_head_only}
 use Rattle.flash_laws.specs.Rounds.{leaves_off}
@@ -19,8 +19,7 @@ use Rattle.flash_laws.specs.declared.doing.Doing.TheVariants.{Reads, Shuts, Spar
 use Rattle.flash_laws.specs.declared.running.Running.{Running}
 use Rattle.flash_laws.specs.declared.running.Running.TheVariants.{Awaits}
 use Rattle.flash_lite.specs.Onward as conn
-use Rattle.flash_lite.specs.Runs.{IsSmallRunning, makes_any, run_worker}
-use Rattle.flash_lite.specs.Wanting as wanting
+use Rattle.flash_lite.specs.Runs.{IsSmallRunning, run_worker}
 use Rattle.flash_lite.specs.declared.client.Course.{Course}
 use Rattle.flash_lite.specs.declared.client.Course.TheVariants.{Asks, Leaves}
 use Rattle.flash_lite.specs.declared.client.Left.{Left}
@@ -128,37 +127,3 @@ worker_of x = by x.run
     by : Option Running → Option ℕ
     by None = None
     by (Some y) = run_worker y
-
--- ---- what it wants memory for
-
--- whether it was reading, and something came: of its stream, or the text of a script
-abbrev pub hears : (script : Bool) → Doing → Reply → Bool
-hears true (Reads f) (reply.Agg n) = true
-hears script d r = wanting.hears d r
-
-abbrev pub client_hears : (scripts : Bool) → Client → Reply → Bool
-client_hears scripts x r = by x.run
-  where
-    by : Option Running → Bool
-    by None = hears (is_for_script scripts x.conn.q) x.conn.doing r
-    by (Some y) = false
-
--- whether its next call has bytes of its own
-abbrev pub makes_bytes : Client → Bool
-makes_bytes x = by x.run
-  where
-    by : Option Running → Bool
-    by None = wanting.has_bytes x.conn.doing
-    by (Some y) = makes_any y
-
--- whether one that goes on at once begins a request, or makes such a call
-abbrev pub needs_memory : Client → Bool
-needs_memory x = by x.run
-  where
-    by : Option Running → Bool
-    by None = wanting.needs_memory x.conn.doing
-    by (Some y) = makes_any y
-
--- to keep what came, or to go on at once
-abbrev pub WantsOn : (scripts : Bool) → (t x : Client) → Reply → Type 0
-WantsOn scripts t x r = (client_hears scripts x r ≡ true) ⊎ ((leaves_off (left_over t) r ≡ false) × (needs_memory t ≡ true))

@@ -5,8 +5,6 @@ pub mod Small
 pub mod Texts
 pub mod Onward
 pub mod Turning
-pub mod Wanting
-pub mod TurnWants
 pub mod Workers
 pub mod Actors
 pub mod Setup

@@ -1,4 +1,4 @@
--- The numbers of a script's run are small, and which of its calls have bytes of their own.
+-- The numbers of a script's run are small.
 use Rattle.std.specs.Prelude.{◌≡◌, ◌<◌, ◌==◌, ℕ, Bool, true, false, List, Option, Some, None, if◌then◌else◌}
 use Rattle.flash_cgi.specs.Job.{job_text}
 use Rattle.flash_http.specs.Request.{Wanted}
@@ -8,11 +8,10 @@ use Rattle.flash_laws.specs.declared.doing.Doing.{Doing}
 use Rattle.flash_laws.specs.declared.running.TheConstants.{CHUNK_BYTES}
 use Rattle.flash_laws.specs.declared.running.Run.{Run}
 use Rattle.flash_laws.specs.declared.running.Step.{Step}
-use Rattle.flash_laws.specs.declared.running.Step.TheVariants.{Makes, Heads, Sending, Hears, Gathers, Frames, Ended, Stops, Unframes, Lasts, WrapsLast}
+use Rattle.flash_laws.specs.declared.running.Step.TheVariants.{Sending, Hears, Gathers, Ended, Stops, Unframes, Lasts, WrapsLast}
 use Rattle.flash_laws.specs.declared.running.Running.{Running}
 use Rattle.flash_laws.specs.declared.running.Running.TheVariants.{Awaits, Runs, Leaves}
 use Rattle.flash_lite.specs.Small.{IsSmall}
-use Rattle.flash_lite.specs.Wanting.{has_bytes}
 use Rattle.flash_lite.specs.declared.site.TheConstants.{MAX_WORKERS}
 
 -- what is held has some bytes, and fewer than a chunk
@@ -61,17 +60,3 @@ job_for w script fd = job_text fd w.query script
 -- output was read, so many bytes, or its end was seen
 abbrev pub reading : (broken chunked : Bool) → (held : Following) → (frame : Option ℕ) → (agg len : ℕ) → Step
 reading broken chunked held frame a len = if len == 0 then Ended a held frame else hearing broken chunked held frame a len
-
--- whether its next call has bytes of its own
-abbrev pub makes_bytes : Step → Bool
-makes_bytes (Makes fd) = true
-makes_bytes Heads = true
-makes_bytes (Sending d frame) = has_bytes d
-makes_bytes (Frames held) = true
-makes_bytes (Lasts held) = true
-makes_bytes s = false
-
-abbrev pub makes_any : Running → Bool
-makes_any (Runs run step) = makes_bytes step
-makes_any (Leaves d) = has_bytes d
-makes_any x = false

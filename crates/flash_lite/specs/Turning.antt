@@ -1,5 +1,5 @@
 -- A turn of the server, as its code makes it.
-use Rattle.std.specs.Prelude.{◌≡◌, ℕ, ◌<◌, ◌≤◌, ◌+◌, ◌==◌, ◌||◌, ◌&&◌, not, Bool, true, false, nat_lt, List, length, get_or, take, drop, position, Option, Some, None, option_map, slice_set, if◌then◌else◌}
+use Rattle.std.specs.Prelude.{◌≡◌, ℕ, ◌<◌, ◌≤◌, ◌+◌, ◌==◌, ◌||◌, ◌&&◌, not, Bool, true, false, nat_lt, List, length, get_or, take, Option, Some, None, slice_set, if◌then◌else◌}
 use Rattle.std.specs.List.{position_or_len}
 use Rattle.iol_core.specs.Numbered.{in_place, taken}
 use Rattle.iol_core.specs.declared.events.Call.{Call}
@@ -9,7 +9,7 @@ use Rattle.iol_proc.specs.declared.process.Turn.{Turn}
 use Rattle.iol_proc.specs.declared.process.Turn.TheVariants as turn
 use Rattle.flash_laws.specs.Client.{Client, told, wants, Readies}
 use Rattle.flash_laws.specs.Places.{filed}
-use Rattle.flash_laws.specs.Rounds.{goes_in, in_rounds}
+use Rattle.flash_laws.specs.Rounds.{in_rounds, next_in}
 use Rattle.flash_laws.specs.Serves.{Picks}
 use Rattle.flash_laws.specs.declared.doing.Doing.TheVariants.{Over}
 use Rattle.flash_laws.specs.declared.doing.Flight.{Flight}
@@ -87,10 +87,6 @@ pub record TurnsFree (free : List Bool) (was now : Option ℕ) (after : List Boo
       → get_or after worker false ≡ not (is_worker now worker) && (is_worker was worker || get_or free worker false)
 
 -- ---- the next is picked
-
--- the first place from here on that has one that may have its turn, where a worker is free or none
-abbrev pub next_in : (free : Bool) → List (Option Client) → (from : ℕ) → Option ℕ
-next_in free clients from = option_map (λ k. from + k) (position (λ o. goes_in free o) (drop from clients))
 
 -- the call of the client in a place
 pub record CallAt (scripts : Bool) (clients : List (Option Client)) (place : ℕ) (made : Call) : Type 0 where

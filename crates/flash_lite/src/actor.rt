@@ -2,11 +2,9 @@
 ghost use Rattle.std.specs.Prelude.{◌≡◌, IfOk, OnErr};
 ghost use Rattle.iol_proc.specs.Looks.{lent};
 ghost use Rattle.iol_proc.specs.Quiet.{IsQuiet};
-ghost use Rattle.flash_cgi.specs.Wants.{Wants};
 ghost use Rattle.flash_cgi.specs.Works.{IsNew};
 ghost use Rattle.flash_laws.specs.Rounds.{in_rounds};
-ghost use Rattle.flash_laws.specs.Tie.{actor_turns};
-ghost use Rattle.flash_lite.specs.TurnWants.{WantsBy};
+ghost use Rattle.flash_laws.specs.Tie.{actor_goes, actor_turns, actor_wants};
 ghost use Rattle.flash_lite.specs.Workers.{worker_turns};
 
 use crate::laws::connections_do_not_meet;
@@ -51,12 +49,12 @@ impl Process for Worker {
 
     fn next(&mut self, last: &Reply, look: &Look<'_>) -> Result<Turn, AllocError>
         ensures turn { IfOk result
-            (λ turn. worker_turns self.old last.now (lent look.now) turn self.new) }
+            (λ turn. worker_turns.goes self.old last.now (lent look.now) turn self.new) }
         ensures quiet { IfOk result IsQuiet }
         ensures err { OnErr result (self.new ≡ self.old) }
 
         // It wants memory only to read a job, and for the bytes of its calls.
-        ensures wants { OnErr result (Wants self.old last.now (lent look.now)) }
+        ensures wants { OnErr result (worker_turns.may_want self.old last.now (lent look.now)) }
     {
         self.runner.next(last, look)
     }
@@ -110,14 +108,14 @@ impl Process for Actor {
     ghost turns = { actor_turns in_rounds worker_turns };
 
     fn next(&mut self, last: &Reply, look: &Look<'_>) -> Result<Turn, AllocError>
-        ensures turn { IfOk result (λ turn. actor_turns in_rounds worker_turns self.old last.now
+        ensures turn { IfOk result (λ turn. actor_goes in_rounds worker_turns self.old last.now
             (lent look.now) turn self.new) }
         ensures quiet { IfOk result IsQuiet }
         ensures err { OnErr result (self.new ≡ self.old) }
 
         // The server wants memory only for what it keeps, and for the bytes of its calls, and a
         // worker for a job, and for the bytes of its calls.
-        ensures wants { OnErr result (WantsBy self.old last.now (lent look.now)) }
+        ensures wants { OnErr result (actor_wants worker_turns self.old last.now (lent look.now)) }
     {
         match &mut self.role {
             Role::Server(server) => server.next(last, look),

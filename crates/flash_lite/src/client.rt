@@ -4,15 +4,17 @@
 ghost use Rattle.std.specs.Prelude.{◌≡◌, ◌≢◌, ◌<◌, [], IfOk, IfSome, OnErr, None, Some, false, true};
 ghost use Rattle.iol_core.specs.declared.events.Reply.TheVariants as reply;
 ghost use Rattle.flash_laws.specs.Client as spec;
+ghost use Rattle.flash_laws.specs.ClientWants.{WantsOn, makes_bytes, needs_memory};
 ghost use Rattle.flash_laws.specs.Conn as conn;
 ghost use Rattle.flash_laws.specs.Rounds.{leaves_off};
+ghost use Rattle.flash_laws.specs.RunWants.{makes_any};
 ghost use Rattle.flash_laws.specs.Running.{is_over};
+ghost use Rattle.flash_laws.specs.Wanting as wanting;
 ghost use Rattle.flash_laws.specs.declared.doing.Doing.TheVariants.{Rests, Over};
-ghost use Rattle.flash_lite.specs.Course.{CanRest, IsCourse, WantsOn, ended, left_with, makes_bytes, needs_memory, run_after, text_heard, worker_of};
+ghost use Rattle.flash_lite.specs.Course.{CanRest, IsCourse, ended, left_with, run_after, text_heard, worker_of};
 ghost use Rattle.flash_lite.specs.Heard.{heard};
-ghost use Rattle.flash_lite.specs.Runs.{IsSmallRunning, makes_any};
+ghost use Rattle.flash_lite.specs.Runs.{IsSmallRunning};
 ghost use Rattle.flash_lite.specs.Small.{IsSmall};
-ghost use Rattle.flash_lite.specs.Wanting as wanting;
 ghost use Rattle.flash_lite.specs.declared.site.TheConstants.{MAX_WORKERS};
 
 use crate::asking::is_head_only;

@@ -5,11 +5,11 @@ ghost use Rattle.iol_core.specs.declared.events.Call.TheVariants.{IolRead};
 ghost use Rattle.flash_http.specs.Request.{answer, refuse};
 ghost use Rattle.flash_laws.specs.Conn as spec;
 ghost use Rattle.flash_laws.specs.Policy.{is_later, is_bare};
+ghost use Rattle.flash_laws.specs.Wanting.{WantsOn, has_bytes};
 ghost use Rattle.flash_laws.specs.declared.doing.Doing.TheVariants.{Rests, Over};
 ghost use Rattle.flash_lite.specs.Heard.{heard};
 ghost use Rattle.flash_lite.specs.Onward.{IsOnward, Frees, GoesWith, CanRest, is_over};
 ghost use Rattle.flash_lite.specs.Small.{IsSmall};
-ghost use Rattle.flash_lite.specs.Wanting.{WantsOn, has_bytes};
 
 use crate::asking::{cut_call, first_call, join_call, make_call, open_call, read_call};
 use crate::finding::{

@@ -3,8 +3,9 @@
 ghost use Rattle.std.specs.Prelude.{◌≡◌, ◌<◌, ◌≤◌, ◌+◌, ◌^◌, IfOk, IfSome, MatchOption, None, OnErr, length, nat_lt, position, true};
 ghost use Rattle.iol_core.specs.Numbered.{in_place, taken};
 ghost use Rattle.flash_laws.specs.Rounds.{goes_in};
-ghost use Rattle.flash_lite.specs.TurnWants.{WantsFrom, wants_there};
-ghost use Rattle.flash_lite.specs.Turning.{AtDoor, CallAt, PicksFrom, door_to, ends, most_with, next_in};
+ghost use Rattle.flash_laws.specs.Rounds.{next_in};
+ghost use Rattle.flash_laws.specs.TurnWants.{WantsFrom, wants_there};
+ghost use Rattle.flash_lite.specs.Turning.{AtDoor, CallAt, PicksFrom, door_to, ends, most_with};
 
 use crate::client::{Client, Left};
 use crate::server::MAX_CONNS;

@@ -6,10 +6,11 @@ ghost use Rattle.flash_laws.specs.Places.{NoneRuns};
 ghost use Rattle.flash_laws.specs.Rounds.{in_rounds};
 ghost use Rattle.flash_laws.specs.Serves.{new_server, heard_of, server_turns};
 ghost use Rattle.flash_laws.specs.Sharing.{IsShared};
+ghost use Rattle.flash_laws.specs.Tie.{server_account};
+ghost use Rattle.flash_laws.specs.TurnWants.{server_wants};
 ghost use Rattle.flash_lite.specs.Few.{IsFew};
 ghost use Rattle.flash_lite.specs.Heard.{heard};
 ghost use Rattle.flash_lite.specs.Offering.{OffersNext};
-ghost use Rattle.flash_lite.specs.TurnWants.{MayWant};
 ghost use Rattle.flash_lite.specs.declared.site.TheConstants.{MAX_WORKERS};
 
 use crate::site::MAX_WORKERS;
@@ -73,7 +74,7 @@ impl Server {
 }
 
 impl Process for Server {
-    ghost turns = { server_turns in_rounds };
+    ghost turns = { server_account in_rounds };
 
     fn next(&mut self, last: &Reply, look: &Look<'_>) -> Result<Turn, AllocError>
         ensures turn { IfOk result
@@ -83,8 +84,7 @@ impl Process for Server {
 
         // It wants memory only to keep what came, for a place, to begin a request, and for the bytes
         // of a call.
-        ensures wants { OnErr result (MayWant self.old.workers self.old.clients self.old.flight
-            last.now (heard_of last.now (lent look.now))) }
+        ensures wants { OnErr result (server_wants self.old last.now (lent look.now)) }
 
         // What is offered is the next bytes of the response to the request.
         ensures offers { IfOk result (λ turn. OffersNext self.new turn) }

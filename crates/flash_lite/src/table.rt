@@ -4,10 +4,10 @@ ghost use Rattle.iol_core.specs.Numbered.{in_place};
 ghost use Rattle.flash_laws.specs.Client.{new_client};
 ghost use Rattle.flash_laws.specs.Places.{runs_scripts};
 ghost use Rattle.flash_laws.specs.Tied.{grown, with_at};
+ghost use Rattle.flash_laws.specs.TurnWants.{MayWant, WantsFrom, WantsHere, is_accepted};
 ghost use Rattle.flash_laws.specs.declared.doing.Flight.TheVariants.{Nothing, Accepting, At};
 ghost use Rattle.flash_lite.specs.Heard.{heard};
 ghost use Rattle.flash_lite.specs.Table.{IsKept};
-ghost use Rattle.flash_lite.specs.TurnWants.{MayWant, WantsFrom, WantsHere, is_accepted};
 ghost use Rattle.flash_lite.specs.Turning.{CourseIn, MayRest, PicksFrom, Turns, first_in, has_in, left_at, most_with, worker_at};
 ghost use Rattle.flash_lite.specs.declared.site.TheConstants.{MAX_WORKERS};
 

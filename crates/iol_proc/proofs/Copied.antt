@@ -26,7 +26,7 @@ module _ {P : Type 0} (turns : Account P) where
   comes_copied m by (turn.Make call) yields r after honest c = ((c.0, c.1.step honest), c.1.honest ∙ honest)
 
   starves_copied : (m : SystemState) (seat : Seat P) (yields : Bool) (r : Reply) (after : SystemState) (next : Seat P) → Starves sharing turns m seat yields r after next → Starves copying turns (machine_of m) seat yields r (machine_of after) next
-  starves_copied m seat yields r after next s = record { no_yield = s.no_yield; answer = s.answer; machine_stays = ap machine_of s.machine_stays; seat_stays = s.seat_stays }
+  starves_copied m seat yields r after next s = record { wanted = s.wanted; no_yield = s.no_yield; answer = s.answer; machine_stays = ap machine_of s.machine_stays; seat_stays = s.seat_stays }
 
   seat_copied : (m : SystemState) (seat : Seat P) (yields : Bool) (r : Reply) (after : SystemState) (next : Seat P) → IsHonest m → SeatTurn sharing turns m seat yields r after next → Both after (SeatTurn copying turns (machine_of m) seat yields r (machine_of after) next)
   seat_copied m seat yields r after next honest t =

@@ -56,12 +56,12 @@ module _ {P : Type 0} (S : Claim P) (turns : Account P) where
   even (n ∷ ns) [] m h = absurd h
 
   -- a yield leaves the machine, and moves the process on
-  yield_comes : Settles S turns → (n by : ℕ) (p q : P) (l r : Reply) (m after : State) (t : Turn) → S n by p l m → turns p l (lent_to m by) t q → Comes copying turns m by t true r after → (after ≡ m) × S (more_of_two n) by q r m
+  yield_comes : Settles S turns → (n by : ℕ) (p q : P) (l r : Reply) (m after : State) (t : Turn) → S n by p l m → turns.goes p l (lent_to m by) t q → Comes copying turns m by t true r after → (after ≡ m) × S (more_of_two n) by q r m
   yield_comes f n by p q l r m after turn.Yield s goes comes = (comes.2, subst (λ (x : Reply). S (more_of_two n) by q x m) (sym comes.1) (f.yields n by p q l m s goes))
   yield_comes f n by p q l r m after (turn.Make c) s goes comes = absurd (let no_yield : true ≡ false = comes.0 in cc)
 
   -- a call that is answered WouldBlock leaves the machine, and keeps what holds of the process
-  block_comes : Settles S turns → (n by : ℕ) (p q : P) (l : Reply) (m after : State) (t : Turn) → S n by p l m → turns p l (lent_to m by) t q → Comes copying turns m by t false (Refused WouldBlock) after → (after ≡ m) × S n by q (Refused WouldBlock) m
+  block_comes : Settles S turns → (n by : ℕ) (p q : P) (l : Reply) (m after : State) (t : Turn) → S n by p l m → turns.goes p l (lent_to m by) t q → Comes copying turns m by t false (Refused WouldBlock) after → (after ≡ m) × S n by q (Refused WouldBlock) m
   block_comes f n by p q l m after turn.Yield s goes comes = absurd (let no_call : false ≡ true = comes.0 in cc)
   block_comes f n by p q l m after (turn.Make c) s goes comes = (comes.1.1, f.blocks n by p q l m c s goes (comes.1.0, refl))
 

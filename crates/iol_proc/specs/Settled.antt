@@ -40,9 +40,9 @@ module _ {P : Type 0} (S : Claim P) where
   pub record Settles (turns : Account P) : Type 0 where
     pub first : (by : ℕ) (p : P) (l : Reply) (m : State) → S 0 by p l m
     pub blocks : (n by : ℕ) (p q : P) (l : Reply) (m : State) (c : Call) → S n by p l m
-        → turns p l (lent_to m by) (turn.Make c) q → StepsTo m (event.Call by c) (reply.Refused WouldBlock) m
+        → turns.goes p l (lent_to m by) (turn.Make c) q → StepsTo m (event.Call by c) (reply.Refused WouldBlock) m
         → S n by q (reply.Refused WouldBlock) m
-    pub yields : (n by : ℕ) (p q : P) (l : Reply) (m : State) → S n by p l m → turns p l (lent_to m by) turn.Yield q
+    pub yields : (n by : ℕ) (p q : P) (l : Reply) (m : State) → S n by p l m → turns.goes p l (lent_to m by) turn.Yield q
         → S (more_of_two n) by q reply.Done m
 
   -- What then holds where all is idle, as `World::until_idle` says it: each process is one that has yielded twice.

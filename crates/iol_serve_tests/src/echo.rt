@@ -17,8 +17,8 @@ pub struct Echo {
 }
 
 impl Process for Echo {
-    // Any turn: what it does is tested.
-    ghost turns = { λ worker last lent turn next. ⊤ };
+    // Any turn: what it does is tested. It wants no memory.
+    ghost turns = { record { goes = λ worker last lent turn next. ⊤; may_want = λ worker last lent. ⊥ } };
 
     fn next(&mut self, last: &Reply, look: &Look<'_>) -> Result<Turn, AllocError> {
         Ok(self.turn(last, look))

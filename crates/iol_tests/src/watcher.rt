@@ -20,7 +20,11 @@ impl Watcher {
 }
 
 impl Process for Watcher {
-    ghost turns = { λ watcher last lent turn next. Watches watcher.asked turn next.asked };
+    // It wants no memory.
+    ghost turns = { record {
+      goes = λ watcher last lent turn next. Watches watcher.asked turn next.asked;
+      may_want = λ watcher last lent. ⊥;
+    } };
 
     fn next(&mut self, _last: &Reply, _look: &Look<'_>) -> Result<Turn, AllocError> {
         if self.asked {

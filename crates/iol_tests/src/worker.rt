@@ -24,8 +24,8 @@ pub enum Worker {
 }
 
 impl Process for Worker {
-    // Any turn: what these do is tested.
-    ghost turns = { λ worker last lent turn next. ⊤ };
+    // Any turn, and memory for any: what these do is tested.
+    ghost turns = { record { goes = λ worker last lent turn next. ⊤; may_want = λ worker last lent. ⊤ } };
 
     fn next(&mut self, last: &Reply, look: &Look<'_>) -> Result<Turn, AllocError> {
         match self {

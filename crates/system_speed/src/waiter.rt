@@ -28,8 +28,8 @@ impl Waiter {
 }
 
 impl Process for Waiter {
-    // Any turn: what these do is measured.
-    ghost turns = { λ waiter last lent turn next. ⊤ };
+    // Any turn: what these do is measured. They want no memory.
+    ghost turns = { record { goes = λ waiter last lent turn next. ⊤; may_want = λ waiter last lent. ⊥ } };
 
     fn next(&mut self, _last: &Reply, _look: &Look<'_>) -> Result<Turn, AllocError> {
         Ok(match self {

@@ -32,7 +32,7 @@ use Rattle.flash_laws.specs.Served.{AllFit}
 use Rattle.flash_laws.specs.Serves.{Policy, Made}
 use Rattle.flash_laws.specs.Shelf.{Shelf}
 use Rattle.flash_laws.specs.Site.{server, KeepsSite}
-use Rattle.flash_laws.specs.Tie.{past_of, Actor, Serving, Working, actor_turns}
+use Rattle.flash_laws.specs.Tie.{past_of, Actor, Serving, Working, actor_goes, actor_turns}
 use Rattle.flash_laws.specs.World.{as_actor, AreSeated, Tied}
 use Rattle.flash_laws.proofs.Answering.{some-inj}
 use Rattle.flash_laws.proofs.Lent.{lent-stays}
@@ -151,7 +151,7 @@ module _ (may : Policy) (shelf : Shelf) (crew : Crew) (laws : AllLaws crew) wher
     server_step yields r next (inr moves) seats calm = by next.process refl moves.goes_on
       where
         by : (x : Actor crew.Worker) → next.process ≡ x
-            → actor_turns may crew.turns (Serving s.state) s.last (λ a. lent_to w.machine server a) moves.turn x → Leads p
+            → actor_goes may crew.turns (Serving s.state) s.last (λ a. lent_to w.machine server a) moves.turn x → Leads p
         by (Working v) is goes_on = absurd goes_on
         by (Serving t) is goes_on =
             let did = server_turn shelf crew laws w.machine after.machine p s.state t s.last r moves.turn s.workers order fixed s.serves goes_on.1 goes_on.2 calm
@@ -235,7 +235,7 @@ module _ (may : Policy) (shelf : Shelf) (crew : Crew) (laws : AllLaws crew) wher
       worker_step yields next (inr moves) seats = by next.process refl moves.goes_on
         where
           by : (x : Actor crew.Worker) → next.process ≡ x
-              → actor_turns may crew.turns (Working seat.process) seat.last (λ a. lent_to w.machine seat.by a) moves.turn x → Leads p
+              → actor_goes may crew.turns (Working seat.process) seat.last (λ a. lent_to w.machine seat.by a) moves.turn x → Leads p
           by (Serving t) is goes_on = absurd goes_on
           by (Working u) is goes_on =
               worker-goes yields after-seat

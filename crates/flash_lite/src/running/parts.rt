@@ -5,11 +5,11 @@ ghost use Rattle.iol_core.specs.declared.events.Call.TheVariants.{AggMake};
 ghost use Rattle.flash_http.specs.Request.{serve, wanted};
 ghost use Rattle.flash_laws.specs.Conn as conn;
 ghost use Rattle.flash_laws.specs.Running as spec;
+ghost use Rattle.flash_laws.specs.Wanting.{has_bytes};
 ghost use Rattle.flash_laws.specs.declared.doing.Doing.TheVariants.{Sent};
 ghost use Rattle.flash_lite.specs.Heard.{heard};
 ghost use Rattle.flash_lite.specs.Runs.{IsGoing, IsSmallRun, IsSmallRunning};
 ghost use Rattle.flash_lite.specs.Small.{IsSmall};
-ghost use Rattle.flash_lite.specs.Wanting.{has_bytes};
 
 use crate::answers::served_text;
 use crate::asking::{cut_call, join_call};

@@ -1,12 +1,12 @@
 use Rattle.std.proofs.Common.{◌≡◌, ◌∙◌, ap, subst, sym, rules, min}
 use Rattle.iol_proc.specs.declared.process.Turn.TheVariants as turn
 use Rattle.flash_laws.specs.Places.{runs_scripts}
+use Rattle.flash_laws.specs.TurnWants.{MayWant}
 use Rattle.flash_laws.specs.declared.doing.Flight.TheVariants.{At}
 use Rattle.flash_lite.specs.Heard.{heard}
 use Rattle.flash_lite.specs.Table.{Table, IsKept}
 use Rattle.flash_lite.specs.Turning.{CourseAt, Turns, first_in, worker_at}
 use Rattle.flash_lite.specs.declared.client.Course.TheVariants.{Asks, Leaves}
-use Rattle.flash_lite.specs.TurnWants.{MayWant}
 use Rattle.flash_lite.proofs.RunsOn.{on_err}
 use Rattle.flash_lite.proofs.Turned.{asks_turns, leaves_turns, table}
 use Rattle.flash_lite.proofs.Wanting.{left_wants}

@@ -4,17 +4,13 @@ use Rattle.std.specs.Prelude.{◌≡◌, ◌⊎◌, ℕ, ◌+◌, Bool, true, fa
 use Rattle.iol_core.specs.Numbered.{in_place}
 use Rattle.iol_core.specs.declared.events.Reply.{Reply}
 use Rattle.iol_core.specs.declared.events.Reply.TheVariants as reply
-use Rattle.flash_cgi.specs.Wants.{Wants}
-use Rattle.flash_cgi.specs.declared.worker.Worker.{Worker}
 use Rattle.flash_laws.specs.Client.{Client, told}
+use Rattle.flash_laws.specs.ClientWants.{WantsOn, makes_bytes}
 use Rattle.flash_laws.specs.Places.{first_free, has_free, runs_scripts, filed}
-use Rattle.flash_laws.specs.Rounds.{leaves_off}
-use Rattle.flash_laws.specs.Serves.{heard_of}
-use Rattle.flash_laws.specs.Tie.{Actor, Serving, Working}
+use Rattle.flash_laws.specs.Rounds.{leaves_off, next_in}
+use Rattle.flash_laws.specs.Serves.{Server, heard_of}
 use Rattle.flash_laws.specs.declared.doing.Flight.{Flight}
 use Rattle.flash_laws.specs.declared.doing.Flight.TheVariants.{Nothing, Accepting, At}
-use Rattle.flash_lite.specs.Course.{WantsOn, makes_bytes}
-use Rattle.flash_lite.specs.Turning.{next_in}
 
 -- the client in a place wants it after a reply, where `worker` is free
 abbrev pub WantsHere : (scripts : Bool) → (worker : ℕ) → Option Client → Reply → (heard : List ℕ) → Type 0
@@ -51,7 +47,6 @@ MayWant workers clients (At fd) r heard =
     WantsHere (runs_scripts workers) (first_free workers clients) (in_place clients fd) r heard
     ⊎ WantsPast workers (filed workers clients (At fd) r heard) fd r
 
--- a process of a site
-abbrev pub WantsBy : Actor Worker → Reply → (lent : ℕ → Option (List ℕ)) → Type 0
-WantsBy (Serving s) r lent = MayWant s.workers s.clients s.flight r (heard_of r lent)
-WantsBy (Working w) r lent = Wants w r lent
+-- the server, in a turn
+abbrev pub server_wants : Server → Reply → (lent : ℕ → Option (List ℕ)) → Type 0
+server_wants s r lent = MayWant s.workers s.clients s.flight r (heard_of r lent)
