@@ -31,7 +31,7 @@ use Rattle.flash_laws.proofs.Answering.{some-inj}
 use Rattle.flash_laws.proofs.Clients.{runs-filed, runs-picked}
 use Rattle.flash_laws.proofs.InPlaces.{at-same, at-other, left-is}
 use Rattle.flash_laws.proofs.Lists.{clash}
-use Rattle.flash_laws.proofs.RunOffering.{keeps}
+use Rattle.flash_laws.proofs.Run.Offering.{keeps}
 use Rattle.flash_laws.proofs.Uses.{same-number}
 
 abbrev of : Conn → Option Running → List ℕ → Client

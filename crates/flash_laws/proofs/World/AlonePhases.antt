@@ -51,7 +51,7 @@ use Rattle.flash_laws.specs.declared.doing.Doing.{Doing}
 use Rattle.flash_laws.specs.declared.doing.Doing.TheVariants.{Rests, Got, Opens, Reads as Reading, Shuts, Picks, Spares, Heads, Joins, Sends, Cuts, Offers, Swaps, Sent, Breaks, Drops, Closes, Over}
 use Rattle.flash_laws.specs.declared.running.Running.TheVariants.{Awaits}
 use Rattle.flash_laws.proofs.Answering.{some-inj}
-use Rattle.flash_laws.proofs.ClientPhases as phases
+use Rattle.flash_laws.proofs.Client.Phases as phases
 use Rattle.flash_laws.proofs.Counts.{counted}
 use Rattle.flash_laws.proofs.Having as having
 use Rattle.flash_laws.proofs.Lent.{file-same, content-same}

@@ -25,7 +25,7 @@ use Rattle.flash_laws.specs.Stages.{IsReadyFor, IsGiven, IsPuttingOut, HasPutOut
 use Rattle.flash_laws.specs.declared.running.Run.{Run}
 use Rattle.flash_laws.specs.declared.running.Running.{Running}
 use Rattle.flash_laws.proofs.Lists.{not-equal}
-use Rattle.flash_laws.proofs.RunParts.{no-position}
+use Rattle.flash_laws.proofs.Run.Parts.{no-position}
 use Rattle.flash_laws.proofs.World.AllLaws.{AllLaws}
 
 -- ---- calls that touch no pipe, and move no descriptor

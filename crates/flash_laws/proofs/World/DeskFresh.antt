@@ -49,7 +49,7 @@ use Rattle.flash_laws.specs.declared.running.Step.TheVariants.{Gives, Makes, Han
 use Rattle.flash_laws.specs.declared.running.Running.{Running}
 use Rattle.flash_laws.specs.declared.running.Running.TheVariants.{Awaits, Runs}
 use Rattle.flash_laws.proofs.Lists.{not-equal, clash, self}
-use Rattle.flash_laws.proofs.RunSteps.{write-elsewhere}
+use Rattle.flash_laws.proofs.Run.Steps.{write-elsewhere}
 use Rattle.flash_laws.proofs.World.AllLaws.{AllLaws}
 use Rattle.flash_laws.proofs.World.DeskAfter.{DeskAfter, may_same, cut_same, cut_whole, same_on}
 use Rattle.flash_laws.proofs.World.DeskCalls.{OwnCall, Still, leaves, own_things, own_files, other, free_on, ready_on, given_on}

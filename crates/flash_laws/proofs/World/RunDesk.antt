@@ -26,8 +26,8 @@ use Rattle.flash_laws.specs.declared.running.Step.{Step}
 use Rattle.flash_laws.specs.declared.running.Step.TheVariants.{Gives, Makes, Hands, Lets, Heads, Sending, Hears, Spills, Gathers, Frames, Wraps, Trims, Ended, Unholds, Stops, Unframes, Lasts, WrapsLast, TrimsLast, Unwraps, Returns, Lapses, Fails}
 use Rattle.flash_laws.specs.declared.running.Running.{Running}
 use Rattle.flash_laws.specs.declared.running.Running.TheVariants.{Awaits, Runs, Leaves as Left, Closes}
-use Rattle.flash_laws.proofs.RunLeft.{part-sends}
-use Rattle.flash_laws.proofs.RunParts.{no-position}
+use Rattle.flash_laws.proofs.Run.Left.{part-sends}
+use Rattle.flash_laws.proofs.Run.Parts.{no-position}
 use Rattle.flash_laws.proofs.World.AllLaws.{AllLaws}
 pub use Rattle.flash_laws.proofs.World.DeskAfter.{DeskAfter}
 use Rattle.flash_laws.proofs.World.DeskAfter.{CutBy}

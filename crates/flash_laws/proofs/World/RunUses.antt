@@ -24,7 +24,7 @@ use Rattle.flash_laws.specs.declared.running.Step.TheVariants.{Gives, Makes, Han
 use Rattle.flash_laws.specs.declared.running.Running.{Running}
 use Rattle.flash_laws.specs.declared.running.Running.TheVariants.{Awaits, Runs, Leaves, Closes}
 use Rattle.flash_laws.proofs.Lists.{later_of}
-use Rattle.flash_laws.proofs.RunKeeping.{first}
+use Rattle.flash_laws.proofs.Run.Keeping.{first}
 use Rattle.flash_laws.proofs.Uses.{same-number, uses-told, has-agg, one-of}
 
 bare : (a : Bool) → (a || false) ≡ true → a ≡ true

@@ -34,9 +34,9 @@ use Rattle.flash_laws.specs.declared.running.Running.{Running}
 use Rattle.flash_laws.specs.declared.running.Running.TheVariants.{Awaits, Runs, Leaves, Closes}
 use Rattle.flash_laws.proofs.Keeping.{headed-first}
 use Rattle.flash_laws.proofs.Lists.{later_of}
-use Rattle.flash_laws.proofs.RunAlone.{keeps-alone, opened}
-use Rattle.flash_laws.proofs.RunLeft.{is-rest}
-use Rattle.flash_laws.proofs.RunKeeping.{first, holding-new, hearing-new, left, shut}
+use Rattle.flash_laws.proofs.Run.Alone.{keeps-alone, opened}
+use Rattle.flash_laws.proofs.Run.Left.{is-rest}
+use Rattle.flash_laws.proofs.Run.Keeping.{first, holding-new, hearing-new, left, shut}
 
 module _ (come : AggregatesComeAndGo) (own : CallsServeTheirDomain) (m n : State) (order : IsOrderly m)
     (a : ℕ) (bytes : List ℕ) (before : lent_at m server a ≡ None) (after : lent_at n server a ≡ Some bytes) (w : Wanted) where

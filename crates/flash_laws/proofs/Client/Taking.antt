@@ -30,10 +30,10 @@ use Rattle.flash_laws.specs.declared.doing.Doing.{Doing}
 use Rattle.flash_laws.specs.declared.doing.Doing.TheVariants.{Reads as Reading, Spares, Sends, Cuts, Offers, Swaps, Sent}
 use Rattle.flash_laws.specs.declared.running.Running.{Running}
 use Rattle.flash_laws.specs.declared.running.Running.TheVariants.{Awaits, Runs, Leaves, Closes as Ends}
-use Rattle.flash_laws.proofs.ClientNearing.{is_scripts, wants-plain, told-plain}
-use Rattle.flash_laws.proofs.ClientPhases.{at}
-use Rattle.flash_laws.proofs.RunEnds.{wants-text}
-use Rattle.flash_laws.proofs.RunTakes as run_takes
+use Rattle.flash_laws.proofs.Client.Nearing.{is_scripts, wants-plain, told-plain}
+use Rattle.flash_laws.proofs.Client.Phases.{at}
+use Rattle.flash_laws.proofs.Run.Ends.{wants-text}
+use Rattle.flash_laws.proofs.Run.Takes as run_takes
 use Rattle.flash_laws.proofs.Taking as file
 
 abbrev client : Conn → Option Running → List ℕ → Client

@@ -42,19 +42,19 @@ use Rattle.flash_laws.specs.RunOffers.{past_of, IsNextOf as IsNextOfRun, taken_b
 use Rattle.flash_laws.specs.Running as running
 use Rattle.flash_laws.specs.Running.{in_phase, is_over, job_pipe}
 use Rattle.flash_laws.specs.Site.{server}
-use Rattle.flash_laws.proofs.ClientMoving.{client-moves}
-use Rattle.flash_laws.proofs.ClientNearing.{rank, client-nears}
-use Rattle.flash_laws.proofs.ClientStaying.{client-whole, client-keeps}
-use Rattle.flash_laws.proofs.ClientTaking.{client-takes}
-use Rattle.flash_laws.proofs.ClientPhases as phases
-use Rattle.flash_laws.proofs.ClientPhases.{at, Next, next-due, script-writes, asks-told, unread-told, read-told}
+use Rattle.flash_laws.proofs.Client.Moving.{client-moves}
+use Rattle.flash_laws.proofs.Client.Nearing.{rank, client-nears}
+use Rattle.flash_laws.proofs.Client.Staying.{client-whole, client-keeps}
+use Rattle.flash_laws.proofs.Client.Taking.{client-takes}
+use Rattle.flash_laws.proofs.Client.Phases as phases
+use Rattle.flash_laws.proofs.Client.Phases.{at, Next, next-due, script-writes, asks-told, unread-told, read-told}
 use Rattle.flash_laws.proofs.Lent.{lent-stays, has-stays}
 use Rattle.flash_laws.proofs.Lists.{clash}
 use Rattle.flash_laws.proofs.Offering as offering
-use Rattle.flash_laws.proofs.RunEnds.{IsEnd, run-ends, all-taken, run-after, keeps-back, wants-text}
-use Rattle.flash_laws.proofs.RunOffering.{part-next, left-next}
-use Rattle.flash_laws.proofs.RunOffering as running_on
-use Rattle.flash_laws.proofs.RunStays.{run_stays}
+use Rattle.flash_laws.proofs.Run.Ends.{IsEnd, run-ends, all-taken, run-after, keeps-back, wants-text}
+use Rattle.flash_laws.proofs.Run.Offering.{part-next, left-next}
+use Rattle.flash_laws.proofs.Run.Offering as running_on
+use Rattle.flash_laws.proofs.Run.Stays.{run_stays}
 
 abbrev client : Conn → Option Running → List ℕ → Client
 client c run script = record { conn = c; run = run; script = script }

@@ -42,7 +42,7 @@ use Rattle.flash_laws.proofs.Answering.{some-inj}
 use Rattle.flash_laws.proofs.Lists.{differ}
 use Rattle.flash_laws.proofs.Nearing.{stage, calls_left, head_calls, lacks-later, drops, closes, makes, joins, near}
 use Rattle.flash_laws.proofs.Nearing as file
-use Rattle.flash_laws.proofs.RunLeft.{is-rest, still-left}
+use Rattle.flash_laws.proofs.Run.Left.{is-rest, still-left}
 
 -- ---- how far it is: the calls that are left, if no more output comes
 

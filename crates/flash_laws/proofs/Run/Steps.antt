@@ -43,8 +43,8 @@ use Rattle.flash_laws.proofs.Lent.{lent-stays, new-other}
 use Rattle.flash_laws.proofs.Lists.{not-equal, turned}
 use Rattle.flash_laws.proofs.Outputs.{short-output, short-chunk, hears-more, hears-end, plain-part, chunk-part, last-left}
 use Rattle.flash_laws.proofs.Pieces.{set_between}
-use Rattle.flash_laws.proofs.RunParts.{other, no-position, new-frame, goes-on}
-use Rattle.flash_laws.proofs.RunStays.{run_stays, frame-on, held-on, has-all-on, hired-on, reading-on}
+use Rattle.flash_laws.proofs.Run.Parts.{other, no-position, new-frame, goes-on}
+use Rattle.flash_laws.proofs.Run.Stays.{run_stays, frame-on, held-on, has-all-on, hired-on, reading-on}
 
 -- two descriptors that are open on different things
 fds-differ : (m : State) (g h : ℕ) (x y : Descriptor) → descriptor m server g ≡ Some x → descriptor m server h ≡ Some y → (x ≡ y → ⊥) → (g == h) ≡ false

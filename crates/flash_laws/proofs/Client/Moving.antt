@@ -24,11 +24,11 @@ use Rattle.flash_laws.specs.Running as running
 use Rattle.flash_laws.specs.Running.{is_over}
 use Rattle.flash_laws.specs.Site.{server}
 use Rattle.flash_laws.proofs.Answering.{some-inj}
-use Rattle.flash_laws.proofs.ClientPhases.{at}
+use Rattle.flash_laws.proofs.Client.Phases.{at}
 use Rattle.flash_laws.proofs.Moving as moving
 use Rattle.flash_laws.proofs.Repeats as repeats
-use Rattle.flash_laws.proofs.RunEnds.{wants-text}
-use Rattle.flash_laws.proofs.RunMoves as run_moves
+use Rattle.flash_laws.proofs.Run.Ends.{wants-text}
+use Rattle.flash_laws.proofs.Run.Moves as run_moves
 
 abbrev client : Conn → Option Running → List ℕ → Client
 client c run script = record { conn = c; run = run; script = script }

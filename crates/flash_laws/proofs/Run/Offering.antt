@@ -35,16 +35,16 @@ use Rattle.flash_laws.specs.declared.running.Step.{Step}
 use Rattle.flash_laws.specs.declared.running.Step.TheVariants.{Gives, Makes, Hands, Lets, Heads, Sending, Hears, Spills, Gathers, Frames, Wraps, Trims, Ended, Unholds, Stops, Unframes, Lasts, WrapsLast, TrimsLast, Unwraps, Returns, Lapses, Fails}
 use Rattle.flash_laws.specs.declared.running.Running.{Running}
 use Rattle.flash_laws.specs.declared.running.Running.TheVariants.{Awaits, Runs, Leaves, Closes}
-use Rattle.flash_laws.proofs.RunLeft as left
-use Rattle.flash_laws.proofs.RunLeft.{is-rest, still-left}
-use Rattle.flash_laws.proofs.RunMoves.{moves}
-use Rattle.flash_laws.proofs.RunNearing.{rank, nears}
-use Rattle.flash_laws.proofs.RunParts as parts
-use Rattle.flash_laws.proofs.RunParts.{no-position, continued, goes-on}
-use Rattle.flash_laws.proofs.RunReadsOn.{reads_on}
-use Rattle.flash_laws.proofs.RunStays.{run_stays, hired-on}
-use Rattle.flash_laws.proofs.RunTakes.{takes, breaks, fails, in_turn}
-use Rattle.flash_laws.proofs.RunSteps as acts
+use Rattle.flash_laws.proofs.Run.Left as left
+use Rattle.flash_laws.proofs.Run.Left.{is-rest, still-left}
+use Rattle.flash_laws.proofs.Run.Moves.{moves}
+use Rattle.flash_laws.proofs.Run.Nearing.{rank, nears}
+use Rattle.flash_laws.proofs.Run.Parts as parts
+use Rattle.flash_laws.proofs.Run.Parts.{no-position, continued, goes-on}
+use Rattle.flash_laws.proofs.Run.ReadsOn.{reads_on}
+use Rattle.flash_laws.proofs.Run.Stays.{run_stays, hired-on}
+use Rattle.flash_laws.proofs.Run.Takes.{takes, breaks, fails, in_turn}
+use Rattle.flash_laws.proofs.Run.Steps as acts
 
 module _ (steps : EachStepLeavesTheRest) (own : CallsServeTheirDomain) (m n : State) (order : IsOrderly m) (job : ℕ → List ℕ) (w : Wanted) where
   abbrev Told : Running → Running → Reply → List ℕ → Progress → Type 0

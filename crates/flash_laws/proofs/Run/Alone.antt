@@ -31,9 +31,9 @@ use Rattle.flash_laws.specs.declared.running.Step.TheVariants.{Gives, Makes, Han
 use Rattle.flash_laws.specs.declared.running.Running.{Running}
 use Rattle.flash_laws.specs.declared.running.Running.TheVariants.{Awaits, Runs, Leaves, Closes}
 use Rattle.flash_laws.proofs.Lists.{clash, later_of}
-use Rattle.flash_laws.proofs.RunKeeping.{first}
-use Rattle.flash_laws.proofs.RunLeft.{is-rest, part-sends, still-left}
-use Rattle.flash_laws.proofs.RunParts.{no-position}
+use Rattle.flash_laws.proofs.Run.Keeping.{first}
+use Rattle.flash_laws.proofs.Run.Left.{is-rest, part-sends, still-left}
+use Rattle.flash_laws.proofs.Run.Parts.{no-position}
 use Rattle.flash_laws.proofs.Uses.{same-number}
 
 alone : (b : Bool) → (b || false) ≡ true → b ≡ true

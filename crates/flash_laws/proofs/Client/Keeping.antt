@@ -32,14 +32,14 @@ use Rattle.flash_laws.specs.RunKeeping.{has_end, RunsKeepNothing}
 use Rattle.flash_laws.specs.Running as running
 use Rattle.flash_laws.specs.Running.{is_over}
 use Rattle.flash_laws.specs.Site.{server}
-use Rattle.flash_laws.proofs.ClientMoving.{client-opened, client-piped}
-use Rattle.flash_laws.proofs.ClientPhases.{at}
-use Rattle.flash_laws.proofs.ClientStaying.{client-holds, client-ready, new-holds}
+use Rattle.flash_laws.proofs.Client.Moving.{client-opened, client-piped}
+use Rattle.flash_laws.proofs.Client.Phases.{at}
+use Rattle.flash_laws.proofs.Client.Staying.{client-holds, client-ready, new-holds}
 use Rattle.flash_laws.proofs.Keeping as keeping
 use Rattle.flash_laws.proofs.Keeping.{leaves-told, shuts}
 use Rattle.flash_laws.proofs.Lists.{clash}
-use Rattle.flash_laws.proofs.RunBrought.{runs_keep}
-use Rattle.flash_laws.proofs.RunEnds.{wants-text}
+use Rattle.flash_laws.proofs.Run.Brought.{runs_keep}
+use Rattle.flash_laws.proofs.Run.Ends.{wants-text}
 
 abbrev client : Conn → Option Running → List ℕ → Client
 client c run script = record { conn = c; run = run; script = script }

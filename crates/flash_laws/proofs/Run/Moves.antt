@@ -24,7 +24,7 @@ use Rattle.flash_laws.specs.declared.running.Step.TheVariants.{Gives, Makes, Han
 use Rattle.flash_laws.specs.declared.running.Running.{Running}
 use Rattle.flash_laws.specs.declared.running.Running.TheVariants.{Awaits, Runs, Leaves, Closes}
 use Rattle.flash_laws.proofs.Repeats.{either, drops, closes, makes, cuts, joins, replaces, reads, gives, writes, pipes}
-use Rattle.flash_laws.proofs.RunLeft.{is-rest, still-left}
+use Rattle.flash_laws.proofs.Run.Left.{is-rest, still-left}
 
 -- the phase of what is sent
 abbrev doing_of : Running → Doing

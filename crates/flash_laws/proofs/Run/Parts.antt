@@ -33,9 +33,9 @@ use Rattle.flash_laws.specs.declared.running.TheConstants.{CHUNK_BYTES}
 use Rattle.flash_laws.specs.declared.running.Run.{Run}
 use Rattle.flash_laws.proofs.Lent.{lent-stays, new-other}
 use Rattle.flash_laws.proofs.Lists.{not-equal, turned}
-use Rattle.flash_laws.proofs.RunLeft as left
-use Rattle.flash_laws.proofs.RunLeft.{SendsAll}
-use Rattle.flash_laws.proofs.RunStays.{frame-on, reading-on}
+use Rattle.flash_laws.proofs.Run.Left as left
+use Rattle.flash_laws.proofs.Run.Left.{SendsAll}
+use Rattle.flash_laws.proofs.Run.Stays.{frame-on, reading-on}
 
 -- another number than one that is used is not used
 pub other : (uses : ℕ → Bool) (b a : ℕ) → uses b ≡ false → uses a ≡ true → (b == a) ≡ false

@@ -38,9 +38,9 @@ use Rattle.flash_laws.specs.declared.running.Running.{Running}
 use Rattle.flash_laws.specs.declared.running.Running.TheVariants.{Awaits, Runs, Leaves, Closes}
 use Rattle.flash_laws.proofs.Answering.{some-inj}
 use Rattle.flash_laws.proofs.Lists.{clash, not-equal}
-use Rattle.flash_laws.proofs.RunLeft as left
-use Rattle.flash_laws.proofs.RunLeft.{SendsAll, is_sent, is-rest, whole-taken, still-left}
-use Rattle.flash_laws.proofs.RunQuiet.{is_part, Bars, quiet}
+use Rattle.flash_laws.proofs.Run.Left as left
+use Rattle.flash_laws.proofs.Run.Left.{SendsAll, is_sent, is-rest, whole-taken, still-left}
+use Rattle.flash_laws.proofs.Run.Quiet.{is_part, Bars, quiet}
 
 -- ---- how much was taken before
 

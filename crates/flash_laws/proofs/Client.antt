@@ -1,0 +1,7 @@
+pub mod Phases
+pub mod Moving
+pub mod Nearing
+pub mod Staying
+pub mod Taking
+pub mod Offering
+pub mod Keeping

@@ -1,0 +1,14 @@
+pub mod Stays
+pub mod Left
+pub mod Parts
+pub mod Quiet
+pub mod Takes
+pub mod Moves
+pub mod Nearing
+pub mod ReadsOn
+pub mod Steps
+pub mod Offering
+pub mod Keeping
+pub mod Alone
+pub mod Brought
+pub mod Ends
