@@ -66,55 +66,60 @@ one_hit r f at g b = elim (cases_eq g f) [
         ∙ ap (λ (x : Entry). Some (raised_to (r.low + worth x.size x.cost) e)) entry
         ∙ sym (ap (option_map (hit_above r.low)) is))
 
--- what hits of file f make of the order of its pool
-pub record AreHit (f : ℕ) (r s : Ranking) : Type 0 where
+-- what hits of extents of file f that begin at such places make of the order of its pool
+pub record AreHit (f : ℕ) (At : ℕ → Type 0) (r s : Ranking) : Type 0 where
   pub low : s.low ≡ r.low
   pub order : (g at : ℕ) → IsSameOrHit r.low (entry_at r.entries g at) (entry_at s.entries g at)
-  pub others : (g at : ℕ) → (g ≡ f → ⊥) → entry_at s.entries g at ≡ entry_at r.entries g at
+  pub others : (g at : ℕ) → ((g ≡ f) × At at → ⊥) → entry_at s.entries g at ≡ entry_at r.entries g at
 
-none_hit : (f : ℕ) (r : Ranking) → AreHit f r r
-none_hit f r = record { low = refl; order = λ g at. inl refl; others = λ g at other. refl }
+none_hit : (f : ℕ) (At : ℕ → Type 0) (r : Ranking) → AreHit f At r r
+none_hit f At r = record { low = refl; order = λ g at. inl refl; others = λ g at other. refl }
 
-hit_and_hit : (f : ℕ) (r s t : Ranking) → AreHit f r s → AreHit f s t → AreHit f r t
-hit_and_hit f r s t m n = record {
+hit_and_hit : (f : ℕ) (At : ℕ → Type 0) (r s t : Ranking) → AreHit f At r s → AreHit f At s t → AreHit f At r t
+hit_and_hit f At r s t m n = record {
   low = n.low ∙ m.low;
   order = λ g at. hit_then r.low s.low _ _ _ m.low (m.order g at) (n.order g at);
   others = λ g at other. n.others g at other ∙ m.others g at other;
 }
 
-pub hits_leave : (r : Ranking) (f : ℕ) (es : List Extent) (ss : List Span) → AreHit f r (hits_counted r f es ss)
-hits_leave r f es [] = none_hit f r
-hits_leave r f es (s ∷ ss) =
+-- the extents over where these spans begin, begin at such places
+abbrev pub BeginAt : (At : ℕ → Type 0) → List Extent → List Span → Type 0
+BeginAt At es [] = Unit {0}
+BeginAt At es (s ∷ ss) = ((e : Extent) → extent_over es s.from ≡ Some e → At e.at) × BeginAt At es ss
+
+pub hits_leave : (r : Ranking) (f : ℕ) (At : ℕ → Type 0) (es : List Extent) (ss : List Span) → BeginAt At es ss → AreHit f At r (hits_counted r f es ss)
+hits_leave r f At es [] begin = none_hit f At r
+hits_leave r f At es (s ∷ ss) begin =
     let mid = hit_counted r f (extent_over es s.from) in
-    hit_and_hit f r mid (hits_counted mid f es ss) (one (extent_over es s.from)) (hits_leave mid f es ss)
+    hit_and_hit f At r mid (hits_counted mid f es ss) (one (extent_over es s.from) begin.0) (hits_leave mid f At es ss begin.1)
   where
-    dirty : (d : Bool) (at : ℕ) → AreHit f r (cond d r (hit_at r f at))
-    dirty true at = none_hit f r
-    dirty false at = record {
+    dirty : (d : Bool) (at : ℕ) → At at → AreHit f At r (cond d r (hit_at r f at))
+    dirty true at here = none_hit f At r
+    dirty false at here = record {
       low = refl;
       order = λ g b. one_hit r f at g b;
-      others = λ g b other. found_elsewhere r.entries f at g b (r.low + worth (entry_or r.entries f at).size (entry_or r.entries f at).cost) (λ both. other both.0);
+      others = λ g b other. found_elsewhere r.entries f at g b (r.low + worth (entry_or r.entries f at).size (entry_or r.entries f at).cost) (λ both. other (both.0, subst At (sym both.1) here));
     }
 
-    one : (o : Option Extent) → AreHit f r (hit_counted r f o)
-    one None = none_hit f r
-    one (Some e) = dirty e.dirty e.at
+    one : (o : Option Extent) → ((e : Extent) → o ≡ Some e → At e.at) → AreHit f At r (hit_counted r f o)
+    one None here = none_hit f At r
+    one (Some e) here = dirty e.dirty e.at (here e refl)
 
 -- the orders of all pools, where that of one changed, also where there is no such pool
-pub others_stay : (f : ℕ) (os : List Ranking) (p : ℕ) (r : Ranking) (q : ℕ) → AreHit f (order_in os p) r → AreHit f (order_in os q) (order_in (with_order os p r) q)
-others_stay f os p r q hit = elim (cases_eq q p) [
+pub others_stay : (f : ℕ) (At : ℕ → Type 0) (os : List Ranking) (p : ℕ) (r : Ranking) (q : ℕ) → AreHit f At (order_in os p) r → AreHit f At (order_in os q) (order_in (with_order os p r) q)
+others_stay f At os p r q hit = elim (cases_eq q p) [
   | inr ne ↦ same (order_other os p q r ne)
   | inl here ↦ elim (cases_lt 0 p) [
     | inr none ↦ nowhere here (λ k. absurd (omega (arith, k, none)))
     | inl some ↦ elim (cases_lt (length os) p) [
       | inl past ↦ nowhere here (λ k. past)
-      | inr within ↦ subst (λ n. AreHit f (order_in os n) (order_in (with_order os p r) n)) (sym here) (subst (AreHit f (order_in os p)) (sym (order_same os p r some within)) hit)
+      | inr within ↦ subst (λ n. AreHit f At (order_in os n) (order_in (with_order os p r) n)) (sym here) (subst (AreHit f At (order_in os p)) (sym (order_same os p r some within)) hit)
     ]
   ]
 ]
   where
-    same : order_in (with_order os p r) q ≡ order_in os q → AreHit f (order_in os q) (order_in (with_order os p r) q)
-    same is = subst (AreHit f (order_in os q)) (sym is) (none_hit f (order_in os q))
+    same : order_in (with_order os p r) q ≡ order_in os q → AreHit f At (order_in os q) (order_in (with_order os p r) q)
+    same is = subst (AreHit f At (order_in os q)) (sym is) (none_hit f At (order_in os q))
 
-    nowhere : q ≡ p → (0 < p → length os < p) → AreHit f (order_in os q) (order_in (with_order os p r) q)
+    nowhere : q ≡ p → (0 < p → length os < p) → AreHit f At (order_in os q) (order_in (with_order os p r) q)
     nowhere here out = same (ap (order_in (with_order os p r)) here ∙ order_nowhere (with_order os p r) p (λ k. omega (arith, out k, length-with_order os p r)) ∙ sym (order_nowhere os p out) ∙ ap (order_in os) (sym here))

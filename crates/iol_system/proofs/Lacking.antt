@@ -1,7 +1,5 @@
 -- An event that is refused for want of room evicts nothing, and leaves what is held held as often.
-use Rattle.std.proofs.Common.{inl, inr, ◌≡◌, ◌==◌, ◌∙◌, ℕ, ◌+◌, Bool, true, false, List, [], Option, Some, None, sum_by, refl, sym, ap, arith, subst}
-use Rattle.std.proofs.lemmas.Bool.{true≢false}
-use Rattle.std.proofs.lemmas.Bool.Decides.{nat_tests}
+use Rattle.std.proofs.Common.{inl, inr, ◌≡◌, ◌∙◌, ℕ, ◌+◌, ◌<◌, ◌≤◌, false, List, [], ◌∷◌, Option, Some, None, sum_by, refl, sym, ap, arith, subst}
 use Rattle.iol_core.specs.declared.descriptors.Descriptor.{Descriptor}
 use Rattle.iol_core.specs.declared.descriptors.Descriptor.TheVariants as on
 use Rattle.iol_core.specs.declared.events.Call.{Call}
@@ -14,6 +12,8 @@ use Rattle.iol_core.specs.declared.refusals.Refusal.TheVariants.{Memory, NoRoom}
 use Rattle.iol_back.specs.Disk.{Disk}
 use Rattle.iol_evict.specs.Ranking.{Ranking, entry_at}
 use Rattle.iol_evict.specs.declared.entry.Entry.{Entry}
+use Rattle.iol_extent.specs.Extents.{Extent, extent_over}
+use Rattle.iol_extent.specs.Spans.{AreInOrder}
 use Rattle.iol_extent.specs.declared.spans.Span.{Span}
 use Rattle.iol_core.specs.declared.numbers.BufId.{BufId}
 use Rattle.iol_hold.specs.Moves.{Counts, Moves, tally}
@@ -37,9 +37,10 @@ use Rattle.iol_kernel.specs.MakingRoom.{MayHaveEvicted}
 use Rattle.iol_kernel.specs.WritingFiles.{LeavesUnlaid, LeavesUnwritten}
 use Rattle.iol_system.specs.Asking.{uses_cache}
 use Rattle.iol_system.specs.Late.{CallLeaves, CopyLeaves, LeavesLate, PutLeaves, ReadLeaves, SameTables, WriteLeaves}
-use Rattle.iol_system.specs.Laws.{EvictsNothing, NoRoomEvictsNothing, is_on_file, reads_file}
+use Rattle.iol_system.specs.Laws.{EvictsNothing, IsMet, IsRead, NoRoomEvictsNothing}
+use Rattle.iol_system.specs.InPlace.{IsInRange}
 use Rattle.iol_system.specs.Machine.{SystemState, tables_of}
-use Rattle.iol_system.proofs.Hits.{AreHit, hit_then, hits_leave, others_stay}
+use Rattle.iol_system.proofs.Hits.{AreHit, BeginAt, hit_then, hits_leave, others_stay}
 use Rattle.iol_system.specs.Room.{CallLacksRoom, LacksRoomFor, LacksRoomToRead, LacksRoomToWrite}
 
 -- Of pages: what was freed nothing holds any more, and what is held is held as often.
@@ -58,10 +59,14 @@ held_alike h k same extents was now b =
     ∙ ap (λ (bs : List BufId). sum_by (domain_uses b) h.domains + sum_by (pipe_uses b) h.pipes + sum_by (conn_uses b) h.conns + tally b bs) extents
     ∙ sym (was.counted.each b)
 
--- Of what memory has of files, where an event reads some of them.
+rises : (from to : ℕ) (ss : List Span) → AreInOrder from to ss → from ≤ to
+rises from to [] order = order
+rises from to (s ∷ ss) order = omega (arith, order.0, order.1, rises s.to to ss order.2)
 
-module _ (is_read : ℕ → Bool) where
-  same_cache : (a b : Cached) → b ≡ a → EvictsNothing is_read a b
+-- Of what memory has of files, where an event reads some of their bytes.
+
+module _ (Read : (f i : ℕ) → Type 0) where
+  same_cache : (a b : Cached) → b ≡ a → EvictsNothing Read a b
   same_cache a b is = record {
     extents = λ f. ap (λ (c : Cached). extents_in c.files f) is;
     low = λ p. ap (λ (c : Cached). (order_in c.orders p).low) is;
@@ -71,12 +76,12 @@ module _ (is_read : ℕ → Bool) where
 
   -- Of both, where the kernel is sound before and after.
   abbrev pub LeavesBoth : (h k : KernelState) → Type 0
-  LeavesBoth h k = EvictsNothing is_read h.cache k.cache × (IsSound h → IsSound k → HeldAlike h.store k.store)
+  LeavesBoth h k = EvictsNothing Read h.cache k.cache × (IsSound h → IsSound k → HeldAlike h.store k.store)
 
   same_kernel : (h k : KernelState) → k ≡ h → LeavesBoth h k
   same_kernel h k is = (same_cache h.cache k.cache (ap (λ (x : KernelState). x.cache) is), λ was now. same_pages h.store k.store (ap (λ (x : KernelState). x.store) is))
 
-  only_reserved : (a b : Cached) → SameButRoom a b → EvictsNothing is_read a b
+  only_reserved : (a b : Cached) → SameButRoom a b → EvictsNothing Read a b
   only_reserved a b x = record {
     extents = x.extents;
     low = x.low;
@@ -84,34 +89,60 @@ module _ (is_read : ℕ → Bool) where
     unread = λ p f at un. ap (λ (es : List Entry). entry_at es f at) (x.entries p);
   }
 
-  and_then : (a b c : Cached) → EvictsNothing is_read a b → EvictsNothing is_read b c → EvictsNothing is_read a c
+  met_before : (a b : Cached) → ((f : ℕ) → extents_in b.files f ≡ extents_in a.files f) → (f at : ℕ) → IsMet Read b f at → IsMet Read a f at
+  met_before a b same f at met = record {
+    byte = met.byte;
+    read = met.read;
+    extent = met.extent;
+    over = subst (λ (es : List Extent). extent_over es met.byte ≡ Some met.extent) (same f) met.over;
+    begins = met.begins;
+  }
+
+  and_then : (a b c : Cached) → EvictsNothing Read a b → EvictsNothing Read b c → EvictsNothing Read a c
   and_then a b c x y = record {
     extents = λ f. y.extents f ∙ x.extents f;
     low = λ p. y.low p ∙ x.low p;
     order = λ p f at. hit_then (order_in a.orders p).low (order_in b.orders p).low _ _ _ (x.low p) (x.order p f at) (y.order p f at);
-    unread = λ p f at un. y.unread p f at un ∙ x.unread p f at un;
+    unread = λ p f at un. y.unread p f at (λ met. un (met_before a b x.extents f at met)) ∙ x.unread p f at un;
   }
 
-  only_counted : (f : ℕ) (hits : List Span) (a b : Cached) → is_read f ≡ true → CountsHits f hits a b → EvictsNothing is_read a b
-  only_counted f hits a b read x = record {
+  -- the extents that hits of a range are on lie over bytes of it
+  met_by : (c : Cached) (f from to : ℕ) (ss : List Span) → AreInOrder from to ss → ((i : ℕ) → from ≤ i → i < to → Read f i) → BeginAt (IsMet Read c f) (extents_in c.files f) ss
+  met_by c f from to [] order read = tt
+  met_by c f from to (s ∷ ss) order read = (
+    λ e over. record {
+      byte = s.from;
+      read = read s.from order.0 (omega (arith, order.1, rises s.to to ss order.2));
+      extent = e;
+      over = over;
+      begins = refl;
+    },
+    met_by c f s.to to ss order.2 (λ i low high. read i (omega (arith, order.0, order.1, low)) high),
+  )
+
+  only_counted : (f from to : ℕ) (hits : List Span) (a b : Cached) → AreInOrder from to hits → ((i : ℕ) → from ≤ i → i < to → Read f i) → CountsHits f hits a b → EvictsNothing Read a b
+  only_counted f from to hits a b order read x = record {
     extents = λ g. ap (λ fs. extents_in fs g) x.files;
     low = λ q. (stays q).low;
     order = λ q. (stays q).order;
-    unread = λ q g at un. (stays q).others g at (λ same. true≢false (sym read ∙ ap is_read (sym same) ∙ un));
+    unread = λ q g at un. (stays q).others g at (λ both. un (subst (λ k. IsMet Read a k at) (sym both.0) both.1));
   }
     where
-      stays : (q : ℕ) → AreHit f (order_in a.orders q) (order_in b.orders q)
+      stays : (q : ℕ) → AreHit f (IsMet Read a f) (order_in a.orders q) (order_in b.orders q)
       stays q =
           let p = (file_in a.files f).pool in
-          subst (λ (os : List Ranking). AreHit f (order_in a.orders q) (order_in os q)) (sym x.orders) (others_stay f a.orders p (hits_counted (order_in a.orders p) f (extents_in a.files f) hits) q (hits_leave (order_in a.orders p) f (extents_in a.files f) hits))
+          let met = met_by a f from to hits order read in
+          subst (λ (os : List Ranking). AreHit f (IsMet Read a f) (order_in a.orders q) (order_in os q)) (sym x.orders)
+          (others_stay f (IsMet Read a f) a.orders p (hits_counted (order_in a.orders p) f (extents_in a.files f) hits) q
+          (hits_leave (order_in a.orders p) f (IsMet Read a f) (extents_in a.files f) hits met))
 
   -- Refusals for want of room, by what they left.
 
   -- what a read of a range leaves, whose extents hold what they held
   abbrev RangeLeft : (old new : Holding) → Type 0
-  RangeLeft old new = EvictsNothing is_read old.cache new.cache × HeldAlike old.store new.store × (held new.cache.files ≡ held old.cache.files)
+  RangeLeft old new = EvictsNothing Read old.cache new.cache × HeldAlike old.store new.store × (held new.cache.files ≡ held old.cache.files)
 
-  range_left : (f from to p : ℕ) (old new : Holding) → is_read f ≡ true → LeavesRange f from to old new (NoRoom p) → RangeLeft old new
+  range_left : (f from to p : ℕ) (old new : Holding) → ((i : ℕ) → from ≤ i → i < to → Read f i) → LeavesRange f from to old new (NoRoom p) → RangeLeft old new
   range_left f from to p old new read (inl (is, x)) = absurd (let e : ◌≡◌ {A = Refusal} (NoRoom p) Memory = is in cc)
   range_left f from to p old new read (inr x) =
       let a = x.pinned in
@@ -119,7 +150,7 @@ module _ (is_read : ℕ → Bool) where
       let last : new.cache ≡ x.hit.cache = x.undone.cache ∙ ap (λ (h : Holding). h.cache) same in
       let released : Moves x.hit.store new.store (bufs_of x.pins) [] = subst (λ (h : Holding). Moves h.store new.store (bufs_of x.pins) []) same x.undone.released in
       let frees : FreesOnly x.hit.store new.store = subst (λ (h : Holding). FreesOnly h.store new.store) same x.undone.frees in (
-        and_then old.cache a.reserved new.cache (only_reserved old.cache a.reserved a.rooms) (and_then a.reserved x.hit.cache new.cache (only_counted f a.hits a.reserved x.hit.cache read a.counted) (same_cache x.hit.cache new.cache last)),
+        and_then old.cache a.reserved new.cache (only_reserved old.cache a.reserved a.rooms) (and_then a.reserved x.hit.cache new.cache (only_counted f from to a.hits a.reserved x.hit.cache a.tile.hits read a.counted) (same_cache x.hit.cache new.cache last)),
         record {
           counts = λ b. omega (arith, a.shares.counts.each b, released.counts.each b, tally_none b);
           frees = frees_trans (frees_shares a.shares) frees released.counts;
@@ -127,9 +158,12 @@ module _ (is_read : ℕ → Bool) where
         ap (λ (c : Cached). held c.files) last ∙ ap held a.counted.files ∙ a.rooms.held,
       )
 
-  read_left : (x : FileRead) (disk after : Disk) (p : ℕ) (h k : KernelState) → is_read x.file ≡ true → LeavesAtRefusal x disk h after k (NoRoom p) → RangeLeft (record { store = h.store; cache = h.cache }) (record { store = k.store; cache = k.cache })
+  read_left : (x : FileRead) (disk after : Disk) (p : ℕ) (h k : KernelState) → ((i : ℕ) → x.at ≤ i → i < x.at + x.count → Read x.file i) → LeavesAtRefusal x disk h after k (NoRoom p) → RangeLeft (record { store = h.store; cache = h.cache }) (record { store = k.store; cache = k.cache })
   read_left x disk after p h k read (inl early) = absurd early.0
-  read_left x disk after p h k read (inr late) = range_left x.file late.1.range.from late.1.range.to p (record { store = h.store; cache = h.cache }) (record { store = k.store; cache = k.cache }) read late.1.leaves
+  read_left x disk after p h k read (inr late) =
+      let range = late.1.range in
+      range_left x.file range.from range.to p (record { store = h.store; cache = h.cache }) (record { store = k.store; cache = k.cache })
+      (λ i low high. read i (omega (arith, low, high, range.begins, range.stops)) (omega (arith, high, range.stops))) late.1.leaves
 
   -- a read by copying, which has freed pages since, or none
   copy_left : (h k : KernelState) (mid : Stored) → RangeLeft (record { store = h.store; cache = h.cache }) (record { store = mid; cache = k.cache }) → FreesOnly mid k.store → SameTables h k → LeavesBoth h k
@@ -155,56 +189,53 @@ module _ (is_read : ℕ → Bool) where
 
 -- By what a descriptor is open on.
 
-on-itself : (f : ℕ) → (f == f) ≡ true
-on-itself f = grind (arith, nat_tests)
-
 module _ (old new : SystemState) (p : ℕ) where
-  abbrev Kept : (ℕ → Bool) → Type 0
-  Kept is_read = LeavesBoth is_read old.kernel new.kernel
+  abbrev Kept : ((f i : ℕ) → Type 0) → Type 0
+  Kept Read = LeavesBoth Read old.kernel new.kernel
 
-  read_on : (by fd n : ℕ) (o : Option Descriptor) → ReadLeaves by fd n old o (reply.Refused (NoRoom p)) new → LacksRoomToRead old o n → Kept (λ f. is_on_file f o)
+  read_on : (by fd n : ℕ) (o : Option Descriptor) → ReadLeaves by fd n old o (reply.Refused (NoRoom p)) new → LacksRoomToRead old o n → Kept (IsInRange o n)
   read_on by fd n None late lacks = absurd lacks
   read_on by fd n (Some (on.ReadEnd q)) late lacks = absurd lacks
   read_on by fd n (Some (on.WriteEnd q)) late lacks = absurd lacks
   read_on by fd n (Some (on.Connection q)) late lacks = absurd lacks
-  read_on by fd n (Some (on.File f at mode)) late lacks = (let left = read_left (λ g. f == g) (file_read by fd f at mode n) old.disk new.disk p old.kernel new.kernel (on-itself f) late.1 in (left.0, λ was now. left.1))
+  read_on by fd n (Some (on.File f at mode)) late lacks = (let left = read_left (IsInRange (Some (on.File f at mode)) n) (file_read by fd f at mode n) old.disk new.disk p old.kernel new.kernel (λ i low high. (refl, low, high)) late.1 in (left.0, λ was now. left.1))
 
-  copy_on : (by fd n : ℕ) (o : Option Descriptor) → CopyLeaves by fd n old o (reply.Refused (NoRoom p)) new → LacksRoomToRead old o n → Kept (λ f. is_on_file f o)
+  copy_on : (by fd n : ℕ) (o : Option Descriptor) → CopyLeaves by fd n old o (reply.Refused (NoRoom p)) new → LacksRoomToRead old o n → Kept (IsInRange o n)
   copy_on by fd n None late lacks = absurd lacks
   copy_on by fd n (Some (on.ReadEnd q)) late lacks = absurd lacks
   copy_on by fd n (Some (on.WriteEnd q)) late lacks = absurd lacks
   copy_on by fd n (Some (on.Connection q)) late lacks = absurd lacks
-  copy_on by fd n (Some (on.File f at mode)) late lacks = copy_left (λ g. f == g) old.kernel new.kernel late.mid (read_left (λ g. f == g) (file_read by fd f at mode n) old.disk new.disk p old.kernel (record new.kernel { store = late.mid }) (on-itself f) late.leaves) late.frees late.same
+  copy_on by fd n (Some (on.File f at mode)) late lacks = copy_left (IsInRange (Some (on.File f at mode)) n) old.kernel new.kernel late.mid (read_left (IsInRange (Some (on.File f at mode)) n) (file_read by fd f at mode n) old.disk new.disk p old.kernel (record new.kernel { store = late.mid }) (λ i low high. (refl, low, high)) late.leaves) late.frees late.same
 
-  write_on : (xs : List Slice) (o : Option Descriptor) → WriteLeaves old.kernel o xs (reply.Refused (NoRoom p)) new.kernel → LacksRoomToWrite old.kernel o xs → Kept (λ f. false)
+  write_on : (xs : List Slice) (o : Option Descriptor) → WriteLeaves old.kernel o xs (reply.Refused (NoRoom p)) new.kernel → LacksRoomToWrite old.kernel o xs → Kept (λ f i. ⊥)
   write_on xs None late lacks = absurd lacks
   write_on xs (Some (on.ReadEnd q)) late lacks = absurd lacks
   write_on xs (Some (on.WriteEnd q)) late lacks = absurd lacks
   write_on xs (Some (on.Connection q)) late lacks = absurd lacks
-  write_on xs (Some (on.File f at mode)) late lacks = write_left (λ g. false) f p xs old.kernel new.kernel late.1
+  write_on xs (Some (on.File f at mode)) late lacks = write_left (λ f i. ⊥) f p xs old.kernel new.kernel late.1
 
-  put_on : (pool n : ℕ) (bytes : List ℕ) (o : Option Descriptor) → PutLeaves pool n bytes old.kernel o (reply.Refused (NoRoom p)) new.kernel → Kept (λ f. false)
-  put_on pool n bytes None late = room_left (λ g. false) pool n p old.kernel new.kernel late
-  put_on pool n bytes (Some (on.ReadEnd q)) late = room_left (λ g. false) pool n p old.kernel new.kernel late
-  put_on pool n bytes (Some (on.WriteEnd q)) late = room_left (λ g. false) pool n p old.kernel new.kernel late
-  put_on pool n bytes (Some (on.Connection q)) late = room_left (λ g. false) pool n p old.kernel new.kernel late
-  put_on pool n bytes (Some (on.File f at mode)) late = put_left (λ g. false) pool p bytes old.kernel new.kernel late
+  put_on : (pool n : ℕ) (bytes : List ℕ) (o : Option Descriptor) → PutLeaves pool n bytes old.kernel o (reply.Refused (NoRoom p)) new.kernel → Kept (λ f i. ⊥)
+  put_on pool n bytes None late = room_left (λ f i. ⊥) pool n p old.kernel new.kernel late
+  put_on pool n bytes (Some (on.ReadEnd q)) late = room_left (λ f i. ⊥) pool n p old.kernel new.kernel late
+  put_on pool n bytes (Some (on.WriteEnd q)) late = room_left (λ f i. ⊥) pool n p old.kernel new.kernel late
+  put_on pool n bytes (Some (on.Connection q)) late = room_left (λ f i. ⊥) pool n p old.kernel new.kernel late
+  put_on pool n bytes (Some (on.File f at mode)) late = put_left (λ f i. ⊥) pool p bytes old.kernel new.kernel late
 
-  call_left : (by : ℕ) (c : Call) → CallLeaves old by c (reply.Refused (NoRoom p)) new → CallLacksRoom old by c → (uses_cache (tables_of old.kernel) (event.Call by c) ≡ false → new ≡ old) → Kept (reads_file (tables_of old.kernel) (event.Call by c))
-  call_left by (call.AggMake bytes) late lacks unused = room_left (λ g. false) _ _ p old.kernel new.kernel late
-  call_left by (call.PoolCreate chunks list) late lacks unused = same_kernel (λ g. false) old.kernel new.kernel (ap (λ (s : SystemState). s.kernel) (unused refl))
+  call_left : (by : ℕ) (c : Call) → CallLeaves old by c (reply.Refused (NoRoom p)) new → CallLacksRoom old by c → (uses_cache (tables_of old.kernel) (event.Call by c) ≡ false → new ≡ old) → Kept (IsRead (tables_of old.kernel) (event.Call by c))
+  call_left by (call.AggMake bytes) late lacks unused = room_left (λ f i. ⊥) _ _ p old.kernel new.kernel late
+  call_left by (call.PoolCreate chunks list) late lacks unused = same_kernel (λ f i. ⊥) old.kernel new.kernel (ap (λ (s : SystemState). s.kernel) (unused refl))
   call_left by (call.IolRead fd n) late lacks unused = read_on by fd n _ late lacks
   call_left by (call.IolWrite fd a) late lacks unused = write_on _ _ late lacks
   call_left by (call.Read fd n) late lacks unused = copy_on by fd n _ late lacks
   call_left by (call.Write fd bytes) late lacks unused = put_on _ _ bytes _ late
   call_left by c late lacks unused = absurd lacks
 
-  event_left : (e : Event) → LeavesLate old e (reply.Refused (NoRoom p)) new → LacksRoomFor old e → (uses_cache (tables_of old.kernel) e ≡ false → new ≡ old) → Kept (reads_file (tables_of old.kernel) e)
+  event_left : (e : Event) → LeavesLate old e (reply.Refused (NoRoom p)) new → LacksRoomFor old e → (uses_cache (tables_of old.kernel) e ≡ false → new ≡ old) → Kept (IsRead (tables_of old.kernel) e)
   event_left (event.Call by c) late lacks unused = call_left by c late lacks unused
-  event_left (event.Arrive c bytes) late lacks unused = room_left (λ g. false) _ _ p old.kernel new.kernel late
+  event_left (event.Arrive c bytes) late lacks unused = room_left (λ f i. ⊥) _ _ p old.kernel new.kernel late
   event_left e late lacks unused = absurd lacks
 
-pub no_room_left : (old new : SystemState) (e : Event) (p : ℕ) → Promises old e (reply.Refused (NoRoom p)) new → LeavesBoth (reads_file (tables_of old.kernel) e) old.kernel new.kernel
+pub no_room_left : (old new : SystemState) (e : Event) (p : ℕ) → Promises old e (reply.Refused (NoRoom p)) new → LeavesBoth (IsRead (tables_of old.kernel) e) old.kernel new.kernel
 no_room_left old new e p x = event_left old new p e x.late (x.no_room tt) (λ unused. x.refused unused tt)
 
 pub no_room_evicts : NoRoomEvictsNothing

@@ -1,10 +1,8 @@
 -- Laws of runs: what follows from a chain of steps that keep their promises. Each is the contract of a function of `laws`.
-use Rattle.std.specs.Prelude.{◌≡◌, ◌⊎◌, ◌+◌, ◌<◌, ◌==◌, ℕ, Bool, true, false, List, [], ◌∷◌, ◌++◌, Option, Some, option_map}
+use Rattle.std.specs.Prelude.{◌≡◌, ◌⊎◌, ◌+◌, ◌<◌, ℕ, true, false, List, [], ◌∷◌, ◌++◌, Option, Some, option_map}
 use Rattle.iol_core.specs.State.{State}
 use Rattle.iol_core.specs.Run.{Run}
 use Rattle.iol_core.specs.Sharing.{is_sharing}
-use Rattle.iol_core.specs.declared.descriptors.Descriptor.{Descriptor}
-use Rattle.iol_core.specs.declared.descriptors.Descriptor.TheVariants as on
 use Rattle.iol_core.specs.declared.numbers.BufId.{BufId}
 use Rattle.iol_core.specs.declared.events.Call.TheVariants as call
 use Rattle.iol_core.specs.declared.events.Event.{Event}
@@ -23,11 +21,13 @@ use Rattle.iol_hold.specs.Stored.{Stored, IsHome, count_of}
 use Rattle.iol_back.specs.Disk.{IfHonest}
 use Rattle.iol_evict.specs.Ranking.{entry_at, worth}
 use Rattle.iol_evict.specs.declared.entry.Entry.{Entry}
+use Rattle.iol_extent.specs.Extents.{Extent, extent_over}
 use Rattle.iol_cache.specs.Cached.{Cached, extents_in, order_in}
 use Rattle.iol_kernel.specs.FileReading.{held_by}
 use Rattle.iol_kernel.specs.KernelState.{layout_of}
 use Rattle.iol_laws.specs.Order.{IsOrderly}
 use Rattle.iol_system.specs.Freed.{IsAllFree, IsLeft}
+use Rattle.iol_system.specs.InPlace.{IsInRange}
 use Rattle.iol_system.specs.Machine.{SystemState, machine_of, tables_of}
 use Rattle.iol_system.specs.Promises.{Promises, Chain}
 use Rattle.iol_system.specs.Safe.{IsSafe}
@@ -79,30 +79,34 @@ hit_above low e = record e { height = low + worth e.size e.cost }
 abbrev pub IsSameOrHit : (low : ℕ) → (old new : Option Entry) → Type 0
 IsSameOrHit low old new = (new ≡ old) ⊎ (new ≡ option_map (hit_above low) old)
 
-abbrev pub is_on_file : (f : ℕ) → Option Descriptor → Bool
-is_on_file f (Some (on.File g at mode)) = g == f
-is_on_file f o = false
+-- byte i of file f is in the range that the event reads, by reference or by copying
+abbrev pub IsRead : State → Event → (f i : ℕ) → Type 0
+IsRead s (event.Call by (call.IolRead fd n)) f i = IsInRange (held_by s by fd) n f i
+IsRead s (event.Call by (call.Read fd n)) f i = IsInRange (held_by s by fd) n f i
+IsRead s e f i = ⊥
 
--- whether the event reads the file, by reference or by copying
-abbrev pub reads_file : State → Event → (f : ℕ) → Bool
-reads_file s (event.Call by (call.IolRead fd n)) f = is_on_file f (held_by s by fd)
-reads_file s (event.Call by (call.Read fd n)) f = is_on_file f (held_by s by fd)
-reads_file s e f = false
+-- the extent that begins there lies over a byte that is read
+pub record IsMet (Read : (f i : ℕ) → Type 0) (c : Cached) (f at : ℕ) : Type 0 where
+  pub byte : ℕ
+  pub read : Read f byte
+  pub extent : Extent
+  pub over : extent_over (extents_in c.files f) byte ≡ Some extent
+  pub begins : extent.at ≡ at
 
 -- What memory has of files lies where it lay, dirty or clean as it was. L of each pool is as it was, and each clean extent
--- stands in the pool's order as it stood, but that hits of files that are read count.
-pub record EvictsNothing (is_read : ℕ → Bool) (old new : Cached) : Type 0 where
+-- stands in the pool's order as it stood, but that hits count, of extents that the range read meets.
+pub record EvictsNothing (Read : (f i : ℕ) → Type 0) (old new : Cached) : Type 0 where
   pub extents : (f : ℕ) → extents_in new.files f ≡ extents_in old.files f
   pub low : (p : ℕ) → (order_in new.orders p).low ≡ (order_in old.orders p).low
   pub order : (p f at : ℕ) → IsSameOrHit (order_in old.orders p).low
       (entry_at (order_in old.orders p).entries f at) (entry_at (order_in new.orders p).entries f at)
-  pub unread : (p f at : ℕ) → is_read f ≡ false
+  pub unread : (p f at : ℕ) → (IsMet Read old f at → ⊥)
       → entry_at (order_in new.orders p).entries f at ≡ entry_at (order_in old.orders p).entries f at
 
 -- an event that is refused for want of room evicts nothing
 abbrev pub NoRoomEvictsNothing : Type 0
 NoRoomEvictsNothing = (old new : SystemState) (e : Event) (p : ℕ) → Promises old e (Refused (NoRoom p)) new
-    → EvictsNothing (reads_file (tables_of old.kernel) e) old.kernel.cache new.kernel.cache
+    → EvictsNothing (IsRead (tables_of old.kernel) e) old.kernel.cache new.kernel.cache
 
 -- Each pool has the list and the chunks that it had, each page is as it was, free or in use and as often filled, and each
 -- buffer is held as often.

@@ -21,7 +21,8 @@ pub fn each_event_is_a_step()
 {}
 
 /// An event that is refused for want of room evicts nothing: each extent lies where it lay, dirty or clean as it was, and L of
-/// each pool stays, and its order of eviction, but that a read of a file has counted its hits by then: those of no other file.
+/// each pool stays, and its order of eviction, but that a read of a file has counted its hits by then: those of no extent that
+/// its range does not meet.
 pub fn no_room_evicts_nothing()
     ensures { NoRoomEvictsNothing }
 {}
