@@ -4,6 +4,7 @@
 //! [`World`](world::World) is a system and a process in each of some domains; who has a turn when is a list of
 //! [`Choice`](choice::Choice)s. Whatever the list, with an honest store, replies and state are those of processes with the same
 //! accounts over a machine that copies at every call, each lent that machine's bytes (`World::run`, clause `run`; `specs/World`).
+//! An account also says when its process may find no memory; only there may a turn pass without a yield or a call.
 //!
 //!     let mut world = World::new(alloc, system, processes)?;
 //!     let replies = world.run(&choices)?;
