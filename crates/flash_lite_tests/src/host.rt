@@ -4,6 +4,7 @@ ghost use Rattle.std.specs.List.{IsDistinct};
 ghost use Rattle.iol_back.specs.Disk.{IsSlot};
 
 use flash_lite::actor::Actor;
+use flash_lite::host::host;
 use flash_lite::setup::setup;
 use flash_lite::site::{Site, SiteFile};
 use iol_back::faulty::FaultyBacking;
@@ -132,12 +133,16 @@ pub fn site_of(alloc: Global, plan: &Plan<'_>) -> Result<Site, AllocError> {
     })
 }
 
-fn new_system(alloc: Global, store: Store, gen_limit: u32) -> Result<System<Store>, Refusal> {
-    let config = Config {
+// The default sizes, with this last generation of a page.
+fn config_of(gen_limit: u32) -> Config {
+    Config {
         gen_limit,
         ..Config::DEFAULT
-    };
-    System::new(alloc, config, store)
+    }
+}
+
+fn new_system(alloc: Global, store: Store, gen_limit: u32) -> Result<System<Store>, Refusal> {
+    System::new(alloc, config_of(gen_limit), store)
 }
 
 fn set_up(
@@ -178,6 +183,20 @@ pub fn host_of(alloc: Global, plan: &Plan<'_>) -> Result<Host, Refusal> {
     let store = store_of(alloc, plan)?;
     let site = site_of(alloc, plan)?;
     host_over(alloc, store, plan.gen_limit, &site)
+}
+
+/// What comes of hosting a site with choices: its host, what each choice was answered, and whether all was idle.
+pub fn hosted(
+    alloc: Global,
+    plan: &Plan<'_>,
+    choices: &[Choice],
+) -> Result<(Host, Vec<Reply>, bool), Refusal> {
+    let store = store_of(alloc, plan)?;
+    let site = site_of(alloc, plan)?;
+    let config = config_of(plan.gen_limit);
+    let hosted = host(alloc, config, store, &site, choices, 65536)?;
+    let world = hosted.world;
+    Ok((Host { world }, hosted.replies, hosted.idle))
 }
 
 /// How a site with so many workers and guests is refused.

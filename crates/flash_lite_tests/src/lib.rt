@@ -16,6 +16,8 @@ mod heads;
 #[cfg(test)]
 mod host;
 #[cfg(test)]
+mod hosted;
+#[cfg(test)]
 mod outputs;
 #[cfg(test)]
 mod ranges;
