@@ -1,9 +1,9 @@
 -- What a worker wants memory for: to read a job, and for the bytes of a call.
-use Rattle.std.specs.Prelude.{◌≡◌, ℕ, Bool, true, false, List, Option, Some, None, slice_get}
+use Rattle.std.specs.Prelude.{◌≡◌, ◌<◌, ℕ, Bool, true, false, List, length, Option, Some, None, slice_get}
 use Rattle.iol_core.specs.declared.events.Reply.{Reply}
 use Rattle.iol_core.specs.declared.events.Reply.TheVariants as reply
 use Rattle.flash_cgi.specs.Job.{Task}
-use Rattle.flash_cgi.specs.Working.{told}
+use Rattle.flash_cgi.specs.Working.{bytes_at, told}
 use Rattle.flash_cgi.specs.declared.doing.Doing.{Doing}
 use Rattle.flash_cgi.specs.declared.doing.Doing.TheVariants as doing
 use Rattle.flash_cgi.specs.declared.doing.Standing.{Standing}
@@ -36,9 +36,9 @@ abbrev pub WantsOn : Task → Option Step → Type 0
 WantsOn job None = ⊥
 WantsOn job (Some step) = has_bytes job step ≡ true
 
--- it files a reply: a job is read
+-- it files a reply: what came for a job is read, if a byte did
 abbrev pub WantsToFile : Worker → Doing → Reply → (ℕ → Option (List ℕ)) → Type 0
-WantsToFile w doing.Waits (reply.Agg agg) lent = Unit {0}
+WantsToFile w doing.Waits (reply.Agg agg) lent = 0 < length (bytes_at lent agg)
 WantsToFile w d last lent = WantsOn w.job (told w.job w.step lent last)
 
 abbrev pub WantsAs : Standing → Worker → Reply → (ℕ → Option (List ℕ)) → Type 0

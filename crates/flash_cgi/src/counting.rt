@@ -1,5 +1,5 @@
 //! What a worker sees of its aggregates, where they lie.
-ghost use Rattle.std.specs.Prelude.{◌≡◌, count_by, length, IfOk};
+ghost use Rattle.std.specs.Prelude.{◌≡◌, ◌<◌, count_by, length, IfOk, OnErr};
 ghost use Rattle.std.specs.List.{concat};
 ghost use Rattle.iol_proc.specs.Looks.{lent};
 ghost use Rattle.flash_cgi.specs.Working as spec;
@@ -51,7 +51,8 @@ pub(crate) fn counts(look: &Look<'_>, agg: AggId) -> Counts
 
 // A text that lies in these pieces, as one.
 fn joined(alloc: Global, parts: Parts<'_>) -> Result<Vec<u8>, AllocError>
-    ensures { IfOk result (λ text. text.items ≡ concat parts.entry) }
+    ensures text { IfOk result (λ text. text.items ≡ concat parts.entry) }
+    ensures wants { OnErr result (0 < length (concat parts.entry)) }
 {
     let mut text = Vec::new(alloc);
     for part in parts {
@@ -60,9 +61,10 @@ fn joined(alloc: Global, parts: Parts<'_>) -> Result<Vec<u8>, AllocError>
     Ok(text)
 }
 
-/// A copy of its bytes.
+/// A copy of its bytes. No bytes take no memory.
 pub(crate) fn text_of(alloc: Global, look: &Look<'_>, agg: AggId) -> Result<Vec<u8>, AllocError>
-    ensures { IfOk result (λ text. text.items ≡ spec.bytes_at (lent look.now) agg) }
+    ensures text { IfOk result (λ text. text.items ≡ spec.bytes_at (lent look.now) agg) }
+    ensures wants { OnErr result (0 < length (spec.bytes_at (lent look.now) agg)) }
 {
     match look.bytes(agg) {
         Some(parts) => joined(alloc, parts),

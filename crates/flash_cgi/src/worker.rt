@@ -1,5 +1,5 @@
 //! A process that runs scripts.
-ghost use Rattle.std.specs.Prelude.{◌≡◌, true, Some, IfOk, OnErr};
+ghost use Rattle.std.specs.Prelude.{◌≡◌, ◌<◌, true, Some, IfOk, OnErr, length};
 ghost use Rattle.iol_proc.specs.Looks.{lent};
 ghost use Rattle.iol_proc.specs.Quiet.{IsQuiet};
 ghost use Rattle.flash_cgi.specs.Wants as memory;
@@ -93,6 +93,7 @@ impl Worker {
         ensures taken { IfOk result
             (λ _. self.new ≡ account.with_text self.old text.now agg) }
         ensures err { OnErr result (self.new ≡ self.old) }
+        ensures wants { OnErr result (0 < length text.now) }
     {
         if text.is_empty() {
             self.standing = Standing::Over;
@@ -117,6 +118,7 @@ impl Worker {
             (λ turn. account.takes self.old (spec.bytes_at (lent look.now) agg) agg turn self.new) }
         ensures quiet { IfOk result IsQuiet }
         ensures err { OnErr result (self.new ≡ self.old) }
+        ensures wants { OnErr result (0 < length (spec.bytes_at (lent look.now) agg)) }
     {
         let text = text_of(self.alloc, look, agg)?;
         self.take_text(text.as_slice(), agg)?;
@@ -149,7 +151,7 @@ impl Process for Worker {
         ensures quiet { IfOk result IsQuiet }
         ensures err { OnErr result (self.new ≡ self.old) }
 
-        // It wants memory only to read a job, and for the bytes of a call.
+        // It wants memory only to read what came for a job, if a byte did, and for the bytes of a call.
         ensures wants { OnErr result (memory.Wants self.old last.now (lent look.now)) }
     {
         match self.standing {
