@@ -46,8 +46,8 @@ pub fn workers_feed_pipes()
     laws::refusals_tell_why();
 }
 
-/// So does each turn of a worker, from the moment at which its job waits until it is free for the next one. Where a turn is not
-/// rough, the outcomes that it settles are those that the files have.
+/// So does each turn of a worker, from the moment at which its job waits until it is free for the
+/// next one. Where a turn is not rough, the outcomes that it settles are those that the files have.
 pub fn turns_feed()
     ensures { TurnsFeed }
 {
@@ -130,7 +130,8 @@ pub fn workers_keep_nothing()
     laws::aggregates_come_and_go();
 }
 
-/// A worker's turn leaves all but what is its own and one pipe: its job pipe while it is free, and then the pipe of its output.
+/// A worker's turn leaves all but what is its own and one pipe: its job pipe while it is free, and
+/// then the pipe of its output.
 pub fn workers_are_quiet()
     ensures { WorkersAreQuiet }
 {
@@ -139,7 +140,8 @@ pub fn workers_are_quiet()
     laws::descriptors_come_by_replies();
 }
 
-/// What a worker writes lies in the pools of the files, and in its default pool: so whoever may read these is never denied its output.
+/// What a worker writes lies in the pools of the files, and in its default pool: so whoever may
+/// read these is never denied its output.
 pub fn outputs_are_shown()
     ensures { OutputsAreShown }
 {

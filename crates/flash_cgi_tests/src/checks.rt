@@ -1,10 +1,10 @@
 //! What tests are made of.
 //!
-//! Functions tell what they found, and the test alone passes or fails by that: each `assert!` of a function takes the prover a
-//! second, and each `assert_eq!` two or three.
+//! Functions tell what they found, and the test alone passes or fails by that: each `assert!` of a
+//! function takes the prover a second, and each `assert_eq!` two or three.
 //!
-//! A function that lets a stage go at its end is slow to prove, half a minute each. So each ends in `drop(stage)`, which is proved
-//! once, whatever is let go.
+//! A function that lets a stage go at its end is slow to prove, half a minute each. So each ends in
+//! `drop(stage)`, which is proved once, whatever is let go.
 use iol_core::refusals::Refusal;
 use std::test::Fail;
 

@@ -11,8 +11,8 @@ use std::io::Write;
 use std::net::{Ipv4Addr, Net, SocketAddr, TcpListener, TcpStream};
 use std::rt::Files;
 
-/// Serves the files of a folder on a port of 127.0.0.1 to so many connections, one after another: the exit status. It prints the
-/// port once it listens; port 0 is any that is free.
+/// Serves the files of a folder on a port of 127.0.0.1 to so many connections, one after another:
+/// the exit status. It prints the port once it listens; port 0 is any that is free.
 pub fn serve<R, W: Write, E: Write>(
     rt: &R,
     port: u16,
@@ -40,7 +40,8 @@ where
     host.serve(listener, count)
 }
 
-// Does the work of `serve`, up to the first fault. The folder comes first, so that nobody connects to a server that has none.
+// Does the work of `serve`, up to the first fault. The folder comes first, so that nobody connects
+// to a server that has none.
 fn listen_and_serve<R, W: Write>(
     rt: &R,
     port: u16,

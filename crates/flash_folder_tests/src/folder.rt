@@ -1,4 +1,5 @@
-//! What is served of a folder that is made for the test, and how that ends: what no clause says, since none speaks of sockets.
+//! What is served of a folder that is made for the test, and how that ends: what no clause says,
+//! since none speaks of sockets.
 use flash_folder::looping::loop_on;
 use flash_folder::serving::{listen, serve, serve_on};
 use std::io::{Read, Write};

@@ -2,8 +2,9 @@
 use http::StatusCode;
 use iol_core::numbers::{AggId, Fd};
 
-/// What is learnt of a file: all its bytes lie in an aggregate, or it has so many, or a call was refused, and the answer is an error.
-/// Of a script the text lies in an aggregate, and `runs` says whether it is one that can run.
+/// What is learnt of a file: all its bytes lie in an aggregate, or it has so many, or a call was
+/// refused, and the answer is an error. Of a script the text lies in an aggregate, and `runs` says
+/// whether it is one that can run.
 #[derive(Clone, Copy, Debug, PartialEq, Eq)]
 pub enum Learnt {
     File { agg: AggId, len: u32 },
@@ -12,7 +13,8 @@ pub enum Learnt {
     Text { agg: AggId, runs: bool },
 }
 
-/// What is sent: `size` bytes of a file of `len` bytes, which lie in an aggregate; of such a file none; an error; or what a script puts out.
+/// What is sent: `size` bytes of a file of `len` bytes, which lie in an aggregate; of such a file
+/// none; an error; or what a script puts out.
 #[derive(Clone, Copy, Debug, PartialEq, Eq)]
 pub enum Content {
     Body { agg: AggId, size: u32, len: u32 },
@@ -23,8 +25,8 @@ pub enum Content {
 
 /// What is in progress on a connection: the call that it wants next. The request that is answered stands beside it.
 ///
-/// While an answer is sent, `taken` bytes of it are taken, and `more` is the aggregate that comes after the one that is sent,
-/// with the number of its bytes.
+/// While an answer is sent, `taken` bytes of it are taken, and `more` is the aggregate that comes
+/// after the one that is sent, with the number of its bytes.
 #[derive(Clone, Copy, Debug, PartialEq, Eq)]
 pub enum Doing {
     /// Nothing: the first request that is kept begins, or more of the stream is read.

@@ -7,10 +7,11 @@ ghost use Rattle.flash_laws.specs.Site.{SiteStays};
 
 use iol_laws::laws;
 
-/// What the server offers for a request is the next bytes of the response to it, with the outcome of the calls that it made for it,
-/// the first of which opens the file of its name. With each reply the request comes nearer to its end, but where its call is to be
-/// made again later; so it makes only so many calls. It is said of each step, calm or not, while nobody gives up or moves what the
-/// connection uses; that over a whole run nobody does is not.
+/// What the server offers for a request is the next bytes of the response to it, with the outcome
+/// of the calls that it made for it, the first of which opens the file of its name. With each reply
+/// the request comes nearer to its end, but where its call is to be made again later; so it makes
+/// only so many calls. It is said of each step, calm or not, while nobody gives up or moves what
+/// the connection uses; that over a whole run nobody does is not.
 pub fn offers_law()
     ensures { OffersTheResponse }
 {
@@ -21,9 +22,10 @@ pub fn offers_law()
     laws::refusals_that_are_left();
 }
 
-/// The server keeps nothing of an answer that is over: what a call brings is used by the connection that it was made for, and what that
-/// connection uses no more, aggregates and descriptors of files, is given up. Its calls touch nothing but what it has. It is said of each
-/// call of the server, calm or not; what others give the server is not spoken of.
+/// The server keeps nothing of an answer that is over: what a call brings is used by the connection
+/// that it was made for, and what that connection uses no more, aggregates and descriptors of
+/// files, is given up. Its calls touch nothing but what it has. It is said of each call of the
+/// server, calm or not; what others give the server is not spoken of.
 pub fn keeping_law()
     ensures { KeepsNothing }
 {
@@ -32,23 +34,26 @@ pub fn keeping_law()
     laws::file_calls_serve_their_domain();
 }
 
-/// A step that may change no file, and that admits nobody to a pool, leaves the site as it is: so a call from outside that is none of
-/// `file_new`, `pool_admit` and a write to a file is mild.
+/// A step that may change no file, and that admits nobody to a pool, leaves the site as it is: so a
+/// call from outside that is none of `file_new`, `pool_admit` and a write to a file is mild.
 pub fn site_law()
     ensures { SiteStays }
 {
     laws::each_step_leaves_the_rest();
 }
 
-/// Turns go round: a client whose call is to be made again later is passed, and so is one that has to wait for a worker, or for which
-/// nothing is left to do but to read more; the next turn is that of the first behind it that may have one; past all places connections
-/// are accepted while there are any, and then the server yields. So a client waits for another only while that is being answered.
+/// Turns go round: a client whose call is to be made again later is passed, and so is one that has
+/// to wait for a worker, or for which nothing is left to do but to read more; the next turn is that
+/// of the first behind it that may have one; past all places connections are accepted while there
+/// are any, and then the server yields. So a client waits for another only while that is being
+/// answered.
 pub fn rounds_law()
     ensures { TurnsGoRound }
 {}
 
-/// Each script that runs has a worker of its own, whichever call the server picks: so it is of a new server, however many workers it
-/// has, and each turn leaves it so. For a server that has no workers no script runs.
+/// Each script that runs has a worker of its own, whichever call the server picks: so it is of a
+/// new server, however many workers it has, and each turn leaves it so. For a server that has no
+/// workers no script runs.
 pub fn sharing_law()
     ensures { WorkersAreShared }
 {}

@@ -20,8 +20,8 @@ pub struct Run {
 
 /// What a script's run does next, and what it has for that.
 ///
-/// `held` is output that was read and not yet offered, with the number of its bytes, and `frame` what stands around the bytes of a
-/// whole chunk, once it is made.
+/// `held` is output that was read and not yet offered, with the number of its bytes, and `frame`
+/// what stands around the bytes of a whole chunk, once it is made.
 #[derive(Clone, Copy, Debug, PartialEq, Eq)]
 pub enum Step {
     /// The pipe's write end is to be given to the worker.

@@ -26,10 +26,11 @@ pub const FIRST: &str =
 
 /// The same, and the answer to a HEAD of it.
 pub const BOTH: &str =
-    "HTTP/1.1 200 OK\r\nContent-Type: text/html\r\nContent-Length: 3\r\n\r\nhi\nHTTP/1.1 200 OK\r\nContent-Type: text/html\r\nContent-Length: 3\r\n\r\n";
+    "HTTP/1.1 200 OK\r\nContent-Type: text/html\r\nContent-Length: 3\r\n\r\nhi\nHTTP/1.1 200 OK\r\n\
+        Content-Type: text/html\r\nContent-Length: 3\r\n\r\n";
 
-const BAD: &str =
-    "HTTP/1.1 400 Bad Request\r\nContent-Type: text/plain\r\nContent-Length: 16\r\nConnection: close\r\n\r\n400 Bad Request\n";
+const BAD: &str = "HTTP/1.1 400 Bad Request\r\nContent-Type: text/plain\r\nContent-Length: 16\r\n\
+        Connection: close\r\n\r\n400 Bad Request\n";
 
 // The first is two requests, one after another; the fifth to the twelfth are refused heads, or none is found.
 const ROWS: [Row<'static>; 13] = [
@@ -39,8 +40,12 @@ const ROWS: [Row<'static>; 13] = [
         false,
     ),
     (
-        "GET / HTTP/1.1\r\nHost: a\r\n\r\n\r\nHEAD / HTTP/1.1\r\nHost: a\r\n\r\nGET / HTTP/1.1\r\nHost: a\r\nConnection: close\r\n\r\nGET / HTTP/1.1\r\nHost: a\r\n\r\n",
-        "HTTP/1.1 200 OK\r\nContent-Type: text/html\r\nContent-Length: 3\r\n\r\nhi\nHTTP/1.1 200 OK\r\nContent-Type: text/html\r\nContent-Length: 3\r\n\r\nHTTP/1.1 200 OK\r\nContent-Type: text/html\r\nContent-Length: 3\r\nConnection: close\r\n\r\nhi\n",
+        "GET / HTTP/1.1\r\nHost: a\r\n\r\n\r\nHEAD / HTTP/1.1\r\nHost: a\r\n\r\nGET / HTTP/1.1\r\n\
+            Host: a\r\nConnection: close\r\n\r\nGET / HTTP/1.1\r\nHost: a\r\n\r\n",
+        "HTTP/1.1 200 OK\r\nContent-Type: text/html\r\nContent-Length: 3\r\n\r\nhi\n\
+            HTTP/1.1 200 OK\r\nContent-Type: text/html\r\nContent-Length: 3\r\n\r\n\
+            HTTP/1.1 200 OK\r\nContent-Type: text/html\r\nContent-Length: 3\r\n\
+            Connection: close\r\n\r\nhi\n",
         true,
     ),
     (
@@ -63,7 +68,8 @@ const ROWS: [Row<'static>; 13] = [
     ),
     (
         "POST / HTTP/1.1\r\nHost: a\r\n\r\n",
-        "HTTP/1.1 405 Method Not Allowed\r\nContent-Type: text/plain\r\nContent-Length: 23\r\nAllow: GET, HEAD\r\n\r\n405 Method Not Allowed\n",
+        "HTTP/1.1 405 Method Not Allowed\r\nContent-Type: text/plain\r\nContent-Length: 23\r\n\
+            Allow: GET, HEAD\r\n\r\n405 Method Not Allowed\n",
         false,
     ),
     (

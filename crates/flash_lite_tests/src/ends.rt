@@ -15,7 +15,9 @@ const STREAM: &[u8] = b"GET / HTTP/1.1\r\nHost: a\r\n\r\nHEAD / HTTP/1.1\r\nHost
 
 // What is answered to both where the first device call fails.
 const FAULTED: &str =
-    "HTTP/1.1 500 Internal Server Error\r\nContent-Type: text/plain\r\nContent-Length: 26\r\n\r\n500 Internal Server Error\nHTTP/1.1 200 OK\r\nContent-Type: text/html\r\nContent-Length: 3\r\n\r\n";
+    "HTTP/1.1 500 Internal Server Error\r\nContent-Type: text/plain\r\nContent-Length: 26\r\n\r\n\
+        500 Internal Server Error\nHTTP/1.1 200 OK\r\nContent-Type: text/html\r\n\
+        Content-Length: 3\r\n\r\n";
 
 // The stream cut after each of its bytes, each on a connection of its own.
 fn cut_streams(alloc: Global) -> Result<Vec<Vec<Event>>, AllocError> {

@@ -8,15 +8,15 @@ use iol_core::refusals::Refusal;
 use std::alloc::{AllocError, Global};
 use std::test::Fail;
 
-const LARGE: &str =
-    "HTTP/1.1 431 Request Header Fields Too Large\r\nContent-Type: text/plain\r\nContent-Length: 36\r\nConnection: close\r\n\r\n431 Request Header Fields Too Large\n";
+const LARGE: &str = "HTTP/1.1 431 Request Header Fields Too Large\r\nContent-Type: text/plain\r\n\
+        Content-Length: 36\r\nConnection: close\r\n\r\n431 Request Header Fields Too Large\n";
 
 const SERVED: Row<'static> = ("", FIRST, false);
 
 const REFUSED: Row<'static> = ("", LARGE, true);
 
-// What stands before a head, how long its field is, and what becomes of it: heads of 8,191, 8,192 and 8,193 bytes, and after an
-// empty line of 8,190 and 8,191.
+// What stands before a head, how long its field is, and what becomes of it: heads of 8,191, 8,192
+// and 8,193 bytes, and after an empty line of 8,190 and 8,191.
 const HEADS: [(&str, usize, Row<'static>); 5] = [
     ("", 8159, SERVED),
     ("", 8160, SERVED),

@@ -30,8 +30,8 @@ pub struct Kept<'a> {
     pub private: bool,
 }
 
-/// What a site is made of: its files, its workers, the chunks of its pool `site`, the last generation of a page, and which device
-/// call fails.
+/// What a site is made of: its files, its workers, the chunks of its pool `site`, the last
+/// generation of a page, and which device call fails.
 #[derive(Clone, Copy)]
 pub struct Plan<'a> {
     pub files: &'a [Kept<'a>],

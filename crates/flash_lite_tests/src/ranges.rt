@@ -23,12 +23,14 @@ const WHOLE: &str =
 const ROWS: [Row<'static>; 13] = [
     (
         "GET /f HTTP/1.1\r\nHost: a\r\nRange: bytes=-2\r\n\r\n",
-        "HTTP/1.1 206 Partial Content\r\nContent-Type: application/octet-stream\r\nContent-Length: 2\r\nContent-Range: bytes 4-5/6\r\n\r\nqr",
+        "HTTP/1.1 206 Partial Content\r\nContent-Type: application/octet-stream\r\n\
+            Content-Length: 2\r\nContent-Range: bytes 4-5/6\r\n\r\nqr",
         false,
     ),
     (
         "GET /f HTTP/1.1\r\nHost: a\r\nRange: bytes=9-\r\n\r\n",
-        "HTTP/1.1 416 Range Not Satisfiable\r\nContent-Type: text/plain\r\nContent-Length: 26\r\nContent-Range: bytes */6\r\n\r\n416 Range Not Satisfiable\n",
+        "HTTP/1.1 416 Range Not Satisfiable\r\nContent-Type: text/plain\r\nContent-Length: 26\r\n\
+            Content-Range: bytes */6\r\n\r\n416 Range Not Satisfiable\n",
         false,
     ),
     (
@@ -38,22 +40,26 @@ const ROWS: [Row<'static>; 13] = [
     ),
     (
         "GET /f HTTP/1.1\r\nHost: a\r\nRange: bytes=4-99\r\n\r\n",
-        "HTTP/1.1 206 Partial Content\r\nContent-Type: application/octet-stream\r\nContent-Length: 2\r\nContent-Range: bytes 4-5/6\r\n\r\nqr",
+        "HTTP/1.1 206 Partial Content\r\nContent-Type: application/octet-stream\r\n\
+            Content-Length: 2\r\nContent-Range: bytes 4-5/6\r\n\r\nqr",
         false,
     ),
     (
         "GET /f HTTP/1.1\r\nHost: a\r\nRange: bytes=0-0\r\n\r\n",
-        "HTTP/1.1 206 Partial Content\r\nContent-Type: application/octet-stream\r\nContent-Length: 1\r\nContent-Range: bytes 0-0/6\r\n\r\nm",
+        "HTTP/1.1 206 Partial Content\r\nContent-Type: application/octet-stream\r\n\
+            Content-Length: 1\r\nContent-Range: bytes 0-0/6\r\n\r\nm",
         false,
     ),
     (
         "GET /f HTTP/1.1\r\nHost: a\r\nRange: bytes=-9\r\n\r\n",
-        "HTTP/1.1 206 Partial Content\r\nContent-Type: application/octet-stream\r\nContent-Length: 6\r\nContent-Range: bytes 0-5/6\r\n\r\nmnopqr",
+        "HTTP/1.1 206 Partial Content\r\nContent-Type: application/octet-stream\r\n\
+            Content-Length: 6\r\nContent-Range: bytes 0-5/6\r\n\r\nmnopqr",
         false,
     ),
     (
         "GET /f HTTP/1.1\r\nHost: a\r\nRange: bytes=-0\r\n\r\n",
-        "HTTP/1.1 416 Range Not Satisfiable\r\nContent-Type: text/plain\r\nContent-Length: 26\r\nContent-Range: bytes */6\r\n\r\n416 Range Not Satisfiable\n",
+        "HTTP/1.1 416 Range Not Satisfiable\r\nContent-Type: text/plain\r\nContent-Length: 26\r\n\
+            Content-Range: bytes */6\r\n\r\n416 Range Not Satisfiable\n",
         false,
     ),
     (

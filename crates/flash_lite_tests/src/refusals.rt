@@ -1,4 +1,5 @@
-//! What refuses the calls for a script, each in its turn: where it is tried again, and where the script is answered 503.
+//! What refuses the calls for a script, each in its turn: where it is tried again, and where the
+//! script is answered 503.
 use crate::checks::pass;
 use crate::host::{Host, Kept, Plan, connect, host_of};
 use crate::rows::{arrivals, is_sent, let_arrive, let_wait};

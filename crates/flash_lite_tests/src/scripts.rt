@@ -60,7 +60,8 @@ const FORBIDDEN: &str =
     "HTTP/1.1 403 Forbidden\r\nContent-Type: text/plain\r\nContent-Length: 14\r\n\r\n403 Forbidden\n";
 
 const FAULTY: &str =
-    "HTTP/1.1 500 Internal Server Error\r\nContent-Type: text/plain\r\nContent-Length: 26\r\n\r\n500 Internal Server Error\n";
+    "HTTP/1.1 500 Internal Server Error\r\nContent-Type: text/plain\r\nContent-Length: 26\r\n\r\n\
+        500 Internal Server Error\n";
 
 const ROWS: [Row<'static>; 17] = [
     (
@@ -75,7 +76,8 @@ const ROWS: [Row<'static>; 17] = [
     ),
     (
         "GET /two.cgi HTTP/1.1\r\nHost: a\r\nConnection: close\r\n\r\n",
-        "HTTP/1.1 200 OK\r\nContent-Type: text/plain\r\nTransfer-Encoding: chunked\r\nConnection: close\r\n\r\n3\r\na\n\n\r\n0\r\n\r\n",
+        "HTTP/1.1 200 OK\r\nContent-Type: text/plain\r\nTransfer-Encoding: chunked\r\n\
+            Connection: close\r\n\r\n3\r\na\n\n\r\n0\r\n\r\n",
         true,
     ),
     (
@@ -100,7 +102,8 @@ const ROWS: [Row<'static>; 17] = [
     ),
     (
         "GET /outcomes.cgi HTTP/1.1\r\nHost: a\r\nRange: bytes=0-1\r\n\r\n",
-        "HTTP/1.1 200 OK\r\nContent-Type: text/plain\r\nTransfer-Encoding: chunked\r\n\r\ne\r\n1 3\n[NoFile]\n\n\r\n0\r\n\r\n",
+        "HTTP/1.1 200 OK\r\nContent-Type: text/plain\r\nTransfer-Encoding: chunked\r\n\r\ne\r\n\
+            1 3\n[NoFile]\n\n\r\n0\r\n\r\n",
         false,
     ),
     (
@@ -114,8 +117,12 @@ const ROWS: [Row<'static>; 17] = [
         false,
     ),
     (
-        "GET /%74wo.cgi?%20+ HTTP/1.1\r\nHost: a\r\n\r\nGET /f HTTP/1.1\r\nHost: a\r\n\r\nGET /none.cgi HTTP/1.1\r\nHost: a\r\n\r\n",
-        "HTTP/1.1 200 OK\r\nContent-Type: text/plain\r\nTransfer-Encoding: chunked\r\n\r\n7\r\na\n%20+\n\r\n0\r\n\r\nHTTP/1.1 200 OK\r\nContent-Type: application/octet-stream\r\nContent-Length: 3\r\n\r\na\nbHTTP/1.1 200 OK\r\nContent-Type: text/plain\r\nTransfer-Encoding: chunked\r\n\r\n0\r\n\r\n",
+        "GET /%74wo.cgi?%20+ HTTP/1.1\r\nHost: a\r\n\r\nGET /f HTTP/1.1\r\nHost: a\r\n\r\n\
+            GET /none.cgi HTTP/1.1\r\nHost: a\r\n\r\n",
+        "HTTP/1.1 200 OK\r\nContent-Type: text/plain\r\nTransfer-Encoding: chunked\r\n\r\n7\r\na\n\
+            %20+\n\r\n0\r\n\r\nHTTP/1.1 200 OK\r\nContent-Type: application/octet-stream\r\n\
+            Content-Length: 3\r\n\r\na\nbHTTP/1.1 200 OK\r\nContent-Type: text/plain\r\n\
+            Transfer-Encoding: chunked\r\n\r\n0\r\n\r\n",
         false,
     ),
     ("GET /junk.cgi HTTP/1.1\r\nHost: a\r\n\r\n", FAULTY, false),
@@ -133,7 +140,8 @@ const ROWS: [Row<'static>; 17] = [
     ("GET /p HTTP/1.1\r\nHost: a\r\n\r\n", FORBIDDEN, false),
     (
         "POST /two.cgi HTTP/1.1\r\nHost: a\r\n\r\n",
-        "HTTP/1.1 405 Method Not Allowed\r\nContent-Type: text/plain\r\nContent-Length: 23\r\nAllow: GET, HEAD\r\n\r\n405 Method Not Allowed\n",
+        "HTTP/1.1 405 Method Not Allowed\r\nContent-Type: text/plain\r\nContent-Length: 23\r\n\
+            Allow: GET, HEAD\r\n\r\n405 Method Not Allowed\n",
         false,
     ),
 ];

@@ -13,7 +13,8 @@ const HEAD: &[u8] = b"HEAD /f HTTP/1.1\r\nHost: a\r\n\r\n";
 
 /// What is answered where the file cannot be read, or its script run.
 pub const REFUSED: &[u8] =
-    b"HTTP/1.1 503 Service Unavailable\r\nContent-Type: text/plain\r\nContent-Length: 24\r\n\r\n503 Service Unavailable\n";
+    b"HTTP/1.1 503 Service Unavailable\r\nContent-Type: text/plain\r\nContent-Length: 24\r\n\r\n\
+        503 Service Unavailable\n";
 
 // So many bytes, none of which is that of the place 251 before.
 fn bytes_of(alloc: Global, len: u32) -> Result<Vec<u8>, AllocError> {

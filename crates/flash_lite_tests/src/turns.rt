@@ -142,8 +142,8 @@ const LONG: &[u8] = b"GET /s.cgi HTTP/1.1\r\nHost: a\r\n\r\n";
 pub const FROM_SHORT: &[u8] =
     b"HTTP/1.1 200 OK\r\nContent-Type: text/plain\r\nTransfer-Encoding: chunked\r\n\r\n2\r\nt\n\r\n0\r\n\r\n";
 
-// The client of the first script takes nothing of its output, so the script does not end. With one worker the second waits until
-// that client goes, and with two it does not wait.
+// The client of the first script takes nothing of its output, so the script does not end. With one
+// worker the second waits until that client goes, and with two it does not wait.
 fn waits_for_the_first(host: &mut Host, long: Vec<Event>, short: Vec<Event>, waits: bool) -> bool {
     let before = if waits { b"".as_slice() } else { FROM_SHORT };
     let after = if waits { FROM_SHORT } else { b"".as_slice() };

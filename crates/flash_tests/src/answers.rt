@@ -34,11 +34,13 @@ const ANSWERS: [(&str, &str); 9] = [
     ),
     (
         "GET / HTTP/1.1\r\n\r\n",
-        "HTTP/1.1 400 Bad Request\r\nContent-Type: text/plain\r\nContent-Length: 16\r\nConnection: close\r\n\r\n400 Bad Request\n",
+        "HTTP/1.1 400 Bad Request\r\nContent-Type: text/plain\r\nContent-Length: 16\r\n\
+            Connection: close\r\n\r\n400 Bad Request\n",
     ),
     (
         "POST / HTTP/1.1\r\nHost: a\r\n\r\n",
-        "HTTP/1.1 405 Method Not Allowed\r\nContent-Type: text/plain\r\nContent-Length: 23\r\nAllow: GET, HEAD\r\n\r\n405 Method Not Allowed\n",
+        "HTTP/1.1 405 Method Not Allowed\r\nContent-Type: text/plain\r\nContent-Length: 23\r\n\
+            Allow: GET, HEAD\r\n\r\n405 Method Not Allowed\n",
     ),
     (
         "BREW / HTTP/1.1\r\nHost: a\r\n\r\n",
@@ -46,7 +48,8 @@ const ANSWERS: [(&str, &str); 9] = [
     ),
     (
         "POST / HTTP/1.1\r\nHost: a\r\nContent-Length: 5\r\n\r\n",
-        "HTTP/1.1 400 Bad Request\r\nContent-Type: text/plain\r\nContent-Length: 16\r\nConnection: close\r\n\r\n400 Bad Request\n",
+        "HTTP/1.1 400 Bad Request\r\nContent-Type: text/plain\r\nContent-Length: 16\r\n\
+            Connection: close\r\n\r\n400 Bad Request\n",
     ),
     (
         "GET HTTPS://a.example/style.css HTTP/1.1\r\nHost: a\r\nConnection: close\r\n\r\n",

@@ -98,11 +98,13 @@ fn told_by(alloc: Global, answer: &str) -> Result<String, AllocError> {
 const WHOLE: [(&str, &str); 3] = [
     (
         "GET /f HTTP/1.1\r\nHost: a\r\nRange: bytes=4-99\r\n\r\n",
-        "HTTP/1.1 206 Partial Content\r\nContent-Type: application/octet-stream\r\nContent-Length: 2\r\nContent-Range: bytes 4-5/6\r\n\r\n",
+        "HTTP/1.1 206 Partial Content\r\nContent-Type: application/octet-stream\r\n\
+            Content-Length: 2\r\nContent-Range: bytes 4-5/6\r\n\r\n",
     ),
     (
         "GET /f HTTP/1.0\r\nRange: bytes=9-\r\n\r\n",
-        "HTTP/1.1 416 Range Not Satisfiable\r\nContent-Type: text/plain\r\nContent-Length: 26\r\nContent-Range: bytes */6\r\nConnection: close\r\n\r\n",
+        "HTTP/1.1 416 Range Not Satisfiable\r\nContent-Type: text/plain\r\nContent-Length: 26\r\n\
+            Content-Range: bytes */6\r\nConnection: close\r\n\r\n",
     ),
     (
         "HEAD /f HTTP/1.1\r\nHost: a\r\nRange: bytes=0-1\r\n\r\n",
