@@ -6,6 +6,7 @@ import tree
 from replaying import Wrong, is_fault
 
 REFUSED = b"growth refused\n"  # what the shim tells
+SPOILED = b"output spoiled\n"
 AHEAD = 32  # of a line that stands twice, reading takes so many growths more at most
 WAYS = ("ended", "refused", "spared")
 
@@ -76,11 +77,19 @@ class Sweep:
         if not self.comes_to(count + 1, number):
             raise Wrong("it ended, and printed fewer answers than lines that did not come to the growth")
 
+    def check_spoiled(self, printed, number):
+        """Where the first writing fails, too, that is told in place of the growth: what was to be printed is not."""
+        ended = self.script.run({"LD_PRELOAD": self.shim, "REFUSE": str(number), "SPOIL": "0"})
+        told = ended.stderr.replace(REFUSED, b"", 1).replace(SPOILED, b"", 1)
+        if (ended.returncode, ended.stdout, told) != (3, b"", b"fault: output\n" if printed else b"fault: memory\n"):
+            raise Wrong(f"with an output that fails, status {ended.returncode}, {ended.stdout!r}, {told!r}")
+
     def way(self, ended, number):
         """How a run ended."""
         told = ended.stderr.replace(REFUSED, b"", 1)
         if ended.returncode == 3 and told == b"fault: memory\n":
             self.check_ended(ended.stdout, number)
+            self.check_spoiled(ended.stdout, number)
             return "ended"
         if ended.returncode != 0 or told:
             raise Wrong(f"status {ended.returncode}, {told!r}")
