@@ -1,5 +1,5 @@
--- What a client wants memory for: to keep what it hears, to begin a request, and for the bytes of a call.
-use Rattle.std.specs.Prelude.{◌≡◌, ◌⊎◌, Bool, true, false, Option, Some, None}
+-- What a client wants memory for: to keep the bytes that it hears, to begin a request, and for the bytes of a call.
+use Rattle.std.specs.Prelude.{◌≡◌, ◌⊎◌, ◌<◌, ℕ, Bool, true, false, List, length, Option, Some, None}
 use Rattle.iol_core.specs.declared.events.Reply.{Reply}
 use Rattle.iol_core.specs.declared.events.Reply.TheVariants as reply
 use Rattle.flash_laws.specs.Client.{Client, is_for_script, left_over}
@@ -10,17 +10,17 @@ use Rattle.flash_laws.specs.declared.doing.Doing.{Doing}
 use Rattle.flash_laws.specs.declared.doing.Doing.TheVariants.{Reads}
 use Rattle.flash_laws.specs.declared.running.Running.{Running}
 
--- whether it was reading, and something came: of its stream, or the text of a script
-abbrev pub hears : (script : Bool) → Doing → Reply → Bool
-hears true (Reads f) (reply.Agg n) = true
-hears script d r = wanting.hears d r
+-- it was reading, and a byte came: of its stream, or of the text of a script
+abbrev pub Hears : (script : Bool) → Doing → Reply → (heard : List ℕ) → Type 0
+Hears true (Reads f) (reply.Agg n) heard = 0 < length heard
+Hears script d r heard = wanting.Hears d r heard
 
-abbrev pub client_hears : (scripts : Bool) → Client → Reply → Bool
-client_hears scripts x r = by x.run
+abbrev pub ClientHears : (scripts : Bool) → Client → Reply → (heard : List ℕ) → Type 0
+ClientHears scripts x r heard = by x.run
   where
-    by : Option Running → Bool
-    by None = hears (is_for_script scripts x.conn.q) x.conn.doing r
-    by (Some y) = false
+    by : Option Running → Type 0
+    by None = Hears (is_for_script scripts x.conn.q) x.conn.doing r heard
+    by (Some y) = ⊥
 
 -- whether its next call has bytes of its own
 abbrev pub makes_bytes : Client → Bool
@@ -35,9 +35,9 @@ abbrev pub needs_memory : Client → Bool
 needs_memory x = by x.run
   where
     by : Option Running → Bool
-    by None = wanting.needs_memory x.conn.doing
+    by None = wanting.needs_memory x.conn
     by (Some y) = makes_any y
 
 -- to keep what came, or to go on at once
-abbrev pub WantsOn : (scripts : Bool) → (t x : Client) → Reply → Type 0
-WantsOn scripts t x r = (client_hears scripts x r ≡ true) ⊎ ((leaves_off (left_over t) r ≡ false) × (needs_memory t ≡ true))
+abbrev pub WantsOn : (scripts : Bool) → (t x : Client) → Reply → (heard : List ℕ) → Type 0
+WantsOn scripts t x r heard = ClientHears scripts x r heard ⊎ ((leaves_off (left_over t) r ≡ false) × (needs_memory t ≡ true))

@@ -1,8 +1,9 @@
 -- What a client does, by what its connection does.
-use Rattle.std.proofs.Common.{inl, inr, ◌≡◌, ◌≢◌, ℕ, ◌<◌, ◌==◌, ◌||◌, if◌then◌else◌, length, List, [], Option, Some, None, Bool, true, false, refl, sym, ap, subst, arith, ◌∙◌}
+use Rattle.std.proofs.Common.{inl, inr, ◌≡◌, ◌≢◌, ℕ, ◌<◌, ◌==◌, ◌||◌, if◌then◌else◌, length, List, [], ◌∷◌, Option, Some, None, Bool, true, false, refl, sym, ap, subst, arith, ◌∙◌}
 use Rattle.std.specs.Prelude.{◌&&◌, is_some, nat_le, option_map}
 use Rattle.std.specs.List.{slice_split}
 use Rattle.std.proofs.lemmas.Bool.Decides.{nat_tests}
+use Rattle.std.proofs.lemmas.Str.{is_utf8-from_IsUtf8, IsUtf8-nil}
 use Rattle.flash_cgi.specs.Script.{is_utf8, is_line_feed, lines_in}
 use Rattle.flash_cgi.specs.declared.script.TheConstants.{MAX_SCRIPT_BYTES}
 use Rattle.iol_core.specs.declared.events.Call.{Call}
@@ -11,7 +12,7 @@ use Rattle.iol_core.specs.declared.events.Reply.TheVariants as reply
 use Rattle.flash_http.specs.Request.{Answer}
 use Rattle.flash_http.specs.Window.{window_in}
 use Rattle.flash_laws.specs.Client.{Client, Readies, is_bare, can_run, kept_if, conn_wants, conn_told, file_told, told_spares, is_for_script, left_over, wants, awaits}
-use Rattle.flash_laws.specs.ClientWants.{hears, client_hears, needs_memory, WantsOn}
+use Rattle.flash_laws.specs.ClientWants.{Hears, ClientHears, needs_memory, WantsOn}
 use Rattle.flash_laws.specs.Conn as conn
 use Rattle.flash_laws.specs.Conn.{Conn, is_head_only}
 use Rattle.flash_laws.specs.Policy as policy
@@ -145,7 +146,7 @@ never false f n is = absurd (cc (is))
 record IsText (b : Bool) (x : Client) (r : Reply) (heard : List ℕ) (f n : ℕ) : Type 0 where
   told : file_told b x r heard ≡ text_heard x f n heard
   now : is_later r ≡ false
-  hears : hears b x.conn.doing r ≡ true
+  hears : 0 < length heard → Hears b x.conn.doing r heard
 
 text-found : (b : Bool) (kept : List ℕ) (q : Answer) (d : Doing) (run : Option Running) (script : List ℕ) (r : Reply) (heard : List ℕ) (h : Bool) (f n : ℕ)
     → found b d r h ≡ tells.Text f n → IsText b (of kept q d run script) r heard f n
@@ -156,7 +157,7 @@ text-found true kept q (Reads g) run script (reply.Agg m) heard h f n is =
     record {
       told = ap (λ k. text_heard (of kept q (Reads g) run script) k m heard) eg ∙ ap (λ k. text_heard (of kept q (Reads g) run script) f k heard) em;
       now = refl;
-      hears = refl;
+      hears = λ some. some;
     }
 text-found true kept q (Reads g) run script r heard h f n is = absurd (cc (is))
 text-found true kept q (Spares a Script) run script r heard h f n is = absurd (never (runs r h) f n is)
@@ -203,6 +204,11 @@ long_runs text long =
     let e : nat_le (length text) MAX_SCRIPT_BYTES ≡ false = grind (arith, nat_tests, long) in
     ap (λ b. is_some (if b && is_utf8 text then lines_in (slice_split is_line_feed text) else None)) e
 
+-- no text is a script without lines
+pub empty_runs : (text : List ℕ) → length text ≡ 0 → can_run text ≡ true
+empty_runs [] none = ap (λ b. is_some (if b then lines_in [] else None)) (is_utf8-from_IsUtf8 [] IsUtf8-nil)
+empty_runs (b ∷ text) none = absurd (omega (arith, none))
+
 kept-none : (h : Bool) (text : List ℕ) → kept_if h false text ≡ []
 kept-none true text = refl
 kept-none false text = refl
@@ -246,28 +252,28 @@ file_alone scripts fd x y r heard o is course =
 
 -- ---- memory
 
-hears-none : (scripts : Bool) (c : Conn) (run : Option Running) (script : List ℕ) (r : Reply) → run ≡ None
-    → client_hears scripts (record { conn = c; run = run; script = script }) r ≡ hears (is_for_script scripts c.q) c.doing r
-hears-none scripts c None script r none = refl
-hears-none scripts c (Some y) script r none = absurd (cc (none))
+hears-none : (scripts : Bool) (c : Conn) (run : Option Running) (script : List ℕ) (r : Reply) (heard : List ℕ) → run ≡ None
+    → Hears (is_for_script scripts c.q) c.doing r heard → ClientHears scripts (record { conn = c; run = run; script = script }) r heard
+hears-none scripts c None script r heard none hears = hears
+hears-none scripts c (Some y) script r heard none hears = absurd (cc (none))
 
-hears-more : (b : Bool) (d : Doing) (r : Reply) → wanting.hears d r ≡ true → hears b d r ≡ true
-hears-more false d r is = is
-hears-more true (Reads f) (reply.Agg n) is = refl
-hears-more true (Reads f) r is = is
-hears-more true d r is = is
+hears-more : (b : Bool) (d : Doing) (r : Reply) (heard : List ℕ) → wanting.Hears d r heard → Hears b d r heard
+hears-more false d r heard hears = hears
+hears-more true (Reads f) (reply.Agg n) heard hears = absurd hears
+hears-more true (Reads f) r heard hears = absurd hears
+hears-more true d r heard hears = hears
 
 pub hears_wants : (scripts : Bool) (x : Client) (r : Reply) (heard : List ℕ) (f n : ℕ) → x.run ≡ None
-    → tells.Text f n ≡ found (is_for_script scripts x.conn.q) x.conn.doing r (is_head_only x.conn.q)
-    → WantsOn scripts (file_told (is_for_script scripts x.conn.q) x r heard) x r
-hears_wants scripts x r heard f n none is =
+    → tells.Text f n ≡ found (is_for_script scripts x.conn.q) x.conn.doing r (is_head_only x.conn.q) → 0 < length heard
+    → WantsOn scripts (file_told (is_for_script scripts x.conn.q) x r heard) x r heard
+hears_wants scripts x r heard f n none is some =
     let t = text-found (is_for_script scripts x.conn.q) x.conn.kept x.conn.q x.conn.doing x.run x.script r heard (is_head_only x.conn.q) f n (sym is) in
-    inl (hears-none scripts x.conn x.run x.script r none ∙ t.hears)
+    inl (hears-none scripts x.conn x.run x.script r heard none (t.hears some))
 
 pub alone_wants : (scripts : Bool) (x : Client) (r : Reply) (heard : List ℕ) → x.run ≡ None
     → tells.AsFile ≡ found (is_for_script scripts x.conn.q) x.conn.doing r (is_head_only x.conn.q)
-    → wanting.WantsOn x.conn r heard → WantsOn scripts (file_told (is_for_script scripts x.conn.q) x r heard) x r
-alone_wants scripts x r heard none is (inl here) = inl (hears-none scripts x.conn x.run x.script r none ∙ hears-more (is_for_script scripts x.conn.q) x.conn.doing r here)
+    → wanting.WantsOn x.conn r heard → WantsOn scripts (file_told (is_for_script scripts x.conn.q) x r heard) x r heard
+alone_wants scripts x r heard none is (inl here) = inl (hears-none scripts x.conn x.run x.script r heard none (hears-more (is_for_script scripts x.conn.q) x.conn.doing r heard here))
 alone_wants scripts x r heard none is (inr on) =
     let same = file-found (is_for_script scripts x.conn.q) x.conn.kept x.conn.q x.conn.doing x.run x.script r heard (is_head_only x.conn.q) refl (sym is) in
     inr (
@@ -299,8 +305,9 @@ rests_leaves fd x y c d f is =
       as_it_was = is ∙ ap (λ (z : Conn). record { conn = z; run = x.run; script = x.script }) f.2;
     }
 
-pub rests_wants : (x : Client) → policy.is_bare (record x.conn { doing = Rests }) ≡ false → leaves_off (left_over (ended x Rests)) reply.Done ≡ false
-rests_wants x some = some
+pub rests_wants : (x : Client) → policy.is_bare (record x.conn { doing = Rests }) ≡ false → wanting.can_begin (window_in x.conn.kept) ≡ true
+    → (leaves_off (left_over (ended x Rests)) reply.Done ≡ false) × (needs_memory (ended x Rests) ≡ true)
+rests_wants x some begins = (some, begins)
 
 goes-ended : (kept : List ℕ) (q : Answer) (d : Doing) → d ≢ Rests → d ≢ Over → GoesOn (plain (at kept q d) []) reply.Done (plain (at kept q d) [])
 goes-ended kept q Rests busy on = absurd (busy refl)
@@ -316,13 +323,9 @@ pub ends_wants : (x : Client) (d : Doing) → d ≢ Rests → d ≢ Over → wan
     → (leaves_off (left_over (ended x d)) reply.Done ≡ false) × (needs_memory (ended x d) ≡ true)
 ends_wants x d busy on bytes = ((goes-ended x.conn.kept x.conn.q d busy on).on, needs d bytes)
   where
-    needs : (d : Doing) → wanting.has_bytes d ≡ true → wanting.needs_memory d ≡ true
-    needs Rests is = refl
+    needs : (d : Doing) → wanting.has_bytes d ≡ true → wanting.needs_memory (record x.conn { doing = d }) ≡ true
+    needs Rests is = absurd (cc (is))
     needs d is = is
-
-pub rests_needs : (x : Client) → leaves_off (left_over (ended x Rests)) reply.Done ≡ false
-    → (leaves_off (left_over (ended x Rests)) reply.Done ≡ false) × (needs_memory (ended x Rests) ≡ true)
-rests_needs x on = (on, refl)
 
 pub over_leaves : (x : Client) → IsLeft (ended x Over) x reply.Done (Ends Over) x
 over_leaves x = record { passed = refl; told_is = refl; remains_is = refl; can_rest = record { small = omega arith; awaits = tt }; as_it_was = refl }

@@ -212,7 +212,7 @@ on_err (Err e) P p = p
 
 pub goes_wants : (scripts : Bool) (worker : ℕ) (x : Client) (y z : Running) (r : Reply) (heard : List ℕ) → x.run ≡ Some y → is_over y ≡ false
     → is_later r ≡ false → z ≡ run_after worker x.conn.q y r heard → waits z ≡ false → is_over z ≡ false → makes_any z ≡ true
-    → WantsOn scripts (run_told worker x.conn.q x y r heard) x r
+    → WantsOn scripts (run_told worker x.conn.q x y r heard) x r heard
 goes_wants scripts worker x y z r heard is going now z_is runs on makes =
     let told = on-told worker x y z r heard is going z_is on in
     inr (ap (λ (t : Client). leaves_off (left_over t) r) told ∙ (goes-on x y z r now runs).on, ap (λ (t : Client). needs_memory t) told ∙ makes)
@@ -224,7 +224,7 @@ leaves-now (Some x) r now = ap (λ (b : Bool). b || (awaits x || is_bare x)) now
 pub run_wants_on : (scripts : Bool) (worker : ℕ) (x : Client) (y z : Running) (d : Doing) (r : Reply) (heard : List ℕ) → x.run ≡ Some y → is_over y ≡ false
     → is_later r ≡ false → z ≡ run_after worker x.conn.q y r heard → is_over z ≡ true → d ≡ after_run z
     → (leaves_off (left_over (ended x d)) reply.Done ≡ false) × (needs_memory (ended x d) ≡ true)
-    → WantsOn scripts (run_told worker x.conn.q x y r heard) x r
+    → WantsOn scripts (run_told worker x.conn.q x y r heard) x r heard
 run_wants_on scripts worker x y z d r heard is going now z_is over d_is wants =
     let told : run_told worker x.conn.q x y r heard ≡ ended x d = over-told worker x y z r heard is going z_is over ∙ ap (λ (e : Doing). ended x e) (sym d_is) in
     inr (ap (λ (t : Client). leaves_off (left_over t) r) told ∙ (leaves-now (left_over (ended x d)) r now ∙ wants.0), ap (λ (t : Client). needs_memory t) told ∙ wants.1)

@@ -54,7 +54,7 @@ module _ (s : Table) (kept : IsKept s) (fd : ℕ) (flies : s.flight ≡ At fd) (
     where
       by : (o : Option Client) → in_place s.clients fd ≡ o → WantsHere (runs_scripts s.workers) a o r heard → WantsHere (runs_scripts s.workers) (first_free s.workers s.clients) o r heard
       by None there wants = absurd wants
-      by (Some x) there wants = subst (λ (t : Client). WantsOn (runs_scripts s.workers) t x r) (by_words s kept fd flies r heard a x is there) wants
+      by (Some x) there wants = subst (λ (t : Client). WantsOn (runs_scripts s.workers) t x r heard) (by_words s kept fd flies r heard a x is there) wants
 
   pub left_wants : (a : ℕ) (l : Left) (now : List (Option Client)) (had has : Option ℕ) (free : List Bool) → a ≡ min (first_in s.workers s.free) 7
       → CourseAt (runs_scripts s.workers) a s.clients fd r heard (Leaves l) now

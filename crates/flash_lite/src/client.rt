@@ -1,7 +1,7 @@
 //! One client: its connection, and the script that runs for the request in progress.
 //!
 //! A script is found as any file; then its run has the connection until all is sent.
-ghost use Rattle.std.specs.Prelude.{◌≡◌, ◌≢◌, ◌<◌, [], IfOk, IfSome, OnErr, None, Some, false, true};
+ghost use Rattle.std.specs.Prelude.{◌≡◌, ◌≢◌, ◌<◌, [], IfOk, IfSome, OnErr, None, Some, false, length, true};
 ghost use Rattle.iol_core.specs.declared.events.Reply.TheVariants as reply;
 ghost use Rattle.flash_laws.specs.Client as spec;
 ghost use Rattle.flash_laws.specs.ClientWants.{WantsOn, makes_bytes, needs_memory};
@@ -138,6 +138,7 @@ impl Client {
         ensures course { IfOk result (λ o. IsCourse scripts fd
             (text_heard self.old file agg (heard parts.entry)) self.old reply.Done o self.new) }
         ensures err { OnErr result (self.new ≡ self.old) }
+        ensures wants { OnErr result (0 < length (heard parts.entry)) }
     {
         let head_only = is_head_only(self.conn.asked());
         let (runs, text) = heard_text(self.alloc, head_only, parts)?;
@@ -163,7 +164,7 @@ impl Client {
         ensures err { OnErr result (self.new ≡ self.old) }
         ensures wants { OnErr result (WantsOn scripts
             (spec.file_told (spec.is_for_script scripts self.old.conn.q) self.old last.now
-            (heard parts.entry)) self.old last.now) }
+            (heard parts.entry)) self.old last.now (heard parts.entry)) }
     {
         let asked = self.conn.asked();
         let script = is_for_script(scripts, asked);
@@ -277,7 +278,8 @@ impl Client {
             reply.Done o self.new) }
         ensures err { OnErr result (self.new ≡ self.old) }
         ensures wants { OnErr result
-            (leaves_off (spec.left_over (ended self.old Rests)) reply.Done ≡ false) }
+            ((leaves_off (spec.left_over (ended self.old Rests)) reply.Done ≡ false)
+            × (needs_memory (ended self.old Rests) ≡ true)) }
     {
         match self.conn.go_on_free(fd)? {
             Onward::Asks(call) => {
@@ -305,7 +307,7 @@ impl Client {
     }
 
     // Its run is over.
-    #[tactic(auto, using(crate::proofs::Clients::over_leaves, crate::proofs::Clients::ends_wants, crate::proofs::Clients::rests_needs))]
+    #[tactic(auto, using(crate::proofs::Clients::over_leaves, crate::proofs::Clients::ends_wants))]
     fn end(&mut self, scripts: bool, fd: Fd, doing: Doing) -> Result<Course, AllocError>
         requires { IsSmall doing }
         ensures course { IfOk result (λ o. IsCourse scripts fd (ended self.old doing) self.old
@@ -348,7 +350,7 @@ impl Client {
         ensures err { OnErr result (self.new ≡ self.old) }
         ensures wants { OnErr result (WantsOn scripts
             (spec.run_told worker self.old.conn.q self.old running last.now (heard parts.entry))
-            self.old last.now) }
+            self.old last.now (heard parts.entry)) }
     {
         if is_later(last) {
             return Ok(Course::Leaves(Left::Stays));
@@ -371,8 +373,8 @@ impl Client {
 
     /// What it does after the reply to its call, with the bytes of the aggregate that the reply
     /// names. `scripts` says whether scripts are run, and `worker` is one that is free, if it waits
-    /// for one. For want of memory it stays as it was; it wants memory only to keep what came, to
-    /// begin a request, or for a call that has bytes of its own.
+    /// for one. For want of memory it stays as it was; it wants memory only to keep the bytes that
+    /// came, to begin a request, or for a call that has bytes of its own.
     pub fn go_on(
         &mut self,
         scripts: bool,
@@ -387,7 +389,8 @@ impl Client {
             self.new) }
         ensures err { OnErr result (self.new ≡ self.old) }
         ensures wants { OnErr result (WantsOn scripts
-            (spec.told scripts worker self.old last.now (heard parts.entry)) self.old last.now) }
+            (spec.told scripts worker self.old last.now (heard parts.entry)) self.old last.now
+            (heard parts.entry)) }
     {
         match self.run {
             Some(running) => {

@@ -1,11 +1,12 @@
 //! One connection.
-ghost use Rattle.std.specs.Prelude.{◌≡◌, ◌≢◌, ◌-◌, IfOk, OnErr, drop, length, true, false};
+ghost use Rattle.std.specs.Prelude.{◌≡◌, ◌≢◌, ◌<◌, ◌-◌, IfOk, OnErr, drop, length, true, false};
 ghost use Rattle.iol_core.specs.declared.events.Reply.TheVariants.{Agg};
 ghost use Rattle.iol_core.specs.declared.events.Call.TheVariants.{IolRead};
 ghost use Rattle.flash_http.specs.Request.{answer, refuse};
+ghost use Rattle.flash_http.specs.Window.{window_in};
 ghost use Rattle.flash_laws.specs.Conn as spec;
 ghost use Rattle.flash_laws.specs.Policy.{is_later, is_bare};
-ghost use Rattle.flash_laws.specs.Wanting.{WantsOn, has_bytes};
+ghost use Rattle.flash_laws.specs.Wanting.{WantsOn, can_begin, has_bytes};
 ghost use Rattle.flash_laws.specs.declared.doing.Doing.TheVariants.{Rests, Over};
 ghost use Rattle.flash_lite.specs.Heard.{heard};
 ghost use Rattle.flash_lite.specs.Onward.{IsOnward, Frees, GoesWith, CanRest, is_over};
@@ -138,6 +139,7 @@ impl Conn {
         ensures call { IfOk result (λ call. call ≡ spec.wants fd self.new) }
         ensures stays { IfOk result (λ _. is_over self.new.doing ≡ false) }
         ensures err { OnErr result (self.new ≡ self.old) }
+        ensures wants { OnErr result (0 < length (heard parts.entry)) }
     {
         let len = self.kept.len();
         append(&mut self.kept, parts)?;
@@ -246,6 +248,7 @@ impl Conn {
             (λ _. spec.Starts (record self.old { doing = Rests }) self.new) }
         ensures call { IfOk result (λ call. call ≡ spec.wants fd self.new) }
         ensures err { OnErr result (self.new ≡ self.old) }
+        ensures wants { OnErr result (can_begin (window_in self.old.kept) ≡ true) }
     {
         match window_of(self.kept.as_slice()) {
             Window::Wait => {
@@ -325,7 +328,8 @@ impl Conn {
     pub(crate) fn go_on_free(&mut self, fd: Fd) -> Result<Onward, AllocError>
         ensures asks { IfOk result (λ o. Frees fd self.old o self.new) }
         ensures err { OnErr result (self.new ≡ self.old) }
-        ensures wants { OnErr result (is_bare (record self.old { doing = Rests }) ≡ false) }
+        ensures wants { OnErr result ((is_bare (record self.old { doing = Rests }) ≡ false)
+            × (can_begin (window_in self.old.kept) ≡ true)) }
     {
         if self.kept.is_empty() {
             return Ok(Onward::Leaves(Doing::Rests));
@@ -386,7 +390,7 @@ impl Conn {
     /// What it does after the reply to its call, with the bytes of the aggregate that the reply
     /// names. It goes on at once, unless the call is to be made again later, nothing is in progress
     /// and nothing kept, or it is over. For want of memory it stays as it was; it wants memory only
-    /// to keep what came, to begin a request, or for a call that has bytes of its own.
+    /// to keep the bytes that came, to begin a request, or for a call that has bytes of its own.
     pub fn go_on(
         &mut self,
         fd: Fd,

@@ -1,6 +1,6 @@
 //! A script is found: it is opened, read and closed as any file, but read whole for HEAD too, and
 //! its text is kept until the job is made.
-ghost use Rattle.std.specs.Prelude.{◌≡◌, ◌<◌, IfOk, MatchOption, length};
+ghost use Rattle.std.specs.Prelude.{◌≡◌, ◌<◌, IfOk, MatchOption, OnErr, length};
 ghost use Rattle.std.specs.List.{concat};
 ghost use Rattle.flash_http.specs.MediaType as names;
 ghost use Rattle.flash_http.specs.Request.{answer};
@@ -119,8 +119,9 @@ pub(crate) fn whole(script: bool, doing: Doing, call: Call) -> Call
 
 // The bytes of these parts, if they are no more than so many.
 fn gather_all(alloc: Global, parts: Parts<'_>, most: usize) -> Result<Option<Vec<u8>>, AllocError>
-    ensures { IfOk result (λ o. MatchOption o (most < length (concat parts.entry))
+    ensures bytes { IfOk result (λ o. MatchOption o (most < length (concat parts.entry))
         (λ bytes. bytes.items ≡ concat parts.entry)) }
+    ensures wants { OnErr result (0 < length (concat parts.entry)) }
 {
     let mut bytes = Vec::new(alloc);
     for part in parts {
@@ -138,8 +139,9 @@ fn gather(
     parts: Option<Parts<'_>>,
     most: usize,
 ) -> Result<Option<Vec<u8>>, AllocError>
-    ensures { IfOk result (λ o. MatchOption o (most < length (heard parts.entry))
+    ensures bytes { IfOk result (λ o. MatchOption o (most < length (heard parts.entry))
         (λ bytes. bytes.items ≡ heard parts.entry)) }
+    ensures wants { OnErr result (0 < length (heard parts.entry)) }
 {
     match parts {
         Some(parts) => gather_all(alloc, parts, most),
@@ -147,10 +149,15 @@ fn gather(
     }
 }
 
-// Whether a text is a script.
+// Whether a text is a script. No text is one, without a line.
+#[tactic(auto, using(crate::proofs::Clients::empty_runs))]
 fn can_run(alloc: Global, text: &[u8]) -> Result<bool, AllocError>
-    ensures { IfOk result (λ runs. runs ≡ spec.can_run text.now) }
+    ensures runs { IfOk result (λ runs. runs ≡ spec.can_run text.now) }
+    ensures wants { OnErr result (0 < length text.now) }
 {
+    if text.is_empty() {
+        return Ok(true);
+    }
     let script = Script::read(alloc, text)?;
     Ok(script.is_some())
 }
@@ -167,7 +174,7 @@ fn kept_if(alloc: Global, head_only: bool, runs: bool, text: Vec<u8>) -> Vec<u8>
 }
 
 /// Whether the text that was read is a script, and what is kept of it. One that is too long for a
-/// script is not gathered.
+/// script is not gathered, and no text takes no memory.
 #[tactic(auto, using(crate::proofs::Clients::long_runs, crate::proofs::Clients::long_kept))]
 pub(crate) fn heard_text(
     alloc: Global,
@@ -177,6 +184,7 @@ pub(crate) fn heard_text(
     ensures runs { IfOk result (λ r. r.0 ≡ spec.can_run (heard parts.entry)) }
     ensures kept { IfOk result (λ r. r.1.items
         ≡ spec.kept_if head_only (spec.can_run (heard parts.entry)) (heard parts.entry)) }
+    ensures wants { OnErr result (0 < length (heard parts.entry)) }
 {
     match gather(alloc, parts, MAX_SCRIPT_BYTES)? {
         Some(text) => {

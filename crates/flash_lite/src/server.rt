@@ -82,8 +82,8 @@ impl Process for Server {
         ensures quiet { IfOk result IsQuiet }
         ensures err { OnErr result (self.new ≡ self.old) }
 
-        // It wants memory only to keep what came, for a place, to begin a request, and for the bytes
-        // of a call.
+        // It wants memory only to keep the bytes that came, for a place, to begin a request, and for
+        // the bytes of a call.
         ensures wants { OnErr result (server_wants self.old last.now (lent look.now)) }
 
         // What is offered is the next bytes of the response to the request.

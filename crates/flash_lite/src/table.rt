@@ -4,7 +4,7 @@ ghost use Rattle.iol_core.specs.Numbered.{in_place};
 ghost use Rattle.flash_laws.specs.Client.{new_client};
 ghost use Rattle.flash_laws.specs.Places.{runs_scripts};
 ghost use Rattle.flash_laws.specs.Tied.{grown, with_at};
-ghost use Rattle.flash_laws.specs.TurnWants.{MayWant, WantsFrom, WantsHere, is_accepted};
+ghost use Rattle.flash_laws.specs.TurnWants.{MayWant, WantsFrom, WantsHere, WantsPlace};
 ghost use Rattle.flash_laws.specs.declared.doing.Flight.TheVariants.{Nothing, Accepting, At};
 ghost use Rattle.flash_lite.specs.Heard.{heard};
 ghost use Rattle.flash_lite.specs.Table.{IsKept};
@@ -52,10 +52,11 @@ impl Model for Table {
     ghost invariant = { λ s. (length s.clients.items ≤ 2 ^ 32) × (s.workers ≤ MAX_WORKERS) };
 }
 
-// Makes places up to this one.
+// Makes places up to this one. Where it is there, that takes no memory.
 fn reach(clients: &mut Vec<Option<Client>>, place: u32) -> Result<(), AllocError>
     ensures ok { IfOk result (λ _. clients.new.items ≡ grown clients.old.items place) }
     ensures err { OnErr result (clients.new.items ≡ clients.old.items) }
+    ensures wants { OnErr result (length clients.old.items ≤ place) }
 {
     let more = (place as usize + 1).saturating_sub(clients.len());
     clients.reserve(more)?;
@@ -71,6 +72,7 @@ fn admit(alloc: Global, clients: &mut Vec<Option<Client>>, place: u32) -> Result
     ensures ok { IfOk result
         (λ _. clients.new.items ≡ with_at clients.old.items place (Some new_client)) }
     ensures err { OnErr result (clients.new.items ≡ clients.old.items) }
+    ensures wants { OnErr result (length clients.old.items ≤ place) }
     ensures length { length clients.new.items ≤ 2 ^ 32 }
 {
     reach(clients, place)?;
@@ -205,7 +207,7 @@ impl Table {
         requires kept { IsKept self.old }
         ensures turn { IfOk result (λ turn. Turns self.old last.now [] turn self.new) }
         ensures err { OnErr result (self.new ≡ self.old) }
-        ensures wants { OnErr result (is_accepted last.now ≡ true) }
+        ensures wants { OnErr result (WantsPlace self.old.clients last.now) }
     {
         match last {
             Reply::Fd(fd) => {
