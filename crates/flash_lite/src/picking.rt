@@ -1,6 +1,7 @@
 //! Which client has its turn: the first from a place on that has one that may go, and past all
 //! places one is accepted.
-ghost use Rattle.std.specs.Prelude.{◌≡◌, ◌<◌, ◌≤◌, ◌+◌, ◌^◌, IfOk, IfSome, MatchOption, None, OnErr, length, nat_lt, position, true};
+ghost use Rattle.std.specs.Prelude.{◌≡◌, ◌<◌, ◌≤◌, ◌+◌, ◌^◌, IfOk, IfSome, MatchOption};
+ghost use Rattle.std.specs.Prelude.{None, OnErr, length, nat_lt, position, true};
 ghost use Rattle.iol_core.specs.Numbered.{in_place, taken};
 ghost use Rattle.flash_laws.specs.Rounds.{goes_in};
 ghost use Rattle.flash_laws.specs.Rounds.{next_in};

@@ -1,5 +1,6 @@
 //! What the server keeps: its clients, which call is out, and which of its workers are free.
-ghost use Rattle.std.specs.Prelude.{◌≡◌, ◌<◌, ◌≤◌, ◌+◌, ◌^◌, [], IfOk, IfSome, OnErr, Some, length, min, replicate, true};
+ghost use Rattle.std.specs.Prelude.{◌≡◌, ◌<◌, ◌≤◌, ◌+◌, ◌^◌, [], IfOk, IfSome};
+ghost use Rattle.std.specs.Prelude.{OnErr, Some, length, min, replicate, true};
 ghost use Rattle.iol_core.specs.Numbered.{in_place};
 ghost use Rattle.flash_laws.specs.Client.{new_client};
 ghost use Rattle.flash_laws.specs.Places.{runs_scripts};
@@ -8,7 +9,8 @@ ghost use Rattle.flash_laws.specs.TurnWants.{MayWant, WantsFrom, WantsHere, Want
 ghost use Rattle.flash_laws.specs.declared.doing.Flight.TheVariants.{Nothing, Accepting, At};
 ghost use Rattle.flash_lite.specs.Heard.{heard};
 ghost use Rattle.flash_lite.specs.Table.{IsKept};
-ghost use Rattle.flash_lite.specs.Turning.{CourseIn, MayRest, PicksFrom, Turns, first_in, has_in, left_at, most_with, worker_at};
+ghost use Rattle.flash_lite.specs.Turning.{CourseIn, MayRest, PicksFrom, Turns, first_in};
+ghost use Rattle.flash_lite.specs.Turning.{has_in, left_at, most_with, worker_at};
 ghost use Rattle.flash_lite.specs.declared.site.TheConstants.{MAX_WORKERS};
 
 use crate::client::{Client, Course, Left};
