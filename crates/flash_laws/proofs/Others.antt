@@ -15,8 +15,7 @@ use Rattle.iol_core.specs.declared.events.Event.TheVariants as event
 use Rattle.iol_core.specs.declared.events.Reply.{Reply}
 use Rattle.flash_laws.specs.Answers.{Shelf, Found, Failed}
 use Rattle.flash_laws.specs.Conn.{most_read}
-use Rattle.flash_laws.specs.Site.{server, found_in, outcome_in, IsFixed, KeepsSite}
-use Rattle.flash_laws.specs.Past.{net_pool}
+use Rattle.flash_laws.specs.Site.{server, net_pool, found_in, outcome_in, IsFixed, KeepsSite}
 use Rattle.flash_laws.proofs.Lent.{file-same, content-same}
 
 -- a call of another domain gives up nothing of the server's, and moves none of its descriptors

@@ -194,7 +194,7 @@ module _ (orders : EachStepKeepsOrder) (descriptors : DescriptorsComeByReplies) 
   new_world = record { machine = site; seats = record { by = server; process = Serving new_server; last = reply.Done } ∷ []; rough = false }
 
   world_is_new : IsNew shelf alone new_world
-  unfolding conn_at
+  unfolding conn_at domain with_domain
   world_is_new = record {
     order = over_steps IsOrderly orders.step (orders.new slots);
     fixed = fixed_alone;
@@ -206,6 +206,7 @@ module _ (orders : EachStepKeepsOrder) (descriptors : DescriptorsComeByReplies) 
       desks = λ k lt. absurd (omega (arith, lt));
     };
     free = λ k seat is. absurd (cc (is));
+    no_aggs = λ a. refl;
     no_conns = λ c. refl;
   }
 

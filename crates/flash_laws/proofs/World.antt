@@ -30,6 +30,8 @@ pub mod IdleRuns
 pub mod Idle
 pub mod Calls
 pub mod Turn
+pub mod Owning
+pub mod OwnAggs
 pub mod Ends
 pub mod Told
 pub mod OwnTurn

@@ -9,6 +9,7 @@ use Rattle.flash_laws.specs.Client.{Client, uses_agg}
 use Rattle.flash_laws.specs.ClientFits.{Fits}
 use Rattle.flash_laws.specs.ClientKeeping.{has_fd}
 use Rattle.flash_laws.specs.Crew.{Crew}
+use Rattle.flash_laws.specs.Fits.{IsLent}
 use Rattle.flash_laws.specs.Past.{Past}
 use Rattle.flash_laws.specs.Places.{EachHasItsOwn, is_free}
 use Rattle.flash_laws.specs.Running.{worker_domain, job_pipe}
@@ -32,6 +33,17 @@ pub record Ended (shelf : Shelf) (p : Past) (c : ℕ) (k : Connection) : Type 0 
 
 abbrev pub Aside : Shelf → Past → (c : ℕ) → Connection → Type 0
 Aside shelf p c k = Waits p c k ⊎ (Ended shelf p c k ⊎ Foreign p c k)
+
+-- a client uses this aggregate
+pub record IsUsed (clients : List (Option Client)) (a : ℕ) : Type 0 where
+  pub fd : ℕ
+  pub client : Client
+  pub at : in_place clients fd ≡ Some client
+  pub uses : uses_agg client a ≡ true
+
+-- each aggregate that the server has is used by a client, or a call from outside gave it
+abbrev pub AreOwned : State → Past → List (Option Client) → Type 0
+AreOwned m p clients = (a : ℕ) → IsLent m a → IsUsed clients a ⊎ (p.given a ≡ true)
 
 -- each worker sits in its own domain, and the server writes its jobs to the pipe of its desk
 pub record AreAtDesks (crew : Crew) (m : State) (seats : List (Seat crew.Worker)) : Type 0 where

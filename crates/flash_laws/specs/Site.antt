@@ -8,11 +8,14 @@ use Rattle.iol_core.specs.declared.events.Reply.{Reply}
 use Rattle.iol_laws.specs.Frame.{changes_files, admits_to}
 use Rattle.flash_laws.specs.Answers.{Outcome, Found, Failed, Shelf}
 use Rattle.flash_laws.specs.Conn.{most_read}
-use Rattle.flash_laws.specs.Past.{net_pool}
 
 -- the server's domain
 abbrev pub server : ℕ
 server = 1
+
+-- the pool `net`, which names the server alone
+abbrev pub net_pool : ℕ
+net_pool = 2
 
 -- what opening and reading a file gives the server, with no want of anything
 abbrev pub found_in : State → Option ℕ → Outcome

@@ -6,7 +6,7 @@ use Rattle.iol_proc.specs.Histories.{stream_over, sent_over}
 use Rattle.iol_proc.specs.declared.choice.Choice.{Choice}
 use Rattle.iol_proc.specs.declared.choice.Choice.TheVariants as choice
 use Rattle.iol_proc.specs.declared.process.Turn.{Turn}
-use Rattle.flash_laws.specs.Past.{Past, made_by, gone_by}
+use Rattle.flash_laws.specs.Past.{Past, made_by, gone_by, given_by}
 use Rattle.flash_laws.specs.Serves.{Server, Policy, server_turns}
 use Rattle.flash_laws.specs.TurnWants.{server_wants}
 
@@ -30,12 +30,22 @@ unfoldable pub gone_over : (c : ℕ) → List Choice → List Reply → Bool
 gone_over c (x ∷ xs) (r ∷ rs) = gone_with c x r || gone_over c xs rs
 gone_over c xs rs = false
 
+abbrev pub given_with : (a : ℕ) → Choice → Reply → Bool
+given_with a (choice.Outside e) r = given_by a e r
+given_with a (choice.Turn by) r = false
+
+-- whether one of them gave the server an aggregate, under this number
+unfoldable pub given_over : (a : ℕ) → List Choice → List Reply → Bool
+given_over a (x ∷ xs) (r ∷ rs) = given_with a x r || given_over a xs rs
+given_over a xs rs = false
+
 abbrev pub past_of : List Choice → List Reply → Past
 past_of xs rs = record {
   came = λ c. stream_over c xs rs;
   sent = λ c. sent_over c xs rs;
   net = λ c. made_over c xs rs;
   gone = λ c. gone_over c xs rs;
+  given = λ a. given_over a xs rs;
 }
 
 -- ---- processes

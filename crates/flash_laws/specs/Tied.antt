@@ -5,7 +5,8 @@ use Rattle.iol_core.specs.State.{Connection}
 use Rattle.flash_laws.specs.Conn.{Conn}
 use Rattle.flash_laws.specs.declared.doing.Doing.{Doing}
 use Rattle.flash_laws.specs.declared.doing.Doing.TheVariants.{Over}
-use Rattle.flash_laws.specs.Past.{Past, net_pool}
+use Rattle.flash_laws.specs.Past.{Past}
+use Rattle.flash_laws.specs.Site.{net_pool}
 
 -- a place for each descriptor, with what stands at one of them
 abbrev pub grown : {A : Type 0} → List (Option A) → (fd : ℕ) → List (Option A)

@@ -1,9 +1,10 @@
 -- The tie of a world: the server in domain 1, its workers in theirs, and all connections, over what was chosen and replied.
-use Rattle.std.specs.Prelude.{◌≡◌, ◌<◌, ℕ, true, false, List, [], ◌∷◌, ◌++◌, length, map, Some, slice_get}
+use Rattle.std.specs.Prelude.{◌≡◌, ◌<◌, ℕ, true, false, List, [], ◌∷◌, ◌++◌, length, map, Some, None, slice_get}
 use Rattle.iol_core.specs.Text.{bytes_of}
 use Rattle.iol_core.specs.State.{State, conn_at, no_conn}
 use Rattle.iol_core.specs.declared.events.Reply.{Reply}
 use Rattle.iol_core.specs.declared.events.Reply.TheVariants as reply
+use Rattle.iol_laws.specs.Caller.{lent_at}
 use Rattle.iol_laws.specs.Order.{IsOrderly}
 use Rattle.iol_proc.specs.Histories.{stream_over, sent_over}
 use Rattle.iol_proc.specs.Smooth.{AreSmooth}
@@ -16,7 +17,7 @@ use Rattle.flash_laws.specs.Fits.{Names}
 use Rattle.flash_laws.specs.Past.{Past}
 use Rattle.flash_laws.specs.Places.{filed}
 use Rattle.flash_laws.specs.Rounds.{in_rounds}
-use Rattle.flash_laws.specs.Served.{AreAtDesks, AllFit}
+use Rattle.flash_laws.specs.Served.{AreAtDesks, AllFit, AreOwned}
 use Rattle.flash_laws.specs.Serves.{Server, new_server, Policy}
 use Rattle.flash_laws.specs.Shelf.{Shelf, Begins, IsAnswer}
 use Rattle.flash_laws.specs.Site.{server}
@@ -35,12 +36,14 @@ abbrev pub server_with : (workers : ℕ) → Server
 server_with workers = record new_server { workers = workers }
 
 module _ (shelf : Shelf) (crew : Crew) where
-  -- Between two turns of the server all fit, with the reply to the call that is out taken as filed.
+  -- Between two turns of the server all fit, and it has no aggregate but what its clients use or calls from outside gave it, with
+  -- the reply to the call that is out taken as filed.
   pub record IsServing (m : State) (p : Past) (s : Server) (last : Reply) (seats : List (Seat crew.Worker)) : Type 0 where
     pub count : s.workers ≡ crew.count
     pub heard : List ℕ
     pub names : Names m last heard
     pub fit : AllFit shelf crew m p (filed s.workers s.clients s.flight last heard) seats
+    pub owned : AreOwned m p (filed s.workers s.clients s.flight last heard)
 
   pub record AreSeated (w : Stage State (Actor crew.Worker)) (p : Past) : Type 0 where
     pub state : Server
@@ -56,7 +59,7 @@ module _ (shelf : Shelf) (crew : Crew) where
     pub fixed : IsFixedFor shelf crew w.machine
     pub seated : AreSeated w (past_of choices replies)
 
-  -- A new world: the server has nothing, each worker is free, and there are no connections.
+  -- A new world: the server has nothing, no aggregate either, each worker is free, and there are no connections.
   pub record IsNew (w : Stage State (Actor crew.Worker)) : Type 0 where
     pub order : IsOrderly w.machine
     pub fixed : IsFixedFor shelf crew w.machine
@@ -64,6 +67,7 @@ module _ (shelf : Shelf) (crew : Crew) where
     pub seats : w.seats ≡ seats_of (server_with crew.count) reply.Done workers
     pub desks : AreAtDesks crew w.machine workers
     pub free : (k : ℕ) (seat : Seat crew.Worker) → slice_get workers k ≡ Some seat → crew.Free w.machine (crew.desk k) seat
+    pub no_aggs : (a : ℕ) → lent_at w.machine server a ≡ None
     pub no_conns : (c : ℕ) → conn_at w.machine c ≡ no_conn
 
 -- What was sent on each connection of the net, and is to be sent, begins the answer to what came on it.

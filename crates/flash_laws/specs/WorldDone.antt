@@ -12,10 +12,12 @@ use Rattle.iol_proc.specs.declared.choice.Choice.{Choice}
 use Rattle.flash_laws.specs.Client.{Client, uses_agg, awaits}
 use Rattle.flash_laws.specs.Crew.{Crew}
 use Rattle.flash_laws.specs.Done.{IsFull, StaysOpen, AnswersScript}
+use Rattle.flash_laws.specs.Fits.{IsLent}
 use Rattle.flash_laws.specs.Host.{ActorsAreSettled}
 use Rattle.flash_laws.specs.Past.{Past}
 use Rattle.flash_laws.specs.Places.{is_run_by}
 use Rattle.flash_laws.specs.Rounds.{in_rounds}
+use Rattle.flash_laws.specs.Served.{IsUsed}
 use Rattle.flash_laws.specs.Shelf.{Shelf, IsAnswer}
 use Rattle.flash_laws.specs.Site.{server}
 use Rattle.flash_laws.specs.Tie.{past_of, Actor, actor_turns}
@@ -72,6 +74,8 @@ pub record IsDone (shelf : Shelf) (workers : ℕ) (m : State) (p : Past) (client
       ⊎ (((conn_at m c).peer ≡ None) × StaysOpen (p.came c))
   -- one that uses an aggregate is held up
   pub lends : (fd a : ℕ) (x : Client) → in_place clients fd ≡ Some x → uses_agg x a ≡ true → IsHeldUpAt m fd
+  -- and the server has no other: each that it has is used by such a client, or a call from outside gave it
+  pub owned : (a : ℕ) → IsLent m a → ((used : IsUsed clients a) × IsHeldUpAt m used.fd) ⊎ (p.given a ≡ true)
 
 -- Where all is idle in a tied world nothing is left to do.
 abbrev pub IdleIsDone : Crew → Type 0

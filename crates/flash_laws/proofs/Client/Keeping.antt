@@ -56,7 +56,7 @@ text-opens : (kept : List ℕ) (q : Answer) (f : ℕ) (r : Reply) (heard : List 
 text-opens kept q f (reply.Agg n) heard g = refl
 text-opens kept q f r heard g = refl
 
-script-uses : (kept : List ℕ) (q : Answer) (d : Doing) (script : List ℕ) (r : Reply) (heard : List ℕ) (a : ℕ) (b : Bool)
+pub script-uses : (kept : List ℕ) (q : Answer) (d : Doing) (script : List ℕ) (r : Reply) (heard : List ℕ) (a : ℕ) (b : Bool)
     → uses_agg (file_told b (client (at kept q d) None script) r heard) a ≡ conn.uses_agg (conn.told (at kept q d) r heard).doing a
 script-uses kept q d script r heard a false = refl
 script-uses kept q (Reading f) script r heard a true = text-uses kept q f r heard a
@@ -120,7 +120,7 @@ script-opens kept q Over script r heard g true = refl
 
 -- ---- what a run uses it uses until it is over, and its connection nothing then
 
-on-uses : (x : Client) (y z : Running) (a : ℕ) (was over : Bool) → is_over z ≡ over → uses_agg (goes_on was over x y z) a ≡ running.uses_agg z a
+pub on-uses : (x : Client) (y z : Running) (a : ℕ) (was over : Bool) → is_over z ≡ over → uses_agg (goes_on was over x y z) a ≡ running.uses_agg z a
 on-uses x y Awaits a false true is = absurd (cc (is))
 on-uses x y (Runs run s) a false true is = absurd (cc (is))
 on-uses x y (Leaves d) a false true is = refl
@@ -141,7 +141,7 @@ on-ends x y z g true false is unused = unused
 module _ (come : AggregatesComeAndGo) (own : CallsServeTheirDomain) (files : FileCallsServeTheirDomain) (m n : State) (order : IsOrderly m) where
   -- ---- what comes
 
-  conn-brought : (fd c : ℕ) (kept : List ℕ) (q : Answer) (d : Doing) (due : List ℕ) (r : Reply) (heard bytes : List ℕ) (a : ℕ) (b : Bool)
+  pub conn-brought : (fd c : ℕ) (kept : List ℕ) (q : Answer) (d : Doing) (due : List ℕ) (r : Reply) (heard bytes : List ℕ) (a : ℕ) (b : Bool)
       → HasAccess m → is_live m server ≡ true → descriptor m server fd ≡ Some (on.Connection c) → Has m q due d
       → StepsTo m (event.Call server (conn_wants b fd (at kept q d))) r n → lent_at m server a ≡ None → lent_at n server a ≡ Some bytes
       → conn.uses_agg (conn.told (at kept q d) r heard).doing a ≡ true
@@ -201,7 +201,7 @@ module _ (come : AggregatesComeAndGo) (own : CallsServeTheirDomain) (files : Fil
       let gives = leaves-told fd kept q d r heard a u unused in
       come.gone m n (event.Call server (conn.wants fd (at kept q d))) r server a order step gives.0 gives.1
 
-  conn-left : (fd : ℕ) (kept : List ℕ) (q : Answer) (d : Doing) (r : Reply) (heard : List ℕ) (a : ℕ) (b : Bool)
+  pub conn-left : (fd : ℕ) (kept : List ℕ) (q : Answer) (d : Doing) (r : Reply) (heard : List ℕ) (a : ℕ) (b : Bool)
       → StepsTo m (event.Call server (conn_wants b fd (at kept q d))) r n → conn.uses_agg d a ≡ true
       → conn.uses_agg (conn.told (at kept q d) r heard).doing a ≡ false → lent_at n server a ≡ None
   conn-left fd kept q d r heard a false step u unused = gone fd kept q d r heard a step u unused

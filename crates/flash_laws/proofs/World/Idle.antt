@@ -19,12 +19,13 @@ use Rattle.flash_laws.specs.ClientFits.{output_of, Fits, FitsRun}
 use Rattle.flash_laws.specs.Conn.{Conn}
 use Rattle.flash_laws.specs.Crew.{Crew, IsFixedFor}
 use Rattle.flash_laws.specs.Done.{IsFull, StaysOpen}
+use Rattle.flash_laws.specs.Fits.{IsLent}
 use Rattle.flash_laws.specs.Idle.{WouldWait, Blocks, AllBlock, server_settled}
 use Rattle.flash_laws.specs.Past.{Past}
 use Rattle.flash_laws.specs.Places.{is_run_by, has_free, may_go, runs_scripts, filed}
 use Rattle.flash_laws.specs.RunFits.{Progress}
 use Rattle.flash_laws.specs.RunOffers.{past_of as past_taken, taken_by}
-use Rattle.flash_laws.specs.Served.{Held, Aside, AllFit}
+use Rattle.flash_laws.specs.Served.{Held, Aside, AllFit, IsUsed, AreOwned}
 use Rattle.flash_laws.specs.Shelf.{Shelf, IsAnswer, due_to}
 use Rattle.flash_laws.specs.Sharing.{RunsForAnother}
 use Rattle.flash_laws.specs.Site.{server}
@@ -63,7 +64,7 @@ some-workers true named count asks runs = grind (arith, nat_tests, runs)
 some-workers false named count asks runs = absurd (cc (asks))
 
 module _ (shelf : Shelf) (crew : Crew) (laws : AllLaws crew) (m : State) (order : IsOrderly m) (fixed : IsFixedFor shelf crew m) (p : Past) (clients : List (Option Client))
-    (seats : List (Seat crew.Worker)) (all : AllFit shelf crew m p clients seats) (workers : ℕ) (count : workers ≡ crew.count) (settled : WorkersAreSettled crew m seats)
+    (seats : List (Seat crew.Worker)) (all : AllFit shelf crew m p clients seats) (all_owned : AreOwned m p clients) (workers : ℕ) (count : workers ≡ crew.count) (settled : WorkersAreSettled crew m seats)
     (blocked : AllBlock m server workers clients) where
   -- a client that waits for a worker, where none is free
   record IsPassedOver (x : Client) : Type 0 where
@@ -244,12 +245,17 @@ module _ (shelf : Shelf) (crew : Crew) (laws : AllLaws crew) (m : State) (order 
       by (inr (inl held)) = ((all.each fd x is).conn, place-open fd x is, held)
       by (inr (inr over)) = absurd (clash (uses_agg x a) uses ((workers_shared.waiting x (workers_shared.waits workers clients fd x is over.passed).0).0 a))
 
+  -- and the server has no aggregate but what such a client uses, or was given to it
+  owned : (a : ℕ) → IsLent m a → ((used : IsUsed clients a) × IsHeldUpAt m used.fd) ⊎ (p.given a ≡ true)
+  owned a lent = elim (all_owned a lent) [ inl used ↦ inl (used, lends used.fd a used.client used.at used.uses) | inr given ↦ inr given ]
+
   all-done : IsDone shelf crew.count m p clients
   all-done = record {
     accepted = λ c net. accepted c net (all.others c);
     answered = λ c net was live. answered c net was live (all.others c);
     closes = λ c net was. closes c net was (all.others c);
     lends = lends;
+    owned = owned;
   }
 
 -- a worker's seat is the next after the server's
@@ -266,4 +272,5 @@ module _ (crew : Crew) (laws : AllLaws crew) where
       (ap (λ (l : List (Seat (Actor crew.Worker))). slice_get l (suc k)) s.seats ∙ seat-of s.workers k v sits) in
       let same : filed s.state.workers s.state.clients s.state.flight s.last s.serves.heard ≡ s.state.clients = filed-same laws.left.waits after.machine server s.state s.last s.serves.heard is.0 in
       all-done shelf crew laws after.machine tied.order tied.fixed (past_of xs rs) s.state.clients s.workers
-      (subst (λ (l : List (Option Client)). AllFit shelf crew after.machine (past_of xs rs) l s.workers) same s.serves.fit) s.state.workers s.serves.count workers is.1
+      (subst (λ (l : List (Option Client)). AllFit shelf crew after.machine (past_of xs rs) l s.workers) same s.serves.fit)
+      (subst (λ (l : List (Option Client)). AreOwned after.machine (past_of xs rs) l) same s.serves.owned) s.state.workers s.serves.count workers is.1

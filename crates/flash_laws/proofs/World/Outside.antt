@@ -93,27 +93,27 @@ module _ (shelf : Shelf) (crew : Crew) (laws : AllLaws crew) where
     where
       by : (r : Reply) → o.MakesConn m pool r n → StepsTo m (event.ConnNew pool) r n → AllFit shelf crew n (and_then p (event.ConnNew pool) r) clients seats
       by (reply.Conn c) did step = connects shelf crew laws m n p clients seats pool c order fixed site step all
-      by (reply.Refused x) did step = nothing shelf crew m n p clients seats (event.ConnNew pool) (reply.Refused x) did (past-same p (event.ConnNew pool) (reply.Refused x) (λ c. refl) (λ c. refl) (λ c. refl) (λ c. refl)) all
+      by (reply.Refused x) did step = nothing shelf crew m n p clients seats (event.ConnNew pool) (reply.Refused x) did (past-same p (event.ConnNew pool) (reply.Refused x) (λ c. refl) (λ c. refl) (λ c. refl) (λ c. refl) (λ a. refl)) all
       by r did step = absurd did
   acts m n p clients seats (event.Arrive c bytes) r order order_n fixed act site step all = by r (laws.the.other.arrive m n c bytes r order step) step
     where
       by : (r : Reply) → o.Arrives m c bytes r n → StepsTo m (event.Arrive c bytes) r n → AllFit shelf crew n (and_then p (event.Arrive c bytes) r) clients seats
       by (reply.Count k) did step = arrives shelf crew laws m n p clients seats c bytes k order fixed site step all
-      by (reply.Refused x) did step = nothing shelf crew m n p clients seats (event.Arrive c bytes) (reply.Refused x) did (past-same p (event.Arrive c bytes) (reply.Refused x) (λ z. refl) (λ z. refl) (λ z. refl) (λ z. refl)) all
+      by (reply.Refused x) did step = nothing shelf crew m n p clients seats (event.Arrive c bytes) (reply.Refused x) did (past-same p (event.Arrive c bytes) (reply.Refused x) (λ z. refl) (λ z. refl) (λ z. refl) (λ z. refl) (λ a. refl)) all
       by r did step = absurd did
   acts m n p clients seats (event.PeerClosed c w) r order order_n fixed act site step all = by r (laws.the.other.peer_closed m n c w r order step) step
     where
       by : (r : Reply) → o.PeerCloses m c w r n → StepsTo m (event.PeerClosed c w) r n → AllFit shelf crew n (and_then p (event.PeerClosed c w) r) clients seats
       by reply.Done did step = subst (λ (q : Past). AllFit shelf crew n q clients seats) (sym (past-told p c w)) (peer_closes shelf crew laws m n p clients seats c w order order_n fixed site step all)
-      by (reply.Refused x) did step = nothing shelf crew m n p clients seats (event.PeerClosed c w) (reply.Refused x) did (past-same p (event.PeerClosed c w) (reply.Refused x) (λ z. refl) (λ z. refl) (λ z. refl) (λ z. none-told c z w x)) all
+      by (reply.Refused x) did step = nothing shelf crew m n p clients seats (event.PeerClosed c w) (reply.Refused x) did (past-same p (event.PeerClosed c w) (reply.Refused x) (λ z. refl) (λ z. refl) (λ z. refl) (λ z. none-told c z w x) (λ a. refl)) all
       by r did step = absurd did
   acts m n p clients seats (event.Transmit c max) r order order_n fixed act site step all = by r (laws.the.other.transmit m n c max r order step) step
     where
       by : (r : Reply) → o.Transmits m c max r n → StepsTo m (event.Transmit c max) r n → AllFit shelf crew n (and_then p (event.Transmit c max) r) clients seats
       by (reply.Segment bytes sum) did step = transmits shelf crew laws m n p clients seats c max bytes sum order order_n fixed site step all
-      by (reply.Refused x) did step = nothing shelf crew m n p clients seats (event.Transmit c max) (reply.Refused x) did (past-same p (event.Transmit c max) (reply.Refused x) (λ z. refl) (λ z. refl) (λ z. refl) (λ z. refl)) all
+      by (reply.Refused x) did step = nothing shelf crew m n p clients seats (event.Transmit c max) (reply.Refused x) did (past-same p (event.Transmit c max) (reply.Refused x) (λ z. refl) (λ z. refl) (λ z. refl) (λ z. refl) (λ a. refl)) all
       by r did step = absurd did
   acts m n p clients seats event.Flush r order order_n fixed act site step all =
-      nothing shelf crew m n p clients seats event.Flush r (does-nothing (meaning m event.Flush) m n (outcome r) refl step) (past-same p event.Flush r (λ z. refl) (λ z. refl) (λ z. refl) (λ z. refl)) all
+      nothing shelf crew m n p clients seats event.Flush r (does-nothing (meaning m event.Flush) m n (outcome r) refl step) (past-same p event.Flush r (λ z. refl) (λ z. refl) (λ z. refl) (λ z. refl) (λ a. refl)) all
   acts m n p clients seats event.DropClean r order order_n fixed act site step all =
-      nothing shelf crew m n p clients seats event.DropClean r (does-nothing (meaning m event.DropClean) m n (outcome r) refl step) (past-same p event.DropClean r (λ z. refl) (λ z. refl) (λ z. refl) (λ z. refl)) all
+      nothing shelf crew m n p clients seats event.DropClean r (does-nothing (meaning m event.DropClean) m n (outcome r) refl step) (past-same p event.DropClean r (λ z. refl) (λ z. refl) (λ z. refl) (λ z. refl) (λ a. refl)) all

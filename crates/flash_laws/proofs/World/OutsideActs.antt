@@ -15,10 +15,10 @@ use Rattle.iol_laws.proofs.Streams.Remaining.{Went, went-out}
 use Rattle.iol_proc.specs.declared.seat.Seat.{Seat}
 use Rattle.flash_laws.specs.Client.{Client}
 use Rattle.flash_laws.specs.Crew.{Crew, IsFixedFor}
-use Rattle.flash_laws.specs.Past.{Past, net_pool, and_then}
+use Rattle.flash_laws.specs.Past.{Past, and_then}
 use Rattle.flash_laws.specs.Served.{Aside, AllFit}
 use Rattle.flash_laws.specs.Shelf.{Shelf, Begins, IsAnswer}
-use Rattle.flash_laws.specs.Site.{KeepsSite}
+use Rattle.flash_laws.specs.Site.{net_pool, KeepsSite}
 use Rattle.flash_laws.specs.Tied.{Waits}
 use Rattle.flash_laws.proofs.Lists.{not-equal, self}
 use Rattle.flash_laws.proofs.Pasts.{or-false, or-left}

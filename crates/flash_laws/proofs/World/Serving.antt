@@ -21,7 +21,7 @@ use Rattle.flash_laws.specs.Crew.{Crew, IsFixedFor}
 use Rattle.flash_laws.specs.Fits.{Names}
 use Rattle.flash_laws.specs.Past.{Past}
 use Rattle.flash_laws.specs.Places.{EachHasItsOwn, first_free, filed, told_at}
-use Rattle.flash_laws.specs.Served.{AllFit}
+use Rattle.flash_laws.specs.Served.{AllFit, AreOwned}
 use Rattle.flash_laws.specs.Serves.{Server, heard_of, filed_in, Picks, Made}
 use Rattle.flash_laws.specs.Shelf.{Shelf}
 use Rattle.flash_laws.specs.Site.{server, KeepsSite}
@@ -39,7 +39,9 @@ use Rattle.flash_laws.proofs.World.Accept.{ready_turn, accept_turn}
 use Rattle.flash_laws.proofs.World.AllLaws.{AllLaws}
 use Rattle.flash_laws.proofs.World.Calls.{is_client_call, kind-ends, kind-default, calls-alone}
 use Rattle.flash_laws.proofs.World.Fixed.{Goes}
-use Rattle.flash_laws.proofs.World.OwnTurn.{own_turn}
+use Rattle.flash_laws.proofs.World.OwnAggs.{owned-own}
+use Rattle.flash_laws.proofs.World.OwnTurn.{IsOwnTurn, own_turn}
+use Rattle.flash_laws.proofs.World.Owning.{owned-ready, owned-accept}
 
 abbrev of : Conn → Option Running → List ℕ → Client
 of c run script = record { conn = c; run = run; script = script }
@@ -72,9 +74,10 @@ module _ (shelf : Shelf) (crew : Crew) (laws : AllLaws crew) where
       pub heard : List ℕ
       pub names : Names n r heard
       pub fit : AllFit shelf crew n p (filed crew.count after next r heard) seats
+      pub owned : AreOwned n p (filed crew.count after next r heard)
 
   module _ (m n : State) (p : Past) (clients after : List (Option Client)) (next : Flight) (r : Reply) (made : Turn) (seats : List (Seat crew.Worker)) (order : IsOrderly m)
-      (fixed : IsFixedFor shelf crew m) (fit : AllFit shelf crew m p clients seats) (calm : is_rough r ≡ false) (did : Made m made r n) where
+      (fixed : IsFixedFor shelf crew m) (fit : AllFit shelf crew m p clients seats) (owned : AreOwned m p clients) (calm : is_rough r ≡ false) (did : Made m made r n) where
     -- a call of the server's leaves the site
     goes-by : (k : Call) → StepsTo m (event.Call server k) r n → is_client_call k ≡ true → KeepsSite m n → Goes m n
     goes-by k step kind site = inr (record { e = event.Call server k; r = r; step = step; site = site; lives = kind-ends k kind; default = kind-default k kind })
@@ -90,6 +93,7 @@ module _ (shelf : Shelf) (crew : Crew) (laws : AllLaws crew) where
               heard = [];
               names = subst (λ (z : Reply). Names n z []) (sym none.0) refl;
               fit = subst (λ w. AllFit shelf crew n p (filed crew.count after w r []) seats) (sym is) (subst (λ (z : State). AllFit shelf crew z p after seats) (sym none.1) (subst (λ (xs : List (Option Client)). AllFit shelf crew m p xs seats) (sym picks.0) fit));
+              owned = subst (λ w. AreOwned n p (filed crew.count after w r [])) (sym is) (subst (λ (z : State). AreOwned z p after) (sym none.1) (subst (λ (xs : List (Option Client)). AreOwned m p xs) (sym picks.0) owned));
             }
         by Accepting is picks =
             let step : StepsTo m (event.Call server call.Accept) r n = subst (λ (z : Turn). Made m z r n) picks.1 did in
@@ -102,6 +106,8 @@ module _ (shelf : Shelf) (crew : Crew) (laws : AllLaws crew) where
               names = hear.1;
               fit = subst (λ w. AllFit shelf crew n p (filed crew.count after w r hear.0) seats) (sym is)
                   (accept_turn shelf crew laws m n p after r seats order fixed there step (workers_shared.filing crew.count after Accepting r hear.0 there.own tt));
+              owned = subst (λ w. AreOwned n p (filed crew.count after w r hear.0)) (sym is)
+                  (owned-accept shelf crew laws m n p after r seats order there step (subst (λ (xs : List (Option Client)). AreOwned m p xs) (sym picks.0) owned));
             }
         by (At fd) is picks =
             let own = own-picked crew.count clients fit.own made after (At fd) picks in
@@ -113,7 +119,7 @@ module _ (shelf : Shelf) (crew : Crew) (laws : AllLaws crew) where
             let step : StepsTo m (event.Call server (wants shelf.scripts fd picks.ready)) r n = subst (λ (z : Turn). Made m z r n) call_is did in
             let alone = calls-alone shelf crew laws m (p.came at.conn) (p.sent at.conn) fd at.conn seats picks.ready.conn picks.ready.run picks.ready.script at.fits in
             let hear = hears m n (wants shelf.scripts fd picks.ready) r order step alone.kind in
-            let went = own_turn shelf crew laws m n p after fd picks.ready r hear.0 seats (record {
+            let own_call : IsOwnTurn shelf crew m n p after fd picks.ready r hear.0 seats = record {
               order = order;
               order_after = laws.the.orders.step m n (event.Call server (wants shelf.scripts fd picks.ready)) r order step;
               fixed = fixed;
@@ -124,7 +130,9 @@ module _ (shelf : Shelf) (crew : Crew) (laws : AllLaws crew) where
               smooth = calm;
               step = step;
               names = hear.1;
-            }) in
+            } in
+            let went = own_turn shelf crew laws m n p after fd picks.ready r hear.0 seats own_call in
+            let used : AreOwned m p after = subst (λ (xs : List (Option Client)). AreOwned m p xs) (sym picks.after_is) (owned-ready m p clients fd picks.was picks.ready picks.there picks.readies owned) in
             record {
               goes = goes-by (wants shelf.scripts fd picks.ready) step alone.kind went.0;
               heard = hear.0;
@@ -132,6 +140,10 @@ module _ (shelf : Shelf) (crew : Crew) (laws : AllLaws crew) where
               fit = subst (λ w. AllFit shelf crew n p (filed crew.count after w r hear.0) seats) (sym is)
                   (subst (λ (o : Option Client). AllFit shelf crew n p (told_at crew.count after fd o r hear.0) seats) (sym there)
                   (subst (λ b. AllFit shelf crew n p (with_at after fd (left_over (told b (first_free crew.count after) picks.ready r hear.0))) seats) fixed.scripts went.1));
+              owned = subst (λ w. AreOwned n p (filed crew.count after w r hear.0)) (sym is)
+                  (subst (λ (o : Option Client). AreOwned n p (told_at crew.count after fd o r hear.0)) (sym there)
+                  (subst (λ b. AreOwned n p (with_at after fd (left_over (told b (first_free crew.count after) picks.ready r hear.0)))) fixed.scripts
+                  (owned-own shelf crew laws m n p after fd picks.ready r hear.0 seats own_call used)));
             }
 
   -- so between two turns all fit
@@ -146,12 +158,16 @@ module _ (shelf : Shelf) (crew : Crew) (laws : AllLaws crew) where
       heard = went.heard;
       names = went.names;
       fit = subst (λ k. AllFit shelf crew n p (filed k t.clients t.flight r went.heard) seats) (sym (same ∙ was.count)) went.fit;
+      owned = subst (λ k. AreOwned n p (filed k t.clients t.flight r went.heard)) (sym (same ∙ was.count)) went.owned;
     },
   )
     where
       fit : AllFit shelf crew m p (filed_in s last (λ a. lent_to m server a)) seats
       fit = subst (λ (xs : List (Option Client)). AllFit shelf crew m p xs seats) (sym (heard-is m last was.heard fixed.site.lives was.names s.workers s.clients s.flight)) was.fit
 
+      owned : AreOwned m p (filed_in s last (λ a. lent_to m server a))
+      owned = subst (λ (xs : List (Option Client)). AreOwned m p xs) (sym (heard-is m last was.heard fixed.site.lives was.names s.workers s.clients s.flight)) was.owned
+
       went : Flies m n p r seats t.clients t.flight
-      went = picked m n p (filed_in s last (λ a. lent_to m server a)) t.clients t.flight r made seats order fixed fit calm did
+      went = picked m n p (filed_in s last (λ a. lent_to m server a)) t.clients t.flight r made seats order fixed fit owned calm did
           (subst (λ k. Picks k (filed_in s last (λ a. lent_to m server a)) t.flight made t.clients) was.count picks)

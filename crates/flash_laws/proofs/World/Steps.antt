@@ -28,7 +28,7 @@ use Rattle.flash_laws.specs.Fits.{Names}
 use Rattle.flash_laws.specs.Past.{Past, and_then, IsAct}
 use Rattle.flash_laws.specs.Places.{filed}
 use Rattle.flash_laws.specs.Running.{worker_domain}
-use Rattle.flash_laws.specs.Served.{AllFit}
+use Rattle.flash_laws.specs.Served.{AllFit, AreOwned}
 use Rattle.flash_laws.specs.Serves.{Policy, Made}
 use Rattle.flash_laws.specs.Shelf.{Shelf}
 use Rattle.flash_laws.specs.Site.{server, KeepsSite}
@@ -38,10 +38,11 @@ use Rattle.flash_laws.proofs.Answering.{some-inj}
 use Rattle.flash_laws.proofs.Lent.{lent-stays}
 use Rattle.flash_laws.proofs.Lists.{clash}
 use Rattle.flash_laws.proofs.Others.{other-gives, other-ends, site-stays}
-use Rattle.flash_laws.proofs.Pasts.{past-same, past-outside, past-turn, even-more}
+use Rattle.flash_laws.proofs.Pasts.{past-called, past-outside, past-turn, even-more}
 use Rattle.flash_laws.proofs.World.AllLaws.{AllLaws}
 use Rattle.flash_laws.proofs.World.Fixed.{Goes, other-default, fixed-on, order-on}
 use Rattle.flash_laws.proofs.World.Outside.{others_call, acts}
+use Rattle.flash_laws.proofs.World.Owning.{fit-called, call-brings, act-brings, owned-outside, owned-same}
 use Rattle.flash_laws.proofs.World.Serving.{server_turn}
 use Rattle.flash_laws.proofs.World.TurnLeaves.{IsCallOf, what-came, keeps-site}
 use Rattle.flash_laws.proofs.World.WorkerTurn.{IsQuiet, worker_turn}
@@ -89,10 +90,6 @@ act-ends e act = refl
 act-default : (e : Event) → IsAct e → sets_default e server ≡ false
 act-default (event.Call d k) act = absurd act
 act-default e act = refl
-
--- a call brings nothing in and sends nothing
-past-call : (p : Past) (d : ℕ) (k : Call) (r : Reply) → and_then p (event.Call d k) r ≡ p
-past-call p d k r = past-same p (event.Call d k) r (λ z. refl) (λ z. refl) (λ z. refl) (λ z. refl)
 
 names-stay : (steps : EachStepLeavesTheRest) (m n : State) (e : Event) (r last : Reply) (heard : List ℕ)
     → StepsTo m e r n → ((a : ℕ) → gives_up e server a ≡ false) → Names m last heard → Names n last heard
@@ -188,7 +185,7 @@ module _ (may : Policy) (shelf : Shelf) (crew : Crew) (laws : AllLaws crew) wher
               last = s.last;
               workers = slice_set s.workers i next;
               seats = seats;
-              serves = record { count = s.serves.count; heard = s.serves.heard; names = names came.0; fit = went.1 };
+              serves = record { count = s.serves.count; heard = s.serves.heard; names = names came.0; fit = went.1; owned = owned went.0 };
             },
           )
         where
@@ -223,6 +220,10 @@ module _ (may : Policy) (shelf : Shelf) (crew : Crew) (laws : AllLaws crew) wher
             lives = other-ends seat.by called.0 not-server;
             default = other-default seat.by called.0 not-server;
           })
+
+          owned : IsQuiet w.machine seat.by after.machine → AreOwned after.machine p clients
+          owned (inl same) = subst (λ (z : State). AreOwned z p clients) (sym same) s.serves.owned
+          owned (inr left) = owned-same w.machine after.machine p clients (λ a. left.1.aggs server a (λ is. not-server (sym is))) s.serves.owned
 
           names : IsCallOf w.machine seat.by r after.machine → Names after.machine s.last s.serves.heard
           names (inl same) = subst (λ (z : State). Names z s.last s.serves.heard) (sym same) s.serves.names
@@ -281,9 +282,12 @@ module _ (may : Policy) (shelf : Shelf) (crew : Crew) (laws : AllLaws crew) wher
           count = s.serves.count;
           heard = s.serves.heard;
           names = names-stay laws.the.steps w.machine after.machine (event.Call d k) r s.last s.serves.heard step (λ a. other-gives d k a not_one) s.serves.names;
-          fit = subst (λ (q : Past). AllFit shelf crew after.machine q (filed s.state.workers s.state.clients s.state.flight s.last s.serves.heard) s.workers) (sym (past-call p d k r))
+          fit = subst (λ (q : Past). AllFit shelf crew after.machine q (filed s.state.workers s.state.clients s.state.flight s.last s.serves.heard) s.workers) (sym (past-called p d k r))
+              (fit-called shelf crew after.machine p (filed s.state.workers s.state.clients s.state.flight s.last s.serves.heard) s.workers d k r
               (others_call shelf crew laws w.machine after.machine p (filed s.state.workers s.state.clients s.state.flight s.last s.serves.heard) s.workers d k r order
-              (laws.the.orders.step w.machine after.machine (event.Call d k) r order step) fixed not_one no_worker calm.1 step s.serves.fit);
+              (laws.the.orders.step w.machine after.machine (event.Call d k) r order step) fixed not_one no_worker calm.1 step s.serves.fit));
+          owned = owned-outside laws.aggs w.machine after.machine p (filed s.state.workers s.state.clients s.state.flight s.last s.serves.heard) (event.Call d k) r step
+              (λ a. call-brings d k r a not_one) s.serves.owned;
         };
       },
     )
@@ -314,6 +318,9 @@ module _ (may : Policy) (shelf : Shelf) (crew : Crew) (laws : AllLaws crew) wher
                   fit = subst (λ (g : Event). AllFit shelf crew after.machine (and_then p g r) (filed s.state.workers s.state.clients s.state.flight s.last s.serves.heard) s.workers) (sym is)
                       (acts shelf crew laws w.machine after.machine p (filed s.state.workers s.state.clients s.state.flight s.last s.serves.heard) s.workers f r order
                       (laws.the.orders.step w.machine after.machine f r order step) fixed act same step s.serves.fit);
+                  owned = subst (λ (g : Event). AreOwned after.machine (and_then p g r) (filed s.state.workers s.state.clients s.state.flight s.last s.serves.heard)) (sym is)
+                      (owned-outside laws.aggs w.machine after.machine p (filed s.state.workers s.state.clients s.state.flight s.last s.serves.heard) f r step
+                      (λ a. act-brings f r a act) s.serves.owned);
                 };
               },
             )

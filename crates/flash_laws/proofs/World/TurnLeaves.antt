@@ -24,13 +24,13 @@ use Rattle.flash_laws.specs.ClientFits.{Fits, output_of}
 use Rattle.flash_laws.specs.ClientKeeping.{has_fd}
 use Rattle.flash_laws.specs.Conn.{Conn}
 use Rattle.flash_laws.specs.Crew.{Crew, IsFixedFor}
-use Rattle.flash_laws.specs.Past.{Past, net_pool}
+use Rattle.flash_laws.specs.Past.{Past}
 use Rattle.flash_laws.specs.Places.{has_worker, is_run_by}
 use Rattle.flash_laws.specs.RunFits.{Progress}
 use Rattle.flash_laws.specs.Running.{worker_domain}
 use Rattle.flash_laws.specs.Served.{FitsAt, AllFit}
 use Rattle.flash_laws.specs.Shelf.{Shelf}
-use Rattle.flash_laws.specs.Site.{server, IsFixed, KeepsSite}
+use Rattle.flash_laws.specs.Site.{server, net_pool, IsFixed, KeepsSite}
 use Rattle.flash_laws.specs.Stages.{HasWorkerAt}
 use Rattle.flash_laws.specs.declared.running.Run.{Run}
 use Rattle.flash_laws.specs.declared.running.Step.{Step}

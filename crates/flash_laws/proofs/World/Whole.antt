@@ -19,7 +19,7 @@ use Rattle.flash_laws.specs.Places.{filed}
 use Rattle.flash_laws.specs.Served.{Held, Aside, AllFit, AreAnswered}
 use Rattle.flash_laws.specs.Shelf.{Shelf, Begins, IsAnswer}
 use Rattle.flash_laws.specs.Site.{server}
-use Rattle.flash_laws.specs.Tie.{made_over, gone_over, past_of, Actor}
+use Rattle.flash_laws.specs.Tie.{made_over, gone_over, given_over, past_of, Actor}
 use Rattle.flash_laws.specs.World.{server_with, Tied, IsNew, AllAnswered, ClosedAreWhole}
 use Rattle.flash_laws.specs.declared.running.Running.{Running}
 use Rattle.flash_laws.proofs.Answering.{WindowLaws}
@@ -31,7 +31,7 @@ use Rattle.flash_laws.proofs.World.Answering.{begins-none, begins-append, begins
 
 -- A new world is tied.
 pub first_tied : (shelf : Shelf) (crew : Crew) (w : Stage State (Actor crew.Worker)) → IsNew shelf crew w → Tied shelf crew [] [] w
-unfolding stream_over sent_over made_over gone_over
+unfolding stream_over sent_over made_over gone_over given_over
 first_tied shelf crew w new = record {
   even = refl;
   order = new.order;
@@ -56,6 +56,7 @@ first_tied shelf crew w new = record {
         free = λ k seat sits free. new.free k seat sits;
         desks = new.desks;
       };
+      owned = λ a lent. (let none = new.no_aggs a in let some = lent.1 in absurd (cc (none, some)));
     };
   };
 }
