@@ -1,13 +1,14 @@
 -- A site that was set up in a new machine: its world is new for the law over whole worlds.
-use Rattle.std.proofs.Common.{◌≡◌, ◌<◌, ℕ, List, [], ◌∷◌, refl, sym, subst, ap, arith, true, Bool, IsPermutation, map}
+use Rattle.std.proofs.Common.{◌≡◌, ◌<◌, ℕ, List, [], ◌∷◌, refl, sym, subst, ap, arith, None, true, Bool, IsPermutation, map}
 use Rattle.std.specs.Prelude.{unwrap_or}
 use Rattle.iol_core.specs.Access.{HasAccess}
 use Rattle.iol_core.specs.Positions.{ArePlaced}
 use Rattle.iol_core.specs.Run.{Run, StepsTo}
-use Rattle.iol_core.specs.State.{Domain, Pipe, State, conn_at, new_state}
+use Rattle.iol_core.specs.State.{Domain, Pipe, State, conn_at, domain, new_state}
 use Rattle.iol_core.specs.Text.{Text}
 use Rattle.iol_core.specs.declared.events.Event.{Event}
 use Rattle.iol_core.specs.declared.events.Reply.{Reply}
+use Rattle.iol_laws.specs.Caller.{lent_at}
 use Rattle.iol_laws.specs.Opening.{AreLow, DescriptorsComeByReplies}
 use Rattle.iol_laws.specs.Order.{IsOrderly, EachStepKeepsOrder}
 use Rattle.iol_proc.specs.World.{IsRising, Stage, copied, domains_of, seat_of}
@@ -16,6 +17,7 @@ use Rattle.iol_system.specs.Machine.{SystemState, machine_of}
 use Rattle.flash_cgi.specs.Free.{HasNoJob, WorkersStayFree}
 use Rattle.flash_cgi.specs.declared.worker.Worker.{Worker}
 use Rattle.flash_laws.specs.Running.{worker_domain}
+use Rattle.flash_laws.specs.Site.{server}
 use Rattle.flash_laws.specs.Tie.{Actor}
 use Rattle.flash_laws.specs.World.{DesksAreApart, IsNew}
 use Rattle.flash_laws.specs.WorkersRun.{IsFreeFor}
@@ -63,6 +65,11 @@ module _ (orders : EachStepKeepsOrder) (descriptors : DescriptorsComeByReplies) 
       default = ap (λ (d : Domain Text). is_shown (unwrap_or d.default 0)) (worker_there s slots k (within k lt));
     })
 
+    -- the server has no aggregate
+    no_aggregate : (a : ℕ) → lent_at (state_of s slots) server a ≡ None
+    unfolding domain
+    no_aggregate a = refl
+
     new_by : (seats : List (Seat (Actor Worker))) (rough : Bool) → is_in_range s ≡ true → Led (Just slots) s slots (state_of s slots) → HasCrew s seats → IsOrderly (state_of s slots)
         → HasAccess (state_of s slots) → ArePlaced (state_of s slots) → AreLow (state_of s slots) → IsNew (library_of s slots) (crew_of s) (record { machine = state_of s slots; seats = seats; rough = rough })
     unfolding conn_at
@@ -77,6 +84,7 @@ module _ (orders : EachStepKeepsOrder) (descriptors : DescriptorsComeByReplies) 
         desks = λ k lt. (has_desk s slots k (within k lt)).writes;
       };
       free = λ k seat is. free_at k (has.number k seat is) seat (has.each k seat is);
+      no_aggs = no_aggregate;
       no_conns = λ c. refl;
     }
 

@@ -21,7 +21,9 @@ use iol_proc::laws::idle_is_settled;
 /// where it holds, what was sent on each connection of the net begins the answer to what came on it,
 /// of files and of what scripts put out, and is all of it once the connection is closed, unless its
 /// peer left. Where all is idle nothing is left to do, but what waits for others: full queues, clients
-/// that wait for workers of such, and connections while the server has as many as it may (`IsDone`).
+/// that wait for workers of such, and connections while the server has as many as it may; and the
+/// server has no aggregate but what connections with a full queue use, or what calls from outside
+/// gave it (`IsDone`).
 pub fn connections_do_not_meet()
     ensures first { (s : Site) → TiedAtFirst (crew_of s) }
     ensures step { (s : Site) → StepKeepsTie in_rounds (crew_of s) }
