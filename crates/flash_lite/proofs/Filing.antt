@@ -33,7 +33,7 @@ none-mapped : (o : Option ℕ) → option_map (λ i. i + 1) o ≡ None → o ≡
 none-mapped None is = refl
 none-mapped (Some i) is = absurd (cc)
 
-position-past : {A : Type 0} (p : A → Bool) (z : A) (l : List A) → p z ≡ false → position p (z ∷ l) ≡ option_map (λ i. i + 1) (position p l)
+pub position-past : {A : Type 0} (p : A → Bool) (z : A) (l : List A) → p z ≡ false → position p (z ∷ l) ≡ option_map (λ i. i + 1) (position p l)
 position-past p z l is = position-cons p z l ∙ ap (λ (b : Bool). if b then Some 0 else option_map (λ i. i + 1) (position p l)) is
 
 pub position-here : {A : Type 0} (p : A → Bool) (z : A) (l : List A) → p z ≡ true → position p (z ∷ l) ≡ Some 0

@@ -1,5 +1,6 @@
 pub mod AnyStore
 pub mod Apart
+pub mod Marks
 pub mod Begun
 pub mod Desks
 pub mod Few
@@ -15,6 +16,7 @@ pub mod SiteFixed
 pub mod SiteSeats
 pub mod SiteWorld
 pub mod Offering
+pub mod Order
 pub mod Output
 pub mod Passing
 pub mod Piping

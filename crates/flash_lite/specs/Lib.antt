@@ -4,6 +4,7 @@ pub mod Heard
 pub mod Small
 pub mod Texts
 pub mod Onward
+pub mod Order
 pub mod Turning
 pub mod Workers
 pub mod Actors

@@ -13,11 +13,13 @@
 
 pub mod actor;
 mod answers;
+mod ascending;
 mod asking;
 pub mod client;
 pub mod conn;
 mod finding;
 mod heard;
+mod held;
 mod hired;
 pub mod host;
 pub mod laws;

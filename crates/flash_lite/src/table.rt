@@ -1,27 +1,25 @@
 //! What the server keeps: its clients, which call is out, and which of its workers are free.
-ghost use Rattle.std.specs.Prelude.{◌≡◌, ◌<◌, ◌≤◌, ◌+◌, ◌^◌, [], IfOk, IfSome};
+ghost use Rattle.std.specs.Prelude.{◌≡◌, ◌<◌, ◌≤◌, ◌+◌, [], IfOk};
 ghost use Rattle.std.specs.Prelude.{OnErr, Some, length, min, replicate, true};
 ghost use Rattle.iol_core.specs.Numbered.{in_place};
-ghost use Rattle.flash_laws.specs.Client.{new_client};
 ghost use Rattle.flash_laws.specs.Places.{runs_scripts};
-ghost use Rattle.flash_laws.specs.Tied.{grown, with_at};
-ghost use Rattle.flash_laws.specs.TurnWants.{MayWant, WantsFrom, WantsHere, WantsPlace};
+ghost use Rattle.flash_laws.specs.TurnWants.{MayWant, WantsFrom, WantsPlace};
 ghost use Rattle.flash_laws.specs.declared.doing.Flight.TheVariants.{Nothing, Accepting, At};
 ghost use Rattle.flash_lite.specs.Heard.{heard};
 ghost use Rattle.flash_lite.specs.Table.{IsKept};
-ghost use Rattle.flash_lite.specs.Turning.{CourseIn, MayRest, PicksFrom, Turns, first_in};
+ghost use Rattle.flash_lite.specs.Turning.{MayRest, PicksFrom, Turns, first_in};
 ghost use Rattle.flash_lite.specs.Turning.{has_in, left_at, most_with, worker_at};
 ghost use Rattle.flash_lite.specs.declared.site.TheConstants.{MAX_WORKERS};
 
-use crate::client::{Client, Course, Left};
+use crate::client::{Course, Left};
+use crate::held::Clients;
 use crate::hired::{first_free, turned, worker_left};
-use crate::picking::{door, ends, most_with, pick};
+use crate::picking::{door, most_with, pick};
 use crate::server::MAX_CONNS;
 use crate::site::MAX_WORKERS;
 use flash_laws::doing::Flight;
 use iol_agg::Parts;
 use iol_core::events::Reply;
-use iol_core::numbers::Fd;
 use iol_proc::process::Turn;
 use std::alloc::{AllocError, Global};
 use std::marker::Model;
@@ -30,116 +28,27 @@ use std::marker::Model;
 /// it is free.
 #[derive(Drop)]
 pub(crate) struct Table {
-    alloc: Global,
-    clients: Vec<Option<Client>>,
+    clients: Clients,
     flight: Flight,
     workers: u32,
     free: [bool; 8],
 }
 
 impl Model for Table {
-    ghost use Rattle.std.specs.Prelude.{◌≤◌, ◌^◌, length};
+    ghost use Rattle.std.specs.Prelude.{◌≤◌};
     ghost use Rattle.flash_lite.specs.Table.{Table as Kept};
     ghost use Rattle.flash_lite.specs.declared.site.TheConstants.{MAX_WORKERS};
 
     ghost Value = { Kept };
 
     ghost view = { λ s. record {
-      clients = s.clients.items;
+      clients = s.clients;
       flight = s.flight;
       workers = s.workers;
       free = s.free;
     } };
 
-    ghost invariant = { λ s. (length s.clients.items ≤ 2 ^ 32) × (s.workers ≤ MAX_WORKERS) };
-}
-
-// Makes places up to this one. Where it is there, that takes no memory.
-fn reach(clients: &mut Vec<Option<Client>>, place: u32) -> Result<(), AllocError>
-    ensures ok { IfOk result (λ _. clients.new.items ≡ grown clients.old.items place) }
-    ensures err { OnErr result (clients.new.items ≡ clients.old.items) }
-    ensures wants { OnErr result (length clients.old.items ≤ place) }
-{
-    let more = (place as usize + 1).saturating_sub(clients.len());
-    clients.reserve(more)?;
-    for _ in 0..more {
-        clients.push_reserved(None);
-    }
-    Ok(())
-}
-
-// With a new client in a place.
-fn admit(alloc: Global, clients: &mut Vec<Option<Client>>, place: u32) -> Result<(), AllocError>
-    requires { length clients.old.items ≤ 2 ^ 32 }
-    ensures ok { IfOk result
-        (λ _. clients.new.items ≡ with_at clients.old.items place (Some new_client)) }
-    ensures err { OnErr result (clients.new.items ≡ clients.old.items) }
-    ensures wants { OnErr result (length clients.old.items ≤ place) }
-    ensures length { length clients.new.items ≤ 2 ^ 32 }
-{
-    reach(clients, place)?;
-    clients[place as usize] = Some(Client::new(alloc));
-    Ok(())
-}
-
-// The worker that runs the script of the client in a place, if one does.
-fn worker_at(clients: &[Option<Client>], place: u32) -> Option<u32>
-    ensures worker { result ≡ worker_at clients.now place }
-    ensures within { IfSome result (λ worker. worker < MAX_WORKERS) }
-{
-    let at = place as usize;
-    if at >= clients.len() {
-        return None;
-    }
-    match &clients[at] {
-        Some(client) => client.worker(),
-        None => None,
-    }
-}
-
-// What the client in a place does after the reply to its call, if one is there.
-fn go_on_at(
-    scripts: bool,
-    worker: u32,
-    clients: &mut Vec<Option<Client>>,
-    fd: u32,
-    last: &Reply,
-    parts: Option<Parts<'_>>,
-) -> Result<Option<Course>, AllocError>
-    requires { worker < MAX_WORKERS }
-    ensures course { IfOk result (λ o. CourseIn scripts worker clients.old.items fd last.now
-        (heard parts.entry) o clients.new.items) }
-    ensures err { OnErr result (clients.new.items ≡ clients.old.items) }
-    ensures wants { OnErr result
-        (WantsHere scripts worker (in_place clients.old.items fd) last.now (heard parts.entry)) }
-    ensures length { length clients.new.items ≡ length clients.old.items }
-{
-    let at = fd as usize;
-    if at >= clients.len() {
-        return Ok(None);
-    }
-    match &mut clients[at] {
-        Some(client) => {
-            let course = client.go_on(scripts, Fd::new(fd), worker, last, parts)?;
-            Ok(Some(course))
-        }
-        None => Ok(None),
-    }
-}
-
-// What is in a place is left to others. A client whose connection is over is forgotten.
-fn leave_at(clients: &mut Vec<Option<Client>>, fd: u32, left: Left)
-    requires within { fd < length clients.old.items }
-    requires rests { MayRest (in_place clients.old.items fd) left }
-    ensures left { clients.new.items ≡ left_at clients.old.items fd left }
-    ensures length { length clients.new.items ≡ length clients.old.items }
-{
-    let slot = &mut clients[fd as usize];
-    if ends(&left) {
-        *slot = None;
-    } else if let Some(client) = slot {
-        client.leave(left);
-    }
+    ghost invariant = { λ s. s.workers ≤ MAX_WORKERS };
 }
 
 impl Table {
@@ -150,8 +59,7 @@ impl Table {
             ≡ record { clients = []; flight = Nothing; workers = workers; free = replicate 8 true } }
     {
         Table {
-            alloc,
-            clients: Vec::new(alloc),
+            clients: Clients::new(alloc),
             flight: Flight::Nothing,
             workers,
             free: [true; 8],
@@ -197,7 +105,7 @@ impl Table {
     {
         let free = self.free;
         let (scripts, has_free) = (self.scripts(), self.has_free(&free));
-        let (flight, turn) = pick(scripts, has_free, self.clients.as_slice(), from, MAX_CONNS)?;
+        let (flight, turn) = pick(scripts, has_free, &self.clients, from, MAX_CONNS)?;
         self.flight = flight;
         Ok(turn)
     }
@@ -214,10 +122,10 @@ impl Table {
         match last {
             Reply::Fd(fd) => {
                 let place = fd.number();
-                let was = worker_at(self.clients.as_slice(), place);
-                admit(self.alloc, &mut self.clients, place)?;
+                let was = self.clients.worker_at(place);
+                self.clients.admit(place)?;
                 self.free = turned(self.free, was, None);
-                let (flight, turn) = door(self.clients.as_slice(), MAX_CONNS);
+                let (flight, turn) = door(&self.clients, MAX_CONNS);
                 self.flight = flight;
                 Ok(turn)
             }
@@ -248,8 +156,8 @@ impl Table {
     {
         let (scripts, has_free) = (self.scripts(), self.has_free(&free));
         let (from, most) = (fd as usize + 1, most_with(&left));
-        let (flight, turn) = pick(scripts, has_free, self.clients.as_slice(), from, most)?;
-        leave_at(&mut self.clients, fd, left);
+        let (flight, turn) = pick(scripts, has_free, &self.clients, from, most)?;
+        self.clients.leave_at(fd, left);
         self.free = free;
         self.flight = flight;
         Ok(turn)
@@ -271,12 +179,12 @@ impl Table {
         ensures wants { OnErr result (MayWant self.old.workers self.old.clients (At fd) last.now
             (heard parts.entry)) }
     {
-        let was = worker_at(self.clients.as_slice(), fd);
+        let was = self.clients.worker_at(fd);
         let (scripts, worker) = (self.scripts(), self.worker());
-        match go_on_at(scripts, worker, &mut self.clients, fd, last, parts)? {
+        match self.clients.go_on_at(scripts, worker, fd, last, parts)? {
             None => self.pick_from(fd as usize + 1),
             Some(Course::Asks(call)) => {
-                let now = worker_at(self.clients.as_slice(), fd);
+                let now = self.clients.worker_at(fd);
                 self.free = turned(self.free, was, now);
                 Ok(Turn::Make(call))
             }

@@ -10,12 +10,12 @@ use Rattle.flash_lite.proofs.table.Table.go_on_accepting.Goals as goal
 
 pub returns-in_ok-admit-in-Fd-clause-turn : goal.returns-in_ok-admit-in-Fd-clause-turn
 returns-in_ok-admit-in-Fd-clause-turn c =
-    let s : Table = table c.self.inside.clients.items c.self.inside.flight c.self.inside.workers c.self.inside.free in
-    let t : Table = table c.admit.new.clients.items c.door-flight.result.0 c.self.inside.workers c.turned-self-inside.result in
+    let s : Table = table c.self.inside.clients c.self.inside.flight c.self.inside.workers c.self.inside.free in
+    let t : Table = table c.admit.new.self c.door-flight.result.0 c.self.inside.workers c.turned-self-inside.result in
     let came : c.args.last.now ≡ reply.Fd c.number-place.result = search rules in
-    let clients : c.admit.new.clients.items ≡ with_at c.self.inside.clients.items c.number-place.result (Some new_client) = search rules in
-    let flight : c.door-flight.result.0 ≡ door_to c.admit.new.clients.items MAX_CONNS = search rules in
-    let was : c.worker_at-was.result ≡ worker_at c.self.inside.clients.items c.number-place.result = search rules in
+    let clients : c.admit.new.self ≡ with_at c.self.inside.clients c.number-place.result (Some new_client) = search rules in
+    let flight : c.door-flight.result.0 ≡ door_to c.admit.new.self MAX_CONNS = search rules in
+    let was : c.worker_at-was.result ≡ worker_at c.self.inside.clients c.number-place.result = search rules in
     subst (λ (u : Table). Turns u c.args.last.now [] c.door-flight.result.1 t) c.self.view_is
     (accepted_turns s t c.number-place.result c.args.last.now c.worker_at-was.result c.door-flight.result.1
     (subst (λ (u : Table). IsKept u) (sym c.self.view_is) c.requires.kept) (ap (λ (u : Table). u.flight) c.self.view_is ∙ c.requires.accepts)

@@ -1,4 +1,4 @@
-use Rattle.std.proofs.Common.{◌≡◌, ◌∙◌, ap, subst, rules}
+use Rattle.std.proofs.Common.{◌≡◌, ◌∙◌, ap, subst}
 use Rattle.flash_laws.specs.Places.{runs_scripts}
 use Rattle.flash_lite.specs.Table.{Table}
 use Rattle.flash_lite.specs.Turning.{PicksFrom, has_in}
@@ -9,10 +9,9 @@ pub returns-clause-picks : goal.returns-clause-picks
 returns-clause-picks c =
     let scripts : c.scripts-scripts.result ≡ runs_scripts c.args.self.now.workers = c.scripts-scripts.ensures in
     let free : c.has_free-has_free.result ≡ has_in c.args.self.now.workers c.self.inside.free = c.has_free-has_free.ensures in
-    let slice : c.as_slice.result.now ≡ c.self.inside.clients.items = search rules in
     subst (λ l. PicksFrom (runs_scripts c.args.self.now.workers) (has_in c.args.self.now.workers c.args.self.now.free) l c.args.from MAX_CONNS c.in_ok-flight.flight c.in_ok-flight.turn)
-    (slice ∙ ap (λ (u : Table). u.clients) c.self.view_is)
-    (subst (λ b. PicksFrom (runs_scripts c.args.self.now.workers) b c.as_slice.result.now c.args.from MAX_CONNS c.in_ok-flight.flight c.in_ok-flight.turn)
+    (ap (λ (u : Table). u.clients) c.self.view_is)
+    (subst (λ b. PicksFrom (runs_scripts c.args.self.now.workers) b c.self.inside.clients c.args.from MAX_CONNS c.in_ok-flight.flight c.in_ok-flight.turn)
     (free ∙ ap (λ (u : Table). has_in c.args.self.now.workers u.free) c.self.view_is)
-    (subst (λ b. PicksFrom b c.has_free-has_free.result c.as_slice.result.now c.args.from MAX_CONNS c.in_ok-flight.flight c.in_ok-flight.turn)
+    (subst (λ b. PicksFrom b c.has_free-has_free.result c.self.inside.clients c.args.from MAX_CONNS c.in_ok-flight.flight c.in_ok-flight.turn)
     scripts c.in_ok-flight.ensures.picks))

@@ -1,6 +1,6 @@
 use Rattle.std.proofs.Common.{◌≡◌, ◌≤◌, ◌+◌, ◌-◌, ◌++◌, Option, None, replicate, vec_len, vec_capacity}
 use Rattle.flash_laws.specs.Client.{Client}
-use Rattle.flash_lite.proofs.table.reach.Given as goal
+use Rattle.flash_lite.proofs.held.reach.Given as goal
 
 -- so many places were added, and there is room for the others
 abbrev pub invariant-loop : goal.invariant-loop

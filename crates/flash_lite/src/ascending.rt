@@ -1,0 +1,66 @@
+//! Numbers of places in ascending order: one is found among them in a few steps.
+ghost use Rattle.std.specs.Prelude.{◌≡◌, ◌<◌, ◌≤◌, drop, filter, find, insert, length, nat_le, nat_lt, take};
+ghost use Rattle.std.specs.List.Sorted.{IsStrictlyIncreasing};
+ghost use Rattle.std.specs.Vec.{vec_capacity};
+ghost use Rattle.flash_lite.specs.Order.{begins_with, marked};
+
+// How many of these places are below that one.
+fn count_below(places: &[u32], place: usize) -> usize
+    requires { IsStrictlyIncreasing places.now }
+    ensures below { take result places.now ≡ filter (λ k. nat_lt k place) places.now }
+    ensures rest { drop result places.now ≡ filter (λ k. nat_le place k) places.now }
+    ensures within { result ≤ length places.now }
+{
+    places.partition_point(|k| (*k as usize) < place)
+}
+
+// Whether that place stands there among these.
+fn stands_at(places: &[u32], at: usize, place: u32) -> bool
+    ensures { result ≡ begins_with (drop at places.now) place }
+{
+    match places.get(at) {
+        Some(k) => *k == place,
+        None => false,
+    }
+}
+
+/// The first of these places from here on.
+pub(crate) fn first_from(places: &[u32], from: usize) -> Option<u32>
+    requires { IsStrictlyIncreasing places.now }
+    ensures { result ≡ find (λ k. nat_le from k) places.now }
+{
+    let at = count_below(places, from);
+    if at < places.len() {
+        Some(places[at])
+    } else {
+        None
+    }
+}
+
+// Puts a place in. There is room for it.
+fn put(places: &mut Vec<u32>, at: usize, place: u32)
+    requires within { at ≤ length places.old.items }
+    requires room { length places.old.items < vec_capacity places.old }
+    ensures items { places.new.items ≡ insert places.old.items at place }
+    ensures capacity { vec_capacity places.old ≤ vec_capacity places.new }
+{
+    let _put = places.insert(at, place).is_ok();
+}
+
+/// Puts a place among these, or takes it out. There is room for it.
+pub(crate) fn mark(places: &mut Vec<u32>, place: u32, there: bool)
+    requires ascends { IsStrictlyIncreasing places.old.items }
+    requires room { length (marked places.old.items place there) ≤ vec_capacity places.old }
+    ensures marked { places.new.items ≡ marked places.old.items place there }
+    ensures capacity { vec_capacity places.old ≤ vec_capacity places.new }
+{
+    let at = count_below(places.as_slice(), place as usize);
+    let stands = stands_at(places.as_slice(), at, place);
+    if there {
+        if !stands {
+            put(places, at, place);
+        }
+    } else if stands {
+        places.remove(at);
+    }
+}

@@ -1,0 +1,303 @@
+//! The clients, each in the place of its descriptor. Which of them may have its turn is found in a
+//! few steps, however many places there are.
+ghost use Rattle.std.specs.Prelude.{◌≡◌, ◌<◌, ◌≤◌, ◌+◌, ◌^◌, [], IfOk, IfSome, MatchOption};
+ghost use Rattle.std.specs.Prelude.{None, OnErr, Some, length, true, false};
+ghost use Rattle.std.specs.List.Sorted.{IsStrictlyIncreasing};
+ghost use Rattle.std.specs.Vec.{vec_capacity};
+ghost use Rattle.iol_core.specs.Numbered.{in_place, taken};
+ghost use Rattle.flash_laws.specs.Client.{new_client};
+ghost use Rattle.flash_laws.specs.Rounds.{goes_in, next_in};
+ghost use Rattle.flash_laws.specs.Tied.{grown, with_at};
+ghost use Rattle.flash_laws.specs.TurnWants.{WantsHere, wants_there};
+ghost use Rattle.flash_lite.specs.Heard.{heard};
+ghost use Rattle.flash_lite.specs.Order.{marked};
+ghost use Rattle.flash_lite.specs.Turning.{CallAt, CourseIn, MayRest, left_at, worker_at};
+ghost use Rattle.flash_lite.specs.declared.site.TheConstants.{MAX_WORKERS};
+
+use crate::ascending::{first_from, mark};
+use crate::client::{Client, Course, Left};
+use crate::picking::ends;
+use iol_agg::Parts;
+use iol_core::events::{Call, Reply};
+use iol_core::numbers::Fd;
+use std::alloc::{AllocError, Global};
+use std::marker::Model;
+
+/// The clients, each in the place of its descriptor; beside them, in ascending order, the places of
+/// all of them, and of those that may go while no worker is free.
+#[derive(Drop)]
+pub(crate) struct Clients {
+    alloc: Global,
+    places: Vec<Option<Client>>,
+    held: Vec<u32>,
+    going: Vec<u32>,
+}
+
+impl Model for Clients {
+    ghost use Rattle.std.specs.Prelude.{◌≤◌, ◌^◌, List, Option, length};
+    ghost use Rattle.std.specs.Vec.{vec_capacity};
+    ghost use Rattle.flash_laws.specs.Client.{Client as Kept};
+    ghost use Rattle.flash_lite.specs.Order.{TellsWhoGoes};
+
+    ghost Value = { List (Option Kept) };
+
+    ghost view = { λ s. s.places.items };
+
+    ghost invariant = { λ s. (length s.places.items ≤ 2 ^ 32) × TellsWhoGoes s.places.items
+        s.held.items s.going.items (vec_capacity s.held) (vec_capacity s.going) };
+}
+
+// Whether a client stands in a place that may have its turn. One that waits for a worker has it
+// only where one is free.
+fn goes_in(free: bool, place: &Option<Client>) -> bool
+    ensures { result ≡ goes_in free place.now }
+{
+    match place {
+        Some(client) => free || !client.awaits(),
+        None => false,
+    }
+}
+
+// Makes places up to this one. Where it is there, that takes no memory.
+fn reach(clients: &mut Vec<Option<Client>>, place: u32) -> Result<(), AllocError>
+    ensures ok { IfOk result (λ _. clients.new.items ≡ grown clients.old.items place) }
+    ensures err { OnErr result (clients.new.items ≡ clients.old.items) }
+    ensures wants { OnErr result (length clients.old.items ≤ place) }
+{
+    let more = (place as usize + 1).saturating_sub(clients.len());
+    clients.reserve(more)?;
+    for _ in 0..more {
+        clients.push_reserved(None);
+    }
+    Ok(())
+}
+
+// With a new client in a place.
+fn admit(alloc: Global, clients: &mut Vec<Option<Client>>, place: u32) -> Result<(), AllocError>
+    requires { length clients.old.items ≤ 2 ^ 32 }
+    ensures ok { IfOk result
+        (λ _. clients.new.items ≡ with_at clients.old.items place (Some new_client)) }
+    ensures err { OnErr result (clients.new.items ≡ clients.old.items) }
+    ensures wants { OnErr result (length clients.old.items ≤ place) }
+    ensures length { length clients.new.items ≤ 2 ^ 32 }
+{
+    reach(clients, place)?;
+    clients[place as usize] = Some(Client::new(alloc));
+    Ok(())
+}
+
+// The worker that runs the script of the client in a place, if one does.
+fn worker_at(clients: &[Option<Client>], place: u32) -> Option<u32>
+    ensures worker { result ≡ worker_at clients.now place }
+    ensures within { IfSome result (λ worker. worker < MAX_WORKERS) }
+{
+    let at = place as usize;
+    if at >= clients.len() {
+        return None;
+    }
+    match &clients[at] {
+        Some(client) => client.worker(),
+        None => None,
+    }
+}
+
+// What the client in a place does after the reply to its call, if one is there.
+fn go_on_at(
+    scripts: bool,
+    worker: u32,
+    clients: &mut Vec<Option<Client>>,
+    fd: u32,
+    last: &Reply,
+    parts: Option<Parts<'_>>,
+) -> Result<Option<Course>, AllocError>
+    requires { worker < MAX_WORKERS }
+    ensures course { IfOk result (λ o. CourseIn scripts worker clients.old.items fd last.now
+        (heard parts.entry) o clients.new.items) }
+    ensures err { OnErr result (clients.new.items ≡ clients.old.items) }
+    ensures wants { OnErr result
+        (WantsHere scripts worker (in_place clients.old.items fd) last.now (heard parts.entry)) }
+    ensures length { length clients.new.items ≡ length clients.old.items }
+{
+    let at = fd as usize;
+    if at >= clients.len() {
+        return Ok(None);
+    }
+    match &mut clients[at] {
+        Some(client) => {
+            let course = client.go_on(scripts, Fd::new(fd), worker, last, parts)?;
+            Ok(Some(course))
+        }
+        None => Ok(None),
+    }
+}
+
+// What is in a place is left to others. A client whose connection is over is forgotten.
+fn leave_at(clients: &mut Vec<Option<Client>>, fd: u32, left: Left)
+    requires within { fd < length clients.old.items }
+    requires rests { MayRest (in_place clients.old.items fd) left }
+    ensures left { clients.new.items ≡ left_at clients.old.items fd left }
+    ensures length { length clients.new.items ≡ length clients.old.items }
+{
+    let slot = &mut clients[fd as usize];
+    if ends(&left) {
+        *slot = None;
+    } else if let Some(client) = slot {
+        client.leave(left);
+    }
+}
+
+// The next call of the client in a place.
+fn call_at(
+    scripts: bool,
+    clients: &[Option<Client>],
+    place: u32,
+) -> Result<Option<Call>, AllocError>
+    requires { place < length clients.now }
+    ensures call { IfOk result (λ found. MatchOption found (in_place clients.now place ≡ None)
+        (λ call. CallAt scripts clients.now place call)) }
+    ensures wants { OnErr result (wants_there (in_place clients.now place) ≡ true) }
+{
+    match &clients[place as usize] {
+        Some(client) => {
+            let call = client.next_call(scripts, Fd::new(place))?;
+            Ok(Some(call))
+        }
+        None => Ok(None),
+    }
+}
+
+// Makes room for the numbers of all places up to this one.
+fn make_room(places: &mut Vec<u32>, place: u32) -> Result<(), AllocError>
+    ensures items { places.new.items ≡ places.old.items }
+    ensures room { vec_capacity places.old ≤ vec_capacity places.new }
+    ensures ok { IfOk result (λ _. place + 1 ≤ vec_capacity places.new) }
+    ensures wants { OnErr result (vec_capacity places.old ≤ place) }
+{
+    let more = (place as usize + 1).saturating_sub(places.len());
+    places.reserve(more)
+}
+
+// Notes whether a client is in a place, and whether it may go while no worker is free.
+fn note(clients: &[Option<Client>], held: &mut Vec<u32>, going: &mut Vec<u32>, place: u32)
+    requires within { place < length clients.now }
+    requires held { IsStrictlyIncreasing held.old.items }
+    requires going { IsStrictlyIncreasing going.old.items }
+    requires holds { length (marked held.old.items place (goes_in true (in_place clients.now place)))
+        ≤ vec_capacity held.old }
+    requires fits { length (marked going.old.items place (goes_in false (in_place clients.now place)))
+        ≤ vec_capacity going.old }
+    ensures held { held.new.items
+        ≡ marked held.old.items place (goes_in true (in_place clients.now place)) }
+    ensures going { going.new.items
+        ≡ marked going.old.items place (goes_in false (in_place clients.now place)) }
+    ensures holds { vec_capacity held.old ≤ vec_capacity held.new }
+    ensures fits { vec_capacity going.old ≤ vec_capacity going.new }
+{
+    let client = &clients[place as usize];
+    mark(held, place, goes_in(true, client));
+    mark(going, place, goes_in(false, client));
+}
+
+impl Clients {
+    /// None.
+    pub(crate) fn new(alloc: Global) -> Clients
+        ensures { result ≡ [] }
+    {
+        Clients {
+            alloc,
+            places: Vec::new(alloc),
+            held: Vec::new(alloc),
+            going: Vec::new(alloc),
+        }
+    }
+
+    /// How many there are.
+    pub(crate) fn count(&self) -> usize
+        ensures { result ≡ taken self.now }
+    {
+        self.held.len()
+    }
+
+    /// The first place from here on that has one that may go, where a worker is free or none.
+    pub(crate) fn next(&self, free: bool, from: usize) -> Option<u32>
+        ensures place { result ≡ next_in free self.now from }
+        ensures within { IfSome result (λ place. place < length self.now) }
+    {
+        if free {
+            first_from(self.held.as_slice(), from)
+        } else {
+            first_from(self.going.as_slice(), from)
+        }
+    }
+
+    /// The next call of the client in a place.
+    pub(crate) fn call_at(&self, scripts: bool, place: u32) -> Result<Option<Call>, AllocError>
+        requires { place < length self.now }
+        ensures call { IfOk result (λ found. MatchOption found (in_place self.now place ≡ None)
+            (λ call. CallAt scripts self.now place call)) }
+        ensures wants { OnErr result (wants_there (in_place self.now place) ≡ true) }
+    {
+        call_at(scripts, self.places.as_slice(), place)
+    }
+
+    /// The worker that runs the script of the client in a place, if one does.
+    pub(crate) fn worker_at(&self, place: u32) -> Option<u32>
+        ensures worker { result ≡ worker_at self.now place }
+        ensures within { IfSome result (λ worker. worker < MAX_WORKERS) }
+    {
+        worker_at(self.places.as_slice(), place)
+    }
+
+    /// With a new client in a place. Where that place was there, it takes no memory.
+    pub(crate) fn admit(&mut self, place: u32) -> Result<(), AllocError>
+        ensures ok { IfOk result (λ _. self.new ≡ with_at self.old place (Some new_client)) }
+        ensures err { OnErr result (self.new ≡ self.old) }
+        ensures wants { OnErr result (length self.old ≤ place) }
+    {
+        make_room(&mut self.held, place)?;
+        make_room(&mut self.going, place)?;
+        admit(self.alloc, &mut self.places, place)?;
+        note(
+            self.places.as_slice(),
+            &mut self.held,
+            &mut self.going,
+            place,
+        );
+        Ok(())
+    }
+
+    /// What the client in a place does after the reply to its call, if one is there.
+    pub(crate) fn go_on_at(
+        &mut self,
+        scripts: bool,
+        worker: u32,
+        fd: u32,
+        last: &Reply,
+        parts: Option<Parts<'_>>,
+    ) -> Result<Option<Course>, AllocError>
+        requires { worker < MAX_WORKERS }
+        ensures course { IfOk result (λ o. CourseIn scripts worker self.old fd last.now
+            (heard parts.entry) o self.new) }
+        ensures err { OnErr result (self.new ≡ self.old) }
+        ensures wants { OnErr result
+            (WantsHere scripts worker (in_place self.old fd) last.now (heard parts.entry)) }
+    {
+        match go_on_at(scripts, worker, &mut self.places, fd, last, parts)? {
+            Some(course) => {
+                note(self.places.as_slice(), &mut self.held, &mut self.going, fd);
+                Ok(Some(course))
+            }
+            None => Ok(None),
+        }
+    }
+
+    /// What is in a place is left to others. A client whose connection is over is forgotten.
+    pub(crate) fn leave_at(&mut self, fd: u32, left: Left)
+        requires within { fd < length self.old }
+        requires rests { MayRest (in_place self.old fd) left }
+        ensures { self.new ≡ left_at self.old fd left }
+    {
+        leave_at(&mut self.places, fd, left);
+        note(self.places.as_slice(), &mut self.held, &mut self.going, fd);
+    }
+}
