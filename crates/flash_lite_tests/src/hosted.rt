@@ -2,8 +2,8 @@
 use crate::checks::pass;
 use crate::host::{Kept, Plan, hosted};
 use crate::rows::{arrivals, is_sent};
-use iol_core::events::{Event, Reply};
-use iol_core::numbers::PoolId;
+use iol_core::events::{Call, Event, Reply};
+use iol_core::numbers::{DomainId, PoolId};
 use iol_core::refusals::Refusal;
 use iol_proc::choice::Choice;
 use std::alloc::{AllocError, Global};
@@ -56,4 +56,73 @@ fn is_answered(alloc: Global) -> Result<bool, Refusal> {
 #[test]
 fn head_of_curl_is_hosted(rt: HostRuntime) -> Result<(), Fail> {
     pass(is_answered(rt.alloc()))
+}
+
+// ---- scripts, and a guest's calls among the choices
+
+const SCRIPTED: [Kept<'static>; 2] = [
+    Kept {
+        name: "hello.cgi",
+        bytes: b"emit hello\nquery\nwc index.html\n",
+        private: false,
+    },
+    Kept {
+        name: "index.html",
+        bytes: b"hi\n",
+        private: false,
+    },
+];
+
+const GET_SCRIPT: &[u8] = b"GET /hello.cgi?q=1 HTTP/1.1\r\nHost: a\r\n\r\n";
+
+const OUTPUT: &[u8] =
+    b"HTTP/1.1 200 OK\r\nContent-Type: text/plain\r\nTransfer-Encoding: chunked\r\n\r\ne\r\nhello\nq=1\n1 3\n\r\n0\r\n\r\n";
+
+// A guest makes a pipe, which is its own affair.
+fn pipes(guest: u32) -> Choice {
+    let by = DomainId::new(guest);
+    let call = Call::Pipe;
+    Choice::Outside(Event::Call { by, call })
+}
+
+// Two connections come, with a script's request on one and a file's on the other, turns between.
+fn mixed_choices(alloc: Global, guest: u32) -> Result<Vec<Choice>, AllocError> {
+    let mut choices = Vec::new(alloc);
+    for (conn, stream) in [(1, GET_SCRIPT), (2, CURL)] {
+        let pool = PoolId::new(2);
+        choices.push(Choice::Outside(Event::ConnNew { pool }))?;
+        for event in arrivals(alloc, conn, stream, 7)? {
+            choices.push(Choice::Outside(event))?;
+            choices.push(Choice::Turn(DomainId::new(1)))?;
+        }
+        choices.push(pipes(guest))?;
+    }
+    Ok(choices)
+}
+
+// With so many workers, behind whose domains is that of the guest.
+fn are_answered(alloc: Global, workers: u32, guest: u32) -> Result<bool, Refusal> {
+    let plan = Plan {
+        workers,
+        ..Plan::of(&SCRIPTED)
+    };
+    let choices = mixed_choices(alloc, guest)?;
+    let (mut host, replies, idle) = hosted(alloc, &plan, choices.as_slice())?;
+    let is_well = idle
+        && !host.is_rough()
+        && replies.len() == choices.len()
+        && is_sent(&mut host, 1, OUTPUT)
+        && is_sent(&mut host, 2, ANSWER);
+    drop(host);
+    Ok(is_well)
+}
+
+#[test]
+fn script_and_file_are_hosted(rt: HostRuntime) -> Result<(), Fail> {
+    pass(are_answered(rt.alloc(), 1, 3))
+}
+
+#[test]
+fn eight_workers_are_hosted(rt: HostRuntime) -> Result<(), Fail> {
+    pass(are_answered(rt.alloc(), 8, 10))
 }
