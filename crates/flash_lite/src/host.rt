@@ -38,8 +38,8 @@ pub struct Hosted<B: Backing> {
 /// of their limits are `BadRange`. Any other refusal is that of the first call of the setup that was
 /// refused, or `Memory`; it drops all.
 ///
-/// With an honest store, and where calls from outside leave the site alone and no turn was rough, what
-/// comes of it is right: [`hosted_is_right`](crate::laws::hosted_is_right).
+/// With an honest store, and where calls from outside leave the site and its processes alone and no
+/// turn was rough, what comes of it is right: [`hosted_is_right`](crate::laws::hosted_is_right).
 pub fn host<B: Backing + Drop>(
     alloc: Global,
     config: Config,

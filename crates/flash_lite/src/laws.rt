@@ -49,10 +49,11 @@ pub fn set_up_is_a_new_world()
     workers_stay_free();
 }
 
-/// What [`host`](crate::host::host) gives is right, whatever the site, where what came from outside
-/// was mild and no turn was rough: what was sent on each connection of the net begins the answer to
-/// what came on it, be it for files or for scripts, and is all of it once it is closed, unless its
-/// peer left; where all is idle nothing is left to do, but what waits for others (`IsDone`).
+/// What [`host`](crate::host::host) gives over an honest store is right, whatever the site, where what
+/// came from outside was mild and no turn was rough: what was sent on each connection of the net
+/// begins the answer to what came on it, be it for files or for scripts, and is all of it once it is
+/// closed, unless its peer left; where all is idle nothing is left to do, but what waits for others
+/// (`IsDone`).
 pub fn hosted_is_right()
     ensures { HostedIsRight }
 {
