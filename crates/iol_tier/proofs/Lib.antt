@@ -1,0 +1,4 @@
+pub mod Joined
+pub mod Shifting
+pub mod Filling
+pub mod Turning

@@ -1,0 +1,95 @@
+//! Empty blocks at the ends.
+ghost use Rattle.std.specs.Prelude.{◌≡◌, ℕ, ◌+◌, ◌-◌, ◌*◌, ◌<◌, ◌≤◌, ◌^◌, length, max, OnOk, IsTrue, false};
+ghost use Rattle.iol_tier.specs.Blocks.{joined, AreFilled, AreWide, Becomes, Grows};
+
+use crate::block::Block;
+use crate::places::BLOCK;
+use std::alloc::{AllocError, Global};
+use std::collections::VecDeque;
+
+// The last block, which is empty, comes first.
+fn turn_right(blocks: &mut VecDeque<Block>, skip: usize)
+    requires filled { AreFilled blocks.old.items skip (length (joined blocks.old.items)) }
+    requires empty { skip + length (joined blocks.old.items) + 128 ≤ length blocks.old.items * 128 }
+    ensures { Becomes (joined blocks.old.items) (skip + 128) blocks.old.items blocks.new.items }
+{
+    if let Some(block) = blocks.pop_back() {
+        blocks.push_front_reserved(block);
+    }
+}
+
+// The first block, which is empty, comes last.
+fn turn_left(blocks: &mut VecDeque<Block>, skip: usize)
+    requires filled { AreFilled blocks.old.items skip (length (joined blocks.old.items)) }
+    requires empty { 128 ≤ skip }
+    requires places { skip + length (joined blocks.old.items) ≤ length blocks.old.items * 128 }
+    ensures { Becomes (joined blocks.old.items) (skip - 128) blocks.old.items blocks.new.items }
+{
+    if let Some(block) = blocks.pop_front() {
+        blocks.push_back_reserved(block);
+    }
+}
+
+/// Where a key is to come in from the left (or the right) and no place is free there, an empty block of the other end comes there.
+/// Gives the places before the first key then, and whether a key is to come in from the left.
+pub(crate) fn open_end(
+    blocks: &mut VecDeque<Block>,
+    skip: usize,
+    len: usize,
+    left: bool,
+) -> (usize, bool)
+    requires len { len ≡ length (joined blocks.old.items) }
+    requires filled { AreFilled blocks.old.items skip len }
+    requires places { skip + len ≤ length blocks.old.items * 128 }
+    requires room { len < length blocks.old.items * 128 }
+    requires few { length blocks.old.items ≤ 2 ^ 48 }
+    ensures becomes { Becomes (joined blocks.old.items) result.0 blocks.old.items blocks.new.items }
+    ensures places { result.0 + len ≤ length blocks.old.items * 128 }
+    ensures left { IsTrue result.1 → 0 < result.0 }
+    ensures right { result.1 ≡ false → result.0 + len < length blocks.old.items * 128 }
+{
+    let places = blocks.len() * BLOCK;
+    if left && skip == 0 && len + BLOCK <= places {
+        turn_right(blocks, skip);
+        return (BLOCK, true);
+    }
+    if !left && skip + len == places && BLOCK <= skip {
+        turn_left(blocks, skip);
+        return (skip - BLOCK, false);
+    }
+    (skip, if left { skip > 0 } else { skip + len == places })
+}
+
+/// Makes so many blocks of them, each new one of this width.
+pub(crate) fn add_blocks(
+    blocks: &mut VecDeque<Block>,
+    alloc: Global,
+    count: usize,
+    width: usize,
+) -> Result<(), AllocError>
+    ensures grows { Grows blocks.old.items blocks.new.items }
+    ensures wide { (old : ℕ) → old ≤ width → AreWide blocks.old.items old → AreWide blocks.new.items old }
+    ensures count { OnOk result (count ≤ length blocks.new.items) }
+    ensures few { length blocks.new.items ≤ max count (length blocks.old.items) }
+{
+    while blocks.len() < count {
+        blocks.reserve(1)?;
+        let mut block = Block::new(alloc);
+        block.widen(width)?;
+        blocks.push_back_reserved(block);
+    }
+    Ok(())
+}
+
+/// Makes each block this wide.
+pub(crate) fn widen_blocks(blocks: &mut VecDeque<Block>, width: usize) -> Result<(), AllocError>
+    ensures grows { Grows blocks.old.items blocks.new.items }
+    ensures kept { (old : ℕ) → AreWide blocks.old.items old → AreWide blocks.new.items old }
+    ensures wide { OnOk result (AreWide blocks.new.items width) }
+    ensures count { length blocks.new.items ≡ length blocks.old.items }
+{
+    for at in 0..blocks.len() {
+        blocks[at].widen(width)?;
+    }
+    Ok(())
+}

@@ -1,0 +1,105 @@
+//! Keys that come into blocks and go out of them.
+ghost use Rattle.std.specs.Prelude.{◌≡◌, ◌+◌, ◌-◌, ◌*◌, ◌<◌, ◌≤◌, ◌^◌, length, min, slice_index_or, insert, remove};
+ghost use Rattle.iol_tier.specs.Blocks.{joined, AreFilled, AreWide, Becomes};
+
+use crate::block::Block;
+use crate::borders::{shift_left, shift_right};
+use std::collections::VecDeque;
+
+/// The places of a block.
+pub(crate) const BLOCK: usize = 128;
+
+// How many places lie before the first of a block, of those after the first `skip`.
+fn begin_of(skip: usize, block: usize) -> usize
+    requires { block ≤ 2 ^ 48 }
+    ensures { result ≡ block * 128 - skip }
+{
+    (block * BLOCK).saturating_sub(skip)
+}
+
+/// The key at a place.
+pub(crate) fn key_at(blocks: &VecDeque<Block>, skip: usize, place: usize) -> usize
+    requires filled { AreFilled blocks.now.items skip (length (joined blocks.now.items)) }
+    requires within { place < length (joined blocks.now.items) }
+    requires places { skip + length (joined blocks.now.items) ≤ length blocks.now.items * 128 }
+    requires few { length blocks.now.items ≤ 2 ^ 48 }
+    ensures { result ≡ slice_index_or (joined blocks.now.items) place result }
+{
+    let block = (skip + place) / BLOCK;
+    blocks[block].at(place - begin_of(skip, block))
+}
+
+/// Puts a key in, for which there is a place before the first one.
+pub(crate) fn put_left(blocks: &mut VecDeque<Block>, skip: usize, place: usize, key: usize)
+    requires filled { AreFilled blocks.old.items skip (length (joined blocks.old.items)) }
+    requires place { place ≤ length (joined blocks.old.items) }
+    requires free { 0 < skip }
+    requires places { skip + length (joined blocks.old.items) ≤ length blocks.old.items * 128 }
+    requires wide { AreWide blocks.old.items (min 128 (length (joined blocks.old.items) + 1)) }
+    requires few { length blocks.old.items ≤ 2 ^ 48 }
+    ensures { Becomes (insert (joined blocks.old.items) place key) (skip - 1) blocks.old.items blocks.new.items }
+{
+    let skip = skip - 1;
+    let block = (skip + place) / BLOCK;
+    shift_left(blocks, skip / BLOCK, block);
+    blocks[block].insert(place - begin_of(skip, block), key);
+}
+
+/// Puts a key in, for which there is a place behind the last one.
+pub(crate) fn put_right(
+    blocks: &mut VecDeque<Block>,
+    skip: usize,
+    len: usize,
+    place: usize,
+    key: usize,
+)
+    requires len { len ≡ length (joined blocks.old.items) }
+    requires filled { AreFilled blocks.old.items skip len }
+    requires place { place ≤ len }
+    requires free { skip + len < length blocks.old.items * 128 }
+    requires wide { AreWide blocks.old.items (min 128 (len + 1)) }
+    requires few { length blocks.old.items ≤ 2 ^ 48 }
+    ensures { Becomes (insert (joined blocks.old.items) place key) skip blocks.old.items blocks.new.items }
+{
+    let block = (skip + place) / BLOCK;
+    shift_right(blocks, (skip + len) / BLOCK, block);
+    blocks[block].insert(place - begin_of(skip, block), key);
+}
+
+/// Takes a key out; its place comes free before the first one.
+pub(crate) fn take_left(blocks: &mut VecDeque<Block>, skip: usize, place: usize) -> usize
+    requires filled { AreFilled blocks.old.items skip (length (joined blocks.old.items)) }
+    requires place { place < length (joined blocks.old.items) }
+    requires places { skip + length (joined blocks.old.items) ≤ length blocks.old.items * 128 }
+    requires wide { AreWide blocks.old.items (min 128 (length (joined blocks.old.items))) }
+    requires few { length blocks.old.items ≤ 2 ^ 48 }
+    ensures key { result ≡ slice_index_or (joined blocks.old.items) place result }
+    ensures becomes { Becomes (remove (joined blocks.old.items) place) (skip + 1) blocks.old.items blocks.new.items }
+{
+    let block = (skip + place) / BLOCK;
+    let key = blocks[block].remove(place - begin_of(skip, block));
+    shift_right(blocks, block, skip / BLOCK);
+    key
+}
+
+/// Takes a key out; its place comes free behind the last one.
+pub(crate) fn take_right(
+    blocks: &mut VecDeque<Block>,
+    skip: usize,
+    len: usize,
+    place: usize,
+) -> usize
+    requires len { len ≡ length (joined blocks.old.items) }
+    requires filled { AreFilled blocks.old.items skip len }
+    requires place { place < len }
+    requires places { skip + len ≤ length blocks.old.items * 128 }
+    requires wide { AreWide blocks.old.items (min 128 len) }
+    requires few { length blocks.old.items ≤ 2 ^ 48 }
+    ensures key { result ≡ slice_index_or (joined blocks.old.items) place result }
+    ensures becomes { Becomes (remove (joined blocks.old.items) place) skip blocks.old.items blocks.new.items }
+{
+    let block = (skip + place) / BLOCK;
+    let key = blocks[block].remove(place - begin_of(skip, block));
+    shift_left(blocks, block, (skip + len - 1) / BLOCK);
+    key
+}

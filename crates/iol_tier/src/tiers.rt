@@ -1,0 +1,164 @@
+//! A tiered vector of keys.
+ghost use Rattle.std.specs.Prelude.{◌≡◌, ◌+◌, ◌-◌, ◌*◌, ◌<◌, ◌≤◌, ◌^◌, [], length, min, slice_index_or, insert, remove, OnOk, OnErr};
+
+use crate::block::Block;
+use crate::ends::{add_blocks, open_end, widen_blocks};
+use crate::places::{BLOCK, key_at, put_left, put_right, take_left, take_right};
+use std::alloc::{AllocError, Global};
+use std::collections::VecDeque;
+use std::marker::Model;
+
+// The most keys that there can be.
+const MOST: usize = 0x0040_0000_0000_0000;
+
+/// Keys in order.
+#[derive(Drop)]
+pub struct TieredVec {
+    blocks: VecDeque<Block>,
+
+    // The places before the first key.
+    skip: usize,
+    len: usize,
+    room: usize,
+}
+
+impl Model for TieredVec {
+    ghost use Rattle.std.specs.Prelude.{◌≡◌, ◌+◌, ◌*◌, ◌≤◌, ◌^◌, length, min};
+    ghost use Rattle.iol_tier.specs.Tiers.{Tiered};
+    ghost use Rattle.iol_tier.specs.Blocks.{joined, AreFilled, AreWide};
+
+    ghost Value = { Tiered };
+
+    ghost view = { λ t. record { keys = joined t.blocks.items; room = t.room } };
+
+    ghost invariant = { λ t. record {
+      len : t.len ≡ length (joined t.blocks.items);
+      filled : AreFilled t.blocks.items t.skip t.len;
+      room : t.len + t.room ≤ length t.blocks.items * 128;
+      places : t.skip + t.len ≤ length t.blocks.items * 128;
+      wide : AreWide t.blocks.items (min 128 (t.len + t.room));
+      few : length t.blocks.items ≤ 2 ^ 48;
+    } };
+}
+
+// How many blocks so many keys want: one more than they fill, so that one is empty at either end.
+fn blocks_for(keys: usize) -> usize
+    requires { keys ≤ 2 ^ 54 }
+    ensures enough { keys ≤ result * 128 }
+    ensures more { 128 < keys → keys ≤ (result - 1) * 128 }
+    ensures few { result ≤ 2 ^ 48 }
+{
+    if keys <= BLOCK { 1 } else { keys / BLOCK + 2 }
+}
+
+// How many keys so many blocks are to take, where so many are wanted.
+fn most_in(blocks: usize, keys: usize) -> usize
+    requires enough { keys ≤ blocks * 128 }
+    requires more { 128 < keys → keys ≤ (blocks - 1) * 128 }
+    requires few { blocks ≤ 2 ^ 48 }
+    ensures keys { keys ≤ result }
+    ensures fits { result ≤ blocks * 128 }
+    ensures width { min 128 result ≤ min 128 keys }
+{
+    if keys <= BLOCK {
+        keys
+    } else {
+        (blocks - 1) * BLOCK
+    }
+}
+
+impl TieredVec {
+    /// No keys.
+    pub fn new(alloc: Global) -> TieredVec
+        ensures { result ≡ record { keys = []; room = 0 } }
+    {
+        TieredVec {
+            blocks: VecDeque::new(alloc),
+            skip: 0,
+            len: 0,
+            room: 0,
+        }
+    }
+
+    /// Makes room for so many keys more. Where there is so much room, it is not refused; refused, it leaves the room that
+    /// there was.
+    pub fn reserve(&mut self, count: usize) -> Result<(), AllocError>
+        ensures room { OnOk result (count ≤ self.new.room) }
+        ensures same { self.new ≡ record self.old { room = self.new.room } }
+        ensures no_less { self.old.room ≤ self.new.room }
+        ensures needed { OnErr result (self.old.room < count) }
+        ensures err { OnErr result (self.new.room ≡ self.old.room) }
+    {
+        if count <= self.room {
+            return Ok(());
+        }
+        if MOST.saturating_sub(self.len) < count {
+            return Err(AllocError);
+        }
+        let total = self.len + count;
+        let alloc = *self.blocks.allocator();
+        add_blocks(&mut self.blocks, alloc, blocks_for(total), total.min(BLOCK))?;
+        widen_blocks(&mut self.blocks, total.min(BLOCK))?;
+        self.room = most_in(self.blocks.len(), total) - self.len;
+        Ok(())
+    }
+
+    /// How many keys there are.
+    pub fn len(&self) -> usize
+        ensures { result ≡ length self.now.keys }
+    {
+        self.len
+    }
+
+    /// The key at a place.
+    pub fn at(&self, place: usize) -> usize
+        requires { place < length self.now.keys }
+        ensures { result ≡ slice_index_or self.now.keys place result }
+    {
+        key_at(&self.blocks, self.skip, place)
+    }
+
+    /// Puts a key in, in room that is there.
+    pub fn insert(&mut self, place: usize, key: usize)
+        requires place { place ≤ length self.old.keys }
+        requires room { 0 < self.old.room }
+        ensures keys { self.new.keys ≡ insert self.old.keys place key }
+        ensures room { self.new.room ≡ self.old.room - 1 }
+        ensures few { length self.old.keys + 1 < 2 ^ 64 }
+    {
+        let (skip, left) = open_end(
+            &mut self.blocks,
+            self.skip,
+            self.len,
+            place < self.len - place,
+        );
+        if left {
+            put_left(&mut self.blocks, skip, place, key);
+            self.skip = skip - 1;
+        } else {
+            put_right(&mut self.blocks, skip, self.len, place, key);
+            self.skip = skip;
+        }
+        self.len += 1;
+        self.room -= 1;
+    }
+
+    /// Takes a key out.
+    pub fn remove(&mut self, place: usize) -> usize
+        requires { place < length self.old.keys }
+        ensures key { result ≡ slice_index_or self.old.keys place result }
+        ensures keys { self.new.keys ≡ remove self.old.keys place }
+        ensures room { self.new.room ≡ self.old.room + 1 }
+        ensures few { self.new.room < 2 ^ 64 }
+    {
+        let key = if place < self.len - place {
+            self.skip += 1;
+            take_left(&mut self.blocks, self.skip - 1, place)
+        } else {
+            take_right(&mut self.blocks, self.skip, self.len, place)
+        };
+        self.len -= 1;
+        self.room += 1;
+        key
+    }
+}
