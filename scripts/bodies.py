@@ -1,0 +1,56 @@
+"""Which function's body a text of a crate stands in, by the layout of `rt fmt`."""
+import re
+
+import tree
+
+FUNCTION = re.compile(r"^(?P<indent> *)(?:pub(?:\(crate\))? )?(?:const )?fn (?P<name>\w+)")
+BLOCK = re.compile(r"^impl(?:<[^{]*?>)? (?:(?P<trait>\w+)(?:<[^{]*>)? for )?(?P<type>\w+)")
+ENDS = re.compile(r"^[)\w].*\{$")  # a line that ends a function's head, where its arguments or clauses take several
+
+
+def head_ends(lines, at, indent):
+    """The line in which the body of the function that begins at a line begins, or nothing for one without a body."""
+    for number in range(at, len(lines)):
+        line = lines[number]
+        own = line.startswith(indent) and not line[len(indent) :].startswith(" ")
+        if own and line.endswith((";", "{}")):
+            return None
+        if own and (line == f"{indent}{{" or line.endswith("{") and (number == at or ENDS.match(line[len(indent) :]))):
+            return number
+    return None
+
+
+def bodies(text):
+    """Each body: the lines between which it stands, and its function, below the type that has it and the trait."""
+    lines, owner = text.split("\n"), ""
+    for at, line in enumerate(lines):
+        block, function = BLOCK.match(line), FUNCTION.match(line)
+        if block:
+            owner = f"{block['type']}{block['trait'] or ''}::"
+        elif line == "}":
+            owner = ""
+        elif function:
+            first = head_ends(lines, at, function["indent"])
+            if first is not None:
+                last = lines.index(f"{function['indent']}}}", first)
+                yield first, last, owner + function["name"]
+
+
+def function_at(room, file, old):
+    """The function in whose body a text of a file stands, by the end of its name in a check, or nothing."""
+    if not file.startswith("src/") or not file.endswith(".rt"):
+        return None
+    text = tree.read(f"{room}/{file}")
+    first = text.count("\n", 0, text.find(old))
+    last = first + old.strip("\n").count("\n")
+    found = [name for begin, end, name in bodies(text) if begin < first and last < end]
+    if not found:
+        return None
+    module = "".join(f"{part}::" for part in file[len("src/") : -len(".rt")].split("/") if part not in ("lib", "main"))
+    return found[-1] if "::" in found[-1] else module + found[-1]
+
+
+def functions_of(room, edit):
+    """The functions that an edit changes, if it changes nothing but their bodies."""
+    found = {function_at(room, file, old) for file, old, _ in edit.changes}
+    return frozenset() if None in found else frozenset(found)
