@@ -67,18 +67,23 @@ class Row:
             finally:
                 server.kill()
 
+    def files(self, at):
+        """The files from which a stream is answered."""
+        return self.site.files
+
     def whole(self):
-        return [self.site.answer(stream) for stream in self.streams]
+        return [http.answer_to(stream, self.files(at)) for at, stream in enumerate(self.streams)]
 
     def with_one(self, code, refusal):
         """The answers, and all in which one call on a file is refused so, each with the word for it."""
         whole = self.whole()
         yield "whole", whole
         for at, stream in enumerate(self.streams):
-            replies = list(http.replies(stream, self.site.files))
+            files = self.files(at)
+            replies = list(http.replies(stream, files))
             texts = [text for _, text in replies]
             for place, (head, _) in enumerate(replies):
-                for way, text in refused_once(head, self.site.files, code, refusal):
+                for way, text in refused_once(head, files, code, refusal):
                     yield way, [*whole[:at], b"".join([*texts[:place], text, *texts[place + 1:]]), *whole[at + 1:]]
 
     def without_one(self):
@@ -102,10 +107,14 @@ class Loop(Row):
         return [ran.stdout], ran.returncode, ran.stderr
 
 
+def may_read(name, files):
+    return name in files and not isinstance(files[name], cgi.Private)
+
+
 def refused_once(head, files, code, refusal):
     """The responses to a request where a call on its file, or on one that its script reads, is refused."""
     asked = head.asked(files) if head else None
-    if asked is None:
+    if asked is None or not may_read(asked[0], files):
         return
     name, query = asked
     yield f"a {code}", head.refused(code)
@@ -113,7 +122,7 @@ def refused_once(head, files, code, refusal):
         lines = cgi.lines_of(files[name]) or []
         parts = cgi.parts(lines, query, files)
         for at, (word, rest) in enumerate(lines):
-            if word in cgi.OF_FILES and rest.decode() in files:
+            if word in cgi.OF_FILES and may_read(rest.decode(), files):
                 yield refusal, head.script_response([*parts[:at], f"{refusal}\n".encode(), *parts[at + 1:]])
 
 
@@ -171,6 +180,7 @@ class Sweep:
     env: dict
     what: str
     numbers: Iterable
+    ways = WAYS
 
     def run(self):
         """Up to the first in which there is none left: how often it ended in which way, and what was otherwise, or nothing."""
@@ -179,7 +189,7 @@ class Sweep:
             try:
                 way, is_last = self.way(number)
             except (Wrong, TimeoutError, subprocess.TimeoutExpired) as wrong:
-                word, *_ = WAYS[self.what]
+                word, *_ = self.ways[self.what]
                 return counts, f"{self.row.name}, {self.row.streams}, with {word}={number} in {self.env}: {wrong}"
             if is_last:
                 return counts, None
@@ -188,7 +198,7 @@ class Sweep:
 
     def way(self, number):
         """How a run ended, and whether nothing was hindered any more."""
-        word, mark, way_of = WAYS[self.what]
+        word, mark, way_of = self.ways[self.what]
         answers, status, told = self.row.run(self.env | {word: str(number)})
         if mark in told:
             way = way_of(self.row, answers, status, told.replace(mark, b"", 1))

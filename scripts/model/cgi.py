@@ -5,6 +5,10 @@ MOST_NAME_BYTES = 255
 OF_FILES = (b"cat", b"wc")
 
 
+class Private(bytes):
+    """The bytes of a file that neither the server nor a worker may read."""
+
+
 def line_of(text):
     """A line, as its word and the rest, or nothing where it is none."""
     word, space, rest = text.partition(b" ")
@@ -31,13 +35,20 @@ def counts(data):
     return b"%d %d\n" % (data.count(b"\n"), len(data))
 
 
+def of_file(name, files, said):
+    """What is put out of a file, or why it is not."""
+    if name not in files:
+        return b"[NoFile]\n"
+    return b"[Denied]\n" if isinstance(files[name], Private) else said(files[name])
+
+
 def parts(lines, query, files):
-    """What each line puts out, where everybody may read the files."""
+    """What each line puts out."""
     said = {
         b"emit": lambda rest: rest + b"\n",
         b"query": lambda _: query + b"\n",
         b"pause": lambda _: b"",
-        b"cat": lambda name: files.get(name.decode(), b"[NoFile]\n"),
-        b"wc": lambda name: counts(files[name.decode()]) if name.decode() in files else b"[NoFile]\n",
+        b"cat": lambda name: of_file(name.decode(), files, lambda data: data),
+        b"wc": lambda name: of_file(name.decode(), files, counts),
     }
     return [said[word](rest) for word, rest in lines]

@@ -8,8 +8,8 @@ WINDOW = 8192
 CHUNK = 4096
 MOST_FIELDS = 64
 PHRASES = {
-    200: "OK", 206: "Partial Content", 400: "Bad Request", 404: "Not Found", 405: "Method Not Allowed",
-    416: "Range Not Satisfiable", 431: "Request Header Fields Too Large", 500: "Internal Server Error",
+    200: "OK", 206: "Partial Content", 400: "Bad Request", 403: "Forbidden", 404: "Not Found",
+    405: "Method Not Allowed", 416: "Range Not Satisfiable", 431: "Request Header Fields Too Large", 500: "Internal Server Error",
     501: "Not Implemented", 503: "Service Unavailable",
 }
 TYPES = {
@@ -156,6 +156,8 @@ class Head:
         name, query = asked_of(self.target)
         if name not in files:
             return self.refused(404), self.closes
+        if isinstance(files[name], cgi.Private):
+            return self.refused(403), self.closes
         if not name.endswith(".cgi"):
             return self.file_response(name, files[name]), self.closes
         lines = cgi.lines_of(files[name])
