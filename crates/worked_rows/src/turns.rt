@@ -1,0 +1,132 @@
+//! A script and a file that are asked for at once, and a file that is written before the script reads it.
+use crate::host::Host;
+use iol_core::descriptors::Mode;
+use iol_core::events::{Call, Event};
+use iol_core::lists::Bytes;
+use iol_core::numbers::{ConnId, DomainId, Fd, PoolId};
+use iol_proc::choice::Choice;
+use std::alloc::{AllocError, Global};
+use std::io;
+use std::io::Write;
+
+const SCRIPT: &[u8] = b"GET /s.cgi?q=1 HTTP/1.1\r\nHost: a\r\n\r\n";
+
+const FILE: &[u8] = b"GET /f HTTP/1.1\r\nHost: a\r\n\r\n";
+
+// The turns in which the server reads the file and makes the worker's job.
+const TURNS: u32 = 1000;
+
+fn bytes_of(alloc: Global, text: &[u8]) -> Result<Bytes, AllocError> {
+    Ok(Bytes::from_vec(Vec::from_slice(alloc, text)?))
+}
+
+fn arrives(alloc: Global, number: u32, text: &[u8]) -> Result<Choice, AllocError> {
+    let conn = ConnId::new(number);
+    let bytes = bytes_of(alloc, text)?;
+    Ok(Choice::Outside(Event::Arrive { conn, bytes }))
+}
+
+// A call of the guest, which stands behind one worker.
+fn of_guest(call: Call) -> Choice {
+    let by = DomainId::new(3);
+    Choice::Outside(Event::Call { by, call })
+}
+
+fn opens(alloc: Global) -> Result<Choice, AllocError> {
+    let name = bytes_of(alloc, b"f")?;
+    let mode = Mode::Write;
+    Ok(of_guest(Call::OpenFile { name, mode }))
+}
+
+fn writes(alloc: Global) -> Result<Choice, AllocError> {
+    let fd = Fd::new(0);
+    let bytes = bytes_of(alloc, b"two")?;
+    Ok(of_guest(Call::Write { fd, bytes }))
+}
+
+/// What happens, in order.
+#[derive(Drop)]
+pub struct Course {
+    /// Two connections, and a request on each.
+    asked: Vec<Choice>,
+
+    /// Turns of the server alone.
+    turns: Vec<Choice>,
+
+    /// The guest writes the file.
+    written: Vec<Choice>,
+}
+
+fn asked_by(alloc: Global) -> Result<Vec<Choice>, AllocError> {
+    let pool = PoolId::new(2);
+    let mut choices = Vec::new(alloc);
+    choices.push(Choice::Outside(Event::ConnNew { pool }))?;
+    choices.push(Choice::Outside(Event::ConnNew { pool }))?;
+    choices.push(arrives(alloc, 1, SCRIPT)?)?;
+    choices.push(arrives(alloc, 2, FILE)?)?;
+    Ok(choices)
+}
+
+fn turns_of_server(alloc: Global) -> Result<Vec<Choice>, AllocError> {
+    let mut choices = Vec::new(alloc);
+    for _ in 0..TURNS {
+        choices.push(Choice::Turn(DomainId::new(1)))?;
+    }
+    Ok(choices)
+}
+
+impl Course {
+    pub fn new(alloc: Global) -> Result<Course, AllocError> {
+        let asked = asked_by(alloc)?;
+        let turns = turns_of_server(alloc)?;
+        let mut written = Vec::new(alloc);
+        written.push(opens(alloc)?)?;
+        written.push(writes(alloc)?)?;
+        Ok(Course {
+            asked,
+            turns,
+            written,
+        })
+    }
+}
+
+// How many bytes are sent at once.
+fn send<W: Write>(host: &mut Host, conn: ConnId, output: &mut W) -> u32 {
+    match host.drain_to(conn, output, 4096) {
+        Ok(drained) => drained.taken,
+        Err(_) => 0,
+    }
+}
+
+// All that is sent on a connection, and turns before each part of it.
+fn send_all<W: Write>(host: &mut Host, number: u32, output: &mut W) -> bool {
+    let conn = ConnId::new(number);
+    for _ in 0..1000 {
+        if !host.settle() {
+            return false;
+        }
+        if send(host, conn, output) == 0 {
+            return true;
+        }
+    }
+    false
+}
+
+// One choice after another comes true.
+fn choose_all(host: &mut Host, choices: &[Choice]) {
+    for choice in choices.chunks(1) {
+        let _reply = host.choose(choice);
+    }
+}
+
+/// Lets all happen, and writes what is sent on both connections.
+pub fn carry_out<W: Write>(host: &mut Host, course: &Course, output: &mut W) -> io::Result<()> {
+    choose_all(host, &course.asked);
+    let _last = host.choose(&course.turns);
+    choose_all(host, &course.written);
+    for number in 1..=2 {
+        let is_idle = send_all(host, number, output);
+        writeln!(output, "\nconnection {number}, idle: {is_idle}")?;
+    }
+    Ok(())
+}
