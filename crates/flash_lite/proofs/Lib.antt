@@ -8,6 +8,7 @@ pub mod Fewer
 pub mod Filing
 pub mod Frames
 pub mod Gathered
+pub mod Harmless
 pub mod HostedWorld
 pub mod Leading
 pub mod Making

@@ -17,6 +17,7 @@ pub mod Crew
 pub mod SiteWorld
 pub mod Starting
 pub mod Hosting
+pub mod Harmless
 pub mod Offering
 pub mod Runs
 pub mod Course

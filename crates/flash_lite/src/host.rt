@@ -39,7 +39,8 @@ pub struct Hosted<B: Backing> {
 /// refused, or `Memory`; it drops all.
 ///
 /// With an honest store, and where calls from outside leave the site and its processes alone and no
-/// turn was rough, what comes of it is right: [`hosted_is_right`](crate::laws::hosted_is_right).
+/// turn was rough, what comes of it is right: [`hosted_is_right`](crate::laws::hosted_is_right), and
+/// [`harmless_is_right`](crate::laws::harmless_is_right) of choices that leave them alone by their looks.
 pub fn host<B: Backing + Drop>(
     alloc: Global,
     config: Config,

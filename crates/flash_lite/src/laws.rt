@@ -5,6 +5,7 @@ ghost use Rattle.flash_laws.specs.World.{RunKeepsTie, StepKeepsTie, TiedAtFirst,
 ghost use Rattle.flash_laws.specs.WorldDone.{IdleIsDone};
 ghost use Rattle.flash_laws.specs.WorldHost.{HostIsRight};
 ghost use Rattle.flash_lite.specs.Crew.{crew_of};
+ghost use Rattle.flash_lite.specs.Harmless.{HarmlessIsMild, HarmlessIsRight};
 ghost use Rattle.flash_lite.specs.Hosting.{HostedIsRight};
 ghost use Rattle.flash_lite.specs.SiteWorld.{SetUpIsANewWorld};
 ghost use Rattle.flash_lite.specs.Workers.{worker_turns, worker_settled};
@@ -12,9 +13,10 @@ ghost use Rattle.flash_lite.specs.declared.site.Site.{Site};
 
 use crate::actor::{Actor, Worker};
 use flash_cgi::laws::workers_stay_free;
+use flash_laws::laws::site_law;
 use flash_laws::world_law::world_law;
 use iol_laws::laws;
-use iol_proc::laws::idle_is_settled;
+use iol_proc::laws::{idle_is_settled, smooth_runs};
 
 /// Connections do not meet, whatever the site, with scripts or without: of the account that `Actor`
 /// has as a process. A new world is tied, each calm step keeps the tie, and so does a calm run; and
@@ -59,4 +61,18 @@ pub fn hosted_is_right()
 {
     connections_do_not_meet();
     idle_is_settled::<Actor>();
+}
+
+/// Whether what came from outside was mild can be read off the choices: it was, if each call among
+/// them is by a domain behind those of the processes, a guest's, and is none of `file_new`,
+/// `iol_write`, `write` and `pool_admit`, and no turn was rough. So what is hosted with such choices
+/// is right, where its world says that it is not rough.
+pub fn harmless_is_right()
+    ensures mild { HarmlessIsMild }
+    ensures right { HarmlessIsRight }
+{
+    connections_do_not_meet();
+    hosted_is_right();
+    site_law();
+    smooth_runs::<Actor>();
 }

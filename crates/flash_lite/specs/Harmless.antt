@@ -1,0 +1,53 @@
+-- Choices that leave a site and its processes alone whatever the machine is, as can be read off them.
+use Rattle.std.specs.Prelude.{◌≡◌, ◌<◌, ◌+◌, ℕ, Bool, true, false, List}
+use Rattle.std.specs.List.{AllByRecursion}
+use Rattle.iol_core.specs.State.{State}
+use Rattle.iol_core.specs.declared.events.Call.{Call}
+use Rattle.iol_core.specs.declared.events.Call.TheVariants as call
+use Rattle.iol_core.specs.declared.events.Event.TheVariants as event
+use Rattle.iol_core.specs.declared.events.Reply.{Reply}
+use Rattle.iol_proc.specs.World.{Stage}
+use Rattle.iol_proc.specs.declared.choice.Choice.{Choice}
+use Rattle.iol_proc.specs.declared.choice.Choice.TheVariants as choice
+use Rattle.flash_cgi.specs.declared.worker.Worker.{Worker}
+use Rattle.flash_laws.specs.Calm.{AreMild}
+use Rattle.flash_laws.specs.Rounds.{in_rounds}
+use Rattle.flash_laws.specs.Site.{server}
+use Rattle.flash_laws.specs.Tie.{Actor, actor_turns}
+use Rattle.flash_laws.specs.WorldHost.{IsRight}
+use Rattle.flash_lite.specs.Crew.{crew_of}
+use Rattle.flash_lite.specs.Hosting.{Hosts}
+use Rattle.flash_lite.specs.Library.{library_of}
+use Rattle.flash_lite.specs.Setup.{workers_used}
+use Rattle.flash_lite.specs.Workers.{worker_turns}
+use Rattle.flash_lite.specs.declared.site.Site.{Site}
+
+-- whether a call makes and writes no file, whatever its descriptor is open on, and admits nobody to a pool
+abbrev pub leaves_site : Call → Bool
+leaves_site (call.FileNew name pool) = false
+leaves_site (call.IolWrite fd agg) = false
+leaves_site (call.Write fd bytes) = false
+leaves_site (call.PoolAdmit pool domain) = false
+leaves_site k = true
+
+-- A call from outside is such a one, by a domain behind those of the server and of so many workers. All else is harmless.
+abbrev pub IsHarmless : (workers : ℕ) → Choice → Type 0
+IsHarmless workers (choice.Outside (event.Call d k)) = (server + workers < d) × (leaves_site k ≡ true)
+IsHarmless workers x = Unit {0}
+
+abbrev pub AreHarmless : Site → List Choice → Type 0
+AreHarmless s xs = AllByRecursion (λ x. IsHarmless (workers_used s) x) xs
+
+-- Harmless choices are mild, whatever is hosted, if no turn was rough.
+abbrev pub HarmlessIsMild : Type 0
+HarmlessIsMild = (s : Site) (slots : List (List ℕ)) (xs : List Choice) (rs : List Reply) (turns : ℕ)
+    (idle : Bool) (after : Stage State (Actor Worker))
+    → (hosts : Hosts s slots xs rs turns idle after) → AreHarmless s xs → after.rough ≡ false
+    → AreMild (actor_turns in_rounds worker_turns) hosts.first xs rs hosts.mid hosts.run
+
+-- So what is hosted with them is right, of what came by these choices: the turns in rounds behind them bring nothing in.
+abbrev pub HarmlessIsRight : Type 0
+HarmlessIsRight = (s : Site) (slots : List (List ℕ)) (xs : List Choice) (rs : List Reply) (turns : ℕ)
+    (idle : Bool) (after : Stage State (Actor Worker))
+    → Hosts s slots xs rs turns idle after → AreHarmless s xs → after.rough ≡ false
+    → IsRight (crew_of s) (library_of s slots) xs rs idle after
