@@ -12,7 +12,7 @@ from model.cgi import Private
 CRATE = f"{tree.ROOT}/crates/worked_rows"
 PROGRAM = f"{CRATE}/out/worked_rows"
 BEGIN = b"\n\n"  # what is printed before the site is made, and then
-PAGE, LONG = 4096, 1000
+PAGE = 4096
 SITE, SERVED = "1", "2"  # so much of it is printed before the counting begins: LATE
 OVER, ROUGH = b"over\n", b"rough\n"
 BROKEN = 1  # status of a connection that has failed
@@ -50,20 +50,19 @@ class Served(Row):
     """A stream on one connection, which is served in place, from a site whose pools have a chunk each, or one so many."""
 
     hindered = ("growths", "faults", "reads", "writes")
+    pieces = ("1", "4095")  # bytes moved at a time
     mode = "served"
 
-    def __init__(self, name, files, *streams, late=SERVED, few=None, gap=1, chunks=1):
+    def __init__(self, name, files, *streams, late=SERVED, few=None, chunks=1):
         super().__init__(name, Site("", files), list(streams))
-        self.gap, self.chunks, self.late = gap, chunks, late
+        self.chunks, self.late = chunks, late
         self.few = {"SHORT": few} if few else {}
-        is_long = gap > 1 or max(map(len, streams)) > LONG
-        self.pieces = ("100", "4095") if is_long else ("1", "4095")  # bytes moved at a time
 
     def sweeps(self, env):
         """What is hindered, with its numbers."""
         for what in self.hindered:
             late = self.late if what == "growths" else SERVED
-            numbers = itertools.count(1) if what == "faults" else itertools.count(0, self.gap)
+            numbers = itertools.count(1 if what == "faults" else 0)
             yield Sweep(self, env | self.few | {"LATE": late}, what, numbers)
 
     def words(self, fault):

@@ -77,8 +77,8 @@ def of_scripts():
     yield Served("two-lines-chunked, HTTP/1.0", CHUNKS, get("/two.cgi?q=1", version="1.0"))
     lengths = b"".join(map(of_host, ("/none.cgi", "/4096.cgi", "/5000.cgi")))
     yield Served("two-lines-chunked, lengths", CHUNKS, lengths, chunks=2)
-    yield Served("big-cat", BIG, of_host("/s.cgi"), chunks=17, gap=97)
-    yield Served("big-cat, and a line", BIG, of_host("/t.cgi"), chunks=17, gap=97)
+    yield Served("big-cat", BIG, of_host("/s.cgi"), chunks=17)
+    yield Served("big-cat, and a line", BIG, of_host("/t.cgi"), chunks=17)
 
 
 def lines(*texts):
