@@ -1,40 +1,38 @@
 //! Extents, one after another.
 ghost use Rattle.std.specs.Prelude.{◌≡◌, ℕ, ◌+◌, ◌-◌, ◌/◌, ◌<◌, ◌≤◌, ◌^◌, [], length, slice_index_or, slice_set, insert, remove, Some, OnOk, OnErr};
-ghost use Rattle.std.specs.VecDeque.{deque_len, deque_capacity};
 ghost use Rattle.slab.specs.Slab.{ContainsKey, Updates, slab_len};
 ghost use Rattle.iol_extent.specs.Extents.{Extent, as_clean, end_of, IsApart};
 ghost use Rattle.iol_extent.specs.Keys.{extent_at};
 
 use crate::piece::Piece;
+use iol_tier::tiers::TieredVec;
 use slab::Slab;
 use std::alloc::{AllocError, Global};
-use std::collections::VecDeque;
 use std::marker::Model;
 use std::ops::Index;
 
-/// Pieces in a slab, and their keys in order. Where one comes or goes, the keys on its shorter side move.
+/// Pieces in a slab, and their keys in order. Where one comes or goes, few keys move, wherever it stands.
 #[derive(Drop)]
 pub(crate) struct Pieces {
     slab: Slab<Piece>,
-    keys: VecDeque<usize>,
+    keys: TieredVec,
     room: usize,
 }
 
 impl Model for Pieces {
-    ghost use Rattle.std.specs.Prelude.{◌+◌, ◌≤◌, map};
-    ghost use Rattle.std.specs.VecDeque.{deque_len, deque_capacity};
+    ghost use Rattle.std.specs.Prelude.{◌≤◌, map};
     ghost use Rattle.slab.specs.Slab.{HasRoomFor};
     ghost use Rattle.iol_extent.specs.Extents.{ExtentMap};
     ghost use Rattle.iol_extent.specs.Keys.{AreKeys, extent_at};
 
     ghost Value = { ExtentMap };
 
-    ghost view = { λ p. record { extents = map (extent_at p.slab) p.keys.items; room = p.room } };
+    ghost view = { λ p. record { extents = map (extent_at p.slab) p.keys.keys; room = p.room } };
 
     ghost invariant = { λ p. record {
-      keys : AreKeys p.slab p.keys.items;
+      keys : AreKeys p.slab p.keys.keys;
       slab_room : HasRoomFor p.slab p.room;
-      key_room : deque_len p.keys + p.room ≤ deque_capacity p.keys;
+      key_room : p.room ≤ p.keys.room;
     } };
 }
 
@@ -48,7 +46,7 @@ impl Index<usize> for Pieces {
     ghost index_gives = { λ p i piece. piece ≡ slice_index_or p.extents i piece };
 
     fn index(&self, place: usize) -> &Piece {
-        &self.slab[self.keys[place]]
+        &self.slab[self.keys.at(place)]
     }
 }
 
@@ -59,7 +57,7 @@ impl Pieces {
     {
         Pieces {
             slab: Slab::new(alloc),
-            keys: VecDeque::new(alloc),
+            keys: TieredVec::new(alloc),
             room: 0,
         }
     }
@@ -97,7 +95,7 @@ impl Pieces {
         ensures few { length self.old.extents + 1 < 2 ^ 64 }
     {
         let key = self.slab.insert_reserved(piece);
-        put_key(&mut self.keys, place, key);
+        self.keys.insert(place, key);
         self.room -= 1;
     }
 
@@ -108,7 +106,7 @@ impl Pieces {
         ensures extents { self.new.extents ≡ remove self.old.extents place }
         ensures room { self.new.room ≡ self.old.room + 1 }
     {
-        let key = take_key(&mut self.keys, place);
+        let key = self.keys.remove(place);
         self.room += 1;
         self.slab.remove(key)
     }
@@ -120,33 +118,8 @@ impl Pieces {
             slice_set self.old.extents place (as_clean (slice_index_or self.old.extents place d)) }
         ensures room { self.new.room ≡ self.old.room }
     {
-        let key = self.keys[place];
+        let key = self.keys.at(place);
         clean_at(&mut self.slab, key);
-    }
-}
-
-// Puts a key in, in room that is there. Those on the shorter side of it move.
-fn put_key(keys: &mut VecDeque<usize>, place: usize, key: usize)
-    requires place { place ≤ deque_len keys.old }
-    requires room { deque_len keys.old < deque_capacity keys.old }
-    ensures items { keys.new.items ≡ insert keys.old.items place key }
-    ensures len { deque_len keys.new ≡ deque_len keys.old + 1 }
-    ensures capacity { deque_capacity keys.old ≤ deque_capacity keys.new }
-{
-    let _inserted = keys.insert(place, key);
-}
-
-// Takes a key out. Those on the shorter side of it move.
-fn take_key(keys: &mut VecDeque<usize>, place: usize) -> usize
-    requires { place < deque_len keys.old }
-    ensures key { result ≡ slice_index_or keys.old.items place result }
-    ensures items { keys.new.items ≡ remove keys.old.items place }
-    ensures len { deque_len keys.new + 1 ≡ deque_len keys.old }
-    ensures capacity { deque_capacity keys.new ≡ deque_capacity keys.old }
-{
-    match keys.remove(place) {
-        Some(key) => key,
-        None => unreachable!(),
     }
 }
 
