@@ -45,10 +45,16 @@ pub record AfterRoom (pool n : ℕ) (old : KernelState) (P : KernelState → Typ
   pub room : MakesRoom pool (pages_for n) old roomy
   pub then : P roomy
 
--- A refusal, also one for want of room, came before anything changed. Or it came for want of memory: then clean extents may
--- have gone.
+-- A call whose n bytes fit in the pool was refused for want of memory: clean extents may have gone to make room for them.
+pub record RefusedRoomy (pool n : ℕ) (old new : KernelState) (x : Refusal) : Type 0 where
+  pub memory : x ≡ Memory
+  pub fits : can_fit old pool n ≡ true
+  pub room : MakesRoom pool (pages_for n) old new
+
+-- A refusal, also one for want of room, came before anything changed. Or it came for want of memory, and only where the bytes
+-- fit: then clean extents may have gone.
 abbrev pub MayHaveEvicted : (pool n : ℕ) → (old new : KernelState) → Refusal → Type 0
-MayHaveEvicted pool n old new x = (new ≡ old) ⊎ ((x ≡ Memory) × MakesRoom pool (pages_for n) old new)
+MayHaveEvicted pool n old new x = (new ≡ old) ⊎ RefusedRoomy pool n old new x
 
 -- A call that places n new bytes in a pool, if need be in place of clean extents of files. It is the machine's step, over
 -- any store. Room is made; then the lowest free pages of the pool are filled, and all else lies where it lay. It is refused

@@ -1,5 +1,5 @@
 -- What a write to a file leaves, beside what it means.
-use Rattle.std.specs.Prelude.{◌≡◌, ◌⊎◌, ℕ, ◌+◌, ◌<◌, ◌≤◌, List, [], length, slice_set, Option, Some, Result, Err, IfErr, OnErr, OnOk, ⊤}
+use Rattle.std.specs.Prelude.{◌≡◌, ◌⊎◌, ℕ, ◌+◌, ◌<◌, ◌≤◌, List, [], length, slice_set, Option, Some, Result, Err, IfErr, OnErr, OnOk, true, ⊤}
 use Rattle.iol_arena.specs.State.{pages_for}
 use Rattle.iol_core.specs.Meaning.{WantOfRoom}
 use Rattle.iol_core.specs.State.{Domain}
@@ -30,7 +30,7 @@ use Rattle.iol_kernel.specs.Backed.{holding_of}
 use Rattle.iol_kernel.specs.Calls.{CarriesOut}
 use Rattle.iol_kernel.specs.Keeping.{KeepsBeside, LacksPages}
 use Rattle.iol_kernel.specs.KernelState.{KernelState, slices_in}
-use Rattle.iol_kernel.specs.MakingRoom.{AfterRoom}
+use Rattle.iol_kernel.specs.MakingRoom.{AfterRoom, can_fit}
 
 -- the pool of the file in slot f
 abbrev pub pool_of_file : KernelState → (f : ℕ) → ℕ
@@ -130,12 +130,17 @@ pub record GivesUpNew (pool : ℕ) (bytes : List ℕ) (old new : KernelState) : 
   pub lists : SameLists left new.store
   pub rest : new ≡ record old { store = new.store; cache = new.cache }
 
+-- A write of bytes that fit in the pool, refused for want of memory: it made room at most, the first extents before the others,
+-- and what it placed is gone.
+pub record UnlaidRoomy (pool : ℕ) (bytes : List ℕ) (old new : KernelState) (x : Refusal) : Type 0 where
+  pub memory : x ≡ Memory
+  pub fits : can_fit old pool (length bytes) ≡ true
+  pub left : AfterRoom pool (length bytes) old (λ roomy. (new ≡ roomy) ⊎ GivesUpNew pool bytes roomy new)
+
 -- A refused write. One that was refused before it made room, or for want of it, changed nothing. One for want of memory made
--- room at most, the first extents before the others, and what it placed is gone.
+-- room at most, and only where the bytes fit.
 abbrev pub LeavesUnlaid : (pool : ℕ) (bytes : List ℕ) (old new : KernelState) → Refusal → Type 0
-LeavesUnlaid pool bytes old new x =
-    (new ≡ old)
-    ⊎ ((x ≡ Memory) × AfterRoom pool (length bytes) old (λ roomy. (new ≡ roomy) ⊎ GivesUpNew pool bytes roomy new))
+LeavesUnlaid pool bytes old new x = (new ≡ old) ⊎ UnlaidRoomy pool bytes old new x
 
 -- Room was made for new bytes, and they came over those of a file; or they did not, and nothing else became of the file.
 pub record LaysInFile {A : Type 0} (f at pool : ℕ) (bytes : List ℕ) (old : KernelState) (r : Result A Refusal)

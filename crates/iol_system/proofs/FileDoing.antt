@@ -23,7 +23,7 @@ use Rattle.iol_core.specs.declared.events.Event.TheVariants as event
 use Rattle.iol_core.specs.declared.events.Reply.{Reply}
 use Rattle.iol_core.specs.declared.events.Reply.TheVariants as reply
 use Rattle.iol_core.specs.declared.refusals.Refusal.{Refusal}
-use Rattle.iol_core.specs.declared.refusals.Refusal.TheVariants.{Memory, NoRoom}
+use Rattle.iol_core.specs.declared.refusals.Refusal.TheVariants.{NoRoom}
 use Rattle.iol_hold.specs.Places.{byte_len}
 use Rattle.iol_hold.specs.declared.slices.Slice.{Slice}
 use Rattle.iol_kernel.specs.Backed.{Serves, holding_of}
@@ -31,7 +31,7 @@ use Rattle.iol_kernel.specs.Calls.{CarriesOut, Steps}
 use Rattle.iol_kernel.specs.Copying.{Copies, CopiesOn}
 use Rattle.iol_kernel.specs.FileReading.{CopiesFileAs, FileRead, LeavesAtRefusal, Reads, ReadsOn, file_read, held_by, pool_read}
 use Rattle.iol_kernel.specs.KernelState.{KernelState, IsSound, layout_of, machine_of, slices_in}
-use Rattle.iol_kernel.specs.MakingRoom.{MakesRoom, MayHaveEvicted, Places, can_fit}
+use Rattle.iol_kernel.specs.MakingRoom.{MayHaveEvicted, Places, RefusedRoomy, can_fit}
 use Rattle.iol_kernel.specs.WritingFiles.{LaysOn, LeavesUnwritten, PutsOn, WritesOn, pool_of_file}
 use Rattle.iol_kernel.specs.Keeping.{LacksPages, LacksPagesToRead}
 use Rattle.iol_kernel.proofs.State.AfterRoom.{memory_wanted}
@@ -108,7 +108,7 @@ pub record IsPlacing (e : Event) (put : State → Text → State) (pool n : ℕ)
 
 module _ {A : Type 0} (f : A → Reply) (m : State → Meaning A) (put : State → Text → State) (pool n : ℕ) (e : Event) (disk : Disk) (old new : KernelState) (r : Result A Refusal) (tells : Tells f) (placing : IsPlacing e put pool n old) (means : Means f m e) where
   placed_early : IfErr r (MayHaveEvicted pool n old new) → IsEarly (told f r) → new ≡ old
-  placed_early left is = early_of f r (new ≡ old) (λ x. (x ≡ Memory) × MakesRoom pool (pages_for n) old new) tells (λ x early late. early_room pool x early (memory_wanted pool x late.0)) left is
+  placed_early left is = early_of f r (new ≡ old) (RefusedRoomy pool n old new) tells (λ x early late. early_room pool x early (memory_wanted pool x late.memory)) left is
 
   pub places_does : Places m put pool n old r new → Does disk old e (told f r) disk new
   places_does c =

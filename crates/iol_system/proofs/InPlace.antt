@@ -89,7 +89,7 @@ module _ (disk : Disk) (old new : KernelState) (e : Event) where
     filled_unless : (r : Result A Refusal) → OnOk r (AfterRoom pool n old (λ roomy. MakesBytes put pool n roomy new)) → IfErr r (MayHaveEvicted pool n old new) → KeepsUnless pool (LacksPages old pool (pages_for n)) old.cache new.cache
     filled_unless (Ok a) made refused = subst (λ (c : Cached). KeepsUnless pool (LacksPages old pool (pages_for n)) old.cache c) (sym made.then.cache) (room_keeps pool (pages_for n) old made.roomy made.room)
     filled_unless (Err x) made (inl same) = keeps_same pool (LacksPages old pool (pages_for n)) old.cache new.cache (ap (λ (h : KernelState). h.cache) same)
-    filled_unless (Err x) made (inr went) = room_keeps pool (pages_for n) old new went.1
+    filled_unless (Err x) made (inr went) = room_keeps pool (pages_for n) old new went.room
 
     pub places_in_place : (r : Result A Refusal) → Places m put pool n old r new → KeepsInPlace here e new
     places_in_place r c = unless_in_place pool (LacksPages old pool (pages_for n)) (filled_unless r c.made c.refused) goes

@@ -177,7 +177,7 @@ module _ (Read : (f i : ℕ) → Type 0) where
 
   room_left : (pool n p : ℕ) (h k : KernelState) → MayHaveEvicted pool n h k (NoRoom p) → LeavesBoth h k
   room_left pool n p h k (inl same) = same_kernel h k same
-  room_left pool n p h k (inr late) = absurd (let e : ◌≡◌ {A = Refusal} (NoRoom p) Memory = late.0 in cc)
+  room_left pool n p h k (inr late) = absurd (let e : ◌≡◌ {A = Refusal} (NoRoom p) Memory = late.memory in cc)
 
   write_left : (f p : ℕ) (xs : List Slice) (h k : KernelState) → LeavesUnwritten f xs h k (NoRoom p) → LeavesBoth h k
   write_left f p xs h k (inl same) = same_kernel h k same
@@ -185,7 +185,7 @@ module _ (Read : (f i : ℕ) → Type 0) where
 
   put_left : (pool p : ℕ) (bytes : List ℕ) (h k : KernelState) → LeavesUnlaid pool bytes h k (NoRoom p) → LeavesBoth h k
   put_left pool p bytes h k (inl same) = same_kernel h k same
-  put_left pool p bytes h k (inr late) = absurd (let e : ◌≡◌ {A = Refusal} (NoRoom p) Memory = late.0 in cc)
+  put_left pool p bytes h k (inr late) = absurd (let e : ◌≡◌ {A = Refusal} (NoRoom p) Memory = late.memory in cc)
 
 -- By what a descriptor is open on.
 

@@ -96,7 +96,7 @@ same_store h k is = nothing_changed h.store k.store (ap (λ (x : KernelState). x
 
 may_evict : (pool n : ℕ) (h k : KernelState) (y : Refusal) → MayHaveEvicted pool n h k y → KeepsChunks h.store k.store
 may_evict pool n h k y (inl same) = same_store h k same
-may_evict pool n h k y (inr late) = room_made pool _ h k late.1
+may_evict pool n h k y (inr late) = room_made pool _ h k late.room
 
 read_pages : (x : FileRead) (disk after : Disk) (h k : KernelState) (y : Refusal) → LeavesAtRefusal x disk h after k y → (placed : List ℕ) × KeepsPages h.store k.store placed
 read_pages x disk after h k y (inl early) = (_, keeps_pages_same h.store k.store (ap (λ (z : KernelState). z.store.arena) early.1) (ap (λ (z : KernelState). z.store.pools) early.1))
@@ -116,9 +116,9 @@ given_up pool bytes h k x =
 
 unlaid : (pool : ℕ) (bytes : List ℕ) (h k : KernelState) (y : Refusal) → LeavesUnlaid pool bytes h k y → KeepsChunks h.store k.store
 unlaid pool bytes h k y (inl same) = same_store h k same
-unlaid pool bytes h k y (inr late) = room_then pool _ h late.1.roomy k.store late.1.room (elim late.1.then [
-  | inl same ↦ same_store late.1.roomy k same
-  | inr gone ↦ given_up pool bytes late.1.roomy k gone
+unlaid pool bytes h k y (inr late) = room_then pool _ h late.left.roomy k.store late.left.room (elim late.left.then [
+  | inl same ↦ same_store late.left.roomy k same
+  | inr gone ↦ given_up pool bytes late.left.roomy k gone
 ])
 
 module _ (old new : SystemState) (y : Refusal) where

@@ -54,7 +54,7 @@ pub arrived_safe : (h k : KernelState) (disk : Disk) (c pool n : ℕ) (left afte
     → IfOk r (λ a. TakesIn left after a.taken (λ bytes. (disk : Disk) → Serves (λ s. outside.arrive s c bytes) disk h (Ok a.taken) disk k)) → IfErr r (MayHaveEvicted pool n h k) → IsSafe (system_of k disk)
 arrived_safe h k disk c pool n left after (Ok a) safe read err = came_safe h k disk c a.taken read.bytes safe (read.arrives disk)
 arrived_safe h k disk c pool n left after (Err x) safe read (inl same) = subst (λ (l : KernelState). IsSafe (system_of l disk)) (sym same) safe
-arrived_safe h k disk c pool n left after (Err x) safe read (inr late) = roomy_safe h k disk pool _ safe late.1
+arrived_safe h k disk c pool n left after (Err x) safe read (inr late) = roomy_safe h k disk pool _ safe late.room
 
 pub arrived_comes : (h k : KernelState) (disk : Disk) (c : ℕ) (left after : Option (List ℕ)) (r : Result Arrived Refusal) → IsSafe (system_of h disk)
     → IfOk r (λ a. TakesIn left after a.taken (λ bytes. (disk : Disk) → Serves (λ s. outside.arrive s c bytes) disk h (Ok a.taken) disk k)) → IfOk r (λ a. TakesIn left after a.taken (λ bytes. Comes c a.taken bytes (system_of h disk) (system_of k disk)))
@@ -70,7 +70,7 @@ arrived_comes h k disk c left after (Err x) safe read = read
 pub refused_stays : (h k : KernelState) (disk : Disk) (pool n : ℕ) (r : Result Arrived Refusal) → IsSafe (system_of h disk) → IfErr r (MayHaveEvicted pool n h k) → IfHonest disk (OnErr r (machine_of (system_of k disk) ≡ machine_of (system_of h disk)))
 refused_stays h k disk pool n (Ok a) safe err = λ honest. tt
 refused_stays h k disk pool n (Err x) safe (inl same) = λ honest. ap (λ (l : KernelState). held.machine_of disk.slots l) same
-refused_stays h k disk pool n (Err x) safe (inr late) = λ honest. late.1.same.files disk (safe.backed honest)
+refused_stays h k disk pool n (Err x) safe (inr late) = λ honest. late.room.same.files disk (safe.backed honest)
 
 -- Bytes that were sent.
 

@@ -76,7 +76,7 @@ module _ (pool pages : ℕ) (h k : KernelState) (room : MakesRoom pool pages h k
     make_places l (Err x) roomy fits number adds made late same sound cache stays lacks is =
         let room' : MakesRoom pool (pages_for (length bytes)) h k = subst (λ q. MakesRoom pool q h k) is room in
         subst (λ p. Places (λ s. aggs.agg_make s d bytes) (λ s t. aggs.with_agg s d t) p (length bytes) h (Err x) l) (sym (default (bytes_over [] h.store)))
-        (places_late (λ s. aggs.agg_make s d bytes) (λ s t. aggs.with_agg s d t) pool (length bytes) h k l x room' roomy (make_late l x late same) same late lacks)
+        (places_late (λ s. aggs.agg_make s d bytes) (λ s t. aggs.with_agg s d t) pool (length bytes) h k l x room' roomy fits (make_late l x late same) same late lacks)
 
 -- where the bytes have no room
 pub make_none : (pool d : ℕ) (bytes : List ℕ) (h k : KernelState) → MakesRoom pool (pages_for (length bytes)) h k → k ≡ h → ((f : Reading) → first (aggs.agg_make (read_of f h) d bytes).refusals ≡ None) → ((f : Reading) → aggs.default_pool (read_of f h) d ≡ pool) → can_fit h pool (length bytes) ≡ false

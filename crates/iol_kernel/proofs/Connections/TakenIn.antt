@@ -23,7 +23,7 @@ use Rattle.iol_kernel.specs.Backed.{Serves, with_slots}
 use Rattle.iol_kernel.specs.Borrowed.{TakesIn, arrive_from_refusals}
 use Rattle.iol_kernel.specs.Calls.{Arrives, Steps}
 use Rattle.iol_kernel.specs.KernelState.{KernelState, IsSound, machine_of}
-use Rattle.iol_kernel.specs.MakingRoom.{AfterRoom, IsSame, MakesRoom, MayHaveEvicted, can_fit}
+use Rattle.iol_kernel.specs.MakingRoom.{AfterRoom, IsSame, MakesRoom, MayHaveEvicted, RefusedRoomy, can_fit}
 use Rattle.iol_kernel.specs.Readings.{bytes_over}
 use Rattle.iol_kernel.proofs.State.AfterRoom.{kept_machine, memory_left, serves_after}
 use Rattle.iol_kernel.proofs.Connections.Arrived.{lacks_same, pool_same}
@@ -124,6 +124,9 @@ module _ (c max pool : ℕ) (h k : KernelState) (room : MakesRoom pool (pages_fo
   pub takes_stays : (l : KernelState) → Stays k.store l.store → Stays h.store l.store
   takes_stays l stays = stays_trans room.gives_up.moves.stays stays
 
+  pub fits_in : (b : Bool) → can_fit h pool 1 ≡ b → can_fit h (conn_at (machine_of [] h) c).pool 1 ≡ b
+  fits_in b is = ap (λ p. can_fit h p 1) in_pool ∙ is
+
   module _ (passed : first (arrive_from_refusals (machine_of [] h) c max) ≡ None) where
     late_here : (x : Refusal) → WantOfRoom (conn_at (machine_of [] h) c).pool x → IsRefused (arrive_from_refusals (machine_of [] h) c max) (WantOfRoom (conn_at (machine_of [] h) c).pool) x
     late_here x late = subst (λ (o : Option Refusal). MatchOption o (WantOfRoom (conn_at (machine_of [] h) c).pool x) (λ y. x ≡ y)) (sym passed) late
@@ -135,17 +138,19 @@ module _ (c max pool : ℕ) (h k : KernelState) (room : MakesRoom pool (pages_fo
     takes_refused (Ok a) is = tt
     takes_refused (Err x) is = late_here x (late_from x is)
 
-    pub takes_evicted : {A : Type 0} (r : Result A Refusal) (l : KernelState) → has_room k.store pool 1 ≡ true → ((p : ℕ) → r ≡ Err (NoRoom p) → has_room k.store (conn_at (machine_of [] k) c).pool 1 ≡ false) → IfErr r (IsRefused (arrive_from_refusals (machine_of [] k) c max) (WantOfRoom (conn_at (machine_of [] k) c).pool)) → OnErr r (l ≡ k) → IfErr r (MayHaveEvicted (conn_at (machine_of [] h) c).pool 1 h l)
-    takes_evicted (Ok a) l roomy lacks is same = tt
-    takes_evicted {A} (Err x) l roomy lacks is same =
+    pub takes_evicted : {A : Type 0} (r : Result A Refusal) (l : KernelState) → has_room k.store pool 1 ≡ true → can_fit h pool 1 ≡ true → ((p : ℕ) → r ≡ Err (NoRoom p) → has_room k.store (conn_at (machine_of [] k) c).pool 1 ≡ false) → IfErr r (IsRefused (arrive_from_refusals (machine_of [] k) c max) (WantOfRoom (conn_at (machine_of [] k) c).pool)) → OnErr r (l ≡ k) → IfErr r (MayHaveEvicted (conn_at (machine_of [] h) c).pool 1 h l)
+    takes_evicted (Ok a) l roomy fits lacks is same = tt
+    takes_evicted {A} (Err x) l roomy fits lacks is same =
         let none : (p : ℕ) → x ≡ NoRoom p → ⊥ = λ p e. absurd (cc (sym roomy ∙ ap (λ q. has_room k.store q 1) (sym (pool_kept ∙ in_pool)) ∙ lacks p (ap (λ y. Err y) e))) in
-        subst (λ (y : KernelState). MayHaveEvicted (conn_at (machine_of [] h) c).pool 1 h y x) (sym same) (inr (memory_left (conn_at (machine_of [] h) c).pool x (late_from x is) none, subst (λ p. MakesRoom p (pages_for 1) h k) (sym in_pool) room))
+        let went : RefusedRoomy (conn_at (machine_of [] h) c).pool 1 h k x = record {
+          memory = memory_left (conn_at (machine_of [] h) c).pool x (late_from x is) none;
+          fits = fits_in true fits;
+          room = subst (λ p. MakesRoom p (pages_for 1) h k) (sym in_pool) room;
+        } in
+        subst (λ (y : KernelState). MayHaveEvicted (conn_at (machine_of [] h) c).pool 1 h y x) (sym same) (inr went)
 
     pub none_refused : IsRefused (arrive_from_refusals (machine_of [] h) c max) (WantOfRoom (conn_at (machine_of [] h) c).pool) (NoRoom pool)
     none_refused = late_here (NoRoom pool) (sym in_pool)
-
-  pub fits_in : (b : Bool) → can_fit h pool 1 ≡ b → can_fit h (conn_at (machine_of [] h) c).pool 1 ≡ b
-  fits_in b is = ap (λ p. can_fit h p 1) in_pool ∙ is
 
   pub takes_room : {A : Type 0} (r : Result A Refusal) → has_room k.store pool 1 ≡ true → ((p : ℕ) → r ≡ Err (NoRoom p) → has_room k.store (conn_at (machine_of [] k) c).pool 1 ≡ false) → (p : ℕ) → r ≡ Err (NoRoom p) → can_fit h (conn_at (machine_of [] h) c).pool 1 ≡ false
   takes_room r roomy lacks p is = absurd (cc (sym roomy ∙ ap (λ q. has_room k.store q 1) (sym (pool_kept ∙ in_pool)) ∙ lacks p is))

@@ -38,8 +38,8 @@ use Rattle.iol_kernel.specs.Keeping.{KeepsBeside, LacksPages}
 use Rattle.iol_kernel.specs.Backed.{holding_of}
 use Rattle.iol_kernel.specs.KernelState.{KernelState, IsSound, read_of}
 use Rattle.iol_kernel.specs.Readings.{Reading, bytes_over}
-use Rattle.iol_kernel.specs.MakingRoom.{AfterRoom, MakesRoom}
-use Rattle.iol_kernel.specs.WritingFiles.{GivesUpNew, LaysInFile, LaysOn, LaysOver, PutsInFile, PutsOn, pool_of_file}
+use Rattle.iol_kernel.specs.MakingRoom.{AfterRoom, MakesRoom, can_fit}
+use Rattle.iol_kernel.specs.WritingFiles.{GivesUpNew, LaysInFile, LaysOn, LaysOver, PutsInFile, PutsOn, UnlaidRoomy, pool_of_file}
 use Rattle.iol_kernel.proofs.State.AfterRoom.{memory_left}
 use Rattle.iol_kernel.proofs.FileCalls.Kept.{beside_none, beside_same, room_keeps, unless_beside, unless_then, unwritten_unless, write_unless}
 use Rattle.iol_kernel.proofs.FileCalls.Named.{cache_sound}
@@ -169,9 +169,15 @@ module _ (f at pool count : ℕ) (bytes : List ℕ) (h k : KernelState) (same : 
   pub laid_none : {A : Type 0} (x : Refusal) → k ≡ h → LaysInFile {A = A} f at pool bytes h (Err x) k
   laid_none x same = record { lays = tt; leaves = inl same }
 
-  pub laid_roomed : (l : KernelState) (r : Result ℕ Refusal) → OnOk r (LaysOver f at pool bytes k l) → IfErr r (λ x. (l ≡ k) ⊎ GivesUpNew pool bytes k l) → IfErr r (WantOfRoom pool) → ((p : ℕ) → r ≡ Err (NoRoom p) → ⊥) → LaysInFile f at pool bytes h r l
-  laid_roomed l (Ok n) lays leaves late roomy' = record { lays = record { roomy = k; room = roomy; then = lays }; leaves = tt }
-  laid_roomed l (Err x) lays leaves late roomy' = record { lays = tt; leaves = inr (memory_left pool x late (λ p e. roomy' p (ap (λ y. Err y) e)), record { roomy = k; room = roomy; then = leaves }) }
+  pub laid_roomed : (l : KernelState) (r : Result ℕ Refusal) → can_fit h pool count ≡ true → OnOk r (LaysOver f at pool bytes k l) → IfErr r (λ x. (l ≡ k) ⊎ GivesUpNew pool bytes k l) → IfErr r (WantOfRoom pool) → ((p : ℕ) → r ≡ Err (NoRoom p) → ⊥) → LaysInFile f at pool bytes h r l
+  laid_roomed l (Ok n) fits lays leaves late roomy' = record { lays = record { roomy = k; room = roomy; then = lays }; leaves = tt }
+  laid_roomed l (Err x) fits lays leaves late roomy' =
+      let went : UnlaidRoomy pool bytes h l x = record {
+        memory = memory_left pool x late (λ p e. roomy' p (ap (λ y. Err y) e));
+        fits = ap (can_fit h pool) (sym same) ∙ fits;
+        left = record { roomy = k; room = roomy; then = leaves };
+      } in
+      record { lays = tt; leaves = inr went }
 
 -- the pool in which the bytes lie is the file's
 pub own_pool : (h : KernelState) (by fd f at pool : ℕ) (mode : Mode) → IsSound h → ((r : Reading) → machine.descriptor (read_of r h) by fd ≡ Some (on.File f at mode)) → ((r : Reading) → pool ≡ writing.pool_for (read_of r h) by (machine.descriptor (read_of r h) by fd)) → pool_of_file h f ≡ pool

@@ -31,4 +31,4 @@ left_late p q h k (Err x) same late = inr (subst (λ z. WantOfRoom z x) same lat
 
 pub left_placing : (p n : ℕ) (h k : KernelState) (r : Result ℕ Refusal) → IfErr r (MayHaveEvicted p n h k) → IfErr r (λ x. (k ≡ h) ⊎ WantOfRoom p x)
 left_placing p n h k (Ok m) left = tt
-left_placing p n h k (Err x) left = elim left [ inl same ↦ inl same | inr late ↦ inr (memory_wanted p x late.0) ]
+left_placing p n h k (Err x) left = elim left [ inl same ↦ inl same | inr late ↦ inr (memory_wanted p x late.memory) ]

@@ -148,12 +148,12 @@ places_filled m put pool n h k l a room fits' steps made sound cache stays = rec
 }
 
 -- for want of memory
-pub places_late : {A : Type 0} (m : State → Meaning A) (put : State → Text → State) (pool n : ℕ) (h k l : KernelState) (x : Refusal) → MakesRoom pool (pages_for n) h k → has_room k.store pool n ≡ true → Steps m k (Err x) l → l ≡ k → WantOfRoom pool x
+pub places_late : {A : Type 0} (m : State → Meaning A) (put : State → Text → State) (pool n : ℕ) (h k l : KernelState) (x : Refusal) → MakesRoom pool (pages_for n) h k → has_room k.store pool n ≡ true → can_fit h pool n ≡ true → Steps m k (Err x) l → l ≡ k → WantOfRoom pool x
     → ((p : ℕ) → ◌≡◌ {A = Result A Refusal} (Err x) (Err (NoRoom p)) → has_room k.store pool n ≡ false) → Places m put pool n h (Err x) l
-places_late {A} m put pool n h k l x room roomy steps same late lacks = subst (λ (y : KernelState). Places m put pool n h (Err x) y) (sym same) (record {
+places_late {A} m put pool n h k l x room roomy fits' steps same late lacks = subst (λ (y : KernelState). Places m put pool n h (Err x) y) (sym same) (record {
   serves = serves_after m pool (pages_for n) h k k (Err x) room (subst (λ (y : KernelState). Steps m k (Err x) y) same steps) room.sound refl refl (stays_here k.store);
   made = tt;
-  refused = inr (memory_left pool x late (λ p is. absurd (cc (sym roomy ∙ lacks p (ap (λ y. Err y) is)))), room);
+  refused = inr (record { memory = memory_left pool x late (λ p is. absurd (cc (sym roomy ∙ lacks p (ap (λ y. Err y) is)))); fits = fits'; room = room });
   room = tt;
   no_room = λ p e. absurd (cc (sym roomy ∙ lacks p e));
 })
@@ -187,7 +187,7 @@ module _ (m : State → Meaning ℕ) (put : State → Text → State) (pool_of :
       let here = subst (λ p. MakesBytes put p count k l) pool_now (subst (λ c. MakesBytes put (pool_of now) c k l) ((steps []).1 ∙ count_now) made) in
       as_asked (Ok n) l (places_filled m put pool count h k l n room fits' steps here sound cache stays)
   queue_places l (Err x) roomy fits' steps made same sound cache stays lacks =
-      as_asked (Err x) l (places_late m put pool count h k l x room roomy steps same (late_now x (steps []).0) (λ p e. ap (λ q. has_room k.store q count) (sym pool_now) ∙ ap (has_room k.store (pool_of now)) (sym count_now) ∙ lacks p e))
+      as_asked (Err x) l (places_late m put pool count h k l x room roomy fits' steps same (late_now x (steps []).0) (λ p e. ap (λ q. has_room k.store q count) (sym pool_now) ∙ ap (has_room k.store (pool_of now)) (sym count_now) ∙ lacks p e))
 
   pub queue_none : k ≡ h → ((f : Reading) → (m (read_of f h)).Late (NoRoom pool)) → can_fit h pool count ≡ false → Places m put (pool_of (machine_of [] h)) (m (machine_of [] h)).answer h (Err (NoRoom pool)) k
   queue_none same wants lacks = as_asked (Err (NoRoom pool)) k (places_none m put pool count h k room same passed wants lacks)
@@ -206,7 +206,7 @@ none_fit h p n lacks none =
 
 pub evicted_same : (pool n : ℕ) (h k : KernelState) (x : Refusal) → MayHaveEvicted pool n h k x → IsSame h k
 evicted_same pool n h k x (inl same) = subst (IsSame h) (sym same) (record { files = λ disk backed. refl; backed = λ disk backed. backed; beside = λ slots. refl })
-evicted_same pool n h k x (inr went) = went.1.same
+evicted_same pool n h k x (inr went) = went.room.same
 
 -- room was made, and the lowest free pages were filled
 pub filled_lowest : (put : State → Text → State) (pool n : ℕ) (h l : KernelState) → AfterRoom pool n h (λ roomy. MakesBytes put pool n roomy l) → FillsLowest pool h.store l.store

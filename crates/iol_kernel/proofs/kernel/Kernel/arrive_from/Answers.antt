@@ -1,4 +1,4 @@
-use Rattle.std.proofs.Common.{[], ◌≡◌, ℕ, ◌-◌, ◌≤◌, List, length}
+use Rattle.std.proofs.Common.{[], ◌≡◌, ◌∙◌, ℕ, ◌-◌, ◌≤◌, List, length}
 use Rattle.std.specs.Prelude.{Ok, min}
 use Rattle.iol_back.specs.Disk.{Disk}
 use Rattle.iol_core.specs.State.{conn_at}
@@ -21,7 +21,7 @@ pub returns-clause-refused : goal.returns-clause-refused
 returns-clause-refused g c = takes_refused c.args.conn c.args.max c.in_ok-pool.pool (state_of c.args.self.now) (state_of c.make_room_for.new.self) c.make_room_for.ensures.made c.in_ok-pool.ensures.pool c.in_ok-pool.ensures.passed c.read_in.result c.read_in.ensures.refused
 
 pub returns-clause-err : goal.returns-clause-err
-returns-clause-err g c = takes_evicted c.args.conn c.args.max c.in_ok-pool.pool (state_of c.args.self.now) (state_of c.make_room_for.new.self) c.make_room_for.ensures.made c.in_ok-pool.ensures.pool c.in_ok-pool.ensures.passed c.read_in.result (state_of c.read_in.new.self) (c.make_room_for.ensures.room c.if-not-make_room_for.false) c.read_in.ensures.no_room c.read_in.ensures.refused c.read_in.ensures.err
+returns-clause-err g c = takes_evicted c.args.conn c.args.max c.in_ok-pool.pool (state_of c.args.self.now) (state_of c.make_room_for.new.self) c.make_room_for.ensures.made c.in_ok-pool.ensures.pool c.in_ok-pool.ensures.passed c.read_in.result (state_of c.read_in.new.self) (c.make_room_for.ensures.room c.if-not-make_room_for.false) (c.make_room_for.ensures.fits ∙ c.if-not-make_room_for.false) c.read_in.ensures.no_room c.read_in.ensures.refused c.read_in.ensures.err
 
 pub returns-clause-no_room : goal.returns-clause-no_room
 returns-clause-no_room g c = takes_room c.args.conn c.args.max c.in_ok-pool.pool (state_of c.args.self.now) (state_of c.make_room_for.new.self) c.make_room_for.ensures.made c.in_ok-pool.ensures.pool c.read_in.result (c.make_room_for.ensures.room c.if-not-make_room_for.false) c.read_in.ensures.no_room

@@ -61,5 +61,5 @@ returns c =
       no_room = λ p e. absurd (c.fill_file.ensures.roomy p e);
       late = c.fill_file.ensures.late;
       puts = puts_roomed c.args.file c.args.at c.args.pool c.min-count.result (length c.args.bytes.now) h (state_of c.make_room_for.new.self) count c.make_room_for.ensures.made (state_of c.fill_file.new.self) c.fill_file.result c.fill_file.ensures.fills c.fill_file.ensures.beside;
-      lays = laid_roomed c.args.file c.args.at c.args.pool c.min-count.result c.args.bytes.now h (state_of c.make_room_for.new.self) count c.make_room_for.ensures.made (state_of c.fill_file.new.self) c.fill_file.result c.fill_file.ensures.lays c.fill_file.ensures.leaves c.fill_file.ensures.late c.fill_file.ensures.roomy;
+      lays = laid_roomed c.args.file c.args.at c.args.pool c.min-count.result c.args.bytes.now h (state_of c.make_room_for.new.self) count c.make_room_for.ensures.made (state_of c.fill_file.new.self) c.fill_file.result (c.make_room_for.ensures.fits ∙ c.if-not-make_room_for.false) c.fill_file.ensures.lays c.fill_file.ensures.leaves c.fill_file.ensures.late c.fill_file.ensures.roomy;
     }
