@@ -10,6 +10,7 @@ pub mod Completed
 pub mod Paging
 pub mod Woven
 pub mod Tiled
+pub mod Met
 pub mod Hits
 pub mod Texts
 pub mod Served

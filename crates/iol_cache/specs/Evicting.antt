@@ -1,11 +1,11 @@
 -- Clean extents that go, one after another.
-use Rattle.std.specs.Prelude.{◌≡◌, ℕ, zero, suc, ◌<◌, ◌≤◌, Bool, true, false, List, [], ◌∷◌, length, Option, Some, None}
+use Rattle.std.specs.Prelude.{◌≡◌, ℕ, zero, suc, ◌+◌, ◌<◌, ◌≤◌, Bool, true, false, List, [], ◌∷◌, length, Option, Some, None}
 use Rattle.std.specs.List.{list_any}
 use Rattle.iol_core.specs.declared.numbers.BufId.{BufId}
 use Rattle.iol_hold.specs.Stored.{Stored, AllSettled, count_of}
 use Rattle.iol_hold.specs.Moves.{Moves, Counts, SameLists}
 use Rattle.iol_hold.specs.Releases.{FreesOnly}
-use Rattle.iol_hold.specs.Room.{free_of}
+use Rattle.iol_hold.specs.Room.{free_of, pages_of}
 use Rattle.iol_hold.specs.Texts.{bufs_of}
 use Rattle.iol_extent.specs.Extents.{Extent, begins_at, cover}
 use Rattle.iol_evict.specs.declared.entry.Rank.{Rank}
@@ -14,11 +14,16 @@ use Rattle.iol_cache.specs.declared.files.CachedFile.{CachedFile}
 use Rattle.iol_cache.specs.Marks.{is_held_beside}
 use Rattle.iol_cache.specs.Contents.{Mirrors, SameFiles}
 use Rattle.iol_cache.specs.Cached.{Cached, file_in, extents_in, order_in, parts_at, held, clean_held, without_extent, with_evicted}
+use Rattle.iol_cache.specs.Pinned.{pinned_beside}
 
 -- a store, and a cache over it
 pub record Holding : Type 0 where
   pub store : Stored
   pub cache : Cached
+
+-- so many pages of a pool are free, or would be if clean extents were evicted
+abbrev pub HasPages : (p n : ℕ) → Holding → Type 0
+HasPages p n h = pinned_beside h.store (clean_held h.cache.files) p + n ≤ length (pages_of h.store p)
 
 -- whether a buffer of the extent that begins there is held by anything but clean extents
 unfoldable pub in_use : Stored → List CachedFile → (f at : ℕ) → Bool

@@ -11,3 +11,7 @@ pub record KeepsDirty (old new : Cached) : Type 0 where
 -- each byte that lies under an extent lies where it lay
 pub record KeepsCover (old new : Cached) : Type 0 where
   pub each : (f i : ℕ) (c : Cell) → cover (extents_in old.files f) i ≡ Some c → cover (extents_in new.files f) i ≡ Some c
+
+-- the extents of every file are as they were
+pub record SameExtents (old new : Cached) : Type 0 where
+  pub each : (f : ℕ) → extents_in new.files f ≡ extents_in old.files f

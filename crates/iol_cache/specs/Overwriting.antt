@@ -1,5 +1,5 @@
 -- What a write leaves of files and of extents.
-use Rattle.std.specs.Prelude.{◌≡◌, ◌≢◌, ℕ, ◌+◌, ◌<◌, ◌≤◌, true, List, length, Option, Some, None}
+use Rattle.std.specs.Prelude.{◌≡◌, ◌≢◌, ◌⊎◌, ℕ, ◌+◌, ◌<◌, ◌≤◌, true, List, length, Option, Some, None}
 use Rattle.iol_back.specs.Disk.{overwritten}
 use Rattle.iol_core.specs.Text as text
 use Rattle.iol_extent.specs.Extents.{Cell, Extent, cover}
@@ -10,7 +10,7 @@ use Rattle.iol_hold.specs.declared.slices.Slice.{Slice}
 use Rattle.iol_cache.specs.Cached.{Cached, extents_in, file_in}
 use Rattle.iol_cache.specs.Composing.{KeepsOwn, copied_pages}
 use Rattle.iol_cache.specs.Contents.{Mirrors, SameFiles, bytes_in_slot}
-use Rattle.iol_cache.specs.Evicting.{EvictsAll, GivesUp, Holding}
+use Rattle.iol_cache.specs.Evicting.{EvictsAll, GivesUp, HasPages, Holding}
 use Rattle.iol_cache.specs.Loading.{PlacesSome}
 use Rattle.iol_cache.specs.Preparing.{Prepares}
 use Rattle.iol_cache.specs.Reading.{SameButRoom}
@@ -60,17 +60,19 @@ pub record MakesRoom (pool n : ℕ) (old new : Holding) : Type 0 where
   pub victims : EvictsAll pool (Some n) (record { store = old.store; cache = reserved }) new
   pub gives_up : GivesUp (record { store = old.store; cache = reserved }) new
 
--- and nothing else became of the cache: what was placed in the pool is gone
+-- no page, extent, entry or height changed: at most room for extents and entries was reserved
+pub record LeavesAll (old new : Holding) : Type 0 where
+  pub store : new.store ≡ old.store
+  pub same : SameButRoom old.cache new.cache
+
+-- Room was made, and nothing else became of the cache: what was placed in the pool is gone. Extents went, and pages were
+-- filled, only where so many pages could be had.
 pub record OnlyMakesRoom (pool n : ℕ) (old new : Holding) : Type 0 where
   pub mid : Holding
   pub room : MakesRoom pool n old mid
   pub placed : PlacesSome mid.store new.store pool n
   pub cache : new.cache ≡ mid.cache
-
--- no page, extent, entry or height changed: at most room for extents and entries was reserved
-pub record LeavesAll (old new : Holding) : Type 0 where
-  pub store : new.store ≡ old.store
-  pub same : SameButRoom old.cache new.cache
+  pub met : HasPages pool n old ⊎ LeavesAll old new
 
 -- The bytes of the source and the parts beside them were prepared, and came in the place of what the range met.
 pub record Overwrites (f at : ℕ) (source : List Slice) (old new : Holding) : Type 0 where

@@ -12,7 +12,7 @@ use Rattle.iol_hold.specs.Releases.{FreesOnly}
 use Rattle.iol_hold.specs.Texts.{bufs_of}
 use Rattle.iol_hold.specs.declared.slices.Slice.{Slice}
 use Rattle.iol_cache.specs.Cached.{Cached, file_in, extents_in, order_in}
-use Rattle.iol_cache.specs.Evicting.{Holding, EvictsAll, GivesUp}
+use Rattle.iol_cache.specs.Evicting.{Holding, EvictsAll, GivesUp, HasPages}
 use Rattle.iol_cache.specs.Gaps.{gap_pages}
 use Rattle.iol_cache.specs.Going.{CountsHits, FillsFile}
 use Rattle.iol_cache.specs.Loading.{PlacesSome}
@@ -64,13 +64,14 @@ abbrev pub CompletesRange : (f from to : ℕ) → List Slice → List Span → D
 CompletesRange f from to pins gaps disk old new xs =
     IsAllShared pins gaps old new xs ⊎ FillsAfter f from to pins gaps disk old new xs
 
--- Room was made for the gaps; nothing is left of what was made of them, and what was shared beside them was released. Where
--- there is no room no extent went, and no page was filled.
+-- Room was made for the gaps; nothing is left of what was made of them, and what was shared beside them was released. Extents
+-- went, and pages were filled, only where the gaps' pages could be had, and not where there is no room.
 pub record UndoesAfter (f : ℕ) (pins : List Slice) (gaps : List Span) (old new : Holding) (x : Refusal) : Type 0 where
   pub mid : Holding
   pub victims : EvictsAll (file_in old.cache.files f).pool (Some (gap_pages gaps)) old mid
   pub less : GivesUp old mid
   pub full : Holding
+  pub met : HasPages (file_in old.cache.files f).pool (gap_pages gaps) old ⊎ (full ≡ old)
   pub kept : (p : ℕ) → x ≡ NoRoom p → full ≡ old
   pub same : SameButRoom mid.cache full.cache
   pub moves : Moves mid.store full.store [] []

@@ -157,7 +157,7 @@ impl Cache {
     /// The bytes that are in memory are shared. Room is made for the others, which are read into clean extents: all of
     /// them, or none. It is refused where the pages that are pinned and wanted do not fit the file's pool (`NoRoom`), where
     /// the store fails (`Fault`), and for want of memory. A refusal leaves no extent, only evictions and hits that count:
-    /// where there is no room, no evictions either. Where nothing is missing neither room nor the store is asked for.
+    /// where they do not fit, no evictions either. Where nothing is missing neither room nor the store is asked for.
     pub fn read<B: Backing>(
         &mut self,
         alloc: Global,

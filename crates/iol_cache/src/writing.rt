@@ -97,8 +97,8 @@ impl Cache {
             let clean = clean_held self.old.files.items in
             (q : ℕ) → result ≡ Err (Refusal.NoRoom q) → length (pages_of store.old p) <
             pinned_beside store.old clean p + copied_pages p source.now }
-        ensures kept { (q : ℕ) → result ≡ Err (Refusal.NoRoom q) →
-            LeavesAll (holding store.old self.old) (holding store.new self.new) }
+        ensures kept { OnErr result
+            (LeavesAll (holding store.old self.old) (holding store.new self.new)) }
         ensures late { IfErr result (WantOfRoom (file_in self.old.files.items file).pool) }
         ensures extents { OnOk result (3 ≤ (file_in self.new.files.items file).extents.room) }
         ensures entries { let p = (file_in self.old.files.items file).pool in
@@ -174,7 +174,7 @@ impl Cache {
     /// file's pool are shared, and the others are copied there.
     ///
     /// Refused, no file has changed: `NoRoom` where pinned pages and those for the copies are more than the pool has, which
-    /// leaves each extent and the order, and `Memory`, before which clean extents may have gone.
+    /// leaves each extent and the order, and `Memory`, before which clean extents may have gone where they are not more.
     pub fn write(
         &mut self,
         alloc: Global,

@@ -72,8 +72,8 @@ IsBeforeRoom (Fault f) = ⊥
 IsBeforeRoom y = Unit {0}
 
 -- A refused read. One that was refused before it asked for room changed nothing. A late one left hits that count, and clean
--- extents that went to make room, the first ones before the others; for want of memory it may have come before any hit was
--- shared.
+-- extents that went to make room, the first ones before the others, where the pages that it wanted could be had; for want of
+-- memory it may have come before any hit was shared.
 abbrev pub LeavesAtRefusal : (x : FileRead) → Disk → (old : KernelState) → (after : Disk) → (new : KernelState) → Refusal → Type 0
 LeavesAtRefusal x disk old after new y =
     (IsBeforeRoom y × (new ≡ old) × (after ≡ disk))

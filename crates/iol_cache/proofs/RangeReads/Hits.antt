@@ -1,17 +1,14 @@
 -- A range whose hits were shared: what the rest of its read needs.
 use Rattle.std.proofs.Common.{◌≡◌, ℕ, ◌+◌, ◌<◌, ◌≤◌, ◌^◌, true, List, [], ◌∷◌, ◌++◌, length, map, Result, sym, ap, ◌∙◌, arith, subst, inl, inr}
-use Rattle.std.specs.List.{All, flat_map}
+use Rattle.std.specs.List.{All}
 use Rattle.std.proofs.lemmas.List.Elements.{All-append}
 use Rattle.iol_core.specs.Numbered.{is_numbered}
-use Rattle.iol_core.specs.declared.numbers.BufId.{BufId}
 use Rattle.iol_core.specs.declared.refusals.Refusal.{Refusal}
 use Rattle.iol_arena.specs.State.{page_count}
-use Rattle.iol_arena.specs.Chunks.{chunk_pages}
 use Rattle.iol_back.specs.Disk.{Disk}
 use Rattle.iol_extent.specs.Extents.{Extent}
 use Rattle.iol_extent.specs.Spans.{IsGapSpan}
 use Rattle.iol_extent.specs.declared.spans.Span.{Span}
-use Rattle.iol_pool.specs.Pools.{Pool, pool_in}
 use Rattle.iol_hold.specs.Moves.{Covers, pool_meant, tally}
 use Rattle.iol_hold.specs.Places.{byte_len, places}
 use Rattle.iol_hold.specs.Room.{pages_of}
@@ -24,7 +21,7 @@ use Rattle.iol_cache.specs.declared.files.CachedFile.{CachedFile}
 use Rattle.iol_cache.specs.Cached.{Cached, clean_held, extents_in, file_in, held, all_parts}
 use Rattle.iol_cache.specs.Evicting.{Holding}
 use Rattle.iol_cache.specs.Gaps.{gap_pages}
-use Rattle.iol_cache.specs.Going.{Goes, HasRoom, LacksRoom, Pins}
+use Rattle.iol_cache.specs.Going.{Goes, HasRoom, LacksRoom}
 use Rattle.iol_cache.specs.Pinned.{pinned_beside}
 use Rattle.iol_cache.specs.Ranges.{CompletesRange, PinsRange}
 use Rattle.iol_cache.specs.Serving.{TellsRoom}
@@ -32,6 +29,7 @@ use Rattle.iol_cache.specs.Sharing.{CountsBelow, places_over}
 use Rattle.iol_cache.specs.Sound.{IsSound}
 use Rattle.iol_cache.specs.Weaving.{IsCoveredBeside, len_beside, places_beside, places_read, woven}
 use Rattle.iol_cache.proofs.Extents.Filing.{numbered_bounds, numbered_yes}
+use Rattle.iol_cache.proofs.RangeReads.Met.{has_hit, lacks_hit}
 use Rattle.iol_cache.proofs.RangeReads.Ranged.{laid_readable, tally_len}
 use Rattle.iol_cache.proofs.RangeReads.Served.{extents_filled, tells_more}
 use Rattle.iol_cache.proofs.RangeReads.Shared.{over_there, readable_of, readable_same, settles_shares}
@@ -86,17 +84,8 @@ module _ (f from to : ℕ) (a b : Holding) (pins : List Slice) (gs : List Span) 
 
   -- The room that there is while these are held.
 
-  abbrev pins_hit : Pins a.store a.cache f from to
-  pins_hit = record { hits = x.hits; gaps = gs; tile = x.tile; mid = b.store; pins = pins; lies = x.lies; shares = x.shares }
-
-  pinned_same : pinned_beside b.store (clean_held b.cache.files) (file_in b.cache.files f).pool ≡ pinned_beside b.store (clean_held a.cache.files) (file_in a.cache.files f).pool
-  pinned_same = ap (pinned_beside b.store (clean_held b.cache.files)) (pool_same f) ∙ ap (λ (l : List BufId). pinned_beside b.store l (file_in a.cache.files f).pool) (ap clean_held x.counted.files ∙ x.rooms.clean)
-
-  all_same : length (pages_of b.store (file_in b.cache.files f).pool) ≡ length (pages_of a.store (file_in a.cache.files f).pool)
-  all_same = ap (λ p. length (pages_of b.store p)) (pool_same f) ∙ ap (λ (ps : List Pool). length (flat_map chunk_pages (pool_in ps (file_in a.cache.files f).pool).chunks)) x.shares.pools
-
   pub room_hit : {A : Type 0} (r : Result A Refusal) → (let p = (file_in b.cache.files f).pool in let wanted = pinned_beside b.store (clean_held b.cache.files) p + gap_pages gs in let all = length (pages_of b.store p) in TellsRoom (wanted ≤ all) (all < wanted) r) → TellsRoom (HasRoom a.store a.cache f from to) (LacksRoom a.store a.cache f from to) r
-  room_hit r h = tells_more _ _ (HasRoom a.store a.cache f from to) (LacksRoom a.store a.cache f from to) r (λ k. record { pinned = pins_hit; fits = omega (arith, k, pinned_same, all_same) }) (λ k. record { pinned = pins_hit; lacks = omega (arith, k, pinned_same, all_same) }) h
+  room_hit r h = tells_more _ _ (HasRoom a.store a.cache f from to) (LacksRoom a.store a.cache f from to) r (has_hit f from to a b pins gs x) (lacks_hit f from to a b pins gs x) h
 
   -- Where the bytes of the range lie in the end.
   pub lies_read : (d : Disk) (c : Holding) (xs : List Slice) → CompletesRange f from to pins gs d b c xs → places xs ≡ places_read es (extents_in c.cache.files f) from to gs

@@ -1,5 +1,5 @@
 -- What a read of a file leaves of a kernel, from what the cache of files promises of it.
-use Rattle.std.proofs.Common.{◌≡◌, ℕ, ◌+◌, ◌≤◌, List, [], ◌∷◌, ◌++◌, length, ap, refl, sym, subst, arith, Some, true, inl, inr, length-append}
+use Rattle.std.proofs.Common.{◌≡◌, ◌⊎◌, ℕ, ◌+◌, ◌≤◌, List, [], ◌∷◌, ◌++◌, length, ap, refl, sym, subst, arith, Some, true, inl, inr, length-append}
 use Rattle.std.specs.Prelude.{Ok, Err}
 use Rattle.iol_core.specs.Numbered.{in_place, is_numbered}
 use Rattle.iol_core.specs.State.{Domain}
@@ -22,15 +22,17 @@ use Rattle.iol_hold.proofs.Releasing.{frees_none}
 use Rattle.iol_desc.specs.Tables.{domain_in, with_agg_in}
 use Rattle.iol_cache.specs.Cached.{Cached, extents_in}
 use Rattle.iol_cache.specs.Evicting.{Holding}
+use Rattle.iol_cache.specs.Keeping.{SameExtents}
 use Rattle.iol_cache.specs.Paging.{FillsLowest}
 use Rattle.iol_cache.specs.Serving.{FaultCounts, NoRoomToRead, ReadsFile, RefusesRead, RoomToRead, TellsFault, TellsRoom}
 use Rattle.iol_cache.specs.Sharing.{CountsBelow, places_over}
 use Rattle.iol_cache.specs.Weaving.{places_read}
 use Rattle.iol_cache.proofs.Extents.Keeping.{apart_of}
+use Rattle.iol_cache.proofs.RangeReads.Met.{refused_met}
 use Rattle.iol_cache.proofs.RangeReads.Paging.{fills_none}
 use Rattle.iol_cache.proofs.RangeReads.Shared.{length-places_over}
 use Rattle.iol_kernel.specs.Backed.{holding_of}
-use Rattle.iol_kernel.specs.FileReading.{CopiesFileAs, FileRead, GivesCopy, GivesRead, IsBeforeRoom, ReadsFileAs, moved_on, pool_read}
+use Rattle.iol_kernel.specs.FileReading.{CopiesFileAs, FileRead, GivesCopy, GivesRead, IsBeforeRoom, LeavesAtRefusal, ReadsFileAs, moved_on, pool_read}
 use Rattle.iol_kernel.specs.KernelState.{KernelState, objects_of, IsSound}
 use Rattle.iol_kernel.proofs.FileCalls.FileReads.{numbered_here}
 use Rattle.iol_kernel.specs.Keeping.{LacksPagesToRead}
@@ -101,6 +103,11 @@ reads_nothing {A} x disk h k y same room counts before = subst (λ (l : KernelSt
   refused = refl;
   leaves = inl (before, refl, refl);
 })
+
+-- a refused read: the pages that it wanted could be had, or no extent went
+pub read_met : (x : FileRead) (disk after : Disk) (old new : KernelState) (y : Refusal) → LeavesAtRefusal x disk old after new y → RoomToRead x.file x.at x.count disk (holding_of old) ⊎ SameExtents old.cache new.cache
+read_met x disk after old new y (inl (before, same, asked)) = inr (record { each = λ f. ap (λ (k : KernelState). extents_in k.cache.files f) same })
+read_met x disk after old new y (inr (late, refused)) = refused_met x.file x.at x.count disk (holding_of old) (holding_of new) y refused
 
 -- a copying read that has changed nothing
 pub copies_nothing : (x : FileRead) (disk : Disk) (h : KernelState) (y : Refusal) → TellsRoom {A = List ℕ} (RoomToRead x.file x.at x.count disk (holding_of h)) (NoRoomToRead x.file x.at x.count disk (holding_of h)) (Err y) → FaultCounts {A = List ℕ} disk disk (Err y) → IsBeforeRoom y → CopiesFileAs x disk h (Err y) disk h

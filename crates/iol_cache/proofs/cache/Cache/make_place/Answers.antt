@@ -105,7 +105,7 @@ returns-clause-lacks c = λ q e.
     true_false h = cc
 
 pub returns-clause-kept : goal.returns-clause-kept
-returns-clause-kept c = λ q e. refused_room c.args.store.now (cached_of c.args.self.now) (cached_of c.reserve_places.new.self) (holding c.make_room.new.store c.make_room.new.self) c.in-Ok.ensures.same (c.make_room.ensures.refused c.if-make_room.false)
+returns-clause-kept c = refused_room c.args.store.now (cached_of c.args.self.now) (cached_of c.reserve_places.new.self) (holding c.make_room.new.store c.make_room.new.self) c.in-Ok.ensures.same (c.make_room.ensures.refused c.if-make_room.false)
 
 pub returns-clause-late : goal.returns-clause-late
 returns-clause-late c =

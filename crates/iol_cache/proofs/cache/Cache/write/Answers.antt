@@ -1,4 +1,4 @@
-use Rattle.std.proofs.Common.{◌≡◌, ℕ, ◌<◌, ◌≤◌, List, [], ◌∷◌, length, refl, sym, arith, subst}
+use Rattle.std.proofs.Common.{inr, ◌≡◌, ℕ, ◌<◌, ◌≤◌, List, [], ◌∷◌, length, refl, sym, arith, subst}
 use mathlib.Core.Bool.{not}
 use Rattle.std.proofs.lemmas.Bool.Decides.{nat_tests}
 use Rattle.std.proofs.lemmas.List.Filters.{length-filter_both}
@@ -61,7 +61,7 @@ pub returns-in-Err-clause-evicts : goal.returns-in-Err-clause-evicts
 returns-in-Err-clause-evicts c =
     let p = (file_in c.args.self.now.files.items c.args.file).pool in
     let mid = holding c.make_place.new.store c.make_place.new.self in
-    record { mid = mid; room = c.make_place.ensures.room; placed = places_none mid.store p (copied_pages p c.args.source.now); cache = refl }
+    record { mid = mid; room = c.make_place.ensures.room; placed = places_none mid.store p (copied_pages p c.args.source.now); cache = refl; met = inr c.in-Err.ensures.kept }
 
 pub returns-in-Err-clause-pages : goal.returns-in-Err-clause-pages
 returns-in-Err-clause-pages c =
