@@ -42,7 +42,8 @@ pages_to_write h f source = pinned_beside h.store (clean_held h.cache.files) (po
     + copied_pages (pool_of_file h f) source
 
 -- A refused write. One that was refused before it made room changed nothing. A late one made room at most, the first extents
--- before the others, and what it placed is gone; for want of room no extent went, and no page was filled.
+-- before the others, and what it placed is gone; for want of room, and wherever the pages to write cannot be had, no extent went,
+-- and no page was filled.
 abbrev pub LeavesUnwritten : (f : ℕ) (source : List Slice) (old new : KernelState) → Refusal → Type 0
 LeavesUnwritten f source old new x =
     (new ≡ old)

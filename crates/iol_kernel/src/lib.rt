@@ -14,8 +14,8 @@
 //! - `Places` (`specs/MakingRoom`): the step of a call that places new bytes, as `agg_make` and `arrive`.
 //!   Clean extents of files give way to them, and they lie on the lowest free pages of the pool then.
 //!
-//! A refused call changes nothing of what the system means; where it wants pages, clean extents may
-//! have gone. Between any two calls it is sound (`IsSound`).
+//! A refused call changes nothing of what the system means; where it wants pages, and has room, clean
+//! extents may have gone. Between any two calls it is sound (`IsSound`).
 //!
 //! ```text
 //! let mut kernel = Kernel::new(alloc, config)?;

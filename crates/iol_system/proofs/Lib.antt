@@ -8,6 +8,7 @@ pub mod GivenBack
 pub mod Freed
 pub mod Hits
 pub mod Lacking
+pub mod Hopeless
 pub mod Paged
 pub mod Returned
 pub mod Empty

@@ -2,8 +2,9 @@
 --
 -- The copying machine's own run (`iol_core`, `Run`) says what is answered, and leaves open when there is room and where
 -- bytes lie. A chain has at each link all that `System::step` promises, so nothing that holds of a step is lost in a run.
-use Rattle.std.specs.Prelude.{◌≡◌, true, false, List, [], ◌∷◌}
+use Rattle.std.specs.Prelude.{◌≡◌, ◌⊎◌, true, false, List, [], ◌∷◌}
 use Rattle.iol_back.specs.Disk.{IfHonest}
+use Rattle.iol_cache.specs.Keeping.{SameExtents}
 use Rattle.iol_cache.specs.Serving.{FaultCounts}
 use Rattle.iol_core.specs.Run.{meaning, outcome, StepsTo}
 use Rattle.iol_core.specs.Sharing.{is_sharing, LaysOut}
@@ -29,8 +30,8 @@ use Rattle.iol_system.specs.WrittenBack.{IsDropped, IsFlushed, IsKept, IsSynced,
 -- fault is answered just where it failed once more, and only where there is room. What an honest store has changes where
 -- something is written back alone. NoRoom is answered exactly where there is no room. A refusal changes nothing at all; but
 -- where the event wants pages or works on what memory has of files, one for want of room or of memory or by a fault may leave
--- clean parts of files gone, those that go first before the others, hits counted, pages raised that were filled and are free
--- again, and by `fsync` and `flush` what was written back before. Other events leave what memory has of files, but that a new
+-- clean parts of files gone, those that go first before the others, but none where there is no room, hits counted, pages raised
+-- that were filled and are free again, and by `fsync` and `flush` what was written back before. Other events leave what memory has of files, but that a new
 -- file has nothing there; `show` and `length` change nothing at all. What a sharing call hands on lies where it lay, and no
 -- page and no pool changes; what a call leaves that is not about bytes lies where it lay, and so does what is left where
 -- bytes are sent, copied out of a queue, or a position moves; that changes no page, nor does writing back; bytes of files in
@@ -51,6 +52,7 @@ pub record Promises (old : SystemState) (e : Event) (r : Reply) (new : SystemSta
   pub asked : asks_store (tables_of old.kernel) e ≡ true → IsFault r → HasRoomFor old e
   pub room : IsDone r → HasRoomFor old e
   pub no_room : IsNoRoom r → LacksRoomFor old e
+  pub met : IsRefused r → HasRoomFor old e ⊎ SameExtents old.kernel.cache new.kernel.cache
   pub early : IsEarly r → new ≡ old
   pub refused : uses_cache (tables_of old.kernel) e ≡ false → IsRefused r → new ≡ old
   pub uncached : uses_cache (tables_of old.kernel) e ≡ false → makes_file e ≡ false → new.kernel.cache ≡ old.kernel.cache

@@ -8,6 +8,7 @@ ghost use Rattle.iol_core.specs.Values.{ValuesStay};
 ghost use Rattle.iol_system.specs.Promises.{Promises, Chain};
 ghost use Rattle.iol_system.specs.Values.{ValuesStayOver};
 ghost use Rattle.iol_hold.specs.Moves.{Stays};
+ghost use Rattle.iol_cache.specs.Keeping.{SameExtents};
 ghost use Rattle.iol_cache.specs.Serving.{FaultCounts};
 ghost use Rattle.iol_kernel.specs.KernelState.{layout_of, joined};
 ghost use Rattle.iol_back.specs.Disk.{IfHonest};
@@ -154,6 +155,10 @@ impl<B: Backing> System<B> {
             HasRoomFor self.old event }
         ensures room { IsDone result → HasRoomFor self.old event }
         ensures no_room { IsNoRoom result → LacksRoomFor self.old event }
+
+        // Where there is no room a refusal, also one for want of memory, leaves the extents of every file.
+        ensures met { IsRefused result → HasRoomFor self.old event ⊎
+            SameExtents self.old.kernel.cache self.new.kernel.cache }
 
         // A refused event changes nothing at all of what the system holds. Only for want of room or of memory, or by a fault, one
         // that wants pages or works on a file may leave something by then: clean parts of files that gave way, the first ones
