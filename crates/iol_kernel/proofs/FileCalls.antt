@@ -16,6 +16,7 @@ pub mod FilledServes
 pub mod Faults
 pub mod Called
 pub mod Seeking
+pub mod FileEnds
 pub mod NewFiles
 pub mod Kept
 pub mod PutBeside

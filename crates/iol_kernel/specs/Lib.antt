@@ -12,6 +12,7 @@ pub mod WritingFiles
 pub mod WritingBack
 pub mod Calls
 pub mod FileReading
+pub mod FileEnds
 pub mod MakingRoom
 pub mod Copying
 pub mod Adding

@@ -8,6 +8,7 @@ ghost use Rattle.iol_core.specs.Calls.Files as calls;
 ghost use Rattle.iol_core.specs.Calls.Files.{file_called};
 ghost use Rattle.iol_back.specs.Disk.{IfHonest};
 ghost use Rattle.iol_kernel.specs.Calls.{TellsNext};
+ghost use Rattle.iol_kernel.specs.FileEnds.{FitsNext, is_next_long};
 ghost use Rattle.iol_kernel.specs.Files.{opens};
 ghost use Rattle.iol_kernel.specs.KernelState.{IsSound};
 ghost use Rattle.iol_kernel.specs.Readings.{Reading};
@@ -26,7 +27,7 @@ impl Kernel {
 
     /// Gives the next slot of the store under files a name and a pool. The file begins with the bytes that are stored there.
     ///
-    /// `TooLong` is answered by what an honest store says of the slot's length.
+    /// `TooLong` is answered by what the store tells of the slot's length. Of an honest store that is what it has there.
     #[tactic(auto, using(crate::proofs::State::Stay::stay_rules))]
     pub fn file_new<B: Backing>(
         &mut self,
@@ -36,8 +37,9 @@ impl Kernel {
         pool: PoolId,
     ) -> Result<FileId, Refusal>
         requires { IsSound (state_of self.old) }
-        ensures { Names (B.disk backing.now) (λ s. calls.file_new s by name.now pool) self.old result
-            self.new }
+        ensures names { Names (B.disk backing.now) (λ s. calls.file_new s by name.now pool) self.old
+            result self.new }
+        ensures fits { FitsNext (B.disk backing.now) (state_of self.old) result }
     {
         if !self.is_live(by) {
             return Err(Refusal::NoDomain);
@@ -142,6 +144,7 @@ impl Kernel {
         ensures honest { IfHonest (B.disk backing.now) ((f : Reading) → f.stored ≡ (B.disk backing.now).slots → result ≡
             nat_lt MAX_FILE_BYTES (length (content (as_read f self.now) (length (as_read f self.now).files + 1)))) }
         ensures told { TellsNext (state_of self.now) result }
+        ensures long { result ≡ is_next_long (B.disk backing.now) (state_of self.now) }
     {
         let count = self.files.table.len();
         if count >= MAX_FILES {

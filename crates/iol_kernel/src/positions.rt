@@ -3,7 +3,9 @@ ghost use Rattle.std.specs.Prelude.{◌≡◌, ◌≤◌, length, true, IfOk};
 ghost use Rattle.iol_core.specs.Numbered.{is_numbered};
 ghost use Rattle.iol_core.specs.State.{content};
 ghost use Rattle.iol_core.specs.Calls.Files as calls;
+ghost use Rattle.iol_cache.specs.Serving.{IsEnd};
 ghost use Rattle.iol_kernel.specs.Backed.{IsBackedBy};
+ghost use Rattle.iol_kernel.specs.FileEnds.{EndsAt, Seeks};
 ghost use Rattle.iol_kernel.specs.KernelState.{machine_of, IsSound};
 
 use crate::kernel::Kernel;
@@ -16,7 +18,8 @@ use iol_core::refusals::Refusal;
 impl Kernel {
     ghost use Rattle.iol_kernel.specs.Kernel.{state_of, LooksUp};
 
-    /// Puts a descriptor on a file at a position, at most at the file's end.
+    /// Puts a descriptor on a file at a position, at most at the file's end. Of a store that is not honest, that is where a
+    /// read of the file would end now.
     pub fn seek<B: Backing>(
         &mut self,
         backing: &B,
@@ -25,7 +28,9 @@ impl Kernel {
         at: u32,
     ) -> Result<(), Refusal>
         requires { IsSound (state_of self.old) }
-        ensures { LooksUp (λ s. calls.seek s by fd at) (B.disk backing.now) self.old result self.new }
+        ensures looks { LooksUp (λ s. calls.seek s by fd at) (B.disk backing.now) self.old result
+            self.new }
+        ensures ends { Seeks by fd at (B.disk backing.now) (state_of self.old) result }
     {
         if !self.is_live(by) {
             return Err(Refusal::NoDomain);
@@ -51,6 +56,8 @@ impl Kernel {
         ensures told { LooksUp (λ s. calls.file_length s by fd) (B.disk backing.now) self.now result
             self.now }
         ensures short { IfOk result (λ n. n ≤ MAX_FILE_BYTES) }
+        ensures ends { IfOk result
+            (λ n. EndsAt by fd n (B.disk backing.now) (state_of self.now)) }
     {
         if !self.is_live(by) {
             return Err(Refusal::NoDomain);
@@ -71,6 +78,7 @@ impl Kernel {
         ensures short { result ≤ MAX_FILE_BYTES }
         ensures is { let h = state_of self.now in let disk = B.disk backing.now in
             IsBackedBy disk h → result ≡ length (content (machine_of disk.slots h) file) }
+        ensures end { IsEnd (B.disk backing.now) (state_of self.now).cache file result }
     {
         self.files.cache.file_length(backing, file)
     }

@@ -30,6 +30,7 @@ use Rattle.iol_kernel.proofs.State.Serving.{backed_stays, steps_beside}
 use Rattle.iol_kernel.proofs.State.Stay.{pages_equal}
 use Rattle.iol_system.specs.Asking.{asks_store, uses_cache, writes_store}
 use Rattle.iol_system.specs.Doing.{Does}
+use Rattle.iol_system.specs.FileEnds.{TellsEnd}
 use Rattle.iol_system.specs.Late.{LeavesLate}
 use Rattle.iol_system.specs.Machine.{SystemState, system_of, tables_of}
 use Rattle.iol_system.specs.InPlace.{KeepsInPlace}
@@ -49,11 +50,11 @@ done_tells : Tells {A = Unit {0}} (λ u. reply.Done)
 done_tells = record { answers = λ a. refl; roomy = λ a x. x; unrefused = λ a x. x }
 
 module _ (m : State → Meaning (Unit {0})) (e : Event) (disk after : Disk) (old new : KernelState) (r : Result (Unit {0}) Refusal) where
-  pub stores_does : Means (λ u. reply.Done) m e → ((s : State) → uses_cache s e ≡ true) → ((s : State) → is_sharing s e ≡ false) → ((s : State) → takes_out s e ≡ false) → is_still e ≡ false → only_looks e ≡ false → (keeps_store e ≡ true → new.store ≡ old.store) → LeavesLate (system_of old disk) e (told (λ u. reply.Done) r) (system_of new after)
+  pub stores_does : Means (λ u. reply.Done) m e → TellsEnd (system_of old disk) e (told (λ u. reply.Done) r) → ((s : State) → uses_cache s e ≡ true) → ((s : State) → is_sharing s e ≡ false) → ((s : State) → takes_out s e ≡ false) → is_still e ≡ false → only_looks e ≡ false → (keeps_store e ≡ true → new.store ≡ old.store) → LeavesLate (system_of old disk) e (told (λ u. reply.Done) r) (system_of new after)
       → ((s : SystemState) → HasRoomFor s e) → (KeepsPages old.store new.store [] → Publishes old e new) → ((x : Reply) → Creates old e x new) → ((x : Reply) → new.sums ≡ old.sums → Remembers old e x new)
       → (asks_store (tables_of old) e ≡ false → after ≡ disk) → (asks_store (tables_of old) e ≡ true → FaultCounts disk after r) → ((p : ℕ) → r ≡ Err (NoRoom p) → ⊥)
       → KeepsPages old.store new.store [] → WritesBack disk old e (told (λ u. reply.Done) r) after new → KeepsInPlace (system_of old disk) e new → shares_file e ≡ false → Serves m disk old r after new → (writes_store e ≡ false → after.slots ≡ disk.slots) → (IsEarly (told (λ u. reply.Done) r) → (new ≡ old) × (after ≡ disk)) → Does disk old e (told (λ u. reply.Done) r) after new
-  stores_does means uses unshared inside moving looking store late has publishes creates sums unasked faults roomy pages written lies unlent serves slots early = record {
+  stores_does means ends uses unshared inside moving looking store late has publishes creates sums unasked faults roomy pages written lies unlent serves slots early = record {
     step = λ backed placed. means (machine_of disk.slots old) (machine_of after.slots new) r (serves.step backed placed);
     backed = serves.backed;
     beside = told_beside (λ u. reply.Done) m e old new r means serves.beside;
@@ -78,6 +79,7 @@ module _ (m : State → Meaning (Unit {0})) (e : Event) (disk after : Disk) (old
     shares_file = λ done. shares_none (system_of old disk) (told (λ u. reply.Done) r) new e unlent;
     publishes = λ done. publishes pages;
     creates = creates (told (λ u. reply.Done) r);
+    ends = ends;
     sums = sums (told (λ u. reply.Done) r) serves.sums;
     written_back = written;
     sound = serves.sound;
@@ -103,7 +105,7 @@ module _ (by fd : ℕ) (disk after : Disk) (old new : KernelState) (r : Result (
 
   pub syncs_does : IsSound old → Means (λ u. reply.Done) (λ s. files.fsync s by fd) (event.Call by (call.Fsync fd)) → Serves (λ s. files.fsync s by fd) disk old r after new → SyncsFile (files.file_on (tables_of old) by fd) disk old r after new → Does disk old (event.Call by (call.Fsync fd)) (told (λ u. reply.Done) r) after new
   syncs_does sound means serves syncs =
-      stores_does (λ s. files.fsync s by fd) (event.Call by (call.Fsync fd)) disk after old new r means (λ s. refl) (λ s. refl) (λ s. refl) refl refl (λ keeps. ap (λ (h : KernelState). h.store) syncs.same) tt (λ s. tt) (λ k. k) (λ x. tt) (λ x k. k)
+      stores_does (λ s. files.fsync s by fd) (event.Call by (call.Fsync fd)) disk after old new r means tt (λ s. refl) (λ s. refl) (λ s. refl) refl refl (λ keeps. ap (λ (h : KernelState). h.store) syncs.same) tt (λ s. tt) (λ k. k) (λ x. tt) (λ x k. k)
       (λ none. absurd (true≢false none)) (λ asked. syncs.counts) (sync_roomy serves)
       (pages_equal old.store new.store (ap (λ (h : KernelState). h.store) syncs.same)) (syncs_back by fd disk after old new r sound serves.sound syncs) (syncs_in_place by fd (files.file_on (tables_of old) by fd) disk after old new syncs.syncs) refl serves
       (λ none. absurd (true≢false none)) (sync_early (files.file_on (tables_of old) by fd) r syncs.writes)
@@ -121,14 +123,14 @@ module _ (disk after : Disk) (old new : KernelState) (r : Result (Unit {0}) Refu
 
   pub flushes_does : IsSound old → Means (λ u. reply.Done) outside.flush event.Flush → Serves outside.flush disk old r after new → FlushesOne disk old r after new → Does disk old event.Flush (told (λ u. reply.Done) r) after new
   flushes_does sound means serves flushes =
-      stores_does outside.flush event.Flush disk after old new r means (λ s. refl) (λ s. refl) (λ s. refl) refl refl (λ keeps. ap (λ (h : KernelState). h.store) flushes.same) tt (λ s. tt) (λ k. k) (λ x. tt) (λ x k. k)
+      stores_does outside.flush event.Flush disk after old new r means tt (λ s. refl) (λ s. refl) (λ s. refl) refl refl (λ keeps. ap (λ (h : KernelState). h.store) flushes.same) tt (λ s. tt) (λ k. k) (λ x. tt) (λ x k. k)
       (λ none. absurd (true≢false none)) (λ asked. flushes.counts) (flush_roomy serves)
       (pages_equal old.store new.store (ap (λ (h : KernelState). h.store) flushes.same)) (flushes_back disk after old new r sound flushes) (flushes_in_place disk after old new r sound flushes) refl serves
       (λ none. absurd (true≢false none)) (flush_early r serves.beside)
 
 pub drops_does : (disk : Disk) (old new : KernelState) → Means (λ u. reply.Done) outside.drop_clean event.DropClean → Serves outside.drop_clean disk old (Ok tt) disk new → KeepsPages old.store new.store [] → DropsClean old new → KeepsDirty old.cache new.cache → Does disk old event.DropClean reply.Done disk new
 drops_does disk old new means serves pages drops keeps =
-    stores_does outside.drop_clean event.DropClean disk disk old new (Ok tt) means (λ s. refl) (λ s. refl) (λ s. refl) refl refl (λ keeps. absurd (true≢false (sym keeps))) tt (λ s. tt) (λ k. k) (λ x. tt) (λ x k. k)
+    stores_does outside.drop_clean event.DropClean disk disk old new (Ok tt) means tt (λ s. refl) (λ s. refl) (λ s. refl) refl refl (λ keeps. absurd (true≢false (sym keeps))) tt (λ s. tt) (λ k. k) (λ x. tt) (λ x k. k)
     (λ none. refl) (λ asked. absurd (true≢false (sym asked))) (λ p is. cc) pages (drops_back old new disk drops) (drops_in_place disk old new keeps) refl serves
     (λ none. refl) (λ is. absurd is)
 
@@ -173,6 +175,7 @@ module _ (by chunks : ℕ) (list : List ℕ) (disk : Disk) (old new : KernelStat
         shares_file = λ done. tt;
         publishes = λ done. c.pages;
         creates = pool_creates r adds;
+        ends = tt;
         sums = c.sums;
         written_back = none_back disk old (told reply.Pool r) disk new pool_event refl;
         sound = c.sound;
@@ -221,6 +224,7 @@ module _ (conn max : ℕ) (disk : Disk) (old new : KernelState) where
         shares_file = λ done. tt;
         publishes = λ done. c.pages;
         creates = tt;
+        ends = tt;
         sums = send_sums r c;
         written_back = none_back disk old (told sent r) disk new send_event refl;
         sound = c.sound;

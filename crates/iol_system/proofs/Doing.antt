@@ -27,6 +27,7 @@ use Rattle.iol_kernel.proofs.State.Serving.{backed_stays, steps_beside}
 use Rattle.iol_kernel.proofs.State.Stay.{pages_equal, stays_equal}
 use Rattle.iol_system.specs.Asking.{asks_store, makes_file}
 use Rattle.iol_system.specs.Doing.{Does}
+use Rattle.iol_system.specs.FileEnds.{TellsEnd}
 use Rattle.iol_system.specs.Late.{LeavesLate}
 use Rattle.iol_system.specs.Machine.{SystemState, system_of, tables_of}
 use Rattle.iol_system.specs.Placed.{Creates, Publishes}
@@ -121,7 +122,7 @@ pub record IsPlainNaming (e : Event) : Type 0 where
 naming_of : (e : Event) → IsPlain e → IsPlainNaming e
 naming_of e plain = record { unwritten = plain.unwritten; unlent = plain.unlent; asks = plain.asks; has = plain.has; publishes = plain.publishes; late = plain.late; sums = plain.sums }
 
-module _ {A : Type 0} (f : A → Reply) (m : State → Meaning A) (e : Event) (disk : Disk) (old new : KernelState) (r : Result A Refusal) (tells : Tells f) (plain : IsPlainNaming e) (means : Means f m e) where
+module _ {A : Type 0} (f : A → Reply) (m : State → Meaning A) (e : Event) (disk : Disk) (old new : KernelState) (r : Result A Refusal) (tells : Tells f) (plain : IsPlainNaming e) (means : Means f m e) (ends : TellsEnd (system_of old disk) e (told f r)) where
   -- a call that keeps places, and says more of what it made or changed
   pub creating_does : ((s : State) → is_sharing s e ≡ false) → keeps_store e ≡ false → Creates old e (told f r) new → IsSound old → KeepsPlaces m old r new → ((p : ℕ) → r ≡ Err (NoRoom p) → ⊥) → Does disk old e (told f r) disk new
   creating_does unshared changes creates sound c roomy = record {
@@ -149,13 +150,14 @@ module _ {A : Type 0} (f : A → Reply) (m : State → Meaning A) (e : Event) (d
     shares_file = λ done. shares_none (system_of old disk) (told f r) new e plain.unlent;
     publishes = λ done. plain.publishes old new c.pages;
     creates = creates;
+    ends = ends;
     sums = plain.sums old (told f r) new c.sums;
     written_back = none_back disk old (told f r) disk new e plain.unwritten;
     sound = c.sound;
     stays = c.stays;
   }
 
-module _ {A : Type 0} (f : A → Reply) (m : State → Meaning A) (e : Event) (disk : Disk) (old new : KernelState) (r : Result A Refusal) (tells : Tells f) (plain : IsPlain e) (means : Means f m e) where
+module _ {A : Type 0} (f : A → Reply) (m : State → Meaning A) (e : Event) (disk : Disk) (old new : KernelState) (r : Result A Refusal) (tells : Tells f) (plain : IsPlain e) (means : Means f m e) (ends : TellsEnd (system_of old disk) e (told f r)) where
   -- a call that carries out
   pub carried_does : keeps_store e ≡ false → IsSound old → CarriesOut m old r new → Does disk old e (told f r) disk new
   carried_does changes sound c = record {
@@ -183,6 +185,7 @@ module _ {A : Type 0} (f : A → Reply) (m : State → Meaning A) (e : Event) (d
     shares_file = λ done. shares_none (system_of old disk) (told f r) new e plain.unlent;
     publishes = λ done. plain.publishes old new (carried_pages m old new r c);
     creates = plain.creates old (told f r) new;
+    ends = ends;
     sums = plain.sums old (told f r) new c.sums;
     written_back = none_back disk old (told f r) disk new e plain.unwritten;
     sound = c.sound;
@@ -191,7 +194,7 @@ module _ {A : Type 0} (f : A → Reply) (m : State → Meaning A) (e : Event) (d
 
   -- one that keeps places
   pub kept_does : ((s : State) → is_sharing s e ≡ false) → keeps_store e ≡ false → IsSound old → KeepsPlaces m old r new → ((p : ℕ) → r ≡ Err (NoRoom p) → ⊥) → Does disk old e (told f r) disk new
-  kept_does unshared changes sound c roomy = creating_does f m e disk old new r tells (naming_of e plain) means unshared changes (plain.creates old (told f r) new) sound c roomy
+  kept_does unshared changes sound c roomy = creating_does f m e disk old new r tells (naming_of e plain) means ends unshared changes (plain.creates old (told f r) new) sound c roomy
 
   -- one that asks the store for a length
   pub looks_does : ((s : State) → is_sharing s e ≡ false) → is_still e ≡ false → ((s : State) → (meaning s e).after ≡ (m s).after) → (only_looks e ≡ true → new ≡ old) → LooksUp m disk old r new → Does disk old e (told f r) disk new
@@ -220,6 +223,7 @@ module _ {A : Type 0} (f : A → Reply) (m : State → Meaning A) (e : Event) (d
     shares_file = λ done. shares_none (system_of old disk) (told f r) new e plain.unlent;
     publishes = λ done. plain.publishes old new (pages_equal old.store new.store c.store);
     creates = plain.creates old (told f r) new;
+    ends = ends;
     sums = plain.sums old (told f r) new c.serves.sums;
     written_back = none_back disk old (told f r) disk new e plain.unwritten;
     sound = c.serves.sound;
@@ -227,7 +231,7 @@ module _ {A : Type 0} (f : A → Reply) (m : State → Meaning A) (e : Event) (d
   }
 
 -- one that makes a file
-module _ {A : Type 0} (f : A → Reply) (m : State → Meaning A) (e : Event) (disk : Disk) (old new : KernelState) (r : Result A Refusal) (tells : Tells f) (plain : IsPlainNaming e) (means : Means f m e) where
+module _ {A : Type 0} (f : A → Reply) (m : State → Meaning A) (e : Event) (disk : Disk) (old new : KernelState) (r : Result A Refusal) (tells : Tells f) (plain : IsPlainNaming e) (means : Means f m e) (ends : TellsEnd (system_of old disk) e (told f r)) where
   pub names_does : ((s : State) → is_sharing s e ≡ false) → ((s : State) → takes_out s e ≡ false) → is_still e ≡ false → only_looks e ≡ false → makes_file e ≡ true → Creates old e (told f r) new → Names disk m old r new → Does disk old e (told f r) disk new
   names_does unshared inside moving unlooking made creates c = record {
     step = λ backed placed. means (machine_of disk.slots old) (machine_of disk.slots new) r (c.step backed.honest);
@@ -254,6 +258,7 @@ module _ {A : Type 0} (f : A → Reply) (m : State → Meaning A) (e : Event) (d
     shares_file = λ done. shares_none (system_of old disk) (told f r) new e plain.unlent;
     publishes = λ done. plain.publishes old new (pages_equal old.store new.store c.store);
     creates = creates;
+    ends = ends;
     sums = plain.sums old (told f r) new c.sums;
     written_back = none_back disk old (told f r) disk new e plain.unwritten;
     sound = c.sound;

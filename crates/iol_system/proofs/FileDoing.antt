@@ -40,6 +40,7 @@ use Rattle.iol_kernel.proofs.State.Serving.{steps_beside}
 use Rattle.iol_kernel.proofs.State.Stay.{pages_here, stays_here}
 use Rattle.iol_system.specs.Asking.{asks_store, uses_cache}
 use Rattle.iol_system.specs.Doing.{Does}
+use Rattle.iol_system.specs.FileEnds.{TellsEnd}
 use Rattle.iol_system.specs.Late.{CopyLeaves, IfRefused, LeavesCopied, LeavesLate, PutLeaves, ReadLeaves, SameTables, WriteLeaves}
 use Rattle.iol_system.specs.Machine.{system_of, tables_of}
 use Rattle.iol_system.specs.InPlace.{IsInRange, IsWritten, KeepsInPlace, MayLetGo, ReadWantsMore, SharesCopy, SharesPut, SharesRead, SharesWrite, WantsMore, WriteWantsMore}
@@ -55,7 +56,7 @@ use Rattle.iol_system.proofs.WrittenBack.{none_back, writes_back}
 use Rattle.iol_system.proofs.ResultTold.{ok_told, lacks_told, counts_told, has_told, room_told, fault_told, early_room, early_room_fault, early_of, err_more, late_told, tables_kept, untimed, with_tables}
 
 -- bytes are shown, and nothing changes
-module _ {A : Type 0} (f : A → Reply) (m : State → Meaning A) (e : Event) (disk : Disk) (h : KernelState) (r : Result A Refusal) (tells : Tells f) (plain : IsPlain e) (means : Means f m e) where
+module _ {A : Type 0} (f : A → Reply) (m : State → Meaning A) (e : Event) (disk : Disk) (h : KernelState) (r : Result A Refusal) (tells : Tells f) (plain : IsPlain e) (means : Means f m e) (ends : TellsEnd (system_of h disk) e (told f r)) where
   pub shows_does : ((s : State) → is_sharing s e ≡ false) → ((s : State) → takes_out s e ≡ false) → is_still e ≡ false → IsSound h → Steps m h r h → ((p : ℕ) → r ≡ Err (NoRoom p) → ⊥) → Does disk h e (told f r) disk h
   shows_does unshared inside moving sound steps roomy = record {
     step = λ backed placed. means (machine_of disk.slots h) (machine_of disk.slots h) r (steps disk.slots);
@@ -82,6 +83,7 @@ module _ {A : Type 0} (f : A → Reply) (m : State → Meaning A) (e : Event) (d
     shares_file = λ done. shares_none (system_of h disk) (told f r) h e plain.unlent;
     publishes = λ done. plain.publishes h h (pages_here h.store);
     creates = plain.creates h (told f r) h;
+    ends = ends;
     sums = plain.sums h (told f r) h refl;
     written_back = none_back disk h (told f r) disk h e plain.unwritten;
     sound = sound;
@@ -106,7 +108,7 @@ pub record IsPlacing (e : Event) (put : State → Text → State) (pool n : ℕ)
   pub late : (disk : Disk) (x : Reply) (new : KernelState) → IfRefused x (MayHaveEvicted pool n old new) → LeavesLate (system_of old disk) e x (system_of new disk)
   pub sums : (x : Reply) (new : KernelState) → new.sums ≡ old.sums → Remembers old e x new
 
-module _ {A : Type 0} (f : A → Reply) (m : State → Meaning A) (put : State → Text → State) (pool n : ℕ) (e : Event) (disk : Disk) (old new : KernelState) (r : Result A Refusal) (tells : Tells f) (placing : IsPlacing e put pool n old) (means : Means f m e) where
+module _ {A : Type 0} (f : A → Reply) (m : State → Meaning A) (put : State → Text → State) (pool n : ℕ) (e : Event) (disk : Disk) (old new : KernelState) (r : Result A Refusal) (tells : Tells f) (placing : IsPlacing e put pool n old) (means : Means f m e) (ends : TellsEnd (system_of old disk) e (told f r)) where
   placed_early : IfErr r (MayHaveEvicted pool n old new) → IsEarly (told f r) → new ≡ old
   placed_early left is = early_of f r (new ≡ old) (RefusedRoomy pool n old new) tells (λ x early late. early_room pool x early (memory_wanted pool x late.memory)) left is
 
@@ -137,6 +139,7 @@ module _ {A : Type 0} (f : A → Reply) (m : State → Meaning A) (put : State �
         shares_file = λ done. shares_none (system_of old disk) (told f r) new e placing.unlent;
         publishes = λ done. placing.publishes new (ok_told f r (Makes put pool n old new) c.made done);
         creates = placing.creates (told f r) new;
+        ends = ends;
         sums = placing.sums (told f r) new serves.sums;
         written_back = none_back disk old (told f r) disk new e placing.unwritten;
         sound = serves.sound;
@@ -244,6 +247,7 @@ module _ (by fd n : ℕ) (disk after : Disk) (old new : KernelState) (r : Result
         shares_file = read_shares o reads;
         publishes = λ done. read_fills o reads;
         creates = tt;
+        ends = tt;
         sums = serves.sums;
         written_back = none_back disk old (told reply.Agg r) after new read_event refl;
         sound = serves.sound;
@@ -330,6 +334,7 @@ module _ (by fd a : ℕ) (disk : Disk) (old new : KernelState) (r : Result ℕ R
         shares_file = write_shares o writes;
         publishes = λ done. write_fills o writes;
         creates = tt;
+        ends = tt;
         sums = serves.sums;
         written_back = none_back disk old (told reply.Count r) disk new write_event refl;
         sound = serves.sound;
@@ -439,6 +444,7 @@ module _ (by fd n : ℕ) (disk after : Disk) (old new : KernelState) (r : Result
         shares_file = copy_shares o copies;
         publishes = λ done. copy_fills o copies;
         creates = tt;
+        ends = tt;
         sums = serves.sums;
         written_back = none_back disk old (told reply.Bytes r) after new copy_event refl;
         sound = serves.sound;
@@ -540,6 +546,7 @@ module _ (by fd : ℕ) (bytes : List ℕ) (disk : Disk) (old new : KernelState) 
     shares_file = put_shares (descriptor (tables_of old) by fd) lays;
     publishes = λ done. put_fills (descriptor (tables_of old) by fd) queue puts done;
     creates = tt;
+    ends = tt;
     sums = serves.sums;
     written_back = none_back disk old (told reply.Count r) disk new put_event refl;
     sound = serves.sound;

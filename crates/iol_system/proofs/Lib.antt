@@ -16,6 +16,7 @@ pub mod Served
 pub mod Doing
 pub mod BackDoing
 pub mod FileDoing
+pub mod FileEnds
 pub mod ResultTold
 pub mod WrittenBack
 pub mod InPlace

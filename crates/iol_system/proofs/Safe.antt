@@ -90,6 +90,7 @@ module _ (old new : SystemState) (e : Event) (r : Reply) (safe : IsSafe old) (do
     shares_file = does.shares_file;
     publishes = does.publishes;
     creates = does.creates;
+    ends = does.ends;
     sums = does.sums;
     synced = does.written_back.synced;
     kept = λ honest. does.written_back.kept (does.backed (safe.backed honest));

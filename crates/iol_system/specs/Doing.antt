@@ -10,6 +10,7 @@ use Rattle.iol_core.specs.declared.events.Reply.{Reply}
 use Rattle.iol_hold.specs.Moves.{Stays}
 use Rattle.iol_kernel.specs.Backed.{IsBackedBy, StepsBeside}
 use Rattle.iol_kernel.specs.KernelState.{KernelState, layout_of, machine_of, IsSound}
+use Rattle.iol_system.specs.FileEnds.{TellsEnd}
 use Rattle.iol_system.specs.Asking.{asks_store, makes_file, uses_cache, writes_store}
 use Rattle.iol_system.specs.InPlace.{KeepsInPlace, SharesFile}
 use Rattle.iol_system.specs.Late.{LeavesLate}
@@ -48,6 +49,7 @@ pub record Does (disk : Disk) (old : KernelState) (e : Event) (r : Reply) (after
   pub shares_file : IsDone r → SharesFile (system_of old disk) e r new
   pub publishes : IsDone r → Publishes old e new
   pub creates : Creates old e r new
+  pub ends : TellsEnd (system_of old disk) e r
   pub sums : Remembers old e r new
   pub written_back : WritesBack disk old e r after new
   pub sound : IsSound new

@@ -12,6 +12,7 @@ pub mod Uses
 pub mod Values
 pub mod Asking
 pub mod Doing
+pub mod FileEnds
 pub mod WrittenBack
 pub mod InPlace
 pub mod Late

@@ -15,6 +15,7 @@ use Rattle.iol_hold.specs.Moves.{Stays}
 use Rattle.iol_kernel.specs.Backed.{StepsBeside}
 use Rattle.iol_kernel.specs.KernelState.{layout_of}
 use Rattle.iol_system.specs.Asking.{asks_store, makes_file, uses_cache, writes_store}
+use Rattle.iol_system.specs.FileEnds.{TellsEnd}
 use Rattle.iol_system.specs.InPlace.{KeepsInPlace, SharesFile}
 use Rattle.iol_system.specs.Late.{LeavesLate}
 use Rattle.iol_system.specs.Machine.{SystemState, machine_of, tables_of}
@@ -38,10 +39,11 @@ use Rattle.iol_system.specs.WrittenBack.{IsDropped, IsFlushed, IsKept, IsSynced,
 -- memory lie where they lay, but those that are written and clean ones that give way, and calls on files share them, and what
 -- is read or written by copying is in memory then, too; calls that make buffers do so on the lowest free pages, each of which
 -- is raised by one, and no others do, and no more gives way for new bytes than was wanted; an open pool keeps its chunks, a
--- closed one all of them or none, and a new one has the lowest free; admitting a domain changes the pool's list alone;
--- sending remembers the sums of what is sent; after `fsync` an honest store has the file, and nothing of it is dirty, `flush`
--- leaves one dirty extent fewer, and `drop_clean` no clean one; new is safe again; live buffers keep their bytes, and
--- aggregates their values.
+-- closed one all of them or none, and a new one has the lowest free; admitting a domain changes the pool's list alone; over
+-- any store `length` answers where a read of the file would end, `seek` goes just as far, and `file_new` takes no slot that
+-- is told to have too many bytes; sending remembers the sums of what is sent; after `fsync` an honest store has the file, and
+-- nothing of it is dirty, `flush` leaves one dirty extent fewer, and `drop_clean` no clean one; new is safe again; live
+-- buffers keep their bytes, and aggregates their values.
 pub record Promises (old : SystemState) (e : Event) (r : Reply) (new : SystemState) : Type 0 where
   pub step : IfHonest old.disk (StepsTo (machine_of old) e r (machine_of new))
   pub beside : StepsBeside (λ s. meaning s e) old.kernel (outcome r) new.kernel
@@ -68,6 +70,7 @@ pub record Promises (old : SystemState) (e : Event) (r : Reply) (new : SystemSta
   pub shares_file : IsDone r → SharesFile old e r new.kernel
   pub publishes : IsDone r → Publishes old.kernel e new.kernel
   pub creates : Creates old.kernel e r new.kernel
+  pub ends : TellsEnd old e r
   pub sums : Remembers old.kernel e r new.kernel
   pub synced : IsDone r → IsSynced old.kernel e new.kernel
   pub kept : IfHonest old.disk (IsDone r → IsKept old.kernel e new)

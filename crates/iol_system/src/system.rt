@@ -24,6 +24,7 @@ ghost use Rattle.iol_cache.specs.Cached.{extents_in_all, dirty_in_all};
 ghost use Rattle.iol_arena.specs.State.{no_entry};
 ghost use Rattle.iol_arena.specs.Buffers.{SharesNoPage, live_pages};
 ghost use Rattle.iol_system.specs.Asking.{asks_store, makes_file, uses_cache, writes_store};
+ghost use Rattle.iol_system.specs.FileEnds.{TellsEnd};
 ghost use Rattle.iol_system.specs.InPlace.{KeepsInPlace, SharesFile};
 ghost use Rattle.iol_system.specs.Late.{LeavesLate};
 ghost use Rattle.iol_system.specs.Placed.{Creates, Publishes, SamePages};
@@ -203,6 +204,10 @@ impl<B: Backing> System<B> {
         ensures publishes { IsDone result →
             Publishes self.old.kernel event self.new.kernel }
         ensures creates { Creates self.old.kernel event result self.new.kernel }
+
+        // Over any store `length` answers where a read of the file would end, of what the store tells then; `seek` goes just as
+        // far, and `file_new` takes no slot that is told to have more bytes than a file may have.
+        ensures ends { TellsEnd self.old event result }
 
         // Sending uses the sum of each slice that is sent; nothing else touches the remembered sums.
         ensures sums { Remembers self.old.kernel event result self.new.kernel }

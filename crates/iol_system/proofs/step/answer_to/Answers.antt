@@ -19,19 +19,19 @@ pub returns-in-ConnNew : goal.returns-in-ConnNew
 returns-in-ConnNew g c =
     subst (λ (k : Event). Does (g.B.Backing.disk c.args.backing.now) (state_of c.args.kernel.now) k c.conn.result (g.B.Backing.disk c.args.backing.now) (state_of c.conn_new.new.self)) (sym c.in-ConnNew.is)
     (subst (λ (x : Reply). Does (g.B.Backing.disk c.args.backing.now) (state_of c.args.kernel.now) (event.ConnNew c.in-ConnNew.pool) x (g.B.Backing.disk c.args.backing.now) (state_of c.conn_new.new.self)) (sym c.conn.ensures)
-    (carried_does reply.Conn (λ s. (outside.conn_new s c.in-ConnNew.pool)) (event.ConnNew c.in-ConnNew.pool) (g.B.Backing.disk c.args.backing.now) (state_of c.args.kernel.now) (state_of c.conn_new.new.self) c.conn_new.result (record { answers = λ a. refl; roomy = λ a x. x; unrefused = λ a x. x }) (record { unwritten = refl; unlent = refl; asks = λ s. refl; has = λ s. tt; publishes = λ o n k. k; creates = λ o x n. tt; late = λ o x n. tt; sums = λ o x n k. k }) (λ s t r step. told_step reply.Conn (record { answers = λ a. refl; roomy = λ a x. x; unrefused = λ a x. x }) (outside.conn_new s c.in-ConnNew.pool) s t r step) refl c.requires c.conn_new.ensures))
+    (carried_does reply.Conn (λ s. (outside.conn_new s c.in-ConnNew.pool)) (event.ConnNew c.in-ConnNew.pool) (g.B.Backing.disk c.args.backing.now) (state_of c.args.kernel.now) (state_of c.conn_new.new.self) c.conn_new.result (record { answers = λ a. refl; roomy = λ a x. x; unrefused = λ a x. x }) (record { unwritten = refl; unlent = refl; asks = λ s. refl; has = λ s. tt; publishes = λ o n k. k; creates = λ o x n. tt; late = λ o x n. tt; sums = λ o x n k. k }) (λ s t r step. told_step reply.Conn (record { answers = λ a. refl; roomy = λ a x. x; unrefused = λ a x. x }) (outside.conn_new s c.in-ConnNew.pool) s t r step) tt refl c.requires c.conn_new.ensures))
 
 pub returns-in-Arrive : goal.returns-in-Arrive
 returns-in-Arrive g c =
     subst (λ (k : Event). Does (g.B.Backing.disk c.args.backing.now) (state_of c.args.kernel.now) k c.count.result (g.B.Backing.disk c.args.backing.now) (state_of c.arrive.new.self)) (sym c.in-Arrive.is)
     (subst (λ (x : Reply). Does (g.B.Backing.disk c.args.backing.now) (state_of c.args.kernel.now) (event.Arrive c.in-Arrive.conn c.in-Arrive.bytes) x (g.B.Backing.disk c.args.backing.now) (state_of c.arrive.new.self)) (sym c.count.ensures)
-    (places_does reply.Count (λ s. (outside.arrive s c.in-Arrive.conn c.in-Arrive.bytes)) (with_incoming c.in-Arrive.conn) (conn_at (tables_of (state_of c.args.kernel.now)) c.in-Arrive.conn).pool (outside.arrive (tables_of (state_of c.args.kernel.now)) c.in-Arrive.conn c.in-Arrive.bytes).answer (event.Arrive c.in-Arrive.conn c.in-Arrive.bytes) (g.B.Backing.disk c.args.backing.now) (state_of c.args.kernel.now) (state_of c.arrive.new.self) c.arrive.result (record { answers = λ a. refl; roomy = λ a x. x; unrefused = λ a x. x }) (record { unwritten = refl; unlent = refl; goes = λ d p k. k; asks = λ s. refl; uses = λ s. refl; unshared = λ s. refl; moving = refl; inside = λ s. refl; changes = refl; has = λ d k. k; lacks = λ d k. k; publishes = λ n k. k; creates = λ x n. tt; late = λ d x n k. k; sums = λ x n k. k }) (λ s t r step. told_step reply.Count (record { answers = λ a. refl; roomy = λ a x. x; unrefused = λ a x. x }) (outside.arrive s c.in-Arrive.conn c.in-Arrive.bytes) s t r step) c.arrive.ensures))
+    (places_does reply.Count (λ s. (outside.arrive s c.in-Arrive.conn c.in-Arrive.bytes)) (with_incoming c.in-Arrive.conn) (conn_at (tables_of (state_of c.args.kernel.now)) c.in-Arrive.conn).pool (outside.arrive (tables_of (state_of c.args.kernel.now)) c.in-Arrive.conn c.in-Arrive.bytes).answer (event.Arrive c.in-Arrive.conn c.in-Arrive.bytes) (g.B.Backing.disk c.args.backing.now) (state_of c.args.kernel.now) (state_of c.arrive.new.self) c.arrive.result (record { answers = λ a. refl; roomy = λ a x. x; unrefused = λ a x. x }) (record { unwritten = refl; unlent = refl; goes = λ d p k. k; asks = λ s. refl; uses = λ s. refl; unshared = λ s. refl; moving = refl; inside = λ s. refl; changes = refl; has = λ d k. k; lacks = λ d k. k; publishes = λ n k. k; creates = λ x n. tt; late = λ d x n k. k; sums = λ x n k. k }) (λ s t r step. told_step reply.Count (record { answers = λ a. refl; roomy = λ a x. x; unrefused = λ a x. x }) (outside.arrive s c.in-Arrive.conn c.in-Arrive.bytes) s t r step) tt c.arrive.ensures))
 
 pub returns-in-PeerClosed : goal.returns-in-PeerClosed
 returns-in-PeerClosed g c =
     subst (λ (k : Event). Does (g.B.Backing.disk c.args.backing.now) (state_of c.args.kernel.now) k c.done.result (g.B.Backing.disk c.args.backing.now) (state_of c.peer_closed.new.self)) (sym c.in-PeerClosed.is)
     (subst (λ (x : Reply). Does (g.B.Backing.disk c.args.backing.now) (state_of c.args.kernel.now) (event.PeerClosed c.in-PeerClosed.conn c.in-PeerClosed.how) x (g.B.Backing.disk c.args.backing.now) (state_of c.peer_closed.new.self)) (sym c.done.ensures)
-    (kept_does (λ u. reply.Done) (λ s. (outside.peer_closed s c.in-PeerClosed.conn c.in-PeerClosed.how)) (event.PeerClosed c.in-PeerClosed.conn c.in-PeerClosed.how) (g.B.Backing.disk c.args.backing.now) (state_of c.args.kernel.now) (state_of c.peer_closed.new.self) c.peer_closed.result (record { answers = λ a. refl; roomy = λ a x. x; unrefused = λ a x. x }) (record { unwritten = refl; unlent = refl; asks = λ s. refl; has = λ s. tt; publishes = λ o n k. k; creates = λ o x n. tt; late = λ o x n. tt; sums = λ o x n k. k }) (λ s t r step. told_step (λ u. reply.Done) (record { answers = λ a. refl; roomy = λ a x. x; unrefused = λ a x. x }) (outside.peer_closed s c.in-PeerClosed.conn c.in-PeerClosed.how) s t r step) (λ s. refl) refl c.requires c.peer_closed.ensures.peer_closed c.peer_closed.ensures.roomy))
+    (kept_does (λ u. reply.Done) (λ s. (outside.peer_closed s c.in-PeerClosed.conn c.in-PeerClosed.how)) (event.PeerClosed c.in-PeerClosed.conn c.in-PeerClosed.how) (g.B.Backing.disk c.args.backing.now) (state_of c.args.kernel.now) (state_of c.peer_closed.new.self) c.peer_closed.result (record { answers = λ a. refl; roomy = λ a x. x; unrefused = λ a x. x }) (record { unwritten = refl; unlent = refl; asks = λ s. refl; has = λ s. tt; publishes = λ o n k. k; creates = λ o x n. tt; late = λ o x n. tt; sums = λ o x n k. k }) (λ s t r step. told_step (λ u. reply.Done) (record { answers = λ a. refl; roomy = λ a x. x; unrefused = λ a x. x }) (outside.peer_closed s c.in-PeerClosed.conn c.in-PeerClosed.how) s t r step) tt (λ s. refl) refl c.requires c.peer_closed.ensures.peer_closed c.peer_closed.ensures.roomy))
 
 pub returns-in-Transmit : goal.returns-in-Transmit
 returns-in-Transmit g c =

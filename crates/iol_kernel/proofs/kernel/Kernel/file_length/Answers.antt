@@ -5,6 +5,7 @@ use Rattle.iol_core.specs.declared.refusals.Refusal.TheVariants.{NoDomain, BadFd
 use Rattle.iol_kernel.specs.Kernel.{state_of}
 use Rattle.iol_kernel.specs.Readings.{bytes_over}
 use Rattle.iol_kernel.proofs.Queues.Opening.{end_held}
+use Rattle.iol_kernel.proofs.FileCalls.FileEnds.{ends_file}
 use Rattle.iol_kernel.proofs.FileCalls.Seeking.{length_refused, length_told, no_file_long}
 use Rattle.iol_kernel.proofs.kernel.Kernel.file_length.Goals as goal
 
@@ -39,3 +40,9 @@ returns-clause-told g c =
     let on_file = sym (c.descriptor.ensures (bytes_over [] h.store)) ∙ c.in-Some.is ∙ ap (λ (x : Descriptor). Some x) c.in-File.is in
     let told = length_told (g.B.Backing.disk c.args.backing.now) h c.args.by c.args.fd c.in-File.file c.in-File.at c.length_of.result c.in-File.mode c.requires (sym (c.is_live.ensures (bytes_over [] h.store)) ∙ c.if-not-is_live.false) on_file c.length_of.ensures.is in
     search (rules, told)
+
+pub returns-clause-ends : goal.returns-clause-ends
+returns-clause-ends g c =
+    let h = state_of c.args.self.now in
+    let on_file = sym (c.descriptor.ensures (bytes_over [] h.store)) ∙ c.in-Some.is ∙ ap (λ (x : Descriptor). Some x) c.in-File.is in
+    ends_file (g.B.Backing.disk c.args.backing.now) h c.args.by c.args.fd c.in-File.file c.in-File.at c.in-File.mode (sym (c.is_live.ensures (bytes_over [] h.store)) ∙ c.if-not-is_live.false) on_file c.length_of.result c.length_of.ensures.end

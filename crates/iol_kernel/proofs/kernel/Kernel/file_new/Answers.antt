@@ -12,32 +12,32 @@ use Rattle.iol_kernel.specs.Readings.{Reading, bytes_over}
 use Rattle.iol_kernel.proofs.FileCalls.NewFiles.{names, next_short, refused_always, refused_memory, refused_told}
 use Rattle.iol_kernel.proofs.kernel.Kernel.file_new.Goals as goal
 
-pub returns-then-not-is_live : goal.returns-then-not-is_live
-returns-then-not-is_live g c =
+pub returns-then-not-is_live-clause-names : goal.returns-then-not-is_live-clause-names
+returns-then-not-is_live-clause-names g c =
     let h = state_of c.args.self.now in
     let is : (f : Reading) → first (calls.file_new (read_of f h) c.args.by c.args.name.now c.args.pool).refusals ≡ Some refuse.NoDomain = λ f. search rules in
     refused_always (g.B.Backing.disk c.args.backing.now) (λ s. calls.file_new s c.args.by c.args.name.now c.args.pool) h refuse.NoDomain is (λ p e. cc e) c.requires
 
-pub returns-then-not-is_pool : goal.returns-then-not-is_pool
-returns-then-not-is_pool g c =
+pub returns-then-not-is_pool-clause-names : goal.returns-then-not-is_pool-clause-names
+returns-then-not-is_pool-clause-names g c =
     let h = state_of c.args.self.now in
     let is : (f : Reading) → first (calls.file_new (read_of f h) c.args.by c.args.name.now c.args.pool).refusals ≡ Some refuse.NoPool = λ f. search rules in
     refused_always (g.B.Backing.disk c.args.backing.now) (λ s. calls.file_new s c.args.by c.args.name.now c.args.pool) h refuse.NoPool is (λ p e. cc e) c.requires
 
-pub returns-then-is_named : goal.returns-then-is_named
-returns-then-is_named g c =
+pub returns-then-is_named-clause-names : goal.returns-then-is_named-clause-names
+returns-then-is_named-clause-names g c =
     let h = state_of c.args.self.now in
     let is : (f : Reading) → first (calls.file_new (read_of f h) c.args.by c.args.name.now c.args.pool).refusals ≡ Some refuse.WrongMode = λ f. search rules in
     refused_always (g.B.Backing.disk c.args.backing.now) (λ s. calls.file_new s c.args.by c.args.name.now c.args.pool) h refuse.WrongMode is (λ p e. cc e) c.requires
 
-pub returns-then-len-eq0 : goal.returns-then-len-eq0
-returns-then-len-eq0 g c =
+pub returns-then-len-eq0-clause-names : goal.returns-then-len-eq0-clause-names
+returns-then-len-eq0-clause-names g c =
     let h = state_of c.args.self.now in
     let is : (f : Reading) → first (calls.file_new (read_of f h) c.args.by c.args.name.now c.args.pool).refusals ≡ Some refuse.BadRange = λ f. search rules in
     refused_always (g.B.Backing.disk c.args.backing.now) (λ s. calls.file_new s c.args.by c.args.name.now c.args.pool) h refuse.BadRange is (λ p e. cc e) c.requires
 
-pub returns-then-is_next_too_long : goal.returns-then-is_next_too_long
-returns-then-is_next_too_long g c =
+pub returns-then-is_next_too_long-clause-names : goal.returns-then-is_next_too_long-clause-names
+returns-then-is_next_too_long-clause-names g c =
     let h = state_of c.args.self.now in
     let disk = g.B.Backing.disk c.args.backing.now in
     let told = c.is_next_too_long.ensures.told in
@@ -47,8 +47,8 @@ returns-then-is_next_too_long g c =
     (let length = told.is (bytes_over told.stored h.store) refl in search (rules, length)) in
     refused_told disk (λ s. calls.file_new s c.args.by c.args.name.now c.args.pool) h refuse.TooLong told.stored is aside (λ p e. cc e) c.requires
 
-pub returns-then-file_count-ge-MAX_FILES : goal.returns-then-file_count-ge-MAX_FILES
-returns-then-file_count-ge-MAX_FILES g c =
+pub returns-then-file_count-ge-MAX_FILES-clause-names : goal.returns-then-file_count-ge-MAX_FILES-clause-names
+returns-then-file_count-ge-MAX_FILES-clause-names g c =
     let h = state_of c.args.self.now in
     let disk = g.B.Backing.disk c.args.backing.now in
     let told = c.is_next_too_long.ensures.told in
@@ -58,8 +58,8 @@ returns-then-file_count-ge-MAX_FILES g c =
     (let length = told.is (bytes_over told.stored h.store) refl in search (rules, length)) in
     refused_told disk (λ s. calls.file_new s c.args.by c.args.name.now c.args.pool) h refuse.TooMany told.stored is aside (λ p e. cc e) c.requires
 
-pub returns-then-not-may_read : goal.returns-then-not-may_read
-returns-then-not-may_read g c =
+pub returns-then-not-may_read-clause-names : goal.returns-then-not-may_read-clause-names
+returns-then-not-may_read-clause-names g c =
     let h = state_of c.args.self.now in
     let disk = g.B.Backing.disk c.args.backing.now in
     let told = c.is_next_too_long.ensures.told in
@@ -69,8 +69,8 @@ returns-then-not-may_read g c =
     (let length = told.is (bytes_over told.stored h.store) refl in search (rules, length)) in
     refused_told disk (λ s. calls.file_new s c.args.by c.args.name.now c.args.pool) h (refuse.Denied c.args.pool) told.stored is aside (λ p e. cc e) c.requires
 
-pub returns-then-is_closed : goal.returns-then-is_closed
-returns-then-is_closed g c =
+pub returns-then-is_closed-clause-names : goal.returns-then-is_closed-clause-names
+returns-then-is_closed-clause-names g c =
     let h = state_of c.args.self.now in
     let disk = g.B.Backing.disk c.args.backing.now in
     let told = c.is_next_too_long.ensures.told in
@@ -80,8 +80,8 @@ returns-then-is_closed g c =
     (let length = told.is (bytes_over told.stored h.store) refl in search (rules, length)) in
     refused_told disk (λ s. calls.file_new s c.args.by c.args.name.now c.args.pool) h (refuse.PoolClosed c.args.pool) told.stored is aside (λ p e. cc e) c.requires
 
-pub returns-in_err-add_file : goal.returns-in_err-add_file
-returns-in_err-add_file g c =
+pub returns-in_err-add_file-clause-names : goal.returns-in_err-add_file-clause-names
+returns-in_err-add_file-clause-names g c =
     let h = state_of c.args.self.now in
     let disk = g.B.Backing.disk c.args.backing.now in
     let told = c.is_next_too_long.ensures.told in
@@ -93,8 +93,8 @@ returns-in_err-add_file g c =
     let same : c.from_residual.result ≡ Err refuse.Memory = search rules in
     subst (λ (r : Result ℕ Refusal). Names disk (λ s. calls.file_new s c.args.by c.args.name.now c.args.pool) h r (state_of c.add_file.new.self)) (sym same) kept
 
-pub returns : goal.returns
-returns g c =
+pub returns-clause-names : goal.returns-clause-names
+returns-clause-names g c =
     let h = state_of c.args.self.now in
     let disk = g.B.Backing.disk c.args.backing.now in
     let told = c.is_next_too_long.ensures.told in

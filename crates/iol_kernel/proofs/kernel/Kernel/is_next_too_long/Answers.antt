@@ -1,7 +1,8 @@
 use Rattle.std.proofs.Common.{◌≡◌, ◌+◌, rules, false, arith, length}
 use Rattle.std.specs.Prelude.{min}
-use Rattle.iol_back.specs.Disk.{IfHonest, content}
+use Rattle.iol_back.specs.Disk.{IfHonest, content, length_told}
 use Rattle.iol_kernel.specs.Kernel.{state_of}
+use Rattle.iol_kernel.proofs.FileCalls.FileEnds.{next_long, no_next}
 use Rattle.iol_kernel.proofs.FileCalls.Named.{last_not_too_long, next_too_long}
 use Rattle.iol_kernel.proofs.FileCalls.NewFiles.{tells_next}
 use Rattle.iol_kernel.proofs.kernel.Kernel.is_next_too_long.Goals as goal
@@ -22,3 +23,14 @@ returns-clause-honest g c =
 
 pub returns-clause-told : goal.returns-clause-told
 returns-clause-told g c = tells_next (state_of c.args.self.now) _ c.requires.filed (λ long. omega (arith))
+
+pub returns-then-count-ge-MAX_FILES-clause-long : goal.returns-then-count-ge-MAX_FILES-clause-long
+returns-then-count-ge-MAX_FILES-clause-long g c = no_next (g.B.Backing.disk c.args.backing.now) (state_of c.args.self.now) (omega (arith))
+
+pub returns-clause-long : goal.returns-clause-long
+returns-clause-long g c =
+    let h = state_of c.args.self.now in
+    let disk = g.B.Backing.disk c.args.backing.now in
+    let told : c.length-stored.result ≡ length_told disk.told (length h.files + 1) = search (rules, c.length-stored.ensures.told) in
+    let is = next_long disk h c.length-stored.result (omega (arith)) told in
+    search (rules, is)

@@ -1,0 +1,54 @@
+-- Where a file ends, over any store: what the calls that ask for a length say of it, by what the store tells then.
+use Rattle.std.specs.Prelude.{◌≡◌, ℕ, ◌+◌, ◌<◌, ◌≤◌, Bool, true, false, [], length, nat_lt, if◌then◌else◌, Option, Some, Result, Ok, Err, OnOk, ⊤}
+use Rattle.iol_core.specs.declared.descriptors.Descriptor.{Descriptor}
+use Rattle.iol_core.specs.declared.descriptors.Descriptor.TheVariants as on
+use Rattle.iol_core.specs.declared.limits.TheConstants.{MAX_FILES, MAX_FILE_BYTES}
+use Rattle.iol_core.specs.declared.refusals.Refusal.{Refusal}
+use Rattle.iol_core.specs.declared.refusals.Refusal.TheVariants.{BadRange, Denied, Memory, PoolClosed, TooLong, TooMany}
+use Rattle.iol_back.specs.Disk.{Disk, length_told}
+use Rattle.iol_cache.specs.Cached.{Cached}
+use Rattle.iol_cache.specs.Serving.{IsEnd}
+use Rattle.iol_kernel.specs.FileReading.{held_by}
+use Rattle.iol_kernel.specs.KernelState.{KernelState, machine_of}
+
+-- the file that a descriptor is open on ends there for a read of it
+abbrev pub EndsOn : Option Descriptor → (end : ℕ) → Disk → KernelState → Type 0
+EndsOn (Some (on.File f at mode)) end disk h = IsEnd disk h.cache f end
+EndsOn _ end disk h = ⊤
+
+-- so of what a live domain's descriptor is open on
+abbrev pub EndsAt : (d fd end : ℕ) → Disk → KernelState → Type 0
+EndsAt d fd end disk h = EndsOn (held_by (machine_of [] h) d fd) end disk h
+
+-- A position was asked for in a file. It was given only where it is not past the file's end, and BadRange was answered only
+-- where it is.
+pub record SeeksTo {A : Type 0} (f at : ℕ) (disk : Disk) (c : Cached) (r : Result A Refusal) : Type 0 where
+  pub end : ℕ
+  pub ends : IsEnd disk c f end
+  pub within : OnOk r (at ≤ end)
+  pub beyond : r ≡ Err BadRange → end < at
+
+-- by what the descriptor is open on
+abbrev pub SeeksOn : {A : Type 0} → Option Descriptor → (at : ℕ) → Disk → KernelState → Result A Refusal → Type 0
+SeeksOn (Some (on.File f was mode)) at disk h r = SeeksTo f at disk h.cache r
+SeeksOn _ at disk h r = ⊤
+
+-- so of a live domain's descriptor
+abbrev pub Seeks : {A : Type 0} → (d fd at : ℕ) → Disk → KernelState → Result A Refusal → Type 0
+Seeks d fd at disk h r = SeeksOn (held_by (machine_of [] h) d fd) at disk h r
+
+-- whether the store tells of the next slot that it has more bytes than a file may have; past the last slot there is none
+abbrev pub is_next_long : Disk → KernelState → Bool
+is_next_long disk h = if nat_lt (length h.files) MAX_FILES
+    then nat_lt MAX_FILE_BYTES (length_told disk.told (length h.files + 1)) else false
+
+-- A name was given to the next slot. TooLong was answered only where the store tells that it has too many bytes; where it was
+-- done, or refused by what is tested after that, it tells of no more than a file may have.
+abbrev pub FitsNext : {A : Type 0} → Disk → KernelState → Result A Refusal → Type 0
+FitsNext disk h (Ok x) = is_next_long disk h ≡ false
+FitsNext disk h (Err TooLong) = is_next_long disk h ≡ true
+FitsNext disk h (Err TooMany) = is_next_long disk h ≡ false
+FitsNext disk h (Err (Denied p)) = is_next_long disk h ≡ false
+FitsNext disk h (Err (PoolClosed p)) = is_next_long disk h ≡ false
+FitsNext disk h (Err Memory) = is_next_long disk h ≡ false
+FitsNext disk h (Err x) = ⊤
