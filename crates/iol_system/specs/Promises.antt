@@ -31,19 +31,19 @@ use Rattle.iol_system.specs.WrittenBack.{IsDropped, IsFlushed, IsKept, IsSynced,
 -- fault is answered just where it failed once more, and only where there is room. What an honest store has changes where
 -- something is written back alone. NoRoom is answered exactly where there is no room. A refusal changes nothing at all; but
 -- where the event wants pages or works on what memory has of files, one for want of room or of memory or by a fault may leave
--- clean parts of files gone, those that go first before the others, but none where there is no room, hits counted, pages raised
--- that were filled and are free again, and by `fsync` and `flush` what was written back before. Other events leave what memory has of files, but that a new
--- file has nothing there; `show` and `length` change nothing at all. What a sharing call hands on lies where it lay, and no
--- page and no pool changes; what a call leaves that is not about bytes lies where it lay, and so does what is left where
--- bytes are sent, copied out of a queue, or a position moves; that changes no page, nor does writing back; bytes of files in
--- memory lie where they lay, but those that are written and clean ones that give way, and calls on files share them, and what
--- is read or written by copying is in memory then, too; calls that make buffers do so on the lowest free pages, each of which
--- is raised by one, and no others do, and no more gives way for new bytes than was wanted; an open pool keeps its chunks, a
--- closed one all of them or none, and a new one has the lowest free; admitting a domain changes the pool's list alone; over
--- any store `length` answers where a read of the file would end, `seek` goes just as far, and `file_new` takes no slot that
--- is told to have too many bytes; sending remembers the sums of what is sent; after `fsync` an honest store has the file, and
--- nothing of it is dirty, `flush` leaves one dirty extent fewer, and `drop_clean` no clean one; new is safe again; live
--- buffers keep their bytes, and aggregates their values.
+-- clean parts of files gone, those that go first before the others, but none where there is no room, hits counted, pages
+-- raised that were filled and are free again, and by `fsync` and `flush` what was written back before. Other events leave what
+-- memory has of files, but that a new file has nothing there; `show` and `length` change nothing at all. What a sharing call
+-- hands on lies where it lay, and no page and no pool changes; what a call leaves that is not about bytes lies where it lay,
+-- and so does what is left where bytes are sent, copied out of a queue, or a position moves; that changes no page, nor does
+-- writing back; bytes of files in memory lie where they lay, but those that are written and clean ones that give way, and
+-- calls on files share them, and what is read or written by copying is in memory then, too; calls that make buffers do so on
+-- the lowest free pages, each of which is raised by one, and no others do, and no more gives way for new bytes than was
+-- wanted; an open pool keeps its chunks, a closed one all of them or none, and a new one has the lowest free; admitting a
+-- domain changes the pool's list alone; over any store `length` answers where a read of the file would end, `seek` goes just
+-- as far, and `file_new` takes no slot that is told to have too many bytes; sending remembers the sums of what is sent; after
+-- `fsync` an honest store has the file, and nothing of it is dirty, `flush` leaves one dirty extent fewer, and `drop_clean` no
+-- clean one; new is safe again; live buffers keep their bytes, and aggregates their values.
 pub record Promises (old : SystemState) (e : Event) (r : Reply) (new : SystemState) : Type 0 where
   pub step : IfHonest old.disk (StepsTo (machine_of old) e r (machine_of new))
   pub beside : StepsBeside (λ s. meaning s e) old.kernel (outcome r) new.kernel

@@ -52,9 +52,11 @@ leaves_met f from to old new y (inr x) =
     let u = x.undone in
     elim u.met [
       | inl has ↦ inl (has_hit f from to old x.hit x.pins x.gaps x.pinned has)
-      | inr same ↦ inr (record { each = λ g.
-          ap (λ (c : Cached). extents_in c.files g) u.cache ∙ ap (λ (h : Holding). extents_in h.cache.files g) same
-          ∙ ap (λ (fs : List CachedFile). extents_in fs g) x.pinned.counted.files ∙ x.pinned.rooms.extents g })
+      | inr same ↦ inr (record {
+        each = λ g.
+            ap (λ (c : Cached). extents_in c.files g) u.cache ∙ ap (λ (h : Holding). extents_in h.cache.files g) same
+            ∙ ap (λ (fs : List CachedFile). extents_in fs g) x.pinned.counted.files ∙ x.pinned.rooms.extents g;
+      })
     ]
 
 -- a refused read
