@@ -34,8 +34,8 @@ SeeksOn (Some (on.File f was mode)) at disk h r = SeeksTo f at disk h.cache r
 SeeksOn _ at disk h r = ⊤
 
 -- so of a live domain's descriptor
-abbrev pub Seeks : {A : Type 0} → (d fd at : ℕ) → Disk → KernelState → Result A Refusal → Type 0
-Seeks d fd at disk h r = SeeksOn (held_by (machine_of [] h) d fd) at disk h r
+abbrev pub SeeksAt : {A : Type 0} → (d fd at : ℕ) → Disk → KernelState → Result A Refusal → Type 0
+SeeksAt d fd at disk h r = SeeksOn (held_by (machine_of [] h) d fd) at disk h r
 
 -- whether the store tells of the next slot that it has more bytes than a file may have; past the last slot there is none
 abbrev pub is_next_long : Disk → KernelState → Bool

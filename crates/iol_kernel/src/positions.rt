@@ -5,7 +5,7 @@ ghost use Rattle.iol_core.specs.State.{content};
 ghost use Rattle.iol_core.specs.Calls.Files as calls;
 ghost use Rattle.iol_cache.specs.Serving.{IsEnd};
 ghost use Rattle.iol_kernel.specs.Backed.{IsBackedBy};
-ghost use Rattle.iol_kernel.specs.FileEnds.{EndsAt, Seeks};
+ghost use Rattle.iol_kernel.specs.FileEnds.{EndsAt, SeeksAt};
 ghost use Rattle.iol_kernel.specs.KernelState.{machine_of, IsSound};
 
 use crate::kernel::Kernel;
@@ -30,7 +30,7 @@ impl Kernel {
         requires { IsSound (state_of self.old) }
         ensures looks { LooksUp (λ s. calls.seek s by fd at) (B.disk backing.now) self.old result
             self.new }
-        ensures ends { Seeks by fd at (B.disk backing.now) (state_of self.old) result }
+        ensures ends { SeeksAt by fd at (B.disk backing.now) (state_of self.old) result }
     {
         if !self.is_live(by) {
             return Err(Refusal::NoDomain);

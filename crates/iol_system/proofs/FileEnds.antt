@@ -10,7 +10,7 @@ use Rattle.iol_core.specs.declared.events.Event.TheVariants as event
 use Rattle.iol_core.specs.declared.events.Reply.TheVariants as reply
 use Rattle.iol_core.specs.declared.refusals.Refusal.{Refusal}
 use Rattle.iol_core.specs.declared.refusals.Refusal.TheVariants.{Denied, Memory, PoolClosed, TooLong, TooMany}
-use Rattle.iol_kernel.specs.FileEnds.{EndsAt, FitsNext, Seeks, SeeksOn}
+use Rattle.iol_kernel.specs.FileEnds.{EndsAt, FitsNext, SeeksAt, SeeksOn}
 use Rattle.iol_kernel.specs.FileReading.{held_by}
 use Rattle.iol_kernel.specs.KernelState.{KernelState}
 use Rattle.iol_system.specs.FileEnds.{TellsEnd}
@@ -27,7 +27,7 @@ module _ (disk : Disk) (h : KernelState) (by : ℕ) where
   seeks_outcome (Some (on.File f was mode)) at (Err x) c = record { end = c.end; ends = c.ends; within = tt; beyond = λ is. c.beyond (cc is) }
   seeks_outcome o at r c = tt
 
-  pub seek_ends : (fd at : ℕ) (r : Result (Unit {0}) Refusal) → Seeks by fd at disk h r → TellsEnd (system_of h disk) (event.Call by (call.Seek fd at)) (told (λ u. reply.Done) r)
+  pub seek_ends : (fd at : ℕ) (r : Result (Unit {0}) Refusal) → SeeksAt by fd at disk h r → TellsEnd (system_of h disk) (event.Call by (call.Seek fd at)) (told (λ u. reply.Done) r)
   seek_ends fd at r seeks = seeks_outcome (held_by (tables_of h) by fd) at r seeks
 
   pub new_ends : (name : List ℕ) (p : ℕ) (r : Result ℕ Refusal) → FitsNext disk h r → TellsEnd (system_of h disk) (event.Call by (call.FileNew name p)) (told reply.File r)

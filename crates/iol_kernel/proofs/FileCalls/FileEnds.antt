@@ -11,7 +11,7 @@ use Rattle.iol_core.specs.declared.limits.TheConstants.{MAX_FILES, MAX_FILE_BYTE
 use Rattle.iol_core.specs.declared.refusals.Refusal.{Refusal}
 use Rattle.iol_back.specs.Disk.{Disk, length_told}
 use Rattle.iol_cache.specs.Serving.{IsEnd}
-use Rattle.iol_kernel.specs.FileEnds.{EndsAt, EndsOn, Seeks, SeeksOn, SeeksTo, is_next_long}
+use Rattle.iol_kernel.specs.FileEnds.{EndsAt, EndsOn, SeeksAt, SeeksOn, SeeksTo, is_next_long}
 use Rattle.iol_kernel.specs.KernelState.{KernelState, machine_of}
 
 -- A word of what a live domain's descriptor is open on.
@@ -45,12 +45,12 @@ module _ (disk : Disk) (h : KernelState) (d fd : ℕ) where
 
   pub seeks_nothing : {A : Type 0} (at : ℕ) (r : Result A Refusal) (live : Bool) (o : Option Descriptor)
       → machine.is_live (machine_of [] h) d ≡ live → machine.descriptor (machine_of [] h) d fd ≡ o → open_on (if_live live o) ≡ None
-      → Seeks d fd at disk h r
+      → SeeksAt d fd at disk h r
   seeks_nothing at r live o is there none =
       held_as h d fd live o (λ x. SeeksOn x at disk h r) is there (seeks_none (if_live live o) at r none)
 
   module _ (f was : ℕ) (mode : Mode) (live : machine.is_live (machine_of [] h) d ≡ true) (there : machine.descriptor (machine_of [] h) d fd ≡ Some (on.File f was mode)) where
-    pub seeks_file : {A : Type 0} (at : ℕ) (r : Result A Refusal) → SeeksTo f at disk h.cache r → Seeks d fd at disk h r
+    pub seeks_file : {A : Type 0} (at : ℕ) (r : Result A Refusal) → SeeksTo f at disk h.cache r → SeeksAt d fd at disk h r
     seeks_file at r seeks = held_as h d fd true (Some (on.File f was mode)) (λ x. SeeksOn x at disk h r) live there seeks
 
     pub ends_file : (end : ℕ) → IsEnd disk h.cache f end → EndsAt d fd end disk h
