@@ -24,7 +24,7 @@ use Rattle.flash_laws.specs.declared.running.Running.{Running}
 use Rattle.flash_laws.specs.declared.doing.Content.TheVariants.{Script}
 use Rattle.flash_laws.specs.declared.doing.Doing.{Doing}
 use Rattle.flash_laws.specs.declared.doing.Doing.TheVariants.{Rests, Got, Opens, Reads, Shuts, Picks, Spares, Heads, Joins, Sends, Cuts, Offers, Swaps, Sent, Breaks, Drops, Closes, Over}
-use Rattle.flash_laws.proofs.InPlaces.{left-map}
+use Rattle.flash_laws.proofs.Site.InPlaces.{left-map}
 use Rattle.flash_lite.specs.Course.{whole, found, runs, text_heard, ended, left_with, GoesOn, IsLeft, IsCourse}
 use Rattle.flash_lite.specs.Onward as onward
 use Rattle.flash_lite.specs.declared.client.Course.{Course}

@@ -19,7 +19,7 @@ use Rattle.flash_laws.specs.declared.doing.Doing.{Doing}
 use Rattle.flash_laws.specs.declared.doing.Flight.TheVariants.{At}
 use Rattle.flash_laws.specs.declared.running.Running.{Running}
 use Rattle.flash_laws.specs.declared.running.Running.TheVariants.{Awaits, Runs, Leaves, Closes as Finished}
-use Rattle.flash_laws.proofs.InPlaces.{at-same, at-other, left-map}
+use Rattle.flash_laws.proofs.Site.InPlaces.{at-same, at-other, left-map}
 use Rattle.flash_laws.proofs.Lists.{clash}
 use Rattle.flash_lite.specs.Course.{left_with, worker_of}
 use Rattle.flash_lite.specs.Table.{TellsFree}

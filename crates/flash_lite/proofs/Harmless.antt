@@ -26,8 +26,8 @@ use Rattle.flash_laws.specs.Tie.{past_of, Actor, Serving, actor_turns}
 use Rattle.flash_laws.specs.World.{Tied, IsServing, as_actor, StepKeepsTie}
 use Rattle.flash_laws.specs.WorldDone.{IsDone}
 use Rattle.flash_laws.specs.WorldHost.{IsRight}
-use Rattle.flash_laws.proofs.Answering.{some-inj}
-use Rattle.flash_laws.proofs.Pasts.{past-turn, even-more}
+use Rattle.flash_laws.proofs.Conn.Answering.{some-inj}
+use Rattle.flash_laws.proofs.Site.Pasts.{past-turn, even-more}
 use Rattle.flash_lite.specs.Harmless.{IsHarmless, leaves_site}
 
 -- ---- a call that leaves the site

@@ -4,7 +4,7 @@ use Rattle.iol_core.specs.declared.events.Reply.{Reply}
 use Rattle.iol_proc.specs.declared.process.Turn.{Turn}
 use Rattle.flash_laws.specs.Rounds.{in_rounds}
 use Rattle.flash_laws.specs.Serves.{heard_of, server_turns}
-use Rattle.flash_laws.proofs.Sharing.{workers_shared}
+use Rattle.flash_laws.proofs.Site.Sharing.{workers_shared}
 use Rattle.flash_lite.specs.Table.{Table, IsKept, serving}
 use Rattle.flash_lite.specs.Turning.{Turns}
 use Rattle.flash_lite.specs.declared.site.TheConstants.{MAX_WORKERS}

@@ -10,7 +10,7 @@ use Rattle.flash_laws.specs.Places.{runs_scripts}
 use Rattle.flash_laws.specs.Serves.{Server, Picks, PicksAt}
 use Rattle.flash_laws.specs.declared.doing.Flight.{Flight}
 use Rattle.flash_laws.specs.declared.doing.Flight.TheVariants.{At}
-use Rattle.flash_laws.proofs.InPlaces.{at-same}
+use Rattle.flash_laws.proofs.Site.InPlaces.{at-same}
 use Rattle.flash_lite.specs.Offering.{OffersNext}
 
 -- whatever is picked
