@@ -23,7 +23,7 @@ use Rattle.flash_lite.specs.Turning.{AtDoor, CourseAt, PicksFrom, Turns, TurnsFr
 use Rattle.flash_lite.specs.declared.client.Course.TheVariants.{Asks, Leaves}
 use Rattle.flash_lite.specs.declared.client.Left.{Left}
 use Rattle.flash_lite.specs.declared.server.TheConstants.{MAX_CONNS}
-use Rattle.flash_lite.proofs.Freed.{first_is, has_is, told_by_worker, may_run, ready-waits, tells_turned, runs-some, left-runs}
+use Rattle.flash_lite.proofs.Turns.Freed.{first_is, has_is, told_by_worker, may_run, ready-waits, tells_turned, runs-some, left-runs}
 use Rattle.flash_lite.proofs.Places.{at_within, door_left, filed_left, filed_none, filed_there, flight_filed, next_there, picks_filed, place_off, place_on, same_itself, same_left, set_same, set_twice, told_by, SameFrom}
 
 -- a table with these parts

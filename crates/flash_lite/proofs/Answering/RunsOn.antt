@@ -28,7 +28,7 @@ use Rattle.flash_lite.specs.Course.{run_after, ended, GoesOn, IsLeft, IsCourse}
 use Rattle.flash_lite.specs.Runs.{waits}
 use Rattle.flash_lite.specs.declared.client.Course.{Course}
 use Rattle.flash_lite.specs.declared.client.Left.TheVariants.{Stays}
-use Rattle.flash_lite.proofs.Clients.{course_reply}
+use Rattle.flash_lite.proofs.Answering.Clients.{course_reply}
 
 -- ---- where its call is to be made again later, a run is as it was
 

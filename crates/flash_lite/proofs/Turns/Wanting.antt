@@ -14,9 +14,9 @@ use Rattle.flash_lite.specs.Table.{Table, IsKept, TellsFree}
 use Rattle.flash_lite.specs.Turning.{CourseAt, TurnsFree, first_in, has_in, left_as, left_at, worker_at, worker_left}
 use Rattle.flash_lite.specs.declared.client.Course.TheVariants.{Leaves}
 use Rattle.flash_lite.specs.declared.client.Left.{Left}
-use Rattle.flash_lite.proofs.Freed.{has_is}
+use Rattle.flash_lite.proofs.Turns.Freed.{has_is}
 use Rattle.flash_lite.proofs.Places.{SameFrom, filed_none, found_in, next-same, same_left}
-use Rattle.flash_lite.proofs.Turned.{by_words, freed_by, left-at, left-tells}
+use Rattle.flash_lite.proofs.Turns.Turned.{by_words, freed_by, left-at, left-tells}
 
 -- the first from a place on, where others are the same from there on
 wants-same : (free : Bool) (from : ℕ) (l clients : List (Option Client)) → SameFrom from l clients → WantsFrom free clients from → WantsFrom free l from

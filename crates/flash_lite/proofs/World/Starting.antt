@@ -27,7 +27,7 @@ use Rattle.flash_lite.specs.SiteState.{IsSetUp, LeavesSite}
 use Rattle.flash_lite.specs.Starting.{IsNewSystem, Starts, WhyNone}
 use Rattle.flash_lite.specs.Workers.{worker_turns}
 use Rattle.flash_lite.specs.declared.site.Site.{Site}
-use Rattle.flash_lite.proofs.Seated.{seated_by}
+use Rattle.flash_lite.proofs.World.Seated.{seated_by}
 
 -- ---- a new system
 

@@ -11,7 +11,7 @@ use Rattle.iol_core.specs.declared.descriptors.Descriptor.{Descriptor}
 use Rattle.iol_core.specs.declared.descriptors.Descriptor.TheVariants as on
 use Rattle.flash_lite.specs.SiteState.{HasDesk, domains_of, guest, server_of, state_of, worker_of}
 use Rattle.flash_lite.specs.declared.site.Site.{Site}
-use Rattle.flash_lite.proofs.Standing.{nth}
+use Rattle.flash_lite.proofs.World.Standing.{nth}
 
 module _ (s : Site) (slots : List (List ℕ)) (k : ℕ) (within : k < s.workers) where
   -- the worker's domain

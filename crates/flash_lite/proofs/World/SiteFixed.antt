@@ -23,7 +23,7 @@ use Rattle.flash_lite.specs.Setup.{has_script, is_in_range, is_private, workers_
 use Rattle.flash_lite.specs.SiteState.{file_of, pools_of, state_of}
 use Rattle.flash_lite.specs.declared.site.Site.{Site}
 use Rattle.flash_lite.specs.declared.site.SiteFile.{SiteFile}
-use Rattle.flash_lite.proofs.Standing.{called_at, called_there, content_there, file_at, file_there, fixed, may_in, private_there}
+use Rattle.flash_lite.proofs.World.Standing.{called_at, called_there, content_there, file_at, file_there, fixed, may_in, private_there}
 
 -- ---- numbers
 

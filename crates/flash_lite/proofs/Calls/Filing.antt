@@ -19,7 +19,7 @@ use Rattle.iol_core.proofs.Passing.{passed, when-none}
 use Rattle.flash_lite.specs.Setup.{call_by, file_named}
 use Rattle.flash_lite.specs.SiteState.{file_of}
 use Rattle.flash_lite.specs.declared.site.SiteFile.{SiteFile}
-use Rattle.flash_lite.proofs.Passing.{Passes, over}
+use Rattle.flash_lite.proofs.Calls.Passing.{Passes, over}
 
 -- ---- positions
 

@@ -9,9 +9,9 @@ use Rattle.iol_core.specs.declared.limits.TheConstants.{MAX_FILE_BYTES}
 use Rattle.flash_lite.specs.Setup.{SetsUp, calls, first_refusal, is_in_range}
 use Rattle.flash_lite.specs.SiteState.{state_of}
 use Rattle.flash_lite.specs.declared.site.Site.{Site}
-use Rattle.flash_lite.proofs.Filing.{IsShort}
-use Rattle.flash_lite.proofs.Leading.{Led, led, calls_plain}
-use Rattle.flash_lite.proofs.Passing.{Passes, run_passes, slots_stay}
+use Rattle.flash_lite.proofs.Calls.Filing.{IsShort}
+use Rattle.flash_lite.proofs.Calls.Leading.{Led, led, calls_plain}
+use Rattle.flash_lite.proofs.Calls.Passing.{Passes, run_passes, slots_stay}
 
 -- these bytes, and no others
 abbrev pub Just : List (List ℕ) → List (List ℕ) → Type 0

@@ -16,7 +16,7 @@ use Rattle.flash_lite.specs.SiteState.{LeavesSite, state_of}
 use Rattle.flash_lite.specs.SiteWorld.{IsNewAt}
 use Rattle.flash_lite.specs.Workers.{worker_turns}
 use Rattle.flash_lite.specs.declared.site.Site.{Site}
-use Rattle.flash_lite.proofs.Seated.{seated_by}
+use Rattle.flash_lite.proofs.World.Seated.{seated_by}
 
 pub world_new : (s : Site) (slots : List (List ℕ)) (old sys : SystemState) (w : Stage SystemState (Actor Worker))
     (ps : List (ℕ × Actor Worker)) → machine_of old ≡ new_state slots → ArePlaced (machine_of old)

@@ -11,7 +11,7 @@ use Rattle.flash_laws.specs.Tie.{Actor}
 use Rattle.flash_lite.specs.NewWorld.{AreSeated}
 use Rattle.flash_lite.specs.Setup.{AreActors, workers_used}
 use Rattle.flash_lite.specs.declared.site.Site.{Site}
-use Rattle.flash_lite.proofs.Apart.{domains_are, range_rises}
+use Rattle.flash_lite.proofs.World.Apart.{domains_are, range_rises}
 
 -- ---- lists with the same elements
 

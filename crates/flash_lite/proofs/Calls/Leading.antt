@@ -12,10 +12,10 @@ use Rattle.flash_lite.specs.Setup.{call_by, calls, domains_made as domain_calls,
 use Rattle.flash_lite.specs.SiteState.{placing_in_work, guest, domains_of, pools_of, file_of, state_of}
 use Rattle.flash_lite.specs.declared.site.Site.{Site}
 use Rattle.flash_lite.specs.declared.site.SiteFile.{SiteFile}
-use Rattle.flash_lite.proofs.Filing.{AreFiled, IsShort, files_named}
-use Rattle.flash_lite.proofs.Making.{domains_made, pools_made, defaults_set, in_work}
-use Rattle.flash_lite.proofs.Passing.{Passes, IsPlain, ArePlain, parted, plain-append, plain-map, plain-flat_map}
-use Rattle.flash_lite.proofs.Piping.{at, fds_at, workers_for, pipes_for, pipes_made}
+use Rattle.flash_lite.proofs.Calls.Filing.{AreFiled, IsShort, files_named}
+use Rattle.flash_lite.proofs.Calls.Making.{domains_made, pools_made, defaults_set, in_work}
+use Rattle.flash_lite.proofs.Calls.Passing.{Passes, IsPlain, ArePlain, parted, plain-append, plain-map, plain-flat_map}
+use Rattle.flash_lite.proofs.Calls.Piping.{at, fds_at, workers_for, pipes_for, pipes_made}
 
 map-replicate : {A B : Type 0} (f : A → B) (n : ℕ) (x : A) → map f (replicate n x) ≡ replicate n (f x)
 map-replicate f zero x = refl

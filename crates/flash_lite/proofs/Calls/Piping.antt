@@ -17,8 +17,8 @@ use Rattle.iol_core.specs.declared.events.Event.{Event}
 use Rattle.flash_lite.specs.Setup.{call_by, pipe_given}
 use Rattle.flash_lite.specs.SiteState.{placing_in_work, worker_of, guest}
 use Rattle.flash_lite.proofs.Gathered.{map_more}
-use Rattle.flash_lite.proofs.Passing.{Passes, over}
-use Rattle.flash_lite.proofs.Making.{numbered-there, with-there}
+use Rattle.flash_lite.proofs.Calls.Passing.{Passes, over}
+use Rattle.flash_lite.proofs.Calls.Making.{numbered-there, with-there}
 
 -- ---- places
 

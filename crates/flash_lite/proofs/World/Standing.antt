@@ -19,7 +19,7 @@ use Rattle.flash_laws.specs.Site.{found_in, outcome_in, IsFixed}
 use Rattle.flash_lite.specs.Shelf.{shown, shown_at, shelf_of}
 use Rattle.flash_lite.specs.declared.site.Site.{Site}
 use Rattle.flash_lite.specs.declared.site.SiteFile.{SiteFile}
-use Rattle.flash_lite.proofs.Filing.{position-cons, slice_get-first, slice_get-later}
+use Rattle.flash_lite.proofs.Calls.Filing.{position-cons, slice_get-first, slice_get-later}
 
 -- the name's place is that of the site's list
 position-named : (name : List ℕ) (xs : List SiteFile) → position (λ f. bytes_eq f.name name) (map file_of xs) ≡ position (λ f. bytes_eq f.name.items name) xs

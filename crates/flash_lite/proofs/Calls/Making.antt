@@ -15,7 +15,7 @@ use Rattle.iol_core.specs.declared.events.Call.TheVariants as call
 use Rattle.iol_core.specs.declared.events.Event.{Event}
 use Rattle.flash_lite.specs.Setup.{call_by, pool}
 use Rattle.flash_lite.specs.SiteState.{pool_for, pools_of}
-use Rattle.flash_lite.proofs.Passing.{Passes}
+use Rattle.flash_lite.proofs.Calls.Passing.{Passes}
 
 -- ---- pools
 

@@ -14,9 +14,9 @@ use Rattle.iol_system.specs.Promises.{Chain}
 use Rattle.flash_lite.specs.Setup.{IsMade, calls, first_refusal, is_in_range}
 use Rattle.flash_lite.specs.SiteState.{HasDesk, LeavesSite, state_of}
 use Rattle.flash_lite.specs.declared.site.Site.{Site}
-use Rattle.flash_lite.proofs.Desks.{has_desk}
-use Rattle.flash_lite.proofs.Leading.{led}
-use Rattle.flash_lite.proofs.Passing.{Passes, over, first_passed}
+use Rattle.flash_lite.proofs.World.Desks.{has_desk}
+use Rattle.flash_lite.proofs.Calls.Leading.{led}
+use Rattle.flash_lite.proofs.Calls.Passing.{Passes, over, first_passed}
 
 -- any bytes
 abbrev Any : List (List ℕ) → Type 0

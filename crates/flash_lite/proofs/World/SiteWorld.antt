@@ -27,12 +27,12 @@ use Rattle.flash_lite.specs.Setup.{AreActors, SetsUp, calls, is_in_range, worker
 use Rattle.flash_lite.specs.SiteState.{state_of}
 use Rattle.flash_lite.specs.SiteWorld.{SetUpIsANewWorld}
 use Rattle.flash_lite.specs.declared.site.Site.{Site}
-use Rattle.flash_lite.proofs.Desks.{has_desk, worker_there}
-use Rattle.flash_lite.proofs.Leading.{Led}
-use Rattle.flash_lite.proofs.NewSite.{Just, led_by, shorts}
-use Rattle.flash_lite.proofs.Seated.{seated_by}
-use Rattle.flash_lite.proofs.SiteFixed.{fixed_for, used_within}
-use Rattle.flash_lite.proofs.SiteSeats.{HasCrew, SitsNew, has_crew}
+use Rattle.flash_lite.proofs.World.Desks.{has_desk, worker_there}
+use Rattle.flash_lite.proofs.Calls.Leading.{Led}
+use Rattle.flash_lite.proofs.World.NewSite.{Just, led_by, shorts}
+use Rattle.flash_lite.proofs.World.Seated.{seated_by}
+use Rattle.flash_lite.proofs.World.SiteFixed.{fixed_for, used_within}
+use Rattle.flash_lite.proofs.World.SiteSeats.{HasCrew, SitsNew, has_crew}
 
 -- what each step keeps a run keeps
 kept : (P : State → Type 0) → ((s t : State) (e : Event) (r : Reply) → P s → StepsTo s e r t → P t) → (es : List Event) (rs : List Reply) (s t : State) → P s → Run s es rs t → P t
