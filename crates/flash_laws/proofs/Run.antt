@@ -1,3 +1,6 @@
+pub mod Pieces
+pub mod Outputs
+pub mod ScriptExamples
 pub mod Stays
 pub mod Left
 pub mod Parts
@@ -7,6 +10,7 @@ pub mod Moves
 pub mod Nearing
 pub mod ReadsOn
 pub mod Steps
+pub mod Stops
 pub mod Offering
 pub mod Keeping
 pub mod Alone

@@ -12,7 +12,7 @@ use Rattle.flash_laws.specs.Tied.{grown, with_at}
 use Rattle.flash_lite.specs.Order.{TellsWhoGoes, goers, marked, places_from}
 use Rattle.flash_lite.proofs.Marks.{all_fail, all_pass}
 use Rattle.flash_lite.proofs.Fewer.{taken_few}
-use Rattle.flash_lite.proofs.Filing.{position-here, position-past}
+use Rattle.flash_lite.proofs.Calls.Filing.{position-here, position-past}
 use Rattle.flash_lite.proofs.Places.{found_in, within}
 
 -- ---- the places of those that pass a test

@@ -25,7 +25,7 @@ use Rattle.flash_lite.specs.Course.{left_with, remains}
 use Rattle.flash_lite.specs.Turning.{AtDoor, Makes, PicksFrom, door_to, ends, flight_by, left_as, left_at, most_with}
 use Rattle.flash_lite.specs.declared.client.Left.{Left}
 use Rattle.flash_lite.specs.declared.client.Left.TheVariants as left
-use Rattle.flash_lite.proofs.Filing.{position-here}
+use Rattle.flash_lite.proofs.Calls.Filing.{position-here}
 
 -- ---- lists with a place set
 

@@ -92,7 +92,7 @@ impl Client {
     }
 
     // Its call where no script runs, if its connection wants this one.
-    #[tactic(auto, using(crate::proofs::Clients::whole_wants))]
+    #[tactic(auto, using(crate::proofs::Answering::Clients::whole_wants))]
     fn file_call(&self, scripts: bool, fd: Fd, call: Call) -> Call
         requires { call ≡ conn.wants fd self.now.conn }
         ensures { result ≡ spec.conn_wants (spec.is_for_script scripts self.now.conn.q) fd
@@ -103,7 +103,7 @@ impl Client {
     }
 
     // What its connection does, where no script runs.
-    #[tactic(auto, using(crate::proofs::Clients::asks_alone, crate::proofs::Clients::leaves_alone))]
+    #[tactic(auto, using(crate::proofs::Answering::Clients::asks_alone, crate::proofs::Answering::Clients::leaves_alone))]
     fn go_on_alone(
         &mut self,
         scripts: bool,
@@ -125,7 +125,7 @@ impl Client {
     }
 
     // The text of a script was read: it is kept, if it is to run, and the file is closed.
-    #[tactic(auto, using(crate::proofs::Clients::heard_goes))]
+    #[tactic(auto, using(crate::proofs::Answering::Clients::heard_goes))]
     fn hear(
         &mut self,
         scripts: bool,
@@ -149,7 +149,7 @@ impl Client {
     }
 
     // No script runs for it: what it does after the reply to a call for a file, or a script's text.
-    #[tactic(auto, using(crate::proofs::Clients::file_hears, crate::proofs::Clients::file_runs, crate::proofs::Clients::file_alone, crate::proofs::Clients::hears_wants, crate::proofs::Clients::alone_wants))]
+    #[tactic(auto, using(crate::proofs::Answering::Clients::file_hears, crate::proofs::Answering::Clients::file_runs, crate::proofs::Answering::Clients::file_alone, crate::proofs::Answering::Clients::hears_wants, crate::proofs::Answering::Clients::alone_wants))]
     fn go_on_file(
         &mut self,
         scripts: bool,
@@ -272,7 +272,7 @@ impl Client {
     }
 
     // Its run is over, and all is sent: what is kept of its stream goes on.
-    #[tactic(auto, using(crate::proofs::Clients::rests_asks, crate::proofs::Clients::rests_leaves, crate::proofs::Clients::rests_wants))]
+    #[tactic(auto, using(crate::proofs::Answering::Clients::rests_asks, crate::proofs::Answering::Clients::rests_leaves, crate::proofs::Answering::Clients::rests_wants))]
     fn end_free(&mut self, scripts: bool, fd: Fd) -> Result<Course, AllocError>
         ensures course { IfOk result (λ o. IsCourse scripts fd (ended self.old Rests) self.old
             reply.Done o self.new) }
@@ -292,7 +292,7 @@ impl Client {
     }
 
     // Its run is over, and its connection goes on with this.
-    #[tactic(auto, using(crate::proofs::Clients::ends_asks, crate::proofs::Clients::ends_wants))]
+    #[tactic(auto, using(crate::proofs::Answering::Clients::ends_asks, crate::proofs::Answering::Clients::ends_wants))]
     fn end_with(&mut self, scripts: bool, fd: Fd, doing: Doing) -> Result<Course, AllocError>
         requires { (doing ≢ Rests) × (doing ≢ Over) × IsSmall doing }
         ensures course { IfOk result (λ o. IsCourse scripts fd (ended self.old doing) self.old
@@ -307,7 +307,7 @@ impl Client {
     }
 
     // Its run is over.
-    #[tactic(auto, using(crate::proofs::Clients::over_leaves, crate::proofs::Clients::ends_wants))]
+    #[tactic(auto, using(crate::proofs::Answering::Clients::over_leaves, crate::proofs::Answering::Clients::ends_wants))]
     fn end(&mut self, scripts: bool, fd: Fd, doing: Doing) -> Result<Course, AllocError>
         requires { IsSmall doing }
         ensures course { IfOk result (λ o. IsCourse scripts fd (ended self.old doing) self.old
@@ -331,7 +331,7 @@ impl Client {
     }
 
     // What it does after the reply to the call of its run.
-    #[tactic(auto, using(crate::proofs::RunsOn::run_stays, crate::proofs::RunsOn::run_waits, crate::proofs::RunsOn::run_goes, crate::proofs::RunsOn::run_ends, crate::proofs::RunsOn::goes_wants, crate::proofs::RunsOn::run_wants_on))]
+    #[tactic(auto, using(crate::proofs::Answering::RunsOn::run_stays, crate::proofs::Answering::RunsOn::run_waits, crate::proofs::Answering::RunsOn::run_goes, crate::proofs::Answering::RunsOn::run_ends, crate::proofs::Answering::RunsOn::goes_wants, crate::proofs::Answering::RunsOn::run_wants_on))]
     fn go_on_running(
         &mut self,
         scripts: bool,
@@ -448,7 +448,7 @@ impl Client {
     }
 
     /// Its next call.
-    #[tactic(auto, using(crate::proofs::Clients::ready_alone))]
+    #[tactic(auto, using(crate::proofs::Answering::Clients::ready_alone))]
     pub fn next_call(&self, scripts: bool, fd: Fd) -> Result<Call, AllocError>
         ensures call { IfOk result (λ call. call ≡ spec.wants scripts fd self.now) }
         ensures ready { spec.Readies self.now self.now }

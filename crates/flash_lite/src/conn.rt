@@ -131,7 +131,7 @@ impl Conn {
     }
 
     // More of the stream was read. Where nothing came it is at its end.
-    #[tactic(auto, using(crate::proofs::Begun::rests_heard))]
+    #[tactic(auto, using(crate::proofs::Answering::Begun::rests_heard))]
     fn hear(&mut self, fd: Fd, agg: AggId, parts: Option<Parts<'_>>) -> Result<Call, AllocError>
         ensures told { IfOk result
             (λ _. self.new
@@ -216,7 +216,7 @@ impl Conn {
     }
 
     // A request begins, after so many bytes: its first call.
-    #[tactic(auto, using(crate::proofs::Begun::first_wants))]
+    #[tactic(auto, using(crate::proofs::Answering::Begun::first_wants))]
     fn begin(&mut self, fd: Fd, asked: Asked, len: usize) -> Result<Call, AllocError>
         ensures begun { IfOk result (λ _. self.new ≡ record {
           kept = drop len self.old.kept;
@@ -296,7 +296,7 @@ impl Conn {
     }
 
     /// Goes on with a phase in which something is in progress.
-    #[tactic(auto, using(crate::proofs::Waiting::busy_awaits))]
+    #[tactic(auto, using(crate::proofs::Answering::Waiting::busy_awaits))]
     pub(crate) fn proceed(&mut self, fd: Fd, doing: Doing) -> Result<Call, AllocError>
         requires { (doing ≢ Rests) × IsSmall doing }
         ensures doing { IfOk result (λ _. self.new ≡ record self.old { doing = doing }) }
@@ -417,7 +417,7 @@ impl Conn {
     }
 
     /// Its next call.
-    #[tactic(auto, using(crate::proofs::Waiting::awaits_ready))]
+    #[tactic(auto, using(crate::proofs::Answering::Waiting::awaits_ready))]
     pub fn next_call(&self, fd: Fd) -> Result<Call, AllocError>
         ensures call { IfOk result (λ call. call ≡ spec.wants fd self.now) }
         ensures ready { spec.Readies self.now self.now }

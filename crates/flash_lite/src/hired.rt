@@ -13,7 +13,7 @@ fn first_of(free: &[bool]) -> Option<usize>
 }
 
 /// The first of so many workers that is free, or their number where none is.
-#[tactic(auto, using(crate::proofs::Firsts::first_some, crate::proofs::Firsts::first_none))]
+#[tactic(auto, using(crate::proofs::Turns::Firsts::first_some, crate::proofs::Turns::Firsts::first_none))]
 pub(crate) fn first_free(free: &[bool; 8], workers: u32) -> u32
     requires { workers ≤ MAX_WORKERS }
     ensures { result ≡ first_in workers free.now }

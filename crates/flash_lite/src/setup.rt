@@ -241,7 +241,7 @@ fn server(alloc: Global, workers: u32) -> (DomainId, Actor)
 }
 
 // The server, and the workers that run the site's scripts.
-#[tactic(auto, using(crate::proofs::Apart::actors_apart))]
+#[tactic(auto, using(crate::proofs::World::Apart::actors_apart))]
 fn actors(alloc: Global, site: &Site) -> Result<Vec<(DomainId, Actor)>, AllocError>
     requires { spec.is_in_range site.now ≡ true }
     ensures actors { IfOk result (λ actors. spec.AreActors site.now actors.items) }

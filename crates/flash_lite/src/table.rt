@@ -111,7 +111,7 @@ impl Table {
     }
 
     // After the reply to `accept`: the next one is accepted, or where none waits the round is over.
-    #[tactic(auto, using(crate::proofs::Turned::accepted_turns, crate::proofs::Turned::over_turns))]
+    #[tactic(auto, using(crate::proofs::Turns::Turned::accepted_turns, crate::proofs::Turns::Turned::over_turns))]
     fn go_on_accepting(&mut self, last: &Reply) -> Result<Turn, AllocError>
         requires accepts { self.old.flight ≡ Accepting }
         requires kept { IsKept self.old }
@@ -164,7 +164,7 @@ impl Table {
     }
 
     // What follows the reply to the call of the client in a place.
-    #[tactic(auto, using(crate::proofs::Turned::none_turns, crate::proofs::Turned::asks_turns, crate::proofs::Turned::leaves_turns, crate::proofs::Turned::left_same, crate::proofs::Turned::table_same, crate::proofs::Wanting::here_wants, crate::proofs::Wanting::none_wants, crate::proofs::Wanting::left_wants))]
+    #[tactic(auto, using(crate::proofs::Turns::Turned::none_turns, crate::proofs::Turns::Turned::asks_turns, crate::proofs::Turns::Turned::leaves_turns, crate::proofs::Turns::Turned::left_same, crate::proofs::Turns::Turned::table_same, crate::proofs::Turns::Wanting::here_wants, crate::proofs::Turns::Wanting::none_wants, crate::proofs::Turns::Wanting::left_wants))]
     fn go_on_at(
         &mut self,
         fd: u32,
@@ -197,7 +197,7 @@ impl Table {
     }
 
     /// What follows the reply to the call that is out, and the next call.
-    #[tactic(auto, using(crate::proofs::Turned::nothing_turns, crate::proofs::Turned::unheard, crate::proofs::Wanting::nothing_wants))]
+    #[tactic(auto, using(crate::proofs::Turns::Turned::nothing_turns, crate::proofs::Turns::Turned::unheard, crate::proofs::Turns::Wanting::nothing_wants))]
     pub(crate) fn go_on(
         &mut self,
         last: &Reply,

@@ -35,8 +35,8 @@ use Rattle.flash_laws.specs.Site.{server}
 use Rattle.flash_laws.proofs.Client.Moving.{client-opened, client-piped}
 use Rattle.flash_laws.proofs.Client.Phases.{at}
 use Rattle.flash_laws.proofs.Client.Staying.{client-holds, client-ready, new-holds}
-use Rattle.flash_laws.proofs.Keeping as keeping
-use Rattle.flash_laws.proofs.Keeping.{leaves-told, shuts}
+use Rattle.flash_laws.proofs.Conn.Keeping as keeping
+use Rattle.flash_laws.proofs.Conn.Keeping.{leaves-told, shuts}
 use Rattle.flash_laws.proofs.Lists.{clash}
 use Rattle.flash_laws.proofs.Run.Brought.{runs_keep}
 use Rattle.flash_laws.proofs.Run.Ends.{wants-text}

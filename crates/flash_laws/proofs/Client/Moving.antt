@@ -23,10 +23,10 @@ use Rattle.flash_laws.specs.Offers.{may_repeat}
 use Rattle.flash_laws.specs.Running as running
 use Rattle.flash_laws.specs.Running.{is_over}
 use Rattle.flash_laws.specs.Site.{server}
-use Rattle.flash_laws.proofs.Answering.{some-inj}
+use Rattle.flash_laws.proofs.Conn.Answering.{some-inj}
 use Rattle.flash_laws.proofs.Client.Phases.{at}
-use Rattle.flash_laws.proofs.Moving as moving
-use Rattle.flash_laws.proofs.Repeats as repeats
+use Rattle.flash_laws.proofs.Conn.Moving as moving
+use Rattle.flash_laws.proofs.Conn.Repeats as repeats
 use Rattle.flash_laws.proofs.Run.Ends.{wants-text}
 use Rattle.flash_laws.proofs.Run.Moves as run_moves
 

@@ -37,8 +37,8 @@ use Rattle.flash_laws.specs.declared.running.Running.{Running}
 use Rattle.flash_laws.specs.declared.running.Running.TheVariants.{Awaits, Runs, Leaves, Closes as Ends}
 use Rattle.flash_laws.proofs.Client.Phases.{at, unread-told}
 use Rattle.flash_laws.proofs.Lists.{clash}
-use Rattle.flash_laws.proofs.Nearing as file
-use Rattle.flash_laws.proofs.Nearing.{stage, calls_left, near, drops, closes}
+use Rattle.flash_laws.proofs.Conn.Nearing as file
+use Rattle.flash_laws.proofs.Conn.Nearing.{stage, calls_left, near, drops, closes}
 use Rattle.flash_laws.proofs.Run.Ends.{IsEnd, run-ends, wants-text}
 use Rattle.flash_laws.proofs.Run.Nearing.{run_calls, rank as run_rank, nears as run_nears}
 use Rattle.flash_laws.proofs.Run.Offering as running_on

@@ -1,7 +1,7 @@
 -- What a client is offered is the next bytes of the response, for a file and for a script.
-use Rattle.std.proofs.Common.{inl, inr, ◌≡◌, ℕ, ◌+◌, ◌⊎◌, List, [], ◌∷◌, length, take, drop, ap, ◌∙◌, refl, sym, subst, Option, Some, None, true, false, Bool, zero-add, if◌then◌else◌}
+use Rattle.std.proofs.Common.{inl, inr, ◌≡◌, ℕ, ◌+◌, ◌⊎◌, List, [], take, drop, ap, ◌∙◌, refl, sym, subst, Option, Some, None, true, false, Bool, zero-add, if◌then◌else◌}
 use Rattle.iol_core.specs.Access.{HasAccess}
-use Rattle.iol_core.specs.State.{State, descriptor, content, file, may_read, is_live}
+use Rattle.iol_core.specs.State.{State, descriptor, file, is_live}
 use Rattle.iol_core.specs.Run.{StepsTo}
 use Rattle.iol_core.specs.Values.{gives_up}
 use Rattle.iol_core.specs.declared.descriptors.Descriptor.TheVariants as on
@@ -12,56 +12,45 @@ use Rattle.iol_core.specs.declared.events.Call.TheVariants as call
 use Rattle.iol_core.specs.declared.events.Event.{Event}
 use Rattle.iol_core.specs.declared.events.Event.TheVariants as event
 use Rattle.iol_core.specs.declared.events.Reply.{Reply}
-use Rattle.iol_core.specs.declared.events.Reply.TheVariants as reply
-use Rattle.iol_laws.specs.Caller as caller
-use Rattle.iol_laws.specs.Caller.{CallsServeTheirDomain, lent_at}
+use Rattle.iol_laws.specs.Caller.{CallsServeTheirDomain}
 use Rattle.iol_laws.specs.CallerFiles as of
 use Rattle.iol_laws.specs.CallerFiles.{FileCallsServeTheirDomain}
 use Rattle.iol_laws.specs.Frame.{EachStepLeavesTheRest, touches_fd}
 use Rattle.iol_laws.specs.Order.{IsOrderly}
 use Rattle.iol_laws.specs.RefusalsLeft.{RefusalsThatAreLeft}
 use Rattle.flash_http.specs.Request.{Answer, serve, refuse, Wanted}
-use Rattle.flash_laws.specs.Answers.{Outcome, Failed, response, script_text}
-use Rattle.flash_laws.specs.Client.{Client, uses_agg, uses_fd, is_for_script, conn_wants, job_of, wants, can_run, kept_if, told_spares, conn_told, file_told, keeps_text, text_on, after_run, goes_on, run_told, run_on, told, awaits}
-use Rattle.flash_laws.specs.ClientOffers.{begun, is_ending, ConnLearns, Learns, taken_by, HandsJob, IsAsItsConn, IsAsItsRun, ClientsAreOfferedTheResponse}
+use Rattle.flash_laws.specs.Answers.{Outcome, response, script_text}
+use Rattle.flash_laws.specs.Client.{Client, uses_agg, uses_fd, is_for_script, conn_wants, job_of, wants, file_told, keeps_text, text_on, after_run, goes_on, run_told, run_on, told, awaits}
+use Rattle.flash_laws.specs.ClientOffers.{begun, is_ending, Learns, taken_by, HandsJob, IsAsItsConn, IsAsItsRun, ClientsAreOfferedTheResponse}
 use Rattle.flash_laws.specs.Conn as conn
-use Rattle.flash_laws.specs.Conn.{Conn, most_read, status_of}
-use Rattle.flash_laws.specs.declared.doing.Learnt.TheVariants.{File, Length, Fails, Text as TextOf}
-use Rattle.flash_laws.specs.declared.doing.Content.TheVariants.{Body, Bare, Error, Script}
+use Rattle.flash_laws.specs.Conn.{Conn, most_read}
+use Rattle.flash_laws.specs.declared.doing.Learnt.TheVariants.{File, Length}
+use Rattle.flash_laws.specs.declared.doing.Content.TheVariants.{Script}
 use Rattle.flash_laws.specs.declared.doing.Doing.{Doing}
-use Rattle.flash_laws.specs.declared.doing.Doing.TheVariants.{Rests, Got, Opens, Reads as Reading, Shuts, Picks, Spares, Heads, Joins, Sends, Cuts, Offers, Swaps, Sent, Breaks, Drops, Closes, Over}
+use Rattle.flash_laws.specs.declared.doing.Doing.TheVariants.{Rests, Opens, Reads as Reading, Sends, Offers, Closes}
 use Rattle.flash_laws.specs.declared.running.Step.TheVariants as act
 use Rattle.flash_laws.specs.declared.running.Running.{Running}
 use Rattle.flash_laws.specs.declared.running.Running.TheVariants.{Runs, Leaves}
-use Rattle.flash_laws.specs.Fits.{IsFile, Has, is_closing, Names}
+use Rattle.flash_laws.specs.Fits.{Has, Names}
 use Rattle.flash_laws.specs.Known as known
-use Rattle.flash_laws.specs.Known.{Known, OfFile, OfScript, MayPutOut, IsNextOf, is_read, is_silent, IsAfter, ReadsOn, HasNoRun, IsRun, HasFile, HasKnown}
+use Rattle.flash_laws.specs.Known.{Known, OfFile, OfScript, MayPutOut, IsNextOf, is_read, is_silent, IsAfter, HasNoRun, IsRun, HasKnown}
 use Rattle.flash_laws.specs.Offers as single
-use Rattle.flash_laws.specs.RunFits.{Progress, nothing_yet, HasJobPipe, HasRun}
+use Rattle.flash_laws.specs.RunFits.{Progress, HasJobPipe, HasRun}
 use Rattle.flash_laws.specs.RunOffers.{past_of, IsNextOf as IsNextOfRun, taken_by as taken_by_run}
 use Rattle.flash_laws.specs.Running as running
 use Rattle.flash_laws.specs.Running.{in_phase, is_over, job_pipe}
 use Rattle.flash_laws.specs.Site.{server}
+use Rattle.flash_laws.proofs.Client.Alone.{client, no-text, of-file, of-script}
 use Rattle.flash_laws.proofs.Client.Moving.{client-moves}
 use Rattle.flash_laws.proofs.Client.Nearing.{rank, client-nears}
 use Rattle.flash_laws.proofs.Client.Staying.{client-whole, client-keeps}
 use Rattle.flash_laws.proofs.Client.Taking.{client-takes}
-use Rattle.flash_laws.proofs.Client.Phases as phases
-use Rattle.flash_laws.proofs.Client.Phases.{at, Next, next-due, script-writes, asks-told, unread-told, read-told}
-use Rattle.flash_laws.proofs.Lent.{lent-stays, has-stays}
-use Rattle.flash_laws.proofs.Lists.{clash}
-use Rattle.flash_laws.proofs.Offering as offering
-use Rattle.flash_laws.proofs.Run.Ends.{IsEnd, run-ends, all-taken, run-after, keeps-back, wants-text}
+use Rattle.flash_laws.proofs.Client.Phases.{at, Next, next-due, script-writes}
+use Rattle.flash_laws.proofs.Conn.Lent.{lent-stays, has-stays}
+use Rattle.flash_laws.proofs.Run.Ends.{IsEnd, run-ends, run-after, keeps-back, wants-text}
 use Rattle.flash_laws.proofs.Run.Offering.{part-next, left-next}
 use Rattle.flash_laws.proofs.Run.Offering as running_on
 use Rattle.flash_laws.proofs.Run.Stays.{run_stays}
-
-abbrev client : Conn → Option Running → List ℕ → Client
-client c run script = record { conn = c; run = run; script = script }
-
-untrue : (b : Bool) → (b ≡ true → ⊥) → b ≡ false
-untrue true never = absurd (never refl)
-untrue false never = refl
 
 -- ---- a request begins
 
@@ -73,263 +62,6 @@ starts scripts m fd kept (serve w) o = (opens (is_for_script scripts (serve w)),
     opens true = refl
     opens false = refl
 starts scripts m fd kept (refuse status head_only close) o = (refl, record { none = refl; unread = refl; has = refl })
-
--- ---- a reply, where no run has begun or it is over
-
--- with nothing being sent, nothing begins to be sent
-silent-told : (kept : List ℕ) (q : Answer) (d : Doing) (r : Reply) (heard : List ℕ) → is_silent d ≡ true → is_read d ≡ false → is_closing d ≡ false
-    → is_silent (conn.told (at kept q d) r heard).doing ≡ true
-silent-told kept q Rests (reply.Agg n) [] silent unread busy = refl
-silent-told kept q Rests (reply.Agg n) (b ∷ heard) silent unread busy = refl
-silent-told kept q Rests r heard silent unread busy = refl
-silent-told kept q (Got a) reply.Done heard silent unread busy = refl
-silent-told kept q (Got a) r heard silent unread busy = refl
-silent-told kept q (Breaks piece a more) reply.Done heard silent unread busy = refl
-silent-told kept q (Breaks piece a more) r heard silent unread busy = refl
-silent-told kept q (Drops a None) reply.Done heard silent unread busy = refl
-silent-told kept q (Drops a (Some x)) reply.Done heard silent unread busy = refl
-silent-told kept q (Drops a more) r heard silent unread busy = refl
-silent-told kept q Opens r heard silent unread busy = absurd (cc (silent))
-silent-told kept q (Reading f) r heard silent unread busy = absurd (cc (silent))
-silent-told kept q (Shuts f (File a len)) r heard silent unread busy = absurd (cc (silent))
-silent-told kept q (Shuts f (Length len)) r heard silent unread busy = absurd (cc (silent))
-silent-told kept q (Shuts f (Fails status)) r heard silent unread busy = absurd (cc (silent))
-silent-told kept q (Shuts f (TextOf a false)) r heard silent unread busy = absurd (cc (silent))
-silent-told kept q (Shuts f (TextOf a true)) r heard silent unread busy = absurd (cc (unread))
-silent-told kept q (Picks a first last len) r heard silent unread busy = absurd (cc (silent))
-silent-told kept q (Spares a (Body b size len)) r heard silent unread busy = absurd (cc (silent))
-silent-told kept q (Spares a (Bare len)) r heard silent unread busy = absurd (cc (silent))
-silent-told kept q (Spares a (Error status)) r heard silent unread busy = absurd (cc (silent))
-silent-told kept q (Spares a Script) r heard silent unread busy = absurd (cc (unread))
-silent-told kept q (Heads k) r heard silent unread busy = absurd (cc (silent))
-silent-told kept q (Joins a size body len) r heard silent unread busy = absurd (cc (silent))
-silent-told kept q (Sends a len taken more) r heard silent unread busy = absurd (cc (silent))
-silent-told kept q (Cuts a from len taken more) r heard silent unread busy = absurd (cc (silent))
-silent-told kept q (Offers a from len piece taken more) r heard silent unread busy = absurd (cc (silent))
-silent-told kept q (Swaps a from len piece taken more) r heard silent unread busy = absurd (cc (silent))
-silent-told kept q (Sent a taken more) r heard silent unread busy = absurd (cc (silent))
-silent-told kept q Over r heard silent unread busy = absurd (cc (silent))
-silent-told kept q Closes r heard silent unread busy = absurd (cc (busy))
-
--- after a run nothing more is taken of its response
-after-told : (w : Wanted) (o : Progress) (kept : List ℕ) (d : Doing) (r : Reply) (heard : List ℕ) → is_silent d ≡ true → is_read d ≡ false → is_closing d ≡ false
-    → IsAfter w o d → IsAfter w o (conn.told (at kept (serve w) d) r heard).doing
-after-told w o kept Rests (reply.Agg n) [] silent unread busy after = all-taken w o after.0
-after-told w o kept Rests (reply.Agg n) (b ∷ heard) silent unread busy after = after
-after-told w o kept Rests r heard silent unread busy after = after
-after-told w o kept (Got a) reply.Done heard silent unread busy after = after
-after-told w o kept (Got a) r heard silent unread busy after = after
-after-told w o kept (Breaks piece a more) reply.Done heard silent unread busy after = after
-after-told w o kept (Breaks piece a more) r heard silent unread busy after = after
-after-told w o kept (Drops a None) reply.Done heard silent unread busy after = after
-after-told w o kept (Drops a (Some x)) reply.Done heard silent unread busy after = after
-after-told w o kept (Drops a more) r heard silent unread busy after = after
-after-told w o kept Opens r heard silent unread busy after = absurd (cc (silent))
-after-told w o kept (Reading f) r heard silent unread busy after = absurd (cc (silent))
-after-told w o kept (Shuts f (File a len)) r heard silent unread busy after = absurd (cc (silent))
-after-told w o kept (Shuts f (Length len)) r heard silent unread busy after = absurd (cc (silent))
-after-told w o kept (Shuts f (Fails status)) r heard silent unread busy after = absurd (cc (silent))
-after-told w o kept (Shuts f (TextOf a false)) r heard silent unread busy after = absurd (cc (silent))
-after-told w o kept (Shuts f (TextOf a true)) r heard silent unread busy after = absurd (cc (unread))
-after-told w o kept (Picks a first last len) r heard silent unread busy after = absurd (cc (silent))
-after-told w o kept (Spares a (Body b size len)) r heard silent unread busy after = absurd (cc (silent))
-after-told w o kept (Spares a (Bare len)) r heard silent unread busy after = absurd (cc (silent))
-after-told w o kept (Spares a (Error status)) r heard silent unread busy after = absurd (cc (silent))
-after-told w o kept (Spares a Script) r heard silent unread busy after = absurd (cc (unread))
-after-told w o kept (Heads k) r heard silent unread busy after = absurd (cc (silent))
-after-told w o kept (Joins a size body len) r heard silent unread busy after = absurd (cc (silent))
-after-told w o kept (Sends a len taken more) r heard silent unread busy after = absurd (cc (silent))
-after-told w o kept (Cuts a from len taken more) r heard silent unread busy after = absurd (cc (silent))
-after-told w o kept (Offers a from len piece taken more) r heard silent unread busy after = absurd (cc (silent))
-after-told w o kept (Swaps a from len piece taken more) r heard silent unread busy after = absurd (cc (silent))
-after-told w o kept (Sent a taken more) r heard silent unread busy after = absurd (cc (silent))
-after-told w o kept Over r heard silent unread busy after = absurd (cc (silent))
-after-told w o kept Closes r heard silent unread busy after = absurd (cc (busy))
-
--- the text of a script has run
-no-text : (b : Bool) (w : Wanted) (x : Client) (text : List ℕ) (o : Progress) → b ≡ false → IsAfter w o x.conn.doing → ReadsOn b w x text o
-no-text true w x text o is after = absurd (cc (is))
-no-text false w x text o is after = after
-
-run-is-over : (b : Bool) (w : Wanted) (x : Client) (text : List ℕ) (o : Progress) → b ≡ false → ReadsOn b w x text o → IsAfter w o x.conn.doing
-run-is-over true w x text o is reads = absurd (cc (is))
-run-is-over false w x text o is reads = reads
-
-module _ (steps : EachStepLeavesTheRest) (own : CallsServeTheirDomain) (files : FileCallsServeTheirDomain) (scripts : Bool)
-    (m n : State) (order : IsOrderly m) (access : HasAccess m) (lives : is_live m server ≡ true) (fd c : ℕ)
-    (open_on : descriptor m server fd ≡ Some (on.Connection c)) (kept script : List ℕ) where
-  abbrev of_doing : Answer → Doing → Client
-  of_doing q d = client (at kept q d) None script
-
-  -- what is known after a reply, with which the machine has what is needed
-  abbrev Told : (b : Bool) → Answer → Doing → Reply → (heard : List ℕ) → Known → Type 0
-  Told b q d r heard before = (after : Known) × ConnLearns b d r heard before after × HasKnown scripts n (file_told b (of_doing q d) r heard) after
-
-  -- ---- of a file
-
-  abbrev FileTold : Answer → Doing → Reply → (heard : List ℕ) → Outcome → Type 0
-  FileTold q d r heard before = (after : Outcome) × single.Learns d r heard before after × HasFile n (conn_told (of_doing q d) r heard) after
-
-  file-on : (q : Answer) (d : Doing) (r : Reply) (heard : List ℕ) (before : Outcome) → is_closing d ≡ false → HasFile m (of_doing q d) before
-      → StepsTo m (event.Call server (conn.wants fd (at kept q d))) r n → Names n r heard → FileTold q d r heard before
-  file-on q d r heard before busy has step names =
-      let got = offering.replied steps own files m n order lives kept fd c q d r heard before access open_on busy has.has step names in
-      (got.0, got.1, record { none = refl; unread = unread-told kept q d r heard has.unread; has = got.2 })
-
-  -- the text of a script is read
-  text-read : (w : Wanted) (g i pos : ℕ) (r : Reply) (heard : List ℕ) (before : Outcome) → is_for_script scripts (serve w) ≡ true
-      → descriptor m server g ≡ Some (on.File i pos modes.Read) → may_read m server (file m i).pool ≡ true
-      → StepsTo m (event.Call server (call.IolRead g most_read)) r n → Names n r heard → Told true (serve w) (Reading g) r heard (OfFile before)
-  text-read w g i pos r heard before for_script opened may step names = by r (files.reads_file m n server g i pos most_read modes.Read r order lives may refl opened step) names
-    where
-      still : n ≡ m → IsFile n g
-      still same = (i, pos, subst (λ (s : State). descriptor s server g ≡ Some (on.File i pos modes.Read)) (sym same) opened)
-
-      sends : (a : ℕ) (h : Bool) → known.Sends h w (record { conn = at kept (serve w) (Shuts g (TextOf a true)); run = None; script = kept_if h true heard }) heard nothing_yet
-      sends a true = refl
-      sends a false = (refl, record { kept = refl; fresh = refl })
-
-      text : (a : ℕ) → IsFile n g → lent_at n server a ≡ Some heard → (b : Bool)
-          → (after : Known) × (after ≡ (if b then OfScript heard nothing_yet else OfFile (Failed 500))) × HasKnown scripts n (record { conn = at kept (serve w) (Shuts g (TextOf a b)); run = None; script = kept_if w.head_only b heard }) after
-      text a is lends true = (OfScript heard nothing_yet, refl, record { script = λ read. for_script; read = refl; has = (is, ((heard, lends), refl)); sends = sends a w.head_only })
-      text a is lends false = (OfFile (Failed 500), refl, record { none = refl; unread = refl; has = (is, ((heard, lends), refl)) })
-
-      by : (r : Reply) → of.ReadsFile m server g i pos modes.Read (take most_read (drop pos (content m i))) r n → Names n r heard
-          → Told true (serve w) (Reading g) r heard (OfFile before)
-      by (reply.Agg a) did names = text a (i, pos + length (take most_read (drop pos (content m i))), did.moves) names (can_run heard)
-      by (reply.Refused no.WouldBlock) did names = (OfFile (Failed 503), (Failed 503, refl, refl), record { none = refl; unread = refl; has = (tt, still did.1) })
-      by (reply.Refused y) did names = (OfFile (Failed (status_of y)), (Failed (status_of y), refl, refl), record { none = refl; unread = refl; has = (still did.1, refl) })
-      by r did names = absurd did
-
-  -- a request for a script, of which no text that runs is read
-  script-on : (q : Answer) (d : Doing) (r : Reply) (heard : List ℕ) (before : Outcome) → is_for_script scripts q ≡ true → is_closing d ≡ false
-      → HasFile m (of_doing q d) before → StepsTo m (event.Call server (conn_wants true fd (at kept q d))) r n → Names n r heard
-      → Told true q d r heard (OfFile before)
-  script-on (refuse status head_only close) d r heard before for_script busy has step names = absurd (cc (for_script))
-  script-on (serve w) (Reading g) r heard before for_script busy has step names =
-      text-read w g has.has.1.0 has.has.1.1 r heard before for_script has.has.1.2 (access.fds server g has.has.1.0 has.has.1.1 modes.Read has.has.1.2) step names
-  script-on (serve w) (Spares a Script) r heard before for_script busy has step names = absurd (let read = has.unread in cc (read))
-  script-on (serve w) Rests r heard before for_script busy has step names = (let got = file-on (serve w) Rests r heard before busy has step names in (OfFile got.0, (got.0, got.1, refl), got.2))
-  script-on (serve w) (Got a) r heard before for_script busy has step names = (let got = file-on (serve w) (Got a) r heard before busy has step names in (OfFile got.0, (got.0, got.1, refl), got.2))
-  script-on (serve w) Opens r heard before for_script busy has step names = (let got = file-on (serve w) Opens r heard before busy has step names in (OfFile got.0, (got.0, got.1, refl), got.2))
-  script-on (serve w) (Shuts f k) r heard before for_script busy has step names = (let got = file-on (serve w) (Shuts f k) r heard before busy has step names in (OfFile got.0, (got.0, got.1, refl), got.2))
-  script-on (serve w) (Picks a first last len) r heard before for_script busy has step names = (let got = file-on (serve w) (Picks a first last len) r heard before busy has step names in (OfFile got.0, (got.0, got.1, refl), got.2))
-  script-on (serve w) (Spares a (Body b size len)) r heard before for_script busy has step names = (let got = file-on (serve w) (Spares a (Body b size len)) r heard before busy has step names in (OfFile got.0, (got.0, got.1, refl), got.2))
-  script-on (serve w) (Spares a (Bare len)) r heard before for_script busy has step names = (let got = file-on (serve w) (Spares a (Bare len)) r heard before busy has step names in (OfFile got.0, (got.0, got.1, refl), got.2))
-  script-on (serve w) (Spares a (Error status)) r heard before for_script busy has step names = (let got = file-on (serve w) (Spares a (Error status)) r heard before busy has step names in (OfFile got.0, (got.0, got.1, refl), got.2))
-  script-on (serve w) (Heads k) r heard before for_script busy has step names = (let got = file-on (serve w) (Heads k) r heard before busy has step names in (OfFile got.0, (got.0, got.1, refl), got.2))
-  script-on (serve w) (Joins a size body len) r heard before for_script busy has step names = (let got = file-on (serve w) (Joins a size body len) r heard before busy has step names in (OfFile got.0, (got.0, got.1, refl), got.2))
-  script-on (serve w) (Sends a len taken more) r heard before for_script busy has step names = (let got = file-on (serve w) (Sends a len taken more) r heard before busy has step names in (OfFile got.0, (got.0, got.1, refl), got.2))
-  script-on (serve w) (Cuts a from len taken more) r heard before for_script busy has step names = (let got = file-on (serve w) (Cuts a from len taken more) r heard before busy has step names in (OfFile got.0, (got.0, got.1, refl), got.2))
-  script-on (serve w) (Offers a from len piece taken more) r heard before for_script busy has step names = (let got = file-on (serve w) (Offers a from len piece taken more) r heard before busy has step names in (OfFile got.0, (got.0, got.1, refl), got.2))
-  script-on (serve w) (Swaps a from len piece taken more) r heard before for_script busy has step names = (let got = file-on (serve w) (Swaps a from len piece taken more) r heard before busy has step names in (OfFile got.0, (got.0, got.1, refl), got.2))
-  script-on (serve w) (Sent a taken more) r heard before for_script busy has step names = (let got = file-on (serve w) (Sent a taken more) r heard before busy has step names in (OfFile got.0, (got.0, got.1, refl), got.2))
-  script-on (serve w) (Breaks piece a more) r heard before for_script busy has step names = (let got = file-on (serve w) (Breaks piece a more) r heard before busy has step names in (OfFile got.0, (got.0, got.1, refl), got.2))
-  script-on (serve w) (Drops a more) r heard before for_script busy has step names = (let got = file-on (serve w) (Drops a more) r heard before busy has step names in (OfFile got.0, (got.0, got.1, refl), got.2))
-  script-on (serve w) Closes r heard before for_script busy has step names = (let got = file-on (serve w) Closes r heard before busy has step names in (OfFile got.0, (got.0, got.1, refl), got.2))
-  script-on (serve w) Over r heard before for_script busy has step names = (let got = file-on (serve w) Over r heard before busy has step names in (OfFile got.0, (got.0, got.1, refl), got.2))
-
-  of-file : (q : Answer) (d : Doing) (r : Reply) (heard : List ℕ) (before : Outcome) (b : Bool) → is_for_script scripts q ≡ b → is_closing d ≡ false
-      → HasFile m (of_doing q d) before → StepsTo m (event.Call server (conn_wants b fd (at kept q d))) r n → Names n r heard
-      → Told b q d r heard (OfFile before)
-  of-file q d r heard before true for_script busy has step names = script-on q d r heard before for_script busy has step names
-  of-file q d r heard before false for_script busy has step names = (let got = file-on q d r heard before busy has step names in (OfFile got.0, (got.0, got.1, refl), got.2))
-
-  -- ---- of a script that can run
-
-  module _ (w : Wanted) (text : List ℕ) (o : Progress) (r : Reply) (heard : List ℕ) where
-    abbrev Was : Doing → Type 0
-    Was d = HasNoRun scripts m w (of_doing (serve w) d) text o
-
-    abbrev Goes : Doing → Type 0
-    Goes d = HasNoRun scripts n w (conn_told (of_doing (serve w) d) r heard) text o
-
-    phase : (d : Doing) → Was d → is_closing d ≡ false → StepsTo m (event.Call server (conn.wants fd (at kept (serve w) d))) r n → Names n r heard
-        → Has n (serve w) (script_text w) (conn.told (at kept (serve w) d) r heard).doing
-    phase d has busy step names = phases.phase steps own m n order kept fd c (serve w) d (script_text w) r heard open_on has.read busy has.has step names
-
-    -- with no text that is still to run
-    plain-on : (d : Doing) → Was d → is_read d ≡ false → is_closing d ≡ false → StepsTo m (event.Call server (conn.wants fd (at kept (serve w) d))) r n
-        → Names n r heard → Goes d
-    plain-on d has unread busy step names = record {
-      script = λ read. absurd (clash (is_read (conn.told (at kept (serve w) d) r heard).doing) read (unread-told kept (serve w) d r heard unread));
-      read = read-told kept (serve w) d r heard has.read;
-      has = phase d has busy step names;
-      sends = sends w.head_only has.sends;
-    }
-      where
-        sends : (h : Bool) → known.Sends h w (of_doing (serve w) d) text o → known.Sends h w (conn_told (of_doing (serve w) d) r heard) text o
-        sends true fresh = fresh
-        sends false was = (
-          silent-told kept (serve w) d r heard was.0 unread busy,
-          no-text (is_read (conn.told (at kept (serve w) d) r heard).doing) w (conn_told (of_doing (serve w) d) r heard) text o (unread-told kept (serve w) d r heard unread)
-              (after-told w o kept d r heard was.0 unread busy (run-is-over (is_read d) w (of_doing (serve w) d) text o unread was.1)),
-        )
-
-    -- the descriptor of a script that was read is closed
-    shut-on : (g a : ℕ) → is_for_script scripts (serve w) ≡ true → Was (Shuts g (TextOf a true))
-        → StepsTo m (event.Call server (call.Close g)) r n → Names n r heard → Goes (Shuts g (TextOf a true))
-    shut-on g a for_script has step names = record {
-      script = λ read. for_script;
-      read = read-told kept (serve w) (Shuts g (TextOf a true)) r heard refl;
-      has = phase (Shuts g (TextOf a true)) has refl step names;
-      sends = sends w.head_only r has.sends;
-    }
-      where
-        sends : (h : Bool) (r : Reply) → known.Sends h w (of_doing (serve w) (Shuts g (TextOf a true))) text o
-            → known.Sends h w (conn_told (of_doing (serve w) (Shuts g (TextOf a true))) r heard) text o
-        sends true r fresh = fresh
-        sends false reply.Done was = (refl, record { kept = was.1.kept; fresh = was.1.fresh })
-        sends false r was = (refl, record { kept = was.1.kept; fresh = was.1.fresh })
-
-    -- its aggregate is dropped: for GET the run begins
-    spared-on : (a : ℕ) → is_for_script scripts (serve w) ≡ true → Was (Spares a Script) → StepsTo m (event.Call server (call.AggDrop a)) r n
-        → HasKnown scripts n (record { conn = conn.told (at kept (serve w) (Spares a Script)) r heard; run = told_spares w.head_only r; script = script }) (OfScript text o)
-    spared-on a for_script has step = by r (own.drops m n server a r order step) w.head_only refl has.sends
-      where
-        by : (r : Reply) → caller.Drops m server a r n → (h : Bool) → w.head_only ≡ h → known.Sends h w (of_doing (serve w) (Spares a Script)) text o
-            → HasKnown scripts n (record { conn = conn.told (at kept (serve w) (Spares a Script)) r heard; run = told_spares h r; script = script }) (OfScript text o)
-        by reply.Done did true is sends = record { script = λ read. for_script; read = refl; has = refl; sends = subst (λ h. known.Sends h w (client (at kept (serve w) (Heads Script)) None script) text o) (sym is) sends }
-        by reply.Done did false is sends = record { answers = is; has = sends.1.fresh; kept = λ keeps. sends.1.kept }
-        by (reply.Refused y) did true is sends = subst (λ (s : State). HasNoRun scripts s w (of_doing (serve w) (Spares a Script)) text o) (sym did) has
-        by (reply.Refused y) did false is sends = subst (λ (s : State). HasNoRun scripts s w (of_doing (serve w) (Spares a Script)) text o) (sym did) has
-        by r did h is sends = absurd did
-
-    known-on : (d : Doing) → Goes d → HasKnown scripts n (conn_told (of_doing (serve w) d) r heard) (OfScript text o)
-    known-on d goes = subst (λ (q : Answer). known.HasScript scripts n (conn_told (of_doing (serve w) d) r heard) q text o) (sym (asks-told kept (serve w) d r heard)) goes
-
-    unread-or : (d : Doing) → Was d → is_for_script scripts (serve w) ≡ false → is_read d ≡ false
-    unread-or d has none = untrue (is_read d) (λ read. clash (is_for_script scripts (serve w)) (has.script read) none)
-
-    of-script : (d : Doing) (b : Bool) → is_for_script scripts (serve w) ≡ b → is_closing d ≡ false → Was d
-        → StepsTo m (event.Call server (conn_wants b fd (at kept (serve w) d))) r n → Names n r heard
-        → Told b (serve w) d r heard (OfScript text o)
-    of-script d false for_script busy has step names = (OfScript text o, refl, known-on d (plain-on d has (unread-or d has for_script) busy step names))
-    of-script Opens true for_script busy has step names = absurd (let read = has.read in cc (read))
-    of-script (Reading f) true for_script busy has step names = absurd (let read = has.read in cc (read))
-    of-script (Shuts g (TextOf a true)) true for_script busy has step names = (OfScript text o, refl, shut-on g a for_script has step names)
-    of-script (Spares a Script) true for_script busy has step names = (OfScript text o, refl, spared-on a for_script has step)
-    of-script Rests true for_script busy has step names = (OfScript text o, refl, known-on Rests (plain-on Rests has refl busy step names))
-    of-script (Got a) true for_script busy has step names = (OfScript text o, refl, known-on (Got a) (plain-on (Got a) has refl busy step names))
-    of-script (Shuts f (File a len)) true for_script busy has step names = (OfScript text o, refl, known-on (Shuts f (File a len)) (plain-on (Shuts f (File a len)) has refl busy step names))
-    of-script (Shuts f (Length len)) true for_script busy has step names = (OfScript text o, refl, known-on (Shuts f (Length len)) (plain-on (Shuts f (Length len)) has refl busy step names))
-    of-script (Shuts f (Fails status)) true for_script busy has step names = (OfScript text o, refl, known-on (Shuts f (Fails status)) (plain-on (Shuts f (Fails status)) has refl busy step names))
-    of-script (Shuts f (TextOf a false)) true for_script busy has step names = (OfScript text o, refl, known-on (Shuts f (TextOf a false)) (plain-on (Shuts f (TextOf a false)) has refl busy step names))
-    of-script (Picks a first last len) true for_script busy has step names = (OfScript text o, refl, known-on (Picks a first last len) (plain-on (Picks a first last len) has refl busy step names))
-    of-script (Spares a (Body b size len)) true for_script busy has step names = (OfScript text o, refl, known-on (Spares a (Body b size len)) (plain-on (Spares a (Body b size len)) has refl busy step names))
-    of-script (Spares a (Bare len)) true for_script busy has step names = (OfScript text o, refl, known-on (Spares a (Bare len)) (plain-on (Spares a (Bare len)) has refl busy step names))
-    of-script (Spares a (Error status)) true for_script busy has step names = (OfScript text o, refl, known-on (Spares a (Error status)) (plain-on (Spares a (Error status)) has refl busy step names))
-    of-script (Heads k) true for_script busy has step names = (OfScript text o, refl, known-on (Heads k) (plain-on (Heads k) has refl busy step names))
-    of-script (Joins a size body len) true for_script busy has step names = (OfScript text o, refl, known-on (Joins a size body len) (plain-on (Joins a size body len) has refl busy step names))
-    of-script (Sends a len taken more) true for_script busy has step names = (OfScript text o, refl, known-on (Sends a len taken more) (plain-on (Sends a len taken more) has refl busy step names))
-    of-script (Cuts a from len taken more) true for_script busy has step names = (OfScript text o, refl, known-on (Cuts a from len taken more) (plain-on (Cuts a from len taken more) has refl busy step names))
-    of-script (Offers a from len piece taken more) true for_script busy has step names = (OfScript text o, refl, known-on (Offers a from len piece taken more) (plain-on (Offers a from len piece taken more) has refl busy step names))
-    of-script (Swaps a from len piece taken more) true for_script busy has step names = (OfScript text o, refl, known-on (Swaps a from len piece taken more) (plain-on (Swaps a from len piece taken more) has refl busy step names))
-    of-script (Sent a taken more) true for_script busy has step names = (OfScript text o, refl, known-on (Sent a taken more) (plain-on (Sent a taken more) has refl busy step names))
-    of-script (Breaks piece a more) true for_script busy has step names = (OfScript text o, refl, known-on (Breaks piece a more) (plain-on (Breaks piece a more) has refl busy step names))
-    of-script (Drops a more) true for_script busy has step names = (OfScript text o, refl, known-on (Drops a more) (plain-on (Drops a more) has refl busy step names))
-    of-script Closes true for_script busy has step names = (OfScript text o, refl, known-on Closes (plain-on Closes has refl busy step names))
-    of-script Over true for_script busy has step names = (OfScript text o, refl, known-on Over (plain-on Over has refl busy step names))
 
 -- ---- a reply to a run
 

@@ -33,7 +33,7 @@ use Rattle.flash_laws.specs.Fits.{Has, is_closing, Names}
 use Rattle.flash_laws.specs.Known.{is_read, is_opening}
 use Rattle.flash_laws.specs.Offers.{taken_of}
 use Rattle.flash_laws.specs.Site.{server}
-use Rattle.flash_laws.proofs.Having as having
+use Rattle.flash_laws.proofs.Conn.Having as having
 
 abbrev pub at : List ℕ → Answer → Doing → Conn
 at kept q d = record { kept = kept; q = q; doing = d }

@@ -34,7 +34,7 @@ use Rattle.flash_laws.proofs.Client.Nearing.{is_scripts, wants-plain, told-plain
 use Rattle.flash_laws.proofs.Client.Phases.{at}
 use Rattle.flash_laws.proofs.Run.Ends.{wants-text}
 use Rattle.flash_laws.proofs.Run.Takes as run_takes
-use Rattle.flash_laws.proofs.Taking as file
+use Rattle.flash_laws.proofs.Conn.Taking as file
 
 abbrev client : Conn → Option Running → List ℕ → Client
 client c run script = record { conn = c; run = run; script = script }

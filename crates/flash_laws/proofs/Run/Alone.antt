@@ -34,7 +34,7 @@ use Rattle.flash_laws.proofs.Lists.{clash, later_of}
 use Rattle.flash_laws.proofs.Run.Keeping.{first}
 use Rattle.flash_laws.proofs.Run.Left.{is-rest, part-sends, still-left}
 use Rattle.flash_laws.proofs.Run.Parts.{no-position}
-use Rattle.flash_laws.proofs.Uses.{same-number}
+use Rattle.flash_laws.proofs.Conn.Uses.{same-number}
 
 alone : (b : Bool) → (b || false) ≡ true → b ≡ true
 alone true is = refl

@@ -32,7 +32,7 @@ use Rattle.flash_laws.specs.declared.running.Step.{Step}
 use Rattle.flash_laws.specs.declared.running.Step.TheVariants.{Gives, Makes, Hands, Lets, Heads, Sending, Hears, Spills, Gathers, Frames, Wraps, Trims, Ended, Unholds, Stops, Unframes, Lasts, WrapsLast, TrimsLast, Unwraps, Returns, Lapses, Fails}
 use Rattle.flash_laws.specs.declared.running.Running.{Running}
 use Rattle.flash_laws.specs.declared.running.Running.TheVariants.{Awaits, Runs, Leaves, Closes}
-use Rattle.flash_laws.proofs.Keeping.{headed-first}
+use Rattle.flash_laws.proofs.Conn.Keeping.{headed-first}
 use Rattle.flash_laws.proofs.Lists.{later_of}
 use Rattle.flash_laws.proofs.Run.Alone.{keeps-alone, opened}
 use Rattle.flash_laws.proofs.Run.Left.{is-rest}

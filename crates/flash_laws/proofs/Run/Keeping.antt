@@ -31,9 +31,9 @@ use Rattle.flash_laws.specs.declared.running.Step.{Step}
 use Rattle.flash_laws.specs.declared.running.Step.TheVariants.{Gives, Makes, Hands, Lets, Heads, Sending, Hears, Spills, Gathers, Frames, Wraps, Trims, Ended, Unholds, Stops, Unframes, Lasts, WrapsLast, TrimsLast, Unwraps, Returns, Lapses, Fails}
 use Rattle.flash_laws.specs.declared.running.Running.{Running}
 use Rattle.flash_laws.specs.declared.running.Running.TheVariants.{Runs, Leaves}
-use Rattle.flash_laws.proofs.Keeping.{leaves-told}
+use Rattle.flash_laws.proofs.Conn.Keeping.{leaves-told}
 use Rattle.flash_laws.proofs.Lists.{clash, later_of}
-use Rattle.flash_laws.proofs.Uses.{same-number}
+use Rattle.flash_laws.proofs.Conn.Uses.{same-number}
 
 pub first : (a b : Bool) → a ≡ true → (a || b) ≡ true
 first true b is = refl

@@ -30,8 +30,8 @@ use Rattle.flash_laws.specs.Site.{server}
 use Rattle.flash_laws.specs.declared.doing.Content.TheVariants.{Error}
 use Rattle.flash_laws.specs.declared.doing.Doing.{Doing}
 use Rattle.flash_laws.specs.declared.doing.Doing.TheVariants as doing
-use Rattle.flash_laws.proofs.Having as having
-use Rattle.flash_laws.proofs.Lent.{lent-stays}
+use Rattle.flash_laws.proofs.Conn.Having as having
+use Rattle.flash_laws.proofs.Conn.Lent.{lent-stays}
 use Rattle.flash_laws.proofs.Lists.{self, turned, few-taken}
 
 -- what a phase that sends all that is due has

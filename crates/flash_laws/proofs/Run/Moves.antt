@@ -23,7 +23,7 @@ use Rattle.flash_laws.specs.declared.running.Step.{Step}
 use Rattle.flash_laws.specs.declared.running.Step.TheVariants.{Gives, Makes, Hands, Lets, Heads, Sending, Hears, Spills, Gathers, Frames, Wraps, Trims, Ended, Unholds, Stops, Unframes, Lasts, WrapsLast, TrimsLast, Unwraps, Returns, Lapses, Fails}
 use Rattle.flash_laws.specs.declared.running.Running.{Running}
 use Rattle.flash_laws.specs.declared.running.Running.TheVariants.{Awaits, Runs, Leaves, Closes}
-use Rattle.flash_laws.proofs.Repeats.{either, drops, closes, makes, cuts, joins, replaces, reads, gives, writes, pipes}
+use Rattle.flash_laws.proofs.Conn.Repeats.{either, drops, closes, makes, cuts, joins, replaces, reads, gives, writes, pipes}
 use Rattle.flash_laws.proofs.Run.Left.{is-rest, still-left}
 
 -- the phase of what is sent

@@ -38,10 +38,10 @@ use Rattle.flash_laws.specs.declared.running.Step.{Step}
 use Rattle.flash_laws.specs.declared.running.Step.TheVariants.{Gives, Makes, Hands, Lets, Heads, Sending, Hears, Spills, Gathers, Frames, Wraps, Trims, Ended, Unholds, Stops, Unframes, Lasts, WrapsLast, TrimsLast, Unwraps, Returns, Lapses, Fails}
 use Rattle.flash_laws.specs.declared.running.Running.{Running}
 use Rattle.flash_laws.specs.declared.running.Running.TheVariants.{Awaits, Runs, Leaves, Closes}
-use Rattle.flash_laws.proofs.Answering.{some-inj}
+use Rattle.flash_laws.proofs.Conn.Answering.{some-inj}
 use Rattle.flash_laws.proofs.Lists.{differ}
-use Rattle.flash_laws.proofs.Nearing.{stage, calls_left, head_calls, lacks-later, drops, closes, makes, joins, near}
-use Rattle.flash_laws.proofs.Nearing as file
+use Rattle.flash_laws.proofs.Conn.Nearing.{stage, calls_left, head_calls, lacks-later, drops, closes, makes, joins, near}
+use Rattle.flash_laws.proofs.Conn.Nearing as file
 use Rattle.flash_laws.proofs.Run.Left.{is-rest, still-left}
 
 -- ---- how far it is: the calls that are left, if no more output comes

@@ -45,6 +45,7 @@ use Rattle.flash_laws.proofs.Run.ReadsOn.{reads_on}
 use Rattle.flash_laws.proofs.Run.Stays.{run_stays, hired-on}
 use Rattle.flash_laws.proofs.Run.Takes.{takes, breaks, fails, in_turn}
 use Rattle.flash_laws.proofs.Run.Steps as acts
+use Rattle.flash_laws.proofs.Run.Stops as stopping
 
 module _ (steps : EachStepLeavesTheRest) (own : CallsServeTheirDomain) (m n : State) (order : IsOrderly m) (job : ℕ → List ℕ) (w : Wanted) where
   abbrev Told : Running → Running → Reply → List ℕ → Progress → Type 0
@@ -139,15 +140,15 @@ module _ (steps : EachStepLeavesTheRest) (own : CallsServeTheirDomain) (m n : St
   replied fd c worker (Runs run (Trims held chunk len frame)) r heard o open_on free going has step names = (o, refl, acts.drops steps own m n order job w run has.0 held (Trims held chunk len frame) (Sending (doing.Sends chunk len 0 None) (Some frame)) r o has has.1.0.1 has.1.1 step (λ z. Runs run (told_trims held chunk len frame z)) refl (λ y. refl))
   replied fd c worker (Runs run (Ended a held frame)) r heard o open_on free going has step names = (o, refl, acts.drops steps own m n order job w run has.0 a (Ended a held frame) (Stops held frame) r o has has.1.0.1 (has.1.1, has.1.2) step (λ z. Runs run (told_ended a held frame z)) refl (λ y. refl))
   replied fd c worker (Runs run (Unholds held frame)) r heard o open_on free going has step names = (o, refl, acts.drops steps own m n order job w run has.0 held (Unholds held frame) (Stops None frame) r o has has.1.0.1 (has.1.1, has.1.2) step (λ z. Runs run (told_unholds held frame z)) refl (λ y. refl))
-  replied fd c worker (Runs run (Stops held frame)) r heard o open_on free going has step names = (o, refl, acts.stops steps own m n order job w run has.0 held frame r o has.1 step)
-  replied fd c worker (Runs run (Unframes f held)) r heard o open_on free going has step names = (o, refl, acts.unframes steps own m n order job w run has.0 f held r o has.1 step)
-  replied fd c worker (Runs run (Lasts held)) r heard o open_on free going has step names = (o, refl, acts.lasts steps own m n order job w run has.0 held r heard o has.1 step names)
-  replied fd c worker (Runs run (WrapsLast held size frame)) r heard o open_on free going has step names = (o, refl, acts.wraps_last steps own m n order job w run has.0 held size frame r heard o has.1 step names)
+  replied fd c worker (Runs run (Stops held frame)) r heard o open_on free going has step names = (o, refl, stopping.stops steps own m n order job w run has.0 held frame r o has.1 step)
+  replied fd c worker (Runs run (Unframes f held)) r heard o open_on free going has step names = (o, refl, stopping.unframes steps own m n order job w run has.0 f held r o has.1 step)
+  replied fd c worker (Runs run (Lasts held)) r heard o open_on free going has step names = (o, refl, stopping.lasts steps own m n order job w run has.0 held r heard o has.1 step names)
+  replied fd c worker (Runs run (WrapsLast held size frame)) r heard o open_on free going has step names = (o, refl, stopping.wraps_last steps own m n order job w run has.0 held size frame r heard o has.1 step names)
   replied fd c worker (Runs run (TrimsLast held chunk len frame)) r heard o open_on free going has step names = (o, refl, acts.drops steps own m n order job w run has.0 held (TrimsLast held chunk len frame) (Unwraps frame chunk len) r o has has.1.0.1 (has.1.1, has.1.2) step (λ z. Runs run (told_trims_last held chunk len frame z)) refl (λ y. refl))
-  replied fd c worker (Runs run (Unwraps frame chunk len)) r heard o open_on free going has step names = (o, refl, acts.unwraps steps own m n order job w run has.0 frame chunk len r o has.1 step)
-  replied fd c worker (Runs run (Returns write)) r heard o open_on free going has step names = (o, refl, acts.returns steps own m n order job w run has.0 write r o has.1 step)
+  replied fd c worker (Runs run (Unwraps frame chunk len)) r heard o open_on free going has step names = (o, refl, stopping.unwraps steps own m n order job w run has.0 frame chunk len r o has.1 step)
+  replied fd c worker (Runs run (Returns write)) r heard o open_on free going has step names = (o, refl, stopping.returns steps own m n order job w run has.0 write r o has.1 step)
   replied fd c worker (Runs run (Lapses j)) r heard o open_on free going has step names = (o, refl, acts.drops steps own m n order job w run has.0 j (Lapses j) Fails r o has refl (has.1.0, has.1.2) step (λ z. Runs run (told_lapses j z)) refl (λ y. refl))
-  replied fd c worker (Runs run Fails) r heard o open_on free going has step names = acts.fails steps own m n order job w run has.0 r heard o has.1 step
+  replied fd c worker (Runs run Fails) r heard o open_on free going has step names = stopping.fails steps own m n order job w run has.0 r heard o has.1 step
 
 -- ---- what is offered
 

@@ -31,7 +31,7 @@ use Rattle.flash_laws.specs.declared.doing.Doing.{Doing}
 use Rattle.flash_laws.specs.declared.doing.Doing.TheVariants as doing
 use Rattle.flash_laws.specs.declared.running.TheConstants.{CHUNK_BYTES}
 use Rattle.flash_laws.specs.declared.running.Run.{Run}
-use Rattle.flash_laws.proofs.Lent.{lent-stays, new-other}
+use Rattle.flash_laws.proofs.Conn.Lent.{lent-stays, new-other}
 use Rattle.flash_laws.proofs.Lists.{not-equal, turned}
 use Rattle.flash_laws.proofs.Run.Left as left
 use Rattle.flash_laws.proofs.Run.Left.{SendsAll}

@@ -1,5 +1,5 @@
 -- What a run has stays, if what it uses stays.
-use Rattle.std.proofs.Common.{◌≡◌, ℕ, ◌==◌, List, refl, ap, ◌∙◌, Option, Some, None, true, false, Bool}
+use Rattle.std.proofs.Common.{◌≡◌, ℕ, ◌==◌, List, refl, sym, ap, ◌∙◌, Option, Some, None, true, false, Bool}
 use Rattle.std.specs.Prelude.{◌||◌, ◌&&◌}
 use Rattle.iol_core.specs.State.{State, descriptor}
 use Rattle.iol_core.specs.Run.{StepsTo}
@@ -27,8 +27,20 @@ use Rattle.flash_laws.specs.declared.running.Step.{Step}
 use Rattle.flash_laws.specs.declared.running.Step.TheVariants.{Gives, Makes, Hands, Lets, Heads, Sending, Hears, Spills, Gathers, Frames, Wraps, Trims, Ended, Unholds, Stops, Unframes, Lasts, WrapsLast, TrimsLast, Unwraps, Returns, Lapses, Fails}
 use Rattle.flash_laws.specs.declared.running.Running.{Running}
 use Rattle.flash_laws.specs.declared.running.Running.TheVariants.{Awaits, Runs, Leaves, Closes}
-use Rattle.flash_laws.proofs.Lent.{lent-stays, lent-on, has-stays}
-use Rattle.flash_laws.proofs.Lists.{self, first_of, later_of}
+use Rattle.flash_laws.proofs.Conn.Answering.{some-inj}
+use Rattle.flash_laws.proofs.Conn.Lent.{lent-stays, lent-on, has-stays}
+use Rattle.flash_laws.proofs.Lists.{not-equal, turned, self, first_of, later_of}
+
+-- two descriptors that are open on different things
+fds-differ : (m : State) (g h : ℕ) (x y : Descriptor) → descriptor m server g ≡ Some x → descriptor m server h ≡ Some y → (x ≡ y → ⊥) → (g == h) ≡ false
+fds-differ m g h x y is_x is_y differ = not-equal g h (λ same. differ (some-inj x y (sym is_x ∙ (ap (λ k. descriptor m server k) same ∙ is_y))))
+
+pub ends-differ : (m : State) (g h p q : ℕ) → descriptor m server g ≡ Some (on.ReadEnd p) → descriptor m server h ≡ Some (on.WriteEnd q) → (g == h) ≡ false
+ends-differ m g h p q reads writes = fds-differ m g h (on.ReadEnd p) (on.WriteEnd q) reads writes (λ e. absurd (cc (e)))
+
+-- where the write end is, the read end is not
+pub write-elsewhere : (m : State) (run : Run) (write : ℕ) → HasPipe m run write → (write == run.from) ≡ false
+write-elsewhere m run write h = turned run.from write (ends-differ m run.from write h.pipe h.pipe h.read_end h.write_end)
 
 -- no phase that sends a part uses a descriptor of a file
 no-file : (m : State) (d : Doing) (part : List ℕ) → IsPart m (sent_agg d) part → (g : ℕ) → conn.uses_fd d g ≡ true → ⊥

@@ -36,7 +36,7 @@ use Rattle.flash_laws.specs.declared.running.Step.{Step}
 use Rattle.flash_laws.specs.declared.running.Step.TheVariants.{Gives, Hands, Sending, Hears, Returns, Lapses, Fails}
 use Rattle.flash_laws.specs.declared.running.Running.{Running}
 use Rattle.flash_laws.specs.declared.running.Running.TheVariants.{Awaits, Runs, Leaves, Closes}
-use Rattle.flash_laws.proofs.Answering.{some-inj}
+use Rattle.flash_laws.proofs.Conn.Answering.{some-inj}
 use Rattle.flash_laws.proofs.Lists.{clash, not-equal}
 use Rattle.flash_laws.proofs.Run.Left as left
 use Rattle.flash_laws.proofs.Run.Left.{SendsAll, is_sent, is-rest, whole-taken, still-left}

@@ -34,20 +34,20 @@ use Rattle.flash_laws.specs.Tied.{with_at, Waits}
 use Rattle.flash_laws.specs.declared.doing.Doing.{Doing}
 use Rattle.flash_laws.specs.declared.doing.Doing.TheVariants as doing
 use Rattle.flash_laws.specs.declared.running.Running.{Running}
-use Rattle.flash_laws.proofs.Answering.{some-inj}
-use Rattle.flash_laws.proofs.InPlaces.{at-same, at-other}
+use Rattle.flash_laws.proofs.Conn.Answering.{some-inj}
+use Rattle.flash_laws.proofs.Site.InPlaces.{at-same, at-other}
 use Rattle.flash_laws.proofs.Lists.{clash}
-use Rattle.flash_laws.proofs.Others.{site-stays}
-use Rattle.flash_laws.proofs.Peers.{told-call}
-use Rattle.flash_laws.proofs.Sharing.{free-runs, ready-runs}
-use Rattle.flash_laws.proofs.Standing.{not-waiting}
-use Rattle.flash_laws.proofs.Uses.{begins-none, begins-no_fd}
+use Rattle.flash_laws.proofs.Site.Others.{site-stays}
+use Rattle.flash_laws.proofs.Site.Peers.{told-call}
+use Rattle.flash_laws.proofs.Site.Sharing.{free-runs, ready-runs}
+use Rattle.flash_laws.proofs.Site.Standing.{not-waiting}
+use Rattle.flash_laws.proofs.Conn.Uses.{begins-none, begins-no_fd}
 use Rattle.flash_laws.proofs.World.AllLaws.{AllLaws}
 use Rattle.flash_laws.proofs.World.Calls.{opens-on}
 use Rattle.flash_laws.proofs.World.Leaving.{fits_beside}
 use Rattle.flash_laws.proofs.World.OwnAlone.{alone_readies}
 use Rattle.flash_laws.proofs.World.Turn.{replaced, held-on, own-call}
-use Rattle.flash_laws.proofs.World.TurnDesk.{runs-for}
+use Rattle.flash_laws.proofs.World.Desk.Turning.{runs-for}
 use Rattle.flash_laws.proofs.World.TurnLeaves.{conn-left}
 
 abbrev of : Conn → Option Running → List ℕ → Client

@@ -17,7 +17,7 @@ use Rattle.flash_laws.specs.Shelf.{Shelf, due_to, responses, Begins, IsAnswer}
 use Rattle.flash_laws.specs.declared.doing.Doing.{Doing}
 use Rattle.flash_laws.specs.declared.doing.Doing.TheVariants.{Rests, Got}
 use Rattle.flash_laws.specs.declared.running.Running.{Running}
-use Rattle.flash_laws.proofs.Answering.{WindowLaws, order-all, order-more, reads-append}
+use Rattle.flash_laws.proofs.Conn.Answering.{WindowLaws, order-all, order-more, reads-append}
 
 pub responses-more : (shelf : Shelf) (qs : List Answer) (q : Answer) → responses shelf (qs ++ q ∷ []) ≡ responses shelf qs ++ due_to shelf q
 responses-more shelf qs q = flat_map-append (λ p. due_to shelf p) qs (q ∷ []) ∙ ap (λ (l : List ℕ). responses shelf qs ++ l) (append-nil (due_to shelf q))

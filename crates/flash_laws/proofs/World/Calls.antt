@@ -29,8 +29,8 @@ use Rattle.flash_laws.specs.declared.doing.Doing.TheVariants as doing
 use Rattle.flash_laws.specs.declared.running.Running.{Running}
 use Rattle.iol_proc.specs.declared.seat.Seat.{Seat}
 use Rattle.flash_laws.proofs.Lists.{clash}
-use Rattle.flash_laws.proofs.Touching.{fds-wants, conns-wants, pipes-wants, files-wants}
-use Rattle.flash_laws.proofs.Uses.{gives-wants, has-agg, has-fd}
+use Rattle.flash_laws.proofs.Conn.Touching.{fds-wants, conns-wants, pipes-wants, files-wants}
+use Rattle.flash_laws.proofs.Conn.Uses.{gives-wants, has-agg, has-fd}
 use Rattle.flash_laws.proofs.World.AllLaws.{AllLaws}
 use Rattle.flash_laws.proofs.World.OwnRun.{wants-run}
 use Rattle.flash_laws.proofs.World.RunUses.{IsEnd, run-there, run-end}

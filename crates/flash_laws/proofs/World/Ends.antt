@@ -28,9 +28,9 @@ use Rattle.flash_laws.specs.declared.running.Step.{Step}
 use Rattle.flash_laws.specs.declared.running.Step.TheVariants.{Gives, Makes, Hands, Lets, Heads, Sending, Hears, Spills, Gathers, Frames, Wraps, Trims, Ended, Unholds, Stops, Unframes, Lasts, WrapsLast, TrimsLast, Unwraps, Returns, Lapses, Fails}
 use Rattle.flash_laws.specs.declared.running.Running.{Running}
 use Rattle.flash_laws.specs.declared.running.Running.TheVariants.{Awaits, Runs, Leaves, Closes}
-use Rattle.flash_laws.proofs.Answering.{some-inj}
+use Rattle.flash_laws.proofs.Conn.Answering.{some-inj}
 use Rattle.flash_laws.proofs.Lists.{self}
-use Rattle.flash_laws.proofs.Uses.{same-number, has-fd, one-of}
+use Rattle.flash_laws.proofs.Conn.Uses.{same-number, has-fd, one-of}
 use Rattle.flash_laws.proofs.World.OwnRun.{wants-run}
 
 abbrev of : Conn → Option Running → List ℕ → Client

@@ -21,11 +21,11 @@ use Rattle.flash_laws.specs.Running.{worker_domain}
 use Rattle.flash_laws.specs.Shelf.{Shelf}
 use Rattle.flash_laws.specs.Site.{server, KeepsSite}
 use Rattle.flash_laws.specs.Site as site
-use Rattle.flash_laws.proofs.Lent.{file-same, content-same}
+use Rattle.flash_laws.proofs.Conn.Lent.{file-same, content-same}
 use Rattle.flash_laws.proofs.Lists.{not-equal}
-use Rattle.flash_laws.proofs.Others.{fixed-stays, none-listed, called-same}
+use Rattle.flash_laws.proofs.Site.Others.{fixed-stays, none-listed, called-same}
 use Rattle.flash_laws.proofs.World.AllLaws.{AllLaws}
-use Rattle.flash_laws.proofs.World.LeavesDesk.{files-left}
+use Rattle.flash_laws.proofs.World.Desk.Leaving.{files-left}
 
 -- What a step may be, as far as the rest is concerned: nothing, or an event that leaves the site and the server's domain.
 pub record Mild (m n : State) : Type 0 where

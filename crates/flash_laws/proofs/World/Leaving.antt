@@ -30,10 +30,10 @@ use Rattle.flash_laws.specs.declared.doing.Doing.{Doing}
 use Rattle.flash_laws.specs.declared.doing.Doing.TheVariants.{Rests, Got, Opens, Reads as Reading, Shuts, Picks, Spares, Heads, Joins, Sends, Cuts, Offers, Swaps, Sent, Breaks, Drops, Closes, Over}
 use Rattle.flash_laws.specs.declared.running.Running.{Running}
 use Rattle.flash_laws.specs.declared.running.Running.TheVariants.{Awaits, Runs, Leaves as Left, Closes as Ends}
-use Rattle.flash_laws.proofs.Lent.{lent-stays, has-stays, file-same, content-same}
+use Rattle.flash_laws.proofs.Conn.Lent.{lent-stays, has-stays, file-same, content-same}
 use Rattle.flash_laws.proofs.Lists.{self, later_of}
 use Rattle.flash_laws.proofs.World.AllLaws.{AllLaws}
-use Rattle.flash_laws.proofs.World.LeavesDesk.{LeavesOne, stage-on}
+use Rattle.flash_laws.proofs.World.Desk.Leaving.{LeavesOne, stage-on}
 use Rattle.flash_laws.proofs.World.TieGoes.{tie-stays, tie-leaves, run-stays, run-leaves}
 
 -- A connection and what was sent on it go on: what was sent and is to be sent stays, and the peer is as gone as before, and where it

@@ -26,7 +26,7 @@ use Rattle.flash_laws.specs.declared.doing.Doing.{Doing}
 use Rattle.flash_laws.specs.declared.doing.Doing.TheVariants as doing
 use Rattle.flash_laws.specs.declared.running.Running.{Running}
 use Rattle.flash_laws.proofs.Client.Keeping.{script-uses, on-uses, conn-brought, conn-left}
-use Rattle.flash_laws.proofs.Sharing.{left-over-is}
+use Rattle.flash_laws.proofs.Site.Sharing.{left-over-is}
 use Rattle.flash_laws.proofs.World.AllLaws.{AllLaws}
 use Rattle.flash_laws.proofs.World.OwnRun.{wants-run, told-run}
 use Rattle.flash_laws.proofs.World.OwnTurn.{IsOwnTurn}

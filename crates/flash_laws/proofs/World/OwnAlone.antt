@@ -28,10 +28,10 @@ use Rattle.flash_laws.specs.Site.{server}
 use Rattle.flash_laws.specs.declared.doing.Doing.{Doing}
 use Rattle.flash_laws.specs.declared.doing.Doing.TheVariants as doing
 use Rattle.flash_laws.specs.declared.running.Running.{Running}
-use Rattle.flash_laws.proofs.Answering.{reads-more}
+use Rattle.flash_laws.proofs.Conn.Answering.{reads-more}
 use Rattle.flash_laws.proofs.World.AllLaws.{AllLaws}
-use Rattle.flash_laws.proofs.World.AlonePhases.{alone_phase}
-use Rattle.flash_laws.proofs.World.AloneTies.{alone, part_of}
+use Rattle.flash_laws.proofs.World.Alone.Phases.{alone_phase}
+use Rattle.flash_laws.proofs.World.Alone.Ties.{alone, part_of}
 use Rattle.flash_laws.proofs.World.Answering.{begins-append, begins-tie, finished-whole}
 
 abbrev with_run : Client → Option Running → Client

@@ -30,11 +30,11 @@ use Rattle.flash_laws.specs.declared.doing.Doing.{Doing}
 use Rattle.flash_laws.specs.declared.doing.Doing.TheVariants as doing
 use Rattle.flash_laws.specs.declared.running.Running.{Running}
 use Rattle.flash_laws.specs.declared.running.Running.TheVariants.{Awaits, Runs, Leaves, Closes}
-use Rattle.flash_laws.proofs.Answering.{some-inj}
+use Rattle.flash_laws.proofs.Conn.Answering.{some-inj}
 use Rattle.flash_laws.proofs.Run.Ends.{keeps-back, wants-text}
-use Rattle.flash_laws.proofs.Standing.{no-true}
+use Rattle.flash_laws.proofs.Site.Standing.{no-true}
 use Rattle.flash_laws.proofs.World.AllLaws.{AllLaws}
-use Rattle.flash_laws.proofs.World.RunDesk.{DeskAfter, desk_step}
+use Rattle.flash_laws.proofs.World.Desk.OfRun.{DeskAfter, desk_step}
 use Rattle.flash_laws.proofs.World.RunTie.{TieAfter, tie_step}
 use Rattle.flash_laws.proofs.World.RunUses.{run-end}
 

@@ -42,24 +42,24 @@ use Rattle.flash_laws.specs.declared.running.Step.{Step}
 use Rattle.flash_laws.specs.declared.running.Step.TheVariants.{Hands, Returns}
 use Rattle.flash_laws.specs.declared.running.Running.{Running}
 use Rattle.flash_laws.specs.declared.running.Running.TheVariants.{Awaits, Runs, Leaves as Left, Closes as Ends}
-use Rattle.flash_laws.proofs.Answering.{some-inj}
-use Rattle.flash_laws.proofs.InPlaces.{at-same, at-other}
+use Rattle.flash_laws.proofs.Conn.Answering.{some-inj}
+use Rattle.flash_laws.proofs.Site.InPlaces.{at-same, at-other}
 use Rattle.flash_laws.proofs.Lists.{clash, self}
-use Rattle.flash_laws.proofs.Others.{site-stays}
-use Rattle.flash_laws.proofs.Peers.{IsTold, told-call}
-use Rattle.flash_laws.proofs.Sharing.{free-runs, first-free, left-over-is, workers_shared}
-use Rattle.flash_laws.proofs.Standing.{no-true, held-open, not-waiting, not-closed, conn-same}
+use Rattle.flash_laws.proofs.Site.Others.{site-stays}
+use Rattle.flash_laws.proofs.Site.Peers.{IsTold, told-call}
+use Rattle.flash_laws.proofs.Site.Sharing.{free-runs, first-free, left-over-is, workers_shared}
+use Rattle.flash_laws.proofs.Site.Standing.{no-true, held-open, not-waiting, not-closed, conn-same}
 use Rattle.flash_laws.proofs.World.AllLaws.{AllLaws}
 use Rattle.flash_laws.proofs.World.Calls.{CallsAlone, MayTouchPipe, kind-admits, opens-on, calls-alone, there-agg, there-fd}
 use Rattle.flash_laws.proofs.World.Ends.{no-returns, no-desk, uses-or-desk, has-from, touches-from}
 use Rattle.flash_laws.proofs.World.Leaving.{fits_beside}
-use Rattle.flash_laws.proofs.World.LeavesDesk.{LeavesOne}
+use Rattle.flash_laws.proofs.World.Desk.Leaving.{LeavesOne}
 use Rattle.flash_laws.proofs.World.OwnAlone.{alone_step, alone_closes}
 use Rattle.flash_laws.proofs.World.OwnRun.{run_step}
 use Rattle.flash_laws.proofs.World.RunUses.{is_fds}
 use Rattle.flash_laws.proofs.World.Told.{client-uses, client-fds, agg-new, fd-new}
 use Rattle.flash_laws.proofs.World.Turn.{replaced, held-on, own-call, no-reader-there, own-desk}
-use Rattle.flash_laws.proofs.World.TurnDesk.{runs-for}
+use Rattle.flash_laws.proofs.World.Desk.Turning.{runs-for}
 use Rattle.flash_laws.proofs.World.TurnLeaves.{conn-left}
 
 abbrev of : Conn → Option Running → List ℕ → Client

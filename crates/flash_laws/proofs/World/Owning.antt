@@ -31,10 +31,10 @@ use Rattle.flash_laws.specs.Tied.{with_at}
 use Rattle.flash_laws.specs.declared.doing.Doing.{Doing}
 use Rattle.flash_laws.specs.declared.doing.Doing.TheVariants as doing
 use Rattle.flash_laws.specs.declared.running.Running.{Running}
-use Rattle.flash_laws.proofs.Answering.{some-inj}
-use Rattle.flash_laws.proofs.InPlaces.{at-same, at-other}
+use Rattle.flash_laws.proofs.Conn.Answering.{some-inj}
+use Rattle.flash_laws.proofs.Site.InPlaces.{at-same, at-other}
 use Rattle.flash_laws.proofs.Lists.{not-equal, later_of}
-use Rattle.flash_laws.proofs.Pasts.{or-left, call_told}
+use Rattle.flash_laws.proofs.Site.Pasts.{or-left, call_told}
 use Rattle.flash_laws.proofs.World.AllLaws.{AllLaws}
 use Rattle.flash_laws.proofs.World.Calls.{opens-on}
 

@@ -31,7 +31,7 @@ use Rattle.flash_laws.specs.declared.doing.Doing.{Doing}
 use Rattle.flash_laws.specs.declared.doing.Doing.TheVariants as doing
 use Rattle.flash_laws.specs.declared.running.Running.{Running}
 use Rattle.flash_laws.specs.declared.running.Running.TheVariants.{Awaits, Runs, Leaves, Closes}
-use Rattle.flash_laws.proofs.Answering.{all-more, order-more, last-more}
+use Rattle.flash_laws.proofs.Conn.Answering.{all-more, order-more, last-more}
 use Rattle.flash_laws.proofs.Lists.{bytes-append, clash, next-front, self, take-plus}
 use Rattle.flash_laws.proofs.World.AllLaws.{AllLaws}
 use Rattle.flash_laws.proofs.World.Answering.{responses-more, begins-part}

@@ -25,7 +25,7 @@ use Rattle.flash_laws.specs.declared.running.Running.{Running}
 use Rattle.flash_laws.specs.declared.running.Running.TheVariants.{Awaits, Runs, Leaves, Closes}
 use Rattle.flash_laws.proofs.Lists.{later_of}
 use Rattle.flash_laws.proofs.Run.Keeping.{first}
-use Rattle.flash_laws.proofs.Uses.{same-number, uses-told, has-agg, one-of}
+use Rattle.flash_laws.proofs.Conn.Uses.{same-number, uses-told, has-agg, one-of}
 
 bare : (a : Bool) → (a || false) ≡ true → a ≡ true
 bare true u = refl

@@ -30,11 +30,11 @@ use Rattle.flash_laws.specs.World.{IsServing}
 use Rattle.flash_laws.specs.declared.doing.Flight.{Flight}
 use Rattle.flash_laws.specs.declared.doing.Flight.TheVariants.{Nothing, Accepting, At}
 use Rattle.flash_laws.specs.declared.running.Running.{Running}
-use Rattle.flash_laws.proofs.InPlaces.{at-same}
+use Rattle.flash_laws.proofs.Site.InPlaces.{at-same}
 use Rattle.flash_laws.proofs.Lists.{self}
-use Rattle.flash_laws.proofs.Others.{site-stays}
-use Rattle.flash_laws.proofs.Sharing.{own-picked, workers_shared}
-use Rattle.flash_laws.proofs.Standing.{ready-awaits}
+use Rattle.flash_laws.proofs.Site.Others.{site-stays}
+use Rattle.flash_laws.proofs.Site.Sharing.{own-picked, workers_shared}
+use Rattle.flash_laws.proofs.Site.Standing.{ready-awaits}
 use Rattle.flash_laws.proofs.World.Accept.{ready_turn, accept_turn}
 use Rattle.flash_laws.proofs.World.AllLaws.{AllLaws}
 use Rattle.flash_laws.proofs.World.Calls.{is_client_call, kind-ends, kind-default, calls-alone}

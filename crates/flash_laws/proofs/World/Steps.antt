@@ -34,14 +34,14 @@ use Rattle.flash_laws.specs.Shelf.{Shelf}
 use Rattle.flash_laws.specs.Site.{server, KeepsSite}
 use Rattle.flash_laws.specs.Tie.{past_of, Actor, Serving, Working, actor_goes, actor_turns}
 use Rattle.flash_laws.specs.World.{as_actor, AreSeated, Tied}
-use Rattle.flash_laws.proofs.Answering.{some-inj}
-use Rattle.flash_laws.proofs.Lent.{lent-stays}
+use Rattle.flash_laws.proofs.Conn.Answering.{some-inj}
+use Rattle.flash_laws.proofs.Conn.Lent.{lent-stays}
 use Rattle.flash_laws.proofs.Lists.{clash}
-use Rattle.flash_laws.proofs.Others.{other-gives, other-ends, site-stays}
-use Rattle.flash_laws.proofs.Pasts.{past-called, past-outside, past-turn, even-more}
+use Rattle.flash_laws.proofs.Site.Others.{other-gives, other-ends, site-stays}
+use Rattle.flash_laws.proofs.Site.Pasts.{past-called, past-outside, past-turn, even-more}
 use Rattle.flash_laws.proofs.World.AllLaws.{AllLaws}
 use Rattle.flash_laws.proofs.World.Fixed.{Goes, other-default, fixed-on, order-on}
-use Rattle.flash_laws.proofs.World.Outside.{others_call, acts}
+use Rattle.flash_laws.proofs.World.Outside.Whole.{others_call, acts}
 use Rattle.flash_laws.proofs.World.Owning.{fit-called, call-brings, act-brings, owned-outside, owned-same}
 use Rattle.flash_laws.proofs.World.Serving.{server_turn}
 use Rattle.flash_laws.proofs.World.TurnLeaves.{IsCallOf, what-came, keeps-site}

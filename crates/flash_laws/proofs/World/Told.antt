@@ -30,7 +30,7 @@ use Rattle.flash_laws.specs.declared.running.Running.{Running}
 use Rattle.flash_laws.specs.declared.running.Running.TheVariants.{Awaits, Runs, Leaves, Closes as Ends}
 use Rattle.flash_laws.proofs.Run.Left.{still-left}
 use Rattle.flash_laws.proofs.TheLaws.{TheLaws}
-use Rattle.flash_laws.proofs.Uses.{same-number, no-more, uses-told, uses_fd-told, one-of}
+use Rattle.flash_laws.proofs.Conn.Uses.{same-number, no-more, uses-told, uses_fd-told, one-of}
 use Rattle.flash_laws.proofs.World.Calls.{is_client_call}
 use Rattle.flash_laws.proofs.World.RunUses.{is_fds, run-uses, run-ends, step-has}
 

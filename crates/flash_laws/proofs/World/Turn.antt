@@ -32,13 +32,13 @@ use Rattle.flash_laws.specs.declared.running.Step.{Step}
 use Rattle.flash_laws.specs.declared.running.Step.TheVariants.{Gives, Makes, Hands, Ended as AtEnd, Unholds, Stops, Unframes, Lasts, WrapsLast, TrimsLast, Unwraps, Returns, Lapses, Fails}
 use Rattle.flash_laws.specs.declared.running.Running.{Running}
 use Rattle.flash_laws.specs.declared.running.Running.TheVariants.{Awaits, Runs, Leaves as Left, Closes as Ends}
-use Rattle.flash_laws.proofs.Answering.{some-inj}
-use Rattle.flash_laws.proofs.InPlaces.{at-same, at-other}
-use Rattle.flash_laws.proofs.Peers.{IsTold}
-use Rattle.flash_laws.proofs.Uses.{same-number}
+use Rattle.flash_laws.proofs.Conn.Answering.{some-inj}
+use Rattle.flash_laws.proofs.Site.InPlaces.{at-same, at-other}
+use Rattle.flash_laws.proofs.Site.Peers.{IsTold}
+use Rattle.flash_laws.proofs.Conn.Uses.{same-number}
 use Rattle.flash_laws.proofs.World.AllLaws.{AllLaws}
 use Rattle.flash_laws.proofs.World.Calls.{MayTouchPipe}
-use Rattle.flash_laws.proofs.World.TurnDesk.{runs-for}
+use Rattle.flash_laws.proofs.World.Desk.Turning.{runs-for}
 
 abbrev of : Conn → Option Running → List ℕ → Client
 of c run script = record { conn = c; run = run; script = script }

@@ -38,9 +38,9 @@ use Rattle.flash_laws.specs.declared.running.Running.{Running}
 use Rattle.flash_laws.specs.declared.running.Running.TheVariants.{Awaits, Runs, Leaves, Closes}
 use Rattle.flash_laws.proofs.Lists.{clash, not-equal, differ}
 use Rattle.flash_laws.proofs.World.AllLaws.{AllLaws}
-use Rattle.flash_laws.proofs.World.LeavesDesk.{LeavesOne, none-given, none-touched}
+use Rattle.flash_laws.proofs.World.Desk.Leaving.{LeavesOne, none-given, none-touched}
 use Rattle.flash_laws.proofs.World.Leaving.{Changes, fits_beside}
-use Rattle.flash_laws.proofs.Others.{none-listed}
+use Rattle.flash_laws.proofs.Site.Others.{none-listed}
 
 -- ---- seats
 

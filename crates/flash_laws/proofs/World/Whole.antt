@@ -22,11 +22,11 @@ use Rattle.flash_laws.specs.Site.{server}
 use Rattle.flash_laws.specs.Tie.{made_over, gone_over, given_over, past_of, Actor}
 use Rattle.flash_laws.specs.World.{server_with, Tied, IsNew, AllAnswered, ClosedAreWhole}
 use Rattle.flash_laws.specs.declared.running.Running.{Running}
-use Rattle.flash_laws.proofs.Answering.{WindowLaws}
+use Rattle.flash_laws.proofs.Conn.Answering.{WindowLaws}
 use Rattle.flash_laws.proofs.Lists.{clash}
-use Rattle.flash_laws.proofs.Peers.{told-none}
-use Rattle.flash_laws.proofs.Sharing.{workers_shared}
-use Rattle.flash_laws.proofs.Standing.{not-closed, conn-same}
+use Rattle.flash_laws.proofs.Site.Peers.{told-none}
+use Rattle.flash_laws.proofs.Site.Sharing.{workers_shared}
+use Rattle.flash_laws.proofs.Site.Standing.{not-closed, conn-same}
 use Rattle.flash_laws.proofs.World.Answering.{begins-none, begins-append, begins-tie, begins-run}
 
 -- A new world is tied.

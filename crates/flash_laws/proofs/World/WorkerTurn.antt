@@ -21,9 +21,9 @@ use Rattle.flash_laws.specs.Running.{worker_domain, job_pipe}
 use Rattle.flash_laws.specs.Served.{Held, Aside, AreAtDesks, FitsAt, AllFit}
 use Rattle.flash_laws.specs.Shelf.{Shelf}
 use Rattle.flash_laws.specs.Site.{server}
-use Rattle.flash_laws.proofs.Answering.{some-inj}
+use Rattle.flash_laws.proofs.Conn.Answering.{some-inj}
 use Rattle.flash_laws.proofs.World.AllLaws.{AllLaws}
-use Rattle.flash_laws.proofs.World.TurnDesk.{runs-for, rests, client-touches, own-fits}
+use Rattle.flash_laws.proofs.World.Desk.Turning.{runs-for, rests, client-touches, own-fits}
 use Rattle.flash_laws.proofs.World.TurnLeaves.{IsCallOf, what-came, IsTurn, IsItsOwn, Touches, set-same, set-other, sits-in, not-server, other-worker, beside-fits}
 
 -- it changes nothing, or leaves all but its own and one pipe

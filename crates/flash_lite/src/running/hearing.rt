@@ -123,7 +123,7 @@ fn unread(held: Following, frame: Option<AggId>) -> Step
 }
 
 /// After the reply to the reading of output.
-#[tactic(auto, using(crate::proofs::Output::hears_read))]
+#[tactic(auto, using(crate::proofs::Answering::Output::hears_read))]
 pub(crate) fn told_hears(
     request: &Request,
     run: Run,

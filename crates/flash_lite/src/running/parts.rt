@@ -39,7 +39,7 @@ pub(crate) fn broken(run: Run) -> Run
 }
 
 // What a part of the response is after the reply to its call, unless it is sent or nobody takes it.
-#[tactic(auto, using(crate::proofs::Output::left_sends, crate::proofs::Output::left_cuts, crate::proofs::Output::left_offers, crate::proofs::Output::left_swaps, crate::proofs::Output::left_breaks))]
+#[tactic(auto, using(crate::proofs::Answering::Output::left_sends, crate::proofs::Answering::Output::left_cuts, crate::proofs::Answering::Output::left_offers, crate::proofs::Answering::Output::left_swaps, crate::proofs::Answering::Output::left_breaks))]
 fn told_part(doing: Doing, last: &Reply) -> Doing
     requires { IsGoing doing }
     ensures told { result ≡ spec.told_part doing last.now }

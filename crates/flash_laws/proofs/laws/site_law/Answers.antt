@@ -1,4 +1,4 @@
-use Rattle.flash_laws.proofs.Others.{site-stays}
+use Rattle.flash_laws.proofs.Site.Others.{site-stays}
 use Rattle.flash_laws.proofs.laws.site_law.Goals as goal
 
 pub returns : goal.returns

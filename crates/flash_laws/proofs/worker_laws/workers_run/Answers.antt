@@ -1,4 +1,4 @@
-use Rattle.flash_laws.proofs.WorkersRun.{workers_run}
+use Rattle.flash_laws.proofs.Site.WorkersRun.{workers_run}
 use Rattle.flash_laws.proofs.worker_laws.workers_run.Goals as goal
 
 pub returns : goal.returns

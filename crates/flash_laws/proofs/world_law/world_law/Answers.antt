@@ -9,13 +9,13 @@ use Rattle.flash_laws.specs.Serves.{any}
 use Rattle.flash_laws.specs.Tie.{actor_turns}
 use Rattle.flash_laws.specs.World.{DesksAreApart}
 use Rattle.flash_laws.specs.WorldHost.{HostIsRight}
-use Rattle.flash_laws.proofs.Answering.{WindowLaws}
-use Rattle.flash_laws.proofs.Hosting.{rounds-mild}
-use Rattle.flash_laws.proofs.Settling.{actor_settles}
+use Rattle.flash_laws.proofs.Conn.Answering.{WindowLaws}
+use Rattle.flash_laws.proofs.Site.Hosting.{rounds-mild}
+use Rattle.flash_laws.proofs.Site.Settling.{actor_settles}
 use Rattle.flash_laws.proofs.TheLaws.{TheLaws}
 use Rattle.flash_laws.proofs.World.AllLaws.{AllLaws}
-use Rattle.flash_laws.proofs.World.Desk.{texts_are_put_out}
-use Rattle.flash_laws.proofs.World.Idle.{idle_done}
+use Rattle.flash_laws.proofs.World.Desk.Texts.{texts_are_put_out}
+use Rattle.flash_laws.proofs.World.Idle.Whole.{idle_done}
 use Rattle.flash_laws.proofs.World.Steps.{step_keeps, run_keeps}
 use Rattle.flash_laws.proofs.World.Whole.{first_tied, tied_answered, tied_whole}
 use Rattle.flash_laws.proofs.world_law.world_law.Given.{Over}

@@ -1,6 +1,6 @@
 use Rattle.flash_lite.specs.Setup.{workers_used}
 use Rattle.flash_lite.specs.Crew.{is_shown, is_work}
-use Rattle.flash_lite.proofs.SiteWorld.{desks_apart}
+use Rattle.flash_lite.proofs.World.SiteWorld.{desks_apart}
 use Rattle.flash_lite.proofs.laws.connections_do_not_meet.Goals as goal
 
 pub returns-clause-first : goal.returns-clause-first

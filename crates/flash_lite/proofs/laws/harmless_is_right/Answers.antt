@@ -7,7 +7,7 @@ use Rattle.flash_lite.specs.Crew.{crew_of}
 use Rattle.flash_lite.specs.Harmless.{HarmlessIsMild}
 use Rattle.flash_lite.specs.Library.{library_of}
 use Rattle.flash_lite.specs.Workers.{worker_turns}
-use Rattle.flash_lite.proofs.Harmless.{all-mild, right-before, run-even}
+use Rattle.flash_lite.proofs.World.Harmless.{all-mild, right-before, run-even}
 use Rattle.flash_lite.proofs.laws.harmless_is_right.Goals as goal
 
 are-mild : goal.After-smooth_runs → HarmlessIsMild

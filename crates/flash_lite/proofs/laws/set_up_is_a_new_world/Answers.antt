@@ -1,4 +1,4 @@
-use Rattle.flash_lite.proofs.SiteWorld.{set_up_a_new_world}
+use Rattle.flash_lite.proofs.World.SiteWorld.{set_up_a_new_world}
 use Rattle.flash_lite.proofs.laws.set_up_is_a_new_world.Goals as goal
 
 pub returns : goal.returns

@@ -4,8 +4,8 @@ use Rattle.iol_core.specs.declared.events.Event.{Event}
 use Rattle.iol_system.specs.Machine.{machine_of}
 use Rattle.iol_system.specs.Promises.{Chain}
 use Rattle.flash_lite.specs.Setup.{SetsUp, calls, first_refusal, is_in_range}
-use Rattle.flash_lite.proofs.AnyStore.{leaves_by, made_by}
-use Rattle.flash_lite.proofs.NewSite.{sets_up_by, slots_kept}
+use Rattle.flash_lite.proofs.Calls.AnyStore.{leaves_by, made_by}
+use Rattle.flash_lite.proofs.World.NewSite.{sets_up_by, slots_kept}
 use Rattle.flash_lite.proofs.setup.setup.Goals as goal
 
 pub returns-clause-made : goal.returns-clause-made

@@ -3,7 +3,7 @@ use Rattle.flash_laws.specs.Client.{Client}
 use Rattle.flash_lite.specs.Heard.{heard}
 use Rattle.flash_lite.specs.Onward.{IsOnward, GoesOn}
 use Rattle.flash_lite.specs.declared.conn.Onward.{Onward}
-use Rattle.flash_lite.proofs.Clients.{asks_alone}
+use Rattle.flash_lite.proofs.Answering.Clients.{asks_alone}
 use Rattle.flash_lite.proofs.client.Client.go_on_alone.Goals as goal
 
 pub returns-in-Asks-clause-course : goal.returns-in-Asks-clause-course

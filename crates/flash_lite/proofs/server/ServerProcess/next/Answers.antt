@@ -4,9 +4,9 @@ use Rattle.flash_laws.specs.Serves.{Server}
 use Rattle.flash_lite.specs.Heard.{heard}
 use Rattle.flash_lite.specs.Table.{serving}
 use Rattle.flash_lite.specs.Turning.{filed_by}
-use Rattle.flash_lite.proofs.Kept.{kept_turn}
-use Rattle.flash_lite.proofs.Offering.{offers_next}
-use Rattle.flash_lite.proofs.Quiet.{quiet_turn}
+use Rattle.flash_lite.proofs.Turns.Kept.{kept_turn}
+use Rattle.flash_lite.proofs.Answering.Offering.{offers_next}
+use Rattle.flash_lite.proofs.Turns.Quiet.{quiet_turn}
 use Rattle.flash_lite.proofs.server.ServerProcess.next.Goals as goal
 
 pub invariant_of-self-2 : goal.invariant_of-self-2

@@ -5,7 +5,7 @@ use Rattle.flash_laws.specs.Tied.{with_at}
 use Rattle.flash_lite.specs.Table.{Table, IsKept}
 use Rattle.flash_lite.specs.Turning.{Turns, door_to, worker_at}
 use Rattle.flash_lite.specs.declared.server.TheConstants.{MAX_CONNS}
-use Rattle.flash_lite.proofs.Turned.{accepted_turns, table}
+use Rattle.flash_lite.proofs.Turns.Turned.{accepted_turns, table}
 use Rattle.flash_lite.proofs.table.Table.go_on_accepting.Goals as goal
 
 pub returns-in_ok-admit-in-Fd-clause-turn : goal.returns-in_ok-admit-in-Fd-clause-turn

@@ -7,9 +7,9 @@ use Rattle.flash_lite.specs.Heard.{heard}
 use Rattle.flash_lite.specs.Table.{Table, IsKept}
 use Rattle.flash_lite.specs.Turning.{CourseAt, Turns, first_in, worker_at}
 use Rattle.flash_lite.specs.declared.client.Course.TheVariants.{Asks, Leaves}
-use Rattle.flash_lite.proofs.RunsOn.{on_err}
-use Rattle.flash_lite.proofs.Turned.{asks_turns, leaves_turns, table}
-use Rattle.flash_lite.proofs.Wanting.{left_wants}
+use Rattle.flash_lite.proofs.Answering.RunsOn.{on_err}
+use Rattle.flash_lite.proofs.Turns.Turned.{asks_turns, leaves_turns, table}
+use Rattle.flash_lite.proofs.Turns.Wanting.{left_wants}
 use Rattle.flash_lite.proofs.table.Table.go_on_at.Goals as goal
 
 pub returns-in-Some-Asks-clause-turn : goal.returns-in-Some-Asks-clause-turn

@@ -1,0 +1,11 @@
+pub mod Answering
+pub mod Having
+pub mod Lent
+pub mod Uses
+pub mod Touching
+pub mod Repeats
+pub mod Moving
+pub mod Nearing
+pub mod Taking
+pub mod Offering
+pub mod Keeping

@@ -1,0 +1,13 @@
+pub mod InPlaces
+pub mod Clients
+pub mod Standing
+pub mod Peers
+pub mod Others
+pub mod Pasts
+pub mod Due
+pub mod Sharing
+pub mod WorkersRun
+pub mod Blocked
+pub mod Settling
+pub mod Rounding
+pub mod Hosting

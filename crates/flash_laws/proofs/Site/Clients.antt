@@ -1,0 +1,87 @@
+-- For a server without workers no script runs: none does when it is new, and each turn leaves it so.
+use Rattle.std.proofs.Common.{inl, inr, ◌≡◌, ℕ, List, ap, ◌∙◌, refl, sym, subst, Option, Some, None, false}
+use Rattle.std.specs.Prelude.{nat_lt}
+use Rattle.std.proofs.lemmas.Bool.{cases_eq}
+use Rattle.iol_core.specs.Numbered.{in_place}
+use Rattle.iol_core.specs.declared.events.Reply.{Reply}
+use Rattle.iol_core.specs.declared.events.Reply.TheVariants as reply
+use Rattle.iol_proc.specs.declared.process.Turn.{Turn}
+use Rattle.flash_http.specs.Request.{Answer, serve, refuse}
+use Rattle.flash_laws.specs.Client.{Client, new_client, is_for_script, file_told, told, Readies, left_over}
+use Rattle.flash_laws.specs.Conn as conn
+use Rattle.flash_laws.specs.Conn.{Conn}
+use Rattle.flash_laws.specs.Places.{NoneRuns, first_free, runs_scripts, told_at, accepted, filed}
+use Rattle.flash_laws.specs.Serves.{Picks}
+use Rattle.flash_laws.specs.Tied.{with_at}
+use Rattle.flash_laws.specs.declared.doing.Flight.{Flight}
+use Rattle.flash_laws.specs.declared.doing.Flight.TheVariants.{Nothing, Accepting, At}
+use Rattle.flash_laws.specs.declared.running.Running.{Running}
+use Rattle.flash_laws.proofs.Conn.Answering.{some-inj}
+use Rattle.flash_laws.proofs.Site.InPlaces.{at-same, at-other, left-is}
+
+-- one with these, for which no script runs
+abbrev plain : Conn → List ℕ → Client
+plain c script = record { conn = c; run = None; script = script }
+
+abbrev of : Conn → Option Running → List ℕ → Client
+of c run script = record { conn = c; run = run; script = script }
+
+-- without workers scripts are not run
+pub none-run : (workers : ℕ) → workers ≡ 0 → runs_scripts workers ≡ false
+none-run workers is = ap (λ k. nat_lt 0 k) is
+
+none-for : (q : Answer) → is_for_script false q ≡ false
+none-for (serve w) = refl
+none-for (refuse status head_only close) = refl
+
+pub told-alone : (workers worker : ℕ) (c : Conn) (run : Option Running) (script : List ℕ) (r : Reply) (heard : List ℕ) → workers ≡ 0 → run ≡ None
+    → told (runs_scripts workers) worker (of c run script) r heard ≡ plain (conn.told c r heard) script
+told-alone workers worker c None script r heard none is = ap (λ b. file_told (is_for_script b c.q) (plain c script) r heard) (none-run workers none) ∙ ap (λ b. file_told b (plain c script) r heard) (none-for c.q)
+told-alone workers worker c (Some y) script r heard none is = absurd (cc (is))
+
+readies-alone : (c : Conn) (run : Option Running) (script : List ℕ) (y : Client) → run ≡ None → Readies (of c run script) y
+    → (ready : Conn) × conn.Readies c ready × (y ≡ plain ready script)
+readies-alone c None script y is ready = ready
+readies-alone c (Some z) script y is ready = absurd (cc (is))
+
+-- ---- replies are filed
+
+-- one place changes
+pub runs-set : (clients : List (Option Client)) (fd : ℕ) (o : Option Client) → NoneRuns clients → ((x : Client) → o ≡ Some x → x.run ≡ None)
+    → NoneRuns (with_at clients fd o)
+runs-set clients fd o runs here gd x is = elim (cases_eq fd gd) [
+  | inl same ↦ here x (sym (at-same clients fd o) ∙ subst (λ g. in_place (with_at clients fd o) g ≡ Some x) (sym same) is)
+  | inr differ ↦ runs gd x (sym (at-other clients fd gd o differ) ∙ is)
+]
+
+-- what is left of one without a run has none
+left-none : (c : Conn) (script : List ℕ) (y : Client) → left_over (plain c script) ≡ Some y → y.run ≡ None
+left-none c script y is = ap (λ (x : Client). x.run) (sym (left-is c.doing (plain c script) y is))
+
+pub runs-filed : (workers : ℕ) (clients : List (Option Client)) (w : Flight) (r : Reply) (heard : List ℕ) → workers ≡ 0 → NoneRuns clients
+    → NoneRuns (filed workers clients w r heard)
+runs-filed workers clients Nothing r heard none runs = runs
+runs-filed workers clients Accepting r heard none runs = by r
+  where
+    by : (r : Reply) → NoneRuns (accepted clients r)
+    by (reply.Fd fd) = runs-set clients fd (Some new_client) runs (λ x is. ap (λ (z : Client). z.run) (sym (some-inj new_client x is)))
+    by r = runs
+runs-filed workers clients (At fd) r heard none runs = by (in_place clients fd) refl
+  where
+    by : (o : Option Client) → in_place clients fd ≡ o → NoneRuns (told_at workers clients fd o r heard)
+    by None is = runs
+    by (Some x) is =
+        let is_told : told (runs_scripts workers) (first_free workers clients) x r heard ≡ plain (conn.told x.conn r heard) x.script = told-alone workers (first_free workers clients) x.conn x.run x.script r heard none (runs fd x is) in
+        runs-set clients fd (left_over (told (runs_scripts workers) (first_free workers clients) x r heard)) runs
+        (λ y left. left-none (conn.told x.conn r heard) x.script y (ap (λ (z : Client). left_over z) (sym is_told) ∙ left))
+
+-- ---- a client is picked
+
+pub runs-picked : (workers : ℕ) (clients : List (Option Client)) (w : Flight) (made : Turn) (after : List (Option Client)) → NoneRuns clients
+    → Picks workers clients w made after → NoneRuns after
+runs-picked workers clients Nothing made after runs p = subst (λ (l : List (Option Client)). NoneRuns l) (sym p.0) runs
+runs-picked workers clients Accepting made after runs p = subst (λ (l : List (Option Client)). NoneRuns l) (sym p.0) runs
+runs-picked workers clients (At fd) made after runs p =
+    let got = readies-alone p.was.conn p.was.run p.was.script p.ready (runs fd p.was p.there) p.readies in
+    subst (λ (l : List (Option Client)). NoneRuns l) (sym p.after_is)
+    (runs-set clients fd (Some p.ready) runs (λ x is. ap (λ (z : Client). z.run) (sym (some-inj p.ready x is)) ∙ ap (λ (z : Client). z.run) got.2))

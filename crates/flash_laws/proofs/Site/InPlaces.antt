@@ -1,0 +1,73 @@
+-- Places of a list, and what is left in them.
+use Rattle.std.proofs.Common.{◌≡◌, ◌≢◌, ℕ, zero, suc, ◌+◌, ◌-◌, List, [], ◌∷◌, ◌++◌, length, replicate, refl, arith, Option, Some, None}
+use Rattle.std.specs.Prelude.{option_map}
+use Rattle.std.proofs.lemmas.Bool.Decides.{nat_tests}
+use Rattle.std.proofs.lemmas.Grind.{common_steps}
+use Rattle.iol_core.specs.Numbered.{in_place}
+use Rattle.flash_laws.specs.Tied.{with_at, left_by}
+use Rattle.flash_laws.specs.declared.doing.Doing.{Doing}
+use Rattle.flash_laws.specs.declared.doing.Doing.TheVariants.{Rests, Got, Opens, Reads as Reading, Shuts, Picks, Spares, Heads, Joins, Sends, Cuts, Offers, Swaps, Sent, Breaks, Drops, Closes, Over}
+use Rattle.flash_laws.proofs.Conn.Answering.{some-inj}
+
+-- ---- with one place changed
+
+none-in : {A : Type 0} (k g : ℕ) → in_place {A = A} (replicate k None) g ≡ None
+none-in zero g = refl
+none-in (suc k) zero = refl
+none-in (suc k) (suc g) = none-in k g
+
+place-grown : {A : Type 0} (xs : List (Option A)) (k g : ℕ) → in_place (xs ++ replicate k None) g ≡ in_place xs g
+place-grown [] k g = none-in k g
+place-grown (x ∷ xs) k zero = refl
+place-grown (x ∷ xs) k (suc g) = place-grown xs k g
+
+pub at-same : {A : Type 0} (xs : List (Option A)) (fd : ℕ) (x : Option A) → in_place (with_at xs fd x) fd ≡ x
+at-same xs fd x = grind (arith, nat_tests, common_steps)
+
+pub at-other : {A : Type 0} (xs : List (Option A)) (fd gd : ℕ) (x : Option A) → fd ≢ gd
+    → in_place (with_at xs fd x) gd ≡ in_place xs gd
+at-other xs fd gd x differ = let e = place-grown xs (fd + 1 - length xs) gd in grind (arith, nat_tests, common_steps, differ, e)
+
+-- ---- each place mapped
+
+-- ---- what is over is forgotten
+
+pub left-is : {A : Type 0} (d : Doing) (x y : A) → left_by d x ≡ Some y → x ≡ y
+left-is Over x y is = absurd (cc (is))
+left-is Rests x y is = some-inj x y is
+left-is (Got a) x y is = some-inj x y is
+left-is Opens x y is = some-inj x y is
+left-is (Reading f) x y is = some-inj x y is
+left-is (Shuts f k) x y is = some-inj x y is
+left-is (Picks a first last len) x y is = some-inj x y is
+left-is (Spares a k) x y is = some-inj x y is
+left-is (Heads k) x y is = some-inj x y is
+left-is (Joins a size body len) x y is = some-inj x y is
+left-is (Sends a len taken more) x y is = some-inj x y is
+left-is (Cuts a from len taken more) x y is = some-inj x y is
+left-is (Offers a from len piece taken more) x y is = some-inj x y is
+left-is (Swaps a from len piece taken more) x y is = some-inj x y is
+left-is (Sent a taken more) x y is = some-inj x y is
+left-is (Breaks piece a more) x y is = some-inj x y is
+left-is (Drops a more) x y is = some-inj x y is
+left-is Closes x y is = some-inj x y is
+
+pub left-map : {A B : Type 0} (f : A → B) (d : Doing) (x : A) → option_map f (left_by d x) ≡ left_by d (f x)
+left-map f Over x = refl
+left-map f Rests x = refl
+left-map f (Got a) x = refl
+left-map f Opens x = refl
+left-map f (Reading g) x = refl
+left-map f (Shuts g k) x = refl
+left-map f (Picks a first last len) x = refl
+left-map f (Spares a k) x = refl
+left-map f (Heads k) x = refl
+left-map f (Joins a size body len) x = refl
+left-map f (Sends a len taken more) x = refl
+left-map f (Cuts a from len taken more) x = refl
+left-map f (Offers a from len piece taken more) x = refl
+left-map f (Swaps a from len piece taken more) x = refl
+left-map f (Sent a taken more) x = refl
+left-map f (Breaks piece a more) x = refl
+left-map f (Drops a more) x = refl
+left-map f Closes x = refl

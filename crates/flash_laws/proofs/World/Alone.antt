@@ -1,0 +1,4 @@
+pub mod Ties
+pub mod Sends
+pub mod Files
+pub mod Phases

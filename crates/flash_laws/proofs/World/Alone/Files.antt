@@ -1,0 +1,274 @@
+-- A client for which no script runs: what its phases rest on, and those that open its file and read it.
+use Rattle.std.proofs.Common.{◌≡◌, ℕ, ◌+◌, ◌==◌, ◌≤◌, List, [], ◌∷◌, ◌++◌, length, take, ap, ◌∙◌, refl, sym, subst, arith, Option, Some, None, true, false, Bool, if◌then◌else◌}
+use Rattle.std.specs.Prelude.{◌||◌, ◌&&◌}
+use Rattle.std.specs.List.{list_any}
+use Rattle.std.proofs.lemmas.List.{take_all}
+use Rattle.iol_core.specs.Text.{bytes_of}
+use Rattle.iol_core.specs.State.{State, Connection, File as FileEntry, descriptor, content, conn_at, may_read, file}
+use Rattle.iol_core.specs.Calls.Files.{file_called}
+use Rattle.iol_core.specs.Calls.Writing.{is_file}
+use Rattle.iol_core.specs.Run.{StepsTo}
+use Rattle.iol_core.specs.declared.descriptors.Descriptor.{Descriptor}
+use Rattle.iol_core.specs.declared.descriptors.Descriptor.TheVariants as on
+use Rattle.iol_core.specs.declared.descriptors.Mode.TheVariants as modes
+use Rattle.iol_core.specs.declared.refusals.Refusal.TheVariants as no
+use Rattle.iol_core.specs.declared.events.Call.{Call}
+use Rattle.iol_core.specs.declared.events.Call.TheVariants as call
+use Rattle.iol_core.specs.declared.events.Event.TheVariants as event
+use Rattle.iol_core.specs.declared.events.Reply.{Reply}
+use Rattle.iol_core.specs.declared.events.Reply.TheVariants as reply
+use Rattle.iol_laws.specs.Frame.{is_conn, touches_conn, touches_fd}
+use Rattle.iol_laws.specs.Order.{IsOrderly}
+use Rattle.iol_laws.specs.Caller as o
+use Rattle.iol_laws.specs.Caller.{is_rough}
+use Rattle.iol_laws.specs.CallerFiles as of
+use Rattle.flash_http.specs.Range.{selected}
+use Rattle.flash_http.specs.Request.{Answer, serve, refuse, Wanted}
+use Rattle.flash_laws.specs.Answers.{Outcome, Found, Failed, body_unless, chosen, file_text, unsatisfiable, response}
+use Rattle.flash_laws.specs.Client.{Client, is_for_script, can_run, kept_if, script_told}
+use Rattle.flash_laws.specs.ClientFits.{TieAlone, due_in, Finds, FitsAlone, Fits}
+use Rattle.flash_laws.specs.Conn as conn
+use Rattle.flash_laws.specs.Conn.{Conn, most_read, name_of, count_of, text_of}
+use Rattle.flash_laws.specs.Crew.{Crew}
+use Rattle.flash_laws.specs.Fits.{Has, is_closing, Names}
+use Rattle.flash_laws.specs.Known as known
+use Rattle.flash_laws.specs.Known.{OfFile, OfScript, is_read, is_opening}
+use Rattle.flash_laws.specs.RunFits.{nothing_yet}
+use Rattle.flash_laws.specs.Shelf.{Shelf, due_to}
+use Rattle.flash_laws.specs.Site.{server, found_in, IsFixed}
+use Rattle.flash_laws.specs.declared.doing.Learnt.TheVariants.{File, Length, Text as TextOf}
+use Rattle.flash_laws.specs.declared.doing.Content.TheVariants.{Error, Script}
+use Rattle.flash_laws.specs.declared.doing.Doing.{Doing}
+use Rattle.flash_laws.specs.declared.doing.Doing.TheVariants.{Opens, Reads as Reading, Shuts, Spares, Heads}
+use Rattle.flash_laws.proofs.Conn.Answering.{some-inj}
+use Rattle.flash_laws.proofs.Client.Phases as phases
+use Rattle.flash_laws.proofs.Counts.{counted}
+use Rattle.flash_laws.proofs.Conn.Lent.{file-same, content-same}
+use Rattle.flash_laws.proofs.Lists.{not-equal, clash}
+use Rattle.flash_laws.proofs.World.AllLaws.{AllLaws}
+use Rattle.flash_laws.proofs.World.Alone.Ties.{alone, Stands, TiesOn, tie_on, ends}
+
+-- of a phase that reads no script the response is due
+pub due-is : (shelf : Shelf) (q : Answer) (d : Doing) → is_read d ≡ false → due_in shelf q d ≡ due_to shelf q
+due-is shelf q d is = ap (λ b. if b then text_of q Script else due_to shelf q) is
+
+-- and nothing is found
+pub finds-none : (shelf : Shelf) (s : State) (q : Answer) (script : List ℕ) (d : Doing) → is_opening d ≡ false → is_read d ≡ false
+    → Finds shelf s q script d
+finds-none shelf s q script (Reading f) un unread = absurd (cc (un))
+finds-none shelf s q script (Shuts f (TextOf a true)) un unread = absurd (cc (unread))
+finds-none shelf s q script (Spares a Script) un unread = absurd (cc (unread))
+finds-none shelf s q script d un unread = tt
+
+module _ (shelf : Shelf) (crew : Crew) (laws : AllLaws crew) (m n : State) (came sent : List ℕ) (fd c : ℕ) (kept script : List ℕ)
+    (order : IsOrderly m) where
+  abbrev at : Answer → Doing → Client
+  at q d = alone kept script q d
+
+  abbrev conn_of : Answer → Doing → Conn
+  conn_of q d = record { kept = kept; q = q; doing = d }
+
+  abbrev Fitting : State → Client → Type 0
+  Fitting s x = FitsAlone shelf s came sent fd c x
+
+  abbrev Was : Answer → Doing → Type 0
+  Was q d = Fitting m (at q d)
+
+  abbrev Is : Answer → Doing → Type 0
+  Is q d = Fitting n (at q d)
+
+  abbrev Ties : Answer → (d e : Doing) → Type 0
+  Ties q d e = TiesOn shelf kept script q d e
+
+  -- a call that leaves the connection itself; the text that is kept may be another
+  pub moves_to : (text : List ℕ) (q : Answer) (d e : Doing) (k : Call) (r : Reply) → Was q d
+      → StepsTo m (event.Call server k) r n → touches_conn m (event.Call server k) c ≡ false
+      → touches_fd m (event.Call server k) server fd ≡ false → Ties q d e
+      → Has n q (due_in shelf q e) e → Finds shelf n q text e → Fitting n (alone kept text q e)
+  moves_to text q d e k r f step un un_fd ties has finds =
+      let leaves = laws.the.steps.leaves m n (event.Call server k) r step in
+      let conn = leaves.conns c un in
+      record {
+        open_on = leaves.fds server fd (on.Connection c) f.open_on un_fd;
+        took = f.took;
+        came_is = f.came_is ∙ ap (λ (x : Connection). f.took ++ bytes_of x.incoming) (sym conn);
+        tie = subst (λ (x : Connection). TieAlone shelf x f.took sent (at q e)) (sym conn) (ties (conn_at m c) f.took sent f.tie);
+        has = has;
+        finds = finds;
+        proper = f.proper;
+      }
+
+  pub same : (q : Answer) (d : Doing) → Was q d → n ≡ m → Is q d
+  same q d f is = subst (λ (s : State). Fitting s (at q d)) (sym is) f
+
+  -- one that goes on with the request
+  pub goes : (q : Answer) (part : List ℕ) (d e : Doing) (k : Call) (r : Reply) → Was q d
+      → StepsTo m (event.Call server k) r n → touches_conn m (event.Call server k) c ≡ false
+      → touches_fd m (event.Call server k) server fd ≡ false
+      → Stands shelf q part d → Stands shelf q part e → Has n q (due_in shelf q e) e → Finds shelf n q script e → Is q e
+  goes q part d e k r f step un un_fd was stands has finds =
+      moves_to script q d e k r f step un un_fd (tie_on shelf kept script q d e (stands.0 ∙ sym was.0) (stands.1 ∙ sym was.1) was.2 stands.2) has finds
+
+  -- what the machine has, and what is found, after a call that opens and reads nothing
+  pub has_told : (q : Answer) (d : Doing) (r : Reply) (heard : List ℕ) → Was q d → is_opening d ≡ false → is_closing d ≡ false → is_read d ≡ false
+      → StepsTo m (event.Call server (conn.wants fd (conn_of q d))) r n → Names n r heard
+      → Has n q (due_in shelf q (conn.told (conn_of q d) r heard).doing) (conn.told (conn_of q d) r heard).doing
+  has_told q d r heard f un busy unread step names =
+      subst (λ (l : List ℕ). Has n q l (conn.told (conn_of q d) r heard).doing) (sym (due-is shelf q (conn.told (conn_of q d) r heard).doing (phases.unread-told kept q d r heard unread)))
+      (phases.phase laws.the.steps laws.the.own m n order kept fd c q d (due_to shelf q) r heard f.open_on un busy (subst (λ (l : List ℕ). Has m q l d) (due-is shelf q d unread) f.has) step names)
+
+  pub finds_told : (q : Answer) (d : Doing) (r : Reply) (heard : List ℕ) → is_opening d ≡ false → is_read d ≡ false
+      → Finds shelf n q script (conn.told (conn_of q d) r heard).doing
+  finds_told q d r heard un unread =
+      finds-none shelf n q script (conn.told (conn_of q d) r heard).doing (phases.read-told kept q d r heard un) (phases.unread-told kept q d r heard unread)
+
+  -- the file's descriptor is not the connection's
+  pub differ-fds : (g f pos : ℕ) → descriptor m server g ≡ Some (on.File f pos modes.Read)
+      → descriptor m server fd ≡ Some (on.Connection c) → (g == fd) ≡ false
+  differ-fds g f pos is_file is_conn = not-equal g fd (λ same. let e = ap (λ k. descriptor m server k) same in absurd (cc (e, is_file, is_conn)))
+
+  pub unused : (g f pos : ℕ) → descriptor m server g ≡ Some (on.File f pos modes.Read)
+      → (list_any (is_conn c) (descriptor m server g ∷ []) || false) ≡ false
+  unused g f pos is = ap (λ (d : Option Descriptor). list_any (is_conn c) (d ∷ []) || false) is
+
+  -- of a request for no script the response is due that its file gives
+  due_of_file : (w : Wanted) (found : Outcome) → is_for_script shelf.scripts (serve w) ≡ false → shelf.finds w.name ≡ found
+      → due_to shelf (serve w) ≡ response (serve w) found
+  due_of_file w found none is = laws.due.file shelf.scripts shelf.finds shelf.shows (serve w) none ∙ ap (λ (y : Outcome). response (serve w) y) is
+
+  -- one that cannot be opened is answered with an error, be it a script or not
+  failed : (w : Wanted) (status : ℕ) → shelf.finds w.name ≡ Failed status → due_to shelf (serve w) ≡ text_of (serve w) (Error status)
+  failed w status is = by (is_for_script shelf.scripts (serve w)) refl
+    where
+      by : (b : Bool) → is_for_script shelf.scripts (serve w) ≡ b → due_to shelf (serve w) ≡ text_of (serve w) (Error status)
+      by true for_script = laws.due.unread shelf.scripts shelf.finds shelf.shows w status for_script is
+      by false none = due_of_file w (Failed status) none is
+
+  pub opens : (q : Answer) (r : Reply) (heard : List ℕ) → IsFixed shelf.finds m → Was q Opens → is_rough r ≡ false
+      → StepsTo m (event.Call server (call.OpenFile (name_of q) modes.Read)) r n
+      → Is q (conn.told_opens r)
+  opens (refuse status head_only close) r heard fixed f calm step = absurd f.has
+  opens (serve w) r heard fixed f calm step = by r (laws.the.files.opens m n server w.name modes.Read r fixed.lives step) step calm
+    where
+      shelved : (x : Option ℕ) → file_called m w.name ≡ x → shelf.finds w.name ≡ found_in m x
+      shelved x is = sym (fixed.outcomes w.name) ∙ ap (λ (y : Option ℕ). found_in m y) is
+
+      found : (i : ℕ) (b : Bool) → may_read m server (file m i).pool ≡ b → file_called m w.name ≡ Some i
+          → shelf.finds w.name ≡ (if b then Found (content m i) else Failed 403)
+      found i b may is = shelved (Some i) is ∙ ap (λ (t : Bool). if t then Found (content m i) else Failed 403) may
+
+      by : (r : Reply) → of.Opening m server w.name modes.Read r n
+          → StepsTo m (event.Call server (call.OpenFile w.name modes.Read)) r n → is_rough r ≡ false
+          → Is (serve w) (conn.told_opens r)
+      by (reply.Fd g) did step calm =
+          let leaves = laws.the.steps.leaves m n (event.Call server (call.OpenFile w.name modes.Read)) (reply.Fd g) step in
+          let here = file-same m n did.file_is (leaves.files refl).0 in
+          let bytes = content-same m n did.file_is (leaves.files refl).1 in
+          goes (serve w) [] Opens (Reading g) (call.OpenFile w.name modes.Read) (reply.Fd g) f step refl refl (refl, refl, refl) (refl, refl, refl)
+          (tt, (did.file_is, 0, did.open_on)) (record {
+            number = did.file_is;
+            open_on = did.open_on;
+            may = subst (λ (x : FileEntry). may_read n server x.pool ≡ true) (sym here) (leaves.readers server (file m did.file_is).pool did.may);
+            short = subst (λ (l : List ℕ). length l ≤ most_read) (sym bytes) (fixed.lengths w.name did.file_is did.found);
+            found = found did.file_is true did.may did.found ∙ ap (λ (l : List ℕ). Found l) (sym bytes);
+          })
+      by (reply.Refused no.NoFile) did step calm =
+          goes (serve w) [] Opens (Heads (Error 404)) (call.OpenFile w.name modes.Read) (reply.Refused no.NoFile) f step refl refl (refl, refl, refl) (refl, refl, refl) (failed w 404 (shelved None did.0)) tt
+      by (reply.Refused (no.Denied p)) did step calm =
+          let may_not = ap (λ z. may_read m server z) did.0.pool_is ∙ did.0.may_not in
+          goes (serve w) [] Opens (Heads (Error 403)) (call.OpenFile w.name modes.Read) (reply.Refused (no.Denied p)) f step refl refl (refl, refl, refl) (refl, refl, refl) (failed w 403 (found did.0.file_is false may_not did.0.found)) tt
+      by (reply.Refused y) did step calm = absurd (clash (is_rough (reply.Refused y)) did.0 calm)
+      by r did step calm = absurd did
+
+  -- what a read of a whole file touches is that file alone
+  reads_apart : (g i count : ℕ) → descriptor m server g ≡ Some (on.File i 0 modes.Read) → descriptor m server fd ≡ Some (on.Connection c)
+      → (touches_conn m (event.Call server (call.IolRead g count)) c ≡ false) × (touches_fd m (event.Call server (call.IolRead g count)) server fd ≡ false)
+  reads_apart g i count is open_on = (
+    unused g i 0 is,
+    ap (λ b. true && b && is_file (descriptor m server g)) (differ-fds g i 0 is open_on) ∙ grind (arith),
+  )
+
+  pub reads : (q : Answer) (g : ℕ) (r : Reply) (heard : List ℕ) → is_for_script shelf.scripts q ≡ false → IsFixed shelf.finds m → Was q (Reading g)
+      → is_rough r ≡ false → StepsTo m (event.Call server (conn.wants fd (conn_of q (Reading g)))) r n
+      → Names n r heard → Is q (conn.told_reads g r heard)
+  reads (refuse status head_only close) g r heard none fixed f calm step names = absurd f.has.0
+  reads (serve w) g r heard none fixed f calm step names = which w.head_only refl step
+    where
+      measured : (r : Reply) → w.head_only ≡ true → of.Tells m (length (content m f.finds.number)) r n
+          → StepsTo m (event.Call server (call.Length g)) r n
+          → Is (serve w) (conn.told_reads g r heard)
+      measured (reply.Count k) is did step =
+          goes (serve w) [] (Reading g) (Shuts g (Length k)) (call.Length g) (reply.Count k) f step refl refl (refl, refl, refl) (refl, refl, refl) (
+            (f.has.1.0, f.has.1.1, subst (λ (s : State). descriptor s server g ≡ Some (on.File f.has.1.0 f.has.1.1 modes.Read)) (sym did.1) f.has.1.2),
+            due_of_file w (Found (content m f.finds.number)) none f.finds.found ∙ (ap (λ b. file_text w (length (content m f.finds.number)) ++ body_unless b (chosen (selected w.range (length (content m f.finds.number))) (content m f.finds.number))) is
+                ∙ (ap (λ z. file_text w z ++ []) (sym did.0) ∙ ap (λ b. file_text w k ++ body_unless b unsatisfiable) (sym is))),
+          ) tt
+      measured r is did step = absurd did
+
+      whole : (r : Reply) → w.head_only ≡ false
+          → of.ReadsFile m server g f.finds.number 0 modes.Read (take most_read (content m f.finds.number)) r n
+          → StepsTo m (event.Call server (call.IolRead g most_read)) r n → is_rough r ≡ false
+          → Names n r heard → Is (serve w) (conn.told_reads g r heard)
+      whole (reply.Agg a) is did step calm names =
+          let bytes : heard ≡ content m f.finds.number = some-inj _ _ (sym names ∙ did.lends) ∙ take_all most_read (content m f.finds.number) f.finds.short in
+          let apart = reads_apart g f.finds.number most_read f.finds.open_on f.open_on in
+          goes (serve w) [] (Reading g) (Shuts g (File a (count_of heard))) (call.IolRead g most_read) (reply.Agg a) f step apart.0 apart.1 (refl, refl, refl) (refl, refl, refl) (
+            (f.finds.number, 0 + length (take most_read (content m f.finds.number)), did.moves),
+            record {
+              bytes = heard;
+              lends = names;
+              count = counted heard (subst (λ (l : List ℕ). length l ≤ most_read) (sym bytes) f.finds.short);
+              whole = is;
+              due_is = due_of_file w (Found heard) none (f.finds.found ∙ ap (λ (l : List ℕ). Found l) (sym bytes));
+            },
+          ) tt
+      whole (reply.Refused y) is did step calm names = absurd (clash (is_rough (reply.Refused y)) did.0 calm)
+      whole r is did step calm names = absurd did
+
+      which : (b : Bool) → w.head_only ≡ b
+          → StepsTo m (event.Call server (if b then call.Length g else call.IolRead g most_read)) r n
+          → Is (serve w) (conn.told_reads g r heard)
+      which true is step = measured r is (laws.the.files.measures m n server g f.finds.number 0 modes.Read r fixed.lives f.finds.open_on step) step
+      which false is step = whole r is (laws.the.files.reads_file m n server g f.finds.number 0 most_read modes.Read r order fixed.lives f.finds.may refl f.finds.open_on step) step calm names
+
+  -- the text of a script is read whole
+  pub reads_text : (q : Answer) (g : ℕ) (r : Reply) (heard : List ℕ) → is_for_script shelf.scripts q ≡ true → IsFixed shelf.finds m → Was q (Reading g)
+      → is_rough r ≡ false → StepsTo m (event.Call server (call.IolRead g most_read)) r n
+      → Names n r heard → Fitting n (script_told (at q (Reading g)) r heard)
+  reads_text (refuse status head_only close) g r heard asks fixed f calm step names = absurd f.has.0
+  reads_text (serve w) g r heard asks fixed f calm step names =
+      by r (laws.the.files.reads_file m n server g f.finds.number 0 most_read modes.Read r order fixed.lives f.finds.may refl f.finds.open_on step) step calm names
+    where
+      by : (r : Reply) → of.ReadsFile m server g f.finds.number 0 modes.Read (take most_read (content m f.finds.number)) r n
+          → StepsTo m (event.Call server (call.IolRead g most_read)) r n → is_rough r ≡ false
+          → Names n r heard → Fitting n (script_told (at (serve w) (Reading g)) r heard)
+      by (reply.Agg a) did step calm names = runs (can_run heard) refl
+        where
+          found : shelf.finds w.name ≡ Found heard
+          found =
+              let bytes : heard ≡ content m f.finds.number = some-inj _ _ (sym names ∙ did.lends) ∙ take_all most_read (content m f.finds.number) f.finds.short in
+              f.finds.found ∙ ap (λ (l : List ℕ). Found l) (sym bytes)
+
+          may : (b : Bool) → can_run heard ≡ b → known.MayAnswer (serve w) (if b then OfScript heard nothing_yet else OfFile (Failed 500)) (due_to shelf (serve w))
+          may b is = subst (λ (t : Bool). known.MayAnswer (serve w) (if t then OfScript heard nothing_yet else OfFile (Failed 500)) (due_to shelf (serve w))) is (laws.due.read shelf.scripts shelf.finds shelf.shows w heard asks found)
+
+          apart : (touches_conn m (event.Call server (call.IolRead g most_read)) c ≡ false) × (touches_fd m (event.Call server (call.IolRead g most_read)) server fd ≡ false)
+          apart = reads_apart g f.finds.number most_read f.finds.open_on f.open_on
+
+          kept_whole : (b h : Bool) → b ≡ true → h ≡ false → kept_if h b heard ≡ heard
+          kept_whole true false runs get = refl
+          kept_whole true true runs get = absurd (cc (get))
+          kept_whole false h runs get = absurd (cc (runs))
+
+          runs : (b : Bool) → can_run heard ≡ b → Fitting n (alone kept (kept_if w.head_only b heard) (serve w) (Shuts g (TextOf a b)))
+          runs true is =
+              moves_to (kept_if w.head_only true heard) (serve w) (Reading g) (Shuts g (TextOf a true)) (call.IolRead g most_read) (reply.Agg a) f step apart.0 apart.1
+              (tie_on shelf kept script (serve w) (Reading g) (Shuts g (TextOf a true)) refl refl refl refl)
+              ((f.finds.number, 0 + length (take most_read (content m f.finds.number)), did.moves), ((heard, names), refl))
+              (record { asks = asks; text = heard; found = found; runs = is; kept = λ get. kept_whole true w.head_only refl get })
+          runs false is =
+              moves_to (kept_if w.head_only false heard) (serve w) (Reading g) (Shuts g (TextOf a false)) (call.IolRead g most_read) (reply.Agg a) f step apart.0 apart.1
+              (tie_on shelf kept script (serve w) (Reading g) (Shuts g (TextOf a false)) refl refl refl refl)
+              ((f.finds.number, 0 + length (take most_read (content m f.finds.number)), did.moves), ((heard, names), may false is)) tt
+      by (reply.Refused y) did step calm names = absurd (clash (is_rough (reply.Refused y)) did.0 calm)
+      by r did step calm names = absurd did

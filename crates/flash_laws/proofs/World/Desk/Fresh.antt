@@ -1,0 +1,312 @@
+-- The worker of a run until it has its job: it is hired, is given the pipe, and its job is made and written.
+use Rattle.std.proofs.Common.{inl, inr, ◌≡◌, ◌≢◌, ◌<◌, ◌≤◌, ℕ, List, [], ◌∷◌, ◌++◌, length, ap, ◌∙◌, refl, sym, subst, arith, Option, Some, None, true, false, Bool, slice_get, length-append, if◌then◌else◌}
+use Rattle.std.specs.Prelude.{◌==◌, ◌&&◌, nat_le, unwrap_or}
+use Rattle.std.specs.Fmt.{decimal}
+use Rattle.std.specs.List.{AllByRecursion}
+use Rattle.std.specs.Str.{is_utf8}
+use Rattle.std.specs.List.{slice_split}
+use Rattle.std.proofs.lemmas.Bool.Decides.{nat_tests}
+use Rattle.std.proofs.lemmas.Fmt.{length-decimal-le}
+use Rattle.std.proofs.lemmas.List.{take_all, length-map}
+use Rattle.iol_core.specs.Numbered.{lowest, in_place}
+use Rattle.iol_core.specs.Text.{Text, bytes_of}
+use Rattle.iol_core.specs.State.{State, Pipe, descriptor, is_live, may_read, text, pipe_at, no_pipe}
+use Rattle.iol_core.specs.Calls.Aggregates.{default_pool}
+use Rattle.iol_core.specs.declared.limits.TheConstants.{MAX_OPEN}
+use Rattle.iol_core.specs.declared.descriptors.Descriptor.{Descriptor}
+use Rattle.iol_core.specs.declared.descriptors.Descriptor.TheVariants as on
+use Rattle.iol_core.specs.declared.events.Call.TheVariants as call
+use Rattle.iol_core.specs.declared.events.Event.TheVariants as event
+use Rattle.iol_core.specs.declared.events.Reply.{Reply}
+use Rattle.iol_core.specs.declared.events.Reply.TheVariants as reply
+use Rattle.iol_laws.specs.Caller.{lent_at, PutsInPipe, WritesPipe}
+use Rattle.iol_laws.specs.Order.{IsOrderly}
+use Rattle.iol_laws.specs.Sources.{lie_in}
+use Rattle.iol_laws.proofs.Places.{lowest-free}
+use Rattle.iol_proc.specs.declared.seat.Seat.{Seat}
+use Rattle.flash_http.specs.Request.{Wanted}
+use Rattle.flash_cgi.specs.Job.{job_text}
+use Rattle.flash_cgi.specs.Output.{output}
+use Rattle.flash_cgi.specs.Outcomes.{outcome_in, outcomes_in}
+use Rattle.flash_cgi.specs.Script.{script_of, lines_in, is_line_feed}
+use Rattle.flash_cgi.specs.Taking.{HasJob}
+use Rattle.flash_cgi.specs.declared.line.Line.{Line}
+use Rattle.flash_cgi.specs.declared.script.TheConstants.{MAX_SCRIPT_BYTES}
+use Rattle.flash_cgi.proofs.Written.{regroup}
+use Rattle.flash_laws.specs.Client.{Client, job_of}
+use Rattle.flash_laws.specs.ClientFits.{IsScript, output_of}
+use Rattle.flash_laws.specs.Crew.{Crew}
+use Rattle.flash_laws.specs.RunFits.{Progress, nothing_yet, HasPipe}
+use Rattle.flash_laws.specs.RunOffers.{is_failing, IsLost}
+use Rattle.flash_laws.specs.Running.{worker_domain, job_pipe, is_again, told_awaits, told_gives, told_makes, told_hands}
+use Rattle.flash_laws.specs.Served.{AreAtDesks}
+use Rattle.flash_laws.specs.Shelf.{Shelf}
+use Rattle.flash_laws.specs.Site.{server}
+use Rattle.flash_laws.specs.Stages.{IsReadyFor, IsGiven, IsPuttingOut}
+use Rattle.flash_laws.specs.declared.running.Run.{Run}
+use Rattle.flash_laws.specs.declared.running.Step.{Step}
+use Rattle.flash_laws.specs.declared.running.Step.TheVariants.{Gives, Makes, Hands, Lets, Returns, Lapses}
+use Rattle.flash_laws.specs.declared.running.Running.{Running}
+use Rattle.flash_laws.specs.declared.running.Running.TheVariants.{Awaits, Runs}
+use Rattle.flash_laws.proofs.Lists.{not-equal, clash, self}
+use Rattle.flash_laws.proofs.Run.Stays.{write-elsewhere}
+use Rattle.flash_laws.proofs.World.AllLaws.{AllLaws}
+use Rattle.flash_laws.proofs.World.Desk.After.{DeskAfter, may_same, cut_same, cut_whole, same_on}
+use Rattle.flash_laws.proofs.World.Desk.Calls.{OwnCall, Still, leaves, own_things, own_files, other, free_on, ready_on, given_on}
+
+-- ---- a pipe that is open is not the next new one
+
+not_there : (m : State) (p : ℕ) → lowest m.pipes ≡ p → (pipe_at m p).writing ≡ true → ⊥
+unfolding pipe_at
+not_there m p e writes =
+    let free = ap (λ q. in_place m.pipes q) (sym e) ∙ lowest-free m.pipes in
+    clash (pipe_at m p).writing writes (ap (λ (o : Option Pipe). (unwrap_or o no_pipe).writing) free)
+
+read_number : (p q : ℕ) (o : Option Descriptor) → o ≡ Some (on.ReadEnd p) → o ≡ Some (on.ReadEnd q) → p ≡ q
+read_number p q o x y = cc (x, y)
+
+write_number : (p q : ℕ) (o : Option Descriptor) → o ≡ Some (on.WriteEnd p) → o ≡ Some (on.WriteEnd q) → p ≡ q
+write_number p q o x y = cc (x, y)
+
+-- ---- a job is short
+
+script_short : (script : List ℕ) (lines : List Line) → script_of script ≡ Some lines → length script ≤ MAX_SCRIPT_BYTES
+script_short script lines is = by (nat_le (length script) MAX_SCRIPT_BYTES) (is_utf8 script) refl is
+  where
+    by : (a b : Bool) → nat_le (length script) MAX_SCRIPT_BYTES ≡ a → (if a && b then lines_in (slice_split is_line_feed script) else None) ≡ Some lines
+        → length script ≤ MAX_SCRIPT_BYTES
+    by true b e is = grind (arith, nat_tests, e)
+    by false b e is = absurd (cc (is))
+
+short_job : (f : ℕ) (query script : List ℕ) → f < MAX_OPEN → length query ≤ 8192 → length script ≤ MAX_SCRIPT_BYTES → length (job_text f query script) ≤ 65536
+short_job f query script few short_query short_script =
+    let body : List ℕ = query ++ script in
+    let third : List ℕ = decimal (length script) ++ 10 ∷ body in
+    let second : List ℕ = decimal (length query) ++ 32 ∷ third in
+    let whole = ap (λ (l : List ℕ). length l) (regroup (decimal f) (decimal (length query)) (decimal (length script)) query script) in
+    let one = length-append (decimal f) (32 ∷ second) in
+    let two = length-append (decimal (length query)) (32 ∷ third) in
+    let three = length-append (decimal (length script)) (10 ∷ body) in
+    let four = length-append query script in
+    let a = length-decimal-le 9 f (omega arith) (omega (arith, few)) (omega (arith, few)) in
+    let b = length-decimal-le 9 (length query) (omega arith) (omega (arith, short_query)) (omega (arith, short_query)) in
+    let d = length-decimal-le 9 (length script) (omega arith) (omega (arith, short_script)) (omega (arith, short_script)) in
+    omega (arith, whole, one, two, three, four, a, b, d, short_query, short_script)
+
+-- ---- what is written to an empty pipe is all that it has
+
+both_true : (a b : Bool) → (a && b) ≡ true → (a ≡ true) × (b ≡ true)
+both_true true b is = (refl, is)
+both_true false b is = absurd (cc (is))
+
+all_may : (jobs : ℕ → Bool) (n : State) (d : ℕ) (t : Text) → ((q : ℕ) → jobs q ≡ true → may_read n d q ≡ true) → lie_in jobs t ≡ true → AllByRecursion (λ b. may_read n d b.1 ≡ true) t
+all_may jobs n d [] may lies = tt
+all_may jobs n d (b ∷ t) may lies = let parts = both_true (jobs b.1) (lie_in jobs t) lies in (may b.1 parts.0, all_may jobs n d t may parts.1)
+
+lies_whole : (m n : State) (p k : ℕ) (bytes : List ℕ) → PutsInPipe m p bytes k n → (pipe_at m p).queue ≡ [] → length bytes ≤ 65536
+    → (bytes_of (pipe_at n p).queue ≡ bytes) × (length (pipe_at n p).queue ≤ 65536) × ((pipe_at n p).writing ≡ (pipe_at m p).writing)
+lies_whole m n p k bytes puts empty short =
+    let queue : (pipe_at n p).queue ≡ puts.text = ap (λ (x : Pipe). x.queue) puts.pipe ∙ ap (λ (t : Text). t ++ puts.text) empty in
+    let none : length (pipe_at m p).queue ≡ 0 = ap (λ (t : Text). length t) empty in
+    let most = puts.most in
+    let all : length bytes ≤ k = omega (arith, most, none, short) in
+    let is : bytes_of (pipe_at n p).queue ≡ bytes = ap (λ (t : Text). bytes_of t) queue ∙ (puts.text_is ∙ take_all k bytes all) in
+    let size = length-map (pipe_at n p).queue (λ b. b.0) in
+    let same = ap (λ (l : List ℕ). length l) is in
+    (is, omega (arith, size, same, short), ap (λ (x : Pipe). x.writing) puts.pipe)
+
+module _ (shelf : Shelf) (crew : Crew) (laws : AllLaws crew) (m n : State) (c : ℕ) (seats : List (Seat crew.Worker)) (w : Wanted) (o after : Progress) where
+  -- a worker that is free lives, and reads its jobs
+  pub not_lost : IsOrderly m → AreAtDesks crew m seats → (run : Run) (step : Step) (seat : Seat crew.Worker) → slice_get seats run.worker ≡ Some seat
+      → crew.Free m (crew.desk run.worker) seat → IsLost m (Runs run step) → ⊥
+  not_lost order desks run step seat sits free lost = by lost
+    where
+      at : (run.worker < crew.count) × (seat.by ≡ worker_domain run.worker)
+      at = desks.by run.worker seat sits
+
+      reads : (pipe_at m (crew.desk run.worker)).reading ≡ true
+      reads = order.all_stand seat.by 0 (on.ReadEnd (crew.desk run.worker)) (laws.workers.none m (crew.desk run.worker) seat free).jobs
+
+      by : IsLost m (Runs run step) → ⊥
+      by (inl dead) = clash (is_live m (worker_domain run.worker)) (subst (λ d. is_live m d ≡ true) at.1 (laws.workers.none m (crew.desk run.worker) seat free).live) dead
+      by (inr shut) = clash (pipe_at m (crew.desk run.worker)).reading reads
+          (ap (λ p. (pipe_at m p).reading) (write_number (crew.desk run.worker) shut.0 (descriptor m server (job_pipe run.worker)) (desks.desks run.worker at.0) shut.1) ∙ shut.2)
+
+  module _ (output : List ℕ) where
+    abbrev After : Running → Running → Type 0
+    After y z = DeskAfter shelf crew m n c seats w output y z o after
+
+    -- ---- a worker is hired
+
+    pub awaits : (worker : ℕ) (r : Reply) → OwnCall shelf crew m n call.Pipe r seats → IsOrderly n
+        → (worker < crew.count) × ((seat : Seat crew.Worker) → slice_get seats worker ≡ Some seat → crew.Free m (crew.desk worker) seat)
+        → after ≡ o → After Awaits (told_awaits worker r)
+    awaits worker (reply.Fds from write) h now hired same =
+        let did = laws.the.own.makes_pipe m n server (reply.Fds from write) h.step in
+        let left = leaves shelf crew laws m n call.Pipe (reply.Fds from write) seats h in
+        let seated = h.desks.seated worker hired.0 in
+        let stands = h.order.all_stand server (job_pipe worker) (on.WriteEnd (crew.desk worker)) (h.desks.desks worker hired.0) in
+        let stays = left.pipes (crew.desk worker) (not-equal (lowest m.pipes) (crew.desk worker) (λ e. not_there m (crew.desk worker) e stands)) in
+        record {
+          desk = record {
+            seat = seated.0;
+            sits = seated.1;
+            stage = record {
+              free = free_on shelf crew laws m n call.Pipe (reply.Fds from write) seats h worker seated.0 seated.1 stays (hired.1 seated.0 seated.1);
+              has = record {
+                pipe = did.pipe;
+                reads = did.read_end;
+                apart = λ k few e.
+                    let was = h.desks.desks k few in
+                    let is = left.fds server (job_pipe k) (on.WriteEnd (crew.desk k)) was refl in
+                    let one = now.one server server (job_pipe k) write (on.WriteEnd did.pipe) refl (subst (λ q. descriptor n server (job_pipe k) ≡ Some (on.WriteEnd q)) e is) did.write_end in
+                    let none = ap (λ g. descriptor m server g) one.1 ∙ did.new_writes in
+                    (let z = sym was ∙ none in cc (z));
+              };
+              new = did.empty;
+            };
+          };
+          freed = λ k seat at was gone. absurd (cc (was));
+          may = may_same shelf w Awaits (told_awaits worker (reply.Fds from write)) o after same;
+          cut = cut_whole m c Awaits (told_awaits worker (reply.Fds from write)) refl;
+        }
+    awaits worker r h now hired same = record {
+      desk = tt;
+      freed = λ k seat at was gone. absurd (cc (was));
+      may = may_same shelf w Awaits Awaits o after same;
+      cut = cut_whole m c Awaits Awaits refl;
+    }
+
+    -- ---- it is given the pipe
+
+    pub gives : (run : Run) (write : ℕ) (r : Reply) (seat : Seat crew.Worker) (sits : slice_get seats run.worker ≡ Some seat) (ready : IsReadyFor crew m seat run)
+        → HasPipe m run write → OwnCall shelf crew m n (call.GiveFd write (worker_domain run.worker)) r seats
+        → (is_failing (Runs run (told_gives write r)) ≡ true → ⊥) → after ≡ o → After (Runs run (Gives write)) (Runs run (told_gives write r))
+    gives run write r seat sits ready has h kept same = by r h kept
+      where
+        again : (r : Reply) (h : OwnCall shelf crew m n (call.GiveFd write (worker_domain run.worker)) r seats) → IsReadyFor crew n seat run
+        again r h =
+            let left = leaves shelf crew laws m n (call.GiveFd write (worker_domain run.worker)) r seats h in
+            ready_on shelf crew laws m n (call.GiveFd write (worker_domain run.worker)) r seats h run seat sits (λ p. left.pipes p refl) ready
+            (left.fds server run.from (on.ReadEnd ready.has.pipe) ready.has.reads (write-elsewhere m run write has))
+
+        handed : (f : ℕ) (h : OwnCall shelf crew m n (call.GiveFd write (worker_domain run.worker)) (reply.Fd f) seats) → IsGiven crew n seat run f
+        handed f h =
+            let left = leaves shelf crew laws m n (call.GiveFd write (worker_domain run.worker)) (reply.Fd f) seats h in
+            let number = read_number has.pipe ready.has.pipe (descriptor m server run.from) has.read_end ready.has.reads in
+            let writes = subst (λ p. descriptor m server write ≡ Some (on.WriteEnd p)) number has.write_end in
+            let did = laws.the.own.gives_fd m n server write (worker_domain run.worker) (on.WriteEnd ready.has.pipe) (reply.Fd f) writes h.step in
+            record {
+              ready = record {
+                free = free_on shelf crew laws m n (call.GiveFd write (worker_domain run.worker)) (reply.Fd f) seats h run.worker seat sits (left.pipes (crew.desk run.worker) refl) ready.free;
+                has = record {
+                  pipe = ready.has.pipe;
+                  reads = left.fds server run.from (on.ReadEnd ready.has.pipe) ready.has.reads (write-elsewhere m run write has);
+                  apart = ready.has.apart;
+                };
+                new = left.pipes ready.has.pipe refl ∙ ready.new;
+              };
+              writes = subst (λ d. descriptor n d f ≡ Some (on.WriteEnd ready.has.pipe)) (sym (h.desks.by run.worker seat sits).1) did.open_on;
+            }
+
+        by : (r : Reply) → OwnCall shelf crew m n (call.GiveFd write (worker_domain run.worker)) r seats → (is_failing (Runs run (told_gives write r)) ≡ true → ⊥)
+            → After (Runs run (Gives write)) (Runs run (told_gives write r))
+        by (reply.Fd f) h kept = same_on shelf crew m n c seats w output o after run (Gives write) (Makes f) seat sits same (cut_same m c (Runs run (Gives write)) (Runs run (Makes f)) refl) (handed f h)
+        by (reply.Refused x) h kept = either (is_again x) kept
+          where
+            either : (b : Bool) → (is_failing (Runs run (if b then Gives write else Returns write)) ≡ true → ⊥) → After (Runs run (Gives write)) (Runs run (if b then Gives write else Returns write))
+            either true kept = same_on shelf crew m n c seats w output o after run (Gives write) (Gives write) seat sits same (cut_same m c (Runs run (Gives write)) (Runs run (Gives write)) refl)
+                (again (reply.Refused x) h)
+            either false kept = absurd (kept refl)
+        by r h kept = same_on shelf crew m n c seats w output o after run (Gives write) (Gives write) seat sits same (cut_same m c (Runs run (Gives write)) (Runs run (Gives write)) refl) (again r h)
+
+    -- ---- its job is made
+
+    pub makes : (bytes : List ℕ) (run : Run) (f : ℕ) (r : Reply) (seat : Seat crew.Worker) (sits : slice_get seats run.worker ≡ Some seat) → IsGiven crew m seat run f
+        → OwnCall shelf crew m n (call.AggMake bytes) r seats → Still m n → after ≡ o → After (Runs run (Makes f)) (Runs run (told_makes f r))
+    makes bytes run f (reply.Agg j) seat sits given h stays same =
+        same_on shelf crew m n c seats w output o after run (Makes f) (Hands j f) seat sits same (cut_same m c (Runs run (Makes f)) (Runs run (Hands j f)) refl) (
+          given_on shelf crew laws m n (call.AggMake bytes) (reply.Agg j) seats h run seat sits stays f given,
+          laws.labels.aggs crew.jobs m n (event.Call server (call.AggMake bytes)) (reply.Agg j) server j h.order h.step
+              (λ u. laws.labels.fresh crew.jobs (default_pool m server) bytes h.fixed.default) (λ u. absurd (clash (j == j) (self j) u)),
+        )
+    makes bytes run f r seat sits given h stays same =
+        same_on shelf crew m n c seats w output o after run (Makes f) (Makes f) seat sits same (cut_same m c (Runs run (Makes f)) (Runs run (Makes f)) refl)
+        (given_on shelf crew laws m n (call.AggMake bytes) r seats h run seat sits stays f given)
+
+  -- ---- its job is written
+
+  module _ (x : Client) (s : IsScript shelf x w) (run : Run) (f j : ℕ) (seat : Seat crew.Worker) (sits : slice_get seats run.worker ≡ Some seat) (given : IsGiven crew m seat run f)
+      (lies : lie_in crew.jobs (text m server j) ≡ true) (lends : lent_at m server j ≡ Some (job_of w s.text f)) where
+    abbrev desk : ℕ
+    desk = crew.desk run.worker
+
+    abbrev pipe : ℕ
+    pipe = given.ready.has.pipe
+
+    -- all of it lies in the pipe of its desk
+    begun : (k : ℕ) (h : OwnCall shelf crew m n (call.IolWrite (job_pipe run.worker) j) (reply.Count k) seats)
+        → ((p : ℕ) → p ≢ desk → pipe_at n p ≡ pipe_at m p) → descriptor n server run.from ≡ Some (on.ReadEnd pipe)
+        → IsPuttingOut crew n seat run (output_of shelf w s.lines) nothing_yet
+    begun k h stays reads =
+        let at = h.desks.by run.worker seat sits in
+        let puts = laws.the.own.write_pipe m n server (job_pipe run.worker) desk j (job_of w s.text f) (reply.Count k) h.order (h.desks.desks run.worker at.0) lends h.step in
+        let none = laws.workers.none m desk seat given.ready.free in
+        let left = own_things shelf crew laws m n (call.IolWrite (job_pipe run.worker) j) (reply.Count k) seats h run.worker seat sits in
+        let files = own_files shelf crew laws m n (call.IolWrite (job_pipe run.worker) j) (reply.Count k) seats h run.worker seat sits in
+        let few = h.fixed.low seat.by f (on.WriteEnd pipe) given.writes in
+        let short = short_job f w.query s.text few s.proper.0 (script_short s.text s.lines s.is_script) in
+        let there = lies_whole m n desk k (job_of w s.text f) puts none.empty short in
+        let empty = ap (λ (t : Text). lie_in crew.jobs t) none.empty in
+        let jobs = laws.labels.pipes crew.jobs m n (event.Call server (call.IolWrite (job_pipe run.worker) j)) (reply.Count k) desk h.step (λ u. lies) empty in
+        let reader = subst (λ d. (q : ℕ) → crew.jobs q ≡ true → may_read m d q ≡ true) (sym at.1) (h.fixed.read_jobs run.worker at.0) in
+        let job : HasJob n seat.by desk pipe f w.query s.text s.lines = record {
+          live = left.live none.live;
+          jobs = left.fds 0 (on.ReadEnd desk) none.jobs;
+          text = there.0;
+          readable = all_may crew.jobs n seat.by (pipe_at n desk).queue (λ q u. left.readers q (reader q u)) jobs;
+          short = there.1;
+          open_on = left.fds f (on.WriteEnd pipe) given.writes;
+          apart = given.ready.has.apart run.worker at.0;
+          is_script = s.is_script;
+          fds = omega (arith, few);
+        } in
+        let new = stays pipe (λ e. given.ready.has.apart run.worker at.0 (sym e)) ∙ given.ready.new in
+        let due = laws.workers.begins m n desk pipe f seat w.query s.text s.lines (event.Call server (call.IolWrite (job_pipe run.worker) j)) (reply.Count k) h.fixed.placed given.ready.free
+        h.step (other shelf crew laws m n (call.IolWrite (job_pipe run.worker) j) (reply.Count k) seats h run.worker seat sits) job (there.2 ∙ none.writing)
+        (ap (λ (x : Pipe). lie_in crew.pools x.queue) new) in
+        let outcomes = laws.due.outcomes n seat.by shelf.shows s.lines
+        (λ name. files.outcomes name ∙ subst (λ d. outcome_in m d name ≡ shelf.shows name) (sym at.1) (h.fixed.shows run.worker at.0 name)) in
+        record {
+          has = record { pipe = pipe; reads = reads; apart = given.ready.has.apart };
+          more = output_of shelf w s.lines;
+          puts_out = inl (subst (λ (l : List ℕ). crew.Due n desk pipe seat l)
+              (ap (λ (x : Pipe). bytes_of x.queue ++ output w.query s.lines (outcomes_in n seat.by s.lines)) new ∙ ap (λ os. output w.query s.lines os) outcomes) due);
+          to_come = (refl, refl);
+        }
+
+    abbrev Told : Step → Type 0
+    Told later = DeskAfter shelf crew m n c seats w (output_of shelf w s.lines) (Runs run (Hands j f)) (Runs run later) o after
+
+    pub hands : (r : Reply) → OwnCall shelf crew m n (call.IolWrite (job_pipe run.worker) j) r seats → ((p : ℕ) → p ≢ desk → pipe_at n p ≡ pipe_at m p)
+        → descriptor n server run.from ≡ Some (on.ReadEnd pipe) → (is_failing (Runs run (told_hands j f r)) ≡ true → ⊥) → o ≡ nothing_yet → after ≡ o
+        → Told (told_hands j f r)
+    hands r h stays reads kept fresh same = by r h kept
+      where
+        wrote : (r : Reply) → OwnCall shelf crew m n (call.IolWrite (job_pipe run.worker) j) r seats → WritesPipe m desk (job_of w s.text f) r n
+        wrote r h = laws.the.own.write_pipe m n server (job_pipe run.worker) desk j (job_of w s.text f) r h.order (h.desks.desks run.worker (h.desks.by run.worker seat sits).0) lends h.step
+
+        again : n ≡ m → Told (Hands j f)
+        again is = same_on shelf crew m n c seats w (output_of shelf w s.lines) o after run (Hands j f) (Hands j f) seat sits same (cut_same m c (Runs run (Hands j f)) (Runs run (Hands j f)) refl)
+            (subst (λ (u : State). IsGiven crew u seat run f × (lie_in crew.jobs (text u server j) ≡ true)) (sym is) (given, lies))
+
+        by : (r : Reply) → OwnCall shelf crew m n (call.IolWrite (job_pipe run.worker) j) r seats → (is_failing (Runs run (told_hands j f r)) ≡ true → ⊥) → Told (told_hands j f r)
+        by (reply.Count k) h kept = same_on shelf crew m n c seats w (output_of shelf w s.lines) o after run (Hands j f) (Lets j) seat sits same
+            (cut_same m c (Runs run (Hands j f)) (Runs run (Lets j)) refl)
+            (subst (λ (p : Progress). IsPuttingOut crew n seat run (output_of shelf w s.lines) p) (sym (same ∙ fresh)) (begun k h stays reads))
+        by (reply.Refused y) h kept = either (is_again y) kept
+          where
+            either : (b : Bool) → (is_failing (Runs run (if b then Hands j f else Lapses j)) ≡ true → ⊥) → Told (if b then Hands j f else Lapses j)
+            either true kept = again (wrote (reply.Refused y) h)
+            either false kept = absurd (kept refl)
+        by r h kept = absurd (wrote r h)

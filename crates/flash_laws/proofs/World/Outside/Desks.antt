@@ -1,0 +1,247 @@
+-- What is no call of the server or a worker leaves of the desks, and of the pipes of scripts that run.
+use Rattle.std.proofs.Common.{inl, inr, ◌≡◌, ◌≢◌, ◌<◌, ℕ, List, ap, ◌∙◌, refl, sym, subst, Option, Some, None, true, false, Bool, slice_get}
+use Rattle.std.specs.Prelude.{◌||◌}
+use Rattle.iol_core.specs.Numbered.{in_place}
+use Rattle.iol_core.specs.State.{State, descriptor, pipe_at}
+use Rattle.iol_core.specs.Run.{StepsTo}
+use Rattle.iol_core.specs.declared.descriptors.Descriptor.TheVariants as on
+use Rattle.iol_core.specs.declared.events.Event.{Event}
+use Rattle.iol_core.specs.declared.events.Event.TheVariants as event
+use Rattle.iol_core.specs.declared.events.Reply.{Reply}
+use Rattle.iol_laws.specs.Order.{IsOrderly}
+use Rattle.iol_laws.specs.Others.{HasNotEnd}
+use Rattle.iol_proc.specs.declared.seat.Seat.{Seat}
+use Rattle.flash_http.specs.Request.{Wanted}
+use Rattle.flash_cgi.specs.Beside.{is_call_of}
+use Rattle.flash_laws.specs.Client.{Client}
+use Rattle.flash_laws.specs.ClientFits.{FitsBy, FitsRun, Fits}
+use Rattle.flash_laws.specs.Conn.{Conn}
+use Rattle.flash_laws.specs.Crew.{Crew, IsFixedFor}
+use Rattle.flash_laws.specs.Past.{Past}
+use Rattle.flash_laws.specs.Places.{is_run_by, runs_at, is_free}
+use Rattle.flash_laws.specs.PutsOut.{PutsOut}
+use Rattle.flash_laws.specs.RunFits.{Progress, HasPipe, HasStep}
+use Rattle.flash_laws.specs.RunOffers.{is_stopping}
+use Rattle.flash_laws.specs.Running.{worker_domain, job_pipe}
+use Rattle.flash_laws.specs.Served.{FitsAt, AreAtDesks, AllFit}
+use Rattle.flash_laws.specs.Shelf.{Shelf}
+use Rattle.flash_laws.specs.Site.{server, KeepsSite}
+use Rattle.flash_laws.specs.Stages.{HasPipeOf, IsGiven, IsPuttingOut, Stage}
+use Rattle.flash_laws.specs.declared.running.Run.{Run}
+use Rattle.flash_laws.specs.declared.running.Step.{Step}
+use Rattle.flash_laws.specs.declared.running.Step.TheVariants.{Gives, Makes, Hands, Lets, Heads, Sending, Hears, Spills, Gathers, Frames, Wraps, Trims, Ended, Unholds, Stops, Unframes, Lasts, WrapsLast, TrimsLast, Unwraps, Returns, Lapses, Fails}
+use Rattle.flash_laws.specs.declared.running.Running.{Running}
+use Rattle.flash_laws.specs.declared.running.Running.TheVariants.{Awaits, Runs, Leaves, Closes}
+use Rattle.flash_laws.proofs.Conn.Answering.{some-inj}
+use Rattle.flash_laws.proofs.Lists.{clash, self, later_of}
+use Rattle.flash_laws.proofs.Site.Pasts.{or-left}
+use Rattle.flash_laws.proofs.Site.Sharing.{runs-one}
+use Rattle.flash_laws.proofs.Conn.Uses.{same-number}
+use Rattle.flash_laws.proofs.World.AllLaws.{AllLaws}
+use Rattle.flash_laws.proofs.World.Desk.Leaving.{LeavesOne, none-given, none-touched}
+
+-- an end names one pipe
+read-one : (p q : ℕ) → Some (on.ReadEnd p) ≡ Some (on.ReadEnd q) → p ≡ q
+read-one p q e = cc
+
+module _ (crew : Crew) (laws : AllLaws crew) where
+  -- a pipe of which whoever calls has no end is left
+  pub pipe-left : (m n : State) (e : Event) (r : Reply) (p : ℕ) → StepsTo m e r n
+      → ((d : ℕ) → is_call_of e d ≡ true → HasNotEnd m d (on.ReadEnd p))
+      → ((d : ℕ) → is_call_of e d ≡ true → HasNotEnd m d (on.WriteEnd p))
+      → ((pipe_at m p).reading || (pipe_at m p).writing) ≡ true → pipe_at n p ≡ pipe_at m p
+  pipe-left m n (event.Call d k) r p step reads writes there = laws.pipes.pipe m n d k r p step (reads d (self d)) (writes d (self d)) there
+  pipe-left m n (event.ConnNew q) r p step reads writes there = (laws.the.steps.leaves m n (event.ConnNew q) r step).pipes p refl
+  pipe-left m n (event.Arrive c bytes) r p step reads writes there = (laws.the.steps.leaves m n (event.Arrive c bytes) r step).pipes p refl
+  pipe-left m n (event.PeerClosed c w) r p step reads writes there = (laws.the.steps.leaves m n (event.PeerClosed c w) r step).pipes p refl
+  pipe-left m n (event.Transmit c max) r p step reads writes there = (laws.the.steps.leaves m n (event.Transmit c max) r step).pipes p refl
+  pipe-left m n event.Flush r p step reads writes there = (laws.the.steps.leaves m n event.Flush r step).pipes p refl
+  pipe-left m n event.DropClean r p step reads writes there = (laws.the.steps.leaves m n event.DropClean r step).pipes p refl
+
+  -- ---- a worker reads its jobs
+
+  free-reads : (m : State) (j : ℕ) (seat : Seat crew.Worker) → crew.Free m j seat → descriptor m seat.by 0 ≡ Some (on.ReadEnd j)
+  free-reads m j seat free = (laws.workers.none m j seat free).jobs
+
+  puts-reads : (m : State) (seat : Seat crew.Worker) (run : Run) (output : List ℕ) (o : Progress) → IsPuttingOut crew m seat run output o
+      → descriptor m seat.by 0 ≡ Some (on.ReadEnd (crew.desk run.worker))
+  puts-reads m seat run output o h = by h.puts_out
+    where
+      by : PutsOut crew.turns crew.pools crew.Free crew.Due m (crew.desk run.worker) h.has.pipe seat h.more
+          → descriptor m seat.by 0 ≡ Some (on.ReadEnd (crew.desk run.worker))
+      by (inl due) = laws.workers.reads m (crew.desk run.worker) h.has.pipe seat h.more due
+      by (inr there) = free-reads m (crew.desk run.worker) seat there.free
+
+  stage-reads : (m : State) (seat : Seat crew.Worker) (run : Run) (output : List ℕ) (o : Progress) (s : Step) → Stage crew m seat run output o s
+      → descriptor m seat.by 0 ≡ Some (on.ReadEnd (crew.desk run.worker))
+  stage-reads m seat run output o (Gives write) h = free-reads m (crew.desk run.worker) seat h.free
+  stage-reads m seat run output o (Makes f) h = free-reads m (crew.desk run.worker) seat h.ready.free
+  stage-reads m seat run output o (Hands j f) h = free-reads m (crew.desk run.worker) seat h.0.ready.free
+  stage-reads m seat run output o (Lets j) h = puts-reads m seat run output o h
+  stage-reads m seat run output o Heads h = puts-reads m seat run output o h
+  stage-reads m seat run output o (Sending d frame) h = puts-reads m seat run output o h
+  stage-reads m seat run output o (Hears held frame) h = puts-reads m seat run output o h
+  stage-reads m seat run output o (Spills a frame) h = puts-reads m seat run output o h
+  stage-reads m seat run output o (Gathers held size piece len frame) h = puts-reads m seat run output o h
+  stage-reads m seat run output o (Frames held) h = puts-reads m seat run output o h
+  stage-reads m seat run output o (Wraps held frame) h = puts-reads m seat run output o h
+  stage-reads m seat run output o (Trims held chunk len frame) h = puts-reads m seat run output o h
+  stage-reads m seat run output o (Ended a held frame) h = free-reads m (crew.desk run.worker) seat h.free
+  stage-reads m seat run output o (Unholds held frame) h = free-reads m (crew.desk run.worker) seat h.free
+  stage-reads m seat run output o (Stops held frame) h = free-reads m (crew.desk run.worker) seat h.free
+  stage-reads m seat run output o (Unframes frame held) h = free-reads m (crew.desk run.worker) seat h.free
+  stage-reads m seat run output o (Lasts held) h = free-reads m (crew.desk run.worker) seat h.free
+  stage-reads m seat run output o (WrapsLast held size frame) h = free-reads m (crew.desk run.worker) seat h.free
+  stage-reads m seat run output o (TrimsLast held chunk len frame) h = free-reads m (crew.desk run.worker) seat h.free
+  stage-reads m seat run output o (Unwraps frame chunk len) h = free-reads m (crew.desk run.worker) seat h.free
+  stage-reads m seat run output o (Returns write) h = absurd h
+  stage-reads m seat run output o (Lapses j) h = absurd h
+  stage-reads m seat run output o Fails h = absurd h
+
+  -- ---- nobody but the server and its worker writes to the pipe of a run, while its output is heard
+
+  module _ (m : State) (order : IsOrderly m) (seat : Seat crew.Worker) (run : Run) (p : ℕ) (opens : descriptor m server run.from ≡ Some (on.ReadEnd p))
+      (d : ℕ) (not_server : d ≢ server) (not_worker : d ≢ seat.by) where
+    -- the pipe is the one that the server reads
+    same-pipe : (has : HasPipeOf crew m run) → p ≡ has.pipe
+    same-pipe has = read-one p has.pipe (sym opens ∙ has.reads)
+
+    had-writes : (write : ℕ) → HasPipe m run write → HasNotEnd m d (on.WriteEnd p)
+    had-writes write h g is =
+        not_server (order.one d server g write (on.WriteEnd p) refl is (subst (λ q. descriptor m server write ≡ Some (on.WriteEnd q)) (sym (read-one p h.pipe (sym opens ∙ h.read_end))) h.write_end)).0
+
+    given-writes : (f : ℕ) → IsGiven crew m seat run f → HasNotEnd m d (on.WriteEnd p)
+    given-writes f h g is = not_worker (order.one d seat.by g f (on.WriteEnd p) refl is (subst (λ q. descriptor m seat.by f ≡ Some (on.WriteEnd q)) (sym (same-pipe h.ready.has)) h.writes)).0
+
+    puts-writes : (output : List ℕ) (o : Progress) → IsPuttingOut crew m seat run output o → HasNotEnd m d (on.WriteEnd p)
+    puts-writes output o h = by h.puts_out
+      where
+        by : PutsOut crew.turns crew.pools crew.Free crew.Due m (crew.desk run.worker) h.has.pipe seat h.more → HasNotEnd m d (on.WriteEnd p)
+        by (inl due) g is =
+            let writes = laws.workers.writes m (crew.desk run.worker) h.has.pipe seat h.more due in
+            not_worker (order.one d seat.by g writes.0 (on.WriteEnd p) refl is (subst (λ q. descriptor m seat.by writes.0 ≡ Some (on.WriteEnd q)) (sym (same-pipe h.has)) writes.1)).0
+        by (inr there) g is = clash (pipe_at m p).writing (order.all_stand d g (on.WriteEnd p) is) (subst (λ q. (pipe_at m q).writing ≡ false) (sym (same-pipe h.has)) there.closed)
+
+    stage-writes : (job : ℕ → List ℕ) (w : Wanted) (output : List ℕ) (o : Progress) (s : Step) → HasStep job m w o run s → Stage crew m seat run output o s
+        → is_stopping (Runs run s) ≡ false → HasNotEnd m d (on.WriteEnd p)
+    stage-writes job w output o (Gives write) has h going = had-writes write has.0
+    stage-writes job w output o (Makes f) has h going = given-writes f h
+    stage-writes job w output o (Hands j f) has h going = given-writes f h.0
+    stage-writes job w output o (Lets j) has h going = puts-writes output o h
+    stage-writes job w output o Heads has h going = puts-writes output o h
+    stage-writes job w output o (Sending t frame) has h going = puts-writes output o h
+    stage-writes job w output o (Hears held frame) has h going = puts-writes output o h
+    stage-writes job w output o (Spills a frame) has h going = puts-writes output o h
+    stage-writes job w output o (Gathers held size piece len frame) has h going = puts-writes output o h
+    stage-writes job w output o (Frames held) has h going = puts-writes output o h
+    stage-writes job w output o (Wraps held frame) has h going = puts-writes output o h
+    stage-writes job w output o (Trims held chunk len frame) has h going = puts-writes output o h
+    stage-writes job w output o (Ended a held frame) has h going = absurd (cc (going))
+    stage-writes job w output o (Unholds held frame) has h going = absurd (cc (going))
+    stage-writes job w output o (Stops held frame) has h going = absurd (cc (going))
+    stage-writes job w output o (Unframes frame held) has h going = absurd (cc (going))
+    stage-writes job w output o (Lasts held) has h going = absurd (cc (going))
+    stage-writes job w output o (WrapsLast held size frame) has h going = absurd (cc (going))
+    stage-writes job w output o (TrimsLast held chunk len frame) has h going = absurd (cc (going))
+    stage-writes job w output o (Unwraps frame chunk len) has h going = absurd (cc (going))
+    stage-writes job w output o (Returns write) has h going = absurd h
+    stage-writes job w output o (Lapses j) has h going = absurd h
+    stage-writes job w output o Fails has h going = absurd h
+
+-- ---- all desks, and each client
+
+abbrev of : Conn → Option Running → List ℕ → Client
+of c run script = record { conn = c; run = run; script = script }
+
+module _ (shelf : Shelf) (crew : Crew) (laws : AllLaws crew) where
+  -- the worker of a client reads its jobs
+  run-reads : (m : State) (came sent : List ℕ) (fd c : ℕ) (x : Conn) (run : Option Running) (script : List ℕ) (seats : List (Seat crew.Worker)) (j : ℕ)
+      (seat : Seat crew.Worker) → is_run_by (of x run script) j ≡ true → Fits shelf crew m came sent fd c (of x run script) seats → slice_get seats j ≡ Some seat
+      → descriptor m seat.by 0 ≡ Some (on.ReadEnd (crew.desk j))
+  run-reads m came sent fd c x None script seats j seat runs f sits = absurd (cc (runs))
+  run-reads m came sent fd c x (Some Awaits) script seats j seat runs f sits = absurd (cc (runs))
+  run-reads m came sent fd c x (Some (Runs run s)) script seats j seat runs f sits =
+      let here : run.worker ≡ j = same-number run.worker j runs in
+      let mine : f.desk.seat ≡ seat = some-inj f.desk.seat seat (sym f.desk.sits ∙ (ap (λ k. slice_get seats k) here ∙ sits)) in
+      subst (λ k. descriptor m seat.by 0 ≡ Some (on.ReadEnd (crew.desk k))) here
+      (subst (λ (t : Seat crew.Worker). descriptor m t.by 0 ≡ Some (on.ReadEnd (crew.desk run.worker))) mine (stage-reads crew laws m f.desk.seat run _ f.so_far s f.desk.stage))
+  run-reads m came sent fd c x (Some (Leaves d)) script seats j seat runs f sits = absurd (cc (runs))
+  run-reads m came sent fd c x (Some Closes) script seats j seat runs f sits = absurd (cc (runs))
+
+  module _ (m n : State) (p : Past) (clients : List (Option Client)) (seats : List (Seat crew.Worker)) (e : Event) (r : Reply) (order : IsOrderly m)
+      (fixed : IsFixedFor shelf crew m) (site : KeepsSite m n) (step : StepsTo m e r n) (not_server : is_call_of e server ≡ false)
+      (not_worker : (k : ℕ) → k < crew.count → is_call_of e (worker_domain k) ≡ false) (all : AllFit shelf crew m p clients seats) where
+    -- whoever calls is neither
+    other-than : (d q : ℕ) → is_call_of e d ≡ true → is_call_of e q ≡ false → d ≢ q
+    other-than d q is none same = clash (is_call_of e q) (subst (λ z. is_call_of e z ≡ true) same is) none
+
+    -- each worker reads its jobs
+    worker-reads : (k : ℕ) (seat : Seat crew.Worker) → slice_get seats k ≡ Some seat → descriptor m seat.by 0 ≡ Some (on.ReadEnd (crew.desk k))
+    worker-reads k seat sits = by (is_free clients k) refl
+      where
+        at-place : (fd : ℕ) (o : Option Client) → in_place clients fd ≡ o → runs_at k o ≡ true → descriptor m seat.by 0 ≡ Some (on.ReadEnd (crew.desk k))
+        at-place fd None is runs = absurd (cc (runs))
+        at-place fd (Some x) is runs =
+            let f = all.each fd x is in
+            run-reads m (p.came f.conn) (p.sent f.conn) fd f.conn x.conn x.run x.script seats k seat runs f.fits sits
+
+        by : (b : Bool) → is_free clients k ≡ b → descriptor m seat.by 0 ≡ Some (on.ReadEnd (crew.desk k))
+        by true is = free-reads crew laws m (crew.desk k) seat (all.free k seat sits is)
+        by false is = let one = runs-one clients k is in at-place one.place (in_place clients one.place) refl one.passes
+
+    -- so whoever calls has no end of a desk's pipe, and leaves it
+    pub desk-left : (k : ℕ) → k < crew.count → pipe_at n (crew.desk k) ≡ pipe_at m (crew.desk k)
+    desk-left k lt = pipe-left crew laws m n e r (crew.desk k) step reads writes (later_of (pipe_at m (crew.desk k)).reading (pipe_at m (crew.desk k)).writing (order.all_stand server (job_pipe k) (on.WriteEnd (crew.desk k)) (all.desks.desks k lt)))
+      where
+        reads : (d : ℕ) → is_call_of e d ≡ true → HasNotEnd m d (on.ReadEnd (crew.desk k))
+        reads d is g there =
+            let sits = all.desks.seated k lt in
+            other-than d (worker_domain k) is (not_worker k lt) ((order.one d sits.0.by g 0 (on.ReadEnd (crew.desk k)) refl there (worker-reads k sits.0 sits.1)).0 ∙ (all.desks.by k sits.0 sits.1).1)
+
+        writes : (d : ℕ) → is_call_of e d ≡ true → HasNotEnd m d (on.WriteEnd (crew.desk k))
+        writes d is g there = other-than d server is not_server (order.one d server g (job_pipe k) (on.WriteEnd (crew.desk k)) refl there (all.desks.desks k lt)).0
+
+    -- nor has it an end of the pipe of a run, while its output is heard
+    run-left : (fd c : ℕ) (x : Client) (run : Run) (s : Step) (q : ℕ) → Fits shelf crew m (p.came c) (p.sent c) fd c x seats → x.run ≡ Some (Runs run s)
+        → descriptor m server run.from ≡ Some (on.ReadEnd q) → is_stopping (Runs run s) ≡ false → pipe_at n q ≡ pipe_at m q
+    run-left fd c x run s q fits runs opens going = pipe-left crew laws m n e r q step reads writes (or-left (pipe_at m q).reading (pipe_at m q).writing (order.all_stand server run.from (on.ReadEnd q) opens))
+      where
+        f : FitsRun shelf crew m (p.came c) (p.sent c) fd c x (Runs run s) seats
+        f = subst (λ (o : Option Running). FitsBy shelf crew o m (p.came c) (p.sent c) fd c x seats) runs fits
+
+        in_domain : (run.worker < crew.count) × (f.desk.seat.by ≡ worker_domain run.worker)
+        in_domain = all.desks.by run.worker f.desk.seat f.desk.sits
+
+        reads : (d : ℕ) → is_call_of e d ≡ true → HasNotEnd m d (on.ReadEnd q)
+        reads d is g there = other-than d server is not_server (order.one d server g run.from (on.ReadEnd q) refl there opens).0
+
+        writes : (d : ℕ) → is_call_of e d ≡ true → HasNotEnd m d (on.WriteEnd q)
+        writes d is = stage-writes crew laws m order f.desk.seat run q opens d (other-than d server is not_server)
+            (λ same. other-than d (worker_domain run.worker) is (not_worker run.worker in_domain.0) (same ∙ in_domain.1))
+            _ f.wanted _ f.so_far s f.has.1 f.desk.stage going
+
+    -- a client has what it had
+    pub one-left : (fd : ℕ) (x : Client) → FitsAt shelf crew m p fd x seats → LeavesOne crew m n e fd x
+    one-left fd x at = record {
+      own = none-touched m e server fd not_server;
+      aggs = λ a used. none-given e server a not_server;
+      fds = λ g used. none-touched m e server g not_server;
+      site = site;
+      others = λ k lt runs. not_worker k lt;
+      desks = λ k lt runs. desk-left k lt;
+      pipe = λ run s q runs opens has apart going. run-left fd at.conn x run s q at.fits runs opens going;
+    }
+
+    -- a worker that is free stays so
+    pub free-left : (k : ℕ) (seat : Seat crew.Worker) → slice_get seats k ≡ Some seat → is_free clients k ≡ true → crew.Free n (crew.desk k) seat
+    free-left k seat sits free =
+        let in_domain = all.desks.by k seat sits in
+        laws.workers.free_others m n (crew.desk k) seat e r fixed.placed step (subst (λ d. is_call_of e d ≡ false) (sym in_domain.1) (not_worker k in_domain.0)) (desk-left k in_domain.0) (all.free k seat sits free)
+
+    -- and all sit where they sat
+    pub desks-left : AreAtDesks crew n seats
+    desks-left = record {
+      seated = all.desks.seated;
+      by = all.desks.by;
+      desks = λ k lt. (laws.the.steps.leaves m n e r step).fds server (job_pipe k) (on.WriteEnd (crew.desk k)) (all.desks.desks k lt) (none-touched m e server (job_pipe k) not_server);
+    }

@@ -1,0 +1,11 @@
+pub mod Apart
+pub mod Seated
+pub mod Desks
+pub mod Standing
+pub mod NewSite
+pub mod SiteFixed
+pub mod SiteSeats
+pub mod SiteWorld
+pub mod Starting
+pub mod HostedWorld
+pub mod Harmless

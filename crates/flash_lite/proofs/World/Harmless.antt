@@ -1,0 +1,156 @@
+-- Harmless choices are mild in a tied world, and what holds of a run that ends with turns holds of what was before them.
+use Rattle.std.proofs.Common.{◌≡◌, ◌<◌, ℕ, zero, suc, ◌+◌, ◌%◌, List, [], ◌∷◌, ◌++◌, length, map, ap, ◌∙◌, refl, sym, subst, arith, Some, true, false, Bool, slice_get, slice_index, append-nil, append_assoc}
+use Rattle.std.specs.List.{AllByRecursion}
+use Rattle.iol_core.specs.State.{State, conn_at}
+use Rattle.iol_core.specs.Text.{bytes_of}
+use Rattle.iol_core.specs.declared.events.Call.{Call}
+use Rattle.iol_core.specs.declared.events.Call.TheVariants as call
+use Rattle.iol_core.specs.declared.events.Event.TheVariants as event
+use Rattle.iol_core.specs.declared.events.Reply.{Reply}
+use Rattle.iol_laws.specs.Frame.{changes_files, admits_to}
+use Rattle.iol_proc.specs.Idle.{Went, rounds}
+use Rattle.iol_proc.specs.Smooth.{AreSmooth}
+use Rattle.iol_proc.specs.Turns.{Account}
+use Rattle.iol_proc.specs.World.{Stage, copying, WorldStep, WorldRun}
+use Rattle.iol_proc.specs.declared.choice.Choice.{Choice}
+use Rattle.iol_proc.specs.declared.choice.Choice.TheVariants as choice
+use Rattle.iol_proc.specs.declared.seat.Seat.{Seat}
+use Rattle.flash_laws.specs.Calm.{IsNobody, IsMild, AreMild}
+use Rattle.flash_laws.specs.Crew.{Crew}
+use Rattle.flash_laws.specs.Past.{Past}
+use Rattle.flash_laws.specs.Rounds.{in_rounds}
+use Rattle.flash_laws.specs.Served.{AreAnswered}
+use Rattle.flash_laws.specs.Shelf.{Shelf, IsAnswer}
+use Rattle.flash_laws.specs.Site.{server, SiteStays}
+use Rattle.flash_laws.specs.Tie.{past_of, Actor, Serving, actor_turns}
+use Rattle.flash_laws.specs.World.{Tied, IsServing, as_actor, StepKeepsTie}
+use Rattle.flash_laws.specs.WorldDone.{IsDone}
+use Rattle.flash_laws.specs.WorldHost.{IsRight}
+use Rattle.flash_laws.proofs.Conn.Answering.{some-inj}
+use Rattle.flash_laws.proofs.Site.Pasts.{past-turn, even-more}
+use Rattle.flash_lite.specs.Harmless.{IsHarmless, leaves_site}
+
+-- ---- a call that leaves the site
+
+unset : false ≡ true → ⊥
+unset is = absurd (cc)
+
+files-stay : (m : State) (d : ℕ) (k : Call) → leaves_site k ≡ true → changes_files m (event.Call d k) ≡ false
+files-stay m d (call.FileNew name pool) is = absurd (unset is)
+files-stay m d (call.IolWrite fd agg) is = absurd (unset is)
+files-stay m d (call.Write fd bytes) is = absurd (unset is)
+files-stay m d k is = refl
+
+none-admitted : (d : ℕ) (k : Call) (p : ℕ) → leaves_site k ≡ true → admits_to (event.Call d k) p ≡ false
+none-admitted d (call.PoolAdmit pool domain) p is = absurd (unset is)
+none-admitted d k p is = refl
+
+-- ---- a domain behind those of the processes
+
+seat-there : {W : Type 0} (workers : List (Seat W)) (i : ℕ) (s : Seat (Actor W)) → slice_get (map (λ w. as_actor w) workers) i ≡ Some s
+    → (seat : Seat W) × (slice_get workers i ≡ Some seat) × (s.by ≡ seat.by)
+seat-there [] i s is = absurd (cc (is))
+seat-there {W = W} (x ∷ xs) zero s is = (x, refl, ap (λ (v : Seat (Actor W)). v.by) (sym (some-inj (as_actor x) s is)))
+seat-there (x ∷ xs) (suc i) s is = seat-there xs i s is
+
+smooth-parts : (x : Choice) (r : Reply) (xs : List Choice) (rs : List Reply)
+    → AreSmooth (x ∷ xs) (r ∷ rs) → AreSmooth (x ∷ []) (r ∷ []) × AreSmooth xs rs
+smooth-parts (choice.Turn by) r xs rs smooth = ((smooth.0, tt), smooth.1)
+smooth-parts (choice.Outside e) r xs rs smooth = (tt, smooth)
+
+module _ (shelf : Shelf) (crew : Crew) where
+  sits-below : (xs : List Choice) (rs : List Reply) (w : Stage State (Actor crew.Worker)) → Tied shelf crew xs rs w
+      → (i : ℕ) (s : Seat (Actor crew.Worker)) → slice_get w.seats i ≡ Some s → s.by < server + crew.count + 1
+  sits-below xs rs w tied i s is = below i (sym (ap (λ (l : List (Seat (Actor crew.Worker))). slice_get l i) tied.seated.seats) ∙ is)
+    where
+      first : Seat (Actor crew.Worker)
+      first = record { by = server; process = Serving tied.seated.state; last = tied.seated.last }
+
+      below : (i : ℕ) → slice_get (first ∷ map (λ v. as_actor v) tied.seated.workers) i ≡ Some s → s.by < server + crew.count + 1
+      below zero is = (let e : s.by ≡ server = ap (λ (v : Seat (Actor crew.Worker)). v.by) (sym (some-inj first s is)) in omega (arith, e))
+      below (suc i) is =
+          let at = seat-there tied.seated.workers i s is in
+          let desk = tied.seated.serves.fit.desks.by i at.0 at.1 in
+          let few : i < crew.count = desk.0 in
+          let own : s.by ≡ i + 2 = at.2 ∙ desk.1 in
+          omega (arith, few, own)
+
+  module _ (stays : SiteStays) where
+    step-mild : (xs : List Choice) (rs : List Reply) (x : Choice) (r : Reply) (w after : Stage State (Actor crew.Worker))
+        → WorldStep copying (actor_turns in_rounds crew.turns) w x r after → IsHarmless crew.count x → Tied shelf crew xs rs w → IsMild w x after
+    step-mild xs rs (choice.Outside (event.Call d k)) r w after step harmless tied = (
+      nobody,
+      stays shelf.finds w.machine after.machine (event.Call d k) r tied.fixed.site step.step
+          (files-stay w.machine d k harmless.1) (λ p. none-admitted d k p harmless.1),
+    )
+      where
+        nobody : IsNobody w.seats d
+        nobody i s sits same =
+            let low : s.by < server + crew.count + 1 = sits-below xs rs w tied i s sits in
+            let high : server + crew.count < d = harmless.0 in
+            let e : s.by ≡ d = same in
+            absurd (omega (arith, low, high, e))
+    step-mild xs rs x r w after step harmless tied = tt
+
+    pub all-mild : (keeps : StepKeepsTie in_rounds crew) (past xs : List Choice) (ps rs : List Reply)
+        (w after : Stage State (Actor crew.Worker)) → (run : WorldRun copying (actor_turns in_rounds crew.turns) w xs rs after)
+        → Tied shelf crew past ps w → AreSmooth xs rs → AllByRecursion (λ x. IsHarmless crew.count x) xs
+        → AreMild (actor_turns in_rounds crew.turns) w xs rs after run
+    all-mild keeps past [] ps rs w after run tied smooth harmless = tt
+    all-mild keeps past (x ∷ xs) ps [] w after run tied smooth harmless = tt
+    all-mild keeps past (x ∷ xs) ps (r ∷ rs) w after run tied smooth harmless =
+        let parts = smooth-parts x r xs rs smooth in
+        let mild = step-mild past ps x r w run.0 run.1 harmless.0 tied in (
+          mild,
+          all-mild keeps (past ++ x ∷ []) xs (ps ++ r ∷ []) rs run.0 after run.2
+              (keeps shelf past ps x r w run.0 run.1 mild parts.0 tied) parts.1 harmless.1,
+        )
+
+-- ---- the turns in rounds bring nothing in
+
+past-rounds : (ds : List ℕ) (i : ℕ) (xs : List Choice) (rs : List Reply) (ts : List Went) → length xs ≡ length rs
+    → past_of (xs ++ rounds ds i (length ts)) (rs ++ map (λ t. t.1) ts) ≡ past_of xs rs
+past-rounds ds i xs rs [] even = ap (λ (l : List Choice). past_of l (rs ++ [])) (append-nil xs) ∙ ap (λ (l : List Reply). past_of xs l) (append-nil rs)
+past-rounds ds i xs rs (t ∷ ts) even =
+    let by : ℕ = slice_index ds (i % length ds) in
+    let rest : List Choice = rounds ds (suc i) (length ts) in
+    let told : List Reply = map (λ u. u.1) ts in
+    ap (λ (l : List Choice). past_of l (rs ++ t.1 ∷ told)) (sym (append_assoc xs (choice.Turn by ∷ []) rest))
+    ∙ (ap (λ (l : List Reply). past_of ((xs ++ choice.Turn by ∷ []) ++ rest) l) (sym (append_assoc rs (t.1 ∷ []) told))
+    ∙ (past-rounds ds (suc i) (xs ++ choice.Turn by ∷ []) (rs ++ t.1 ∷ []) ts (even-more xs rs (choice.Turn by) t.1 even) ∙ past-turn xs rs by t.1 even))
+
+pub run-even : {P : Type 0} (turns : Account P) (xs : List Choice) (rs : List Reply) (w after : Stage State P) → WorldRun copying turns w xs rs after
+    → length xs ≡ length rs
+run-even turns [] [] w after run = refl
+run-even turns (x ∷ xs) (r ∷ rs) w after run = ap suc (run-even turns xs rs run.0 after run.2)
+run-even turns [] (r ∷ rs) w after run = absurd run
+run-even turns (x ∷ xs) [] w after run = absurd run
+
+module _ (shelf : Shelf) (crew : Crew) where
+  abbrev Whole : State → Past → Type 0
+  Whole m p = (c : ℕ) → p.net c ≡ true → (conn_at m c).closed ≡ true → p.gone c ≡ false
+      → IsAnswer shelf (p.came c) (p.sent c ++ bytes_of (conn_at m c).outgoing)
+
+  -- what is right of a run that ends with turns is so of what was before them
+  pub right-before : (ds : List ℕ) (xs : List Choice) (rs : List Reply) (ts : List Went) (idle : Bool) (after : Stage State (Actor crew.Worker))
+      → length xs ≡ length rs → IsRight crew shelf (xs ++ rounds ds 0 (length ts)) (rs ++ map (λ t. t.1) ts) idle after
+      → IsRight crew shelf xs rs idle after
+  right-before ds xs rs ts idle after even right =
+      let same = past-rounds ds 0 xs rs ts even in
+      let s = right.tied.seated in record {
+        answered = subst (λ (p : Past). AreAnswered shelf crew after.machine p) same right.answered;
+        whole = subst (λ (p : Past). Whole after.machine p) same right.whole;
+        tied = record {
+          even = even;
+          order = right.tied.order;
+          fixed = right.tied.fixed;
+          seated = record {
+            state = s.state;
+            last = s.last;
+            workers = s.workers;
+            seats = s.seats;
+            serves = subst (λ (p : Past). IsServing shelf crew after.machine p s.state s.last s.workers) same s.serves;
+          };
+        };
+        done = λ is. subst (λ (p : Past). IsDone shelf crew.count after.machine p s.state.clients) same (right.done is);
+      }
