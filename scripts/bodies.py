@@ -1,4 +1,5 @@
 """Which function's body a text of a crate stands in, by the layout of `rt fmt`."""
+import os
 import re
 
 import tree
@@ -38,7 +39,7 @@ def bodies(text):
 
 def function_at(room, file, old):
     """The function in whose body a text of a file stands, by the end of its name in a check, or nothing."""
-    if not file.startswith("src/") or not file.endswith(".rt"):
+    if not file.startswith("src/") or not file.endswith(".rt") or not os.path.isfile(f"{room}/{file}"):
         return None
     text = tree.read(f"{room}/{file}")
     first = text.count("\n", 0, text.find(old))
@@ -54,3 +55,15 @@ def functions_of(room, edit):
     """The functions that an edit changes, if it changes nothing but their bodies."""
     found = {function_at(room, file, old) for file, old, _ in edit.changes}
     return frozenset() if None in found else frozenset(found)
+
+
+def in_batches(functions, most):
+    """The edits that change the bodies of these functions, at most so many at a time, no two in the same function."""
+    found = []
+    for edit, own in functions.items():
+        fits = (it for it in found if len(it) < most and not any(own & functions[other] for other in it))
+        batch = next(fits, None)
+        if batch is None:
+            found.append(batch := [])
+        batch.append(edit)
+    return found
