@@ -23,7 +23,8 @@ use Rattle.iolite.specs.Printed.{answer_text, lines_of, newline}
 use Rattle.iolite.specs.Script.{Asks, AskInOrder, IsJudged, Says, asking, commands, without_blank}
 
 -- A new system, as a script sets it up: domain 1 and nothing else, over pages that were never used, of the sizes named or of
--- the default ones, over a store in memory that has what the script stored.
+-- the default ones, over a store in memory that has what the script stored. No sum is remembered, and nothing is in memory that
+-- could give way.
 pub record IsNew (setup : Setup) (s : SystemState) : Type 0 where
   pub machine : machine_of s ≡ new_state (slots_of setup.slots)
   pub store : s.disk ≡ record { slots = setup.slots; failures = 0; honest = true; told = lengths_of setup.slots }
@@ -32,6 +33,7 @@ pub record IsNew (setup : Setup) (s : SystemState) : Type 0 where
   pub limit : s.kernel.store.arena.limit ≡ (unwrap_or setup.config DEFAULT).gen_limit
   pub sums : s.kernel.sums.entries ≡ []
   pub sum_limit : s.kernel.sums.limit ≡ (unwrap_or setup.config DEFAULT).sums
+  pub orders : s.kernel.cache.orders ≡ []
 
 -- the report counts what lies in the system
 pub record Counts (h : KernelState) (r : Report) : Type 0 where

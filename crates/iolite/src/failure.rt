@@ -1,7 +1,9 @@
 //! Why a program ends without doing all that it was asked for.
-ghost use Rattle.std.specs.Prelude.{◌≡◌};
+ghost use Rattle.std.specs.Prelude.{◌≡◌, ◌⊎◌, IfErr, OnOk};
+ghost use Rattle.iolite.specs.Failure.{status_of};
 
 use std::fmt;
+use std::io::Write;
 
 /// Why a program ends early. It prints as the line that goes to standard error.
 #[derive(Clone, Copy, Debug, PartialEq, Eq)]
@@ -23,8 +25,6 @@ pub enum Failure {
 }
 
 impl Failure {
-    ghost use Rattle.iolite.specs.Failure.{status_of};
-
     /// The exit status of a program that ends so.
     pub fn status(self) -> u8
         ensures { result ≡ status_of self }
@@ -32,6 +32,21 @@ impl Failure {
         match self {
             Failure::BadScript | Failure::BadLine { .. } => 2,
             Failure::Input | Failure::Output | Failure::Memory => 3,
+        }
+    }
+}
+
+/// The exit status of a program that ended so: 0, or that of its failure, which is told in one line where that can be written.
+pub fn status_after<E: Write>(ended: Result<(), Failure>, errors: &mut E) -> u8
+    ensures statuses { (result ≡ 0) ⊎ ((result ≡ 2) ⊎ (result ≡ 3)) }
+    ensures ok { OnOk ended (result ≡ 0) }
+    ensures failed { IfErr ended (λ failure. result ≡ status_of failure) }
+{
+    match ended {
+        Ok(()) => 0,
+        Err(failure) => {
+            let _ = writeln!(errors, "{failure}");
+            failure.status()
         }
     }
 }

@@ -22,9 +22,11 @@ mod words;
 mod writing;
 
 use commands::{Command, read_command};
+use failure::status_after;
 use flash_folder::fault::{Fault, ended};
 use flash_folder::looping::loop_on;
 use flash_folder::serving::serve;
+use replay::replay;
 use std::alloc::AllocError;
 use std::env;
 use std::io::{ErrorKind, Write};
@@ -60,7 +62,8 @@ fn run(rt: &HostRuntime, words: &[String]) -> u8
     let (mut output, mut errors) = (rt.stdout(), rt.stderr());
     match read_command(words) {
         Some(Command::Replay) => {
-            replay::replay(rt.alloc(), &mut rt.stdin(), &mut output, &mut errors)
+            let replayed = replay(rt.alloc(), &mut rt.stdin(), &mut output);
+            status_after(replayed, &mut errors)
         }
         Some(Command::Serve { port, root, count }) => {
             serve(rt, port, root, count, &mut output, &mut errors)

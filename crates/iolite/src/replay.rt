@@ -32,40 +32,17 @@ pub enum Answer {
     Report(Report),
 }
 
-/// Runs the script that the input holds, and prints a reply a line. The answer is the exit status: 0, or 2 for a bad
-/// script or line, or 3 where input, output or memory failed.
+/// Runs the script that the input holds, and prints a reply a line, up to the first failure.
 ///
-/// The script is read and judged whole before the first event, so a bad one prints nothing on `output`. Then each line is read
-/// once more, and answered by the system that the script sets up before the next one is. Answers are printed in pieces of some
-/// 8 KiB. Where the output fails, what was printed is a beginning of them; where a line finds no memory, the answers to all lines
-/// before it are printed first. What goes wrong is told on `errors` in one line, and nothing is told where that cannot be written.
-pub fn replay<R: Read, W: Write, E: Write>(
+/// The script is read and judged whole before the first event, so a bad one prints nothing. Then each line is read once more,
+/// and answered by the system that the script sets up before the next one is. Answers are printed in pieces of some 8 KiB. Where
+/// the output fails, what was printed is a beginning of them; where a line finds no memory, the answers to all lines before it
+/// are printed first.
+pub fn replay<R: Read, W: Write>(
     alloc: Global,
     input: &mut R,
     output: &mut W,
-    errors: &mut E,
-) -> u8
-    ensures statuses { (result ≡ 0) ⊎ (result ≡ 2) ⊎ (result ≡ 3) }
-    ensures bad_script { result ≡ 2 → IfSome (R.remaining input.old) IsBadScript }
-    ensures bad_script_prints_nothing { result ≡ 2 → output.new ≡ output.old }
-    ensures no_script { IfSome (R.remaining input.old)
-        (λ given. ¬ (IsScriptText given) → result ≢ 0) }
-    ensures begun { (output.new ≡ output.old) ⊎ IfSome (R.remaining input.old)
-        (λ given. Begun given (W.contents output.old) (W.contents output.new)) }
-    ensures replayed { result ≡ 0 → IfSome (R.remaining input.old)
-        (λ given. Replayed given (W.contents output.old) (W.contents output.new)) }
-{
-    match run(alloc, input, output) {
-        Ok(()) => 0,
-        Err(failure) => {
-            let _ = writeln!(errors, "{failure}");
-            failure.status()
-        }
-    }
-}
-
-/// Does the work of `replay`, up to the first failure.
-fn run<R: Read, W: Write>(alloc: Global, input: &mut R, output: &mut W) -> Result<(), Failure>
+) -> Result<(), Failure>
     ensures untouched { IfErr result (λ failure. status_of failure ≡ 2 → output.new ≡ output.old) }
     ensures ok { OnOk result (IfSome (R.remaining input.old) IsScriptText) }
     ensures bad { IfErr result (λ failure. status_of failure ≡ 2 →

@@ -30,4 +30,5 @@ returns-in-Ok-clause-new c =
       limit = e.limit ∙ ap (λ (k : Config). k.gen_limit) c.unwrap_or-config.ensures;
       sums = e.sums;
       sum_limit = e.sum_limit ∙ ap (λ (k : Config). k.sums) c.unwrap_or-config.ensures;
+      orders = e.orders;
     }

@@ -2,7 +2,7 @@ use Rattle.std.proofs.Common.{inl, inr, ℕ, List, subst, string_bytes}
 use Rattle.std.specs.Prelude.{OnOk}
 use Rattle.iolite.specs.Answers.{Begun, BegunWhole, Replayed}
 use Rattle.iolite.proofs.Answered.{bad_given, bad_input, bad_text, of_given, on_given}
-use Rattle.iolite.proofs.replay.run.Goals as goal
+use Rattle.iolite.proofs.replay.replay.Goals as goal
 
 pub returns-in-Err-clause-bad : goal.returns-in-Err-clause-bad
 returns-in-Err-clause-bad g c = bad_input _ (g.R.Read.remaining c.args.input.now) _ c.in-Err.ensures.error c.in-Err.ensures.bad
