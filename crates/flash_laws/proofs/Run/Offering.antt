@@ -42,7 +42,7 @@ use Rattle.flash_laws.proofs.Run.Nearing.{rank, nears}
 use Rattle.flash_laws.proofs.Run.Parts as parts
 use Rattle.flash_laws.proofs.Run.Parts.{no-position, continued, goes-on}
 use Rattle.flash_laws.proofs.Run.ReadsOn.{reads_on}
-use Rattle.flash_laws.proofs.Run.Stays.{run_stays, hired-on}
+use Rattle.flash_laws.proofs.Run.Stays.{run_stays, hired-on, write-elsewhere}
 use Rattle.flash_laws.proofs.Run.Takes.{takes, breaks, fails, in_turn}
 use Rattle.flash_laws.proofs.Run.Steps as acts
 use Rattle.flash_laws.proofs.Run.Stops as stopping
@@ -288,7 +288,7 @@ given steps own job m n fd worker w o run write f heard has step = (
   (
     has.1.0.pipe,
     (steps.leaves m n (event.Call server (call.GiveFd write (worker_domain run.worker))) (reply.Fd f) step).fds server run.from (on.ReadEnd has.1.0.pipe) has.1.0.read_end
-        (acts.write-elsewhere m run write has.1.0),
+        (write-elsewhere m run write has.1.0),
     (own.gives_fd m n server write (worker_domain run.worker) (on.WriteEnd has.1.0.pipe) (reply.Fd f) has.1.0.write_end step).open_on,
   ),
 )
