@@ -75,7 +75,7 @@ module _ (old new : SystemState) (e : Event) (r : Reply) (safe : IsSafe old) (do
     asked = does.asked;
     room = does.room;
     no_room = does.no_room;
-    met = event_met old new e r does.late does.refused;
+    without_room = event_met old new e r does.late does.refused;
     early = λ is. (let same = does.early is in ap (λ (d : Disk). system_of new.kernel d) same.1 ∙ ap (λ (h : KernelState). system_of h old.disk) same.0);
     uncached = does.uncached;
     refused = λ unused was. ap (λ (d : Disk). system_of new.kernel d) (untouched unused was) ∙ ap (λ (h : KernelState). system_of h old.disk) (does.refused unused was);

@@ -10,8 +10,8 @@ use Rattle.iol_core.specs.declared.events.Reply.TheVariants as reply
 use Rattle.iol_kernel.specs.FileEnds.{EndsAt, FitsNext, SeeksAt}
 use Rattle.iol_system.specs.Machine.{SystemState}
 
--- `length` answers where a read of the file would end, `seek` goes no further, and `file_new` takes no slot that is told to
--- have more bytes than a file may have
+-- `length` answers where a read of the file would end, `seek` goes just as far, and `file_new` takes no slot that is told to
+-- have more bytes than a file may have, and is TooLong of such a one alone
 abbrev pub CallTellsEnd : SystemState → (by : ℕ) → Call → Reply → Type 0
 CallTellsEnd s by (call.Length fd) (reply.Count n) = EndsAt by fd n s.disk s.kernel
 CallTellsEnd s by (call.Seek fd at) x = SeeksAt by fd at s.disk s.kernel (outcome x)

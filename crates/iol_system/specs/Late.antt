@@ -53,13 +53,13 @@ abbrev pub CopyLeaves : (by fd n : ℕ) → (old : SystemState) → Option Descr
 CopyLeaves by fd n old (Some (on.File f at mode)) r new = IfRefused r (LeavesCopied by fd n f at mode old new)
 CopyLeaves by fd n old o r new = ⊤
 
--- A refused write of slices to a file made room at most, and what it placed is gone; for want of room it made none.
+-- A refused write of slices to a file made room at most, and what it placed is gone; where there is no room it made none.
 abbrev pub WriteLeaves : (old : KernelState) → Option Descriptor → List Slice → Reply → (new : KernelState) → Type 0
 WriteLeaves old (Some (on.File f at mode)) xs r new = IfRefused r (λ x. SameTables old new × LeavesUnwritten f xs old new x)
 WriteLeaves old o xs r new = ⊤
 
--- A refused write of bytes by copying made room at most, for the n of them that a queue takes, and what it placed for a file is
--- gone; for want of room it changed nothing.
+-- A refused write of bytes by copying made room at most, to a queue for the n of them that it takes, and what it placed for a file
+-- is gone; where there is no room it changed nothing.
 abbrev pub PutLeaves : (pool n : ℕ) → List ℕ → (old : KernelState) → Option Descriptor → Reply → (new : KernelState) → Type 0
 PutLeaves pool n bytes old (Some (on.File f at mode)) r new = IfRefused r (LeavesUnlaid pool bytes old new)
 PutLeaves pool n bytes old o r new = IfRefused r (MayHaveEvicted pool n old new)
@@ -77,7 +77,7 @@ CallLeaves old by (call.Write fd bytes) r new =
 CallLeaves old by c r new = ⊤
 
 -- A refused event that places bytes, or reads or writes a file, changed nothing; or it came late, and has just made room or
--- counted hits. For want of room it has at most counted hits. Those that write back are told of by `StoresBack`, and others
+-- counted hits. Where there is no room it has at most counted hits. Those that write back are told of by `StoresBack`, and others
 -- change nothing where they are refused.
 abbrev pub LeavesLate : (old : SystemState) → Event → Reply → (new : SystemState) → Type 0
 LeavesLate old (event.Call by c) r new = CallLeaves old by c r new

@@ -54,7 +54,7 @@ pub record Promises (old : SystemState) (e : Event) (r : Reply) (new : SystemSta
   pub asked : asks_store (tables_of old.kernel) e ≡ true → IsFault r → HasRoomFor old e
   pub room : IsDone r → HasRoomFor old e
   pub no_room : IsNoRoom r → LacksRoomFor old e
-  pub met : IsRefused r → HasRoomFor old e ⊎ SameExtents old.kernel.cache new.kernel.cache
+  pub without_room : IsRefused r → HasRoomFor old e ⊎ SameExtents old.kernel.cache new.kernel.cache
   pub early : IsEarly r → new ≡ old
   pub refused : uses_cache (tables_of old.kernel) e ≡ false → IsRefused r → new ≡ old
   pub uncached : uses_cache (tables_of old.kernel) e ≡ false → makes_file e ≡ false → new.kernel.cache ≡ old.kernel.cache

@@ -158,7 +158,7 @@ impl<B: Backing> System<B> {
         ensures no_room { IsNoRoom result → LacksRoomFor self.old event }
 
         // Where there is no room a refusal, also one for want of memory, leaves the extents of every file.
-        ensures met { IsRefused result → HasRoomFor self.old event ⊎
+        ensures without_room { IsRefused result → HasRoomFor self.old event ⊎
             SameExtents self.old.kernel.cache self.new.kernel.cache }
 
         // A refused event changes nothing at all of what the system holds. Only for want of room or of memory, or by a fault, one

@@ -1,5 +1,6 @@
 -- How a program that ends early ends.
-use Rattle.std.specs.Prelude.{◌≤◌, ℕ, ⊤}
+use Rattle.std.specs.Fmt.{decimal}
+use Rattle.std.specs.Prelude.{◌≤◌, ℕ, List, [], ◌∷◌, ◌++◌, codes, ⊤}
 use Rattle.iolite.specs.declared.failure.Failure.{Failure}
 use Rattle.iolite.specs.declared.failure.Failure.TheVariants.{BadScript, BadLine, Input, Output, Memory}
 
@@ -10,6 +11,18 @@ status_of (BadLine number) = 2
 status_of Input = 3
 status_of Output = 3
 status_of Memory = 3
+
+-- what it prints as
+abbrev pub failure_text : Failure → List ℕ
+failure_text BadScript = codes "bad script"
+failure_text (BadLine number) = codes "line " ++ decimal number ++ codes ": not a command"
+failure_text Input = codes "fault: input"
+failure_text Output = codes "fault: output"
+failure_text Memory = codes "fault: memory"
+
+-- the line that it is told as
+abbrev pub failure_line : Failure → List ℕ
+failure_line failure = failure_text failure ++ 10 ∷ []
 
 -- a line that is no command
 abbrev pub IsBadLine : Failure → Type 0

@@ -1,9 +1,10 @@
 //! Why a program ends without doing all that it was asked for.
 ghost use Rattle.std.specs.Prelude.{◌≡◌, ◌⊎◌, IfErr, OnOk};
-ghost use Rattle.iolite.specs.Failure.{status_of};
+ghost use Rattle.std.specs.Io.KnownBytes.{Appends};
+ghost use Rattle.iolite.specs.Failure.{failure_line, status_of};
 
-use std::fmt;
 use std::io::Write;
+use std::{fmt, io};
 
 /// Why a program ends early. It prints as the line that goes to standard error.
 #[derive(Clone, Copy, Debug, PartialEq, Eq)]
@@ -41,17 +42,31 @@ pub fn status_after<E: Write>(ended: Result<(), Failure>, errors: &mut E) -> u8
     ensures statuses { (result ≡ 0) ⊎ ((result ≡ 2) ⊎ (result ≡ 3)) }
     ensures ok { OnOk ended (result ≡ 0) }
     ensures failed { IfErr ended (λ failure. result ≡ status_of failure) }
+    ensures silent { OnOk ended (errors.new ≡ errors.old) }
 {
     match ended {
         Ok(()) => 0,
         Err(failure) => {
-            let _ = writeln!(errors, "{failure}");
+            let _ = tell(failure, errors);
             failure.status()
         }
     }
 }
 
+// Writes the line that a failure is told as.
+fn tell<E: Write>(failure: Failure, errors: &mut E) -> io::Result<()>
+    ensures { OnOk result (Appends (E.contents errors.old) (E.contents errors.new)
+        (failure_line failure)) }
+{
+    writeln!(errors, "{failure}")
+}
+
 impl fmt::Display for Failure {
+    ghost use Rattle.std.specs.Prelude.{Some};
+    ghost use Rattle.iolite.specs.Failure.{failure_text};
+
+    ghost output = { λ failure. Some (failure_text failure) };
+
     fn fmt<W: fmt::Write>(&self, f: &mut fmt::Formatter<W>) -> fmt::Result {
         match self {
             Failure::BadScript => write!(f, "bad script"),

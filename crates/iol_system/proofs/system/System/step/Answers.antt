@@ -7,7 +7,9 @@ use Rattle.iol_system.specs.Asking.{asks_store, makes_file, uses_cache}
 use Rattle.iol_system.specs.Machine.{SystemState, tables_of}
 use Rattle.iol_system.specs.Room.{IsDone}
 use Rattle.iol_system.specs.Still.{is_still, takes_out}
-use Rattle.iol_system.specs.WrittenBack.{StoresBack}
+use Rattle.iol_system.specs.FileEnds.{TellsEnd}
+use Rattle.iol_system.specs.Placed.{Creates}
+use Rattle.iol_system.specs.WrittenBack.{IsDropped, StoresBack}
 use Rattle.std.proofs.Common.{subst}
 use Rattle.iol_system.proofs.system.System.step.Goals as goal
 
@@ -28,3 +30,12 @@ returns-clause-still g c = subst (λ (s : SystemState). is_still c.args.event �
 
 pub returns-clause-places : goal.returns-clause-places
 returns-clause-places g c = subst (λ (s : SystemState). takes_out (tables_of s.kernel) c.args.event ≡ true → IsDone c.carry_out.result → layout_of (state_of c.carry_out.new.kernel) ≡ (meaning (layout_of s.kernel) c.args.event).after) c.self.view_is c.carry_out.ensures.places
+
+pub returns-clause-creates : goal.returns-clause-creates
+returns-clause-creates g c = subst (λ (s : SystemState). Creates s.kernel c.args.event c.carry_out.result (state_of c.carry_out.new.kernel)) c.self.view_is c.carry_out.ensures.creates
+
+pub returns-clause-dropped : goal.returns-clause-dropped
+returns-clause-dropped g c = subst (λ (s : SystemState). IsDropped s.kernel c.args.event (state_of c.carry_out.new.kernel)) c.self.view_is c.carry_out.ensures.dropped
+
+pub returns-clause-ends : goal.returns-clause-ends
+returns-clause-ends g c = subst (λ (s : SystemState). TellsEnd s c.args.event c.carry_out.result) c.self.view_is c.carry_out.ensures.ends
