@@ -1,11 +1,12 @@
-//! Whole heads of answers, for requests of a file, and the bodies of refusals.
+//! Whole answers to requests of a file: their heads, and the bodies of refusals.
+use crate::checks::pass_rows;
 use flash_http::{Asked, MediaType, ResponseHead, error_body, read_head, select};
 use http::StatusCode;
 use std::alloc::{AllocError, Global};
 use std::test::Fail;
 
-/// The head of the answer to a request of a file of `len` bytes, and its body where that is a refusal's.
-pub fn answer_to(alloc: Global, head: &str, len: u64) -> Result<String, AllocError> {
+// The head of the answer to a request of a file of `len` bytes, and its body where that is a refusal's.
+fn answer_to(alloc: Global, head: &str, len: u64) -> Result<String, AllocError> {
     match read_head(alloc, head.as_bytes())? {
         Asked::Serve(request) => {
             let media_type = MediaType::of_name(&request.name);
@@ -65,47 +66,84 @@ const ANSWERS: [(&str, &str); 9] = [
     ),
 ];
 
-// The statuses whose answers no request alone brings about, and their bodies.
-const BODIES: [(StatusCode, &str); 6] = [
-    (StatusCode::FORBIDDEN, "403 Forbidden\n"),
-    (StatusCode::NOT_FOUND, "404 Not Found\n"),
+// The statuses whose answers no request alone brings about, and these.
+const REFUSALS: [(StatusCode, &str); 6] = [
+    (
+        StatusCode::FORBIDDEN,
+        "HTTP/1.1 403 Forbidden\r\nContent-Type: text/plain\r\nContent-Length: 14\r\n\
+            Connection: close\r\n\r\n403 Forbidden\n",
+    ),
+    (
+        StatusCode::NOT_FOUND,
+        "HTTP/1.1 404 Not Found\r\nContent-Type: text/plain\r\nContent-Length: 14\r\n\
+            Connection: close\r\n\r\n404 Not Found\n",
+    ),
     (
         StatusCode::RANGE_NOT_SATISFIABLE,
-        "416 Range Not Satisfiable\n",
+        "HTTP/1.1 416 Range Not Satisfiable\r\nContent-Type: text/plain\r\nContent-Length: 26\r\n\
+            Connection: close\r\n\r\n416 Range Not Satisfiable\n",
     ),
     (
         StatusCode::REQUEST_HEADER_FIELDS_TOO_LARGE,
-        "431 Request Header Fields Too Large\n",
+        "HTTP/1.1 431 Request Header Fields Too Large\r\nContent-Type: text/plain\r\nContent-Length: 36\r\n\
+            Connection: close\r\n\r\n431 Request Header Fields Too Large\n",
     ),
     (
         StatusCode::INTERNAL_SERVER_ERROR,
-        "500 Internal Server Error\n",
+        "HTTP/1.1 500 Internal Server Error\r\nContent-Type: text/plain\r\nContent-Length: 26\r\n\
+            Connection: close\r\n\r\n500 Internal Server Error\n",
     ),
-    (StatusCode::SERVICE_UNAVAILABLE, "503 Service Unavailable\n"),
+    (
+        StatusCode::SERVICE_UNAVAILABLE,
+        "HTTP/1.1 503 Service Unavailable\r\nContent-Type: text/plain\r\nContent-Length: 24\r\n\
+            Connection: close\r\n\r\n503 Service Unavailable\n",
+    ),
 ];
 
-#[test]
-fn answers(rt: HostRuntime) -> Result<(), Fail> {
-    let alloc = rt.alloc();
-    for (head, expected) in &ANSWERS {
-        let answer = answer_to(alloc, head, 3)?;
-        assert!(rt; answer.as_str() == *expected, "{answer} to {head}");
+// Whether this is the answer to a request of a file of `len` bytes.
+fn is_answered(alloc: Global, head: &str, len: u64, expected: &str) -> Result<bool, AllocError> {
+    let answer = answer_to(alloc, head, len)?;
+    Ok(answer.as_str() == expected)
+}
+
+/// The first head of these that has another answer, for a file of `len` bytes.
+pub fn wrong_answer(
+    alloc: Global,
+    rows: &[(&'static str, &'static str)],
+    len: u64,
+) -> Result<Option<&'static str>, AllocError> {
+    for (head, expected) in rows {
+        if !is_answered(alloc, head, len, expected)? {
+            return Ok(Some(head));
+        }
     }
-    Ok(())
+    Ok(None)
 }
 
 #[test]
-fn bodies(rt: HostRuntime) -> Result<(), Fail> {
-    let alloc = rt.alloc();
-    for (status, expected) in &BODIES {
-        let body = error_body(alloc, *status)?;
-        assert!(rt; body.as_str() == *expected, "{body}");
-        let answer = refusal(alloc, *status, true)?;
-        let len = body.len();
-        let length = format!(in alloc;
-            "\r\nContent-Length: {len}\r\nConnection: close\r\n\r\n{body}"
-        )?;
-        assert!(rt; answer.as_str().ends_with(length.as_str()), "{answer}");
+fn answers(rt: HostRuntime) -> Result<(), Fail> {
+    pass_rows(wrong_answer(rt.alloc(), &ANSWERS, 3))
+}
+
+// Whether this is the answer where a request is refused, and the connection ends.
+fn is_refusal(alloc: Global, status: StatusCode, expected: &str) -> Result<bool, AllocError> {
+    let answer = refusal(alloc, status, true)?;
+    Ok(answer.as_str() == expected)
+}
+
+fn wrong_refusal(
+    alloc: Global,
+    rows: &[(StatusCode, &'static str)],
+) -> Result<Option<&'static str>, AllocError> {
+    for (status, expected) in rows {
+        if !is_refusal(alloc, *status, expected)? {
+            return Ok(Some(expected));
+        }
     }
-    Ok(())
+    Ok(None)
+}
+
+#[test]
+fn refusals(rt: HostRuntime) -> Result<(), Fail> {
+    pass_rows(wrong_refusal(rt.alloc(), &REFUSALS))
 }

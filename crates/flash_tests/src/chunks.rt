@@ -1,38 +1,55 @@
 //! Chunks, and the heads of scripts' answers.
+ghost use Rattle.std.specs.Prelude.{◌<◌};
+
+use crate::checks::pass;
 use flash_http::{CHUNK_END, LAST_CHUNK, ResponseHead, chunk_head};
+use std::alloc::{AllocError, Global};
 use std::test::Fail;
 
-const SIZES: [(u64, &str); 5] = [
-    (1, "1\r\n"),
-    (10, "a\r\n"),
-    (904, "388\r\n"),
-    (4096, "1000\r\n"),
-    (u64::MAX, "ffffffffffffffff\r\n"),
-];
+// Whether this is the line before a chunk of so many bytes.
+fn is_size(alloc: Global, len: u64, expected: &str) -> Result<bool, AllocError>
+    requires { 0 < len }
+{
+    let head = chunk_head(alloc, len)?;
+    Ok(head.as_str() == expected)
+}
+
+fn sizes_hold(alloc: Global) -> Result<bool, AllocError> {
+    let small = is_size(alloc, 1, "1\r\n")? && is_size(alloc, 10, "a\r\n")?;
+    let large = is_size(alloc, 904, "388\r\n")? && is_size(alloc, 4096, "1000\r\n")?;
+    Ok(small && large && is_size(alloc, u64::MAX, "ffffffffffffffff\r\n")?)
+}
 
 #[test]
 fn sizes(rt: HostRuntime) -> Result<(), Fail> {
-    let alloc = rt.alloc();
-    for (len, expected) in &SIZES {
-        assert!(rt; *len > 0);
-        let head = chunk_head(alloc, *len)?;
-        assert!(rt; head.as_str() == *expected, "{head} for {len}");
-    }
-    Ok(())
+    pass(sizes_hold(rt.alloc()))
+}
+
+// The head of a script's answer in chunks.
+const CHUNKED: &str =
+    "HTTP/1.1 200 OK\r\nContent-Type: text/plain\r\nTransfer-Encoding: chunked\r\n\r\n";
+
+// The head of one that ends with its connection.
+const CLOSING: &str = "HTTP/1.1 200 OK\r\nContent-Type: text/plain\r\nConnection: close\r\n\r\n";
+
+fn is_head(alloc: Global, chunked: bool, close: bool, expected: &str) -> Result<bool, AllocError> {
+    let head = ResponseHead::of_script(chunked, close).to_text(alloc)?;
+    Ok(head.as_str() == expected)
+}
+
+fn heads_hold(alloc: Global) -> Result<bool, AllocError> {
+    Ok(is_head(alloc, true, false, CHUNKED)? && is_head(alloc, false, true, CLOSING)?)
 }
 
 // Two lines in a chunk, and the end.
+fn lines_hold(alloc: Global) -> Result<bool, AllocError> {
+    let size = chunk_head(alloc, 6)?;
+    let lines = format!(in alloc; "{size}a\nq=1\n{CHUNK_END}{LAST_CHUNK}")?;
+    Ok(lines.as_str() == "6\r\na\nq=1\n\r\n0\r\n\r\n")
+}
+
 #[test]
 fn two_lines_chunked(rt: HostRuntime) -> Result<(), Fail> {
-    let alloc = rt.alloc();
-    let head = ResponseHead::of_script(true, false).to_text(alloc)?;
-    let size = chunk_head(alloc, 6)?;
-    let answer = format!(in alloc; "{head}{size}a\nq=1\n{CHUNK_END}{LAST_CHUNK}")?;
-    let expected =
-        "HTTP/1.1 200 OK\r\nContent-Type: text/plain\r\nTransfer-Encoding: chunked\r\n\r\n6\r\na\nq=1\n\r\n0\r\n\r\n";
-    assert!(rt; answer.as_str() == expected, "{answer}");
-    let plain = ResponseHead::of_script(false, true).to_text(alloc)?;
-    let expected = "HTTP/1.1 200 OK\r\nContent-Type: text/plain\r\nConnection: close\r\n\r\n";
-    assert!(rt; plain.as_str() == expected, "{plain}");
-    Ok(())
+    pass(heads_hold(rt.alloc()))?;
+    pass(lines_hold(rt.alloc()))
 }

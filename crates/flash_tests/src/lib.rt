@@ -4,6 +4,8 @@
 #[cfg(test)]
 mod answers;
 #[cfg(test)]
+mod checks;
+#[cfg(test)]
 mod chunks;
 #[cfg(test)]
 mod malformed_heads;
@@ -13,5 +15,7 @@ mod outcomes;
 mod ranges;
 #[cfg(test)]
 mod real_heads;
+#[cfg(test)]
+mod texts;
 #[cfg(test)]
 mod windows;

@@ -2,16 +2,15 @@
 //! HTTP/1.1 GET of all of it that keeps its connection. Tables have a line beside each head.
 use flash_http::{Asked, Part, Request, Window, read_head, window_of};
 use std::alloc::{AllocError, Global};
-use std::process::Abort;
 
 /// A head, and what it comes to.
-pub struct Row {
-    pub head: &'static str,
-    pub outcome: &'static str,
-}
+pub type Row = (&'static str, &'static str);
 
-fn word(is: bool, word: &'static str) -> &'static str {
-    if is { word } else { "" }
+fn word(is: bool, word: &str) -> &str {
+    if is {
+        return word;
+    }
+    ""
 }
 
 fn range_words(alloc: Global, range: Option<Part>) -> Result<String, AllocError> {
@@ -56,24 +55,34 @@ pub fn outcome_of(alloc: Global, head: &str) -> Result<String, AllocError> {
     }
 }
 
-/// Each head is found whole in its stream, and comes to what its row says.
-pub fn check_rows<R: Abort>(rt: &R, alloc: Global, rows: &[Row]) -> Result<(), AllocError> {
-    for row in rows {
-        let whole = Window::Head {
-            skip: 0,
-            len: row.head.len(),
-        };
-        assert!(rt;
-            window_of(row.head.as_bytes()) == whole,
-            "window of {}",
-            row.head
-        );
-        let outcome = outcome_of(alloc, row.head)?;
-        assert!(rt;
-            outcome.as_str() == row.outcome,
-            "{outcome} of {}",
-            row.head
-        );
+/// Whether a head comes to this.
+pub fn comes_to(alloc: Global, head: &str, outcome: &str) -> Result<bool, AllocError> {
+    let found = outcome_of(alloc, head)?;
+    Ok(found.as_str() == outcome)
+}
+
+// Whether a head is the first of its own stream, and whole.
+fn is_whole(head: &str) -> bool {
+    let len = head.len();
+    window_of(head.as_bytes()) == Window::Head { skip: 0, len }
+}
+
+/// The first head of these that does not come to what its row says.
+pub fn wrong_outcome(alloc: Global, rows: &[Row]) -> Result<Option<&'static str>, AllocError> {
+    for (head, outcome) in rows {
+        if !comes_to(alloc, head, outcome)? {
+            return Ok(Some(head));
+        }
     }
-    Ok(())
+    Ok(None)
+}
+
+/// The first that is not found whole in its stream, or does not come to what its row says.
+pub fn wrong_head(alloc: Global, rows: &[Row]) -> Result<Option<&'static str>, AllocError> {
+    for (head, _) in rows {
+        if !is_whole(head) {
+            return Ok(Some(head));
+        }
+    }
+    wrong_outcome(alloc, rows)
 }

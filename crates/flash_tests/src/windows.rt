@@ -3,6 +3,8 @@ ghost use Rattle.std.specs.Prelude.{[]};
 ghost use Rattle.iol_hold.specs.Moves.{Moves};
 ghost use Rattle.iol_hold.specs.Texts.{bufs_of, AllReadable};
 
+use crate::checks::{pass, pass_rows};
+use crate::texts::repeated;
 use flash_http::{Window, window, window_of};
 use iol_agg::Agg;
 use iol_core::configuration::Config;
@@ -14,46 +16,52 @@ use std::alloc::{AllocError, Global};
 use std::process::Abort;
 use std::test::Fail;
 
-// Empty lines, and a head of so many bytes after them.
-fn stream_of(alloc: Global, skip: &str, len: usize) -> Result<String, AllocError> {
-    let mut text = String::from_str(alloc, skip)?;
-    text.push_str("GET / HTTP/1.1\r\nHost: a\r\nX: ")?;
-    for _ in 0..len.saturating_sub(text.len() - skip.len() + 4) {
-        text.push_str("y")?;
-    }
-    text.push_str("\r\n\r\n")?;
-    Ok(text)
+const HEAD: &str = "GET / HTTP/1.1\r\nHost: a\r\nX: ";
+
+const AFTER_LINE: &str = "\r\nGET / HTTP/1.1\r\nHost: a\r\nX: ";
+
+// So many bytes that begin so and are one head, but for empty lines before it.
+fn stream_of(alloc: Global, begin: &str, len: usize) -> Result<String, AllocError> {
+    let count = len.saturating_sub(begin.len()).saturating_sub(4);
+    repeated(alloc, begin, "y", count, "\r\n\r\n")
 }
 
+// How a stream begins, how long it is, and its window.
 const SIZES: [(&str, usize, Window); 5] = [
-    ("", 8191, Window::Head { skip: 0, len: 8191 }),
-    ("", 8192, Window::Head { skip: 0, len: 8192 }),
-    ("", 8193, Window::TooLarge),
-    ("\r\n", 8190, Window::Head { skip: 2, len: 8190 }),
-    ("\r\n", 8191, Window::TooLarge),
+    (HEAD, 8191, Window::Head { skip: 0, len: 8191 }),
+    (HEAD, 8192, Window::Head { skip: 0, len: 8192 }),
+    (HEAD, 8193, Window::TooLarge),
+    (AFTER_LINE, 8192, Window::Head { skip: 2, len: 8190 }),
+    (AFTER_LINE, 8193, Window::TooLarge),
 ];
+
+fn is_window(alloc: Global, begin: &str, len: usize, expected: Window) -> Result<bool, AllocError> {
+    let text = stream_of(alloc, begin, len)?;
+    Ok(text.len() == len && window_of(text.as_bytes()) == expected)
+}
+
+fn windows_hold(alloc: Global, rows: &[(&str, usize, Window)]) -> Result<bool, AllocError> {
+    let mut all = true;
+    for (begin, len, expected) in rows {
+        all &= is_window(alloc, begin, *len, *expected)?;
+    }
+    Ok(all)
+}
 
 #[test]
 fn heads_at_the_limit(rt: HostRuntime) -> Result<(), Fail> {
-    let alloc = rt.alloc();
-    for (skip, len, expected) in &SIZES {
-        let text = stream_of(alloc, skip, *len)?;
-        assert!(rt; text.len() == skip.len() + len);
-        assert!(rt;
-            window_of(text.as_bytes()) == *expected,
-            "of {len} after {skip}"
-        );
-    }
-    Ok(())
+    pass(windows_hold(rt.alloc(), &SIZES))
 }
 
 // A line that never ends.
+fn waits_or_ends(alloc: Global) -> Result<bool, AllocError> {
+    let line = vec![in alloc; b'a'; 8192]?;
+    Ok(window_of(&line) == Window::TooLarge && window_of(&line[1..]) == Window::Wait)
+}
+
 #[test]
 fn endless_line(rt: HostRuntime) -> Result<(), Fail> {
-    let line = vec![in rt.alloc(); b'a'; 8192]?;
-    assert!(rt; window_of(&line) == Window::TooLarge);
-    assert!(rt; window_of(&line[1..]) == Window::Wait);
-    Ok(())
+    pass(waits_or_ends(rt.alloc()))
 }
 
 // Streams, and where their first head lies.
@@ -68,12 +76,18 @@ const STREAMS: [(&str, Window); 8] = [
     ("a\r\r\n\r\n", Window::Head { skip: 0, len: 6 }),
 ];
 
-#[test]
-fn streams(rt: HostRuntime) -> Result<(), Fail> {
-    for (stream, expected) in &STREAMS {
-        assert!(rt; window_of(stream.as_bytes()) == *expected, "of {stream}");
+fn wrong_stream(rows: &[(&'static str, Window)]) -> Option<&'static str> {
+    for (stream, expected) in rows {
+        if window_of(stream.as_bytes()) != *expected {
+            return Some(stream);
+        }
     }
-    Ok(())
+    None
+}
+
+#[test]
+fn streams(_rt: HostRuntime) -> Result<(), Fail> {
+    pass_rows(Ok(wrong_stream(&STREAMS)))
 }
 
 // A store of a chunk.
@@ -83,7 +97,10 @@ fn new_store<R: Abort>(rt: &R, alloc: Global) -> Store {
         gen_limit: u32::MAX,
         sums: 1,
     };
-    Store::new(alloc, config).expect(rt, "memory")
+    let Ok(store) = Store::new(alloc, config) else {
+        panic!(rt; "memory");
+    };
+    store
 }
 
 // A pool of a chunk.
@@ -124,13 +141,16 @@ fn window_in_store<R: Abort>(
     found
 }
 
+// A head at the limit after an empty line.
+fn stored_holds<R: Abort>(rt: &R, alloc: Global) -> Result<bool, AllocError> {
+    let text = stream_of(alloc, AFTER_LINE, 8192)?;
+    let mut store = new_store(rt, alloc);
+    let pool = add_pool(rt, alloc, &mut store);
+    let found = window_in_store(rt, alloc, &mut store, pool, text.as_bytes());
+    Ok(found == Window::Head { skip: 2, len: 8190 })
+}
+
 #[test]
 fn stored_stream(rt: HostRuntime) -> Result<(), Fail> {
-    let alloc = rt.alloc();
-    let text = stream_of(alloc, "\r\n", 8190)?;
-    let mut store = new_store(&rt, alloc);
-    let pool = add_pool(&rt, alloc, &mut store);
-    let found = window_in_store(&rt, alloc, &mut store, pool, text.as_bytes());
-    assert!(rt; found == Window::Head { skip: 2, len: 8190 });
-    Ok(())
+    pass(stored_holds(&rt, rt.alloc()))
 }

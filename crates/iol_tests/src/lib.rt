@@ -12,6 +12,8 @@ mod arenas;
 #[cfg(test)]
 mod arriving;
 #[cfg(test)]
+mod backing;
+#[cfg(test)]
 mod checks;
 #[cfg(test)]
 mod consumer;
@@ -20,11 +22,15 @@ mod draining;
 #[cfg(test)]
 mod echo;
 #[cfg(test)]
+mod extents;
+#[cfg(test)]
 mod holds;
 #[cfg(test)]
 mod line;
 #[cfg(test)]
 mod machine;
+#[cfg(test)]
+mod order;
 #[cfg(test)]
 mod pipes;
 #[cfg(test)]
@@ -36,6 +42,8 @@ mod readme;
 #[cfg(test)]
 mod refusals;
 #[cfg(test)]
+mod remembered;
+#[cfg(test)]
 mod served;
 #[cfg(test)]
 mod start;
@@ -43,6 +51,8 @@ mod start;
 mod stores;
 #[cfg(test)]
 mod streams;
+#[cfg(test)]
+mod sums;
 #[cfg(test)]
 mod tables;
 #[cfg(test)]

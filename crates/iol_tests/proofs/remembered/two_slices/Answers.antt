@@ -6,7 +6,7 @@ use Rattle.iol_hold.specs.Texts.{AllReadable}
 use Rattle.iol_hold.proofs.Counting.{tally_none}
 use Rattle.iol_hold.proofs.Reading.{readable_joined, readable_stays}
 use Rattle.iol_agg.proofs.Holding.{of_ok, moved_covers}
-use Rattle.iol_sum_tests.proofs.remembered.two_slices.Goals as goal
+use Rattle.iol_tests.proofs.remembered.two_slices.Goals as goal
 
 -- what is covered stays so where holds are only given
 covers_on : {s t : Stored} {xs ys : List BufId} → Covers s xs → Moves s t [] ys → Covers t xs

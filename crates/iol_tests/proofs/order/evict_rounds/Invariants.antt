@@ -1,5 +1,5 @@
 use Rattle.std.proofs.Common.{◌≡◌, ◌<◌, []}
-use Rattle.iol_file_tests.proofs.order.evict_rounds.Given as goal
+use Rattle.iol_tests.proofs.order.evict_rounds.Given as goal
 
 abbrev pub invariant-loop : goal.invariant-loop
 invariant-loop l = record {

@@ -1,7 +1,7 @@
 use Rattle.std.proofs.Common.{sym, subst, arith}
 use Rattle.iol_hold.specs.Texts.{AllReadable}
 use Rattle.iol_sum.proofs.Pieced.{readable-item}
-use Rattle.iol_sum_tests.proofs.remembered.known_at.Goals as goal
+use Rattle.iol_tests.proofs.remembered.known_at.Goals as goal
 
 pub remembered-requires-clause-readable : goal.remembered-requires-clause-readable
 remembered-requires-clause-readable g c =

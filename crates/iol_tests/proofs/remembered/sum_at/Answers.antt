@@ -1,7 +1,7 @@
 use Rattle.std.proofs.Common.{sym, subst, arith}
 use Rattle.iol_hold.specs.Texts.{AllReadable}
 use Rattle.iol_sum.proofs.Pieced.{readable-item}
-use Rattle.iol_sum_tests.proofs.remembered.sum_at.Goals as goal
+use Rattle.iol_tests.proofs.remembered.sum_at.Goals as goal
 
 pub sum-requires-clause-readable : goal.sum-requires-clause-readable
 sum-requires-clause-readable g c =

@@ -1,6 +1,6 @@
 use Rattle.iol_agg.proofs.Holding.{moved_covers}
 use Rattle.iol_sum.proofs.Keeping.{IsRight-keeps}
-use Rattle.iol_sum_tests.proofs.remembered.round.Goals as goal
+use Rattle.iol_tests.proofs.remembered.round.Goals as goal
 
 pub known_at-known-requires-clause-right : goal.known_at-known-requires-clause-right
 known_at-known-requires-clause-right g c = IsRight-keeps c.args.store.now.arena c.filled-agg.new.store.arena c.args.sums.now c.filled-agg.ensures.moves.stays.keeps c.requires

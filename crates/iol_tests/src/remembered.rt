@@ -1,59 +1,31 @@
 //! Sums of slices: which are remembered, and of which bytes.
-ghost use Rattle.std.specs.Prelude.{◌<◌, []};
-ghost use Rattle.iol_hold.specs.Moves.{Moves};
-ghost use Rattle.iol_hold.specs.Texts.{bufs_of, AllReadable};
+ghost use Rattle.std.specs.Prelude.{◌<◌};
+ghost use Rattle.iol_hold.specs.Texts.{AllReadable};
 ghost use Rattle.iol_sum.specs.Sums.{IsRight};
 
+use crate::stores::{add_pool, filled, new_store};
 use iol_agg::Agg;
 use iol_core::configuration::Config;
-use iol_core::limits::{MAX_AGGREGATE_BYTES, MAX_POOLS};
 use iol_core::numbers::{DomainId, PoolId};
 use iol_hold::Store;
-use iol_pool::names::Names;
 use iol_sum::{SumCache, sum_of};
 use std::alloc::Global;
 use std::process::Abort;
-use std::test::Fail;
 
 const ABC: u16 = 0xc462;
 
 const ABD: u16 = 0xc562;
 
-// A store of one chunk.
-fn new_store<R: Abort>(rt: &R, alloc: Global, gen_limit: u32) -> Store {
+// A store of one chunk, and a pool that has it.
+fn start<R: Abort>(rt: &R, alloc: Global, gen_limit: u32) -> (Store, PoolId) {
     let config = Config {
         chunks: 1,
         gen_limit,
         sums: 1,
     };
-    match Store::new(alloc, config) {
-        Ok(store) => store,
-        Err(refusal) => panic!(rt; "{refusal}"),
-    }
-}
-
-// A pool that has it.
-fn add_pool<R: Abort>(rt: &R, alloc: Global, store: &mut Store) -> PoolId {
-    assert!(rt; store.pools().len() < MAX_POOLS);
-    let names = Names::of(&[DomainId::new(1)]).expect(rt, "a domain");
-    store.create_pool(alloc, 1, names).expect(rt, "room")
-}
-
-// Both.
-fn start<R: Abort>(rt: &R, alloc: Global, gen_limit: u32) -> (Store, PoolId) {
-    let mut store = new_store(rt, alloc, gen_limit);
-    let pool = add_pool(rt, alloc, &mut store);
+    let mut store = new_store(rt, alloc, config);
+    let pool = add_pool(rt, alloc, &mut store, 1, &[DomainId::new(1)]);
     (store, pool)
-}
-
-// New bytes of the pool.
-fn filled<R: Abort>(rt: &R, alloc: Global, store: &mut Store, pool: PoolId, text: &[u8]) -> Agg
-    ensures readable { AllReadable store.new result }
-    ensures moves { Moves store.old store.new [] (bufs_of result) }
-{
-    assert!(rt; text.len() <= MAX_AGGREGATE_BYTES);
-    assert!(rt; !store.pools().is_closed(pool));
-    Agg::fill(alloc, store, pool, text).expect(rt, "room")
 }
 
 // Two slices, of "abc" and of "abd".
@@ -117,47 +89,62 @@ fn round<R: Abort>(
 }
 
 // A list of one: a further sum drives the first one out.
+fn first_goes<R: Abort>(rt: &R, sums: &mut SumCache, store: &Store, agg: &Agg) -> bool
+    requires readable { AllReadable store.now agg.now }
+    requires right { IsRight store.now.arena sums.old }
+{
+    let one = sum_at(rt, sums, store, agg, 0);
+    let two = sum_at(rt, sums, store, agg, 1);
+    let gone = known_at(rt, sums, store, agg, 0);
+    let stays = known_at(rt, sums, store, agg, 1);
+    let again = sum_at(rt, sums, store, agg, 0);
+    let comes = known_at(rt, sums, store, agg, 0);
+    [one, two, again] == [ABC, ABD, ABC] && [gone, stays, comes] == [None, Some(ABD), Some(ABC)]
+}
+
 #[test]
-fn one_sum_remembered(rt: HostRuntime) -> Result<(), Fail> {
+fn one_sum_remembered(rt: HostRuntime) {
     let alloc = rt.alloc();
     let (mut store, pool) = start(&rt, alloc, u32::MAX);
     let agg = two_slices(&rt, alloc, &mut store, pool);
     let mut sums = cache(&rt, alloc, &store, 1);
-    assert_eq!(rt; sum_at(&rt, &mut sums, &store, &agg, 0), ABC);
-    assert_eq!(rt; sum_at(&rt, &mut sums, &store, &agg, 1), ABD);
-    assert_eq!(rt; known_at(&rt, &sums, &store, &agg, 0), None);
-    assert_eq!(rt; known_at(&rt, &sums, &store, &agg, 1), Some(ABD));
-    assert_eq!(rt; sum_at(&rt, &mut sums, &store, &agg, 0), ABC);
-    assert_eq!(rt; known_at(&rt, &sums, &store, &agg, 0), Some(ABC));
-    Ok(())
+    assert!(rt; first_goes(&rt, &mut sums, &store, &agg));
 }
 
-// As many sums as a configuration may ask for. The second slice begins at an odd place.
+// Room for both sums. The second slice begins at an odd place.
+fn both_stay<R: Abort>(rt: &R, sums: &mut SumCache, store: &Store, agg: &Agg) -> bool
+    requires readable { AllReadable store.now agg.now }
+    requires right { IsRight store.now.arena sums.old }
+{
+    let whole = sums.sum_all(store, agg.slices());
+    let known = [
+        known_at(rt, sums, store, agg, 0),
+        known_at(rt, sums, store, agg, 1),
+    ];
+    whole == sum_of(b"abcabd") && known == [Some(ABC), Some(ABD)]
+}
+
+// As many sums as a configuration may ask for.
 #[test]
-fn ample(rt: HostRuntime) -> Result<(), Fail> {
+fn ample(rt: HostRuntime) {
     let alloc = rt.alloc();
     let (mut store, pool) = start(&rt, alloc, u32::MAX);
     let agg = two_slices(&rt, alloc, &mut store, pool);
     let mut sums = cache(&rt, alloc, &store, 65_536);
-    assert_eq!(rt; sums.sum_all(&store, agg.slices()), sum_of(b"abcabd"));
-    assert_eq!(rt; known_at(&rt, &sums, &store, &agg, 0), Some(ABC));
-    assert_eq!(rt; known_at(&rt, &sums, &store, &agg, 1), Some(ABD));
-    Ok(())
+    assert!(rt; both_stay(&rt, &mut sums, &store, &agg));
 }
 
 // Other bytes, on the same page again where it serves more than once: nothing is known of them.
-fn recycle<R: Abort>(rt: &R, alloc: Global, gen_limit: u32) {
+fn recycles<R: Abort>(rt: &R, alloc: Global, gen_limit: u32) -> bool {
     let (mut store, pool) = start(rt, alloc, gen_limit);
     let mut sums = cache(rt, alloc, &store, 8);
     let first = round(rt, alloc, &mut store, pool, &mut sums, b"abc");
-    assert!(rt; first == (None, ABC));
     let second = round(rt, alloc, &mut store, pool, &mut sums, b"abd");
-    assert!(rt; second == (None, ABD));
+    first == (None, ABC) && second == (None, ABD)
 }
 
 #[test]
-fn segments_of_recycled_pages(rt: HostRuntime) -> Result<(), Fail> {
-    recycle(&rt, rt.alloc(), u32::MAX);
-    recycle(&rt, rt.alloc(), 1);
-    Ok(())
+fn segments_of_recycled_pages(rt: HostRuntime) {
+    let alloc = rt.alloc();
+    assert!(rt; recycles(&rt, alloc, u32::MAX) && recycles(&rt, alloc, 1));
 }
