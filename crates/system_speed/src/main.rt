@@ -27,12 +27,40 @@ fn word(words: &mut env::Args) -> anyhow::Result<String> {
     Ok(word)
 }
 
+// The number of bytes that the next word is.
+fn len_of(words: &mut env::Args) -> anyhow::Result<u32> {
+    let word = word(words)?;
+    let len: u32 = word.parse()?;
+    Ok(len)
+}
+
+// How often: the next word.
+fn count_of(words: &mut env::Args) -> anyhow::Result<u64> {
+    let word = word(words)?;
+    let rounds: u64 = word.parse()?;
+    Ok(rounds)
+}
+
+// How bytes are passed on: the next word.
+fn passing_of(words: &mut env::Args) -> anyhow::Result<Passing> {
+    let word = word(words)?;
+    let passing = Passing::of_word(word.as_str()).context("shared or copied?")?;
+    Ok(passing)
+}
+
+// What each process does: the next word.
+fn waiter_of(words: &mut env::Args) -> anyhow::Result<Waiter> {
+    let word = word(words)?;
+    let waiter = Waiter::of_word(word.as_str()).context("yield, accept or read?")?;
+    Ok(waiter)
+}
+
 // The round that the words name, and how often.
 fn round(alloc: Global, way: &str, words: &mut env::Args) -> anyhow::Result<(Round, u32, u64)> {
     let way = Way::of_word(way).context("which way?")?;
-    let passing = Passing::of_word(word(words)?.as_str()).context("shared or copied?")?;
-    let len: u32 = word(words)?.parse()?;
-    let rounds: u64 = word(words)?.parse()?;
+    let passing = passing_of(words)?;
+    let len = len_of(words)?;
+    let rounds = count_of(words)?;
     let round = Round::new(alloc, way, passing, len)?;
     Ok((round, len, rounds))
 }
@@ -48,8 +76,8 @@ fn pass(alloc: Global, way: &str, words: &mut env::Args) -> anyhow::Result<()> {
 
 // Gives turns, and tells whether all were idle each time.
 fn give_turns(alloc: Global, words: &mut env::Args) -> anyhow::Result<bool> {
-    let waiter = Waiter::of_word(word(words)?.as_str()).context("yield, accept or read?")?;
-    let rounds: u64 = word(words)?.parse()?;
+    let waiter = waiter_of(words)?;
+    let rounds = count_of(words)?;
     let machine = setup::five_domains(alloc)?;
     let mut waiters = Waiters::new(alloc, machine, waiter)?;
     let idle = waiters.give_rounds(rounds);

@@ -56,13 +56,11 @@ impl Passing {
 // Bytes are written.
 fn write(alloc: Global, fd: u32, passing: Passing, len: u32) -> Result<Event, AllocError> {
     let (fd, agg) = (Fd::new(fd), AggId::new(1));
-    Ok(match passing {
-        Passing::Shared => call(Call::IolWrite { fd, agg }),
-        Passing::Copied => call(Call::Write {
-            fd,
-            bytes: text(alloc, len)?,
-        }),
-    })
+    if matches!(passing, Passing::Shared) {
+        return Ok(call(Call::IolWrite { fd, agg }));
+    }
+    let bytes = text(alloc, len)?;
+    Ok(call(Call::Write { fd, bytes }))
 }
 
 // Bytes are read.
@@ -74,19 +72,26 @@ fn read(fd: u32, passing: Passing, count: u32) -> Event {
     }
 }
 
+// Bytes arrive.
+fn arrive(alloc: Global, len: u32) -> Result<Event, AllocError> {
+    let conn = ConnId::new(1);
+    let bytes = text(alloc, len)?;
+    Ok(Event::Arrive { conn, bytes })
+}
+
+// The file is read from its beginning.
+fn seek() -> Event {
+    let (fd, at) = (Fd::new(FILE), 0);
+    call(Call::Seek { fd, at })
+}
+
 // The bytes are put where they are read.
 fn first(alloc: Global, way: Way, passing: Passing, len: u32) -> Result<Event, AllocError> {
     match way {
-        Way::File => Ok(call(Call::Seek {
-            fd: Fd::new(FILE),
-            at: 0,
-        })),
+        Way::File => Ok(seek()),
         Way::Pipe => write(alloc, WRITE_END, passing, len),
         Way::Sent => write(alloc, SOCKET, passing, len),
-        Way::Received => Ok(Event::Arrive {
-            conn: ConnId::new(1),
-            bytes: text(alloc, len)?,
-        }),
+        Way::Received => arrive(alloc, len),
     }
 }
 
@@ -108,27 +113,31 @@ fn pass(machine: &mut Machine, event: &Event) -> Result<(), Refusal> {
     Ok(())
 }
 
-/// Events, after which a peer takes what is to be sent or nothing is.
+/// An event or two, after which a peer takes what is to be sent or nothing is.
 #[derive(Drop)]
 pub struct Round {
-    events: Vec<Event>,
+    first: Event,
+    second: Option<Event>,
     sends: bool,
 }
 
 impl Round {
     /// The round in which so many bytes go this way.
     pub fn new(alloc: Global, way: Way, passing: Passing, len: u32) -> Result<Round, AllocError> {
-        let mut events = vec![in alloc; first(alloc, way, passing, len)?]?;
-        if let Some(event) = second(way, passing, len) {
-            events.push(event)?;
-        }
+        let first = first(alloc, way, passing, len)?;
+        let second = second(way, passing, len);
         let sends = matches!(way, Way::Sent);
-        Ok(Round { events, sends })
+        Ok(Round {
+            first,
+            second,
+            sends,
+        })
     }
 
     // Carries out the round.
     fn carry_out(&self, machine: &mut Machine) -> Result<(), Refusal> {
-        for event in &self.events {
+        pass(machine, &self.first)?;
+        if let Some(event) = &self.second {
             pass(machine, event)?;
         }
         if self.sends {

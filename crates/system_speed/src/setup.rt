@@ -35,40 +35,36 @@ pub fn text(alloc: Global, len: u32) -> Result<Bytes, AllocError> {
     Ok(Bytes::from_vec(text))
 }
 
-// A pool of all chunks, and an aggregate of so many bytes in it.
-fn aggregate(alloc: Global, len: u32) -> Result<Vec<Event>, AllocError> {
+// A pool of all chunks for these domains, and an aggregate of these bytes in it.
+fn aggregate(domains: Domains, bytes: Bytes) -> [Event; 3] {
     let (pool, chunks) = (PoolId::new(1), Config::DEFAULT.chunks);
-    let domains = Domains::from_vec([DomainId::new(1)].to_vec(alloc)?);
-    let bytes = text(alloc, len)?;
-    Ok(vec![in alloc;
+    [
         call(Call::PoolCreate { chunks, domains }),
         call(Call::SetPool { pool }),
         call(Call::AggMake { bytes }),
-    ]?)
+    ]
 }
 
-// A file with the bytes of the aggregate, which lie in the store alone.
-fn file(alloc: Global) -> Result<Vec<Event>, AllocError> {
+// A file with the bytes of the aggregate, which lie in the store alone. It is made by a name, and opened by the same.
+fn file(name: Bytes, again: Bytes) -> [Event; 5] {
     let (pool, agg, fd, mode) = (PoolId::new(1), AggId::new(1), Fd::new(FILE), Mode::Both);
-    let name = text(alloc, 1)?;
-    let again = text(alloc, 1)?;
-    Ok(vec![in alloc;
+    [
         call(Call::FileNew { name, pool }),
         call(Call::OpenFile { name: again, mode }),
         call(Call::IolWrite { fd, agg }),
         call(Call::Fsync { fd }),
         Event::DropClean,
-    ]?)
+    ]
 }
 
 // A pipe, and a connection that is accepted.
-fn queues(alloc: Global) -> Result<Vec<Event>, AllocError> {
+fn queues() -> [Event; 3] {
     let pool = PoolId::new(1);
-    Ok(vec![in alloc;
+    [
         call(Call::Pipe),
         Event::ConnNew { pool },
         call(Call::Accept),
-    ]?)
+    ]
 }
 
 // Four domains more, and an empty pipe for each.
@@ -85,20 +81,25 @@ fn pipes(alloc: Global) -> Result<Vec<Event>, AllocError> {
     Ok(events)
 }
 
-// Carries out lists of events in order, to the first event that is refused.
-fn carry_out(machine: &mut Machine, lists: &[Vec<Event>]) -> Result<(), Refusal> {
+// Carries out events in order, to the first that is refused.
+fn carry_out(machine: &mut Machine, events: &[Event]) -> Result<(), Refusal> {
+    for event in events {
+        machine.step(event)?;
+    }
+    Ok(())
+}
+
+fn carry_out_all(machine: &mut Machine, lists: &[&[Event]]) -> Result<(), Refusal> {
     for events in lists {
-        for event in events {
-            machine.step(event)?;
-        }
+        carry_out(machine, events)?;
     }
     Ok(())
 }
 
 // A system that has carried out lists of events, one after another.
-fn begun(alloc: Global, lists: &[Vec<Event>]) -> Result<Machine, Refusal> {
+fn begun(alloc: Global, lists: &[&[Event]]) -> Result<Machine, Refusal> {
     let mut machine = Machine::new(alloc)?;
-    match carry_out(&mut machine, lists) {
+    match carry_out_all(&mut machine, lists) {
         Ok(()) => Ok(machine),
         Err(refusal) => {
             drop(machine);
@@ -107,14 +108,29 @@ fn begun(alloc: Global, lists: &[Vec<Event>]) -> Result<Machine, Refusal> {
     }
 }
 
+// What makes the aggregate.
+fn making(alloc: Global, len: u32) -> Result<[Event; 3], AllocError> {
+    let domains = Domains::from_vec([DomainId::new(1)].to_vec(alloc)?);
+    let bytes = text(alloc, len)?;
+    Ok(aggregate(domains, bytes))
+}
+
+// What makes the file.
+fn filing(alloc: Global) -> Result<[Event; 5], AllocError> {
+    let name = text(alloc, 1)?;
+    let again = text(alloc, 1)?;
+    Ok(file(name, again))
+}
+
 /// A system in which domain 1 has an aggregate of so many bytes, a file of the same bytes, a pipe and a connection.
 pub fn machine(alloc: Global, len: u32) -> Result<Machine, Refusal> {
-    let lists = [aggregate(alloc, len)?, file(alloc)?, queues(alloc)?];
-    begun(alloc, &lists)
+    let made = making(alloc, len)?;
+    let filed = filing(alloc)?;
+    begun(alloc, &[&made, &filed, &queues()])
 }
 
 /// A system of five domains, each with an empty pipe.
 pub fn five_domains(alloc: Global) -> Result<Machine, Refusal> {
-    let lists = [pipes(alloc)?];
-    begun(alloc, &lists)
+    let events = pipes(alloc)?;
+    begun(alloc, &[&events])
 }
