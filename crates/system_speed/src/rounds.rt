@@ -29,16 +29,22 @@ pub enum Passing {
     Copied,
 }
 
+const WAYS: [(&str, Way); 4] = [
+    ("file", Way::File),
+    ("pipe", Way::Pipe),
+    ("sent", Way::Sent),
+    ("received", Way::Received),
+];
+
 impl Way {
     /// The way that a word names.
     pub fn of_word(word: &str) -> Option<Way> {
-        match word {
-            "file" => Some(Way::File),
-            "pipe" => Some(Way::Pipe),
-            "sent" => Some(Way::Sent),
-            "received" => Some(Way::Received),
-            _ => None,
+        for (name, way) in &WAYS {
+            if *name == word {
+                return Some(*way);
+            }
         }
+        None
     }
 }
 

@@ -16,14 +16,14 @@ type Measured = World<MemoryBacking, Waiter>;
 fn processes_of(alloc: Global, waiter: Waiter) -> Result<Vec<(DomainId, Waiter)>, AllocError>
     ensures { IfOk result (λ ps. map (λ p. p.0) ps.items ≡ 1 ∷ 2 ∷ 3 ∷ 4 ∷ 5 ∷ []) }
 {
-    let processes = vec![in alloc;
+    let processes = [
         (DomainId::new(1), waiter),
         (DomainId::new(2), waiter),
         (DomainId::new(3), waiter),
         (DomainId::new(4), waiter),
         (DomainId::new(5), waiter),
-    ]?;
-    Ok(processes)
+    ];
+    Vec::from_slice(alloc, &processes)
 }
 
 #[tactic(auto, using(crate::proofs::Apart::five_apart))]

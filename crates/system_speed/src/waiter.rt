@@ -15,15 +15,21 @@ pub enum Waiter {
     Reads,
 }
 
+const WAITERS: [(&str, Waiter); 3] = [
+    ("yield", Waiter::Yields),
+    ("accept", Waiter::Accepts),
+    ("read", Waiter::Reads),
+];
+
 impl Waiter {
     /// What a word names.
     pub fn of_word(word: &str) -> Option<Waiter> {
-        match word {
-            "yield" => Some(Waiter::Yields),
-            "accept" => Some(Waiter::Accepts),
-            "read" => Some(Waiter::Reads),
-            _ => None,
+        for (name, waiter) in &WAITERS {
+            if *name == word {
+                return Some(*waiter);
+            }
         }
+        None
     }
 }
 
