@@ -22,12 +22,9 @@ fn add(table: &mut Table<u32>, d: DomainId, agg: u32) -> Option<AggId> {
 
 // Takes an aggregate, where it is there.
 fn take(table: &mut Table<u32>, d: DomainId, agg: AggId) -> Option<u32> {
-    if !table.live(d) {
+    if !table.live(d) || table.agg(d, agg).is_none() {
         return None;
     }
-    let Some(_) = table.agg(d, agg) else {
-        return None;
-    };
     Some(table.take_agg(d, agg))
 }
 
@@ -94,9 +91,7 @@ fn take_first(table: &mut Table<u32>, d: DomainId) -> bool {
     let (Some(first), Some(second)) = (add(table, d, 1), add(table, d, 2)) else {
         return false;
     };
-    come_and_go(table, d)
-        && take(table, d, first) == Some(1)
-        && has_second(table, d, first, second)
+    come_and_go(table, d) && take(table, d, first) == Some(1) && has_second(table, d, first, second)
 }
 
 // Many aggregates are taken at once, beside one that is there.
