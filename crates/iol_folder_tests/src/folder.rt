@@ -63,11 +63,16 @@ fn writes<R: Files>(store: &mut FolderBacking<R>, slot: u32, at: u32, bytes: &[u
 // A file's number, its name and its length.
 type Row = (u32, Option<&'static str>, u32);
 
+fn has_file<R: Files>(store: &FolderBacking<R>, row: &Row) -> bool {
+    let (slot, name, length) = *row;
+    let file = FileId::new(slot);
+    store.name(file) == name && store.length(file) == length
+}
+
 fn has_files<R: Files>(store: &FolderBacking<R>, rows: &[Row]) -> bool {
     let mut all = true;
-    for (slot, name, length) in rows {
-        let file = FileId::new(*slot);
-        all &= store.name(file) == *name && store.length(file) == *length;
+    for row in rows {
+        all &= has_file(store, row);
     }
     all
 }
@@ -96,10 +101,13 @@ fn fails_outside<R: Files>(store: &mut FolderBacking<R>) -> bool {
         && store.failures() == 3
 }
 
+fn has_three<R: Files>(store: &mut FolderBacking<R>) -> bool {
+    store.count() == 3 && has_files(store, &IN_ORDER) && reads_within(store) && fails_outside(store)
+}
+
 fn finds_three(rt: &HostRuntime) -> io::Result<bool> {
     let mut store: Store = FolderBacking::new(rt, "order")?;
-    let is_listed = store.count() == 3 && has_files(&store, &IN_ORDER);
-    let all = is_listed && reads_within(&mut store) && fails_outside(&mut store);
+    let all = has_three(&mut store);
     drop(store);
     Ok(all)
 }
@@ -135,12 +143,16 @@ fn set_length(rt: &HostRuntime, path: &str, length: u64) -> io::Result<()> {
     file.set_len(length)
 }
 
+fn make_numbered(rt: &HostRuntime, alloc: Global, number: u32) -> io::Result<()> {
+    let path = format!(in alloc; "many/{number}")?;
+    fs::write(rt, path.as_str(), "")
+}
+
 // Empty files, whose names are the numbers from 1000 to 2029.
 fn make_many(rt: &HostRuntime, alloc: Global) -> io::Result<()> {
     make(rt, alloc, "many", &[])?;
-    for number in 1000..2030u32 {
-        let path = format!(in alloc; "many/{number}")?;
-        fs::write(rt, path.as_str(), "")?;
+    for number in 1000..2030 {
+        make_numbered(rt, alloc, number)?;
     }
     Ok(())
 }
@@ -153,10 +165,16 @@ const OF_MANY: [Row; 4] = [
     (1025, None, 0),
 ];
 
+// The last bytes of the long file are there.
+fn has_many<R: Files>(store: &mut FolderBacking<R>) -> bool {
+    store.count() == MAX_FILES
+        && has_files(store, &OF_MANY)
+        && read(store, 1, 0xff_fff8, 8) == Some([0; 8])
+}
+
 fn finds_first_of_many(rt: &HostRuntime) -> io::Result<bool> {
     let mut store: Store = FolderBacking::new(rt, "many")?;
-    let is_listed = store.count() == MAX_FILES && has_files(&store, &OF_MANY);
-    let all = is_listed && read(&mut store, 1, 0xff_fff8, 8) == Some([0; 8]);
+    let all = has_many(&mut store);
     drop(store);
     Ok(all)
 }
@@ -195,13 +213,15 @@ fn writes_none_outside<R: Files>(store: &mut FolderBacking<R>) -> bool {
     !writes(store, 1, 8, b"X") && !writes(store, 2, 0, b"X") && store.failures() == 2
 }
 
+fn all_writes_hold(rt: &HostRuntime, store: &mut Store) -> io::Result<bool> {
+    Ok(writes_within(store) && has_text(rt, "written/a", "abcdXYZ")? && writes_none_outside(store))
+}
+
 fn write_all(rt: &HostRuntime) -> io::Result<bool> {
     let mut store: Store = FolderBacking::new(rt, "written")?;
-    let is_written = writes_within(&mut store);
-    let has_text = has_text(rt, "written/a", "abcdXYZ");
-    let none_outside = writes_none_outside(&mut store);
+    let all = all_writes_hold(rt, &mut store);
     drop(store);
-    Ok(has_text? && is_written && none_outside)
+    all
 }
 
 fn is_written_through(rt: &HostRuntime) -> io::Result<bool> {
@@ -296,15 +316,17 @@ fn set_time(rt: &HostRuntime, path: &str) -> io::Result<()> {
     file.set_times(FileTimes::new().set_modified(SystemTime::UNIX_EPOCH))
 }
 
+fn fails_at_time(rt: &HostRuntime, store: &mut Store) -> io::Result<bool> {
+    let before = is_read(store);
+    set_time(rt, "times/a")?;
+    Ok(before && !is_read(store) && store.failures() == 1)
+}
+
 fn turn_back(rt: &HostRuntime) -> io::Result<bool> {
     let mut store: Store = FolderBacking::new(rt, "times")?;
-    let before = is_read(&mut store);
-    let set = set_time(rt, "times/a");
-    let after = is_read(&mut store);
-    let failures = store.failures();
+    let all = fails_at_time(rt, &mut store);
     drop(store);
-    set?;
-    Ok(before && !after && failures == 1)
+    all
 }
 
 fn time_is_known(rt: &HostRuntime) -> io::Result<bool> {
