@@ -63,10 +63,14 @@ fn writes<R: Files>(store: &mut FolderBacking<R>, slot: u32, at: u32, bytes: &[u
 // A file's number, its name and its length.
 type Row = (u32, Option<&'static str>, u32);
 
+fn is_named<R: Files>(store: &FolderBacking<R>, file: FileId, want: Option<&str>) -> bool {
+    store.name(file) == want
+}
+
 fn has_file<R: Files>(store: &FolderBacking<R>, row: &Row) -> bool {
     let (slot, name, length) = *row;
     let file = FileId::new(slot);
-    store.name(file) == name && store.length(file) == length
+    is_named(store, file, name) && store.length(file) == length
 }
 
 fn has_files<R: Files>(store: &FolderBacking<R>, rows: &[Row]) -> bool {
