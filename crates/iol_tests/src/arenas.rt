@@ -4,12 +4,14 @@ ghost use Rattle.std.specs.List.{All};
 ghost use Rattle.iol_arena.specs.State.{chunk_count};
 ghost use Rattle.iol_arena.specs.Buffers.{IsLive};
 
+use crate::checks::pass;
 use iol_arena::arena::Arena;
 use iol_arena::chunks::ChunkSet;
 use iol_core::configuration::Config;
 use iol_core::numbers::BufId;
 use std::alloc::Global;
 use std::process::Abort;
+use std::test::Fail;
 
 /// A buffer of five bytes, 7 and zeros.
 pub fn make_one<R: Abort>(rt: &R, alloc: Global, arena: &mut Arena, set: &ChunkSet) -> BufId
@@ -79,10 +81,12 @@ fn all_hold<R: Abort>(rt: &R, alloc: Global) -> bool {
         sums: 1,
     };
     let mut arena = Arena::new(alloc, config).expect(rt, "memory");
-    take_one(rt, &mut arena) && use_two(rt, alloc, &mut arena)
+    let all = take_one(rt, &mut arena) && use_two(rt, alloc, &mut arena);
+    drop(arena);
+    all
 }
 
 #[test]
-fn ample(rt: HostRuntime) {
-    assert!(rt; all_hold(&rt, rt.alloc()));
+fn ample(rt: HostRuntime) -> Result<(), Fail> {
+    pass(Ok(all_hold(&rt, rt.alloc())))
 }

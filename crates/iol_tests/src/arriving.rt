@@ -1,5 +1,5 @@
 //! What comes in from a reader.
-use crate::checks::{pass, with};
+use crate::checks::pass;
 use crate::line::{Line, NONE, text};
 use crate::streams::{Sink, Source};
 use iol_core::lists::Bytes;
@@ -55,9 +55,10 @@ fn echoes_get(line: &mut Line, reader: &mut Source<'_>, writer: &mut Sink) -> bo
 fn gets(alloc: Global) -> Result<bool, Refusal> {
     let mut reader = Source::new(b"GET", 8, 0);
     let mut writer = Sink::new(alloc, 1, 2);
-    with(Line::new(alloc), |line| {
-        echoes_get(line, &mut reader, &mut writer)
-    })
+    let mut line = Line::new(alloc)?;
+    let all = echoes_get(&mut line, &mut reader, &mut writer);
+    drop(line);
+    Ok(all)
 }
 
 #[test]
@@ -79,10 +80,10 @@ fn refuses_all(line: &mut Line, full: Bytes, reader: &mut Source<'_>) -> bool {
 fn refuses(alloc: Global) -> Result<bool, Refusal> {
     let full = text(alloc, 65_536)?;
     let mut reader = Source::new(b"abc", 9, 0);
-    with(
-        Line::new(alloc),
-        |line| refuses_all(line, full, &mut reader),
-    )
+    let mut line = Line::new(alloc)?;
+    let all = refuses_all(&mut line, full, &mut reader);
+    drop(line);
+    Ok(all)
 }
 
 #[test]
@@ -97,12 +98,12 @@ fn refuses_room(line: &mut Line, all: Bytes, reader: &mut Source<'_>) -> bool {
 }
 
 fn has_no_room(alloc: Global) -> Result<bool, Refusal> {
-    let all = text(alloc, 131_072)?;
+    let bytes = text(alloc, 131_072)?;
     let mut reader = Source::new(b"abc", 9, 0);
-    with(
-        Line::new(alloc),
-        |line| refuses_room(line, all, &mut reader),
-    )
+    let mut line = Line::new(alloc)?;
+    let all = refuses_room(&mut line, bytes, &mut reader);
+    drop(line);
+    Ok(all)
 }
 
 #[test]
@@ -123,9 +124,10 @@ fn asks_for(alloc: Global, before: usize, max: u32, taken: u32) -> Result<bool, 
     let before = text(alloc, before)?;
     let more = text(alloc, 5000)?;
     let mut reader = Source::new(more.as_slice(), 5000, 0);
-    with(Line::new(alloc), |line| {
-        takes(line, before, &mut reader, max, taken)
-    })
+    let mut line = Line::new(alloc)?;
+    let all = takes(&mut line, before, &mut reader, max, taken);
+    drop(line);
+    Ok(all)
 }
 
 fn all_ask(alloc: Global) -> Result<bool, Refusal> {
@@ -172,9 +174,10 @@ fn all_arrive(line: &mut Line, reader: &mut Source<'_>, arrivals: &[Arrival]) ->
 
 fn fails_at(alloc: Global, fails: usize, arrivals: &[Arrival]) -> Result<bool, Refusal> {
     let mut reader = Source::new(b"abcdef", 4, fails);
-    with(Line::new(alloc), |line| {
-        all_arrive(line, &mut reader, arrivals)
-    })
+    let mut line = Line::new(alloc)?;
+    let all = all_arrive(&mut line, &mut reader, arrivals);
+    drop(line);
+    Ok(all)
 }
 
 fn all_fail(alloc: Global) -> Result<bool, Refusal> {

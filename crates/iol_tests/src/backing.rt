@@ -1,5 +1,6 @@
 //! Stores: what they hold after some calls, and which call fails.
 
+use crate::checks::pass;
 use iol_back::backing::Backing;
 use iol_back::faulty::FaultyBacking;
 use iol_back::memory::MemoryBacking;
@@ -7,6 +8,7 @@ use iol_back::slots::Slots;
 use iol_core::numbers::FileId;
 use std::alloc::Global;
 use std::process::Abort;
+use std::test::Fail;
 
 // Puts bytes at the end of the first file.
 fn append<R: Abort>(rt: &R, slots: &mut Slots, text: &[u8]) {
@@ -52,12 +54,17 @@ fn writes_and_reads<B: Backing>(store: &mut B) -> bool {
         && store.failures() == 0
 }
 
+fn all_hold<R: Abort>(rt: &R, alloc: Global) -> bool {
+    let mut store = make_store(rt, alloc);
+    let mut faulty = make_faulty(rt, alloc, 0);
+    let all = writes_and_reads(&mut store) && writes_and_reads(&mut faulty);
+    drop((store, faulty));
+    all
+}
+
 #[test]
-fn ample(rt: HostRuntime) {
-    let alloc = rt.alloc();
-    let all = writes_and_reads(&mut make_store(&rt, alloc))
-        && writes_and_reads(&mut make_faulty(&rt, alloc, 0));
-    assert!(rt; all);
+fn ample(rt: HostRuntime) -> Result<(), Fail> {
+    pass(Ok(all_hold(&rt, rt.alloc())))
 }
 
 // Whether there is no file of that number.
@@ -79,9 +86,16 @@ fn fails_outside<B: Backing>(store: &mut B) -> bool {
         && writes(store, 1024, 0, b"z")
 }
 
+fn all_fail_outside<R: Abort>(rt: &R, alloc: Global) -> bool {
+    let mut store = make_store(rt, alloc);
+    let all = fails_outside(&mut store);
+    drop(store);
+    all
+}
+
 #[test]
-fn outside_of_files(rt: HostRuntime) {
-    assert!(rt; fails_outside(&mut make_store(&rt, rt.alloc())));
+fn outside_of_files(rt: HostRuntime) -> Result<(), Fail> {
+    pass(Ok(all_fail_outside(&rt, rt.alloc())))
 }
 
 // Whether of three calls the k-th fails, once, and what the first file has then.
@@ -112,6 +126,6 @@ fn all_fail<R: Abort>(rt: &R, alloc: Global) -> bool {
 }
 
 #[test]
-fn fault_at_each_call(rt: HostRuntime) {
-    assert!(rt; all_fail(&rt, rt.alloc()));
+fn fault_at_each_call(rt: HostRuntime) -> Result<(), Fail> {
+    pass(Ok(all_fail(&rt, rt.alloc())))
 }

@@ -14,7 +14,7 @@ pub fn summed(sum: u32, byte: u8) -> u32 {
 }
 
 /// Reads a pipe to its end, and sums what came.
-#[derive(Drop)]
+#[derive(Clone, Copy)]
 pub struct Consumer {
     fd: Fd,
     count: u32,

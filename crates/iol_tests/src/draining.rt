@@ -1,5 +1,5 @@
 //! What goes out to a writer.
-use crate::checks::{pass, with};
+use crate::checks::pass;
 use crate::line::{Line, NONE};
 use crate::streams::{Sink, Source};
 use iol_core::refusals::Refusal;
@@ -30,9 +30,10 @@ fn refuses_none(line: &mut Line, reader: &mut Source<'_>, writer: &mut Sink) -> 
 fn refuses(alloc: Global) -> Result<bool, Refusal> {
     let mut reader = Source::new(b"abcde", 3, 0);
     let mut writer = Sink::new(alloc, 9, 0);
-    with(Line::new(alloc), |line| {
-        refuses_none(line, &mut reader, &mut writer)
-    })
+    let mut line = Line::new(alloc)?;
+    let all = refuses_none(&mut line, &mut reader, &mut writer);
+    drop(line);
+    Ok(all)
 }
 
 #[test]
@@ -59,11 +60,12 @@ fn rest_follows(line: &mut Line, writer: &mut Sink, rest: u32) -> bool {
 fn fails_at(alloc: Global, fails: usize, taken: u32, rest: u32) -> Result<bool, Refusal> {
     let mut reader = Source::new(b"abcde", 3, 0);
     let mut writer = Sink::new(alloc, 2, fails);
-    with(Line::new(alloc), |line| {
-        let_wait(line, &mut reader)
-            && first_fails(line, &mut writer, fails, taken)
-            && rest_follows(line, &mut writer, rest)
-    })
+    let mut line = Line::new(alloc)?;
+    let all = let_wait(&mut line, &mut reader)
+        && first_fails(&mut line, &mut writer, fails, taken)
+        && rest_follows(&mut line, &mut writer, rest);
+    drop(line);
+    Ok(all)
 }
 
 fn all_fail(alloc: Global) -> Result<bool, Refusal> {
@@ -103,9 +105,11 @@ fn writes(alloc: Global, row: (usize, u32, u32, usize)) -> Result<bool, Refusal>
     let (most, max, taken, writes) = row;
     let mut reader = Source::new(b"abcde", 3, 0);
     let mut writer = Sink::new(alloc, most, 0);
-    with(Line::new(alloc), |line| {
-        let_wait(line, &mut reader) && takes(line, &mut writer, max, (taken, most == 0), writes)
-    })
+    let mut line = Line::new(alloc)?;
+    let all = let_wait(&mut line, &mut reader)
+        && takes(&mut line, &mut writer, max, (taken, most == 0), writes);
+    drop(line);
+    Ok(all)
 }
 
 fn all_write(alloc: Global) -> Result<bool, Refusal> {

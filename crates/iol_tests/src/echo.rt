@@ -6,7 +6,7 @@ use iol_core::numbers::{AggId, Fd};
 use iol_proc::process::Turn;
 
 /// Accepts one connection, and writes to it what it reads from it.
-#[derive(Drop)]
+#[derive(Clone, Copy)]
 pub struct Echo {
     fd: Option<Fd>,
     held: Option<AggId>,

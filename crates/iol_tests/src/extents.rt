@@ -2,6 +2,7 @@
 ghost use Rattle.std.specs.Prelude.{◌≡◌, ◌<◌, []};
 ghost use Rattle.iol_hold.specs.Places.{byte_len};
 
+use crate::checks::pass;
 use crate::stores::{add_pool, filled, new_store};
 use iol_agg::Agg;
 use iol_core::configuration::Config;
@@ -11,6 +12,7 @@ use iol_extent::spans::Span;
 use iol_hold::Store;
 use std::alloc::Global;
 use std::process::Abort;
+use std::test::Fail;
 
 const ONE_CHUNK: Config = Config {
     chunks: 1,
@@ -66,11 +68,25 @@ fn comes_and_goes<R: Abort>(rt: &R, alloc: Global, extents: &mut Extents, agg: A
     is_there && agg.len() == 5 && extents.over(4).is_none()
 }
 
+// Five bytes of a store that is gone.
+fn five<R: Abort>(rt: &R, alloc: Global) -> Agg
+    ensures { byte_len result ≡ 5 }
+{
+    let mut store = new_store(rt, alloc, ONE_CHUNK);
+    let agg = fill_five(rt, alloc, &mut store);
+    drop(store);
+    agg
+}
+
+fn all_hold<R: Abort>(rt: &R, alloc: Global) -> bool {
+    let agg = five(rt, alloc);
+    let mut extents = room_for_one(rt, alloc);
+    let all = comes_and_goes(rt, alloc, &mut extents, agg);
+    drop(extents);
+    all
+}
+
 #[test]
-fn ample(rt: HostRuntime) {
-    let alloc = rt.alloc();
-    let mut extents = room_for_one(&rt, alloc);
-    let mut store = new_store(&rt, alloc, ONE_CHUNK);
-    let agg = fill_five(&rt, alloc, &mut store);
-    assert!(rt; comes_and_goes(&rt, alloc, &mut extents, agg));
+fn ample(rt: HostRuntime) -> Result<(), Fail> {
+    pass(Ok(all_hold(&rt, rt.alloc())))
 }

@@ -1,12 +1,14 @@
 //! The order in which parts of files are evicted.
 ghost use Rattle.std.specs.Prelude.{◌≡◌, ◌<◌, ◌≤◌, ◌==◌, []};
 
+use crate::checks::pass;
 use iol_core::numbers::FileId;
 use iol_evict::entry::Rank;
 use iol_evict::order::Order;
 use iol_evict::users::InUse;
 use std::alloc::Global;
 use std::process::Abort;
+use std::test::Fail;
 
 // One file is in use.
 #[derive(Drop)]
@@ -64,10 +66,16 @@ fn three_in_order(order: &mut Order) -> bool
     none && is_high && low == 2048 && goes_first
 }
 
+fn three_hold<R: Abort>(rt: &R, alloc: Global) -> bool {
+    let mut order = make_order(rt, alloc, 3);
+    let all = three_in_order(&mut order);
+    drop(order);
+    all
+}
+
 #[test]
-fn order_of_three(rt: HostRuntime) {
-    let mut order = make_order(&rt, rt.alloc(), 3);
-    assert!(rt; three_in_order(&mut order));
+fn order_of_three(rt: HostRuntime) -> Result<(), Fail> {
+    pass(Ok(three_hold(&rt, rt.alloc())))
 }
 
 // Rounds of a small and costly part: it enters, and is evicted.
@@ -83,11 +91,17 @@ fn evict_rounds(order: &mut Order, rounds: u32)
     }
 }
 
-#[test]
-fn heights_past_the_limit(rt: HostRuntime) {
-    let mut order = make_order(&rt, rt.alloc(), 1);
+fn limit_holds<R: Abort>(rt: &R, alloc: Global) -> bool {
+    let mut order = make_order(rt, alloc, 1);
     evict_rounds(&mut order, 64);
     let high = order.low();
     evict_rounds(&mut order, 1);
-    assert!(rt; high == (1 << 62) - (1 << 30) && order.low() == 0);
+    let low = order.low();
+    drop(order);
+    high == (1 << 62) - (1 << 30) && low == 0
+}
+
+#[test]
+fn heights_past_the_limit(rt: HostRuntime) -> Result<(), Fail> {
+    pass(Ok(limit_holds(&rt, rt.alloc())))
 }

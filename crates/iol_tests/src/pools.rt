@@ -4,6 +4,7 @@ ghost use Rattle.iol_core.specs.Numbered.{is_numbered};
 ghost use Rattle.iol_pool.specs.Owned.{AreOwned};
 
 use crate::arenas::make_one;
+use crate::checks::pass;
 use iol_arena::arena::Arena;
 use iol_core::configuration::Config;
 use iol_core::numbers::{DomainId, PoolId};
@@ -12,6 +13,7 @@ use iol_pool::pools::Pools;
 use iol_pool::report::PoolReport;
 use std::alloc::Global;
 use std::process::Abort;
+use std::test::Fail;
 
 // Closes a pool while a buffer stands on its pages, and then frees that.
 fn close_in_use<R: Abort>(
@@ -68,10 +70,18 @@ fn all_hold<R: Abort>(rt: &R, alloc: Global, names: Names) -> bool {
     is_made && is_used && pools.is_closed(pool) && arena.take_chunks(alloc, 3).is_ok()
 }
 
-#[test]
-fn ample(rt: HostRuntime) {
+// Two domains, of which one is named twice.
+fn two_named<R: Abort>(rt: &R) -> Names {
     let (one, two) = (DomainId::new(1), DomainId::new(2));
-    let names = Names::of(&[one, two, one]).expect(&rt, "at most sixteen domains");
-    let count = names.as_slice().len();
-    assert!(rt; count == 2 && all_hold(&rt, rt.alloc(), names));
+    Names::of(&[one, two, one]).expect(rt, "at most sixteen domains")
+}
+
+fn two_hold<R: Abort>(rt: &R, alloc: Global) -> bool {
+    let names = two_named(rt);
+    names.as_slice().len() == 2 && all_hold(rt, alloc, names)
+}
+
+#[test]
+fn ample(rt: HostRuntime) -> Result<(), Fail> {
+    pass(Ok(two_hold(&rt, rt.alloc())))
 }

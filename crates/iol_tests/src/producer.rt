@@ -12,7 +12,7 @@ use std::alloc::{AllocError, Global};
 pub const PIECE: usize = 8192;
 
 /// Writes pieces to a pipe, each of bytes of its own, and closes it.
-#[derive(Drop)]
+#[derive(Clone, Copy)]
 pub struct Producer {
     alloc: Global,
     fd: Fd,

@@ -46,8 +46,11 @@ fn all_print(alloc: Global, rows: &[(Refusal, &str)]) -> Result<bool, Refusal> {
     Ok(all)
 }
 
+fn both_print(alloc: Global) -> Result<bool, Refusal> {
+    Ok(all_print(alloc, &PLAIN)? && all_print(alloc, &numbered())?)
+}
+
 #[test]
 fn refusals_print_their_names(rt: HostRuntime) -> Result<(), Fail> {
-    pass(all_print(rt.alloc(), &PLAIN))?;
-    pass(all_print(rt.alloc(), &numbered()))
+    pass(both_print(rt.alloc()))
 }

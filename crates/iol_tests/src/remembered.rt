@@ -3,6 +3,7 @@ ghost use Rattle.std.specs.Prelude.{◌<◌};
 ghost use Rattle.iol_hold.specs.Texts.{AllReadable};
 ghost use Rattle.iol_sum.specs.Sums.{IsRight};
 
+use crate::checks::pass;
 use crate::stores::{add_pool, filled, new_store};
 use iol_agg::Agg;
 use iol_core::configuration::Config;
@@ -11,6 +12,7 @@ use iol_hold::Store;
 use iol_sum::{SumCache, sum_of};
 use std::alloc::Global;
 use std::process::Abort;
+use std::test::Fail;
 
 const ABC: u16 = 0xc462;
 
@@ -102,13 +104,18 @@ fn first_goes<R: Abort>(rt: &R, sums: &mut SumCache, store: &Store, agg: &Agg) -
     [one, two, again] == [ABC, ABD, ABC] && [gone, stays, comes] == [None, Some(ABD), Some(ABC)]
 }
 
+fn remembers_one<R: Abort>(rt: &R, alloc: Global) -> bool {
+    let (mut store, pool) = start(rt, alloc, u32::MAX);
+    let agg = two_slices(rt, alloc, &mut store, pool);
+    let mut sums = cache(rt, alloc, &store, 1);
+    let all = first_goes(rt, &mut sums, &store, &agg);
+    drop((store, agg, sums));
+    all
+}
+
 #[test]
-fn one_sum_remembered(rt: HostRuntime) {
-    let alloc = rt.alloc();
-    let (mut store, pool) = start(&rt, alloc, u32::MAX);
-    let agg = two_slices(&rt, alloc, &mut store, pool);
-    let mut sums = cache(&rt, alloc, &store, 1);
-    assert!(rt; first_goes(&rt, &mut sums, &store, &agg));
+fn one_sum_remembered(rt: HostRuntime) -> Result<(), Fail> {
+    pass(Ok(remembers_one(&rt, rt.alloc())))
 }
 
 // Room for both sums. The second slice begins at an odd place.
@@ -125,13 +132,18 @@ fn both_stay<R: Abort>(rt: &R, sums: &mut SumCache, store: &Store, agg: &Agg) ->
 }
 
 // As many sums as a configuration may ask for.
+fn remembers_both<R: Abort>(rt: &R, alloc: Global) -> bool {
+    let (mut store, pool) = start(rt, alloc, u32::MAX);
+    let agg = two_slices(rt, alloc, &mut store, pool);
+    let mut sums = cache(rt, alloc, &store, 65_536);
+    let all = both_stay(rt, &mut sums, &store, &agg);
+    drop((store, agg, sums));
+    all
+}
+
 #[test]
-fn ample(rt: HostRuntime) {
-    let alloc = rt.alloc();
-    let (mut store, pool) = start(&rt, alloc, u32::MAX);
-    let agg = two_slices(&rt, alloc, &mut store, pool);
-    let mut sums = cache(&rt, alloc, &store, 65_536);
-    assert!(rt; both_stay(&rt, &mut sums, &store, &agg));
+fn ample(rt: HostRuntime) -> Result<(), Fail> {
+    pass(Ok(remembers_both(&rt, rt.alloc())))
 }
 
 // Other bytes, on the same page again where it serves more than once: nothing is known of them.
@@ -140,11 +152,15 @@ fn recycles<R: Abort>(rt: &R, alloc: Global, gen_limit: u32) -> bool {
     let mut sums = cache(rt, alloc, &store, 8);
     let first = round(rt, alloc, &mut store, pool, &mut sums, b"abc");
     let second = round(rt, alloc, &mut store, pool, &mut sums, b"abd");
+    drop((store, sums));
     first == (None, ABC) && second == (None, ABD)
 }
 
+fn both_recycle<R: Abort>(rt: &R, alloc: Global) -> bool {
+    recycles(rt, alloc, u32::MAX) && recycles(rt, alloc, 1)
+}
+
 #[test]
-fn segments_of_recycled_pages(rt: HostRuntime) {
-    let alloc = rt.alloc();
-    assert!(rt; recycles(&rt, alloc, u32::MAX) && recycles(&rt, alloc, 1));
+fn segments_of_recycled_pages(rt: HostRuntime) -> Result<(), Fail> {
+    pass(Ok(both_recycle(&rt, rt.alloc())))
 }

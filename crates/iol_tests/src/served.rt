@@ -1,5 +1,5 @@
 //! Worlds with a connection that is served from outside.
-use crate::checks::{pass, with};
+use crate::checks::pass;
 use crate::echo::Echo;
 use crate::start::system_with_pipe;
 use crate::worker::Worker;
@@ -51,9 +51,10 @@ fn comes_back(world: &mut Workers, reader: &mut &[u8], writer: &mut Vec<u8>) -> 
 fn echoes(alloc: Global) -> Result<bool, Refusal> {
     let mut reader = b"hello".as_slice();
     let mut writer = Vec::new(alloc);
-    with(echoing_world(alloc), |world| {
-        comes_back(world, &mut reader, &mut writer)
-    })
+    let mut world = echoing_world(alloc)?;
+    let all = comes_back(&mut world, &mut reader, &mut writer);
+    drop(world);
+    Ok(all)
 }
 
 #[test]
@@ -62,9 +63,10 @@ fn connection_gets_back_what_came(rt: HostRuntime) -> Result<(), Fail> {
 }
 
 fn is_silent(alloc: Global) -> Result<bool, Refusal> {
-    with(echoing_world(alloc), |world| {
-        connects(world) && world.until_idle(1_000) && !is_sent(world, 9, b"")
-    })
+    let mut world = echoing_world(alloc)?;
+    let all = connects(&mut world) && world.until_idle(1_000) && !is_sent(&mut world, 9, b"");
+    drop(world);
+    Ok(all)
 }
 
 #[test]

@@ -17,10 +17,7 @@ use std::process::Abort;
 pub fn new_store<R: Abort>(rt: &R, alloc: Global, config: Config) -> Store
     ensures { IsHeldBy result [] }
 {
-    let Ok(store) = Store::new(alloc, config) else {
-        panic!(rt; "memory");
-    };
-    store
+    Store::new(alloc, config).expect(rt, "memory")
 }
 
 /// A pool of so many chunks for these domains.

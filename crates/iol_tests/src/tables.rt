@@ -1,33 +1,38 @@
 //! Each call that wants memory answers when there is enough, and so it does after many rounds.
 ghost use Rattle.std.specs.Prelude.{true};
 
+use crate::checks::pass;
 use iol_core::descriptors::Descriptor;
 use iol_core::numbers::{AggId, DomainId, Fd, PipeId};
 use iol_desc::table::Table;
 use std::alloc::Global;
 use std::process::Abort;
+use std::test::Fail;
 
 // Adds an aggregate.
-fn add<R: Abort>(rt: &R, table: &mut Table<u32>, d: DomainId, agg: u32) -> AggId {
-    assert!(rt; table.live(d));
-    table.reserve_aggs(d, 1).expect(rt, "memory");
-    assert!(rt; table.live(d));
-    assert!(rt; !table.is_too_many(d, 1, 0));
-    table.add_agg(d, agg)
+fn add(table: &mut Table<u32>, d: DomainId, agg: u32) -> Option<AggId> {
+    if !table.live(d) || table.reserve_aggs(d, 1).is_err() {
+        return None;
+    }
+    if !table.live(d) || table.is_too_many(d, 1, 0) {
+        return None;
+    }
+    Some(table.add_agg(d, agg))
 }
 
-// Takes an aggregate that is there.
-fn take<R: Abort>(rt: &R, table: &mut Table<u32>, d: DomainId, agg: AggId) -> u32 {
-    assert!(rt; table.live(d));
-    let Some(_) = table.agg(d, agg) else {
-        panic!(rt; "no aggregate");
-    };
-    table.take_agg(d, agg)
+// Takes an aggregate, where it is there.
+fn take(table: &mut Table<u32>, d: DomainId, agg: AggId) -> Option<u32> {
+    if !table.live(d) || table.agg(d, agg).is_none() {
+        return None;
+    }
+    Some(table.take_agg(d, agg))
 }
 
 // Takes all aggregates, and counts them.
-fn take_all<R: Abort>(rt: &R, table: &mut Table<u32>, d: DomainId) -> usize {
-    assert!(rt; table.live(d));
+fn take_all(table: &mut Table<u32>, d: DomainId) -> usize {
+    if !table.live(d) {
+        return 0;
+    }
     let mut taken = table.take_aggs(d);
     for count in 0..10_000 {
         if taken.pop().is_none() {
@@ -38,51 +43,64 @@ fn take_all<R: Abort>(rt: &R, table: &mut Table<u32>, d: DomainId) -> usize {
 }
 
 // Opens a descriptor, and tells its number.
-fn open<R: Abort>(rt: &R, table: &mut Table<u32>, d: DomainId) -> u32 {
-    assert!(rt; table.live(d));
-    assert!(rt; !table.is_open_beyond(d, 1));
+fn open(table: &mut Table<u32>, d: DomainId) -> Option<u32> {
+    if !table.live(d) || table.is_open_beyond(d, 1) {
+        return None;
+    }
     let pipe = PipeId::new(0);
     match table.add_fd(d, Descriptor::ReadEnd { pipe }) {
-        Ok(fd) => fd.number(),
-        Err(_) => panic!(rt; "memory"),
+        Ok(fd) => Some(fd.number()),
+        Err(_) => None,
     }
 }
 
-// Closes a descriptor.
-fn close<R: Abort>(rt: &R, table: &mut Table<u32>, d: DomainId, number: u32) {
+// Closes a descriptor, where it is there.
+fn close(table: &mut Table<u32>, d: DomainId, number: u32) -> bool {
     let fd = Fd::new(number);
-    assert!(rt; table.live(d));
-    assert!(rt; table.descriptor(d, fd).is_some());
+    if !table.live(d) || table.descriptor(d, fd).is_none() {
+        return false;
+    }
     table.take_fd(d, fd);
+    true
+}
+
+// An aggregate comes, under that number, and goes.
+fn comes_and_goes(table: &mut Table<u32>, d: DomainId, round: u32) -> bool {
+    match add(table, d, round) {
+        Some(agg) => agg.number() == round as u64 && take(table, d, agg) == Some(round),
+        None => false,
+    }
 }
 
 // Aggregates come and go, each under the next number.
-fn come_and_go<R: Abort>(rt: &R, table: &mut Table<u32>, d: DomainId) -> bool {
+fn come_and_go(table: &mut Table<u32>, d: DomainId) -> bool {
     let mut all = true;
     for round in 3..100_000 {
-        let agg = add(rt, table, d, round);
-        all &= agg.number() == round as u64 && take(rt, table, d, agg) == round;
+        all &= comes_and_goes(table, d, round);
     }
     all
 }
 
+// Whether of two aggregates the second alone is there, which is 2.
+fn has_second(table: &Table<u32>, d: DomainId, first: AggId, second: AggId) -> bool {
+    table.live(d) && table.agg(d, first).is_none() && table.agg(d, second).copied() == Some(2)
+}
+
 // The first aggregate is taken, and the second stays.
-fn take_first<R: Abort>(rt: &R, table: &mut Table<u32>, d: DomainId) -> bool {
-    let first = add(rt, table, d, 1);
-    let second = add(rt, table, d, 2);
-    let all = come_and_go(rt, table, d);
-    let taken = take(rt, table, d, first);
-    assert!(rt; table.live(d));
-    let is_gone = table.agg(d, first).is_none();
-    all && taken == 1 && is_gone && table.agg(d, second).copied() == Some(2)
+fn take_first(table: &mut Table<u32>, d: DomainId) -> bool {
+    let (Some(first), Some(second)) = (add(table, d, 1), add(table, d, 2)) else {
+        return false;
+    };
+    come_and_go(table, d) && take(table, d, first) == Some(1) && has_second(table, d, first, second)
 }
 
 // Many aggregates are taken at once, beside one that is there.
-fn take_many<R: Abort>(rt: &R, table: &mut Table<u32>, d: DomainId) -> bool {
+fn take_many(table: &mut Table<u32>, d: DomainId) -> bool {
+    let mut all = true;
     for round in 0..1000 {
-        add(rt, table, d, round);
+        all &= add(table, d, round).is_some();
     }
-    take_all(rt, table, d) == 1001
+    all && take_all(table, d) == 1001
 }
 
 // A table with domain 1.
@@ -92,65 +110,73 @@ fn with_one<R: Abort>(rt: &R, alloc: Global) -> Table<u32> {
     table
 }
 
-#[test]
-fn ample(rt: HostRuntime) {
-    let mut table = with_one(&rt, rt.alloc());
+fn all_taken<R: Abort>(rt: &R, alloc: Global) -> bool {
+    let mut table = with_one(rt, alloc);
     let d = DomainId::new(1);
-    let all = take_first(&rt, &mut table, d) && take_many(&rt, &mut table, d);
-    assert!(rt; all);
+    let all = take_first(&mut table, d) && take_many(&mut table, d);
+    drop(table);
+    all
+}
+
+#[test]
+fn ample(rt: HostRuntime) -> Result<(), Fail> {
+    pass(Ok(all_taken(&rt, rt.alloc())))
 }
 
 // Opens descriptors to the last, which have the numbers in their order.
-fn open_all<R: Abort>(rt: &R, table: &mut Table<u32>, d: DomainId) -> bool {
+fn open_all(table: &mut Table<u32>, d: DomainId) -> bool {
     let mut all = true;
     for number in 0..1024 {
-        all &= open(rt, table, d) == number;
+        all &= open(table, d) == Some(number);
     }
-    assert!(rt; table.live(d));
-    all && table.is_open_beyond(d, 1)
+    all && table.live(d) && table.is_open_beyond(d, 1)
 }
 
 // Numbers that are free again are given in their order.
-fn reuse<R: Abort>(rt: &R, table: &mut Table<u32>, d: DomainId) -> bool {
-    for number in [7, 3, 1000] {
-        close(rt, table, d, number);
-    }
+fn reuse(table: &mut Table<u32>, d: DomainId) -> bool {
     let mut all = true;
+    for number in [7, 3, 1000] {
+        all &= close(table, d, number);
+    }
     for number in [3, 7, 1000] {
-        all &= open(rt, table, d) == number;
+        all &= open(table, d) == Some(number);
     }
     all
 }
 
 // The last descriptor moves to a number that is free again.
-fn move_last<R: Abort>(rt: &R, table: &mut Table<u32>, d: DomainId) -> bool {
-    close(rt, table, d, 5);
+fn move_last(table: &mut Table<u32>, d: DomainId) -> bool {
+    let is_closed = close(table, d, 5);
     let last = Fd::new(1023);
     let pipe = PipeId::new(0);
-    assert!(rt; table.live(d));
-    assert!(rt; table.descriptor(d, last).is_some());
+    if !table.live(d) || table.descriptor(d, last).is_none() {
+        return false;
+    }
     let moved = table.move_fd(d, last, Descriptor::WriteEnd { pipe });
-    moved.number() == 5
+    is_closed && moved.number() == 5
 }
 
 // The last number comes and goes.
-fn repeat<R: Abort>(rt: &R, table: &mut Table<u32>, d: DomainId) -> bool {
+fn repeat(table: &mut Table<u32>, d: DomainId) -> bool {
     let mut all = true;
     for _ in 0..100_000 {
-        let number = open(rt, table, d);
-        all &= number == 1023;
-        close(rt, table, d, number);
+        all &= open(table, d) == Some(1023) && close(table, d, 1023);
     }
     all
 }
 
-#[test]
-fn descriptors(rt: HostRuntime) {
-    let mut table = with_one(&rt, rt.alloc());
+fn all_open<R: Abort>(rt: &R, alloc: Global) -> bool {
+    let mut table = with_one(rt, alloc);
     let d = DomainId::new(1);
-    let all = open_all(&rt, &mut table, d)
-        && reuse(&rt, &mut table, d)
-        && move_last(&rt, &mut table, d)
-        && repeat(&rt, &mut table, d);
-    assert!(rt; all);
+    let all = open_all(&mut table, d)
+        && reuse(&mut table, d)
+        && move_last(&mut table, d)
+        && repeat(&mut table, d);
+    drop(table);
+    all
+}
+
+#[test]
+fn descriptors(rt: HostRuntime) -> Result<(), Fail> {
+    pass(Ok(all_open(&rt, rt.alloc())))
 }

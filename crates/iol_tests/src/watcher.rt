@@ -8,7 +8,7 @@ use iol_proc::process::{Process, Turn};
 use std::alloc::AllocError;
 
 /// Asks for a connection in each second turn.
-#[derive(Drop)]
+#[derive(Clone, Copy)]
 pub struct Watcher {
     pub(crate) asked: bool,
 }

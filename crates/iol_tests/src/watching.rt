@@ -5,7 +5,7 @@ ghost use Rattle.iol_proc.specs.Settled.{AllSettled};
 ghost use Rattle.iol_tests.specs.Watching.{HasWatched};
 ghost use Rattle.iol_system.specs.Machine.{machine_of};
 
-use crate::checks::{pass, with};
+use crate::checks::pass;
 use crate::machine::Machine;
 use crate::start::system_with_pipe;
 use crate::watcher::Watcher;
@@ -35,8 +35,8 @@ fn watch(world: &mut Watched, turns: usize) -> bool
 fn watcher_of(alloc: Global) -> Result<Vec<(DomainId, Watcher)>, AllocError>
     ensures { IfOk result (λ ps. map (λ p. p.0) ps.items ≡ 2 ∷ []) }
 {
-    let processes = vec![in alloc; (DomainId::new(2), Watcher::new())]?;
-    Ok(processes)
+    let processes = [(DomainId::new(2), Watcher::new())];
+    Vec::from_slice(alloc, &processes)
 }
 
 #[tactic(auto, using(crate::proofs::Apart::one_apart))]
@@ -88,7 +88,10 @@ fn world_of_one(alloc: Global) -> Result<Watchers, Refusal> {
 }
 
 fn all_wait(alloc: Global) -> Result<bool, Refusal> {
-    with(world_of_one(alloc), accepts)
+    let mut watchers = world_of_one(alloc)?;
+    let all = accepts(&mut watchers);
+    drop(watchers);
+    Ok(all)
 }
 
 #[test]

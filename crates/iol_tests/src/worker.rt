@@ -10,7 +10,7 @@ use iol_proc::process::{Process, Turn};
 use std::alloc::AllocError;
 
 /// A process of one kind or another.
-#[derive(Drop)]
+#[derive(Clone, Copy)]
 pub enum Worker {
     Producer(Producer),
     Consumer(Consumer),

@@ -24,8 +24,8 @@ fn processes_of(
 ) -> Result<Vec<(DomainId, Worker)>, AllocError>
     ensures { IfOk result (λ ps. map (λ p. p.0) ps.items ≡ 2 ∷ 1 ∷ []) }
 {
-    let processes = vec![in alloc; (DomainId::new(2), second), (DomainId::new(1), first)]?;
-    Ok(processes)
+    let processes = [(DomainId::new(2), second), (DomainId::new(1), first)];
+    Vec::from_slice(alloc, &processes)
 }
 
 #[tactic(auto, using(crate::proofs::Apart::two_apart))]

@@ -1,5 +1,5 @@
 //! Worlds of a few processes.
-use crate::checks::{pass, with};
+use crate::checks::pass;
 use crate::consumer::{Consumer, summed};
 use crate::producer::{PIECE, Producer};
 use crate::start::{call_of, system_with_pipe};
@@ -60,9 +60,10 @@ fn all_came(world: &Workers) -> bool {
 }
 
 fn passes(alloc: Global) -> Result<bool, Refusal> {
-    with(sending_world(alloc), |world| {
-        world.until_idle(65_536) && all_came(world)
-    })
+    let mut world = sending_world(alloc)?;
+    let all = world.until_idle(65_536) && all_came(&world);
+    drop(world);
+    Ok(all)
 }
 
 #[test]
@@ -72,9 +73,10 @@ fn pipe_passes_a_mebibyte(rt: HostRuntime) -> Result<(), Fail> {
 
 // Nothing is idle before each of two processes has yielded twice.
 fn yields(alloc: Global) -> Result<bool, Refusal> {
-    with(world_of(alloc, Worker::Idle, Worker::Idle), |world| {
-        !world.until_idle(0) && !world.until_idle(3) && world.until_idle(4)
-    })
+    let mut world = world_of(alloc, Worker::Idle, Worker::Idle)?;
+    let all = !world.until_idle(0) && !world.until_idle(3) && world.until_idle(4);
+    drop(world);
+    Ok(all)
 }
 
 #[test]
@@ -83,9 +85,10 @@ fn idle_is_when_all_have_yielded(rt: HostRuntime) -> Result<(), Fail> {
 }
 
 fn waits(alloc: Global) -> Result<bool, Refusal> {
-    with(world_of(alloc, Worker::Idle, Worker::Eager), |world| {
-        !world.until_idle(1_000)
-    })
+    let mut world = world_of(alloc, Worker::Idle, Worker::Eager)?;
+    let all = !world.until_idle(1_000);
+    drop(world);
+    Ok(all)
 }
 
 #[test]
@@ -100,7 +103,10 @@ fn empty_world(alloc: Global) -> Result<Workers, Refusal> {
 }
 
 fn is_idle_without(alloc: Global) -> Result<bool, Refusal> {
-    with(empty_world(alloc), |world| world.until_idle(0))
+    let mut world = empty_world(alloc)?;
+    let all = world.until_idle(0);
+    drop(world);
+    Ok(all)
 }
 
 #[test]
@@ -140,10 +146,10 @@ fn all_are_refused(world: &mut Workers) -> bool {
 }
 
 fn refuses(alloc: Global) -> Result<bool, Refusal> {
-    with(
-        world_of(alloc, Worker::Idle, Worker::Eager),
-        all_are_refused,
-    )
+    let mut world = world_of(alloc, Worker::Idle, Worker::Eager)?;
+    let all = all_are_refused(&mut world);
+    drop(world);
+    Ok(all)
 }
 
 #[test]
