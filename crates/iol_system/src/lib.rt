@@ -5,8 +5,8 @@
 //! the machine's state that it stands for, is `iol_kernel`'s `specs/KernelState`; when there is room, `specs/Room`.
 //!
 //! The contract. `System::run`: the machine's replies and state (`chain`, `run`), what aggregates once read stay (`values`),
-//! and a list that finds no memory for its replies has done nothing (`err`). `step`, and `step_ref` of an event that is lent:
-//! the machine's step (`step`, `beside`), when the store is asked and blamed (`unasked`, `faults`, `asked`, `slots`),
+//! and a list that finds no memory for its replies has done nothing (`err`). `step`, and `step_ref` of an event that is lent,
+//! have one clause, `Promises`: the machine's step (`step`, `beside`), when the store is asked and blamed (`unasked`, `faults`, `asked`, `slots`),
 //! refusals (`room`, `no_room`, `without_room`, `early`, `refused`, `late`), events that only look (`looks`), sharing (`shares`, `pages`,
 //! `still`, `places`, `store`, `in_place`, `shares_file`), generations (`publishes`, `creates`), where files end (`ends`),
 //! sums (`sums`), writing back (`synced`, `kept`, `flushed`, `dropped`, `stores_back`), and what always holds (`safe`,
