@@ -20,68 +20,44 @@ const FILES: [Kept<'static>; 2] = [
 const WHOLE: &str =
     "HTTP/1.1 200 OK\r\nContent-Type: application/octet-stream\r\nContent-Length: 6\r\n\r\nmnopqr";
 
+// The answer where a range has none of them.
+const NONE: &str =
+    "HTTP/1.1 416 Range Not Satisfiable\r\nContent-Type: text/plain\r\nContent-Length: 26\r\n\
+    Content-Range: bytes */6\r\n\r\n416 Range Not Satisfiable\n";
+
+// A request of the file with this Range field.
+macro_rules! get {
+    ($range:literal) => {
+        concat!("GET /f HTTP/1.1\r\nHost: a\r\nRange: ", $range, "\r\n\r\n")
+    };
+}
+
+// The answer with so many of its bytes: where they stand, and what they are.
+macro_rules! part {
+    ($len:literal, $place:literal, $bytes:literal) => {
+        concat!(
+            "HTTP/1.1 206 Partial Content\r\nContent-Type: application/octet-stream\r\nContent-Length: ",
+            $len,
+            "\r\nContent-Range: bytes ",
+            $place,
+            "/6\r\n\r\n",
+            $bytes
+        )
+    };
+}
+
 const ROWS: [Row<'static>; 13] = [
-    (
-        "GET /f HTTP/1.1\r\nHost: a\r\nRange: bytes=-2\r\n\r\n",
-        "HTTP/1.1 206 Partial Content\r\nContent-Type: application/octet-stream\r\n\
-            Content-Length: 2\r\nContent-Range: bytes 4-5/6\r\n\r\nqr",
-        false,
-    ),
-    (
-        "GET /f HTTP/1.1\r\nHost: a\r\nRange: bytes=9-\r\n\r\n",
-        "HTTP/1.1 416 Range Not Satisfiable\r\nContent-Type: text/plain\r\nContent-Length: 26\r\n\
-            Content-Range: bytes */6\r\n\r\n416 Range Not Satisfiable\n",
-        false,
-    ),
-    (
-        "GET /f HTTP/1.1\r\nHost: a\r\nRange: bytes=2-1\r\n\r\n",
-        WHOLE,
-        false,
-    ),
-    (
-        "GET /f HTTP/1.1\r\nHost: a\r\nRange: bytes=4-99\r\n\r\n",
-        "HTTP/1.1 206 Partial Content\r\nContent-Type: application/octet-stream\r\n\
-            Content-Length: 2\r\nContent-Range: bytes 4-5/6\r\n\r\nqr",
-        false,
-    ),
-    (
-        "GET /f HTTP/1.1\r\nHost: a\r\nRange: bytes=0-0\r\n\r\n",
-        "HTTP/1.1 206 Partial Content\r\nContent-Type: application/octet-stream\r\n\
-            Content-Length: 1\r\nContent-Range: bytes 0-0/6\r\n\r\nm",
-        false,
-    ),
-    (
-        "GET /f HTTP/1.1\r\nHost: a\r\nRange: bytes=-9\r\n\r\n",
-        "HTTP/1.1 206 Partial Content\r\nContent-Type: application/octet-stream\r\n\
-            Content-Length: 6\r\nContent-Range: bytes 0-5/6\r\n\r\nmnopqr",
-        false,
-    ),
-    (
-        "GET /f HTTP/1.1\r\nHost: a\r\nRange: bytes=-0\r\n\r\n",
-        "HTTP/1.1 416 Range Not Satisfiable\r\nContent-Type: text/plain\r\nContent-Length: 26\r\n\
-            Content-Range: bytes */6\r\n\r\n416 Range Not Satisfiable\n",
-        false,
-    ),
-    (
-        "GET /f HTTP/1.1\r\nHost: a\r\nRange: bytes=0-1,3-4\r\n\r\n",
-        WHOLE,
-        false,
-    ),
-    (
-        "GET /f HTTP/1.1\r\nHost: a\r\nRange: Bytes=0-1\r\n\r\n",
-        WHOLE,
-        false,
-    ),
-    (
-        "GET /f HTTP/1.1\r\nHost: a\r\nRange: bytes=0-1\r\nRange: bytes=0-1\r\n\r\n",
-        WHOLE,
-        false,
-    ),
-    (
-        "GET /f HTTP/1.1\r\nHost: a\r\nRange: bytes=0-1\r\nIf-Range: x\r\n\r\n",
-        WHOLE,
-        false,
-    ),
+    (get!("bytes=-2"), part!(2, "4-5", "qr"), false),
+    (get!("bytes=9-"), NONE, false),
+    (get!("bytes=2-1"), WHOLE, false),
+    (get!("bytes=4-99"), part!(2, "4-5", "qr"), false),
+    (get!("bytes=0-0"), part!(1, "0-0", "m"), false),
+    (get!("bytes=-9"), part!(6, "0-5", "mnopqr"), false),
+    (get!("bytes=-0"), NONE, false),
+    (get!("bytes=0-1,3-4"), WHOLE, false),
+    (get!("Bytes=0-1"), WHOLE, false),
+    (get!("bytes=0-1\r\nRange: bytes=0-1"), WHOLE, false),
+    (get!("bytes=0-1\r\nIf-Range: x"), WHOLE, false),
     (
         "HEAD /f HTTP/1.1\r\nHost: a\r\nRange: bytes=0-1\r\n\r\n",
         "HTTP/1.1 200 OK\r\nContent-Type: application/octet-stream\r\nContent-Length: 6\r\n\r\n",

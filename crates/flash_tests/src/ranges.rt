@@ -11,92 +11,52 @@ const ALL: &str =
 const NONE: &str = "HTTP/1.1 416 Range Not Satisfiable\r\nContent-Type: text/plain\r\n\
     Content-Length: 26\r\nContent-Range: bytes */6\r\n\r\n";
 
+// A request of a file with this Range field.
+macro_rules! get {
+    ($range:literal) => {
+        concat!("GET /f HTTP/1.1\r\nHost: a\r\nRange: ", $range, "\r\n\r\n")
+    };
+}
+
+// The answer with so many bytes of six, these.
+macro_rules! part {
+    ($len:literal, $bytes:literal) => {
+        concat!(
+            "HTTP/1.1 206 Partial Content\r\nContent-Type: application/octet-stream\r\nContent-Length: ",
+            $len,
+            "\r\nContent-Range: bytes ",
+            $bytes,
+            "/6\r\n\r\n"
+        )
+    };
+}
+
 // Requests of a file of six bytes with these fields, and their answers.
 const RANGES: [(&str, &str); 19] = [
-    (
-        "GET /f HTTP/1.1\r\nHost: a\r\nRange: bytes=-2\r\n\r\n",
-        "HTTP/1.1 206 Partial Content\r\nContent-Type: application/octet-stream\r\n\
-            Content-Length: 2\r\nContent-Range: bytes 4-5/6\r\n\r\n",
-    ),
-    (
-        "GET /f HTTP/1.1\r\nHost: a\r\nRange: bytes=9-\r\n\r\n",
-        NONE,
-    ),
-    (
-        "GET /f HTTP/1.1\r\nHost: a\r\nRange: bytes=2-1\r\n\r\n",
-        ALL,
-    ),
-    (
-        "GET /f HTTP/1.1\r\nHost: a\r\nRange: bytes=4-99\r\n\r\n",
-        "HTTP/1.1 206 Partial Content\r\nContent-Type: application/octet-stream\r\n\
-            Content-Length: 2\r\nContent-Range: bytes 4-5/6\r\n\r\n",
-    ),
-    (
-        "GET /f HTTP/1.1\r\nHost: a\r\nRange: bytes=0-0\r\n\r\n",
-        "HTTP/1.1 206 Partial Content\r\nContent-Type: application/octet-stream\r\n\
-            Content-Length: 1\r\nContent-Range: bytes 0-0/6\r\n\r\n",
-    ),
-    (
-        "GET /f HTTP/1.1\r\nHost: a\r\nRange: bytes=-9\r\n\r\n",
-        "HTTP/1.1 206 Partial Content\r\nContent-Type: application/octet-stream\r\n\
-            Content-Length: 6\r\nContent-Range: bytes 0-5/6\r\n\r\n",
-    ),
-    (
-        "GET /f HTTP/1.1\r\nHost: a\r\nRange: bytes=-0\r\n\r\n",
-        NONE,
-    ),
-    (
-        "GET /f HTTP/1.1\r\nHost: a\r\nRange: bytes=6-\r\n\r\n",
-        NONE,
-    ),
-    (
-        "GET /f HTTP/1.1\r\nHost: a\r\nRange: bytes=5-\r\n\r\n",
-        "HTTP/1.1 206 Partial Content\r\nContent-Type: application/octet-stream\r\n\
-            Content-Length: 1\r\nContent-Range: bytes 5-5/6\r\n\r\n",
-    ),
-    (
-        "GET /f HTTP/1.1\r\nHost: a\r\nRange: bytes=0-1,3-4\r\n\r\n",
-        ALL,
-    ),
-    (
-        "GET /f HTTP/1.1\r\nHost: a\r\nRange: Bytes=0-1\r\n\r\n",
-        ALL,
-    ),
-    (
-        "GET /f HTTP/1.1\r\nHost: a\r\nRange: bytes= 0-1\r\n\r\n",
-        ALL,
-    ),
-    ("GET /f HTTP/1.1\r\nHost: a\r\nRange: bytes=-\r\n\r\n", ALL),
-    (
-        "GET /f HTTP/1.1\r\nHost: a\r\nRange: bytes=0--1\r\n\r\n",
-        ALL,
-    ),
-    (
-        "GET /f HTTP/1.1\r\nHost: a\r\nRange: bytes=+0-1\r\n\r\n",
-        ALL,
-    ),
-    (
-        "GET /f HTTP/1.1\r\nHost: a\r\nRange: bytes=000000000000001-1\r\n\r\n",
-        "HTTP/1.1 206 Partial Content\r\nContent-Type: application/octet-stream\r\n\
-            Content-Length: 1\r\nContent-Range: bytes 1-1/6\r\n\r\n",
-    ),
-    (
-        "GET /f HTTP/1.1\r\nHost: a\r\nRange: bytes=0000000000000001-1\r\n\r\n",
-        ALL,
-    ),
-    (
-        "GET /f HTTP/1.1\r\nHost: a\r\nRange: bytes=0-1\r\nRange: bytes=0-1\r\n\r\n",
-        ALL,
-    ),
-    (
-        "GET /f HTTP/1.1\r\nHost: a\r\nRange: bytes=0-1\r\nIf-Range: \"a\"\r\n\r\n",
-        ALL,
-    ),
+    (get!("bytes=-2"), part!(2, "4-5")),
+    (get!("bytes=9-"), NONE),
+    (get!("bytes=2-1"), ALL),
+    (get!("bytes=4-99"), part!(2, "4-5")),
+    (get!("bytes=0-0"), part!(1, "0-0")),
+    (get!("bytes=-9"), part!(6, "0-5")),
+    (get!("bytes=-0"), NONE),
+    (get!("bytes=6-"), NONE),
+    (get!("bytes=5-"), part!(1, "5-5")),
+    (get!("bytes=0-1,3-4"), ALL),
+    (get!("Bytes=0-1"), ALL),
+    (get!("bytes= 0-1"), ALL),
+    (get!("bytes=-"), ALL),
+    (get!("bytes=0--1"), ALL),
+    (get!("bytes=+0-1"), ALL),
+    (get!("bytes=000000000000001-1"), part!(1, "1-1")),
+    (get!("bytes=0000000000000001-1"), ALL),
+    (get!("bytes=0-1\r\nRange: bytes=0-1"), ALL),
+    (get!("bytes=0-1\r\nIf-Range: \"a\""), ALL),
 ];
 
 // Of an empty file.
 const OF_NONE: [(&str, &str); 1] = [(
-    "GET /f HTTP/1.1\r\nHost: a\r\nRange: bytes=0-0\r\n\r\n",
+    get!("bytes=0-0"),
     "HTTP/1.1 200 OK\r\nContent-Type: application/octet-stream\r\nContent-Length: 0\r\n\r\n",
 )];
 
@@ -108,11 +68,7 @@ fn table_of_ranges(rt: HostRuntime) -> Result<(), Fail> {
 
 // The same of other versions and methods.
 const WHOLE: [(&str, &str); 3] = [
-    (
-        "GET /f HTTP/1.1\r\nHost: a\r\nRange: bytes=4-99\r\n\r\n",
-        "HTTP/1.1 206 Partial Content\r\nContent-Type: application/octet-stream\r\n\
-            Content-Length: 2\r\nContent-Range: bytes 4-5/6\r\n\r\n",
-    ),
+    (get!("bytes=4-99"), part!(2, "4-5")),
     (
         "GET /f HTTP/1.0\r\nRange: bytes=9-\r\n\r\n",
         "HTTP/1.1 416 Range Not Satisfiable\r\nContent-Type: text/plain\r\nContent-Length: 26\r\n\
