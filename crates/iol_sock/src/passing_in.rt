@@ -12,7 +12,7 @@ ghost use Rattle.iol_pipe.specs.Arriving.{ReadsIn};
 ghost use Rattle.iol_pipe.specs.Queue.{fitting, may_see};
 ghost use Rattle.iol_pool.specs.Pools.{pool_in};
 ghost use Rattle.iol_sock.specs.Refused.{IsPassed, IsRefused, arrive_late, arrive_refusals, read_refusals};
-ghost use Rattle.iol_sock.specs.Table.{conn_in, with_conn};
+ghost use Rattle.iol_sock.specs.Table.{conn_in, with_conn, with_incoming};
 ghost use Rattle.std.specs.Io.KnownBytes.{IsAtEnd};
 ghost use Rattle.std.specs.Prelude.{Err, IfErr, IfOk, None, OnErr, OnOk, [], drop, false, length, min, take, take_while, true, ℕ, ◌++◌, ◌-◌, ◌<◌, ◌≡◌, ◌≢◌, ◌≤◌};
 
@@ -51,9 +51,7 @@ impl Connections {
         ensures added { IfOk result (λ n. AddsBytes store.old store.new
             (conn_in self.old.conns c).incoming (conn_in self.new.conns c).incoming
             (conn_in self.old.conns c).pool (take n bytes.now)) }
-        ensures others { self.new ≡ with_conn self.old c (record (conn_in self.old.conns c) {
-          incoming = (conn_in self.new.conns c).incoming;
-        }) }
+        ensures others { self.new ≡ with_incoming self.old c (conn_in self.new.conns c).incoming }
         ensures room { OnOk result (has_room store.old (conn_in self.old.conns c).pool (fitting
             (conn_in self.old.conns c).incoming (length bytes.now)) ≡ true) }
         ensures no_room { (p : ℕ) → result ≡ Err (Refusal.NoRoom p) → has_room store.old
@@ -96,9 +94,7 @@ impl Connections {
         ensures ended { IfOk result (λ a. a.end ≡ true → (a.taken ≡ 0) × IsAtEnd
             (R.remaining reader.new)) }
         ensures failed { IfOk result (λ a. a.failed ≡ true → a.taken ≡ 0) }
-        ensures others { self.new ≡ with_conn self.old c (record (conn_in self.old.conns c) {
-          incoming = (conn_in self.new.conns c).incoming;
-        }) }
+        ensures others { self.new ≡ with_incoming self.old c (conn_in self.new.conns c).incoming }
         ensures room { OnOk result (has_room store.old (conn_in self.old.conns c).pool 1 ≡ true) }
         ensures no_room { (p : ℕ) → result ≡ Err (Refusal.NoRoom p) → has_room store.old
             (conn_in self.old.conns c).pool 1 ≡ false }
@@ -129,9 +125,7 @@ impl Connections {
             (places (conn_in self.old.conns c).incoming))) }
         ensures rest { IfOk result (λ a. places (conn_in self.new.conns c).incoming ≡ drop
             (byte_len a) (places (conn_in self.old.conns c).incoming)) }
-        ensures others { self.new ≡ with_conn self.old c (record (conn_in self.old.conns c) {
-          incoming = (conn_in self.new.conns c).incoming;
-        }) }
+        ensures others { self.new ≡ with_incoming self.old c (conn_in self.new.conns c).incoming }
         ensures shares { IfOk result (λ a. Shares store.old store.new
             (bufs_of (conn_in self.old.conns c).incoming) (bufs_of a ++ bufs_of
             (conn_in self.new.conns c).incoming)) }

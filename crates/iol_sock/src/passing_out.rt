@@ -15,7 +15,7 @@ ghost use Rattle.iol_pool.specs.Pools.{pool_in};
 ghost use Rattle.iol_sock.specs.Connections.{closed_by};
 ghost use Rattle.iol_sock.specs.Refused.{IsPassed, IsRefused, queue_refusals, segment_refusals};
 ghost use Rattle.iol_sock.specs.Sent.{UsesSent};
-ghost use Rattle.iol_sock.specs.Table.{conn_in, with_conn};
+ghost use Rattle.iol_sock.specs.Table.{conn_in, with_conn, with_outgoing};
 ghost use Rattle.iol_sum.specs.Sums.{IsRight};
 ghost use Rattle.std.specs.Io.KnownBytes.{Appends};
 ghost use Rattle.std.specs.Prelude.{Err, IfErr, IfOk, None, OnErr, OnOk, drop, false, length, min, take, true, ℕ, ◌++◌, ◌<◌, ◌≡◌, ◌≢◌, ◌≤◌};
@@ -51,9 +51,7 @@ impl Connections {
             from.now)) }
         ensures places { IfOk result (λ n. places (conn_in self.new.conns c).outgoing ≡ places
             (conn_in self.old.conns c).outgoing ++ take n (places from.now)) }
-        ensures others { self.new ≡ with_conn self.old c (record (conn_in self.old.conns c) {
-          outgoing = (conn_in self.new.conns c).outgoing;
-        }) }
+        ensures others { self.new ≡ with_outgoing self.old c (conn_in self.new.conns c).outgoing }
         ensures shares { OnOk result (Shares store.old store.new
             (bufs_of (conn_in self.old.conns c).outgoing)
             (bufs_of (conn_in self.new.conns c).outgoing)) }
@@ -89,9 +87,7 @@ impl Connections {
         ensures added { IfOk result (λ n. AddsBytes store.old store.new
             (conn_in self.old.conns c).outgoing (conn_in self.new.conns c).outgoing pool (take n
             bytes.now)) }
-        ensures others { self.new ≡ with_conn self.old c (record (conn_in self.old.conns c) {
-          outgoing = (conn_in self.new.conns c).outgoing;
-        }) }
+        ensures others { self.new ≡ with_outgoing self.old c (conn_in self.new.conns c).outgoing }
         ensures room { OnOk result (has_room store.old pool (fitting
             (conn_in self.old.conns c).outgoing (length bytes.now)) ≡ true) }
         ensures no_room { (p : ℕ) → result ≡ Err (Refusal.NoRoom p) → has_room store.old pool
@@ -130,9 +126,7 @@ impl Connections {
         ensures checksum { IfOk result (λ g. g.checksum ≡ checksum_of g.bytes) }
         ensures rest { OnOk result (places (conn_in self.new.conns c).outgoing ≡ drop max
             (places (conn_in self.old.conns c).outgoing)) }
-        ensures others { self.new ≡ with_conn self.old c (record (conn_in self.old.conns c) {
-          outgoing = (conn_in self.new.conns c).outgoing;
-        }) }
+        ensures others { self.new ≡ with_outgoing self.old c (conn_in self.new.conns c).outgoing }
         ensures moves { OnOk result (Moves store.old store.new
             (bufs_of (conn_in self.old.conns c).outgoing)
             (bufs_of (conn_in self.new.conns c).outgoing)) }
@@ -173,9 +167,7 @@ impl Connections {
             result.taken (bytes_of (text_of store.old (conn_in self.old.conns c).outgoing))) }
         ensures rest { places (conn_in self.new.conns c).outgoing ≡ drop result.taken
             (places (conn_in self.old.conns c).outgoing) }
-        ensures others { self.new ≡ with_conn self.old c (record (conn_in self.old.conns c) {
-          outgoing = (conn_in self.new.conns c).outgoing;
-        }) }
+        ensures others { self.new ≡ with_outgoing self.old c (conn_in self.new.conns c).outgoing }
         ensures moves { Moves store.old store.new (bufs_of (conn_in self.old.conns c).outgoing)
             (bufs_of (conn_in self.new.conns c).outgoing) }
         ensures lists { SameLists store.old store.new }

@@ -40,8 +40,12 @@ loop-taken-preserved g c =
       written = t.written;
     }
 
-pub returns-after-loop-taken-clause-most : goal.returns-after-loop-taken-clause-most
-returns-after-loop-taken-clause-most g c = omega (arith, c.loop-taken.invariant.full, byte_len-take-le c.args.queue.now c.loop-taken.i)
-
-pub returns-after-loop-taken-clause-all : goal.returns-after-loop-taken-clause-all
-returns-after-loop-taken-clause-all g c = λ e. omega (arith, c.loop-taken.invariant.full, c.loop-taken-test.false, byte_len-take-le c.args.queue.now c.loop-taken.i)
+pub returns-after-loop-taken : goal.returns-after-loop-taken
+returns-after-loop-taken g c =
+    let all = byte_len-take-le c.args.queue.now c.loop-taken.i in
+    record {
+      most = omega (arith, c.loop-taken.invariant.full, all);
+      all = λ passed. omega (arith, c.loop-taken.invariant.full, c.loop-taken-test.false, all);
+      fewer = λ bad. absurd (cc bad);
+      written = c.loop-taken.invariant.written;
+    }
