@@ -29,10 +29,10 @@ here t to n x y r found =
       same = λ e. ap (with_conn t n) (sym new ∙ e ∙ old) ∙ ap (λ es. record t { conns = es }) (changed-same t.conns 0 to n x r found);
     }
 
--- the table t is seen as v, and the number m is n
-pub at_place : {v t : ConnTable} {n m : ℕ} {x : Conn (List Slice)} (to : ℕ) (y : Conn (List Slice)) → v ≡ t → n ≡ m → Rises 0 v.conns to → lookup v.conns n ≡ Some x → AtPlace t (with_conn v n y) m x y
-at_place {v} {t} {n} {m} {x} to y view same r found = subst (λ u. AtPlace u (with_conn v n y) m x y) view (subst (λ k. AtPlace v (with_conn v n y) k x y) same (here v to n x y r found))
+-- the table t is seen as v
+pub at_place : {v t : ConnTable} {n : ℕ} {x : Conn (List Slice)} (to : ℕ) (y : Conn (List Slice)) → v ≡ t → Rises 0 v.conns to → lookup v.conns n ≡ Some x → AtPlace t (with_conn v n y) n x y
+at_place {v} {t} {n} {x} to y view r found = subst (λ u. AtPlace u (with_conn v n y) n x y) view (here v to n x y r found)
 
 -- the same, before the call
-pub was_at : {v t : ConnTable} {n m : ℕ} {x : Conn (List Slice)} → v ≡ t → n ≡ m → lookup v.conns n ≡ Some x → x ≡ conn_in t.conns m
-was_at {v} {t} {n} {m} {x} view same found = subst (λ u. x ≡ conn_in u.conns m) view (subst (λ k. x ≡ conn_in v.conns k) same (sym (conn_in-there v.conns n x found)))
+pub was_at : {v t : ConnTable} {x : Conn (List Slice)} (n : ℕ) → v ≡ t → lookup v.conns n ≡ Some x → x ≡ conn_in t.conns n
+was_at {v} {t} {x} n view found = subst (λ u. x ≡ conn_in u.conns n) view (sym (conn_in-there v.conns n x found))

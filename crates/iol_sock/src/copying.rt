@@ -12,7 +12,7 @@ ghost use Rattle.iol_pipe.specs.Queue.{may_see};
 ghost use Rattle.iol_sock.specs.Table.{conn_in, with_incoming};
 
 use crate::connections::Connection;
-use crate::table::Connections;
+use crate::table::{Connections, conn_mut};
 use iol_core::numbers::{ConnId, DomainId};
 use iol_hold::Store;
 
@@ -61,7 +61,6 @@ impl Connections {
         ensures settles { AllReadable store.old (conn_in self.old.conns c).incoming → AllSettled
             store.old → AllSettled store.new }
     {
-        self.live.numbers_rise();
-        self.live.value_mut(c.number() as u64).skip(store, n);
+        conn_mut(&mut self.live, c).skip(store, n);
     }
 }

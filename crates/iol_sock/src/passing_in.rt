@@ -17,7 +17,7 @@ ghost use Rattle.std.specs.Io.KnownBytes.{IsAtEnd};
 ghost use Rattle.std.specs.Prelude.{Err, IfErr, IfOk, None, OnErr, OnOk, [], drop, false, length, min, take, take_while, true, ℕ, ◌++◌, ◌-◌, ◌<◌, ◌≡◌, ◌≢◌, ◌≤◌};
 
 use crate::connections::Connection;
-use crate::table::Connections;
+use crate::table::{Connections, conn_mut};
 use iol_agg::Agg;
 use iol_core::limits::{MAX_QUEUE_BYTES, PAGE_BYTES};
 use iol_core::numbers::{ConnId, DomainId};
@@ -60,10 +60,7 @@ impl Connections {
         ensures err { OnErr result (self.new ≡ self.old) }
         ensures err_store { OnErr result (store.new ≡ store.old) }
     {
-        self.live.numbers_rise();
-        self.live
-            .value_mut(c.number() as u64)
-            .arrive(alloc, store, bytes)
+        conn_mut(&mut self.live, c).arrive(alloc, store, bytes)
     }
 
     /// The bytes of one read come in from a connection's peer, straight into a new buffer on the lowest free page of its
@@ -102,10 +99,7 @@ impl Connections {
         ensures err_store { OnErr result (store.new ≡ store.old) }
         ensures err_reader { OnErr result (reader.new ≡ reader.old) }
     {
-        self.live.numbers_rise();
-        self.live
-            .value_mut(c.number() as u64)
-            .arrive_from(alloc, store, reader, max)
+        conn_mut(&mut self.live, c).arrive_from(alloc, store, reader, max)
     }
 
     /// Takes off the longest prefix of at most `n` bytes that came in on a connection, whose pools all name the domain.
@@ -132,10 +126,7 @@ impl Connections {
         ensures err { OnErr result (self.new ≡ self.old) }
         ensures err_store { OnErr result (store.new ≡ store.old) }
     {
-        self.live.numbers_rise();
-        self.live
-            .value_mut(c.number() as u64)
-            .front(alloc, store, n, d)
+        conn_mut(&mut self.live, c).front(alloc, store, n, d)
     }
 
     /// The domain closes a connection. What came in is dropped, and what is to be sent stays.
@@ -153,7 +144,6 @@ impl Connections {
         ensures settles { AllReadable store.old (conn_in self.old.conns c).incoming → AllSettled
             store.old → AllSettled store.new }
     {
-        self.live.numbers_rise();
-        self.live.value_mut(c.number() as u64).close(store);
+        conn_mut(&mut self.live, c).close(store);
     }
 }

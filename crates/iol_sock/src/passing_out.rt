@@ -23,7 +23,7 @@ ghost use Rattle.std.specs.Prelude.{Err, IfErr, IfOk, None, OnErr, OnOk, drop, f
 use crate::connections::Connection;
 use crate::draining::Drained;
 use crate::outgoing::Segment;
-use crate::table::Connections;
+use crate::table::{Connections, conn_mut};
 use iol_agg::Agg;
 use iol_core::descriptors::How;
 use iol_core::numbers::{ConnId, PoolId};
@@ -59,8 +59,7 @@ impl Connections {
         ensures err { OnErr result (self.new ≡ self.old) }
         ensures err_store { OnErr result (store.new ≡ store.old) }
     {
-        self.live.numbers_rise();
-        self.live.value_mut(c.number() as u64).queue(store, from)
+        conn_mut(&mut self.live, c).queue(store, from)
     }
 
     /// New bytes of an open pool are to be sent on a connection, as many as fit: how many is the answer. They lie in new
@@ -95,10 +94,7 @@ impl Connections {
         ensures err { OnErr result (self.new ≡ self.old) }
         ensures err_store { OnErr result (store.new ≡ store.old) }
     {
-        self.live.numbers_rise();
-        self.live
-            .value_mut(c.number() as u64)
-            .write(alloc, store, pool, bytes)
+        conn_mut(&mut self.live, c).write(alloc, store, pool, bytes)
     }
 
     /// Sends the first `max` bytes of a connection, or all where fewer wait, with the checksum of these alone.
@@ -140,10 +136,7 @@ impl Connections {
         ensures err_store { OnErr result (store.new ≡ store.old) }
         ensures err_sums { OnErr result (sums.new ≡ sums.old) }
     {
-        self.live.numbers_rise();
-        self.live
-            .value_mut(c.number() as u64)
-            .segment(alloc, store, sums, max)
+        conn_mut(&mut self.live, c).segment(alloc, store, sums, max)
     }
 
     /// Lends the first bytes to be sent on a connection to a writer, at most `max` in all, and takes off what it took.
@@ -174,10 +167,7 @@ impl Connections {
         ensures frees { FreesOnly store.old store.new }
         ensures settles { AllSettled store.old → AllSettled store.new }
     {
-        self.live.numbers_rise();
-        self.live
-            .value_mut(c.number() as u64)
-            .drain_to(store, writer, max)
+        conn_mut(&mut self.live, c).drain_to(store, writer, max)
     }
 
     /// The peer of a connection sends no more, or also takes no more. What was to be sent to a peer that is gone is
@@ -194,9 +184,6 @@ impl Connections {
         ensures settles { AllReadable store.old (conn_in self.old.conns c).outgoing → AllSettled
             store.old → AllSettled store.new }
     {
-        self.live.numbers_rise();
-        self.live
-            .value_mut(c.number() as u64)
-            .peer_closed(store, how);
+        conn_mut(&mut self.live, c).peer_closed(store, how);
     }
 }
