@@ -1,11 +1,11 @@
 -- A call on one connection of a table, by its number.
-use Rattle.std.proofs.Common.{◌≡◌, ℕ, List, Some, None, sym, ap, subst, ◌∙◌}
+use Rattle.std.proofs.Common.{◌≡◌, ℕ, List, Some, sym, ap, subst, ◌∙◌}
 use Rattle.iol_core.specs.Numbered.{lookup, changed}
 use Rattle.iol_hold.specs.declared.slices.Slice.{Slice}
 use Rattle.iol_desc.specs.Listed.{Rises}
 use Rattle.iol_sock.specs.Connections.{Conn}
 use Rattle.iol_sock.specs.Table.{ConnTable, conn_in, with_conn}
-use Rattle.iol_sock.proofs.Waiting.{conn_in-there, lookup-changed, changed-same}
+use Rattle.iol_sock.proofs.Waiting.{some-none, conn_in-there, lookup-changed, changed-same}
 
 -- From the table t to u a call went, on the connection of that number alone, from x to y. What the call says of x and y,
 -- the tables say of their connections.
@@ -14,9 +14,6 @@ pub record AtPlace (t u : ConnTable) (number : ℕ) (x y : Conn (List Slice)) : 
   pub new : y ≡ conn_in u.conns number
   pub others : {z : Conn (List Slice)} → conn_in u.conns number ≡ z → u ≡ with_conn t number z
   pub same : conn_in u.conns number ≡ conn_in t.conns number → u ≡ t
-
-some-none : (x : Conn (List Slice)) → Some x ≡ None → ⊥
-some-none x bad = cc bad
 
 here : (t : ConnTable) (to n : ℕ) (x y : Conn (List Slice)) → Rises 0 t.conns to → lookup t.conns n ≡ Some x → AtPlace t (with_conn t n y) n x y
 here t to n x y r found =

@@ -86,6 +86,9 @@ lookup-changed {X} (e ∷ es) n y there = elim (cases_eq e.0 n) [
 some-same : {X : Type 0} (o : Option X) (x y : X) → o ≡ Some x → o ≡ Some y → x ≡ y
 some-same o x y a b = cc (a, b)
 
+pub some-none : {X : Type 0} (x : X) → Some x ≡ None → ⊥
+some-none x bad = cc bad
+
 -- where the first has that number, it is the only one
 head-is : (e : ℕ × Conn (List Slice)) (es : Conns) (n : ℕ) (x : Conn (List Slice)) → e.0 ≡ n → lookup (e ∷ es) n ≡ Some x → e.1 ≡ x
 head-is e es n x k found = some-same (lookup (e ∷ es) n) e.1 x (lookup-first e es n k) found
@@ -225,9 +228,6 @@ accepts es ws to n m is r same there waits =
       λ none. some-none (conn_in es n).pool (sym listed ∙ none),
       λ y accepted. rw (is, same) (sym (waiting-accepted es 0 to n (conn_in es n) y r found waits accepted)),
     )
-  where
-    some-none : (p : ℕ) → Some p ≡ None → ⊥
-    some-none p bad = cc bad
 
 pub accepted-there : (es : Conns) (n m : ℕ) (x y : Conn (List Slice)) → m ≡ n → lookup es m ≡ Some x → y ≡ record x { accepted = true } → changed es m y ≡ changed es n (record (conn_in es n) { accepted = true })
 accepted-there es n m x y same found is =
@@ -240,9 +240,6 @@ forgets es ws n x is found waits =
       λ none. some-none x.pool (sym listed ∙ none),
       rw is (sym (waiting-without es n x found waits)),
     )
-  where
-    some-none : (p : ℕ) → Some p ≡ None → ⊥
-    some-none p bad = cc bad
 
 -- the list stays where a connection stays accepted, or not, and in its pool
 pub index_kept : (es : Conns) (ws : List (ℕ × ℕ)) (to n : ℕ) (x y : Conn (List Slice)) → ws ≡ waiting_in es → Rises 0 es to → lookup es n ≡ Some x → y.accepted ≡ x.accepted → y.pool ≡ x.pool → ws ≡ waiting_in (changed es n y)
