@@ -1,3 +1,4 @@
+pub mod AtPlace
 pub mod Ending
 pub mod Meaning
 pub mod Sending

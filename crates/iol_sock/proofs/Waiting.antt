@@ -12,7 +12,7 @@ use Rattle.iol_desc.specs.Listed.{Rises, IsRising}
 use Rattle.iol_desc.proofs.Rising.{rises-lower}
 use Rattle.iol_pool.specs.Pools.{Pool, names_in}
 use Rattle.iol_sock.specs.Connections.{Conn, new_conn}
-use Rattle.iol_sock.specs.Table.{ConnTable, conn_in, no_conn, waiting_in, with_conn}
+use Rattle.iol_sock.specs.Table.{conn_in, no_conn, waiting_in}
 
 -- connections under numbers
 abbrev pub Conns : Type 0
@@ -85,6 +85,9 @@ lookup-changed {X} (e ∷ es) n y there = elim (cases_eq e.0 n) [
 
 some-same : {X : Type 0} (o : Option X) (x y : X) → o ≡ Some x → o ≡ Some y → x ≡ y
 some-same o x y a b = cc (a, b)
+
+pub some-none : {X : Type 0} (x : X) → Some x ≡ None → ⊥
+some-none x bad = cc bad
 
 -- where the first has that number, it is the only one
 head-is : (e : ℕ × Conn (List Slice)) (es : Conns) (n : ℕ) (x : Conn (List Slice)) → e.0 ≡ n → lookup (e ∷ es) n ≡ Some x → e.1 ≡ x
@@ -225,9 +228,6 @@ accepts es ws to n m is r same there waits =
       λ none. some-none (conn_in es n).pool (sym listed ∙ none),
       λ y accepted. rw (is, same) (sym (waiting-accepted es 0 to n (conn_in es n) y r found waits accepted)),
     )
-  where
-    some-none : (p : ℕ) → Some p ≡ None → ⊥
-    some-none p bad = cc bad
 
 pub accepted-there : (es : Conns) (n m : ℕ) (x y : Conn (List Slice)) → m ≡ n → lookup es m ≡ Some x → y ≡ record x { accepted = true } → changed es m y ≡ changed es n (record (conn_in es n) { accepted = true })
 accepted-there es n m x y same found is =
@@ -240,40 +240,18 @@ forgets es ws n x is found waits =
       λ none. some-none x.pool (sym listed ∙ none),
       rw is (sym (waiting-without es n x found waits)),
     )
-  where
-    some-none : (p : ℕ) → Some p ≡ None → ⊥
-    some-none p bad = cc bad
 
 -- the list stays where a connection stays accepted, or not, and in its pool
 pub index_kept : (es : Conns) (ws : List (ℕ × ℕ)) (to n : ℕ) (x y : Conn (List Slice)) → ws ≡ waiting_in es → Rises 0 es to → lookup es n ≡ Some x → y.accepted ≡ x.accepted → y.pool ≡ x.pool → ws ≡ waiting_in (changed es n y)
 index_kept es ws to n x y is r found flag pool = is ∙ sym (waiting-kept es 0 to n x y r found flag pool)
 
--- a call on one connection of a table, of n, which is the number m
-
-pub old_is : (es : Conns) (t : ConnTable) (n m : ℕ) (x : Conn (List Slice)) → es ≡ t.conns → n ≡ m → lookup es n ≡ Some x → conn_in t.conns m ≡ x
-old_is es t n m x view same found = ap (λ (es : Conns). conn_in es m) (sym view) ∙ ap (λ (k : ℕ). conn_in es k) (sym same) ∙ conn_in-there es n x found
-
-pub new_is : (es : Conns) (n m : ℕ) (x y : Conn (List Slice)) → n ≡ m → lookup es n ≡ Some x → conn_in (changed es n y) m ≡ y
-new_is es n m x y same found =
-    ap (λ (k : ℕ). conn_in (changed es n y) k) (sym same) ∙ conn_in-there (changed es n y) n y (lookup-changed es n y (λ none. some-none x (sym found ∙ none)))
-  where
-    some-none : (x : Conn (List Slice)) → Some x ≡ None → ⊥
-    some-none x bad = cc bad
-
 -- nothing changed
-changed-same : (es : Conns) (from to n : ℕ) (x : Conn (List Slice)) → Rises from es to → lookup es n ≡ Some x → changed es n x ≡ es
+pub changed-same : (es : Conns) (from to n : ℕ) (x : Conn (List Slice)) → Rises from es to → lookup es n ≡ Some x → changed es n x ≡ es
 changed-same [] from to n x r found = refl
 changed-same (e ∷ es) from to n x r found = elim (cases_eq e.0 n) [
   | inl k ↦ changed-head e es to n x k r.1 ∙ ap (λ (x : Conn (List Slice)). (n, x) ∷ es) (sym (head-is e es n x k found)) ∙ ap (λ (m : ℕ). (m, e.1) ∷ es) (sym k)
   | inr k ↦ changed-later e es n x k ∙ ap (λ (es : Conns). e ∷ es) (changed-same es (e.0 + 1) to n x r.1 (sym (lookup-later e es n k) ∙ found))
 ]
-
-pub same_is : (t u : ConnTable) (to n : ℕ) (x y : Conn (List Slice)) → t ≡ u → Rises 0 t.conns to → lookup t.conns n ≡ Some x → y ≡ x → with_conn t n y ≡ u
-same_is t u to n x y view r found same =
-    ap (λ (z : Conn (List Slice)). with_conn t n z) same ∙ ap (λ (es : Conns). record t { conns = es }) (changed-same t.conns 0 to n x r found) ∙ view
-
-pub others_are : (t u : ConnTable) (n m : ℕ) (y z : Conn (List Slice)) → t ≡ u → n ≡ m → y ≡ z → with_conn t n y ≡ with_conn u m z
-others_are t u n m y z view same is = ap (λ (t : ConnTable). with_conn t n y) view ∙ ap (λ (k : ℕ). with_conn u k y) same ∙ ap (λ (z : Conn (List Slice)). with_conn u m z) is
 
 pub ruleset list_rules = (remove-place)
 

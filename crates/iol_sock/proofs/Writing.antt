@@ -1,17 +1,17 @@
 -- The first bytes of slices, as they are written one slice after another.
 use Rattle.std.proofs.Common.{◌≡◌, ℕ, ◌+◌, ◌-◌, ◌<◌, ◌≤◌, min, Option, List, ◌∷◌, ◌++◌, length, get_or, map, take, drop, sym, ap, subst, ◌∙◌, arith}
 use Rattle.std.proofs.Math.Seq.{take-add}
-use Rattle.std.proofs.lemmas.List.{take-append-drop, drop_at, drop-map, map-append, take-append-le, take-take, at_drop_more}
+use Rattle.std.proofs.lemmas.List.{length-take, take-append-drop, drop_at, drop-map, map-append, take-append-le, take-take, at_drop_more}
 use Rattle.std.proofs.KnownBytes.{Appends-trans}
 use Rattle.std.specs.Io.KnownBytes.{Appends}
 use Rattle.iol_core.specs.Text.{bytes_of}
 use Rattle.iol_hold.specs.Stored.{Stored}
 use Rattle.iol_hold.specs.Places.{slice_places, places, byte_len}
-use Rattle.iol_hold.specs.Texts.{byte_at, slice_bytes, text_of, IsReadable}
+use Rattle.iol_hold.specs.Texts.{byte_at, slice_bytes, text_of, AllReadable, IsReadable}
 use Rattle.iol_hold.specs.declared.slices.Slice.{Slice}
 use Rattle.iol_hold.proofs.Reading.{text_of-slice, bytes_of-labelled}
 use Rattle.iol_hold.proofs.Slicing.{places-append, byte_len-take_more, byte_len-take-le}
-use Rattle.iol_sum.proofs.Pieced.{length-slice_bytes}
+use Rattle.iol_sum.proofs.Pieced.{length-slice_bytes, readable-item}
 
 -- the bytes from the i-th slice on
 rest_of : (s : Stored) (xs : List Slice) (i n : ℕ) → n ≡ byte_len (take i xs) → drop n (bytes_of (text_of s xs)) ≡ bytes_of (text_of s (drop i xs))
@@ -45,22 +45,23 @@ more_written s xs i n len k x h e readable before few within =
 pub more_of : (bs : List ℕ) (n k : ℕ) → k ≤ length bs - n → take (n + k) bs ≡ take n bs ++ take k (take (length bs - n) (drop n bs))
 more_of bs n k h = take-add n k bs ∙ ap (λ w. take n bs ++ w) (sym (take-take k (length bs - n) (drop n bs) h))
 
--- Of the i-th slice, len bytes are offered, and k of them are taken.
-module _ (s : Stored) (xs : List Slice) (i n max len k : ℕ) (x : Slice) (there : i < length xs) (is : x ≡ get_or xs i x) (full : n ≡ min max (byte_len (take i xs))) (more : n < max) (offered : len ≡ min x.len (max - n)) (few : k ≤ len) where
-  upto : byte_len (take (i + 1) xs) ≡ byte_len (take i xs) + x.len
-  upto = byte_len-take_more xs i x there is
+-- Of n bytes and those of the i-th slice, of which len are offered and k taken, a becomes c.
+pub record Takes (s : Stored) (xs : List Slice) (i n max len k : ℕ) (a c : Option (List ℕ)) : Type 0 where
+  pub few : k ≤ len
+  pub within : n + len ≤ min max (byte_len xs)
+  pub whole : n + len ≡ min max (byte_len (take (i + 1) xs))
+  pub some : 0 < len
+  pub written : Appends a c (take (n + k) (bytes_of (text_of s xs)))
 
-  pub taken_within : n + k ≤ min max (byte_len xs)
-  taken_within = omega (arith, full, more, offered, few, upto, byte_len-take-le xs (i + 1))
-
-  pub taken_whole : len ≤ k → n + k ≡ min max (byte_len (take (i + 1) xs))
-  taken_whole all = omega (arith, full, more, offered, few, upto, all)
-
-  pub taken_some : len ≤ k → i ≤ n → i + 1 ≤ n + k
-  taken_some all slow = omega (arith, more, offered, all, slow, x.some)
-
-  pub taken_written : (a b c : Option (List ℕ)) → IsReadable s x → Appends a b (take n (bytes_of (text_of s xs))) → Appends b c (take k (take len (slice_bytes s x))) → Appends a c (take (n + k) (bytes_of (text_of s xs)))
-  taken_written a b c readable before after =
-      let all : List ℕ = bytes_of (text_of s xs) in
-      subst (λ w. Appends a c w) (sym (more_written s xs i n len k x there is readable (omega (arith, full, more)) few (omega (arith, offered))))
-      (Appends-trans a b c (take n all) (take k (take len (slice_bytes s x))) before after)
+pub takes : (s : Stored) (xs : List Slice) (i n max len k : ℕ) (x : Slice) (bs : List ℕ) (a b c : Option (List ℕ)) → i < length xs → x ≡ get_or xs i x → AllReadable s xs → n ≡ min max (byte_len (take i xs)) → n < max → len ≡ min x.len (max - n) → bs ≡ slice_bytes s x → k ≤ length (take len bs) → Appends a b (take n (bytes_of (text_of s xs))) → Appends b c (take k (take len bs)) → Takes s xs i n max len k a c
+takes s xs i n max len k x bs a b c there is readable full more offered same taken before after =
+    let few : k ≤ len = omega (arith, taken, length-take len bs) in
+    let upto : byte_len (take (i + 1) xs) ≡ byte_len (take i xs) + x.len = byte_len-take_more xs i x there is in
+    let parts = more_written s xs i n len k x there is (readable-item xs i x there is readable) (omega (arith, full, more)) few (omega (arith, offered)) in
+    record {
+      few = few;
+      within = omega (arith, full, more, offered, upto, byte_len-take-le xs (i + 1));
+      whole = omega (arith, full, more, offered, upto);
+      some = omega (arith, more, offered, x.some);
+      written = subst (λ w. Appends a c w) (sym parts) (Appends-trans a b c (take n (bytes_of (text_of s xs))) (take k (take len (slice_bytes s x))) before (subst (λ w. Appends b c (take k (take len w))) same after));
+    }

@@ -1,7 +1,12 @@
--- Remembered sums, as bytes are sent.
-use Rattle.std.specs.Prelude.{◌≡◌, ℕ, List, map}
+-- What becomes of the first bytes of a queue, as they are sent.
+use Rattle.std.specs.Prelude.{◌≡◌, ◌<◌, ◌≤◌, ℕ, Bool, true, false, List, Option, map, take, drop}
+use Rattle.std.specs.Io.KnownBytes.{Appends}
+use Rattle.iol_core.specs.Text.{bytes_of}
 use Rattle.iol_hold.specs.Stored.{Stored}
-use Rattle.iol_hold.specs.Places.{slice_places}
+use Rattle.iol_hold.specs.Moves.{Moves}
+use Rattle.iol_hold.specs.Places.{places, slice_places}
+use Rattle.iol_hold.specs.Releases.{FreesOnly}
+use Rattle.iol_hold.specs.Texts.{bufs_of, text_of}
 use Rattle.iol_hold.specs.declared.slices.Slice.{Slice}
 use Rattle.iol_pipe.specs.Queue.{first_parts}
 use Rattle.iol_sum.specs.Sums.{Sums, UsesEach}
@@ -12,3 +17,18 @@ pub record UsesSent (s : Stored) (queue : List Slice) (n : ℕ) (old new : Sums)
   pub sent : List Slice
   pub cut : map slice_places sent ≡ first_parts n (map slice_places queue)
   pub uses : UsesEach s old sent new
+
+-- the first n bytes of a queue are given as a segment's, and leave it
+pub record IsSent (s t : Stored) (old new : List Slice) (n : ℕ) (sums summed : Sums) (sent : List ℕ) : Type 0 where
+  pub bytes : sent ≡ bytes_of (take n (text_of s old))
+  pub rest : places new ≡ drop n (places old)
+  pub moves : Moves s t (bufs_of old) (bufs_of new)
+  pub frees : FreesOnly s t
+  pub uses : UsesSent s old n sums summed
+
+-- A writer takes bytes up to the last that it is offered, or fails before.
+pub record Writes (old new : Option (List ℕ)) (bytes : List ℕ) (offered taken : ℕ) (failed : Bool) : Type 0 where
+  pub most : taken ≤ offered
+  pub all : failed ≡ false → taken ≡ offered
+  pub fewer : failed ≡ true → taken < offered
+  pub written : Appends old new (take taken bytes)

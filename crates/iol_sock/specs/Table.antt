@@ -24,6 +24,14 @@ conn_in conns c = unwrap_or (lookup conns c) no_conn
 abbrev pub with_conn : ConnTable → (c : ℕ) → Conn (List Slice) → ConnTable
 with_conn t c x = record t { conns = changed t.conns c x }
 
+-- with xs as what came in on it
+abbrev pub with_incoming : ConnTable → (c : ℕ) → List Slice → ConnTable
+with_incoming t c xs = with_conn t c (record (conn_in t.conns c) { incoming = xs })
+
+-- with xs as what is to be sent on it
+abbrev pub with_outgoing : ConnTable → (c : ℕ) → List Slice → ConnTable
+with_outgoing t c xs = with_conn t c (record (conn_in t.conns c) { outgoing = xs })
+
 -- the numbers of those that no domain accepted, each with its pool
 abbrev pub waiting_in : List (ℕ × Conn (List Slice)) → List (ℕ × ℕ)
 waiting_in conns = map (λ e. (e.0, e.1.pool)) (filter (λ e. not e.1.accepted) conns)

@@ -9,10 +9,10 @@ ghost use Rattle.iol_hold.specs.Releases.{FreesOnly};
 ghost use Rattle.iol_hold.specs.Stored.{AllSettled};
 ghost use Rattle.iol_hold.specs.Texts.{text_of, bufs_of, AllReadable};
 ghost use Rattle.iol_pipe.specs.Queue.{may_see};
-ghost use Rattle.iol_sock.specs.Table.{conn_in, with_conn};
+ghost use Rattle.iol_sock.specs.Table.{conn_in, with_incoming};
 
 use crate::connections::Connection;
-use crate::table::Connections;
+use crate::table::{Connections, conn_mut};
 use iol_core::numbers::{ConnId, DomainId};
 use iol_hold::Store;
 
@@ -53,9 +53,7 @@ impl Connections {
         requires covered { Covers store.old (bufs_of (conn_in self.old.conns c).incoming) }
         ensures rest { places (conn_in self.new.conns c).incoming ≡ drop n
             (places (conn_in self.old.conns c).incoming) }
-        ensures others { self.new ≡ with_conn self.old c (record (conn_in self.old.conns c) {
-          incoming = (conn_in self.new.conns c).incoming;
-        }) }
+        ensures others { self.new ≡ with_incoming self.old c (conn_in self.new.conns c).incoming }
         ensures moves { Moves store.old store.new (bufs_of (conn_in self.old.conns c).incoming)
             (bufs_of (conn_in self.new.conns c).incoming) }
         ensures lists { SameLists store.old store.new }
@@ -63,7 +61,6 @@ impl Connections {
         ensures settles { AllReadable store.old (conn_in self.old.conns c).incoming → AllSettled
             store.old → AllSettled store.new }
     {
-        self.live.numbers_rise();
-        self.live.value_mut(c.number() as u64).skip(store, n);
+        conn_mut(&mut self.live, c).skip(store, n);
     }
 }

@@ -7,6 +7,7 @@ ghost use Rattle.iol_hold.specs.Places.{byte_len, places};
 ghost use Rattle.iol_hold.specs.Releases.{FreesOnly};
 ghost use Rattle.iol_hold.specs.Stored.{AllSettled};
 ghost use Rattle.iol_hold.specs.Texts.{text_of, bufs_of, AllReadable};
+ghost use Rattle.iol_sock.specs.Sent.{Writes};
 
 use crate::connections::Connection;
 use iol_hold::Store;
@@ -51,11 +52,9 @@ impl Connection {
 // Writes the first bytes of a queue, at most `max`, until the writer fails or takes none.
 fn write_first<W: Write>(queue: &Pipe, store: &Store, writer: &mut W, max: u32) -> Drained
     requires { AllReadable store.now queue.now }
-    ensures most { result.taken ≤ min max (byte_len queue.now) }
-    ensures all { result.failed ≡ false → result.taken ≡ min max (byte_len queue.now) }
-    ensures fewer { result.failed ≡ true → result.taken < min max (byte_len queue.now) }
-    ensures written { Appends (W.contents writer.old) (W.contents writer.new)
-        (take result.taken (bytes_of (text_of store.now queue.now))) }
+    ensures { Writes (W.contents writer.old) (W.contents writer.new)
+        (bytes_of (text_of store.now queue.now)) (min max (byte_len queue.now)) result.taken
+        result.failed }
 {
     let mut taken = 0;
     let mut i = 0;

@@ -15,7 +15,7 @@ ghost use Rattle.iol_pipe.specs.Adding.{AddsBytes};
 ghost use Rattle.iol_pipe.specs.Queue.{fitting};
 ghost use Rattle.iol_sum.specs.Sums.{IsRight};
 ghost use Rattle.iol_sock.specs.Refused.{queue_refusals, segment_refusals, IsPassed, IsRefused};
-ghost use Rattle.iol_sock.specs.Sent.{UsesSent};
+ghost use Rattle.iol_sock.specs.Sent.{IsSent, UsesSent};
 
 use crate::connections::Connection;
 use iol_agg::Agg;
@@ -162,15 +162,11 @@ fn send(
     requires countable { IsCountable store.old (bufs_of queue.old) }
     requires readable { AllReadable store.old queue.old }
     requires right { IsRight store.old.arena sums.old }
-    ensures bytes { IfOk result (λ g. g.bytes ≡ bytes_of (take max (text_of store.old queue.old))) }
+    ensures sent { IfOk result (λ g. IsSent store.old store.new queue.old queue.new max sums.old
+        sums.new g.bytes) }
     ensures checksum { IfOk result (λ g. g.checksum ≡ checksum_of g.bytes) }
-    ensures rest { OnOk result (places queue.new ≡ drop max (places queue.old)) }
-    ensures moves { OnOk result (Moves store.old store.new (bufs_of queue.old)
-        (bufs_of queue.new)) }
     ensures lists { SameLists store.old store.new }
-    ensures frees { OnOk result (FreesOnly store.old store.new) }
     ensures settles { AllSettled store.old → AllSettled store.new }
-    ensures uses { OnOk result (UsesSent store.old queue.old max sums.old sums.new) }
     ensures right { IsRight store.new.arena sums.new }
     ensures err { OnErr result (queue.new ≡ queue.old) }
     ensures err_store { OnErr result (store.new ≡ store.old) }

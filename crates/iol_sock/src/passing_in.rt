@@ -12,12 +12,12 @@ ghost use Rattle.iol_pipe.specs.Arriving.{ReadsIn};
 ghost use Rattle.iol_pipe.specs.Queue.{fitting, may_see};
 ghost use Rattle.iol_pool.specs.Pools.{pool_in};
 ghost use Rattle.iol_sock.specs.Refused.{IsPassed, IsRefused, arrive_late, arrive_refusals, read_refusals};
-ghost use Rattle.iol_sock.specs.Table.{conn_in, with_conn};
+ghost use Rattle.iol_sock.specs.Table.{conn_in, with_conn, with_incoming};
 ghost use Rattle.std.specs.Io.KnownBytes.{IsAtEnd};
 ghost use Rattle.std.specs.Prelude.{Err, IfErr, IfOk, None, OnErr, OnOk, [], drop, false, length, min, take, take_while, true, ℕ, ◌++◌, ◌-◌, ◌<◌, ◌≡◌, ◌≢◌, ◌≤◌};
 
 use crate::connections::Connection;
-use crate::table::Connections;
+use crate::table::{Connections, conn_mut};
 use iol_agg::Agg;
 use iol_core::limits::{MAX_QUEUE_BYTES, PAGE_BYTES};
 use iol_core::numbers::{ConnId, DomainId};
@@ -51,9 +51,7 @@ impl Connections {
         ensures added { IfOk result (λ n. AddsBytes store.old store.new
             (conn_in self.old.conns c).incoming (conn_in self.new.conns c).incoming
             (conn_in self.old.conns c).pool (take n bytes.now)) }
-        ensures others { self.new ≡ with_conn self.old c (record (conn_in self.old.conns c) {
-          incoming = (conn_in self.new.conns c).incoming;
-        }) }
+        ensures others { self.new ≡ with_incoming self.old c (conn_in self.new.conns c).incoming }
         ensures room { OnOk result (has_room store.old (conn_in self.old.conns c).pool (fitting
             (conn_in self.old.conns c).incoming (length bytes.now)) ≡ true) }
         ensures no_room { (p : ℕ) → result ≡ Err (Refusal.NoRoom p) → has_room store.old
@@ -62,10 +60,7 @@ impl Connections {
         ensures err { OnErr result (self.new ≡ self.old) }
         ensures err_store { OnErr result (store.new ≡ store.old) }
     {
-        self.live.numbers_rise();
-        self.live
-            .value_mut(c.number() as u64)
-            .arrive(alloc, store, bytes)
+        conn_mut(&mut self.live, c).arrive(alloc, store, bytes)
     }
 
     /// The bytes of one read come in from a connection's peer, straight into a new buffer on the lowest free page of its
@@ -96,9 +91,7 @@ impl Connections {
         ensures ended { IfOk result (λ a. a.end ≡ true → (a.taken ≡ 0) × IsAtEnd
             (R.remaining reader.new)) }
         ensures failed { IfOk result (λ a. a.failed ≡ true → a.taken ≡ 0) }
-        ensures others { self.new ≡ with_conn self.old c (record (conn_in self.old.conns c) {
-          incoming = (conn_in self.new.conns c).incoming;
-        }) }
+        ensures others { self.new ≡ with_incoming self.old c (conn_in self.new.conns c).incoming }
         ensures room { OnOk result (has_room store.old (conn_in self.old.conns c).pool 1 ≡ true) }
         ensures no_room { (p : ℕ) → result ≡ Err (Refusal.NoRoom p) → has_room store.old
             (conn_in self.old.conns c).pool 1 ≡ false }
@@ -106,10 +99,7 @@ impl Connections {
         ensures err_store { OnErr result (store.new ≡ store.old) }
         ensures err_reader { OnErr result (reader.new ≡ reader.old) }
     {
-        self.live.numbers_rise();
-        self.live
-            .value_mut(c.number() as u64)
-            .arrive_from(alloc, store, reader, max)
+        conn_mut(&mut self.live, c).arrive_from(alloc, store, reader, max)
     }
 
     /// Takes off the longest prefix of at most `n` bytes that came in on a connection, whose pools all name the domain.
@@ -129,19 +119,14 @@ impl Connections {
             (places (conn_in self.old.conns c).incoming))) }
         ensures rest { IfOk result (λ a. places (conn_in self.new.conns c).incoming ≡ drop
             (byte_len a) (places (conn_in self.old.conns c).incoming)) }
-        ensures others { self.new ≡ with_conn self.old c (record (conn_in self.old.conns c) {
-          incoming = (conn_in self.new.conns c).incoming;
-        }) }
+        ensures others { self.new ≡ with_incoming self.old c (conn_in self.new.conns c).incoming }
         ensures shares { IfOk result (λ a. Shares store.old store.new
             (bufs_of (conn_in self.old.conns c).incoming) (bufs_of a ++ bufs_of
             (conn_in self.new.conns c).incoming)) }
         ensures err { OnErr result (self.new ≡ self.old) }
         ensures err_store { OnErr result (store.new ≡ store.old) }
     {
-        self.live.numbers_rise();
-        self.live
-            .value_mut(c.number() as u64)
-            .front(alloc, store, n, d)
+        conn_mut(&mut self.live, c).front(alloc, store, n, d)
     }
 
     /// The domain closes a connection. What came in is dropped, and what is to be sent stays.
@@ -159,7 +144,6 @@ impl Connections {
         ensures settles { AllReadable store.old (conn_in self.old.conns c).incoming → AllSettled
             store.old → AllSettled store.new }
     {
-        self.live.numbers_rise();
-        self.live.value_mut(c.number() as u64).close(store);
+        conn_mut(&mut self.live, c).close(store);
     }
 }

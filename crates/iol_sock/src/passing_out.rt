@@ -15,7 +15,7 @@ ghost use Rattle.iol_pool.specs.Pools.{pool_in};
 ghost use Rattle.iol_sock.specs.Connections.{closed_by};
 ghost use Rattle.iol_sock.specs.Refused.{IsPassed, IsRefused, queue_refusals, segment_refusals};
 ghost use Rattle.iol_sock.specs.Sent.{UsesSent};
-ghost use Rattle.iol_sock.specs.Table.{conn_in, with_conn};
+ghost use Rattle.iol_sock.specs.Table.{conn_in, with_conn, with_outgoing};
 ghost use Rattle.iol_sum.specs.Sums.{IsRight};
 ghost use Rattle.std.specs.Io.KnownBytes.{Appends};
 ghost use Rattle.std.specs.Prelude.{Err, IfErr, IfOk, None, OnErr, OnOk, drop, false, length, min, take, true, ℕ, ◌++◌, ◌<◌, ◌≡◌, ◌≢◌, ◌≤◌};
@@ -23,7 +23,7 @@ ghost use Rattle.std.specs.Prelude.{Err, IfErr, IfOk, None, OnErr, OnOk, drop, f
 use crate::connections::Connection;
 use crate::draining::Drained;
 use crate::outgoing::Segment;
-use crate::table::Connections;
+use crate::table::{Connections, conn_mut};
 use iol_agg::Agg;
 use iol_core::descriptors::How;
 use iol_core::numbers::{ConnId, PoolId};
@@ -51,9 +51,7 @@ impl Connections {
             from.now)) }
         ensures places { IfOk result (λ n. places (conn_in self.new.conns c).outgoing ≡ places
             (conn_in self.old.conns c).outgoing ++ take n (places from.now)) }
-        ensures others { self.new ≡ with_conn self.old c (record (conn_in self.old.conns c) {
-          outgoing = (conn_in self.new.conns c).outgoing;
-        }) }
+        ensures others { self.new ≡ with_outgoing self.old c (conn_in self.new.conns c).outgoing }
         ensures shares { OnOk result (Shares store.old store.new
             (bufs_of (conn_in self.old.conns c).outgoing)
             (bufs_of (conn_in self.new.conns c).outgoing)) }
@@ -61,8 +59,7 @@ impl Connections {
         ensures err { OnErr result (self.new ≡ self.old) }
         ensures err_store { OnErr result (store.new ≡ store.old) }
     {
-        self.live.numbers_rise();
-        self.live.value_mut(c.number() as u64).queue(store, from)
+        conn_mut(&mut self.live, c).queue(store, from)
     }
 
     /// New bytes of an open pool are to be sent on a connection, as many as fit: how many is the answer. They lie in new
@@ -89,9 +86,7 @@ impl Connections {
         ensures added { IfOk result (λ n. AddsBytes store.old store.new
             (conn_in self.old.conns c).outgoing (conn_in self.new.conns c).outgoing pool (take n
             bytes.now)) }
-        ensures others { self.new ≡ with_conn self.old c (record (conn_in self.old.conns c) {
-          outgoing = (conn_in self.new.conns c).outgoing;
-        }) }
+        ensures others { self.new ≡ with_outgoing self.old c (conn_in self.new.conns c).outgoing }
         ensures room { OnOk result (has_room store.old pool (fitting
             (conn_in self.old.conns c).outgoing (length bytes.now)) ≡ true) }
         ensures no_room { (p : ℕ) → result ≡ Err (Refusal.NoRoom p) → has_room store.old pool
@@ -99,10 +94,7 @@ impl Connections {
         ensures err { OnErr result (self.new ≡ self.old) }
         ensures err_store { OnErr result (store.new ≡ store.old) }
     {
-        self.live.numbers_rise();
-        self.live
-            .value_mut(c.number() as u64)
-            .write(alloc, store, pool, bytes)
+        conn_mut(&mut self.live, c).write(alloc, store, pool, bytes)
     }
 
     /// Sends the first `max` bytes of a connection, or all where fewer wait, with the checksum of these alone.
@@ -130,9 +122,7 @@ impl Connections {
         ensures checksum { IfOk result (λ g. g.checksum ≡ checksum_of g.bytes) }
         ensures rest { OnOk result (places (conn_in self.new.conns c).outgoing ≡ drop max
             (places (conn_in self.old.conns c).outgoing)) }
-        ensures others { self.new ≡ with_conn self.old c (record (conn_in self.old.conns c) {
-          outgoing = (conn_in self.new.conns c).outgoing;
-        }) }
+        ensures others { self.new ≡ with_outgoing self.old c (conn_in self.new.conns c).outgoing }
         ensures moves { OnOk result (Moves store.old store.new
             (bufs_of (conn_in self.old.conns c).outgoing)
             (bufs_of (conn_in self.new.conns c).outgoing)) }
@@ -146,10 +136,7 @@ impl Connections {
         ensures err_store { OnErr result (store.new ≡ store.old) }
         ensures err_sums { OnErr result (sums.new ≡ sums.old) }
     {
-        self.live.numbers_rise();
-        self.live
-            .value_mut(c.number() as u64)
-            .segment(alloc, store, sums, max)
+        conn_mut(&mut self.live, c).segment(alloc, store, sums, max)
     }
 
     /// Lends the first bytes to be sent on a connection to a writer, at most `max` in all, and takes off what it took.
@@ -173,19 +160,14 @@ impl Connections {
             result.taken (bytes_of (text_of store.old (conn_in self.old.conns c).outgoing))) }
         ensures rest { places (conn_in self.new.conns c).outgoing ≡ drop result.taken
             (places (conn_in self.old.conns c).outgoing) }
-        ensures others { self.new ≡ with_conn self.old c (record (conn_in self.old.conns c) {
-          outgoing = (conn_in self.new.conns c).outgoing;
-        }) }
+        ensures others { self.new ≡ with_outgoing self.old c (conn_in self.new.conns c).outgoing }
         ensures moves { Moves store.old store.new (bufs_of (conn_in self.old.conns c).outgoing)
             (bufs_of (conn_in self.new.conns c).outgoing) }
         ensures lists { SameLists store.old store.new }
         ensures frees { FreesOnly store.old store.new }
         ensures settles { AllSettled store.old → AllSettled store.new }
     {
-        self.live.numbers_rise();
-        self.live
-            .value_mut(c.number() as u64)
-            .drain_to(store, writer, max)
+        conn_mut(&mut self.live, c).drain_to(store, writer, max)
     }
 
     /// The peer of a connection sends no more, or also takes no more. What was to be sent to a peer that is gone is
@@ -202,9 +184,6 @@ impl Connections {
         ensures settles { AllReadable store.old (conn_in self.old.conns c).outgoing → AllSettled
             store.old → AllSettled store.new }
     {
-        self.live.numbers_rise();
-        self.live
-            .value_mut(c.number() as u64)
-            .peer_closed(store, how);
+        conn_mut(&mut self.live, c).peer_closed(store, how);
     }
 }

@@ -3,10 +3,13 @@ ghost use Rattle.std.specs.Prelude.{◌≡◌, ◌≢◌, ◌+◌, ◌-◌, ◌<
 ghost use Rattle.std.specs.Option.{option_copied};
 ghost use Rattle.std.specs.VecDeque.{deque_len, deque_capacity};
 ghost use Rattle.iol_core.specs.Numbered.{lookup, without, changed};
+ghost use Rattle.std.specs.Borrow.{sem};
+ghost use Rattle.iol_desc.specs.Lending.{LendsEntry};
 ghost use Rattle.iol_desc.specs.Listed.{IsRising, Rises};
 ghost use Rattle.iol_pool.specs.Pools.{names_in};
 ghost use Rattle.iol_sock.specs.Connections.{new_conn};
 ghost use Rattle.iol_sock.specs.Table.{conn_in};
+ghost use Rattle.iol_sock.specs.contracts.connections.Connection.{the_row};
 
 use crate::connections::Connection;
 use iol_core::limits::LAST_CONNECTION;
@@ -61,6 +64,17 @@ fn unlist(waiting: &mut VecDeque<(u64, PoolId)>, number: u64)
     if let Ok(at) = found {
         let _taken = waiting.remove(at);
     }
+}
+
+/// The connection of this number, for writing. The numbers rise.
+pub(crate) fn conn_mut(live: &mut Entries<Connection>, c: ConnId) -> &mut Connection
+    requires { lookup live.old.entries c ≢ None }
+    ensures* writes_back { sem 𝓛 (LendsEntry the_row live.entry c result) }
+    ensures rise { Rises 0 live.old.entries live.old.next }
+    ensures value { lookup live.old.entries c ≡ Some result.now }
+{
+    live.numbers_rise();
+    live.value_mut(c.number() as u64)
 }
 
 /// The first that waits and whose pool names the domain.

@@ -1,10 +1,8 @@
-use Rattle.std.proofs.Common.{ap}
-use Rattle.iol_sock.specs.Table.{ConnTable}
-use Rattle.iol_sock.proofs.Waiting.{old_is, new_is}
+use Rattle.iol_sock.proofs.AtPlace.{at_place}
 use Rattle.iol_sock.proofs.table.Connections.peer_closed.Goals as goal
 
-pub returns-clause-moves : goal.returns-clause-moves
-returns-clause-moves c =
-    let x = old_is c.self.inside.live.entries c.args.self.now c.number.result c.args.c c.value_mut.result.now (ap (λ (t : ConnTable). t.conns) c.self.view_is) c.number.ensures c.value_mut.ensures.value in
-    let y = new_is c.self.inside.live.entries c.number.result c.args.c c.value_mut.result.now c.peer_closed.new.self c.number.ensures c.value_mut.ensures.value in
-    rw (x, y) c.peer_closed.ensures.moves
+pub returns : goal.returns
+returns c =
+    let at = at_place c.self.inside.live.next c.peer_closed.new.self c.self.view_is c.conn_mut.ensures.rise c.conn_mut.ensures.value in
+    let e = rw (at.old, at.new) at c.peer_closed.ensures in
+    record { closed = at.others e.closed; moves = e.moves; lists = e.lists; frees = e.frees; settles = e.settles }

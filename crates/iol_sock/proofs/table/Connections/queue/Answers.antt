@@ -1,42 +1,9 @@
-use Rattle.std.proofs.Common.{ap}
 use Rattle.std.proofs.lemmas.Result.{on_err_weaker}
-use Rattle.iol_sock.specs.Table.{ConnTable}
-use Rattle.iol_sock.proofs.Waiting.{old_is, new_is, same_is, others_are}
+use Rattle.iol_sock.proofs.AtPlace.{at_place}
 use Rattle.iol_sock.proofs.table.Connections.queue.Goals as goal
 
-pub returns-clause-refused : goal.returns-clause-refused
-returns-clause-refused c =
-    let x = old_is c.self.inside.live.entries c.args.self.now c.number.result c.args.c c.value_mut.result.now (ap (λ (t : ConnTable). t.conns) c.self.view_is) c.number.ensures c.value_mut.ensures.value in
-    rw x c.queue.ensures.refused
-
-pub returns-clause-places : goal.returns-clause-places
-returns-clause-places c =
-    let x = old_is c.self.inside.live.entries c.args.self.now c.number.result c.args.c c.value_mut.result.now (ap (λ (t : ConnTable). t.conns) c.self.view_is) c.number.ensures c.value_mut.ensures.value in
-    let y = new_is c.self.inside.live.entries c.number.result c.args.c c.value_mut.result.now c.queue.new.self c.number.ensures c.value_mut.ensures.value in
-    rw (x, y) c.queue.ensures.places
-
-pub returns-clause-others : goal.returns-clause-others
-returns-clause-others c =
-    let x = old_is c.self.inside.live.entries c.args.self.now c.number.result c.args.c c.value_mut.result.now (ap (λ (t : ConnTable). t.conns) c.self.view_is) c.number.ensures c.value_mut.ensures.value in
-    let y = new_is c.self.inside.live.entries c.number.result c.args.c c.value_mut.result.now c.queue.new.self c.number.ensures c.value_mut.ensures.value in
-    others_are _ c.args.self.now c.number.result c.args.c c.queue.new.self _ c.self.view_is c.number.ensures (rw (x, y) c.queue.ensures.others)
-
-pub returns-clause-shares : goal.returns-clause-shares
-returns-clause-shares c =
-    let x = old_is c.self.inside.live.entries c.args.self.now c.number.result c.args.c c.value_mut.result.now (ap (λ (t : ConnTable). t.conns) c.self.view_is) c.number.ensures c.value_mut.ensures.value in
-    let y = new_is c.self.inside.live.entries c.number.result c.args.c c.value_mut.result.now c.queue.new.self c.number.ensures c.value_mut.ensures.value in
-    rw (x, y) c.queue.ensures.shares
-
-pub returns-clause-err : goal.returns-clause-err
-returns-clause-err c =
-    on_err_weaker c.queue.result (same_is _ c.args.self.now c.self.inside.live.next c.number.result c.value_mut.result.now c.queue.new.self c.self.view_is c.numbers_rise.ensures c.value_mut.ensures.value) c.queue.ensures.err
-
-pub returns-clause-passed : goal.returns-clause-passed
-returns-clause-passed c =
-    let x = old_is c.self.inside.live.entries c.args.self.now c.number.result c.args.c c.value_mut.result.now (ap (λ (t : ConnTable). t.conns) c.self.view_is) c.number.ensures c.value_mut.ensures.value in
-    rw x c.queue.ensures.passed
-
-pub returns-clause-count : goal.returns-clause-count
-returns-clause-count c =
-    let x = old_is c.self.inside.live.entries c.args.self.now c.number.result c.args.c c.value_mut.result.now (ap (λ (t : ConnTable). t.conns) c.self.view_is) c.number.ensures c.value_mut.ensures.value in
-    rw x c.queue.ensures.count
+pub returns : goal.returns
+returns c =
+    let at = at_place c.self.inside.live.next c.queue.new.self c.self.view_is c.conn_mut.ensures.rise c.conn_mut.ensures.value in
+    let e = rw (at.old, at.new) at c.queue.ensures in
+    record { passed = e.passed; refused = e.refused; count = e.count; places = e.places; others = at.others e.others; shares = e.shares; none = e.none; err = on_err_weaker c.queue.result at.same e.err; err_store = e.err_store }

@@ -1,22 +1,8 @@
-use Rattle.std.proofs.Common.{ap}
-use Rattle.iol_sock.specs.Table.{ConnTable}
-use Rattle.iol_sock.proofs.Waiting.{old_is, new_is, others_are}
+use Rattle.iol_sock.proofs.AtPlace.{at_place}
 use Rattle.iol_sock.proofs.table.Connections.skip.Goals as goal
 
-pub returns-clause-rest : goal.returns-clause-rest
-returns-clause-rest c =
-    let x = old_is c.self.inside.live.entries c.args.self.now c.number.result c.args.c c.value_mut.result.now (ap (λ (t : ConnTable). t.conns) c.self.view_is) c.number.ensures c.value_mut.ensures.value in
-    let y = new_is c.self.inside.live.entries c.number.result c.args.c c.value_mut.result.now c.skip.new.self c.number.ensures c.value_mut.ensures.value in
-    rw (x, y) c.skip.ensures.rest
-
-pub returns-clause-others : goal.returns-clause-others
-returns-clause-others c =
-    let x = old_is c.self.inside.live.entries c.args.self.now c.number.result c.args.c c.value_mut.result.now (ap (λ (t : ConnTable). t.conns) c.self.view_is) c.number.ensures c.value_mut.ensures.value in
-    let y = new_is c.self.inside.live.entries c.number.result c.args.c c.value_mut.result.now c.skip.new.self c.number.ensures c.value_mut.ensures.value in
-    others_are _ c.args.self.now c.number.result c.args.c c.skip.new.self _ c.self.view_is c.number.ensures (rw (x, y) c.skip.ensures.others)
-
-pub returns-clause-moves : goal.returns-clause-moves
-returns-clause-moves c =
-    let x = old_is c.self.inside.live.entries c.args.self.now c.number.result c.args.c c.value_mut.result.now (ap (λ (t : ConnTable). t.conns) c.self.view_is) c.number.ensures c.value_mut.ensures.value in
-    let y = new_is c.self.inside.live.entries c.number.result c.args.c c.value_mut.result.now c.skip.new.self c.number.ensures c.value_mut.ensures.value in
-    rw (x, y) c.skip.ensures.moves
+pub returns : goal.returns
+returns c =
+    let at = at_place c.self.inside.live.next c.skip.new.self c.self.view_is c.conn_mut.ensures.rise c.conn_mut.ensures.value in
+    let e = rw (at.old, at.new) at c.skip.ensures in
+    record { rest = e.rest; others = at.others e.others; moves = e.moves; lists = e.lists; frees = e.frees; settles = e.settles }

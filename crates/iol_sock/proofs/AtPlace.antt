@@ -1,0 +1,35 @@
+-- A call on one connection of a table, by its number.
+use Rattle.std.proofs.Common.{◌≡◌, ℕ, List, Some, sym, ap, subst, ◌∙◌}
+use Rattle.iol_core.specs.Numbered.{lookup, changed}
+use Rattle.iol_hold.specs.declared.slices.Slice.{Slice}
+use Rattle.iol_desc.specs.Listed.{Rises}
+use Rattle.iol_sock.specs.Connections.{Conn}
+use Rattle.iol_sock.specs.Table.{ConnTable, conn_in, with_conn}
+use Rattle.iol_sock.proofs.Waiting.{some-none, conn_in-there, lookup-changed, changed-same}
+
+-- From the table t to u a call went, on the connection of that number alone, from x to y. What the call says of x and y,
+-- the tables say of their connections.
+pub record AtPlace (t u : ConnTable) (number : ℕ) (x y : Conn (List Slice)) : Type 0 where
+  pub old : x ≡ conn_in t.conns number
+  pub new : y ≡ conn_in u.conns number
+  pub others : {z : Conn (List Slice)} → conn_in u.conns number ≡ z → u ≡ with_conn t number z
+  pub same : conn_in u.conns number ≡ conn_in t.conns number → u ≡ t
+
+here : (t : ConnTable) (to n : ℕ) (x y : Conn (List Slice)) → Rises 0 t.conns to → lookup t.conns n ≡ Some x → AtPlace t (with_conn t n y) n x y
+here t to n x y r found =
+    let old : conn_in t.conns n ≡ x = conn_in-there t.conns n x found in
+    let new : conn_in (changed t.conns n y) n ≡ y = conn_in-there (changed t.conns n y) n y (lookup-changed t.conns n y (λ none. some-none x (sym found ∙ none))) in
+    record {
+      old = sym old;
+      new = sym new;
+      others = λ e. ap (with_conn t n) (sym new ∙ e);
+      same = λ e. ap (with_conn t n) (sym new ∙ e ∙ old) ∙ ap (λ es. record t { conns = es }) (changed-same t.conns 0 to n x r found);
+    }
+
+-- the table t is seen as v
+pub at_place : {v t : ConnTable} {n : ℕ} {x : Conn (List Slice)} (to : ℕ) (y : Conn (List Slice)) → v ≡ t → Rises 0 v.conns to → lookup v.conns n ≡ Some x → AtPlace t (with_conn v n y) n x y
+at_place {v} {t} {n} {x} to y view r found = subst (λ u. AtPlace u (with_conn v n y) n x y) view (here v to n x y r found)
+
+-- the same, before the call
+pub was_at : {v t : ConnTable} {x : Conn (List Slice)} (n : ℕ) → v ≡ t → lookup v.conns n ≡ Some x → x ≡ conn_in t.conns n
+was_at {v} {t} {x} n view found = subst (λ u. x ≡ conn_in u.conns n) view (sym (conn_in-there v.conns n x found))
