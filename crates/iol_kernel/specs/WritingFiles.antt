@@ -61,8 +61,8 @@ pub record OnlyMoves (f at len : ℕ) (old new : List (Domain (List Slice))) : T
 -- The bytes of the source lie dirty over those of the file from `at` on: those of the file's pool where they lay, copies of
 -- the others on the lowest pages that were free once there was room. Every other byte that was in memory lies where it lay,
 -- but that clean ones of the file's pool may have given way where the copies want more pages than were free. It was refused
--- for want of room just where the pages wanted are more than the pool has. No bytes change nothing of pages and files.
--- Nothing else changed but the caller's descriptor.
+-- for want of room only where the pages wanted are more than the pool has, and done only where they are not. No bytes change
+-- nothing of pages and files. Nothing else changed but the caller's descriptor.
 pub record WritesOver {A : Type 0} (f at : ℕ) (source : List Slice) (old : KernelState) (r : Result A Refusal)
     (new : KernelState) : Type 0 where
   pub lies : OnOk r (LiesDirty f at source new.cache)
