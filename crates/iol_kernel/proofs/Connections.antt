@@ -1,6 +1,7 @@
 pub mod Arrived
 pub mod TakenIn
 pub mod Connecting
+pub mod Grown
 pub mod Arriving
 pub mod Transmitting
 pub mod PeerClosed

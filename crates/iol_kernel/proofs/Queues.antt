@@ -1,4 +1,5 @@
 pub mod Queued
+pub mod Passed
 pub mod TakenOut
 pub mod Listing
 pub mod Ends

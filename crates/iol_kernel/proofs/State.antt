@@ -1,5 +1,6 @@
 pub mod Views
 pub mod Slots
+pub mod Added
 pub mod Serving
 pub mod AfterRoom
 pub mod Admitting

@@ -14,6 +14,7 @@ pub mod Calls
 pub mod FileReading
 pub mod FileEnds
 pub mod MakingRoom
+pub mod Putting
 pub mod Copying
 pub mod Adding
 pub mod Regrouped

@@ -58,7 +58,8 @@ MayHaveEvicted pool n old new x = (new ≡ old) ⊎ RefusedRoomy pool n old new 
 
 -- A call that places n new bytes in a pool, if need be in place of clean extents of files. It is the machine's step, over
 -- any store. Room is made; then the lowest free pages of the pool are filled, and all else lies where it lay. It is refused
--- for want of room just where the pages that something else holds, and those of the bytes, are more than the pool has.
+-- for want of room only where the pages that something else holds, and those of the bytes, are more than the pool has, and
+-- done only where they are not.
 pub record Places {A : Type 0} (m : State → Meaning A) (put : State → Text → State) (pool n : ℕ) (old : KernelState)
     (r : Result A Refusal) (new : KernelState) : Type 0 where
   pub serves : (disk : Disk) → Serves m disk old r disk new

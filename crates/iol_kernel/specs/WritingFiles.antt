@@ -2,7 +2,7 @@
 use Rattle.std.specs.Prelude.{◌≡◌, ◌⊎◌, ℕ, ◌+◌, ◌<◌, ◌≤◌, List, [], length, slice_set, Option, Some, Result, Err, IfErr, OnErr, OnOk, true, ⊤}
 use Rattle.iol_arena.specs.State.{pages_for}
 use Rattle.iol_core.specs.Meaning.{WantOfRoom}
-use Rattle.iol_core.specs.State.{Domain}
+use Rattle.iol_core.specs.State.{Domain, descriptor, is_live}
 use Rattle.iol_core.specs.Text.{labelled}
 use Rattle.iol_core.specs.Calls.Writing.{iol_write}
 use Rattle.iol_core.specs.declared.descriptors.Mode.{Mode}
@@ -11,6 +11,7 @@ use Rattle.iol_core.specs.declared.descriptors.Descriptor.TheVariants as on
 use Rattle.iol_core.specs.declared.refusals.Refusal.{Refusal}
 use Rattle.iol_core.specs.declared.refusals.Refusal.TheVariants.{Memory, NoRoom}
 use Rattle.iol_arena.specs.Pages.{MadeOn}
+use Rattle.iol_back.specs.Disk.{Disk}
 use Rattle.iol_hold.specs.Moves.{Moves, SameLists}
 use Rattle.iol_hold.specs.Places.{byte_len}
 use Rattle.iol_hold.specs.Pages.{KeepsPages}
@@ -26,11 +27,12 @@ use Rattle.iol_cache.specs.Evicting.{Holding}
 use Rattle.iol_cache.specs.Overwriting.{LeavesAll, LiesDirty, OnlyMakesRoom, WritesFile}
 use Rattle.iol_cache.specs.Paging.{FillsLowest}
 use Rattle.iol_cache.specs.Pinned.{pinned_beside}
-use Rattle.iol_kernel.specs.Backed.{holding_of}
+use Rattle.iol_kernel.specs.Backed.{Serves, holding_of}
 use Rattle.iol_kernel.specs.Calls.{CarriesOut}
 use Rattle.iol_kernel.specs.Keeping.{KeepsBeside, LacksPages}
-use Rattle.iol_kernel.specs.KernelState.{KernelState, slices_in}
+use Rattle.iol_kernel.specs.KernelState.{IsSound, KernelState, read_of, slices_in}
 use Rattle.iol_kernel.specs.MakingRoom.{AfterRoom, can_fit}
+use Rattle.iol_kernel.specs.Readings.{Reading}
 
 -- the pool of the file in slot f
 abbrev pub pool_of_file : KernelState → (f : ℕ) → ℕ
@@ -61,8 +63,8 @@ pub record OnlyMoves (f at len : ℕ) (old new : List (Domain (List Slice))) : T
 -- The bytes of the source lie dirty over those of the file from `at` on: those of the file's pool where they lay, copies of
 -- the others on the lowest pages that were free once there was room. Every other byte that was in memory lies where it lay,
 -- but that clean ones of the file's pool may have given way where the copies want more pages than were free. It was refused
--- for want of room just where the pages wanted are more than the pool has. No bytes change nothing of pages and files.
--- Nothing else changed but the caller's descriptor.
+-- for want of room only where the pages wanted are more than the pool has, and done only where they are not. No bytes change
+-- nothing of pages and files. Nothing else changed but the caller's descriptor.
 pub record WritesOver {A : Type 0} (f at : ℕ) (source : List Slice) (old : KernelState) (r : Result A Refusal)
     (new : KernelState) : Type 0 where
   pub lies : OnOk r (LiesDirty f at source new.cache)
@@ -78,6 +80,17 @@ pub record WritesOver {A : Type 0} (f at : ℕ) (source : List Slice) (old : Ker
   pub same : new ≡ record old { store = new.store; domains = new.domains; cache = new.cache }
   pub refused : OnErr r (new.domains ≡ old.domains)
   pub leaves : IfErr r (LeavesUnwritten f source old new)
+
+-- A live domain's descriptor is open on a file, at this position.
+pub record IsOpenOn (d fd f at : ℕ) (mode : Mode) (h : KernelState) : Type 0 where
+  pub sound : IsSound h
+  pub live : (r : Reading) → is_live (read_of r h) d ≡ true
+  pub to : (r : Reading) → descriptor (read_of r h) d fd ≡ Some (on.File f at mode)
+
+-- An aggregate is written over the bytes of the file that a descriptor is open on: what that means, and what it leaves.
+pub record WritesAgg (d fd a f at : ℕ) (old : KernelState) (r : Result ℕ Refusal) (new : KernelState) : Type 0 where
+  pub serves : (disk : Disk) → Serves (λ s. iol_write s d fd a) disk old r disk new
+  pub over : WritesOver f at (slices_in old.domains d a) old r new
 
 -- A write of an aggregate, by what the descriptor is open on.
 abbrev pub WritesOn : (d fd a : ℕ) → Option Descriptor → (old : KernelState) → Result ℕ Refusal → (new : KernelState) → Type 0

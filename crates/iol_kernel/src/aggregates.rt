@@ -14,7 +14,7 @@ ghost use Rattle.iol_kernel.specs.Readings.{Reading, read, KeepsPools};
 
 use crate::kernel::Kernel;
 use crate::tables::{
-    add_bytes, add_part, add_replaced, first_hidden, join_aggs, move_agg, split_agg,
+    Part, add_bytes, add_part, add_replaced, first_hidden, join_aggs, move_agg, split_agg,
 };
 use iol_agg::{Agg, Parts};
 use iol_core::limits::MAX_AGGREGATE_BYTES;
@@ -157,8 +157,7 @@ impl Kernel {
             &mut self.domains,
             by,
             agg,
-            0,
-            len,
+            Part { from: 0, to: len },
         )?)
     }
 
@@ -203,8 +202,7 @@ impl Kernel {
             &mut self.domains,
             by,
             agg,
-            from,
-            to,
+            Part { from, to },
         )?)
     }
 
@@ -340,8 +338,7 @@ impl Kernel {
             &mut self.domains,
             by,
             agg,
-            from,
-            to,
+            Part { from, to },
             other,
         )?)
     }

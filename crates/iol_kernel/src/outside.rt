@@ -7,11 +7,10 @@ ghost use Rattle.iol_core.specs.Numbered.{lookup};
 ghost use Rattle.iol_core.specs.Calls.Outside as calls;
 ghost use Rattle.iol_core.specs.Calls.Outside.{lacks_conn};
 ghost use Rattle.iol_pool.specs.Pools.{pool_in};
-ghost use Rattle.iol_hold.specs.Moves.{Stays};
-ghost use Rattle.iol_hold.specs.Room.{has_room};
 ghost use Rattle.iol_kernel.specs.Calls.{told, with_incoming};
 ghost use Rattle.iol_kernel.specs.ClosedEnds.{KeepsEnds};
 ghost use Rattle.iol_kernel.specs.KernelState.{objects_of, IsSound};
+ghost use Rattle.iol_kernel.specs.Putting.{Fills};
 ghost use Rattle.iol_kernel.specs.Readings.{Reading};
 
 use crate::kernel::Kernel;
@@ -24,7 +23,7 @@ use iol_sock::Segment;
 use std::alloc::AllocError;
 
 impl Kernel {
-    ghost use Rattle.iol_kernel.specs.Kernel.{state_of, machine, as_read, Steps, CarriesOut, KeepsPlaces, Answers, Arrives, Places, Transmits, Leaves};
+    ghost use Rattle.iol_kernel.specs.Kernel.{state_of, machine, as_read, CarriesOut, KeepsPlaces, Answers, Places, Transmits, Leaves};
 
     /// Makes a connection that waits to be accepted. What arrives on it will lie in the pool.
     #[tactic(auto, using(crate::proofs::State::Stay::stay_rules))]
@@ -193,19 +192,10 @@ impl Kernel {
     fn fill_conn(&mut self, conn: ConnId, bytes: &[u8]) -> Result<u32, Refusal>
         requires sound { IsSound (state_of self.old) }
         requires there { lacks_conn (machine self.old) conn ≡ false }
-        ensures step { Steps (λ s. calls.arrive s conn bytes.now) self.old result self.new }
-        ensures made { IfOk result (λ n. Arrives conn n self.old self.new) }
-        ensures refused { OnErr result (state_of self.new ≡ state_of self.old) }
-        ensures cache { (state_of self.new).cache ≡ (state_of self.old).cache }
-        ensures sound { IsSound (state_of self.new) }
-        ensures stays { Stays self.old.store self.new.store }
-        ensures room { OnOk result (has_room self.old.store (conn_at (machine self.old) conn).pool
-            (calls.arrive (machine self.old) conn bytes.now).answer ≡ true) }
-        ensures no_room { (p : ℕ) → result ≡ Err (Refusal.NoRoom p) → has_room self.old.store
-            (conn_at (machine self.old) conn).pool (calls.arrive (machine self.old) conn
-            bytes.now).answer ≡ false }
+        ensures { Fills (λ s. calls.arrive s conn bytes.now) (with_incoming conn) (conn_at (machine
+            self.old) conn).pool (state_of self.old) result (state_of self.new) }
     {
-        Ok(self.conns.arrive(self.alloc, &mut self.store, conn, bytes)?)
+        self.conns.arrive(self.alloc, &mut self.store, conn, bytes)
     }
 
     /// Sends the first `max` bytes to be sent of a connection, or all where fewer wait, with the checksum of these

@@ -1,15 +1,13 @@
 //! Bytes are written to pipes and connections by copying: they lie in new buffers.
-ghost use Rattle.std.specs.Prelude.{◌≡◌, ℕ, ◌-◌, ◌≤◌, length, true, false, Some, Err, IfOk, IfErr, OnOk, OnErr};
+ghost use Rattle.std.specs.Prelude.{◌≡◌, ℕ, ◌-◌, ◌≤◌, length, true, false, Some, Err, IfOk, IfErr, OnOk};
 ghost use Rattle.iol_core.specs.Meaning.{Never};
 ghost use Rattle.iol_core.specs.Numbered.{is_numbered};
 ghost use Rattle.iol_core.specs.State as state;
 ghost use Rattle.iol_core.specs.State.{is_live, descriptor, domain, conn_at, is_gone};
 ghost use Rattle.iol_core.specs.Calls.Writing as calls;
-ghost use Rattle.iol_hold.specs.Moves.{Stays};
-ghost use Rattle.iol_hold.specs.Room.{has_room};
 ghost use Rattle.iol_sock.specs.Refused.{IsPassed, IsRefused};
-ghost use Rattle.iol_kernel.specs.Calls.{MakesBytes};
 ghost use Rattle.iol_kernel.specs.KernelState.{IsSound};
+ghost use Rattle.iol_kernel.specs.Putting.{FillsQueue, MayPut, PlacesInQueue, lands_in};
 ghost use Rattle.iol_kernel.specs.Readings.{Reading};
 
 use crate::kernel::Kernel;
@@ -20,7 +18,7 @@ use iol_core::numbers::{ConnId, DomainId, Fd, FileId, PipeId, PoolId};
 use iol_core::refusals::Refusal;
 
 impl Kernel {
-    ghost use Rattle.iol_kernel.specs.Kernel.{state_of, machine, as_read, Places, Steps};
+    ghost use Rattle.iol_kernel.specs.Kernel.{state_of, machine, as_read};
 
     /// The pool in which these bytes lie once they are written to a descriptor. It is refused as that write is, but for
     /// want of room and of memory.
@@ -34,8 +32,7 @@ impl Kernel {
         ensures live { OnOk result (is_live (machine self.now) by ≡ true) }
         ensures writable { OnOk result (calls.can_write (descriptor (machine self.now) by fd) ≡
             true) }
-        ensures pool { IfOk result (λ p. (f : Reading) → p ≡ calls.pool_for (as_read f self.now) by
-            (descriptor (as_read f self.now) by fd)) }
+        ensures pool { IfOk result (λ p. (f : Reading) → p ≡ lands_in by fd (as_read f self.now)) }
         ensures open { IfOk result (λ p. (state.pool (machine self.now) p).closed ≡ false) }
     {
         if !self.is_live(by) {
@@ -198,64 +195,60 @@ impl Kernel {
         }
     }
 
+    /// How many bytes more fit into a pipe, or into what is to be sent on a connection.
+    fn room_at(&self, to: &Descriptor) -> u32
+        ensures { (f : Reading) → result ≡ MAX_QUEUE_BYTES - length (calls.unsent (as_read f
+            self.now) (Some to.now)) }
+    {
+        match to {
+            Descriptor::WriteEnd { pipe } => self.room_in(*pipe),
+            Descriptor::Connection { conn } => self.room_on(*conn),
+            Descriptor::ReadEnd { .. } | Descriptor::File { .. } => MAX_QUEUE_BYTES as u32,
+        }
+    }
+
     /// Places bytes in a pool and writes them to a pipe or a connection, as many as fit: how many is the answer. Clean extents of
     /// files of the pool give way, and the bytes lie in new buffers on its lowest free pages then.
-    pub fn put(&mut self, by: DomainId, fd: Fd, pool: PoolId, bytes: &[u8]) -> Result<u32, Refusal>
-        requires sound { IsSound (state_of self.old) }
-        requires passed { (f : Reading) → IsPassed (calls.write (as_read f self.old) by fd
-            bytes.now).refusals }
-        requires live { is_live (machine self.old) by ≡ true }
-        requires no_file { calls.is_file (descriptor (machine self.old) by fd) ≡ false }
-        requires writable { calls.can_write (descriptor (machine self.old) by fd) ≡ true }
-        requires pool { (f : Reading) → pool ≡ calls.pool_for (as_read f self.old) by (descriptor
-            (as_read f self.old) by fd) }
-        requires open { (state.pool (machine self.old) pool).closed ≡ false }
-        ensures { Places (λ s. calls.write s by fd bytes.now) (λ s t. calls.written s by fd
-            (descriptor s by fd) t) (calls.pool_for (machine self.old) by (descriptor (machine
-            self.old) by fd)) (calls.write (machine self.old) by fd bytes.now).answer self.old
-            result self.new }
+    pub(crate) fn put(
+        &mut self,
+        by: DomainId,
+        fd: Fd,
+        to: Descriptor,
+        pool: PoolId,
+        bytes: &[u8],
+    ) -> Result<u32, Refusal>
+        requires may { MayPut by fd to pool bytes.now (state_of self.old) }
+        requires no_file { calls.is_file (Some to) ≡ false }
+        ensures { PlacesInQueue by fd bytes.now (state_of self.old) result (state_of self.new) }
     {
-        let Some(to) = self.descriptor(by, fd) else {
-            unreachable!()
-        };
+        let count = bytes.len().min(self.room_at(&to) as usize) as u32;
+        if !self.make_room_for(pool, count) {
+            return Err(Refusal::NoRoom { pool });
+        }
+        self.fill(by, fd, to, pool, bytes)
+    }
+
+    /// Adds new bytes to a pipe or a connection, as many as fit, where the pool has room.
+    fn fill(
+        &mut self,
+        by: DomainId,
+        fd: Fd,
+        to: Descriptor,
+        pool: PoolId,
+        bytes: &[u8],
+    ) -> Result<u32, Refusal>
+        requires may { MayPut by fd to pool bytes.now (state_of self.old) }
+        requires no_file { calls.is_file (Some to) ≡ false }
+        ensures { FillsQueue by fd pool bytes.now (state_of self.old) result (state_of self.new) }
+    {
         match to {
-            Descriptor::WriteEnd { pipe } => self.put_in_pipe(by, fd, pool, pipe, bytes),
-            Descriptor::Connection { conn } => self.put_on_conn(by, fd, pool, conn, bytes),
+            Descriptor::WriteEnd { pipe } => self.fill_pipe(by, fd, pool, pipe, bytes),
+            Descriptor::Connection { conn } => self.fill_outgoing(by, fd, pool, conn, bytes),
             Descriptor::ReadEnd { .. } | Descriptor::File { .. } => unreachable!(),
         }
     }
 
-    /// Adds new bytes to a pipe's queue, as many as fit, once room for them is made.
-    fn put_in_pipe(
-        &mut self,
-        by: DomainId,
-        fd: Fd,
-        pool: PoolId,
-        pipe: PipeId,
-        bytes: &[u8],
-    ) -> Result<u32, Refusal>
-        requires sound { IsSound (state_of self.old) }
-        requires passed { (f : Reading) → IsPassed (calls.write (as_read f self.old) by fd
-            bytes.now).refusals }
-        requires to { (f : Reading) → descriptor (as_read f self.old) by fd ≡ Some
-            (Descriptor.WriteEnd pipe) }
-        requires pool { (f : Reading) → pool ≡ calls.pool_for (as_read f self.old) by (descriptor
-            (as_read f self.old) by fd) }
-        requires open { (state.pool (machine self.old) pool).closed ≡ false }
-        ensures { Places (λ s. calls.write s by fd bytes.now) (λ s t. calls.written s by fd
-            (descriptor s by fd) t) (calls.pool_for (machine self.old) by (descriptor (machine
-            self.old) by fd)) (calls.write (machine self.old) by fd bytes.now).answer self.old
-            result self.new }
-    {
-        let count = bytes.len().min(self.room_in(pipe) as usize) as u32;
-        if !self.make_room_for(pool, count) {
-            return Err(Refusal::NoRoom { pool });
-        }
-        self.fill_pipe(by, fd, pool, pipe, bytes)
-    }
-
     /// Adds new bytes to a pipe's queue, as many as fit, where the pool has room.
-    #[tactic(auto, using(crate::proofs::State::Stay::stay_rules))]
     fn fill_pipe(
         &mut self,
         by: DomainId,
@@ -264,61 +257,14 @@ impl Kernel {
         pipe: PipeId,
         bytes: &[u8],
     ) -> Result<u32, Refusal>
-        requires sound { IsSound (state_of self.old) }
-        requires passed { (f : Reading) → IsPassed (calls.write (as_read f self.old) by fd
-            bytes.now).refusals }
-        requires to { (f : Reading) → descriptor (as_read f self.old) by fd ≡ Some
-            (Descriptor.WriteEnd pipe) }
-        requires pool { (f : Reading) → pool ≡ calls.pool_for (as_read f self.old) by (descriptor
-            (as_read f self.old) by fd) }
-        requires open { (state.pool (machine self.old) pool).closed ≡ false }
-        ensures step { Steps (λ s. calls.write s by fd bytes.now) self.old result self.new }
-        ensures made { IfOk result (λ n. MakesBytes (λ s t. calls.written s by fd (descriptor s by
-            fd) t) pool n (state_of self.old) (state_of self.new)) }
-        ensures refused { OnErr result (state_of self.new ≡ state_of self.old) }
-        ensures cache { (state_of self.new).cache ≡ (state_of self.old).cache }
-        ensures sound { IsSound (state_of self.new) }
-        ensures stays { Stays self.old.store self.new.store }
-        ensures no_room { (p : ℕ) → result ≡ Err (Refusal.NoRoom p) → has_room self.old.store pool
-            (calls.write (machine self.old) by fd bytes.now).answer ≡ false }
+        requires { MayPut by fd (Descriptor.WriteEnd pipe) pool bytes.now (state_of self.old) }
+        ensures { FillsQueue by fd pool bytes.now (state_of self.old) result (state_of self.new) }
     {
-        Ok(
-            self.pipes
-                .fill(self.alloc, &mut self.store, pipe, pool, bytes)?,
-        )
-    }
-
-    /// New bytes are to be sent on a connection, as many as fit, once room for them is made.
-    fn put_on_conn(
-        &mut self,
-        by: DomainId,
-        fd: Fd,
-        pool: PoolId,
-        conn: ConnId,
-        bytes: &[u8],
-    ) -> Result<u32, Refusal>
-        requires sound { IsSound (state_of self.old) }
-        requires passed { (f : Reading) → IsPassed (calls.write (as_read f self.old) by fd
-            bytes.now).refusals }
-        requires to { (f : Reading) → descriptor (as_read f self.old) by fd ≡ Some
-            (Descriptor.Connection conn) }
-        requires pool { (f : Reading) → pool ≡ calls.pool_for (as_read f self.old) by (descriptor
-            (as_read f self.old) by fd) }
-        requires open { (state.pool (machine self.old) pool).closed ≡ false }
-        ensures { Places (λ s. calls.write s by fd bytes.now) (λ s t. calls.written s by fd
-            (descriptor s by fd) t) (calls.pool_for (machine self.old) by (descriptor (machine
-            self.old) by fd)) (calls.write (machine self.old) by fd bytes.now).answer self.old
-            result self.new }
-    {
-        let count = bytes.len().min(self.room_on(conn) as usize) as u32;
-        if !self.make_room_for(pool, count) {
-            return Err(Refusal::NoRoom { pool });
-        }
-        self.fill_outgoing(by, fd, pool, conn, bytes)
+        self.pipes
+            .fill(self.alloc, &mut self.store, pipe, pool, bytes)
     }
 
     /// New bytes are to be sent on a connection, as many as fit, where the pool has room.
-    #[tactic(auto, using(crate::proofs::State::Stay::stay_rules))]
     fn fill_outgoing(
         &mut self,
         by: DomainId,
@@ -327,27 +273,10 @@ impl Kernel {
         conn: ConnId,
         bytes: &[u8],
     ) -> Result<u32, Refusal>
-        requires sound { IsSound (state_of self.old) }
-        requires passed { (f : Reading) → IsPassed (calls.write (as_read f self.old) by fd
-            bytes.now).refusals }
-        requires to { (f : Reading) → descriptor (as_read f self.old) by fd ≡ Some
-            (Descriptor.Connection conn) }
-        requires pool { (f : Reading) → pool ≡ calls.pool_for (as_read f self.old) by (descriptor
-            (as_read f self.old) by fd) }
-        requires open { (state.pool (machine self.old) pool).closed ≡ false }
-        ensures step { Steps (λ s. calls.write s by fd bytes.now) self.old result self.new }
-        ensures made { IfOk result (λ n. MakesBytes (λ s t. calls.written s by fd (descriptor s by
-            fd) t) pool n (state_of self.old) (state_of self.new)) }
-        ensures refused { OnErr result (state_of self.new ≡ state_of self.old) }
-        ensures cache { (state_of self.new).cache ≡ (state_of self.old).cache }
-        ensures sound { IsSound (state_of self.new) }
-        ensures stays { Stays self.old.store self.new.store }
-        ensures no_room { (p : ℕ) → result ≡ Err (Refusal.NoRoom p) → has_room self.old.store pool
-            (calls.write (machine self.old) by fd bytes.now).answer ≡ false }
+        requires { MayPut by fd (Descriptor.Connection conn) pool bytes.now (state_of self.old) }
+        ensures { FillsQueue by fd pool bytes.now (state_of self.old) result (state_of self.new) }
     {
-        Ok(
-            self.conns
-                .write(self.alloc, &mut self.store, conn, pool, bytes)?,
-        )
+        self.conns
+            .write(self.alloc, &mut self.store, conn, pool, bytes)
     }
 }

@@ -62,6 +62,13 @@ pub(crate) fn add_bytes(
     Ok(domains.add_agg(d, agg))
 }
 
+/// A range of an aggregate's bytes.
+#[derive(Clone, Copy)]
+pub(crate) struct Part {
+    pub(crate) from: u32,
+    pub(crate) to: u32,
+}
+
 /// Adds the bytes of a range of a domain's aggregate to it, as its next.
 pub(crate) fn add_part(
     alloc: Global,
@@ -69,29 +76,29 @@ pub(crate) fn add_part(
     domains: &mut Table<Agg>,
     d: DomainId,
     agg: AggId,
-    from: u32,
-    to: u32,
+    part: Part,
 ) -> Result<AggId, AllocError>
     requires live { (domain_in (domains_of domains.old) d).live ≡ true }
     requires few { (domain_in (domains_of domains.old) d).next_agg ≤ LAST_AGGREGATE }
     requires there { agg_in (domains_of domains.old) d agg ≢ None }
-    requires ordered { from ≤ to }
-    requires within { to ≤ byte_len (slices_in (domains_of domains.old) d agg) }
+    requires ordered { part.from ≤ part.to }
+    requires within { part.to ≤ byte_len (slices_in (domains_of domains.old) d agg) }
     requires covered { Covers store.old (bufs_of (slices_in (domains_of domains.old) d agg)) }
     requires countable { IsCountable store.old (bufs_of (slices_in (domains_of
         domains.old) d agg)) }
     ensures number { IfOk result (λ n. n ≡ (domain_in (domains_of domains.old) d).next_agg) }
     ensures added { OnOk result (AddsShared store.old store.new (domains_of domains.old) (domains_of
-        domains.new) d (slice_range (places (slices_in (domains_of domains.old) d agg)) from to)) }
+        domains.new) d (slice_range (places (slices_in (domains_of domains.old) d agg)) part.from part.to)) }
     ensures err { OnErr result (domains_of domains.new ≡ domains_of domains.old) }
     ensures err_store { OnErr result (store.new ≡ store.old) }
 {
+    let Part { from, to } = part;
     domains.reserve_aggs(d, 1)?;
     let Some(whole) = domains.agg(d, agg) else {
         unreachable!()
     };
-    let part = whole.cut(alloc, store, from, to)?;
-    Ok(domains.add_agg(d, part))
+    let cut = whole.cut(alloc, store, from, to)?;
+    Ok(domains.add_agg(d, cut))
 }
 
 /// Adds a domain's aggregate to it, as its next, with the bytes of another in place of a range.
@@ -101,16 +108,15 @@ pub(crate) fn add_replaced(
     domains: &mut Table<Agg>,
     d: DomainId,
     agg: AggId,
-    from: u32,
-    to: u32,
+    part: Part,
     other: AggId,
 ) -> Result<AggId, AllocError>
     requires live { (domain_in (domains_of domains.old) d).live ≡ true }
     requires few { (domain_in (domains_of domains.old) d).next_agg ≤ LAST_AGGREGATE }
     requires there { agg_in (domains_of domains.old) d agg ≢ None }
     requires other_there { agg_in (domains_of domains.old) d other ≢ None }
-    requires ordered { from ≤ to }
-    requires within { to ≤ byte_len (slices_in (domains_of domains.old) d agg) }
+    requires ordered { part.from ≤ part.to }
+    requires within { part.to ≤ byte_len (slices_in (domains_of domains.old) d agg) }
     requires small { byte_len (slices_in (domains_of domains.old) d agg) + byte_len (slices_in
         (domains_of domains.old) d other) < 2 ^ 32 }
     requires covered { Covers store.old (bufs_of (slices_in (domains_of domains.old) d agg)) }
@@ -121,11 +127,12 @@ pub(crate) fn add_replaced(
         domains.old) d other)) }
     ensures number { IfOk result (λ n. n ≡ (domain_in (domains_of domains.old) d).next_agg) }
     ensures added { OnOk result (AddsShared store.old store.new (domains_of domains.old) (domains_of
-        domains.new) d (replaced (places (slices_in (domains_of domains.old) d agg)) from to (places
+        domains.new) d (replaced (places (slices_in (domains_of domains.old) d agg)) part.from part.to (places
         (slices_in (domains_of domains.old) d other)))) }
     ensures err { OnErr result (domains_of domains.new ≡ domains_of domains.old) }
     ensures err_store { OnErr result (store.new ≡ store.old) }
 {
+    let Part { from, to } = part;
     domains.reserve_aggs(d, 1)?;
     let Some(whole) = domains.agg(d, agg) else {
         unreachable!()

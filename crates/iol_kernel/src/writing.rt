@@ -9,6 +9,7 @@ ghost use Rattle.iol_kernel.specs.Readings.{Reading};
 ghost use Rattle.iol_kernel.specs.WritingFiles.{WritesOn};
 
 use crate::kernel::Kernel;
+use crate::reading_files::OpenFile;
 use iol_core::descriptors::Descriptor;
 use iol_core::limits::MAX_QUEUE_BYTES;
 use iol_core::numbers::{AggId, ConnId, DomainId, Fd, PipeId};
@@ -34,7 +35,7 @@ impl Kernel {
             Err(refusal) => return Err(refusal),
         };
         if let Descriptor::File { file, at, mode } = to {
-            return self.write_file(by, fd, agg, file, at, mode);
+            return self.write_file(by, fd, agg, OpenFile { file, at, mode });
         }
         self.write_queue(by, fd, agg, to)
     }

@@ -1,6 +1,6 @@
 -- Bytes come in on a connection, after clean extents gave way.
 use Rattle.std.proofs.Common.{◌≡◌, ℕ, ◌∙◌, arith, Bool, Option, List, [], ◌∷◌, length, Some, None, refl, sym, ap, true, false}
-use Rattle.std.specs.Prelude.{Result, Err, OnErr, IfOk}
+use Rattle.std.specs.Prelude.{Result, Err}
 use Rattle.iol_arena.specs.State.{pages_for}
 use Rattle.iol_core.specs.State as machine
 use Rattle.iol_core.specs.State.{State, Connection, conn_at}
@@ -9,16 +9,16 @@ use Rattle.iol_core.specs.Meaning.{◌when◌, WantOfRoom, first}
 use Rattle.iol_core.specs.Calls.Outside as outside
 use Rattle.iol_core.specs.declared.refusals.Refusal.{Refusal}
 use Rattle.iol_core.specs.declared.refusals.Refusal.TheVariants.{BadFd, NoRoom}
-use Rattle.iol_hold.specs.Moves.{Stays}
 use Rattle.iol_hold.specs.Room.{has_room}
 use Rattle.iol_hold.specs.declared.slices.Slice.{Slice}
 use Rattle.iol_pipe.specs.Queue.{fitting}
 use Rattle.iol_sock.specs.Connections.{Conn}
 use Rattle.iol_sock.specs.Refused.{arrive_refusals}
 use Rattle.iol_sock.proofs.Meaning.{arrives_meant, conn_at-is, takes_meant}
-use Rattle.iol_kernel.specs.Calls.{Arrives, Steps, with_incoming}
-use Rattle.iol_kernel.specs.KernelState.{KernelState, IsSound, machine_of, read_of}
+use Rattle.iol_kernel.specs.Calls.{with_incoming}
+use Rattle.iol_kernel.specs.KernelState.{KernelState, machine_of, read_of}
 use Rattle.iol_kernel.specs.MakingRoom.{MakesRoom, Places, can_fit}
+use Rattle.iol_kernel.specs.Putting.{Fills}
 use Rattle.iol_kernel.specs.Readings.{Reading, bytes_over}
 use Rattle.iol_kernel.proofs.Connections.Connecting.{conn_found, conn_missing}
 use Rattle.iol_kernel.proofs.State.AfterRoom.{kept_machine, none_fit, queue_none, queue_places}
@@ -53,8 +53,7 @@ module _ (c : ℕ) (bytes : List ℕ) (pool count : ℕ) (h k : KernelState) (ro
   pub there_now : outside.lacks_conn (machine_of [] h) c ≡ false → outside.lacks_conn (machine_of [] k) c ≡ false
   there_now there = kept_machine (λ s. outside.lacks_conn s c) pool (pages_for count) h k room (lacks_same c) ∙ there
 
-  pub arrive_places : (l : KernelState) (r : Result ℕ Refusal) → has_room k.store pool count ≡ true → can_fit h pool count ≡ true → Steps (λ s. outside.arrive s c bytes) k r l → IfOk r (λ n. Arrives c n k l) → OnErr r (l ≡ k) → IsSound l → l.cache ≡ k.cache → Stays k.store l.store
-      → ((p : ℕ) → r ≡ Err (NoRoom p) → has_room k.store (conn_at (machine_of [] k) c).pool (outside.arrive (machine_of [] k) c bytes).answer ≡ false)
+  pub arrive_places : (l : KernelState) (r : Result ℕ Refusal) → has_room k.store pool count ≡ true → can_fit h pool count ≡ true → Fills (λ s. outside.arrive s c bytes) (with_incoming c) (conn_at (machine_of [] k) c).pool k r l
       → Places (λ s. outside.arrive s c bytes) (with_incoming c) (conn_at (machine_of [] h) c).pool (outside.arrive (machine_of [] h) c bytes).answer h r l
   arrive_places = queue_places (λ s. outside.arrive s c bytes) (with_incoming c) (λ s. (conn_at s c).pool) pool count h k room (first_same c bytes) (answer_same c bytes) (pool_same c) (late_is c bytes) passed in_pool counted
 

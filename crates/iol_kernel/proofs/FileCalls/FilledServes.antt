@@ -1,19 +1,16 @@
 -- What a copying write to a file means, once its bytes lie in the file's pool.
-use Rattle.std.proofs.Common.{inl, inr, ◌≡◌, ℕ, ◌+◌, ◌≤◌, Bool, true, false, List, [], ◌∷◌, length, take, refl, sym, ap, ◌∙◌, subst, arith, Option, Some, None}
-use Rattle.std.specs.Prelude.{◌&&◌, Result, Ok, Err, MatchOption, OnOk, is_none, nat_lt, not}
-use Rattle.std.proofs.lemmas.Bool.{cases_lt}
-use Rattle.std.proofs.lemmas.Bool.Decides.{nat_tests}
+use Rattle.std.proofs.Common.{◌≡◌, ℕ, ◌+◌, ◌≤◌, true, List, [], length, take, refl, sym, ap, ◌∙◌, subst, arith, Option, Some, None}
+use Rattle.std.specs.Prelude.{Result, Ok, Err, MatchOption, OnOk}
 use Rattle.std.proofs.lemmas.List.{length-map, take_all}
 use Rattle.iol_core.specs.Text.{bytes_of, labelled}
 use Rattle.iol_core.specs.Numbered.{in_place}
-use Rattle.iol_core.specs.Meaning.{Meaning, Step, ◌when◌, first}
+use Rattle.iol_core.specs.Meaning.{Meaning, Step, first}
 use Rattle.iol_core.specs.State as machine
 use Rattle.iol_core.specs.State.{State}
 use Rattle.iol_core.specs.Positions.{ArePlaced}
-use Rattle.iol_core.specs.Calls.Aggregates as aggs
 use Rattle.iol_core.specs.Calls.Writing as writing
 use Rattle.iol_core.specs.declared.refusals.Refusal.{Refusal}
-use Rattle.iol_core.specs.declared.refusals.Refusal.TheVariants.{NoDomain, BadFd, NoPool, WrongMode, TooLong, PoolClosed, BrokenPipe, WouldBlock, Memory}
+use Rattle.iol_core.specs.declared.refusals.Refusal.TheVariants.{Memory}
 use Rattle.iol_core.specs.declared.descriptors.Mode.{Mode}
 use Rattle.iol_core.specs.declared.descriptors.Descriptor.{Descriptor}
 use Rattle.iol_core.specs.declared.descriptors.Descriptor.TheVariants as on
@@ -29,64 +26,24 @@ use Rattle.iol_desc.specs.Tables.{domain_in, with_fds_in}
 use Rattle.iol_cache.specs.Cached.{Cached}
 use Rattle.iol_cache.specs.Overwriting.{KeepsFiles, KeepsMirrors}
 use Rattle.iol_kernel.specs.Backed.{Serves, holding_of, with_slots}
-use Rattle.iol_kernel.specs.KernelState.{KernelState, IsSound, machine_of, read_of}
+use Rattle.iol_kernel.specs.KernelState.{KernelState, machine_of, read_of}
 use Rattle.iol_kernel.specs.MakingRoom.{MakesRoom}
+use Rattle.iol_kernel.specs.Putting.{MayPut}
 use Rattle.iol_kernel.specs.Readings.{Reading, bytes_over}
 use Rattle.iol_kernel.proofs.FileCalls.FileWrites.{Puts, late_serves, write_serves}
 use Rattle.iol_kernel.proofs.FileCalls.Moved.{repositioned}
 use Rattle.iol_kernel.proofs.State.ReadOf.{descriptor-read_of, live_held}
 use Rattle.iol_kernel.proofs.FileCalls.Recached.{Recaches}
+use Rattle.iol_kernel.proofs.Queues.Passed.{passed_live, passed_short}
 use Rattle.iol_kernel.proofs.State.Serving.{still_serves}
 use Rattle.iol_kernel.proofs.State.Stay.{stays_here}
-
--- What passed the tests.
-
-later : (o : Option Refusal) (rest : List (Option Refusal)) → first (o ∷ rest) ≡ None → first rest ≡ None
-later None rest passed = passed
-later (Some x) rest passed = absurd (cc passed)
-
-not_first : (x : Refusal) (b : Bool) (rest : List (Option Refusal)) → first ((x when b) ∷ rest) ≡ None → b ≡ false
-not_first x true rest passed = absurd (cc passed)
-not_first x false rest passed = refl
-
-negated : (b : Bool) → not b ≡ false → b ≡ true
-negated true e = refl
-negated false e = absurd (cc e)
-
-short_enough : (n : ℕ) → nat_lt MAX_FILE_BYTES n ≡ false → n ≤ MAX_FILE_BYTES
-short_enough n within = elim (cases_lt MAX_FILE_BYTES n) [
-  | inl k ↦ (let b : nat_lt MAX_FILE_BYTES n ≡ true = grind (arith, nat_tests, k) in absurd (cc (b, within)))
-  | inr k ↦ omega (arith, k)
-]
-
-module _ (s : State) (d fd : ℕ) (bytes : List ℕ) (passed : first (writing.write s d fd bytes).refusals ≡ None) where
-  abbrev z : Option Descriptor
-  z = machine.descriptor s d fd
-
-  abbrev last : List (Option Refusal)
-  last = (PoolClosed (aggs.default_pool s d) when (not (writing.is_file z) && (machine.pool s (aggs.default_pool s d)).closed)) ∷ (BrokenPipe when writing.is_broken s z) ∷ (WouldBlock when writing.takes_none s z (length bytes)) ∷ []
-
-  pub passed_live : machine.is_live s d ≡ true
-  passed_live = negated (machine.is_live s d) (not_first NoDomain (not (machine.is_live s d)) _ passed)
-
-  not_long : writing.is_too_long z (length bytes) ≡ false
-  not_long =
-      let a = later (NoDomain when not (machine.is_live s d)) ((BadFd when is_none z) ∷ (NoPool when (not (writing.is_file z) && is_none (machine.domain s d).default)) ∷ (WrongMode when not (writing.can_write z)) ∷ (TooLong when writing.is_too_long z (length bytes)) ∷ last) passed in
-      let b = later (BadFd when is_none z) ((NoPool when (not (writing.is_file z) && is_none (machine.domain s d).default)) ∷ (WrongMode when not (writing.can_write z)) ∷ (TooLong when writing.is_too_long z (length bytes)) ∷ last) a in
-      let c = later (NoPool when (not (writing.is_file z) && is_none (machine.domain s d).default)) ((WrongMode when not (writing.can_write z)) ∷ (TooLong when writing.is_too_long z (length bytes)) ∷ last) b in
-      let e = later (WrongMode when not (writing.can_write z)) ((TooLong when writing.is_too_long z (length bytes)) ∷ last) c in
-      not_first TooLong (writing.is_too_long z (length bytes)) last e
-
-  pub passed_short : (f at : ℕ) (mode : Mode) → machine.descriptor s d fd ≡ Some (on.File f at mode) → at + length bytes ≤ MAX_FILE_BYTES
-  passed_short f at mode is = short_enough (at + length bytes) (sym (ap (λ (o : Option Descriptor). writing.is_too_long o (length bytes)) is) ∙ not_long)
 
 pub filled_len : (s : Stored) (xs : List Slice) (pool : ℕ) (bytes : List ℕ) → text_of s xs ≡ labelled pool bytes → byte_len xs ≡ length bytes
 filled_len s xs pool bytes text = sym (length-read (bytes_over [] s).at xs) ∙ ap length text ∙ length-map bytes (λ b. (b, pool))
 
 -- What the call means of a file.
 
-module _ (h : KernelState) (by fd f at pool : ℕ) (mode : Mode) (bytes : List ℕ) (sound : IsSound h) (to : (r : Reading) → machine.descriptor (read_of r h) by fd ≡ Some (on.File f at mode)) (in_pool : (r : Reading) → pool ≡ writing.pool_for (read_of r h) by (machine.descriptor (read_of r h) by fd))
-    (passed : (r : Reading) → first (writing.write (read_of r h) by fd bytes).refusals ≡ None) where
+module _ (h : KernelState) (by fd f at pool : ℕ) (mode : Mode) (bytes : List ℕ) (may : MayPut by fd (on.File f at mode) pool bytes h) where
   abbrev m : State → Meaning ℕ
   m s = writing.write s by fd bytes
 
@@ -94,16 +51,16 @@ module _ (h : KernelState) (by fd f at pool : ℕ) (mode : Mode) (bytes : List �
   over stored = bytes_over stored h.store
 
   pub held_live : (domain_in h.domains by).live ≡ true
-  held_live = live_held (over []) h by (passed_live (machine_of [] h) by fd bytes (passed (over [])))
+  held_live = live_held (over []) h by (passed_live (machine_of [] h) by fd bytes (may.passed (over [])))
 
   pub held_file : in_place (domain_in h.domains by).fds fd ≡ Some (on.File f at mode)
-  held_file = sym (descriptor-read_of (over []) h by fd) ∙ to (over [])
+  held_file = sym (descriptor-read_of (over []) h by fd) ∙ may.to (over [])
 
   pub held_short : at + length bytes ≤ MAX_FILE_BYTES
-  held_short = passed_short (machine_of [] h) by fd bytes (passed (over [])) f at mode (to (over []))
+  held_short = passed_short (machine_of [] h) by fd bytes (may.passed (over [])) f at mode (may.to (over []))
 
   pub file_count : (r : Reading) → (writing.write (read_of r h) by fd bytes).answer ≡ length bytes
-  file_count r = ap (λ (o : Option Descriptor). writing.fitting (read_of r h) o (length bytes)) (to r)
+  file_count r = ap (λ (o : Option Descriptor). writing.fitting (read_of r h) o (length bytes)) (may.to r)
 
   long : length (labelled pool bytes) ≡ length bytes
   long = length-map bytes (λ b. (b, pool))
@@ -111,23 +68,23 @@ module _ (h : KernelState) (by fd f at pool : ℕ) (mode : Mode) (bytes : List �
   left : (stored : List (List ℕ)) → (m (machine_of stored h)).after ≡ writing.written (machine_of stored h) by fd (Some (on.File f at mode)) (labelled pool bytes)
   left stored =
       let s : State = machine_of stored h in
-      ap (λ p. writing.written s by fd (machine.descriptor s by fd) (labelled p (take (writing.fitting s (machine.descriptor s by fd) (length bytes)) bytes))) (sym (in_pool (over stored)))
-      ∙ ap (λ (o : Option Descriptor). writing.written s by fd o (labelled pool (take (writing.fitting s o (length bytes)) bytes))) (to (over stored))
+      ap (λ p. writing.written s by fd (machine.descriptor s by fd) (labelled p (take (writing.fitting s (machine.descriptor s by fd) (length bytes)) bytes))) (sym (may.pool (over stored)))
+      ∙ ap (λ (o : Option Descriptor). writing.written s by fd o (labelled pool (take (writing.fitting s o (length bytes)) bytes))) (may.to (over stored))
       ∙ ap (λ (l : List ℕ). writing.written s by fd (Some (on.File f at mode)) (labelled pool l)) (take_all (length bytes) bytes (omega arith))
 
   pub filled_serves : (k : KernelState) (u : Stored) (d : Cached) (n : ℕ) → Recaches h.store u h.cache d → Puts f at (bytes_of (labelled pool bytes)) (holding_of h) (record { store = u; cache = d }) → n ≡ length bytes
       → k ≡ record h { store = u; cache = d; domains = with_fds_in h.domains by (repositioned h by fd f (at + length bytes) mode) } → (disk : Disk) → Serves m disk h (Ok n) disk k
   filled_serves k u d n re puts count same disk =
       subst (λ z. Serves m disk h (Ok z) disk k) (long ∙ sym count)
-      (write_serves m h k u d by fd f at mode (labelled pool bytes) sound held_live held_file re puts (omega (arith, held_short, long)) (λ stored. passed (over stored)) (λ stored. long ∙ sym (file_count (over stored))) left
+      (write_serves m h k u d by fd f at mode (labelled pool bytes) may.sound held_live held_file re puts (omega (arith, held_short, long)) (λ stored. may.passed (over stored)) (λ stored. long ∙ sym (file_count (over stored))) left
       (same ∙ ap (λ z. let l : KernelState = record h { store = u; cache = d; domains = with_fds_in h.domains by (repositioned h by fd f (at + z) mode) } in l) (sym long)) disk)
 
   pub unfilled_serves : (k : KernelState) (u : Stored) (d : Cached) → Recaches h.store u h.cache d → KeepsFiles (holding_of h) (record { store = u; cache = d }) → KeepsMirrors (holding_of h) (record { store = u; cache = d }) → k ≡ record h { store = u; cache = d } → (disk : Disk) → Serves m disk h (Err Memory) disk k
-  unfilled_serves k u d re keeps mirrors same = late_serves m h k u d Memory sound re keeps mirrors (λ stored. passed (over stored)) (λ stored. tt) same
+  unfilled_serves k u d re keeps mirrors same = late_serves m h k u d Memory may.sound re keeps mirrors (λ stored. may.passed (over stored)) (λ stored. tt) same
 
   pub unplaced_serves : (k : KernelState) → k ≡ h → (disk : Disk) → Serves m disk h (Err Memory) disk k
   unplaced_serves k same disk = subst (λ (l : KernelState). Serves m disk h (Err Memory) disk l) (sym same)
-      (still_serves m h h (Err Memory) sound sound (λ stored. (late (m (machine_of stored h)) (passed (over stored)) tt, refl)) refl refl (stays_here h.store) disk)
+      (still_serves m h h (Err Memory) may.sound may.sound (λ stored. (late (m (machine_of stored h)) (may.passed (over stored)) tt, refl)) refl refl (stays_here h.store) disk)
     where
       late : (n : Meaning ℕ) → first n.refusals ≡ None → n.Late Memory → MatchOption (first n.refusals) (n.Late Memory) (λ y. Memory ≡ y)
       late n none is = rw none is

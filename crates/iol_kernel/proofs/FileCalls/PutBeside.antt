@@ -8,7 +8,6 @@ use Rattle.std.proofs.lemmas.List.{append-nil, get_or-append-add, get_or-map, ge
 use Rattle.std.proofs.lemmas.List.FromFn.{get_or-map-range_with_len, length-map-range_with_len}
 use Rattle.iol_core.specs.Numbered.{is_numbered}
 use Rattle.iol_core.specs.Calls.Writing as writing
-use Rattle.iol_core.specs.State as machine
 use Rattle.iol_core.specs.Meaning.{WantOfRoom}
 use Rattle.iol_core.specs.Text.{labelled}
 use Rattle.iol_core.specs.declared.descriptors.Descriptor.{Descriptor}
@@ -37,8 +36,9 @@ use Rattle.iol_cache.proofs.Extents.Keeping.{AreApart, apart_of}
 use Rattle.iol_kernel.specs.Keeping.{KeepsBeside, LacksPages}
 use Rattle.iol_kernel.specs.Backed.{holding_of}
 use Rattle.iol_kernel.specs.KernelState.{KernelState, IsSound, read_of}
-use Rattle.iol_kernel.specs.Readings.{Reading, bytes_over}
+use Rattle.iol_kernel.specs.Readings.{bytes_over}
 use Rattle.iol_kernel.specs.MakingRoom.{AfterRoom, MakesRoom, can_fit}
+use Rattle.iol_kernel.specs.Putting.{MayPut}
 use Rattle.iol_kernel.specs.WritingFiles.{GivesUpNew, LaysInFile, LaysOn, LaysOver, PutsInFile, PutsOn, UnlaidRoomy, pool_of_file}
 use Rattle.iol_kernel.proofs.State.AfterRoom.{memory_left}
 use Rattle.iol_kernel.proofs.FileCalls.Kept.{beside_none, beside_same, room_keeps, unless_beside, unless_then, unwritten_unless, write_unless}
@@ -180,8 +180,8 @@ module _ (f at pool count : ℕ) (bytes : List ℕ) (h k : KernelState) (same : 
       record { lays = tt; leaves = inr went }
 
 -- the pool in which the bytes lie is the file's
-pub own_pool : (h : KernelState) (by fd f at pool : ℕ) (mode : Mode) → IsSound h → ((r : Reading) → machine.descriptor (read_of r h) by fd ≡ Some (on.File f at mode)) → ((r : Reading) → pool ≡ writing.pool_for (read_of r h) by (machine.descriptor (read_of r h) by fd)) → pool_of_file h f ≡ pool
-own_pool h by fd f at pool mode sound to in_pool = let r = bytes_over [] h.store in sym (in_pool r ∙ ap (writing.pool_for (read_of r h) by) (to r) ∙ pool-file r h f sound)
+pub own_pool : (h : KernelState) (by fd f at pool : ℕ) (mode : Mode) (bytes : List ℕ) → MayPut by fd (on.File f at mode) pool bytes h → pool_of_file h f ≡ pool
+own_pool h by fd f at pool mode bytes may = let r = bytes_over [] h.store in sym (may.pool r ∙ ap (writing.pool_for (read_of r h) by) (may.to r) ∙ pool-file r h f may.sound)
 
 pub files_apart : (h : KernelState) → IsSound h → AreApart h.cache
 files_apart h sound = apart_of {h = holding_of h} (cache_sound h sound)

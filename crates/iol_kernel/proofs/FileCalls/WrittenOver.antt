@@ -7,7 +7,7 @@ use Rattle.iol_core.specs.Text.{Text}
 use Rattle.iol_core.specs.Numbered.{in_place, is_numbered, numbered_or}
 use Rattle.iol_core.specs.Meaning.{Meaning, first, WantOfRoom}
 use Rattle.iol_core.specs.State as machine
-use Rattle.iol_core.specs.State.{State}
+use Rattle.iol_core.specs.State.{Domain, State}
 use Rattle.iol_core.specs.Calls.Writing as writing
 use Rattle.iol_core.specs.declared.refusals.Refusal.{Refusal}
 use Rattle.iol_core.specs.declared.refusals.Refusal.TheVariants.{NoRoom}
@@ -15,7 +15,6 @@ use Rattle.iol_core.specs.declared.descriptors.Mode.{Mode}
 use Rattle.iol_core.specs.declared.descriptors.Descriptor.{Descriptor}
 use Rattle.iol_core.specs.declared.descriptors.Descriptor.TheVariants as on
 use Rattle.iol_core.specs.declared.limits.TheConstants.{MAX_FILE_BYTES}
-use Rattle.iol_back.specs.Disk.{Disk}
 use Rattle.iol_hold.specs.Moves.{Covers, Moves, SameLists}
 use Rattle.iol_hold.specs.Places.{byte_len}
 use Rattle.iol_hold.specs.Room.{pages_of}
@@ -42,14 +41,15 @@ use Rattle.iol_kernel.specs.KernelState.{KernelState, IsSound, machine_of, objec
 use Rattle.iol_kernel.specs.Readings.{Reading, bytes_over}
 use Rattle.iol_kernel.specs.Views.{state_view}
 use Rattle.iol_kernel.specs.Keeping.{KeepsBeside, LacksPages}
-use Rattle.iol_kernel.specs.WritingFiles.{WritesOn, WritesOver, pages_to_write, pool_of_file}
+use Rattle.iol_kernel.specs.WritingFiles.{IsOpenOn, WritesAgg, WritesOn, WritesOver, pages_to_write, pool_of_file}
 use Rattle.iol_cache.proofs.Extents.Keeping.{apart_of}
 use Rattle.iol_kernel.proofs.FileCalls.Kept.{beside_same, unwritten_unless, write_unless}
 use Rattle.iol_kernel.proofs.FileCalls.FileWrites.{SamePools, late_serves, unwritten_pools, write_serves, written_pools}
 use Rattle.iol_kernel.proofs.FileCalls.Moved.{repositioned}
 use Rattle.iol_kernel.proofs.FileCalls.Named.{as_many, cache_sound}
-use Rattle.iol_kernel.proofs.State.ReadOf.{descriptor-read_of, text-read_of}
+use Rattle.iol_kernel.proofs.State.ReadOf.{descriptor-read_of, live_held, text-read_of}
 use Rattle.iol_kernel.proofs.FileCalls.Recached.{Recaches}
+use Rattle.iol_kernel.proofs.Queues.Opening.{end_held}
 use Rattle.iol_kernel.proofs.AggregateCalls.Slices.{slices_found}
 use Rattle.iol_kernel.proofs.State.Uses.{all_few, uses-without_agg}
 use Rattle.iol_kernel.proofs.State.Views.{numbered_or-map}
@@ -110,11 +110,26 @@ queued_on d fd a h k r (on.ReadEnd p) other c = c
 queued_on d fd a h k r (on.WriteEnd p) other c = c
 queued_on d fd a h k r (on.Connection n) other c = c
 
-module _ (h : KernelState) (t : Stored) (d : Cached) (by fd a f at : ℕ) (mode : Mode) (xs : List Slice) (sound : IsSound h) (live : (domain_in h.domains by).live ≡ true) (is : in_place (domain_in h.domains by).fds fd ≡ Some (on.File f at mode)) (there : is_numbered h.files f ≡ true) (found : Some xs ≡ agg_in h.domains by a)
+module _ (h : KernelState) (t : Stored) (d : Cached) (by fd a f at : ℕ) (mode : Mode) (xs : List Slice) (open' : IsOpenOn by fd f at mode h) (found : Some xs ≡ agg_in h.domains by a)
     (moves : Moves h.store t (held h.cache.files) (held d.files)) (lists : SameLists h.store t) (settles : AllSettled h.store → AllSettled t) (pages : FillsLowest (pool_of_file h f) h.store t) (after : cache.IsSound t d) (mirrors : KeepsMirrors (holding_of h) (record { store = t; cache = d }))
     (passed : (r : Reading) → first (writing.iol_write (read_of r h) by fd a).refusals ≡ None) where
   abbrev new : Holding
   new = record { store = t; cache = d }
+
+  abbrev over : List (List ℕ) → Reading
+  over stored = bytes_over stored h.store
+
+  live : (domain_in h.domains by).live ≡ true
+  live = live_held (over []) h by (open'.live (over []))
+
+  is : in_place (domain_in h.domains by).fds fd ≡ Some (on.File f at mode)
+  is = sym (descriptor-read_of (over []) h by fd) ∙ open'.to (over [])
+
+  there : is_numbered h.cache.files f ≡ true
+  there = in_cache h f open'.sound (end_held (over []) h by fd (on.File f at mode) open'.sound (open'.to (over []))).0
+
+  same_source : xs ≡ slices_in h.domains by a
+  same_source = slices_found h.domains by a xs found
 
   recaches : SamePools (holding_of h) new → Recaches h.store t h.cache d
   recaches same = record { moves = moves; lists = lists; settles = settles; pages = (pages_kept pages).count; files = same.0; pools = same.1; sound = after }
@@ -122,85 +137,84 @@ module _ (h : KernelState) (t : Stored) (d : Cached) (by fd a f at : ℕ) (mode 
   abbrev m : State → Meaning ℕ
   m s = writing.iol_write s by fd a
 
-  to : (stored : List (List ℕ)) → machine.descriptor (machine_of stored h) by fd ≡ Some (on.File f at mode)
-  to stored = descriptor-read_of (bytes_over stored h.store) h by fd ∙ is
-
   source : (stored : List (List ℕ)) → machine.text (machine_of stored h) by a ≡ text_of h.store xs
-  source stored = text-read_of (bytes_over stored h.store) h by a ∙ ap (text_of h.store) (sym (slices_found h.domains by a xs found))
+  source stored = text-read_of (over stored) h by a ∙ ap (text_of h.store) (sym same_source)
 
   long : length (text_of h.store xs) ≡ byte_len xs
-  long = length-read (bytes_over [] h.store).at xs
+  long = length-read (over []).at xs
 
   answered : (stored : List (List ℕ)) → length (text_of h.store xs) ≡ (m (machine_of stored h)).answer
   answered stored =
       let s : State = machine_of stored h in
-      sym (ap (λ (o : Option Descriptor). writing.fitting s o (length (machine.text s by a))) (to stored) ∙ ap (λ (w : Text). length w) (source stored))
+      sym (ap (λ (o : Option Descriptor). writing.fitting s o (length (machine.text s by a))) (open'.to (over stored)) ∙ ap (λ (w : Text). length w) (source stored))
 
   left : (stored : List (List ℕ)) → (m (machine_of stored h)).after ≡ writing.written (machine_of stored h) by fd (Some (on.File f at mode)) (text_of h.store xs)
   left stored =
       let s : State = machine_of stored h in
-      ap (λ (o : Option Descriptor). writing.written s by fd o (take (writing.fitting s o (length (machine.text s by a))) (machine.text s by a))) (to stored)
+      ap (λ (o : Option Descriptor). writing.written s by fd o (take (writing.fitting s o (length (machine.text s by a))) (machine.text s by a))) (open'.to (over stored))
       ∙ ap (λ (w : Text). writing.written s by fd (Some (on.File f at mode)) (take (length w) w)) (source stored)
       ∙ ap (λ (w : Text). writing.written s by fd (Some (on.File f at mode)) w) (take_all (length (text_of h.store xs)) (text_of h.store xs) (omega arith))
 
   module _ (lies : LiesDirty f at xs d) (writes : 0 < byte_len xs → WritesFile f at xs (holding_of h) new) (nothing : byte_len xs ≡ 0 → new ≡ holding_of h) where
     pools : SamePools (holding_of h) new
     pools = elim (cases_lt 0 (byte_len xs)) [
-      | inl some ↦ written_pools f at xs (holding_of h) new (in_cache h f sound there) (writes some)
+      | inl some ↦ written_pools f at xs (holding_of h) new there (writes some)
       | inr none ↦ subst (λ (x : Holding). SamePools (holding_of h) x) (sym (nothing (omega (arith, none)))) (refl, λ g. refl)
     ]
 
-    pub over_serves : (k : KernelState) (n : ℕ) → IsWritten f at xs (holding_of h) new → KeepsOthers f (holding_of h) new → at + byte_len xs ≤ MAX_FILE_BYTES → n ≡ byte_len xs → k ≡ record h { store = t; cache = d; domains = with_fds_in h.domains by (repositioned h by fd f (at + byte_len xs) mode) } → (disk : Disk) → Serves m disk h (Ok n) disk k
-    over_serves k n written others short count same disk =
-        subst (λ z. Serves m disk h (Ok z) disk k) (long ∙ sym count)
-        (write_serves m h k t d by fd f at mode (text_of h.store xs) sound live is (recaches pools) (record { written = written.each; others = others; mirrors = mirrors }) (omega (arith, short, long)) (λ stored. passed (bytes_over stored h.store)) answered left
-        (same ∙ ap (λ z. let k : KernelState = record h { store = t; cache = d; domains = with_fds_in h.domains by (repositioned h by fd f (at + z) mode) } in k) (sym long)) disk)
-
     beside : let p = pool_of_file h f in KeepsBeside f at (byte_len xs) p (LacksPages h p (copied_pages p xs)) h.cache d
     beside = elim (cases_lt 0 (byte_len xs)) [
-      | inl some ↦ write_unless h f at xs new (apart_of {h = holding_of h} (cache_sound h sound)) (in_cache h f sound there) (writes some)
+      | inl some ↦ write_unless h f at xs new (apart_of {h = holding_of h} (cache_sound h open'.sound)) there (writes some)
       | inr none ↦ (let p = pool_of_file h f in beside_same f at (byte_len xs) p (LacksPages h p (copied_pages p xs)) h.cache d (ap (λ (x : Holding). x.cache) (nothing (omega (arith, none)))))
     ]
 
-    pub over_leaves : (k : KernelState) (n : ℕ) → pages_to_write h f xs ≤ length (pages_of h.store (pool_of_file h f)) → k ≡ record h { store = t; cache = d; domains = k.domains } → k.domains ≡ with_fds_in h.domains by (repositioned h by fd f (at + byte_len xs) mode) → WritesOver f at xs h (Ok n) k
-    over_leaves k n room same moved = subst (λ (l : KernelState). WritesOver f at xs h (Ok n) l) (sym same) (record {
-      lies = lies;
-      over = writes;
-      nothing = nothing;
-      moves = record { domain = by; fd = fd; mode = mode; is = moved };
-      beside = beside;
-      room = room;
-      no_room = λ p e. absurd (cc e);
+    pub overwritten : (ds : List (Domain (List Slice))) (n : ℕ) → IsWritten f at xs (holding_of h) new → KeepsOthers f (holding_of h) new → at + byte_len (slices_in h.domains by a) ≤ MAX_FILE_BYTES → n ≡ byte_len xs → pages_to_write h f xs ≤ length (pages_of h.store (pool_of_file h f))
+        → ds ≡ with_fds_in h.domains by (repositioned h by fd f (at + n) mode) → WritesAgg by fd a f at h (Ok n) (record h { store = t; cache = d; domains = ds })
+    overwritten ds n written others short count room moved = let k : KernelState = record h { store = t; cache = d; domains = ds } in record {
+      serves = λ disk. subst (λ z. Serves m disk h (Ok z) disk k) (long ∙ sym count)
+          (write_serves m h k t d by fd f at mode (text_of h.store xs) open'.sound live is (recaches pools) (record { written = written.each; others = others; mirrors = mirrors }) (omega (arith, short, long, ap byte_len same_source)) (λ stored. passed (over stored)) answered left
+          (ap (λ (es : List (Domain (List Slice))). let l : KernelState = record h { store = t; cache = d; domains = es } in l) (moved_by (count ∙ sym long))) disk);
+      over = subst (λ (ys : List Slice). WritesOver f at ys h (Ok n) k) same_source (record {
+        lies = lies;
+        over = writes;
+        nothing = nothing;
+        moves = record { domain = by; fd = fd; mode = mode; is = moved_by count };
+        beside = beside;
+        room = room;
+        no_room = λ p e. absurd (cc e);
+        pages = pages;
+        lists = lists;
+        same = refl;
+        refused = tt;
+        leaves = tt;
+      });
+    }
+      where
+        moved_by : {z : ℕ} → n ≡ z → ds ≡ with_fds_in h.domains by (repositioned h by fd f (at + z) mode)
+        moved_by e = moved ∙ ap (λ z. with_fds_in h.domains by (repositioned h by fd f (at + z) mode)) e
+
+  -- refused late
+  pub unwritten : (x : Refusal) → OnlyMakesRoom (pool_of_file h f) (copied_pages (pool_of_file h f) xs) (holding_of h) new → KeepsFiles (holding_of h) new → ((p : ℕ) → x ≡ NoRoom p → length (pages_of h.store (pool_of_file h f)) < pages_to_write h f xs)
+      → ((p : ℕ) → x ≡ NoRoom p → LeavesAll (holding_of h) new) → WantOfRoom (pool_of_file h f) x → WritesAgg by fd a f at h (Err x) (record h { store = t; cache = d })
+  unwritten x room keeps lacks kept late = let k : KernelState = record h { store = t; cache = d } in record {
+    serves = late_serves m h k t d x open'.sound (recaches (unwritten_pools (pool_of_file h f) (copied_pages (pool_of_file h f) xs) (holding_of h) new room)) keeps mirrors (λ stored. passed (over stored))
+        (λ stored. subst (λ (o : Option Descriptor). writing.write_late (machine_of stored h) o x) (sym (open'.to (over stored))) (subst (λ p. WantOfRoom p x) (sym (pool-file (over stored) h f open'.sound)) late))
+        refl;
+    over = subst (λ (ys : List Slice). WritesOver {A = ℕ} f at ys h (Err x) k) same_source (record {
+      lies = tt;
+      over = λ some. tt;
+      nothing = λ none. tt;
+      moves = tt;
+      beside = unwritten_unless h f at xs new (apart_of {h = holding_of h} (cache_sound h open'.sound)) room;
+      room = tt;
+      no_room = λ p e. lacks p (the_refusal e);
       pages = pages;
       lists = lists;
       same = refl;
-      refused = tt;
-      leaves = tt;
-    })
-
-  -- refused late
-
-  pub unwritten_serves : (k : KernelState) (x : Refusal) → OnlyMakesRoom (pool_of_file h f) (copied_pages (pool_of_file h f) xs) (holding_of h) new → KeepsFiles (holding_of h) new → WantOfRoom (pool_of_file h f) x → k ≡ record h { store = t; cache = d } → (disk : Disk) → Serves m disk h (Err x) disk k
-  unwritten_serves k x room keeps late same =
-      late_serves m h k t d x sound (recaches (unwritten_pools (pool_of_file h f) (copied_pages (pool_of_file h f) xs) (holding_of h) new room)) keeps mirrors (λ stored. passed (bytes_over stored h.store))
-      (λ stored. subst (λ (o : Option Descriptor). writing.write_late (machine_of stored h) o x) (sym (to stored)) (subst (λ p. WantOfRoom p x) (sym (pool-file (bytes_over stored h.store) h f sound)) late))
-      same
-
-  pub unwritten_leaves : (k : KernelState) (x : Refusal) → OnlyMakesRoom (pool_of_file h f) (copied_pages (pool_of_file h f) xs) (holding_of h) new → ((p : ℕ) → x ≡ NoRoom p → length (pages_of h.store (pool_of_file h f)) < pages_to_write h f xs) → ((p : ℕ) → x ≡ NoRoom p → LeavesAll (holding_of h) new) → WantOfRoom (pool_of_file h f) x → k ≡ record h { store = t; cache = d } → WritesOver {A = ℕ} f at xs h (Err x) k
-  unwritten_leaves k x room lacks kept late same = subst (λ (l : KernelState). WritesOver {A = ℕ} f at xs h (Err x) l) (sym same) (record {
-    lies = tt;
-    over = λ some. tt;
-    nothing = λ none. tt;
-    moves = tt;
-    beside = unwritten_unless h f at xs new (apart_of {h = holding_of h} (cache_sound h sound)) room;
-    room = tt;
-    no_room = λ p e. lacks p (the_refusal e);
-    pages = pages;
-    lists = lists;
-    same = refl;
-    refused = refl;
-    leaves = inr (late, room, kept);
-  })
+      refused = refl;
+      leaves = inr (late, room, kept);
+    });
+  }
     where
       the_refusal : {p : ℕ} → ◌≡◌ {A = Result ℕ Refusal} (Err x) (Err (NoRoom p)) → x ≡ NoRoom p
       the_refusal e = cc

@@ -1,6 +1,6 @@
 -- What a call means that places new bytes after clean extents gave way.
 use Rattle.std.proofs.Common.{◌≡◌, ℕ, ◌+◌, ◌≤◌, ◌∙◌, Bool, true, false, List, [], length, Some, None, refl, sym, ap, subst, arith, inl, inr}
-use Rattle.std.specs.Prelude.{◌↔◌, IsTrue, nat_le, MatchOption, Result, not, Ok, Err, OnErr, IfOk}
+use Rattle.std.specs.Prelude.{◌↔◌, IsTrue, nat_le, MatchOption, Result, not, Ok, Err}
 use Rattle.std.proofs.lemmas.Bool.{cases_lt}
 use Rattle.std.proofs.lemmas.List.Filters.{length-filter_both}
 use Rattle.std.proofs.lemmas.Bool.Decides.{nat_tests}
@@ -24,6 +24,7 @@ use Rattle.iol_kernel.specs.Backed.{Serves, StepsBeside, with_slots}
 use Rattle.iol_kernel.specs.Calls.{MakesBytes, Steps}
 use Rattle.iol_kernel.specs.KernelState.{KernelState, IsSound, machine_of, read_of}
 use Rattle.iol_kernel.specs.MakingRoom.{AfterRoom, IsSame, MakesRoom, MayHaveEvicted, Places, can_fit}
+use Rattle.iol_kernel.specs.Putting.{Fills}
 use Rattle.iol_kernel.specs.Readings.{Reading, bytes_over}
 use Rattle.iol_kernel.proofs.State.Serving.{backed_stays, steps_beside, still_serves, with_slots-same}
 use Rattle.iol_kernel.proofs.State.Stay.{stays_here}
@@ -158,6 +159,15 @@ places_late {A} m put pool n h k l x room roomy fits' steps same late lacks = su
   no_room = λ p e. absurd (cc (sym roomy ∙ lacks p e));
 })
 
+-- Bytes that came where there was room, and bytes that did not.
+
+pub fills_some : (m : State → Meaning ℕ) (put : State → Text → State) (pool n : ℕ) (h k : KernelState) → Steps m h (Ok n) k → MakesBytes put pool n h k → IsSound k → Stays h.store k.store → Fills m put pool h (Ok n) k
+fills_some m put pool n h k step made sound stays = record { step = step; made = made; refused = tt; cache = made.cache; sound = sound; stays = stays; no_room = λ p e. absurd (cc e) }
+
+pub fills_none : (m : State → Meaning ℕ) (put : State → Text → State) (pool : ℕ) (h k : KernelState) (x : Refusal) → IsSound h → k ≡ h → ((stored : List (List ℕ)) → Step (m (machine_of stored h)) (machine_of stored h) (Err x) (machine_of stored h)) → ((p : ℕ) → ◌≡◌ {A = Result ℕ Refusal} (Err x) (Err (NoRoom p)) → has_room h.store pool (m (machine_of [] h)).answer ≡ false)
+    → Fills m put pool h (Err x) k
+fills_none m put pool h k x sound same step lacks = subst (λ (l : KernelState). Fills m put pool h (Err x) l) (sym same) (record { step = step; made = tt; refused = refl; cache = refl; sound = sound; stays = stays_here h.store; no_room = lacks })
+
 -- New bytes of a queue: the machine says how many fit, and in which pool they lie.
 
 module _ (m : State → Meaning ℕ) (put : State → Text → State) (pool_of : State → ℕ) (pool count : ℕ) (h k : KernelState) (room : MakesRoom pool (pages_for count) h k)
@@ -181,13 +191,12 @@ module _ (m : State → Meaning ℕ) (put : State → Text → State) (pool_of :
   as_asked : (r : Result ℕ Refusal) (l : KernelState) → Places m put pool count h r l → Places m put (pool_of (machine_of [] h)) (m (machine_of [] h)).answer h r l
   as_asked r l is = subst (λ p. Places m put p (m (machine_of [] h)).answer h r l) (sym (in_pool (bytes_over [] h.store))) (subst (λ n. Places m put pool n h r l) (sym (counted (bytes_over [] h.store))) is)
 
-  pub queue_places : (l : KernelState) (r : Result ℕ Refusal) → has_room k.store pool count ≡ true → can_fit h pool count ≡ true → Steps m k r l → IfOk r (λ n. MakesBytes put (pool_of now) n k l) → OnErr r (l ≡ k) → IsSound l → l.cache ≡ k.cache → Stays k.store l.store
-      → ((p : ℕ) → r ≡ Err (NoRoom p) → has_room k.store (pool_of now) (m now).answer ≡ false) → Places m put (pool_of (machine_of [] h)) (m (machine_of [] h)).answer h r l
-  queue_places l (Ok n) roomy fits' steps made same sound cache stays lacks =
-      let here = subst (λ p. MakesBytes put p count k l) pool_now (subst (λ c. MakesBytes put (pool_of now) c k l) ((steps []).1 ∙ count_now) made) in
-      as_asked (Ok n) l (places_filled m put pool count h k l n room fits' steps here sound cache stays)
-  queue_places l (Err x) roomy fits' steps made same sound cache stays lacks =
-      as_asked (Err x) l (places_late m put pool count h k l x room roomy fits' steps same (late_now x (steps []).0) (λ p e. ap (λ q. has_room k.store q count) (sym pool_now) ∙ ap (has_room k.store (pool_of now)) (sym count_now) ∙ lacks p e))
+  pub queue_places : (l : KernelState) (r : Result ℕ Refusal) → has_room k.store pool count ≡ true → can_fit h pool count ≡ true → Fills m put (pool_of now) k r l → Places m put (pool_of (machine_of [] h)) (m (machine_of [] h)).answer h r l
+  queue_places l (Ok n) roomy fits' x =
+      let here = subst (λ p. MakesBytes put p count k l) pool_now (subst (λ c. MakesBytes put (pool_of now) c k l) ((x.step []).1 ∙ count_now) x.made) in
+      as_asked (Ok n) l (places_filled m put pool count h k l n room fits' x.step here x.sound x.cache x.stays)
+  queue_places l (Err y) roomy fits' x =
+      as_asked (Err y) l (places_late m put pool count h k l y room roomy fits' x.step x.refused (late_now y (x.step []).0) (λ p e. ap (λ q. has_room k.store q count) (sym pool_now) ∙ ap (has_room k.store (pool_of now)) (sym count_now) ∙ x.no_room p e))
 
   pub queue_none : k ≡ h → ((f : Reading) → (m (read_of f h)).Late (NoRoom pool)) → can_fit h pool count ≡ false → Places m put (pool_of (machine_of [] h)) (m (machine_of [] h)).answer h (Err (NoRoom pool)) k
   queue_none same wants lacks = as_asked (Err (NoRoom pool)) k (places_none m put pool count h k room same passed wants lacks)

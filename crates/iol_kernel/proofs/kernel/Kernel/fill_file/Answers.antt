@@ -22,12 +22,12 @@ use Rattle.iol_kernel.proofs.FileCalls.WrittenOver.{in_cache}
 use Rattle.iol_kernel.proofs.kernel.Kernel.fill_file.Goals as goal
 
 pub fill-requires-clause-open : goal.fill-requires-clause-open
-fill-requires-clause-open c = sym (closed-read_of (bytes_over [] c.args.self.now.store) (state_of c.args.self.now) c.args.pool) ∙ c.requires.open
+fill-requires-clause-open c = sym (closed-read_of (bytes_over [] c.args.self.now.store) (state_of c.args.self.now) c.args.pool) ∙ c.requires.opened
 
 pub returns-in_default-clause-serves : goal.returns-in_default-clause-serves
 returns-in_default-clause-serves c =
     let h = state_of c.args.self.now in
-    unplaced_serves h c.args.by c.args.fd c.args.file c.args.at c.args.pool c.args.mode c.args.bytes.now c.requires.sound c.requires.to c.requires.pool c.requires.passed _ (ap (λ (t : Stored). let k : KernelState = record h { store = t } in k) c.in_default.ensures.err)
+    unplaced_serves h c.args.by c.args.fd c.args.found.file c.args.found.at c.args.pool c.args.found.mode c.args.bytes.now c.requires _ (ap (λ (t : Stored). let k : KernelState = record h { store = t } in k) c.in_default.ensures.err)
 
 pub write-requires-clause-sound : goal.write-requires-clause-sound
 write-requires-clause-sound c =
@@ -41,7 +41,7 @@ pub write-requires-clause-file : goal.write-requires-clause-file
 write-requires-clause-file c =
     let h = state_of c.args.self.now in
     let r = bytes_over [] h.store in
-    in_cache h c.args.file c.requires.sound (end_held r h c.args.by c.args.fd (on.File c.args.file c.args.at c.args.mode) c.requires.sound (c.requires.to r)).0
+    in_cache h c.args.found.file c.requires.sound (end_held r h c.args.by c.args.fd (on.File c.args.found.file c.args.found.at c.args.found.mode) c.requires.sound (c.requires.to r)).0
 
 pub write-requires-clause-held : goal.write-requires-clause-held
 write-requires-clause-held c =
@@ -57,7 +57,7 @@ write-requires-clause-few c =
     let e = c.in-Ok.ensures in
     let s = c.fill.new.store in
     let xs = c.in-Ok.agg in
-    filled_few h s xs c.requires.sound e.moves e.pools e.grows.count (omega (arith, held_short h c.args.by c.args.fd c.args.file c.args.at c.args.pool c.args.mode c.args.bytes.now c.requires.sound c.requires.to c.requires.pool c.requires.passed, (filled_len s xs c.args.pool c.args.bytes.now e.text)))
+    filled_few h s xs c.requires.sound e.moves e.pools e.grows.count (omega (arith, held_short h c.args.by c.args.fd c.args.found.file c.args.found.at c.args.pool c.args.found.mode c.args.bytes.now c.requires, (filled_len s xs c.args.pool c.args.bytes.now e.text)))
 
 pub release-requires : goal.release-requires
 release-requires c =
@@ -85,8 +85,8 @@ returns-in-Err-clause-serves c =
     let xs = c.in-Ok.agg in
     let w = c.in-Err.ensures in
     let r = c.release.ensures in
-    let same = unput_pools h s xs c.requires.sound e.moves e.pools e.grows.count c.write.new.store c.release.new.store (cached_of c.write.new.self) c.args.file e.readable w.moves w.lists w.settles w.pages w.sound w.mirrors r.moves r.lists r.frees r.settles w.evicts in
-    unfilled_serves h c.args.by c.args.fd c.args.file c.args.at c.args.pool c.args.mode c.args.bytes.now c.requires.sound c.requires.to c.requires.pool c.requires.passed _ c.release.new.store (cached_of c.write.new.self) (through h s xs c.requires.sound e.moves e.pools e.grows.count c.write.new.store c.release.new.store (cached_of c.write.new.self) c.args.file e.readable w.moves w.lists w.settles w.pages w.sound w.mirrors r.moves r.lists r.frees r.settles same e.settles) (through_files h s xs c.requires.sound e.moves e.pools e.grows.count c.write.new.store c.release.new.store (cached_of c.write.new.self) c.args.file e.readable w.moves w.lists w.settles w.pages w.sound w.mirrors r.moves r.lists r.frees r.settles w.refused) (through_mirrors h s xs c.requires.sound e.moves e.pools e.grows.count c.write.new.store c.release.new.store (cached_of c.write.new.self) c.args.file e.readable w.moves w.lists w.settles w.pages w.sound w.mirrors r.moves r.lists r.frees r.settles) refl
+    let same = unput_pools h s xs c.requires.sound e.moves e.pools e.grows.count c.write.new.store c.release.new.store (cached_of c.write.new.self) c.args.found.file e.readable w.moves w.lists w.settles w.pages w.sound w.mirrors r.moves r.lists r.frees r.settles w.evicts in
+    unfilled_serves h c.args.by c.args.fd c.args.found.file c.args.found.at c.args.pool c.args.found.mode c.args.bytes.now c.requires _ c.release.new.store (cached_of c.write.new.self) (through h s xs c.requires.sound e.moves e.pools e.grows.count c.write.new.store c.release.new.store (cached_of c.write.new.self) c.args.found.file e.readable w.moves w.lists w.settles w.pages w.sound w.mirrors r.moves r.lists r.frees r.settles same e.settles) (through_files h s xs c.requires.sound e.moves e.pools e.grows.count c.write.new.store c.release.new.store (cached_of c.write.new.self) c.args.found.file e.readable w.moves w.lists w.settles w.pages w.sound w.mirrors r.moves r.lists r.frees r.settles w.refused) (through_mirrors h s xs c.requires.sound e.moves e.pools e.grows.count c.write.new.store c.release.new.store (cached_of c.write.new.self) c.args.found.file e.readable w.moves w.lists w.settles w.pages w.sound w.mirrors r.moves r.lists r.frees r.settles) refl
 
 pub overflow_add-to : goal.overflow_add-to
 overflow_add-to c =
@@ -94,17 +94,17 @@ overflow_add-to c =
     let e = c.in-Ok.ensures in
     let s = c.fill.new.store in
     let xs = c.in-Ok.agg in
-    record { fits = omega (arith, held_short h c.args.by c.args.fd c.args.file c.args.at c.args.pool c.args.mode c.args.bytes.now c.requires.sound c.requires.to c.requires.pool c.requires.passed, c.len-len.ensures, (filled_len s xs c.args.pool c.args.bytes.now e.text)) }
+    record { fits = omega (arith, held_short h c.args.by c.args.fd c.args.found.file c.args.found.at c.args.pool c.args.found.mode c.args.bytes.now c.requires, c.len-len.ensures, (filled_len s xs c.args.pool c.args.bytes.now e.text)) }
 
 pub set_fd-requires-clause-live : goal.set_fd-requires-clause-live
 set_fd-requires-clause-live c =
     let h = state_of c.args.self.now in
-    held_live h c.args.by c.args.fd c.args.file c.args.at c.args.pool c.args.mode c.args.bytes.now c.requires.sound c.requires.to c.requires.pool c.requires.passed
+    held_live h c.args.by c.args.fd c.args.found.file c.args.found.at c.args.pool c.args.found.mode c.args.bytes.now c.requires
 
 pub set_fd-requires-clause-there : goal.set_fd-requires-clause-there
 set_fd-requires-clause-there c none =
     let h = state_of c.args.self.now in
-    let is = held_file h c.args.by c.args.fd c.args.file c.args.at c.args.pool c.args.mode c.args.bytes.now c.requires.sound c.requires.to c.requires.pool c.requires.passed in
+    let is = held_file h c.args.by c.args.fd c.args.found.file c.args.found.at c.args.pool c.args.found.mode c.args.bytes.now c.requires in
     absurd (cc (none, is))
 
 pub returns-clause-serves : goal.returns-clause-serves
@@ -117,14 +117,14 @@ returns-clause-serves c =
     let r = c.release-2.ensures in
     let len = c.len-len.ensures ∙ (filled_len s xs c.args.pool c.args.bytes.now e.text) in
     let at = bytes_over [] h.store in
-    let there = in_cache h c.args.file c.requires.sound (end_held at h c.args.by c.args.fd (on.File c.args.file c.args.at c.args.mode) c.requires.sound (c.requires.to at)).0 in
-    let same = put_pools h s xs c.requires.sound e.moves e.pools e.grows.count c.write.new.store c.release-2.new.store (cached_of c.write.new.self) c.args.file e.readable w.moves w.lists w.settles w.pages w.sound w.mirrors r.moves r.lists r.frees r.settles c.args.at there w.writes w.nothing in
-    let moved = c.set_fd.ensures.set ∙ ap (λ z. with_fds_in h.domains c.args.by (slice_set (domain_in h.domains c.args.by).fds c.args.fd (Some (on.File c.args.file (c.args.at + z) c.args.mode)))) len in
-    filled_serves h c.args.by c.args.fd c.args.file c.args.at c.args.pool c.args.mode c.args.bytes.now c.requires.sound c.requires.to c.requires.pool c.requires.passed _ c.release-2.new.store (cached_of c.write.new.self) c.len-len.result (through h s xs c.requires.sound e.moves e.pools e.grows.count c.write.new.store c.release-2.new.store (cached_of c.write.new.self) c.args.file e.readable w.moves w.lists w.settles w.pages w.sound w.mirrors r.moves r.lists r.frees r.settles same e.settles) (through_puts h s xs c.requires.sound e.moves e.pools e.grows.count c.write.new.store c.release-2.new.store (cached_of c.write.new.self) c.args.file e.readable w.moves w.lists w.settles w.pages w.sound w.mirrors r.moves r.lists r.frees r.settles c.args.at _ w.written w.others e.text) len
+    let there = in_cache h c.args.found.file c.requires.sound (end_held at h c.args.by c.args.fd (on.File c.args.found.file c.args.found.at c.args.found.mode) c.requires.sound (c.requires.to at)).0 in
+    let same = put_pools h s xs c.requires.sound e.moves e.pools e.grows.count c.write.new.store c.release-2.new.store (cached_of c.write.new.self) c.args.found.file e.readable w.moves w.lists w.settles w.pages w.sound w.mirrors r.moves r.lists r.frees r.settles c.args.found.at there w.writes w.nothing in
+    let moved = c.set_fd.ensures.set ∙ ap (λ z. with_fds_in h.domains c.args.by (slice_set (domain_in h.domains c.args.by).fds c.args.fd (Some (on.File c.args.found.file (c.args.found.at + z) c.args.found.mode)))) len in
+    filled_serves h c.args.by c.args.fd c.args.found.file c.args.found.at c.args.pool c.args.found.mode c.args.bytes.now c.requires _ c.release-2.new.store (cached_of c.write.new.self) c.len-len.result (through h s xs c.requires.sound e.moves e.pools e.grows.count c.write.new.store c.release-2.new.store (cached_of c.write.new.self) c.args.found.file e.readable w.moves w.lists w.settles w.pages w.sound w.mirrors r.moves r.lists r.frees r.settles same e.settles) (through_puts h s xs c.requires.sound e.moves e.pools e.grows.count c.write.new.store c.release-2.new.store (cached_of c.write.new.self) c.args.found.file e.readable w.moves w.lists w.settles w.pages w.sound w.mirrors r.moves r.lists r.frees r.settles c.args.found.at _ w.written w.others e.text) len
     (ap (λ ds. let k : KernelState = record h { store = c.release-2.new.store; cache = cached_of c.write.new.self; domains = ds } in k) moved)
 
 pub returns-in_default-clause-beside : goal.returns-in_default-clause-beside
-returns-in_default-clause-beside c = let h = state_of c.args.self.now in beside_same c.args.file c.args.at (length c.args.bytes.now) c.args.pool ⊥ h.cache h.cache refl
+returns-in_default-clause-beside c = let h = state_of c.args.self.now in beside_same c.args.found.file c.args.found.at (length c.args.bytes.now) c.args.pool ⊥ h.cache h.cache refl
 
 pub returns-in-Err-clause-beside : goal.returns-in-Err-clause-beside
 returns-in-Err-clause-beside c =
@@ -132,8 +132,8 @@ returns-in-Err-clause-beside c =
     let e = c.in-Ok.ensures in
     let s = c.fill.new.store in
     let xs = c.in-Ok.agg in
-    let own = own_pool h c.args.by c.args.fd c.args.file c.args.at c.args.pool c.args.mode c.requires.sound c.requires.to c.requires.pool in
-    unput_beside h s c.write.new.store (cached_of c.write.new.self) c.args.file c.args.at c.args.pool xs c.args.bytes.now (files_apart h c.requires.sound) own (filled_len s xs c.args.pool c.args.bytes.now e.text) e.text c.in-Err.ensures.evicts
+    let own = own_pool h c.args.by c.args.fd c.args.found.file c.args.found.at c.args.pool c.args.found.mode c.args.bytes.now c.requires in
+    unput_beside h s c.write.new.store (cached_of c.write.new.self) c.args.found.file c.args.found.at c.args.pool xs c.args.bytes.now (files_apart h c.requires.sound) own (filled_len s xs c.args.pool c.args.bytes.now e.text) e.text c.in-Err.ensures.evicts
 
 pub returns-clause-beside : goal.returns-clause-beside
 returns-clause-beside c =
@@ -143,9 +143,9 @@ returns-clause-beside c =
     let xs = c.in-Ok.agg in
     let w = c.in_default-write.ensures in
     let at = bytes_over [] h.store in
-    let there = in_cache h c.args.file c.requires.sound (end_held at h c.args.by c.args.fd (on.File c.args.file c.args.at c.args.mode) c.requires.sound (c.requires.to at)).0 in
-    let own = own_pool h c.args.by c.args.fd c.args.file c.args.at c.args.pool c.args.mode c.requires.sound c.requires.to c.requires.pool in
-    put_beside h s c.write.new.store (cached_of c.write.new.self) c.args.file c.args.at c.args.pool xs c.args.bytes.now (files_apart h c.requires.sound) own (filled_len s xs c.args.pool c.args.bytes.now e.text) e.text there w.writes w.nothing
+    let there = in_cache h c.args.found.file c.requires.sound (end_held at h c.args.by c.args.fd (on.File c.args.found.file c.args.found.at c.args.found.mode) c.requires.sound (c.requires.to at)).0 in
+    let own = own_pool h c.args.by c.args.fd c.args.found.file c.args.found.at c.args.pool c.args.found.mode c.args.bytes.now c.requires in
+    put_beside h s c.write.new.store (cached_of c.write.new.self) c.args.found.file c.args.found.at c.args.pool xs c.args.bytes.now (files_apart h c.requires.sound) own (filled_len s xs c.args.pool c.args.bytes.now e.text) e.text there w.writes w.nothing
 
 pub returns-clause-fills : goal.returns-clause-fills
 returns-clause-fills c =
@@ -154,9 +154,9 @@ returns-clause-fills c =
     let s = c.fill.new.store in
     let xs = c.in-Ok.agg in
     let w = c.in_default-write.ensures in
-    let own = own_pool h c.args.by c.args.fd c.args.file c.args.at c.args.pool c.args.mode c.requires.sound c.requires.to c.requires.pool in
+    let own = own_pool h c.args.by c.args.fd c.args.found.file c.args.found.at c.args.pool c.args.found.mode c.args.bytes.now c.requires in
     put_released (ap (map pool_meant) e.pools) w.lists (keeps_pages_made e.made_on e.others e.grows e.pools)
-    (put_pages h s c.write.new.store (cached_of c.write.new.self) c.args.file c.args.at c.args.pool xs c.args.bytes.now (files_apart h c.requires.sound) own (filled_len s xs c.args.pool c.args.bytes.now e.text) e.text w.writes w.nothing)
+    (put_pages h s c.write.new.store (cached_of c.write.new.self) c.args.found.file c.args.found.at c.args.pool xs c.args.bytes.now (files_apart h c.requires.sound) own (filled_len s xs c.args.pool c.args.bytes.now e.text) e.text w.writes w.nothing)
     (keeps_pages_frees c.release-2.ensures.frees)
 
 pub returns-in_default-clause-leaves : goal.returns-in_default-clause-leaves
@@ -170,13 +170,13 @@ returns-in-Err-clause-leaves c =
     let e = c.in-Ok.ensures in
     let s = c.fill.new.store in
     let xs = c.in-Ok.agg in
-    let own = own_pool h c.args.by c.args.fd c.args.file c.args.at c.args.pool c.args.mode c.requires.sound c.requires.to c.requires.pool in
+    let own = own_pool h c.args.by c.args.fd c.args.found.file c.args.found.at c.args.pool c.args.found.mode c.args.bytes.now c.requires in
     inr (record {
       slices = xs;
       placed = s;
       left = c.write.new.store;
       places = record { text = e.text; made = e.made_on; moves = e.moves; pages = keeps_pages_made e.made_on e.others e.grows e.pools; lists = ap (map pool_meant) e.pools };
-      room = room_alone h s c.write.new.store (cached_of c.write.new.self) c.args.file c.args.at c.args.pool xs c.args.bytes.now (files_apart h c.requires.sound) own (filled_len s xs c.args.pool c.args.bytes.now e.text) e.text c.in-Err.ensures.evicts;
+      room = room_alone h s c.write.new.store (cached_of c.write.new.self) c.args.found.file c.args.found.at c.args.pool xs c.args.bytes.now (files_apart h c.requires.sound) own (filled_len s xs c.args.pool c.args.bytes.now e.text) e.text c.in-Err.ensures.evicts;
       released = c.release.ensures.moves;
       frees = c.release.ensures.frees;
       lists = c.release.ensures.lists;
@@ -205,8 +205,8 @@ returns-clause-lays c =
       moves = record {
         domain = c.args.by;
         fd = c.args.fd;
-        mode = c.args.mode;
-        is = c.set_fd.ensures.set ∙ ap (λ z. with_fds_in h.domains c.args.by (slice_set (domain_in h.domains c.args.by).fds c.args.fd (Some (on.File c.args.file (c.args.at + z) c.args.mode)))) len;
+        mode = c.args.found.mode;
+        is = c.set_fd.ensures.set ∙ ap (λ z. with_fds_in h.domains c.args.by (slice_set (domain_in h.domains c.args.by).fds c.args.fd (Some (on.File c.args.found.file (c.args.found.at + z) c.args.found.mode)))) len;
       };
       rest = refl;
     }

@@ -1,21 +1,27 @@
-use Rattle.std.proofs.Common.{[], ◌≡◌, ◌∙◌, ℕ, ap, false, inl, inr, sym, true}
-use Rattle.std.specs.Prelude.{Some}
-use Rattle.iol_core.specs.Calls.Writing.{can_write, is_file}
-use Rattle.iol_core.specs.declared.descriptors.Descriptor.TheVariants as on
+use Rattle.std.proofs.Common.{[], ◌∙◌, ap, length, min, sym}
 use Rattle.iol_kernel.specs.Kernel.{state_of}
 use Rattle.iol_kernel.specs.Readings.{bytes_over}
-use Rattle.iol_kernel.proofs.Queues.Queueing.{not_writable}
+use Rattle.iol_kernel.proofs.Queues.Queued.{count_fitting, may_still, write_none, write_places}
+use Rattle.iol_kernel.proofs.State.ReadOf.{closed-read_of}
 use Rattle.iol_kernel.proofs.kernel.Kernel.put.Goals as goal
 
-pub unreachable-requires-in-ReadEnd : goal.unreachable-requires-in-ReadEnd
-unreachable-requires-in-ReadEnd c =
+pub make_room_for-requires-clause-open : goal.make_room_for-requires-clause-open
+make_room_for-requires-clause-open c = sym (closed-read_of (bytes_over [] c.args.self.now.store) (state_of c.args.self.now) c.args.pool) ∙ c.requires.may.opened
+
+pub returns-then-not-make_room_for : goal.returns-then-not-make_room_for
+returns-then-not-make_room_for c =
     let h = state_of c.args.self.now in
-    let differs : (p : ℕ) → c.in-Some.to ≡ on.WriteEnd p → ⊥ =
-    λ p e. elim c.in-ReadEnd.is [ inl x ↦ (let k = sym x.1 ∙ e in cc) | inr x ↦ (let k = sym x.3 ∙ e in cc) ] in
-    let apart : (n : ℕ) → c.in-Some.to ≡ on.Connection n → ⊥ =
-    λ n e. elim c.in-ReadEnd.is [ inl x ↦ (let k = sym x.1 ∙ e in cc) | inr x ↦ (let k = sym x.3 ∙ e in cc) ] in
-    let at = sym (c.descriptor.ensures (bytes_over [] h.store)) ∙ c.in-Some.is in
-    let no_file : is_file (Some c.in-Some.to) ≡ false = sym (ap is_file at) ∙ c.requires.no_file in
-    let wrong = not_writable c.in-Some.to differs apart no_file in
-    let right : can_write (Some c.in-Some.to) ≡ true = sym (ap can_write at) ∙ c.requires.writable in
-    cc (wrong, right)
+    let r = c.make_room_for.ensures in
+    let counted = count_fitting h c.args.by c.args.fd c.args.to c.args.pool c.min-count.result c.args.bytes.now c.requires.may c.requires.no_file (λ f. c.min-count.ensures ∙ ap (λ m. min (length c.args.bytes.now) m) (c.room_at.ensures f)) in
+    write_none c.args.by c.args.fd c.args.to c.args.pool c.min-count.result c.args.bytes.now h (state_of c.make_room_for.new.self) c.requires.may r.made counted (r.refused c.if-not-make_room_for.true) (r.fits ∙ c.if-not-make_room_for.true)
+
+pub fill-requires-clause-may : goal.fill-requires-clause-may
+fill-requires-clause-may c = may_still c.args.by c.args.fd c.args.to c.args.pool c.min-count.result c.args.bytes.now (state_of c.args.self.now) (state_of c.make_room_for.new.self) c.requires.may c.make_room_for.ensures.made
+
+pub returns : goal.returns
+returns c =
+    let h = state_of c.args.self.now in
+    let r = c.make_room_for.ensures in
+    let counted = count_fitting h c.args.by c.args.fd c.args.to c.args.pool c.min-count.result c.args.bytes.now c.requires.may c.requires.no_file (λ f. c.min-count.ensures ∙ ap (λ m. min (length c.args.bytes.now) m) (c.room_at.ensures f)) in
+    write_places c.args.by c.args.fd c.args.to c.args.pool c.min-count.result c.args.bytes.now h (state_of c.make_room_for.new.self) c.requires.may r.made counted (state_of c.fill.new.self) c.fill.result
+    (r.room c.if-not-make_room_for.false) (r.fits ∙ c.if-not-make_room_for.false) c.fill.ensures

@@ -15,7 +15,6 @@ fill_conn-requires-clause-there c =
 
 pub returns : goal.returns
 returns c =
-    let e = c.fill_conn.ensures in
     let r = c.make_room_for.ensures in
     arrive_places c.args.conn c.args.bytes.now c.args.pool c.args.count (state_of c.args.self.now) (state_of c.make_room_for.new.self) r.made c.requires.passed c.requires.pool c.requires.count (state_of c.fill_conn.new.self) c.fill_conn.result
-    (r.room c.if-not-make_room_for.false) (r.fits ∙ c.if-not-make_room_for.false) e.step e.made e.refused e.sound e.cache e.stays e.no_room
+    (r.room c.if-not-make_room_for.false) (r.fits ∙ c.if-not-make_room_for.false) c.fill_conn.ensures

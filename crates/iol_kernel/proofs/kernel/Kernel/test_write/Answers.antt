@@ -7,4 +7,4 @@ use Rattle.iol_kernel.proofs.kernel.Kernel.test_write.Goals as goal
 pub returns-clause-short : goal.returns-clause-short
 returns-clause-short c =
     let h = state_of c.args.self.now in
-    omega (arith, c.in_ok-len.ensures.len (bytes_over [] h.store), length_text-read_of (bytes_over [] h.store) h c.args.by c.args.agg, c.if-at-len-gt-MAX_FILE_BYTES.false)
+    omega (arith, c.in_ok-len.ensures.len (bytes_over [] h.store), length_text-read_of (bytes_over [] h.store) h c.args.by c.args.agg, c.if-found-len-gt-MAX_FILE_BYTES.false)

@@ -4,6 +4,7 @@ use Rattle.iol_core.specs.declared.descriptors.Descriptor.{Descriptor}
 use Rattle.iol_core.specs.State.{descriptor}
 use Rattle.iol_kernel.specs.Kernel.{state_of}
 use Rattle.iol_kernel.specs.KernelState.{machine_of}
+use Rattle.iol_kernel.specs.Putting.{lands_in, written_to}
 use Rattle.iol_kernel.specs.Readings.{bytes_over}
 use Rattle.iol_kernel.specs.WritingFiles.{LaysOn, PutsOn}
 use Rattle.iol_kernel.proofs.Queues.Put.{left_placing, put_refused}
@@ -13,23 +14,23 @@ use Rattle.iol_kernel.proofs.kernel.Kernel.write_bytes.Goals as goal
 pub returns-in-Err-clause-serves : goal.returns-in-Err-clause-serves
 returns-in-Err-clause-serves c =
     let h = state_of c.args.self.now in
-    let refused = put_refused (λ s. calls.write s c.args.by c.args.fd c.args.bytes.now) (λ s t. calls.written s c.args.by c.args.fd (descriptor s c.args.by c.args.fd) t) 0 0 h c.in-Err.refusal c.pool_to_write.result c.requires c.in-Err.ensures.refused c.pool_to_write.ensures.roomy c.in-Err.is in
+    let refused = put_refused (λ s. calls.write s c.args.by c.args.fd c.args.bytes.now) (written_to c.args.by c.args.fd) 0 0 h c.in-Err.refusal c.pool_to_write.result c.requires c.in-Err.ensures.refused c.pool_to_write.ensures.roomy c.in-Err.is in
     refused.serves
 
 pub returns-in-Err-clause-queue : goal.returns-in-Err-clause-queue
 returns-in-Err-clause-queue c = λ no_file.
     let h = state_of c.args.self.now in
-    put_refused (λ s. calls.write s c.args.by c.args.fd c.args.bytes.now) (λ s t. calls.written s c.args.by c.args.fd (descriptor s c.args.by c.args.fd) t) _ _ h c.in-Err.refusal c.pool_to_write.result c.requires c.in-Err.ensures.refused c.pool_to_write.ensures.roomy c.in-Err.is
+    put_refused (λ s. calls.write s c.args.by c.args.fd c.args.bytes.now) (written_to c.args.by c.args.fd) _ _ h c.in-Err.refusal c.pool_to_write.result c.requires c.in-Err.ensures.refused c.pool_to_write.ensures.roomy c.in-Err.is
 
 pub returns-in-Err-clause-puts : goal.returns-in-Err-clause-puts
 returns-in-Err-clause-puts c =
     let h = state_of c.args.self.now in
-    puts_refused (descriptor (machine_of [] h) c.args.by c.args.fd) (calls.pool_for (machine_of [] h) c.args.by (descriptor (machine_of [] h) c.args.by c.args.fd)) (length c.args.bytes.now) h c.in-Err.refusal
+    puts_refused (descriptor (machine_of [] h) c.args.by c.args.fd) (lands_in c.args.by c.args.fd (machine_of [] h)) (length c.args.bytes.now) h c.in-Err.refusal
 
 pub returns-in-Err-clause-lays : goal.returns-in-Err-clause-lays
 returns-in-Err-clause-lays c =
     let h = state_of c.args.self.now in
-    laid_refused (descriptor (machine_of [] h) c.args.by c.args.fd) (calls.pool_for (machine_of [] h) c.args.by (descriptor (machine_of [] h) c.args.by c.args.fd)) c.args.bytes.now h c.in-Err.refusal
+    laid_refused (descriptor (machine_of [] h) c.args.by c.args.fd) (lands_in c.args.by c.args.fd (machine_of [] h)) c.args.bytes.now h c.in-Err.refusal
 
 pub returns : goal.returns
 returns c =
@@ -37,7 +38,7 @@ returns c =
     let k = state_of c.put.new.self in
     let s = machine_of [] h in
     let open' = sym (c.descriptor.ensures (bytes_over [] h.store)) ∙ c.in-Some.is in
-    let pool = calls.pool_for s c.args.by (descriptor s c.args.by c.args.fd) in
+    let pool = lands_in c.args.by c.args.fd s in
     let placed = c.put.ensures in
     record {
       serves = placed.serves;

@@ -6,12 +6,10 @@ use Rattle.iol_kernel.proofs.State.Serving.{carried_serves}
 use Rattle.iol_kernel.proofs.FileCalls.WrittenOver.{refused_leaves}
 use Rattle.iol_kernel.proofs.kernel.Kernel.write_file.Goals as goal
 
-pub returns-in-Err-clause-serves : goal.returns-in-Err-clause-serves
-returns-in-Err-clause-serves c =
+pub returns-in-Err : goal.returns-in-Err
+returns-in-Err c =
     let h = state_of c.args.self.now in
-    carried_serves (λ s. calls.iol_write s c.args.by c.args.fd c.args.agg) h h (Err c.in-Err.refusal) c.requires.sound c.in-Err.ensures.refused
-
-pub returns-in-Err-clause-over : goal.returns-in-Err-clause-over
-returns-in-Err-clause-over c =
-    let h = state_of c.args.self.now in
-    refused_leaves h c.args.file c.args.at (slices_in h.domains c.args.by c.args.agg) c.in-Err.refusal c.in-Err.ensures.refused.roomy
+    record {
+      serves = carried_serves (λ s. calls.iol_write s c.args.by c.args.fd c.args.agg) h h (Err c.in-Err.refusal) c.requires.sound c.in-Err.ensures.refused;
+      over = refused_leaves h c.args.found.file c.args.found.at (slices_in h.domains c.args.by c.args.agg) c.in-Err.refusal c.in-Err.ensures.refused.roomy;
+    }

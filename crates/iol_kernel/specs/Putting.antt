@@ -1,0 +1,55 @@
+-- Bytes that a domain writes by copying: where they go, and in which pool they lie.
+use Rattle.std.specs.Prelude.{◌≡◌, ℕ, false, List, [], Some, Result, Err, IfOk, OnErr}
+use Rattle.iol_core.specs.State as machine
+use Rattle.iol_core.specs.State.{State, descriptor}
+use Rattle.iol_core.specs.Text.{Text}
+use Rattle.iol_core.specs.Meaning.{Meaning}
+use Rattle.iol_core.specs.Calls.Writing as writing
+use Rattle.iol_core.specs.declared.descriptors.Descriptor.{Descriptor}
+use Rattle.iol_core.specs.declared.refusals.Refusal.{Refusal}
+use Rattle.iol_core.specs.declared.refusals.Refusal.TheVariants.{NoRoom}
+use Rattle.iol_hold.specs.Moves.{Stays}
+use Rattle.iol_hold.specs.Room.{has_room}
+use Rattle.iol_sock.specs.Refused.{IsPassed}
+use Rattle.iol_kernel.specs.Calls.{MakesBytes, Steps}
+use Rattle.iol_kernel.specs.KernelState.{KernelState, IsSound, machine_of, read_of}
+use Rattle.iol_kernel.specs.MakingRoom.{Places}
+use Rattle.iol_kernel.specs.Readings.{Reading}
+
+-- the state with this written to a descriptor
+abbrev pub written_to : (d fd : ℕ) → State → Text → State
+written_to d fd s t = writing.written s d fd (descriptor s d fd) t
+
+-- the pool in which it lies
+abbrev pub lands_in : (d fd : ℕ) → State → ℕ
+lands_in d fd s = writing.pool_for s d (descriptor s d fd)
+
+-- These bytes may be written to a descriptor that is open on this, and are to lie in this pool, which is open.
+pub record MayPut (d fd : ℕ) (target : Descriptor) (p : ℕ) (bytes : List ℕ) (h : KernelState) : Type 0 where
+  pub sound : IsSound h
+  pub passed : (f : Reading) → IsPassed (writing.write (read_of f h) d fd bytes).refusals
+  pub to : (f : Reading) → descriptor (read_of f h) d fd ≡ Some target
+  pub pool : (f : Reading) → p ≡ lands_in d fd (read_of f h)
+  pub opened : (machine.pool (machine_of [] h) p).closed ≡ false
+
+-- A call that places new bytes where there is room for them: the machine's step. They come into a pool, put where `put` says. A
+-- refusal changes nothing, and comes for want of room only where there is none.
+pub record Fills (m : State → Meaning ℕ) (put : State → Text → State) (pool : ℕ) (old : KernelState) (r : Result ℕ Refusal)
+    (new : KernelState) : Type 0 where
+  pub step : Steps m old r new
+  pub made : IfOk r (λ n. MakesBytes put pool n old new)
+  pub refused : OnErr r (new ≡ old)
+  pub cache : new.cache ≡ old.cache
+  pub sound : IsSound new
+  pub stays : Stays old.store new.store
+  pub no_room : (p : ℕ) → r ≡ Err (NoRoom p) → has_room old.store pool (m (machine_of [] old)).answer ≡ false
+
+-- such a write to a pipe or a connection
+abbrev pub FillsQueue : (d fd pool : ℕ) → List ℕ → (old : KernelState) → Result ℕ Refusal → (new : KernelState) → Type 0
+FillsQueue d fd pool bytes old r new = Fills (λ s. writing.write s d fd bytes) (written_to d fd) pool old r new
+
+-- one before which clean extents give way
+abbrev pub PlacesInQueue : (d fd : ℕ) → List ℕ → (old : KernelState) → Result ℕ Refusal → (new : KernelState) → Type 0
+PlacesInQueue d fd bytes old r new =
+    let s : State = machine_of [] old in
+    Places (λ s. writing.write s d fd bytes) (written_to d fd) (lands_in d fd s) (writing.write s d fd bytes).answer old r new
