@@ -47,42 +47,13 @@ Domains = List (Domain (List Slice))
 -- A refusal tells the same of room and of failures, whatever the answer would have been.
 
 room_told : (A B : Type 0) (has lacks : Type 0) (y : Refusal) → TellsRoom {A = A} has lacks (Err y) → TellsRoom {A = B} has lacks (Err y)
-room_told A B has lacks refusal.NoDomain h = h
-room_told A B has lacks refusal.BadFd h = h
-room_told A B has lacks refusal.BadAgg h = h
-room_told A B has lacks refusal.NoPool h = h
-room_told A B has lacks refusal.NoFile h = h
-room_told A B has lacks refusal.WrongMode h = h
-room_told A B has lacks refusal.BadRange h = h
-room_told A B has lacks refusal.TooLong h = h
-room_told A B has lacks refusal.TooMany h = h
-room_told A B has lacks (refusal.Denied p) h = h
-room_told A B has lacks (refusal.PoolClosed p) h = h
-room_told A B has lacks (refusal.PoolBusy p) h = h
-room_told A B has lacks refusal.BrokenPipe h = h
-room_told A B has lacks refusal.WouldBlock h = h
 room_told A B has lacks (refusal.NoRoom p) h = h
 room_told A B has lacks (refusal.Fault f) h = h
-room_told A B has lacks refusal.Memory h = h
+room_told A B has lacks y h = h
 
 counts_told : (A B : Type 0) (old new : Disk) (y : Refusal) → FaultCounts {A = A} old new (Err y) → FaultCounts {A = B} old new (Err y)
-counts_told A B old new refusal.NoDomain h = h
-counts_told A B old new refusal.BadFd h = h
-counts_told A B old new refusal.BadAgg h = h
-counts_told A B old new refusal.NoPool h = h
-counts_told A B old new refusal.NoFile h = h
-counts_told A B old new refusal.WrongMode h = h
-counts_told A B old new refusal.BadRange h = h
-counts_told A B old new refusal.TooLong h = h
-counts_told A B old new refusal.TooMany h = h
-counts_told A B old new (refusal.Denied p) h = h
-counts_told A B old new (refusal.PoolClosed p) h = h
-counts_told A B old new (refusal.PoolBusy p) h = h
-counts_told A B old new refusal.BrokenPipe h = h
-counts_told A B old new refusal.WouldBlock h = h
-counts_told A B old new (refusal.NoRoom p) h = h
 counts_told A B old new (refusal.Fault f) h = h
-counts_told A B old new refusal.Memory h = h
+counts_told A B old new y h = h
 
 pub fault_told : (A B : Type 0) (old new : Disk) (y : Refusal) → TellsFault {A = A} old new (Err y) → TellsFault {A = B} old new (Err y)
 fault_told A B old new y told = record { honest = told.honest; slots = told.slots; counts = counts_told A B old new y told.counts }
