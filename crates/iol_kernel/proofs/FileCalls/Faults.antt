@@ -13,16 +13,18 @@ use Rattle.iol_back.specs.Disk.{Disk, raised}
 use Rattle.iol_hold.specs.Stored.{Stored}
 use Rattle.iol_cache.specs.Cached.{Cached}
 use Rattle.iol_cache.specs.Serving.{FaultCounts}
-use Rattle.iol_cache.specs.Syncing.{Flushes}
+use Rattle.iol_cache.specs.Sound as cache
+use Rattle.iol_cache.specs.Syncing.{Flushes, KeepsBytes, KeepsStored}
 use Rattle.iol_cache.specs.declared.syncing.Flushed.{Flushed}
 use Rattle.iol_cache.specs.declared.syncing.Flushed.TheVariants.{Nothing, Wrote}
 use Rattle.iol_cache.proofs.Extents.Filing.{numbered_bounds, numbered_yes}
 use Rattle.iol_cache.proofs.RangeWrites.Synced.{syncs_none}
+use Rattle.iol_kernel.specs.Backed.{Serves}
 use Rattle.iol_kernel.specs.KernelState.{KernelState, IsSound, machine_of}
 use Rattle.iol_kernel.specs.Readings.{bytes_over}
-use Rattle.iol_kernel.specs.WritingBack.{SyncsFile, done_of}
-use Rattle.iol_kernel.proofs.FileCalls.Named.{as_many, files-read_of}
-use Rattle.iol_kernel.proofs.FileCalls.WrittenBack.{dirty_there}
+use Rattle.iol_kernel.specs.WritingBack.{FlushesOne, SyncsFile, done_of}
+use Rattle.iol_kernel.proofs.FileCalls.Named.{as_many, cache_sound, files-read_of}
+use Rattle.iol_kernel.proofs.FileCalls.WrittenBack.{back_serves, dirty_there, flush_parts}
 
 -- of one file
 
@@ -48,7 +50,7 @@ refused_sync f disk h x other = record { syncs = syncs_none h.store f h.cache di
 
 -- of the file whose extent is flushed
 
-pub flush_counted : (s : Stored) (c d : Cached) (x y : Disk) (r : Result Flushed Refusal) → Flushes s c d x y r → FaultCounts x y (done_of r)
+flush_counted : (s : Stored) (c d : Cached) (x y : Disk) (r : Result Flushed Refusal) → Flushes s c d x y r → FaultCounts x y (done_of r)
 flush_counted s c d x y (Ok Nothing) m = ap (λ (z : Disk). z.failures) m.2
 flush_counted s c d x y (Ok (Wrote f)) m = m.1.counts.0
 flush_counted s c d x y (Err (Fault f)) m = m.1.counts
@@ -60,7 +62,27 @@ there h f stored sound is =
     let b = numbered_bounds h.cache.files f is in
     numbered_yes (machine_of stored h).files f b.0 (omega (arith, b.1, as_many h sound.filed, ap length (files-read_of (bytes_over stored h.store) h)))
 
-pub flush_steps : (h : KernelState) (d : Cached) (x y : Disk) (r : Result Flushed Refusal) → IsSound h → Flushes h.store h.cache d x y r → (stored : List (List ℕ)) → Step (outside.flush (machine_of stored h)) (machine_of stored h) (done_of r) (machine_of stored h)
+flush_steps : (h : KernelState) (d : Cached) (x y : Disk) (r : Result Flushed Refusal) → IsSound h → Flushes h.store h.cache d x y r → (stored : List (List ℕ)) → Step (outside.flush (machine_of stored h)) (machine_of stored h) (done_of r) (machine_of stored h)
 flush_steps h d x y (Ok z) sound m stored = (refl, refl, refl)
 flush_steps h d x y (Err (Fault f)) sound m stored = (there h f stored sound (dirty_there h.cache.files f m.1.extent m.1.first), refl)
 flush_steps h d x y (Err z) sound m stored = absurd m
+
+-- what was flushed, as the call answers it
+module _ (h : KernelState) (d : Cached) (x y : Disk) (r : Result Flushed Refusal) {q : Result (Unit {0}) Refusal} (is : done_of r ≡ q) (m : Flushes h.store h.cache d x y r) where
+  abbrev next : KernelState
+  next = record h { cache = d }
+
+  pub flush_serves : IsSound h → cache.IsSound h.store d → KeepsBytes h.store h.cache d x y → KeepsStored h.store h.cache d x y → Serves outside.flush x h q y next
+  flush_serves sound after bytes stored =
+      let parts = flush_parts h.store h.cache d x y r m in
+      subst (λ (z : Result (Unit {0}) Refusal). Serves outside.flush x h z y next) is
+      (back_serves outside.flush h next d x y (done_of r) sound parts.0 after (flush_steps h d x y r sound m) parts.1 bytes stored (cache_sound h sound) refl)
+
+  pub flushes_one : FlushesOne x h q y next
+  flushes_one = record {
+    flushed = r;
+    told = sym is;
+    flushes = m;
+    counts = subst (λ (z : Result (Unit {0}) Refusal). FaultCounts x y z) is (flush_counted h.store h.cache d x y r m);
+    same = refl;
+  }
