@@ -35,7 +35,7 @@ impl Kernel {
             (B.disk backing.new) self.new }
     {
         match self.file_open(by, fd) {
-            Some(open) => { self.read_file(backing, by, fd, open.file, open.at, open.mode, count) }
+            Some(found) => self.read_file(backing, by, fd, found, count),
             None => self.read_queue(by, fd, count),
         }
     }
