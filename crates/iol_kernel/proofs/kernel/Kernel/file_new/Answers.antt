@@ -1,13 +1,10 @@
-use Rattle.std.proofs.Common.{rules, ◌≡◌, subst, sym, Some, ℕ}
+use Rattle.std.proofs.Common.{rules, ◌≡◌, subst, sym, ℕ}
 use Rattle.std.specs.Prelude.{Result, Err}
-use Rattle.iol_core.specs.Meaning.{first}
 use Rattle.iol_core.specs.Calls.Files as calls
 use Rattle.iol_core.specs.declared.refusals.Refusal.{Refusal}
 use Rattle.iol_core.specs.declared.refusals.Refusal.TheVariants as refuse
 use Rattle.iol_kernel.specs.Calls.{Names}
 use Rattle.iol_kernel.specs.Kernel.{state_of}
-use Rattle.iol_kernel.specs.KernelState.{read_of}
-use Rattle.iol_kernel.specs.Readings.{Reading}
 use Rattle.iol_kernel.proofs.FileCalls.NewFiles.{names, refused_always, refused_memory, refused_told}
 use Rattle.iol_kernel.proofs.kernel.Kernel.file_new.Goals as goal
 
