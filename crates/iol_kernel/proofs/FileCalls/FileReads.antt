@@ -48,7 +48,7 @@ use Rattle.iol_kernel.specs.Views.{state_view}
 use Rattle.iol_kernel.proofs.State.Effects.{fds-sound}
 use Rattle.iol_kernel.proofs.FileCalls.Named.{as_many, cache_sound}
 use Rattle.iol_kernel.proofs.State.Once.{once_fewer}
-use Rattle.iol_kernel.proofs.State.ReadOf.{descriptor-read_of, fds-read_of, live_held, next_agg-read_of}
+use Rattle.iol_kernel.proofs.State.ReadOf.{descriptor-read_of, fds-read_of, next_agg-read_of, open_row, open_row_kept}
 use Rattle.iol_kernel.proofs.FileCalls.Refilled.{over, agg-with_slots, fds-with_slots, gained_sound, machine-refilled, refilled, still_sound, with_slots-refilled}
 use Rattle.iol_kernel.proofs.State.Rows.{domain_in-with_same}
 use Rattle.iol_kernel.proofs.State.Serving.{still_serves, with_slots-same}
@@ -173,7 +173,7 @@ refused_late m y passed late = subst (λ (o : Option Refusal). MatchOption o (m.
 -- A domain's row, where its descriptor is open on a file.
 
 pub row_live : {x : FileRead} {h : KernelState} → IsOpenAt h x → (domain_in h.domains x.domain).live ≡ true
-row_live {x} {h} held = live_held (bytes_over [] h.store) h x.domain (held.is.live (bytes_over [] h.store))
+row_live held = open_row held.is
 
 pub row_holds : {x : FileRead} {h : KernelState} → IsOpenAt h x → in_place (domain_in h.domains x.domain).fds x.fd ≡ Some (on.File x.file x.at x.mode)
 row_holds {x} {h} held = sym (descriptor-read_of (bytes_over [] h.store) h x.domain x.fd) ∙ held.is.from (bytes_over [] h.store)
@@ -181,7 +181,7 @@ row_holds {x} {h} held = sym (descriptor-read_of (bytes_over [] h.store) h x.dom
 module _ {x : FileRead} {h : KernelState} (held : IsOpenAt h x) where
   -- in a table that is as it was
   pub live_there : {ds : Domains} → ds ≡ h.domains → (domain_in ds x.domain).live ≡ true
-  live_there same = ap (λ (ds : Domains). (domain_in ds x.domain).live) same ∙ row_live held
+  live_there same = open_row_kept held.is same
 
   pub open_there : {ds : Domains} → ds ≡ h.domains → in_place (fds_in ds x.domain) x.fd ≡ None → ⊥
   open_there same none = (let was = sym (row_holds held) ∙ sym (ap (λ (ds : Domains). in_place (fds_in ds x.domain) x.fd) same) ∙ none in absurd (cc was))
