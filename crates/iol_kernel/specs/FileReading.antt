@@ -1,5 +1,5 @@
 -- What a read of a file does, beside the machine's step: where its bytes lie, and what becomes of pages and of the cache.
-use Rattle.std.specs.Prelude.{◌≡◌, ◌⊎◌, ℕ, ◌+◌, ◌-◌, min, List, [], length, slice_set, Option, Some, None, Result, IfOk, IfErr, OnErr, OnOk, if◌then◌else◌}
+use Rattle.std.specs.Prelude.{◌≡◌, ◌⊎◌, ℕ, ◌+◌, ◌-◌, ◌≤◌, min, List, [], length, slice_set, Option, Some, None, Result, IfOk, IfErr, OnErr, OnOk, if◌then◌else◌}
 use Rattle.iol_core.specs.State.{State, Domain, is_live, descriptor}
 use Rattle.iol_core.specs.Meaning.{WantOfRoomOrFault}
 use Rattle.iol_core.specs.Text.{bytes_of}
@@ -22,10 +22,12 @@ use Rattle.iol_cache.specs.Contents.{bytes_in_slot}
 use Rattle.iol_cache.specs.Paging.{FillsLowest}
 use Rattle.iol_cache.specs.Evicting.{Holding}
 use Rattle.iol_cache.specs.Serving.{IsBacked, IsEnd, NoRoomToRead, ReadsFile, RefusesRead, RoomToRead, TellsFault, TellsRoom}
-use Rattle.iol_kernel.specs.Backed.{holding_of}
+use Rattle.iol_kernel.specs.Backed.{Serves, holding_of}
 use Rattle.iol_kernel.specs.Calls.{CarriesOut}
 use Rattle.iol_kernel.specs.Keeping.{KeepsUnless, LacksPagesToRead}
 use Rattle.iol_kernel.specs.KernelState.{KernelState, machine_of}
+use Rattle.iol_kernel.specs.Opened.{IsOpenOn}
+use Rattle.iol_kernel.specs.declared.reading_files.OpenFile.{OpenFile}
 
 -- Of n bytes of a file from `at` on, it has so many: as far as the file goes.
 pub record IsReadable (disk : Disk) (c : Cached) (f at n many : ℕ) : Type 0 where
@@ -45,6 +47,14 @@ pub record FileRead : Type 0 where
 
 abbrev pub file_read : (d fd f at : ℕ) → Mode → (n : ℕ) → FileRead
 file_read d fd f at mode n = record { domain = d; fd = fd; file = f; at = at; mode = mode; count = n }
+
+-- the same of what was found open
+abbrev pub read_at : (d fd : ℕ) → OpenFile → (n : ℕ) → FileRead
+read_at d fd found n = file_read d fd found.file found.at found.mode n
+
+-- the descriptor is open on the file, at the position
+pub record IsOpenAt (h : KernelState) (x : FileRead) : Type 0 where
+  pub is : IsOpenOn h x.domain x.fd (on.File x.file x.at x.mode)
 
 -- the pool of the file's bytes
 abbrev pub pool_read : KernelState → FileRead → ℕ
@@ -95,6 +105,13 @@ pub record ReadsFileAs {A : Type 0} (x : FileRead) (disk : Disk) (old : KernelSt
   pub refused : OnErr r (new.domains ≡ old.domains)
   pub leaves : IfErr r (LeavesAtRefusal x disk old after new)
 
+-- What comes of a read by reference of a file that is open: the machine's step, where the bytes lie, and whose they are.
+pub record TakesFromFile (x : FileRead) (disk : Disk) (old : KernelState) (r : Result ℕ Refusal) (after : Disk)
+    (new : KernelState) : Type 0 where
+  pub serves : Serves (λ s. calls.iol_read s x.domain x.fd x.count) disk old r after new
+  pub reads : ReadsFileAs x disk old r after new
+  pub gives : OnOk r (GivesRead x disk old new)
+
 -- What was read by reference over these pages was copied and released, and the position moved on. The bytes that were copied are
 -- those that lay there, whatever the store had given before. Over gaps there are new clean extents.
 pub record GivesCopy (x : FileRead) (disk : Disk) (old : KernelState) (mid : Stored) (new : KernelState)
@@ -115,6 +132,13 @@ pub record CopiesFileAs (x : FileRead) (disk : Disk) (old : KernelState) (r : Re
   pub early : IfErr r (λ y. ((new ≡ old) × (after ≡ disk)) ⊎ WantOfRoomOrFault (pool_read old x) x.file y)
   pub frees : FreesOnly mid new.store
   pub lists : SameLists mid new.store
+
+-- what comes of a read by copying
+pub record CopiesFromFile (x : FileRead) (disk : Disk) (old : KernelState) (r : Result (List ℕ) Refusal) (after : Disk)
+    (new : KernelState) : Type 0 where
+  pub serves : Serves (λ s. calls.read s x.domain x.fd x.count) disk old r after new
+  pub copies : CopiesFileAs x disk old r after new
+  pub short : IfOk r (λ bytes. length bytes ≤ x.count)
 
 -- A read by reference, by what the descriptor is open on: of a file it is as above, of anything else nothing is copied and
 -- the store under the files is not asked.

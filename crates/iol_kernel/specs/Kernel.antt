@@ -3,6 +3,7 @@ use Rattle.std.specs.Prelude.{ℕ, List, [], Result}
 use Rattle.iol_core.specs.State.{State}
 use Rattle.iol_core.specs.Text.{Text}
 use Rattle.iol_core.specs.Meaning.{Meaning}
+use Rattle.iol_core.specs.declared.descriptors.Descriptor.{Descriptor}
 use Rattle.iol_core.specs.declared.refusals.Refusal.{Refusal}
 use Rattle.iol_hold.specs.declared.slices.Slice.{Slice}
 use Rattle.iol_desc.specs.Tables.{domains_of}
@@ -11,6 +12,7 @@ use Rattle.iol_cache.specs.Cache.{cached_of}
 use Rattle.iol_kernel.specs.Backed as backed
 use Rattle.iol_kernel.specs.Calls as calls
 use Rattle.iol_kernel.specs.MakingRoom as making
+use Rattle.iol_kernel.specs.Opened as opened
 use Rattle.iol_kernel.specs.FileReading as files
 use Rattle.iol_kernel.specs.FileReading.{FileRead}
 use Rattle.iol_kernel.specs.KernelState.{KernelState, read_of, machine_of}
@@ -65,11 +67,17 @@ Serves m disk old r after new = backed.Serves m disk (state_of old) r after (sta
 abbrev pub LooksUp : {A : Type 0} → (State → Meaning A) → Disk → Kernel → Result A Refusal → Kernel → Type 0
 LooksUp m disk old r new = backed.LooksUp m disk (state_of old) r (state_of new)
 
-abbrev pub GivesRead : FileRead → Disk → (old new : Kernel) → Type 0
-GivesRead x disk old new = files.GivesRead x disk (state_of old) (state_of new)
+abbrev pub IsOpenOn : Kernel → (d fd : ℕ) → Descriptor → Type 0
+IsOpenOn k d fd end = opened.IsOpenOn (state_of k) d fd end
 
-abbrev pub ReadsFileAs : {A : Type 0} → FileRead → Disk → Kernel → Result A Refusal → Disk → Kernel → Type 0
-ReadsFileAs x disk old r after new = files.ReadsFileAs x disk (state_of old) r after (state_of new)
+abbrev pub IsOpenAt : Kernel → FileRead → Type 0
+IsOpenAt k x = files.IsOpenAt (state_of k) x
+
+abbrev pub TakesFromFile : FileRead → Disk → Kernel → Result ℕ Refusal → Disk → Kernel → Type 0
+TakesFromFile x disk old r after new = files.TakesFromFile x disk (state_of old) r after (state_of new)
+
+abbrev pub CopiesFromFile : FileRead → Disk → Kernel → Result (List ℕ) Refusal → Disk → Kernel → Type 0
+CopiesFromFile x disk old r after new = files.CopiesFromFile x disk (state_of old) r after (state_of new)
 
 abbrev pub CopiesFileAs : FileRead → Disk → Kernel → Result (List ℕ) Refusal → Disk → Kernel → Type 0
 CopiesFileAs x disk old r after new = files.CopiesFileAs x disk (state_of old) r after (state_of new)

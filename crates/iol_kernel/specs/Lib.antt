@@ -4,6 +4,7 @@ pub mod Files
 pub mod Counted
 pub mod Ends
 pub mod KernelState
+pub mod Opened
 pub mod ClosedEnds
 pub mod Kernel
 pub mod Report

@@ -8,7 +8,7 @@ ghost use Rattle.iol_core.specs.Text.{bytes_of};
 ghost use Rattle.iol_core.specs.Calls.Reading as calls;
 ghost use Rattle.iol_hold.specs.Places.{byte_len};
 ghost use Rattle.iol_hold.specs.Texts.{AllReadable, text_of};
-ghost use Rattle.iol_kernel.specs.FileReading.{IsReadable, file_read};
+ghost use Rattle.iol_kernel.specs.FileReading.{IsReadable, file_read, read_at};
 ghost use Rattle.iol_kernel.specs.KernelState.{IsSound};
 ghost use Rattle.iol_kernel.specs.Readings.{Reading};
 
@@ -23,7 +23,7 @@ use iol_core::refusals::Refusal;
 use iol_hold::Store;
 
 impl Kernel {
-    ghost use Rattle.iol_kernel.specs.Kernel.{state_of, machine, as_read, CopiesFileAs, Serves};
+    ghost use Rattle.iol_kernel.specs.Kernel.{state_of, machine, as_read, CopiesFileAs, CopiesFromFile, IsOpenAt, Serves};
 
     /// Copies up to `count` bytes of a file from a descriptor's position on. The position moves past them.
     pub fn copy_file<B: Backing>(
@@ -63,16 +63,10 @@ impl Kernel {
         found: OpenFile,
         count: u32,
     ) -> Result<Bytes, Refusal>
-        requires sound { IsSound (state_of self.old) }
-        requires live { is_live (machine self.old) by ≡ true }
-        requires from { (f : Reading) → descriptor (as_read f self.old) by fd ≡ Some
-            (Descriptor.File found.file found.at found.mode) }
+        requires held { IsOpenAt self.old (read_at by fd found count) }
         requires passed { first (calls.read (machine self.old) by fd count).refusals ≡ None }
-        ensures serves { Serves (λ s. calls.read s by fd count) (B.disk backing.old) self.old result
+        ensures { CopiesFromFile (read_at by fd found count) (B.disk backing.old) self.old result
             (B.disk backing.new) self.new }
-        ensures copies { CopiesFileAs (file_read by fd found.file found.at found.mode count)
-            (B.disk backing.old) self.old result (B.disk backing.new) self.new }
-        ensures short { IfOk result (λ bytes. length bytes ≤ count) }
     {
         let OpenFile { file, at, mode } = found;
         let most = self.readable(backing, file, at, count);

@@ -1,6 +1,6 @@
 //! Reading by reference.
-ghost use Rattle.std.specs.Prelude.{◌≡◌, true, false, min, take, Option, Some, IfOk, OnErr};
-ghost use Rattle.iol_core.specs.State.{is_live, descriptor, may_read, pipe_at, conn_at};
+ghost use Rattle.std.specs.Prelude.{◌≡◌, false, min, take, Option, Some, IfOk, OnErr};
+ghost use Rattle.iol_core.specs.State.{may_read, pipe_at, conn_at};
 ghost use Rattle.iol_core.specs.Text.{barred};
 ghost use Rattle.iol_core.specs.Calls.Aggregates.{too_many_aggs};
 ghost use Rattle.iol_core.specs.Calls.Files.{open_on};
@@ -17,7 +17,7 @@ use iol_core::refusals::Refusal;
 use std::alloc::AllocError;
 
 impl Kernel {
-    ghost use Rattle.iol_kernel.specs.Kernel.{state_of, machine, as_read, CarriesOut, Answers, Reads, Serves};
+    ghost use Rattle.iol_kernel.specs.Kernel.{state_of, machine, as_read, Answers, CarriesOut, IsOpenOn, Reads, Serves};
 
     /// Reads up to `count` bytes, as the caller's next aggregate. The store under the files is asked for what of a file is not
     /// in memory.
@@ -35,7 +35,7 @@ impl Kernel {
             (B.disk backing.new) self.new }
     {
         match self.file_open(by, fd) {
-            Some(open) => { self.read_file(backing, by, fd, open.file, open.at, open.mode, count) }
+            Some(found) => self.read_file(backing, by, fd, found, count),
             None => self.read_queue(by, fd, count),
         }
     }
@@ -70,10 +70,7 @@ impl Kernel {
         pipe: PipeId,
         count: u32,
     ) -> Result<AggId, Refusal>
-        requires sound { IsSound (state_of self.old) }
-        requires live { (f : Reading) → is_live (as_read f self.old) by ≡ true }
-        requires from { (f : Reading) → descriptor (as_read f self.old) by fd ≡ Some
-            (Descriptor.ReadEnd pipe) }
+        requires { IsOpenOn self.old by fd (Descriptor.ReadEnd pipe) }
         ensures { CarriesOut (λ s. calls.iol_read s by fd count) self.old result self.new }
     {
         if self.is_too_many(by, 1, 0) {
@@ -115,11 +112,8 @@ impl Kernel {
     /// Takes what the reader may see of the first bytes of a pipe's queue, as its next aggregate.
     #[tactic(auto, using(crate::proofs::State::Stay::stay_rules, crate::proofs::AggregateCalls::Slices::held_rules))]
     fn take(&mut self, by: DomainId, fd: Fd, p: PipeId, n: u32) -> Result<AggId, AllocError>
-        requires sound { IsSound (state_of self.old) }
-        requires live { is_live (machine self.old) by ≡ true }
+        requires held { IsOpenOn self.old by fd (Descriptor.ReadEnd p) }
         requires few { too_many_aggs (machine self.old) by 1 0 ≡ false }
-        requires from { (f : Reading) → descriptor (as_read f self.old) by fd ≡ Some
-            (Descriptor.ReadEnd p) }
         ensures done { IfOk result (λ a. Answers (λ s. calls.iol_read s by fd n) self.old a
             self.new) }
         ensures err { OnErr result (state_of self.new ≡ state_of self.old) }
@@ -138,10 +132,7 @@ impl Kernel {
         conn: ConnId,
         count: u32,
     ) -> Result<AggId, Refusal>
-        requires sound { IsSound (state_of self.old) }
-        requires live { (f : Reading) → is_live (as_read f self.old) by ≡ true }
-        requires from { (f : Reading) → descriptor (as_read f self.old) by fd ≡ Some
-            (Descriptor.Connection conn) }
+        requires { IsOpenOn self.old by fd (Descriptor.Connection conn) }
         ensures { CarriesOut (λ s. calls.iol_read s by fd count) self.old result self.new }
     {
         if self.is_too_many(by, 1, 0) {
@@ -199,11 +190,8 @@ impl Kernel {
         conn: ConnId,
         n: u32,
     ) -> Result<AggId, AllocError>
-        requires sound { IsSound (state_of self.old) }
-        requires live { is_live (machine self.old) by ≡ true }
+        requires held { IsOpenOn self.old by fd (Descriptor.Connection conn) }
         requires few { too_many_aggs (machine self.old) by 1 0 ≡ false }
-        requires from { (f : Reading) → descriptor (as_read f self.old) by fd ≡ Some
-            (Descriptor.Connection conn) }
         ensures done { IfOk result (λ a. Answers (λ s. calls.iol_read s by fd n) self.old a
             self.new) }
         ensures err { OnErr result (state_of self.new ≡ state_of self.old) }

@@ -1,12 +1,11 @@
 //! Reading files by reference: what is in memory is shared, and what is not is read into clean extents.
-ghost use Rattle.std.specs.Prelude.{◌≡◌, ◌+◌, true, false, Option, Some, None, IfSome, OnOk};
+ghost use Rattle.std.specs.Prelude.{◌≡◌, true, false, Some, None, IfSome};
 ghost use Rattle.iol_core.specs.Meaning.{first};
 ghost use Rattle.iol_core.specs.State.{is_live, descriptor};
 ghost use Rattle.iol_core.specs.Calls.Aggregates.{too_many_aggs};
 ghost use Rattle.iol_core.specs.Calls.Files.{open_on};
 ghost use Rattle.iol_core.specs.Calls.Reading as calls;
-ghost use Rattle.iol_kernel.specs.FileReading.{file_read, held_by};
-ghost use Rattle.iol_kernel.specs.KernelState.{IsSound};
+ghost use Rattle.iol_kernel.specs.FileReading.{held_by, read_at};
 ghost use Rattle.iol_kernel.specs.Readings.{Reading};
 
 use crate::kernel::Kernel;
@@ -34,7 +33,7 @@ pub(crate) fn may_be_read(mode: Mode) -> bool
 }
 
 impl Kernel {
-    ghost use Rattle.iol_kernel.specs.Kernel.{state_of, machine, as_read, GivesRead, ReadsFileAs, Serves};
+    ghost use Rattle.iol_kernel.specs.Kernel.{machine, as_read, IsOpenAt, TakesFromFile};
 
     /// The file that a live domain's descriptor is open on, with its position and mode.
     pub fn file_open(&self, by: DomainId, fd: Fd) -> Option<OpenFile>
@@ -59,32 +58,23 @@ impl Kernel {
         backing: &mut B,
         by: DomainId,
         fd: Fd,
-        file: FileId,
-        at: u32,
-        mode: Mode,
+        found: OpenFile,
         count: u32,
     ) -> Result<AggId, Refusal>
-        requires sound { IsSound (state_of self.old) }
-        requires live { (f : Reading) → is_live (as_read f self.old) by ≡ true }
-        requires from { (f : Reading) → descriptor (as_read f self.old) by fd ≡ Some
-            (Descriptor.File file at mode) }
-        ensures serves { Serves (λ s. calls.iol_read s by fd count) (B.disk backing.old) self.old
-            result (B.disk backing.new) self.new }
-        ensures reads { ReadsFileAs (file_read by fd file at mode count) (B.disk backing.old)
-            self.old result (B.disk backing.new) self.new }
-        ensures gives { OnOk result (GivesRead (file_read by fd file at mode count)
-            (B.disk backing.old) self.old self.new) }
+        requires { IsOpenAt self.old (read_at by fd found count) }
+        ensures { TakesFromFile (read_at by fd found count) (B.disk backing.old) self.old result
+            (B.disk backing.new) self.new }
     {
-        if !may_be_read(mode) {
+        if !may_be_read(found.mode) {
             return Err(Refusal::WrongMode);
         }
         if self.is_too_many(by, 1, 0) {
             return Err(Refusal::TooMany);
         }
-        if let Some(pool) = self.hidden_file(by, file) {
+        if let Some(pool) = self.hidden_file(by, found.file) {
             return Err(Refusal::Denied { pool });
         }
-        self.take_from_file(backing, by, fd, file, at, mode, count)
+        self.take_from_file(backing, by, fd, found, count)
     }
 
     /// Reads from a file that the caller may read, as its next aggregate.
@@ -93,24 +83,16 @@ impl Kernel {
         backing: &mut B,
         by: DomainId,
         fd: Fd,
-        file: FileId,
-        at: u32,
-        mode: Mode,
+        found: OpenFile,
         count: u32,
     ) -> Result<AggId, Refusal>
-        requires sound { IsSound (state_of self.old) }
-        requires live { is_live (machine self.old) by ≡ true }
+        requires held { IsOpenAt self.old (read_at by fd found count) }
         requires few { too_many_aggs (machine self.old) by 1 0 ≡ false }
-        requires from { (f : Reading) → descriptor (as_read f self.old) by fd ≡ Some
-            (Descriptor.File file at mode) }
         requires passed { first (calls.iol_read (machine self.old) by fd count).refusals ≡ None }
-        ensures serves { Serves (λ s. calls.iol_read s by fd count) (B.disk backing.old) self.old
-            result (B.disk backing.new) self.new }
-        ensures reads { ReadsFileAs (file_read by fd file at mode count) (B.disk backing.old)
-            self.old result (B.disk backing.new) self.new }
-        ensures gives { OnOk result (GivesRead (file_read by fd file at mode count)
-            (B.disk backing.old) self.old self.new) }
+        ensures { TakesFromFile (read_at by fd found count) (B.disk backing.old) self.old result
+            (B.disk backing.new) self.new }
     {
+        let OpenFile { file, at, mode } = found;
         self.domains.reserve_aggs(by, 1)?;
         let outcome = self
             .files

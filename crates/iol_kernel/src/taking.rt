@@ -1,10 +1,11 @@
 //! Bytes are copied out of pipes and connections: no aggregate is made of them, and no memory is taken.
-ghost use Rattle.std.specs.Prelude.{◌≡◌, ◌++◌, length, min, drop, true, Some, None, IfOk, OnOk, IfErr};
+ghost use Rattle.std.specs.Prelude.{◌≡◌, ◌++◌, length, min, drop, true, None, IfOk, OnOk, IfErr};
 ghost use Rattle.iol_core.specs.Meaning.{Never};
 ghost use Rattle.iol_core.specs.State.{is_live, descriptor};
 ghost use Rattle.iol_core.specs.Calls.Files.{open_on};
 ghost use Rattle.iol_core.specs.Calls.Reading as calls;
 ghost use Rattle.iol_sock.specs.Refused.{IsPassed, IsRefused};
+ghost use Rattle.iol_kernel.specs.Copying.{TakesInto, TellsWaiting};
 ghost use Rattle.iol_kernel.specs.FileReading.{held_by};
 ghost use Rattle.iol_kernel.specs.KernelState.{IsSound};
 ghost use Rattle.iol_kernel.specs.Readings.{Reading};
@@ -15,7 +16,7 @@ use iol_core::numbers::{ConnId, DomainId, Fd, PipeId};
 use iol_core::refusals::Refusal;
 
 impl Kernel {
-    ghost use Rattle.iol_kernel.specs.Kernel.{state_of, machine, as_read, Leaves};
+    ghost use Rattle.iol_kernel.specs.Kernel.{state_of, machine, as_read, IsOpenOn, Leaves};
 
     /// How many bytes of those that a read of `count` asks for wait on a descriptor that is not open on a file. It is refused as
     /// that read is.
@@ -47,14 +48,8 @@ impl Kernel {
 
     /// How many bytes wait in a pipe.
     fn waiting_in(&self, by: DomainId, fd: Fd, pipe: PipeId, count: usize) -> Result<usize, Refusal>
-        requires live { is_live (machine self.now) by ≡ true }
-        requires from { (f : Reading) → descriptor (as_read f self.now) by fd ≡ Some
-            (Descriptor.ReadEnd pipe) }
-        ensures passed { OnOk result (IsPassed (calls.read (machine self.now) by fd count).refusals) }
-        ensures refused { IfErr result (IsRefused (calls.read (machine self.now) by fd
-            count).refusals Never) }
-        ensures some { IfOk result (λ n. (f : Reading) → n ≡ min count (length (calls.unread
-            (as_read f self.now) (descriptor (as_read f self.now) by fd)))) }
+        requires { IsOpenOn self.now by fd (Descriptor.ReadEnd pipe) }
+        ensures { TellsWaiting by fd count (state_of self.now) result }
     {
         if let Some(pool) = self.first_barred(by, pipe, count) {
             return Err(Refusal::Denied { pool });
@@ -67,15 +62,8 @@ impl Kernel {
 
     /// How many bytes came in on a connection.
     fn waiting_on(&self, by: DomainId, fd: Fd, conn: ConnId, count: usize) -> Result<usize, Refusal>
-        requires sound { IsSound (state_of self.now) }
-        requires live { is_live (machine self.now) by ≡ true }
-        requires from { (f : Reading) → descriptor (as_read f self.now) by fd ≡ Some
-            (Descriptor.Connection conn) }
-        ensures passed { OnOk result (IsPassed (calls.read (machine self.now) by fd count).refusals) }
-        ensures refused { IfErr result (IsRefused (calls.read (machine self.now) by fd
-            count).refusals Never) }
-        ensures some { IfOk result (λ n. (f : Reading) → n ≡ min count (length (calls.unread
-            (as_read f self.now) (descriptor (as_read f self.now) by fd)))) }
+        requires { IsOpenOn self.now by fd (Descriptor.Connection conn) }
+        ensures { TellsWaiting by fd count (state_of self.now) result }
     {
         if let Some(pool) = self.first_unread_barred(by, conn, count) {
             return Err(Refusal::Denied { pool });
@@ -116,15 +104,8 @@ impl Kernel {
 
     /// Copies the first bytes that wait in a pipe, and takes them off.
     fn take_from_pipe(&mut self, by: DomainId, fd: Fd, pipe: PipeId, into: &mut [u8]) -> u32
-        requires sound { IsSound (state_of self.old) }
-        requires from { (f : Reading) → descriptor (as_read f self.old) by fd ≡ Some
-            (Descriptor.ReadEnd pipe) }
-        ensures copied { into.new ≡ (calls.read (machine self.old) by fd (length into.old)).answer ++
-            drop result into.old }
-        ensures count { result ≡ length (calls.read (machine self.old) by fd
-            (length into.old)).answer }
-        ensures left { Leaves (λ s. (calls.read s by fd (length into.old)).after) self.old
-            self.new }
+        requires { IsOpenOn self.old by fd (Descriptor.ReadEnd pipe) }
+        ensures { TakesInto by fd into.old into.new result (state_of self.old) (state_of self.new) }
     {
         let count = self.pipes.copy_front(&self.store, pipe, by, into);
         self.pipes.skip(&mut self.store, pipe, count);
@@ -133,15 +114,8 @@ impl Kernel {
 
     /// Copies the first bytes that came in on a connection, and takes them off.
     fn take_from_conn(&mut self, by: DomainId, fd: Fd, conn: ConnId, into: &mut [u8]) -> u32
-        requires sound { IsSound (state_of self.old) }
-        requires from { (f : Reading) → descriptor (as_read f self.old) by fd ≡ Some
-            (Descriptor.Connection conn) }
-        ensures copied { into.new ≡ (calls.read (machine self.old) by fd (length into.old)).answer ++
-            drop result into.old }
-        ensures count { result ≡ length (calls.read (machine self.old) by fd
-            (length into.old)).answer }
-        ensures left { Leaves (λ s. (calls.read s by fd (length into.old)).after) self.old
-            self.new }
+        requires { IsOpenOn self.old by fd (Descriptor.Connection conn) }
+        ensures { TakesInto by fd into.old into.new result (state_of self.old) (state_of self.new) }
     {
         let Some(found) = self.conns.get(conn) else {
             unreachable!()

@@ -33,8 +33,8 @@ use Rattle.iol_sock.specs.Table.{conn_in, no_conn}
 use Rattle.iol_kernel.specs.Adding.{TakesFront}
 use Rattle.iol_kernel.specs.Calls.{Answers}
 use Rattle.iol_kernel.specs.Counted.{IsCounted, conn_uses}
-use Rattle.iol_kernel.specs.KernelState as held
-use Rattle.iol_kernel.specs.KernelState.{KernelState, objects_of, Each, AreReadable, IsConnReadable, IsOpenEnd, IsSound, read_of}
+use Rattle.iol_kernel.specs.KernelState.{IsConn, KernelState, objects_of, Each, AreReadable, IsConnReadable, IsOpenEnd, IsSound, read_of}
+use Rattle.iol_kernel.specs.Opened.{IsOpenOn}
 use Rattle.iol_kernel.specs.Readings.{Reading, read, KeepsPools}
 use Rattle.iol_kernel.proofs.Connections.Connecting.{conn_in-is, conn_readable, conn_limit, turned, turned_fds, turned_limits, turned_pooled, turned-read}
 use Rattle.iol_kernel.proofs.Connections.ConnQueues.{open_held, found_held, conn_at-read_of, incoming-read_of, conn_in-none, with_on}
@@ -43,7 +43,7 @@ use Rattle.iol_kernel.proofs.Queues.Flowing.{admitted-same, barred_of, denied_at
 use Rattle.iol_kernel.proofs.State.Numbering.{each-changed, sum-changed}
 use Rattle.iol_kernel.proofs.State.Once.{once_same}
 use Rattle.iol_kernel.proofs.State.Pooling.{pools_pooled}
-use Rattle.iol_kernel.proofs.State.ReadOf.{may_read-read_of, next_agg-read_of}
+use Rattle.iol_kernel.proofs.State.ReadOf.{may_read-read_of, next_agg-read_of, open_row}
 use Rattle.iol_kernel.proofs.State.Sound.{add_readable, fds_stay, limits_agg}
 use Rattle.iol_kernel.proofs.State.Uses.{uses-with_agg}
 use Rattle.iol_kernel.proofs.State.Views.{with_agg-view}
@@ -111,17 +111,17 @@ module _ (f : Reading) (h : KernelState) (c n : ℕ) where
 
 -- A domain gets the front.
 
-module _ (h k : KernelState) (d fd c n : ℕ) (sound : IsSound h) (from : (f : Reading) → machine.descriptor (read_of f h) d fd ≡ Some (on.Connection c)) (takes : TakesFront h.store k.store (conn_in h.conns c).incoming (conn_in k.conns c).incoming h.domains k.domains d n)
+module _ (h k : KernelState) (d fd c n : ℕ) (held : IsOpenOn h d fd (on.Connection c)) (takes : TakesFront h.store k.store (conn_in h.conns c).incoming (conn_in k.conns c).incoming h.domains k.domains d n)
     (same : k ≡ record h { store = k.store; domains = k.domains; conns = changed h.conns c (record (conn_in h.conns c) { incoming = (conn_in k.conns c).incoming }) }) where
   -- the connection with the rest in its queue
   abbrev rest : Conn (List Slice)
   rest = record (conn_in h.conns c) { incoming = (conn_in k.conns c).incoming }
 
   there : lookup h.conns c ≡ Some (conn_in h.conns c)
-  there = found_held h d fd c sound from
+  there = found_held h d fd c held.sound held.from
 
   abbrev less : KernelState
-  less = turned h k.store c (conn_in h.conns c) rest sound there
+  less = turned h k.store c (conn_in h.conns c) rest held.sound there
 
   abbrev given : List (Domain (List Slice))
   given = with_agg_in h.domains d takes.slices
@@ -133,27 +133,27 @@ module _ (h k : KernelState) (d fd c n : ℕ) (sound : IsSound h) (from : (f : R
   is_taken = same ∙ ap (λ (ds : List (Domain (List Slice))). record less { domains = ds }) takes.added
 
   slices_good : AllReadable h.store takes.slices
-  slices_good = readable_given takes.slices (conn_in h.conns c).incoming h.store.pools d n takes.given (conn_readable h c (conn_in h.conns c) sound there).0
+  slices_good = readable_given takes.slices (conn_in h.conns c).incoming h.store.pools d n takes.given (conn_readable h c (conn_in h.conns c) held.sound there).0
 
   rest_good : IsConnReadable h.store (c, rest)
   rest_good =
-      let was = conn_readable h c (conn_in h.conns c) sound there in
+      let was = conn_readable h c (conn_in h.conns c) held.sound there in
       (readable_rest (conn_in k.conns c).incoming (conn_in h.conns c).incoming (byte_len takes.slices) takes.left was.0, was.1)
 
   parts_short : (byte_len takes.slices ≤ MAX_QUEUE_BYTES) × (byte_len (conn_in k.conns c).incoming ≤ MAX_QUEUE_BYTES)
   parts_short =
-      let was = (conn_limit h c (conn_in h.conns c) sound there).incoming in
+      let was = (conn_limit h c (conn_in h.conns c) held.sound there).incoming in
       let q = places (conn_in h.conns c).incoming in
       (omega (arith, was, ap length takes.given, length-take (prefix_len (may_see h.store.pools d) (take n q)) (take n q), length-take n q), omega (arith, was, ap length takes.left, length-drop (byte_len takes.slices) q))
 
   less_good : AreReadable h.store (objects_of less)
-  less_good = record { pipes = sound.objects.pipes; conns = each-changed (IsConnReadable h.store) h.conns c rest sound.objects.conns rest_good; files = sound.objects.files }
+  less_good = record { pipes = held.sound.objects.pipes; conns = each-changed (IsConnReadable h.store) h.conns c rest held.sound.objects.conns rest_good; files = held.sound.objects.files }
 
-  rest_limit : held.IsConn (c, rest)
-  rest_limit = let was = conn_limit h c (conn_in h.conns c) sound there in record { incoming = parts_short.1; outgoing = was.outgoing; waits = was.waits }
+  rest_limit : IsConn (c, rest)
+  rest_limit = let was = conn_limit h c (conn_in h.conns c) held.sound there in record { incoming = parts_short.1; outgoing = was.outgoing; waits = was.waits }
 
   less_fds : Each (λ (x : Domain (List Slice)). Each (IsOpenEnd (objects_of less)) x.fds) h.domains
-  less_fds = turned_fds h k.store c (conn_in h.conns c) rest sound there (λ open'. open')
+  less_fds = turned_fds h k.store c (conn_in h.conns c) rest held.sound there (λ open'. open')
 
   -- what is read
 
@@ -178,24 +178,24 @@ module _ (h k : KernelState) (d fd c n : ℕ) (sound : IsSound h) (from : (f : R
       ∙ ap (λ (v : Text). drop (length v) (read f (conn_in h.conns c).incoming)) (sym (read_given f.at keeps takes.slices (conn_in h.conns c).incoming h.store.pools d n takes.given) ∙ first) in
       ap (read_of f) is_taken
       ∙ taken-read f
-      ∙ ap (λ (x : State). aggs.with_agg x d (read f takes.slices)) (turned-read h k.store c (conn_in h.conns c) rest sound there lists f)
+      ∙ ap (λ (x : State). aggs.with_agg x d (read f takes.slices)) (turned-read h k.store c (conn_in h.conns c) rest held.sound there lists f)
       ∙ ap (λ (v : Text). aggs.with_agg (record s { conns = changed s.conns c (record w { incoming = read f (conn_in k.conns c).incoming }) }) d v) first
       ∙ ap (λ (v : Text). aggs.with_agg (record s { conns = changed s.conns c (record w { incoming = v }) }) d u) left
-      ∙ ap (λ (x : State). aggs.with_agg x d u) (sym (with_on s c (record w { incoming = drop (length u) w.incoming }) (open_held h d fd c sound from).0 (open_held h d fd c sound from).1))
+      ∙ ap (λ (x : State). aggs.with_agg x d u) (sym (with_on s c (record w { incoming = drop (length u) w.incoming }) (open_held h d fd c held.sound held.from).0 (open_held h d fd c held.sound held.from).1))
       ∙ ap (λ (z : Connection). aggs.with_agg (machine.with_conn s c (record z { incoming = drop (length u) z.incoming })) d u) (sym (conn_at-read_of f h c))
-      ∙ ap (λ (o : Option Descriptor). aggs.with_agg (reading.read_on s d fd o (length (reading.read_text s d o n))) d (reading.read_text s d o n)) (sym (from f))
+      ∙ ap (λ (o : Option Descriptor). aggs.with_agg (reading.read_on s d fd o (length (reading.read_text s d o n))) d (reading.read_text s d o n)) (sym (held.from f))
 
   -- and all stays sound
 
-  module _ (live : (domain_in h.domains d).live ≡ true) (few : live_aggs_in h.domains < MAX_AGGREGATES) where
+  module _ (few : live_aggs_in h.domains < MAX_AGGREGATES) where
     taken_counted : IsCounted k.store given (objects_of less)
     taken_counted = record {
       each = λ b. omega (
         arith,
-        sound.counted.each b,
+        held.sound.counted.each b,
         takes.shares.counts.each b,
-        uses-with_agg b h.domains d takes.slices live,
-        sum-changed (conn_uses b) h.conns 0 h.next_conn c (conn_in h.conns c) rest sound.limits.objects.rising there,
+        uses-with_agg b h.domains d takes.slices (open_row held),
+        sum-changed (conn_uses b) h.conns 0 h.next_conn c (conn_in h.conns c) rest held.sound.limits.objects.rising there,
         tally-append b (bufs_of takes.slices) (bufs_of (conn_in k.conns c).incoming),
       );
     }
@@ -204,11 +204,11 @@ module _ (h k : KernelState) (d fd c n : ℕ) (sound : IsSound h) (from : (f : R
     taken-sound =
         let x : Domain (List Slice) = domain_in h.domains d in
         let y : Domain (List Slice) = record x { aggs = x.aggs ++ (x.next_agg, takes.slices) ∷ []; next_agg = x.next_agg + 1 } in
-        moved-sound h.store taken (shares_move takes.shares).stays taken_counted (takes.shares.tidy sound.tidy) ((shares_move takes.shares).still sound.still) (all_settled_same h.store k.store takes.shares.arena takes.shares.pools sound.settled)
-        (add_readable h.store h.domains d takes.slices sound.domains slices_good) less_good
-        (fds_stay (objects_of less) h.domains d y less_fds refl) (once_same h.domains d y live refl sound.once)
-        (limits_agg h.domains (objects_of less) d takes.slices (turned_limits h k.store c (conn_in h.conns c) rest sound there rest_limit) live (omega (arith, parts_short.0)) few)
-        (turned_pooled h k.store c (conn_in h.conns c) rest sound there refl (pools_pooled h.store k.store h.conns h.cache.files takes.shares.pools sound.pooled)) sound.sums sound.filed sound.cached (ap page_count takes.shares.arena)
+        moved-sound h.store taken (shares_move takes.shares).stays taken_counted (takes.shares.tidy held.sound.tidy) ((shares_move takes.shares).still held.sound.still) (all_settled_same h.store k.store takes.shares.arena takes.shares.pools held.sound.settled)
+        (add_readable h.store h.domains d takes.slices held.sound.domains slices_good) less_good
+        (fds_stay (objects_of less) h.domains d y less_fds refl) (once_same h.domains d y (open_row held) refl held.sound.once)
+        (limits_agg h.domains (objects_of less) d takes.slices (turned_limits h k.store c (conn_in h.conns c) rest held.sound there rest_limit) (open_row held) (omega (arith, parts_short.0)) few)
+        (turned_pooled h k.store c (conn_in h.conns c) rest held.sound there refl (pools_pooled h.store k.store h.conns h.cache.files takes.shares.pools held.sound.pooled)) held.sound.sums held.sound.filed held.sound.cached (ap page_count takes.shares.arena)
 
     pub unread_taken : (a : ℕ) → a ≡ (domain_in h.domains d).next_agg → Answers (λ s. reading.iol_read s d fd n) h a k
     unread_taken a number = record {

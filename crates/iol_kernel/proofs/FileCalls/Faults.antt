@@ -8,43 +8,30 @@ use Rattle.iol_core.specs.Calls.Files as calls
 use Rattle.iol_core.specs.Calls.Files.{file_on}
 use Rattle.iol_core.specs.Calls.Outside as outside
 use Rattle.iol_core.specs.declared.refusals.Refusal.{Refusal}
-use Rattle.iol_core.specs.declared.refusals.Refusal.TheVariants.{NoDomain, BadFd, BadAgg, NoPool, NoFile, WrongMode, BadRange, TooLong, TooMany, Denied, PoolClosed, PoolBusy, BrokenPipe, WouldBlock, NoRoom, Fault, Memory}
+use Rattle.iol_core.specs.declared.refusals.Refusal.TheVariants.{Fault}
 use Rattle.iol_back.specs.Disk.{Disk, raised}
 use Rattle.iol_hold.specs.Stored.{Stored}
 use Rattle.iol_cache.specs.Cached.{Cached}
 use Rattle.iol_cache.specs.Serving.{FaultCounts}
-use Rattle.iol_cache.specs.Syncing.{Flushes}
+use Rattle.iol_cache.specs.Sound as cache
+use Rattle.iol_cache.specs.Syncing.{Flushes, KeepsBytes, KeepsStored}
 use Rattle.iol_cache.specs.declared.syncing.Flushed.{Flushed}
 use Rattle.iol_cache.specs.declared.syncing.Flushed.TheVariants.{Nothing, Wrote}
 use Rattle.iol_cache.proofs.Extents.Filing.{numbered_bounds, numbered_yes}
 use Rattle.iol_cache.proofs.RangeWrites.Synced.{syncs_none}
+use Rattle.iol_kernel.specs.Backed.{Serves}
 use Rattle.iol_kernel.specs.KernelState.{KernelState, IsSound, machine_of}
 use Rattle.iol_kernel.specs.Readings.{bytes_over}
-use Rattle.iol_kernel.specs.WritingBack.{SyncsFile, done_of}
-use Rattle.iol_kernel.proofs.FileCalls.Named.{as_many, files-read_of}
-use Rattle.iol_kernel.proofs.FileCalls.WrittenBack.{dirty_there}
+use Rattle.iol_kernel.specs.WritingBack.{FlushesOne, SyncsFile, done_of}
+use Rattle.iol_kernel.proofs.FileCalls.Named.{as_many, cache_sound, files-read_of}
+use Rattle.iol_kernel.proofs.FileCalls.WrittenBack.{back_serves, dirty_there, flush_parts}
 
 -- of one file
 
 pub fault_counted : (f : ℕ) (x y : Disk) (r : Result (Unit {0}) Refusal) → OnErr r (y.failures ≡ raised x.failures) → OnOk r (y.failures ≡ x.failures) → IfErr r (FaultOf f) → FaultCounts x y r
 fault_counted f x y (Ok u) fails succeeds late = succeeds
 fault_counted f x y (Err (Fault g)) fails succeeds late = fails
-fault_counted f x y (Err NoDomain) fails succeeds late = absurd late
-fault_counted f x y (Err BadFd) fails succeeds late = absurd late
-fault_counted f x y (Err BadAgg) fails succeeds late = absurd late
-fault_counted f x y (Err NoPool) fails succeeds late = absurd late
-fault_counted f x y (Err NoFile) fails succeeds late = absurd late
-fault_counted f x y (Err WrongMode) fails succeeds late = absurd late
-fault_counted f x y (Err BadRange) fails succeeds late = absurd late
-fault_counted f x y (Err TooLong) fails succeeds late = absurd late
-fault_counted f x y (Err TooMany) fails succeeds late = absurd late
-fault_counted f x y (Err (Denied p)) fails succeeds late = absurd late
-fault_counted f x y (Err (PoolClosed p)) fails succeeds late = absurd late
-fault_counted f x y (Err (PoolBusy p)) fails succeeds late = absurd late
-fault_counted f x y (Err BrokenPipe) fails succeeds late = absurd late
-fault_counted f x y (Err WouldBlock) fails succeeds late = absurd late
-fault_counted f x y (Err (NoRoom p)) fails succeeds late = absurd late
-fault_counted f x y (Err Memory) fails succeeds late = absurd late
+fault_counted f x y (Err z) fails succeeds late = absurd late
 
 pub sync_steps : (s : State) (by fd f : ℕ) (r : Result (Unit {0}) Refusal) → first (calls.fsync s by fd).refusals ≡ None → f ≡ file_on s by fd → IfErr r (FaultOf f) → Step (calls.fsync s by fd) s r s
 sync_steps s by fd f (Ok u) passed is late = (passed, refl, refl)
@@ -59,45 +46,15 @@ refused_sync f disk h x other = record { syncs = syncs_none h.store f h.cache di
   where
     none : (y : Refusal) → ((g : ℕ) → y ≡ Fault g → ⊥) → FaultCounts {A = Unit {0}} disk disk (Err y)
     none (Fault g) other = absurd (other g refl)
-    none NoDomain other = refl
-    none BadFd other = refl
-    none BadAgg other = refl
-    none NoPool other = refl
-    none NoFile other = refl
-    none WrongMode other = refl
-    none BadRange other = refl
-    none TooLong other = refl
-    none TooMany other = refl
-    none (Denied p) other = refl
-    none (PoolClosed p) other = refl
-    none (PoolBusy p) other = refl
-    none BrokenPipe other = refl
-    none WouldBlock other = refl
-    none (NoRoom p) other = refl
-    none Memory other = refl
+    none y other = refl
 
 -- of the file whose extent is flushed
 
-pub flush_counted : (s : Stored) (c d : Cached) (x y : Disk) (r : Result Flushed Refusal) → Flushes s c d x y r → FaultCounts x y (done_of r)
+flush_counted : (s : Stored) (c d : Cached) (x y : Disk) (r : Result Flushed Refusal) → Flushes s c d x y r → FaultCounts x y (done_of r)
 flush_counted s c d x y (Ok Nothing) m = ap (λ (z : Disk). z.failures) m.2
 flush_counted s c d x y (Ok (Wrote f)) m = m.1.counts.0
 flush_counted s c d x y (Err (Fault f)) m = m.1.counts
-flush_counted s c d x y (Err NoDomain) m = absurd m
-flush_counted s c d x y (Err BadFd) m = absurd m
-flush_counted s c d x y (Err BadAgg) m = absurd m
-flush_counted s c d x y (Err NoPool) m = absurd m
-flush_counted s c d x y (Err NoFile) m = absurd m
-flush_counted s c d x y (Err WrongMode) m = absurd m
-flush_counted s c d x y (Err BadRange) m = absurd m
-flush_counted s c d x y (Err TooLong) m = absurd m
-flush_counted s c d x y (Err TooMany) m = absurd m
-flush_counted s c d x y (Err (Denied p)) m = absurd m
-flush_counted s c d x y (Err (PoolClosed p)) m = absurd m
-flush_counted s c d x y (Err (PoolBusy p)) m = absurd m
-flush_counted s c d x y (Err BrokenPipe) m = absurd m
-flush_counted s c d x y (Err WouldBlock) m = absurd m
-flush_counted s c d x y (Err (NoRoom p)) m = absurd m
-flush_counted s c d x y (Err Memory) m = absurd m
+flush_counted s c d x y (Err z) m = absurd m
 
 -- the machine has a file that is in the cache
 there : (h : KernelState) (f : ℕ) (stored : List (List ℕ)) → IsSound h → is_numbered h.cache.files f ≡ true → is_numbered (machine_of stored h).files f ≡ true
@@ -105,22 +62,27 @@ there h f stored sound is =
     let b = numbered_bounds h.cache.files f is in
     numbered_yes (machine_of stored h).files f b.0 (omega (arith, b.1, as_many h sound.filed, ap length (files-read_of (bytes_over stored h.store) h)))
 
-pub flush_steps : (h : KernelState) (d : Cached) (x y : Disk) (r : Result Flushed Refusal) → IsSound h → Flushes h.store h.cache d x y r → (stored : List (List ℕ)) → Step (outside.flush (machine_of stored h)) (machine_of stored h) (done_of r) (machine_of stored h)
+flush_steps : (h : KernelState) (d : Cached) (x y : Disk) (r : Result Flushed Refusal) → IsSound h → Flushes h.store h.cache d x y r → (stored : List (List ℕ)) → Step (outside.flush (machine_of stored h)) (machine_of stored h) (done_of r) (machine_of stored h)
 flush_steps h d x y (Ok z) sound m stored = (refl, refl, refl)
 flush_steps h d x y (Err (Fault f)) sound m stored = (there h f stored sound (dirty_there h.cache.files f m.1.extent m.1.first), refl)
-flush_steps h d x y (Err NoDomain) sound m stored = absurd m
-flush_steps h d x y (Err BadFd) sound m stored = absurd m
-flush_steps h d x y (Err BadAgg) sound m stored = absurd m
-flush_steps h d x y (Err NoPool) sound m stored = absurd m
-flush_steps h d x y (Err NoFile) sound m stored = absurd m
-flush_steps h d x y (Err WrongMode) sound m stored = absurd m
-flush_steps h d x y (Err BadRange) sound m stored = absurd m
-flush_steps h d x y (Err TooLong) sound m stored = absurd m
-flush_steps h d x y (Err TooMany) sound m stored = absurd m
-flush_steps h d x y (Err (Denied p)) sound m stored = absurd m
-flush_steps h d x y (Err (PoolClosed p)) sound m stored = absurd m
-flush_steps h d x y (Err (PoolBusy p)) sound m stored = absurd m
-flush_steps h d x y (Err BrokenPipe) sound m stored = absurd m
-flush_steps h d x y (Err WouldBlock) sound m stored = absurd m
-flush_steps h d x y (Err (NoRoom p)) sound m stored = absurd m
-flush_steps h d x y (Err Memory) sound m stored = absurd m
+flush_steps h d x y (Err z) sound m stored = absurd m
+
+-- what was flushed, as the call answers it
+module _ (h : KernelState) (d : Cached) (x y : Disk) (r : Result Flushed Refusal) {q : Result (Unit {0}) Refusal} (is : done_of r ≡ q) (m : Flushes h.store h.cache d x y r) where
+  abbrev next : KernelState
+  next = record h { cache = d }
+
+  pub flush_serves : IsSound h → cache.IsSound h.store d → KeepsBytes h.store h.cache d x y → KeepsStored h.store h.cache d x y → Serves outside.flush x h q y next
+  flush_serves sound after bytes stored =
+      let parts = flush_parts h.store h.cache d x y r m in
+      subst (λ (z : Result (Unit {0}) Refusal). Serves outside.flush x h z y next) is
+      (back_serves outside.flush h next d x y (done_of r) sound parts.0 after (flush_steps h d x y r sound m) parts.1 bytes stored (cache_sound h sound) refl)
+
+  pub flushes_one : FlushesOne x h q y next
+  flushes_one = record {
+    flushed = r;
+    told = sym is;
+    flushes = m;
+    counts = subst (λ (z : Result (Unit {0}) Refusal). FaultCounts x y z) is (flush_counted h.store h.cache d x y r m);
+    same = refl;
+  }

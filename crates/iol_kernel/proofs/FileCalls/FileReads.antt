@@ -28,7 +28,7 @@ use Rattle.iol_hold.specs.Texts.{AllReadable, bufs_of, text_of}
 use Rattle.iol_hold.specs.declared.slices.Slice.{Slice}
 use Rattle.iol_hold.specs.Moves.{Stays}
 use Rattle.iol_hold.proofs.Reading.{bytes_of-labelled, length-text_of}
-use Rattle.iol_desc.specs.Tables.{domain_in, live_aggs_in, with_agg_in}
+use Rattle.iol_desc.specs.Tables.{domain_in, fds_in, live_aggs_in, with_agg_in}
 use Rattle.iol_cache.specs.Cached as cached
 use Rattle.iol_cache.specs.Cached.{Cached, file_in}
 use Rattle.iol_cache.specs.Contents.{bytes_in_slot}
@@ -41,14 +41,14 @@ use Rattle.iol_cache.proofs.RangeWrites.Composed.{own_places, own_text}
 use Rattle.iol_cache.proofs.Extents.Filing.{numbered_bounds, numbered_yes}
 use Rattle.iol_kernel.specs.Backed.{IsBackedBy, Serves, holding_of, with_slots}
 use Rattle.iol_kernel.specs.Ends.{ends_on, on_end, same_end}
-use Rattle.iol_kernel.specs.FileReading.{FileRead, moved_on, pool_read}
+use Rattle.iol_kernel.specs.FileReading.{FileRead, IsOpenAt, moved_on, pool_read}
 use Rattle.iol_kernel.specs.KernelState.{KernelState, objects_of, AreFiled, IsOpenEnd, IsSound, machine_of, read_of}
 use Rattle.iol_kernel.specs.Readings.{bytes_over, slot_read, slots_read}
 use Rattle.iol_kernel.specs.Views.{state_view}
 use Rattle.iol_kernel.proofs.State.Effects.{fds-sound}
 use Rattle.iol_kernel.proofs.FileCalls.Named.{as_many, cache_sound}
 use Rattle.iol_kernel.proofs.State.Once.{once_fewer}
-use Rattle.iol_kernel.proofs.State.ReadOf.{fds-read_of, next_agg-read_of}
+use Rattle.iol_kernel.proofs.State.ReadOf.{descriptor-read_of, fds-read_of, next_agg-read_of, open_row, open_row_kept}
 use Rattle.iol_kernel.proofs.FileCalls.Refilled.{over, agg-with_slots, fds-with_slots, gained_sound, machine-refilled, refilled, still_sound, with_slots-refilled}
 use Rattle.iol_kernel.proofs.State.Rows.{domain_in-with_same}
 use Rattle.iol_kernel.proofs.State.Serving.{still_serves, with_slots-same}
@@ -162,18 +162,44 @@ file_ends e xs fd f at mode was is = elim (cases_lt fd (length xs)) [
     no : ◌≡◌ {A = Option Descriptor} None (Some was) → ⊥
     no e = cc
 
-module _ (x : FileRead) (h : KernelState) (sound : IsSound h) (live : (domain_in h.domains x.domain).live ≡ true) (from : in_place (domain_in h.domains x.domain).fds x.fd ≡ Some (on.File x.file x.at x.mode)) where
+-- A refusal that changes nothing, whatever bytes files have.
+pub refuses : {A : Type 0} (m : State → Meaning A) (h k : KernelState) (y : Refusal) → IsSound h → ((slots : List (List ℕ)) → MatchOption (first (m (with_slots slots h)).refusals) ((m (with_slots slots h)).Late y) (λ z. y ≡ z)) → k ≡ h → (disk : Disk) → Serves m disk h (Err y) disk k
+refuses m h k y sound is same disk = subst (λ (l : KernelState). Serves m disk h (Err y) disk l) (sym same)
+    (still_serves m h h (Err y) sound sound (λ stored. subst (λ (s : State). Step (m s) s (Err y) s) (with_slots-same h stored) (is (machine_of stored h).slots, refl)) refl refl (stays_here h.store) disk)
+
+refused_late : {A : Type 0} (m : Meaning A) (y : Refusal) → first m.refusals ≡ None → m.Late y → MatchOption (first m.refusals) (m.Late y) (λ z. y ≡ z)
+refused_late m y passed late = subst (λ (o : Option Refusal). MatchOption o (m.Late y) (λ z. y ≡ z)) (sym passed) late
+
+-- A domain's row, where its descriptor is open on a file.
+
+pub row_live : {x : FileRead} {h : KernelState} → IsOpenAt h x → (domain_in h.domains x.domain).live ≡ true
+row_live held = open_row held.is
+
+pub row_holds : {x : FileRead} {h : KernelState} → IsOpenAt h x → in_place (domain_in h.domains x.domain).fds x.fd ≡ Some (on.File x.file x.at x.mode)
+row_holds {x} {h} held = sym (descriptor-read_of (bytes_over [] h.store) h x.domain x.fd) ∙ held.is.from (bytes_over [] h.store)
+
+module _ {x : FileRead} {h : KernelState} (held : IsOpenAt h x) where
+  -- in a table that is as it was
+  pub live_there : {ds : Domains} → ds ≡ h.domains → (domain_in ds x.domain).live ≡ true
+  live_there same = open_row_kept held.is same
+
+  pub open_there : {ds : Domains} → ds ≡ h.domains → in_place (fds_in ds x.domain) x.fd ≡ None → ⊥
+  open_there same none = (let was = sym (row_holds held) ∙ sym (ap (λ (ds : Domains). in_place (fds_in ds x.domain) x.fd) same) ∙ none in absurd (cc was))
+
   is_open : IsOpenEnd (objects_of h) (Some (on.File x.file x.at x.mode))
-  is_open = subst (IsOpenEnd (objects_of h)) from (each-get (IsOpenEnd (objects_of h)) (domain_in h.domains x.domain).fds x.fd None (ends_open h x.domain sound) tt)
+  is_open = subst (IsOpenEnd (objects_of h)) (row_holds held) (each-get (IsOpenEnd (objects_of h)) (domain_in h.domains x.domain).fds x.fd None (ends_open h x.domain held.is.sound) tt)
+
+  pub file_there : is_numbered h.files x.file ≡ true
+  file_there = is_open.0
 
   pub numbered_here : is_numbered h.cache.files x.file ≡ true
-  numbered_here = (let b = numbered_bounds h.files x.file is_open.0 in numbered_yes h.cache.files x.file b.0 (omega (arith, b.1, as_many h sound.filed)))
+  numbered_here = (let b = numbered_bounds h.files x.file file_there in numbered_yes h.cache.files x.file b.0 (omega (arith, b.1, as_many h held.is.sound.filed)))
 
   pub position_short : x.at ≤ MAX_FILE_BYTES
   position_short = is_open.1
 
   slot_here : (0 < x.file) × (x.file ≤ MAX_FILES)
-  slot_here = (let b = numbered_bounds h.cache.files x.file numbered_here in (b.0, omega (arith, b.1, (cache_sound h sound).few_files)))
+  slot_here = (let b = numbered_bounds h.cache.files x.file numbered_here in (b.0, omega (arith, b.1, (cache_sound h held.is.sound).few_files)))
 
   abbrev moved_fds : ℕ → List (Option Descriptor)
   moved_fds len = slice_set (domain_in h.domains x.domain).fds x.fd (Some (on.File x.file (x.at + len) x.mode))
@@ -183,10 +209,10 @@ module _ (x : FileRead) (h : KernelState) (sound : IsSound h) (live : (domain_in
 
   pub moved_sound : (len : ℕ) → x.at + len ≤ MAX_FILE_BYTES → IsSound (moved len)
   moved_sound len short =
-      fds-sound h (moved_on h.domains x len) x.domain (moved_fds len) sound live refl
-      (each-set (IsOpenEnd (objects_of h)) (domain_in h.domains x.domain).fds x.fd (Some (on.File x.file (x.at + len) x.mode)) (ends_open h x.domain sound) (is_open.0, short))
-      (once_fewer h.domains x.domain (record (domain_in h.domains x.domain) { fds = moved_fds len }) live
-      (λ e. file_ends e (domain_in h.domains x.domain).fds x.fd x.file (x.at + len) x.mode (on.File x.file x.at x.mode) from) sound.once)
+      fds-sound h (moved_on h.domains x len) x.domain (moved_fds len) held.is.sound (row_live held) refl
+      (each-set (IsOpenEnd (objects_of h)) (domain_in h.domains x.domain).fds x.fd (Some (on.File x.file (x.at + len) x.mode)) (ends_open h x.domain held.is.sound) (is_open.0, short))
+      (once_fewer h.domains x.domain (record (domain_in h.domains x.domain) { fds = moved_fds len }) (row_live held)
+      (λ e. file_ends e (domain_in h.domains x.domain).fds x.fd x.file (x.at + len) x.mode (on.File x.file x.at x.mode) (row_holds held)) held.is.sound.once)
 
   moved-with_slots : (slots : List (List ℕ)) (len : ℕ) → with_slots slots (moved len) ≡ fds.with_descriptor (with_slots slots h) x.domain x.fd (Some (on.File x.file (x.at + len) x.mode))
   moved-with_slots slots len =
@@ -195,12 +221,12 @@ module _ (x : FileRead) (h : KernelState) (sound : IsSound h) (live : (domain_in
 
   -- its descriptor, whatever bytes files have
   from_file : (slots : List (List ℕ)) → machine.descriptor (with_slots slots h) x.domain x.fd ≡ Some (on.File x.file x.at x.mode)
-  from_file slots = descriptor-with_slots slots h x.domain x.fd ∙ from
+  from_file slots = descriptor-with_slots slots h x.domain x.fd ∙ row_holds held
 
   -- the text that lies there is what is asked, where the file has its bytes at the position
   asked_there : (slots : List (List ℕ)) (t : Text) → t ≡ labelled (pool_read h x) (bytes_of t) → take x.count (drop x.at (machine.content (with_slots slots h) x.file)) ≡ bytes_of t → t ≡ labelled (machine.file (with_slots slots h) x.file).pool (take x.count (drop x.at (machine.content (with_slots slots h) x.file)))
   asked_there slots t pooled bytes =
-      pooled ∙ ap (λ p. labelled p (bytes_of t)) (sym (pool-with_slots slots h x.file sound.filed))
+      pooled ∙ ap (λ p. labelled p (bytes_of t)) (sym (pool-with_slots slots h x.file held.is.sound.filed))
       ∙ ap (labelled (machine.file (with_slots slots h) x.file).pool) (sym bytes)
 
   some_have : (bytes : List ℕ) → length bytes ≤ x.count → take x.count (drop x.at (machine.content (with_slots (told x.file x.at bytes) h) x.file)) ≡ bytes
@@ -210,15 +236,11 @@ module _ (x : FileRead) (h : KernelState) (sound : IsSound h) (live : (domain_in
   late_at : (slots : List (List ℕ)) (y : Refusal) → WantOfRoomOrFault (pool_read h x) x.file y → reading.read_late (with_slots slots h) (machine.descriptor (with_slots slots h) x.domain x.fd) y
   late_at slots y late =
       late_read (with_slots slots h) x.domain x.fd x.file x.at x.count x.mode (from_file slots) y
-      (subst (λ p. WantOfRoomOrFault p x.file y) (sym (pool-with_slots slots h x.file sound.filed)) late)
+      (subst (λ p. WantOfRoomOrFault p x.file y) (sym (pool-with_slots slots h x.file held.is.sound.filed)) late)
 
   -- a late refusal that has changed nothing
   untouched : {A : Type 0} (m : State → Meaning A) (k : KernelState) (y : Refusal) → ((slots : List (List ℕ)) → first (m (with_slots slots h)).refusals ≡ None) → ((slots : List (List ℕ)) → (m (with_slots slots h)).Late y) → k ≡ h → (disk : Disk) → Serves m disk h (Err y) disk k
-  untouched m k y passed late same disk = subst (λ (l : KernelState). Serves m disk h (Err y) disk l) (sym same)
-      (still_serves m h h (Err y) sound sound (λ stored. subst (λ (s : State). Step (m s) s (Err y) s) (with_slots-same h stored) (step (machine_of stored h).slots)) refl refl (stays_here h.store) disk)
-    where
-      step : (slots : List (List ℕ)) → Step (m (with_slots slots h)) (with_slots slots h) (Err y) (with_slots slots h)
-      step slots = (subst (λ (o : Option Refusal). MatchOption o ((m (with_slots slots h)).Late y) (λ z. y ≡ z)) (sym (passed slots)) (late slots), refl)
+  untouched m k y passed late = refuses m h k y held.is.sound (λ slots. refused_late (m (with_slots slots h)) y (passed slots) (late slots))
 
   pub untouched_iol_read : (k : KernelState) (y : Refusal) → first (reading.iol_read (machine_of [] h) x.domain x.fd x.count).refusals ≡ None → WantOfRoomOrFault (pool_read h x) x.file y → k ≡ h → (disk : Disk) → Serves (λ s. reading.iol_read s x.domain x.fd x.count) disk h (Err y) disk k
   untouched_iol_read k y passed late = untouched (λ s. reading.iol_read s x.domain x.fd x.count) k y (λ slots. iol_read-tests slots h x.domain x.fd x.count ∙ passed) (λ slots. late_at slots y late)
@@ -227,27 +249,43 @@ module _ (x : FileRead) (h : KernelState) (sound : IsSound h) (live : (domain_in
   untouched_read k y passed late = untouched (λ s. reading.read s x.domain x.fd x.count) k y (λ slots. read-tests slots h x.domain x.fd x.count ∙ passed) (λ slots. late_at slots y late)
 
   -- what stays of the domain's row
-  pub row_moved : (len : ℕ) → domain_in (moved_on h.domains x len) x.domain ≡ record (domain_in h.domains x.domain) { fds = moved_fds len }
-  row_moved len = domain_in-with_same h.domains x.domain (record (domain_in h.domains x.domain) { fds = moved_fds len }) live
+  row_moved : (len : ℕ) → domain_in (moved_on h.domains x len) x.domain ≡ record (domain_in h.domains x.domain) { fds = moved_fds len }
+  row_moved len = domain_in-with_same h.domains x.domain (record (domain_in h.domains x.domain) { fds = moved_fds len }) (row_live held)
+
+  -- the position moved on, in a table that was as it was
+  module _ {ds es : Domains} (len : ℕ) (same : ds ≡ h.domains) (set : es ≡ moved_on ds x len) where
+    pub moved_here : es ≡ moved_on h.domains x len
+    moved_here = set ∙ ap (λ (ys : Domains). moved_on ys x len) same
+
+    row : domain_in es x.domain ≡ record (domain_in h.domains x.domain) { fds = moved_fds len }
+    row = ap (λ (ys : Domains). domain_in ys x.domain) moved_here ∙ row_moved len
+
+    pub live_moved : (domain_in es x.domain).live ≡ true
+    live_moved = ap (λ (y : Domain (List Slice)). y.live) row ∙ row_live held
+
+    pub next_moved : (domain_in es x.domain).next_agg ≡ (domain_in h.domains x.domain).next_agg
+    next_moved = ap (λ (y : Domain (List Slice)). y.next_agg) row
+
+    pub agg_added : {fs : Domains} (xs : List Slice) → fs ≡ with_agg_in es x.domain xs → len ≡ byte_len xs → fs ≡ with_agg_in (moved_on h.domains x (byte_len xs)) x.domain xs
+    agg_added xs added long = added ∙ ap (λ (ys : Domains). with_agg_in ys x.domain xs) (moved_here ∙ ap (moved_on h.domains x) long)
 
 pub pooled_text : (s : Stored) (p : ℕ) (xs : List Slice) → AreOf p xs → text_of s xs ≡ labelled p (bytes_of (text_of s xs))
 pooled_text s p xs all = own_text s p (places xs) (own_places p xs (All-weaker (λ (y : Slice). y.hold.pool ≡ p) (λ (y : Slice). (y.hold.pool == p) ≡ true) (λ y e. grind (arith, nat_tests, e)) xs all.each))
 
 -- A file was read, or not, and the cache went on.
 
-module _ (x : FileRead) (disk after : Disk) (h : KernelState) (t : Stored) (c : Cached) (sound : IsSound h) (live : (domain_in h.domains x.domain).live ≡ true) (from : in_place (domain_in h.domains x.domain).fds x.fd ≡ Some (on.File x.file x.at x.mode))
-    (kept : cache.IsSound t c) (honest : after.honest ≡ disk.honest) (slots_same : disk.honest ≡ true → after.slots ≡ disk.slots) (backed : IsBackedBy disk h → IsBacked after (over t c)) where
+module _ {x : FileRead} {h : KernelState} (disk after : Disk) (t : Stored) (c : Cached) (held : IsOpenAt h x) (kept : cache.IsSound t c) (honest : after.honest ≡ disk.honest) (slots_same : disk.honest ≡ true → after.slots ≡ disk.slots) (backed : IsBackedBy disk h → IsBacked after (over t c)) where
   abbrev own : List (List ℕ)
   own = (machine_of disk.slots h).slots
 
-  own_moved : (len : ℕ) → (machine_of disk.slots (moved x h sound live from len)).slots ≡ own
+  own_moved : (len : ℕ) → (machine_of disk.slots (moved held len)).slots ≡ own
   unfolding read_of state_view
   own_moved len = refl
 
   -- what an honest store gives lies in the machine's file
   own_have : (bytes : List ℕ) → bytes ≡ bytes_read h.store disk.slots h.cache x.file x.at x.count → take x.count (drop x.at (machine.content (with_slots own h) x.file)) ≡ bytes
   own_have bytes is =
-      let here = slot_here x h sound live from in
+      let here = slot_here held in
       ap (λ b. take x.count (drop x.at b)) (slot_bytes disk.slots h x.file here.0 here.1) ∙ sym is
 
   -- from steps with any bytes of files
@@ -266,48 +304,36 @@ module _ (x : FileRead) (disk after : Disk) (h : KernelState) (t : Stored) (c : 
   -- It was refused.
   module _ (goes : Goes disk [] [] (holding_of h) (over t c)) where
     abbrev pub unread : KernelState
-    unread = refilled disk [] h t c sound goes kept h.domains
-
-    unread_step : {A : Type 0} (m : State → Meaning A) (y : Refusal) (slots : List (List ℕ)) → first (m (with_slots slots h)).refusals ≡ None → (m (with_slots slots h)).Late y → Step (m (with_slots slots h)) (with_slots slots h) (Err y) (with_slots slots unread)
-    unread_step m y slots passed late = (subst (λ (o : Option Refusal). MatchOption o ((m (with_slots slots h)).Late y) (λ z. y ≡ z)) (sym passed) late, with_slots-refilled disk [] h t c sound goes kept slots)
-
-    late_here : (y : Refusal) (slots : List (List ℕ)) → WantOfRoomOrFault (pool_read h x) x.file y → reading.read_late (with_slots slots h) (machine.descriptor (with_slots slots h) x.domain x.fd) y
-    late_here y slots late =
-        late_read (with_slots slots h) x.domain x.fd x.file x.at x.count x.mode (from_file x h sound live from slots) y
-        (subst (λ p. WantOfRoomOrFault p x.file y) (sym (pool-with_slots slots h x.file sound.filed)) late)
+    unread = refilled disk [] h t c held.is.sound goes kept h.domains
 
     unread_machine : IsBackedBy disk h → machine_of after.slots unread ≡ with_slots own unread
-    unread_machine b = machine-refilled disk [] h t c sound goes kept h.domains after.slots b (slots_same b.honest)
+    unread_machine b = machine-refilled disk [] h t c held.is.sound goes kept h.domains after.slots b (slots_same b.honest)
 
     unread_sound : IsSound unread
-    unread_sound = still_sound disk [] h t c sound goes kept refl
+    unread_sound = still_sound disk [] h t c held.is.sound goes kept refl
 
-    pub refused_iol_read : (y : Refusal) → first (reading.iol_read (machine_of [] h) x.domain x.fd x.count).refusals ≡ None → WantOfRoomOrFault (pool_read h x) x.file y → Serves (λ s. reading.iol_read s x.domain x.fd x.count) disk h (Err y) after unread
-    refused_iol_read y passed late =
-        let m : State → Meaning ℕ = λ s. reading.iol_read s x.domain x.fd x.count in
+    refused : {A : Type 0} (m : State → Meaning A) (y : Refusal) → ((slots : List (List ℕ)) → first (m (with_slots slots h)).refusals ≡ None) → ((slots : List (List ℕ)) → (m (with_slots slots h)).Late y) → Serves m disk h (Err y) after unread
+    refused m y passed late =
         let step : (slots : List (List ℕ)) → Step (m (with_slots slots h)) (with_slots slots h) (Err y) (with_slots slots unread) =
-        λ slots. unread_step m y slots (iol_read-tests slots h x.domain x.fd x.count ∙ passed) (late_here y slots late) in
+        λ slots. (refused_late (m (with_slots slots h)) y (passed slots) (late slots), with_slots-refilled disk [] h t c held.is.sound goes kept slots) in
         serve m (Err y) unread [] unread_machine (λ b. step own) (step []) refl refl refl unread_sound goes.moves.stays
-
-    -- in a table that is as it was
-    pub refused_as : (ds : Domains) (y : Refusal) → ds ≡ h.domains → first (reading.iol_read (machine_of [] h) x.domain x.fd x.count).refusals ≡ None → WantOfRoomOrFault (pool_read h x) x.file y → Serves (λ s. reading.iol_read s x.domain x.fd x.count) disk h (Err y) after (record h { store = t; domains = ds; cache = c })
-    refused_as ds y same passed late =
-        subst (λ (ys : Domains). Serves (λ s. reading.iol_read s x.domain x.fd x.count) disk h (Err y) after (record h { store = t; domains = ys; cache = c })) (sym same) (refused_iol_read y passed late)
 
     pub refused_read : (y : Refusal) → first (reading.read (machine_of [] h) x.domain x.fd x.count).refusals ≡ None → WantOfRoomOrFault (pool_read h x) x.file y → Serves (λ s. reading.read s x.domain x.fd x.count) disk h (Err y) after unread
-    refused_read y passed late =
-        let m : State → Meaning (List ℕ) = λ s. reading.read s x.domain x.fd x.count in
-        let step : (slots : List (List ℕ)) → Step (m (with_slots slots h)) (with_slots slots h) (Err y) (with_slots slots unread) =
-        λ slots. unread_step m y slots (read-tests slots h x.domain x.fd x.count ∙ passed) (late_here y slots late) in
-        serve m (Err y) unread [] unread_machine (λ b. step own) (step []) refl refl refl unread_sound goes.moves.stays
+    refused_read y passed late = refused (λ s. reading.read s x.domain x.fd x.count) y (λ slots. read-tests slots h x.domain x.fd x.count ∙ passed) (λ slots. late_at held slots y late)
+
+    -- in a table that is as it was
+    pub refused_iol_read : (ds : Domains) (y : Refusal) → ds ≡ h.domains → first (reading.iol_read (machine_of [] h) x.domain x.fd x.count).refusals ≡ None → WantOfRoomOrFault (pool_read h x) x.file y → Serves (λ s. reading.iol_read s x.domain x.fd x.count) disk h (Err y) after (record h { store = t; domains = ds; cache = c })
+    refused_iol_read ds y same passed late =
+        subst (λ (ys : Domains). Serves (λ s. reading.iol_read s x.domain x.fd x.count) disk h (Err y) after (record h { store = t; domains = ys; cache = c })) (sym same)
+        (refused (λ s. reading.iol_read s x.domain x.fd x.count) y (λ slots. iol_read-tests slots h x.domain x.fd x.count ∙ passed) (λ slots. late_at held slots y late))
 
   -- Its bytes were copied out.
   module _ (bytes : List ℕ) (goes : Goes disk [] [] (holding_of h) (over t c)) (short : length bytes ≤ x.count) (fits : x.at + length bytes ≤ MAX_FILE_BYTES) where
     abbrev on' : KernelState
-    on' = moved x h sound live from (length bytes)
+    on' = moved held (length bytes)
 
     pub sound_on : IsSound on'
-    sound_on = moved_sound x h sound live from (length bytes) fits
+    sound_on = moved_sound held (length bytes) fits
 
     abbrev pub copied : KernelState
     copied = refilled disk [] on' t c sound_on goes kept on'.domains
@@ -318,11 +344,11 @@ module _ (x : FileRead) (disk after : Disk) (h : KernelState) (t : Stored) (c : 
     copied_step : (slots : List (List ℕ)) → first (reading.read (machine_of [] h) x.domain x.fd x.count).refusals ≡ None → take x.count (drop x.at (machine.content (with_slots slots h) x.file)) ≡ bytes
         → Step (reading.read (with_slots slots h) x.domain x.fd x.count) (with_slots slots h) (Ok bytes) (with_slots slots copied)
     copied_step slots passed have =
-        let from' = from_file x h sound live from slots in
-        let is = asked_there x h sound live from slots copied_text (ap (labelled (pool_read h x)) (sym (bytes_of-labelled (pool_read h x) bytes))) (have ∙ sym (bytes_of-labelled (pool_read h x) bytes)) in (
+        let from' = from_file held slots in
+        let is = asked_there held slots copied_text (ap (labelled (pool_read h x)) (sym (bytes_of-labelled (pool_read h x) bytes))) (have ∙ sym (bytes_of-labelled (pool_read h x) bytes)) in (
           read-tests slots h x.domain x.fd x.count ∙ passed,
           sym (bytes_of-labelled (pool_read h x) bytes) ∙ read-answer (with_slots slots h) x.domain x.fd x.file x.at x.count x.mode from' copied_text is,
-          with_slots-refilled disk [] on' t c sound_on goes kept slots ∙ moved-with_slots x h sound live from slots (length bytes)
+          with_slots-refilled disk [] on' t c sound_on goes kept slots ∙ moved-with_slots held slots (length bytes)
               ∙ ap (λ l. fds.with_descriptor (with_slots slots h) x.domain x.fd (Some (on.File x.file (x.at + l) x.mode))) (sym (length-map bytes (λ b. (b, pool_read h x))))
               ∙ read-after (with_slots slots h) x.domain x.fd x.file x.at x.count x.mode from' copied_text is,
         )
@@ -332,16 +358,16 @@ module _ (x : FileRead) (disk after : Disk) (h : KernelState) (t : Stored) (c : 
         serve (λ s. reading.read s x.domain x.fd x.count) (Ok bytes) copied (told x.file x.at bytes)
         (λ b. machine-refilled disk [] on' t c sound_on goes kept on'.domains after.slots b (slots_same b.honest) ∙ ap (λ (slots : List (List ℕ)). with_slots slots copied) (own_moved (length bytes)))
         (λ b. copied_step own passed (own_have bytes (given b)))
-        (copied_step (told x.file x.at bytes) passed (some_have x h sound live from bytes short))
+        (copied_step (told x.file x.at bytes) passed (some_have held bytes short))
         refl refl refl (still_sound disk [] on' t c sound_on goes kept refl) goes.moves.stays
 
   -- Its bytes are the next aggregate.
   module _ (xs : List Slice) (goes : Goes disk [] (bufs_of xs) (holding_of h) (over t c)) (short : byte_len xs ≤ x.count) (fits : x.at + byte_len xs ≤ MAX_FILE_BYTES) (pooled : AreOf (pool_read h x) xs) where
     abbrev now : KernelState
-    now = moved x h sound live from (byte_len xs)
+    now = moved held (byte_len xs)
 
     pub now_sound : IsSound now
-    now_sound = moved_sound x h sound live from (byte_len xs) fits
+    now_sound = moved_sound held (byte_len xs) fits
 
     abbrev pub given : KernelState
     given = refilled disk (bufs_of xs) now t c now_sound goes kept (with_agg_in now.domains x.domain xs)
@@ -349,24 +375,24 @@ module _ (x : FileRead) (disk after : Disk) (h : KernelState) (t : Stored) (c : 
     given_step : (slots : List (List ℕ)) (a : ℕ) → a ≡ (domain_in h.domains x.domain).next_agg → first (reading.iol_read (machine_of [] h) x.domain x.fd x.count).refusals ≡ None → take x.count (drop x.at (machine.content (with_slots slots h) x.file)) ≡ bytes_of (text_of t xs)
         → Step (reading.iol_read (with_slots slots h) x.domain x.fd x.count) (with_slots slots h) (Ok a) (with_slots slots given)
     given_step slots a number passed have =
-        let from' = from_file x h sound live from slots in
+        let from' = from_file held slots in
         let text : Text = text_of t xs in (
           iol_read-tests slots h x.domain x.fd x.count ∙ passed,
           number ∙ sym (next_agg-with_slots slots h x.domain),
           agg-with_slots slots (refilled disk (bufs_of xs) now t c now_sound goes kept now.domains) x.domain xs
-              ∙ ap (λ (s : State). aggs.with_agg s x.domain text) (with_slots-refilled disk (bufs_of xs) now t c now_sound goes kept slots ∙ moved-with_slots x h sound live from slots (byte_len xs))
+              ∙ ap (λ (s : State). aggs.with_agg s x.domain text) (with_slots-refilled disk (bufs_of xs) now t c now_sound goes kept slots ∙ moved-with_slots held slots (byte_len xs))
               ∙ ap (λ l. aggs.with_agg (fds.with_descriptor (with_slots slots h) x.domain x.fd (Some (on.File x.file (x.at + l) x.mode))) x.domain text) (sym (length-text_of t xs))
-              ∙ iol_read-after (with_slots slots h) x.domain x.fd x.file x.at x.count x.mode from' text (asked_there x h sound live from slots text (pooled_text t (pool_read h x) xs pooled) have),
+              ∙ iol_read-after (with_slots slots h) x.domain x.fd x.file x.at x.count x.mode from' text (asked_there held slots text (pooled_text t (pool_read h x) xs pooled) have),
         )
 
     abbrev moved_row : Domain (List Slice)
-    moved_row = record (domain_in h.domains x.domain) { fds = moved_fds x h sound live from (byte_len xs) }
+    moved_row = record (domain_in h.domains x.domain) { fds = moved_fds held (byte_len xs) }
 
     live_on : (domain_in now.domains x.domain).live ≡ true
-    live_on = ap (λ (y : Domain (List Slice)). y.live) (domain_in-with_same h.domains x.domain moved_row live) ∙ live
+    live_on = ap (λ (y : Domain (List Slice)). y.live) (domain_in-with_same h.domains x.domain moved_row (row_live held)) ∙ row_live held
 
     few_on : live_aggs_in h.domains < MAX_AGGREGATES → live_aggs_in now.domains < MAX_AGGREGATES
-    few_on few = omega (arith, few, sum-with_domain (λ (y : Domain (List Slice)). length y.aggs) h.domains x.domain moved_row live)
+    few_on few = omega (arith, few, sum-with_domain (λ (y : Domain (List Slice)). length y.aggs) h.domains x.domain moved_row (row_live held))
 
     pub given_serves : (a : ℕ) → a ≡ (domain_in h.domains x.domain).next_agg → first (reading.iol_read (machine_of [] h) x.domain x.fd x.count).refusals ≡ None → live_aggs_in h.domains < MAX_AGGREGATES → AllReadable t xs
         → (IsBackedBy disk h → text_of t xs ≡ labelled (pool_read h x) (bytes_read h.store disk.slots h.cache x.file x.at x.count)) → Serves (λ s. reading.iol_read s x.domain x.fd x.count) disk h (Ok a) after given
@@ -376,7 +402,7 @@ module _ (x : FileRead) (disk after : Disk) (h : KernelState) (t : Stored) (c : 
         serve (λ s. reading.iol_read s x.domain x.fd x.count) (Ok a) given (told x.file x.at bytes)
         (λ b. machine-refilled disk (bufs_of xs) now t c now_sound goes kept (with_agg_in now.domains x.domain xs) after.slots b (slots_same b.honest) ∙ ap (λ (slots : List (List ℕ)). with_slots slots given) (own_moved (byte_len xs)))
         (λ b. given_step own a number passed (own_have bytes (ap bytes_of (text b) ∙ bytes_of-labelled (pool_read h x) (bytes_read h.store disk.slots h.cache x.file x.at x.count))))
-        (given_step (told x.file x.at bytes) a number passed (some_have x h sound live from bytes long))
+        (given_step (told x.file x.at bytes) a number passed (some_have held bytes long))
         refl refl refl (gained_sound disk (bufs_of xs) now t c now_sound goes kept x.domain xs refl live_on (few_on few) (omega (arith, fits)) readable) goes.moves.stays
 
     -- in a table that has it so

@@ -1,25 +1,22 @@
 -- What a read of a file leaves of a kernel, from what the cache of files promises of it.
-use Rattle.std.proofs.Common.{◌≡◌, ◌⊎◌, ℕ, ◌+◌, ◌≤◌, List, [], ◌∷◌, ◌++◌, length, ap, refl, sym, subst, arith, Some, true, inl, inr, length-append}
+use Rattle.std.proofs.Common.{◌≡◌, ◌⊎◌, ℕ, ◌+◌, ◌≤◌, List, [], ◌∷◌, ◌++◌, length, ap, refl, sym, subst, arith, Some, None, true, inl, inr, length-append}
 use Rattle.std.specs.Prelude.{Ok, Err}
-use Rattle.iol_core.specs.Numbered.{in_place, is_numbered}
 use Rattle.iol_core.specs.State.{Domain}
-use Rattle.iol_core.specs.Text.{bytes_of}
-use Rattle.iol_core.specs.Meaning.{WantOfRoomOrFault}
-use Rattle.iol_core.specs.declared.descriptors.Descriptor.TheVariants as on
+use Rattle.iol_core.specs.Meaning.{first, WantOfRoomOrFault}
+use Rattle.iol_core.specs.Calls.Reading as reading
 use Rattle.iol_core.specs.declared.limits.TheConstants.{MAX_FILE_BYTES}
 use Rattle.iol_core.specs.declared.refusals.Refusal.{Refusal}
 use Rattle.iol_core.specs.declared.refusals.Refusal.TheVariants as refusal
+use Rattle.iol_core.specs.declared.refusals.Refusal.TheVariants.{Memory}
 use Rattle.iol_back.specs.Disk.{Disk}
 use Rattle.iol_extent.specs.Extents.{Extent}
 use Rattle.iol_extent.specs.Spans.{AreInOrder}
 use Rattle.iol_extent.specs.declared.spans.Span.{Span}
-use Rattle.iol_hold.specs.Moves.{Moves, SameLists}
+use Rattle.iol_hold.specs.Moves.{SameLists}
 use Rattle.iol_hold.specs.Places.{byte_len}
 use Rattle.iol_hold.specs.Stored.{Stored}
-use Rattle.iol_hold.specs.Texts.{bufs_of, text_of}
 use Rattle.iol_hold.specs.declared.slices.Slice.{Slice}
 use Rattle.iol_hold.proofs.Releasing.{frees_none}
-use Rattle.iol_desc.specs.Tables.{domain_in, with_agg_in}
 use Rattle.iol_cache.specs.Cached.{Cached, extents_in}
 use Rattle.iol_cache.specs.Evicting.{Holding}
 use Rattle.iol_cache.specs.Keeping.{SameExtents}
@@ -32,9 +29,10 @@ use Rattle.iol_cache.proofs.RangeReads.Met.{refused_met}
 use Rattle.iol_cache.proofs.RangeReads.Paging.{fills_none}
 use Rattle.iol_cache.proofs.RangeReads.Shared.{length-places_over}
 use Rattle.iol_kernel.specs.Backed.{holding_of}
-use Rattle.iol_kernel.specs.FileReading.{CopiesFileAs, FileRead, GivesCopy, GivesRead, IsBeforeRoom, LeavesAtRefusal, ReadsFileAs, moved_on, pool_read}
-use Rattle.iol_kernel.specs.KernelState.{KernelState, objects_of, IsSound}
-use Rattle.iol_kernel.proofs.FileCalls.FileReads.{numbered_here}
+use Rattle.iol_kernel.specs.FileReading.{CopiesFileAs, FileRead, IsBeforeRoom, IsOpenAt, LeavesAtRefusal, ReadsFileAs, TakesFromFile, pool_read}
+use Rattle.iol_kernel.specs.KernelState.{KernelState, objects_of, IsSound, machine_of}
+use Rattle.iol_kernel.proofs.FileCalls.FileReads.{numbered_here, position_short, untouched_iol_read}
+use Rattle.iol_kernel.proofs.FileCalls.FileTests.{refuses_iol_read}
 use Rattle.iol_kernel.specs.Keeping.{LacksPagesToRead}
 use Rattle.iol_kernel.proofs.FileCalls.Kept.{keeps_same, read_unless, refused_unless}
 use Rattle.iol_kernel.proofs.FileCalls.Named.{cache_sound}
@@ -47,42 +45,13 @@ Domains = List (Domain (List Slice))
 -- A refusal tells the same of room and of failures, whatever the answer would have been.
 
 room_told : (A B : Type 0) (has lacks : Type 0) (y : Refusal) → TellsRoom {A = A} has lacks (Err y) → TellsRoom {A = B} has lacks (Err y)
-room_told A B has lacks refusal.NoDomain h = h
-room_told A B has lacks refusal.BadFd h = h
-room_told A B has lacks refusal.BadAgg h = h
-room_told A B has lacks refusal.NoPool h = h
-room_told A B has lacks refusal.NoFile h = h
-room_told A B has lacks refusal.WrongMode h = h
-room_told A B has lacks refusal.BadRange h = h
-room_told A B has lacks refusal.TooLong h = h
-room_told A B has lacks refusal.TooMany h = h
-room_told A B has lacks (refusal.Denied p) h = h
-room_told A B has lacks (refusal.PoolClosed p) h = h
-room_told A B has lacks (refusal.PoolBusy p) h = h
-room_told A B has lacks refusal.BrokenPipe h = h
-room_told A B has lacks refusal.WouldBlock h = h
 room_told A B has lacks (refusal.NoRoom p) h = h
 room_told A B has lacks (refusal.Fault f) h = h
-room_told A B has lacks refusal.Memory h = h
+room_told A B has lacks y h = h
 
 counts_told : (A B : Type 0) (old new : Disk) (y : Refusal) → FaultCounts {A = A} old new (Err y) → FaultCounts {A = B} old new (Err y)
-counts_told A B old new refusal.NoDomain h = h
-counts_told A B old new refusal.BadFd h = h
-counts_told A B old new refusal.BadAgg h = h
-counts_told A B old new refusal.NoPool h = h
-counts_told A B old new refusal.NoFile h = h
-counts_told A B old new refusal.WrongMode h = h
-counts_told A B old new refusal.BadRange h = h
-counts_told A B old new refusal.TooLong h = h
-counts_told A B old new refusal.TooMany h = h
-counts_told A B old new (refusal.Denied p) h = h
-counts_told A B old new (refusal.PoolClosed p) h = h
-counts_told A B old new (refusal.PoolBusy p) h = h
-counts_told A B old new refusal.BrokenPipe h = h
-counts_told A B old new refusal.WouldBlock h = h
-counts_told A B old new (refusal.NoRoom p) h = h
 counts_told A B old new (refusal.Fault f) h = h
-counts_told A B old new refusal.Memory h = h
+counts_told A B old new y h = h
 
 pub fault_told : (A B : Type 0) (old new : Disk) (y : Refusal) → TellsFault {A = A} old new (Err y) → TellsFault {A = B} old new (Err y)
 fault_told A B old new y told = record { honest = told.honest; slots = told.slots; counts = counts_told A B old new y told.counts }
@@ -128,16 +97,30 @@ length-read old new at to (g ∷ gs) order =
     omega (arith, length-append (A ++ B) (places_read old new g.to to gs), length-append A B, length-places_over old at g.from, length-places_over new g.from g.to, length-read old new g.to to gs order.2, order.0, order.1)
 
 -- a read does not go beyond where a file may end
-pub read_fits : (f at n : ℕ) (disk : Disk) (a c : Holding) (xs : List Slice) → ReadsFile f at n disk a c xs → at ≤ MAX_FILE_BYTES → at + byte_len xs ≤ MAX_FILE_BYTES
-read_fits f at n disk a c xs reads short =
+pub read_fits : {x : FileRead} {h : KernelState} {n : ℕ} {disk : Disk} {a c : Holding} {xs : List Slice} → IsOpenAt h x → ReadsFile x.file x.at n disk a c xs → x.at + byte_len xs ≤ MAX_FILE_BYTES
+read_fits {x} {h} {n} {disk} {a} {c} {xs} held reads =
     let r = reads.reads in
-    omega (arith, short, ap length r.lies, length-read (extents_in a.cache.files f) (extents_in c.cache.files f) reads.range.from reads.range.to r.gaps r.pinned.tile.gaps, reads.range.begins, reads.range.stops, reads.range.ends.short)
+    omega (arith, position_short held, ap length r.lies, length-read (extents_in a.cache.files x.file) (extents_in c.cache.files x.file) reads.range.from reads.range.to r.gaps r.pinned.tile.gaps, reads.range.begins, reads.range.stops, reads.range.ends.short)
 
-module _ (x : FileRead) (disk after : Disk) (h : KernelState) (t : Stored) (c : Cached) (sound : IsSound h) (live : (domain_in h.domains x.domain).live ≡ true) (from : in_place (domain_in h.domains x.domain).fds x.fd ≡ Some (on.File x.file x.at x.mode))
-    (pages : FillsLowest (pool_read h x) h.store t) (lists : SameLists h.store t) where
-  there : is_numbered h.cache.files x.file ≡ true
-  there = numbered_here x h sound live from
+-- A read by reference that has changed nothing: it was refused at once, or found no memory.
 
+pub takes_nothing : {x : FileRead} {h : KernelState} → IsOpenAt h x → (disk : Disk) (y : Refusal) → first (reading.iol_read (machine_of [] h) x.domain x.fd x.count).refusals ≡ Some y → TellsRoom {A = ℕ} (RoomToRead x.file x.at x.count disk (holding_of h)) (NoRoomToRead x.file x.at x.count disk (holding_of h)) (Err y) → FaultCounts {A = ℕ} disk disk (Err y) → IsBeforeRoom y → TakesFromFile x disk h (Err y) disk h
+takes_nothing {x} {h} held disk y is room counts before = record {
+  serves = refuses_iol_read h h x.domain x.fd x.count y held.is.sound is refl disk;
+  reads = reads_nothing {A = ℕ} x disk h h y refl room counts before;
+  gives = tt;
+}
+
+pub takes_unmade : {x : FileRead} {h : KernelState} {ds : Domains} → IsOpenAt h x → (disk : Disk) → ds ≡ h.domains → first (reading.iol_read (machine_of [] h) x.domain x.fd x.count).refusals ≡ None → TakesFromFile x disk h (Err Memory) disk (record h { domains = ds })
+takes_unmade {x} {h} {ds} held disk kept passed =
+    let same : ◌≡◌ {A = KernelState} (record h { domains = ds }) h = ap (λ (ys : Domains). record h { domains = ys }) kept in
+    record {
+      serves = untouched_iol_read held (record h { domains = ds }) Memory passed tt same disk;
+      reads = reads_nothing {A = ℕ} x disk h (record h { domains = ds }) Memory same tt refl tt;
+      gives = tt;
+    }
+
+module _ {x : FileRead} {h : KernelState} (disk after : Disk) (t : Stored) (c : Cached) (held : IsOpenAt h x) (pages : FillsLowest (pool_read h x) h.store t) (lists : SameLists h.store t) where
   abbrev has : Type 0
   has = RoomToRead x.file x.at x.count disk (holding_of h)
 
@@ -146,7 +129,7 @@ module _ (x : FileRead) (disk after : Disk) (h : KernelState) (t : Stored) (c : 
 
   pub reads_refused : (A B : Type 0) (y : Refusal) (ds : Domains) → ds ≡ h.domains → RefusesRead x.file x.at x.count disk (holding_of h) (over t c) y → TellsRoom {A = A} has lacks (Err y) → TellsFault {A = A} disk after (Err y) → WantOfRoomOrFault (pool_read h x) x.file y → ReadsFileAs {A = B} x disk h (Err y) after (record h { store = t; domains = ds; cache = c })
   reads_refused A B y ds kept refused room fault late = record {
-    keeps = refused_unless x.file x.at x.count disk (holding_of h) (over t c) y (apart_of {h = holding_of h} (cache_sound h sound)) refused;
+    keeps = refused_unless x.file x.at x.count disk (holding_of h) (over t c) y (apart_of {h = holding_of h} (cache_sound h held.is.sound)) refused;
     pages = pages;
     lists = lists;
     room = room_told A B has lacks y room;
@@ -158,7 +141,7 @@ module _ (x : FileRead) (disk after : Disk) (h : KernelState) (t : Stored) (c : 
 
   pub reads_done : {B : Type 0} (r : B) (xs : List Slice) (m : Stored) (ds : Domains) → ReadsFile x.file x.at x.count disk (holding_of h) (over m c) xs → has → after.failures ≡ disk.failures → after.honest ≡ disk.honest → (disk.honest ≡ true → after.slots ≡ disk.slots) → ReadsFileAs {A = B} x disk h (Ok r) after (record h { store = t; domains = ds; cache = c })
   reads_done r xs m ds reads room counts honest slots = record {
-    keeps = read_unless x.file x.at x.count disk (holding_of h) (over m c) xs there (apart_of {h = holding_of h} (cache_sound h sound)) reads;
+    keeps = read_unless x.file x.at x.count disk (holding_of h) (over m c) xs (numbered_here held) (apart_of {h = holding_of h} (cache_sound h held.is.sound)) reads;
     pages = pages;
     lists = lists;
     room = room;
@@ -166,20 +149,4 @@ module _ (x : FileRead) (disk after : Disk) (h : KernelState) (t : Stored) (c : 
     same = refl;
     refused = tt;
     leaves = tt;
-  }
-
-  pub gives_read : (xs : List Slice) (ds : Domains) → ReadsFile x.file x.at x.count disk (holding_of h) (over t c) xs → ds ≡ with_agg_in (moved_on h.domains x (byte_len xs)) x.domain xs → GivesRead x disk h (record h { store = t; domains = ds; cache = c })
-  gives_read xs ds reads added = record {
-    slices = xs;
-    read = reads;
-    domains = added;
-  }
-
-  pub gives_copy : (xs : List Slice) (s : Stored) (ds : Domains) (bytes : List ℕ) → bytes ≡ bytes_of (text_of t xs) → ReadsFile x.file x.at x.count disk (holding_of h) (over t c) xs → Moves t s (bufs_of xs) [] → ds ≡ moved_on h.domains x (byte_len xs) → GivesCopy x disk h t (record h { store = s; domains = ds; cache = c }) bytes
-  gives_copy xs s ds bytes copied reads released moved = record {
-    slices = xs;
-    copied = copied;
-    read = reads;
-    released = released;
-    domains = moved;
   }

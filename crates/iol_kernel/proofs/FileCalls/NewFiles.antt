@@ -74,34 +74,13 @@ not_long len no_more = grind (arith, nat_tests, no_more)
 not_full : (n : ℕ) → nat_le MAX_FILES n ≡ false → n < MAX_FILES
 not_full n no_more = grind (arith, nat_tests, no_more)
 
-pub next_short : (disk : Disk) (h : KernelState) (d p : ℕ) (name : List ℕ) → AreFiled h.files h.cache.files → first (calls.file_new (machine_of disk.slots h) d name p).refusals ≡ None → length (content disk.slots (length h.files + 1)) ≤ MAX_FILE_BYTES
+next_short : (disk : Disk) (h : KernelState) (d p : ℕ) (name : List ℕ) → AreFiled h.files h.cache.files → first (calls.file_new (machine_of disk.slots h) d name p).refusals ≡ None → length (content disk.slots (length h.files + 1)) ≤ MAX_FILE_BYTES
 next_short disk h d p name filed passed =
     let s : State = machine_of disk.slots h in
     let both = tests (not (machine.is_live s d)) (not (machine.is_pool s p)) (is_some (calls.file_called s name)) ((length name == 0) || nat_lt MAX_NAME_BYTES (length name)) (nat_lt MAX_FILE_BYTES (length (machine.content s (length s.files + 1)))) (nat_le MAX_FILES (length s.files))
     (not (machine.may_read s d p)) (machine.pool s p).closed p passed in
     let few : length h.files < MAX_FILES = subst (λ (fs : List machine.File). length fs < MAX_FILES) (files-read_of (bytes_over disk.slots h.store) h) (not_full (length s.files) both.1) in
     subst (λ n. n ≤ MAX_FILE_BYTES) (next-length (bytes_over disk.slots h.store) h disk.slots filed few refl) (not_long (length (machine.content s (length s.files + 1))) both.0)
-
--- a file is there
-pub names : (disk : Disk) (m : State → Meaning ℕ) (h k : KernelState) (n : ℕ) (stored : List (List ℕ)) → IfHonest disk (first (m (machine_of disk.slots h)).refusals ≡ None) → first (m (machine_of stored h)).refusals ≡ None
-    → IfHonest disk (length (content disk.slots (length h.files + 1)) ≤ MAX_FILE_BYTES) → AddsFile m h n k → Names disk m h (Ok n) k
-names disk m h k n stored passed aside short one = record {
-  step = λ honest. stepped disk.slots (passed honest);
-  backed = λ backed. one.backed disk (short backed.honest) backed;
-  beside = steps_beside m h k (Ok n) stored stored (stepped stored aside);
-  places = one.after;
-  store = one.store;
-  roomy = λ p e. cc e;
-  refused = tt;
-  sums = one.sums;
-  keeps = one.keeps;
-  same = one.same;
-  added = one.added;
-  sound = one.sound;
-}
-  where
-    stepped : (slots : List (List ℕ)) → first (m (machine_of slots h)).refusals ≡ None → Step (m (machine_of slots h)) (machine_of slots h) (Ok n) (machine_of slots k)
-    stepped slots none = (none, one.answer (bytes_over slots h.store) (keeps_bytes h.store), ap (λ (s : Stored). read_of (bytes_over slots s) k) one.store ∙ one.after (bytes_over slots h.store) (keeps_bytes h.store))
 
 -- a refusal changes nothing
 unnamed : (disk : Disk) (m : State → Meaning ℕ) (h k : KernelState) (x : Refusal) (stored : List (List ℕ)) → (let s : State = machine_of disk.slots h in IfHonest disk (Step (m s) s (Err x) s)) → (let s : State = machine_of stored h in Step (m s) s (Err x) s)
@@ -136,13 +115,48 @@ refused_late m s x none late = (subst (λ (o : Option Refusal). MatchOption o ((
 pub refused_always : (disk : Disk) (m : State → Meaning ℕ) (h : KernelState) (x : Refusal) → ((f : Reading) → first (m (read_of f h)).refusals ≡ Some x) → ((p : ℕ) → x ≡ NoRoom p → ⊥) → IsSound h → Names disk m h (Err x) h
 refused_always disk m h x is roomy sound = unnamed disk m h h x [] (λ honest. refused_first m (machine_of disk.slots h) x (is (bytes_over disk.slots h.store))) (refused_first m (machine_of [] h) x (is (bytes_over [] h.store))) roomy refl sound
 
--- one that comes after it
-pub refused_told : (disk : Disk) (m : State → Meaning ℕ) (h : KernelState) (x : Refusal) (stored : List (List ℕ)) → IfHonest disk (first (m (machine_of disk.slots h)).refusals ≡ Some x) → first (m (machine_of stored h)).refusals ≡ Some x → ((p : ℕ) → x ≡ NoRoom p → ⊥) → IsSound h → Names disk m h (Err x) h
-refused_told disk m h x stored is aside roomy sound = unnamed disk m h h x stored (λ honest. refused_first m (machine_of disk.slots h) x (is honest)) (refused_first m (machine_of stored h) x aside) roomy refl sound
+-- By what is told of the next slot: with the bytes that an honest store has, and with some bytes there.
 
--- and the late one
-pub refused_memory : (disk : Disk) (m : State → Meaning ℕ) (h k : KernelState) (stored : List (List ℕ)) → IfHonest disk (first (m (machine_of disk.slots h)).refusals ≡ None) → first (m (machine_of stored h)).refusals ≡ None → ((s : State) → (m s).Late Memory) → k ≡ h → IsSound h → Names disk m h (Err Memory) k
-refused_memory disk m h k stored passed aside late same sound = unnamed disk m h k Memory stored (λ honest. refused_late m (machine_of disk.slots h) Memory (passed honest) (late (machine_of disk.slots h))) (refused_late m (machine_of stored h) Memory aside (late (machine_of stored h))) (λ p e. cc e) same sound
+module _ (disk : Disk) (h : KernelState) (d p : ℕ) (name : List ℕ) {long : Bool} (honest : IfHonest disk ((f : Reading) → f.stored ≡ disk.slots → long ≡ nat_lt MAX_FILE_BYTES (length (machine.content (read_of f h) (length (read_of f h).files + 1))))) (told : TellsNext h long) (sound : IsSound h) where
+  abbrev m : State → Meaning ℕ
+  m s = calls.file_new s d name p
+
+  -- what the tests come to
+  abbrev Comes : Option Refusal → Type 0
+  Comes o = (f : Reading) → long ≡ nat_lt MAX_FILE_BYTES (length (machine.content (read_of f h) (length (read_of f h).files + 1))) → first (m (read_of f h)).refusals ≡ o
+
+  here : (o : Option Refusal) → Comes o → IfHonest disk (first (m (machine_of disk.slots h)).refusals ≡ o)
+  here o is i = is (bytes_over disk.slots h.store) (honest i (bytes_over disk.slots h.store) refl)
+
+  aside : (o : Option Refusal) → Comes o → first (m (machine_of told.stored h)).refusals ≡ o
+  aside o is = is (bytes_over told.stored h.store) (told.is (bytes_over told.stored h.store) refl)
+
+  pub refused_told : (x : Refusal) → Comes (Some x) → ((q : ℕ) → x ≡ NoRoom q → ⊥) → Names disk m h (Err x) h
+  refused_told x is roomy = unnamed disk m h h x told.stored (λ i. refused_first m (machine_of disk.slots h) x (here (Some x) is i)) (refused_first m (machine_of told.stored h) x (aside (Some x) is)) roomy refl sound
+
+  -- and the late one
+  pub refused_memory : (k : KernelState) → Comes None → k ≡ h → Names disk m h (Err Memory) k
+  refused_memory k is same = unnamed disk m h k Memory told.stored (λ i. refused_late m (machine_of disk.slots h) Memory (here None is i) tt) (refused_late m (machine_of told.stored h) Memory (aside None is) tt) (λ q e. cc e) same sound
+
+  -- a file is there
+  pub names : (k : KernelState) (n : ℕ) → Comes None → AddsFile m h n k → Names disk m h (Ok n) k
+  names k n is one = record {
+    step = λ i. stepped disk.slots (here None is i);
+    backed = λ backed. one.backed disk (next_short disk h d p name sound.filed (here None is backed.honest)) backed;
+    beside = steps_beside m h k (Ok n) told.stored told.stored (stepped told.stored (aside None is));
+    places = one.after;
+    store = one.store;
+    roomy = λ q e. cc e;
+    refused = tt;
+    sums = one.sums;
+    keeps = one.keeps;
+    same = one.same;
+    added = one.added;
+    sound = one.sound;
+  }
+    where
+      stepped : (slots : List (List ℕ)) → first (m (machine_of slots h)).refusals ≡ None → Step (m (machine_of slots h)) (machine_of slots h) (Ok n) (machine_of slots k)
+      stepped slots none = (none, one.answer (bytes_over slots h.store) (keeps_bytes h.store), ap (λ (s : Stored). read_of (bytes_over slots s) k) one.store ∙ one.after (bytes_over slots h.store) (keeps_bytes h.store))
 
 -- it is a call that may ask the store
 pub named_serves : (disk : Disk) (m : State → Meaning ℕ) (old new : KernelState) (r : Result ℕ Refusal) → Names disk m old r new → Serves m disk old r disk new

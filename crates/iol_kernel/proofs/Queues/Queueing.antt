@@ -13,7 +13,7 @@ use Rattle.iol_core.specs.State.{State, Domain}
 use Rattle.iol_core.specs.declared.descriptors.Descriptor.TheVariants as on
 use Rattle.iol_hold.specs.Stored.{Stored}
 use Rattle.iol_arena.specs.State.{page_count}
-use Rattle.iol_hold.specs.Moves.{Shares}
+use Rattle.iol_hold.specs.Moves.{Covers, Shares}
 use Rattle.iol_hold.specs.Places.{places, byte_len}
 use Rattle.iol_hold.specs.Texts.{bufs_of, AllReadable}
 use Rattle.iol_hold.specs.declared.slices.Slice.{Slice}
@@ -27,8 +27,9 @@ use Rattle.iol_desc.specs.Tables.{agg_in, domain_in, with_agg_in, live_aggs_in}
 use Rattle.iol_kernel.specs.Views.{Pipe}
 use Rattle.iol_kernel.specs.Counted.{IsCounted}
 use Rattle.iol_kernel.specs.KernelState.{KernelState, objects_of, Each, IsOpenEnd, IsPipeReadable, AreReadable, IsDomainReadable, IsShort, IsLimited, IsSound, queue_at, read_of}
+use Rattle.iol_kernel.specs.Opened.{IsOpenOn}
 use Rattle.iol_kernel.specs.Readings.{Reading, bytes_over}
-use Rattle.iol_kernel.proofs.State.Uses.{uses-set_pipe, uses-with_agg}
+use Rattle.iol_kernel.proofs.State.Uses.{queue_covered, uses-set_pipe, uses-with_agg}
 use Rattle.iol_kernel.proofs.State.Once.{once_same}
 use Rattle.iol_kernel.proofs.State.Sound.{with_pipes, each-get, each-set, each-weaker, agg_readable, add_readable, fds_stay, limits_agg}
 use Rattle.iol_kernel.proofs.Queues.Ends.{ends_queued, there_if_open}
@@ -38,7 +39,7 @@ use Rattle.iol_kernel.proofs.Queues.Opening.{end_held}
 use Rattle.iol_core.specs.declared.limits.TheConstants.{MAX_AGGREGATES, MAX_QUEUE_BYTES}
 use Rattle.iol_kernel.specs.Adding.{TakesFront}
 use Rattle.iol_kernel.proofs.Queues.Flowing.{fits, pushed-read, taken-read}
-use Rattle.iol_kernel.proofs.State.ReadOf.{next_agg-read_of}
+use Rattle.iol_kernel.proofs.State.ReadOf.{next_agg-read_of, open_row}
 use Rattle.iol_kernel.specs.Calls.{Answers}
 use Rattle.iol_kernel.specs.Queues.{with_queue_of}
 
@@ -95,8 +96,12 @@ module _ (h : KernelState) (t : Stored) (qs : List (Option (Pipe (List Slice))))
 pub writing_held : (f : Reading) (h : KernelState) (d fd p : ℕ) → IsSound h → machine.descriptor (read_of f h) d fd ≡ Some (on.WriteEnd p) → (queue_at h.pipes p).writing ≡ true
 writing_held f h d fd p sound is = end_held f h d fd (on.WriteEnd p) sound is
 
-pub reading_held : (f : Reading) (h : KernelState) (d fd p : ℕ) → IsSound h → machine.descriptor (read_of f h) d fd ≡ Some (on.ReadEnd p) → (queue_at h.pipes p).reading ≡ true
-reading_held f h d fd p sound is = end_held f h d fd (on.ReadEnd p) sound is
+pub reading_held : {h : KernelState} {d fd p : ℕ} → IsOpenOn h d fd (on.ReadEnd p) → (queue_at h.pipes p).reading ≡ true
+reading_held {h} {d} {fd} {p} held = end_held (bytes_over [] h.store) h d fd (on.ReadEnd p) held.sound (held.from (bytes_over [] h.store))
+
+-- its buffers are counted
+pub reading_covered : {h : KernelState} {d fd p : ℕ} → IsOpenOn h d fd (on.ReadEnd p) → Covers h.store (bufs_of (queue_at h.pipes p).queue)
+reading_covered {h} {d} {fd} {p} held = queue_covered h.store h.domains (objects_of h) p held.sound.counted (there_if_open h.pipes p (inl (reading_held held)))
 
 -- Reading: a domain gets the front.
 
@@ -172,19 +177,19 @@ not_readable (on.Connection c) other none no_file = absurd (none c refl)
 
 -- What the calls answer.
 
-pub taken_answers : (h : KernelState) (t : Stored) (ds : List (Domain (List Slice))) (qs : List (Option (Pipe (List Slice)))) (fd p d n a : ℕ) → (sound : IsSound h) → (from : (f : Reading) → machine.descriptor (read_of f h) d fd ≡ Some (on.ReadEnd p))
-    → TakesFront h.store t (queue_at h.pipes p).queue (queue_at qs p).queue h.domains ds d n → qs ≡ with_queue_of h.pipes p qs → (domain_in h.domains d).live ≡ true → live_aggs_in h.domains < MAX_AGGREGATES → a ≡ (domain_in h.domains d).next_agg
+pub taken_answers : (h : KernelState) (t : Stored) (ds : List (Domain (List Slice))) (qs : List (Option (Pipe (List Slice)))) (fd p d n a : ℕ) → IsOpenOn h d fd (on.ReadEnd p)
+    → TakesFront h.store t (queue_at h.pipes p).queue (queue_at qs p).queue h.domains ds d n → qs ≡ with_queue_of h.pipes p qs → live_aggs_in h.domains < MAX_AGGREGATES → a ≡ (domain_in h.domains d).next_agg
     → Answers (λ s. reading.iol_read s d fd n) h a (record h { store = t; domains = ds; pipes = qs })
-taken_answers h t ds qs fd p d n a sound from takes pipes' live few number =
-    let reading' = reading_held (bytes_over [] h.store) h d fd p sound (from (bytes_over [] h.store)) in
+taken_answers h t ds qs fd p d n a held takes pipes' few number =
+    let reading' = reading_held held in
     record {
       answer = λ f keeps. number ∙ sym (next_agg-read_of f h d);
-      after = λ f keeps. taken-read h t ds qs p d n reading' takes pipes' f keeps ∙ ap (λ (o : Option Descriptor). aggs.with_agg (reading.read_on (read_of f h) d fd o (length (reading.read_text (read_of f h) d o n))) d (reading.read_text (read_of f h) d o n)) (sym (from f));
+      after = λ f keeps. taken-read h t ds qs p d n reading' takes pipes' f keeps ∙ ap (λ (o : Option Descriptor). aggs.with_agg (reading.read_on (read_of f h) d fd o (length (reading.read_text (read_of f h) d o n))) d (reading.read_text (read_of f h) d o n)) (sym (held.from f));
       arena = takes.shares.arena;
       pools = takes.shares.pools;
       sums = refl;
       cache = refl;
-      sound = taken-sound h t ds qs p d n sound reading' takes pipes' live few;
+      sound = taken-sound h t ds qs p d n held.sound reading' takes pipes' (open_row held) few;
       stays = (shares_move takes.shares).stays;
     }
 

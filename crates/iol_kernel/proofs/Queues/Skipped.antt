@@ -27,8 +27,7 @@ use Rattle.iol_sock.specs.Table.{conn_in}
 use Rattle.iol_kernel.specs.Calls.{Leaves}
 use Rattle.iol_kernel.specs.Queues.{with_queue_of}
 use Rattle.iol_kernel.specs.Views.{Pipe, pipe_view}
-use Rattle.iol_kernel.specs.KernelState as held
-use Rattle.iol_kernel.specs.KernelState.{KernelState, objects_of, Each, AreReadable, IsConnReadable, IsPipeReadable, IsOpenEnd, IsSound, read_of, machine_of, queue_at}
+use Rattle.iol_kernel.specs.KernelState.{KernelState, objects_of, Each, AreReadable, IsConn, IsConnReadable, IsPipeReadable, IsOpenEnd, IsSound, read_of, machine_of, queue_at}
 use Rattle.iol_kernel.proofs.Connections.Connecting.{conn_limit, conn_readable, turned, turned_fds, turned_leaves}
 use Rattle.iol_kernel.proofs.Connections.ConnQueues.{open_held, found_held, conn_at-read_of, incoming-read_of, with_on}
 use Rattle.iol_kernel.proofs.State.Effects.{leaves, moved-sound}
@@ -40,6 +39,7 @@ use Rattle.iol_kernel.proofs.State.ReadOf.{may_read-read_of, pipe_at-read_of, qu
 use Rattle.iol_kernel.proofs.State.Sound.{each-set, each-weaker}
 use Rattle.iol_kernel.proofs.State.Uses.{uses-set_pipe}
 use Rattle.iol_kernel.proofs.State.Views.{pools-view, with_pipe-view}
+use Rattle.iol_kernel.specs.Opened.{IsOpenOn}
 use Rattle.iol_kernel.specs.Readings.{Reading, read, KeepsPools, bytes_over}
 
 -- What a reader may see of the first n bytes of a queue.
@@ -95,7 +95,7 @@ leaves_kept m n h k same one = record {
 
 -- Of a connection.
 
-module _ (h k : KernelState) (d fd c n count : ℕ) (sound : IsSound h) (from : (f : Reading) → machine.descriptor (read_of f h) d fd ≡ Some (on.Connection c)) (counted : count ≡ length (seen h.store.pools d n (conn_in h.conns c).incoming)) where
+module _ (h k : KernelState) (d fd c n count : ℕ) (held : IsOpenOn h d fd (on.Connection c)) (counted : count ≡ length (seen h.store.pools d n (conn_in h.conns c).incoming)) where
   abbrev x : Conn (List Slice)
   x = conn_in h.conns c
 
@@ -105,14 +105,14 @@ module _ (h k : KernelState) (d fd c n count : ℕ) (sound : IsSound h) (from : 
       counted
       ∙ sym (seen-count f keeps h d n x.incoming)
       ∙ ap (λ (t : Text). length (admitted (machine.may_read s d) (take n t))) (sym (incoming-read_of f h c))
-      ∙ ap (λ (o : Option Descriptor). length (reading.read_text s d o n)) (sym (from f))
+      ∙ ap (λ (o : Option Descriptor). length (reading.read_text s d o n)) (sym (held.from f))
 
   pub unread_bytes : take count (bytes_of (text_of h.store x.incoming)) ≡ (reading.read (machine_of [] h) d fd n).answer
   unread_bytes =
       let s : State = machine_of [] h in
       sym (seen-bytes h d n count x.incoming counted)
       ∙ ap (λ (t : Text). bytes_of (admitted (machine.may_read s d) (take n t))) (sym (incoming-read_of (bytes_over [] h.store) h c))
-      ∙ ap (λ (o : Option Descriptor). bytes_of (reading.read_text s d o n)) (sym (from (bytes_over [] h.store)))
+      ∙ ap (λ (o : Option Descriptor). bytes_of (reading.read_text s d o n)) (sym (held.from (bytes_over [] h.store)))
 
   pub unread_count : count ≡ length (reading.read (machine_of [] h) d fd n).answer
   unread_count = unread-count (bytes_over [] h.store) (keeps_bytes h.store) ∙ sym (length-map (reading.read_text (machine_of [] h) d (machine.descriptor (machine_of [] h) d fd) n) (λ (b : ℕ × ℕ). b.0))
@@ -123,38 +123,38 @@ module _ (h k : KernelState) (d fd c n count : ℕ) (sound : IsSound h) (from : 
     y = record x { incoming = (conn_in k.conns c).incoming }
 
     found : lookup h.conns c ≡ Some x
-    found = found_held h d fd c sound from
+    found = found_held h d fd c held.sound held.from
 
     was : IsConnReadable h.store (c, x)
-    was = conn_readable h c x sound found
+    was = conn_readable h c x held.sound found
 
-    limit : held.IsConn (c, y)
+    limit : IsConn (c, y)
     limit =
-        let l = conn_limit h c x sound found in
+        let l = conn_limit h c x held.sound found in
         record { incoming = omega (arith, l.incoming, ap length rest, length-drop count (places x.incoming)); outgoing = l.outgoing; waits = l.waits }
 
     abbrev skip : Connection → Connection
     skip w = record w { incoming = drop count w.incoming }
 
-    skipped : Leaves (λ s. record s { conns = changed s.conns c (skip (machine.conn_at s c)) }) h (turned h k.store c x y sound found)
-    skipped = turned_leaves h k.store c x y sound found (λ b. omega (arith, moves.counts.each b)) moves.stays (moves.tidy sound.tidy) (moves.still sound.still) (settles was.0 sound.settled) lists (keeps_pages_frees frees).count
-        (readable_rest (conn_in k.conns c).incoming x.incoming count rest was.0, was.1) limit refl (turned_fds h k.store c x y sound found (λ open'. open')) skip
+    skipped : Leaves (λ s. record s { conns = changed s.conns c (skip (machine.conn_at s c)) }) h (turned h k.store c x y held.sound found)
+    skipped = turned_leaves h k.store c x y held.sound found (λ b. omega (arith, moves.counts.each b)) moves.stays (moves.tidy held.sound.tidy) (moves.still held.sound.still) (settles was.0 held.sound.settled) lists (keeps_pages_frees frees).count
+        (readable_rest (conn_in k.conns c).incoming x.incoming count rest was.0, was.1) limit refl (turned_fds h k.store c x y held.sound found (λ open'. open')) skip
         (λ f. ap (λ (u : Text). record (conn_view (read f) x) { incoming = u }) (sym (read_rest f.at (conn_in k.conns c).incoming x.incoming count rest))) (keeps_pages_frees frees)
 
     as_read : (f : Reading) → KeepsPools f → (let s : State = read_of f h in record s { conns = changed s.conns c (skip (machine.conn_at s c)) }) ≡ (reading.read (read_of f h) d fd n).after
     as_read f keeps =
         let s : State = read_of f h in
-        let open' = open_held h d fd c sound from in
+        let open' = open_held h d fd c held.sound held.from in
         let w : Connection = conn_view (read f) x in
         ap (λ (z : Connection). record s { conns = changed s.conns c (skip z) }) (conn_at-read_of f h c)
         ∙ sym (with_on s c (skip w) open'.0 open'.1)
         ∙ ap (λ (z : Connection). machine.with_conn s c (skip z)) (sym (conn_at-read_of f h c))
         ∙ ap (λ m. machine.with_conn s c (record (machine.conn_at s c) { incoming = drop m (machine.conn_at s c).incoming })) (unread-count f keeps)
-        ∙ ap (λ (o : Option Descriptor). reading.read_on s d fd o (length (reading.read_text s d (machine.descriptor s d fd) n))) (sym (from f))
+        ∙ ap (λ (o : Option Descriptor). reading.read_on s d fd o (length (reading.read_text s d (machine.descriptor s d fd) n))) (sym (held.from f))
 
     pub unread_left : Leaves (λ s. (reading.read s d fd n).after) h k
     unread_left = subst (λ (l : KernelState). Leaves (λ s. (reading.read s d fd n).after) h l) (sym same)
-        (leaves_kept (λ s. record s { conns = changed s.conns c (skip (machine.conn_at s c)) }) (λ s. (reading.read s d fd n).after) h (turned h k.store c x y sound found) as_read skipped)
+        (leaves_kept (λ s. record s { conns = changed s.conns c (skip (machine.conn_at s c)) }) (λ s. (reading.read s d fd n).after) h (turned h k.store c x y held.sound found) as_read skipped)
 
 -- Of a pipe.
 
@@ -162,21 +162,21 @@ left_true : (a b : Bool) → a ≡ true → (a || b) ≡ true
 left_true true b e = refl
 left_true false b e = absurd (cc e)
 
-module _ (h : KernelState) (t : Stored) (qs : List (Option (Pipe (List Slice)))) (d fd p n count : ℕ) (sound : IsSound h) (from : (f : Reading) → machine.descriptor (read_of f h) d fd ≡ Some (on.ReadEnd p)) (counted : count ≡ length (seen h.store.pools d n (queue_at h.pipes p).queue)) where
+module _ (h : KernelState) (t : Stored) (qs : List (Option (Pipe (List Slice)))) (d fd p n count : ℕ) (held : IsOpenOn h d fd (on.ReadEnd p)) (counted : count ≡ length (seen h.store.pools d n (queue_at h.pipes p).queue)) where
   queued-count : (f : Reading) → KeepsPools f → count ≡ length (reading.read_text (read_of f h) d (machine.descriptor (read_of f h) d fd) n)
   queued-count f keeps =
       let s : State = read_of f h in
       counted
       ∙ sym (seen-count f keeps h d n (queue_at h.pipes p).queue)
       ∙ ap (λ (u : Text). length (admitted (machine.may_read s d) (take n u))) (sym (queue-read_of f h p))
-      ∙ ap (λ (o : Option Descriptor). length (reading.read_text s d o n)) (sym (from f))
+      ∙ ap (λ (o : Option Descriptor). length (reading.read_text s d o n)) (sym (held.from f))
 
   pub queued_bytes : take count (bytes_of (text_of h.store (queue_at h.pipes p).queue)) ≡ (reading.read (machine_of [] h) d fd n).answer
   queued_bytes =
       let s : State = machine_of [] h in
       sym (seen-bytes h d n count (queue_at h.pipes p).queue counted)
       ∙ ap (λ (u : Text). bytes_of (admitted (machine.may_read s d) (take n u))) (sym (queue-read_of (bytes_over [] h.store) h p))
-      ∙ ap (λ (o : Option Descriptor). bytes_of (reading.read_text s d o n)) (sym (from (bytes_over [] h.store)))
+      ∙ ap (λ (o : Option Descriptor). bytes_of (reading.read_text s d o n)) (sym (held.from (bytes_over [] h.store)))
 
   pub queued_count : count ≡ length (reading.read (machine_of [] h) d fd n).answer
   queued_count = queued-count (bytes_over [] h.store) (keeps_bytes h.store) ∙ sym (length-map (reading.read_text (machine_of [] h) d (machine.descriptor (machine_of [] h) d fd) n) (λ (b : ℕ × ℕ). b.0))
@@ -190,26 +190,26 @@ module _ (h : KernelState) (t : Stored) (qs : List (Option (Pipe (List Slice))))
     less = slice_set h.pipes p (Some q)
 
     reading' : (queue_at h.pipes p).reading ≡ true
-    reading' = reading_held (bytes_over [] h.store) h d fd p sound (from (bytes_over [] h.store))
+    reading' = reading_held held
 
     there : p < length h.pipes
     there = there_if_open h.pipes p (inl reading')
 
     less_good : AreReadable h.store (record (objects_of h) { pipes = less })
     less_good = record {
-      pipes = each-set (IsPipeReadable h.store) h.pipes p (Some q) sound.objects.pipes (readable_rest (queue_at qs p).queue (queue_at h.pipes p).queue count rest (queue_readable h p sound));
-      conns = sound.objects.conns;
-      files = sound.objects.files;
+      pipes = each-set (IsPipeReadable h.store) h.pipes p (Some q) held.sound.objects.pipes (readable_rest (queue_at qs p).queue (queue_at h.pipes p).queue count rest (queue_readable h p held.sound));
+      conns = held.sound.objects.conns;
+      files = held.sound.objects.files;
     }
 
     short : byte_len (queue_at qs p).queue ≤ 65536
-    short = omega (arith, queue_short h p sound, ap length rest, length-drop count (places (queue_at h.pipes p).queue))
+    short = omega (arith, queue_short h p held.sound, ap length rest, length-drop count (places (queue_at h.pipes p).queue))
 
     less_sound : IsSound (record h { store = t; pipes = less })
-    less_sound = moved-sound h.store (record h { store = t; pipes = less }) moves.stays (record { each = λ b. omega (arith, sound.counted.each b, moves.counts.each b, uses-set_pipe b h.pipes p q there) })
-        (moves.tidy sound.tidy) (moves.still sound.still) (settles (queue_readable h p sound) sound.settled) sound.domains less_good
-        (each-weaker (λ (z : Domain (List Slice)). Each (IsOpenEnd (objects_of h)) z.fds) (λ (z : Domain (List Slice)). Each (IsOpenEnd (record (objects_of h) { pipes = less })) z.fds) h.domains (λ z e. ends_queued (objects_of h) p (queue_at qs p).queue there z.fds e) sound.fds) sound.once
-        (queue_limits h p (queue_at qs p).queue sound short) (same_pooled h.store t h.conns h.cache.files lists sound.pooled) sound.sums sound.filed sound.cached (keeps_pages_frees frees).count
+    less_sound = moved-sound h.store (record h { store = t; pipes = less }) moves.stays (record { each = λ b. omega (arith, held.sound.counted.each b, moves.counts.each b, uses-set_pipe b h.pipes p q there) })
+        (moves.tidy held.sound.tidy) (moves.still held.sound.still) (settles (queue_readable h p held.sound) held.sound.settled) held.sound.domains less_good
+        (each-weaker (λ (z : Domain (List Slice)). Each (IsOpenEnd (objects_of h)) z.fds) (λ (z : Domain (List Slice)). Each (IsOpenEnd (record (objects_of h) { pipes = less })) z.fds) h.domains (λ z e. ends_queued (objects_of h) p (queue_at qs p).queue there z.fds e) held.sound.fds) held.sound.once
+        (queue_limits h p (queue_at qs p).queue held.sound short) (same_pooled h.store t h.conns h.cache.files lists held.sound.pooled) held.sound.sums held.sound.filed held.sound.cached (keeps_pages_frees frees).count
 
     abbrev drained : State → State
     drained s = machine.with_pipe s p (record (machine.pipe_at s p) { queue = drop count (machine.pipe_at s p).queue })
@@ -224,13 +224,13 @@ module _ (h : KernelState) (t : Stored) (qs : List (Option (Pipe (List Slice))))
         ∙ ap (λ (w : machine.Pipe). machine.with_pipe m p (record w { queue = drop count w.queue })) (sym (pipe_at-read_of f h p))
 
     drained_leaves : Leaves drained h (record h { store = t; pipes = less })
-    drained_leaves = leaves drained h (record h { store = t; pipes = less }) less-read refl refl moves.stays (keeps_pages_frees frees) sound.domains less_good less_sound
+    drained_leaves = leaves drained h (record h { store = t; pipes = less }) less-read refl refl moves.stays (keeps_pages_frees frees) held.sound.domains less_good less_sound
 
     drained_as : (f : Reading) → KeepsPools f → drained (read_of f h) ≡ (reading.read (read_of f h) d fd n).after
     drained_as f keeps =
         let s : State = read_of f h in
         ap (λ m. machine.with_pipe s p (record (machine.pipe_at s p) { queue = drop m (machine.pipe_at s p).queue })) (queued-count f keeps)
-        ∙ ap (λ (o : Option Descriptor). reading.read_on s d fd o (length (reading.read_text s d (machine.descriptor s d fd) n))) (sym (from f))
+        ∙ ap (λ (o : Option Descriptor). reading.read_on s d fd o (length (reading.read_text s d (machine.descriptor s d fd) n))) (sym (held.from f))
 
     pub queued_left : Leaves (λ s. (reading.read s d fd n).after) h (record h { store = t; pipes = qs })
     queued_left = subst (λ (ys : List (Option (Pipe (List Slice)))). Leaves (λ s. (reading.read s d fd n).after) h (record h { store = t; pipes = ys })) (sym pipes')

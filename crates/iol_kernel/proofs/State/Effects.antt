@@ -84,6 +84,10 @@ few_numbers f h d made given few = omega (arith, next_agg-read_of f h d, within 
     within : (n m : ℕ) → (nat_lt (65536 + given) (n + made) || nat_lt (18446744073709551614 + 1) (m + made)) ≡ false → m + made ≤ 18446744073709551615
     within n m few = grind (arith, nat_tests, few)
 
+-- one more, in a table that is as it was
+pub few_kept : (h : KernelState) (d : ℕ) {ds : List (Domain (List Slice))} → aggs.too_many_aggs (machine_of [] h) d 1 0 ≡ false → ds ≡ h.domains → (domain_in ds d).next_agg + 1 ≤ 18446744073709551615
+few_kept h d few same = omega (arith, few_numbers (bytes_over [] h.store) h d 1 0 few, ap (λ (ys : List (Domain (List Slice))). (domain_in ys d).next_agg) same)
+
 pub few_aggs : (f : Reading) (h : KernelState) (d made given : ℕ) → aggs.too_many_aggs (read_of f h) d made given ≡ false → live_aggs_in h.domains + made ≤ 65536 + given
 unfolding read_of
 few_aggs f h d made given few = omega (arith, live_aggs-view f h.domains h.store.pools (objects_of h), within (machine.live_aggs (read_of f h)) (machine.domain (read_of f h) d).next_agg few)

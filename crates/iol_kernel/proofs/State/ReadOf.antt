@@ -14,8 +14,9 @@ use Rattle.iol_hold.specs.declared.slices.Slice.{Slice}
 use Rattle.iol_hold.proofs.AtPlaces.{length-read}
 use Rattle.iol_desc.specs.Tables.{domain_in, agg_in}
 use Rattle.iol_kernel.specs.Views.{Objects, pipe_view, state_view}
-use Rattle.iol_kernel.specs.KernelState.{KernelState, objects_of, read_of, queue_at, slices_in}
-use Rattle.iol_kernel.specs.Readings.{Reading, read}
+use Rattle.iol_kernel.specs.KernelState.{KernelState, objects_of, machine_of, read_of, queue_at, slices_in}
+use Rattle.iol_kernel.specs.Opened.{IsOpenOn}
+use Rattle.iol_kernel.specs.Readings.{Reading, bytes_over, read}
 use Rattle.iol_kernel.proofs.State.Views.{domain-view, pool-view, is_pool-view, aggregate-view, pipe_at-view, lowest-view, taken-view, length_pools-view, busy-view}
 
 -- domains and pools
@@ -114,3 +115,14 @@ unfolding read_of
 taken_pipes-read_of f h = taken-view f h.domains h.store.pools (objects_of h)
 
 pub ruleset pipe_rules = (length_queue-read_of, reading-read_of, writing-read_of)
+
+-- A domain's row, where its descriptor is open on something.
+
+pub open_row : {h : KernelState} {d fd : ℕ} {end : Descriptor} → IsOpenOn h d fd end → (domain_in h.domains d).live ≡ true
+open_row {h} {d} held = live_held (bytes_over [] h.store) h d (held.live (bytes_over [] h.store))
+
+pub open_row_kept : {h : KernelState} {d fd : ℕ} {end : Descriptor} {ds : List (Domain (List Slice))} → IsOpenOn h d fd end → ds ≡ h.domains → (domain_in ds d).live ≡ true
+open_row_kept {h} {d} {fd} {end} {ds} held same = ap (λ (ys : List (Domain (List Slice))). (domain_in ys d).live) same ∙ open_row held
+
+pub live_always : (h : KernelState) (d : ℕ) → machine.is_live (machine_of [] h) d ≡ true → (f : Reading) → machine.is_live (read_of f h) d ≡ true
+live_always h d live f = is_live-read_of f h d ∙ live_held (bytes_over [] h.store) h d live

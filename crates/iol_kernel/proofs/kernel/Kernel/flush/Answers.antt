@@ -1,16 +1,9 @@
-use Rattle.std.proofs.Common.{refl, ap, sym, subst}
-use Rattle.std.specs.Prelude.{Result}
-use Rattle.iol_core.specs.Calls.Outside as outside
-use Rattle.iol_core.specs.declared.refusals.Refusal.{Refusal}
+use Rattle.std.proofs.Common.{ap}
 use Rattle.iol_cache.specs.Cache.{cached_of}
-use Rattle.iol_cache.specs.Serving.{FaultCounts}
-use Rattle.iol_kernel.specs.Backed.{Serves}
 use Rattle.iol_kernel.specs.Kernel.{state_of}
-use Rattle.iol_kernel.specs.KernelState.{KernelState}
 use Rattle.iol_kernel.specs.WritingBack.{done_of}
-use Rattle.iol_kernel.proofs.FileCalls.Faults.{flush_counted, flush_steps}
+use Rattle.iol_kernel.proofs.FileCalls.Faults.{flush_serves, flushes_one}
 use Rattle.iol_kernel.proofs.FileCalls.Named.{cache_sound}
-use Rattle.iol_kernel.proofs.FileCalls.WrittenBack.{back_serves, flush_parts}
 use Rattle.iol_kernel.proofs.FileCalls.WrittenOver.{counts_lower}
 use Rattle.iol_kernel.proofs.kernel.Kernel.flush.Goals as goal
 
@@ -22,54 +15,18 @@ flush_one-requires-clause-few g c = counts_lower (state_of c.args.self.now) c.re
 
 pub returns-in-Err-clause-serves : goal.returns-in-Err-clause-serves
 returns-in-Err-clause-serves g c =
-    let h = state_of c.args.self.now in
-    let d = cached_of c.flush_one.new.self in
-    let x = g.B.Backing.disk c.args.backing.now in
-    let y = g.B.Backing.disk c.flush_one.new.backing in
     let w = c.flush_one.ensures in
-    let k : KernelState = record h { cache = d } in
-    let parts = flush_parts h.store h.cache d x y c.flush_one.result w.flushes in
-    subst (λ (r : Result (Unit {0}) Refusal). Serves outside.flush x h r y k) (ap done_of c.in-Err.is)
-    (back_serves outside.flush h k d x y (done_of c.flush_one.result) c.requires parts.0 w.sound (flush_steps h d x y c.flush_one.result c.requires w.flushes) parts.1 w.files w.mirrors (cache_sound h c.requires) refl)
+    flush_serves (state_of c.args.self.now) (cached_of c.flush_one.new.self) (g.B.Backing.disk c.args.backing.now) (g.B.Backing.disk c.flush_one.new.backing) c.flush_one.result (ap done_of c.in-Err.is) w.flushes c.requires w.sound w.files w.mirrors
 
 pub returns-in-Err-clause-flushes : goal.returns-in-Err-clause-flushes
 returns-in-Err-clause-flushes g c =
-    let h = state_of c.args.self.now in
-    let d = cached_of c.flush_one.new.self in
-    let x = g.B.Backing.disk c.args.backing.now in
-    let y = g.B.Backing.disk c.flush_one.new.backing in
-    let w = c.flush_one.ensures in
-    record {
-      flushed = c.flush_one.result;
-      told = sym (ap done_of c.in-Err.is);
-      flushes = w.flushes;
-      counts = subst (λ (r : Result (Unit {0}) Refusal). FaultCounts x y r) (ap done_of c.in-Err.is) (flush_counted h.store h.cache d x y c.flush_one.result w.flushes);
-      same = refl;
-    }
+    flushes_one (state_of c.args.self.now) (cached_of c.flush_one.new.self) (g.B.Backing.disk c.args.backing.now) (g.B.Backing.disk c.flush_one.new.backing) c.flush_one.result (ap done_of c.in-Err.is) c.flush_one.ensures.flushes
 
 pub returns-clause-serves : goal.returns-clause-serves
 returns-clause-serves g c =
-    let h = state_of c.args.self.now in
-    let d = cached_of c.flush_one.new.self in
-    let x = g.B.Backing.disk c.args.backing.now in
-    let y = g.B.Backing.disk c.flush_one.new.backing in
     let w = c.flush_one.ensures in
-    let k : KernelState = record h { cache = d } in
-    let parts = flush_parts h.store h.cache d x y c.flush_one.result w.flushes in
-    subst (λ (r : Result (Unit {0}) Refusal). Serves outside.flush x h r y k) (ap done_of c.in_default.is)
-    (back_serves outside.flush h k d x y (done_of c.flush_one.result) c.requires parts.0 w.sound (flush_steps h d x y c.flush_one.result c.requires w.flushes) parts.1 w.files w.mirrors (cache_sound h c.requires) refl)
+    flush_serves (state_of c.args.self.now) (cached_of c.flush_one.new.self) (g.B.Backing.disk c.args.backing.now) (g.B.Backing.disk c.flush_one.new.backing) c.flush_one.result (ap done_of c.in_default.is) w.flushes c.requires w.sound w.files w.mirrors
 
 pub returns-clause-flushes : goal.returns-clause-flushes
 returns-clause-flushes g c =
-    let h = state_of c.args.self.now in
-    let d = cached_of c.flush_one.new.self in
-    let x = g.B.Backing.disk c.args.backing.now in
-    let y = g.B.Backing.disk c.flush_one.new.backing in
-    let w = c.flush_one.ensures in
-    record {
-      flushed = c.flush_one.result;
-      told = sym (ap done_of c.in_default.is);
-      flushes = w.flushes;
-      counts = subst (λ (r : Result (Unit {0}) Refusal). FaultCounts x y r) (ap done_of c.in_default.is) (flush_counted h.store h.cache d x y c.flush_one.result w.flushes);
-      same = refl;
-    }
+    flushes_one (state_of c.args.self.now) (cached_of c.flush_one.new.self) (g.B.Backing.disk c.args.backing.now) (g.B.Backing.disk c.flush_one.new.backing) c.flush_one.result (ap done_of c.in_default.is) c.flush_one.ensures.flushes

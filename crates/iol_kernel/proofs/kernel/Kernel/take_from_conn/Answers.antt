@@ -28,32 +28,21 @@ skip-requires-clause-covered c =
     let h = state_of c.args.self.now in
     incoming_covered h c.args.conn (conn_in h.conns c.args.conn) c.requires.sound (found_held h c.args.by c.args.fd c.args.conn c.requires.sound c.requires.from)
 
-pub returns-clause-copied : goal.returns-clause-copied
-returns-clause-copied c =
+pub returns : goal.returns
+returns c =
     let h = state_of c.args.self.now in
-    let n = length c.args.into.now in
-    let count = c.copy_front-count.result in
-    let is : c.in-Some.found.now ≡ conn_in h.conns c.args.conn = sym (conn_in-is h.conns c.args.conn c.in-Some.found.now (sym c.in-Some.ensures)) in
-    let counted = c.copy_front-count.ensures.count ∙ ap (λ (x : Conn (List Slice)). length (take_while (may_see h.store.pools c.args.by) (take n (places x.incoming)))) is in
-    c.copy_front-count.ensures.copied
-    ∙ ap (λ (x : Conn (List Slice)). take count (bytes_of (text_of h.store x.incoming)) ++ drop count c.args.into.now) is
-    ∙ ap (λ (w : List ℕ). w ++ drop count c.args.into.now) (unread_bytes h h c.args.by c.args.fd c.args.conn n count c.requires.sound c.requires.from counted)
-
-pub returns-clause-count : goal.returns-clause-count
-returns-clause-count c =
-    let h = state_of c.args.self.now in
-    let n = length c.args.into.now in
-    let is : c.in-Some.found.now ≡ conn_in h.conns c.args.conn = sym (conn_in-is h.conns c.args.conn c.in-Some.found.now (sym c.in-Some.ensures)) in
-    let counted = c.copy_front-count.ensures.count ∙ ap (λ (x : Conn (List Slice)). length (take_while (may_see h.store.pools c.args.by) (take n (places x.incoming)))) is in
-    unread_count h h c.args.by c.args.fd c.args.conn n c.copy_front-count.result c.requires.sound c.requires.from counted
-
-pub returns-clause-left : goal.returns-clause-left
-returns-clause-left c =
-    let h = state_of c.args.self.now in
-    let n = length c.args.into.now in
-    let e = c.skip.ensures in
     let k : KernelState = record h { store = c.skip.new.store; conns = c.skip.new.self.conns; next_conn = c.skip.new.self.next } in
+    let into = c.args.into.now in
+    let n = length into in
+    let count = c.copy_front-count.result in
+    let e = c.skip.ensures in
     let is : c.in-Some.found.now ≡ conn_in h.conns c.args.conn = sym (conn_in-is h.conns c.args.conn c.in-Some.found.now (sym c.in-Some.ensures)) in
     let counted = c.copy_front-count.ensures.count ∙ ap (λ (x : Conn (List Slice)). length (take_while (may_see h.store.pools c.args.by) (take n (places x.incoming)))) is in
-    unread_left h k c.args.by c.args.fd c.args.conn n c.copy_front-count.result c.requires.sound c.requires.from counted e.rest
-    (ap (λ (w : ConnTable). record h { store = c.skip.new.store; conns = w.conns; next_conn = w.next }) e.others) e.moves e.lists e.frees e.settles
+    record {
+      copied = c.copy_front-count.ensures.copied
+          ∙ ap (λ (x : Conn (List Slice)). take count (bytes_of (text_of h.store x.incoming)) ++ drop count into) is
+          ∙ ap (λ (w : List ℕ). w ++ drop count into) (unread_bytes h k c.args.by c.args.fd c.args.conn n count c.requires counted);
+      count = unread_count h k c.args.by c.args.fd c.args.conn n count c.requires counted;
+      left = unread_left h k c.args.by c.args.fd c.args.conn n count c.requires counted e.rest
+          (ap (λ (w : ConnTable). record h { store = c.skip.new.store; conns = w.conns; next_conn = w.next }) e.others) e.moves e.lists e.frees e.settles;
+    }

@@ -8,33 +8,31 @@ use Rattle.iol_kernel.specs.Readings.{bytes_over}
 use Rattle.iol_kernel.specs.KernelState.{KernelState, objects_of}
 use Rattle.iol_kernel.proofs.Connections.Connecting.{conn_limit, incoming_covered}
 use Rattle.iol_kernel.proofs.Connections.ConnQueues.{conn_there_held, found_held}
-use Rattle.iol_kernel.proofs.State.Effects.{few_aggs, few_numbers}
+use Rattle.iol_kernel.proofs.State.Effects.{few_aggs, few_kept}
 use Rattle.iol_kernel.proofs.Connections.Incoming.{unread_taken}
-use Rattle.iol_kernel.proofs.State.ReadOf.{live_held}
+use Rattle.iol_kernel.proofs.State.ReadOf.{open_row_kept}
 use Rattle.iol_kernel.proofs.State.Uses.{countable}
 use Rattle.iol_kernel.proofs.kernel.Kernel.take_unread.Goals as goal
 
 pub front-requires-clause-there : goal.front-requires-clause-there
-front-requires-clause-there c = conn_there_held (state_of c.args.self.now) c.args.by c.args.fd c.args.conn c.requires.sound c.requires.from
+front-requires-clause-there c = conn_there_held (state_of c.args.self.now) c.args.by c.args.fd c.args.conn c.requires.held.sound c.requires.held.from
 
 pub front-requires-clause-covered : goal.front-requires-clause-covered
 front-requires-clause-covered c =
     let h = state_of c.args.self.now in
-    incoming_covered h c.args.conn (conn_in h.conns c.args.conn) c.requires.sound (found_held h c.args.by c.args.fd c.args.conn c.requires.sound c.requires.from)
+    incoming_covered h c.args.conn (conn_in h.conns c.args.conn) c.requires.held.sound (found_held h c.args.by c.args.fd c.args.conn c.requires.held.sound c.requires.held.from)
 
 pub front-requires-clause-countable : goal.front-requires-clause-countable
 front-requires-clause-countable c =
     let h = state_of c.args.self.now in
-    let short = (conn_limit h c.args.conn (conn_in h.conns c.args.conn) c.requires.sound (found_held h c.args.by c.args.fd c.args.conn c.requires.sound c.requires.from)).incoming in
-    countable h.store h.domains (objects_of h) (conn_in h.conns c.args.conn).incoming c.requires.sound.counted c.requires.sound.limits (omega (arith, short))
+    let short = (conn_limit h c.args.conn (conn_in h.conns c.args.conn) c.requires.held.sound (found_held h c.args.by c.args.fd c.args.conn c.requires.held.sound c.requires.held.from)).incoming in
+    countable h.store h.domains (objects_of h) (conn_in h.conns c.args.conn).incoming c.requires.held.sound.counted c.requires.held.sound.limits (omega (arith, short))
 
 pub add_agg-requires-clause-live : goal.add_agg-requires-clause-live
-add_agg-requires-clause-live c = ap (λ (ds : List (Domain (List Slice))). (domain_in ds c.args.by).live) c.in_ok-reserve_aggs.ensures.same ∙ live_held _ (state_of c.args.self.now) c.args.by c.requires.live
+add_agg-requires-clause-live c = open_row_kept c.requires.held c.in_ok-reserve_aggs.ensures.same
 
 pub add_agg-requires-clause-few : goal.add_agg-requires-clause-few
-add_agg-requires-clause-few c =
-    let h = state_of c.args.self.now in
-    omega (arith, few_numbers (bytes_over [] h.store) h c.args.by 1 0 c.requires.few, ap (λ (ds : List (Domain (List Slice))). (domain_in ds c.args.by).next_agg) c.in_ok-reserve_aggs.ensures.same)
+add_agg-requires-clause-few c = (let few = few_kept (state_of c.args.self.now) c.args.by c.requires.few c.in_ok-reserve_aggs.ensures.same in omega (arith, few))
 
 pub returns-clause-done : goal.returns-clause-done
 returns-clause-done c =
@@ -42,7 +40,7 @@ returns-clause-done c =
     let d = c.args.by in
     let e = c.in_ok-agg.ensures in
     let k : KernelState = record h { store = c.front.new.store; domains = domains_of c.add_agg.new.self; conns = c.front.new.self.conns; next_conn = c.front.new.self.next } in
-    unread_taken h k d c.args.fd c.args.conn c.args.n c.requires.sound c.requires.from
+    unread_taken h k d c.args.fd c.args.conn c.args.n c.requires.held
     (record {
       slices = c.in_ok-agg.agg;
       given = e.given;
@@ -51,5 +49,5 @@ returns-clause-done c =
       added = c.add_agg.ensures.added ∙ ap (λ (ds : List (Domain (List Slice))). with_agg_in ds d c.in_ok-agg.agg) c.in_ok-reserve_aggs.ensures.same;
     })
     (ap (λ (w : ConnTable). record h { store = c.front.new.store; domains = domains_of c.add_agg.new.self; conns = w.conns; next_conn = w.next }) c.front.ensures.others)
-    (live_held _ h d c.requires.live) (omega (arith, few_aggs (bytes_over [] h.store) h d 1 0 c.requires.few))
+    (omega (arith, few_aggs (bytes_over [] h.store) h d 1 0 c.requires.few))
     c.add_agg.result (c.add_agg.ensures.number ∙ ap (λ (ds : List (Domain (List Slice))). (domain_in ds d).next_agg) c.in_ok-reserve_aggs.ensures.same)
