@@ -66,7 +66,7 @@ pub record Moment (old : SystemState) (past : List Event) (e : Event) (future : 
   pub promises : Promises before e reply after
   pub future_runs : Chain after future future_replies new
 
--- Each event of a run keeps all promises of a step: so NoRoom is answered exactly where there is no room, and so on.
+-- Each event of a run keeps all promises of a step: so NoRoom is answered only where there is no room, and so on.
 abbrev pub EachEventIsAStep : Type 0
 EachEventIsAStep = (old new : SystemState) (past : List Event) (e : Event) (future : List Event) (rs : List Reply)
     → Chain old (past ++ e ∷ future) rs new → Moment old past e future rs new
