@@ -30,6 +30,7 @@ use Rattle.iol_system.specs.Freed.{IsAllFree, IsLeft}
 use Rattle.iol_system.specs.InPlace.{IsInRange}
 use Rattle.iol_system.specs.Machine.{SystemState, machine_of, tables_of}
 use Rattle.iol_system.specs.Promises.{Promises, Chain}
+use Rattle.iol_system.specs.Room.{HasRoomFor, IsRefused}
 use Rattle.iol_system.specs.Safe.{IsSafe}
 use Rattle.iol_system.specs.Uses.{HasOneUse, HasOnePool}
 use Rattle.iol_system.specs.Values.{ValuesStayOver}
@@ -107,6 +108,11 @@ pub record EvictsNothing (Read : (f i : ℕ) → Type 0) (old new : Cached) : Ty
 abbrev pub NoRoomEvictsNothing : Type 0
 NoRoomEvictsNothing = (old new : SystemState) (e : Event) (p : ℕ) → Promises old e (Refused (NoRoom p)) new
     → EvictsNothing (IsRead (tables_of old.kernel) e) old.kernel.cache new.kernel.cache
+
+-- nor does one for which there is no room, whatever it is refused for
+abbrev pub RefusedWithoutRoomEvictsNothing : Type 0
+RefusedWithoutRoomEvictsNothing = (old new : SystemState) (e : Event) (r : Reply) → Promises old e r new → IsRefused r
+    → HasRoomFor old e ⊎ EvictsNothing (IsRead (tables_of old.kernel) e) old.kernel.cache new.kernel.cache
 
 -- Each pool has the list and the chunks that it had, each page is as it was, free or in use and as often filled, and each
 -- buffer is held as often.
