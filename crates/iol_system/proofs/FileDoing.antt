@@ -33,7 +33,7 @@ use Rattle.iol_kernel.specs.Calls.{CarriesOut}
 use Rattle.iol_kernel.specs.Copying.{Copies, CopiesOn}
 use Rattle.iol_kernel.specs.FileReading.{CopiesFileAs, FileRead, LeavesAtRefusal, Reads, ReadsFileAs, ReadsOn, file_read, held_by, pool_read}
 use Rattle.iol_kernel.specs.KernelState.{KernelState, layout_of, slices_in}
-use Rattle.iol_kernel.specs.MakingRoom.{MayHaveEvicted, Places, RefusedRoomy, can_fit}
+use Rattle.iol_kernel.specs.MakingRoom.{MayHaveEvicted, Places, RefusedRoomy}
 use Rattle.iol_kernel.specs.WritingFiles.{LaysOn, LeavesUnwritten, PutsOn, WritesOn, pool_of_file}
 use Rattle.iol_kernel.specs.Keeping.{KeepsUnless, LacksPages, LacksPagesToRead}
 use Rattle.iol_kernel.proofs.State.AfterRoom.{memory_wanted}
@@ -41,13 +41,14 @@ use Rattle.iol_kernel.proofs.State.Carried.{carried_layout}
 use Rattle.iol_system.specs.Asking.{asks_store, uses_cache}
 use Rattle.iol_system.specs.Doing.{Does}
 use Rattle.iol_system.specs.FileEnds.{TellsEnd}
-use Rattle.iol_system.specs.Late.{CopyLeaves, IfRefused, LeavesCopied, LeavesLate, PutLeaves, ReadLeaves, SameTables, WriteLeaves}
+use Rattle.iol_system.specs.Late.{CopyLeaves, LeavesCopied, LeavesLate, MadeRoomFor, PutLeaves, ReadLeaves, SameTables, WriteLeaves}
 use Rattle.iol_system.specs.Machine.{system_of, tables_of}
 use Rattle.iol_system.specs.InPlace.{IsInRange, IsWritten, KeepsInPlace, MayLetGo, ReadWantsMore, SharesCopy, SharesPut, SharesRead, SharesWrite, WantsMore, WriteWantsMore}
 use Rattle.iol_system.specs.Placed.{Creates, FillsForFile, Makes, Publishes, Puts}
 use Rattle.iol_system.specs.Remembered.{Remembers}
 use Rattle.iol_system.specs.Replies.{told}
 use Rattle.iol_system.specs.Room.{HasRoomFor, HasRoomToRead, HasRoomToWrite, LacksRoomFor, LacksRoomToRead, LacksRoomToWrite, IsDone, IsEarly, IsFault, IsNoRoom, IsRefused}
+use Rattle.iol_system.specs.Wants.{Fits, FitsNot, Wants}
 use Rattle.iol_system.specs.Still.{is_still, keeps_store, takes_out}
 use Rattle.iol_system.proofs.Doing.{answer_lies, asks_none, does_of, lies_apart, never, served, unlooking_of}
 use Rattle.iol_system.proofs.Telling.{Means, Tells, early_told, no_room_told, refused_told, told_step}
@@ -56,44 +57,44 @@ use Rattle.iol_system.proofs.Paged.{carried_pages, fills_then_frees}
 use Rattle.iol_system.proofs.WrittenBack.{none_back, writes_back}
 use Rattle.iol_system.proofs.ResultTold.{ok_told, lacks_told, counts_told, has_told, room_told, fault_told, early_room, early_room_fault, early_of, err_more, late_told, tables_kept, untimed, with_tables}
 
--- An event that places n bytes in a pool once there is room.
-pub record IsPlacing (e : Event) (put : State → Text → State) (pool n : ℕ) (old : KernelState) : Type 0 where
+-- An event that places bytes in a pool once there is room.
+pub record IsPlacing (e : Event) (put : State → Text → State) (w : Wants) (old : KernelState) : Type 0 where
   pub unwritten : writes_back e ≡ false
   pub unlent : shares_file e ≡ false
-  pub goes : (disk : Disk) (p : ℕ) → WantsMore old pool n p → MayLetGo (system_of old disk) e p
+  pub goes : (disk : Disk) (p : ℕ) → WantsMore old w p → MayLetGo (system_of old disk) e p
   pub asks : (s : State) → asks_store s e ≡ false
   pub uses : (s : State) → uses_cache s e ≡ true
   pub unshared : (s : State) → is_sharing s e ≡ false
   pub moving : is_still e ≡ false
   pub inside : (s : State) → takes_out s e ≡ false
   pub changes : keeps_store e ≡ false
-  pub has : (disk : Disk) → can_fit old pool n ≡ true → HasRoomFor (system_of old disk) e
-  pub lacks : (disk : Disk) → can_fit old pool n ≡ false → LacksRoomFor (system_of old disk) e
-  pub publishes : (new : KernelState) → Makes put pool n old new → Publishes old e new
+  pub has : (disk : Disk) → Fits old w → HasRoomFor (system_of old disk) e
+  pub lacks : (disk : Disk) → FitsNot old w → LacksRoomFor (system_of old disk) e
+  pub publishes : (new : KernelState) → Makes put w old new → Publishes old e new
   pub creates : (x : Reply) (new : KernelState) → Creates old e x new
-  pub late : (disk : Disk) (x : Reply) (new : KernelState) → IfRefused x (MayHaveEvicted pool n old new) → LeavesLate (system_of old disk) e x (system_of new disk)
+  pub late : (disk : Disk) (x : Reply) (new : KernelState) → MadeRoomFor w old x new → LeavesLate (system_of old disk) e x (system_of new disk)
   pub sums : (x : Reply) (new : KernelState) → new.sums ≡ old.sums → Remembers old e x new
 
-module _ {A : Type 0} (f : A → Reply) (m : State → Meaning A) (put : State → Text → State) (pool n : ℕ) (e : Event) (disk : Disk) (old new : KernelState) (r : Result A Refusal) (tells : Tells f) (placing : IsPlacing e put pool n old) (means : Means f m e) (ends : TellsEnd (system_of old disk) e (told f r)) where
-  placed_early : IfErr r (MayHaveEvicted pool n old new) → IsEarly (told f r) → new ≡ old
-  placed_early left is = early_of f r (new ≡ old) (RefusedRoomy pool n old new) tells (λ x early late. early_room pool x early (memory_wanted pool x late.memory)) left is
+module _ {A : Type 0} (f : A → Reply) (m : State → Meaning A) (put : State → Text → State) (w : Wants) (e : Event) (disk : Disk) (old new : KernelState) (r : Result A Refusal) (tells : Tells f) (placing : IsPlacing e put w old) (means : Means f m e) (ends : TellsEnd (system_of old disk) e (told f r)) where
+  placed_early : IfErr r (MayHaveEvicted w.pool w.count old new) → IsEarly (told f r) → new ≡ old
+  placed_early left is = early_of f r (new ≡ old) (RefusedRoomy w.pool w.count old new) tells (λ x early late. early_room w.pool x early (memory_wanted w.pool x late.memory)) left is
 
-  pub places_does : Places m put pool n old r new → Does disk old e (told f r) disk new
+  pub places_does : Places m put w.pool w.count old r new → Does disk old e (told f r) disk new
   places_does c =
       let serves : Serves m disk old r disk new = c.serves disk in
       does_of ends (served f means serves) (asks_none (placing.asks (tables_of old)))
       (record {
-        room = λ done. placing.has disk (ok_told f r (can_fit old pool n ≡ true) c.room done);
-        no_room = λ is. placing.lacks disk (lacks_told f r (can_fit old pool n ≡ false) tells c.no_room is);
+        room = λ done. placing.has disk (ok_told f r (Fits old w) c.room done);
+        no_room = λ is. placing.lacks disk (lacks_told f r (FitsNot old w) tells c.no_room is);
         early = λ is. (placed_early c.refused is, refl);
         refused = λ unused is. never unused (placing.uses (tables_of old));
-        late = placing.late disk (told f r) new (late_told f r (MayHaveEvicted pool n old new) tells c.refused);
+        late = placing.late disk (told f r) new (late_told f r (MayHaveEvicted w.pool w.count old new) tells c.refused);
       })
       (record {
         uncached = λ unused other. never unused (placing.uses (tables_of old));
-        in_place = places_in_place disk old new e m put pool n (λ p same lacks. placing.goes disk p (same, subst (λ q. LacksPages old q (pages_for n)) (sym same) lacks)) r c;
+        in_place = places_in_place disk old new e m put w.pool w.count (λ p same lacks. placing.goes disk p (same, subst (λ q. LacksPages old q (pages_for w.count)) (sym same) lacks)) r c;
         shares_file = λ done. shares_none (system_of old disk) (told f r) new e placing.unlent;
-        publishes = λ done. placing.publishes new (ok_told f r (Makes put pool n old new) c.made done);
+        publishes = λ done. placing.publishes new (ok_told f r (Makes put w old new) c.made done);
         creates = placing.creates (told f r) new;
         sums = placing.sums (told f r) new serves.sums;
         written_back = none_back disk old (told f r) disk new e placing.unwritten;
@@ -357,67 +358,65 @@ module _ (by fd : ℕ) (bytes : List ℕ) (disk : Disk) (old new : KernelState) 
   abbrev put_event : Event
   put_event = event.Call by (call.Write fd bytes)
 
-  abbrev taken_bytes : ℕ
-  taken_bytes = (writing.write (tables_of old) by fd bytes).answer
-
-  abbrev pool_of : Option Descriptor → ℕ
-  pool_of o = writing.pool_for (tables_of old) by o
-
-  -- how many bytes are taken
-  abbrev count_of : Option Descriptor → ℕ
-  count_of o = writing.fitting (tables_of old) o (length bytes)
+  -- what is wanted of the pool, by what the descriptor is open on
+  abbrev wants : Option Descriptor → Wants
+  wants o = record { pool = writing.pool_for (tables_of old) by o; count = writing.fitting (tables_of old) o (length bytes) }
 
   -- to the end of the queue
   abbrev put : State → Text → State
   put s t = writing.written s by fd (descriptor s by fd) t
 
   abbrev IsPut : Option Descriptor → Type 0
-  IsPut o = Places (λ s. writing.write s by fd bytes) put (pool_of o) (count_of o) old r new
+  IsPut o = Places (λ s. writing.write s by fd bytes) put (wants o).pool (wants o).count old r new
 
-  put_made : (o : Option Descriptor) → IsPut o → IsDone (told reply.Count r) → Makes put (pool_of o) (count_of o) old new
+  put_made : (o : Option Descriptor) → IsPut o → IsDone (told reply.Count r) → Makes put (wants o) old new
   put_made o placed is = ok_told reply.Count r _ placed.made is
 
-  put_fills : (o : Option Descriptor) → (is_file o ≡ false → IsPut o) → PutsOn o (pool_of o) (length bytes) old r new → IsDone (told reply.Count r) → Puts by fd (pool_of o) (count_of o) o old new
+  put_fills : (o : Option Descriptor) → (is_file o ≡ false → IsPut o) → PutsOn o (wants o).pool (length bytes) old r new → IsDone (told reply.Count r) → Puts by fd (wants o) o old new
   put_fills (Some (on.File g at mode)) placed puts is = ok_told reply.Count r _ puts.fills is
   put_fills o placed puts is = put_made o (placed refl) is
 
   abbrev PutGoes : Option Descriptor → Type 0
-  PutGoes o = (p : ℕ) → WantsMore old (pool_of o) (count_of o) p → MayLetGo (system_of old disk) put_event p
+  PutGoes o = (p : ℕ) → WantsMore old (wants o) p → MayLetGo (system_of old disk) put_event p
 
   queue_in_place : (o : Option Descriptor) → IsPut o → PutGoes o → KeepsInPlace (system_of old disk) put_event new
-  queue_in_place o placed goes = places_in_place disk old new put_event (λ s. writing.write s by fd bytes) put (pool_of o) (count_of o) (λ p same lacks. goes p (same, subst (λ q. LacksPages old q (pages_for (count_of o))) (sym same) lacks)) r placed
+  queue_in_place o placed goes = places_in_place disk old new put_event (λ s. writing.write s by fd bytes) put (wants o).pool (wants o).count (λ p same lacks. goes p (same, subst (λ q. LacksPages old q (pages_for (wants o).count)) (sym same) lacks)) r placed
 
-  put_in_place : (o : Option Descriptor) → (is_file o ≡ false → IsPut o) → PutsOn o (pool_of o) (length bytes) old r new → ((g i : ℕ) → IsInRange o (length bytes) g i → IsWritten old put_event g i) → PutGoes o → KeepsInPlace (system_of old disk) put_event new
+  put_in_place : (o : Option Descriptor) → (is_file o ≡ false → IsPut o) → PutsOn o (wants o).pool (length bytes) old r new → ((g i : ℕ) → IsInRange o (length bytes) g i → IsWritten old put_event g i) → PutGoes o → KeepsInPlace (system_of old disk) put_event new
   put_in_place (Some (on.File f at mode)) placed puts writes goes =
-      let pool : ℕ = pool_of (Some (on.File f at mode)) in
+      let pool : ℕ = (wants (Some (on.File f at mode))).pool in
       beside_in_place disk old new put_event f at (length bytes) pool (LacksPages old pool (pages_for (length bytes))) puts.beside (λ g i same from to. writes g i (same, from, to))
       (λ p same lacks. goes p (same, subst (λ q. LacksPages old q (pages_for (length bytes))) (sym same) lacks))
   put_in_place o placed puts writes goes = queue_in_place o (placed refl) goes
 
-  put_late : (o : Option Descriptor) → (is_file o ≡ false → IsPut o) → LaysOn o (pool_of o) bytes old r new → PutLeaves (pool_of o) (count_of o) bytes old o (told reply.Count r) new
+  put_late : (o : Option Descriptor) → (is_file o ≡ false → IsPut o) → LaysOn o (wants o).pool bytes old r new → PutLeaves (wants o) bytes old o (told reply.Count r) new
   put_late (Some (on.File g at mode)) placed lays = late_told reply.Count r _ (λ a. refl) lays.leaves
   put_late o placed lays = late_told reply.Count r _ (λ a. refl) (placed refl).refused
 
-  put_shares : (o : Option Descriptor) → LaysOn o (pool_of o) bytes old r new → IsDone (told reply.Count r) → SharesPut (pool_of o) bytes o old new
+  put_shares : (o : Option Descriptor) → LaysOn o (wants o).pool bytes old r new → IsDone (told reply.Count r) → SharesPut (wants o).pool bytes o old new
   put_shares (Some (on.File g at mode)) lays is = ok_told reply.Count r _ lays.lays is
   put_shares o lays is = tt
 
+  -- the descriptor is open on this
+  abbrev here : Option Descriptor
+  here = descriptor (tables_of old) by fd
+
   pub puts_does : Serves (λ s. writing.write s by fd bytes) disk old r disk new
-      → (is_file (descriptor (tables_of old) by fd) ≡ false → Places (λ s. writing.write s by fd bytes) put (writing.pool_for (tables_of old) by (descriptor (tables_of old) by fd)) taken_bytes old r new)
-      → OnOk r (can_fit old (writing.pool_for (tables_of old) by (descriptor (tables_of old) by fd)) taken_bytes ≡ true)
-      → ((p : ℕ) → r ≡ Err (NoRoom p) → can_fit old (writing.pool_for (tables_of old) by (descriptor (tables_of old) by fd)) taken_bytes ≡ false)
-      → PutsOn (descriptor (tables_of old) by fd) (writing.pool_for (tables_of old) by (descriptor (tables_of old) by fd)) (length bytes) old r new
-      → LaysOn (descriptor (tables_of old) by fd) (writing.pool_for (tables_of old) by (descriptor (tables_of old) by fd)) bytes old r new
-      → IfErr r (λ x. (new ≡ old) ⊎ WantOfRoom (writing.pool_for (tables_of old) by (descriptor (tables_of old) by fd)) x)
+      → (is_file here ≡ false → Places (λ s. writing.write s by fd bytes) put (wants here).pool (wants here).count old r new)
+      → OnOk r (Fits old (wants here))
+      → ((p : ℕ) → r ≡ Err (NoRoom p) → FitsNot old (wants here))
+      → PutsOn here (wants here).pool (length bytes) old r new
+      → LaysOn here (wants here).pool bytes old r new
+      → IfErr r (λ x. (new ≡ old) ⊎ WantOfRoom (wants here).pool x)
       → Does disk old put_event (told reply.Count r) disk new
   puts_does serves queue room lacks puts lays left =
-      let o : Option Descriptor = descriptor (tables_of old) by fd in
+      let o : Option Descriptor = here in
       let means : Means reply.Count (λ s. writing.write s by fd bytes) put_event = (λ s. told_step reply.Count (λ a. refl) (writing.write s by fd bytes) s) in
       does_of tt (served reply.Count means serves) (asks_none refl)
       (record {
         room = λ done. ok_told reply.Count r _ room done;
         no_room = λ is. lacks_told reply.Count r _ (λ a. refl) lacks is;
-        early = λ is. (early_of reply.Count r (new ≡ old) _ (λ a. refl) (early_room (pool_of o)) left is, refl);
+        early = λ is. (early_of reply.Count r (new ≡ old) _ (λ a. refl) (early_room (wants o).pool) left is, refl);
         refused = λ unused is. never unused refl;
         late = put_late o queue lays;
       })

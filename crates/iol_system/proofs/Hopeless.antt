@@ -1,6 +1,7 @@
 -- An event for which there is no room, whatever it is refused for, evicts nothing.
-use Rattle.std.proofs.Common.{inl, inr, ◌≡◌, ◌⊎◌, ◌+◌, ◌<◌, ℕ, ◌≤◌, arith, true, false, List, Option, Some, length, refl, ap}
+use Rattle.std.proofs.Common.{inl, inr, ◌≡◌, ◌⊎◌, ◌+◌, ◌<◌, ℕ, ◌≤◌, arith, true, false, List, Option, Some, length, refl, ap, subst, sym}
 use Rattle.iol_back.specs.Disk.{Disk}
+use Rattle.iol_core.specs.State.{descriptor}
 use Rattle.iol_core.specs.Calls.Writing.{fitting}
 use Rattle.iol_core.specs.declared.descriptors.Descriptor.{Descriptor}
 use Rattle.iol_core.specs.declared.descriptors.Descriptor.TheVariants as on
@@ -31,6 +32,7 @@ use Rattle.iol_system.specs.Laws.{EvictsNothing, IsRead, RefusedWithoutRoomEvict
 use Rattle.iol_system.specs.Machine.{SystemState, tables_of}
 use Rattle.iol_system.proofs.Lacking.{only_hit, only_reserved, same_cache}
 use Rattle.iol_system.specs.Room.{CallHasRoom, HasRoomFor, HasRoomToRead, HasRoomToWrite, IsRefused}
+use Rattle.iol_system.specs.Wants.{Fits, Wants, for_written}
 
 -- By what a refusal leaves, where an event reads some bytes of files.
 
@@ -91,12 +93,9 @@ module _ (old new : SystemState) (x : Refusal) where
   write_on xs (Some (on.File f at mode)) late = written_met (λ f i. ⊥) old.kernel new.kernel x f xs late.1
   write_on xs o late = inl tt
 
-  abbrev fits : (pool : ℕ) → List ℕ → Option Descriptor → Type 0
-  fits pool bytes o = can_fit old.kernel pool (fitting (tables_of old.kernel) o (length bytes)) ≡ true
-
-  put_on : (pool : ℕ) (bytes : List ℕ) (o : Option Descriptor) → PutLeaves pool (fitting (tables_of old.kernel) o (length bytes)) bytes old.kernel o (reply.Refused x) new.kernel → Met (λ f i. ⊥) (fits pool bytes o)
-  put_on pool bytes (Some (on.File f at mode)) late = laid_met (λ f i. ⊥) old.kernel new.kernel x pool bytes late
-  put_on pool bytes o late = room_met (λ f i. ⊥) old.kernel new.kernel x pool _ late
+  put_on : (bytes : List ℕ) (w : Wants) (o : Option Descriptor) → w.count ≡ fitting (tables_of old.kernel) o (length bytes) → PutLeaves w bytes old.kernel o (reply.Refused x) new.kernel → Met (λ f i. ⊥) (Fits old.kernel w)
+  put_on bytes w (Some (on.File f at mode)) taken late = subst (λ n. Met (λ f i. ⊥) (can_fit old.kernel w.pool n ≡ true)) (sym taken) (laid_met (λ f i. ⊥) old.kernel new.kernel x w.pool bytes late)
+  put_on bytes w o taken late = room_met (λ f i. ⊥) old.kernel new.kernel x w.pool w.count late
 
   call_met : (by : ℕ) (c : Call) → CallLeaves old by c (reply.Refused x) new → (uses_cache (tables_of old.kernel) (event.Call by c) ≡ false → new.kernel ≡ old.kernel) → Met (IsRead (tables_of old.kernel) (event.Call by c)) (CallHasRoom old by c)
   call_met by (call.AggMake bytes) late unused = room_met (λ f i. ⊥) old.kernel new.kernel x _ _ late
@@ -104,7 +103,7 @@ module _ (old new : SystemState) (x : Refusal) where
   call_met by (call.IolRead fd n) late unused = read_on by fd n _ late
   call_met by (call.IolWrite fd a) late unused = write_on _ _ late
   call_met by (call.Read fd n) late unused = copy_on by fd n _ late
-  call_met by (call.Write fd bytes) late unused = put_on _ bytes _ late
+  call_met by (call.Write fd bytes) late unused = put_on bytes (for_written old.kernel by fd bytes) (descriptor (tables_of old.kernel) by fd) refl late
   call_met by c late unused = inl tt
 
   refusal_met : (e : Event) → LeavesLate old e (reply.Refused x) new → (uses_cache (tables_of old.kernel) e ≡ false → new.kernel ≡ old.kernel) → Met (IsRead (tables_of old.kernel) e) (HasRoomFor old e)

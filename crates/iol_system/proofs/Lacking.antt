@@ -41,6 +41,7 @@ use Rattle.iol_system.specs.Laws.{EvictsNothing, IsMet, IsRead, NoRoomEvictsNoth
 use Rattle.iol_system.specs.InPlace.{IsInRange}
 use Rattle.iol_system.specs.Machine.{SystemState, tables_of}
 use Rattle.iol_system.proofs.Hits.{AreHit, BeginAt, hit_then, hits_leave, others_stay}
+use Rattle.iol_system.specs.Wants.{Wants, for_written}
 use Rattle.iol_system.specs.Room.{CallLacksRoom, LacksRoomFor, LacksRoomToRead, LacksRoomToWrite}
 
 -- Of pages: what was freed nothing holds any more, and what is held is held as often.
@@ -211,9 +212,9 @@ module _ (old new : SystemState) (p : ℕ) where
   write_on xs (Some (on.File f at mode)) late lacks = write_left (λ f i. ⊥) f p xs old.kernel new.kernel late.1
   write_on xs o late lacks = absurd lacks
 
-  put_on : (pool n : ℕ) (bytes : List ℕ) (o : Option Descriptor) → PutLeaves pool n bytes old.kernel o (reply.Refused (NoRoom p)) new.kernel → Kept (λ f i. ⊥)
-  put_on pool n bytes (Some (on.File f at mode)) late = put_left (λ f i. ⊥) pool p bytes old.kernel new.kernel late
-  put_on pool n bytes o late = room_left (λ f i. ⊥) pool n p old.kernel new.kernel late
+  put_on : (w : Wants) (bytes : List ℕ) (o : Option Descriptor) → PutLeaves w bytes old.kernel o (reply.Refused (NoRoom p)) new.kernel → Kept (λ f i. ⊥)
+  put_on w bytes (Some (on.File f at mode)) late = put_left (λ f i. ⊥) w.pool p bytes old.kernel new.kernel late
+  put_on w bytes o late = room_left (λ f i. ⊥) w.pool w.count p old.kernel new.kernel late
 
   call_left : (by : ℕ) (c : Call) → CallLeaves old by c (reply.Refused (NoRoom p)) new → CallLacksRoom old by c → (uses_cache (tables_of old.kernel) (event.Call by c) ≡ false → new ≡ old) → Kept (IsRead (tables_of old.kernel) (event.Call by c))
   call_left by (call.AggMake bytes) late lacks unused = room_left (λ f i. ⊥) _ _ p old.kernel new.kernel late
@@ -221,7 +222,7 @@ module _ (old new : SystemState) (p : ℕ) where
   call_left by (call.IolRead fd n) late lacks unused = read_on by fd n _ late lacks
   call_left by (call.IolWrite fd a) late lacks unused = write_on _ _ late lacks
   call_left by (call.Read fd n) late lacks unused = copy_on by fd n _ late lacks
-  call_left by (call.Write fd bytes) late lacks unused = put_on _ _ bytes _ late
+  call_left by (call.Write fd bytes) late lacks unused = put_on (for_written old.kernel by fd bytes) bytes _ late
   call_left by c late lacks unused = absurd lacks
 
   event_left : (e : Event) → LeavesLate old e (reply.Refused (NoRoom p)) new → LacksRoomFor old e → (uses_cache (tables_of old.kernel) e ≡ false → new ≡ old) → Kept (IsRead (tables_of old.kernel) e)
