@@ -1,186 +1,79 @@
 -- Aggregates come by the numbers that replies give, and what is given up is gone.
-use Rattle.std.proofs.Common.{inl, inr, ◌≡◌, ◌≢◌, ◌≤◌, ℕ, ◌+◌, ◌==◌, ◌⊎◌, List, [], ◌∷◌, ◌++◌, length, take, drop, ap, ◌∙◌, refl, sym, subst, arith, Option, Some, None, true, false, Bool, append_assoc}
-use Rattle.std.specs.Prelude.{option_map, unwrap_or, not, is_none, fold, slice_set, if◌then◌else◌, ◌&&◌, ◌||◌}
-use Rattle.std.specs.Option.{option_map_or}
+use Rattle.std.proofs.Common.{inl, inr, ◌≡◌, ◌≢◌, ◌≤◌, ℕ, ◌+◌, ◌==◌, ◌⊎◌, List, [], ◌∷◌, ◌++◌, take, drop, ap, ◌∙◌, refl, sym, subst, arith, Option, Some, None, true, false, Bool, append_assoc}
+use Rattle.std.specs.Prelude.{option_map, not, is_none, fold, if◌then◌else◌, ◌&&◌, ◌||◌}
 use Rattle.std.proofs.lemmas.Bool.Decides.{nat_tests}
 use Rattle.std.proofs.lemmas.Grind.{common_steps}
 use Rattle.iol_core.specs.Text.{Text, bytes_of}
-use Rattle.iol_core.specs.Numbered.{lookup, without, lowest, placed}
-use Rattle.iol_core.specs.State.{State, Domain, domain, is_live, aggregate, text, descriptor, new_domain, no_domain, with_domain, with_conn, with_content}
+use Rattle.iol_core.specs.Numbered.{lookup, without}
+use Rattle.iol_core.specs.State.{State, Domain, domain, is_live, aggregate, text, no_domain, with_domain}
 use Rattle.iol_core.specs.Meaning.{first}
 use Rattle.iol_core.specs.Run.{called, meaning, StepsTo}
 use Rattle.iol_core.specs.Values.{gives_up}
-use Rattle.iol_core.specs.Calls.Domains.{domain_new}
 use Rattle.iol_core.specs.Calls.Aggregates as aggs
 use Rattle.iol_core.specs.Calls.Descriptors as fds
-use Rattle.iol_core.specs.Calls.Reading as reading
-use Rattle.iol_core.specs.Calls.Writing as writing
 use Rattle.iol_core.specs.declared.refusals.Refusal.TheVariants as refuse
-use Rattle.iol_core.specs.declared.descriptors.Descriptor.{Descriptor}
-use Rattle.iol_core.specs.declared.descriptors.Descriptor.TheVariants as on
 use Rattle.iol_core.specs.declared.events.Call.{Call}
 use Rattle.iol_core.specs.declared.events.Call.TheVariants as call
 use Rattle.iol_core.specs.declared.events.Event.{Event}
 use Rattle.iol_core.specs.declared.events.Event.TheVariants as event
 use Rattle.iol_core.specs.declared.events.Reply.{Reply}
 use Rattle.iol_core.specs.declared.events.Reply.TheVariants as reply
-use Rattle.iol_core.proofs.Lookups.{domain-with_domain, domain-same, domain-push}
+use Rattle.iol_core.proofs.Lookups.{domain-same}
 use Rattle.iol_core.proofs.Passing.{passed, when-none}
 use Rattle.iol_laws.specs.Order.{IsOrderly, Once}
 use Rattle.iol_laws.specs.Caller.{lent_at}
 use Rattle.iol_laws.specs.Aggregates.{brings, is_refusal}
+use Rattle.iol_laws.proofs.AggsOfEach.{Brings, BringsIn, IsOfAggs, of_meant}
 use Rattle.iol_laws.proofs.Connections.{forgotten, once-without}
-use Rattle.iol_laws.proofs.Domains.{domain-with_other, domain-with_same, domains-all_closed, domains-closed_on, domains-with_conn, domains-with_pipe, live-first}
+use Rattle.iol_laws.proofs.Domains.{domain-with_other, domain-with_same, domains-all_closed, live-first}
 use Rattle.iol_laws.proofs.Places.{lookup-push_other, lookup-without_none}
 use Rattle.iol_laws.proofs.Tests.{apart, both-true, same-number}
 
--- What a domain has not, after each kind of change.
+-- What a domain has not, after each event.
 
 abbrev Lacks : State → (d a : ℕ) → Type 0
 Lacks s d a = aggregate s d a ≡ None
 
-lacks_same : (s t : State) (d a : ℕ) → t.domains ≡ s.domains → Lacks s d a → Lacks t d a
-lacks_same s t d a same none = ap (λ (y : Domain Text). lookup y.aggs a) (domain-same s t d same) ∙ none
+-- domain d has not aggregate a, by what each has
+abbrev LacksIn : (d a e : ℕ) → List (ℕ × Text) → (next : ℕ) → Type 0
+LacksIn d a e kept n = e ≡ d → lookup kept a ≡ None
 
-lacks_domain : (s : State) (by : ℕ) (y : Domain Text) (d a : ℕ) → (by ≡ d → lookup y.aggs a ≡ None) → Lacks s d a → Lacks (with_domain s by y) d a
-lacks_domain s by y d a new none = elim (domain-with_domain s by d y) [
-  | inl both ↦ ap (λ (z : Domain Text). lookup z.aggs a) both.1 ∙ new both.0
-  | inr same ↦ ap (λ (z : Domain Text). lookup z.aggs a) same ∙ none
-]
-
--- of that domain
-own : (s : State) (by d a : ℕ) → Lacks s d a → by ≡ d → Lacks s by a
-own s by d a none same = subst (λ n. Lacks s n a) (sym same) none
-
-lacks_fds : (s : State) (by : ℕ) (xs : List (Option Descriptor)) (d a : ℕ) → Lacks s d a → Lacks (fds.with_fds s by xs) d a
-lacks_fds s by xs d a none = lacks_domain s by (record (domain s by) { fds = xs }) d a (own s by d a none) none
+abbrev IsOther : (d a e n : ℕ) → Text → Type 0
+IsOther d a e n t = ((e == d) && (n == a)) ≡ false
 
 differs : (by d n a : ℕ) → ((by == d) && (n == a)) ≡ false → by ≡ d → n ≢ a
 differs by d n a un same equal = grind (arith, nat_tests, common_steps, un, same, equal)
 
-lacks_new : (s : State) (by : ℕ) (kept : List (ℕ × Text)) (t : Text) (d a : ℕ) → (by ≡ d → lookup kept a ≡ None) → ((by == d) && (aggs.next_agg s by == a)) ≡ false → Lacks s d a → Lacks (aggs.with_new s by kept t) d a
-lacks_new s by kept t d a left un none = lacks_domain s by _ d a (λ same. lookup-push_other kept (aggs.next_agg s by) a t (differs by d (aggs.next_agg s by) a un same) ∙ left same) none
+stays_lacking : (d a : ℕ) → IsOfAggs (LacksIn d a) (IsOther d a)
+stays_lacking d a = record {
+  none = λ e n same. refl;
+  added = λ e n kept t un none same. lookup-push_other kept n a t (differs e d n a un same) ∙ none same;
+  gone = λ e n kept b none same. lookup-without_none kept b a (none same);
+}
 
-lacks_agg : (s : State) (by : ℕ) (t : Text) (d a : ℕ) → ((by == d) && (aggs.next_agg s by == a)) ≡ false → Lacks s d a → Lacks (aggs.with_agg s by t) d a
-lacks_agg s by t d a un none = lacks_new s by (domain s by).aggs t d a (own s by d a none) un none
+neither : (x y z : Bool) → (x && (y || z)) ≡ false → ((x && y) ≡ false) × ((x && z) ≡ false)
+neither true false false un = (refl, refl)
+neither true true z un = absurd (cc)
+neither true false true un = absurd (cc)
+neither false y z un = (refl, refl)
 
-lacks_without : (s : State) (by b d a : ℕ) → Lacks s d a → Lacks (aggs.without_agg s by b) d a
-lacks_without s by b d a none = lacks_domain s by _ d a (λ same. lookup-without_none (domain s by).aggs b a (own s by d a none same)) none
+other_call : (s : State) (by : ℕ) (k : Call) (d a : ℕ) → brings (event.Call by k) (called s by k).answer d a ≡ false → Brings (IsOther d a) s by k
+other_call s by (call.AggMake bytes) d a un = un
+other_call s by (call.AggDup x) d a un = un
+other_call s by (call.AggCut x from to) d a un = un
+other_call s by (call.AggSplit x at) d a un = neither (by == d) (aggs.next_agg s by == a) (aggs.next_agg s by + 1 == a) un
+other_call s by (call.AggJoin x y) d a un = un
+other_call s by (call.AggReplace x from to y) d a un = un
+other_call s by (call.AggGive x to) d a un = un
+other_call s by (call.IolRead f n) d a un = un
+other_call s by k d a un = tt
 
--- two more behind a list
-pub pushed-two : (kept : List (ℕ × Text)) (n a : ℕ) (t u : Text) → n ≢ a → n + 1 ≢ a → lookup (kept ++ (n, t) ∷ (n + 1, u) ∷ []) a ≡ lookup kept a
-pushed-two kept n a t u one two =
-    sym (ap (λ (l : List (ℕ × Text)). lookup l a) (append_assoc kept ((n, t) ∷ []) ((n + 1, u) ∷ [])))
-    ∙ (lookup-push_other (kept ++ (n, t) ∷ []) (n + 1) a u two ∙ lookup-push_other kept n a t one)
-
-lacks_split : (s : State) (by b at d a : ℕ) → ((by == d) && ((aggs.next_agg s by == a) || (aggs.next_agg s by + 1 == a))) ≡ false → Lacks s d a → Lacks (aggs.agg_split s by b at).after d a
-lacks_split s by b at d a un none = lacks_domain s by _ d a (λ same. pushed-two (without (domain s by).aggs b) (aggs.next_agg s by) a (take at (text s by b)) (drop at (text s by b)) (first-differs same) (second-differs same) ∙ lookup-without_none (domain s by).aggs b a (own s by d a none same)) none
-  where
-    not-two : (x y z : Bool) → (x && (y || z)) ≡ false → x ≡ true → (y ≡ true) ⊎ (z ≡ true) → ⊥
-    not-two true true z un is one = absurd (cc)
-    not-two true false true un is one = absurd (cc)
-    not-two true false false un is (inl y) = absurd (cc)
-    not-two true false false un is (inr y) = absurd (cc)
-    not-two false y z un is one = absurd (cc)
-
-    first-differs : by ≡ d → aggs.next_agg s by ≢ a
-    first-differs same equal = not-two (by == d) (aggs.next_agg s by == a) (aggs.next_agg s by + 1 == a) un (grind (arith, nat_tests, same)) (inl (grind (arith, nat_tests, equal)))
-
-    second-differs : by ≡ d → aggs.next_agg s by + 1 ≢ a
-    second-differs same equal = not-two (by == d) (aggs.next_agg s by == a) (aggs.next_agg s by + 1 == a) un (grind (arith, nat_tests, same)) (inr (grind (arith, nat_tests, equal)))
-
-lacks_give : (s : State) (by b to d a : ℕ) → ((to == d) && (aggs.next_agg s to == a)) ≡ false → Lacks s d a → Lacks (aggs.agg_give s by b to).after d a
-lacks_give s by b to d a un none = cases (by == to) refl
-  where
-    cases : (c : Bool) → (by == to) ≡ c → Lacks (if c then aggs.with_new s by (without (domain s by).aggs b) (text s by b) else aggs.without_agg (aggs.with_agg s to (text s by b)) by b) d a
-    cases true is =
-        let un_by = subst (λ n. ((n == d) && (aggs.next_agg s n == a)) ≡ false) (sym (same-number by to is)) un in
-        lacks_new s by (without (domain s by).aggs b) (text s by b) d a (λ same. lookup-without_none (domain s by).aggs b a (own s by d a none same)) un_by none
-    cases false is = lacks_without (aggs.with_agg s to (text s by b)) by b d a (lacks_agg s to (text s by b) d a un none)
-
-lacks_given : (s : State) (by fd to : ℕ) (o : Option Descriptor) (d a : ℕ) → Lacks s d a → Lacks (option_map_or (fds.given_to s by fd to) o s) d a
-lacks_given s by fd to None d a none = none
-lacks_given s by fd to (Some x) d a none = cases (by == to)
-  where
-    cases : (b : Bool) → Lacks (if b then fds.with_fds s by (placed (fds.freed s by fd) (lowest (fds.freed s by fd)) x) else fds.with_fds (fds.opened s to x) by (fds.freed s by fd)) d a
-    cases true = lacks_fds s by _ d a none
-    cases false = lacks_fds (fds.opened s to x) by _ d a (lacks_fds s to _ d a none)
-
-lacks_read_on : (s : State) (by fd : ℕ) (o : Option Descriptor) (n d a : ℕ) → Lacks s d a → Lacks (reading.read_on s by fd o n) d a
-lacks_read_on s by fd None n d a none = none
-lacks_read_on s by fd (Some (on.File f at mode)) n d a none = lacks_fds s by _ d a none
-lacks_read_on s by fd (Some (on.ReadEnd p)) n d a none = lacks_same s _ d a (domains-with_pipe s p _) none
-lacks_read_on s by fd (Some (on.WriteEnd p)) n d a none = none
-lacks_read_on s by fd (Some (on.Connection c)) n d a none = lacks_same s _ d a (domains-with_conn s c _) none
-
--- reading gives no number
-next-read_on : (s : State) (by fd : ℕ) (o : Option Descriptor) (n : ℕ) → (domain (reading.read_on s by fd o n) by).next_agg ≡ (domain s by).next_agg
-next-read_on s by fd None n = refl
-next-read_on s by fd (Some (on.File f at mode)) n = elim (domain-with_domain s by by (record (domain s by) { fds = slice_set (domain s by).fds fd (Some (on.File f (at + n) mode)) })) [ inl both ↦ ap (λ (y : Domain Text). y.next_agg) both.1 | inr same ↦ ap (λ (y : Domain Text). y.next_agg) same ]
-next-read_on s by fd (Some (on.ReadEnd p)) n = ap (λ (y : Domain Text). y.next_agg) (domain-same s _ by (domains-with_pipe s p _))
-next-read_on s by fd (Some (on.WriteEnd p)) n = refl
-next-read_on s by fd (Some (on.Connection c)) n = ap (λ (y : Domain Text). y.next_agg) (domain-same s _ by (domains-with_conn s c _))
-
-lacks_iol_read : (s : State) (by fd n d a : ℕ) → ((by == d) && (aggs.next_agg s by == a)) ≡ false → Lacks s d a → Lacks (reading.iol_read s by fd n).after d a
-lacks_iol_read s by fd n d a un none =
-    let o : Option Descriptor = descriptor s by fd in
-    let count = length (reading.read_text s by o n) in
-    let read : State = reading.read_on s by fd o count in
-    lacks_agg read by (reading.read_text s by o n) d a (ap (λ k. (by == d) && (k == a)) (next-read_on s by fd o count) ∙ un) (lacks_read_on s by fd o count d a none)
-
-lacks_written : (s : State) (by fd : ℕ) (o : Option Descriptor) (w : Text) (d a : ℕ) → Lacks s d a → Lacks (writing.written s by fd o w) d a
-unfolding with_content
-lacks_written s by fd None w d a none = none
-lacks_written s by fd (Some (on.File f at mode)) w d a none = lacks_fds (with_content s f _) by _ d a (lacks_same s (with_content s f _) d a refl none)
-lacks_written s by fd (Some (on.ReadEnd p)) w d a none = none
-lacks_written s by fd (Some (on.WriteEnd p)) w d a none = lacks_same s _ d a (domains-with_pipe s p _) none
-lacks_written s by fd (Some (on.Connection c)) w d a none = lacks_same s _ d a (domains-with_conn s c _) none
-
-lacks_domain_new : (s : State) (by d a : ℕ) → Lacks s d a → Lacks (domain_new s by).after d a
-lacks_domain_new s by d a none = elim (domain-push s new_domain d) [
-  | inl same ↦ ap (λ (z : Domain Text). lookup z.aggs a) same ∙ none
-  | inr both ↦ ap (λ (z : Domain Text). lookup z.aggs a) both.1
-]
-
-lacks_called : (s : State) (by : ℕ) (k : Call) (d a : ℕ) → brings (event.Call by k) (called s by k).answer d a ≡ false → Lacks s d a → Lacks (called s by k).after d a
-unfolding with_domain
-lacks_called s by call.DomainNew d a un none = lacks_domain_new s by d a none
-lacks_called s by call.Exit d a un none = lacks_domain (fold fds.closed_on s (domain s by).fds) by no_domain d a (λ same. refl) (lacks_same s (fold fds.closed_on s (domain s by).fds) d a (domains-all_closed s (domain s by).fds) none)
-lacks_called s by (call.PoolCreate chunks list) d a un none = lacks_same s (called s by (call.PoolCreate chunks list)).after d a refl none
-lacks_called s by (call.PoolClose p) d a un none = lacks_same s (called s by (call.PoolClose p)).after d a refl none
-lacks_called s by (call.PoolAdmit p e) d a un none = lacks_same s (called s by (call.PoolAdmit p e)).after d a refl none
-lacks_called s by (call.SetPool p) d a un none = lacks_domain s by _ d a (own s by d a none) none
-lacks_called s by (call.AggMake bytes) d a un none = lacks_agg s by _ d a un none
-lacks_called s by (call.AggDup x) d a un none = lacks_agg s by _ d a un none
-lacks_called s by (call.AggCut x from to) d a un none = lacks_agg s by _ d a un none
-lacks_called s by (call.AggSplit x at) d a un none = lacks_split s by x at d a un none
-lacks_called s by (call.AggJoin x y) d a un none = lacks_new s by (without (without (domain s by).aggs x) y) _ d a (λ same. lookup-without_none (without (domain s by).aggs x) y a (lookup-without_none (domain s by).aggs x a (own s by d a none same))) un none
-lacks_called s by (call.AggReplace x from to y) d a un none = lacks_agg s by _ d a un none
-lacks_called s by (call.AggDrop x) d a un none = lacks_without s by x d a none
-lacks_called s by (call.AggGive x to) d a un none = lacks_give s by x to d a un none
-lacks_called s by (call.Show x) d a un none = none
-lacks_called s by (call.FileNew name p) d a un none = lacks_same s (called s by (call.FileNew name p)).after d a refl none
-lacks_called s by (call.OpenFile name mode) d a un none = lacks_fds s by _ d a none
-lacks_called s by call.Pipe d a un none = lacks_same (fds.with_fds s by (placed (fds.with_read_end (domain s by).fds (lowest s.pipes)) (lowest (fds.with_read_end (domain s by).fds (lowest s.pipes))) (on.WriteEnd (lowest s.pipes)))) (called s by call.Pipe).after d a refl (lacks_fds s by _ d a none)
-lacks_called s by (call.GiveFd f to) d a un none = lacks_given s by f to (descriptor s by f) d a none
-lacks_called s by (call.Close f) d a un none = lacks_fds (fds.closed_on s (descriptor s by f)) by _ d a (lacks_same s (fds.closed_on s (descriptor s by f)) d a (domains-closed_on s (descriptor s by f)) none)
-lacks_called s by (call.Seek f at) d a un none = lacks_fds s by _ d a none
-lacks_called s by (call.Length f) d a un none = none
-lacks_called s by (call.IolRead f n) d a un none = lacks_iol_read s by f n d a un none
-lacks_called s by (call.IolWrite f x) d a un none = lacks_written s by f (descriptor s by f) _ d a none
-lacks_called s by call.Accept d a un none = lacks_fds (with_conn s (unwrap_or (fds.waiting s by) 0) _) by _ d a (lacks_same s (with_conn s (unwrap_or (fds.waiting s by) 0) _) d a (domains-with_conn s (unwrap_or (fds.waiting s by) 0) _) none)
-lacks_called s by (call.Fsync f) d a un none = none
-lacks_called s by (call.Read f n) d a un none = lacks_read_on s by f (descriptor s by f) _ d a none
-lacks_called s by (call.Write f bytes) d a un none = lacks_written s by f (descriptor s by f) _ d a none
+other_event : (s : State) (e : Event) (d a : ℕ) → brings e (meaning s e).answer d a ≡ false → BringsIn (IsOther d a) s e
+other_event s (event.Call by k) d a un = other_call s by k d a un
+other_event s e d a un = tt
 
 lacks_meant : (s : State) (e : Event) (d a : ℕ) → brings e (meaning s e).answer d a ≡ false → Lacks s d a → Lacks (meaning s e).after d a
-lacks_meant s (event.Call by k) d a un none = lacks_called s by k d a un none
-lacks_meant s (event.ConnNew p) d a un none = lacks_same s (meaning s (event.ConnNew p)).after d a refl none
-lacks_meant s (event.Arrive c bytes) d a un none = lacks_same s _ d a (domains-with_conn s c _) none
-lacks_meant s (event.PeerClosed c how) d a un none = lacks_same s _ d a (domains-with_conn s c _) none
-lacks_meant s (event.Transmit c max) d a un none = lacks_same s _ d a (domains-with_conn s c _) none
-lacks_meant s event.Flush d a un none = none
-lacks_meant s event.DropClean d a un none = none
+lacks_meant s e d a un none = of_meant (LacksIn d a) (IsOther d a) (stays_lacking d a) s e (other_event s e d a un) (λ b same. subst (λ n. Lacks s n a) (sym same) none) d refl
 
 lent-none : (s : State) (d a : ℕ) → lent_at s d a ≡ None → Lacks s d a
 lent-none s d a none = by (aggregate s d a) none
@@ -197,6 +90,12 @@ none_step s t e (reply.Refused x) d a step none un = ap (λ u. lent_at u d a) st
 none_step s t e r d a step none un = ap (λ u. lent_at u d a) step.2 ∙ unlent (meaning s e).after d a (lacks_meant s e d a (sym (ap (λ q. brings e q d a) step.1) ∙ un) (lent-none s d a none))
 
 -- What is given up.
+
+-- two more behind a list
+pub pushed-two : (kept : List (ℕ × Text)) (n a : ℕ) (t u : Text) → n ≢ a → n + 1 ≢ a → lookup (kept ++ (n, t) ∷ (n + 1, u) ∷ []) a ≡ lookup kept a
+pushed-two kept n a t u one two =
+    sym (ap (λ (l : List (ℕ × Text)). lookup l a) (append_assoc kept ((n, t) ∷ []) ((n + 1, u) ∷ [])))
+    ∙ (lookup-push_other (kept ++ (n, t) ∷ []) (n + 1) a u two ∙ lookup-push_other kept n a t one)
 
 -- a number that a domain has is below its next
 below : (s : State) (d a : ℕ) → IsOrderly s → aggs.lacks_agg s d a ≡ false → (aggs.next_agg s d ≢ a) × (aggs.next_agg s d + 1 ≢ a)

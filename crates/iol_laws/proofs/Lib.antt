@@ -7,6 +7,7 @@ pub mod Left
 pub mod Streams
 pub mod Order
 pub mod Texts
+pub mod AggsOfEach
 pub mod Numbers
 pub mod Ended
 pub mod Caller

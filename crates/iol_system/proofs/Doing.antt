@@ -1,12 +1,15 @@
 -- What an event does, by what the kernel says of its call.
-use Rattle.std.proofs.Common.{◌≡◌, ◌∙◌, ℕ, List, [], true, false, refl, ap, sym, subst}
+use Rattle.std.proofs.Common.{◌≡◌, ◌∙◌, ℕ, Bool, List, [], true, false, ap, refl, subst, sym}
 use Rattle.std.proofs.lemmas.Bool.{true≢false}
 use Rattle.std.specs.Prelude.{Result, Ok, Err, OnErr, OnOk}
-use Rattle.iol_back.specs.Disk.{Disk}
+use Rattle.iol_back.specs.Disk.{Disk, IfHonest}
+use Rattle.iol_cache.specs.Serving.{FaultCounts}
 use Rattle.iol_core.specs.State.{State}
 use Rattle.iol_core.specs.Meaning.{Meaning, Step}
-use Rattle.iol_core.specs.Run.{meaning, outcome, replied}
-use Rattle.iol_core.specs.Sharing.{is_sharing}
+use Rattle.iol_core.specs.Positions.{ArePlaced}
+use Rattle.iol_core.specs.Run.{StepsTo, meaning, outcome}
+use Rattle.iol_core.specs.Calls.Aggregates as aggs
+use Rattle.iol_core.specs.Sharing.{is_sharing, LaysOut}
 use Rattle.iol_core.specs.declared.refusals.Refusal.{Refusal}
 use Rattle.iol_core.specs.declared.refusals.Refusal.TheVariants.{NoRoom}
 use Rattle.iol_core.specs.declared.events.Call.{Call}
@@ -16,66 +19,137 @@ use Rattle.iol_core.specs.declared.events.Event.TheVariants as event
 use Rattle.iol_core.specs.declared.events.Reply.{Reply}
 use Rattle.iol_core.specs.declared.events.Reply.TheVariants as reply
 use Rattle.iol_hold.specs.Layout.{number_at}
+use Rattle.iol_hold.specs.Moves.{Stays}
 use Rattle.iol_hold.specs.Pages.{KeepsPages}
 use Rattle.iol_hold.proofs.AtPlaces.{keeps_numbers}
-use Rattle.iol_kernel.specs.Backed.{LooksUp, StepsBeside, with_slots}
-use Rattle.iol_kernel.specs.Calls.{CarriesOut, KeepsPlaces, Names, with_reader}
+use Rattle.iol_kernel.specs.Backed.{IsBackedBy, LooksUp, Serves, StepsBeside}
+use Rattle.iol_kernel.specs.Calls.{CarriesOut, KeepsPlaces, Names, Steps, with_reader}
 use Rattle.iol_kernel.specs.KernelState.{KernelState, IsSound, layout_of, machine_of, read_of}
 use Rattle.iol_kernel.specs.Readings.{Reading, KeepsPools}
-use Rattle.iol_kernel.proofs.State.Carried.{carried_machine, carried_layout}
-use Rattle.iol_kernel.proofs.State.Serving.{backed_stays, steps_beside}
-use Rattle.iol_kernel.proofs.State.Stay.{pages_equal, stays_equal}
-use Rattle.iol_system.specs.Asking.{asks_store, makes_file}
+use Rattle.iol_kernel.proofs.State.Carried.{carried_layout}
+use Rattle.iol_kernel.proofs.State.Serving.{carried_serves, kept_serves, still_serves}
+use Rattle.iol_kernel.proofs.State.Stay.{pages_equal, stays_equal, stays_here}
+use Rattle.iol_system.specs.Asking.{asks_store, makes_file, uses_cache, writes_store}
 use Rattle.iol_system.specs.Doing.{Does}
 use Rattle.iol_system.specs.FileEnds.{TellsEnd}
+use Rattle.iol_system.specs.InPlace.{KeepsInPlace, SharesFile}
 use Rattle.iol_system.specs.Late.{LeavesLate}
 use Rattle.iol_system.specs.Machine.{SystemState, system_of, tables_of}
-use Rattle.iol_system.specs.Placed.{Creates, Publishes}
+use Rattle.iol_system.specs.Placed.{Creates, Publishes, SamePages}
 use Rattle.iol_system.specs.Remembered.{Remembers}
 use Rattle.iol_system.specs.Replies.{told}
-use Rattle.iol_system.specs.Room.{HasRoomFor, IsDone, IsEarly, IsNoRoom, IsRefused}
+use Rattle.iol_system.specs.Room.{HasRoomFor, LacksRoomFor, IsDone, IsEarly, IsFault, IsNoRoom, IsRefused}
 use Rattle.iol_system.specs.Still.{is_still, keeps_store, only_looks, takes_out}
+use Rattle.iol_system.specs.WrittenBack.{WritesBack}
 use Rattle.iol_system.proofs.InPlace.{cache_in_place, cover_in_place, shares_file, shares_none}
 use Rattle.iol_system.proofs.Paged.{carried_pages}
+use Rattle.iol_system.proofs.Telling.{Means, Tells, done, early_told, no_room_told, refused_told, told_beside}
 use Rattle.iol_system.proofs.WrittenBack.{none_back, writes_back}
 
--- a reply that says an answer is no refusal
-pub record Tells {A : Type 0} (f : A → Reply) : Type 0 where
-  pub answers : (a : A) → outcome (f a) ≡ Ok (f a)
-  pub roomy : (a : A) → IsNoRoom (f a) → ⊥
-  pub unrefused : (a : A) → IsRefused (f a) → ⊥
+-- a test that fails does not hold
+pub never : {X : Type 0} {b : Bool} → b ≡ false → b ≡ true → X
+never fails is = absurd (true≢false (sym is ∙ fails))
 
-pub told_step : {A : Type 0} (f : A → Reply) → Tells f → (m : Meaning A) (s t : State) (r : Result A Refusal) → Step m s r t → Step (replied f m) s (outcome (told f r)) t
-told_step f tells m s t (Ok a) step = subst (λ (o : Result Reply Refusal). Step (replied f m) s o t) (sym (tells.answers a)) (step.0, ap f step.1, step.2)
-told_step f tells m s t (Err x) step = step
+-- What an event does, in five parts: the machine's step,
+pub record Goes (disk : Disk) (old : KernelState) (e : Event) (r : Reply) (after : Disk) (new : KernelState) : Type 0 where
+  pub step : IsBackedBy disk old → ArePlaced (machine_of disk.slots old) → StepsTo (machine_of disk.slots old) e r (machine_of after.slots new)
+  pub backed : IsBackedBy disk old → IsBackedBy after new
+  pub beside : StepsBeside (λ s. meaning s e) old (outcome r) new
+  pub honest : after.honest ≡ disk.honest
+  pub sound : IsSound new
+  pub stays : Stays old.store new.store
 
--- what the call means is what the event means
-abbrev pub Means : {A : Type 0} → (f : A → Reply) → (State → Meaning A) → Event → Type 0
-Means {A} f m e = (s t : State) (r : Result A Refusal) → Step (m s) s r t → Step (meaning s e) s (outcome (told f r)) t
+-- what it asks of the store,
+pub record Asks (disk : Disk) (old : KernelState) (e : Event) (r : Reply) (after : Disk) : Type 0 where
+  pub unasked : asks_store (tables_of old) e ≡ false → after ≡ disk
+  pub faults : asks_store (tables_of old) e ≡ true → FaultCounts disk after (outcome r)
+  pub slots : IfHonest disk (writes_store e ≡ false → after.slots ≡ disk.slots)
+  pub asked : asks_store (tables_of old) e ≡ true → IsFault r → HasRoomFor (system_of old disk) e
 
-pub told_beside : {A : Type 0} (f : A → Reply) (m : State → Meaning A) (e : Event) (old new : KernelState) (r : Result A Refusal) → Means f m e → StepsBeside m old r new → StepsBeside (λ s. meaning s e) old (outcome (told f r)) new
-told_beside f m e old new r means b = record { before = b.before; after = b.after; step = means (with_slots b.before old) (with_slots b.after new) r b.step }
+-- where it has room, and what a refusal leaves,
+pub record Refuses (disk : Disk) (old : KernelState) (e : Event) (r : Reply) (after : Disk) (new : KernelState) : Type 0 where
+  pub room : IsDone r → HasRoomFor (system_of old disk) e
+  pub no_room : IsNoRoom r → LacksRoomFor (system_of old disk) e
+  pub early : IsEarly r → (new ≡ old) × (after ≡ disk)
+  pub refused : uses_cache (tables_of old) e ≡ false → IsRefused r → new ≡ old
+  pub late : LeavesLate (system_of old disk) e r (system_of new after)
 
-pub no_room_told : {A : Type 0} (f : A → Reply) (r : Result A Refusal) → Tells f → ((p : ℕ) → r ≡ Err (NoRoom p) → ⊥) → IsNoRoom (told f r) → ⊥
-no_room_told f (Ok a) tells roomy is = tells.roomy a is
-no_room_told f (Err (NoRoom p)) tells roomy is = roomy p refl
-no_room_told f (Err x) tells roomy is = is
+-- what becomes of files, pages and pools,
+pub record Alters (disk : Disk) (old : KernelState) (e : Event) (r : Reply) (after : Disk) (new : KernelState) : Type 0 where
+  pub uncached : uses_cache (tables_of old) e ≡ false → makes_file e ≡ false → new.cache ≡ old.cache
+  pub in_place : KeepsInPlace (system_of old disk) e new
+  pub shares_file : IsDone r → SharesFile (system_of old disk) e r new
+  pub publishes : IsDone r → Publishes old e new
+  pub creates : Creates old e r new
+  pub sums : Remembers old e r new
+  pub written_back : WritesBack disk old e r after new
 
-pub refused_told : {A : Type 0} (f : A → Reply) (r : Result A Refusal) (X : Type 0) → Tells f → OnErr r X → IsRefused (told f r) → X
-refused_told f (Ok a) X tells err is = absurd (tells.unrefused a is)
-refused_told f (Err x) X tells err is = err
+-- and what lies where it lay.
+pub record Lies (disk : Disk) (old : KernelState) (e : Event) (r : Reply) (after : Disk) (new : KernelState) : Type 0 where
+  pub looks : only_looks e ≡ true → (new ≡ old) × (after ≡ disk)
+  pub shares : is_sharing (tables_of old) e ≡ true → LaysOut (layout_of old) e r (layout_of new)
+  pub pages : is_sharing (tables_of old) e ≡ true → SamePages old.store new.store
+  pub still : is_still e ≡ true → LaysOut (layout_of old) e r (layout_of new)
+  pub places : takes_out (tables_of old) e ≡ true → IsDone r → layout_of new ≡ (meaning (layout_of old) e).after
+  pub store : keeps_store e ≡ true → new.store ≡ old.store
+
+pub does_of : {disk after : Disk} {old new : KernelState} {e : Event} {r : Reply} → TellsEnd (system_of old disk) e r → Goes disk old e r after new → Asks disk old e r after → Refuses disk old e r after new → Alters disk old e r after new → Lies disk old e r after new
+    → Does disk old e r after new
+does_of ends goes asks refuses alters lies = record {
+  step = goes.step;
+  backed = goes.backed;
+  beside = goes.beside;
+  honest = goes.honest;
+  unasked = asks.unasked;
+  faults = asks.faults;
+  slots = asks.slots;
+  asked = asks.asked;
+  room = refuses.room;
+  no_room = refuses.no_room;
+  early = refuses.early;
+  refused = refuses.refused;
+  uncached = alters.uncached;
+  late = refuses.late;
+  looks = lies.looks;
+  shares = lies.shares;
+  pages = lies.pages;
+  still = lies.still;
+  places = lies.places;
+  store = lies.store;
+  in_place = alters.in_place;
+  shares_file = alters.shares_file;
+  publishes = alters.publishes;
+  creates = alters.creates;
+  ends = ends;
+  sums = alters.sums;
+  written_back = alters.written_back;
+  sound = goes.sound;
+  stays = goes.stays;
+}
+
+-- by what the call means
+pub served : {A : Type 0} (f : A → Reply) {m : State → Meaning A} {e : Event} {disk after : Disk} {old new : KernelState} {r : Result A Refusal} → Means f m e → Serves m disk old r after new → Goes disk old e (told f r) after new
+served f {m} {e} {disk} {after} {old} {new} {r} means serves = record {
+  step = λ backed placed. means (machine_of disk.slots old) (machine_of after.slots new) r (serves.step backed placed);
+  backed = serves.backed;
+  beside = told_beside f m e old new r means serves.beside;
+  honest = serves.honest;
+  sound = serves.sound;
+  stays = serves.stays;
+}
+
+-- the store is not asked
+pub asks_none : {disk : Disk} {old : KernelState} {e : Event} {r : Reply} → asks_store (tables_of old) e ≡ false → Asks disk old e r disk
+asks_none none = record { unasked = λ not'. refl; faults = never none; slots = λ honest back. refl; asked = never none }
+
+-- no place is handed on
+pub lies_apart : {disk after : Disk} {old new : KernelState} {e : Event} {r : Reply} → is_sharing (tables_of old) e ≡ false → is_still e ≡ false → (only_looks e ≡ true → (new ≡ old) × (after ≡ disk))
+    → (takes_out (tables_of old) e ≡ true → IsDone r → layout_of new ≡ (meaning (layout_of old) e).after) → (keeps_store e ≡ true → new.store ≡ old.store) → Lies disk old e r after new
+lies_apart unshared moving looks places store = record { looks = looks; shares = never unshared; pages = never unshared; still = never moving; places = places; store = store }
 
 -- a call that keeps places takes the step of the layout, too
 pub kept_layout : {A : Type 0} (m : State → Meaning A) (old new : KernelState) (r : Result A Refusal) → KeepsPlaces m old r new → Step (m (layout_of old)) (layout_of old) r (layout_of new)
 kept_layout m old new r c = c.places (record { at = number_at; stored = [] }) keeps_numbers
-
--- what is refused early is refused
-pub early_refused : (x : Reply) → IsEarly x → IsRefused x
-early_refused (reply.Refused x) is = tt
-early_refused r is = is
-
-pub early_told : {A : Type 0} (f : A → Reply) (r : Result A Refusal) (X : Type 0) → Tells f → OnErr r X → IsEarly (told f r) → X
-early_told f r X tells err is = refused_told f r X tells err (early_refused (told f r) is)
 
 -- what may change the store does more than look
 call_unlooking : (by : ℕ) (k : Call) → keeps_store (event.Call by k) ≡ false → only_looks (event.Call by k) ≡ false
@@ -98,175 +172,130 @@ pub answer_lies : {A : Type 0} (f : A → Reply) (m : State → Meaning A) (e : 
 answer_lies f m e old new (Ok a) same places is = places (record { at = number_at; stored = [] }) keeps_numbers ∙ sym (same (layout_of old))
 answer_lies f m e old new (Err x) same places is = absurd is
 
--- An event that wants no room, makes no buffer and no pool, and sends nothing; and that does not ask the store, nor drop anything.
+-- An event that wants no room and makes no buffer, and that neither asks the store nor works on the cache.
 pub record IsPlain (e : Event) : Type 0 where
   pub unwritten : writes_back e ≡ false
   pub unlent : shares_file e ≡ false
   pub asks : (s : State) → asks_store s e ≡ false
   pub has : (s : SystemState) → HasRoomFor s e
   pub publishes : (old new : KernelState) → KeepsPages old.store new.store [] → Publishes old e new
-  pub creates : (old : KernelState) (x : Reply) (new : KernelState) → Creates old e x new
   pub late : (old : SystemState) (x : Reply) (new : SystemState) → LeavesLate old e x new
-  pub sums : (old : KernelState) (x : Reply) (new : KernelState) → new.sums ≡ old.sums → Remembers old e x new
 
--- The same of an event that makes a file, or has a pool's list name a domain more.
-pub record IsPlainNaming (e : Event) : Type 0 where
-  pub unwritten : writes_back e ≡ false
-  pub unlent : shares_file e ≡ false
-  pub asks : (s : State) → asks_store s e ≡ false
-  pub has : (s : SystemState) → HasRoomFor s e
-  pub publishes : (old new : KernelState) → KeepsPages old.store new.store [] → Publishes old e new
-  pub late : (old : SystemState) (x : Reply) (new : SystemState) → LeavesLate old e x new
-  pub sums : (old : KernelState) (x : Reply) (new : KernelState) → new.sums ≡ old.sums → Remembers old e x new
+abbrev pub is_plain : Event → Bool
+is_plain (event.Call by (call.PoolCreate chunks list)) = false
+is_plain (event.Call by (call.AggMake bytes)) = false
+is_plain (event.Call by (call.IolRead fd n)) = false
+is_plain (event.Call by (call.IolWrite fd a)) = false
+is_plain (event.Call by (call.Fsync fd)) = false
+is_plain (event.Call by (call.Read fd n)) = false
+is_plain (event.Call by (call.Write fd bytes)) = false
+is_plain (event.Arrive c bytes) = false
+is_plain event.Flush = false
+is_plain event.DropClean = false
+is_plain e = true
 
-naming_of : (e : Event) → IsPlain e → IsPlainNaming e
-naming_of e plain = record { unwritten = plain.unwritten; unlent = plain.unlent; asks = plain.asks; has = plain.has; publishes = plain.publishes; late = plain.late; sums = plain.sums }
+plain_call : (by : ℕ) (k : Call) → is_plain (event.Call by k) ≡ true → IsPlain (event.Call by k)
+plain_call by (call.PoolCreate chunks list) is = never refl is
+plain_call by (call.AggMake bytes) is = never refl is
+plain_call by (call.IolRead fd n) is = never refl is
+plain_call by (call.IolWrite fd a) is = never refl is
+plain_call by (call.Fsync fd) is = never refl is
+plain_call by (call.Read fd n) is = never refl is
+plain_call by (call.Write fd bytes) is = never refl is
+plain_call by k is = record { unwritten = refl; unlent = refl; asks = λ s. refl; has = λ s. tt; publishes = λ o n k. k; late = λ o x n. tt }
 
-module _ {A : Type 0} (f : A → Reply) (m : State → Meaning A) (e : Event) (disk : Disk) (old new : KernelState) (r : Result A Refusal) (tells : Tells f) (plain : IsPlainNaming e) (means : Means f m e) (ends : TellsEnd (system_of old disk) e (told f r)) where
-  -- a call that keeps places, and says more of what it made or changed
-  pub creating_does : ((s : State) → is_sharing s e ≡ false) → keeps_store e ≡ false → Creates old e (told f r) new → IsSound old → KeepsPlaces m old r new → ((p : ℕ) → r ≡ Err (NoRoom p) → ⊥) → Does disk old e (told f r) disk new
-  creating_does unshared changes creates sound c roomy = record {
-    step = λ backed placed. means (machine_of disk.slots old) (machine_of disk.slots new) r (c.step disk.slots);
-    backed = backed_stays disk old new sound c.sound c.cache c.stays;
-    beside = told_beside f m e old new r means (steps_beside m old new r [] [] (c.step []));
-    honest = refl;
-    unasked = λ not'. refl;
-    faults = λ asked. absurd (true≢false (sym asked ∙ plain.asks (tables_of old)));
-    slots = λ honest back. refl;
-    asked = λ asks fault. plain.has (system_of old disk);
-    early = λ is. (early_told f r (new ≡ old) tells c.refused is, refl);
-    room = λ done. plain.has (system_of old disk);
-    no_room = λ is. absurd (no_room_told f r tells roomy is);
-    refused = λ unused is. refused_told f r (new ≡ old) tells c.refused is;
-    uncached = λ unused other. c.cache;
-    late = plain.late (system_of old disk) (told f r) (system_of new disk);
-    looks = λ is. absurd (true≢false (sym is ∙ unlooking_of e changes));
-    shares = λ shared. absurd (true≢false (sym shared ∙ unshared (tables_of old)));
-    pages = λ shared. absurd (true≢false (sym shared ∙ unshared (tables_of old)));
-    still = λ still. means (layout_of old) (layout_of new) r (kept_layout m old new r c);
-    places = λ out done. done_after (meaning (layout_of old) e) (layout_of old) (layout_of new) (told f r) (means (layout_of old) (layout_of new) r (kept_layout m old new r c)) done;
-    store = λ keeps. absurd (true≢false (sym keeps ∙ changes));
-    in_place = cache_in_place disk old new e c.cache;
-    shares_file = λ done. shares_none (system_of old disk) (told f r) new e plain.unlent;
-    publishes = λ done. plain.publishes old new c.pages;
-    creates = creates;
-    ends = ends;
-    sums = plain.sums old (told f r) new c.sums;
-    written_back = none_back disk old (told f r) disk new e plain.unwritten;
-    sound = c.sound;
-    stays = c.stays;
-  }
+plain_of : (e : Event) → is_plain e ≡ true → IsPlain e
+plain_of (event.Call by k) is = plain_call by k is
+plain_of (event.Arrive c bytes) is = never refl is
+plain_of event.Flush is = never refl is
+plain_of event.DropClean is = never refl is
+plain_of e is = record { unwritten = refl; unlent = refl; asks = λ s. refl; has = λ s. tt; publishes = λ o n k. k; late = λ o x n. tt }
 
-module _ {A : Type 0} (f : A → Reply) (m : State → Meaning A) (e : Event) (disk : Disk) (old new : KernelState) (r : Result A Refusal) (tells : Tells f) (plain : IsPlain e) (means : Means f m e) (ends : TellsEnd (system_of old disk) e (told f r)) where
+-- An event as the reply of a call that means it: which reply it is, and what it tells of a file's end and makes.
+module _ {A : Type 0} (f : A → Reply) (m : State → Meaning A) {e : Event} {disk : Disk} {old new : KernelState} {r : Result A Refusal} (tells : Tells f) (is : is_plain e ≡ true) (means : Means f m e) (ends : TellsEnd (system_of old disk) e (told f r)) (creates : Creates old e (told f r) new) where
+  pub plain_does : Goes disk old e (told f r) disk new → ((p : ℕ) → r ≡ Err (NoRoom p) → ⊥) → OnErr r (new ≡ old) → (makes_file e ≡ false → new.cache ≡ old.cache) → KeepsInPlace (system_of old disk) e new → KeepsPages old.store new.store [] → Remembers old e (told f r) new → Lies disk old e (told f r) disk new
+      → Does disk old e (told f r) disk new
+  plain_does goes roomy kept uncached in_place pages sums lies =
+      let plain = plain_of e is in
+      let here : SystemState = system_of old disk in
+      does_of ends goes (asks_none (plain.asks (tables_of old)))
+      (record {
+        room = λ done. plain.has here;
+        no_room = λ late. absurd (no_room_told f r tells roomy late);
+        early = λ early. (early_told f r (new ≡ old) tells kept early, refl);
+        refused = λ unused was. refused_told f r (new ≡ old) tells kept was;
+        late = plain.late here (told f r) (system_of new disk);
+      })
+      (record {
+        uncached = λ unused other. uncached other;
+        in_place = in_place;
+        shares_file = λ done. shares_none here (told f r) new e plain.unlent;
+        publishes = λ done. plain.publishes old new pages;
+        creates = creates;
+        sums = sums;
+        written_back = none_back disk old (told f r) disk new e plain.unwritten;
+      }) lies
+
   -- a call that carries out
-  pub carried_does : keeps_store e ≡ false → IsSound old → CarriesOut m old r new → Does disk old e (told f r) disk new
-  carried_does changes sound c = record {
-    step = λ backed placed. means (machine_of disk.slots old) (machine_of disk.slots new) r (carried_machine m old new r disk.slots c);
-    backed = backed_stays disk old new sound c.sound c.cache c.stays;
-    beside = told_beside f m e old new r means (steps_beside m old new r [] [] (carried_machine m old new r [] c));
-    honest = refl;
-    unasked = λ not'. refl;
-    faults = λ asked. absurd (true≢false (sym asked ∙ plain.asks (tables_of old)));
-    slots = λ honest back. refl;
-    asked = λ asks fault. plain.has (system_of old disk);
-    early = λ is. (early_told f r (new ≡ old) tells c.refused is, refl);
-    room = λ done. plain.has (system_of old disk);
-    no_room = λ is. absurd (no_room_told f r tells c.roomy is);
-    refused = λ unused is. refused_told f r (new ≡ old) tells c.refused is;
-    uncached = λ unused other. c.cache;
-    late = plain.late (system_of old disk) (told f r) (system_of new disk);
-    looks = λ is. absurd (true≢false (sym is ∙ unlooking_of e changes));
-    shares = λ shared. means (layout_of old) (layout_of new) r (carried_layout m old new r c);
-    pages = λ shared. record { arena = c.arena; pools = c.pools };
-    still = λ still. means (layout_of old) (layout_of new) r (carried_layout m old new r c);
-    places = λ out done. done_after (meaning (layout_of old) e) (layout_of old) (layout_of new) (told f r) (means (layout_of old) (layout_of new) r (carried_layout m old new r c)) done;
-    store = λ keeps. absurd (true≢false (sym keeps ∙ changes));
-    in_place = cache_in_place disk old new e c.cache;
-    shares_file = λ done. shares_none (system_of old disk) (told f r) new e plain.unlent;
-    publishes = λ done. plain.publishes old new (carried_pages m old new r c);
-    creates = plain.creates old (told f r) new;
-    ends = ends;
-    sums = plain.sums old (told f r) new c.sums;
-    written_back = none_back disk old (told f r) disk new e plain.unwritten;
-    sound = c.sound;
-    stays = c.stays;
-  }
+  pub carried_does : (new.sums ≡ old.sums → Remembers old e (told f r) new) → keeps_store e ≡ false → IsSound old → CarriesOut m old r new → Does disk old e (told f r) disk new
+  carried_does sums changes sound c =
+      let step = means (layout_of old) (layout_of new) r (carried_layout m old new r c) in
+      plain_does (served f means (carried_serves m old new r sound c disk)) c.roomy c.refused (λ other. c.cache) (cache_in_place disk old new e c.cache) (carried_pages m old new r c) (sums c.sums) (record {
+        looks = never (unlooking_of e changes);
+        shares = λ shared. step;
+        pages = λ shared. record { arena = c.arena; pools = c.pools };
+        still = λ still. step;
+        places = λ out done. done_after (meaning (layout_of old) e) (layout_of old) (layout_of new) (told f r) step done;
+        store = never changes;
+      })
 
   -- one that keeps places
-  pub kept_does : ((s : State) → is_sharing s e ≡ false) → keeps_store e ≡ false → IsSound old → KeepsPlaces m old r new → ((p : ℕ) → r ≡ Err (NoRoom p) → ⊥) → Does disk old e (told f r) disk new
-  kept_does unshared changes sound c roomy = creating_does f m e disk old new r tells (naming_of e plain) means ends unshared changes (plain.creates old (told f r) new) sound c roomy
+  pub kept_does : (new.sums ≡ old.sums → Remembers old e (told f r) new) → ((s : State) → is_sharing s e ≡ false) → keeps_store e ≡ false → IsSound old → KeepsPlaces m old r new → ((p : ℕ) → r ≡ Err (NoRoom p) → ⊥) → Does disk old e (told f r) disk new
+  kept_does sums unshared changes sound c roomy =
+      let step = means (layout_of old) (layout_of new) r (kept_layout m old new r c) in
+      plain_does (served f means (kept_serves m old new r sound c disk)) roomy c.refused (λ other. c.cache) (cache_in_place disk old new e c.cache) c.pages (sums c.sums) (record {
+        looks = never (unlooking_of e changes);
+        shares = never (unshared (tables_of old));
+        pages = never (unshared (tables_of old));
+        still = λ still. step;
+        places = λ out done. done_after (meaning (layout_of old) e) (layout_of old) (layout_of new) (told f r) step done;
+        store = never changes;
+      })
 
   -- one that asks the store for a length
-  pub looks_does : ((s : State) → is_sharing s e ≡ false) → is_still e ≡ false → ((s : State) → (meaning s e).after ≡ (m s).after) → (only_looks e ≡ true → new ≡ old) → LooksUp m disk old r new → Does disk old e (told f r) disk new
-  looks_does unshared moving same looks c = record {
-    step = λ backed placed. means (machine_of disk.slots old) (machine_of disk.slots new) r (c.serves.step backed placed);
-    backed = c.serves.backed;
-    beside = told_beside f m e old new r means c.serves.beside;
-    honest = refl;
-    unasked = λ not'. refl;
-    faults = λ asked. absurd (true≢false (sym asked ∙ plain.asks (tables_of old)));
-    slots = λ honest back. refl;
-    asked = λ asks fault. plain.has (system_of old disk);
-    early = λ is. (early_told f r (new ≡ old) tells c.refused is, refl);
-    room = λ done. plain.has (system_of old disk);
-    no_room = λ is. absurd (no_room_told f r tells c.roomy is);
-    refused = λ unused is. refused_told f r (new ≡ old) tells c.refused is;
-    uncached = λ unused other. c.cache;
-    late = plain.late (system_of old disk) (told f r) (system_of new disk);
-    looks = λ is. (looks is, refl);
-    shares = λ shared. absurd (true≢false (sym shared ∙ unshared (tables_of old)));
-    pages = λ shared. absurd (true≢false (sym shared ∙ unshared (tables_of old)));
-    still = λ still. absurd (true≢false (sym still ∙ moving));
-    places = λ out done. answer_lies f m e old new r same c.places done;
-    store = λ keeps. c.store;
-    in_place = cache_in_place disk old new e c.cache;
-    shares_file = λ done. shares_none (system_of old disk) (told f r) new e plain.unlent;
-    publishes = λ done. plain.publishes old new (pages_equal old.store new.store c.store);
-    creates = plain.creates old (told f r) new;
-    ends = ends;
-    sums = plain.sums old (told f r) new c.serves.sums;
-    written_back = none_back disk old (told f r) disk new e plain.unwritten;
-    sound = c.serves.sound;
-    stays = c.serves.stays;
-  }
+  pub looks_does : (new.sums ≡ old.sums → Remembers old e (told f r) new) → ((s : State) → is_sharing s e ≡ false) → is_still e ≡ false → ((s : State) → (meaning s e).after ≡ (m s).after) → (only_looks e ≡ true → new ≡ old) → LooksUp m disk old r new → Does disk old e (told f r) disk new
+  looks_does sums unshared moving same looks c =
+      plain_does (served f means c.serves) c.roomy c.refused (λ other. c.cache) (cache_in_place disk old new e c.cache) (pages_equal old.store new.store c.store) (sums c.serves.sums)
+      (lies_apart (unshared (tables_of old)) moving (λ only. (looks only, refl)) (λ out done. answer_lies f m e old new r same c.places done) (λ keeps. c.store))
 
--- one that makes a file
-module _ {A : Type 0} (f : A → Reply) (m : State → Meaning A) (e : Event) (disk : Disk) (old new : KernelState) (r : Result A Refusal) (tells : Tells f) (plain : IsPlainNaming e) (means : Means f m e) (ends : TellsEnd (system_of old disk) e (told f r)) where
-  pub names_does : ((s : State) → is_sharing s e ≡ false) → ((s : State) → takes_out s e ≡ false) → is_still e ≡ false → only_looks e ≡ false → makes_file e ≡ true → Creates old e (told f r) new → Names disk m old r new → Does disk old e (told f r) disk new
-  names_does unshared inside moving unlooking made creates c = record {
-    step = λ backed placed. means (machine_of disk.slots old) (machine_of disk.slots new) r (c.step backed.honest);
-    backed = c.backed;
-    beside = told_beside f m e old new r means c.beside;
-    honest = refl;
-    unasked = λ not'. refl;
-    faults = λ asked. absurd (true≢false (sym asked ∙ plain.asks (tables_of old)));
-    slots = λ honest back. refl;
-    asked = λ asks fault. plain.has (system_of old disk);
-    early = λ is. (early_told f r (new ≡ old) tells c.refused is, refl);
-    room = λ done. plain.has (system_of old disk);
-    no_room = λ is. absurd (no_room_told f r tells c.roomy is);
-    refused = λ unused is. refused_told f r (new ≡ old) tells c.refused is;
-    uncached = λ unused other. absurd (true≢false (sym made ∙ other));
-    late = plain.late (system_of old disk) (told f r) (system_of new disk);
-    looks = λ is. absurd (true≢false (sym is ∙ unlooking));
-    shares = λ shared. absurd (true≢false (sym shared ∙ unshared (tables_of old)));
-    pages = λ shared. absurd (true≢false (sym shared ∙ unshared (tables_of old)));
-    still = λ still. absurd (true≢false (sym still ∙ moving));
-    places = λ out done. absurd (true≢false (sym out ∙ inside (tables_of old)));
-    store = λ keeps. c.store;
-    in_place = cover_in_place disk old new e c.keeps;
-    shares_file = λ done. shares_none (system_of old disk) (told f r) new e plain.unlent;
-    publishes = λ done. plain.publishes old new (pages_equal old.store new.store c.store);
-    creates = creates;
-    ends = ends;
-    sums = plain.sums old (told f r) new c.sums;
-    written_back = none_back disk old (told f r) disk new e plain.unwritten;
-    sound = c.sound;
-    stays = stays_equal old.store new.store c.store;
-  }
+  -- one that makes a file
+  pub names_does : (new.sums ≡ old.sums → Remembers old e (told f r) new) → ((s : State) → is_sharing s e ≡ false) → ((s : State) → takes_out s e ≡ false) → is_still e ≡ false → only_looks e ≡ false → makes_file e ≡ true → Names disk m old r new → Does disk old e (told f r) disk new
+  names_does sums unshared inside moving unlooking made c =
+      let serves : Serves m disk old r disk new = record { step = λ backed placed. c.step backed.honest; backed = c.backed; beside = c.beside; honest = refl; sums = c.sums; sound = c.sound; stays = stays_equal old.store new.store c.store } in
+      plain_does (served f means serves) c.roomy c.refused (λ other. never other made) (cover_in_place disk old new e c.keeps) (pages_equal old.store new.store c.store) (sums c.sums)
+      (lies_apart (unshared (tables_of old)) moving (never unlooking) (never (inside (tables_of old))) (λ keeps. c.store))
+
+-- bytes are shown
+pub shown : (by a : ℕ) (disk : Disk) (h : KernelState) (r : Result (List ℕ) Refusal) → IsSound h → Steps (λ s. aggs.show s by a) h r h → ((p : ℕ) → r ≡ Err (NoRoom p) → ⊥) → LooksUp (λ s. aggs.show s by a) disk h r h
+shown by a disk h r sound steps roomy = record { serves = still_serves (λ s. aggs.show s by a) h h r sound sound steps refl refl (stays_here h.store) disk; places = ok r; store = refl; cache = refl; roomy = roomy; refused = err r }
+  where
+    ok : (x : Result (List ℕ) Refusal) → OnOk x ((f : Reading) → KeepsPools f → read_of f h ≡ read_of f h)
+    ok (Ok bytes) = λ f keeps. refl
+    ok (Err y) = tt
+
+    err : (x : Result (List ℕ) Refusal) → OnErr x (h ≡ h)
+    err (Ok bytes) = tt
+    err (Err y) = refl
+
+-- the event that a reply was for, and the reply that was told
+pub as_event : {d e : Event} {disk after : Disk} {old new : KernelState} {x y : Reply} → d ≡ e → y ≡ x → Does disk old e x after new → Does disk old d y after new
+as_event {d} {e} {disk} {after} {old} {new} {x} {y} is tells does = subst (λ (k : Event). Does disk old k y after new) (sym is) (subst (λ (z : Reply). Does disk old e z after new) (sym tells) does)
+
+pub as_call : {by : ℕ} {j k : Call} {disk after : Disk} {old new : KernelState} {x y : Reply} → j ≡ k → y ≡ x → Does disk old (event.Call by k) x after new → Does disk old (event.Call by j) y after new
+as_call {by} is tells does = as_event (ap (λ k. event.Call by k) is) tells does
 
 -- the domain that a pool's list names now
-pub domain_admitted : (by p d : ℕ) (old new : KernelState) (r : Result (Unit {0}) Refusal) → OnOk r (new ≡ with_reader old p d) → Creates old (event.Call by (call.PoolAdmit p d)) (told (λ u. reply.Done) r) new
+pub domain_admitted : (by p d : ℕ) (old new : KernelState) (r : Result (Unit {0}) Refusal) → OnOk r (new ≡ with_reader old p d) → Creates old (event.Call by (call.PoolAdmit p d)) (told done r) new
 domain_admitted by p d old new (Ok u) same = same
 domain_admitted by p d old new (Err x) same = tt
 

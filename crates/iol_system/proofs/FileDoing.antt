@@ -1,9 +1,10 @@
 -- What an event does that places bytes, or reads and writes files.
-use Rattle.std.proofs.Common.{◌≡◌, ◌∙◌, ℕ, Bool, List, [], length, true, false, refl, ap, sym, subst, Option, Some, None}
+use Rattle.std.proofs.Common.{◌≡◌, ℕ, Bool, List, length, true, false, refl, ap, sym, subst, Option, Some, None}
 use Rattle.std.proofs.lemmas.Bool.{true≢false}
 use Rattle.std.specs.Prelude.{◌⊎◌, Result, Ok, Err, IfErr, OnErr, OnOk, not, if◌then◌else◌}
 use Rattle.iol_back.specs.Disk.{Disk}
 use Rattle.iol_arena.specs.State.{pages_for}
+use Rattle.iol_cache.specs.Cached.{Cached}
 use Rattle.iol_cache.specs.Composing.{copied_pages}
 use Rattle.iol_cache.specs.Serving.{FaultCounts, RefusesRead}
 use Rattle.iol_core.specs.State.{State, descriptor, is_live}
@@ -25,126 +26,80 @@ use Rattle.iol_core.specs.declared.events.Reply.TheVariants as reply
 use Rattle.iol_core.specs.declared.refusals.Refusal.{Refusal}
 use Rattle.iol_core.specs.declared.refusals.Refusal.TheVariants.{NoRoom}
 use Rattle.iol_hold.specs.Places.{byte_len}
+use Rattle.iol_hold.specs.Stored.{Stored}
 use Rattle.iol_hold.specs.declared.slices.Slice.{Slice}
 use Rattle.iol_kernel.specs.Backed.{Serves, holding_of}
-use Rattle.iol_kernel.specs.Calls.{CarriesOut, Steps}
+use Rattle.iol_kernel.specs.Calls.{CarriesOut}
 use Rattle.iol_kernel.specs.Copying.{Copies, CopiesOn}
-use Rattle.iol_kernel.specs.FileReading.{CopiesFileAs, FileRead, LeavesAtRefusal, Reads, ReadsOn, file_read, held_by, pool_read}
-use Rattle.iol_kernel.specs.KernelState.{KernelState, IsSound, layout_of, machine_of, slices_in}
-use Rattle.iol_kernel.specs.MakingRoom.{MayHaveEvicted, Places, RefusedRoomy, can_fit}
+use Rattle.iol_kernel.specs.FileReading.{CopiesFileAs, FileRead, LeavesAtRefusal, Reads, ReadsFileAs, ReadsOn, file_read, held_by, pool_read}
+use Rattle.iol_kernel.specs.KernelState.{KernelState, layout_of, slices_in}
+use Rattle.iol_kernel.specs.MakingRoom.{MayHaveEvicted, Places, RefusedRoomy}
 use Rattle.iol_kernel.specs.WritingFiles.{LaysOn, LeavesUnwritten, PutsOn, WritesOn, pool_of_file}
-use Rattle.iol_kernel.specs.Keeping.{LacksPages, LacksPagesToRead}
+use Rattle.iol_kernel.specs.Keeping.{KeepsUnless, LacksPages, LacksPagesToRead}
 use Rattle.iol_kernel.proofs.State.AfterRoom.{memory_wanted}
 use Rattle.iol_kernel.proofs.State.Carried.{carried_layout}
-use Rattle.iol_kernel.proofs.State.Serving.{steps_beside}
-use Rattle.iol_kernel.proofs.State.Stay.{pages_here, stays_here}
 use Rattle.iol_system.specs.Asking.{asks_store, uses_cache}
 use Rattle.iol_system.specs.Doing.{Does}
 use Rattle.iol_system.specs.FileEnds.{TellsEnd}
-use Rattle.iol_system.specs.Late.{CopyLeaves, IfRefused, LeavesCopied, LeavesLate, PutLeaves, ReadLeaves, SameTables, WriteLeaves}
+use Rattle.iol_system.specs.Late.{CopyLeaves, LeavesCopied, LeavesLate, MadeRoomFor, PutLeaves, ReadLeaves, SameTables, WriteLeaves}
 use Rattle.iol_system.specs.Machine.{system_of, tables_of}
 use Rattle.iol_system.specs.InPlace.{IsInRange, IsWritten, KeepsInPlace, MayLetGo, ReadWantsMore, SharesCopy, SharesPut, SharesRead, SharesWrite, WantsMore, WriteWantsMore}
 use Rattle.iol_system.specs.Placed.{Creates, FillsForFile, Makes, Publishes, Puts}
 use Rattle.iol_system.specs.Remembered.{Remembers}
 use Rattle.iol_system.specs.Replies.{told}
 use Rattle.iol_system.specs.Room.{HasRoomFor, HasRoomToRead, HasRoomToWrite, LacksRoomFor, LacksRoomToRead, LacksRoomToWrite, IsDone, IsEarly, IsFault, IsNoRoom, IsRefused}
+use Rattle.iol_system.specs.Wants.{Fits, FitsNot, Wants}
 use Rattle.iol_system.specs.Still.{is_still, keeps_store, takes_out}
-use Rattle.iol_system.proofs.Doing.{Means, Tells, IsPlain, answer_lies, early_told, no_room_told, refused_told, told_beside, unlooking_of}
+use Rattle.iol_system.proofs.Doing.{answer_lies, asks_none, does_of, lies_apart, never, served, unlooking_of}
+use Rattle.iol_system.proofs.Telling.{Means, Tells, early_told, no_room_told, refused_told, told_step}
 use Rattle.iol_system.proofs.InPlace.{beside_in_place, cache_in_place, places_in_place, shares_file, shares_none, unless_in_place}
 use Rattle.iol_system.proofs.Paged.{carried_pages, fills_then_frees}
 use Rattle.iol_system.proofs.WrittenBack.{none_back, writes_back}
 use Rattle.iol_system.proofs.ResultTold.{ok_told, lacks_told, counts_told, has_told, room_told, fault_told, early_room, early_room_fault, early_of, err_more, late_told, tables_kept, untimed, with_tables}
 
--- bytes are shown, and nothing changes
-module _ {A : Type 0} (f : A → Reply) (m : State → Meaning A) (e : Event) (disk : Disk) (h : KernelState) (r : Result A Refusal) (tells : Tells f) (plain : IsPlain e) (means : Means f m e) (ends : TellsEnd (system_of h disk) e (told f r)) where
-  pub shows_does : ((s : State) → is_sharing s e ≡ false) → ((s : State) → takes_out s e ≡ false) → is_still e ≡ false → IsSound h → Steps m h r h → ((p : ℕ) → r ≡ Err (NoRoom p) → ⊥) → Does disk h e (told f r) disk h
-  shows_does unshared inside moving sound steps roomy = record {
-    step = λ backed placed. means (machine_of disk.slots h) (machine_of disk.slots h) r (steps disk.slots);
-    backed = λ backed. backed;
-    beside = told_beside f m e h h r means (steps_beside m h h r [] [] (steps []));
-    honest = refl;
-    unasked = λ not'. refl;
-    faults = λ asked. absurd (true≢false (sym asked ∙ plain.asks (tables_of h)));
-    slots = λ honest back. refl;
-    asked = λ asks fault. plain.has (system_of h disk);
-    room = λ done. plain.has (system_of h disk);
-    no_room = λ is. absurd (no_room_told f r tells roomy is);
-    early = λ is. (refl, refl);
-    refused = λ unused is. refl;
-    uncached = λ unused other. refl;
-    late = plain.late (system_of h disk) (told f r) (system_of h disk);
-    looks = λ is. (refl, refl);
-    shares = λ shared. absurd (true≢false (sym shared ∙ unshared (tables_of h)));
-    pages = λ shared. record { arena = refl; pools = refl };
-    still = λ still. absurd (true≢false (sym still ∙ moving));
-    places = λ out done. absurd (true≢false (sym out ∙ inside (tables_of h)));
-    store = λ keeps. refl;
-    in_place = cache_in_place disk h h e refl;
-    shares_file = λ done. shares_none (system_of h disk) (told f r) h e plain.unlent;
-    publishes = λ done. plain.publishes h h (pages_here h.store);
-    creates = plain.creates h (told f r) h;
-    ends = ends;
-    sums = plain.sums h (told f r) h refl;
-    written_back = none_back disk h (told f r) disk h e plain.unwritten;
-    sound = sound;
-    stays = stays_here h.store;
-  }
-
--- An event that places n bytes in a pool once there is room.
-pub record IsPlacing (e : Event) (put : State → Text → State) (pool n : ℕ) (old : KernelState) : Type 0 where
+-- An event that places bytes in a pool once there is room.
+pub record IsPlacing (e : Event) (put : State → Text → State) (w : Wants) (old : KernelState) : Type 0 where
   pub unwritten : writes_back e ≡ false
   pub unlent : shares_file e ≡ false
-  pub goes : (disk : Disk) (p : ℕ) → WantsMore old pool n p → MayLetGo (system_of old disk) e p
+  pub goes : (disk : Disk) (p : ℕ) → WantsMore old w p → MayLetGo (system_of old disk) e p
   pub asks : (s : State) → asks_store s e ≡ false
   pub uses : (s : State) → uses_cache s e ≡ true
   pub unshared : (s : State) → is_sharing s e ≡ false
   pub moving : is_still e ≡ false
   pub inside : (s : State) → takes_out s e ≡ false
   pub changes : keeps_store e ≡ false
-  pub has : (disk : Disk) → can_fit old pool n ≡ true → HasRoomFor (system_of old disk) e
-  pub lacks : (disk : Disk) → can_fit old pool n ≡ false → LacksRoomFor (system_of old disk) e
-  pub publishes : (new : KernelState) → Makes put pool n old new → Publishes old e new
+  pub has : (disk : Disk) → Fits old w → HasRoomFor (system_of old disk) e
+  pub lacks : (disk : Disk) → FitsNot old w → LacksRoomFor (system_of old disk) e
+  pub publishes : (new : KernelState) → Makes put w old new → Publishes old e new
   pub creates : (x : Reply) (new : KernelState) → Creates old e x new
-  pub late : (disk : Disk) (x : Reply) (new : KernelState) → IfRefused x (MayHaveEvicted pool n old new) → LeavesLate (system_of old disk) e x (system_of new disk)
+  pub late : (disk : Disk) (x : Reply) (new : KernelState) → MadeRoomFor w old x new → LeavesLate (system_of old disk) e x (system_of new disk)
   pub sums : (x : Reply) (new : KernelState) → new.sums ≡ old.sums → Remembers old e x new
 
-module _ {A : Type 0} (f : A → Reply) (m : State → Meaning A) (put : State → Text → State) (pool n : ℕ) (e : Event) (disk : Disk) (old new : KernelState) (r : Result A Refusal) (tells : Tells f) (placing : IsPlacing e put pool n old) (means : Means f m e) (ends : TellsEnd (system_of old disk) e (told f r)) where
-  placed_early : IfErr r (MayHaveEvicted pool n old new) → IsEarly (told f r) → new ≡ old
-  placed_early left is = early_of f r (new ≡ old) (RefusedRoomy pool n old new) tells (λ x early late. early_room pool x early (memory_wanted pool x late.memory)) left is
+module _ {A : Type 0} (f : A → Reply) (m : State → Meaning A) (put : State → Text → State) (w : Wants) (e : Event) (disk : Disk) (old new : KernelState) (r : Result A Refusal) (tells : Tells f) (placing : IsPlacing e put w old) (means : Means f m e) (ends : TellsEnd (system_of old disk) e (told f r)) where
+  placed_early : IfErr r (MayHaveEvicted w.pool w.count old new) → IsEarly (told f r) → new ≡ old
+  placed_early left is = early_of f r (new ≡ old) (RefusedRoomy w.pool w.count old new) tells (λ x early late. early_room w.pool x early (memory_wanted w.pool x late.memory)) left is
 
-  pub places_does : Places m put pool n old r new → Does disk old e (told f r) disk new
+  pub places_does : Places m put w.pool w.count old r new → Does disk old e (told f r) disk new
   places_does c =
-      let serves : Serves m disk old r disk new = c.serves disk in record {
-        step = λ backed placed. means (machine_of disk.slots old) (machine_of disk.slots new) r (serves.step backed placed);
-        backed = serves.backed;
-        beside = told_beside f m e old new r means serves.beside;
-        honest = refl;
-        unasked = λ not'. refl;
-        faults = λ asked. absurd (true≢false (sym asked ∙ placing.asks (tables_of old)));
-        slots = λ honest back. refl;
-        asked = λ asks fault. absurd (true≢false (sym asks ∙ placing.asks (tables_of old)));
+      let serves : Serves m disk old r disk new = c.serves disk in
+      does_of ends (served f means serves) (asks_none (placing.asks (tables_of old)))
+      (record {
+        room = λ done. placing.has disk (ok_told f r (Fits old w) c.room done);
+        no_room = λ is. placing.lacks disk (lacks_told f r (FitsNot old w) tells c.no_room is);
         early = λ is. (placed_early c.refused is, refl);
-        uncached = λ unused other. absurd (true≢false (sym (placing.uses (tables_of old)) ∙ unused));
-        room = λ done. placing.has disk (ok_told f r (can_fit old pool n ≡ true) c.room done);
-        no_room = λ is. placing.lacks disk (lacks_told f r (can_fit old pool n ≡ false) tells c.no_room is);
-        refused = λ unused is. absurd (true≢false (sym (placing.uses (tables_of old)) ∙ unused));
-        late = placing.late disk (told f r) new (late_told f r (MayHaveEvicted pool n old new) tells c.refused);
-        looks = λ is. absurd (true≢false (sym is ∙ unlooking_of e placing.changes));
-        shares = λ shared. absurd (true≢false (sym shared ∙ placing.unshared (tables_of old)));
-        pages = λ shared. absurd (true≢false (sym shared ∙ placing.unshared (tables_of old)));
-        still = λ still. absurd (true≢false (sym still ∙ placing.moving));
-        places = λ out done. absurd (true≢false (sym out ∙ placing.inside (tables_of old)));
-        store = λ keeps. absurd (true≢false (sym keeps ∙ placing.changes));
-        in_place = places_in_place disk old new e m put pool n (λ p same lacks. placing.goes disk p (same, subst (λ q. LacksPages old q (pages_for n)) (sym same) lacks)) r c;
+        refused = λ unused is. never unused (placing.uses (tables_of old));
+        late = placing.late disk (told f r) new (late_told f r (MayHaveEvicted w.pool w.count old new) tells c.refused);
+      })
+      (record {
+        uncached = λ unused other. never unused (placing.uses (tables_of old));
+        in_place = places_in_place disk old new e m put w.pool w.count (λ p same lacks. placing.goes disk p (same, subst (λ q. LacksPages old q (pages_for w.count)) (sym same) lacks)) r c;
         shares_file = λ done. shares_none (system_of old disk) (told f r) new e placing.unlent;
-        publishes = λ done. placing.publishes new (ok_told f r (Makes put pool n old new) c.made done);
+        publishes = λ done. placing.publishes new (ok_told f r (Makes put w old new) c.made done);
         creates = placing.creates (told f r) new;
-        ends = ends;
         sums = placing.sums (told f r) new serves.sums;
         written_back = none_back disk old (told f r) disk new e placing.unwritten;
-        sound = serves.sound;
-        stays = serves.stays;
-      }
+      })
+      (lies_apart (placing.unshared (tables_of old)) placing.moving (never (unlooking_of e placing.changes)) (never (placing.inside (tables_of old))) (never placing.changes))
 
 -- what a domain that is not live holds is no file
 shared_held : (live : Bool) (o : Option Descriptor) → not (is_file o) ≡ true → not (is_file (if live then o else None)) ≡ true
@@ -155,49 +110,61 @@ shared_held false o none = refl
 abbrev LeftLate : FileRead → Disk → (old new : KernelState) → Refusal → Type 0
 LeftLate x disk old new y = WantOfRoomOrFault (pool_read old x) x.file y × RefusesRead x.file x.at x.count disk (holding_of old) (holding_of new) y
 
+-- A read, by reference or by copying, that went over these pages: of a file it asks the store, of anything else it changes no file.
+module _ {A : Type 0} (by fd n : ℕ) (disk after : Disk) (old new : KernelState) (f : A → Reply) (r : Result A Refusal) (e : Event) where
+  record ReadsElse : Type 0 where
+    unasked : after ≡ disk
+    roomy : (p : ℕ) → r ≡ Err (NoRoom p) → ⊥
+    refused : OnErr r (new ≡ old)
+    cache : new.cache ≡ old.cache
+
+  abbrev ReadsAny : (over : KernelState) → Option Descriptor → Type 0
+  ReadsAny over (Some (on.File g at mode)) = ReadsFileAs (file_read by fd g at mode n) disk old r after over
+  ReadsAny over o = ReadsElse
+
+  record HasRead (o : Option Descriptor) : Type 0 where
+    unasked : is_file o ≡ false → after ≡ disk
+    faults : is_file o ≡ true → FaultCounts disk after (outcome (told f r))
+    slots : disk.honest ≡ true → after.slots ≡ disk.slots
+    asked : is_file o ≡ true → IsFault (told f r) → HasRoomToRead (system_of old disk) o n
+    room : IsDone (told f r) → HasRoomToRead (system_of old disk) o n
+    no_room : IsNoRoom (told f r) → LacksRoomToRead (system_of old disk) o n
+    refused : is_file o ≡ false → IsRefused (told f r) → new ≡ old
+    uncached : is_file o ≡ false → new.cache ≡ old.cache
+    in_place : ((p : ℕ) → ReadWantsMore (system_of old disk) o n p → MayLetGo (system_of old disk) e p) → KeepsInPlace (system_of old disk) e new
+
+  has_read : (over : KernelState) → over.cache ≡ new.cache → Tells f → (o : Option Descriptor) → ReadsAny over o → HasRead o
+  has_read over same tells (Some (on.File g at mode)) c = record {
+    unasked = λ none. never none refl;
+    faults = λ asked. counts_told f r disk after tells c.fault.counts;
+    slots = λ honest. c.fault.slots honest;
+    asked = λ asks is. fault_told f r _ _ tells c.room is;
+    room = λ is. has_told f r _ _ c.room is;
+    no_room = λ is. room_told f r _ _ tells c.room is;
+    refused = λ none is. never none refl;
+    uncached = λ none. never none refl;
+    in_place = λ goes. unless_in_place disk old new e (pool_of_file old g) (LacksPagesToRead g at n disk (holding_of old)) (subst (λ (x : Cached). KeepsUnless (pool_of_file old g) (LacksPagesToRead g at n disk (holding_of old)) old.cache x) same c.keeps) (λ p here lacks. goes p (here, lacks));
+  }
+  has_read over same tells o c = record {
+    unasked = λ none. c.unasked;
+    faults = never refl;
+    slots = λ honest. ap (λ (d : Disk). d.slots) c.unasked;
+    asked = λ asks is. tt;
+    room = λ is. tt;
+    no_room = λ is. no_room_told f r tells c.roomy is;
+    refused = λ none is. refused_told f r (new ≡ old) tells c.refused is;
+    uncached = λ none. c.cache;
+    in_place = λ goes. cache_in_place disk old new e c.cache;
+  }
+
 -- A read by reference.
 module _ (by fd n : ℕ) (disk after : Disk) (old new : KernelState) (r : Result ℕ Refusal) where
   abbrev read_event : Event
   read_event = event.Call by (call.IolRead fd n)
 
-  read_tells : Tells reply.Agg
-  read_tells = record { answers = λ a. refl; roomy = λ a x. x; unrefused = λ a x. x }
-
-  read_unasked : (o : Option Descriptor) → ReadsOn by fd n o disk old r after new → is_file o ≡ false → after ≡ disk
-  read_unasked (Some (on.File g at mode)) c none = absurd (true≢false none)
-  read_unasked o c none = c.1
-
-  read_faults : (o : Option Descriptor) → ReadsOn by fd n o disk old r after new → is_file o ≡ true → FaultCounts disk after (outcome (told reply.Agg r))
-  read_faults (Some (on.File g at mode)) c asked = counts_told reply.Agg r disk after read_tells c.0.fault.counts
-  read_faults o c asked = absurd (true≢false (sym asked))
-
-  read_room : (o : Option Descriptor) → ReadsOn by fd n o disk old r after new → IsDone (told reply.Agg r) → HasRoomToRead (system_of old disk) o n
-  read_room (Some (on.File g at mode)) c is = has_told reply.Agg r _ _ c.0.room is
-  read_room o c is = tt
-
-  read_lacks : (o : Option Descriptor) → ReadsOn by fd n o disk old r after new → IsNoRoom (told reply.Agg r) → LacksRoomToRead (system_of old disk) o n
-  read_lacks (Some (on.File g at mode)) c is = room_told reply.Agg r _ _ read_tells c.0.room is
-  read_lacks o c is = no_room_told reply.Agg r read_tells c.0.roomy is
-
-  read_refused : (o : Option Descriptor) → ReadsOn by fd n o disk old r after new → is_file o ≡ false → IsRefused (told reply.Agg r) → new ≡ old
-  read_refused (Some (on.File g at mode)) c none is = absurd (true≢false none)
-  read_refused o c none is = refused_told reply.Agg r (new ≡ old) read_tells c.0.refused is
-
   read_early : (o : Option Descriptor) → ReadsOn by fd n o disk old r after new → IsEarly (told reply.Agg r) → (new ≡ old) × (after ≡ disk)
-  read_early (Some (on.File g at mode)) c is = early_of reply.Agg r ((new ≡ old) × (after ≡ disk)) (LeftLate (file_read by fd g at mode n) disk old new) read_tells (λ x early late. early_room_fault _ g x early late.0) (untimed r (new ≡ old) (after ≡ disk) (LeftLate (file_read by fd g at mode n) disk old new) c.0.leaves) is
-  read_early o c is = (early_told reply.Agg r (new ≡ old) read_tells c.0.refused is, c.1)
-
-  read_asked : (o : Option Descriptor) → ReadsOn by fd n o disk old r after new → is_file o ≡ true → IsFault (told reply.Agg r) → HasRoomToRead (system_of old disk) o n
-  read_asked (Some (on.File g at mode)) c asks is = fault_told reply.Agg r _ _ read_tells c.0.room is
-  read_asked o c asks is = tt
-
-  read_slots : (o : Option Descriptor) → ReadsOn by fd n o disk old r after new → disk.honest ≡ true → after.slots ≡ disk.slots
-  read_slots (Some (on.File g at mode)) c honest = c.0.fault.slots honest
-  read_slots o c honest = ap (λ (d : Disk). d.slots) c.1
-
-  read_uncached : (o : Option Descriptor) → ReadsOn by fd n o disk old r after new → is_file o ≡ false → new.cache ≡ old.cache
-  read_uncached (Some (on.File g at mode)) c none = absurd (true≢false none)
-  read_uncached o c none = c.0.cache
+  read_early (Some (on.File g at mode)) c is = early_of reply.Agg r ((new ≡ old) × (after ≡ disk)) (LeftLate (file_read by fd g at mode n) disk old new) (λ a. refl) (λ x early late. early_room_fault _ g x early late.0) (untimed r (new ≡ old) (after ≡ disk) (LeftLate (file_read by fd g at mode n) disk old new) c.0.leaves) is
+  read_early o c is = (early_told reply.Agg r (new ≡ old) (λ a. refl) c.0.refused is, c.1)
 
   read_carried : (o : Option Descriptor) → ReadsOn by fd n o disk old r after new → not (is_file o) ≡ true → CarriesOut (λ s. reading.iol_read s by fd n) old r new
   read_carried (Some (on.File g at mode)) c none = absurd (true≢false (sym none))
@@ -207,76 +174,65 @@ module _ (by fd n : ℕ) (disk after : Disk) (old new : KernelState) (r : Result
   read_fills (Some (on.File g at mode)) c = c.0.pages
   read_fills o c = carried_pages (λ s. reading.iol_read s by fd n) old new r c.0
 
-  read_in_place : (o : Option Descriptor) → ReadsOn by fd n o disk old r after new → ((p : ℕ) → ReadWantsMore (system_of old disk) o n p → MayLetGo (system_of old disk) read_event p) → KeepsInPlace (system_of old disk) read_event new
-  read_in_place (Some (on.File g at mode)) c goes = unless_in_place disk old new read_event (pool_of_file old g) (LacksPagesToRead g at n disk (holding_of old)) c.0.keeps (λ p same lacks. goes p (same, lacks))
-  read_in_place o c goes = cache_in_place disk old new read_event c.0.cache
-
   read_shares : (o : Option Descriptor) → ReadsOn by fd n o disk old r after new → IsDone (told reply.Agg r) → SharesRead by fd n (system_of old disk) o new
   read_shares (Some (on.File g at mode)) c is = record { gives = ok_told reply.Agg r _ c.1 is; rest = c.0.same }
   read_shares o c is = tt
 
   read_late : (o : Option Descriptor) → ReadsOn by fd n o disk old r after new → ReadLeaves by fd n (system_of old disk) o (told reply.Agg r) (system_of new after)
-  read_late (Some (on.File g at mode)) c = late_told reply.Agg r _ read_tells (with_tables r (SameTables old new) (LeavesAtRefusal (file_read by fd g at mode n) disk old after new) (tables_kept r old new c.0.same c.0.refused) c.0.leaves)
+  read_late (Some (on.File g at mode)) c = late_told reply.Agg r _ (λ a. refl) (with_tables r (SameTables old new) (LeavesAtRefusal (file_read by fd g at mode n) disk old after new) (tables_kept r old new c.0.same c.0.refused) c.0.leaves)
   read_late o c = tt
 
-  pub reads_does : Means reply.Agg (λ s. reading.iol_read s by fd n) read_event → Serves (λ s. reading.iol_read s by fd n) disk old r after new → Reads by fd n disk old r after new → Does disk old read_event (told reply.Agg r) after new
-  reads_does means serves reads =
+  read_any : (o : Option Descriptor) → ReadsOn by fd n o disk old r after new → ReadsAny by fd n disk after old new reply.Agg r read_event new o
+  read_any (Some (on.File g at mode)) c = c.0
+  read_any o c = record { unasked = c.1; roomy = c.0.roomy; refused = c.0.refused; cache = c.0.cache }
+
+  pub reads_does : Serves (λ s. reading.iol_read s by fd n) disk old r after new → Reads by fd n disk old r after new → Does disk old read_event (told reply.Agg r) after new
+  reads_does serves reads =
       let o : Option Descriptor = held_by (tables_of old) by fd in
-      let queue : is_sharing (tables_of old) read_event ≡ true → not (is_file o) ≡ true = shared_held (is_live (tables_of old) by) (descriptor (tables_of old) by fd) in record {
-        step = λ backed placed. means (machine_of disk.slots old) (machine_of after.slots new) r (serves.step backed placed);
-        backed = serves.backed;
-        beside = told_beside reply.Agg (λ s. reading.iol_read s by fd n) read_event old new r means serves.beside;
-        honest = serves.honest;
-        unasked = read_unasked o reads;
-        faults = read_faults o reads;
-        slots = λ honest back. read_slots o reads honest;
-        asked = read_asked o reads;
-        room = read_room o reads;
-        no_room = read_lacks o reads;
-        early = read_early o reads;
-        uncached = λ unused other. read_uncached o reads unused;
-        refused = read_refused o reads;
-        late = read_late o reads;
-        looks = λ is. absurd (true≢false (sym is));
-        shares = λ shared. means (layout_of old) (layout_of new) r (carried_layout (λ s. reading.iol_read s by fd n) old new r (read_carried o reads (queue shared)));
-        pages = λ shared. (let c = read_carried o reads (queue shared) in record { arena = c.arena; pools = c.pools });
-        still = λ still. absurd (true≢false (sym still));
-        places = λ out done. absurd (true≢false (sym out));
-        store = λ keeps. absurd (true≢false (sym keeps));
-        in_place = read_in_place o reads (λ p k. k);
+      let any = has_read by fd n disk after old new reply.Agg r read_event new refl (λ a. refl) o (read_any o reads) in
+      let queue : is_sharing (tables_of old) read_event ≡ true → CarriesOut (λ s. reading.iol_read s by fd n) old r new = (λ shared. read_carried o reads (shared_held (is_live (tables_of old) by) (descriptor (tables_of old) by fd) shared)) in
+      let means : Means reply.Agg (λ s. reading.iol_read s by fd n) read_event = (λ s. told_step reply.Agg (λ a. refl) (reading.iol_read s by fd n) s) in
+      does_of tt (served reply.Agg means serves)
+      (record { unasked = any.unasked; faults = any.faults; slots = λ honest back. any.slots honest; asked = any.asked })
+      (record { room = any.room; no_room = any.no_room; early = read_early o reads; refused = any.refused; late = read_late o reads })
+      (record {
+        uncached = λ unused other. any.uncached unused;
+        in_place = any.in_place (λ p k. k);
         shares_file = read_shares o reads;
         publishes = λ done. read_fills o reads;
         creates = tt;
-        ends = tt;
         sums = serves.sums;
         written_back = none_back disk old (told reply.Agg r) after new read_event refl;
-        sound = serves.sound;
-        stays = serves.stays;
-      }
+      })
+      (record {
+        looks = never refl;
+        shares = λ shared. means (layout_of old) (layout_of new) r (carried_layout (λ s. reading.iol_read s by fd n) old new r (queue shared));
+        pages = λ shared. (let c = queue shared in record { arena = c.arena; pools = c.pools });
+        still = never refl;
+        places = never refl;
+        store = never refl;
+      })
 
 -- A write by reference.
 module _ (by fd a : ℕ) (disk : Disk) (old new : KernelState) (r : Result ℕ Refusal) where
   abbrev write_event : Event
   write_event = event.Call by (call.IolWrite fd a)
 
-  write_tells : Tells reply.Count
-  write_tells = record { answers = λ a. refl; roomy = λ a x. x; unrefused = λ a x. x }
-
   write_room : (o : Option Descriptor) → WritesOn by fd a o old r new → IsDone (told reply.Count r) → HasRoomToWrite old o (slices_in old.domains by a)
   write_room (Some (on.File g at mode)) c is = ok_told reply.Count r _ c.room is
   write_room o c is = tt
 
   write_lacks : (o : Option Descriptor) → WritesOn by fd a o old r new → IsNoRoom (told reply.Count r) → LacksRoomToWrite old o (slices_in old.domains by a)
-  write_lacks (Some (on.File g at mode)) c is = lacks_told reply.Count r _ write_tells c.no_room is
-  write_lacks o c is = no_room_told reply.Count r write_tells c.roomy is
+  write_lacks (Some (on.File g at mode)) c is = lacks_told reply.Count r _ (λ a. refl) c.no_room is
+  write_lacks o c is = no_room_told reply.Count r (λ a. refl) c.roomy is
 
   write_refused : (o : Option Descriptor) → WritesOn by fd a o old r new → is_file o ≡ false → IsRefused (told reply.Count r) → new ≡ old
   write_refused (Some (on.File g at mode)) c none is = absurd (true≢false none)
-  write_refused o c none is = refused_told reply.Count r (new ≡ old) write_tells c.refused is
+  write_refused o c none is = refused_told reply.Count r (new ≡ old) (λ a. refl) c.refused is
 
   write_early : (o : Option Descriptor) → WritesOn by fd a o old r new → IsEarly (told reply.Count r) → new ≡ old
-  write_early (Some (on.File g at mode)) c is = early_of reply.Count r _ _ write_tells (λ x early late. early_room _ x early late.0) c.leaves is
-  write_early o c is = early_told reply.Count r (new ≡ old) write_tells c.refused is
+  write_early (Some (on.File g at mode)) c is = early_of reply.Count r _ _ (λ a. refl) (λ x early late. early_room _ x early late.0) c.leaves is
+  write_early o c is = early_told reply.Count r (new ≡ old) (λ a. refl) c.refused is
 
   write_uncached : (o : Option Descriptor) → WritesOn by fd a o old r new → is_file o ≡ false → new.cache ≡ old.cache
   write_uncached (Some (on.File g at mode)) c none = absurd (true≢false none)
@@ -304,94 +260,45 @@ module _ (by fd a : ℕ) (disk : Disk) (old new : KernelState) (r : Result ℕ R
   write_shares o c is = tt
 
   write_late : (o : Option Descriptor) → WritesOn by fd a o old r new → WriteLeaves old o (slices_in old.domains by a) (told reply.Count r) new
-  write_late (Some (on.File g at mode)) c = late_told reply.Count r _ write_tells (with_tables r (SameTables old new) (LeavesUnwritten g (slices_in old.domains by a) old new) (tables_kept r old new c.same c.refused) c.leaves)
+  write_late (Some (on.File g at mode)) c = late_told reply.Count r _ (λ a. refl) (with_tables r (SameTables old new) (LeavesUnwritten g (slices_in old.domains by a) old new) (tables_kept r old new c.same c.refused) c.leaves)
   write_late o c = tt
 
-  pub writes_does : Means reply.Count (λ s. writing.iol_write s by fd a) write_event → Serves (λ s. writing.iol_write s by fd a) disk old r disk new → WritesOn by fd a (descriptor (tables_of old) by fd) old r new → Does disk old write_event (told reply.Count r) disk new
-  writes_does means serves writes =
-      let o : Option Descriptor = descriptor (tables_of old) by fd in record {
-        step = λ backed placed. means (machine_of disk.slots old) (machine_of disk.slots new) r (serves.step backed placed);
-        backed = serves.backed;
-        beside = told_beside reply.Count (λ s. writing.iol_write s by fd a) write_event old new r means serves.beside;
-        honest = refl;
-        unasked = λ not'. refl;
-        faults = λ asked. absurd (true≢false (sym asked));
-        slots = λ honest back. refl;
-        asked = λ asks fault. absurd (true≢false (sym asks));
-        room = write_room o writes;
-        no_room = write_lacks o writes;
-        early = λ is. (write_early o writes is, refl);
+  pub writes_does : Serves (λ s. writing.iol_write s by fd a) disk old r disk new → WritesOn by fd a (descriptor (tables_of old) by fd) old r new → Does disk old write_event (told reply.Count r) disk new
+  writes_does serves writes =
+      let o : Option Descriptor = descriptor (tables_of old) by fd in
+      let means : Means reply.Count (λ s. writing.iol_write s by fd a) write_event = (λ s. told_step reply.Count (λ a. refl) (writing.iol_write s by fd a) s) in
+      does_of tt (served reply.Count means serves) (asks_none refl)
+      (record { room = write_room o writes; no_room = write_lacks o writes; early = λ is. (write_early o writes is, refl); refused = write_refused o writes; late = write_late o writes })
+      (record {
         uncached = λ unused other. write_uncached o writes unused;
-        refused = write_refused o writes;
-        late = write_late o writes;
-        looks = λ is. absurd (true≢false (sym is));
-        shares = λ shared. means (layout_of old) (layout_of new) r (carried_layout (λ s. writing.iol_write s by fd a) old new r (write_carried o writes shared));
-        pages = λ shared. (let c = write_carried o writes shared in record { arena = c.arena; pools = c.pools });
-        still = λ still. absurd (true≢false (sym still));
-        places = λ out done. absurd (true≢false (sym out));
-        store = λ keeps. absurd (true≢false (sym keeps));
         in_place = write_in_place o writes (λ g i k. k) (λ p k. k);
         shares_file = write_shares o writes;
         publishes = λ done. write_fills o writes;
         creates = tt;
-        ends = tt;
         sums = serves.sums;
         written_back = none_back disk old (told reply.Count r) disk new write_event refl;
-        sound = serves.sound;
-        stays = serves.stays;
-      }
+      })
+      (record {
+        looks = never refl;
+        shares = λ shared. means (layout_of old) (layout_of new) r (carried_layout (λ s. writing.iol_write s by fd a) old new r (write_carried o writes shared));
+        pages = λ shared. (let c = write_carried o writes shared in record { arena = c.arena; pools = c.pools });
+        still = never refl;
+        places = never refl;
+        store = never refl;
+      })
 
 -- A read by copying.
 module _ (by fd n : ℕ) (disk after : Disk) (old new : KernelState) (r : Result (List ℕ) Refusal) where
   abbrev copy_event : Event
   copy_event = event.Call by (call.Read fd n)
 
-  copy_tells : Tells reply.Bytes
-  copy_tells = record { answers = λ a. refl; roomy = λ a x. x; unrefused = λ a x. x }
-
-  copy_unasked : (o : Option Descriptor) → CopiesOn by fd n o disk old r after new → is_file o ≡ false → after ≡ disk
-  copy_unasked (Some (on.File g at mode)) c none = absurd (true≢false none)
-  copy_unasked o c none = c.1
-
-  copy_faults : (o : Option Descriptor) → CopiesOn by fd n o disk old r after new → is_file o ≡ true → FaultCounts disk after (outcome (told reply.Bytes r))
-  copy_faults (Some (on.File g at mode)) c asked = counts_told reply.Bytes r disk after copy_tells c.reads.fault.counts
-  copy_faults o c asked = absurd (true≢false (sym asked))
-
-  copy_room : (o : Option Descriptor) → CopiesOn by fd n o disk old r after new → IsDone (told reply.Bytes r) → HasRoomToRead (system_of old disk) o n
-  copy_room (Some (on.File g at mode)) c is = has_told reply.Bytes r _ _ c.reads.room is
-  copy_room o c is = tt
-
-  copy_lacks : (o : Option Descriptor) → CopiesOn by fd n o disk old r after new → IsNoRoom (told reply.Bytes r) → LacksRoomToRead (system_of old disk) o n
-  copy_lacks (Some (on.File g at mode)) c is = room_told reply.Bytes r _ _ copy_tells c.reads.room is
-  copy_lacks o c is = no_room_told reply.Bytes r copy_tells c.0.roomy is
-
-  copy_refused : (o : Option Descriptor) → CopiesOn by fd n o disk old r after new → is_file o ≡ false → IsRefused (told reply.Bytes r) → new ≡ old
-  copy_refused (Some (on.File g at mode)) c none is = absurd (true≢false none)
-  copy_refused o c none is = refused_told reply.Bytes r (new ≡ old) copy_tells c.0.refused is
-
   copy_early : (o : Option Descriptor) → CopiesOn by fd n o disk old r after new → IsEarly (told reply.Bytes r) → (new ≡ old) × (after ≡ disk)
-  copy_early (Some (on.File g at mode)) c is = early_of reply.Bytes r _ _ copy_tells (early_room_fault _ g) c.early is
-  copy_early o c is = (early_told reply.Bytes r (new ≡ old) copy_tells c.0.refused is, c.1)
-
-  copy_asked : (o : Option Descriptor) → CopiesOn by fd n o disk old r after new → is_file o ≡ true → IsFault (told reply.Bytes r) → HasRoomToRead (system_of old disk) o n
-  copy_asked (Some (on.File g at mode)) c asks is = fault_told reply.Bytes r _ _ copy_tells c.reads.room is
-  copy_asked o c asks is = tt
-
-  copy_slots : (o : Option Descriptor) → CopiesOn by fd n o disk old r after new → disk.honest ≡ true → after.slots ≡ disk.slots
-  copy_slots (Some (on.File g at mode)) c honest = c.reads.fault.slots honest
-  copy_slots o c honest = ap (λ (d : Disk). d.slots) c.1
-
-  copy_uncached : (o : Option Descriptor) → CopiesOn by fd n o disk old r after new → is_file o ≡ false → new.cache ≡ old.cache
-  copy_uncached (Some (on.File g at mode)) c none = absurd (true≢false none)
-  copy_uncached o c none = c.0.cache
+  copy_early (Some (on.File g at mode)) c is = early_of reply.Bytes r _ _ (λ a. refl) (early_room_fault _ g) c.early is
+  copy_early o c is = (early_told reply.Bytes r (new ≡ old) (λ a. refl) c.0.refused is, c.1)
 
   copy_fills : (o : Option Descriptor) → CopiesOn by fd n o disk old r after new → FillsForFile old o new
   copy_fills (Some (on.File g at mode)) c = fills_then_frees c.lists c.reads.pages c.frees
   copy_fills o c = c.0.pages
-
-  copy_in_place : (o : Option Descriptor) → CopiesOn by fd n o disk old r after new → ((p : ℕ) → ReadWantsMore (system_of old disk) o n p → MayLetGo (system_of old disk) copy_event p) → KeepsInPlace (system_of old disk) copy_event new
-  copy_in_place (Some (on.File g at mode)) c goes = unless_in_place disk old new copy_event (pool_of_file old g) (LacksPagesToRead g at n disk (holding_of old)) c.reads.keeps (λ p same lacks. goes p (same, lacks))
-  copy_in_place o c goes = cache_in_place disk old new copy_event c.0.cache
 
   -- the bytes that were answered were copied from where they lie
   copied_of : (g at : ℕ) (mode : Mode) (x : Result (List ℕ) Refusal) → CopiesFileAs (file_read by fd g at mode n) disk old x after new → IsDone (told reply.Bytes x) → SharesCopy by fd n (system_of old disk) (Some (on.File g at mode)) (told reply.Bytes x) new
@@ -411,144 +318,115 @@ module _ (by fd n : ℕ) (disk after : Disk) (old new : KernelState) (r : Result
       let over : KernelState = record new { store = c.mid } in
       let leaves : Refusal → Type 0 = LeavesAtRefusal (file_read by fd g at mode n) disk old after over in
       let here : OnErr r (SameTables old over) = tables_kept r old over c.reads.same c.reads.refused in
-      late_told reply.Bytes r (LeavesCopied by fd n g at mode (system_of old disk) (system_of new after)) copy_tells
+      late_told reply.Bytes r (LeavesCopied by fd n g at mode (system_of old disk) (system_of new after)) (λ a. refl)
       (err_more r (λ x. SameTables old over × leaves x) (LeavesCopied by fd n g at mode (system_of old disk) (system_of new after))
       (λ x left. record { mid = c.mid; leaves = left.1; frees = c.frees; lists = c.lists; same = ap (λ (h : KernelState). let k : KernelState = record h { store = new.store } in k) left.0 })
       (with_tables r (SameTables old over) leaves here c.reads.leaves))
   copy_late o c = tt
 
-  pub copies_does : Means reply.Bytes (λ s. reading.read s by fd n) copy_event → Serves (λ s. reading.read s by fd n) disk old r after new → Copies by fd n disk old r after new → Does disk old copy_event (told reply.Bytes r) after new
-  copies_does means serves copies =
-      let o : Option Descriptor = held_by (tables_of old) by fd in record {
-        step = λ backed placed. means (machine_of disk.slots old) (machine_of after.slots new) r (serves.step backed placed);
-        backed = serves.backed;
-        beside = told_beside reply.Bytes (λ s. reading.read s by fd n) copy_event old new r means serves.beside;
-        honest = serves.honest;
-        unasked = copy_unasked o copies;
-        faults = copy_faults o copies;
-        slots = λ honest back. copy_slots o copies honest;
-        asked = copy_asked o copies;
-        room = copy_room o copies;
-        no_room = copy_lacks o copies;
-        early = copy_early o copies;
-        uncached = λ unused other. copy_uncached o copies unused;
-        refused = copy_refused o copies;
-        late = copy_late o copies;
-        looks = λ is. absurd (true≢false (sym is));
-        shares = λ shared. absurd (true≢false (sym shared));
-        pages = λ shared. absurd (true≢false (sym shared));
-        still = λ still. absurd (true≢false (sym still));
-        places = copy_places o copies;
-        store = λ keeps. absurd (true≢false (sym keeps));
-        in_place = copy_in_place o copies (λ p k. k);
+  -- over the pages that were filled, before the copies were released
+  copy_over : (o : Option Descriptor) → CopiesOn by fd n o disk old r after new → Stored
+  copy_over (Some (on.File g at mode)) c = c.mid
+  copy_over o c = new.store
+
+  copy_any : (o : Option Descriptor) (c : CopiesOn by fd n o disk old r after new) → ReadsAny by fd n disk after old new reply.Bytes r copy_event (record new { store = copy_over o c }) o
+  unfolding copy_over
+  copy_any (Some (on.File g at mode)) c = c.reads
+  copy_any o c = record { unasked = c.1; roomy = c.0.roomy; refused = c.0.refused; cache = c.0.cache }
+
+  pub copies_does : Serves (λ s. reading.read s by fd n) disk old r after new → Copies by fd n disk old r after new → Does disk old copy_event (told reply.Bytes r) after new
+  copies_does serves copies =
+      let o : Option Descriptor = held_by (tables_of old) by fd in
+      let any = has_read by fd n disk after old new reply.Bytes r copy_event (record new { store = copy_over o copies }) refl (λ a. refl) o (copy_any o copies) in
+      let means : Means reply.Bytes (λ s. reading.read s by fd n) copy_event = (λ s. told_step reply.Bytes (λ a. refl) (reading.read s by fd n) s) in
+      does_of tt (served reply.Bytes means serves)
+      (record { unasked = any.unasked; faults = any.faults; slots = λ honest back. any.slots honest; asked = any.asked })
+      (record { room = any.room; no_room = any.no_room; early = copy_early o copies; refused = any.refused; late = copy_late o copies })
+      (record {
+        uncached = λ unused other. any.uncached unused;
+        in_place = any.in_place (λ p k. k);
         shares_file = copy_shares o copies;
         publishes = λ done. copy_fills o copies;
         creates = tt;
-        ends = tt;
         sums = serves.sums;
         written_back = none_back disk old (told reply.Bytes r) after new copy_event refl;
-        sound = serves.sound;
-        stays = serves.stays;
-      }
+      })
+      (lies_apart refl refl (never refl) (copy_places o copies) (never refl))
 
 -- A write by copying.
 module _ (by fd : ℕ) (bytes : List ℕ) (disk : Disk) (old new : KernelState) (r : Result ℕ Refusal) where
   abbrev put_event : Event
   put_event = event.Call by (call.Write fd bytes)
 
-  abbrev taken_bytes : ℕ
-  taken_bytes = (writing.write (tables_of old) by fd bytes).answer
-
-  put_tells : Tells reply.Count
-  put_tells = record { answers = λ a. refl; roomy = λ a x. x; unrefused = λ a x. x }
-
-  abbrev pool_of : Option Descriptor → ℕ
-  pool_of o = writing.pool_for (tables_of old) by o
-
-  -- how many bytes are taken
-  abbrev count_of : Option Descriptor → ℕ
-  count_of o = writing.fitting (tables_of old) o (length bytes)
+  -- what is wanted of the pool, by what the descriptor is open on
+  abbrev wants : Option Descriptor → Wants
+  wants o = record { pool = writing.pool_for (tables_of old) by o; count = writing.fitting (tables_of old) o (length bytes) }
 
   -- to the end of the queue
   abbrev put : State → Text → State
   put s t = writing.written s by fd (descriptor s by fd) t
 
   abbrev IsPut : Option Descriptor → Type 0
-  IsPut o = Places (λ s. writing.write s by fd bytes) put (pool_of o) (count_of o) old r new
+  IsPut o = Places (λ s. writing.write s by fd bytes) put (wants o).pool (wants o).count old r new
 
-  put_made : (o : Option Descriptor) → IsPut o → IsDone (told reply.Count r) → Makes put (pool_of o) (count_of o) old new
+  put_made : (o : Option Descriptor) → IsPut o → IsDone (told reply.Count r) → Makes put (wants o) old new
   put_made o placed is = ok_told reply.Count r _ placed.made is
 
-  put_fills : (o : Option Descriptor) → (is_file o ≡ false → IsPut o) → PutsOn o (pool_of o) (length bytes) old r new → IsDone (told reply.Count r) → Puts by fd (pool_of o) (count_of o) o old new
-  put_fills None placed puts is = put_made None (placed refl) is
+  put_fills : (o : Option Descriptor) → (is_file o ≡ false → IsPut o) → PutsOn o (wants o).pool (length bytes) old r new → IsDone (told reply.Count r) → Puts by fd (wants o) o old new
   put_fills (Some (on.File g at mode)) placed puts is = ok_told reply.Count r _ puts.fills is
-  put_fills (Some (on.ReadEnd p)) placed puts is = put_made (Some (on.ReadEnd p)) (placed refl) is
-  put_fills (Some (on.WriteEnd p)) placed puts is = put_made (Some (on.WriteEnd p)) (placed refl) is
-  put_fills (Some (on.Connection c)) placed puts is = put_made (Some (on.Connection c)) (placed refl) is
+  put_fills o placed puts is = put_made o (placed refl) is
 
   abbrev PutGoes : Option Descriptor → Type 0
-  PutGoes o = (p : ℕ) → WantsMore old (pool_of o) (count_of o) p → MayLetGo (system_of old disk) put_event p
+  PutGoes o = (p : ℕ) → WantsMore old (wants o) p → MayLetGo (system_of old disk) put_event p
 
   queue_in_place : (o : Option Descriptor) → IsPut o → PutGoes o → KeepsInPlace (system_of old disk) put_event new
-  queue_in_place o placed goes = places_in_place disk old new put_event (λ s. writing.write s by fd bytes) put (pool_of o) (count_of o) (λ p same lacks. goes p (same, subst (λ q. LacksPages old q (pages_for (count_of o))) (sym same) lacks)) r placed
+  queue_in_place o placed goes = places_in_place disk old new put_event (λ s. writing.write s by fd bytes) put (wants o).pool (wants o).count (λ p same lacks. goes p (same, subst (λ q. LacksPages old q (pages_for (wants o).count)) (sym same) lacks)) r placed
 
-  put_in_place : (o : Option Descriptor) → (is_file o ≡ false → IsPut o) → PutsOn o (pool_of o) (length bytes) old r new → ((g i : ℕ) → IsInRange o (length bytes) g i → IsWritten old put_event g i) → PutGoes o → KeepsInPlace (system_of old disk) put_event new
-  put_in_place None placed puts writes goes = queue_in_place None (placed refl) goes
+  put_in_place : (o : Option Descriptor) → (is_file o ≡ false → IsPut o) → PutsOn o (wants o).pool (length bytes) old r new → ((g i : ℕ) → IsInRange o (length bytes) g i → IsWritten old put_event g i) → PutGoes o → KeepsInPlace (system_of old disk) put_event new
   put_in_place (Some (on.File f at mode)) placed puts writes goes =
-      let pool : ℕ = pool_of (Some (on.File f at mode)) in
+      let pool : ℕ = (wants (Some (on.File f at mode))).pool in
       beside_in_place disk old new put_event f at (length bytes) pool (LacksPages old pool (pages_for (length bytes))) puts.beside (λ g i same from to. writes g i (same, from, to))
       (λ p same lacks. goes p (same, subst (λ q. LacksPages old q (pages_for (length bytes))) (sym same) lacks))
-  put_in_place (Some (on.ReadEnd p)) placed puts writes goes = queue_in_place (Some (on.ReadEnd p)) (placed refl) goes
-  put_in_place (Some (on.WriteEnd p)) placed puts writes goes = queue_in_place (Some (on.WriteEnd p)) (placed refl) goes
-  put_in_place (Some (on.Connection c)) placed puts writes goes = queue_in_place (Some (on.Connection c)) (placed refl) goes
+  put_in_place o placed puts writes goes = queue_in_place o (placed refl) goes
 
-  put_late : (o : Option Descriptor) → (is_file o ≡ false → IsPut o) → LaysOn o (pool_of o) bytes old r new → PutLeaves (pool_of o) (count_of o) bytes old o (told reply.Count r) new
-  put_late (Some (on.File g at mode)) placed lays = late_told reply.Count r _ put_tells lays.leaves
-  put_late None placed lays = late_told reply.Count r _ put_tells (placed refl).refused
-  put_late (Some (on.ReadEnd p)) placed lays = late_told reply.Count r _ put_tells (placed refl).refused
-  put_late (Some (on.WriteEnd p)) placed lays = late_told reply.Count r _ put_tells (placed refl).refused
-  put_late (Some (on.Connection c)) placed lays = late_told reply.Count r _ put_tells (placed refl).refused
+  put_late : (o : Option Descriptor) → (is_file o ≡ false → IsPut o) → LaysOn o (wants o).pool bytes old r new → PutLeaves (wants o) bytes old o (told reply.Count r) new
+  put_late (Some (on.File g at mode)) placed lays = late_told reply.Count r _ (λ a. refl) lays.leaves
+  put_late o placed lays = late_told reply.Count r _ (λ a. refl) (placed refl).refused
 
-  put_shares : (o : Option Descriptor) → LaysOn o (pool_of o) bytes old r new → IsDone (told reply.Count r) → SharesPut (pool_of o) bytes o old new
+  put_shares : (o : Option Descriptor) → LaysOn o (wants o).pool bytes old r new → IsDone (told reply.Count r) → SharesPut (wants o).pool bytes o old new
   put_shares (Some (on.File g at mode)) lays is = ok_told reply.Count r _ lays.lays is
   put_shares o lays is = tt
 
-  pub puts_does : Means reply.Count (λ s. writing.write s by fd bytes) put_event → Serves (λ s. writing.write s by fd bytes) disk old r disk new
-      → (is_file (descriptor (tables_of old) by fd) ≡ false → Places (λ s. writing.write s by fd bytes) put (writing.pool_for (tables_of old) by (descriptor (tables_of old) by fd)) taken_bytes old r new)
-      → OnOk r (can_fit old (writing.pool_for (tables_of old) by (descriptor (tables_of old) by fd)) taken_bytes ≡ true)
-      → ((p : ℕ) → r ≡ Err (NoRoom p) → can_fit old (writing.pool_for (tables_of old) by (descriptor (tables_of old) by fd)) taken_bytes ≡ false)
-      → PutsOn (descriptor (tables_of old) by fd) (writing.pool_for (tables_of old) by (descriptor (tables_of old) by fd)) (length bytes) old r new
-      → LaysOn (descriptor (tables_of old) by fd) (writing.pool_for (tables_of old) by (descriptor (tables_of old) by fd)) bytes old r new
-      → IfErr r (λ x. (new ≡ old) ⊎ WantOfRoom (writing.pool_for (tables_of old) by (descriptor (tables_of old) by fd)) x)
+  -- the descriptor is open on this
+  abbrev here : Option Descriptor
+  here = descriptor (tables_of old) by fd
+
+  pub puts_does : Serves (λ s. writing.write s by fd bytes) disk old r disk new
+      → (is_file here ≡ false → Places (λ s. writing.write s by fd bytes) put (wants here).pool (wants here).count old r new)
+      → OnOk r (Fits old (wants here))
+      → ((p : ℕ) → r ≡ Err (NoRoom p) → FitsNot old (wants here))
+      → PutsOn here (wants here).pool (length bytes) old r new
+      → LaysOn here (wants here).pool bytes old r new
+      → IfErr r (λ x. (new ≡ old) ⊎ WantOfRoom (wants here).pool x)
       → Does disk old put_event (told reply.Count r) disk new
-  puts_does means serves queue room lacks puts lays left = record {
-    step = λ backed placed. means (machine_of disk.slots old) (machine_of disk.slots new) r (serves.step backed placed);
-    backed = serves.backed;
-    beside = told_beside reply.Count (λ s. writing.write s by fd bytes) put_event old new r means serves.beside;
-    honest = refl;
-    unasked = λ not'. refl;
-    faults = λ asked. absurd (true≢false (sym asked));
-    slots = λ honest back. refl;
-    asked = λ asks fault. absurd (true≢false (sym asks));
-    room = λ done. ok_told reply.Count r _ room done;
-    no_room = λ is. lacks_told reply.Count r _ put_tells lacks is;
-    early = λ is. (early_of reply.Count r (new ≡ old) _ put_tells (early_room (writing.pool_for (tables_of old) by (descriptor (tables_of old) by fd))) left is, refl);
-    refused = λ unused is. absurd (true≢false unused);
-    uncached = λ unused other. absurd (true≢false unused);
-    late = put_late (descriptor (tables_of old) by fd) queue lays;
-    looks = λ is. absurd (true≢false (sym is));
-    shares = λ shared. absurd (true≢false (sym shared));
-    pages = λ shared. absurd (true≢false (sym shared));
-    still = λ still. absurd (true≢false (sym still));
-    places = λ out done. absurd (true≢false (sym out));
-    store = λ keeps. absurd (true≢false (sym keeps));
-    in_place = put_in_place (descriptor (tables_of old) by fd) queue puts (λ g i k. k) (λ p k. k);
-    shares_file = put_shares (descriptor (tables_of old) by fd) lays;
-    publishes = λ done. put_fills (descriptor (tables_of old) by fd) queue puts done;
-    creates = tt;
-    ends = tt;
-    sums = serves.sums;
-    written_back = none_back disk old (told reply.Count r) disk new put_event refl;
-    sound = serves.sound;
-    stays = serves.stays;
-  }
+  puts_does serves queue room lacks puts lays left =
+      let o : Option Descriptor = here in
+      let means : Means reply.Count (λ s. writing.write s by fd bytes) put_event = (λ s. told_step reply.Count (λ a. refl) (writing.write s by fd bytes) s) in
+      does_of tt (served reply.Count means serves) (asks_none refl)
+      (record {
+        room = λ done. ok_told reply.Count r _ room done;
+        no_room = λ is. lacks_told reply.Count r _ (λ a. refl) lacks is;
+        early = λ is. (early_of reply.Count r (new ≡ old) _ (λ a. refl) (early_room (wants o).pool) left is, refl);
+        refused = λ unused is. never unused refl;
+        late = put_late o queue lays;
+      })
+      (record {
+        uncached = λ unused other. never unused refl;
+        in_place = put_in_place o queue puts (λ g i k. k) (λ p k. k);
+        shares_file = put_shares o lays;
+        publishes = λ done. put_fills o queue puts done;
+        creates = tt;
+        sums = serves.sums;
+        written_back = none_back disk old (told reply.Count r) disk new put_event refl;
+      })
+      (lies_apart refl refl (never refl) (never refl) (never refl))

@@ -1,5 +1,5 @@
 -- An event that is refused for want of room evicts nothing, and leaves what is held held as often.
-use Rattle.std.proofs.Common.{inl, inr, ◌≡◌, ◌∙◌, ℕ, ◌+◌, ◌<◌, ◌≤◌, false, List, [], ◌∷◌, Option, Some, None, sum_by, refl, sym, ap, arith, subst}
+use Rattle.std.proofs.Common.{inl, inr, ◌≡◌, ◌∙◌, ℕ, ◌+◌, ◌<◌, ◌≤◌, false, List, [], ◌∷◌, Option, Some, sum_by, refl, sym, ap, arith, subst}
 use Rattle.iol_core.specs.declared.descriptors.Descriptor.{Descriptor}
 use Rattle.iol_core.specs.declared.descriptors.Descriptor.TheVariants as on
 use Rattle.iol_core.specs.declared.events.Call.{Call}
@@ -30,7 +30,7 @@ use Rattle.iol_cache.specs.Cached.{Cached, extents_in, file_in, held, order_in}
 use Rattle.iol_cache.specs.Evicting.{Holding}
 use Rattle.iol_cache.specs.Going.{CountsHits}
 use Rattle.iol_cache.specs.Reading.{SameButRoom, hits_counted}
-use Rattle.iol_cache.specs.Serving.{LeavesRange}
+use Rattle.iol_cache.specs.Serving.{GivesBack, LeavesRange}
 use Rattle.iol_kernel.specs.FileReading.{FileRead, LeavesAtRefusal, file_read}
 use Rattle.iol_kernel.specs.KernelState.{KernelState, IsSound, objects_of}
 use Rattle.iol_kernel.specs.MakingRoom.{MayHaveEvicted}
@@ -41,6 +41,7 @@ use Rattle.iol_system.specs.Laws.{EvictsNothing, IsMet, IsRead, NoRoomEvictsNoth
 use Rattle.iol_system.specs.InPlace.{IsInRange}
 use Rattle.iol_system.specs.Machine.{SystemState, tables_of}
 use Rattle.iol_system.proofs.Hits.{AreHit, BeginAt, hit_then, hits_leave, others_stay}
+use Rattle.iol_system.specs.Wants.{Wants, for_written}
 use Rattle.iol_system.specs.Room.{CallLacksRoom, LacksRoomFor, LacksRoomToRead, LacksRoomToWrite}
 
 -- Of pages: what was freed nothing holds any more, and what is held is held as often.
@@ -66,7 +67,7 @@ rises from to (s ∷ ss) order = omega (arith, order.0, order.1, rises s.to to s
 -- Of what memory has of files, where an event reads some of their bytes.
 
 module _ (Read : (f i : ℕ) → Type 0) where
-  same_cache : (a b : Cached) → b ≡ a → EvictsNothing Read a b
+  pub same_cache : (a b : Cached) → b ≡ a → EvictsNothing Read a b
   same_cache a b is = record {
     extents = λ f. ap (λ (c : Cached). extents_in c.files f) is;
     low = λ p. ap (λ (c : Cached). (order_in c.orders p).low) is;
@@ -81,7 +82,7 @@ module _ (Read : (f i : ℕ) → Type 0) where
   same_kernel : (h k : KernelState) → k ≡ h → LeavesBoth h k
   same_kernel h k is = (same_cache h.cache k.cache (ap (λ (x : KernelState). x.cache) is), λ was now. same_pages h.store k.store (ap (λ (x : KernelState). x.store) is))
 
-  only_reserved : (a b : Cached) → SameButRoom a b → EvictsNothing Read a b
+  pub only_reserved : (a b : Cached) → SameButRoom a b → EvictsNothing Read a b
   only_reserved a b x = record {
     extents = x.extents;
     low = x.low;
@@ -138,6 +139,12 @@ module _ (Read : (f i : ℕ) → Type 0) where
 
   -- Refusals for want of room, by what they left.
 
+  -- a read of a range whose hits were shared, and for whose gaps nothing went
+  pub only_hit : (f from to : ℕ) (old new : Holding) (y : Refusal) → ((i : ℕ) → from ≤ i → i < to → Read f i) → (x : GivesBack f from to old new y) → x.undone.full ≡ x.hit → EvictsNothing Read old.cache new.cache
+  only_hit f from to old new y read x same =
+      let a = x.pinned in
+      and_then old.cache a.reserved new.cache (only_reserved old.cache a.reserved a.rooms) (and_then a.reserved x.hit.cache new.cache (only_counted f from to a.hits a.reserved x.hit.cache a.tile.hits read a.counted) (same_cache x.hit.cache new.cache (x.undone.cache ∙ ap (λ (h : Holding). h.cache) same)))
+
   -- what a read of a range leaves, whose extents hold what they held
   abbrev RangeLeft : (old new : Holding) → Type 0
   RangeLeft old new = EvictsNothing Read old.cache new.cache × HeldAlike old.store new.store × (held new.cache.files ≡ held old.cache.files)
@@ -150,7 +157,7 @@ module _ (Read : (f i : ℕ) → Type 0) where
       let last : new.cache ≡ x.hit.cache = x.undone.cache ∙ ap (λ (h : Holding). h.cache) same in
       let released : Moves x.hit.store new.store (bufs_of x.pins) [] = subst (λ (h : Holding). Moves h.store new.store (bufs_of x.pins) []) same x.undone.released in
       let frees : FreesOnly x.hit.store new.store = subst (λ (h : Holding). FreesOnly h.store new.store) same x.undone.frees in (
-        and_then old.cache a.reserved new.cache (only_reserved old.cache a.reserved a.rooms) (and_then a.reserved x.hit.cache new.cache (only_counted f from to a.hits a.reserved x.hit.cache a.tile.hits read a.counted) (same_cache x.hit.cache new.cache last)),
+        only_hit f from to old new (NoRoom p) read x same,
         record {
           counts = λ b. omega (arith, a.shares.counts.each b, released.counts.each b, tally_none b);
           frees = frees_trans (frees_shares a.shares) frees released.counts;
@@ -194,32 +201,20 @@ module _ (old new : SystemState) (p : ℕ) where
   Kept Read = LeavesBoth Read old.kernel new.kernel
 
   read_on : (by fd n : ℕ) (o : Option Descriptor) → ReadLeaves by fd n old o (reply.Refused (NoRoom p)) new → LacksRoomToRead old o n → Kept (IsInRange o n)
-  read_on by fd n None late lacks = absurd lacks
-  read_on by fd n (Some (on.ReadEnd q)) late lacks = absurd lacks
-  read_on by fd n (Some (on.WriteEnd q)) late lacks = absurd lacks
-  read_on by fd n (Some (on.Connection q)) late lacks = absurd lacks
   read_on by fd n (Some (on.File f at mode)) late lacks = (let left = read_left (IsInRange (Some (on.File f at mode)) n) (file_read by fd f at mode n) old.disk new.disk p old.kernel new.kernel (λ i low high. (refl, low, high)) late.1 in (left.0, λ was now. left.1))
+  read_on by fd n o late lacks = absurd lacks
 
   copy_on : (by fd n : ℕ) (o : Option Descriptor) → CopyLeaves by fd n old o (reply.Refused (NoRoom p)) new → LacksRoomToRead old o n → Kept (IsInRange o n)
-  copy_on by fd n None late lacks = absurd lacks
-  copy_on by fd n (Some (on.ReadEnd q)) late lacks = absurd lacks
-  copy_on by fd n (Some (on.WriteEnd q)) late lacks = absurd lacks
-  copy_on by fd n (Some (on.Connection q)) late lacks = absurd lacks
   copy_on by fd n (Some (on.File f at mode)) late lacks = copy_left (IsInRange (Some (on.File f at mode)) n) old.kernel new.kernel late.mid (read_left (IsInRange (Some (on.File f at mode)) n) (file_read by fd f at mode n) old.disk new.disk p old.kernel (record new.kernel { store = late.mid }) (λ i low high. (refl, low, high)) late.leaves) late.frees late.same
+  copy_on by fd n o late lacks = absurd lacks
 
   write_on : (xs : List Slice) (o : Option Descriptor) → WriteLeaves old.kernel o xs (reply.Refused (NoRoom p)) new.kernel → LacksRoomToWrite old.kernel o xs → Kept (λ f i. ⊥)
-  write_on xs None late lacks = absurd lacks
-  write_on xs (Some (on.ReadEnd q)) late lacks = absurd lacks
-  write_on xs (Some (on.WriteEnd q)) late lacks = absurd lacks
-  write_on xs (Some (on.Connection q)) late lacks = absurd lacks
   write_on xs (Some (on.File f at mode)) late lacks = write_left (λ f i. ⊥) f p xs old.kernel new.kernel late.1
+  write_on xs o late lacks = absurd lacks
 
-  put_on : (pool n : ℕ) (bytes : List ℕ) (o : Option Descriptor) → PutLeaves pool n bytes old.kernel o (reply.Refused (NoRoom p)) new.kernel → Kept (λ f i. ⊥)
-  put_on pool n bytes None late = room_left (λ f i. ⊥) pool n p old.kernel new.kernel late
-  put_on pool n bytes (Some (on.ReadEnd q)) late = room_left (λ f i. ⊥) pool n p old.kernel new.kernel late
-  put_on pool n bytes (Some (on.WriteEnd q)) late = room_left (λ f i. ⊥) pool n p old.kernel new.kernel late
-  put_on pool n bytes (Some (on.Connection q)) late = room_left (λ f i. ⊥) pool n p old.kernel new.kernel late
-  put_on pool n bytes (Some (on.File f at mode)) late = put_left (λ f i. ⊥) pool p bytes old.kernel new.kernel late
+  put_on : (w : Wants) (bytes : List ℕ) (o : Option Descriptor) → PutLeaves w bytes old.kernel o (reply.Refused (NoRoom p)) new.kernel → Kept (λ f i. ⊥)
+  put_on w bytes (Some (on.File f at mode)) late = put_left (λ f i. ⊥) w.pool p bytes old.kernel new.kernel late
+  put_on w bytes o late = room_left (λ f i. ⊥) w.pool w.count p old.kernel new.kernel late
 
   call_left : (by : ℕ) (c : Call) → CallLeaves old by c (reply.Refused (NoRoom p)) new → CallLacksRoom old by c → (uses_cache (tables_of old.kernel) (event.Call by c) ≡ false → new ≡ old) → Kept (IsRead (tables_of old.kernel) (event.Call by c))
   call_left by (call.AggMake bytes) late lacks unused = room_left (λ f i. ⊥) _ _ p old.kernel new.kernel late
@@ -227,7 +222,7 @@ module _ (old new : SystemState) (p : ℕ) where
   call_left by (call.IolRead fd n) late lacks unused = read_on by fd n _ late lacks
   call_left by (call.IolWrite fd a) late lacks unused = write_on _ _ late lacks
   call_left by (call.Read fd n) late lacks unused = copy_on by fd n _ late lacks
-  call_left by (call.Write fd bytes) late lacks unused = put_on _ _ bytes _ late
+  call_left by (call.Write fd bytes) late lacks unused = put_on (for_written old.kernel by fd bytes) bytes _ late
   call_left by c late lacks unused = absurd lacks
 
   event_left : (e : Event) → LeavesLate old e (reply.Refused (NoRoom p)) new → LacksRoomFor old e → (uses_cache (tables_of old.kernel) e ≡ false → new ≡ old) → Kept (IsRead (tables_of old.kernel) e)

@@ -13,6 +13,7 @@ pub mod Paged
 pub mod Returned
 pub mod Empty
 pub mod Served
+pub mod Telling
 pub mod Doing
 pub mod BackDoing
 pub mod FileDoing

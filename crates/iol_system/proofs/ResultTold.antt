@@ -16,7 +16,7 @@ use Rattle.iol_kernel.specs.KernelState.{KernelState}
 use Rattle.iol_system.specs.Late.{IfRefused, SameTables}
 use Rattle.iol_system.specs.Replies.{told}
 use Rattle.iol_system.specs.Room.{IsDone, IsEarly, IsFault, IsNoRoom, IsRefused}
-use Rattle.iol_system.proofs.Doing.{Tells, early_refused}
+use Rattle.iol_system.proofs.Telling.{Tells, answered, early_refused, room_refused, unrefused}
 
 -- what a result tells, the reply tells
 
@@ -25,12 +25,12 @@ ok_told f (Ok a) X ok is = ok
 ok_told f (Err x) X ok is = absurd is
 
 pub lacks_told : {A : Type 0} (f : A → Reply) (r : Result A Refusal) (X : Type 0) → Tells f → ((p : ℕ) → r ≡ Err (NoRoom p) → X) → IsNoRoom (told f r) → X
-lacks_told f (Ok a) X tells lacks is = absurd (tells.roomy a is)
+lacks_told f (Ok a) X tells lacks is = absurd (unrefused (f a) (tells a) (room_refused (f a) is))
 lacks_told f (Err (NoRoom p)) X tells lacks is = lacks p refl
 lacks_told f (Err x) X tells lacks is = absurd is
 
 pub counts_told : {A : Type 0} (f : A → Reply) (r : Result A Refusal) (old new : Disk) → Tells f → FaultCounts old new r → FaultCounts old new (outcome (told f r))
-counts_told f (Ok a) old new tells counts = subst (λ (o : Result Reply Refusal). FaultCounts old new o) (sym (tells.answers a)) counts
+counts_told f (Ok a) old new tells counts = subst (λ (o : Result Reply Refusal). FaultCounts old new o) (sym (answered (f a) (tells a))) counts
 counts_told f (Err (Fault n)) old new tells counts = counts
 counts_told f (Err x) old new tells counts = counts
 
@@ -39,7 +39,7 @@ has_told f (Ok a) has lacks room is = room
 has_told f (Err x) has lacks room is = absurd is
 
 pub room_told : {A : Type 0} (f : A → Reply) (r : Result A Refusal) (has lacks : Type 0) → Tells f → TellsRoom has lacks r → IsNoRoom (told f r) → lacks
-room_told f (Ok a) has lacks tells room is = absurd (tells.roomy a is)
+room_told f (Ok a) has lacks tells room is = absurd (unrefused (f a) (tells a) (room_refused (f a) is))
 room_told f (Err (NoRoom p)) has lacks tells room is = room
 room_told f (Err x) has lacks tells room is = absurd is
 
@@ -70,7 +70,7 @@ early_fault f x is fault = subst (λ (y : Refusal). IsEarly (reply.Refused y)) f
 
 -- so what is left at an early refusal is X, where that holds of every refusal that is not late
 pub early_of : {A : Type 0} (f : A → Reply) (r : Result A Refusal) (X : Type 0) (Late : Refusal → Type 0) → Tells f → ((x : Refusal) → IsEarly (reply.Refused x) → Late x → ⊥) → IfErr r (λ x. X ⊎ Late x) → IsEarly (told f r) → X
-early_of f (Ok a) X Late tells apart left is = absurd (tells.unrefused a (early_refused (f a) is))
+early_of f (Ok a) X Late tells apart left is = absurd (unrefused (f a) (tells a) (early_refused (f a) is))
 early_of f (Err x) X Late tells apart left is = elim left [ inl here ↦ here | inr late ↦ absurd (apart x is late) ]
 
 -- what is left at a refusal
@@ -80,7 +80,7 @@ unless_refused (reply.Refused y) P not' = absurd (not' tt)
 unless_refused x P not' = tt
 
 pub late_told : {A : Type 0} (f : A → Reply) (r : Result A Refusal) (P : Refusal → Type 0) → Tells f → IfErr r P → IfRefused (told f r) P
-late_told f (Ok a) P tells left = unless_refused (f a) P (tells.unrefused a)
+late_told f (Ok a) P tells left = unless_refused (f a) P (unrefused (f a) (tells a))
 late_told f (Err x) P tells left = left
 
 pub err_more : {A : Type 0} (r : Result A Refusal) (P Q : Refusal → Type 0) → ((x : Refusal) → P x → Q x) → IfErr r P → IfErr r Q

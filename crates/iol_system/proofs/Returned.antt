@@ -1,5 +1,5 @@
 -- A step leaves an open pool its chunks, and a closed one all of them or none.
-use Rattle.std.proofs.Common.{inl, inr, ◌≡◌, ◌∙◌, ℕ, true, false, List, length, Option, Some, None, refl, sym, ap}
+use Rattle.std.proofs.Common.{inl, inr, ◌≡◌, ◌∙◌, ℕ, true, false, List, Option, Some, refl, sym, ap}
 use Rattle.iol_core.specs.State.{State}
 use Rattle.iol_core.specs.Run.{meaning, outcome}
 use Rattle.iol_core.specs.Text.{Text}
@@ -33,6 +33,7 @@ use Rattle.iol_system.specs.Asking.{uses_cache}
 use Rattle.iol_system.specs.Late.{CallLeaves, CopyLeaves, LeavesLate, PutLeaves, ReadLeaves, WriteLeaves}
 use Rattle.iol_system.specs.Laws.{EachStepKeepsChunks, KeepsChunks}
 use Rattle.iol_system.specs.Machine.{SystemState, tables_of}
+use Rattle.iol_system.specs.Wants.{Wants, for_arrived, for_made, for_written}
 use Rattle.iol_system.specs.Placed.{CallPublishes, Fills, FillsForFile, Makes, Publishes, Puts}
 use Rattle.iol_system.specs.Still.{keeps_store}
 use Rattle.iol_system.proofs.Paged.{keeps_then_frees}
@@ -62,31 +63,31 @@ room_then pool n h k t x y = and_then h.store k.store t x.gives_up.lists (room_m
 
 -- What done events do.
 
-made : (put : State → Text → State) (pool n : ℕ) (h k : KernelState) → Makes put pool n h k → KeepsChunks h.store k.store
-made put pool n h k x = room_then pool _ h x.roomy k.store x.room (by_pages x.then.pages)
+made : (put : State → Text → State) (w : Wants) (h k : KernelState) → Makes put w h k → KeepsChunks h.store k.store
+made put w h k x = room_then w.pool _ h x.roomy k.store x.room (by_pages x.then.pages)
 
-filled : (pool n : ℕ) (h k : KernelState) → Fills pool n h k → KeepsChunks h.store k.store
-filled pool n h k x = room_then pool _ h x.roomy k.store x.room (by_pages x.then)
+filled : (w : Wants) (h k : KernelState) → Fills w h k → KeepsChunks h.store k.store
+filled w h k x = room_then w.pool _ h x.roomy k.store x.room (by_pages x.then)
 
 filled_for : (h : KernelState) (o : Option Descriptor) (k : KernelState) → FillsForFile h o k → KeepsChunks h.store k.store
 filled_for h (Some (on.File f at mode)) k x = by_pages (pages_kept x)
 filled_for h o k x = by_pages x
 
-put_on : (by fd pool n : ℕ) (o : Option Descriptor) (h k : KernelState) → Puts by fd pool n o h k → KeepsChunks h.store k.store
-put_on by fd pool n (Some (on.File f at mode)) h k x = filled pool n h k x
-put_on by fd pool n o h k x = made _ pool n h k x
+put_on : (by fd : ℕ) (w : Wants) (o : Option Descriptor) (h k : KernelState) → Puts by fd w o h k → KeepsChunks h.store k.store
+put_on by fd w (Some (on.File f at mode)) h k x = filled w h k x
+put_on by fd w o h k x = made _ w h k x
 
 call_done : (h : KernelState) (by : ℕ) (c : Call) (k : KernelState) → CallPublishes h by c k → KeepsChunks h.store k.store
-call_done h by (call.AggMake bytes) k x = made _ _ (length bytes) h k x
+call_done h by (call.AggMake bytes) k x = made _ (for_made h by bytes) h k x
 call_done h by (call.IolRead fd n) k x = filled_for h _ k x
 call_done h by (call.IolWrite fd a) k x = filled_for h _ k x
 call_done h by (call.Read fd n) k x = filled_for h _ k x
-call_done h by (call.Write fd bytes) k x = put_on by fd _ _ _ h k x
+call_done h by (call.Write fd bytes) k x = put_on by fd (for_written h by fd bytes) _ h k x
 call_done h by c k x = by_pages x
 
 event_done : (h : KernelState) (e : Event) (k : KernelState) → Publishes h e k → KeepsChunks h.store k.store
 event_done h (event.Call by c) k x = call_done h by c k x
-event_done h (event.Arrive c bytes) k x = made _ _ _ h k x
+event_done h (event.Arrive c bytes) k x = made _ (for_arrived h c bytes) h k x
 event_done h e k x = by_pages x
 
 -- What late refusals leave.
@@ -130,39 +131,27 @@ module _ (old new : SystemState) (y : Refusal) where
 
   read_on : (by fd n : ℕ) (o : Option Descriptor) → ReadLeaves by fd n old o (reply.Refused y) new → (is_file o ≡ false → new ≡ old) → Kept
   read_on by fd n (Some (on.File f at mode)) late unused = by_pages (read_pages (file_read by fd f at mode n) old.disk new.disk old.kernel new.kernel y late.1).1
-  read_on by fd n None late unused = same (unused refl)
-  read_on by fd n (Some (on.ReadEnd q)) late unused = same (unused refl)
-  read_on by fd n (Some (on.WriteEnd q)) late unused = same (unused refl)
-  read_on by fd n (Some (on.Connection q)) late unused = same (unused refl)
+  read_on by fd n o late unused = same (unused refl)
 
   copy_on : (by fd n : ℕ) (o : Option Descriptor) → CopyLeaves by fd n old o (reply.Refused y) new → (is_file o ≡ false → new ≡ old) → Kept
   copy_on by fd n (Some (on.File f at mode)) late unused =
       by_pages (keeps_then_frees late.lists (read_pages (file_read by fd f at mode n) old.disk new.disk old.kernel (record new.kernel { store = late.mid }) y late.leaves).1 late.frees)
-  copy_on by fd n None late unused = same (unused refl)
-  copy_on by fd n (Some (on.ReadEnd q)) late unused = same (unused refl)
-  copy_on by fd n (Some (on.WriteEnd q)) late unused = same (unused refl)
-  copy_on by fd n (Some (on.Connection q)) late unused = same (unused refl)
+  copy_on by fd n o late unused = same (unused refl)
 
   write_on : (xs : List Slice) (o : Option Descriptor) → WriteLeaves old.kernel o xs (reply.Refused y) new.kernel → (is_file o ≡ false → new ≡ old) → Kept
   write_on xs (Some (on.File f at mode)) late unused = unwritten f xs old.kernel new.kernel y late.1
-  write_on xs None late unused = same (unused refl)
-  write_on xs (Some (on.ReadEnd q)) late unused = same (unused refl)
-  write_on xs (Some (on.WriteEnd q)) late unused = same (unused refl)
-  write_on xs (Some (on.Connection q)) late unused = same (unused refl)
+  write_on xs o late unused = same (unused refl)
 
-  copied_to : (pool n : ℕ) (bytes : List ℕ) (o : Option Descriptor) → PutLeaves pool n bytes old.kernel o (reply.Refused y) new.kernel → Kept
-  copied_to pool n bytes (Some (on.File f at mode)) late = unlaid pool bytes old.kernel new.kernel y late
-  copied_to pool n bytes None late = may_evict pool n old.kernel new.kernel y late
-  copied_to pool n bytes (Some (on.ReadEnd q)) late = may_evict pool n old.kernel new.kernel y late
-  copied_to pool n bytes (Some (on.WriteEnd q)) late = may_evict pool n old.kernel new.kernel y late
-  copied_to pool n bytes (Some (on.Connection q)) late = may_evict pool n old.kernel new.kernel y late
+  copied_to : (w : Wants) (bytes : List ℕ) (o : Option Descriptor) → PutLeaves w bytes old.kernel o (reply.Refused y) new.kernel → Kept
+  copied_to w bytes (Some (on.File f at mode)) late = unlaid w.pool bytes old.kernel new.kernel y late
+  copied_to w bytes o late = may_evict w.pool w.count old.kernel new.kernel y late
 
   call_refused : (by : ℕ) (c : Call) → CallLeaves old by c (reply.Refused y) new → (uses_cache (tables_of old.kernel) (event.Call by c) ≡ false → new ≡ old) → (keeps_store (event.Call by c) ≡ true → new.kernel.store ≡ old.kernel.store) → Kept
   call_refused by (call.AggMake bytes) late unused keeps = may_evict _ _ old.kernel new.kernel y late
   call_refused by (call.IolRead fd n) late unused keeps = read_on by fd n _ late unused
   call_refused by (call.IolWrite fd a) late unused keeps = write_on _ _ late unused
   call_refused by (call.Read fd n) late unused keeps = copy_on by fd n _ late unused
-  call_refused by (call.Write fd bytes) late unused keeps = copied_to _ _ bytes _ late
+  call_refused by (call.Write fd bytes) late unused keeps = copied_to (for_written old.kernel by fd bytes) bytes _ late
   call_refused by (call.Fsync fd) late unused keeps = nothing_changed old.kernel.store new.kernel.store (keeps refl)
   call_refused by c late unused keeps = same (unused refl)
 

@@ -30,7 +30,7 @@ use Rattle.iol_kernel.specs.Readings.{slots_of}
 use Rattle.iol_kernel.specs.KernelState as held
 use Rattle.iol_system.proofs.Beside.{access_beside, values_beside, files-slots}
 use Rattle.iol_system.proofs.Empty.{slots-enough, new_backed}
-use Rattle.iol_system.proofs.Hopeless.{event_met}
+use Rattle.iol_system.proofs.Hopeless.{extents_met}
 use Rattle.iol_system.proofs.Chains.{chain_run, chain_stays, chain_values, chain_honest}
 
 pub new_safe : (s : SystemState) (slots : List (List ℕ)) → IsSound s.kernel → machine_of s ≡ new_state slots → MAX_FILES ≤ length slots → IfHonest s.disk (IsBackedBy s.disk s.kernel) → IsSafe s
@@ -75,7 +75,7 @@ module _ (old new : SystemState) (e : Event) (r : Reply) (safe : IsSafe old) (do
     asked = does.asked;
     room = does.room;
     no_room = does.no_room;
-    without_room = event_met old new e r does.late does.refused;
+    without_room = extents_met old new e r does.late does.refused;
     early = λ is. (let same = does.early is in ap (λ (d : Disk). system_of new.kernel d) same.1 ∙ ap (λ (h : KernelState). system_of h old.disk) same.0);
     uncached = does.uncached;
     refused = λ unused was. ap (λ (d : Disk). system_of new.kernel d) (untouched unused was) ∙ ap (λ (h : KernelState). system_of h old.disk) (does.refused unused was);

@@ -1,9 +1,6 @@
 -- Which bytes of files lie where they lay after an event, and which bytes calls on files share.
 use Rattle.std.specs.Prelude.{◌≡◌, ◌⊎◌, ℕ, ◌+◌, ◌<◌, ◌≤◌, false, List, length, Option, Some, ⊤}
-use Rattle.iol_core.specs.State.{conn_at, descriptor}
-use Rattle.iol_core.specs.Calls.Aggregates.{default_pool}
-use Rattle.iol_core.specs.Calls.Outside.{arrive}
-use Rattle.iol_core.specs.Calls.Writing.{pool_for, write}
+use Rattle.iol_core.specs.State.{descriptor}
 use Rattle.iol_core.specs.declared.descriptors.Mode.{Mode}
 use Rattle.iol_core.specs.declared.descriptors.Descriptor.{Descriptor}
 use Rattle.iol_core.specs.declared.descriptors.Descriptor.TheVariants as on
@@ -28,6 +25,7 @@ use Rattle.iol_kernel.specs.KernelState.{KernelState, slices_in}
 use Rattle.iol_kernel.specs.MakingRoom.{AfterRoom}
 use Rattle.iol_kernel.specs.WritingFiles.{LaysOver, OnlyMoves, pool_of_file}
 use Rattle.iol_system.specs.Machine.{SystemState, tables_of}
+use Rattle.iol_system.specs.Wants.{Wants, for_arrived, for_made, for_written}
 
 -- byte i of file f is one of n from the position on at which a descriptor is open
 abbrev pub IsInRange : Option Descriptor → (n f i : ℕ) → Type 0
@@ -41,9 +39,9 @@ IsWritten old (event.Call by (call.IolWrite fd a)) f i =
 IsWritten old (event.Call by (call.Write fd bytes)) f i = IsInRange (descriptor (tables_of old) by fd) (length bytes) f i
 IsWritten old e f i = ⊥
 
--- n new bytes in a pool want more pages there than are free
-abbrev pub WantsMore : KernelState → (pool n p : ℕ) → Type 0
-WantsMore h pool n p = (p ≡ pool) × LacksPages h p (pages_for n)
+-- new bytes in a pool want more pages there than are free
+abbrev pub WantsMore : KernelState → Wants → (p : ℕ) → Type 0
+WantsMore h w p = (p ≡ w.pool) × LacksPages h p (pages_for w.count)
 
 -- so does a read of a file, for what is not in memory
 abbrev pub ReadWantsMore : SystemState → Option Descriptor → (n p : ℕ) → Type 0
@@ -58,16 +56,13 @@ WriteWantsMore h o xs p = ⊥
 
 -- the event may let clean bytes of files of pool p go: it drops all of them, or wants more pages of the pool than are free
 abbrev pub MayLetGo : SystemState → Event → (p : ℕ) → Type 0
-MayLetGo s (event.Call by (call.AggMake bytes)) p = WantsMore s.kernel (default_pool (tables_of s.kernel) by) (length bytes) p
+MayLetGo s (event.Call by (call.AggMake bytes)) p = WantsMore s.kernel (for_made s.kernel by bytes) p
 MayLetGo s (event.Call by (call.IolRead fd n)) p = ReadWantsMore s (held_by (tables_of s.kernel) by fd) n p
 MayLetGo s (event.Call by (call.IolWrite fd a)) p =
     WriteWantsMore s.kernel (descriptor (tables_of s.kernel) by fd) (slices_in s.kernel.domains by a) p
 MayLetGo s (event.Call by (call.Read fd n)) p = ReadWantsMore s (held_by (tables_of s.kernel) by fd) n p
-MayLetGo s (event.Call by (call.Write fd bytes)) p =
-    WantsMore s.kernel (pool_for (tables_of s.kernel) by (descriptor (tables_of s.kernel) by fd))
-    (write (tables_of s.kernel) by fd bytes).answer p
-MayLetGo s (event.Arrive c bytes) p =
-    WantsMore s.kernel (conn_at (tables_of s.kernel) c).pool (arrive (tables_of s.kernel) c bytes).answer p
+MayLetGo s (event.Call by (call.Write fd bytes)) p = WantsMore s.kernel (for_written s.kernel by fd bytes) p
+MayLetGo s (event.Arrive c bytes) p = WantsMore s.kernel (for_arrived s.kernel c bytes) p
 MayLetGo s event.DropClean p = Unit {0}
 MayLetGo s e p = ⊥
 
@@ -143,6 +138,5 @@ SharesFile old (event.Call by (call.IolWrite fd a)) r new =
     SharesWrite (descriptor (tables_of old.kernel) by fd) (slices_in old.kernel.domains by a) old.kernel new
 SharesFile old (event.Call by (call.Read fd n)) r new = SharesCopy by fd n old (held_by (tables_of old.kernel) by fd) r new
 SharesFile old (event.Call by (call.Write fd bytes)) r new =
-    SharesPut (pool_for (tables_of old.kernel) by (descriptor (tables_of old.kernel) by fd)) bytes
-    (descriptor (tables_of old.kernel) by fd) old.kernel new
+    SharesPut (for_written old.kernel by fd bytes).pool bytes (descriptor (tables_of old.kernel) by fd) old.kernel new
 SharesFile old e r new = ⊤

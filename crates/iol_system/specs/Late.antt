@@ -1,9 +1,6 @@
 -- What a refusal leaves that may come late: for want of room or of memory, or by a fault.
-use Rattle.std.specs.Prelude.{◌≡◌, ℕ, List, length, Option, Some, ⊤}
-use Rattle.iol_core.specs.State.{conn_at, descriptor}
-use Rattle.iol_core.specs.Calls.Aggregates.{default_pool}
-use Rattle.iol_core.specs.Calls.Outside.{arrive}
-use Rattle.iol_core.specs.Calls.Writing.{pool_for, write}
+use Rattle.std.specs.Prelude.{◌≡◌, ℕ, List, Option, Some, ⊤}
+use Rattle.iol_core.specs.State.{descriptor}
 use Rattle.iol_core.specs.declared.descriptors.Mode.{Mode}
 use Rattle.iol_core.specs.declared.descriptors.Descriptor.{Descriptor}
 use Rattle.iol_core.specs.declared.descriptors.Descriptor.TheVariants as on
@@ -23,6 +20,7 @@ use Rattle.iol_kernel.specs.KernelState.{KernelState, slices_in}
 use Rattle.iol_kernel.specs.MakingRoom.{MayHaveEvicted}
 use Rattle.iol_kernel.specs.WritingFiles.{LeavesUnlaid, LeavesUnwritten}
 use Rattle.iol_system.specs.Machine.{SystemState, tables_of}
+use Rattle.iol_system.specs.Wants.{Wants, for_arrived, for_made, for_written}
 
 -- it holds of the refusal, where there is one
 abbrev pub IfRefused : Reply → (Refusal → Type 0) → Type 0
@@ -32,6 +30,10 @@ IfRefused r P = ⊤
 -- nothing changed but pages, and what memory has of files
 abbrev pub SameTables : (old new : KernelState) → Type 0
 SameTables old new = new ≡ record old { store = new.store; cache = new.cache }
+
+-- a refusal changed nothing, or made room for these bytes
+abbrev pub MadeRoomFor : Wants → (old : KernelState) → Reply → (new : KernelState) → Type 0
+MadeRoomFor w old r new = IfRefused r (MayHaveEvicted w.pool w.count old new)
 
 -- A refused read of a file by reference: hits may count, and clean extents may have gone to make room, the first ones before the
 -- others.
@@ -58,22 +60,20 @@ abbrev pub WriteLeaves : (old : KernelState) → Option Descriptor → List Slic
 WriteLeaves old (Some (on.File f at mode)) xs r new = IfRefused r (λ x. SameTables old new × LeavesUnwritten f xs old new x)
 WriteLeaves old o xs r new = ⊤
 
--- A refused write of bytes by copying made room at most, to a queue for the n of them that it takes, and what it placed for a file
+-- A refused write of bytes by copying made room at most, to a queue for those of them that it takes, and what it placed for a file
 -- is gone; where there is no room it changed nothing.
-abbrev pub PutLeaves : (pool n : ℕ) → List ℕ → (old : KernelState) → Option Descriptor → Reply → (new : KernelState) → Type 0
-PutLeaves pool n bytes old (Some (on.File f at mode)) r new = IfRefused r (LeavesUnlaid pool bytes old new)
-PutLeaves pool n bytes old o r new = IfRefused r (MayHaveEvicted pool n old new)
+abbrev pub PutLeaves : Wants → List ℕ → (old : KernelState) → Option Descriptor → Reply → (new : KernelState) → Type 0
+PutLeaves w bytes old (Some (on.File f at mode)) r new = IfRefused r (LeavesUnlaid w.pool bytes old new)
+PutLeaves w bytes old o r new = MadeRoomFor w old r new
 
 abbrev pub CallLeaves : (old : SystemState) → (by : ℕ) → Call → Reply → (new : SystemState) → Type 0
-CallLeaves old by (call.AggMake bytes) r new =
-    IfRefused r (MayHaveEvicted (default_pool (tables_of old.kernel) by) (length bytes) old.kernel new.kernel)
+CallLeaves old by (call.AggMake bytes) r new = MadeRoomFor (for_made old.kernel by bytes) old.kernel r new.kernel
 CallLeaves old by (call.IolRead fd n) r new = ReadLeaves by fd n old (held_by (tables_of old.kernel) by fd) r new
 CallLeaves old by (call.IolWrite fd a) r new =
     WriteLeaves old.kernel (descriptor (tables_of old.kernel) by fd) (slices_in old.kernel.domains by a) r new.kernel
 CallLeaves old by (call.Read fd n) r new = CopyLeaves by fd n old (held_by (tables_of old.kernel) by fd) r new
 CallLeaves old by (call.Write fd bytes) r new =
-    PutLeaves (pool_for (tables_of old.kernel) by (descriptor (tables_of old.kernel) by fd))
-    (write (tables_of old.kernel) by fd bytes).answer bytes old.kernel (descriptor (tables_of old.kernel) by fd) r new.kernel
+    PutLeaves (for_written old.kernel by fd bytes) bytes old.kernel (descriptor (tables_of old.kernel) by fd) r new.kernel
 CallLeaves old by c r new = ⊤
 
 -- A refused event that places bytes, or reads or writes a file, changed nothing; or it came late, and has just made room or
@@ -81,7 +81,5 @@ CallLeaves old by c r new = ⊤
 -- change nothing where they are refused.
 abbrev pub LeavesLate : (old : SystemState) → Event → Reply → (new : SystemState) → Type 0
 LeavesLate old (event.Call by c) r new = CallLeaves old by c r new
-LeavesLate old (event.Arrive c bytes) r new =
-    IfRefused r
-    (MayHaveEvicted (conn_at (tables_of old.kernel) c).pool (arrive (tables_of old.kernel) c bytes).answer old.kernel new.kernel)
+LeavesLate old (event.Arrive c bytes) r new = MadeRoomFor (for_arrived old.kernel c bytes) old.kernel r new.kernel
 LeavesLate old e r new = ⊤

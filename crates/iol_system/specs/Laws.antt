@@ -30,6 +30,7 @@ use Rattle.iol_system.specs.Freed.{IsAllFree, IsLeft}
 use Rattle.iol_system.specs.InPlace.{IsInRange}
 use Rattle.iol_system.specs.Machine.{SystemState, machine_of, tables_of}
 use Rattle.iol_system.specs.Promises.{Promises, Chain}
+use Rattle.iol_system.specs.Room.{HasRoomFor, IsRefused}
 use Rattle.iol_system.specs.Safe.{IsSafe}
 use Rattle.iol_system.specs.Uses.{HasOneUse, HasOnePool}
 use Rattle.iol_system.specs.Values.{ValuesStayOver}
@@ -66,7 +67,7 @@ pub record Moment (old : SystemState) (past : List Event) (e : Event) (future : 
   pub promises : Promises before e reply after
   pub future_runs : Chain after future future_replies new
 
--- Each event of a run keeps all promises of a step: so NoRoom is answered exactly where there is no room, and so on.
+-- Each event of a run keeps all promises of a step: so NoRoom is answered only where there is no room, and so on.
 abbrev pub EachEventIsAStep : Type 0
 EachEventIsAStep = (old new : SystemState) (past : List Event) (e : Event) (future : List Event) (rs : List Reply)
     → Chain old (past ++ e ∷ future) rs new → Moment old past e future rs new
@@ -107,6 +108,11 @@ pub record EvictsNothing (Read : (f i : ℕ) → Type 0) (old new : Cached) : Ty
 abbrev pub NoRoomEvictsNothing : Type 0
 NoRoomEvictsNothing = (old new : SystemState) (e : Event) (p : ℕ) → Promises old e (Refused (NoRoom p)) new
     → EvictsNothing (IsRead (tables_of old.kernel) e) old.kernel.cache new.kernel.cache
+
+-- nor does one for which there is no room, whatever it is refused for
+abbrev pub RefusedWithoutRoomEvictsNothing : Type 0
+RefusedWithoutRoomEvictsNothing = (old new : SystemState) (e : Event) (r : Reply) → Promises old e r new → IsRefused r
+    → HasRoomFor old e ⊎ EvictsNothing (IsRead (tables_of old.kernel) e) old.kernel.cache new.kernel.cache
 
 -- Each pool has the list and the chunks that it had, each page is as it was, free or in use and as often filled, and each
 -- buffer is held as often.

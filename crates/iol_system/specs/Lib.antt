@@ -4,6 +4,7 @@ pub mod Placed
 pub mod Promises
 pub mod Remembered
 pub mod Replies
+pub mod Wants
 pub mod Room
 pub mod Safe
 pub mod Served

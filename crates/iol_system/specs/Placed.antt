@@ -1,10 +1,9 @@
 -- What an event does to pages and chunks: on which pages it makes buffers, and which chunks a new pool gets.
-use Rattle.std.specs.Prelude.{◌≡◌, ℕ, [], length, Option, Some, ⊤}
-use Rattle.iol_core.specs.State.{State, conn_at, descriptor}
+use Rattle.std.specs.Prelude.{◌≡◌, ℕ, [], Option, Some, ⊤}
+use Rattle.iol_core.specs.State.{State, descriptor}
 use Rattle.iol_core.specs.Text.{Text}
-use Rattle.iol_core.specs.Calls.Aggregates.{default_pool, with_agg}
-use Rattle.iol_core.specs.Calls.Outside.{arrive}
-use Rattle.iol_core.specs.Calls.Writing.{pool_for, write, written}
+use Rattle.iol_core.specs.Calls.Aggregates.{with_agg}
+use Rattle.iol_core.specs.Calls.Writing.{written}
 use Rattle.iol_core.specs.Calls.Pools.{distinct}
 use Rattle.iol_core.specs.declared.descriptors.Descriptor.{Descriptor}
 use Rattle.iol_core.specs.declared.descriptors.Descriptor.TheVariants as on
@@ -25,22 +24,23 @@ use Rattle.iol_pool.specs.Pools.{AddsPool}
 use Rattle.iol_kernel.specs.FileReading.{held_by}
 use Rattle.iol_kernel.specs.KernelState.{KernelState}
 use Rattle.iol_system.specs.Machine.{tables_of}
+use Rattle.iol_system.specs.Wants.{Wants, for_arrived, for_made, for_written}
 
--- Room was made for n bytes in a pool, and then they came in, put where `put` says. Their buffers lie on the lowest pages
+-- Room was made for bytes in a pool, and then they came in, put where `put` says. Their buffers lie on the lowest pages
 -- that were free then, each of which was raised by one, and no others were. Nothing else changed: so no more gave way of what
 -- memory has of files.
-abbrev pub Makes : (put : State → Text → State) → (pool n : ℕ) → (old new : KernelState) → Type 0
-Makes put pool n old new = AfterRoom pool n old (λ roomy. MakesBytes put pool n roomy new)
+abbrev pub Makes : (put : State → Text → State) → Wants → (old new : KernelState) → Type 0
+Makes put w old new = AfterRoom w.pool w.count old (λ roomy. MakesBytes put w.pool w.count roomy new)
 
--- Room was made for n bytes in a pool, and of the pages that were free then the lowest were filled: each was raised by one,
+-- Room was made for bytes in a pool, and of the pages that were free then the lowest were filled: each was raised by one,
 -- and no others were. So of a `write` to a file, which puts them over the file's then (`SharesPut`).
-abbrev pub Fills : (pool n : ℕ) → (old new : KernelState) → Type 0
-Fills pool n old new = AfterRoom pool n old (λ roomy. KeepsPages roomy.store new.store (lowest_of roomy.store pool n))
+abbrev pub Fills : Wants → (old new : KernelState) → Type 0
+Fills w old new = AfterRoom w.pool w.count old (λ roomy. KeepsPages roomy.store new.store (lowest_of roomy.store w.pool w.count))
 
--- n bytes are written by copying
-abbrev pub Puts : (by fd pool n : ℕ) → Option Descriptor → (old new : KernelState) → Type 0
-Puts by fd pool n (Some (on.File f at mode)) old new = Fills pool n old new
-Puts by fd pool n o old new = Makes (λ s t. written s by fd (descriptor s by fd) t) pool n old new
+-- bytes are written by copying
+abbrev pub Puts : (by fd : ℕ) → Wants → Option Descriptor → (old new : KernelState) → Type 0
+Puts by fd w (Some (on.File f at mode)) old new = Fills w old new
+Puts by fd w o old new = Makes (λ s t. written s by fd (descriptor s by fd) t) w old new
 
 -- a call on a file makes buffers on the lowest pages of its pool that are free once room is made; on anything else none
 abbrev pub FillsForFile : KernelState → Option Descriptor → KernelState → Type 0
@@ -49,21 +49,18 @@ FillsForFile old o new = KeepsPages old.store new.store []
 
 -- `agg_make` makes buffers in the caller's default pool, and `write` in that of a file, or to anything else in the caller's
 abbrev pub CallPublishes : KernelState → (by : ℕ) → Call → KernelState → Type 0
-CallPublishes old by (call.AggMake bytes) new =
-    Makes (λ s t. with_agg s by t) (default_pool (tables_of old) by) (length bytes) old new
+CallPublishes old by (call.AggMake bytes) new = Makes (λ s t. with_agg s by t) (for_made old by bytes) old new
 CallPublishes old by (call.IolRead fd n) new = FillsForFile old (held_by (tables_of old) by fd) new
 CallPublishes old by (call.IolWrite fd a) new = FillsForFile old (descriptor (tables_of old) by fd) new
 CallPublishes old by (call.Read fd n) new = FillsForFile old (held_by (tables_of old) by fd) new
 CallPublishes old by (call.Write fd bytes) new =
-    Puts by fd (pool_for (tables_of old) by (descriptor (tables_of old) by fd)) (write (tables_of old) by fd bytes).answer
-    (descriptor (tables_of old) by fd) old new
+    Puts by fd (for_written old by fd bytes) (descriptor (tables_of old) by fd) old new
 CallPublishes old by c new = KeepsPages old.store new.store []
 
 -- so do bytes that arrive in the connection's pool, as many as are taken
 abbrev pub Publishes : KernelState → Event → KernelState → Type 0
 Publishes old (event.Call by c) new = CallPublishes old by c new
-Publishes old (event.Arrive c bytes) new =
-    Makes (with_incoming c) (conn_at (tables_of old) c).pool (arrive (tables_of old) c bytes).answer old new
+Publishes old (event.Arrive c bytes) new = Makes (with_incoming c) (for_arrived old c bytes) old new
 Publishes old e new = KeepsPages old.store new.store []
 
 -- no page was published or freed, and no pool changed

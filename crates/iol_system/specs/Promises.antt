@@ -26,59 +26,78 @@ use Rattle.iol_system.specs.Safe.{IsSafe}
 use Rattle.iol_system.specs.Still.{is_still, keeps_store, only_looks, takes_out}
 use Rattle.iol_system.specs.WrittenBack.{IsDropped, IsFlushed, IsKept, IsSynced, StoresBack}
 
--- From old to new, by this event with this reply. Over an honest store it is the copying machine's step; over any store it is
--- that but for the bytes of files, and a store stays as honest as it was. A store is asked by calls on files alone, and a
--- fault is answered just where it failed once more, and only where there is room. What an honest store has changes where
--- something is written back alone. NoRoom is answered exactly where there is no room. A refusal changes nothing at all; but
--- where the event wants pages or works on what memory has of files, one for want of room or of memory or by a fault may leave
--- clean parts of files gone, those that go first before the others, but none where there is no room, hits counted, pages
--- raised that were filled and are free again, and by `fsync` and `flush` what was written back before. Other events leave what
--- memory has of files, but that a new file has nothing there; `show` and `length` change nothing at all. What a sharing call
--- hands on lies where it lay, and no page and no pool changes; what a call leaves that is not about bytes lies where it lay,
--- and so does what is left where bytes are sent, copied out of a queue, or a position moves; that changes no page, nor does
--- writing back; bytes of files in memory lie where they lay, but those that are written and clean ones that give way, and
--- calls on files share them, and what is read or written by copying is in memory then, too; calls that make buffers do so on
--- the lowest free pages, each of which is raised by one, and no others do, and no more gives way for new bytes than was
--- wanted; an open pool keeps its chunks, a closed one all of them or none, and a new one has the lowest free; admitting a
--- domain changes the pool's list alone; over any store `length` answers where a read of the file would end, `seek` goes just
--- as far, and `file_new` takes no slot that is told to have too many bytes; sending remembers the sums of what is sent; after
--- `fsync` an honest store has the file, and nothing of it is dirty, `flush` leaves one dirty extent fewer, and `drop_clean` no
--- clean one; new is safe again; live buffers keep their bytes, and aggregates their values.
+-- From old to new, by this event with this reply.
 pub record Promises (old : SystemState) (e : Event) (r : Reply) (new : SystemState) : Type 0 where
+  -- over an honest store it is the copying machine's step
   pub step : IfHonest old.disk (StepsTo (machine_of old) e r (machine_of new))
+  -- over any store it is that but for the bytes of files
   pub beside : StepsBeside (λ s. meaning s e) old.kernel (outcome r) new.kernel
+  -- a store stays as honest as it was
   pub honest : new.disk.honest ≡ old.disk.honest
+  -- the store is asked by calls on files alone
   pub unasked : asks_store (tables_of old.kernel) e ≡ false → new.disk ≡ old.disk
+  -- a fault is answered just where the store failed once more
   pub faults : asks_store (tables_of old.kernel) e ≡ true → FaultCounts old.disk new.disk (outcome r)
+  -- what an honest store has changes only where something is written back
   pub slots : IfHonest old.disk (writes_store e ≡ false → new.disk.slots ≡ old.disk.slots)
+  -- a fault is answered only where there is room
   pub asked : asks_store (tables_of old.kernel) e ≡ true → IsFault r → HasRoomFor old e
+  -- what is done had room
   pub room : IsDone r → HasRoomFor old e
+  -- NoRoom is answered only where there is none
   pub no_room : IsNoRoom r → LacksRoomFor old e
+  -- where there is no room a refusal, whatever it says, leaves the extents of every file
   pub without_room : IsRefused r → HasRoomFor old e ⊎ SameExtents old.kernel.cache new.kernel.cache
+  -- a refusal changes nothing at all, if it is not for want of room or of memory or by a fault
   pub early : IsEarly r → new ≡ old
+  -- nor does any other of an event that wants no pages and does not work on what memory has of files
   pub refused : uses_cache (tables_of old.kernel) e ≡ false → IsRefused r → new ≡ old
+  -- such an event leaves what memory has of files, but that a new file has nothing there
   pub uncached : uses_cache (tables_of old.kernel) e ≡ false → makes_file e ≡ false → new.kernel.cache ≡ old.kernel.cache
+  -- what a late refusal may leave: clean parts of files gone, the first ones before the others, hits counted, and pages raised that
+  -- were filled and are free again
   pub late : LeavesLate old e r new
+  -- `show` and `length` change nothing at all
   pub looks : only_looks e ≡ true → new ≡ old
+  -- what a sharing call hands on lies where it lay
   pub shares : is_sharing (tables_of old.kernel) e ≡ true → LaysOut (layout_of old.kernel) e r (layout_of new.kernel)
+  -- it changes no page and no pool
   pub pages : is_sharing (tables_of old.kernel) e ≡ true → SamePages old.kernel.store new.kernel.store
+  -- what an event leaves that is not about bytes lies where it lay
   pub still : is_still e ≡ true → LaysOut (layout_of old.kernel) e r (layout_of new.kernel)
+  -- bytes of files in memory lie where they lay, but those that are written and clean ones that give way
   pub in_place : KeepsInPlace old e new.kernel
+  -- what is left lies where it lay, where bytes are sent or copied off a queue, or a position moves
   pub places : takes_out (tables_of old.kernel) e ≡ true → IsDone r → layout_of new.kernel
       ≡ (meaning (layout_of old.kernel) e).after
+  -- looking, moving a position and writing back change no page, no count and no pool
   pub store : keeps_store e ≡ true → new.kernel.store ≡ old.kernel.store
+  -- calls on files share what is in memory, and what is read or written by copying is in memory then, too
   pub shares_file : IsDone r → SharesFile old e r new.kernel
+  -- Buffers are made on the lowest free pages, each of which is raised by one, and no more gives way for new bytes than was wanted. An
+  -- open pool keeps its chunks, a closed one all of them or none.
   pub publishes : IsDone r → Publishes old.kernel e new.kernel
+  -- A new pool has the lowest free chunks. Admitting a domain changes the pool's list alone, and a new file has nothing in memory.
   pub creates : Creates old.kernel e r new.kernel
+  -- over any store `length` answers where a read would end, `seek` goes just as far, and `file_new` takes no slot with too many bytes
   pub ends : TellsEnd old e r
+  -- sending remembers the sums of what is sent, and nothing else does
   pub sums : Remembers old.kernel e r new.kernel
+  -- after `fsync` nothing of its file is dirty
   pub synced : IsDone r → IsSynced old.kernel e new.kernel
+  -- and an honest store has just that file
   pub kept : IfHonest old.disk (IsDone r → IsKept old.kernel e new)
+  -- `flush` leaves one dirty extent fewer, or none was there
   pub flushed : IsDone r → IsFlushed old.kernel e new.kernel
+  -- `drop_clean` leaves no clean extent
   pub dropped : IsDropped old.kernel e new.kernel
+  -- `fsync` and `flush` wrote back just what was to be, refused or not
   pub stores_back : StoresBack old.disk old.kernel e r new.disk new.kernel
+  -- new is safe
   pub safe : IsSafe new
+  -- live buffers keep their bytes and their pools, and no identity is given twice
   pub stays : Stays old.kernel.store new.kernel.store
+  -- aggregates keep their values
   pub values : ValuesStay (machine_of old) e (machine_of new)
 
 -- From old, these events were given these replies, one after another, ending in new.

@@ -1,9 +1,6 @@
--- When there is room, exactly.
-use Rattle.std.specs.Prelude.{◌≡◌, ◌≤◌, ◌<◌, ℕ, true, false, List, length, Option, Some, ⊤}
-use Rattle.iol_core.specs.State.{conn_at, descriptor}
-use Rattle.iol_core.specs.Calls.Aggregates.{default_pool}
-use Rattle.iol_core.specs.Calls.Outside.{arrive}
-use Rattle.iol_core.specs.Calls.Writing.{pool_for, write}
+-- When there is room for what an event wants, and what it is answered.
+use Rattle.std.specs.Prelude.{◌≤◌, ◌<◌, ℕ, List, length, Option, Some, ⊤}
+use Rattle.iol_core.specs.State.{descriptor}
 use Rattle.iol_core.specs.declared.descriptors.Descriptor.{Descriptor}
 use Rattle.iol_core.specs.declared.descriptors.Descriptor.TheVariants as on
 use Rattle.iol_core.specs.declared.events.Call.{Call}
@@ -20,9 +17,9 @@ use Rattle.iol_hold.specs.Room.{pages_of}
 use Rattle.iol_hold.specs.declared.slices.Slice.{Slice}
 use Rattle.iol_kernel.specs.FileReading.{held_by}
 use Rattle.iol_kernel.specs.KernelState.{KernelState, slices_in}
-use Rattle.iol_kernel.specs.MakingRoom.{can_fit}
 use Rattle.iol_kernel.specs.WritingFiles.{pages_to_write, pool_of_file}
 use Rattle.iol_system.specs.Machine.{SystemState, tables_of}
+use Rattle.iol_system.specs.Wants.{Fits, FitsNot, for_arrived, for_made, for_written}
 
 -- A read of a file has room for the pages that its gaps want. Of anything else it wants none.
 abbrev pub HasRoomToRead : SystemState → Option Descriptor → (n : ℕ) → Type 0
@@ -46,41 +43,34 @@ LacksRoomToWrite h o xs = ⊥
 -- The pages that a call's new bytes want fit their pool, beside those that something else than clean extents holds; or its
 -- chunks are there.
 abbrev pub CallHasRoom : SystemState → (by : ℕ) → Call → Type 0
-CallHasRoom s by (call.AggMake bytes) = can_fit s.kernel (default_pool (tables_of s.kernel) by) (length bytes) ≡ true
+CallHasRoom s by (call.AggMake bytes) = Fits s.kernel (for_made s.kernel by bytes)
 CallHasRoom s by (call.PoolCreate chunks list) = chunks ≤ length (free_chunks s.kernel.store.arena)
 CallHasRoom s by (call.IolRead fd n) = HasRoomToRead s (held_by (tables_of s.kernel) by fd) n
 CallHasRoom s by (call.IolWrite fd a) = HasRoomToWrite s.kernel (descriptor (tables_of s.kernel) by fd)
     (slices_in s.kernel.domains by a)
 CallHasRoom s by (call.Read fd n) = HasRoomToRead s (held_by (tables_of s.kernel) by fd) n
-CallHasRoom s by (call.Write fd bytes) =
-    can_fit s.kernel (pool_for (tables_of s.kernel) by (descriptor (tables_of s.kernel) by fd))
-    (write (tables_of s.kernel) by fd bytes).answer ≡ true
+CallHasRoom s by (call.Write fd bytes) = Fits s.kernel (for_written s.kernel by fd bytes)
 CallHasRoom s by c = ⊤
 
 -- They do not, or are not.
 abbrev pub CallLacksRoom : SystemState → (by : ℕ) → Call → Type 0
-CallLacksRoom s by (call.AggMake bytes) = can_fit s.kernel (default_pool (tables_of s.kernel) by) (length bytes) ≡ false
+CallLacksRoom s by (call.AggMake bytes) = FitsNot s.kernel (for_made s.kernel by bytes)
 CallLacksRoom s by (call.PoolCreate chunks list) = length (free_chunks s.kernel.store.arena) < chunks
 CallLacksRoom s by (call.IolRead fd n) = LacksRoomToRead s (held_by (tables_of s.kernel) by fd) n
 CallLacksRoom s by (call.IolWrite fd a) =
     LacksRoomToWrite s.kernel (descriptor (tables_of s.kernel) by fd) (slices_in s.kernel.domains by a)
 CallLacksRoom s by (call.Read fd n) = LacksRoomToRead s (held_by (tables_of s.kernel) by fd) n
-CallLacksRoom s by (call.Write fd bytes) =
-    can_fit s.kernel (pool_for (tables_of s.kernel) by (descriptor (tables_of s.kernel) by fd))
-    (write (tables_of s.kernel) by fd bytes).answer ≡ false
+CallLacksRoom s by (call.Write fd bytes) = FitsNot s.kernel (for_written s.kernel by fd bytes)
 CallLacksRoom s by c = ⊥
 
--- bytes that arrive lie in the connection's pool, as many as are taken
 abbrev pub HasRoomFor : SystemState → Event → Type 0
 HasRoomFor s (event.Call by c) = CallHasRoom s by c
-HasRoomFor s (event.Arrive c bytes) =
-    can_fit s.kernel (conn_at (tables_of s.kernel) c).pool (arrive (tables_of s.kernel) c bytes).answer ≡ true
+HasRoomFor s (event.Arrive c bytes) = Fits s.kernel (for_arrived s.kernel c bytes)
 HasRoomFor s e = ⊤
 
 abbrev pub LacksRoomFor : SystemState → Event → Type 0
 LacksRoomFor s (event.Call by c) = CallLacksRoom s by c
-LacksRoomFor s (event.Arrive c bytes) =
-    can_fit s.kernel (conn_at (tables_of s.kernel) c).pool (arrive (tables_of s.kernel) c bytes).answer ≡ false
+LacksRoomFor s (event.Arrive c bytes) = FitsNot s.kernel (for_arrived s.kernel c bytes)
 LacksRoomFor s e = ⊥
 
 abbrev pub IsDone : Reply → Type 0

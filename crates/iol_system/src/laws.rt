@@ -2,7 +2,7 @@
 //! two of them. The functions do nothing; their contracts are the laws.
 ghost use Rattle.iol_system.specs.Laws.{RunsAsTheMachine, RunsInParts, EachEventIsAStep};
 ghost use Rattle.iol_system.specs.Laws.{AllPagesComeFree, ClosedPoolsGiveBack, EachPageHasOneUse, EachChunkHasOnePool};
-ghost use Rattle.iol_system.specs.Laws.{EachStepKeepsChunks, NoRoomEvictsNothing, NoRoomKeepsPools};
+ghost use Rattle.iol_system.specs.Laws.{EachStepKeepsChunks, NoRoomEvictsNothing, NoRoomKeepsPools, RefusedWithoutRoomEvictsNothing};
 ghost use Rattle.iol_system.specs.Laws.{RunsStaySafe, RunsStayOrderly, RunsKeepBuffers, RunsKeepHonesty, RunsKeepValues, RunsShare};
 
 /// The replies of a run, and the state after it, are those of the machine that copies at every call.
@@ -15,7 +15,7 @@ pub fn runs_in_parts()
     ensures { RunsInParts }
 {}
 
-/// Each event of a run keeps all promises of a step: NoRoom exactly where there is no room, sharing, and the others.
+/// Each event of a run keeps all promises of a step: NoRoom only where there is no room, sharing, and the others.
 pub fn each_event_is_a_step()
     ensures { EachEventIsAStep }
 {}
@@ -25,6 +25,11 @@ pub fn each_event_is_a_step()
 /// its range does not meet.
 pub fn no_room_evicts_nothing()
     ensures { NoRoomEvictsNothing }
+{}
+
+/// Where there is no room, an event that is refused evicts nothing, whatever it is refused for: also for want of memory.
+pub fn refused_without_room_evicts_nothing()
+    ensures { RefusedWithoutRoomEvictsNothing }
 {}
 
 /// An event that is refused for want of room leaves each pool its list and its chunks, closed ones too, each page as it was, and

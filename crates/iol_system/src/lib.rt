@@ -11,8 +11,8 @@
 //! `still`, `places`, `store`, `in_place`, `shares_file`), generations (`publishes`, `creates`), where files end (`ends`),
 //! sums (`sums`), writing back (`synced`, `kept`, `flushed`, `dropped`, `stores_back`), and what always holds (`safe`,
 //! `stays`, `honest`). `arrive_from` and `drain_to` serve a reader and a writer in place; `parts` and `aggregates` lend
-//! bytes; `report` counts. `laws` carries each of these over whole runs, and says that NoRoom leaves extents and pools, and
-//! that all pages come free once nobody is left.
+//! bytes; `report` counts. `laws` carries each of these over whole runs, and says that NoRoom leaves extents and pools, that
+//! any refusal evicts nothing where there is no room, and that all pages come free once nobody is left.
 //!
 //! ```text
 //! let mut system = System::new(alloc, config, MemoryBacking::new(Slots::new(alloc)))?;

@@ -1,23 +1,23 @@
 //! A system: events, one step, and a run.
 ghost use Rattle.std.specs.Prelude.{[], replicate, ◌*◌, ◌≡◌, ◌⊎◌, ◌↔◌, length, false, Some, None, Err, IfOk, IfErr, OnOk, OnErr};
+ghost use Rattle.iol_arena.specs.Buffers.{SharesNoPage, live_pages};
+ghost use Rattle.iol_arena.specs.State.{no_entry};
+ghost use Rattle.iol_back.specs.Disk.{IfHonest};
+ghost use Rattle.iol_cache.specs.Cached.{extents_in_all, dirty_in_all};
+ghost use Rattle.iol_core.specs.Calls.Aggregates.{show};
 ghost use Rattle.iol_core.specs.Configuration.{IsInRange};
-ghost use Rattle.iol_core.specs.declared.limits.TheConstants.{CHUNK_PAGES};
-ghost use Rattle.iol_core.specs.State.{new_state};
+ghost use Rattle.iol_core.specs.Meaning.{first};
 ghost use Rattle.iol_core.specs.Run.{Run};
-ghost use Rattle.iol_system.specs.Promises.{Promises, Chain};
-ghost use Rattle.iol_system.specs.Values.{ValuesStayOver};
+ghost use Rattle.iol_core.specs.State.{new_state};
+ghost use Rattle.iol_core.specs.declared.limits.TheConstants.{CHUNK_PAGES};
 ghost use Rattle.iol_hold.specs.Moves.{Stays};
 ghost use Rattle.iol_kernel.specs.KernelState.{joined};
-ghost use Rattle.iol_back.specs.Disk.{IfHonest};
 ghost use Rattle.iol_kernel.specs.Readings.{slots_of};
-ghost use Rattle.iol_system.specs.Machine.{machine_of, tables_of};
-ghost use Rattle.iol_system.specs.Safe.{IsSafe};
-ghost use Rattle.iol_core.specs.Meaning.{first};
-ghost use Rattle.iol_core.specs.Calls.Aggregates.{show};
 ghost use Rattle.iol_kernel.specs.Report.{reports_of};
-ghost use Rattle.iol_cache.specs.Cached.{extents_in_all, dirty_in_all};
-ghost use Rattle.iol_arena.specs.State.{no_entry};
-ghost use Rattle.iol_arena.specs.Buffers.{SharesNoPage, live_pages};
+ghost use Rattle.iol_system.specs.Machine.{machine_of, tables_of};
+ghost use Rattle.iol_system.specs.Promises.{Promises, Chain};
+ghost use Rattle.iol_system.specs.Safe.{IsSafe};
+ghost use Rattle.iol_system.specs.Values.{ValuesStayOver};
 
 use crate::aggregates::Aggregates;
 use crate::step::{carry_out, run_all};

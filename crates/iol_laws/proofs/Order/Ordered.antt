@@ -33,7 +33,7 @@ orderly_meant : (s : State) (e : Event) → IsOrderly s → first (meaning s e).
 orderly_meant s e order unrefused =
     let sole = sole_meant s e order unrefused in
     let q = quiet_meant s e order in
-    let below = below_meant s e (record { each = λ d. record { below = order.aggs d; once = order.aggs_once d } }) in
+    let below = below_meant s e (λ d. record { below = order.aggs d; once = order.aggs_once d }) in
     let gone = gone_meant s e (gone_of s order) unrefused in
     let held = held_meant s e order unrefused in
     record {
@@ -47,8 +47,8 @@ orderly_meant s e order unrefused =
       silent = q.silent;
       once = q.once;
       conns = q.conns;
-      aggs_once = λ d. (below.each d).once;
-      aggs = λ d. (below.each d).below;
+      aggs_once = λ d. (below d).once;
+      aggs = λ d. (below d).below;
     }
 
 orderly_outcome : (s t : State) (e : Event) (r : Result Reply Refusal) → IsOrderly s → Step (meaning s e) s r t → IsOrderly t
