@@ -1,11 +1,21 @@
 -- What comes in from a reader and what goes out to a writer, in the copying machine's words.
-use Rattle.std.specs.Prelude.{◌≡◌, ℕ, zero, suc, ◌==◌, List, [], ◌∷◌, length, Option, Ok}
-use Rattle.std.specs.Io.KnownBytes.{Consumes}
-use Rattle.iol_core.specs.State.{State}
-use Rattle.iol_core.specs.Meaning.{◌when◌, Step}
+use Rattle.std.specs.Prelude.{◌≡◌, ℕ, zero, suc, ◌-◌, ◌<◌, ◌≤◌, ◌==◌, Bool, true, false, List, [], ◌∷◌, length, min, take, Option, Result, Err, OnOk, IfErr, OnErr}
+use Rattle.std.specs.Io.KnownBytes.{Appends, Consumes, IsAtEnd}
+use Rattle.iol_core.specs.State.{State, conn_at}
+use Rattle.iol_core.specs.Text.{Text, bytes_of}
+use Rattle.iol_core.specs.Meaning.{◌when◌, WantOfRoom}
 use Rattle.iol_core.specs.Calls.Outside.{arrive, transmit, lacks_conn}
+use Rattle.iol_core.specs.declared.limits.TheConstants.{MAX_QUEUE_BYTES, PAGE_BYTES}
 use Rattle.iol_core.specs.declared.refusals.Refusal.{Refusal}
-use Rattle.iol_core.specs.declared.refusals.Refusal.TheVariants.{BadFd, BadRange}
+use Rattle.iol_core.specs.declared.refusals.Refusal.TheVariants.{BadFd, BadRange, NoRoom}
+use Rattle.iol_pipe.specs.declared.arriving.Arrived.{Arrived}
+use Rattle.iol_sock.specs.Refused.{IsPassed, IsRefused}
+use Rattle.iol_sock.specs.declared.draining.Drained.{Drained}
+use Rattle.iol_kernel.specs.Calls.{Arrives, Leaves}
+use Rattle.iol_kernel.specs.KernelState.{KernelState, machine_of}
+use Rattle.iol_kernel.specs.MakingRoom.{AfterRoom, IsSame, MayHaveEvicted, can_fit}
+
+-- What comes in.
 
 -- at most max bytes are asked of a reader: refused as one byte that arrives, whatever it is
 abbrev pub arrive_from_refusals : State → (c max : ℕ) → List (Option Refusal)
@@ -14,13 +24,6 @@ arrive_from_refusals s c max =
     (BadRange when (max == 0)) ∷
     (arrive s c (0 ∷ [])).refusals
 
--- A reader gave n bytes of those that it has left, where these are known, and just these arrived.
-pub record ArrivesFrom (left after : Option (List ℕ)) (c n : ℕ) (old new : State) : Type 0 where
-  pub bytes : List ℕ
-  pub count : length bytes ≡ n
-  pub given : Consumes left after bytes
-  pub step : Step (arrive old c bytes) old (Ok n) new
-
 -- A reader gave n bytes of those that it has left, where these are known, and what arrives of them is P.
 pub record TakesIn (left after : Option (List ℕ)) (n : ℕ) (P : List ℕ → Type 0) : Type 0 where
   pub bytes : List ℕ
@@ -28,7 +31,57 @@ pub record TakesIn (left after : Option (List ℕ)) (n : ℕ) (P : List ℕ → 
   pub given : Consumes left after bytes
   pub arrives : P bytes
 
+-- the most that one read asks for: max, a page, and what fits behind what came in
+abbrev pub most_asked : (max : ℕ) → (incoming : Text) → ℕ
+most_asked max incoming = min (min max PAGE_BYTES) (MAX_QUEUE_BYTES - length incoming)
+
+-- What one read is told to have brought: some bytes, at most so many; or none, since the reader has ended, or has failed.
+pub record IsOneRead (bound : ℕ) (after : Option (List ℕ)) (a : Arrived) : Type 0 where
+  pub most : a.taken ≤ bound
+  pub some : a.end ≡ false → a.failed ≡ false → 0 < a.taken
+  pub either : a.end ≡ true → a.failed ≡ false
+  pub ended : a.end ≡ true → (a.taken ≡ 0) × IsAtEnd after
+  pub failed : a.failed ≡ true → a.taken ≡ 0
+
+-- One read came in on connection c, after which the reader has these bytes left. Room was made for a byte, and what the read
+-- brought lies on the lowest free page then; where it brought none, the system means what it meant.
+pub record BringsIn (c max : ℕ) (after : Option (List ℕ)) (old new : KernelState) (a : Arrived) : Type 0 where
+  pub told : IsOneRead (most_asked max (conn_at (machine_of [] old) c).incoming) after a
+  pub made : AfterRoom (conn_at (machine_of [] old) c).pool 1 old (λ roomy. Arrives c a.taken roomy new)
+  pub none : a.taken ≡ 0 → IsSame old new
+
+-- A read is refused as one byte that arrives: for want of room just where that has none.
+pub record RefusesByte {A : Type 0} (s : State) (c max : ℕ) (has_room : Bool) (r : Result A Refusal) : Type 0 where
+  pub passed : OnOk r (IsPassed (arrive_from_refusals s c max))
+  pub refused : IfErr r (IsRefused (arrive_from_refusals s c max) (WantOfRoom (conn_at s c).pool))
+  pub room : OnOk r (has_room ≡ true)
+  pub no_room : (p : ℕ) → r ≡ Err (NoRoom p) → has_room ≡ false
+
+-- So it is refused before anything was read, and at most clean extents have given way by then.
+pub record RefusesArrival {A R : Type 0} (c max : ℕ) (old new : KernelState) (reader after : R) (r : Result A Refusal) : Type 0 where
+  pub byte : RefusesByte (machine_of [] old) c max (can_fit old (conn_at (machine_of [] old) c).pool 1) r
+  pub err : IfErr r (MayHaveEvicted (conn_at (machine_of [] old) c).pool 1 old new)
+  pub err_reader : OnErr r (after ≡ reader)
+
+-- What goes out.
+
 -- n bytes are sent: what `transmit` of as many leaves; of none, what was there
 abbrev pub sent_on : (c n : ℕ) → State → State
 sent_on c zero s = s
 sent_on c (suc n) s = (transmit s c (suc n)).after
+
+-- A writer was lent the first bytes to be sent on connection c, at most max. What it took of them it has now, and it is sent:
+-- all of these, or fewer, and it failed.
+pub record DrainsTo (c max : ℕ) (held now : Option (List ℕ)) (old new : KernelState) (d : Drained) : Type 0 where
+  pub most : d.taken ≤ min max (length (conn_at (machine_of [] old) c).outgoing)
+  pub all : d.failed ≡ false → d.taken ≡ min max (length (conn_at (machine_of [] old) c).outgoing)
+  pub fewer : d.failed ≡ true → d.taken < min max (length (conn_at (machine_of [] old) c).outgoing)
+  pub written : Appends held now (take d.taken (bytes_of (conn_at (machine_of [] old) c).outgoing))
+  pub left : Leaves (sent_on c d.taken) old new
+
+-- It is refused just where there is no such connection. Then the writer is as it was, and so is whatever was asked.
+pub record RefusesDrain {A S W : Type 0} (s : State) (c : ℕ) (old new : S) (writer after : W) (r : Result A Refusal) : Type 0 where
+  pub passed : OnOk r (lacks_conn s c ≡ false)
+  pub refused : IfErr r (λ x. (x ≡ BadFd) × (lacks_conn s c ≡ true))
+  pub err : OnErr r (new ≡ old)
+  pub err_writer : OnErr r (after ≡ writer)

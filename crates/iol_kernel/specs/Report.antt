@@ -1,10 +1,14 @@
 -- What a report tells.
-use Rattle.std.specs.Prelude.{ℕ, ◌*◌, ◌==◌, Bool, not, List, map, length}
+use Rattle.std.specs.Prelude.{ℕ, ◌≡◌, ◌*◌, ◌==◌, Bool, not, List, map, length, Result, IfOk}
 use Rattle.std.specs.List.{filter, range_with_len}
+use Rattle.iol_arena.specs.Buffers.{SharesNoPage, live_pages}
 use Rattle.iol_arena.specs.Chunks.{free_pages, retired_pages}
 use Rattle.iol_pool.specs.Pools.{pool_in}
 use Rattle.iol_pool.specs.declared.report.PoolReport.{PoolReport}
 use Rattle.iol_hold.specs.Stored.{Stored}
+use Rattle.iol_cache.specs.Cached.{dirty_in_all, extents_in_all}
+use Rattle.iol_kernel.specs.KernelState.{KernelState}
+use Rattle.iol_kernel.specs.declared.report.Report.{Report}
 
 -- the chunks that a pool has
 abbrev pub chunks_in : Stored → (p : ℕ) → List ℕ
@@ -26,3 +30,16 @@ pool_report s p = record {
 -- the first n pools, but for those whose chunks went back
 abbrev pub reports_of : Stored → (n : ℕ) → List PoolReport
 reports_of s n = map (pool_report s) (filter (stands s) (range_with_len 1 n))
+
+-- the report counts what lies there
+pub record Counts (h : KernelState) (r : Report) : Type 0 where
+  pub pools : r.pools.items ≡ reports_of h.store (length h.store.pools)
+  pub buffers : r.buffers ≡ length (live_pages h.store.arena)
+  pub extents : r.extents ≡ extents_in_all h.cache.files
+  pub dirty : r.dirty ≡ dirty_in_all h.cache.files
+
+-- Asked for a report, one that counts what lies there is answered, where there is memory for it. Whatever is answered, no two
+-- live buffers share a page.
+pub record Reports {E : Type 0} (h : KernelState) (r : Result Report E) : Type 0 where
+  pub counts : IfOk r (Counts h)
+  pub alone : SharesNoPage h.store.arena

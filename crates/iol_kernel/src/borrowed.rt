@@ -1,32 +1,27 @@
 //! Connections that are served from outside in place: what a reader gives comes straight into a page, and a writer takes
 //! bytes from where they lie.
-ghost use Rattle.std.specs.Prelude.{◌≡◌, ℕ, ◌<◌, ◌≤◌, ◌-◌, length, min, take, true, false, List, Some, Ok, Err, IfOk, IfErr, OnOk, OnErr};
-ghost use Rattle.std.specs.Io.KnownBytes.{Appends, IsAtEnd};
-ghost use Rattle.iol_core.specs.Meaning.{WantOfRoom, first};
+ghost use Rattle.std.specs.Prelude.{◌≡◌, ℕ, false, List, Some, Ok, Err, IfOk, IfErr, OnOk, OnErr};
+ghost use Rattle.iol_core.specs.Meaning.{first};
 ghost use Rattle.iol_core.specs.State.{conn_at};
-ghost use Rattle.iol_core.specs.Text.{bytes_of};
 ghost use Rattle.iol_core.specs.Calls.Outside as outside;
 ghost use Rattle.iol_core.specs.Calls.Outside.{lacks_conn};
 ghost use Rattle.iol_back.specs.Disk.{Disk};
 ghost use Rattle.iol_pool.specs.Pools.{pool_in};
 ghost use Rattle.iol_hold.specs.Moves.{Stays};
 ghost use Rattle.iol_hold.specs.Room.{has_room};
-ghost use Rattle.iol_sock.specs.Refused.{IsPassed, IsRefused};
-ghost use Rattle.iol_kernel.specs.Borrowed.{arrive_from_refusals, TakesIn, sent_on};
+ghost use Rattle.iol_sock.specs.Refused.{IsPassed};
+ghost use Rattle.iol_kernel.specs.Borrowed.{arrive_from_refusals, most_asked, BringsIn, DrainsTo, IsOneRead, RefusesByte, RefusesDrain, RefusesArrival, TakesIn};
 ghost use Rattle.iol_kernel.specs.Backed.{Serves};
-ghost use Rattle.iol_kernel.specs.Calls as calls;
 ghost use Rattle.iol_kernel.specs.KernelState.{machine_of, IsSound};
-ghost use Rattle.iol_kernel.specs.MakingRoom.{AfterRoom, IsSame, MayHaveEvicted, can_fit};
 
 use crate::kernel::Kernel;
-use iol_core::limits::{MAX_QUEUE_BYTES, PAGE_BYTES};
 use iol_core::numbers::{ConnId, PoolId};
 use iol_core::refusals::Refusal;
 use iol_sock::{Arrived, Drained};
 use std::io::{Read, Write};
 
 impl Kernel {
-    ghost use Rattle.iol_kernel.specs.Kernel.{state_of, machine, Arrives, Leaves, Steps};
+    ghost use Rattle.iol_kernel.specs.Kernel.{state_of, machine, Arrives, Steps};
 
     /// The bytes of one read come in from a connection's peer, straight into a new buffer on the lowest free page of the
     /// connection's pool. At most `max` bytes are asked for, a page of them, and what fits. Clean extents of the pool's
@@ -41,30 +36,13 @@ impl Kernel {
         max: u32,
     ) -> Result<Arrived, Refusal>
         requires { IsSound (state_of self.old) }
-        ensures passed { OnOk result (IsPassed (arrive_from_refusals (machine self.old) conn max)) }
-        ensures refused { IfErr result (IsRefused (arrive_from_refusals (machine self.old) conn max)
-            (WantOfRoom (conn_at (machine self.old) conn).pool)) }
+        ensures refuses { RefusesArrival conn max (state_of self.old) (state_of self.new) reader.old
+            reader.new result }
+        ensures brings { IfOk result (BringsIn conn max (R.remaining reader.new) (state_of self.old)
+            (state_of self.new)) }
         ensures read { IfOk result (λ a. TakesIn (R.remaining reader.old) (R.remaining reader.new)
             a.taken (λ bytes. (disk : Disk) → Serves (λ s. outside.arrive s conn bytes) disk
             (state_of self.old) (Ok a.taken) disk (state_of self.new))) }
-        ensures made { IfOk result (λ a. AfterRoom (conn_at (machine self.old) conn).pool 1
-            (state_of self.old) (λ roomy. calls.Arrives conn a.taken roomy (state_of self.new))) }
-        ensures most { IfOk result (λ a. a.taken ≤ min (min max PAGE_BYTES) (MAX_QUEUE_BYTES -
-            length (conn_at (machine self.old) conn).incoming)) }
-        ensures some { IfOk result (λ a. a.end ≡ false → a.failed ≡ false → 0 < a.taken) }
-        ensures either { IfOk result (λ a. a.end ≡ true → a.failed ≡ false) }
-        ensures ended { IfOk result (λ a. a.end ≡ true → (a.taken ≡ 0) × IsAtEnd
-            (R.remaining reader.new)) }
-        ensures failed { IfOk result (λ a. a.failed ≡ true → a.taken ≡ 0) }
-        ensures none { IfOk result (λ a. a.taken ≡ 0 → IsSame (state_of self.old) (state_of
-            self.new)) }
-        ensures room { OnOk result (can_fit (state_of self.old) (conn_at (machine self.old)
-            conn).pool 1 ≡ true) }
-        ensures no_room { (p : ℕ) → result ≡ Err (Refusal.NoRoom p) → can_fit (state_of self.old)
-            (conn_at (machine self.old) conn).pool 1 ≡ false }
-        ensures err { IfErr result (MayHaveEvicted (conn_at (machine self.old) conn).pool 1
-            (state_of self.old) (state_of self.new)) }
-        ensures err_reader { OnErr result (reader.new ≡ reader.old) }
         ensures sound { IsSound (state_of self.new) }
         ensures stays { Stays self.old.store self.new.store }
     {
@@ -106,27 +84,17 @@ impl Kernel {
     ) -> Result<Arrived, Refusal>
         requires sound { IsSound (state_of self.old) }
         requires there { lacks_conn (machine self.old) conn ≡ false }
-        ensures passed { OnOk result (IsPassed (arrive_from_refusals (machine self.old) conn max)) }
-        ensures refused { IfErr result (IsRefused (arrive_from_refusals (machine self.old) conn max)
-            (WantOfRoom (conn_at (machine self.old) conn).pool)) }
+        ensures refuses { RefusesByte (machine self.old) conn max (has_room self.old.store
+            (conn_at (machine self.old) conn).pool 1) result }
         ensures read { IfOk result (λ a. TakesIn (R.remaining reader.old) (R.remaining reader.new)
             a.taken (λ bytes. Steps (λ s. outside.arrive s conn bytes) self.old (Ok a.taken)
             self.new)) }
         ensures made { IfOk result (λ a. Arrives conn a.taken self.old self.new) }
-        ensures most { IfOk result (λ a. a.taken ≤ min (min max PAGE_BYTES) (MAX_QUEUE_BYTES -
-            length (conn_at (machine self.old) conn).incoming)) }
-        ensures some { IfOk result (λ a. a.end ≡ false → a.failed ≡ false → 0 < a.taken) }
-        ensures either { IfOk result (λ a. a.end ≡ true → a.failed ≡ false) }
-        ensures ended { IfOk result (λ a. a.end ≡ true → (a.taken ≡ 0) × IsAtEnd
-            (R.remaining reader.new)) }
-        ensures failed { IfOk result (λ a. a.failed ≡ true → a.taken ≡ 0) }
+        ensures told { IfOk result (IsOneRead (most_asked max (conn_at (machine self.old)
+            conn).incoming) (R.remaining reader.new)) }
         ensures none { IfOk result (λ a. a.taken ≡ 0 → (stored : List (List ℕ)) →
             machine_of stored (state_of self.new) ≡ machine_of stored (state_of self.old)) }
         ensures cache { (state_of self.new).cache ≡ (state_of self.old).cache }
-        ensures room { OnOk result (has_room self.old.store (conn_at (machine self.old) conn).pool
-            1 ≡ true) }
-        ensures no_room { (p : ℕ) → result ≡ Err (Refusal.NoRoom p) → has_room self.old.store
-            (conn_at (machine self.old) conn).pool 1 ≡ false }
         ensures err { OnErr result (state_of self.new ≡ state_of self.old) }
         ensures err_reader { OnErr result (reader.new ≡ reader.old) }
         ensures sound { IsSound (state_of self.new) }
@@ -150,20 +118,10 @@ impl Kernel {
         max: u32,
     ) -> Result<Drained, Refusal>
         requires { IsSound (state_of self.old) }
-        ensures passed { OnOk result (lacks_conn (machine self.old) conn ≡ false) }
-        ensures refused { IfErr result (λ x. (x ≡ Refusal.BadFd) × (lacks_conn (machine self.old)
-            conn ≡ true)) }
-        ensures most { IfOk result (λ d. d.taken ≤ min max (length (conn_at (machine self.old)
-            conn).outgoing)) }
-        ensures all { IfOk result (λ d. d.failed ≡ false → d.taken ≡ min max (length (conn_at
-            (machine self.old) conn).outgoing)) }
-        ensures fewer { IfOk result (λ d. d.failed ≡ true → d.taken < min max (length (conn_at
-            (machine self.old) conn).outgoing)) }
-        ensures written { IfOk result (λ d. Appends (W.contents writer.old) (W.contents writer.new)
-            (take d.taken (bytes_of (conn_at (machine self.old) conn).outgoing))) }
-        ensures left { IfOk result (λ d. Leaves (sent_on conn d.taken) self.old self.new) }
-        ensures err { OnErr result (state_of self.new ≡ state_of self.old) }
-        ensures err_writer { OnErr result (writer.new ≡ writer.old) }
+        ensures refuses { RefusesDrain (machine self.old) conn (state_of self.old) (state_of
+            self.new) writer.old writer.new result }
+        ensures drains { IfOk result (DrainsTo conn max (W.contents writer.old) (W.contents
+            writer.new) (state_of self.old) (state_of self.new)) }
         ensures sound { IsSound (state_of self.new) }
         ensures stays { Stays self.old.store self.new.store }
     {
@@ -177,14 +135,8 @@ impl Kernel {
     fn lend_out<W: Write>(&mut self, conn: ConnId, writer: &mut W, max: u32) -> Drained
         requires sound { IsSound (state_of self.old) }
         requires there { lacks_conn (machine self.old) conn ≡ false }
-        ensures most { result.taken ≤ min max (length (conn_at (machine self.old) conn).outgoing) }
-        ensures all { result.failed ≡ false → result.taken ≡ min max (length (conn_at
-            (machine self.old) conn).outgoing) }
-        ensures fewer { result.failed ≡ true → result.taken < min max (length (conn_at
-            (machine self.old) conn).outgoing) }
-        ensures written { Appends (W.contents writer.old) (W.contents writer.new) (take result.taken
-            (bytes_of (conn_at (machine self.old) conn).outgoing)) }
-        ensures left { Leaves (sent_on conn result.taken) self.old self.new }
+        ensures { DrainsTo conn max (W.contents writer.old) (W.contents writer.new)
+            (state_of self.old) (state_of self.new) result }
     {
         let drained = self.conns.drain_to(&mut self.store, conn, writer, max);
         if drained.taken == 0 {

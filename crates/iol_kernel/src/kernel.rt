@@ -5,9 +5,7 @@ ghost use Rattle.iol_core.specs.State.{new_state, is_live, may_read, text, descr
 ghost use Rattle.iol_core.specs.Calls.Aggregates.{lacks_agg, too_many_aggs};
 ghost use Rattle.iol_core.specs.Calls.Descriptors.{too_many_open};
 ghost use Rattle.iol_arena.specs.State.{no_entry};
-ghost use Rattle.iol_arena.specs.Buffers.{SharesNoPage, live_pages};
-ghost use Rattle.iol_cache.specs.Cached.{dirty_in_all, extents_in_all};
-ghost use Rattle.iol_kernel.specs.Report.{reports_of};
+ghost use Rattle.iol_kernel.specs.Report.{Reports};
 ghost use Rattle.iol_kernel.specs.KernelState.{machine_of, IsSound};
 ghost use Rattle.iol_kernel.specs.Readings.{Reading, slots_of};
 
@@ -153,13 +151,7 @@ impl Kernel {
     /// What lies there, counted.
     pub fn report(&self) -> Result<Report, AllocError>
         requires { IsSound (state_of self.now) }
-        ensures pools { IfOk result (λ r. r.pools.items ≡ reports_of self.now.store (length
-            self.now.store.pools)) }
-        ensures buffers { IfOk result (λ r. r.buffers ≡ length (live_pages self.now.store.arena)) }
-        ensures extents { IfOk result (λ r. r.extents ≡ extents_in_all
-            (state_of self.now).cache.files) }
-        ensures dirty { IfOk result (λ r. r.dirty ≡ dirty_in_all (state_of self.now).cache.files) }
-        ensures alone { SharesNoPage self.now.store.arena }
+        ensures { Reports (state_of self.now) result }
     {
         let buffers = self.store.buffer_count();
         let cached = self.files.cache.report();

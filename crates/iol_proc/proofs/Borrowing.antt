@@ -8,8 +8,7 @@ use Rattle.iol_core.specs.Calls.Outside.{lacks_conn, transmit}
 use Rattle.iol_core.specs.Meaning.{◌when◌, first}
 use Rattle.iol_core.specs.declared.events.Reply.TheVariants as reply
 use Rattle.iol_core.specs.declared.refusals.Refusal.{Refusal}
-use Rattle.iol_kernel.specs.Borrowed.{TakesIn, sent_on}
-use Rattle.iol_kernel.specs.Calls.{Leaves}
+use Rattle.iol_kernel.specs.Borrowed.{DrainsTo, TakesIn, sent_on}
 use Rattle.iol_kernel.specs.KernelState as held
 use Rattle.iol_kernel.specs.KernelState.{KernelState, read_of}
 use Rattle.iol_kernel.specs.Views.{state_view}
@@ -86,9 +85,8 @@ module _ {P : Type 0} (turns : Account P) where
     rough_stays = rough;
   }
 
-  pub drained_copied : {E : Type 0} (c max : ℕ) (r : Result Drained E) (old new : Stage SystemState P) → new.seats ≡ old.seats → new.rough ≡ old.rough → new.machine.disk ≡ old.machine.disk
-      → OnOk r (lacks_conn (tables_of old.machine.kernel) c ≡ false) → IfOk r (λ d. d.taken ≤ min max (length (conn_at (tables_of old.machine.kernel) c).outgoing))
-      → IfOk r (λ d. Leaves (sent_on c d.taken) old.machine.kernel new.machine.kernel) → IfOk r (λ d. SendsAs turns c d.taken (copied old) (copied new))
-  drained_copied c max (Ok d) old new seats rough disk there most left =
-      sends_as c d.taken max old new seats rough there most (ap (λ k. held.machine_of k.slots new.machine.kernel) disk ∙ left.bytes old.machine.disk.slots)
-  drained_copied c max (Err e) old new seats rough disk there most left = tt
+  pub drained_copied : {E : Type 0} (c max : ℕ) (before after : Option (List ℕ)) (r : Result Drained E) (old new : Stage SystemState P) → new.seats ≡ old.seats → new.rough ≡ old.rough → new.machine.disk ≡ old.machine.disk
+      → OnOk r (lacks_conn (tables_of old.machine.kernel) c ≡ false) → IfOk r (DrainsTo c max before after old.machine.kernel new.machine.kernel) → IfOk r (λ d. SendsAs turns c d.taken (copied old) (copied new))
+  drained_copied c max before after (Ok d) old new seats rough disk there drains =
+      sends_as c d.taken max old new seats rough there drains.most (ap (λ k. held.machine_of k.slots new.machine.kernel) disk ∙ drains.left.bytes old.machine.disk.slots)
+  drained_copied c max before after (Err e) old new seats rough disk there drains = tt

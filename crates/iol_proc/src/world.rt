@@ -2,10 +2,8 @@
 ghost use Rattle.std.specs.Prelude.{◌≡◌, ◌≢◌, ◌<◌, length, map, IfOk, OnErr, IfSome, MatchOption, All, slice_get, false, nat_eq};
 ghost use Rattle.std.specs.List.{IsDistinct};
 ghost use Rattle.std.specs.List.Sorted.{IsPermutation};
-ghost use Rattle.iol_arena.specs.Buffers.{SharesNoPage, live_pages};
 ghost use Rattle.iol_back.specs.Disk.{IfHonest};
-ghost use Rattle.iol_cache.specs.Cached.{extents_in_all, dirty_in_all};
-ghost use Rattle.iol_kernel.specs.Report.{reports_of};
+ghost use Rattle.iol_kernel.specs.Report.{Reports};
 ghost use Rattle.iol_proc.specs.Idle.{Idles};
 ghost use Rattle.iol_proc.specs.Laws.{HasEvents, KeepsHonesty};
 ghost use Rattle.iol_proc.specs.Looks.{lent};
@@ -199,15 +197,7 @@ impl<B: Backing + Drop, P: Process> World<B, P> {
 
     /// What lies in the system, counted, as [`System::report`] counts it. It changes nothing.
     pub fn report(&self) -> Result<Report, AllocError>
-        ensures pools { let store = self.now.machine.kernel.store in IfOk result
-            (λ r. r.pools.items ≡ reports_of store (length store.pools)) }
-        ensures buffers { IfOk result
-            (λ r. r.buffers ≡ length (live_pages self.now.machine.kernel.store.arena)) }
-        ensures extents { IfOk result
-            (λ r. r.extents ≡ extents_in_all self.now.machine.kernel.cache.files) }
-        ensures dirty { IfOk result
-            (λ r. r.dirty ≡ dirty_in_all self.now.machine.kernel.cache.files) }
-        ensures alone { SharesNoPage self.now.machine.kernel.store.arena }
+        ensures { Reports self.now.machine.kernel result }
     {
         self.system.report()
     }

@@ -15,8 +15,7 @@ use Rattle.iol_core.specs.declared.refusals.Refusal.{Refusal}
 use Rattle.iol_sock.specs.declared.draining.Drained.{Drained}
 use Rattle.iol_pipe.specs.declared.arriving.Arrived.{Arrived}
 use Rattle.iol_kernel.specs.Backed.{Serves, StepsBeside}
-use Rattle.iol_kernel.specs.Borrowed.{TakesIn, sent_on}
-use Rattle.iol_kernel.specs.Calls.{Leaves}
+use Rattle.iol_kernel.specs.Borrowed.{DrainsTo, TakesIn, sent_on}
 use Rattle.iol_kernel.specs.KernelState as held
 use Rattle.iol_kernel.specs.KernelState.{KernelState, IsSound}
 use Rattle.iol_kernel.specs.MakingRoom.{MayHaveEvicted, MakesRoom}
@@ -86,12 +85,12 @@ sent_placed : (c n : ℕ) (s : State) → ArePlaced s → ArePlaced (sent_on c n
 sent_placed c zero s placed = placed
 sent_placed c (suc n) s placed = placed_conn s c (record (conn_at s c) { outgoing = drop (suc n) (conn_at s c).outgoing }) placed
 
-pub drained_safe : (h k : KernelState) (disk : Disk) (c : ℕ) (r : Result Drained Refusal) → IsSafe (system_of h disk) → IsSound k
-    → IfOk r (λ d. Leaves (sent_on c d.taken) h k) → OnErr r (k ≡ h) → IsSafe (system_of k disk)
-drained_safe h k disk c (Ok d) safe sound left err = record {
+pub drained_safe : (h k : KernelState) (disk : Disk) (c max : ℕ) (before after : Option (List ℕ)) (r : Result Drained Refusal) → IsSafe (system_of h disk) → IsSound k
+    → IfOk r (DrainsTo c max before after h k) → OnErr r (k ≡ h) → IsSafe (system_of k disk)
+drained_safe h k disk c max before after (Ok d) safe sound drains err = record {
   sound = sound;
-  access = subst HasAccess (sym (left.bytes disk.slots)) (sent_access c d.taken (held.machine_of disk.slots h) safe.access);
-  backed = λ honest. backed_stays disk h k safe.sound sound left.cache left.stays (safe.backed honest);
-  placed = λ honest. subst ArePlaced (sym (left.bytes disk.slots)) (sent_placed c d.taken (held.machine_of disk.slots h) (safe.placed honest));
+  access = subst HasAccess (sym (drains.left.bytes disk.slots)) (sent_access c d.taken (held.machine_of disk.slots h) safe.access);
+  backed = λ honest. backed_stays disk h k safe.sound sound drains.left.cache drains.left.stays (safe.backed honest);
+  placed = λ honest. subst ArePlaced (sym (drains.left.bytes disk.slots)) (sent_placed c d.taken (held.machine_of disk.slots h) (safe.placed honest));
 }
-drained_safe h k disk c (Err x) safe sound left err = subst (λ (l : KernelState). IsSafe (system_of l disk)) (sym err) safe
+drained_safe h k disk c max before after (Err x) safe sound drains err = subst (λ (l : KernelState). IsSafe (system_of l disk)) (sym err) safe

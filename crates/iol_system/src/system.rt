@@ -1,9 +1,7 @@
 //! A system: events, one step, and a run.
-ghost use Rattle.std.specs.Prelude.{[], replicate, ◌*◌, ◌≡◌, ◌⊎◌, ◌↔◌, length, false, Some, None, Err, IfOk, IfErr, OnOk, OnErr};
-ghost use Rattle.iol_arena.specs.Buffers.{SharesNoPage, live_pages};
+ghost use Rattle.std.specs.Prelude.{[], replicate, ◌*◌, ◌≡◌, ◌⊎◌, ◌↔◌, false, Some, None, Err, IfOk, IfErr, OnOk, OnErr};
 ghost use Rattle.iol_arena.specs.State.{no_entry};
 ghost use Rattle.iol_back.specs.Disk.{IfHonest};
-ghost use Rattle.iol_cache.specs.Cached.{extents_in_all, dirty_in_all};
 ghost use Rattle.iol_core.specs.Calls.Aggregates.{show};
 ghost use Rattle.iol_core.specs.Configuration.{IsInRange};
 ghost use Rattle.iol_core.specs.Meaning.{first};
@@ -13,7 +11,7 @@ ghost use Rattle.iol_core.specs.declared.limits.TheConstants.{CHUNK_PAGES};
 ghost use Rattle.iol_hold.specs.Moves.{Stays};
 ghost use Rattle.iol_kernel.specs.KernelState.{joined};
 ghost use Rattle.iol_kernel.specs.Readings.{slots_of};
-ghost use Rattle.iol_kernel.specs.Report.{reports_of};
+ghost use Rattle.iol_kernel.specs.Report.{Reports};
 ghost use Rattle.iol_system.specs.Machine.{machine_of, tables_of};
 ghost use Rattle.iol_system.specs.Promises.{Promises, Chain};
 ghost use Rattle.iol_system.specs.Safe.{IsSafe};
@@ -108,14 +106,7 @@ impl<B: Backing> System<B> {
     /// What lies in the system, counted: the pools that still have their chunks, by number, the extents of files and the dirty
     /// ones among them, and the live buffers, no two of which share a page. It changes nothing.
     pub fn report(&self) -> Result<Report, AllocError>
-        ensures pools { IfOk result
-            (λ r. r.pools.items ≡ reports_of self.now.kernel.store (length self.now.kernel.store.pools)) }
-        ensures buffers { IfOk result (λ r. r.buffers ≡ length (live_pages self.now.kernel.store.arena)) }
-        ensures extents { IfOk result
-            (λ r. r.extents ≡ extents_in_all self.now.kernel.cache.files) }
-        ensures dirty { IfOk result
-            (λ r. r.dirty ≡ dirty_in_all self.now.kernel.cache.files) }
-        ensures alone { SharesNoPage self.now.kernel.store.arena }
+        ensures { Reports self.now.kernel result }
     {
         self.kernel.report()
     }

@@ -1,18 +1,14 @@
 -- What the lines of a script are answered: events by steps of a system, reports by what lies in it.
-use Rattle.std.specs.Prelude.{◌≡◌, ◌*◌, ℕ, true, false, List, [], ◌∷◌, ◌⊎◌, Option, ◌++◌, length, replicate, unwrap_or}
+use Rattle.std.specs.Prelude.{◌≡◌, ◌*◌, ℕ, true, false, List, [], ◌∷◌, ◌⊎◌, Option, ◌++◌, replicate, unwrap_or}
 use Rattle.std.specs.Io.KnownBytes.{Appends}
 use Rattle.iol_core.specs.State.{new_state}
 use Rattle.iol_core.specs.declared.configuration.TheConstants.Config.{DEFAULT}
 use Rattle.iol_core.specs.declared.limits.TheConstants.{CHUNK_PAGES}
 use Rattle.iol_back.specs.Disk.{lengths_of}
 use Rattle.iol_arena.specs.State.{no_entry}
-use Rattle.iol_arena.specs.Buffers.{live_pages}
-use Rattle.iol_kernel.specs.KernelState.{KernelState}
 use Rattle.iol_kernel.specs.Readings.{slots_of}
 use Rattle.iol_system.specs.Machine.{SystemState, machine_of}
-use Rattle.iol_kernel.specs.Report.{reports_of}
-use Rattle.iol_cache.specs.Cached.{extents_in_all, dirty_in_all}
-use Rattle.iol_kernel.specs.declared.report.Report.{Report}
+use Rattle.iol_kernel.specs.Report.{Counts}
 use Rattle.iol_system.specs.Promises.{Promises}
 use Rattle.iolite.specs.declared.replay.Answer.{Answer}
 use Rattle.iolite.specs.declared.replay.Answer.TheVariants as answer
@@ -34,13 +30,6 @@ pub record IsNew (setup : Setup) (s : SystemState) : Type 0 where
   pub sums : s.kernel.sums.entries ≡ []
   pub sum_limit : s.kernel.sums.limit ≡ (unwrap_or setup.config DEFAULT).sums
   pub orders : s.kernel.cache.orders ≡ []
-
--- the report counts what lies in the system
-pub record Counts (h : KernelState) (r : Report) : Type 0 where
-  pub pools : r.pools.items ≡ reports_of h.store (length h.store.pools)
-  pub buffers : r.buffers ≡ length (live_pages h.store.arena)
-  pub extents : r.extents ≡ extents_in_all h.cache.files
-  pub dirty : r.dirty ≡ dirty_in_all h.cache.files
 
 -- From old, the line is answered so, going on to new: an event by a step that keeps all promises, a report by none.
 abbrev pub IsAnswer : SystemState → Line → Answer → SystemState → Type 0

@@ -1,5 +1,5 @@
 -- What comes in from a reader, after clean extents gave way.
-use Rattle.std.proofs.Common.{◌≡◌, ℕ, ◌-◌, ◌≤◌, ◌==◌, ◌∙◌, Bool, Option, List, [], ◌∷◌, length, Some, None, refl, sym, ap, subst, inr, true, false}
+use Rattle.std.proofs.Common.{◌≡◌, ℕ, ◌-◌, ◌==◌, ◌∙◌, Bool, Option, List, [], ◌∷◌, length, Some, None, refl, sym, ap, subst, inr, true, false}
 use Rattle.std.specs.Prelude.{Result, Ok, Err, OnOk, OnErr, IfOk, IfErr, MatchOption, min}
 use Rattle.iol_arena.specs.State.{pages_for}
 use Rattle.iol_back.specs.Disk.{Disk}
@@ -16,11 +16,12 @@ use Rattle.iol_hold.specs.Room.{has_room}
 use Rattle.iol_hold.specs.Texts.{byte_at}
 use Rattle.iol_hold.specs.declared.slices.Slice.{Slice}
 use Rattle.iol_hold.proofs.Moving.{stays_trans}
+use Rattle.iol_pipe.specs.declared.arriving.Arrived.{Arrived}
 use Rattle.iol_sock.specs.Connections.{Conn}
 use Rattle.iol_sock.specs.Refused.{arrive_refusals, read_refusals, IsRefused}
 use Rattle.iol_sock.proofs.Meaning.{arrives_meant}
 use Rattle.iol_kernel.specs.Backed.{Serves, with_slots}
-use Rattle.iol_kernel.specs.Borrowed.{TakesIn, arrive_from_refusals}
+use Rattle.iol_kernel.specs.Borrowed.{BringsIn, IsOneRead, RefusesByte, RefusesArrival, TakesIn, arrive_from_refusals, most_asked}
 use Rattle.iol_kernel.specs.Calls.{Arrives, Steps}
 use Rattle.iol_kernel.specs.KernelState.{KernelState, IsSound, machine_of}
 use Rattle.iol_kernel.specs.MakingRoom.{AfterRoom, IsSame, MakesRoom, MayHaveEvicted, RefusedRoomy, can_fit}
@@ -35,10 +36,6 @@ use Rattle.iol_kernel.proofs.State.Serving.{backed_stays}
 pub on_ok : {A : Type 0} {P : Type 0} (r : Result A Refusal) → P → OnOk r P
 on_ok (Ok a) p = p
 on_ok (Err x) p = tt
-
-pub if_ok : {A : Type 0} (P Q : A → Type 0) (r : Result A Refusal) → ((a : A) → P a → Q a) → IfOk r P → IfOk r Q
-if_ok P Q (Ok a) f p = f a p
-if_ok P Q (Err x) f p = tt
 
 pub if_ok_both : {A : Type 0} (P R Q : A → Type 0) (r : Result A Refusal) → ((a : A) → P a → R a → Q a) → IfOk r P → IfOk r R → IfOk r Q
 if_ok_both P R Q (Ok a) f p q = f a p q
@@ -99,9 +96,6 @@ module _ (c max pool : ℕ) (h k : KernelState) (room : MakesRoom pool (pages_fo
   pub still_there : outside.lacks_conn (machine_of [] h) c ≡ false → outside.lacks_conn (machine_of [] k) c ≡ false
   still_there there = kept_machine (λ s. outside.lacks_conn s c) pool (pages_for 1) h k room (lacks_same c) ∙ there
 
-  pub takes_most : (n : ℕ) → n ≤ min (min max PAGE_BYTES) (MAX_QUEUE_BYTES - length (conn_at (machine_of [] k) c).incoming) → n ≤ min (min max PAGE_BYTES) (MAX_QUEUE_BYTES - length (conn_at (machine_of [] h) c).incoming)
-  takes_most n le = subst (λ m. n ≤ min (min max PAGE_BYTES) (MAX_QUEUE_BYTES - m)) unread_kept le
-
   pub takes_serves : (left after : Option (List ℕ)) (n : ℕ) (l : KernelState) → IsSound l → l.cache ≡ k.cache → Stays k.store l.store → TakesIn left after n (λ bytes. Steps (λ s. outside.arrive s c bytes) k (Ok n) l) → Arrives c n k l
       → TakesIn left after n (λ bytes. (disk : Disk) → Serves (λ s. outside.arrive s c bytes) disk h (Ok n) disk l)
   takes_serves left after n l sound cache stays takes made = record {
@@ -121,11 +115,23 @@ module _ (c max pool : ℕ) (h k : KernelState) (room : MakesRoom pool (pages_fo
     beside = λ slots. slots_beside k l (same []) slots ∙ room.same.beside slots;
   }
 
+  pub takes_brought : (after : Option (List ℕ)) (r : Result Arrived Refusal) (l : KernelState) → IsSound l → l.cache ≡ k.cache → Stays k.store l.store → IfOk r (IsOneRead (most_asked max (conn_at (machine_of [] k) c).incoming) after) → IfOk r (λ a. Arrives c a.taken k l)
+      → IfOk r (λ a. a.taken ≡ 0 → (stored : List (List ℕ)) → machine_of stored l ≡ machine_of stored k) → IfOk r (BringsIn c max after h l)
+  takes_brought after (Ok a) l sound cache stays told made none = record {
+    told = subst (λ n. IsOneRead (min (min max PAGE_BYTES) (MAX_QUEUE_BYTES - n)) after a) unread_kept told;
+    made = takes_made a.taken l made;
+    none = λ nothing. takes_none l sound cache stays (none nothing);
+  }
+  takes_brought after (Err x) l sound cache stays told made none = tt
+
   pub takes_stays : (l : KernelState) → Stays k.store l.store → Stays h.store l.store
   takes_stays l stays = stays_trans room.gives_up.moves.stays stays
 
   pub fits_in : (b : Bool) → can_fit h pool 1 ≡ b → can_fit h (conn_at (machine_of [] h) c).pool 1 ≡ b
   fits_in b is = ap (λ p. can_fit h p 1) in_pool ∙ is
+
+  takes_room : {A : Type 0} (r : Result A Refusal) → has_room k.store pool 1 ≡ true → ((p : ℕ) → r ≡ Err (NoRoom p) → has_room k.store (conn_at (machine_of [] k) c).pool 1 ≡ false) → (p : ℕ) → r ≡ Err (NoRoom p) → can_fit h (conn_at (machine_of [] h) c).pool 1 ≡ false
+  takes_room r roomy lacks p is = absurd (cc (sym roomy ∙ ap (λ q. has_room k.store q 1) (sym (pool_kept ∙ in_pool)) ∙ lacks p is))
 
   module _ (passed : first (arrive_from_refusals (machine_of [] h) c max) ≡ None) where
     late_here : (x : Refusal) → WantOfRoom (conn_at (machine_of [] h) c).pool x → IsRefused (arrive_from_refusals (machine_of [] h) c max) (WantOfRoom (conn_at (machine_of [] h) c).pool) x
@@ -134,11 +140,11 @@ module _ (c max pool : ℕ) (h k : KernelState) (room : MakesRoom pool (pages_fo
     late_from : (x : Refusal) → IsRefused (arrive_from_refusals (machine_of [] k) c max) (WantOfRoom (conn_at (machine_of [] k) c).pool) x → WantOfRoom (conn_at (machine_of [] h) c).pool x
     late_from x is = subst (λ p. WantOfRoom p x) pool_kept (subst (λ (o : Option Refusal). MatchOption o (WantOfRoom (conn_at (machine_of [] k) c).pool x) (λ y. x ≡ y)) (tests_kept ∙ passed) is)
 
-    pub takes_refused : {A : Type 0} (r : Result A Refusal) → IfErr r (IsRefused (arrive_from_refusals (machine_of [] k) c max) (WantOfRoom (conn_at (machine_of [] k) c).pool)) → IfErr r (IsRefused (arrive_from_refusals (machine_of [] h) c max) (WantOfRoom (conn_at (machine_of [] h) c).pool))
+    takes_refused : {A : Type 0} (r : Result A Refusal) → IfErr r (IsRefused (arrive_from_refusals (machine_of [] k) c max) (WantOfRoom (conn_at (machine_of [] k) c).pool)) → IfErr r (IsRefused (arrive_from_refusals (machine_of [] h) c max) (WantOfRoom (conn_at (machine_of [] h) c).pool))
     takes_refused (Ok a) is = tt
     takes_refused (Err x) is = late_here x (late_from x is)
 
-    pub takes_evicted : {A : Type 0} (r : Result A Refusal) (l : KernelState) → has_room k.store pool 1 ≡ true → can_fit h pool 1 ≡ true → ((p : ℕ) → r ≡ Err (NoRoom p) → has_room k.store (conn_at (machine_of [] k) c).pool 1 ≡ false) → IfErr r (IsRefused (arrive_from_refusals (machine_of [] k) c max) (WantOfRoom (conn_at (machine_of [] k) c).pool)) → OnErr r (l ≡ k) → IfErr r (MayHaveEvicted (conn_at (machine_of [] h) c).pool 1 h l)
+    takes_evicted : {A : Type 0} (r : Result A Refusal) (l : KernelState) → has_room k.store pool 1 ≡ true → can_fit h pool 1 ≡ true → ((p : ℕ) → r ≡ Err (NoRoom p) → has_room k.store (conn_at (machine_of [] k) c).pool 1 ≡ false) → IfErr r (IsRefused (arrive_from_refusals (machine_of [] k) c max) (WantOfRoom (conn_at (machine_of [] k) c).pool)) → OnErr r (l ≡ k) → IfErr r (MayHaveEvicted (conn_at (machine_of [] h) c).pool 1 h l)
     takes_evicted (Ok a) l roomy fits lacks is same = tt
     takes_evicted {A} (Err x) l roomy fits lacks is same =
         let none : (p : ℕ) → x ≡ NoRoom p → ⊥ = λ p e. absurd (cc (sym roomy ∙ ap (λ q. has_room k.store q 1) (sym (pool_kept ∙ in_pool)) ∙ lacks p (ap (λ y. Err y) e))) in
@@ -149,8 +155,13 @@ module _ (c max pool : ℕ) (h k : KernelState) (room : MakesRoom pool (pages_fo
         } in
         subst (λ (y : KernelState). MayHaveEvicted (conn_at (machine_of [] h) c).pool 1 h y x) (sym same) (inr went)
 
+    pub takes_refuses : {A R : Type 0} (reader after : R) (r : Result A Refusal) (l : KernelState) → has_room k.store pool 1 ≡ true → can_fit h pool 1 ≡ true → RefusesByte (machine_of [] k) c max (has_room k.store (conn_at (machine_of [] k) c).pool 1) r
+        → OnErr r (l ≡ k) → OnErr r (after ≡ reader) → RefusesArrival c max h l reader after r
+    takes_refuses reader after r l roomy fits byte same unread = record {
+      byte = record { passed = on_ok r passed; refused = takes_refused r byte.refused; room = on_ok r (fits_in true fits); no_room = takes_room r roomy byte.no_room };
+      err = takes_evicted r l roomy fits byte.no_room byte.refused same;
+      err_reader = unread;
+    }
+
     pub none_refused : IsRefused (arrive_from_refusals (machine_of [] h) c max) (WantOfRoom (conn_at (machine_of [] h) c).pool) (NoRoom pool)
     none_refused = late_here (NoRoom pool) (sym in_pool)
-
-  pub takes_room : {A : Type 0} (r : Result A Refusal) → has_room k.store pool 1 ≡ true → ((p : ℕ) → r ≡ Err (NoRoom p) → has_room k.store (conn_at (machine_of [] k) c).pool 1 ≡ false) → (p : ℕ) → r ≡ Err (NoRoom p) → can_fit h (conn_at (machine_of [] h) c).pool 1 ≡ false
-  takes_room r roomy lacks p is = absurd (cc (sym roomy ∙ ap (λ q. has_room k.store q 1) (sym (pool_kept ∙ in_pool)) ∙ lacks p is))

@@ -1,49 +1,30 @@
-use Rattle.std.proofs.Common.{[], ◌≡◌, ◌∙◌, ℕ, ◌-◌, ◌≤◌, List, length}
-use Rattle.std.specs.Prelude.{Ok, min}
+use Rattle.std.proofs.Common.{◌∙◌}
+use Rattle.std.specs.Prelude.{Ok}
 use Rattle.iol_back.specs.Disk.{Disk}
-use Rattle.iol_core.specs.State.{conn_at}
 use Rattle.iol_core.specs.Calls.Outside as outside
-use Rattle.iol_core.specs.declared.limits.TheConstants.{MAX_QUEUE_BYTES, PAGE_BYTES}
 use Rattle.iol_pipe.specs.declared.arriving.Arrived.{Arrived}
 use Rattle.iol_kernel.specs.Backed.{Serves}
 use Rattle.iol_kernel.specs.Borrowed.{TakesIn}
 use Rattle.iol_kernel.specs.Calls.{Arrives, Steps}
 use Rattle.iol_kernel.specs.Kernel.{state_of}
-use Rattle.iol_kernel.specs.KernelState.{machine_of}
-use Rattle.iol_kernel.specs.MakingRoom.{IsSame}
-use Rattle.iol_kernel.proofs.Connections.TakenIn.{if_ok, if_ok_both, still_there, takes_evicted, takes_most, takes_none, takes_refused, takes_room, takes_serves, takes_stays}
+use Rattle.iol_kernel.proofs.Connections.TakenIn.{if_ok_both, still_there, takes_brought, takes_refuses, takes_serves, takes_stays}
 use Rattle.iol_kernel.proofs.kernel.Kernel.arrive_from.Goals as goal
 
 pub read_in-requires-clause-there : goal.read_in-requires-clause-there
 read_in-requires-clause-there g c = still_there c.args.conn c.args.max c.in_ok-pool.pool (state_of c.args.self.now) (state_of c.make_room_for.new.self) c.make_room_for.ensures.made c.in_ok-pool.ensures.pool c.in_ok-pool.ensures.there
 
-pub returns-clause-refused : goal.returns-clause-refused
-returns-clause-refused g c = takes_refused c.args.conn c.args.max c.in_ok-pool.pool (state_of c.args.self.now) (state_of c.make_room_for.new.self) c.make_room_for.ensures.made c.in_ok-pool.ensures.pool c.in_ok-pool.ensures.passed c.read_in.result c.read_in.ensures.refused
+pub returns-clause-refuses : goal.returns-clause-refuses
+returns-clause-refuses g c =
+    let e = c.read_in.ensures in
+    takes_refuses c.args.conn c.args.max c.in_ok-pool.pool (state_of c.args.self.now) (state_of c.make_room_for.new.self) c.make_room_for.ensures.made c.in_ok-pool.ensures.pool c.in_ok-pool.ensures.passed c.args.reader.now c.read_in.new.reader c.read_in.result (state_of c.read_in.new.self) (c.make_room_for.ensures.room c.if-not-make_room_for.false) (c.make_room_for.ensures.fits ∙ c.if-not-make_room_for.false) e.refuses e.err e.err_reader
 
-pub returns-clause-err : goal.returns-clause-err
-returns-clause-err g c = takes_evicted c.args.conn c.args.max c.in_ok-pool.pool (state_of c.args.self.now) (state_of c.make_room_for.new.self) c.make_room_for.ensures.made c.in_ok-pool.ensures.pool c.in_ok-pool.ensures.passed c.read_in.result (state_of c.read_in.new.self) (c.make_room_for.ensures.room c.if-not-make_room_for.false) (c.make_room_for.ensures.fits ∙ c.if-not-make_room_for.false) c.read_in.ensures.no_room c.read_in.ensures.refused c.read_in.ensures.err
-
-pub returns-clause-no_room : goal.returns-clause-no_room
-returns-clause-no_room g c = takes_room c.args.conn c.args.max c.in_ok-pool.pool (state_of c.args.self.now) (state_of c.make_room_for.new.self) c.make_room_for.ensures.made c.in_ok-pool.ensures.pool c.read_in.result (c.make_room_for.ensures.room c.if-not-make_room_for.false) c.read_in.ensures.no_room
+pub returns-clause-brings : goal.returns-clause-brings
+returns-clause-brings g c =
+    let e = c.read_in.ensures in
+    takes_brought c.args.conn c.args.max c.in_ok-pool.pool (state_of c.args.self.now) (state_of c.make_room_for.new.self) c.make_room_for.ensures.made c.in_ok-pool.ensures.pool (g.R.Read.remaining c.read_in.new.reader) c.read_in.result (state_of c.read_in.new.self) e.sound e.cache e.stays e.told e.made e.none
 
 pub returns-clause-stays : goal.returns-clause-stays
 returns-clause-stays g c = takes_stays c.args.conn c.args.max c.in_ok-pool.pool (state_of c.args.self.now) (state_of c.make_room_for.new.self) c.make_room_for.ensures.made c.in_ok-pool.ensures.pool (state_of c.read_in.new.self) c.read_in.ensures.stays
-
-pub returns-clause-most : goal.returns-clause-most
-returns-clause-most g c =
-    let h = state_of c.args.self.now in
-    let k = state_of c.make_room_for.new.self in
-    if_ok (λ (a : Arrived). a.taken ≤ min (min c.args.max PAGE_BYTES) (MAX_QUEUE_BYTES - length (conn_at (machine_of [] k) c.args.conn).incoming)) (λ (a : Arrived). a.taken ≤ min (min c.args.max PAGE_BYTES) (MAX_QUEUE_BYTES - length (conn_at (machine_of [] h) c.args.conn).incoming)) c.read_in.result
-    (λ a le. takes_most c.args.conn c.args.max c.in_ok-pool.pool h k c.make_room_for.ensures.made c.in_ok-pool.ensures.pool a.taken le) c.read_in.ensures.most
-
-pub returns-clause-none : goal.returns-clause-none
-returns-clause-none g c =
-    let h = state_of c.args.self.now in
-    let k = state_of c.make_room_for.new.self in
-    let l = state_of c.read_in.new.self in
-    let e = c.read_in.ensures in
-    if_ok (λ (a : Arrived). a.taken ≡ 0 → (stored : List (List ℕ)) → machine_of stored l ≡ machine_of stored k) (λ (a : Arrived). a.taken ≡ 0 → IsSame h l) c.read_in.result
-    (λ a same none. takes_none c.args.conn c.args.max c.in_ok-pool.pool h k c.make_room_for.ensures.made c.in_ok-pool.ensures.pool l e.sound e.cache e.stays (same none)) e.none
 
 pub returns-clause-read : goal.returns-clause-read
 returns-clause-read g c =

@@ -14,20 +14,19 @@ arrive_from-requires-clause-pool g c =
     let h = state_of c.args.self.now in
     conn_open h c.args.conn (conn_in h.conns c.args.conn) c.requires.sound (conn_in-found h.conns c.args.conn (conn_held (bytes_over [] h.store) h c.args.conn c.requires.there))
 
-pub returns-clause-passed : goal.returns-clause-passed
-returns-clause-passed g c = let h = state_of c.args.self.now in read_passed h c.args.conn c.args.max (conn_held (bytes_over [] h.store) h c.args.conn c.requires.there) c.in_ok-arrive_from.ensures.passed
-
-pub returns-clause-room : goal.returns-clause-room
-returns-clause-room g c = let h = state_of c.args.self.now in read_room h c.args.conn c.args.max (conn_held (bytes_over [] h.store) h c.args.conn c.requires.there) true c.in_ok-arrive_from.ensures.room
-
-pub returns-in_err-arrive_from-clause-no_room : goal.returns-in_err-arrive_from-clause-no_room
-returns-in_err-arrive_from-clause-no_room g c = let h = state_of c.args.self.now in λ p is. read_room h c.args.conn c.args.max (conn_held (bytes_over [] h.store) h c.args.conn c.requires.there) false (c.arrive_from.ensures.no_room p (search (rules, is)))
-
-pub returns-in_err-arrive_from-clause-refused : goal.returns-in_err-arrive_from-clause-refused
-returns-in_err-arrive_from-clause-refused g c =
+pub returns-clause-refuses : goal.returns-clause-refuses
+returns-clause-refuses g c =
     let h = state_of c.args.self.now in
-    let refused = read_refused h c.args.conn c.args.max (conn_held (bytes_over [] h.store) h c.args.conn c.requires.there) c.in_err-arrive_from.field-0.0 (search (rules)) in
-    search (rules, refused)
+    let there = conn_held (bytes_over [] h.store) h c.args.conn c.requires.there in
+    let e = c.in_ok-arrive_from.ensures in
+    record { passed = read_passed h c.args.conn c.args.max there e.passed; refused = tt; room = read_room h c.args.conn c.args.max there true e.room; no_room = λ p is. absurd (cc is) }
+
+pub returns-in_err-arrive_from-clause-refuses : goal.returns-in_err-arrive_from-clause-refuses
+returns-in_err-arrive_from-clause-refuses g c =
+    let h = state_of c.args.self.now in
+    let there = conn_held (bytes_over [] h.store) h c.args.conn c.requires.there in
+    let refused = read_refused h c.args.conn c.args.max there c.in_err-arrive_from.field-0.0 (search (rules)) in
+    record { passed = search (rules); refused = search (rules, refused); room = search (rules); no_room = λ p is. read_room h c.args.conn c.args.max there false (c.arrive_from.ensures.no_room p (search (rules, is))) }
 
 pub returns-clause-read : goal.returns-clause-read
 returns-clause-read g c =
@@ -43,12 +42,18 @@ returns-clause-made g c =
     read_made h (record h { store = c.arrive_from.new.store; conns = c.arrive_from.new.self.conns; next_conn = c.arrive_from.new.self.next }) c.args.conn c.args.max c.in_ok-arrive_from.field-0.taken (g.R.Read.remaining c.args.reader.now) (g.R.Read.remaining c.arrive_from.new.reader) c.requires.sound (conn_held (bytes_over [] h.store) h c.args.conn c.requires.there) e.passed e.most e.read
     (ap (λ (w : ConnTable). record h { store = c.arrive_from.new.store; conns = w.conns; next_conn = w.next }) c.arrive_from.ensures.others)
 
-pub returns-clause-most : goal.returns-clause-most
-returns-clause-most g c =
+pub returns-clause-told : goal.returns-clause-told
+returns-clause-told g c =
     let h = state_of c.args.self.now in
     let e = c.in_ok-arrive_from.ensures in
-    read_most h (record h { store = c.arrive_from.new.store; conns = c.arrive_from.new.self.conns; next_conn = c.arrive_from.new.self.next }) c.args.conn c.args.max c.in_ok-arrive_from.field-0.taken (g.R.Read.remaining c.args.reader.now) (g.R.Read.remaining c.arrive_from.new.reader) c.requires.sound (conn_held (bytes_over [] h.store) h c.args.conn c.requires.there) e.passed e.most e.read
-    (ap (λ (w : ConnTable). record h { store = c.arrive_from.new.store; conns = w.conns; next_conn = w.next }) c.arrive_from.ensures.others)
+    record {
+      most = read_most h (record h { store = c.arrive_from.new.store; conns = c.arrive_from.new.self.conns; next_conn = c.arrive_from.new.self.next }) c.args.conn c.args.max c.in_ok-arrive_from.field-0.taken (g.R.Read.remaining c.args.reader.now) (g.R.Read.remaining c.arrive_from.new.reader) c.requires.sound (conn_held (bytes_over [] h.store) h c.args.conn c.requires.there) e.passed e.most e.read
+          (ap (λ (w : ConnTable). record h { store = c.arrive_from.new.store; conns = w.conns; next_conn = w.next }) c.arrive_from.ensures.others);
+      some = e.some;
+      either = e.either;
+      ended = e.ended;
+      failed = e.failed;
+    }
 
 pub returns-clause-none : goal.returns-clause-none
 returns-clause-none g c =

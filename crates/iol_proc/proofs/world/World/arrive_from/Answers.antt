@@ -20,8 +20,8 @@ returns-clause-err_copied g c =
     refl refl c.arrive_from.ensures.err_machine)
 
 -- what it does to the system
-pub returns-clause-made : goal.returns-clause-made
-returns-clause-made g c = rw (← c.self.view_is) c.arrive_from.ensures.made
+pub returns-clause-refuses : goal.returns-clause-refuses
+returns-clause-refuses g c = rw (← c.self.view_is) c.arrive_from.ensures.refuses
 
-pub returns-clause-none : goal.returns-clause-none
-returns-clause-none g c = rw (← c.self.view_is) c.arrive_from.ensures.none
+pub returns-clause-brings : goal.returns-clause-brings
+returns-clause-brings g c = rw (← c.self.view_is) c.arrive_from.ensures.brings

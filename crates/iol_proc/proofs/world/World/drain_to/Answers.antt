@@ -6,7 +6,7 @@ use Rattle.iol_proc.proofs.world.World.drain_to.Goals as goal
 pub returns-clause-copied : goal.returns-clause-copied
 returns-clause-copied g c =
     rw (← c.self.view_is)
-    (drained_copied g.P.Process.turns c.args.conn c.args.max c.drain_to.result
+    (drained_copied g.P.Process.turns c.args.conn c.args.max _ _ c.drain_to.result
     (record { machine = c.self.inside.system; seats = c.self.inside.seats.items; rough = c.self.inside.rough })
     (record { machine = c.drain_to.new.self; seats = c.self.inside.seats.items; rough = c.self.inside.rough })
-    refl refl c.drain_to.ensures.disk c.drain_to.ensures.passed c.drain_to.ensures.most c.drain_to.ensures.left)
+    refl refl c.drain_to.ensures.disk c.drain_to.ensures.refuses.passed c.drain_to.ensures.drains)
