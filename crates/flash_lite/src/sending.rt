@@ -4,8 +4,10 @@ ghost use Rattle.std.specs.Prelude.{◌≡◌, ◌≤◌, ◌+◌, ◌^◌, Some
 ghost use Rattle.flash_http.specs.Request.{answer};
 ghost use Rattle.flash_laws.specs.Answers.{keeps};
 ghost use Rattle.flash_laws.specs.Conn as spec;
+ghost use Rattle.flash_laws.specs.Running.{told_part};
 ghost use Rattle.flash_laws.specs.declared.doing.Doing.TheVariants.{Joins, Sends, Cuts, Offers, Swaps, Sent};
 ghost use Rattle.flash_lite.specs.Heard.{heard};
+ghost use Rattle.flash_lite.specs.Runs.{IsGoing};
 ghost use Rattle.flash_lite.specs.Small.{IsSmall, size_of};
 
 use crate::heard::count;
@@ -103,8 +105,8 @@ pub(crate) fn told_joins(head: AggId, size: u32, body: AggId, len: u32, last: &R
     }
 }
 
-/// After the reply to the sending: all of it was taken, or a part, or nobody is there to take it.
-pub(crate) fn told_sends(agg: AggId, len: u32, taken: u64, more: Following, last: &Reply) -> Doing
+// After the reply to the sending: all of it was taken, or a part, or nobody is there to take it.
+fn told_sends(agg: AggId, len: u32, taken: u64, more: Following, last: &Reply) -> Doing
     requires { IsSmall (Sends agg len taken more) }
     ensures told { result ≡ spec.told_sends agg len taken more last.now }
     ensures small { IsSmall result }
@@ -136,15 +138,8 @@ pub(crate) fn told_sends(agg: AggId, len: u32, taken: u64, more: Following, last
     }
 }
 
-/// After the reply to the cutting of the next piece.
-pub(crate) fn told_cuts(
-    agg: AggId,
-    from: u32,
-    len: u32,
-    taken: u64,
-    more: Following,
-    last: &Reply,
-) -> Doing
+// After the reply to the cutting of the next piece.
+fn told_cuts(agg: AggId, from: u32, len: u32, taken: u64, more: Following, last: &Reply) -> Doing
     requires { IsSmall (Cuts agg from len taken more) }
     ensures told { result ≡ spec.told_cuts agg from len taken more last.now }
     ensures small { IsSmall result }
@@ -168,8 +163,8 @@ pub(crate) fn told_cuts(
     }
 }
 
-/// After the reply to the sending of a piece: what was taken of it is counted.
-pub(crate) fn told_offers(
+// After the reply to the sending of a piece: what was taken of it is counted.
+fn told_offers(
     agg: AggId,
     from: u32,
     len: u32,
@@ -206,8 +201,8 @@ pub(crate) fn told_offers(
     }
 }
 
-/// After the reply to the dropping of a piece.
-pub(crate) fn told_swaps(
+// After the reply to the dropping of a piece.
+fn told_swaps(
     agg: AggId,
     from: u32,
     len: u32,
@@ -237,6 +232,59 @@ pub(crate) fn told_swaps(
             taken,
             more,
         },
+    }
+}
+
+// After the reply to the dropping of a piece that nobody takes any more.
+fn told_breaks(piece: AggId, agg: AggId, more: Following, last: &Reply) -> Doing
+    ensures told { result ≡ spec.told_breaks piece agg more last.now }
+    ensures small { IsSmall result }
+{
+    match last {
+        Reply::Done => Doing::Drops { agg, more },
+        _ => Doing::Breaks { piece, agg, more },
+    }
+}
+
+/// What a part of the response is after the reply to its call, unless it is sent or nobody takes it.
+#[tactic(auto, using(crate::proofs::Answering::Output::left_sends, crate::proofs::Answering::Output::left_cuts, crate::proofs::Answering::Output::left_offers, crate::proofs::Answering::Output::left_swaps, crate::proofs::Answering::Output::left_breaks))]
+pub(crate) fn told_part(doing: Doing, last: &Reply) -> Doing
+    requires { IsGoing doing }
+    ensures told { result ≡ told_part doing last.now }
+    ensures going { IsGoing result }
+{
+    match doing {
+        Doing::Sends {
+            agg,
+            len,
+            taken,
+            more,
+        } => told_sends(agg, len, taken, more, last),
+        Doing::Cuts {
+            agg,
+            from,
+            len,
+            taken,
+            more,
+        } => told_cuts(agg, from, len, taken, more, last),
+        Doing::Offers {
+            agg,
+            from,
+            len,
+            piece,
+            taken,
+            more,
+        } => told_offers(agg, from, len, piece, taken, more, last),
+        Doing::Swaps {
+            agg,
+            from,
+            len,
+            piece,
+            taken,
+            more,
+        } => told_swaps(agg, from, len, piece, taken, more, last),
+        Doing::Breaks { piece, agg, more } => told_breaks(piece, agg, more, last),
+        _ => doing,
     }
 }
 
@@ -292,17 +340,6 @@ pub(crate) fn told_sent(
     match last {
         Reply::Done => goes_on(asked, taken, more),
         _ => Doing::Sent { agg, taken, more },
-    }
-}
-
-/// After the reply to the dropping of a piece that nobody takes any more.
-pub(crate) fn told_breaks(piece: AggId, agg: AggId, more: Following, last: &Reply) -> Doing
-    ensures told { result ≡ spec.told_breaks piece agg more last.now }
-    ensures small { IsSmall result }
-{
-    match last {
-        Reply::Done => Doing::Drops { agg, more },
-        _ => Doing::Breaks { piece, agg, more },
     }
 }
 
