@@ -1,7 +1,7 @@
 //! What follows each call that sends an answer: its head is made, and what is taken of it is
 //! counted.
 ghost use Rattle.std.specs.Prelude.{◌≡◌, ◌≤◌, ◌+◌, ◌^◌, Some};
-ghost use Rattle.flash_http.specs.Request.{answer};
+ghost use Rattle.flash_http.specs.Request.{Answer, answer};
 ghost use Rattle.flash_laws.specs.Answers.{keeps};
 ghost use Rattle.flash_laws.specs.Conn as spec;
 ghost use Rattle.flash_laws.specs.Running.{told_part};
@@ -302,10 +302,11 @@ fn keeps(asked: &Asked) -> bool
     }
 }
 
-// What follows where all of an aggregate was taken: the body, the next request, or the end.
-fn goes_on(asked: &Asked, taken: u64, more: Following) -> Doing
+/// What follows where all of an aggregate was taken: the body, the next request where the connection
+/// is kept, or the end.
+pub(crate) fn goes_on(keep: bool, taken: u64, more: Following) -> Doing
     requires { taken + size_of more ≤ 2 ^ 40 }
-    ensures goes { result ≡ spec.goes_on (answer asked.now) taken more }
+    ensures goes { (q : Answer) → keeps q ≡ keep → result ≡ spec.goes_on q taken more }
     ensures small { IsSmall result }
 {
     match more {
@@ -315,13 +316,7 @@ fn goes_on(asked: &Asked, taken: u64, more: Following) -> Doing
             taken,
             more: None,
         },
-        None => {
-            if keeps(asked) {
-                Doing::Rests
-            } else {
-                Doing::Closes
-            }
-        }
+        None => { if keep { Doing::Rests } else { Doing::Closes } }
     }
 }
 
@@ -338,7 +333,7 @@ pub(crate) fn told_sent(
     ensures small { IsSmall result }
 {
     match last {
-        Reply::Done => goes_on(asked, taken, more),
+        Reply::Done => goes_on(keeps(asked), taken, more),
         _ => Doing::Sent { agg, taken, more },
     }
 }

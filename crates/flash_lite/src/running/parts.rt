@@ -14,7 +14,7 @@ ghost use Rattle.flash_lite.specs.Small.{IsSmall};
 use crate::answers::served_text;
 use crate::asking::{cut_call, join_call};
 use crate::conn::piece_end;
-use crate::sending::{Following, told_drops, told_heads, told_part};
+use crate::sending::{Following, goes_on, told_drops, told_heads, told_part};
 use flash_http::Request;
 use flash_laws::doing::{Content, Doing};
 use flash_laws::running::{Run, Running, Step};
@@ -74,21 +74,7 @@ fn told_sent(request: &Request, agg: AggId, taken: u64, more: Following, last: &
     ensures small { IsSmall result }
 {
     match last {
-        Reply::Done => match more {
-            Some((agg, len)) => Doing::Sends {
-                agg,
-                len,
-                taken,
-                more: None,
-            },
-            None => {
-                if request.keep {
-                    Doing::Rests
-                } else {
-                    Doing::Closes
-                }
-            }
-        },
+        Reply::Done => goes_on(request.keep, taken, more),
         _ => Doing::Sent { agg, taken, more },
     }
 }
