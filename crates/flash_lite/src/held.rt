@@ -68,7 +68,7 @@ fn goes_at(free: bool, clients: &[Option<Client>], place: usize) -> bool
 fn reach(clients: &mut Vec<Option<Client>>, place: u32) -> Result<(), AllocError>
     ensures ok { IfOk result (λ _. clients.new.items ≡ grown clients.old.items place) }
     ensures err { OnErr result (clients.new.items ≡ clients.old.items) }
-    ensures wants { OnErr result (length clients.old.items ≤ place) }
+    ensures wants { OnErr result (vec_capacity clients.old ≤ place) }
 {
     let more = (place as usize + 1).saturating_sub(clients.len());
     clients.reserve(more)?;
@@ -84,7 +84,7 @@ fn admit(alloc: Global, clients: &mut Vec<Option<Client>>, place: u32) -> Result
     ensures ok { IfOk result
         (λ _. clients.new.items ≡ with_at clients.old.items place (Some new_client)) }
     ensures err { OnErr result (clients.new.items ≡ clients.old.items) }
-    ensures wants { OnErr result (length clients.old.items ≤ place) }
+    ensures wants { OnErr result (vec_capacity clients.old ≤ place) }
     ensures length { length clients.new.items ≤ 2 ^ 32 }
 {
     reach(clients, place)?;
