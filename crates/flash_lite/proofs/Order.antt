@@ -9,7 +9,7 @@ use Rattle.iol_core.specs.Numbered.{in_place, taken}
 use Rattle.flash_laws.specs.Client.{Client}
 use Rattle.flash_laws.specs.Rounds.{goes_in, next_in}
 use Rattle.flash_laws.specs.Tied.{grown, with_at}
-use Rattle.flash_lite.specs.Order.{TellsWhoGoes, goers, marked, places_from}
+use Rattle.flash_lite.specs.Order.{CanNote, goers, marked, places_from}
 use Rattle.flash_lite.proofs.Marks.{all_fail, all_pass}
 use Rattle.flash_lite.proofs.Fewer.{taken_few}
 use Rattle.flash_lite.proofs.Calls.Filing.{position-here, position-past}
@@ -70,27 +70,38 @@ module _ {A : Type 0} (p : A → Bool) where
       ap (λ b. cond b (k ∷ filter (λ j. nat_lt j place) ks) (filter (λ j. nat_lt j place) ks) ++ ((if there then place ∷ [] else []) ++ filter (λ j. nat_lt place j) (k ∷ ks))) low
       ∙ ap (λ b. k ∷ (filter (λ j. nat_lt j place) ks ++ ((if there then place ∷ [] else []) ++ cond b (k ∷ filter (λ j. nat_lt place j) ks) (filter (λ j. nat_lt place j) ks)))) high
 
+  -- the first place, and one past it, whether or not the first passes
+  marked_above : (at : ℕ) (xs : List A) (b : Bool) → marked (places_from p (at + 1) xs) at b ≡ cond b (at ∷ places_from p (at + 1) xs) (places_from p (at + 1) xs)
+  marked_above at xs true = all_above at xs
+  marked_above at xs false = none_above at xs
+
+  marked_first : (at : ℕ) (xs : List A) (b a : Bool) → marked (cond a (at ∷ places_from p (at + 1) xs) (places_from p (at + 1) xs)) at b ≡ cond b (at ∷ places_from p (at + 1) xs) (places_from p (at + 1) xs)
+  marked_first at xs b true = unmarked at (places_from p (at + 1) xs) b ∙ marked_above at xs b
+  marked_first at xs b false = marked_above at xs b
+
+  marked_later : (at i : ℕ) (xs ys : List A) (b : Bool) → marked (places_from p (at + 1) xs) ((at + 1) + i) b ≡ places_from p (at + 1) ys → (a : Bool)
+      → marked (cond a (at ∷ places_from p (at + 1) xs) (places_from p (at + 1) xs)) ((at + 1) + i) b ≡ cond a (at ∷ places_from p (at + 1) ys) (places_from p (at + 1) ys)
+  marked_later at i xs ys b rest true = marked_past at (places_from p (at + 1) xs) ((at + 1) + i) b (omega arith) ∙ ap (λ l. at ∷ l) rest
+  marked_later at i xs ys b rest false = rest
+
   pub marked_set : (at i : ℕ) (xs : List A) (y : A) → i < length xs → marked (places_from p at xs) (at + i) (p y) ≡ places_from p at (slice_set xs i y)
   marked_set at i [] y lt = absurd (omega (arith, lt))
   marked_set at zero (x ∷ xs) y lt =
       let none : at + 0 ≡ at = omega arith in
-      ap (λ n. marked (places_from p at (x ∷ xs)) n (p y)) none ∙ by (p x) (p y)
-    where
-      rest : (b : Bool) → marked (places_from p (at + 1) xs) at b ≡ cond b (at ∷ places_from p (at + 1) xs) (places_from p (at + 1) xs)
-      rest true = all_above at xs
-      rest false = none_above at xs
-
-      by : (a b : Bool) → marked (cond a (at ∷ places_from p (at + 1) xs) (places_from p (at + 1) xs)) at b ≡ cond b (at ∷ places_from p (at + 1) xs) (places_from p (at + 1) xs)
-      by true b = unmarked at (places_from p (at + 1) xs) b ∙ rest b
-      by false b = rest b
+      ap (λ n. marked (places_from p at (x ∷ xs)) n (p y)) none ∙ marked_first at xs (p y) (p x)
   marked_set at (suc i) (x ∷ xs) y lt =
       let next : at + suc i ≡ (at + 1) + i = omega arith in
-      ap (λ n. marked (places_from p at (x ∷ xs)) n (p y)) next ∙ by (marked_set (at + 1) i xs y (omega (arith, lt))) (p x)
-    where
-      by : marked (places_from p (at + 1) xs) ((at + 1) + i) (p y) ≡ places_from p (at + 1) (slice_set xs i y) → (a : Bool) → marked (cond a (at ∷ places_from p (at + 1) xs) (places_from p (at + 1) xs)) ((at + 1) + i) (p y)
-          ≡ cond a (at ∷ places_from p (at + 1) (slice_set xs i y)) (places_from p (at + 1) (slice_set xs i y))
-      by rest true = marked_past at (places_from p (at + 1) xs) ((at + 1) + i) (p y) (omega arith) ∙ ap (λ l. at ∷ l) rest
-      by rest false = rest
+      ap (λ n. marked (places_from p at (x ∷ xs)) n (p y)) next ∙ marked_later at i xs (slice_set xs i y) (p y) (marked_set (at + 1) i xs y (omega (arith, lt))) (p x)
+
+  -- to mark what stands so already changes nothing; past all stands one that fails
+  pub marked_same : (at i : ℕ) (xs : List A) (z : A) → p z ≡ false → marked (places_from p at xs) (at + i) (p (get_or xs i z)) ≡ places_from p at xs
+  marked_same at i [] z fails = ap (λ b. marked [] (at + i) b) fails
+  marked_same at zero (x ∷ xs) z fails =
+      let none : at + 0 ≡ at = omega arith in
+      ap (λ n. marked (places_from p at (x ∷ xs)) n (p x)) none ∙ marked_first at xs (p x) (p x)
+  marked_same at (suc i) (x ∷ xs) z fails =
+      let next : at + suc i ≡ (at + 1) + i = omega arith in
+      ap (λ n. marked (places_from p at (x ∷ xs)) n (p (get_or xs i z))) next ∙ marked_later at i xs xs (p (get_or xs i z)) (marked_same (at + 1) i xs z fails) (p x)
 
   -- the first from a place on
   first_found : (at g : ℕ) (xs : List A) → g ≤ at → find (λ k. nat_le g k) (places_from p at xs) ≡ option_map (λ k. at + k) (position p xs)
@@ -156,12 +167,18 @@ here : (o : Option Client) → goes_in true o ≡ is_some o
 here None = refl
 here (Some x) = refl
 
-goes_too : (o : Option Client) → goes_in false o ≡ true → goes_in true o ≡ true
-goes_too None goes = goes
-goes_too (Some x) goes = refl
+goes_too : (free : Bool) (o : Option Client) → goes_in free o ≡ true → goes_in true o ≡ true
+goes_too free None goes = goes
+goes_too free (Some x) goes = refl
 
 pub as_held : (clients : List (Option Client)) → length (goers true clients) ≡ taken clients
 as_held clients = as_many (λ o. goes_in true o) 0 clients ∙ ap (λ (l : List (Option Client)). length l) (filter_agree (λ o. goes_in true o) is_some here clients)
+
+few_go : (free : Bool) (clients : List (Option Client)) → length (goers free clients) ≤ length clients
+few_go free clients =
+    let a = fewer_places (λ o. goes_in free o) (λ o. goes_in true o) 0 0 clients (goes_too free) in
+    let b = as_held clients in
+    let few = taken_few clients in omega (arith, a, b, few)
 
 pub ascend : (free : Bool) (clients : List (Option Client)) (l : List ℕ) → l ≡ goers free clients → IsStrictlyIncreasing l
 ascend free clients l is = subst (λ (m : List ℕ). IsStrictlyIncreasing m) (sym is) (places_ascend (λ o. goes_in free o) 0 clients)
@@ -200,8 +217,15 @@ is_added was now place o is = record {
   now_is = is;
 }
 
+noted_same : (free : Bool) (clients : List (Option Client)) (l : List ℕ) (place : ℕ) → l ≡ goers free clients → marked l place (goes_in free (in_place clients place)) ≡ l
+noted_same free clients l place is =
+    let none : Option Client = None in
+    let same : marked (goers free clients) place (goes_in free (in_place clients place)) ≡ goers free clients =
+    subst (λ n. marked (goers free clients) n (goes_in free (in_place clients place)) ≡ goers free clients) (zero-add place) (marked_same (λ o. goes_in free o) 0 place clients none refl) in
+    subst (λ (m : List ℕ). marked m place (goes_in free (in_place clients place)) ≡ m) (sym is) same
+
 module _ {was now : List (Option Client)} {place : ℕ} where
-  pub noted : Changes was now place → (free : Bool) (l : List ℕ) → l ≡ goers free was → marked l place (goes_in free (in_place now place)) ≡ goers free now
+  noted : Changes was now place → (free : Bool) (l : List ℕ) → l ≡ goers free was → marked l place (goes_in free (in_place now place)) ≡ goers free now
   noted w free l is =
       let none : Option Client = None in
       let at : in_place now place ≡ w.o = ap (λ (m : List (Option Client)). in_place m place) w.now_is ∙ get_or-set_same w.from place w.o none w.within in
@@ -211,25 +235,16 @@ module _ {was now : List (Option Client)} {place : ℕ} where
       ∙ (ap (λ (o : Option Client). marked (goers free w.from) place (goes_in free o)) at
       ∙ (set ∙ ap (λ (m : List (Option Client)). goers free m) (sym w.now_is)))
 
-  -- there is room for what is noted
-  pub room_held : Changes was now place → (l : List ℕ) (room : ℕ) → l ≡ goers true was → length now ≤ room → length (marked l place (goes_in true (in_place now place))) ≤ room
-  room_held w l room is fits = let a = ap (λ (m : List ℕ). length m) (noted w true l is) in let b = as_held now in let few = taken_few now in omega (arith, a, b, few, fits)
-
-  pub room_going : Changes was now place → (l : List ℕ) (room : ℕ) → l ≡ goers false was → length now ≤ room → length (marked l place (goes_in false (in_place now place))) ≤ room
-  room_going w l room is fits =
-      let a = ap (λ (m : List ℕ). length m) (noted w false l is) in
-      let b = as_held now in
-      let c = fewer_places (λ o. goes_in false o) (λ o. goes_in true o) 0 0 now goes_too in
-      let few = taken_few now in omega (arith, a, b, c, few, fits)
-
-  pub tells_on : Changes was now place → (held going held_on going_on : List ℕ) (held_room going_room : ℕ) → held ≡ goers true was → going ≡ goers false was
-      → held_on ≡ marked held place (goes_in true (in_place now place)) → going_on ≡ marked going place (goes_in false (in_place now place))
-      → length now ≤ held_room → length now ≤ going_room → TellsWhoGoes now held_on going_on held_room going_room
-  tells_on w held going held_on going_on held_room going_room held_is going_is held_now going_now holds fits = record {
-    held_is = held_now ∙ noted w true held held_is;
-    going_is = going_now ∙ noted w false going going_is;
-    holds = holds;
-    fits = fits;
+  -- what was seen there may be noted as it is now
+  pub can_note : Changes was now place → (free : Bool) (l : List ℕ) (room : ℕ) (seen : List (Option Client)) (b : Bool) → l ≡ goers free was → length now ≤ room → seen ≡ was
+      → b ≡ goes_in free (in_place seen place) → CanNote free now l place b room
+  can_note w free l room seen b is fits seen_is b_is = record {
+    can = record {
+      ascends = ascend free was l is;
+      stands = ap (λ c. marked l place c) (b_is ∙ ap (λ (m : List (Option Client)). goes_in free (in_place m place)) seen_is) ∙ noted_same free was l place is;
+      fits = let a = ap (λ (m : List ℕ). length m) (noted w free l is) in let few = few_go free now in omega (arith, a, few, fits);
+    };
+    noted = noted w free l is;
   }
 
 pub long_added : (was now : List (Option Client)) (place : ℕ) (o : Option Client) (room : ℕ) → now ≡ with_at was place o → length was ≤ room → place + 1 ≤ room → length now ≤ room

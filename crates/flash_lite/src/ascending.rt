@@ -2,7 +2,7 @@
 ghost use Rattle.std.specs.Prelude.{◌≡◌, ◌<◌, ◌≤◌, drop, filter, find, insert, length, nat_le, nat_lt, take};
 ghost use Rattle.std.specs.List.Sorted.{IsStrictlyIncreasing};
 ghost use Rattle.std.specs.Vec.{vec_capacity};
-ghost use Rattle.flash_lite.specs.Order.{begins_with, marked};
+ghost use Rattle.flash_lite.specs.Order.{CanMark, marked};
 
 // How many of these places are below that one.
 fn count_below(places: &[u32], place: usize) -> usize
@@ -12,16 +12,6 @@ fn count_below(places: &[u32], place: usize) -> usize
     ensures within { result ≤ length places.now }
 {
     places.partition_point(|k| (*k as usize) < place)
-}
-
-// Whether that place stands there among these.
-fn stands_at(places: &[u32], at: usize, place: u32) -> bool
-    ensures { result ≡ begins_with (drop at places.now) place }
-{
-    match places.get(at) {
-        Some(k) => *k == place,
-        None => false,
-    }
 }
 
 /// The first of these places from here on.
@@ -47,20 +37,19 @@ fn put(places: &mut Vec<u32>, at: usize, place: u32)
     let _put = places.insert(at, place).is_ok();
 }
 
-/// Puts a place among these, or takes it out. There is room for it.
-pub(crate) fn mark(places: &mut Vec<u32>, place: u32, there: bool)
-    requires ascends { IsStrictlyIncreasing places.old.items }
-    requires room { length (marked places.old.items place there) ≤ vec_capacity places.old }
+/// Puts a place among these, or takes it out. `was` says whether it stands there.
+pub(crate) fn mark(places: &mut Vec<u32>, place: u32, was: bool, there: bool)
+    requires { CanMark places.old.items place was there (vec_capacity places.old) }
     ensures marked { places.new.items ≡ marked places.old.items place there }
     ensures capacity { vec_capacity places.old ≤ vec_capacity places.new }
 {
+    if was == there {
+        return;
+    }
     let at = count_below(places.as_slice(), place as usize);
-    let stands = stands_at(places.as_slice(), at, place);
     if there {
-        if !stands {
-            put(places, at, place);
-        }
-    } else if stands {
+        put(places, at, place);
+    } else {
         places.remove(at);
     }
 }

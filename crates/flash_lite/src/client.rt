@@ -237,7 +237,7 @@ impl Client {
         Ok(call)
     }
 
-    // Its run goes on with this, and its text is kept no more.
+    // Its run goes on with this, and its text is kept no more, nor the memory that it took.
     fn run_without(&mut self, fd: Fd, next: Running) -> Result<Call, AllocError>
         requires { IsSmallRunning next × (is_over next ≡ false) }
         ensures on { IfOk result

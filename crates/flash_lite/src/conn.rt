@@ -17,10 +17,7 @@ use crate::finding::{
     begins, told_got, told_opens, told_picks, told_reads, told_shuts, told_spares,
 };
 use crate::heard::append;
-use crate::sending::{
-    told_breaks, told_closes, told_cuts, told_drops, told_heads, told_joins, told_offers,
-    told_sends, told_sent, told_swaps,
-};
+use crate::sending::{told_closes, told_drops, told_heads, told_joins, told_part, told_sent};
 use flash_http::{Asked, MAX_HEAD_BYTES, Window, read_head, window_of};
 use flash_laws::doing::Doing;
 use http::StatusCode;
@@ -178,37 +175,12 @@ impl Conn {
                 body,
                 len,
             } => told_joins(head, size, body, len, last),
-            Doing::Sends {
-                agg,
-                len,
-                taken,
-                more,
-            } => told_sends(agg, len, taken, more, last),
-            Doing::Cuts {
-                agg,
-                from,
-                len,
-                taken,
-                more,
-            } => { told_cuts(agg, from, len, taken, more, last) }
-            Doing::Offers {
-                agg,
-                from,
-                len,
-                piece,
-                taken,
-                more,
-            } => { told_offers(agg, from, len, piece, taken, more, last) }
-            Doing::Swaps {
-                agg,
-                from,
-                len,
-                piece,
-                taken,
-                more,
-            } => { told_swaps(agg, from, len, piece, taken, more, last) }
+            Doing::Sends { .. }
+            | Doing::Cuts { .. }
+            | Doing::Offers { .. }
+            | Doing::Swaps { .. }
+            | Doing::Breaks { .. } => told_part(self.doing, last),
             Doing::Sent { agg, taken, more } => told_sent(&self.asked, agg, taken, more, last),
-            Doing::Breaks { piece, agg, more } => told_breaks(piece, agg, more, last),
             Doing::Drops { agg, more } => told_drops(agg, more, last),
             Doing::Closes => told_closes(last),
             Doing::Over => Doing::Over,

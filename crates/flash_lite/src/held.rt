@@ -2,7 +2,6 @@
 //! few steps, however many places there are.
 ghost use Rattle.std.specs.Prelude.{◌≡◌, ◌<◌, ◌≤◌, ◌+◌, ◌^◌, [], IfOk, IfSome, MatchOption};
 ghost use Rattle.std.specs.Prelude.{None, OnErr, Some, length, true, false};
-ghost use Rattle.std.specs.List.Sorted.{IsStrictlyIncreasing};
 ghost use Rattle.std.specs.Vec.{vec_capacity};
 ghost use Rattle.iol_core.specs.Numbered.{in_place, taken};
 ghost use Rattle.flash_laws.specs.Client.{new_client};
@@ -10,7 +9,7 @@ ghost use Rattle.flash_laws.specs.Rounds.{goes_in, next_in};
 ghost use Rattle.flash_laws.specs.Tied.{grown, with_at};
 ghost use Rattle.flash_laws.specs.TurnWants.{WantsHere, wants_there};
 ghost use Rattle.flash_lite.specs.Heard.{heard};
-ghost use Rattle.flash_lite.specs.Order.{marked};
+ghost use Rattle.flash_lite.specs.Order.{CanNote, goers};
 ghost use Rattle.flash_lite.specs.Turning.{CallAt, CourseIn, MayRest, left_at, worker_at};
 ghost use Rattle.flash_lite.specs.declared.site.TheConstants.{MAX_WORKERS};
 
@@ -58,11 +57,18 @@ fn goes_in(free: bool, place: &Option<Client>) -> bool
     }
 }
 
+// Whether the client in a place may have its turn, if one is there.
+fn goes_at(free: bool, clients: &[Option<Client>], place: usize) -> bool
+    ensures { result ≡ goes_in free (in_place clients.now place) }
+{
+    place < clients.len() && goes_in(free, &clients[place])
+}
+
 // Makes places up to this one. Where it is there, that takes no memory.
 fn reach(clients: &mut Vec<Option<Client>>, place: u32) -> Result<(), AllocError>
     ensures ok { IfOk result (λ _. clients.new.items ≡ grown clients.old.items place) }
     ensures err { OnErr result (clients.new.items ≡ clients.old.items) }
-    ensures wants { OnErr result (length clients.old.items ≤ place) }
+    ensures wants { OnErr result (vec_capacity clients.old ≤ place) }
 {
     let more = (place as usize + 1).saturating_sub(clients.len());
     clients.reserve(more)?;
@@ -78,7 +84,7 @@ fn admit(alloc: Global, clients: &mut Vec<Option<Client>>, place: u32) -> Result
     ensures ok { IfOk result
         (λ _. clients.new.items ≡ with_at clients.old.items place (Some new_client)) }
     ensures err { OnErr result (clients.new.items ≡ clients.old.items) }
-    ensures wants { OnErr result (length clients.old.items ≤ place) }
+    ensures wants { OnErr result (vec_capacity clients.old ≤ place) }
     ensures length { length clients.new.items ≤ 2 ^ 32 }
 {
     reach(clients, place)?;
@@ -177,25 +183,34 @@ fn make_room(places: &mut Vec<u32>, place: u32) -> Result<(), AllocError>
     places.reserve(more)
 }
 
-// Notes whether a client is in a place, and whether it may go while no worker is free.
-fn note(clients: &[Option<Client>], held: &mut Vec<u32>, going: &mut Vec<u32>, place: u32)
-    requires within { place < length clients.now }
-    requires held { IsStrictlyIncreasing held.old.items }
-    requires going { IsStrictlyIncreasing going.old.items }
-    requires holds { length (marked held.old.items place (goes_in true (in_place clients.now place)))
-        ≤ vec_capacity held.old }
-    requires fits { length (marked going.old.items place (goes_in false (in_place clients.now place)))
-        ≤ vec_capacity going.old }
-    ensures held { held.new.items
-        ≡ marked held.old.items place (goes_in true (in_place clients.now place)) }
-    ensures going { going.new.items
-        ≡ marked going.old.items place (goes_in false (in_place clients.now place)) }
+// Whether a client is in a place, and whether it may go while no worker is free.
+fn noted(clients: &[Option<Client>], place: u32) -> (bool, bool)
+    ensures held { result.0 ≡ goes_in true (in_place clients.now place) }
+    ensures going { result.1 ≡ goes_in false (in_place clients.now place) }
+{
+    let at = place as usize;
+    (goes_at(true, clients, at), goes_at(false, clients, at))
+}
+
+// Notes both for a place where they are not as they were; else no list is searched.
+fn note(
+    clients: &[Option<Client>],
+    was: (bool, bool),
+    held: &mut Vec<u32>,
+    going: &mut Vec<u32>,
+    place: u32,
+)
+    requires held { CanNote true clients.now held.old.items place was.0 (vec_capacity held.old) }
+    requires going { CanNote false clients.now going.old.items place was.1
+        (vec_capacity going.old) }
+    ensures held { held.new.items ≡ goers true clients.now }
+    ensures going { going.new.items ≡ goers false clients.now }
     ensures holds { vec_capacity held.old ≤ vec_capacity held.new }
     ensures fits { vec_capacity going.old ≤ vec_capacity going.new }
 {
-    let client = &clients[place as usize];
-    mark(held, place, goes_in(true, client));
-    mark(going, place, goes_in(false, client));
+    let (holds, goes) = noted(clients, place);
+    mark(held, place, was.0, holds);
+    mark(going, place, was.1, goes);
 }
 
 impl Clients {
@@ -218,8 +233,21 @@ impl Clients {
         self.held.len()
     }
 
-    /// The first place from here on that has one that may go, where a worker is free or none.
+    /// The first place from here on that has one that may go, where a worker is free or none. Mostly
+    /// it is this one.
     pub(crate) fn next(&self, free: bool, from: usize) -> Option<u32>
+        ensures place { result ≡ next_in free self.now from }
+        ensures within { IfSome result (λ place. place < length self.now) }
+    {
+        if goes_at(free, self.places.as_slice(), from) {
+            Some(from as u32)
+        } else {
+            self.seek(free, from)
+        }
+    }
+
+    // The same, by the list of the places of those that may go.
+    fn seek(&self, free: bool, from: usize) -> Option<u32>
         ensures place { result ≡ next_in free self.now from }
         ensures within { IfSome result (λ place. place < length self.now) }
     {
@@ -256,9 +284,11 @@ impl Clients {
     {
         make_room(&mut self.held, place)?;
         make_room(&mut self.going, place)?;
+        let was = noted(self.places.as_slice(), place);
         admit(self.alloc, &mut self.places, place)?;
         note(
             self.places.as_slice(),
+            was,
             &mut self.held,
             &mut self.going,
             place,
@@ -282,9 +312,16 @@ impl Clients {
         ensures wants { OnErr result
             (WantsHere scripts worker (in_place self.old fd) last.now (heard parts.entry)) }
     {
+        let was = noted(self.places.as_slice(), fd);
         match go_on_at(scripts, worker, &mut self.places, fd, last, parts)? {
             Some(course) => {
-                note(self.places.as_slice(), &mut self.held, &mut self.going, fd);
+                note(
+                    self.places.as_slice(),
+                    was,
+                    &mut self.held,
+                    &mut self.going,
+                    fd,
+                );
                 Ok(Some(course))
             }
             None => Ok(None),
@@ -297,7 +334,14 @@ impl Clients {
         requires rests { MayRest (in_place self.old fd) left }
         ensures { self.new ≡ left_at self.old fd left }
     {
+        let was = noted(self.places.as_slice(), fd);
         leave_at(&mut self.places, fd, left);
-        note(self.places.as_slice(), &mut self.held, &mut self.going, fd);
+        note(
+            self.places.as_slice(),
+            was,
+            &mut self.held,
+            &mut self.going,
+            fd,
+        );
     }
 }

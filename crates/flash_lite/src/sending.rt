@@ -1,11 +1,15 @@
 //! What follows each call that sends an answer: its head is made, and what is taken of it is
 //! counted.
 ghost use Rattle.std.specs.Prelude.{◌≡◌, ◌≤◌, ◌+◌, ◌^◌, Some};
-ghost use Rattle.flash_http.specs.Request.{answer};
+ghost use Rattle.iol_core.specs.declared.events.Reply.TheVariants.{Agg, Count, Done, Refused};
+ghost use Rattle.iol_core.specs.declared.refusals.Refusal.TheVariants.{BrokenPipe};
+ghost use Rattle.flash_http.specs.Request.{Answer, answer};
 ghost use Rattle.flash_laws.specs.Answers.{keeps};
 ghost use Rattle.flash_laws.specs.Conn as spec;
-ghost use Rattle.flash_laws.specs.declared.doing.Doing.TheVariants.{Joins, Sends, Cuts, Offers, Swaps, Sent};
+ghost use Rattle.flash_laws.specs.Running.{told_part};
+ghost use Rattle.flash_laws.specs.declared.doing.Doing.TheVariants.{Joins, Sends, Sent};
 ghost use Rattle.flash_lite.specs.Heard.{heard};
+ghost use Rattle.flash_lite.specs.Runs.{IsGoing};
 ghost use Rattle.flash_lite.specs.Small.{IsSmall, size_of};
 
 use crate::heard::count;
@@ -103,88 +107,51 @@ pub(crate) fn told_joins(head: AggId, size: u32, body: AggId, len: u32, last: &R
     }
 }
 
-/// After the reply to the sending: all of it was taken, or a part, or nobody is there to take it.
-pub(crate) fn told_sends(agg: AggId, len: u32, taken: u64, more: Following, last: &Reply) -> Doing
+// So many bytes were taken of an aggregate that was offered whole: all, or the rest goes in pieces.
+fn taken_of(agg: AggId, count: u32, len: u32, taken: u64, more: Following) -> Doing
     requires { IsSmall (Sends agg len taken more) }
-    ensures told { result ≡ spec.told_sends agg len taken more last.now }
-    ensures small { IsSmall result }
+    ensures told { result ≡ told_part (Sends agg len taken more) (Count count) }
+    ensures going { IsGoing result }
 {
-    match last {
-        Reply::Count(count) => {
-            let from = *count;
-            if from < len {
-                let taken = taken + u64::from(from);
-                Doing::Cuts {
-                    agg,
-                    from,
-                    len,
-                    taken,
-                    more,
-                }
-            } else {
-                let taken = taken + u64::from(len);
-                Doing::Sent { agg, taken, more }
-            }
+    if count < len {
+        Doing::Cuts {
+            agg,
+            from: count,
+            len,
+            taken: taken + u64::from(count),
+            more,
         }
-        Reply::Refused(Refusal::BrokenPipe) => Doing::Drops { agg, more },
-        _ => Doing::Sends {
+    } else {
+        Doing::Sent {
             agg,
-            len,
-            taken,
+            taken: taken + u64::from(len),
             more,
-        },
+        }
     }
 }
 
-/// After the reply to the cutting of the next piece.
-pub(crate) fn told_cuts(
-    agg: AggId,
-    from: u32,
-    len: u32,
-    taken: u64,
-    more: Following,
-    last: &Reply,
-) -> Doing
-    requires { IsSmall (Cuts agg from len taken more) }
-    ensures told { result ≡ spec.told_cuts agg from len taken more last.now }
-    ensures small { IsSmall result }
+// So many bytes were taken of what was offered.
+fn counted(doing: Doing, count: u32) -> Doing
+    requires { IsGoing doing }
+    ensures told { result ≡ told_part doing (Count count) }
+    ensures going { IsGoing result }
 {
-    match last {
-        Reply::Agg(piece) => Doing::Offers {
+    match doing {
+        Doing::Sends {
             agg,
-            from,
-            len,
-            piece: *piece,
-            taken,
-            more,
-        },
-        _ => Doing::Cuts {
-            agg,
-            from,
             len,
             taken,
             more,
-        },
-    }
-}
-
-/// After the reply to the sending of a piece: what was taken of it is counted.
-pub(crate) fn told_offers(
-    agg: AggId,
-    from: u32,
-    len: u32,
-    piece: AggId,
-    taken: u64,
-    more: Following,
-    last: &Reply,
-) -> Doing
-    requires { IsSmall (Offers agg from len piece taken more) }
-    ensures told { result ≡ spec.told_offers agg from len piece taken more last.now }
-    ensures small { IsSmall result }
-{
-    match last {
-        Reply::Count(count) => {
-            let count = (*count).min(len.saturating_sub(from));
+        } => taken_of(agg, count, len, taken, more),
+        Doing::Offers {
+            agg,
+            from,
+            len,
+            piece,
+            taken,
+            more,
+        } => {
+            let count = count.min(len.saturating_sub(from));
             Doing::Swaps {
                 agg,
                 from: from + count,
@@ -194,42 +161,24 @@ pub(crate) fn told_offers(
                 more,
             }
         }
-        Reply::Refused(Refusal::BrokenPipe) => Doing::Breaks { piece, agg, more },
-        _ => Doing::Offers {
-            agg,
-            from,
-            len,
-            piece,
-            taken,
-            more,
-        },
+        _ => doing,
     }
 }
 
-/// After the reply to the dropping of a piece.
-pub(crate) fn told_swaps(
-    agg: AggId,
-    from: u32,
-    len: u32,
-    piece: AggId,
-    taken: u64,
-    more: Following,
-    last: &Reply,
-) -> Doing
-    requires { IsSmall (Swaps agg from len piece taken more) }
-    ensures told { result ≡ spec.told_swaps agg from len piece taken more last.now }
-    ensures small { IsSmall result }
+// The next piece was cut: it is to be offered.
+fn cut(doing: Doing, piece: AggId) -> Doing
+    requires { IsGoing doing }
+    ensures told { result ≡ told_part doing (Agg piece) }
+    ensures going { IsGoing result }
 {
-    match last {
-        Reply::Done if from < len => Doing::Cuts {
+    match doing {
+        Doing::Cuts {
             agg,
             from,
             len,
             taken,
             more,
-        },
-        Reply::Done => Doing::Sent { agg, taken, more },
-        _ => Doing::Swaps {
+        } => Doing::Offers {
             agg,
             from,
             len,
@@ -237,6 +186,73 @@ pub(crate) fn told_swaps(
             taken,
             more,
         },
+        _ => doing,
+    }
+}
+
+// A piece was dropped: the next one is to be cut, or all is sent, or nothing more is.
+fn dropped(doing: Doing) -> Doing
+    requires { IsGoing doing }
+    ensures told { result ≡ told_part doing Done }
+    ensures going { IsGoing result }
+{
+    match doing {
+        Doing::Swaps {
+            agg,
+            from,
+            len,
+            piece: _,
+            taken,
+            more,
+        } => {
+            if from < len {
+                Doing::Cuts {
+                    agg,
+                    from,
+                    len,
+                    taken,
+                    more,
+                }
+            } else {
+                Doing::Sent { agg, taken, more }
+            }
+        }
+        Doing::Breaks { agg, more, .. } => Doing::Drops { agg, more },
+        _ => doing,
+    }
+}
+
+// Nobody is there to take what was offered.
+fn broken_off(doing: Doing) -> Doing
+    requires { IsGoing doing }
+    ensures told { result ≡ told_part doing (Refused BrokenPipe) }
+    ensures going { IsGoing result }
+{
+    match doing {
+        Doing::Sends { agg, more, .. } => Doing::Drops { agg, more },
+        Doing::Offers {
+            agg,
+            piece,
+            more,
+            ..
+        } => Doing::Breaks { piece, agg, more },
+        _ => doing,
+    }
+}
+
+/// What a part of the response is after the reply to its call, unless it is sent or nobody takes it.
+/// Where the reply says nothing of it, it is as it was.
+pub(crate) fn told_part(doing: Doing, last: &Reply) -> Doing
+    requires { IsGoing doing }
+    ensures told { result ≡ told_part doing last.now }
+    ensures going { IsGoing result }
+{
+    match last {
+        Reply::Count(count) => counted(doing, *count),
+        Reply::Agg(piece) => cut(doing, *piece),
+        Reply::Done => dropped(doing),
+        Reply::Refused(Refusal::BrokenPipe) => broken_off(doing),
+        _ => doing,
     }
 }
 
@@ -254,10 +270,11 @@ fn keeps(asked: &Asked) -> bool
     }
 }
 
-// What follows where all of an aggregate was taken: the body, the next request, or the end.
-fn goes_on(asked: &Asked, taken: u64, more: Following) -> Doing
+/// What follows where all of an aggregate was taken: the body, the next request where the connection
+/// is kept, or the end.
+pub(crate) fn goes_on(keep: bool, taken: u64, more: Following) -> Doing
     requires { taken + size_of more ≤ 2 ^ 40 }
-    ensures goes { result ≡ spec.goes_on (answer asked.now) taken more }
+    ensures goes { (q : Answer) → keeps q ≡ keep → result ≡ spec.goes_on q taken more }
     ensures small { IsSmall result }
 {
     match more {
@@ -267,13 +284,7 @@ fn goes_on(asked: &Asked, taken: u64, more: Following) -> Doing
             taken,
             more: None,
         },
-        None => {
-            if keeps(asked) {
-                Doing::Rests
-            } else {
-                Doing::Closes
-            }
-        }
+        None => { if keep { Doing::Rests } else { Doing::Closes } }
     }
 }
 
@@ -290,19 +301,8 @@ pub(crate) fn told_sent(
     ensures small { IsSmall result }
 {
     match last {
-        Reply::Done => goes_on(asked, taken, more),
+        Reply::Done => goes_on(keeps(asked), taken, more),
         _ => Doing::Sent { agg, taken, more },
-    }
-}
-
-/// After the reply to the dropping of a piece that nobody takes any more.
-pub(crate) fn told_breaks(piece: AggId, agg: AggId, more: Following, last: &Reply) -> Doing
-    ensures told { result ≡ spec.told_breaks piece agg more last.now }
-    ensures small { IsSmall result }
-{
-    match last {
-        Reply::Done => Doing::Drops { agg, more },
-        _ => Doing::Breaks { piece, agg, more },
     }
 }
 

@@ -61,36 +61,6 @@ fn gathering(held: Following, frame: Option<AggId>, agg: AggId, len: u32) -> Ste
     }
 }
 
-// Some output was read.
-fn hearing(
-    broken: bool,
-    chunked: bool,
-    held: Following,
-    frame: Option<AggId>,
-    agg: AggId,
-    len: u32,
-) -> Step
-    requires { IsPiece held × (0 < len) }
-    ensures hearing { result ≡ spec.hearing broken chunked held frame agg len }
-    ensures small { IsSmallStep result }
-{
-    if broken {
-        Step::Spills { agg, frame }
-    } else if chunked {
-        gathering(held, frame, agg, len)
-    } else {
-        Step::Sending {
-            doing: Doing::Sends {
-                agg,
-                len,
-                taken: 0,
-                more: None,
-            },
-            frame,
-        }
-    }
-}
-
 // Output was read, or its end was seen.
 fn reading(
     broken: bool,
@@ -106,8 +76,20 @@ fn reading(
 {
     if len == 0 {
         Step::Ended { agg, held, frame }
+    } else if broken {
+        Step::Spills { agg, frame }
+    } else if chunked {
+        gathering(held, frame, agg, len)
     } else {
-        hearing(broken, chunked, held, frame, agg, len)
+        Step::Sending {
+            doing: Doing::Sends {
+                agg,
+                len,
+                taken: 0,
+                more: None,
+            },
+            frame,
+        }
     }
 }
 

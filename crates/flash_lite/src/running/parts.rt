@@ -14,10 +14,7 @@ ghost use Rattle.flash_lite.specs.Small.{IsSmall};
 use crate::answers::served_text;
 use crate::asking::{cut_call, join_call};
 use crate::conn::piece_end;
-use crate::sending::{
-    Following, told_breaks, told_cuts, told_drops, told_heads, told_joins, told_offers, told_sends,
-    told_swaps,
-};
+use crate::sending::{Following, goes_on, told_drops, told_heads, told_part};
 use flash_http::Request;
 use flash_laws::doing::{Content, Doing};
 use flash_laws::running::{Run, Running, Step};
@@ -35,48 +32,6 @@ pub(crate) fn broken(run: Run) -> Run
         worker: run.worker,
         from: run.from,
         broken: true,
-    }
-}
-
-// What a part of the response is after the reply to its call, unless it is sent or nobody takes it.
-#[tactic(auto, using(crate::proofs::Answering::Output::left_sends, crate::proofs::Answering::Output::left_cuts, crate::proofs::Answering::Output::left_offers, crate::proofs::Answering::Output::left_swaps, crate::proofs::Answering::Output::left_breaks))]
-fn told_part(doing: Doing, last: &Reply) -> Doing
-    requires { IsGoing doing }
-    ensures told { result ≡ spec.told_part doing last.now }
-    ensures going { IsGoing result }
-{
-    match doing {
-        Doing::Sends {
-            agg,
-            len,
-            taken,
-            more,
-        } => told_sends(agg, len, taken, more, last),
-        Doing::Cuts {
-            agg,
-            from,
-            len,
-            taken,
-            more,
-        } => told_cuts(agg, from, len, taken, more, last),
-        Doing::Offers {
-            agg,
-            from,
-            len,
-            piece,
-            taken,
-            more,
-        } => told_offers(agg, from, len, piece, taken, more, last),
-        Doing::Swaps {
-            agg,
-            from,
-            len,
-            piece,
-            taken,
-            more,
-        } => told_swaps(agg, from, len, piece, taken, more, last),
-        Doing::Breaks { piece, agg, more } => told_breaks(piece, agg, more, last),
-        _ => doing,
     }
 }
 
@@ -119,21 +74,7 @@ fn told_sent(request: &Request, agg: AggId, taken: u64, more: Following, last: &
     ensures small { IsSmall result }
 {
     match last {
-        Reply::Done => match more {
-            Some((agg, len)) => Doing::Sends {
-                agg,
-                len,
-                taken,
-                more: None,
-            },
-            None => {
-                if request.keep {
-                    Doing::Rests
-                } else {
-                    Doing::Closes
-                }
-            }
-        },
+        Reply::Done => goes_on(request.keep, taken, more),
         _ => Doing::Sent { agg, taken, more },
     }
 }
@@ -152,45 +93,9 @@ pub(crate) fn told_left(
 {
     match doing {
         Doing::Heads { content } => told_heads(content, last, parts),
-        Doing::Joins {
-            head,
-            size,
-            body,
-            len,
-        } => told_joins(head, size, body, len, last),
-        Doing::Sends {
-            agg,
-            len,
-            taken,
-            more,
-        } => told_sends(agg, len, taken, more, last),
-        Doing::Cuts {
-            agg,
-            from,
-            len,
-            taken,
-            more,
-        } => told_cuts(agg, from, len, taken, more, last),
-        Doing::Offers {
-            agg,
-            from,
-            len,
-            piece,
-            taken,
-            more,
-        } => told_offers(agg, from, len, piece, taken, more, last),
-        Doing::Swaps {
-            agg,
-            from,
-            len,
-            piece,
-            taken,
-            more,
-        } => told_swaps(agg, from, len, piece, taken, more, last),
         Doing::Sent { agg, taken, more } => told_sent(request, agg, taken, more, last),
-        Doing::Breaks { piece, agg, more } => told_breaks(piece, agg, more, last),
         Doing::Drops { agg, more } => told_drops(agg, more, last),
-        _ => doing,
+        _ => told_part(doing, last),
     }
 }
 

@@ -1,7 +1,7 @@
 use Rattle.std.proofs.Common.{◌∙◌, ap, sym, true, false}
 use Rattle.flash_laws.specs.Rounds.{next_in}
 use Rattle.flash_lite.proofs.Order.{ascend, next_is, next_some}
-use Rattle.flash_lite.proofs.held.Clients.next.Goals as goal
+use Rattle.flash_lite.proofs.held.Clients.seek.Goals as goal
 
 pub first_from-requires : goal.first_from-requires
 first_from-requires c = ascend true c.self.inside.places.items c.as_slice.result.now (c.as_slice.ensures.value ∙ c.self.invariant.1.held_is)
