@@ -25,7 +25,7 @@ use Rattle.flash_laws.specs.Answers.{keeps}
 use Rattle.flash_laws.specs.Client.{conn_wants}
 use Rattle.flash_laws.specs.Conn.{Following, Conn, is_head_only, most_read, piece_end, count_of, wants, sends_of, settled, following, headed, told_rests, told}
 use Rattle.flash_laws.specs.declared.doing.Learnt.{Learnt}
-use Rattle.flash_laws.specs.declared.doing.Learnt.TheVariants.{File, Length, Fails, Text as TextOf}
+use Rattle.flash_laws.specs.declared.doing.Learnt.TheVariants.{File, Length, Text as TextOf}
 use Rattle.flash_laws.specs.declared.doing.Content.{Content}
 use Rattle.flash_laws.specs.declared.doing.Doing.{Doing}
 use Rattle.flash_laws.specs.declared.doing.Doing.TheVariants.{Rests, Got, Opens, Reads as Reading, Shuts, Picks, Spares, Heads, Joins, Sends, Cuts, Offers, Swaps, Sent, Breaks, Drops, Closes, Over}
@@ -122,23 +122,7 @@ next-due m fd g a kept q d due has is = absurd (cc (is))
 pub script-writes : (fd g a : ℕ) (kept : List ℕ) (q : Answer) (d : Doing) (b : Bool) → conn_wants b fd (at kept q d) ≡ call.IolWrite g a → wants fd (at kept q d) ≡ call.IolWrite g a
 script-writes fd g a kept q d false is = is
 script-writes fd g a kept q (Reading f) true is = absurd (cc (is))
-script-writes fd g a kept q Rests true is = is
-script-writes fd g a kept q (Got b) true is = is
-script-writes fd g a kept q Opens true is = is
-script-writes fd g a kept q (Shuts f k) true is = is
-script-writes fd g a kept q (Picks b first last len) true is = is
-script-writes fd g a kept q (Spares b k) true is = is
-script-writes fd g a kept q (Heads k) true is = is
-script-writes fd g a kept q (Joins b size body len) true is = is
-script-writes fd g a kept q (Sends b len taken more) true is = is
-script-writes fd g a kept q (Cuts b from len taken more) true is = is
-script-writes fd g a kept q (Offers b from len piece taken more) true is = is
-script-writes fd g a kept q (Swaps b from len piece taken more) true is = is
-script-writes fd g a kept q (Sent b taken more) true is = is
-script-writes fd g a kept q (Breaks piece b more) true is = is
-script-writes fd g a kept q (Drops b more) true is = is
-script-writes fd g a kept q Closes true is = is
-script-writes fd g a kept q Over true is = is
+script-writes fd g a kept q d true is = is
 
 -- ---- once all is read nothing is opened or read any more
 
@@ -218,15 +202,10 @@ settled-unread f (serve w) (File a len) was = by (selected w.range len)
     by Whole = refl
     by (Bytes first last) = refl
     by Unsatisfiable = refl
-settled-unread f (refuse status head_only close) (File a len) was = refl
-settled-unread f (serve w) (Length len) was = refl
-settled-unread f (refuse status head_only close) (Length len) was = refl
-settled-unread f (serve w) (Fails status) was = refl
-settled-unread f (refuse status head_only close) (Fails status_was) was = refl
 settled-unread f (serve w) (TextOf a true) was = absurd (cc (was))
 settled-unread f (refuse status head_only close) (TextOf a true) was = absurd (cc (was))
-settled-unread f (serve w) (TextOf a false) was = refl
-settled-unread f (refuse status head_only close) (TextOf a false) was = refl
+settled-unread f (refuse status head_only close) k was = refl
+settled-unread f (serve w) k was = refl
 
 settled-read : (q : Answer) (k : Learnt) → is_opening (settled q k) ≡ false
 settled-read (serve w) (File a len) = by (selected w.range len)
@@ -236,38 +215,27 @@ settled-read (serve w) (File a len) = by (selected w.range len)
     by (Bytes first last) = refl
     by Unsatisfiable = refl
 settled-read (refuse status head_only close) (File a len) = refl
-settled-read (serve w) (Length len) = refl
-settled-read (refuse status head_only close) (Length len) = refl
-settled-read (serve w) (Fails status) = refl
-settled-read (refuse status head_only close) (Fails was) = refl
-settled-read (serve w) (TextOf a runs) = refl
-settled-read (refuse status head_only close) (TextOf a runs) = refl
+settled-read (refuse status head_only close) k = refl
+settled-read (serve w) k = refl
 
 -- no script's text is read by a call for a file
 pub unread-told : (kept : List ℕ) (q : Answer) (d : Doing) (r : Reply) (heard : List ℕ) → is_read d ≡ false → is_read (told (at kept q d) r heard).doing ≡ false
 unread-told kept q Rests (reply.Agg n) [] was = refl
 unread-told kept q Rests (reply.Agg n) (b ∷ heard) was = refl
-unread-told kept q Rests r heard was = refl
 unread-told kept q (Got a) reply.Done heard was = refl
-unread-told kept q (Got a) r heard was = refl
 unread-told kept q Opens (reply.Fd f) heard was = refl
 unread-told kept q Opens (reply.Refused no.WouldBlock) heard was = refl
 unread-told kept q Opens (reply.Refused x) heard was = refl
-unread-told kept q Opens r heard was = refl
 unread-told kept q (Reading f) (reply.Agg n) heard was = refl
 unread-told kept q (Reading f) (reply.Count n) heard was = refl
 unread-told kept q (Reading f) (reply.Refused no.WouldBlock) heard was = refl
 unread-told kept q (Reading f) (reply.Refused x) heard was = refl
-unread-told kept q (Reading f) r heard was = refl
 unread-told kept q (Shuts f k) reply.Done heard was = settled-unread f q k was
 unread-told kept q (Shuts f k) r heard was = was
 unread-told kept q (Picks a first last len) (reply.Agg n) heard was = refl
-unread-told kept q (Picks a first last len) r heard was = refl
 unread-told kept q (Spares a k) reply.Done heard was = refl
 unread-told kept q (Spares a k) r heard was = was
 unread-told kept q Closes reply.Done heard was = refl
-unread-told kept q Closes r heard was = refl
-unread-told kept q Over r heard was = refl
 unread-told kept q (Heads k) r heard was = sending-stays (λ e. is_read e) refl (λ a. refl) refl refl (λ k. refl) (λ a size body len. refl) (λ a len taken more. refl) (λ a from len taken more. refl) (λ a from len piece taken more. refl) (λ a from len piece taken more. refl) (λ a taken more. refl) (λ piece a more. refl) (λ a more. refl) kept q (Heads k) r heard refl
 unread-told kept q (Joins a size body len) r heard was = sending-stays (λ e. is_read e) refl (λ a. refl) refl refl (λ k. refl) (λ a size body len. refl) (λ a len taken more. refl) (λ a from len taken more. refl) (λ a from len piece taken more. refl) (λ a from len piece taken more. refl) (λ a taken more. refl) (λ piece a more. refl) (λ a more. refl) kept q (Joins a size body len) r heard refl
 unread-told kept q (Sends a len taken more) r heard was = sending-stays (λ e. is_read e) refl (λ a. refl) refl refl (λ k. refl) (λ a size body len. refl) (λ a len taken more. refl) (λ a from len taken more. refl) (λ a from len piece taken more. refl) (λ a from len piece taken more. refl) (λ a taken more. refl) (λ piece a more. refl) (λ a more. refl) kept q (Sends a len taken more) r heard refl
@@ -277,25 +245,19 @@ unread-told kept q (Swaps a from len piece taken more) r heard was = sending-sta
 unread-told kept q (Sent a taken more) r heard was = sending-stays (λ e. is_read e) refl (λ a. refl) refl refl (λ k. refl) (λ a size body len. refl) (λ a len taken more. refl) (λ a from len taken more. refl) (λ a from len piece taken more. refl) (λ a from len piece taken more. refl) (λ a taken more. refl) (λ piece a more. refl) (λ a more. refl) kept q (Sent a taken more) r heard refl
 unread-told kept q (Breaks piece a more) r heard was = sending-stays (λ e. is_read e) refl (λ a. refl) refl refl (λ k. refl) (λ a size body len. refl) (λ a len taken more. refl) (λ a from len taken more. refl) (λ a from len piece taken more. refl) (λ a from len piece taken more. refl) (λ a taken more. refl) (λ piece a more. refl) (λ a more. refl) kept q (Breaks piece a more) r heard refl
 unread-told kept q (Drops a more) r heard was = sending-stays (λ e. is_read e) refl (λ a. refl) refl refl (λ k. refl) (λ a size body len. refl) (λ a len taken more. refl) (λ a from len taken more. refl) (λ a from len piece taken more. refl) (λ a from len piece taken more. refl) (λ a taken more. refl) (λ piece a more. refl) (λ a more. refl) kept q (Drops a more) r heard refl
+unread-told kept q d r heard was = refl
 
 -- and what is read is not read again
 pub read-told : (kept : List ℕ) (q : Answer) (d : Doing) (r : Reply) (heard : List ℕ) → is_opening d ≡ false → is_opening (told (at kept q d) r heard).doing ≡ false
 read-told kept q Rests (reply.Agg n) [] was = refl
 read-told kept q Rests (reply.Agg n) (b ∷ heard) was = refl
-read-told kept q Rests r heard was = refl
 read-told kept q (Got a) reply.Done heard was = refl
-read-told kept q (Got a) r heard was = refl
 read-told kept q Opens r heard was = absurd (cc (was))
 read-told kept q (Reading f) r heard was = absurd (cc (was))
 read-told kept q (Shuts f k) reply.Done heard was = settled-read q k
-read-told kept q (Shuts f k) r heard was = refl
 read-told kept q (Picks a first last len) (reply.Agg n) heard was = refl
-read-told kept q (Picks a first last len) r heard was = refl
 read-told kept q (Spares a k) reply.Done heard was = refl
-read-told kept q (Spares a k) r heard was = refl
 read-told kept q Closes reply.Done heard was = refl
-read-told kept q Closes r heard was = refl
-read-told kept q Over r heard was = refl
 read-told kept q (Heads k) r heard was = sending-stays (λ e. is_opening e) refl (λ a. refl) refl refl (λ k. refl) (λ a size body len. refl) (λ a len taken more. refl) (λ a from len taken more. refl) (λ a from len piece taken more. refl) (λ a from len piece taken more. refl) (λ a taken more. refl) (λ piece a more. refl) (λ a more. refl) kept q (Heads k) r heard refl
 read-told kept q (Joins a size body len) r heard was = sending-stays (λ e. is_opening e) refl (λ a. refl) refl refl (λ k. refl) (λ a size body len. refl) (λ a len taken more. refl) (λ a from len taken more. refl) (λ a from len piece taken more. refl) (λ a from len piece taken more. refl) (λ a taken more. refl) (λ piece a more. refl) (λ a more. refl) kept q (Joins a size body len) r heard refl
 read-told kept q (Sends a len taken more) r heard was = sending-stays (λ e. is_opening e) refl (λ a. refl) refl refl (λ k. refl) (λ a size body len. refl) (λ a len taken more. refl) (λ a from len taken more. refl) (λ a from len piece taken more. refl) (λ a from len piece taken more. refl) (λ a taken more. refl) (λ piece a more. refl) (λ a more. refl) kept q (Sends a len taken more) r heard refl
@@ -305,26 +267,10 @@ read-told kept q (Swaps a from len piece taken more) r heard was = sending-stays
 read-told kept q (Sent a taken more) r heard was = sending-stays (λ e. is_opening e) refl (λ a. refl) refl refl (λ k. refl) (λ a size body len. refl) (λ a len taken more. refl) (λ a from len taken more. refl) (λ a from len piece taken more. refl) (λ a from len piece taken more. refl) (λ a taken more. refl) (λ piece a more. refl) (λ a more. refl) kept q (Sent a taken more) r heard refl
 read-told kept q (Breaks piece a more) r heard was = sending-stays (λ e. is_opening e) refl (λ a. refl) refl refl (λ k. refl) (λ a size body len. refl) (λ a len taken more. refl) (λ a from len taken more. refl) (λ a from len piece taken more. refl) (λ a from len piece taken more. refl) (λ a taken more. refl) (λ piece a more. refl) (λ a more. refl) kept q (Breaks piece a more) r heard refl
 read-told kept q (Drops a more) r heard was = sending-stays (λ e. is_opening e) refl (λ a. refl) refl refl (λ k. refl) (λ a size body len. refl) (λ a len taken more. refl) (λ a from len taken more. refl) (λ a from len piece taken more. refl) (λ a from len piece taken more. refl) (λ a taken more. refl) (λ piece a more. refl) (λ a more. refl) kept q (Drops a more) r heard refl
+read-told kept q d r heard was = refl
 
 -- the request stays the same
 pub asks-told : (kept : List ℕ) (q : Answer) (d : Doing) (r : Reply) (heard : List ℕ) → (told (at kept q d) r heard).q ≡ q
 asks-told kept q Rests (reply.Agg n) [] = refl
 asks-told kept q Rests (reply.Agg n) (b ∷ heard) = refl
-asks-told kept q Rests r heard = refl
-asks-told kept q (Got a) r heard = refl
-asks-told kept q Opens r heard = refl
-asks-told kept q (Reading f) r heard = refl
-asks-told kept q (Shuts f k) r heard = refl
-asks-told kept q (Picks a first last len) r heard = refl
-asks-told kept q (Spares a k) r heard = refl
-asks-told kept q (Heads k) r heard = refl
-asks-told kept q (Joins a size body len) r heard = refl
-asks-told kept q (Sends a len taken more) r heard = refl
-asks-told kept q (Cuts a from len taken more) r heard = refl
-asks-told kept q (Offers a from len piece taken more) r heard = refl
-asks-told kept q (Swaps a from len piece taken more) r heard = refl
-asks-told kept q (Sent a taken more) r heard = refl
-asks-told kept q (Breaks piece a more) r heard = refl
-asks-told kept q (Drops a more) r heard = refl
-asks-told kept q Closes r heard = refl
-asks-told kept q Over r heard = refl
+asks-told kept q d r heard = refl

@@ -29,7 +29,7 @@ use Rattle.flash_laws.specs.Conn.{Following, Conn, has_followed, learnt_agg, con
 use Rattle.flash_laws.specs.declared.doing.Learnt.{Learnt}
 use Rattle.flash_laws.specs.declared.doing.Learnt.TheVariants.{File, Length, Fails, Text as TextOf}
 use Rattle.flash_laws.specs.declared.doing.Content.{Content}
-use Rattle.flash_laws.specs.declared.doing.Content.TheVariants.{Body, Bare, Error, Script}
+use Rattle.flash_laws.specs.declared.doing.Content.TheVariants.{Body}
 use Rattle.flash_laws.specs.declared.doing.Doing.{Doing}
 use Rattle.flash_laws.specs.declared.doing.Doing.TheVariants.{Rests, Got, Opens, Reads as Reading, Shuts, Picks, Spares, Heads, Joins, Sends, Cuts, Offers, Swaps, Sent, Breaks, Drops, Closes, Over}
 use Rattle.flash_laws.specs.Fits.{Has}
@@ -72,9 +72,7 @@ settled-uses (refuse status head_only close) (TextOf b runs) a u = first_of (b =
 
 following-uses : (k : Content) (a : ℕ) → content_agg k a ≡ true → has_followed (following k) a ≡ true
 following-uses (Body b size len) a u = u
-following-uses (Bare len) a u = absurd (cc (u))
-following-uses (Error status) a u = absurd (cc (u))
-following-uses Script a u = absurd (cc (u))
+following-uses k a u = absurd (cc (u))
 
 headed-more : (n size : ℕ) (more : Following) (a : ℕ) → has_followed more a ≡ true → uses_agg (headed n size more) a ≡ true
 headed-more n size None a u = absurd (cc (u))
@@ -115,11 +113,8 @@ swaps-more b from len taken more a false unused = unused
 
 pub leaves-told : (fd : ℕ) (kept : List ℕ) (q : Answer) (d : Doing) (r : Reply) (heard : List ℕ) (a : ℕ)
     → Leaves fd (at kept q d) r (told (at kept q d) r heard).doing a
-leaves-told fd kept q Rests r heard a u unused = absurd (cc (u))
 leaves-told fd kept q (Got b) reply.Done heard a u unused = (u, refl)
 leaves-told fd kept q (Got b) r heard a u unused = absurd (clash (b == a) u unused)
-leaves-told fd kept q Opens r heard a u unused = absurd (cc (u))
-leaves-told fd kept q (Reading f) r heard a u unused = absurd (cc (u))
 leaves-told fd kept q (Shuts f k) reply.Done heard a u unused = absurd (clash (uses_agg (settled q k) a) (settled-uses q k a u) unused)
 leaves-told fd kept q (Shuts f k) r heard a u unused = absurd (clash (learnt_agg k a) u unused)
 leaves-told fd kept q (Picks b first last len) (reply.Agg n) heard a u unused = absurd (clash ((b == a) || (n == a)) (first_of (b == a) (n == a) u) unused)
@@ -146,8 +141,7 @@ leaves-told fd kept q (Breaks piece b more) reply.Done heard a u unused = (first
 leaves-told fd kept q (Breaks piece b more) r heard a u unused = absurd (clash ((piece == a) || ((b == a) || has_followed more a)) u unused)
 leaves-told fd kept q (Drops b more) reply.Done heard a u unused = (first_by (b == a) (has_followed more a) u (drops-more more a unused), refl)
 leaves-told fd kept q (Drops b more) r heard a u unused = absurd (clash ((b == a) || has_followed more a) u unused)
-leaves-told fd kept q Closes r heard a u unused = absurd (cc (u))
-leaves-told fd kept q Over r heard a u unused = absurd (cc (u))
+leaves-told fd kept q d r heard a u unused = absurd (cc (u))
 
 -- ---- the descriptor of a file that is used no more is closed
 

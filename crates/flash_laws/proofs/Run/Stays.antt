@@ -24,7 +24,7 @@ use Rattle.flash_laws.specs.declared.doing.Doing.TheVariants as doing
 use Rattle.flash_laws.specs.declared.running.TheConstants.{CHUNK_BYTES}
 use Rattle.flash_laws.specs.declared.running.Run.{Run}
 use Rattle.flash_laws.specs.declared.running.Step.{Step}
-use Rattle.flash_laws.specs.declared.running.Step.TheVariants.{Gives, Makes, Hands, Lets, Heads, Sending, Hears, Spills, Gathers, Frames, Wraps, Trims, Ended, Unholds, Stops, Unframes, Lasts, WrapsLast, TrimsLast, Unwraps, Returns, Lapses, Fails}
+use Rattle.flash_laws.specs.declared.running.Step.TheVariants.{Gives, Hands, Lets, Heads, Sending, Hears, Spills, Gathers, Frames, Wraps, Trims, Ended, Unholds, Stops, Unframes, Lasts, WrapsLast, TrimsLast, Unwraps, Returns, Lapses}
 use Rattle.flash_laws.specs.declared.running.Running.{Running}
 use Rattle.flash_laws.specs.declared.running.Running.TheVariants.{Awaits, Runs, Leaves, Closes}
 use Rattle.flash_laws.proofs.Conn.Answering.{some-inj}
@@ -157,10 +157,8 @@ module _ (m n : State) where
   step-on : (job : ℕ → List ℕ) (w : Wanted) (o : Progress) (run : Run) (step : Step) → LendsOn (λ a. step_agg step a) → OpensOn (λ g. uses_fd (Runs run step) g)
       → HasStep job m w o run step → HasStep job n w o run step
   step-on job w o run (Gives write) lends opens has = (pipe-on run (Gives write) write refl (self write) opens has.0, has.1)
-  step-on job w o run (Makes f) lends opens has = (reads run (Makes f) refl opens has.0, has.1)
   step-on job w o run (Hands j f) lends opens has = (reads run (Hands j f) refl opens has.0, lends j (job f) (self j) has.1, has.2)
   step-on job w o run (Lets j) lends opens has = (reads run (Lets j) refl opens has.0, lent-if (λ a. j == a) j (self j) lends has.1, has.2)
-  step-on job w o run Heads lends opens has = (reads run Heads refl opens has.0, has.1)
   step-on job w o run (Sending d frame) lends opens has = has-part-on w o run d frame (reads run (Sending d frame) refl opens) lends has
   step-on job w o run (Hears held frame) lends opens has = has-heard-on w o run held frame (reads run (Hears held frame) refl opens) lends has
   step-on job w o run (Spills a frame) lends opens has = (
@@ -238,7 +236,7 @@ module _ (m n : State) where
   )
   step-on job w o run (Returns write) lends opens has = (pipe-on run (Returns write) write refl (self write) opens has.0, has.1)
   step-on job w o run (Lapses j) lends opens has = (reads run (Lapses j) refl opens has.0, lent-if (λ a. j == a) j (self j) lends has.1, has.2)
-  step-on job w o run Fails lends opens has = (reads run Fails refl opens has.0, has.1)
+  step-on job w o run step lends opens has = (reads run step refl opens has.0, has.1)
 
   sending-on : (due : List ℕ) (d : Doing) → LendsOn (λ a. conn.uses_agg d a) → IsSending m due d → IsSending n due d
   sending-on due (doing.Heads (Error status)) lends has = tt

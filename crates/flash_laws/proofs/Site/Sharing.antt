@@ -20,9 +20,9 @@ use Rattle.flash_laws.specs.Running.{is_over, told_awaits}
 use Rattle.flash_laws.specs.Serves.{heard_of, filed_in, Picks}
 use Rattle.flash_laws.specs.Sharing.{FlightGoes, RunsForAnother, WorkersAreShared}
 use Rattle.flash_laws.specs.Tied.{with_at}
-use Rattle.flash_laws.specs.declared.doing.Content.TheVariants.{Body, Bare, Error, Script}
+use Rattle.flash_laws.specs.declared.doing.Content.TheVariants.{Script}
 use Rattle.flash_laws.specs.declared.doing.Doing.{Doing}
-use Rattle.flash_laws.specs.declared.doing.Doing.TheVariants.{Rests, Got, Opens, Reads as Reading, Shuts, Picks as Picking, Spares, Heads, Joins, Sends, Cuts, Offers, Swaps, Sent, Breaks, Drops, Closes, Over}
+use Rattle.flash_laws.specs.declared.doing.Doing.TheVariants.{Spares}
 use Rattle.flash_laws.specs.declared.doing.Flight.{Flight}
 use Rattle.flash_laws.specs.declared.doing.Flight.TheVariants.{Nothing, Accepting, At}
 use Rattle.flash_laws.specs.declared.running.Running.{Running}
@@ -99,32 +99,13 @@ on-run worker w c script Ends r heard k u = absurd (cc (u))
 -- one for which no script runs has none then
 on-script : (kept : List ℕ) (q : Answer) (d : Doing) (script : List ℕ) (r : Reply) (heard : List ℕ) (k : ℕ)
     → is_run_by (file_told true (of (record { kept = kept; q = q; doing = d }) None script) r heard) k ≡ true → ⊥
-on-script kept q Rests script r heard k u = cc (u)
-on-script kept q (Got a) script r heard k u = cc (u)
-on-script kept q Opens script r heard k u = cc (u)
-on-script kept q (Reading f) script r heard k u = cc (u)
-on-script kept q (Shuts f j) script r heard k u = cc (u)
-on-script kept q (Picking a first last len) script r heard k u = cc (u)
 on-script kept q (Spares a Script) script r heard k u = by (is_head_only q) r u
   where
     by : (h : Bool) (r : Reply) → is_run_by (of (record { kept = kept; q = q; doing = Spares a Script }) (told_spares h r) script) k ≡ true → ⊥
     by true r u = cc (u)
     by false reply.Done u = cc (u)
     by false r u = cc (u)
-on-script kept q (Spares a (Body b size len)) script r heard k u = cc (u)
-on-script kept q (Spares a (Bare len)) script r heard k u = cc (u)
-on-script kept q (Spares a (Error status)) script r heard k u = cc (u)
-on-script kept q (Heads j) script r heard k u = cc (u)
-on-script kept q (Joins a size body len) script r heard k u = cc (u)
-on-script kept q (Sends a len taken more) script r heard k u = cc (u)
-on-script kept q (Cuts a from len taken more) script r heard k u = cc (u)
-on-script kept q (Offers a from len piece taken more) script r heard k u = cc (u)
-on-script kept q (Swaps a from len piece taken more) script r heard k u = cc (u)
-on-script kept q (Sent a taken more) script r heard k u = cc (u)
-on-script kept q (Breaks piece a more) script r heard k u = cc (u)
-on-script kept q (Drops a more) script r heard k u = cc (u)
-on-script kept q Closes script r heard k u = cc (u)
-on-script kept q Over script r heard k u = cc (u)
+on-script kept q d script r heard k u = cc (u)
 
 pub on-told : (scripts : Bool) (worker : ℕ) (c : Conn) (run : Option Running) (script : List ℕ) (r : Reply) (heard : List ℕ) (k : ℕ)
     → is_run_by (told scripts worker (of c run script) r heard) k ≡ true → Had worker (of c run script) k
@@ -274,11 +255,8 @@ runs-one clients k busy = by (list_any (λ o. runs_at k o) clients) refl busy
     by false is busy = absurd (cc (busy))
 
 waits-none : (c : Conn) (run : Option Running) (script : List ℕ) (k : ℕ) → awaits (of c run script) ≡ true → is_run_by (of c run script) k ≡ false
-waits-none c None script k waits = refl
-waits-none c (Some Awaits) script k waits = refl
 waits-none c (Some (Runs run s)) script k waits = absurd (cc (waits))
-waits-none c (Some (Leaves d)) script k waits = refl
-waits-none c (Some Ends) script k waits = refl
+waits-none c run script k waits = refl
 
 another : (clients : List (Option Client)) (fd k : ℕ) (x : Client) → in_place clients fd ≡ Some x → awaits x ≡ true → is_free clients k ≡ false → RunsForAnother clients fd k
 another clients fd k x there waits busy =
@@ -308,20 +286,14 @@ waits workers clients fd x there passed =
     (both.1, λ k lt. another clients fd k x there both.1 (all-busy workers clients k both.0 lt))
 
 going : (free : Bool) (k : ℕ) (c : Conn) (run : Option Running) (script : List ℕ) → is_run_by (of c run script) k ≡ true → may_go free (of c run script) ≡ true
-going free k c None script runs = absurd (cc (runs))
-going free k c (Some Awaits) script runs = absurd (cc (runs))
 going true k c (Some (Runs run s)) script runs = refl
 going false k c (Some (Runs run s)) script runs = refl
-going free k c (Some (Leaves d)) script runs = absurd (cc (runs))
-going free k c (Some Ends) script runs = absurd (cc (runs))
+going free k c run script runs = absurd (cc (runs))
 
 waiting : (c : Conn) (run : Option Running) (script : List ℕ) → awaits (of c run script) ≡ true
     → ((a : ℕ) → uses_agg (of c run script) a ≡ false) × ((g : ℕ) → uses_fd (of c run script) g ≡ false)
-waiting c None script waits = absurd (cc (waits))
 waiting c (Some Awaits) script waits = (λ a. refl, λ g. refl)
-waiting c (Some (Runs run s)) script waits = absurd (cc (waits))
-waiting c (Some (Leaves d)) script waits = absurd (cc (waits))
-waiting c (Some Ends) script waits = absurd (cc (waits))
+waiting c run script waits = absurd (cc (waits))
 
 pub workers_shared : WorkersAreShared
 workers_shared = record {

@@ -27,9 +27,9 @@ use Rattle.flash_laws.specs.Shelf.{Shelf}
 use Rattle.flash_laws.specs.Site.{server, KeepsSite}
 use Rattle.flash_laws.specs.Stages.{HasWorkerAt}
 use Rattle.flash_laws.specs.declared.doing.Doing.{Doing}
-use Rattle.flash_laws.specs.declared.doing.Doing.TheVariants.{Rests, Got, Opens, Reads as Reading, Shuts, Picks, Spares, Heads, Joins, Sends, Cuts, Offers, Swaps, Sent, Breaks, Drops, Closes, Over}
+use Rattle.flash_laws.specs.declared.doing.Doing.TheVariants.{Opens, Reads as Reading, Shuts, Spares}
 use Rattle.flash_laws.specs.declared.running.Running.{Running}
-use Rattle.flash_laws.specs.declared.running.Running.TheVariants.{Awaits, Runs, Leaves as Left, Closes as Ends}
+use Rattle.flash_laws.specs.declared.running.Running.TheVariants.{Runs}
 use Rattle.flash_laws.proofs.Conn.Lent.{lent-stays, has-stays, file-same, content-same}
 use Rattle.flash_laws.proofs.Lists.{self, later_of}
 use Rattle.flash_laws.proofs.World.AllLaws.{AllLaws}
@@ -79,23 +79,9 @@ finds_on shelf m n q script (Reading f) opens site may h = record {
   short = subst (λ (l : List ℕ). length l ≤ most_read) (sym (content-same m n h.number site.slots)) h.short;
   found = h.found ∙ ap (λ (l : List ℕ). Found l) (sym (content-same m n h.number site.slots));
 }
-finds_on shelf m n q script Rests opens site may h = tt
-finds_on shelf m n q script (Got a) opens site may h = tt
-finds_on shelf m n q script Opens opens site may h = tt
 finds_on shelf m n q script (Shuts f k) opens site may h = h
-finds_on shelf m n q script (Picks a first last len) opens site may h = tt
 finds_on shelf m n q script (Spares a k) opens site may h = h
-finds_on shelf m n q script (Heads k) opens site may h = tt
-finds_on shelf m n q script (Joins a size body len) opens site may h = tt
-finds_on shelf m n q script (Sends a len taken more) opens site may h = tt
-finds_on shelf m n q script (Cuts a from len taken more) opens site may h = tt
-finds_on shelf m n q script (Offers a from len piece taken more) opens site may h = tt
-finds_on shelf m n q script (Swaps a from len piece taken more) opens site may h = tt
-finds_on shelf m n q script (Sent a taken more) opens site may h = tt
-finds_on shelf m n q script (Breaks piece a more) opens site may h = tt
-finds_on shelf m n q script (Drops a more) opens site may h = tt
-finds_on shelf m n q script Closes opens site may h = tt
-finds_on shelf m n q script Over opens site may h = tt
+finds_on shelf m n q script d opens site may h = tt
 
 -- ---- a client
 
@@ -127,7 +113,6 @@ module _ (shelf : Shelf) (crew : Crew) (laws : AllLaws crew) (m n : State) (e : 
 
   desk_on : (x : Conn) (y : Running) (script : List ℕ) (job : ℕ → List ℕ) (w : Wanted) (output : List ℕ) (o : Progress) → LeavesOne crew m n e fd (of x (Some y) script)
       → HasRun job m w o y → HasWorkerAt crew m seats output o y → HasWorkerAt crew n seats output o y
-  desk_on x Awaits script job w output o left has h = tt
   desk_on x (Runs run s) script job w output o left has h =
       let sits = desks.by run.worker h.seat h.sits in
       let reads : is_reading s ≡ true → ends_of run s run.from ≡ true = λ is. both-or (is_reading s) (run.from == run.from) (step_fd s run.from) is (self run.from) in
@@ -141,8 +126,7 @@ module _ (shelf : Shelf) (crew : Crew) (laws : AllLaws crew) (m n : State) (e : 
             (λ is. left.fds run.from (later_of (job_pipe run.worker == run.from) (ends_of run s run.from) (reads is)))
             (λ is going p opens apart. left.pipe run s p refl opens (reads is) apart going) has.1 h.stage;
       }
-  desk_on x (Left d) script job w output o left has h = tt
-  desk_on x Ends script job w output o left has h = tt
+  desk_on x y script job w output o left has h = tt
 
   run_on : (x : Conn) (y : Running) (script : List ℕ) → LeavesOne crew m n e fd (of x (Some y) script) → FitsRun shelf crew m came sent fd c (of x (Some y) script) y seats
       → FitsRun shelf crew n (came ++ more) after fd c (of x (Some y) script) y seats

@@ -184,13 +184,11 @@ over-fds worker w (Runs run s) r heard g ongoing over u = step-fd w run g s r he
 
 run-fds : (worker : ℕ) (w : Wanted) (y : Running) (r : Reply) (heard : List ℕ) (g : ℕ) → has_end (running.told worker w y r heard) g ≡ true → NewFd (Some y) r g (has_end y g)
 run-fds worker w Awaits (reply.Fds from write) heard g u = inr (inr (refl, u))
-run-fds worker w Awaits r heard g u = absurd (cc (u))
 run-fds worker w (Runs run s) r heard g u = elim (run-ends worker w (Runs run s) r heard g u) [ inl had ↦ inl had | inr new ↦ by r u new ]
   where
     by : (r : Reply) → has_end (running.told_step w run s r heard) g ≡ true → is_fds r g ≡ true → NewFd (Some (Runs run s)) r g (has_end (Runs run s) g)
     by r u new = inl (step-has w run g s r heard u)
-run-fds worker w (Leaves d) r heard g u = absurd (cc (u))
-run-fds worker w Ends r heard g u = absurd (cc (u))
+run-fds worker w y r heard g u = absurd (cc (u))
 
 -- the run of a client that runs is not over
 pub client-fds : (scripts : Bool) (worker : ℕ) (c : Conn) (run : Option Running) (script : List ℕ) (r : Reply) (heard : List ℕ) (g : ℕ)
@@ -237,10 +235,7 @@ pub fd-new : (laws : TheLaws) (m n : State) (scripts : Bool) (fd : ℕ) (c : Con
     → StepsTo m (event.Call server (wants scripts fd (of c run script))) r n
     → ((run ≡ None) × (is_fd r g ≡ true)) ⊎ ((run ≡ Some Awaits) × (is_fds r g ≡ true)) → descriptor m server g ≡ None
 fd-new laws m n scripts fd c None script w r g order asks step (inl new) = laws.fresh.fd m n server (conn_wants (is_for_script scripts c.q) fd c) r g order step (script-away (is_for_script scripts c.q) fd c) new.1
-fd-new laws m n scripts fd c None script w r g order asks step (inr new) = absurd (let e = new.0 in cc (e))
 fd-new laws m n scripts fd c (Some Awaits) script w r g order asks step (inr new) =
     fds-new laws m n r g (subst (λ (q : Answer). StepsTo m (event.Call server (run_wants fd q script Awaits)) r n) (asks refl) step) new.1
 fd-new laws m n scripts fd c (Some y) script w r g order asks step (inl new) = absurd (let e = new.0 in cc (e))
-fd-new laws m n scripts fd c (Some (Runs run s)) script w r g order asks step (inr new) = absurd (let e = new.0 in cc (e))
-fd-new laws m n scripts fd c (Some (Leaves d)) script w r g order asks step (inr new) = absurd (let e = new.0 in cc (e))
-fd-new laws m n scripts fd c (Some Ends) script w r g order asks step (inr new) = absurd (let e = new.0 in cc (e))
+fd-new laws m n scripts fd c run script w r g order asks step (inr new) = absurd (let e = new.0 in cc (e))

@@ -1,5 +1,5 @@
 -- A turn of the server keeps all its clients, and all workers, tied.
-use Rattle.std.proofs.Common.{inl, inr, ◌≡◌, ◌≢◌, ◌<◌, ℕ, ◌==◌, ◌≤◌, ◌⊎◌, List, ap, ◌∙◌, refl, sym, subst, arith, Option, Some, None, true, false, Bool, slice_get}
+use Rattle.std.proofs.Common.{inl, inr, ◌≡◌, ◌≢◌, ◌<◌, ℕ, ◌==◌, ◌≤◌, ◌⊎◌, List, ap, ◌∙◌, refl, sym, subst, arith, Option, Some, true, false, Bool, slice_get}
 use Rattle.std.specs.Prelude.{not}
 use Rattle.std.specs.List.{list_any}
 use Rattle.std.proofs.lemmas.Bool.{cases_eq}
@@ -31,7 +31,7 @@ use Rattle.flash_laws.specs.declared.running.Run.{Run}
 use Rattle.flash_laws.specs.declared.running.Step.{Step}
 use Rattle.flash_laws.specs.declared.running.Step.TheVariants.{Gives, Makes, Hands, Ended as AtEnd, Unholds, Stops, Unframes, Lasts, WrapsLast, TrimsLast, Unwraps, Returns, Lapses, Fails}
 use Rattle.flash_laws.specs.declared.running.Running.{Running}
-use Rattle.flash_laws.specs.declared.running.Running.TheVariants.{Awaits, Runs, Leaves as Left, Closes as Ends}
+use Rattle.flash_laws.specs.declared.running.Running.TheVariants.{Awaits, Runs}
 use Rattle.flash_laws.proofs.Conn.Answering.{some-inj}
 use Rattle.flash_laws.proofs.Site.InPlaces.{at-same, at-other}
 use Rattle.flash_laws.proofs.Site.Peers.{IsTold}
@@ -141,15 +141,12 @@ module _ (shelf : Shelf) (crew : Crew) (laws : AllLaws crew) (m : State) (p : Pa
   runner-of : (c : Conn) (run : Option Running) (script : List ℕ) (k : ℕ) → is_run_by (of c run script) k ≡ true
       → (came sent : List ℕ) (fd e : ℕ) → Fits shelf crew m came sent fd e (of c run script) seats
       → (seat : Seat crew.Worker) → slice_get seats k ≡ Some seat → descriptor m seat.by 0 ≡ Some (on.ReadEnd (crew.desk k))
-  runner-of c None script k runs came sent fd e f seat sits = absurd (cc (runs))
   runner-of c (Some (Runs run step)) script k runs came sent fd e f seat sits =
       let is : run.worker ≡ k = same-number run.worker k runs in
       let same : f.desk.seat ≡ seat = some-inj f.desk.seat seat (sym f.desk.sits ∙ (ap (λ j. slice_get seats j) is ∙ sits)) in
       subst (λ (s : Seat crew.Worker). descriptor m s.by 0 ≡ Some (on.ReadEnd (crew.desk k))) same
       (subst (λ j. descriptor m f.desk.seat.by 0 ≡ Some (on.ReadEnd (crew.desk j))) is (reads-at run (output_of shelf f.wanted f.script.lines) f.so_far step f.desk))
-  runner-of c (Some Awaits) script k runs came sent fd e f seat sits = absurd (cc (runs))
-  runner-of c (Some (Left d)) script k runs came sent fd e f seat sits = absurd (cc (runs))
-  runner-of c (Some Ends) script k runs came sent fd e f seat sits = absurd (cc (runs))
+  runner-of c run script k runs came sent fd e f seat sits = absurd (cc (runs))
 
   -- each worker reads its desk
   pub reads-desk : (k : ℕ) (seat : Seat crew.Worker) → slice_get seats k ≡ Some seat → descriptor m seat.by 0 ≡ Some (on.ReadEnd (crew.desk k))
@@ -180,7 +177,6 @@ module _ (shelf : Shelf) (crew : Crew) (laws : AllLaws crew) (m : State) (p : Pa
   pub own-desk : (run : Option Running) (k : ℕ) → k < crew.count → ((y : Running) (s : Step) (v : Run) → run ≡ Some (Runs v s) → v.worker < crew.count)
       → ((v : Run) (write : ℕ) → run ≡ Some (Runs v (Returns write)) → ⊥) → MayTouchPipe m run (crew.desk k)
       → (v : Run) × (s : Step) × (run ≡ Some (Runs v s)) × (v.worker ≡ k)
-  own-desk None k lt among no_returns may = absurd may
   own-desk (Some Awaits) k lt among no_returns may = absurd (no-pipe-there m (ap (λ j. (pipe_at m j).writing) may ∙ desk-writing k lt))
   own-desk (Some (Runs v (Hands j f))) k lt among no_returns may =
       let here = all.desks.desks v.worker (among Awaits (Hands j f) v refl) in
@@ -192,5 +188,4 @@ module _ (shelf : Shelf) (crew : Crew) (laws : AllLaws crew) (m : State) (p : Pa
   own-desk (Some (Runs v (Returns write))) k lt among no_returns may = absurd (no_returns v write refl)
   own-desk (Some (Runs v (Gives write))) k lt among no_returns may = absurd (not-desk k v.from lt may)
   own-desk (Some (Runs v s)) k lt among no_returns may = absurd (not-desk k v.from lt may)
-  own-desk (Some (Left d)) k lt among no_returns may = absurd may
-  own-desk (Some Ends) k lt among no_returns may = absurd may
+  own-desk run k lt among no_returns may = absurd may

@@ -31,7 +31,7 @@ use Rattle.flash_laws.specs.declared.running.Run.{Run}
 use Rattle.flash_laws.specs.declared.running.Step.{Step}
 use Rattle.flash_laws.specs.declared.running.Step.TheVariants.{Gives, Makes, Hands, Lets, Heads, Sending, Hears, Spills, Gathers, Frames, Wraps, Trims, Ended, Unholds, Stops, Unframes, Lasts, WrapsLast, TrimsLast, Unwraps, Returns, Lapses, Fails}
 use Rattle.flash_laws.specs.declared.running.Running.{Running}
-use Rattle.flash_laws.specs.declared.running.Running.TheVariants.{Awaits, Runs, Leaves, Closes}
+use Rattle.flash_laws.specs.declared.running.Running.TheVariants.{Runs, Leaves}
 use Rattle.flash_laws.proofs.Conn.Answering.{some-inj}
 use Rattle.flash_laws.proofs.Lists.{clash, self, later_of}
 use Rattle.flash_laws.proofs.Site.Pasts.{or-left}
@@ -51,12 +51,7 @@ module _ (crew : Crew) (laws : AllLaws crew) where
       → ((d : ℕ) → is_call_of e d ≡ true → HasNotEnd m d (on.WriteEnd p))
       → ((pipe_at m p).reading || (pipe_at m p).writing) ≡ true → pipe_at n p ≡ pipe_at m p
   pipe-left m n (event.Call d k) r p step reads writes there = laws.pipes.pipe m n d k r p step (reads d (self d)) (writes d (self d)) there
-  pipe-left m n (event.ConnNew q) r p step reads writes there = (laws.the.steps.leaves m n (event.ConnNew q) r step).pipes p refl
-  pipe-left m n (event.Arrive c bytes) r p step reads writes there = (laws.the.steps.leaves m n (event.Arrive c bytes) r step).pipes p refl
-  pipe-left m n (event.PeerClosed c w) r p step reads writes there = (laws.the.steps.leaves m n (event.PeerClosed c w) r step).pipes p refl
-  pipe-left m n (event.Transmit c max) r p step reads writes there = (laws.the.steps.leaves m n (event.Transmit c max) r step).pipes p refl
-  pipe-left m n event.Flush r p step reads writes there = (laws.the.steps.leaves m n event.Flush r step).pipes p refl
-  pipe-left m n event.DropClean r p step reads writes there = (laws.the.steps.leaves m n event.DropClean r step).pipes p refl
+  pipe-left m n e r p step reads writes there = (laws.the.steps.leaves m n e r step).pipes p refl
 
   -- ---- a worker reads its jobs
 
@@ -74,7 +69,6 @@ module _ (crew : Crew) (laws : AllLaws crew) where
 
   stage-reads : (m : State) (seat : Seat crew.Worker) (run : Run) (output : List ℕ) (o : Progress) (s : Step) → Stage crew m seat run output o s
       → descriptor m seat.by 0 ≡ Some (on.ReadEnd (crew.desk run.worker))
-  stage-reads m seat run output o (Gives write) h = free-reads m (crew.desk run.worker) seat h.free
   stage-reads m seat run output o (Makes f) h = free-reads m (crew.desk run.worker) seat h.ready.free
   stage-reads m seat run output o (Hands j f) h = free-reads m (crew.desk run.worker) seat h.0.ready.free
   stage-reads m seat run output o (Lets j) h = puts-reads m seat run output o h
@@ -86,17 +80,10 @@ module _ (crew : Crew) (laws : AllLaws crew) where
   stage-reads m seat run output o (Frames held) h = puts-reads m seat run output o h
   stage-reads m seat run output o (Wraps held frame) h = puts-reads m seat run output o h
   stage-reads m seat run output o (Trims held chunk len frame) h = puts-reads m seat run output o h
-  stage-reads m seat run output o (Ended a held frame) h = free-reads m (crew.desk run.worker) seat h.free
-  stage-reads m seat run output o (Unholds held frame) h = free-reads m (crew.desk run.worker) seat h.free
-  stage-reads m seat run output o (Stops held frame) h = free-reads m (crew.desk run.worker) seat h.free
-  stage-reads m seat run output o (Unframes frame held) h = free-reads m (crew.desk run.worker) seat h.free
-  stage-reads m seat run output o (Lasts held) h = free-reads m (crew.desk run.worker) seat h.free
-  stage-reads m seat run output o (WrapsLast held size frame) h = free-reads m (crew.desk run.worker) seat h.free
-  stage-reads m seat run output o (TrimsLast held chunk len frame) h = free-reads m (crew.desk run.worker) seat h.free
-  stage-reads m seat run output o (Unwraps frame chunk len) h = free-reads m (crew.desk run.worker) seat h.free
   stage-reads m seat run output o (Returns write) h = absurd h
   stage-reads m seat run output o (Lapses j) h = absurd h
   stage-reads m seat run output o Fails h = absurd h
+  stage-reads m seat run output o s h = free-reads m (crew.desk run.worker) seat h.free
 
   -- ---- nobody but the server and its worker writes to the pipe of a run, while its output is heard
 
@@ -127,15 +114,6 @@ module _ (crew : Crew) (laws : AllLaws crew) where
     stage-writes job w output o (Gives write) has h going = had-writes write has.0
     stage-writes job w output o (Makes f) has h going = given-writes f h
     stage-writes job w output o (Hands j f) has h going = given-writes f h.0
-    stage-writes job w output o (Lets j) has h going = puts-writes output o h
-    stage-writes job w output o Heads has h going = puts-writes output o h
-    stage-writes job w output o (Sending t frame) has h going = puts-writes output o h
-    stage-writes job w output o (Hears held frame) has h going = puts-writes output o h
-    stage-writes job w output o (Spills a frame) has h going = puts-writes output o h
-    stage-writes job w output o (Gathers held size piece len frame) has h going = puts-writes output o h
-    stage-writes job w output o (Frames held) has h going = puts-writes output o h
-    stage-writes job w output o (Wraps held frame) has h going = puts-writes output o h
-    stage-writes job w output o (Trims held chunk len frame) has h going = puts-writes output o h
     stage-writes job w output o (Ended a held frame) has h going = absurd (cc (going))
     stage-writes job w output o (Unholds held frame) has h going = absurd (cc (going))
     stage-writes job w output o (Stops held frame) has h going = absurd (cc (going))
@@ -147,6 +125,7 @@ module _ (crew : Crew) (laws : AllLaws crew) where
     stage-writes job w output o (Returns write) has h going = absurd h
     stage-writes job w output o (Lapses j) has h going = absurd h
     stage-writes job w output o Fails has h going = absurd h
+    stage-writes job w output o s has h going = puts-writes output o h
 
 -- ---- all desks, and each client
 
@@ -158,15 +137,12 @@ module _ (shelf : Shelf) (crew : Crew) (laws : AllLaws crew) where
   run-reads : (m : State) (came sent : List ℕ) (fd c : ℕ) (x : Conn) (run : Option Running) (script : List ℕ) (seats : List (Seat crew.Worker)) (j : ℕ)
       (seat : Seat crew.Worker) → is_run_by (of x run script) j ≡ true → Fits shelf crew m came sent fd c (of x run script) seats → slice_get seats j ≡ Some seat
       → descriptor m seat.by 0 ≡ Some (on.ReadEnd (crew.desk j))
-  run-reads m came sent fd c x None script seats j seat runs f sits = absurd (cc (runs))
-  run-reads m came sent fd c x (Some Awaits) script seats j seat runs f sits = absurd (cc (runs))
   run-reads m came sent fd c x (Some (Runs run s)) script seats j seat runs f sits =
       let here : run.worker ≡ j = same-number run.worker j runs in
       let mine : f.desk.seat ≡ seat = some-inj f.desk.seat seat (sym f.desk.sits ∙ (ap (λ k. slice_get seats k) here ∙ sits)) in
       subst (λ k. descriptor m seat.by 0 ≡ Some (on.ReadEnd (crew.desk k))) here
       (subst (λ (t : Seat crew.Worker). descriptor m t.by 0 ≡ Some (on.ReadEnd (crew.desk run.worker))) mine (stage-reads crew laws m f.desk.seat run _ f.so_far s f.desk.stage))
-  run-reads m came sent fd c x (Some (Leaves d)) script seats j seat runs f sits = absurd (cc (runs))
-  run-reads m came sent fd c x (Some Closes) script seats j seat runs f sits = absurd (cc (runs))
+  run-reads m came sent fd c x run script seats j seat runs f sits = absurd (cc (runs))
 
   module _ (m n : State) (p : Past) (clients : List (Option Client)) (seats : List (Seat crew.Worker)) (e : Event) (r : Reply) (order : IsOrderly m)
       (fixed : IsFixedFor shelf crew m) (site : KeepsSite m n) (step : StepsTo m e r n) (not_server : is_call_of e server ≡ false)
