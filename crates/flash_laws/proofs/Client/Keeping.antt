@@ -108,10 +108,10 @@ module _ (come : AggregatesComeAndGo) (own : CallsServeTheirDomain) (files : Fil
       → StepsTo m (event.Call server (conn_wants b fd (at kept q d))) r n → lent_at m server a ≡ None → lent_at n server a ≡ Some bytes
       → conn.uses_agg (conn.told (at kept q d) r heard).doing a ≡ true
   conn-brought fd c kept q d due r heard bytes a false access lives open_on has step before after =
-      keeping.brought come own files m n order a bytes before after kept fd c q d due r heard access lives open_on has step
+      keeping.brought come own m n order a bytes before after files kept fd c q d due r heard access lives open_on has step
   conn-brought fd c kept q (Reading g) due r heard bytes a true access lives open_on has step before after =
-      keeping.reads come own files m n order a bytes before after kept q g has.1.0 has.1.1 r heard access lives has.1.2 false step
-  conn-brought fd c kept q d due r heard bytes a true access lives open_on has step before after = keeping.brought come own files m n order a bytes before after kept fd c q d due r heard access lives open_on has step
+      keeping.reads come own m n order a bytes before after files kept q g has.1.0 has.1.1 r heard access lives has.1.2 false step
+  conn-brought fd c kept q d due r heard bytes a true access lives open_on has step before after = keeping.brought come own m n order a bytes before after files kept fd c q d due r heard access lives open_on has step
 
   run-brought : (law : RunsKeepNothing) (fd c worker : ℕ) (kept : List ℕ) (w : Wanted) (d : Doing) (y : Running) (script text : List ℕ) (o : Progress)
       (r : Reply) (heard bytes : List ℕ) (a : ℕ) → descriptor m server fd ≡ Some (on.Connection c) → is_over y ≡ false → IsRun m w y script text o

@@ -183,8 +183,7 @@ no_fd-settled (serve w) (File b len) g = by (selected w.range len)
     by (Bytes first last) = refl
     by Unsatisfiable = refl
 no_fd-settled (refuse status head_only close) (File b len) g = refl
-no_fd-settled (refuse status head_only close) k g = refl
-no_fd-settled (serve w) k g = refl
+no_fd-settled q k g = refl
 
 no_fd-headed : (n size : ℕ) (more : Following) (g : ℕ) → uses_fd (headed n size more) g ≡ false
 no_fd-headed n size None g = refl

@@ -6,18 +6,19 @@ use Rattle.iol_core.specs.Numbered.{lowest}
 use Rattle.iol_core.specs.State.{State, descriptor}
 use Rattle.iol_core.specs.Calls.Writing.{is_file}
 use Rattle.iol_core.specs.Run.{StepsTo}
+use Rattle.iol_core.specs.Values.{gives_up}
 use Rattle.iol_core.specs.declared.descriptors.Descriptor.{Descriptor}
 use Rattle.iol_core.specs.declared.descriptors.Descriptor.TheVariants as on
 use Rattle.iol_core.specs.declared.events.Call.{Call}
 use Rattle.iol_core.specs.declared.events.Call.TheVariants as call
 use Rattle.iol_core.specs.declared.events.Event.TheVariants as event
 use Rattle.iol_core.specs.declared.events.Reply.TheVariants as reply
-use Rattle.iol_laws.specs.Frame.{is_conn, is_end}
+use Rattle.iol_laws.specs.Frame.{is_conn, is_end, touches_fd, touches_conn, touches_pipe, changes_files}
 use Rattle.flash_http.specs.Request.{serve, Wanted}
 use Rattle.flash_laws.specs.Conn as conn
 use Rattle.flash_laws.specs.Conn.{has_followed, piece_end}
 use Rattle.flash_laws.specs.RunFits.{Progress, IsSending, HasRun}
-use Rattle.flash_laws.specs.RunKeeping.{has_end, MayTouch, KeepsToItself}
+use Rattle.flash_laws.specs.RunKeeping.{has_end, may_make, MayTouch, KeepsToItself}
 use Rattle.flash_laws.specs.Running.{worker_domain, job_pipe, has_frame, uses_agg, held_size, in_phase, step_wants, wants, told, is_left, is_over}
 use Rattle.flash_laws.specs.Scripts.{script_text, frame_of, place_in_frame, end_around}
 use Rattle.flash_laws.specs.Site.{server}
@@ -83,48 +84,37 @@ module _ (m : State) (fd c : ℕ) (x : Running) where
     files = no-file (descriptor m server fd) (on.Connection c) open_on refl;
   }
 
-  -- to the end of a pipe
-  writes : (f p a : ℕ) → descriptor m server f ≡ Some (on.WriteEnd p) → ((q : ℕ) → p ≡ q → MayTouch m x q) → Keeps (call.IolWrite f a)
-  writes f p a open_on may = record {
-    kind = refl;
-    aggs = λ a u. absurd (cc (u));
-    fds = λ g u. absurd (clash ((f == g) && is_file (descriptor m server f)) u (no-position m f g (on.WriteEnd p) open_on refl));
-    conns = λ d u. let e = one-conn (descriptor m server f) (on.WriteEnd p) d open_on u in absurd (cc (e));
-    pipes = λ q u. may q (same-number p q (one-end (descriptor m server f) (on.WriteEnd p) q open_on u));
-    files = no-file (descriptor m server f) (on.WriteEnd p) open_on refl;
+  -- a call on an end of a pipe touches that pipe alone
+  on-end : (k : Call) (f p : ℕ) (y : Descriptor) → descriptor m server f ≡ Some y → ((d : ℕ) → is_conn d (Some y) ≡ false) → ((q : ℕ) → is_end q (Some y) ≡ (p == q))
+      → may_make k ≡ true → ((a : ℕ) → gives_up (event.Call server k) server a ≡ false)
+      → ((d : ℕ) → touches_conn m (event.Call server k) d ≡ (list_any (is_conn d) (descriptor m server f ∷ []) || false))
+      → ((q : ℕ) → touches_pipe m (event.Call server k) q ≡ (list_any (is_end q) (descriptor m server f ∷ []) || false))
+      → ((g : ℕ) → touches_fd m (event.Call server k) server g ≡ true → has_end x g ≡ true) → changes_files m (event.Call server k) ≡ false
+      → ((q : ℕ) → p ≡ q → MayTouch m x q) → Keeps k
+  on-end k f p y open_on no_conn its_end kind aggs conns pipes fds files may = record {
+    kind = kind;
+    aggs = λ a u. absurd (clash (gives_up (event.Call server k) server a) u (aggs a));
+    fds = fds;
+    conns = λ d u. absurd (clash (is_conn d (Some y)) (one-conn (descriptor m server f) y d open_on (sym (conns d) ∙ u)) (no_conn d));
+    pipes = λ q u. may q (same-number p q (sym (its_end q) ∙ one-end (descriptor m server f) y q open_on (sym (pipes q) ∙ u)));
+    files = files;
   }
+
+  no-place : (f : ℕ) (y : Descriptor) (g : ℕ) → descriptor m server f ≡ Some y → is_file (Some y) ≡ false → ((f == g) && is_file (descriptor m server f)) ≡ true
+      → has_end x g ≡ true
+  no-place f y g open_on none u = absurd (clash ((f == g) && is_file (descriptor m server f)) u (no-position m f g y open_on none))
+
+  writes : (f p a : ℕ) → descriptor m server f ≡ Some (on.WriteEnd p) → ((q : ℕ) → p ≡ q → MayTouch m x q) → Keeps (call.IolWrite f a)
+  writes f p a open_on = on-end (call.IolWrite f a) f p (on.WriteEnd p) open_on (λ d. refl) (λ q. refl) refl (λ b. refl) (λ d. refl) (λ q. refl)
+      (λ g u. no-place f (on.WriteEnd p) g open_on refl u) (no-file (descriptor m server f) (on.WriteEnd p) open_on refl)
 
   reads : (f p n : ℕ) → descriptor m server f ≡ Some (on.ReadEnd p) → ((q : ℕ) → p ≡ q → MayTouch m x q) → Keeps (call.IolRead f n)
-  reads f p n open_on may = record {
-    kind = refl;
-    aggs = λ a u. absurd (cc (u));
-    fds = λ g u. absurd (clash ((f == g) && is_file (descriptor m server f)) u (no-position m f g (on.ReadEnd p) open_on refl));
-    conns = λ d u. let e = one-conn (descriptor m server f) (on.ReadEnd p) d open_on u in absurd (cc (e));
-    pipes = λ q u. may q (same-number p q (one-end (descriptor m server f) (on.ReadEnd p) q open_on u));
-    files = refl;
-  }
+  reads f p n open_on = on-end (call.IolRead f n) f p (on.ReadEnd p) open_on (λ d. refl) (λ q. refl) refl (λ b. refl) (λ d. refl) (λ q. refl)
+      (λ g u. no-place f (on.ReadEnd p) g open_on refl u) refl
 
-  closes-read : (f p : ℕ) → descriptor m server f ≡ Some (on.ReadEnd p) → ((g : ℕ) → (f == g) ≡ true → has_end x g ≡ true) → ((q : ℕ) → p ≡ q → MayTouch m x q)
-      → Keeps (call.Close f)
-  closes-read f p open_on has may = record {
-    kind = refl;
-    aggs = λ a u. absurd (cc (u));
-    fds = has;
-    conns = λ d u. let e = one-conn (descriptor m server f) (on.ReadEnd p) d open_on u in absurd (cc (e));
-    pipes = λ q u. may q (same-number p q (one-end (descriptor m server f) (on.ReadEnd p) q open_on u));
-    files = refl;
-  }
-
-  closes-write : (f p : ℕ) → descriptor m server f ≡ Some (on.WriteEnd p) → ((g : ℕ) → (f == g) ≡ true → has_end x g ≡ true) → ((q : ℕ) → p ≡ q → MayTouch m x q)
-      → Keeps (call.Close f)
-  closes-write f p open_on has may = record {
-    kind = refl;
-    aggs = λ a u. absurd (cc (u));
-    fds = has;
-    conns = λ d u. let e = one-conn (descriptor m server f) (on.WriteEnd p) d open_on u in absurd (cc (e));
-    pipes = λ q u. may q (same-number p q (one-end (descriptor m server f) (on.WriteEnd p) q open_on u));
-    files = refl;
-  }
+  closes : (f p : ℕ) (y : Descriptor) → descriptor m server f ≡ Some y → ((d : ℕ) → is_conn d (Some y) ≡ false) → ((q : ℕ) → is_end q (Some y) ≡ (p == q))
+      → ((g : ℕ) → (f == g) ≡ true → has_end x g ≡ true) → ((q : ℕ) → p ≡ q → MayTouch m x q) → Keeps (call.Close f)
+  closes f p y open_on no_conn its_end has = on-end (call.Close f) f p y open_on no_conn its_end refl (λ b. refl) (λ d. refl) (λ q. refl) has refl
 
   -- a phase that sends
   sends : (w : Wanted) (due : List ℕ) (d : Doing) → descriptor m server fd ≡ Some (on.Connection c) → ((a : ℕ) → conn.uses_agg d a ≡ true → uses_agg x a ≡ true)
@@ -169,16 +159,16 @@ module _ (job : ℕ → List ℕ) (m : State) (fd c : ℕ) (w : Wanted) (o : Pro
   step-alone (Trims held chunk len frame) has = drops m fd c (Runs run (Trims held chunk len frame)) held (λ a u. first (held == a) ((chunk == a) || (frame == a)) u)
   step-alone (Ended b held frame) has = drops m fd c (Runs run (Ended b held frame)) b (λ a u. first (b == a) (has_followed held a || has_frame frame a) u)
   step-alone (Unholds held frame) has = drops m fd c (Runs run (Unholds held frame)) held (λ a u. first (held == a) (has_frame frame a) u)
-  step-alone (Stops held frame) has = closes-read m fd c (Runs run (Stops held frame)) run.from has.1.0.0 has.1.0.1 (λ g u. reading g u) (λ q same. to-end m run.from has.1.0.0 q has.1.0.1 same)
+  step-alone (Stops held frame) has = closes m fd c (Runs run (Stops held frame)) run.from has.1.0.0 (on.ReadEnd has.1.0.0) has.1.0.1 (λ d. refl) (λ q. refl) (λ g u. reading g u) (λ q same. to-end m run.from has.1.0.0 q has.1.0.1 same)
   step-alone (Unframes frame held) has = drops m fd c (Runs run (Unframes frame held)) frame (λ a u. first (frame == a) (has_followed held a) u)
   step-alone (Lasts held) has = makes m fd c (Runs run (Lasts held)) (end_around held)
   step-alone (WrapsLast held size frame) has = replaces m fd c (Runs run (WrapsLast held size frame)) frame (place_in_frame size) (place_in_frame size) held
   step-alone (TrimsLast held chunk len frame) has = drops m fd c (Runs run (TrimsLast held chunk len frame)) held (λ a u. first (held == a) ((chunk == a) || (frame == a)) u)
   step-alone (Unwraps frame chunk len) has = drops m fd c (Runs run (Unwraps frame chunk len)) frame (λ a u. first (frame == a) (chunk == a) u)
-  step-alone (Returns write) has = closes-write m fd c (Runs run (Returns write)) write has.1.0.pipe has.1.0.write_end (λ g u. later_of (run.from == g) (write == g) u)
+  step-alone (Returns write) has = closes m fd c (Runs run (Returns write)) write has.1.0.pipe (on.WriteEnd has.1.0.pipe) has.1.0.write_end (λ d. refl) (λ q. refl) (λ g u. later_of (run.from == g) (write == g) u)
       (λ q same. from-end m write has.1.0.pipe q has.1.0.write_end same)
   step-alone (Lapses j) has = drops m fd c (Runs run (Lapses j)) j (λ a u. u)
-  step-alone Fails has = closes-read m fd c (Runs run Fails) run.from has.1.0.0 has.1.0.1 (λ g u. reading g u) (λ q same. to-end m run.from has.1.0.0 q has.1.0.1 same)
+  step-alone Fails has = closes m fd c (Runs run Fails) run.from has.1.0.0 (on.ReadEnd has.1.0.0) has.1.0.1 (λ d. refl) (λ q. refl) (λ g u. reading g u) (λ q same. to-end m run.from has.1.0.0 q has.1.0.1 same)
 
 pub keeps-alone : (job : ℕ → List ℕ) (m : State) (fd c : ℕ) (w : Wanted) (x : Running) (o : Progress) → descriptor m server fd ≡ Some (on.Connection c)
     → is_over x ≡ false → HasRun job m w o x → KeepsToItself m fd c x (wants job fd w x)

@@ -32,6 +32,7 @@ use Rattle.flash_laws.specs.declared.running.Step.{Step}
 use Rattle.flash_laws.specs.declared.running.Step.TheVariants.{Gives, Makes, Hands, Lets, Heads, Sending, Hears, Spills, Gathers, Frames, Wraps, Trims, Ended, Unholds, Stops, Unframes, Lasts, WrapsLast, TrimsLast, Unwraps, Returns, Lapses, Fails}
 use Rattle.flash_laws.specs.declared.running.Running.{Running}
 use Rattle.flash_laws.specs.declared.running.Running.TheVariants.{Awaits, Runs, Leaves, Closes}
+use Rattle.flash_laws.proofs.Conn.Keeping as keeping
 use Rattle.flash_laws.proofs.Conn.Keeping.{headed-first}
 use Rattle.flash_laws.proofs.Lists.{later_of}
 use Rattle.flash_laws.proofs.Run.Alone.{keeps-alone, opened}
@@ -42,37 +43,18 @@ module _ (come : AggregatesComeAndGo) (own : CallsServeTheirDomain) (m n : State
     (a : ℕ) (bytes : List ℕ) (before : lent_at m server a ≡ None) (after : lent_at n server a ≡ Some bytes) (w : Wanted) where
   -- the reply names what comes
   named : (e : Event) (r : Reply) → StepsTo m e r n → brings e r server a ≡ true
-  named e r step = by (brings e r server a) refl
-    where
-      by : (b : Bool) → brings e r server a ≡ b → brings e r server a ≡ true
-      by true is = is
-      by false is = (let none = come.none m n e r server a step before is in absurd (cc (none, after)))
+  named = keeping.named come own m n order a bytes before after
 
   -- to drop an aggregate brings none, nor does it to close, to write, to make a pipe or to give its end away
   dropped : (b : ℕ) (r : Reply) → StepsTo m (event.Call server (call.AggDrop b)) r n → ⊥
-  dropped b r step = by r (own.drops m n server b r order step) (named (event.Call server (call.AggDrop b)) r step)
-    where
-      by : (r : Reply) → caller.Drops m server b r n → brings (event.Call server (call.AggDrop b)) r server a ≡ true → ⊥
-      by reply.Done did is = cc (is)
-      by (reply.Refused x) did is = cc (is)
-      by r did is = did
+  dropped = keeping.dropped come own m n order a bytes before after
 
   shuts : (g : ℕ) (r : Reply) → StepsTo m (event.Call server (call.Close g)) r n → ⊥
-  shuts g r step = by r (own.closes m n server g r step) (named (event.Call server (call.Close g)) r step)
-    where
-      by : (r : Reply) → caller.Closes m server g r n → brings (event.Call server (call.Close g)) r server a ≡ true → ⊥
-      by reply.Done did is = cc (is)
-      by (reply.Refused x) did is = cc (is)
-      by r did is = did
+  shuts = keeping.closed come own m n order a bytes before after
 
   written : (fd c b : ℕ) (sent : List ℕ) (r : Reply) → descriptor m server fd ≡ Some (on.Connection c)
       → lent_at m server b ≡ Some sent → StepsTo m (event.Call server (call.IolWrite fd b)) r n → ⊥
-  written fd c b sent r open_on lends step = by r (own.write_conn m n server fd c b sent r order open_on lends step) (named (event.Call server (call.IolWrite fd b)) r step)
-    where
-      by : (r : Reply) → caller.WritesConn m c sent r n → brings (event.Call server (call.IolWrite fd b)) r server a ≡ true → ⊥
-      by (reply.Count k) did is = cc (is)
-      by (reply.Refused x) did is = cc (is)
-      by r did is = did
+  written = keeping.written come own m n order a bytes before after
 
   handed : (fd p b : ℕ) (sent : List ℕ) (r : Reply) → descriptor m server fd ≡ Some (on.WriteEnd p)
       → lent_at m server b ≡ Some sent → StepsTo m (event.Call server (call.IolWrite fd b)) r n → ⊥
@@ -104,12 +86,7 @@ module _ (come : AggregatesComeAndGo) (own : CallsServeTheirDomain) (m n : State
       → ((x : ℕ) → brings (event.Call server k) (reply.Agg x) server a ≡ true → (x == a) ≡ true)
       → ((x : Refusal) → brings (event.Call server k) (reply.Refused x) server a ≡ true → ⊥)
       → ((x : ℕ) → (x == a) ≡ true → uses_agg (y (reply.Agg x)) a ≡ true) → uses_agg (y r) a ≡ true
-  made k it y r step did number refused uses = by r did (named (event.Call server k) r step)
-    where
-      by : (r : Reply) → caller.Makes m server it r n → brings (event.Call server k) r server a ≡ true → uses_agg (y r) a ≡ true
-      by (reply.Agg x) did is = uses x (number x is)
-      by (reply.Refused x) did is = absurd (refused x is)
-      by r did is = absurd did
+  made k it y = keeping.made come own m n order a bytes before after k it (λ z. uses_agg (y z) a)
 
   module _ (job : ℕ → List ℕ) (fd c : ℕ) (open_on : descriptor m server fd ≡ Some (on.Connection c)) (o : Progress) where
     sending-brings : (run : Run) (d : Doing) (frame : Option ℕ) (r : Reply) → HasPart m w o run d frame

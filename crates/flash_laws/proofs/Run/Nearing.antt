@@ -1,7 +1,7 @@
 -- A call of a run brings its response nearer to its end, or brings more output, or is to be made again later.
-use Rattle.std.proofs.Common.{inl, inr, ◌≡◌, ℕ, zero, suc, ◌+◌, ◌*◌, ◌-◌, ◌/◌, ◌%◌, ◌==◌, ◌<◌, ◌≤◌, ◌⊎◌, cond, List, [], ◌∷◌, ◌++◌, length, take, drop, ap, ◌∙◌, refl, sym, subst, arith, Option, Some, None, true, false, Bool, length-append, length-drop, if◌then◌else◌}
+use Rattle.std.proofs.Common.{inl, inr, ◌≡◌, ℕ, ◌+◌, ◌*◌, ◌-◌, ◌<◌, ◌≤◌, ◌⊎◌, List, [], ◌∷◌, ◌++◌, length, take, drop, ap, ◌∙◌, refl, sym, subst, arith, Option, Some, None, true, false, Bool, length-append, length-drop, if◌then◌else◌}
 use Rattle.std.specs.Prelude.{nat_lt}
-use Rattle.std.specs.Fmt.{digits, digits_onto, digit_glyph}
+use Rattle.std.specs.Fmt.{digits}
 use Rattle.std.proofs.lemmas.List.{length-take}
 use Rattle.iol_core.specs.State.{State, descriptor, is_live}
 use Rattle.iol_core.specs.Run.{StepsTo}
@@ -42,6 +42,7 @@ use Rattle.flash_laws.proofs.Conn.Answering.{some-inj}
 use Rattle.flash_laws.proofs.Lists.{differ}
 use Rattle.flash_laws.proofs.Conn.Nearing.{stage, calls_left, head_calls, lacks-later, drops, closes, makes, joins, near}
 use Rattle.flash_laws.proofs.Conn.Nearing as file
+use Rattle.flash_laws.proofs.Run.Outputs.{short-digits}
 use Rattle.flash_laws.proofs.Run.Left.{is-rest, still-left}
 
 -- ---- how far it is: the calls that are left, if no more output comes
@@ -101,18 +102,8 @@ falls w y x fewer = inr (refl, fewer)
 
 -- ---- some lengths
 
-onto-long : (fuel n : ℕ) (acc : List ℕ) → length (digits_onto fuel 16 false n acc) ≤ fuel + length acc
-onto-long zero n acc = omega arith
-onto-long (suc fuel) n acc = by (n / 16 == 0) (onto-long fuel (n / 16) (digit_glyph false (n % 16) ∷ acc))
-  where
-    by : (b : Bool) → length (digits_onto fuel 16 false (n / 16) (digit_glyph false (n % 16) ∷ acc)) ≤ fuel + length (digit_glyph false (n % 16) ∷ acc)
-        → length (cond b (digit_glyph false (n % 16) ∷ acc) (digits_onto fuel 16 false (n / 16) (digit_glyph false (n % 16) ∷ acc))) ≤ suc fuel + length acc
-    by true e = omega arith
-    by false e = omega (arith, e)
-
 head-long : (size : ℕ) → length (chunk_head size) ≤ 66
-unfolding digits
-head-long size = let e = onto-long 64 size [] in let f = length-append (digits_onto 64 16 false size []) (13 ∷ 10 ∷ []) in omega (arith, e, f)
+head-long size = let e = short-digits size in let f = length-append (digits 16 false size) chunk_end in omega (arith, e, f)
 
 around-more : (x : ℕ × ℕ) → length (end_around None) ≤ length (end_around (Some x))
 around-more x =

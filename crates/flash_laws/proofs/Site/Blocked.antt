@@ -86,18 +86,19 @@ run-blocked worker w (Leaves d) heard = ap (λ (x : Conn). Leaves x.doing) (conn
 run-blocked worker w Ends heard = refl
 
 -- one that stands still is neither over now, nor is its text kept no more
-stands : (over kept : Bool) (x : Client) (y : Running) → is_over y ≡ over → keeps_text y ≡ kept → x.run ≡ Some y
-    → goes_on over over x y y ≡ x
-stands false kept x y is kept_is run_is = texts kept kept_is ∙ ap (λ (o : Option Running). record { conn = x.conn; run = o; script = x.script }) (sym run_is)
+same-text : (k : Bool) (text : List ℕ) → text_on k k text ≡ text
+same-text true text = refl
+same-text false text = refl
+
+stands : (x : Client) (y : Running) (over : Bool) → x.run ≡ Some y → goes_on over over x y y ≡ x
+stands x y over run_is =
+    same over
+    ∙ (ap (λ (l : List ℕ). record { conn = x.conn; run = Some y; script = l }) (same-text (keeps_text y) x.script)
+    ∙ ap (λ (o : Option Running). record { conn = x.conn; run = o; script = x.script }) (sym run_is))
   where
-    texts : (k : Bool) → keeps_text y ≡ k → goes_on false false x y y ≡ record { conn = x.conn; run = Some y; script = x.script }
-    texts true e = ap (λ b. record { conn = x.conn; run = Some y; script = text_on b b x.script }) e
-    texts false e = ap (λ b. record { conn = x.conn; run = Some y; script = text_on b b x.script }) e
-stands true kept x y is kept_is run_is = texts kept kept_is ∙ ap (λ (o : Option Running). record { conn = x.conn; run = o; script = x.script }) (sym run_is)
-  where
-    texts : (k : Bool) → keeps_text y ≡ k → goes_on true true x y y ≡ record { conn = x.conn; run = Some y; script = x.script }
-    texts true e = ap (λ b. record { conn = x.conn; run = Some y; script = text_on b b x.script }) e
-    texts false e = ap (λ b. record { conn = x.conn; run = Some y; script = text_on b b x.script }) e
+    same : (b : Bool) → goes_on b b x y y ≡ record { conn = x.conn; run = Some y; script = text_on (keeps_text y) (keeps_text y) x.script }
+    same true = refl
+    same false = refl
 
 -- A client that would block is as it was.
 
@@ -127,7 +128,7 @@ told-blocked scripts worker c None script heard = by (is_for_script scripts c.q)
 told-blocked scripts worker c (Some y) script heard = by c.q
   where
     by : (q : Answer) → run_told worker q (of c (Some y) script) y (reply.Refused no.WouldBlock) heard ≡ of c (Some y) script
-    by (serve w) = ap (λ (z : Running). goes_on (is_over y) (is_over z) (of c (Some y) script) y z) (run-blocked worker w y heard) ∙ stands (is_over y) (keeps_text y) (of c (Some y) script) y refl refl refl
+    by (serve w) = ap (λ (z : Running). goes_on (is_over y) (is_over z) (of c (Some y) script) y z) (run-blocked worker w y heard) ∙ stands (of c (Some y) script) y (is_over y) refl
     by (refuse status head_only close) = refl
 
 -- and it is not over

@@ -92,10 +92,10 @@ ready-fds c (Some y) script z g ready u = ap (λ (v : Client). has_fd v g) (sym 
 ready-worker : (c : Conn) (run : Option Running) (script : List ℕ) (y : Client) (k : ℕ) → Readies (of c run script) y → is_run_by y k ≡ is_run_by (of c run script) k
 ready-worker c run script y k ready = ap (λ (o : Option Running). is_run_by (of y.conn o y.script) k) (ready-runs c run script y ready)
 
--- a worker that is free once one place has changed was free before, if what stands there now has the workers of what stood there
-free-before : (clients : List (Option Client)) (fd k : ℕ) (x y : Client) → in_place clients fd ≡ Some x → (is_run_by y k ≡ is_run_by x k)
+-- a worker that is free once one place has changed was free before, unless it was of whoever stood there
+free-unless : (clients : List (Option Client)) (fd k : ℕ) (y : Client) → ((x : Client) → in_place clients fd ≡ Some x → is_run_by x k ≡ true → ⊥)
     → is_free (with_at clients fd (Some y)) k ≡ true → is_free clients k ≡ true
-free-before clients fd k x y at same free = by (is_free clients k) refl
+free-unless clients fd k y stood free = by (is_free clients k) refl
   where
     turned : (b : Bool) → not b ≡ false → b ≡ true
     turned true is = refl
@@ -107,10 +107,18 @@ free-before clients fd k x y at same free = by (is_free clients k) refl
         let ran = runs-for clients k (turned (list_any (λ w. runs_at k w) clients) busy) in
         elim (cases_eq fd ran.fd) [
           | inr differ ↦ absurd (clash (is_run_by ran.client k) ran.runs (free-runs (with_at clients fd (Some y)) k ran.fd ran.client free (at-other clients fd ran.fd (Some y) differ ∙ ran.at)))
-          | inl here ↦
-              (let is_x : x ≡ ran.client = some-inj x ran.client (sym at ∙ subst (λ g. in_place clients g ≡ Some ran.client) (sym here) ran.at) in
-              absurd (clash (is_run_by y k) (same ∙ (ap (λ (z : Client). is_run_by z k) is_x ∙ ran.runs)) (free-runs (with_at clients fd (Some y)) k fd y free (at-same clients fd (Some y)))))
+          | inl here ↦ absurd (stood ran.client (subst (λ g. in_place clients g ≡ Some ran.client) (sym here) ran.at) ran.runs)
         ]
+
+-- so it was if whoever stands there now has the workers of whoever stood there
+free-before : (clients : List (Option Client)) (fd k : ℕ) (x y : Client) → in_place clients fd ≡ Some x → (is_run_by y k ≡ is_run_by x k)
+    → is_free (with_at clients fd (Some y)) k ≡ true → is_free clients k ≡ true
+free-before clients fd k x y at same free = free-unless clients fd k y stood free
+  where
+    stood : (z : Client) → in_place clients fd ≡ Some z → is_run_by z k ≡ true → ⊥
+    stood z there runs =
+        let is_x : x ≡ z = some-inj x z (sym at ∙ there) in
+        clash (is_run_by y k) (same ∙ (ap (λ (v : Client). is_run_by v k) is_x ∙ runs)) (free-runs (with_at clients fd (Some y)) k fd y free (at-same clients fd (Some y)))
 
 module _ (shelf : Shelf) (crew : Crew) (laws : AllLaws crew) where
   -- the client that is picked is made ready
@@ -231,20 +239,8 @@ module _ (shelf : Shelf) (crew : Crew) (laws : AllLaws crew) where
     free-then : (k : ℕ) (seat : Seat crew.Worker) → slice_get seats k ≡ Some seat → is_free (with_at clients fd (Some new_client)) k ≡ true → crew.Free n (crew.desk k) seat
     free-then k seat sits free =
         let place = all.desks.by k seat sits in
-        laws.workers.free_others m n (crew.desk k) seat ev (reply.Fd fd) fixed.placed step (own-call call.Accept seat.by k place.1) (leaves.pipes (crew.desk k) refl) (all.free k seat sits (was (is_free clients k) refl))
-      where
-        turned : (b : Bool) → not b ≡ false → b ≡ true
-        turned true is = refl
-        turned false is = absurd (cc (is))
-
-        was : (b : Bool) → is_free clients k ≡ b → is_free clients k ≡ true
-        was true is = is
-        was false busy =
-            let ran = runs-for clients k (turned (list_any (λ w. runs_at k w) clients) busy) in
-            elim (cases_eq fd ran.fd) [
-              | inr differ ↦ absurd (clash (is_run_by ran.client k) ran.runs (free-runs (with_at clients fd (Some new_client)) k ran.fd ran.client free (at-other clients fd ran.fd (Some new_client) differ ∙ ran.at)))
-              | inl here ↦ (let none = none-stood in let some = ap (λ g. in_place clients g) here ∙ ran.at in absurd (cc (none, some)))
-            ]
+        laws.workers.free_others m n (crew.desk k) seat ev (reply.Fd fd) fixed.placed step (own-call call.Accept seat.by k place.1) (leaves.pipes (crew.desk k) refl)
+        (all.free k seat sits (free-unless clients fd k new_client (λ z there runs. let none = none-stood in cc (none, there)) free))
 
     desks-then : AreAtDesks crew n seats
     desks-then = record {

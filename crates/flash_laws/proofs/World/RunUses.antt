@@ -35,6 +35,11 @@ bare false u = u
 abbrev New : Reply → (a : ℕ) → (was : Bool) → Type 0
 New r a was = (was ≡ true) ⊎ (is_agg r a ≡ true)
 
+around : (x y z : Bool) → (x || (y || z)) ≡ true → ((x || z) ≡ true) ⊎ (y ≡ true)
+around true y z u = inl refl
+around false true z u = inr refl
+around false false z u = inl u
+
 module _ (worker : ℕ) (w : Wanted) (run : Run) (a : ℕ) where
   abbrev UsesNew : Step → Reply → Running → Type 0
   UsesNew s r z = uses_agg z a ≡ true → New r a (step_agg s a)
@@ -117,11 +122,6 @@ module _ (worker : ℕ) (w : Wanted) (run : Run) (a : ℕ) where
       (λ is. later_of (held == a) ((piece == a) || has_frame frame a) (later_of (piece == a) (has_frame frame a) is)) u
   step-new (Frames held) (reply.Agg n) heard u = elim (one-of (held == a) (n == a) u) [ inl is ↦ inl is | inr is ↦ inr is ]
   step-new (Wraps held frame) (reply.Agg n) heard u = around (held == a) (n == a) (frame == a) u
-    where
-      around : (x y z : Bool) → (x || (y || z)) ≡ true → ((x || z) ≡ true) ⊎ (y ≡ true)
-      around true y z u = inl refl
-      around false true z u = inr refl
-      around false false z u = inl u
   step-new (Trims held chunk len frame) reply.Done heard u = inl (by (held == a) (chunk == a) (frame == a) u)
     where
       by : (x y z : Bool) → (((y || false) || z)) ≡ true → (x || (y || z)) ≡ true
@@ -139,11 +139,6 @@ module _ (worker : ℕ) (w : Wanted) (run : Run) (a : ℕ) where
   step-new (Lasts None) (reply.Agg n) heard u = inr (bare (n == a) u)
   step-new (Lasts (Some x)) (reply.Agg n) heard u = elim (one-of (x.0 == a) (n == a) u) [ inl is ↦ inl is | inr is ↦ inr is ]
   step-new (WrapsLast held size frame) (reply.Agg n) heard u = around (held == a) (n == a) (frame == a) u
-    where
-      around : (x y z : Bool) → (x || (y || z)) ≡ true → ((x || z) ≡ true) ⊎ (y ≡ true)
-      around true y z u = inl refl
-      around false true z u = inr refl
-      around false false z u = inl u
   step-new (TrimsLast held chunk len frame) reply.Done heard u = inl (by (held == a) (chunk == a) (frame == a) u)
     where
       by : (x y z : Bool) → (z || y) ≡ true → (x || (y || z)) ≡ true

@@ -62,26 +62,8 @@ module _ (shelf : Shelf) (crew : Crew) (m n : State) (p : Past) (clients : List 
       | inr differ ↦ there gd y differ (old gd y differ is)
     ];
     others = others;
-    aggs_apart = λ gd hd a y z is_y is_z uses_y uses_z. elim (cases_eq fd gd) [
-      | inl g ↦ elim (cases_eq fd hd) [
-        | inl k ↦ sym g ∙ k
-        | inr k ↦ absurd (mixed_agg hd a y z k (mine gd y g is_y) (old hd z k is_z) uses_y uses_z)
-      ]
-      | inr g ↦ elim (cases_eq fd hd) [
-        | inl k ↦ absurd (mixed_agg gd a z y g (mine hd z k is_z) (old gd y g is_y) uses_z uses_y)
-        | inr k ↦ all.aggs_apart gd hd a y z (old gd y g is_y) (old hd z k is_z) uses_y uses_z
-      ]
-    ];
-    fds_apart = λ gd hd a y z is_y is_z uses_y uses_z. elim (cases_eq fd gd) [
-      | inl g ↦ elim (cases_eq fd hd) [
-        | inl k ↦ sym g ∙ k
-        | inr k ↦ absurd (mixed_fd hd a y z k (mine gd y g is_y) (old hd z k is_z) uses_y uses_z)
-      ]
-      | inr g ↦ elim (cases_eq fd hd) [
-        | inl k ↦ absurd (mixed_fd gd a z y g (mine hd z k is_z) (old gd y g is_y) uses_z uses_y)
-        | inr k ↦ all.fds_apart gd hd a y z (old gd y g is_y) (old hd z k is_z) uses_y uses_z
-      ]
-    ];
+    aggs_apart = apart (λ y a. uses_agg y a) mixed_agg all.aggs_apart;
+    fds_apart = apart (λ y g. has_fd y g) mixed_fd all.fds_apart;
     left = left;
     fresh = λ c more. all.fresh c (omega (arith, rises, more));
     own = own;
@@ -94,6 +76,23 @@ module _ (shelf : Shelf) (crew : Crew) (m n : State) (p : Past) (clients : List 
 
       old : (gd : ℕ) (y : Client) → fd ≢ gd → in_place (with_at clients fd o) gd ≡ Some y → in_place clients gd ≡ Some y
       old gd y differ is = sym (at-other clients fd gd o differ) ∙ is
+
+      -- no two use the same
+      apart : (uses : Client → ℕ → Bool)
+          → ((gd a : ℕ) (y z : Client) → fd ≢ gd → o ≡ Some y → in_place clients gd ≡ Some z → uses y a ≡ true → uses z a ≡ true → ⊥)
+          → ((gd hd a : ℕ) (y z : Client) → in_place clients gd ≡ Some y → in_place clients hd ≡ Some z → uses y a ≡ true → uses z a ≡ true → gd ≡ hd)
+          → (gd hd a : ℕ) (y z : Client) → in_place (with_at clients fd o) gd ≡ Some y → in_place (with_at clients fd o) hd ≡ Some z
+          → uses y a ≡ true → uses z a ≡ true → gd ≡ hd
+      apart uses mixed was gd hd a y z is_y is_z uses_y uses_z = elim (cases_eq fd gd) [
+        | inl g ↦ elim (cases_eq fd hd) [
+          | inl k ↦ sym g ∙ k
+          | inr k ↦ absurd (mixed hd a y z k (mine gd y g is_y) (old hd z k is_z) uses_y uses_z)
+        ]
+        | inr g ↦ elim (cases_eq fd hd) [
+          | inl k ↦ absurd (mixed gd a z y g (mine hd z k is_z) (old gd y g is_y) uses_z uses_y)
+          | inr k ↦ was gd hd a y z (old gd y g is_y) (old hd z k is_z) uses_y uses_z
+        ]
+      ]
 
 -- a client that stands elsewhere stands there still
 pub held-on : (m n : State) (clients : List (Option Client)) (fd k : ℕ) (o : Option Client) (held : Held m clients k)

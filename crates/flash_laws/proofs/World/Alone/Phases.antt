@@ -130,8 +130,7 @@ module _ (shelf : Shelf) (crew : Crew) (laws : AllLaws crew) (m n : State) (came
       by (Bytes first last) = (refl, refl, refl)
       by Unsatisfiable = (refl, refl, refl)
   settled-stands (refuse status head_only close) (File a len) = (refl, refl, refl)
-  settled-stands (refuse status head_only close) k = (refl, refl, refl)
-  settled-stands (serve w) k = (refl, refl, refl)
+  settled-stands q k = (refl, refl, refl)
 
   shuts-stands : (q : Answer) (g : ℕ) (k : Learnt) (r : Reply) → Stands shelf q [] (told_shuts q g k r)
   shuts-stands q g k reply.Done = settled-stands q k
