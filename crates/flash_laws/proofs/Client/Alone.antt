@@ -1,5 +1,5 @@
 -- After the reply to its call a client for which no script runs has what it needs, with what is known then.
-use Rattle.std.proofs.Common.{◌≡◌, ℕ, ◌+◌, List, [], ◌∷◌, length, take, drop, refl, sym, subst, Option, Some, None, true, false, Bool, if◌then◌else◌}
+use Rattle.std.proofs.Common.{◌≡◌, ℕ, ◌+◌, List, [], ◌∷◌, length, take, drop, refl, sym, subst, Some, None, true, false, Bool, if◌then◌else◌}
 use Rattle.iol_core.specs.Access.{HasAccess}
 use Rattle.iol_core.specs.State.{State, descriptor, content, file, may_read, is_live}
 use Rattle.iol_core.specs.Run.{StepsTo}
@@ -27,7 +27,6 @@ use Rattle.flash_laws.specs.declared.doing.Learnt.TheVariants.{File, Text as Tex
 use Rattle.flash_laws.specs.declared.doing.Content.TheVariants.{Script}
 use Rattle.flash_laws.specs.declared.doing.Doing.{Doing}
 use Rattle.flash_laws.specs.declared.doing.Doing.TheVariants.{Rests, Got, Opens, Reads as Reading, Shuts, Spares, Heads, Sends, Breaks, Drops, Closes}
-use Rattle.flash_laws.specs.declared.running.Running.{Running}
 use Rattle.flash_laws.specs.declared.running.Running.TheVariants.{Leaves}
 use Rattle.flash_laws.specs.Fits.{IsFile, Has, is_closing, Names}
 use Rattle.flash_laws.specs.Known as known
@@ -35,14 +34,12 @@ use Rattle.flash_laws.specs.Known.{Known, OfFile, OfScript, is_read, is_silent, 
 use Rattle.flash_laws.specs.Offers as single
 use Rattle.flash_laws.specs.RunFits.{Progress, nothing_yet}
 use Rattle.flash_laws.specs.Site.{server}
+use Rattle.flash_laws.proofs.Forms.{at, of as client}
 use Rattle.flash_laws.proofs.Client.Phases as phases
-use Rattle.flash_laws.proofs.Client.Phases.{at, asks-told, unread-told, read-told}
+use Rattle.flash_laws.proofs.Client.Phases.{asks-told, unread-told, read-told}
 use Rattle.flash_laws.proofs.Lists.{clash}
 use Rattle.flash_laws.proofs.Conn.Offering as offering
 use Rattle.flash_laws.proofs.Run.Ends.{all-taken}
-
-abbrev pub client : Conn → Option Running → List ℕ → Client
-client c run script = record { conn = c; run = run; script = script }
 
 untrue : (b : Bool) → (b ≡ true → ⊥) → b ≡ false
 untrue true never = absurd (never refl)

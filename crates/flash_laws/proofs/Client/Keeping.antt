@@ -32,17 +32,14 @@ use Rattle.flash_laws.specs.RunKeeping.{has_end, RunsKeepNothing}
 use Rattle.flash_laws.specs.Running as running
 use Rattle.flash_laws.specs.Running.{is_over}
 use Rattle.flash_laws.specs.Site.{server}
+use Rattle.flash_laws.proofs.Forms.{at, of as client}
 use Rattle.flash_laws.proofs.Client.Moving.{client-opened, client-piped}
-use Rattle.flash_laws.proofs.Client.Phases.{at}
 use Rattle.flash_laws.proofs.Client.Staying.{client-holds, client-ready, new-holds}
 use Rattle.flash_laws.proofs.Conn.Keeping as keeping
 use Rattle.flash_laws.proofs.Conn.Keeping.{leaves-told, shuts}
 use Rattle.flash_laws.proofs.Lists.{clash}
 use Rattle.flash_laws.proofs.Run.Brought.{runs_keep}
 use Rattle.flash_laws.proofs.Run.Ends.{wants-text}
-
-abbrev client : Conn → Option Running → List ℕ → Client
-client c run script = record { conn = c; run = run; script = script }
 
 -- ---- what it uses is what its connection uses, where no run has begun
 

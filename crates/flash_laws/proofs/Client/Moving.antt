@@ -11,7 +11,7 @@ use Rattle.flash_http.specs.Request.{Answer, serve, refuse}
 use Rattle.flash_laws.specs.Client.{Client, is_for_script, conn_wants, job_of, wants, told_text, file_told, goes_on, told, awaits}
 use Rattle.flash_laws.specs.ClientKeeping.{has_fd}
 use Rattle.flash_laws.specs.ClientOffers.{is_ending}
-use Rattle.flash_laws.specs.Conn.{Conn, most_read}
+use Rattle.flash_laws.specs.Conn.{most_read}
 use Rattle.flash_laws.specs.declared.doing.Content.TheVariants.{Script}
 use Rattle.flash_laws.specs.declared.doing.Doing.{Doing}
 use Rattle.flash_laws.specs.declared.doing.Doing.TheVariants.{Opens, Reads as Reading, Spares}
@@ -23,15 +23,12 @@ use Rattle.flash_laws.specs.Offers.{may_repeat}
 use Rattle.flash_laws.specs.Running as running
 use Rattle.flash_laws.specs.Running.{is_over}
 use Rattle.flash_laws.specs.Site.{server}
+use Rattle.flash_laws.proofs.Forms.{at, of as client}
 use Rattle.flash_laws.proofs.Conn.Answering.{some-inj}
-use Rattle.flash_laws.proofs.Client.Phases.{at}
 use Rattle.flash_laws.proofs.Conn.Moving as moving
 use Rattle.flash_laws.proofs.Conn.Repeats as repeats
 use Rattle.flash_laws.proofs.Run.Ends.{wants-text}
 use Rattle.flash_laws.proofs.Run.Moves as run_moves
-
-abbrev client : Conn → Option Running → List ℕ → Client
-client c run script = record { conn = c; run = run; script = script }
 
 module _ (m n : State) (fd : ℕ) (kept : List ℕ) (q : Answer) (script : List ℕ) where
   moved : (b : Bool) (d : Doing) (r : Reply) (heard : List ℕ) → is_closing d ≡ false → StepsTo m (event.Call server (conn_wants b fd (at kept q d))) r n

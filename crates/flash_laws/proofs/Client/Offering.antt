@@ -40,12 +40,13 @@ use Rattle.flash_laws.specs.RunOffers.{past_of, IsNextOf as IsNextOfRun, taken_b
 use Rattle.flash_laws.specs.Running as running
 use Rattle.flash_laws.specs.Running.{in_phase, is_over, job_pipe}
 use Rattle.flash_laws.specs.Site.{server}
-use Rattle.flash_laws.proofs.Client.Alone.{client, no-text, of-file, of-script}
+use Rattle.flash_laws.proofs.Forms.{at, of as client}
+use Rattle.flash_laws.proofs.Client.Alone.{no-text, of-file, of-script}
 use Rattle.flash_laws.proofs.Client.Moving.{client-moves}
 use Rattle.flash_laws.proofs.Client.Nearing.{rank, client-nears}
 use Rattle.flash_laws.proofs.Client.Staying.{client-whole, client-keeps}
 use Rattle.flash_laws.proofs.Client.Taking.{client-takes}
-use Rattle.flash_laws.proofs.Client.Phases.{at, Next, next-due, script-writes}
+use Rattle.flash_laws.proofs.Client.Phases.{Next, next-due, script-writes}
 use Rattle.flash_laws.proofs.Conn.Lent.{lent-stays, has-stays}
 use Rattle.flash_laws.proofs.Run.Ends.{IsEnd, run-ends, run-after, keeps-back, wants-text}
 use Rattle.flash_laws.proofs.Run.Offering.{part-next, left-next}

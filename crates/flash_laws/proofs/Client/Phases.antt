@@ -34,10 +34,8 @@ use Rattle.flash_laws.specs.Fits.{Has, is_closing, Names}
 use Rattle.flash_laws.specs.Known.{is_read, is_opening}
 use Rattle.flash_laws.specs.Offers.{taken_of}
 use Rattle.flash_laws.specs.Site.{server}
+use Rattle.flash_laws.proofs.Forms.{at}
 use Rattle.flash_laws.proofs.Conn.Having as having
-
-abbrev pub at : List ℕ → Answer → Doing → Conn
-at kept q d = record { kept = kept; q = q; doing = d }
 
 -- ---- what the machine has after a call, but for those that open and read
 

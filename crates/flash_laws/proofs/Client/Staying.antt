@@ -20,10 +20,7 @@ use Rattle.flash_laws.specs.declared.running.Running.TheVariants.{Awaits, Runs}
 use Rattle.flash_laws.specs.Known.{is_read}
 use Rattle.flash_laws.specs.Running as running
 use Rattle.flash_laws.specs.Running.{is_over}
-use Rattle.flash_laws.proofs.Client.Phases.{at}
-
-abbrev client : Conn → Option Running → List ℕ → Client
-client c run script = record { conn = c; run = run; script = script }
+use Rattle.flash_laws.proofs.Forms.{at, of as client}
 
 -- ---- a script is read whole
 

@@ -37,21 +37,11 @@ use Rattle.flash_laws.specs.declared.doing.Doing.TheVariants.{Rests, Got, Opens,
 use Rattle.flash_laws.specs.Fits.{Has}
 use Rattle.flash_laws.specs.Keeping.{KeepsNothing}
 use Rattle.flash_laws.specs.Site.{server}
-use Rattle.flash_laws.proofs.Lists.{clash, later_of}
+use Rattle.flash_laws.proofs.Forms.{at}
+use Rattle.flash_laws.proofs.Lists.{clash, later_of, former_by, former_of}
 use Rattle.flash_laws.proofs.Conn.Moving.{conn-opened}
 use Rattle.flash_laws.proofs.Conn.Touching.{fds-wants, conns-wants, pipes-wants, files-wants, admits-wants}
 use Rattle.flash_laws.proofs.Conn.Uses.{same-number, gives-wants}
-
-abbrev at : List ℕ → Answer → Doing → Conn
-at kept q d = record { kept = kept; q = q; doing = d }
-
-first_of : (a b : Bool) → a ≡ true → (a || b) ≡ true
-first_of true b is = refl
-first_of false b is = absurd (cc (is))
-
-first_by : (a b : Bool) → (a || b) ≡ true → b ≡ false → a ≡ true
-first_by true b is unused = refl
-first_by false b is unused = absurd (clash b is unused)
 
 -- ---- what is used no more is given up
 
@@ -65,12 +55,12 @@ settled-uses (serve w) (File b len) a u = by (selected w.range len)
     by : (sel : Selection) → uses_agg (sends_of sel b len) a ≡ true
     by Whole = u
     by (Bytes first last) = u
-    by Unsatisfiable = first_of (b == a) false u
+    by Unsatisfiable = former_of (b == a) false u
 settled-uses (refuse status head_only close) (File b len) a u = u
 settled-uses q (Length len) a u = absurd (cc (u))
 settled-uses q (Fails status) a u = absurd (cc (u))
-settled-uses (serve w) (TextOf b runs) a u = first_of (b == a) (content_agg (put_out runs) a) u
-settled-uses (refuse status head_only close) (TextOf b runs) a u = first_of (b == a) (content_agg (put_out runs) a) u
+settled-uses (serve w) (TextOf b runs) a u = former_of (b == a) (content_agg (put_out runs) a) u
+settled-uses (refuse status head_only close) (TextOf b runs) a u = former_of (b == a) (content_agg (put_out runs) a) u
 
 following-uses : (k : Content) (a : ℕ) → content_agg k a ≡ true → has_followed (following k) a ≡ true
 following-uses (Body b size len) a u = u
@@ -119,9 +109,9 @@ leaves-told fd kept q (Got b) reply.Done heard a u unused = (u, refl)
 leaves-told fd kept q (Got b) r heard a u unused = absurd (clash (b == a) u unused)
 leaves-told fd kept q (Shuts f k) reply.Done heard a u unused = absurd (clash (uses_agg (settled q k) a) (settled-uses q k a u) unused)
 leaves-told fd kept q (Shuts f k) r heard a u unused = absurd (clash (learnt_agg k a) u unused)
-leaves-told fd kept q (Picks b first last len) (reply.Agg n) heard a u unused = absurd (clash ((b == a) || (n == a)) (first_of (b == a) (n == a) u) unused)
+leaves-told fd kept q (Picks b first last len) (reply.Agg n) heard a u unused = absurd (clash ((b == a) || (n == a)) (former_of (b == a) (n == a) u) unused)
 leaves-told fd kept q (Picks b first last len) r heard a u unused = absurd (clash (b == a) u unused)
-leaves-told fd kept q (Spares b k) reply.Done heard a u unused = (first_by (b == a) (content_agg k a) u unused, refl)
+leaves-told fd kept q (Spares b k) reply.Done heard a u unused = (former_by (b == a) (content_agg k a) u unused, refl)
 leaves-told fd kept q (Spares b k) r heard a u unused = absurd (clash ((b == a) || content_agg k a) u unused)
 leaves-told fd kept q (Heads k) (reply.Agg n) heard a u unused = absurd (clash (uses_agg (headed n (count_of heard) (following k)) a) (headed-more n (count_of heard) (following k) a (following-uses k a u)) unused)
 leaves-told fd kept q (Heads k) r heard a u unused = absurd (clash (content_agg k a) u unused)
@@ -135,13 +125,13 @@ leaves-told fd kept q (Cuts b from len taken more) r heard a u unused = absurd (
 leaves-told fd kept q (Offers b from len piece taken more) (reply.Count k) heard a u unused = absurd (clash ((piece == a) || ((b == a) || has_followed more a)) u unused)
 leaves-told fd kept q (Offers b from len piece taken more) (reply.Refused no.BrokenPipe) heard a u unused = absurd (clash ((piece == a) || ((b == a) || has_followed more a)) u unused)
 leaves-told fd kept q (Offers b from len piece taken more) r heard a u unused = absurd (clash ((piece == a) || ((b == a) || has_followed more a)) u unused)
-leaves-told fd kept q (Swaps b from len piece taken more) reply.Done heard a u unused = (first_by (piece == a) ((b == a) || has_followed more a) u (swaps-more b from len taken more a (nat_lt from len) unused), refl)
+leaves-told fd kept q (Swaps b from len piece taken more) reply.Done heard a u unused = (former_by (piece == a) ((b == a) || has_followed more a) u (swaps-more b from len taken more a (nat_lt from len) unused), refl)
 leaves-told fd kept q (Swaps b from len piece taken more) r heard a u unused = absurd (clash ((piece == a) || ((b == a) || has_followed more a)) u unused)
-leaves-told fd kept q (Sent b taken more) reply.Done heard a u unused = (first_by (b == a) (has_followed more a) u (goes_on-more q taken more a unused), refl)
+leaves-told fd kept q (Sent b taken more) reply.Done heard a u unused = (former_by (b == a) (has_followed more a) u (goes_on-more q taken more a unused), refl)
 leaves-told fd kept q (Sent b taken more) r heard a u unused = absurd (clash ((b == a) || has_followed more a) u unused)
-leaves-told fd kept q (Breaks piece b more) reply.Done heard a u unused = (first_by (piece == a) ((b == a) || has_followed more a) u unused, refl)
+leaves-told fd kept q (Breaks piece b more) reply.Done heard a u unused = (former_by (piece == a) ((b == a) || has_followed more a) u unused, refl)
 leaves-told fd kept q (Breaks piece b more) r heard a u unused = absurd (clash ((piece == a) || ((b == a) || has_followed more a)) u unused)
-leaves-told fd kept q (Drops b more) reply.Done heard a u unused = (first_by (b == a) (has_followed more a) u (drops-more more a unused), refl)
+leaves-told fd kept q (Drops b more) reply.Done heard a u unused = (former_by (b == a) (has_followed more a) u (drops-more more a unused), refl)
 leaves-told fd kept q (Drops b more) r heard a u unused = absurd (clash ((b == a) || has_followed more a) u unused)
 leaves-told fd kept q d r heard a u unused = absurd (cc (u))
 
@@ -170,12 +160,12 @@ shuts own m n fd kept q d r heard g step u unused = absurd (cc (u))
 -- ---- what comes is used
 
 pub headed-first : (n size : ℕ) (more : Following) (a : ℕ) → (n == a) ≡ true → uses_agg (headed n size more) a ≡ true
-headed-first n size None a is = first_of (n == a) false is
+headed-first n size None a is = former_of (n == a) false is
 headed-first n size (Some x) a is = by (nat_le (size + x.1) MAX_AGGREGATE_BYTES)
   where
     by : (t : Bool) → uses_agg (if t then Joins n size x.0 x.1 else Sends n size 0 (Some x)) a ≡ true
-    by true = first_of (n == a) (x.0 == a) is
-    by false = first_of (n == a) (x.0 == a) is
+    by true = former_of (n == a) (x.0 == a) is
+    by false = former_of (n == a) (x.0 == a) is
 
 module _ (come : AggregatesComeAndGo) (own : CallsServeTheirDomain) (m n : State) (order : IsOrderly m)
     (a : ℕ) (bytes : List ℕ) (before : lent_at m server a ≡ None) (after : lent_at n server a ≡ Some bytes) where
@@ -245,7 +235,7 @@ module _ (come : AggregatesComeAndGo) (own : CallsServeTheirDomain) (m n : State
         by : (r : Reply) (heard : List ℕ) → o.ReadsConn m server c count r n
             → brings (event.Call server (call.IolRead fd count)) r server a ≡ true
             → uses_agg (told_rests kept q r heard).doing a ≡ true
-        by (reply.Agg k) [] did is = first_of (k == a) false is
+        by (reply.Agg k) [] did is = former_of (k == a) false is
         by (reply.Agg k) (b ∷ heard) did is = is
         by (reply.Refused x) heard did is = absurd (cc (is))
         by r heard did is = absurd did
@@ -287,7 +277,7 @@ module _ (come : AggregatesComeAndGo) (own : CallsServeTheirDomain) (m n : State
         → uses_agg (told (at kept q (Joins b size body len)) r heard).doing a ≡ true
     joins b size body len q xs ys r heard lends more step =
         made (call.AggJoin b body) (xs ++ ys) (λ z. uses_agg (told (at kept q (Joins b size body len)) z heard).doing a) r step
-        (own.join m n server b body xs ys r order lends more step) (λ x is. is) (λ x is. cc (is)) (λ x is. first_of (x == a) false is)
+        (own.join m n server b body xs ys r order lends more step) (λ x is. is) (λ x is. cc (is)) (λ x is. former_of (x == a) false is)
 
     cuts : (b from len taken : ℕ) (more : Following) (q : Answer) (whole : List ℕ) (r : Reply) (heard : List ℕ)
         → lent_at m server b ≡ Some whole
@@ -295,7 +285,7 @@ module _ (come : AggregatesComeAndGo) (own : CallsServeTheirDomain) (m n : State
         → uses_agg (told (at kept q (Cuts b from len taken more)) r heard).doing a ≡ true
     cuts b from len taken more q whole r heard lends step =
         made (call.AggCut b from (piece_end from len)) (slice_range whole from (piece_end from len)) (λ z. uses_agg (told (at kept q (Cuts b from len taken more)) z heard).doing a) r step
-        (own.cut m n server b from (piece_end from len) whole r order lends step) (λ x is. is) (λ x is. cc (is)) (λ x is. first_of (x == a) ((b == a) || has_followed more a) is)
+        (own.cut m n server b from (piece_end from len) whole r order lends step) (λ x is. is) (λ x is. cc (is)) (λ x is. former_of (x == a) ((b == a) || has_followed more a) is)
 
     pub brought : (fd c : ℕ) (q : Answer) (d : Doing) (due : List ℕ) (r : Reply) (heard : List ℕ) → HasAccess m → is_live m server ≡ true
         → descriptor m server fd ≡ Some (on.Connection c) → Has m q due d

@@ -18,11 +18,9 @@ use Rattle.flash_laws.specs.declared.doing.Doing.{Doing}
 use Rattle.flash_laws.specs.declared.doing.Doing.TheVariants.{Rests, Reads as Reading, Shuts, Sends, Offers, Closes, Over}
 use Rattle.flash_laws.specs.Fits.{Has}
 use Rattle.flash_laws.specs.Site.{server}
+use Rattle.flash_laws.proofs.Forms.{at}
 use Rattle.flash_laws.proofs.Conn.Uses.{same-number}
 use Rattle.flash_laws.proofs.Lists.{clash}
-
-abbrev at : List ℕ → Answer → Doing → Conn
-at kept q d = record { kept = kept; q = q; doing = d }
 
 not-file : (m : State) (fd c g : ℕ) → descriptor m server fd ≡ Some (on.Connection c)
     → ((fd == g) && is_file (descriptor m server fd)) ≡ false

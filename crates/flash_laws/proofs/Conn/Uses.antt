@@ -18,7 +18,7 @@ use Rattle.flash_http.specs.declared.ranges.Selection.TheVariants.{Whole, Bytes,
 use Rattle.flash_http.specs.Range.{selected}
 use Rattle.flash_http.specs.Request.{Answer, serve, refuse}
 use Rattle.flash_laws.specs.Answers.{keeps}
-use Rattle.flash_laws.specs.Conn.{Following, Conn, has_followed, learnt_agg, content_agg, uses_agg, uses_fd, is_head_only, most_read, piece_end, count_of, wants, sends_of, settled, following, headed, goes_on, drops_next, told, told_rests, begins}
+use Rattle.flash_laws.specs.Conn.{Following, has_followed, learnt_agg, content_agg, uses_agg, uses_fd, is_head_only, most_read, piece_end, count_of, wants, sends_of, settled, following, headed, goes_on, drops_next, told, told_rests, begins}
 use Rattle.flash_laws.specs.declared.doing.Learnt.{Learnt}
 use Rattle.flash_laws.specs.declared.doing.Learnt.TheVariants.{File, Length, Fails, Text as TextOf}
 use Rattle.flash_laws.specs.declared.doing.Content.{Content}
@@ -27,18 +27,12 @@ use Rattle.flash_laws.specs.declared.doing.Doing.{Doing}
 use Rattle.flash_laws.specs.declared.doing.Doing.TheVariants.{Rests, Got, Opens, Reads as Reading, Shuts, Picks, Spares, Heads, Joins, Sends, Cuts, Offers, Swaps, Sent, Breaks, Drops, Closes, Over}
 use Rattle.flash_laws.specs.Fits.{IsLent, LendsMore, HasContent, HasLearnt, Has}
 use Rattle.flash_laws.specs.Site.{server}
-use Rattle.flash_laws.proofs.Lists.{clash, later_of}
-
-abbrev at : List ℕ → Answer → Doing → Conn
-at kept q d = record { kept = kept; q = q; doing = d }
+use Rattle.flash_laws.proofs.Forms.{at}
+use Rattle.flash_laws.proofs.Lists.{clash, later_of, bare}
 
 pub one-of : (a b : Bool) → (a || b) ≡ true → (a ≡ true) ⊎ (b ≡ true)
 one-of true b u = inl refl
 one-of false b u = inr u
-
-only : (a : Bool) → (a || false) ≡ true → a ≡ true
-only true u = refl
-only false u = u
 
 pub same-number : (a b : ℕ) → (a == b) ≡ true → a ≡ b
 same-number a b is = grind (arith, nat_tests, is)
@@ -77,7 +71,7 @@ Uses d r after a = uses_agg after a ≡ true → (uses_agg d a ≡ true) ⊎ (is
 
 uses-rests : (kept : List ℕ) (q : Answer) (r : Reply) (heard : List ℕ) (a : ℕ)
     → Uses Rests r (told_rests kept q r heard).doing a
-uses-rests kept q (reply.Agg n) [] a u = inr (only (n == a) u)
+uses-rests kept q (reply.Agg n) [] a u = inr (bare (n == a) u)
 uses-rests kept q (reply.Agg n) (b ∷ heard) a u = inr u
 uses-rests kept q r heard a u = absurd (cc)
 
@@ -87,16 +81,16 @@ uses-settled (serve w) g (File b len) a u = by (selected w.range len) u
     by : (sel : Selection) → uses_agg (sends_of sel b len) a ≡ true → (b == a) ≡ true
     by Whole u = u
     by (Bytes first last) u = u
-    by Unsatisfiable u = only (b == a) u
+    by Unsatisfiable u = bare (b == a) u
 uses-settled (refuse status head_only close) g (File b len) a u = u
 uses-settled (serve w) g (Length len) a u = absurd (cc)
 uses-settled (refuse status head_only close) g (Length len) a u = absurd (cc)
 uses-settled (serve w) g (Fails status) a u = absurd (cc)
 uses-settled (refuse status head_only close) g (Fails was) a u = absurd (cc)
-uses-settled (serve w) g (TextOf b true) a u = only (b == a) u
-uses-settled (serve w) g (TextOf b false) a u = only (b == a) u
-uses-settled (refuse status head_only close) g (TextOf b true) a u = only (b == a) u
-uses-settled (refuse status head_only close) g (TextOf b false) a u = only (b == a) u
+uses-settled (serve w) g (TextOf b true) a u = bare (b == a) u
+uses-settled (serve w) g (TextOf b false) a u = bare (b == a) u
+uses-settled (refuse status head_only close) g (TextOf b true) a u = bare (b == a) u
+uses-settled (refuse status head_only close) g (TextOf b false) a u = bare (b == a) u
 
 uses-following : (k : Content) (a : ℕ) → has_followed (following k) a ≡ true → content_agg k a ≡ true
 uses-following (Body b size len) a u = u
@@ -114,7 +108,7 @@ uses-headed n size (Some x) a u = by (nat_le (size + x.1) MAX_AGGREGATE_BYTES) u
 
 uses-goes_on : (q : Answer) (b taken : ℕ) (more : Following) (a : ℕ)
     → uses_agg (goes_on q taken more) a ≡ true → ((b == a) || has_followed more a) ≡ true
-uses-goes_on q b taken (Some x) a u = later_of (b == a) (x.0 == a) (only (x.0 == a) u)
+uses-goes_on q b taken (Some x) a u = later_of (b == a) (x.0 == a) (bare (x.0 == a) u)
 uses-goes_on q b taken None a u = by (keeps q) u
   where
     by : (t : Bool) → uses_agg (if t then Rests else Closes) a ≡ true → ((b == a) || false) ≡ true
@@ -123,7 +117,7 @@ uses-goes_on q b taken None a u = by (keeps q) u
 
 uses-drops : (b : ℕ) (more : Following) (a : ℕ) → uses_agg (drops_next more) a ≡ true
     → ((b == a) || has_followed more a) ≡ true
-uses-drops b (Some x) a u = later_of (b == a) (x.0 == a) (only (x.0 == a) u)
+uses-drops b (Some x) a u = later_of (b == a) (x.0 == a) (bare (x.0 == a) u)
 uses-drops b None a u = absurd (cc)
 
 pub uses-told : (kept : List ℕ) (q : Answer) (d : Doing) (r : Reply) (heard : List ℕ) (a : ℕ)
@@ -143,7 +137,7 @@ uses-told kept q (Shuts f k) reply.Done heard a u = inl (uses-settled q f k a u)
 uses-told kept q (Picks b first last len) (reply.Agg n) heard a u = elim (one-of (b == a) (n == a) u) [ inl is ↦ inl is | inr is ↦ inr is ]
 uses-told kept q (Spares b k) reply.Done heard a u = inl (later_of (b == a) (content_agg k a) u)
 uses-told kept q (Heads k) (reply.Agg n) heard a u = elim (one-of (n == a) (has_followed (following k) a) (uses-headed n (count_of heard) (following k) a u)) [ inl is ↦ inr is | inr is ↦ inl (uses-following k a is) ]
-uses-told kept q (Joins b size body len) (reply.Agg n) heard a u = inr (only (n == a) u)
+uses-told kept q (Joins b size body len) (reply.Agg n) heard a u = inr (bare (n == a) u)
 uses-told kept q (Sends b len taken more) (reply.Count k) heard a u = inl (by (nat_lt k len) u)
   where
     by : (t : Bool) → uses_agg (if t then Cuts b k len (taken + k) more else Sent b (taken + len) more) a ≡ true

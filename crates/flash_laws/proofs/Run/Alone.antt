@@ -31,22 +31,17 @@ use Rattle.flash_laws.specs.declared.running.Step.{Step}
 use Rattle.flash_laws.specs.declared.running.Step.TheVariants.{Gives, Makes, Hands, Lets, Heads, Sending, Hears, Spills, Gathers, Frames, Wraps, Trims, Ended, Unholds, Stops, Unframes, Lasts, WrapsLast, TrimsLast, Unwraps, Returns, Lapses, Fails}
 use Rattle.flash_laws.specs.declared.running.Running.{Running}
 use Rattle.flash_laws.specs.declared.running.Running.TheVariants.{Awaits, Runs, Leaves, Closes}
-use Rattle.flash_laws.proofs.Lists.{clash, later_of}
-use Rattle.flash_laws.proofs.Run.Keeping.{first}
-use Rattle.flash_laws.proofs.Run.Left.{is-rest, part-sends, still-left}
+use Rattle.flash_laws.proofs.Lists.{clash, later_of, bare, former_of, not-false}
+use Rattle.flash_laws.proofs.Run.Left.{is-rest, part-sends}
 use Rattle.flash_laws.proofs.Run.Parts.{no-position}
 use Rattle.flash_laws.proofs.Conn.Uses.{same-number}
 
-alone : (b : Bool) → (b || false) ≡ true → b ≡ true
-alone true is = refl
-alone false is = is
-
 -- of a call on one descriptor that is what it touches
 one-conn : (x : Option Descriptor) (y : Descriptor) (d : ℕ) → x ≡ Some y → (list_any (is_conn d) (x ∷ []) || false) ≡ true → is_conn d (Some y) ≡ true
-one-conn x y d is u = ap (λ z. is_conn d z) (sym is) ∙ alone (is_conn d x) (alone (is_conn d x || false) u)
+one-conn x y d is u = ap (λ z. is_conn d z) (sym is) ∙ bare (is_conn d x) (bare (is_conn d x || false) u)
 
 one-end : (x : Option Descriptor) (y : Descriptor) (p : ℕ) → x ≡ Some y → (list_any (is_end p) (x ∷ []) || false) ≡ true → is_end p (Some y) ≡ true
-one-end x y p is u = ap (λ z. is_end p z) (sym is) ∙ alone (is_end p x) (alone (is_end p x || false) u)
+one-end x y p is u = ap (λ z. is_end p z) (sym is) ∙ bare (is_end p x) (bare (is_end p x || false) u)
 
 no-file : (x : Option Descriptor) (y : Descriptor) → x ≡ Some y → is_file (Some y) ≡ false → is_file x ≡ false
 no-file x y is none = ap (λ z. is_file z) is ∙ none
@@ -123,10 +118,10 @@ module _ (m : State) (fd c : ℕ) (x : Running) where
   sends w due (doing.Sends a len taken None) open_on uses is = offers a open_on
   sends w due (doing.Cuts a from len taken None) open_on uses is = cuts a from (piece_end from len)
   sends w due (doing.Offers a from len piece taken None) open_on uses is = offers piece open_on
-  sends w due (doing.Swaps a from len piece taken None) open_on uses is = drops piece (λ b u. uses b (first (piece == b) ((a == b) || false) u))
-  sends w due (doing.Sent a taken None) open_on uses is = drops a (λ b u. uses b (first (a == b) false u))
-  sends w due (doing.Breaks piece a None) open_on uses is = drops piece (λ b u. uses b (first (piece == b) ((a == b) || false) u))
-  sends w due (doing.Drops a None) open_on uses is = drops a (λ b u. uses b (first (a == b) false u))
+  sends w due (doing.Swaps a from len piece taken None) open_on uses is = drops piece (λ b u. uses b (former_of (piece == b) ((a == b) || false) u))
+  sends w due (doing.Sent a taken None) open_on uses is = drops a (λ b u. uses b (former_of (a == b) false u))
+  sends w due (doing.Breaks piece a None) open_on uses is = drops piece (λ b u. uses b (former_of (piece == b) ((a == b) || false) u))
+  sends w due (doing.Drops a None) open_on uses is = drops a (λ b u. uses b (former_of (a == b) false u))
   sends w due d open_on uses is = absurd is.0
 
 to-end : (m : State) (f p q : ℕ) → descriptor m server f ≡ Some (on.ReadEnd p) → p ≡ q → descriptor m server f ≡ Some (on.ReadEnd q)
@@ -138,7 +133,7 @@ from-end m f p q open_on same = subst (λ z. descriptor m server f ≡ Some (on.
 module _ (job : ℕ → List ℕ) (m : State) (fd c : ℕ) (w : Wanted) (o : Progress) (run : Run) (open_on : descriptor m server fd ≡ Some (on.Connection c)) where
   -- what is read, and closed, is its own
   reading : (g : ℕ) → (run.from == g) ≡ true → ((run.from == g) || false) ≡ true
-  reading g u = first (run.from == g) false u
+  reading g u = former_of (run.from == g) false u
 
   step-alone : (s : Step) → HasRun job m w o (Runs run s) → KeepsToItself m fd c (Runs run s) (step_wants job fd w run s)
   step-alone (Gives write) has = gives m fd c (Runs run (Gives write)) write (worker_domain run.worker) (λ g u. later_of (run.from == g) (write == g) u)
@@ -146,25 +141,25 @@ module _ (job : ℕ → List ℕ) (m : State) (fd c : ℕ) (w : Wanted) (o : Pro
   step-alone (Hands j f) has = writes m fd c (Runs run (Hands j f)) (job_pipe run.worker) has.0.0 j has.0.1 (λ q same. from-end m (job_pipe run.worker) has.0.0 q has.0.1 same)
   step-alone (Lets j) has = drops m fd c (Runs run (Lets j)) j (λ a u. u)
   step-alone Heads has = makes m fd c (Runs run Heads) (script_text w)
-  step-alone (Sending d frame) has = sends m fd c (Runs run (Sending d frame)) w has.1.part d open_on (λ a u. first (conn.uses_agg d a) (has_frame frame a) u) (part-sends m has.1.part d has.1.is_part has.1.within)
+  step-alone (Sending d frame) has = sends m fd c (Runs run (Sending d frame)) w has.1.part d open_on (λ a u. former_of (conn.uses_agg d a) (has_frame frame a) u) (part-sends m has.1.part d has.1.is_part has.1.within)
   step-alone (Hears held frame) has = reads m fd c (Runs run (Hears held frame)) run.from has.1.reads.0 (CHUNK_BYTES - held_size held) has.1.reads.1 (λ q same. to-end m run.from has.1.reads.0 q has.1.reads.1 same)
-  step-alone (Spills a frame) has = drops m fd c (Runs run (Spills a frame)) a (λ b u. first (a == b) (has_frame frame b) u)
+  step-alone (Spills a frame) has = drops m fd c (Runs run (Spills a frame)) a (λ b u. former_of (a == b) (has_frame frame b) u)
   step-alone (Gathers held size piece len frame) has = joins m fd c (Runs run (Gathers held size piece len frame)) held piece (λ a u. around (held == a) (piece == a) (has_frame frame a) u)
     where
       around : (x y z : Bool) → (x || y) ≡ true → (x || (y || z)) ≡ true
       around true y z u = refl
-      around false y z u = first y z u
+      around false y z u = former_of y z u
   step-alone (Frames held) has = makes m fd c (Runs run (Frames held)) (frame_of CHUNK_BYTES)
   step-alone (Wraps held frame) has = replaces m fd c (Runs run (Wraps held frame)) frame (place_in_frame CHUNK_BYTES) (place_in_frame CHUNK_BYTES) held
-  step-alone (Trims held chunk len frame) has = drops m fd c (Runs run (Trims held chunk len frame)) held (λ a u. first (held == a) ((chunk == a) || (frame == a)) u)
-  step-alone (Ended b held frame) has = drops m fd c (Runs run (Ended b held frame)) b (λ a u. first (b == a) (has_followed held a || has_frame frame a) u)
-  step-alone (Unholds held frame) has = drops m fd c (Runs run (Unholds held frame)) held (λ a u. first (held == a) (has_frame frame a) u)
+  step-alone (Trims held chunk len frame) has = drops m fd c (Runs run (Trims held chunk len frame)) held (λ a u. former_of (held == a) ((chunk == a) || (frame == a)) u)
+  step-alone (Ended b held frame) has = drops m fd c (Runs run (Ended b held frame)) b (λ a u. former_of (b == a) (has_followed held a || has_frame frame a) u)
+  step-alone (Unholds held frame) has = drops m fd c (Runs run (Unholds held frame)) held (λ a u. former_of (held == a) (has_frame frame a) u)
   step-alone (Stops held frame) has = closes m fd c (Runs run (Stops held frame)) run.from has.1.0.0 (on.ReadEnd has.1.0.0) has.1.0.1 (λ d. refl) (λ q. refl) (λ g u. reading g u) (λ q same. to-end m run.from has.1.0.0 q has.1.0.1 same)
-  step-alone (Unframes frame held) has = drops m fd c (Runs run (Unframes frame held)) frame (λ a u. first (frame == a) (has_followed held a) u)
+  step-alone (Unframes frame held) has = drops m fd c (Runs run (Unframes frame held)) frame (λ a u. former_of (frame == a) (has_followed held a) u)
   step-alone (Lasts held) has = makes m fd c (Runs run (Lasts held)) (end_around held)
   step-alone (WrapsLast held size frame) has = replaces m fd c (Runs run (WrapsLast held size frame)) frame (place_in_frame size) (place_in_frame size) held
-  step-alone (TrimsLast held chunk len frame) has = drops m fd c (Runs run (TrimsLast held chunk len frame)) held (λ a u. first (held == a) ((chunk == a) || (frame == a)) u)
-  step-alone (Unwraps frame chunk len) has = drops m fd c (Runs run (Unwraps frame chunk len)) frame (λ a u. first (frame == a) (chunk == a) u)
+  step-alone (TrimsLast held chunk len frame) has = drops m fd c (Runs run (TrimsLast held chunk len frame)) held (λ a u. former_of (held == a) ((chunk == a) || (frame == a)) u)
+  step-alone (Unwraps frame chunk len) has = drops m fd c (Runs run (Unwraps frame chunk len)) frame (λ a u. former_of (frame == a) (chunk == a) u)
   step-alone (Returns write) has = closes m fd c (Runs run (Returns write)) write has.1.0.pipe (on.WriteEnd has.1.0.pipe) has.1.0.write_end (λ d. refl) (λ q. refl) (λ g u. later_of (run.from == g) (write == g) u)
       (λ q same. from-end m write has.1.0.pipe q has.1.0.write_end same)
   step-alone (Lapses j) has = drops m fd c (Runs run (Lapses j)) j (λ a u. u)
@@ -182,7 +177,7 @@ keeps-alone job m fd c w Awaits o open_on going has = record {
 }
 keeps-alone job m fd c w (Runs run s) o open_on going has = step-alone job m fd c w o run open_on s has
 keeps-alone job m fd c w (Leaves d) o open_on going has =
-    let h = is-rest m w o d (still-left (is_left d) going) has in
+    let h = is-rest m w o d (not-false (is_left d) going) has in
     sends m fd c (Leaves d) w h.due d open_on (λ a u. u) h.sends
 keeps-alone job m fd c w Closes o open_on going has = absurd (cc (going))
 
@@ -204,6 +199,6 @@ opened job m n fd worker w x o from write heard g going has step u = by x going 
   where
     by : (x : Running) → is_over x ≡ false → HasRun job m w o x → wants job fd w x ≡ call.Pipe → has_end (told worker w x (reply.Fds from write) heard) g ≡ true
     by Awaits going has is = u
-    by (Leaves d) going has is = let h = is-rest m w o d (still-left (is_left d) going) has in absurd (no-pipe m fd w h.due d h.sends is)
+    by (Leaves d) going has is = let h = is-rest m w o d (not-false (is_left d) going) has in absurd (no-pipe m fd w h.due d h.sends is)
     by (Runs run (Sending d frame)) going has is = absurd (no-pipe m fd w has.1.part d (part-sends m has.1.part d has.1.is_part has.1.within) is)
     by x going has is = absurd (cc (is))

@@ -19,7 +19,7 @@ use Rattle.flash_laws.specs.declared.running.Step.{Step}
 use Rattle.flash_laws.specs.declared.running.Step.TheVariants.{Gives, Makes, Hands, Lets, Heads, Sending, Hears, Spills, Gathers, Frames, Wraps, Trims, Ended, Unholds, Stops, Unframes, Lasts, WrapsLast, TrimsLast, Unwraps, Returns, Lapses, Fails}
 use Rattle.flash_laws.specs.declared.running.Running.{Running}
 use Rattle.flash_laws.specs.declared.running.Running.TheVariants.{Awaits, Runs, Leaves, Closes}
-use Rattle.flash_laws.proofs.Lists.{clash}
+use Rattle.flash_laws.proofs.Lists.{clash, not-true}
 
 -- ---- it ends where the connection rests, or is to be closed
 
@@ -40,14 +40,10 @@ left-ends m w o (doing.Breaks piece a more) has over = absurd (cc (over))
 left-ends m w o (doing.Drops a more) has over = absurd (cc (over))
 left-ends m w o d has over = absurd has.sends.0
 
-turned-over : (b : Bool) → not b ≡ true → b ≡ false
-turned-over true is = absurd (cc (is))
-turned-over false is = refl
-
 pub run-ends : (job : ℕ → List ℕ) (m : State) (w : Wanted) (o : Progress) (z : Running) → HasRun job m w o z → is_over z ≡ true → IsEnd (after_run z)
 run-ends job m w o Awaits has over = absurd (cc (over))
 run-ends job m w o (Runs run s) has over = absurd (cc (over))
-run-ends job m w o (Leaves d) has over = left-ends m w o d has (turned-over (is_left d) over)
+run-ends job m w o (Leaves d) has over = left-ends m w o d has (not-true (is_left d) over)
 run-ends job m w o Closes has over = inr refl
 
 -- ---- and all of the response was taken, or it was broken off
@@ -71,7 +67,7 @@ left-after m w o d has ends = elim ends [
 pub run-after : (job : ℕ → List ℕ) (m : State) (w : Wanted) (o : Progress) (z : Running) → HasRun job m w o z → is_over z ≡ true → IsAfter w o (after_run z)
 run-after job m w o Awaits has over = absurd (cc (over))
 run-after job m w o (Runs run s) has over = absurd (cc (over))
-run-after job m w o (Leaves d) has over = left-after m w o d has (left-ends m w o d has (turned-over (is_left d) over))
+run-after job m w o (Leaves d) has over = left-after m w o d has (left-ends m w o d has (not-true (is_left d) over))
 run-after job m w o Closes has over = none-taken w o has
 
 -- ---- the text is kept until the job is made

@@ -68,10 +68,6 @@ none-left w (Ran heard ended past) closes left = (left, inl closes)
 none-left w Broken closes left = absurd left
 none-left w (NotRun status past) closes left = (left, inl closes)
 
-pub still-left : (b : Bool) → not b ≡ false → b ≡ true
-still-left true is = refl
-still-left false is = absurd (cc (is))
-
 -- a part is sent as what is left is
 pub part-sends : (m : State) (due : List ℕ) (d : Doing) → IsPart m (sent_agg d) due → taken_of d ≤ length due → IsSending m due d
 part-sends m due (doing.Heads (Error status)) is within = tt

@@ -24,7 +24,8 @@ use Rattle.flash_laws.specs.declared.running.Step.TheVariants.{Gives, Makes, Han
 use Rattle.flash_laws.specs.declared.running.Running.{Running}
 use Rattle.flash_laws.specs.declared.running.Running.TheVariants.{Awaits, Runs, Leaves, Closes}
 use Rattle.flash_laws.proofs.Conn.Repeats.{either, drops, closes, makes, cuts, joins, replaces, reads, gives, writes, pipes}
-use Rattle.flash_laws.proofs.Run.Left.{is-rest, still-left}
+use Rattle.flash_laws.proofs.Run.Left.{is-rest}
+use Rattle.flash_laws.proofs.Lists.{not-false}
 
 -- the phase of what is sent
 abbrev doing_of : Running → Doing
@@ -145,6 +146,6 @@ pub moves : (job : ℕ → List ℕ) (m n : State) (fd worker : ℕ) (w : Wanted
 moves job m n fd worker w Awaits r heard o going has step same = pipes m n Awaits (λ z. told worker w Awaits z heard) r step (λ k l e. cc (e)) same
 moves job m n fd worker w (Runs run s) r heard o going has step same = steps run job m n fd w o s r heard has step same
 moves job m n fd worker w (Leaves d) r heard o going has step same =
-    let h = is-rest m w o d (still-left (is_left d) going) has in
+    let h = is-rest m w o d (not-false (is_left d) going) has in
     phase m n w fd h.due d r heard h.sends step (ap (λ (z : Running). doing_of z) same)
 moves job m n fd worker w Closes r heard o going has step same = absurd (cc (going))

@@ -39,11 +39,11 @@ use Rattle.flash_laws.specs.declared.running.Step.TheVariants.{Gives, Makes, Han
 use Rattle.flash_laws.specs.declared.running.Running.{Running}
 use Rattle.flash_laws.specs.declared.running.Running.TheVariants.{Awaits, Runs, Leaves, Closes}
 use Rattle.flash_laws.proofs.Conn.Answering.{some-inj}
-use Rattle.flash_laws.proofs.Lists.{differ}
+use Rattle.flash_laws.proofs.Lists.{differ, not-false}
 use Rattle.flash_laws.proofs.Conn.Nearing.{stage, calls_left, head_calls, lacks-later, drops, closes, makes, joins, near}
 use Rattle.flash_laws.proofs.Conn.Nearing as file
 use Rattle.flash_laws.proofs.Run.Outputs.{short-digits}
-use Rattle.flash_laws.proofs.Run.Left.{is-rest, still-left}
+use Rattle.flash_laws.proofs.Run.Left.{is-rest}
 
 -- ---- how far it is: the calls that are left, if no more output comes
 
@@ -352,7 +352,7 @@ pub nears : CallsServeTheirDomain → RefusalsThatAreLeft → (job : ℕ → Lis
 nears own may job m n fd c worker w Awaits r heard o order lives open_on going has can step names = inl (pipes own may m n order lives job w worker r step)
 nears own may job m n fd c worker w (Runs run s) r heard o order lives open_on going has can step names = steps own may m n order lives job w run fd c o s r heard open_on has can step names
 nears own may job m n fd c worker w (Leaves d) r heard o order lives open_on going has can step names =
-    let left : is_left d ≡ true = still-left (is_left d) going in
+    let left : is_left d ≡ true = not-false (is_left d) going in
     let h = is-rest m w o d left has in
     inl (rest own may m n order lives job w d (conn.told (in_phase w d) r heard).doing r (left-stage d left)
     (near own may m n order lives fd c [] (serve w) d h.due r heard open_on (left-busy d left) h.has can step names))

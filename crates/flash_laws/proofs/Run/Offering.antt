@@ -36,7 +36,7 @@ use Rattle.flash_laws.specs.declared.running.Step.TheVariants.{Gives, Makes, Han
 use Rattle.flash_laws.specs.declared.running.Running.{Running}
 use Rattle.flash_laws.specs.declared.running.Running.TheVariants.{Awaits, Runs, Leaves, Closes}
 use Rattle.flash_laws.proofs.Run.Left as left
-use Rattle.flash_laws.proofs.Run.Left.{is-rest, still-left}
+use Rattle.flash_laws.proofs.Run.Left.{is-rest}
 use Rattle.flash_laws.proofs.Run.Moves.{moves}
 use Rattle.flash_laws.proofs.Run.Nearing.{rank, nears}
 use Rattle.flash_laws.proofs.Run.Parts as parts
@@ -46,6 +46,7 @@ use Rattle.flash_laws.proofs.Run.Stays.{run_stays, hired-on, write-elsewhere}
 use Rattle.flash_laws.proofs.Run.Takes.{takes, breaks, fails, in_turn}
 use Rattle.flash_laws.proofs.Run.Steps as acts
 use Rattle.flash_laws.proofs.Run.Stops as stopping
+use Rattle.flash_laws.proofs.Lists.{not-false}
 
 module _ (steps : EachStepLeavesTheRest) (own : CallsServeTheirDomain) (m n : State) (order : IsOrderly m) (job : ℕ → List ℕ) (w : Wanted) where
   abbrev Told : Running → Running → Reply → List ℕ → Progress → Type 0
@@ -125,7 +126,7 @@ module _ (steps : EachStepLeavesTheRest) (own : CallsServeTheirDomain) (m n : St
       → StepsTo m (event.Call server (wants job fd w x)) r n → Names n r heard → Told x (told worker w x r heard) r heard o
   replied fd c worker Awaits r heard o open_on free going has step names = acts.awaits steps own m n order job w worker r heard o (free refl) has step
   replied fd c worker Closes r heard o open_on free going has step names = absurd (cc (going))
-  replied fd c worker (Leaves d) r heard o open_on free going has step names = leaving fd c o d r heard open_on (still-left (is_left d) going) has step names
+  replied fd c worker (Leaves d) r heard o open_on free going has step names = leaving fd c o d r heard open_on (not-false (is_left d) going) has step names
   replied fd c worker (Runs run (Gives write)) r heard o open_on free going has step names = (o, refl, acts.gives steps own m n order job w run has.0 write r o has.1 step)
   replied fd c worker (Runs run (Makes f)) r heard o open_on free going has step names = (o, refl, acts.makes steps own m n order job w run has.0 f r o has.1 step)
   replied fd c worker (Runs run (Hands j f)) r heard o open_on free going has step names = (o, refl, acts.hands steps own m n order job w run has.0 j f r o has.1 step)

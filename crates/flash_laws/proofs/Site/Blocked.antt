@@ -1,6 +1,6 @@
 -- A client whose call would block is as it was.
 use Rattle.std.proofs.Common.{inl, inr, ◌≡◌, ℕ, zero, suc, ◌+◌, ◌-◌, ◌<◌, ◌≤◌, ◌⊎◌, List, [], ◌∷◌, ◌++◌, length, ap, ◌∙◌, refl, sym, subst, arith, Option, Some, None, true, false, Bool, append-nil, slice_set}
-use Rattle.std.specs.Prelude.{replicate, not, ◌||◌}
+use Rattle.std.specs.Prelude.{replicate}
 use Rattle.std.proofs.lemmas.Bool.{cases_lt}
 use Rattle.std.proofs.lemmas.Bool.Decides.{nat_tests}
 use Rattle.std.proofs.lemmas.Grind.{common_steps}
@@ -31,6 +31,8 @@ use Rattle.flash_laws.specs.declared.running.Step.{Step}
 use Rattle.flash_laws.specs.declared.running.Step.TheVariants as act
 use Rattle.flash_laws.specs.declared.running.Running.{Running}
 use Rattle.flash_laws.specs.declared.running.Running.TheVariants.{Awaits, Runs, Leaves, Closes as Ends}
+use Rattle.flash_laws.proofs.Forms.{at, of}
+use Rattle.flash_laws.proofs.Lists.{never_passed}
 
 -- which calls may be told to wait
 abbrev pub WaitLaw : Type 0
@@ -60,9 +62,6 @@ pub same-there : (clients : List (Option Client)) (fd : ℕ) (x : Client) → in
 same-there clients fd x is = ap (λ (l : List (Option Client)). slice_set l fd (Some x)) (grown-none clients fd (within clients fd x is)) ∙ set-there clients fd x is
 
 -- A connection that would block is as it was.
-
-abbrev at : List ℕ → Answer → Doing → Conn
-at kept q d = record { kept = kept; q = q; doing = d }
 
 conn-blocked : (kept : List ℕ) (q : Answer) (d : Doing) (heard : List ℕ) → conn.told (at kept q d) (reply.Refused no.WouldBlock) heard ≡ at kept q d
 conn-blocked kept q Rests heard = refl
@@ -102,9 +101,6 @@ stands x y over run_is =
 
 -- A client that would block is as it was.
 
-abbrev of : Conn → Option Running → List ℕ → Client
-of c run script = record { conn = c; run = run; script = script }
-
 script-blocked : (kept : List ℕ) (q : Answer) (d : Doing) (script heard : List ℕ) → file_told true (of (at kept q d) None script) (reply.Refused no.WouldBlock) heard ≡ of (at kept q d) None script
 script-blocked kept q (Reading f) script heard = by (is_head_only q)
   where
@@ -141,13 +137,9 @@ left-blocked : WaitLaw → (m : State) (by workers fd : ℕ) (clients : List (Op
     → Blocks m by workers clients fd (of c run script) → left_over (of c run script) ≡ Some (of c run script)
 left-blocked waits m by workers fd clients c (Some y) script blocks = refl
 left-blocked waits m by workers fd clients c None script blocks = elim blocks.1 [
-  | inl passed ↦ absurd (never (has_free workers clients) passed)
+  | inl passed ↦ absurd (never_passed (has_free workers clients) passed)
   | inr step ↦ doing-blocked waits m by fd (is_for_script (runs_scripts workers) c.q) c.kept c.q c.doing (of c None script) step
 ]
-  where
-    never : (b : Bool) → (b || not false) ≡ false → ⊥
-    never true e = cc (e)
-    never false e = cc (e)
 
 pub filed-at : WaitLaw → (m : State) (by workers fd : ℕ) (clients : List (Option Client)) (heard : List ℕ)
     → BlocksAt m by workers clients fd

@@ -33,10 +33,6 @@ pub or-false : (b c : Bool) → c ≡ false → (b || c) ≡ b
 or-false true c is = refl
 or-false false c is = is
 
-pub or-left : (b c : Bool) → b ≡ true → (b || c) ≡ true
-or-left true c is = refl
-or-left false c is = absurd (cc)
-
 -- an event that brings nothing in, sends nothing, makes nothing, tells of no peer that left, and gives the server nothing
 pub past-same : (p : Past) (e : Event) (r : Reply) → ((c : ℕ) → came_by c e r ≡ []) → ((c : ℕ)
     → sent_by c e r ≡ []) → ((c : ℕ) → made_by c e r ≡ false) → ((c : ℕ) → gone_by c e r ≡ false)

@@ -27,35 +27,25 @@ use Rattle.flash_laws.specs.declared.doing.Flight.{Flight}
 use Rattle.flash_laws.specs.declared.doing.Flight.TheVariants.{Nothing, Accepting, At}
 use Rattle.flash_laws.specs.declared.running.Running.{Running}
 use Rattle.flash_laws.specs.declared.running.Running.TheVariants.{Awaits, Runs, Leaves, Closes as Ends}
+use Rattle.flash_laws.proofs.Forms.{of}
 use Rattle.flash_laws.proofs.Conn.Answering.{some-inj}
 use Rattle.flash_laws.proofs.Site.Clients.{runs-filed, runs-picked}
 use Rattle.flash_laws.proofs.Site.InPlaces.{at-same, at-other, left-is}
-use Rattle.flash_laws.proofs.Lists.{clash}
+use Rattle.flash_laws.proofs.Lists.{clash, must, neither, not-true}
 use Rattle.flash_laws.proofs.Run.Offering.{keeps}
 use Rattle.flash_laws.proofs.Conn.Uses.{same-number}
 
-abbrev of : Conn → Option Running → List ℕ → Client
-of c run script = record { conn = c; run = run; script = script }
-
 -- ---- who is free
-
-neither : (a b : Bool) → (a || b) ≡ false → (a ≡ false) × (b ≡ false)
-neither true b is = absurd (cc (is))
-neither false b is = (refl, is)
 
 none-any : {A : Type 0} (p : Option A → Bool) (xs : List (Option A)) (i : ℕ) → p None ≡ false → list_any p xs ≡ false → p (in_place xs i) ≡ false
 none-any p [] i none is = none
 none-any p (x ∷ xs) zero none is = (neither (p x) (list_any p xs) is).0
 none-any p (x ∷ xs) (suc i) none is = none-any p xs i none (neither (p x) (list_any p xs) is).1
 
-turned : (b : Bool) → not b ≡ true → b ≡ false
-turned true is = absurd (cc (is))
-turned false is = refl
-
 -- a worker that is free runs no script
 pub free-runs : (clients : List (Option Client)) (k gd : ℕ) (y : Client) → is_free clients k ≡ true → in_place clients gd ≡ Some y → is_run_by y k ≡ false
 free-runs clients k gd y free is =
-    ap (λ (o : Option Client). runs_at k o) (sym is) ∙ none-any (λ (o : Option Client). runs_at k o) clients gd refl (turned (list_any (λ o. runs_at k o) clients) free)
+    ap (λ (o : Option Client). runs_at k o) (sym is) ∙ none-any (λ (o : Option Client). runs_at k o) clients gd refl (not-true (list_any (λ o. runs_at k o) clients) free)
 
 pub first-free : (workers : ℕ) (clients : List (Option Client)) → has_free workers clients ≡ true
     → (first_free workers clients < workers) × (is_free clients (first_free workers clients) ≡ true)
@@ -166,11 +156,6 @@ new-own : (workers : ℕ) (clients : List (Option Client)) (fd : ℕ) → has_fr
 new-own workers clients fd free =
     let first = first-free workers clients free in
     (first.0, λ gd z differ is v. clash (is_run_by z (first_free workers clients)) v (free-runs clients (first_free workers clients) gd z first.1 is))
-
-must : (b a : Bool) → (b || not a) ≡ true → a ≡ true → b ≡ true
-must true a may is = refl
-must false true may is = absurd (cc (may))
-must false false may is = absurd (cc (is))
 
 own-filed : (workers : ℕ) (clients : List (Option Client)) (w : Flight) (r : Reply) (heard : List ℕ) → EachHasItsOwn workers clients
     → FlightGoes workers clients w → EachHasItsOwn workers (filed workers clients w r heard)

@@ -34,9 +34,10 @@ use Rattle.flash_laws.specs.Tied.{with_at, Waits}
 use Rattle.flash_laws.specs.declared.doing.Doing.{Doing}
 use Rattle.flash_laws.specs.declared.doing.Doing.TheVariants as doing
 use Rattle.flash_laws.specs.declared.running.Running.{Running}
+use Rattle.flash_laws.proofs.Forms.{of}
 use Rattle.flash_laws.proofs.Conn.Answering.{some-inj}
 use Rattle.flash_laws.proofs.Site.InPlaces.{at-same, at-other}
-use Rattle.flash_laws.proofs.Lists.{clash}
+use Rattle.flash_laws.proofs.Lists.{clash, not-false}
 use Rattle.flash_laws.proofs.Site.Others.{site-stays}
 use Rattle.flash_laws.proofs.Site.Peers.{told-call}
 use Rattle.flash_laws.proofs.Site.Sharing.{free-runs, ready-runs}
@@ -49,9 +50,6 @@ use Rattle.flash_laws.proofs.World.OwnAlone.{alone_readies}
 use Rattle.flash_laws.proofs.World.Turn.{replaced, held-on, own-call}
 use Rattle.flash_laws.proofs.World.Desk.Turning.{runs-for}
 use Rattle.flash_laws.proofs.World.TurnLeaves.{conn-left}
-
-abbrev of : Conn → Option Running → List ℕ → Client
-of c run script = record { conn = c; run = run; script = script }
 
 -- ---- a client is made ready
 
@@ -97,14 +95,10 @@ free-unless : (clients : List (Option Client)) (fd k : ℕ) (y : Client) → ((x
     → is_free (with_at clients fd (Some y)) k ≡ true → is_free clients k ≡ true
 free-unless clients fd k y stood free = by (is_free clients k) refl
   where
-    turned : (b : Bool) → not b ≡ false → b ≡ true
-    turned true is = refl
-    turned false is = absurd (cc (is))
-
     by : (b : Bool) → is_free clients k ≡ b → is_free clients k ≡ true
     by true is = is
     by false busy =
-        let ran = runs-for clients k (turned (list_any (λ w. runs_at k w) clients) busy) in
+        let ran = runs-for clients k (not-false (list_any (λ w. runs_at k w) clients) busy) in
         elim (cases_eq fd ran.fd) [
           | inr differ ↦ absurd (clash (is_run_by ran.client k) ran.runs (free-runs (with_at clients fd (Some y)) k ran.fd ran.client free (at-other clients fd ran.fd (Some y) differ ∙ ran.at)))
           | inl here ↦ absurd (stood ran.client (subst (λ g. in_place clients g ≡ Some ran.client) (sym here) ran.at) ran.runs)

@@ -1,6 +1,6 @@
 -- What others leave of a client, and of the worker that runs its script.
-use Rattle.std.proofs.Common.{inl, inr, ◌≡◌, ◌⊎◌, ℕ, ◌==◌, List, ◌++◌, ap, ◌∙◌, refl, sym, subst, Option, Some, None, true, false, Bool, append_assoc}
-use Rattle.std.specs.Prelude.{is_none, length, ◌≤◌, ◌&&◌, ◌||◌}
+use Rattle.std.proofs.Common.{inl, inr, ◌≡◌, ◌⊎◌, ℕ, ◌==◌, List, ◌++◌, ap, ◌∙◌, refl, sym, subst, Option, Some, None, true, false, append_assoc}
+use Rattle.std.specs.Prelude.{is_none, length, ◌≤◌}
 use Rattle.iol_core.specs.Text.{bytes_of}
 use Rattle.iol_core.specs.State.{State, Connection, File as FileEntry, descriptor, file, may_read, conn_at, is_gone}
 use Rattle.iol_core.specs.Run.{StepsTo}
@@ -30,8 +30,9 @@ use Rattle.flash_laws.specs.declared.doing.Doing.{Doing}
 use Rattle.flash_laws.specs.declared.doing.Doing.TheVariants.{Opens, Reads as Reading, Shuts, Spares}
 use Rattle.flash_laws.specs.declared.running.Running.{Running}
 use Rattle.flash_laws.specs.declared.running.Running.TheVariants.{Runs}
+use Rattle.flash_laws.proofs.Forms.{of}
 use Rattle.flash_laws.proofs.Conn.Lent.{lent-stays, has-stays, file-same, content-same}
-use Rattle.flash_laws.proofs.Lists.{self, later_of}
+use Rattle.flash_laws.proofs.Lists.{self, later_of, both-or}
 use Rattle.flash_laws.proofs.World.AllLaws.{AllLaws}
 use Rattle.flash_laws.proofs.World.Desk.Leaving.{LeavesOne, stage-on}
 use Rattle.flash_laws.proofs.World.TieGoes.{tie-stays, tie-leaves, run-stays, run-leaves}
@@ -84,14 +85,6 @@ finds_on shelf m n q script (Spares a k) opens site may h = h
 finds_on shelf m n q script d opens site may h = tt
 
 -- ---- a client
-
-both-or : (a b c : Bool) → a ≡ true → b ≡ true → ((a && b) || c) ≡ true
-both-or true true c u v = refl
-both-or true false c u v = absurd (cc (v))
-both-or false b c u v = absurd (cc (u))
-
-abbrev of : Conn → Option Running → List ℕ → Client
-of c run script = record { conn = c; run = run; script = script }
 
 module _ (shelf : Shelf) (crew : Crew) (laws : AllLaws crew) (m n : State) (e : Event) (r : Reply) (came sent more after : List ℕ) (fd c : ℕ)
     (seats : List (Seat crew.Worker)) (order : IsOrderly m) (fixed : IsFixedFor shelf crew m) (desks : AreAtDesks crew m seats) (step : StepsTo m e r n)

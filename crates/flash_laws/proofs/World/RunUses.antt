@@ -23,13 +23,8 @@ use Rattle.flash_laws.specs.declared.running.Step.{Step}
 use Rattle.flash_laws.specs.declared.running.Step.TheVariants.{Gives, Makes, Hands, Lets, Heads, Sending, Hears, Spills, Gathers, Frames, Wraps, Trims, Ended, Unholds, Stops, Unframes, Lasts, WrapsLast, TrimsLast, Unwraps, Returns, Lapses, Fails}
 use Rattle.flash_laws.specs.declared.running.Running.{Running}
 use Rattle.flash_laws.specs.declared.running.Running.TheVariants.{Awaits, Runs, Leaves, Closes}
-use Rattle.flash_laws.proofs.Lists.{later_of}
-use Rattle.flash_laws.proofs.Run.Keeping.{first}
+use Rattle.flash_laws.proofs.Lists.{later_of, bare, former_of, swapped}
 use Rattle.flash_laws.proofs.Conn.Uses.{same-number, uses-told, has-agg, one-of}
-
-bare : (a : Bool) → (a || false) ≡ true → a ≡ true
-bare true u = refl
-bare false u = u
 
 -- it was used, or is new
 abbrev New : Reply → (a : ℕ) → (was : Bool) → Type 0
@@ -48,7 +43,7 @@ module _ (worker : ℕ) (w : Wanted) (run : Run) (a : ℕ) where
       → (conn.uses_agg after a ≡ true → (conn.uses_agg d a ≡ true) ⊎ (is_agg r a ≡ true))
       → (conn.uses_agg after a || has_frame frame a) ≡ true → New r a (conn.uses_agg d a || has_frame frame a)
   part-new d frame r after new u = elim (one-of (conn.uses_agg after a) (has_frame frame a) u) [
-    | inl is ↦ elim (new is) [ inl old ↦ inl (first (conn.uses_agg d a) (has_frame frame a) old) | inr made ↦ inr made ]
+    | inl is ↦ elim (new is) [ inl old ↦ inl (former_of (conn.uses_agg d a) (has_frame frame a) old) | inr made ↦ inr made ]
     | inr is ↦ inl (later_of (conn.uses_agg d a) (has_frame frame a) is)
   ]
 
@@ -80,7 +75,7 @@ module _ (worker : ℕ) (w : Wanted) (run : Run) (a : ℕ) where
   hearing-new false false held frame n len u = elim (one-of ((n == a) || false) (has_frame frame a) u) [ inl is ↦ inr (bare (n == a) is) | inr is ↦ inl (later_of (has_followed held a) (has_frame frame a) is) ]
   hearing-new false true None frame n len u = holding-new n len frame (reply.Agg n) (has_frame frame a) (λ is. is) (λ is. is) u
   hearing-new false true (Some x) frame n len u = elim (one-of (x.0 == a) ((n == a) || has_frame frame a) u) [
-    | inl is ↦ inl (first (x.0 == a) (has_frame frame a) is)
+    | inl is ↦ inl (former_of (x.0 == a) (has_frame frame a) is)
     | inr is ↦ elim (one-of (n == a) (has_frame frame a) is) [ inl made ↦ inr made | inr old ↦ inl (later_of (x.0 == a) (has_frame frame a) old) ]
   ]
 
@@ -129,12 +124,8 @@ module _ (worker : ℕ) (w : Wanted) (run : Run) (a : ℕ) where
       by x false z u = later_of x z u
   step-new (Ended b held frame) reply.Done heard u = inl (later_of (b == a) (has_followed held a || has_frame frame a) u)
   step-new (Unholds held frame) reply.Done heard u = inl (later_of (held == a) (has_frame frame a) u)
-  step-new (Stops held None) reply.Done heard u = inl (first (has_followed held a) false (finishing-new run.broken w.chunked held u))
-  step-new (Stops held (Some f)) reply.Done heard u = inl (swap (f == a) (has_followed held a) u)
-    where
-      swap : (x y : Bool) → (x || y) ≡ true → (y || x) ≡ true
-      swap true y u = later_of y true refl
-      swap false y u = first y false u
+  step-new (Stops held None) reply.Done heard u = inl (former_of (has_followed held a) false (finishing-new run.broken w.chunked held u))
+  step-new (Stops held (Some f)) reply.Done heard u = inl (swapped (f == a) (has_followed held a) u)
   step-new (Unframes f held) reply.Done heard u = inl (later_of (f == a) (has_followed held a) (finishing-new run.broken w.chunked held u))
   step-new (Lasts None) (reply.Agg n) heard u = inr (bare (n == a) u)
   step-new (Lasts (Some x)) (reply.Agg n) heard u = elim (one-of (x.0 == a) (n == a) u) [ inl is ↦ inl is | inr is ↦ inr is ]
@@ -176,7 +167,7 @@ module _ (w : Wanted) (run : Run) (g : ℕ) where
 
   -- one that reads goes on to have what it reads from
   on-reading : (s : Step) → is_reading s ≡ true → (run.from == g) ≡ true → ends_of run s g ≡ true
-  on-reading s reads is = first (is_reading s && (run.from == g)) (step_fd s g) (ap (λ b. b && (run.from == g)) reads ∙ is)
+  on-reading s reads is = former_of (is_reading s && (run.from == g)) (step_fd s g) (ap (λ b. b && (run.from == g)) reads ∙ is)
 
   only-from : (s : Step) → ((h : ℕ) → step_fd s h ≡ false) → ends_of run s g ≡ true → (run.from == g) ≡ true
   only-from s none u = from-end (is_reading s) (run.from == g) (ap (λ b. (is_reading s && (run.from == g)) || b) (sym (none g)) ∙ u)

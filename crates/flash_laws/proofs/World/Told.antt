@@ -12,7 +12,7 @@ use Rattle.iol_core.specs.declared.events.Reply.TheVariants as reply
 use Rattle.iol_laws.specs.Caller.{lent_at, is_agg, is_fd, gives_away}
 use Rattle.iol_laws.specs.Order.{IsOrderly}
 use Rattle.flash_http.specs.Request.{Answer, serve, refuse, Wanted}
-use Rattle.flash_laws.specs.Client.{Client, is_for_script, conn_wants, run_wants, wants, uses_agg, told_spares, file_told, after_run, goes_on, run_told, told}
+use Rattle.flash_laws.specs.Client.{is_for_script, conn_wants, run_wants, wants, uses_agg, told_spares, file_told, after_run, goes_on, run_told, told}
 use Rattle.flash_laws.specs.ClientKeeping.{has_fd}
 use Rattle.flash_laws.specs.Conn as conn
 use Rattle.flash_laws.specs.Conn.{Conn, is_head_only}
@@ -28,17 +28,12 @@ use Rattle.flash_laws.specs.declared.running.Step.{Step}
 use Rattle.flash_laws.specs.declared.running.Step.TheVariants as step
 use Rattle.flash_laws.specs.declared.running.Running.{Running}
 use Rattle.flash_laws.specs.declared.running.Running.TheVariants.{Awaits, Runs, Leaves, Closes as Ends}
-use Rattle.flash_laws.proofs.Run.Left.{still-left}
+use Rattle.flash_laws.proofs.Forms.{at, of}
 use Rattle.flash_laws.proofs.TheLaws.{TheLaws}
 use Rattle.flash_laws.proofs.Conn.Uses.{same-number, no-more, uses-told, uses_fd-told, one-of}
 use Rattle.flash_laws.proofs.World.Calls.{is_client_call}
 use Rattle.flash_laws.proofs.World.RunUses.{is_fds, run-uses, run-ends, step-has}
-
-abbrev of : Conn → Option Running → List ℕ → Client
-of c run script = record { conn = c; run = run; script = script }
-
-abbrev at : List ℕ → Answer → Doing → Conn
-at kept q d = record { kept = kept; q = q; doing = d }
+use Rattle.flash_laws.proofs.Lists.{not-false}
 
 -- ---- aggregates
 
@@ -178,7 +173,7 @@ over-fds : (worker : ℕ) (w : Wanted) (y : Running) (r : Reply) (heard : List �
     → conn.uses_fd (after_run (running.told worker w y r heard)) g ≡ true → ⊥
 over-fds worker w Awaits (reply.Fds from write) heard g ongoing over u = cc (over)
 over-fds worker w Awaits r heard g ongoing over u = cc (over)
-over-fds worker w (Leaves d) r heard g ongoing over u = left-fd w d r heard g (still-left (is_left d) ongoing) u
+over-fds worker w (Leaves d) r heard g ongoing over u = left-fd w d r heard g (not-false (is_left d) ongoing) u
 over-fds worker w Ends r heard g ongoing over u = cc (u)
 over-fds worker w (Runs run s) r heard g ongoing over u = step-fd w run g s r heard over u
 

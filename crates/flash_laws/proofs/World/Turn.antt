@@ -32,6 +32,7 @@ use Rattle.flash_laws.specs.declared.running.Step.{Step}
 use Rattle.flash_laws.specs.declared.running.Step.TheVariants.{Gives, Makes, Hands, Ended as AtEnd, Unholds, Stops, Unframes, Lasts, WrapsLast, TrimsLast, Unwraps, Returns, Lapses, Fails}
 use Rattle.flash_laws.specs.declared.running.Running.{Running}
 use Rattle.flash_laws.specs.declared.running.Running.TheVariants.{Awaits, Runs}
+use Rattle.flash_laws.proofs.Forms.{of}
 use Rattle.flash_laws.proofs.Conn.Answering.{some-inj}
 use Rattle.flash_laws.proofs.Site.InPlaces.{at-same, at-other}
 use Rattle.flash_laws.proofs.Site.Peers.{IsTold}
@@ -39,9 +40,7 @@ use Rattle.flash_laws.proofs.Conn.Uses.{same-number}
 use Rattle.flash_laws.proofs.World.AllLaws.{AllLaws}
 use Rattle.flash_laws.proofs.World.Calls.{MayTouchPipe}
 use Rattle.flash_laws.proofs.World.Desk.Turning.{runs-for}
-
-abbrev of : Conn → Option Running → List ℕ → Client
-of c run script = record { conn = c; run = run; script = script }
+use Rattle.flash_laws.proofs.Lists.{not-false}
 
 -- ---- one place changes
 
@@ -154,12 +153,8 @@ module _ (shelf : Shelf) (crew : Crew) (laws : AllLaws crew) (m : State) (p : Pa
       by : (b : Bool) → is_free clients k ≡ b → descriptor m seat.by 0 ≡ Some (on.ReadEnd (crew.desk k))
       by true free = (laws.workers.none m (crew.desk k) seat (all.free k seat sits free)).jobs
       by false busy =
-          let r = runs-for clients k (turned (list_any (λ w. runs_at k w) clients) busy) in
+          let r = runs-for clients k (not-false (list_any (λ w. runs_at k w) clients) busy) in
           runner-of r.client.conn r.client.run r.client.script k r.runs (p.came (all.each r.fd r.client r.at).conn) (p.sent (all.each r.fd r.client r.at).conn) r.fd (all.each r.fd r.client r.at).conn (all.each r.fd r.client r.at).fits seat sits
-        where
-          turned : (b : Bool) → not b ≡ false → b ≡ true
-          turned true is = refl
-          turned false is = absurd (cc (is))
 
   -- so the server does not
   pub not-desk : (k g : ℕ) → k < crew.count → descriptor m server g ≡ Some (on.ReadEnd (crew.desk k)) → ⊥

@@ -36,6 +36,7 @@ use Rattle.flash_laws.specs.declared.running.Run.{Run}
 use Rattle.flash_laws.specs.declared.running.Step.{Step}
 use Rattle.flash_laws.specs.declared.running.Running.{Running}
 use Rattle.flash_laws.specs.declared.running.Running.TheVariants.{Runs, Leaves}
+use Rattle.flash_laws.proofs.Forms.{of}
 use Rattle.flash_laws.proofs.Lists.{clash, not-equal, differ}
 use Rattle.flash_laws.proofs.World.AllLaws.{AllLaws}
 use Rattle.flash_laws.proofs.World.Desk.Leaving.{LeavesOne, none-given, none-touched}
@@ -136,9 +137,6 @@ conn-left k j sent same = inl (record {
   gone = ap (λ (z : Connection). is_gone z.peer) same;
   ended = λ is. (ap (λ (z : Connection). z.incoming) same, ap (λ (z : Connection). is_none z.peer) same ∙ is);
 })
-
-abbrev of : Conn → Option Running → List ℕ → Client
-of c run script = record { conn = c; run = run; script = script }
 
 -- a client for which another worker runs a script, or none, does not see who sits in place k
 desk-reseated : (crew : Crew) (n : State) (k : ℕ) (seats : List (Seat crew.Worker)) (next : Seat crew.Worker) (output : List ℕ) (o : Progress) (y : Running)

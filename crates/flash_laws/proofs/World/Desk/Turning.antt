@@ -32,6 +32,7 @@ use Rattle.flash_laws.specs.declared.running.Step.{Step}
 use Rattle.flash_laws.specs.declared.running.Step.TheVariants.{Gives, Makes, Hands, Lets, Heads, Sending, Hears, Spills, Gathers, Frames, Wraps, Trims, Ended, Unholds, Stops, Unframes, Lasts, WrapsLast, TrimsLast, Unwraps, Returns, Lapses, Fails}
 use Rattle.flash_laws.specs.declared.running.Running.{Running}
 use Rattle.flash_laws.specs.declared.running.Running.TheVariants.{Runs, Leaves}
+use Rattle.flash_laws.proofs.Forms.{of}
 use Rattle.flash_laws.proofs.Conn.Answering.{some-inj}
 use Rattle.flash_laws.proofs.Lists.{clash, self}
 use Rattle.flash_laws.proofs.Conn.Uses.{same-number}
@@ -56,9 +57,6 @@ runs-for (Some x ∷ xs) k is = by (is_run_by x k) refl is (λ u. runs-for xs k 
     by : (b : Bool) → is_run_by x k ≡ b → (b || list_any (λ o. runs_at k o) xs) ≡ true → (list_any (λ o. runs_at k o) xs ≡ true → RunsFor xs k) → RunsFor (Some x ∷ xs) k
     by true runs u later = record { fd = 0; client = x; at = refl; runs = runs }
     by false none u later = (let r = later u in record { fd = suc r.fd; client = r.client; at = r.at; runs = r.runs })
-
-abbrev of : Conn → Option Running → List ℕ → Client
-of c run script = record { conn = c; run = run; script = script }
 
 module _ (shelf : Shelf) (crew : Crew) (laws : AllLaws crew) (m n : State) (p : Past) (clients : List (Option Client)) (seats : List (Seat crew.Worker)) (k : ℕ)
     (seat next : Seat crew.Worker) (yields : Bool) (r : Reply) (turn : IsTurn shelf crew m n p clients seats k seat next yields r) where

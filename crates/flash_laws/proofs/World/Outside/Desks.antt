@@ -32,9 +32,9 @@ use Rattle.flash_laws.specs.declared.running.Step.{Step}
 use Rattle.flash_laws.specs.declared.running.Step.TheVariants.{Gives, Makes, Hands, Lets, Heads, Sending, Hears, Spills, Gathers, Frames, Wraps, Trims, Ended, Unholds, Stops, Unframes, Lasts, WrapsLast, TrimsLast, Unwraps, Returns, Lapses, Fails}
 use Rattle.flash_laws.specs.declared.running.Running.{Running}
 use Rattle.flash_laws.specs.declared.running.Running.TheVariants.{Runs, Leaves}
+use Rattle.flash_laws.proofs.Forms.{of}
 use Rattle.flash_laws.proofs.Conn.Answering.{some-inj}
-use Rattle.flash_laws.proofs.Lists.{clash, self, later_of}
-use Rattle.flash_laws.proofs.Site.Pasts.{or-left}
+use Rattle.flash_laws.proofs.Lists.{clash, self, later_of, former_of}
 use Rattle.flash_laws.proofs.Site.Sharing.{runs-one}
 use Rattle.flash_laws.proofs.Conn.Uses.{same-number}
 use Rattle.flash_laws.proofs.World.AllLaws.{AllLaws}
@@ -129,9 +129,6 @@ module _ (crew : Crew) (laws : AllLaws crew) where
 
 -- ---- all desks, and each client
 
-abbrev of : Conn → Option Running → List ℕ → Client
-of c run script = record { conn = c; run = run; script = script }
-
 module _ (shelf : Shelf) (crew : Crew) (laws : AllLaws crew) where
   -- the worker of a client reads its jobs
   run-reads : (m : State) (came sent : List ℕ) (fd c : ℕ) (x : Conn) (run : Option Running) (script : List ℕ) (seats : List (Seat crew.Worker)) (j : ℕ)
@@ -180,7 +177,7 @@ module _ (shelf : Shelf) (crew : Crew) (laws : AllLaws crew) where
     -- nor has it an end of the pipe of a run, while its output is heard
     run-left : (fd c : ℕ) (x : Client) (run : Run) (s : Step) (q : ℕ) → Fits shelf crew m (p.came c) (p.sent c) fd c x seats → x.run ≡ Some (Runs run s)
         → descriptor m server run.from ≡ Some (on.ReadEnd q) → is_stopping (Runs run s) ≡ false → pipe_at n q ≡ pipe_at m q
-    run-left fd c x run s q fits runs opens going = pipe-left crew laws m n e r q step reads writes (or-left (pipe_at m q).reading (pipe_at m q).writing (order.all_stand server run.from (on.ReadEnd q) opens))
+    run-left fd c x run s q fits runs opens going = pipe-left crew laws m n e r q step reads writes (former_of (pipe_at m q).reading (pipe_at m q).writing (order.all_stand server run.from (on.ReadEnd q) opens))
       where
         f : FitsRun shelf crew m (p.came c) (p.sent c) fd c x (Runs run s) seats
         f = subst (λ (o : Option Running). FitsBy shelf crew o m (p.came c) (p.sent c) fd c x seats) runs fits
