@@ -82,11 +82,11 @@ abbrev pub Next : State → (due : List ℕ) → (a taken : ℕ) → Type 0
 Next m due a taken = (bytes : List ℕ) × (after : List ℕ) × (lent_at m server a ≡ Some bytes) × (bytes ++ after ≡ drop taken due)
 
 -- the descriptor, and the aggregate, that a call writes
-abbrev written_fd : Call → (other : ℕ) → ℕ
+abbrev pub written_fd : Call → (other : ℕ) → ℕ
 written_fd (call.IolWrite fd a) other = fd
 written_fd k other = other
 
-abbrev written : Call → (other : ℕ) → ℕ
+abbrev pub written : Call → (other : ℕ) → ℕ
 written (call.IolWrite fd a) other = a
 written k other = other
 

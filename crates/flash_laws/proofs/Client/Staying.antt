@@ -6,7 +6,7 @@ use Rattle.iol_core.specs.declared.events.Reply.{Reply}
 use Rattle.iol_core.specs.declared.events.Reply.TheVariants as reply
 use Rattle.flash_http.specs.Request.{Answer, serve, refuse}
 use Rattle.flash_laws.specs.Client.{Client, is_for_script, conn_wants, wants, can_run, kept_if, told_spares, file_told, keeps_text, text_on, goes_on, told, Readies, new_client}
-use Rattle.flash_laws.specs.ClientKeeping.{is_before_job, HoldsNoOther}
+use Rattle.flash_laws.specs.ClientKeeping.{HoldsNoOther}
 use Rattle.flash_laws.specs.ClientOffers.{kept_by}
 use Rattle.flash_laws.specs.Conn as conn
 use Rattle.flash_laws.specs.Conn.{Conn, most_read, is_head_only}
@@ -14,9 +14,7 @@ use Rattle.flash_laws.specs.declared.doing.Learnt.TheVariants.{Text as TextOf}
 use Rattle.flash_laws.specs.declared.doing.Content.TheVariants.{Body, Script}
 use Rattle.flash_laws.specs.declared.doing.Doing.{Doing}
 use Rattle.flash_laws.specs.declared.doing.Doing.TheVariants.{Rests, Reads as Reading, Shuts, Spares}
-use Rattle.flash_laws.specs.declared.running.Step.TheVariants.{Gives, Makes}
 use Rattle.flash_laws.specs.declared.running.Running.{Running}
-use Rattle.flash_laws.specs.declared.running.Running.TheVariants.{Awaits, Runs}
 use Rattle.flash_laws.specs.Known.{is_read}
 use Rattle.flash_laws.specs.Running as running
 use Rattle.flash_laws.specs.Running.{is_over}
@@ -131,12 +129,6 @@ module _ (scripts : Bool) (kept : List ℕ) (q : Answer) (script : List ℕ) whe
   begun-holds d y true read holds begun = absurd (cc (read))
 
 -- what a run's job is made of is held until it is made
-keeps-before : (y : Running) → keeps_text y ≡ is_before_job y
-keeps-before Awaits = refl
-keeps-before (Runs run (Gives write)) = refl
-keeps-before (Runs run (Makes f)) = refl
-keeps-before y = refl
-
 text-holds : (script : List ℕ) (was now : Bool) → (was ≡ false → script ≡ []) → now ≡ false → text_on was now script ≡ []
 text-holds script true false holds none = refl
 text-holds script false false holds none = holds refl
@@ -146,8 +138,8 @@ run-holds : (scripts : Bool) (c : Conn) (script : List ℕ) (y z : Running) (was
     → HoldsNoOther scripts (goes_on was over (client c (Some y) script) y z)
 run-holds scripts c script y z was over holds = by was over
   where
-    on : is_before_job z ≡ false → text_on (keeps_text y) (keeps_text z) script ≡ []
-    on none = text-holds script (keeps_text y) (keeps_text z) (λ none. holds (sym (keeps-before y) ∙ none)) (keeps-before z ∙ none)
+    on : keeps_text z ≡ false → text_on (keeps_text y) (keeps_text z) script ≡ []
+    on none = text-holds script (keeps_text y) (keeps_text z) holds none
 
     by : (was over : Bool) → HoldsNoOther scripts (goes_on was over (client c (Some y) script) y z)
     by false true = λ none. refl

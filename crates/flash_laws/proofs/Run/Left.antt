@@ -22,8 +22,8 @@ use Rattle.flash_laws.specs.Answers.{error_text}
 use Rattle.flash_laws.specs.Conn as conn
 use Rattle.flash_laws.specs.Conn.{piece_end}
 use Rattle.flash_laws.specs.Fits.{Has, Names}
-use Rattle.flash_laws.specs.RunFits.{Progress, Ran, Broken, NotRun, IsLeft, HasNone, sent_agg, IsPart, taken_of, IsSending, HasRest, HasLeft}
-use Rattle.flash_laws.specs.Offers.{newly_taken, is_dropping}
+use Rattle.flash_laws.specs.RunFits.{Progress, Ran, Broken, NotRun, IsLeft, HasNone, sent_agg, IsPart, IsSending, HasRest, HasLeft}
+use Rattle.flash_laws.specs.Offers.{taken_of, newly_taken, is_dropping}
 use Rattle.flash_laws.specs.RunOffers.{takes_on, PartLearns}
 use Rattle.flash_laws.specs.Running.{in_phase, is_left}
 use Rattle.flash_laws.specs.Site.{server}
