@@ -31,7 +31,7 @@ use Rattle.flash_laws.proofs.Forms.{of}
 use Rattle.flash_laws.proofs.Conn.Answering.{some-inj}
 use Rattle.flash_laws.proofs.Site.Clients.{runs-filed, runs-picked}
 use Rattle.flash_laws.proofs.Site.InPlaces.{at-same, at-other, left-is}
-use Rattle.flash_laws.proofs.Lists.{clash, must, neither, not-true}
+use Rattle.flash_laws.proofs.Lists.{clash, must, neither, not-true, not-false}
 use Rattle.flash_laws.proofs.Run.Offering.{keeps}
 use Rattle.flash_laws.proofs.Conn.Uses.{same-number}
 
@@ -217,7 +217,7 @@ all-busy workers clients k none lt =
     ap (λ j. is_free clients j) (sym at) ∙ fails_before_first (λ j. is_free clients j) (range_with_len 0 workers) k 0 before
 
 -- a place that passes
-pub record Passes {A : Type 0} (p : Option A → Bool) (xs : List (Option A)) : Type 0 where
+record Passes {A : Type 0} (p : Option A → Bool) (xs : List (Option A)) : Type 0 where
   pub place : ℕ
   pub passes : p (in_place xs place) ≡ true
 
@@ -232,12 +232,21 @@ some-any {A} p (x ∷ xs) is = by (p x) refl is (λ later. some-any p xs later)
         at-next : (i : ℕ) → p (in_place xs i) ≡ true → p (in_place (x ∷ xs) (i + 1)) ≡ true
         at-next i is = let e : i + 1 ≡ suc i = omega arith in ap (λ z. p (in_place (x ∷ xs) z)) e ∙ is
 
-pub runs-one : (clients : List (Option Client)) (k : ℕ) → is_free clients k ≡ false → Passes (λ (o : Option Client). runs_at k o) clients
-runs-one clients k busy = by (list_any (λ o. runs_at k o) clients) refl busy
+-- one for whose client a worker runs
+pub record RunsFor (clients : List (Option Client)) (k : ℕ) : Type 0 where
+  pub fd : ℕ
+  pub client : Client
+  pub at : in_place clients fd ≡ Some client
+  pub runs : is_run_by client k ≡ true
+
+pub runs-for : (clients : List (Option Client)) (k : ℕ) → is_free clients k ≡ false → RunsFor clients k
+runs-for clients k busy =
+    let one = some-any (λ (o : Option Client). runs_at k o) clients (not-false (list_any (λ o. runs_at k o) clients) busy) in
+    by one.place (in_place clients one.place) refl one.passes
   where
-    by : (b : Bool) → list_any (λ o. runs_at k o) clients ≡ b → not b ≡ false → Passes (λ (o : Option Client). runs_at k o) clients
-    by true is busy = some-any (λ (o : Option Client). runs_at k o) clients is
-    by false is busy = absurd (cc (busy))
+    by : (gd : ℕ) (o : Option Client) → in_place clients gd ≡ o → runs_at k o ≡ true → RunsFor clients k
+    by gd None at runs = absurd (cc (runs))
+    by gd (Some y) at runs = record { fd = gd; client = y; at = at; runs = runs }
 
 waits-none : (c : Conn) (run : Option Running) (script : List ℕ) (k : ℕ) → awaits (of c run script) ≡ true → is_run_by (of c run script) k ≡ false
 waits-none c (Some (Runs run s)) script k waits = absurd (cc (waits))
@@ -245,18 +254,14 @@ waits-none c run script k waits = refl
 
 another : (clients : List (Option Client)) (fd k : ℕ) (x : Client) → in_place clients fd ≡ Some x → awaits x ≡ true → is_free clients k ≡ false → RunsForAnother clients fd k
 another clients fd k x there waits busy =
-    let one = runs-one clients k busy in
-    by one.place (in_place clients one.place) refl one.passes
-  where
-    by : (gd : ℕ) (o : Option Client) → in_place clients gd ≡ o → runs_at k o ≡ true → RunsForAnother clients fd k
-    by gd None at runs = absurd (cc (runs))
-    by gd (Some y) at runs = record {
-      place = gd;
-      client = y;
-      there = at;
-      runs = runs;
-      other = λ same. (let mine : y ≡ x = some-inj y x (sym at ∙ (ap (λ z. in_place clients z) (sym same) ∙ there)) in
-          clash (is_run_by y k) runs (ap (λ (z : Client). is_run_by z k) mine ∙ waits-none x.conn x.run x.script k waits));
+    let ran = runs-for clients k busy in
+    record {
+      place = ran.fd;
+      client = ran.client;
+      there = ran.at;
+      runs = ran.runs;
+      other = λ same. (let mine : ran.client ≡ x = some-inj ran.client x (sym ran.at ∙ (ap (λ z. in_place clients z) (sym same) ∙ there)) in
+          clash (is_run_by ran.client k) ran.runs (ap (λ (z : Client). is_run_by z k) mine ∙ waits-none x.conn x.run x.script k waits));
     }
 
 passed-over : (free waits : Bool) → (free || not waits) ≡ false → (free ≡ false) × (waits ≡ true)

@@ -1,7 +1,6 @@
 -- A client is made ready, and one more is accepted: all stay tied.
-use Rattle.std.proofs.Common.{inl, inr, ◌≡◌, ◌≢◌, ℕ, ◌⊎◌, List, [], ◌++◌, ap, ◌∙◌, refl, sym, subst, arith, Option, Some, None, true, false, Bool, append-nil, slice_get}
+use Rattle.std.proofs.Common.{inl, inr, ◌≡◌, ◌≢◌, ℕ, ◌⊎◌, List, [], ◌++◌, ap, ◌∙◌, refl, sym, subst, arith, Option, Some, None, true, false, append-nil, slice_get}
 use Rattle.std.specs.Prelude.{not}
-use Rattle.std.specs.List.{list_any}
 use Rattle.std.proofs.lemmas.Bool.{cases_eq}
 use Rattle.iol_core.specs.Text.{bytes_of}
 use Rattle.iol_core.specs.Numbered.{in_place}
@@ -25,7 +24,7 @@ use Rattle.flash_laws.specs.Conn as conn
 use Rattle.flash_laws.specs.Conn.{Conn, begins}
 use Rattle.flash_laws.specs.Crew.{Crew, IsFixedFor}
 use Rattle.flash_laws.specs.Past.{Past}
-use Rattle.flash_laws.specs.Places.{EachHasItsOwn, is_run_by, runs_at, is_free, accepted}
+use Rattle.flash_laws.specs.Places.{EachHasItsOwn, is_run_by, is_free, accepted}
 use Rattle.flash_laws.specs.Running.{worker_domain, job_pipe}
 use Rattle.flash_laws.specs.Served.{Held, Ended, Aside, AreAtDesks, FitsAt, AllFit}
 use Rattle.flash_laws.specs.Shelf.{Shelf}
@@ -36,8 +35,8 @@ use Rattle.flash_laws.specs.declared.doing.Doing.TheVariants as doing
 use Rattle.flash_laws.specs.declared.running.Running.{Running}
 use Rattle.flash_laws.proofs.Forms.{of}
 use Rattle.flash_laws.proofs.Conn.Answering.{some-inj}
-use Rattle.flash_laws.proofs.Site.InPlaces.{at-same, at-other}
-use Rattle.flash_laws.proofs.Lists.{clash, not-false}
+use Rattle.flash_laws.proofs.Site.InPlaces.{at-same}
+use Rattle.flash_laws.proofs.Lists.{clash}
 use Rattle.flash_laws.proofs.Site.Others.{site-stays}
 use Rattle.flash_laws.proofs.Site.Peers.{told-call}
 use Rattle.flash_laws.proofs.Site.Sharing.{free-runs, ready-runs}
@@ -47,8 +46,7 @@ use Rattle.flash_laws.proofs.World.AllLaws.{AllLaws}
 use Rattle.flash_laws.proofs.World.Calls.{opens-on}
 use Rattle.flash_laws.proofs.World.Leaving.{fits_beside}
 use Rattle.flash_laws.proofs.World.OwnAlone.{alone_readies}
-use Rattle.flash_laws.proofs.World.Turn.{replaced, held-on, own-call}
-use Rattle.flash_laws.proofs.World.Desk.Turning.{runs-for}
+use Rattle.flash_laws.proofs.World.Turn.{replaced, held-on, free-unless, own-call}
 use Rattle.flash_laws.proofs.World.TurnLeaves.{conn-left}
 
 -- ---- a client is made ready
@@ -90,24 +88,10 @@ ready-fds c (Some y) script z g ready u = ap (λ (v : Client). has_fd v g) (sym 
 ready-worker : (c : Conn) (run : Option Running) (script : List ℕ) (y : Client) (k : ℕ) → Readies (of c run script) y → is_run_by y k ≡ is_run_by (of c run script) k
 ready-worker c run script y k ready = ap (λ (o : Option Running). is_run_by (of y.conn o y.script) k) (ready-runs c run script y ready)
 
--- a worker that is free once one place has changed was free before, unless it was of whoever stood there
-free-unless : (clients : List (Option Client)) (fd k : ℕ) (y : Client) → ((x : Client) → in_place clients fd ≡ Some x → is_run_by x k ≡ true → ⊥)
-    → is_free (with_at clients fd (Some y)) k ≡ true → is_free clients k ≡ true
-free-unless clients fd k y stood free = by (is_free clients k) refl
-  where
-    by : (b : Bool) → is_free clients k ≡ b → is_free clients k ≡ true
-    by true is = is
-    by false busy =
-        let ran = runs-for clients k (not-false (list_any (λ w. runs_at k w) clients) busy) in
-        elim (cases_eq fd ran.fd) [
-          | inr differ ↦ absurd (clash (is_run_by ran.client k) ran.runs (free-runs (with_at clients fd (Some y)) k ran.fd ran.client free (at-other clients fd ran.fd (Some y) differ ∙ ran.at)))
-          | inl here ↦ absurd (stood ran.client (subst (λ g. in_place clients g ≡ Some ran.client) (sym here) ran.at) ran.runs)
-        ]
-
--- so it was if whoever stands there now has the workers of whoever stood there
+-- a worker that is free once one place has changed was free before, if whoever stands there now has the workers of whoever stood there
 free-before : (clients : List (Option Client)) (fd k : ℕ) (x y : Client) → in_place clients fd ≡ Some x → (is_run_by y k ≡ is_run_by x k)
     → is_free (with_at clients fd (Some y)) k ≡ true → is_free clients k ≡ true
-free-before clients fd k x y at same free = free-unless clients fd k y stood free
+free-before clients fd k x y at same free = free-unless clients fd k (Some y) stood free
   where
     stood : (z : Client) → in_place clients fd ≡ Some z → is_run_by z k ≡ true → ⊥
     stood z there runs =
@@ -234,7 +218,7 @@ module _ (shelf : Shelf) (crew : Crew) (laws : AllLaws crew) where
     free-then k seat sits free =
         let place = all.desks.by k seat sits in
         laws.workers.free_others m n (crew.desk k) seat ev (reply.Fd fd) fixed.placed step (own-call call.Accept seat.by k place.1) (leaves.pipes (crew.desk k) refl)
-        (all.free k seat sits (free-unless clients fd k new_client (λ z there runs. let none = none-stood in cc (none, there)) free))
+        (all.free k seat sits (free-unless clients fd k (Some new_client) (λ z there runs. let none = none-stood in cc (none, there)) free))
 
     desks-then : AreAtDesks crew n seats
     desks-then = record {

@@ -1,7 +1,6 @@
 -- A turn of the server keeps all its clients, and all workers, tied.
 use Rattle.std.proofs.Common.{inl, inr, ◌≡◌, ◌≢◌, ◌<◌, ℕ, ◌==◌, ◌≤◌, ◌⊎◌, List, ap, ◌∙◌, refl, sym, subst, arith, Option, Some, true, false, Bool, slice_get}
 use Rattle.std.specs.Prelude.{not}
-use Rattle.std.specs.List.{list_any}
 use Rattle.std.proofs.lemmas.Bool.{cases_eq}
 use Rattle.std.proofs.lemmas.Bool.Decides.{nat_tests}
 use Rattle.iol_core.specs.Numbered.{in_place, lowest}
@@ -14,13 +13,12 @@ use Rattle.iol_laws.proofs.Places.{lowest-free}
 use Rattle.iol_proc.specs.declared.seat.Seat.{Seat}
 use Rattle.flash_cgi.specs.Beside.{is_call_of}
 use Rattle.flash_laws.specs.Client.{Client, uses_agg}
-use Rattle.flash_laws.specs.ClientFits.{output_of, Fits}
+use Rattle.flash_laws.specs.ClientFits.{Fits}
 use Rattle.flash_laws.specs.ClientKeeping.{has_fd}
 use Rattle.flash_laws.specs.Conn.{Conn}
 use Rattle.flash_laws.specs.Crew.{Crew}
 use Rattle.flash_laws.specs.Past.{Past}
-use Rattle.flash_laws.specs.Places.{EachHasItsOwn, is_run_by, runs_at, is_free}
-use Rattle.flash_laws.specs.RunFits.{Progress}
+use Rattle.flash_laws.specs.Places.{EachHasItsOwn, is_run_by, is_free}
 use Rattle.flash_laws.specs.Running.{worker_domain, job_pipe}
 use Rattle.flash_laws.specs.Served.{Held, Aside, AreAtDesks, FitsAt, AllFit}
 use Rattle.flash_laws.specs.Shelf.{Shelf}
@@ -29,18 +27,17 @@ use Rattle.flash_laws.specs.Stages.{AtDesk}
 use Rattle.flash_laws.specs.Tied.{with_at}
 use Rattle.flash_laws.specs.declared.running.Run.{Run}
 use Rattle.flash_laws.specs.declared.running.Step.{Step}
-use Rattle.flash_laws.specs.declared.running.Step.TheVariants.{Gives, Makes, Hands, Ended as AtEnd, Unholds, Stops, Unframes, Lasts, WrapsLast, TrimsLast, Unwraps, Returns, Lapses, Fails}
+use Rattle.flash_laws.specs.declared.running.Step.TheVariants.{Gives, Hands, Returns}
 use Rattle.flash_laws.specs.declared.running.Running.{Running}
 use Rattle.flash_laws.specs.declared.running.Running.TheVariants.{Awaits, Runs}
 use Rattle.flash_laws.proofs.Forms.{of}
-use Rattle.flash_laws.proofs.Conn.Answering.{some-inj}
 use Rattle.flash_laws.proofs.Site.InPlaces.{at-same, at-other}
 use Rattle.flash_laws.proofs.Site.Peers.{IsTold}
-use Rattle.flash_laws.proofs.Conn.Uses.{same-number}
 use Rattle.flash_laws.proofs.World.AllLaws.{AllLaws}
 use Rattle.flash_laws.proofs.World.Calls.{MayTouchPipe}
-use Rattle.flash_laws.proofs.World.Desk.Turning.{runs-for}
-use Rattle.flash_laws.proofs.Lists.{not-false}
+use Rattle.flash_laws.proofs.Lists.{clash}
+use Rattle.flash_laws.proofs.Site.Sharing.{free-runs, runs-for}
+use Rattle.flash_laws.proofs.World.Desk.Jobs.{reads-jobs}
 
 -- ---- one place changes
 
@@ -98,6 +95,20 @@ pub held-on : (m n : State) (clients : List (Option Client)) (fd k : ℕ) (o : O
     → fd ≢ held.fd → descriptor n server held.fd ≡ Some (on.Connection k) → Held n (with_at clients fd o) k
 held-on m n clients fd k o held differ open_on = record { fd = held.fd; client = held.client; at = at-other clients fd held.fd o differ ∙ held.at; open_on = open_on }
 
+-- a worker that is free once one place has changed was free before, unless it was of whoever stood there
+pub free-unless : (clients : List (Option Client)) (fd k : ℕ) (o : Option Client) → ((x : Client) → in_place clients fd ≡ Some x → is_run_by x k ≡ true → ⊥)
+    → is_free (with_at clients fd o) k ≡ true → is_free clients k ≡ true
+free-unless clients fd k o stood free = by (is_free clients k) refl
+  where
+    by : (b : Bool) → is_free clients k ≡ b → is_free clients k ≡ true
+    by true is = is
+    by false busy =
+        let ran = runs-for clients k busy in
+        elim (cases_eq fd ran.fd) [
+          | inr differ ↦ absurd (clash (is_run_by ran.client k) ran.runs (free-runs (with_at clients fd o) k ran.fd ran.client free (at-other clients fd ran.fd o differ ∙ ran.at)))
+          | inl here ↦ absurd (stood ran.client (subst (λ g. in_place clients g ≡ Some ran.client) (sym here) ran.at) ran.runs)
+        ]
+
 -- ---- what a worker reads is not the server's
 
 -- the server's own call is none of a worker's
@@ -114,54 +125,12 @@ unfolding pipe_at
 no-reader-there m is = (let none = lowest-free m.pipes in grind (arith, none, is))
 
 module _ (shelf : Shelf) (crew : Crew) (laws : AllLaws crew) (m : State) (p : Past) (clients : List (Option Client)) (seats : List (Seat crew.Worker)) (order : IsOrderly m) (all : AllFit shelf crew m p clients seats) where
-  -- what a run's worker is: free, or one that puts out
-  reads-at : (run : Run) (output : List ℕ) (so_far : Progress) (step : Step) (desk : AtDesk crew m seats run output so_far step)
-      → descriptor m desk.seat.by 0 ≡ Some (on.ReadEnd (crew.desk run.worker))
-  reads-at run output so_far (Gives write) desk = (laws.workers.none m (crew.desk run.worker) desk.seat desk.stage.free).jobs
-  reads-at run output so_far (Makes f) desk = (laws.workers.none m (crew.desk run.worker) desk.seat desk.stage.ready.free).jobs
-  reads-at run output so_far (Hands j f) desk = (laws.workers.none m (crew.desk run.worker) desk.seat desk.stage.0.ready.free).jobs
-  reads-at run output so_far (Returns write) desk = absurd desk.stage
-  reads-at run output so_far (Lapses j) desk = absurd desk.stage
-  reads-at run output so_far Fails desk = absurd desk.stage
-  reads-at run output so_far (AtEnd a held frame) desk = (laws.workers.none m (crew.desk run.worker) desk.seat desk.stage.free).jobs
-  reads-at run output so_far (Unholds held frame) desk = (laws.workers.none m (crew.desk run.worker) desk.seat desk.stage.free).jobs
-  reads-at run output so_far (Stops held frame) desk = (laws.workers.none m (crew.desk run.worker) desk.seat desk.stage.free).jobs
-  reads-at run output so_far (Unframes frame held) desk = (laws.workers.none m (crew.desk run.worker) desk.seat desk.stage.free).jobs
-  reads-at run output so_far (Lasts held) desk = (laws.workers.none m (crew.desk run.worker) desk.seat desk.stage.free).jobs
-  reads-at run output so_far (WrapsLast held size frame) desk = (laws.workers.none m (crew.desk run.worker) desk.seat desk.stage.free).jobs
-  reads-at run output so_far (TrimsLast held chunk len frame) desk = (laws.workers.none m (crew.desk run.worker) desk.seat desk.stage.free).jobs
-  reads-at run output so_far (Unwraps frame chunk len) desk = (laws.workers.none m (crew.desk run.worker) desk.seat desk.stage.free).jobs
-  reads-at run output so_far step desk = elim desk.stage.puts_out [
-    | inl due ↦ laws.workers.reads m (crew.desk run.worker) desk.stage.has.pipe desk.seat desk.stage.more due
-    | inr there ↦ (laws.workers.none m (crew.desk run.worker) desk.seat there.free).jobs
-  ]
-
-  runner-of : (c : Conn) (run : Option Running) (script : List ℕ) (k : ℕ) → is_run_by (of c run script) k ≡ true
-      → (came sent : List ℕ) (fd e : ℕ) → Fits shelf crew m came sent fd e (of c run script) seats
-      → (seat : Seat crew.Worker) → slice_get seats k ≡ Some seat → descriptor m seat.by 0 ≡ Some (on.ReadEnd (crew.desk k))
-  runner-of c (Some (Runs run step)) script k runs came sent fd e f seat sits =
-      let is : run.worker ≡ k = same-number run.worker k runs in
-      let same : f.desk.seat ≡ seat = some-inj f.desk.seat seat (sym f.desk.sits ∙ (ap (λ j. slice_get seats j) is ∙ sits)) in
-      subst (λ (s : Seat crew.Worker). descriptor m s.by 0 ≡ Some (on.ReadEnd (crew.desk k))) same
-      (subst (λ j. descriptor m f.desk.seat.by 0 ≡ Some (on.ReadEnd (crew.desk j))) is (reads-at run (output_of shelf f.wanted f.script.lines) f.so_far step f.desk))
-  runner-of c run script k runs came sent fd e f seat sits = absurd (cc (runs))
-
-  -- each worker reads its desk
-  pub reads-desk : (k : ℕ) (seat : Seat crew.Worker) → slice_get seats k ≡ Some seat → descriptor m seat.by 0 ≡ Some (on.ReadEnd (crew.desk k))
-  reads-desk k seat sits = by (is_free clients k) refl
-    where
-      by : (b : Bool) → is_free clients k ≡ b → descriptor m seat.by 0 ≡ Some (on.ReadEnd (crew.desk k))
-      by true free = (laws.workers.none m (crew.desk k) seat (all.free k seat sits free)).jobs
-      by false busy =
-          let r = runs-for clients k (not-false (list_any (λ w. runs_at k w) clients) busy) in
-          runner-of r.client.conn r.client.run r.client.script k r.runs (p.came (all.each r.fd r.client r.at).conn) (p.sent (all.each r.fd r.client r.at).conn) r.fd (all.each r.fd r.client r.at).conn (all.each r.fd r.client r.at).fits seat sits
-
-  -- so the server does not
+  -- each worker reads its desk, so the server does not
   pub not-desk : (k g : ℕ) → k < crew.count → descriptor m server g ≡ Some (on.ReadEnd (crew.desk k)) → ⊥
   not-desk k g lt is =
       let s = all.desks.seated k lt in
       let by = all.desks.by k s.0 s.1 in
-      let same = (order.one server s.0.by g 0 (on.ReadEnd (crew.desk k)) refl is (reads-desk k s.0 s.1)).0 in
+      let same = (order.one server s.0.by g 0 (on.ReadEnd (crew.desk k)) refl is (reads-jobs shelf crew laws m p clients seats all k s.0 s.1)).0 in
       absurd (let e = same ∙ by.1 in omega (arith, e))
 
   desk-writing : (k : ℕ) → k < crew.count → (pipe_at m (crew.desk k)).writing ≡ true

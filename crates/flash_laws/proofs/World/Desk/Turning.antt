@@ -1,7 +1,6 @@
 -- A worker's turn, for the client whose script it runs.
-use Rattle.std.proofs.Common.{inl, inr, ◌≡◌, ◌≢◌, ◌<◌, ℕ, suc, ◌==◌, List, [], ◌∷◌, ◌++◌, ap, ◌∙◌, refl, sym, subst, Option, Some, None, true, false, Bool, slice_get, slice_set}
+use Rattle.std.proofs.Common.{inl, inr, ◌≡◌, ◌≢◌, ◌<◌, ℕ, ◌==◌, List, ◌++◌, ap, ◌∙◌, refl, sym, subst, Option, Some, true, false, Bool, slice_get, slice_set}
 use Rattle.std.specs.Prelude.{◌||◌, ◌&&◌}
-use Rattle.std.specs.List.{list_any}
 use Rattle.iol_core.specs.Numbered.{in_place}
 use Rattle.iol_core.specs.Text.{bytes_of}
 use Rattle.iol_core.specs.State.{State, Connection, descriptor, text, pipe_at}
@@ -19,7 +18,7 @@ use Rattle.flash_laws.specs.ClientKeeping.{has_fd}
 use Rattle.flash_laws.specs.Conn.{Conn}
 use Rattle.flash_laws.specs.Crew.{Crew}
 use Rattle.flash_laws.specs.Past.{Past}
-use Rattle.flash_laws.specs.Places.{is_run_by, runs_at}
+use Rattle.flash_laws.specs.Places.{is_run_by}
 use Rattle.flash_laws.specs.PutsOut as puts
 use Rattle.flash_laws.specs.RunFits.{Progress, HasRun}
 use Rattle.flash_laws.specs.Running.{is_reading, step_fd, ends_of}
@@ -39,24 +38,6 @@ use Rattle.flash_laws.proofs.Conn.Uses.{same-number}
 use Rattle.flash_laws.proofs.World.AllLaws.{AllLaws}
 use Rattle.flash_laws.proofs.World.Desk.Leaving.{none-given, none-touched}
 use Rattle.flash_laws.proofs.World.TurnLeaves.{IsCallOf, what-came, IsTurn, IsItsOwn, Touches, leaves-same, set-same, sits-in, not-server, no-call}
-
--- ---- who runs a script
-
--- one for whose client it runs
-pub record RunsFor (clients : List (Option Client)) (k : ℕ) : Type 0 where
-  pub fd : ℕ
-  pub client : Client
-  pub at : in_place clients fd ≡ Some client
-  pub runs : is_run_by client k ≡ true
-
-pub runs-for : (clients : List (Option Client)) (k : ℕ) → list_any (λ o. runs_at k o) clients ≡ true → RunsFor clients k
-runs-for [] k is = absurd (cc (is))
-runs-for (None ∷ xs) k is = (let r = runs-for xs k is in record { fd = suc r.fd; client = r.client; at = r.at; runs = r.runs })
-runs-for (Some x ∷ xs) k is = by (is_run_by x k) refl is (λ u. runs-for xs k u)
-  where
-    by : (b : Bool) → is_run_by x k ≡ b → (b || list_any (λ o. runs_at k o) xs) ≡ true → (list_any (λ o. runs_at k o) xs ≡ true → RunsFor xs k) → RunsFor (Some x ∷ xs) k
-    by true runs u later = record { fd = 0; client = x; at = refl; runs = runs }
-    by false none u later = (let r = later u in record { fd = suc r.fd; client = r.client; at = r.at; runs = r.runs })
 
 module _ (shelf : Shelf) (crew : Crew) (laws : AllLaws crew) (m n : State) (p : Past) (clients : List (Option Client)) (seats : List (Seat crew.Worker)) (k : ℕ)
     (seat next : Seat crew.Worker) (yields : Bool) (r : Reply) (turn : IsTurn shelf crew m n p clients seats k seat next yields r) where
