@@ -64,25 +64,23 @@ conn-readied x y ready = by x.doing refl ready
     by d is r = inl (r ∙ ap (λ (d : Doing). record x { doing = d }) (sym is))
 
 -- what is ready uses what it used, or nothing
-ready-aggs : (c : Conn) (run : Option Running) (script : List ℕ) (y : Client) (a : ℕ) → Readies (of c run script) y → uses_agg y a ≡ true → uses_agg (of c run script) a ≡ true
-ready-aggs c None script y a ready u = elim (conn-readied c ready.0 ready.1) [
-  | inl same ↦ ap (λ (z : Conn). conn.uses_agg z.doing a) (sym same) ∙ is_y
-  | inr new ↦ absurd (clash (conn.uses_agg ready.0.doing a) is_y (ap (λ (z : Conn). conn.uses_agg z.doing a) new.2 ∙ begins-none new.0 a))
+ready-uses : (by_conn : Doing → ℕ → Bool) (by_client : Client → ℕ → Bool) → ((c : Conn) (script : List ℕ) (a : ℕ) → by_client (of c None script) a ≡ by_conn c.doing a)
+    → ((q : Answer) (a : ℕ) → by_conn (begins q) a ≡ false) → (c : Conn) (run : Option Running) (script : List ℕ) (y : Client) (a : ℕ)
+    → Readies (of c run script) y → by_client y a ≡ true → by_client (of c run script) a ≡ true
+ready-uses by_conn by_client alone none c None script y a ready u = elim (conn-readied c ready.0 ready.1) [
+  | inl same ↦ ap (λ (z : Conn). by_client (of z None script) a) (sym same) ∙ is_y
+  | inr new ↦ absurd (clash (by_client (of ready.0 None script) a) is_y (alone ready.0 script a ∙ (ap (λ (z : Conn). by_conn z.doing a) new.2 ∙ none new.0 a)))
 ]
   where
-    is_y : uses_agg (of ready.0 None script) a ≡ true
-    is_y = ap (λ (z : Client). uses_agg z a) (sym ready.2) ∙ u
-ready-aggs c (Some y) script z a ready u = ap (λ (v : Client). uses_agg v a) (sym ready) ∙ u
+    is_y : by_client (of ready.0 None script) a ≡ true
+    is_y = ap (λ (z : Client). by_client z a) (sym ready.2) ∙ u
+ready-uses by_conn by_client alone none c (Some y) script z a ready u = ap (λ (v : Client). by_client v a) (sym ready) ∙ u
+
+ready-aggs : (c : Conn) (run : Option Running) (script : List ℕ) (y : Client) (a : ℕ) → Readies (of c run script) y → uses_agg y a ≡ true → uses_agg (of c run script) a ≡ true
+ready-aggs = ready-uses (λ d a. conn.uses_agg d a) (λ x a. uses_agg x a) (λ c script a. refl) (λ q a. begins-none q a)
 
 ready-fds : (c : Conn) (run : Option Running) (script : List ℕ) (y : Client) (g : ℕ) → Readies (of c run script) y → has_fd y g ≡ true → has_fd (of c run script) g ≡ true
-ready-fds c None script y g ready u = elim (conn-readied c ready.0 ready.1) [
-  | inl same ↦ ap (λ (z : Conn). conn.uses_fd z.doing g) (sym same) ∙ is_y
-  | inr new ↦ absurd (clash (conn.uses_fd ready.0.doing g) is_y (ap (λ (z : Conn). conn.uses_fd z.doing g) new.2 ∙ begins-no_fd new.0 g))
-]
-  where
-    is_y : has_fd (of ready.0 None script) g ≡ true
-    is_y = ap (λ (z : Client). has_fd z g) (sym ready.2) ∙ u
-ready-fds c (Some y) script z g ready u = ap (λ (v : Client). has_fd v g) (sym ready) ∙ u
+ready-fds = ready-uses (λ d g. conn.uses_fd d g) (λ x g. has_fd x g) (λ c script g. refl) (λ q g. begins-no_fd q g)
 
 -- and it has the worker that it had
 ready-worker : (c : Conn) (run : Option Running) (script : List ℕ) (y : Client) (k : ℕ) → Readies (of c run script) y → is_run_by y k ≡ is_run_by (of c run script) k
